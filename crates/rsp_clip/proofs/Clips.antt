@@ -1,0 +1,116 @@
+-- The clip rows for one lane: what the code computes, from a and b, whether the signs differ, and n.
+use Rattle.std.proofs.Common.{◌≡◌, ℕ, ◌+◌, ◌%◌, ◌<◌, ℤ, pos, negsuc, ◌+ℤ◌, ◌-ℤ◌, Bool, true, false, cond, not, ◌&&◌, ◌||◌, nat_lt, nat_eq, nat_le, arith, refl}
+use Rattle.std.specs.Prelude.{int_lt, int_le}
+use Rattle.std.specs.Ordering.{int_eq}
+use Rattle.std.proofs.lemmas.Bool.Decides.{nat_tests}
+use Rattle.rsp_numbers.specs.Numbers.{s16, modulo}
+use Rattle.rsp_flags.specs.Flags.{LaneFlags}
+use Rattle.rsp_flags.specs.Outcome.{Outcome, plain}
+use Rattle.rsp_clip.specs.Clips.{signs_differ, sum_or_difference, negated, complement, compare_flags, vch, vch_signs_differ, vch_signs_agree, vcl, vcr, vcr_signs_differ, vcr_signs_agree, clip_rule}
+use Rattle.rsp_clip.specs.declared.op.ClipOp.{ClipOp}
+use Rattle.rsp_clip.specs.declared.op.ClipOp.TheVariants.{Vcl, Vch, Vcr}
+use Rattle.rsp_clip.proofs.Signs.{IsSigned, below_zero, is_negative, is_zero, is_minus_one, sum_or_difference_signed}
+
+-- tests of a signed number
+up_to_zero : (z : ℤ) → (int_lt z (pos 0) || int_eq z (pos 0)) ≡ int_le z (pos 0)
+up_to_zero (pos n) = grind (arith, nat_tests)
+up_to_zero (negsuc n) = refl
+
+from_zero : (z : ℤ) → not (int_lt z (pos 0)) ≡ int_le (pos 0) z
+from_zero (pos n) = grind (arith, nat_tests)
+from_zero (negsuc n) = refl
+
+before_zero : (z : ℤ) → int_lt z (pos 0) ≡ int_le (z +ℤ pos 1) (pos 0)
+before_zero (pos n) = grind (arith, nat_tests)
+before_zero (negsuc n) = grind (arith, nat_tests)
+
+not_or : (x y : Bool) → not (x || y) ≡ (not x && not y)
+not_or true y = refl
+not_or false y = refl
+
+or_false : (x : Bool) → (x || false) ≡ x
+or_false true = refl
+or_false false = refl
+
+-- VCH
+abbrev pub vch_code : Bool → ℕ → ℕ → ℕ → Outcome
+vch_code t n a b =
+    let compare = cond t (nat_lt 32767 n || nat_eq n 0) (nat_lt 32767 b) in
+    let clip = cond t (nat_lt 32767 b) (not (nat_lt 32767 n)) in
+    plain (cond (cond t compare clip) (cond t (negated b) b) a)
+    (record { carry = t; differ = not (nat_eq n 0 || t && nat_eq n 65535); compare = compare; clip = clip; extra = t && nat_eq n 65535 })
+
+vch_cases : (t : Bool) (y z : ℤ) (a b : ℕ) → IsSigned (cond t y z)
+    → vch_code t (modulo (cond t y z) 65536) a b ≡ cond t (vch_signs_differ a b y) (vch_signs_agree a b z)
+vch_cases true y z a b h = rw (is_negative y h, is_zero y h, is_minus_one y h, up_to_zero y, not_or, below_zero b) refl
+vch_cases false y z a b h = rw (is_negative z h, is_zero z h, from_zero z, or_false, below_zero b) refl
+
+pub vch_is : (a b : ℕ) (f : LaneFlags) → a < 65536 → b < 65536
+    → vch_code (signs_differ a b) (modulo (sum_or_difference a b) 65536) a b ≡ vch a b f
+vch_is a b f h k = vch_cases (signs_differ a b) (s16 a +ℤ s16 b) (s16 a -ℤ s16 b) a b (sum_or_difference_signed a b h k)
+
+-- VCR
+abbrev pub vcr_code : Bool → ℕ → ℕ → ℕ → Outcome
+vcr_code t n a b =
+    let compare = cond t (nat_lt 32767 n) (nat_lt 32767 b) in
+    let clip = cond t (nat_lt 32767 b) (not (nat_lt 32767 n)) in
+    plain (cond (cond t compare clip) (cond t (complement b) b) a) (compare_flags compare clip)
+
+vcr_cases : (t : Bool) (y z : ℤ) (a b : ℕ) → IsSigned (cond t y z) → y ≡ s16 a +ℤ s16 b → z ≡ s16 a -ℤ s16 b
+    → vcr_code t (modulo (cond t y z) 65536) a b ≡ cond t (vcr_signs_differ a b) (vcr_signs_agree a b)
+vcr_cases true y z a b h e k = rw (← e, is_negative y h, before_zero y, below_zero b) refl
+vcr_cases false y z a b h e k = rw (← k, is_negative z h, from_zero z, below_zero b) refl
+
+pub vcr_is : (a b : ℕ) (f : LaneFlags) → a < 65536 → b < 65536
+    → vcr_code (signs_differ a b) (modulo (sum_or_difference a b) 65536) a b ≡ vcr a b f
+vcr_is a b f h k = vcr_cases (signs_differ a b) _ _ a b (sum_or_difference_signed a b h k) refl refl
+
+-- VCL, from the sum with no carry and from where it passes 65535
+fits : (n : ℕ) → not (nat_le 65536 n) ≡ nat_lt n 65536
+fits n = grind (arith, nat_tests)
+
+is_all_zero : (n : ℕ) → (nat_eq (n % 65536) 0 && nat_lt n 65536) ≡ nat_eq n 0
+is_all_zero n = grind (arith, nat_tests)
+
+up_to : (a b : ℕ) → not (nat_lt a b) ≡ nat_le b a
+up_to a b = grind (arith, nat_tests)
+
+abbrev pub vcl_code : ℕ → ℕ → ℕ → LaneFlags → Outcome
+vcl_code n a b f =
+    let is_zero = nat_eq (n % 65536) 0 in
+    let fits = not (nat_le 65536 n) in
+    let compare = cond (f.carry && not f.differ) (cond f.extra (is_zero || fits) (is_zero && fits)) f.compare in
+    let clip = cond (not (f.carry || f.differ)) (not (nat_lt a b)) f.clip in
+    plain (cond (cond f.carry compare clip) (cond f.carry (negated b) b) a) (compare_flags compare clip)
+
+vcl_cases : (a b : ℕ) (p q c l e : Bool)
+    → vcl_code (a + b) a b (record { carry = p; differ = q; compare = c; clip = l; extra = e })
+    ≡ vcl a b (record { carry = p; differ = q; compare = c; clip = l; extra = e })
+vcl_cases a b true true c l e = refl
+vcl_cases a b true false c l true = rw (fits (a + b)) refl
+vcl_cases a b true false c l false = rw (fits (a + b), is_all_zero (a + b)) refl
+vcl_cases a b false true c l e = refl
+vcl_cases a b false false c l e = rw (up_to a b) refl
+
+pub vcl_is : (a b : ℕ) (f : LaneFlags) (n : ℕ) → n ≡ a + b → vcl_code n a b f ≡ vcl a b f
+vcl_is a b f n e = rw e (vcl_cases a b f.carry f.differ f.compare f.clip f.extra)
+
+-- each row writes its result to the low sixteen bits of the accumulator
+vcl_low : (a b : ℕ) (p q c l e : Bool) (f : LaneFlags) → f ≡ record { carry = p; differ = q; compare = c; clip = l; extra = e } → (vcl a b f).result ≡ (vcl a b f).low
+vcl_low a b true true c l e f is = rw is refl
+vcl_low a b true false c l e f is = rw is refl
+vcl_low a b false true c l e f is = rw is refl
+vcl_low a b false false c l e f is = rw is refl
+
+vch_low : (t : Bool) (a b : ℕ) (y z : ℤ) → (cond t (vch_signs_differ a b y) (vch_signs_agree a b z)).result ≡ (cond t (vch_signs_differ a b y) (vch_signs_agree a b z)).low
+vch_low true a b y z = refl
+vch_low false a b y z = refl
+
+vcr_low : (t : Bool) (a b : ℕ) → (cond t (vcr_signs_differ a b) (vcr_signs_agree a b)).result ≡ (cond t (vcr_signs_differ a b) (vcr_signs_agree a b)).low
+vcr_low true a b = refl
+vcr_low false a b = refl
+
+pub low_is : (op : ClipOp) (a b : ℕ) (f : LaneFlags) → (clip_rule op a b f).result ≡ (clip_rule op a b f).low
+low_is Vcl a b f = vcl_low a b f.carry f.differ f.compare f.clip f.extra f refl
+low_is Vch a b f = vch_low (signs_differ a b) a b (s16 a +ℤ s16 b) (s16 a -ℤ s16 b)
+low_is Vcr a b f = vcr_low (signs_differ a b) a b

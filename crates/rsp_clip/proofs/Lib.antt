@@ -1,0 +1,4 @@
+-- Proofs of the clip rows.
+mod Signs
+mod Clips
+mod Lanes

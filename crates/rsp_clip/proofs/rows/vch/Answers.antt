@@ -1,0 +1,35 @@
+use Rattle.std.proofs.Common.{false}
+use Rattle.rsp_lanes.proofs.Kit.{lane_of, length_of}
+use Rattle.rsp_clip.proofs.Clips.{vch_is}
+use Rattle.rsp_clip.proofs.Lanes.{row_of}
+use Rattle.rsp_flags.specs.Flags.{flags_at}
+use Rattle.rsp_clip.specs.Clips.{vch}
+use Rattle.rsp_clip.proofs.rows.vch.Goals as goal
+
+pub returns : goal.returns
+returns c =
+    let row = row_of vch c.args.a.now c.args.b.now c.args.flags.now _ _ _ _ _ _
+    (length_of _ _ c.merge-result.ensures) (length_of _ _ c.signs_differ-apart.ensures) (length_of _ _ c.not-2.ensures)
+    (length_of _ _ c.choose-compare.ensures) (length_of _ _ c.choose-clip.ensures) (length_of _ _ c.and-extra.ensures)
+    (λ i h. simp (
+      lane_of 0 _ _ c.merge-result.ensures i h,
+      lane_of 0 _ _ c.merge-limit.ensures i h,
+      lane_of 0 _ _ c.negate.ensures i h,
+      lane_of false _ _ c.choose.ensures i h,
+      lane_of false _ _ c.choose-compare.ensures i h,
+      lane_of false _ _ c.choose-clip.ensures i h,
+      lane_of false _ _ c.not-2.ensures i h,
+      lane_of false _ _ c.or-2.ensures i h,
+      lane_of false _ _ c.and-extra.ensures i h,
+      lane_of false _ _ c.is_equal.ensures i h,
+      lane_of 0 _ _ c.splat.ensures i h,
+      lane_of false _ _ c.or.ensures i h,
+      lane_of false _ _ c.not.ensures i h,
+      lane_of false _ _ c.is_negative.ensures i h,
+      lane_of false _ _ c.is_negative-2.ensures i h,
+      lane_of false _ _ c.is_negative-is_negative.ensures i h,
+      lane_of false _ _ c.is_zero-is_zero.ensures i h,
+      lane_of 0 _ _ c.sum_or_difference-number.ensures i h,
+      lane_of false _ _ c.signs_differ-apart.ensures i h,
+    ) (vch_is _ _ (flags_at c.args.flags.now i) (c.to_simd.ensures.vector.1 i) (c.to_simd-2.ensures.vector.1 i))) in
+    record { value = row.value; flags = row.flags }

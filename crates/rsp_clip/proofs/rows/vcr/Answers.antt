@@ -1,0 +1,30 @@
+use Rattle.std.proofs.Common.{false}
+use Rattle.rsp_lanes.proofs.Kit.{lane_of, length_of}
+use Rattle.rsp_flags.specs.Flags.{flags_at}
+use Rattle.rsp_clip.specs.Clips.{vcr}
+use Rattle.rsp_clip.proofs.Clips.{vcr_is}
+use Rattle.rsp_clip.proofs.Lanes.{row_of}
+use Rattle.rsp_clip.proofs.rows.vcr.Goals as goal
+
+pub returns : goal.returns
+returns c =
+    let clear = length_of _ _ c.splat-clear.ensures in
+    let row = row_of vcr c.args.a.now c.args.b.now c.args.flags.now _ _ _ _ _ _
+    (length_of _ _ c.merge-result.ensures) clear clear
+    (length_of _ _ c.choose-compare.ensures) (length_of _ _ c.choose-clip.ensures) clear
+    (λ i h. simp (
+      lane_of 0 _ _ c.merge-result.ensures i h,
+      lane_of 0 _ _ c.merge-limit.ensures i h,
+      lane_of 0 _ _ c.not-2.ensures i h,
+      lane_of false _ _ c.choose.ensures i h,
+      lane_of false _ _ c.choose-compare.ensures i h,
+      lane_of false _ _ c.choose-clip.ensures i h,
+      lane_of false _ _ c.not.ensures i h,
+      lane_of false _ _ c.is_negative.ensures i h,
+      lane_of false _ _ c.is_negative-2.ensures i h,
+      lane_of false _ _ c.is_negative-is_negative.ensures i h,
+      lane_of 0 _ _ c.sum_or_difference.ensures i h,
+      lane_of false _ _ c.signs_differ-apart.ensures i h,
+      lane_of false _ _ c.splat-clear.ensures i h,
+    ) (vcr_is _ _ (flags_at c.args.flags.now i) (c.to_simd.ensures.vector.1 i) (c.to_simd-2.ensures.vector.1 i))) in
+    record { value = row.value; flags = row.flags }

@@ -1,0 +1,2 @@
+-- The clip rows.
+pub mod Clips

@@ -1,0 +1,33 @@
+ghost use Rattle.std.specs.Prelude.{◌≡◌, cond, false, slice_index, slice_index_or};
+ghost use Rattle.rsp_lanes.specs.Lanes.{each_lane};
+ghost use Rattle.rsp_numbers.specs.Numbers.{modulo};
+ghost use Rattle.rsp_clip.specs.Clips.{signs_differ, sum_or_difference};
+
+use rsp_lanes::{Mask8, VReg};
+
+/// Where just one of the two is negative.
+#[inline(always)]
+pub(crate) fn signs_differ(a: &VReg, b: &VReg) -> Mask8
+    ensures { result ≡ each_lane (λ i. signs_differ (slice_index a.now i) (slice_index b.now i)) }
+{
+    a.is_negative().xor(b.is_negative())
+}
+
+/// The sum where the signs differ, and the difference where they agree. Neither leaves the signed numbers of
+/// sixteen bits, so no bit is lost.
+#[inline(always)]
+pub(crate) fn sum_or_difference(a: &VReg, b: &VReg) -> VReg
+    ensures { result ≡ each_lane (λ i. modulo (sum_or_difference (slice_index a.now i) (slice_index b.now i)) 65536) }
+{
+    let _ = a.to_simd();
+    let _ = b.to_simd();
+    signs_differ(a, b).merge(&a.add(b), &a.subtract(b))
+}
+
+/// `a` where `at` is set, and `b` elsewhere.
+#[inline(always)]
+pub(crate) fn choose(at: Mask8, a: Mask8, b: Mask8) -> Mask8
+    ensures { result ≡ each_lane (λ i. cond (slice_index_or at i false) (slice_index_or a i false) (slice_index_or b i false)) }
+{
+    at.and(a).or(at.not().and(b))
+}

@@ -1,0 +1,200 @@
+ghost use Rattle.std.specs.Prelude.{◌≡◌};
+ghost use Rattle.rsp_flags.specs.Outcome.{results_of, flags_after, numbers_after};
+ghost use Rattle.rsp_clip.specs.Clips.{vcl, vch, vcr, clip_rule};
+
+use crate::ClipOp;
+use crate::parts::{choose, signs_differ, sum_or_difference};
+use rsp_acc::Acc;
+use rsp_flags::Flags;
+use rsp_lanes::{Mask8, VReg};
+
+/// Where carry is set the limit is -b and `compare` tells whether it is taken; elsewhere b and `clip`. Only carry
+/// alone makes a new `compare`, and only neither of carry and not-equal a new `clip`.
+#[inline(always)]
+fn vcl(a: &VReg, b: &VReg, flags: &mut Flags) -> VReg
+    ensures value { result ≡ results_of vcl a.now b.now flags.old }
+    ensures flags { flags.new ≡ flags_after vcl a.now b.now flags.old }
+{
+    let clear = Mask8::splat(false);
+    let (sum, passes) = a.add_carrying(b, clear);
+    let is_zero = sum.is_zero();
+    let fits = passes.not();
+    let is_small = choose(flags.extra, is_zero.or(fits), is_zero.and(fits));
+    let carry_alone = flags.carry.and(flags.differ.not());
+    let compare = choose(carry_alone, is_small, flags.compare);
+    let neither = flags.carry.or(flags.differ).not();
+    let clip = choose(neither, a.is_below(b).not(), flags.clip);
+    let limit = flags.carry.merge(&b.negate(), b);
+    let result = choose(flags.carry, compare, clip).merge(&limit, a);
+    *flags = Flags {
+        carry: clear,
+        differ: clear,
+        compare,
+        clip,
+        extra: clear,
+    };
+    result
+}
+
+/// Where the signs differ the limit is -b, which `compare` takes; elsewhere b, which `clip` takes.
+#[inline(always)]
+fn vch(a: &VReg, b: &VReg, flags: &mut Flags) -> VReg
+    ensures value { result ≡ results_of vch a.now b.now flags.old }
+    ensures flags { flags.new ≡ flags_after vch a.now b.now flags.old }
+{
+    let _ = a.to_simd();
+    let _ = b.to_simd();
+    let apart = signs_differ(a, b);
+    let number = sum_or_difference(a, b);
+    let is_zero = number.is_zero();
+    let is_negative = number.is_negative();
+    let extra = apart.and(number.is_equal(&VReg::splat(0xffff)));
+    let compare = choose(apart, is_negative.or(is_zero), b.is_negative());
+    let clip = choose(apart, b.is_negative(), is_negative.not());
+    let limit = apart.merge(&b.negate(), b);
+    let result = choose(apart, compare, clip).merge(&limit, a);
+    *flags = Flags {
+        carry: apart,
+        differ: is_zero.or(extra).not(),
+        compare,
+        clip,
+        extra,
+    };
+    result
+}
+
+/// As [`vch`] with the complement of b, which is -b - 1: so the sum has to be below 0.
+#[inline(always)]
+fn vcr(a: &VReg, b: &VReg, flags: &mut Flags) -> VReg
+    ensures value { result ≡ results_of vcr a.now b.now flags.old }
+    ensures flags { flags.new ≡ flags_after vcr a.now b.now flags.old }
+{
+    let _ = a.to_simd();
+    let _ = b.to_simd();
+    let apart = signs_differ(a, b);
+    let is_negative = sum_or_difference(a, b).is_negative();
+    let compare = choose(apart, is_negative, b.is_negative());
+    let clip = choose(apart, b.is_negative(), is_negative.not());
+    let limit = apart.merge(&b.not(), b);
+    let result = choose(apart, compare, clip).merge(&limit, a);
+    let clear = Mask8::splat(false);
+    *flags = Flags {
+        carry: clear,
+        differ: clear,
+        compare,
+        clip,
+        extra: clear,
+    };
+    result
+}
+
+#[inline(always)]
+fn clip(op: ClipOp, a: &VReg, b: &VReg, flags: &mut Flags) -> VReg
+    ensures value { result ≡ results_of (clip_rule op) a.now b.now flags.old }
+    ensures flags { flags.new ≡ flags_after (clip_rule op) a.now b.now flags.old }
+{
+    match op {
+        ClipOp::Vcl => vcl(a, b, flags),
+        ClipOp::Vch => vch(a, b, flags),
+        ClipOp::Vcr => vcr(a, b, flags),
+    }
+}
+
+/// One of the three clip rows of the instruction table, on eight lanes: `a` is vs, and `b` is vt after its element is
+/// selected.
+///
+/// A lane of the result is that of `a`, or the limit that `b` sets where `a` passes it. The result is also written to
+/// the low sixteen bits of the accumulators, whose other bits stay. VCL reads the flags that VCH left and is its second
+/// half on numbers of 32 bits. Nothing is refused.
+#[inline]
+pub fn clip_op<A: Acc>(op: ClipOp, a: &VReg, b: &VReg, flags: &mut Flags, acc: &mut A) -> VReg
+    ensures value { result ≡ results_of (clip_rule op) a.now b.now flags.old }
+    ensures flags { flags.new ≡ flags_after (clip_rule op) a.now b.now flags.old }
+    ensures accumulator { A.numbers acc.new ≡ numbers_after (clip_rule op) a.now b.now flags.old (A.numbers acc.old) }
+{
+    let result = clip(op, a, b, flags);
+    acc.set_low(&result);
+    result
+}
+
+#[cfg(test)]
+mod tests {
+    use super::*;
+    use rsp_acc::{Part, PlainAcc, PlaneAcc};
+
+    /// The flags that are set in every lane: carry, not-equal, compare, clip and extra.
+    fn flags(carry: bool, differ: bool, compare: bool, clip: bool, extra: bool) -> Flags {
+        Flags {
+            carry: Mask8::splat(carry),
+            differ: Mask8::splat(differ),
+            compare: Mask8::splat(compare),
+            clip: Mask8::splat(clip),
+            extra: Mask8::splat(extra),
+        }
+    }
+
+    /// Whether eight like lanes give the result `want`, in the low accumulators too, and those flags.
+    fn gives<A: Acc>(
+        op: ClipOp,
+        operands: (u16, u16),
+        before: &Flags,
+        want: u16,
+        after: &Flags,
+    ) -> bool {
+        let mut acc = A::zero();
+        let mut flags = *before;
+        let value = clip_op(
+            op,
+            &VReg::splat(operands.0),
+            &VReg::splat(operands.1),
+            &mut flags,
+            &mut acc,
+        );
+        value == VReg::splat(want)
+            && acc.part(Part::Low) == value
+            && flags.carry == after.carry
+            && flags.differ == after.differ
+            && flags.compare == after.compare
+            && flags.clip == after.clip
+            && flags.extra == after.extra
+    }
+
+    fn both_give(
+        op: ClipOp,
+        operands: (u16, u16),
+        before: &Flags,
+        want: u16,
+        after: &Flags,
+    ) -> bool {
+        gives::<PlaneAcc>(op, operands, before, want, after)
+            && gives::<PlainAcc>(op, operands, before, want, after)
+    }
+
+    #[test]
+    fn high_halves(rt: HostRuntime) {
+        let after = flags(true, false, true, true, true);
+        assert!(rt; both_give(ClipOp::Vch, (4, 0xfffb), &Flags::new(), 5, &after));
+        let after = flags(true, false, true, true, false);
+        assert!(rt; both_give(ClipOp::Vch, (5, 0xfffb), &Flags::new(), 5, &after));
+    }
+
+    #[test]
+    fn low_halves_with_carry_alone(rt: HostRuntime) {
+        let carry = flags(true, false, false, false, false);
+        let carry_and_extra = flags(true, false, false, false, true);
+        let compare = flags(false, false, true, false, false);
+        assert!(rt; both_give(ClipOp::Vcl, (3, 4), &carry_and_extra, 0xfffc, &compare));
+        assert!(rt; both_give(ClipOp::Vcl, (3, 4), &carry, 3, &Flags::new()));
+        assert!(rt; both_give(ClipOp::Vcl, (1, 0xffff), &carry_and_extra, 1, &compare));
+        assert!(rt; both_give(ClipOp::Vcl, (1, 0xffff), &carry, 1, &Flags::new()));
+    }
+
+    #[test]
+    fn complements(rt: HostRuntime) {
+        let before = flags(true, true, false, false, true);
+        let after = flags(false, false, true, true, false);
+        assert!(rt; both_give(ClipOp::Vcr, (4, 0xfffb), &before, 4, &after));
+        let after = flags(false, false, false, true, false);
+        assert!(rt; both_give(ClipOp::Vcr, (5, 0xfffb), &before, 5, &after));
+    }
+}

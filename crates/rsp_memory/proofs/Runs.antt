@@ -1,0 +1,125 @@
+-- Bytes written one by one are a run written at once.
+use Rattle.std.proofs.Common.{◌≡◌, ℕ, zero, suc, ◌+◌, ◌-◌, ◌%◌, ◌<◌, ◌≤◌, List, [], ◌∷◌, ◌++◌, length, take, drop, get_or, set, refl, sym, ◌∙◌, ap, arith, add-zero, min, inl, inr}
+use Rattle.std.proofs.lemmas.List.{set_past, length-set, length-take, length-drop, take-append-drop, drop_all, take_all, take_more, take_min}
+use Rattle.std.proofs.lemmas.List.Edits.{sets, sets-eq}
+use Rattle.std.specs.Prelude.{slice_set}
+use Rattle.std.proofs.lemmas.Bool.{cases_lt}
+use Rattle.rsp_memory.specs.Runs.{write_all, spliced}
+use Rattle.rsp_memory.specs.Memory.{with_byte, with_bytes}
+use Rattle.rsp_memory.specs.Image.{with_image_byte, with_image_bytes}
+
+-- two runs, one behind the other
+pub write_all-append : {X : Type 0} (write : X → ℕ → ℕ → X) (m : X) (a : ℕ) (xs ys : List ℕ)
+    → write_all write m a (xs ++ ys) ≡ write_all write (write_all write m a xs) (a + length xs) ys
+write_all-append write m a [] ys = rw add-zero refl
+write_all-append write m a (x ∷ xs) ys =
+    let e : a + 1 + length xs ≡ a + suc (length xs) = omega arith in
+    write_all-append write (write m a x) (a + 1) xs ys ∙ ap (λ n. write_all write (write_all write (write m a x) (a + 1) xs) n ys) e
+
+-- where each state writes the next number that `read` gives, n states on are a run of those numbers
+run_written : {X : Type 0} (write : X → ℕ → ℕ → X) (read : ℕ → ℕ) (states : ℕ → X) (to from i n : ℕ) (source : List ℕ)
+    → ((k : ℕ) → states (k + 1) ≡ write (states k) (to + k) (read (from + k)))
+    → ((k : ℕ) → k < n → read (from + i + k) ≡ get_or source k 0)
+    → n ≤ length source
+    → states (i + n) ≡ write_all write (states i) (to + i) (take n source)
+run_written write read states to from i zero source step reads h = rw add-zero refl
+run_written write read states to from i (suc n) source step reads h =
+    let ih : states (i + n) ≡ write_all write (states i) (to + i) (take n source) = run_written write read states to from i n source step (λ k l. reads k (omega arith)) (omega arith) in
+    let l : length (take n source) ≡ n = omega (arith, length-take n source) in
+    let more : states (i + n + 1) ≡ write (states (i + n)) (to + (i + n)) (read (from + (i + n))) = step (i + n) in
+    let last : read (from + i + n) ≡ get_or source n 0 = reads n (omega arith) in
+    let split : write_all write (states i) (to + i) (take n source ++ get_or source n 0 ∷ []) ≡ write (write_all write (states i) (to + i) (take n source)) (to + i + length (take n source)) (get_or source n 0) = write_all-append write (states i) (to + i) (take n source) (get_or source n 0 ∷ []) in
+    let t : take (n + 1) source ≡ take n source ++ get_or source n 0 ∷ [] = take_more source n 0 (omega arith) in
+    let e : i + suc n ≡ i + n + 1 = omega arith in
+    let f : suc n ≡ n + 1 = omega arith in
+    let g : to + (i + n) ≡ to + i + length (take n source) = omega arith in
+    let k : from + (i + n) ≡ from + i + n = omega arith in
+    cc
+
+-- the turn of a loop that writes a run, of at most n numbers, at once
+pub run_turn : {X : Type 0} (write : X → ℕ → ℕ → X) (read : ℕ → ℕ) (states : ℕ → X) (to from i n : ℕ) (source run : List ℕ) (now then : X)
+    → ((k : ℕ) → states (k + 1) ≡ write (states k) (to + k) (read (from + k)))
+    → ((k : ℕ) → k < length source → read (from + i + k) ≡ get_or source k 0)
+    → run ≡ take n source → now ≡ states i → then ≡ write_all write now (to + i) run
+    → then ≡ states (i + length run)
+run_turn write read states to from i n source run now then step reads e f g =
+    let k : length run ≡ min n (length source) = ap length e ∙ length-take n source in
+    let same : take (length run) source ≡ take n source = ap (λ m. take m source) k ∙ take_min n source in
+    let all : states (i + length run) ≡ write_all write (states i) (to + i) (take (length run) source) =
+    run_written write read states to from i (length run) source step (λ j l. reads j (omega arith)) (omega arith) in
+    cc
+
+-- bytes that don't wrap are a run of the list
+with_bytes-sets : (m : List ℕ) (a : ℕ) (bs : List ℕ) → a + length bs ≤ 4096 → with_bytes m a bs ≡ sets m a bs
+unfolding with_byte
+with_bytes-sets m a [] h = refl
+with_bytes-sets m a (b ∷ bs) h =
+    let e : a % 4096 ≡ a = omega arith in
+    let f : a + 1 ≡ suc a = omega arith in
+    let ih = with_bytes-sets (set m a b) (suc a) bs (omega arith) in
+    rw (e, f) ih
+
+with_bytes-spliced : (m : List ℕ) (a : ℕ) (bs : List ℕ) → a + length bs ≤ 4096 → length m ≡ 4096 → with_bytes m a bs ≡ spliced m a bs
+with_bytes-spliced m a bs h n = with_bytes-sets m a bs h ∙ sets-eq bs m a (omega arith)
+
+-- addresses that differ by a multiple of 4096
+with_bytes-ring : (m : List ℕ) (a b : ℕ) (bs : List ℕ) → a % 4096 ≡ b % 4096 → with_bytes m a bs ≡ with_bytes m b bs
+unfolding with_byte
+with_bytes-ring m a b [] e = refl
+with_bytes-ring m a b (x ∷ bs) e = rw e (with_bytes-ring (slice_set m (b % 4096) x) (a + 1) (b + 1) bs (omega arith))
+
+-- what is behind the wrap is written from 0 on
+with_bytes-wrap : (m : List ℕ) (a : ℕ) (bs : List ℕ) (n : ℕ) → n ≡ min (length bs) (4096 - a % 4096)
+    → with_bytes m a bs ≡ with_bytes (with_bytes m (a % 4096) (take n bs)) 0 (drop n bs)
+with_bytes-wrap m a bs n e =
+    with_bytes-ring m a (a % 4096) bs (omega arith)
+    ∙ ap (with_bytes m (a % 4096)) (sym (take-append-drop n bs))
+    ∙ write_all-append with_byte m (a % 4096) (take n bs) (drop n bs)
+    ∙ behind (with_bytes m (a % 4096) (take n bs))
+  where
+    behind : (w : List ℕ) → with_bytes w (a % 4096 + length (take n bs)) (drop n bs) ≡ with_bytes w 0 (drop n bs)
+    behind w = elim (cases_lt n (length bs)) [
+      | inl h ↦ with_bytes-ring w _ 0 (drop n bs) (omega (arith, length-take n bs))
+      | inr h ↦ rw (drop_all n bs h) refl
+    ]
+
+-- a run into the ring is at most two pieces
+pub two_pieces : (m w r : List ℕ) (a n : ℕ) (bs front back : List ℕ) → length m ≡ 4096 → length w ≡ length m → length bs ≤ 4096
+    → n ≡ min (length bs) (4096 - a % 4096) → front ≡ take n bs → back ≡ drop n bs
+    → w ≡ spliced m (a % 4096) front → r ≡ spliced w 0 back → r ≡ with_bytes m a bs
+two_pieces m w r a n bs front back lm lw lb e f g p q =
+    let x : with_bytes m (a % 4096) front ≡ spliced m (a % 4096) front = rw f (with_bytes-spliced m (a % 4096) (take n bs) (omega (arith, length-take n bs)) lm) in
+    let y : with_bytes w 0 back ≡ spliced w 0 back = rw g (with_bytes-spliced w 0 (drop n bs) (omega (arith, length-drop n bs)) (lw ∙ lm)) in
+    let z : with_bytes m a bs ≡ with_bytes (with_bytes m (a % 4096) (take n bs)) 0 (drop n bs) = with_bytes-wrap m a bs n e in
+    cc
+
+-- the same of an image, in which what is past the end is dropped
+with_image_bytes-sets : (m : List ℕ) (a at : ℕ) (bs : List ℕ) → a % 16777216 ≡ at → at + length bs ≤ 16777216 → with_image_bytes m a bs ≡ sets m at bs
+unfolding with_image_byte
+with_image_bytes-sets m a at [] e h = refl
+with_image_bytes-sets m a at (b ∷ []) e h = rw e refl
+with_image_bytes-sets m a at (b ∷ c ∷ cs) e h = rw e (with_image_bytes-sets (set m at b) (a + 1) (suc at) (c ∷ cs) (omega arith) (omega arith))
+
+sets-past : (m : List ℕ) (i : ℕ) (bs : List ℕ) → length m ≤ i → sets m i bs ≡ m
+sets-past m i [] h = refl
+sets-past m i (b ∷ bs) h = rw (set_past m i b h) (sets-past m (suc i) bs (omega arith))
+
+sets-cut : (m : List ℕ) (i n : ℕ) (bs : List ℕ) → length m ≤ i + n → sets m i bs ≡ sets m i (take n bs)
+sets-cut m i zero bs h = sets-past m i bs (omega arith)
+sets-cut m i (suc n) [] h = refl
+sets-cut m i (suc n) (b ∷ bs) h = sets-cut (set m i b) (suc i) n bs (omega (arith, length-set m i b))
+
+sets-kept : (m : List ℕ) (i at n : ℕ) (bs : List ℕ) → at ≡ min (length m) i → n ≡ min (length bs) (length m - at) → sets m i bs ≡ sets m at (take n bs)
+sets-kept m i at n bs e f = elim (cases_lt i (length m)) [
+  | inl h ↦ let g : at ≡ i = omega arith in rw g (elim (cases_lt (length bs) (length m - at)) [
+    | inl k ↦ ap (sets m i) (sym (take_all n bs (omega arith)))
+    | inr k ↦ sets-cut m i n bs (omega arith)
+  ])
+  | inr h ↦ sets-past m i bs h ∙ sym (sets-past m at (take n bs) (omega arith))
+]
+
+pub with_image_bytes-spliced : (m : List ℕ) (a at n : ℕ) (bs : List ℕ) → a % 16777216 + length bs ≤ 16777216
+    → at ≡ min (length m) (a % 16777216) → n ≡ min (length bs) (length m - at) → with_image_bytes m a bs ≡ spliced m at (take n bs)
+with_image_bytes-spliced m a at n bs h e f =
+    with_image_bytes-sets m a (a % 16777216) bs refl h ∙ sets-kept m (a % 16777216) at n bs e f
+    ∙ sets-eq (take n bs) m at (omega (arith, length-take n bs))

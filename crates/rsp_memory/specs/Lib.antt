@@ -1,0 +1,4 @@
+-- The memories as lists of bytes.
+pub mod Memory
+pub mod Image
+pub mod Runs

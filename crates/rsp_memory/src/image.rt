@@ -1,0 +1,108 @@
+ghost use Rattle.std.specs.Prelude.{◌≡◌, ℕ, List, length, vec_len, ◌↔◌, ◌≤◌, IsOk, IfOk, IfErr, take, drop, ◌+◌, ◌%◌};
+ghost use Rattle.rsp_memory.specs.Image.{IsImageLength, image_byte, with_image_byte, with_image_bytes};
+
+use crate::splice::splice;
+use std::marker::Model;
+
+/// The image of the RDRAM, the memory of the console.
+///
+/// Contracts see it as the list of its bytes, a multiple of 8 from 64 to 8,388,608 of them. An
+/// address is taken modulo 2^24; a byte past the image's end reads 0, and a write there is dropped.
+#[derive(Drop)]
+pub struct Rdram {
+    bytes: Vec<u8>,
+}
+
+impl Model for Rdram {
+    ghost Value = { List ℕ };
+
+    ghost view = { λ r. r.bytes.items };
+
+    ghost invariant = { λ r. IsImageLength (length r.bytes.items) };
+}
+
+/// Fault 7, SizeFault: an image can't have this length. It hands the bytes back.
+#[derive(Drop)]
+pub struct SizeFault {
+    /// The bytes that were refused.
+    pub bytes: Vec<u8>,
+}
+
+impl Rdram {
+    /// An image of these bytes, in place. SizeFault, unless their number is a multiple of 8 from 64
+    /// to 8,388,608.
+    pub fn from_bytes(bytes: Vec<u8>) -> Result<Rdram, SizeFault>
+        ensures ok { IfOk result (λ r. r ≡ bytes.items) }
+        ensures fault { IfErr result (λ f. f.bytes ≡ bytes) }
+        ensures variant { IsOk result ↔ IsImageLength (vec_len bytes) }
+    {
+        let n = bytes.len();
+        if n >= 64 && n <= 8_388_608 && n % 8 == 0 {
+            Ok(Rdram { bytes })
+        } else {
+            Err(SizeFault { bytes })
+        }
+    }
+
+    /// The byte at an address.
+    #[inline]
+    #[tactic(auto, unfolding(crate::specs::Image::image_byte))]
+    pub fn byte(&self, a: u32) -> u8
+        ensures { result ≡ image_byte self.now a }
+    {
+        self.bytes
+            .get((a % 16_777_216) as usize)
+            .copied()
+            .unwrap_or(0)
+    }
+
+    /// Writes one byte.
+    #[inline]
+    #[tactic(auto, unfolding(crate::specs::Image::with_image_byte))]
+    pub fn set_byte(&mut self, a: u32, b: u8)
+        ensures { self.new ≡ with_image_byte self.old a b }
+    {
+        let at = (a % 16_777_216) as usize;
+        if at < self.len() {
+            self.bytes[at] = b;
+        }
+    }
+
+    /// The bytes from an address on, at most `n` of them, as far as they go in the image: none
+    /// past its end.
+    pub fn run(&self, a: u32, n: usize) -> &[u8]
+        ensures value { result.now ≡ take n (drop (a % 16777216) self.now) }
+        ensures size { IsImageLength (length self.now) }
+    {
+        let at = self.len().min((a % 16_777_216) as usize);
+        &self.bytes[at..at + n.min(self.len() - at)]
+    }
+
+    /// Writes bytes, one after the other from an address on, of which none wraps past 2^24.
+    pub fn set_bytes(&mut self, a: u32, bytes: &[u8])
+        requires { a % 16777216 + length bytes.now ≤ 16777216 }
+        ensures { self.new ≡ with_image_bytes self.old a bytes.now }
+    {
+        let len = self.len();
+        let at = len.min((a % 16_777_216) as usize);
+        let n = bytes.len().min(len - at);
+        splice(&mut self.bytes, at, &bytes[..n]);
+    }
+
+    /// The number of bytes.
+    #[inline]
+    pub fn len(&self) -> usize
+        ensures len { result ≡ length self.now }
+        ensures size { IsImageLength result }
+    {
+        self.bytes.len()
+    }
+
+    /// Gives the bytes back.
+    pub fn into_bytes(self) -> Vec<u8>
+        ensures { result.items ≡ self }
+    {
+        let Rdram { bytes } = self;
+        bytes
+    }
+}

@@ -1,0 +1,14 @@
+//! The memories of the signal processor: [`SpMem`], 4096 bytes of DMEM or IMEM in a ring, and
+//! [`Rdram`], the image of the console's memory that a DMA reads and writes.
+#![tactic(auto)]
+
+mod bank;
+mod image;
+mod memory;
+mod splice;
+#[cfg(test)]
+mod tests;
+
+pub use bank::Bank;
+pub use image::{Rdram, SizeFault};
+pub use memory::SpMem;

@@ -1,0 +1,177 @@
+ghost use Rattle.std.specs.Prelude.{◌≡◌, ◌≤◌, ◌%◌, ℕ, List, length, take, drop};
+ghost use Rattle.rsp_memory.specs.Memory.{empty_memory, byte_at, half_at, word_at, with_byte, with_half, with_word, bytes_at, with_bytes};
+
+use crate::splice::splice;
+use byteorder::{BigEndian, ByteOrder};
+use std::marker::Model;
+
+/// A memory of the signal processor (DMEM or IMEM): 4096 bytes in a ring.
+///
+/// Contracts see it as the list of its bytes. An address is taken modulo 4096, byte by byte, so an
+/// access may stand at any address and wraps past the last byte to the first. Halves and words
+/// are big-endian.
+#[derive(Drop)]
+pub struct SpMem {
+    bytes: [u8; 4096],
+}
+
+impl Model for SpMem {
+    ghost Value = { List ℕ };
+
+    ghost view = { λ m. m.bytes };
+}
+
+impl SpMem {
+    /// 4096 zero bytes.
+    pub fn new() -> SpMem
+        ensures { result ≡ empty_memory }
+    {
+        SpMem { bytes: [0; 4096] }
+    }
+
+    /// The byte at an address.
+    #[inline]
+    #[tactic(auto, unfolding(crate::specs::Memory::byte_at))]
+    pub fn byte(&self, a: u32) -> u8
+        ensures { result ≡ byte_at self.now a }
+    {
+        self.bytes[(a % 4096) as usize]
+    }
+
+    /// Writes one byte.
+    #[inline]
+    #[tactic(auto, unfolding(crate::specs::Memory::with_byte))]
+    pub fn set_byte(&mut self, a: u32, b: u8)
+        ensures { self.new ≡ with_byte self.old a b }
+    {
+        self.bytes[(a % 4096) as usize] = b;
+    }
+
+    /// The 16 bits from an address on.
+    #[inline]
+    #[tactic(auto, using(crate::proofs::Wraps::wrapped), unfolding(crate::specs::Memory::half_at))]
+    pub fn half(&self, a: u32) -> u16
+        ensures { result ≡ half_at self.now a }
+    {
+        BigEndian::read_u16(&[self.byte(a), self.byte(a.wrapping_add(1))])
+    }
+
+    /// Writes 16 bits.
+    #[inline]
+    #[tactic(auto, using(crate::proofs::Wraps::wrapped), unfolding(crate::specs::Memory::with_half))]
+    pub fn set_half(&mut self, a: u32, h: u16)
+        ensures { self.new ≡ with_half self.old a h }
+    {
+        let [high, low] = h.to_be_bytes();
+        self.set_byte(a, high);
+        self.set_byte(a.wrapping_add(1), low);
+    }
+
+    /// The 32 bits from an address on.
+    #[inline]
+    #[tactic(auto, unfolding(crate::specs::Memory::word_at, crate::specs::Memory::byte_at))]
+    pub fn word(&self, a: u32) -> u32
+        ensures { result ≡ word_at self.now a }
+    {
+        let at = (a % 4096) as usize;
+        if at <= 4092 {
+            BigEndian::read_u32(&[
+                self.bytes[at],
+                self.bytes[at + 1],
+                self.bytes[at + 2],
+                self.bytes[at + 3],
+            ])
+        } else {
+            self.wrapping_word(a)
+        }
+    }
+
+    /// The 32 bits from an address on, of which some may wrap.
+    #[tactic(auto, using(crate::proofs::Wraps::wrapped), unfolding(crate::specs::Memory::word_at))]
+    fn wrapping_word(&self, a: u32) -> u32
+        ensures { result ≡ word_at self.now a }
+    {
+        BigEndian::read_u32(&[
+            self.byte(a),
+            self.byte(a.wrapping_add(1)),
+            self.byte(a.wrapping_add(2)),
+            self.byte(a.wrapping_add(3)),
+        ])
+    }
+
+    /// Writes 32 bits.
+    #[inline]
+    #[tactic(auto, unfolding(crate::specs::Memory::with_word, crate::specs::Memory::with_byte))]
+    pub fn set_word(&mut self, a: u32, w: u32)
+        ensures { self.new ≡ with_word self.old a w }
+    {
+        let at = (a % 4096) as usize;
+        if at <= 4092 {
+            let [first, second, third, fourth] = w.to_be_bytes();
+            self.bytes[at] = first;
+            self.bytes[at + 1] = second;
+            self.bytes[at + 2] = third;
+            self.bytes[at + 3] = fourth;
+        } else {
+            self.set_wrapping_word(a, w);
+        }
+    }
+
+    /// Writes 32 bits, of which some may wrap.
+    #[tactic(auto, using(crate::proofs::Wraps::wrapped), unfolding(crate::specs::Memory::with_word))]
+    fn set_wrapping_word(&mut self, a: u32, w: u32)
+        ensures { self.new ≡ with_word self.old a w }
+    {
+        let [first, second, third, fourth] = w.to_be_bytes();
+        self.set_byte(a, first);
+        self.set_byte(a.wrapping_add(1), second);
+        self.set_byte(a.wrapping_add(2), third);
+        self.set_byte(a.wrapping_add(3), fourth);
+    }
+
+    /// The sixteen bytes from an address on: as many as any one store writes.
+    #[tactic(auto, using(crate::proofs::Wraps::wrapped))]
+    pub fn window(&self, a: u32) -> [u8; 16]
+        ensures { result ≡ bytes_at self.now a 16 }
+    {
+        [
+            self.byte(a),
+            self.byte(a.wrapping_add(1)),
+            self.byte(a.wrapping_add(2)),
+            self.byte(a.wrapping_add(3)),
+            self.byte(a.wrapping_add(4)),
+            self.byte(a.wrapping_add(5)),
+            self.byte(a.wrapping_add(6)),
+            self.byte(a.wrapping_add(7)),
+            self.byte(a.wrapping_add(8)),
+            self.byte(a.wrapping_add(9)),
+            self.byte(a.wrapping_add(10)),
+            self.byte(a.wrapping_add(11)),
+            self.byte(a.wrapping_add(12)),
+            self.byte(a.wrapping_add(13)),
+            self.byte(a.wrapping_add(14)),
+            self.byte(a.wrapping_add(15)),
+        ]
+    }
+
+    /// The bytes from an address on, at most `n` of them, as far as they go without a wrap: at
+    /// least one, unless `n` is 0.
+    pub fn run(&self, a: u32, n: usize) -> &[u8]
+        ensures value { result.now ≡ take n (drop (a % 4096) self.now) }
+        ensures memory { length self.now ≡ 4096 }
+    {
+        let at = (a % 4096) as usize;
+        &self.bytes[at..at + n.min(4096 - at)]
+    }
+
+    /// Writes at most 4096 bytes, one after the other from an address on.
+    pub fn set_bytes(&mut self, a: u32, bytes: &[u8])
+        requires { length bytes.now ≤ 4096 }
+        ensures { self.new ≡ with_bytes self.old a bytes.now }
+    {
+        let at = (a % 4096) as usize;
+        let (front, back) = bytes.split_at(bytes.len().min(4096 - at));
+        splice(&mut self.bytes, at, front);
+        splice(&mut self.bytes, 0, back);
+    }
+}

@@ -1,0 +1,4 @@
+-- Lemmas on numbers.
+pub mod Wrap
+pub mod Signed
+pub mod Join

@@ -1,0 +1,55 @@
+-- Whole numbers, their signed readings of 16, 32 and 48 bits, and the parts of an accumulator.
+use Rattle.std.specs.Prelude.{ℕ, ℤ, pos, negsuc, ◌+◌, ◌*◌, ◌^◌, ◌+ℤ◌, ◌-ℤ◌, unsigned_abs, List, slice_index_or, length, ◌-◌, ◌≡◌, ◌≤ℤ◌, ◌<ℤ◌}
+use Rattle.std.specs.Int.{int_rem_euclid, int_div_euclid, int_min, int_max, cast_signed, w16, w32}
+
+-- z divided by m, rounded toward minus infinity
+abbrev pub floor_div : ℤ → ℕ → ℤ
+floor_div z m = int_div_euclid z (pos m)
+
+-- the number from 0 to m - 1 that differs from z by a multiple of m
+abbrev pub modulo : ℤ → ℕ → ℕ
+modulo z m = unsigned_abs (int_rem_euclid z (pos m))
+
+-- the number from -2^47 to 2^47 - 1 that differs from z by a multiple of 2^48
+unfoldable pub s48 : ℤ → ℤ
+s48 z = pos (modulo (z +ℤ pos (2 ^ 47)) (2 ^ 48)) -ℤ pos (2 ^ 47)
+
+-- sixteen bits, a number below 2^16, as a signed number: the one from -2^15 to 2^15 - 1 that differs from n by a multiple of 2^16
+abbrev pub s16 : ℕ → ℤ
+s16 n = cast_signed w16 n
+
+-- 32 bits, a number below 2^32, as a signed number: the one from -2^31 to 2^31 - 1 that differs from n by a multiple of 2^32
+abbrev pub s32 : ℕ → ℤ
+s32 n = cast_signed w32 n
+
+-- z limited to -32768 .. 32767
+unfoldable pub clamp16 : ℤ → ℤ
+clamp16 z = int_max (negsuc 32767) (int_min (pos 32767) z)
+
+-- the high sixteen bits of an accumulator x: floor(x / 2^32) modulo 2^16
+unfoldable pub high : ℤ → ℕ
+high x = modulo (floor_div x (2 ^ 32)) 65536
+
+-- the middle sixteen bits: floor(x / 2^16) modulo 2^16
+unfoldable pub middle : ℤ → ℕ
+middle x = modulo (floor_div x (2 ^ 16)) 65536
+
+-- the low sixteen bits: x modulo 2^16
+unfoldable pub low : ℤ → ℕ
+low x = modulo x 65536
+
+-- the accumulator with these high, middle and low sixteen bits
+unfoldable pub join : ℕ → ℕ → ℕ → ℤ
+join h m l = s48 (pos (h * 2 ^ 32 + m * 2 ^ 16 + l))
+
+-- number i of a list, 0 past its end
+abbrev pub number : List ℤ → ℕ → ℤ
+number xs i = slice_index_or xs i (pos 0)
+
+-- a number of 48 bits: from -2^47 to 2^47 - 1
+abbrev pub IsNumber : ℤ → Type 0
+IsNumber z = (negsuc (2 ^ 47 - 1) ≤ℤ z) × (z <ℤ pos (2 ^ 47))
+
+-- eight numbers of 48 bits
+abbrev pub AreNumbers : List ℤ → Type 0
+AreNumbers xs = (length xs ≡ 8) × ((i : ℕ) → IsNumber (number xs i))

@@ -1,0 +1,14 @@
+//! Facts about the definitions alone: each is the contract of a function that does nothing.
+
+ghost use Rattle.rsp_numbers.specs.Laws.{PartsOfJoin, Readings};
+
+/// Each signed reading lies in its range and differs from what it reads by a multiple of 2^16,
+/// 2^32 or 2^48; of 48 bits there is one such number alone.
+pub fn signed_readings()
+    ensures { Readings }
+{}
+
+/// The high, middle and low parts of a joined number are what it was joined from.
+pub fn parts_of_join()
+    ensures { PartsOfJoin }
+{}

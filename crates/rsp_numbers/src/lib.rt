@@ -1,0 +1,8 @@
+//! The numbers that the vector unit computes with, in the contracts: signed readings of 16, 32
+//! and 48 bits, the high, middle and low parts of an accumulator, and the clamp to 16 bits.
+//!
+//! The definitions stand in `specs/Numbers.antt`; no code is behind them. `laws` proves what
+//! they are known by.
+#![tactic(auto)]
+
+pub mod laws;

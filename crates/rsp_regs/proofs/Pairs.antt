@@ -1,0 +1,99 @@
+-- One more pair, one more row, and runs of pairs.
+use Rattle.std.proofs.Common.{◌≡◌, ℕ, ◌+◌, ◌%◌, ◌<◌, ◌≤◌, List, [], ◌∷◌, ◌++◌, map, length, take, drop, get_or, refl, sym, ap, ◌∙◌, arith}
+use Rattle.std.specs.List.{range_with_len, flat_map, fold}
+use Rattle.std.proofs.lemmas.List.{map-id, flat_map_more, length-take, length-drop, get_or-drop, get_or_past}
+use Rattle.std.proofs.lemmas.List.Sums.{fold_push, fold-append}
+use Rattle.std.proofs.lemmas.List.FromFn.{map-range_with_len_more}
+use Rattle.rsp_memory.specs.Memory.{byte_at, with_byte, with_bytes}
+use Rattle.rsp_memory.specs.Image.{image_byte, with_image_byte, with_image_bytes}
+use Rattle.rsp_memory.proofs.Runs.{run_turn}
+use Rattle.rsp_regs.specs.declared.transfer.Transfer.{Transfer}
+use Rattle.rsp_regs.specs.Dma.{row_pairs, row, rows, one_in, one_out, copied_in, copied_out}
+
+-- a fold over what f makes of the numbers below i + 1
+fold_map_more : {A B : Type 0} (step : B → A → B) (s : B) (f : ℕ → A) (i : ℕ)
+    → fold step s (map f (range_with_len 0 (i + 1))) ≡ step (fold step s (map f (range_with_len 0 i))) (f i)
+fold_map_more step s f i = ap (fold step s) (map-range_with_len_more f 0 i i (omega arith)) ∙ fold_push step s (map f (range_with_len 0 i)) (f i)
+
+range_more : (i : ℕ) → range_with_len 0 (i + 1) ≡ range_with_len 0 i ++ i ∷ []
+range_more i =
+    sym (map-id (range_with_len 0 (i + 1))) ∙ map-range_with_len_more (λ x. x) 0 i i (omega arith)
+    ∙ ap (λ xs. xs ++ i ∷ []) (map-id (range_with_len 0 i))
+
+fold_flat_map_more : {A B : Type 0} (step : B → A → B) (s : B) (f : ℕ → List A) (i : ℕ)
+    → fold step s (flat_map f (range_with_len 0 (i + 1))) ≡ fold step (fold step s (flat_map f (range_with_len 0 i))) (f i)
+fold_flat_map_more step s f i =
+    ap (λ xs. fold step s (flat_map f xs)) (range_more i)
+    ∙ ap (fold step s) (sym (flat_map_more f [] (range_with_len 0 i) i))
+    ∙ fold-append step s (flat_map f (range_with_len 0 i)) (f i)
+
+-- no pair, and one more, of a row
+pub row_in-none : (image bank : List ℕ) (sp dram : ℕ) → copied_in image bank (row_pairs sp dram 0) ≡ bank
+unfolding copied_in row_pairs
+row_in-none image bank sp dram = refl
+
+pub row_out-none : (bank image : List ℕ) (sp dram : ℕ) → copied_out bank image (row_pairs sp dram 0) ≡ image
+unfolding copied_out row_pairs
+row_out-none bank image sp dram = refl
+
+pub row_in-more : (image bank : List ℕ) (sp dram i : ℕ)
+    → copied_in image bank (row_pairs sp dram (i + 1)) ≡ with_byte (copied_in image bank (row_pairs sp dram i)) (sp + i) (image_byte image (dram + i))
+unfolding copied_in row_pairs
+row_in-more image bank sp dram i = fold_map_more (one_in image) bank (λ k. (sp + k, dram + k)) i
+
+pub row_out-more : (bank image : List ℕ) (sp dram i : ℕ)
+    → copied_out bank image (row_pairs sp dram (i + 1)) ≡ with_image_byte (copied_out bank image (row_pairs sp dram i)) (dram + i) (byte_at bank (sp + i))
+unfolding copied_out row_pairs
+row_out-more bank image sp dram i = fold_map_more (one_out bank) image (λ k. (sp + k, dram + k)) i
+
+-- the bytes of a run, in the image and in a bank
+image_byte-at : (image : List ℕ) (a at n : ℕ) → a % 16777216 ≡ at + n → image_byte image a ≡ get_or (drop at image) n 0
+unfolding image_byte
+image_byte-at image a at n e = ap (λ k. get_or image k 0) e ∙ sym (get_or-drop at image n 0)
+
+byte_at-at : (bank : List ℕ) (a at n : ℕ) → a % 4096 ≡ at + n → byte_at bank a ≡ get_or (drop at bank) n 0
+unfolding byte_at
+byte_at-at bank a at n e = ap (λ k. get_or bank k 0) e ∙ sym (get_or-drop at bank n 0)
+
+-- a run of a row's pairs at once
+pub row_in-turn : (image bank : List ℕ) (sp dram i n : ℕ) (run now then : List ℕ) → length image ≤ 16777216
+    → run ≡ take n (drop ((dram + i) % 16777216) image) → now ≡ copied_in image bank (row_pairs sp dram i)
+    → then ≡ with_bytes now (sp + i) run → then ≡ copied_in image bank (row_pairs sp dram (i + length run))
+row_in-turn image bank sp dram i n run now then s =
+    run_turn with_byte (image_byte image) (λ k. copied_in image bank (row_pairs sp dram k)) sp dram i n _ run now then
+    (row_in-more image bank sp dram)
+    (λ k l. image_byte-at image (dram + i + k) ((dram + i) % 16777216) k (omega (arith, length-drop ((dram + i) % 16777216) image)))
+
+pub row_out-turn : (bank image : List ℕ) (sp dram i n : ℕ) (run now then : List ℕ) → length bank ≡ 4096
+    → run ≡ take n (drop ((sp + i) % 4096) bank) → now ≡ copied_out bank image (row_pairs sp dram i)
+    → then ≡ with_image_bytes now (dram + i) run → then ≡ copied_out bank image (row_pairs sp dram (i + length run))
+row_out-turn bank image sp dram i n run now then s =
+    run_turn with_image_byte (byte_at bank) (λ k. copied_out bank image (row_pairs sp dram k)) dram sp i n _ run now then
+    (row_out-more bank image sp dram)
+    (λ k l. byte_at-at bank (sp + i + k) ((sp + i) % 4096) k (omega (arith, length-drop ((sp + i) % 4096) bank)))
+
+-- past the image's end the bytes are 0
+pub past_end : (image : List ℕ) (a n : ℕ) (run : List ℕ) → run ≡ take n (drop (a % 16777216) image) → 0 < n → length run ≡ 0 → image_byte image a ≡ 0
+unfolding image_byte
+past_end image a n run e h z = get_or_past image (a % 16777216) 0 (omega (arith, ap length e, length-take n (drop (a % 16777216) image), length-drop (a % 16777216) image))
+
+-- no row, and one more
+pub rows_in-none : (image bank : List ℕ) (t : Transfer) → copied_in image bank (rows t 0) ≡ bank
+unfolding copied_in rows
+rows_in-none image bank t = refl
+
+pub rows_out-none : (bank image : List ℕ) (t : Transfer) → copied_out bank image (rows t 0) ≡ image
+unfolding copied_out rows
+rows_out-none bank image t = refl
+
+pub rows_in-more : (image bank : List ℕ) (t : Transfer) (r : ℕ)
+    → copied_in image bank (rows t (r + 1)) ≡ copied_in image (copied_in image bank (rows t r)) (row t r)
+unfolding copied_in rows
+rows_in-more image bank t r = fold_flat_map_more (one_in image) bank (row t) r
+
+pub rows_out-more : (bank image : List ℕ) (t : Transfer) (r : ℕ)
+    → copied_out bank image (rows t (r + 1)) ≡ copied_out bank (copied_out bank image (rows t r)) (row t r)
+unfolding copied_out rows
+rows_out-more bank image t r = fold_flat_map_more (one_out bank) image (row t) r
+
+pub ruleset copies = (row_in-none, row_out-none, row_in-more, row_out-more, rows_in-none, rows_out-none, rows_in-more, rows_out-more)

@@ -1,0 +1,151 @@
+-- The registers of the signal processor, as the register table has them.
+use Rattle.std.specs.Prelude.{ℕ, ◌+◌, ◌*◌, ◌/◌, ◌%◌, ◌^◌, ◌<◌, Bool, true, false, ◌&&◌, ◌||◌, List, ◌∷◌, map, replicate, slice_index, slice_index_or, slice_set, nat_lt, if◌then◌else◌, ◌-◌, ◌==◌}
+use Rattle.std.specs.List.{range_with_len, sum_by}
+use Rattle.rsp_regs.specs.declared.transfer.Transfer.{Transfer}
+use Rattle.rsp_regs.specs.Dma.{pairs, copied_in, copied_out}
+
+-- the registers, with the interrupt flag, which is in none of their words
+pub record Sp : Type 0 where
+  pub memory : ℕ  -- SP_MEM_ADDR: an address of 12 bits, and bit 12 where the bank is IMEM
+  pub dram : ℕ  -- SP_DRAM_ADDR, of 24 bits
+  pub skip : ℕ  -- the skip of the last DMA
+  pub halted : Bool
+  pub broke : Bool
+  pub single_step : Bool
+  pub intbreak : Bool
+  pub signals : List Bool
+  pub interrupt : Bool
+  pub semaphore : Bool
+  pub dpc : List ℕ  -- the eight DPC registers, which keep what is written
+
+-- the start: all 0
+abbrev pub start : Sp
+start = record {
+  memory = 0;
+  dram = 0;
+  skip = 0;
+  halted = false;
+  broke = false;
+  single_step = false;
+  intbreak = false;
+  signals = replicate 8 false;
+  interrupt = false;
+  semaphore = false;
+  dpc = replicate 8 0;
+}
+
+-- what a mark adds to a word
+abbrev pub flag : Bool → ℕ → ℕ
+flag b weight = if b then weight else 0
+
+-- signal n
+abbrev pub signal : List Bool → ℕ → Bool
+signal signals n = slice_index_or signals n false
+
+-- SP_STATUS as it reads: bit 0 halted, 1 broke, 5 single step, 6 intbreak, 7 to 14 the signals
+unfoldable pub status : Sp → ℕ
+status s =
+    flag s.halted 1 + flag s.broke 2 + flag s.single_step 32 + flag s.intbreak 64
+    + sum_by (λ n. flag (signal s.signals n) (2 ^ (7 + n))) (range_with_len 0 8)
+
+-- both length registers as they read: the kept skip in bits 31 to 20, and FF8 hex
+abbrev pub length_word : Sp → ℕ
+length_word s = s.skip * 1048576 + 4088
+
+-- the sixteen registers as they read, in the order of their numbers
+abbrev pub words : Sp → List ℕ
+words s = s.memory ∷ s.dram ∷ length_word s ∷ length_word s ∷ status s ∷ 0 ∷ 0 ∷ flag s.semaphore 1 ∷ s.dpc
+
+-- what a read of register n gives; numbers are taken modulo 16
+unfoldable pub peeked : ℕ → Sp → ℕ
+peeked n s = slice_index (words s) (n % 16)
+
+-- the registers after a read of register n: that of the semaphore sets it
+unfoldable pub after_read : ℕ → Sp → Sp
+after_read n s = if n % 16 == 7 then record s { semaphore = true } else s
+
+-- bit n of a word
+abbrev pub bit : ℕ → ℕ → Bool
+bit v n = v / 2 ^ n % 2 == 1
+
+-- a mark under the bit that clears it and the next one, which sets it; both, or neither, change nothing
+abbrev pub paired : ℕ → ℕ → Bool → Bool
+paired v n old = if bit v n then (if bit v (n + 1) then old else false) else (if bit v (n + 1) then true else old)
+
+-- the registers after a write of SP_STATUS: twelve pairs (clear, set), and bit 2, which clears broke alone
+unfoldable pub status_written : ℕ → Sp → Sp
+status_written v s = record s {
+  halted = paired v 0 s.halted;
+  broke = if bit v 2 then false else s.broke;
+  interrupt = paired v 3 s.interrupt;
+  single_step = paired v 5 s.single_step;
+  intbreak = paired v 7 s.intbreak;
+  signals = map (λ n. paired v (9 + 2 * n) (signal s.signals n)) (range_with_len 0 8);
+}
+
+-- what a word written to a length register asks for: the length in bits 11 to 0, with its low three bits set, plus 1;
+-- the count in bits 19 to 12; the skip in bits 31 to 20, with its low three bits taken as 0
+unfoldable pub transfer : ℕ → Sp → Transfer
+transfer v s = record {
+  sp = s.memory % 4096;
+  dram = s.dram;
+  length = v % 4096 / 8 * 8 + 8;
+  count = v / 4096 % 256;
+  skip = v / 1048576 / 8 * 8;
+}
+
+-- the registers after a DMA: the bank is kept, and the last row adds no skip
+unfoldable pub moved : Transfer → Sp → Sp
+moved t s = record s {
+  memory = s.memory / 4096 * 4096 + (t.sp + (t.count + 1) * t.length) % 4096;
+  dram = (t.dram + (t.count + 1) * t.length + t.count * t.skip) % 16777216;
+  skip = t.skip;
+}
+
+-- the registers after a write of v to register n: 0 keeps bits 12 to 3, 1 keeps bits 23 to 3, any write clears the semaphore
+unfoldable pub written : ℕ → ℕ → Sp → Sp
+written n v s =
+    let k = n % 16 in
+    if k == 0 then record s { memory = v % 8192 / 8 * 8 }
+    else if k == 1 then record s { dram = v % 16777216 / 8 * 8 }
+    else if k == 2 || k == 3 then moved (transfer v s) s
+    else if k == 4 then status_written v s
+    else if k == 7 then record s { semaphore = false }
+    else if nat_lt k 8 then s
+    else record s { dpc = slice_set s.dpc (k - 8) v }
+
+-- the bank is IMEM where bit 12 of SP_MEM_ADDR is set
+abbrev pub is_imem : Sp → Bool
+is_imem s = bit s.memory 12
+
+-- the memories after a write: number 2 moves from the RDRAM into a bank, and number 3 from a bank into the RDRAM
+unfoldable pub bank_written : Bool → ℕ → ℕ → Sp → List ℕ → List ℕ → List ℕ
+bank_written chosen n v s image bank =
+    if n % 16 == 2 && chosen then copied_in image bank (pairs (transfer v s)) else bank
+
+unfoldable pub image_written : ℕ → ℕ → Sp → List ℕ → List ℕ → List ℕ → List ℕ
+image_written n v s dmem imem image =
+    if n % 16 == 3 then copied_out (if is_imem s then imem else dmem) image (pairs (transfer v s)) else image
+
+-- the registers after a BREAK
+unfoldable pub after_break : Sp → Sp
+after_break s = record s { halted = true; broke = true; interrupt = s.interrupt || s.intbreak }
+
+-- the registers after an instruction: single step halts
+unfoldable pub after_step : Sp → Sp
+after_step s = record s { halted = s.halted || s.single_step }
+
+-- the registers after a task's start: signals 0, 1 and 2 are cleared
+unfoldable pub after_task : Sp → Sp
+after_task s = record s {
+  halted = false;
+  broke = false;
+  intbreak = true;
+  signals = slice_set (slice_set (slice_set s.signals 0 false) 1 false) 2 false;
+}
+
+-- the registers' ranges
+pub record IsSp (memory dram skip : ℕ) : Type 0 where
+  pub memory_below : memory < 8192
+  pub dram_below : dram < 16777216
+  pub skip_below : skip < 4096

@@ -1,0 +1,33 @@
+ghost use Rattle.std.specs.Prelude.{◌≡◌, ◌≤◌, ◌<◌};
+ghost use Rattle.rsp_regs.specs.Sp.{flag, bit, paired};
+
+/// The weight of a mark that is set, else 0.
+#[inline]
+pub(crate) fn flag(value: bool, weight: u32) -> u32
+    ensures value { result ≡ flag value weight }
+    ensures bound { result ≤ weight }
+{
+    if value { weight } else { 0 }
+}
+
+/// Bit `n` of a word.
+#[inline]
+pub(crate) fn bit(value: u32, n: u32) -> bool
+    requires { n < 32 }
+    ensures { result ≡ bit value n }
+{
+    value >> n & 1 == 1
+}
+
+/// A mark under bit `n` of a word, which clears it, and the next one, which sets it.
+#[inline]
+pub(crate) fn paired(value: u32, n: u32, old: bool) -> bool
+    requires { n < 31 }
+    ensures { result ≡ paired value n old }
+{
+    match (bit(value, n), bit(value, n + 1)) {
+        (true, false) => false,
+        (false, true) => true,
+        _ => old,
+    }
+}

@@ -1,0 +1,316 @@
+ghost use Rattle.std.specs.Prelude.{◌≡◌, not};
+ghost use Rattle.rsp_regs.specs.Dma.{IsTransfer};
+ghost use Rattle.rsp_regs.specs.Sp.{start, status, peeked, after_read, status_written, transfer, moved, written, is_imem, bank_written, image_written, after_break, after_step, after_task};
+
+use crate::Transfer;
+use crate::bits::{bit, flag, paired};
+use rsp_memory::{Rdram, SpMem};
+use std::marker::Model;
+
+/// The registers of the signal processor, with its interrupt flag.
+///
+/// A register's number is taken modulo 16, as the register table has it: 0 SP_MEM_ADDR,
+/// 1 SP_DRAM_ADDR, 2 SP_RD_LEN, 3 SP_WR_LEN, 4 SP_STATUS, 5 SP_DMA_FULL, 6 SP_DMA_BUSY,
+/// 7 SP_SEMAPHORE, 8 to 15 the DPC registers. The interrupt flag is in none of them.
+#[derive(Clone, Copy, Drop)]
+pub struct SpRegs {
+    memory: u32,
+    dram: u32,
+    skip: u32,
+    halted: bool,
+    broke: bool,
+    single_step: bool,
+    intbreak: bool,
+    signals: [bool; 8],
+    interrupt: bool,
+    semaphore: bool,
+    dpc: [u32; 8],
+}
+
+impl Model for SpRegs {
+    ghost use Rattle.rsp_regs.specs.Sp.{Sp, IsSp};
+
+    ghost Value = { Sp };
+
+    ghost view = { λ s. record {
+      memory = s.memory;
+      dram = s.dram;
+      skip = s.skip;
+      halted = s.halted;
+      broke = s.broke;
+      single_step = s.single_step;
+      intbreak = s.intbreak;
+      signals = s.signals;
+      interrupt = s.interrupt;
+      semaphore = s.semaphore;
+      dpc = s.dpc;
+    } };
+
+    ghost invariant = { λ s. IsSp s.memory s.dram s.skip };
+
+    ghost inverse = { λ s. record {
+      memory = s.memory;
+      dram = s.dram;
+      skip = s.skip;
+      halted = s.halted;
+      broke = s.broke;
+      single_step = s.single_step;
+      intbreak = s.intbreak;
+      signals = s.signals;
+      interrupt = s.interrupt;
+      semaphore = s.semaphore;
+      dpc = s.dpc;
+    } };
+}
+
+impl SpRegs {
+    /// The registers at the start: all 0.
+    pub fn new() -> SpRegs
+        ensures { result ≡ start }
+    {
+        SpRegs {
+            memory: 0,
+            dram: 0,
+            skip: 0,
+            halted: false,
+            broke: false,
+            single_step: false,
+            intbreak: false,
+            signals: [false; 8],
+            interrupt: false,
+            semaphore: false,
+            dpc: [0; 8],
+        }
+    }
+
+    /// Whether the processor is halted.
+    #[inline]
+    pub fn halted(&self) -> bool
+        ensures { result ≡ self.now.halted }
+    {
+        self.halted
+    }
+
+    /// Whether a BREAK was executed since the mark was cleared.
+    #[inline]
+    pub fn broke(&self) -> bool
+        ensures { result ≡ self.now.broke }
+    {
+        self.broke
+    }
+
+    /// Whether each instruction halts the processor.
+    #[inline]
+    pub fn single_step(&self) -> bool
+        ensures { result ≡ self.now.single_step }
+    {
+        self.single_step
+    }
+
+    /// The interrupt flag.
+    #[inline]
+    pub fn interrupt(&self) -> bool
+        ensures { result ≡ self.now.interrupt }
+    {
+        self.interrupt
+    }
+
+    /// SP_STATUS as it reads: bit 0 halted, 1 broke, 5 single step, 6 intbreak, 7 to 14 the signals.
+    #[tactic(auto, unfolding(crate::specs::Sp::status))]
+    fn status(&self) -> u32
+        ensures { result ≡ status self.now }
+    {
+        let [a, b, c, d, e, f, g, h] = self.signals;
+        flag(self.halted, 1)
+            + flag(self.broke, 2)
+            + flag(self.single_step, 32)
+            + flag(self.intbreak, 64)
+            + (flag(a, 128)
+                + flag(b, 256)
+                + flag(c, 512)
+                + flag(d, 1024)
+                + flag(e, 2048)
+                + flag(f, 4096)
+                + flag(g, 8192)
+                + flag(h, 16384))
+    }
+
+    /// The word that a read of register `n` would give. Changes nothing.
+    #[inline]
+    #[tactic(auto, unfolding(crate::specs::Sp::peeked))]
+    pub fn peek(&self, n: u32) -> u32
+        ensures { result ≡ peeked n self.now }
+    {
+        match n % 16 {
+            0 => self.memory,
+            1 => self.dram,
+            2 | 3 => self.skip * 0x10_0000 + 0xff8,
+            4 => self.status(),
+            5 | 6 => 0,
+            7 => flag(self.semaphore, 1),
+            k => self.dpc[(k - 8) as usize],
+        }
+    }
+
+    /// Reads register `n`. A read of the semaphore then sets it.
+    #[inline]
+    #[tactic(auto, unfolding(crate::specs::Sp::after_read))]
+    pub fn host_read(&mut self, n: u32) -> u32
+        ensures value { result ≡ peeked n self.old }
+        ensures state { self.new ≡ after_read n self.old }
+    {
+        let value = self.peek(n);
+        if n % 16 == 7 {
+            self.semaphore = true;
+        }
+        value
+    }
+
+    /// What BREAK sets: halted and broke, and the interrupt flag where intbreak is set.
+    #[inline]
+    #[tactic(auto, unfolding(crate::specs::Sp::after_break))]
+    pub fn on_break(&mut self)
+        ensures { self.new ≡ after_break self.old }
+    {
+        self.halted = true;
+        self.broke = true;
+        self.interrupt = self.interrupt || self.intbreak;
+    }
+
+    /// What the end of an instruction sets: halted, where single step is set.
+    #[inline]
+    #[tactic(auto, unfolding(crate::specs::Sp::after_step))]
+    pub fn on_step(&mut self)
+        ensures { self.new ≡ after_step self.old }
+    {
+        self.halted = self.halted || self.single_step;
+    }
+
+    /// What the start of a task sets and clears: intbreak is set; halted, broke and the signals 0, 1
+    /// and 2 are cleared.
+    #[tactic(auto, unfolding(crate::specs::Sp::after_task))]
+    pub fn on_task(&mut self)
+        ensures { self.new ≡ after_task self.old }
+    {
+        self.halted = false;
+        self.broke = false;
+        self.intbreak = true;
+        self.signals[0] = false;
+        self.signals[1] = false;
+        self.signals[2] = false;
+    }
+
+    /// A write of SP_STATUS: twelve pairs of a bit that clears and one that sets, and a lone bit that
+    /// clears broke. Of a pair, both bits or neither change nothing.
+    #[tactic(auto, unfolding(crate::specs::Sp::status_written))]
+    fn write_status(&mut self, value: u32)
+        ensures { self.new ≡ status_written value self.old }
+    {
+        self.halted = paired(value, 0, self.halted);
+        self.broke = self.broke && !bit(value, 2);
+        self.interrupt = paired(value, 3, self.interrupt);
+        self.single_step = paired(value, 5, self.single_step);
+        self.intbreak = paired(value, 7, self.intbreak);
+        let [a, b, c, d, e, f, g, h] = self.signals;
+        self.signals = [
+            paired(value, 9, a),
+            paired(value, 11, b),
+            paired(value, 13, c),
+            paired(value, 15, d),
+            paired(value, 17, e),
+            paired(value, 19, f),
+            paired(value, 21, g),
+            paired(value, 23, h),
+        ];
+    }
+
+    /// What a word written to a length register asks for.
+    #[tactic(auto, unfolding(crate::specs::Sp::transfer))]
+    fn transfer(&self, value: u32) -> Transfer
+        ensures value { result ≡ transfer value self.now }
+        ensures ranges { IsTransfer result }
+    {
+        Transfer {
+            sp: self.memory % 4096,
+            dram: self.dram,
+            length: value % 4096 / 8 * 8 + 8,
+            count: value / 4096 % 256,
+            skip: value / 0x10_0000 / 8 * 8,
+        }
+    }
+
+    /// Moves the registers on past what a DMA has moved. After the last row there is no skip.
+    #[tactic(auto, unfolding(crate::specs::Sp::moved))]
+    fn advance(&mut self, t: &Transfer)
+        requires { IsTransfer t.now }
+        ensures { self.new ≡ moved t.now self.old }
+    {
+        let bytes = (t.count + 1) * t.length;
+        self.memory = self.memory / 4096 * 4096 + (t.sp + bytes) % 4096;
+        self.dram = (t.dram + bytes + t.count * t.skip) % 0x100_0000;
+        self.skip = t.skip;
+    }
+
+    /// The DMA from the RDRAM into the bank of SP_MEM_ADDR, as `value` asks for it when it is written
+    /// to SP_RD_LEN.
+    #[tactic(auto, unfolding(crate::specs::Sp::bank_written))]
+    pub fn dma_in(&mut self, value: u32, dmem: &mut SpMem, imem: &mut SpMem, rdram: &mut Rdram)
+        ensures registers { self.new ≡ moved (transfer value self.old) self.old }
+        ensures dmem { dmem.new ≡ bank_written (not (is_imem self.old)) 2 value self.old rdram.old dmem.old }
+        ensures imem { imem.new ≡ bank_written (is_imem self.old) 2 value self.old rdram.old imem.old }
+        ensures rdram { rdram.new ≡ rdram.old }
+    {
+        let t = self.transfer(value);
+        if bit(self.memory, 12) {
+            t.copy_in(rdram, imem);
+        } else {
+            t.copy_in(rdram, dmem);
+        }
+        self.advance(&t);
+    }
+
+    /// The DMA from the bank of SP_MEM_ADDR to the RDRAM, as `value` asks for it when it is written to
+    /// SP_WR_LEN.
+    #[tactic(auto, unfolding(crate::specs::Sp::image_written))]
+    pub fn dma_out(&mut self, value: u32, dmem: &mut SpMem, imem: &mut SpMem, rdram: &mut Rdram)
+        ensures registers { self.new ≡ moved (transfer value self.old) self.old }
+        ensures dmem { dmem.new ≡ dmem.old }
+        ensures imem { imem.new ≡ imem.old }
+        ensures rdram { rdram.new ≡ image_written 3 value self.old dmem.old imem.old rdram.old }
+    {
+        let t = self.transfer(value);
+        if bit(self.memory, 12) {
+            t.copy_out(imem, rdram);
+        } else {
+            t.copy_out(dmem, rdram);
+        }
+        self.advance(&t);
+    }
+
+    /// Writes register `n`, and does the DMA that a write of a length register asks for.
+    #[tactic(auto, unfolding(crate::specs::Sp::written, crate::specs::Sp::bank_written, crate::specs::Sp::image_written))]
+    pub fn host_write(
+        &mut self,
+        n: u32,
+        value: u32,
+        dmem: &mut SpMem,
+        imem: &mut SpMem,
+        rdram: &mut Rdram,
+    )
+        ensures registers { self.new ≡ written n value self.old }
+        ensures dmem { dmem.new ≡ bank_written (not (is_imem self.old)) n value self.old rdram.old dmem.old }
+        ensures imem { imem.new ≡ bank_written (is_imem self.old) n value self.old rdram.old imem.old }
+        ensures rdram { rdram.new ≡ image_written n value self.old dmem.old imem.old rdram.old }
+    {
+        match n % 16 {
+            0 => self.memory = value % 0x2000 / 8 * 8,
+            1 => self.dram = value % 0x100_0000 / 8 * 8,
+            2 => self.dma_in(value, dmem, imem, rdram),
+            3 => self.dma_out(value, dmem, imem, rdram),
+            4 => self.write_status(value),
+            5 | 6 => (),
+            7 => self.semaphore = false,
+            k => self.dpc[(k - 8) as usize] = value,
+        }
+    }
+}

@@ -1,0 +1,86 @@
+ghost use Rattle.std.specs.Prelude.{◌≡◌, ◌+◌, ◌*◌, ◌<◌, ◌≤◌, ◌^◌};
+ghost use Rattle.rsp_regs.specs.Dma.{IsTransfer, row_pairs, pairs, copied_in, copied_out};
+
+use rsp_memory::{Rdram, SpMem};
+
+/// What a DMA moves: `count + 1` rows of `length` bytes each, from `sp` on in a bank without a gap,
+/// and from `dram` on in the RDRAM with `skip` bytes between two rows.
+#[derive(Clone, Copy)]
+pub struct Transfer {
+    /// The first address in the bank, below 4096.
+    pub sp: u32,
+    /// The first address in the RDRAM, below 2^24.
+    pub dram: u32,
+    /// Bytes in a row, at most 4096.
+    pub length: u32,
+    /// One less than the number of rows, below 256.
+    pub count: u32,
+    /// Bytes of the RDRAM between two rows, below 4096.
+    pub skip: u32,
+}
+
+impl Transfer {
+    /// Copies from the RDRAM into a bank.
+    #[tactic(auto, using(crate::proofs::Pairs::copies))]
+    pub fn copy_in(&self, rdram: &Rdram, bank: &mut SpMem)
+        requires { IsTransfer self.now }
+        ensures { bank.new ≡ copied_in rdram.now bank.old (pairs self.now) }
+    {
+        for row in 0..self.count + 1 {
+            let sp = self.sp + row * self.length;
+            let dram = self.dram + row * (self.length + self.skip);
+            copy_row_in(sp, dram, self.length, rdram, bank);
+        }
+    }
+
+    /// Copies from a bank into the RDRAM.
+    #[tactic(auto, using(crate::proofs::Pairs::copies))]
+    pub fn copy_out(&self, bank: &SpMem, rdram: &mut Rdram)
+        requires { IsTransfer self.now }
+        ensures { rdram.new ≡ copied_out bank.now rdram.old (pairs self.now) }
+    {
+        for row in 0..self.count + 1 {
+            let sp = self.sp + row * self.length;
+            let dram = self.dram + row * (self.length + self.skip);
+            copy_row_out(sp, dram, self.length, bank, rdram);
+        }
+    }
+}
+
+/// Copies a row by runs of bytes; those past the image's end are 0.
+#[tactic(auto, using(crate::proofs::Pairs::copies))]
+fn copy_row_in(sp: u32, dram: u32, length: u32, rdram: &Rdram, bank: &mut SpMem)
+    requires sp { sp + length < 2 ^ 32 }
+    requires dram { dram + length < 2 ^ 32 }
+    requires length { length ≤ 4096 }
+    ensures { bank.new ≡ copied_in rdram.now bank.old (row_pairs sp dram length) }
+{
+    let mut done = 0;
+    while done < length {
+        let run = rdram.run(dram + done, (length - done) as usize);
+        if run.is_empty() {
+            bank.set_byte(sp + done, 0);
+            done += 1;
+        } else {
+            bank.set_bytes(sp + done, run);
+            done += run.len() as u32;
+        }
+    }
+}
+
+/// Copies a row by runs of bytes, each as far as neither memory wraps.
+#[tactic(auto, using(crate::proofs::Pairs::copies))]
+fn copy_row_out(sp: u32, dram: u32, length: u32, bank: &SpMem, rdram: &mut Rdram)
+    requires sp { sp + length < 2 ^ 32 }
+    requires dram { dram + length < 2 ^ 32 }
+    requires length { length ≤ 4096 }
+    ensures { rdram.new ≡ copied_out bank.now rdram.old (row_pairs sp dram length) }
+{
+    let mut done = 0;
+    while done < length {
+        let room = (0x100_0000 - (dram + done) % 0x100_0000).min(length - done);
+        let run = bank.run(sp + done, room as usize);
+        rdram.set_bytes(dram + done, run);
+        done += run.len() as u32;
+    }
+}

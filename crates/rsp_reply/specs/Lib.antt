@@ -1,0 +1,2 @@
+-- Text of replies.
+pub mod Text

@@ -1,0 +1,24 @@
+-- What a branch or a jump does to the places, and to the register that it links.
+use Rattle.std.specs.Prelude.{ℕ, ◌+◌, ◌%◌, if◌then◌else◌, List}
+use Rattle.rsp_decode.specs.declared.inst.Inst.{Inst}
+use Rattle.rsp_decode.specs.declared.inst.Inst.TheVariants.{JumpLinkRegister, BranchSign, Jump}
+use Rattle.rsp_decode.specs.declared.inst.SignRow.TheVariants.{Bltzal, Bgezal}
+use Rattle.rsp_decode.specs.declared.inst.JumpRow.TheVariants.{Jal}
+use Rattle.rsp_scalar.specs.Registers.{with_register}
+use Rattle.rsp_scalar.specs.Rows.{is_taken, target_of}
+
+-- the place after npc
+abbrev pub going_on : ℕ → ℕ
+going_on npc = (npc + 4) % 4096
+
+-- the next npc: the target of a taken branch or jump, else the place after npc
+abbrev pub following : Inst → List ℕ → ℕ → ℕ
+following i r npc = if is_taken i r then target_of i r npc else going_on npc
+
+-- the registers after the link is written, taken or not: the place after npc, into rd or register 31
+abbrev pub linked : Inst → List ℕ → ℕ → List ℕ
+linked (JumpLinkRegister rd rs) r npc = with_register r rd (going_on npc)
+linked (BranchSign Bltzal rs offset) r npc = with_register r 31 (going_on npc)
+linked (BranchSign Bgezal rs offset) r npc = with_register r 31 (going_on npc)
+linked (Jump Jal target) r npc = with_register r 31 (going_on npc)
+linked _ r npc = r

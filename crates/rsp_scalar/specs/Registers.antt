@@ -1,0 +1,18 @@
+-- The scalar registers: 32 numbers below 2^32, of which number 0 stays 0.
+use Rattle.std.specs.Prelude.{ℕ, ◌==◌, ◌≡◌, if◌then◌else◌, List, replicate, slice_index, slice_set}
+
+-- number 0 is 0
+abbrev pub IsRegisters : List ℕ → Type 0
+IsRegisters r = slice_index r 0 ≡ 0
+
+-- the registers at the start
+abbrev pub empty_registers : List ℕ
+empty_registers = replicate 32 0
+
+-- register n
+abbrev pub register : List ℕ → ℕ → ℕ
+register r n = slice_index r n
+
+-- the registers after a write of register n; one of register 0 is dropped
+abbrev pub with_register : List ℕ → ℕ → ℕ → List ℕ
+with_register r n v = if n == 0 then r else slice_set r n v

@@ -1,0 +1,157 @@
+-- The scalar rows of the instruction table, on numbers modulo 2^32.
+use Rattle.std.specs.Prelude.{ℕ, ℤ, pos, ◌+◌, ◌-◌, ◌*◌, ◌/◌, ◌%◌, ◌^◌, ◌==◌, ◌+ℤ◌, ◌*ℤ◌, Bool, true, false, not, nat_lt, int_lt, if◌then◌else◌, bit_and, bit_or, bit_xor, unsigned_abs, List}
+use Rattle.std.specs.Int.{cast_signed, Width, w8, w16, w32, int_div_euclid, int_rem_euclid}
+use Rattle.rsp_decode.specs.declared.inst.Inst.{Inst}
+use Rattle.rsp_decode.specs.declared.inst.Inst.TheVariants.{Shift, ShiftBy, JumpRegister, JumpLinkRegister, Register, BranchSign, BranchEqual, Jump, Immediate, LoadUpper, Load, Store}
+use Rattle.rsp_decode.specs.declared.inst.ShiftRow.{ShiftRow}
+use Rattle.rsp_decode.specs.declared.inst.ShiftRow.TheVariants.{Sll, Srl, Sra}
+use Rattle.rsp_decode.specs.declared.inst.ShiftByRow.{ShiftByRow}
+use Rattle.rsp_decode.specs.declared.inst.ShiftByRow.TheVariants.{Sllv, Srlv, Srav}
+use Rattle.rsp_decode.specs.declared.inst.RegisterRow.{RegisterRow}
+use Rattle.rsp_decode.specs.declared.inst.RegisterRow.TheVariants.{Add, Addu, Sub, Subu, And, Or, Xor, Nor, Slt, Sltu}
+use Rattle.rsp_decode.specs.declared.inst.ImmediateRow.{ImmediateRow}
+use Rattle.rsp_decode.specs.declared.inst.ImmediateRow.TheVariants.{Addi, Addiu, Slti, Sltiu, Andi, Ori, Xori}
+use Rattle.rsp_decode.specs.declared.inst.SignRow.{SignRow}
+use Rattle.rsp_decode.specs.declared.inst.SignRow.TheVariants.{Bltz, Bgez, Bltzal, Bgezal, Blez, Bgtz}
+use Rattle.rsp_decode.specs.declared.inst.EqualRow.{EqualRow}
+use Rattle.rsp_decode.specs.declared.inst.EqualRow.TheVariants.{Beq, Bne}
+use Rattle.rsp_decode.specs.declared.inst.LoadRow.{LoadRow}
+use Rattle.rsp_decode.specs.declared.inst.LoadRow.TheVariants.{Lb, Lh, Lw, Lbu, Lhu, Lwu}
+use Rattle.rsp_decode.specs.declared.inst.StoreRow.{StoreRow}
+use Rattle.rsp_decode.specs.declared.inst.StoreRow.TheVariants.{Sb, Sh, Sw}
+use Rattle.rsp_memory.specs.Memory.{byte_at, half_at, word_at, with_byte, with_half, with_word}
+use Rattle.rsp_scalar.specs.Registers.{register, with_register}
+
+-- the signed reading of 32 bits
+abbrev pub signed : ℕ → ℤ
+signed n = cast_signed w32 n
+
+-- z modulo m
+abbrev pub modulo : ℤ → ℕ → ℕ
+modulo z m = unsigned_abs (int_rem_euclid z (pos m))
+
+-- a number of w bits, read as a signed one, modulo 2^32
+abbrev pub extended : Width → ℕ → ℕ
+extended w n = modulo (cast_signed w n) (2 ^ 32)
+
+-- 1 where a comparison holds, else 0
+abbrev pub truth : Bool → ℕ
+truth b = if b then 1 else 0
+
+-- t shifted by k to the left, and to the right
+abbrev pub shifted_left : ℕ → ℕ → ℕ
+shifted_left t k = t * 2 ^ k % 2 ^ 32
+
+abbrev pub shifted_right : ℕ → ℕ → ℕ
+shifted_right t k = t / 2 ^ k
+
+-- t shifted by k to the right with its sign: the quotient of the signed reading, rounded down
+abbrev pub shifted_signed : ℕ → ℕ → ℕ
+shifted_signed t k = modulo (int_div_euclid (signed t) (pos (2 ^ k))) (2 ^ 32)
+
+-- shifts by a constant, and by the low five bits of a register
+abbrev pub shift_result : ShiftRow → ℕ → ℕ → ℕ
+shift_result Sll t k = shifted_left t k
+shift_result Srl t k = shifted_right t k
+shift_result Sra t k = shifted_signed t k
+
+abbrev pub shift_by_result : ShiftByRow → ℕ → ℕ → ℕ
+shift_by_result Sllv t s = shifted_left t (s % 32)
+shift_by_result Srlv t s = shifted_right t (s % 32)
+shift_by_result Srav t s = shifted_signed t (s % 32)
+
+-- rows of two registers, s and t
+abbrev pub register_result : RegisterRow → ℕ → ℕ → ℕ
+register_result Add s t = (s + t) % 2 ^ 32
+register_result Addu s t = (s + t) % 2 ^ 32
+register_result Sub s t = (s + (2 ^ 32 - t)) % 2 ^ 32
+register_result Subu s t = (s + (2 ^ 32 - t)) % 2 ^ 32
+register_result And s t = bit_and s t
+register_result Or s t = bit_or s t
+register_result Xor s t = bit_xor s t
+register_result Nor s t = 2 ^ 32 - 1 - bit_or s t
+register_result Slt s t = truth (int_lt (signed s) (signed t))
+register_result Sltu s t = truth (nat_lt s t)
+
+-- rows of a register and sixteen bits
+abbrev pub immediate_result : ImmediateRow → ℕ → ℕ → ℕ
+immediate_result Addi s imm = (s + extended w16 imm) % 2 ^ 32
+immediate_result Addiu s imm = (s + extended w16 imm) % 2 ^ 32
+immediate_result Slti s imm = truth (int_lt (signed s) (cast_signed w16 imm))
+immediate_result Sltiu s imm = truth (nat_lt s (extended w16 imm))
+immediate_result Andi s imm = bit_and s imm
+immediate_result Ori s imm = bit_or s imm
+immediate_result Xori s imm = bit_xor s imm
+
+-- the registers after a row that computes; other rows change none
+abbrev pub computed : Inst → List ℕ → List ℕ
+computed (Shift row rd rt amount) r = with_register r rd (shift_result row (register r rt) amount)
+computed (ShiftBy row rd rt rs) r = with_register r rd (shift_by_result row (register r rt) (register r rs))
+computed (Register row rd rs rt) r = with_register r rd (register_result row (register r rs) (register r rt))
+computed (Immediate row rt rs imm) r = with_register r rt (immediate_result row (register r rs) imm)
+computed (LoadUpper rt imm) r = with_register r rt (imm * 65536)
+computed _ r = r
+
+-- the address of a load or store, modulo 2^32; the memory takes each byte's modulo 4096
+abbrev pub address : List ℕ → ℕ → ℕ → ℕ
+address r base offset = (register r base + extended w16 offset) % 2 ^ 32
+
+-- what a load reads at an address: 1, 2 or 4 bytes, signed or unsigned
+abbrev pub load_result : LoadRow → List ℕ → ℕ → ℕ
+load_result Lb memory a = extended w8 (byte_at memory a)
+load_result Lh memory a = extended w16 (half_at memory a)
+load_result Lw memory a = word_at memory a
+load_result Lbu memory a = byte_at memory a
+load_result Lhu memory a = half_at memory a
+load_result Lwu memory a = word_at memory a
+
+-- the registers after a load; other rows change none
+abbrev pub after_load : Inst → List ℕ → List ℕ → List ℕ
+after_load (Load row rt offset base) r memory = with_register r rt (load_result row memory (address r base offset))
+after_load _ r memory = r
+
+-- the memory after a store of the low 1, 2 or 4 bytes of t
+abbrev pub store_result : StoreRow → List ℕ → ℕ → ℕ → List ℕ
+store_result Sb memory a t = with_byte memory a (t % 2 ^ 8)
+store_result Sh memory a t = with_half memory a (t % 2 ^ 16)
+store_result Sw memory a t = with_word memory a t
+
+-- the memory after a store; other rows leave it
+abbrev pub after_store : Inst → List ℕ → List ℕ → List ℕ
+after_store (Store row rt offset base) r memory = store_result row memory (address r base offset) (register r rt)
+after_store _ r memory = memory
+
+-- the tests of the branches
+abbrev pub sign_test : SignRow → ℤ → Bool
+sign_test Bltz s = int_lt s (pos 0)
+sign_test Bgez s = not (int_lt s (pos 0))
+sign_test Bltzal s = int_lt s (pos 0)
+sign_test Bgezal s = not (int_lt s (pos 0))
+sign_test Blez s = not (int_lt (pos 0) s)
+sign_test Bgtz s = int_lt (pos 0) s
+
+abbrev pub equal_test : EqualRow → ℕ → ℕ → Bool
+equal_test Beq s t = s == t
+equal_test Bne s t = not (s == t)
+
+-- whether a branch is taken; a jump always is, and another row never
+abbrev pub is_taken : Inst → List ℕ → Bool
+is_taken (JumpRegister rs) r = true
+is_taken (JumpLinkRegister rd rs) r = true
+is_taken (BranchSign row rs offset) r = sign_test row (signed (register r rs))
+is_taken (BranchEqual row rs rt offset) r = equal_test row (register r rs) (register r rt)
+is_taken (Jump row target) r = true
+is_taken _ r = false
+
+-- npc + 4 * offset, modulo 4096
+abbrev pub branch_target : ℕ → ℕ → ℕ
+branch_target npc offset = modulo (pos npc +ℤ (pos 4 *ℤ cast_signed w16 offset)) 4096
+
+-- where a taken branch or jump goes; another row goes on
+abbrev pub target_of : Inst → List ℕ → ℕ → ℕ
+target_of (JumpRegister rs) r npc = register r rs / 4 % 1024 * 4
+target_of (JumpLinkRegister rd rs) r npc = register r rs / 4 % 1024 * 4
+target_of (BranchSign row rs offset) r npc = branch_target npc offset
+target_of (BranchEqual row rs rt offset) r npc = branch_target npc offset
+target_of (Jump row target) r npc = target * 4 % 4096
+target_of _ r npc = (npc + 4) % 4096

@@ -1,0 +1,132 @@
+ghost use Rattle.std.specs.Prelude.{◌≡◌, ◌<◌};
+ghost use Rattle.rsp_decode.specs.Table.{IsInstruction};
+ghost use Rattle.rsp_scalar.specs.Rows.{is_taken, sign_test, equal_test, target_of, branch_target};
+ghost use Rattle.rsp_scalar.specs.Flow.{going_on, following, linked};
+
+use crate::Regs;
+use rsp_decode::{EqualRow, Inst, JumpRow, SignRow};
+
+/// The test of a branch on one register.
+#[inline]
+fn sign_holds(row: SignRow, s: i32) -> bool
+    ensures { result ≡ sign_test row s }
+{
+    match row {
+        SignRow::Bltz | SignRow::Bltzal => s < 0,
+        SignRow::Bgez | SignRow::Bgezal => s >= 0,
+        SignRow::Blez => s <= 0,
+        SignRow::Bgtz => s > 0,
+    }
+}
+
+/// The test of a branch on two registers.
+#[inline]
+fn equal_holds(row: EqualRow, s: u32, t: u32) -> bool
+    ensures { result ≡ equal_test row s t }
+{
+    match row {
+        EqualRow::Beq => s == t,
+        EqualRow::Bne => s != t,
+    }
+}
+
+/// Whether a branch is taken; true for a jump, and false for any other row.
+#[inline]
+pub fn taken(inst: &Inst, regs: &Regs) -> bool
+    requires { IsInstruction inst.now }
+    ensures { result ≡ is_taken inst.now regs.now }
+{
+    match *inst {
+        Inst::JumpRegister { .. } | Inst::JumpLinkRegister { .. } | Inst::Jump { .. } => true,
+        Inst::BranchSign { row, rs, .. } => sign_holds(row, regs.get(rs).cast_signed()),
+        Inst::BranchEqual { row, rs, rt, .. } => equal_holds(row, regs.get(rs), regs.get(rt)),
+        _ => false,
+    }
+}
+
+/// The place after `npc`, modulo 4096.
+#[inline]
+fn going_on(npc: u16) -> u16
+    ensures value { result ≡ going_on npc }
+    ensures place { result < 4096 }
+{
+    ((npc as u32 + 4) % 4096) as u16
+}
+
+/// The place at a distance in words from `npc`, modulo 4096.
+#[inline]
+fn branch_target(npc: u16, offset: u16) -> u16
+    ensures value { result ≡ branch_target npc offset }
+    ensures place { result < 4096 }
+{
+    // Four times 2^16 is a multiple of 4096, so the offset's sign makes no difference.
+    ((npc as u32 + 4 * offset as u32) % 4096) as u16
+}
+
+/// Where a branch or a jump goes when it is taken, by the `npc` at its execution (the place of its
+/// delay slot). Another row goes on: `npc + 4` modulo 4096.
+#[inline]
+pub fn target(inst: &Inst, regs: &Regs, npc: u16) -> u16
+    requires { IsInstruction inst.now }
+    ensures value { result ≡ target_of inst.now regs.now npc }
+    ensures place { result < 4096 }
+{
+    match *inst {
+        Inst::JumpRegister { rs } | Inst::JumpLinkRegister { rs, .. } => {
+            (regs.get(rs) / 4 % 1024 * 4) as u16
+        }
+        Inst::BranchSign { offset, .. } | Inst::BranchEqual { offset, .. } => {
+            branch_target(npc, offset)
+        }
+        Inst::Jump { target, .. } => (target as u32 * 4 % 4096) as u16,
+        _ => going_on(npc),
+    }
+}
+
+/// Where the instruction after the next one stands.
+#[inline]
+fn following(inst: &Inst, regs: &Regs, npc: u16) -> u16
+    requires { IsInstruction inst.now }
+    ensures value { result ≡ following inst.now regs.now npc }
+    ensures place { result < 4096 }
+{
+    if taken(inst, regs) {
+        target(inst, regs, npc)
+    } else {
+        going_on(npc)
+    }
+}
+
+/// Writes the link of a row that has one, taken or not.
+#[inline]
+fn link(inst: &Inst, regs: &mut Regs, npc: u16)
+    requires { IsInstruction inst.now }
+    ensures { regs.new ≡ linked inst.now regs.old npc }
+{
+    match *inst {
+        Inst::JumpLinkRegister { rd, .. } => regs.set(rd, u32::from(going_on(npc))),
+        Inst::BranchSign {
+            row: SignRow::Bltzal | SignRow::Bgezal,
+            ..
+        }
+        | Inst::Jump {
+            row: JumpRow::Jal,
+            ..
+        } => regs.set(31, u32::from(going_on(npc))),
+        _ => {}
+    }
+}
+
+/// Executes a branch or a jump: answers the next `npc`, then writes the link, so that the sources
+/// are read before. For any other row it answers `npc + 4` modulo 4096 and changes nothing.
+#[inline]
+pub fn jump(inst: &Inst, regs: &mut Regs, npc: u16) -> u16
+    requires { IsInstruction inst.now }
+    ensures next { result ≡ following inst.now regs.old npc }
+    ensures place { result < 4096 }
+    ensures registers { regs.new ≡ linked inst.now regs.old npc }
+{
+    let next = following(inst, regs, npc);
+    link(inst, regs, npc);
+    next
+}

@@ -1,0 +1,79 @@
+ghost use Rattle.std.specs.Prelude.{◌≡◌, ◌<◌};
+ghost use Rattle.rsp_decode.specs.Table.{IsInstruction};
+ghost use Rattle.rsp_scalar.specs.Rows.{address, load_result, store_result, after_load, after_store};
+
+use crate::Regs;
+use crate::rows::extended;
+use rsp_decode::{Inst, LoadRow, StoreRow};
+use rsp_memory::SpMem;
+
+/// The address of a load or store.
+#[inline]
+fn address(regs: &Regs, base: u8, offset: u16) -> u32
+    requires { base < 32 }
+    ensures { result ≡ address regs.now base offset }
+{
+    regs.get(base).wrapping_add(extended(offset))
+}
+
+/// What a load reads at an address.
+#[inline]
+fn loaded(row: LoadRow, memory: &SpMem, a: u32) -> u32
+    ensures { result ≡ load_result row memory.now a }
+{
+    match row {
+        LoadRow::Lb => (memory.byte(a).cast_signed() as i32).cast_unsigned(),
+        LoadRow::Lh => extended(memory.half(a)),
+        LoadRow::Lw | LoadRow::Lwu => memory.word(a),
+        LoadRow::Lbu => u32::from(memory.byte(a)),
+        LoadRow::Lhu => u32::from(memory.half(a)),
+    }
+}
+
+/// Stores the low bytes of `t` at an address.
+#[inline]
+fn write(row: StoreRow, memory: &mut SpMem, a: u32, t: u32)
+    ensures { memory.new ≡ store_result row memory.old a t }
+{
+    match row {
+        StoreRow::Sb => memory.set_byte(a, (t % 256) as u8),
+        StoreRow::Sh => memory.set_half(a, (t % 65536) as u16),
+        StoreRow::Sw => memory.set_word(a, t),
+    }
+}
+
+/// Executes a scalar load of the instruction table, which reads 1, 2 or 4 bytes of DMEM, wrapping
+/// byte by byte, into a register. Any other row changes nothing.
+#[inline]
+pub fn load(inst: &Inst, regs: &mut Regs, memory: &SpMem)
+    requires { IsInstruction inst.now }
+    ensures { regs.new ≡ after_load inst.now regs.old memory.now }
+{
+    if let Inst::Load {
+        row,
+        rt,
+        offset,
+        base,
+    } = *inst
+    {
+        regs.set(rt, loaded(row, memory, address(regs, base, offset)));
+    }
+}
+
+/// Executes a scalar store of the instruction table, which writes the low 1, 2 or 4 bytes of a
+/// register to DMEM, wrapping byte by byte. Any other row changes nothing.
+#[inline]
+pub fn store(inst: &Inst, regs: &Regs, memory: &mut SpMem)
+    requires { IsInstruction inst.now }
+    ensures { memory.new ≡ after_store inst.now regs.now memory.old }
+{
+    if let Inst::Store {
+        row,
+        rt,
+        offset,
+        base,
+    } = *inst
+    {
+        write(row, memory, address(regs, base, offset), regs.get(rt));
+    }
+}

@@ -1,0 +1,54 @@
+ghost use Rattle.std.specs.Prelude.{◌≡◌, ◌<◌};
+ghost use Rattle.rsp_scalar.specs.Registers.{empty_registers, register, with_register};
+
+use std::marker::Model;
+
+/// The 32 scalar registers of 32 bits, of which number 0 stays 0.
+///
+/// Contracts see them as a list of 32 numbers.
+#[derive(Clone, Copy, PartialEq, Eq, Debug, Drop)]
+pub struct Regs {
+    words: [u32; 32],
+}
+
+impl Model for Regs {
+    ghost use Rattle.std.specs.Prelude.{List, ℕ};
+    ghost use Rattle.rsp_scalar.specs.Registers.{IsRegisters};
+
+    ghost Value = { List ℕ };
+
+    ghost view = { λ r. r.words };
+
+    ghost invariant = { λ r. IsRegisters r.words };
+
+    ghost inverse = { λ l. record { words = l } };
+}
+
+impl Regs {
+    /// Thirty-two zeros.
+    pub fn new() -> Self
+        ensures { result ≡ empty_registers }
+    {
+        Regs { words: [0; 32] }
+    }
+
+    /// Register `n`, below 32.
+    #[inline]
+    pub fn get(&self, n: u8) -> u32
+        requires { n < 32 }
+        ensures { result ≡ register self.now n }
+    {
+        self.words[n as usize]
+    }
+
+    /// Writes register `n`, below 32. A write of register 0 is dropped.
+    #[inline]
+    pub fn set(&mut self, n: u8, value: u32)
+        requires { n < 32 }
+        ensures { self.new ≡ with_register self.old n value }
+    {
+        if n != 0 {
+            self.words[n as usize] = value;
+        }
+    }
+}

@@ -1,0 +1,108 @@
+ghost use Rattle.std.specs.Prelude.{◌≡◌, ◌<◌};
+ghost use Rattle.std.specs.Int.{w16};
+ghost use Rattle.rsp_decode.specs.Table.{IsInstruction};
+ghost use Rattle.rsp_scalar.specs.Rows.{extended, shift_result, shift_by_result, shifted_signed, register_result, immediate_result, computed};
+
+use crate::Regs;
+use rsp_decode::{ImmediateRow, Inst, RegisterRow, ShiftByRow, ShiftRow};
+
+/// Sixteen bits as a signed number, modulo 2^32.
+#[inline]
+pub(crate) fn extended(imm: u16) -> u32
+    ensures { result ≡ extended w16 imm }
+{
+    (imm.cast_signed() as i32).cast_unsigned()
+}
+
+/// A shift to the right that repeats the sign.
+#[inline]
+fn shifted_signed(t: u32, amount: u32) -> u32
+    requires { amount < 32 }
+    ensures { result ≡ shifted_signed t amount }
+{
+    (t.cast_signed() >> amount).cast_unsigned()
+}
+
+/// What a shift by a constant gives.
+#[inline]
+fn shift(row: ShiftRow, t: u32, amount: u8) -> u32
+    requires { amount < 32 }
+    ensures { result ≡ shift_result row t amount }
+{
+    match row {
+        ShiftRow::Sll => t << amount,
+        ShiftRow::Srl => t >> amount,
+        ShiftRow::Sra => shifted_signed(t, u32::from(amount)),
+    }
+}
+
+/// What a shift by a register gives: by its low five bits.
+#[inline]
+fn shift_by(row: ShiftByRow, t: u32, s: u32) -> u32
+    ensures { result ≡ shift_by_result row t s }
+{
+    match row {
+        ShiftByRow::Sllv => t << (s % 32),
+        ShiftByRow::Srlv => t >> (s % 32),
+        ShiftByRow::Srav => shifted_signed(t, s % 32),
+    }
+}
+
+/// What a row of two registers gives.
+#[inline]
+fn register(row: RegisterRow, s: u32, t: u32) -> u32
+    ensures { result ≡ register_result row s t }
+{
+    match row {
+        RegisterRow::Add | RegisterRow::Addu => s.wrapping_add(t),
+        RegisterRow::Sub | RegisterRow::Subu => s.wrapping_sub(t),
+        RegisterRow::And => s & t,
+        RegisterRow::Or => s | t,
+        RegisterRow::Xor => s ^ t,
+        RegisterRow::Nor => !(s | t),
+        RegisterRow::Slt => u32::from(s.cast_signed() < t.cast_signed()),
+        RegisterRow::Sltu => u32::from(s < t),
+    }
+}
+
+/// What a row of a register and a constant gives.
+#[inline]
+fn immediate(row: ImmediateRow, s: u32, imm: u16) -> u32
+    ensures { result ≡ immediate_result row s imm }
+{
+    match row {
+        ImmediateRow::Addi | ImmediateRow::Addiu => s.wrapping_add(extended(imm)),
+        ImmediateRow::Slti => u32::from(s.cast_signed() < imm.cast_signed() as i32),
+        ImmediateRow::Sltiu => u32::from(s < extended(imm)),
+        ImmediateRow::Andi => s & imm as u32,
+        ImmediateRow::Ori => s | imm as u32,
+        ImmediateRow::Xori => s ^ imm as u32,
+    }
+}
+
+/// Executes a row of the scalar part of the instruction table that computes: the shifts, sums,
+/// differences, bitwise rows, comparisons and LUI, on registers modulo 2^32. Any other row changes
+/// nothing.
+#[inline]
+pub fn alu(inst: &Inst, regs: &mut Regs)
+    requires { IsInstruction inst.now }
+    ensures { regs.new ≡ computed inst.now regs.old }
+{
+    match *inst {
+        Inst::Shift {
+            row,
+            rd,
+            rt,
+            amount,
+        } => regs.set(rd, shift(row, regs.get(rt), amount)),
+        Inst::ShiftBy { row, rd, rt, rs } => {
+            regs.set(rd, shift_by(row, regs.get(rt), regs.get(rs)))
+        }
+        Inst::Register { row, rd, rs, rt } => {
+            regs.set(rd, register(row, regs.get(rs), regs.get(rt)))
+        }
+        Inst::Immediate { row, rt, rs, imm } => regs.set(rt, immediate(row, regs.get(rs), imm)),
+        Inst::LoadUpper { rt, imm } => regs.set(rt, (imm as u32) << 16),
+        _ => {}
+    }
+}

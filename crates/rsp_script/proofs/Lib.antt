@@ -1,0 +1,4 @@
+pub mod WordCuts
+pub mod Numbers
+pub mod Texts
+pub mod HexBytes

@@ -1,0 +1,105 @@
+-- What the words of a line ask for.
+use Rattle.std.specs.Prelude.{ℕ, ◌≡◌, ◌<◌, ◌≤◌, ◌%◌, List, [], ◌∷◌, Option, Some, None, Result, Ok, Err, ok_or}
+use Rattle.arrayvec.specs.ArrayVec.{array_vec_len}
+use Rattle.rsp_script.specs.Names.{name_of}
+use Rattle.rsp_script.specs.Operand.{bank_of, ranged_of, place_of, address_of, bytes_of}
+use Rattle.rsp_script.specs.declared.name.Name.{Name}
+use Rattle.rsp_script.specs.declared.name.Name.TheVariants as names
+use Rattle.rsp_memory.specs.declared.bank.Bank.{Bank}
+use Rattle.rsp_script.specs.declared.command.Command.{Command}
+use Rattle.rsp_script.specs.declared.command.Command.TheVariants.{Nothing, Load, Step, Regs, Mem, Read, Write, SetPc, Task, Sp, Vregs, Acc, Flags}
+use Rattle.rsp_script.specs.declared.fault.LineFault.{LineFault}
+use Rattle.rsp_script.specs.declared.fault.LineFault.TheVariants.{BadCommand, BadNumber}
+
+-- a command with two operands, each of which may be bad
+abbrev pub with_both : {A B : Type 0} → (A → B → Command) → Option A → Option B → Result Command LineFault
+with_both command (Some a) (Some b) = Ok (command a b)
+with_both command (Some a) None = Err BadNumber
+with_both command None b = Err BadNumber
+
+-- a command on a bank
+abbrev pub in_bank : (Bank → Result Command LineFault) → Option Bank → Result Command LineFault
+in_bank command (Some bank) = command bank
+in_bank command None = Err BadCommand
+
+-- a command without operands
+abbrev pub alone : Command → List (List ℕ) → Result Command LineFault
+alone command [] = Ok command
+alone command (w ∷ ws) = Err BadCommand
+
+-- what the only operand means
+abbrev pub only : (List ℕ → Option ℕ) → List (List ℕ) → Result ℕ LineFault
+only meaning [] = Err BadCommand
+only meaning (a ∷ []) = ok_or (meaning a) BadNumber
+only meaning (a ∷ b ∷ more) = Err BadCommand
+
+-- the only operand, a number from low to high
+unfoldable pub one_number : ℕ → ℕ → List (List ℕ) → Result ℕ LineFault
+one_number low high = only (ranged_of low high)
+
+-- the only operand, a place of an instruction
+unfoldable pub one_place : List (List ℕ) → Result ℕ LineFault
+one_place = only place_of
+
+-- a command of two words more
+abbrev pub two_words : (List ℕ → List ℕ → Result Command LineFault) → List (List ℕ) → Result Command LineFault
+two_words command [] = Err BadCommand
+two_words command (a ∷ []) = Err BadCommand
+two_words command (a ∷ b ∷ []) = command a b
+two_words command (a ∷ b ∷ c ∷ more) = Err BadCommand
+
+-- a command of three words more
+abbrev pub three_words : (List ℕ → List ℕ → List ℕ → Result Command LineFault) → List (List ℕ) → Result Command LineFault
+three_words command [] = Err BadCommand
+three_words command (a ∷ []) = Err BadCommand
+three_words command (a ∷ b ∷ []) = Err BadCommand
+three_words command (a ∷ b ∷ c ∷ []) = command a b c
+three_words command (a ∷ b ∷ c ∷ d ∷ more) = Err BadCommand
+
+-- a command of one number
+abbrev pub with_operand : (ℕ → Command) → Result ℕ LineFault → Result Command LineFault
+with_operand command (Ok n) = Ok (command n)
+with_operand command (Err fault) = Err fault
+
+-- `load BANK ADDR HEX`
+unfoldable pub load : List (List ℕ) → Result Command LineFault
+load = three_words (λ bank address hex. in_bank (λ b. with_both (λ a bytes. Load b a bytes) (address_of address) (bytes_of hex)) (bank_of bank))
+
+-- `mem BANK ADDR LEN`
+unfoldable pub mem : List (List ℕ) → Result Command LineFault
+mem = three_words (λ bank address len. in_bank (λ b. with_both (λ a n. Mem b a n) (address_of address) (ranged_of 1 256 len)) (bank_of bank))
+
+-- `write N VALUE`
+unfoldable pub write : List (List ℕ) → Result Command LineFault
+write = two_words (λ register value. with_both (λ n v. Write n v) (ranged_of 0 15 register) (ranged_of 0 4294967295 value))
+
+-- the command of a name with its operands
+abbrev pub named : Option Name → List (List ℕ) → Result Command LineFault
+named None operands = Err BadCommand
+named (Some names.Load) operands = load operands
+named (Some names.Step) operands = alone Step operands
+named (Some names.Regs) operands = alone Regs operands
+named (Some names.Mem) operands = mem operands
+named (Some names.Read) operands = with_operand (λ n. Read n) (one_number 0 15 operands)
+named (Some names.Write) operands = write operands
+named (Some names.Pc) operands = with_operand (λ a. SetPc a) (one_place operands)
+named (Some names.Task) operands = with_operand (λ a. Task a) (one_number 0 16777215 operands)
+named (Some names.Sp) operands = alone Sp operands
+named (Some names.Vregs) operands = alone Vregs operands
+named (Some names.Acc) operands = alone Acc operands
+named (Some names.Flags) operands = alone Flags operands
+
+-- what the words of a line ask for
+unfoldable pub command_of_words : List (List ℕ) → Result Command LineFault
+command_of_words [] = Ok Nothing
+command_of_words (name ∷ operands) = named (name_of name) operands
+
+-- a command that a line can give: its operands are in their ranges
+abbrev pub IsCommand : Command → Type 0
+IsCommand (Load bank address bytes) = (address ≤ 16777215) × (0 < array_vec_len bytes)
+IsCommand (Mem bank address len) = (address ≤ 16777215) × (1 ≤ len) × (len ≤ 256)
+IsCommand (Read register) = register ≤ 15
+IsCommand (Write register value) = register ≤ 15
+IsCommand (SetPc address) = (address ≤ 4092) × (address % 4 ≡ 0)
+IsCommand (Task address) = address ≤ 16777215
+IsCommand _ = Unit {0}

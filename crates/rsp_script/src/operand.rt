@@ -1,0 +1,62 @@
+ghost use Rattle.std.specs.Prelude.{◌≡◌, ◌≤◌, ◌%◌, ◌<◌, length, IfSome};
+ghost use Rattle.arrayvec.specs.ArrayVec.{array_vec_len};
+ghost use Rattle.rsp_script.specs.Operand.{bank_of, ranged_of, place_of, bytes_of};
+
+use rsp_memory::Bank;
+use crate::number::number;
+use arrayvec::ArrayVec;
+
+/// The bank that a word names.
+#[tactic(auto, unfolding(crate::specs::Operand::bank_of))]
+pub fn bank(word: &[u8]) -> Option<Bank>
+    ensures { result ≡ bank_of word.now }
+{
+    if word == b"dmem".as_slice() {
+        Some(Bank::Dmem)
+    } else if word == b"imem".as_slice() {
+        Some(Bank::Imem)
+    } else if word == b"rdram".as_slice() {
+        Some(Bank::Rdram)
+    } else {
+        None
+    }
+}
+
+/// A number from `low` to `high`.
+#[tactic(auto, unfolding(crate::specs::Operand::ranged_of))]
+pub fn ranged(low: u32, high: u32, word: &[u8]) -> Option<u32>
+    ensures value { result ≡ ranged_of low high word.now }
+    ensures range { IfSome result (λ n. (low ≤ n) × (n ≤ high)) }
+{
+    let n = number(word)?;
+    if n >= u64::from(low) && n <= u64::from(high) {
+        Some(n as u32)
+    } else {
+        None
+    }
+}
+
+/// A place of an instruction: a multiple of 4 from 0 to 4092.
+#[tactic(auto, unfolding(crate::specs::Operand::place_of))]
+pub fn place(word: &[u8]) -> Option<u16>
+    ensures value { result ≡ place_of word.now }
+    ensures range { IfSome result (λ n. (n ≤ 4092) × (n % 4 ≡ 0)) }
+{
+    let n = ranged(0, 4092, word)?;
+    if n % 4 == 0 { Some(n as u16) } else { None }
+}
+
+/// One or more bytes, each of two hexadecimal digits.
+#[tactic(auto, unfolding(crate::specs::Operand::bytes_of))]
+pub fn bytes(word: &[u8]) -> Option<ArrayVec<u8, 128>>
+    requires { length word.now ≤ 256 }
+    ensures value { result ≡ bytes_of word.now }
+    ensures some { IfSome result (λ bytes. 0 < array_vec_len bytes) }
+{
+    let mut bytes = ArrayVec::from([0; 128]);
+    bytes.truncate(word.len() / 2);
+    if hex::decode_to_slice(word, bytes.as_mut_slice()).is_err() || bytes.is_empty() {
+        return None;
+    }
+    Some(bytes)
+}

@@ -1,0 +1,147 @@
+ghost use Rattle.std.specs.Prelude.{◌≡◌, ◌≤◌, ◌%◌, IfOk};
+ghost use Rattle.rsp_script.specs.Command.{IsCommand, alone, one_number, one_place, load, mem, write, command_of_words};
+
+use crate::name::{Name, name_of};
+use crate::operand::{bank, bytes, place, ranged};
+use crate::words::Words;
+use crate::{Command, LineFault};
+
+const LAST_ADDRESS: u32 = 16_777_215;
+
+/// A command without operands.
+fn alone(mut words: Words, command: Command) -> Result<Command, LineFault>
+    requires { IsCommand command }
+    ensures value { result ≡ alone command words.entry }
+    ensures ranges { IfOk result IsCommand }
+{
+    match words.next() {
+        None => Ok(command),
+        Some(_) => Err(LineFault::BadCommand),
+    }
+}
+
+/// The only operand, a number from `low` to `high`.
+#[tactic(auto, unfolding(crate::specs::Command::one_number))]
+fn one_number(low: u32, high: u32, mut words: Words) -> Result<u32, LineFault>
+    ensures value { result ≡ one_number low high words.entry }
+    ensures range { IfOk result (λ n. n ≤ high) }
+{
+    let (Some(word), None) = (words.next(), words.next()) else {
+        return Err(LineFault::BadCommand);
+    };
+    ranged(low, high, word).ok_or(LineFault::BadNumber)
+}
+
+/// The only operand, a place of an instruction.
+#[tactic(auto, unfolding(crate::specs::Command::one_place))]
+fn one_place(mut words: Words) -> Result<u16, LineFault>
+    ensures value { result ≡ one_place words.entry }
+    ensures range { IfOk result (λ n. (n ≤ 4092) × (n % 4 ≡ 0)) }
+{
+    let (Some(word), None) = (words.next(), words.next()) else {
+        return Err(LineFault::BadCommand);
+    };
+    place(word).ok_or(LineFault::BadNumber)
+}
+
+/// `load BANK ADDR HEX`
+#[tactic(auto, unfolding(crate::specs::Command::load))]
+fn parse_load(mut words: Words) -> Result<Command, LineFault>
+    ensures value { result ≡ load words.entry }
+    ensures ranges { IfOk result IsCommand }
+{
+    let (Some(bank_word), Some(address), Some(digits), None) = (
+        words.next(),
+        words.next(),
+        words.next(),
+        words.next(),
+    ) else {
+        return Err(LineFault::BadCommand);
+    };
+    let Some(bank) = bank(bank_word) else {
+        return Err(LineFault::BadCommand);
+    };
+    match (ranged(0, LAST_ADDRESS, address), bytes(digits)) {
+        (Some(address), Some(bytes)) => Ok(Command::Load {
+            bank,
+            address,
+            bytes,
+        }),
+        _ => Err(LineFault::BadNumber),
+    }
+}
+
+/// `mem BANK ADDR LEN`
+#[tactic(auto, unfolding(crate::specs::Command::mem))]
+fn parse_mem(mut words: Words) -> Result<Command, LineFault>
+    ensures value { result ≡ mem words.entry }
+    ensures ranges { IfOk result IsCommand }
+{
+    let (Some(bank_word), Some(address), Some(len), None) = (
+        words.next(),
+        words.next(),
+        words.next(),
+        words.next(),
+    ) else {
+        return Err(LineFault::BadCommand);
+    };
+    let Some(bank) = bank(bank_word) else {
+        return Err(LineFault::BadCommand);
+    };
+    match (ranged(0, LAST_ADDRESS, address), ranged(1, 256, len)) {
+        (Some(address), Some(len)) => Ok(Command::Mem { bank, address, len }),
+        _ => Err(LineFault::BadNumber),
+    }
+}
+
+/// `write N VALUE`
+#[tactic(auto, unfolding(crate::specs::Command::write))]
+fn parse_write(mut words: Words) -> Result<Command, LineFault>
+    ensures value { result ≡ write words.entry }
+    ensures ranges { IfOk result IsCommand }
+{
+    let (Some(register), Some(value), None) = (words.next(), words.next(), words.next()) else {
+        return Err(LineFault::BadCommand);
+    };
+    match (ranged(0, 15, register), ranged(0, u32::MAX, value)) {
+        (Some(register), Some(value)) => Ok(Command::Write {
+            register: register as u8,
+            value,
+        }),
+        _ => Err(LineFault::BadNumber),
+    }
+}
+
+/// What words say.
+#[tactic(auto, unfolding(crate::specs::Command::command_of_words))]
+pub fn parse_words(mut words: Words) -> Result<Command, LineFault>
+    ensures value { result ≡ command_of_words words.entry }
+    ensures ranges { IfOk result IsCommand }
+{
+    let Some(word) = words.next() else {
+        return Ok(Command::Nothing);
+    };
+    let Some(name) = name_of(word) else {
+        return Err(LineFault::BadCommand);
+    };
+    match name {
+        Name::Load => parse_load(words),
+        Name::Step => alone(words, Command::Step),
+        Name::Regs => alone(words, Command::Regs),
+        Name::Mem => parse_mem(words),
+        Name::Read => Ok(Command::Read {
+            register: one_number(0, 15, words)? as u8,
+        }),
+        Name::Write => parse_write(words),
+        Name::Pc => Ok(Command::SetPc {
+            address: one_place(words)?,
+        }),
+        Name::Task => Ok(Command::Task {
+            address: one_number(0, LAST_ADDRESS, words)?,
+        }),
+        Name::Sp => alone(words, Command::Sp),
+        Name::Vregs => alone(words, Command::Vregs),
+        Name::Acc => alone(words, Command::Acc),
+        Name::Flags => alone(words, Command::Flags),
+    }
+}
