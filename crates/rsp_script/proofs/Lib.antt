@@ -2,3 +2,4 @@ pub mod WordCuts
 pub mod Numbers
 pub mod Texts
 pub mod HexBytes
+pub mod LongLines

@@ -1,0 +1,5 @@
+-- Lemmas on accumulators.
+pub mod Sum
+pub mod Clamps
+pub mod Fill
+pub mod Range

@@ -1,0 +1,26 @@
+-- Eight accumulators by their parts, and what is done to all eight at once.
+use Rattle.std.specs.Prelude.{ℕ, ℤ, ◌+ℤ◌, List, slice_index, map}
+use Rattle.rsp_lanes.specs.Lanes.{each_lane}
+use Rattle.rsp_numbers.specs.Numbers.{s48, number, join, high, middle, low}
+
+-- the accumulators whose high, middle and low sixteen bits are these
+abbrev pub joined : List ℕ → List ℕ → List ℕ → List ℤ
+joined h m l = each_lane (λ i. join (slice_index h i) (slice_index m i) (slice_index l i))
+
+-- the sums of two lists of eight numbers, each as a number of 48 bits
+abbrev pub wrapped_sums : List ℤ → List ℤ → List ℤ
+wrapped_sums xs ys = each_lane (λ i. s48 (number xs i +ℤ number ys i))
+
+-- accumulators whose low sixteen bits are written over, the high and middle ones kept
+abbrev pub with_low : List ℤ → List ℕ → List ℤ
+with_low xs l = each_lane (λ i. join (high (number xs i)) (middle (number xs i)) (slice_index l i))
+
+-- the high, the middle and the low sixteen bits of each
+abbrev pub high_plane : List ℤ → List ℕ
+high_plane xs = map high xs
+
+abbrev pub middle_plane : List ℤ → List ℕ
+middle_plane xs = map middle xs
+
+abbrev pub low_plane : List ℤ → List ℕ
+low_plane xs = map low xs

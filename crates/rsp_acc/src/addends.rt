@@ -1,0 +1,93 @@
+ghost use Rattle.std.specs.Prelude.{◌≡◌};
+ghost use Rattle.rsp_lanes.specs.Lanes.{IsVector};
+ghost use Rattle.rsp_acc.specs.Planes.{joined, wrapped_sums};
+
+use rsp_lanes::{Mask8, VReg};
+use std::marker::Model;
+use std::simd::prelude::*;
+
+/// What is written or added to eight accumulators: eight numbers from -2^47 to 2^47 - 1, kept as
+/// three planes of sixteen bits.
+#[derive(Clone, Copy, Debug, Drop)]
+pub struct Addends {
+    high: u16x8,
+    middle: u16x8,
+    low: u16x8,
+}
+
+impl Model for Addends {
+    ghost use Rattle.std.specs.Prelude.{List, ℤ};
+    ghost use Rattle.rsp_lanes.specs.Lanes.{IsVector};
+    ghost use Rattle.rsp_acc.specs.Planes.{joined, high_plane, middle_plane, low_plane};
+    ghost use Rattle.rsp_acc.specs.PlanesAgain.{high_joined, middle_joined, low_joined};
+
+    ghost Value = { List ℤ };
+
+    ghost view = { λ a. joined a.high a.middle a.low };
+
+    ghost invariant = { λ a. IsVector a.high × IsVector a.middle × IsVector a.low };
+
+    ghost inverse = { λ n. record { high = high_plane n; middle = middle_plane n; low = low_plane n } };
+
+    ghost inverse_ok = { λ a v k. record { high = high_joined a.high a.middle a.low v.0 v.1 v.2 k; middle = middle_joined a.high a.middle a.low v.0 v.1 v.2 k; low = low_joined a.high a.middle a.low v.0 v.1 v.2 k } };
+}
+
+impl Addends {
+    /// The numbers whose high, middle and low sixteen bits, lane by lane, are these.
+    #[inline(always)]
+    pub fn from_planes(high: &VReg, middle: &VReg, low: &VReg) -> Self
+        ensures { result ≡ joined high.now middle.now low.now }
+    {
+        Addends {
+            high: high.to_simd(),
+            middle: middle.to_simd(),
+            low: low.to_simd(),
+        }
+    }
+
+    /// The high, middle and low sixteen bits of each number.
+    #[inline(always)]
+    pub fn planes(&self) -> (VReg, VReg, VReg)
+        ensures joined { self.now ≡ joined result.0 result.1 result.2 }
+        ensures vectors { IsVector result.0 × IsVector result.1 × IsVector result.2 }
+    {
+        (
+            VReg::from_simd(self.high),
+            VReg::from_simd(self.middle),
+            VReg::from_simd(self.low),
+        )
+    }
+
+    /// The sums with the other numbers, modulo 2^48, as signed numbers.
+    #[inline(always)]
+    pub fn plus(&self, other: &Addends) -> Addends
+        ensures { result ≡ wrapped_sums self.now other.now }
+    {
+        let (a_high, a_middle, a_low) = self.planes();
+        let (b_high, b_middle, b_low) = other.planes();
+        let (low, carry) = a_low.add_carrying(&b_low, Mask8::splat(false));
+        let (middle, carry) = a_middle.add_carrying(&b_middle, carry);
+        let (high, _) = a_high.add_carrying(&b_high, carry);
+        Addends::from_planes(&high, &middle, &low)
+    }
+}
+
+#[cfg(test)]
+mod tests {
+    use super::*;
+
+    #[test]
+    fn holds_three_planes(rt: HostRuntime) {
+        let addends = Addends {
+            high: u16x8::splat(1),
+            middle: u16x8::splat(2),
+            low: u16x8::splat(3),
+        };
+        let Addends { high, middle, low } = addends;
+        let planes: (u16x8, u16x8, u16x8) = (high, middle, low);
+        let (high, middle, low) = planes;
+        assert_eq!(rt; high.to_array(), [1; 8]);
+        assert_eq!(rt; middle.to_array(), [2; 8]);
+        assert_eq!(rt; low.to_array(), [3; 8]);
+    }
+}

@@ -1,0 +1,17 @@
+//! Accumulators of eight lanes of 48 bits.
+#![tactic(auto)]
+
+mod acc;
+mod addends;
+mod parts;
+mod plain;
+mod planes;
+
+pub use acc::Acc;
+pub use addends::Addends;
+pub use parts::{Clamp, Part};
+pub use plain::PlainAcc;
+pub use planes::PlaneAcc;
+
+#[cfg(test)]
+mod tests;

@@ -1,0 +1,153 @@
+ghost use Rattle.std.specs.Prelude.{◌≡◌, slice_index_or, []};
+ghost use Rattle.rsp_acc.specs.Planes.{joined};
+
+use crate::{Acc, Addends, Clamp, Part};
+use rsp_lanes::VReg;
+use std::marker::Model;
+use std::simd::prelude::*;
+
+/// The eight accumulators as three planes of sixteen bits: lane i of `high`, `middle` and `low`
+/// are the bits 47 to 32, 31 to 16 and 15 to 0 of accumulator i.
+#[derive(Clone, Copy, Debug, Drop)]
+pub struct PlaneAcc {
+    high: u16x8,
+    middle: u16x8,
+    low: u16x8,
+}
+
+impl Model for PlaneAcc {
+    ghost use Rattle.std.specs.Prelude.{List, ℤ};
+    ghost use Rattle.rsp_lanes.specs.Lanes.{IsVector};
+    ghost use Rattle.rsp_acc.specs.Planes.{joined, high_plane, middle_plane, low_plane};
+    ghost use Rattle.rsp_acc.specs.PlanesAgain.{high_joined, middle_joined, low_joined};
+
+    ghost Value = { List ℤ };
+
+    ghost view = { λ a. joined a.high a.middle a.low };
+
+    ghost invariant = { λ a. IsVector a.high × IsVector a.middle × IsVector a.low };
+
+    ghost inverse = { λ n. record { high = high_plane n; middle = middle_plane n; low = low_plane n } };
+
+    ghost inverse_ok = { λ a v k. record { high = high_joined a.high a.middle a.low v.0 v.1 v.2 k; middle = middle_joined a.high a.middle a.low v.0 v.1 v.2 k; low = low_joined a.high a.middle a.low v.0 v.1 v.2 k } };
+}
+
+impl PlaneAcc {
+    /// The high, middle and low sixteen bits of each accumulator, in that order.
+    #[inline(always)]
+    pub fn planes(&self) -> [VReg; 3]
+        ensures { self.now ≡ joined (slice_index_or result 0 []) (slice_index_or result 1 []) (slice_index_or result 2 []) }
+    {
+        let high = VReg::from_simd(self.high);
+        let middle = VReg::from_simd(self.middle);
+        let low = VReg::from_simd(self.low);
+        [high, middle, low]
+    }
+
+    /// The accumulators as numbers to add to.
+    #[inline(always)]
+    fn as_addends(&self) -> Addends
+        ensures { result ≡ self.now }
+    {
+        let high = VReg::from_simd(self.high);
+        let middle = VReg::from_simd(self.middle);
+        let low = VReg::from_simd(self.low);
+        Addends::from_planes(&high, &middle, &low)
+    }
+}
+
+impl Acc for PlaneAcc {
+    ghost numbers = { λ a. a };
+
+    #[inline(always)]
+    fn zero() -> Self {
+        PlaneAcc {
+            high: u16x8::splat(0),
+            middle: u16x8::splat(0),
+            low: u16x8::splat(0),
+        }
+    }
+
+    #[inline(always)]
+    fn replace(&mut self, addends: &Addends) {
+        let (high, middle, low) = addends.planes();
+        self.high = high.to_simd();
+        self.middle = middle.to_simd();
+        self.low = low.to_simd();
+    }
+
+    #[inline(always)]
+    fn add(&mut self, addends: &Addends) {
+        let sums = self.as_addends().plus(addends);
+        self.replace(&sums);
+    }
+
+    #[inline(always)]
+    fn set_low(&mut self, low: &VReg) {
+        self.low = low.to_simd();
+    }
+
+    #[inline(always)]
+    fn part(&self, part: Part) -> VReg {
+        match part {
+            Part::High => VReg::from_simd(self.high),
+            Part::Middle => VReg::from_simd(self.middle),
+            Part::Low => VReg::from_simd(self.low),
+        }
+    }
+
+    /// The high plane tells the sign, and high and middle plane together whether the upper 32
+    /// bits are the sign extension of the middle ones.
+    #[inline(always)]
+    fn clamp(&self, clamp: Clamp) -> VReg {
+        let high = VReg::from_simd(self.high);
+        let middle = VReg::from_simd(self.middle);
+        let zeros = VReg::splat(0);
+        let ones = VReg::splat(0xffff);
+        let is_negative = high.is_negative();
+        let sign = middle.is_negative();
+        let fits = high
+            .is_equal(&ones)
+            .and(sign)
+            .or(high.is_equal(&zeros).and(sign.not()));
+        match clamp {
+            Clamp::Signed => {
+                let ends = is_negative.merge(&VReg::splat(0x8000), &VReg::splat(0x7fff));
+                fits.merge(&middle, &ends)
+            }
+            Clamp::Unsigned => {
+                let inside = fits.merge(&middle, &ones);
+                is_negative.merge(&zeros, &inside)
+            }
+            Clamp::LowKind => {
+                let low = VReg::from_simd(self.low);
+                let ends = is_negative.merge(&zeros, &ones);
+                fits.merge(&low, &ends)
+            }
+        }
+    }
+}
+
+#[cfg(test)]
+mod tests {
+    use super::*;
+
+    #[test]
+    fn holds_three_planes(rt: HostRuntime) {
+        let acc = PlaneAcc {
+            high: u16x8::splat(1),
+            middle: u16x8::splat(2),
+            low: u16x8::splat(3),
+        };
+        let PlaneAcc { high, middle, low } = acc;
+        let planes: (u16x8, u16x8, u16x8) = (high, middle, low);
+        let (high, middle, low) = planes;
+        assert_eq!(rt; high.to_array(), [1; 8]);
+        assert_eq!(rt; middle.to_array(), [2; 8]);
+        assert_eq!(rt; low.to_array(), [3; 8]);
+        assert_eq!(rt;
+            acc.planes(),
+            [VReg::splat(1), VReg::splat(2), VReg::splat(3)]
+        );
+    }
+}

@@ -1,0 +1,230 @@
+-- Which rows a word can have, from the fields that select them.
+use Rattle.std.proofs.Common.{◌≡◌, refl, sym, ap, ◌∙◌, ℕ, ◌+◌, ◌-◌, ◌*◌, ◌/◌, ◌%◌, ◌^◌, ◌<◌, List, [], ◌∷◌, Bool, true, false, not, ◌&&◌, ◌||◌, cond, eqb, bit_and, arith, Option, inl, inr, lit<, pow_pos, add-zero, zero-add, mul-one, ◌≢◌}
+use Rattle.std.specs.Prelude.{find, option_map, ◌==◌, filter, None, Some, if◌then◌else◌}
+use Rattle.std.specs.List.{list_all}
+use Rattle.std.proofs.lemmas.Nat.{and_assoc, and_comm, shr_split, mod_below}
+use Rattle.std.proofs.lemmas.Nat.Bits.{and_high}
+use Rattle.std.specs.Int.Bits.{and_block, and_zero_r}
+use Rattle.std.proofs.lemmas.Bool.{cases_eq, eqb-true, eqb-false, ne_eqb, eq-eqb, and_parts, cases_Bool, not-false, false≢true, cond-true, cond-false}
+use Rattle.rsp_decode.specs.declared.inst.Inst.{Inst}
+use Rattle.rsp_decode.specs.Table.{Row, rows, row_of, fits, fields, inst_of, pick, pick_transfer, value_at, whole, special_rows, regimm_rows, opcode_rows, cop0_rows, cop2_rows, computing_rows, load_rows, store_rows}
+
+-- what two masks have in common
+pub common : (w a b x y : ℕ) → bit_and w a ≡ x → bit_and w b ≡ y → bit_and a y ≡ bit_and x b
+common w a b x y p q =
+    ap (λ n. bit_and a n) (sym q) ∙ and_comm a (bit_and w b) ∙ and_assoc a w b ∙ ap (λ n. bit_and w n) (and_comm b a) ∙ sym (and_assoc b w a) ∙ ap (λ n. bit_and n b) p
+
+-- a row may have a word that has x under the mask a, unless they differ in a bit of both masks
+abbrev pub may_have : ℕ → ℕ → Row → Bool
+may_have a x r = bit_and a r.value == bit_and x r.mask
+
+cannot : (w a x : ℕ) (r : Row) → bit_and w a ≡ x → may_have a x r ≡ false → fits w r ≡ false
+cannot w a x r under not_had = ne_eqb _ _ (λ e. eqb-false _ _ not_had (common w a r.mask x r.value under e))
+
+-- rows that fail the test are left out
+left_out : (p keep : Row → Bool) (rs : List Row) → ((r : Row) → keep r ≡ false → p r ≡ false) → find p rs ≡ find p (filter keep rs)
+left_out p keep [] drops = refl
+left_out p keep (r ∷ rs) drops =
+    elim (cases_Bool (keep r)) [
+      | inl kept ↦
+          ap (cond (p r) (Some r)) (left_out p keep rs drops)
+          ∙ sym (ap (find p) (cond-true _ (r ∷ filter keep rs) (filter keep rs) kept))
+      | inr dropped ↦
+          cond-false _ (Some r) (find p rs) (drops r dropped)
+          ∙ left_out p keep rs drops
+          ∙ sym (ap (find p) (cond-false _ (r ∷ filter keep rs) (filter keep rs) dropped))
+    ]
+
+pub narrowed : (w a x : ℕ) (rs : List Row) → bit_and w a ≡ x → find (fits w) rs ≡ find (fits w) (filter (may_have a x) rs)
+narrowed w a x rs under = left_out (fits w) (may_have a x) rs (λ r. cannot w a x r under)
+
+-- rows of one mask go by their values
+pub by_value : (w mask key : ℕ) (rs : List Row) → bit_and w mask ≡ key → list_all (λ (r : Row). r.mask == mask) rs ≡ true → find (fits w) rs ≡ find (λ (r : Row). r.value == key) rs
+by_value w mask key [] under all = refl
+by_value w mask key (r ∷ rs) under all =
+    let both = and_parts _ _ all in
+    let tail = by_value w mask key rs under both.1 in
+    let same : bit_and w r.mask ≡ key = ap (bit_and w) (eqb-true _ _ both.0) ∙ under in
+    let test : fits w r ≡ (r.value == key) = ap (λ n. eqb n r.value) same ∙ turned key r.value in
+    ap (λ t. cond t (Some r) (find (fits w) rs)) test ∙ ap (cond (r.value == key) (Some r)) tail
+  where
+    turned : (a b : ℕ) → eqb a b ≡ eqb b a
+    turned a b = elim (cases_Bool (eqb b a)) [ inl t ↦ eq-eqb a b (sym (eqb-true b a t)) ∙ sym t | inr f ↦ ne_eqb a b (λ e. eqb-false b a f (sym e)) ∙ sym f ]
+
+-- a mask in two parts, above bit k and below it
+block : (w k a b : ℕ) → b < 2 ^ k → bit_and w (a * 2 ^ k + b) ≡ bit_and (w / 2 ^ k) a * 2 ^ k + bit_and (w % 2 ^ k) b
+block w k a b low =
+    ap (λ n. bit_and n (a * 2 ^ k + b)) (sym (shr_split w k))
+    ∙ and_block k (w / 2 ^ k) a (w % 2 ^ k) b (mod_below w (2 ^ k) (pow_pos k)) low
+
+upper : (w k a : ℕ) → bit_and w (a * 2 ^ k) ≡ bit_and (w / 2 ^ k) a * 2 ^ k
+upper w k a = ap (bit_and w) (sym (add-zero (a * 2 ^ k))) ∙ block w k a 0 (pow_pos k) ∙ ap (λ n. bit_and (w / 2 ^ k) a * 2 ^ k + n) (and_zero_r (w % 2 ^ k)) ∙ add-zero _
+
+lower : (w k b : ℕ) → b < 2 ^ k → bit_and w b ≡ bit_and (w % 2 ^ k) b
+lower w k b low = let p : bit_and w (0 * 2 ^ k + b) ≡ bit_and (w / 2 ^ k) 0 * 2 ^ k + bit_and (w % 2 ^ k) b = block w k 0 b low in
+    ap (bit_and w) (omega arith) ∙ p ∙ ap (λ n. n * 2 ^ k + bit_and (w % 2 ^ k) b) (and_zero_r (w / 2 ^ k)) ∙ omega arith
+
+and_join : (w k a b : ℕ) → b < 2 ^ k → bit_and w (a * 2 ^ k + b) ≡ bit_and w (a * 2 ^ k) + bit_and w b
+and_join w k a b low = let p = block w k a b low in let q = upper w k a in let r = lower w k b low in omega arith
+
+-- a field under the mask of its bits
+at_place : (w low width : ℕ) → bit_and w (2 ^ (width + low) - 2 ^ low) ≡ value_at w (whole low width) * 2 ^ low
+at_place w low width = and_high w width low
+
+-- two fields, the upper of which begins at bit k or above
+two_fields : (w k a b x y : ℕ) → b < 2 ^ k → bit_and w (a * 2 ^ k) ≡ x → bit_and w b ≡ y → bit_and w (a * 2 ^ k + b) ≡ x + y
+two_fields w k a b x y low p q = and_join w k a b low ∙ ap (λ n. n + bit_and w b) p ∙ ap (λ n. x + n) q
+
+opcode_under : (w o : ℕ) → value_at w (whole 26 6) ≡ o → bit_and w 0xfc000000 ≡ o * 2 ^ 26
+opcode_under w o e = at_place w 26 6 ∙ ap (λ n. n * 2 ^ 26) e
+
+function_under : (w : ℕ) → bit_and w 63 ≡ value_at w (whole 0 6)
+function_under w = at_place w 0 6 ∙ mul-one (value_at w (whole 0 6))
+
+-- the instruction of a word whose row is found among fewer
+unfoldable inst_by : ℕ → Option Row → Option Inst
+inst_by w found = option_map (λ (r : Row). r.inst (fields r w)) found
+
+from_rows : (w : ℕ) (found : Option Row) → find (fits w) rows ≡ found → inst_of w ≡ inst_by w found
+unfolding inst_of row_of inst_by
+from_rows w found e = ap (option_map (λ (r : Row). r.inst (fields r w))) e
+
+-- among the rows that may have x under the mask a, which are all of one mask
+found_in : (w a x mask key : ℕ) (rs : List Row) → filter (may_have a x) rows ≡ rs → list_all (λ (r : Row). r.mask == mask) rs ≡ true → bit_and w a ≡ x → bit_and w mask ≡ key → inst_of w ≡ pick rs key w
+unfolding inst_by
+found_in w a x mask key rs which all under at_key =
+    from_rows w _ (narrowed w a x rows under ∙ ap (find (fits w)) which ∙ by_value w mask key rs at_key all)
+
+module _ (w : ℕ) where
+  pub special_is : value_at w (whole 26 6) ≡ 0 → inst_of w ≡ pick special_rows (value_at w (whole 0 6)) w
+  special_is o =
+      let under : bit_and w 0xfc000000 ≡ 0 = opcode_under w 0 o in
+      found_in w 0xfc000000 0 0xfc00003f (value_at w (whole 0 6)) special_rows refl refl under
+      (two_fields w 26 63 63 0 _ (lit< tt) under (function_under w) ∙ zero-add _)
+
+  pub regimm_is : value_at w (whole 26 6) ≡ 1 → inst_of w ≡ pick regimm_rows (2 ^ 26 + value_at w (whole 16 5) * 2 ^ 16) w
+  regimm_is o =
+      let under : bit_and w 0xfc000000 ≡ 2 ^ 26 = opcode_under w 1 o in
+      found_in w 0xfc000000 (2 ^ 26) 0xfc1f0000 (2 ^ 26 + value_at w (whole 16 5) * 2 ^ 16) regimm_rows refl refl under
+      (two_fields w 26 63 0x1f0000 (2 ^ 26) _ (lit< tt) under (at_place w 16 5))
+
+  pub cop0_is : value_at w (whole 26 6) ≡ 16 → inst_of w ≡ pick cop0_rows (16 * 2 ^ 26 + value_at w (whole 21 5) * 2 ^ 21) w
+  cop0_is o =
+      let under : bit_and w 0xfc000000 ≡ 16 * 2 ^ 26 = opcode_under w 16 o in
+      found_in w 0xfc000000 (16 * 2 ^ 26) 0xffe00000 (16 * 2 ^ 26 + value_at w (whole 21 5) * 2 ^ 21) cop0_rows refl refl under
+      (two_fields w 26 63 0x3e00000 (16 * 2 ^ 26) _ (lit< tt) under (at_place w 21 5))
+
+  pub moves_is : value_at w (whole 26 6) ≡ 18 → value_at w (whole 25 1) ≡ 0 → inst_of w ≡ pick cop2_rows (18 * 2 ^ 26 + value_at w (whole 21 5) * 2 ^ 21) w
+  moves_is o bit =
+      let opcode : bit_and w 0xfc000000 ≡ 18 * 2 ^ 26 = opcode_under w 18 o in
+      found_in w 0xfe000000 (18 * 2 ^ 26) 0xffe00000 (18 * 2 ^ 26 + value_at w (whole 21 5) * 2 ^ 21) cop2_rows refl refl
+      (two_fields w 26 63 0x2000000 (18 * 2 ^ 26) 0 (lit< tt) opcode (at_place w 25 1 ∙ ap (λ n. n * 2 ^ 25) bit))
+      (two_fields w 26 63 0x3e00000 (18 * 2 ^ 26) _ (lit< tt) opcode (at_place w 21 5))
+
+  pub computing_is : value_at w (whole 26 6) ≡ 18 → value_at w (whole 25 1) ≡ 1 → inst_of w ≡ pick computing_rows (18 * 2 ^ 26 + 2 ^ 25 + value_at w (whole 0 6)) w
+  computing_is o bit =
+      let opcode : bit_and w 0xfc000000 ≡ 18 * 2 ^ 26 = opcode_under w 18 o in
+      let under : bit_and w 0xfe000000 ≡ 37 * 2 ^ 25 = two_fields w 26 63 0x2000000 (18 * 2 ^ 26) (2 ^ 25) (lit< tt) opcode (at_place w 25 1 ∙ ap (λ n. n * 2 ^ 25) bit) in
+      found_in w 0xfe000000 (37 * 2 ^ 25) 0xfe00003f (37 * 2 ^ 25 + value_at w (whole 0 6)) computing_rows refl refl under
+      (two_fields w 25 127 63 (37 * 2 ^ 25) _ (lit< tt) under (function_under w))
+
+-- the opcodes of several rows
+abbrev pub is_shared : ℕ → Bool
+is_shared o = (o == 0) || (o == 1) || (o == 16) || (o == 18) || (o == 50) || (o == 58)
+
+abbrev has_own : Row → Bool
+has_own r = not ((bit_and r.mask 0xfc000000 == 0xfc000000) && is_shared (value_at r.value (whole 26 6)))
+
+shared_not_fit : (w : ℕ) (r : Row) → is_shared (value_at w (whole 26 6)) ≡ false → has_own r ≡ false → fits w r ≡ false
+shared_not_fit w r own not_own =
+    let parts = and_parts _ _ (not-false _ not_own) in
+    ne_eqb _ _ (λ e. false≢true (sym own ∙ ap is_shared (opcode_of e (eqb-true _ _ parts.0)) ∙ parts.1))
+  where
+    opcode_of : bit_and w r.mask ≡ r.value → bit_and r.mask 0xfc000000 ≡ 0xfc000000 → value_at w (whole 26 6) ≡ value_at r.value (whole 26 6)
+    opcode_of e covers =
+        let p : value_at w (whole 26 6) * 2 ^ 26 ≡ value_at r.value (whole 26 6) * 2 ^ 26 =
+        sym (at_place w 26 6) ∙ ap (bit_and w) (sym covers) ∙ sym (and_assoc 0xfc000000 w r.mask) ∙ ap (λ n. bit_and n 0xfc000000) e ∙ at_place r.value 26 6 in
+        omega arith
+
+pub plain_is : (w : ℕ) → is_shared (value_at w (whole 26 6)) ≡ false → inst_of w ≡ pick opcode_rows (value_at w (whole 26 6) * 2 ^ 26) w
+unfolding inst_by
+plain_is w own =
+    let key = value_at w (whole 26 6) * 2 ^ 26 in
+    from_rows w _ (left_out (fits w) has_own rows (λ r. shared_not_fit w r own) ∙ by_value w 0xfc000000 key opcode_rows (at_place w 26 6) refl)
+
+-- The vector loads and stores, of which operation 9 has two more bits of mask
+abbrev wide : ℕ → Row → Bool
+wide o r = not ((r.mask == 0xfc00fb80) && (r.value == o * 2 ^ 26 + 9 * 2 ^ 11))
+
+module _ (w o : ℕ) (at : value_at w (whole 26 6) ≡ o) where
+  under_narrow : bit_and w 0xfc00fb80 ≡ o * 2 ^ 26 + (value_at w (whole 11 5) * 2 ^ 11 + value_at w (whole 7 3) * 2 ^ 7)
+  under_narrow = two_fields w 26 63 0xfb80 _ _ (lit< tt) (opcode_under w o at) (two_fields w 11 31 0x380 _ _ (lit< tt) (at_place w 11 5) (at_place w 7 3))
+
+  under_wide : bit_and w 0xfc00f800 ≡ o * 2 ^ 26 + value_at w (whole 11 5) * 2 ^ 11
+  under_wide = two_fields w 26 63 0xf800 _ _ (lit< tt) (opcode_under w o at) (at_place w 11 5)
+
+  low_three : value_at w (whole 7 3) < 8
+  low_three = mod_below (w / 2 ^ 7) 8 (lit< tt)
+
+  narrow_test : (r : Row) → value_at w (whole 11 5) ≢ 9 → wide o r ≡ false → fits w r ≡ false
+  narrow_test r other f =
+      let parts = and_parts _ _ (not-false _ f) in
+      ne_eqb _ _ (λ fit. other (nine (sym (ap (bit_and w) (eqb-true _ _ parts.0)) ∙ fit ∙ eqb-true _ _ parts.1)))
+    where
+      nine : bit_and w 0xfc00fb80 ≡ o * 2 ^ 26 + 9 * 2 ^ 11 → value_at w (whole 11 5) ≡ 9
+      nine fit = omega (arith, under_narrow, low_three)
+
+  value_test : (r : Row) → value_at w (whole 11 5) ≢ 9 → wide o r ≡ false → (r.value == o * 2 ^ 26 + value_at w (whole 11 5) * 2 ^ 11) ≡ false
+  value_test r other f =
+      ne_eqb _ _ (λ e. other (nine (sym (eqb-true _ _ (and_parts _ _ (not-false _ f)).1) ∙ e)))
+    where
+      nine : o * 2 ^ 26 + 9 * 2 ^ 11 ≡ o * 2 ^ 26 + value_at w (whole 11 5) * 2 ^ 11 → value_at w (whole 11 5) ≡ 9
+      nine both = omega arith
+
+  other_is : (rs rest : List Row) → filter (may_have 0xfc000000 (o * 2 ^ 26)) rows ≡ rs → filter (wide o) rs ≡ rest → list_all (λ (r : Row). r.mask == 0xfc00f800) rest ≡ true → value_at w (whole 11 5) ≢ 9 → inst_of w ≡ pick rs (o * 2 ^ 26 + value_at w (whole 11 5) * 2 ^ 11) w
+  unfolding inst_by
+  other_is rs rest which wider all other =
+      let key = o * 2 ^ 26 + value_at w (whole 11 5) * 2 ^ 11 in
+      from_rows w _ (narrowed w 0xfc000000 (o * 2 ^ 26) rows (opcode_under w o at) ∙ ap (find (fits w)) which
+      ∙ left_out (fits w) (wide o) rs (λ r. narrow_test r other) ∙ ap (find (fits w)) wider
+      ∙ by_value w 0xfc00f800 key rest under_wide all
+      ∙ sym (left_out (λ (r : Row). r.value == key) (wide o) rs (λ r. value_test r other) ∙ ap (find (λ (r : Row). r.value == key)) wider))
+
+  narrow_fits : (r : Row) → r.mask ≡ 0xfc00fb80 → r.value ≡ o * 2 ^ 26 + 9 * 2 ^ 11 → value_at w (whole 11 5) ≡ 9 → fits w r ≡ (value_at w (whole 7 4) % 8 == 0)
+  narrow_fits r m v nine =
+      elim (cases_Bool (value_at w (whole 7 4) % 8 == 0)) [
+        | inl t ↦ eq-eqb _ _ (let z = eqb-true (value_at w (whole 7 4) % 8) 0 t in ap (bit_and w) m ∙ under_narrow ∙ equal z ∙ sym v) ∙ sym t
+        | inr f ↦ ne_eqb _ _ (λ e. eqb-false (value_at w (whole 7 4) % 8) 0 f (unequal (sym (ap (bit_and w) m) ∙ e ∙ v))) ∙ sym f
+      ]
+    where
+      equal : value_at w (whole 7 4) % 8 ≡ 0 → o * 2 ^ 26 + (value_at w (whole 11 5) * 2 ^ 11 + value_at w (whole 7 3) * 2 ^ 7) ≡ o * 2 ^ 26 + 9 * 2 ^ 11
+      equal z = omega arith
+
+      unequal : bit_and w 0xfc00fb80 ≡ o * 2 ^ 26 + 9 * 2 ^ 11 → value_at w (whole 7 4) % 8 ≡ 0
+      unequal e = omega (arith, under_narrow)
+
+  nine_is : (r : Row) → filter (may_have 0xfc00f800 (o * 2 ^ 26 + 9 * 2 ^ 11)) rows ≡ r ∷ [] → r.mask ≡ 0xfc00fb80 → r.value ≡ o * 2 ^ 26 + 9 * 2 ^ 11 → value_at w (whole 11 5) ≡ 9 → inst_of w ≡ (if not (value_at w (whole 7 4) % 8 == 0) then None else Some (r.inst (fields r w)))
+  unfolding inst_by
+  nine_is r which m v nine =
+      from_rows w _ (narrowed w 0xfc00f800 (o * 2 ^ 26 + 9 * 2 ^ 11) rows (under_wide ∙ ap (λ n. o * 2 ^ 26 + n * 2 ^ 11) nine) ∙ ap (find (fits w)) which)
+      ∙ ap (λ t. inst_by w (cond t (Some r) None)) (narrow_fits r m v nine)
+      ∙ turned (value_at w (whole 7 4) % 8 == 0)
+    where
+      turned : (b : Bool) → inst_by w (cond b (Some r) None) ≡ (if not b then None else Some (r.inst (fields r w)))
+      turned true = refl
+      turned false = refl
+
+  transfer_is : (rs rest : List Row) (r : Row) → filter (may_have 0xfc000000 (o * 2 ^ 26)) rows ≡ rs → filter (wide o) rs ≡ rest → list_all (λ (s : Row). s.mask == 0xfc00f800) rest ≡ true → filter (may_have 0xfc00f800 (o * 2 ^ 26 + 9 * 2 ^ 11)) rows ≡ r ∷ [] → r.mask ≡ 0xfc00fb80 → r.value ≡ o * 2 ^ 26 + 9 * 2 ^ 11 → pick rs (o * 2 ^ 26 + 9 * 2 ^ 11) w ≡ Some (r.inst (fields r w)) → inst_of w ≡ pick_transfer rs o w
+  transfer_is rs rest r which wider all one_row m v picked =
+      elim (cases_eq (value_at w (whole 11 5)) 9) [
+        | inl nine ↦ nine_is r one_row m v nine ∙ sym (ap (cond (not (value_at w (whole 7 4) % 8 == 0)) None) (ap (λ n. pick rs (o * 2 ^ 26 + n * 2 ^ 11) w) nine ∙ picked))
+            ∙ ap (λ t. if t && not (value_at w (whole 7 4) % 8 == 0) then None else pick rs (o * 2 ^ 26 + value_at w (whole 11 5) * 2 ^ 11) w) (sym (eq-eqb _ _ nine))
+        | inr other ↦ other_is rs rest which wider all other
+            ∙ ap (λ t. if t && not (value_at w (whole 7 4) % 8 == 0) then None else pick rs (o * 2 ^ 26 + value_at w (whole 11 5) * 2 ^ 11) w) (sym (ne_eqb _ _ other))
+      ]
+
+pub load_is : (w : ℕ) → value_at w (whole 26 6) ≡ 50 → inst_of w ≡ pick_transfer load_rows 50 w
+load_is w at = transfer_is w 50 at load_rows (filter (wide 50) load_rows) _ refl refl refl refl refl refl refl
+
+pub store_is : (w : ℕ) → value_at w (whole 26 6) ≡ 58 → inst_of w ≡ pick_transfer store_rows 58 w
+store_is w at = transfer_is w 58 at store_rows (filter (wide 58) store_rows) _ refl refl refl refl refl refl refl

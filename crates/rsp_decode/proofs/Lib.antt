@@ -1,0 +1,5 @@
+pub mod Places
+pub mod Keys
+pub mod OneRow
+pub mod RowsBack
+pub mod RowsKept

@@ -1,0 +1,204 @@
+-- Encoding: the word of an instruction has its row alone, and its fields are read back.
+use Rattle.std.proofs.Common.{◌≡◌, refl, ap, ◌∙◌, ℕ, List, [], ◌∷◌, Bool, true, ◌&&◌, bit_and}
+use Rattle.std.specs.Prelude.{◌==◌, find, filter, Some, None, option_map}
+use Rattle.std.proofs.lemmas.Bool.{eqb-true, eq-eqb, and_parts, cond-true}
+use Rattle.rsp_decode.specs.declared.inst.Inst.{Inst}
+use Rattle.rsp_decode.specs.declared.inst.ShiftRow.{ShiftRow}
+use Rattle.rsp_decode.specs.declared.inst.ShiftRow.TheVariants.{Sll}
+use Rattle.rsp_decode.specs.declared.inst.ShiftByRow.{ShiftByRow}
+use Rattle.rsp_decode.specs.declared.inst.ShiftByRow.TheVariants.{Sllv}
+use Rattle.rsp_decode.specs.declared.inst.RegisterRow.{RegisterRow}
+use Rattle.rsp_decode.specs.declared.inst.RegisterRow.TheVariants.{Add}
+use Rattle.rsp_decode.specs.declared.inst.SignRow.{SignRow}
+use Rattle.rsp_decode.specs.declared.inst.SignRow.TheVariants.{Bltz}
+use Rattle.rsp_decode.specs.declared.inst.JumpRow.{JumpRow}
+use Rattle.rsp_decode.specs.declared.inst.JumpRow.TheVariants.{J}
+use Rattle.rsp_decode.specs.declared.inst.EqualRow.{EqualRow}
+use Rattle.rsp_decode.specs.declared.inst.EqualRow.TheVariants.{Beq}
+use Rattle.rsp_decode.specs.declared.inst.ImmediateRow.{ImmediateRow}
+use Rattle.rsp_decode.specs.declared.inst.ImmediateRow.TheVariants.{Addi}
+use Rattle.rsp_decode.specs.declared.inst.LoadRow.{LoadRow}
+use Rattle.rsp_decode.specs.declared.inst.LoadRow.TheVariants.{Lb}
+use Rattle.rsp_decode.specs.declared.inst.StoreRow.{StoreRow}
+use Rattle.rsp_decode.specs.declared.inst.StoreRow.TheVariants.{Sb}
+use Rattle.rsp_decode.specs.declared.inst.MoveRow.{MoveRow}
+use Rattle.rsp_decode.specs.declared.inst.MoveRow.TheVariants.{From}
+use Rattle.rsp_decode.specs.declared.inst.MultiplyRow.{MultiplyRow}
+use Rattle.rsp_decode.specs.declared.inst.MultiplyRow.TheVariants.{Vmulf}
+use Rattle.rsp_decode.specs.declared.inst.VectorAddRow.{VectorAddRow}
+use Rattle.rsp_decode.specs.declared.inst.VectorAddRow.TheVariants.{Vadd}
+use Rattle.rsp_decode.specs.declared.inst.VectorSelectRow.{VectorSelectRow}
+use Rattle.rsp_decode.specs.declared.inst.VectorSelectRow.TheVariants.{Vlt}
+use Rattle.rsp_decode.specs.declared.inst.VectorClipRow.{VectorClipRow}
+use Rattle.rsp_decode.specs.declared.inst.VectorClipRow.TheVariants.{Vcl}
+use Rattle.rsp_decode.specs.declared.inst.VectorLogicRow.{VectorLogicRow}
+use Rattle.rsp_decode.specs.declared.inst.VectorLogicRow.TheVariants.{Vand}
+use Rattle.rsp_decode.specs.declared.inst.LaneRow.{LaneRow}
+use Rattle.rsp_decode.specs.declared.inst.LaneRow.TheVariants.{Vrcp}
+use Rattle.rsp_decode.specs.declared.inst.IdleRow.{IdleRow}
+use Rattle.rsp_decode.specs.declared.inst.IdleRow.TheVariants.{Vnop}
+use Rattle.rsp_decode.specs.declared.inst.VectorLoadRow.{VectorLoadRow}
+use Rattle.rsp_decode.specs.declared.inst.VectorLoadRow.TheVariants.{Lbv}
+use Rattle.rsp_decode.specs.declared.inst.VectorStoreRow.{VectorStoreRow}
+use Rattle.rsp_decode.specs.declared.inst.VectorStoreRow.TheVariants.{Sbv}
+use Rattle.rsp_decode.specs.declared.inst.Control.TheVariants.{Vco, Vcc, Vce}
+use Rattle.rsp_decode.specs.declared.inst.Inst.TheVariants.{BranchEqual, BranchSign, Break, Idle, Immediate, Jump, JumpLinkRegister, JumpRegister, Lane, Load, LoadUpper, MoveControl, MoveSp, MoveVector, Register, Shift, ShiftBy, Store, Multiply, ReadAccumulator, VectorAdd, VectorSelect, VectorClip, VectorMerge, VectorLogic, VectorLoad, VectorStore}
+use Rattle.rsp_decode.specs.Table.{Row, rows, row_of, fits, fields, row_places, inst_of, canonical_of, word_from, word_of, parts, IsInstruction, FitPlaces, shift_row, shift_by_row, jump_register_row, jump_link_register_row, break_row, register_row, branch_sign_row, jump_row, branch_equal_row, immediate_row, load_upper_row, load_row, store_row, move_sp_row, move_vector_row, move_control_row, multiply_row, read_accumulator_row, vector_add_row, vector_select_row, vector_clip_row, vector_merge_row, vector_logic_row, lane_row, idle_row, vector_load_row, vector_store_row}
+use Rattle.rsp_decode.proofs.Keys.{may_have, narrowed}
+use Rattle.rsp_decode.proofs.Places.{apart_from, all_apart, under_others, fields_back, clear_from}
+
+-- the value is under the mask, and the places are apart from the mask and from each other
+abbrev sound : Row → Bool
+sound r = (bit_and r.value r.mask == r.value) && (apart_from r.mask (row_places r) && all_apart (row_places r))
+
+-- and no other row fits a word of the row
+record Good (r : Row) : Type 0 where
+  is_sound : sound r ≡ true
+  alone : filter (may_have r.mask r.value) rows ≡ r ∷ []
+
+module _ (r : Row) (good : Good r) (vs : List ℕ) (fit : FitPlaces (row_places r) vs) where
+  word_row : row_of (word_from r vs) ≡ Some r
+  unfolding row_of
+  word_row =
+      let tests = and_parts _ _ good.is_sound in
+      let under : bit_and (word_from r vs) r.mask ≡ r.value =
+      under_others (row_places r) vs r.value r.mask fit (and_parts _ _ tests.1).0 ∙ eqb-true _ _ tests.0 in
+      narrowed (word_from r vs) r.mask r.value rows under
+      ∙ ap (find (fits (word_from r vs))) good.alone
+      ∙ cond-true (fits (word_from r vs) r) (Some r) None (eq-eqb _ _ under)
+
+  word_fields : fields r (word_from r vs) ≡ vs
+  word_fields =
+      let tests = and_parts _ _ good.is_sound in
+      let places = and_parts _ _ tests.1 in
+      fields_back (row_places r) vs r.value fit places.1 (clear_from r.mask r.value (row_places r) (eqb-true _ _ tests.0) places.0)
+
+  word_inst : inst_of (word_from r vs) ≡ Some (r.inst vs)
+  unfolding inst_of
+  word_inst = ap (option_map (λ (s : Row). s.inst (fields s (word_from r vs)))) word_row ∙ ap (λ f. Some (r.inst f)) word_fields
+
+  word_canonical : canonical_of (word_from r vs) ≡ Some (word_from r vs)
+  unfolding canonical_of
+  word_canonical = ap (option_map (λ (s : Row). word_from s (fields s (word_from r vs)))) word_row ∙ ap (λ f. Some (word_from r f)) word_fields
+
+shift_good : (r : ShiftRow) → Good (shift_row r)
+shift_good r = elim r as (λ s. Good (shift_row s)) [ Sll ↦ record { is_sound = refl; alone = refl } | _ ↦ record { is_sound = refl; alone = refl } ]
+
+shift_by_good : (r : ShiftByRow) → Good (shift_by_row r)
+shift_by_good r = elim r as (λ s. Good (shift_by_row s)) [ Sllv ↦ record { is_sound = refl; alone = refl } | _ ↦ record { is_sound = refl; alone = refl } ]
+
+jump_register_good : Good jump_register_row
+jump_register_good = record { is_sound = refl; alone = refl }
+
+jump_link_register_good : Good jump_link_register_row
+jump_link_register_good = record { is_sound = refl; alone = refl }
+
+break_good : Good break_row
+break_good = record { is_sound = refl; alone = refl }
+
+register_good : (r : RegisterRow) → Good (register_row r)
+register_good r = elim r as (λ s. Good (register_row s)) [ Add ↦ record { is_sound = refl; alone = refl } | _ ↦ record { is_sound = refl; alone = refl } ]
+
+branch_sign_good : (r : SignRow) → Good (branch_sign_row r)
+branch_sign_good r = elim r as (λ s. Good (branch_sign_row s)) [ Bltz ↦ record { is_sound = refl; alone = refl } | _ ↦ record { is_sound = refl; alone = refl } ]
+
+jump_good : (r : JumpRow) → Good (jump_row r)
+jump_good r = elim r as (λ s. Good (jump_row s)) [ J ↦ record { is_sound = refl; alone = refl } | _ ↦ record { is_sound = refl; alone = refl } ]
+
+branch_equal_good : (r : EqualRow) → Good (branch_equal_row r)
+branch_equal_good r = elim r as (λ s. Good (branch_equal_row s)) [ Beq ↦ record { is_sound = refl; alone = refl } | _ ↦ record { is_sound = refl; alone = refl } ]
+
+immediate_good : (r : ImmediateRow) → Good (immediate_row r)
+immediate_good r = elim r as (λ s. Good (immediate_row s)) [ Addi ↦ record { is_sound = refl; alone = refl } | _ ↦ record { is_sound = refl; alone = refl } ]
+
+load_upper_good : Good load_upper_row
+load_upper_good = record { is_sound = refl; alone = refl }
+
+load_good : (r : LoadRow) → Good (load_row r)
+load_good r = elim r as (λ s. Good (load_row s)) [ Lb ↦ record { is_sound = refl; alone = refl } | _ ↦ record { is_sound = refl; alone = refl } ]
+
+store_good : (r : StoreRow) → Good (store_row r)
+store_good r = elim r as (λ s. Good (store_row s)) [ Sb ↦ record { is_sound = refl; alone = refl } | _ ↦ record { is_sound = refl; alone = refl } ]
+
+move_sp_good : (r : MoveRow) → Good (move_sp_row r)
+move_sp_good r = elim r as (λ s. Good (move_sp_row s)) [ From ↦ record { is_sound = refl; alone = refl } | _ ↦ record { is_sound = refl; alone = refl } ]
+
+move_vector_good : (r : MoveRow) → Good (move_vector_row r)
+move_vector_good r = elim r as (λ s. Good (move_vector_row s)) [ From ↦ record { is_sound = refl; alone = refl } | _ ↦ record { is_sound = refl; alone = refl } ]
+
+move_control_good : (r : MoveRow) → Good (move_control_row r)
+move_control_good r = elim r as (λ s. Good (move_control_row s)) [ From ↦ record { is_sound = refl; alone = refl } | _ ↦ record { is_sound = refl; alone = refl } ]
+
+multiply_good : (r : MultiplyRow) → Good (multiply_row r)
+multiply_good r = elim r as (λ s. Good (multiply_row s)) [ Vmulf ↦ record { is_sound = refl; alone = refl } | _ ↦ record { is_sound = refl; alone = refl } ]
+
+read_accumulator_good : Good read_accumulator_row
+read_accumulator_good = record { is_sound = refl; alone = refl }
+
+vector_add_good : (r : VectorAddRow) → Good (vector_add_row r)
+vector_add_good r = elim r as (λ s. Good (vector_add_row s)) [ Vadd ↦ record { is_sound = refl; alone = refl } | _ ↦ record { is_sound = refl; alone = refl } ]
+
+vector_select_good : (r : VectorSelectRow) → Good (vector_select_row r)
+vector_select_good r = elim r as (λ s. Good (vector_select_row s)) [ Vlt ↦ record { is_sound = refl; alone = refl } | _ ↦ record { is_sound = refl; alone = refl } ]
+
+vector_clip_good : (r : VectorClipRow) → Good (vector_clip_row r)
+vector_clip_good r = elim r as (λ s. Good (vector_clip_row s)) [ Vcl ↦ record { is_sound = refl; alone = refl } | _ ↦ record { is_sound = refl; alone = refl } ]
+
+vector_merge_good : Good vector_merge_row
+vector_merge_good = record { is_sound = refl; alone = refl }
+
+vector_logic_good : (r : VectorLogicRow) → Good (vector_logic_row r)
+vector_logic_good r = elim r as (λ s. Good (vector_logic_row s)) [ Vand ↦ record { is_sound = refl; alone = refl } | _ ↦ record { is_sound = refl; alone = refl } ]
+
+lane_good : (r : LaneRow) → Good (lane_row r)
+lane_good r = elim r as (λ s. Good (lane_row s)) [ Vrcp ↦ record { is_sound = refl; alone = refl } | _ ↦ record { is_sound = refl; alone = refl } ]
+
+idle_good : (r : IdleRow) → Good (idle_row r)
+idle_good r = elim r as (λ s. Good (idle_row s)) [ Vnop ↦ record { is_sound = refl; alone = refl } | _ ↦ record { is_sound = refl; alone = refl } ]
+
+vector_load_good : (r : VectorLoadRow) → Good (vector_load_row r)
+vector_load_good r = elim r as (λ s. Good (vector_load_row s)) [ Lbv ↦ record { is_sound = refl; alone = refl } | _ ↦ record { is_sound = refl; alone = refl } ]
+
+vector_store_good : (r : VectorStoreRow) → Good (vector_store_row r)
+vector_store_good r = elim r as (λ s. Good (vector_store_row s)) [ Sbv ↦ record { is_sound = refl; alone = refl } | _ ↦ record { is_sound = refl; alone = refl } ]
+
+good_parts : (i : Inst) → Good (parts i).0
+good_parts (Shift r rd rt amount) = shift_good r
+good_parts (ShiftBy r rd rt rs) = shift_by_good r
+good_parts (JumpRegister rs) = jump_register_good
+good_parts (JumpLinkRegister rd rs) = jump_link_register_good
+good_parts Break = break_good
+good_parts (Register r rd rs rt) = register_good r
+good_parts (BranchSign r rs offset) = branch_sign_good r
+good_parts (Jump r target) = jump_good r
+good_parts (BranchEqual r rs rt offset) = branch_equal_good r
+good_parts (Immediate r rt rs imm) = immediate_good r
+good_parts (LoadUpper rt imm) = load_upper_good
+good_parts (Load r rt offset base) = load_good r
+good_parts (Store r rt offset base) = store_good r
+good_parts (MoveSp r rt register) = move_sp_good r
+good_parts (MoveVector r rt vector' element) = move_vector_good r
+good_parts (MoveControl r rt control) = move_control_good r
+good_parts (Multiply r vd vs vt element) = multiply_good r
+good_parts (ReadAccumulator vd vs vt element) = read_accumulator_good
+good_parts (VectorAdd r vd vs vt element) = vector_add_good r
+good_parts (VectorSelect r vd vs vt element) = vector_select_good r
+good_parts (VectorClip r vd vs vt element) = vector_clip_good r
+good_parts (VectorMerge vd vs vt element) = vector_merge_good
+good_parts (VectorLogic r vd vs vt element) = vector_logic_good r
+good_parts (Lane r vd lane vt element) = lane_good r
+good_parts (Idle r) = idle_good r
+good_parts (VectorLoad r vt element offset base) = vector_load_good r
+good_parts (VectorStore r vt element offset base) = vector_store_good r
+
+rebuilt : (i : Inst) → (parts i).0.inst (parts i).1 ≡ i
+rebuilt (MoveControl r rt Vco) = refl
+rebuilt (MoveControl r rt Vcc) = refl
+rebuilt (MoveControl r rt Vce) = refl
+rebuilt _ = refl
+
+pub round_trip : (i : Inst) → IsInstruction i → inst_of (word_of i) ≡ Some i
+round_trip i is = word_inst (parts i).0 (good_parts i) (parts i).1 is ∙ ap Some (rebuilt i)
+
+pub word_of_is_canonical : (i : Inst) → IsInstruction i → canonical_of (word_of i) ≡ Some (word_of i)
+word_of_is_canonical i is = word_canonical (parts i).0 (good_parts i) (parts i).1 is

@@ -1,0 +1,174 @@
+-- Decoding: what a word means has the word's row and its fields.
+use Rattle.std.proofs.Common.{◌≡◌, refl, sym, ap, subst, ◌∙◌, ℕ, zero, suc, ◌/◌, ◌%◌, ◌^◌, min, List, [], ◌∷◌, ◌++◌, Bool, arith, Option, inl, inr}
+use Rattle.std.specs.Prelude.{find, map, Some, None, option_map, IfSome}
+use Rattle.std.proofs.lemmas.Bool.{cond-true, cond-false, cases_Bool}
+use Rattle.rsp_decode.specs.declared.inst.Inst.{Inst}
+use Rattle.rsp_decode.specs.declared.inst.ShiftRow.TheVariants.{Sll, Srl, Sra}
+use Rattle.rsp_decode.specs.declared.inst.ShiftByRow.TheVariants.{Sllv, Srlv, Srav}
+use Rattle.rsp_decode.specs.declared.inst.RegisterRow.TheVariants.{Add, Addu, Sub, Subu, And, Or, Xor, Nor, Slt, Sltu}
+use Rattle.rsp_decode.specs.declared.inst.SignRow.TheVariants.{Bltz, Bgez, Bltzal, Bgezal, Blez, Bgtz}
+use Rattle.rsp_decode.specs.declared.inst.JumpRow.TheVariants.{J, Jal}
+use Rattle.rsp_decode.specs.declared.inst.EqualRow.TheVariants.{Beq, Bne}
+use Rattle.rsp_decode.specs.declared.inst.ImmediateRow.{ImmediateRow}
+use Rattle.rsp_decode.specs.declared.inst.ImmediateRow.TheVariants.{Addi, Addiu, Slti, Sltiu, Andi, Ori, Xori}
+use Rattle.rsp_decode.specs.declared.inst.LoadRow.TheVariants.{Lb, Lh, Lw, Lbu, Lhu, Lwu}
+use Rattle.rsp_decode.specs.declared.inst.StoreRow.TheVariants.{Sb, Sh, Sw}
+use Rattle.rsp_decode.specs.declared.inst.MoveRow.{MoveRow}
+use Rattle.rsp_decode.specs.declared.inst.MoveRow.TheVariants.{From, To}
+use Rattle.rsp_decode.specs.declared.inst.MultiplyRow.TheVariants.{Vmulf, Vmulu, Vmudl, Vmudm, Vmudn, Vmudh, Vmacf, Vmacu, Vmadl, Vmadm, Vmadn, Vmadh}
+use Rattle.rsp_decode.specs.declared.inst.VectorAddRow.TheVariants.{Vadd, Vsub, Vabs, Vaddc, Vsubc}
+use Rattle.rsp_decode.specs.declared.inst.VectorSelectRow.TheVariants.{Vlt, Veq, Vne, Vge}
+use Rattle.rsp_decode.specs.declared.inst.VectorClipRow.TheVariants.{Vcl, Vch, Vcr}
+use Rattle.rsp_decode.specs.declared.inst.VectorLogicRow.TheVariants.{Vand, Vnand, Vor, Vnor, Vxor, Vnxor}
+use Rattle.rsp_decode.specs.declared.inst.LaneRow.TheVariants.{Vrcp, Vrcpl, Vrcph, Vmov, Vrsq, Vrsql, Vrsqh}
+use Rattle.rsp_decode.specs.declared.inst.IdleRow.TheVariants.{Vnop, Vnull}
+use Rattle.rsp_decode.specs.declared.inst.VectorLoadRow.{VectorLoadRow}
+use Rattle.rsp_decode.specs.declared.inst.VectorLoadRow.TheVariants.{Lbv, Lsv, Llv, Ldv, Lqv, Lrv, Lpv, Luv, Lhv, Lfv, Ltv}
+use Rattle.rsp_decode.specs.declared.inst.VectorStoreRow.{VectorStoreRow}
+use Rattle.rsp_decode.specs.declared.inst.VectorStoreRow.TheVariants.{Sbv, Ssv, Slv, Sdv, Sqv, Srv, Spv, Suv, Shv, Sfv, Swv, Stv}
+use Rattle.rsp_decode.specs.Table.{Row, rows, row_of, fits, fields, row_places, inst_of, canonical_of, meaning_of, word_from, word_of, parts, IsInstruction, FitPlaces, control_of, control_number, special_rows, regimm_rows, opcode_rows, cop0_rows, cop2_rows, computing_rows, load_rows, store_rows, shift_row, shift_by_row, jump_register_row, jump_link_register_row, break_row, register_row, branch_sign_row, jump_row, branch_equal_row, immediate_row, load_upper_row, load_row, store_row, move_sp_row, move_vector_row, move_control_row, multiply_row, read_accumulator_row, vector_add_row, vector_select_row, vector_clip_row, vector_merge_row, vector_logic_row, lane_row, idle_row, vector_load_row, vector_store_row}
+use Rattle.rsp_decode.proofs.Places.{fit_read}
+
+-- a fact of each row of a list
+abbrev All_of : (Row → Type 0) → List Row → Type 0
+All_of P [] = Unit {0}
+All_of P (r ∷ rs) = P r × All_of P rs
+
+record Each (P : Row → Type 0) (rs : List Row) : Type 0 where
+  each : All_of P rs
+
+infixl 60 ◌&◌
+◌&◌ : {P : Row → Type 0} {xs ys : List Row} → Each P xs → Each P ys → Each P (xs ++ ys)
+◌&◌ {P} {xs} {ys} a b = record { each = go xs a.each }
+  where
+    go : (zs : List Row) → All_of P zs → All_of P (zs ++ ys)
+    go [] c = b.each
+    go (z ∷ zs) c = (c.0, go zs c.1)
+
+group : {A : Type 0} {P : Row → Type 0} (f : A → Row) → ((a : A) → P (f a)) → (xs : List A) → Each P (map f xs)
+group {A} {P} f all xs = record { each = go xs }
+  where
+    go : (ys : List A) → All_of P (map f ys)
+    go [] = tt
+    go (y ∷ ys) = (all y, go ys)
+
+alone : {P : Row → Type 0} (r : Row) → P r → Each P (r ∷ [])
+alone r p = record { each = (p, tt) }
+
+found : (P : Row → Type 0) (p : Row → Bool) (rs : List Row) → All_of P rs → (r : Row) → find p rs ≡ Some r → P r
+found P p [] all r e = cc
+found P p (x ∷ xs) all r e =
+    elim (cases_Bool (p x)) [
+      | inl t ↦ let same : x ≡ r = let s : Some x ≡ Some r = sym (cond-true _ (Some x) (find p xs) t) ∙ e in cc in subst P same all.0
+      | inr f ↦ found P p xs all.1 r (sym (cond-false _ (Some x) (find p xs) f) ∙ e)
+    ]
+
+-- the row and the fields of what it means are its own
+abbrev Kept : Row → Type 0
+Kept r = (w : ℕ) → parts (meaning_of r w) ≡ (r, fields r w)
+
+-- control register 3 is read as 2
+control_kept : (n : ℕ) → control_number (control_of (min 2 n)) ≡ min 2 n
+control_kept zero = refl
+control_kept (suc zero) = refl
+control_kept (suc (suc n)) = let e : min 2 (suc (suc n)) ≡ 2 = omega arith in ap (λ m. control_number (control_of m)) e ∙ sym e
+
+immediate_kept : (r : ImmediateRow) → Kept (immediate_row r)
+immediate_kept r = elim r as (λ s. Kept (immediate_row s)) [ Addi ↦ λ w. refl | _ ↦ λ w. refl ]
+
+move_control_kept : (r : MoveRow) → Kept (move_control_row r)
+move_control_kept r = λ w. ap (λ c. (move_control_row r, w / 2 ^ 16 % 2 ^ 5 ∷ c ∷ [])) (control_kept (w / 2 ^ 11 % 2 ^ 2))
+
+vector_load_kept : (r : VectorLoadRow) → Kept (vector_load_row r)
+vector_load_kept r = elim r as (λ s. Kept (vector_load_row s)) [ Lbv ↦ λ w. refl | _ ↦ λ w. refl ]
+
+vector_store_kept : (r : VectorStoreRow) → Kept (vector_store_row r)
+vector_store_kept r = elim r as (λ s. Kept (vector_store_row s)) [ Sbv ↦ λ w. refl | _ ↦ λ w. refl ]
+
+special_kept_rows : Each Kept special_rows
+special_kept_rows =
+    group shift_row (λ r w. refl) (Sll ∷ Srl ∷ Sra ∷ [])
+    & group shift_by_row (λ r w. refl) (Sllv ∷ Srlv ∷ Srav ∷ [])
+    & alone jump_register_row (λ w. refl)
+    & alone jump_link_register_row (λ w. refl)
+    & alone break_row (λ w. refl)
+    & group register_row (λ r w. refl) (Add ∷ Addu ∷ Sub ∷ Subu ∷ And ∷ Or ∷ Xor ∷ Nor ∷ Slt ∷ Sltu ∷ [])
+
+regimm_kept_rows : Each Kept regimm_rows
+regimm_kept_rows = group branch_sign_row (λ r w. refl) (Bltz ∷ Bgez ∷ Bltzal ∷ Bgezal ∷ [])
+
+opcode_kept_rows : Each Kept opcode_rows
+opcode_kept_rows =
+    group branch_sign_row (λ r w. refl) (Blez ∷ Bgtz ∷ [])
+    & group jump_row (λ r w. refl) (J ∷ Jal ∷ [])
+    & group branch_equal_row (λ r w. refl) (Beq ∷ Bne ∷ [])
+    & group immediate_row immediate_kept (Addi ∷ Addiu ∷ Slti ∷ Sltiu ∷ Andi ∷ Ori ∷ Xori ∷ [])
+    & alone load_upper_row (λ w. refl)
+    & group load_row (λ r w. refl) (Lb ∷ Lh ∷ Lw ∷ Lbu ∷ Lhu ∷ Lwu ∷ [])
+    & group store_row (λ r w. refl) (Sb ∷ Sh ∷ Sw ∷ [])
+
+cop0_kept_rows : Each Kept cop0_rows
+cop0_kept_rows = group move_sp_row (λ r w. refl) (From ∷ To ∷ [])
+
+cop2_kept_rows : Each Kept cop2_rows
+cop2_kept_rows =
+    group move_vector_row (λ r w. refl) (From ∷ To ∷ [])
+    & group move_control_row move_control_kept (From ∷ To ∷ [])
+
+computing_kept_rows : Each Kept computing_rows
+computing_kept_rows =
+    group multiply_row (λ r w. refl) (Vmulf ∷ Vmulu ∷ Vmudl ∷ Vmudm ∷ Vmudn ∷ Vmudh ∷ Vmacf ∷ Vmacu ∷ Vmadl ∷ Vmadm ∷ Vmadn ∷ Vmadh ∷ [])
+    & alone read_accumulator_row (λ w. refl)
+    & group vector_add_row (λ r w. refl) (Vadd ∷ Vsub ∷ Vabs ∷ Vaddc ∷ Vsubc ∷ [])
+    & group vector_select_row (λ r w. refl) (Vlt ∷ Veq ∷ Vne ∷ Vge ∷ [])
+    & group vector_clip_row (λ r w. refl) (Vcl ∷ Vch ∷ Vcr ∷ [])
+    & alone vector_merge_row (λ w. refl)
+    & group vector_logic_row (λ r w. refl) (Vand ∷ Vnand ∷ Vor ∷ Vnor ∷ Vxor ∷ Vnxor ∷ [])
+    & group lane_row (λ r w. refl) (Vrcp ∷ Vrcpl ∷ Vrcph ∷ Vmov ∷ Vrsq ∷ Vrsql ∷ Vrsqh ∷ [])
+    & group idle_row (λ r w. refl) (Vnop ∷ Vnull ∷ [])
+
+load_kept_rows : Each Kept load_rows
+load_kept_rows = group vector_load_row vector_load_kept (Lbv ∷ Lsv ∷ Llv ∷ Ldv ∷ Lqv ∷ Lrv ∷ Lpv ∷ Luv ∷ Lhv ∷ Lfv ∷ Ltv ∷ [])
+
+store_kept_rows : Each Kept store_rows
+store_kept_rows = group vector_store_row vector_store_kept (Sbv ∷ Ssv ∷ Slv ∷ Sdv ∷ Sqv ∷ Srv ∷ Spv ∷ Suv ∷ Shv ∷ Sfv ∷ Swv ∷ Stv ∷ [])
+
+all_kept : Each Kept rows
+all_kept =
+    special_kept_rows
+    & regimm_kept_rows
+    & opcode_kept_rows
+    & cop0_kept_rows
+    & cop2_kept_rows
+    & computing_kept_rows
+    & load_kept_rows
+    & store_kept_rows
+
+pub decoded : (w : ℕ) (i : Inst) → inst_of w ≡ Some i → IsInstruction i × (canonical_of w ≡ Some (word_of i))
+unfolding inst_of canonical_of row_of
+decoded w i e = go (row_of w) refl e
+  where
+    go : (o : Option Row) → row_of w ≡ o → option_map (λ (r : Row). meaning_of r w) o ≡ Some i → IsInstruction i × (option_map (λ (r : Row). word_from r (fields r w)) (row_of w) ≡ Some (word_of i))
+    go None row e = absurd cc
+    go (Some r) row e =
+        let same : r.inst (fields r w) ≡ i = cc in
+        let p : parts i ≡ (r, fields r w) = ap parts (sym same) ∙ found Kept (fits w) rows all_kept.each r row w in (
+          subst (λ (q : Row × List ℕ). FitPlaces (row_places q.0) q.1) (sym p) (fit_read w (row_places r)),
+          ap (option_map (λ (s : Row). word_from s (fields s w))) row ∙ ap (λ (q : Row × List ℕ). Some (word_from q.0 q.1)) (sym p),
+        )
+
+pub decoded_instruction : (w : ℕ) (o : Option Inst) → inst_of w ≡ o → IfSome o IsInstruction
+decoded_instruction w None e = tt
+decoded_instruction w (Some i) e = (decoded w i e).0
+
+pub decoded_canonical : (w : ℕ) (o : Option Inst) → inst_of w ≡ o → IfSome o (λ i. canonical_of w ≡ Some (word_of i))
+decoded_canonical w None e = tt
+decoded_canonical w (Some i) e = (decoded w i e).1
+
+pub reserved : (w : ℕ) → inst_of w ≡ None → canonical_of w ≡ None
+unfolding inst_of canonical_of
+reserved w e = go (row_of w) e
+  where
+    go : (o : Option Row) → option_map (λ (r : Row). meaning_of r w) o ≡ None → option_map (λ (r : Row). word_from r (fields r w)) o ≡ None
+    go None e = refl
+    go (Some r) e = absurd cc

@@ -1,0 +1,93 @@
+-- What a row of the instruction table is.
+use Rattle.std.specs.Prelude.{ℕ, ◌+◌, ◌*◌, ◌^◌, ◌==◌, Bool, List, map, flat_map, slice_index, bit_and}
+use Rattle.rsp_decode.specs.declared.inst.Inst.{Inst}
+use Rattle.rsp_decode.specs.Table.Places.{Place, value_at}
+use Rattle.rsp_decode.specs.Table.Operands.{Operand, places}
+
+-- what selects a row, and its name
+pub record Selector : Type 0 where
+  pub mask : ℕ
+  pub value : ℕ
+  pub name : List ℕ
+
+-- a selector of a mask, a value and a name
+abbrev pub selector : ℕ → ℕ → List ℕ → Selector
+selector mask value name = record { mask = mask; value = value; name = name }
+
+-- by the opcode alone, bits 31 to 26
+abbrev pub opcode : ℕ → List ℕ → Selector
+opcode o = selector 0xfc000000 (o * 2 ^ 26)
+
+-- opcode 0, by the function, bits 5 to 0
+abbrev pub special : ℕ → List ℕ → Selector
+special function = selector 0xfc00003f function
+
+-- opcode 1, by rt, bits 20 to 16
+abbrev pub regimm : ℕ → List ℕ → Selector
+regimm rt = selector 0xfc1f0000 (1 * 2 ^ 26 + rt * 2 ^ 16)
+
+-- opcode 16, by rs, bits 25 to 21
+abbrev pub cop0 : ℕ → List ℕ → Selector
+cop0 rs = selector 0xffe00000 (16 * 2 ^ 26 + rs * 2 ^ 21)
+
+-- opcode 18 without bit 25, by rs
+abbrev pub cop2_move : ℕ → List ℕ → Selector
+cop2_move rs = selector 0xffe00000 (18 * 2 ^ 26 + rs * 2 ^ 21)
+
+-- opcode 18 with bit 25, by the function
+abbrev pub computing : ℕ → List ℕ → Selector
+computing function = selector 0xfe00003f (18 * 2 ^ 26 + 2 ^ 25 + function)
+
+-- opcode 50 or 58, by the operation, bits 15 to 11
+abbrev pub transfer : ℕ → ℕ → List ℕ → Selector
+transfer o operation = selector 0xfc00f800 (o * 2 ^ 26 + operation * 2 ^ 11)
+
+-- the same where the element is 0 or 8: bits 9 to 7 are 0
+abbrev pub half_transfer : ℕ → ℕ → List ℕ → Selector
+half_transfer o operation = selector 0xfc00fb80 (o * 2 ^ 26 + operation * 2 ^ 11)
+
+-- A row: the bits of a word that select it and what they are, its name, its operands in the order of its text, and what it
+-- means by the fields of those operands in that order.
+pub record Row : Type 0 where
+  pub mask : ℕ
+  pub value : ℕ
+  pub name : List ℕ
+  pub operands : List Operand
+  pub inst : List ℕ → Inst
+
+-- a row of a selector, the operands of its text, and what it means
+abbrev pub row : Selector → List Operand → (List ℕ → Inst) → Row
+row s operands inst =
+    record { mask = s.mask; value = s.value; name = s.name; operands = operands; inst = inst }
+
+-- an instruction without fields, and of the first one to four of a list
+abbrev pub none : Inst → List ℕ → Inst
+none f fields = f
+
+abbrev pub one : (ℕ → Inst) → List ℕ → Inst
+one f fields = f (slice_index fields 0)
+
+abbrev pub two : (ℕ → ℕ → Inst) → List ℕ → Inst
+two f fields = f (slice_index fields 0) (slice_index fields 1)
+
+abbrev pub three : (ℕ → ℕ → ℕ → Inst) → List ℕ → Inst
+three f fields = f (slice_index fields 0) (slice_index fields 1) (slice_index fields 2)
+
+abbrev pub four : (ℕ → ℕ → ℕ → ℕ → Inst) → List ℕ → Inst
+four f fields = f (slice_index fields 0) (slice_index fields 1) (slice_index fields 2) (slice_index fields 3)
+
+-- whether a row fits a word: the word has its value under its mask
+abbrev pub fits : ℕ → Row → Bool
+fits w r = bit_and w r.mask == r.value
+
+-- the places of its named fields, in the order of its text
+abbrev pub row_places : Row → List Place
+row_places r = flat_map places r.operands
+
+-- the named fields of a word, in the order of the row's text
+abbrev pub fields : Row → ℕ → List ℕ
+fields r w = map (value_at w) (row_places r)
+
+-- what a word that the row fits means
+abbrev pub meaning_of : Row → ℕ → Inst
+meaning_of r w = r.inst (fields r w)

@@ -1,0 +1,196 @@
+-- The rows of the scalar unit: above each, the text of the first of its group.
+use Rattle.std.specs.Prelude.{List, [], ◌∷◌, ◌++◌, map, codes}
+use Rattle.rsp_decode.specs.declared.inst.Inst.TheVariants.{Shift, ShiftBy, JumpRegister, JumpLinkRegister, Break, Register, BranchSign, BranchEqual, Jump, Immediate, LoadUpper, Load, Store, MoveSp}
+use Rattle.rsp_decode.specs.declared.inst.ShiftRow.{ShiftRow}
+use Rattle.rsp_decode.specs.declared.inst.ShiftRow.TheVariants.{Sll, Srl, Sra}
+use Rattle.rsp_decode.specs.declared.inst.ShiftByRow.{ShiftByRow}
+use Rattle.rsp_decode.specs.declared.inst.ShiftByRow.TheVariants.{Sllv, Srlv, Srav}
+use Rattle.rsp_decode.specs.declared.inst.RegisterRow.{RegisterRow}
+use Rattle.rsp_decode.specs.declared.inst.RegisterRow.TheVariants.{Add, Addu, Sub, Subu, And, Or, Xor, Nor, Slt, Sltu}
+use Rattle.rsp_decode.specs.declared.inst.SignRow.{SignRow}
+use Rattle.rsp_decode.specs.declared.inst.SignRow.TheVariants.{Bltz, Bgez, Bltzal, Bgezal, Blez, Bgtz}
+use Rattle.rsp_decode.specs.declared.inst.JumpRow.{JumpRow}
+use Rattle.rsp_decode.specs.declared.inst.JumpRow.TheVariants.{J, Jal}
+use Rattle.rsp_decode.specs.declared.inst.EqualRow.{EqualRow}
+use Rattle.rsp_decode.specs.declared.inst.EqualRow.TheVariants.{Beq, Bne}
+use Rattle.rsp_decode.specs.declared.inst.ImmediateRow.{ImmediateRow}
+use Rattle.rsp_decode.specs.declared.inst.ImmediateRow.TheVariants.{Addi, Addiu, Slti, Sltiu, Andi, Ori, Xori}
+use Rattle.rsp_decode.specs.declared.inst.LoadRow.{LoadRow}
+use Rattle.rsp_decode.specs.declared.inst.LoadRow.TheVariants.{Lb, Lh, Lw, Lbu, Lhu, Lwu}
+use Rattle.rsp_decode.specs.declared.inst.StoreRow.{StoreRow}
+use Rattle.rsp_decode.specs.declared.inst.StoreRow.TheVariants.{Sb, Sh, Sw}
+use Rattle.rsp_decode.specs.declared.inst.MoveRow.{MoveRow}
+use Rattle.rsp_decode.specs.declared.inst.MoveRow.TheVariants.{From, To}
+use Rattle.rsp_decode.specs.Table.Operands.{Operand, scalar, shift_amount, signed, unsigned, jump_target, branch_target, scalar_memory, sp_register}
+use Rattle.rsp_decode.specs.Table.Rows.{Row, row, Selector, opcode, special, regimm, cop0, none, one, two, three}
+
+-- what selects the shifts by an amount in the word
+abbrev pub shift_selector : ShiftRow → Selector
+shift_selector Sll = special 0 (codes "sll")
+shift_selector Srl = special 2 (codes "srl")
+shift_selector Sra = special 3 (codes "sra")
+
+-- sll $d, $t, amount
+abbrev pub shift_row : ShiftRow → Row
+shift_row r = row (shift_selector r) (scalar 11 ∷ scalar 16 ∷ shift_amount ∷ []) (three (Shift r))
+
+-- what selects the shifts by a register
+abbrev pub shift_by_selector : ShiftByRow → Selector
+shift_by_selector Sllv = special 4 (codes "sllv")
+shift_by_selector Srlv = special 6 (codes "srlv")
+shift_by_selector Srav = special 7 (codes "srav")
+
+-- sllv $d, $t, $s
+abbrev pub shift_by_row : ShiftByRow → Row
+shift_by_row r = row (shift_by_selector r) (scalar 11 ∷ scalar 16 ∷ scalar 21 ∷ []) (three (ShiftBy r))
+
+-- jr $s
+abbrev pub jump_register_row : Row
+jump_register_row = row (special 8 (codes "jr")) (scalar 21 ∷ []) (one JumpRegister)
+
+-- jalr $d, $s
+abbrev pub jump_link_register_row : Row
+jump_link_register_row = row (special 9 (codes "jalr")) (scalar 11 ∷ scalar 21 ∷ []) (two JumpLinkRegister)
+
+-- break
+abbrev pub break_row : Row
+break_row = row (special 13 (codes "break")) [] (none Break)
+
+-- what selects the results of two registers
+abbrev pub register_selector : RegisterRow → Selector
+register_selector Add = special 32 (codes "add")
+register_selector Addu = special 33 (codes "addu")
+register_selector Sub = special 34 (codes "sub")
+register_selector Subu = special 35 (codes "subu")
+register_selector And = special 36 (codes "and")
+register_selector Or = special 37 (codes "or")
+register_selector Xor = special 38 (codes "xor")
+register_selector Nor = special 39 (codes "nor")
+register_selector Slt = special 42 (codes "slt")
+register_selector Sltu = special 43 (codes "sltu")
+
+-- add $d, $s, $t
+abbrev pub register_row : RegisterRow → Row
+register_row r = row (register_selector r) (scalar 11 ∷ scalar 21 ∷ scalar 16 ∷ []) (three (Register r))
+
+-- what selects the branches on the sign of a register
+abbrev pub branch_sign_selector : SignRow → Selector
+branch_sign_selector Bltz = regimm 0 (codes "bltz")
+branch_sign_selector Bgez = regimm 1 (codes "bgez")
+branch_sign_selector Bltzal = regimm 16 (codes "bltzal")
+branch_sign_selector Bgezal = regimm 17 (codes "bgezal")
+branch_sign_selector Blez = opcode 6 (codes "blez")
+branch_sign_selector Bgtz = opcode 7 (codes "bgtz")
+
+-- bltz $s, target
+abbrev pub branch_sign_row : SignRow → Row
+branch_sign_row r = row (branch_sign_selector r) (scalar 21 ∷ branch_target ∷ []) (two (BranchSign r))
+
+-- what selects the jumps to a place in the word
+abbrev pub jump_selector : JumpRow → Selector
+jump_selector J = opcode 2 (codes "j")
+jump_selector Jal = opcode 3 (codes "jal")
+
+-- j target
+abbrev pub jump_row : JumpRow → Row
+jump_row r = row (jump_selector r) (jump_target ∷ []) (one (Jump r))
+
+-- what selects the branches on two registers
+abbrev pub branch_equal_selector : EqualRow → Selector
+branch_equal_selector Beq = opcode 4 (codes "beq")
+branch_equal_selector Bne = opcode 5 (codes "bne")
+
+-- beq $s, $t, target
+abbrev pub branch_equal_row : EqualRow → Row
+branch_equal_row r = row (branch_equal_selector r) (scalar 21 ∷ scalar 16 ∷ branch_target ∷ []) (three (BranchEqual r))
+
+-- what selects the results of a register and an immediate
+abbrev pub immediate_selector : ImmediateRow → Selector
+immediate_selector Addi = opcode 8 (codes "addi")
+immediate_selector Addiu = opcode 9 (codes "addiu")
+immediate_selector Slti = opcode 10 (codes "slti")
+immediate_selector Sltiu = opcode 11 (codes "sltiu")
+immediate_selector Andi = opcode 12 (codes "andi")
+immediate_selector Ori = opcode 13 (codes "ori")
+immediate_selector Xori = opcode 14 (codes "xori")
+
+-- whether the immediate has a sign
+abbrev pub immediate_operand : ImmediateRow → Operand
+immediate_operand Addi = signed
+immediate_operand Addiu = signed
+immediate_operand Slti = signed
+immediate_operand Sltiu = signed
+immediate_operand Andi = unsigned
+immediate_operand Ori = unsigned
+immediate_operand Xori = unsigned
+
+-- addi $t, $s, imm
+abbrev pub immediate_row : ImmediateRow → Row
+immediate_row r = row (immediate_selector r) (scalar 16 ∷ scalar 21 ∷ immediate_operand r ∷ []) (three (Immediate r))
+
+-- lui $t, imm
+abbrev pub load_upper_row : Row
+load_upper_row = row (opcode 15 (codes "lui")) (scalar 16 ∷ unsigned ∷ []) (two LoadUpper)
+
+-- what selects the loads of a scalar register
+abbrev pub load_selector : LoadRow → Selector
+load_selector Lb = opcode 32 (codes "lb")
+load_selector Lh = opcode 33 (codes "lh")
+load_selector Lw = opcode 35 (codes "lw")
+load_selector Lbu = opcode 36 (codes "lbu")
+load_selector Lhu = opcode 37 (codes "lhu")
+load_selector Lwu = opcode 39 (codes "lwu")
+
+-- lw $t, offset($base)
+abbrev pub load_row : LoadRow → Row
+load_row r = row (load_selector r) (scalar 16 ∷ scalar_memory ∷ []) (three (Load r))
+
+-- what selects the stores of a scalar register
+abbrev pub store_selector : StoreRow → Selector
+store_selector Sb = opcode 40 (codes "sb")
+store_selector Sh = opcode 41 (codes "sh")
+store_selector Sw = opcode 43 (codes "sw")
+
+-- sw $t, offset($base)
+abbrev pub store_row : StoreRow → Row
+store_row r = row (store_selector r) (scalar 16 ∷ scalar_memory ∷ []) (three (Store r))
+
+-- what selects the moves from and to the SP registers
+abbrev pub move_sp_selector : MoveRow → Selector
+move_sp_selector From = cop0 0 (codes "mfc0")
+move_sp_selector To = cop0 4 (codes "mtc0")
+
+-- mfc0 $t, $cN
+abbrev pub move_sp_row : MoveRow → Row
+move_sp_row r = row (move_sp_selector r) (scalar 16 ∷ sp_register ∷ []) (two (MoveSp r))
+
+-- rows of opcode 0, by function
+abbrev pub special_rows : List Row
+special_rows =
+    map shift_row (Sll ∷ Srl ∷ Sra ∷ [])
+    ++ map shift_by_row (Sllv ∷ Srlv ∷ Srav ∷ [])
+    ++ (jump_register_row ∷ [])
+    ++ (jump_link_register_row ∷ [])
+    ++ (break_row ∷ [])
+    ++ map register_row (Add ∷ Addu ∷ Sub ∷ Subu ∷ And ∷ Or ∷ Xor ∷ Nor ∷ Slt ∷ Sltu ∷ [])
+
+-- rows of opcode 1, by rt
+abbrev pub regimm_rows : List Row
+regimm_rows =
+    map branch_sign_row (Bltz ∷ Bgez ∷ Bltzal ∷ Bgezal ∷ [])
+
+-- rows of an opcode of their own
+abbrev pub opcode_rows : List Row
+opcode_rows =
+    map branch_sign_row (Blez ∷ Bgtz ∷ [])
+    ++ map jump_row (J ∷ Jal ∷ [])
+    ++ map branch_equal_row (Beq ∷ Bne ∷ [])
+    ++ map immediate_row (Addi ∷ Addiu ∷ Slti ∷ Sltiu ∷ Andi ∷ Ori ∷ Xori ∷ [])
+    ++ (load_upper_row ∷ [])
+    ++ map load_row (Lb ∷ Lh ∷ Lw ∷ Lbu ∷ Lhu ∷ Lwu ∷ [])
+    ++ map store_row (Sb ∷ Sh ∷ Sw ∷ [])
+
+-- rows of opcode 16, by rs
+abbrev pub cop0_rows : List Row
+cop0_rows =
+    map move_sp_row (From ∷ To ∷ [])

@@ -1,0 +1,256 @@
+-- The rows of the vector unit: above each, the text of the first of its group.
+use Rattle.std.specs.Prelude.{ℕ, ◌==◌, List, [], ◌∷◌, ◌++◌, map, codes, if◌then◌else◌}
+use Rattle.rsp_decode.specs.declared.inst.Inst.TheVariants.{MoveVector, MoveControl, Multiply, ReadAccumulator, VectorAdd, VectorSelect, VectorClip, VectorMerge, VectorLogic, Lane, Idle, VectorLoad, VectorStore}
+use Rattle.rsp_decode.specs.declared.inst.MoveRow.{MoveRow}
+use Rattle.rsp_decode.specs.declared.inst.MoveRow.TheVariants.{From, To}
+use Rattle.rsp_decode.specs.declared.inst.Control.{Control}
+use Rattle.rsp_decode.specs.declared.inst.Control.TheVariants.{Vco, Vcc, Vce}
+use Rattle.rsp_decode.specs.declared.inst.MultiplyRow.{MultiplyRow}
+use Rattle.rsp_decode.specs.declared.inst.MultiplyRow.TheVariants.{Vmulf, Vmulu, Vmudl, Vmudm, Vmudn, Vmudh, Vmacf, Vmacu, Vmadl, Vmadm, Vmadn, Vmadh}
+use Rattle.rsp_decode.specs.declared.inst.VectorAddRow.{VectorAddRow}
+use Rattle.rsp_decode.specs.declared.inst.VectorAddRow.TheVariants.{Vadd, Vsub, Vabs, Vaddc, Vsubc}
+use Rattle.rsp_decode.specs.declared.inst.VectorSelectRow.{VectorSelectRow}
+use Rattle.rsp_decode.specs.declared.inst.VectorSelectRow.TheVariants.{Vlt, Veq, Vne, Vge}
+use Rattle.rsp_decode.specs.declared.inst.VectorClipRow.{VectorClipRow}
+use Rattle.rsp_decode.specs.declared.inst.VectorClipRow.TheVariants.{Vcl, Vch, Vcr}
+use Rattle.rsp_decode.specs.declared.inst.VectorLogicRow.{VectorLogicRow}
+use Rattle.rsp_decode.specs.declared.inst.VectorLogicRow.TheVariants.{Vand, Vnand, Vor, Vnor, Vxor, Vnxor}
+use Rattle.rsp_decode.specs.declared.inst.LaneRow.{LaneRow}
+use Rattle.rsp_decode.specs.declared.inst.LaneRow.TheVariants.{Vrcp, Vrcpl, Vrcph, Vmov, Vrsq, Vrsql, Vrsqh}
+use Rattle.rsp_decode.specs.declared.inst.IdleRow.{IdleRow}
+use Rattle.rsp_decode.specs.declared.inst.IdleRow.TheVariants.{Vnop, Vnull}
+use Rattle.rsp_decode.specs.declared.inst.VectorLoadRow.{VectorLoadRow}
+use Rattle.rsp_decode.specs.declared.inst.VectorLoadRow.TheVariants.{Lbv, Lsv, Llv, Ldv, Lqv, Lrv, Lpv, Luv, Lhv, Lfv, Ltv}
+use Rattle.rsp_decode.specs.declared.inst.VectorStoreRow.{VectorStoreRow}
+use Rattle.rsp_decode.specs.declared.inst.VectorStoreRow.TheVariants.{Sbv, Ssv, Slv, Sdv, Sqv, Srv, Spv, Suv, Shv, Sfv, Swv, Stv}
+use Rattle.rsp_decode.specs.Table.Operands.{scalar, control_register, vector, vector_byte, vector_element, vector_lane, vector_memory}
+use Rattle.rsp_decode.specs.Table.Rows.{Row, row, Selector, cop2_move, computing, transfer, half_transfer, none, two, three, four}
+
+-- the control register of a number, where 3 is read as 2
+abbrev pub control_of : ℕ → Control
+control_of n = if n == 0 then Vco else (if n == 1 then Vcc else Vce)
+
+-- its number, as encoded
+abbrev pub control_number : Control → ℕ
+control_number Vco = 0
+control_number Vcc = 1
+control_number Vce = 2
+
+-- what selects the moves from and to vector registers
+abbrev pub move_vector_selector : MoveRow → Selector
+move_vector_selector From = cop2_move 0 (codes "mfc2")
+move_vector_selector To = cop2_move 4 (codes "mtc2")
+
+-- mfc2 $t, $vN[e]
+abbrev pub move_vector_row : MoveRow → Row
+move_vector_row r = row (move_vector_selector r) (scalar 16 ∷ vector_byte 11 1 ∷ []) (three (MoveVector r))
+
+-- what selects the moves from and to the control registers
+abbrev pub move_control_selector : MoveRow → Selector
+move_control_selector From = cop2_move 2 (codes "cfc2")
+move_control_selector To = cop2_move 6 (codes "ctc2")
+
+-- cfc2 $t, $vco
+abbrev pub move_control_row : MoveRow → Row
+move_control_row r = row (move_control_selector r) (scalar 16 ∷ control_register ∷ []) (two (λ rt c. MoveControl r rt (control_of c)))
+
+-- what selects the multiplies
+abbrev pub multiply_selector : MultiplyRow → Selector
+multiply_selector Vmulf = computing 0x00 (codes "vmulf")
+multiply_selector Vmulu = computing 0x01 (codes "vmulu")
+multiply_selector Vmudl = computing 0x04 (codes "vmudl")
+multiply_selector Vmudm = computing 0x05 (codes "vmudm")
+multiply_selector Vmudn = computing 0x06 (codes "vmudn")
+multiply_selector Vmudh = computing 0x07 (codes "vmudh")
+multiply_selector Vmacf = computing 0x08 (codes "vmacf")
+multiply_selector Vmacu = computing 0x09 (codes "vmacu")
+multiply_selector Vmadl = computing 0x0c (codes "vmadl")
+multiply_selector Vmadm = computing 0x0d (codes "vmadm")
+multiply_selector Vmadn = computing 0x0e (codes "vmadn")
+multiply_selector Vmadh = computing 0x0f (codes "vmadh")
+
+-- vmulf $vD, $vS, $vT[e]
+abbrev pub multiply_row : MultiplyRow → Row
+multiply_row r = row (multiply_selector r) (vector 6 ∷ vector 11 ∷ vector_element ∷ []) (four (Multiply r))
+
+-- vsar $vD, $vS, $vT[e]
+abbrev pub read_accumulator_row : Row
+read_accumulator_row = row (computing 0x1d (codes "vsar")) (vector 6 ∷ vector 11 ∷ vector_element ∷ []) (four ReadAccumulator)
+
+-- what selects the sums and differences of vectors
+abbrev pub vector_add_selector : VectorAddRow → Selector
+vector_add_selector Vadd = computing 0x10 (codes "vadd")
+vector_add_selector Vsub = computing 0x11 (codes "vsub")
+vector_add_selector Vabs = computing 0x13 (codes "vabs")
+vector_add_selector Vaddc = computing 0x14 (codes "vaddc")
+vector_add_selector Vsubc = computing 0x15 (codes "vsubc")
+
+-- vadd $vD, $vS, $vT[e]
+abbrev pub vector_add_row : VectorAddRow → Row
+vector_add_row r = row (vector_add_selector r) (vector 6 ∷ vector 11 ∷ vector_element ∷ []) (four (VectorAdd r))
+
+-- what selects the comparisons that select
+abbrev pub vector_select_selector : VectorSelectRow → Selector
+vector_select_selector Vlt = computing 0x20 (codes "vlt")
+vector_select_selector Veq = computing 0x21 (codes "veq")
+vector_select_selector Vne = computing 0x22 (codes "vne")
+vector_select_selector Vge = computing 0x23 (codes "vge")
+
+-- vlt $vD, $vS, $vT[e]
+abbrev pub vector_select_row : VectorSelectRow → Row
+vector_select_row r = row (vector_select_selector r) (vector 6 ∷ vector 11 ∷ vector_element ∷ []) (four (VectorSelect r))
+
+-- what selects the clips
+abbrev pub vector_clip_selector : VectorClipRow → Selector
+vector_clip_selector Vcl = computing 0x24 (codes "vcl")
+vector_clip_selector Vch = computing 0x25 (codes "vch")
+vector_clip_selector Vcr = computing 0x26 (codes "vcr")
+
+-- vcl $vD, $vS, $vT[e]
+abbrev pub vector_clip_row : VectorClipRow → Row
+vector_clip_row r = row (vector_clip_selector r) (vector 6 ∷ vector 11 ∷ vector_element ∷ []) (four (VectorClip r))
+
+-- vmrg $vD, $vS, $vT[e]
+abbrev pub vector_merge_row : Row
+vector_merge_row = row (computing 0x27 (codes "vmrg")) (vector 6 ∷ vector 11 ∷ vector_element ∷ []) (four VectorMerge)
+
+-- what selects the logic of vectors
+abbrev pub vector_logic_selector : VectorLogicRow → Selector
+vector_logic_selector Vand = computing 0x28 (codes "vand")
+vector_logic_selector Vnand = computing 0x29 (codes "vnand")
+vector_logic_selector Vor = computing 0x2a (codes "vor")
+vector_logic_selector Vnor = computing 0x2b (codes "vnor")
+vector_logic_selector Vxor = computing 0x2c (codes "vxor")
+vector_logic_selector Vnxor = computing 0x2d (codes "vnxor")
+
+-- vand $vD, $vS, $vT[e]
+abbrev pub vector_logic_row : VectorLogicRow → Row
+vector_logic_row r = row (vector_logic_selector r) (vector 6 ∷ vector 11 ∷ vector_element ∷ []) (four (VectorLogic r))
+
+-- what selects the single-lane rows
+abbrev pub lane_selector : LaneRow → Selector
+lane_selector Vrcp = computing 0x30 (codes "vrcp")
+lane_selector Vrcpl = computing 0x31 (codes "vrcpl")
+lane_selector Vrcph = computing 0x32 (codes "vrcph")
+lane_selector Vmov = computing 0x33 (codes "vmov")
+lane_selector Vrsq = computing 0x34 (codes "vrsq")
+lane_selector Vrsql = computing 0x35 (codes "vrsql")
+lane_selector Vrsqh = computing 0x36 (codes "vrsqh")
+
+-- vrcp $vD[lane], $vT[e]
+abbrev pub lane_row : LaneRow → Row
+lane_row r = row (lane_selector r) (vector_lane ∷ vector_element ∷ []) (four (Lane r))
+
+-- what selects the rows that change nothing
+abbrev pub idle_selector : IdleRow → Selector
+idle_selector Vnop = computing 0x37 (codes "vnop")
+idle_selector Vnull = computing 0x3f (codes "vnull")
+
+-- vnop
+abbrev pub idle_row : IdleRow → Row
+idle_row r = row (idle_selector r) [] (none (Idle r))
+
+-- what selects the vector loads
+abbrev pub vector_load_selector : VectorLoadRow → Selector
+vector_load_selector Lbv = transfer 50 0 (codes "lbv")
+vector_load_selector Lsv = transfer 50 1 (codes "lsv")
+vector_load_selector Llv = transfer 50 2 (codes "llv")
+vector_load_selector Ldv = transfer 50 3 (codes "ldv")
+vector_load_selector Lqv = transfer 50 4 (codes "lqv")
+vector_load_selector Lrv = transfer 50 5 (codes "lrv")
+vector_load_selector Lpv = transfer 50 6 (codes "lpv")
+vector_load_selector Luv = transfer 50 7 (codes "luv")
+vector_load_selector Lhv = transfer 50 8 (codes "lhv")
+vector_load_selector Lfv = half_transfer 50 9 (codes "lfv")
+vector_load_selector Ltv = transfer 50 11 (codes "ltv")
+
+-- what the offset in the word is multiplied by
+abbrev pub vector_load_scale : VectorLoadRow → ℕ
+vector_load_scale Lbv = 1
+vector_load_scale Lsv = 2
+vector_load_scale Llv = 4
+vector_load_scale Ldv = 8
+vector_load_scale Lqv = 16
+vector_load_scale Lrv = 16
+vector_load_scale Lpv = 8
+vector_load_scale Luv = 8
+vector_load_scale Lhv = 16
+vector_load_scale Lfv = 16
+vector_load_scale Ltv = 16
+
+-- what the element is a multiple of
+abbrev pub vector_load_step : VectorLoadRow → ℕ
+vector_load_step Lfv = 8
+vector_load_step _ = 1
+
+-- lqv $vT[e], offset($base)
+abbrev pub vector_load_row : VectorLoadRow → Row
+vector_load_row r = row (vector_load_selector r) (vector_byte 16 (vector_load_step r) ∷ vector_memory (vector_load_scale r) ∷ []) (four (VectorLoad r))
+
+-- what selects the vector stores
+abbrev pub vector_store_selector : VectorStoreRow → Selector
+vector_store_selector Sbv = transfer 58 0 (codes "sbv")
+vector_store_selector Ssv = transfer 58 1 (codes "ssv")
+vector_store_selector Slv = transfer 58 2 (codes "slv")
+vector_store_selector Sdv = transfer 58 3 (codes "sdv")
+vector_store_selector Sqv = transfer 58 4 (codes "sqv")
+vector_store_selector Srv = transfer 58 5 (codes "srv")
+vector_store_selector Spv = transfer 58 6 (codes "spv")
+vector_store_selector Suv = transfer 58 7 (codes "suv")
+vector_store_selector Shv = transfer 58 8 (codes "shv")
+vector_store_selector Sfv = half_transfer 58 9 (codes "sfv")
+vector_store_selector Swv = transfer 58 10 (codes "swv")
+vector_store_selector Stv = transfer 58 11 (codes "stv")
+
+-- what the offset in the word is multiplied by
+abbrev pub vector_store_scale : VectorStoreRow → ℕ
+vector_store_scale Sbv = 1
+vector_store_scale Ssv = 2
+vector_store_scale Slv = 4
+vector_store_scale Sdv = 8
+vector_store_scale Sqv = 16
+vector_store_scale Srv = 16
+vector_store_scale Spv = 8
+vector_store_scale Suv = 8
+vector_store_scale Shv = 16
+vector_store_scale Sfv = 16
+vector_store_scale Swv = 16
+vector_store_scale Stv = 16
+
+-- what the element is a multiple of
+abbrev pub vector_store_step : VectorStoreRow → ℕ
+vector_store_step Sfv = 8
+vector_store_step _ = 1
+
+-- sqv $vT[e], offset($base)
+abbrev pub vector_store_row : VectorStoreRow → Row
+vector_store_row r = row (vector_store_selector r) (vector_byte 16 (vector_store_step r) ∷ vector_memory (vector_store_scale r) ∷ []) (four (VectorStore r))
+
+-- rows of opcode 18 without bit 25, by rs
+abbrev pub cop2_rows : List Row
+cop2_rows =
+    map move_vector_row (From ∷ To ∷ [])
+    ++ map move_control_row (From ∷ To ∷ [])
+
+-- rows of opcode 18 with bit 25, by function
+abbrev pub computing_rows : List Row
+computing_rows =
+    map multiply_row (Vmulf ∷ Vmulu ∷ Vmudl ∷ Vmudm ∷ Vmudn ∷ Vmudh ∷ Vmacf ∷ Vmacu ∷ Vmadl ∷ Vmadm ∷ Vmadn ∷ Vmadh ∷ [])
+    ++ (read_accumulator_row ∷ [])
+    ++ map vector_add_row (Vadd ∷ Vsub ∷ Vabs ∷ Vaddc ∷ Vsubc ∷ [])
+    ++ map vector_select_row (Vlt ∷ Veq ∷ Vne ∷ Vge ∷ [])
+    ++ map vector_clip_row (Vcl ∷ Vch ∷ Vcr ∷ [])
+    ++ (vector_merge_row ∷ [])
+    ++ map vector_logic_row (Vand ∷ Vnand ∷ Vor ∷ Vnor ∷ Vxor ∷ Vnxor ∷ [])
+    ++ map lane_row (Vrcp ∷ Vrcpl ∷ Vrcph ∷ Vmov ∷ Vrsq ∷ Vrsql ∷ Vrsqh ∷ [])
+    ++ map idle_row (Vnop ∷ Vnull ∷ [])
+
+-- rows of opcode 50, by operation
+abbrev pub load_rows : List Row
+load_rows =
+    map vector_load_row (Lbv ∷ Lsv ∷ Llv ∷ Ldv ∷ Lqv ∷ Lrv ∷ Lpv ∷ Luv ∷ Lhv ∷ Lfv ∷ Ltv ∷ [])
+
+-- rows of opcode 58, by operation
+abbrev pub store_rows : List Row
+store_rows =
+    map vector_store_row (Sbv ∷ Ssv ∷ Slv ∷ Sdv ∷ Sqv ∷ Srv ∷ Spv ∷ Suv ∷ Shv ∷ Sfv ∷ Swv ∷ Stv ∷ [])

@@ -1,0 +1,66 @@
+-- Words as instructions, and instructions as words.
+use Rattle.std.specs.Prelude.{ℕ, List, [], ◌∷◌, ◌++◌, find, Option, option_map}
+use Rattle.rsp_decode.specs.declared.inst.Inst.{Inst}
+use Rattle.rsp_decode.specs.declared.inst.Inst.TheVariants.{BranchEqual, BranchSign, Break, Idle, Immediate, Jump, JumpLinkRegister, JumpRegister, Lane, Load, LoadUpper, MoveControl, MoveSp, MoveVector, Register, Shift, ShiftBy, Store, Multiply, ReadAccumulator, VectorAdd, VectorSelect, VectorClip, VectorMerge, VectorLogic, VectorLoad, VectorStore}
+use Rattle.rsp_decode.specs.Table.Places.{with_fields, FitPlaces}
+use Rattle.rsp_decode.specs.Table.Rows.{Row, fits, fields, row_places, meaning_of}
+use Rattle.rsp_decode.specs.Table.ScalarRows.{shift_row, shift_by_row, jump_register_row, jump_link_register_row, break_row, register_row, branch_sign_row, jump_row, branch_equal_row, immediate_row, load_upper_row, load_row, store_row, move_sp_row, special_rows, regimm_rows, opcode_rows, cop0_rows}
+use Rattle.rsp_decode.specs.Table.VectorRows.{control_number, move_vector_row, move_control_row, multiply_row, read_accumulator_row, vector_add_row, vector_select_row, vector_clip_row, vector_merge_row, vector_logic_row, lane_row, idle_row, vector_load_row, vector_store_row, cop2_rows, computing_rows, load_rows, store_rows}
+
+-- the instruction table
+abbrev pub rows : List Row
+rows = special_rows ++ regimm_rows ++ opcode_rows ++ cop0_rows ++ cop2_rows ++ computing_rows ++ load_rows ++ store_rows
+
+-- the row of a word
+unfoldable pub row_of : ℕ → Option Row
+row_of w = find (fits w) rows
+
+-- what a word means, or None for a reserved one
+unfoldable pub inst_of : ℕ → Option Inst
+inst_of w = option_map (λ (r : Row). meaning_of r w) (row_of w)
+
+-- the word of a row with these fields, and 0 in each bit that neither selects nor is named
+abbrev pub word_from : Row → List ℕ → ℕ
+word_from r values = with_fields r.value (row_places r) values
+
+-- the word with 0 in each bit that its row neither selects by nor names, or None for a reserved one
+unfoldable pub canonical_of : ℕ → Option ℕ
+canonical_of w = option_map (λ (r : Row). word_from r (fields r w)) (row_of w)
+
+-- the row of an instruction, and its fields in the order of the row's text
+abbrev pub parts : Inst → Row × List ℕ
+parts (Shift r rd rt amount) = (shift_row r, rd ∷ rt ∷ amount ∷ [])
+parts (ShiftBy r rd rt rs) = (shift_by_row r, rd ∷ rt ∷ rs ∷ [])
+parts (JumpRegister rs) = (jump_register_row, rs ∷ [])
+parts (JumpLinkRegister rd rs) = (jump_link_register_row, rd ∷ rs ∷ [])
+parts Break = (break_row, [])
+parts (Register r rd rs rt) = (register_row r, rd ∷ rs ∷ rt ∷ [])
+parts (BranchSign r rs offset) = (branch_sign_row r, rs ∷ offset ∷ [])
+parts (Jump r target) = (jump_row r, target ∷ [])
+parts (BranchEqual r rs rt offset) = (branch_equal_row r, rs ∷ rt ∷ offset ∷ [])
+parts (Immediate r rt rs imm) = (immediate_row r, rt ∷ rs ∷ imm ∷ [])
+parts (LoadUpper rt imm) = (load_upper_row, rt ∷ imm ∷ [])
+parts (Load r rt offset base) = (load_row r, rt ∷ offset ∷ base ∷ [])
+parts (Store r rt offset base) = (store_row r, rt ∷ offset ∷ base ∷ [])
+parts (MoveSp r rt register) = (move_sp_row r, rt ∷ register ∷ [])
+parts (MoveVector r rt vector' element) = (move_vector_row r, rt ∷ vector' ∷ element ∷ [])
+parts (MoveControl r rt control) = (move_control_row r, rt ∷ control_number control ∷ [])
+parts (Multiply r vd vs vt element) = (multiply_row r, vd ∷ vs ∷ vt ∷ element ∷ [])
+parts (ReadAccumulator vd vs vt element) = (read_accumulator_row, vd ∷ vs ∷ vt ∷ element ∷ [])
+parts (VectorAdd r vd vs vt element) = (vector_add_row r, vd ∷ vs ∷ vt ∷ element ∷ [])
+parts (VectorSelect r vd vs vt element) = (vector_select_row r, vd ∷ vs ∷ vt ∷ element ∷ [])
+parts (VectorClip r vd vs vt element) = (vector_clip_row r, vd ∷ vs ∷ vt ∷ element ∷ [])
+parts (VectorMerge vd vs vt element) = (vector_merge_row, vd ∷ vs ∷ vt ∷ element ∷ [])
+parts (VectorLogic r vd vs vt element) = (vector_logic_row r, vd ∷ vs ∷ vt ∷ element ∷ [])
+parts (Lane r vd lane vt element) = (lane_row r, vd ∷ lane ∷ vt ∷ element ∷ [])
+parts (Idle r) = (idle_row r, [])
+parts (VectorLoad r vt element offset base) = (vector_load_row r, vt ∷ element ∷ offset ∷ base ∷ [])
+parts (VectorStore r vt element offset base) = (vector_store_row r, vt ∷ element ∷ offset ∷ base ∷ [])
+
+-- an instruction that some word means
+abbrev pub IsInstruction : Inst → Type 0
+IsInstruction i = FitPlaces (row_places (parts i).0) (parts i).1
+
+-- its canonical word
+abbrev pub word_of : Inst → ℕ
+word_of i = word_from (parts i).0 (parts i).1

@@ -1,0 +1,185 @@
+// Instructions to words.
+
+ghost use Rattle.std.specs.Prelude.{◌≡◌, ◌*◌, ◌^◌, ◌≤◌};
+ghost use Rattle.rsp_decode.specs.Table.{word_of, inst_of, canonical_of, IsInstruction, control_number};
+
+mod scalar;
+mod vector;
+
+use crate::inst::{Control, Inst};
+use scalar::{
+    BREAK, JUMP_LINK_REGISTER, JUMP_REGISTER, LOAD_UPPER, branch_equal_value, branch_sign_value,
+    immediate_value, jump_value, load_value, move_sp_value, register_value, shift_by_value,
+    shift_value, store_value,
+};
+use vector::{
+    READ_ACCUMULATOR, VECTOR_MERGE, idle_value, lane_value, move_control_value, move_vector_value,
+    multiply_value, vector_add_value, vector_clip_value, vector_load_value, vector_logic_value,
+    vector_select_value, vector_store_value,
+};
+
+/// The canonical word of an instruction: the bits that select its row, its named fields at their
+/// places, and 0 in every other bit. It decodes to the instruction again.
+///
+/// The fields must be in the ranges of [`Inst`], as those of what [`decode`](crate::decode) gives
+/// are.
+#[inline]
+pub fn encode(inst: &Inst) -> u32
+    requires { IsInstruction inst.now }
+    ensures value { result ≡ word_of inst.now }
+    ensures meaning { inst_of result ≡ Some inst.now }
+    ensures canonical { canonical_of result ≡ Some result }
+{
+    canonical_word(inst)
+}
+
+fn canonical_word(inst: &Inst) -> u32
+    requires { IsInstruction inst.now }
+    ensures { result ≡ word_of inst.now }
+{
+    match *inst {
+        Inst::Shift {
+            row,
+            rd,
+            rt,
+            amount,
+        } => shift_value(row) | at(rd, 11) | at(rt, 16) | at(amount, 6),
+        Inst::ShiftBy { row, rd, rt, rs } => shift_by_value(row)
+            | at(rd, 11)
+            | at(rt, 16)
+            | at(rs, 21),
+        Inst::JumpRegister { rs } => JUMP_REGISTER | at(rs, 21),
+        Inst::JumpLinkRegister { rd, rs } => JUMP_LINK_REGISTER | at(rd, 11) | at(rs, 21),
+        Inst::Break => BREAK,
+        Inst::Register { row, rd, rs, rt } => register_value(row)
+            | at(rd, 11)
+            | at(rs, 21)
+            | at(rt, 16),
+        Inst::BranchSign { row, rs, offset } => branch_sign_value(row)
+            | at(rs, 21)
+            | u32::from(offset),
+        Inst::Jump { row, target } => jump_value(row) | u32::from(target),
+        Inst::BranchEqual {
+            row,
+            rs,
+            rt,
+            offset,
+        } => branch_equal_value(row) | at(rs, 21) | at(rt, 16) | u32::from(offset),
+        Inst::Immediate { row, rt, rs, imm } => immediate_value(row)
+            | at(rt, 16)
+            | at(rs, 21)
+            | u32::from(imm),
+        Inst::LoadUpper { rt, imm } => LOAD_UPPER | at(rt, 16) | u32::from(imm),
+        Inst::Load {
+            row,
+            rt,
+            offset,
+            base,
+        } => load_value(row) | at(rt, 16) | u32::from(offset) | at(base, 21),
+        Inst::Store {
+            row,
+            rt,
+            offset,
+            base,
+        } => store_value(row) | at(rt, 16) | u32::from(offset) | at(base, 21),
+        Inst::MoveSp { row, rt, register } => move_sp_value(row) | at(rt, 16) | at(register, 11),
+        Inst::MoveVector {
+            row,
+            rt,
+            vector,
+            element,
+        } => move_vector_value(row) | at(rt, 16) | at(vector, 11) | at(element, 7),
+        Inst::MoveControl { row, rt, control } => move_control_value(row)
+            | at(rt, 16)
+            | at(control_bits(control), 11),
+        Inst::Multiply {
+            row,
+            vd,
+            vs,
+            vt,
+            element,
+        } => multiply_value(row) | at(vd, 6) | at(vs, 11) | at(vt, 16) | at(element, 21),
+        Inst::ReadAccumulator {
+            vd,
+            vs,
+            vt,
+            element,
+        } => READ_ACCUMULATOR | at(vd, 6) | at(vs, 11) | at(vt, 16) | at(element, 21),
+        Inst::VectorAdd {
+            row,
+            vd,
+            vs,
+            vt,
+            element,
+        } => vector_add_value(row) | at(vd, 6) | at(vs, 11) | at(vt, 16) | at(element, 21),
+        Inst::VectorSelect {
+            row,
+            vd,
+            vs,
+            vt,
+            element,
+        } => vector_select_value(row) | at(vd, 6) | at(vs, 11) | at(vt, 16) | at(element, 21),
+        Inst::VectorClip {
+            row,
+            vd,
+            vs,
+            vt,
+            element,
+        } => vector_clip_value(row) | at(vd, 6) | at(vs, 11) | at(vt, 16) | at(element, 21),
+        Inst::VectorMerge {
+            vd,
+            vs,
+            vt,
+            element,
+        } => VECTOR_MERGE | at(vd, 6) | at(vs, 11) | at(vt, 16) | at(element, 21),
+        Inst::VectorLogic {
+            row,
+            vd,
+            vs,
+            vt,
+            element,
+        } => vector_logic_value(row) | at(vd, 6) | at(vs, 11) | at(vt, 16) | at(element, 21),
+        Inst::Lane {
+            row,
+            vd,
+            lane,
+            vt,
+            element,
+        } => lane_value(row) | at(vd, 6) | at(lane, 11) | at(vt, 16) | at(element, 21),
+        Inst::Idle { row } => idle_value(row),
+        Inst::VectorLoad {
+            row,
+            vt,
+            element,
+            offset,
+            base,
+        } => vector_load_value(row) | at(vt, 16) | at(element, 7) | at(offset, 0) | at(base, 21),
+        Inst::VectorStore {
+            row,
+            vt,
+            element,
+            offset,
+            base,
+        } => vector_store_value(row) | at(vt, 16) | at(element, 7) | at(offset, 0) | at(base, 21),
+    }
+}
+
+// A field at its place.
+#[inline]
+fn at(field: u8, low: u32) -> u32
+    requires { low ≤ 24 }
+    ensures { result ≡ field * 2 ^ low }
+{
+    u32::from(field) << low
+}
+
+#[inline]
+fn control_bits(control: Control) -> u8
+    ensures { result ≡ control_number control }
+{
+    match control {
+        Control::Vco => 0,
+        Control::Vcc => 1,
+        Control::Vce => 2,
+    }
+}

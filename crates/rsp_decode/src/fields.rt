@@ -1,0 +1,154 @@
+// The fields of a word, each named for what the rows that have it take it as.
+
+ghost use Rattle.std.specs.Prelude.{◌≡◌};
+ghost use Rattle.rsp_decode.specs.Table.{value_at, whole, capped, control_of};
+
+use crate::inst::Control;
+
+/// Bits 31 to 26.
+#[inline]
+pub fn opcode(word: u32) -> u8
+    ensures { result ≡ value_at word (whole 26 6) }
+{
+    (word >> 26) as u8
+}
+
+/// Bits 5 to 0, which select a row of opcode 0 and a computing one.
+#[inline]
+pub fn function(word: u32) -> u8
+    ensures { result ≡ value_at word (whole 0 6) }
+{
+    (word & 63) as u8
+}
+
+/// Bits 15 to 11, which select a vector load or store.
+#[inline]
+pub fn operation(word: u32) -> u8
+    ensures { result ≡ value_at word (whole 11 5) }
+{
+    (word >> 11 & 31) as u8
+}
+
+/// Bits 25 to 21: a scalar register, the base of a load or store, or what selects a move.
+#[inline]
+pub fn rs(word: u32) -> u8
+    ensures { result ≡ value_at word (whole 21 5) }
+{
+    (word >> 21 & 31) as u8
+}
+
+/// Bits 20 to 16: a scalar register, or what selects a row of opcode 1.
+#[inline]
+pub fn rt(word: u32) -> u8
+    ensures { result ≡ value_at word (whole 16 5) }
+{
+    (word >> 16 & 31) as u8
+}
+
+/// Bits 15 to 11: a scalar register, or the vector register of a move.
+#[inline]
+pub fn rd(word: u32) -> u8
+    ensures { result ≡ value_at word (whole 11 5) }
+{
+    (word >> 11 & 31) as u8
+}
+
+/// Bits 10 to 6.
+#[inline]
+pub fn shift_amount(word: u32) -> u8
+    ensures { result ≡ value_at word (whole 6 5) }
+{
+    (word >> 6 & 31) as u8
+}
+
+/// Bits 15 to 0: an immediate, or an offset.
+#[inline]
+pub fn immediate(word: u32) -> u16
+    ensures { result ≡ value_at word (whole 0 16) }
+{
+    (word & 0xffff) as u16
+}
+
+/// Bits 9 to 0, all that counts of where a jump goes.
+#[inline]
+pub fn target(word: u32) -> u16
+    ensures { result ≡ value_at word (whole 0 10) }
+{
+    (word & 0x3ff) as u16
+}
+
+/// Bits 14 to 11: the number of an SP register.
+#[inline]
+pub fn sp_register(word: u32) -> u8
+    ensures { result ≡ value_at word (whole 11 4) }
+{
+    (word >> 11 & 15) as u8
+}
+
+/// Bits 12 and 11: a control register.
+#[inline]
+pub fn control(word: u32) -> Control
+    ensures { result ≡ control_of (value_at word (capped 11 2 2)) }
+{
+    match word >> 11 & 3 {
+        0 => Control::Vco,
+        1 => Control::Vcc,
+        _ => Control::Vce,
+    }
+}
+
+/// Bits 10 to 6: a vector register.
+#[inline]
+pub fn vd(word: u32) -> u8
+    ensures { result ≡ value_at word (whole 6 5) }
+{
+    (word >> 6 & 31) as u8
+}
+
+/// Bits 15 to 11: a vector register.
+#[inline]
+pub fn vs(word: u32) -> u8
+    ensures { result ≡ value_at word (whole 11 5) }
+{
+    (word >> 11 & 31) as u8
+}
+
+/// Bits 20 to 16: a vector register.
+#[inline]
+pub fn vt(word: u32) -> u8
+    ensures { result ≡ value_at word (whole 16 5) }
+{
+    (word >> 16 & 31) as u8
+}
+
+/// Bits 24 to 21: which lanes of `vt` a computing row takes.
+#[inline]
+pub fn element(word: u32) -> u8
+    ensures { result ≡ value_at word (whole 21 4) }
+{
+    (word >> 21 & 15) as u8
+}
+
+/// Bits 13 to 11: the lane that a single-lane row writes.
+#[inline]
+pub fn lane(word: u32) -> u8
+    ensures { result ≡ value_at word (whole 11 3) }
+{
+    (word >> 11 & 7) as u8
+}
+
+/// Bits 10 to 7: the byte of a vector register at which a transfer begins.
+#[inline]
+pub fn byte_element(word: u32) -> u8
+    ensures { result ≡ value_at word (whole 7 4) }
+{
+    (word >> 7 & 15) as u8
+}
+
+/// Bits 6 to 0: the offset of a vector load or store.
+#[inline]
+pub fn vector_offset(word: u32) -> u8
+    ensures { result ≡ value_at word (whole 0 7) }
+{
+    (word & 127) as u8
+}

@@ -1,0 +1,23 @@
+//! The instruction table of the RSP: words of 32 bits to instructions and back.
+//!
+//! [`decode`] gives what a word means, None for a reserved word; [`encode`] gives an instruction's
+//! canonical word; [`is_canonical`] tells whether a word is that of its own meaning. The table
+//! itself is `specs/Table`: a list of rows, each with the bits that select it, its name, the
+//! operands of its text, and the instruction that it means. [`laws`] says that no word fits two.
+#![tactic(auto)]
+
+mod decoding;
+mod encoding;
+mod fields;
+mod inst;
+pub mod laws;
+#[cfg(test)]
+mod tests;
+
+pub use decoding::{decode, is_canonical};
+pub use encoding::encode;
+pub use inst::{
+    Control, EqualRow, IdleRow, ImmediateRow, Inst, JumpRow, LaneRow, LoadRow, MoveRow,
+    MultiplyRow, RegisterRow, ShiftByRow, ShiftRow, SignRow, StoreRow, VectorAddRow, VectorClipRow,
+    VectorLoadRow, VectorLogicRow, VectorSelectRow, VectorStoreRow,
+};

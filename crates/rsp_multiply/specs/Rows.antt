@@ -1,0 +1,76 @@
+-- The twelve multiplies, each by its addend, whether it adds to the accumulator, and its clamp.
+use Rattle.std.specs.Prelude.{ℕ, ℤ, pos, ◌*◌, ◌/◌, ◌+ℤ◌, ◌*ℤ◌, Bool, true, false, List, slice_index, nat_eq, if◌then◌else◌}
+use Rattle.rsp_lanes.specs.Lanes.{each_lane}
+use Rattle.rsp_numbers.specs.Numbers.{s16, s48, number, high, middle, low}
+use Rattle.rsp_acc.specs.Parts.{clamp_of}
+use Rattle.rsp_acc.specs.declared.parts.Clamp.{Clamp}
+use Rattle.rsp_acc.specs.declared.parts.Clamp.TheVariants.{Signed, Unsigned, LowKind}
+use Rattle.rsp_multiply.specs.declared.ops.MultiplyOp.{MultiplyOp}
+use Rattle.rsp_multiply.specs.declared.ops.MultiplyOp.TheVariants.{Vmulf, Vmulu, Vmudl, Vmudm, Vmudn, Vmudh, Vmacf, Vmacu, Vmadl, Vmadm, Vmadn, Vmadh}
+
+-- a multiply row: what it makes of a lane a of vs and a lane b of the selected vt, whether that is
+-- added to the accumulator or replaces it, and how the result is taken from the accumulator
+pub record Row : Type 0 where
+  pub addend : ℕ → ℕ → ℤ
+  pub adds : Bool
+  pub clamp : Clamp
+
+-- twice the product of the lanes as signed numbers
+abbrev pub fraction : ℕ → ℕ → ℤ
+fraction a b = pos 2 *ℤ (s16 a *ℤ s16 b)
+
+-- the same and one half of 65536
+abbrev pub rounded : ℕ → ℕ → ℤ
+rounded a b = fraction a b +ℤ pos 32768
+
+-- the product of the lanes as unsigned numbers, divided by 65536 and rounded down
+abbrev pub lower : ℕ → ℕ → ℤ
+lower a b = pos (a * b / 65536)
+
+-- a as a signed number by b as an unsigned one
+abbrev pub middle_left : ℕ → ℕ → ℤ
+middle_left a b = s16 a *ℤ pos b
+
+-- a as an unsigned number by b as a signed one
+abbrev pub middle_right : ℕ → ℕ → ℤ
+middle_right a b = pos a *ℤ s16 b
+
+-- the product of the lanes as signed numbers, times 65536
+abbrev pub upper : ℕ → ℕ → ℤ
+upper a b = (s16 a *ℤ s16 b) *ℤ pos 65536
+
+-- the table of the twelve rows
+abbrev pub row : MultiplyOp → Row
+row Vmulf = record { addend = rounded; adds = false; clamp = Signed }
+row Vmulu = record { addend = rounded; adds = false; clamp = Unsigned }
+row Vmudl = record { addend = lower; adds = false; clamp = LowKind }
+row Vmudm = record { addend = middle_left; adds = false; clamp = Signed }
+row Vmudn = record { addend = middle_right; adds = false; clamp = LowKind }
+row Vmudh = record { addend = upper; adds = false; clamp = Signed }
+row Vmacf = record { addend = fraction; adds = true; clamp = Signed }
+row Vmacu = record { addend = fraction; adds = true; clamp = Unsigned }
+row Vmadl = record { addend = lower; adds = true; clamp = LowKind }
+row Vmadm = record { addend = middle_left; adds = true; clamp = Signed }
+row Vmadn = record { addend = middle_right; adds = true; clamp = LowKind }
+row Vmadh = record { addend = upper; adds = true; clamp = Signed }
+
+-- the accumulator x after a row on the lanes a and b
+abbrev pub accumulated : MultiplyOp → ℤ → ℕ → ℕ → ℤ
+accumulated op x a b = s48 (if (row op).adds then x +ℤ (row op).addend a b else (row op).addend a b)
+
+-- the sixteen bits of the accumulator x that VSAR reads: the high ones for e 8, the middle ones for
+-- e 9, the low ones for e 10, and 0 for any other e
+abbrev pub sar_lane : ℕ → ℤ → ℕ
+sar_lane e x = if nat_eq e 8 then high x else if nat_eq e 9 then middle x else if nat_eq e 10 then low x else 0
+
+-- the eight accumulators after a row on the registers a and b, from the eight before it
+unfoldable pub accumulators_after : MultiplyOp → List ℕ → List ℕ → List ℤ → List ℤ
+accumulators_after op a b xs = each_lane (λ i. accumulated op (number xs i) (slice_index a i) (slice_index b i))
+
+-- the result of a row, from the eight accumulators after it
+unfoldable pub clamped_by : MultiplyOp → List ℤ → List ℕ
+clamped_by op xs = each_lane (λ i. clamp_of (row op).clamp (number xs i))
+
+-- the result of VSAR, from the eight accumulators
+unfoldable pub sar_of : ℕ → List ℤ → List ℕ
+sar_of e xs = each_lane (λ i. sar_lane e (number xs i))

@@ -1,0 +1,109 @@
+//! Products of lanes by the unsigned product and corrections, all in lanes of sixteen bits.
+//!
+//! `let _ = a.to_simd();` tells the proof that the lanes are below 65536; it emits no instruction.
+
+ghost use Rattle.std.specs.Prelude.{◌≡◌, ◌*ℤ◌, pos, slice_index, nat_lt, if◌then◌else◌};
+ghost use Rattle.rsp_lanes.specs.Lanes.{each_lane};
+ghost use Rattle.rsp_numbers.specs.Numbers.{s16, modulo, floor_div, join};
+ghost use Rattle.rsp_multiply.specs.Rows.{rounded, lower, middle_left, upper, fraction};
+
+use rsp_acc::Addends;
+use rsp_lanes::VReg;
+
+/// The high and the low half of the products of the lanes as signed numbers. Of an unsigned product
+/// the high half has b too many where a is negative, and a too many where b is.
+#[inline(always)]
+pub(crate) fn signed_product(a: &VReg, b: &VReg) -> (VReg, VReg)
+    ensures high { result.0 ≡ each_lane (λ i. modulo (floor_div (s16 (slice_index a.now i) *ℤ s16 (slice_index b.now i)) 65536) 65536) }
+    ensures low { result.1 ≡ each_lane (λ i. modulo (s16 (slice_index a.now i) *ℤ s16 (slice_index b.now i)) 65536) }
+{
+    let _ = a.to_simd();
+    let _ = b.to_simd();
+    let zeros = VReg::splat(0);
+    let (high, low) = a.product(b);
+    let high = high.subtract(&a.is_negative().merge(b, &zeros));
+    let high = high.subtract(&b.is_negative().merge(a, &zeros));
+    (high, low)
+}
+
+/// The high and the low half of the products of a's lanes as signed numbers and b's as unsigned
+/// ones.
+#[inline(always)]
+pub(crate) fn mixed_product(a: &VReg, b: &VReg) -> (VReg, VReg)
+    ensures high { result.0 ≡ each_lane (λ i. modulo (floor_div (s16 (slice_index a.now i) *ℤ pos (slice_index b.now i)) 65536) 65536) }
+    ensures low { result.1 ≡ each_lane (λ i. modulo (s16 (slice_index a.now i) *ℤ pos (slice_index b.now i)) 65536) }
+{
+    let _ = a.to_simd();
+    let _ = b.to_simd();
+    let (high, low) = a.product(b);
+    let high = high.subtract(&a.is_negative().merge(b, &VReg::splat(0)));
+    (high, low)
+}
+
+/// The signed numbers of 32 bits with these halves.
+#[inline(always)]
+fn extended(high: &VReg, low: &VReg) -> Addends
+    ensures { result ≡ each_lane (λ i. join (if nat_lt 32767 (slice_index high.now i) then 65535 else 0) (slice_index high.now i) (slice_index low.now i)) }
+{
+    let sign = high
+        .is_negative()
+        .merge(&VReg::splat(0xffff), &VReg::splat(0));
+    Addends::from_planes(&sign, high, low)
+}
+
+/// Twice the signed products.
+#[inline(always)]
+pub(crate) fn fraction(a: &VReg, b: &VReg) -> Addends
+    ensures { result ≡ each_lane (λ i. fraction (slice_index a.now i) (slice_index b.now i)) }
+{
+    let _ = a.to_simd();
+    let _ = b.to_simd();
+    let (high, low) = signed_product(a, b);
+    let product = extended(&high, &low);
+    product.plus(&product)
+}
+
+/// Twice the signed products and one half of 65536.
+#[inline(always)]
+pub(crate) fn rounded(a: &VReg, b: &VReg) -> Addends
+    ensures { result ≡ each_lane (λ i. rounded (slice_index a.now i) (slice_index b.now i)) }
+{
+    let _ = a.to_simd();
+    let _ = b.to_simd();
+    let zeros = VReg::splat(0);
+    fraction(a, b).plus(&Addends::from_planes(&zeros, &zeros, &VReg::splat(0x8000)))
+}
+
+/// The unsigned products divided by 65536, rounded down.
+#[inline(always)]
+pub(crate) fn lower(a: &VReg, b: &VReg) -> Addends
+    ensures { result ≡ each_lane (λ i. lower (slice_index a.now i) (slice_index b.now i)) }
+{
+    let _ = a.to_simd();
+    let _ = b.to_simd();
+    let zeros = VReg::splat(0);
+    let (high, _) = a.product(b);
+    Addends::from_planes(&zeros, &zeros, &high)
+}
+
+/// The products of a's lanes as signed numbers and b's as unsigned ones.
+#[inline(always)]
+pub(crate) fn middle(a: &VReg, b: &VReg) -> Addends
+    ensures { result ≡ each_lane (λ i. middle_left (slice_index a.now i) (slice_index b.now i)) }
+{
+    let _ = a.to_simd();
+    let _ = b.to_simd();
+    let (high, low) = mixed_product(a, b);
+    extended(&high, &low)
+}
+
+/// The signed products times 65536.
+#[inline(always)]
+pub(crate) fn upper(a: &VReg, b: &VReg) -> Addends
+    ensures { result ≡ each_lane (λ i. upper (slice_index a.now i) (slice_index b.now i)) }
+{
+    let _ = a.to_simd();
+    let _ = b.to_simd();
+    let (high, low) = signed_product(a, b);
+    Addends::from_planes(&high, &low, &VReg::splat(0))
+}

@@ -1,0 +1,89 @@
+ghost use Rattle.std.specs.Prelude.{◌≡◌, slice_index};
+ghost use Rattle.rsp_lanes.specs.Lanes.{each_lane};
+ghost use Rattle.rsp_multiply.specs.Rows.{row, accumulators_after, clamped_by, sar_of};
+
+use crate::MultiplyOp;
+use crate::products::{fraction, lower, middle, rounded, upper};
+use rsp_acc::{Acc, Addends, Clamp, Part};
+use rsp_lanes::VReg;
+
+impl MultiplyOp {
+    /// What the row makes of the lanes of a and b.
+    #[inline(always)]
+    fn addends(self, a: &VReg, b: &VReg) -> Addends
+        ensures { result ≡ each_lane (λ i. (row self).addend (slice_index a.now i) (slice_index b.now i)) }
+    {
+        match self {
+            MultiplyOp::Vmulf | MultiplyOp::Vmulu => rounded(a, b),
+            MultiplyOp::Vmacf | MultiplyOp::Vmacu => fraction(a, b),
+            MultiplyOp::Vmudl | MultiplyOp::Vmadl => lower(a, b),
+            MultiplyOp::Vmudm | MultiplyOp::Vmadm => middle(a, b),
+            MultiplyOp::Vmudn | MultiplyOp::Vmadn => middle(b, a),
+            MultiplyOp::Vmudh | MultiplyOp::Vmadh => upper(a, b),
+        }
+    }
+
+    /// Whether the row adds to the accumulators, or replaces them.
+    #[inline(always)]
+    fn adds(self) -> bool
+        ensures { result ≡ (row self).adds }
+    {
+        match self {
+            MultiplyOp::Vmacf
+            | MultiplyOp::Vmacu
+            | MultiplyOp::Vmadl
+            | MultiplyOp::Vmadm
+            | MultiplyOp::Vmadn
+            | MultiplyOp::Vmadh => true,
+            _ => false,
+        }
+    }
+
+    /// How the row takes its result from the accumulators.
+    #[inline(always)]
+    fn clamp(self) -> Clamp
+        ensures { result ≡ (row self).clamp }
+    {
+        match self {
+            MultiplyOp::Vmulu | MultiplyOp::Vmacu => Clamp::Unsigned,
+            MultiplyOp::Vmudl | MultiplyOp::Vmudn | MultiplyOp::Vmadl | MultiplyOp::Vmadn => {
+                Clamp::LowKind
+            }
+            _ => Clamp::Signed,
+        }
+    }
+}
+
+/// One of the twelve multiplies: a is the register vs, b the selected vt. The accumulators become
+/// the row's addends, or their sums with them, as numbers of 48 bits, and the result is the row's
+/// clamp of the new accumulators.
+#[inline(always)]
+pub fn multiply<A: Acc>(op: MultiplyOp, a: &VReg, b: &VReg, acc: &mut A) -> VReg
+    ensures accumulators { A.numbers acc.new ≡ accumulators_after op a.now b.now (A.numbers acc.old) }
+    ensures value { result ≡ clamped_by op (A.numbers acc.new) }
+{
+    // These two lines tell the proof that the lanes are below 65536.
+    let _ = a.to_simd();
+    let _ = b.to_simd();
+    let addends = op.addends(a, b);
+    if op.adds() {
+        acc.add(&addends);
+    } else {
+        acc.replace(&addends);
+    }
+    acc.clamp(op.clamp())
+}
+
+/// VSAR: the high, middle or low sixteen bits of the accumulators for an element e of 8, 9 or 10,
+/// and zeros for any other. The accumulators are kept.
+#[inline(always)]
+pub fn sar<A: Acc>(e: usize, acc: &A) -> VReg
+    ensures { result ≡ sar_of e (A.numbers acc.now) }
+{
+    match e {
+        8 => acc.part(Part::High),
+        9 => acc.part(Part::Middle),
+        10 => acc.part(Part::Low),
+        _ => VReg::splat(0),
+    }
+}
