@@ -1,0 +1,10 @@
+use Rattle.std.proofs.Common.{◌≡◌, ◌≤◌, ◌+◌, ◌*◌, ◌++◌, length}
+use Rattle.rsp_regs.specs.Sp.{peeked}
+use Rattle.rsp_reply.specs.Text.{each_text}
+use Rattle.rsp_bench.specs.Looks.{sp_line}
+use Rattle.rsp_bench.proofs.looks.push_sp_lines.Given as goal
+
+abbrev pub invariant-loop-n : goal.invariant-loop-n
+invariant-loop-n l =
+    (l.reply ≡ l.initial.reply ++ each_text (λ n. sp_line n (peeked n l.sp)) l.n)
+    × (length l.reply ≤ length l.initial.reply + 13 * l.n)

@@ -1,0 +1,10 @@
+use Rattle.std.proofs.Common.{◌≡◌, ◌+◌, ◌*◌, ◌++◌, length}
+use Rattle.rsp_loadstore.specs.File.{register as vector}
+use Rattle.rsp_reply.specs.Text.{each_text}
+use Rattle.rsp_bench.specs.Looks.{vector_line}
+use Rattle.rsp_bench.proofs.vector_looks.push_vector_lines.Given as goal
+
+abbrev pub invariant-loop-n : goal.invariant-loop-n
+invariant-loop-n g l =
+    (l.reply ≡ l.initial.reply ++ each_text (λ n. vector_line n (vector l.machine.vectors n)) l.n)
+    × (length l.reply ≡ length l.initial.reply + 44 * l.n)

@@ -1,0 +1,6 @@
+-- The bench: what its commands come to.
+pub mod Looks
+pub mod Replies
+pub mod Session
+pub mod Run
+pub mod Alike

@@ -1,0 +1,25 @@
+-- What the bench writes for a script.
+use Rattle.std.specs.Prelude.{ℕ, List}
+use Rattle.std.specs.Str.Lines.{lines}
+use Rattle.rsp_lines.specs.Replies.{final, out_of as written_of}
+use Rattle.rsp_machine.specs.State.{start_of}
+use Rattle.rsp_bench.specs.Session.{Scene, line_outcome, closing, first_scene}
+use Rattle.rsp_bench.specs.declared.run.BenchEnd.{BenchEnd}
+use Rattle.rsp_bench.specs.declared.run.BenchEnd.TheVariants.{Finished, ReadFault, WriteFault, ScriptTooLong, OutOfMemory}
+
+-- all that is written for a script: the replies to its lines, each in the session that the lines before it left, and
+-- what is left to say at its end
+abbrev pub out_of : List ℕ → List ℕ → List ℕ
+out_of script image = written_of line_outcome closing script (first_scene image)
+
+-- the session that the lines of a script leave
+abbrev pub session_of : List ℕ → List ℕ → Scene
+session_of script image = final line_outcome (lines script) (first_scene image)
+
+-- p of the session, where the run finished
+abbrev pub IfFinished : BenchEnd → (Scene → Type 0) → Type 0
+IfFinished (Finished s) p = p s
+IfFinished ReadFault p = Unit {0}
+IfFinished WriteFault p = Unit {0}
+IfFinished ScriptTooLong p = Unit {0}
+IfFinished OutOfMemory p = Unit {0}

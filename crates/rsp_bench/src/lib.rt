@@ -1,0 +1,17 @@
+//! The bench: scripts and their replies.
+#![tactic(auto)]
+
+mod looks;
+mod replies;
+mod run;
+mod session;
+mod vector_looks;
+
+pub use rsp_ends::{EndFault, FromRead, MemSink, MemSource, Sink, Source, ToWrite};
+pub use rsp_reply::Reply;
+pub use rsp_script::{Command, LineFault, SourceLine, parse_line};
+pub use run::{BenchEnd, run_bench};
+pub use session::Session;
+
+#[cfg(test)]
+mod tests;

@@ -1,0 +1,138 @@
+ghost use Rattle.std.specs.Prelude.{◌≡◌, ℕ, ◌+◌, ◌*◌, ◌<◌, ◌≤◌, ◌++◌, List, length, slice_index};
+ghost use Rattle.rsp_loadstore.specs.File.{register as vector};
+ghost use Rattle.rsp_reply.specs.Text.{each_text};
+ghost use Rattle.rsp_bench.specs.Looks.{half_text, vector_line, vectors_text, accumulator_line, accumulators_text, flags_text};
+ghost use Rattle.rsp_loadstore.specs.Controls.{joined};
+
+use rsp_acc::{Acc, Part};
+use rsp_divide::Divider;
+use rsp_flags::Flags;
+use rsp_lanes::{Mask8, VReg};
+use rsp_machine::Machine;
+use rsp_reply::{REPLY_LIMIT, Reply};
+
+#[tactic(auto, using(rsp_reply::proofs::Texts::parts), unfolding(crate::specs::Looks::half_text))]
+fn push_half(reply: &mut Reply, half: u16)
+    requires { length reply.old + 5 ≤ REPLY_LIMIT }
+    ensures text { reply.new ≡ reply.old ++ half_text half }
+    ensures len { length reply.new ≡ length reply.old + 5 }
+{
+    reply.push_text(b" ");
+    reply.push_hex(u64::from(half), 4);
+}
+
+#[tactic(auto, using(rsp_reply::proofs::Texts::parts))]
+fn push_lanes(reply: &mut Reply, register: &VReg)
+    requires { length reply.old + 40 ≤ REPLY_LIMIT }
+    ensures text { reply.new ≡ reply.old ++ each_text (λ i. half_text (slice_index register.now i)) 8 }
+    ensures len { length reply.new ≡ length reply.old + 40 }
+{
+    for i in 0..8 {
+        push_half(reply, register.lane(i));
+    }
+}
+
+#[tactic(auto, using(rsp_reply::proofs::Texts::parts), unfolding(crate::specs::Looks::vector_line))]
+fn push_vector_line(reply: &mut Reply, n: u8, register: &VReg)
+    requires register { n < 32 }
+    requires room { length reply.old + 44 ≤ REPLY_LIMIT }
+    ensures text { reply.new ≡ reply.old ++ vector_line n register.now }
+    ensures len { length reply.new ≡ length reply.old + 44 }
+{
+    reply.push_text(b"v");
+    reply.push_two_digits(n);
+    push_lanes(reply, register);
+    reply.push_text(b"\n");
+}
+
+#[tactic(auto, using(rsp_reply::proofs::Texts::parts))]
+fn push_vector_lines<A: Acc>(reply: &mut Reply, machine: &Machine<A>)
+    requires { length reply.old + 1408 ≤ REPLY_LIMIT }
+    ensures { reply.new ≡ reply.old ++ each_text (λ n. vector_line n (vector machine.now.vectors n)) 32 }
+{
+    for n in 0..32 {
+        let register = machine.vreg(n);
+        push_vector_line(reply, n, &register);
+    }
+}
+
+/// The 32 vector registers.
+#[tactic(auto, using(rsp_reply::proofs::Texts::parts), unfolding(crate::specs::Looks::vectors_text))]
+pub(crate) fn vector_registers<A: Acc>(machine: &Machine<A>) -> Reply
+    ensures { result ≡ vectors_text machine.now.vectors }
+{
+    let mut reply = Reply::new();
+    push_vector_lines(&mut reply, machine);
+    reply
+}
+
+/// One accumulator, by its parts.
+#[tactic(auto, using(rsp_reply::proofs::Texts::parts), unfolding(crate::specs::Looks::accumulator_line))]
+fn push_accumulator_line(reply: &mut Reply, i: u8, high: u16, middle: u16, low: u16)
+    requires lane { i < 8 }
+    requires room { length reply.old + 17 ≤ REPLY_LIMIT }
+    ensures text { reply.new ≡ reply.old ++ accumulator_line i high middle low }
+    ensures len { length reply.new ≤ length reply.old + 17 }
+{
+    reply.push_text(b"a");
+    reply.push_decimal(i);
+    reply.push_text(b" ");
+    reply.push_hex(u64::from(high), 4);
+    reply.push_hex(u64::from(middle), 4);
+    reply.push_hex(u64::from(low), 4);
+    reply.push_text(b"\n");
+}
+
+/// Eight accumulators, by their parts.
+#[tactic(auto, using(rsp_reply::proofs::Texts::parts))]
+fn push_accumulator_lines(reply: &mut Reply, high: &VReg, middle: &VReg, low: &VReg)
+    requires { length reply.old + 136 ≤ REPLY_LIMIT }
+    ensures { reply.new ≡ reply.old ++ each_text (λ i. accumulator_line i (slice_index high.now i) (slice_index middle.now i) (slice_index low.now i)) 8 }
+{
+    for i in 0..8 {
+        let lane = usize::from(i);
+        push_accumulator_line(reply, i, high.lane(lane), middle.lane(lane), low.lane(lane));
+    }
+}
+
+/// The eight accumulators.
+#[tactic(auto, using(rsp_reply::proofs::Texts::parts))]
+pub(crate) fn accumulators<A: Acc>(acc: &A) -> Reply
+    ensures { result ≡ accumulators_text (A.numbers acc.now) }
+{
+    let mut reply = Reply::new();
+    let (high, middle, low) = (
+        acc.part(Part::High),
+        acc.part(Part::Middle),
+        acc.part(Part::Low),
+    );
+    push_accumulator_lines(&mut reply, &high, &middle, &low);
+    reply
+}
+
+fn joined(low: Mask8, high: Mask8) -> u64
+    ensures { result ≡ joined low high }
+{
+    low.bits() + high.bits() * 256
+}
+
+/// The control registers, and the divider.
+#[tactic(auto, using(rsp_reply::proofs::Texts::parts), unfolding(crate::specs::Looks::flags_text))]
+pub(crate) fn flags_and_divider(flags: &Flags, divider: &Divider) -> Reply
+    ensures { result ≡ flags_text flags.now divider.now }
+{
+    let mut reply = Reply::new();
+    reply.push_text(b"vco ");
+    reply.push_hex(joined(flags.carry, flags.differ), 4);
+    reply.push_text(b" vcc ");
+    reply.push_hex(joined(flags.compare, flags.clip), 4);
+    reply.push_text(b" vce ");
+    reply.push_hex(flags.extra.bits(), 2);
+    reply.push_text(b" in ");
+    reply.push_hex(u64::from(divider.input), 4);
+    reply.push_text(b" out ");
+    reply.push_hex(u64::from(divider.output), 4);
+    reply.push_text(b" loaded ");
+    reply.push_text(if divider.loaded { b"1\n" } else { b"0\n" });
+    reply
+}

@@ -1,0 +1,12 @@
+use Rattle.std.proofs.Common.{refl}
+use Rattle.rsp_flags.proofs.Rules.{results_are, lows_are, flags_are, numbers_are}
+use Rattle.rsp_compare.proofs.logic.logic_op.Goals as goal
+
+pub returns-clause-value : goal.returns-clause-value
+returns-clause-value g c = results_are _ _ _ _ _ _ c.bits-result.ensures (λ i h. refl)
+
+pub returns-clause-flags : goal.returns-clause-flags
+returns-clause-flags g c = flags_are _ _ _ _ _ _ c.keep.ensures (λ i h. refl)
+
+pub returns-clause-accumulator : goal.returns-clause-accumulator
+returns-clause-accumulator g c = numbers_are _ _ _ _ _ _ _ c.set_low.ensures (lows_are _ _ _ _ _ _ c.bits-result.ensures (λ i h. refl))

@@ -1,0 +1,14 @@
+use Rattle.std.proofs.Common.{refl, false}
+use Rattle.rsp_lanes.proofs.Kit.{lane_of}
+use Rattle.rsp_flags.proofs.Rules.{results_are, lows_are, flags_are, numbers_are}
+use Rattle.rsp_flags.proofs.Lanes.{flags_of, with_vcc}
+use Rattle.rsp_compare.proofs.selects.select_op.Goals as goal
+
+pub returns-clause-value : goal.returns-clause-value
+returns-clause-value g c = results_are _ _ _ _ _ _ c.merge-result.ensures (λ i h. rw (lane_of false _ _ c.taken-taken.ensures i h) refl)
+
+pub returns-clause-flags : goal.returns-clause-flags
+returns-clause-flags g c = flags_are _ _ _ _ _ _ c.set_vcc.ensures (λ i h. rw (lane_of false _ _ c.taken-taken.ensures i h, lane_of false _ _ c.splat.ensures i h) (with_vcc _ _ _ _ (flags_of _ _ c.clear_vco.ensures i h)))
+
+pub returns-clause-accumulator : goal.returns-clause-accumulator
+returns-clause-accumulator g c = numbers_are _ _ _ _ _ _ _ c.set_low.ensures (lows_are _ _ _ _ _ _ c.merge-result.ensures (λ i h. rw (lane_of false _ _ c.taken-taken.ensures i h) refl))

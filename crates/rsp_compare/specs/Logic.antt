@@ -1,0 +1,22 @@
+-- The logic rows, each by its rule for one lane.
+use Rattle.std.specs.Prelude.{ℕ, ◌-◌}
+use Rattle.std.specs.Int.Bits.{bit_and, bit_or, bit_xor}
+use Rattle.rsp_flags.specs.Outcome.{Rule, plain}
+use Rattle.rsp_compare.specs.declared.logic.LogicOp.{LogicOp}
+use Rattle.rsp_compare.specs.declared.logic.LogicOp.TheVariants.{Vand, Vnand, Vor, Vnor, Vxor, Vnxor}
+
+-- n with each of its sixteen bits turned
+abbrev pub complement : ℕ → ℕ
+complement n = 65535 - n
+
+abbrev pub bits_of : LogicOp → ℕ → ℕ → ℕ
+bits_of Vand a b = bit_and a b
+bits_of Vnand a b = complement (bit_and a b)
+bits_of Vor a b = bit_or a b
+bits_of Vnor a b = complement (bit_or a b)
+bits_of Vxor a b = bit_xor a b
+bits_of Vnxor a b = complement (bit_xor a b)
+
+-- all flags are kept
+abbrev pub logic_rule : LogicOp → Rule
+logic_rule op a b f = plain (bits_of op a b) f

@@ -1,0 +1,42 @@
+-- The compare and merge rows, each by its rule for one lane. A flag that a rule doesn't name is kept.
+use Rattle.std.specs.Prelude.{ℕ, Bool, false, not, ◌&&◌, ◌||◌, int_lt, if◌then◌else◌}
+use Rattle.std.specs.Ordering.{int_eq}
+use Rattle.rsp_numbers.specs.Numbers.{s16}
+use Rattle.rsp_flags.specs.Flags.{LaneFlags, vco_cleared}
+use Rattle.rsp_flags.specs.Outcome.{Rule, plain}
+use Rattle.rsp_compare.specs.declared.selects.SelectOp.{SelectOp}
+use Rattle.rsp_compare.specs.declared.selects.SelectOp.TheVariants.{Vlt, Veq, Vne, Vge}
+use Rattle.rsp_compare.specs.declared.selects.MergeOp.{MergeOp}
+use Rattle.rsp_compare.specs.declared.selects.MergeOp.TheVariants.{Vmrg}
+
+-- whether the comparison holds
+abbrev pub vlt : ℕ → ℕ → LaneFlags → Bool
+vlt a b f = int_lt (s16 a) (s16 b) || (int_eq (s16 a) (s16 b) && (f.carry && f.differ))
+
+abbrev pub veq : ℕ → ℕ → LaneFlags → Bool
+veq a b f = int_eq (s16 a) (s16 b) && not f.differ
+
+abbrev pub vne : ℕ → ℕ → LaneFlags → Bool
+vne a b f = not (int_eq (s16 a) (s16 b)) || f.differ
+
+abbrev pub vge : ℕ → ℕ → LaneFlags → Bool
+vge a b f = int_lt (s16 b) (s16 a) || (int_eq (s16 a) (s16 b) && not (f.carry && f.differ))
+
+abbrev pub is_taken : SelectOp → ℕ → ℕ → LaneFlags → Bool
+is_taken Vlt = vlt
+is_taken Veq = veq
+is_taken Vne = vne
+is_taken Vge = vge
+
+-- a where it holds, else b; compare is the answer, clip and VCO are cleared
+abbrev pub select_rule : SelectOp → Rule
+select_rule op a b f =
+    plain (if is_taken op a b f then a else b)
+    (record f { carry = false; differ = false; compare = is_taken op a b f; clip = false })
+
+-- a where compare is set, else b; VCO is cleared
+abbrev pub vmrg : Rule
+vmrg a b f = plain (if f.compare then a else b) (vco_cleared f)
+
+abbrev pub merge_rule : MergeOp → Rule
+merge_rule Vmrg = vmrg

@@ -1,0 +1,137 @@
+ghost use Rattle.std.specs.Prelude.{◌≡◌, ◌+ℤ◌, pos, slice_index, slice_index_or, false};
+ghost use Rattle.rsp_lanes.specs.Lanes.{each_lane, bit};
+ghost use Rattle.rsp_numbers.specs.Numbers.{s16, clamp16};
+ghost use Rattle.rsp_flags.specs.Outcome.{results_of, lows_of, flags_after, numbers_after};
+ghost use Rattle.rsp_compare.specs.Adds.{word, vadd, vsub, vabs, vaddc, vsubc, add_rule};
+
+use rsp_acc::Acc;
+use rsp_flags::Flags;
+use rsp_lanes::{Mask8, VReg};
+
+/// An add row.
+#[derive(Clone, Copy, PartialEq, Eq, Debug, Drop)]
+pub enum AddOp {
+    /// The signed sum with the carry, clamped.
+    Vadd,
+    /// The signed difference less the carry, clamped.
+    Vsub,
+    /// b with the sign of a: -b, 0 or b.
+    Vabs,
+    /// The sum modulo 65536; its carry goes to VCO.
+    Vaddc,
+    /// The difference modulo 65536; VCO tells where it fell below 0, and where it isn't 0.
+    Vsubc,
+}
+
+/// Does an add row: gives the results, writes them to the low sixteen bits of the accumulators (for VADD and VSUB the
+/// number before the clamp) and writes VCO. VABS writes no flag; VCC and VCE always stay.
+#[inline]
+pub fn add_op<A: Acc>(op: AddOp, a: &VReg, b: &VReg, flags: &mut Flags, acc: &mut A) -> VReg
+    ensures value { result ≡ results_of (add_rule op) a.now b.now flags.old }
+    ensures flags { flags.new ≡ flags_after (add_rule op) a.now b.now flags.old }
+    ensures accumulator { A.numbers acc.new ≡ numbers_after (add_rule op) a.now b.now flags.old (A.numbers acc.old) }
+{
+    let (result, low) = op.sums(a, b, flags);
+    acc.set_low(&low);
+    result
+}
+
+impl AddOp {
+    /// The results, and the low sixteen bits of the accumulators.
+    #[inline(always)]
+    fn sums(self, a: &VReg, b: &VReg, flags: &mut Flags) -> (VReg, VReg)
+        ensures value { result.0 ≡ results_of (add_rule self) a.now b.now flags.old }
+        ensures low { result.1 ≡ lows_of (add_rule self) a.now b.now flags.old }
+        ensures flags { flags.new ≡ flags_after (add_rule self) a.now b.now flags.old }
+    {
+        match self {
+            AddOp::Vadd => add(a, b, flags),
+            AddOp::Vsub => subtract(a, b, flags),
+            AddOp::Vabs => absolute(a, b, flags),
+            AddOp::Vaddc => add_carried(a, b, flags),
+            AddOp::Vsubc => subtract_borrowed(a, b, flags),
+        }
+    }
+}
+
+/// The signed sums with the carries, clamped, and modulo 65536. Numbers that are 32768 too great are added: the carry out and
+/// the sum's top bit then tell which limit the sum passed.
+#[inline(always)]
+fn clamped_sums(a: &VReg, b: &VReg, carry: Mask8) -> (VReg, VReg)
+    ensures value { result.0 ≡ each_lane (λ i. word (clamp16 (s16 (slice_index a.now i) +ℤ s16 (slice_index b.now i) +ℤ pos (bit (slice_index_or carry i false))))) }
+    ensures low { result.1 ≡ each_lane (λ i. word (s16 (slice_index a.now i) +ℤ s16 (slice_index b.now i) +ℤ pos (bit (slice_index_or carry i false)))) }
+{
+    let _ = a.to_simd();
+    let _ = b.to_simd();
+    let half = VReg::splat(0x8000);
+    let (sum, carried) = a.add(&half).add_carrying(&b.add(&half), carry);
+    let top = sum.is_negative();
+    let low_end = carried.or(top).merge(&sum, &half);
+    let clamped = carried.and(top).merge(&VReg::splat(0x7fff), &low_end);
+    (clamped, sum)
+}
+
+#[inline(always)]
+fn add(a: &VReg, b: &VReg, flags: &mut Flags) -> (VReg, VReg)
+    ensures value { result.0 ≡ results_of vadd a.now b.now flags.old }
+    ensures low { result.1 ≡ lows_of vadd a.now b.now flags.old }
+    ensures flags { flags.new ≡ flags_after vadd a.now b.now flags.old }
+{
+    let sums = clamped_sums(a, b, flags.carry);
+    flags.clear_vco();
+    sums
+}
+
+/// The difference less the carry is the sum with the complement and with 1 where the carry is clear.
+#[inline(always)]
+fn subtract(a: &VReg, b: &VReg, flags: &mut Flags) -> (VReg, VReg)
+    ensures value { result.0 ≡ results_of vsub a.now b.now flags.old }
+    ensures low { result.1 ≡ lows_of vsub a.now b.now flags.old }
+    ensures flags { flags.new ≡ flags_after vsub a.now b.now flags.old }
+{
+    let _ = b.to_simd();
+    let sums = clamped_sums(a, &b.not(), flags.carry.not());
+    flags.clear_vco();
+    sums
+}
+
+#[inline(always)]
+fn absolute(a: &VReg, b: &VReg, flags: &mut Flags) -> (VReg, VReg)
+    ensures value { result.0 ≡ results_of vabs a.now b.now flags.old }
+    ensures low { result.1 ≡ lows_of vabs a.now b.now flags.old }
+    ensures flags { flags.new ≡ flags_after vabs a.now b.now flags.old }
+{
+    let _ = a.to_simd();
+    let _ = b.to_simd();
+    let negative = a.is_negative();
+    let signed = negative.merge(&b.negate(), b);
+    let low = a.is_zero().merge(&VReg::new(), &signed);
+    let passes = negative.and(b.is_equal(&VReg::splat(0x8000)));
+    flags.keep();
+    (passes.merge(&VReg::splat(0x7fff), &low), low)
+}
+
+#[inline(always)]
+fn add_carried(a: &VReg, b: &VReg, flags: &mut Flags) -> (VReg, VReg)
+    ensures value { result.0 ≡ results_of vaddc a.now b.now flags.old }
+    ensures low { result.1 ≡ lows_of vaddc a.now b.now flags.old }
+    ensures flags { flags.new ≡ flags_after vaddc a.now b.now flags.old }
+{
+    let clear = Mask8::splat(false);
+    let (sum, carry) = a.add_carrying(b, clear);
+    flags.set_vco(carry, clear);
+    (sum, sum)
+}
+
+#[inline(always)]
+fn subtract_borrowed(a: &VReg, b: &VReg, flags: &mut Flags) -> (VReg, VReg)
+    ensures value { result.0 ≡ results_of vsubc a.now b.now flags.old }
+    ensures low { result.1 ≡ lows_of vsubc a.now b.now flags.old }
+    ensures flags { flags.new ≡ flags_after vsubc a.now b.now flags.old }
+{
+    let _ = a.to_simd();
+    let _ = b.to_simd();
+    let difference = a.subtract(b);
+    flags.set_vco(a.is_below(b), a.is_equal(b).not());
+    (difference, difference)
+}

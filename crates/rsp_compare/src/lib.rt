@@ -1,0 +1,20 @@
+//! The add, compare, clip, merge and logic rows of the vector unit, over every accumulator.
+//!
+//! Each public call takes a row, the two operands (the second is what the row's element selects), the flags and
+//! the accumulators, and gives the register that is written. What it does stands in three clauses, by the row's
+//! rule for one lane: the results, the flags after the row, and the accumulators, of which a row here writes the
+//! low sixteen bits alone.
+#![tactic(auto)]
+
+mod adds;
+mod logic;
+mod selects;
+
+pub use adds::{AddOp, add_op};
+pub use logic::{LogicOp, logic_op};
+pub use rsp_clip::{ClipOp, clip_op};
+pub use rsp_flags::Flags;
+pub use selects::{MergeOp, SelectOp, merge_op, select_op};
+
+#[cfg(test)]
+mod tests;

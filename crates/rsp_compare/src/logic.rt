@@ -1,0 +1,54 @@
+ghost use Rattle.std.specs.Prelude.{◌≡◌, slice_index};
+ghost use Rattle.rsp_lanes.specs.Lanes.{each_lane};
+ghost use Rattle.rsp_flags.specs.Outcome.{results_of, flags_after, numbers_after};
+ghost use Rattle.rsp_compare.specs.Logic.{bits_of, logic_rule};
+
+use rsp_acc::Acc;
+use rsp_flags::Flags;
+use rsp_lanes::VReg;
+
+/// A logic row, bit by bit.
+#[derive(Clone, Copy, PartialEq, Eq, Debug, Drop)]
+pub enum LogicOp {
+    /// Both.
+    Vand,
+    /// Not both.
+    Vnand,
+    /// One or both.
+    Vor,
+    /// Neither.
+    Vnor,
+    /// Just one.
+    Vxor,
+    /// Both or neither.
+    Vnxor,
+}
+
+/// Does a logic row: gives the results and writes them to the low sixteen bits of the accumulators. All flags stay.
+#[inline]
+pub fn logic_op<A: Acc>(op: LogicOp, a: &VReg, b: &VReg, flags: &mut Flags, acc: &mut A) -> VReg
+    ensures value { result ≡ results_of (logic_rule op) a.now b.now flags.old }
+    ensures flags { flags.new ≡ flags_after (logic_rule op) a.now b.now flags.old }
+    ensures accumulator { A.numbers acc.new ≡ numbers_after (logic_rule op) a.now b.now flags.old (A.numbers acc.old) }
+{
+    let result = op.bits(a, b);
+    flags.keep();
+    acc.set_low(&result);
+    result
+}
+
+impl LogicOp {
+    #[inline(always)]
+    fn bits(self, a: &VReg, b: &VReg) -> VReg
+        ensures { result ≡ each_lane (λ i. bits_of self (slice_index a.now i) (slice_index b.now i)) }
+    {
+        match self {
+            LogicOp::Vand => a.and(b),
+            LogicOp::Vnand => a.and(b).not(),
+            LogicOp::Vor => a.or(b),
+            LogicOp::Vnor => a.or(b).not(),
+            LogicOp::Vxor => a.xor(b),
+            LogicOp::Vnxor => a.xor(b).not(),
+        }
+    }
+}

@@ -1,0 +1,114 @@
+ghost use Rattle.std.specs.Prelude.{◌≡◌, slice_index};
+ghost use Rattle.rsp_lanes.specs.Lanes.{each_lane};
+ghost use Rattle.rsp_flags.specs.Flags.{flags_at};
+ghost use Rattle.rsp_flags.specs.Outcome.{results_of, flags_after, numbers_after};
+ghost use Rattle.rsp_compare.specs.Selects.{vlt, veq, vne, vge, is_taken, select_rule, merge_rule};
+
+use rsp_acc::Acc;
+use rsp_flags::Flags;
+use rsp_lanes::{Mask8, VReg};
+
+/// A compare row.
+#[derive(Clone, Copy, PartialEq, Eq, Debug, Drop)]
+pub enum SelectOp {
+    /// Below, or equal where carry and not-equal are both set.
+    Vlt,
+    /// Equal, and not-equal is clear.
+    Veq,
+    /// Different, or not-equal is set.
+    Vne,
+    /// Above, or equal but where carry and not-equal are both set.
+    Vge,
+}
+
+/// A merge row.
+#[derive(Clone, Copy, PartialEq, Eq, Debug, Drop)]
+pub enum MergeOp {
+    /// By the compare flags as they stand.
+    Vmrg,
+}
+
+/// Does a compare row: gives a where the comparison holds, else b, and writes that to the low sixteen bits of the accumulators.
+/// The answer goes to compare; clip and VCO are cleared, VCE stays.
+#[inline]
+pub fn select_op<A: Acc>(op: SelectOp, a: &VReg, b: &VReg, flags: &mut Flags, acc: &mut A) -> VReg
+    ensures value { result ≡ results_of (select_rule op) a.now b.now flags.old }
+    ensures flags { flags.new ≡ flags_after (select_rule op) a.now b.now flags.old }
+    ensures accumulator { A.numbers acc.new ≡ numbers_after (select_rule op) a.now b.now flags.old (A.numbers acc.old) }
+{
+    let taken = op.taken(a, b, flags);
+    flags.clear_vco();
+    flags.set_vcc(taken, Mask8::splat(false));
+    let result = taken.merge(a, b);
+    acc.set_low(&result);
+    result
+}
+
+/// Does the merge row: gives a where compare is set, else b, and writes that to the low sixteen bits of the accumulators. VCO
+/// is cleared; VCC and VCE stay.
+#[inline]
+pub fn merge_op<A: Acc>(op: MergeOp, a: &VReg, b: &VReg, flags: &mut Flags, acc: &mut A) -> VReg
+    ensures value { result ≡ results_of (merge_rule op) a.now b.now flags.old }
+    ensures flags { flags.new ≡ flags_after (merge_rule op) a.now b.now flags.old }
+    ensures accumulator { A.numbers acc.new ≡ numbers_after (merge_rule op) a.now b.now flags.old (A.numbers acc.old) }
+{
+    let result = match op {
+        MergeOp::Vmrg => flags.compare.merge(a, b),
+    };
+    flags.clear_vco();
+    acc.set_low(&result);
+    result
+}
+
+impl SelectOp {
+    /// Where the comparison holds.
+    #[inline(always)]
+    fn taken(self, a: &VReg, b: &VReg, flags: &Flags) -> Mask8
+        ensures { result ≡ each_lane (λ i. is_taken self (slice_index a.now i) (slice_index b.now i) (flags_at flags.now i)) }
+    {
+        match self {
+            SelectOp::Vlt => is_below(a, b, flags),
+            SelectOp::Veq => is_equal(a, b, flags),
+            SelectOp::Vne => is_different(a, b, flags),
+            SelectOp::Vge => is_at_least(a, b, flags),
+        }
+    }
+}
+
+#[inline(always)]
+fn is_below(a: &VReg, b: &VReg, flags: &Flags) -> Mask8
+    ensures { result ≡ each_lane (λ i. vlt (slice_index a.now i) (slice_index b.now i) (flags_at flags.now i)) }
+{
+    let _ = a.to_simd();
+    let _ = b.to_simd();
+    let both = flags.carry.and(flags.differ);
+    a.is_below_signed(b).or(a.is_equal(b).and(both))
+}
+
+#[inline(always)]
+fn is_equal(a: &VReg, b: &VReg, flags: &Flags) -> Mask8
+    ensures { result ≡ each_lane (λ i. veq (slice_index a.now i) (slice_index b.now i) (flags_at flags.now i)) }
+{
+    let _ = a.to_simd();
+    let _ = b.to_simd();
+    a.is_equal(b).and(flags.differ.not())
+}
+
+#[inline(always)]
+fn is_different(a: &VReg, b: &VReg, flags: &Flags) -> Mask8
+    ensures { result ≡ each_lane (λ i. vne (slice_index a.now i) (slice_index b.now i) (flags_at flags.now i)) }
+{
+    let _ = a.to_simd();
+    let _ = b.to_simd();
+    a.is_equal(b).not().or(flags.differ)
+}
+
+#[inline(always)]
+fn is_at_least(a: &VReg, b: &VReg, flags: &Flags) -> Mask8
+    ensures { result ≡ each_lane (λ i. vge (slice_index a.now i) (slice_index b.now i) (flags_at flags.now i)) }
+{
+    let _ = a.to_simd();
+    let _ = b.to_simd();
+    let both = flags.carry.and(flags.differ);
+    b.is_below_signed(a).or(a.is_equal(b).and(both.not()))
+}

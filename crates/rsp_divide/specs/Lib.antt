@@ -1,0 +1,5 @@
+-- The single-lane rows.
+pub mod Dividers
+pub mod Entries
+pub mod Quotients
+pub mod Rows

@@ -1,0 +1,45 @@
+-- The reciprocal and the root of a signed number of 32 bits.
+use Rattle.std.specs.Prelude.{ℕ, ℤ, pos, negsuc, ◌+◌, ◌-◌, ◌*◌, ◌/◌, ◌%◌, ◌^◌, ◌==◌, nat_lt, if◌then◌else◌}
+use Rattle.std.specs.Int.{leading_zeros, w32}
+use Rattle.rsp_divide.specs.Entries.{reciprocal_entry, root_entry}
+
+-- the count of leading zeros in 32 bits
+abbrev pub zeros : ℕ → ℕ
+zeros y = leading_zeros w32 y
+
+-- the nine bits below the leading one; zeros follow where y has fewer
+abbrev pub nine_bits : ℕ → ℕ
+nine_bits y = y * 2 ^ zeros y / 2 ^ 22 % 512
+
+-- the nine bits, the lowest replaced by the parity of the count of leading zeros
+abbrev pub root_index : ℕ → ℕ
+root_index y = nine_bits y / 2 * 2 + zeros y % 2
+
+-- an entry with its highest bit, shifted right by m
+abbrev pub scaled : ℕ → ℕ → ℕ
+scaled entry m = (65536 + entry) * 2 ^ 14 / 2 ^ m
+
+-- the reciprocal of a positive number
+unfoldable pub reciprocal_bits : ℕ → ℕ
+reciprocal_bits y = scaled (reciprocal_entry (nine_bits y)) (31 - zeros y)
+
+-- the inverse square root of a positive number
+unfoldable pub root_bits : ℕ → ℕ
+root_bits y = scaled (root_entry (root_index y)) ((31 - zeros y) / 2)
+
+-- By the sign, with special answers for 0 and -32768. Of a negative number the size is taken, which below -32768 is one
+-- less, and the answer is the complement. Here -(n + 1) is `negsuc n`, so that the complement of r is `negsuc r`.
+abbrev pub signed_by : (ℕ → ℕ) → ℤ → ℤ
+signed_by bits (pos y) = if y == 0 then pos 2147483647 else pos (bits y)
+signed_by bits (negsuc n) =
+    if nat_lt n 32767 then negsuc (bits (n + 1))
+    else if n == 32767 then negsuc 65535
+    else negsuc (bits n)
+
+-- the reciprocal of a signed number
+abbrev pub reciprocal_of : ℤ → ℤ
+reciprocal_of x = signed_by reciprocal_bits x
+
+-- the inverse square root of a signed number
+abbrev pub inverse_root_of : ℤ → ℤ
+inverse_root_of x = signed_by root_bits x

@@ -1,0 +1,70 @@
+ghost use Rattle.std.specs.Prelude.{◌≡◌, Some};
+ghost use Rattle.rsp_divide.specs.Dividers.{no_divider, divided, loaded, short, long};
+
+/// What the single-lane rows keep from one to the next.
+#[derive(Clone, Copy, PartialEq, Eq, Debug, Drop)]
+pub struct Divider {
+    /// DIV_IN: the high half of an operand, as VRCPH and VRSQH leave it.
+    pub input: u16,
+    /// DIV_OUT: the high half of the last quotient.
+    pub output: u16,
+    /// The loaded mark: whether the next VRCPL or VRSQL takes `input` as the high half of its operand.
+    pub loaded: bool,
+}
+
+impl Divider {
+    /// A divider of zeros with the mark clear, as at the start.
+    #[inline]
+    pub fn new() -> Self
+        ensures { result ≡ no_divider }
+    {
+        Divider {
+            input: 0,
+            output: 0,
+            loaded: false,
+        }
+    }
+
+    /// The operand of VRCPL and VRSQL: 32 bits where the high half was loaded, else 16.
+    #[inline]
+    pub(crate) fn long(&self, source: u16) -> i32
+        ensures { result ≡ long self.now source }
+    {
+        if self.loaded {
+            ((self.input as u32) << 16 | source as u32).cast_signed()
+        } else {
+            short(source)
+        }
+    }
+
+    /// Keeps the high half of a quotient, clears the mark, and gives the low half.
+    #[inline]
+    pub(crate) fn divided(&mut self, quotient: i32) -> u16
+        ensures lane { Some result ≡ (divided self.old quotient).lane }
+        ensures divider { self.new ≡ (divided self.old quotient).divider }
+    {
+        let bits = quotient.cast_unsigned();
+        self.output = (bits >> 16) as u16;
+        self.loaded = false;
+        (bits % 0x1_0000) as u16
+    }
+
+    /// Keeps the high half of an operand, sets the mark, and gives the high half of the last quotient.
+    #[inline]
+    pub(crate) fn load(&mut self, source: u16) -> u16
+        ensures lane { Some result ≡ (loaded self.old source).lane }
+        ensures divider { self.new ≡ (loaded self.old source).divider }
+    {
+        self.input = source;
+        self.loaded = true;
+        self.output
+    }
+}
+
+/// The operand of VRCP and VRSQ: a lane as a signed number.
+#[inline]
+pub(crate) fn short(source: u16) -> i32
+    ensures { result ≡ short source }
+{
+    source.cast_signed() as i32
+}

@@ -1,0 +1,25 @@
+ghost use Rattle.std.specs.Prelude.{◌≡◌, ◌<◌};
+ghost use Rattle.rsp_divide.specs.Entries.{reciprocal_entry, root_entry, IsRootEntry};
+
+use crate::tables::{RECIPROCALS, ROOTS};
+
+/// Entry `i` of the reciprocal table, for `i` below 512: `(2^34 / (512 + i) + 1) / 256` without its highest bit, and
+/// FFFF hex for `i` = 0.
+#[inline]
+pub fn rcp_entry(i: usize) -> u16
+    requires { i < 512 }
+    ensures { result ≡ reciprocal_entry i }
+{
+    RECIPROCALS[i]
+}
+
+/// Entry `i` of the root table, for `i` below 512: half of the greatest number whose square, times the radicand of `i`,
+/// is below 2^44, without its highest bit. The radicand is `512 + i` for an even `i`, and half of that for an odd one.
+#[inline]
+pub fn rsq_entry(i: usize) -> u16
+    requires { i < 512 }
+    ensures value { result ≡ root_entry i }
+    ensures root { IsRootEntry i result }
+{
+    ROOTS[i]
+}

@@ -1,0 +1,3 @@
+-- Flags, and rules of one lane.
+pub mod Flags
+pub mod Outcome

@@ -1,0 +1,6 @@
+-- Lemmas on eight lanes.
+pub mod Carry
+pub mod Kit
+pub mod Masks
+pub mod Wide
+pub mod Signs

@@ -1,0 +1,6 @@
+use Rattle.std.proofs.Common.{◌∙◌, refl, zero-add}
+use Rattle.rsp_lanes.proofs.Kit.{lane_of, each_same}
+use Rattle.rsp_lanes.proofs.vreg.VReg.negate.Goals as goal
+
+pub returns : goal.returns
+returns c = c.subtract.ensures ∙ each_same _ _ (λ i h. rw (lane_of 0 _ _ c.new.ensures i h, zero-add) refl)

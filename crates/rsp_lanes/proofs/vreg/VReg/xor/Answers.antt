@@ -1,0 +1,6 @@
+use Rattle.std.proofs.Common.{◌∙◌}
+use Rattle.rsp_lanes.proofs.Kit.{zip2_each}
+use Rattle.rsp_lanes.proofs.vreg.VReg.xor.Goals as goal
+
+pub returns : goal.returns
+returns c = c.from_simd.ensures ∙ rw (← c.self.view_is, ← c.other.view_is) (zip2_each _ 0 0 _ _ c.self.invariant.0 c.other.invariant.0)

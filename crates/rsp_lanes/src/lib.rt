@@ -1,0 +1,19 @@
+//! The lanes of the vector unit: registers of eight numbers of sixteen bits, and masks of eight truth values.
+//!
+//! Lane 0 is the first. A contract gives a register as the list of its eight lanes, each from 0 to 65535, and a mask
+//! as the list of its eight truth values; `each_lane f` is the list whose member i is `f i`.
+//!
+//! Each operation works on whole vectors. This is the one crate that is written over `std::simd`: those above call the
+//! methods here.
+#![tactic(auto)]
+
+mod mask;
+mod shuffle;
+mod vreg;
+
+pub use mask::Mask8;
+pub use shuffle::select;
+pub use vreg::VReg;
+
+#[cfg(test)]
+mod tests;

@@ -1,0 +1,140 @@
+ghost use Rattle.std.specs.Prelude.{◌≡◌, ◌<◌, ◌&&◌, ◌||◌, not, length, slice_index, slice_index_or, false, cond};
+ghost use Rattle.std.specs.Simd.Lanes.{mask_l};
+ghost use Rattle.rsp_lanes.specs.Lanes.{each_lane, IsMask, truths, bool_xor, bit_set};
+
+use crate::VReg;
+use std::marker::Model;
+use std::simd::prelude::*;
+
+/// Eight truth values, one for each lane, as one lane mask.
+#[derive(Clone, Copy, PartialEq, Drop)]
+pub struct Mask8 {
+    lanes: mask16x8,
+}
+
+impl Model for Mask8 {
+    ghost use Rattle.std.specs.Prelude.{List, Bool, map};
+    ghost use Rattle.rsp_lanes.specs.Lanes.{IsMask, truths, mask_lane};
+    ghost use Rattle.std.proofs.Common.{ap};
+
+    ghost Value = { List Bool };
+
+    ghost view = { λ m. truths m.lanes };
+
+    ghost invariant = { λ m. IsMask m.lanes };
+
+    ghost inverse = { λ l. record { lanes = map mask_lane l } };
+
+    ghost inverse_ok = { λ a h. ap (λ l. record { lanes = l }) h.1 };
+}
+
+impl Mask8 {
+    /// The mask with these lanes, which are all ones where it is set, else 0, as a comparison gives them.
+    #[inline(always)]
+    pub fn from_simd(lanes: mask16x8) -> Self
+        requires { IsMask lanes }
+        ensures { result ≡ truths lanes }
+    {
+        Mask8 { lanes }
+    }
+
+    /// Its lanes: all ones where it is set, else 0. The mask has eight.
+    #[inline(always)]
+    pub fn to_simd(self) -> mask16x8
+        ensures value { truths result ≡ self }
+        ensures mask { IsMask result }
+        ensures eight { length self ≡ 8 }
+    {
+        self.lanes
+    }
+
+    /// Set where both are.
+    #[inline(always)]
+    pub fn and(self, other: Self) -> Self
+        ensures { result ≡ each_lane (λ i. slice_index_or self i false && slice_index_or other i false) }
+    {
+        Mask8 {
+            lanes: self.lanes & other.lanes,
+        }
+    }
+
+    /// The lanes of `a` where it is set, and those of `b` elsewhere.
+    #[inline(always)]
+    pub fn merge(self, a: &VReg, b: &VReg) -> VReg
+        ensures { result ≡ each_lane (λ i. cond (slice_index_or self i false) (slice_index a.now i) (slice_index b.now i)) }
+    {
+        VReg::from_simd(self.lanes.select(a.to_simd(), b.to_simd()))
+    }
+
+    /// Set where one or both are.
+    #[inline(always)]
+    pub fn or(self, other: Self) -> Self
+        ensures { result ≡ each_lane (λ i. slice_index_or self i false || slice_index_or other i false) }
+    {
+        Mask8 {
+            lanes: self.lanes | other.lanes,
+        }
+    }
+
+    /// Set where it is clear.
+    #[inline(always)]
+    pub fn not(self) -> Self
+        ensures { result ≡ each_lane (λ i. not (slice_index_or self i false)) }
+    {
+        Mask8 { lanes: !self.lanes }
+    }
+
+    /// Set nowhere, or everywhere.
+    #[inline(always)]
+    pub fn splat(value: bool) -> Self
+        ensures { result ≡ each_lane (λ _. value) }
+    {
+        Mask8 {
+            lanes: mask16x8::splat(value),
+        }
+    }
+
+    /// Set where just one is.
+    #[inline(always)]
+    pub fn xor(self, other: Self) -> Self
+        ensures { result ≡ each_lane (λ i. bool_xor (slice_index_or self i false) (slice_index_or other i false)) }
+    {
+        Mask8 {
+            lanes: self.lanes ^ other.lanes,
+        }
+    }
+
+    /// The number, from 0 to 255, whose bit `i` is 1 where lane `i` is set.
+    #[inline(always)]
+    pub fn bits(self) -> u64
+        ensures value { result ≡ mask_l self }
+        ensures bound { result < 256 }
+    {
+        self.lanes.to_bitmask()
+    }
+
+    /// Lane `i` is set where bit `i` of the number is 1. Bits 8 to 15 are dropped.
+    #[inline(always)]
+    pub fn from_bits(bits: u16) -> Self
+        ensures { result ≡ each_lane (λ i. bit_set bits i) }
+    {
+        let places = u16x8::from_array([1, 2, 4, 8, 16, 32, 64, 128]);
+        Mask8::from_simd((u16x8::splat(bits) & places).simd_ne(u16x8::splat(0)))
+    }
+}
+
+#[cfg(test)]
+mod tests {
+    use super::*;
+
+    #[test]
+    fn holds_one_mask(rt: HostRuntime) {
+        let m = Mask8 {
+            lanes: mask16x8::splat(true),
+        };
+        let Mask8 { lanes: taken } = m;
+        let again: mask16x8 = taken;
+        assert!(rt; again.all());
+        assert_eq!(rt; m.bits(), 255);
+    }
+}

@@ -1,0 +1,53 @@
+use crate::{Mask8, VReg, select};
+
+const LANES: [u16; 8] = [
+    0x0001, 0x1213, 0x2425, 0x3637, 0x4849, 0x8000, 0xfffe, 0xffff,
+];
+
+#[test]
+fn numbers_bytes_from_the_high_byte_of_lane_0(rt: HostRuntime) {
+    let mut v = VReg::from_array(LANES);
+    assert_eq!(rt; v.lane(1), 0x1213);
+    assert_eq!(rt; v.byte(2), 0x12);
+    assert_eq!(rt; v.byte(3), 0x13);
+    v.set_byte(2, 0xab);
+    v.set_byte(15, 0xcd);
+    v.set_lane(0, 0x7fff);
+    assert_eq!(rt;
+        v.to_array(),
+        [
+            0x7fff, 0xab13, 0x2425, 0x3637, 0x4849, 0x8000, 0xfffe, 0xffcd
+        ]
+    );
+}
+
+#[test]
+fn selects_by_element(rt: HostRuntime) {
+    let v = VReg::from_array([10, 11, 12, 13, 14, 15, 16, 17]);
+    assert_eq!(rt; select(&v, 1), v);
+    assert_eq!(rt; select(&v, 3).to_array(), [11, 11, 13, 13, 15, 15, 17, 17]);
+    assert_eq!(rt; select(&v, 6).to_array(), [12, 12, 12, 12, 16, 16, 16, 16]);
+    assert_eq!(rt; select(&v, 13).to_array(), [15; 8]);
+}
+
+#[test]
+fn compares_and_adds(rt: HostRuntime) {
+    let v = VReg::from_array(LANES);
+    assert_eq!(rt; v.is_negative().bits(), 0b1110_0000);
+    assert_eq!(rt; v.is_below_signed(&VReg::splat(2)).bits(), 0b1110_0001);
+    assert_eq!(rt; v.is_below(&VReg::splat(2)).bits(), 0b0000_0001);
+    assert_eq!(rt; v.negate().lane(7), 1);
+    let (sum, carry) = v.add_carrying(&VReg::splat(1), Mask8::from_bits(0b0100_0000));
+    assert_eq!(rt;
+        sum.to_array(),
+        [2, 0x1214, 0x2426, 0x3638, 0x484a, 0x8001, 0, 0]
+    );
+    assert_eq!(rt; carry.bits(), 0b1100_0000);
+    let (high, low) = v.product(&VReg::splat(0xffff));
+    assert_eq!(rt; high.lane(7), 0xfffe);
+    assert_eq!(rt; low.lane(7), 1);
+    assert_eq!(rt;
+        Mask8::from_bits(0x101).merge(&v, &VReg::new()).to_array(),
+        [1, 0, 0, 0, 0, 0, 0, 0]
+    );
+}

@@ -1,0 +1,270 @@
+ghost use Rattle.std.specs.Prelude.{◌≡◌, ◌+◌, ◌-◌, ◌*◌, ◌/◌, ◌%◌, ◌<◌, slice_index, slice_index_or, slice_set, nat_lt, nat_eq, nat_le, int_lt, false};
+ghost use Rattle.std.specs.Int.{cast_signed, w16};
+ghost use Rattle.std.specs.Int.Bits.{bit_and, bit_or, bit_xor};
+ghost use Rattle.rsp_lanes.specs.Lanes.{each_lane, bit, IsVector, register_byte, with_register_byte};
+
+use crate::Mask8;
+use std::marker::Model;
+use std::simd::prelude::*;
+
+/// A vector register: eight lanes, each a number from 0 to 65535, in one vector. Lane 0 is the first.
+#[derive(Clone, Copy, PartialEq, Eq, Debug, Drop)]
+pub struct VReg {
+    lanes: u16x8,
+}
+
+impl Model for VReg {
+    ghost use Rattle.std.specs.Prelude.{List, ℕ};
+    ghost use Rattle.rsp_lanes.specs.Lanes.{IsVector};
+
+    ghost Value = { List ℕ };
+
+    ghost view = { λ v. v.lanes };
+
+    ghost invariant = { λ v. IsVector v.lanes };
+
+    ghost inverse = { λ l. record { lanes = l } };
+}
+
+impl VReg {
+    /// Eight zeros.
+    #[inline(always)]
+    pub fn new() -> Self
+        ensures { result ≡ each_lane (λ _. 0) }
+    {
+        VReg::splat(0)
+    }
+
+    /// Eight copies of a number.
+    #[inline(always)]
+    pub fn splat(value: u16) -> Self
+        ensures { result ≡ each_lane (λ _. value) }
+    {
+        VReg {
+            lanes: u16x8::splat(value),
+        }
+    }
+
+    /// The register with these lanes.
+    #[inline(always)]
+    pub fn from_simd(lanes: u16x8) -> Self
+        ensures { result ≡ lanes }
+    {
+        VReg { lanes }
+    }
+
+    /// The register with these lanes, lane 0 first.
+    #[inline(always)]
+    pub fn from_array(lanes: [u16; 8]) -> Self
+        ensures { result ≡ lanes }
+    {
+        VReg {
+            lanes: u16x8::from_array(lanes),
+        }
+    }
+
+    /// Its lanes, lane 0 first.
+    #[inline(always)]
+    pub fn to_array(&self) -> [u16; 8]
+        ensures { result ≡ self.now }
+    {
+        self.lanes.to_array()
+    }
+
+    /// Its lanes: eight, each below 65536.
+    #[inline(always)]
+    pub fn to_simd(&self) -> u16x8
+        ensures value { result ≡ self.now }
+        ensures vector { IsVector self.now }
+    {
+        self.lanes
+    }
+
+    /// Lane `i`, from 0 to 7.
+    #[inline(always)]
+    pub fn lane(&self, i: usize) -> u16
+        requires { i < 8 }
+        ensures { result ≡ slice_index self.now i }
+    {
+        self.lanes[i]
+    }
+
+    /// Writes lane `i`, from 0 to 7; the others stay.
+    #[inline(always)]
+    pub fn set_lane(&mut self, i: usize, value: u16)
+        requires { i < 8 }
+        ensures { self.new ≡ slice_set self.old i value }
+    {
+        let mut lanes = self.to_array();
+        lanes[i] = value;
+        self.lanes = u16x8::from_array(lanes);
+    }
+
+    /// Byte `i`, from 0 to 15: byte 0 is the high byte of lane 0, byte 15 the low byte of lane 7.
+    #[inline(always)]
+    #[tactic(auto, unfolding(crate::specs::Lanes::register_byte))]
+    pub fn byte(&self, i: usize) -> u8
+        requires { i < 16 }
+        ensures { result ≡ register_byte self.now i }
+    {
+        let [high, low] = self.lane(i / 2).to_be_bytes();
+        if i % 2 == 0 { high } else { low }
+    }
+
+    /// Writes byte `i`, from 0 to 15; the others stay.
+    #[inline(always)]
+    #[tactic(auto, unfolding(crate::specs::Lanes::with_register_byte))]
+    pub fn set_byte(&mut self, i: usize, value: u8)
+        requires { i < 16 }
+        ensures { self.new ≡ with_register_byte self.old i value }
+    {
+        let [high, low] = self.lane(i / 2).to_be_bytes();
+        let bytes = if i % 2 == 0 {
+            [value, low]
+        } else {
+            [high, value]
+        };
+        self.set_lane(i / 2, u16::from_be_bytes(bytes));
+    }
+
+    /// The sums, modulo 65536.
+    #[inline(always)]
+    pub fn add(&self, other: &VReg) -> VReg
+        ensures { result ≡ each_lane (λ i. (slice_index self.now i + slice_index other.now i) % 65536) }
+    {
+        VReg::from_simd(self.lanes + other.lanes)
+    }
+
+    /// The differences, modulo 65536.
+    #[inline(always)]
+    pub fn subtract(&self, other: &VReg) -> VReg
+        ensures { result ≡ each_lane (λ i. (slice_index self.now i + (65536 - slice_index other.now i)) % 65536) }
+    {
+        VReg::from_simd(self.lanes - other.lanes)
+    }
+
+    /// The lanes, bit by bit: set where both are.
+    #[inline(always)]
+    pub fn and(&self, other: &VReg) -> VReg
+        ensures { result ≡ each_lane (λ i. bit_and (slice_index self.now i) (slice_index other.now i)) }
+    {
+        VReg::from_simd(self.lanes & other.lanes)
+    }
+
+    /// The lanes, bit by bit: set where one or both are.
+    #[inline(always)]
+    pub fn or(&self, other: &VReg) -> VReg
+        ensures { result ≡ each_lane (λ i. bit_or (slice_index self.now i) (slice_index other.now i)) }
+    {
+        VReg::from_simd(self.lanes | other.lanes)
+    }
+
+    /// The lanes, bit by bit: set where just one is.
+    #[inline(always)]
+    pub fn xor(&self, other: &VReg) -> VReg
+        ensures { result ≡ each_lane (λ i. bit_xor (slice_index self.now i) (slice_index other.now i)) }
+    {
+        VReg::from_simd(self.lanes ^ other.lanes)
+    }
+
+    /// The complements of the lanes: each bit is set where it was clear.
+    #[inline(always)]
+    pub fn not(&self) -> VReg
+        ensures { result ≡ each_lane (λ i. 65535 - slice_index self.now i) }
+    {
+        VReg::from_simd(!self.lanes)
+    }
+
+    /// The lanes with their signs changed, modulo 65536: 8000 hex stays.
+    #[inline(always)]
+    pub fn negate(&self) -> VReg
+        ensures { result ≡ each_lane (λ i. (65536 - slice_index self.now i) % 65536) }
+    {
+        VReg::new().subtract(self)
+    }
+
+    /// Where the lane is 0.
+    #[inline(always)]
+    pub fn is_zero(&self) -> Mask8
+        ensures { result ≡ each_lane (λ i. nat_eq (slice_index self.now i) 0) }
+    {
+        self.is_equal(&VReg::new())
+    }
+
+    /// Where the lane is below the other's, both as they stand.
+    #[inline(always)]
+    pub fn is_below(&self, other: &VReg) -> Mask8
+        ensures { result ≡ each_lane (λ i. nat_lt (slice_index self.now i) (slice_index other.now i)) }
+    {
+        Mask8::from_simd(self.lanes.simd_lt(other.lanes))
+    }
+
+    /// Where the lane is below the other's, both as signed numbers.
+    #[inline(always)]
+    pub fn is_below_signed(&self, other: &VReg) -> Mask8
+        ensures { result ≡ each_lane (λ i. int_lt (cast_signed w16 (slice_index self.now i)) (cast_signed w16 (slice_index other.now i))) }
+    {
+        let _ = self.to_simd();
+        let _ = other.to_simd();
+        let half = VReg::splat(0x8000);
+        self.add(&half).is_below(&other.add(&half))
+    }
+
+    /// Where the lanes are the same.
+    #[inline(always)]
+    pub fn is_equal(&self, other: &VReg) -> Mask8
+        ensures { result ≡ each_lane (λ i. nat_eq (slice_index self.now i) (slice_index other.now i)) }
+    {
+        Mask8::from_simd(self.lanes.simd_eq(other.lanes))
+    }
+
+    /// The sums with a carry that comes in, modulo 65536, and the carries that go out.
+    #[inline(always)]
+    pub fn add_carrying(&self, other: &VReg, carry: Mask8) -> (VReg, Mask8)
+        ensures sum { result.0 ≡ each_lane (λ i. (slice_index self.now i + slice_index other.now i + bit (slice_index_or carry i false)) % 65536) }
+        ensures carry { result.1 ≡ each_lane (λ i. nat_le 65536 (slice_index self.now i + slice_index other.now i + bit (slice_index_or carry i false))) }
+    {
+        let _ = self.to_simd();
+        let _ = other.to_simd();
+        let plain = self.add(other);
+        let sum = plain.add(&carry.merge(&VReg::splat(1), &VReg::new()));
+        (sum, plain.is_below(self).or(sum.is_below(&plain)))
+    }
+
+    /// Where the lane is negative as a signed number: its top bit is set.
+    #[inline(always)]
+    pub fn is_negative(&self) -> Mask8
+        ensures { result ≡ each_lane (λ i. nat_lt 32767 (slice_index self.now i)) }
+    {
+        VReg::splat(0x7fff).is_below(self)
+    }
+
+    /// The high and the low half of the products of the lanes as unsigned numbers.
+    #[inline(always)]
+    pub fn product(&self, other: &VReg) -> (VReg, VReg)
+        ensures high { result.0 ≡ each_lane (λ i. slice_index self.now i * slice_index other.now i / 65536) }
+        ensures low { result.1 ≡ each_lane (λ i. slice_index self.now i * slice_index other.now i % 65536) }
+    {
+        let product = self.lanes.cast::<u32>() * other.lanes.cast::<u32>();
+        (
+            VReg::from_simd((product >> u32x8::splat(16)).cast::<u16>()),
+            VReg::from_simd(self.lanes * other.lanes),
+        )
+    }
+}
+
+#[cfg(test)]
+mod tests {
+    use super::*;
+
+    #[test]
+    fn holds_one_vector(rt: HostRuntime) {
+        let v = VReg {
+            lanes: u16x8::splat(7),
+        };
+        let VReg { lanes: taken } = v;
+        let again: u16x8 = taken;
+        assert_eq!(rt; again.to_array(), [7; 8]);
+        assert_eq!(rt; v, VReg::splat(7));
+    }
+}

@@ -1,0 +1,5 @@
+pub mod Answers
+pub mod Faults
+pub mod Left
+pub mod Lines
+pub mod Replies

@@ -1,0 +1,143 @@
+ghost use Rattle.std.specs.Prelude.{◌≡◌, ℕ, ◌+◌, ◌-◌, ◌<◌, ◌^◌, [], ◌∷◌, ◌++◌, OnOk, OnErr, IfErr};
+ghost use Rattle.std.specs.Io.KnownBytes.{append_known};
+ghost use Rattle.rsp_lines.specs.Answers.{Answers};
+ghost use Rattle.rsp_lines.specs.Faults.{failed_writes, IsAnswerFault};
+ghost use Rattle.rsp_lines.specs.Left.{WritesFront};
+ghost use Rattle.rsp_lines.specs.Lines.{ended_after, last_line};
+ghost use Rattle.rsp_lines.specs.Replies.{replies, final};
+
+use crate::answering::{Answering, ReplyBytes};
+use crate::line::LineSoFar;
+use crate::run::RunFault;
+use rsp_ends::{EndFault, Sink};
+use std::alloc::Global;
+
+/// Writes the whole of some bytes. A write that fails, or takes nothing, is not tried again.
+fn write_all<W: Sink>(sink: &mut W, bytes: &[u8]) -> Result<(), EndFault>
+    requires { W.fault_count sink.old < 2 ^ 64 - 1 }
+    ensures written { OnOk result (W.written sink.new ≡ append_known (W.written sink.old) bytes.now) }
+    ensures front { OnErr result (WritesFront (W.written sink.old) (W.written sink.new) bytes.now) }
+    ensures same { OnOk result (W.fault_count sink.new ≡ W.fault_count sink.old) }
+    ensures failed { OnErr result (W.fault_count sink.new ≡ W.fault_count sink.old + 1) }
+{
+    let mut rest = bytes;
+    while !rest.is_empty() {
+        let n = sink.write(rest)?;
+        if n == 0 {
+            return Err(EndFault);
+        }
+        rest = &rest[n..];
+    }
+    Ok(())
+}
+
+/// Answers a line, and writes the reply.
+fn answer_line<S: Answering, W: Sink>(
+    alloc: Global,
+    session: &mut S,
+    line: &[u8],
+    sink: &mut W,
+) -> Result<(), RunFault>
+    requires { W.fault_count sink.old < 2 ^ 64 - 1 }
+    ensures written { OnOk result (W.written sink.new ≡ append_known (W.written sink.old) (S.outcome line.now session.old).reply) }
+    ensures session { OnOk result (session.new ≡ (S.outcome line.now session.old).next) }
+    ensures front { OnErr result (WritesFront (W.written sink.old) (W.written sink.new) (S.outcome line.now session.old).reply) }
+    ensures count { W.fault_count sink.new ≡ W.fault_count sink.old + failed_writes result }
+    ensures cause { IfErr result IsAnswerFault }
+{
+    let Ok(reply) = session.answer(alloc, line) else {
+        return Err(RunFault::OutOfMemory);
+    };
+    let Ok(()) = write_all(sink, reply.bytes()) else {
+        return Err(RunFault::WriteFault);
+    };
+    Ok(())
+}
+
+/// Takes the next byte of a script, and answers the line that it ends.
+fn answer_byte<S: Answering, W: Sink>(
+    alloc: Global,
+    session: &mut S,
+    line: &mut LineSoFar,
+    byte: u8,
+    sink: &mut W,
+) -> Result<(), RunFault>
+    requires { W.fault_count sink.old < 2 ^ 64 - 1 }
+    ensures answers { OnOk result (Answers S.outcome (W.written sink.old) (W.written sink.new) line.old line.new session.old session.new (byte ∷ [])) }
+    ensures front { OnErr result (WritesFront (W.written sink.old) (W.written sink.new) (replies S.outcome (ended_after line.old (byte ∷ [])) session.old)) }
+    ensures count { W.fault_count sink.new ≡ W.fault_count sink.old + failed_writes result }
+    ensures cause { IfErr result IsAnswerFault }
+{
+    if byte != b'\n' {
+        line.push(byte);
+        return Ok(());
+    }
+    answer_line(alloc, session, line.ended(), sink)?;
+    line.clear();
+    Ok(())
+}
+
+/// Takes the next piece of a script, and answers each line that ends in it.
+pub(crate) fn answer_piece<S: Answering, W: Sink>(
+    alloc: Global,
+    session: &mut S,
+    line: &mut LineSoFar,
+    piece: &[u8],
+    sink: &mut W,
+) -> Result<(), RunFault>
+    requires { W.fault_count sink.old < 2 ^ 64 - 1 }
+    ensures answers { OnOk result (Answers S.outcome (W.written sink.old) (W.written sink.new) line.old line.new session.old session.new piece.now) }
+    ensures front { OnErr result (WritesFront (W.written sink.old) (W.written sink.new) (replies S.outcome (ended_after line.old piece.now) session.old)) }
+    ensures count { W.fault_count sink.new ≡ W.fault_count sink.old + failed_writes result }
+    ensures cause { IfErr result IsAnswerFault }
+{
+    for byte in piece {
+        answer_byte(alloc, session, line, *byte, sink)?;
+    }
+    Ok(())
+}
+
+/// Answers a line that no newline ended, where it has any bytes.
+#[tactic(auto, using(crate::proofs::Alike::last_lines))]
+fn answer_last<S: Answering, W: Sink>(
+    alloc: Global,
+    session: &mut S,
+    line: &[u8],
+    sink: &mut W,
+) -> Result<(), RunFault>
+    requires { W.fault_count sink.old < 2 ^ 64 - 1 }
+    ensures written { OnOk result (W.written sink.new ≡ append_known (W.written sink.old) (replies S.outcome (last_line line.now) session.old)) }
+    ensures session { OnOk result (session.new ≡ final S.outcome (last_line line.now) session.old) }
+    ensures front { OnErr result (WritesFront (W.written sink.old) (W.written sink.new) (replies S.outcome (last_line line.now) session.old)) }
+    ensures count { W.fault_count sink.new ≡ W.fault_count sink.old + failed_writes result }
+    ensures cause { IfErr result IsAnswerFault }
+{
+    if line.is_empty() {
+        return Ok(());
+    }
+    answer_line(alloc, session, line, sink)?;
+    Ok(())
+}
+
+/// Answers what no newline ended, and says what is left to say.
+pub(crate) fn answer_end<S: Answering, W: Sink>(
+    alloc: Global,
+    session: &mut S,
+    line: &LineSoFar,
+    sink: &mut W,
+) -> Result<(), RunFault>
+    requires { W.fault_count sink.old < 2 ^ 64 - 1 }
+    ensures written { OnOk result (W.written sink.new ≡ append_known (W.written sink.old)
+        (replies S.outcome (last_line line.now) session.old ++ S.closing (final S.outcome (last_line line.now) session.old))) }
+    ensures session { OnOk result (session.new ≡ final S.outcome (last_line line.now) session.old) }
+    ensures front { OnErr result (WritesFront (W.written sink.old) (W.written sink.new)
+        (replies S.outcome (last_line line.now) session.old ++ S.closing (final S.outcome (last_line line.now) session.old))) }
+    ensures count { W.fault_count sink.new ≡ W.fault_count sink.old + failed_writes result }
+    ensures cause { IfErr result IsAnswerFault }
+{
+    answer_last(alloc, session, line.last(), sink)?;
+    let Ok(()) = write_all(sink, session.close().bytes()) else {
+        return Err(RunFault::WriteFault);
+    };
+    Ok(())
+}

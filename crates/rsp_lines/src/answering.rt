@@ -1,0 +1,39 @@
+ghost use Rattle.std.specs.Prelude.{◌≡◌, ℕ, List, IfOk, OnOk};
+ghost use Rattle.rsp_lines.specs.Replies.{Outcome, AnswersLongAlike};
+
+use std::alloc::{AllocError, Global};
+
+/// A reply, which is some bytes.
+pub trait ReplyBytes {
+    /// The bytes of the reply.
+    ghost bytes: { Self → List ℕ };
+
+    /// The bytes of the reply.
+    fn bytes(&self) -> &[u8]
+        ensures { result.now ≡ bytes self.now };
+}
+
+/// What answers the lines of a script, one after another.
+pub trait Answering {
+    /// What a line is answered with.
+    type Reply: ReplyBytes + Drop;
+
+    /// What a line comes to: its reply, and what answers the next line.
+    ghost outcome: { List ℕ → Self → Outcome Self };
+
+    /// What is left to say at the end of a script, after the replies to all its lines.
+    ghost closing: { Self → List ℕ };
+
+    /// Answers a line, which comes without its LF and without the one CR before that. It may be any line, but of one of
+    /// more than 258 bytes only the first 258 come. Where there is no memory for it, the run ends.
+    fn answer(&mut self, alloc: Global, line: &[u8]) -> Result<Self::Reply, AllocError>
+        ensures reply { IfOk result (λ reply. Self.Reply.bytes reply ≡ (outcome line.now self.old).reply) }
+        ensures next { OnOk result (self.new ≡ (outcome line.now self.old).next) };
+
+    /// What is left to say at the end of a script, after the replies to all its lines.
+    fn close(&self) -> Self::Reply
+        ensures { Self.Reply.bytes result ≡ closing self.now };
+
+    /// Lines of more than 256 bytes are answered alike, whatever they say. So a run need not keep them whole.
+    ghost alike: { AnswersLongAlike outcome };
+}

@@ -1,0 +1,84 @@
+ghost use Rattle.std.specs.Prelude.{◌≡◌, ◌∷◌, [], ◌++◌};
+ghost use Rattle.std.specs.Str.Lines.{strip_carriage_return};
+ghost use Rattle.rsp_lines.specs.Lines.{kept, IsLike};
+
+use arrayvec::ArrayVec;
+use std::marker::Model;
+
+/// What a run keeps of a line that no newline has ended: its first 258 bytes, as which it is seen, and a mark that
+/// there were more.
+#[derive(Drop)]
+pub(crate) struct LineSoFar {
+    bytes: ArrayVec<u8, 258>,
+    longer: bool,
+}
+
+impl Model for LineSoFar {
+    ghost use Rattle.std.specs.Prelude.{ℕ, ◌≡◌, List, true, length};
+
+    ghost Value = { List ℕ };
+
+    ghost view = { λ l. l.bytes.items };
+
+    ghost invariant = { λ l. l.longer ≡ true → length l.bytes.items ≡ 258 };
+}
+
+impl LineSoFar {
+    /// A line of which nothing has come.
+    pub(crate) fn new() -> LineSoFar
+        ensures { result ≡ [] }
+    {
+        LineSoFar {
+            bytes: ArrayVec::new(),
+            longer: false,
+        }
+    }
+
+    /// Goes on to the next line.
+    pub(crate) fn clear(&mut self)
+        ensures { self.new ≡ [] }
+    {
+        self.bytes.clear();
+        self.longer = false;
+    }
+
+    /// Takes the line's next byte.
+    #[tactic(auto, using(crate::proofs::Kept::kept_byte))]
+    pub(crate) fn push(&mut self, byte: u8)
+        ensures { self.new ≡ kept (self.old ++ byte ∷ []) }
+    {
+        if self.bytes.try_push(byte).is_err() {
+            self.longer = true;
+        }
+    }
+
+    /// The line where the script ends here: itself or, where it is longer, another that is answered alike.
+    pub(crate) fn last(&self) -> &[u8]
+        ensures { result.now ≡ self.now }
+    {
+        self.bytes.as_slice()
+    }
+
+    /// The line where a newline follows: without the carriage return at its end or, where it is longer, another that
+    /// is answered alike.
+    #[tactic(auto, using(crate::proofs::Kept::kept_line))]
+    pub(crate) fn ended(&self) -> &[u8]
+        ensures { IsLike result.now (strip_carriage_return self.now) }
+    {
+        if self.longer {
+            self.bytes.as_slice()
+        } else {
+            strip_return(self.bytes.as_slice())
+        }
+    }
+}
+
+/// A line without the one carriage return at its end.
+fn strip_return(line: &[u8]) -> &[u8]
+    ensures { result.now ≡ strip_carriage_return line.now }
+{
+    match line {
+        [front @ .., b'\r'] => front,
+        _ => line,
+    }
+}

@@ -1,0 +1,10 @@
+use crate::ReplyBytes;
+use rsp_reply::Reply;
+
+impl ReplyBytes for Reply {
+    ghost bytes = { λ r. r };
+
+    fn bytes(&self) -> &[u8] {
+        Reply::bytes(self)
+    }
+}

@@ -1,0 +1,87 @@
+ghost use Rattle.std.specs.Prelude.{◌≡◌, ℕ, ◌+◌, ◌-◌, ◌<◌, ◌≤◌, ◌^◌, List, take, length, OnOk, IfSome, IsErrOf};
+ghost use Rattle.std.specs.Io.KnownBytes.{append_known};
+ghost use Rattle.std.specs.Str.Lines.{lines};
+ghost use Rattle.rsp_lines.specs.Faults.{failed_reads, failed_writes};
+ghost use Rattle.rsp_lines.specs.Left.{TakesAtMost, AnswersEnded, AnswersFront};
+ghost use Rattle.rsp_lines.specs.Lines.{ended_lines};
+ghost use Rattle.rsp_lines.specs.Replies.{replies, final, out_of};
+
+use crate::answer::{answer_end, answer_piece};
+use crate::answering::Answering;
+use crate::line::LineSoFar;
+use rsp_ends::{Sink, Source};
+use std::alloc::Global;
+
+/// The most bytes that a script has.
+pub const SCRIPT_LIMIT: usize = 1_048_576;
+
+/// The most bytes that a run asks for at a time.
+const PIECE_LENGTH: usize = 4096;
+
+/// Why a run ended early.
+#[derive(Clone, Copy, Debug, PartialEq, Eq)]
+pub enum RunFault {
+    /// A read failed. The lines that had ended were answered in full.
+    ReadFault,
+    /// A write failed, or took nothing of a piece that isn't empty.
+    WriteFault,
+    /// The script goes on past `SCRIPT_LIMIT`. The lines that ended within it were answered in full.
+    ScriptTooLong,
+    /// There was no memory to answer a line.
+    OutOfMemory,
+}
+
+/// Reads a script by pieces of at most 4096 bytes, and writes the reply to each line that ends in a piece before it asks
+/// for the next. At the end it answers what no LF ended, and writes what is left to say.
+///
+/// It ends early with the first read or write that fails, or for want of memory to answer a line, or once it has read a
+/// byte more than `SCRIPT_LIMIT` and answered the lines that ended within the limit. It reads no further than that byte.
+pub fn answer_script<S: Answering, R: Source, W: Sink>(
+    alloc: Global,
+    session: &mut S,
+    source: &mut R,
+    sink: &mut W,
+) -> Result<(), RunFault>
+    requires source { R.fault_count source.old < 2 ^ 64 - 1 }
+    requires sink { W.fault_count sink.old < 2 ^ 64 - 1 }
+
+    // A run that ends well has answered the whole script.
+    ensures fits { IfSome (R.rest source.old) (λ script. OnOk result (length script ≤ SCRIPT_LIMIT)) }
+    ensures written { IfSome (R.rest source.old) (λ script. OnOk result (
+        W.written sink.new ≡ append_known (W.written sink.old) (out_of S.outcome S.closing script session.old))) }
+    ensures session { IfSome (R.rest source.old) (λ script. OnOk result (session.new ≡ final S.outcome (lines script) session.old)) }
+
+    // A fault has its cause, and a read or a write that failed is not tried again.
+    ensures reads { R.fault_count source.new ≡ R.fault_count source.old + failed_reads result }
+    ensures writes { W.fault_count sink.new ≡ W.fault_count sink.old + failed_writes result }
+    ensures long { IfSome (R.rest source.old) (λ script. IsErrOf result RunFault.ScriptTooLong → SCRIPT_LIMIT < length script) }
+    ensures few { TakesAtMost (SCRIPT_LIMIT + 1) (R.rest source.old) (R.rest source.new) }
+
+    // What a fault leaves written.
+    ensures left_read { IsErrOf result RunFault.ReadFault →
+        AnswersEnded S.outcome session.old (R.rest source.old) (R.rest source.new) (W.written sink.old) (W.written sink.new) }
+    ensures left_long { IfSome (R.rest source.old) (λ script. IsErrOf result RunFault.ScriptTooLong →
+        W.written sink.new ≡ append_known (W.written sink.old) (replies S.outcome (ended_lines (take SCRIPT_LIMIT script)) session.old)) }
+    ensures left_write { IsErrOf result RunFault.WriteFault →
+        AnswersFront S.outcome S.closing session.old (R.rest source.old) (R.rest source.new) (W.written sink.old) (W.written sink.new) }
+    ensures left_memory { IsErrOf result RunFault.OutOfMemory →
+        AnswersFront S.outcome S.closing session.old (R.rest source.old) (R.rest source.new) (W.written sink.old) (W.written sink.new) }
+{
+    let mut line = LineSoFar::new();
+    let mut buffer = [0u8; PIECE_LENGTH];
+    let mut total = 0usize;
+    while total <= SCRIPT_LIMIT {
+        let room = PIECE_LENGTH.min(SCRIPT_LIMIT + 1 - total);
+        let Ok(n) = source.read(&mut buffer[..room]) else {
+            return Err(RunFault::ReadFault);
+        };
+        if n == 0 {
+            answer_end(alloc, session, &line, sink)?;
+            return Ok(());
+        }
+        let within = n.min(SCRIPT_LIMIT - total);
+        answer_piece(alloc, session, &mut line, &buffer[..within], sink)?;
+        total += n;
+    }
+    Err(RunFault::ScriptTooLong)
+}

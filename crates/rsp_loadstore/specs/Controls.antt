@@ -1,0 +1,41 @@
+-- Moves between a scalar register and a control register of the vector unit.
+use Rattle.std.specs.Prelude.{ℕ, ◌+◌, ◌*◌, ◌/◌, ◌%◌, Bool, List}
+use Rattle.std.specs.Simd.Lanes.{mask_l}
+use Rattle.rsp_lanes.specs.Lanes.{each_lane, bit_set}
+use Rattle.rsp_flags.specs.declared.flags.Flags.{Flags}
+use Rattle.rsp_decode.specs.declared.inst.Inst.{Inst}
+use Rattle.rsp_decode.specs.declared.inst.Inst.TheVariants.{MoveControl}
+use Rattle.rsp_decode.specs.declared.inst.MoveRow.TheVariants.{From, To}
+use Rattle.rsp_decode.specs.declared.inst.Control.{Control}
+use Rattle.rsp_decode.specs.declared.inst.Control.TheVariants.{Vco, Vcc, Vce}
+use Rattle.rsp_loadstore.specs.Moves.{sign_extended}
+
+-- eight marks in bits 0 to 7, and eight in bits 8 to 15
+abbrev pub joined : List Bool → List Bool → ℕ
+joined low high = mask_l low + mask_l high * 256
+
+-- bits 0 to 7 of a number as marks
+abbrev pub marks : ℕ → List Bool
+marks n = each_lane (λ i. bit_set n i)
+
+-- a control register as a number of 32 bits: VCO and VCC are signed, VCE is not
+abbrev pub control_word : Control → Flags → ℕ
+control_word Vco f = sign_extended (joined f.carry f.differ)
+control_word Vcc f = sign_extended (joined f.compare f.clip)
+control_word Vce f = mask_l f.extra
+
+-- the flags after a write of a control register
+abbrev pub with_control : Control → ℕ → Flags → Flags
+with_control Vco value f = record f { carry = marks (value % 256); differ = marks (value / 256 % 256) }
+with_control Vcc value f = record f { compare = marks (value % 256); clip = marks (value / 256 % 256) }
+with_control Vce value f = record f { extra = marks (value % 256) }
+
+-- what CFC2 reads; for another instruction 0
+unfoldable pub control_value : Inst → Flags → ℕ
+control_value (MoveControl From rt control) f = control_word control f
+control_value _ f = 0
+
+-- the flags after CTC2 of a value; another instruction changes none
+unfoldable pub controlled_flags : Inst → ℕ → Flags → Flags
+controlled_flags (MoveControl To rt control) value f = with_control control value f
+controlled_flags _ value f = f

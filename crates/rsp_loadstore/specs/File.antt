@@ -1,0 +1,19 @@
+-- The vector registers, as a list of 32 lists of eight lanes.
+use Rattle.std.specs.Prelude.{ℕ, ◌+◌, ◌*◌, ◌/◌, ◌%◌, List, [], replicate, slice_index_or, slice_set}
+use Rattle.rsp_lanes.specs.Lanes.{each_lane, register_byte}
+
+-- the registers at the start
+unfoldable pub empty_file : List (List ℕ)
+empty_file = replicate 32 (each_lane (λ _. 0))
+
+-- register n
+unfoldable pub register : List (List ℕ) → ℕ → List ℕ
+register file n = slice_index_or file n []
+
+-- the registers after a write of register n
+unfoldable pub with_register : List (List ℕ) → ℕ → List ℕ → List (List ℕ)
+with_register file n v = slice_set file n v
+
+-- bits 14 to 7 of the sixteen bits at bytes i and i + 1, modulo 16
+unfoldable pub middle : List ℕ → ℕ → ℕ
+middle v i = (register_byte v i * 256 + register_byte v ((i + 1) % 16)) / 128 % 256

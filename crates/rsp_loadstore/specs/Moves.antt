@@ -1,0 +1,33 @@
+-- Moves between a scalar register and a vector register.
+use Rattle.std.specs.Prelude.{ℕ, ◌+◌, ◌*◌, ◌/◌, ◌%◌, List, nat_lt, if◌then◌else◌}
+use Rattle.std.specs.Int.{cast_signed, cast_unsigned, w16, w32}
+use Rattle.rsp_lanes.specs.Lanes.{register_byte, with_register_byte}
+use Rattle.rsp_decode.specs.declared.inst.Inst.{Inst}
+use Rattle.rsp_decode.specs.declared.inst.Inst.TheVariants.{MoveVector}
+use Rattle.rsp_decode.specs.declared.inst.MoveRow.TheVariants.{From, To}
+use Rattle.rsp_loadstore.specs.File.{register, with_register}
+
+-- sixteen bits with their sign, modulo 2^32
+abbrev pub sign_extended : ℕ → ℕ
+sign_extended n = cast_unsigned w32 (cast_signed w16 n)
+
+-- the sixteen bits at bytes e and e + 1, modulo 16
+unfoldable pub register_half : List ℕ → ℕ → ℕ
+register_half v e = register_byte v e * 256 + register_byte v ((e + 1) % 16)
+
+-- a register after a write of bits 15 to 8 of a number at byte e and, where e is below 15, bits 7 to 0 at byte e + 1
+unfoldable pub with_register_half : List ℕ → ℕ → ℕ → List ℕ
+with_register_half v e value =
+    let first = with_register_byte v e (value / 256 % 256) in
+    if nat_lt e 15 then with_register_byte first (e + 1) (value % 256) else first
+
+-- what MFC2 reads; for another instruction 0
+unfoldable pub moved_value : Inst → List (List ℕ) → ℕ
+moved_value (MoveVector From rt vector element) file = sign_extended (register_half (register file vector) element)
+moved_value _ file = 0
+
+-- the registers after MTC2 of a value; another instruction changes none
+unfoldable pub moved_file : Inst → ℕ → List (List ℕ) → List (List ℕ)
+moved_file (MoveVector To rt vector element) value file =
+    with_register file vector (with_register_half (register file vector) element value)
+moved_file _ value file = file

@@ -1,0 +1,67 @@
+ghost use Rattle.std.specs.Prelude.{◌≡◌, ◌≤ℤ◌, pos, negsuc};
+ghost use Rattle.rsp_decode.specs.Table.{vector_load_scale, vector_store_scale};
+ghost use Rattle.rsp_loadstore.specs.Addresses.{signed_offset, displaced, transfer_address};
+
+use rsp_decode::{Inst, VectorLoadRow, VectorStoreRow};
+
+/// The address of a vector load or store, modulo 2^32: the base register's value plus the signed seven-bit offset times
+/// the row's scale of the instruction table. For an instruction of another group it is `base`.
+#[inline]
+#[tactic(auto, unfolding(crate::specs::Addresses::transfer_address))]
+pub fn address(inst: &Inst, base: u32) -> u32
+    ensures { result ≡ transfer_address inst.now base }
+{
+    match *inst {
+        Inst::VectorLoad { row, offset, .. } => displaced(base, offset, load_scale(row)),
+        Inst::VectorStore { row, offset, .. } => displaced(base, offset, store_scale(row)),
+        _ => base,
+    }
+}
+
+/// The signed reading of the seven bits of an offset.
+#[inline]
+fn signed_offset(offset: u8) -> i64
+    ensures value { result ≡ signed_offset offset }
+    ensures low { negsuc 63 ≤ℤ result }
+    ensures high { result ≤ℤ pos 127 }
+{
+    if offset < 64 {
+        offset as i64
+    } else {
+        offset as i64 - 128
+    }
+}
+
+/// The base plus the offset times the scale, modulo 2^32.
+#[inline]
+fn displaced(base: u32, offset: u8, scale: u8) -> u32
+    ensures { result ≡ displaced base offset scale }
+{
+    (base as i64 + signed_offset(offset) * scale as i64).rem_euclid(1 << 32) as u32
+}
+
+#[inline]
+fn load_scale(row: VectorLoadRow) -> u8
+    ensures { result ≡ vector_load_scale row }
+{
+    match row {
+        VectorLoadRow::Lbv => 1,
+        VectorLoadRow::Lsv => 2,
+        VectorLoadRow::Llv => 4,
+        VectorLoadRow::Ldv | VectorLoadRow::Lpv | VectorLoadRow::Luv => 8,
+        _ => 16,
+    }
+}
+
+#[inline]
+fn store_scale(row: VectorStoreRow) -> u8
+    ensures { result ≡ vector_store_scale row }
+{
+    match row {
+        VectorStoreRow::Sbv => 1,
+        VectorStoreRow::Ssv => 2,
+        VectorStoreRow::Slv => 4,
+        VectorStoreRow::Sdv | VectorStoreRow::Spv | VectorStoreRow::Suv => 8,
+        _ => 16,
+    }
+}

@@ -1,0 +1,64 @@
+ghost use Rattle.std.specs.Prelude.{◌≡◌};
+ghost use Rattle.rsp_decode.specs.Table.{IsInstruction};
+ghost use Rattle.rsp_loadstore.specs.Controls.{joined, control_value, controlled_flags};
+
+use crate::moves::sign_extended;
+use rsp_decode::{Control, Inst, MoveRow};
+use rsp_flags::Flags;
+use rsp_lanes::Mask8;
+
+/// Eight marks in bits 7 to 0, and eight in bits 15 to 8.
+fn joined(low: Mask8, high: Mask8) -> u16
+    ensures { result ≡ joined low high }
+{
+    (low.bits() + high.bits() * 256) as u16
+}
+
+/// What CFC2 reads: VCO or VCC with their sign, or VCE without. For another instruction it is 0.
+#[tactic(auto, unfolding(crate::specs::Controls::control_value))]
+pub fn control_from(inst: &Inst, flags: &Flags) -> u32
+    requires { IsInstruction inst.now }
+    ensures { result ≡ control_value inst.now flags.now }
+{
+    match *inst {
+        Inst::MoveControl {
+            row: MoveRow::From,
+            control,
+            ..
+        } => match control {
+            Control::Vco => sign_extended(joined(flags.carry, flags.differ)),
+            Control::Vcc => sign_extended(joined(flags.compare, flags.clip)),
+            Control::Vce => flags.extra.bits() as u32,
+        },
+        _ => 0,
+    }
+}
+
+/// Executes CTC2: VCO and VCC take the low sixteen bits of `value`, VCE the low eight. Another instruction changes
+/// nothing.
+#[tactic(auto, unfolding(crate::specs::Controls::controlled_flags))]
+pub fn control_to(inst: &Inst, value: u32, flags: &mut Flags)
+    requires { IsInstruction inst.now }
+    ensures { flags.new ≡ controlled_flags inst.now value flags.old }
+{
+    if let Inst::MoveControl {
+        row: MoveRow::To,
+        control,
+        ..
+    } = *inst
+    {
+        let low = Mask8::from_bits((value % 256) as u16);
+        let high = Mask8::from_bits((value / 256 % 256) as u16);
+        match control {
+            Control::Vco => {
+                flags.carry = low;
+                flags.differ = high;
+            }
+            Control::Vcc => {
+                flags.compare = low;
+                flags.clip = high;
+            }
+            Control::Vce => flags.extra = low,
+        }
+    }
+}

@@ -1,0 +1,90 @@
+ghost use Rattle.std.specs.Prelude.{◌≡◌, ◌<◌, length, slice_set};
+ghost use Rattle.rsp_lanes.specs.Lanes.{with_register_byte};
+ghost use Rattle.rsp_loadstore.specs.File.{register, with_register, empty_file, middle};
+
+use rsp_lanes::VReg;
+use std::marker::Model;
+
+/// The 32 vector registers, which contracts see as a list of 32 lists of eight lanes.
+#[derive(Drop)]
+pub struct VFile {
+    registers: [VReg; 32],
+}
+
+impl Model for VFile {
+    ghost use Rattle.std.specs.Prelude.{List, ℕ};
+
+    ghost Value = { List (List ℕ) };
+
+    ghost view = { λ f. f.registers };
+}
+
+impl VFile {
+    /// Registers whose lanes are all 0.
+    #[tactic(auto, unfolding(crate::specs::File::empty_file))]
+    pub fn new() -> VFile
+        ensures { result ≡ empty_file }
+    {
+        VFile {
+            registers: [VReg::new(); 32],
+        }
+    }
+
+    /// Register `n`, below 32.
+    #[inline]
+    #[tactic(auto, using(std::proofs::lemmas::List::get_or_default), unfolding(crate::specs::File::register))]
+    pub fn reg(&self, n: u8) -> VReg
+        requires { n < 32 }
+        ensures value { result ≡ register self.now n }
+        ensures file { length self.now ≡ 32 }
+    {
+        self.registers[n as usize]
+    }
+
+    /// Writes register `n`, below 32; the others stay.
+    #[inline]
+    #[tactic(auto, unfolding(crate::specs::File::with_register))]
+    pub fn set_reg(&mut self, n: u8, v: VReg)
+        requires { n < 32 }
+        ensures { self.new ≡ with_register self.old n v }
+    {
+        self.registers[n as usize] = v;
+    }
+
+    /// Writes a byte of a register.
+    #[inline]
+    pub(crate) fn set_byte(&mut self, n: u8, i: usize, value: u8)
+        requires register { n < 32 }
+        requires byte { i < 16 }
+        ensures { self.new ≡ with_register self.old n (with_register_byte (register self.old n) i value) }
+    {
+        let mut v = self.reg(n);
+        v.set_byte(i, value);
+        self.set_reg(n, v);
+    }
+
+    /// Writes a lane of a register.
+    #[inline]
+    pub(crate) fn set_lane(&mut self, n: u8, i: usize, value: u16)
+        requires register { n < 32 }
+        requires lane { i < 8 }
+        ensures { self.new ≡ with_register self.old n (slice_set (register self.old n) i value) }
+    {
+        let mut v = self.reg(n);
+        v.set_lane(i, value);
+        self.set_reg(n, v);
+    }
+
+    /// Bits 14 to 7 of the sixteen bits at byte `i` and the next, modulo 16.
+    #[inline]
+    #[tactic(auto, unfolding(crate::specs::File::middle))]
+    pub(crate) fn middle(&self, n: u8, i: usize) -> u8
+        requires register { n < 32 }
+        requires byte { i < 16 }
+        ensures { result ≡ middle (register self.now n) i }
+    {
+        let v = self.reg(n);
+        let bits = u16::from_be_bytes([v.byte(i), v.byte((i + 1) % 16)]);
+        (bits / 128 % 256) as u8
+    }
+}

@@ -1,0 +1,21 @@
+//! The vector register file, vector loads and stores, and the moves between scalar registers and the vector unit.
+//!
+//! A load or store is a list of pairs, applied in order: a byte or a lane of a register, and an address in memory.
+//! Each call takes the whole instruction, and one of another group changes nothing.
+#![tactic(auto)]
+
+mod addressing;
+mod control;
+mod file;
+mod loads;
+mod moves;
+mod stores;
+#[cfg(test)]
+mod tests;
+
+pub use addressing::address;
+pub use control::{control_from, control_to};
+pub use file::VFile;
+pub use loads::load;
+pub use moves::{move_from, move_to};
+pub use stores::store;

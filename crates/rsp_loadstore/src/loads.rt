@@ -1,0 +1,167 @@
+ghost use Rattle.std.specs.Prelude.{◌≡◌, ◌<◌, ◌≤◌, ◌+◌, ◌-◌};
+ghost use Rattle.rsp_decode.specs.Table.{IsInstruction};
+ghost use Rattle.rsp_lanes.specs.Lanes.{with_register_byte};
+ghost use Rattle.rsp_loadstore.specs.Loads.{after_load, load_pairs, loaded_file, bytes, lanes, transposed, spaced, IsLoadElement};
+
+use crate::VFile;
+use rsp_decode::{Inst, VectorLoadRow};
+use rsp_lanes::VReg;
+use rsp_memory::SpMem;
+
+/// Executes a vector load at the address `a`, the one that `address` gives; LTV writes parts of eight registers.
+/// An instruction of another group changes nothing.
+#[tactic(auto, unfolding(crate::specs::Loads::loaded_file))]
+pub fn load(inst: &Inst, a: u32, memory: &SpMem, file: &mut VFile)
+    requires { IsInstruction inst.now }
+    ensures { file.new ≡ loaded_file inst.now a memory.now file.old }
+{
+    if let Inst::VectorLoad {
+        row,
+        vt,
+        element,
+        ..
+    } = *inst
+    {
+        load_row(row, vt, element as usize, a, memory, file);
+    }
+}
+
+#[tactic(auto, unfolding(crate::specs::Loads::load_pairs))]
+fn load_row(row: VectorLoadRow, vt: u8, e: usize, a: u32, memory: &SpMem, file: &mut VFile)
+    requires register { vt < 32 }
+    requires element { e < 16 }
+    requires half { IsLoadElement row e }
+    ensures { file.new ≡ after_load memory.now file.old (load_pairs row vt e a) }
+{
+    let place = (a % 16) as usize;
+    let block = a - a % 8;
+    let start = a % 8 + 16 - e as u32;
+    match row {
+        VectorLoadRow::Lbv => load_bytes(vt, e, 1.min(16 - e), a, memory, file),
+        VectorLoadRow::Lsv => load_bytes(vt, e, 2.min(16 - e), a, memory, file),
+        VectorLoadRow::Llv => load_bytes(vt, e, 4.min(16 - e), a, memory, file),
+        VectorLoadRow::Ldv => load_bytes(vt, e, 8.min(16 - e), a, memory, file),
+        VectorLoadRow::Lqv if e == 0 && place == 0 => load_whole(vt, a, memory, file),
+        VectorLoadRow::Lqv => load_bytes(vt, e, (16 - place).min(16 - e), a, memory, file),
+        VectorLoadRow::Lrv => {
+            let count = place.saturating_sub(e);
+            load_bytes(vt, 16 - place + e, count, a - a % 16, memory, file)
+        }
+        VectorLoadRow::Lpv => load_lanes(vt, spaced(0, 8, 256, start, 1), block, memory, file),
+        VectorLoadRow::Luv => load_lanes(vt, spaced(0, 8, 128, start, 1), block, memory, file),
+        VectorLoadRow::Lhv => load_lanes(vt, spaced(0, 8, 128, start, 2), block, memory, file),
+        VectorLoadRow::Lfv => load_lanes(vt, spaced(e / 2, 4, 128, a % 8, 4), block, memory, file),
+        VectorLoadRow::Ltv => load_transposed(vt, e, a, memory, file),
+    }
+}
+
+/// Writes byte `i` of eight lanes.
+#[tactic(auto, unfolding(rsp_lanes::specs::Lanes::with_register_byte))]
+fn put_byte(lanes: &mut [u16; 8], i: usize, value: u8)
+    requires { i < 16 }
+    ensures { lanes.new ≡ with_register_byte lanes.old i value }
+{
+    let [high, low] = lanes[i / 2].to_be_bytes();
+    let bytes = if i % 2 == 0 {
+        [value, low]
+    } else {
+        [high, value]
+    };
+    lanes[i / 2] = u16::from_be_bytes(bytes);
+}
+
+/// Loads `n` bytes of a register from byte `i` on. The loop works on a copy of the lanes, since a write to one byte of a
+/// vector in memory is slow.
+#[tactic(auto, using(crate::proofs::Pairs::loads), unfolding(crate::specs::Loads::loaded, crate::specs::Loads::bytes))]
+fn load_bytes(vt: u8, i: usize, n: usize, a: u32, memory: &SpMem, file: &mut VFile)
+    requires register { vt < 32 }
+    requires inside { n ≤ 16 - i }
+    ensures { file.new ≡ after_load memory.now file.old (bytes vt i n a) }
+{
+    let mut lanes = file.reg(vt).to_array();
+    for k in 0..n {
+        put_byte(&mut lanes, i + k, memory.byte(a.wrapping_add(k as u32)));
+    }
+    file.set_reg(vt, VReg::from_array(lanes));
+}
+
+/// Lanes that are loaded from bytes that lie apart.
+#[derive(Clone, Copy)]
+pub struct Spread {
+    /// The first lane.
+    pub first: usize,
+    /// How many lanes there are.
+    pub count: usize,
+    /// What each byte is multiplied by.
+    pub factor: u16,
+    /// Where the first byte lies, modulo 16.
+    pub start: u32,
+    /// How far apart the bytes lie.
+    pub stride: u32,
+}
+
+#[inline]
+fn spaced(first: usize, count: usize, factor: u16, start: u32, stride: u32) -> Spread
+    ensures { result ≡ spaced first count factor start stride }
+{
+    Spread {
+        first,
+        count,
+        factor,
+        start,
+        stride,
+    }
+}
+
+/// Loads lanes, each with a byte of the sixteen from `block` on.
+#[inline]
+#[tactic(auto, using(crate::proofs::Pairs::loads), unfolding(crate::specs::Loads::loaded, crate::specs::Loads::lanes))]
+fn load_lanes(vt: u8, s: Spread, block: u32, memory: &SpMem, file: &mut VFile)
+    requires register { vt < 32 }
+    requires inside { s.first + s.count ≤ 8 }
+    requires factor { s.factor ≤ 256 }
+    requires start { s.start ≤ 32 }
+    requires stride { s.stride ≤ 4 }
+    ensures { file.new ≡ after_load memory.now file.old (lanes vt s block) }
+{
+    for j in 0..s.count {
+        let byte = memory.byte(block.wrapping_add((s.start + s.stride * j as u32) % 16));
+        file.set_lane(vt, s.first + j, u16::from(byte) * s.factor);
+    }
+}
+
+/// Loads two bytes of each of eight registers.
+#[tactic(auto, using(crate::proofs::Pairs::loads), unfolding(crate::specs::Loads::loaded, crate::specs::Loads::transposed))]
+fn load_transposed(vt: u8, e: usize, a: u32, memory: &SpMem, file: &mut VFile)
+    requires register { vt < 32 }
+    requires element { e < 16 }
+    ensures { file.new ≡ after_load memory.now file.old (transposed vt e a 16) }
+{
+    let block = a - a % 8;
+    for k in 0..16 {
+        let register = vt - vt % 8 + ((e / 2 + k / 2) % 8) as u8;
+        let byte = memory.byte(block.wrapping_add((k as u32 + e as u32 + a / 8 % 2 * 8) % 16));
+        file.set_byte(register, k, byte);
+    }
+}
+
+/// Loads a whole register, by halves.
+fn load_whole(vt: u8, a: u32, memory: &SpMem, file: &mut VFile)
+    requires register { vt < 32 }
+    ensures { file.new ≡ after_load memory.now file.old (bytes vt 0 16 a) }
+{
+    let _ = file.reg(vt).to_simd();
+    file.set_reg(
+        vt,
+        VReg::from_array([
+            memory.half(a),
+            memory.half(a.wrapping_add(2)),
+            memory.half(a.wrapping_add(4)),
+            memory.half(a.wrapping_add(6)),
+            memory.half(a.wrapping_add(8)),
+            memory.half(a.wrapping_add(10)),
+            memory.half(a.wrapping_add(12)),
+            memory.half(a.wrapping_add(14)),
+        ]),
+    );
+}

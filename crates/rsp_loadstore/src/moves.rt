@@ -1,0 +1,59 @@
+ghost use Rattle.std.specs.Prelude.{◌≡◌};
+ghost use Rattle.rsp_decode.specs.Table.{IsInstruction};
+ghost use Rattle.rsp_loadstore.specs.Moves.{sign_extended, moved_file, moved_value};
+
+use crate::VFile;
+use rsp_decode::{Inst, MoveRow};
+
+/// Sixteen bits, their sign extended to 32.
+#[inline]
+pub(crate) fn sign_extended(n: u16) -> u32
+    ensures { result ≡ sign_extended n }
+{
+    (n.cast_signed() as i32).cast_unsigned()
+}
+
+/// What MFC2 reads: the sixteen bits at a byte of a vector register and the next, modulo 16, with their sign.
+/// For another instruction it is 0.
+#[tactic(auto, unfolding(crate::specs::Moves::moved_value, crate::specs::Moves::register_half))]
+pub fn move_from(inst: &Inst, file: &VFile) -> u32
+    requires { IsInstruction inst.now }
+    ensures { result ≡ moved_value inst.now file.now }
+{
+    match *inst {
+        Inst::MoveVector {
+            row: MoveRow::From,
+            vector,
+            element,
+            ..
+        } => {
+            let e = element as usize;
+            let v = file.reg(vector);
+            sign_extended(u16::from_be_bytes([v.byte(e), v.byte((e + 1) % 16)]))
+        }
+        _ => 0,
+    }
+}
+
+/// Executes MTC2: the low sixteen bits of `value` are written at a byte of a vector register and the next; what would be
+/// byte 16 is dropped. Another instruction changes nothing.
+#[tactic(auto, unfolding(crate::specs::Moves::moved_file, crate::specs::Moves::with_register_half))]
+pub fn move_to(inst: &Inst, value: u32, file: &mut VFile)
+    requires { IsInstruction inst.now }
+    ensures { file.new ≡ moved_file inst.now value file.old }
+{
+    if let Inst::MoveVector {
+        row: MoveRow::To,
+        vector,
+        element,
+        ..
+    } = *inst
+    {
+        let mut v = file.reg(vector);
+        v.set_byte(element as usize, (value / 256 % 256) as u8);
+        if element < 15 {
+            v.set_byte(element as usize + 1, (value % 256) as u8);
+        }
+        file.set_reg(vector, v);
+    }
+}

@@ -1,0 +1,83 @@
+-- What the host does: SP registers, loads, places and tasks.
+use Rattle.std.specs.Prelude.{ℕ, ◌+◌, ◌*◌, ◌%◌, Bool, not, nat_le, nat_lt, ◌==◌, ◌&&◌, ◌||◌, if◌then◌else◌, List, length, Option, Some, None}
+use Rattle.rsp_memory.specs.Memory.{with_bytes}
+use Rattle.rsp_memory.specs.Image.{image_byte, with_image_bytes}
+use Rattle.rsp_regs.specs.Sp.{Sp, after_read, written, bank_written, image_written, is_imem, after_task}
+use Rattle.rsp_regs.specs.Dma.{pairs, copied_in}
+use Rattle.rsp_regs.specs.declared.transfer.Transfer.{Transfer}
+use Rattle.rsp_machine.specs.State.{State}
+use Rattle.rsp_memory.specs.declared.bank.Bank.{Bank}
+use Rattle.rsp_memory.specs.declared.bank.Bank.TheVariants.{Dmem, Imem, Rdram}
+use Rattle.rsp_machine.specs.declared.host.TaskFault.{TaskFault}
+use Rattle.rsp_machine.specs.declared.host.TaskFault.TheVariants.{TaskPlace, TaskSize}
+
+-- the state after a read of SP register n, modulo 16: a read of the semaphore takes it
+abbrev pub register_read : ℕ → State → State
+register_read n s = record s { sp = after_read n s.sp }
+
+-- the state after a write of v to SP register n, modulo 16, with the DMA that it asks for: from the RDRAM into the bank that
+-- SP_MEM_ADDR names, or back
+abbrev pub register_written : ℕ → ℕ → State → State
+register_written n v s = record s {
+  sp = written n v s.sp;
+  dmem = bank_written (not (is_imem s.sp)) n v s.sp s.rdram s.dmem;
+  imem = bank_written (is_imem s.sp) n v s.sp s.rdram s.imem;
+  rdram = image_written n v s.sp s.dmem s.imem s.rdram;
+}
+
+-- the length of a bank
+abbrev pub bank_length : Bank → State → ℕ
+bank_length Dmem s = 4096
+bank_length Imem s = 4096
+bank_length Rdram s = length s.rdram
+
+-- whether n bytes from an address on stand in a bank; of no bytes, whether the address isn't past its end
+abbrev pub is_inside : Bank → ℕ → ℕ → State → Bool
+is_inside bank a n s = nat_le (a + n) (bank_length bank s)
+
+-- the state after bytes, all inside a bank, were written to it from an address on
+unfoldable pub loaded : Bank → ℕ → List ℕ → State → State
+loaded Dmem a bytes s = record s { dmem = with_bytes s.dmem a bytes }
+loaded Imem a bytes s = record s { imem = with_bytes s.imem a bytes }
+loaded Rdram a bytes s = record s { rdram = with_image_bytes s.rdram a bytes }
+
+-- the word at an address of the RDRAM, the highest byte first
+unfoldable pub image_word : List ℕ → ℕ → ℕ
+image_word image a =
+    image_byte image a * 16777216 + image_byte image (a + 1) * 65536 + image_byte image (a + 2) * 256 + image_byte image (a + 3)
+
+-- a move of some bytes from a place in the RDRAM to a place in a bank
+abbrev pub one_run : ℕ → ℕ → ℕ → Transfer
+one_run place from n = record { sp = place; dram = from; length = n; count = 0; skip = 0 }
+
+-- The task structure at an address of the RDRAM has ucode_boot, the place of its boot code in the RDRAM, at 8, modulo 2^24, and
+-- ucode_boot_size, the number of its bytes, at 12.
+abbrev pub boot_place : ℕ → List ℕ → ℕ
+boot_place a image = image_word image (a + 8) % 16777216
+
+abbrev pub boot_size : ℕ → List ℕ → ℕ
+boot_size a image = image_word image (a + 12)
+
+-- Why a task can't start: its structure of 64 bytes stands at no multiple of 8, or passes the image's end; else its boot code
+-- hasn't 1 to 4096 bytes.
+abbrev pub task_fault : ℕ → List ℕ → Option TaskFault
+task_fault a image =
+    if not (a % 8 == 0) || nat_lt (length image) (a + 64) then Some TaskPlace
+    else if nat_le 1 (boot_size a image) && nat_le (boot_size a image) 4096 then None
+    else Some TaskSize
+
+-- The state after a task's start: the 64 bytes of its structure stand in DMEM from FC0 hex on, and its boot code in IMEM from 0 on,
+-- where the bytes past the image's end are 0; IMEM's other bytes stay. intbreak is set, and halted, broke and signals 0 to 2
+-- are cleared.
+unfoldable pub tasked : ℕ → State → State
+tasked a s = record s {
+  dmem = copied_in s.rdram s.dmem (pairs (one_run 4032 a 64));
+  imem = copied_in s.rdram s.imem (pairs (one_run 0 (boot_place a s.rdram) (boot_size a s.rdram)));
+  pc = 0;
+  npc = 4;
+  sp = after_task s.sp;
+}
+
+-- the state that goes on at a place of IMEM
+abbrev pub placed : ℕ → State → State
+placed place s = record s { pc = place; npc = (place + 4) % 4096 }

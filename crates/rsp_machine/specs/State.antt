@@ -1,0 +1,45 @@
+-- The state of the machine, as plain numbers and lists.
+use Rattle.std.specs.Prelude.{ℕ, ℤ, pos, List}
+use Rattle.rsp_lanes.specs.Lanes.{each_lane}
+use Rattle.rsp_memory.specs.Memory.{empty_memory}
+use Rattle.rsp_flags.specs.declared.flags.Flags.{Flags}
+use Rattle.rsp_flags.specs.Flags.{no_flags}
+use Rattle.rsp_divide.specs.declared.divider.Divider.{Divider}
+use Rattle.rsp_divide.specs.Dividers.{no_divider}
+use Rattle.rsp_loadstore.specs.File.{empty_file}
+use Rattle.rsp_scalar.specs.Registers.{empty_registers}
+use Rattle.rsp_scalar.specs.Flow.{going_on}
+use Rattle.rsp_regs.specs.Sp.{Sp, start}
+
+pub record State : Type 0 where
+  pub pc : ℕ  -- the place in IMEM of the next instruction, below 4096
+  pub npc : ℕ  -- and of the one after it
+  pub registers : List ℕ  -- 32 numbers below 2^32, of which number 0 is 0
+  pub vectors : List (List ℕ)  -- 32 registers of eight numbers below 2^16
+  pub accumulators : List ℤ  -- eight numbers from -2^47 to 2^47 - 1
+  pub flags : Flags  -- five flags of each lane
+  pub divider : Divider  -- two numbers below 2^16 and a mark
+  pub dmem : List ℕ  -- 4096 bytes
+  pub imem : List ℕ  -- 4096 bytes
+  pub rdram : List ℕ  -- as many bytes as the image has
+  pub sp : Sp  -- the SP registers, with the interrupt flag
+
+-- The start: all 0, but for the image and npc, which is 4. SP registers 2 and 3 read FF8 hex, since the kept skip is 0.
+unfoldable pub start_of : List ℕ → State
+start_of image = record {
+  pc = 0;
+  npc = 4;
+  registers = empty_registers;
+  vectors = empty_file;
+  accumulators = each_lane (λ _. pos 0);
+  flags = no_flags;
+  divider = no_divider;
+  dmem = empty_memory;
+  imem = empty_memory;
+  rdram = image;
+  sp = start;
+}
+
+-- after an instruction that doesn't jump: pc becomes npc, and npc the place after it
+abbrev pub advanced : State → State
+advanced s = record s { pc = s.npc; npc = going_on s.npc }

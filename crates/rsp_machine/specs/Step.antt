@@ -1,0 +1,96 @@
+-- One step of the machine.
+use Rattle.std.specs.Prelude.{ℕ, ◌+◌, ◌%◌, Bool, true, not, Option, Some, None, if◌then◌else◌, List}
+use Rattle.rsp_decode.specs.declared.inst.Inst.{Inst}
+use Rattle.rsp_decode.specs.declared.inst.Inst.TheVariants.{Shift, ShiftBy, JumpRegister, JumpLinkRegister, Break, Register, BranchSign, BranchEqual, Jump, Immediate, LoadUpper, Load, Store, MoveSp, MoveVector, MoveControl, Multiply, ReadAccumulator, VectorAdd, VectorSelect, VectorClip, VectorMerge, VectorLogic, Lane, Idle, VectorLoad, VectorStore}
+use Rattle.rsp_decode.specs.declared.inst.MoveRow.{MoveRow}
+use Rattle.rsp_decode.specs.declared.inst.MoveRow.TheVariants.{From, To}
+use Rattle.rsp_decode.specs.Table.{inst_of}
+use Rattle.rsp_memory.specs.Memory.{word_at}
+use Rattle.rsp_scalar.specs.Registers.{register, with_register}
+use Rattle.rsp_scalar.specs.Rows.{computed, after_load, after_store}
+use Rattle.rsp_scalar.specs.Flow.{going_on, following, linked}
+use Rattle.rsp_regs.specs.Sp.{peeked, after_break, after_step}
+use Rattle.rsp_compare.specs.Adds.{add_rule}
+use Rattle.rsp_compare.specs.Selects.{select_rule, merge_rule}
+use Rattle.rsp_compare.specs.Logic.{logic_rule}
+use Rattle.rsp_compare.specs.declared.selects.MergeOp.TheVariants.{Vmrg}
+use Rattle.rsp_clip.specs.Clips.{clip_rule}
+use Rattle.rsp_machine.specs.State.{State, advanced}
+use Rattle.rsp_machine.specs.Ops.{add_op, select_op, clip_op, logic_op}
+use Rattle.rsp_machine.specs.Vector.{multiplies, reads_accumulator, ruled, divides, loads_vector, stores_vector, moves_vector, moves_control}
+use Rattle.rsp_machine.specs.Host.{register_read, register_written}
+use Rattle.rsp_machine.specs.declared.step.StepEnd.{StepEnd}
+use Rattle.rsp_machine.specs.declared.step.StepEnd.TheVariants.{Done, Halted, Reserved}
+
+-- a scalar row that computes
+unfoldable pub computes : Inst → State → State
+computes i s = advanced (record s { registers = computed i s.registers })
+
+-- a scalar load from DMEM
+unfoldable pub loads : Inst → State → State
+loads i s = advanced (record s { registers = after_load i s.registers s.dmem })
+
+-- a scalar store to DMEM
+unfoldable pub stores : Inst → State → State
+stores i s = advanced (record s { dmem = after_store i s.registers s.dmem })
+
+-- a jump or a branch, taken or not; it reads its registers before it writes its link
+unfoldable pub jumps : Inst → State → State
+jumps i s = record s { pc = s.npc; npc = following i s.registers s.npc; registers = linked i s.registers s.npc }
+
+-- a BREAK, which goes on to the next place like any row
+unfoldable pub breaks : State → State
+breaks s = advanced (record s { sp = after_break s.sp })
+
+-- a move from SP register n to scalar register rt, or back: what the host's read and write of it do
+unfoldable pub moves_sp : MoveRow → ℕ → ℕ → State → State
+moves_sp From rt n s =
+    let after = register_read n s in
+    advanced (record after { registers = with_register s.registers rt (peeked n s.sp) })
+moves_sp To rt n s = advanced (register_written n (register s.registers rt) s)
+
+-- the state after an instruction of the table
+unfoldable pub executed : Inst → State → State
+executed (Shift row rd rt amount) s = computes (Shift row rd rt amount) s
+executed (ShiftBy row rd rt rs) s = computes (ShiftBy row rd rt rs) s
+executed (Register row rd rs rt) s = computes (Register row rd rs rt) s
+executed (Immediate row rt rs imm) s = computes (Immediate row rt rs imm) s
+executed (LoadUpper rt imm) s = computes (LoadUpper rt imm) s
+executed (Load row rt offset base) s = loads (Load row rt offset base) s
+executed (Store row rt offset base) s = stores (Store row rt offset base) s
+executed (JumpRegister rs) s = jumps (JumpRegister rs) s
+executed (JumpLinkRegister rd rs) s = jumps (JumpLinkRegister rd rs) s
+executed (BranchSign row rs offset) s = jumps (BranchSign row rs offset) s
+executed (BranchEqual row rs rt offset) s = jumps (BranchEqual row rs rt offset) s
+executed (Jump row target) s = jumps (Jump row target) s
+executed Break s = breaks s
+executed (MoveSp row rt n) s = moves_sp row rt n s
+executed (MoveVector row rt vector element) s = moves_vector row (MoveVector row rt vector element) rt s
+executed (MoveControl row rt control) s = moves_control row (MoveControl row rt control) rt s
+executed (Multiply row vd vs vt e) s = multiplies row vd vs vt e s
+executed (ReadAccumulator vd vs vt e) s = reads_accumulator vd e s
+executed (VectorAdd row vd vs vt e) s = ruled (add_rule (add_op row)) vd vs vt e s
+executed (VectorSelect row vd vs vt e) s = ruled (select_rule (select_op row)) vd vs vt e s
+executed (VectorClip row vd vs vt e) s = ruled (clip_rule (clip_op row)) vd vs vt e s
+executed (VectorMerge vd vs vt e) s = ruled (merge_rule Vmrg) vd vs vt e s
+executed (VectorLogic row vd vs vt e) s = ruled (logic_rule (logic_op row)) vd vs vt e s
+executed (Lane row vd lane vt e) s = divides row vd lane vt e s
+executed (Idle row) s = advanced s
+executed (VectorLoad row vt e offset base) s = loads_vector (VectorLoad row vt e offset base) base s
+executed (VectorStore row vt e offset base) s = stores_vector (VectorStore row vt e offset base) base s
+
+-- the state after a step: halted where single step is set in the state that the instruction made
+abbrev pub singled : State → State
+singled s = record s { sp = after_step s.sp }
+
+-- the answer and the state after a word that is an instruction, or reserved, where nothing changes
+abbrev pub step_by : Option Inst → ℕ → State → StepEnd × State
+step_by None word s = (Reserved word, s)
+step_by (Some i) word s = (Done, singled (executed i s))
+
+-- One step: Halted where halted is set, and nothing changes; Reserved where the word at pc is reserved, and nothing changes;
+-- else the instruction is executed, and the answer is Done.
+unfoldable pub step_of : State → StepEnd × State
+step_of s =
+    let word = word_at s.imem s.pc in
+    if s.sp.halted then (Halted, s) else step_by (inst_of word) word s

@@ -1,0 +1,78 @@
+-- What the vector rows do. Sources are those of the state before; each row then goes on to the next place.
+use Rattle.std.specs.Prelude.{ℕ, List, slice_index}
+use Rattle.rsp_decode.specs.declared.inst.Inst.{Inst}
+use Rattle.rsp_decode.specs.declared.inst.MoveRow.{MoveRow}
+use Rattle.rsp_decode.specs.declared.inst.MoveRow.TheVariants.{From, To}
+use Rattle.rsp_decode.specs.declared.inst.MultiplyRow.{MultiplyRow}
+use Rattle.rsp_decode.specs.declared.inst.LaneRow.{LaneRow}
+use Rattle.rsp_lanes.specs.Lanes.{each_lane, source_lane}
+use Rattle.rsp_flags.specs.Outcome.{Rule, results_of, flags_after, numbers_after}
+use Rattle.rsp_multiply.specs.Rows.{accumulators_after, clamped_by, sar_of}
+use Rattle.rsp_divide.specs.Rows.{lane_written, divider_after, numbers_after as numbers_after_lane}
+use Rattle.rsp_scalar.specs.Registers.{register, with_register}
+use Rattle.rsp_loadstore.specs.File.{register as vector, with_register as with_vector}
+use Rattle.rsp_loadstore.specs.Addresses.{transfer_address}
+use Rattle.rsp_loadstore.specs.Loads.{loaded_file}
+use Rattle.rsp_loadstore.specs.Stores.{stored_memory}
+use Rattle.rsp_loadstore.specs.Moves.{moved_file, moved_value}
+use Rattle.rsp_loadstore.specs.Controls.{controlled_flags, control_value}
+use Rattle.rsp_machine.specs.State.{State, advanced}
+use Rattle.rsp_machine.specs.Ops.{multiply_op, lane_op}
+
+-- register vt with its lanes as the element e selects them
+abbrev pub selected : List (List ℕ) → ℕ → ℕ → List ℕ
+selected file vt e = each_lane (λ i. slice_index (vector file vt) (source_lane e i))
+
+-- a multiply of vs and the selected vt: the accumulators after it, and in vd their clamp
+unfoldable pub multiplies : MultiplyRow → ℕ → ℕ → ℕ → ℕ → State → State
+multiplies row vd vs vt e s =
+    let after = accumulators_after (multiply_op row) (vector s.vectors vs) (selected s.vectors vt e) s.accumulators in
+    advanced (record s { accumulators = after; vectors = with_vector s.vectors vd (clamped_by (multiply_op row) after) })
+
+-- a read of the accumulators into vd, by the element e
+unfoldable pub reads_accumulator : ℕ → ℕ → State → State
+reads_accumulator vd e s = advanced (record s { vectors = with_vector s.vectors vd (sar_of e s.accumulators) })
+
+-- a row that has a rule for one lane, on vs and the selected vt
+unfoldable pub ruled : Rule → ℕ → ℕ → ℕ → ℕ → State → State
+ruled rule vd vs vt e s =
+    let a = vector s.vectors vs in
+    let b = selected s.vectors vt e in
+    advanced (record s {
+      vectors = with_vector s.vectors vd (results_of rule a b s.flags);
+      flags = flags_after rule a b s.flags;
+      accumulators = numbers_after rule a b s.flags s.accumulators;
+    })
+
+-- a row of one lane, which writes that lane of vd; vt is as it stood before, so that it may be vd
+unfoldable pub divides : LaneRow → ℕ → ℕ → ℕ → ℕ → State → State
+divides row vd lane vt e s =
+    let op = lane_op row in
+    let source = vector s.vectors vt in
+    advanced (record s {
+      vectors = with_vector s.vectors vd (lane_written op e lane source s.divider (vector s.vectors vd));
+      divider = divider_after op e lane source s.divider;
+      accumulators = numbers_after_lane op e source s.accumulators;
+    })
+
+-- a vector load from DMEM, at the base register's value and the offset
+unfoldable pub loads_vector : Inst → ℕ → State → State
+loads_vector i base s =
+    let a = transfer_address i (register s.registers base) in
+    advanced (record s { vectors = loaded_file i a s.dmem s.vectors })
+
+-- a vector store to DMEM, at such an address
+unfoldable pub stores_vector : Inst → ℕ → State → State
+stores_vector i base s =
+    let a = transfer_address i (register s.registers base) in
+    advanced (record s { dmem = stored_memory i a s.vectors s.dmem })
+
+-- a move from a vector register to scalar register rt, or back
+unfoldable pub moves_vector : MoveRow → Inst → ℕ → State → State
+moves_vector From i rt s = advanced (record s { registers = with_register s.registers rt (moved_value i s.vectors) })
+moves_vector To i rt s = advanced (record s { vectors = moved_file i (register s.registers rt) s.vectors })
+
+-- a move from a control register to scalar register rt, or back
+unfoldable pub moves_control : MoveRow → Inst → ℕ → State → State
+moves_control From i rt s = advanced (record s { registers = with_register s.registers rt (control_value i s.flags) })
+moves_control To i rt s = advanced (record s { flags = controlled_flags i (register s.registers rt) s.flags })

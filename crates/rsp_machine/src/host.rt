@@ -1,0 +1,145 @@
+ghost use Rattle.std.specs.Prelude.{◌≡◌, ◌<◌, ◌≤◌, ◌↔◌, ◌+◌, ◌%◌, IsOk, OnOk, OnErr, IsTrue, ℕ, Ok, Err, Some, None, length, MatchResult};
+ghost use Rattle.rsp_machine.specs.Host.{register_read, register_written, is_inside, loaded, image_word, task_fault, tasked, one_run, placed};
+ghost use Rattle.rsp_regs.specs.Sp.{peeked};
+
+use crate::machine::Machine;
+use rsp_acc::Acc;
+use rsp_memory::{Bank, Rdram};
+use rsp_regs::Transfer;
+use thiserror::Error;
+
+/// Fault 6, RangeFault: the bytes pass the end of their bank.
+#[derive(Clone, Copy, Debug, PartialEq, Eq)]
+pub struct RangeFault;
+
+/// Why a task can't start. The place comes first: a task that has both faults has TaskPlace.
+#[derive(Clone, Copy, Debug, PartialEq, Eq, Error)]
+pub enum TaskFault {
+    /// Fault 4: its structure stands at no multiple of 8, or its 64 bytes pass the image's end.
+    #[error("TaskPlace")]
+    TaskPlace,
+    /// Fault 5: the size of its boot code, a whole word, isn't 1 to 4096.
+    #[error("TaskSize")]
+    TaskSize,
+}
+
+/// The word at an address of the RDRAM, the highest byte first.
+#[tactic(auto, unfolding(crate::specs::Host::image_word))]
+fn image_word(rdram: &Rdram, a: u32) -> u32
+    requires { a + 4 ≤ 16777216 }
+    ensures { result ≡ image_word rdram.now a }
+{
+    u32::from_be_bytes([
+        rdram.byte(a),
+        rdram.byte(a + 1),
+        rdram.byte(a + 2),
+        rdram.byte(a + 3),
+    ])
+}
+
+impl<A: Acc> Machine<A> {
+    /// Reads an SP register, as the register table has it; its number `n` is taken modulo 16. A read
+    /// of the semaphore, register 7, then sets it; any other read changes nothing.
+    pub fn read_reg(&mut self, n: u32) -> u32
+        ensures value { result ≡ peeked n self.old.sp }
+        ensures state { self.new ≡ register_read n self.old }
+    {
+        self.sp.host_read(n)
+    }
+
+    /// Writes an SP register, as the register table has it; its number `n` is taken modulo 16. A write
+    /// of register 2 does a DMA from the RDRAM into the bank that register 0 names, one of register 3 a
+    /// DMA back, whether the machine is halted or not. The places pc and npc stay.
+    pub fn write_reg(&mut self, n: u32, value: u32)
+        ensures { self.new ≡ register_written n value self.old }
+    {
+        self.sp
+            .host_write(n, value, &mut self.dmem, &mut self.imem, &mut self.rdram);
+    }
+
+    /// Goes on at a place in IMEM, a multiple of 4 below 4096: the next instruction is the one there, and
+    /// the one after it stands 4 further, modulo 4096. A halted machine stays halted.
+    pub fn set_pc(&mut self, pc: u16)
+        requires below { pc < 4096 }
+        requires whole { pc % 4 ≡ 0 }
+        ensures { self.new ≡ placed pc self.old }
+    {
+        self.pc = pc;
+        self.npc = (pc + 4) % 4096;
+    }
+
+    /// Whether `n` bytes from an address on stand in a bank, which for DMEM and IMEM ends at 4096 and
+    /// for the RDRAM at the image's end. No bytes at all do, up to that end.
+    #[inline]
+    pub fn is_inside(&self, bank: Bank, a: u32, n: usize) -> bool
+        ensures value { result ≡ is_inside bank a n self.now }
+        ensures limit { IsTrue result → a + n ≤ 8388608 }
+    {
+        let length = match bank {
+            Bank::Dmem | Bank::Imem => 4096,
+            Bank::Rdram => self.rdram.len(),
+        };
+        n <= length && a as usize <= length - n
+    }
+
+    /// Writes bytes to a bank from an address on. RangeFault, and nothing changes, where they pass the
+    /// bank's end, as [`Machine::is_inside`] tells.
+    #[tactic(auto, unfolding(crate::specs::Host::loaded))]
+    pub fn load_bytes(&mut self, bank: Bank, a: u32, bytes: &[u8]) -> Result<(), RangeFault>
+        ensures inside { IsOk result ↔ IsTrue (is_inside bank a (length bytes.now) self.old) }
+        ensures ok { OnOk result (self.new ≡ loaded bank a bytes.now self.old) }
+        ensures err { OnErr result (self.new ≡ self.old) }
+    {
+        if !self.is_inside(bank, a, bytes.len()) {
+            return Err(RangeFault);
+        }
+        match bank {
+            Bank::Dmem => self.dmem.set_bytes(a, bytes),
+            Bank::Imem => self.imem.set_bytes(a, bytes),
+            Bank::Rdram => self.rdram.set_bytes(a, bytes),
+        }
+        Ok(())
+    }
+
+    /// Starts the task whose structure of 64 bytes stands at an address of the RDRAM: copies the
+    /// structure to DMEM from FC0 hex on, and its boot code to IMEM from 0 on. Bytes of the boot code past
+    /// the image's end are 0. Then pc is 0, npc is 4, intbreak is set, and halted, broke and the signals 0,
+    /// 1 and 2 are cleared. All else stays.
+    ///
+    /// The word at 8 of the structure is the boot code's address, modulo 2^24, and that at 12 the number
+    /// of its bytes. Where a fault of [`TaskFault`] holds it is answered, and nothing changes.
+    #[tactic(auto, unfolding(crate::specs::Host::tasked))]
+    pub fn start_task(&mut self, a: u32) -> Result<(), TaskFault>
+        ensures fault { MatchResult result (λ _. task_fault a self.old.rdram ≡ None) (λ f. task_fault a self.old.rdram ≡ Some f) }
+        ensures ok { OnOk result (self.new ≡ tasked a self.old) }
+        ensures err { OnErr result (self.new ≡ self.old) }
+    {
+        if a % 8 != 0 || a as usize + 64 > self.rdram.len() {
+            return Err(TaskFault::TaskPlace);
+        }
+        let size = image_word(&self.rdram, a + 12);
+        if size == 0 || size > 4096 {
+            return Err(TaskFault::TaskSize);
+        }
+        let boot = image_word(&self.rdram, a + 8) % 0x100_0000;
+        one_run(0xfc0, a, 64).copy_in(&self.rdram, &mut self.dmem);
+        one_run(0, boot, size).copy_in(&self.rdram, &mut self.imem);
+        self.pc = 0;
+        self.npc = 4;
+        self.sp.on_task();
+        Ok(())
+    }
+}
+
+/// A move of `length` bytes from a place in the RDRAM to a place in a bank.
+fn one_run(place: u32, from: u32, length: u32) -> Transfer
+    ensures { result ≡ one_run place from length }
+{
+    Transfer {
+        sp: place,
+        dram: from,
+        length,
+        count: 0,
+        skip: 0,
+    }
+}

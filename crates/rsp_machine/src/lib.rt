@@ -1,0 +1,19 @@
+//! The signal processor: its state, one step of it, and what the host does with it.
+//!
+//! [`Machine`] is generic in how its accumulators are kept; contracts see it as the plain record
+//! `State`, so that two machines of one state can't be told apart. Each call is one equation between
+//! the states before and after it.
+#![tactic(auto)]
+
+mod host;
+pub mod laws;
+mod machine;
+mod ops;
+mod step;
+#[cfg(test)]
+mod tests;
+mod vector;
+
+pub use host::{RangeFault, TaskFault};
+pub use machine::Machine;
+pub use step::StepEnd;

@@ -1,0 +1,189 @@
+ghost use Rattle.std.specs.Prelude.{◌≡◌, ◌<◌};
+ghost use Rattle.rsp_machine.specs.State.{start_of};
+ghost use Rattle.rsp_scalar.specs.Registers.{register};
+ghost use Rattle.rsp_loadstore.specs.File.{register as vector};
+
+use rsp_acc::Acc;
+use rsp_divide::Divider;
+use rsp_flags::Flags;
+use rsp_lanes::VReg;
+use rsp_loadstore::VFile;
+use rsp_memory::{Rdram, SpMem};
+use rsp_regs::SpRegs;
+use rsp_scalar::Regs;
+use std::marker::Model;
+
+/// The signal processor, over accumulators of the kind `A`: the places pc and npc, 32 scalar
+/// registers, 32 vector registers of eight lanes, eight accumulators, the flags, the divider, DMEM,
+/// IMEM, the image of the RDRAM and the SP registers. Contracts see all of them as a `State`.
+#[derive(Drop)]
+pub struct Machine<A: Acc> {
+    pub(crate) pc: u16,
+    pub(crate) npc: u16,
+    pub(crate) regs: Regs,
+    pub(crate) vregs: VFile,
+    pub(crate) acc: A,
+    pub(crate) flags: Flags,
+    pub(crate) divider: Divider,
+    pub(crate) dmem: SpMem,
+    pub(crate) imem: SpMem,
+    pub(crate) rdram: Rdram,
+    pub(crate) sp: SpRegs,
+}
+
+impl<A: Acc> Model for Machine<A> {
+    ghost use Rattle.std.specs.Prelude.{◌<◌};
+    ghost use Rattle.rsp_machine.specs.State.{State};
+
+    ghost Value = { State };
+
+    ghost view = { λ m. record {
+      pc = m.pc;
+      npc = m.npc;
+      registers = m.regs;
+      vectors = m.vregs;
+      accumulators = A.numbers m.acc;
+      flags = m.flags;
+      divider = m.divider;
+      dmem = m.dmem;
+      imem = m.imem;
+      rdram = m.rdram;
+      sp = m.sp;
+    } };
+
+    ghost invariant = { λ m. (m.pc < 4096) × (m.npc < 4096) };
+}
+
+impl<A: Acc> Machine<A> {
+    /// A machine with this image of the RDRAM, and all else 0 but npc, which is 4. It isn't halted.
+    #[tactic(auto, unfolding(crate::specs::State::start_of))]
+    pub fn new(rdram: Rdram) -> Machine<A>
+        ensures { result ≡ start_of rdram }
+    {
+        Machine {
+            pc: 0,
+            npc: 4,
+            regs: Regs::new(),
+            vregs: VFile::new(),
+            acc: A::zero(),
+            flags: Flags::new(),
+            divider: Divider::new(),
+            dmem: SpMem::new(),
+            imem: SpMem::new(),
+            rdram,
+            sp: SpRegs::new(),
+        }
+    }
+
+    /// The place in IMEM of the next instruction, below 4096.
+    #[inline]
+    pub fn pc(&self) -> u16
+        ensures value { result ≡ self.now.pc }
+        ensures place { result < 4096 }
+    {
+        self.pc
+    }
+
+    /// The place in IMEM of the instruction after the next, below 4096.
+    #[inline]
+    pub fn npc(&self) -> u16
+        ensures value { result ≡ self.now.npc }
+        ensures place { result < 4096 }
+    {
+        self.npc
+    }
+
+    /// Scalar register `n`, below 32. Register 0 is 0.
+    #[inline]
+    pub fn reg(&self, n: u8) -> u32
+        requires { n < 32 }
+        ensures { result ≡ register self.now.registers n }
+    {
+        self.regs.get(n)
+    }
+
+    /// Vector register `n`, below 32.
+    #[inline]
+    pub fn vreg(&self, n: u8) -> VReg
+        requires { n < 32 }
+        ensures { result ≡ vector self.now.vectors n }
+    {
+        self.vregs.reg(n)
+    }
+
+    /// The flags of the eight lanes: carry, not-equal, compare, clip and extra.
+    #[inline]
+    pub fn flags(&self) -> &Flags
+        ensures { result.now ≡ self.now.flags }
+    {
+        &self.flags
+    }
+
+    /// What the single-lane rows keep from one to the next.
+    #[inline]
+    pub fn divider(&self) -> &Divider
+        ensures { result.now ≡ self.now.divider }
+    {
+        &self.divider
+    }
+
+    /// The SP registers, whose `peek` takes no semaphore, with the interrupt flag.
+    #[inline]
+    pub fn sp_regs(&self) -> &SpRegs
+        ensures { result.now ≡ self.now.sp }
+    {
+        &self.sp
+    }
+
+    /// The data memory, DMEM.
+    #[inline]
+    pub fn dmem(&self) -> &SpMem
+        ensures { result.now ≡ self.now.dmem }
+    {
+        &self.dmem
+    }
+
+    /// The instruction memory, IMEM.
+    #[inline]
+    pub fn imem(&self) -> &SpMem
+        ensures { result.now ≡ self.now.imem }
+    {
+        &self.imem
+    }
+
+    /// The image of the RDRAM.
+    #[inline]
+    pub fn rdram(&self) -> &Rdram
+        ensures { result.now ≡ self.now.rdram }
+    {
+        &self.rdram
+    }
+
+    /// The eight accumulators.
+    #[inline]
+    pub fn acc(&self) -> &A
+        ensures { A.numbers result.now ≡ self.now.accumulators }
+    {
+        &self.acc
+    }
+
+    /// The image of the RDRAM; the rest of the machine is dropped.
+    pub fn into_rdram(self) -> Rdram
+        ensures { result ≡ self.rdram }
+    {
+        let Machine {
+            pc: _,
+            npc: _,
+            regs: _,
+            vregs: _,
+            acc: _,
+            flags: _,
+            divider: _,
+            dmem: _,
+            imem: _,
+            rdram,
+            sp: _,
+        } = self;
+        rdram
+    }
+}

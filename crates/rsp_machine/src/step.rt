@@ -1,0 +1,218 @@
+ghost use Rattle.std.specs.Prelude.{◌≡◌, ◌<◌};
+ghost use Rattle.rsp_decode.specs.Table.{IsInstruction};
+ghost use Rattle.rsp_machine.specs.Step.{computes, loads, stores, jumps, breaks, moves_sp, executed, step_of};
+ghost use Rattle.rsp_machine.specs.State.{advanced};
+ghost use Rattle.rsp_scalar.specs.Flow.{going_on};
+
+use crate::machine::Machine;
+use rsp_acc::Acc;
+use rsp_decode::{Inst, MoveRow, decode};
+use rsp_scalar::{alu, jump, load, store};
+
+/// What a step came to.
+#[derive(Clone, Copy, Debug, PartialEq, Eq)]
+pub enum StepEnd {
+    /// Answer 1: one instruction was executed.
+    Done,
+    /// Answer 2: the machine is halted, and nothing changed.
+    Halted,
+    /// Answer 3: the word at pc is reserved, and nothing changed.
+    Reserved {
+        /// The word at pc.
+        word: u32,
+    },
+}
+
+/// The place after a place in IMEM, where it wraps.
+#[inline(always)]
+fn going_on(npc: u16) -> u16
+    requires { npc < 4096 }
+    ensures value { result ≡ going_on npc }
+    ensures place { result < 4096 }
+{
+    (npc + 4) % 4096
+}
+
+impl<A: Acc> Machine<A> {
+    /// Goes on to the next place, as each instruction but a jump or a branch does.
+    #[inline(always)]
+    pub(crate) fn advance(&mut self)
+        ensures { self.new ≡ advanced self.old }
+    {
+        self.pc = self.npc;
+        self.npc = going_on(self.npc);
+    }
+
+    /// A scalar row that computes.
+    #[inline(always)]
+    #[tactic(auto, unfolding(crate::specs::Step::computes))]
+    fn compute(&mut self, inst: &Inst)
+        requires { IsInstruction inst.now }
+        ensures { self.new ≡ computes inst.now self.old }
+    {
+        alu(inst, &mut self.regs);
+        self.advance();
+    }
+
+    /// A scalar load.
+    #[inline(always)]
+    #[tactic(auto, unfolding(crate::specs::Step::loads))]
+    fn load(&mut self, inst: &Inst)
+        requires { IsInstruction inst.now }
+        ensures { self.new ≡ loads inst.now self.old }
+    {
+        load(inst, &mut self.regs, &self.dmem);
+        self.advance();
+    }
+
+    /// A scalar store.
+    #[inline(always)]
+    #[tactic(auto, unfolding(crate::specs::Step::stores))]
+    fn store(&mut self, inst: &Inst)
+        requires { IsInstruction inst.now }
+        ensures { self.new ≡ stores inst.now self.old }
+    {
+        store(inst, &self.regs, &mut self.dmem);
+        self.advance();
+    }
+
+    /// A jump or a branch: the instruction behind it, at npc, is executed before its target.
+    #[inline(always)]
+    #[tactic(auto, unfolding(crate::specs::Step::jumps))]
+    fn jump(&mut self, inst: &Inst)
+        requires { IsInstruction inst.now }
+        ensures { self.new ≡ jumps inst.now self.old }
+    {
+        let next = jump(inst, &mut self.regs, self.npc);
+        self.pc = self.npc;
+        self.npc = next;
+    }
+
+    /// BREAK.
+    #[tactic(auto, unfolding(crate::specs::Step::breaks))]
+    fn break_off(&mut self)
+        ensures { self.new ≡ breaks self.old }
+    {
+        self.sp.on_break();
+        self.advance();
+    }
+
+    /// A move between scalar register `rt` and an SP register.
+    #[tactic(auto, unfolding(crate::specs::Step::moves_sp))]
+    fn move_sp(&mut self, row: MoveRow, rt: u8, register: u8)
+        requires { rt < 32 }
+        ensures { self.new ≡ moves_sp row rt register self.old }
+    {
+        match row {
+            MoveRow::From => {
+                let value = self.sp.host_read(u32::from(register));
+                self.regs.set(rt, value);
+            }
+            MoveRow::To => {
+                let value = self.regs.get(rt);
+                self.write_reg(u32::from(register), value);
+            }
+        }
+        self.advance();
+    }
+
+    /// One instruction of any group.
+    #[inline(always)]
+    #[tactic(auto, unfolding(crate::specs::Step::executed))]
+    fn execute(&mut self, inst: &Inst)
+        requires { IsInstruction inst.now }
+        ensures { self.new ≡ executed inst.now self.old }
+    {
+        match *inst {
+            Inst::Shift { .. }
+            | Inst::ShiftBy { .. }
+            | Inst::Register { .. }
+            | Inst::Immediate { .. }
+            | Inst::LoadUpper { .. } => self.compute(inst),
+            Inst::Load { .. } => self.load(inst),
+            Inst::Store { .. } => self.store(inst),
+            Inst::JumpRegister { .. }
+            | Inst::JumpLinkRegister { .. }
+            | Inst::BranchSign { .. }
+            | Inst::BranchEqual { .. }
+            | Inst::Jump { .. } => self.jump(inst),
+            Inst::Break => self.break_off(),
+            Inst::MoveSp { row, rt, register } => self.move_sp(row, rt, register),
+            Inst::Multiply {
+                row,
+                vd,
+                vs,
+                vt,
+                element,
+            } => self.multiply(row, vd, vs, vt, element),
+            Inst::ReadAccumulator { vd, element, .. } => self.read_accumulator(vd, element),
+            Inst::VectorAdd {
+                row,
+                vd,
+                vs,
+                vt,
+                element,
+            } => self.add(row, vd, vs, vt, element),
+            Inst::VectorSelect {
+                row,
+                vd,
+                vs,
+                vt,
+                element,
+            } => self.select(row, vd, vs, vt, element),
+            Inst::VectorClip {
+                row,
+                vd,
+                vs,
+                vt,
+                element,
+            } => self.clip(row, vd, vs, vt, element),
+            Inst::VectorMerge {
+                vd,
+                vs,
+                vt,
+                element,
+            } => self.merge(vd, vs, vt, element),
+            Inst::VectorLogic {
+                row,
+                vd,
+                vs,
+                vt,
+                element,
+            } => self.logic(row, vd, vs, vt, element),
+            Inst::Lane {
+                row,
+                vd,
+                lane,
+                vt,
+                element,
+            } => self.divide(row, vd, lane, vt, element),
+            Inst::Idle { .. } => self.advance(),
+            Inst::VectorLoad { base, .. } => self.load_vector(inst, base),
+            Inst::VectorStore { base, .. } => self.store_vector(inst, base),
+            Inst::MoveVector { row, rt, .. } => self.move_vector(inst, row, rt),
+            Inst::MoveControl { row, rt, .. } => self.move_control(inst, row, rt),
+        }
+    }
+
+    /// One step: Halted where the machine is halted, else Reserved where the word of IMEM at pc is, and
+    /// in both cases nothing changes. Else the instruction there is executed, by the instruction table;
+    /// then, where single step is set in the state that it made, the machine is halted. The answer is
+    /// Done.
+    #[tactic(auto, unfolding(crate::specs::Step::step_of))]
+    pub fn step(&mut self) -> StepEnd
+        ensures answer { result ≡ (step_of self.old).0 }
+        ensures state { self.new ≡ (step_of self.old).1 }
+    {
+        if self.sp.halted() {
+            return StepEnd::Halted;
+        }
+        let word = self.imem.word(u32::from(self.pc));
+        let Some(inst) = decode(word) else {
+            return StepEnd::Reserved { word };
+        };
+        self.execute(&inst);
+        self.sp.on_step();
+        StepEnd::Done
+    }
+}

@@ -1,0 +1,65 @@
+use std::alloc::Global;
+use std::fs::{self, File};
+use std::io::{self, ErrorKind, Read};
+use std::rt::Files;
+
+/// Why a file wasn't read or written.
+#[derive(Clone, Copy, Debug, PartialEq, Eq)]
+pub enum FileFault {
+    /// The system refused it.
+    Refused,
+    /// There was no memory for it.
+    OutOfMemory,
+}
+
+/// The files that the program reads and writes.
+pub trait FileStore {
+    /// The bytes of a file; of one that has more than `limit`, the first `limit`. No more are read.
+    fn read(&mut self, alloc: Global, name: &str, limit: u64) -> Result<Vec<u8>, FileFault>;
+
+    /// Makes a file of these bytes, in the place of one that may be there.
+    fn write(&mut self, name: &str, bytes: &[u8]) -> Result<(), FileFault>;
+}
+
+/// The files of the system.
+#[derive(Drop)]
+pub struct SystemFiles<'a, R> {
+    runtime: &'a R,
+}
+
+impl<'a, R> SystemFiles<'a, R> {
+    /// The files that this runtime reaches.
+    pub fn new(runtime: &'a R) -> Self {
+        SystemFiles { runtime }
+    }
+}
+
+fn fault_of(error: &io::Error) -> FileFault {
+    match error.kind() {
+        ErrorKind::OutOfMemory => FileFault::OutOfMemory,
+        _ => FileFault::Refused,
+    }
+}
+
+fn read_at_most<R: Files>(
+    runtime: &R,
+    alloc: Global,
+    name: &str,
+    limit: u64,
+) -> io::Result<Vec<u8>> {
+    let mut bytes = Vec::new(alloc);
+    File::open(runtime, name)?
+        .take(limit)
+        .read_to_end(&mut bytes)?;
+    Ok(bytes)
+}
+
+impl<R: Files> FileStore for SystemFiles<'_, R> {
+    fn read(&mut self, alloc: Global, name: &str, limit: u64) -> Result<Vec<u8>, FileFault> {
+        read_at_most(self.runtime, alloc, name, limit).map_err(|error| fault_of(&error))
+    }
+
+    fn write(&mut self, name: &str, bytes: &[u8]) -> Result<(), FileFault> {
+        fs::write(self.runtime, name, bytes).map_err(|error| fault_of(&error))
+    }
+}

@@ -1,0 +1,188 @@
+mod fakes;
+
+use crate::status::Status;
+use crate::store::FileFault;
+use crate::without_words;
+use crate::work::work;
+use fakes::{FakeFiles, FakeReader};
+use std::io::{self, ErrorKind, Write};
+use std::test::Fail;
+
+/// What the program left on standard error, and with which status.
+#[derive(Drop)]
+struct Told {
+    status: Status,
+    errors: String,
+}
+
+/// Does the work that a command line asks for, whose words are parted by blanks.
+fn told<W: Write + Drop>(
+    rt: &HostRuntime,
+    line: &str,
+    files: &mut FakeFiles,
+    script: &mut FakeReader,
+    output: W,
+) -> Result<Told, Fail> {
+    let mut words = Vec::new(rt.alloc());
+    for word in line.split(' ') {
+        words.push(word.to_string(rt.alloc())?)?;
+    }
+    let mut errors = Vec::new(rt.alloc());
+    let status = work(rt.alloc(), &words, files, script, output, &mut errors);
+    let errors = String::from_utf8_lossy(rt.alloc(), &errors)?;
+    Ok(Told { status, errors })
+}
+
+#[test]
+fn a_finished_run_saves_its_image(rt: HostRuntime) -> Result<(), Fail> {
+    let mut image = [0u8; 64];
+    let mut files = FakeFiles::new(rt.alloc(), &image);
+    let mut script = FakeReader::new(b"load rdram 8 0102\nfoo\n");
+    let mut output = Vec::new(rt.alloc());
+    let line = "rsp run --rdram image --save=saved";
+    let end = told(&rt, line, &mut files, &mut script, &mut output)?;
+    assert_eq!(rt; end.status, Status::Done);
+    assert_eq!(rt; end.errors.as_str(), "");
+    assert!(rt; output.as_slice() == b"ok\nfault 30 BadCommand\n".as_slice());
+    image[8] = 1;
+    image[9] = 2;
+    assert_eq!(rt; files.written, 1);
+    assert!(rt; files.saved.as_slice() == image.as_slice());
+    assert_eq!(rt; files.limit, 8_388_609);
+    Ok(())
+}
+
+#[test]
+fn the_image_is_zeros_where_no_file_is_named(rt: HostRuntime) -> Result<(), Fail> {
+    let mut files = FakeFiles::new(rt.alloc(), b"");
+    let mut script = FakeReader::new(b"mem rdram 4194303 1\nmem rdram 4194303 2\n");
+    let mut output = Vec::new(rt.alloc());
+    let end = told(&rt, "rsp run", &mut files, &mut script, &mut output)?;
+    assert_eq!(rt; end.status, Status::Done);
+    assert!(rt; output.as_slice() == b"3fffff: 00\nfault 6 RangeFault\n".as_slice());
+    assert_eq!(rt; files.written, 0);
+    Ok(())
+}
+
+#[test]
+fn the_image_is_read_before_the_script(rt: HostRuntime) -> Result<(), Fail> {
+    for (name, fault, message) in [
+        ("image", None, "rsp: fault 7 SizeFault\n"),
+        ("missing", None, "rsp: cannot read missing\n"),
+        (
+            "image",
+            Some(FileFault::OutOfMemory),
+            "rsp: fault 17 OutOfMemory\n",
+        ),
+    ] {
+        let mut files = FakeFiles::new(rt.alloc(), &[0; 60]);
+        files.read_fault = fault;
+        let mut script = FakeReader::new(b"step\n");
+        let mut output = Vec::new(rt.alloc());
+        let line = format!(in rt.alloc(); "rsp run --save saved --rdram {name}")?;
+        let end = told(&rt, &line, &mut files, &mut script, &mut output)?;
+        assert_eq!(rt; end.status, Status::Faulted);
+        assert_eq!(rt; end.errors.as_str(), message);
+        assert!(rt; output.is_empty());
+        assert_eq!(rt; (script.reads, files.written), (0, 0));
+    }
+    Ok(())
+}
+
+#[test]
+fn a_run_that_breaks_off_saves_nothing(rt: HostRuntime) -> Result<(), Fail> {
+    let mut long = vec![in rt.alloc(); b'#'; 1_048_577]?;
+    long[..5].copy_from_slice(b"step\n");
+    for (script, breaks, room, message) in [
+        (b"step\nst".as_slice(), true, 64, "rsp: fault 40 ReadFault\n"),
+        (b"step\nst", false, 17, "rsp: fault 41 WriteFault\n"),
+        (long.as_slice(), false, 64, "rsp: fault 42 ScriptTooLong\n"),
+    ] {
+        let mut files = FakeFiles::new(rt.alloc(), b"");
+        let mut script = FakeReader::new(script);
+        script.breaks = breaks;
+        let mut output = [0u8; 64];
+        let end = told(
+            &rt,
+            "rsp run --save saved",
+            &mut files,
+            &mut script,
+            &mut output[..room],
+        )?;
+        assert_eq!(rt; end.status, Status::Faulted);
+        assert_eq!(rt; end.errors.as_str(), message);
+        assert!(rt; output.starts_with(b"step Done pc 004\n"));
+        assert_eq!(rt; (output[17], files.written), (0, 0));
+    }
+    Ok(())
+}
+
+#[test]
+fn an_image_may_not_be_saved(rt: HostRuntime) -> Result<(), Fail> {
+    for (fault, message) in [
+        (FileFault::Refused, "rsp: cannot write saved\n"),
+        (FileFault::OutOfMemory, "rsp: fault 17 OutOfMemory\n"),
+    ] {
+        let mut files = FakeFiles::new(rt.alloc(), b"");
+        files.write_fault = Some(fault);
+        let mut script = FakeReader::new(b"step");
+        let mut output = Vec::new(rt.alloc());
+        let line = "rsp run --save saved";
+        let end = told(&rt, line, &mut files, &mut script, &mut output)?;
+        assert_eq!(rt; end.status, Status::Faulted);
+        assert_eq!(rt; end.errors.as_str(), message);
+        assert!(rt; output.as_slice() == b"step Done pc 004\n".as_slice());
+    }
+    Ok(())
+}
+
+#[test]
+fn other_command_lines_are_refused(rt: HostRuntime) -> Result<(), Fail> {
+    for line in [
+        "rsp",
+        "rsp walk",
+        "rsp asm source out",
+        "rsp dis file",
+        "rsp run script",
+        "rsp run --fast",
+        "rsp run --rdram",
+        "rsp run --rdram=",
+        "rsp run --save a --save b",
+        "rsp --help",
+        "rsp run --help",
+    ] {
+        let mut files = FakeFiles::new(rt.alloc(), b"");
+        let mut script = FakeReader::new(b"step\n");
+        let mut output = Vec::new(rt.alloc());
+        let end = told(&rt, line, &mut files, &mut script, &mut output)?;
+        assert_eq!(rt; end.status, Status::Refused, "at {line}");
+        assert!(rt; !end.errors.is_empty(), "at {line}");
+        assert!(rt; output.is_empty(), "at {line}");
+        assert_eq!(rt; (script.reads, files.written), (0, 0));
+    }
+    Ok(())
+}
+
+#[test]
+fn an_argument_may_be_no_text(rt: HostRuntime) -> Result<(), Fail> {
+    for (kind, status) in [
+        (ErrorKind::InvalidData, Status::Refused),
+        (ErrorKind::OutOfMemory, Status::Faulted),
+    ] {
+        let mut errors = Vec::new(rt.alloc());
+        assert_eq!(rt; without_words(&io::Error::from(kind), &mut errors), status);
+        assert!(rt; errors.ends_with(b"\n"));
+    }
+    Ok(())
+}
+
+#[test]
+fn statuses_are_numbers(rt: HostRuntime) {
+    for (status, code) in [
+        (Status::Done, 0),
+        (Status::Faulted, 1),
+        (Status::Refused, 2),
+    ] {
+        assert_eq!(rt; status.code(), code);
+    }
+}
