@@ -16,14 +16,16 @@ pub record WritesFront (old new : Option (List ℕ)) (bytes : List ℕ) : Type 0
 abbrev pub TakesAtMost : ℕ → Option (List ℕ) → Option (List ℕ) → Type 0
 TakesAtMost n rest unread = (taken : List ℕ) × (rest ≡ prepend_known taken unread) × (length taken ≤ n)
 
--- each line that had ended in what was taken was answered in full, and nothing else was written
+-- each line that had ended in what was taken was answered in full, and nothing else was written; what was taken is within
+-- the limit of a script
 pub record AnswersEnded {S : Type 0} (outcome : List ℕ → S → Outcome S) (s : S) (rest unread old new : Option (List ℕ)) : Type 0 where
   pub taken : List ℕ
   pub told : rest ≡ prepend_known taken unread
   pub few : length taken ≤ SCRIPT_LIMIT
   pub written : new ≡ append_known old (replies outcome (ended_lines taken) s)
 
--- a front was written of the replies to the lines that had ended in what was taken or, where the end of input was met, of all
+-- a front was written of the replies to the lines that had ended in what was taken, as far as it is within the limit of a
+-- script, or, where the end of input was met, of all that is written for it; and nothing else was written
 pub record AnswersFront {S : Type 0} (outcome : List ℕ → S → Outcome S) (closing : S → List ℕ) (s : S) (rest unread old new : Option (List ℕ)) : Type 0 where
   pub taken : List ℕ
   pub told : rest ≡ prepend_known taken unread

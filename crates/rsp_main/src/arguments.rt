@@ -29,11 +29,7 @@ fn command<'a>(alloc: Global) -> Result<Command<'a>, Error> {
             "rdram",
             "The image of the RDRAM; without it 4194304 zeros",
         ))?
-        .arg(file_option(
-            alloc,
-            "save",
-            "Where the image is written after the run",
-        ))?;
+        .arg(file_option(alloc, "save", "Where the image is written after the run"))?;
     let command = Command::new(alloc, "rsp")
         .bin_name("rsp")?
         .about("A bench for the Reality Signal Processor")

@@ -10,7 +10,7 @@ use std::test::Fail;
 
 /// What the program left on standard error, and with which status.
 #[derive(Drop)]
-struct Told {
+struct Outcome {
     status: Status,
     errors: String,
 }
@@ -22,7 +22,7 @@ fn told<W: Write + Drop>(
     files: &mut FakeFiles,
     script: &mut FakeReader,
     output: W,
-) -> Result<Told, Fail> {
+) -> Result<Outcome, Fail> {
     let mut words = Vec::new(rt.alloc());
     for word in line.split(' ') {
         words.push(word.to_string(rt.alloc())?)?;
@@ -30,12 +30,12 @@ fn told<W: Write + Drop>(
     let mut errors = Vec::new(rt.alloc());
     let status = work(rt.alloc(), &words, files, script, output, &mut errors);
     let errors = String::from_utf8_lossy(rt.alloc(), &errors)?;
-    Ok(Told { status, errors })
+    Ok(Outcome { status, errors })
 }
 
 #[test]
 fn a_finished_run_saves_its_image(rt: HostRuntime) -> Result<(), Fail> {
-    let mut image = [0u8; 64];
+    let image = [0u8; 64];
     let mut files = FakeFiles::new(rt.alloc(), &image);
     let mut script = FakeReader::new(b"load rdram 8 0102\nfoo\n");
     let mut output = Vec::new(rt.alloc());
@@ -44,10 +44,11 @@ fn a_finished_run_saves_its_image(rt: HostRuntime) -> Result<(), Fail> {
     assert_eq!(rt; end.status, Status::Done);
     assert_eq!(rt; end.errors.as_str(), "");
     assert!(rt; output.as_slice() == b"ok\nfault 30 BadCommand\n".as_slice());
-    image[8] = 1;
-    image[9] = 2;
+    let mut saved = [0u8; 64];
+    saved[8] = 1;
+    saved[9] = 2;
     assert_eq!(rt; files.written, 1);
-    assert!(rt; files.saved.as_slice() == image.as_slice());
+    assert!(rt; files.saved.as_slice() == saved.as_slice());
     assert_eq!(rt; files.limit, 8_388_609);
     Ok(())
 }
@@ -94,7 +95,12 @@ fn a_run_that_breaks_off_saves_nothing(rt: HostRuntime) -> Result<(), Fail> {
     let mut long = vec![in rt.alloc(); b'#'; 1_048_577]?;
     long[..5].copy_from_slice(b"step\n");
     for (script, breaks, room, message) in [
-        (b"step\nst".as_slice(), true, 64, "rsp: fault 40 ReadFault\n"),
+        (
+            b"step\nst".as_slice(),
+            true,
+            64,
+            "rsp: fault 40 ReadFault\n",
+        ),
         (b"step\nst", false, 17, "rsp: fault 41 WriteFault\n"),
         (long.as_slice(), false, 64, "rsp: fault 42 ScriptTooLong\n"),
     ] {
