@@ -1,6 +1,6 @@
 -- How far a writer came, piece by piece.
-use Rattle.std.proofs.Common.{◌≡◌, ℕ, List, [], ◌∷◌, ◌++◌, ◌-◌, Option, Some, None, length, refl, sym, ◌∙◌, ap, take, drop, append_assoc, subst, Result, Ok, Err, OnErr}
-use Rattle.std.proofs.lemmas.List.{append-nil, take-append-drop, take_rest}
+use Rattle.std.proofs.Common.{◌≡◌, ℕ, List, [], ◌++◌, ◌-◌, Option, length, refl, sym, ◌∙◌, ap, take, drop, append_assoc, subst, Result, Ok, Err, OnErr}
+use Rattle.std.proofs.lemmas.List.{take-append-drop, take_rest}
 use Rattle.std.specs.Io.KnownBytes.{append_known}
 use Rattle.rsp_lines.specs.Left.{WritesFront}
 use Rattle.rsp_lines.proofs.KnownEnds.{append_known-nil, append_known-append}
@@ -11,9 +11,6 @@ pub record Leaves (old new : Option (List ℕ)) (bytes rest : List ℕ) : Type 0
   pub grows : new ≡ append_known old front
   pub whole : front ++ rest ≡ bytes
 
-pub leaves-all : (old : Option (List ℕ)) (bytes : List ℕ) → Leaves old old bytes bytes
-leaves-all old bytes = record { front = []; grows = sym (append_known-nil old); whole = refl }
-
 -- a piece more is written
 pub leaves-less : {old now new : Option (List ℕ)} {bytes rest : List ℕ} (piece more : List ℕ)
     → Leaves old now bytes rest → new ≡ append_known now piece → piece ++ more ≡ rest → Leaves old new bytes more
@@ -22,11 +19,6 @@ leaves-less {old = old} piece more h e w = record {
   grows = e ∙ ap (λ k. append_known k piece) h.grows ∙ append_known-append old h.front piece;
   whole = append_assoc h.front piece more ∙ ap (λ t. h.front ++ t) w ∙ h.whole;
 }
-
--- nothing more is written
-pub leaves-front : {old now new : Option (List ℕ)} {bytes rest : List ℕ} → Leaves old now bytes rest → new ≡ append_known now [] → WritesFront old new bytes
-leaves-front {now = now} {rest = rest} h e =
-    record { front = h.front; others = rest; grows = e ∙ append_known-nil now ∙ h.grows; whole = h.whole }
 
 pub taken-whole : (n : ℕ) (bs : List ℕ) → take n bs ++ take (length bs - n) (drop n bs) ≡ bs
 taken-whole n bs = rw (take_rest bs n) (take-append-drop n bs)

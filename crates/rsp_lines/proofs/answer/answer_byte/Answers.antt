@@ -1,8 +1,7 @@
 use Rattle.std.proofs.Common.{◌≡◌, false, arith}
 use Rattle.std.proofs.lemmas.Bool.Decides.{nat_tests}
 use Rattle.rsp_lines.specs.Lines.{is_newline}
-use Rattle.rsp_lines.proofs.Answered.{answers-other, answers-newline, replies-newline}
-use Rattle.rsp_lines.proofs.Left.{front-along}
+use Rattle.rsp_lines.proofs.Answered.{answers-other, answers-newline}
 use Rattle.rsp_lines.proofs.answer.answer_byte.Goals as goal
 
 pub returns-then-byte-ne10-clause-answers : goal.returns-then-byte-ne10-clause-answers

@@ -1,4 +1,4 @@
-use Rattle.std.proofs.Common.{◌∷◌, [], get_or, take, arith, refl}
+use Rattle.std.proofs.Common.{arith, refl}
 use Rattle.std.proofs.lemmas.List.{take_more}
 use Rattle.rsp_lines.proofs.Answered.{answers-none, answers-then, front-byte}
 use Rattle.rsp_lines.proofs.Left.{on_err}

@@ -1,4 +1,4 @@
-use Rattle.std.proofs.Common.{arith, take, drop}
+use Rattle.std.proofs.Common.{arith, take}
 use Rattle.rsp_lines.proofs.Left.{leaves-less, taken-whole}
 use Rattle.rsp_lines.proofs.answer.write_all.Goals as goal
 

@@ -1,7 +1,7 @@
-use Rattle.std.proofs.Common.{◌≡◌, ◌≤◌, ◌<◌, ◌+◌, ◌-◌, ◌++◌, ℕ, List, [], min, take, drop, length, arith, length-take, IsErrOf, Err}
+use Rattle.std.proofs.Common.{◌≡◌, ◌-◌, [], arith, length-take, IsErrOf, Err}
 use Rattle.rsp_lines.specs.declared.run.RunFault.TheVariants.{ScriptTooLong}
 use Rattle.std.specs.Io.KnownBytes.{prepend_known, IsAtEnd}
-use Rattle.rsp_lines.proofs.Runs.{if_some, read_cut, progress-none, progress-more, progress-ended, progress-front, progress-few, progress-long, progress-end, progress-end_front}
+use Rattle.rsp_lines.proofs.Runs.{if_some, read_cut, progress-more, progress-ended, progress-front, progress-few, progress-long, progress-end, progress-end_front}
 use Rattle.rsp_lines.proofs.run.answer_script.Goals as goal
 
 -- a read failed
