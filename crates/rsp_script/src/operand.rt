@@ -2,9 +2,9 @@ ghost use Rattle.std.specs.Prelude.{◌≡◌, ◌≤◌, ◌%◌, ◌<◌, leng
 ghost use Rattle.arrayvec.specs.ArrayVec.{array_vec_len};
 ghost use Rattle.rsp_script.specs.Operand.{bank_of, ranged_of, place_of, bytes_of};
 
-use rsp_memory::Bank;
 use crate::number::number;
 use arrayvec::ArrayVec;
+use rsp_memory::Bank;
 
 /// The bank that a word names.
 #[tactic(auto, unfolding(crate::specs::Operand::bank_of))]
