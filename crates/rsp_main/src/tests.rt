@@ -4,7 +4,7 @@ use crate::status::Status;
 use crate::store::FileFault;
 use crate::without_words;
 use crate::work::work;
-use fakes::{FakeFiles, FakeReader};
+use fakes::{Behind, FakeFiles, FakeReader};
 use std::io::{self, ErrorKind, Write};
 use std::test::Fail;
 
@@ -37,7 +37,7 @@ fn told<W: Write + Drop>(
 fn a_finished_run_saves_its_image(rt: HostRuntime) -> Result<(), Fail> {
     let image = [0u8; 64];
     let mut files = FakeFiles::new(rt.alloc(), &image);
-    let mut script = FakeReader::new(b"load rdram 8 0102\nfoo\n");
+    let mut script = FakeReader::new(b"load rdram 8 0102\nfoo\n", Behind::End);
     let mut output = Vec::new(rt.alloc());
     let line = "rsp run --rdram image --save=saved";
     let end = told(&rt, line, &mut files, &mut script, &mut output)?;
@@ -56,7 +56,7 @@ fn a_finished_run_saves_its_image(rt: HostRuntime) -> Result<(), Fail> {
 #[test]
 fn the_image_is_zeros_where_no_file_is_named(rt: HostRuntime) -> Result<(), Fail> {
     let mut files = FakeFiles::new(rt.alloc(), b"");
-    let mut script = FakeReader::new(b"mem rdram 4194303 1\nmem rdram 4194303 2\n");
+    let mut script = FakeReader::new(b"mem rdram 4194303 1\nmem rdram 4194303 2\n", Behind::End);
     let mut output = Vec::new(rt.alloc());
     let end = told(&rt, "rsp run", &mut files, &mut script, &mut output)?;
     assert_eq!(rt; end.status, Status::Done);
@@ -78,7 +78,7 @@ fn the_image_is_read_before_the_script(rt: HostRuntime) -> Result<(), Fail> {
     ] {
         let mut files = FakeFiles::new(rt.alloc(), &[0; 60]);
         files.read_fault = fault;
-        let mut script = FakeReader::new(b"step\n");
+        let mut script = FakeReader::new(b"step\n", Behind::End);
         let mut output = Vec::new(rt.alloc());
         let line = format!(in rt.alloc(); "rsp run --save saved --rdram {name}")?;
         let end = told(&rt, &line, &mut files, &mut script, &mut output)?;
@@ -92,21 +92,13 @@ fn the_image_is_read_before_the_script(rt: HostRuntime) -> Result<(), Fail> {
 
 #[test]
 fn a_run_that_breaks_off_saves_nothing(rt: HostRuntime) -> Result<(), Fail> {
-    let mut long = vec![in rt.alloc(); b'#'; 1_048_577]?;
-    long[..5].copy_from_slice(b"step\n");
-    for (script, breaks, room, message) in [
-        (
-            b"step\nst".as_slice(),
-            true,
-            64,
-            "rsp: fault 40 ReadFault\n",
-        ),
-        (b"step\nst", false, 17, "rsp: fault 41 WriteFault\n"),
-        (long.as_slice(), false, 64, "rsp: fault 42 ScriptTooLong\n"),
+    for (behind, room, message) in [
+        (Behind::Fault, 64, "rsp: fault 40 ReadFault\n"),
+        (Behind::End, 17, "rsp: fault 41 WriteFault\n"),
+        (Behind::Hashes, 64, "rsp: fault 42 ScriptTooLong\n"),
     ] {
         let mut files = FakeFiles::new(rt.alloc(), b"");
-        let mut script = FakeReader::new(script);
-        script.breaks = breaks;
+        let mut script = FakeReader::new(b"step\nst", behind);
         let mut output = [0u8; 64];
         let end = told(
             &rt,
@@ -131,7 +123,7 @@ fn an_image_may_not_be_saved(rt: HostRuntime) -> Result<(), Fail> {
     ] {
         let mut files = FakeFiles::new(rt.alloc(), b"");
         files.write_fault = Some(fault);
-        let mut script = FakeReader::new(b"step");
+        let mut script = FakeReader::new(b"step", Behind::End);
         let mut output = Vec::new(rt.alloc());
         let line = "rsp run --save saved";
         let end = told(&rt, line, &mut files, &mut script, &mut output)?;
@@ -158,7 +150,7 @@ fn other_command_lines_are_refused(rt: HostRuntime) -> Result<(), Fail> {
         "rsp run --help",
     ] {
         let mut files = FakeFiles::new(rt.alloc(), b"");
-        let mut script = FakeReader::new(b"step\n");
+        let mut script = FakeReader::new(b"step\n", Behind::End);
         let mut output = Vec::new(rt.alloc());
         let end = told(&rt, line, &mut files, &mut script, &mut output)?;
         assert_eq!(rt; end.status, Status::Refused, "at {line}");

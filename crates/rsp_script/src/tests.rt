@@ -1,4 +1,5 @@
 use crate::{Command, LineFault, parse_line};
+use rsp_memory::Bank;
 
 #[test]
 fn refuses_lines(rt: HostRuntime) {

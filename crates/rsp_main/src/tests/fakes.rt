@@ -53,20 +53,29 @@ impl FileStore for FakeFiles<'_> {
     }
 }
 
-/// A reader of some bytes that counts its reads and may break when they are read.
+/// What comes behind the bytes of a reader.
+#[derive(Clone, Copy, Debug, PartialEq, Eq)]
+pub(super) enum Behind {
+    End,
+    Fault,
+    /// Bytes without end, and no newline among them.
+    Hashes,
+}
+
+/// A reader that counts its reads.
 #[derive(Drop)]
 pub(super) struct FakeReader<'a> {
     bytes: &'a [u8],
+    behind: Behind,
     pub(super) reads: u64,
-    pub(super) breaks: bool,
 }
 
 impl<'a> FakeReader<'a> {
-    pub(super) fn new(bytes: &'a [u8]) -> FakeReader<'a> {
+    pub(super) fn new(bytes: &'a [u8], behind: Behind) -> FakeReader<'a> {
         FakeReader {
             bytes,
+            behind,
             reads: 0,
-            breaks: false,
         }
     }
 }
@@ -74,9 +83,16 @@ impl<'a> FakeReader<'a> {
 impl Read for FakeReader<'_> {
     fn read(&mut self, buf: &mut [u8]) -> io::Result<usize> {
         self.reads = self.reads.saturating_add(1);
-        if self.breaks && self.bytes.is_empty() {
-            return Err(io::Error::from(ErrorKind::BrokenPipe));
+        if !self.bytes.is_empty() {
+            return self.bytes.read(buf);
         }
-        self.bytes.read(buf)
+        match self.behind {
+            Behind::End => Ok(0),
+            Behind::Fault => Err(io::Error::from(ErrorKind::BrokenPipe)),
+            Behind::Hashes => {
+                buf.fill(b'#');
+                Ok(buf.len())
+            }
+        }
     }
 }
