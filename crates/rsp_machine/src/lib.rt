@@ -10,8 +10,6 @@ pub mod laws;
 mod machine;
 mod ops;
 mod step;
-#[cfg(test)]
-mod tests;
 mod vector;
 
 pub use host::{RangeFault, TaskFault};
