@@ -10,6 +10,8 @@ pub mod laws;
 mod machine;
 mod ops;
 mod step;
+#[cfg(test)]
+mod tests;
 mod vector;
 
 pub use host::{RangeFault, TaskFault};
