@@ -2,7 +2,7 @@
 use Rattle.std.specs.Prelude.{ℕ, ◌+◌, ◌*◌, ◌%◌, Bool, not, nat_le, nat_lt, ◌==◌, ◌&&◌, ◌||◌, if◌then◌else◌, List, length, Option, Some, None}
 use Rattle.rsp_memory.specs.Memory.{with_bytes}
 use Rattle.rsp_memory.specs.Image.{image_byte, with_image_bytes}
-use Rattle.rsp_regs.specs.Sp.{Sp, after_read, written, bank_written, image_written, is_imem, after_task}
+use Rattle.rsp_regs.specs.Sp.{after_read, written, bank_written, image_written, is_imem, after_task}
 use Rattle.rsp_regs.specs.Dma.{pairs, copied_in}
 use Rattle.rsp_regs.specs.declared.transfer.Transfer.{Transfer}
 use Rattle.rsp_machine.specs.State.{State}
