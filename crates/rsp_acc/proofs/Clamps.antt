@@ -1,5 +1,5 @@
 -- The clamps, decided from the high and middle planes.
-use Rattle.std.proofs.Common.{◌≡◌, ℕ, ◌+◌, ◌-◌, ◌*◌, ◌^◌, ◌<◌, ◌≤◌, ℤ, pos, negsuc, arith, ap, sym, nat_lt, nat_eq, Bool, cond, subst, ◌&&◌, ◌||◌, not}
+use Rattle.std.proofs.Common.{◌≡◌, ℕ, ◌+◌, ◌-◌, ◌*◌, ◌^◌, ◌<◌, ◌≤◌, ℤ, pos, negsuc, arith, ap, sym, nat_lt, nat_eq, Bool, cond, subst}
 use Rattle.std.proofs.lemmas.Bool.Decides.{nat_tests}
 use Rattle.rsp_numbers.specs.Numbers.{join, clamp16, modulo, floor_div}
 use Rattle.rsp_acc.specs.Parts.{clamp_of, clamp_by}
@@ -8,7 +8,7 @@ use Rattle.rsp_numbers.proofs.Join.{by_sign, low_join, joined_number}
 
 -- whether the planes are those of a number from -32768 to 32767
 abbrev pub fits : ℕ → ℕ → Bool
-fits h m = nat_eq h 65535 && nat_lt 32767 m || nat_eq h 0 && not (nat_lt 32767 m)
+fits h m = nat_eq h (cond (nat_lt 32767 m) 65535 0)
 
 pub clamp16_pos : (u : ℕ) → clamp16 (pos u) ≡ pos (cond (nat_lt u 32768) u 32767)
 unfolding clamp16

@@ -105,11 +105,8 @@ impl Acc for PlaneAcc {
         let zeros = VReg::splat(0);
         let ones = VReg::splat(0xffff);
         let is_negative = high.is_negative();
-        let sign = middle.is_negative();
-        let fits = high
-            .is_equal(&ones)
-            .and(sign)
-            .or(high.is_equal(&zeros).and(sign.not()));
+        let extension = middle.is_negative().merge(&ones, &zeros);
+        let fits = high.is_equal(&extension);
         match clamp {
             Clamp::Signed => {
                 let ends = is_negative.merge(&VReg::splat(0x8000), &VReg::splat(0x7fff));

@@ -1,6 +1,7 @@
 // Words to instructions, by nested matches on fields.
 
 ghost use Rattle.std.specs.Prelude.{◌≡◌, ◌↔◌, IfSome, IsTrue};
+ghost use Rattle.rsp_decode.specs.Visit.{is_known, visited};
 ghost use Rattle.rsp_decode.specs.Table.{inst_of, canonical_of, word_of, IsInstruction};
 
 mod computing;
@@ -12,11 +13,13 @@ mod transfers;
 use crate::encoding::encode;
 use crate::fields::opcode;
 use crate::inst::Inst;
-use computing::decode_computing;
-use moves::{decode_sp_move, decode_vector_move};
-use opcodes::{decode_opcode, decode_regimm};
-use special::decode_special;
-use transfers::{decode_vector_load, decode_vector_store};
+use crate::kept::Kept;
+use crate::visitor::Visitor;
+use computing::visit_computing;
+use moves::{visit_sp_move, visit_vector_move};
+use opcodes::{visit_opcode, visit_regimm};
+use special::visit_special;
+use transfers::{visit_vector_load, visit_vector_store};
 
 /// What a word means by the instruction table, at its named fields: None exactly for a reserved
 /// word, which no row fits. Bits that the row neither selects by nor names are ignored.
@@ -34,20 +37,32 @@ pub fn decode(word: u32) -> Option<Inst>
 fn meaning(word: u32) -> Option<Inst>
     ensures { result ≡ inst_of word }
 {
+    let mut kept = Kept { inst: None };
+    visit(word, &mut kept);
+    kept.inst
+}
+
+/// Takes a word apart for a visitor, which gets the instruction that [`decode`] gives. Answers whether there
+/// is one: for a reserved word the answer is false, and the visitor stays as it is.
+#[inline(always)]
+pub fn visit<V: Visitor>(word: u32, visitor: &mut V) -> bool
+    ensures known { result ≡ is_known (inst_of word) }
+    ensures state { visitor.new ≡ visited V.after (inst_of word) visitor.old }
+{
     match opcode(word) {
-        0 => decode_special(word),
-        1 => decode_regimm(word),
-        16 => decode_sp_move(word),
+        0 => visit_special(word, visitor),
+        1 => visit_regimm(word, visitor),
+        16 => visit_sp_move(word, visitor),
         18 => {
             if word >> 25 & 1 == 1 {
-                decode_computing(word)
+                visit_computing(word, visitor)
             } else {
-                decode_vector_move(word)
+                visit_vector_move(word, visitor)
             }
         }
-        50 => decode_vector_load(word),
-        58 => decode_vector_store(word),
-        _ => decode_opcode(word),
+        50 => visit_vector_load(word, visitor),
+        58 => visit_vector_store(word, visitor),
+        _ => visit_opcode(word, visitor),
     }
 }
 

@@ -6,7 +6,7 @@ ghost use Rattle.rsp_decode.specs.Table.{value_at, whole, capped, control_of};
 use crate::inst::Control;
 
 /// Bits 31 to 26.
-#[inline]
+#[inline(always)]
 pub fn opcode(word: u32) -> u8
     ensures { result ≡ value_at word (whole 26 6) }
 {
@@ -14,7 +14,7 @@ pub fn opcode(word: u32) -> u8
 }
 
 /// Bits 5 to 0, which select a row of opcode 0 and a computing one.
-#[inline]
+#[inline(always)]
 pub fn function(word: u32) -> u8
     ensures { result ≡ value_at word (whole 0 6) }
 {
@@ -22,7 +22,7 @@ pub fn function(word: u32) -> u8
 }
 
 /// Bits 15 to 11, which select a vector load or store.
-#[inline]
+#[inline(always)]
 pub fn operation(word: u32) -> u8
     ensures { result ≡ value_at word (whole 11 5) }
 {
@@ -30,7 +30,7 @@ pub fn operation(word: u32) -> u8
 }
 
 /// Bits 25 to 21: a scalar register, the base of a load or store, or what selects a move.
-#[inline]
+#[inline(always)]
 pub fn rs(word: u32) -> u8
     ensures { result ≡ value_at word (whole 21 5) }
 {
@@ -38,7 +38,7 @@ pub fn rs(word: u32) -> u8
 }
 
 /// Bits 20 to 16: a scalar register, or what selects a row of opcode 1.
-#[inline]
+#[inline(always)]
 pub fn rt(word: u32) -> u8
     ensures { result ≡ value_at word (whole 16 5) }
 {
@@ -46,7 +46,7 @@ pub fn rt(word: u32) -> u8
 }
 
 /// Bits 15 to 11: a scalar register, or the vector register of a move.
-#[inline]
+#[inline(always)]
 pub fn rd(word: u32) -> u8
     ensures { result ≡ value_at word (whole 11 5) }
 {
@@ -54,7 +54,7 @@ pub fn rd(word: u32) -> u8
 }
 
 /// Bits 10 to 6.
-#[inline]
+#[inline(always)]
 pub fn shift_amount(word: u32) -> u8
     ensures { result ≡ value_at word (whole 6 5) }
 {
@@ -62,7 +62,7 @@ pub fn shift_amount(word: u32) -> u8
 }
 
 /// Bits 15 to 0: an immediate, or an offset.
-#[inline]
+#[inline(always)]
 pub fn immediate(word: u32) -> u16
     ensures { result ≡ value_at word (whole 0 16) }
 {
@@ -70,7 +70,7 @@ pub fn immediate(word: u32) -> u16
 }
 
 /// Bits 9 to 0, all that counts of where a jump goes.
-#[inline]
+#[inline(always)]
 pub fn target(word: u32) -> u16
     ensures { result ≡ value_at word (whole 0 10) }
 {
@@ -78,7 +78,7 @@ pub fn target(word: u32) -> u16
 }
 
 /// Bits 14 to 11: the number of an SP register.
-#[inline]
+#[inline(always)]
 pub fn sp_register(word: u32) -> u8
     ensures { result ≡ value_at word (whole 11 4) }
 {
@@ -86,7 +86,7 @@ pub fn sp_register(word: u32) -> u8
 }
 
 /// Bits 12 and 11: a control register.
-#[inline]
+#[inline(always)]
 pub fn control(word: u32) -> Control
     ensures { result ≡ control_of (value_at word (capped 11 2 2)) }
 {
@@ -98,7 +98,7 @@ pub fn control(word: u32) -> Control
 }
 
 /// Bits 10 to 6: a vector register.
-#[inline]
+#[inline(always)]
 pub fn vd(word: u32) -> u8
     ensures { result ≡ value_at word (whole 6 5) }
 {
@@ -106,7 +106,7 @@ pub fn vd(word: u32) -> u8
 }
 
 /// Bits 15 to 11: a vector register.
-#[inline]
+#[inline(always)]
 pub fn vs(word: u32) -> u8
     ensures { result ≡ value_at word (whole 11 5) }
 {
@@ -114,7 +114,7 @@ pub fn vs(word: u32) -> u8
 }
 
 /// Bits 20 to 16: a vector register.
-#[inline]
+#[inline(always)]
 pub fn vt(word: u32) -> u8
     ensures { result ≡ value_at word (whole 16 5) }
 {
@@ -122,7 +122,7 @@ pub fn vt(word: u32) -> u8
 }
 
 /// Bits 24 to 21: which lanes of `vt` a computing row takes.
-#[inline]
+#[inline(always)]
 pub fn element(word: u32) -> u8
     ensures { result ≡ value_at word (whole 21 4) }
 {
@@ -130,7 +130,7 @@ pub fn element(word: u32) -> u8
 }
 
 /// Bits 13 to 11: the lane that a single-lane row writes.
-#[inline]
+#[inline(always)]
 pub fn lane(word: u32) -> u8
     ensures { result ≡ value_at word (whole 11 3) }
 {
@@ -138,7 +138,7 @@ pub fn lane(word: u32) -> u8
 }
 
 /// Bits 10 to 7: the byte of a vector register at which a transfer begins.
-#[inline]
+#[inline(always)]
 pub fn byte_element(word: u32) -> u8
     ensures { result ≡ value_at word (whole 7 4) }
 {
@@ -146,7 +146,7 @@ pub fn byte_element(word: u32) -> u8
 }
 
 /// Bits 6 to 0: the offset of a vector load or store.
-#[inline]
+#[inline(always)]
 pub fn vector_offset(word: u32) -> u8
     ensures { result ≡ value_at word (whole 0 7) }
 {

@@ -10,14 +10,17 @@ mod decoding;
 mod encoding;
 mod fields;
 mod inst;
+mod kept;
 pub mod laws;
 #[cfg(test)]
 mod tests;
+mod visitor;
 
-pub use decoding::{decode, is_canonical};
+pub use decoding::{decode, is_canonical, visit};
 pub use encoding::encode;
 pub use inst::{
     Control, EqualRow, IdleRow, ImmediateRow, Inst, JumpRow, LaneRow, LoadRow, MoveRow,
     MultiplyRow, RegisterRow, ShiftByRow, ShiftRow, SignRow, StoreRow, VectorAddRow, VectorClipRow,
     VectorLoadRow, VectorLogicRow, VectorSelectRow, VectorStoreRow,
 };
+pub use visitor::Visitor;

@@ -63,6 +63,23 @@ impl VReg {
         }
     }
 
+    /// The register with these bytes: byte 0 is the high byte of lane 0, byte 15 the low byte of lane 7.
+    #[inline(always)]
+    pub fn from_bytes(bytes: [u8; 16]) -> Self
+        ensures { result ≡ each_lane (λ i. slice_index bytes (2 * i) * 256 + slice_index bytes (2 * i + 1)) }
+    {
+        VReg::from_array([
+            u16::from_be_bytes([bytes[0], bytes[1]]),
+            u16::from_be_bytes([bytes[2], bytes[3]]),
+            u16::from_be_bytes([bytes[4], bytes[5]]),
+            u16::from_be_bytes([bytes[6], bytes[7]]),
+            u16::from_be_bytes([bytes[8], bytes[9]]),
+            u16::from_be_bytes([bytes[10], bytes[11]]),
+            u16::from_be_bytes([bytes[12], bytes[13]]),
+            u16::from_be_bytes([bytes[14], bytes[15]]),
+        ])
+    }
+
     /// Its lanes, lane 0 first.
     #[inline(always)]
     pub fn to_array(&self) -> [u16; 8]

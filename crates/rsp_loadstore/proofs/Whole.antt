@@ -1,8 +1,10 @@
 -- A whole register at once.
 use Rattle.std.proofs.Common.{◌≡◌, ℕ, zero, suc, ◌+◌, ◌*◌, ◌/◌, ◌%◌, ◌<◌, List, [], ◌∷◌, length, get_or, set, refl, sym, ◌∙◌, arith, add-zero, zero-add, ◌≤◌}
 use Rattle.std.proofs.lemmas.List.{set-set, get_or-set_same, length-set, set-get_or}
-use Rattle.rsp_memory.specs.Memory.{byte_at, with_byte, half_at, with_half}
-use Rattle.rsp_lanes.specs.Lanes.{register_byte, with_register_byte}
+use Rattle.std.specs.Prelude.{slice_index}
+use Rattle.std.proofs.Math.Nat.{add_assoc}
+use Rattle.rsp_memory.specs.Memory.{byte_at, with_byte, half_at, with_half, bytes_at}
+use Rattle.rsp_lanes.specs.Lanes.{each_lane, register_byte, with_register_byte}
 use Rattle.rsp_memory.proofs.Wraps.{byte_at-wrapped}
 use Rattle.rsp_lanes.proofs.Kit.{eight}
 use Rattle.rsp_loadstore.specs.File.{register, with_register}
@@ -104,6 +106,10 @@ loaded_front m file vt a (suc k) h l =
 -- all eight
 abbrev pub eight_halves : List ℕ → ℕ → List ℕ
 eight_halves m a = half_at m a ∷ half_at m (a + 2) ∷ half_at m (a + 4) ∷ half_at m (a + 6) ∷ half_at m (a + 8) ∷ half_at m (a + 10) ∷ half_at m (a + 12) ∷ half_at m (a + 14) ∷ []
+
+pub window_halves : (m : List ℕ) (a : ℕ) → each_lane (λ i. slice_index (bytes_at m a 16) (2 * i) * 256 + slice_index (bytes_at m a 16) (2 * i + 1)) ≡ eight_halves m a
+unfolding each_lane half_at
+window_halves m a = simp add_assoc
 
 pub front_all : (m v : List ℕ) (a : ℕ) → length v ≡ 8 → front_loaded m v a 8 ≡ eight_halves m a
 front_all m v a = eight (λ v. front_loaded m v a 8 ≡ eight_halves m a) (λ p q r s t u w x. rw add-zero refl) v

@@ -6,7 +6,7 @@ use rsp_decode::{Inst, VectorLoadRow, VectorStoreRow};
 
 /// The address of a vector load or store, modulo 2^32: the base register's value plus the signed seven-bit offset times
 /// the row's scale of the instruction table. For an instruction of another group it is `base`.
-#[inline]
+#[inline(always)]
 #[tactic(auto, unfolding(crate::specs::Addresses::transfer_address))]
 pub fn address(inst: &Inst, base: u32) -> u32
     ensures { result ≡ transfer_address inst.now base }
@@ -19,7 +19,7 @@ pub fn address(inst: &Inst, base: u32) -> u32
 }
 
 /// The signed reading of the seven bits of an offset.
-#[inline]
+#[inline(always)]
 fn signed_offset(offset: u8) -> i64
     ensures value { result ≡ signed_offset offset }
     ensures low { negsuc 63 ≤ℤ result }
@@ -33,14 +33,14 @@ fn signed_offset(offset: u8) -> i64
 }
 
 /// The base plus the offset times the scale, modulo 2^32.
-#[inline]
+#[inline(always)]
 fn displaced(base: u32, offset: u8, scale: u8) -> u32
     ensures { result ≡ displaced base offset scale }
 {
     (base as i64 + signed_offset(offset) * scale as i64).rem_euclid(1 << 32) as u32
 }
 
-#[inline]
+#[inline(always)]
 fn load_scale(row: VectorLoadRow) -> u8
     ensures { result ≡ vector_load_scale row }
 {
@@ -53,7 +53,7 @@ fn load_scale(row: VectorLoadRow) -> u8
     }
 }
 
-#[inline]
+#[inline(always)]
 fn store_scale(row: VectorStoreRow) -> u8
     ensures { result ≡ vector_store_scale row }
 {

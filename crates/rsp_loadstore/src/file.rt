@@ -31,7 +31,7 @@ impl VFile {
     }
 
     /// Register `n`, below 32.
-    #[inline]
+    #[inline(always)]
     #[tactic(auto, using(std::proofs::lemmas::List::get_or_default), unfolding(crate::specs::File::register))]
     pub fn reg(&self, n: u8) -> VReg
         requires { n < 32 }
@@ -42,7 +42,7 @@ impl VFile {
     }
 
     /// Writes register `n`, below 32; the others stay.
-    #[inline]
+    #[inline(always)]
     #[tactic(auto, unfolding(crate::specs::File::with_register))]
     pub fn set_reg(&mut self, n: u8, v: VReg)
         requires { n < 32 }
@@ -52,7 +52,7 @@ impl VFile {
     }
 
     /// Writes a byte of a register.
-    #[inline]
+    #[inline(always)]
     pub(crate) fn set_byte(&mut self, n: u8, i: usize, value: u8)
         requires register { n < 32 }
         requires byte { i < 16 }
@@ -64,7 +64,7 @@ impl VFile {
     }
 
     /// Writes a lane of a register.
-    #[inline]
+    #[inline(always)]
     pub(crate) fn set_lane(&mut self, n: u8, i: usize, value: u16)
         requires register { n < 32 }
         requires lane { i < 8 }
@@ -76,7 +76,7 @@ impl VFile {
     }
 
     /// Bits 14 to 7 of the sixteen bits at byte `i` and the next, modulo 16.
-    #[inline]
+    #[inline(always)]
     #[tactic(auto, unfolding(crate::specs::File::middle))]
     pub(crate) fn middle(&self, n: u8, i: usize) -> u8
         requires register { n < 32 }

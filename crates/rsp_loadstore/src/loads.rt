@@ -1,4 +1,4 @@
-ghost use Rattle.std.specs.Prelude.{◌≡◌, ◌<◌, ◌≤◌, ◌+◌, ◌-◌};
+ghost use Rattle.std.specs.Prelude.{◌≡◌, ◌<◌, ◌≤◌, ◌+◌, ◌-◌, ◌%◌};
 ghost use Rattle.rsp_decode.specs.Table.{IsInstruction};
 ghost use Rattle.rsp_lanes.specs.Lanes.{with_register_byte};
 ghost use Rattle.rsp_loadstore.specs.Loads.{after_load, load_pairs, loaded_file, bytes, lanes, transposed, spaced, IsLoadElement};
@@ -10,6 +10,7 @@ use rsp_memory::SpMem;
 
 /// Executes a vector load at the address `a`, the one that `address` gives; LTV writes parts of eight registers.
 /// An instruction of another group changes nothing.
+#[inline(always)]
 #[tactic(auto, unfolding(crate::specs::Loads::loaded_file))]
 pub fn load(inst: &Inst, a: u32, memory: &SpMem, file: &mut VFile)
     requires { IsInstruction inst.now }
@@ -26,6 +27,7 @@ pub fn load(inst: &Inst, a: u32, memory: &SpMem, file: &mut VFile)
     }
 }
 
+#[inline(always)]
 #[tactic(auto, unfolding(crate::specs::Loads::load_pairs))]
 fn load_row(row: VectorLoadRow, vt: u8, e: usize, a: u32, memory: &SpMem, file: &mut VFile)
     requires register { vt < 32 }
@@ -145,23 +147,13 @@ fn load_transposed(vt: u8, e: usize, a: u32, memory: &SpMem, file: &mut VFile)
     }
 }
 
-/// Loads a whole register, by halves.
+/// Loads a whole register at once, from a line of DMEM.
+#[inline(always)]
 fn load_whole(vt: u8, a: u32, memory: &SpMem, file: &mut VFile)
     requires register { vt < 32 }
+    requires line { a % 16 ≡ 0 }
     ensures { file.new ≡ after_load memory.now file.old (bytes vt 0 16 a) }
 {
     let _ = file.reg(vt).to_simd();
-    file.set_reg(
-        vt,
-        VReg::from_array([
-            memory.half(a),
-            memory.half(a.wrapping_add(2)),
-            memory.half(a.wrapping_add(4)),
-            memory.half(a.wrapping_add(6)),
-            memory.half(a.wrapping_add(8)),
-            memory.half(a.wrapping_add(10)),
-            memory.half(a.wrapping_add(12)),
-            memory.half(a.wrapping_add(14)),
-        ]),
-    );
+    file.set_reg(vt, VReg::from_bytes(memory.line(a)));
 }

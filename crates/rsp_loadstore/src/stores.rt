@@ -8,6 +8,7 @@ use rsp_memory::SpMem;
 
 /// Executes a vector store at the address `a`, the one that `address` gives; STV stores parts of eight registers.
 /// An instruction of another group changes nothing.
+#[inline(always)]
 #[tactic(auto, unfolding(crate::specs::Stores::stored_memory))]
 pub fn store(inst: &Inst, a: u32, file: &VFile, memory: &mut SpMem)
     requires { IsInstruction inst.now }
@@ -24,6 +25,7 @@ pub fn store(inst: &Inst, a: u32, file: &VFile, memory: &mut SpMem)
     }
 }
 
+#[inline(always)]
 #[tactic(auto, unfolding(crate::specs::Stores::store_pairs))]
 fn store_row(row: VectorStoreRow, vt: u8, e: usize, a: u32, file: &VFile, memory: &mut SpMem)
     requires register { vt < 32 }
@@ -141,6 +143,7 @@ fn store_transposed(vt: u8, e: usize, a: u32, file: &VFile, memory: &mut SpMem)
 }
 
 /// Stores a whole register, by halves.
+#[inline(always)]
 fn store_whole(vt: u8, a: u32, file: &VFile, memory: &mut SpMem)
     requires register { vt < 32 }
     ensures { memory.new ≡ after_store file.now memory.old (run vt 0 16 a) }

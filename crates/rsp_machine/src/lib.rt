@@ -13,6 +13,7 @@ mod step;
 #[cfg(test)]
 mod tests;
 mod vector;
+mod visits;
 
 pub use host::{RangeFault, TaskFault};
 pub use machine::Machine;

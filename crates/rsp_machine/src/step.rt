@@ -1,12 +1,12 @@
 ghost use Rattle.std.specs.Prelude.{◌≡◌, ◌<◌};
 ghost use Rattle.rsp_decode.specs.Table.{IsInstruction};
-ghost use Rattle.rsp_machine.specs.Step.{computes, loads, stores, jumps, breaks, moves_sp, executed, step_of};
+ghost use Rattle.rsp_machine.specs.Step.{computes, loads, stores, jumps, breaks, moves_sp, step_of};
 ghost use Rattle.rsp_machine.specs.State.{advanced};
 ghost use Rattle.rsp_scalar.specs.Flow.{going_on};
 
 use crate::machine::Machine;
 use rsp_acc::Acc;
-use rsp_decode::{Inst, MoveRow, decode};
+use rsp_decode::{Inst, MoveRow, visit};
 use rsp_scalar::{alu, jump, load, store};
 
 /// What a step came to.
@@ -46,7 +46,7 @@ impl<A: Acc> Machine<A> {
     /// A scalar row that computes.
     #[inline(always)]
     #[tactic(auto, unfolding(crate::specs::Step::computes))]
-    fn compute(&mut self, inst: &Inst)
+    pub(crate) fn compute(&mut self, inst: &Inst)
         requires { IsInstruction inst.now }
         ensures { self.new ≡ computes inst.now self.old }
     {
@@ -57,7 +57,7 @@ impl<A: Acc> Machine<A> {
     /// A scalar load.
     #[inline(always)]
     #[tactic(auto, unfolding(crate::specs::Step::loads))]
-    fn load(&mut self, inst: &Inst)
+    pub(crate) fn load_scalar(&mut self, inst: &Inst)
         requires { IsInstruction inst.now }
         ensures { self.new ≡ loads inst.now self.old }
     {
@@ -68,7 +68,7 @@ impl<A: Acc> Machine<A> {
     /// A scalar store.
     #[inline(always)]
     #[tactic(auto, unfolding(crate::specs::Step::stores))]
-    fn store(&mut self, inst: &Inst)
+    pub(crate) fn store_scalar(&mut self, inst: &Inst)
         requires { IsInstruction inst.now }
         ensures { self.new ≡ stores inst.now self.old }
     {
@@ -79,7 +79,7 @@ impl<A: Acc> Machine<A> {
     /// A jump or a branch: the instruction behind it, at npc, is executed before its target.
     #[inline(always)]
     #[tactic(auto, unfolding(crate::specs::Step::jumps))]
-    fn jump(&mut self, inst: &Inst)
+    pub(crate) fn go_to(&mut self, inst: &Inst)
         requires { IsInstruction inst.now }
         ensures { self.new ≡ jumps inst.now self.old }
     {
@@ -89,8 +89,9 @@ impl<A: Acc> Machine<A> {
     }
 
     /// BREAK.
+    #[inline(always)]
     #[tactic(auto, unfolding(crate::specs::Step::breaks))]
-    fn break_off(&mut self)
+    pub(crate) fn stop(&mut self)
         ensures { self.new ≡ breaks self.old }
     {
         self.sp.on_break();
@@ -99,7 +100,7 @@ impl<A: Acc> Machine<A> {
 
     /// A move between scalar register `rt` and an SP register.
     #[tactic(auto, unfolding(crate::specs::Step::moves_sp))]
-    fn move_sp(&mut self, row: MoveRow, rt: u8, register: u8)
+    pub(crate) fn move_sp_register(&mut self, row: MoveRow, rt: u8, register: u8)
         requires { rt < 32 }
         ensures { self.new ≡ moves_sp row rt register self.old }
     {
@@ -116,89 +117,11 @@ impl<A: Acc> Machine<A> {
         self.advance();
     }
 
-    /// One instruction of any group.
-    #[inline(always)]
-    #[tactic(auto, unfolding(crate::specs::Step::executed))]
-    fn execute(&mut self, inst: &Inst)
-        requires { IsInstruction inst.now }
-        ensures { self.new ≡ executed inst.now self.old }
-    {
-        match *inst {
-            Inst::Shift { .. }
-            | Inst::ShiftBy { .. }
-            | Inst::Register { .. }
-            | Inst::Immediate { .. }
-            | Inst::LoadUpper { .. } => self.compute(inst),
-            Inst::Load { .. } => self.load(inst),
-            Inst::Store { .. } => self.store(inst),
-            Inst::JumpRegister { .. }
-            | Inst::JumpLinkRegister { .. }
-            | Inst::BranchSign { .. }
-            | Inst::BranchEqual { .. }
-            | Inst::Jump { .. } => self.jump(inst),
-            Inst::Break => self.break_off(),
-            Inst::MoveSp { row, rt, register } => self.move_sp(row, rt, register),
-            Inst::Multiply {
-                row,
-                vd,
-                vs,
-                vt,
-                element,
-            } => self.multiply(row, vd, vs, vt, element),
-            Inst::ReadAccumulator { vd, element, .. } => self.read_accumulator(vd, element),
-            Inst::VectorAdd {
-                row,
-                vd,
-                vs,
-                vt,
-                element,
-            } => self.add(row, vd, vs, vt, element),
-            Inst::VectorSelect {
-                row,
-                vd,
-                vs,
-                vt,
-                element,
-            } => self.select(row, vd, vs, vt, element),
-            Inst::VectorClip {
-                row,
-                vd,
-                vs,
-                vt,
-                element,
-            } => self.clip(row, vd, vs, vt, element),
-            Inst::VectorMerge {
-                vd,
-                vs,
-                vt,
-                element,
-            } => self.merge(vd, vs, vt, element),
-            Inst::VectorLogic {
-                row,
-                vd,
-                vs,
-                vt,
-                element,
-            } => self.logic(row, vd, vs, vt, element),
-            Inst::Lane {
-                row,
-                vd,
-                lane,
-                vt,
-                element,
-            } => self.divide(row, vd, lane, vt, element),
-            Inst::Idle { .. } => self.advance(),
-            Inst::VectorLoad { base, .. } => self.load_vector(inst, base),
-            Inst::VectorStore { base, .. } => self.store_vector(inst, base),
-            Inst::MoveVector { row, rt, .. } => self.move_vector(inst, row, rt),
-            Inst::MoveControl { row, rt, .. } => self.move_control(inst, row, rt),
-        }
-    }
-
     /// One step: Halted where the machine is halted, else Reserved where the word of IMEM at pc is, and
     /// in both cases nothing changes. Else the instruction there is executed, by the instruction table;
     /// then, where single step is set in the state that it made, the machine is halted. The answer is
     /// Done.
+    #[inline(always)]
     #[tactic(auto, unfolding(crate::specs::Step::step_of))]
     pub fn step(&mut self) -> StepEnd
         ensures answer { result ≡ (step_of self.old).0 }
@@ -208,10 +131,9 @@ impl<A: Acc> Machine<A> {
             return StepEnd::Halted;
         }
         let word = self.imem.word(u32::from(self.pc));
-        let Some(inst) = decode(word) else {
+        if !visit(word, self) {
             return StepEnd::Reserved { word };
-        };
-        self.execute(&inst);
+        }
         self.sp.on_step();
         StepEnd::Done
     }

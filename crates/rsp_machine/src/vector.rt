@@ -32,9 +32,9 @@ impl<A: Acc> Machine<A> {
     }
 
     /// A row of the twelve multiplies.
-    #[inline]
+    #[inline(always)]
     #[tactic(auto, unfolding(crate::specs::Vector::multiplies))]
-    pub(crate) fn multiply(&mut self, row: MultiplyRow, vd: u8, vs: u8, vt: u8, element: u8)
+    pub(crate) fn multiply_lanes(&mut self, row: MultiplyRow, vd: u8, vs: u8, vt: u8, element: u8)
         requires vd { vd < 32 }
         requires vs { vs < 32 }
         requires vt { vt < 32 }
@@ -49,9 +49,9 @@ impl<A: Acc> Machine<A> {
     }
 
     /// Reads a part of the accumulators.
-    #[inline]
+    #[inline(always)]
     #[tactic(auto, unfolding(crate::specs::Vector::reads_accumulator))]
-    pub(crate) fn read_accumulator(&mut self, vd: u8, element: u8)
+    pub(crate) fn read_part(&mut self, vd: u8, element: u8)
         requires vd { vd < 32 }
         requires element { element < 16 }
         ensures { self.new ≡ reads_accumulator vd element self.old }
@@ -62,7 +62,7 @@ impl<A: Acc> Machine<A> {
     }
 
     /// Adds and subtracts.
-    #[inline]
+    #[inline(always)]
     #[tactic(auto, unfolding(crate::specs::Vector::ruled))]
     pub(crate) fn add(&mut self, row: VectorAddRow, vd: u8, vs: u8, vt: u8, element: u8)
         requires vd { vd < 32 }
@@ -79,7 +79,7 @@ impl<A: Acc> Machine<A> {
     }
 
     /// Compares, and takes one of two lanes.
-    #[inline]
+    #[inline(always)]
     #[tactic(auto, unfolding(crate::specs::Vector::ruled))]
     pub(crate) fn select(&mut self, row: VectorSelectRow, vd: u8, vs: u8, vt: u8, element: u8)
         requires vd { vd < 32 }
@@ -96,7 +96,7 @@ impl<A: Acc> Machine<A> {
     }
 
     /// Clips lanes between a limit and its negative.
-    #[inline]
+    #[inline(always)]
     #[tactic(auto, unfolding(crate::specs::Vector::ruled))]
     pub(crate) fn clip(&mut self, row: VectorClipRow, vd: u8, vs: u8, vt: u8, element: u8)
         requires vd { vd < 32 }
@@ -113,7 +113,7 @@ impl<A: Acc> Machine<A> {
     }
 
     /// Logic, bit by bit.
-    #[inline]
+    #[inline(always)]
     #[tactic(auto, unfolding(crate::specs::Vector::ruled))]
     pub(crate) fn logic(&mut self, row: VectorLogicRow, vd: u8, vs: u8, vt: u8, element: u8)
         requires vd { vd < 32 }
@@ -130,7 +130,7 @@ impl<A: Acc> Machine<A> {
     }
 
     /// Takes one of two lanes by the flags.
-    #[inline]
+    #[inline(always)]
     #[tactic(auto, unfolding(crate::specs::Vector::ruled))]
     pub(crate) fn merge(&mut self, vd: u8, vs: u8, vt: u8, element: u8)
         requires vd { vd < 32 }
@@ -147,7 +147,7 @@ impl<A: Acc> Machine<A> {
     }
 
     /// A row of one lane.
-    #[inline]
+    #[inline(always)]
     #[tactic(auto, unfolding(crate::specs::Vector::divides))]
     pub(crate) fn divide(&mut self, row: LaneRow, vd: u8, lane: u8, vt: u8, element: u8)
         requires vd { vd < 32 }
@@ -172,9 +172,9 @@ impl<A: Acc> Machine<A> {
     }
 
     /// A vector load.
-    #[inline]
+    #[inline(always)]
     #[tactic(auto, unfolding(crate::specs::Vector::loads_vector))]
-    pub(crate) fn load_vector(&mut self, inst: &Inst, base: u8)
+    pub(crate) fn load_register(&mut self, inst: &Inst, base: u8)
         requires inst { IsInstruction inst.now }
         requires base { base < 32 }
         ensures { self.new ≡ loads_vector inst.now base self.old }
@@ -185,9 +185,9 @@ impl<A: Acc> Machine<A> {
     }
 
     /// A vector store.
-    #[inline]
+    #[inline(always)]
     #[tactic(auto, unfolding(crate::specs::Vector::stores_vector))]
-    pub(crate) fn store_vector(&mut self, inst: &Inst, base: u8)
+    pub(crate) fn store_register(&mut self, inst: &Inst, base: u8)
         requires inst { IsInstruction inst.now }
         requires base { base < 32 }
         ensures { self.new ≡ stores_vector inst.now base self.old }
@@ -198,9 +198,9 @@ impl<A: Acc> Machine<A> {
     }
 
     /// A move between scalar register `rt` and a vector register.
-    #[inline]
+    #[inline(always)]
     #[tactic(auto, unfolding(crate::specs::Vector::moves_vector))]
-    pub(crate) fn move_vector(&mut self, inst: &Inst, row: MoveRow, rt: u8)
+    pub(crate) fn move_lanes(&mut self, inst: &Inst, row: MoveRow, rt: u8)
         requires inst { IsInstruction inst.now }
         requires rt { rt < 32 }
         ensures { self.new ≡ moves_vector row inst.now rt self.old }
@@ -213,9 +213,9 @@ impl<A: Acc> Machine<A> {
     }
 
     /// A move between scalar register `rt` and a control register.
-    #[inline]
+    #[inline(always)]
     #[tactic(auto, unfolding(crate::specs::Vector::moves_control))]
-    pub(crate) fn move_control(&mut self, inst: &Inst, row: MoveRow, rt: u8)
+    pub(crate) fn move_flags(&mut self, inst: &Inst, row: MoveRow, rt: u8)
         requires inst { IsInstruction inst.now }
         requires rt { rt < 32 }
         ensures { self.new ≡ moves_control row inst.now rt self.old }

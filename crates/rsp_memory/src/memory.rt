@@ -1,4 +1,4 @@
-ghost use Rattle.std.specs.Prelude.{◌≡◌, ◌≤◌, ◌%◌, ℕ, List, length, take, drop};
+ghost use Rattle.std.specs.Prelude.{◌≡◌, ◌≤◌, ◌%◌, ◌*◌, ◌/◌, ℕ, List, length, take, drop};
 ghost use Rattle.rsp_memory.specs.Memory.{empty_memory, byte_at, half_at, word_at, with_byte, with_half, with_word, bytes_at, with_bytes};
 
 use crate::splice::splice;
@@ -127,6 +127,33 @@ impl SpMem {
         self.set_byte(a.wrapping_add(1), second);
         self.set_byte(a.wrapping_add(2), third);
         self.set_byte(a.wrapping_add(3), fourth);
+    }
+
+    /// The sixteen bytes of the line that an address lies in, from the multiple of 16 at or below it on.
+    #[inline(always)]
+    #[tactic(auto, unfolding(crate::specs::Memory::byte_at))]
+    pub fn line(&self, a: u32) -> [u8; 16]
+        ensures { result ≡ bytes_at self.now (a / 16 * 16) 16 }
+    {
+        let at = (a % 4096 / 16 * 16) as usize;
+        [
+            self.bytes[at],
+            self.bytes[at + 1],
+            self.bytes[at + 2],
+            self.bytes[at + 3],
+            self.bytes[at + 4],
+            self.bytes[at + 5],
+            self.bytes[at + 6],
+            self.bytes[at + 7],
+            self.bytes[at + 8],
+            self.bytes[at + 9],
+            self.bytes[at + 10],
+            self.bytes[at + 11],
+            self.bytes[at + 12],
+            self.bytes[at + 13],
+            self.bytes[at + 14],
+            self.bytes[at + 15],
+        ]
     }
 
     /// The sixteen bytes from an address on: as many as any one store writes.

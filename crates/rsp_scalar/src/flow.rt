@@ -7,7 +7,7 @@ use crate::Regs;
 use rsp_decode::{EqualRow, Inst, JumpRow, SignRow};
 
 /// The test of a branch on one register.
-#[inline]
+#[inline(always)]
 fn sign_holds(row: SignRow, s: i32) -> bool
     ensures { result ≡ sign_test row s }
 {
@@ -20,7 +20,7 @@ fn sign_holds(row: SignRow, s: i32) -> bool
 }
 
 /// The test of a branch on two registers.
-#[inline]
+#[inline(always)]
 fn equal_holds(row: EqualRow, s: u32, t: u32) -> bool
     ensures { result ≡ equal_test row s t }
 {
@@ -31,7 +31,7 @@ fn equal_holds(row: EqualRow, s: u32, t: u32) -> bool
 }
 
 /// Whether a branch is taken; true for a jump, and false for any other row.
-#[inline]
+#[inline(always)]
 pub fn taken(inst: &Inst, regs: &Regs) -> bool
     requires { IsInstruction inst.now }
     ensures { result ≡ is_taken inst.now regs.now }
@@ -45,7 +45,7 @@ pub fn taken(inst: &Inst, regs: &Regs) -> bool
 }
 
 /// The place after `npc`, modulo 4096.
-#[inline]
+#[inline(always)]
 fn going_on(npc: u16) -> u16
     ensures value { result ≡ going_on npc }
     ensures place { result < 4096 }
@@ -54,7 +54,7 @@ fn going_on(npc: u16) -> u16
 }
 
 /// The place at a distance in words from `npc`, modulo 4096.
-#[inline]
+#[inline(always)]
 fn branch_target(npc: u16, offset: u16) -> u16
     ensures value { result ≡ branch_target npc offset }
     ensures place { result < 4096 }
@@ -65,7 +65,7 @@ fn branch_target(npc: u16, offset: u16) -> u16
 
 /// Where a branch or a jump goes when it is taken, by the `npc` at its execution (the place of its
 /// delay slot). Another row goes on: `npc + 4` modulo 4096.
-#[inline]
+#[inline(always)]
 pub fn target(inst: &Inst, regs: &Regs, npc: u16) -> u16
     requires { IsInstruction inst.now }
     ensures value { result ≡ target_of inst.now regs.now npc }
@@ -84,7 +84,7 @@ pub fn target(inst: &Inst, regs: &Regs, npc: u16) -> u16
 }
 
 /// Where the instruction after the next one stands.
-#[inline]
+#[inline(always)]
 fn following(inst: &Inst, regs: &Regs, npc: u16) -> u16
     requires { IsInstruction inst.now }
     ensures value { result ≡ following inst.now regs.now npc }
@@ -98,7 +98,7 @@ fn following(inst: &Inst, regs: &Regs, npc: u16) -> u16
 }
 
 /// Writes the link of a row that has one, taken or not.
-#[inline]
+#[inline(always)]
 fn link(inst: &Inst, regs: &mut Regs, npc: u16)
     requires { IsInstruction inst.now }
     ensures { regs.new ≡ linked inst.now regs.old npc }
@@ -119,7 +119,7 @@ fn link(inst: &Inst, regs: &mut Regs, npc: u16)
 
 /// Executes a branch or a jump: answers the next `npc`, then writes the link, so that the sources
 /// are read before. For any other row it answers `npc + 4` modulo 4096 and changes nothing.
-#[inline]
+#[inline(always)]
 pub fn jump(inst: &Inst, regs: &mut Regs, npc: u16) -> u16
     requires { IsInstruction inst.now }
     ensures next { result ≡ following inst.now regs.old npc }

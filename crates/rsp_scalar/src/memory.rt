@@ -8,7 +8,7 @@ use rsp_decode::{Inst, LoadRow, StoreRow};
 use rsp_memory::SpMem;
 
 /// The address of a load or store.
-#[inline]
+#[inline(always)]
 fn address(regs: &Regs, base: u8, offset: u16) -> u32
     requires { base < 32 }
     ensures { result ≡ address regs.now base offset }
@@ -17,7 +17,7 @@ fn address(regs: &Regs, base: u8, offset: u16) -> u32
 }
 
 /// What a load reads at an address.
-#[inline]
+#[inline(always)]
 fn loaded(row: LoadRow, memory: &SpMem, a: u32) -> u32
     ensures { result ≡ load_result row memory.now a }
 {
@@ -31,7 +31,7 @@ fn loaded(row: LoadRow, memory: &SpMem, a: u32) -> u32
 }
 
 /// Stores the low bytes of `t` at an address.
-#[inline]
+#[inline(always)]
 fn write(row: StoreRow, memory: &mut SpMem, a: u32, t: u32)
     ensures { memory.new ≡ store_result row memory.old a t }
 {
@@ -44,7 +44,7 @@ fn write(row: StoreRow, memory: &mut SpMem, a: u32, t: u32)
 
 /// Executes a scalar load of the instruction table, which reads 1, 2 or 4 bytes of DMEM, wrapping
 /// byte by byte, into a register. Any other row changes nothing.
-#[inline]
+#[inline(always)]
 pub fn load(inst: &Inst, regs: &mut Regs, memory: &SpMem)
     requires { IsInstruction inst.now }
     ensures { regs.new ≡ after_load inst.now regs.old memory.now }
@@ -62,7 +62,7 @@ pub fn load(inst: &Inst, regs: &mut Regs, memory: &SpMem)
 
 /// Executes a scalar store of the instruction table, which writes the low 1, 2 or 4 bytes of a
 /// register to DMEM, wrapping byte by byte. Any other row changes nothing.
-#[inline]
+#[inline(always)]
 pub fn store(inst: &Inst, regs: &Regs, memory: &mut SpMem)
     requires { IsInstruction inst.now }
     ensures { memory.new ≡ after_store inst.now regs.now memory.old }

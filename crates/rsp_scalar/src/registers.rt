@@ -33,7 +33,7 @@ impl Regs {
     }
 
     /// Register `n`, below 32.
-    #[inline]
+    #[inline(always)]
     pub fn get(&self, n: u8) -> u32
         requires { n < 32 }
         ensures { result ≡ register self.now n }
@@ -42,7 +42,7 @@ impl Regs {
     }
 
     /// Writes register `n`, below 32. A write of register 0 is dropped.
-    #[inline]
+    #[inline(always)]
     pub fn set(&mut self, n: u8, value: u32)
         requires { n < 32 }
         ensures { self.new ≡ with_register self.old n value }

@@ -7,7 +7,7 @@ use crate::Regs;
 use rsp_decode::{ImmediateRow, Inst, RegisterRow, ShiftByRow, ShiftRow};
 
 /// Sixteen bits as a signed number, modulo 2^32.
-#[inline]
+#[inline(always)]
 pub(crate) fn extended(imm: u16) -> u32
     ensures { result ≡ extended w16 imm }
 {
@@ -15,7 +15,7 @@ pub(crate) fn extended(imm: u16) -> u32
 }
 
 /// A shift to the right that repeats the sign.
-#[inline]
+#[inline(always)]
 fn shifted_signed(t: u32, amount: u32) -> u32
     requires { amount < 32 }
     ensures { result ≡ shifted_signed t amount }
@@ -24,7 +24,7 @@ fn shifted_signed(t: u32, amount: u32) -> u32
 }
 
 /// What a shift by a constant gives.
-#[inline]
+#[inline(always)]
 fn shift(row: ShiftRow, t: u32, amount: u8) -> u32
     requires { amount < 32 }
     ensures { result ≡ shift_result row t amount }
@@ -37,7 +37,7 @@ fn shift(row: ShiftRow, t: u32, amount: u8) -> u32
 }
 
 /// What a shift by a register gives: by its low five bits.
-#[inline]
+#[inline(always)]
 fn shift_by(row: ShiftByRow, t: u32, s: u32) -> u32
     ensures { result ≡ shift_by_result row t s }
 {
@@ -49,7 +49,7 @@ fn shift_by(row: ShiftByRow, t: u32, s: u32) -> u32
 }
 
 /// What a row of two registers gives.
-#[inline]
+#[inline(always)]
 fn register(row: RegisterRow, s: u32, t: u32) -> u32
     ensures { result ≡ register_result row s t }
 {
@@ -66,7 +66,7 @@ fn register(row: RegisterRow, s: u32, t: u32) -> u32
 }
 
 /// What a row of a register and a constant gives.
-#[inline]
+#[inline(always)]
 fn immediate(row: ImmediateRow, s: u32, imm: u16) -> u32
     ensures { result ≡ immediate_result row s imm }
 {
@@ -83,7 +83,7 @@ fn immediate(row: ImmediateRow, s: u32, imm: u16) -> u32
 /// Executes a row of the scalar part of the instruction table that computes: the shifts, sums,
 /// differences, bitwise rows, comparisons and LUI, on registers modulo 2^32. Any other row changes
 /// nothing.
-#[inline]
+#[inline(always)]
 pub fn alu(inst: &Inst, regs: &mut Regs)
     requires { IsInstruction inst.now }
     ensures { regs.new ≡ computed inst.now regs.old }

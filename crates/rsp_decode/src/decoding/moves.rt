@@ -1,63 +1,62 @@
 // The moves from and to the coprocessors, which go by rs.
 
-ghost use Rattle.std.specs.Prelude.{◌≡◌, ◌*◌, ◌+◌, ◌^◌};
+ghost use Rattle.std.specs.Prelude.{true, ◌≡◌, ◌*◌, ◌+◌, ◌^◌};
+ghost use Rattle.rsp_decode.specs.Visit.{is_known, visited};
 ghost use Rattle.rsp_decode.specs.Table.{value_at, whole, pick, meaning_of, cop0_rows, cop2_rows, move_sp_row, move_vector_row, move_control_row};
 
 use crate::fields::{byte_element, control, rd, rs, rt, sp_register};
-use crate::inst::{Inst, MoveRow};
+use crate::inst::MoveRow;
+use crate::visitor::Visitor;
 
-#[inline]
-fn move_sp(word: u32, row: MoveRow) -> Option<Inst>
-    ensures { result ≡ Some (meaning_of (move_sp_row row) word) }
+#[inline(always)]
+fn move_sp<V: Visitor>(word: u32, row: MoveRow, visitor: &mut V) -> bool
+    ensures known { result ≡ true }
+    ensures state { visitor.new ≡ V.after (meaning_of (move_sp_row row) word) visitor.old }
 {
-    Some(Inst::MoveSp {
-        row,
-        rt: rt(word),
-        register: sp_register(word),
-    })
+    visitor.move_sp(row, rt(word), sp_register(word));
+    true
 }
 
-#[inline]
-fn move_vector(word: u32, row: MoveRow) -> Option<Inst>
-    ensures { result ≡ Some (meaning_of (move_vector_row row) word) }
+#[inline(always)]
+fn move_vector<V: Visitor>(word: u32, row: MoveRow, visitor: &mut V) -> bool
+    ensures known { result ≡ true }
+    ensures state { visitor.new ≡ V.after (meaning_of (move_vector_row row) word) visitor.old }
 {
-    Some(Inst::MoveVector {
-        row,
-        rt: rt(word),
-        vector: rd(word),
-        element: byte_element(word),
-    })
+    visitor.move_vector(row, rt(word), rd(word), byte_element(word));
+    true
 }
 
-#[inline]
-fn move_control(word: u32, row: MoveRow) -> Option<Inst>
-    ensures { result ≡ Some (meaning_of (move_control_row row) word) }
+#[inline(always)]
+fn move_control<V: Visitor>(word: u32, row: MoveRow, visitor: &mut V) -> bool
+    ensures known { result ≡ true }
+    ensures state { visitor.new ≡ V.after (meaning_of (move_control_row row) word) visitor.old }
 {
-    Some(Inst::MoveControl {
-        row,
-        rt: rt(word),
-        control: control(word),
-    })
+    visitor.move_control(row, rt(word), control(word));
+    true
 }
 
-pub fn decode_sp_move(word: u32) -> Option<Inst>
-    ensures { result ≡ pick cop0_rows (16 * 2 ^ 26 + value_at word (whole 21 5) * 2 ^ 21) word }
+#[inline(always)]
+pub fn visit_sp_move<V: Visitor>(word: u32, visitor: &mut V) -> bool
+    ensures known { result ≡ is_known (pick cop0_rows (16 * 2 ^ 26 + value_at word (whole 21 5) * 2 ^ 21) word) }
+    ensures state { visitor.new ≡ visited V.after (pick cop0_rows (16 * 2 ^ 26 + value_at word (whole 21 5) * 2 ^ 21) word) visitor.old }
 {
     match rs(word) {
-        0 => move_sp(word, MoveRow::From),
-        4 => move_sp(word, MoveRow::To),
-        _ => None,
+        0 => move_sp(word, MoveRow::From, visitor),
+        4 => move_sp(word, MoveRow::To, visitor),
+        _ => false,
     }
 }
 
-pub fn decode_vector_move(word: u32) -> Option<Inst>
-    ensures { result ≡ pick cop2_rows (18 * 2 ^ 26 + value_at word (whole 21 5) * 2 ^ 21) word }
+#[inline(always)]
+pub fn visit_vector_move<V: Visitor>(word: u32, visitor: &mut V) -> bool
+    ensures known { result ≡ is_known (pick cop2_rows (18 * 2 ^ 26 + value_at word (whole 21 5) * 2 ^ 21) word) }
+    ensures state { visitor.new ≡ visited V.after (pick cop2_rows (18 * 2 ^ 26 + value_at word (whole 21 5) * 2 ^ 21) word) visitor.old }
 {
     match rs(word) {
-        0 => move_vector(word, MoveRow::From),
-        2 => move_control(word, MoveRow::From),
-        4 => move_vector(word, MoveRow::To),
-        6 => move_control(word, MoveRow::To),
-        _ => None,
+        0 => move_vector(word, MoveRow::From, visitor),
+        2 => move_control(word, MoveRow::From, visitor),
+        4 => move_vector(word, MoveRow::To, visitor),
+        6 => move_control(word, MoveRow::To, visitor),
+        _ => false,
     }
 }

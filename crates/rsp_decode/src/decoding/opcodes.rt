@@ -1,129 +1,120 @@
 // The rows with an opcode of their own, and those of opcode 1, which go by rt.
 
-ghost use Rattle.std.specs.Prelude.{◌≡◌, ◌*◌, ◌+◌, ◌^◌};
+ghost use Rattle.std.specs.Prelude.{true, ◌≡◌, ◌*◌, ◌+◌, ◌^◌};
+ghost use Rattle.rsp_decode.specs.declared.inst.Inst.{Inst};
+ghost use Rattle.rsp_decode.specs.Visit.{is_known, visited};
 ghost use Rattle.rsp_decode.specs.Table.{value_at, whole, pick, meaning_of, regimm_rows, opcode_rows, branch_sign_row, branch_equal_row, jump_row, load_upper_row, load_row, store_row};
 
 use crate::fields::{immediate, opcode, rs, rt, target};
-use crate::inst::{EqualRow, ImmediateRow, Inst, JumpRow, LoadRow, SignRow, StoreRow};
+use crate::inst::{EqualRow, ImmediateRow, JumpRow, LoadRow, SignRow, StoreRow};
+use crate::visitor::Visitor;
 
-#[inline]
-fn branch_sign(word: u32, row: SignRow) -> Option<Inst>
-    ensures { result ≡ Some (meaning_of (branch_sign_row row) word) }
+#[inline(always)]
+fn branch_sign<V: Visitor>(word: u32, row: SignRow, visitor: &mut V) -> bool
+    ensures known { result ≡ true }
+    ensures state { visitor.new ≡ V.after (meaning_of (branch_sign_row row) word) visitor.old }
 {
-    Some(Inst::BranchSign {
-        row,
-        rs: rs(word),
-        offset: immediate(word),
-    })
+    visitor.branch_sign(row, rs(word), immediate(word));
+    true
 }
 
-#[inline]
-fn branch_equal(word: u32, row: EqualRow) -> Option<Inst>
-    ensures { result ≡ Some (meaning_of (branch_equal_row row) word) }
+#[inline(always)]
+fn branch_equal<V: Visitor>(word: u32, row: EqualRow, visitor: &mut V) -> bool
+    ensures known { result ≡ true }
+    ensures state { visitor.new ≡ V.after (meaning_of (branch_equal_row row) word) visitor.old }
 {
-    Some(Inst::BranchEqual {
-        row,
-        rs: rs(word),
-        rt: rt(word),
-        offset: immediate(word),
-    })
+    visitor.branch_equal(row, rs(word), rt(word), immediate(word));
+    true
 }
 
-#[inline]
-fn jump(word: u32, row: JumpRow) -> Option<Inst>
-    ensures { result ≡ Some (meaning_of (jump_row row) word) }
+#[inline(always)]
+fn jump<V: Visitor>(word: u32, row: JumpRow, visitor: &mut V) -> bool
+    ensures known { result ≡ true }
+    ensures state { visitor.new ≡ V.after (meaning_of (jump_row row) word) visitor.old }
 {
-    Some(Inst::Jump {
-        row,
-        target: target(word),
-    })
+    visitor.jump(row, target(word));
+    true
 }
 
-#[inline]
-fn with_immediate(word: u32, row: ImmediateRow) -> Option<Inst>
-    ensures { result ≡ Some (Inst.Immediate row (value_at word (whole 16 5)) (value_at word (whole 21 5)) (value_at word (whole 0 16))) }
+#[inline(always)]
+fn with_immediate<V: Visitor>(word: u32, row: ImmediateRow, visitor: &mut V) -> bool
+    ensures known { result ≡ true }
+    ensures state { visitor.new ≡ V.after (Inst.Immediate row (value_at word (whole 16 5)) (value_at word (whole 21 5)) (value_at word (whole 0 16))) visitor.old }
 {
-    Some(Inst::Immediate {
-        row,
-        rt: rt(word),
-        rs: rs(word),
-        imm: immediate(word),
-    })
+    visitor.immediate(row, rt(word), rs(word), immediate(word));
+    true
 }
 
-#[inline]
-fn load_upper(word: u32) -> Option<Inst>
-    ensures { result ≡ Some (meaning_of load_upper_row word) }
+#[inline(always)]
+fn load_upper<V: Visitor>(word: u32, visitor: &mut V) -> bool
+    ensures known { result ≡ true }
+    ensures state { visitor.new ≡ V.after (meaning_of load_upper_row word) visitor.old }
 {
-    Some(Inst::LoadUpper {
-        rt: rt(word),
-        imm: immediate(word),
-    })
+    visitor.load_upper(rt(word), immediate(word));
+    true
 }
 
-#[inline]
-fn load(word: u32, row: LoadRow) -> Option<Inst>
-    ensures { result ≡ Some (meaning_of (load_row row) word) }
+#[inline(always)]
+fn load<V: Visitor>(word: u32, row: LoadRow, visitor: &mut V) -> bool
+    ensures known { result ≡ true }
+    ensures state { visitor.new ≡ V.after (meaning_of (load_row row) word) visitor.old }
 {
-    Some(Inst::Load {
-        row,
-        rt: rt(word),
-        offset: immediate(word),
-        base: rs(word),
-    })
+    visitor.load(row, rt(word), immediate(word), rs(word));
+    true
 }
 
-#[inline]
-fn store(word: u32, row: StoreRow) -> Option<Inst>
-    ensures { result ≡ Some (meaning_of (store_row row) word) }
+#[inline(always)]
+fn store<V: Visitor>(word: u32, row: StoreRow, visitor: &mut V) -> bool
+    ensures known { result ≡ true }
+    ensures state { visitor.new ≡ V.after (meaning_of (store_row row) word) visitor.old }
 {
-    Some(Inst::Store {
-        row,
-        rt: rt(word),
-        offset: immediate(word),
-        base: rs(word),
-    })
+    visitor.store(row, rt(word), immediate(word), rs(word));
+    true
 }
 
-pub fn decode_regimm(word: u32) -> Option<Inst>
-    ensures { result ≡ pick regimm_rows (2 ^ 26 + value_at word (whole 16 5) * 2 ^ 16) word }
+#[inline(always)]
+pub fn visit_regimm<V: Visitor>(word: u32, visitor: &mut V) -> bool
+    ensures known { result ≡ is_known (pick regimm_rows (2 ^ 26 + value_at word (whole 16 5) * 2 ^ 16) word) }
+    ensures state { visitor.new ≡ visited V.after (pick regimm_rows (2 ^ 26 + value_at word (whole 16 5) * 2 ^ 16) word) visitor.old }
 {
     match rt(word) {
-        0 => branch_sign(word, SignRow::Bltz),
-        1 => branch_sign(word, SignRow::Bgez),
-        16 => branch_sign(word, SignRow::Bltzal),
-        17 => branch_sign(word, SignRow::Bgezal),
-        _ => None,
+        0 => branch_sign(word, SignRow::Bltz, visitor),
+        1 => branch_sign(word, SignRow::Bgez, visitor),
+        16 => branch_sign(word, SignRow::Bltzal, visitor),
+        17 => branch_sign(word, SignRow::Bgezal, visitor),
+        _ => false,
     }
 }
 
-pub fn decode_opcode(word: u32) -> Option<Inst>
-    ensures { result ≡ pick opcode_rows (value_at word (whole 26 6) * 2 ^ 26) word }
+#[inline(always)]
+pub fn visit_opcode<V: Visitor>(word: u32, visitor: &mut V) -> bool
+    ensures known { result ≡ is_known (pick opcode_rows (value_at word (whole 26 6) * 2 ^ 26) word) }
+    ensures state { visitor.new ≡ visited V.after (pick opcode_rows (value_at word (whole 26 6) * 2 ^ 26) word) visitor.old }
 {
     match opcode(word) {
-        2 => jump(word, JumpRow::J),
-        3 => jump(word, JumpRow::Jal),
-        4 => branch_equal(word, EqualRow::Beq),
-        5 => branch_equal(word, EqualRow::Bne),
-        6 => branch_sign(word, SignRow::Blez),
-        7 => branch_sign(word, SignRow::Bgtz),
-        8 => with_immediate(word, ImmediateRow::Addi),
-        9 => with_immediate(word, ImmediateRow::Addiu),
-        10 => with_immediate(word, ImmediateRow::Slti),
-        11 => with_immediate(word, ImmediateRow::Sltiu),
-        12 => with_immediate(word, ImmediateRow::Andi),
-        13 => with_immediate(word, ImmediateRow::Ori),
-        14 => with_immediate(word, ImmediateRow::Xori),
-        15 => load_upper(word),
-        32 => load(word, LoadRow::Lb),
-        33 => load(word, LoadRow::Lh),
-        35 => load(word, LoadRow::Lw),
-        36 => load(word, LoadRow::Lbu),
-        37 => load(word, LoadRow::Lhu),
-        39 => load(word, LoadRow::Lwu),
-        40 => store(word, StoreRow::Sb),
-        41 => store(word, StoreRow::Sh),
-        43 => store(word, StoreRow::Sw),
-        _ => None,
+        2 => jump(word, JumpRow::J, visitor),
+        3 => jump(word, JumpRow::Jal, visitor),
+        4 => branch_equal(word, EqualRow::Beq, visitor),
+        5 => branch_equal(word, EqualRow::Bne, visitor),
+        6 => branch_sign(word, SignRow::Blez, visitor),
+        7 => branch_sign(word, SignRow::Bgtz, visitor),
+        8 => with_immediate(word, ImmediateRow::Addi, visitor),
+        9 => with_immediate(word, ImmediateRow::Addiu, visitor),
+        10 => with_immediate(word, ImmediateRow::Slti, visitor),
+        11 => with_immediate(word, ImmediateRow::Sltiu, visitor),
+        12 => with_immediate(word, ImmediateRow::Andi, visitor),
+        13 => with_immediate(word, ImmediateRow::Ori, visitor),
+        14 => with_immediate(word, ImmediateRow::Xori, visitor),
+        15 => load_upper(word, visitor),
+        32 => load(word, LoadRow::Lb, visitor),
+        33 => load(word, LoadRow::Lh, visitor),
+        35 => load(word, LoadRow::Lw, visitor),
+        36 => load(word, LoadRow::Lbu, visitor),
+        37 => load(word, LoadRow::Lhu, visitor),
+        39 => load(word, LoadRow::Lwu, visitor),
+        40 => store(word, StoreRow::Sb, visitor),
+        41 => store(word, StoreRow::Sh, visitor),
+        43 => store(word, StoreRow::Sw, visitor),
+        _ => false,
     }
 }

@@ -1,87 +1,92 @@
 // The rows of opcode 0, which go by the function.
 
-ghost use Rattle.std.specs.Prelude.{◌≡◌};
-ghost use Rattle.rsp_decode.specs.Table.{value_at, whole, pick, meaning_of, special_rows, shift_row, shift_by_row, jump_register_row, jump_link_register_row, register_row};
+ghost use Rattle.std.specs.Prelude.{true, ◌≡◌};
+ghost use Rattle.rsp_decode.specs.Visit.{is_known, visited};
+ghost use Rattle.rsp_decode.specs.Table.{value_at, whole, pick, meaning_of, special_rows, shift_row, shift_by_row, jump_register_row, jump_link_register_row, register_row, break_row};
 
 use crate::fields::{function, rd, rs, rt, shift_amount};
-use crate::inst::{Inst, RegisterRow, ShiftByRow, ShiftRow};
+use crate::inst::{RegisterRow, ShiftByRow, ShiftRow};
+use crate::visitor::Visitor;
 
-#[inline]
-fn shift(word: u32, row: ShiftRow) -> Option<Inst>
-    ensures { result ≡ Some (meaning_of (shift_row row) word) }
+#[inline(always)]
+fn shift<V: Visitor>(word: u32, row: ShiftRow, visitor: &mut V) -> bool
+    ensures known { result ≡ true }
+    ensures state { visitor.new ≡ V.after (meaning_of (shift_row row) word) visitor.old }
 {
-    Some(Inst::Shift {
-        row,
-        rd: rd(word),
-        rt: rt(word),
-        amount: shift_amount(word),
-    })
+    visitor.shift(row, rd(word), rt(word), shift_amount(word));
+    true
 }
 
-#[inline]
-fn shift_by(word: u32, row: ShiftByRow) -> Option<Inst>
-    ensures { result ≡ Some (meaning_of (shift_by_row row) word) }
+#[inline(always)]
+fn shift_by<V: Visitor>(word: u32, row: ShiftByRow, visitor: &mut V) -> bool
+    ensures known { result ≡ true }
+    ensures state { visitor.new ≡ V.after (meaning_of (shift_by_row row) word) visitor.old }
 {
-    Some(Inst::ShiftBy {
-        row,
-        rd: rd(word),
-        rt: rt(word),
-        rs: rs(word),
-    })
+    visitor.shift_by(row, rd(word), rt(word), rs(word));
+    true
 }
 
-#[inline]
-fn jump_register(word: u32) -> Option<Inst>
-    ensures { result ≡ Some (meaning_of jump_register_row word) }
+#[inline(always)]
+fn jump_register<V: Visitor>(word: u32, visitor: &mut V) -> bool
+    ensures known { result ≡ true }
+    ensures state { visitor.new ≡ V.after (meaning_of jump_register_row word) visitor.old }
 {
-    Some(Inst::JumpRegister { rs: rs(word) })
+    visitor.jump_register(rs(word));
+    true
 }
 
-#[inline]
-fn jump_link_register(word: u32) -> Option<Inst>
-    ensures { result ≡ Some (meaning_of jump_link_register_row word) }
+#[inline(always)]
+fn jump_link_register<V: Visitor>(word: u32, visitor: &mut V) -> bool
+    ensures known { result ≡ true }
+    ensures state { visitor.new ≡ V.after (meaning_of jump_link_register_row word) visitor.old }
 {
-    Some(Inst::JumpLinkRegister {
-        rd: rd(word),
-        rs: rs(word),
-    })
+    visitor.jump_link_register(rd(word), rs(word));
+    true
 }
 
-#[inline]
-fn register(word: u32, row: RegisterRow) -> Option<Inst>
-    ensures { result ≡ Some (meaning_of (register_row row) word) }
+#[inline(always)]
+fn register<V: Visitor>(word: u32, row: RegisterRow, visitor: &mut V) -> bool
+    ensures known { result ≡ true }
+    ensures state { visitor.new ≡ V.after (meaning_of (register_row row) word) visitor.old }
 {
-    Some(Inst::Register {
-        row,
-        rd: rd(word),
-        rs: rs(word),
-        rt: rt(word),
-    })
+    visitor.register(row, rd(word), rs(word), rt(word));
+    true
 }
 
-pub fn decode_special(word: u32) -> Option<Inst>
-    ensures { result ≡ pick special_rows (value_at word (whole 0 6)) word }
+#[inline(always)]
+fn break_off<V: Visitor>(word: u32, visitor: &mut V) -> bool
+    ensures known { result ≡ true }
+    ensures state { visitor.new ≡ V.after (meaning_of break_row word) visitor.old }
+{
+    visitor.break_off();
+    true
+}
+
+#[inline(always)]
+pub fn visit_special<V: Visitor>(word: u32, visitor: &mut V) -> bool
+    ensures known { result ≡ is_known (pick special_rows (value_at word (whole 0 6)) word) }
+    ensures state { visitor.new ≡ visited V.after (pick special_rows (value_at word (whole 0 6)) word) visitor.old }
 {
     match function(word) {
-        0 => shift(word, ShiftRow::Sll),
-        2 => shift(word, ShiftRow::Srl),
-        3 => shift(word, ShiftRow::Sra),
-        4 => shift_by(word, ShiftByRow::Sllv),
-        6 => shift_by(word, ShiftByRow::Srlv),
-        7 => shift_by(word, ShiftByRow::Srav),
-        8 => jump_register(word),
-        9 => jump_link_register(word),
-        13 => Some(Inst::Break),
-        32 => register(word, RegisterRow::Add),
-        33 => register(word, RegisterRow::Addu),
-        34 => register(word, RegisterRow::Sub),
-        35 => register(word, RegisterRow::Subu),
-        36 => register(word, RegisterRow::And),
-        37 => register(word, RegisterRow::Or),
-        38 => register(word, RegisterRow::Xor),
-        39 => register(word, RegisterRow::Nor),
-        42 => register(word, RegisterRow::Slt),
-        43 => register(word, RegisterRow::Sltu),
-        _ => None,
+        0 => shift(word, ShiftRow::Sll, visitor),
+        2 => shift(word, ShiftRow::Srl, visitor),
+        3 => shift(word, ShiftRow::Sra, visitor),
+        4 => shift_by(word, ShiftByRow::Sllv, visitor),
+        6 => shift_by(word, ShiftByRow::Srlv, visitor),
+        7 => shift_by(word, ShiftByRow::Srav, visitor),
+        8 => jump_register(word, visitor),
+        9 => jump_link_register(word, visitor),
+        13 => break_off(word, visitor),
+        32 => register(word, RegisterRow::Add, visitor),
+        33 => register(word, RegisterRow::Addu, visitor),
+        34 => register(word, RegisterRow::Sub, visitor),
+        35 => register(word, RegisterRow::Subu, visitor),
+        36 => register(word, RegisterRow::And, visitor),
+        37 => register(word, RegisterRow::Or, visitor),
+        38 => register(word, RegisterRow::Xor, visitor),
+        39 => register(word, RegisterRow::Nor, visitor),
+        42 => register(word, RegisterRow::Slt, visitor),
+        43 => register(word, RegisterRow::Sltu, visitor),
+        _ => false,
     }
 }

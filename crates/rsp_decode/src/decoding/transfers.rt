@@ -1,72 +1,85 @@
 // The vector loads, of opcode 50, and stores, of opcode 58, which go by the operation.
 
-ghost use Rattle.std.specs.Prelude.{◌≡◌};
-ghost use Rattle.rsp_decode.specs.Table.{value_at, whole, pick_transfer, load_rows, store_rows};
+ghost use Rattle.std.specs.Prelude.{true, ◌≡◌};
+ghost use Rattle.rsp_decode.specs.declared.inst.Inst.{Inst};
+ghost use Rattle.rsp_decode.specs.Visit.{is_known, visited};
+ghost use Rattle.rsp_decode.specs.Table.{IsInstruction, value_at, whole, pick_transfer, load_rows, store_rows};
 
 use crate::fields::{byte_element, operation, rs, vector_offset, vt};
-use crate::inst::{Inst, VectorLoadRow, VectorStoreRow};
+use crate::inst::{VectorLoadRow, VectorStoreRow};
+use crate::visitor::Visitor;
 
-#[inline]
-fn vector_load(word: u32, row: VectorLoadRow) -> Option<Inst>
-    ensures { result ≡ Some (Inst.VectorLoad row (value_at word (whole 16 5)) (value_at word (whole 7 4)) (value_at word (whole 0 7)) (value_at word (whole 21 5))) }
+#[inline(always)]
+fn vector_load<V: Visitor>(word: u32, row: VectorLoadRow, visitor: &mut V) -> bool
+    requires { IsInstruction (Inst.VectorLoad row (value_at word (whole 16 5)) (value_at word (whole 7 4)) (value_at word (whole 0 7)) (value_at word (whole 21 5))) }
+    ensures known { result ≡ true }
+    ensures state { visitor.new ≡ V.after (Inst.VectorLoad row (value_at word (whole 16 5)) (value_at word (whole 7 4)) (value_at word (whole 0 7)) (value_at word (whole 21 5))) visitor.old }
 {
-    Some(Inst::VectorLoad {
+    visitor.vector_load(
         row,
-        vt: vt(word),
-        element: byte_element(word),
-        offset: vector_offset(word),
-        base: rs(word),
-    })
+        vt(word),
+        byte_element(word),
+        vector_offset(word),
+        rs(word),
+    );
+    true
 }
 
-#[inline]
-fn vector_store(word: u32, row: VectorStoreRow) -> Option<Inst>
-    ensures { result ≡ Some (Inst.VectorStore row (value_at word (whole 16 5)) (value_at word (whole 7 4)) (value_at word (whole 0 7)) (value_at word (whole 21 5))) }
+#[inline(always)]
+fn vector_store<V: Visitor>(word: u32, row: VectorStoreRow, visitor: &mut V) -> bool
+    requires { IsInstruction (Inst.VectorStore row (value_at word (whole 16 5)) (value_at word (whole 7 4)) (value_at word (whole 0 7)) (value_at word (whole 21 5))) }
+    ensures known { result ≡ true }
+    ensures state { visitor.new ≡ V.after (Inst.VectorStore row (value_at word (whole 16 5)) (value_at word (whole 7 4)) (value_at word (whole 0 7)) (value_at word (whole 21 5))) visitor.old }
 {
-    Some(Inst::VectorStore {
+    visitor.vector_store(
         row,
-        vt: vt(word),
-        element: byte_element(word),
-        offset: vector_offset(word),
-        base: rs(word),
-    })
+        vt(word),
+        byte_element(word),
+        vector_offset(word),
+        rs(word),
+    );
+    true
 }
 
-pub fn decode_vector_load(word: u32) -> Option<Inst>
-    ensures { result ≡ pick_transfer load_rows 50 word }
+#[inline(always)]
+pub fn visit_vector_load<V: Visitor>(word: u32, visitor: &mut V) -> bool
+    ensures known { result ≡ is_known (pick_transfer load_rows 50 word) }
+    ensures state { visitor.new ≡ visited V.after (pick_transfer load_rows 50 word) visitor.old }
 {
     match operation(word) {
-        0 => vector_load(word, VectorLoadRow::Lbv),
-        1 => vector_load(word, VectorLoadRow::Lsv),
-        2 => vector_load(word, VectorLoadRow::Llv),
-        3 => vector_load(word, VectorLoadRow::Ldv),
-        4 => vector_load(word, VectorLoadRow::Lqv),
-        5 => vector_load(word, VectorLoadRow::Lrv),
-        6 => vector_load(word, VectorLoadRow::Lpv),
-        7 => vector_load(word, VectorLoadRow::Luv),
-        8 => vector_load(word, VectorLoadRow::Lhv),
-        9 if byte_element(word) % 8 == 0 => vector_load(word, VectorLoadRow::Lfv),
-        11 => vector_load(word, VectorLoadRow::Ltv),
-        _ => None,
+        0 => vector_load(word, VectorLoadRow::Lbv, visitor),
+        1 => vector_load(word, VectorLoadRow::Lsv, visitor),
+        2 => vector_load(word, VectorLoadRow::Llv, visitor),
+        3 => vector_load(word, VectorLoadRow::Ldv, visitor),
+        4 => vector_load(word, VectorLoadRow::Lqv, visitor),
+        5 => vector_load(word, VectorLoadRow::Lrv, visitor),
+        6 => vector_load(word, VectorLoadRow::Lpv, visitor),
+        7 => vector_load(word, VectorLoadRow::Luv, visitor),
+        8 => vector_load(word, VectorLoadRow::Lhv, visitor),
+        9 if byte_element(word) % 8 == 0 => vector_load(word, VectorLoadRow::Lfv, visitor),
+        11 => vector_load(word, VectorLoadRow::Ltv, visitor),
+        _ => false,
     }
 }
 
-pub fn decode_vector_store(word: u32) -> Option<Inst>
-    ensures { result ≡ pick_transfer store_rows 58 word }
+#[inline(always)]
+pub fn visit_vector_store<V: Visitor>(word: u32, visitor: &mut V) -> bool
+    ensures known { result ≡ is_known (pick_transfer store_rows 58 word) }
+    ensures state { visitor.new ≡ visited V.after (pick_transfer store_rows 58 word) visitor.old }
 {
     match operation(word) {
-        0 => vector_store(word, VectorStoreRow::Sbv),
-        1 => vector_store(word, VectorStoreRow::Ssv),
-        2 => vector_store(word, VectorStoreRow::Slv),
-        3 => vector_store(word, VectorStoreRow::Sdv),
-        4 => vector_store(word, VectorStoreRow::Sqv),
-        5 => vector_store(word, VectorStoreRow::Srv),
-        6 => vector_store(word, VectorStoreRow::Spv),
-        7 => vector_store(word, VectorStoreRow::Suv),
-        8 => vector_store(word, VectorStoreRow::Shv),
-        9 if byte_element(word) % 8 == 0 => vector_store(word, VectorStoreRow::Sfv),
-        10 => vector_store(word, VectorStoreRow::Swv),
-        11 => vector_store(word, VectorStoreRow::Stv),
-        _ => None,
+        0 => vector_store(word, VectorStoreRow::Sbv, visitor),
+        1 => vector_store(word, VectorStoreRow::Ssv, visitor),
+        2 => vector_store(word, VectorStoreRow::Slv, visitor),
+        3 => vector_store(word, VectorStoreRow::Sdv, visitor),
+        4 => vector_store(word, VectorStoreRow::Sqv, visitor),
+        5 => vector_store(word, VectorStoreRow::Srv, visitor),
+        6 => vector_store(word, VectorStoreRow::Spv, visitor),
+        7 => vector_store(word, VectorStoreRow::Suv, visitor),
+        8 => vector_store(word, VectorStoreRow::Shv, visitor),
+        9 if byte_element(word) % 8 == 0 => vector_store(word, VectorStoreRow::Sfv, visitor),
+        10 => vector_store(word, VectorStoreRow::Swv, visitor),
+        11 => vector_store(word, VectorStoreRow::Stv, visitor),
+        _ => false,
     }
 }
