@@ -15,10 +15,10 @@ pub fn opcode(word: u32) -> u8
 
 /// Bits 5 to 0, which select a row of opcode 0 and a computing one.
 #[inline(always)]
-pub fn function(word: u32) -> u8
+pub fn function(word: u32) -> u32
     ensures { result ≡ value_at word (whole 0 6) }
 {
-    (word & 63) as u8
+    word & 63
 }
 
 /// Bits 15 to 11, which select a vector load or store.

@@ -87,6 +87,7 @@ impl SpMem {
     }
 
     /// The 32 bits from an address on, of which some may wrap.
+    #[cold]
     #[tactic(auto, using(crate::proofs::Wraps::wrapped), unfolding(crate::specs::Memory::word_at))]
     fn wrapping_word(&self, a: u32) -> u32
         ensures { result ≡ word_at self.now a }
@@ -118,6 +119,7 @@ impl SpMem {
     }
 
     /// Writes 32 bits, of which some may wrap.
+    #[cold]
     #[tactic(auto, using(crate::proofs::Wraps::wrapped), unfolding(crate::specs::Memory::with_word))]
     fn set_wrapping_word(&mut self, a: u32, w: u32)
         ensures { self.new ≡ with_word self.old a w }

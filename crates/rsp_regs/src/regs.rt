@@ -178,12 +178,14 @@ impl SpRegs {
     }
 
     /// What the end of an instruction sets: halted, where single step is set.
-    #[inline]
+    #[inline(always)]
     #[tactic(auto, unfolding(crate::specs::Sp::after_step))]
     pub fn on_step(&mut self)
         ensures { self.new ≡ after_step self.old }
     {
-        self.halted = self.halted || self.single_step;
+        if self.single_step {
+            self.halted = true;
+        }
     }
 
     /// What the start of a task sets and clears: intbreak is set; halted, broke and the signals 0, 1
