@@ -2,9 +2,8 @@ ghost use Rattle.std.specs.Prelude.{◌≡◌};
 ghost use Rattle.rsp_lanes.specs.Lanes.{IsVector};
 ghost use Rattle.rsp_acc.specs.Planes.{joined, wrapped_sums};
 
-use rsp_lanes::{Mask8, VReg};
+use rsp_lanes::{Mask8, VReg, u16x8};
 use std::marker::Model;
-use std::simd::prelude::*;
 
 /// What is written or added to eight accumulators: eight numbers from -2^47 to 2^47 - 1, kept as
 /// three planes of sixteen bits.

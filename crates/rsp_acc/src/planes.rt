@@ -2,9 +2,8 @@ ghost use Rattle.std.specs.Prelude.{◌≡◌, slice_index_or, []};
 ghost use Rattle.rsp_acc.specs.Planes.{joined};
 
 use crate::{Acc, Addends, Clamp, Part};
-use rsp_lanes::VReg;
+use rsp_lanes::{VReg, u16x8};
 use std::marker::Model;
-use std::simd::prelude::*;
 
 /// The eight accumulators as three planes of sixteen bits: lane i of `high`, `middle` and `low`
 /// are the bits 47 to 32, 31 to 16 and 15 to 0 of accumulator i.
