@@ -1,6 +1,7 @@
 -- The bench: what its commands come to.
 pub mod Looks
 pub mod Replies
+pub mod Words
 pub mod Session
 pub mod Run
 pub mod Alike

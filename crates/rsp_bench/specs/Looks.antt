@@ -1,5 +1,5 @@
 -- The texts that show parts of a state, a line each.
-use Rattle.std.specs.Prelude.{ℕ, ℤ, ◌+◌, ◌-◌, ◌*◌, ◌/◌, min, Bool, List, [], ◌∷◌, ◌++◌, codes, slice_index, if◌then◌else◌}
+use Rattle.std.specs.Prelude.{ℕ, ℤ, ◌+◌, ◌-◌, ◌*◌, ◌/◌, min, List, [], ◌∷◌, ◌++◌, codes, slice_index, if◌then◌else◌}
 use Rattle.rsp_memory.specs.Memory.{byte_at}
 use Rattle.rsp_memory.specs.Image.{image_byte}
 use Rattle.rsp_memory.specs.declared.bank.Bank.{Bank}

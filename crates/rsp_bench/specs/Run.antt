@@ -2,7 +2,6 @@
 use Rattle.std.specs.Prelude.{ℕ, List}
 use Rattle.std.specs.Str.Lines.{lines}
 use Rattle.rsp_lines.specs.Replies.{final, out_of as written_of}
-use Rattle.rsp_machine.specs.State.{start_of}
 use Rattle.rsp_bench.specs.Session.{Scene, line_outcome, closing, first_scene}
 use Rattle.rsp_bench.specs.declared.run.BenchEnd.{BenchEnd}
 use Rattle.rsp_bench.specs.declared.run.BenchEnd.TheVariants.{Finished, ReadFault, WriteFault, ScriptTooLong, OutOfMemory}

@@ -6,6 +6,7 @@ mod replies;
 mod run;
 mod session;
 mod vector_looks;
+mod words;
 
 pub use rsp_ends::{EndFault, FromRead, MemSink, MemSource, Sink, Source, ToWrite};
 pub use rsp_reply::Reply;

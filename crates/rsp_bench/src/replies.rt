@@ -1,6 +1,8 @@
-ghost use Rattle.std.specs.Prelude.{◌≡◌, ◌≤◌, length};
-ghost use Rattle.rsp_bench.specs.Replies.{ok_text, range_text, line_fault_text, task_fault_text, step_text};
+ghost use Rattle.std.specs.Prelude.{◌≡◌, ◌+◌, ◌≤◌, ◌++◌, length, decimal};
+ghost use Rattle.rsp_bench.specs.Replies.{ok_text, range_text, line_fault_text, task_fault_text, step_text, words_text, kind_text, asm_fault_text};
 
+use itoa::Buffer;
+use rsp_block::{AsmFault, AsmFaultKind};
 use rsp_machine::{StepEnd, TaskFault};
 use rsp_reply::{REPLY_LIMIT, Reply};
 use rsp_script::LineFault;
@@ -62,6 +64,58 @@ pub(crate) fn step_reply(end: StepEnd, pc: u16) -> Reply
     }
     reply.push_text(b" pc ");
     reply.push_hex(u64::from(pc), 3);
+    reply.push_text(b"\n");
+    reply
+}
+
+/// Appends a number in decimal.
+fn push_number(reply: &mut Reply, n: usize)
+    requires { length reply.old + 40 ≤ REPLY_LIMIT }
+    ensures text { reply.new ≡ reply.old ++ decimal n }
+    ensures len { length reply.new ≤ length reply.old + 40 }
+{
+    let mut buffer = Buffer::new();
+    reply.push_text(buffer.format(n).as_bytes());
+}
+
+/// How many words a block gave.
+#[tactic(auto, using(rsp_reply::proofs::Texts::parts))]
+pub(crate) fn words_reply(count: usize) -> Reply
+    ensures { result ≡ words_text count }
+{
+    let mut reply = Reply::new();
+    reply.push_text(b"ok ");
+    push_number(&mut reply, count);
+    reply.push_text(b" words\n");
+    reply
+}
+
+fn kind_text(kind: AsmFaultKind) -> &'static [u8]
+    ensures text { result.now ≡ kind_text kind }
+    ensures short { length result.now ≤ 15 }
+{
+    match kind {
+        AsmFaultKind::BadLine => b"10 BadLine",
+        AsmFaultKind::UnknownName => b"11 UnknownName",
+        AsmFaultKind::BadOperand => b"12 BadOperand",
+        AsmFaultKind::OutOfRange => b"13 OutOfRange",
+        AsmFaultKind::LabelTwice => b"14 LabelTwice",
+        AsmFaultKind::LabelMissing => b"15 LabelMissing",
+        AsmFaultKind::PastEnd => b"16 PastEnd",
+        AsmFaultKind::OutOfMemory => b"17 OutOfMemory",
+    }
+}
+
+/// Why a block gave no words, and the number of the line.
+#[tactic(auto, using(rsp_reply::proofs::Texts::parts))]
+pub(crate) fn asm_fault_reply(fault: AsmFault) -> Reply
+    ensures { result ≡ asm_fault_text fault }
+{
+    let mut reply = Reply::new();
+    reply.push_text(b"fault ");
+    reply.push_text(kind_text(fault.kind));
+    reply.push_text(b" line ");
+    push_number(&mut reply, fault.line);
     reply.push_text(b"\n");
     reply
 }

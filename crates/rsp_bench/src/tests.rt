@@ -1,3 +1,5 @@
+mod blocks;
+
 use crate::{BenchEnd, MemSink, MemSource, Session, parse_line, run_bench};
 use rsp_memory::Rdram;
 use std::test::Fail;

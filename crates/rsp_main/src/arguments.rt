@@ -2,13 +2,36 @@ use clap::builder::ValueParser;
 use clap::{Arg, ArgAction, Command, Error};
 use std::alloc::Global;
 
-/// What the command line asks for: a run, with the files that it names.
+/// The files of a run.
 #[derive(Drop)]
 pub struct RunFiles<'a> {
     /// The file of the image; without one the image is zeros.
     pub rdram: Option<&'a str>,
     /// The file that the image is written to after the run.
     pub save: Option<&'a str>,
+}
+
+/// What the command line asks for.
+#[derive(Drop)]
+pub enum Asked<'a> {
+    /// Answering the script on standard input.
+    Run(RunFiles<'a>),
+    /// Assembling a file of source text into a file of words.
+    Assemble {
+        /// The file of the source text.
+        source: &'a str,
+        /// The file that the words are written to.
+        out: &'a str,
+    },
+}
+
+/// A file that has to be named, by its place on the command line.
+fn file_argument<'a>(alloc: Global, name: &'a str, about: &'a str) -> Arg<'a> {
+    Arg::new(alloc, name)
+        .value_parser(ValueParser::NonEmptyString)
+        .action(ArgAction::Set)
+        .required(true)
+        .help(about)
 }
 
 fn file_option<'a>(alloc: Global, name: &'a str, about: &'a str) -> Arg<'a> {
@@ -30,21 +53,31 @@ fn command<'a>(alloc: Global) -> Result<Command<'a>, Error> {
             "The image of the RDRAM; without it 4194304 zeros",
         ))?
         .arg(file_option(alloc, "save", "Where the image is written after the run"))?;
+    let asm = Command::new(alloc, "asm")
+        .about("Assembles a text at 0, and writes its words with the high byte first")
+        .arg(file_argument(alloc, "SRC", "The source text"))?
+        .arg(file_argument(alloc, "OUT", "Where the words are written"))?;
     let command = Command::new(alloc, "rsp")
         .bin_name("rsp")?
         .about("A bench for the Reality Signal Processor")
         .subcommand_required(true)
-        .subcommand(run)?;
+        .subcommand(run)?
+        .subcommand(asm)?;
     Ok(command)
 }
 
-/// Reads the words of the command line, the first of which is the program's name. What they don't ask for a run, the
-/// error says, as it does for `--help`.
-pub fn read_arguments<'a>(alloc: Global, words: &'a [String]) -> Result<RunFiles<'a>, Error> {
+/// Reads the words of the command line, the first of which is the program's name. Why they ask for nothing, the error
+/// says, as it does for `--help`.
+pub fn read_arguments<'a>(alloc: Global, words: &'a [String]) -> Result<Asked<'a>, Error> {
     let matches = command(alloc)?.try_get_matches_from(words)?;
+    if let Some(asm) = matches.subcommand_matches("asm")
+        && let (Some(source), Some(out)) = (asm.get_str("SRC"), asm.get_str("OUT"))
+    {
+        return Ok(Asked::Assemble { source, out });
+    }
     let run = matches.subcommand_matches("run");
-    Ok(RunFiles {
+    Ok(Asked::Run(RunFiles {
         rdram: run.and_then(|run| run.get_str("rdram")),
         save: run.and_then(|run| run.get_str("save")),
-    })
+    }))
 }

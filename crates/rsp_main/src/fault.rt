@@ -1,3 +1,4 @@
+use rsp_asm::AsmFault;
 use thiserror::Error;
 
 /// What ends the program, as the line on standard error says it.
@@ -12,16 +13,22 @@ pub enum Fault<'a> {
     /// The length of the image is no multiple of 8 from 64 to 8,388,608.
     #[error("fault 7 SizeFault")]
     ImageSize,
+    /// The source text has no meaning.
+    #[error("{0}")]
+    Source(AsmFault),
+    /// The source text isn't UTF-8.
+    #[error("fault 33 NotText")]
+    NotText,
     /// There was no memory beside a run.
     #[error("fault 17 OutOfMemory")]
     OutOfMemory,
     /// A read of the script failed.
     #[error("fault 40 ReadFault")]
     RunRead,
-    /// The replies weren't written.
+    /// The replies, or what was done, weren't written.
     #[error("fault 41 WriteFault")]
     RunWrite,
-    /// The script has more than 1,048,576 bytes.
+    /// The script or the source text has more than 1,048,576 bytes.
     #[error("fault 42 ScriptTooLong")]
     ScriptTooLong,
     /// There was no memory in a run.

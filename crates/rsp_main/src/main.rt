@@ -3,6 +3,7 @@
 #![tactic(auto)]
 
 mod arguments;
+mod assembling;
 mod fault;
 mod status;
 mod store;

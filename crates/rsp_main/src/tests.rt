@@ -135,11 +135,85 @@ fn an_image_may_not_be_saved(rt: HostRuntime) -> Result<(), Fail> {
 }
 
 #[test]
+fn a_text_is_assembled(rt: HostRuntime) -> Result<(), Fail> {
+    let mut files = FakeFiles::new(rt.alloc(), b"j x\r\nnop\nx: break");
+    let mut script = FakeReader::new(b"step\n", Behind::End);
+    let mut output = Vec::new(rt.alloc());
+    let line = "rsp asm image words";
+    let end = told(&rt, line, &mut files, &mut script, &mut output)?;
+    assert_eq!(rt; end.status, Status::Done);
+    assert_eq!(rt; end.errors.as_str(), "");
+    assert!(rt; output.as_slice() == b"ok 3 words\n".as_slice());
+    let words = [8, 0, 0, 2, 0, 0, 0, 0, 0, 0, 0, 13];
+    assert!(rt; files.saved.as_slice() == words.as_slice());
+    assert_eq!(rt;
+        (files.limit, files.written, script.reads),
+        (1_048_577, 1, 0)
+    );
+    Ok(())
+}
+
+#[test]
+fn a_text_that_means_nothing_writes_nothing(rt: HostRuntime) -> Result<(), Fail> {
+    let cases: [(&[u8], &str, Option<FileFault>, &str); 5] = [
+        (
+            b"nop\nfoo\n",
+            "image",
+            None,
+            "rsp: fault 11 UnknownName line 2\n",
+        ),
+        (b"j x", "image", None, "rsp: fault 15 LabelMissing line 1\n"),
+        (b"nop # \xff\n", "image", None, "rsp: fault 33 NotText\n"),
+        (b"nop\n", "missing", None, "rsp: cannot read missing\n"),
+        (
+            b"nop\n",
+            "image",
+            Some(FileFault::OutOfMemory),
+            "rsp: fault 17 OutOfMemory\n",
+        ),
+    ];
+    for (text, name, fault, message) in cases {
+        let mut files = FakeFiles::new(rt.alloc(), text);
+        files.read_fault = fault;
+        let mut script = FakeReader::new(b"", Behind::End);
+        let mut output = Vec::new(rt.alloc());
+        let line = format!(in rt.alloc(); "rsp asm {name} words")?;
+        let end = told(&rt, &line, &mut files, &mut script, &mut output)?;
+        assert_eq!(rt; end.status, Status::Faulted);
+        assert_eq!(rt; end.errors.as_str(), message);
+        assert!(rt; output.is_empty());
+        assert_eq!(rt; files.written, 0);
+    }
+    Ok(())
+}
+
+#[test]
+fn words_may_not_be_written_or_told(rt: HostRuntime) -> Result<(), Fail> {
+    for (fault, room, message) in [
+        (Some(FileFault::Refused), 64, "rsp: cannot write words\n"),
+        (None, 4, "rsp: fault 41 WriteFault\n"),
+    ] {
+        let mut files = FakeFiles::new(rt.alloc(), b"nop");
+        files.write_fault = fault;
+        let mut script = FakeReader::new(b"", Behind::End);
+        let mut output = [0u8; 64];
+        let line = "rsp asm image words";
+        let end = told(&rt, line, &mut files, &mut script, &mut output[..room])?;
+        assert_eq!(rt; end.status, Status::Faulted);
+        assert_eq!(rt; end.errors.as_str(), message);
+    }
+    Ok(())
+}
+
+#[test]
 fn other_command_lines_are_refused(rt: HostRuntime) -> Result<(), Fail> {
     for line in [
         "rsp",
         "rsp walk",
-        "rsp asm source out",
+        "rsp asm",
+        "rsp asm source",
+        "rsp asm source out more",
+        "rsp asm --help",
         "rsp dis file",
         "rsp run script",
         "rsp run --fast",

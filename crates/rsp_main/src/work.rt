@@ -1,4 +1,5 @@
-use crate::arguments::{RunFiles, read_arguments};
+use crate::arguments::{Asked, RunFiles, read_arguments};
+use crate::assembling::assemble_file;
 use crate::fault::Fault;
 use crate::status::Status;
 use crate::store::{FileFault, FileStore};
@@ -34,7 +35,11 @@ pub fn work<F: FileStore, R: Read + Drop, W: Write + Drop, E: Write>(
             return Status::Refused;
         }
     };
-    match run(alloc, &asked, files, input, output) {
+    let done = match asked {
+        Asked::Run(named) => run(alloc, &named, files, input, output),
+        Asked::Assemble { source, out } => assemble_file(alloc, files, source, out, output),
+    };
+    match done {
         Ok(()) => Status::Done,
         Err(fault) => faulted(fault, errors),
     }
@@ -106,7 +111,7 @@ fn save_image<'a, F: FileStore>(
 }
 
 /// What a file's fault comes to, where the system's refusal is `refused`.
-fn file_fault<'a>(fault: FileFault, refused: Fault<'a>) -> Fault<'a> {
+pub(crate) fn file_fault<'a>(fault: FileFault, refused: Fault<'a>) -> Fault<'a> {
     match fault {
         FileFault::Refused => refused,
         FileFault::OutOfMemory => Fault::OutOfMemory,

@@ -1,13 +1,15 @@
 -- What the words of a line ask for.
-use Rattle.std.specs.Prelude.{ℕ, ◌≡◌, ◌<◌, ◌≤◌, ◌%◌, List, [], ◌∷◌, Option, Some, None, Result, Ok, Err, ok_or}
+use Rattle.std.specs.Prelude.{ℕ, true, ◌≡◌, ◌<◌, ◌≤◌, ◌%◌, List, [], ◌∷◌, Option, Some, None, Result, Ok, Err, ok_or}
 use Rattle.arrayvec.specs.ArrayVec.{array_vec_len}
+use Rattle.std.specs.List.{list_all}
+use Rattle.rsp_script.specs.Text.{is_text}
 use Rattle.rsp_script.specs.Names.{name_of}
 use Rattle.rsp_script.specs.Operand.{bank_of, ranged_of, place_of, address_of, bytes_of}
 use Rattle.rsp_script.specs.declared.name.Name.{Name}
 use Rattle.rsp_script.specs.declared.name.Name.TheVariants as names
 use Rattle.rsp_memory.specs.declared.bank.Bank.{Bank}
 use Rattle.rsp_script.specs.declared.command.Command.{Command}
-use Rattle.rsp_script.specs.declared.command.Command.TheVariants.{Nothing, Load, Step, Regs, Mem, Read, Write, SetPc, Task, Sp, Vregs, Acc, Flags}
+use Rattle.rsp_script.specs.declared.command.Command.TheVariants.{Nothing, Load, Step, Regs, Mem, Read, Write, SetPc, Task, Sp, Vregs, Acc, Flags, Asm, BlockLine}
 use Rattle.rsp_script.specs.declared.fault.LineFault.{LineFault}
 use Rattle.rsp_script.specs.declared.fault.LineFault.TheVariants.{BadCommand, BadNumber}
 
@@ -88,6 +90,7 @@ named (Some names.Sp) operands = alone Sp operands
 named (Some names.Vregs) operands = alone Vregs operands
 named (Some names.Acc) operands = alone Acc operands
 named (Some names.Flags) operands = alone Flags operands
+named (Some names.Asm) operands = with_operand (λ a. Asm a) (one_place operands)
 
 -- what the words of a line ask for
 unfoldable pub command_of_words : List (List ℕ) → Result Command LineFault
@@ -102,4 +105,6 @@ IsCommand (Read register) = register ≤ 15
 IsCommand (Write register value) = register ≤ 15
 IsCommand (SetPc address) = (address ≤ 4092) × (address % 4 ≡ 0)
 IsCommand (Task address) = address ≤ 16777215
+IsCommand (Asm address) = (address ≤ 4092) × (address % 4 ≡ 0)
+IsCommand (BlockLine line) = list_all is_text line ≡ true
 IsCommand _ = Unit {0}

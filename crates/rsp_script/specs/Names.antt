@@ -2,7 +2,7 @@
 use Rattle.std.specs.Prelude.{ℕ, List, Option, Some, None, if◌then◌else◌, codes}
 use Rattle.std.specs.Str.{bytes_eq}
 use Rattle.rsp_script.specs.declared.name.Name.{Name}
-use Rattle.rsp_script.specs.declared.name.Name.TheVariants.{Load, Step, Regs, Mem, Read, Write, Pc, Task, Sp, Vregs, Acc, Flags}
+use Rattle.rsp_script.specs.declared.name.Name.TheVariants.{Load, Step, Regs, Mem, Read, Write, Pc, Task, Sp, Vregs, Acc, Flags, Asm}
 
 -- the name that a word is; all are in lower case
 unfoldable pub name_of : List ℕ → Option Name
@@ -19,4 +19,5 @@ name_of word =
     else if bytes_eq word (codes "vregs") then Some Vregs
     else if bytes_eq word (codes "acc") then Some Acc
     else if bytes_eq word (codes "flags") then Some Flags
+    else if bytes_eq word (codes "asm") then Some Asm
     else None

@@ -48,6 +48,10 @@ pub enum Command {
     Acc,
     /// Shows the flags and the divider.
     Flags,
+    /// Opens a block of source text, whose first word stands at a multiple of 4 from 0 to 4092.
+    Asm {
+        address: u16,
+    },
     /// A line of an open block of source text.
     BlockLine(SourceLine),
     /// Closes a block.

@@ -16,6 +16,7 @@ pub enum Name {
     Vregs,
     Acc,
     Flags,
+    Asm,
 }
 
 /// The name that a word is.
@@ -47,6 +48,8 @@ pub fn name_of(word: &[u8]) -> Option<Name>
         Some(Name::Acc)
     } else if word == b"flags".as_slice() {
         Some(Name::Flags)
+    } else if word == b"asm".as_slice() {
+        Some(Name::Asm)
     } else {
         None
     }

@@ -143,5 +143,8 @@ pub fn parse_words(mut words: Words) -> Result<Command, LineFault>
         Name::Vregs => alone(words, Command::Vregs),
         Name::Acc => alone(words, Command::Acc),
         Name::Flags => alone(words, Command::Flags),
+        Name::Asm => Ok(Command::Asm {
+            address: one_place(words)?,
+        }),
     }
 }

@@ -4,7 +4,7 @@ use rsp_memory::Bank;
 #[test]
 fn refuses_lines(rt: HostRuntime) {
     let comment = [b'#'; 257];
-    let cases: [(&[u8], LineFault); 25] = [
+    let cases: [(&[u8], LineFault); 28] = [
         (b"load imem 0 0d0", LineFault::BadNumber),
         (b"load rom 0 00", LineFault::BadCommand),
         (b"mem dmem 0 0", LineFault::BadNumber),
@@ -30,6 +30,9 @@ fn refuses_lines(rt: HostRuntime) {
         (b"read 0X7", LineFault::BadNumber),
         (b"write 0 0x100000000", LineFault::BadNumber),
         (b"write 0 4294967296", LineFault::BadNumber),
+        (b"asm 2", LineFault::BadNumber),
+        (b"asm", LineFault::BadCommand),
+        (b"asm 0 0", LineFault::BadCommand),
     ];
     for (line, fault) in cases {
         let answer = parse_line(line, false).err();
@@ -65,6 +68,12 @@ fn reads_commands(rt: HostRuntime) {
         matches!(
             parse_line(b"pc 0xfFc", false),
             Ok(Command::SetPc { address: 4092 })
+        )
+    );
+    assert!(rt;
+        matches!(
+            parse_line(b"asm 0x8", false),
+            Ok(Command::Asm { address: 8 })
         )
     );
     assert!(rt;

@@ -1,4 +1,4 @@
-use Rattle.std.proofs.Common.{◌≡◌, ◌≤◌, ◌+◌, ◌-◌, ◌*◌, min, ◌++◌, [], length}
+use Rattle.std.proofs.Common.{◌≡◌, ◌≤◌, ◌+◌, ◌-◌, ◌*◌, min, ◌++◌, length}
 use Rattle.rsp_reply.specs.Text.{each_text}
 use Rattle.rsp_bench.specs.Looks.{dump_line}
 use Rattle.rsp_bench.proofs.looks.push_dump_lines.Given as goal

@@ -1,0 +1,53 @@
+-- The faults of a line, in their order.
+use Rattle.std.proofs.Common.{◌≡◌, sym, ap, ◌∙◌, ℕ, ◌+◌, ◌*◌, List, Bool, false, true}
+use Rattle.std.specs.Prelude.{Option, Some, None, Result, Ok, Err, if◌then◌else◌, nat_lt}
+use Rattle.std.proofs.lemmas.Bool.{cond-false}
+use Rattle.rsp_text.specs.declared.fault.AsmFaultKind.{AsmFaultKind}
+use Rattle.rsp_text.specs.declared.fault.AsmFaultKind.TheVariants.{OutOfRange, PastEnd, LabelTwice}
+use Rattle.rsp_text.specs.Statement.{Labels, Statement, statement_of, size}
+use Rattle.rsp_text.specs.Source.{Parts, parts_of, is_twice, size_if, size_in, size_of, has_bad_number, statement_fault, parts_fault, first_fault}
+use Rattle.rsp_asm.specs.Walks.{checked}
+
+-- a line of this size behind those with a fault
+abbrev pub last_fault : ℕ → ℕ → Option AsmFaultKind
+last_fault place n = if nat_lt 4096 (place + 4 * n) then Some PastEnd else None
+
+-- the last two faults of a statement
+abbrev after : ℕ → ℕ → Bool → Option AsmFaultKind
+after place n bad = if bad then Some OutOfRange else last_fault place n
+
+abbrev answer : ℕ → Bool → Result ℕ AsmFaultKind
+answer n bad = if bad then Err OutOfRange else Ok n
+
+of_bad : (place n : ℕ) (bad : Bool) (kind : AsmFaultKind) → Err kind ≡ answer n bad → after place n bad ≡ Some kind
+of_bad place n true kind e = let same : kind ≡ OutOfRange = cc in ap Some (sym same)
+of_bad place n false kind e = absurd cc
+
+of_good : (place n m : ℕ) (bad : Bool) → Ok m ≡ answer n bad → (after place n bad ≡ last_fault place m) × (m ≡ n)
+of_good place n m true e = absurd cc
+of_good place n m false e = let same : m ≡ n = cc in (ap (last_fault place) (sym same), same)
+
+of_fault : (place : ℕ) (r : Result Statement AsmFaultKind) (kind : AsmFaultKind) → Err kind ≡ checked place r → statement_fault place r ≡ Some kind
+of_fault place (Err k) kind e = let same : kind ≡ k = cc in ap Some (sym same)
+of_fault place (Ok s) kind e = of_bad place (size s) (has_bad_number place (Ok s)) kind e
+
+of_size : (place m : ℕ) (r : Result Statement AsmFaultKind) → Ok m ≡ checked place r → (statement_fault place r ≡ last_fault place m) × (m ≡ size_if r)
+of_size place m (Err k) e = absurd cc
+of_size place m (Ok s) e = of_good place (size s) m (has_bad_number place (Ok s)) e
+
+module _ (labels : Labels) (place : ℕ) (line : List ℕ) (p : Parts) (is : Some p ≡ parts_of line) (once : is_twice labels p.label ≡ false) where
+  as_statement : first_fault labels place line ≡ statement_fault place (statement_of p.body)
+  unfolding first_fault
+  as_statement =
+      ap (parts_fault labels place) (sym is)
+      ∙ cond-false (is_twice labels p.label) (Some LabelTwice) (statement_fault place (statement_of p.body)) once
+
+  pub line_fault : (kind : AsmFaultKind) → Err kind ≡ checked place (statement_of p.body) → first_fault labels place line ≡ Some kind
+  line_fault kind e = as_statement ∙ of_fault place (statement_of p.body) kind e
+
+  pub line_last : (m : ℕ) → Ok m ≡ checked place (statement_of p.body) → first_fault labels place line ≡ last_fault place m
+  line_last m e = as_statement ∙ (of_size place m (statement_of p.body) e).0
+
+pub line_size : (place : ℕ) (line : List ℕ) (p : Parts) (m : ℕ) → Some p ≡ parts_of line → Ok m ≡ checked place (statement_of p.body) → m ≡ size_of line
+unfolding size_of
+line_size place line p m is e = (of_size place m (statement_of p.body) e).1 ∙ ap size_in is

@@ -1,0 +1,8 @@
+use Rattle.std.proofs.Common.{◌∙◌, sym}
+use Rattle.rsp_text.specs.Statement.{operand_texts}
+use Rattle.rsp_asm.proofs.Texts.{some_texts}
+use Rattle.rsp_asm.proofs.Statements.{nothing_unsaid}
+use Rattle.rsp_asm.proofs.push.push_nothing.Goals as goal
+
+pub returns-then-not-is_empty : goal.returns-then-not-is_empty
+returns-then-not-is_empty c = nothing_unsaid (operand_texts c.args.operands.now) (some_texts c.args.operands.now (sym c.is_empty.ensures ∙ c.if-not-is_empty.true))

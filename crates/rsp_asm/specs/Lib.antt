@@ -1,0 +1,4 @@
+pub mod Parts
+pub mod Walks
+pub mod Forms
+pub mod Answer

@@ -1,0 +1,72 @@
+// What the name of a statement stands for.
+
+ghost use Rattle.std.specs.Prelude.{◌≡◌, ◌==◌, length, option_map, IfSome, true};
+ghost use Rattle.std.specs.List.{list_all, before_first, after_first};
+ghost use Rattle.rsp_text.specs.Chars.{stops};
+ghost use Rattle.rsp_text.specs.declared.text.Stop.TheVariants.{Blank};
+ghost use Rattle.rsp_text.specs.Rows.{row_entry};
+ghost use Rattle.rsp_text.specs.Statement.{form_named, operand_texts, row_named};
+ghost use Rattle.rsp_operands.specs.Room.{fits_word};
+ghost use Rattle.rsp_asm.specs.Forms.{form, form_shape, known, FormFits};
+
+use rsp_text::{Kind, Stop, TableRow, cut, find_row, is_same};
+
+/// The name of a statement, and the text of its operands.
+pub fn split(text: &[u8]) -> (&[u8], &[u8])
+    ensures name { result.0.now ≡ before_first (stops Blank) text.now }
+    ensures operands { result.1.now ≡ after_first (stops Blank) text.now }
+{
+    match cut(text, Stop::Blank) {
+        Some(parts) => parts,
+        None => (text, &[]),
+    }
+}
+
+/// The form of a statement.
+#[derive(Clone, Copy)]
+pub enum Form {
+    /// `nop`, which has no operand.
+    NoOperation,
+    /// `.word`, which has numbers.
+    Numbers,
+    /// An instruction.
+    Row(TableRow),
+}
+
+const LINK_OPERANDS: &[Kind] = &[Kind::Scalar(21)];
+
+/// The word of `jalr` that links in register 31.
+const LINK_WORD: u32 = 0x0000_f809;
+
+fn is_single(operands: &[u8]) -> bool
+    ensures { result ≡ (length (operand_texts operands.now) == 1) }
+{
+    !operands.is_empty() && cut(operands, Stop::Comma).is_none()
+}
+
+fn row_of(name: &[u8]) -> Option<TableRow>
+    ensures named { option_map row_entry result ≡ option_map known (row_named name.now) }
+    ensures fit { IfSome result (λ row. list_all fits_word (row_entry row).operands ≡ true) }
+{
+    find_row(name)
+}
+
+/// The form of a name, in either case, before these operands: `jalr` with one operand links in register 31.
+pub fn form_of(name: &[u8], operands: &[u8]) -> Option<Form>
+    ensures form { option_map form result ≡ option_map form_shape (form_named name.now (length (operand_texts operands.now))) }
+    ensures fit { IfSome result FormFits }
+{
+    if is_same(name, b"nop") {
+        return Some(Form::NoOperation);
+    }
+    if is_same(name, b".word") {
+        return Some(Form::Numbers);
+    }
+    if is_same(name, b"jalr") && is_single(operands) {
+        return Some(Form::Row(TableRow {
+            value: LINK_WORD,
+            operands: LINK_OPERANDS,
+        }));
+    }
+    Some(Form::Row(row_of(name)?))
+}

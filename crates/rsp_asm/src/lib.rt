@@ -1,0 +1,19 @@
+//! The assembler: the words of a source text, or the fault of the lowest line that has one.
+//!
+//! The first pass finds the place of each label, and each fault that needs no label. The second one writes the words.
+#![tactic(auto)]
+
+mod check;
+mod form;
+mod line;
+mod numbers;
+mod operands;
+mod push;
+mod source;
+#[cfg(test)]
+mod tests;
+mod words;
+
+pub use rsp_text::{AsmFault, AsmFaultKind};
+pub use source::assemble;
+pub use words::Words;

@@ -1,0 +1,138 @@
+// A line of the source.
+
+ghost use Rattle.std.specs.Prelude.{◌≡◌, ◌+◌, ◌*◌, ◌≤◌, None, Some, Ok, Err, map, option_map, IfOk, IfErr, OnOk, drop, ◌++◌};
+ghost use Rattle.arrayvec.specs.ArrayVec.{array_vec_len};
+ghost use Rattle.rsp_text.specs.Source.{is_line, code_of, parts_of, is_twice, first_fault, label_of, size_of, line_words};
+ghost use Rattle.rsp_operands.specs.Labels.{label};
+ghost use Rattle.rsp_asm.specs.Parts.{parts};
+
+use crate::check::check_statement;
+use crate::push::push_statement;
+use crate::words::Words;
+use rsp_operands::{Label, find_label};
+use rsp_text::{AsmFaultKind, Stop, cut, is_label, is_plain, skip_blanks, trim};
+
+/// What the first pass finds in a line.
+#[derive(Clone, Copy)]
+pub struct Line<'a> {
+    /// Its label, where it has one.
+    pub label: Option<&'a [u8]>,
+    /// How many words it gives.
+    pub size: u16,
+}
+
+fn is_line(line: &[u8]) -> bool
+    ensures { result ≡ is_line line.now }
+{
+    if line.len() > 256 {
+        return false;
+    }
+    for c in line {
+        if !is_plain(*c) {
+            return false;
+        }
+    }
+    true
+}
+
+fn code(line: &[u8]) -> &[u8]
+    ensures { result.now ≡ code_of line.now }
+{
+    match cut(line, Stop::Comment) {
+        Some((front, _)) => trim(front),
+        None => trim(line),
+    }
+}
+
+/// The label and the statement of a line.
+#[derive(Clone, Copy)]
+struct Parts<'a> {
+    label: Option<&'a [u8]>,
+    body: &'a [u8],
+}
+
+fn parts_of(line: &[u8]) -> Option<Parts<'_>>
+    ensures { option_map parts result ≡ parts_of line.now }
+{
+    if !is_line(line) {
+        return None;
+    }
+    let text = code(line);
+    let Some((name, rest)) = cut(text, Stop::Colon) else {
+        return Some(Parts {
+            label: None,
+            body: text,
+        });
+    };
+    if !is_label(name) {
+        return None;
+    }
+    Some(Parts {
+        label: Some(name),
+        body: skip_blanks(rest),
+    })
+}
+
+fn is_twice(labels: &[Label<'_>], name: Option<&[u8]>) -> bool
+    ensures { result ≡ is_twice (map label labels.now) (option_map (λ t. t.now) name.entry) }
+{
+    match name {
+        None => false,
+        Some(name) => find_label(labels, name).is_some(),
+    }
+}
+
+/// What the first pass finds in a line at a place, behind lines with these labels.
+///
+/// The first of these faults is refused: a line that is none, a label that one of the lines before has, a name or operands
+/// that can't be read, a number that is out of its range whatever the labels are, and words that stand past the end.
+#[tactic(auto, unfolding(rsp_text::specs::Source::first_fault, rsp_text::specs::Source::label_of, rsp_text::specs::Source::size_of))]
+pub fn check_line<'a>(
+    line: &'a [u8],
+    place: u16,
+    labels: &[Label<'a>],
+) -> Result<Line<'a>, AsmFaultKind>
+    requires { place ≤ 4096 }
+    ensures fault { IfOk result (λ l. first_fault (map label labels.now) place line.now ≡ None) }
+    ensures label { IfOk result (λ l. option_map (λ t. t.now) l.label ≡ label_of line.now) }
+    ensures size { IfOk result (λ l. l.size ≡ size_of line.now) }
+    ensures room { IfOk result (λ l. place + 4 * l.size ≤ 4096) }
+    ensures err { IfErr result (λ kind. first_fault (map label labels.now) place line.now ≡ Some kind) }
+{
+    let Some(parts) = parts_of(line) else {
+        return Err(AsmFaultKind::BadLine);
+    };
+    if is_twice(labels, parts.label) {
+        return Err(AsmFaultKind::LabelTwice);
+    }
+    let size = check_statement(parts.body, place)?;
+    if size > usize::from(4096 - place) / 4 {
+        return Err(AsmFaultKind::PastEnd);
+    }
+    Ok(Line {
+        label: parts.label,
+        size: size as u16,
+    })
+}
+
+/// Puts the words of a line behind those of the lines before it, or refuses the leftmost operand whose label is missing or
+/// whose value is out of its range.
+#[tactic(auto, unfolding(rsp_text::specs::Source::line_words, rsp_text::specs::Source::size_of))]
+pub fn push_words(
+    line: &[u8],
+    place: u16,
+    labels: &[Label<'_>],
+    words: &mut Words,
+) -> Result<(), AsmFaultKind>
+    requires place { place ≤ 4096 }
+    requires room { array_vec_len words.old + size_of line.now ≤ 1024 }
+    ensures ok { OnOk result (line_words (map label labels.now) place line.now ≡ Ok (drop (array_vec_len words.old) words.new.items)) }
+    ensures kept { OnOk result (words.new.items ≡ words.old.items ++ drop (array_vec_len words.old) words.new.items) }
+    ensures len { OnOk result (array_vec_len words.new ≡ array_vec_len words.old + size_of line.now) }
+    ensures err { IfErr result (λ kind. line_words (map label labels.now) place line.now ≡ Err kind) }
+{
+    let Some(parts) = parts_of(line) else {
+        return Err(AsmFaultKind::BadLine);
+    };
+    push_statement(parts.body, place, labels, words)
+}

@@ -1,0 +1,31 @@
+ghost use Rattle.std.specs.Prelude.{◌≡◌, ◌+◌, ◌*◌, ◌≤◌, length};
+ghost use Rattle.arrayvec.specs.ArrayVec.{array_vec_len};
+ghost use Rattle.rsp_machine.specs.Host.{loaded};
+ghost use Rattle.rsp_bench.specs.Words.{words_bytes};
+
+use arrayvec::ArrayVec;
+use rsp_acc::Acc;
+use rsp_machine::Machine;
+use rsp_memory::Bank;
+
+/// The bytes of at most 1024 words, the highest of each first.
+fn word_bytes(words: &[u32]) -> ArrayVec<u8, 4096>
+    requires { length words.now ≤ 1024 }
+    ensures bytes { result.items ≡ words_bytes words.now }
+    ensures len { length result.items ≡ 4 * length words.now }
+{
+    let mut bytes = ArrayVec::new();
+    for word in words {
+        let _ = bytes.try_extend_from_slice(&word.to_be_bytes());
+    }
+    bytes
+}
+
+/// Writes words to IMEM from a place on; they all stand there.
+pub(crate) fn load_words<A: Acc>(machine: &mut Machine<A>, place: u16, words: &[u32])
+    requires { place + 4 * length words.now ≤ 4096 }
+    ensures { machine.new ≡ loaded Bank.Imem place (words_bytes words.now) machine.old }
+{
+    let bytes = word_bytes(words);
+    let _ = machine.load_bytes(Bank::Imem, u32::from(place), bytes.as_slice());
+}

@@ -1,0 +1,9 @@
+//! An open block of source text: its lines are kept until it is closed, and then assembled.
+#![tactic(auto)]
+
+mod block;
+#[cfg(test)]
+mod tests;
+
+pub use block::{Block, BlockFault};
+pub use rsp_asm::{AsmFault, AsmFaultKind, Words};

@@ -1,0 +1,6 @@
+pub mod Readings
+pub mod Capping
+pub mod Words
+pub mod Rooms
+pub mod Puts
+pub mod Rows

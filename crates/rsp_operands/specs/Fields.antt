@@ -1,0 +1,15 @@
+-- The fields of an operand, in the order of its text.
+use Rattle.std.specs.Prelude.{ℕ, List, [], ◌∷◌, Option, Some, None, Result, Ok, Err}
+use Rattle.rsp_text.specs.declared.fault.AsmFaultKind.{AsmFaultKind}
+use Rattle.rsp_operands.specs.declared.fields.Fields.{Fields}
+
+abbrev pub optional : Option ℕ → List ℕ
+optional None = []
+optional (Some n) = n ∷ []
+
+abbrev pub fields : Fields → List ℕ
+fields f = f.first ∷ optional f.second
+
+abbrev pub fields_in : Result Fields AsmFaultKind → Result (List ℕ) AsmFaultKind
+fields_in (Ok f) = Ok (fields f)
+fields_in (Err kind) = Err kind

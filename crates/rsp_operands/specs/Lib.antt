@@ -1,0 +1,4 @@
+pub mod Labels
+pub mod Readings
+pub mod Fields
+pub mod Room

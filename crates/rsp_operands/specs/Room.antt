@@ -1,0 +1,20 @@
+-- The room that the fields of an operand have in a word.
+use Rattle.std.specs.Prelude.{ℕ, ◌<◌, ◌≤◌, ◌^◌, nat_le, Bool, true, List, [], ◌∷◌}
+use Rattle.rsp_decode.specs.Table.{Operand, scalar, vector, vector_byte, places, with_fields}
+
+-- The register of an operand stands inside the word: five bits from the given one.
+abbrev pub fits_word : Operand → Bool
+fits_word (scalar low) = nat_le low 27
+fits_word (vector low) = nat_le low 27
+fits_word (vector_byte low step) = nat_le low 27
+fits_word _ = true
+
+-- none of these needs more than five bits
+abbrev pub Small : List ℕ → Type 0
+Small [] = Unit {0}
+Small (n ∷ ns) = (n ≤ 31) × Small ns
+
+-- the first of these fields of an operand stands inside the word at its place, and the others are small
+abbrev pub FitWord : Operand → List ℕ → Type 0
+FitWord k [] = Unit {0}
+FitWord k (v ∷ vs) = (with_fields 0 (places k) (v ∷ []) < 2 ^ 32) × Small vs

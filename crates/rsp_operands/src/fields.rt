@@ -1,0 +1,107 @@
+// The fields of an operand, and where they stand in the word.
+
+ghost use Rattle.std.specs.Prelude.{◌≡◌, ◌≤◌, ◌*◌, ◌^◌, ◌∷◌, [], ℕ, true, map, bit_or};
+ghost use Rattle.rsp_decode.specs.Table.{places, with_fields};
+ghost use Rattle.rsp_text.specs.Rows.{operand};
+ghost use Rattle.rsp_text.specs.Statement as statement;
+ghost use Rattle.rsp_text.specs.Statement.{fields_of};
+ghost use Rattle.rsp_operands.specs.Labels.{label};
+ghost use Rattle.rsp_operands.specs.Readings.{reading, capped_reading};
+ghost use Rattle.rsp_operands.specs.Fields.{fields, fields_in};
+ghost use Rattle.rsp_operands.specs.Room.{fits_word, FitWord};
+
+use crate::labels::Label;
+use crate::reading::Reading;
+use crate::values::expression_field;
+use rsp_text::{AsmFaultKind, Kind};
+
+/// The values of an operand's fields, in the order of its text.
+#[derive(Clone, Copy)]
+pub(crate) struct Fields {
+    first: u32,
+    second: Option<u32>,
+}
+
+fn one(first: u32) -> Fields
+    ensures { fields result ≡ first ∷ [] }
+{
+    Fields {
+        first,
+        second: None,
+    }
+}
+
+fn two(first: u32, second: u32) -> Fields
+    ensures { fields result ≡ first ∷ second ∷ [] }
+{
+    Fields {
+        first,
+        second: Some(second),
+    }
+}
+
+/// The fields of what an operand says, for a statement at a place, or why there are none.
+pub(crate) fn reading_fields(
+    said: Reading<'_>,
+    place: u16,
+    labels: &[Label<'_>],
+) -> Result<Fields, AsmFaultKind>
+    requires { place ≤ 4096 }
+    ensures { (r : statement.Reading) → reading said.entry ≡ capped_reading r → fields_in result ≡ fields_of (map label labels.now) place r }
+{
+    match said {
+        Reading::Register(number) => Ok(one(u32::from(number))),
+        Reading::Pair(number, element) => Ok(two(u32::from(number), u32::from(element))),
+        Reading::Value(slot, e) => Ok(one(expression_field(slot, e, place, labels)?)),
+        Reading::Memory(slot, e, base) => {
+            let offset = expression_field(slot, e, place, labels)?;
+            Ok(two(offset, u32::from(base)))
+        }
+    }
+}
+
+/// The lowest bit of an operand's first field.
+fn first_low(kind: Kind) -> u8
+    requires { fits_word (operand kind) ≡ true }
+    ensures low { result ≤ 27 }
+    ensures place { (w v : ℕ) → with_fields w (places (operand kind)) (v ∷ []) ≡ bit_or w (v * 2 ^ result) }
+{
+    match kind {
+        Kind::Scalar(low) | Kind::Vector(low) | Kind::VectorByte(low, _) => low,
+        Kind::ShiftAmount | Kind::VectorLane => 6,
+        Kind::Signed | Kind::Unsigned | Kind::JumpTarget | Kind::BranchTarget => 0,
+        Kind::ScalarMemory | Kind::VectorMemory(_) => 0,
+        Kind::SpRegister | Kind::ControlRegister => 11,
+        Kind::VectorElement => 16,
+    }
+}
+
+/// The bits of an operand's second field, where it has one.
+#[tactic(auto, using(crate::proofs::Words::or_none))]
+fn second_bits(kind: Kind, value: u32) -> u32
+    requires { value ≤ 31 }
+    ensures { (w v : ℕ) → with_fields w (places (operand kind)) (v ∷ value ∷ []) ≡ bit_or (with_fields w (places (operand kind)) (v ∷ [])) result }
+{
+    match kind {
+        Kind::ScalarMemory | Kind::VectorMemory(_) | Kind::VectorElement => value << 21,
+        Kind::VectorLane => value << 11,
+        Kind::VectorByte(_, 1) => value << 7,
+        Kind::VectorByte(_, _) => value / 8 << 10,
+        Kind::Scalar(_) | Kind::Vector(_) | Kind::SpRegister | Kind::ControlRegister => 0,
+        Kind::ShiftAmount | Kind::Signed | Kind::Unsigned => 0,
+        Kind::JumpTarget | Kind::BranchTarget => 0,
+    }
+}
+
+/// The word with the fields at their places too.
+pub(crate) fn put(kind: Kind, values: Fields, word: u32) -> u32
+    requires room { fits_word (operand kind) ≡ true }
+    requires fit { FitWord (operand kind) (fields values) }
+    ensures { result ≡ with_fields word (places (operand kind)) (fields values) }
+{
+    let with_first = word | values.first << first_low(kind);
+    match values.second {
+        None => with_first,
+        Some(value) => with_first | second_bits(kind, value),
+    }
+}

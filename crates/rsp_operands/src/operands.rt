@@ -1,0 +1,56 @@
+// An operand by its kind.
+
+ghost use Rattle.std.specs.Prelude.{◌≡◌, ◌≤◌, true, is_some, map};
+ghost use Rattle.rsp_decode.specs.Table.{places};
+ghost use Rattle.rsp_text.specs.Rows.{operand};
+ghost use Rattle.rsp_text.specs.Statement.{read, reading_fails, reading_fields, with_values};
+ghost use Rattle.rsp_operands.specs.Room.{fits_word};
+ghost use Rattle.rsp_operands.specs.Labels.{label};
+
+use crate::fields::{put, reading_fields};
+use crate::labels::Label;
+use crate::reading::{Reading, read_operand};
+use crate::values::is_beyond;
+use rsp_text::{AsmFaultKind, Kind};
+
+/// The text is an operand of this kind, in its range or not.
+pub fn is_operand(kind: Kind, text: &[u8]) -> bool
+    ensures { result ≡ is_some (read (operand kind) text.now) }
+{
+    read_operand(kind, text).is_some()
+}
+
+/// The text is an operand of this kind, names no label, and its number is out of the range that it has in a statement at
+/// this place.
+pub fn is_out_of_range(kind: Kind, text: &[u8], place: u16) -> bool
+    requires { place ≤ 4096 }
+    ensures { result ≡ reading_fails place (read (operand kind) text.now) }
+{
+    match read_operand(kind, text) {
+        Some(Reading::Value(slot, e) | Reading::Memory(slot, e, _)) => is_beyond(slot, e, place),
+        _ => false,
+    }
+}
+
+/// The word with the fields of an operand too, for a statement at this place.
+///
+/// A text that is no operand of this kind is refused as BadOperand, a label that is not among the labels as
+/// LabelMissing, and a value out of its range as OutOfRange. The register of the kind must stand inside the word, as
+/// those of each row of the instruction table do.
+pub fn put_operand(
+    kind: Kind,
+    text: &[u8],
+    place: u16,
+    labels: &[Label<'_>],
+    word: u32,
+) -> Result<u32, AsmFaultKind>
+    requires inside { place ≤ 4096 }
+    requires room { fits_word (operand kind) ≡ true }
+    ensures { result ≡ with_values word (places (operand kind)) (reading_fields (map label labels.now) place (read (operand kind) text.now)) }
+{
+    let Some(reading) = read_operand(kind, text) else {
+        return Err(AsmFaultKind::BadOperand);
+    };
+    let fields = reading_fields(reading, place, labels)?;
+    Ok(put(kind, fields, word))
+}

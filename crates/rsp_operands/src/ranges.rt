@@ -1,0 +1,81 @@
+// The ranges of numbers, and the field of a number that is in its range.
+
+ghost use Rattle.std.specs.Prelude.{◌≡◌, ◌==◌, ◌≤◌, ◌%◌, ◌/◌, Some, None, if◌then◌else◌};
+ghost use Rattle.rsp_text.specs.Statement.{half, word, amount, jump, branch, scaled};
+
+/// The field of sixteen bits of a number.
+pub(crate) fn half(value: i64) -> Option<u32>
+    ensures { result ≡ half value }
+{
+    match value {
+        0..=65535 => Some(value as u32),
+        -32768..=-1 => Some((65536 + value) as u32),
+        _ => None,
+    }
+}
+
+/// The word of a number.
+pub(crate) fn word(value: i64) -> Option<u32>
+    ensures { result ≡ word value }
+{
+    match value {
+        0..=4294967295 => Some(value as u32),
+        -2147483648..=-1 => Some((4294967296 + value) as u32),
+        _ => None,
+    }
+}
+
+/// The field of a shift amount.
+pub(crate) fn amount(value: i64) -> Option<u32>
+    ensures { result ≡ amount value }
+{
+    match value {
+        0..=31 => Some(value as u32),
+        _ => None,
+    }
+}
+
+/// The field of a jump to a target: its place in words.
+pub(crate) fn jump(target: i64) -> Option<u32>
+    ensures { result ≡ jump target }
+{
+    if !(0..4096).contains(&target) || target % 4 != 0 {
+        return None;
+    }
+    Some(target as u32 / 4)
+}
+
+/// The field of a branch at a place to a target: the distance in words from the delay slot behind the branch, modulo
+/// 65536.
+pub(crate) fn branch(place: u16, target: i64) -> Option<u32>
+    requires { place ≤ 4096 }
+    ensures { result ≡ branch place target }
+{
+    let target = jump(target)?;
+    let delay_slot = u32::from(place) / 4 + 1;
+    Some((target + 65536 - delay_slot) % 65536)
+}
+
+/// How often a scale is in a distance, where it divides it. A scale of 0 divides the distance 0 alone.
+fn steps(scale: u8, distance: u64) -> Option<u64>
+    ensures { result ≡ (if distance % scale == 0 then Some (distance / scale) else None) }
+{
+    let scale = u64::from(scale);
+    if distance.is_multiple_of(scale) {
+        Some(distance / scale.max(1))
+    } else {
+        None
+    }
+}
+
+/// The field of an offset in a vector load or store of this scale.
+pub(crate) fn scaled(scale: u8, value: i64) -> Option<u32>
+    ensures { result ≡ scaled scale value }
+{
+    let steps = steps(scale, value.unsigned_abs())?;
+    match value {
+        0.. if steps < 64 => Some(steps as u32),
+        ..=-1 if steps <= 64 => Some(128 - steps as u32),
+        _ => None,
+    }
+}

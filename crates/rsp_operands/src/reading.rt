@@ -1,0 +1,145 @@
+// What the text of an operand says, by its kind.
+
+ghost use Rattle.std.specs.Prelude.{◌≡◌, [], Some, None, option_map};
+ghost use Rattle.rsp_text.specs.declared.text.Stop.TheVariants.{Bracket, Parenthesis};
+ghost use Rattle.rsp_text.specs.Chars.{cut};
+ghost use Rattle.rsp_text.specs.Names.{vector_named, element_named};
+ghost use Rattle.rsp_text.specs.Numbers.{expression_of};
+ghost use Rattle.rsp_text.specs.Rows.{operand};
+ghost use Rattle.rsp_text.specs.Seen.{expression, capped_expression};
+ghost use Rattle.rsp_text.specs.Statement.{base_of, offset_of, bracketed, byte_named, lane_named, with_element, bracket_of, memory_of, asks, read};
+ghost use Rattle.rsp_operands.specs.Readings.{reading, capped_reading};
+
+use rsp_text::{
+    Expression, Kind, Slot, Stop, control, cut, element, read_expression, scalar, small_number,
+    sp_register, vector,
+};
+
+/// What an operand says: registers and elements, or an expression with the range that it must be in.
+#[derive(Clone, Copy)]
+pub(crate) enum Reading<'a> {
+    Register(u8),
+    Pair(u8, u8),
+    Value(Slot, Expression<'a>),
+    Memory(Slot, Expression<'a>, u8),
+}
+
+fn base(text: &[u8]) -> Option<u8>
+    ensures { result ≡ base_of text.now }
+{
+    match text {
+        [name @ .., b')'] => scalar(name),
+        _ => None,
+    }
+}
+
+fn byte(step: u8, text: &[u8]) -> Option<u8>
+    ensures { result ≡ bracketed (byte_named step) text.now }
+{
+    let [number @ .., b']'] = text else {
+        return None;
+    };
+    let byte = small_number(number, 16)?;
+    if byte.is_multiple_of(step) {
+        Some(byte)
+    } else {
+        None
+    }
+}
+
+fn computing_element(text: &[u8]) -> Option<u8>
+    ensures { result ≡ bracketed element_named text.now }
+{
+    match text {
+        [name @ .., b']'] => element(name),
+        _ => None,
+    }
+}
+
+fn lane(text: &[u8]) -> Option<u8>
+    ensures { result ≡ bracketed lane_named text.now }
+{
+    match text {
+        [number @ .., b']'] => small_number(number, 8),
+        _ => None,
+    }
+}
+
+fn with_element(name: &[u8], element: Option<u8>) -> Option<Reading<'_>>
+    ensures { option_map reading result ≡ option_map capped_reading (with_element (vector_named name.now) element) }
+{
+    Some(Reading::Pair(vector(name)?, element?))
+}
+
+fn vector_byte(step: u8, text: &[u8]) -> Option<Reading<'_>>
+    ensures { option_map reading result ≡ option_map capped_reading (bracket_of (byte_named step) (Some 0) (cut Bracket text.now) text.now) }
+{
+    match cut(text, Stop::Bracket) {
+        None => with_element(text, Some(0)),
+        Some((name, rest)) => with_element(name, byte(step, rest)),
+    }
+}
+
+fn vector_element(text: &[u8]) -> Option<Reading<'_>>
+    ensures { option_map reading result ≡ option_map capped_reading (bracket_of element_named (Some 0) (cut Bracket text.now) text.now) }
+{
+    match cut(text, Stop::Bracket) {
+        None => with_element(text, Some(0)),
+        Some((name, rest)) => with_element(name, computing_element(rest)),
+    }
+}
+
+fn vector_lane(text: &[u8]) -> Option<Reading<'_>>
+    ensures { option_map reading result ≡ option_map capped_reading (bracket_of lane_named None (cut Bracket text.now) text.now) }
+{
+    match cut(text, Stop::Bracket) {
+        None => with_element(text, None),
+        Some((name, rest)) => with_element(name, lane(rest)),
+    }
+}
+
+fn value(slot: Slot, text: &[u8]) -> Option<Reading<'_>>
+    ensures { option_map reading result ≡ option_map capped_reading (option_map (asks slot []) (expression_of text.now)) }
+{
+    Some(Reading::Value(slot, read_expression(text)?))
+}
+
+fn offset(text: &[u8]) -> Option<Expression<'_>>
+    ensures { option_map expression result ≡ option_map capped_expression (offset_of text.now) }
+{
+    if text.is_empty() {
+        return Some(Expression {
+            label: None,
+            offset: 0,
+        });
+    }
+    read_expression(text)
+}
+
+fn memory(slot: Slot, text: &[u8]) -> Option<Reading<'_>>
+    ensures { option_map reading result ≡ option_map capped_reading (memory_of slot (cut Parenthesis text.now)) }
+{
+    let (front, rest) = cut(text, Stop::Parenthesis)?;
+    Some(Reading::Memory(slot, offset(front)?, base(rest)?))
+}
+
+/// What the text of an operand says; None where it is no operand of this kind.
+pub(crate) fn read_operand(kind: Kind, text: &[u8]) -> Option<Reading<'_>>
+    ensures { option_map reading result ≡ option_map capped_reading (read (operand kind) text.now) }
+{
+    match kind {
+        Kind::Scalar(_) => Some(Reading::Register(scalar(text)?)),
+        Kind::ShiftAmount => value(Slot::Amount, text),
+        Kind::Signed | Kind::Unsigned => value(Slot::Half, text),
+        Kind::JumpTarget => value(Slot::Jump, text),
+        Kind::BranchTarget => value(Slot::Branch, text),
+        Kind::ScalarMemory => memory(Slot::Half, text),
+        Kind::VectorMemory(scale) => memory(Slot::Scaled(scale), text),
+        Kind::SpRegister => Some(Reading::Register(sp_register(text)?)),
+        Kind::ControlRegister => Some(Reading::Register(control(text)?)),
+        Kind::Vector(_) => Some(Reading::Register(vector(text)?)),
+        Kind::VectorByte(_, step) => vector_byte(step, text),
+        Kind::VectorElement => vector_element(text),
+        Kind::VectorLane => vector_lane(text),
+    }
+}

@@ -1,0 +1,92 @@
+-- What a line means, where the labels and its place are known.
+use Rattle.std.specs.Prelude.{ℕ, ◌+◌, ◌*◌, ◌==◌, nat_le, nat_lt, Bool, true, false, ◌&&◌, List, [], ◌∷◌, ◌++◌, length, Option, Some, None, is_some, Result, Ok, Err, if◌then◌else◌}
+use Rattle.std.specs.List.{list_all, list_any}
+use Rattle.rsp_text.specs.declared.fault.AsmFaultKind.{AsmFaultKind}
+use Rattle.rsp_text.specs.declared.fault.AsmFaultKind.TheVariants.{BadLine, OutOfRange, LabelTwice, PastEnd}
+use Rattle.rsp_text.specs.declared.text.Stop.TheVariants.{Comment, Colon}
+use Rattle.rsp_text.specs.Chars.{is_plain, cut, skip_blanks, trim}
+use Rattle.rsp_text.specs.Numbers.{is_label}
+use Rattle.rsp_text.specs.Statement.{Labels, find_label, Reading, Statement, readings, statement_of, size, number_fails, words_of}
+
+-- a line: its label, and the text of its statement
+pub record Parts : Type 0 where
+  pub label : Option (List ℕ)
+  pub body : List ℕ
+
+abbrev pub is_line : List ℕ → Bool
+is_line bs = nat_le (length bs) 256 && list_all is_plain bs
+
+-- the part before a cut, or the whole text
+abbrev pub front_of : Option (List ℕ × List ℕ) → List ℕ → List ℕ
+front_of None bs = bs
+front_of (Some p) bs = p.0
+
+-- without comment and outer blanks
+abbrev pub code_of : List ℕ → List ℕ
+code_of bs = trim (front_of (cut Comment bs) bs)
+
+abbrev pub labelled_parts : Option (List ℕ × List ℕ) → List ℕ → Option Parts
+labelled_parts None bs = Some (record { label = None; body = bs })
+labelled_parts (Some p) bs = if is_label p.0 then Some (record { label = Some p.0; body = skip_blanks p.1 }) else None
+
+abbrev pub parts_of : List ℕ → Option Parts
+parts_of bs = if is_line bs then labelled_parts (cut Colon (code_of bs)) (code_of bs) else None
+
+abbrev pub label_in : Option Parts → Option (List ℕ)
+label_in None = None
+label_in (Some p) = p.label
+
+unfoldable pub label_of : List ℕ → Option (List ℕ)
+label_of line = label_in (parts_of line)
+
+abbrev pub size_if : Result Statement AsmFaultKind → ℕ
+size_if (Err kind) = 0
+size_if (Ok s) = size s
+
+abbrev pub size_in : Option Parts → ℕ
+size_in None = 0
+size_in (Some p) = size_if (statement_of p.body)
+
+-- how many words a line gives
+unfoldable pub size_of : List ℕ → ℕ
+size_of line = size_in (parts_of line)
+
+-- ---- the first pass
+
+abbrev pub is_twice : Labels → Option (List ℕ) → Bool
+is_twice labels None = false
+is_twice labels (Some name) = is_some (find_label labels name)
+
+-- a number of a statement is out of its range, whatever the labels are
+abbrev pub has_bad_number : ℕ → Result Statement AsmFaultKind → Bool
+has_bad_number place (Err kind) = false
+has_bad_number place (Ok s) = list_any (λ (r : Reading). number_fails place r.value) (readings s)
+
+abbrev pub statement_fault : ℕ → Result Statement AsmFaultKind → Option AsmFaultKind
+statement_fault place (Err kind) = Some kind
+statement_fault place (Ok s) =
+    if has_bad_number place (Ok s) then Some OutOfRange
+    else (if nat_lt 4096 (place + 4 * size s) then Some PastEnd else None)
+
+abbrev pub parts_fault : Labels → ℕ → Option Parts → Option AsmFaultKind
+parts_fault labels place None = Some BadLine
+parts_fault labels place (Some p) =
+    if is_twice labels p.label then Some LabelTwice else statement_fault place (statement_of p.body)
+
+-- the fault that a line has behind lines with these labels
+unfoldable pub first_fault : Labels → ℕ → List ℕ → Option AsmFaultKind
+first_fault labels place line = parts_fault labels place (parts_of line)
+
+-- ---- the second pass
+
+abbrev pub statement_words : Labels → ℕ → Result Statement AsmFaultKind → Result (List ℕ) AsmFaultKind
+statement_words labels place (Err kind) = Err kind
+statement_words labels place (Ok s) = words_of labels place s
+
+abbrev pub parts_words : Labels → ℕ → Option Parts → Result (List ℕ) AsmFaultKind
+parts_words labels place None = Err BadLine
+parts_words labels place (Some p) = statement_words labels place (statement_of p.body)
+
+-- the words of a line
+unfoldable pub line_words : Labels → ℕ → List ℕ → Result (List ℕ) AsmFaultKind
+line_words labels place line = parts_words labels place (parts_of line)

@@ -1,0 +1,292 @@
+-- What a statement means, where the labels and its place are known.
+use Rattle.std.specs.Prelude.{ℕ, suc, ◌^◌, ◌+◌, ◌-◌, ◌*◌, ◌/◌, ◌%◌, ◌==◌, nat_le, nat_lt, Bool, true, false, ◌&&◌, List, [], ◌∷◌, ◌++◌, length, map, find, take, slice_index, is_none, Option, Some, None, option_map, option_and_then, Result, Ok, Err, if◌then◌else◌, codes, ℤ, pos, negsuc, ◌+ℤ◌}
+use Rattle.std.specs.List.{before_first, after_first, slice_split, list_any}
+use Rattle.std.specs.Str.{bytes_eq, str_eq_ignore_ascii_case}
+use Rattle.rsp_decode.specs.Table.{Operand, scalar, shift_amount, signed, unsigned, jump_target, branch_target, scalar_memory, vector_memory, sp_register, control_register, vector, vector_byte, vector_element, vector_lane, Place, with_fields, Row, row, selector, one, rows, word_from}
+use Rattle.rsp_decode.specs.declared.inst.Inst.TheVariants.{JumpLinkRegister}
+use Rattle.rsp_text.specs.declared.fault.AsmFaultKind.{AsmFaultKind}
+use Rattle.rsp_text.specs.declared.fault.AsmFaultKind.TheVariants.{UnknownName, BadOperand, OutOfRange, LabelMissing}
+use Rattle.rsp_text.specs.declared.text.Stop.TheVariants.{Blank, Comma, Parenthesis, Bracket}
+use Rattle.rsp_text.specs.declared.slot.Slot.{Slot}
+use Rattle.rsp_text.specs.declared.slot.Slot.TheVariants.{Half, Amount, Jump, Branch, Scaled, Word}
+use Rattle.rsp_text.specs.Chars.{cut, stops, trim}
+use Rattle.rsp_text.specs.Numbers.{Expression, expression_of}
+use Rattle.rsp_text.specs.Names.{scalar_named, vector_named, sp_named, control_named, element_named, small_number}
+
+-- What an operand says: an expression with the range that it must be in, where there is one, and the numbers of registers
+-- and elements behind it.
+pub record Reading : Type 0 where
+  pub value : Option (Slot × Expression)
+  pub registers : List ℕ
+
+abbrev pub named : ℕ → Reading
+named n = record { value = None; registers = n ∷ [] }
+
+abbrev pub pair : ℕ → ℕ → Reading
+pair n e = record { value = None; registers = n ∷ e ∷ [] }
+
+abbrev pub asks : Slot → List ℕ → Expression → Reading
+asks slot registers e = record { value = Some (slot, e); registers = registers }
+
+-- the text between the first parenthesis and a closing one at the end
+abbrev pub base_of : List ℕ → Option ℕ
+base_of bs = if slice_index bs (length bs - 1) == 41 then scalar_named (take (length bs - 1) bs) else None
+
+abbrev pub zero_expression : Expression
+zero_expression = record { label = None; offset = pos 0 }
+
+abbrev pub offset_of : List ℕ → Option Expression
+offset_of bs = if length bs == 0 then Some zero_expression else expression_of bs
+
+abbrev pub memory : Slot → Option Expression → Option ℕ → Option Reading
+memory slot e base = option_and_then (λ x. option_map (λ b. asks slot (b ∷ []) x) base) e
+
+-- what a look-up says of the text before a closing bracket at the end
+abbrev pub bracketed : (List ℕ → Option ℕ) → List ℕ → Option ℕ
+bracketed look bs = if slice_index bs (length bs - 1) == 93 then look (take (length bs - 1) bs) else None
+
+abbrev pub multiple : ℕ → ℕ → Option ℕ
+multiple step e = if e % step == 0 then Some e else None
+
+-- a byte of a register, a multiple of step
+abbrev pub byte_named : ℕ → List ℕ → Option ℕ
+byte_named step bs = option_and_then (multiple step) (small_number 16 bs)
+
+abbrev pub lane_named : List ℕ → Option ℕ
+lane_named bs = small_number 8 bs
+
+abbrev pub with_element : Option ℕ → Option ℕ → Option Reading
+with_element v e = option_and_then (λ n. option_map (pair n) e) v
+
+-- a vector register, and what stands between brackets, where there are any
+abbrev pub bracket_of : (List ℕ → Option ℕ) → Option ℕ → Option (List ℕ × List ℕ) → List ℕ → Option Reading
+bracket_of look default None bs = with_element (vector_named bs) default
+bracket_of look default (Some p) bs = with_element (vector_named p.0) (bracketed look p.1)
+
+abbrev pub memory_of : Slot → Option (List ℕ × List ℕ) → Option Reading
+memory_of slot None = None
+memory_of slot (Some p) = memory slot (offset_of p.0) (base_of p.1)
+
+-- what the text of an operand says, by its kind
+abbrev pub read : Operand → List ℕ → Option Reading
+read (scalar low) bs = option_map named (scalar_named bs)
+read shift_amount bs = option_map (asks Amount []) (expression_of bs)
+read signed bs = option_map (asks Half []) (expression_of bs)
+read unsigned bs = option_map (asks Half []) (expression_of bs)
+read jump_target bs = option_map (asks Jump []) (expression_of bs)
+read branch_target bs = option_map (asks Branch []) (expression_of bs)
+read scalar_memory bs = memory_of Half (cut Parenthesis bs)
+read (vector_memory scale) bs = memory_of (Scaled scale) (cut Parenthesis bs)
+read sp_register bs = option_map named (sp_named bs)
+read control_register bs = option_map named (control_named bs)
+read (vector low) bs = option_map named (vector_named bs)
+read (vector_byte low step) bs = bracket_of (byte_named step) (Some 0) (cut Bracket bs) bs
+read vector_element bs = bracket_of element_named (Some 0) (cut Bracket bs) bs
+read vector_lane bs = bracket_of lane_named None (cut Bracket bs) bs
+
+-- ---- values
+
+abbrev pub Labels : Type 0
+Labels = List (List ℕ × ℕ)
+
+-- the place of a label
+abbrev pub find_label : Labels → List ℕ → Option ℕ
+find_label [] name = None
+find_label (l ∷ ls) name = if bytes_eq l.0 name then Some l.1 else find_label ls name
+
+-- a number from -32768 to 65535, modulo 65536
+abbrev pub half : ℤ → Option ℕ
+half (pos n) = if nat_lt n 65536 then Some n else None
+half (negsuc n) = if nat_lt n 32768 then Some (65535 - n) else None
+
+-- a number from -2147483648 to 4294967295, modulo 2^32
+abbrev pub word : ℤ → Option ℕ
+word (pos n) = if nat_lt n 4294967296 then Some n else None
+word (negsuc n) = if nat_lt n 2147483648 then Some (4294967295 - n) else None
+
+-- the offset of a branch at a place to a target, a multiple of 4 from 0 to 4092
+abbrev pub branch : ℕ → ℤ → Option ℕ
+branch place (pos t) = if nat_lt t 4096 && t % 4 == 0 then Some ((t / 4 + 65535 - place / 4) % 65536) else None
+branch place (negsuc t) = None
+
+-- a shift amount, from 0 to 31
+abbrev pub amount : ℤ → Option ℕ
+amount (pos n) = if nat_lt n 32 then Some n else None
+amount (negsuc n) = None
+
+-- the field of a jump to a target, a multiple of 4 from 0 to 4092
+abbrev pub jump : ℤ → Option ℕ
+jump (pos t) = if nat_lt t 4096 && t % 4 == 0 then Some (t / 4) else None
+jump (negsuc t) = None
+
+-- an offset of a vector load or store, a multiple of the scale from -64 to 63 times it, modulo 128
+abbrev pub scaled : ℕ → ℤ → Option ℕ
+scaled scale (pos n) = if n % scale == 0 && nat_lt (n / scale) 64 then Some (n / scale) else None
+scaled scale (negsuc n) = if suc n % scale == 0 && nat_le (suc n / scale) 64 then Some (128 - suc n / scale) else None
+
+-- the field of a value at a place
+abbrev pub field : Slot → ℕ → ℤ → Option ℕ
+field Half place z = half z
+field Amount place z = amount z
+field Jump place z = jump z
+field Branch place z = branch place z
+field (Scaled scale) place z = scaled scale z
+field Word place z = word z
+
+-- where an expression counts from: 0, or its label
+abbrev pub label_place : Labels → Option (List ℕ) → Option ℕ
+label_place labels None = Some 0
+label_place labels (Some name) = find_label labels name
+
+-- the value of an expression, where its label is known
+abbrev pub evaluate : Labels → Expression → Option ℤ
+evaluate labels e = option_map (λ p. pos p +ℤ e.offset) (label_place labels e.label)
+
+abbrev pub in_range : Option ℕ → Result ℕ AsmFaultKind
+in_range None = Err OutOfRange
+in_range (Some v) = Ok v
+
+abbrev pub field_of : Slot → ℕ → Option ℤ → Result ℕ AsmFaultKind
+field_of slot place None = Err LabelMissing
+field_of slot place (Some z) = in_range (field slot place z)
+
+abbrev pub then_registers : List ℕ → Result ℕ AsmFaultKind → Result (List ℕ) AsmFaultKind
+then_registers ns (Ok v) = Ok (v ∷ ns)
+then_registers ns (Err kind) = Err kind
+
+abbrev pub fields_with : Labels → ℕ → List ℕ → Option (Slot × Expression) → Result (List ℕ) AsmFaultKind
+fields_with labels place ns None = Ok ns
+fields_with labels place ns (Some v) = then_registers ns (field_of v.0 place (evaluate labels v.1))
+
+-- the fields of an operand
+abbrev pub fields_of : Labels → ℕ → Reading → Result (List ℕ) AsmFaultKind
+fields_of labels place r = fields_with labels place r.registers r.value
+
+abbrev pub append : Result (List ℕ) AsmFaultKind → Result (List ℕ) AsmFaultKind → Result (List ℕ) AsmFaultKind
+append (Err kind) later = Err kind
+append (Ok vs) (Err kind) = Err kind
+append (Ok vs) (Ok more) = Ok (vs ++ more)
+
+-- the fields of all operands, or the fault of the leftmost that has one
+abbrev pub all_fields : Labels → ℕ → List Reading → Result (List ℕ) AsmFaultKind
+all_fields labels place [] = Ok []
+all_fields labels place (r ∷ rs) = append (fields_of labels place r) (all_fields labels place rs)
+
+-- an operand is out of its range whatever the labels are
+abbrev pub number_fails : ℕ → Option (Slot × Expression) → Bool
+number_fails place None = false
+number_fails place (Some v) = is_none v.1.label && is_none (field v.0 place v.1.offset)
+
+-- what the first pass says of an operand that could be read, or couldn't
+abbrev pub reading_fails : ℕ → Option Reading → Bool
+reading_fails place None = false
+reading_fails place (Some r) = number_fails place r.value
+
+abbrev pub reading_fields : Labels → ℕ → Option Reading → Result (List ℕ) AsmFaultKind
+reading_fields labels place None = Err BadOperand
+reading_fields labels place (Some r) = fields_of labels place r
+
+-- a word with an operand's values at their places
+abbrev pub with_values : ℕ → List Place → Result (List ℕ) AsmFaultKind → Result ℕ AsmFaultKind
+with_values w ps (Err kind) = Err kind
+with_values w ps (Ok vs) = Ok (with_fields w ps vs)
+
+-- the word of a number of .word
+abbrev pub number_value : Labels → Option Expression → Result ℕ AsmFaultKind
+number_value labels None = Err BadOperand
+number_value labels (Some e) = field_of Word 0 (evaluate labels e)
+
+-- ---- statements
+
+pub data Statement : Type 0 where
+  nothing : Statement
+  numbers : List Reading → Statement
+  instruction : Row → List Reading → Statement
+
+abbrev pub readings : Statement → List Reading
+readings nothing = []
+readings (numbers rs) = rs
+readings (instruction row rs) = rs
+
+-- how many words a statement gives
+abbrev pub size : Statement → ℕ
+size nothing = 0
+size (numbers rs) = length rs
+size (instruction row rs) = 1
+
+abbrev pub one_word : Row → Result (List ℕ) AsmFaultKind → Result (List ℕ) AsmFaultKind
+one_word row (Err kind) = Err kind
+one_word row (Ok vs) = Ok (word_from row vs ∷ [])
+
+abbrev pub words_of : Labels → ℕ → Statement → Result (List ℕ) AsmFaultKind
+words_of labels place nothing = Ok []
+words_of labels place (numbers rs) = all_fields labels place rs
+words_of labels place (instruction row rs) = one_word row (all_fields labels place rs)
+
+-- ---- the text of a statement
+
+-- the row of a name, in either case
+unfoldable pub row_named : List ℕ → Option Row
+row_named name = find (λ (r : Row). str_eq_ignore_ascii_case name r.name) rows
+
+-- jalr $s, which links in $31
+abbrev pub linking_row : Row
+linking_row = row (selector 0xfc00003f (9 + 31 * 2 ^ 11) (codes "jalr")) (scalar 21 ∷ []) (one (JumpLinkRegister 31))
+
+abbrev pub read_all : List Operand → List (List ℕ) → Option (List Reading)
+read_all [] [] = Some []
+read_all [] (t ∷ ts) = None
+read_all (k ∷ ks) [] = None
+read_all (k ∷ ks) (t ∷ ts) = option_and_then (λ r. option_map (λ rs. r ∷ rs) (read_all ks ts)) (read k t)
+
+abbrev pub read_numbers : List (List ℕ) → Option (List Reading)
+read_numbers [] = Some []
+read_numbers (t ∷ ts) = option_and_then (λ e. option_map (λ rs. asks Word [] e ∷ rs) (read_numbers ts)) (expression_of t)
+
+-- the texts of the operands
+abbrev pub operand_texts : List ℕ → List (List ℕ)
+operand_texts bs = if length bs == 0 then [] else map trim (slice_split (stops Comma) bs)
+
+-- a name of the table, or one of the two beside it
+pub data Form : Type 0 where
+  no_operation : Form
+  numbers_form : Form
+  row_form : Row → Form
+
+-- the form of a name that stands before so many operands
+abbrev pub form_named : List ℕ → ℕ → Option Form
+form_named name count =
+    if str_eq_ignore_ascii_case name (codes "nop") then Some no_operation
+    else (if str_eq_ignore_ascii_case name (codes ".word") then Some numbers_form
+    else (if str_eq_ignore_ascii_case name (codes "jalr") && count == 1 then Some (row_form linking_row)
+    else option_map row_form (row_named name)))
+
+-- nop is .word 0
+abbrev pub form_readings : Form → List (List ℕ) → Option Statement
+form_readings no_operation [] = Some (numbers (asks Word [] zero_expression ∷ []))
+form_readings no_operation (t ∷ ts) = None
+form_readings numbers_form [] = None
+form_readings numbers_form (t ∷ ts) = option_map numbers (read_numbers (t ∷ ts))
+form_readings (row_form row) ts = option_map (instruction row) (read_all row.operands ts)
+
+abbrev pub with_operands : Option Statement → Result Statement AsmFaultKind
+with_operands None = Err BadOperand
+with_operands (Some s) = Ok s
+
+abbrev pub with_form : Option Form → List (List ℕ) → Result Statement AsmFaultKind
+with_form None ts = Err UnknownName
+with_form (Some form) ts = with_operands (form_readings form ts)
+
+abbrev pub statement_with : List ℕ → List (List ℕ) → Result Statement AsmFaultKind
+statement_with name ts = with_form (form_named name (length ts)) ts
+
+-- what the text of a statement says
+abbrev pub statement_of : List ℕ → Result Statement AsmFaultKind
+statement_of bs =
+    if length bs == 0 then Ok nothing
+    else statement_with (before_first (stops Blank) bs) (operand_texts (after_first (stops Blank) bs))
+
+-- the texts of the operands that are left
+abbrev pub texts_in : Option (List ℕ) → List (List ℕ)
+texts_in None = []
+texts_in (Some bs) = map trim (slice_split (stops Comma) bs)
