@@ -20,6 +20,7 @@ form NoOperation = nothing_shape
 form Numbers = numbers_shape
 form (Row row) = row_shape (row_entry row)
 
+-- what the code knows of a row
 abbrev pub known : table.Row → Entry
 known row = (entry_of row).entry
 

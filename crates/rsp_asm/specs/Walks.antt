@@ -51,6 +51,7 @@ put_all labels place w (k ∷ ks) [] = Err BadOperand
 put_all labels place w (k ∷ ks) (t ∷ ts) =
     and_then (with_values w (places k) (reading_fields labels place (read k t))) (λ v. put_all labels place v ks ts)
 
+-- a word as a list
 abbrev pub single : Result ℕ AsmFaultKind → Result (List ℕ) AsmFaultKind
 single (Err kind) = Err kind
 single (Ok w) = Ok (w ∷ [])
@@ -71,6 +72,9 @@ pub record Pushed (said : Result (List ℕ) AsmFaultKind) (count : ℕ) (old new
 abbrev pub Puts : Result (List ℕ) AsmFaultKind → ℕ → List ℕ → List ℕ → Result (Unit {0}) AsmFaultKind → Type 0
 Puts said count old new result = MatchResult result (λ u. Pushed said count old new) (λ kind. said ≡ Err kind)
 
+-- ---- the words of a statement, by its form
+
+-- nop with these texts as operands: how many words, and which
 abbrev pub nothing_size : List (List ℕ) → ℕ
 nothing_size [] = 1
 nothing_size (t ∷ ts) = 0
@@ -79,14 +83,17 @@ abbrev pub nothing_words : List (List ℕ) → Result (List ℕ) AsmFaultKind
 nothing_words [] = Ok (0 ∷ [])
 nothing_words (t ∷ ts) = Err BadOperand
 
+-- so many where the operands can be read
 abbrev pub counted : ℕ → Option (List Reading) → ℕ
 counted n None = 0
 counted n (Some rs) = n
 
+-- words, where the operands can be read
 abbrev pub where_read : Option (List Reading) → Result (List ℕ) AsmFaultKind → Result (List ℕ) AsmFaultKind
 where_read None words = Err BadOperand
 where_read (Some rs) words = words
 
+-- .word with these texts as operands
 abbrev pub listed_size : List (List ℕ) → ℕ
 listed_size [] = 0
 listed_size (t ∷ ts) = counted (length (t ∷ ts)) (read_numbers (t ∷ ts))
@@ -95,6 +102,7 @@ abbrev pub listed_words : Labels → List (List ℕ) → Result (List ℕ) AsmFa
 listed_words labels [] = Err BadOperand
 listed_words labels (t ∷ ts) = where_read (read_numbers (t ∷ ts)) (number_words labels (t ∷ ts))
 
+-- a row with these texts as operands
 abbrev pub row_size : Entry → List (List ℕ) → ℕ
 row_size e ts = counted 1 (read_all e.operands ts)
 

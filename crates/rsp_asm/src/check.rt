@@ -47,7 +47,10 @@ fn check_row(kinds: &[Kind], operands: &[u8], place: u16) -> Result<usize, AsmFa
     Ok(1)
 }
 
-/// How many words a statement gives, or the fault that it has whatever the labels are.
+/// How many words a statement gives.
+///
+/// Refused are, in this order: a name that no statement has, operands that can't be read or are too few or too many, and a
+/// number that is out of its range whatever the labels are.
 pub fn check_statement(text: &[u8], place: u16) -> Result<usize, AsmFaultKind>
     requires { place ≤ 4096 }
     ensures { result ≡ checked place (statement_of text.now) }

@@ -51,7 +51,8 @@ fn row_of(name: &[u8]) -> Option<TableRow>
     find_row(name)
 }
 
-/// The form of a name, in either case, before these operands: `jalr` with one operand links in register 31.
+/// The form of a name, in either case, before these operands: `jalr` with one operand links in register 31. It is None where
+/// no statement has this name.
 pub fn form_of(name: &[u8], operands: &[u8]) -> Option<Form>
     ensures form { option_map form result ≡ option_map form_shape (form_named name.now (length (operand_texts operands.now))) }
     ensures fit { IfSome result FormFits }

@@ -74,7 +74,10 @@ fn push_row(
     Ok(())
 }
 
-/// Puts the words of a statement behind the words before them.
+/// Puts the words of a statement, for which there has to be room, behind the words before them.
+///
+/// Refused are a name or operands that can't be read, and then the leftmost operand whose label is missing or whose value is
+/// out of its range.
 pub fn push_statement(
     text: &[u8],
     place: u16,
