@@ -3,3 +3,4 @@ pub mod Sum
 pub mod Clamps
 pub mod Fill
 pub mod Range
+pub mod Rejoined

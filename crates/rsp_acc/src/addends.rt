@@ -1,7 +1,8 @@
-ghost use Rattle.std.specs.Prelude.{◌≡◌};
-ghost use Rattle.rsp_lanes.specs.Lanes.{IsVector};
+ghost use Rattle.std.specs.Prelude.{◌≡◌, pos};
+ghost use Rattle.rsp_lanes.specs.Lanes.{each_lane, IsVector};
 ghost use Rattle.rsp_acc.specs.Planes.{joined, wrapped_sums};
 
+use crate::{Acc, Part};
 use rsp_lanes::{Mask8, VReg, u16x8};
 use std::marker::Model;
 
@@ -32,6 +33,15 @@ impl Model for Addends {
 }
 
 impl Addends {
+    /// Eight zeros.
+    #[inline(always)]
+    pub fn zero() -> Self
+        ensures { result ≡ each_lane (λ _. pos 0) }
+    {
+        let zeros = VReg::splat(0);
+        Addends::from_planes(&zeros, &zeros, &zeros)
+    }
+
     /// The numbers whose high, middle and low sixteen bits, lane by lane, are these.
     #[inline(always)]
     pub fn from_planes(high: &VReg, middle: &VReg, low: &VReg) -> Self
@@ -42,6 +52,18 @@ impl Addends {
             middle: middle.to_simd(),
             low: low.to_simd(),
         }
+    }
+
+    /// The numbers of eight accumulators, whatever these are kept in. Written back by [`Acc::replace`] they
+    /// give the accumulators again.
+    #[inline(always)]
+    pub fn of<A: Acc>(acc: &A) -> Self
+        ensures { result ≡ A.numbers acc.now }
+    {
+        let high = acc.part(Part::High);
+        let middle = acc.part(Part::Middle);
+        let low = acc.part(Part::Low);
+        Addends::from_planes(&high, &middle, &low)
     }
 
     /// The high, middle and low sixteen bits of each number.

@@ -5,11 +5,10 @@ use Rattle.std.specs.List.{list_all}
 use Rattle.std.specs.Str.{str_eq_ignore_ascii_case}
 use Rattle.std.proofs.lemmas.Bool.{cond-true, cond-false, cases_Bool}
 use Rattle.rsp_decode.specs.Table.{Row, rows}
-use Rattle.rsp_text.specs.Rows.{row_entry, Entry, entry_of, entry_named}
+use Rattle.rsp_text.specs.Rows.{row_entry, Entry, entry_of, entry_named, is_row_operand}
 use Rattle.rsp_text.specs.Statement.{Form, no_operation, numbers_form, row_form, row_named}
 use Rattle.rsp_text.specs.declared.table.TableRow.{TableRow}
 use Rattle.rsp_operands.proofs.Rows.{row_fits}
-use Rattle.rsp_operands.specs.Room.{fits_word}
 use Rattle.rsp_asm.specs.Forms.{nothing_shape, numbers_shape, row_shape, form_shape, known}
 
 abbrev has_name : List ℕ → Row → Bool
@@ -44,6 +43,6 @@ is_row (Some no_operation) e h = absurd (let bad : row_shape e ≡ nothing_shape
 is_row (Some numbers_form) e h = absurd (let bad : row_shape e ≡ numbers_shape = cc in cc)
 is_row (Some (row_form r)) e h = let same : known r ≡ e = cc in (r, refl, same)
 
-pub found_fits : (name : List ℕ) (o : Option TableRow) → option_map row_entry o ≡ entry_named (map entry_of rows) name → IfSome o (λ row. list_all fits_word (row_entry row).operands ≡ true)
+pub found_fits : (name : List ℕ) (o : Option TableRow) → option_map row_entry o ≡ entry_named (map entry_of rows) name → IfSome o (λ row. list_all is_row_operand (row_entry row).operands ≡ true)
 found_fits name None e = tt
 found_fits name (Some row) e = row_fits name (row_entry row) e

@@ -1,4 +1,3 @@
-pub mod Lines
 pub mod Passes
 pub mod Texts
 pub mod Readings
@@ -6,3 +5,7 @@ pub mod Forms
 pub mod Statements
 pub mod Steps
 pub mod Chain
+pub mod Faults
+pub mod Fits
+pub mod Decodes
+pub mod Same

@@ -1,12 +1,16 @@
 -- The lines that a pass has done.
-use Rattle.std.proofs.Common.{◌≡◌, refl, sym, ap, ◌∙◌, subst, ℕ, zero, suc, ◌+◌, ◌*◌, ◌<◌, ◌≤◌, List, [], ◌∷◌, ◌++◌, length, take, drop, arith, add-one, length-append, false}
-use Rattle.std.specs.Prelude.{Option, Some, None, Result, Ok, Err, sum_by, is_err, OnOk}
+use Rattle.std.proofs.Common.{◌≡◌, refl, sym, ap, ◌∙◌, subst, ℕ, zero, suc, ◌+◌, ◌*◌, ◌<◌, ◌≤◌, List, [], ◌∷◌, ◌++◌, length, take, drop, get_or, arith, add-one, length-append, true, false}
+use Rattle.std.specs.Prelude.{Option, Some, None, Result, Ok, Err, sum_by, ◌-◌, is_some, is_err, OnOk, OnErr}
 use Rattle.std.proofs.lemmas.List.{append_assoc, append-nil, take-append-drop, length-take}
 use Rattle.std.proofs.lemmas.List.Sums.{sum_by-append, sum_by-cons}
 use Rattle.rsp_text.specs.declared.fault.AsmFault.{AsmFault}
 use Rattle.rsp_text.specs.declared.fault.AsmFaultKind.{AsmFaultKind}
 use Rattle.rsp_text.specs.Statement.{Labels}
 use Rattle.rsp_text.specs.Source.{label_of, size_of, first_fault, line_words}
+use Rattle.rsp_text.proofs.Places.{place_push, labels_push}
+use Rattle.rsp_operands.specs.Labels.{SamePlaces}
+use Rattle.rsp_asm.specs.Answer.{HidesNoFault}
+use Rattle.rsp_asm.proofs.Same.{first_same, same_behind, new_label}
 use Rattle.rsp_text.specs.Means.{place_after, labelled, labels_from, fault_at, this_or, lowest, joined, in_turn, first, second, unless, means_lines}
 
 -- the next of the lines that are left
@@ -34,15 +38,11 @@ inside [] (suc n) l more e = absurd cc
 inside (x ∷ xs) zero l more e = omega arith
 inside (x ∷ xs) (suc n) l more e = let h = inside xs n l more e in omega arith
 
-pub place_push : (origin : ℕ) (xs : List (List ℕ)) (l : List ℕ) → place_after origin (xs ++ l ∷ []) ≡ place_after origin xs + 4 * size_of l
-place_push origin xs l = omega (arith, sum_by-append size_of xs (l ∷ []))
-
-pub labels_push : (origin : ℕ) (xs : List (List ℕ)) (l : List ℕ) → labels_from origin (xs ++ l ∷ []) ≡ labels_from origin xs ++ labelled (label_of l) (place_after origin xs)
-labels_push origin [] l = append-nil (labelled (label_of l) origin) ∙ ap (labelled (label_of l)) (omega arith)
-labels_push origin (x ∷ xs) l =
-    ap (λ t. labelled (label_of x) origin ++ t) (labels_push (origin + 4 * size_of x) xs l)
-    ∙ ap (λ p. labelled (label_of x) origin ++ (labels_from (origin + 4 * size_of x) xs ++ labelled (label_of l) p)) (omega (arith, sum_by-cons size_of x xs))
-    ∙ sym (append_assoc (labelled (label_of x) origin) (labels_from (origin + 4 * size_of x) xs) _)
+line_at : (ls : List (List ℕ)) (n : ℕ) (l : List ℕ) (more : List (List ℕ)) → drop n ls ≡ l ∷ more → get_or ls n [] ≡ l
+line_at [] zero l more e = absurd cc
+line_at [] (suc n) l more e = absurd cc
+line_at (x ∷ xs) zero l more e = cc
+line_at (x ∷ xs) (suc n) l more e = line_at xs n l more e
 
 no_fault : (number : ℕ) (o : Option AsmFaultKind) (later : Option AsmFault) → this_or number o later ≡ None → (o ≡ None) × (later ≡ None)
 no_fault number None later e = (refl, e)
@@ -70,23 +70,23 @@ module _ (fault : List (List ℕ) → List ℕ → Option AsmFaultKind) where
 pub record Done (origin number : ℕ) (ls left : List (List ℕ)) (labels : Labels) (place : ℕ) : Type 0 where
   pub rest : drop number ls ≡ left
   pub clean : lowest (first origin) [] (take number ls) ≡ None
-  pub labels_are : labels ≡ labels_from origin (take number ls)
+  pub labels_are : SamePlaces labels (labels_from origin (take number ls))
   pub place_is : place ≡ place_after origin (take number ls)
 
 module _ (origin number : ℕ) (ls : List (List ℕ)) (l : List ℕ) (more : List (List ℕ)) (labels : Labels) (place : ℕ) (d : Done origin number ls (l ∷ more) labels place) where
   as_first : first_fault labels place l ≡ first origin (take number ls) l
-  as_first = ap (λ t. first_fault t place l) d.labels_are ∙ ap (λ p. first_fault (labels_from origin (take number ls)) p l) d.place_is
+  as_first = first_same labels (labels_from origin (take number ls)) d.labels_are place l ∙ ap (λ p. first_fault (labels_from origin (take number ls)) p l) d.place_is
 
-  pub done_more : (n : ℕ) (labels' : Labels) (place' : ℕ) → first_fault labels place l ≡ None → n ≡ number + 1 → labels' ≡ labels ++ labelled (label_of l) place → place' ≡ place + 4 * size_of l → Done origin n ls more labels' place'
+  pub done_more : (n : ℕ) (labels' : Labels) (place' : ℕ) → first_fault labels place l ≡ None → n ≡ number + 1 → SamePlaces labels' (labelled (label_of l) place ++ labels) → place' ≡ place + 4 * size_of l → Done origin n ls more labels' place'
   done_more n labels' place' e n_is labels_is place_is =
       let next = take_next ls number l more d.rest in
       subst (λ m. Done origin m ls more labels' place') (sym n_is) (record {
         rest = drop_next ls number l more d.rest;
         clean = ap (lowest (first origin) []) next ∙ clean_from (first origin) [] (take number ls) l d.clean (sym as_first ∙ e);
         labels_are =
-            labels_is ∙ ap (λ t. t ++ labelled (label_of l) place) d.labels_are
-            ∙ ap (λ p. labels_from origin (take number ls) ++ labelled (label_of l) p) d.place_is
-            ∙ sym (ap (labels_from origin) next ∙ labels_push origin (take number ls) l);
+            subst (SamePlaces labels')
+            (ap (λ p. labels_from origin (take number ls) ++ labelled (label_of l) p) d.place_is ∙ sym (ap (labels_from origin) next ∙ labels_push origin (take number ls) l))
+            (same_behind (label_of l) place labels' labels (labels_from origin (take number ls)) (new_label (labels_from origin (take number ls)) (place_after origin (take number ls)) l (sym as_first ∙ e)) labels_is d.labels_are);
         place_is = place_is ∙ ap (λ p. p + 4 * size_of l) d.place_is ∙ sym (ap (place_after origin) next ∙ place_push origin (take number ls) l);
       })
 
@@ -97,12 +97,28 @@ module _ (origin number : ℕ) (ls : List (List ℕ)) (l : List ℕ) (more : Lis
       ∙ fault_from (first origin) [] (take number ls) l more kind d.clean (sym as_first ∙ e)
       ∙ ap (λ n. Some (fault_at n kind)) (omega (arith, length-take number ls))
 
+  -- a line with a label, for which there was no memory
+  pub done_short : first_fault labels place l ≡ None → is_some (label_of l) ≡ true → HidesNoFault origin ls (number + 1)
+  done_short e labelled =
+      let next = take_next ls number l more d.rest in
+      let lt = inside ls number l more d.rest in
+      record {
+        positive = omega arith;
+        inside = omega arith;
+        labelled = ap (λ n. is_some (label_of (get_or ls n []))) (let same : number + 1 - 1 ≡ number = omega arith in same) ∙ ap (λ x. is_some (label_of x)) (line_at ls number l more d.rest) ∙ labelled;
+        clean = ap (lowest (first origin) []) next ∙ clean_from (first origin) [] (take number ls) l d.clean (sym as_first ∙ e);
+      }
+
 pub done_all : (origin number : ℕ) (ls : List (List ℕ)) (labels : Labels) (place : ℕ) → Done origin number ls [] labels place → take number ls ≡ ls
 done_all origin number ls labels place d = sym (append-nil (take number ls)) ∙ ap (λ t. take number ls ++ t) (sym d.rest) ∙ take-append-drop number ls
 
 pub on_ok : {T E : Type 0} (r : Result T E) (P : Type 0) → is_err r ≡ false → OnOk r P → P
 on_ok (Ok x) P e h = h
 on_ok (Err x) P e h = absurd cc
+
+pub on_err : {T E : Type 0} (r : Result T E) (P : Type 0) → is_err r ≡ true → OnErr r P → P
+on_err (Ok x) P e h = absurd cc
+on_err (Err x) P e h = h
 
 pub fault_means : (origin : ℕ) (ls : List (List ℕ)) (fault : AsmFault) → lowest (first origin) [] ls ≡ Some fault → means_lines ls origin ≡ Err fault
 fault_means origin ls fault e = ap (λ o. unless o (in_turn (second origin (labels_from origin ls)) [] ls)) e

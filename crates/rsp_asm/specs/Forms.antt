@@ -2,10 +2,9 @@
 use Rattle.std.specs.Prelude.{◌≡◌, true}
 use Rattle.std.specs.List.{list_all}
 use Rattle.rsp_decode.specs.Table as table
-use Rattle.rsp_text.specs.Rows.{Entry, entry_of, row_entry}
+use Rattle.rsp_text.specs.Rows.{Entry, entry_of, row_entry, is_row_operand}
 use Rattle.rsp_text.specs.Statement as statement
 use Rattle.rsp_text.specs.Statement.{no_operation, numbers_form, row_form}
-use Rattle.rsp_operands.specs.Room.{fits_word}
 use Rattle.rsp_asm.specs.declared.form.Form.{Form}
 use Rattle.rsp_asm.specs.declared.form.Form.TheVariants.{NoOperation, Numbers, Row}
 
@@ -33,4 +32,4 @@ form_shape (row_form row) = row_shape (known row)
 abbrev pub FormFits : Form → Type 0
 FormFits NoOperation = Unit {0}
 FormFits Numbers = Unit {0}
-FormFits (Row row) = list_all fits_word (row_entry row).operands ≡ true
+FormFits (Row row) = list_all is_row_operand (row_entry row).operands ≡ true

@@ -4,9 +4,8 @@ ghost use Rattle.std.specs.Prelude.{◌≡◌, ◌==◌, length, option_map, IfS
 ghost use Rattle.std.specs.List.{list_all, before_first, after_first};
 ghost use Rattle.rsp_text.specs.Chars.{stops};
 ghost use Rattle.rsp_text.specs.declared.text.Stop.TheVariants.{Blank};
-ghost use Rattle.rsp_text.specs.Rows.{row_entry};
+ghost use Rattle.rsp_text.specs.Rows.{row_entry, is_row_operand};
 ghost use Rattle.rsp_text.specs.Statement.{form_named, operand_texts, row_named};
-ghost use Rattle.rsp_operands.specs.Room.{fits_word};
 ghost use Rattle.rsp_asm.specs.Forms.{form, form_shape, known, FormFits};
 
 use rsp_text::{Kind, Stop, TableRow, cut, find_row, is_same};
@@ -46,7 +45,7 @@ fn is_single(operands: &[u8]) -> bool
 
 fn row_of(name: &[u8]) -> Option<TableRow>
     ensures named { option_map row_entry result ≡ option_map known (row_named name.now) }
-    ensures fit { IfSome result (λ row. list_all fits_word (row_entry row).operands ≡ true) }
+    ensures fit { IfSome result (λ row. list_all is_row_operand (row_entry row).operands ≡ true) }
 {
     find_row(name)
 }

@@ -5,13 +5,12 @@
 
 mod check;
 mod form;
+pub mod laws;
 mod line;
 mod numbers;
 mod operands;
 mod push;
 mod source;
-#[cfg(test)]
-mod tests;
 mod words;
 
 pub use rsp_text::{AsmFault, AsmFaultKind};

@@ -1,15 +1,14 @@
 // A line of the source.
 
-ghost use Rattle.std.specs.Prelude.{◌≡◌, ◌+◌, ◌*◌, ◌≤◌, None, Some, Ok, Err, map, option_map, IfOk, IfErr, OnOk, drop, ◌++◌};
+ghost use Rattle.std.specs.Prelude.{◌≡◌, ◌+◌, ◌*◌, ◌≤◌, None, Some, Ok, Err, option_map, IfOk, IfErr, OnOk, drop, ◌++◌};
 ghost use Rattle.arrayvec.specs.ArrayVec.{array_vec_len};
 ghost use Rattle.rsp_text.specs.Source.{is_line, code_of, parts_of, is_twice, first_fault, label_of, size_of, line_words};
-ghost use Rattle.rsp_operands.specs.Labels.{label};
 ghost use Rattle.rsp_asm.specs.Parts.{parts};
 
 use crate::check::check_statement;
 use crate::push::push_statement;
 use crate::words::Words;
-use rsp_operands::{Label, find_label};
+use rsp_operands::Labels;
 use rsp_text::{AsmFaultKind, Stop, cut, is_label, is_plain, skip_blanks, trim};
 
 /// What the first pass finds in a line.
@@ -73,12 +72,12 @@ fn parts_of(line: &[u8]) -> Option<Parts<'_>>
     })
 }
 
-fn is_twice(labels: &[Label<'_>], name: Option<&[u8]>) -> bool
-    ensures { result ≡ is_twice (map label labels.now) (option_map (λ t. t.now) name.entry) }
+fn is_twice(labels: &Labels<'_>, name: Option<&[u8]>) -> bool
+    ensures { result ≡ is_twice labels.now (option_map (λ t. t.now) name.entry) }
 {
     match name {
         None => false,
-        Some(name) => find_label(labels, name).is_some(),
+        Some(name) => labels.find(name).is_some(),
     }
 }
 
@@ -90,14 +89,14 @@ fn is_twice(labels: &[Label<'_>], name: Option<&[u8]>) -> bool
 pub fn check_line<'a>(
     line: &'a [u8],
     place: u16,
-    labels: &[Label<'a>],
+    labels: &Labels<'_>,
 ) -> Result<Line<'a>, AsmFaultKind>
     requires { place ≤ 4096 }
-    ensures fault { IfOk result (λ l. first_fault (map label labels.now) place line.now ≡ None) }
+    ensures fault { IfOk result (λ l. first_fault labels.now place line.now ≡ None) }
     ensures label { IfOk result (λ l. option_map (λ t. t.now) l.label ≡ label_of line.now) }
     ensures size { IfOk result (λ l. l.size ≡ size_of line.now) }
     ensures room { IfOk result (λ l. place + 4 * l.size ≤ 4096) }
-    ensures err { IfErr result (λ kind. first_fault (map label labels.now) place line.now ≡ Some kind) }
+    ensures err { IfErr result (λ kind. first_fault labels.now place line.now ≡ Some kind) }
 {
     let Some(parts) = parts_of(line) else {
         return Err(AsmFaultKind::BadLine);
@@ -121,15 +120,15 @@ pub fn check_line<'a>(
 pub fn push_words(
     line: &[u8],
     place: u16,
-    labels: &[Label<'_>],
+    labels: &Labels<'_>,
     words: &mut Words,
 ) -> Result<(), AsmFaultKind>
     requires place { place ≤ 4096 }
     requires room { array_vec_len words.old + size_of line.now ≤ 1024 }
-    ensures ok { OnOk result (line_words (map label labels.now) place line.now ≡ Ok (drop (array_vec_len words.old) words.new.items)) }
+    ensures ok { OnOk result (line_words labels.now place line.now ≡ Ok (drop (array_vec_len words.old) words.new.items)) }
     ensures kept { OnOk result (words.new.items ≡ words.old.items ++ drop (array_vec_len words.old) words.new.items) }
     ensures len { OnOk result (array_vec_len words.new ≡ array_vec_len words.old + size_of line.now) }
-    ensures err { IfErr result (λ kind. line_words (map label labels.now) place line.now ≡ Err kind) }
+    ensures err { IfErr result (λ kind. line_words labels.now place line.now ≡ Err kind) }
 {
     let Some(parts) = parts_of(line) else {
         return Err(AsmFaultKind::BadLine);

@@ -1,15 +1,14 @@
 // The numbers of `.word`, one after another.
 
-ghost use Rattle.std.specs.Prelude.{◌≡◌, ◌+◌, ◌≤◌, length, map, option_map, Err, MatchResult};
+ghost use Rattle.std.specs.Prelude.{◌≡◌, ◌+◌, ◌≤◌, length, option_map, Err, MatchResult};
 ghost use Rattle.std.specs.List.{list_any};
 ghost use Rattle.arrayvec.specs.ArrayVec.{array_vec_len};
 ghost use Rattle.rsp_text.specs.Statement.{read_numbers, operand_texts};
-ghost use Rattle.rsp_operands.specs.Labels.{label};
 ghost use Rattle.rsp_asm.specs.Walks.{Puts, number_text_fails, number_words};
 
 use crate::operands::{next_operand, operands_in};
 use crate::words::Words;
-use rsp_operands::{Label, is_number, is_number_out_of_range, number_word};
+use rsp_operands::{Labels, is_number, is_number_out_of_range, number_word};
 use rsp_text::AsmFaultKind;
 
 /// How many numbers there are, where each of them can be read.
@@ -45,13 +44,9 @@ pub fn has_great_number(text: &[u8]) -> bool
 }
 
 /// Puts the numbers behind the words before them.
-pub fn push_numbers(
-    text: &[u8],
-    labels: &[Label<'_>],
-    words: &mut Words,
-) -> Result<(), AsmFaultKind>
+pub fn push_numbers(text: &[u8], labels: &Labels<'_>, words: &mut Words) -> Result<(), AsmFaultKind>
     requires { array_vec_len words.old + length (operand_texts text.now) ≤ 1024 }
-    ensures { Puts (number_words (map label labels.now) (operand_texts text.now)) (length (operand_texts text.now)) words.old.items words.new.items result }
+    ensures { Puts (number_words labels.now (operand_texts text.now)) (length (operand_texts text.now)) words.old.items words.new.items result }
 {
     let mut rest = operands_in(text);
     while let Some(left) = rest {

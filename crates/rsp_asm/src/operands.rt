@@ -3,14 +3,12 @@
 ghost use Rattle.std.specs.Prelude.{◌≡◌, ◌+◌, ◌≤◌, ◌∷◌, length, map, option_map, is_some, true};
 ghost use Rattle.std.specs.List.{slice_split, list_all};
 ghost use Rattle.rsp_text.specs.Chars.{stops, trim};
-ghost use Rattle.rsp_text.specs.Rows.{operand};
+ghost use Rattle.rsp_text.specs.Rows.{operand, is_row_operand};
 ghost use Rattle.rsp_text.specs.Statement.{read_all, operand_texts, texts_in};
 ghost use Rattle.rsp_text.specs.declared.text.Stop.TheVariants.{Comma};
-ghost use Rattle.rsp_operands.specs.Labels.{label};
-ghost use Rattle.rsp_operands.specs.Room.{fits_word};
 ghost use Rattle.rsp_asm.specs.Walks.{left_length, any_fails, put_all};
 
-use rsp_operands::{Label, is_operand, is_out_of_range, put_operand};
+use rsp_operands::{Labels, is_operand, is_out_of_range, put_operand};
 use rsp_text::{AsmFaultKind, Kind, Stop, cut, trim};
 
 /// The text of the operands, where there is any.
@@ -74,12 +72,12 @@ pub fn put_operands(
     kinds: &[Kind],
     text: &[u8],
     place: u16,
-    labels: &[Label<'_>],
+    labels: &Labels<'_>,
     word: u32,
 ) -> Result<u32, AsmFaultKind>
     requires place { place ≤ 4096 }
-    requires room { list_all fits_word (map operand kinds.now) ≡ true }
-    ensures { result ≡ put_all (map label labels.now) place word (map operand kinds.now) (operand_texts text.now) }
+    requires room { list_all is_row_operand (map operand kinds.now) ≡ true }
+    ensures { result ≡ put_all labels.now place word (map operand kinds.now) (operand_texts text.now) }
 {
     let mut word = word;
     let mut rest = operands_in(text);

@@ -1,20 +1,18 @@
 // What the second pass writes of a statement.
 
-ghost use Rattle.std.specs.Prelude.{◌≡◌, ◌+◌, ◌≤◌, map, true};
+ghost use Rattle.std.specs.Prelude.{◌≡◌, ◌+◌, ◌≤◌, true};
 ghost use Rattle.std.specs.List.{list_all};
 ghost use Rattle.arrayvec.specs.ArrayVec.{array_vec_len};
-ghost use Rattle.rsp_text.specs.Rows.{row_entry};
+ghost use Rattle.rsp_text.specs.Rows.{row_entry, is_row_operand};
 ghost use Rattle.rsp_text.specs.Source.{size_if, statement_words};
 ghost use Rattle.rsp_text.specs.Statement.{statement_of, operand_texts};
-ghost use Rattle.rsp_operands.specs.Labels.{label};
-ghost use Rattle.rsp_operands.specs.Room.{fits_word};
 ghost use Rattle.rsp_asm.specs.Walks.{Puts, nothing_size, nothing_words, listed_size, listed_words, row_size, row_word, row_words};
 
 use crate::form::{Form, form_of, split};
 use crate::numbers::{count_numbers, push_numbers};
 use crate::operands::{are_operands, put_operands};
 use crate::words::Words;
-use rsp_operands::Label;
+use rsp_operands::Labels;
 use rsp_text::{AsmFaultKind, TableRow};
 
 fn push_nothing(operands: &[u8], words: &mut Words) -> Result<(), AsmFaultKind>
@@ -28,9 +26,9 @@ fn push_nothing(operands: &[u8], words: &mut Words) -> Result<(), AsmFaultKind>
     Ok(())
 }
 
-fn push_listed(operands: &[u8], labels: &[Label<'_>], words: &mut Words) -> Result<(), AsmFaultKind>
+fn push_listed(operands: &[u8], labels: &Labels<'_>, words: &mut Words) -> Result<(), AsmFaultKind>
     requires { array_vec_len words.old + listed_size (operand_texts operands.now) ≤ 1024 }
-    ensures { Puts (listed_words (map label labels.now) (operand_texts operands.now)) (listed_size (operand_texts operands.now)) words.old.items words.new.items result }
+    ensures { Puts (listed_words labels.now (operand_texts operands.now)) (listed_size (operand_texts operands.now)) words.old.items words.new.items result }
 {
     if operands.is_empty() {
         return Err(AsmFaultKind::BadOperand);
@@ -45,11 +43,11 @@ fn row_word(
     row: TableRow,
     operands: &[u8],
     place: u16,
-    labels: &[Label<'_>],
+    labels: &Labels<'_>,
 ) -> Result<u32, AsmFaultKind>
     requires place { place ≤ 4096 }
-    requires fit { list_all fits_word (row_entry row).operands ≡ true }
-    ensures { result ≡ row_word (map label labels.now) place (row_entry row) (operand_texts operands.now) }
+    requires fit { list_all is_row_operand (row_entry row).operands ≡ true }
+    ensures { result ≡ row_word labels.now place (row_entry row) (operand_texts operands.now) }
 {
     if !are_operands(row.operands, operands) {
         return Err(AsmFaultKind::BadOperand);
@@ -61,13 +59,13 @@ fn push_row(
     row: TableRow,
     operands: &[u8],
     place: u16,
-    labels: &[Label<'_>],
+    labels: &Labels<'_>,
     words: &mut Words,
 ) -> Result<(), AsmFaultKind>
     requires place { place ≤ 4096 }
-    requires fit { list_all fits_word (row_entry row).operands ≡ true }
+    requires fit { list_all is_row_operand (row_entry row).operands ≡ true }
     requires room { array_vec_len words.old + row_size (row_entry row) (operand_texts operands.now) ≤ 1024 }
-    ensures { Puts (row_words (map label labels.now) place (row_entry row) (operand_texts operands.now)) (row_size (row_entry row) (operand_texts operands.now)) words.old.items words.new.items result }
+    ensures { Puts (row_words labels.now place (row_entry row) (operand_texts operands.now)) (row_size (row_entry row) (operand_texts operands.now)) words.old.items words.new.items result }
 {
     let word = row_word(row, operands, place, labels)?;
     words.push(word);
@@ -81,12 +79,12 @@ fn push_row(
 pub fn push_statement(
     text: &[u8],
     place: u16,
-    labels: &[Label<'_>],
+    labels: &Labels<'_>,
     words: &mut Words,
 ) -> Result<(), AsmFaultKind>
     requires place { place ≤ 4096 }
     requires room { array_vec_len words.old + size_if (statement_of text.now) ≤ 1024 }
-    ensures { Puts (statement_words (map label labels.now) place (statement_of text.now)) (size_if (statement_of text.now)) words.old.items words.new.items result }
+    ensures { Puts (statement_words labels.now place (statement_of text.now)) (size_if (statement_of text.now)) words.old.items words.new.items result }
 {
     if text.is_empty() {
         return Ok(());

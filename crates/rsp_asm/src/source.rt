@@ -1,15 +1,15 @@
 // The two passes over a source.
 
-ghost use Rattle.std.specs.Prelude.{◌≡◌, ◌+◌, ◌*◌, ◌<◌, ◌≤◌, [], ◌∷◌, None, Ok, Err, length, map, ◌++◌, MatchOption, IfOk, IfErr, OnOk, option_map};
+ghost use Rattle.std.specs.Prelude.{◌≡◌, ◌+◌, ◌*◌, ◌<◌, ◌≤◌, [], ◌∷◌, None, Ok, Err, length, ◌++◌, MatchOption, IfOk, IfErr, OnOk, OnErr, option_map, is_some, true};
 ghost use Rattle.arrayvec.specs.ArrayVec.{array_vec_len};
 ghost use Rattle.std.specs.Str.Lines.{lines, strip_carriage_return};
 ghost use Rattle.rsp_text.specs.Means.{lowest, first, second, in_turn, means, labelled, labels_from, place_after};
+ghost use Rattle.rsp_operands.specs.Labels.{SamePlaces};
 ghost use Rattle.rsp_asm.specs.Answer.{IsFault};
-ghost use Rattle.rsp_operands.specs.Labels.{label};
 
 use crate::line::{check_line, push_words};
 use crate::words::Words;
-use rsp_operands::Label;
+use rsp_operands::Labels;
 use rsp_text::{AsmFault, AsmFaultKind, Stop, cut};
 use std::alloc::{AllocError, Global};
 
@@ -35,28 +35,25 @@ fn next_line(text: &[u8]) -> Option<(&[u8], &[u8])>
     }
 }
 
-/// Puts a line's label into the table.
-fn note<'a>(
-    labels: &mut Vec<Label<'a>>,
-    name: Option<&'a [u8]>,
-    place: u16,
-) -> Result<(), AllocError>
-    ensures { OnOk result (map label labels.new.items ≡ map label labels.old.items ++ labelled (option_map (λ t. t.now) name.entry) place) }
+/// Adds a line's label, where it has one.
+fn note<'a>(labels: &mut Labels<'a>, name: Option<&'a [u8]>, place: u16) -> Result<(), AllocError>
+    ensures ok { OnOk result (SamePlaces labels.new (labelled (option_map (λ t. t.now) name.entry) place ++ labels.old)) }
+    ensures err { OnErr result (is_some (option_map (λ t. t.now) name.entry) ≡ true) }
 {
     if let Some(name) = name {
-        labels.push(Label { name, place })?;
+        labels.add(name, place)?;
     }
     Ok(())
 }
 
-fn first_pass<'a>(alloc: Global, origin: u16, text: &'a [u8]) -> Result<Vec<Label<'a>>, AsmFault>
+fn first_pass<'a>(alloc: Global, origin: u16, text: &'a [u8]) -> Result<Labels<'a>, AsmFault>
     requires { origin ≤ 4096 }
     ensures clean { IfOk result (λ v. lowest (first origin) [] (lines text.now) ≡ None) }
-    ensures labels { IfOk result (λ v. map label v.items ≡ labels_from origin (lines text.now)) }
+    ensures labels { IfOk result (λ v. SamePlaces v (labels_from origin (lines text.now))) }
     ensures room { IfOk result (λ v. place_after origin (lines text.now) ≤ 4096) }
     ensures err { IfErr result (IsFault origin text.now) }
 {
-    let mut labels = Vec::new(alloc);
+    let mut labels = Labels::new(alloc);
     let mut place = origin;
     let mut number = 0;
     let mut rest = text;
@@ -78,11 +75,11 @@ fn first_pass<'a>(alloc: Global, origin: u16, text: &'a [u8]) -> Result<Vec<Labe
     Ok(labels)
 }
 
-fn second_pass(origin: u16, text: &[u8], labels: &[Label<'_>]) -> Result<Words, AsmFault>
+fn second_pass(origin: u16, text: &[u8], labels: &Labels<'_>) -> Result<Words, AsmFault>
     requires { place_after origin (lines text.now) ≤ 4096 }
-    ensures ok { IfOk result (λ w. in_turn (second origin (map label labels.now)) [] (lines text.now) ≡ Ok w.items) }
+    ensures ok { IfOk result (λ w. in_turn (second origin labels.now) [] (lines text.now) ≡ Ok w.items) }
     ensures room { IfOk result (λ w. origin + 4 * array_vec_len w ≤ 4096) }
-    ensures err { IfErr result (λ f. in_turn (second origin (map label labels.now)) [] (lines text.now) ≡ Err f) }
+    ensures err { IfErr result (λ f. in_turn (second origin labels.now) [] (lines text.now) ≡ Err f) }
 {
     let mut words = Words::new();
     let mut number = 0;
@@ -103,13 +100,15 @@ fn second_pass(origin: u16, text: &[u8], labels: &[Label<'_>]) -> Result<Words, 
 /// Refused is the lowest line at which the first pass finds a fault: a line that is none, a label that an earlier line
 /// has, an unknown name, operands that can't be read, a number that is out of its range whatever the labels are, or a word
 /// past the end. Where no line has one, it is the lowest line at which the second pass finds a label missing or a value out
-/// of its range. The fault is OutOfMemory where there is no memory for a label, at its line.
+/// of its range. The fault is OutOfMemory where there is no memory for a label, at its line, and no line up to that one has a
+/// fault of the first pass.
 pub fn assemble(alloc: Global, origin: u16, text: &str) -> Result<Words, AsmFault>
     requires { origin ≤ 4096 }
     ensures ok { IfOk result (λ words. means text.now origin ≡ Ok words.items) }
     ensures room { IfOk result (λ words. origin + 4 * array_vec_len words ≤ 4096) }
     ensures err { IfErr result (IsFault origin text.now) }
 {
-    let labels = first_pass(alloc, origin, text.as_bytes())?;
-    second_pass(origin, text.as_bytes(), &labels)
+    let bytes = text.as_bytes();
+    let labels = first_pass(alloc, origin, bytes)?;
+    second_pass(origin, bytes, &labels)
 }

@@ -5,3 +5,5 @@ pub mod Words
 pub mod Session
 pub mod Run
 pub mod Alike
+pub mod Laws
+pub mod Refusals

@@ -1,9 +1,6 @@
 -- The texts that show parts of a state, a line each.
-use Rattle.std.specs.Prelude.{ℕ, ℤ, ◌+◌, ◌-◌, ◌*◌, ◌/◌, min, List, [], ◌∷◌, ◌++◌, codes, slice_index, if◌then◌else◌}
-use Rattle.rsp_memory.specs.Memory.{byte_at}
-use Rattle.rsp_memory.specs.Image.{image_byte}
-use Rattle.rsp_memory.specs.declared.bank.Bank.{Bank}
-use Rattle.rsp_memory.specs.declared.bank.Bank.TheVariants.{Dmem, Imem, Rdram}
+use Rattle.std.specs.Prelude.{ℕ, ℤ, ◌+◌, ◌*◌, ◌/◌, List, [], ◌∷◌, ◌++◌, take, drop, length, codes, slice_index, if◌then◌else◌}
+use Rattle.std.specs.List.{flat_map}
 use Rattle.rsp_scalar.specs.Registers.{register}
 use Rattle.rsp_loadstore.specs.File.{register as vector}
 use Rattle.rsp_loadstore.specs.Controls.{joined}
@@ -13,21 +10,22 @@ use Rattle.rsp_numbers.specs.Numbers.{number, high, middle, low}
 use Rattle.std.specs.Simd.Lanes.{mask_l}
 use Rattle.rsp_regs.specs.Sp.{Sp, peeked}
 use Rattle.rsp_machine.specs.State.{State}
+use Rattle.rsp_debug.specs.Looks.{ListedWord}
 use Rattle.rsp_reply.specs.Text.{hex_text, two_digits, short_decimal, each_text}
 
 -- a blank and a word
 unfoldable pub word_text : ℕ → List ℕ
 word_text n = 32 ∷ hex_text 8 n
 
--- `rNN` and the words of four registers
-unfoldable pub register_line : List ℕ → ℕ → List ℕ
-register_line r k = codes "r" ++ two_digits (4 * k) ++ each_text (λ j. word_text (register r (4 * k + j))) 4 ++ 10 ∷ []
+-- `rNN` and the words of four registers, of which `words` tells what each holds
+unfoldable pub register_line : (ℕ → ℕ) → ℕ → List ℕ
+register_line words k = codes "r" ++ two_digits (4 * k) ++ each_text (λ j. word_text (words (4 * k + j))) 4 ++ 10 ∷ []
 
 -- `pc PPP npc PPP`, and the 32 registers
 unfoldable pub registers_text : State → List ℕ
 registers_text s =
     codes "pc " ++ hex_text 3 s.pc ++ codes " npc " ++ hex_text 3 s.npc ++ 10 ∷ []
-    ++ each_text (register_line s.registers) 8
+    ++ each_text (register_line (register s.registers)) 8
 
 -- `cN WWWWWWWW`
 unfoldable pub sp_line : ℕ → ℕ → List ℕ
@@ -38,19 +36,21 @@ unfoldable pub sp_text : Sp → List ℕ
 sp_text sp =
     each_text (λ n. sp_line n (peeked n sp)) 16 ++ codes "interrupt " ++ (if sp.interrupt then 49 else 48) ∷ 10 ∷ []
 
--- the byte at an address of a bank
-abbrev pub bank_byte : Bank → State → ℕ → ℕ
-bank_byte Dmem s a = byte_at s.dmem a
-bank_byte Imem s a = byte_at s.imem a
-bank_byte Rdram s a = image_byte s.rdram a
+-- an address, and the bytes from there on
+unfoldable pub dump_line : ℕ → List ℕ → List ℕ
+dump_line a bytes = hex_text 6 a ++ codes ": " ++ flat_map (hex_text 2) bytes ++ 10 ∷ []
 
--- an address, and some bytes from there on
-unfoldable pub dump_line : Bank → State → ℕ → ℕ → List ℕ
-dump_line bank s a n = hex_text 6 a ++ codes ": " ++ each_text (λ i. hex_text 2 (bank_byte bank s (a + i))) n ++ 10 ∷ []
+-- bytes from an address on, at most 16 in a line
+unfoldable pub dump_text : ℕ → List ℕ → List ℕ
+dump_text a bytes = each_text (λ k. dump_line (a + 16 * k) (take 16 (drop (16 * k) bytes))) ((length bytes + 15) / 16)
 
--- n bytes of a bank from an address on, at most 16 in a line
-unfoldable pub dump_text : Bank → State → ℕ → ℕ → List ℕ
-dump_text bank s a n = each_text (λ k. dump_line bank s (a + 16 * k) (min 16 (n - 16 * k))) ((n + 15) / 16)
+-- a place in IMEM, its word, and the word's canonical text
+unfoldable pub listed_line : ListedWord → List ℕ
+listed_line w = hex_text 3 w.place ++ word_text w.word ++ 32 ∷ w.text ++ 10 ∷ []
+
+-- words of IMEM, a line each
+unfoldable pub listing_text : List ListedWord → List ℕ
+listing_text words = flat_map listed_line words
 
 -- a blank and sixteen bits
 unfoldable pub half_text : ℕ → List ℕ

@@ -2,21 +2,31 @@
 use Rattle.std.specs.Prelude.{ℕ, List}
 use Rattle.std.specs.Str.Lines.{lines}
 use Rattle.rsp_lines.specs.Replies.{final, out_of as written_of}
-use Rattle.rsp_bench.specs.Session.{Scene, line_outcome, closing, first_scene}
+use Rattle.rsp_bench.specs.Session.{SessionState, line_outcome, closing, first_session}
 use Rattle.rsp_bench.specs.declared.run.BenchEnd.{BenchEnd}
 use Rattle.rsp_bench.specs.declared.run.BenchEnd.TheVariants.{Finished, ReadFault, WriteFault, ScriptTooLong, OutOfMemory}
 
 -- all that is written for a script: the replies to its lines, each in the session that the lines before it left, and
 -- what is left to say at its end
 abbrev pub out_of : List ℕ → List ℕ → List ℕ
-out_of script image = written_of line_outcome closing script (first_scene image)
+out_of script image = written_of line_outcome closing script (first_session image)
 
 -- the session that the lines of a script leave
-abbrev pub session_of : List ℕ → List ℕ → Scene
-session_of script image = final line_outcome (lines script) (first_scene image)
+abbrev pub session_of : List ℕ → List ℕ → SessionState
+session_of script image = final line_outcome (lines script) (first_session image)
+
+-- the reads that failed in a run: the one that ended it, where one did
+abbrev pub failed_reads : BenchEnd → ℕ
+failed_reads ReadFault = 1
+failed_reads _ = 0
+
+-- the writes that failed in a run, or took nothing of a piece that isn't empty: the one that ended it, where one did
+abbrev pub failed_writes : BenchEnd → ℕ
+failed_writes WriteFault = 1
+failed_writes _ = 0
 
 -- p of the session, where the run finished
-abbrev pub IfFinished : BenchEnd → (Scene → Type 0) → Type 0
+abbrev pub IfFinished : BenchEnd → (SessionState → Type 0) → Type 0
 IfFinished (Finished s) p = p s
 IfFinished ReadFault p = Unit {0}
 IfFinished WriteFault p = Unit {0}

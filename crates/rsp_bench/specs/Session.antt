@@ -1,7 +1,9 @@
 -- What commands and lines come to.
-use Rattle.std.specs.Prelude.{ℕ, ◌≡◌, ◌+◌, List, [], Bool, Option, Some, None, is_some, Result, Ok, Err, if◌then◌else◌, length}
+use Rattle.std.specs.Prelude.{ℕ, ◌≡◌, ◌+◌, ◌*◌, not, nat_le, nat_lt, List, [], Bool, Option, Some, None, is_some, IfSome, Result, Ok, Err, if◌then◌else◌, length}
 use Rattle.rsp_script.specs.declared.command.Command.{Command}
-use Rattle.rsp_script.specs.declared.command.Command.TheVariants.{Nothing, Load, Step, Regs, Mem, Read, Write, SetPc, Task, Sp, Vregs, Acc, Flags, Asm, BlockLine, End}
+use Rattle.rsp_script.specs.declared.command.Command.TheVariants.{Nothing, Load, Step, Run, Break, Unbreak, Watch, Unwatch, Back, Read, Write, SetPc, Task, Show, Asm, BlockLine, End}
+use Rattle.rsp_script.specs.declared.command.Look.{Look}
+use Rattle.rsp_script.specs.declared.command.Look.TheVariants.{Regs, Vregs, Acc, Flags, Sp, Mem, Dis}
 use Rattle.rsp_script.specs.declared.fault.LineFault.{LineFault}
 use Rattle.rsp_script.specs.declared.fault.LineFault.TheVariants.{BadCommand}
 use Rattle.rsp_lines.specs.Replies.{Outcome}
@@ -12,109 +14,190 @@ use Rattle.rsp_text.specs.declared.fault.AsmFault.{AsmFault}
 use Rattle.rsp_text.specs.declared.fault.AsmFaultKind.TheVariants.{BadLine}
 use Rattle.rsp_text.specs.Means.{fault_at}
 use Rattle.rsp_block.specs.Source.{Source, opened, with_line, meaning}
+use Rattle.rsp_block.specs.Fault.{hides_no_fault}
 use Rattle.rsp_regs.specs.Sp.{peeked}
 use Rattle.rsp_machine.specs.State.{State, start_of}
 use Rattle.rsp_machine.specs.Step.{step_of}
-use Rattle.rsp_machine.specs.Host.{is_inside, loaded, register_read, register_written, placed, task_fault, tasked}
+use Rattle.rsp_machine.specs.Host.{is_inside, loaded, register_written, placed, task_fault, tasked}
 use Rattle.rsp_machine.specs.declared.host.TaskFault.{TaskFault}
-use Rattle.rsp_bench.specs.Looks.{registers_text, sp_line, sp_text, dump_text, vectors_text, accumulators_text, flags_text}
-use Rattle.rsp_bench.specs.Replies.{ok_text, range_text, line_fault_text, task_fault_text, step_text, words_text, asm_fault_text}
+use Rattle.rsp_debug.specs.Debugging.{Debugging, debugging_of, stepped, stop_in, ran, broken_at, unbroken_at, watching, unwatching, gone_back, resumed, read_from}
+use Rattle.rsp_debug.specs.Stops.{is_break}
+use Rattle.rsp_debug.specs.Calls.{is_count}
+use Rattle.rsp_debug.specs.Looks.{memory_of, listing_of}
+use Rattle.rsp_debug.specs.Breaks.{break_fault}
+use Rattle.rsp_debug.specs.Watches.{number_for, has_watch}
+use Rattle.rsp_debug.specs.declared.breaks.BreakFault.{BreakFault}
+use Rattle.rsp_debug.specs.declared.watches.WatchFault.{WatchFault}
+use Rattle.rsp_debug.specs.declared.debugger.BackFault.{BackFault}
+use Rattle.rsp_debug.specs.declared.debugger.BackFault.TheVariants.{Count, ShortHistory}
+use Rattle.rsp_bench.specs.Looks.{registers_text, sp_line, sp_text, dump_text, listing_text, vectors_text, accumulators_text, flags_text}
+use Rattle.rsp_bench.specs.Replies.{ok_text, range_text, line_fault_text, task_fault_text, break_fault_text, no_break_text, watch_fault_text, no_watch_text, count_text, back_fault_text, step_text, stop_text, watch_text, words_text, asm_fault_text}
 use Rattle.rsp_bench.specs.Words.{words_bytes}
 
--- a session: the state of its machine, and the block of source text that is open
-pub record Scene : Type 0 where
-  pub state : State
+-- a session: what its debugger holds, and the block of source text that is open
+pub record SessionState : Type 0 where
+  pub debugging : Debugging
   pub block : Option Source
 
 -- a reply that leaves the session as it was
-abbrev pub same : List ℕ → Scene → Outcome Scene
+abbrev pub same : List ℕ → SessionState → Outcome SessionState
 same text s = record { reply = text; next = s }
 
--- a reply, and the state after the command
-abbrev pub changed : List ℕ → State → Scene → Outcome Scene
-changed text state s = record { reply = text; next = record s { state = state } }
+-- a reply, and what the debugger holds after the command
+abbrev pub changed : List ℕ → Debugging → SessionState → Outcome SessionState
+changed text d s = record { reply = text; next = record s { debugging = d } }
 
-abbrev pub task_outcome : Option TaskFault → ℕ → Scene → Outcome Scene
-task_outcome None a s = changed ok_text (tasked a s.state) s
+-- a reply, and the state after the command, which goes on from there: there is no way back
+abbrev pub moved : List ℕ → State → SessionState → Outcome SessionState
+moved text state s = changed text (resumed state s.debugging) s
+
+-- ---- the machine
+
+abbrev pub task_outcome : Option TaskFault → ℕ → SessionState → Outcome SessionState
+task_outcome None a s = moved ok_text (tasked a s.debugging.state) s
 task_outcome (Some fault) a s = same (task_fault_text fault) s
 
-unfoldable pub load_outcome : Bank → ℕ → List ℕ → Scene → Outcome Scene
+unfoldable pub load_outcome : Bank → ℕ → List ℕ → SessionState → Outcome SessionState
 load_outcome bank a bytes s =
-    if is_inside bank a (length bytes) s.state then changed ok_text (loaded bank a bytes s.state) s
+    if is_inside bank a (length bytes) s.debugging.state then moved ok_text (loaded bank a bytes s.debugging.state) s
     else same range_text s
 
-unfoldable pub step_outcome : Scene → Outcome Scene
+unfoldable pub step_outcome : SessionState → Outcome SessionState
 step_outcome s =
-    let after = step_of s.state in
-    changed (step_text after.0 after.1.pc) after.1 s
+    let after = stepped s.debugging in
+    changed (step_text (step_of s.debugging.state).0 after.state.pc) after s
+
+abbrev pub read_outcome : ℕ → SessionState → Outcome SessionState
+read_outcome n s = changed (sp_line n (peeked n s.debugging.state.sp)) (read_from n s.debugging) s
+
+-- ---- the debugger
+
+unfoldable pub run_outcome : ℕ → SessionState → Outcome SessionState
+run_outcome n s =
+    if is_count n then changed (stop_text (stop_in n s.debugging)) (ran n s.debugging) s
+    else same count_text s
+
+abbrev pub break_outcome : Option BreakFault → ℕ → SessionState → Outcome SessionState
+break_outcome None place s = changed ok_text (broken_at place s.debugging) s
+break_outcome (Some fault) place s = same (break_fault_text fault) s
+
+abbrev pub unbreak_outcome : ℕ → SessionState → Outcome SessionState
+unbreak_outcome place s =
+    if is_break s.debugging.breaks place then changed ok_text (unbroken_at place s.debugging) s
+    else same no_break_text s
+
+-- a watch of some bytes, with the number that it gets
+abbrev pub watch_outcome : Result ℕ WatchFault → ℕ → ℕ → SessionState → Outcome SessionState
+watch_outcome (Ok k) a n s = changed (watch_text k) (watching k a n s.debugging) s
+watch_outcome (Err fault) a n s = same (watch_fault_text fault) s
+
+abbrev pub unwatch_outcome : ℕ → SessionState → Outcome SessionState
+unwatch_outcome k s =
+    if has_watch k s.debugging.watches then changed ok_text (unwatching k s.debugging) s
+    else same no_watch_text s
+
+-- why n states of a past can't be gone back; the count comes first
+abbrev pub back_fault : ℕ → List State → Option BackFault
+back_fault n past =
+    if not (is_count n) then Some Count
+    else if nat_lt (length past) n then Some ShortHistory
+    else None
+
+abbrev pub back_outcome : Option BackFault → ℕ → SessionState → Outcome SessionState
+back_outcome None n s = changed ok_text (gone_back n s.debugging) s
+back_outcome (Some fault) n s = same (back_fault_text fault) s
+
+-- ---- looks
 
 abbrev pub memory_text : Bank → ℕ → ℕ → State → List ℕ
-memory_text bank a n state = if is_inside bank a n state then dump_text bank state a n else range_text
+memory_text bank a n state = if is_inside bank a n state then dump_text a (memory_of bank state a n) else range_text
 
-abbrev pub read_outcome : ℕ → Scene → Outcome Scene
-read_outcome n s = changed (sp_line n (peeked n s.state.sp)) (register_read n s.state) s
+abbrev pub dis_text : ℕ → ℕ → State → List ℕ
+dis_text place n state = if nat_le (place + 4 * n) 4096 then listing_text (listing_of state place n) else range_text
+
+-- what a look shows
+abbrev pub look_text : Look → State → List ℕ
+look_text Regs state = registers_text state
+look_text Vregs state = vectors_text state.vectors
+look_text Acc state = accumulators_text state.accumulators
+look_text Flags state = flags_text state.flags state.divider
+look_text Sp state = sp_text state.sp
+look_text (Mem bank a n) state = memory_text bank a n state
+look_text (Dis place n) state = dis_text place n state
+
+-- ---- commands
 
 -- no reply, and the block after the command
-abbrev pub with_block : Source → Scene → Outcome Scene
+abbrev pub with_block : Source → SessionState → Outcome SessionState
 with_block b s = record { reply = []; next = record s { block = Some b } }
 
 -- what a command comes to where no block is open
-abbrev pub plain_outcome : Command → Scene → Outcome Scene
+abbrev pub plain_outcome : Command → SessionState → Outcome SessionState
 plain_outcome Nothing s = same [] s
 plain_outcome (Load bank a bytes) s = load_outcome bank a bytes.items s
 plain_outcome Step s = step_outcome s
-plain_outcome Regs s = same (registers_text s.state) s
-plain_outcome (Mem bank a n) s = same (memory_text bank a n s.state) s
+plain_outcome (Run n) s = run_outcome n s
+plain_outcome (Break place) s = break_outcome (break_fault place s.debugging.breaks) place s
+plain_outcome (Unbreak place) s = unbreak_outcome place s
+plain_outcome (Watch a n) s = watch_outcome (number_for a n s.debugging.watches) a n s
+plain_outcome (Unwatch k) s = unwatch_outcome k s
+plain_outcome (Back n) s = back_outcome (back_fault n s.debugging.past) n s
 plain_outcome (Read n) s = read_outcome n s
-plain_outcome (Write n value) s = changed ok_text (register_written n value s.state) s
-plain_outcome (SetPc place) s = changed ok_text (placed place s.state) s
-plain_outcome (Task a) s = task_outcome (task_fault a s.state.rdram) a s
-plain_outcome Sp s = same (sp_text s.state.sp) s
-plain_outcome Vregs s = same (vectors_text s.state.vectors) s
-plain_outcome Acc s = same (accumulators_text s.state.accumulators) s
-plain_outcome Flags s = same (flags_text s.state.flags s.state.divider) s
+plain_outcome (Write n value) s = moved ok_text (register_written n value s.debugging.state) s
+plain_outcome (SetPc place) s = moved ok_text (placed place s.debugging.state) s
+plain_outcome (Task a) s = task_outcome (task_fault a s.debugging.state.rdram) a s
+plain_outcome (Show look) s = same (look_text look s.debugging.state) s
 plain_outcome (Asm place) s = with_block (opened place) s
 plain_outcome (BlockLine line) s = same (line_fault_text BadCommand) s
 plain_outcome End s = same (line_fault_text BadCommand) s
 
 -- the end of a block: its words go to IMEM, or nothing changes there
-abbrev pub end_outcome : Source → Result (List ℕ) AsmFault → Scene → Outcome Scene
+abbrev pub end_outcome : Source → Result (List ℕ) AsmFault → SessionState → Outcome SessionState
 end_outcome b (Ok words) s = record {
   reply = words_text (length words);
-  next = record { state = loaded Imem b.place (words_bytes words) s.state; block = None };
+  next = record { debugging = resumed (loaded Imem b.place (words_bytes words) s.debugging.state) s.debugging; block = None };
 }
 end_outcome b (Err fault) s = record { reply = asm_fault_text fault; next = record s { block = None } }
 
 -- what a command comes to while a block is open
-abbrev pub block_outcome : Source → Command → Scene → Outcome Scene
+abbrev pub block_outcome : Source → Command → SessionState → Outcome SessionState
 block_outcome b (BlockLine line) s = with_block (with_line line b) s
 block_outcome b End s = end_outcome b (meaning b) s
 block_outcome b _ s = same (line_fault_text BadCommand) s
 
-abbrev pub outcome_in : Option Source → Command → Scene → Outcome Scene
+abbrev pub outcome_in : Option Source → Command → SessionState → Outcome SessionState
 outcome_in None command s = plain_outcome command s
 outcome_in (Some b) command s = block_outcome b command s
 
 -- what a command comes to
-unfoldable pub outcome_of : Command → Scene → Outcome Scene
+unfoldable pub outcome_of : Command → SessionState → Outcome SessionState
 outcome_of command s = outcome_in s.block command s
 
 -- a command that needs no memory: only a line of an open block and its end may need some
-abbrev pub NeedsNoMemory : Command → Scene → Type 0
+abbrev pub NeedsNoMemory : Command → SessionState → Type 0
 NeedsNoMemory (BlockLine line) s = s.block ≡ None
 NeedsNoMemory End s = s.block ≡ None
 NeedsNoMemory _ s = Unit {0}
 
+-- want of memory for the words of a block, at a line where it hides no fault of the text
+abbrev pub HidesNoFault : Source → Type 0
+HidesNoFault b = (line : ℕ) × hides_no_fault b line
+
+-- such want of memory, where a command ends a block
+abbrev pub EndHidesNoFault : Command → SessionState → Type 0
+EndHidesNoFault End s = IfSome s.block HidesNoFault
+EndHidesNoFault _ s = Unit {0}
+
 -- whether a block is open
-abbrev pub in_block : Scene → Bool
+abbrev pub in_block : SessionState → Bool
 in_block s = is_some s.block
 
-abbrev pub parsed_outcome : Result Command LineFault → Scene → Outcome Scene
+abbrev pub parsed_outcome : Result Command LineFault → SessionState → Outcome SessionState
 parsed_outcome (Ok command) s = outcome_of command s
 parsed_outcome (Err fault) s = same (line_fault_text fault) s
 
 -- what a line comes to
-unfoldable pub line_outcome : List ℕ → Scene → Outcome Scene
+unfoldable pub line_outcome : List ℕ → SessionState → Outcome SessionState
 line_outcome line s = parsed_outcome (command_of line (in_block s)) s
 
 -- a block that is still open has no line that ends it
@@ -123,9 +206,10 @@ closing_of None = []
 closing_of (Some b) = asm_fault_text (fault_at (length b.lines + 1) BadLine)
 
 -- what is left to say at the end of a script
-abbrev pub closing : Scene → List ℕ
+abbrev pub closing : SessionState → List ℕ
 closing s = closing_of s.block
 
--- the session at the start
-abbrev pub first_scene : List ℕ → Scene
-first_scene image = record { state = start_of image; block = None }
+-- the session at the start: a machine with this image and all else as at its start, no breakpoint, no watch and no past,
+-- of which 256 states are kept, and no open block
+abbrev pub first_session : List ℕ → SessionState
+first_session image = record { debugging = debugging_of 256 (start_of image); block = None }

@@ -1,6 +1,8 @@
 //! The bench: scripts and their replies.
 #![tactic(auto)]
 
+mod commands;
+pub mod laws;
 mod looks;
 mod replies;
 mod run;
@@ -10,9 +12,6 @@ mod words;
 
 pub use rsp_ends::{EndFault, FromRead, MemSink, MemSource, Sink, Source, ToWrite};
 pub use rsp_reply::Reply;
-pub use rsp_script::{Command, LineFault, SourceLine, parse_line};
+pub use rsp_script::{Command, LineFault, Look, SourceLine, parse_line};
 pub use run::{BenchEnd, run_bench};
 pub use session::Session;
-
-#[cfg(test)]
-mod tests;

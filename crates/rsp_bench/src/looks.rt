@@ -1,12 +1,11 @@
-ghost use Rattle.std.specs.Prelude.{◌≡◌, ℕ, ◌+◌, ◌-◌, ◌*◌, ◌/◌, ◌^◌, ◌<◌, ◌≤◌, ◌++◌, length, min};
-ghost use Rattle.rsp_scalar.specs.Registers.{register};
+ghost use Rattle.std.specs.Prelude.{◌≡◌, ℕ, ◌+◌, ◌-◌, ◌*◌, ◌/◌, ◌^◌, ◌<◌, ◌≤◌, ◌++◌, take, drop, length, slice_index};
+ghost use Rattle.std.specs.List.{flat_map};
 ghost use Rattle.rsp_regs.specs.Sp.{peeked};
 ghost use Rattle.rsp_reply.specs.Text.{each_text, hex_text};
-ghost use Rattle.rsp_bench.specs.Looks.{word_text, register_line, registers_text, sp_line, sp_text, bank_byte, dump_line, dump_text};
+ghost use Rattle.rsp_bench.specs.Looks.{word_text, register_line, registers_text, sp_line, sp_text, dump_line, dump_text, listed_line, listing_text};
 
 use rsp_acc::Acc;
-use rsp_machine::Machine;
-use rsp_memory::Bank;
+use rsp_debug::{Debugger, Listed};
 use rsp_regs::SpRegs;
 use rsp_reply::{REPLY_LIMIT, Reply};
 
@@ -22,53 +21,54 @@ fn push_word(reply: &mut Reply, word: u32)
 
 /// Four registers from `first` on.
 #[tactic(auto, using(rsp_reply::proofs::Texts::parts))]
-fn push_four<A: Acc>(reply: &mut Reply, machine: &Machine<A>, first: u8)
+fn push_four(reply: &mut Reply, words: &[u32; 32], first: u8)
     requires registers { first + 4 ≤ 32 }
     requires room { length reply.old + 36 ≤ REPLY_LIMIT }
-    ensures text { reply.new ≡ reply.old ++ each_text (λ j. word_text (register machine.now.registers (first + j))) 4 }
+    ensures text { reply.new ≡ reply.old ++ each_text (λ j. word_text (slice_index words.now (first + j))) 4 }
     ensures len { length reply.new ≡ length reply.old + 36 }
 {
     for j in 0..4 {
-        push_word(reply, machine.reg(first + j));
+        push_word(reply, words[usize::from(first + j)]);
     }
 }
 
 #[tactic(auto, using(rsp_reply::proofs::Texts::parts), unfolding(crate::specs::Looks::register_line))]
-fn push_register_line<A: Acc>(reply: &mut Reply, machine: &Machine<A>, k: u8)
+fn push_register_line(reply: &mut Reply, words: &[u32; 32], k: u8)
     requires registers { k < 8 }
     requires room { length reply.old + 40 ≤ REPLY_LIMIT }
-    ensures text { reply.new ≡ reply.old ++ register_line machine.now.registers k }
+    ensures text { reply.new ≡ reply.old ++ register_line (λ n. slice_index words.now n) k }
     ensures len { length reply.new ≡ length reply.old + 40 }
 {
     reply.push_text(b"r");
     reply.push_two_digits(4 * k);
-    push_four(reply, machine, 4 * k);
+    push_four(reply, words, 4 * k);
     reply.push_text(b"\n");
+}
+
+#[tactic(auto, using(rsp_reply::proofs::Texts::parts))]
+fn push_register_lines(reply: &mut Reply, words: &[u32; 32])
+    requires { length reply.old + 320 ≤ REPLY_LIMIT }
+    ensures { reply.new ≡ reply.old ++ each_text (register_line (λ n. slice_index words.now n)) 8 }
+{
+    for k in 0..8 {
+        push_register_line(reply, words, k);
+    }
 }
 
 /// The places and the scalar registers.
 #[tactic(auto, using(rsp_reply::proofs::Texts::parts), unfolding(crate::specs::Looks::registers_text))]
-pub(crate) fn registers<A: Acc>(machine: &Machine<A>) -> Reply
-    ensures { result ≡ registers_text machine.now }
+pub(crate) fn registers<A: Acc>(debugger: &Debugger<A>) -> Reply
+    ensures { result ≡ registers_text debugger.now.state }
 {
+    let places = debugger.regs();
     let mut reply = Reply::new();
     reply.push_text(b"pc ");
-    reply.push_hex(u64::from(machine.pc()), 3);
+    reply.push_hex(u64::from(places.pc), 3);
     reply.push_text(b" npc ");
-    reply.push_hex(u64::from(machine.npc()), 3);
+    reply.push_hex(u64::from(places.npc), 3);
     reply.push_text(b"\n");
-    push_register_lines(&mut reply, machine);
+    push_register_lines(&mut reply, &places.words);
     reply
-}
-
-#[tactic(auto, using(rsp_reply::proofs::Texts::parts))]
-fn push_register_lines<A: Acc>(reply: &mut Reply, machine: &Machine<A>)
-    requires { length reply.old + 320 ≤ REPLY_LIMIT }
-    ensures { reply.new ≡ reply.old ++ each_text (register_line machine.now.registers) 8 }
-{
-    for k in 0..8 {
-        push_register_line(reply, machine, k);
-    }
 }
 
 /// One SP register: its number below 16, and its value.
@@ -108,63 +108,96 @@ pub(crate) fn sp_registers(sp: &SpRegs) -> Reply
     reply
 }
 
-fn bank_byte<A: Acc>(machine: &Machine<A>, bank: Bank, a: u32) -> u8
-    ensures { result ≡ bank_byte bank machine.now a }
-{
-    match bank {
-        Bank::Dmem => machine.dmem().byte(a),
-        Bank::Imem => machine.imem().byte(a),
-        Bank::Rdram => machine.rdram().byte(a),
-    }
-}
-
 #[tactic(auto, using(rsp_reply::proofs::Texts::parts))]
-fn push_bytes<A: Acc>(reply: &mut Reply, machine: &Machine<A>, bank: Bank, a: u32, n: u32)
-    requires place { a + n ≤ 2 ^ 32 }
-    requires room { length reply.old + 2 * n ≤ REPLY_LIMIT }
-    ensures text { reply.new ≡ reply.old ++ each_text (λ i. hex_text 2 (bank_byte bank machine.now (a + i))) n }
-    ensures len { length reply.new ≡ length reply.old + 2 * n }
+fn push_bytes(reply: &mut Reply, bytes: &[u8])
+    requires { length reply.old + 2 * length bytes.now ≤ REPLY_LIMIT }
+    ensures text { reply.new ≡ reply.old ++ flat_map (hex_text 2) bytes.now }
+    ensures len { length reply.new ≡ length reply.old + 2 * length bytes.now }
 {
-    for i in 0..n {
-        reply.push_hex(u64::from(bank_byte(machine, bank, a + i)), 2);
+    for byte in bytes {
+        reply.push_hex(u64::from(*byte), 2);
     }
 }
 
 #[tactic(auto, using(rsp_reply::proofs::Texts::parts), unfolding(crate::specs::Looks::dump_line))]
-fn push_dump_line<A: Acc>(reply: &mut Reply, machine: &Machine<A>, bank: Bank, a: u32, n: u32)
-    requires place { a + n ≤ 2 ^ 32 }
-    requires few { n ≤ 16 }
+fn push_dump_line(reply: &mut Reply, a: u32, bytes: &[u8])
+    requires few { length bytes.now ≤ 16 }
     requires room { length reply.old + 41 ≤ REPLY_LIMIT }
-    ensures text { reply.new ≡ reply.old ++ dump_line bank machine.now a n }
+    ensures text { reply.new ≡ reply.old ++ dump_line a bytes.now }
     ensures len { length reply.new ≤ length reply.old + 41 }
 {
     reply.push_hex(u64::from(a), 6);
     reply.push_text(b": ");
-    push_bytes(reply, machine, bank, a, n);
+    push_bytes(reply, bytes);
     reply.push_text(b"\n");
 }
 
-#[tactic(auto, using(rsp_reply::proofs::Texts::parts))]
-fn push_dump_lines<A: Acc>(reply: &mut Reply, machine: &Machine<A>, bank: Bank, a: u32, n: u32)
-    requires place { a + n < 2 ^ 31 }
-    requires few { n ≤ 256 }
-    requires room { length reply.old + 656 ≤ REPLY_LIMIT }
-    ensures { reply.new ≡ reply.old ++ each_text (λ k. dump_line bank machine.now (a + 16 * k) (min 16 (n - 16 * k))) ((n + 15) / 16) }
+/// At most 16 bytes in front.
+fn first_line(bytes: &[u8]) -> &[u8]
+    ensures value { result.now ≡ take 16 bytes.now }
+    ensures few { length result.now ≤ 16 }
 {
-    for k in 0..(n + 15) / 16 {
-        let count = 16.min(n - 16 * k);
-        push_dump_line(reply, machine, bank, a + 16 * k, count);
+    &bytes[..bytes.len().min(16)]
+}
+
+/// Line `k` of the bytes that stand at an address.
+fn push_dump_row(reply: &mut Reply, a: u32, bytes: &[u8], k: usize)
+    requires inside { 16 * k ≤ length bytes.now }
+    requires place { a + length bytes.now < 2 ^ 31 }
+    requires room { length reply.old + 41 ≤ REPLY_LIMIT }
+    ensures text { reply.new ≡ reply.old ++ dump_line (a + 16 * k) (take 16 (drop (16 * k) bytes.now)) }
+    ensures len { length reply.new ≤ length reply.old + 41 }
+{
+    let start = 16 * k;
+    push_dump_line(reply, a + start as u32, first_line(&bytes[start..]));
+}
+
+#[tactic(auto, using(rsp_reply::proofs::Texts::parts))]
+fn push_dump_lines(reply: &mut Reply, a: u32, bytes: &[u8])
+    requires place { a + length bytes.now < 2 ^ 31 }
+    requires few { length bytes.now ≤ 256 }
+    requires room { length reply.old + 656 ≤ REPLY_LIMIT }
+    ensures { reply.new ≡ reply.old ++ each_text (λ k. dump_line (a + 16 * k) (take 16 (drop (16 * k) bytes.now))) ((length bytes.now + 15) / 16) }
+{
+    for k in 0..(bytes.len() + 15) / 16 {
+        push_dump_row(reply, a, bytes, k);
     }
 }
 
-/// `n` bytes of a bank from an address on, at most 256 of them, 16 in a line.
+/// At most 256 bytes that stand at an address, 16 in a line.
 #[tactic(auto, using(rsp_reply::proofs::Texts::parts), unfolding(crate::specs::Looks::dump_text))]
-pub(crate) fn dump<A: Acc>(machine: &Machine<A>, bank: Bank, a: u32, n: u32) -> Reply
-    requires place { a + n < 2 ^ 31 }
-    requires few { n ≤ 256 }
-    ensures { result ≡ dump_text bank machine.now a n }
+pub(crate) fn dump(a: u32, bytes: &[u8]) -> Reply
+    requires place { a + length bytes.now < 2 ^ 31 }
+    requires few { length bytes.now ≤ 256 }
+    ensures { result ≡ dump_text a bytes.now }
 {
     let mut reply = Reply::new();
-    push_dump_lines(&mut reply, machine, bank, a, n);
+    push_dump_lines(&mut reply, a, bytes);
+    reply
+}
+
+#[tactic(auto, using(rsp_reply::proofs::Texts::parts), unfolding(crate::specs::Looks::listed_line))]
+fn push_listed_line(reply: &mut Reply, listed: &Listed)
+    requires { length reply.old + 78 ≤ REPLY_LIMIT }
+    ensures text { reply.new ≡ reply.old ++ listed_line listed.now }
+    ensures len { length reply.new ≤ length reply.old + 78 }
+{
+    reply.push_hex(u64::from(listed.place), 3);
+    push_word(reply, listed.word);
+    reply.push_text(b" ");
+    reply.push_text(listed.text.as_str().as_bytes());
+    reply.push_text(b"\n");
+}
+
+/// At most 64 words of IMEM, a line each.
+#[tactic(auto, using(rsp_reply::proofs::Texts::parts), unfolding(crate::specs::Looks::listing_text))]
+pub(crate) fn listing(words: &[Listed]) -> Reply
+    requires { length words.now ≤ 64 }
+    ensures { result ≡ listing_text words.now }
+{
+    let mut reply = Reply::new();
+    for listed in words {
+        push_listed_line(&mut reply, listed);
+    }
     reply
 }

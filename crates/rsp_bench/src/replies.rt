@@ -1,8 +1,9 @@
 ghost use Rattle.std.specs.Prelude.{◌≡◌, ◌+◌, ◌≤◌, ◌++◌, length, decimal};
-ghost use Rattle.rsp_bench.specs.Replies.{ok_text, range_text, line_fault_text, task_fault_text, step_text, words_text, kind_text, asm_fault_text};
+ghost use Rattle.rsp_bench.specs.Replies.{ok_text, range_text, line_fault_text, task_fault_text, break_fault_text, no_break_text, watch_fault_text, no_watch_text, back_fault_text, count_text, step_text, reason_text, stop_text, watch_text, words_text, kind_text, asm_fault_text};
 
 use itoa::Buffer;
 use rsp_block::{AsmFault, AsmFaultKind};
+use rsp_debug::{BackFault, BreakFault, Reason, Stop, WatchFault};
 use rsp_machine::{StepEnd, TaskFault};
 use rsp_reply::{REPLY_LIMIT, Reply};
 use rsp_script::LineFault;
@@ -49,6 +50,51 @@ pub(crate) fn task_fault_reply(fault: TaskFault) -> Reply
     }
 }
 
+pub(crate) fn break_fault_reply(fault: BreakFault) -> Reply
+    ensures { result ≡ break_fault_text fault }
+{
+    match fault {
+        BreakFault::BreakFull => reply_of(b"fault 20 BreakFull\n"),
+        BreakFault::BreakTwice => reply_of(b"fault 21 BreakTwice\n"),
+    }
+}
+
+pub(crate) fn no_break_reply() -> Reply
+    ensures { result ≡ no_break_text }
+{
+    reply_of(b"fault 22 NoBreak\n")
+}
+
+pub(crate) fn watch_fault_reply(fault: WatchFault) -> Reply
+    ensures { result ≡ watch_fault_text fault }
+{
+    match fault {
+        WatchFault::WatchFull => reply_of(b"fault 23 WatchFull\n"),
+        WatchFault::WatchRange => reply_of(b"fault 25 WatchRange\n"),
+    }
+}
+
+pub(crate) fn no_watch_reply() -> Reply
+    ensures { result ≡ no_watch_text }
+{
+    reply_of(b"fault 24 NoWatch\n")
+}
+
+pub(crate) fn count_reply() -> Reply
+    ensures { result ≡ count_text }
+{
+    reply_of(b"fault 26 Count\n")
+}
+
+pub(crate) fn back_fault_reply(fault: BackFault) -> Reply
+    ensures { result ≡ back_fault_text fault }
+{
+    match fault {
+        BackFault::Count => count_reply(),
+        BackFault::ShortHistory => reply_of(b"fault 27 ShortHistory\n"),
+    }
+}
+
 pub(crate) fn step_reply(end: StepEnd, pc: u16) -> Reply
     ensures { result ≡ step_text end pc }
 {
@@ -76,6 +122,52 @@ fn push_number(reply: &mut Reply, n: usize)
 {
     let mut buffer = Buffer::new();
     reply.push_text(buffer.format(n).as_bytes());
+}
+
+#[tactic(auto, using(rsp_reply::proofs::Texts::parts))]
+fn push_reason(reply: &mut Reply, reason: Reason)
+    requires { length reply.old + 46 ≤ REPLY_LIMIT }
+    ensures text { reply.new ≡ reply.old ++ reason_text reason }
+    ensures len { length reply.new ≤ length reply.old + 46 }
+{
+    match reason {
+        Reason::Reserved => reply.push_text(b"Reserved"),
+        Reason::Halted => reply.push_text(b"Halted"),
+        Reason::Watched(k) => {
+            reply.push_text(b"Watch ");
+            push_number(reply, k);
+        }
+        Reason::Break => reply.push_text(b"Break"),
+        Reason::Limit => reply.push_text(b"Limit"),
+    }
+}
+
+/// Why a run stopped, how many steps it made, and pc after it.
+#[tactic(auto, using(rsp_reply::proofs::Texts::parts))]
+pub(crate) fn stop_reply(stop: Stop) -> Reply
+    ensures { result ≡ stop_text stop }
+{
+    let mut reply = Reply::new();
+    reply.push_text(b"stop ");
+    push_reason(&mut reply, stop.reason);
+    reply.push_text(b" steps ");
+    push_number(&mut reply, stop.steps as usize);
+    reply.push_text(b" pc ");
+    reply.push_hex(u64::from(stop.pc), 3);
+    reply.push_text(b"\n");
+    reply
+}
+
+/// The number of a new watch.
+#[tactic(auto, using(rsp_reply::proofs::Texts::parts))]
+pub(crate) fn watch_reply(number: usize) -> Reply
+    ensures { result ≡ watch_text number }
+{
+    let mut reply = Reply::new();
+    reply.push_text(b"ok watch ");
+    push_number(&mut reply, number);
+    reply.push_text(b"\n");
+    reply
 }
 
 /// How many words a block gave.

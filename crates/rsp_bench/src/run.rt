@@ -1,10 +1,10 @@
-ghost use Rattle.std.specs.Prelude.{◌≡◌, ℕ, ◌<◌, ◌+◌, ◌-◌, ◌^◌, List, length, take, IfSome};
+ghost use Rattle.std.specs.Prelude.{◌≡◌, ℕ, ◌<◌, ◌≤◌, ◌+◌, ◌-◌, ◌^◌, List, length, take, IfSome};
 ghost use Rattle.std.specs.Io.KnownBytes.{append_known};
 ghost use Rattle.rsp_lines.specs.Left.{TakesAtMost, AnswersEnded, AnswersFront};
 ghost use Rattle.rsp_lines.specs.Lines.{ended_lines};
 ghost use Rattle.rsp_lines.specs.Replies.{replies};
-ghost use Rattle.rsp_bench.specs.Run.{out_of, session_of, IfFinished};
-ghost use Rattle.rsp_bench.specs.Session.{line_outcome, closing, first_scene};
+ghost use Rattle.rsp_bench.specs.Run.{out_of, session_of, failed_reads, failed_writes, IfFinished};
+ghost use Rattle.rsp_bench.specs.Session.{line_outcome, closing, first_session};
 
 use crate::session::Session;
 use rsp_ends::{Sink, Source};
@@ -32,6 +32,7 @@ pub enum BenchEnd {
 ///
 /// The headline: where the two ends tell their bytes, what a finished run wrote is what the definitions of the machine
 /// and of the commands give for the script and the image.
+#[tactic(auto, using(crate::proofs::Starts::starts))]
 pub fn run_bench<R: Source, W: Sink>(
     alloc: Global,
     image: Rdram,
@@ -41,28 +42,31 @@ pub fn run_bench<R: Source, W: Sink>(
     requires source { R.fault_count source.old < 2 ^ 64 - 1 }
     requires sink { W.fault_count sink.old < 2 ^ 64 - 1 }
 
-    // A finished run wrote the replies to the whole script, and left its session.
+    // A finished run wrote the replies to the whole script, which is within the limit, and left its session.
+    ensures fits { IfSome (R.rest source.old) (λ script. IfFinished result (λ _. length script ≤ SCRIPT_LIMIT)) }
     ensures finished { IfSome (R.rest source.old) (λ script. IfFinished result (λ session.
         (W.written sink.new ≡ append_known (W.written sink.old) (out_of script image))
         × (session ≡ session_of script image))) }
 
-    // Each other end has its cause.
-    ensures read { result ≡ BenchEnd.ReadFault → R.fault_count source.old < R.fault_count source.new }
-    ensures write { result ≡ BenchEnd.WriteFault → W.fault_count sink.old < W.fault_count sink.new }
+    // Each other end has its cause, and a read or a write that failed is not tried again: a finished run had none.
+    ensures reads { R.fault_count source.new ≡ R.fault_count source.old + failed_reads result }
+    ensures writes { W.fault_count sink.new ≡ W.fault_count sink.old + failed_writes result }
     ensures long { IfSome (R.rest source.old) (λ script. result ≡ BenchEnd.ScriptTooLong → SCRIPT_LIMIT < length script) }
     ensures few { TakesAtMost (SCRIPT_LIMIT + 1) (R.rest source.old) (R.rest source.new) }
 
     // What each other end leaves written.
     ensures left_read { result ≡ BenchEnd.ReadFault →
-        AnswersEnded line_outcome (first_scene image) (R.rest source.old) (R.rest source.new) (W.written sink.old) (W.written sink.new) }
+        AnswersEnded line_outcome (first_session image) (R.rest source.old) (R.rest source.new) (W.written sink.old) (W.written sink.new) }
     ensures left_long { IfSome (R.rest source.old) (λ script. result ≡ BenchEnd.ScriptTooLong →
-        W.written sink.new ≡ append_known (W.written sink.old) (replies line_outcome (ended_lines (take SCRIPT_LIMIT script)) (first_scene image))) }
+        W.written sink.new ≡ append_known (W.written sink.old) (replies line_outcome (ended_lines (take SCRIPT_LIMIT script)) (first_session image))) }
     ensures left_write { result ≡ BenchEnd.WriteFault →
-        AnswersFront line_outcome closing (first_scene image) (R.rest source.old) (R.rest source.new) (W.written sink.old) (W.written sink.new) }
+        AnswersFront line_outcome closing (first_session image) (R.rest source.old) (R.rest source.new) (W.written sink.old) (W.written sink.new) }
     ensures left_memory { result ≡ BenchEnd.OutOfMemory →
-        AnswersFront line_outcome closing (first_scene image) (R.rest source.old) (R.rest source.new) (W.written sink.old) (W.written sink.new) }
+        AnswersFront line_outcome closing (first_session image) (R.rest source.old) (R.rest source.new) (W.written sink.old) (W.written sink.new) }
 {
-    let mut session = Session::new(image);
+    let Ok(mut session) = Session::try_new(alloc, image) else {
+        return BenchEnd::OutOfMemory;
+    };
     match answer_script(alloc, &mut session, source, sink) {
         Ok(()) => BenchEnd::Finished(session),
         Err(RunFault::ReadFault) => BenchEnd::ReadFault,

@@ -4,11 +4,11 @@ ghost use Rattle.rsp_reply.specs.Text.{each_text};
 ghost use Rattle.rsp_bench.specs.Looks.{half_text, vector_line, vectors_text, accumulator_line, accumulators_text, flags_text};
 ghost use Rattle.rsp_loadstore.specs.Controls.{joined};
 
-use rsp_acc::{Acc, Part};
+use rsp_acc::Acc;
+use rsp_debug::Debugger;
 use rsp_divide::Divider;
 use rsp_flags::Flags;
 use rsp_lanes::{Mask8, VReg};
-use rsp_machine::Machine;
 use rsp_reply::{REPLY_LIMIT, Reply};
 
 #[tactic(auto, using(rsp_reply::proofs::Texts::parts), unfolding(crate::specs::Looks::half_text))]
@@ -46,23 +46,23 @@ fn push_vector_line(reply: &mut Reply, n: u8, register: &VReg)
 }
 
 #[tactic(auto, using(rsp_reply::proofs::Texts::parts))]
-fn push_vector_lines<A: Acc>(reply: &mut Reply, machine: &Machine<A>)
+fn push_vector_lines<A: Acc>(reply: &mut Reply, debugger: &Debugger<A>)
     requires { length reply.old + 1408 ≤ REPLY_LIMIT }
-    ensures { reply.new ≡ reply.old ++ each_text (λ n. vector_line n (vector machine.now.vectors n)) 32 }
+    ensures { reply.new ≡ reply.old ++ each_text (λ n. vector_line n (vector debugger.now.state.vectors n)) 32 }
 {
     for n in 0..32 {
-        let register = machine.vreg(n);
+        let register = debugger.vreg(n);
         push_vector_line(reply, n, &register);
     }
 }
 
 /// The 32 vector registers.
 #[tactic(auto, using(rsp_reply::proofs::Texts::parts), unfolding(crate::specs::Looks::vectors_text))]
-pub(crate) fn vector_registers<A: Acc>(machine: &Machine<A>) -> Reply
-    ensures { result ≡ vectors_text machine.now.vectors }
+pub(crate) fn vector_registers<A: Acc>(debugger: &Debugger<A>) -> Reply
+    ensures { result ≡ vectors_text debugger.now.state.vectors }
 {
     let mut reply = Reply::new();
-    push_vector_lines(&mut reply, machine);
+    push_vector_lines(&mut reply, debugger);
     reply
 }
 
@@ -97,15 +97,11 @@ fn push_accumulator_lines(reply: &mut Reply, high: &VReg, middle: &VReg, low: &V
 
 /// The eight accumulators.
 #[tactic(auto, using(rsp_reply::proofs::Texts::parts))]
-pub(crate) fn accumulators<A: Acc>(acc: &A) -> Reply
-    ensures { result ≡ accumulators_text (A.numbers acc.now) }
+pub(crate) fn accumulators<A: Acc>(debugger: &Debugger<A>) -> Reply
+    ensures { result ≡ accumulators_text debugger.now.state.accumulators }
 {
     let mut reply = Reply::new();
-    let (high, middle, low) = (
-        acc.part(Part::High),
-        acc.part(Part::Middle),
-        acc.part(Part::Low),
-    );
+    let (high, middle, low) = debugger.acc();
     push_accumulator_lines(&mut reply, &high, &middle, &low);
     reply
 }

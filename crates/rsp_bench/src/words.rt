@@ -1,11 +1,12 @@
 ghost use Rattle.std.specs.Prelude.{◌≡◌, ◌+◌, ◌*◌, ◌≤◌, length};
 ghost use Rattle.arrayvec.specs.ArrayVec.{array_vec_len};
 ghost use Rattle.rsp_machine.specs.Host.{loaded};
+ghost use Rattle.rsp_debug.specs.Debugging.{resumed};
 ghost use Rattle.rsp_bench.specs.Words.{words_bytes};
 
 use arrayvec::ArrayVec;
 use rsp_acc::Acc;
-use rsp_machine::Machine;
+use rsp_debug::Debugger;
 use rsp_memory::Bank;
 
 /// The bytes of at most 1024 words, the highest of each first.
@@ -21,11 +22,11 @@ fn word_bytes(words: &[u32]) -> ArrayVec<u8, 4096>
     bytes
 }
 
-/// Writes words to IMEM from a place on; they all stand there.
-pub(crate) fn load_words<A: Acc>(machine: &mut Machine<A>, place: u16, words: &[u32])
+/// Writes words to IMEM from a place on; they all stand there. That empties the past, also where there are none.
+pub(crate) fn load_words<A: Acc>(debugger: &mut Debugger<A>, place: u16, words: &[u32])
     requires { place + 4 * length words.now ≤ 4096 }
-    ensures { machine.new ≡ loaded Bank.Imem place (words_bytes words.now) machine.old }
+    ensures { debugger.new ≡ resumed (loaded Bank.Imem place (words_bytes words.now) debugger.old.state) debugger.old }
 {
     let bytes = word_bytes(words);
-    let _ = machine.load_bytes(Bank::Imem, u32::from(place), bytes.as_slice());
+    let _ = debugger.load_bytes(Bank::Imem, u32::from(place), bytes.as_slice());
 }

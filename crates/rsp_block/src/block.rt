@@ -36,8 +36,12 @@ impl Model for Block {
 pub enum BlockFault {
     /// Its text means a fault.
     Text(AsmFault),
-    /// There was no memory for its labels.
-    OutOfMemory,
+    /// There was no memory for a label. That hides no fault of the text: no line up to the label's has a fault of the first
+    /// pass.
+    OutOfMemory {
+        /// The number of the label's line, from 1.
+        line: usize,
+    },
 }
 
 /// Appends a line and LF. Where there is no memory for both, nothing is appended.
@@ -88,7 +92,8 @@ impl Block {
     }
 
     /// The words that the lines mean. The fault of the text is that of its lowest line that has one; it is
-    /// `BlockFault::OutOfMemory` only where there was no memory for the labels.
+    /// `BlockFault::OutOfMemory` only where there was no memory for a label, and no line up to that one has a fault of the first
+    /// pass.
     #[tactic(auto, unfolding(crate::specs::Source::meaning))]
     pub fn assemble(&self, alloc: Global) -> Result<Words, BlockFault>
         ensures ok { IfOk result (λ words. meaning self.now ≡ Ok words.items) }
@@ -97,13 +102,10 @@ impl Block {
     {
         match assemble(alloc, self.place, self.text.as_str()) {
             Ok(words) => Ok(words),
-            Err(
-                AsmFault {
-                    kind: AsmFaultKind::OutOfMemory,
-                    ..
-                },
-            ) => Err(BlockFault::OutOfMemory),
-            Err(fault) => Err(BlockFault::Text(fault)),
+            Err(fault) => match fault.kind {
+                AsmFaultKind::OutOfMemory => Err(BlockFault::OutOfMemory { line: fault.line }),
+                _ => Err(BlockFault::Text(fault)),
+            },
         }
     }
 }

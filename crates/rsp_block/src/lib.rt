@@ -2,8 +2,6 @@
 #![tactic(auto)]
 
 mod block;
-#[cfg(test)]
-mod tests;
 
 pub use block::{Block, BlockFault};
 pub use rsp_asm::{AsmFault, AsmFaultKind, Words};

@@ -15,6 +15,3 @@ pub use logic::{LogicOp, logic_op};
 pub use rsp_clip::{ClipOp, clip_op};
 pub use rsp_flags::Flags;
 pub use selects::{MergeOp, SelectOp, merge_op, select_op};
-
-#[cfg(test)]
-mod tests;

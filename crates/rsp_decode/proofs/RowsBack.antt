@@ -25,6 +25,10 @@ use Rattle.rsp_decode.specs.declared.inst.MoveRow.{MoveRow}
 use Rattle.rsp_decode.specs.declared.inst.MoveRow.TheVariants.{From}
 use Rattle.rsp_decode.specs.declared.inst.MultiplyRow.{MultiplyRow}
 use Rattle.rsp_decode.specs.declared.inst.MultiplyRow.TheVariants.{Vmulf}
+use Rattle.rsp_decode.specs.declared.inst.RoundRow.{RoundRow}
+use Rattle.rsp_decode.specs.declared.inst.RoundRow.TheVariants.{Vrndp}
+use Rattle.rsp_decode.specs.declared.inst.MpegRow.{MpegRow}
+use Rattle.rsp_decode.specs.declared.inst.MpegRow.TheVariants.{Vmulq}
 use Rattle.rsp_decode.specs.declared.inst.VectorAddRow.{VectorAddRow}
 use Rattle.rsp_decode.specs.declared.inst.VectorAddRow.TheVariants.{Vadd}
 use Rattle.rsp_decode.specs.declared.inst.VectorSelectRow.{VectorSelectRow}
@@ -42,8 +46,8 @@ use Rattle.rsp_decode.specs.declared.inst.VectorLoadRow.TheVariants.{Lbv}
 use Rattle.rsp_decode.specs.declared.inst.VectorStoreRow.{VectorStoreRow}
 use Rattle.rsp_decode.specs.declared.inst.VectorStoreRow.TheVariants.{Sbv}
 use Rattle.rsp_decode.specs.declared.inst.Control.TheVariants.{Vco, Vcc, Vce}
-use Rattle.rsp_decode.specs.declared.inst.Inst.TheVariants.{BranchEqual, BranchSign, Break, Idle, Immediate, Jump, JumpLinkRegister, JumpRegister, Lane, Load, LoadUpper, MoveControl, MoveSp, MoveVector, Register, Shift, ShiftBy, Store, Multiply, ReadAccumulator, VectorAdd, VectorSelect, VectorClip, VectorMerge, VectorLogic, VectorLoad, VectorStore}
-use Rattle.rsp_decode.specs.Table.{Row, rows, row_of, fits, fields, row_places, inst_of, canonical_of, word_from, word_of, parts, IsInstruction, FitPlaces, shift_row, shift_by_row, jump_register_row, jump_link_register_row, break_row, register_row, branch_sign_row, jump_row, branch_equal_row, immediate_row, load_upper_row, load_row, store_row, move_sp_row, move_vector_row, move_control_row, multiply_row, read_accumulator_row, vector_add_row, vector_select_row, vector_clip_row, vector_merge_row, vector_logic_row, lane_row, idle_row, vector_load_row, vector_store_row}
+use Rattle.rsp_decode.specs.declared.inst.Inst.TheVariants.{BranchEqual, BranchSign, Break, Idle, Immediate, Jump, JumpLinkRegister, JumpRegister, Lane, Load, LoadUpper, MoveControl, MoveSp, MoveVector, Register, Shift, ShiftBy, Store, Multiply, Round, MpegMultiply, ReadAccumulator, VectorAdd, VectorSelect, VectorClip, VectorMerge, VectorLogic, VectorLoad, VectorStore}
+use Rattle.rsp_decode.specs.Table.{Row, rows, row_of, fits, fields, row_places, inst_of, canonical_of, word_from, word_of, parts, IsInstruction, FitPlaces, shift_row, shift_by_row, jump_register_row, jump_link_register_row, break_row, register_row, branch_sign_row, jump_row, branch_equal_row, immediate_row, load_upper_row, load_row, store_row, move_sp_row, move_vector_row, move_control_row, multiply_row, round_row, mpeg_row, read_accumulator_row, vector_add_row, vector_select_row, vector_clip_row, vector_merge_row, vector_logic_row, lane_row, idle_row, vector_load_row, vector_store_row}
 use Rattle.rsp_decode.proofs.Keys.{may_have, narrowed}
 use Rattle.rsp_decode.proofs.Places.{apart_from, all_apart, under_others, fields_back, clear_from}
 
@@ -132,6 +136,12 @@ move_control_good r = elim r as (λ s. Good (move_control_row s)) [ From ↦ rec
 multiply_good : (r : MultiplyRow) → Good (multiply_row r)
 multiply_good r = elim r as (λ s. Good (multiply_row s)) [ Vmulf ↦ record { is_sound = refl; alone = refl } | _ ↦ record { is_sound = refl; alone = refl } ]
 
+round_good : (r : RoundRow) → Good (round_row r)
+round_good r = elim r as (λ s. Good (round_row s)) [ Vrndp ↦ record { is_sound = refl; alone = refl } | _ ↦ record { is_sound = refl; alone = refl } ]
+
+mpeg_good : (r : MpegRow) → Good (mpeg_row r)
+mpeg_good r = elim r as (λ s. Good (mpeg_row s)) [ Vmulq ↦ record { is_sound = refl; alone = refl } | _ ↦ record { is_sound = refl; alone = refl } ]
+
 read_accumulator_good : Good read_accumulator_row
 read_accumulator_good = record { is_sound = refl; alone = refl }
 
@@ -180,6 +190,8 @@ good_parts (MoveSp r rt register) = move_sp_good r
 good_parts (MoveVector r rt vector' element) = move_vector_good r
 good_parts (MoveControl r rt control) = move_control_good r
 good_parts (Multiply r vd vs vt element) = multiply_good r
+good_parts (Round r vd vs vt element) = round_good r
+good_parts (MpegMultiply r vd vs vt element) = mpeg_good r
 good_parts (ReadAccumulator vd vs vt element) = read_accumulator_good
 good_parts (VectorAdd r vd vs vt element) = vector_add_good r
 good_parts (VectorSelect r vd vs vt element) = vector_select_good r

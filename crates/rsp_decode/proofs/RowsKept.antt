@@ -16,6 +16,8 @@ use Rattle.rsp_decode.specs.declared.inst.StoreRow.TheVariants.{Sb, Sh, Sw}
 use Rattle.rsp_decode.specs.declared.inst.MoveRow.{MoveRow}
 use Rattle.rsp_decode.specs.declared.inst.MoveRow.TheVariants.{From, To}
 use Rattle.rsp_decode.specs.declared.inst.MultiplyRow.TheVariants.{Vmulf, Vmulu, Vmudl, Vmudm, Vmudn, Vmudh, Vmacf, Vmacu, Vmadl, Vmadm, Vmadn, Vmadh}
+use Rattle.rsp_decode.specs.declared.inst.RoundRow.TheVariants.{Vrndp, Vrndn}
+use Rattle.rsp_decode.specs.declared.inst.MpegRow.TheVariants.{Vmulq, Vmacq}
 use Rattle.rsp_decode.specs.declared.inst.VectorAddRow.TheVariants.{Vadd, Vsub, Vabs, Vaddc, Vsubc}
 use Rattle.rsp_decode.specs.declared.inst.VectorSelectRow.TheVariants.{Vlt, Veq, Vne, Vge}
 use Rattle.rsp_decode.specs.declared.inst.VectorClipRow.TheVariants.{Vcl, Vch, Vcr}
@@ -26,7 +28,7 @@ use Rattle.rsp_decode.specs.declared.inst.VectorLoadRow.{VectorLoadRow}
 use Rattle.rsp_decode.specs.declared.inst.VectorLoadRow.TheVariants.{Lbv, Lsv, Llv, Ldv, Lqv, Lrv, Lpv, Luv, Lhv, Lfv, Ltv}
 use Rattle.rsp_decode.specs.declared.inst.VectorStoreRow.{VectorStoreRow}
 use Rattle.rsp_decode.specs.declared.inst.VectorStoreRow.TheVariants.{Sbv, Ssv, Slv, Sdv, Sqv, Srv, Spv, Suv, Shv, Sfv, Swv, Stv}
-use Rattle.rsp_decode.specs.Table.{Row, rows, row_of, fits, fields, row_places, inst_of, canonical_of, meaning_of, word_from, word_of, parts, IsInstruction, FitPlaces, control_of, control_number, special_rows, regimm_rows, opcode_rows, cop0_rows, cop2_rows, computing_rows, load_rows, store_rows, shift_row, shift_by_row, jump_register_row, jump_link_register_row, break_row, register_row, branch_sign_row, jump_row, branch_equal_row, immediate_row, load_upper_row, load_row, store_row, move_sp_row, move_vector_row, move_control_row, multiply_row, read_accumulator_row, vector_add_row, vector_select_row, vector_clip_row, vector_merge_row, vector_logic_row, lane_row, idle_row, vector_load_row, vector_store_row}
+use Rattle.rsp_decode.specs.Table.{Row, rows, row_of, fits, fields, row_places, inst_of, canonical_of, meaning_of, word_from, word_of, parts, IsInstruction, FitPlaces, control_of, control_number, special_rows, regimm_rows, opcode_rows, cop0_rows, cop2_rows, computing_rows, load_rows, store_rows, shift_row, shift_by_row, jump_register_row, jump_link_register_row, break_row, register_row, branch_sign_row, jump_row, branch_equal_row, immediate_row, load_upper_row, load_row, store_row, move_sp_row, move_vector_row, move_control_row, multiply_row, round_row, mpeg_row, read_accumulator_row, vector_add_row, vector_select_row, vector_clip_row, vector_merge_row, vector_logic_row, lane_row, idle_row, vector_load_row, vector_store_row}
 use Rattle.rsp_decode.proofs.Places.{fit_read}
 
 -- a fact of each row of a list
@@ -118,6 +120,8 @@ cop2_kept_rows =
 computing_kept_rows : Each Kept computing_rows
 computing_kept_rows =
     group multiply_row (λ r w. refl) (Vmulf ∷ Vmulu ∷ Vmudl ∷ Vmudm ∷ Vmudn ∷ Vmudh ∷ Vmacf ∷ Vmacu ∷ Vmadl ∷ Vmadm ∷ Vmadn ∷ Vmadh ∷ [])
+    & group round_row (λ r w. refl) (Vrndp ∷ Vrndn ∷ [])
+    & group mpeg_row (λ r w. refl) (Vmulq ∷ Vmacq ∷ [])
     & alone read_accumulator_row (λ w. refl)
     & group vector_add_row (λ r w. refl) (Vadd ∷ Vsub ∷ Vabs ∷ Vaddc ∷ Vsubc ∷ [])
     & group vector_select_row (λ r w. refl) (Vlt ∷ Veq ∷ Vne ∷ Vge ∷ [])

@@ -14,8 +14,8 @@ use scalar::{
 };
 use vector::{
     READ_ACCUMULATOR, VECTOR_MERGE, idle_value, lane_value, move_control_value, move_vector_value,
-    multiply_value, vector_add_value, vector_clip_value, vector_load_value, vector_logic_value,
-    vector_select_value, vector_store_value,
+    mpeg_value, multiply_value, round_value, vector_add_value, vector_clip_value,
+    vector_load_value, vector_logic_value, vector_select_value, vector_store_value,
 };
 
 /// The canonical word of an instruction: the bits that select its row, its named fields at their
@@ -99,6 +99,20 @@ fn canonical_word(inst: &Inst) -> u32
             vt,
             element,
         } => multiply_value(row) | at(vd, 6) | at(vs, 11) | at(vt, 16) | at(element, 21),
+        Inst::Round {
+            row,
+            vd,
+            vs,
+            vt,
+            element,
+        } => round_value(row) | at(vd, 6) | at(vs, 11) | at(vt, 16) | at(element, 21),
+        Inst::MpegMultiply {
+            row,
+            vd,
+            vs,
+            vt,
+            element,
+        } => mpeg_value(row) | at(vd, 6) | at(vs, 11) | at(vt, 16) | at(element, 21),
         Inst::ReadAccumulator {
             vd,
             vs,

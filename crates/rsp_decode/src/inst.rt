@@ -12,7 +12,7 @@
 /// which the row's scale multiplies once the sign is taken.
 ///
 /// `IsInstruction` says these ranges: they are what some word decodes to.
-#[derive(Clone, Copy, PartialEq, Eq, Debug)]
+#[derive(Clone, Copy, PartialEq, Eq)]
 pub enum Inst {
     /// `sll $d, $t, amount`.
     Shift {
@@ -117,6 +117,22 @@ pub enum Inst {
         vt: u8,
         element: u8,
     },
+    /// `vrndp $vD, $vS, $vT[e]`: rounds the accumulator; what is added depends on whether `vs` is odd.
+    Round {
+        row: RoundRow,
+        vd: u8,
+        vs: u8,
+        vt: u8,
+        element: u8,
+    },
+    /// `vmulq $vD, $vS, $vT[e]`.
+    MpegMultiply {
+        row: MpegRow,
+        vd: u8,
+        vs: u8,
+        vt: u8,
+        element: u8,
+    },
     /// `vsar $vD, $vS, $vT[e]`: reads the part of the accumulator that `element` names.
     ReadAccumulator {
         vd: u8,
@@ -194,7 +210,7 @@ pub enum Inst {
 }
 
 /// Shifts by an amount that stands in the word.
-#[derive(Clone, Copy, PartialEq, Eq, Debug)]
+#[derive(Clone, Copy, PartialEq, Eq)]
 pub enum ShiftRow {
     /// `sll`: to the left.
     Sll,
@@ -205,7 +221,7 @@ pub enum ShiftRow {
 }
 
 /// Shifts by the low five bits of a register.
-#[derive(Clone, Copy, PartialEq, Eq, Debug)]
+#[derive(Clone, Copy, PartialEq, Eq)]
 pub enum ShiftByRow {
     /// `sllv`: to the left.
     Sllv,
@@ -216,7 +232,7 @@ pub enum ShiftByRow {
 }
 
 /// Results of two registers.
-#[derive(Clone, Copy, PartialEq, Eq, Debug)]
+#[derive(Clone, Copy, PartialEq, Eq)]
 pub enum RegisterRow {
     /// `add`: the sum modulo 2^32; there is no overflow trap, so it is `addu`.
     Add,
@@ -241,7 +257,7 @@ pub enum RegisterRow {
 }
 
 /// Branches on the sign of a register.
-#[derive(Clone, Copy, PartialEq, Eq, Debug)]
+#[derive(Clone, Copy, PartialEq, Eq)]
 pub enum SignRow {
     /// `bltz`: taken below 0.
     Bltz,
@@ -258,7 +274,7 @@ pub enum SignRow {
 }
 
 /// Branches on whether two registers are equal.
-#[derive(Clone, Copy, PartialEq, Eq, Debug)]
+#[derive(Clone, Copy, PartialEq, Eq)]
 pub enum EqualRow {
     /// `beq`: taken where they are equal.
     Beq,
@@ -267,7 +283,7 @@ pub enum EqualRow {
 }
 
 /// Jumps to a place that stands in the word.
-#[derive(Clone, Copy, PartialEq, Eq, Debug)]
+#[derive(Clone, Copy, PartialEq, Eq)]
 pub enum JumpRow {
     /// `j`: jumps.
     J,
@@ -276,7 +292,7 @@ pub enum JumpRow {
 }
 
 /// Results of a register and an immediate.
-#[derive(Clone, Copy, PartialEq, Eq, Debug)]
+#[derive(Clone, Copy, PartialEq, Eq)]
 pub enum ImmediateRow {
     /// `addi`: the sum with a signed immediate modulo 2^32; there is no overflow trap.
     Addi,
@@ -295,7 +311,7 @@ pub enum ImmediateRow {
 }
 
 /// Loads of a scalar register from DMEM.
-#[derive(Clone, Copy, PartialEq, Eq, Debug)]
+#[derive(Clone, Copy, PartialEq, Eq)]
 pub enum LoadRow {
     /// `lb`: a byte, its sign extended.
     Lb,
@@ -312,7 +328,7 @@ pub enum LoadRow {
 }
 
 /// Stores of a scalar register to DMEM.
-#[derive(Clone, Copy, PartialEq, Eq, Debug)]
+#[derive(Clone, Copy, PartialEq, Eq)]
 pub enum StoreRow {
     /// `sb`: the low byte.
     Sb,
@@ -323,7 +339,7 @@ pub enum StoreRow {
 }
 
 /// Which way a move between a scalar register and a coprocessor goes.
-#[derive(Clone, Copy, PartialEq, Eq, Debug)]
+#[derive(Clone, Copy, PartialEq, Eq)]
 pub enum MoveRow {
     /// `mfc0`, `mfc2`, `cfc2`: into the scalar register.
     From,
@@ -332,7 +348,7 @@ pub enum MoveRow {
 }
 
 /// The control registers of the vector unit.
-#[derive(Clone, Copy, PartialEq, Eq, Debug)]
+#[derive(Clone, Copy, PartialEq, Eq)]
 pub enum Control {
     /// `$vco`, number 0: carry and not-equal, 16 bits.
     Vco,
@@ -343,7 +359,7 @@ pub enum Control {
 }
 
 /// Multiplies of two vectors, lane by lane, into the accumulator.
-#[derive(Clone, Copy, PartialEq, Eq, Debug)]
+#[derive(Clone, Copy, PartialEq, Eq)]
 pub enum MultiplyRow {
     /// `vmulf`: signed fractions, rounded.
     Vmulf,
@@ -371,8 +387,26 @@ pub enum MultiplyRow {
     Vmadh,
 }
 
-/// Sums and differences of two vectors, lane by lane.
+/// Roundings of the accumulator by its sign.
 #[derive(Clone, Copy, PartialEq, Eq, Debug)]
+pub enum RoundRow {
+    /// `vrndp`: where it is 0 or more.
+    Vrndp,
+    /// `vrndn`: where it is negative.
+    Vrndn,
+}
+
+/// Multiplies for MPEG coefficients.
+#[derive(Clone, Copy, PartialEq, Eq, Debug)]
+pub enum MpegRow {
+    /// `vmulq`: a signed product, rounded toward 0.
+    Vmulq,
+    /// `vmacq`: a step of the accumulator toward an odd multiple of 32.
+    Vmacq,
+}
+
+/// Sums and differences of two vectors, lane by lane.
+#[derive(Clone, Copy, PartialEq, Eq)]
 pub enum VectorAddRow {
     /// `vadd`: the sum with carry, clamped.
     Vadd,
@@ -387,7 +421,7 @@ pub enum VectorAddRow {
 }
 
 /// Comparisons of two vectors that select a lane of one of them.
-#[derive(Clone, Copy, PartialEq, Eq, Debug)]
+#[derive(Clone, Copy, PartialEq, Eq)]
 pub enum VectorSelectRow {
     /// `vlt`: the first where it is less.
     Vlt,
@@ -400,7 +434,7 @@ pub enum VectorSelectRow {
 }
 
 /// Clips of a vector by another, lane by lane.
-#[derive(Clone, Copy, PartialEq, Eq, Debug)]
+#[derive(Clone, Copy, PartialEq, Eq)]
 pub enum VectorClipRow {
     /// `vcl`: the low half, by the flags that `vch` left.
     Vcl,
@@ -411,7 +445,7 @@ pub enum VectorClipRow {
 }
 
 /// Logic of two vectors, bit by bit.
-#[derive(Clone, Copy, PartialEq, Eq, Debug)]
+#[derive(Clone, Copy, PartialEq, Eq)]
 pub enum VectorLogicRow {
     /// `vand`: the bits set in both.
     Vand,
@@ -428,7 +462,7 @@ pub enum VectorLogicRow {
 }
 
 /// Rows that write one lane: the divider, and a move.
-#[derive(Clone, Copy, PartialEq, Eq, Debug)]
+#[derive(Clone, Copy, PartialEq, Eq)]
 pub enum LaneRow {
     /// `vrcp`: the reciprocal of a 16-bit number.
     Vrcp,
@@ -447,7 +481,7 @@ pub enum LaneRow {
 }
 
 /// Rows of the vector unit that change nothing.
-#[derive(Clone, Copy, PartialEq, Eq, Debug)]
+#[derive(Clone, Copy, PartialEq, Eq)]
 pub enum IdleRow {
     /// `vnop`.
     Vnop,
@@ -456,7 +490,7 @@ pub enum IdleRow {
 }
 
 /// Loads of a vector register from DMEM.
-#[derive(Clone, Copy, PartialEq, Eq, Debug)]
+#[derive(Clone, Copy, PartialEq, Eq)]
 pub enum VectorLoadRow {
     /// `lbv`: one byte.
     Lbv,
@@ -483,7 +517,7 @@ pub enum VectorLoadRow {
 }
 
 /// Stores of a vector register to DMEM.
-#[derive(Clone, Copy, PartialEq, Eq, Debug)]
+#[derive(Clone, Copy, PartialEq, Eq)]
 pub enum VectorStoreRow {
     /// `sbv`: one byte.
     Sbv,

@@ -3,9 +3,9 @@
 ghost use Rattle.std.specs.Prelude.{Some};
 
 use crate::inst::{
-    Control, EqualRow, IdleRow, ImmediateRow, Inst, JumpRow, LaneRow, LoadRow, MoveRow,
-    MultiplyRow, RegisterRow, ShiftByRow, ShiftRow, SignRow, StoreRow, VectorAddRow, VectorClipRow,
-    VectorLoadRow, VectorLogicRow, VectorSelectRow, VectorStoreRow,
+    Control, EqualRow, IdleRow, ImmediateRow, Inst, JumpRow, LaneRow, LoadRow, MoveRow, MpegRow,
+    MultiplyRow, RegisterRow, RoundRow, ShiftByRow, ShiftRow, SignRow, StoreRow, VectorAddRow,
+    VectorClipRow, VectorLoadRow, VectorLogicRow, VectorSelectRow, VectorStoreRow,
 };
 use crate::visitor::Visitor;
 
@@ -126,6 +126,28 @@ impl Visitor for Kept {
     #[inline(always)]
     fn multiply(&mut self, row: MultiplyRow, vd: u8, vs: u8, vt: u8, element: u8) {
         self.inst = Some(Inst::Multiply {
+            row,
+            vd,
+            vs,
+            vt,
+            element,
+        });
+    }
+
+    #[inline(always)]
+    fn round(&mut self, row: RoundRow, vd: u8, vs: u8, vt: u8, element: u8) {
+        self.inst = Some(Inst::Round {
+            row,
+            vd,
+            vs,
+            vt,
+            element,
+        });
+    }
+
+    #[inline(always)]
+    fn mpeg_multiply(&mut self, row: MpegRow, vd: u8, vs: u8, vt: u8, element: u8) {
+        self.inst = Some(Inst::MpegMultiply {
             row,
             vd,
             vs,

@@ -12,15 +12,13 @@ mod fields;
 mod inst;
 mod kept;
 pub mod laws;
-#[cfg(test)]
-mod tests;
 mod visitor;
 
 pub use decoding::{decode, is_canonical, visit};
 pub use encoding::encode;
 pub use inst::{
-    Control, EqualRow, IdleRow, ImmediateRow, Inst, JumpRow, LaneRow, LoadRow, MoveRow,
-    MultiplyRow, RegisterRow, ShiftByRow, ShiftRow, SignRow, StoreRow, VectorAddRow, VectorClipRow,
-    VectorLoadRow, VectorLogicRow, VectorSelectRow, VectorStoreRow,
+    Control, EqualRow, IdleRow, ImmediateRow, Inst, JumpRow, LaneRow, LoadRow, MoveRow, MpegRow,
+    MultiplyRow, RegisterRow, RoundRow, ShiftByRow, ShiftRow, SignRow, StoreRow, VectorAddRow,
+    VectorClipRow, VectorLoadRow, VectorLogicRow, VectorSelectRow, VectorStoreRow,
 };
 pub use visitor::Visitor;

@@ -5,9 +5,9 @@ ghost use Rattle.rsp_decode.specs.declared.inst.Inst.{Inst};
 ghost use Rattle.rsp_decode.specs.Table.{IsInstruction};
 
 use crate::inst::{
-    Control, EqualRow, IdleRow, ImmediateRow, JumpRow, LaneRow, LoadRow, MoveRow, MultiplyRow,
-    RegisterRow, ShiftByRow, ShiftRow, SignRow, StoreRow, VectorAddRow, VectorClipRow,
-    VectorLoadRow, VectorLogicRow, VectorSelectRow, VectorStoreRow,
+    Control, EqualRow, IdleRow, ImmediateRow, JumpRow, LaneRow, LoadRow, MoveRow, MpegRow,
+    MultiplyRow, RegisterRow, RoundRow, ShiftByRow, ShiftRow, SignRow, StoreRow, VectorAddRow,
+    VectorClipRow, VectorLoadRow, VectorLogicRow, VectorSelectRow, VectorStoreRow,
 };
 
 /// What takes the instruction of a word from [`crate::visit`]: one call for each variant of [`crate::Inst`], with its
@@ -100,6 +100,16 @@ pub trait Visitor {
     fn multiply(&mut self, row: MultiplyRow, vd: u8, vs: u8, vt: u8, element: u8)
         requires { IsInstruction (Inst.Multiply row vd vs vt element) }
         ensures { self.new ≡ after (Inst.Multiply row vd vs vt element) self.old };
+
+    /// `vrndp $vD, $vS, $vT[e]`, `vrndn`.
+    fn round(&mut self, row: RoundRow, vd: u8, vs: u8, vt: u8, element: u8)
+        requires { IsInstruction (Inst.Round row vd vs vt element) }
+        ensures { self.new ≡ after (Inst.Round row vd vs vt element) self.old };
+
+    /// `vmulq $vD, $vS, $vT[e]`, `vmacq`.
+    fn mpeg_multiply(&mut self, row: MpegRow, vd: u8, vs: u8, vt: u8, element: u8)
+        requires { IsInstruction (Inst.MpegMultiply row vd vs vt element) }
+        ensures { self.new ≡ after (Inst.MpegMultiply row vd vs vt element) self.old };
 
     /// `vsar $vD, $vS, $vT[e]`.
     fn read_accumulator(&mut self, vd: u8, vs: u8, vt: u8, element: u8)

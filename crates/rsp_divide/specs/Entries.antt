@@ -34,3 +34,7 @@ IsRootEntry i e = (b : ℕ) × IsRoot (radicand i) b × (e ≡ b / 2 % 65536)
 -- each radicand has a root by the inequality, and only one
 abbrev pub RootsExist : Type 0
 RootsExist = (i : ℕ) → i < 512 → (b : ℕ) × IsRoot (radicand i) b × ((c : ℕ) → IsRoot (radicand i) c → c ≡ b)
+
+-- entry i of the root table is the half, modulo 2^16, of the only number that the inequality holds for
+abbrev pub EntriesHalveRoots : Type 0
+EntriesHalveRoots = (i : ℕ) → i < 512 → (b : ℕ) × IsRoot (radicand i) b × ((c : ℕ) → IsRoot (radicand i) c → c ≡ b) × (root_entry i ≡ b / 2 % 65536)

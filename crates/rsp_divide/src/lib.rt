@@ -8,8 +8,6 @@ pub mod laws;
 mod quotients;
 mod rows;
 mod tables;
-#[cfg(test)]
-mod tests;
 
 pub use divider::Divider;
 pub use entries::{rcp_entry, rsq_entry};

@@ -6,8 +6,6 @@
 
 mod sink;
 mod source;
-#[cfg(test)]
-mod tests;
 
 pub use sink::{MemSink, Sink, ToWrite};
 pub use source::{EndFault, FromRead, MemSource, Source};

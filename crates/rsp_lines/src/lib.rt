@@ -11,8 +11,6 @@ mod answering;
 mod line;
 mod reply;
 mod run;
-#[cfg(test)]
-mod tests;
 
 pub use answering::{Answering, ReplyBytes};
 pub use run::{RunFault, SCRIPT_LIMIT, answer_script};

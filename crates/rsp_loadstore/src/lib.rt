@@ -10,8 +10,6 @@ mod file;
 mod loads;
 mod moves;
 mod stores;
-#[cfg(test)]
-mod tests;
 
 pub use addressing::address;
 pub use control::{control_from, control_to};

@@ -3,6 +3,14 @@ use Rattle.rsp_decode.specs.declared.inst.MultiplyRow.{MultiplyRow}
 use Rattle.rsp_decode.specs.declared.inst.MultiplyRow.TheVariants as multiply_rows
 use Rattle.rsp_multiply.specs.declared.ops.MultiplyOp.{MultiplyOp}
 use Rattle.rsp_multiply.specs.declared.ops.MultiplyOp.TheVariants as multiply_ops
+use Rattle.rsp_decode.specs.declared.inst.RoundRow.{RoundRow}
+use Rattle.rsp_decode.specs.declared.inst.RoundRow.TheVariants as round_rows
+use Rattle.rsp_multiply.specs.declared.ops.RoundOp.{RoundOp}
+use Rattle.rsp_multiply.specs.declared.ops.RoundOp.TheVariants as round_ops
+use Rattle.rsp_decode.specs.declared.inst.MpegRow.{MpegRow}
+use Rattle.rsp_decode.specs.declared.inst.MpegRow.TheVariants as mpeg_rows
+use Rattle.rsp_multiply.specs.declared.ops.MpegOp.{MpegOp}
+use Rattle.rsp_multiply.specs.declared.ops.MpegOp.TheVariants as mpeg_ops
 use Rattle.rsp_decode.specs.declared.inst.VectorAddRow.{VectorAddRow}
 use Rattle.rsp_decode.specs.declared.inst.VectorAddRow.TheVariants as add_rows
 use Rattle.rsp_compare.specs.declared.adds.AddOp.{AddOp}
@@ -38,6 +46,16 @@ multiply_op multiply_rows.Vmadl = multiply_ops.Vmadl
 multiply_op multiply_rows.Vmadm = multiply_ops.Vmadm
 multiply_op multiply_rows.Vmadn = multiply_ops.Vmadn
 multiply_op multiply_rows.Vmadh = multiply_ops.Vmadh
+
+-- roundings of the accumulators
+abbrev pub round_op : RoundRow → RoundOp
+round_op round_rows.Vrndp = round_ops.Vrndp
+round_op round_rows.Vrndn = round_ops.Vrndn
+
+-- multiplies for MPEG coefficients
+abbrev pub mpeg_op : MpegRow → MpegOp
+mpeg_op mpeg_rows.Vmulq = mpeg_ops.Vmulq
+mpeg_op mpeg_rows.Vmacq = mpeg_ops.Vmacq
 
 -- sums, differences and VABS
 abbrev pub add_op : VectorAddRow → AddOp

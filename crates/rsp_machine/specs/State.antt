@@ -1,7 +1,9 @@
 -- The state of the machine, as plain numbers and lists.
-use Rattle.std.specs.Prelude.{ℕ, ℤ, pos, List}
+use Rattle.std.specs.Prelude.{ℕ, ℤ, pos, List, length, ◌≡◌, ◌<◌, ◌%◌}
 use Rattle.rsp_lanes.specs.Lanes.{each_lane}
+use Rattle.rsp_numbers.specs.Numbers.{AreNumbers}
 use Rattle.rsp_memory.specs.Memory.{empty_memory}
+use Rattle.rsp_memory.specs.Image.{IsImageLength}
 use Rattle.rsp_flags.specs.declared.flags.Flags.{Flags}
 use Rattle.rsp_flags.specs.Flags.{no_flags}
 use Rattle.rsp_divide.specs.declared.divider.Divider.{Divider}
@@ -23,6 +25,21 @@ pub record State : Type 0 where
   pub imem : List ℕ  -- 4096 bytes
   pub rdram : List ℕ  -- as many bytes as the image has
   pub sp : Sp  -- the SP registers, with the interrupt flag
+
+-- where a word of IMEM stands that an instruction can be fetched from
+abbrev pub IsPlace : ℕ → Type 0
+IsPlace n = (n < 4096) × (n % 4 ≡ 0)
+
+-- The ranges of a state, in which that of every machine lies.
+pub record IsState (s : State) : Type 0 where
+  pub pc : IsPlace s.pc
+  pub npc : IsPlace s.npc
+  pub vectors : length s.vectors ≡ 32
+  pub accumulators : AreNumbers s.accumulators  -- eight, from -2^47 to 2^47 - 1
+  pub divider : (s.divider.input < 65536) × (s.divider.output < 65536)
+  pub dmem : length s.dmem ≡ 4096
+  pub imem : length s.imem ≡ 4096
+  pub rdram : IsImageLength (length s.rdram)  -- a multiple of 8 from 64 to 8,388,608
 
 -- The start: all 0, but for the image and npc, which is 4. SP registers 2 and 3 read FF8 hex, since the kept skip is 0.
 unfoldable pub start_of : List ℕ → State

@@ -1,7 +1,7 @@
 -- One step of the machine.
 use Rattle.std.specs.Prelude.{ℕ, Option, Some, None, if◌then◌else◌}
 use Rattle.rsp_decode.specs.declared.inst.Inst.{Inst}
-use Rattle.rsp_decode.specs.declared.inst.Inst.TheVariants.{Shift, ShiftBy, JumpRegister, JumpLinkRegister, Break, Register, BranchSign, BranchEqual, Jump, Immediate, LoadUpper, Load, Store, MoveSp, MoveVector, MoveControl, Multiply, ReadAccumulator, VectorAdd, VectorSelect, VectorClip, VectorMerge, VectorLogic, Lane, Idle, VectorLoad, VectorStore}
+use Rattle.rsp_decode.specs.declared.inst.Inst.TheVariants.{Shift, ShiftBy, JumpRegister, JumpLinkRegister, Break, Register, BranchSign, BranchEqual, Jump, Immediate, LoadUpper, Load, Store, MoveSp, MoveVector, MoveControl, Multiply, Round, MpegMultiply, ReadAccumulator, VectorAdd, VectorSelect, VectorClip, VectorMerge, VectorLogic, Lane, Idle, VectorLoad, VectorStore}
 use Rattle.rsp_decode.specs.declared.inst.MoveRow.{MoveRow}
 use Rattle.rsp_decode.specs.declared.inst.MoveRow.TheVariants.{From, To}
 use Rattle.rsp_decode.specs.Table.{inst_of}
@@ -17,7 +17,7 @@ use Rattle.rsp_compare.specs.declared.selects.MergeOp.TheVariants.{Vmrg}
 use Rattle.rsp_clip.specs.Clips.{clip_rule}
 use Rattle.rsp_machine.specs.State.{State, advanced}
 use Rattle.rsp_machine.specs.Ops.{add_op, select_op, clip_op, logic_op}
-use Rattle.rsp_machine.specs.Vector.{multiplies, reads_accumulator, ruled, divides, loads_vector, stores_vector, moves_vector, moves_control}
+use Rattle.rsp_machine.specs.Vector.{multiplies, rounds, multiplies_mpeg, reads_accumulator, ruled, divides, loads_vector, stores_vector, moves_vector, moves_control}
 use Rattle.rsp_machine.specs.Host.{register_read, register_written}
 use Rattle.rsp_machine.specs.declared.step.StepEnd.{StepEnd}
 use Rattle.rsp_machine.specs.declared.step.StepEnd.TheVariants.{Done, Halted, Reserved}
@@ -68,6 +68,8 @@ executed (MoveSp row rt n) s = moves_sp row rt n s
 executed (MoveVector row rt vector element) s = moves_vector row (MoveVector row rt vector element) rt s
 executed (MoveControl row rt control) s = moves_control row (MoveControl row rt control) rt s
 executed (Multiply row vd vs vt e) s = multiplies row vd vs vt e s
+executed (Round row vd vs vt e) s = rounds row vd vs vt e s
+executed (MpegMultiply row vd vs vt e) s = multiplies_mpeg row vd vs vt e s
 executed (ReadAccumulator vd vs vt e) s = reads_accumulator vd e s
 executed (VectorAdd row vd vs vt e) s = ruled (add_rule (add_op row)) vd vs vt e s
 executed (VectorSelect row vd vs vt e) s = ruled (select_rule (select_op row)) vd vs vt e s

@@ -1,13 +1,16 @@
 -- What the vector rows do. Sources are those of the state before; each row then goes on to the next place.
-use Rattle.std.specs.Prelude.{ℕ, List, slice_index}
+use Rattle.std.specs.Prelude.{ℕ, ◌%◌, ◌==◌, List, slice_index}
 use Rattle.rsp_decode.specs.declared.inst.Inst.{Inst}
 use Rattle.rsp_decode.specs.declared.inst.MoveRow.{MoveRow}
 use Rattle.rsp_decode.specs.declared.inst.MoveRow.TheVariants.{From, To}
 use Rattle.rsp_decode.specs.declared.inst.MultiplyRow.{MultiplyRow}
+use Rattle.rsp_decode.specs.declared.inst.RoundRow.{RoundRow}
+use Rattle.rsp_decode.specs.declared.inst.MpegRow.{MpegRow}
 use Rattle.rsp_decode.specs.declared.inst.LaneRow.{LaneRow}
 use Rattle.rsp_lanes.specs.Lanes.{each_lane, source_lane}
 use Rattle.rsp_flags.specs.Outcome.{Rule, results_of, flags_after, numbers_after}
 use Rattle.rsp_multiply.specs.Rows.{accumulators_after, clamped_by, sar_of}
+use Rattle.rsp_multiply.specs.Mpeg.{accumulators_rounded, clamped_signed, accumulators_mpeg, halved_mpeg}
 use Rattle.rsp_divide.specs.Rows.{lane_written, divider_after, numbers_after as numbers_after_lane}
 use Rattle.rsp_scalar.specs.Registers.{register, with_register}
 use Rattle.rsp_loadstore.specs.File.{register as vector, with_register as with_vector}
@@ -17,7 +20,7 @@ use Rattle.rsp_loadstore.specs.Stores.{stored_memory}
 use Rattle.rsp_loadstore.specs.Moves.{moved_file, moved_value}
 use Rattle.rsp_loadstore.specs.Controls.{controlled_flags, control_value}
 use Rattle.rsp_machine.specs.State.{State, advanced}
-use Rattle.rsp_machine.specs.Ops.{multiply_op, lane_op}
+use Rattle.rsp_machine.specs.Ops.{multiply_op, round_op, mpeg_op, lane_op}
 
 -- register vt with its lanes as the element e selects them
 abbrev pub selected : List (List ℕ) → ℕ → ℕ → List ℕ
@@ -28,6 +31,19 @@ unfoldable pub multiplies : MultiplyRow → ℕ → ℕ → ℕ → ℕ → Stat
 multiplies row vd vs vt e s =
     let after = accumulators_after (multiply_op row) (vector s.vectors vs) (selected s.vectors vt e) s.accumulators in
     advanced (record s { accumulators = after; vectors = with_vector s.vectors vd (clamped_by (multiply_op row) after) })
+
+-- a rounding of the accumulators by the selected vt, of which 65536 times as much counts where the number vs is odd: the
+-- accumulators after it, and in vd their signed clamp
+unfoldable pub rounds : RoundRow → ℕ → ℕ → ℕ → ℕ → State → State
+rounds row vd vs vt e s =
+    let after = accumulators_rounded (round_op row) (vs % 2 == 1) (selected s.vectors vt e) s.accumulators in
+    advanced (record s { accumulators = after; vectors = with_vector s.vectors vd (clamped_signed after) })
+
+-- an MPEG multiply of vs and the selected vt: the accumulators after it, and in vd their halves
+unfoldable pub multiplies_mpeg : MpegRow → ℕ → ℕ → ℕ → ℕ → State → State
+multiplies_mpeg row vd vs vt e s =
+    let after = accumulators_mpeg (mpeg_op row) (vector s.vectors vs) (selected s.vectors vt e) s.accumulators in
+    advanced (record s { accumulators = after; vectors = with_vector s.vectors vd (halved_mpeg after) })
 
 -- a read of the accumulators into vd, by the element e
 unfoldable pub reads_accumulator : ℕ → ℕ → State → State

@@ -1,6 +1,6 @@
 //! Laws about steps, which hold whatever the accumulators are kept in.
 
-ghost use Rattle.std.specs.Prelude.{◌≡◌, IsTrue};
+ghost use Rattle.std.specs.Prelude.{◌≡◌};
 ghost use Rattle.rsp_machine.specs.Step.{step_of};
 ghost use Rattle.rsp_machine.specs.Laws.{steps_of};
 
@@ -19,19 +19,16 @@ pub fn same_step<A: Acc, B: Acc>(a: &mut Machine<A>, b: &mut Machine<B>) -> (Ste
     (a.step(), b.step())
 }
 
-/// Planes equal whole numbers, for any number of steps: whether all answers were equal, which they
-/// are, and the states are equal afterwards.
+/// Planes equal whole numbers, for any number of steps: machines over any two kinds of accumulators
+/// whose states are equal come through equal states to equal states, and at each step on the way their
+/// answers are equal by [`same_step`].
 #[tactic(auto, unfolding(crate::specs::Laws::steps_of))]
-pub fn same_steps<A: Acc, B: Acc>(a: &mut Machine<A>, b: &mut Machine<B>, n: u64) -> bool
+pub fn same_steps<A: Acc, B: Acc>(a: &mut Machine<A>, b: &mut Machine<B>, n: u64)
     requires same { a.old ≡ b.old }
-    ensures answers { IsTrue result }
     ensures state { a.new ≡ steps_of n a.old }
     ensures states { a.new ≡ b.new }
 {
-    let mut same = true;
-    for done in 0..n {
-        let (first, second) = same_step(a, b);
-        same = same && first == second;
+    for _ in 0..n {
+        let _ = same_step(a, b);
     }
-    same
 }

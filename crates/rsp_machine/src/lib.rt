@@ -5,16 +5,18 @@
 //! the states before and after it.
 #![tactic(auto)]
 
+mod change;
 mod host;
 pub mod laws;
 mod machine;
 mod ops;
+mod record;
+mod recorder;
 mod step;
-#[cfg(test)]
-mod tests;
 mod vector;
 mod visits;
 
 pub use host::{RangeFault, TaskFault};
 pub use machine::Machine;
+pub use record::Record;
 pub use step::StepEnd;

@@ -1,9 +1,9 @@
-ghost use Rattle.std.specs.Prelude.{◌≡◌, ◌<◌};
-ghost use Rattle.rsp_machine.specs.State.{start_of};
+ghost use Rattle.std.specs.Prelude.{◌≡◌, ◌<◌, ◌%◌};
+ghost use Rattle.rsp_machine.specs.State.{IsState, start_of};
 ghost use Rattle.rsp_scalar.specs.Registers.{register};
 ghost use Rattle.rsp_loadstore.specs.File.{register as vector};
 
-use rsp_acc::Acc;
+use rsp_acc::{Acc, Part};
 use rsp_divide::Divider;
 use rsp_flags::Flags;
 use rsp_lanes::VReg;
@@ -32,7 +32,7 @@ pub struct Machine<A: Acc> {
 }
 
 impl<A: Acc> Model for Machine<A> {
-    ghost use Rattle.std.specs.Prelude.{◌<◌};
+    ghost use Rattle.std.specs.Prelude.{◌≡◌, ◌<◌, ◌%◌};
     ghost use Rattle.rsp_machine.specs.State.{State};
 
     ghost Value = { State };
@@ -51,7 +51,7 @@ impl<A: Acc> Model for Machine<A> {
       sp = m.sp;
     } };
 
-    ghost invariant = { λ m. (m.pc < 4096) × (m.npc < 4096) };
+    ghost invariant = { λ m. (m.pc < 4096) × (m.npc < 4096) × (m.pc % 4 ≡ 0) × (m.npc % 4 ≡ 0) };
 }
 
 impl<A: Acc> Machine<A> {
@@ -75,20 +75,36 @@ impl<A: Acc> Machine<A> {
         }
     }
 
-    /// The place in IMEM of the next instruction, below 4096.
+    /// Changes nothing. It says that the state lies in its ranges, which a caller's proof may need.
+    #[inline(always)]
+    pub fn ranges(&self)
+        ensures { IsState self.now }
+    {
+        let _ = self.vregs.reg(0);
+        let _ = self.acc.part(Part::Low);
+        let _input = self.divider.input;
+        let _output = self.divider.output;
+        let _ = self.dmem.run(0, 0);
+        let _ = self.imem.run(0, 0);
+        let _ = self.rdram.len();
+    }
+
+    /// The place in IMEM of the next instruction, a multiple of 4 below 4096.
     #[inline]
     pub fn pc(&self) -> u16
         ensures value { result ≡ self.now.pc }
         ensures place { result < 4096 }
+        ensures whole { result % 4 ≡ 0 }
     {
         self.pc
     }
 
-    /// The place in IMEM of the instruction after the next, below 4096.
+    /// The place in IMEM of the instruction after the next, a multiple of 4 below 4096.
     #[inline]
     pub fn npc(&self) -> u16
         ensures value { result ≡ self.now.npc }
         ensures place { result < 4096 }
+        ensures whole { result % 4 ≡ 0 }
     {
         self.npc
     }

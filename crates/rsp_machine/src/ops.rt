@@ -1,13 +1,14 @@
 ghost use Rattle.std.specs.Prelude.{◌≡◌};
-ghost use Rattle.rsp_machine.specs.Ops.{multiply_op, add_op, select_op, clip_op, logic_op, lane_op};
+ghost use Rattle.rsp_machine.specs.Ops.{multiply_op, round_op, mpeg_op, add_op, select_op, clip_op, logic_op, lane_op};
 
 use rsp_clip::ClipOp;
 use rsp_compare::{AddOp, LogicOp, SelectOp};
 use rsp_decode::{
-    LaneRow, MultiplyRow, VectorAddRow, VectorClipRow, VectorLogicRow, VectorSelectRow,
+    LaneRow, MpegRow, MultiplyRow, RoundRow, VectorAddRow, VectorClipRow, VectorLogicRow,
+    VectorSelectRow,
 };
 use rsp_divide::DivideOp;
-use rsp_multiply::MultiplyOp;
+use rsp_multiply::{MpegOp, MultiplyOp, RoundOp};
 
 /// The row as an operation of `rsp_multiply`, by its name; so for the functions below.
 #[inline(always)]
@@ -27,6 +28,26 @@ pub(crate) fn multiply_op(row: MultiplyRow) -> MultiplyOp
         MultiplyRow::Vmadm => MultiplyOp::Vmadm,
         MultiplyRow::Vmadn => MultiplyOp::Vmadn,
         MultiplyRow::Vmadh => MultiplyOp::Vmadh,
+    }
+}
+
+#[inline(always)]
+pub(crate) fn round_op(row: RoundRow) -> RoundOp
+    ensures { result ≡ round_op row }
+{
+    match row {
+        RoundRow::Vrndp => RoundOp::Vrndp,
+        RoundRow::Vrndn => RoundOp::Vrndn,
+    }
+}
+
+#[inline(always)]
+pub(crate) fn mpeg_op(row: MpegRow) -> MpegOp
+    ensures { result ≡ mpeg_op row }
+{
+    match row {
+        MpegRow::Vmulq => MpegOp::Vmulq,
+        MpegRow::Vmacq => MpegOp::Vmacq,
     }
 }
 

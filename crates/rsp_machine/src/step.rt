@@ -1,10 +1,11 @@
-ghost use Rattle.std.specs.Prelude.{◌≡◌, ◌<◌};
+ghost use Rattle.std.specs.Prelude.{◌≡◌, ◌<◌, ◌%◌};
 ghost use Rattle.rsp_decode.specs.Table.{IsInstruction};
 ghost use Rattle.rsp_machine.specs.Step.{computes, loads, stores, jumps, breaks, moves_sp, step_of};
 ghost use Rattle.rsp_machine.specs.State.{advanced};
 ghost use Rattle.rsp_scalar.specs.Flow.{going_on};
 
 use crate::machine::Machine;
+use crate::visits::Executor;
 use rsp_acc::Acc;
 use rsp_decode::{Inst, MoveRow, visit};
 use rsp_scalar::{alu, jump, load, store};
@@ -29,6 +30,7 @@ fn going_on(npc: u16) -> u16
     requires { npc < 4096 }
     ensures value { result ≡ going_on npc }
     ensures place { result < 4096 }
+    ensures whole { npc % 4 ≡ 0 → result % 4 ≡ 0 }
 {
     (npc + 4) % 4096
 }
@@ -131,7 +133,8 @@ impl<A: Acc> Machine<A> {
             return StepEnd::Halted;
         }
         let word = self.imem.word(u32::from(self.pc));
-        if !visit(word, self) {
+        let mut executor = Executor { machine: self };
+        if !visit(word, &mut executor) {
             return StepEnd::Reserved { word };
         }
         self.sp.on_step();

@@ -5,15 +5,15 @@ ghost use Rattle.rsp_compare.specs.Selects.{select_rule, merge_rule};
 ghost use Rattle.rsp_compare.specs.Logic.{logic_rule};
 ghost use Rattle.rsp_clip.specs.Clips.{clip_rule};
 ghost use Rattle.rsp_machine.specs.Ops.{add_op, select_op, clip_op, logic_op};
-ghost use Rattle.rsp_machine.specs.Vector.{selected, multiplies, reads_accumulator, ruled, divides, loads_vector, stores_vector, moves_vector, moves_control};
+ghost use Rattle.rsp_machine.specs.Vector.{selected, multiplies, rounds, multiplies_mpeg, reads_accumulator, ruled, divides, loads_vector, stores_vector, moves_vector, moves_control};
 
 use crate::machine::Machine;
-use crate::ops::{add_op, clip_op, lane_op, logic_op, multiply_op, select_op};
+use crate::ops::{add_op, clip_op, lane_op, logic_op, mpeg_op, multiply_op, round_op, select_op};
 use rsp_acc::Acc;
 use rsp_compare::{self, MergeOp};
 use rsp_decode::{
-    Inst, LaneRow, MoveRow, MultiplyRow, VectorAddRow, VectorClipRow, VectorLogicRow,
-    VectorSelectRow,
+    Inst, LaneRow, MoveRow, MpegRow, MultiplyRow, RoundRow, VectorAddRow, VectorClipRow,
+    VectorLogicRow, VectorSelectRow,
 };
 use rsp_divide::divide_op;
 use rsp_lanes::{VReg, select};
@@ -44,6 +44,38 @@ impl<A: Acc> Machine<A> {
         let a = self.vregs.reg(vs);
         let b = self.selected(vt, element);
         let result = rsp_multiply::multiply(multiply_op(row), &a, &b, &mut self.acc);
+        self.vregs.set_reg(vd, result);
+        self.advance();
+    }
+
+    /// Rounds the accumulators by their sign.
+    #[inline(always)]
+    #[tactic(auto, unfolding(crate::specs::Vector::rounds))]
+    pub(crate) fn round_lanes(&mut self, row: RoundRow, vd: u8, vs: u8, vt: u8, element: u8)
+        requires vd { vd < 32 }
+        requires vt { vt < 32 }
+        requires element { element < 16 }
+        ensures { self.new ≡ rounds row vd vs vt element self.old }
+    {
+        let b = self.selected(vt, element);
+        let result = rsp_multiply::round_op(round_op(row), vs % 2 == 1, &b, &mut self.acc);
+        self.vregs.set_reg(vd, result);
+        self.advance();
+    }
+
+    /// An MPEG multiply.
+    #[inline(always)]
+    #[tactic(auto, unfolding(crate::specs::Vector::multiplies_mpeg))]
+    pub(crate) fn multiply_mpeg(&mut self, row: MpegRow, vd: u8, vs: u8, vt: u8, element: u8)
+        requires vd { vd < 32 }
+        requires vs { vs < 32 }
+        requires vt { vt < 32 }
+        requires element { element < 16 }
+        ensures { self.new ≡ multiplies_mpeg row vd vs vt element self.old }
+    {
+        let a = self.vregs.reg(vs);
+        let b = self.selected(vt, element);
+        let result = rsp_multiply::mpeg_op(mpeg_op(row), &a, &b, &mut self.acc);
         self.vregs.set_reg(vd, result);
         self.advance();
     }

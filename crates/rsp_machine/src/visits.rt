@@ -1,22 +1,29 @@
-// The machine takes the instructions of the table, one call for each group of rows.
-
-ghost use Rattle.rsp_machine.specs.Step.{executed};
+// A machine takes the instructions of the table, one call for each group of rows.
 
 use crate::machine::Machine;
 use rsp_acc::Acc;
 use rsp_decode::{
-    Control, EqualRow, IdleRow, ImmediateRow, Inst, JumpRow, LaneRow, LoadRow, MoveRow,
-    MultiplyRow, RegisterRow, ShiftByRow, ShiftRow, SignRow, StoreRow, VectorAddRow, VectorClipRow,
-    VectorLoadRow, VectorLogicRow, VectorSelectRow, VectorStoreRow, Visitor,
+    Control, EqualRow, IdleRow, ImmediateRow, Inst, JumpRow, LaneRow, LoadRow, MoveRow, MpegRow,
+    MultiplyRow, RegisterRow, RoundRow, ShiftByRow, ShiftRow, SignRow, StoreRow, VectorAddRow,
+    VectorClipRow, VectorLoadRow, VectorLogicRow, VectorSelectRow, VectorStoreRow, Visitor,
 };
 
-impl<A: Acc> Visitor for Machine<A> {
-    ghost after = { executed };
+/// A machine as the table's instructions reach it. It stands apart from the machine so that an embedder, who can step a
+/// machine, can't execute without fetch and without the halted test.
+#[derive(Drop)]
+pub(crate) struct Executor<'a, A: Acc> {
+    pub(crate) machine: &'a mut Machine<A>,
+}
+
+impl<'a, A: Acc> Visitor for Executor<'a, A> {
+    ghost use Rattle.rsp_machine.specs.Step.{executed};
+
+    ghost after = { λ i e. record { machine = record e.machine { now = executed i e.machine.now } } };
 
     #[inline(always)]
     #[tactic(auto, unfolding(crate::specs::Step::executed))]
     fn shift(&mut self, row: ShiftRow, rd: u8, rt: u8, amount: u8) {
-        self.compute(&Inst::Shift {
+        self.machine.compute(&Inst::Shift {
             row,
             rd,
             rt,
@@ -27,43 +34,43 @@ impl<A: Acc> Visitor for Machine<A> {
     #[inline(always)]
     #[tactic(auto, unfolding(crate::specs::Step::executed))]
     fn shift_by(&mut self, row: ShiftByRow, rd: u8, rt: u8, rs: u8) {
-        self.compute(&Inst::ShiftBy { row, rd, rt, rs });
+        self.machine.compute(&Inst::ShiftBy { row, rd, rt, rs });
     }
 
     #[inline(always)]
     #[tactic(auto, unfolding(crate::specs::Step::executed))]
     fn jump_register(&mut self, rs: u8) {
-        self.go_to(&Inst::JumpRegister { rs });
+        self.machine.go_to(&Inst::JumpRegister { rs });
     }
 
     #[inline(always)]
     #[tactic(auto, unfolding(crate::specs::Step::executed))]
     fn jump_link_register(&mut self, rd: u8, rs: u8) {
-        self.go_to(&Inst::JumpLinkRegister { rd, rs });
+        self.machine.go_to(&Inst::JumpLinkRegister { rd, rs });
     }
 
     #[inline(always)]
     #[tactic(auto, unfolding(crate::specs::Step::executed))]
     fn break_off(&mut self) {
-        self.stop();
+        self.machine.stop();
     }
 
     #[inline(always)]
     #[tactic(auto, unfolding(crate::specs::Step::executed))]
     fn register(&mut self, row: RegisterRow, rd: u8, rs: u8, rt: u8) {
-        self.compute(&Inst::Register { row, rd, rs, rt });
+        self.machine.compute(&Inst::Register { row, rd, rs, rt });
     }
 
     #[inline(always)]
     #[tactic(auto, unfolding(crate::specs::Step::executed))]
     fn branch_sign(&mut self, row: SignRow, rs: u8, offset: u16) {
-        self.go_to(&Inst::BranchSign { row, rs, offset });
+        self.machine.go_to(&Inst::BranchSign { row, rs, offset });
     }
 
     #[inline(always)]
     #[tactic(auto, unfolding(crate::specs::Step::executed))]
     fn branch_equal(&mut self, row: EqualRow, rs: u8, rt: u8, offset: u16) {
-        self.go_to(&Inst::BranchEqual {
+        self.machine.go_to(&Inst::BranchEqual {
             row,
             rs,
             rt,
@@ -74,25 +81,25 @@ impl<A: Acc> Visitor for Machine<A> {
     #[inline(always)]
     #[tactic(auto, unfolding(crate::specs::Step::executed))]
     fn jump(&mut self, row: JumpRow, target: u16) {
-        self.go_to(&Inst::Jump { row, target });
+        self.machine.go_to(&Inst::Jump { row, target });
     }
 
     #[inline(always)]
     #[tactic(auto, unfolding(crate::specs::Step::executed))]
     fn immediate(&mut self, row: ImmediateRow, rt: u8, rs: u8, imm: u16) {
-        self.compute(&Inst::Immediate { row, rt, rs, imm });
+        self.machine.compute(&Inst::Immediate { row, rt, rs, imm });
     }
 
     #[inline(always)]
     #[tactic(auto, unfolding(crate::specs::Step::executed))]
     fn load_upper(&mut self, rt: u8, imm: u16) {
-        self.compute(&Inst::LoadUpper { rt, imm });
+        self.machine.compute(&Inst::LoadUpper { rt, imm });
     }
 
     #[inline(always)]
     #[tactic(auto, unfolding(crate::specs::Step::executed))]
     fn load(&mut self, row: LoadRow, rt: u8, offset: u16, base: u8) {
-        self.load_scalar(&Inst::Load {
+        self.machine.load_scalar(&Inst::Load {
             row,
             rt,
             offset,
@@ -103,7 +110,7 @@ impl<A: Acc> Visitor for Machine<A> {
     #[inline(always)]
     #[tactic(auto, unfolding(crate::specs::Step::executed))]
     fn store(&mut self, row: StoreRow, rt: u8, offset: u16, base: u8) {
-        self.store_scalar(&Inst::Store {
+        self.machine.store_scalar(&Inst::Store {
             row,
             rt,
             offset,
@@ -114,13 +121,13 @@ impl<A: Acc> Visitor for Machine<A> {
     #[inline(always)]
     #[tactic(auto, unfolding(crate::specs::Step::executed))]
     fn move_sp(&mut self, row: MoveRow, rt: u8, register: u8) {
-        self.move_sp_register(row, rt, register);
+        self.machine.move_sp_register(row, rt, register);
     }
 
     #[inline(always)]
     #[tactic(auto, unfolding(crate::specs::Step::executed))]
     fn move_vector(&mut self, row: MoveRow, rt: u8, vector: u8, element: u8) {
-        self.move_lanes(
+        self.machine.move_lanes(
             &Inst::MoveVector {
                 row,
                 rt,
@@ -135,67 +142,80 @@ impl<A: Acc> Visitor for Machine<A> {
     #[inline(always)]
     #[tactic(auto, unfolding(crate::specs::Step::executed))]
     fn move_control(&mut self, row: MoveRow, rt: u8, control: Control) {
-        self.move_flags(&Inst::MoveControl { row, rt, control }, row, rt);
+        self.machine
+            .move_flags(&Inst::MoveControl { row, rt, control }, row, rt);
     }
 
     #[inline(always)]
     #[tactic(auto, unfolding(crate::specs::Step::executed))]
     fn multiply(&mut self, row: MultiplyRow, vd: u8, vs: u8, vt: u8, element: u8) {
-        self.multiply_lanes(row, vd, vs, vt, element);
+        self.machine.multiply_lanes(row, vd, vs, vt, element);
+    }
+
+    #[inline(always)]
+    #[tactic(auto, unfolding(crate::specs::Step::executed))]
+    fn round(&mut self, row: RoundRow, vd: u8, vs: u8, vt: u8, element: u8) {
+        self.machine.round_lanes(row, vd, vs, vt, element);
+    }
+
+    #[inline(always)]
+    #[tactic(auto, unfolding(crate::specs::Step::executed))]
+    fn mpeg_multiply(&mut self, row: MpegRow, vd: u8, vs: u8, vt: u8, element: u8) {
+        self.machine.multiply_mpeg(row, vd, vs, vt, element);
     }
 
     #[inline(always)]
     #[tactic(auto, unfolding(crate::specs::Step::executed))]
     fn read_accumulator(&mut self, vd: u8, _vs: u8, _vt: u8, element: u8) {
-        self.read_part(vd, element);
+        self.machine.read_part(vd, element);
     }
 
     #[inline(always)]
     #[tactic(auto, unfolding(crate::specs::Step::executed))]
     fn vector_add(&mut self, row: VectorAddRow, vd: u8, vs: u8, vt: u8, element: u8) {
-        self.add(row, vd, vs, vt, element);
+        self.machine.add(row, vd, vs, vt, element);
     }
 
     #[inline(always)]
     #[tactic(auto, unfolding(crate::specs::Step::executed))]
     fn vector_select(&mut self, row: VectorSelectRow, vd: u8, vs: u8, vt: u8, element: u8) {
-        self.select(row, vd, vs, vt, element);
+        self.machine.select(row, vd, vs, vt, element);
     }
 
     #[inline(always)]
     #[tactic(auto, unfolding(crate::specs::Step::executed))]
     fn vector_clip(&mut self, row: VectorClipRow, vd: u8, vs: u8, vt: u8, element: u8) {
-        self.clip(row, vd, vs, vt, element);
+        self.machine.clip(row, vd, vs, vt, element);
     }
 
     #[inline(always)]
     #[tactic(auto, unfolding(crate::specs::Step::executed))]
     fn vector_merge(&mut self, vd: u8, vs: u8, vt: u8, element: u8) {
-        self.merge(vd, vs, vt, element);
+        self.machine.merge(vd, vs, vt, element);
     }
 
     #[inline(always)]
     #[tactic(auto, unfolding(crate::specs::Step::executed))]
     fn vector_logic(&mut self, row: VectorLogicRow, vd: u8, vs: u8, vt: u8, element: u8) {
-        self.logic(row, vd, vs, vt, element);
+        self.machine.logic(row, vd, vs, vt, element);
     }
 
     #[inline(always)]
     #[tactic(auto, unfolding(crate::specs::Step::executed))]
     fn lane(&mut self, row: LaneRow, vd: u8, lane: u8, vt: u8, element: u8) {
-        self.divide(row, vd, lane, vt, element);
+        self.machine.divide(row, vd, lane, vt, element);
     }
 
     #[inline(always)]
     #[tactic(auto, unfolding(crate::specs::Step::executed))]
     fn idle(&mut self, _row: IdleRow) {
-        self.advance();
+        self.machine.advance();
     }
 
     #[inline(always)]
     #[tactic(auto, unfolding(crate::specs::Step::executed))]
     fn vector_load(&mut self, row: VectorLoadRow, vt: u8, element: u8, offset: u8, base: u8) {
-        self.load_register(
+        self.machine.load_register(
             &Inst::VectorLoad {
                 row,
                 vt,
@@ -210,7 +230,7 @@ impl<A: Acc> Visitor for Machine<A> {
     #[inline(always)]
     #[tactic(auto, unfolding(crate::specs::Step::executed))]
     fn vector_store(&mut self, row: VectorStoreRow, vt: u8, element: u8, offset: u8, base: u8) {
-        self.store_register(
+        self.machine.store_register(
             &Inst::VectorStore {
                 row,
                 vt,

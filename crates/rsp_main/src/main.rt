@@ -1,35 +1,12 @@
-//! The program `rsp`: reads the command line and the files that it names, and answers the script on standard input.
-//! All that it decides stands in [`work::work`], over fakes as over the system.
+//! The program `rsp`: does what its command line asks for, with the system's files, standard input, standard output and standard error.
 #![tactic(auto)]
 
-mod arguments;
-mod assembling;
-mod fault;
-mod status;
-mod store;
-#[cfg(test)]
-mod tests;
-mod work;
-
-use crate::fault::Fault;
-use crate::status::Status;
-use crate::store::SystemFiles;
-use crate::work::{faulted, work};
-use std::env;
-use std::io::{self, ErrorKind, Write};
+use rsp_program::{SystemFiles, without_words, work};
 use std::process::ExitCode;
+use std::{env, io};
 
 fn words(rt: &HostRuntime) -> io::Result<Vec<String>> {
     Ok(env::args(rt)?.collect(rt.alloc())?)
-}
-
-/// Tells why there are no words of the command line.
-fn without_words<E: Write>(error: &io::Error, errors: &mut E) -> Status {
-    if error.kind() == ErrorKind::OutOfMemory {
-        return faulted(Fault::OutOfMemory, errors);
-    }
-    let _ = writeln!(errors, "error: an argument isn't UTF-8");
-    Status::Refused
 }
 
 fn main(rt: HostRuntime) -> ExitCode {

@@ -6,8 +6,6 @@ mod bank;
 mod image;
 mod memory;
 mod splice;
-#[cfg(test)]
-mod tests;
 
 pub use bank::Bank;
 pub use image::{Rdram, SizeFault};

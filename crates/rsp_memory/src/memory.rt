@@ -159,8 +159,40 @@ impl SpMem {
     }
 
     /// The sixteen bytes from an address on: as many as any one store writes.
-    #[tactic(auto, using(crate::proofs::Wraps::wrapped))]
+    #[inline(always)]
+    #[tactic(auto, unfolding(crate::specs::Memory::byte_at))]
     pub fn window(&self, a: u32) -> [u8; 16]
+        ensures { result ≡ bytes_at self.now a 16 }
+    {
+        let at = (a % 4096) as usize;
+        if at <= 4080 {
+            [
+                self.bytes[at],
+                self.bytes[at + 1],
+                self.bytes[at + 2],
+                self.bytes[at + 3],
+                self.bytes[at + 4],
+                self.bytes[at + 5],
+                self.bytes[at + 6],
+                self.bytes[at + 7],
+                self.bytes[at + 8],
+                self.bytes[at + 9],
+                self.bytes[at + 10],
+                self.bytes[at + 11],
+                self.bytes[at + 12],
+                self.bytes[at + 13],
+                self.bytes[at + 14],
+                self.bytes[at + 15],
+            ]
+        } else {
+            self.wrapping_window(a)
+        }
+    }
+
+    /// The sixteen bytes from an address on, of which some may wrap.
+    #[cold]
+    #[tactic(auto, using(crate::proofs::Wraps::wrapped))]
+    fn wrapping_window(&self, a: u32) -> [u8; 16]
         ensures { result ≡ bytes_at self.now a 16 }
     {
         [

@@ -27,3 +27,22 @@ pub enum MultiplyOp {
     /// Adds what `Vmudh` writes; signed clamp.
     Vmadh,
 }
+
+/// A row that rounds the accumulators by their sign.
+#[derive(Clone, Copy, PartialEq, Eq, Debug, Drop)]
+pub enum RoundOp {
+    /// Adds the lane where the accumulator is 0 or more.
+    Vrndp,
+    /// Adds the lane where the accumulator is negative.
+    Vrndn,
+}
+
+/// A multiply for MPEG coefficients: a product that is dequantised, and its step toward an odd
+/// multiple of 32.
+#[derive(Clone, Copy, PartialEq, Eq, Debug, Drop)]
+pub enum MpegOp {
+    /// The signed product, and 31 more where it is negative, times 65536.
+    Vmulq,
+    /// A step of 32 toward 0, times 65536, where bit 5 of the accumulator's upper 32 bits is clear.
+    Vmacq,
+}

@@ -4,3 +4,4 @@ pub mod Words
 pub mod Rooms
 pub mod Puts
 pub mod Rows
+pub mod Lookups

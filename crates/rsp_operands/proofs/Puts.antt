@@ -3,11 +3,12 @@ use Rattle.std.proofs.Common.{◌≡◌, sym, ap, ℕ, true, List, subst}
 use Rattle.std.specs.Prelude.{Option, Some, None, option_map, IfOk, Result, Ok, Err}
 use Rattle.rsp_decode.specs.Table.{Operand, places, with_fields}
 use Rattle.rsp_text.specs.declared.fault.AsmFaultKind.{AsmFaultKind}
+use Rattle.rsp_text.specs.Rows.{is_row_operand}
 use Rattle.rsp_text.specs.Statement.{Labels, Reading, read, fields_of, reading_fields, with_values}
 use Rattle.rsp_operands.specs.declared.fields.Fields.{Fields}
 use Rattle.rsp_operands.specs.Readings.{capped_reading}
 use Rattle.rsp_operands.specs.Fields.{fields, fields_in}
-use Rattle.rsp_operands.specs.Room.{fits_word, FitWord}
+use Rattle.rsp_operands.specs.Room.{FitWord}
 use Rattle.rsp_operands.proofs.Rooms.{HasRoom, read_room}
 
 module _ (labels : Labels) (place : ℕ) where
@@ -23,7 +24,7 @@ module _ (labels : Labels) (place : ℕ) where
       at_ok (Ok vs) h e = let same : fields f ≡ vs = cc in subst (FitWord k) (sym same) h
       at_ok (Err kind) h e = absurd cc
 
-  pub fields_fit : (k : Operand) (bs : List ℕ) → fits_word k ≡ true → (seen : Reading) (f : Fields) → Some seen ≡ option_map capped_reading (read k bs) → Found seen (Ok f) → FitWord k (fields f)
+  pub fields_fit : (k : Operand) (bs : List ℕ) → is_row_operand k ≡ true → (seen : Reading) (f : Fields) → Some seen ≡ option_map capped_reading (read k bs) → Found seen (Ok f) → FitWord k (fields f)
   fields_fit k bs fits seen f e found = fit_from k (read k bs) seen f (read_room labels place k bs fits) e found
 
   pub fields_put : (k : Operand) (w : ℕ) (o : Option Reading) (seen : Reading) (f : Fields) → Some seen ≡ option_map capped_reading o → Found seen (Ok f) → Ok (with_fields w (places k) (fields f)) ≡ with_values w (places k) (reading_fields labels place o)

@@ -9,6 +9,7 @@ use Rattle.std.proofs.lemmas.Bool.{cases_Bool, and_parts}
 use Rattle.std.proofs.lemmas.Bool.Decides.{nat_tests}
 use Rattle.rsp_decode.specs.Table.{Operand, scalar, shift_amount, signed, unsigned, jump_target, branch_target, scalar_memory, vector_memory, sp_register, control_register, vector, vector_byte, vector_element, vector_lane}
 use Rattle.rsp_text.specs.declared.fault.AsmFaultKind.{AsmFaultKind}
+use Rattle.rsp_text.specs.Rows.{is_step, is_row_operand}
 use Rattle.rsp_text.specs.declared.slot.Slot.{Slot}
 use Rattle.rsp_text.specs.declared.slot.Slot.TheVariants.{Half, Amount, Jump, Branch, Scaled, Word}
 use Rattle.rsp_text.specs.declared.text.Stop.TheVariants.{Parenthesis, Bracket}
@@ -16,7 +17,7 @@ use Rattle.rsp_text.specs.Chars.{cut}
 use Rattle.rsp_text.specs.Names.{look_up, below, small_number, is_decimal, scalar_names, scalar_named, vector_named, sp_named, control_names, control_named, element_names, element_named}
 use Rattle.rsp_text.specs.Numbers.{Expression, expression_of}
 use Rattle.rsp_text.specs.Statement.{Labels, Reading, named, asks, base_of, offset_of, memory, bracketed, multiple, byte_named, lane_named, with_element, bracket_of, memory_of, read, field, evaluate, in_range, field_of, then_registers, fields_of}
-use Rattle.rsp_operands.specs.Room.{fits_word, FitWord}
+use Rattle.rsp_operands.specs.Room.{FitWord}
 
 -- ---- names
 
@@ -148,7 +149,7 @@ module _ (labels : Labels) (place : ℕ) where
   one_room k None m h = tt
   one_room k (Some n) m h = h n m
 
-  pub read_room : (k : Operand) (bs : List ℕ) → fits_word k ≡ true → HasRoom k (read k bs)
+  pub read_room : (k : Operand) (bs : List ℕ) → is_row_operand k ≡ true → HasRoom k (read k bs)
   read_room (scalar low) bs fits = one_room (scalar low) (scalar_named bs) (scalar_most bs) (λ n le. (first_room n low le fits, tt))
   read_room shift_amount bs fits = value_room shift_amount Amount (expression_of bs) (λ v le. (omega arith, tt))
   read_room signed bs fits = value_room signed Half (expression_of bs) (λ v le. (omega arith, tt))
@@ -161,7 +162,7 @@ module _ (labels : Labels) (place : ℕ) where
   read_room control_register bs fits = one_room control_register (control_named bs) (look_up_most control_names bs refl) (λ n le. (omega arith, tt))
   read_room (vector low) bs fits = one_room (vector low) (vector_named bs) (vector_most bs) (λ n le. (first_room n low le fits, tt))
   read_room (vector_byte low step) bs fits =
-      bracket_room (vector_byte low step) (byte_named step) (Some 0) (cut Bracket bs) bs (λ b. multiple_most step (small_number 16 b) (number_most 16 b (omega arith))) (omega arith) (λ n le. (first_room n low le fits, tt))
+      bracket_room (vector_byte low step) (byte_named step) (Some 0) (cut Bracket bs) bs (λ b. multiple_most step (small_number 16 b) (number_most 16 b (omega arith))) (omega arith) (λ n le. (first_room n low le (and_parts (nat_le low 27) (is_step step) fits).0, tt))
   read_room vector_element bs fits =
       bracket_room vector_element element_named (Some 0) (cut Bracket bs) bs (λ b. look_up_most element_names b refl) (omega arith) (λ n le. (omega arith, tt))
   read_room vector_lane bs fits =

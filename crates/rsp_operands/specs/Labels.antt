@@ -1,6 +1,12 @@
 -- The labels of the code's table.
-use Rattle.std.specs.Prelude.{ℕ, List}
-use Rattle.rsp_operands.specs.declared.labels.Label.{Label}
+use Rattle.std.specs.Prelude.{◌≡◌, ℕ, List, map}
+use Rattle.std.specs.Borrow.{Bor}
+use Rattle.rsp_text.specs.Statement.{Labels, find_label}
 
-abbrev pub label : Label → List ℕ × ℕ
-label l = (l.name.now, l.place)
+-- the names and places that a table keeps, in the order of the names
+abbrev pub named_places : List (Bor (List ℕ) × ℕ) → Labels
+named_places es = map (λ (e : Bor (List ℕ) × ℕ). (e.0.now, e.1)) es
+
+-- the same place for each name, or none in both
+abbrev pub SamePlaces : Labels → Labels → Type 0
+SamePlaces xs ys = (name : List ℕ) → find_label xs name ≡ find_label ys name

@@ -1,13 +1,6 @@
 -- The room that the fields of an operand have in a word.
-use Rattle.std.specs.Prelude.{ℕ, ◌<◌, ◌≤◌, ◌^◌, nat_le, Bool, true, List, [], ◌∷◌}
-use Rattle.rsp_decode.specs.Table.{Operand, scalar, vector, vector_byte, places, with_fields}
-
--- The register of an operand stands inside the word: five bits from the given one.
-abbrev pub fits_word : Operand → Bool
-fits_word (scalar low) = nat_le low 27
-fits_word (vector low) = nat_le low 27
-fits_word (vector_byte low step) = nat_le low 27
-fits_word _ = true
+use Rattle.std.specs.Prelude.{ℕ, ◌<◌, ◌≤◌, ◌^◌, List, [], ◌∷◌}
+use Rattle.rsp_decode.specs.Table.{Operand, places, with_fields}
 
 -- none of these needs more than five bits
 abbrev pub Small : List ℕ → Type 0

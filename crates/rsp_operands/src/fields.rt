@@ -1,16 +1,15 @@
 // The fields of an operand, and where they stand in the word.
 
-ghost use Rattle.std.specs.Prelude.{◌≡◌, ◌≤◌, ◌*◌, ◌^◌, ◌∷◌, [], ℕ, true, map, bit_or};
+ghost use Rattle.std.specs.Prelude.{◌≡◌, ◌≤◌, ◌*◌, ◌^◌, ◌∷◌, [], ℕ, true, bit_or};
 ghost use Rattle.rsp_decode.specs.Table.{places, with_fields};
-ghost use Rattle.rsp_text.specs.Rows.{operand};
+ghost use Rattle.rsp_text.specs.Rows.{operand, is_row_operand};
 ghost use Rattle.rsp_text.specs.Statement as statement;
 ghost use Rattle.rsp_text.specs.Statement.{fields_of};
-ghost use Rattle.rsp_operands.specs.Labels.{label};
 ghost use Rattle.rsp_operands.specs.Readings.{reading, capped_reading};
 ghost use Rattle.rsp_operands.specs.Fields.{fields, fields_in};
-ghost use Rattle.rsp_operands.specs.Room.{fits_word, FitWord};
+ghost use Rattle.rsp_operands.specs.Room.{FitWord};
 
-use crate::labels::Label;
+use crate::labels::Labels;
 use crate::reading::Reading;
 use crate::values::expression_field;
 use rsp_text::{AsmFaultKind, Kind};
@@ -44,10 +43,10 @@ fn two(first: u32, second: u32) -> Fields
 pub(crate) fn reading_fields(
     said: Reading<'_>,
     place: u16,
-    labels: &[Label<'_>],
+    labels: &Labels<'_>,
 ) -> Result<Fields, AsmFaultKind>
     requires { place ≤ 4096 }
-    ensures { (r : statement.Reading) → reading said.entry ≡ capped_reading r → fields_in result ≡ fields_of (map label labels.now) place r }
+    ensures { (r : statement.Reading) → reading said.entry ≡ capped_reading r → fields_in result ≡ fields_of labels.now place r }
 {
     match said {
         Reading::Register(number) => Ok(one(u32::from(number))),
@@ -62,7 +61,7 @@ pub(crate) fn reading_fields(
 
 /// The lowest bit of an operand's first field.
 fn first_low(kind: Kind) -> u8
-    requires { fits_word (operand kind) ≡ true }
+    requires { is_row_operand (operand kind) ≡ true }
     ensures low { result ≤ 27 }
     ensures place { (w v : ℕ) → with_fields w (places (operand kind)) (v ∷ []) ≡ bit_or w (v * 2 ^ result) }
 {
@@ -95,7 +94,7 @@ fn second_bits(kind: Kind, value: u32) -> u32
 
 /// The word with the fields at their places too.
 pub(crate) fn put(kind: Kind, values: Fields, word: u32) -> u32
-    requires room { fits_word (operand kind) ≡ true }
+    requires room { is_row_operand (operand kind) ≡ true }
     requires fit { FitWord (operand kind) (fields values) }
     ensures { result ≡ with_fields word (places (operand kind)) (fields values) }
 {

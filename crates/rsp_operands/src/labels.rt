@@ -1,26 +1,52 @@
 // The labels of a source, and their places.
 
-ghost use Rattle.std.specs.Prelude.{◌≡◌, map};
+ghost use Rattle.std.specs.Prelude.{◌≡◌, ◌∷◌, [], OnOk, OnErr};
 ghost use Rattle.rsp_text.specs.Statement.{find_label};
-ghost use Rattle.rsp_operands.specs.Labels.{label};
+ghost use Rattle.rsp_operands.specs.Labels.{SamePlaces};
 
-/// A label and its place in instruction memory.
-#[derive(Clone, Copy, PartialEq, Eq, Debug)]
-pub struct Label<'a> {
-    /// Its name, as the source writes it.
-    pub name: &'a [u8],
-    /// The place of the word behind it.
-    pub place: u16,
+use std::alloc::{AllocError, Global};
+use std::collections::BTreeMap;
+use std::marker::Model;
+
+/// The labels of a source, with their places in instruction memory. A label is found in a time that grows with the logarithm
+/// of their number, whatever their names are. Contracts see them as a list of names and places.
+#[derive(Drop)]
+pub struct Labels<'a> {
+    places: BTreeMap<&'a [u8], u16>,
 }
 
-/// The place of the first label of this name; None where no label has it. Upper and lower case differ.
-pub fn find_label(labels: &[Label<'_>], name: &[u8]) -> Option<u16>
-    ensures { result ≡ find_label (map label labels.now) name.now }
-{
-    for label in labels {
-        if label.name == name {
-            return Some(label.place);
+impl<'a> Model for Labels<'a> {
+    ghost use Rattle.std.specs.Prelude.{ℕ, List};
+    ghost use Rattle.rsp_operands.specs.Labels.{named_places};
+
+    ghost Value = { List (List ℕ × ℕ) };
+
+    ghost view = { λ l. named_places l.places.entries };
+}
+
+impl<'a> Labels<'a> {
+    /// No labels. It takes no memory.
+    pub fn new(alloc: Global) -> Labels<'a>
+        ensures { result ≡ [] }
+    {
+        Labels {
+            places: BTreeMap::new(alloc),
         }
     }
-    None
+
+    /// The place of the label of this name; None where no label has it. Upper and lower case differ.
+    pub fn find(&self, name: &[u8]) -> Option<u16>
+        ensures { result ≡ find_label self.now name.now }
+    {
+        self.places.get(name).copied()
+    }
+
+    /// Adds a label, in the place of one of the same name. Where there is no memory for it, the labels stay as they were.
+    pub fn add(&mut self, name: &'a [u8], place: u16) -> Result<(), AllocError>
+        ensures ok { OnOk result (SamePlaces self.new ((name.now, place) ∷ self.old)) }
+        ensures err { OnErr result (self.new ≡ self.old) }
+    {
+        self.places.insert(name, place)?;
+        Ok(())
+    }
 }

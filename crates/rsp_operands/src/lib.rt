@@ -9,10 +9,8 @@ mod numbers;
 mod operands;
 mod ranges;
 mod reading;
-#[cfg(test)]
-mod tests;
 mod values;
 
-pub use labels::{Label, find_label};
+pub use labels::Labels;
 pub use numbers::{is_number, is_number_out_of_range, number_word};
 pub use operands::{is_operand, is_out_of_range, put_operand};

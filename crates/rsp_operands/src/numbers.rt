@@ -1,12 +1,11 @@
 // The numbers of `.word`.
 
-ghost use Rattle.std.specs.Prelude.{◌≡◌, [], is_some, map, option_map};
+ghost use Rattle.std.specs.Prelude.{◌≡◌, [], is_some, option_map};
 ghost use Rattle.rsp_text.specs.declared.slot.Slot.TheVariants.{Word};
 ghost use Rattle.rsp_text.specs.Numbers.{expression_of};
 ghost use Rattle.rsp_text.specs.Statement.{asks, reading_fails, number_value};
-ghost use Rattle.rsp_operands.specs.Labels.{label};
 
-use crate::labels::Label;
+use crate::labels::Labels;
 use crate::values::{expression_field, is_beyond};
 use rsp_text::{AsmFaultKind, Slot, read_expression};
 
@@ -31,8 +30,8 @@ pub fn is_number_out_of_range(text: &[u8]) -> bool
 ///
 /// A text that is none is refused as BadOperand, a label that is not among the labels as LabelMissing, and a value that
 /// no word has as OutOfRange.
-pub fn number_word(text: &[u8], labels: &[Label<'_>]) -> Result<u32, AsmFaultKind>
-    ensures { result ≡ number_value (map label labels.now) (expression_of text.now) }
+pub fn number_word(text: &[u8], labels: &Labels<'_>) -> Result<u32, AsmFaultKind>
+    ensures { result ≡ number_value labels.now (expression_of text.now) }
 {
     let Some(e) = read_expression(text) else {
         return Err(AsmFaultKind::BadOperand);

@@ -1,14 +1,12 @@
 // An operand by its kind.
 
-ghost use Rattle.std.specs.Prelude.{◌≡◌, ◌≤◌, true, is_some, map};
+ghost use Rattle.std.specs.Prelude.{◌≡◌, ◌≤◌, true, is_some};
 ghost use Rattle.rsp_decode.specs.Table.{places};
-ghost use Rattle.rsp_text.specs.Rows.{operand};
+ghost use Rattle.rsp_text.specs.Rows.{operand, is_row_operand};
 ghost use Rattle.rsp_text.specs.Statement.{read, reading_fails, reading_fields, with_values};
-ghost use Rattle.rsp_operands.specs.Room.{fits_word};
-ghost use Rattle.rsp_operands.specs.Labels.{label};
 
 use crate::fields::{put, reading_fields};
-use crate::labels::Label;
+use crate::labels::Labels;
 use crate::reading::{Reading, read_operand};
 use crate::values::is_beyond;
 use rsp_text::{AsmFaultKind, Kind};
@@ -41,12 +39,12 @@ pub fn put_operand(
     kind: Kind,
     text: &[u8],
     place: u16,
-    labels: &[Label<'_>],
+    labels: &Labels<'_>,
     word: u32,
 ) -> Result<u32, AsmFaultKind>
     requires inside { place ≤ 4096 }
-    requires room { fits_word (operand kind) ≡ true }
-    ensures { result ≡ with_values word (places (operand kind)) (reading_fields (map label labels.now) place (read (operand kind) text.now)) }
+    requires room { is_row_operand (operand kind) ≡ true }
+    ensures { result ≡ with_values word (places (operand kind)) (reading_fields labels.now place (read (operand kind) text.now)) }
 {
     let Some(reading) = read_operand(kind, text) else {
         return Err(AsmFaultKind::BadOperand);

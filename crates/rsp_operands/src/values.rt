@@ -1,13 +1,12 @@
 // The fields of expressions.
 
-ghost use Rattle.std.specs.Prelude.{◌≡◌, ◌≤◌, ℤ, pos, ◌+ℤ◌, map, Some};
+ghost use Rattle.std.specs.Prelude.{◌≡◌, ◌≤◌, ℤ, pos, ◌+ℤ◌, Some};
 ghost use Rattle.rsp_text.specs.Numbers.{capped_ℤ};
 ghost use Rattle.rsp_text.specs.Numbers as numbers;
 ghost use Rattle.rsp_text.specs.Seen.{expression, capped_expression};
 ghost use Rattle.rsp_text.specs.Statement.{field, evaluate, field_of, number_fails};
-ghost use Rattle.rsp_operands.specs.Labels.{label};
 
-use crate::labels::{Label, find_label};
+use crate::labels::Labels;
 use crate::ranges::{amount, branch, half, jump, scaled, word};
 use rsp_text::{AsmFaultKind, Expression, Slot};
 
@@ -41,14 +40,14 @@ pub(crate) fn expression_field(
     slot: Slot,
     e: Expression<'_>,
     place: u16,
-    labels: &[Label<'_>],
+    labels: &Labels<'_>,
 ) -> Result<u32, AsmFaultKind>
     requires { place ≤ 4096 }
-    ensures { (x : numbers.Expression) → expression e.entry ≡ capped_expression x → result ≡ field_of slot place (evaluate (map label labels.now) x) }
+    ensures { (x : numbers.Expression) → expression e.entry ≡ capped_expression x → result ≡ field_of slot place (evaluate labels.now x) }
 {
     let origin = match e.label {
         None => 0,
-        Some(name) => find_label(labels, name).ok_or(AsmFaultKind::LabelMissing)?,
+        Some(name) => labels.find(name).ok_or(AsmFaultKind::LabelMissing)?,
     };
     field(slot, place, origin, e.offset).ok_or(AsmFaultKind::OutOfRange)
 }

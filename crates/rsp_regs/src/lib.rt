@@ -4,8 +4,6 @@
 
 mod bits;
 mod regs;
-#[cfg(test)]
-mod tests;
 mod transfer;
 
 pub use regs::SpRegs;

@@ -1,4 +1,4 @@
-ghost use Rattle.std.specs.Prelude.{◌≡◌, not};
+ghost use Rattle.std.specs.Prelude.{◌≡◌, false, not};
 ghost use Rattle.rsp_regs.specs.Dma.{IsTransfer};
 ghost use Rattle.rsp_regs.specs.Sp.{start, status, peeked, after_read, status_written, transfer, moved, written, is_imem, bank_written, image_written, after_break, after_step, after_task};
 
@@ -175,6 +175,14 @@ impl SpRegs {
         self.halted = true;
         self.broke = true;
         self.interrupt = self.interrupt || self.intbreak;
+    }
+
+    /// Clears halted. All else stays.
+    #[inline(always)]
+    pub fn resume(&mut self)
+        ensures { self.new ≡ record self.old { halted = false } }
+    {
+        self.halted = false;
     }
 
     /// What the end of an instruction sets: halted, where single step is set.

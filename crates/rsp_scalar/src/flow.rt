@@ -1,4 +1,4 @@
-ghost use Rattle.std.specs.Prelude.{◌≡◌, ◌<◌};
+ghost use Rattle.std.specs.Prelude.{◌≡◌, ◌<◌, ◌%◌};
 ghost use Rattle.rsp_decode.specs.Table.{IsInstruction};
 ghost use Rattle.rsp_scalar.specs.Rows.{is_taken, sign_test, equal_test, target_of, branch_target};
 ghost use Rattle.rsp_scalar.specs.Flow.{going_on, following, linked};
@@ -49,6 +49,7 @@ pub fn taken(inst: &Inst, regs: &Regs) -> bool
 fn going_on(npc: u16) -> u16
     ensures value { result ≡ going_on npc }
     ensures place { result < 4096 }
+    ensures whole { npc % 4 ≡ 0 → result % 4 ≡ 0 }
 {
     ((npc as u32 + 4) % 4096) as u16
 }
@@ -58,18 +59,21 @@ fn going_on(npc: u16) -> u16
 fn branch_target(npc: u16, offset: u16) -> u16
     ensures value { result ≡ branch_target npc offset }
     ensures place { result < 4096 }
+    ensures whole { npc % 4 ≡ 0 → result % 4 ≡ 0 }
 {
     // Four times 2^16 is a multiple of 4096, so the offset's sign makes no difference.
     ((npc as u32 + 4 * offset as u32) % 4096) as u16
 }
 
 /// Where a branch or a jump goes when it is taken, by the `npc` at its execution (the place of its
-/// delay slot). Another row goes on: `npc + 4` modulo 4096.
+/// delay slot). Another row goes on: `npc + 4` modulo 4096. From a multiple of 4 it goes to a multiple
+/// of 4.
 #[inline(always)]
 pub fn target(inst: &Inst, regs: &Regs, npc: u16) -> u16
     requires { IsInstruction inst.now }
     ensures value { result ≡ target_of inst.now regs.now npc }
     ensures place { result < 4096 }
+    ensures whole { npc % 4 ≡ 0 → result % 4 ≡ 0 }
 {
     match *inst {
         Inst::JumpRegister { rs } | Inst::JumpLinkRegister { rs, .. } => {
@@ -89,6 +93,7 @@ fn following(inst: &Inst, regs: &Regs, npc: u16) -> u16
     requires { IsInstruction inst.now }
     ensures value { result ≡ following inst.now regs.now npc }
     ensures place { result < 4096 }
+    ensures whole { npc % 4 ≡ 0 → result % 4 ≡ 0 }
 {
     if taken(inst, regs) {
         target(inst, regs, npc)
@@ -118,12 +123,14 @@ fn link(inst: &Inst, regs: &mut Regs, npc: u16)
 }
 
 /// Executes a branch or a jump: answers the next `npc`, then writes the link, so that the sources
-/// are read before. For any other row it answers `npc + 4` modulo 4096 and changes nothing.
+/// are read before. For any other row it answers `npc + 4` modulo 4096 and changes nothing. Where `npc`
+/// is a multiple of 4 the answer is one.
 #[inline(always)]
 pub fn jump(inst: &Inst, regs: &mut Regs, npc: u16) -> u16
     requires { IsInstruction inst.now }
     ensures next { result ≡ following inst.now regs.old npc }
     ensures place { result < 4096 }
+    ensures whole { npc % 4 ≡ 0 → result % 4 ≡ 0 }
     ensures registers { regs.new ≡ linked inst.now regs.old npc }
 {
     let next = following(inst, regs, npc);

@@ -7,10 +7,8 @@ mod flow;
 mod memory;
 mod registers;
 mod rows;
-#[cfg(test)]
-mod tests;
 
 pub use flow::{jump, taken, target};
-pub use memory::{load, store};
+pub use memory::{address, load, store};
 pub use registers::Regs;
 pub use rows::alu;

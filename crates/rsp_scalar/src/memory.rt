@@ -9,7 +9,7 @@ use rsp_memory::SpMem;
 
 /// The address of a load or store.
 #[inline(always)]
-fn address(regs: &Regs, base: u8, offset: u16) -> u32
+pub fn address(regs: &Regs, base: u8, offset: u16) -> u32
     requires { base < 32 }
     ensures { result ≡ address regs.now base offset }
 {

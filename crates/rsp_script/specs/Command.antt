@@ -9,7 +9,9 @@ use Rattle.rsp_script.specs.declared.name.Name.{Name}
 use Rattle.rsp_script.specs.declared.name.Name.TheVariants as names
 use Rattle.rsp_memory.specs.declared.bank.Bank.{Bank}
 use Rattle.rsp_script.specs.declared.command.Command.{Command}
-use Rattle.rsp_script.specs.declared.command.Command.TheVariants.{Nothing, Load, Step, Regs, Mem, Read, Write, SetPc, Task, Sp, Vregs, Acc, Flags, Asm, BlockLine}
+use Rattle.rsp_script.specs.declared.command.Command.TheVariants.{Nothing, Load, Step, Run, Break, Unbreak, Watch, Unwatch, Back, Read, Write, SetPc, Task, Show, Asm, BlockLine}
+use Rattle.rsp_script.specs.declared.command.Look.{Look}
+use Rattle.rsp_script.specs.declared.command.Look.TheVariants.{Regs, Vregs, Acc, Flags, Sp, Mem, Dis}
 use Rattle.rsp_script.specs.declared.fault.LineFault.{LineFault}
 use Rattle.rsp_script.specs.declared.fault.LineFault.TheVariants.{BadCommand, BadNumber}
 
@@ -69,42 +71,65 @@ load = three_words (λ bank address hex. in_bank (λ b. with_both (λ a bytes. L
 
 -- `mem BANK ADDR LEN`
 unfoldable pub mem : List (List ℕ) → Result Command LineFault
-mem = three_words (λ bank address len. in_bank (λ b. with_both (λ a n. Mem b a n) (address_of address) (ranged_of 1 256 len)) (bank_of bank))
+mem = three_words (λ bank address len. in_bank (λ b. with_both (λ a n. Show (Mem b a n)) (address_of address) (ranged_of 1 256 len)) (bank_of bank))
 
 -- `write N VALUE`
 unfoldable pub write : List (List ℕ) → Result Command LineFault
 write = two_words (λ register value. with_both (λ n v. Write n v) (ranged_of 0 15 register) (ranged_of 0 4294967295 value))
+
+-- `dis ADDR N`
+unfoldable pub dis : List (List ℕ) → Result Command LineFault
+dis = two_words (λ address count. with_both (λ a n. Show (Dis a n)) (place_of address) (ranged_of 1 64 count))
+
+-- `watch ADDR LEN`
+unfoldable pub watch : List (List ℕ) → Result Command LineFault
+watch = two_words (λ address len. with_both (λ a n. Watch a n) (ranged_of 0 4294967295 address) (ranged_of 0 4294967295 len))
 
 -- the command of a name with its operands
 abbrev pub named : Option Name → List (List ℕ) → Result Command LineFault
 named None operands = Err BadCommand
 named (Some names.Load) operands = load operands
 named (Some names.Step) operands = alone Step operands
-named (Some names.Regs) operands = alone Regs operands
+named (Some names.Regs) operands = alone (Show Regs) operands
 named (Some names.Mem) operands = mem operands
 named (Some names.Read) operands = with_operand (λ n. Read n) (one_number 0 15 operands)
 named (Some names.Write) operands = write operands
 named (Some names.Pc) operands = with_operand (λ a. SetPc a) (one_place operands)
 named (Some names.Task) operands = with_operand (λ a. Task a) (one_number 0 16777215 operands)
-named (Some names.Sp) operands = alone Sp operands
-named (Some names.Vregs) operands = alone Vregs operands
-named (Some names.Acc) operands = alone Acc operands
-named (Some names.Flags) operands = alone Flags operands
+named (Some names.Sp) operands = alone (Show Sp) operands
+named (Some names.Vregs) operands = alone (Show Vregs) operands
+named (Some names.Acc) operands = alone (Show Acc) operands
+named (Some names.Flags) operands = alone (Show Flags) operands
 named (Some names.Asm) operands = with_operand (λ a. Asm a) (one_place operands)
+named (Some names.Dis) operands = dis operands
+named (Some names.Run) operands = with_operand (λ n. Run n) (one_number 0 4294967295 operands)
+named (Some names.Break) operands = with_operand (λ a. Break a) (one_place operands)
+named (Some names.Unbreak) operands = with_operand (λ a. Unbreak a) (one_place operands)
+named (Some names.Watch) operands = watch operands
+named (Some names.Unwatch) operands = with_operand (λ k. Unwatch k) (one_number 0 4294967295 operands)
+named (Some names.Back) operands = with_operand (λ n. Back n) (one_number 0 4294967295 operands)
 
 -- what the words of a line ask for
 unfoldable pub command_of_words : List (List ℕ) → Result Command LineFault
 command_of_words [] = Ok Nothing
 command_of_words (name ∷ operands) = named (name_of name) operands
 
+-- a look that a line can ask for: its operands are in their ranges
+abbrev pub IsLook : Look → Type 0
+IsLook (Mem bank address len) = (address ≤ 16777215) × (1 ≤ len) × (len ≤ 256)
+IsLook (Dis address count) = (address ≤ 4092) × (address % 4 ≡ 0) × (1 ≤ count) × (count ≤ 64)
+IsLook _ = Unit {0}
+
 -- a command that a line can give: its operands are in their ranges
 abbrev pub IsCommand : Command → Type 0
 IsCommand (Load bank address bytes) = (address ≤ 16777215) × (0 < array_vec_len bytes)
-IsCommand (Mem bank address len) = (address ≤ 16777215) × (1 ≤ len) × (len ≤ 256)
 IsCommand (Read register) = register ≤ 15
 IsCommand (Write register value) = register ≤ 15
 IsCommand (SetPc address) = (address ≤ 4092) × (address % 4 ≡ 0)
 IsCommand (Task address) = address ≤ 16777215
+IsCommand (Show look) = IsLook look
 IsCommand (Asm address) = (address ≤ 4092) × (address % 4 ≡ 0)
+IsCommand (Break address) = (address ≤ 4092) × (address % 4 ≡ 0)
+IsCommand (Unbreak address) = (address ≤ 4092) × (address % 4 ≡ 0)
 IsCommand (BlockLine line) = list_all is_text line ≡ true
 IsCommand _ = Unit {0}

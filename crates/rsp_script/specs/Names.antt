@@ -2,7 +2,7 @@
 use Rattle.std.specs.Prelude.{ℕ, List, Option, Some, None, if◌then◌else◌, codes}
 use Rattle.std.specs.Str.{bytes_eq}
 use Rattle.rsp_script.specs.declared.name.Name.{Name}
-use Rattle.rsp_script.specs.declared.name.Name.TheVariants.{Load, Step, Regs, Mem, Read, Write, Pc, Task, Sp, Vregs, Acc, Flags, Asm}
+use Rattle.rsp_script.specs.declared.name.Name.TheVariants.{Load, Step, Regs, Mem, Read, Write, Pc, Task, Sp, Vregs, Acc, Flags, Asm, Dis, Run, Break, Unbreak, Watch, Unwatch, Back}
 
 -- the name that a word is; all are in lower case
 unfoldable pub name_of : List ℕ → Option Name
@@ -20,4 +20,11 @@ name_of word =
     else if bytes_eq word (codes "acc") then Some Acc
     else if bytes_eq word (codes "flags") then Some Flags
     else if bytes_eq word (codes "asm") then Some Asm
+    else if bytes_eq word (codes "dis") then Some Dis
+    else if bytes_eq word (codes "run") then Some Run
+    else if bytes_eq word (codes "break") then Some Break
+    else if bytes_eq word (codes "unbreak") then Some Unbreak
+    else if bytes_eq word (codes "watch") then Some Watch
+    else if bytes_eq word (codes "unwatch") then Some Unwatch
+    else if bytes_eq word (codes "back") then Some Back
     else None

@@ -11,10 +11,7 @@ mod parse;
 mod source_line;
 mod words;
 
-pub use command::Command;
+pub use command::{Command, Look};
 pub use fault::LineFault;
 pub use line::parse_line;
 pub use source_line::SourceLine;
-
-#[cfg(test)]
-mod tests;

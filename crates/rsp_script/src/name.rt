@@ -17,6 +17,13 @@ pub enum Name {
     Acc,
     Flags,
     Asm,
+    Dis,
+    Run,
+    Break,
+    Unbreak,
+    Watch,
+    Unwatch,
+    Back,
 }
 
 /// The name that a word is.
@@ -50,6 +57,20 @@ pub fn name_of(word: &[u8]) -> Option<Name>
         Some(Name::Flags)
     } else if word == b"asm".as_slice() {
         Some(Name::Asm)
+    } else if word == b"dis".as_slice() {
+        Some(Name::Dis)
+    } else if word == b"run".as_slice() {
+        Some(Name::Run)
+    } else if word == b"break".as_slice() {
+        Some(Name::Break)
+    } else if word == b"unbreak".as_slice() {
+        Some(Name::Unbreak)
+    } else if word == b"watch".as_slice() {
+        Some(Name::Watch)
+    } else if word == b"unwatch".as_slice() {
+        Some(Name::Unwatch)
+    } else if word == b"back".as_slice() {
+        Some(Name::Back)
     } else {
         None
     }

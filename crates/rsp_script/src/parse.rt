@@ -1,10 +1,10 @@
 ghost use Rattle.std.specs.Prelude.{◌≡◌, ◌≤◌, ◌%◌, IfOk};
-ghost use Rattle.rsp_script.specs.Command.{IsCommand, alone, one_number, one_place, load, mem, write, command_of_words};
+ghost use Rattle.rsp_script.specs.Command.{IsCommand, alone, one_number, one_place, load, mem, write, dis, watch, command_of_words};
 
 use crate::name::{Name, name_of};
 use crate::operand::{bank, bytes, place, ranged};
 use crate::words::Words;
-use crate::{Command, LineFault};
+use crate::{Command, LineFault, Look};
 
 const LAST_ADDRESS: u32 = 16_777_215;
 
@@ -89,7 +89,7 @@ fn parse_mem(mut words: Words) -> Result<Command, LineFault>
         return Err(LineFault::BadCommand);
     };
     match (ranged(0, LAST_ADDRESS, address), ranged(1, 256, len)) {
-        (Some(address), Some(len)) => Ok(Command::Mem { bank, address, len }),
+        (Some(address), Some(len)) => Ok(Command::Show(Look::Mem { bank, address, len })),
         _ => Err(LineFault::BadNumber),
     }
 }
@@ -112,6 +112,36 @@ fn parse_write(mut words: Words) -> Result<Command, LineFault>
     }
 }
 
+/// `dis ADDR N`
+#[tactic(auto, unfolding(crate::specs::Command::dis))]
+fn parse_dis(mut words: Words) -> Result<Command, LineFault>
+    ensures value { result ≡ dis words.entry }
+    ensures ranges { IfOk result IsCommand }
+{
+    let (Some(address), Some(count), None) = (words.next(), words.next(), words.next()) else {
+        return Err(LineFault::BadCommand);
+    };
+    match (place(address), ranged(1, 64, count)) {
+        (Some(address), Some(count)) => Ok(Command::Show(Look::Dis { address, count })),
+        _ => Err(LineFault::BadNumber),
+    }
+}
+
+/// `watch ADDR LEN`
+#[tactic(auto, unfolding(crate::specs::Command::watch))]
+fn parse_watch(mut words: Words) -> Result<Command, LineFault>
+    ensures value { result ≡ watch words.entry }
+    ensures ranges { IfOk result IsCommand }
+{
+    let (Some(address), Some(len), None) = (words.next(), words.next(), words.next()) else {
+        return Err(LineFault::BadCommand);
+    };
+    match (ranged(0, u32::MAX, address), ranged(0, u32::MAX, len)) {
+        (Some(address), Some(len)) => Ok(Command::Watch { address, len }),
+        _ => Err(LineFault::BadNumber),
+    }
+}
+
 /// What words say.
 #[tactic(auto, unfolding(crate::specs::Command::command_of_words))]
 pub fn parse_words(mut words: Words) -> Result<Command, LineFault>
@@ -127,7 +157,7 @@ pub fn parse_words(mut words: Words) -> Result<Command, LineFault>
     match name {
         Name::Load => parse_load(words),
         Name::Step => alone(words, Command::Step),
-        Name::Regs => alone(words, Command::Regs),
+        Name::Regs => alone(words, Command::Show(Look::Regs)),
         Name::Mem => parse_mem(words),
         Name::Read => Ok(Command::Read {
             register: one_number(0, 15, words)? as u8,
@@ -139,12 +169,29 @@ pub fn parse_words(mut words: Words) -> Result<Command, LineFault>
         Name::Task => Ok(Command::Task {
             address: one_number(0, LAST_ADDRESS, words)?,
         }),
-        Name::Sp => alone(words, Command::Sp),
-        Name::Vregs => alone(words, Command::Vregs),
-        Name::Acc => alone(words, Command::Acc),
-        Name::Flags => alone(words, Command::Flags),
+        Name::Sp => alone(words, Command::Show(Look::Sp)),
+        Name::Vregs => alone(words, Command::Show(Look::Vregs)),
+        Name::Acc => alone(words, Command::Show(Look::Acc)),
+        Name::Flags => alone(words, Command::Show(Look::Flags)),
         Name::Asm => Ok(Command::Asm {
             address: one_place(words)?,
+        }),
+        Name::Dis => parse_dis(words),
+        Name::Run => Ok(Command::Run {
+            limit: one_number(0, u32::MAX, words)?,
+        }),
+        Name::Break => Ok(Command::Break {
+            address: one_place(words)?,
+        }),
+        Name::Unbreak => Ok(Command::Unbreak {
+            address: one_place(words)?,
+        }),
+        Name::Watch => parse_watch(words),
+        Name::Unwatch => Ok(Command::Unwatch {
+            number: one_number(0, u32::MAX, words)?,
+        }),
+        Name::Back => Ok(Command::Back {
+            count: one_number(0, u32::MAX, words)?,
         }),
     }
 }

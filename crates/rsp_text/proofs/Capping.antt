@@ -1,11 +1,11 @@
 -- A number that counts no further than the limit is in each range exactly where the number itself is.
-use Rattle.std.proofs.Common.{◌≡◌, refl, ap, ◌∙◌, ℕ, ◌+◌, ◌≤◌, arith, pos, negsuc, ℤ, zero, suc, sym, inl, inr, ◌-◌}
-use Rattle.std.specs.Prelude.{◌+ℤ◌, Some, None, min}
+use Rattle.std.proofs.Common.{◌≡◌, ap, ◌∙◌, ℕ, ◌+◌, ◌≤◌, arith, pos, negsuc, ℤ, sym, inl, inr, ◌-◌}
+use Rattle.std.specs.Prelude.{◌+ℤ◌, None, min}
 use Rattle.std.proofs.lemmas.Bool.{cases_lt}
 use Rattle.std.proofs.lemmas.Bool.Decides.{nat_tests}
 use Rattle.std.proofs.lemmas.Int.{ints}
 use Rattle.rsp_text.specs.Numbers.{capped_ℤ, many}
-use Rattle.rsp_text.specs.Statement.{half, word, branch}
+use Rattle.rsp_text.specs.Statement.{half}
 
 pub half_capped : (base : ℕ) (z : ℤ) → base ≤ 4096 → half (pos base +ℤ capped_ℤ z) ≡ half (pos base +ℤ z)
 half_capped base (pos n) low = grind (arith, nat_tests)

@@ -1,10 +1,10 @@
 -- What an expression is, by what was found in its text.
-use Rattle.std.proofs.Common.{◌≡◌, refl, sym, ap, ◌∙◌, ℕ, List, [], ◌∷◌, Bool, true, false, pos}
+use Rattle.std.proofs.Common.{◌≡◌, refl, sym, ap, ◌∙◌, ℕ, List, Bool, true, false, pos}
 use Rattle.std.specs.Prelude.{Option, Some, None, ℤ, option_map}
-use Rattle.std.proofs.lemmas.Bool.{cond-true, cond-false}
+use Rattle.std.proofs.lemmas.Bool.{cond-false}
 use Rattle.rsp_text.specs.declared.text.Stop.TheVariants.{Plus, Minus}
 use Rattle.rsp_text.specs.Chars.{cut, skip_blanks, trim}
-use Rattle.rsp_text.specs.Numbers.{Expression, constant, plus, capped, capped_ℤ, signed_number, is_label, unsigned_of, number_of, number_or, sides, label_and_number, expression_of}
+use Rattle.rsp_text.specs.Numbers.{Expression, constant, plus, capped, capped_ℤ, signed_number, is_label, number_of, number_or, sides, label_and_number, expression_of}
 use Rattle.rsp_text.specs.Seen.{capped_expression}
 use Rattle.rsp_text.proofs.Numerals.{capped_neg}
 

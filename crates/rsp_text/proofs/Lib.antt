@@ -1,4 +1,7 @@
 pub mod Cuts
+pub mod Splits
+pub mod Lines
+pub mod Places
 pub mod Numerals
 pub mod Tables
 pub mod Expressions

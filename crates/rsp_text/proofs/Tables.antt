@@ -1,6 +1,6 @@
 -- One step of a search through a table.
-use Rattle.std.proofs.Common.{◌≡◌, sym, ap, ◌∙◌, ℕ, ◌+◌, ◌<◌, List, ◌∷◌, length, drop, get_or, Bool, true, false, drop-cons, add-one, Bor, arith}
-use Rattle.std.specs.Prelude.{map, Option, Some, IsTrue, ◌↔◌}
+use Rattle.std.proofs.Common.{◌≡◌, ap, ◌∙◌, ℕ, ◌+◌, ◌<◌, List, ◌∷◌, length, drop, get_or, Bool, true, false, drop-cons, add-one, Bor, arith}
+use Rattle.std.specs.Prelude.{map, Some, IsTrue, ◌↔◌}
 use Rattle.std.specs.Str.{bytes_eq}
 use Rattle.std.proofs.lemmas.Slice.Eq.{bytes_eq-Decides}
 use Rattle.std.proofs.lemmas.Grind.{common_steps}

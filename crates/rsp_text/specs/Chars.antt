@@ -1,6 +1,6 @@
 -- The bytes of a text, and where it is cut.
-use Rattle.std.specs.Prelude.{ℕ, ◌==◌, nat_le, nat_lt, Bool, ◌&&◌, ◌||◌, List, [], ◌∷◌, reverse, Option, Some, None, if◌then◌else◌}
-use Rattle.std.specs.List.{list_all, list_any, before_first, after_first}
+use Rattle.std.specs.Prelude.{ℕ, ◌==◌, nat_le, Bool, ◌&&◌, ◌||◌, List, [], ◌∷◌, reverse, Option, Some, None, if◌then◌else◌}
+use Rattle.std.specs.List.{list_any, before_first, after_first}
 use Rattle.rsp_text.specs.declared.text.Stop.{Stop}
 use Rattle.rsp_text.specs.declared.text.Stop.TheVariants.{Blank, Colon, Comma, Comment, Bracket, Newline, Parenthesis, Plus, Minus}
 

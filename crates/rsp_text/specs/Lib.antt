@@ -6,3 +6,4 @@ pub mod Statement
 pub mod Source
 pub mod Means
 pub mod Rows
+pub mod Spell

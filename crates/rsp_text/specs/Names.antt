@@ -1,5 +1,5 @@
 -- The names of registers, elements and lanes.
-use Rattle.std.specs.Prelude.{ℕ, ◌+◌, ◌-◌, ◌*◌, ◌==◌, nat_lt, nat_le, Bool, ◌&&◌, ◌||◌, List, [], ◌∷◌, ◌++◌, drop, map, length, slice_index, Option, Some, None, if◌then◌else◌, codes, is_some}
+use Rattle.std.specs.Prelude.{ℕ, ◌+◌, ◌-◌, ◌*◌, ◌==◌, nat_lt, nat_le, Bool, ◌&&◌, ◌||◌, List, [], ◌∷◌, drop, length, slice_index, Option, Some, None, if◌then◌else◌, codes, is_some}
 use Rattle.std.specs.Str.{str_eq_ignore_ascii_case}
 
 -- the number beside the first of these names, in either case

@@ -1,5 +1,5 @@
 -- What the code's values mean.
-use Rattle.std.specs.Prelude.{ℕ, ◌+◌, List, option_map}
+use Rattle.std.specs.Prelude.{option_map}
 use Rattle.rsp_text.specs.declared.expression.Expression.{Expression}
 use Rattle.rsp_text.specs.Numbers as numbers
 use Rattle.rsp_text.specs.Numbers.{capped_ℤ}

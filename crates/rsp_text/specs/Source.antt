@@ -1,5 +1,5 @@
 -- What a line means, where the labels and its place are known.
-use Rattle.std.specs.Prelude.{ℕ, ◌+◌, ◌*◌, ◌==◌, nat_le, nat_lt, Bool, true, false, ◌&&◌, List, [], ◌∷◌, ◌++◌, length, Option, Some, None, is_some, Result, Ok, Err, if◌then◌else◌}
+use Rattle.std.specs.Prelude.{ℕ, ◌+◌, ◌*◌, nat_le, nat_lt, Bool, false, ◌&&◌, List, [], ◌∷◌, ◌++◌, flat_map, length, Option, Some, None, is_some, Result, Ok, Err, if◌then◌else◌}
 use Rattle.std.specs.List.{list_all, list_any}
 use Rattle.rsp_text.specs.declared.fault.AsmFaultKind.{AsmFaultKind}
 use Rattle.rsp_text.specs.declared.fault.AsmFaultKind.TheVariants.{BadLine, OutOfRange, LabelTwice, PastEnd}
@@ -7,6 +7,10 @@ use Rattle.rsp_text.specs.declared.text.Stop.TheVariants.{Comment, Colon}
 use Rattle.rsp_text.specs.Chars.{is_plain, cut, skip_blanks, trim}
 use Rattle.rsp_text.specs.Numbers.{is_label}
 use Rattle.rsp_text.specs.Statement.{Labels, find_label, Reading, Statement, readings, statement_of, size, number_fails, words_of}
+
+-- the text of some lines, each with LF behind it
+abbrev pub text_of_lines : List (List ℕ) → List ℕ
+text_of_lines ls = flat_map (λ l. l ++ 10 ∷ []) ls
 
 -- a line: its label, and the text of its statement
 pub record Parts : Type 0 where

@@ -1,6 +1,6 @@
 -- What a statement means, where the labels and its place are known.
-use Rattle.std.specs.Prelude.{ℕ, suc, ◌^◌, ◌+◌, ◌-◌, ◌*◌, ◌/◌, ◌%◌, ◌==◌, nat_le, nat_lt, Bool, true, false, ◌&&◌, List, [], ◌∷◌, ◌++◌, length, map, find, take, slice_index, is_none, Option, Some, None, option_map, option_and_then, Result, Ok, Err, if◌then◌else◌, codes, ℤ, pos, negsuc, ◌+ℤ◌}
-use Rattle.std.specs.List.{before_first, after_first, slice_split, list_any}
+use Rattle.std.specs.Prelude.{ℕ, suc, ◌^◌, ◌+◌, ◌-◌, ◌*◌, ◌/◌, ◌%◌, ◌==◌, nat_le, nat_lt, Bool, false, ◌&&◌, List, [], ◌∷◌, ◌++◌, length, map, find, take, slice_index, is_none, Option, Some, None, option_map, option_and_then, Result, Ok, Err, if◌then◌else◌, codes, ℤ, pos, negsuc, ◌+ℤ◌}
+use Rattle.std.specs.List.{before_first, after_first, slice_split}
 use Rattle.std.specs.Str.{bytes_eq, str_eq_ignore_ascii_case}
 use Rattle.rsp_decode.specs.Table.{Operand, scalar, shift_amount, signed, unsigned, jump_target, branch_target, scalar_memory, vector_memory, sp_register, control_register, vector, vector_byte, vector_element, vector_lane, Place, with_fields, Row, row, selector, one, rows, word_from}
 use Rattle.rsp_decode.specs.declared.inst.Inst.TheVariants.{JumpLinkRegister}

@@ -2,7 +2,7 @@
 
 ghost use Rattle.std.specs.Prelude.{◌≡◌, map, option_map};
 ghost use Rattle.rsp_decode.specs.Table.{rows};
-ghost use Rattle.rsp_text.specs.Rows.{operand, row_entry, entry_of, entry_named};
+ghost use Rattle.rsp_text.specs.Rows.{operand, row_entry, entry_of, entry_named, text_row, selector_of, selected_at};
 
 use crate::text::is_same;
 
@@ -45,6 +45,15 @@ pub enum Kind {
 pub struct TableRow {
     /// The word whose named fields are 0.
     pub value: u32,
+    /// The kinds of its operands, in the order of its text.
+    pub operands: &'static [Kind],
+}
+
+/// What a row's text is made of.
+#[derive(Clone, Copy)]
+pub struct TextRow {
+    /// The name, in lower case.
+    pub name: &'static str,
     /// The kinds of its operands, in the order of its text.
     pub operands: &'static [Kind],
 }
@@ -97,130 +106,155 @@ const TRANSFER_16: &[Kind] = &[Kind::VectorByte(16, 1), Kind::VectorMemory(16)];
 
 const TRANSFER_HALF: &[Kind] = &[Kind::VectorByte(16, 8), Kind::VectorMemory(16)];
 
-/// Names, words without operands, and operands, in the order of the instruction table.
-static ROWS: [(&str, u32, &[Kind]); 116] = [
-    ("sll", 0x0000_0000, SHIFT),
-    ("srl", 0x0000_0002, SHIFT),
-    ("sra", 0x0000_0003, SHIFT),
-    ("sllv", 0x0000_0004, SHIFT_BY),
-    ("srlv", 0x0000_0006, SHIFT_BY),
-    ("srav", 0x0000_0007, SHIFT_BY),
-    ("jr", 0x0000_0008, SOURCE),
-    ("jalr", 0x0000_0009, LINK),
-    ("break", 0x0000_000d, NOTHING),
-    ("add", 0x0000_0020, REGISTERS),
-    ("addu", 0x0000_0021, REGISTERS),
-    ("sub", 0x0000_0022, REGISTERS),
-    ("subu", 0x0000_0023, REGISTERS),
-    ("and", 0x0000_0024, REGISTERS),
-    ("or", 0x0000_0025, REGISTERS),
-    ("xor", 0x0000_0026, REGISTERS),
-    ("nor", 0x0000_0027, REGISTERS),
-    ("slt", 0x0000_002a, REGISTERS),
-    ("sltu", 0x0000_002b, REGISTERS),
-    ("bltz", 0x0400_0000, BRANCH_SIGN),
-    ("bgez", 0x0401_0000, BRANCH_SIGN),
-    ("bltzal", 0x0410_0000, BRANCH_SIGN),
-    ("bgezal", 0x0411_0000, BRANCH_SIGN),
-    ("blez", 0x1800_0000, BRANCH_SIGN),
-    ("bgtz", 0x1c00_0000, BRANCH_SIGN),
-    ("j", 0x0800_0000, JUMP),
-    ("jal", 0x0c00_0000, JUMP),
-    ("beq", 0x1000_0000, BRANCH_EQUAL),
-    ("bne", 0x1400_0000, BRANCH_EQUAL),
-    ("addi", 0x2000_0000, SIGNED),
-    ("addiu", 0x2400_0000, SIGNED),
-    ("slti", 0x2800_0000, SIGNED),
-    ("sltiu", 0x2c00_0000, SIGNED),
-    ("andi", 0x3000_0000, UNSIGNED),
-    ("ori", 0x3400_0000, UNSIGNED),
-    ("xori", 0x3800_0000, UNSIGNED),
-    ("lui", 0x3c00_0000, UPPER),
-    ("lb", 0x8000_0000, MEMORY),
-    ("lh", 0x8400_0000, MEMORY),
-    ("lw", 0x8c00_0000, MEMORY),
-    ("lbu", 0x9000_0000, MEMORY),
-    ("lhu", 0x9400_0000, MEMORY),
-    ("lwu", 0x9c00_0000, MEMORY),
-    ("sb", 0xa000_0000, MEMORY),
-    ("sh", 0xa400_0000, MEMORY),
-    ("sw", 0xac00_0000, MEMORY),
-    ("mfc0", 0x4000_0000, MOVE_SP),
-    ("mtc0", 0x4080_0000, MOVE_SP),
-    ("mfc2", 0x4800_0000, MOVE_VECTOR),
-    ("mtc2", 0x4880_0000, MOVE_VECTOR),
-    ("cfc2", 0x4840_0000, MOVE_CONTROL),
-    ("ctc2", 0x48c0_0000, MOVE_CONTROL),
-    ("vmulf", 0x4a00_0000, VECTORS),
-    ("vmulu", 0x4a00_0001, VECTORS),
-    ("vmudl", 0x4a00_0004, VECTORS),
-    ("vmudm", 0x4a00_0005, VECTORS),
-    ("vmudn", 0x4a00_0006, VECTORS),
-    ("vmudh", 0x4a00_0007, VECTORS),
-    ("vmacf", 0x4a00_0008, VECTORS),
-    ("vmacu", 0x4a00_0009, VECTORS),
-    ("vmadl", 0x4a00_000c, VECTORS),
-    ("vmadm", 0x4a00_000d, VECTORS),
-    ("vmadn", 0x4a00_000e, VECTORS),
-    ("vmadh", 0x4a00_000f, VECTORS),
-    ("vsar", 0x4a00_001d, VECTORS),
-    ("vadd", 0x4a00_0010, VECTORS),
-    ("vsub", 0x4a00_0011, VECTORS),
-    ("vabs", 0x4a00_0013, VECTORS),
-    ("vaddc", 0x4a00_0014, VECTORS),
-    ("vsubc", 0x4a00_0015, VECTORS),
-    ("vlt", 0x4a00_0020, VECTORS),
-    ("veq", 0x4a00_0021, VECTORS),
-    ("vne", 0x4a00_0022, VECTORS),
-    ("vge", 0x4a00_0023, VECTORS),
-    ("vcl", 0x4a00_0024, VECTORS),
-    ("vch", 0x4a00_0025, VECTORS),
-    ("vcr", 0x4a00_0026, VECTORS),
-    ("vmrg", 0x4a00_0027, VECTORS),
-    ("vand", 0x4a00_0028, VECTORS),
-    ("vnand", 0x4a00_0029, VECTORS),
-    ("vor", 0x4a00_002a, VECTORS),
-    ("vnor", 0x4a00_002b, VECTORS),
-    ("vxor", 0x4a00_002c, VECTORS),
-    ("vnxor", 0x4a00_002d, VECTORS),
-    ("vrcp", 0x4a00_0030, LANE),
-    ("vrcpl", 0x4a00_0031, LANE),
-    ("vrcph", 0x4a00_0032, LANE),
-    ("vmov", 0x4a00_0033, LANE),
-    ("vrsq", 0x4a00_0034, LANE),
-    ("vrsql", 0x4a00_0035, LANE),
-    ("vrsqh", 0x4a00_0036, LANE),
-    ("vnop", 0x4a00_0037, NOTHING),
-    ("vnull", 0x4a00_003f, NOTHING),
-    ("lbv", 0xc800_0000, TRANSFER_1),
-    ("lsv", 0xc800_0800, TRANSFER_2),
-    ("llv", 0xc800_1000, TRANSFER_4),
-    ("ldv", 0xc800_1800, TRANSFER_8),
-    ("lqv", 0xc800_2000, TRANSFER_16),
-    ("lrv", 0xc800_2800, TRANSFER_16),
-    ("lpv", 0xc800_3000, TRANSFER_8),
-    ("luv", 0xc800_3800, TRANSFER_8),
-    ("lhv", 0xc800_4000, TRANSFER_16),
-    ("lfv", 0xc800_4800, TRANSFER_HALF),
-    ("ltv", 0xc800_5800, TRANSFER_16),
-    ("sbv", 0xe800_0000, TRANSFER_1),
-    ("ssv", 0xe800_0800, TRANSFER_2),
-    ("slv", 0xe800_1000, TRANSFER_4),
-    ("sdv", 0xe800_1800, TRANSFER_8),
-    ("sqv", 0xe800_2000, TRANSFER_16),
-    ("srv", 0xe800_2800, TRANSFER_16),
-    ("spv", 0xe800_3000, TRANSFER_8),
-    ("suv", 0xe800_3800, TRANSFER_8),
-    ("shv", 0xe800_4000, TRANSFER_16),
-    ("sfv", 0xe800_4800, TRANSFER_HALF),
-    ("swv", 0xe800_5000, TRANSFER_16),
-    ("stv", 0xe800_5800, TRANSFER_16),
+/// The bits that select a row of opcode 0, by its function.
+const SPECIAL: u32 = 0xfc00_003f;
+
+/// Of opcode 1.
+const REGIMM: u32 = 0xfc1f_0000;
+
+/// By the opcode alone.
+const OPCODE: u32 = 0xfc00_0000;
+
+/// Of the moves between registers, by rs.
+const MOVE: u32 = 0xffe0_0000;
+
+/// Of the computing vector rows, by their function.
+const COMPUTING: u32 = 0xfe00_003f;
+
+/// Of the vector loads and stores, by their operation.
+const TRANSFER: u32 = 0xfc00_f800;
+
+/// Of those whose element is 0 or 8.
+const HALF_TRANSFER: u32 = 0xfc00_fb80;
+
+/// Names, the bits that select a row, words without operands, and operands, in the order of the instruction table.
+static ROWS: [(&str, u32, u32, &[Kind]); 120] = [
+    ("sll", SPECIAL, 0x0000_0000, SHIFT),
+    ("srl", SPECIAL, 0x0000_0002, SHIFT),
+    ("sra", SPECIAL, 0x0000_0003, SHIFT),
+    ("sllv", SPECIAL, 0x0000_0004, SHIFT_BY),
+    ("srlv", SPECIAL, 0x0000_0006, SHIFT_BY),
+    ("srav", SPECIAL, 0x0000_0007, SHIFT_BY),
+    ("jr", SPECIAL, 0x0000_0008, SOURCE),
+    ("jalr", SPECIAL, 0x0000_0009, LINK),
+    ("break", SPECIAL, 0x0000_000d, NOTHING),
+    ("add", SPECIAL, 0x0000_0020, REGISTERS),
+    ("addu", SPECIAL, 0x0000_0021, REGISTERS),
+    ("sub", SPECIAL, 0x0000_0022, REGISTERS),
+    ("subu", SPECIAL, 0x0000_0023, REGISTERS),
+    ("and", SPECIAL, 0x0000_0024, REGISTERS),
+    ("or", SPECIAL, 0x0000_0025, REGISTERS),
+    ("xor", SPECIAL, 0x0000_0026, REGISTERS),
+    ("nor", SPECIAL, 0x0000_0027, REGISTERS),
+    ("slt", SPECIAL, 0x0000_002a, REGISTERS),
+    ("sltu", SPECIAL, 0x0000_002b, REGISTERS),
+    ("bltz", REGIMM, 0x0400_0000, BRANCH_SIGN),
+    ("bgez", REGIMM, 0x0401_0000, BRANCH_SIGN),
+    ("bltzal", REGIMM, 0x0410_0000, BRANCH_SIGN),
+    ("bgezal", REGIMM, 0x0411_0000, BRANCH_SIGN),
+    ("blez", OPCODE, 0x1800_0000, BRANCH_SIGN),
+    ("bgtz", OPCODE, 0x1c00_0000, BRANCH_SIGN),
+    ("j", OPCODE, 0x0800_0000, JUMP),
+    ("jal", OPCODE, 0x0c00_0000, JUMP),
+    ("beq", OPCODE, 0x1000_0000, BRANCH_EQUAL),
+    ("bne", OPCODE, 0x1400_0000, BRANCH_EQUAL),
+    ("addi", OPCODE, 0x2000_0000, SIGNED),
+    ("addiu", OPCODE, 0x2400_0000, SIGNED),
+    ("slti", OPCODE, 0x2800_0000, SIGNED),
+    ("sltiu", OPCODE, 0x2c00_0000, SIGNED),
+    ("andi", OPCODE, 0x3000_0000, UNSIGNED),
+    ("ori", OPCODE, 0x3400_0000, UNSIGNED),
+    ("xori", OPCODE, 0x3800_0000, UNSIGNED),
+    ("lui", OPCODE, 0x3c00_0000, UPPER),
+    ("lb", OPCODE, 0x8000_0000, MEMORY),
+    ("lh", OPCODE, 0x8400_0000, MEMORY),
+    ("lw", OPCODE, 0x8c00_0000, MEMORY),
+    ("lbu", OPCODE, 0x9000_0000, MEMORY),
+    ("lhu", OPCODE, 0x9400_0000, MEMORY),
+    ("lwu", OPCODE, 0x9c00_0000, MEMORY),
+    ("sb", OPCODE, 0xa000_0000, MEMORY),
+    ("sh", OPCODE, 0xa400_0000, MEMORY),
+    ("sw", OPCODE, 0xac00_0000, MEMORY),
+    ("mfc0", MOVE, 0x4000_0000, MOVE_SP),
+    ("mtc0", MOVE, 0x4080_0000, MOVE_SP),
+    ("mfc2", MOVE, 0x4800_0000, MOVE_VECTOR),
+    ("mtc2", MOVE, 0x4880_0000, MOVE_VECTOR),
+    ("cfc2", MOVE, 0x4840_0000, MOVE_CONTROL),
+    ("ctc2", MOVE, 0x48c0_0000, MOVE_CONTROL),
+    ("vmulf", COMPUTING, 0x4a00_0000, VECTORS),
+    ("vmulu", COMPUTING, 0x4a00_0001, VECTORS),
+    ("vmudl", COMPUTING, 0x4a00_0004, VECTORS),
+    ("vmudm", COMPUTING, 0x4a00_0005, VECTORS),
+    ("vmudn", COMPUTING, 0x4a00_0006, VECTORS),
+    ("vmudh", COMPUTING, 0x4a00_0007, VECTORS),
+    ("vmacf", COMPUTING, 0x4a00_0008, VECTORS),
+    ("vmacu", COMPUTING, 0x4a00_0009, VECTORS),
+    ("vmadl", COMPUTING, 0x4a00_000c, VECTORS),
+    ("vmadm", COMPUTING, 0x4a00_000d, VECTORS),
+    ("vmadn", COMPUTING, 0x4a00_000e, VECTORS),
+    ("vmadh", COMPUTING, 0x4a00_000f, VECTORS),
+    ("vrndp", COMPUTING, 0x4a00_0002, VECTORS),
+    ("vrndn", COMPUTING, 0x4a00_000a, VECTORS),
+    ("vmulq", COMPUTING, 0x4a00_0003, VECTORS),
+    ("vmacq", COMPUTING, 0x4a00_000b, VECTORS),
+    ("vsar", COMPUTING, 0x4a00_001d, VECTORS),
+    ("vadd", COMPUTING, 0x4a00_0010, VECTORS),
+    ("vsub", COMPUTING, 0x4a00_0011, VECTORS),
+    ("vabs", COMPUTING, 0x4a00_0013, VECTORS),
+    ("vaddc", COMPUTING, 0x4a00_0014, VECTORS),
+    ("vsubc", COMPUTING, 0x4a00_0015, VECTORS),
+    ("vlt", COMPUTING, 0x4a00_0020, VECTORS),
+    ("veq", COMPUTING, 0x4a00_0021, VECTORS),
+    ("vne", COMPUTING, 0x4a00_0022, VECTORS),
+    ("vge", COMPUTING, 0x4a00_0023, VECTORS),
+    ("vcl", COMPUTING, 0x4a00_0024, VECTORS),
+    ("vch", COMPUTING, 0x4a00_0025, VECTORS),
+    ("vcr", COMPUTING, 0x4a00_0026, VECTORS),
+    ("vmrg", COMPUTING, 0x4a00_0027, VECTORS),
+    ("vand", COMPUTING, 0x4a00_0028, VECTORS),
+    ("vnand", COMPUTING, 0x4a00_0029, VECTORS),
+    ("vor", COMPUTING, 0x4a00_002a, VECTORS),
+    ("vnor", COMPUTING, 0x4a00_002b, VECTORS),
+    ("vxor", COMPUTING, 0x4a00_002c, VECTORS),
+    ("vnxor", COMPUTING, 0x4a00_002d, VECTORS),
+    ("vrcp", COMPUTING, 0x4a00_0030, LANE),
+    ("vrcpl", COMPUTING, 0x4a00_0031, LANE),
+    ("vrcph", COMPUTING, 0x4a00_0032, LANE),
+    ("vmov", COMPUTING, 0x4a00_0033, LANE),
+    ("vrsq", COMPUTING, 0x4a00_0034, LANE),
+    ("vrsql", COMPUTING, 0x4a00_0035, LANE),
+    ("vrsqh", COMPUTING, 0x4a00_0036, LANE),
+    ("vnop", COMPUTING, 0x4a00_0037, NOTHING),
+    ("vnull", COMPUTING, 0x4a00_003f, NOTHING),
+    ("lbv", TRANSFER, 0xc800_0000, TRANSFER_1),
+    ("lsv", TRANSFER, 0xc800_0800, TRANSFER_2),
+    ("llv", TRANSFER, 0xc800_1000, TRANSFER_4),
+    ("ldv", TRANSFER, 0xc800_1800, TRANSFER_8),
+    ("lqv", TRANSFER, 0xc800_2000, TRANSFER_16),
+    ("lrv", TRANSFER, 0xc800_2800, TRANSFER_16),
+    ("lpv", TRANSFER, 0xc800_3000, TRANSFER_8),
+    ("luv", TRANSFER, 0xc800_3800, TRANSFER_8),
+    ("lhv", TRANSFER, 0xc800_4000, TRANSFER_16),
+    ("lfv", HALF_TRANSFER, 0xc800_4800, TRANSFER_HALF),
+    ("ltv", TRANSFER, 0xc800_5800, TRANSFER_16),
+    ("sbv", TRANSFER, 0xe800_0000, TRANSFER_1),
+    ("ssv", TRANSFER, 0xe800_0800, TRANSFER_2),
+    ("slv", TRANSFER, 0xe800_1000, TRANSFER_4),
+    ("sdv", TRANSFER, 0xe800_1800, TRANSFER_8),
+    ("sqv", TRANSFER, 0xe800_2000, TRANSFER_16),
+    ("srv", TRANSFER, 0xe800_2800, TRANSFER_16),
+    ("spv", TRANSFER, 0xe800_3000, TRANSFER_8),
+    ("suv", TRANSFER, 0xe800_3800, TRANSFER_8),
+    ("shv", TRANSFER, 0xe800_4000, TRANSFER_16),
+    ("sfv", HALF_TRANSFER, 0xe800_4800, TRANSFER_HALF),
+    ("swv", TRANSFER, 0xe800_5000, TRANSFER_16),
+    ("stv", TRANSFER, 0xe800_5800, TRANSFER_16),
 ];
 
-fn find_in(table: &'static [(&str, u32, &[Kind])], name: &[u8]) -> Option<TableRow>
-    ensures { option_map row_entry result ≡ entry_named (map (λ e. record { name = e.0.now; entry = record { value = e.1; operands = map operand e.2.now } }) table.now) name.now }
+fn find_in(table: &'static [(&str, u32, u32, &[Kind])], name: &[u8]) -> Option<TableRow>
+    ensures { option_map row_entry result ≡ entry_named (map (λ e. record { name = e.0.now; entry = record { value = e.2; operands = map operand e.3.now } }) table.now) name.now }
 {
-    for (row_name, value, operands) in table {
+    for (row_name, _, value, operands) in table {
         if is_same(name, row_name.as_bytes()) {
             return Some(TableRow {
                 value: *value,
@@ -236,4 +270,25 @@ pub fn find_row(name: &[u8]) -> Option<TableRow>
     ensures { option_map row_entry result ≡ entry_named (map entry_of rows) name.now }
 {
     find_in(&ROWS, name)
+}
+
+fn select_in(table: &'static [(&str, u32, u32, &[Kind])], word: u32) -> Option<TextRow>
+    ensures { option_map text_row result ≡ selected_at (map (λ e. record { mask = e.1; value = e.2; text = record { name = e.0.now; operands = map operand e.3.now } }) table.now) word }
+{
+    for (name, mask, value, operands) in table {
+        if word & *mask == *value {
+            return Some(TextRow {
+                name: *name,
+                operands: *operands,
+            });
+        }
+    }
+    None
+}
+
+/// The text of the row that a word fits; None for a reserved word.
+pub fn select_row(word: u32) -> Option<TextRow>
+    ensures { option_map text_row result ≡ selected_at (map selector_of rows) word }
+{
+    select_in(&ROWS, word)
 }

@@ -1,12 +1,43 @@
-//! Trials of the vector unit, which hold two machines against each other: one keeps its accumulators in planes, the other as whole
-//! numbers. The crate has tests alone. That the two never differ is proved where the machine is; here the compiled program shows it.
+//! Tests of the machine and of the crates below it, and of the texts of words, in one crate, so that those crates need no second proof for their tests. Among
+//! them are trials of the vector unit, which hold two machines against each other: one keeps its accumulators in planes, the other as whole numbers. That the
+//! two never differ, and that listings mean their words, is proved where the machine and the texts are; here the compiled program shows it.
 #![tactic(auto)]
 
 #[cfg(test)]
+mod clip;
+#[cfg(test)]
+mod compare;
+#[cfg(test)]
 mod computing;
+#[cfg(test)]
+mod debugger;
+#[cfg(test)]
+mod decode;
+#[cfg(test)]
+mod divide;
+#[cfg(test)]
+mod loadstore;
 #[cfg(test)]
 mod looks;
 #[cfg(test)]
+mod machine;
+#[cfg(test)]
+mod memory;
+#[cfg(test)]
+mod mpeg;
+#[cfg(test)]
+mod multiply;
+#[cfg(test)]
 mod random;
 #[cfg(test)]
+mod regs;
+#[cfg(test)]
+mod scalar;
+#[cfg(test)]
+mod shown;
+#[cfg(test)]
+mod spelling;
+#[cfg(test)]
 mod trials;
+#[cfg(test)]
+mod undo;

@@ -15,7 +15,7 @@ const LISTS: u32 = 1000;
 const LENGTH: u32 = 64;
 
 /// A machine with these words in IMEM, and these lanes in DMEM, from 0 on.
-fn machine_of<A: Acc>(
+pub fn machine_of<A: Acc>(
     rt: &impl Abort,
     alloc: Global,
     words: &[u32],

@@ -1,12 +1,16 @@
 -- The rows of the vector unit: above each, the text of the first of its group.
 use Rattle.std.specs.Prelude.{ℕ, ◌==◌, List, [], ◌∷◌, ◌++◌, map, codes, if◌then◌else◌}
-use Rattle.rsp_decode.specs.declared.inst.Inst.TheVariants.{MoveVector, MoveControl, Multiply, ReadAccumulator, VectorAdd, VectorSelect, VectorClip, VectorMerge, VectorLogic, Lane, Idle, VectorLoad, VectorStore}
+use Rattle.rsp_decode.specs.declared.inst.Inst.TheVariants.{MoveVector, MoveControl, Multiply, Round, MpegMultiply, ReadAccumulator, VectorAdd, VectorSelect, VectorClip, VectorMerge, VectorLogic, Lane, Idle, VectorLoad, VectorStore}
 use Rattle.rsp_decode.specs.declared.inst.MoveRow.{MoveRow}
 use Rattle.rsp_decode.specs.declared.inst.MoveRow.TheVariants.{From, To}
 use Rattle.rsp_decode.specs.declared.inst.Control.{Control}
 use Rattle.rsp_decode.specs.declared.inst.Control.TheVariants.{Vco, Vcc, Vce}
 use Rattle.rsp_decode.specs.declared.inst.MultiplyRow.{MultiplyRow}
 use Rattle.rsp_decode.specs.declared.inst.MultiplyRow.TheVariants.{Vmulf, Vmulu, Vmudl, Vmudm, Vmudn, Vmudh, Vmacf, Vmacu, Vmadl, Vmadm, Vmadn, Vmadh}
+use Rattle.rsp_decode.specs.declared.inst.RoundRow.{RoundRow}
+use Rattle.rsp_decode.specs.declared.inst.RoundRow.TheVariants.{Vrndp, Vrndn}
+use Rattle.rsp_decode.specs.declared.inst.MpegRow.{MpegRow}
+use Rattle.rsp_decode.specs.declared.inst.MpegRow.TheVariants.{Vmulq, Vmacq}
 use Rattle.rsp_decode.specs.declared.inst.VectorAddRow.{VectorAddRow}
 use Rattle.rsp_decode.specs.declared.inst.VectorAddRow.TheVariants.{Vadd, Vsub, Vabs, Vaddc, Vsubc}
 use Rattle.rsp_decode.specs.declared.inst.VectorSelectRow.{VectorSelectRow}
@@ -72,6 +76,24 @@ multiply_selector Vmadh = computing 0x0f (codes "vmadh")
 -- vmulf $vD, $vS, $vT[e]
 abbrev pub multiply_row : MultiplyRow → Row
 multiply_row r = row (multiply_selector r) (vector 6 ∷ vector 11 ∷ vector_element ∷ []) (four (Multiply r))
+
+-- what selects the roundings of the accumulator
+abbrev pub round_selector : RoundRow → Selector
+round_selector Vrndp = computing 0x02 (codes "vrndp")
+round_selector Vrndn = computing 0x0a (codes "vrndn")
+
+-- vrndp $vD, $vS, $vT[e]
+abbrev pub round_row : RoundRow → Row
+round_row r = row (round_selector r) (vector 6 ∷ vector 11 ∷ vector_element ∷ []) (four (Round r))
+
+-- what selects the multiplies for MPEG coefficients
+abbrev pub mpeg_selector : MpegRow → Selector
+mpeg_selector Vmulq = computing 0x03 (codes "vmulq")
+mpeg_selector Vmacq = computing 0x0b (codes "vmacq")
+
+-- vmulq $vD, $vS, $vT[e]
+abbrev pub mpeg_row : MpegRow → Row
+mpeg_row r = row (mpeg_selector r) (vector 6 ∷ vector 11 ∷ vector_element ∷ []) (four (MpegMultiply r))
 
 -- vsar $vD, $vS, $vT[e]
 abbrev pub read_accumulator_row : Row
@@ -236,6 +258,8 @@ cop2_rows =
 abbrev pub computing_rows : List Row
 computing_rows =
     map multiply_row (Vmulf ∷ Vmulu ∷ Vmudl ∷ Vmudm ∷ Vmudn ∷ Vmudh ∷ Vmacf ∷ Vmacu ∷ Vmadl ∷ Vmadm ∷ Vmadn ∷ Vmadh ∷ [])
+    ++ map round_row (Vrndp ∷ Vrndn ∷ [])
+    ++ map mpeg_row (Vmulq ∷ Vmacq ∷ [])
     ++ (read_accumulator_row ∷ [])
     ++ map vector_add_row (Vadd ∷ Vsub ∷ Vabs ∷ Vaddc ∷ Vsubc ∷ [])
     ++ map vector_select_row (Vlt ∷ Veq ∷ Vne ∷ Vge ∷ [])

@@ -1,11 +1,11 @@
 -- Words as instructions, and instructions as words.
 use Rattle.std.specs.Prelude.{ℕ, List, [], ◌∷◌, ◌++◌, find, Option, option_map}
 use Rattle.rsp_decode.specs.declared.inst.Inst.{Inst}
-use Rattle.rsp_decode.specs.declared.inst.Inst.TheVariants.{BranchEqual, BranchSign, Break, Idle, Immediate, Jump, JumpLinkRegister, JumpRegister, Lane, Load, LoadUpper, MoveControl, MoveSp, MoveVector, Register, Shift, ShiftBy, Store, Multiply, ReadAccumulator, VectorAdd, VectorSelect, VectorClip, VectorMerge, VectorLogic, VectorLoad, VectorStore}
+use Rattle.rsp_decode.specs.declared.inst.Inst.TheVariants.{BranchEqual, BranchSign, Break, Idle, Immediate, Jump, JumpLinkRegister, JumpRegister, Lane, Load, LoadUpper, MoveControl, MoveSp, MoveVector, Register, Shift, ShiftBy, Store, Multiply, Round, MpegMultiply, ReadAccumulator, VectorAdd, VectorSelect, VectorClip, VectorMerge, VectorLogic, VectorLoad, VectorStore}
 use Rattle.rsp_decode.specs.Table.Places.{with_fields, FitPlaces}
 use Rattle.rsp_decode.specs.Table.Rows.{Row, fits, fields, row_places, meaning_of}
 use Rattle.rsp_decode.specs.Table.ScalarRows.{shift_row, shift_by_row, jump_register_row, jump_link_register_row, break_row, register_row, branch_sign_row, jump_row, branch_equal_row, immediate_row, load_upper_row, load_row, store_row, move_sp_row, special_rows, regimm_rows, opcode_rows, cop0_rows}
-use Rattle.rsp_decode.specs.Table.VectorRows.{control_number, move_vector_row, move_control_row, multiply_row, read_accumulator_row, vector_add_row, vector_select_row, vector_clip_row, vector_merge_row, vector_logic_row, lane_row, idle_row, vector_load_row, vector_store_row, cop2_rows, computing_rows, load_rows, store_rows}
+use Rattle.rsp_decode.specs.Table.VectorRows.{control_number, move_vector_row, move_control_row, multiply_row, round_row, mpeg_row, read_accumulator_row, vector_add_row, vector_select_row, vector_clip_row, vector_merge_row, vector_logic_row, lane_row, idle_row, vector_load_row, vector_store_row, cop2_rows, computing_rows, load_rows, store_rows}
 
 -- the instruction table
 abbrev pub rows : List Row
@@ -46,6 +46,8 @@ parts (MoveSp r rt register) = (move_sp_row r, rt ∷ register ∷ [])
 parts (MoveVector r rt vector' element) = (move_vector_row r, rt ∷ vector' ∷ element ∷ [])
 parts (MoveControl r rt control) = (move_control_row r, rt ∷ control_number control ∷ [])
 parts (Multiply r vd vs vt element) = (multiply_row r, vd ∷ vs ∷ vt ∷ element ∷ [])
+parts (Round r vd vs vt element) = (round_row r, vd ∷ vs ∷ vt ∷ element ∷ [])
+parts (MpegMultiply r vd vs vt element) = (mpeg_row r, vd ∷ vs ∷ vt ∷ element ∷ [])
 parts (ReadAccumulator vd vs vt element) = (read_accumulator_row, vd ∷ vs ∷ vt ∷ element ∷ [])
 parts (VectorAdd r vd vs vt element) = (vector_add_row r, vd ∷ vs ∷ vt ∷ element ∷ [])
 parts (VectorSelect r vd vs vt element) = (vector_select_row r, vd ∷ vs ∷ vt ∷ element ∷ [])

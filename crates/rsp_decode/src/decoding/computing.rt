@@ -2,11 +2,12 @@
 
 ghost use Rattle.std.specs.Prelude.{true, ◌≡◌, ◌*◌, ◌+◌, ◌^◌};
 ghost use Rattle.rsp_decode.specs.Visit.{is_known, visited};
-ghost use Rattle.rsp_decode.specs.Table.{value_at, whole, pick, meaning_of, computing_rows, multiply_row, read_accumulator_row, vector_add_row, vector_select_row, vector_clip_row, vector_merge_row, vector_logic_row, lane_row, idle_row};
+ghost use Rattle.rsp_decode.specs.Table.{value_at, whole, pick, meaning_of, computing_rows, multiply_row, round_row, mpeg_row, read_accumulator_row, vector_add_row, vector_select_row, vector_clip_row, vector_merge_row, vector_logic_row, lane_row, idle_row};
 
 use crate::fields::{element, function, lane, vd, vs, vt};
 use crate::inst::{
-    IdleRow, LaneRow, MultiplyRow, VectorAddRow, VectorClipRow, VectorLogicRow, VectorSelectRow,
+    IdleRow, LaneRow, MpegRow, MultiplyRow, RoundRow, VectorAddRow, VectorClipRow, VectorLogicRow,
+    VectorSelectRow,
 };
 use crate::visitor::Visitor;
 
@@ -16,6 +17,24 @@ fn multiply<V: Visitor>(word: u32, row: MultiplyRow, visitor: &mut V) -> bool
     ensures state { visitor.new ≡ V.after (meaning_of (multiply_row row) word) visitor.old }
 {
     visitor.multiply(row, vd(word), vs(word), vt(word), element(word));
+    true
+}
+
+#[inline(always)]
+fn round<V: Visitor>(word: u32, row: RoundRow, visitor: &mut V) -> bool
+    ensures known { result ≡ true }
+    ensures state { visitor.new ≡ V.after (meaning_of (round_row row) word) visitor.old }
+{
+    visitor.round(row, vd(word), vs(word), vt(word), element(word));
+    true
+}
+
+#[inline(always)]
+fn mpeg_multiply<V: Visitor>(word: u32, row: MpegRow, visitor: &mut V) -> bool
+    ensures known { result ≡ true }
+    ensures state { visitor.new ≡ V.after (meaning_of (mpeg_row row) word) visitor.old }
+{
+    visitor.mpeg_multiply(row, vd(word), vs(word), vt(word), element(word));
     true
 }
 
@@ -99,12 +118,16 @@ pub fn visit_computing<V: Visitor>(word: u32, visitor: &mut V) -> bool
     match function(word) {
         0x00 => multiply(word, MultiplyRow::Vmulf, visitor),
         0x01 => multiply(word, MultiplyRow::Vmulu, visitor),
+        0x02 => round(word, RoundRow::Vrndp, visitor),
+        0x03 => mpeg_multiply(word, MpegRow::Vmulq, visitor),
         0x04 => multiply(word, MultiplyRow::Vmudl, visitor),
         0x05 => multiply(word, MultiplyRow::Vmudm, visitor),
         0x06 => multiply(word, MultiplyRow::Vmudn, visitor),
         0x07 => multiply(word, MultiplyRow::Vmudh, visitor),
         0x08 => multiply(word, MultiplyRow::Vmacf, visitor),
         0x09 => multiply(word, MultiplyRow::Vmacu, visitor),
+        0x0a => round(word, RoundRow::Vrndn, visitor),
+        0x0b => mpeg_multiply(word, MpegRow::Vmacq, visitor),
         0x0c => multiply(word, MultiplyRow::Vmadl, visitor),
         0x0d => multiply(word, MultiplyRow::Vmadm, visitor),
         0x0e => multiply(word, MultiplyRow::Vmadn, visitor),

@@ -1,11 +1,11 @@
 // The bits that select the rows of the vector unit.
 
 ghost use Rattle.std.specs.Prelude.{◌≡◌};
-ghost use Rattle.rsp_decode.specs.Table.{move_vector_selector, move_control_selector, multiply_selector, vector_add_selector, vector_select_selector, vector_clip_selector, vector_logic_selector, lane_selector, idle_selector, vector_load_selector, vector_store_selector};
+ghost use Rattle.rsp_decode.specs.Table.{move_vector_selector, move_control_selector, multiply_selector, round_selector, mpeg_selector, vector_add_selector, vector_select_selector, vector_clip_selector, vector_logic_selector, lane_selector, idle_selector, vector_load_selector, vector_store_selector};
 
 use crate::inst::{
-    IdleRow, LaneRow, MoveRow, MultiplyRow, VectorAddRow, VectorClipRow, VectorLoadRow,
-    VectorLogicRow, VectorSelectRow, VectorStoreRow,
+    IdleRow, LaneRow, MoveRow, MpegRow, MultiplyRow, RoundRow, VectorAddRow, VectorClipRow,
+    VectorLoadRow, VectorLogicRow, VectorSelectRow, VectorStoreRow,
 };
 
 const COP2: u32 = 18 << 26;
@@ -57,6 +57,26 @@ pub fn multiply_value(row: MultiplyRow) -> u32
         MultiplyRow::Vmadm => COMPUTING | 0x0d,
         MultiplyRow::Vmadn => COMPUTING | 0x0e,
         MultiplyRow::Vmadh => COMPUTING | 0x0f,
+    }
+}
+
+#[inline]
+pub fn round_value(row: RoundRow) -> u32
+    ensures { result ≡ (round_selector row).value }
+{
+    match row {
+        RoundRow::Vrndp => COMPUTING | 0x02,
+        RoundRow::Vrndn => COMPUTING | 0x0a,
+    }
+}
+
+#[inline]
+pub fn mpeg_value(row: MpegRow) -> u32
+    ensures { result ≡ (mpeg_selector row).value }
+{
+    match row {
+        MpegRow::Vmulq => COMPUTING | 0x03,
+        MpegRow::Vmacq => COMPUTING | 0x0b,
     }
 }
 

@@ -1,4 +1,4 @@
-use Rattle.rsp_asm.proofs.Texts.{no_blank_before, no_blank_after}
+use Rattle.rsp_text.proofs.Splits.{no_blank_before, no_blank_after}
 use Rattle.rsp_asm.proofs.form.split.Goals as goal
 
 pub returns-in-None-clause-name : goal.returns-in-None-clause-name

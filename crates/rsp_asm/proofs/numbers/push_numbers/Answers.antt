@@ -1,14 +1,13 @@
 use Rattle.std.proofs.Common.{◌∙◌, ap, subst, List, ℕ, Bor}
-use Rattle.std.specs.Prelude.{map, option_map, Option}
+use Rattle.std.specs.Prelude.{option_map, Option}
 use Rattle.rsp_text.specs.Statement.{operand_texts, texts_in}
-use Rattle.rsp_operands.specs.Labels.{label}
 use Rattle.rsp_asm.proofs.Steps.{Part, part_more}
 use Rattle.rsp_asm.proofs.numbers.push_numbers.Goals as goal
 
 pub loop-rest-preserved : goal.loop-rest-preserved
 loop-rest-preserved c =
     let ts = operand_texts c.args.text.now in
-    let labels = map label c.args.labels.now in
+    let labels = c.args.labels.now in
     let old = c.args.words.now.items in
     let new = c.loop-rest.words.items in
     let more = texts_in (option_map (λ (t : Bor (List ℕ)). t.now) c.next_operand.result.1) in

@@ -1,10 +1,9 @@
 use Rattle.std.proofs.Common.{◌≡◌, ◌∙◌, sym, ap, arith, length}
-use Rattle.std.specs.Prelude.{map, option_map, Some}
+use Rattle.std.specs.Prelude.{option_map, Some}
 use Rattle.rsp_text.specs.Rows.{row_entry}
 use Rattle.rsp_text.specs.Source.{size_if, statement_words}
 use Rattle.rsp_text.specs.Statement.{statement_of, operand_texts, form_named, with_form, numbers_form, row_form}
 use Rattle.rsp_asm.specs.Forms.{form}
-use Rattle.rsp_operands.specs.Labels.{label}
 use Rattle.rsp_asm.specs.Walks.{listed_words, listed_size, row_words, row_size}
 use Rattle.rsp_asm.proofs.Forms.{is_numbers, is_row}
 use Rattle.rsp_asm.proofs.Statements.{statement_is, listed_said, listed_sized, row_said, row_sized, puts_same}
@@ -28,7 +27,7 @@ returns-in-Numbers c =
     let name = c.split.result.0.now in
     let operands = c.split.result.1.now in
     let ts = operand_texts operands in
-    let labels = map label c.args.labels.now in
+    let labels = c.args.labels.now in
     let is = is_numbers (form_named name (length ts)) (sym (ap (option_map form) (c.in-Some.is ∙ ap Some c.in-Numbers.is)) ∙ c.form_of.ensures.form) in
     let st : statement_of text ≡ with_form (Some numbers_form) ts = statement_is text name operands (Some numbers_form) (sym c.is_empty.ensures ∙ c.if-is_empty.false) c.split.ensures.name c.split.ensures.operands is in
     puts_same (listed_words labels ts) (statement_words labels c.args.place (statement_of text)) (listed_size ts) (size_if (statement_of text)) c.args.words.now.items c.push_listed.new.words.items c.push_listed.result
@@ -40,7 +39,7 @@ returns-in-Row c =
     let name = c.split.result.0.now in
     let operands = c.split.result.1.now in
     let ts = operand_texts operands in
-    let labels = map label c.args.labels.now in
+    let labels = c.args.labels.now in
     let e = row_entry c.in-Row.row in
     let is = is_row (form_named name (length ts)) e (sym (ap (option_map form) (c.in-Some.is ∙ ap Some c.in-Row.is)) ∙ c.form_of.ensures.form) in
     let st : statement_of text ≡ with_form (Some (row_form is.0)) ts = statement_is text name operands (Some (row_form is.0)) (sym c.is_empty.ensures ∙ c.if-is_empty.false) c.split.ensures.name c.split.ensures.operands is.1 in

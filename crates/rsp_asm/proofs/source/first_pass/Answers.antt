@@ -1,9 +1,9 @@
-use Rattle.std.proofs.Common.{◌≡◌, sym, ap, ◌∙◌, subst, inl, refl, arith, ◌+◌, ◌*◌, ◌≤◌, [], ◌∷◌, ◌++◌, List, ℕ, take}
-use Rattle.std.specs.Prelude.{map}
+use Rattle.std.proofs.Common.{◌≡◌, sym, ap, ◌∙◌, subst, inl, inr, refl, arith, ◌+◌, ◌*◌, ◌≤◌, [], ◌∷◌, ◌++◌, List, ℕ, take}
+use Rattle.std.specs.Prelude.{is_some}
 use Rattle.std.specs.Str.Lines.{lines}
-use Rattle.rsp_operands.specs.Labels.{label}
 use Rattle.rsp_text.specs.Means.{labels_from, place_after, lowest, first, labelled}
-use Rattle.rsp_asm.proofs.Passes.{Done, done_more, done_fault, done_all, on_ok, fault_means}
+use Rattle.rsp_operands.specs.Labels.{SamePlaces}
+use Rattle.rsp_asm.proofs.Passes.{Done, done_more, done_fault, done_all, done_short, on_ok, on_err, fault_means}
 use Rattle.rsp_asm.proofs.source.first_pass.Goals as goal
 
 pub returns-in-Err-clause-err : goal.returns-in-Err-clause-err
@@ -11,24 +11,23 @@ returns-in-Err-clause-err c =
     let ls = lines c.args.text.now in
     let line = c.in-Some.line.now in
     let more = lines c.in-Some.more.now in
-    let table = map label c.loop-line.labels.items in
+    let table = c.loop-line.labels in
     let done : Done c.args.origin c.loop-line.number ls (line ∷ more) table c.loop-line.place =
     subst (λ (left : List (List ℕ)). Done c.args.origin c.loop-line.number ls left table c.loop-line.place) c.in-Some.ensures.0 c.loop-line.invariant.0 in
-    let kind = rw c.deref.ensures.value at c.in-Err.ensures.err in
-    inl (fault_means c.args.origin ls _ (done_fault c.args.origin c.loop-line.number ls line more table c.loop-line.place done c.in-Err.kind kind))
+    inl (fault_means c.args.origin ls _ (done_fault c.args.origin c.loop-line.number ls line more table c.loop-line.place done c.in-Err.kind c.in-Err.ensures.err))
 
 pub loop-line-preserved : goal.loop-line-preserved
 loop-line-preserved c =
     let ls = lines c.args.text.now in
     let line = c.in-Some.line.now in
     let more = lines c.in-Some.more.now in
-    let table = map label c.loop-line.labels.items in
+    let table = c.loop-line.labels in
     let done : Done c.args.origin c.loop-line.number ls (line ∷ more) table c.loop-line.place =
     subst (λ (left : List (List ℕ)). Done c.args.origin c.loop-line.number ls left table c.loop-line.place) c.in-Some.ensures.0 c.loop-line.invariant.0 in
-    let none = rw c.deref.ensures.value at c.in-Ok.ensures.fault in
-    let noted = on_ok c.note.result _ (sym c.is_err.ensures.value ∙ c.if-is_err.false) c.note.ensures in (
-      done_more c.args.origin c.loop-line.number ls line more table c.loop-line.place done (c.loop-line.number + 1) (map label c.note.new.labels.items) (c.loop-line.place + 4 * c.in-Ok.found.size)
-          none refl (noted ∙ ap (λ o. table ++ labelled o c.loop-line.place) c.in-Ok.ensures.label) (ap (λ n. c.loop-line.place + 4 * n) c.in-Ok.ensures.size),
+    let none = c.in-Ok.ensures.fault in
+    let noted = on_ok c.note.result _ (sym c.is_err.ensures.value ∙ c.if-is_err.false) c.note.ensures.ok in (
+      done_more c.args.origin c.loop-line.number ls line more table c.loop-line.place done (c.loop-line.number + 1) c.note.new.labels (c.loop-line.place + 4 * c.in-Ok.found.size)
+          none refl (subst (λ o. SamePlaces c.note.new.labels (labelled o c.loop-line.place ++ table)) c.in-Ok.ensures.label noted) (ap (λ n. c.loop-line.place + 4 * n) c.in-Ok.ensures.size),
       c.in-Ok.ensures.room,
       omega (arith, c.in-Some.ensures.1),
     )
@@ -36,7 +35,7 @@ loop-line-preserved c =
 pub returns-clause-clean : goal.returns-clause-clean
 returns-clause-clean c =
     let ls = lines c.args.text.now in
-    let table = map label c.loop-line.labels.items in
+    let table = c.loop-line.labels in
     let done : Done c.args.origin c.loop-line.number ls [] table c.loop-line.place =
     subst (λ (left : List (List ℕ)). Done c.args.origin c.loop-line.number ls left table c.loop-line.place) c.in_default.ensures c.loop-line.invariant.0 in
     let all : take c.loop-line.number ls ≡ ls = done_all c.args.origin c.loop-line.number ls table c.loop-line.place done in
@@ -45,18 +44,30 @@ returns-clause-clean c =
 pub returns-clause-labels : goal.returns-clause-labels
 returns-clause-labels c =
     let ls = lines c.args.text.now in
-    let table = map label c.loop-line.labels.items in
+    let table = c.loop-line.labels in
     let done : Done c.args.origin c.loop-line.number ls [] table c.loop-line.place =
     subst (λ (left : List (List ℕ)). Done c.args.origin c.loop-line.number ls left table c.loop-line.place) c.in_default.ensures c.loop-line.invariant.0 in
     let all : take c.loop-line.number ls ≡ ls = done_all c.args.origin c.loop-line.number ls table c.loop-line.place done in
-    done.labels_are ∙ ap (labels_from c.args.origin) all
+    subst (λ ls. SamePlaces table (labels_from c.args.origin ls)) all done.labels_are
 
 pub returns-clause-room : goal.returns-clause-room
 returns-clause-room c =
     let ls = lines c.args.text.now in
-    let table = map label c.loop-line.labels.items in
+    let table = c.loop-line.labels in
     let done : Done c.args.origin c.loop-line.number ls [] table c.loop-line.place =
     subst (λ (left : List (List ℕ)). Done c.args.origin c.loop-line.number ls left table c.loop-line.place) c.in_default.ensures c.loop-line.invariant.0 in
     let all : take c.loop-line.number ls ≡ ls = done_all c.args.origin c.loop-line.number ls table c.loop-line.place done in
     let at : c.loop-line.place ≡ place_after c.args.origin ls = done.place_is ∙ ap (place_after c.args.origin) all in
     subst (λ p. p ≤ 4096) at c.loop-line.invariant.1
+
+pub returns-then-is_err-clause-err : goal.returns-then-is_err-clause-err
+returns-then-is_err-clause-err c =
+    let ls = lines c.args.text.now in
+    let line = c.in-Some.line.now in
+    let more = lines c.in-Some.more.now in
+    let table = c.loop-line.labels in
+    let done : Done c.args.origin c.loop-line.number ls (line ∷ more) table c.loop-line.place =
+    subst (λ (left : List (List ℕ)). Done c.args.origin c.loop-line.number ls left table c.loop-line.place) c.in-Some.ensures.0 c.loop-line.invariant.0 in
+    let none = c.in-Ok.ensures.fault in
+    let labelled = ap is_some (sym c.in-Ok.ensures.label) ∙ on_err c.note.result _ (sym c.is_err.ensures.value ∙ c.if-is_err.true) c.note.ensures.err in
+    inr (record { kind = refl; hides = done_short c.args.origin c.loop-line.number ls line more table c.loop-line.place done none labelled })

@@ -1,13 +1,11 @@
 use Rattle.std.proofs.Common.{◌+◌, ◌≤◌, length}
-use Rattle.std.specs.Prelude.{map}
 use Rattle.std.specs.Str.Lines.{lines}
-use Rattle.rsp_operands.specs.Labels.{label}
 use Rattle.rsp_asm.proofs.Passes.{Done}
 use Rattle.rsp_asm.proofs.source.first_pass.Given as goal
 
 abbrev pub invariant-loop-line : goal.invariant-loop-line
 invariant-loop-line l =
-    Done l.origin l.number (lines l.fn.text) (lines l.rest) (map label l.labels.items) l.place
+    Done l.origin l.number (lines l.fn.text) (lines l.rest) l.labels l.place
     × (l.place ≤ 4096) × (l.number + length l.rest ≤ length l.fn.text)
 
 abbrev pub decreases-loop-line : goal.decreases-loop-line

@@ -1,15 +1,13 @@
 use Rattle.std.proofs.Common.{ap, subst, refl, arith, ◌+◌, ◌*◌, ◌∷◌, List, ℕ, drop}
-use Rattle.std.specs.Prelude.{map}
 use Rattle.std.specs.Str.Lines.{lines}
 use Rattle.arrayvec.specs.ArrayVec.{array_vec_len}
-use Rattle.rsp_operands.specs.Labels.{label}
 use Rattle.rsp_asm.proofs.Passes.{Written, written_more, written_fault, written_all, written_place, written_room}
 use Rattle.rsp_asm.proofs.source.second_pass.Goals as goal
 
 pub push_words-requires : goal.push_words-requires
 push_words-requires c =
     let ls = lines c.args.text.now in
-    let table = map label c.args.labels.now in
+    let table = c.args.labels.now in
     let count = array_vec_len c.loop-line.words in
     let done : Written c.args.origin c.loop-line.number ls (c.in-Some.line.now ∷ lines c.in-Some.more.now) table count c.loop-line.words.items =
     subst (λ (left : List (List ℕ)). Written c.args.origin c.loop-line.number ls left table count c.loop-line.words.items) c.in-Some.ensures.0 c.loop-line.invariant.0 in
@@ -19,7 +17,7 @@ push_words-requires c =
 pub returns-in-Err-clause-err : goal.returns-in-Err-clause-err
 returns-in-Err-clause-err c =
     let ls = lines c.args.text.now in
-    let table = map label c.args.labels.now in
+    let table = c.args.labels.now in
     let count = array_vec_len c.loop-line.words in
     let done : Written c.args.origin c.loop-line.number ls (c.in-Some.line.now ∷ lines c.in-Some.more.now) table count c.loop-line.words.items =
     subst (λ (left : List (List ℕ)). Written c.args.origin c.loop-line.number ls left table count c.loop-line.words.items) c.in-Some.ensures.0 c.loop-line.invariant.0 in
@@ -28,7 +26,7 @@ returns-in-Err-clause-err c =
 pub loop-line-preserved : goal.loop-line-preserved
 loop-line-preserved c =
     let ls = lines c.args.text.now in
-    let table = map label c.args.labels.now in
+    let table = c.args.labels.now in
     let count = array_vec_len c.loop-line.words in
     let done : Written c.args.origin c.loop-line.number ls (c.in-Some.line.now ∷ lines c.in-Some.more.now) table count c.loop-line.words.items =
     subst (λ (left : List (List ℕ)). Written c.args.origin c.loop-line.number ls left table count c.loop-line.words.items) c.in-Some.ensures.0 c.loop-line.invariant.0 in (
@@ -41,7 +39,7 @@ loop-line-preserved c =
 pub returns-clause-ok : goal.returns-clause-ok
 returns-clause-ok c =
     let ls = lines c.args.text.now in
-    let table = map label c.args.labels.now in
+    let table = c.args.labels.now in
     let count = array_vec_len c.loop-line.words in
     written_all c.args.origin c.loop-line.number ls table count c.loop-line.words.items
     (subst (λ (left : List (List ℕ)). Written c.args.origin c.loop-line.number ls left table count c.loop-line.words.items) c.in_default.ensures c.loop-line.invariant.0)
@@ -49,7 +47,7 @@ returns-clause-ok c =
 pub returns-clause-room : goal.returns-clause-room
 returns-clause-room c =
     let ls = lines c.args.text.now in
-    let table = map label c.args.labels.now in
+    let table = c.args.labels.now in
     let count = array_vec_len c.loop-line.words in
     let place = written_place c.args.origin c.loop-line.number ls table count c.loop-line.words.items
     (subst (λ (left : List (List ℕ)). Written c.args.origin c.loop-line.number ls left table count c.loop-line.words.items) c.in_default.ensures c.loop-line.invariant.0) in

@@ -1,14 +1,12 @@
 use Rattle.std.proofs.Common.{◌+◌, ◌≤◌, length}
-use Rattle.std.specs.Prelude.{map}
 use Rattle.std.specs.Str.Lines.{lines}
 use Rattle.arrayvec.specs.ArrayVec.{array_vec_len}
-use Rattle.rsp_operands.specs.Labels.{label}
 use Rattle.rsp_asm.proofs.Passes.{Written}
 use Rattle.rsp_asm.proofs.source.second_pass.Given as goal
 
 abbrev pub invariant-loop-line : goal.invariant-loop-line
 invariant-loop-line l =
-    Written l.origin l.number (lines l.fn.text) (lines l.rest) (map label l.labels) (array_vec_len l.words) l.words.items
+    Written l.origin l.number (lines l.fn.text) (lines l.rest) l.labels (array_vec_len l.words) l.words.items
     × (l.number + length l.rest ≤ length l.fn.text)
 
 abbrev pub decreases-loop-line : goal.decreases-loop-line

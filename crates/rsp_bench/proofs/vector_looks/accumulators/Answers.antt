@@ -6,4 +6,4 @@ pub returns : goal.returns
 unfolding accumulators_text
 returns g c =
     rw (c.push_accumulator_lines.ensures, c.new-reply.ensures)
-    (accumulators_by_parts _ _ _ _ c.part-high.ensures.value c.part-middle.ensures.value c.part-low.ensures.value)
+    (accumulators_by_parts _ _ _ _ c.acc-high.ensures.high c.acc-high.ensures.middle c.acc-high.ensures.low)

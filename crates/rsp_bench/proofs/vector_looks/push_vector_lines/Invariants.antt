@@ -6,5 +6,5 @@ use Rattle.rsp_bench.proofs.vector_looks.push_vector_lines.Given as goal
 
 abbrev pub invariant-loop-n : goal.invariant-loop-n
 invariant-loop-n g l =
-    (l.reply ≡ l.initial.reply ++ each_text (λ n. vector_line n (vector l.machine.vectors n)) l.n)
+    (l.reply ≡ l.initial.reply ++ each_text (λ n. vector_line n (vector l.debugger.state.vectors n)) l.n)
     × (length l.reply ≡ length l.initial.reply + 44 * l.n)

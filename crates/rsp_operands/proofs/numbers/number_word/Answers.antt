@@ -1,9 +1,7 @@
-use Rattle.std.specs.Prelude.{map}
 use Rattle.rsp_text.specs.Numbers.{expression_of}
 use Rattle.rsp_text.specs.Seen.{expression}
-use Rattle.rsp_operands.specs.Labels.{label}
 use Rattle.rsp_operands.proofs.Readings.{number_alike}
 use Rattle.rsp_operands.proofs.numbers.number_word.Goals as goal
 
 pub returns : goal.returns
-returns c = number_alike (map label c.args.labels.now) (expression_of c.args.text.now) (expression c.in-Some.e) c.expression_field.result c.in-Some.ensures c.expression_field.ensures
+returns c = number_alike c.args.labels.now (expression_of c.args.text.now) (expression c.in-Some.e) c.expression_field.result c.in-Some.ensures c.expression_field.ensures

@@ -1,4 +1,4 @@
-use Rattle.std.proofs.Common.{◌≡◌, ap, ◌∙◌, sym, true, false, not, Bool, rules, w64, FitsSigned, refl}
+use Rattle.std.proofs.Common.{◌≡◌, ap, ◌∙◌, sym, true, rules, w64, FitsSigned}
 use Rattle.std.proofs.lemmas.Int.{to_z-of_z}
 use Rattle.std.specs.Prelude.{Some, option_map, None}
 use Rattle.std.proofs.lemmas.Bool.{cond-true}

@@ -1,4 +1,4 @@
-use Rattle.std.proofs.Common.{◌≡◌, sym, ap, ◌∙◌, arith, [], Bor, get_or, Bool, true, false}
+use Rattle.std.proofs.Common.{◌≡◌, sym, ap, ◌∙◌, arith, [], get_or, true, false}
 use Rattle.std.specs.Str.{str_eq_ignore_ascii_case}
 use Rattle.rsp_text.proofs.Tables.{look_up_here, look_up_more}
 use Rattle.rsp_text.proofs.names.look_up.Goals as goal

@@ -1,4 +1,4 @@
-use Rattle.std.proofs.Common.{◌≡◌, ap, ◌∙◌, sym, ◌+◌, ◌*◌, ◌<◌, ◌≤◌, length, take, get_or, arith, true, Bool, List, ℕ}
+use Rattle.std.proofs.Common.{◌≡◌, ap, ◌∙◌, sym, ◌+◌, ◌*◌, take, get_or, arith, true}
 use Rattle.std.specs.Prelude.{nat_lt, min}
 use Rattle.std.specs.Char.{digit_value}
 use Rattle.std.specs.Str.Parse.{digits_value}

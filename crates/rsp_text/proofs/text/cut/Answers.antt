@@ -1,8 +1,7 @@
-use Rattle.std.proofs.Common.{ap, ◌∙◌, sym, ◌+◌, ◌-◌, ◌≤◌, length, take, drop, arith, ◌≡◌, true}
-use Rattle.std.specs.Prelude.{Some, None}
+use Rattle.std.proofs.Common.{ap, ◌∙◌, sym, ◌+◌, ◌-◌, length, take, drop, arith, ◌≡◌}
+use Rattle.std.specs.Prelude.{Some}
 use Rattle.std.proofs.lemmas.List.{take_all, length-drop}
-use Rattle.rsp_text.specs.Chars.{stops}
-use Rattle.rsp_text.proofs.Cuts.{cut_here, cut_none, no}
+use Rattle.rsp_text.proofs.Cuts.{cut_here, cut_none}
 use Rattle.rsp_text.proofs.text.cut.Goals as goal
 
 pub returns-then-is_at : goal.returns-then-is_at

@@ -1,4 +1,4 @@
-use Rattle.std.proofs.Common.{◌≡◌, ◌≤◌, length, reverse}
+use Rattle.std.proofs.Common.{◌≡◌, ◌≤◌, length}
 use Rattle.rsp_text.specs.Chars.{skip_blanks}
 use Rattle.rsp_text.proofs.text.skip_blanks.Given as goal
 

@@ -1,0 +1,115 @@
+-- Tables with the same place for each name give each line the same fault and the same words.
+use Rattle.std.proofs.Common.{◌≡◌, refl, sym, ap, ◌∙◌, ℕ, List, [], ◌∷◌, ◌++◌, length, Bool, true, false, inl, inr, arith}
+use Rattle.std.specs.Prelude.{Option, Some, None, is_some, Result, Ok, Err, if◌then◌else◌, pos, ◌+ℤ◌, option_map, ◌+◌}
+use Rattle.std.specs.Str.{bytes_eq}
+use Rattle.std.proofs.lemmas.Bool.{cases_Bool, cond-true, cond-false}
+use Rattle.std.proofs.lemmas.Grind.{common_steps}
+use Rattle.std.proofs.lemmas.Slice.Eq.{bytes_eq-Decides}
+use Rattle.std.proofs.lemmas.List.{append-nil}
+use Rattle.rsp_text.specs.declared.fault.AsmFaultKind.{AsmFaultKind}
+use Rattle.rsp_text.specs.declared.fault.AsmFaultKind.TheVariants.{LabelTwice}
+use Rattle.rsp_text.specs.declared.slot.Slot.{Slot}
+use Rattle.rsp_text.specs.Numbers.{Expression}
+use Rattle.rsp_text.specs.Statement.{Labels, find_label, label_place, evaluate, field_of, then_registers, fields_with, fields_of, Reading, append, all_fields, Statement, nothing, numbers, instruction, one_word, statement_of}
+use Rattle.rsp_text.specs.Source.{Parts, parts_of, is_twice, statement_fault, parts_fault, first_fault, label_in, label_of, statement_words, parts_words, line_words}
+use Rattle.rsp_text.specs.Means.{labelled, labels_from, place_after, joined, lowest, in_turn, first, second, unless, means_lines}
+use Rattle.rsp_operands.specs.Labels.{SamePlaces}
+
+-- ---- a label behind others
+
+-- a label whose name no earlier one has is found as if it stood in front
+found_behind : (xs : Labels) (name : List ℕ) (place : ℕ) → find_label xs name ≡ None → (q : List ℕ) → find_label (xs ++ (name, place) ∷ []) q ≡ (if bytes_eq name q then Some place else find_label xs q)
+found_behind [] name place none q = refl
+found_behind (x ∷ xs) name place none q = elim (cases_Bool (bytes_eq x.0 name)) [
+  | inl t ↦ let same : Some x.1 ≡ None = sym (cond-true (bytes_eq x.0 name) (Some x.1) (find_label xs name) t) ∙ none in absurd cc
+  | inr f ↦
+      ap (λ o. if bytes_eq x.0 q then Some x.1 else o) (found_behind xs name place (sym (cond-false (bytes_eq x.0 name) (Some x.1) (find_label xs name) f) ∙ none) q)
+      ∙ apart (bytes_eq x.0 q) (bytes_eq name q) (grind (arith, common_steps, bytes_eq-Decides x.0 name, bytes_eq-Decides x.0 q, bytes_eq-Decides name q))
+]
+  where
+    apart : (a b : Bool) → (a ≡ true → b ≡ false) → (if a then Some x.1 else (if b then Some place else find_label xs q)) ≡ (if b then Some place else (if a then Some x.1 else find_label xs q))
+    apart true true h = let no : true ≡ false = h refl in absurd cc
+    apart true false h = refl
+    apart false b h = refl
+
+-- the label of a line, put before others that have the same places, is found as if it stood behind them
+pub same_behind : (o : Option (List ℕ)) (place : ℕ) (new old table : Labels) → is_twice table o ≡ false → SamePlaces new (labelled o place ++ old) → SamePlaces old table → SamePlaces new (table ++ labelled o place)
+same_behind None place new old table once h same q = h q ∙ same q ∙ ap (λ t. find_label t q) (sym (append-nil table))
+same_behind (Some name) place new old table once h same q =
+    h q ∙ ap (λ f. if bytes_eq name q then Some place else f) (same q) ∙ sym (found_behind table name place (none (find_label table name) once) q)
+  where
+    none : (o : Option ℕ) → is_some o ≡ false → o ≡ None
+    none None e = refl
+    none (Some p) e = absurd cc
+
+-- ---- the first pass
+
+module _ (xs ys : Labels) (same : SamePlaces xs ys) where
+  twice_same : (o : Option (List ℕ)) → is_twice xs o ≡ is_twice ys o
+  twice_same None = refl
+  twice_same (Some name) = ap is_some (same name)
+
+  pub first_same : (place : ℕ) (line : List ℕ) → first_fault xs place line ≡ first_fault ys place line
+  unfolding first_fault
+  first_same place line = go (parts_of line)
+    where
+      go : (o : Option Parts) → parts_fault xs place o ≡ parts_fault ys place o
+      go None = refl
+      go (Some p) = ap (λ b. if b then Some LabelTwice else statement_fault place (statement_of p.body)) (twice_same p.label)
+
+  -- ---- the second pass
+
+  value_same : (e : Expression) → evaluate xs e ≡ evaluate ys e
+  value_same e = ap (option_map (λ p. pos p +ℤ e.offset)) (go e.label)
+    where
+      go : (o : Option (List ℕ)) → label_place xs o ≡ label_place ys o
+      go None = refl
+      go (Some name) = same name
+
+  fields_same : (place : ℕ) (ns : List ℕ) (o : Option (Slot × Expression)) → fields_with xs place ns o ≡ fields_with ys place ns o
+  fields_same place ns None = refl
+  fields_same place ns (Some v) = ap (λ z. then_registers ns (field_of v.0 place z)) (value_same v.1)
+
+  all_same : (place : ℕ) (rs : List Reading) → all_fields xs place rs ≡ all_fields ys place rs
+  all_same place [] = refl
+  all_same place (r ∷ rs) =
+      ap (λ f. append f (all_fields xs place rs)) (fields_same place r.registers r.value) ∙ ap (append (fields_of ys place r)) (all_same place rs)
+
+  said_same : (place : ℕ) (s : Result Statement AsmFaultKind) → statement_words xs place s ≡ statement_words ys place s
+  said_same place (Err kind) = refl
+  said_same place (Ok nothing) = refl
+  said_same place (Ok (numbers rs)) = all_same place rs
+  said_same place (Ok (instruction row rs)) = ap (one_word row) (all_same place rs)
+
+  line_same : (place : ℕ) (line : List ℕ) → line_words xs place line ≡ line_words ys place line
+  unfolding line_words
+  line_same place line = go (parts_of line)
+    where
+      go : (o : Option Parts) → parts_words xs place o ≡ parts_words ys place o
+      go None = refl
+      go (Some p) = said_same place (statement_of p.body)
+
+  pub turn_same : (origin : ℕ) (earlier ls : List (List ℕ)) → in_turn (second origin xs) earlier ls ≡ in_turn (second origin ys) earlier ls
+  turn_same origin earlier [] = refl
+  turn_same origin earlier (l ∷ ls) =
+      ap (λ w. joined (length earlier + 1) w (in_turn (second origin xs) (earlier ++ l ∷ []) ls)) (line_same (place_after origin earlier) l)
+      ∙ ap (joined (length earlier + 1) (second origin ys earlier l)) (turn_same origin (earlier ++ l ∷ []) ls)
+
+-- a line without fault has a label that none of the labels is
+pub new_label : (labels : Labels) (place : ℕ) (line : List ℕ) → first_fault labels place line ≡ None → is_twice labels (label_of line) ≡ false
+unfolding first_fault label_of
+new_label labels place line e = go (parts_of line) e
+  where
+    once : (b : Bool) (later : Option AsmFaultKind) → (if b then Some LabelTwice else later) ≡ None → b ≡ false
+    once true later e = absurd cc
+    once false later e = refl
+
+    go : (o : Option Parts) → parts_fault labels place o ≡ None → is_twice labels (label_in o) ≡ false
+    go None e = absurd cc
+    go (Some p) e = once (is_twice labels p.label) (statement_fault place (statement_of p.body)) e
+
+-- what the second pass says with such a table is what the lines mean, where the first pass finds no fault
+pub means_same : (origin : ℕ) (ls : List (List ℕ)) (labels : Labels) → lowest (first origin) [] ls ≡ None → SamePlaces labels (labels_from origin ls) → in_turn (second origin labels) [] ls ≡ means_lines ls origin
+means_same origin ls labels clean same =
+    turn_same labels (labels_from origin ls) same origin [] ls
+    ∙ sym (ap (λ o. unless o (in_turn (second origin (labels_from origin ls)) [] ls)) clean)

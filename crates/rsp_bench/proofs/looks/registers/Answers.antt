@@ -1,0 +1,12 @@
+use Rattle.std.proofs.Common.{arith}
+use Rattle.std.proofs.lemmas.Grind.{common_steps}
+use Rattle.rsp_reply.proofs.Texts.{parts}
+use Rattle.rsp_bench.specs.Looks.{registers_text}
+use Rattle.rsp_bench.proofs.Registers.{register_lines}
+use Rattle.rsp_bench.proofs.looks.registers.Goals as goal
+
+pub returns : goal.returns
+unfolding registers_text
+returns g c =
+    let same = register_lines c.regs-places.result.words c.args.debugger.now.state.registers c.regs-places.ensures.words in
+    rw (c.push_register_lines.ensures, same) (grind (arith, parts, common_steps))

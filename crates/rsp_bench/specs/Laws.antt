@@ -1,0 +1,84 @@
+-- What stays the same where lines of a script are exchanged for others.
+use Rattle.std.specs.Prelude.{◌≡◌, ◌⊎◌, ℕ, List, [], ◌∷◌, ◌++◌, Bool, true, false, Option, Some, None, replicate, codes}
+use Rattle.std.specs.List.{before_first}
+use Rattle.rsp_script.specs.Text.{is_hash}
+use Rattle.rsp_script.specs.Words.{words_of}
+use Rattle.rsp_script.specs.Names.{name_of}
+use Rattle.rsp_script.specs.declared.name.Name.{Name}
+use Rattle.rsp_script.specs.declared.name.Name.TheVariants as names
+use Rattle.rsp_debug.specs.declared.stop.Stop.{Stop}
+use Rattle.rsp_lines.specs.Replies.{replies, final}
+use Rattle.rsp_bench.specs.Replies.{stop_text}
+use Rattle.rsp_bench.specs.Session.{SessionState, line_outcome}
+
+-- ---- looks and runs
+
+-- the names of the commands that look; `read` isn't one, since it can take the semaphore
+abbrev pub is_look_name : Option Name → Bool
+is_look_name (Some names.Regs) = true
+is_look_name (Some names.Vregs) = true
+is_look_name (Some names.Acc) = true
+is_look_name (Some names.Flags) = true
+is_look_name (Some names.Sp) = true
+is_look_name (Some names.Mem) = true
+is_look_name (Some names.Dis) = true
+is_look_name _ = false
+
+abbrev pub is_run_name : Option Name → Bool
+is_run_name (Some names.Run) = true
+is_run_name _ = false
+
+abbrev pub first_name : List (List ℕ) → Option Name
+first_name [] = None
+first_name (name ∷ operands) = name_of name
+
+-- the command's name that a line outside a block begins with, whatever the line is answered
+unfoldable pub name_on : List ℕ → Option Name
+name_on line = first_name (words_of (before_first is_hash line))
+
+-- a line that looks, accepted or refused
+abbrev pub looks : List ℕ → Bool
+looks line = is_look_name (name_on line)
+
+-- a line that runs, accepted or refused
+abbrev pub runs : List ℕ → Bool
+runs line = is_run_name (name_on line)
+
+-- a reply to a line that runs: it tells that k steps were made, or it is a fault, and k is 0
+abbrev pub TellsSteps : ℕ → List ℕ → Type 0
+TellsSteps k reply =
+    ((stop : Stop) × (reply ≡ stop_text stop) × (k ≡ stop.steps))
+    ⊎ ((fault : List ℕ) × (reply ≡ codes "fault " ++ fault) × (k ≡ 0))
+
+-- ---- lines that are exchanged
+
+-- Of a script of the lines p, some lines and the lines q, where others take the place of those between: the replies to p and
+-- to q stay, and so does the session at the end, with what is left to say there and the image.
+pub record IsExchange (p lines others q : List (List ℕ)) (s : SessionState) : Type 0 where
+  pub after : SessionState
+  pub replies_with : replies line_outcome (p ++ (lines ++ q)) s
+      ≡ replies line_outcome p s ++ (replies line_outcome lines (final line_outcome p s) ++ replies line_outcome q after)
+  pub replies_without : replies line_outcome (p ++ (others ++ q)) s
+      ≡ replies line_outcome p s ++ (replies line_outcome others (final line_outcome p s) ++ replies line_outcome q after)
+  pub session_with : final line_outcome (p ++ (lines ++ q)) s ≡ final line_outcome q after
+  pub session_without : final line_outcome (p ++ (others ++ q)) s ≡ final line_outcome q after
+
+-- as many lines `step` as the steps that a line's reply tells take its place
+pub record IsStepLines (p : List (List ℕ)) (line : List ℕ) (q : List (List ℕ)) (s : SessionState) : Type 0 where
+  pub count : ℕ
+  pub told : TellsSteps count (line_outcome line (final line_outcome p s)).reply
+  pub exchanged : IsExchange p (line ∷ []) (replicate count (codes "step")) q s
+
+-- The law: outside a block, a line that looks can be taken out, and a line that runs be exchanged for lines `step`.
+pub record LinesComeOut (p : List (List ℕ)) (line : List ℕ) (q : List (List ℕ)) (s : SessionState) : Type 0 where
+  pub look : looks line ≡ true → IsExchange p (line ∷ []) [] q s
+  pub run : runs line ≡ true → IsStepLines p line q s
+
+-- for all lines before and behind, and every session at the start
+abbrev pub LooksAndRunsComeOut : Type 0
+LooksAndRunsComeOut = (p q : List (List ℕ)) (line : List ℕ) (s : SessionState)
+    → (final line_outcome p s).block ≡ None → LinesComeOut p line q s
+
+-- what a line that looks leaves, outside a block: the session as it was
+abbrev pub LooksChangeNothing : Type 0
+LooksChangeNothing = (line : List ℕ) (s : SessionState) → s.block ≡ None → looks line ≡ true → (line_outcome line s).next ≡ s

@@ -1,0 +1,36 @@
+//! What holds of texts and replies alone: each law is the contract of a function that does nothing.
+
+ghost use Rattle.std.specs.Prelude.{◌≡◌, ℕ, ◌<◌, ◌≤◌, List, length, Ok};
+ghost use Rattle.std.specs.List.{All};
+ghost use Rattle.rsp_text.specs.Means.{means, means_lines};
+ghost use Rattle.rsp_text.specs.Source.{text_of_lines};
+ghost use Rattle.rsp_text.specs.Spell.{listing};
+ghost use Rattle.rsp_bench.specs.Laws.{LooksAndRunsComeOut, LooksChangeNothing};
+ghost use Rattle.rsp_bench.specs.Refusals.{RefusalsChangeNothing};
+
+/// Listings assemble back: for every list of at most 1024 words, the lines that spell them from place 0 on mean that list
+/// at origin 0. So does their text, where LF stands behind each line.
+pub fn l3()
+    ensures lines { (ws : List ℕ) → length ws ≤ 1024 → All (λ w. w < 4294967296) ws → means_lines (listing 0 ws) 0 ≡ Ok ws }
+    ensures text { (ws : List ℕ) → length ws ≤ 1024 → All (λ w. w < 4294967296) ws → means (text_of_lines (listing 0 ws)) 0 ≡ Ok ws }
+{}
+
+/// Looking changes nothing: a line that looks, accepted or refused, leaves the session as it was.
+#[tactic(auto, using(crate::proofs::Exchanges::exchanges))]
+pub fn looks_change_nothing()
+    ensures { LooksChangeNothing }
+{}
+
+/// A refused command changes nothing: where the reply to a command is a fault, the session stays as it was, but that a
+/// refused end closes its block.
+pub fn refusals_change_nothing()
+    ensures { RefusalsChangeNothing }
+{}
+
+/// Looks and runs come out: for all lines before and behind, a line that looks can be taken out of a script, and a line `run`
+/// be exchanged for as many lines `step` as the steps that it answers, without changing the reply to any other line, what is
+/// left to say at the end, or the image.
+#[tactic(auto, using(crate::proofs::Exchanges::exchanges))]
+pub fn l6()
+    ensures { LooksAndRunsComeOut }
+{}

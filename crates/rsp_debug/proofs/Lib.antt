@@ -1,0 +1,11 @@
+pub mod Turns
+pub mod Pasts
+pub mod Tables
+pub mod Slots
+pub mod Reasons
+pub mod Afters
+pub mod Going
+pub mod Ends
+pub mod Calling
+pub mod Hosts
+pub mod Looking

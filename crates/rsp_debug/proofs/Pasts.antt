@@ -1,0 +1,92 @@
+-- Records stand for states.
+use Rattle.std.proofs.Common.{◌≡◌, ℕ, zero, suc, ◌+◌, ◌-◌, ◌<◌, ◌≤◌, Bool, true, false, List, [], ◌∷◌, length, take, drop, refl, sym, ◌∙◌, ap, arith, add-one, set, min, Option, Some, None}
+use Rattle.std.specs.Prelude.{slice_get, slice_index_or}
+use Rattle.std.proofs.lemmas.Option.{none-some}
+use Rattle.std.proofs.Math.Seq.{drop-cons}
+use Rattle.std.proofs.lemmas.List.{drop-drop, length-drop}
+use Rattle.rsp_machine.specs.State.{State}
+use Rattle.rsp_machine.specs.Step.{step_of}
+use Rattle.rsp_machine.specs.Saved.{Saved, undone, can_undo, slot_after}
+use Rattle.rsp_machine.specs.declared.step.StepEnd.TheVariants.{Done, Halted, Reserved}
+use Rattle.rsp_machine.proofs.Kept.{halted_stays, reserved_stays}
+use Rattle.rsp_debug.specs.Places.{previous, following, from_place}
+use Rattle.rsp_debug.specs.Past.{states_before, past_by, past_after}
+use Rattle.rsp_debug.proofs.Turns.{pushed, popped, first_is, kept_member}
+
+pub states_before-take : (s : State) (n : ℕ) (rs : List Saved) → states_before s (take n rs) ≡ take n (states_before s rs)
+states_before-take s zero rs = refl
+states_before-take s (suc n) [] = refl
+states_before-take s (suc n) (r ∷ rs) = ap (λ l. undone r s ∷ l) (states_before-take (undone r s) n rs)
+
+pub length-states_before : (s : State) (rs : List Saved) → length (states_before s rs) ≡ length rs
+length-states_before s [] = refl
+length-states_before s (r ∷ rs) = ap suc (length-states_before (undone r s) rs)
+
+-- a step that can be undone
+pub past_done : (s t : State) (xs : List Saved) (i count n : ℕ) (x : Saved) → i < length xs → n ≤ length xs
+    → (step_of s).0 ≡ Done → can_undo s ≡ true → undone x t ≡ s
+    → states_before t (from_place (previous (length xs) i) (min (count + 1) n) (set xs (previous (length xs) i) x))
+    ≡ past_after n s (states_before s (from_place i count xs))
+unfolding past_after
+past_done s t xs i count n x h c d u e =
+    ap (states_before t) (pushed xs i count n x h c)
+    ∙ states_before-take t n (x ∷ from_place i count xs)
+    ∙ ap (λ z. take n (z ∷ states_before z (from_place i count xs))) e
+    ∙ sym (ap (λ b. past_by Done b n s (states_before s (from_place i count xs))) u)
+    ∙ sym (ap (λ b. past_by b (can_undo s) n s (states_before s (from_place i count xs))) d)
+
+-- a step that started a DMA
+pub past_gone : (s : State) (past : List State) (n : ℕ) → (step_of s).0 ≡ Done → can_undo s ≡ false → [] ≡ past_after n s past
+unfolding past_after
+past_gone s past n d u =
+    sym (ap (λ b. past_by Done b n s past) u) ∙ sym (ap (λ b. past_by b (can_undo s) n s past) d)
+
+-- a step that isn't Done
+pub past_halted : (s : State) (xs : List Saved) (p i n count : ℕ) (x : Saved) → slice_get xs p ≡ Some x → (step_of s).0 ≡ Halted
+    → states_before (step_of s).1 (from_place i count (set xs p (slot_after s x))) ≡ past_after n s (states_before s (from_place i count xs))
+unfolding past_after
+past_halted s xs p i n count x e d =
+    let k = halted_stays s x d in
+    rw (k.0, k.1, kept_member xs p x e, d) refl
+
+pub past_reserved : (s : State) (xs : List Saved) (p i n count w : ℕ) (x : Saved) → slice_get xs p ≡ Some x → (step_of s).0 ≡ Reserved w
+    → states_before (step_of s).1 (from_place i count (set xs p (slot_after s x))) ≡ past_after n s (states_before s (from_place i count xs))
+unfolding past_after
+past_reserved s xs p i n count w x e d =
+    let k = reserved_stays s x w d in
+    rw (k.0, k.1, kept_member xs p x e, d) refl
+
+pub ruleset pasts = (past_done, past_gone, past_halted, past_reserved)
+
+-- back by one
+first_here : (s : State) (rs : List Saved) (r : Saved) → slice_get rs 0 ≡ Some r → undone r s ≡ slice_index_or (states_before s rs) 0 s
+first_here s [] r e = absurd (none-some r e)
+first_here s (x ∷ rs) r e =
+    let same : x ≡ r = cc in
+    rw (← same) refl
+
+rest_here : (s : State) (rs : List Saved) (r : Saved) → slice_get rs 0 ≡ Some r → states_before (undone r s) (drop 1 rs) ≡ drop 1 (states_before s rs)
+rest_here s [] r e = absurd (none-some r e)
+rest_here s (x ∷ rs) r e =
+    let same : x ≡ r = cc in
+    rw (← same) refl
+
+pub back_here : (s : State) (xs : List Saved) (i count : ℕ) (r : Saved) → i < length xs → 0 < count → slice_get xs i ≡ Some r
+    → undone r s ≡ slice_index_or (states_before s (from_place i count xs)) 0 s
+back_here s xs i count r h c e = first_here s (from_place i count xs) r (first_is xs i count r h c e)
+
+pub back_rest : (s : State) (xs : List Saved) (i count : ℕ) (r : Saved) → i < length xs → 0 < count → count ≤ length xs → slice_get xs i ≡ Some r
+    → states_before (undone r s) (from_place (following (length xs) i) (count - 1) xs) ≡ drop 1 (states_before s (from_place i count xs))
+back_rest s xs i count r h c l e =
+    ap (states_before (undone r s)) (popped xs i count r h l) ∙ rest_here s (from_place i count xs) r (first_is xs i count r h c e)
+
+pub ruleset backs = (back_here, back_rest)
+
+-- one more state back
+pub past_more : (past : List State) (i : ℕ) → drop 1 (drop i past) ≡ drop (i + 1) past
+past_more past i = drop-drop 1 i past
+
+pub state_more : (m s : State) (past : List State) (i : ℕ) → i < length past → slice_index_or (drop i past) 0 s ≡ slice_index_or (m ∷ past) (i + 1) m
+state_more m s past i h = rw (add-one, drop-cons past i m h) refl
+
+pub ruleset more = (past_more, state_more, length-states_before, length-drop)

@@ -1,0 +1,200 @@
+-- Which reason holds, by what a step answers.
+use Rattle.std.proofs.Common.{◌≡◌, ◌≢◌, ℕ, zero, suc, ◌+◌, ◌-◌, ◌<◌, ◌≤◌, List, [], ◌∷◌, refl, ap, sym, ◌∙◌, subst, arith, Bool, true, false, cond, Option, Some, None, below_more, add-one}
+use Rattle.std.specs.Prelude.{is_none, take, length, nat_lt, nat_eq, ◌==◌, option_map, ◌&&◌, not}
+use Rattle.std.proofs.lemmas.Grind.{common_steps}
+use Rattle.rsp_memory.specs.Memory.{word_at}
+use Rattle.std.proofs.lemmas.List.{take_all}
+use Rattle.rsp_debug.proofs.Slots.{changed-since}
+use Rattle.rsp_decode.specs.declared.inst.Inst.{Inst}
+use Rattle.rsp_decode.specs.Table.{inst_of}
+use Rattle.rsp_machine.specs.State.{State}
+use Rattle.rsp_machine.specs.Step.{step_of, step_by}
+use Rattle.rsp_machine.specs.Laws.{steps_of}
+use Rattle.rsp_machine.specs.declared.step.StepEnd.TheVariants as end
+use Rattle.rsp_debug.specs.Stops.{changed, is_break, is_reserved, when, first_of, reason_at, IsStop}
+use Rattle.rsp_debug.specs.Runs.{stuck_of, hit_in}
+use Rattle.rsp_debug.specs.declared.stop.Watch.{Watch}
+use Rattle.rsp_debug.specs.declared.stop.Reason.{Reason}
+use Rattle.rsp_debug.specs.declared.stop.Reason.TheVariants.{Reserved, Halted, Watched, Break, Limit}
+use Rattle.rsp_debug.specs.declared.stop.Stop.{Stop}
+
+-- why a machine can't go on, by what a step would answer
+abbrev pub stuck_by : Bool → Option Inst → Option Reason
+stuck_by true i = Some Halted
+stuck_by false None = Some Reserved
+stuck_by false (Some i) = None
+
+-- the watch or the breakpoint that k steps have come to
+abbrev pub hit_of : List Bool → List (Option Watch) → ℕ → State → State → Option Reason
+hit_of breaks watches k before s = first_of (
+    cond (nat_lt 0 k) (option_map Watched (changed watches before.dmem s.dmem)) None
+    ∷ when (nat_lt 0 k && is_break breaks s.pc) Break
+    ∷ [])
+
+pub stuck_is : (halted : Bool) (i : Option Inst) → first_of (when (not halted && is_none i) Reserved ∷ when halted Halted ∷ []) ≡ stuck_by halted i
+stuck_is true None = refl
+stuck_is true (Some i) = refl
+stuck_is false None = refl
+stuck_is false (Some i) = refl
+
+answer_done : (halted : Bool) (i : Option Inst) (w : ℕ) (s : State) → (cond halted (end.Halted, s) (step_by i w s)).0 ≡ end.Done → stuck_by halted i ≡ None
+answer_done true i w s e = cc
+answer_done false None w s e = cc
+answer_done false (Some i) w s e = refl
+
+answer_halted : (halted : Bool) (i : Option Inst) (w : ℕ) (s : State) → (cond halted (end.Halted, s) (step_by i w s)).0 ≡ end.Halted
+    → (stuck_by halted i ≡ Some Halted) × ((cond halted (end.Halted, s) (step_by i w s)).1 ≡ s)
+answer_halted true i w s e = (refl, refl)
+answer_halted false None w s e = cc
+answer_halted false (Some i) w s e = cc
+
+answer_reserved : (halted : Bool) (i : Option Inst) (w v : ℕ) (s : State) → (cond halted (end.Halted, s) (step_by i w s)).0 ≡ end.Reserved v
+    → (stuck_by halted i ≡ Some Reserved) × ((cond halted (end.Halted, s) (step_by i w s)).1 ≡ s)
+answer_reserved true i w v s e = cc
+answer_reserved false None w v s e = (refl, refl)
+answer_reserved false (Some i) w v s e = cc
+
+inst_at : State → Option Inst
+inst_at s = inst_of (word_at s.imem s.pc)
+
+pub step-done : (s : State) → (step_of s).0 ≡ end.Done → stuck_of s ≡ None
+unfolding step_of
+step-done s e = stuck_is s.sp.halted _ ∙ answer_done s.sp.halted (inst_of (word_at s.imem s.pc)) (word_at s.imem s.pc) s e
+
+pub step-halted : (s : State) → (step_of s).0 ≡ end.Halted → stuck_of s ≡ Some Halted
+unfolding step_of
+step-halted s e = stuck_is s.sp.halted _ ∙ (answer_halted s.sp.halted (inst_of (word_at s.imem s.pc)) (word_at s.imem s.pc) s e).0
+
+pub step-halted-same : (s : State) → (step_of s).0 ≡ end.Halted → (step_of s).1 ≡ s
+unfolding step_of
+step-halted-same s e = (answer_halted s.sp.halted (inst_of (word_at s.imem s.pc)) (word_at s.imem s.pc) s e).1
+
+pub step-reserved : (s : State) (w : ℕ) → (step_of s).0 ≡ end.Reserved w → stuck_of s ≡ Some Reserved
+unfolding step_of
+step-reserved s w e = stuck_is s.sp.halted _ ∙ (answer_reserved s.sp.halted (inst_of (word_at s.imem s.pc)) (word_at s.imem s.pc) w s e).0
+
+pub step-reserved-same : (s : State) (w : ℕ) → (step_of s).0 ≡ end.Reserved w → (step_of s).1 ≡ s
+unfolding step_of
+step-reserved-same s w e = (answer_reserved s.sp.halted (inst_of (word_at s.imem s.pc)) (word_at s.imem s.pc) w s e).1
+
+-- the five reasons, from the first two, the next two and the last
+two_more : (a b c d e : Option Reason) → first_of (a ∷ b ∷ []) ≡ None → first_of (a ∷ b ∷ c ∷ d ∷ e ∷ []) ≡ first_of (c ∷ d ∷ e ∷ [])
+two_more None None c d e h = refl
+two_more None (Some r) c d e h = cc
+two_more (Some r) b c d e h = cc
+
+pub two_none : (a b c d e : Option Reason) → first_of (a ∷ b ∷ c ∷ d ∷ e ∷ []) ≡ None → first_of (a ∷ b ∷ []) ≡ None
+two_none None None c d e h = refl
+two_none None (Some r) c d e h = cc
+two_none (Some r) b c d e h = cc
+
+two_of : (a b c d e : Option Reason) (r : Reason) → first_of (a ∷ b ∷ []) ≡ Some r → first_of (a ∷ b ∷ c ∷ d ∷ e ∷ []) ≡ Some r
+two_of None None c d e r h = cc
+two_of None (Some q) c d e r h = h
+two_of (Some q) b c d e r h = h
+
+pub hit_more : (c d e : Option Reason) → first_of (c ∷ d ∷ []) ≡ None → first_of (c ∷ d ∷ e ∷ []) ≡ first_of (e ∷ [])
+hit_more None None e h = refl
+hit_more None (Some r) e h = cc
+hit_more (Some r) d e h = cc
+
+hit_some : (c d e : Option Reason) (r : Reason) → first_of (c ∷ d ∷ []) ≡ Some r → first_of (c ∷ d ∷ e ∷ []) ≡ Some r
+hit_some None None e r h = cc
+hit_some None (Some q) e r h = h
+hit_some (Some q) d e r h = h
+
+limit_not : (k n : ℕ) → k < n → first_of (when (k == n) Limit ∷ []) ≡ None
+limit_not k n h = let f : nat_eq k n ≡ false = grind (arith, common_steps) in rw f refl
+
+limit_is : (k n : ℕ) → k ≡ n → first_of (when (k == n) Limit ∷ []) ≡ Some Limit
+limit_is k n h = let f : nat_eq k n ≡ true = grind (arith, common_steps) in rw f refl
+
+pub reason-stuck : (b : List Bool) (w : List (Option Watch)) (n : ℕ) (s t : State) (k : ℕ) (r : Reason)
+    → t ≡ steps_of k s → stuck_of t ≡ Some r → reason_at b w n s k ≡ Some r
+unfolding reason_at
+reason-stuck b w n s t k r same stuck =
+    let h : stuck_of (steps_of k s) ≡ Some r = ap stuck_of (sym same) ∙ stuck in
+    two_of _ _ _ _ _ r h
+
+pub reason-none : (b : List Bool) (w : List (Option Watch)) (n : ℕ) (s t : State) (k : ℕ)
+    → t ≡ steps_of k s → stuck_of t ≡ None → hit_of b w k (steps_of (k - 1) s) (steps_of k s) ≡ None → k < n → reason_at b w n s k ≡ None
+unfolding reason_at
+reason-none b w n s t k same stuck quiet h =
+    two_more _ _ _ _ _ (ap stuck_of (sym same) ∙ stuck) ∙ hit_more _ _ _ quiet ∙ limit_not k n h
+
+pub reason-limit : (b : List Bool) (w : List (Option Watch)) (n : ℕ) (s t : State) (k : ℕ)
+    → t ≡ steps_of k s → stuck_of t ≡ None → hit_of b w k (steps_of (k - 1) s) (steps_of k s) ≡ None → k ≡ n → reason_at b w n s k ≡ Some Limit
+unfolding reason_at
+reason-limit b w n s t k same stuck quiet h =
+    two_more _ _ _ _ _ (ap stuck_of (sym same) ∙ stuck) ∙ hit_more _ _ _ quiet ∙ limit_is k n h
+
+pub reason-hit : (b : List Bool) (w : List (Option Watch)) (n : ℕ) (s t : State) (k : ℕ) (r : Reason)
+    → t ≡ steps_of k s → stuck_of t ≡ None → hit_of b w k (steps_of (k - 1) s) (steps_of k s) ≡ Some r → reason_at b w n s k ≡ Some r
+unfolding reason_at
+reason-hit b w n s t k r same stuck hit =
+    two_more _ _ _ _ _ (ap stuck_of (sym same) ∙ stuck) ∙ hit_some _ _ _ r hit
+
+-- without breakpoints and watches nothing is hit
+pub no_hit : (positive : Bool) → first_of (cond positive None None ∷ when (positive && false) Break ∷ []) ≡ None
+no_hit true = refl
+no_hit false = refl
+
+pub free : (k : ℕ) (before s : State) → hit_of [] [] k before s ≡ None
+unfolding changed
+free k before s = no_hit (nat_lt 0 k)
+
+-- one more step
+pub steps-none : (s : State) → steps_of 0 s ≡ s
+unfolding steps_of
+steps-none s = refl
+
+pub steps-more : (k : ℕ) (s : State) → steps_of (k + 1) s ≡ (step_of (steps_of k s)).1
+unfolding steps_of
+steps-more k s = rw add-one refl
+
+-- a stop, from its parts
+pub is_stop : (b : List Bool) (w : List (Option Watch)) (n : ℕ) (s t : State) (k m : ℕ) (r : Reason) (stop : Stop)
+    → stop ≡ record { reason = r; steps = m; pc = t.pc } → m ≡ k → k ≤ n → t ≡ steps_of k s
+    → ((j : ℕ) → j < k → reason_at b w n s j ≡ None) → reason_at b w n s k ≡ Some r → IsStop b w n s t stop
+is_stop b w n s t k m r stop same count within reached first reason =
+    let exact : stop ≡ record { reason = r; steps = k; pc = t.pc } = same ∙ ap (λ x. let made : Stop = record { reason = r; steps = x; pc = t.pc } in made) count in
+    subst (λ (x : Stop). IsStop b w n s t x) (sym exact) (record { within = within; reached = reached; reason = reason; first = first; place = refl })
+
+-- one step further in a run
+pub next-reached : (s m t : State) (k : ℕ) → m ≡ steps_of k s → t ≡ (step_of m).1 → t ≡ steps_of (k + 1) s
+next-reached s m t k here there = there ∙ ap (λ (x : State). (step_of x).1) here ∙ sym (steps-more k s)
+
+pub next-first : (b : List Bool) (w : List (Option Watch)) (n : ℕ) (s m : State) (k : ℕ)
+    → m ≡ steps_of k s → (step_of m).0 ≡ end.Done → hit_of b w k (steps_of (k - 1) s) (steps_of k s) ≡ None → k < n
+    → ((j : ℕ) → j < k → reason_at b w n s j ≡ None) → (j : ℕ) → j < k + 1 → reason_at b w n s j ≡ None
+next-first b w n s m k here done quiet h first = below_more _ _ first (reason-none b w n s m k here (step-done m done) quiet h)
+
+hit_later : (b : List Bool) (w : List (Option Watch)) (positive : Bool) (before s : State) → positive ≡ true
+    → first_of (cond positive (option_map Watched (changed w before.dmem s.dmem)) None ∷ when (positive && is_break b s.pc) Break ∷ []) ≡ hit_in b w before.dmem s
+hit_later b w true before s e = refl
+hit_later b w false before s e = cc
+
+pub next-hit : (b : List Bool) (w : List (Option Watch)) (d : List ℕ) (s m t : State) (k : ℕ)
+    → m ≡ steps_of k s → t ≡ steps_of (k + 1) s → changed w d m.dmem ≡ None
+    → hit_of b w (k + 1) (steps_of (k + 1 - 1) s) (steps_of (k + 1) s) ≡ hit_in b w d t
+next-hit b w d s m t k here there same =
+    let positive : nat_lt 0 (k + 1) ≡ true = grind (arith, common_steps) in
+    let before : k + 1 - 1 ≡ k = omega arith in
+    let back : steps_of (k + 1 - 1) s ≡ m = ap (λ i. steps_of i s) before ∙ sym here in
+    hit_later b w (nat_lt 0 (k + 1)) (steps_of (k + 1 - 1) s) (steps_of (k + 1) s) positive
+    ∙ ap (λ (x : State). hit_in b w (steps_of (k + 1 - 1) s).dmem x) (sym there)
+    ∙ ap (λ (x : State). hit_in b w x.dmem t) back
+    ∙ ap (λ o. first_of (option_map Watched o ∷ when (is_break b t.pc) Break ∷ [])) (sym (changed-since w d m.dmem t.dmem same))
+
+hit_nothing : (o : Option ℕ) (d : Option Reason) → first_of (option_map Watched o ∷ d ∷ []) ≡ None → o ≡ None
+hit_nothing None d e = refl
+hit_nothing (Some k) d e = cc
+
+pub nothing-changed : (b : List Bool) (w : List (Option Watch)) (d : List ℕ) (t : State) → hit_in b w d t ≡ None → changed w d t.dmem ≡ None
+nothing-changed b w d t e = hit_nothing (changed w d t.dmem) (when (is_break b t.pc) Break) e
+
+-- a DMEM that is read whole
+pub whole : (m : List ℕ) (n : ℕ) → length m ≡ n → take n m ≡ m
+whole m n e = take_all n m (omega (arith, e))
+
+pub ruleset stops = (step-done, step-halted, step-halted-same, step-reserved, step-reserved-same, reason-stuck, reason-none, reason-limit, free, steps-none, steps-more, below_more)

@@ -1,0 +1,14 @@
+use Rattle.std.proofs.Common.{◌∙◌, ap}
+use Rattle.rsp_debug.specs.Past.{states_before}
+use Rattle.rsp_debug.specs.Debugging.{Debugging, stop_in, ran}
+use Rattle.rsp_debug.proofs.Ends.{stop-is, ran-is}
+use Rattle.rsp_debug.proofs.debugger.Debugger.run.Goals as goal
+
+pub returns-clause-stop : goal.returns-clause-stop
+returns-clause-stop g c = stop-is _ _ _ _ _ _ c.run.ensures.stop ∙ ap (λ (d : Debugging). stop_in c.args.n d) c.self.view_is
+
+pub returns-clause-next : goal.returns-clause-next
+returns-clause-next g c =
+    let i = c.self.inside in
+    let d : Debugging = record { state = i.machine; breaks = i.breaks; watches = i.watches; past = states_before i.machine i.past.newest; depth = i.past.depth } in
+    ran-is d c.args.n _ _ _ _ c.run.ensures.stop c.run.ensures.past c.run.ensures.depth ∙ ap (λ (x : Debugging). ran c.args.n x) c.self.view_is

@@ -1,0 +1,97 @@
+-- Calls of a debugger, one after the other.
+use Rattle.std.specs.Prelude.{◌≡◌, ◌<◌, ◌≤◌, ◌+◌, ◌-◌, ℕ, List, [], ◌∷◌, length, Bool, ◌&&◌, nat_le, Option, if◌then◌else◌}
+use Rattle.rsp_machine.specs.State.{State}
+use Rattle.rsp_machine.specs.Step.{step_of}
+use Rattle.rsp_machine.specs.Laws.{steps_of}
+use Rattle.rsp_machine.specs.declared.step.StepEnd.{StepEnd}
+use Rattle.rsp_machine.specs.declared.step.StepEnd.TheVariants.{Done, Halted, Reserved}
+use Rattle.rsp_debug.specs.declared.stop.Watch.{Watch}
+use Rattle.rsp_debug.specs.Stops.{run_steps, stop_of, IsStop}
+use Rattle.rsp_debug.specs.Debugging.{Debugging, debugging_of, stepped, steps_made, gone_back}
+
+-- n steps from a state all answer Done, and lead to another
+pub record IsAfter (n : ℕ) (s t : State) : Type 0 where
+  pub done : (k : ℕ) → k < n → (step_of (steps_of k s)).0 ≡ Done
+  pub reached : t ≡ steps_of n s
+
+-- a step, or a run of at most n steps with breakpoints and watches of its own
+pub data Going : Type 0 where
+  StepCall : Going
+  RunCall : List Bool → List (Option Watch) → ℕ → Going
+
+-- whether a run or a way back may be asked for so many steps
+abbrev pub is_count : ℕ → Bool
+is_count n = nat_le 1 n && nat_le n 1000000
+
+abbrev pub done_steps : StepEnd → ℕ
+done_steps Done = 1
+done_steps Halted = 0
+done_steps (Reserved word) = 0
+
+-- how many steps a run makes; none where it is refused
+abbrev pub made_steps : List Bool → List (Option Watch) → ℕ → State → ℕ
+made_steps breaks watches n s = if is_count n then run_steps breaks watches n s else 0
+
+-- how many steps of such a call answer Done
+unfoldable pub call_steps : Going → State → ℕ
+call_steps StepCall s = done_steps (step_of s).0
+call_steps (RunCall breaks watches n) s = made_steps breaks watches n s
+
+-- the state after such a call
+unfoldable pub called : Going → State → State
+called StepCall s = (step_of s).1
+called (RunCall breaks watches n) s = steps_of (made_steps breaks watches n s) s
+
+-- how many steps of a list of such calls answer Done in all
+abbrev pub all_steps : List Going → State → ℕ
+all_steps [] s = 0
+all_steps (call ∷ calls) s = call_steps call s + all_steps calls (called call s)
+
+-- the state after a list of such calls
+abbrev pub all_called : List Going → State → State
+all_called [] s = s
+all_called (call ∷ calls) s = all_called calls (called call s)
+
+-- However steps and runs are cut, the state is that after as many plain steps as answered Done.
+abbrev pub RunsAreSteps : Type 0
+RunsAreSteps = (calls : List Going) (s : State) → IsAfter (all_steps calls s) s (all_called calls s)
+
+-- a run stops at the least number of steps that has a reason, and for the first such reason
+abbrev pub RunsStopFirst : Type 0
+RunsStopFirst = (breaks : List Bool) (watches : List (Option Watch)) (n : ℕ) (s : State)
+    → IsStop breaks watches n s (steps_of (run_steps breaks watches n s) s) (stop_of breaks watches n s)
+
+-- such a call, or a way back by n states
+pub data Call : Type 0 where
+  GoOn : Going → Call
+  GoBack : ℕ → Call
+
+-- a debugger, how many of its steps answered Done, and how many states its accepted ways back took
+pub record Tally : Type 0 where
+  pub debugging : Debugging
+  pub done : ℕ
+  pub taken : ℕ
+
+-- the debugger after a step or a run
+unfoldable pub went : Going → Debugging → Debugging
+went StepCall d = stepped d
+went (RunCall breaks watches n) d = steps_made (made_steps breaks watches n d.state) d
+
+-- whether a way back is accepted
+abbrev pub is_accepted : ℕ → Debugging → Bool
+is_accepted n d = is_count n && nat_le n (length d.past)
+
+abbrev pub after_call : Call → Tally → Tally
+after_call (GoOn call) t = record t { debugging = went call t.debugging; done = t.done + call_steps call t.debugging.state }
+after_call (GoBack n) t = if is_accepted n t.debugging then record t { debugging = gone_back n t.debugging; taken = t.taken + n } else t
+
+abbrev pub after_calls : List Call → Tally → Tally
+after_calls [] t = t
+after_calls (call ∷ calls) t = after_calls calls (after_call call t)
+
+-- From any state with an empty past, after any calls, the state is that after the steps that answered Done, less those taken back.
+abbrev pub Undoes : Type 0
+Undoes = (s : State) (depth : ℕ) (calls : List Call)
+    → let start : Tally = record { debugging = debugging_of depth s; done = 0; taken = 0 } in
+    let end : Tally = after_calls calls start in
+    (end.taken ≤ end.done) × IsAfter (end.done - end.taken) s end.debugging.state

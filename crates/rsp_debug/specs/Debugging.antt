@@ -1,0 +1,67 @@
+-- What a debugger holds, and its calls.
+use Rattle.std.specs.Prelude.{ℕ, zero, suc, ◌%◌, ◌==◌, List, [], ◌∷◌, drop, slice_index_or, Bool, Option, if◌then◌else◌}
+use Rattle.rsp_machine.specs.State.{State}
+use Rattle.rsp_machine.specs.Step.{step_of}
+use Rattle.rsp_machine.specs.Host.{register_read}
+use Rattle.rsp_debug.specs.declared.stop.Watch.{Watch}
+use Rattle.rsp_debug.specs.declared.stop.Stop.{Stop}
+use Rattle.rsp_debug.specs.Stops.{run_steps, stop_of}
+use Rattle.rsp_debug.specs.Past.{past_after}
+use Rattle.rsp_debug.specs.Breaks.{no_breaks, with_break, without_break}
+use Rattle.rsp_debug.specs.Watches.{no_watches, with_watch, without_watch}
+
+-- The state of the machine; of each place whether it has a breakpoint; what the numbers 0 to 7 of watches stand for; the states
+-- that lead back, the newest first; how many of them are kept.
+pub record Debugging : Type 0 where
+  pub state : State
+  pub breaks : List Bool
+  pub watches : List (Option Watch)
+  pub past : List State
+  pub depth : ℕ
+
+-- a machine without breakpoints and watches, and with an empty past
+abbrev pub debugging_of : ℕ → State → Debugging
+debugging_of depth s = record { state = s; breaks = no_breaks; watches = no_watches; past = []; depth = depth }
+
+-- after one step of the machine, whatever it answers
+abbrev pub stepped : Debugging → Debugging
+stepped d = record d { state = (step_of d.state).1; past = past_after d.depth d.state d.past }
+
+-- after n steps
+unfoldable pub steps_made : ℕ → Debugging → Debugging
+steps_made zero d = d
+steps_made (suc n) d = stepped (steps_made n d)
+
+-- where a run of at most n steps stops
+abbrev pub stop_in : ℕ → Debugging → Stop
+stop_in n d = stop_of d.breaks d.watches n d.state
+
+-- after such a run, which fills the past as its steps do
+abbrev pub ran : ℕ → Debugging → Debugging
+ran n d = steps_made (run_steps d.breaks d.watches n d.state) d
+
+-- with one breakpoint more, or less
+abbrev pub broken_at : ℕ → Debugging → Debugging
+broken_at place d = record d { breaks = with_break place d.breaks }
+
+abbrev pub unbroken_at : ℕ → Debugging → Debugging
+unbroken_at place d = record d { breaks = without_break place d.breaks }
+
+-- with one watch more, or less
+abbrev pub watching : ℕ → ℕ → ℕ → Debugging → Debugging
+watching k address len d = record d { watches = with_watch k address len d.watches }
+
+abbrev pub unwatching : ℕ → Debugging → Debugging
+unwatching k d = record d { watches = without_watch k d.watches }
+
+-- n states back
+abbrev pub gone_back : ℕ → Debugging → Debugging
+gone_back n d = record d { state = slice_index_or (d.state ∷ d.past) n d.state; past = drop n d.past }
+
+-- with a state that no step has led to, from which there is no way back
+abbrev pub resumed : State → Debugging → Debugging
+resumed s d = record d { state = s; past = [] }
+
+-- after a read of SP register n, modulo 16: that of the semaphore empties the past
+abbrev pub read_from : ℕ → Debugging → Debugging
+read_from n d = record d { state = register_read n d.state; past = if n % 16 == 7 then [] else d.past }

@@ -1,0 +1,17 @@
+-- Places in a ring of n.
+use Rattle.std.specs.Prelude.{ℕ, ◌+◌, ◌-◌, ◌==◌, List, ◌++◌, take, drop, if◌then◌else◌}
+
+-- the place after a place, and the one before it
+abbrev pub following : ℕ → ℕ → ℕ
+following n i = if i + 1 == n then 0 else i + 1
+
+abbrev pub previous : ℕ → ℕ → ℕ
+previous n i = if i == 0 then n - 1 else i - 1
+
+-- the members from a place on, round the end
+abbrev pub rotated : {X : Type 0} → ℕ → List X → List X
+rotated i xs = drop i xs ++ take i xs
+
+-- and as many of them
+abbrev pub from_place : {X : Type 0} → ℕ → ℕ → List X → List X
+from_place i count xs = take count (rotated i xs)

@@ -1,0 +1,104 @@
+ghost use Rattle.std.specs.Prelude.{◌≡◌, ◌<◌, ◌==◌, Some, None, MatchResult, OnOk, OnErr, IsOk, IsTrue, ◌↔◌};
+ghost use Rattle.rsp_debug.specs.Stops.{is_break};
+ghost use Rattle.rsp_debug.specs.Breaks.{no_breaks, break_count, with_break, without_break, break_fault};
+
+use std::marker::Model;
+
+/// Why a place can't get a breakpoint.
+#[derive(Clone, Copy, Debug, PartialEq, Eq, Drop)]
+pub enum BreakFault {
+    /// Fault 21: it has one.
+    BreakTwice,
+    /// Fault 20: sixteen places have one.
+    BreakFull,
+}
+
+/// Fault 22: a place has no breakpoint.
+#[derive(Clone, Copy, Debug, PartialEq, Eq, Drop)]
+pub struct NoBreak;
+
+/// The places of IMEM that have a breakpoint. Contracts see them as 1024 truth values, one for each place.
+#[derive(Drop)]
+pub struct Breaks {
+    bits: [u64; 16],
+    count: u16,
+}
+
+impl Model for Breaks {
+    ghost use Rattle.std.specs.Prelude.{List, Bool, ◌≡◌};
+    ghost use Rattle.rsp_debug.specs.Breaks.{places_of, break_count};
+
+    ghost Value = { List Bool };
+
+    ghost view = { λ b. places_of b.bits };
+
+    ghost invariant = { λ b. b.count ≡ break_count (places_of b.bits) };
+}
+
+impl Breaks {
+    /// No place has a breakpoint.
+    #[tactic(auto, using(crate::proofs::Tables::tables))]
+    pub fn new() -> Breaks
+        ensures { result ≡ no_breaks }
+    {
+        Breaks {
+            bits: [0; 16],
+            count: 0,
+        }
+    }
+
+    /// Whether no place has a breakpoint.
+    pub fn is_empty(&self) -> bool
+        ensures { result ≡ (break_count self.now == 0) }
+    {
+        self.count == 0
+    }
+
+    /// Whether a place has a breakpoint.
+    #[inline]
+    #[tactic(auto, using(crate::proofs::Tables::tables))]
+    pub fn contains(&self, place: u16) -> bool
+        requires { place < 4096 }
+        ensures { result ≡ is_break self.now place }
+    {
+        let at = place / 4;
+        (self.bits[(at / 64) as usize] >> (at % 64)) & 1 == 1
+    }
+
+    /// Gives a place a breakpoint.
+    #[tactic(auto, using(crate::proofs::Tables::tables))]
+    pub fn add(&mut self, place: u16) -> Result<(), BreakFault>
+        requires { place < 4096 }
+        ensures fault { MatchResult result (λ _. break_fault place self.old ≡ None) (λ f. break_fault place self.old ≡ Some f) }
+        ensures ok { OnOk result (self.new ≡ with_break place self.old) }
+        ensures err { OnErr result (self.new ≡ self.old) }
+    {
+        if self.contains(place) {
+            return Err(BreakFault::BreakTwice);
+        }
+        if self.count >= 16 {
+            return Err(BreakFault::BreakFull);
+        }
+        let at = place / 4;
+        self.bits[(at / 64) as usize] |= 1 << (at % 64);
+        self.count += 1;
+        Ok(())
+    }
+
+    /// Takes a place's breakpoint away, where it has one.
+    #[tactic(auto, using(crate::proofs::Tables::tables))]
+    pub fn remove(&mut self, place: u16) -> Result<(), NoBreak>
+        requires { place < 4096 }
+        ensures had { IsOk result ↔ IsTrue (is_break self.old place) }
+        ensures ok { OnOk result (self.new ≡ without_break place self.old) }
+        ensures err { OnErr result (self.new ≡ self.old) }
+    {
+        if !self.contains(place) {
+            return Err(NoBreak);
+        }
+        let at = place / 4;
+        self.bits[(at / 64) as usize] &= !(1 << (at % 64));
+        self.count -= 1;
+        Ok(())
+    }
+}

@@ -1,0 +1,182 @@
+ghost use Rattle.std.specs.Prelude.{◌≡◌, ◌<◌, ◌≤◌, ◌%◌, ◌⊎◌, ◌↔◌, Some, None, length, OnOk, OnErr, IfOk, IfErr, IsOk, IsErrOf, IsTrue, MatchResult};
+ghost use Rattle.rsp_machine.specs.Step.{step_of};
+ghost use Rattle.rsp_debug.specs.Stops.{is_break};
+ghost use Rattle.rsp_debug.specs.Breaks.{break_fault};
+ghost use Rattle.rsp_debug.specs.Watches.{number_for, has_watch};
+ghost use Rattle.rsp_debug.specs.Debugging.{debugging_of, stepped, stop_in, ran, broken_at, unbroken_at, watching, unwatching, gone_back};
+
+use crate::breaks::{BreakFault, Breaks, NoBreak};
+use crate::ring::Ring;
+use crate::runs::{run, step};
+use crate::stop::Stop;
+use crate::watches::{NoWatch, WatchFault, Watches};
+use rsp_acc::Acc;
+use rsp_machine::{Machine, StepEnd};
+use std::alloc::{AllocError, Global};
+use std::marker::Model;
+
+/// Fault 26, Count: a run of no steps, or of more than 1000000.
+#[derive(Clone, Copy, Debug, PartialEq, Eq, Drop)]
+pub struct CountFault;
+
+/// Why there is no way back. The count comes first.
+#[derive(Clone, Copy, Debug, PartialEq, Eq, Drop)]
+pub enum BackFault {
+    /// Fault 26: the count isn't 1 to 1000000.
+    Count,
+    /// Fault 27: the past holds fewer states.
+    ShortHistory,
+}
+
+/// A machine with breakpoints, watches and a past. Contracts see it as the record `Debugging`: the machine's state, of each of
+/// the 1024 places whether it has a breakpoint, what the numbers 0 to 7 of watches stand for, the states that lead back,
+/// the newest first, and how many of them are kept.
+///
+/// The past is empty at the start. A step that answers Done puts the state before it in front, and the oldest state leaves where
+/// there were as many as are kept. A step that starts a DMA, a read of the semaphore, and each load, task, new place and write
+/// of an SP register that isn't refused empty it.
+#[derive(Drop)]
+pub struct Debugger<A: Acc> {
+    pub(crate) machine: Machine<A>,
+    pub(crate) breaks: Breaks,
+    pub(crate) watches: Watches,
+    pub(crate) past: Ring,
+}
+
+impl<A: Acc> Model for Debugger<A> {
+    ghost use Rattle.rsp_debug.specs.Past.{states_before};
+    ghost use Rattle.rsp_debug.specs.Debugging.{Debugging};
+
+    ghost Value = { Debugging };
+
+    ghost view = { λ d. record {
+      state = d.machine;
+      breaks = d.breaks;
+      watches = d.watches;
+      past = states_before d.machine d.past.newest;
+      depth = d.past.depth;
+    } };
+}
+
+impl<A: Acc> Debugger<A> {
+    /// A debugger of a machine, without breakpoints and watches, whose past is empty and keeps `depth` states, at most
+    /// 4096. All its memory is taken here. Where there is none, the machine is handed back.
+    pub fn try_new(
+        alloc: Global,
+        machine: Machine<A>,
+        depth: usize,
+    ) -> Result<Debugger<A>, (Machine<A>, AllocError)>
+        requires { depth ≤ 4096 }
+        ensures ok { IfOk result (λ d. d ≡ debugging_of depth machine) }
+        ensures err { IfErr result (λ e. e.0 ≡ machine) }
+    {
+        match Ring::try_new(alloc, depth) {
+            Ok(past) => Ok(Debugger {
+                machine,
+                breaks: Breaks::new(),
+                watches: Watches::new(),
+                past,
+            }),
+            Err(fault) => Err((machine, fault)),
+        }
+    }
+
+    /// One step of the machine, as [`Machine::step`] makes it.
+    pub fn step(&mut self) -> StepEnd
+        ensures answer { result ≡ (step_of self.old.state).0 }
+        ensures next { self.new ≡ stepped self.old }
+    {
+        step(
+            &mut self.machine,
+            &mut self.past,
+            &self.breaks,
+            &self.watches,
+        )
+    }
+
+    /// Gives a place of IMEM, a multiple of 4 below 4096, a breakpoint: a run stops when it comes there. BreakTwice where it
+    /// has one, else BreakFull where sixteen places have one.
+    pub fn add_break(&mut self, place: u16) -> Result<(), BreakFault>
+        requires below { place < 4096 }
+        requires whole { place % 4 ≡ 0 }
+        ensures fault { MatchResult result (λ _. break_fault place self.old.breaks ≡ None) (λ f. break_fault place self.old.breaks ≡ Some f) }
+        ensures ok { OnOk result (self.new ≡ broken_at place self.old) }
+        ensures err { OnErr result (self.new ≡ self.old) }
+    {
+        self.breaks.add(place)
+    }
+
+    /// Takes the breakpoint of a place, a multiple of 4 below 4096, away. NoBreak where it has none.
+    pub fn drop_break(&mut self, place: u16) -> Result<(), NoBreak>
+        requires below { place < 4096 }
+        requires whole { place % 4 ≡ 0 }
+        ensures had { IsOk result ↔ IsTrue (is_break self.old.breaks place) }
+        ensures ok { OnOk result (self.new ≡ unbroken_at place self.old) }
+        ensures err { OnErr result (self.new ≡ self.old) }
+    {
+        self.breaks.remove(place)
+    }
+
+    /// Watches `len` bytes of DMEM from an address on, and answers the watch's number, the lowest that is free: a run stops after a
+    /// step that changes one of them. WatchRange where they aren't 1 to 64 bytes that stand in DMEM, else WatchFull where
+    /// eight watches stand.
+    pub fn add_watch(&mut self, address: u32, len: u32) -> Result<usize, WatchFault>
+        ensures answer { result ≡ number_for address len self.old.watches }
+        ensures ok { IfOk result (λ k. self.new ≡ watching k address len self.old) }
+        ensures err { OnErr result (self.new ≡ self.old) }
+    {
+        self.watches.add(address, len)
+    }
+
+    /// Drops the watch of a number. NoWatch where there is none.
+    pub fn drop_watch(&mut self, k: u32) -> Result<(), NoWatch>
+        ensures had { IsOk result ↔ IsTrue (has_watch k self.old.watches) }
+        ensures ok { OnOk result (self.new ≡ unwatching k self.old) }
+        ensures err { OnErr result (self.new ≡ self.old) }
+    {
+        self.watches.remove(k)
+    }
+
+    /// Makes as many steps as it takes until there is a reason to stop, and at most `n`. The reasons, in their order: the word
+    /// at pc is reserved and the machine isn't halted; it is halted; the last step changed a byte of a watch, of which the
+    /// lowest number is told; the last step came to a breakpoint; `n` steps are made. CountFault unless `n` is 1 to 1000000.
+    #[tactic(auto, using(crate::proofs::Ends::ends))]
+    pub fn run(&mut self, n: u32) -> Result<Stop, CountFault>
+        ensures count { IsOk result ↔ ((1 ≤ n) × (n ≤ 1000000)) }
+        ensures stop { IfOk result (λ stop. stop ≡ stop_in n self.old) }
+        ensures next { OnOk result (self.new ≡ ran n self.old) }
+        ensures err { OnErr result (self.new ≡ self.old) }
+    {
+        if n == 0 || n > 1_000_000 {
+            return Err(CountFault);
+        }
+        Ok(run(
+            &mut self.machine,
+            &mut self.past,
+            &self.breaks,
+            &self.watches,
+            n,
+        ))
+    }
+
+    /// Goes back `n` states of the past, which leave it. Breakpoints and watches stay. Count unless `n` is 1 to 1000000, else
+    /// ShortHistory where the past holds fewer states.
+    #[tactic(auto, using(crate::proofs::Pasts::more))]
+    pub fn back(&mut self, n: u32) -> Result<(), BackFault>
+        ensures ok { OnOk result (self.new ≡ gone_back n self.old) }
+        ensures err { OnErr result (self.new ≡ self.old) }
+        ensures count { IsErrOf result BackFault.Count ↔ ((n ≡ 0) ⊎ (1000000 < n)) }
+        ensures short { IsErrOf result BackFault.ShortHistory ↔ ((0 < n) × (n ≤ 1000000) × (length self.old.past < n)) }
+    {
+        if n == 0 || n > 1_000_000 {
+            return Err(BackFault::Count);
+        }
+        if self.past.len() < n as usize {
+            return Err(BackFault::ShortHistory);
+        }
+        for _ in 0..n {
+            self.past.undo(&mut self.machine);
+        }
+        Ok(())
+    }
+}

@@ -1,0 +1,85 @@
+// What the host does with the machine of a debugger.
+
+ghost use Rattle.std.specs.Prelude.{◌≡◌, ◌<◌, ◌%◌, ◌↔◌, Some, None, length, OnOk, OnErr, IsOk, IsTrue, MatchResult};
+ghost use Rattle.rsp_regs.specs.Sp.{peeked};
+ghost use Rattle.rsp_machine.specs.Host.{register_written, is_inside, loaded, task_fault, tasked, placed};
+ghost use Rattle.rsp_debug.specs.Debugging.{resumed, read_from};
+
+use crate::debugger::Debugger;
+use rsp_acc::Acc;
+use rsp_machine::{RangeFault, TaskFault};
+use rsp_memory::{Bank, Rdram};
+
+impl<A: Acc> Debugger<A> {
+    /// Reads an SP register, as [`rsp_machine::Machine::read_reg`] does; its number `n` is taken modulo 16. A read of the
+    /// semaphore, register 7, empties the past, whatever it held; no other read does.
+    #[tactic(auto, using(crate::proofs::Hosts::hosts))]
+    pub fn read_reg(&mut self, n: u32) -> u32
+        ensures value { result ≡ peeked n self.old.state.sp }
+        ensures next { self.new ≡ read_from n self.old }
+    {
+        if n % 16 == 7 {
+            self.past.clear();
+        }
+        self.machine.read_reg(n)
+    }
+
+    /// Writes an SP register, as [`rsp_machine::Machine::write_reg`] does, and empties the past.
+    pub fn write_reg(&mut self, n: u32, value: u32)
+        ensures { self.new ≡ resumed (register_written n value self.old.state) self.old }
+    {
+        self.past.clear();
+        self.machine.write_reg(n, value);
+    }
+
+    /// Goes on at a place in IMEM, a multiple of 4 below 4096, as [`rsp_machine::Machine::set_pc`] does, and empties the
+    /// past.
+    pub fn set_pc(&mut self, pc: u16)
+        requires below { pc < 4096 }
+        requires whole { pc % 4 ≡ 0 }
+        ensures { self.new ≡ resumed (placed pc self.old.state) self.old }
+    {
+        self.past.clear();
+        self.machine.set_pc(pc);
+    }
+
+    /// Writes bytes to a bank from an address on, as [`rsp_machine::Machine::load_bytes`] does, and empties the past, also
+    /// where there are no bytes. RangeFault, and nothing changes, where they pass the bank's end.
+    pub fn load_bytes(&mut self, bank: Bank, a: u32, bytes: &[u8]) -> Result<(), RangeFault>
+        ensures inside { IsOk result ↔ IsTrue (is_inside bank a (length bytes.now) self.old.state) }
+        ensures ok { OnOk result (self.new ≡ resumed (loaded bank a bytes.now self.old.state) self.old) }
+        ensures err { OnErr result (self.new ≡ self.old) }
+    {
+        self.machine.load_bytes(bank, a, bytes)?;
+        self.past.clear();
+        Ok(())
+    }
+
+    /// Starts the task whose structure of 64 bytes stands at an address of the RDRAM, as
+    /// [`rsp_machine::Machine::start_task`] does, and empties the past. TaskPlace or TaskSize, and nothing changes, where
+    /// it can't start.
+    pub fn start_task(&mut self, a: u32) -> Result<(), TaskFault>
+        ensures fault { MatchResult result (λ _. task_fault a self.old.state.rdram ≡ None) (λ f. task_fault a self.old.state.rdram ≡ Some f) }
+        ensures ok { OnOk result (self.new ≡ resumed (tasked a self.old.state) self.old) }
+        ensures err { OnErr result (self.new ≡ self.old) }
+    {
+        self.machine.start_task(a)?;
+        self.past.clear();
+        Ok(())
+    }
+}
+
+impl<A: Acc> Debugger<A> {
+    /// The image of the RDRAM; the rest of the debugger is dropped.
+    pub fn into_rdram(self) -> Rdram
+        ensures { result ≡ self.state.rdram }
+    {
+        let Debugger {
+            machine,
+            breaks: _,
+            watches: _,
+            past: _,
+        } = self;
+        machine.into_rdram()
+    }
+}

@@ -1,0 +1,18 @@
+//! The debugger: runs of a machine that stop at breakpoints and watches, looks at it, and steps back.
+#![tactic(auto)]
+
+mod breaks;
+mod debugger;
+mod host;
+pub mod laws;
+mod looks;
+mod ring;
+mod runs;
+mod stop;
+mod watches;
+
+pub use breaks::{BreakFault, NoBreak};
+pub use debugger::{BackFault, CountFault, Debugger};
+pub use looks::{Listed, Places};
+pub use stop::{Reason, Stop, Watch};
+pub use watches::{NoWatch, WatchFault};

@@ -1,0 +1,130 @@
+ghost use Rattle.std.specs.Prelude.{◌≡◌, ◌<◌, ◌≤◌, [], length, drop, slice_index_or, IfOk};
+ghost use Rattle.rsp_machine.specs.Step.{step_of};
+ghost use Rattle.rsp_debug.specs.Places.{following, previous};
+ghost use Rattle.rsp_debug.specs.Past.{states_before, past_after};
+
+use circular_buffer::HeapCircularBuffer;
+use rsp_acc::Acc;
+use rsp_machine::{Machine, Record, StepEnd};
+use std::alloc::{AllocError, Global};
+use std::marker::Model;
+
+/// The records of the last steps, in slots that are all taken at the start and written in place. Contracts see
+/// the records, the newest first, and how many may be kept.
+#[derive(Drop)]
+pub struct Ring {
+    slots: HeapCircularBuffer<Record>,
+    /// The place of the newest record; the older ones stand behind it, round the end.
+    first: usize,
+    count: usize,
+    /// How many records may stand. There is one slot more where it is 0, so that each step has a slot.
+    depth: usize,
+}
+
+impl Model for Ring {
+    ghost use Rattle.std.specs.Prelude.{◌<◌, ◌≤◌, length};
+    ghost use Rattle.rsp_debug.specs.Places.{from_place};
+    ghost use Rattle.rsp_debug.specs.Past.{Records};
+
+    ghost Value = { Records };
+
+    ghost view = { λ r. record {
+      newest = from_place r.first r.count r.slots.items;
+      depth = r.depth;
+    } };
+
+    ghost invariant = { λ r. (r.first < length r.slots.items) × (r.count ≤ r.depth) × (r.depth ≤ length r.slots.items) };
+}
+
+/// The place after a place of a ring, and the one before it.
+#[inline(always)]
+fn following(n: usize, i: usize) -> usize
+    requires { i < n }
+    ensures { result ≡ following n i }
+{
+    if i + 1 == n { 0 } else { i + 1 }
+}
+
+#[inline(always)]
+fn previous(n: usize, i: usize) -> usize
+    requires { i < n }
+    ensures { result ≡ previous n i }
+{
+    if i == 0 { n - 1 } else { i - 1 }
+}
+
+impl Ring {
+    /// An empty ring of so many slots.
+    pub fn try_new(alloc: Global, depth: usize) -> Result<Ring, AllocError>
+        ensures { IfOk result (λ r. r ≡ record { newest = []; depth = depth }) }
+    {
+        let room = depth.max(1);
+        let mut slots = HeapCircularBuffer::with_capacity(alloc, room)?;
+        for _ in 0..room {
+            let _ = slots.push_back(Record::new());
+        }
+        Ok(Ring {
+            slots,
+            first: 0,
+            count: 0,
+            depth,
+        })
+    }
+
+    /// How many records stand.
+    pub fn len(&self) -> usize
+        ensures len { result ≡ length self.now.newest }
+        ensures within { result ≤ self.now.depth }
+    {
+        self.count
+    }
+
+    /// Forgets all records.
+    pub fn clear(&mut self)
+        ensures { self.new ≡ record self.old { newest = [] } }
+    {
+        self.count = 0;
+    }
+
+    /// One step of a machine, of which the ring keeps what it changed. So the states that lead back from the machine
+    /// are those before, with the one that the step left as the newest.
+    #[inline(always)]
+    #[tactic(auto, using(crate::proofs::Pasts::pasts))]
+    pub fn step<A: Acc>(&mut self, machine: &mut Machine<A>) -> StepEnd
+        ensures answer { result ≡ (step_of machine.old).0 }
+        ensures state { machine.new ≡ (step_of machine.old).1 }
+        ensures past { states_before machine.new self.new.newest ≡ past_after self.old.depth machine.old (states_before machine.old self.old.newest) }
+        ensures depth { self.new.depth ≡ self.old.depth }
+    {
+        let place = previous(self.slots.len(), self.first);
+        let Some(slot) = self.slots.get_mut(place) else {
+            unreachable!()
+        };
+        let (end, is_back) = machine.record_step(slot);
+        if end == StepEnd::Done {
+            if is_back {
+                self.first = place;
+                self.count = (self.count + 1).min(self.depth);
+            } else {
+                self.count = 0;
+            }
+        }
+        end
+    }
+
+    /// Goes back by the newest record, which leaves.
+    #[tactic(auto, using(crate::proofs::Pasts::backs))]
+    pub fn undo<A: Acc>(&mut self, machine: &mut Machine<A>)
+        requires { 0 < length self.old.newest }
+        ensures state { machine.new ≡ slice_index_or (states_before machine.old self.old.newest) 0 machine.old }
+        ensures past { states_before machine.new self.new.newest ≡ drop 1 (states_before machine.old self.old.newest) }
+        ensures depth { self.new.depth ≡ self.old.depth }
+    {
+        let Some(slot) = self.slots.get(self.first) else {
+            unreachable!()
+        };
+        machine.undo(slot);
+        self.first = following(self.slots.len(), self.first);
+        self.count -= 1;
+    }
+}

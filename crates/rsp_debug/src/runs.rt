@@ -1,0 +1,195 @@
+// Steps, one after the other, up to a reason to stop.
+
+ghost use Rattle.std.specs.Prelude.{◌≡◌, ◌<◌, ◌≤◌, [], ◌∷◌, ℕ, Some, None, length, option_map, is_some, unwrap_or, true, false};
+ghost use Rattle.rsp_machine.specs.Step.{step_of};
+ghost use Rattle.rsp_debug.specs.Stops.{IsStop, reason_at, changed};
+ghost use Rattle.rsp_debug.specs.Calls.{IsAfter};
+ghost use Rattle.rsp_debug.specs.Past.{states_before, past_after, past_of};
+ghost use Rattle.rsp_debug.specs.Runs.{seen, stuck_of, hit_in};
+ghost use Rattle.rsp_debug.specs.declared.stop.Reason.TheVariants as why;
+
+use crate::breaks::Breaks;
+use crate::ring::Ring;
+use crate::stop::{Reason, Stop};
+use crate::watches::Watches;
+use rsp_acc::Acc;
+use rsp_decode::decode;
+use rsp_machine::{Machine, StepEnd};
+
+/// Why a machine can't go on.
+fn stuck<A: Acc>(machine: &Machine<A>) -> Option<Reason>
+    ensures { result ≡ stuck_of machine.now }
+{
+    if machine.sp_regs().halted() {
+        return Some(Reason::Halted);
+    }
+    if decode(machine.imem().word(u32::from(machine.pc()))).is_none() {
+        return Some(Reason::Reserved);
+    }
+    None
+}
+
+/// What a step of a machine that can't go on answers.
+#[tactic(auto, using(crate::proofs::Going::refusals))]
+fn refusal<A: Acc>(machine: &Machine<A>) -> StepEnd
+    requires { is_some (stuck_of machine.now) ≡ true }
+    ensures answer { result ≡ (step_of machine.now).0 }
+    ensures state { machine.now ≡ (step_of machine.now).1 }
+{
+    if machine.sp_regs().halted() {
+        return StepEnd::Halted;
+    }
+    StepEnd::Reserved {
+        word: machine.imem().word(u32::from(machine.pc())),
+    }
+}
+
+/// A stop where the machine stands: it can't go on, or there is another reason.
+fn stopped_here<A: Acc>(machine: &Machine<A>, otherwise: Reason, steps: u32) -> Stop
+    ensures { result ≡ record { reason = unwrap_or (stuck_of machine.now) otherwise; steps = steps; pc = machine.now.pc } }
+{
+    Stop {
+        reason: stuck(machine).unwrap_or(otherwise),
+        steps,
+        pc: machine.pc(),
+    }
+}
+
+/// The bytes of DMEM.
+fn dmem_bytes<A: Acc>(machine: &Machine<A>) -> &[u8]
+    ensures value { result.now ≡ machine.now.dmem }
+    ensures len { length result.now ≡ 4096 }
+{
+    machine.dmem().run(0, 4096)
+}
+
+/// The watch or the breakpoint that a step has come to, where they are looked at.
+fn hit<A: Acc>(
+    machine: &Machine<A>,
+    breaks: &Breaks,
+    watches: &Watches,
+    before: &[u8],
+    looks: bool,
+) -> Option<Reason>
+    ensures { result ≡ hit_in (seen looks breaks.now) (seen looks watches.now) before.now machine.now }
+{
+    if !looks {
+        return None;
+    }
+    if let Some(k) = watches.changed(before, dmem_bytes(machine)) {
+        return Some(Reason::Watched(k));
+    }
+    if breaks.contains(machine.pc()) {
+        return Some(Reason::Break);
+    }
+    None
+}
+
+/// Makes steps as long as they answer Done, at most `n`, up to one that comes to a breakpoint or a watch, where these are
+/// looked at. Tells how many, and which. All steps of a debugger are made here: the machine's step is put into one loop.
+#[inline(never)]
+#[tactic(auto, using(crate::proofs::Going::goes))]
+fn go_on<A: Acc>(
+    machine: &mut Machine<A>,
+    past: &mut Ring,
+    breaks: &Breaks,
+    watches: &Watches,
+    before: &[u8],
+    looks: bool,
+    n: u32,
+) -> (u32, Option<Reason>)
+    requires { changed (seen looks watches.now) before.now machine.old.dmem ≡ None }
+    ensures within { result.0 ≤ n }
+    ensures after { IsAfter result.0 machine.old machine.new }
+    ensures past { states_before machine.new past.new.newest ≡ past_of result.0 past.old.depth machine.old (states_before machine.old past.old.newest) }
+    ensures depth { past.new.depth ≡ past.old.depth }
+    ensures first { (j : ℕ) → j < result.0 → reason_at (seen looks breaks.now) (seen looks watches.now) n machine.old j ≡ None }
+    ensures last { stuck_of machine.new ≡ None → reason_at (seen looks breaks.now) (seen looks watches.now) n machine.old result.0 ≡ Some (unwrap_or result.1 why.Limit) }
+{
+    for k in 0..n {
+        match past.step(machine) {
+            StepEnd::Done => {}
+            StepEnd::Halted => return (k, None),
+            StepEnd::Reserved { word: _ } => return (k, None),
+        }
+        if let Some(reason) = hit(machine, breaks, watches, before, looks) {
+            return (k + 1, Some(reason));
+        }
+    }
+    (n, None)
+}
+
+/// One step of a machine, of which the ring keeps what it changed.
+pub(crate) fn step<A: Acc>(
+    machine: &mut Machine<A>,
+    past: &mut Ring,
+    breaks: &Breaks,
+    watches: &Watches,
+) -> StepEnd
+    ensures answer { result ≡ (step_of machine.old).0 }
+    ensures state { machine.new ≡ (step_of machine.old).1 }
+    ensures past { states_before machine.new past.new.newest ≡ past_after past.old.depth machine.old (states_before machine.old past.old.newest) }
+    ensures depth { past.new.depth ≡ past.old.depth }
+{
+    let (made, _) = go_on(machine, past, breaks, watches, &[], false, 1);
+    if made == 1 {
+        return StepEnd::Done;
+    }
+    refusal(machine)
+}
+
+/// Runs to breakpoints and watches, where these are looked at.
+fn run_to<A: Acc>(
+    machine: &mut Machine<A>,
+    past: &mut Ring,
+    breaks: &Breaks,
+    watches: &Watches,
+    before: &[u8],
+    looks: bool,
+    n: u32,
+) -> Stop
+    requires { changed (seen looks watches.now) before.now machine.old.dmem ≡ None }
+    ensures stop { IsStop (seen looks breaks.now) (seen looks watches.now) n machine.old machine.new result }
+    ensures past { states_before machine.new past.new.newest ≡ past_of result.steps past.old.depth machine.old (states_before machine.old past.old.newest) }
+    ensures depth { past.new.depth ≡ past.old.depth }
+{
+    let (k, found) = go_on(machine, past, breaks, watches, before, looks, n);
+    stopped_here(machine, found.unwrap_or(Reason::Limit), k)
+}
+
+/// Runs to breakpoints and watches.
+fn run_watched<A: Acc>(
+    machine: &mut Machine<A>,
+    past: &mut Ring,
+    breaks: &Breaks,
+    watches: &Watches,
+    n: u32,
+) -> Stop
+    ensures stop { IsStop breaks.now watches.now n machine.old machine.new result }
+    ensures past { states_before machine.new past.new.newest ≡ past_of result.steps past.old.depth machine.old (states_before machine.old past.old.newest) }
+    ensures depth { past.new.depth ≡ past.old.depth }
+{
+    let mut before = [0_u8; 4096];
+    before.copy_from_slice(dmem_bytes(machine));
+    run_to(machine, past, breaks, watches, &before, true, n)
+}
+
+/// Runs to the least number of steps after which there is a reason to stop.
+#[tactic(auto, using(crate::proofs::Ends::frees))]
+pub(crate) fn run<A: Acc>(
+    machine: &mut Machine<A>,
+    past: &mut Ring,
+    breaks: &Breaks,
+    watches: &Watches,
+    n: u32,
+) -> Stop
+    ensures stop { IsStop breaks.now watches.now n machine.old machine.new result }
+    ensures past { states_before machine.new past.new.newest ≡ past_of result.steps past.old.depth machine.old (states_before machine.old past.old.newest) }
+    ensures depth { past.new.depth ≡ past.old.depth }
+{
+    if breaks.is_empty() && watches.is_empty() {
+        run_to(machine, past, breaks, watches, &[], false, n)
+    } else {
+        run_watched(machine, past, breaks, watches, n)
+    }
+}

@@ -1,0 +1,349 @@
+-- What is kept of a step leads back.
+use Rattle.std.proofs.Common.{◌≡◌, ℕ, ℤ, ◌-◌, ◌%◌, ◌==◌, ◌||◌, Bool, true, false, not, List, refl, sym, ap, subst, Option, Some, None}
+use Rattle.std.specs.Prelude.{if◌then◌else◌}
+use Rattle.rsp_decode.specs.declared.inst.Inst.{Inst}
+use Rattle.rsp_decode.specs.declared.inst.Inst.TheVariants.{Shift, ShiftBy, JumpRegister, JumpLinkRegister, Break, Register, BranchSign, BranchEqual, Jump, Immediate, LoadUpper, Load, Store, MoveSp, MoveVector, MoveControl, Multiply, Round, MpegMultiply, ReadAccumulator, VectorAdd, VectorSelect, VectorClip, VectorMerge, VectorLogic, Lane, Idle, VectorLoad, VectorStore}
+use Rattle.rsp_decode.specs.declared.inst.MoveRow.{MoveRow}
+use Rattle.rsp_decode.specs.declared.inst.MoveRow.TheVariants.{From, To}
+use Rattle.rsp_decode.specs.declared.inst.SignRow.{SignRow}
+use Rattle.rsp_decode.specs.declared.inst.SignRow.TheVariants.{Bltz, Bgez, Bltzal, Bgezal, Blez, Bgtz}
+use Rattle.rsp_decode.specs.declared.inst.JumpRow.{JumpRow}
+use Rattle.rsp_decode.specs.declared.inst.JumpRow.TheVariants.{J, Jal}
+use Rattle.rsp_decode.specs.declared.inst.VectorLoadRow.{VectorLoadRow}
+use Rattle.rsp_decode.specs.declared.inst.VectorLoadRow.TheVariants.{Lbv, Lsv, Llv, Ldv, Lqv, Lrv, Lpv, Luv, Lhv, Lfv, Ltv}
+use Rattle.rsp_flags.specs.declared.flags.Flags.{Flags}
+use Rattle.rsp_divide.specs.declared.divider.Divider.{Divider}
+use Rattle.rsp_memory.specs.Memory.{word_at, bytes_at, with_bytes}
+use Rattle.rsp_scalar.specs.Registers.{register, with_register}
+use Rattle.rsp_scalar.specs.Rows.{address}
+use Rattle.rsp_scalar.specs.Flow.{linked, going_on}
+use Rattle.rsp_decode.specs.declared.inst.Control.{Control}
+use Rattle.rsp_decode.specs.Table.{inst_of}
+use Rattle.rsp_loadstore.specs.File.{register as vector, with_register as with_vector}
+use Rattle.rsp_loadstore.specs.Addresses.{transfer_address}
+use Rattle.rsp_loadstore.specs.Loads.{loaded_file}
+use Rattle.rsp_loadstore.specs.Stores.{stored_memory}
+use Rattle.rsp_loadstore.specs.Moves.{moved_file}
+use Rattle.rsp_regs.specs.Sp.{Sp, after_step, after_read, written, bank_written, image_written, is_imem}
+use Rattle.rsp_machine.specs.State.{State, advanced}
+use Rattle.rsp_machine.specs.Vector.{multiplies, rounds, multiplies_mpeg, reads_accumulator, ruled, divides, loads_vector, stores_vector, moves_vector, moves_control}
+use Rattle.rsp_machine.specs.Step.{computes, loads, stores, jumps, breaks, moves_sp, executed, singled, step_by, step_of}
+use Rattle.rsp_machine.specs.Host.{register_written}
+use Rattle.rsp_machine.specs.declared.step.StepEnd.TheVariants.{Done, Halted, Reserved}
+use Rattle.rsp_machine.specs.Saved.{Saved, kept, undone, starts_dma, is_length, sign_link, jump_link, keeps_register, keeps_places, keeps_bytes, keeps_vector, keeps_group, keeps_product, keeps_rule, keeps_lane, keeps_flags, keeps_sp, keeps_nothing, keeps_loaded, group_at, with_group, window_of, is_back_by, kept_by, can_undo, slot_after, is_back}
+use Rattle.rsp_machine.proofs.Undoing.{register-back, vector-back, store-back, stored-back}
+use Rattle.rsp_machine.proofs.Loading.{loaded-back, put_back}
+
+-- the state with its parts given back
+same_state : (s : State) (r : List ℕ) (v : List (List ℕ)) (x : List ℤ) (f : Flags) (d : Divider) (m i q : List ℕ) → s.sp.halted ≡ false
+    → r ≡ s.registers → v ≡ s.vectors → x ≡ s.accumulators → f ≡ s.flags → d ≡ s.divider → m ≡ s.dmem → i ≡ s.imem → q ≡ s.rdram
+    → record s { registers = r; vectors = v; accumulators = x; flags = f; divider = d; dmem = m; imem = i; rdram = q; sp = record s.sp { halted = false } } ≡ s
+same_state s r v x f d m i q h er ev ex ef ed em ei eq =
+    rw (er, ev, ex, ef, ed, em, ei, eq) (ap (λ b. record s { sp = record s.sp { halted = b } }) (sym h))
+
+registers_same : (s : State) (r : List ℕ) → s.sp.halted ≡ false → r ≡ s.registers → record s { registers = r; sp = record s.sp { halted = false } } ≡ s
+registers_same s r h e = same_state s r _ _ _ _ _ _ _ h e refl refl refl refl refl refl refl
+
+vectors_same : (s : State) (v : List (List ℕ)) → s.sp.halted ≡ false → v ≡ s.vectors → record s { vectors = v; sp = record s.sp { halted = false } } ≡ s
+vectors_same s v h e = same_state s _ v _ _ _ _ _ _ h refl e refl refl refl refl refl refl
+
+memory_same : (s : State) (m : List ℕ) → s.sp.halted ≡ false → m ≡ s.dmem → record s { dmem = m; sp = record s.sp { halted = false } } ≡ s
+memory_same s m h e = same_state s _ _ _ _ _ m _ _ h refl refl refl refl refl e refl refl
+
+-- a row that changes a scalar register
+register_kept : (n v p : ℕ) (s : State) (r : Saved) → s.sp.halted ≡ false
+    → undone (keeps_register n s r) (singled (record s { pc = s.npc; npc = p; registers = with_register s.registers n v })) ≡ s
+unfolding undone keeps_register after_step
+register_kept n v p s r h = registers_same s _ h (register-back s.registers n v)
+
+-- a row that changes the places alone
+places_kept : (p : ℕ) (s : State) (r : Saved) → s.sp.halted ≡ false
+    → undone (keeps_places s r) (singled (record s { pc = s.npc; npc = p })) ≡ s
+unfolding undone keeps_places after_step
+places_kept p s r h = registers_same s _ h refl
+
+zero_kept : (p : ℕ) (s : State) (r : Saved) → s.sp.halted ≡ false
+    → undone (keeps_register 0 s r) (singled (record s { pc = s.npc; npc = p })) ≡ s
+unfolding undone keeps_register after_step
+zero_kept p s r h = registers_same s _ h refl
+
+bytes_kept : (a : ℕ) (m : List ℕ) (s : State) (r : Saved) → s.sp.halted ≡ false → with_bytes m a (bytes_at s.dmem a 16) ≡ s.dmem
+    → undone (keeps_bytes a s r) (singled (advanced (record s { dmem = m }))) ≡ s
+unfolding undone keeps_bytes after_step
+bytes_kept a m s r h e = memory_same s _ h e
+
+-- a row that changes a vector register, and perhaps more
+vector_kept : (n : ℕ) (v : List ℕ) (s : State) (r : Saved) → s.sp.halted ≡ false
+    → undone (keeps_vector n s r) (singled (advanced (record s { vectors = with_vector s.vectors n v }))) ≡ s
+unfolding undone keeps_vector after_step
+vector_kept n v s r h = vectors_same s _ h (vector-back s.vectors n v)
+
+product_kept : (n : ℕ) (v : List ℕ) (x : List ℤ) (s : State) (r : Saved) → s.sp.halted ≡ false
+    → undone (keeps_product n s r) (singled (advanced (record s { vectors = with_vector s.vectors n v; accumulators = x }))) ≡ s
+unfolding undone keeps_product after_step
+product_kept n v x s r h = vectors_same s _ h (vector-back s.vectors n v)
+
+rule_kept : (n : ℕ) (v : List ℕ) (x : List ℤ) (f : Flags) (s : State) (r : Saved) → s.sp.halted ≡ false
+    → undone (keeps_rule n s r) (singled (advanced (record s { vectors = with_vector s.vectors n v; accumulators = x; flags = f }))) ≡ s
+unfolding undone keeps_rule after_step
+rule_kept n v x f s r h = vectors_same s _ h (vector-back s.vectors n v)
+
+lane_kept : (n : ℕ) (v : List ℕ) (x : List ℤ) (d : Divider) (s : State) (r : Saved) → s.sp.halted ≡ false
+    → undone (keeps_lane n s r) (singled (advanced (record s { vectors = with_vector s.vectors n v; accumulators = x; divider = d }))) ≡ s
+unfolding undone keeps_lane after_step
+lane_kept n v x d s r h = vectors_same s _ h (vector-back s.vectors n v)
+
+flags_kept : (f : Flags) (s : State) (r : Saved) → s.sp.halted ≡ false
+    → undone (keeps_flags s r) (singled (advanced (record s { flags = f }))) ≡ s
+unfolding undone keeps_flags after_step
+flags_kept f s r h = registers_same s _ h refl
+
+-- a row that changes the SP registers and a scalar register; register 0 is none
+sp_kept : (n v : ℕ) (p : Sp) (s : State) (r : Saved) → s.sp.halted ≡ false
+    → undone (keeps_sp n s r) (singled (advanced (record s { registers = with_register s.registers n v; sp = p }))) ≡ s
+unfolding undone keeps_sp after_step
+sp_kept n v p s r h = registers_same s _ h (register-back s.registers n v)
+
+-- a vector load, and a move to an SP register that starts no DMA
+file_kept : (n : ℕ) (v : List (List ℕ)) (s : State) (r : Saved) → s.sp.halted ≡ false → with_vector v n (vector s.vectors n) ≡ s.vectors
+    → undone (keeps_vector n s r) (singled (advanced (record s { vectors = v }))) ≡ s
+unfolding undone keeps_vector after_step
+file_kept n v s r h e = vectors_same s _ h e
+
+group_kept : (n : ℕ) (v : List (List ℕ)) (s : State) (r : Saved) → s.sp.halted ≡ false → with_group v n (group_at s.vectors n) ≡ s.vectors
+    → undone (keeps_group n s r) (singled (advanced (record s { vectors = v }))) ≡ s
+unfolding undone keeps_group after_step
+group_kept n v s r h e = vectors_same s _ h e
+
+written_kept : (p : Sp) (m i q : List ℕ) (s : State) (r : Saved) → s.sp.halted ≡ false → m ≡ s.dmem → i ≡ s.imem → q ≡ s.rdram
+    → undone (keeps_sp 0 s r) (singled (advanced (record s { sp = p; dmem = m; imem = i; rdram = q }))) ≡ s
+unfolding undone keeps_sp after_step
+written_kept p m i q s r h em ei eq = same_state s _ _ _ _ _ m i q h refl refl refl refl refl em ei eq
+
+neither : (a b : Bool) → (a || b) ≡ false → (a ≡ false) × (b ≡ false)
+neither false b e = (refl, e)
+neither true b e = cc
+
+bank_same : (chosen : Bool) (n v : ℕ) (p : Sp) (image bank : List ℕ) → (n % 16 == 2) ≡ false → bank_written chosen n v p image bank ≡ bank
+unfolding bank_written
+bank_same chosen n v p image bank e = rw e refl
+
+image_same : (n v : ℕ) (p : Sp) (dmem imem image : List ℕ) → (n % 16 == 3) ≡ false → image_written n v p dmem imem image ≡ image
+unfolding image_written
+image_same n v p dmem imem image e = rw e refl
+
+move_kept : (row : MoveRow) (rt n : ℕ) (s : State) (r : Saved) → starts_dma (MoveSp row rt n) ≡ false → s.sp.halted ≡ false
+    → undone (kept (MoveSp row rt n) s r) (singled (executed (MoveSp row rt n) s)) ≡ s
+unfolding kept executed moves_sp
+move_kept From rt n s r e h = sp_kept rt _ (after_read n s.sp) s r h
+move_kept To rt n s r e h =
+    let k = neither (n % 16 == 2) (n % 16 == 3) e in
+    let P : Bool → Type 0 = λ b. undone (if b then keeps_nothing r else keeps_sp 0 s r) (singled (advanced (register_written n (register s.registers rt) s))) ≡ s in
+    subst P (sym e) (written_kept (written n (register s.registers rt) s.sp) _ _ _ s r h
+    (bank_same (not (is_imem s.sp)) n (register s.registers rt) s.sp s.rdram s.dmem k.0)
+    (bank_same (is_imem s.sp) n (register s.registers rt) s.sp s.rdram s.imem k.0)
+    (image_same n (register s.registers rt) s.sp s.dmem s.imem s.rdram k.1))
+
+load_kept : (row : VectorLoadRow) (vt : ℕ) (v : List (List ℕ)) (s : State) (r : Saved) → s.sp.halted ≡ false → put_back row vt s.vectors v ≡ s.vectors
+    → undone (keeps_loaded row vt s r) (singled (advanced (record s { vectors = v }))) ≡ s
+load_kept Ltv vt v s r h e = group_kept (vt - vt % 8) v s r h e
+load_kept Lbv vt v s r h e = file_kept vt v s r h e
+load_kept Lsv vt v s r h e = file_kept vt v s r h e
+load_kept Llv vt v s r h e = file_kept vt v s r h e
+load_kept Ldv vt v s r h e = file_kept vt v s r h e
+load_kept Lqv vt v s r h e = file_kept vt v s r h e
+load_kept Lrv vt v s r h e = file_kept vt v s r h e
+load_kept Lpv vt v s r h e = file_kept vt v s r h e
+load_kept Luv vt v s r h e = file_kept vt v s r h e
+load_kept Lhv vt v s r h e = file_kept vt v s r h e
+load_kept Lfv vt v s r h e = file_kept vt v s r h e
+
+jump_kept : (i : Inst) (n p : ℕ) (s : State) (r : Saved) → s.sp.halted ≡ false → with_register (linked i s.registers s.npc) n (register s.registers n) ≡ s.registers
+    → undone (keeps_register n s r) (singled (record s { pc = s.npc; npc = p; registers = linked i s.registers s.npc })) ≡ s
+unfolding undone keeps_register after_step
+jump_kept i n p s r h e = registers_same s _ h e
+
+sign_back : (row : SignRow) (rs offset npc : ℕ) (r : List ℕ) → with_register (linked (BranchSign row rs offset) r npc) (sign_link row) (register r (sign_link row)) ≡ r
+sign_back Bltz rs offset npc r = refl
+sign_back Bgez rs offset npc r = refl
+sign_back Bltzal rs offset npc r = register-back r 31 _
+sign_back Bgezal rs offset npc r = register-back r 31 _
+sign_back Blez rs offset npc r = refl
+sign_back Bgtz rs offset npc r = refl
+
+jump_back : (row : JumpRow) (target npc : ℕ) (r : List ℕ) → with_register (linked (Jump row target) r npc) (jump_link row) (register r (jump_link row)) ≡ r
+jump_back J target npc r = refl
+jump_back Jal target npc r = register-back r 31 _
+
+vector_move_kept : (row : MoveRow) (rt n e : ℕ) (s : State) (r : Saved) → s.sp.halted ≡ false
+    → undone (kept (MoveVector row rt n e) s r) (singled (executed (MoveVector row rt n e) s)) ≡ s
+unfolding kept executed moves_vector moved_file
+vector_move_kept From rt n e s r h = register_kept rt _ (going_on s.npc) s r h
+vector_move_kept To rt n e s r h = vector_kept n _ s r h
+
+control_move_kept : (row : MoveRow) (rt : ℕ) (control : Control) (s : State) (r : Saved) → s.sp.halted ≡ false
+    → undone (kept (MoveControl row rt control) s r) (singled (executed (MoveControl row rt control) s)) ≡ s
+unfolding kept executed moves_control
+control_move_kept From rt control s r h = register_kept rt _ (going_on s.npc) s r h
+control_move_kept To rt control s r h = flags_kept _ s r h
+
+-- any instruction that starts no DMA
+kept_back : (i : Inst) (s : State) (r : Saved) → starts_dma i ≡ false → s.sp.halted ≡ false → undone (kept i s r) (singled (executed i s)) ≡ s
+unfolding kept executed computes loads stores jumps breaks multiplies rounds multiplies_mpeg reads_accumulator ruled divides loads_vector stores_vector loaded_file stored_memory
+kept_back (Shift row rd rt amount) s r e h = register_kept rd _ (going_on s.npc) s r h
+kept_back (ShiftBy row rd rt rs) s r e h = register_kept rd _ (going_on s.npc) s r h
+kept_back (Register row rd rs rt) s r e h = register_kept rd _ (going_on s.npc) s r h
+kept_back (Immediate row rt rs imm) s r e h = register_kept rt _ (going_on s.npc) s r h
+kept_back (LoadUpper rt imm) s r e h = register_kept rt _ (going_on s.npc) s r h
+kept_back (Load row rt offset base) s r e h = register_kept rt _ (going_on s.npc) s r h
+kept_back (Store row rt offset base) s r e h = bytes_kept (address s.registers base offset) _ s r h (store-back row s.dmem (address s.registers base offset) (register s.registers rt))
+kept_back (JumpRegister rs) s r e h = places_kept _ s r h
+kept_back (JumpLinkRegister rd rs) s r e h = register_kept rd _ _ s r h
+kept_back (BranchSign row rs offset) s r e h = jump_kept (BranchSign row rs offset) (sign_link row) _ s r h (sign_back row rs offset s.npc s.registers)
+kept_back (BranchEqual row rs rt offset) s r e h = places_kept _ s r h
+kept_back (Jump row target) s r e h = jump_kept (Jump row target) (jump_link row) _ s r h (jump_back row target s.npc s.registers)
+kept_back Break s r e h = sp_kept 0 0 _ s r h
+kept_back (MoveSp row rt n) s r e h = move_kept row rt n s r e h
+kept_back (MoveVector row rt n element) s r e h = vector_move_kept row rt n element s r h
+kept_back (MoveControl row rt control) s r e h = control_move_kept row rt control s r h
+kept_back (Multiply row vd vs vt n) s r e h = product_kept vd _ _ s r h
+kept_back (Round row vd vs vt n) s r e h = product_kept vd _ _ s r h
+kept_back (MpegMultiply row vd vs vt n) s r e h = product_kept vd _ _ s r h
+kept_back (ReadAccumulator vd vs vt n) s r e h = vector_kept vd _ s r h
+kept_back (VectorAdd row vd vs vt n) s r e h = rule_kept vd _ _ _ s r h
+kept_back (VectorSelect row vd vs vt n) s r e h = rule_kept vd _ _ _ s r h
+kept_back (VectorClip row vd vs vt n) s r e h = rule_kept vd _ _ _ s r h
+kept_back (VectorMerge vd vs vt n) s r e h = rule_kept vd _ _ _ s r h
+kept_back (VectorLogic row vd vs vt n) s r e h = rule_kept vd _ _ _ s r h
+kept_back (Lane row vd lane vt n) s r e h = lane_kept vd _ _ _ s r h
+kept_back (Idle row) s r e h = places_kept _ s r h
+kept_back (VectorLoad row vt n offset base) s r e h =
+    load_kept row vt _ s r h (loaded-back row s.dmem s.vectors vt n (transfer_address (VectorLoad row vt n offset base) (register s.registers base)))
+kept_back (VectorStore row vt n offset base) s r e h =
+    let a : ℕ = transfer_address (VectorStore row vt n offset base) (register s.registers base) in
+    bytes_kept (window_of row a) _ s r h (stored-back row vt n a s.vectors s.dmem)
+
+-- any step that can be undone
+not_true : (b : Bool) → not b ≡ true → b ≡ false
+not_true false e = refl
+not_true true e = cc
+
+word_back : (o : Option Inst) (word : ℕ) (s : State) (r : Saved) → s.sp.halted ≡ false → is_back_by o ≡ true → undone (kept_by o s r) (step_by o word s).1 ≡ s
+word_back None word s r h e = cc
+word_back (Some i) word s r h e = kept_back i s r (not_true (starts_dma i) e) h
+
+either_back : (b : Bool) (o : Option Inst) (word : ℕ) (s : State) (r : Saved) → s.sp.halted ≡ b → (if b then false else is_back_by o) ≡ true
+    → undone (if b then r else kept_by o s r) (if b then (Halted, s) else step_by o word s).1 ≡ s
+either_back true o word s r h e = cc
+either_back false o word s r h e = word_back o word s r h e
+
+pub slot_back : (s : State) (r : Saved) → can_undo s ≡ true → undone (slot_after s r) (step_of s).1 ≡ s
+unfolding can_undo slot_after step_of
+slot_back s r e = either_back s.sp.halted (inst_of (word_at s.imem s.pc)) (word_at s.imem s.pc) s r refl e
+
+-- the mark in the slot tells whether an instruction can be undone
+load_marked : (row : VectorLoadRow) (vt : ℕ) (s : State) (r : Saved) → is_back (keeps_loaded row vt s r).change ≡ true
+unfolding keeps_group keeps_vector
+load_marked Ltv vt s r = refl
+load_marked Lbv vt s r = refl
+load_marked Lsv vt s r = refl
+load_marked Llv vt s r = refl
+load_marked Ldv vt s r = refl
+load_marked Lqv vt s r = refl
+load_marked Lrv vt s r = refl
+load_marked Lpv vt s r = refl
+load_marked Luv vt s r = refl
+load_marked Lhv vt s r = refl
+load_marked Lfv vt s r = refl
+
+move_marked : (b : Bool) (s : State) (r : Saved) → is_back (if b then keeps_nothing r else keeps_sp 0 s r).change ≡ not b
+unfolding keeps_nothing keeps_sp
+move_marked true s r = refl
+move_marked false s r = refl
+
+pub kept_marked : (i : Inst) (s : State) (r : Saved) → is_back (kept i s r).change ≡ not (starts_dma i)
+unfolding kept keeps_register keeps_places keeps_bytes keeps_vector keeps_product keeps_rule keeps_lane keeps_flags keeps_sp
+kept_marked (Shift row rd rt amount) s r = refl
+kept_marked (ShiftBy row rd rt rs) s r = refl
+kept_marked (Register row rd rs rt) s r = refl
+kept_marked (Immediate row rt rs imm) s r = refl
+kept_marked (LoadUpper rt imm) s r = refl
+kept_marked (Load row rt offset base) s r = refl
+kept_marked (Store row rt offset base) s r = refl
+kept_marked (JumpRegister rs) s r = refl
+kept_marked (JumpLinkRegister rd rs) s r = refl
+kept_marked (BranchSign row rs offset) s r = refl
+kept_marked (BranchEqual row rs rt offset) s r = refl
+kept_marked (Jump row target) s r = refl
+kept_marked Break s r = refl
+kept_marked (MoveSp From rt n) s r = refl
+kept_marked (MoveSp To rt n) s r = move_marked (is_length n) s r
+kept_marked (MoveVector From rt n element) s r = refl
+kept_marked (MoveVector To rt n element) s r = refl
+kept_marked (MoveControl From rt control) s r = refl
+kept_marked (MoveControl To rt control) s r = refl
+kept_marked (Multiply row vd vs vt n) s r = refl
+kept_marked (Round row vd vs vt n) s r = refl
+kept_marked (MpegMultiply row vd vs vt n) s r = refl
+kept_marked (ReadAccumulator vd vs vt n) s r = refl
+kept_marked (VectorAdd row vd vs vt n) s r = refl
+kept_marked (VectorSelect row vd vs vt n) s r = refl
+kept_marked (VectorClip row vd vs vt n) s r = refl
+kept_marked (VectorMerge vd vs vt n) s r = refl
+kept_marked (VectorLogic row vd vs vt n) s r = refl
+kept_marked (Lane row vd lane vt n) s r = refl
+kept_marked (Idle row) s r = refl
+kept_marked (VectorLoad row vt n offset base) s r = load_marked row vt s r
+kept_marked (VectorStore row vt n offset base) s r = refl
+
+-- after a step that is Done the mark in the slot tells; after another one there is no way back
+done_by : (b : Bool) (o : Option Inst) (word : ℕ) (s : State) (r : Saved) → (if b then (Halted, s) else step_by o word s).0 ≡ Done
+    → (if b then false else is_back_by o) ≡ is_back (if b then r else kept_by o s r).change
+done_by true o word s r e = cc
+done_by false None word s r e = cc
+done_by false (Some i) word s r e = sym (kept_marked i s r)
+
+halted_by : (b : Bool) (o : Option Inst) (word : ℕ) (s : State) → (if b then (Halted, s) else step_by o word s).0 ≡ Halted → (if b then false else is_back_by o) ≡ false
+halted_by true o word s e = refl
+halted_by false None word s e = refl
+halted_by false (Some i) word s e = cc
+
+reserved_by : (b : Bool) (o : Option Inst) (word w : ℕ) (s : State) → (if b then (Halted, s) else step_by o word s).0 ≡ Reserved w → (if b then false else is_back_by o) ≡ false
+reserved_by true o word w s e = refl
+reserved_by false None word w s e = refl
+reserved_by false (Some i) word w s e = cc
+
+pub done_marked : (s : State) (r : Saved) → (step_of s).0 ≡ Done → can_undo s ≡ is_back (slot_after s r).change
+unfolding can_undo slot_after step_of
+done_marked s r e = done_by s.sp.halted (inst_of (word_at s.imem s.pc)) (word_at s.imem s.pc) s r e
+
+pub halted_marked : (s : State) → (step_of s).0 ≡ Halted → can_undo s ≡ false
+unfolding can_undo step_of
+halted_marked s e = halted_by s.sp.halted (inst_of (word_at s.imem s.pc)) (word_at s.imem s.pc) s e
+
+pub reserved_marked : (s : State) (w : ℕ) → (step_of s).0 ≡ Reserved w → can_undo s ≡ false
+unfolding can_undo step_of
+reserved_marked s w e = reserved_by s.sp.halted (inst_of (word_at s.imem s.pc)) (word_at s.imem s.pc) w s e
+
+pub ruleset recording = (slot_back, done_marked, halted_marked, reserved_marked)
+
+-- a step that isn't Done leaves all as it is
+halted_stays_by : (b : Bool) (o : Option Inst) (word : ℕ) (s : State) (r : Saved) → (if b then (Halted, s) else step_by o word s).0 ≡ Halted
+    → ((if b then (Halted, s) else step_by o word s).1 ≡ s) × ((if b then r else kept_by o s r) ≡ r)
+halted_stays_by true o word s r e = (refl, refl)
+halted_stays_by false None word s r e = (refl, refl)
+halted_stays_by false (Some i) word s r e = cc
+
+reserved_stays_by : (b : Bool) (o : Option Inst) (word w : ℕ) (s : State) (r : Saved) → (if b then (Halted, s) else step_by o word s).0 ≡ Reserved w
+    → ((if b then (Halted, s) else step_by o word s).1 ≡ s) × ((if b then r else kept_by o s r) ≡ r)
+reserved_stays_by true o word w s r e = (refl, refl)
+reserved_stays_by false None word w s r e = (refl, refl)
+reserved_stays_by false (Some i) word w s r e = cc
+
+pub halted_stays : (s : State) (r : Saved) → (step_of s).0 ≡ Halted → ((step_of s).1 ≡ s) × (slot_after s r ≡ r)
+unfolding slot_after step_of
+halted_stays s r e = halted_stays_by s.sp.halted (inst_of (word_at s.imem s.pc)) (word_at s.imem s.pc) s r e
+
+pub reserved_stays : (s : State) (r : Saved) (w : ℕ) → (step_of s).0 ≡ Reserved w → ((step_of s).1 ≡ s) × (slot_after s r ≡ r)
+unfolding slot_after step_of
+reserved_stays s r w e = reserved_stays_by s.sp.halted (inst_of (word_at s.imem s.pc)) (word_at s.imem s.pc) w s r e

@@ -1,0 +1,4 @@
+pub mod Back
+pub mod Undoing
+pub mod Loading
+pub mod Kept

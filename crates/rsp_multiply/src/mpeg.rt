@@ -1,0 +1,156 @@
+//! The rows for MPEG coefficients. What a lane adds is put together as a register of sixteen bits first, 0 where
+//! the row adds nothing, so one addition serves all eight.
+//!
+//! `let _ = b.to_simd();` tells the proof that the lanes are below 65536; it emits no instruction.
+
+ghost use Rattle.std.specs.Prelude.{◌≡◌, ◌*ℤ◌, pos, slice_index, int_lt};
+ghost use Rattle.rsp_lanes.specs.Lanes.{each_lane};
+ghost use Rattle.rsp_numbers.specs.Numbers.{s16, number, floor_div, modulo, AreNumbers};
+ghost use Rattle.rsp_multiply.specs.Mpeg.{rounds, rounding, step, accumulators_rounded, clamped_signed, accumulators_mpeg, halved_mpeg};
+
+use crate::products::upper;
+use crate::{MpegOp, RoundOp};
+use rsp_acc::{Acc, Addends, Clamp, Part};
+use rsp_lanes::{Mask8, VReg};
+
+/// The lanes as signed numbers.
+#[inline(always)]
+fn signed(lanes: &VReg) -> Addends
+    ensures { result ≡ each_lane (λ i. s16 (slice_index lanes.now i)) }
+{
+    let _ = lanes.to_simd();
+    let sign = lanes
+        .is_negative()
+        .merge(&VReg::splat(0xffff), &VReg::new());
+    Addends::from_planes(&sign, &sign, lanes)
+}
+
+/// The lanes as signed numbers, times 65536.
+#[inline(always)]
+fn shifted(lanes: &VReg) -> Addends
+    ensures { result ≡ each_lane (λ i. s16 (slice_index lanes.now i) *ℤ pos 65536) }
+{
+    let _ = lanes.to_simd();
+    let zeros = VReg::new();
+    let sign = lanes.is_negative().merge(&VReg::splat(0xffff), &zeros);
+    Addends::from_planes(&sign, lanes, &zeros)
+}
+
+/// What a rounding row adds, from the lanes of the selected vt.
+#[inline(always)]
+fn rounding(odd: bool, lanes: &VReg) -> Addends
+    ensures { result ≡ each_lane (λ i. rounding odd (slice_index lanes.now i)) }
+{
+    if odd { shifted(lanes) } else { signed(lanes) }
+}
+
+/// Where the accumulator is negative.
+#[inline(always)]
+fn negative<A: Acc>(acc: &A) -> Mask8
+    ensures value { result ≡ each_lane (λ i. int_lt (number (A.numbers acc.now) i) (pos 0)) }
+    ensures range { AreNumbers (A.numbers acc.now) }
+{
+    acc.part(Part::High).is_negative()
+}
+
+impl RoundOp {
+    /// Where the row adds to the accumulator.
+    #[inline(always)]
+    fn places<A: Acc>(self, acc: &A) -> Mask8
+        ensures value { result ≡ each_lane (λ i. rounds self (number (A.numbers acc.now) i)) }
+        ensures range { AreNumbers (A.numbers acc.now) }
+    {
+        let negative = negative(acc);
+        match self {
+            RoundOp::Vrndp => negative.not(),
+            RoundOp::Vrndn => negative,
+        }
+    }
+}
+
+/// A row that rounds: b is the selected vt, and `odd` tells whether the number of vs is odd. VRNDP adds to the
+/// accumulators that are 0 or more, VRNDN to the negative ones, as numbers of 48 bits, what b holds as signed numbers,
+/// times 65536 for an odd vs. The result is the signed clamp of all eight.
+#[inline(always)]
+pub fn round_op<A: Acc>(op: RoundOp, odd: bool, b: &VReg, acc: &mut A) -> VReg
+    ensures accumulators { A.numbers acc.new ≡ accumulators_rounded op odd b.now (A.numbers acc.old) }
+    ensures value { result ≡ clamped_signed (A.numbers acc.new) }
+{
+    let lanes = op.places(acc).merge(b, &VReg::new());
+    acc.add(&rounding(odd, &lanes));
+    acc.clamp(Clamp::Signed)
+}
+
+/// The steps of VMACQ, as sixteen bits.
+#[inline(always)]
+fn steps<A: Acc>(acc: &A) -> VReg
+    ensures value { result ≡ each_lane (λ i. modulo (step (floor_div (number (A.numbers acc.now) i) 65536)) 65536) }
+    ensures range { AreNumbers (A.numbers acc.now) }
+{
+    let zeros = VReg::new();
+    let high = acc.part(Part::High);
+    let middle = acc.part(Part::Middle);
+    let is_clear = middle.and(&VReg::splat(32)).is_zero();
+    let is_small = high.is_zero().and(middle.is_below(&VReg::splat(32)));
+    let step = high
+        .is_negative()
+        .merge(&VReg::splat(32), &VReg::splat(0xffe0));
+    is_small.merge(&zeros, &is_clear.merge(&step, &zeros))
+}
+
+/// The accumulators without their low sixteen bits, halved and rounded down, times 65536: a product with 8000 hex is a
+/// shift by one place to the right, and what falls out below is its low half.
+#[inline(always)]
+fn halves<A: Acc>(acc: &A) -> Addends
+    ensures { result ≡ each_lane (λ i. floor_div (floor_div (number (A.numbers acc.now) i) 65536) 2 *ℤ pos 65536) }
+{
+    let zeros = VReg::new();
+    let top = VReg::splat(0x8000);
+    let high = acc.part(Part::High);
+    let middle = acc.part(Part::Middle);
+    let (upper, carried) = high.product(&top);
+    let (lower, _) = middle.product(&top);
+    let upper = upper.add(&high.is_negative().merge(&top, &zeros));
+    Addends::from_planes(&upper, &lower.add(&carried), &zeros)
+}
+
+/// The result of an MPEG multiply, from the accumulators after it. What is clamped are other accumulators, which hold
+/// the halves.
+#[inline(always)]
+fn halved<A: Acc>(acc: &A) -> VReg
+    ensures { result ≡ halved_mpeg (A.numbers acc.now) }
+{
+    let mut other = A::zero();
+    other.replace(&halves(acc));
+    let clamped = other.clamp(Clamp::Signed);
+    let _ = clamped.to_simd();
+    clamped.and(&VReg::splat(0xfff0))
+}
+
+/// One of the two MPEG multiplies: a is the register vs, b the selected vt. With VMULQ the accumulators become p times
+/// 65536, where p is the signed product of the lanes, and 31 more where that is negative. With VMACQ p is the accumulator
+/// without its low sixteen bits, which are kept, and goes 32 toward 0 where its bit 5 is clear and it isn't 0 to 31. The
+/// result is half of p, rounded down, limited to 16 bits, with its low four bits cleared.
+#[inline(always)]
+pub fn mpeg_op<A: Acc>(op: MpegOp, a: &VReg, b: &VReg, acc: &mut A) -> VReg
+    ensures accumulators { A.numbers acc.new ≡ accumulators_mpeg op a.now b.now (A.numbers acc.old) }
+    ensures value { result ≡ halved_mpeg (A.numbers acc.new) }
+{
+    match op {
+        MpegOp::Vmulq => multiply_rounded(a, b, acc),
+        MpegOp::Vmacq => acc.add(&shifted(&steps(acc))),
+    }
+    halved(acc)
+}
+
+/// Products, and 31 more where they are negative, times 65536.
+#[inline(always)]
+fn multiply_rounded<A: Acc>(a: &VReg, b: &VReg, acc: &mut A)
+    ensures { A.numbers acc.new ≡ accumulators_mpeg MpegOp.Vmulq a.now b.now (A.numbers acc.old) }
+{
+    let _ = a.to_simd();
+    let _ = b.to_simd();
+    acc.replace(&upper(a, b));
+    let rounding = negative(acc).merge(&VReg::splat(31), &VReg::new());
+    acc.add(&shifted(&rounding));
+}

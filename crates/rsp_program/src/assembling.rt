@@ -1,0 +1,54 @@
+use crate::fault::Fault;
+use crate::program::file_fault;
+use crate::store::FileStore;
+use rsp_asm::{AsmFaultKind, Words, assemble};
+use std::alloc::{AllocError, Global};
+use std::io::Write;
+use std::str;
+
+/// The most bytes that a source text has.
+const SOURCE_LIMIT: usize = 1_048_576;
+
+/// One byte more: who has read these knows that a file is too long.
+const SOURCE_READ_LIMIT: u64 = 1_048_577;
+
+/// Assembles a file at 0, writes its words to another, with the high byte first, and says how many there are.
+pub fn assemble_file<'a, F: FileStore, W: Write + Drop>(
+    alloc: Global,
+    files: &mut F,
+    source: &'a str,
+    out: &'a str,
+    mut output: W,
+) -> Result<(), Fault<'a>> {
+    let bytes = files
+        .read(alloc, source, SOURCE_READ_LIMIT)
+        .map_err(|fault| file_fault(fault, Fault::CannotRead(source)))?;
+    let words = assembled(alloc, bytes.as_slice())?;
+    let bytes = big_endian(alloc, words.as_slice()).map_err(|_| Fault::OutOfMemory)?;
+    files
+        .write(out, bytes.as_slice())
+        .map_err(|fault| file_fault(fault, Fault::CannotWrite(out)))?;
+    let count = words.len();
+    writeln!(output, "ok {count} words").map_err(|_| Fault::RunWrite)
+}
+
+/// The words of a source text. That it is too long comes before that it isn't UTF-8.
+fn assembled<'a>(alloc: Global, bytes: &[u8]) -> Result<Words, Fault<'a>> {
+    if bytes.len() > SOURCE_LIMIT {
+        return Err(Fault::ScriptTooLong);
+    }
+    let text = str::from_utf8(bytes).map_err(|_| Fault::NotText)?;
+    assemble(alloc, 0, text).map_err(|fault| match fault.kind {
+        AsmFaultKind::OutOfMemory => Fault::OutOfMemory,
+        _ => Fault::Source(fault),
+    })
+}
+
+/// The bytes of words, the high byte of each first.
+fn big_endian(alloc: Global, words: &[u32]) -> Result<Vec<u8>, AllocError> {
+    let mut bytes = Vec::new(alloc);
+    for word in words {
+        bytes.extend_from_slice(&word.to_be_bytes())?;
+    }
+    Ok(bytes)
+}

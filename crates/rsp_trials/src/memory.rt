@@ -1,0 +1,41 @@
+use rsp_memory::{Rdram, SpMem};
+use std::alloc::AllocError;
+
+#[test]
+fn words_wrap_byte_by_byte(rt: HostRuntime) {
+    let mut memory = SpMem::new();
+    memory.set_half(0xffe, 0x1122);
+    memory.set_byte(0x1000, 0x33);
+    memory.set_byte(1, 0x44);
+    assert_eq!(rt; memory.word(0xffe), 0x1122_3344);
+    assert_eq!(rt; memory.half(0xfff), 0x2233);
+    memory.set_word(0xfff, 0x5566_7788);
+    assert_eq!(rt; memory.byte(0xfff), 0x55);
+    assert_eq!(rt; memory.word(0), 0x6677_8800);
+}
+
+#[test]
+fn images_have_whole_sizes(rt: HostRuntime) -> Result<(), AllocError> {
+    let mut bytes = Vec::new(rt.alloc());
+    for i in 1u8..=60 {
+        bytes.push(i)?;
+    }
+    let Err(refused) = Rdram::from_bytes(bytes) else {
+        assert!(rt; false, "60 bytes are refused");
+        return Ok(());
+    };
+    bytes = refused.bytes;
+    assert_eq!(rt; bytes.len(), 60);
+    bytes.extend_from_slice(&[0; 4])?;
+    let Ok(mut image) = Rdram::from_bytes(bytes) else {
+        assert!(rt; false, "64 bytes are an image");
+        return Ok(());
+    };
+    image.set_byte(0x100_0001, 0xaa);
+    image.set_byte(64, 0xbb);
+    assert_eq!(rt; image.byte(1), 0xaa);
+    assert_eq!(rt; image.byte(64), 0);
+    assert_eq!(rt; image.len(), 64);
+    assert_eq!(rt; image.into_bytes()[59], 60);
+    Ok(())
+}

@@ -1,0 +1,128 @@
+use rsp_acc::{Acc, PlainAcc, PlaneAcc};
+use rsp_lanes::VReg;
+use rsp_multiply::{MultiplyOp, multiply, sar};
+use std::process::Abort;
+
+/// Each row with its lanes a and b, the accumulator after it and its result. Every list begins with
+/// a row that replaces the accumulator.
+fn worked_rows<A: Acc>(rt: &impl Abort) {
+    let mut acc = A::zero();
+    for (op, a, b, high, middle, low, result) in [
+        (
+            MultiplyOp::Vmulf,
+            0x8000,
+            0x8000,
+            0x0000,
+            0x8000,
+            0x8000,
+            0x7fff,
+        ),
+        (
+            MultiplyOp::Vmulu,
+            0x8000,
+            0x8000,
+            0x0000,
+            0x8000,
+            0x8000,
+            0xffff,
+        ),
+        (
+            MultiplyOp::Vmudh,
+            0x7fff,
+            0x7fff,
+            0x3fff,
+            0x0001,
+            0x0000,
+            0x7fff,
+        ),
+        (
+            MultiplyOp::Vmadh,
+            0x7fff,
+            0x7fff,
+            0x7ffe,
+            0x0002,
+            0x0000,
+            0x7fff,
+        ),
+        (
+            MultiplyOp::Vmadh,
+            0x7fff,
+            0x7fff,
+            0xbffd,
+            0x0003,
+            0x0000,
+            0x8000,
+        ),
+        (
+            MultiplyOp::Vmudn,
+            0xffff,
+            0x0001,
+            0x0000,
+            0x0000,
+            0xffff,
+            0xffff,
+        ),
+        (
+            MultiplyOp::Vmadl,
+            0xffff,
+            0xffff,
+            0x0000,
+            0x0001,
+            0xfffd,
+            0xfffd,
+        ),
+        (
+            MultiplyOp::Vmudh,
+            0x0100,
+            0x0100,
+            0x0001,
+            0x0000,
+            0x0000,
+            0x7fff,
+        ),
+        (
+            MultiplyOp::Vmacu,
+            0x0000,
+            0x0000,
+            0x0001,
+            0x0000,
+            0x0000,
+            0xffff,
+        ),
+        (
+            MultiplyOp::Vmudh,
+            0xffff,
+            0x0001,
+            0xffff,
+            0xffff,
+            0x0000,
+            0xffff,
+        ),
+        (
+            MultiplyOp::Vmacu,
+            0x0000,
+            0x0000,
+            0xffff,
+            0xffff,
+            0x0000,
+            0x0000,
+        ),
+    ] {
+        let value = multiply(op, &VReg::splat(a), &VReg::splat(b), &mut acc);
+        assert_eq!(rt; value, VReg::splat(result), "result of {op:?}");
+        assert_eq!(rt; sar(8, &acc), VReg::splat(high), "high after {op:?}");
+        assert_eq!(rt; sar(9, &acc), VReg::splat(middle), "middle after {op:?}");
+        assert_eq!(rt; sar(10, &acc), VReg::splat(low), "low after {op:?}");
+        assert_eq!(rt; sar(11, &acc), VReg::splat(0));
+    }
+}
+
+#[test]
+fn whole_numbers_meet_the_worked_rows(rt: HostRuntime) {
+    worked_rows::<PlainAcc>(&rt);
+}
+
+#[test]
+fn planes_meet_the_worked_rows(rt: HostRuntime) {
+    worked_rows::<PlaneAcc>(&rt);
+}

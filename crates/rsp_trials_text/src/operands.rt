@@ -1,0 +1,230 @@
+// Operands of single rows, with their words worked by hand.
+
+use rsp_operands::{
+    Labels, is_number, is_number_out_of_range, is_operand, is_out_of_range, number_word,
+    put_operand,
+};
+use rsp_text::{AsmFaultKind, Kind};
+use std::alloc::{AllocError, Global};
+use std::test::Fail;
+
+// `loop` at 0 and `end` at 20 hex.
+fn two_labels(alloc: Global) -> Result<Labels<'static>, AllocError> {
+    let mut labels = Labels::new(alloc);
+    labels.add(b"loop", 0)?;
+    labels.add(b"end", 0x20)?;
+    Ok(labels)
+}
+
+// A word without operands, the operands of a statement at 4, and its word.
+const STATEMENTS: [(u32, &[(Kind, &str)], u32); 13] = [
+    // sll $1, $2, 31
+    (
+        0x0000_0000,
+        &[
+            (Kind::Scalar(11), "$1"),
+            (Kind::Scalar(16), "$2"),
+            (Kind::ShiftAmount, "31"),
+        ],
+        0x0002_0fc0,
+    ),
+    // j end
+    (0x0800_0000, &[(Kind::JumpTarget, "end")], 0x0800_0008),
+    // bne $1, $2, loop
+    (
+        0x1400_0000,
+        &[
+            (Kind::Scalar(21), "$1"),
+            (Kind::Scalar(16), "$2"),
+            (Kind::BranchTarget, "loop"),
+        ],
+        0x1422_fffe,
+    ),
+    // addiu $1, $1, -1
+    (
+        0x2400_0000,
+        &[
+            (Kind::Scalar(16), "$1"),
+            (Kind::Scalar(21), "$1"),
+            (Kind::Signed, "-1"),
+        ],
+        0x2421_ffff,
+    ),
+    // lui $ra, 0x8000
+    (
+        0x3c00_0000,
+        &[(Kind::Scalar(16), "$ra"), (Kind::Unsigned, "0x8000")],
+        0x3c1f_8000,
+    ),
+    // sw $t0, ($sp)
+    (
+        0xac00_0000,
+        &[(Kind::Scalar(16), "$t0"), (Kind::ScalarMemory, "($sp)")],
+        0xafa8_0000,
+    ),
+    // mfc0 $1, $c4
+    (
+        0x4000_0000,
+        &[(Kind::Scalar(16), "$1"), (Kind::SpRegister, "$c4")],
+        0x4001_2000,
+    ),
+    // mfc2 $1, $v2[4]
+    (
+        0x4800_0000,
+        &[
+            (Kind::Scalar(16), "$1"),
+            (Kind::VectorByte(11, 1), "$v2[4]"),
+        ],
+        0x4801_1200,
+    ),
+    // ctc2 $1, $VCC
+    (
+        0x48c0_0000,
+        &[(Kind::Scalar(16), "$1"), (Kind::ControlRegister, "$VCC")],
+        0x48c1_0800,
+    ),
+    // vadd $v1, $v2, $v3[2h]
+    (
+        0x4a00_0010,
+        &[
+            (Kind::Vector(6), "$v1"),
+            (Kind::Vector(11), "$v2"),
+            (Kind::VectorElement, "$v3[2h]"),
+        ],
+        0x4ac3_1050,
+    ),
+    // vrcp $v1[3], $v2[5]
+    (
+        0x4a00_0030,
+        &[
+            (Kind::VectorLane, "$v1[3]"),
+            (Kind::VectorElement, "$v2[5]"),
+        ],
+        0x4ba2_1870,
+    ),
+    // sdv $v4[8], -8($2)
+    (
+        0xe800_1800,
+        &[
+            (Kind::VectorByte(16, 1), "$v4[8]"),
+            (Kind::VectorMemory(8), "-8($2)"),
+        ],
+        0xe844_1c7f,
+    ),
+    // lfv $v1[8], -1024($0)
+    (
+        0xc800_4800,
+        &[
+            (Kind::VectorByte(16, 8), "$v1[8]"),
+            (Kind::VectorMemory(16), "-1024($0)"),
+        ],
+        0xc801_4c40,
+    ),
+];
+
+// Texts that are no operand of the kind.
+const OTHERS: [(Kind, &str); 14] = [
+    (Kind::Scalar(11), "$32"),
+    (Kind::ShiftAmount, "$1"),
+    (Kind::Signed, "1+1"),
+    (Kind::Unsigned, "0x"),
+    (Kind::JumpTarget, ""),
+    (Kind::BranchTarget, "x+-5"),
+    (Kind::ScalarMemory, "4 ( $sp )"),
+    (Kind::VectorMemory(16), "16"),
+    (Kind::SpRegister, "$c16"),
+    (Kind::ControlRegister, "$v0"),
+    (Kind::Vector(6), "$v01"),
+    (Kind::VectorByte(16, 8), "$v1[4]"),
+    (Kind::VectorElement, "$v3[8]"),
+    (Kind::VectorLane, "$v1"),
+];
+
+// Operands whose number is out of the range.
+const BEYOND: [(Kind, &str); 10] = [
+    (Kind::ShiftAmount, "32"),
+    (Kind::Signed, "70000"),
+    (Kind::Unsigned, "-32769"),
+    (Kind::JumpTarget, "4096"),
+    (Kind::BranchTarget, "2"),
+    (Kind::ScalarMemory, "65536($1)"),
+    (Kind::VectorMemory(16), "8($1)"),
+    (Kind::VectorMemory(8), "512($1)"),
+    (Kind::VectorMemory(1), "-65($1)"),
+    (Kind::Signed, "-99999999999999999999999999999999"),
+];
+
+#[test]
+fn words_are_as_listed(rt: HostRuntime) -> Result<(), Fail> {
+    let labels = two_labels(rt.alloc())?;
+    for (value, operands, expected) in STATEMENTS {
+        let mut word = value;
+        for (kind, text) in operands {
+            assert!(rt; is_operand(*kind, text.as_bytes()), "{text}");
+            assert!(rt; !is_out_of_range(*kind, text.as_bytes(), 4), "{text}");
+            let next = put_operand(*kind, text.as_bytes(), 4, &labels, word);
+            assert!(rt; next.is_ok(), "{text}");
+            word = next.unwrap_or(word);
+        }
+        assert!(rt; word == expected, "{word:08x}");
+    }
+    Ok(())
+}
+
+#[test]
+fn other_texts_are_refused(rt: HostRuntime) -> Result<(), Fail> {
+    let labels = two_labels(rt.alloc())?;
+    for (kind, text) in OTHERS {
+        assert!(rt; !is_operand(kind, text.as_bytes()), "{text}");
+        assert!(rt; !is_out_of_range(kind, text.as_bytes(), 0), "{text}");
+        let refused = put_operand(kind, text.as_bytes(), 0, &labels, 0);
+        assert!(rt; refused == Err(AsmFaultKind::BadOperand), "{text}");
+    }
+    Ok(())
+}
+
+#[test]
+fn numbers_out_of_range_are_refused(rt: HostRuntime) -> Result<(), Fail> {
+    let labels = two_labels(rt.alloc())?;
+    for (kind, text) in BEYOND {
+        assert!(rt; is_operand(kind, text.as_bytes()), "{text}");
+        assert!(rt; is_out_of_range(kind, text.as_bytes(), 0), "{text}");
+        let refused = put_operand(kind, text.as_bytes(), 0, &labels, 0);
+        assert!(rt; refused == Err(AsmFaultKind::OutOfRange), "{text}");
+    }
+    Ok(())
+}
+
+#[test]
+fn labels_are_found(rt: HostRuntime) -> Result<(), Fail> {
+    let labels = two_labels(rt.alloc())?;
+    assert!(rt; labels.find(b"end") == Some(0x20));
+    assert!(rt; labels.find(b"End").is_none());
+    // where the labels are not known yet, no number is out of its range
+    assert!(rt; !is_out_of_range(Kind::Signed, b"lop+70000", 0));
+    let missing = put_operand(Kind::Signed, b"lop+70000", 0, &labels, 0);
+    assert!(rt; missing == Err(AsmFaultKind::LabelMissing));
+    let far = put_operand(Kind::Signed, b"end+65504", 0, &labels, 0);
+    assert!(rt; far == Err(AsmFaultKind::OutOfRange));
+    let near = put_operand(Kind::Signed, b"end+65503", 0, &labels, 0);
+    assert!(rt; near == Ok(0xffff));
+    Ok(())
+}
+
+#[test]
+fn words_of_numbers(rt: HostRuntime) -> Result<(), Fail> {
+    let labels = two_labels(rt.alloc())?;
+    assert!(rt; is_number(b"end + 4") && !is_number(b"end+4+4"));
+    assert!(rt; is_number_out_of_range(b"0x100000000") && !is_number_out_of_range(b"0xffffffff"));
+    assert!(rt; is_number_out_of_range(b"-2147483649") && !is_number_out_of_range(b"lop"));
+    for (text, expected) in [
+        (b"end - 4".as_slice(), Ok(0x1c)),
+        (b"-1", Ok(0xffff_ffff)),
+        (b"4294967296", Err(AsmFaultKind::OutOfRange)),
+        (b"lop", Err(AsmFaultKind::LabelMissing)),
+        (b"$1", Err(AsmFaultKind::BadOperand)),
+    ] {
+        assert!(rt; number_word(text, &labels) == expected);
+    }
+    Ok(())
+}

@@ -1,0 +1,87 @@
+use rsp_text::{
+    Kind, Stop, control, cut, element, find_row, is_label, is_plain, is_same, number,
+    read_expression, scalar, skip_blanks, small_number, sp_register, trim, unsigned, vector,
+};
+
+#[test]
+fn cuts_and_trims(rt: HostRuntime) {
+    let Some((name, rest)) = cut(b"j x # on", Stop::Comment) else {
+        assert!(rt; false);
+        return;
+    };
+    assert!(rt; name == b"j x ".as_slice());
+    assert!(rt; rest == b" on".as_slice());
+    assert!(rt; cut(b"nop", Stop::Colon).is_none());
+    assert!(rt; trim(b" \t4($1) ") == b"4($1)".as_slice());
+    assert!(rt; skip_blanks(b"\t x ") == b"x ".as_slice());
+    assert!(rt; is_same(b"$Sp", b"$sP"));
+    assert!(rt; is_plain(b'\t') && is_plain(b'~') && !is_plain(0x7f));
+}
+
+#[test]
+fn reads_numbers_of_any_length(rt: HostRuntime) {
+    for (text, want) in [
+        (b"0xfF".as_slice(), Some(255)),
+        (b"0XFF", None),
+        (b"0x", None),
+    ] {
+        assert!(rt; unsigned(text) == want, "{text:?}");
+    }
+    let long = b"-99999999999999999999999999".as_slice();
+    for (text, want) in [
+        (b"-010".as_slice(), Some(-10)),
+        (b"+5", None),
+        (long, Some(-(1 << 40))),
+    ] {
+        assert!(rt; number(text) == want, "{text:?}");
+    }
+}
+
+#[test]
+fn reads_expressions(rt: HostRuntime) {
+    let Some(sum) = read_expression(b"x_1 - 0x10") else {
+        assert!(rt; false);
+        return;
+    };
+    assert!(rt; sum.label == Some(b"x_1".as_slice()));
+    assert_eq!(rt; sum.offset, -16);
+    let texts: [&[u8]; 7] = [b"", b"5+x", b"x+-5", b"x+1+1", b"x+y", b"--5", b"1x"];
+    for text in texts {
+        assert!(rt; read_expression(text).is_none(), "{text:?}");
+    }
+    assert!(rt; is_label(b"_a23456789012345678901234567890_"));
+    assert!(rt; !is_label(b"_a23456789012345678901234567890_1"));
+}
+
+#[test]
+fn reads_names(rt: HostRuntime) {
+    for (text, want) in [
+        (b"$31".as_slice(), Some(31)),
+        (b"$FP", Some(30)),
+        (b"$v0", None),
+        (b"$01", None),
+    ] {
+        assert!(rt; scalar(text) == want, "{text:?}");
+    }
+    for (text, want) in [(b"$V31".as_slice(), Some(31)), (b"$v32", None)] {
+        assert!(rt; vector(text) == want, "{text:?}");
+    }
+    for (text, want) in [(b"3H".as_slice(), Some(7)), (b"8", None)] {
+        assert!(rt; element(text) == want, "{text:?}");
+    }
+    assert!(rt; sp_register(b"$c15") == Some(15));
+    assert!(rt; control(b"$VCE") == Some(2));
+    assert!(rt; small_number(b"07", 8).is_none());
+}
+
+#[test]
+fn finds_rows(rt: HostRuntime) {
+    let Some(row) = find_row(b"Lqv") else {
+        assert!(rt; false);
+        return;
+    };
+    assert_eq!(rt; row.value, 0xc800_2000);
+    assert!(rt; row.operands == [Kind::VectorByte(16, 1), Kind::VectorMemory(16)].as_slice());
+    assert!(rt; find_row(b"nop").is_none());
+    assert!(rt; find_row(b"vmulx").is_none());
+}
