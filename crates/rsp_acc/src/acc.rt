@@ -20,6 +20,10 @@ pub trait Acc: Drop {
     fn zero() -> Self
         ensures { numbers result ≡ each_lane (λ _. pos 0) };
 
+    /// Changes nothing. It says that they are eight numbers from -2^47 to 2^47 - 1.
+    fn ranges(&self)
+        ensures { AreNumbers (numbers self.now) };
+
     /// Each accumulator becomes its addend.
     fn replace(&mut self, addends: &Addends)
         ensures { numbers self.new ≡ addends.now };
@@ -34,8 +38,7 @@ pub trait Acc: Drop {
 
     /// Sixteen bits of each accumulator.
     fn part(&self, part: Part) -> VReg
-        ensures value { result ≡ each_lane (λ i. part_of part (number (numbers self.now) i)) }
-        ensures range { AreNumbers (numbers self.now) };
+        ensures { result ≡ each_lane (λ i. part_of part (number (numbers self.now) i)) };
 
     /// Each accumulator brought to sixteen bits.
     fn clamp(&self, clamp: Clamp) -> VReg

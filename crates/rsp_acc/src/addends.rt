@@ -60,6 +60,7 @@ impl Addends {
     pub fn of<A: Acc>(acc: &A) -> Self
         ensures { result ≡ A.numbers acc.now }
     {
+        acc.ranges();
         let high = acc.part(Part::High);
         let middle = acc.part(Part::Middle);
         let low = acc.part(Part::Low);

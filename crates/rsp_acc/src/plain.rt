@@ -33,6 +33,11 @@ impl Acc for PlainAcc {
         PlainAcc { numbers: [0; 8] }
     }
 
+    #[inline(always)]
+    fn ranges(&self) {
+        let _ = &self.numbers;
+    }
+
     fn replace(&mut self, addends: &Addends) {
         // Tells the proof that they are eight.
         let _ = addends.planes();

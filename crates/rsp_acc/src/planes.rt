@@ -68,6 +68,11 @@ impl Acc for PlaneAcc {
     }
 
     #[inline(always)]
+    fn ranges(&self) {
+        let _ = &self.high;
+    }
+
+    #[inline(always)]
     fn replace(&mut self, addends: &Addends) {
         let (high, middle, low) = addends.planes();
         self.high = high.to_simd();

@@ -1,6 +1,6 @@
 -- The vector registers, as a list of 32 lists of eight lanes.
-use Rattle.std.specs.Prelude.{ℕ, ◌+◌, ◌*◌, ◌/◌, ◌%◌, List, [], replicate, slice_index_or, slice_set}
-use Rattle.rsp_lanes.specs.Lanes.{each_lane, register_byte}
+use Rattle.std.specs.Prelude.{ℕ, ◌≡◌, ◌<◌, ◌+◌, ◌*◌, ◌/◌, ◌%◌, List, [], length, replicate, slice_index_or, slice_set}
+use Rattle.rsp_lanes.specs.Lanes.{each_lane, register_byte, IsVector}
 
 -- the registers at the start
 unfoldable pub empty_file : List (List ℕ)
@@ -9,6 +9,11 @@ empty_file = replicate 32 (each_lane (λ _. 0))
 -- register n
 unfoldable pub register : List (List ℕ) → ℕ → List ℕ
 register file n = slice_index_or file n []
+
+-- the registers' ranges
+pub record IsFile (file : List (List ℕ)) : Type 0 where
+  pub count : length file ≡ 32
+  pub registers : (n : ℕ) → n < 32 → IsVector (register file n)
 
 -- the registers after a write of register n
 unfoldable pub with_register : List (List ℕ) → ℕ → List ℕ → List (List ℕ)

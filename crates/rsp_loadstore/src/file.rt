@@ -1,6 +1,6 @@
 ghost use Rattle.std.specs.Prelude.{◌≡◌, ◌<◌, length, slice_set};
 ghost use Rattle.rsp_lanes.specs.Lanes.{with_register_byte};
-ghost use Rattle.rsp_loadstore.specs.File.{register, with_register, empty_file, middle};
+ghost use Rattle.rsp_loadstore.specs.File.{IsFile, register, with_register, empty_file, middle};
 
 use rsp_lanes::VReg;
 use std::marker::Model;
@@ -13,10 +13,13 @@ pub struct VFile {
 
 impl Model for VFile {
     ghost use Rattle.std.specs.Prelude.{List, ℕ};
+    ghost use Rattle.rsp_loadstore.specs.File.{IsFile};
 
     ghost Value = { List (List ℕ) };
 
     ghost view = { λ f. f.registers };
+
+    ghost invariant = { λ f. IsFile f.registers };
 }
 
 impl VFile {
@@ -28,6 +31,14 @@ impl VFile {
         VFile {
             registers: [VReg::new(); 32],
         }
+    }
+
+    /// Changes nothing. It says that they are 32 registers, each of eight numbers below 2^16.
+    #[inline(always)]
+    pub fn ranges(&self)
+        ensures { IsFile self.now }
+    {
+        let _ = &self.registers;
     }
 
     /// Register `n`, below 32.
@@ -48,6 +59,8 @@ impl VFile {
         requires { n < 32 }
         ensures { self.new ≡ with_register self.old n v }
     {
+        // Tells the proof that its lanes are eight, each below 2^16.
+        let _ = v.to_simd();
         self.registers[n as usize] = v;
     }
 

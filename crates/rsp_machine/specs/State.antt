@@ -8,8 +8,8 @@ use Rattle.rsp_flags.specs.declared.flags.Flags.{Flags}
 use Rattle.rsp_flags.specs.Flags.{no_flags}
 use Rattle.rsp_divide.specs.declared.divider.Divider.{Divider}
 use Rattle.rsp_divide.specs.Dividers.{no_divider}
-use Rattle.rsp_loadstore.specs.File.{empty_file}
-use Rattle.rsp_scalar.specs.Registers.{empty_registers}
+use Rattle.rsp_loadstore.specs.File.{IsFile, empty_file}
+use Rattle.rsp_scalar.specs.Registers.{IsRegisters, empty_registers}
 use Rattle.rsp_scalar.specs.Flow.{going_on}
 use Rattle.rsp_regs.specs.Sp.{Sp, start}
 
@@ -34,7 +34,8 @@ IsPlace n = (n < 4096) × (n % 4 ≡ 0)
 pub record IsState (s : State) : Type 0 where
   pub pc : IsPlace s.pc
   pub npc : IsPlace s.npc
-  pub vectors : length s.vectors ≡ 32
+  pub registers : IsRegisters s.registers  -- 32 numbers below 2^32, of which number 0 is 0
+  pub vectors : IsFile s.vectors  -- 32 registers of eight numbers below 2^16
   pub accumulators : AreNumbers s.accumulators  -- eight, from -2^47 to 2^47 - 1
   pub divider : (s.divider.input < 65536) × (s.divider.output < 65536)
   pub dmem : length s.dmem ≡ 4096

@@ -75,6 +75,7 @@ impl<A: Acc> Machine<A> {
         ensures value { result ≡ is_inside bank a n self.now }
         ensures limit { IsTrue result → a + n ≤ 8388608 }
     {
+        self.rdram.ranges();
         let length = match bank {
             Bank::Dmem | Bank::Imem => 4096,
             Bank::Rdram => self.rdram.len(),
@@ -114,6 +115,7 @@ impl<A: Acc> Machine<A> {
         ensures ok { OnOk result (self.new ≡ tasked a self.old) }
         ensures err { OnErr result (self.new ≡ self.old) }
     {
+        self.rdram.ranges();
         if a % 8 != 0 || a as usize + 64 > self.rdram.len() {
             return Err(TaskFault::TaskPlace);
         }

@@ -3,7 +3,7 @@ ghost use Rattle.rsp_machine.specs.State.{IsState, start_of};
 ghost use Rattle.rsp_scalar.specs.Registers.{register};
 ghost use Rattle.rsp_loadstore.specs.File.{register as vector};
 
-use rsp_acc::{Acc, Part};
+use rsp_acc::Acc;
 use rsp_divide::Divider;
 use rsp_flags::Flags;
 use rsp_lanes::VReg;
@@ -80,13 +80,14 @@ impl<A: Acc> Machine<A> {
     pub fn ranges(&self)
         ensures { IsState self.now }
     {
-        let _ = self.vregs.reg(0);
-        let _ = self.acc.part(Part::Low);
+        self.regs.ranges();
+        self.vregs.ranges();
+        self.acc.ranges();
         let _input = self.divider.input;
         let _output = self.divider.output;
-        let _ = self.dmem.run(0, 0);
-        let _ = self.imem.run(0, 0);
-        let _ = self.rdram.len();
+        self.dmem.ranges();
+        self.imem.ranges();
+        self.rdram.ranges();
     }
 
     /// The place in IMEM of the next instruction, a multiple of 4 below 4096.

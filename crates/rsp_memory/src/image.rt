@@ -44,6 +44,14 @@ impl Rdram {
         }
     }
 
+    /// Changes nothing. It says that their number is a multiple of 8 from 64 to 8,388,608.
+    #[inline(always)]
+    pub fn ranges(&self)
+        ensures { IsImageLength (length self.now) }
+    {
+        let _ = &self.bytes;
+    }
+
     /// The byte at an address.
     #[inline]
     #[tactic(auto, unfolding(crate::specs::Image::image_byte))]
@@ -71,8 +79,7 @@ impl Rdram {
     /// The bytes from an address on, at most `n` of them, as far as they go in the image: none
     /// past its end.
     pub fn run(&self, a: u32, n: usize) -> &[u8]
-        ensures value { result.now ≡ take n (drop (a % 16777216) self.now) }
-        ensures size { IsImageLength (length self.now) }
+        ensures { result.now ≡ take n (drop (a % 16777216) self.now) }
     {
         let at = self.len().min((a % 16_777_216) as usize);
         &self.bytes[at..at + n.min(self.len() - at)]
@@ -92,8 +99,7 @@ impl Rdram {
     /// The number of bytes.
     #[inline]
     pub fn len(&self) -> usize
-        ensures len { result ≡ length self.now }
-        ensures size { IsImageLength result }
+        ensures { result ≡ length self.now }
     {
         self.bytes.len()
     }

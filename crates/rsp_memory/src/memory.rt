@@ -29,6 +29,14 @@ impl SpMem {
         SpMem { bytes: [0; 4096] }
     }
 
+    /// Changes nothing. It says that they are 4096 bytes.
+    #[inline(always)]
+    pub fn ranges(&self)
+        ensures { length self.now ≡ 4096 }
+    {
+        let _ = &self.bytes;
+    }
+
     /// The byte at an address.
     #[inline]
     #[tactic(auto, unfolding(crate::specs::Memory::byte_at))]
@@ -218,8 +226,7 @@ impl SpMem {
     /// The bytes from an address on, at most `n` of them, as far as they go without a wrap: at
     /// least one, unless `n` is 0.
     pub fn run(&self, a: u32, n: usize) -> &[u8]
-        ensures value { result.now ≡ take n (drop (a % 4096) self.now) }
-        ensures memory { length self.now ≡ 4096 }
+        ensures { result.now ≡ take n (drop (a % 4096) self.now) }
     {
         let at = (a % 4096) as usize;
         &self.bytes[at..at + n.min(4096 - at)]

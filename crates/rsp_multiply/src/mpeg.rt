@@ -5,7 +5,7 @@
 
 ghost use Rattle.std.specs.Prelude.{◌≡◌, ◌*ℤ◌, pos, slice_index, int_lt};
 ghost use Rattle.rsp_lanes.specs.Lanes.{each_lane};
-ghost use Rattle.rsp_numbers.specs.Numbers.{s16, number, floor_div, modulo, AreNumbers};
+ghost use Rattle.rsp_numbers.specs.Numbers.{s16, number, floor_div, modulo};
 ghost use Rattle.rsp_multiply.specs.Mpeg.{rounds, rounding, step, accumulators_rounded, clamped_signed, accumulators_mpeg, halved_mpeg};
 
 use crate::products::upper;
@@ -47,9 +47,9 @@ fn rounding(odd: bool, lanes: &VReg) -> Addends
 /// Where the accumulator is negative.
 #[inline(always)]
 fn negative<A: Acc>(acc: &A) -> Mask8
-    ensures value { result ≡ each_lane (λ i. int_lt (number (A.numbers acc.now) i) (pos 0)) }
-    ensures range { AreNumbers (A.numbers acc.now) }
+    ensures { result ≡ each_lane (λ i. int_lt (number (A.numbers acc.now) i) (pos 0)) }
 {
+    acc.ranges();
     acc.part(Part::High).is_negative()
 }
 
@@ -57,8 +57,7 @@ impl RoundOp {
     /// Where the row adds to the accumulator.
     #[inline(always)]
     fn places<A: Acc>(self, acc: &A) -> Mask8
-        ensures value { result ≡ each_lane (λ i. rounds self (number (A.numbers acc.now) i)) }
-        ensures range { AreNumbers (A.numbers acc.now) }
+        ensures { result ≡ each_lane (λ i. rounds self (number (A.numbers acc.now) i)) }
     {
         let negative = negative(acc);
         match self {
@@ -76,6 +75,7 @@ pub fn round_op<A: Acc>(op: RoundOp, odd: bool, b: &VReg, acc: &mut A) -> VReg
     ensures accumulators { A.numbers acc.new ≡ accumulators_rounded op odd b.now (A.numbers acc.old) }
     ensures value { result ≡ clamped_signed (A.numbers acc.new) }
 {
+    acc.ranges();
     let lanes = op.places(acc).merge(b, &VReg::new());
     acc.add(&rounding(odd, &lanes));
     acc.clamp(Clamp::Signed)
@@ -84,9 +84,9 @@ pub fn round_op<A: Acc>(op: RoundOp, odd: bool, b: &VReg, acc: &mut A) -> VReg
 /// The steps of VMACQ, as sixteen bits.
 #[inline(always)]
 fn steps<A: Acc>(acc: &A) -> VReg
-    ensures value { result ≡ each_lane (λ i. modulo (step (floor_div (number (A.numbers acc.now) i) 65536)) 65536) }
-    ensures range { AreNumbers (A.numbers acc.now) }
+    ensures { result ≡ each_lane (λ i. modulo (step (floor_div (number (A.numbers acc.now) i) 65536)) 65536) }
 {
+    acc.ranges();
     let zeros = VReg::new();
     let high = acc.part(Part::High);
     let middle = acc.part(Part::Middle);
@@ -104,6 +104,7 @@ fn steps<A: Acc>(acc: &A) -> VReg
 fn halves<A: Acc>(acc: &A) -> Addends
     ensures { result ≡ each_lane (λ i. floor_div (floor_div (number (A.numbers acc.now) i) 65536) 2 *ℤ pos 65536) }
 {
+    acc.ranges();
     let zeros = VReg::new();
     let top = VReg::splat(0x8000);
     let high = acc.part(Part::High);
@@ -136,6 +137,7 @@ pub fn mpeg_op<A: Acc>(op: MpegOp, a: &VReg, b: &VReg, acc: &mut A) -> VReg
     ensures accumulators { A.numbers acc.new ≡ accumulators_mpeg op a.now b.now (A.numbers acc.old) }
     ensures value { result ≡ halved_mpeg (A.numbers acc.new) }
 {
+    acc.ranges();
     match op {
         MpegOp::Vmulq => multiply_rounded(a, b, acc),
         MpegOp::Vmacq => acc.add(&shifted(&steps(acc))),

@@ -1,9 +1,11 @@
 -- The scalar registers: 32 numbers below 2^32, of which number 0 stays 0.
-use Rattle.std.specs.Prelude.{ℕ, ◌==◌, ◌≡◌, if◌then◌else◌, List, replicate, slice_index, slice_set}
+use Rattle.std.specs.Prelude.{ℕ, ◌==◌, ◌≡◌, ◌<◌, ◌^◌, if◌then◌else◌, List, length, replicate, slice_index, slice_set}
 
--- number 0 is 0
-abbrev pub IsRegisters : List ℕ → Type 0
-IsRegisters r = slice_index r 0 ≡ 0
+-- the registers' ranges
+pub record IsRegisters (r : List ℕ) : Type 0 where
+  pub count : length r ≡ 32
+  pub words : (i : ℕ) → slice_index r i < 2 ^ 32
+  pub zero : slice_index r 0 ≡ 0
 
 -- the registers at the start
 abbrev pub empty_registers : List ℕ

@@ -1,5 +1,5 @@
 ghost use Rattle.std.specs.Prelude.{◌≡◌, ◌<◌};
-ghost use Rattle.rsp_scalar.specs.Registers.{empty_registers, register, with_register};
+ghost use Rattle.rsp_scalar.specs.Registers.{IsRegisters, empty_registers, register, with_register};
 
 use std::marker::Model;
 
@@ -30,6 +30,14 @@ impl Regs {
         ensures { result ≡ empty_registers }
     {
         Regs { words: [0; 32] }
+    }
+
+    /// Changes nothing. It says that they are 32 numbers below 2^32, of which number 0 is 0.
+    #[inline(always)]
+    pub fn ranges(&self)
+        ensures { IsRegisters self.now }
+    {
+        let _ = &self.words;
     }
 
     /// Register `n`, below 32.

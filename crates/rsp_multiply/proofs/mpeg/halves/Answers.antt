@@ -13,8 +13,8 @@ returns g c = c.from_planes.ensures ∙ each_same _ _ (λ i h.
       lane_of 0 _ _ c.add.ensures i h,
       lane_of 0 _ _ c.product-lower.ensures.high i h,
       lane_of 0 _ _ c.product-upper.ensures.low i h,
-      lane_of 0 _ _ c.part-high.ensures.value i h,
-      lane_of 0 _ _ c.part-middle.ensures.value i h,
+      lane_of 0 _ _ c.part-high.ensures i h,
+      lane_of 0 _ _ c.part-middle.ensures i h,
       lane_of 0 _ _ c.new-zeros.ensures i h,
       lane_of 0 _ _ c.splat-top.ensures i h,
-    ) (half_lane _ (c.part-high.ensures.range.1 i)))
+    ) (half_lane _ (c.ranges-2.ensures.1 i)))

@@ -12,5 +12,5 @@ returns-clause-accumulators g c =
       | in-Vmulq w ↦ rw (w.acc-is, w.in-Vmulq.is) w.multiply_rounded.ensures
       | in-Vmacq w ↦
           rw (w.acc-is, w.in-Vmacq.is) (w.add.ensures ∙ each_same _ _ (λ i h.
-          rw (lane_of (pos 0) _ _ w.shifted.ensures i h, lane_of 0 _ _ w.steps.ensures.value i h) (stepped _ (w.steps.ensures.range.1 i))))
+          rw (lane_of (pos 0) _ _ w.shifted.ensures i h, lane_of 0 _ _ w.steps.ensures i h) (stepped _ (c.ranges-2.ensures.1 i))))
     ]

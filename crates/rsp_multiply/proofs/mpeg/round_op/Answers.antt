@@ -10,9 +10,9 @@ returns-clause-accumulators g c = c.add.ensures ∙ each_same _ _ (λ i h.
     rw (
       lane_of (pos 0) _ _ c.rounding.ensures i h,
       lane_of 0 _ _ c.merge-lanes.ensures i h,
-      lane_of false _ _ c.places.ensures.value i h,
+      lane_of false _ _ c.places.ensures i h,
       lane_of 0 _ _ c.new.ensures i h,
-    ) (rounded_lane _ c.args.odd _ _ (c.places.ensures.range.1 i)))
+    ) (rounded_lane _ c.args.odd _ _ (c.ranges-2.ensures.1 i)))
 
 pub returns-clause-value : goal.returns-clause-value
 unfolding clamped_signed

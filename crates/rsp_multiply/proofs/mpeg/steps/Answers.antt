@@ -3,8 +3,8 @@ use Rattle.rsp_lanes.proofs.Kit.{lane_of, each_same}
 use Rattle.rsp_multiply.proofs.Halvings.{step_lane}
 use Rattle.rsp_multiply.proofs.mpeg.steps.Goals as goal
 
-pub returns-clause-value : goal.returns-clause-value
-returns-clause-value g c = c.merge-2.ensures ∙ each_same _ _ (λ i h.
+pub returns : goal.returns
+returns g c = c.merge-2.ensures ∙ each_same _ _ (λ i h.
     rw (
       lane_of false _ _ c.and-is_small.ensures i h,
       lane_of false _ _ c.is_zero.ensures i h,
@@ -14,11 +14,11 @@ returns-clause-value g c = c.merge-2.ensures ∙ each_same _ _ (λ i h.
       lane_of 0 _ _ c.and.ensures i h,
       lane_of 0 _ _ c.merge-step.ensures i h,
       lane_of false _ _ c.is_negative.ensures i h,
-      lane_of 0 _ _ c.part-high.ensures.value i h,
-      lane_of 0 _ _ c.part-middle.ensures.value i h,
+      lane_of 0 _ _ c.part-high.ensures i h,
+      lane_of 0 _ _ c.part-middle.ensures i h,
       lane_of 0 _ _ c.new-zeros.ensures i h,
       lane_of 0 _ _ c.splat.ensures i h,
       lane_of 0 _ _ c.splat-2.ensures i h,
       lane_of 0 _ _ c.splat-3.ensures i h,
       lane_of 0 _ _ c.splat-4.ensures i h,
-    ) (step_lane _ (c.part-high.ensures.range.1 i)))
+    ) (step_lane _ (c.ranges-2.ensures.1 i)))
