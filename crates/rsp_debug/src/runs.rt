@@ -60,7 +60,9 @@ fn dmem_bytes<A: Acc>(machine: &Machine<A>) -> &[u8]
     ensures value { result.now ≡ machine.now.dmem }
     ensures len { length result.now ≡ 4096 }
 {
-    machine.dmem().run(0, 4096)
+    let dmem = machine.dmem();
+    dmem.ranges();
+    dmem.run(0, 4096)
 }
 
 /// The watch or the breakpoint that a step has come to, where they are looked at.
