@@ -30,9 +30,11 @@ use Rattle.rsp_machine.specs.Vector.{multiplies, rounds, multiplies_mpeg, reads_
 use Rattle.rsp_machine.specs.Step.{computes, loads, stores, jumps, breaks, moves_sp, executed, singled, step_by, step_of}
 use Rattle.rsp_machine.specs.Host.{register_written}
 use Rattle.rsp_machine.specs.declared.step.StepEnd.TheVariants.{Done, Halted, Reserved}
-use Rattle.rsp_machine.specs.Saved.{Saved, kept, undone, starts_dma, is_length, sign_link, jump_link, keeps_register, keeps_places, keeps_bytes, keeps_vector, keeps_group, keeps_product, keeps_rule, keeps_lane, keeps_flags, keeps_sp, keeps_nothing, keeps_loaded, may_store, group_at, with_group, window_of, is_back_by, kept_by, can_undo, slot_after, is_back}
+use Rattle.rsp_machine.specs.Saved.{Saved, kept, undone, starts_dma, is_length, sign_link, jump_link, keeps_register, keeps_places, keeps_bytes, keeps_vector, keeps_group, keeps_product, keeps_sum, keeps_choice, keeps_clip, keeps_lane, keeps_flags, keeps_sp, keeps_nothing, keeps_loaded, may_store, group_at, with_group, window_of, is_back_by, kept_by, can_undo, slot_after, is_back}
 use Rattle.rsp_machine.proofs.Undoing.{register-back, vector-back, store-back, stored-back}
 use Rattle.rsp_machine.proofs.Loading.{loaded-back, put_back}
+use Rattle.rsp_machine.proofs.Flagging.{AreFlags, sum-back, merge-back, choice-back, logic-back}
+use Rattle.rsp_machine.specs.Ops.{add_op, select_op, logic_op}
 
 -- the state with its parts given back
 same_state : (s : State) (r : List ℕ) (v : List (List ℕ)) (x : List ℤ) (f : Flags) (d : Divider) (m i q : List ℕ) → s.sp.halted ≡ false
@@ -83,10 +85,29 @@ product_kept : (n : ℕ) (v : List ℕ) (x : List ℤ) (s : State) (r : Saved) �
 unfolding undone keeps_product after_step
 product_kept n v x s r h = vectors_same s _ h (vector-back s.vectors n v)
 
-rule_kept : (n : ℕ) (v : List ℕ) (x : List ℤ) (f : Flags) (s : State) (r : Saved) → s.sp.halted ≡ false
-    → undone (keeps_rule n s r) (singled (advanced (record s { vectors = with_vector s.vectors n v; accumulators = x; flags = f }))) ≡ s
-unfolding undone keeps_rule after_step
-rule_kept n v x f s r h = vectors_same s _ h (vector-back s.vectors n v)
+-- where some flags are written back, the others are those before
+flags_same : (s : State) (v : List (List ℕ)) (f : Flags) → s.sp.halted ≡ false → v ≡ s.vectors → f ≡ s.flags → record s { vectors = v; flags = f; sp = record s.sp { halted = false } } ≡ s
+flags_same s v f h e k = same_state s _ v _ f _ _ _ _ h refl e refl k refl refl refl refl
+
+sum_kept : (n : ℕ) (v : List ℕ) (x : List ℤ) (f : Flags) (s : State) (r : Saved) → s.sp.halted ≡ false → record f { carry = s.flags.carry; differ = s.flags.differ } ≡ s.flags
+    → undone (keeps_sum n s r) (singled (advanced (record s { vectors = with_vector s.vectors n v; accumulators = x; flags = f }))) ≡ s
+unfolding undone keeps_sum after_step
+sum_kept n v x f s r h e = flags_same s _ _ h (vector-back s.vectors n v) e
+
+choice_kept : (n : ℕ) (v : List ℕ) (x : List ℤ) (f : Flags) (s : State) (r : Saved) → s.sp.halted ≡ false → record s.flags { extra = f.extra } ≡ s.flags
+    → undone (keeps_choice n s r) (singled (advanced (record s { vectors = with_vector s.vectors n v; accumulators = x; flags = f }))) ≡ s
+unfolding undone keeps_choice after_step
+choice_kept n v x f s r h e = flags_same s _ _ h (vector-back s.vectors n v) e
+
+clip_kept : (n : ℕ) (v : List ℕ) (x : List ℤ) (f : Flags) (s : State) (r : Saved) → s.sp.halted ≡ false
+    → undone (keeps_clip n s r) (singled (advanced (record s { vectors = with_vector s.vectors n v; accumulators = x; flags = f }))) ≡ s
+unfolding undone keeps_clip after_step
+clip_kept n v x f s r h = vectors_same s _ h (vector-back s.vectors n v)
+
+logic_kept : (n : ℕ) (v : List ℕ) (x : List ℤ) (f : Flags) (s : State) (r : Saved) → s.sp.halted ≡ false → f ≡ s.flags
+    → undone (keeps_product n s r) (singled (advanced (record s { vectors = with_vector s.vectors n v; accumulators = x; flags = f }))) ≡ s
+unfolding undone keeps_product after_step
+logic_kept n v x f s r h e = flags_same s _ _ h (vector-back s.vectors n v) e
 
 lane_kept : (n : ℕ) (v : List ℕ) (x : List ℤ) (d : Divider) (s : State) (r : Saved) → s.sp.halted ≡ false
     → undone (keeps_lane n s r) (singled (advanced (record s { vectors = with_vector s.vectors n v; accumulators = x; divider = d }))) ≡ s
@@ -188,38 +209,38 @@ control_move_kept From rt control s r h = register_kept rt _ (going_on s.npc) s 
 control_move_kept To rt control s r h = flags_kept _ s r h
 
 -- any instruction that starts no DMA
-kept_back : (i : Inst) (s : State) (r : Saved) → starts_dma i ≡ false → s.sp.halted ≡ false → undone (kept i s r) (singled (executed i s)) ≡ s
+kept_back : (i : Inst) (s : State) (r : Saved) → starts_dma i ≡ false → s.sp.halted ≡ false → AreFlags s.flags → undone (kept i s r) (singled (executed i s)) ≡ s
 unfolding kept executed computes loads stores jumps breaks multiplies rounds multiplies_mpeg reads_accumulator ruled divides loads_vector stores_vector loaded_file stored_memory
-kept_back (Shift row rd rt amount) s r e h = register_kept rd _ (going_on s.npc) s r h
-kept_back (ShiftBy row rd rt rs) s r e h = register_kept rd _ (going_on s.npc) s r h
-kept_back (Register row rd rs rt) s r e h = register_kept rd _ (going_on s.npc) s r h
-kept_back (Immediate row rt rs imm) s r e h = register_kept rt _ (going_on s.npc) s r h
-kept_back (LoadUpper rt imm) s r e h = register_kept rt _ (going_on s.npc) s r h
-kept_back (Load row rt offset base) s r e h = register_kept rt _ (going_on s.npc) s r h
-kept_back (Store row rt offset base) s r e h = bytes_kept (address s.registers base offset) _ s r h (store-back row s.dmem (address s.registers base offset) (register s.registers rt))
-kept_back (JumpRegister rs) s r e h = places_kept _ s r h
-kept_back (JumpLinkRegister rd rs) s r e h = register_kept rd _ _ s r h
-kept_back (BranchSign row rs offset) s r e h = jump_kept (BranchSign row rs offset) (sign_link row) _ s r h (sign_back row rs offset s.npc s.registers)
-kept_back (BranchEqual row rs rt offset) s r e h = places_kept _ s r h
-kept_back (Jump row target) s r e h = jump_kept (Jump row target) (jump_link row) _ s r h (jump_back row target s.npc s.registers)
-kept_back Break s r e h = sp_kept 0 0 _ s r h
-kept_back (MoveSp row rt n) s r e h = move_kept row rt n s r e h
-kept_back (MoveVector row rt n element) s r e h = vector_move_kept row rt n element s r h
-kept_back (MoveControl row rt control) s r e h = control_move_kept row rt control s r h
-kept_back (Multiply row vd vs vt n) s r e h = product_kept vd _ _ s r h
-kept_back (Round row vd vs vt n) s r e h = product_kept vd _ _ s r h
-kept_back (MpegMultiply row vd vs vt n) s r e h = product_kept vd _ _ s r h
-kept_back (ReadAccumulator vd vs vt n) s r e h = vector_kept vd _ s r h
-kept_back (VectorAdd row vd vs vt n) s r e h = rule_kept vd _ _ _ s r h
-kept_back (VectorSelect row vd vs vt n) s r e h = rule_kept vd _ _ _ s r h
-kept_back (VectorClip row vd vs vt n) s r e h = rule_kept vd _ _ _ s r h
-kept_back (VectorMerge vd vs vt n) s r e h = rule_kept vd _ _ _ s r h
-kept_back (VectorLogic row vd vs vt n) s r e h = rule_kept vd _ _ _ s r h
-kept_back (Lane row vd lane vt n) s r e h = lane_kept vd _ _ _ s r h
-kept_back (Idle row) s r e h = places_kept _ s r h
-kept_back (VectorLoad row vt n offset base) s r e h =
+kept_back (Shift row rd rt amount) s r e h k = register_kept rd _ (going_on s.npc) s r h
+kept_back (ShiftBy row rd rt rs) s r e h k = register_kept rd _ (going_on s.npc) s r h
+kept_back (Register row rd rs rt) s r e h k = register_kept rd _ (going_on s.npc) s r h
+kept_back (Immediate row rt rs imm) s r e h k = register_kept rt _ (going_on s.npc) s r h
+kept_back (LoadUpper rt imm) s r e h k = register_kept rt _ (going_on s.npc) s r h
+kept_back (Load row rt offset base) s r e h k = register_kept rt _ (going_on s.npc) s r h
+kept_back (Store row rt offset base) s r e h k = bytes_kept (address s.registers base offset) _ s r h (store-back row s.dmem (address s.registers base offset) (register s.registers rt))
+kept_back (JumpRegister rs) s r e h k = places_kept _ s r h
+kept_back (JumpLinkRegister rd rs) s r e h k = register_kept rd _ _ s r h
+kept_back (BranchSign row rs offset) s r e h k = jump_kept (BranchSign row rs offset) (sign_link row) _ s r h (sign_back row rs offset s.npc s.registers)
+kept_back (BranchEqual row rs rt offset) s r e h k = places_kept _ s r h
+kept_back (Jump row target) s r e h k = jump_kept (Jump row target) (jump_link row) _ s r h (jump_back row target s.npc s.registers)
+kept_back Break s r e h k = sp_kept 0 0 _ s r h
+kept_back (MoveSp row rt n) s r e h k = move_kept row rt n s r e h
+kept_back (MoveVector row rt n element) s r e h k = vector_move_kept row rt n element s r h
+kept_back (MoveControl row rt control) s r e h k = control_move_kept row rt control s r h
+kept_back (Multiply row vd vs vt n) s r e h k = product_kept vd _ _ s r h
+kept_back (Round row vd vs vt n) s r e h k = product_kept vd _ _ s r h
+kept_back (MpegMultiply row vd vs vt n) s r e h k = product_kept vd _ _ s r h
+kept_back (ReadAccumulator vd vs vt n) s r e h k = vector_kept vd _ s r h
+kept_back (VectorAdd row vd vs vt n) s r e h k = sum_kept vd _ _ _ s r h (sum-back (add_op row) _ _ s.flags k)
+kept_back (VectorSelect row vd vs vt n) s r e h k = choice_kept vd _ _ _ s r h (choice-back (select_op row) _ _ s.flags k)
+kept_back (VectorClip row vd vs vt n) s r e h k = clip_kept vd _ _ _ s r h
+kept_back (VectorMerge vd vs vt n) s r e h k = sum_kept vd _ _ _ s r h (merge-back _ _ s.flags k)
+kept_back (VectorLogic row vd vs vt n) s r e h k = logic_kept vd _ _ _ s r h (logic-back (logic_op row) _ _ s.flags k)
+kept_back (Lane row vd lane vt n) s r e h k = lane_kept vd _ _ _ s r h
+kept_back (Idle row) s r e h k = places_kept _ s r h
+kept_back (VectorLoad row vt n offset base) s r e h k =
     load_kept row vt _ s r h (loaded-back row s.dmem s.vectors vt n (transfer_address (VectorLoad row vt n offset base) (register s.registers base)))
-kept_back (VectorStore row vt n offset base) s r e h =
+kept_back (VectorStore row vt n offset base) s r e h k =
     let a : ℕ = transfer_address (VectorStore row vt n offset base) (register s.registers base) in
     bytes_kept (window_of row a) _ s r h (stored-back row vt n a s.vectors s.dmem)
 
@@ -228,18 +249,18 @@ not_true : (b : Bool) → not b ≡ true → b ≡ false
 not_true false e = refl
 not_true true e = cc
 
-word_back : (o : Option Inst) (word : ℕ) (s : State) (r : Saved) → s.sp.halted ≡ false → is_back_by o ≡ true → undone (kept_by o s r) (step_by o word s).1 ≡ s
-word_back None word s r h e = cc
-word_back (Some i) word s r h e = kept_back i s r (not_true (starts_dma i) e) h
+word_back : (o : Option Inst) (word : ℕ) (s : State) (r : Saved) → s.sp.halted ≡ false → AreFlags s.flags → is_back_by o ≡ true → undone (kept_by o s r) (step_by o word s).1 ≡ s
+word_back None word s r h k e = cc
+word_back (Some i) word s r h k e = kept_back i s r (not_true (starts_dma i) e) h k
 
-either_back : (b : Bool) (o : Option Inst) (word : ℕ) (s : State) (r : Saved) → s.sp.halted ≡ b → (if b then false else is_back_by o) ≡ true
+either_back : (b : Bool) (o : Option Inst) (word : ℕ) (s : State) (r : Saved) → s.sp.halted ≡ b → AreFlags s.flags → (if b then false else is_back_by o) ≡ true
     → undone (if b then r else kept_by o s r) (if b then (Halted, s) else step_by o word s).1 ≡ s
-either_back true o word s r h e = cc
-either_back false o word s r h e = word_back o word s r h e
+either_back true o word s r h k e = cc
+either_back false o word s r h k e = word_back o word s r h k e
 
-pub slot_back : (s : State) (r : Saved) → can_undo s ≡ true → undone (slot_after s r) (step_of s).1 ≡ s
+pub slot_back : (s : State) (r : Saved) → AreFlags s.flags → can_undo s ≡ true → undone (slot_after s r) (step_of s).1 ≡ s
 unfolding can_undo slot_after step_of
-slot_back s r e = either_back s.sp.halted (inst_of (word_at s.imem s.pc)) (word_at s.imem s.pc) s r refl e
+slot_back s r k e = either_back s.sp.halted (inst_of (word_at s.imem s.pc)) (word_at s.imem s.pc) s r refl k e
 
 -- the mark in the slot tells whether an instruction can be undone
 load_marked : (row : VectorLoadRow) (vt : ℕ) (s : State) (r : Saved) → is_back (keeps_loaded row vt s r).change ≡ true
@@ -262,7 +283,7 @@ move_marked true s r = refl
 move_marked false s r = refl
 
 pub kept_marked : (i : Inst) (s : State) (r : Saved) → is_back (kept i s r).change ≡ not (starts_dma i)
-unfolding kept keeps_register keeps_places keeps_bytes keeps_vector keeps_product keeps_rule keeps_lane keeps_flags keeps_sp
+unfolding kept keeps_register keeps_places keeps_bytes keeps_vector keeps_product keeps_sum keeps_choice keeps_clip keeps_lane keeps_flags keeps_sp
 kept_marked (Shift row rd rt amount) s r = refl
 kept_marked (ShiftBy row rd rt rs) s r = refl
 kept_marked (Register row rd rs rt) s r = refl

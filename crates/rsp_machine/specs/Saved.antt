@@ -88,14 +88,25 @@ keeps_vector n s r = record r { pc = s.pc; change = of.Vector; number = n; vecto
 unfoldable pub keeps_group : ℕ → State → Saved → Saved
 keeps_group n s r = record r { pc = s.pc; change = of.Group; group = n; vectors = group_at s.vectors n }
 
-unfoldable pub keeps_product : ℕ → State → Saved → Saved
-keeps_product n s r = record r { pc = s.pc; change = of.Product; number = n; vector = vector s.vectors n; accumulators = s.accumulators }
+-- a vector register and the accumulators, which all the rows below change
+abbrev pub keeps_result : Change → ℕ → State → Saved → Saved
+keeps_result change n s r = record r { pc = s.pc; change = change; number = n; vector = vector s.vectors n; accumulators = s.accumulators }
 
-unfoldable pub keeps_rule : ℕ → State → Saved → Saved
-keeps_rule n s r = record r { pc = s.pc; change = of.Rule; number = n; vector = vector s.vectors n; accumulators = s.accumulators; flags = s.flags }
+unfoldable pub keeps_product : ℕ → State → Saved → Saved
+keeps_product n s r = keeps_result of.Product n s r
+
+-- VCO beside them, VCO and VCC, all flags, or the divider
+unfoldable pub keeps_sum : ℕ → State → Saved → Saved
+keeps_sum n s r = record (keeps_result of.Sum n s r) { flags = record r.flags { carry = s.flags.carry; differ = s.flags.differ } }
+
+unfoldable pub keeps_choice : ℕ → State → Saved → Saved
+keeps_choice n s r = record (keeps_result of.Choice n s r) { flags = record s.flags { extra = r.flags.extra } }
+
+unfoldable pub keeps_clip : ℕ → State → Saved → Saved
+keeps_clip n s r = record (keeps_result of.Clip n s r) { flags = s.flags }
 
 unfoldable pub keeps_lane : ℕ → State → Saved → Saved
-keeps_lane n s r = record r { pc = s.pc; change = of.Lane; number = n; vector = vector s.vectors n; accumulators = s.accumulators; divider = s.divider }
+keeps_lane n s r = record (keeps_result of.Lane n s r) { divider = s.divider }
 
 unfoldable pub keeps_flags : State → Saved → Saved
 keeps_flags s r = record r { pc = s.pc; change = of.Flags; flags = s.flags }
@@ -163,11 +174,11 @@ kept (Multiply row vd vs vt e) s r = keeps_product vd s r
 kept (Round row vd vs vt e) s r = keeps_product vd s r
 kept (MpegMultiply row vd vs vt e) s r = keeps_product vd s r
 kept (ReadAccumulator vd vs vt e) s r = keeps_vector vd s r
-kept (VectorAdd row vd vs vt e) s r = keeps_rule vd s r
-kept (VectorSelect row vd vs vt e) s r = keeps_rule vd s r
-kept (VectorClip row vd vs vt e) s r = keeps_rule vd s r
-kept (VectorMerge vd vs vt e) s r = keeps_rule vd s r
-kept (VectorLogic row vd vs vt e) s r = keeps_rule vd s r
+kept (VectorAdd row vd vs vt e) s r = keeps_sum vd s r
+kept (VectorSelect row vd vs vt e) s r = keeps_choice vd s r
+kept (VectorClip row vd vs vt e) s r = keeps_clip vd s r
+kept (VectorMerge vd vs vt e) s r = keeps_sum vd s r
+kept (VectorLogic row vd vs vt e) s r = keeps_product vd s r
 kept (Lane row vd lane vt e) s r = keeps_lane vd s r
 kept (Idle row) s r = keeps_places s r
 kept (VectorLoad row vt e offset base) s r = keeps_loaded row vt s r
@@ -219,7 +230,9 @@ restored of.Bytes r s = record s { dmem = with_bytes s.dmem r.address r.bytes }
 restored of.Vector r s = record s { vectors = with_vector s.vectors r.number r.vector }
 restored of.Group r s = record s { vectors = with_group s.vectors r.group r.vectors }
 restored of.Product r s = with_product r s
-restored of.Rule r s = record (with_product r s) { flags = r.flags }
+restored of.Sum r s = record (with_product r s) { flags = record s.flags { carry = r.flags.carry; differ = r.flags.differ } }
+restored of.Choice r s = record (with_product r s) { flags = record r.flags { extra = s.flags.extra } }
+restored of.Clip r s = record (with_product r s) { flags = r.flags }
 restored of.Lane r s = record (with_product r s) { divider = r.divider }
 restored of.Flags r s = record s { flags = r.flags }
 restored of.Sp r s = record s { registers = with_register s.registers r.number r.word; sp = r.sp }

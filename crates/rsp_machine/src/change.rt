@@ -11,8 +11,12 @@ pub(crate) enum Change {
     Group,
     /// A vector register and the accumulators.
     Product,
-    /// A vector register, the accumulators and the flags.
-    Rule,
+    /// A vector register, the accumulators, and the flags of VCO.
+    Sum,
+    /// A vector register, the accumulators, and the flags of VCO and VCC.
+    Choice,
+    /// A vector register, the accumulators and all flags.
+    Clip,
     /// A vector register, the accumulators and the divider.
     Lane,
     /// The flags.

@@ -4,7 +4,7 @@ ghost use Rattle.std.specs.Prelude.{◌≡◌, ◌<◌, ◌≤◌};
 ghost use Rattle.rsp_scalar.specs.Registers.{register};
 ghost use Rattle.rsp_scalar.specs.Rows.{address};
 ghost use Rattle.rsp_loadstore.specs.Addresses.{transfer_address};
-ghost use Rattle.rsp_machine.specs.Saved.{blank, is_back, may_store, keeps_register, keeps_places, keeps_bytes, keeps_vector, keeps_group, keeps_product, keeps_rule, keeps_lane, keeps_flags, keeps_sp, keeps_nothing, keeps_loaded, window_of, with_group, with_product, undone};
+ghost use Rattle.rsp_machine.specs.Saved.{blank, is_back, may_store, keeps_register, keeps_places, keeps_bytes, keeps_vector, keeps_group, keeps_product, keeps_sum, keeps_choice, keeps_clip, keeps_lane, keeps_flags, keeps_sp, keeps_nothing, keeps_loaded, window_of, with_group, with_product, undone};
 
 use crate::change::Change;
 use crate::machine::Machine;
@@ -22,7 +22,7 @@ use std::marker::Model;
 pub struct Record {
     pc: u16,
     change: Change,
-    number: u8,
+    number: u32,
     group: u8,
     word: u32,
     address: u32,
@@ -103,7 +103,7 @@ impl Record {
 
 impl<A: Acc> Machine<A> {
     /// Keeps scalar register `n`.
-    #[inline(always)]
+    #[inline]
     #[tactic(auto, unfolding(crate::specs::Saved::keeps_register))]
     pub(crate) fn keep_register(&self, slot: &mut Record, n: u8)
         requires { n < 32 }
@@ -111,12 +111,12 @@ impl<A: Acc> Machine<A> {
     {
         slot.pc = self.pc;
         slot.change = Change::Register;
-        slot.number = n;
+        slot.number = u32::from(n);
         slot.word = self.regs.get(n);
     }
 
     /// Keeps the place alone.
-    #[inline(always)]
+    #[inline]
     #[tactic(auto, unfolding(crate::specs::Saved::keeps_places))]
     pub(crate) fn keep_places(&self, slot: &mut Record)
         ensures { slot.new ≡ keeps_places self.now slot.old }
@@ -127,7 +127,7 @@ impl<A: Acc> Machine<A> {
     }
 
     /// Keeps the sixteen bytes of DMEM from an address on.
-    #[inline(always)]
+    #[inline]
     #[tactic(auto, unfolding(crate::specs::Saved::keeps_bytes))]
     pub(crate) fn keep_bytes(&self, slot: &mut Record, a: u32)
         ensures { slot.new ≡ keeps_bytes a self.now slot.old }
@@ -139,7 +139,7 @@ impl<A: Acc> Machine<A> {
     }
 
     /// Keeps vector register `n`.
-    #[inline(always)]
+    #[inline]
     #[tactic(auto, unfolding(crate::specs::Saved::keeps_vector))]
     pub(crate) fn keep_vector(&self, slot: &mut Record, n: u8)
         requires { n < 32 }
@@ -147,7 +147,7 @@ impl<A: Acc> Machine<A> {
     {
         slot.pc = self.pc;
         slot.change = Change::Vector;
-        slot.number = n;
+        slot.number = u32::from(n);
         slot.vector = self.vregs.reg(n);
     }
 
@@ -175,7 +175,7 @@ impl<A: Acc> Machine<A> {
     }
 
     /// Keeps vector register `n` and the accumulators.
-    #[inline(always)]
+    #[inline]
     #[tactic(auto, unfolding(crate::specs::Saved::keeps_product))]
     pub(crate) fn keep_product(&self, slot: &mut Record, n: u8)
         requires { n < 32 }
@@ -183,28 +183,62 @@ impl<A: Acc> Machine<A> {
     {
         slot.pc = self.pc;
         slot.change = Change::Product;
-        slot.number = n;
+        slot.number = u32::from(n);
         slot.vector = self.vregs.reg(n);
         slot.accumulators = Addends::of(&self.acc);
     }
 
-    /// Keeps vector register `n`, the accumulators and the flags.
-    #[inline(always)]
-    #[tactic(auto, unfolding(crate::specs::Saved::keeps_rule))]
-    pub(crate) fn keep_rule(&self, slot: &mut Record, n: u8)
+    /// Keeps vector register `n`, the accumulators, and the flags of VCO.
+    #[inline]
+    #[tactic(auto, unfolding(crate::specs::Saved::keeps_sum))]
+    pub(crate) fn keep_sum(&self, slot: &mut Record, n: u8)
         requires { n < 32 }
-        ensures { slot.new ≡ keeps_rule n self.now slot.old }
+        ensures { slot.new ≡ keeps_sum n self.now slot.old }
     {
         slot.pc = self.pc;
-        slot.change = Change::Rule;
-        slot.number = n;
+        slot.change = Change::Sum;
+        slot.number = u32::from(n);
+        slot.vector = self.vregs.reg(n);
+        slot.accumulators = Addends::of(&self.acc);
+        slot.flags.carry = self.flags.carry;
+        slot.flags.differ = self.flags.differ;
+    }
+
+    /// Keeps vector register `n`, the accumulators, and the flags of VCO and VCC.
+    #[inline]
+    #[tactic(auto, unfolding(crate::specs::Saved::keeps_choice))]
+    pub(crate) fn keep_choice(&self, slot: &mut Record, n: u8)
+        requires { n < 32 }
+        ensures { slot.new ≡ keeps_choice n self.now slot.old }
+    {
+        slot.pc = self.pc;
+        slot.change = Change::Choice;
+        slot.number = u32::from(n);
+        slot.vector = self.vregs.reg(n);
+        slot.accumulators = Addends::of(&self.acc);
+        slot.flags.carry = self.flags.carry;
+        slot.flags.differ = self.flags.differ;
+        slot.flags.compare = self.flags.compare;
+        slot.flags.clip = self.flags.clip;
+    }
+
+    /// Keeps vector register `n`, the accumulators, and all flags.
+    #[inline]
+    #[tactic(auto, unfolding(crate::specs::Saved::keeps_clip))]
+    pub(crate) fn keep_clip(&self, slot: &mut Record, n: u8)
+        requires { n < 32 }
+        ensures { slot.new ≡ keeps_clip n self.now slot.old }
+    {
+        slot.pc = self.pc;
+        slot.change = Change::Clip;
+        slot.number = u32::from(n);
         slot.vector = self.vregs.reg(n);
         slot.accumulators = Addends::of(&self.acc);
         slot.flags = self.flags;
     }
 
     /// Keeps vector register `n`, the accumulators and the divider.
-    #[inline(always)]
+    #[inline]
     #[tactic(auto, unfolding(crate::specs::Saved::keeps_lane))]
     pub(crate) fn keep_lane(&self, slot: &mut Record, n: u8)
         requires { n < 32 }
@@ -212,14 +246,14 @@ impl<A: Acc> Machine<A> {
     {
         slot.pc = self.pc;
         slot.change = Change::Lane;
-        slot.number = n;
+        slot.number = u32::from(n);
         slot.vector = self.vregs.reg(n);
         slot.accumulators = Addends::of(&self.acc);
         slot.divider = self.divider;
     }
 
     /// Keeps the flags.
-    #[inline(always)]
+    #[inline]
     #[tactic(auto, unfolding(crate::specs::Saved::keeps_flags))]
     pub(crate) fn keep_flags(&self, slot: &mut Record)
         ensures { slot.new ≡ keeps_flags self.now slot.old }
@@ -230,7 +264,7 @@ impl<A: Acc> Machine<A> {
     }
 
     /// Marks that no way leads back.
-    #[inline(always)]
+    #[inline]
     #[tactic(auto, unfolding(crate::specs::Saved::keeps_nothing))]
     pub(crate) fn keep_nothing(&self, slot: &mut Record)
         ensures { slot.new ≡ keeps_nothing slot.old }
@@ -239,7 +273,7 @@ impl<A: Acc> Machine<A> {
     }
 
     /// Keeps the SP registers and scalar register `n`.
-    #[inline(always)]
+    #[inline]
     #[tactic(auto, unfolding(crate::specs::Saved::keeps_sp))]
     pub(crate) fn keep_sp(&self, slot: &mut Record, n: u8)
         requires { n < 32 }
@@ -247,13 +281,13 @@ impl<A: Acc> Machine<A> {
     {
         slot.pc = self.pc;
         slot.change = Change::Sp;
-        slot.number = n;
+        slot.number = u32::from(n);
         slot.word = self.regs.get(n);
         slot.sp = self.sp;
     }
 
     /// Keeps what a vector load into `vt` changes: LTV writes the eight registers of its group.
-    #[inline(always)]
+    #[inline]
     pub(crate) fn keep_loaded(&self, slot: &mut Record, row: VectorLoadRow, vt: u8)
         requires { vt < 32 }
         ensures { slot.new ≡ keeps_loaded row vt self.now slot.old }
@@ -265,7 +299,7 @@ impl<A: Acc> Machine<A> {
     }
 
     /// Keeps the bytes of DMEM that a scalar store writes.
-    #[inline(always)]
+    #[inline]
     pub(crate) fn keep_stored(&self, slot: &mut Record, offset: u16, base: u8)
         requires { base < 32 }
         ensures { slot.new ≡ keeps_bytes (address self.now.registers base offset) self.now slot.old }
@@ -275,7 +309,7 @@ impl<A: Acc> Machine<A> {
     }
 
     /// Keeps the bytes of DMEM that a vector store writes among.
-    #[inline(always)]
+    #[inline]
     pub(crate) fn keep_window(&self, slot: &mut Record, inst: &Inst, row: VectorStoreRow, base: u8)
         requires { base < 32 }
         ensures { slot.new ≡ keeps_bytes (window_of row (transfer_address inst.now (register self.now.registers base))) self.now slot.old }
@@ -296,12 +330,24 @@ impl<A: Acc> Machine<A> {
         ensures { self.new ≡ undone slot.now self.old }
     {
         match slot.change {
-            Change::Register => self.regs.set(slot.number, slot.word),
+            Change::Register => self.regs.set(slot.number as u8, slot.word),
             Change::Bytes => self.dmem.set_bytes(slot.address, &slot.bytes),
-            Change::Vector => self.vregs.set_reg(slot.number, slot.vector),
+            Change::Vector => self.vregs.set_reg(slot.number as u8, slot.vector),
             Change::Group => self.put_group(slot.group, &slot.vectors),
             Change::Product => self.put_product(slot),
-            Change::Rule => {
+            Change::Sum => {
+                self.put_product(slot);
+                self.flags.carry = slot.flags.carry;
+                self.flags.differ = slot.flags.differ;
+            }
+            Change::Choice => {
+                self.put_product(slot);
+                self.flags.carry = slot.flags.carry;
+                self.flags.differ = slot.flags.differ;
+                self.flags.compare = slot.flags.compare;
+                self.flags.clip = slot.flags.clip;
+            }
+            Change::Clip => {
                 self.put_product(slot);
                 self.flags = slot.flags;
             }
@@ -311,7 +357,7 @@ impl<A: Acc> Machine<A> {
             }
             Change::Flags => self.flags = slot.flags,
             Change::Sp => {
-                self.regs.set(slot.number, slot.word);
+                self.regs.set(slot.number as u8, slot.word);
                 self.sp = slot.sp;
             }
             Change::Nothing => return,
@@ -325,7 +371,7 @@ impl<A: Acc> Machine<A> {
     fn put_product(&mut self, slot: &Record)
         ensures { self.new ≡ with_product slot.now self.old }
     {
-        self.vregs.set_reg(slot.number, slot.vector);
+        self.vregs.set_reg(slot.number as u8, slot.vector);
         self.acc.replace(&slot.accumulators);
     }
 

@@ -259,7 +259,7 @@ impl<'a, A: Acc> Visitor for Recorder<'a, A> {
     #[inline(always)]
     #[tactic(auto, unfolding(crate::specs::Saved::kept))]
     fn vector_add(&mut self, row: VectorAddRow, vd: u8, vs: u8, vt: u8, element: u8) {
-        self.machine.keep_rule(self.slot, vd);
+        self.machine.keep_sum(self.slot, vd);
         Executor {
             machine: self.machine,
         }
@@ -269,7 +269,7 @@ impl<'a, A: Acc> Visitor for Recorder<'a, A> {
     #[inline(always)]
     #[tactic(auto, unfolding(crate::specs::Saved::kept))]
     fn vector_select(&mut self, row: VectorSelectRow, vd: u8, vs: u8, vt: u8, element: u8) {
-        self.machine.keep_rule(self.slot, vd);
+        self.machine.keep_choice(self.slot, vd);
         Executor {
             machine: self.machine,
         }
@@ -279,7 +279,7 @@ impl<'a, A: Acc> Visitor for Recorder<'a, A> {
     #[inline(always)]
     #[tactic(auto, unfolding(crate::specs::Saved::kept))]
     fn vector_clip(&mut self, row: VectorClipRow, vd: u8, vs: u8, vt: u8, element: u8) {
-        self.machine.keep_rule(self.slot, vd);
+        self.machine.keep_clip(self.slot, vd);
         Executor {
             machine: self.machine,
         }
@@ -289,7 +289,7 @@ impl<'a, A: Acc> Visitor for Recorder<'a, A> {
     #[inline(always)]
     #[tactic(auto, unfolding(crate::specs::Saved::kept))]
     fn vector_merge(&mut self, vd: u8, vs: u8, vt: u8, element: u8) {
-        self.machine.keep_rule(self.slot, vd);
+        self.machine.keep_sum(self.slot, vd);
         Executor {
             machine: self.machine,
         }
@@ -299,7 +299,7 @@ impl<'a, A: Acc> Visitor for Recorder<'a, A> {
     #[inline(always)]
     #[tactic(auto, unfolding(crate::specs::Saved::kept))]
     fn vector_logic(&mut self, row: VectorLogicRow, vd: u8, vs: u8, vt: u8, element: u8) {
-        self.machine.keep_rule(self.slot, vd);
+        self.machine.keep_product(self.slot, vd);
         Executor {
             machine: self.machine,
         }
@@ -370,7 +370,7 @@ impl<A: Acc> Machine<A> {
         if self.sp.halted() {
             return StepEnd::Halted;
         }
-        let word = self.imem.word(u32::from(self.pc));
+        let word = self.imem.aligned_word(self.pc);
         let mut recorder = Recorder {
             machine: self,
             slot,
@@ -396,6 +396,7 @@ impl<A: Acc> Machine<A> {
         ensures back { can_undo self.old ≡ true → undone slot.new self.new ≡ self.old }
         ensures memory { result.0 ≡ StepEnd.Done → may_store slot.new ≡ false → self.new.dmem ≡ self.old.dmem }
     {
+        self.flags.keep();
         let end = self.step_into(slot);
         let is_back = match end {
             StepEnd::Done => slot.is_back(),

@@ -132,7 +132,7 @@ impl<A: Acc> Machine<A> {
         if self.sp.halted() {
             return StepEnd::Halted;
         }
-        let word = self.imem.word(u32::from(self.pc));
+        let word = self.imem.aligned_word(self.pc);
         let mut executor = Executor { machine: self };
         if !visit(word, &mut executor) {
             return StepEnd::Reserved { word };
