@@ -30,9 +30,12 @@ use Rattle.rsp_machine.specs.Vector.{multiplies, rounds, multiplies_mpeg, reads_
 use Rattle.rsp_machine.specs.Step.{computes, loads, stores, jumps, breaks, moves_sp, executed, singled, step_by, step_of}
 use Rattle.rsp_machine.specs.Host.{register_written}
 use Rattle.rsp_machine.specs.declared.step.StepEnd.TheVariants.{Done, Halted, Reserved}
-use Rattle.rsp_machine.specs.Saved.{Saved, kept, undone, starts_dma, is_length, sign_link, jump_link, keeps_register, keeps_places, keeps_bytes, keeps_vector, keeps_group, keeps_product, keeps_rule, keeps_lane, keeps_flags, keeps_sp, keeps_nothing, keeps_loaded, group_at, with_group, window_of, is_back_by, kept_by, can_undo, slot_after, is_back}
+use Rattle.rsp_machine.specs.Saved.{Saved, kept, kept_part, saved, restored, part_of, undone, starts_dma, is_length, sign_part, jump_part, loaded_part, told_of, may_store, group_at, with_group, window_of, is_back_by, kept_by, can_undo, slot_after, is_back}
+use Rattle.rsp_machine.specs.declared.part.Part.TheVariants as of
 use Rattle.rsp_machine.proofs.Undoing.{register-back, vector-back, store-back, stored-back}
 use Rattle.rsp_machine.proofs.Loading.{loaded-back, put_back}
+use Rattle.rsp_machine.proofs.Flagging.{AreFlags, sum-back, merge-back, choice-back, logic-back}
+use Rattle.rsp_machine.specs.Ops.{add_op, select_op, logic_op}
 
 -- the state with its parts given back
 same_state : (s : State) (r : List ℕ) (v : List (List ℕ)) (x : List ℤ) (f : Flags) (d : Divider) (m i q : List ℕ) → s.sp.halted ≡ false
@@ -52,72 +55,86 @@ memory_same s m h e = same_state s _ _ _ _ _ m _ _ h refl refl refl refl refl e 
 
 -- a row that changes a scalar register
 register_kept : (n v p : ℕ) (s : State) (r : Saved) → s.sp.halted ≡ false
-    → undone (keeps_register n s r) (singled (record s { pc = s.npc; npc = p; registers = with_register s.registers n v })) ≡ s
-unfolding undone keeps_register after_step
+    → undone (kept_part (of.Register n) s r) (singled (record s { pc = s.npc; npc = p; registers = with_register s.registers n v })) ≡ s
+unfolding undone kept_part saved restored after_step
 register_kept n v p s r h = registers_same s _ h (register-back s.registers n v)
 
 -- a row that changes the places alone
 places_kept : (p : ℕ) (s : State) (r : Saved) → s.sp.halted ≡ false
-    → undone (keeps_places s r) (singled (record s { pc = s.npc; npc = p })) ≡ s
-unfolding undone keeps_places after_step
+    → undone (kept_part of.Places s r) (singled (record s { pc = s.npc; npc = p })) ≡ s
+unfolding undone kept_part saved restored after_step
 places_kept p s r h = registers_same s _ h refl
 
-zero_kept : (p : ℕ) (s : State) (r : Saved) → s.sp.halted ≡ false
-    → undone (keeps_register 0 s r) (singled (record s { pc = s.npc; npc = p })) ≡ s
-unfolding undone keeps_register after_step
-zero_kept p s r h = registers_same s _ h refl
-
 bytes_kept : (a : ℕ) (m : List ℕ) (s : State) (r : Saved) → s.sp.halted ≡ false → with_bytes m a (bytes_at s.dmem a 16) ≡ s.dmem
-    → undone (keeps_bytes a s r) (singled (advanced (record s { dmem = m }))) ≡ s
-unfolding undone keeps_bytes after_step
+    → undone (kept_part (of.Bytes a) s r) (singled (advanced (record s { dmem = m }))) ≡ s
+unfolding undone kept_part saved restored after_step
 bytes_kept a m s r h e = memory_same s _ h e
 
 -- a row that changes a vector register, and perhaps more
 vector_kept : (n : ℕ) (v : List ℕ) (s : State) (r : Saved) → s.sp.halted ≡ false
-    → undone (keeps_vector n s r) (singled (advanced (record s { vectors = with_vector s.vectors n v }))) ≡ s
-unfolding undone keeps_vector after_step
+    → undone (kept_part (of.Vector n) s r) (singled (advanced (record s { vectors = with_vector s.vectors n v }))) ≡ s
+unfolding undone kept_part saved restored after_step
 vector_kept n v s r h = vectors_same s _ h (vector-back s.vectors n v)
 
 product_kept : (n : ℕ) (v : List ℕ) (x : List ℤ) (s : State) (r : Saved) → s.sp.halted ≡ false
-    → undone (keeps_product n s r) (singled (advanced (record s { vectors = with_vector s.vectors n v; accumulators = x }))) ≡ s
-unfolding undone keeps_product after_step
+    → undone (kept_part (of.Product n) s r) (singled (advanced (record s { vectors = with_vector s.vectors n v; accumulators = x }))) ≡ s
+unfolding undone kept_part saved restored after_step
 product_kept n v x s r h = vectors_same s _ h (vector-back s.vectors n v)
 
-rule_kept : (n : ℕ) (v : List ℕ) (x : List ℤ) (f : Flags) (s : State) (r : Saved) → s.sp.halted ≡ false
-    → undone (keeps_rule n s r) (singled (advanced (record s { vectors = with_vector s.vectors n v; accumulators = x; flags = f }))) ≡ s
-unfolding undone keeps_rule after_step
-rule_kept n v x f s r h = vectors_same s _ h (vector-back s.vectors n v)
+-- where some flags are written back, the others are those before
+flags_same : (s : State) (v : List (List ℕ)) (f : Flags) → s.sp.halted ≡ false → v ≡ s.vectors → f ≡ s.flags → record s { vectors = v; flags = f; sp = record s.sp { halted = false } } ≡ s
+flags_same s v f h e k = same_state s _ v _ f _ _ _ _ h refl e refl k refl refl refl refl
+
+sum_kept : (n : ℕ) (v : List ℕ) (x : List ℤ) (f : Flags) (s : State) (r : Saved) → s.sp.halted ≡ false → record f { carry = s.flags.carry; differ = s.flags.differ } ≡ s.flags
+    → undone (kept_part (of.Sum n) s r) (singled (advanced (record s { vectors = with_vector s.vectors n v; accumulators = x; flags = f }))) ≡ s
+unfolding undone kept_part saved restored after_step
+sum_kept n v x f s r h e = flags_same s _ _ h (vector-back s.vectors n v) e
+
+choice_kept : (n : ℕ) (v : List ℕ) (x : List ℤ) (f : Flags) (s : State) (r : Saved) → s.sp.halted ≡ false → record s.flags { extra = f.extra } ≡ s.flags
+    → undone (kept_part (of.Choice n) s r) (singled (advanced (record s { vectors = with_vector s.vectors n v; accumulators = x; flags = f }))) ≡ s
+unfolding undone kept_part saved restored after_step
+choice_kept n v x f s r h e = flags_same s _ _ h (vector-back s.vectors n v) e
+
+clip_kept : (n : ℕ) (v : List ℕ) (x : List ℤ) (f : Flags) (s : State) (r : Saved) → s.sp.halted ≡ false
+    → undone (kept_part (of.Clip n) s r) (singled (advanced (record s { vectors = with_vector s.vectors n v; accumulators = x; flags = f }))) ≡ s
+unfolding undone kept_part saved restored after_step
+clip_kept n v x f s r h = vectors_same s _ h (vector-back s.vectors n v)
+
+logic_kept : (n : ℕ) (v : List ℕ) (x : List ℤ) (f : Flags) (s : State) (r : Saved) → s.sp.halted ≡ false → f ≡ s.flags
+    → undone (kept_part (of.Product n) s r) (singled (advanced (record s { vectors = with_vector s.vectors n v; accumulators = x; flags = f }))) ≡ s
+unfolding undone kept_part saved restored after_step
+logic_kept n v x f s r h e = flags_same s _ _ h (vector-back s.vectors n v) e
 
 lane_kept : (n : ℕ) (v : List ℕ) (x : List ℤ) (d : Divider) (s : State) (r : Saved) → s.sp.halted ≡ false
-    → undone (keeps_lane n s r) (singled (advanced (record s { vectors = with_vector s.vectors n v; accumulators = x; divider = d }))) ≡ s
-unfolding undone keeps_lane after_step
+    → undone (kept_part (of.Lane n) s r) (singled (advanced (record s { vectors = with_vector s.vectors n v; accumulators = x; divider = d }))) ≡ s
+unfolding undone kept_part saved restored after_step
 lane_kept n v x d s r h = vectors_same s _ h (vector-back s.vectors n v)
 
 flags_kept : (f : Flags) (s : State) (r : Saved) → s.sp.halted ≡ false
-    → undone (keeps_flags s r) (singled (advanced (record s { flags = f }))) ≡ s
-unfolding undone keeps_flags after_step
+    → undone (kept_part of.Flags s r) (singled (advanced (record s { flags = f }))) ≡ s
+unfolding undone kept_part saved restored after_step
 flags_kept f s r h = registers_same s _ h refl
 
 -- a row that changes the SP registers and a scalar register; register 0 is none
 sp_kept : (n v : ℕ) (p : Sp) (s : State) (r : Saved) → s.sp.halted ≡ false
-    → undone (keeps_sp n s r) (singled (advanced (record s { registers = with_register s.registers n v; sp = p }))) ≡ s
-unfolding undone keeps_sp after_step
+    → undone (kept_part (of.Sp n) s r) (singled (advanced (record s { registers = with_register s.registers n v; sp = p }))) ≡ s
+unfolding undone kept_part saved restored after_step
 sp_kept n v p s r h = registers_same s _ h (register-back s.registers n v)
 
 -- a vector load, and a move to an SP register that starts no DMA
 file_kept : (n : ℕ) (v : List (List ℕ)) (s : State) (r : Saved) → s.sp.halted ≡ false → with_vector v n (vector s.vectors n) ≡ s.vectors
-    → undone (keeps_vector n s r) (singled (advanced (record s { vectors = v }))) ≡ s
-unfolding undone keeps_vector after_step
+    → undone (kept_part (of.Vector n) s r) (singled (advanced (record s { vectors = v }))) ≡ s
+unfolding undone kept_part saved restored after_step
 file_kept n v s r h e = vectors_same s _ h e
 
 group_kept : (n : ℕ) (v : List (List ℕ)) (s : State) (r : Saved) → s.sp.halted ≡ false → with_group v n (group_at s.vectors n) ≡ s.vectors
-    → undone (keeps_group n s r) (singled (advanced (record s { vectors = v }))) ≡ s
-unfolding undone keeps_group after_step
+    → undone (kept_part (of.Group n) s r) (singled (advanced (record s { vectors = v }))) ≡ s
+unfolding undone kept_part saved restored after_step
 group_kept n v s r h e = vectors_same s _ h e
 
 written_kept : (p : Sp) (m i q : List ℕ) (s : State) (r : Saved) → s.sp.halted ≡ false → m ≡ s.dmem → i ≡ s.imem → q ≡ s.rdram
-    → undone (keeps_sp 0 s r) (singled (advanced (record s { sp = p; dmem = m; imem = i; rdram = q }))) ≡ s
-unfolding undone keeps_sp after_step
+    → undone (kept_part (of.Sp 0) s r) (singled (advanced (record s { sp = p; dmem = m; imem = i; rdram = q }))) ≡ s
+unfolding undone kept_part saved restored after_step
 written_kept p m i q s r h em ei eq = same_state s _ _ _ _ _ m i q h refl refl refl refl refl em ei eq
 
 neither : (a b : Bool) → (a || b) ≡ false → (a ≡ false) × (b ≡ false)
@@ -134,18 +151,18 @@ image_same n v p dmem imem image e = rw e refl
 
 move_kept : (row : MoveRow) (rt n : ℕ) (s : State) (r : Saved) → starts_dma (MoveSp row rt n) ≡ false → s.sp.halted ≡ false
     → undone (kept (MoveSp row rt n) s r) (singled (executed (MoveSp row rt n) s)) ≡ s
-unfolding kept executed moves_sp
+unfolding part_of executed moves_sp
 move_kept From rt n s r e h = sp_kept rt _ (after_read n s.sp) s r h
 move_kept To rt n s r e h =
     let k = neither (n % 16 == 2) (n % 16 == 3) e in
-    let P : Bool → Type 0 = λ b. undone (if b then keeps_nothing r else keeps_sp 0 s r) (singled (advanced (register_written n (register s.registers rt) s))) ≡ s in
+    let P : Bool → Type 0 = λ b. undone (kept_part (if b then of.Nothing else of.Sp 0) s r) (singled (advanced (register_written n (register s.registers rt) s))) ≡ s in
     subst P (sym e) (written_kept (written n (register s.registers rt) s.sp) _ _ _ s r h
     (bank_same (not (is_imem s.sp)) n (register s.registers rt) s.sp s.rdram s.dmem k.0)
     (bank_same (is_imem s.sp) n (register s.registers rt) s.sp s.rdram s.imem k.0)
     (image_same n (register s.registers rt) s.sp s.dmem s.imem s.rdram k.1))
 
 load_kept : (row : VectorLoadRow) (vt : ℕ) (v : List (List ℕ)) (s : State) (r : Saved) → s.sp.halted ≡ false → put_back row vt s.vectors v ≡ s.vectors
-    → undone (keeps_loaded row vt s r) (singled (advanced (record s { vectors = v }))) ≡ s
+    → undone (kept_part (loaded_part row vt) s r) (singled (advanced (record s { vectors = v }))) ≡ s
 load_kept Ltv vt v s r h e = group_kept (vt - vt % 8) v s r h e
 load_kept Lbv vt v s r h e = file_kept vt v s r h e
 load_kept Lsv vt v s r h e = file_kept vt v s r h e
@@ -158,68 +175,67 @@ load_kept Luv vt v s r h e = file_kept vt v s r h e
 load_kept Lhv vt v s r h e = file_kept vt v s r h e
 load_kept Lfv vt v s r h e = file_kept vt v s r h e
 
-jump_kept : (i : Inst) (n p : ℕ) (s : State) (r : Saved) → s.sp.halted ≡ false → with_register (linked i s.registers s.npc) n (register s.registers n) ≡ s.registers
-    → undone (keeps_register n s r) (singled (record s { pc = s.npc; npc = p; registers = linked i s.registers s.npc })) ≡ s
-unfolding undone keeps_register after_step
-jump_kept i n p s r h e = registers_same s _ h e
+sign_kept : (row : SignRow) (rs offset p : ℕ) (s : State) (r : Saved) → s.sp.halted ≡ false
+    → undone (kept_part (sign_part row) s r) (singled (record s { pc = s.npc; npc = p; registers = linked (BranchSign row rs offset) s.registers s.npc })) ≡ s
+unfolding undone kept_part saved restored after_step
+sign_kept Bltz rs offset p s r h = registers_same s _ h refl
+sign_kept Bgez rs offset p s r h = registers_same s _ h refl
+sign_kept Bltzal rs offset p s r h = registers_same s _ h (register-back s.registers 31 _)
+sign_kept Bgezal rs offset p s r h = registers_same s _ h (register-back s.registers 31 _)
+sign_kept Blez rs offset p s r h = registers_same s _ h refl
+sign_kept Bgtz rs offset p s r h = registers_same s _ h refl
 
-sign_back : (row : SignRow) (rs offset npc : ℕ) (r : List ℕ) → with_register (linked (BranchSign row rs offset) r npc) (sign_link row) (register r (sign_link row)) ≡ r
-sign_back Bltz rs offset npc r = refl
-sign_back Bgez rs offset npc r = refl
-sign_back Bltzal rs offset npc r = register-back r 31 _
-sign_back Bgezal rs offset npc r = register-back r 31 _
-sign_back Blez rs offset npc r = refl
-sign_back Bgtz rs offset npc r = refl
-
-jump_back : (row : JumpRow) (target npc : ℕ) (r : List ℕ) → with_register (linked (Jump row target) r npc) (jump_link row) (register r (jump_link row)) ≡ r
-jump_back J target npc r = refl
-jump_back Jal target npc r = register-back r 31 _
+jump_kept : (row : JumpRow) (target p : ℕ) (s : State) (r : Saved) → s.sp.halted ≡ false
+    → undone (kept_part (jump_part row) s r) (singled (record s { pc = s.npc; npc = p; registers = linked (Jump row target) s.registers s.npc })) ≡ s
+unfolding undone kept_part saved restored after_step
+jump_kept J target p s r h = registers_same s _ h refl
+jump_kept Jal target p s r h = registers_same s _ h (register-back s.registers 31 _)
 
 vector_move_kept : (row : MoveRow) (rt n e : ℕ) (s : State) (r : Saved) → s.sp.halted ≡ false
     → undone (kept (MoveVector row rt n e) s r) (singled (executed (MoveVector row rt n e) s)) ≡ s
-unfolding kept executed moves_vector moved_file
+unfolding part_of executed moves_vector moved_file
 vector_move_kept From rt n e s r h = register_kept rt _ (going_on s.npc) s r h
 vector_move_kept To rt n e s r h = vector_kept n _ s r h
 
 control_move_kept : (row : MoveRow) (rt : ℕ) (control : Control) (s : State) (r : Saved) → s.sp.halted ≡ false
     → undone (kept (MoveControl row rt control) s r) (singled (executed (MoveControl row rt control) s)) ≡ s
-unfolding kept executed moves_control
+unfolding part_of executed moves_control
 control_move_kept From rt control s r h = register_kept rt _ (going_on s.npc) s r h
 control_move_kept To rt control s r h = flags_kept _ s r h
 
 -- any instruction that starts no DMA
-kept_back : (i : Inst) (s : State) (r : Saved) → starts_dma i ≡ false → s.sp.halted ≡ false → undone (kept i s r) (singled (executed i s)) ≡ s
-unfolding kept executed computes loads stores jumps breaks multiplies rounds multiplies_mpeg reads_accumulator ruled divides loads_vector stores_vector loaded_file stored_memory
-kept_back (Shift row rd rt amount) s r e h = register_kept rd _ (going_on s.npc) s r h
-kept_back (ShiftBy row rd rt rs) s r e h = register_kept rd _ (going_on s.npc) s r h
-kept_back (Register row rd rs rt) s r e h = register_kept rd _ (going_on s.npc) s r h
-kept_back (Immediate row rt rs imm) s r e h = register_kept rt _ (going_on s.npc) s r h
-kept_back (LoadUpper rt imm) s r e h = register_kept rt _ (going_on s.npc) s r h
-kept_back (Load row rt offset base) s r e h = register_kept rt _ (going_on s.npc) s r h
-kept_back (Store row rt offset base) s r e h = bytes_kept (address s.registers base offset) _ s r h (store-back row s.dmem (address s.registers base offset) (register s.registers rt))
-kept_back (JumpRegister rs) s r e h = places_kept _ s r h
-kept_back (JumpLinkRegister rd rs) s r e h = register_kept rd _ _ s r h
-kept_back (BranchSign row rs offset) s r e h = jump_kept (BranchSign row rs offset) (sign_link row) _ s r h (sign_back row rs offset s.npc s.registers)
-kept_back (BranchEqual row rs rt offset) s r e h = places_kept _ s r h
-kept_back (Jump row target) s r e h = jump_kept (Jump row target) (jump_link row) _ s r h (jump_back row target s.npc s.registers)
-kept_back Break s r e h = sp_kept 0 0 _ s r h
-kept_back (MoveSp row rt n) s r e h = move_kept row rt n s r e h
-kept_back (MoveVector row rt n element) s r e h = vector_move_kept row rt n element s r h
-kept_back (MoveControl row rt control) s r e h = control_move_kept row rt control s r h
-kept_back (Multiply row vd vs vt n) s r e h = product_kept vd _ _ s r h
-kept_back (Round row vd vs vt n) s r e h = product_kept vd _ _ s r h
-kept_back (MpegMultiply row vd vs vt n) s r e h = product_kept vd _ _ s r h
-kept_back (ReadAccumulator vd vs vt n) s r e h = vector_kept vd _ s r h
-kept_back (VectorAdd row vd vs vt n) s r e h = rule_kept vd _ _ _ s r h
-kept_back (VectorSelect row vd vs vt n) s r e h = rule_kept vd _ _ _ s r h
-kept_back (VectorClip row vd vs vt n) s r e h = rule_kept vd _ _ _ s r h
-kept_back (VectorMerge vd vs vt n) s r e h = rule_kept vd _ _ _ s r h
-kept_back (VectorLogic row vd vs vt n) s r e h = rule_kept vd _ _ _ s r h
-kept_back (Lane row vd lane vt n) s r e h = lane_kept vd _ _ _ s r h
-kept_back (Idle row) s r e h = places_kept _ s r h
-kept_back (VectorLoad row vt n offset base) s r e h =
+kept_back : (i : Inst) (s : State) (r : Saved) → starts_dma i ≡ false → s.sp.halted ≡ false → AreFlags s.flags → undone (kept i s r) (singled (executed i s)) ≡ s
+unfolding part_of executed computes loads stores jumps breaks multiplies rounds multiplies_mpeg reads_accumulator ruled divides loads_vector stores_vector loaded_file stored_memory
+kept_back (Shift row rd rt amount) s r e h k = register_kept rd _ (going_on s.npc) s r h
+kept_back (ShiftBy row rd rt rs) s r e h k = register_kept rd _ (going_on s.npc) s r h
+kept_back (Register row rd rs rt) s r e h k = register_kept rd _ (going_on s.npc) s r h
+kept_back (Immediate row rt rs imm) s r e h k = register_kept rt _ (going_on s.npc) s r h
+kept_back (LoadUpper rt imm) s r e h k = register_kept rt _ (going_on s.npc) s r h
+kept_back (Load row rt offset base) s r e h k = register_kept rt _ (going_on s.npc) s r h
+kept_back (Store row rt offset base) s r e h k = bytes_kept (address s.registers base offset) _ s r h (store-back row s.dmem (address s.registers base offset) (register s.registers rt))
+kept_back (JumpRegister rs) s r e h k = places_kept _ s r h
+kept_back (JumpLinkRegister rd rs) s r e h k = register_kept rd _ _ s r h
+kept_back (BranchSign row rs offset) s r e h k = sign_kept row rs offset _ s r h
+kept_back (BranchEqual row rs rt offset) s r e h k = places_kept _ s r h
+kept_back (Jump row target) s r e h k = jump_kept row target _ s r h
+kept_back Break s r e h k = sp_kept 0 0 _ s r h
+kept_back (MoveSp row rt n) s r e h k = move_kept row rt n s r e h
+kept_back (MoveVector row rt n element) s r e h k = vector_move_kept row rt n element s r h
+kept_back (MoveControl row rt control) s r e h k = control_move_kept row rt control s r h
+kept_back (Multiply row vd vs vt n) s r e h k = product_kept vd _ _ s r h
+kept_back (Round row vd vs vt n) s r e h k = product_kept vd _ _ s r h
+kept_back (MpegMultiply row vd vs vt n) s r e h k = product_kept vd _ _ s r h
+kept_back (ReadAccumulator vd vs vt n) s r e h k = vector_kept vd _ s r h
+kept_back (VectorAdd row vd vs vt n) s r e h k = sum_kept vd _ _ _ s r h (sum-back (add_op row) _ _ s.flags k)
+kept_back (VectorSelect row vd vs vt n) s r e h k = choice_kept vd _ _ _ s r h (choice-back (select_op row) _ _ s.flags k)
+kept_back (VectorClip row vd vs vt n) s r e h k = clip_kept vd _ _ _ s r h
+kept_back (VectorMerge vd vs vt n) s r e h k = sum_kept vd _ _ _ s r h (merge-back _ _ s.flags k)
+kept_back (VectorLogic row vd vs vt n) s r e h k = logic_kept vd _ _ _ s r h (logic-back (logic_op row) _ _ s.flags k)
+kept_back (Lane row vd lane vt n) s r e h k = lane_kept vd _ _ _ s r h
+kept_back (Idle row) s r e h k = places_kept _ s r h
+kept_back (VectorLoad row vt n offset base) s r e h k =
     load_kept row vt _ s r h (loaded-back row s.dmem s.vectors vt n (transfer_address (VectorLoad row vt n offset base) (register s.registers base)))
-kept_back (VectorStore row vt n offset base) s r e h =
+kept_back (VectorStore row vt n offset base) s r e h k =
     let a : ℕ = transfer_address (VectorStore row vt n offset base) (register s.registers base) in
     bytes_kept (window_of row a) _ s r h (stored-back row vt n a s.vectors s.dmem)
 
@@ -228,22 +244,22 @@ not_true : (b : Bool) → not b ≡ true → b ≡ false
 not_true false e = refl
 not_true true e = cc
 
-word_back : (o : Option Inst) (word : ℕ) (s : State) (r : Saved) → s.sp.halted ≡ false → is_back_by o ≡ true → undone (kept_by o s r) (step_by o word s).1 ≡ s
-word_back None word s r h e = cc
-word_back (Some i) word s r h e = kept_back i s r (not_true (starts_dma i) e) h
+word_back : (o : Option Inst) (word : ℕ) (s : State) (r : Saved) → s.sp.halted ≡ false → AreFlags s.flags → is_back_by o ≡ true → undone (kept_by o s r) (step_by o word s).1 ≡ s
+word_back None word s r h k e = cc
+word_back (Some i) word s r h k e = kept_back i s r (not_true (starts_dma i) e) h k
 
-either_back : (b : Bool) (o : Option Inst) (word : ℕ) (s : State) (r : Saved) → s.sp.halted ≡ b → (if b then false else is_back_by o) ≡ true
+either_back : (b : Bool) (o : Option Inst) (word : ℕ) (s : State) (r : Saved) → s.sp.halted ≡ b → AreFlags s.flags → (if b then false else is_back_by o) ≡ true
     → undone (if b then r else kept_by o s r) (if b then (Halted, s) else step_by o word s).1 ≡ s
-either_back true o word s r h e = cc
-either_back false o word s r h e = word_back o word s r h e
+either_back true o word s r h k e = cc
+either_back false o word s r h k e = word_back o word s r h k e
 
-pub slot_back : (s : State) (r : Saved) → can_undo s ≡ true → undone (slot_after s r) (step_of s).1 ≡ s
-unfolding can_undo slot_after step_of
-slot_back s r e = either_back s.sp.halted (inst_of (word_at s.imem s.pc)) (word_at s.imem s.pc) s r refl e
+pub slot_back : (s : State) (r : Saved) → AreFlags s.flags → can_undo s ≡ true → undone (slot_after s r) (step_of s).1 ≡ s
+unfolding can_undo slot_after told_of step_of
+slot_back s r k e = either_back s.sp.halted (inst_of (word_at s.imem s.pc)) (word_at s.imem s.pc) s r refl k e
 
 -- the mark in the slot tells whether an instruction can be undone
-load_marked : (row : VectorLoadRow) (vt : ℕ) (s : State) (r : Saved) → is_back (keeps_loaded row vt s r).change ≡ true
-unfolding keeps_group keeps_vector
+load_marked : (row : VectorLoadRow) (vt : ℕ) (s : State) (r : Saved) → is_back (kept_part (loaded_part row vt) s r).part ≡ true
+unfolding kept_part saved
 load_marked Ltv vt s r = refl
 load_marked Lbv vt s r = refl
 load_marked Lsv vt s r = refl
@@ -256,13 +272,27 @@ load_marked Luv vt s r = refl
 load_marked Lhv vt s r = refl
 load_marked Lfv vt s r = refl
 
-move_marked : (b : Bool) (s : State) (r : Saved) → is_back (if b then keeps_nothing r else keeps_sp 0 s r).change ≡ not b
-unfolding keeps_nothing keeps_sp
+move_marked : (b : Bool) (s : State) (r : Saved) → is_back (kept_part (if b then of.Nothing else of.Sp 0) s r).part ≡ not b
+unfolding kept_part saved
 move_marked true s r = refl
 move_marked false s r = refl
 
-pub kept_marked : (i : Inst) (s : State) (r : Saved) → is_back (kept i s r).change ≡ not (starts_dma i)
-unfolding kept keeps_register keeps_places keeps_bytes keeps_vector keeps_product keeps_rule keeps_lane keeps_flags keeps_sp
+sign_marked : (row : SignRow) (s : State) (r : Saved) → is_back (kept_part (sign_part row) s r).part ≡ true
+unfolding kept_part saved
+sign_marked Bltz s r = refl
+sign_marked Bgez s r = refl
+sign_marked Bltzal s r = refl
+sign_marked Bgezal s r = refl
+sign_marked Blez s r = refl
+sign_marked Bgtz s r = refl
+
+jump_marked : (row : JumpRow) (s : State) (r : Saved) → is_back (kept_part (jump_part row) s r).part ≡ true
+unfolding kept_part saved
+jump_marked J s r = refl
+jump_marked Jal s r = refl
+
+pub kept_marked : (i : Inst) (s : State) (r : Saved) → is_back (kept i s r).part ≡ not (starts_dma i)
+unfolding part_of kept_part saved
 kept_marked (Shift row rd rt amount) s r = refl
 kept_marked (ShiftBy row rd rt rs) s r = refl
 kept_marked (Register row rd rs rt) s r = refl
@@ -272,9 +302,9 @@ kept_marked (Load row rt offset base) s r = refl
 kept_marked (Store row rt offset base) s r = refl
 kept_marked (JumpRegister rs) s r = refl
 kept_marked (JumpLinkRegister rd rs) s r = refl
-kept_marked (BranchSign row rs offset) s r = refl
+kept_marked (BranchSign row rs offset) s r = sign_marked row s r
 kept_marked (BranchEqual row rs rt offset) s r = refl
-kept_marked (Jump row target) s r = refl
+kept_marked (Jump row target) s r = jump_marked row s r
 kept_marked Break s r = refl
 kept_marked (MoveSp From rt n) s r = refl
 kept_marked (MoveSp To rt n) s r = move_marked (is_length n) s r
@@ -298,7 +328,7 @@ kept_marked (VectorStore row vt n offset base) s r = refl
 
 -- after a step that is Done the mark in the slot tells; after another one there is no way back
 done_by : (b : Bool) (o : Option Inst) (word : ℕ) (s : State) (r : Saved) → (if b then (Halted, s) else step_by o word s).0 ≡ Done
-    → (if b then false else is_back_by o) ≡ is_back (if b then r else kept_by o s r).change
+    → (if b then false else is_back_by o) ≡ is_back (if b then r else kept_by o s r).part
 done_by true o word s r e = cc
 done_by false None word s r e = cc
 done_by false (Some i) word s r e = sym (kept_marked i s r)
@@ -313,8 +343,8 @@ reserved_by true o word w s e = refl
 reserved_by false None word w s e = refl
 reserved_by false (Some i) word w s e = cc
 
-pub done_marked : (s : State) (r : Saved) → (step_of s).0 ≡ Done → can_undo s ≡ is_back (slot_after s r).change
-unfolding can_undo slot_after step_of
+pub done_marked : (s : State) (r : Saved) → (step_of s).0 ≡ Done → can_undo s ≡ is_back (slot_after s r).part
+unfolding can_undo slot_after told_of step_of
 done_marked s r e = done_by s.sp.halted (inst_of (word_at s.imem s.pc)) (word_at s.imem s.pc) s r e
 
 pub halted_marked : (s : State) → (step_of s).0 ≡ Halted → can_undo s ≡ false
@@ -325,7 +355,59 @@ pub reserved_marked : (s : State) (w : ℕ) → (step_of s).0 ≡ Reserved w →
 unfolding can_undo step_of
 reserved_marked s w e = reserved_by s.sp.halted (inst_of (word_at s.imem s.pc)) (word_at s.imem s.pc) w s e
 
-pub ruleset recording = (slot_back, done_marked, halted_marked, reserved_marked)
+-- a step whose record says that it stored nothing leaves DMEM
+written_stays : (b : Bool) (v n : ℕ) (s : State) (r : Saved) → is_length n ≡ b → may_store (kept_part (if b then of.Nothing else of.Sp 0) s r) ≡ false
+    → (register_written n v s).dmem ≡ s.dmem
+unfolding kept_part saved
+written_stays true v n s r e h = cc
+written_stays false v n s r e h = bank_same (not (is_imem s.sp)) n v s.sp s.rdram s.dmem (neither (n % 16 == 2) (n % 16 == 3) e).0
+
+kept_stays : (i : Inst) (s : State) (r : Saved) → may_store (kept i s r) ≡ false → (executed i s).dmem ≡ s.dmem
+unfolding part_of executed computes loads stores jumps breaks moves_sp multiplies rounds multiplies_mpeg reads_accumulator ruled divides loads_vector stores_vector moves_vector moves_control kept_part saved
+kept_stays (Shift row rd rt amount) s r h = refl
+kept_stays (ShiftBy row rd rt rs) s r h = refl
+kept_stays (Register row rd rs rt) s r h = refl
+kept_stays (Immediate row rt rs imm) s r h = refl
+kept_stays (LoadUpper rt imm) s r h = refl
+kept_stays (Load row rt offset base) s r h = refl
+kept_stays (Store row rt offset base) s r h = cc
+kept_stays (JumpRegister rs) s r h = refl
+kept_stays (JumpLinkRegister rd rs) s r h = refl
+kept_stays (BranchSign row rs offset) s r h = refl
+kept_stays (BranchEqual row rs rt offset) s r h = refl
+kept_stays (Jump row target) s r h = refl
+kept_stays Break s r h = refl
+kept_stays (MoveSp From rt n) s r h = refl
+kept_stays (MoveSp To rt n) s r h = written_stays (is_length n) (register s.registers rt) n s r refl h
+kept_stays (MoveVector From rt n element) s r h = refl
+kept_stays (MoveVector To rt n element) s r h = refl
+kept_stays (MoveControl From rt control) s r h = refl
+kept_stays (MoveControl To rt control) s r h = refl
+kept_stays (Multiply row vd vs vt n) s r h = refl
+kept_stays (Round row vd vs vt n) s r h = refl
+kept_stays (MpegMultiply row vd vs vt n) s r h = refl
+kept_stays (ReadAccumulator vd vs vt n) s r h = refl
+kept_stays (VectorAdd row vd vs vt n) s r h = refl
+kept_stays (VectorSelect row vd vs vt n) s r h = refl
+kept_stays (VectorClip row vd vs vt n) s r h = refl
+kept_stays (VectorMerge vd vs vt n) s r h = refl
+kept_stays (VectorLogic row vd vs vt n) s r h = refl
+kept_stays (Lane row vd lane vt n) s r h = refl
+kept_stays (Idle row) s r h = refl
+kept_stays (VectorLoad row vt n offset base) s r h = refl
+kept_stays (VectorStore row vt n offset base) s r h = cc
+
+stays_by : (b : Bool) (o : Option Inst) (word : ℕ) (s : State) (r : Saved) → (if b then (Halted, s) else step_by o word s).0 ≡ Done
+    → may_store (if b then r else kept_by o s r) ≡ false → (if b then (Halted, s) else step_by o word s).1.dmem ≡ s.dmem
+stays_by true o word s r e h = cc
+stays_by false None word s r e h = cc
+stays_by false (Some i) word s r e h = kept_stays i s r h
+
+pub memory_stays : (s : State) (r : Saved) → (step_of s).0 ≡ Done → may_store (slot_after s r) ≡ false → (step_of s).1.dmem ≡ s.dmem
+unfolding slot_after told_of step_of
+memory_stays s r e h = stays_by s.sp.halted (inst_of (word_at s.imem s.pc)) (word_at s.imem s.pc) s r e h
+
+pub ruleset recording = (slot_back, done_marked, halted_marked, reserved_marked, memory_stays)
 
 -- a step that isn't Done leaves all as it is
 halted_stays_by : (b : Bool) (o : Option Inst) (word : ℕ) (s : State) (r : Saved) → (if b then (Halted, s) else step_by o word s).0 ≡ Halted
@@ -341,9 +423,9 @@ reserved_stays_by false None word w s r e = (refl, refl)
 reserved_stays_by false (Some i) word w s r e = cc
 
 pub halted_stays : (s : State) (r : Saved) → (step_of s).0 ≡ Halted → ((step_of s).1 ≡ s) × (slot_after s r ≡ r)
-unfolding slot_after step_of
+unfolding slot_after told_of step_of
 halted_stays s r e = halted_stays_by s.sp.halted (inst_of (word_at s.imem s.pc)) (word_at s.imem s.pc) s r e
 
 pub reserved_stays : (s : State) (r : Saved) (w : ℕ) → (step_of s).0 ≡ Reserved w → ((step_of s).1 ≡ s) × (slot_after s r ≡ r)
-unfolding slot_after step_of
+unfolding slot_after told_of step_of
 reserved_stays s r w e = reserved_stays_by s.sp.halted (inst_of (word_at s.imem s.pc)) (word_at s.imem s.pc) w s r e

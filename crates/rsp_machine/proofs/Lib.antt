@@ -1,4 +1,5 @@
 pub mod Back
 pub mod Undoing
 pub mod Loading
+pub mod Flagging
 pub mod Kept

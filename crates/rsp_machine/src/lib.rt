@@ -5,11 +5,11 @@
 //! the states before and after it.
 #![tactic(auto)]
 
-mod change;
 mod host;
 pub mod laws;
 mod machine;
 mod ops;
+mod part;
 mod record;
 mod recorder;
 mod step;

@@ -3,16 +3,20 @@
 ghost use Rattle.std.specs.Prelude.{◌≡◌, ◌<◌, ◌≤◌};
 ghost use Rattle.rsp_scalar.specs.Registers.{register};
 ghost use Rattle.rsp_scalar.specs.Rows.{address};
+ghost use Rattle.rsp_loadstore.specs.File.{register as vector};
 ghost use Rattle.rsp_loadstore.specs.Addresses.{transfer_address};
-ghost use Rattle.rsp_machine.specs.Saved.{blank, is_back, keeps_register, keeps_places, keeps_bytes, keeps_vector, keeps_group, keeps_product, keeps_rule, keeps_lane, keeps_flags, keeps_sp, keeps_nothing, keeps_loaded, window_of, with_group, with_product, undone};
+ghost use Rattle.rsp_machine.specs.declared.part.Part.TheVariants as part;
+ghost use Rattle.rsp_machine.specs.Saved.{IsPart, blank, is_back, may_store, window_of, group_at, with_group, with_product, undone};
 
-use crate::change::Change;
 use crate::machine::Machine;
+use crate::part::Part;
+use crate::visits::Keeper;
 use rsp_acc::{Acc, Addends};
-use rsp_decode::{Inst, VectorLoadRow, VectorStoreRow};
+use rsp_decode::{Inst, VectorStoreRow};
 use rsp_divide::Divider;
 use rsp_flags::Flags;
 use rsp_lanes::VReg;
+use rsp_loadstore::VFile;
 use rsp_regs::SpRegs;
 use std::marker::Model;
 
@@ -21,11 +25,8 @@ use std::marker::Model;
 #[derive(Drop)]
 pub struct Record {
     pc: u16,
-    change: Change,
-    number: u8,
-    group: u8,
+    part: Part,
     word: u32,
-    address: u32,
     bytes: [u8; 16],
     vector: VReg,
     accumulators: Addends,
@@ -36,20 +37,17 @@ pub struct Record {
 }
 
 impl Model for Record {
-    ghost use Rattle.std.specs.Prelude.{◌≡◌, ◌<◌, ◌≤◌, ◌%◌};
-    ghost use Rattle.rsp_machine.specs.Saved.{Saved};
+    ghost use Rattle.std.specs.Prelude.{◌≡◌, ◌<◌, ◌%◌};
+    ghost use Rattle.rsp_machine.specs.Saved.{Saved, IsPart};
 
     ghost Value = { Saved };
 
     ghost view = { λ r. record {
       pc = r.pc;
-      change = r.change;
-      number = r.number;
+      part = r.part;
       word = r.word;
-      address = r.address;
       bytes = r.bytes;
       vector = r.vector;
-      group = r.group;
       vectors = r.vectors;
       accumulators = r.accumulators;
       flags = r.flags;
@@ -57,7 +55,7 @@ impl Model for Record {
       sp = r.sp;
     } };
 
-    ghost invariant = { λ r. (r.pc < 4096) × (r.pc % 4 ≡ 0) × (r.number < 32) × (r.group ≤ 24) };
+    ghost invariant = { λ r. (r.pc < 4096) × (r.pc % 4 ≡ 0) × IsPart r.part };
 }
 
 impl Record {
@@ -69,11 +67,8 @@ impl Record {
         let zeros = VReg::new();
         Record {
             pc: 0,
-            change: Change::Nothing,
-            number: 0,
-            group: 0,
+            part: Part::Nothing,
             word: 0,
-            address: 0,
             bytes: [0; 16],
             vector: zeros,
             accumulators: Addends::zero(),
@@ -87,226 +82,166 @@ impl Record {
     /// Whether a way leads back.
     #[inline(always)]
     pub(crate) fn is_back(&self) -> bool
-        ensures { result ≡ is_back self.now.change }
+        ensures { result ≡ is_back self.now.part }
     {
-        self.change != Change::Nothing
+        !matches!(self.part, Part::Nothing)
     }
-}
 
-impl<A: Acc> Machine<A> {
-    /// Keeps scalar register `n`.
+    /// Whether the step that this slot was last written by may have changed DMEM.
     #[inline(always)]
-    #[tactic(auto, unfolding(crate::specs::Saved::keeps_register))]
-    pub(crate) fn keep_register(&self, slot: &mut Record, n: u8)
-        requires { n < 32 }
-        ensures { slot.new ≡ keeps_register n self.now slot.old }
+    pub fn may_store(&self) -> bool
+        ensures { result ≡ may_store self.now }
     {
-        slot.pc = self.pc;
-        slot.change = Change::Register;
-        slot.number = n;
-        slot.word = self.regs.get(n);
-    }
-
-    /// Keeps the place alone.
-    #[inline(always)]
-    #[tactic(auto, unfolding(crate::specs::Saved::keeps_places))]
-    pub(crate) fn keep_places(&self, slot: &mut Record)
-        ensures { slot.new ≡ keeps_places self.now slot.old }
-    {
-        slot.pc = self.pc;
-        slot.change = Change::Register;
-        slot.number = 0;
-    }
-
-    /// Keeps the sixteen bytes of DMEM from an address on.
-    #[inline(always)]
-    #[tactic(auto, unfolding(crate::specs::Saved::keeps_bytes))]
-    pub(crate) fn keep_bytes(&self, slot: &mut Record, a: u32)
-        ensures { slot.new ≡ keeps_bytes a self.now slot.old }
-    {
-        slot.pc = self.pc;
-        slot.change = Change::Bytes;
-        slot.address = a;
-        slot.bytes = self.dmem.window(a);
-    }
-
-    /// Keeps vector register `n`.
-    #[inline(always)]
-    #[tactic(auto, unfolding(crate::specs::Saved::keeps_vector))]
-    pub(crate) fn keep_vector(&self, slot: &mut Record, n: u8)
-        requires { n < 32 }
-        ensures { slot.new ≡ keeps_vector n self.now slot.old }
-    {
-        slot.pc = self.pc;
-        slot.change = Change::Vector;
-        slot.number = n;
-        slot.vector = self.vregs.reg(n);
-    }
-
-    /// Keeps the eight vector registers from `n` on.
-    #[cold]
-    #[tactic(auto, unfolding(crate::specs::Saved::keeps_group))]
-    pub(crate) fn keep_group(&self, slot: &mut Record, n: u8)
-        requires { n ≤ 24 }
-        ensures { slot.new ≡ keeps_group n self.now slot.old }
-    {
-        slot.pc = self.pc;
-        slot.change = Change::Group;
-        slot.group = n;
-        let vectors = [
-            self.vregs.reg(n),
-            self.vregs.reg(n + 1),
-            self.vregs.reg(n + 2),
-            self.vregs.reg(n + 3),
-            self.vregs.reg(n + 4),
-            self.vregs.reg(n + 5),
-            self.vregs.reg(n + 6),
-            self.vregs.reg(n + 7),
-        ];
-        slot.vectors = vectors;
+        matches!(self.part, Part::Bytes(_) | Part::Nothing)
     }
 
     /// Keeps vector register `n` and the accumulators.
     #[inline(always)]
-    #[tactic(auto, unfolding(crate::specs::Saved::keeps_product))]
-    pub(crate) fn keep_product(&self, slot: &mut Record, n: u8)
+    fn keep_product<A: Acc>(&mut self, machine: &Machine<A>, n: u32)
         requires { n < 32 }
-        ensures { slot.new ≡ keeps_product n self.now slot.old }
+        ensures { self.new ≡ record self.old { vector = vector machine.now.vectors n; accumulators = machine.now.accumulators } }
     {
-        slot.pc = self.pc;
-        slot.change = Change::Product;
-        slot.number = n;
-        slot.vector = self.vregs.reg(n);
-        slot.accumulators = Addends::of(&self.acc);
+        self.vector = machine.vregs.reg(n as u8);
+        self.accumulators = Addends::of(&machine.acc);
     }
 
-    /// Keeps vector register `n`, the accumulators and the flags.
+    /// Keeps the flags of VCO.
     #[inline(always)]
-    #[tactic(auto, unfolding(crate::specs::Saved::keeps_rule))]
-    pub(crate) fn keep_rule(&self, slot: &mut Record, n: u8)
-        requires { n < 32 }
-        ensures { slot.new ≡ keeps_rule n self.now slot.old }
+    fn keep_vco(&mut self, flags: &Flags)
+        ensures { self.new ≡ record self.old { flags = record self.old.flags { carry = flags.now.carry; differ = flags.now.differ } } }
     {
-        slot.pc = self.pc;
-        slot.change = Change::Rule;
-        slot.number = n;
-        slot.vector = self.vregs.reg(n);
-        slot.accumulators = Addends::of(&self.acc);
-        slot.flags = self.flags;
+        self.flags.carry = flags.carry;
+        self.flags.differ = flags.differ;
     }
 
-    /// Keeps vector register `n`, the accumulators and the divider.
-    #[inline(always)]
-    #[tactic(auto, unfolding(crate::specs::Saved::keeps_lane))]
-    pub(crate) fn keep_lane(&self, slot: &mut Record, n: u8)
-        requires { n < 32 }
-        ensures { slot.new ≡ keeps_lane n self.now slot.old }
+    /// Keeps the eight vector registers from `n` on.
+    #[cold]
+    fn keep_group(&mut self, file: &VFile, n: u32)
+        requires { n ≤ 24 }
+        ensures { self.new ≡ record self.old { vectors = group_at file.now n } }
     {
-        slot.pc = self.pc;
-        slot.change = Change::Lane;
-        slot.number = n;
-        slot.vector = self.vregs.reg(n);
-        slot.accumulators = Addends::of(&self.acc);
-        slot.divider = self.divider;
+        let n = n as u8;
+        let vectors = [
+            file.reg(n),
+            file.reg(n + 1),
+            file.reg(n + 2),
+            file.reg(n + 3),
+            file.reg(n + 4),
+            file.reg(n + 5),
+            file.reg(n + 6),
+            file.reg(n + 7),
+        ];
+        self.vectors = vectors;
     }
+}
 
-    /// Keeps the flags.
-    #[inline(always)]
-    #[tactic(auto, unfolding(crate::specs::Saved::keeps_flags))]
-    pub(crate) fn keep_flags(&self, slot: &mut Record)
-        ensures { slot.new ≡ keeps_flags self.now slot.old }
-    {
-        slot.pc = self.pc;
-        slot.change = Change::Flags;
-        slot.flags = self.flags;
-    }
+impl Keeper for Record {
+    ghost use Rattle.rsp_machine.specs.Saved.{kept_part};
 
-    /// Marks that no way leads back.
-    #[inline(always)]
-    #[tactic(auto, unfolding(crate::specs::Saved::keeps_nothing))]
-    pub(crate) fn keep_nothing(&self, slot: &mut Record)
-        ensures { slot.new ≡ keeps_nothing slot.old }
-    {
-        slot.change = Change::Nothing;
-    }
+    ghost keeps = { kept_part };
 
-    /// Keeps the SP registers and scalar register `n`.
     #[inline(always)]
-    #[tactic(auto, unfolding(crate::specs::Saved::keeps_sp))]
-    pub(crate) fn keep_sp(&self, slot: &mut Record, n: u8)
-        requires { n < 32 }
-        ensures { slot.new ≡ keeps_sp n self.now slot.old }
-    {
-        slot.pc = self.pc;
-        slot.change = Change::Sp;
-        slot.number = n;
-        slot.word = self.regs.get(n);
-        slot.sp = self.sp;
-    }
-
-    /// Keeps what a vector load into `vt` changes: LTV writes the eight registers of its group.
-    #[inline(always)]
-    pub(crate) fn keep_loaded(&self, slot: &mut Record, row: VectorLoadRow, vt: u8)
-        requires { vt < 32 }
-        ensures { slot.new ≡ keeps_loaded row vt self.now slot.old }
-    {
-        match row {
-            VectorLoadRow::Ltv => self.keep_group(slot, vt - vt % 8),
-            _ => self.keep_vector(slot, vt),
+    #[tactic(auto, unfolding(crate::specs::Saved::kept_part, crate::specs::Saved::saved))]
+    fn keep<A: Acc>(&mut self, machine: &Machine<A>, part: Part) {
+        self.pc = machine.pc;
+        self.part = part;
+        match part {
+            Part::Places | Part::Nothing => (),
+            Part::Register(n) => self.word = machine.regs.get(n as u8),
+            Part::Bytes(a) => self.bytes = machine.dmem.window(a),
+            Part::Vector(n) => self.vector = machine.vregs.reg(n as u8),
+            Part::Group(n) => self.keep_group(&machine.vregs, n),
+            Part::Product(n) => self.keep_product(machine, n),
+            Part::Sum(n) => {
+                self.keep_product(machine, n);
+                self.keep_vco(&machine.flags);
+            }
+            Part::Choice(n) => {
+                self.keep_product(machine, n);
+                self.keep_vco(&machine.flags);
+                self.flags.compare = machine.flags.compare;
+                self.flags.clip = machine.flags.clip;
+            }
+            Part::Clip(n) => {
+                self.keep_product(machine, n);
+                self.flags = machine.flags;
+            }
+            Part::Lane(n) => {
+                self.keep_product(machine, n);
+                self.divider = machine.divider;
+            }
+            Part::Flags => self.flags = machine.flags,
+            Part::Sp(n) => {
+                self.word = machine.regs.get(n as u8);
+                self.sp = machine.sp;
+            }
         }
     }
+}
 
-    /// Keeps the bytes of DMEM that a scalar store writes.
+impl<A: Acc> Machine<A> {
+    /// The bytes of DMEM that a scalar store writes among.
     #[inline(always)]
-    pub(crate) fn keep_stored(&self, slot: &mut Record, offset: u16, base: u8)
+    pub(crate) fn stored_part(&self, offset: u16, base: u8) -> Part
         requires { base < 32 }
-        ensures { slot.new ≡ keeps_bytes (address self.now.registers base offset) self.now slot.old }
+        ensures { result ≡ part.Bytes (address self.now.registers base offset) }
     {
-        let a = rsp_scalar::address(&self.regs, base, offset);
-        self.keep_bytes(slot, a);
+        Part::Bytes(rsp_scalar::address(&self.regs, base, offset))
     }
 
-    /// Keeps the bytes of DMEM that a vector store writes among.
+    /// The bytes of DMEM that a vector store writes among.
     #[inline(always)]
-    pub(crate) fn keep_window(&self, slot: &mut Record, inst: &Inst, row: VectorStoreRow, base: u8)
+    pub(crate) fn window_part(&self, inst: &Inst, row: VectorStoreRow, base: u8) -> Part
         requires { base < 32 }
-        ensures { slot.new ≡ keeps_bytes (window_of row (transfer_address inst.now (register self.now.registers base))) self.now slot.old }
+        ensures { result ≡ part.Bytes (window_of row (transfer_address inst.now (register self.now.registers base))) }
     {
         let a = rsp_loadstore::address(inst, self.regs.get(base));
-        let at = match row {
+        Part::Bytes(match row {
             VectorStoreRow::Srv => a - a % 16,
             _ => a - a % 8,
-        };
-        self.keep_bytes(slot, at);
+        })
     }
 
     /// Undoes a step: writes back what the step changed, and goes back to its place. On the state after the step this
     /// gives the whole state before it. A blank, and what [`Machine::record_step`] leaves of a step that starts a DMA,
     /// change nothing.
-    #[tactic(auto, unfolding(crate::specs::Saved::undone))]
+    #[tactic(auto, unfolding(crate::specs::Saved::undone, crate::specs::Saved::restored))]
     pub fn undo(&mut self, slot: &Record)
         ensures { self.new ≡ undone slot.now self.old }
     {
-        match slot.change {
-            Change::Register => self.regs.set(slot.number, slot.word),
-            Change::Bytes => self.dmem.set_bytes(slot.address, &slot.bytes),
-            Change::Vector => self.vregs.set_reg(slot.number, slot.vector),
-            Change::Group => self.put_group(slot.group, &slot.vectors),
-            Change::Product => self.put_product(slot),
-            Change::Rule => {
-                self.put_product(slot);
+        match slot.part {
+            Part::Places => (),
+            Part::Register(n) => self.regs.set(n as u8, slot.word),
+            Part::Bytes(a) => self.dmem.set_bytes(a, &slot.bytes),
+            Part::Vector(n) => self.vregs.set_reg(n as u8, slot.vector),
+            Part::Group(n) => self.put_group(n as u8, &slot.vectors),
+            Part::Product(n) => self.put_product(n, slot),
+            Part::Sum(n) => {
+                self.put_product(n, slot);
+                self.flags.carry = slot.flags.carry;
+                self.flags.differ = slot.flags.differ;
+            }
+            Part::Choice(n) => {
+                self.put_product(n, slot);
+                self.flags.carry = slot.flags.carry;
+                self.flags.differ = slot.flags.differ;
+                self.flags.compare = slot.flags.compare;
+                self.flags.clip = slot.flags.clip;
+            }
+            Part::Clip(n) => {
+                self.put_product(n, slot);
                 self.flags = slot.flags;
             }
-            Change::Lane => {
-                self.put_product(slot);
+            Part::Lane(n) => {
+                self.put_product(n, slot);
                 self.divider = slot.divider;
             }
-            Change::Flags => self.flags = slot.flags,
-            Change::Sp => {
-                self.regs.set(slot.number, slot.word);
+            Part::Flags => self.flags = slot.flags,
+            Part::Sp(n) => {
+                self.regs.set(n as u8, slot.word);
                 self.sp = slot.sp;
             }
-            Change::Nothing => return,
+            Part::Nothing => return,
         }
         self.sp.resume();
         self.npc = self.pc;
@@ -314,10 +249,11 @@ impl<A: Acc> Machine<A> {
     }
 
     /// Writes back a vector register and the accumulators.
-    fn put_product(&mut self, slot: &Record)
-        ensures { self.new ≡ with_product slot.now self.old }
+    fn put_product(&mut self, n: u32, slot: &Record)
+        requires { n < 32 }
+        ensures { self.new ≡ with_product n slot.now self.old }
     {
-        self.vregs.set_reg(slot.number, slot.vector);
+        self.vregs.set_reg(n as u8, slot.vector);
         self.acc.replace(&slot.accumulators);
     }
 

@@ -2,10 +2,11 @@ ghost use Rattle.std.specs.Prelude.{◌≡◌, ◌<◌, ◌%◌};
 ghost use Rattle.rsp_decode.specs.Table.{IsInstruction};
 ghost use Rattle.rsp_machine.specs.Step.{computes, loads, stores, jumps, breaks, moves_sp, step_of};
 ghost use Rattle.rsp_machine.specs.State.{advanced};
+ghost use Rattle.rsp_machine.specs.Saved.{told_of};
 ghost use Rattle.rsp_scalar.specs.Flow.{going_on};
 
 use crate::machine::Machine;
-use crate::visits::Executor;
+use crate::visits::{Executor, Keeper, Unkept};
 use rsp_acc::Acc;
 use rsp_decode::{Inst, MoveRow, visit};
 use rsp_scalar::{alu, jump, load, store};
@@ -119,25 +120,39 @@ impl<A: Acc> Machine<A> {
         self.advance();
     }
 
-    /// One step: Halted where the machine is halted, else Reserved where the word of IMEM at pc is, and
-    /// in both cases nothing changes. Else the instruction there is executed, by the instruction table;
-    /// then, where single step is set in the state that it made, the machine is halted. The answer is
-    /// Done.
+    /// One step, of which a keeper is told.
     #[inline(always)]
-    #[tactic(auto, unfolding(crate::specs::Step::step_of))]
-    pub fn step(&mut self) -> StepEnd
+    #[tactic(auto, unfolding(crate::specs::Step::step_of, crate::specs::Saved::told_of))]
+    pub(crate) fn step_told<K: Keeper>(&mut self, keeper: &mut K) -> StepEnd
         ensures answer { result ≡ (step_of self.old).0 }
         ensures state { self.new ≡ (step_of self.old).1 }
+        ensures keeper { keeper.new ≡ told_of K.keeps self.old keeper.old }
     {
         if self.sp.halted() {
             return StepEnd::Halted;
         }
-        let word = self.imem.word(u32::from(self.pc));
-        let mut executor = Executor { machine: self };
+        let word = self.imem.aligned_word(self.pc);
+        let mut executor = Executor {
+            machine: self,
+            keeper,
+        };
         if !visit(word, &mut executor) {
             return StepEnd::Reserved { word };
         }
         self.sp.on_step();
         StepEnd::Done
+    }
+
+    /// One step: Halted where the machine is halted, else Reserved where the word of IMEM at pc is, and
+    /// in both cases nothing changes. Else the instruction there is executed, by the instruction table;
+    /// then, where single step is set in the state that it made, the machine is halted. The answer is
+    /// Done.
+    #[inline(always)]
+    pub fn step(&mut self) -> StepEnd
+        ensures answer { result ≡ (step_of self.old).0 }
+        ensures state { self.new ≡ (step_of self.old).1 }
+    {
+        let mut keeper = Unkept;
+        self.step_told(&mut keeper)
     }
 }

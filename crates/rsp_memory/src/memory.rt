@@ -1,4 +1,4 @@
-ghost use Rattle.std.specs.Prelude.{◌≡◌, ◌≤◌, ◌%◌, ◌*◌, ◌/◌, ℕ, List, length, take, drop};
+ghost use Rattle.std.specs.Prelude.{◌≡◌, ◌<◌, ◌≤◌, ◌%◌, ◌*◌, ◌/◌, ℕ, List, length, take, drop};
 ghost use Rattle.rsp_memory.specs.Memory.{empty_memory, byte_at, half_at, word_at, with_byte, with_half, with_word, bytes_at, with_bytes};
 
 use crate::splice::splice;
@@ -92,6 +92,23 @@ impl SpMem {
         } else {
             self.wrapping_word(a)
         }
+    }
+
+    /// The 32 bits at a place, a multiple of 4 below 4096, from which no word wraps.
+    #[inline(always)]
+    #[tactic(auto, unfolding(crate::specs::Memory::word_at, crate::specs::Memory::byte_at))]
+    pub fn aligned_word(&self, place: u16) -> u32
+        requires below { place < 4096 }
+        requires whole { place % 4 ≡ 0 }
+        ensures { result ≡ word_at self.now place }
+    {
+        let at = usize::from(place);
+        BigEndian::read_u32(&[
+            self.bytes[at],
+            self.bytes[at + 1],
+            self.bytes[at + 2],
+            self.bytes[at + 3],
+        ])
     }
 
     /// The 32 bits from an address on, of which some may wrap.
