@@ -30,7 +30,7 @@ use Rattle.rsp_machine.specs.Vector.{multiplies, rounds, multiplies_mpeg, reads_
 use Rattle.rsp_machine.specs.Step.{computes, loads, stores, jumps, breaks, moves_sp, executed, singled, step_by, step_of}
 use Rattle.rsp_machine.specs.Host.{register_written}
 use Rattle.rsp_machine.specs.declared.step.StepEnd.TheVariants.{Done, Halted, Reserved}
-use Rattle.rsp_machine.specs.Saved.{Saved, kept, undone, starts_dma, is_length, sign_link, jump_link, keeps_register, keeps_places, keeps_bytes, keeps_vector, keeps_group, keeps_product, keeps_rule, keeps_lane, keeps_flags, keeps_sp, keeps_nothing, keeps_loaded, group_at, with_group, window_of, is_back_by, kept_by, can_undo, slot_after, is_back}
+use Rattle.rsp_machine.specs.Saved.{Saved, kept, undone, starts_dma, is_length, sign_link, jump_link, keeps_register, keeps_places, keeps_bytes, keeps_vector, keeps_group, keeps_product, keeps_rule, keeps_lane, keeps_flags, keeps_sp, keeps_nothing, keeps_loaded, may_store, group_at, with_group, window_of, is_back_by, kept_by, can_undo, slot_after, is_back}
 use Rattle.rsp_machine.proofs.Undoing.{register-back, vector-back, store-back, stored-back}
 use Rattle.rsp_machine.proofs.Loading.{loaded-back, put_back}
 
@@ -325,7 +325,59 @@ pub reserved_marked : (s : State) (w : ℕ) → (step_of s).0 ≡ Reserved w →
 unfolding can_undo step_of
 reserved_marked s w e = reserved_by s.sp.halted (inst_of (word_at s.imem s.pc)) (word_at s.imem s.pc) w s e
 
-pub ruleset recording = (slot_back, done_marked, halted_marked, reserved_marked)
+-- a step whose record says that it stored nothing leaves DMEM
+written_stays : (b : Bool) (v n : ℕ) (s : State) (r : Saved) → is_length n ≡ b → may_store (if b then keeps_nothing r else keeps_sp 0 s r) ≡ false
+    → (register_written n v s).dmem ≡ s.dmem
+unfolding keeps_nothing
+written_stays true v n s r e h = cc
+written_stays false v n s r e h = bank_same (not (is_imem s.sp)) n v s.sp s.rdram s.dmem (neither (n % 16 == 2) (n % 16 == 3) e).0
+
+kept_stays : (i : Inst) (s : State) (r : Saved) → may_store (kept i s r) ≡ false → (executed i s).dmem ≡ s.dmem
+unfolding kept executed computes loads stores jumps breaks moves_sp multiplies rounds multiplies_mpeg reads_accumulator ruled divides loads_vector stores_vector moves_vector moves_control keeps_bytes
+kept_stays (Shift row rd rt amount) s r h = refl
+kept_stays (ShiftBy row rd rt rs) s r h = refl
+kept_stays (Register row rd rs rt) s r h = refl
+kept_stays (Immediate row rt rs imm) s r h = refl
+kept_stays (LoadUpper rt imm) s r h = refl
+kept_stays (Load row rt offset base) s r h = refl
+kept_stays (Store row rt offset base) s r h = cc
+kept_stays (JumpRegister rs) s r h = refl
+kept_stays (JumpLinkRegister rd rs) s r h = refl
+kept_stays (BranchSign row rs offset) s r h = refl
+kept_stays (BranchEqual row rs rt offset) s r h = refl
+kept_stays (Jump row target) s r h = refl
+kept_stays Break s r h = refl
+kept_stays (MoveSp From rt n) s r h = refl
+kept_stays (MoveSp To rt n) s r h = written_stays (is_length n) (register s.registers rt) n s r refl h
+kept_stays (MoveVector From rt n element) s r h = refl
+kept_stays (MoveVector To rt n element) s r h = refl
+kept_stays (MoveControl From rt control) s r h = refl
+kept_stays (MoveControl To rt control) s r h = refl
+kept_stays (Multiply row vd vs vt n) s r h = refl
+kept_stays (Round row vd vs vt n) s r h = refl
+kept_stays (MpegMultiply row vd vs vt n) s r h = refl
+kept_stays (ReadAccumulator vd vs vt n) s r h = refl
+kept_stays (VectorAdd row vd vs vt n) s r h = refl
+kept_stays (VectorSelect row vd vs vt n) s r h = refl
+kept_stays (VectorClip row vd vs vt n) s r h = refl
+kept_stays (VectorMerge vd vs vt n) s r h = refl
+kept_stays (VectorLogic row vd vs vt n) s r h = refl
+kept_stays (Lane row vd lane vt n) s r h = refl
+kept_stays (Idle row) s r h = refl
+kept_stays (VectorLoad row vt n offset base) s r h = refl
+kept_stays (VectorStore row vt n offset base) s r h = cc
+
+stays_by : (b : Bool) (o : Option Inst) (word : ℕ) (s : State) (r : Saved) → (if b then (Halted, s) else step_by o word s).0 ≡ Done
+    → may_store (if b then r else kept_by o s r) ≡ false → (if b then (Halted, s) else step_by o word s).1.dmem ≡ s.dmem
+stays_by true o word s r e h = cc
+stays_by false None word s r e h = cc
+stays_by false (Some i) word s r e h = kept_stays i s r h
+
+pub memory_stays : (s : State) (r : Saved) → (step_of s).0 ≡ Done → may_store (slot_after s r) ≡ false → (step_of s).1.dmem ≡ s.dmem
+unfolding slot_after step_of
+memory_stays s r e h = stays_by s.sp.halted (inst_of (word_at s.imem s.pc)) (word_at s.imem s.pc) s r e h
+
+pub ruleset recording = (slot_back, done_marked, halted_marked, reserved_marked, memory_stays)
 
 -- a step that isn't Done leaves all as it is
 halted_stays_by : (b : Bool) (o : Option Inst) (word : ℕ) (s : State) (r : Saved) → (if b then (Halted, s) else step_by o word s).0 ≡ Halted

@@ -199,6 +199,15 @@ abbrev pub is_back : Change → Bool
 is_back of.Nothing = false
 is_back _ = true
 
+-- whether the step that a record was kept of may have changed DMEM: it stored there, or it started a DMA
+abbrev pub changes_memory : Change → Bool
+changes_memory of.Bytes = true
+changes_memory of.Nothing = true
+changes_memory _ = false
+
+abbrev pub may_store : Saved → Bool
+may_store r = changes_memory r.change
+
 -- a vector register and the accumulators, written back
 abbrev pub with_product : Saved → State → State
 with_product r s = record s { vectors = with_vector s.vectors r.number r.vector; accumulators = r.accumulators }

@@ -4,7 +4,7 @@ ghost use Rattle.std.specs.Prelude.{◌≡◌, ◌<◌, ◌≤◌};
 ghost use Rattle.rsp_scalar.specs.Registers.{register};
 ghost use Rattle.rsp_scalar.specs.Rows.{address};
 ghost use Rattle.rsp_loadstore.specs.Addresses.{transfer_address};
-ghost use Rattle.rsp_machine.specs.Saved.{blank, is_back, keeps_register, keeps_places, keeps_bytes, keeps_vector, keeps_group, keeps_product, keeps_rule, keeps_lane, keeps_flags, keeps_sp, keeps_nothing, keeps_loaded, window_of, with_group, with_product, undone};
+ghost use Rattle.rsp_machine.specs.Saved.{blank, is_back, may_store, keeps_register, keeps_places, keeps_bytes, keeps_vector, keeps_group, keeps_product, keeps_rule, keeps_lane, keeps_flags, keeps_sp, keeps_nothing, keeps_loaded, window_of, with_group, with_product, undone};
 
 use crate::change::Change;
 use crate::machine::Machine;
@@ -90,6 +90,14 @@ impl Record {
         ensures { result ≡ is_back self.now.change }
     {
         self.change != Change::Nothing
+    }
+
+    /// Whether the step that this slot was last written by may have changed DMEM.
+    #[inline(always)]
+    pub fn may_store(&self) -> bool
+        ensures { result ≡ may_store self.now }
+    {
+        matches!(self.change, Change::Bytes | Change::Nothing)
     }
 }
 

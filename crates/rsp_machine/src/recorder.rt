@@ -1,9 +1,9 @@
 // The machine with a slot takes the instructions of the table: what an instruction changes is kept in the slot,
 // and then the machine takes it.
 
-ghost use Rattle.std.specs.Prelude.{◌≡◌, ◌↔◌, true, IsSome, IfSome};
+ghost use Rattle.std.specs.Prelude.{◌≡◌, ◌↔◌, true, false, IsSome, IfSome};
 ghost use Rattle.rsp_machine.specs.Step.{step_of};
-ghost use Rattle.rsp_machine.specs.Saved.{slot_after, can_undo, undone};
+ghost use Rattle.rsp_machine.specs.Saved.{slot_after, can_undo, may_store, undone};
 
 use crate::change::Change;
 use crate::machine::Machine;
@@ -385,6 +385,7 @@ impl<A: Acc> Machine<A> {
     /// One step, as [`Machine::step`] makes it, with what it changed kept in a slot. The answer beside the step's is
     /// whether [`Machine::undo`] leads back: exactly where the step is Done and started no DMA. Where it isn't Done the
     /// slot stays.
+    /// A step that is Done changes DMEM only where [`Record::may_store`] of the slot says so.
     #[inline(always)]
     #[tactic(auto, using(crate::proofs::Kept::recording))]
     pub fn record_step(&mut self, slot: &mut Record) -> (StepEnd, bool)
@@ -393,6 +394,7 @@ impl<A: Acc> Machine<A> {
         ensures slot { slot.new ≡ slot_after self.old slot.old }
         ensures which { result.1 ≡ can_undo self.old }
         ensures back { can_undo self.old ≡ true → undone slot.new self.new ≡ self.old }
+        ensures memory { result.0 ≡ StepEnd.Done → may_store slot.new ≡ false → self.new.dmem ≡ self.old.dmem }
     {
         let end = self.step_into(slot);
         let is_back = match end {
