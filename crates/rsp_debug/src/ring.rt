@@ -1,4 +1,4 @@
-ghost use Rattle.std.specs.Prelude.{◌≡◌, ◌<◌, ◌≤◌, [], length, drop, slice_index_or, IfOk};
+ghost use Rattle.std.specs.Prelude.{◌≡◌, ◌<◌, ◌≤◌, [], false, length, drop, slice_index_or, IfOk};
 ghost use Rattle.rsp_machine.specs.Step.{step_of};
 ghost use Rattle.rsp_debug.specs.Places.{following, previous};
 ghost use Rattle.rsp_debug.specs.Past.{states_before, past_after};
@@ -34,6 +34,15 @@ impl Model for Ring {
     } };
 
     ghost invariant = { λ r. (r.first < length r.slots.items) × (r.count ≤ r.depth) × (r.depth ≤ length r.slots.items) };
+}
+
+/// What a step of a ring came to.
+#[derive(Clone, Copy, Drop)]
+pub struct Made {
+    /// What the step answered.
+    pub end: StepEnd,
+    /// Whether it may have changed DMEM, where it was done.
+    pub stored: bool,
 }
 
 /// The place after a place of a ring, and the one before it.
@@ -90,9 +99,10 @@ impl Ring {
     /// are those before, with the one that the step left as the newest.
     #[inline(always)]
     #[tactic(auto, using(crate::proofs::Pasts::pasts))]
-    pub fn step<A: Acc>(&mut self, machine: &mut Machine<A>) -> StepEnd
-        ensures answer { result ≡ (step_of machine.old).0 }
+    pub fn step<A: Acc>(&mut self, machine: &mut Machine<A>) -> Made
+        ensures answer { result.end ≡ (step_of machine.old).0 }
         ensures state { machine.new ≡ (step_of machine.old).1 }
+        ensures memory { result.end ≡ StepEnd.Done → result.stored ≡ false → machine.new.dmem ≡ machine.old.dmem }
         ensures past { states_before machine.new self.new.newest ≡ past_after self.old.depth machine.old (states_before machine.old self.old.newest) }
         ensures depth { self.new.depth ≡ self.old.depth }
     {
@@ -101,6 +111,7 @@ impl Ring {
             unreachable!()
         };
         let (end, is_back) = machine.record_step(slot);
+        let stored = slot.may_store();
         if end == StepEnd::Done {
             if is_back {
                 self.first = place;
@@ -109,7 +120,7 @@ impl Ring {
                 self.count = 0;
             }
         }
-        end
+        Made { end, stored }
     }
 
     /// Goes back by the newest record, which leaves.
