@@ -85,7 +85,7 @@ fn hit<A: Acc>(
     stored: bool,
 ) -> Option<Reason>
     requires none { looks ≡ false → (length held.now ≡ 0) × (break_count breaks.now ≡ 0) }
-    requires same { stored ≡ false → differs held.now machine.now.dmem ≡ None }
+    requires same { looks ≡ true → stored ≡ false → differs held.now machine.now.dmem ≡ None }
     ensures { result ≡ hit_in breaks.now held.now machine.now }
 {
     if !looks {
@@ -123,7 +123,7 @@ fn go_on<A: Acc>(
 {
     let looks = looks(breaks, held);
     for k in 0..n {
-        let made = past.step(machine);
+        let made = past.step(machine, looks);
         match made.end {
             StepEnd::Done => {}
             StepEnd::Halted => return (k, None),

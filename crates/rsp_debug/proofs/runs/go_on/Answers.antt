@@ -101,5 +101,5 @@ pub hit-requires-clause-none : goal.hit-requires-clause-none
 hit-requires-clause-none g c e = c.looks-looks.ensures e
 
 pub hit-requires-clause-same : goal.hit-requires-clause-same
-hit-requires-clause-same g c e =
-    ap (λ m. differs c.args.held.now m) (c.step-made.ensures.memory c.in-Done.is e) ∙ c.loop-k.invariant.same
+hit-requires-clause-same g c asks e =
+    ap (λ m. differs c.args.held.now m) (c.step-made.ensures.memory c.in-Done.is asks e) ∙ c.loop-k.invariant.same
