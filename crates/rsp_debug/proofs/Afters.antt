@@ -18,7 +18,7 @@ use Rattle.rsp_debug.specs.declared.stop.Reason.TheVariants.{Reserved, Halted, W
 use Rattle.rsp_debug.specs.Stops.{first_of, when, is_reserved, is_break, changed, reason_in, reason_at, least, run_steps, stop_of, IsStop}
 use Rattle.rsp_debug.specs.Runs.{stuck_of}
 use Rattle.rsp_debug.specs.Calls.{IsAfter, Going, StepCall, RunCall, is_count, done_steps, call_steps, called, all_steps, all_called}
-use Rattle.rsp_debug.proofs.Reasons.{stuck_by, stuck_is, step-halted-same, step-reserved-same, steps-none, steps-more, two_none, reason-none, is_stop, reason-stuck, step-done, free}
+use Rattle.rsp_debug.proofs.Reasons.{stuck_by, stuck_is, step-halted-same, step-reserved-same, steps-none, steps-more, two_none, reason-none, is_stop, reason-stuck}
 
 -- steps after steps
 pub steps-add : (m n : ℕ) (s : State) → steps_of (m + n) s ≡ steps_of n (steps_of m s)
@@ -184,10 +184,6 @@ limit-reached k n o within stuck none =
       | inl h ↦ (let yes : is_some o ≡ true = stuck h in let not_so : is_some o ≡ false = ap is_some none in cc)
       | inr h ↦ omega arith
     ]
-
-pub first-free : (n k : ℕ) (s t : State) → IsAfter k s t → k ≤ n → (j : ℕ) → j < k → reason_at [] [] n s j ≡ None
-first-free n k s t h within j below =
-    reason-none [] [] n s (steps_of j s) j refl (step-done (steps_of j s) (h.done j below)) (free j (steps_of (j - 1) s) (steps_of j s)) (omega arith)
 
 pub ruleset afters = (after-calls, stop-first)
 

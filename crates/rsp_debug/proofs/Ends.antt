@@ -1,20 +1,18 @@
 -- Where runs end.
-use Rattle.std.proofs.Common.{◌≡◌, ℕ, zero, suc, ◌-◌, ◌/◌, ◌<◌, ◌≤◌, List, [], ◌∷◌, refl, ap, sym, ◌∙◌, arith, Bool, true, false, cond, Option, Some, None}
-use Rattle.std.specs.Prelude.{All, IsNone, is_some, unwrap_or, nat_lt, option_map, ◌&&◌}
+use Rattle.std.proofs.Common.{◌≡◌, ℕ, zero, suc, ◌-◌, ◌/◌, ◌<◌, ◌≤◌, List, [], ◌∷◌, refl, ap, sym, subst, ◌∙◌, arith, Bool, true, false, cond, Option, Some, None}
+use Rattle.std.specs.Prelude.{All, IsNone, is_some, unwrap_or, nat_lt, option_map, map, ◌&&◌, ◌==◌}
 use Rattle.rsp_machine.specs.State.{State}
 use Rattle.rsp_machine.specs.Laws.{steps_of}
-use Rattle.rsp_debug.specs.Stops.{is_break, when, first_of, reason_at, least, run_steps, stop_of, IsStop}
-use Rattle.rsp_debug.specs.Breaks.{break_count}
+use Rattle.rsp_debug.specs.Stops.{is_break, is_reserved, when, first_of, reason_at, least, run_steps, stop_of, IsStop}
+use Rattle.rsp_debug.specs.Held.{held_in, watches_of}
 use Rattle.rsp_debug.specs.Past.{past_of}
 use Rattle.rsp_debug.specs.Debugging.{Debugging, steps_made, ran}
 use Rattle.rsp_debug.proofs.Going.{made-is}
 use Rattle.rsp_debug.specs.declared.stop.Watch.{Watch}
 use Rattle.rsp_debug.specs.declared.stop.Reason.{Reason}
-use Rattle.rsp_debug.specs.declared.stop.Reason.TheVariants.{Watched, Break, Limit}
+use Rattle.rsp_debug.specs.declared.stop.Reason.TheVariants.{Reserved, Halted, Watched, Break, Limit}
 use Rattle.rsp_debug.specs.declared.stop.Stop.{Stop}
-use Rattle.rsp_debug.proofs.Reasons.{hit_of, hit_more, no_hit, free}
-use Rattle.rsp_debug.proofs.Tables.{empty-break}
-use Rattle.rsp_debug.proofs.Slots.{changed-none}
+use Rattle.rsp_debug.proofs.Slots.{none-changed, changed-none, watches-held}
 
 -- the least number that passes
 pub least-is : (test : ℕ → Bool) (n k : ℕ) → k ≤ n → test k ≡ true → ((j : ℕ) → j < k → test j ≡ false) → least test n ≡ k
@@ -44,36 +42,28 @@ stop-is b w n s t stop is =
 pub state-is : (b : List Bool) (w : List (Option Watch)) (n : ℕ) (s t : State) (stop : Stop) → IsStop b w n s t stop → t ≡ steps_of (run_steps b w n s) s
 state-is b w n s t stop is = is.reached ∙ ap (λ k. steps_of k s) (sym (steps-are b w n s t stop is))
 
--- where there are neither breakpoints nor watches, none is hit
-none_hit : (b : List Bool) (w : List (Option Watch)) (k : ℕ) (before s : State) → break_count b ≡ 0 → All IsNone w → hit_of b w k before s ≡ None
-none_hit b w k before s no_breaks no_watches =
-    ap (λ o. first_of (cond (nat_lt 0 k) (option_map Watched o) None ∷ when (nat_lt 0 k && is_break b s.pc) Break ∷ [])) (changed-none w before.dmem s.dmem no_watches)
-    ∙ ap (λ x. first_of (cond (nat_lt 0 k) None None ∷ when (nat_lt 0 k && x) Break ∷ [])) (empty-break b (s.pc / 4) no_breaks)
-    ∙ no_hit (nat_lt 0 k)
-
-five_same : (x y c d a b e : Option Reason) → first_of (c ∷ d ∷ []) ≡ None → first_of (a ∷ b ∷ []) ≡ None
-    → first_of (x ∷ y ∷ c ∷ d ∷ e ∷ []) ≡ first_of (x ∷ y ∷ a ∷ b ∷ e ∷ [])
-five_same (Some r) y c d a b e h g = refl
-five_same None (Some r) c d a b e h g = refl
-five_same None None c d a b e h g = hit_more c d e h ∙ sym (hit_more a b e g)
-
-free_reason : (b : List Bool) (w : List (Option Watch)) (n k : ℕ) (s : State) → break_count b ≡ 0 → All IsNone w
-    → reason_at [] [] n s k ≡ reason_at b w n s k
+-- where there are no watches, none changes
+unwatched_reason : (b : List Bool) (w : List (Option Watch)) (n k : ℕ) (s : State) → All IsNone w → reason_at b [] n s k ≡ reason_at b w n s k
 unfolding reason_at
-free_reason b w n k s no_breaks no_watches =
-    five_same _ _ _ _ _ _ _ (free k (steps_of (k - 1) s) (steps_of k s)) (none_hit b w k (steps_of (k - 1) s) (steps_of k s) no_breaks no_watches)
+unwatched_reason b w n k s none =
+    let before = steps_of (k - 1) s in let t = steps_of k s in
+    ap (λ o. first_of (when (is_reserved t) Reserved ∷ when t.sp.halted Halted ∷ cond (nat_lt 0 k) (option_map Watched o) None ∷ when (nat_lt 0 k && is_break b t.pc) Break ∷ when (k == n) Limit ∷ []))
+    (none-changed before.dmem t.dmem ∙ sym (changed-none w before.dmem t.dmem none))
 
-pub free-stop : (b : List Bool) (w : List (Option Watch)) (n : ℕ) (s t : State) (stop : Stop)
-    → IsStop [] [] n s t stop → break_count b ≡ 0 → All IsNone w → IsStop b w n s t stop
-free-stop b w n s t stop is no_breaks no_watches = record {
+pub unwatched-stop : (b : List Bool) (w : List (Option Watch)) (n : ℕ) (s t : State) (stop : Stop) → IsStop b [] n s t stop → All IsNone w → IsStop b w n s t stop
+unwatched-stop b w n s t stop is none = record {
   within = is.within;
   reached = is.reached;
-  reason = sym (free_reason b w n stop.steps s no_breaks no_watches) ∙ is.reason;
-  first = λ j h. sym (free_reason b w n j s no_breaks no_watches) ∙ is.first j h;
+  reason = sym (unwatched_reason b w n stop.steps s none) ∙ is.reason;
+  first = λ j h. sym (unwatched_reason b w n j s none) ∙ is.first j h;
   place = is.place;
 }
 
-pub ruleset frees = (free-stop)
+-- the watches are those that are held
+pub held-stop : (b : List Bool) (w : List (Option Watch)) (n : ℕ) (s t : State) (stop : Stop) (dmem : List ℕ) → IsStop b (watches_of (map (held_in dmem) w)) n s t stop → IsStop b w n s t stop
+held-stop b w n s t stop dmem is = subst (λ (x : List (Option Watch)). IsStop b x n s t stop) (watches-held w dmem) is
+
+pub ruleset frees = (unwatched-stop)
 
 -- a debugger after a run
 pub ran-is : (d : Debugging) (n : ℕ) (t : State) (past : List State) (depth : ℕ) (stop : Stop) → IsStop d.breaks d.watches n d.state t stop

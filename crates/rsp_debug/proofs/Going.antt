@@ -11,12 +11,11 @@ use Rattle.rsp_machine.specs.declared.step.StepEnd.{StepEnd}
 use Rattle.rsp_machine.specs.declared.step.StepEnd.TheVariants as end
 use Rattle.rsp_debug.specs.Past.{past_by, past_after, past_of}
 use Rattle.rsp_debug.specs.Debugging.{Debugging, steps_made}
-use Rattle.rsp_debug.specs.declared.stop.Watch.{Watch}
 use Rattle.rsp_debug.specs.declared.stop.Reason.{Reason}
-use Rattle.rsp_debug.specs.Stops.{changed, reason_at}
+use Rattle.rsp_debug.specs.Stops.{reason_at}
 use Rattle.rsp_machine.specs.Saved.{can_undo}
-use Rattle.rsp_debug.specs.Runs.{seen, stuck_of, hit_in}
-use Rattle.rsp_debug.proofs.Reasons.{stuck_by, stuck_is, reason-none, free}
+use Rattle.rsp_debug.specs.Runs.{stuck_of}
+use Rattle.rsp_debug.proofs.Reasons.{stuck_by, stuck_is, reason-none, unhit}
 
 -- n steps of a debugger are n steps of its machine, and fill its past
 abbrev pub made : ℕ → Debugging → Debugging
@@ -64,16 +63,6 @@ unfolding step_of
 refusal-is s e =
     refused s.sp.halted (inst_of (word_at s.imem s.pc)) (word_at s.imem s.pc) s (ap is_some (sym (stuck_is s.sp.halted (inst_of (word_at s.imem s.pc)))) ∙ e)
 
--- where nothing is looked at, nothing is hit
-pub unseen : (looks : Bool) (b : List Bool) (w : List (Option Watch)) (before : List ℕ) (s : State) → looks ≡ false → None ≡ hit_in (seen looks b) (seen looks w) before s
-unfolding changed
-unseen false b w before s e = refl
-unseen true b w before s e = cc
-
-pub none-changed : (before dmem : List ℕ) → changed [] before dmem ≡ None
-unfolding changed
-none-changed before dmem = refl
-
 -- one step, or none
 pub past-one : (k depth : ℕ) (s : State) (past : List State) → k ≡ 1 → past_of k depth s past ≡ past_after depth s past
 unfolding past_of steps_of
@@ -91,13 +80,13 @@ past-refused depth s past e =
 pub past-stays : (k depth : ℕ) (s : State) (past : List State) → k ≡ 0 → is_some (stuck_of s) ≡ true → past_of k depth s past ≡ past_after depth s past
 past-stays k depth s past z e = ap (λ i. past_of i depth s past) z ∙ past-none depth s past ∙ sym (past-refused depth s past e)
 
-pub first-stuck : (k : ℕ) (s t : State) (r : Reason) (o : Option Reason) → stuck_of t ≡ o → t ≡ steps_of k s → k < 1
-    → (stuck_of t ≡ None → reason_at [] [] 1 s k ≡ Some r) → is_some o ≡ true
-first-stuck k s t r None e there h last =
+pub first-stuck : (b : List Bool) (k : ℕ) (s t : State) (r : Reason) (o : Option Reason) → stuck_of t ≡ o → t ≡ steps_of k s → k < 1
+    → (stuck_of t ≡ None → reason_at b [] 1 s k ≡ Some r) → is_some o ≡ true
+first-stuck b k s t r None e there h last =
     let some = last e in
-    let none = reason-none [] [] 1 s t k there e (free k (steps_of (k - 1) s) (steps_of k s)) h in
+    let none = reason-none b [] 1 s t k there e (unhit b [] k (steps_of (k - 1) s) (steps_of k s) h) h in
     cc
-first-stuck k s t r (Some q) e there h last = refl
+first-stuck b k s t r (Some q) e there h last = refl
 
 pub ruleset goes = (past-none, past-more)
 

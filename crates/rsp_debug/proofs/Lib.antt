@@ -3,6 +3,7 @@ pub mod Pasts
 pub mod Tables
 pub mod Slots
 pub mod Reasons
+pub mod Hits
 pub mod Afters
 pub mod Going
 pub mod Ends

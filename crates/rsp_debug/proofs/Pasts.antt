@@ -1,5 +1,5 @@
 -- Records stand for states.
-use Rattle.std.proofs.Common.{◌≡◌, ℕ, zero, suc, ◌+◌, ◌-◌, ◌<◌, ◌≤◌, Bool, true, false, List, [], ◌∷◌, length, take, drop, refl, sym, ◌∙◌, ap, arith, add-one, set, min, Option, Some, None}
+use Rattle.std.proofs.Common.{◌≡◌, ℕ, zero, suc, ◌+◌, ◌-◌, ◌<◌, ◌≤◌, Bool, true, false, List, [], ◌∷◌, length, take, drop, refl, sym, ◌∙◌, ap, arith, add-one, get_or, set, min, Option, Some, None}
 use Rattle.std.specs.Prelude.{slice_get, slice_index_or}
 use Rattle.std.proofs.lemmas.Option.{none-some}
 use Rattle.std.proofs.Math.Seq.{drop-cons}
@@ -42,14 +42,14 @@ past_gone s past n d u =
     sym (ap (λ b. past_by Done b n s past) u) ∙ sym (ap (λ b. past_by b (can_undo s) n s past) d)
 
 -- a step that isn't Done
-pub past_halted : (s : State) (xs : List Saved) (p i n count : ℕ) (x : Saved) → slice_get xs p ≡ Some x → (step_of s).0 ≡ Halted
+pub past_halted : (s : State) (xs : List Saved) (p i n count : ℕ) (x : Saved) → x ≡ get_or xs p x → (step_of s).0 ≡ Halted
     → states_before (step_of s).1 (from_place i count (set xs p (slot_after s x))) ≡ past_after n s (states_before s (from_place i count xs))
 unfolding past_after
 past_halted s xs p i n count x e d =
     let k = halted_stays s x d in
     rw (k.0, k.1, kept_member xs p x e, d) refl
 
-pub past_reserved : (s : State) (xs : List Saved) (p i n count w : ℕ) (x : Saved) → slice_get xs p ≡ Some x → (step_of s).0 ≡ Reserved w
+pub past_reserved : (s : State) (xs : List Saved) (p i n count w : ℕ) (x : Saved) → x ≡ get_or xs p x → (step_of s).0 ≡ Reserved w
     → states_before (step_of s).1 (from_place i count (set xs p (slot_after s x))) ≡ past_after n s (states_before s (from_place i count xs))
 unfolding past_after
 past_reserved s xs p i n count w x e d =
@@ -71,11 +71,11 @@ rest_here s (x ∷ rs) r e =
     let same : x ≡ r = cc in
     rw (← same) refl
 
-pub back_here : (s : State) (xs : List Saved) (i count : ℕ) (r : Saved) → i < length xs → 0 < count → slice_get xs i ≡ Some r
+pub back_here : (s : State) (xs : List Saved) (i count : ℕ) (r : Saved) → i < length xs → 0 < count → r ≡ get_or xs i r
     → undone r s ≡ slice_index_or (states_before s (from_place i count xs)) 0 s
 back_here s xs i count r h c e = first_here s (from_place i count xs) r (first_is xs i count r h c e)
 
-pub back_rest : (s : State) (xs : List Saved) (i count : ℕ) (r : Saved) → i < length xs → 0 < count → count ≤ length xs → slice_get xs i ≡ Some r
+pub back_rest : (s : State) (xs : List Saved) (i count : ℕ) (r : Saved) → i < length xs → 0 < count → count ≤ length xs → r ≡ get_or xs i r
     → states_before (undone r s) (from_place (following (length xs) i) (count - 1) xs) ≡ drop 1 (states_before s (from_place i count xs))
 back_rest s xs i count r h c l e =
     ap (states_before (undone r s)) (popped xs i count r h l) ∙ rest_here s (from_place i count xs) r (first_is xs i count r h c e)

@@ -4,7 +4,7 @@ use Rattle.std.specs.Prelude.{is_none, take, length, nat_lt, nat_eq, ◌==◌, o
 use Rattle.std.proofs.lemmas.Grind.{common_steps}
 use Rattle.rsp_memory.specs.Memory.{word_at}
 use Rattle.std.proofs.lemmas.List.{take_all}
-use Rattle.rsp_debug.proofs.Slots.{changed-since}
+use Rattle.rsp_debug.proofs.Slots.{differs-since}
 use Rattle.rsp_decode.specs.declared.inst.Inst.{Inst}
 use Rattle.rsp_decode.specs.Table.{inst_of}
 use Rattle.rsp_machine.specs.State.{State}
@@ -13,6 +13,8 @@ use Rattle.rsp_machine.specs.Laws.{steps_of}
 use Rattle.rsp_machine.specs.declared.step.StepEnd.TheVariants as end
 use Rattle.rsp_debug.specs.Stops.{changed, is_break, is_reserved, when, first_of, reason_at, IsStop}
 use Rattle.rsp_debug.specs.Runs.{stuck_of, hit_in}
+use Rattle.rsp_debug.specs.Held.{differs, watches_of}
+use Rattle.rsp_debug.specs.declared.held.Held.{Held}
 use Rattle.rsp_debug.specs.declared.stop.Watch.{Watch}
 use Rattle.rsp_debug.specs.declared.stop.Reason.{Reason}
 use Rattle.rsp_debug.specs.declared.stop.Reason.TheVariants.{Reserved, Halted, Watched, Break, Limit}
@@ -134,15 +136,6 @@ unfolding reason_at
 reason-hit b w n s t k r same stuck hit =
     two_more _ _ _ _ _ (ap stuck_of (sym same) ∙ stuck) ∙ hit_some _ _ _ r hit
 
--- without breakpoints and watches nothing is hit
-pub no_hit : (positive : Bool) → first_of (cond positive None None ∷ when (positive && false) Break ∷ []) ≡ None
-no_hit true = refl
-no_hit false = refl
-
-pub free : (k : ℕ) (before s : State) → hit_of [] [] k before s ≡ None
-unfolding changed
-free k before s = no_hit (nat_lt 0 k)
-
 -- one more step
 pub steps-none : (s : State) → steps_of 0 s ≡ s
 unfolding steps_of
@@ -169,32 +162,42 @@ pub next-first : (b : List Bool) (w : List (Option Watch)) (n : ℕ) (s m : Stat
     → ((j : ℕ) → j < k → reason_at b w n s j ≡ None) → (j : ℕ) → j < k + 1 → reason_at b w n s j ≡ None
 next-first b w n s m k here done quiet h first = below_more _ _ first (reason-none b w n s m k here (step-done m done) quiet h)
 
-hit_later : (b : List Bool) (w : List (Option Watch)) (positive : Bool) (before s : State) → positive ≡ true
-    → first_of (cond positive (option_map Watched (changed w before.dmem s.dmem)) None ∷ when (positive && is_break b s.pc) Break ∷ []) ≡ hit_in b w before.dmem s
-hit_later b w true before s e = refl
-hit_later b w false before s e = cc
+-- the watch or the breakpoint, by the watch that changed
+abbrev hit_by : List Bool → Option ℕ → State → Option Reason
+hit_by b o s = first_of (option_map Watched o ∷ when (is_break b s.pc) Break ∷ [])
 
-pub next-hit : (b : List Bool) (w : List (Option Watch)) (d : List ℕ) (s m t : State) (k : ℕ)
-    → m ≡ steps_of k s → t ≡ steps_of (k + 1) s → changed w d m.dmem ≡ None
-    → hit_of b w (k + 1) (steps_of (k + 1 - 1) s) (steps_of (k + 1) s) ≡ hit_in b w d t
-next-hit b w d s m t k here there same =
+hit_later : (b : List Bool) (o : Option ℕ) (positive : Bool) (s : State) → positive ≡ true
+    → first_of (cond positive (option_map Watched o) None ∷ when (positive && is_break b s.pc) Break ∷ []) ≡ hit_by b o s
+hit_later b o true s e = refl
+hit_later b o false s e = cc
+
+pub next-hit : (b : List Bool) (held : List (Option Held)) (s m t : State) (k : ℕ)
+    → m ≡ steps_of k s → t ≡ steps_of (k + 1) s → differs held m.dmem ≡ None
+    → hit_of b (watches_of held) (k + 1) (steps_of (k + 1 - 1) s) (steps_of (k + 1) s) ≡ hit_in b held t
+next-hit b held s m t k here there same =
     let positive : nat_lt 0 (k + 1) ≡ true = grind (arith, common_steps) in
     let before : k + 1 - 1 ≡ k = omega arith in
     let back : steps_of (k + 1 - 1) s ≡ m = ap (λ i. steps_of i s) before ∙ sym here in
-    hit_later b w (nat_lt 0 (k + 1)) (steps_of (k + 1 - 1) s) (steps_of (k + 1) s) positive
-    ∙ ap (λ (x : State). hit_in b w (steps_of (k + 1 - 1) s).dmem x) (sym there)
-    ∙ ap (λ (x : State). hit_in b w x.dmem t) back
-    ∙ ap (λ o. first_of (option_map Watched o ∷ when (is_break b t.pc) Break ∷ [])) (sym (changed-since w d m.dmem t.dmem same))
+    let w = watches_of held in
+    hit_later b (changed w (steps_of (k + 1 - 1) s).dmem (steps_of (k + 1) s).dmem) (nat_lt 0 (k + 1)) (steps_of (k + 1) s) positive
+    ∙ ap (λ (x : State). hit_by b (changed w (steps_of (k + 1 - 1) s).dmem x.dmem) x) (sym there)
+    ∙ ap (λ (x : State). hit_by b (changed w x.dmem t.dmem) t) back
+    ∙ ap (λ o. hit_by b o t) (sym (differs-since held m.dmem t.dmem same))
 
 hit_nothing : (o : Option ℕ) (d : Option Reason) → first_of (option_map Watched o ∷ d ∷ []) ≡ None → o ≡ None
 hit_nothing None d e = refl
 hit_nothing (Some k) d e = cc
 
-pub nothing-changed : (b : List Bool) (w : List (Option Watch)) (d : List ℕ) (t : State) → hit_in b w d t ≡ None → changed w d t.dmem ≡ None
-nothing-changed b w d t e = hit_nothing (changed w d t.dmem) (when (is_break b t.pc) Break) e
+pub nothing-differs : (b : List Bool) (held : List (Option Held)) (t : State) → hit_in b held t ≡ None → differs held t.dmem ≡ None
+nothing-differs b held t e = hit_nothing (differs held t.dmem) (when (is_break b t.pc) Break) e
+
+-- before the first step nothing is hit
+pub unhit : (b : List Bool) (w : List (Option Watch)) (k : ℕ) (before s : State) → k < 1 → hit_of b w k before s ≡ None
+unhit b w zero before s h = refl
+unhit b w (suc k) before s h = absurd (omega arith)
 
 -- a DMEM that is read whole
 pub whole : (m : List ℕ) (n : ℕ) → length m ≡ n → take n m ≡ m
 whole m n e = take_all n m (omega (arith, e))
 
-pub ruleset stops = (step-done, step-halted, step-halted-same, step-reserved, step-reserved-same, reason-stuck, reason-none, reason-limit, free, steps-none, steps-more, below_more)
+pub ruleset stops = (step-done, step-halted, step-halted-same, step-reserved, step-reserved-same, reason-stuck, reason-none, reason-limit, steps-none, steps-more, below_more)

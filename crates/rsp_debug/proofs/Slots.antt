@@ -1,13 +1,17 @@
 -- Watches and what changed.
-use Rattle.std.proofs.Common.{◌≡◌, ℕ, zero, suc, ◌<◌, ◌≤◌, List, [], ◌∷◌, length, get_or, refl, ap, ◌∙◌, arith, Bool, true, false, cond, not, Option, Some, None}
-use Rattle.std.specs.Prelude.{slice_set, slice_index_or, bytes_eq, position, All, IsNone, nat_lt}
-use Rattle.std.specs.List.{position_or_len}
-use Rattle.std.proofs.lemmas.List.{get_or_past}
+use Rattle.std.proofs.Common.{◌≡◌, ℕ, zero, suc, ◌<◌, ◌≤◌, ◌+◌, List, [], ◌∷◌, length, map, get_or, refl, ap, sym, ◌∙◌, arith, Bool, true, false, cond, not, Option, Some, None}
+use Rattle.std.specs.Prelude.{slice_set, slice_index_or, bytes_eq, position, option_map, All, IsNone, nat_lt}
+use Rattle.std.specs.List.{position_or_len, prefix_len}
+use Rattle.std.proofs.lemmas.List.{get_or_past, length-map, get_or-map}
+use Rattle.std.proofs.lemmas.List.FromFn.{fill_by_all}
+use Rattle.std.proofs.lemmas.List.Elements.{All-set}
 use Rattle.std.proofs.lemmas.Slice.Eq.{bytes_eq-Decides}
 use Rattle.std.proofs.lemmas.Grind.{common_steps}
 use Rattle.std.proofs.lemmas.List.Sums.{prefix_len-le-length, fails_before_first, passes_at_first, position_or_len_is}
 use Rattle.rsp_debug.specs.declared.stop.Watch.{Watch}
+use Rattle.rsp_debug.specs.declared.held.Held.{Held}
 use Rattle.rsp_debug.specs.Stops.{watched, is_changed, changed}
+use Rattle.rsp_debug.specs.Held.{IsShort, held_in, is_other, differs, watches_of}
 
 -- a number that stands for no watch
 pub past-watch : (watches : List (Option Watch)) (k : ℕ) → length watches ≤ k → slice_index_or watches k None ≡ None
@@ -53,26 +57,55 @@ not_not : (b : Bool) → not b ≡ false → b ≡ true
 not_not true e = refl
 not_not false e = cc
 
--- a watch that hasn't changed since, and what then changes
-unchanged : (before now next : List ℕ) (slot : Option Watch) → is_changed before now slot ≡ false → is_changed before next slot ≡ is_changed now next slot
-unchanged before now next None e = refl
-unchanged before now next (Some w) e =
-    let same : watched w before ≡ watched w now = (bytes_eq-Decides (watched w before) (watched w now)).0 (not_not _ e) in
-    ap (λ bytes. not (bytes_eq bytes (watched w next))) same
+-- the first index that passes, of a list that a function is applied to
+prefix-map : {X Y : Type 0} (p : Y → Bool) (f : X → Y) (xs : List X) → prefix_len p (map f xs) ≡ prefix_len (λ x. p (f x)) xs
+prefix-map p f [] = refl
+prefix-map p f (x ∷ xs) = ap (λ n. cond (p (f x)) (1 + n) 0) (prefix-map p f xs)
 
-itself : (dmem : List ℕ) (slot : Option Watch) → is_changed dmem dmem slot ≡ false
-itself dmem None = refl
-itself dmem (Some w) = ap not ((bytes_eq-Decides (watched w dmem) (watched w dmem)).1 refl)
+position-map : {X Y : Type 0} (p : Y → Bool) (f : X → Y) (xs : List X) → position p (map f xs) ≡ position (λ x. p (f x)) xs
+position-map p f xs =
+    ap (λ i. cond (nat_lt i (length (map f xs))) (Some i) None) (prefix-map (λ y. not (p y)) f xs)
+    ∙ ap (λ l. cond (nat_lt (position_or_len (λ x. p (f x)) xs) l) (Some (position_or_len (λ x. p (f x)) xs)) None) (length-map xs f)
 
-pub changed-since : (watches : List (Option Watch)) (before now next : List ℕ) → changed watches before now ≡ None
-    → changed watches before next ≡ changed watches now next
-unfolding changed
-changed-since watches before now next e =
-    same_position _ _ watches None (λ k h. unchanged before now next (get_or watches k None) (passes_nowhere _ watches None _ refl e k h))
+-- a watch whose bytes are still those that are held, and what then changes
+unlike : (now next : List ℕ) (slot : Option Held) → is_other now slot ≡ false → is_other next slot ≡ is_changed now next (option_map (λ h. h.watch) slot)
+unlike now next None e = refl
+unlike now next (Some h) e =
+    let same : h.bytes.items ≡ watched h.watch now = (bytes_eq-Decides h.bytes.items (watched h.watch now)).0 (not_not _ e) in
+    ap (λ bytes. not (bytes_eq bytes (watched h.watch next))) same
 
-pub changed-itself : (watches : List (Option Watch)) (dmem : List ℕ) → changed watches dmem dmem ≡ None
-unfolding changed
-changed-itself watches dmem = no_position _ watches None (λ k h. itself dmem (get_or watches k None))
+pub differs-since : (held : List (Option Held)) (now next : List ℕ) → differs held now ≡ None → differs held next ≡ changed (watches_of held) now next
+unfolding differs changed
+differs-since held now next e =
+    same_position (is_other next) (λ h. is_changed now next (option_map (λ h. h.watch) h)) held None
+    (λ k h. unlike now next (get_or held k None) (passes_nowhere _ held None _ refl e k h))
+    ∙ sym (position-map (is_changed now next) (option_map (λ h. h.watch)) held)
+
+-- watches that are held as they are
+fresh : (dmem : List ℕ) (slot : Option Watch) → is_other dmem (held_in dmem slot) ≡ false
+fresh dmem None = refl
+fresh dmem (Some w) = ap not ((bytes_eq-Decides (watched w dmem) (watched w dmem)).1 refl)
+
+pub differs-fresh : (watches : List (Option Watch)) (dmem : List ℕ) → differs (map (held_in dmem) watches) dmem ≡ None
+unfolding differs
+differs-fresh watches dmem =
+    position-map (is_other dmem) (held_in dmem) watches ∙ no_position _ watches None (λ k h. fresh dmem (get_or watches k None))
+
+pub watches-held : (watches : List (Option Watch)) (dmem : List ℕ) → watches_of (map (held_in dmem) watches) ≡ watches
+watches-held [] dmem = refl
+watches-held (None ∷ watches) dmem = ap (λ l. None ∷ l) (watches-held watches dmem)
+watches-held (Some w ∷ watches) dmem = ap (λ l. Some w ∷ l) (watches-held watches dmem)
+
+pub eight-mapped : {X Y : Type 0} (f : X → Y) (xs : List X) (d : X) → length xs ≡ 8
+    → f (get_or xs 0 d) ∷ f (get_or xs 1 d) ∷ f (get_or xs 2 d) ∷ f (get_or xs 3 d) ∷ f (get_or xs 4 d) ∷ f (get_or xs 5 d) ∷ f (get_or xs 6 d) ∷ f (get_or xs 7 d) ∷ [] ≡ map f xs
+eight-mapped f xs d e =
+    sym (fill_by_all (λ k. f (get_or xs k d)) (map f xs) 8 (f d) (length-map xs f ∙ e) (λ k h. get_or-map f xs k d (f d) (omega (arith, e))))
+
+-- where nothing is held, nothing differs
+pub differs-empty : (held : List (Option Held)) (dmem : List ℕ) → length held ≡ 0 → differs held dmem ≡ None
+unfolding differs
+differs-empty [] dmem e = refl
+differs-empty (h ∷ held) dmem e = absurd (omega arith)
 
 -- where there is no watch, none has changed
 no_slot : (before dmem : List ℕ) (slot : Option Watch) → IsNone slot → is_changed before dmem slot ≡ false
@@ -82,3 +115,17 @@ no_slot before dmem (Some w) h = cc
 pub changed-none : (watches : List (Option Watch)) (before dmem : List ℕ) → All IsNone watches → changed watches before dmem ≡ None
 unfolding changed
 changed-none watches before dmem none = no_position _ watches None (λ k h. no_slot before dmem (get_or watches k None) (none k None h))
+
+pub none-changed : (before dmem : List ℕ) → changed [] before dmem ≡ None
+unfolding changed
+none-changed before dmem = refl
+
+-- a watch written, and one dropped, where all are short
+pub short-written : (watches : List (Option Watch)) (k address len : ℕ) → All IsShort watches → len ≤ 64
+    → All IsShort (slice_set watches k (Some (record { address = address; len = len })))
+short-written watches k address len h l = All-set IsShort watches k (Some (record { address = address; len = len })) l h
+
+pub short-dropped : (watches : List (Option Watch)) (k : ℕ) → All IsShort watches → All IsShort (slice_set watches k None)
+short-dropped watches k h = All-set IsShort watches k None tt h
+
+pub ruleset shorts = (short-written, short-dropped)

@@ -79,16 +79,14 @@ module _ {X : Type 0} where
       ∙ take-append-le k (rest i xs) (get_or xs i d ∷ []) (omega arith)
       ∙ sym (ap (λ l. drop 1 (take (suc k) l)) (here i xs d h))
 
-  pub first_is : (xs : List X) (i count : ℕ) (x : X) → i < length xs → 0 < count → slice_get xs i ≡ Some x → slice_get (from_place i count xs) 0 ≡ Some x
+  pub first_is : (xs : List X) (i count : ℕ) (x : X) → i < length xs → 0 < count → x ≡ get_or xs i x → slice_get (from_place i count xs) 0 ≡ Some x
   first_is xs i zero x h c e = absurd (omega arith)
   first_is xs i (suc k) x h c e =
-      ap (λ l. slice_get (take (suc k) l) 0) (here i xs x h) ∙ ap Some (get_or_from_slice_get xs i x x e)
+      ap (λ l. slice_get (take (suc k) l) 0) (here i xs x h) ∙ ap Some (sym e)
 
   -- a member that is written over by itself
-  pub kept_member : (xs : List X) (i : ℕ) (x : X) → slice_get xs i ≡ Some x → set xs i x ≡ xs
-  kept_member xs i x e =
-      let o : get_or xs i x ≡ x = get_or_from_slice_get xs i x x e in
-      ap (set xs i) (sym o) ∙ set-get_or xs i x
+  pub kept_member : (xs : List X) (i : ℕ) (x : X) → x ≡ get_or xs i x → set xs i x ≡ xs
+  kept_member xs i x e = ap (set xs i) e ∙ set-get_or xs i x
 
   pub length-written : (xs : List X) (i : ℕ) (x : X) → length (set xs i x) ≡ length xs
   length-written xs i x = length-set xs i x

@@ -6,5 +6,6 @@ pub mod Breaks
 pub mod Watches
 pub mod Debugging
 pub mod Looks
+pub mod Held
 pub mod Runs
 pub mod Calls

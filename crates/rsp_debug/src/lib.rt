@@ -3,6 +3,7 @@
 
 mod breaks;
 mod debugger;
+mod held;
 mod host;
 pub mod laws;
 mod looks;

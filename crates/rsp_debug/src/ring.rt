@@ -1,9 +1,8 @@
-ghost use Rattle.std.specs.Prelude.{◌≡◌, ◌<◌, ◌≤◌, [], length, drop, slice_index_or, IfOk};
+ghost use Rattle.std.specs.Prelude.{◌≡◌, ◌+◌, ◌<◌, ◌≤◌, [], true, false, length, min, drop, slice_index_or, IfOk};
 ghost use Rattle.rsp_machine.specs.Step.{step_of};
 ghost use Rattle.rsp_debug.specs.Places.{following, previous};
 ghost use Rattle.rsp_debug.specs.Past.{states_before, past_after};
 
-use circular_buffer::HeapCircularBuffer;
 use rsp_acc::Acc;
 use rsp_machine::{Machine, Record, StepEnd};
 use std::alloc::{AllocError, Global};
@@ -13,7 +12,7 @@ use std::marker::Model;
 /// the records, the newest first, and how many may be kept.
 #[derive(Drop)]
 pub struct Ring {
-    slots: HeapCircularBuffer<Record>,
+    slots: Vec<Record>,
     /// The place of the newest record; the older ones stand behind it, round the end.
     first: usize,
     count: usize,
@@ -36,6 +35,15 @@ impl Model for Ring {
     ghost invariant = { λ r. (r.first < length r.slots.items) × (r.count ≤ r.depth) × (r.depth ≤ length r.slots.items) };
 }
 
+/// What a step of a ring came to.
+#[derive(Clone, Copy, Drop)]
+pub struct Made {
+    /// What the step answered.
+    pub end: StepEnd,
+    /// Whether it may have changed DMEM, where it was done and that is asked.
+    pub stored: bool,
+}
+
 /// The place after a place of a ring, and the one before it.
 #[inline(always)]
 fn following(n: usize, i: usize) -> usize
@@ -53,15 +61,24 @@ fn previous(n: usize, i: usize) -> usize
     if i == 0 { n - 1 } else { i - 1 }
 }
 
+/// One more, where so many may stand.
+#[inline(always)]
+fn one_more(count: usize, depth: usize) -> usize
+    requires { count ≤ depth }
+    ensures { result ≡ min (count + 1) depth }
+{
+    if count < depth { count + 1 } else { count }
+}
+
 impl Ring {
     /// An empty ring of so many slots.
     pub fn try_new(alloc: Global, depth: usize) -> Result<Ring, AllocError>
         ensures { IfOk result (λ r. r ≡ record { newest = []; depth = depth }) }
     {
         let room = depth.max(1);
-        let mut slots = HeapCircularBuffer::with_capacity(alloc, room)?;
+        let mut slots = Vec::with_capacity(alloc, room)?;
         for _ in 0..room {
-            let _ = slots.push_back(Record::new());
+            slots.push(Record::new())?;
         }
         Ok(Ring {
             slots,
@@ -87,29 +104,32 @@ impl Ring {
     }
 
     /// One step of a machine, of which the ring keeps what it changed. So the states that lead back from the machine
-    /// are those before, with the one that the step left as the newest.
+    /// are those before, with the one that the step left as the newest. `asks` is whether to tell that it may have changed DMEM.
     #[inline(always)]
     #[tactic(auto, using(crate::proofs::Pasts::pasts))]
-    pub fn step<A: Acc>(&mut self, machine: &mut Machine<A>) -> StepEnd
-        ensures answer { result ≡ (step_of machine.old).0 }
+    pub fn step<A: Acc>(&mut self, machine: &mut Machine<A>, asks: bool) -> Made
+        ensures answer { result.end ≡ (step_of machine.old).0 }
         ensures state { machine.new ≡ (step_of machine.old).1 }
+        ensures memory { result.end ≡ StepEnd.Done → asks ≡ true → result.stored ≡ false → machine.new.dmem ≡ machine.old.dmem }
         ensures past { states_before machine.new self.new.newest ≡ past_after self.old.depth machine.old (states_before machine.old self.old.newest) }
         ensures depth { self.new.depth ≡ self.old.depth }
     {
         let place = previous(self.slots.len(), self.first);
-        let Some(slot) = self.slots.get_mut(place) else {
-            unreachable!()
-        };
+        let slot = &mut self.slots[place];
         let (end, is_back) = machine.record_step(slot);
-        if end == StepEnd::Done {
-            if is_back {
-                self.first = place;
-                self.count = (self.count + 1).min(self.depth);
-            } else {
-                self.count = 0;
-            }
+        match end {
+            StepEnd::Done => {}
+            StepEnd::Halted => return Made { end, stored: false },
+            StepEnd::Reserved { word: _ } => return Made { end, stored: false },
         }
-        end
+        let stored = asks && slot.may_store();
+        if is_back {
+            self.first = place;
+            self.count = one_more(self.count, self.depth);
+        } else {
+            self.count = 0;
+        }
+        Made { end, stored }
     }
 
     /// Goes back by the newest record, which leaves.
@@ -120,10 +140,7 @@ impl Ring {
         ensures past { states_before machine.new self.new.newest ≡ drop 1 (states_before machine.old self.old.newest) }
         ensures depth { self.new.depth ≡ self.old.depth }
     {
-        let Some(slot) = self.slots.get(self.first) else {
-            unreachable!()
-        };
-        machine.undo(slot);
+        machine.undo(&self.slots[self.first]);
         self.first = following(self.slots.len(), self.first);
         self.count -= 1;
     }

@@ -1,14 +1,17 @@
 // Steps, one after the other, up to a reason to stop.
 
-ghost use Rattle.std.specs.Prelude.{◌≡◌, ◌<◌, ◌≤◌, [], ◌∷◌, ℕ, Some, None, length, option_map, is_some, unwrap_or, true, false};
+ghost use Rattle.std.specs.Prelude.{◌≡◌, ◌<◌, ◌≤◌, ℕ, Some, None, length, is_some, unwrap_or, true, false};
 ghost use Rattle.rsp_machine.specs.Step.{step_of};
-ghost use Rattle.rsp_debug.specs.Stops.{IsStop, reason_at, changed};
+ghost use Rattle.rsp_debug.specs.Stops.{IsStop, reason_at};
+ghost use Rattle.rsp_debug.specs.Breaks.{break_count};
 ghost use Rattle.rsp_debug.specs.Calls.{IsAfter};
+ghost use Rattle.rsp_debug.specs.Held.{differs, watches_of};
 ghost use Rattle.rsp_debug.specs.Past.{states_before, past_after, past_of};
-ghost use Rattle.rsp_debug.specs.Runs.{seen, stuck_of, hit_in};
+ghost use Rattle.rsp_debug.specs.Runs.{stuck_of, hit_in};
 ghost use Rattle.rsp_debug.specs.declared.stop.Reason.TheVariants as why;
 
 use crate::breaks::Breaks;
+use crate::held::{Held, differs};
 use crate::ring::Ring;
 use crate::stop::{Reason, Stop};
 use crate::watches::Watches;
@@ -65,21 +68,35 @@ fn dmem_bytes<A: Acc>(machine: &Machine<A>) -> &[u8]
     dmem.run(0, 4096)
 }
 
-/// The watch or the breakpoint that a step has come to, where they are looked at.
+/// Whether there is anything that a run looks at after a step.
+fn looks(breaks: &Breaks, held: &[Option<Held>]) -> bool
+    ensures { result ≡ false → (length held.now ≡ 0) × (break_count breaks.now ≡ 0) }
+{
+    !held.is_empty() || !breaks.is_empty()
+}
+
+/// The watch or the breakpoint that a step has come to, where there are any. Bytes are compared only after a step that may
+/// have stored.
+#[inline(always)]
+#[tactic(auto, using(crate::proofs::Hits::hits))]
 fn hit<A: Acc>(
     machine: &Machine<A>,
     breaks: &Breaks,
-    watches: &Watches,
-    before: &[u8],
+    held: &[Option<Held>],
     looks: bool,
+    stored: bool,
 ) -> Option<Reason>
-    ensures { result ≡ hit_in (seen looks breaks.now) (seen looks watches.now) before.now machine.now }
+    requires none { looks ≡ false → (length held.now ≡ 0) × (break_count breaks.now ≡ 0) }
+    requires same { looks ≡ true → stored ≡ false → differs held.now machine.now.dmem ≡ None }
+    ensures { result ≡ hit_in breaks.now held.now machine.now }
 {
     if !looks {
         return None;
     }
-    if let Some(k) = watches.changed(before, dmem_bytes(machine)) {
-        return Some(Reason::Watched(k));
+    if stored && !held.is_empty() {
+        if let Some(k) = differs(held, dmem_bytes(machine)) {
+            return Some(Reason::Watched(k));
+        }
     }
     if breaks.contains(machine.pc()) {
         return Some(Reason::Break);
@@ -87,34 +104,34 @@ fn hit<A: Acc>(
     None
 }
 
-/// Makes steps as long as they answer Done, at most `n`, up to one that comes to a breakpoint or a watch, where these are
-/// looked at. Tells how many, and which. All steps of a debugger are made here: the machine's step is put into one loop.
+/// Makes steps as long as they answer Done, at most `n`, up to one that comes to a breakpoint or a watch. Tells how many, and
+/// which. All steps of a debugger are made here: the machine's step is put into one loop.
 #[inline(never)]
 #[tactic(auto, using(crate::proofs::Going::goes))]
 fn go_on<A: Acc>(
     machine: &mut Machine<A>,
     past: &mut Ring,
     breaks: &Breaks,
-    watches: &Watches,
-    before: &[u8],
-    looks: bool,
+    held: &[Option<Held>],
     n: u32,
 ) -> (u32, Option<Reason>)
-    requires { changed (seen looks watches.now) before.now machine.old.dmem ≡ None }
+    requires { differs held.now machine.old.dmem ≡ None }
     ensures within { result.0 ≤ n }
     ensures after { IsAfter result.0 machine.old machine.new }
     ensures past { states_before machine.new past.new.newest ≡ past_of result.0 past.old.depth machine.old (states_before machine.old past.old.newest) }
     ensures depth { past.new.depth ≡ past.old.depth }
-    ensures first { (j : ℕ) → j < result.0 → reason_at (seen looks breaks.now) (seen looks watches.now) n machine.old j ≡ None }
-    ensures last { stuck_of machine.new ≡ None → reason_at (seen looks breaks.now) (seen looks watches.now) n machine.old result.0 ≡ Some (unwrap_or result.1 why.Limit) }
+    ensures first { (j : ℕ) → j < result.0 → reason_at breaks.now (watches_of held.now) n machine.old j ≡ None }
+    ensures last { stuck_of machine.new ≡ None → reason_at breaks.now (watches_of held.now) n machine.old result.0 ≡ Some (unwrap_or result.1 why.Limit) }
 {
+    let looks = looks(breaks, held);
     for k in 0..n {
-        match past.step(machine) {
+        let made = past.step(machine, looks);
+        match made.end {
             StepEnd::Done => {}
             StepEnd::Halted => return (k, None),
             StepEnd::Reserved { word: _ } => return (k, None),
         }
-        if let Some(reason) = hit(machine, breaks, watches, before, looks) {
+        if let Some(reason) = hit(machine, breaks, held, looks, made.stored) {
             return (k + 1, Some(reason));
         }
     }
@@ -122,58 +139,34 @@ fn go_on<A: Acc>(
 }
 
 /// One step of a machine, of which the ring keeps what it changed.
-pub(crate) fn step<A: Acc>(
-    machine: &mut Machine<A>,
-    past: &mut Ring,
-    breaks: &Breaks,
-    watches: &Watches,
-) -> StepEnd
+pub(crate) fn step<A: Acc>(machine: &mut Machine<A>, past: &mut Ring, breaks: &Breaks) -> StepEnd
     ensures answer { result ≡ (step_of machine.old).0 }
     ensures state { machine.new ≡ (step_of machine.old).1 }
     ensures past { states_before machine.new past.new.newest ≡ past_after past.old.depth machine.old (states_before machine.old past.old.newest) }
     ensures depth { past.new.depth ≡ past.old.depth }
 {
-    let (made, _) = go_on(machine, past, breaks, watches, &[], false, 1);
+    let (made, _) = go_on(machine, past, breaks, &[], 1);
     if made == 1 {
         return StepEnd::Done;
     }
     refusal(machine)
 }
 
-/// Runs to breakpoints and watches, where these are looked at.
+/// Runs to breakpoints, and to watches that are given with their bytes.
 fn run_to<A: Acc>(
     machine: &mut Machine<A>,
     past: &mut Ring,
     breaks: &Breaks,
-    watches: &Watches,
-    before: &[u8],
-    looks: bool,
+    held: &[Option<Held>],
     n: u32,
 ) -> Stop
-    requires { changed (seen looks watches.now) before.now machine.old.dmem ≡ None }
-    ensures stop { IsStop (seen looks breaks.now) (seen looks watches.now) n machine.old machine.new result }
+    requires { differs held.now machine.old.dmem ≡ None }
+    ensures stop { IsStop breaks.now (watches_of held.now) n machine.old machine.new result }
     ensures past { states_before machine.new past.new.newest ≡ past_of result.steps past.old.depth machine.old (states_before machine.old past.old.newest) }
     ensures depth { past.new.depth ≡ past.old.depth }
 {
-    let (k, found) = go_on(machine, past, breaks, watches, before, looks, n);
+    let (k, found) = go_on(machine, past, breaks, held, n);
     stopped_here(machine, found.unwrap_or(Reason::Limit), k)
-}
-
-/// Runs to breakpoints and watches.
-fn run_watched<A: Acc>(
-    machine: &mut Machine<A>,
-    past: &mut Ring,
-    breaks: &Breaks,
-    watches: &Watches,
-    n: u32,
-) -> Stop
-    ensures stop { IsStop breaks.now watches.now n machine.old machine.new result }
-    ensures past { states_before machine.new past.new.newest ≡ past_of result.steps past.old.depth machine.old (states_before machine.old past.old.newest) }
-    ensures depth { past.new.depth ≡ past.old.depth }
-{
-    let mut before = [0_u8; 4096];
-    before.copy_from_slice(dmem_bytes(machine));
-    run_to(machine, past, breaks, watches, &before, true, n)
 }
 
 /// Runs to the least number of steps after which there is a reason to stop.
@@ -189,9 +182,9 @@ pub(crate) fn run<A: Acc>(
     ensures past { states_before machine.new past.new.newest ≡ past_of result.steps past.old.depth machine.old (states_before machine.old past.old.newest) }
     ensures depth { past.new.depth ≡ past.old.depth }
 {
-    if breaks.is_empty() && watches.is_empty() {
-        run_to(machine, past, breaks, watches, &[], false, n)
-    } else {
-        run_watched(machine, past, breaks, watches, n)
+    if watches.is_empty() {
+        return run_to(machine, past, breaks, &[], n);
     }
+    let held = watches.held(dmem_bytes(machine));
+    run_to(machine, past, breaks, &held, n)
 }

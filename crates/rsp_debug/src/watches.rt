@@ -1,7 +1,8 @@
-ghost use Rattle.std.specs.Prelude.{◌≡◌, ◌≤◌, ◌<◌, IsTrue, IsNone, All, Ok, Err, length, ℕ, MatchResult, IfOk, IfSome, OnOk, OnErr, IsOk, ◌↔◌};
-ghost use Rattle.rsp_debug.specs.Stops.{watched, is_changed, changed};
+ghost use Rattle.std.specs.Prelude.{◌≡◌, ◌≤◌, ◌<◌, IsTrue, IsNone, All, map, IfOk, IfSome, OnOk, OnErr, IsOk, ◌↔◌};
 ghost use Rattle.rsp_debug.specs.Watches.{no_watches, is_watchable, free_number, number_for, with_watch, has_watch, without_watch};
+ghost use Rattle.rsp_debug.specs.Held.{held_in};
 
+use crate::held::{Held, hold};
 use crate::stop::Watch;
 use std::marker::Model;
 
@@ -25,31 +26,15 @@ pub struct Watches {
 }
 
 impl Model for Watches {
-    ghost use Rattle.std.specs.Prelude.{List, Option};
+    ghost use Rattle.std.specs.Prelude.{List, Option, All};
     ghost use Rattle.rsp_debug.specs.declared.stop.Watch.{Watch};
+    ghost use Rattle.rsp_debug.specs.Held.{IsShort};
 
     ghost Value = { List (Option Watch) };
 
     ghost view = { λ w. w.slots };
-}
 
-/// The bytes of a watch.
-fn watched<'a>(watch: &Watch, dmem: &'a [u8]) -> &'a [u8]
-    ensures { result.now ≡ watched watch.now dmem.now }
-{
-    let from = (watch.address as usize).min(dmem.len());
-    let rest = &dmem[from..];
-    &rest[..(watch.len as usize).min(rest.len())]
-}
-
-/// Whether a byte of a watch isn't what it was.
-fn is_changed(slot: &Option<Watch>, before: &[u8], dmem: &[u8]) -> bool
-    ensures { result ≡ is_changed before.now dmem.now slot.now }
-{
-    match slot {
-        None => false,
-        Some(watch) => watched(watch, before) != watched(watch, dmem),
-    }
+    ghost invariant = { λ w. All IsShort w.slots };
 }
 
 /// Whether a watch is 1 to 64 bytes that stand in DMEM.
@@ -76,14 +61,21 @@ impl Watches {
         self.slots.iter().all(|slot| slot.is_none())
     }
 
-    /// The lowest number of a watch of which a byte isn't what it was.
-    #[tactic(auto, unfolding(crate::specs::Stops::changed))]
-    pub fn changed(&self, before: &[u8], dmem: &[u8]) -> Option<usize>
-        ensures { result ≡ changed self.now before.now dmem.now }
+    /// The watches with their bytes.
+    pub fn held(&self, dmem: &[u8]) -> [Option<Held>; 8]
+        ensures { result ≡ map (held_in dmem.now) self.now }
     {
-        self.slots
-            .iter()
-            .position(|slot| is_changed(slot, before, dmem))
+        let [a, b, c, d, e, f, g, h] = self.slots;
+        [
+            hold(a, dmem),
+            hold(b, dmem),
+            hold(c, dmem),
+            hold(d, dmem),
+            hold(e, dmem),
+            hold(f, dmem),
+            hold(g, dmem),
+            hold(h, dmem),
+        ]
     }
 
     /// The lowest number that stands for no watch.

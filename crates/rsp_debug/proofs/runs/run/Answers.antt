@@ -1,15 +1,25 @@
-use Rattle.std.proofs.Common.{◌≡◌, arith}
-use Rattle.std.proofs.lemmas.Grind.{common_steps}
-use Rattle.rsp_debug.specs.Breaks.{break_count}
-use Rattle.rsp_debug.proofs.Ends.{free-stop}
-use Rattle.rsp_debug.proofs.Going.{none-changed}
+use Rattle.std.proofs.Common.{◌∙◌, ap, refl, subst, map, List, Option}
+use Rattle.rsp_debug.specs.declared.held.Held.{Held}
+use Rattle.rsp_debug.specs.Held.{differs, held_in, watches_of}
+use Rattle.rsp_debug.specs.Stops.{IsStop}
+use Rattle.rsp_debug.proofs.Ends.{unwatched-stop, held-stop}
+use Rattle.rsp_debug.proofs.Slots.{differs-empty, differs-fresh}
 use Rattle.rsp_debug.proofs.runs.run.Goals as goal
 
 pub run_to-requires : goal.run_to-requires
-run_to-requires g c = none-changed _ _
+run_to-requires g c = differs-empty _ _ refl
 
-pub returns-then-is_empty-2-clause-stop : goal.returns-then-is_empty-2-clause-stop
-returns-then-is_empty-2-clause-stop g c =
-    let none : break_count c.args.breaks.now ≡ 0 = grind (arith, common_steps) in
-    free-stop c.args.breaks.now c.args.watches.now c.args.n c.args.machine.now c.run_to.new.machine c.run_to.result c.run_to.ensures.stop none
-    (c.is_empty-then-is_empty.ensures c.if-is_empty-2.true)
+pub returns-then-is_empty-clause-stop : goal.returns-then-is_empty-clause-stop
+returns-then-is_empty-clause-stop g c =
+    unwatched-stop c.args.breaks.now c.args.watches.now c.args.n c.args.machine.now c.run_to.new.machine c.run_to.result c.run_to.ensures.stop (c.is_empty.ensures c.if-is_empty.true)
+
+pub run_to-requires-2 : goal.run_to-requires-2
+run_to-requires-2 g c =
+    ap (λ (held : List (Option Held)). differs held c.args.machine.now.dmem) c.held-held.ensures
+    ∙ ap (λ d. differs (map (held_in d) c.args.watches.now) c.args.machine.now.dmem) c.dmem_bytes.ensures.value
+    ∙ differs-fresh c.args.watches.now c.args.machine.now.dmem
+
+pub returns-clause-stop : goal.returns-clause-stop
+returns-clause-stop g c =
+    held-stop c.args.breaks.now c.args.watches.now c.args.n c.args.machine.now c.run_to-2.new.machine c.run_to-2.result c.dmem_bytes.result.now
+    (subst (λ (held : List (Option Held)). IsStop c.args.breaks.now (watches_of held) c.args.n c.args.machine.now c.run_to-2.new.machine c.run_to-2.result) c.held-held.ensures c.run_to-2.ensures.stop)

@@ -1,0 +1,28 @@
+-- The bytes of watches, as they were when a run began: what its loop compares with.
+use Rattle.std.specs.Prelude.{◌≤◌, ℕ, List, map, position, Bool, false, not, bytes_eq, Option, Some, None, option_map}
+use Rattle.rsp_debug.specs.declared.stop.Watch.{Watch}
+use Rattle.rsp_debug.specs.declared.held.Held.{Held}
+use Rattle.rsp_debug.specs.Stops.{watched}
+
+-- a watch of at most 64 bytes, or none
+abbrev pub IsShort : Option Watch → Type 0
+IsShort None = Unit {0}
+IsShort (Some w) = w.len ≤ 64
+
+-- what a number stands for, with its bytes
+abbrev pub held_in : List ℕ → Option Watch → Option Held
+held_in dmem None = None
+held_in dmem (Some w) = Some (record { watch = w; bytes = record { items = watched w dmem } })
+
+-- whether a byte of a watch isn't what it was
+abbrev pub is_other : List ℕ → Option Held → Bool
+is_other dmem None = false
+is_other dmem (Some h) = not (bytes_eq h.bytes.items (watched h.watch dmem))
+
+-- the lowest number of a watch of which a byte isn't what it was
+unfoldable pub differs : List (Option Held) → List ℕ → Option ℕ
+differs held dmem = position (is_other dmem) held
+
+-- the watches alone
+abbrev pub watches_of : List (Option Held) → List (Option Watch)
+watches_of held = map (option_map (λ h. h.watch)) held
