@@ -4,6 +4,7 @@ ghost use Rattle.rsp_script.specs.Command.{IsCommand};
 ghost use Rattle.rsp_script.specs.Text.{is_text};
 ghost use Rattle.rsp_block.specs.Source.{with_line, meaning};
 ghost use Rattle.rsp_bench.specs.Session.{NeedsNoMemory, HidesNoFault, EndHidesNoFault, outcome_of, plain_outcome, block_outcome, with_block, end_outcome, line_outcome, first_session, closing, in_block};
+ghost use Rattle.rsp_bench.specs.Replies.{line_fault_text};
 
 use crate::replies::{asm_fault_reply, line_fault_reply, ok_reply, words_reply};
 use crate::words::load_words;
@@ -101,17 +102,16 @@ impl Session {
     }
 
     /// Keeps a line of the open block.
-    fn keep(&mut self, line: &SourceLine) -> Result<Reply, AllocError>
+    fn keep(&mut self, line: &SourceLine) -> Result<(), AllocError>
         requires open { IsSome self.old.block }
         requires text { list_all is_text line.now ≡ true }
-        ensures reply { IfOk result (λ reply. reply ≡ []) }
         ensures next { OnOk result (IfSome self.old.block (λ b. self.new ≡ (with_block (with_line line.now b) self.old).next)) }
         ensures err { OnErr result (self.new ≡ self.old) }
     {
         if let Some(block) = &mut self.block {
             block.push(line.as_str())?;
         }
-        Ok(Reply::new())
+        Ok(())
     }
 
     /// Closes the open block: its words go to IMEM, or its fault is told.
@@ -153,23 +153,74 @@ impl Session {
             return Ok(self.answer_plain(alloc, command));
         }
         match command {
-            Command::BlockLine(line) => self.keep(line),
+            Command::BlockLine(line) => {
+                self.keep(line)?;
+                Ok(Reply::new())
+            }
             Command::End => self.end(alloc),
             _ => Ok(line_fault_reply(LineFault::BadCommand)),
         }
     }
 
-    /// Does what a line of a script says, and answers it.
+    /// Does a command as `exec` does; the answer takes the place of what stood in the reply. It is a call of its own, so that a line
+    /// that says nothing doesn't pay for the replies of 8 KB that are moved here.
+    #[inline(never)]
+    fn exec_to(
+        &mut self,
+        alloc: Global,
+        command: &Command,
+        reply: &mut Reply,
+    ) -> Result<(), AllocError>
+        requires { IsCommand command.now }
+        ensures reply { OnOk result (reply.new ≡ (outcome_of command.now self.old).reply) }
+        ensures next { OnOk result (self.new ≡ (outcome_of command.now self.old).next) }
+        ensures err { OnErr result (self.new ≡ self.old) }
+    {
+        *reply = self.exec(alloc, command)?;
+        Ok(())
+    }
+
+    /// Does a command as `exec_to` does, and at once where it says nothing.
+    #[tactic(auto, unfolding(crate::specs::Session::outcome_of))]
+    fn exec_quickly(
+        &mut self,
+        alloc: Global,
+        command: &Command,
+        reply: &mut Reply,
+    ) -> Result<(), AllocError>
+        requires { IsCommand command.now }
+        ensures reply { OnOk result (reply.new ≡ (outcome_of command.now self.old).reply) }
+        ensures next { OnOk result (self.new ≡ (outcome_of command.now self.old).next) }
+        ensures err { OnErr result (self.new ≡ self.old) }
+    {
+        match (command, self.in_block()) {
+            (Command::Nothing, false) => reply.clear(),
+            (Command::BlockLine(line), true) => {
+                self.keep(line)?;
+                reply.clear();
+            }
+            _ => self.exec_to(alloc, command, reply)?,
+        }
+        Ok(())
+    }
+
+    /// Does what a line of a script says, and answers it. The answer takes the place of what stood in the reply.
     #[tactic(auto, unfolding(crate::specs::Session::line_outcome))]
-    fn answer_line(&mut self, alloc: Global, line: &[u8]) -> Result<Reply, AllocError>
-        ensures reply { IfOk result (λ reply. reply ≡ (line_outcome line.now self.old).reply) }
+    fn answer_line(
+        &mut self,
+        alloc: Global,
+        line: &[u8],
+        reply: &mut Reply,
+    ) -> Result<(), AllocError>
+        ensures reply { OnOk result (reply.new ≡ (line_outcome line.now self.old).reply) }
         ensures next { OnOk result (self.new ≡ (line_outcome line.now self.old).next) }
         ensures err { OnErr result (self.new ≡ self.old) }
     {
         match parse_line(line, self.in_block()) {
-            Ok(command) => self.exec(alloc, &command),
-            Err(fault) => Ok(line_fault_reply(fault)),
+            Ok(command) => self.exec_quickly(alloc, &command, reply)?,
+            Err(fault) => refuse(fault, reply),
         }
+        Ok(())
     }
 
     /// What is left to say at the end of a script: the fault of an open block, else nothing.
@@ -194,6 +245,14 @@ impl Session {
     }
 }
 
+/// Answers a line that is no command.
+#[inline(never)]
+fn refuse(fault: LineFault, reply: &mut Reply)
+    ensures { reply.new ≡ line_fault_text fault }
+{
+    *reply = line_fault_reply(fault);
+}
+
 impl Answering for Session {
     ghost use Rattle.rsp_bench.specs.Session.{line_outcome, closing};
     ghost use Rattle.rsp_bench.specs.Alike.{long_alike};
@@ -204,8 +263,8 @@ impl Answering for Session {
 
     ghost closing = { closing };
 
-    fn answer(&mut self, alloc: Global, line: &[u8]) -> Result<Reply, AllocError> {
-        self.answer_line(alloc, line)
+    fn answer(&mut self, alloc: Global, line: &[u8], reply: &mut Reply) -> Result<(), AllocError> {
+        self.answer_line(alloc, line, reply)
     }
 
     fn close(&self) -> Reply {

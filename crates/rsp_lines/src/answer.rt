@@ -36,6 +36,7 @@ fn answer_line<S: Answering, W: Sink>(
     alloc: Global,
     session: &mut S,
     line: &[u8],
+    reply: &mut S::Reply,
     sink: &mut W,
 ) -> Result<(), RunFault>
     requires { W.fault_count sink.old < 2 ^ 64 - 1 }
@@ -45,7 +46,7 @@ fn answer_line<S: Answering, W: Sink>(
     ensures count { W.fault_count sink.new ≡ W.fault_count sink.old + failed_writes result }
     ensures cause { IfErr result IsAnswerFault }
 {
-    let Ok(reply) = session.answer(alloc, line) else {
+    let Ok(()) = session.answer(alloc, line, reply) else {
         return Err(RunFault::OutOfMemory);
     };
     let Ok(()) = write_all(sink, reply.bytes()) else {
@@ -60,6 +61,7 @@ fn answer_byte<S: Answering, W: Sink>(
     session: &mut S,
     line: &mut LineSoFar,
     byte: u8,
+    reply: &mut S::Reply,
     sink: &mut W,
 ) -> Result<(), RunFault>
     requires { W.fault_count sink.old < 2 ^ 64 - 1 }
@@ -72,7 +74,7 @@ fn answer_byte<S: Answering, W: Sink>(
         line.push(byte);
         return Ok(());
     }
-    answer_line(alloc, session, line.ended(), sink)?;
+    answer_line(alloc, session, line.ended(), reply, sink)?;
     line.clear();
     Ok(())
 }
@@ -83,6 +85,7 @@ pub(crate) fn answer_piece<S: Answering, W: Sink>(
     session: &mut S,
     line: &mut LineSoFar,
     piece: &[u8],
+    reply: &mut S::Reply,
     sink: &mut W,
 ) -> Result<(), RunFault>
     requires { W.fault_count sink.old < 2 ^ 64 - 1 }
@@ -92,7 +95,7 @@ pub(crate) fn answer_piece<S: Answering, W: Sink>(
     ensures cause { IfErr result IsAnswerFault }
 {
     for byte in piece {
-        answer_byte(alloc, session, line, *byte, sink)?;
+        answer_byte(alloc, session, line, *byte, reply, sink)?;
     }
     Ok(())
 }
@@ -103,6 +106,7 @@ fn answer_last<S: Answering, W: Sink>(
     alloc: Global,
     session: &mut S,
     line: &[u8],
+    reply: &mut S::Reply,
     sink: &mut W,
 ) -> Result<(), RunFault>
     requires { W.fault_count sink.old < 2 ^ 64 - 1 }
@@ -115,7 +119,7 @@ fn answer_last<S: Answering, W: Sink>(
     if line.is_empty() {
         return Ok(());
     }
-    answer_line(alloc, session, line, sink)?;
+    answer_line(alloc, session, line, reply, sink)?;
     Ok(())
 }
 
@@ -124,6 +128,7 @@ pub(crate) fn answer_end<S: Answering, W: Sink>(
     alloc: Global,
     session: &mut S,
     line: &LineSoFar,
+    reply: &mut S::Reply,
     sink: &mut W,
 ) -> Result<(), RunFault>
     requires { W.fault_count sink.old < 2 ^ 64 - 1 }
@@ -135,7 +140,7 @@ pub(crate) fn answer_end<S: Answering, W: Sink>(
     ensures count { W.fault_count sink.new ≡ W.fault_count sink.old + failed_writes result }
     ensures cause { IfErr result IsAnswerFault }
 {
-    answer_last(alloc, session, line.last(), sink)?;
+    answer_last(alloc, session, line.last(), reply, sink)?;
     let Ok(()) = write_all(sink, session.close().bytes()) else {
         return Err(RunFault::WriteFault);
     };

@@ -1,4 +1,4 @@
-ghost use Rattle.std.specs.Prelude.{◌≡◌, ℕ, List, IfOk, OnOk};
+ghost use Rattle.std.specs.Prelude.{◌≡◌, ℕ, List, [], OnOk};
 ghost use Rattle.rsp_lines.specs.Replies.{Outcome, AnswersLongAlike};
 
 use std::alloc::{AllocError, Global};
@@ -7,6 +7,10 @@ use std::alloc::{AllocError, Global};
 pub trait ReplyBytes {
     /// The bytes of the reply.
     ghost bytes: { Self → List ℕ };
+
+    /// A reply of no bytes.
+    fn empty() -> Self
+        ensures { bytes result ≡ [] };
 
     /// The bytes of the reply.
     fn bytes(&self) -> &[u8]
@@ -25,9 +29,15 @@ pub trait Answering {
     ghost closing: { Self → List ℕ };
 
     /// Answers a line, which comes without its LF and without the one CR before that. It may be any line, but of one of
-    /// more than 258 bytes only the first 258 come. Where there is no memory for it, the run ends.
-    fn answer(&mut self, alloc: Global, line: &[u8]) -> Result<Self::Reply, AllocError>
-        ensures reply { IfOk result (λ reply. Self.Reply.bytes reply ≡ (outcome line.now self.old).reply) }
+    /// more than 258 bytes only the first 258 come. The answer takes the place of what stood in the reply: a reply can be long, so
+    /// one serves for all lines. Where there is no memory for it, the run ends.
+    fn answer(
+        &mut self,
+        alloc: Global,
+        line: &[u8],
+        reply: &mut Self::Reply,
+    ) -> Result<(), AllocError>
+        ensures reply { OnOk result (Self.Reply.bytes reply.new ≡ (outcome line.now self.old).reply) }
         ensures next { OnOk result (self.new ≡ (outcome line.now self.old).next) };
 
     /// What is left to say at the end of a script, after the replies to all its lines.

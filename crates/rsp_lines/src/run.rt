@@ -7,7 +7,7 @@ ghost use Rattle.rsp_lines.specs.Lines.{ended_lines};
 ghost use Rattle.rsp_lines.specs.Replies.{replies, final, out_of};
 
 use crate::answer::{answer_end, answer_piece};
-use crate::answering::Answering;
+use crate::answering::{Answering, ReplyBytes};
 use crate::line::LineSoFar;
 use rsp_ends::{Sink, Source};
 use std::alloc::Global;
@@ -69,6 +69,7 @@ pub fn answer_script<S: Answering, R: Source, W: Sink>(
 {
     let mut line = LineSoFar::new();
     let mut buffer = [0u8; PIECE_LENGTH];
+    let mut reply = S::Reply::empty();
     let mut total = 0usize;
     while total <= SCRIPT_LIMIT {
         let room = PIECE_LENGTH.min(SCRIPT_LIMIT + 1 - total);
@@ -76,11 +77,18 @@ pub fn answer_script<S: Answering, R: Source, W: Sink>(
             return Err(RunFault::ReadFault);
         };
         if n == 0 {
-            answer_end(alloc, session, &line, sink)?;
+            answer_end(alloc, session, &line, &mut reply, sink)?;
             return Ok(());
         }
         let within = n.min(SCRIPT_LIMIT - total);
-        answer_piece(alloc, session, &mut line, &buffer[..within], sink)?;
+        answer_piece(
+            alloc,
+            session,
+            &mut line,
+            &buffer[..within],
+            &mut reply,
+            sink,
+        )?;
         total += n;
     }
     Err(RunFault::ScriptTooLong)

@@ -41,6 +41,13 @@ impl Reply {
         }
     }
 
+    /// Goes on to a reply of no bytes.
+    pub fn clear(&mut self)
+        ensures { self.new ≡ [] }
+    {
+        self.bytes.clear();
+    }
+
     /// Its bytes, at most 8192.
     pub fn bytes(&self) -> &[u8]
         ensures value { result.now ≡ self.now }

@@ -30,6 +30,8 @@ mod multiply;
 #[cfg(test)]
 mod random;
 #[cfg(test)]
+mod refusals;
+#[cfg(test)]
 mod regs;
 #[cfg(test)]
 mod scalar;

@@ -1,5 +1,5 @@
 mod blocks;
-mod cuts;
+mod ends;
 
 use rsp_bench::{BenchEnd, MemSink, MemSource, Session, parse_line, run_bench};
 use rsp_memory::Rdram;

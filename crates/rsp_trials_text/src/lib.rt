@@ -11,9 +11,13 @@ mod block;
 #[cfg(test)]
 mod ends;
 #[cfg(test)]
+mod fakes;
+#[cfg(test)]
 mod lines;
 #[cfg(test)]
 mod operands;
+#[cfg(test)]
+mod refusals;
 #[cfg(test)]
 mod script;
 #[cfg(test)]

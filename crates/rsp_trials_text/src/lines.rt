@@ -1,8 +1,7 @@
 mod echo;
-mod ends;
 
+use crate::fakes::{CutSource, NarrowSink};
 use echo::Echo;
-use ends::{CutSource, Endless, NarrowSink};
 use rsp_ends::{MemSink, MemSource, Sink, Source};
 use rsp_lines::{RunFault, SCRIPT_LIMIT, answer_script};
 use std::test::Fail;
@@ -17,7 +16,7 @@ fn answers(
 ) -> Result<bool, Fail> {
     let mut session = Echo { lines: 0 };
     let mut source = CutSource::new(script, step, 1_000_000);
-    let mut sink = NarrowSink::new(MemSink::new(rt.alloc(), 4096)?, 1_000_000);
+    let mut sink = NarrowSink::new(MemSink::new(rt.alloc(), 4096)?, 1, 1_000_000);
     let end = answer_script(rt.alloc(), &mut session, &mut source, &mut sink);
     Ok(end == Ok(()) && sink.bytes() == replies && session.lines == lines)
 }
@@ -77,7 +76,7 @@ fn replies_are_written_before_the_next_read(rt: HostRuntime) -> Result<(), Fail>
 fn a_write_is_not_tried_again(rt: HostRuntime) -> Result<(), Fail> {
     let mut session = Echo { lines: 0 };
     let mut source = MemSource::new(b"one\ntwo\nthree\n");
-    let mut sink = NarrowSink::new(MemSink::new(rt.alloc(), 64)?, 6);
+    let mut sink = NarrowSink::new(MemSink::new(rt.alloc(), 64)?, 1, 6);
     let end = answer_script(rt.alloc(), &mut session, &mut source, &mut sink);
     assert_eq!(rt; end, Err(RunFault::WriteFault));
     assert!(rt; sink.bytes() == b"one\ntw".as_slice());
@@ -120,16 +119,5 @@ fn want_of_memory_ends_a_run(rt: HostRuntime) -> Result<(), Fail> {
             b"one\n"
         )?
     );
-    Ok(())
-}
-
-#[test]
-fn a_reader_need_not_end(rt: HostRuntime) -> Result<(), Fail> {
-    let mut session = Echo { lines: 0 };
-    let mut source = Endless { reads: 0 };
-    let mut sink = MemSink::new(rt.alloc(), 64)?;
-    let end = answer_script(rt.alloc(), &mut session, &mut source, &mut sink);
-    assert_eq!(rt; end, Err(RunFault::ScriptTooLong));
-    assert_eq!(rt; source.reads, SCRIPT_LIMIT as u64 + 1);
     Ok(())
 }

@@ -20,6 +20,12 @@ pub(super) struct Echoed {
 impl ReplyBytes for Echoed {
     ghost bytes = { λ r. r.bytes.items };
 
+    fn empty() -> Echoed {
+        Echoed {
+            bytes: ArrayVec::new(),
+        }
+    }
+
     fn bytes(&self) -> &[u8] {
         self.bytes.as_slice()
     }
@@ -35,19 +41,24 @@ impl Answering for Echo {
 
     ghost closing = { λ _. codes "end\n" };
 
-    fn answer(&mut self, _alloc: Global, line: &[u8]) -> Result<Echoed, AllocError> {
+    fn answer(
+        &mut self,
+        _alloc: Global,
+        line: &[u8],
+        reply: &mut Echoed,
+    ) -> Result<(), AllocError> {
         if line == b"memory".as_slice() {
             return Err(AllocError);
         }
         self.lines = self.lines.wrapping_add(1);
-        let mut bytes = ArrayVec::new();
+        reply.bytes.clear();
         if line.len() > 256 {
-            let _ = bytes.try_extend_from_slice(b"long\n");
+            let _ = reply.bytes.try_extend_from_slice(b"long\n");
         } else {
-            let _ = bytes.try_extend_from_slice(line);
-            bytes.push(b'\n');
+            let _ = reply.bytes.try_extend_from_slice(line);
+            reply.bytes.push(b'\n');
         }
-        Ok(Echoed { bytes })
+        Ok(())
     }
 
     fn close(&self) -> Echoed {

@@ -1,10 +1,12 @@
+// Ends of a run that give or take little, fail, or never end.
+
 ghost use Rattle.std.specs.Prelude.{◌≡◌, ℕ, ◌+◌, Some, None};
 
 use rsp_ends::{EndFault, MemSink, MemSource, Sink, Source};
 
 /// A script that comes some bytes a read, and fails after a number of reads.
 #[derive(Drop)]
-pub(super) struct CutSource<'a> {
+pub(crate) struct CutSource<'a> {
     script: MemSource<'a>,
     step: usize,
     reads_left: u64,
@@ -12,7 +14,7 @@ pub(super) struct CutSource<'a> {
 }
 
 impl<'a> CutSource<'a> {
-    pub(super) fn new(script: &'a [u8], step: usize, reads: u64) -> CutSource<'a>
+    pub(crate) fn new(script: &'a [u8], step: usize, reads: u64) -> CutSource<'a>
         ensures { result.failures ≡ 0 }
     {
         CutSource {
@@ -44,26 +46,31 @@ impl Source for CutSource<'_> {
     }
 }
 
-/// A sink that takes a byte a write, and fails after a number of writes.
+/// A sink that takes some bytes a write. After a number of writes it fails, or it takes nothing.
 #[derive(Drop)]
-pub(super) struct NarrowSink {
+pub(crate) struct NarrowSink {
     replies: MemSink,
+    step: usize,
     writes_left: u64,
+    /// Whether it takes nothing where it could fail.
+    pub(crate) takes_nothing: bool,
     failures: u64,
 }
 
 impl NarrowSink {
-    pub(super) fn new(replies: MemSink, writes: u64) -> NarrowSink
+    pub(crate) fn new(replies: MemSink, step: usize, writes: u64) -> NarrowSink
         ensures { result.failures ≡ 0 }
     {
         NarrowSink {
             replies,
+            step,
             writes_left: writes,
+            takes_nothing: false,
             failures: 0,
         }
     }
 
-    pub(super) fn bytes(&self) -> &[u8] {
+    pub(crate) fn bytes(&self) -> &[u8] {
         self.replies.bytes()
     }
 }
@@ -74,13 +81,20 @@ impl Sink for NarrowSink {
     ghost fault_count = { λ s. s.failures };
 
     fn write(&mut self, piece: &[u8]) -> Result<usize, EndFault> {
+        if piece.is_empty() {
+            return Ok(0);
+        }
         if self.writes_left == 0 || self.replies.failures() > 0 {
             self.failures += 1;
-            return Err(EndFault);
+            return if self.takes_nothing {
+                Ok(0)
+            } else {
+                Err(EndFault)
+            };
         }
         self.writes_left -= 1;
-        let n = self.replies.write(&piece[..piece.len().min(1)])?;
-        if n == 0 && !piece.is_empty() {
+        let n = self.replies.write(&piece[..piece.len().min(self.step)])?;
+        if n == 0 {
             self.failures += 1;
         }
         Ok(n)
@@ -91,10 +105,13 @@ impl Sink for NarrowSink {
     }
 }
 
-/// A reader that gives one byte a read, and never ends.
+/// A reader that gives one byte again and again, some of them a read, and never ends.
 #[derive(Drop)]
-pub(super) struct Endless {
-    pub reads: u64,
+pub(crate) struct Endless {
+    pub(crate) byte: u8,
+    pub(crate) step: usize,
+    /// How many bytes it gave.
+    pub(crate) given: usize,
 }
 
 impl Source for Endless {
@@ -103,14 +120,10 @@ impl Source for Endless {
     ghost fault_count = { λ _. 0 };
 
     fn read(&mut self, buf: &mut [u8]) -> Result<usize, EndFault> {
-        self.reads = self.reads.saturating_add(1);
-        match buf {
-            [first, ..] => {
-                *first = b'a';
-                Ok(1)
-            }
-            [] => Ok(0),
-        }
+        let n = buf.len().min(self.step.max(1));
+        buf[..n].fill(self.byte);
+        self.given = self.given.saturating_add(n);
+        Ok(n)
     }
 
     fn failures(&self) -> u64 {

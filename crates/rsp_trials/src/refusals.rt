@@ -1,0 +1,43 @@
+// Calls that ask for memory. `tests/refusals` runs these tests again and again, and each time another of their wishes for memory is refused: a test then
+// says on standard output what it was answered, and asks again.
+
+use rsp_acc::PlaneAcc;
+use rsp_debug::Debugger;
+use rsp_machine::{Machine, StepEnd};
+use rsp_memory::{Bank, Rdram};
+use std::test::Fail;
+
+/// An image whose bytes are all 7. This is the test's own wish for memory: where it is refused, it is made again.
+fn image(rt: &HostRuntime) -> Result<Rdram, Fail> {
+    let bytes = match vec![in rt.alloc(); 7; 64] {
+        Ok(bytes) => bytes,
+        Err(_) => vec![in rt.alloc(); 7; 64]?,
+    };
+    Rdram::from_bytes(bytes).map_err(|_| Fail::new("the image is refused"))
+}
+
+#[test]
+fn a_machine_comes_back_when_there_is_no_memory(rt: HostRuntime) -> Result<(), Fail> {
+    for depth in [0, 1, 256, 4096] {
+        let mut machine: Machine<PlaneAcc> = Machine::new(image(&rt)?);
+        machine.set_pc(8);
+        let loaded = machine.load_bytes(Bank::Dmem, 4092, &[1, 2, 3, 4]);
+        let mut debugger = match Debugger::try_new(rt.alloc(), machine, depth) {
+            Ok(debugger) => debugger,
+            Err((machine, _)) => {
+                println!(rt; "no debugger of depth {depth}")?;
+                Debugger::try_new(rt.alloc(), machine, depth).map_err(|_| Fail::new(
+                    "still no debugger",
+                ))?
+            }
+        };
+        let machine = debugger.machine();
+        let is_same = machine.dmem().word(4092) == 0x0102_0304 && machine.rdram().byte(63) == 7;
+        assert!(rt; loaded.is_ok() && is_same && machine.pc() == 8, "{depth}");
+        assert!(rt;
+            debugger.step() == StepEnd::Done && debugger.back(1).is_ok() == (depth > 0),
+            "{depth}"
+        );
+    }
+    Ok(())
+}

@@ -1,0 +1,107 @@
+// Calls that ask for memory. `tests/refusals` runs these tests again and again, and each time another of their wishes for memory is refused: a test then
+// says on standard output what it was answered, and asks again. With memory there the answers are those that they always are.
+
+use rsp_asm::{AsmFaultKind, assemble};
+use rsp_bench::{BenchEnd, MemSink, MemSource, Session, parse_line, run_bench};
+use rsp_memory::Rdram;
+use std::test::Fail;
+
+/// An image whose bytes are all 7. This is the test's own wish for memory: where it is refused, it is made again.
+fn image(rt: &HostRuntime) -> Result<Rdram, Fail> {
+    let bytes = match vec![in rt.alloc(); 7; 64] {
+        Ok(bytes) => bytes,
+        Err(_) => vec![in rt.alloc(); 7; 64]?,
+    };
+    Rdram::from_bytes(bytes).map_err(|_| Fail::new("the image is refused"))
+}
+
+fn sink(rt: &HostRuntime) -> Result<MemSink, Fail> {
+    match MemSink::new(rt.alloc(), 256) {
+        Ok(sink) => Ok(sink),
+        Err(_) => {
+            println!(rt; "no sink")?;
+            Ok(MemSink::new(rt.alloc(), 256)?)
+        }
+    }
+}
+
+/// A label on each even line, from `a` to `x`, at 4, 8 and so on up to 96.
+const LABELS: &str =
+    "nop\na:\nnop\nb:\nnop\nc:\nnop\nd:\nnop\ne:\nnop\nf:\nnop\ng:\nnop\nh:\nnop\ni:\nnop\nj:\nnop\nk:\nnop\nl:\nnop\nm:\nnop\nn:\nnop\no:\nnop\np:\nnop\nq:\nnop\nr:\nnop\ns:\nnop\nt:\nnop\nu:\nnop\nv:\nnop\nw:\nnop\nx:\n.word a, x";
+
+#[test]
+fn a_text_is_assembled_when_memory_is_there(rt: HostRuntime) -> Result<(), Fail> {
+    for _ in 0..2 {
+        match assemble(rt.alloc(), 0, LABELS) {
+            Ok(words) => {
+                let (zeros, last) = words.as_slice().split_at(words.len().min(24));
+                assert!(rt; last == [4, 96].as_slice() && zeros.iter().all(|word| *word == 0));
+            }
+            Err(fault) => {
+                assert!(rt; fault.kind == AsmFaultKind::OutOfMemory);
+                println!(rt; "no memory at line {}", fault.line)?;
+            }
+        }
+    }
+    Ok(())
+}
+
+/// Lines, and the reply to each.
+const LINES: [(&str, &str); 8] = [
+    ("asm 0", ""),
+    ("loop: addiu $1, $1, 1 # the first line of the block", ""),
+    ("bne $1, $2, loop      # the second line of the block", ""),
+    ("nop                   # the third line of the block", ""),
+    ("break", ""),
+    ("end", "ok 4 words\n"),
+    (
+        "mem imem 0 16",
+        "000000: 242100011422fffe000000000000000d\n",
+    ),
+    ("mem rdram 60 4", "00003c: 07070707\n"),
+];
+
+#[test]
+fn a_session_goes_on_when_memory_is_there(rt: HostRuntime) -> Result<(), Fail> {
+    let mut session = match Session::try_new(rt.alloc(), image(&rt)?) {
+        Ok(session) => session,
+        Err((image, _)) => {
+            println!(rt; "no session")?;
+            Session::try_new(rt.alloc(), image).map_err(|_| Fail::new("still no session"))?
+        }
+    };
+    for (line, expected) in LINES {
+        let Ok(command) = parse_line(line.as_bytes(), session.in_block()) else {
+            return Err(Fail::new("a line is no command"));
+        };
+        let reply = match session.exec(rt.alloc(), &command) {
+            Ok(reply) => reply,
+            Err(_) => {
+                println!(rt; "no memory for {line}")?;
+                session.exec(rt.alloc(), &command)?
+            }
+        };
+        assert!(rt; reply.bytes() == expected.as_bytes(), "{line}");
+    }
+    Ok(())
+}
+
+#[test]
+fn a_run_is_whole_when_memory_is_there(rt: HostRuntime) -> Result<(), Fail> {
+    let script = b"step\nasm 8\nx: .word x, x+4, -1\nj x\nnop\nend\nmem imem 8 20\n";
+    let replies =
+        b"step Done pc 004\nok 5 words\n000008: 000000080000000cffffffff08000002\n000018: 00000000\n".as_slice();
+    for _ in 0..2 {
+        let mut source = MemSource::new(script);
+        let mut sink = sink(&rt)?;
+        match run_bench(rt.alloc(), image(&rt)?, &mut source, &mut sink) {
+            BenchEnd::Finished(_) => assert!(rt; sink.bytes() == replies),
+            BenchEnd::OutOfMemory => {
+                println!(rt; "no memory after {} bytes", sink.bytes().len())?;
+                assert!(rt; replies.starts_with(sink.bytes()));
+            }
+            _ => return Err(Fail::new("the run ends otherwise")),
+        }
+    }
+    Ok(())
+}
