@@ -1,4 +1,5 @@
 -- Lemmas on eight lanes.
+pub mod ByteOrder
 pub mod Carry
 pub mod Kit
 pub mod Masks

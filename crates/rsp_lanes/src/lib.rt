@@ -7,6 +7,7 @@
 //! methods here.
 #![tactic(auto)]
 
+mod bytes;
 mod mask;
 mod shuffle;
 mod vreg;

@@ -1,11 +1,9 @@
-ghost use Rattle.std.specs.Prelude.{◌≡◌, ◌<◌, ◌≤◌, ◌+◌, ◌-◌, ◌%◌};
+ghost use Rattle.std.specs.Prelude.{◌≡◌, ◌<◌, ◌≤◌, ◌+◌, ◌-◌, ◌%◌, min};
 ghost use Rattle.rsp_decode.specs.Table.{IsInstruction};
-ghost use Rattle.rsp_lanes.specs.Lanes.{with_register_byte};
 ghost use Rattle.rsp_loadstore.specs.Loads.{after_load, load_pairs, loaded_file, bytes, lanes, transposed, spaced, IsLoadElement};
 
 use crate::VFile;
 use rsp_decode::{Inst, VectorLoadRow};
-use rsp_lanes::VReg;
 use rsp_memory::SpMem;
 
 /// Executes a vector load at the address `a`, the one that `address` gives; LTV writes parts of eight registers.
@@ -39,16 +37,12 @@ fn load_row(row: VectorLoadRow, vt: u8, e: usize, a: u32, memory: &SpMem, file: 
     let block = a - a % 8;
     let start = a % 8 + 16 - e as u32;
     match row {
-        VectorLoadRow::Lbv => load_bytes(vt, e, 1.min(16 - e), a, memory, file),
-        VectorLoadRow::Lsv => load_bytes(vt, e, 2.min(16 - e), a, memory, file),
-        VectorLoadRow::Llv => load_bytes(vt, e, 4.min(16 - e), a, memory, file),
-        VectorLoadRow::Ldv => load_bytes(vt, e, 8.min(16 - e), a, memory, file),
-        VectorLoadRow::Lqv if e == 0 && place == 0 => load_whole(vt, a, memory, file),
-        VectorLoadRow::Lqv => load_bytes(vt, e, (16 - place).min(16 - e), a, memory, file),
-        VectorLoadRow::Lrv => {
-            let count = place.saturating_sub(e);
-            load_bytes(vt, 16 - place + e, count, a - a % 16, memory, file)
-        }
+        VectorLoadRow::Lbv => load_bytes(vt, e, 1, a, memory, file),
+        VectorLoadRow::Lsv => load_bytes(vt, e, 2, a, memory, file),
+        VectorLoadRow::Llv => load_bytes(vt, e, 4, a, memory, file),
+        VectorLoadRow::Ldv => load_bytes(vt, e, 8, a, memory, file),
+        VectorLoadRow::Lqv => load_bytes(vt, e, 16 - place, a, memory, file),
+        VectorLoadRow::Lrv => load_bytes(vt, 16 - place + e, 16, a - a % 16, memory, file),
         VectorLoadRow::Lpv => load_lanes(vt, spaced(0, 8, 256, start, 1), block, memory, file),
         VectorLoadRow::Luv => load_lanes(vt, spaced(0, 8, 128, start, 1), block, memory, file),
         VectorLoadRow::Lhv => load_lanes(vt, spaced(0, 8, 128, start, 2), block, memory, file),
@@ -57,34 +51,17 @@ fn load_row(row: VectorLoadRow, vt: u8, e: usize, a: u32, memory: &SpMem, file: 
     }
 }
 
-/// Writes byte `i` of eight lanes.
-#[tactic(auto, unfolding(rsp_lanes::specs::Lanes::with_register_byte))]
-fn put_byte(lanes: &mut [u16; 8], i: usize, value: u8)
-    requires { i < 16 }
-    ensures { lanes.new ≡ with_register_byte lanes.old i value }
-{
-    let [high, low] = lanes[i / 2].to_be_bytes();
-    let bytes = if i % 2 == 0 {
-        [value, low]
-    } else {
-        [high, value]
-    };
-    lanes[i / 2] = u16::from_be_bytes(bytes);
-}
-
-/// Loads `n` bytes of a register from byte `i` on. The loop works on a copy of the lanes, since a write to one byte of a
-/// vector in memory is slow.
-#[tactic(auto, using(crate::proofs::Pairs::loads), unfolding(crate::specs::Loads::loaded, crate::specs::Loads::bytes))]
+/// Loads `n` bytes of a register from byte `i` on, as far as there are; all of them lie in the sixteen from `a` on.
+#[inline(always)]
 fn load_bytes(vt: u8, i: usize, n: usize, a: u32, memory: &SpMem, file: &mut VFile)
     requires register { vt < 32 }
-    requires inside { n ≤ 16 - i }
-    ensures { file.new ≡ after_load memory.now file.old (bytes vt i n a) }
+    requires first { i < 32 }
+    requires count { n ≤ 16 }
+    ensures { file.new ≡ after_load memory.now file.old (bytes vt i (min n (16 - i)) a) }
 {
-    let mut lanes = file.reg(vt).to_array();
-    for k in 0..n {
-        put_byte(&mut lanes, i + k, memory.byte(a.wrapping_add(k as u32)));
-    }
-    file.set_reg(vt, VReg::from_array(lanes));
+    let v = file.reg(vt);
+    let _ = v.to_simd();
+    file.set_reg(vt, v.with_bytes(memory.window(a), i as u8, n as u8));
 }
 
 /// Lanes that are loaded from bytes that lie apart.
@@ -145,15 +122,4 @@ fn load_transposed(vt: u8, e: usize, a: u32, memory: &SpMem, file: &mut VFile)
         let byte = memory.byte(block.wrapping_add((k as u32 + e as u32 + a / 8 % 2 * 8) % 16));
         file.set_byte(register, k, byte);
     }
-}
-
-/// Loads a whole register at once, from a line of DMEM.
-#[inline(always)]
-fn load_whole(vt: u8, a: u32, memory: &SpMem, file: &mut VFile)
-    requires register { vt < 32 }
-    requires line { a % 16 ≡ 0 }
-    ensures { file.new ≡ after_load memory.now file.old (bytes vt 0 16 a) }
-{
-    let _ = file.reg(vt).to_simd();
-    file.set_reg(vt, VReg::from_bytes(memory.line(a)));
 }

@@ -1,0 +1,140 @@
+-- The sixteen bytes of a register, and the lanes that they make.
+use Rattle.std.proofs.Common.{◌≡◌, ℕ, zero, suc, ◌+◌, ◌-◌, ◌*◌, ◌/◌, ◌%◌, ◌<◌, ◌≤◌, ◌&&◌, List, [], ◌∷◌, Bool, true, false, cond, if◌then◌else◌, nat_le, nat_lt, leb, ltb, length, get_or, map, replicate, refl, sym, ap, ◌∙◌, arith, inl, inr, Fits, w8}
+use Rattle.std.specs.Simd.Lanes.{zip2, sel_l, top, number_l, digits_l}
+use Rattle.std.proofs.lemmas.Simd.{swz_l}
+use Rattle.std.proofs.lemmas.Bool.{cases_lt}
+use Rattle.std.proofs.lemmas.Bool.Decides.{nat_tests}
+use Rattle.rsp_lanes.specs.Lanes.{each_lane, IsVector, register_byte}
+use Rattle.rsp_lanes.specs.Bytes.{each_byte, of_bytes, placed}
+use Rattle.rsp_lanes.proofs.Kit.{eta, each_same}
+
+-- the byte that stands at a place of the lanes, which have their low bytes first
+abbrev pub order : List ℕ
+order = 1 ∷ 0 ∷ 3 ∷ 2 ∷ 5 ∷ 4 ∷ 7 ∷ 6 ∷ 9 ∷ 8 ∷ 11 ∷ 10 ∷ 13 ∷ 12 ∷ 15 ∷ 14 ∷ []
+
+abbrev pub swapped : ℕ → ℕ
+swapped p = get_or order p 0
+
+-- bytes two by two are the digits of a number
+wider : (a b n : ℕ) (rest : List ℕ) → a < 256 → b < 256 → digits_l 65536 (suc n) (number_l 256 (a ∷ b ∷ rest)) ≡ (b * 256 + a) ∷ digits_l 65536 n (number_l 256 rest)
+wider a b n rest h k =
+    let x : number_l 256 (a ∷ b ∷ rest) % 65536 ≡ b * 256 + a = omega arith in
+    let y : number_l 256 (a ∷ b ∷ rest) / 65536 ≡ number_l 256 rest = omega arith in
+    rw (x, y) refl
+
+narrower : (a n : ℕ) (rest : List ℕ) → a < 65536 → digits_l 256 (suc (suc n)) (number_l 65536 (a ∷ rest)) ≡ (a % 256) ∷ (a / 256) ∷ digits_l 256 n (number_l 65536 rest)
+narrower a n rest h =
+    let x : number_l 65536 (a ∷ rest) % 256 ≡ a % 256 = omega arith in
+    let y : number_l 65536 (a ∷ rest) / 256 % 256 ≡ a / 256 = omega arith in
+    let z : number_l 65536 (a ∷ rest) / 256 / 256 ≡ number_l 65536 rest = omega arith in
+    rw (x, y, z) refl
+
+-- sixteen bytes, the two of each lane exchanged, are its lanes
+pub from_le : (f : ℕ → ℕ) → ((k : ℕ) → f k < 256) → digits_l 65536 8 (number_l 256 (each_byte (λ p. f (swapped p)))) ≡ of_bytes f
+unfolding each_byte of_bytes each_lane
+from_le f h =
+    rw (
+      wider (f 1) (f 0) 7 _ (h 1) (h 0),
+      wider (f 3) (f 2) 6 _ (h 3) (h 2),
+      wider (f 5) (f 4) 5 _ (h 5) (h 4),
+      wider (f 7) (f 6) 4 _ (h 7) (h 6),
+      wider (f 9) (f 8) 3 _ (h 9) (h 8),
+      wider (f 11) (f 10) 2 _ (h 11) (h 10),
+      wider (f 13) (f 12) 1 _ (h 13) (h 12),
+      wider (f 15) (f 14) 0 _ (h 15) (h 14),
+    ) refl
+
+-- and back
+pub to_le : (v : List ℕ) → IsVector v → digits_l 256 16 (number_l 65536 v) ≡ each_byte (λ p. register_byte v (swapped p))
+unfolding each_byte each_lane register_byte
+to_le v h = ap (λ l. digits_l 256 16 (number_l 65536 l)) (eta 0 v h.0) ∙
+    rw (
+      narrower (get_or v 0 0) 14 _ (h.1 0),
+      narrower (get_or v 1 0) 12 _ (h.1 1),
+      narrower (get_or v 2 0) 10 _ (h.1 2),
+      narrower (get_or v 3 0) 8 _ (h.1 3),
+      narrower (get_or v 4 0) 6 _ (h.1 4),
+      narrower (get_or v 5 0) 4 _ (h.1 5),
+      narrower (get_or v 6 0) 2 _ (h.1 6),
+      narrower (get_or v 7 0) 0 _ (h.1 7),
+    ) refl
+
+-- two functions that agree on the sixteen bytes
+swapped_same : (f g : ℕ → ℕ) → ((k : ℕ) → k < 16 → f k ≡ g k) → each_byte (λ p. f (swapped p)) ≡ each_byte (λ p. g (swapped p))
+unfolding each_byte
+swapped_same f g e =
+    rw (
+      e 0 (omega arith),
+      e 1 (omega arith),
+      e 2 (omega arith),
+      e 3 (omega arith),
+      e 4 (omega arith),
+      e 5 (omega arith),
+      e 6 (omega arith),
+      e 7 (omega arith),
+      e 8 (omega arith),
+      e 9 (omega arith),
+      e 10 (omega arith),
+      e 11 (omega arith),
+      e 12 (omega arith),
+      e 13 (omega arith),
+      e 14 (omega arith),
+      e 15 (omega arith),
+    ) refl
+
+-- what the swizzle by distances brings to a byte, where the distance is below n
+abbrev moved : List ℕ → ℕ → ℕ → ℕ → ℕ → ℕ
+moved source k i n old = cond (top 7 (cond (ltb ((k + (256 - i)) % 256) n) 255 0)) (cond (leb 128 ((k + (256 - i)) % 256)) 0 (get_or source (0 + (k + (256 - i)) % 256) 0)) old
+
+moved_is : (source : List ℕ) (k i n old : ℕ) → k < 16 → i < 32 → n ≤ 16
+    → moved source k i n old ≡ (if nat_le i k && nat_lt k (i + n) then get_or source (k - i) 0 else old)
+moved_is source k i n old h l m = elim (cases_lt k i) [
+  | inl b ↦
+      let e : (k + (256 - i)) % 256 ≡ k + 256 - i = omega arith in
+      let f : ltb ((k + (256 - i)) % 256) n ≡ false = grind (arith, nat_tests) in
+      let g : nat_le i k ≡ false = grind (arith, nat_tests) in
+      rw (f, g) refl
+  | inr b ↦
+      let e : (k + (256 - i)) % 256 ≡ k - i = omega arith in
+      let f : leb 128 (k - i) ≡ false = grind (arith, nat_tests) in
+      let g : nat_le i k ≡ true = grind (arith, nat_tests) in
+      let z : 0 + (k - i) ≡ k - i = omega arith in
+      elim (cases_lt k (i + n)) [
+        | inl c ↦
+            let x : ltb (k - i) n ≡ true = grind (arith, nat_tests) in
+            let y : nat_lt k (i + n) ≡ true = grind (arith, nat_tests) in
+            rw (e, f, g, x, y, z) refl
+        | inr c ↦
+            let x : ltb (k - i) n ≡ false = grind (arith, nat_tests) in
+            let y : nat_lt k (i + n) ≡ false = grind (arith, nat_tests) in
+            rw (e, f, g, x, y) refl
+      ]
+]
+
+-- the distances of all places
+abbrev distances : ℕ → List ℕ
+distances i = zip2 (λ a b. (a + (256 - b)) % 256) order (replicate 16 i)
+
+abbrev placed_le : List ℕ → List ℕ → ℕ → ℕ → List ℕ
+placed_le le source i n = sel_l (map (top 7) (zip2 (λ a b. cond (ltb a b) 255 0) (distances i) (replicate 16 n))) (swz_l w8 16 source 0 (distances i)) le
+
+byte_below : (v : List ℕ) (k : ℕ) → IsVector v → register_byte v k < 256
+unfolding register_byte
+byte_below v k h = grind (arith, nat_tests, h.1 (k / 2))
+
+one_below : (b : Bool) (x y n : ℕ) → x < n → y < n → cond b x y < n
+one_below true x y n h k = h
+one_below false x y n h k = k
+
+swizzled : (old : ℕ → ℕ) (source : List ℕ) (i n : ℕ) → placed_le (each_byte (λ p. old (swapped p))) source i n ≡ each_byte (λ p. moved source (swapped p) i n (old (swapped p)))
+unfolding each_byte
+swizzled old source i n = refl
+
+pub placed_is : (v source : List ℕ) (i n : ℕ) → IsVector v → ((k : ℕ) → Fits w8 (get_or source k 0)) → i < 32 → n ≤ 16
+    → digits_l 65536 8 (number_l 256 (placed_le (digits_l 256 16 (number_l 65536 v)) source i n)) ≡ placed v source i n
+placed_is v source i n h fits l m = ap (λ le. digits_l 65536 8 (number_l 256 (placed_le le source i n))) (to_le v h)
+    ∙ ap (λ bytes. digits_l 65536 8 (number_l 256 bytes)) (swizzled (register_byte v) source i n ∙ swapped_same (λ k. moved source k i n (register_byte v k)) byte (λ k b. moved_is source k i n (register_byte v k) b l m))
+    ∙ from_le byte (λ k. one_below (nat_le i k && nat_lt k (i + n)) _ _ 256 (fits (k - i)).fits (byte_below v k h))
+  where
+    byte : ℕ → ℕ
+    byte k = if nat_le i k && nat_lt k (i + n) then get_or source (k - i) 0 else register_byte v k

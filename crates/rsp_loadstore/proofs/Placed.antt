@@ -1,0 +1,147 @@
+-- Bytes that are loaded one by one are placed in the register at once.
+use Rattle.std.proofs.Common.{◌≡◌, ◌≢◌, ℕ, zero, suc, ◌+◌, ◌-◌, ◌*◌, ◌/◌, ◌%◌, ◌<◌, ◌≤◌, ◌&&◌, min, List, [], ◌∷◌, Bool, true, false, if◌then◌else◌, nat_le, nat_lt, nat_eq, length, get_or, set, map, refl, sym, ap, ◌∙◌, arith, inl, inr}
+use Rattle.std.specs.List.{range_with_len}
+use Rattle.std.proofs.lemmas.Bool.{cases_eq}
+use Rattle.std.proofs.lemmas.Bool.Decides.{nat_tests}
+use Rattle.std.proofs.lemmas.List.{set-set, get_or-set_same, length-set, set-get_or}
+use Rattle.rsp_memory.specs.Memory.{byte_at, bytes_at}
+use Rattle.rsp_lanes.specs.Lanes.{each_lane, register_byte, with_register_byte}
+use Rattle.rsp_lanes.specs.Bytes.{of_bytes, placed}
+use Rattle.rsp_lanes.proofs.Kit.{eta, each_same, lane_of, below_eight}
+use Rattle.rsp_loadstore.specs.File.{register, with_register}
+use Rattle.rsp_loadstore.specs.Loads.{Load, to_byte, loaded, after_load, bytes}
+use Rattle.rsp_loadstore.proofs.Pairs.{load_none, load_more}
+
+-- a register that was written is read and written again
+same_register : (file : List (List ℕ)) (n : ℕ) → with_register file n (register file n) ≡ file
+unfolding with_register register
+same_register file n = set-get_or file n []
+
+register_again : (file : List (List ℕ)) (n : ℕ) (v w : List ℕ) → n < length file
+    → (register (with_register file n v) n ≡ v) × (with_register (with_register file n v) n w ≡ with_register file n w)
+unfolding with_register register
+register_again file n v w h = (get_or-set_same file n v [] h, set-set file n v w)
+
+-- where each pair changes one register alone, the register's states tell what becomes of the file
+pub one_register : (m : List ℕ) (file : List (List ℕ)) (vt n : ℕ) (f : ℕ → Load) (step : List ℕ → ℕ → List ℕ) (states : ℕ → List ℕ)
+    → vt < length file
+    → ((file : List (List ℕ)) (k : ℕ) → loaded m file (f k) ≡ with_register file vt (step (register file vt) k))
+    → states 0 ≡ register file vt → ((k : ℕ) → k < n → states (k + 1) ≡ step (states k) k)
+    → after_load m file (map f (range_with_len 0 n)) ≡ with_register file vt (states n)
+one_register m file vt zero f step states h one first more = load_none m file ∙ sym (same_register file vt) ∙ ap (with_register file vt) (sym first)
+one_register m file vt (suc n) f step states h one first more =
+    let ih : after_load m file (map f (range_with_len 0 n)) ≡ with_register file vt (states n) = one_register m file vt n f step states h one first (λ k l. more k (omega arith)) in
+    let e : suc n ≡ n + 1 = omega arith in
+    let again = register_again file vt (states n) (step (states n) n) h in
+    ap (λ k. after_load m file (map f (range_with_len 0 k))) e ∙ load_more m file f n
+    ∙ rw (ih, one (with_register file vt (states n)) n, again.0, again.1) (ap (with_register file vt) (sym (ap states e ∙ more n (omega arith))))
+
+-- a lane of a list that was made lane by lane
+set_each : (f : ℕ → ℕ) (j y : ℕ) → j < 8 → set (each_lane f) j y ≡ each_lane (λ l. if nat_eq l j then y else f l)
+unfolding each_lane
+set_each f j y = below_eight (λ j. set (each_lane f) j y ≡ each_lane (λ l. if nat_eq l j then y else f l)) refl refl refl refl refl refl refl refl j
+
+-- a byte of a register that was made byte by byte; below it any number may stand, since only its lane's low byte is read
+high_written : (f g : ℕ → ℕ) (j b : ℕ) → j < 8 → ((k : ℕ) → k ≢ 2 * j → g k ≡ f k) → g (2 * j) ≡ b → f (2 * j + 1) < 256
+    → with_register_byte (of_bytes f) (2 * j) b ≡ of_bytes g
+unfolding with_register_byte of_bytes
+high_written f g j b h other here low =
+    let e : 2 * j / 2 ≡ j = omega arith in
+    let p : 2 * j % 2 ≡ 0 = omega arith in
+    let x : get_or (each_lane (λ i. f (2 * i) * 256 + f (2 * i + 1))) j 0 ≡ f (2 * j) * 256 + f (2 * j + 1) = lane_of 0 (λ i. f (2 * i) * 256 + f (2 * i + 1)) _ refl j h in
+    let y : (f (2 * j) * 256 + f (2 * j + 1)) % 256 ≡ f (2 * j + 1) = omega arith in
+    rw (e, p, x, y) (set_each (λ i. f (2 * i) * 256 + f (2 * i + 1)) j (b * 256 + f (2 * j + 1)) h ∙ each_same _ _ (λ l k. lane l))
+  where
+    lane : (l : ℕ) → (if nat_eq l j then b * 256 + f (2 * j + 1) else f (2 * l) * 256 + f (2 * l + 1)) ≡ g (2 * l) * 256 + g (2 * l + 1)
+    lane l = grind (arith, nat_tests, here, other (2 * l), other (2 * l + 1))
+
+low_written : (f g : ℕ → ℕ) (j b : ℕ) → j < 8 → ((k : ℕ) → k ≢ 2 * j + 1 → g k ≡ f k) → g (2 * j + 1) ≡ b → f (2 * j + 1) < 256
+    → with_register_byte (of_bytes f) (2 * j + 1) b ≡ of_bytes g
+unfolding with_register_byte of_bytes
+low_written f g j b h other here low =
+    let e : (2 * j + 1) / 2 ≡ j = omega arith in
+    let p : (2 * j + 1) % 2 ≡ 1 = omega arith in
+    let x : get_or (each_lane (λ i. f (2 * i) * 256 + f (2 * i + 1))) j 0 ≡ f (2 * j) * 256 + f (2 * j + 1) = lane_of 0 (λ i. f (2 * i) * 256 + f (2 * i + 1)) _ refl j h in
+    let y : (f (2 * j) * 256 + f (2 * j + 1)) / 256 ≡ f (2 * j) = omega arith in
+    rw (e, p, x, y) (set_each (λ i. f (2 * i) * 256 + f (2 * i + 1)) j (f (2 * j) * 256 + b) h ∙ each_same _ _ (λ l k. lane l))
+  where
+    lane : (l : ℕ) → (if nat_eq l j then f (2 * j) * 256 + b else f (2 * l) * 256 + f (2 * l + 1)) ≡ g (2 * l) * 256 + g (2 * l + 1)
+    lane l = grind (arith, nat_tests, here, other (2 * l), other (2 * l + 1))
+
+byte_written : (f g : ℕ → ℕ) (m b : ℕ) → m < 16 → ((k : ℕ) → k ≢ m → g k ≡ f k) → g m ≡ b → ((j : ℕ) → m ≤ 2 * j + 1 → f (2 * j + 1) < 256)
+    → with_register_byte (of_bytes f) m b ≡ of_bytes g
+byte_written f g m b h other here low = elim (cases_eq (m % 2) 0) [
+  | inl p ↦
+      let e : m ≡ 2 * (m / 2) = omega arith in
+      ap (λ k. with_register_byte (of_bytes f) k b) e
+      ∙ high_written f g (m / 2) b (omega arith) (λ k d. other k (λ q. d (q ∙ e))) (ap g (sym e) ∙ here) (low (m / 2) (omega arith))
+  | inr p ↦
+      let e : m ≡ 2 * (m / 2) + 1 = omega arith in
+      ap (λ k. with_register_byte (of_bytes f) k b) e
+      ∙ low_written f g (m / 2) b (omega arith) (λ k d. other k (λ q. d (q ∙ e))) (ap g (sym e) ∙ here) (low (m / 2) (omega arith))
+]
+
+-- the bytes of a window
+window_byte : (m : List ℕ) (a n k : ℕ) → k < n → get_or (bytes_at m a n) k 0 ≡ byte_at m (a + k)
+window_byte m a zero k h = absurd (omega arith)
+window_byte m a (suc n) zero h = ap (byte_at m) (omega arith)
+window_byte m a (suc n) (suc k) h = window_byte m (a + 1) n k (omega arith) ∙ ap (byte_at m) (omega arith)
+
+-- byte k of a register in which n bytes from byte i on are placed
+abbrev placed_byte : List ℕ → List ℕ → ℕ → ℕ → ℕ → ℕ
+placed_byte v source i n k = if nat_le i k && nat_lt k (i + n) then get_or source (k - i) 0 else register_byte v k
+
+none_byte : (v source : List ℕ) (i k : ℕ) → placed_byte v source i 0 k ≡ register_byte v k
+none_byte v source i k = grind (arith, nat_tests)
+
+both_bytes : (v : List ℕ) (l : ℕ) → register_byte v (2 * l) * 256 + register_byte v (2 * l + 1) ≡ get_or v l 0
+unfolding register_byte
+both_bytes v l =
+    let e : 2 * l / 2 ≡ l = omega arith in
+    let f : (2 * l + 1) / 2 ≡ l = omega arith in
+    let p : 2 * l % 2 ≡ 0 = omega arith in
+    let q : (2 * l + 1) % 2 ≡ 1 = omega arith in
+    rw (e, f, p, q) (omega arith)
+
+placed_none : (v source : List ℕ) (i : ℕ) → length v ≡ 8 → placed v source i 0 ≡ v
+unfolding of_bytes
+placed_none v source i h = each_same _ _ (λ l k. rw (none_byte v source i (2 * l), none_byte v source i (2 * l + 1)) (both_bytes v l)) ∙ sym (eta 0 v h)
+
+-- the low byte of a lane that the next byte is placed in, or one behind, is still the register's
+kept_byte : (v source : List ℕ) (i n j : ℕ) → i + n ≤ 2 * j + 1 → placed_byte v source i n (2 * j + 1) < 256
+unfolding register_byte
+kept_byte v source i n j h =
+    let q : (2 * j + 1) % 2 ≡ 1 = omega arith in
+    let f : nat_lt (2 * j + 1) (i + n) ≡ false = grind (arith, nat_tests) in
+    grind (arith, nat_tests, q, f)
+
+placed_more : (v source : List ℕ) (i n : ℕ) → i + n < 16 → placed v source i (n + 1) ≡ with_register_byte (placed v source i n) (i + n) (get_or source n 0)
+placed_more v source i n h =
+    sym (byte_written (placed_byte v source i n) (placed_byte v source i (n + 1)) (i + n) (get_or source n 0) h (λ k d. other k d) here (kept_byte v source i n))
+  where
+    other : (k : ℕ) → k ≢ i + n → placed_byte v source i (n + 1) k ≡ placed_byte v source i n k
+    other k d = grind (arith, nat_tests)
+
+    here : placed_byte v source i (n + 1) (i + n) ≡ get_or source n 0
+    here =
+        let e : i + n - i ≡ n = omega arith in
+        grind (arith, nat_tests)
+
+-- of more bytes than there is room for the first are placed
+placed_room : (v source : List ℕ) (i n : ℕ) → placed v source i n ≡ placed v source i (min n (16 - i))
+unfolding of_bytes
+placed_room v source i n = each_same _ _ (λ l h. rw (room (2 * l) (omega arith), room (2 * l + 1) (omega arith)) refl)
+  where
+    room : (k : ℕ) → k < 16 → placed_byte v source i n k ≡ placed_byte v source i (min n (16 - i)) k
+    room k h = grind (arith, nat_tests)
+
+pub placed_loaded : (m : List ℕ) (file : List (List ℕ)) (vt i n a : ℕ) → vt < length file → length (register file vt) ≡ 8 → n ≤ 16
+    → with_register file vt (placed (register file vt) (bytes_at m a 16) i n) ≡ after_load m file (bytes vt i (min n (16 - i)) a)
+unfolding bytes loaded
+placed_loaded m file vt i n a h l k =
+    let v = register file vt in
+    let w = bytes_at m a 16 in
+    ap (with_register file vt) (placed_room v w i n)
+    ∙ sym (one_register m file vt (min n (16 - i)) (λ k. to_byte vt (i + k) (a + k)) (λ v k. with_register_byte v (i + k) (byte_at m (a + k))) (placed v w i)
+    h (λ _ _. refl) (placed_none v w i l)
+    (λ k lt. placed_more v w i k (omega arith) ∙ ap (with_register_byte (placed v w i k) (i + k)) (window_byte m a 16 k (omega arith))))
