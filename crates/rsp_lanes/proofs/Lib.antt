@@ -1,6 +1,8 @@
 -- Lemmas on eight lanes.
+pub mod Bytes
 pub mod Carry
 pub mod Kit
 pub mod Masks
 pub mod Wide
 pub mod Signs
+pub mod Sources
