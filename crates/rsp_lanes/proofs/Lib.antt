@@ -1,7 +1,9 @@
 -- Lemmas on eight lanes.
 pub mod ByteOrder
+pub mod Bytes
 pub mod Carry
 pub mod Kit
 pub mod Masks
 pub mod Wide
 pub mod Signs
+pub mod Sources

@@ -1,7 +1,46 @@
-ghost use Rattle.std.specs.Prelude.{◌≡◌, ◌<◌, slice_index};
+ghost use Rattle.std.specs.Prelude.{◌≡◌, ◌<◌, ◌+◌, ◌*◌, ℕ, slice_index};
 ghost use Rattle.rsp_lanes.specs.Lanes.{each_lane, source_lane};
 
 use crate::VReg;
+use std::simd::prelude::*;
+
+/// For each element the bytes of a register that its operand is made of, two for each lane. The low byte of lane i has
+/// number 2 i here, its high byte 2 i + 1.
+static SOURCES: [[u8; 16]; 16] = [
+    [0, 1, 2, 3, 4, 5, 6, 7, 8, 9, 10, 11, 12, 13, 14, 15],
+    [0, 1, 2, 3, 4, 5, 6, 7, 8, 9, 10, 11, 12, 13, 14, 15],
+    [0, 1, 0, 1, 4, 5, 4, 5, 8, 9, 8, 9, 12, 13, 12, 13],
+    [2, 3, 2, 3, 6, 7, 6, 7, 10, 11, 10, 11, 14, 15, 14, 15],
+    [0, 1, 0, 1, 0, 1, 0, 1, 8, 9, 8, 9, 8, 9, 8, 9],
+    [2, 3, 2, 3, 2, 3, 2, 3, 10, 11, 10, 11, 10, 11, 10, 11],
+    [4, 5, 4, 5, 4, 5, 4, 5, 12, 13, 12, 13, 12, 13, 12, 13],
+    [6, 7, 6, 7, 6, 7, 6, 7, 14, 15, 14, 15, 14, 15, 14, 15],
+    [0, 1, 0, 1, 0, 1, 0, 1, 0, 1, 0, 1, 0, 1, 0, 1],
+    [2, 3, 2, 3, 2, 3, 2, 3, 2, 3, 2, 3, 2, 3, 2, 3],
+    [4, 5, 4, 5, 4, 5, 4, 5, 4, 5, 4, 5, 4, 5, 4, 5],
+    [6, 7, 6, 7, 6, 7, 6, 7, 6, 7, 6, 7, 6, 7, 6, 7],
+    [8, 9, 8, 9, 8, 9, 8, 9, 8, 9, 8, 9, 8, 9, 8, 9],
+    [
+        10, 11, 10, 11, 10, 11, 10, 11, 10, 11, 10, 11, 10, 11, 10, 11,
+    ],
+    [
+        12, 13, 12, 13, 12, 13, 12, 13, 12, 13, 12, 13, 12, 13, 12, 13,
+    ],
+    [
+        14, 15, 14, 15, 14, 15, 14, 15, 14, 15, 14, 15, 14, 15, 14, 15,
+    ],
+];
+
+/// The entry of an element, from 0 to 15.
+#[inline(always)]
+fn sources(e: usize) -> u8x16
+    requires { e < 16 }
+    ensures low { (i : ℕ) → i < 8 → slice_index result (2 * i) ≡ 2 * source_lane e i }
+    ensures high { (i : ℕ) → i < 8 → slice_index result (2 * i + 1) ≡ 2 * source_lane e i + 1 }
+    ensures bound { (i : ℕ) → i < 16 → slice_index result i < 16 }
+{
+    u8x16::from_array(SOURCES[e])
+}
 
 /// The operand that an element, from 0 to 15, makes of a register: for 0 and 1 the register; for 2 and 3 the first, the
 /// second of each pair of lanes, twice; for 4 to 7 the first to the fourth of each four lanes, four times; for 8 to 15
@@ -11,22 +50,6 @@ pub fn select(v: &VReg, e: usize) -> VReg
     requires { e < 16 }
     ensures { result ≡ each_lane (λ i. slice_index v.now (source_lane e i)) }
 {
-    let lanes = v.to_simd();
-    VReg::from_simd(match e {
-        0 | 1 => lanes,
-        2 => lanes.swizzle([0, 0, 2, 2, 4, 4, 6, 6]),
-        3 => lanes.swizzle([1, 1, 3, 3, 5, 5, 7, 7]),
-        4 => lanes.swizzle([0, 0, 0, 0, 4, 4, 4, 4]),
-        5 => lanes.swizzle([1, 1, 1, 1, 5, 5, 5, 5]),
-        6 => lanes.swizzle([2, 2, 2, 2, 6, 6, 6, 6]),
-        7 => lanes.swizzle([3, 3, 3, 3, 7, 7, 7, 7]),
-        8 => lanes.swizzle([0, 0, 0, 0, 0, 0, 0, 0]),
-        9 => lanes.swizzle([1, 1, 1, 1, 1, 1, 1, 1]),
-        10 => lanes.swizzle([2, 2, 2, 2, 2, 2, 2, 2]),
-        11 => lanes.swizzle([3, 3, 3, 3, 3, 3, 3, 3]),
-        12 => lanes.swizzle([4, 4, 4, 4, 4, 4, 4, 4]),
-        13 => lanes.swizzle([5, 5, 5, 5, 5, 5, 5, 5]),
-        14 => lanes.swizzle([6, 6, 6, 6, 6, 6, 6, 6]),
-        _ => lanes.swizzle([7, 7, 7, 7, 7, 7, 7, 7]),
-    })
+    let bytes = v.to_simd().to_le_bytes();
+    VReg::from_simd(u16x8::from_le_bytes(bytes.swizzle_dyn(sources(e))))
 }
