@@ -2,7 +2,6 @@
 //! fakes as over the system, so that tests need no program.
 #![tactic(auto)]
 
-mod arguments;
 mod assembling;
 mod dis;
 mod fault;

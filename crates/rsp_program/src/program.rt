@@ -1,10 +1,10 @@
-use crate::arguments::{Asked, RunFiles, read_arguments};
 use crate::assembling::assemble_file;
 use crate::dis::disassemble_file;
 use crate::fault::Fault;
 use crate::status::Status;
 use crate::store::{FileFault, FileStore};
 use clap::error::ErrorKind;
+use rsp_arguments::{Asked, RunFiles, read_arguments};
 use rsp_bench::{BenchEnd, FromRead, ToWrite, run_bench};
 use rsp_memory::Rdram;
 use std::alloc::Global;

@@ -1,3 +1,7 @@
+//! The command line of the program `rsp`: which words ask for what. It stands in a crate of its own since it needs the command-line
+//! library alone, so that it is proved beside the crates of the machine and not after them.
+#![tactic(auto)]
+
 use clap::builder::ValueParser;
 use clap::{Arg, ArgAction, Command, Error};
 use std::alloc::Global;
