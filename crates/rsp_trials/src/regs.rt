@@ -49,15 +49,18 @@ fn dma_wraps_in_its_bank(rt: HostRuntime) -> Result<(), AllocError> {
     board.write(0, 0xff8);
     board.write(1, 0);
     board.write(2, 0x80_1007);
-    assert_eq!(rt; board.sp.host_read(0), 8);
-    assert_eq!(rt; board.sp.host_read(1), 0x18);
-    assert_eq!(rt; board.sp.host_read(2), 0x80_0ff8);
-    assert_eq!(rt; board.sp.host_read(3), 0x80_0ff8);
-    assert_eq!(rt; board.dmem.word(0xff8), 0x0102_0304);
-    assert_eq!(rt; board.dmem.word(0xffc), 0x0506_0708);
-    assert_eq!(rt; board.dmem.word(0), 0x1112_1314);
-    assert_eq!(rt; board.dmem.word(4), 0x1516_1718);
-    assert_eq!(rt; board.dmem.word(8), 0);
+    for (n, value) in [(0, 8), (1, 0x18), (2, 0x80_0ff8), (3, 0x80_0ff8)] {
+        assert_eq!(rt; board.sp.host_read(n), value);
+    }
+    for (a, word) in [
+        (0xff8, 0x0102_0304),
+        (0xffc, 0x0506_0708),
+        (0, 0x1112_1314),
+        (4, 0x1516_1718),
+        (8, 0),
+    ] {
+        assert_eq!(rt; board.dmem.word(a), word);
+    }
     assert_eq!(rt; board.imem.word(0), 0);
     Ok(())
 }
