@@ -1,6 +1,6 @@
 -- Lemmas on eight lanes.
 pub mod ByteOrder
-pub mod Bytes
+pub mod ByteLanes
 pub mod Carry
 pub mod Kit
 pub mod Masks
