@@ -30,7 +30,7 @@ use Rattle.rsp_machine.specs.Vector.{multiplies, rounds, multiplies_mpeg, reads_
 use Rattle.rsp_machine.specs.Step.{computes, loads, stores, jumps, breaks, moves_sp, executed, singled, step_by, step_of}
 use Rattle.rsp_machine.specs.Host.{register_written}
 use Rattle.rsp_machine.specs.declared.step.StepEnd.TheVariants.{Done, Halted, Reserved}
-use Rattle.rsp_machine.specs.Saved.{Saved, kept, kept_part, saved, restored, part_of, undone, starts_dma, is_length, sign_part, jump_part, loaded_part, told_of, may_store, group_at, with_group, window_of, is_back_by, kept_by, can_undo, slot_after, is_back}
+use Rattle.rsp_machine.specs.Saved.{Saved, kept, kept_part, saved, restored, part_of, vd_in, vd_at, undone, starts_dma, is_length, sign_part, jump_part, loaded_part, told_of, may_store, group_at, with_group, window_of, is_back_by, kept_by, can_undo, slot_after, is_back}
 use Rattle.rsp_machine.specs.declared.part.Part.TheVariants as of
 use Rattle.rsp_machine.proofs.Undoing.{register-back, vector-back, store-back, stored-back}
 use Rattle.rsp_machine.proofs.Loading.{loaded-back, put_back}
@@ -76,39 +76,43 @@ vector_kept : (n : ℕ) (v : List ℕ) (s : State) (r : Saved) → s.sp.halted �
 unfolding undone kept_part saved restored after_step
 vector_kept n v s r h = vectors_same s _ h (vector-back s.vectors n v)
 
-product_kept : (n : ℕ) (v : List ℕ) (x : List ℤ) (s : State) (r : Saved) → s.sp.halted ≡ false
+-- a computing row's register
+computed-back : (file : List (List ℕ)) (n vd : ℕ) (v : List ℕ) → vd ≡ n → with_vector (with_vector file n v) vd (vector file n) ≡ file
+computed-back file n vd v w = rw w (vector-back file n v)
+
+product_kept : (n : ℕ) (v : List ℕ) (x : List ℤ) (s : State) (r : Saved) → vd_at s.pc s ≡ n → s.sp.halted ≡ false
     → undone (kept_part (of.Product n) s r) (singled (advanced (record s { vectors = with_vector s.vectors n v; accumulators = x }))) ≡ s
 unfolding undone kept_part saved restored after_step
-product_kept n v x s r h = vectors_same s _ h (vector-back s.vectors n v)
+product_kept n v x s r w h = vectors_same s _ h (computed-back s.vectors n (vd_at s.pc s) v w)
 
 -- where some flags are written back, the others are those before
 flags_same : (s : State) (v : List (List ℕ)) (f : Flags) → s.sp.halted ≡ false → v ≡ s.vectors → f ≡ s.flags → record s { vectors = v; flags = f; sp = record s.sp { halted = false } } ≡ s
 flags_same s v f h e k = same_state s _ v _ f _ _ _ _ h refl e refl k refl refl refl refl
 
-sum_kept : (n : ℕ) (v : List ℕ) (x : List ℤ) (f : Flags) (s : State) (r : Saved) → s.sp.halted ≡ false → record f { carry = s.flags.carry; differ = s.flags.differ } ≡ s.flags
+sum_kept : (n : ℕ) (v : List ℕ) (x : List ℤ) (f : Flags) (s : State) (r : Saved) → vd_at s.pc s ≡ n → s.sp.halted ≡ false → record f { carry = s.flags.carry; differ = s.flags.differ } ≡ s.flags
     → undone (kept_part (of.Sum n) s r) (singled (advanced (record s { vectors = with_vector s.vectors n v; accumulators = x; flags = f }))) ≡ s
 unfolding undone kept_part saved restored after_step
-sum_kept n v x f s r h e = flags_same s _ _ h (vector-back s.vectors n v) e
+sum_kept n v x f s r w h e = flags_same s _ _ h (computed-back s.vectors n (vd_at s.pc s) v w) e
 
-choice_kept : (n : ℕ) (v : List ℕ) (x : List ℤ) (f : Flags) (s : State) (r : Saved) → s.sp.halted ≡ false → record s.flags { extra = f.extra } ≡ s.flags
+choice_kept : (n : ℕ) (v : List ℕ) (x : List ℤ) (f : Flags) (s : State) (r : Saved) → vd_at s.pc s ≡ n → s.sp.halted ≡ false → record s.flags { extra = f.extra } ≡ s.flags
     → undone (kept_part (of.Choice n) s r) (singled (advanced (record s { vectors = with_vector s.vectors n v; accumulators = x; flags = f }))) ≡ s
 unfolding undone kept_part saved restored after_step
-choice_kept n v x f s r h e = flags_same s _ _ h (vector-back s.vectors n v) e
+choice_kept n v x f s r w h e = flags_same s _ _ h (computed-back s.vectors n (vd_at s.pc s) v w) e
 
-clip_kept : (n : ℕ) (v : List ℕ) (x : List ℤ) (f : Flags) (s : State) (r : Saved) → s.sp.halted ≡ false
+clip_kept : (n : ℕ) (v : List ℕ) (x : List ℤ) (f : Flags) (s : State) (r : Saved) → vd_at s.pc s ≡ n → s.sp.halted ≡ false
     → undone (kept_part (of.Clip n) s r) (singled (advanced (record s { vectors = with_vector s.vectors n v; accumulators = x; flags = f }))) ≡ s
 unfolding undone kept_part saved restored after_step
-clip_kept n v x f s r h = vectors_same s _ h (vector-back s.vectors n v)
+clip_kept n v x f s r w h = vectors_same s _ h (computed-back s.vectors n (vd_at s.pc s) v w)
 
-logic_kept : (n : ℕ) (v : List ℕ) (x : List ℤ) (f : Flags) (s : State) (r : Saved) → s.sp.halted ≡ false → f ≡ s.flags
+logic_kept : (n : ℕ) (v : List ℕ) (x : List ℤ) (f : Flags) (s : State) (r : Saved) → vd_at s.pc s ≡ n → s.sp.halted ≡ false → f ≡ s.flags
     → undone (kept_part (of.Product n) s r) (singled (advanced (record s { vectors = with_vector s.vectors n v; accumulators = x; flags = f }))) ≡ s
 unfolding undone kept_part saved restored after_step
-logic_kept n v x f s r h e = flags_same s _ _ h (vector-back s.vectors n v) e
+logic_kept n v x f s r w h e = flags_same s _ _ h (computed-back s.vectors n (vd_at s.pc s) v w) e
 
-lane_kept : (n : ℕ) (v : List ℕ) (x : List ℤ) (d : Divider) (s : State) (r : Saved) → s.sp.halted ≡ false
+lane_kept : (n : ℕ) (v : List ℕ) (x : List ℤ) (d : Divider) (s : State) (r : Saved) → vd_at s.pc s ≡ n → s.sp.halted ≡ false
     → undone (kept_part (of.Lane n) s r) (singled (advanced (record s { vectors = with_vector s.vectors n v; accumulators = x; divider = d }))) ≡ s
 unfolding undone kept_part saved restored after_step
-lane_kept n v x d s r h = vectors_same s _ h (vector-back s.vectors n v)
+lane_kept n v x d s r w h = vectors_same s _ h (computed-back s.vectors n (vd_at s.pc s) v w)
 
 flags_kept : (f : Flags) (s : State) (r : Saved) → s.sp.halted ≡ false
     → undone (kept_part of.Flags s r) (singled (advanced (record s { flags = f }))) ≡ s
@@ -204,38 +208,38 @@ control_move_kept From rt control s r h = register_kept rt _ (going_on s.npc) s 
 control_move_kept To rt control s r h = flags_kept _ s r h
 
 -- any instruction that starts no DMA
-kept_back : (i : Inst) (s : State) (r : Saved) → starts_dma i ≡ false → s.sp.halted ≡ false → AreFlags s.flags → undone (kept i s r) (singled (executed i s)) ≡ s
+kept_back : (i : Inst) (s : State) (r : Saved) → starts_dma i ≡ false → s.sp.halted ≡ false → AreFlags s.flags → inst_of (word_at s.imem s.pc) ≡ Some i → undone (kept i s r) (singled (executed i s)) ≡ s
 unfolding part_of executed computes loads stores jumps breaks multiplies rounds multiplies_mpeg reads_accumulator ruled divides loads_vector stores_vector loaded_file stored_memory
-kept_back (Shift row rd rt amount) s r e h k = register_kept rd _ (going_on s.npc) s r h
-kept_back (ShiftBy row rd rt rs) s r e h k = register_kept rd _ (going_on s.npc) s r h
-kept_back (Register row rd rs rt) s r e h k = register_kept rd _ (going_on s.npc) s r h
-kept_back (Immediate row rt rs imm) s r e h k = register_kept rt _ (going_on s.npc) s r h
-kept_back (LoadUpper rt imm) s r e h k = register_kept rt _ (going_on s.npc) s r h
-kept_back (Load row rt offset base) s r e h k = register_kept rt _ (going_on s.npc) s r h
-kept_back (Store row rt offset base) s r e h k = bytes_kept (address s.registers base offset) _ s r h (store-back row s.dmem (address s.registers base offset) (register s.registers rt))
-kept_back (JumpRegister rs) s r e h k = places_kept _ s r h
-kept_back (JumpLinkRegister rd rs) s r e h k = register_kept rd _ _ s r h
-kept_back (BranchSign row rs offset) s r e h k = sign_kept row rs offset _ s r h
-kept_back (BranchEqual row rs rt offset) s r e h k = places_kept _ s r h
-kept_back (Jump row target) s r e h k = jump_kept row target _ s r h
-kept_back Break s r e h k = sp_kept 0 0 _ s r h
-kept_back (MoveSp row rt n) s r e h k = move_kept row rt n s r e h
-kept_back (MoveVector row rt n element) s r e h k = vector_move_kept row rt n element s r h
-kept_back (MoveControl row rt control) s r e h k = control_move_kept row rt control s r h
-kept_back (Multiply row vd vs vt n) s r e h k = product_kept vd _ _ s r h
-kept_back (Round row vd vs vt n) s r e h k = product_kept vd _ _ s r h
-kept_back (MpegMultiply row vd vs vt n) s r e h k = product_kept vd _ _ s r h
-kept_back (ReadAccumulator vd vs vt n) s r e h k = vector_kept vd _ s r h
-kept_back (VectorAdd row vd vs vt n) s r e h k = sum_kept vd _ _ _ s r h (sum-back (add_op row) _ _ s.flags k)
-kept_back (VectorSelect row vd vs vt n) s r e h k = choice_kept vd _ _ _ s r h (choice-back (select_op row) _ _ s.flags k)
-kept_back (VectorClip row vd vs vt n) s r e h k = clip_kept vd _ _ _ s r h
-kept_back (VectorMerge vd vs vt n) s r e h k = sum_kept vd _ _ _ s r h (merge-back _ _ s.flags k)
-kept_back (VectorLogic row vd vs vt n) s r e h k = logic_kept vd _ _ _ s r h (logic-back (logic_op row) _ _ s.flags k)
-kept_back (Lane row vd lane vt n) s r e h k = lane_kept vd _ _ _ s r h
-kept_back (Idle row) s r e h k = places_kept _ s r h
-kept_back (VectorLoad row vt n offset base) s r e h k =
+kept_back (Shift row rd rt amount) s r e h k o = register_kept rd _ (going_on s.npc) s r h
+kept_back (ShiftBy row rd rt rs) s r e h k o = register_kept rd _ (going_on s.npc) s r h
+kept_back (Register row rd rs rt) s r e h k o = register_kept rd _ (going_on s.npc) s r h
+kept_back (Immediate row rt rs imm) s r e h k o = register_kept rt _ (going_on s.npc) s r h
+kept_back (LoadUpper rt imm) s r e h k o = register_kept rt _ (going_on s.npc) s r h
+kept_back (Load row rt offset base) s r e h k o = register_kept rt _ (going_on s.npc) s r h
+kept_back (Store row rt offset base) s r e h k o = bytes_kept (address s.registers base offset) _ s r h (store-back row s.dmem (address s.registers base offset) (register s.registers rt))
+kept_back (JumpRegister rs) s r e h k o = places_kept _ s r h
+kept_back (JumpLinkRegister rd rs) s r e h k o = register_kept rd _ _ s r h
+kept_back (BranchSign row rs offset) s r e h k o = sign_kept row rs offset _ s r h
+kept_back (BranchEqual row rs rt offset) s r e h k o = places_kept _ s r h
+kept_back (Jump row target) s r e h k o = jump_kept row target _ s r h
+kept_back Break s r e h k o = sp_kept 0 0 _ s r h
+kept_back (MoveSp row rt n) s r e h k o = move_kept row rt n s r e h
+kept_back (MoveVector row rt n element) s r e h k o = vector_move_kept row rt n element s r h
+kept_back (MoveControl row rt control) s r e h k o = control_move_kept row rt control s r h
+kept_back (Multiply row vd vs vt n) s r e h k o = product_kept vd _ _ s r (ap vd_in o) h
+kept_back (Round row vd vs vt n) s r e h k o = product_kept vd _ _ s r (ap vd_in o) h
+kept_back (MpegMultiply row vd vs vt n) s r e h k o = product_kept vd _ _ s r (ap vd_in o) h
+kept_back (ReadAccumulator vd vs vt n) s r e h k o = vector_kept vd _ s r h
+kept_back (VectorAdd row vd vs vt n) s r e h k o = sum_kept vd _ _ _ s r (ap vd_in o) h (sum-back (add_op row) _ _ s.flags k)
+kept_back (VectorSelect row vd vs vt n) s r e h k o = choice_kept vd _ _ _ s r (ap vd_in o) h (choice-back (select_op row) _ _ s.flags k)
+kept_back (VectorClip row vd vs vt n) s r e h k o = clip_kept vd _ _ _ s r (ap vd_in o) h
+kept_back (VectorMerge vd vs vt n) s r e h k o = sum_kept vd _ _ _ s r (ap vd_in o) h (merge-back _ _ s.flags k)
+kept_back (VectorLogic row vd vs vt n) s r e h k o = logic_kept vd _ _ _ s r (ap vd_in o) h (logic-back (logic_op row) _ _ s.flags k)
+kept_back (Lane row vd lane vt n) s r e h k o = lane_kept vd _ _ _ s r (ap vd_in o) h
+kept_back (Idle row) s r e h k o = places_kept _ s r h
+kept_back (VectorLoad row vt n offset base) s r e h k o =
     load_kept row vt _ s r h (loaded-back row s.dmem s.vectors vt n (transfer_address (VectorLoad row vt n offset base) (register s.registers base)))
-kept_back (VectorStore row vt n offset base) s r e h k =
+kept_back (VectorStore row vt n offset base) s r e h k o =
     let a : ℕ = transfer_address (VectorStore row vt n offset base) (register s.registers base) in
     bytes_kept (window_of row a) _ s r h (stored-back row vt n a s.vectors s.dmem)
 
@@ -244,18 +248,18 @@ not_true : (b : Bool) → not b ≡ true → b ≡ false
 not_true false e = refl
 not_true true e = cc
 
-word_back : (o : Option Inst) (word : ℕ) (s : State) (r : Saved) → s.sp.halted ≡ false → AreFlags s.flags → is_back_by o ≡ true → undone (kept_by o s r) (step_by o word s).1 ≡ s
-word_back None word s r h k e = cc
-word_back (Some i) word s r h k e = kept_back i s r (not_true (starts_dma i) e) h k
+word_back : (o : Option Inst) (word : ℕ) (s : State) (r : Saved) → inst_of (word_at s.imem s.pc) ≡ o → s.sp.halted ≡ false → AreFlags s.flags → is_back_by o ≡ true → undone (kept_by o s r) (step_by o word s).1 ≡ s
+word_back None word s r w h k e = cc
+word_back (Some i) word s r w h k e = kept_back i s r (not_true (starts_dma i) e) h k w
 
-either_back : (b : Bool) (o : Option Inst) (word : ℕ) (s : State) (r : Saved) → s.sp.halted ≡ b → AreFlags s.flags → (if b then false else is_back_by o) ≡ true
+either_back : (b : Bool) (o : Option Inst) (word : ℕ) (s : State) (r : Saved) → inst_of (word_at s.imem s.pc) ≡ o → s.sp.halted ≡ b → AreFlags s.flags → (if b then false else is_back_by o) ≡ true
     → undone (if b then r else kept_by o s r) (if b then (Halted, s) else step_by o word s).1 ≡ s
-either_back true o word s r h k e = cc
-either_back false o word s r h k e = word_back o word s r h k e
+either_back true o word s r w h k e = cc
+either_back false o word s r w h k e = word_back o word s r w h k e
 
 pub slot_back : (s : State) (r : Saved) → AreFlags s.flags → can_undo s ≡ true → undone (slot_after s r) (step_of s).1 ≡ s
 unfolding can_undo slot_after told_of step_of
-slot_back s r k e = either_back s.sp.halted (inst_of (word_at s.imem s.pc)) (word_at s.imem s.pc) s r refl k e
+slot_back s r k e = either_back s.sp.halted (inst_of (word_at s.imem s.pc)) (word_at s.imem s.pc) s r refl refl k e
 
 -- the mark in the slot tells whether an instruction can be undone
 load_marked : (row : VectorLoadRow) (vt : ℕ) (s : State) (r : Saved) → is_back (kept_part (loaded_part row vt) s r).part ≡ true

@@ -103,8 +103,37 @@ saved of.Flags s r = record r { flags = s.flags }
 saved (of.Sp n) s r = record r { word = register s.registers n; sp = s.sp }
 saved _ s r = r
 
+-- a part as a slot holds it: the register that a computing row writes is read again from its word, in IMEM
+abbrev pub nameless : Part → Part
+nameless (of.Product n) = of.Product 0
+nameless (of.Sum n) = of.Sum 0
+nameless (of.Choice n) = of.Choice 0
+nameless (of.Clip n) = of.Clip 0
+nameless (of.Lane n) = of.Lane 0
+nameless part = part
+
 unfoldable pub kept_part : Part → State → Saved → Saved
-kept_part part s r = saved part s (record r { pc = s.pc; part = part })
+kept_part part s r = saved part s (record r { pc = s.pc; part = nameless part })
+
+-- the register vd of a computing row; the row that stands at a place
+abbrev pub vd_of : Inst → ℕ
+vd_of (Multiply row vd vs vt e) = vd
+vd_of (Round row vd vs vt e) = vd
+vd_of (MpegMultiply row vd vs vt e) = vd
+vd_of (VectorAdd row vd vs vt e) = vd
+vd_of (VectorSelect row vd vs vt e) = vd
+vd_of (VectorClip row vd vs vt e) = vd
+vd_of (VectorMerge vd vs vt e) = vd
+vd_of (VectorLogic row vd vs vt e) = vd
+vd_of (Lane row vd lane vt e) = vd
+vd_of _ = 0
+
+abbrev pub vd_in : Option Inst → ℕ
+vd_in None = 0
+vd_in (Some i) = vd_of i
+
+abbrev pub vd_at : ℕ → State → ℕ
+vd_at pc s = vd_in (inst_of (word_at s.imem pc))
 
 -- what a jump or a branch changes: the register that it links
 abbrev pub sign_part : SignRow → Part
@@ -219,9 +248,9 @@ changes_memory _ = false
 abbrev pub may_store : Saved → Bool
 may_store r = changes_memory r.part
 
--- a vector register and the accumulators, written back
-abbrev pub with_product : ℕ → Saved → State → State
-with_product n r s = record s { vectors = with_vector s.vectors n r.vector; accumulators = r.accumulators }
+-- the vector register of a computing row and the accumulators, written back
+abbrev pub with_product : Saved → State → State
+with_product r s = record s { vectors = with_vector s.vectors (vd_at r.pc s) r.vector; accumulators = r.accumulators }
 
 -- what was changed, written back
 unfoldable pub restored : Part → Saved → State → State
@@ -229,11 +258,11 @@ restored (of.Register n) r s = record s { registers = with_register s.registers 
 restored (of.Bytes a) r s = record s { dmem = with_bytes s.dmem a r.bytes }
 restored (of.Vector n) r s = record s { vectors = with_vector s.vectors n r.vector }
 restored (of.Group n) r s = record s { vectors = with_group s.vectors n r.vectors }
-restored (of.Product n) r s = with_product n r s
-restored (of.Sum n) r s = record (with_product n r s) { flags = with_vco r.flags s.flags }
-restored (of.Choice n) r s = record (with_product n r s) { flags = with_both r.flags s.flags }
-restored (of.Clip n) r s = record (with_product n r s) { flags = r.flags }
-restored (of.Lane n) r s = record (with_product n r s) { divider = r.divider }
+restored (of.Product n) r s = with_product r s
+restored (of.Sum n) r s = record (with_product r s) { flags = with_vco r.flags s.flags }
+restored (of.Choice n) r s = record (with_product r s) { flags = with_both r.flags s.flags }
+restored (of.Clip n) r s = record (with_product r s) { flags = r.flags }
+restored (of.Lane n) r s = record (with_product r s) { divider = r.divider }
 restored of.Flags r s = record s { flags = r.flags }
 restored (of.Sp n) r s = record s { registers = with_register s.registers n r.word; sp = r.sp }
 restored _ r s = s

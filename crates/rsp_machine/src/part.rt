@@ -1,9 +1,10 @@
 // Which part of a machine a row changes.
 
 ghost use Rattle.std.specs.Prelude.{◌≡◌, ◌<◌};
-ghost use Rattle.rsp_machine.specs.Saved.{IsPart, sign_part, jump_part, loaded_part, vector_move_part, control_move_part, sp_move_part};
+ghost use Rattle.rsp_decode.specs.Table.{IsInstruction};
+ghost use Rattle.rsp_machine.specs.Saved.{IsPart, sign_part, jump_part, loaded_part, vector_move_part, control_move_part, sp_move_part, nameless, vd_of};
 
-use rsp_decode::{JumpRow, MoveRow, SignRow, VectorLoadRow};
+use rsp_decode::{Inst, JumpRow, MoveRow, SignRow, VectorLoadRow};
 
 /// What an instruction changes of a machine besides the places, with the register or the address that it names. Register
 /// numbers are words here, since a step stores one: the lower part of a word costs two instructions more.
@@ -35,6 +36,45 @@ pub(crate) enum Part {
     Sp(u32),
     /// What a DMA changes, which isn't kept: no way leads back.
     Nothing,
+}
+
+impl Part {
+    /// The part as a slot holds it, without the register that a computing row writes: its word, in IMEM, names that.
+    #[inline(always)]
+    pub(crate) fn nameless(self) -> Part
+        requires { IsPart self }
+        ensures value { result ≡ nameless self }
+        ensures part { IsPart result }
+    {
+        match self {
+            Part::Product(_) => Part::Product(0),
+            Part::Sum(_) => Part::Sum(0),
+            Part::Choice(_) => Part::Choice(0),
+            Part::Clip(_) => Part::Clip(0),
+            Part::Lane(_) => Part::Lane(0),
+            part => part,
+        }
+    }
+}
+
+/// The register that a computing row writes; 0 for any other row.
+pub(crate) fn vd_of(inst: &Inst) -> u8
+    requires { IsInstruction inst.now }
+    ensures value { result ≡ vd_of inst.now }
+    ensures bound { result < 32 }
+{
+    match *inst {
+        Inst::Multiply { vd, .. }
+        | Inst::Round { vd, .. }
+        | Inst::MpegMultiply { vd, .. }
+        | Inst::VectorAdd { vd, .. }
+        | Inst::VectorSelect { vd, .. }
+        | Inst::VectorClip { vd, .. }
+        | Inst::VectorMerge { vd, .. }
+        | Inst::VectorLogic { vd, .. }
+        | Inst::Lane { vd, .. } => vd,
+        _ => 0,
+    }
 }
 
 /// What a branch on a register's sign changes.

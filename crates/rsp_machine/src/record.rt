@@ -1,18 +1,18 @@
 // What one step changed, kept in a slot.
 
-ghost use Rattle.std.specs.Prelude.{◌≡◌, ◌<◌, ◌≤◌};
+ghost use Rattle.std.specs.Prelude.{◌≡◌, ◌<◌, ◌≤◌, ◌%◌};
 ghost use Rattle.rsp_scalar.specs.Registers.{register};
 ghost use Rattle.rsp_scalar.specs.Rows.{address};
 ghost use Rattle.rsp_loadstore.specs.File.{register as vector};
 ghost use Rattle.rsp_loadstore.specs.Addresses.{transfer_address};
 ghost use Rattle.rsp_machine.specs.declared.part.Part.TheVariants as part;
-ghost use Rattle.rsp_machine.specs.Saved.{IsPart, blank, is_back, may_store, window_of, group_at, with_group, with_product, undone};
+ghost use Rattle.rsp_machine.specs.Saved.{IsPart, blank, is_back, may_store, window_of, group_at, with_group, vd_at, with_product, undone};
 
 use crate::machine::Machine;
-use crate::part::Part;
+use crate::part::{Part, vd_of};
 use crate::visits::Keeper;
 use rsp_acc::{Acc, Addends};
-use rsp_decode::{Inst, VectorStoreRow};
+use rsp_decode::{Inst, VectorStoreRow, decode};
 use rsp_divide::Divider;
 use rsp_flags::Flags;
 use rsp_lanes::VReg;
@@ -144,7 +144,7 @@ impl Keeper for Record {
     #[tactic(auto, unfolding(crate::specs::Saved::kept_part, crate::specs::Saved::saved))]
     fn keep<A: Acc>(&mut self, machine: &Machine<A>, part: Part) {
         self.pc = machine.pc;
-        self.part = part;
+        self.part = part.nameless();
         match part {
             Part::Places | Part::Nothing => (),
             Part::Register(n) => self.word = machine.regs.get(n as u8),
@@ -215,25 +215,25 @@ impl<A: Acc> Machine<A> {
             Part::Bytes(a) => self.dmem.set_bytes(a, &slot.bytes),
             Part::Vector(n) => self.vregs.set_reg(n as u8, slot.vector),
             Part::Group(n) => self.put_group(n as u8, &slot.vectors),
-            Part::Product(n) => self.put_product(n, slot),
-            Part::Sum(n) => {
-                self.put_product(n, slot);
+            Part::Product(_) => self.put_product(slot),
+            Part::Sum(_) => {
+                self.put_product(slot);
                 self.flags.carry = slot.flags.carry;
                 self.flags.differ = slot.flags.differ;
             }
-            Part::Choice(n) => {
-                self.put_product(n, slot);
+            Part::Choice(_) => {
+                self.put_product(slot);
                 self.flags.carry = slot.flags.carry;
                 self.flags.differ = slot.flags.differ;
                 self.flags.compare = slot.flags.compare;
                 self.flags.clip = slot.flags.clip;
             }
-            Part::Clip(n) => {
-                self.put_product(n, slot);
+            Part::Clip(_) => {
+                self.put_product(slot);
                 self.flags = slot.flags;
             }
-            Part::Lane(n) => {
-                self.put_product(n, slot);
+            Part::Lane(_) => {
+                self.put_product(slot);
                 self.divider = slot.divider;
             }
             Part::Flags => self.flags = slot.flags,
@@ -248,13 +248,26 @@ impl<A: Acc> Machine<A> {
         self.pc = slot.pc;
     }
 
-    /// Writes back a vector register and the accumulators.
-    fn put_product(&mut self, n: u32, slot: &Record)
-        requires { n < 32 }
-        ensures { self.new ≡ with_product n slot.now self.old }
+    /// Writes back the vector register of a computing row and the accumulators.
+    fn put_product(&mut self, slot: &Record)
+        ensures { self.new ≡ with_product slot.now self.old }
     {
-        self.vregs.set_reg(n as u8, slot.vector);
+        let vd = self.vd_at(slot.pc);
+        self.vregs.set_reg(vd, slot.vector);
         self.acc.replace(&slot.accumulators);
+    }
+
+    /// The register that the computing row at a place writes; 0 where no such row stands there.
+    fn vd_at(&self, place: u16) -> u8
+        requires below { place < 4096 }
+        requires whole { place % 4 ≡ 0 }
+        ensures value { result ≡ vd_at place self.now }
+        ensures bound { result < 32 }
+    {
+        match decode(self.imem.aligned_word(place)) {
+            Some(inst) => vd_of(&inst),
+            None => 0,
+        }
     }
 
     /// Writes eight vector registers, from `n` on.
