@@ -1,4 +1,4 @@
-use Rattle.std.proofs.Common.{◌≡◌, ◌∙◌, arith, sym, refl, ap, ◌+◌, Some, None}
+use Rattle.std.proofs.Common.{◌≡◌, ◌∙◌, arith, sym, refl, ap, ◌+◌, Some}
 use Rattle.std.specs.Prelude.{is_some}
 use Rattle.rsp_machine.specs.State.{State}
 use Rattle.rsp_debug.specs.declared.stop.Reason.TheVariants.{Limit}
