@@ -18,7 +18,7 @@ use Rattle.rsp_debug.specs.declared.stop.Reason.TheVariants.{Reserved, Halted, W
 use Rattle.rsp_debug.specs.Stops.{first_of, when, is_reserved, is_break, changed, reason_in, reason_at, least, run_steps, stop_of, IsStop}
 use Rattle.rsp_debug.specs.Runs.{stuck_of}
 use Rattle.rsp_debug.specs.Calls.{IsAfter, Going, StepCall, RunCall, is_count, done_steps, call_steps, called, all_steps, all_called}
-use Rattle.rsp_debug.proofs.Reasons.{stuck_by, stuck_is, step-halted-same, step-reserved-same, steps-none, steps-more, two_none, reason-none, is_stop, reason-stuck}
+use Rattle.rsp_debug.proofs.Reasons.{stuck_by, stuck_is, step-halted-same, step-reserved-same, steps-none, steps-more, two_none, is_stop, reason-stuck}
 
 -- steps after steps
 pub steps-add : (m n : ℕ) (s : State) → steps_of (m + n) s ≡ steps_of n (steps_of m s)

@@ -1,5 +1,5 @@
 -- Where calls lead.
-use Rattle.std.proofs.Common.{◌≡◌, ℕ, zero, suc, ◌+◌, ◌-◌, ◌<◌, ◌≤◌, Bool, true, false, List, [], ◌∷◌, length, take, drop, refl, sym, ◌∙◌, ap, arith, subst, below_more, Option, Some, None}
+use Rattle.std.proofs.Common.{◌≡◌, ℕ, zero, suc, ◌+◌, ◌-◌, ◌<◌, ◌≤◌, Bool, true, false, List, [], ◌∷◌, length, take, drop, refl, sym, ◌∙◌, ap, arith, subst, below_more}
 use Rattle.std.specs.Prelude.{slice_index_or, if◌then◌else◌}
 use Rattle.std.proofs.lemmas.Bool.Decides.{nat_tests}
 use Rattle.rsp_machine.specs.State.{State}
@@ -10,7 +10,7 @@ use Rattle.rsp_machine.specs.declared.step.StepEnd.{StepEnd}
 use Rattle.rsp_machine.specs.declared.step.StepEnd.TheVariants.{Done, Halted, Reserved}
 use Rattle.rsp_debug.specs.Past.{past_by, past_after}
 use Rattle.rsp_debug.specs.Debugging.{Debugging, debugging_of, stepped, steps_made, gone_back}
-use Rattle.rsp_debug.specs.Calls.{Going, StepCall, RunCall, made_steps, done_steps, call_steps, called, Call, GoOn, GoBack, Tally, went, is_accepted, after_call, after_calls, IsAfter, Undoes}
+use Rattle.rsp_debug.specs.Calls.{Going, StepCall, RunCall, made_steps, done_steps, call_steps, called, Call, GoOn, GoBack, Tally, went, is_accepted, after_call, after_calls, Undoes}
 use Rattle.rsp_debug.proofs.Reasons.{step-halted-same, step-reserved-same}
 use Rattle.rsp_debug.proofs.Afters.{after-call}
 use Rattle.rsp_debug.proofs.Going.{made-state}

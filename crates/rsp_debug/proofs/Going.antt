@@ -1,5 +1,5 @@
 -- Going on by steps.
-use Rattle.std.proofs.Common.{◌≡◌, ◌≢◌, ℕ, zero, suc, ◌+◌, ◌-◌, ◌<◌, ◌≤◌, List, [], ◌∷◌, refl, ap, sym, ◌∙◌, arith, add-one, Bool, true, false, Option, Some, None, cond}
+use Rattle.std.proofs.Common.{◌≡◌, ℕ, zero, suc, ◌+◌, ◌-◌, ◌<◌, List, [], refl, ap, sym, ◌∙◌, add-one, Bool, true, false, Option, Some, None, cond}
 use Rattle.std.specs.Prelude.{is_some}
 use Rattle.rsp_machine.specs.State.{State}
 use Rattle.rsp_machine.specs.Step.{step_of, step_by}
@@ -7,7 +7,6 @@ use Rattle.rsp_machine.specs.Laws.{steps_of}
 use Rattle.rsp_memory.specs.Memory.{word_at}
 use Rattle.rsp_decode.specs.Table.{inst_of}
 use Rattle.rsp_decode.specs.declared.inst.Inst.{Inst}
-use Rattle.rsp_machine.specs.declared.step.StepEnd.{StepEnd}
 use Rattle.rsp_machine.specs.declared.step.StepEnd.TheVariants as end
 use Rattle.rsp_debug.specs.Past.{past_by, past_after, past_of}
 use Rattle.rsp_debug.specs.Debugging.{Debugging, steps_made}

@@ -1,9 +1,9 @@
 -- Reads that change nothing.
-use Rattle.std.proofs.Common.{◌≡◌, ◌≢◌, ℕ, ◌%◌, ◌==◌, Bool, true, false, refl, ap, sym, ◌∙◌, cond}
+use Rattle.std.proofs.Common.{◌≡◌, ◌≢◌, ℕ, ◌%◌, true, false, ap, cond}
 use Rattle.std.proofs.lemmas.Grind.{common_steps}
 use Rattle.std.proofs.Common.{arith}
 use Rattle.std.specs.Prelude.{nat_eq}
-use Rattle.rsp_regs.specs.Sp.{Sp, after_read}
+use Rattle.rsp_regs.specs.Sp.{after_read}
 use Rattle.rsp_machine.specs.State.{State}
 use Rattle.rsp_machine.specs.Host.{register_read}
 

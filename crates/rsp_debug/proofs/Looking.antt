@@ -1,12 +1,12 @@
 -- Looks, item by item.
-use Rattle.std.proofs.Common.{◌≡◌, ◌≢◌, ℕ, zero, suc, ◌+◌, ◌*◌, ◌<◌, List, [], ◌∷◌, ◌++◌, length, map, refl, ap, sym, ◌∙◌, arith, get_or, set, inl, inr, get_or-set_other, get_or-set_same}
+use Rattle.std.proofs.Common.{◌≡◌, ℕ, ◌+◌, ◌*◌, ◌<◌, List, [], ◌∷◌, ◌++◌, length, map, ap, sym, ◌∙◌, arith, inl, inr, get_or-set_other, get_or-set_same}
 use Rattle.std.specs.Prelude.{slice_set, slice_index}
 use Rattle.std.specs.List.{range_with_len}
 use Rattle.std.proofs.lemmas.Bool.{cases_eq}
 use Rattle.std.proofs.lemmas.List.FromFn.{map-range_with_len_more, length-map-range_with_len}
 use Rattle.rsp_memory.specs.declared.bank.Bank.{Bank}
 use Rattle.rsp_machine.specs.State.{State}
-use Rattle.rsp_debug.specs.Looks.{bank_byte, memory_of, ListedWord, listed_at, listing_of}
+use Rattle.rsp_debug.specs.Looks.{bank_byte, memory_of, listed_at, listing_of}
 
 -- words that agree below k, and one more
 pub agree-more : (words registers : List ℕ) (k v : ℕ) → ((j : ℕ) → j < k → slice_index words j ≡ slice_index registers j) → k < length words → v ≡ slice_index registers k

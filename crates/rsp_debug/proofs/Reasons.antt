@@ -11,7 +11,7 @@ use Rattle.rsp_machine.specs.State.{State}
 use Rattle.rsp_machine.specs.Step.{step_of, step_by}
 use Rattle.rsp_machine.specs.Laws.{steps_of}
 use Rattle.rsp_machine.specs.declared.step.StepEnd.TheVariants as end
-use Rattle.rsp_debug.specs.Stops.{changed, is_break, is_reserved, when, first_of, reason_at, IsStop}
+use Rattle.rsp_debug.specs.Stops.{changed, is_break, when, first_of, reason_at, IsStop}
 use Rattle.rsp_debug.specs.Runs.{stuck_of, hit_in}
 use Rattle.rsp_debug.specs.Held.{differs, watches_of}
 use Rattle.rsp_debug.specs.declared.held.Held.{Held}

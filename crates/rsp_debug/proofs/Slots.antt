@@ -129,3 +129,9 @@ pub short-dropped : (watches : List (Option Watch)) (k : ℕ) → All IsShort wa
 short-dropped watches k h = All-set IsShort watches k None tt h
 
 pub ruleset shorts = (short-written, short-dropped)
+
+-- a step that may store nothing, or no watch
+pub still-same : (asks : Bool) (held : List (Option Held)) (old new : List ℕ) → (asks ≡ false → length held ≡ 0) → (asks ≡ true → new ≡ old)
+    → differs held old ≡ None → differs held new ≡ None
+still-same false held old new none same e = differs-empty held new (none refl)
+still-same true held old new none same e = ap (differs held) (same refl) ∙ e

@@ -1,5 +1,5 @@
 -- What a look shows.
-use Rattle.std.specs.Prelude.{ℕ, ◌+◌, ◌*◌, List, map, slice_index}
+use Rattle.std.specs.Prelude.{ℕ, ◌+◌, ◌*◌, List, map}
 use Rattle.std.specs.List.{range_with_len}
 use Rattle.rsp_memory.specs.Memory.{byte_at, word_at}
 use Rattle.rsp_memory.specs.Image.{image_byte}

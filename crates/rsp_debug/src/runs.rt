@@ -68,37 +68,39 @@ fn dmem_bytes<A: Acc>(machine: &Machine<A>) -> &[u8]
     dmem.run(0, 4096)
 }
 
-/// Whether there is anything that a run looks at after a step.
-fn looks(breaks: &Breaks, held: &[Option<Held>]) -> bool
-    ensures { result ≡ false → (length held.now ≡ 0) × (break_count breaks.now ≡ 0) }
+/// Whether there are watches.
+fn is_watching(held: &[Option<Held>]) -> bool
+    ensures { result ≡ false → length held.now ≡ 0 }
 {
-    !held.is_empty() || !breaks.is_empty()
+    !held.is_empty()
 }
 
-/// The watch or the breakpoint that a step has come to, where there are any. Bytes are compared only after a step that may
-/// have stored.
+/// Whether there are breakpoints.
+fn is_breaking(breaks: &Breaks) -> bool
+    ensures { result ≡ false → break_count breaks.now ≡ 0 }
+{
+    !breaks.is_empty()
+}
+
+/// The watch or the breakpoint that a step has come to. Bytes are compared only where the step may have stored, and places
+/// only where there are breakpoints.
 #[inline(always)]
 #[tactic(auto, using(crate::proofs::Hits::hits))]
 fn hit<A: Acc>(
     machine: &Machine<A>,
     breaks: &Breaks,
     held: &[Option<Held>],
-    looks: bool,
+    breaking: bool,
     stored: bool,
 ) -> Option<Reason>
-    requires none { looks ≡ false → (length held.now ≡ 0) × (break_count breaks.now ≡ 0) }
-    requires same { looks ≡ true → stored ≡ false → differs held.now machine.now.dmem ≡ None }
+    requires free { breaking ≡ false → break_count breaks.now ≡ 0 }
+    requires same { stored ≡ false → differs held.now machine.now.dmem ≡ None }
     ensures { result ≡ hit_in breaks.now held.now machine.now }
 {
-    if !looks {
-        return None;
+    if stored && let Some(k) = differs(held, dmem_bytes(machine)) {
+        return Some(Reason::Watched(k));
     }
-    if stored && !held.is_empty() {
-        if let Some(k) = differs(held, dmem_bytes(machine)) {
-            return Some(Reason::Watched(k));
-        }
-    }
-    if breaks.contains(machine.pc()) {
+    if breaking && breaks.contains(machine.pc()) {
         return Some(Reason::Break);
     }
     None
@@ -123,15 +125,16 @@ fn go_on<A: Acc>(
     ensures first { (j : ℕ) → j < result.0 → reason_at breaks.now (watches_of held.now) n machine.old j ≡ None }
     ensures last { stuck_of machine.new ≡ None → reason_at breaks.now (watches_of held.now) n machine.old result.0 ≡ Some (unwrap_or result.1 why.Limit) }
 {
-    let looks = looks(breaks, held);
+    let watching = is_watching(held);
+    let breaking = is_breaking(breaks);
     for k in 0..n {
-        let made = past.step(machine, looks);
+        let made = past.step(machine, watching);
         match made.end {
             StepEnd::Done => {}
             StepEnd::Halted => return (k, None),
             StepEnd::Reserved { word: _ } => return (k, None),
         }
-        if let Some(reason) = hit(machine, breaks, held, looks, made.stored) {
+        if let Some(reason) = hit(machine, breaks, held, breaking, made.stored) {
             return (k + 1, Some(reason));
         }
     }

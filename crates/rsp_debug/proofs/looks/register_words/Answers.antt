@@ -1,4 +1,4 @@
-use Rattle.std.proofs.Common.{◌≡◌, ◌∙◌, arith, ap, length, set}
+use Rattle.std.proofs.Common.{◌∙◌, arith, ap, set}
 use Rattle.std.specs.Prelude.{slice_index}
 use Rattle.std.proofs.lemmas.List.{length-set}
 use Rattle.rsp_debug.proofs.Looking.{agree-more}

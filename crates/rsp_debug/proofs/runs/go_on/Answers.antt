@@ -1,13 +1,14 @@
-use Rattle.std.proofs.Common.{◌≡◌, ◌∙◌, arith, sym, refl, ap, ◌+◌, Some, None}
+use Rattle.std.proofs.Common.{◌≡◌, ◌∙◌, arith, sym, refl, ap, ◌+◌, Some}
 use Rattle.std.specs.Prelude.{is_some}
 use Rattle.rsp_machine.specs.State.{State}
 use Rattle.rsp_debug.specs.declared.stop.Reason.TheVariants.{Limit}
 use Rattle.rsp_debug.specs.Stops.{reason_at}
 use Rattle.rsp_debug.specs.Past.{states_before}
-use Rattle.rsp_debug.specs.Held.{differs, watches_of}
+use Rattle.rsp_debug.specs.Held.{watches_of}
 use Rattle.rsp_debug.specs.Runs.{stuck_of}
 use Rattle.rsp_debug.proofs.Going.{past-none, past-step, past-halted, past-reserved}
 use Rattle.rsp_debug.proofs.Reasons.{reason-hit, reason-limit, next-reached, next-first, next-hit, nothing-differs, step-halted, step-halted-same, step-reserved, step-reserved-same}
+use Rattle.rsp_debug.proofs.Slots.{still-same}
 use Rattle.rsp_debug.proofs.Afters.{after-none, after-more, after-same, never}
 use Rattle.rsp_debug.proofs.runs.go_on.Goals as goal
 
@@ -97,9 +98,10 @@ returns-clause-last g c free =
     ap (λ k. reason_at b w c.args.n c.args.machine.now k) e
     ∙ reason-limit b w c.args.n c.args.machine.now l.machine l.k l.invariant.after.reached free l.invariant.quiet (sym e)
 
-pub hit-requires-clause-none : goal.hit-requires-clause-none
-hit-requires-clause-none g c e = c.looks-looks.ensures e
+pub hit-requires-clause-free : goal.hit-requires-clause-free
+hit-requires-clause-free g c e = c.is_breaking-breaking.ensures e
 
 pub hit-requires-clause-same : goal.hit-requires-clause-same
-hit-requires-clause-same g c asks e =
-    ap (λ m. differs c.args.held.now m) (c.step-made.ensures.memory c.in-Done.is asks e) ∙ c.loop-k.invariant.same
+hit-requires-clause-same g c e =
+    still-same c.is_watching-watching.result c.args.held.now c.loop-k.machine.dmem c.step-made.new.machine.dmem c.is_watching-watching.ensures
+    (λ asks. c.step-made.ensures.memory c.in-Done.is asks e) c.loop-k.invariant.same

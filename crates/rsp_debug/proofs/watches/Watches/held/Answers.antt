@@ -1,4 +1,4 @@
-use Rattle.std.proofs.Common.{◌≡◌, ◌∙◌, length, sym, ap, rules, None, map}
+use Rattle.std.proofs.Common.{◌≡◌, ◌∙◌, length, ap, rules, None, map}
 use Rattle.rsp_debug.specs.Held.{held_in}
 use Rattle.rsp_debug.proofs.Slots.{eight-mapped}
 use Rattle.rsp_debug.proofs.watches.Watches.held.Goals as goal
