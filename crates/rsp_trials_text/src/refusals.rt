@@ -1,6 +1,8 @@
 // Calls that ask for memory. `tests/refusals` runs these tests again and again, and each time another of their wishes for memory is refused: a test then
 // says on standard output what it was answered, and asks again. With memory there the answers are those that they always are.
 
+ghost use Rattle.std.specs.Prelude.{◌≡◌, IfOk};
+
 use rsp_asm::{AsmFaultKind, assemble};
 use rsp_bench::{BenchEnd, MemSink, MemSource, Session, parse_line, run_bench};
 use rsp_memory::Rdram;
@@ -15,7 +17,9 @@ fn image(rt: &HostRuntime) -> Result<Rdram, Fail> {
     Rdram::from_bytes(bytes).map_err(|_| Fail::new("the image is refused"))
 }
 
-fn sink(rt: &HostRuntime) -> Result<MemSink, Fail> {
+fn sink(rt: &HostRuntime) -> Result<MemSink, Fail>
+    ensures { IfOk result (λ s. s.failures ≡ 0) }
+{
     match MemSink::new(rt.alloc(), 256) {
         Ok(sink) => Ok(sink),
         Err(_) => {

@@ -73,7 +73,7 @@ fn each_write_may_fail_or_take_nothing(rt: HostRuntime) -> Result<(), Fail> {
                     matches!(end, BenchEnd::WriteFault) && sink.failures() == 1
                 };
                 let replies = if step == 1 {
-                    &REPLIES[..writes]
+                    REPLIES.get(..writes).unwrap_or_default()
                 } else {
                     first_replies(writes)
                 };
