@@ -39,7 +39,7 @@ fn store_row(row: VectorStoreRow, vt: u8, e: usize, a: u32, file: &VFile, memory
         VectorStoreRow::Ssv => store_run(vt, e, 2, a, file, memory),
         VectorStoreRow::Slv => store_run(vt, e, 4, a, file, memory),
         VectorStoreRow::Sdv => store_run(vt, e, 8, a, file, memory),
-        VectorStoreRow::Sqv if e == 0 && place == 0 => store_whole(vt, a, file, memory),
+        VectorStoreRow::Sqv if place == 0 => store_run(vt, e, 16, a, file, memory),
         VectorStoreRow::Sqv => store_run(vt, e, 16 - place, a, file, memory),
         VectorStoreRow::Srv => store_run(vt, e + (16 - place), place, a - a % 16, file, memory),
         VectorStoreRow::Spv => store_packed(vt, e, a, file, memory),
@@ -52,35 +52,24 @@ fn store_row(row: VectorStoreRow, vt: u8, e: usize, a: u32, file: &VFile, memory
 }
 
 /// Stores `n` bytes of a register from byte `i` on, modulo 16.
-#[tactic(auto, using(crate::proofs::Pairs::stores), unfolding(crate::specs::Stores::stored, crate::specs::Stores::run))]
+#[inline(always)]
 fn store_run(vt: u8, i: usize, n: usize, a: u32, file: &VFile, memory: &mut SpMem)
     requires register { vt < 32 }
     requires first { i < 32 }
     requires count { n ≤ 16 }
     ensures { memory.new ≡ after_store file.now memory.old (run vt i n a) }
 {
-    let v = file.reg(vt);
-    for k in 0..n {
-        memory.set_byte(a.wrapping_add(k as u32), v.byte((i + k) % 16));
-    }
+    memory.set_bytes(a, &file.reg(vt).bytes_from(i as u8)[..n]);
 }
 
 /// Stores eight bytes: of an element below 8 the high byte of that lane, of another its bits 14 to 7.
-#[tactic(auto, using(crate::proofs::Pairs::stores), unfolding(crate::specs::Stores::stored, crate::specs::Stores::packed))]
+#[inline(always)]
 fn store_packed(vt: u8, e: usize, a: u32, file: &VFile, memory: &mut SpMem)
     requires register { vt < 32 }
     requires element { e < 24 }
     ensures { memory.new ≡ after_store file.now memory.old (packed vt e a 8) }
 {
-    for k in 0..8 {
-        let j = (e + k) % 16;
-        let byte = if j < 8 {
-            file.reg(vt).byte(2 * j)
-        } else {
-            file.middle(vt, 2 * (j - 8))
-        };
-        memory.set_byte(a.wrapping_add(k as u32), byte);
-    }
+    memory.set_bytes(a, &file.reg(vt).packed_from(e as u8)[..8]);
 }
 
 /// Stores bits 14 to 7 of eight pairs of bytes, two places apart among the sixteen bytes of a block.
@@ -140,21 +129,4 @@ fn store_transposed(vt: u8, e: usize, a: u32, file: &VFile, memory: &mut SpMem)
         let at = block.wrapping_add((a % 8 + 16 - even as u32 + k as u32) % 16);
         memory.set_byte(at, v.byte((k + 16 - even) % 16));
     }
-}
-
-/// Stores a whole register, by halves.
-#[inline(always)]
-fn store_whole(vt: u8, a: u32, file: &VFile, memory: &mut SpMem)
-    requires register { vt < 32 }
-    ensures { memory.new ≡ after_store file.now memory.old (run vt 0 16 a) }
-{
-    let v = file.reg(vt);
-    memory.set_half(a, v.lane(0));
-    memory.set_half(a.wrapping_add(2), v.lane(1));
-    memory.set_half(a.wrapping_add(4), v.lane(2));
-    memory.set_half(a.wrapping_add(6), v.lane(3));
-    memory.set_half(a.wrapping_add(8), v.lane(4));
-    memory.set_half(a.wrapping_add(10), v.lane(5));
-    memory.set_half(a.wrapping_add(12), v.lane(6));
-    memory.set_half(a.wrapping_add(14), v.lane(7));
 }
