@@ -17,7 +17,7 @@ same_register : (file : List (List ℕ)) (n : ℕ) → with_register file n (reg
 unfolding with_register register
 same_register file n = set-get_or file n []
 
-register_again : (file : List (List ℕ)) (n : ℕ) (v w : List ℕ) → n < length file
+pub register_again : (file : List (List ℕ)) (n : ℕ) (v w : List ℕ) → n < length file
     → (register (with_register file n v) n ≡ v) × (with_register (with_register file n v) n w ≡ with_register file n w)
 unfolding with_register register
 register_again file n v w h = (get_or-set_same file n v [] h, set-set file n v w)
@@ -82,7 +82,7 @@ byte_written f g m b h other here low = elim (cases_eq (m % 2) 0) [
 ]
 
 -- the bytes of a window
-window_byte : (m : List ℕ) (a n k : ℕ) → k < n → get_or (bytes_at m a n) k 0 ≡ byte_at m (a + k)
+pub window_byte : (m : List ℕ) (a n k : ℕ) → k < n → get_or (bytes_at m a n) k 0 ≡ byte_at m (a + k)
 window_byte m a zero k h = absurd (omega arith)
 window_byte m a (suc n) zero h = ap (byte_at m) (omega arith)
 window_byte m a (suc n) (suc k) h = window_byte m (a + 1) n k (omega arith) ∙ ap (byte_at m) (omega arith)

@@ -135,17 +135,20 @@ fn load_lanes(vt: u8, s: Spread, block: u32, memory: &SpMem, file: &mut VFile)
     }
 }
 
-/// Loads two bytes of each of eight registers.
-#[tactic(auto, using(crate::proofs::Pairs::loads), unfolding(crate::specs::Loads::loaded, crate::specs::Loads::transposed))]
+/// Loads two bytes of each of eight registers: a lane of each.
 fn load_transposed(vt: u8, e: usize, a: u32, memory: &SpMem, file: &mut VFile)
     requires register { vt < 32 }
     requires element { e < 16 }
     ensures { file.new ≡ after_load memory.now file.old (transposed vt e a 16) }
 {
-    let block = a - a % 8;
-    for k in 0..16 {
-        let register = vt - vt % 8 + ((e / 2 + k / 2) % 8) as u8;
-        let byte = memory.byte(block.wrapping_add((k as u32 + e as u32 + a / 8 % 2 * 8) % 16));
-        file.set_byte(register, k, byte);
+    let first = (e as u32 + a / 8 % 2 * 8) as u8;
+    let window = memory.window(a - a % 8);
+    let lanes = VReg::from_bytes(VReg::from_bytes(window).bytes_from(first));
+    for i in 0..8 {
+        let register = vt - vt % 8 + ((e / 2 + i) % 8) as u8;
+        let mut v = file.reg(register);
+        let _ = v.to_simd();
+        v.set_lane(i, lanes.lane(i));
+        file.set_reg(register, v);
     }
 }

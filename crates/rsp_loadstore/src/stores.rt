@@ -1,9 +1,12 @@
-ghost use Rattle.std.specs.Prelude.{◌≡◌, ◌<◌, ◌≤◌};
+ghost use Rattle.std.specs.Prelude.{◌≡◌, ◌<◌, ◌≤◌, ◌+◌, ◌%◌, slice_index};
+ghost use Rattle.rsp_lanes.specs.Lanes.{each_lane};
+ghost use Rattle.rsp_loadstore.specs.File.{register};
 ghost use Rattle.rsp_decode.specs.Table.{IsInstruction};
 ghost use Rattle.rsp_loadstore.specs.Stores.{after_store, store_pairs, stored_memory, run, packed, middles, fourths, rotated, transposed, IsStoreElement};
 
 use crate::VFile;
 use rsp_decode::{Inst, VectorStoreRow};
+use rsp_lanes::VReg;
 use rsp_memory::SpMem;
 
 /// Executes a vector store at the address `a`, the one that `address` gives; STV stores parts of eight registers.
@@ -73,16 +76,17 @@ fn store_packed(vt: u8, e: usize, a: u32, file: &VFile, memory: &mut SpMem)
 }
 
 /// Stores bits 14 to 7 of eight pairs of bytes, two places apart among the sixteen bytes of a block.
-#[tactic(auto, using(crate::proofs::Pairs::stores), unfolding(crate::specs::Stores::stored, crate::specs::Stores::middles))]
+#[tactic(auto, using(crate::proofs::Pairs::stores), unfolding(crate::specs::Stores::middles))]
 fn store_middles(vt: u8, e: usize, a: u32, file: &VFile, memory: &mut SpMem)
     requires register { vt < 32 }
     requires element { e < 16 }
     ensures { memory.new ≡ after_store file.now memory.old (middles vt e a 8) }
 {
     let block = a - a % 8;
+    let bytes = VReg::from_bytes(file.reg(vt).bytes_from(e as u8)).packed_from(8);
     for j in 0..8 {
         let at = block.wrapping_add((a % 8 + 2 * j as u32) % 16);
-        memory.set_byte(at, file.middle(vt, (e + 2 * j) % 16));
+        memory.set_byte(at, bytes[j]);
     }
 }
 
@@ -101,32 +105,42 @@ fn store_fourths(vt: u8, first: usize, a: u32, file: &VFile, memory: &mut SpMem)
 }
 
 /// Stores the sixteen bytes of a register, among the sixteen bytes of a block.
-#[tactic(auto, using(crate::proofs::Pairs::stores), unfolding(crate::specs::Stores::stored, crate::specs::Stores::rotated))]
+#[inline(always)]
 fn store_rotated(vt: u8, e: usize, a: u32, file: &VFile, memory: &mut SpMem)
     requires register { vt < 32 }
     requires element { e < 16 }
     ensures { memory.new ≡ after_store file.now memory.old (rotated vt e a 16) }
 {
-    let block = a - a % 8;
-    let v = file.reg(vt);
-    for j in 0..16 {
-        let at = block.wrapping_add((a % 8 + j as u32) % 16);
-        memory.set_byte(at, v.byte((e + j) % 16));
-    }
+    let first = e as u8 + (16 - (a % 8) as u8);
+    memory.set_bytes(a - a % 8, &file.reg(vt).bytes_from(first));
 }
 
-/// Stores two bytes of each of eight registers.
-#[tactic(auto, using(crate::proofs::Pairs::stores), unfolding(crate::specs::Stores::stored, crate::specs::Stores::transposed))]
+/// Stores two bytes of each of eight registers, among the sixteen bytes of a block.
 fn store_transposed(vt: u8, e: usize, a: u32, file: &VFile, memory: &mut SpMem)
     requires register { vt < 32 }
     requires element { e < 16 }
     ensures { memory.new ≡ after_store file.now memory.old (transposed vt e a 16) }
 {
-    let block = a - a % 8;
-    let even = e - e % 2;
-    for k in 0..16 {
-        let v = file.reg(vt - vt % 8 + (k / 2) as u8);
-        let at = block.wrapping_add((a % 8 + 16 - even as u32 + k as u32) % 16);
-        memory.set_byte(at, v.byte((k + 16 - even) % 16));
-    }
+    let lanes = diagonal(vt - vt % 8, 8 - e / 2, file);
+    let first = (e - e % 2) as u8 + (16 - (a % 8) as u8);
+    memory.set_bytes(a - a % 8, &lanes.bytes_from(first));
+}
+
+/// Of each of eight registers one lane: lane `turn` of the first, the next of the next, modulo 8.
+#[tactic(auto, unfolding(rsp_lanes::specs::Lanes::each_lane))]
+fn diagonal(first: u8, turn: usize, file: &VFile) -> VReg
+    requires registers { first ≤ 24 }
+    requires lane { turn ≤ 8 }
+    ensures { result ≡ each_lane (λ l. slice_index (register file.now (first + l)) ((turn + l) % 8)) }
+{
+    VReg::from_array([
+        file.reg(first).lane(turn % 8),
+        file.reg(first + 1).lane((turn + 1) % 8),
+        file.reg(first + 2).lane((turn + 2) % 8),
+        file.reg(first + 3).lane((turn + 3) % 8),
+        file.reg(first + 4).lane((turn + 4) % 8),
+        file.reg(first + 5).lane((turn + 5) % 8),
+        file.reg(first + 6).lane((turn + 6) % 8),
+        file.reg(first + 7).lane((turn + 7) % 8),
+    ])
 }
