@@ -1,12 +1,14 @@
 -- The sixteen bytes of a register, and the lanes that they make.
-use Rattle.std.proofs.Common.{◌≡◌, ℕ, zero, suc, ◌+◌, ◌-◌, ◌*◌, ◌/◌, ◌%◌, ◌<◌, ◌≤◌, ◌&&◌, List, [], ◌∷◌, Bool, true, false, cond, if◌then◌else◌, nat_le, nat_lt, leb, ltb, length, get_or, map, replicate, refl, sym, ap, ◌∙◌, arith, inl, inr, Fits, w8}
-use Rattle.std.specs.Simd.Lanes.{zip2, sel_l, top, number_l, digits_l}
+use Rattle.std.proofs.Common.{◌≡◌, ℕ, zero, suc, ◌+◌, ◌-◌, ◌*◌, ◌/◌, ◌%◌, ◌<◌, ◌≤◌, ◌&&◌, List, [], ◌∷◌, ◌++◌, Bool, true, false, cond, if◌then◌else◌, nat_le, nat_lt, leb, ltb, length, get_or, map, replicate, refl, sym, ap, ◌∙◌, arith, inl, inr, Fits, w8, bit_and}
+use Rattle.std.specs.Simd.Lanes.{zip2, sel_l, pick_l, top, number_l, digits_l}
+use Rattle.std.proofs.Math.Nat.{mul-le-mul_left}
 use Rattle.std.proofs.lemmas.Simd.{swz_l}
+use Rattle.std.proofs.lemmas.Nat.{and_mask}
 use Rattle.std.proofs.lemmas.Bool.{cases_lt}
 use Rattle.std.proofs.lemmas.Bool.Decides.{nat_tests}
 use Rattle.rsp_lanes.specs.Lanes.{each_lane, IsVector, register_byte}
-use Rattle.rsp_lanes.specs.Bytes.{each_byte, of_bytes, placed}
-use Rattle.rsp_lanes.proofs.Kit.{eta, each_same}
+use Rattle.rsp_lanes.specs.Bytes.{each_byte, of_bytes, placed, packed_byte}
+use Rattle.rsp_lanes.proofs.Kit.{eta, below_eight, zip2_each}
 
 -- the byte that stands at a place of the lanes, which have their low bytes first
 abbrev pub order : List ℕ
@@ -45,19 +47,24 @@ from_le f h =
     ) refl
 
 -- and back
+to_le_each : (f : ℕ → ℕ) → ((i : ℕ) → f i < 65536) → digits_l 256 16 (number_l 65536 (each_lane f)) ≡ each_byte (λ p. register_byte (each_lane f) (swapped p))
+unfolding each_byte each_lane register_byte
+to_le_each f h =
+    rw (
+      narrower (f 0) 14 _ (h 0),
+      narrower (f 1) 12 _ (h 1),
+      narrower (f 2) 10 _ (h 2),
+      narrower (f 3) 8 _ (h 3),
+      narrower (f 4) 6 _ (h 4),
+      narrower (f 5) 4 _ (h 5),
+      narrower (f 6) 2 _ (h 6),
+      narrower (f 7) 0 _ (h 7),
+    )
+    refl
+
 pub to_le : (v : List ℕ) → IsVector v → digits_l 256 16 (number_l 65536 v) ≡ each_byte (λ p. register_byte v (swapped p))
 unfolding each_byte each_lane register_byte
-to_le v h = ap (λ l. digits_l 256 16 (number_l 65536 l)) (eta 0 v h.0) ∙
-    rw (
-      narrower (get_or v 0 0) 14 _ (h.1 0),
-      narrower (get_or v 1 0) 12 _ (h.1 1),
-      narrower (get_or v 2 0) 10 _ (h.1 2),
-      narrower (get_or v 3 0) 8 _ (h.1 3),
-      narrower (get_or v 4 0) 6 _ (h.1 4),
-      narrower (get_or v 5 0) 4 _ (h.1 5),
-      narrower (get_or v 6 0) 2 _ (h.1 6),
-      narrower (get_or v 7 0) 0 _ (h.1 7),
-    ) refl
+to_le v h = ap (λ l. digits_l 256 16 (number_l 65536 l)) (eta 0 v h.0) ∙ to_le_each (λ i. get_or v i 0) h.1
 
 -- two functions that agree on the sixteen bytes
 swapped_same : (f g : ℕ → ℕ) → ((k : ℕ) → k < 16 → f k ≡ g k) → each_byte (λ p. f (swapped p)) ≡ each_byte (λ p. g (swapped p))
@@ -138,3 +145,125 @@ placed_is v source i n h fits l m = ap (λ le. digits_l 65536 8 (number_l 256 (p
   where
     byte : ℕ → ℕ
     byte k = if nat_le i k && nat_lt k (i + n) then get_or source (k - i) 0 else register_byte v k
+
+-- a byte of a list of sixteen
+pub byte_of : (f : ℕ → ℕ) (j : ℕ) → j < 16 → get_or (each_byte f) j 0 ≡ f j
+unfolding each_byte
+byte_of f j h = elim (cases_lt j 8) [
+  | inl l ↦ below_eight (λ j. get_or (each_byte f) j 0 ≡ f j) refl refl refl refl refl refl refl refl j l
+  | inr l ↦
+      let e : 8 + (j - 8) ≡ j = omega arith in
+      rw (← e) (below_eight (λ j. get_or (each_byte f) (8 + j) 0 ≡ f (8 + j)) refl refl refl refl refl refl refl refl (j - 8) (omega arith))
+]
+
+pub each_byte_same : (f g : ℕ → ℕ) → ((k : ℕ) → k < 16 → f k ≡ g k) → each_byte f ≡ each_byte g
+unfolding each_byte
+each_byte_same f g e =
+    rw (
+      e 0 (omega arith),
+      e 1 (omega arith),
+      e 2 (omega arith),
+      e 3 (omega arith),
+      e 4 (omega arith),
+      e 5 (omega arith),
+      e 6 (omega arith),
+      e 7 (omega arith),
+      e 8 (omega arith),
+      e 9 (omega arith),
+      e 10 (omega arith),
+      e 11 (omega arith),
+      e 12 (omega arith),
+      e 13 (omega arith),
+      e 14 (omega arith),
+      e 15 (omega arith),
+    ) refl
+
+-- the places that are looked up
+abbrev places : List ℕ
+places = 0 ∷ 1 ∷ 2 ∷ 3 ∷ 4 ∷ 5 ∷ 6 ∷ 7 ∷ 8 ∷ 9 ∷ 10 ∷ 11 ∷ 12 ∷ 13 ∷ 14 ∷ 15 ∷ []
+
+abbrev pub spaced_places : ℕ → ℕ → List ℕ
+spaced_places start stride =
+    zip2 bit_and (zip2 (λ a b. (a + b) % 256) (zip2 (λ a b. a * b % 256) places (replicate 16 stride)) (replicate 16 start)) (replicate 16 15)
+
+abbrev looked_up : List ℕ → ℕ → ℕ
+looked_up bytes p = cond (leb 128 p) 0 (get_or bytes (0 + p) 0)
+
+looked_up_is : (bytes : List ℕ) (start n : ℕ) → looked_up bytes (bit_and ((n % 256 + start) % 256) 15) ≡ get_or bytes ((start + n) % 16) 0
+looked_up_is bytes start n =
+    let e : bit_and ((n % 256 + start) % 256) 15 ≡ (start + n) % 16 = and_mask ((n % 256 + start) % 256) 4 ∙ omega arith in
+    let f : leb 128 ((start + n) % 16) ≡ false = grind (arith, nat_tests) in
+    let z : 0 + (start + n) % 16 ≡ (start + n) % 16 = omega arith in
+    rw (e, f, z) refl
+
+spaced_by : (bytes : List ℕ) (start stride : ℕ) → swz_l w8 16 bytes 0 (spaced_places start stride) ≡ each_byte (λ k. looked_up bytes (bit_and ((k * stride % 256 + start) % 256) 15))
+unfolding each_byte
+spaced_by bytes start stride = refl
+
+pub spaced_is : (bytes : List ℕ) (start stride : ℕ) → swz_l w8 16 bytes 0 (spaced_places start stride) ≡ each_byte (λ k. get_or bytes ((start + k * stride) % 16) 0)
+spaced_is bytes start stride = spaced_by bytes start stride ∙ each_byte_same _ _ (λ k h. looked_up_is bytes start (k * stride))
+
+-- a register's bytes in order
+pub in_order : (v : List ℕ) → IsVector v → swz_l w8 16 (digits_l 256 16 (number_l 65536 v)) 0 order ≡ each_byte (register_byte v)
+unfolding each_byte
+in_order v h = ap (λ le. swz_l w8 16 le 0 order) (to_le v h)
+
+-- bytes one behind the other
+pub turned : (f : ℕ → ℕ) (bytes : List ℕ) (start : ℕ) → bytes ≡ each_byte f → each_byte (λ k. get_or bytes ((start + k * 1) % 16) 0) ≡ each_byte (λ k. f ((start + k) % 16))
+turned f bytes start e = each_byte_same _ _ (λ k h.
+    let same : (start + k * 1) % 16 ≡ (start + k) % 16 = omega arith in
+    ap (λ bs. get_or bs ((start + k * 1) % 16) 0) e ∙ rw same (byte_of f ((start + k) % 16) (omega arith)))
+
+-- the high bytes of a register and of its double
+abbrev double : List ℕ → List ℕ
+double v = zip2 (λ a b. (a + b) % 65536) v v
+
+abbrev high_bytes : List ℕ → List ℕ → List ℕ
+high_bytes low high = pick_l 0 (low ++ high) (1 ∷ 3 ∷ 5 ∷ 7 ∷ 9 ∷ 11 ∷ 13 ∷ 15 ∷ 17 ∷ 19 ∷ 21 ∷ 23 ∷ 25 ∷ 27 ∷ 29 ∷ 31 ∷ [])
+
+doubled_high : (x : ℕ) → (x + x) % 65536 / 256 ≡ x / 128 % 256
+doubled_high x = omega arith
+
+picked : (v : List ℕ) → high_bytes (each_byte (λ p. register_byte v (swapped p))) (each_byte (λ p. register_byte (each_lane (λ i. (get_or v i 0 + get_or v i 0) % 65536)) (swapped p))) ≡ each_byte (packed_byte v)
+unfolding each_byte each_lane register_byte
+picked v =
+    rw (
+      doubled_high (get_or v 0 0),
+      doubled_high (get_or v 1 0),
+      doubled_high (get_or v 2 0),
+      doubled_high (get_or v 3 0),
+      doubled_high (get_or v 4 0),
+      doubled_high (get_or v 5 0),
+      doubled_high (get_or v 6 0),
+      doubled_high (get_or v 7 0),
+    )
+    refl
+
+pub packed_is : (v : List ℕ) → IsVector v → high_bytes (digits_l 256 16 (number_l 65536 v)) (digits_l 256 16 (number_l 65536 (double v))) ≡ each_byte (packed_byte v)
+packed_is v h =
+    let twice : double v ≡ each_lane (λ i. (get_or v i 0 + get_or v i 0) % 65536) = zip2_each _ 0 0 v v h.0 h.0 in
+    ap (λ low. high_bytes low (digits_l 256 16 (number_l 65536 (double v)))) (to_le v h)
+    ∙ ap (high_bytes (each_byte (λ p. register_byte v (swapped p)))) (ap (λ l. digits_l 256 16 (number_l 65536 l)) twice ∙ to_le_each (λ i. (get_or v i 0 + get_or v i 0) % 65536) (λ i. omega arith))
+    ∙ picked v
+
+-- eight bytes as lanes, each times a factor
+times : (x factor : ℕ) → x < 256 → factor ≤ 256 → x * factor % 65536 ≡ x * factor
+times x factor h k =
+    let a : x * factor ≤ x * 256 = mul-le-mul_left x k in
+    omega arith
+
+pub scaled : (f : ℕ → ℕ) (factor : ℕ) → ((k : ℕ) → f k < 256) → factor ≤ 256
+    → zip2 (λ x y. x * y % 65536) (map (λ x. x) (pick_l 0 (each_byte f ++ each_byte f) (0 ∷ 1 ∷ 2 ∷ 3 ∷ 4 ∷ 5 ∷ 6 ∷ 7 ∷ []))) (replicate 8 factor) ≡ each_lane (λ i. f i * factor)
+unfolding each_byte each_lane
+scaled f factor h k =
+    rw (
+      times (f 0) factor (h 0) k,
+      times (f 1) factor (h 1) k,
+      times (f 2) factor (h 2) k,
+      times (f 3) factor (h 3) k,
+      times (f 4) factor (h 4) k,
+      times (f 5) factor (h 5) k,
+      times (f 6) factor (h 6) k,
+      times (f 7) factor (h 7) k,
+    )
+    refl

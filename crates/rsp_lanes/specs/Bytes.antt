@@ -1,5 +1,5 @@
 -- The sixteen bytes of a register: byte 0 is the high byte of lane 0, byte 15 the low byte of lane 7.
-use Rattle.std.specs.Prelude.{ℕ, ◌+◌, ◌-◌, ◌*◌, ◌&&◌, nat_le, nat_lt, if◌then◌else◌, List, [], ◌∷◌, slice_index}
+use Rattle.std.specs.Prelude.{ℕ, ◌+◌, ◌-◌, ◌*◌, ◌/◌, ◌%◌, ◌&&◌, nat_le, nat_lt, if◌then◌else◌, List, [], ◌∷◌, slice_index}
 use Rattle.rsp_lanes.specs.Lanes.{each_lane, register_byte}
 
 -- the list of sixteen whose member k is `f k`
@@ -15,3 +15,7 @@ of_bytes f = each_lane (λ i. f (2 * i) * 256 + f (2 * i + 1))
 abbrev pub placed : List ℕ → List ℕ → ℕ → ℕ → List ℕ
 placed v source i n =
     of_bytes (λ k. if nat_le i k && nat_lt k (i + n) then slice_index source (k - i) else register_byte v k)
+
+-- the high byte of lane j for j below 8, else bits 14 to 7 of lane j - 8
+abbrev pub packed_byte : List ℕ → ℕ → ℕ
+packed_byte v j = if nat_lt j 8 then slice_index v j / 256 else slice_index v (j - 8) / 128 % 256

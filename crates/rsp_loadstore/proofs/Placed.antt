@@ -1,15 +1,15 @@
 -- Bytes that are loaded one by one are placed in the register at once.
-use Rattle.std.proofs.Common.{◌≡◌, ◌≢◌, ℕ, zero, suc, ◌+◌, ◌-◌, ◌*◌, ◌/◌, ◌%◌, ◌<◌, ◌≤◌, ◌&&◌, min, List, [], ◌∷◌, Bool, true, false, if◌then◌else◌, nat_le, nat_lt, nat_eq, length, get_or, set, map, refl, sym, ap, ◌∙◌, arith, inl, inr}
+use Rattle.std.proofs.Common.{◌≡◌, ◌≢◌, ℕ, zero, suc, ◌+◌, ◌-◌, ◌*◌, ◌/◌, ◌%◌, ◌<◌, ◌≤◌, ◌&&◌, min, List, [], false, if◌then◌else◌, nat_le, nat_lt, nat_eq, length, get_or, set, map, refl, sym, ap, ◌∙◌, arith, inl, inr, mul_comm}
 use Rattle.std.specs.List.{range_with_len}
 use Rattle.std.proofs.lemmas.Bool.{cases_eq}
 use Rattle.std.proofs.lemmas.Bool.Decides.{nat_tests}
-use Rattle.std.proofs.lemmas.List.{set-set, get_or-set_same, length-set, set-get_or}
+use Rattle.std.proofs.lemmas.List.{set-set, get_or-set_same, set-get_or}
 use Rattle.rsp_memory.specs.Memory.{byte_at, bytes_at}
 use Rattle.rsp_lanes.specs.Lanes.{each_lane, register_byte, with_register_byte}
 use Rattle.rsp_lanes.specs.Bytes.{of_bytes, placed}
 use Rattle.rsp_lanes.proofs.Kit.{eta, each_same, lane_of, below_eight}
 use Rattle.rsp_loadstore.specs.File.{register, with_register}
-use Rattle.rsp_loadstore.specs.Loads.{Load, to_byte, loaded, after_load, bytes}
+use Rattle.rsp_loadstore.specs.Loads.{Load, to_byte, to_lane, loaded, after_load, bytes, lanes, spaced}
 use Rattle.rsp_loadstore.proofs.Pairs.{load_none, load_more}
 
 -- a register that was written is read and written again
@@ -17,7 +17,7 @@ same_register : (file : List (List ℕ)) (n : ℕ) → with_register file n (reg
 unfolding with_register register
 same_register file n = set-get_or file n []
 
-register_again : (file : List (List ℕ)) (n : ℕ) (v w : List ℕ) → n < length file
+pub register_again : (file : List (List ℕ)) (n : ℕ) (v w : List ℕ) → n < length file
     → (register (with_register file n v) n ≡ v) × (with_register (with_register file n v) n w ≡ with_register file n w)
 unfolding with_register register
 register_again file n v w h = (get_or-set_same file n v [] h, set-set file n v w)
@@ -82,7 +82,7 @@ byte_written f g m b h other here low = elim (cases_eq (m % 2) 0) [
 ]
 
 -- the bytes of a window
-window_byte : (m : List ℕ) (a n k : ℕ) → k < n → get_or (bytes_at m a n) k 0 ≡ byte_at m (a + k)
+pub window_byte : (m : List ℕ) (a n k : ℕ) → k < n → get_or (bytes_at m a n) k 0 ≡ byte_at m (a + k)
 window_byte m a zero k h = absurd (omega arith)
 window_byte m a (suc n) zero h = ap (byte_at m) (omega arith)
 window_byte m a (suc n) (suc k) h = window_byte m (a + 1) n k (omega arith) ∙ ap (byte_at m) (omega arith)
@@ -145,3 +145,34 @@ placed_loaded m file vt i n a h l k =
     ∙ sym (one_register m file vt (min n (16 - i)) (λ k. to_byte vt (i + k) (a + k)) (λ v k. with_register_byte v (i + k) (byte_at m (a + k))) (placed v w i)
     h (λ _ _. refl) (placed_none v w i l)
     (λ k lt. placed_more v w i k (omega arith) ∙ ap (with_register_byte (placed v w i k) (i + k)) (window_byte m a 16 k (omega arith))))
+
+-- a register of which the first n lanes are given
+abbrev first_given : (ℕ → ℕ) → List ℕ → ℕ → List ℕ
+first_given value v n = each_lane (λ j. if nat_lt j n then value j else get_or v j 0)
+
+given_none : (value : ℕ → ℕ) (v : List ℕ) → length v ≡ 8 → first_given value v 0 ≡ v
+given_none value v h = each_same _ _ (λ j l. grind (arith, nat_tests)) ∙ sym (eta 0 v h)
+
+given_more : (value : ℕ → ℕ) (v : List ℕ) (n : ℕ) → n < 8 → first_given value v (n + 1) ≡ set (first_given value v n) n (value n)
+given_more value v n h = sym (set_each (λ j. if nat_lt j n then value j else get_or v j 0) n (value n) h ∙ each_same _ _ (λ j l. same j))
+  where
+    same : (j : ℕ) → (if nat_eq j n then value n else if nat_lt j n then value j else get_or v j 0) ≡ (if nat_lt j (n + 1) then value j else get_or v j 0)
+    same j = grind (arith, nat_tests)
+
+given_all : (value : ℕ → ℕ) (v : List ℕ) → first_given value v 8 ≡ each_lane value
+given_all value v = each_same _ _ (λ j l. grind (arith, nat_tests))
+
+pub spaced_loaded : (m : List ℕ) (file : List (List ℕ)) (vt factor start stride block : ℕ) → vt < length file → length (register file vt) ≡ 8
+    → with_register file vt (each_lane (λ j. get_or (bytes_at m block 16) ((start + j * stride) % 16) 0 * factor)) ≡ after_load m file (lanes vt (spaced 0 8 factor start stride) block)
+unfolding lanes loaded
+spaced_loaded m file vt factor start stride block h l =
+    ap (with_register file vt) (each_same _ _ (λ j k. ap (λ b. b * factor) (byte j)) ∙ sym (given_all value (register file vt)))
+    ∙ sym (one_register m file vt 8 (λ j. to_lane vt (0 + j) factor (block + (start + stride * j) % 16)) (λ v j. set v (0 + j) (value j)) (first_given value (register file vt))
+    h (λ _ _. refl) (given_none value (register file vt) l)
+    (λ k lt. given_more value (register file vt) k lt ∙ ap (λ n. set (first_given value (register file vt) k) n (value k)) (omega arith)))
+  where
+    value : ℕ → ℕ
+    value j = byte_at m (block + (start + stride * j) % 16) * factor
+
+    byte : (j : ℕ) → get_or (bytes_at m block 16) ((start + j * stride) % 16) 0 ≡ byte_at m (block + (start + stride * j) % 16)
+    byte j = window_byte m block 16 ((start + j * stride) % 16) (omega arith) ∙ ap (λ p. byte_at m (block + (start + p) % 16)) (mul_comm j stride)

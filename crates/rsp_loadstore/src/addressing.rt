@@ -18,15 +18,15 @@ pub fn address(inst: &Inst, base: u32) -> u32
     }
 }
 
-/// The signed reading of the seven bits of an offset.
+/// The signed reading of the seven bits of an offset. An offset that was decoded is below 128, so that nothing is tested.
 #[inline(always)]
 fn signed_offset(offset: u8) -> i64
     ensures value { result ≡ signed_offset offset }
     ensures low { negsuc 63 ≤ℤ result }
     ensures high { result ≤ℤ pos 127 }
 {
-    if offset < 64 {
-        offset as i64
+    if offset < 128 {
+        (offset ^ 64) as i64 - 64
     } else {
         offset as i64 - 128
     }

@@ -1,5 +1,4 @@
 ghost use Rattle.std.specs.Prelude.{◌≡◌, ◌<◌, length, slice_set};
-ghost use Rattle.rsp_lanes.specs.Lanes.{with_register_byte};
 ghost use Rattle.rsp_loadstore.specs.File.{IsFile, register, with_register, empty_file, middle};
 
 use rsp_lanes::VReg;
@@ -62,18 +61,6 @@ impl VFile {
         // Tells the proof that its lanes are eight, each below 2^16.
         let _ = v.to_simd();
         self.registers[n as usize] = v;
-    }
-
-    /// Writes a byte of a register.
-    #[inline(always)]
-    pub(crate) fn set_byte(&mut self, n: u8, i: usize, value: u8)
-        requires register { n < 32 }
-        requires byte { i < 16 }
-        ensures { self.new ≡ with_register self.old n (with_register_byte (register self.old n) i value) }
-    {
-        let mut v = self.reg(n);
-        v.set_byte(i, value);
-        self.set_reg(n, v);
     }
 
     /// Writes a lane of a register.

@@ -4,6 +4,7 @@ ghost use Rattle.rsp_loadstore.specs.Loads.{after_load, load_pairs, loaded_file,
 
 use crate::VFile;
 use rsp_decode::{Inst, VectorLoadRow};
+use rsp_lanes::VReg;
 use rsp_memory::SpMem;
 
 /// Executes a vector load at the address `a`, the one that `address` gives; LTV writes parts of eight registers.
@@ -43,9 +44,9 @@ fn load_row(row: VectorLoadRow, vt: u8, e: usize, a: u32, memory: &SpMem, file: 
         VectorLoadRow::Ldv => load_bytes(vt, e, 8, a, memory, file),
         VectorLoadRow::Lqv => load_bytes(vt, e, 16 - place, a, memory, file),
         VectorLoadRow::Lrv => load_bytes(vt, 16 - place + e, 16, a - a % 16, memory, file),
-        VectorLoadRow::Lpv => load_lanes(vt, spaced(0, 8, 256, start, 1), block, memory, file),
-        VectorLoadRow::Luv => load_lanes(vt, spaced(0, 8, 128, start, 1), block, memory, file),
-        VectorLoadRow::Lhv => load_lanes(vt, spaced(0, 8, 128, start, 2), block, memory, file),
+        VectorLoadRow::Lpv => load_spaced(vt, 256, start, 1, block, memory, file),
+        VectorLoadRow::Luv => load_spaced(vt, 128, start, 1, block, memory, file),
+        VectorLoadRow::Lhv => load_spaced(vt, 128, start, 2, block, memory, file),
         VectorLoadRow::Lfv => load_lanes(vt, spaced(e / 2, 4, 128, a % 8, 4), block, memory, file),
         VectorLoadRow::Ltv => load_transposed(vt, e, a, memory, file),
     }
@@ -62,6 +63,31 @@ fn load_bytes(vt: u8, i: usize, n: usize, a: u32, memory: &SpMem, file: &mut VFi
     let v = file.reg(vt);
     let _ = v.to_simd();
     file.set_reg(vt, v.with_bytes(memory.window(a), i as u8, n as u8));
+}
+
+/// Loads the eight lanes of a register, each with a byte of the sixteen from `block` on, times a factor.
+#[inline(always)]
+fn load_spaced(
+    vt: u8,
+    factor: u16,
+    start: u32,
+    stride: u32,
+    block: u32,
+    memory: &SpMem,
+    file: &mut VFile,
+)
+    requires register { vt < 32 }
+    requires factor { factor ≤ 256 }
+    requires start { start ≤ 32 }
+    requires stride { stride ≤ 4 }
+    ensures { file.new ≡ after_load memory.now file.old (lanes vt (spaced 0 8 factor start stride) block) }
+{
+    let _ = file.reg(vt).to_simd();
+    let window = memory.window(block);
+    file.set_reg(
+        vt,
+        VReg::from_spaced(window, start as u8, stride as u8, factor),
+    );
 }
 
 /// Lanes that are loaded from bytes that lie apart.
@@ -109,17 +135,20 @@ fn load_lanes(vt: u8, s: Spread, block: u32, memory: &SpMem, file: &mut VFile)
     }
 }
 
-/// Loads two bytes of each of eight registers.
-#[tactic(auto, using(crate::proofs::Pairs::loads), unfolding(crate::specs::Loads::loaded, crate::specs::Loads::transposed))]
+/// Loads two bytes of each of eight registers: a lane of each.
 fn load_transposed(vt: u8, e: usize, a: u32, memory: &SpMem, file: &mut VFile)
     requires register { vt < 32 }
     requires element { e < 16 }
     ensures { file.new ≡ after_load memory.now file.old (transposed vt e a 16) }
 {
-    let block = a - a % 8;
-    for k in 0..16 {
-        let register = vt - vt % 8 + ((e / 2 + k / 2) % 8) as u8;
-        let byte = memory.byte(block.wrapping_add((k as u32 + e as u32 + a / 8 % 2 * 8) % 16));
-        file.set_byte(register, k, byte);
+    let first = (e as u32 + a / 8 % 2 * 8) as u8;
+    let window = memory.window(a - a % 8);
+    let lanes = VReg::from_bytes(VReg::from_bytes(window).bytes_from(first));
+    for i in 0..8 {
+        let register = vt - vt % 8 + ((e / 2 + i) % 8) as u8;
+        let mut v = file.reg(register);
+        let _ = v.to_simd();
+        v.set_lane(i, lanes.lane(i));
+        file.set_reg(register, v);
     }
 }

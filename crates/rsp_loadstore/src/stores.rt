@@ -1,9 +1,12 @@
-ghost use Rattle.std.specs.Prelude.{◌≡◌, ◌<◌, ◌≤◌};
+ghost use Rattle.std.specs.Prelude.{◌≡◌, ◌<◌, ◌≤◌, ◌+◌, ◌%◌, slice_index};
+ghost use Rattle.rsp_lanes.specs.Lanes.{each_lane};
+ghost use Rattle.rsp_loadstore.specs.File.{register};
 ghost use Rattle.rsp_decode.specs.Table.{IsInstruction};
 ghost use Rattle.rsp_loadstore.specs.Stores.{after_store, store_pairs, stored_memory, run, packed, middles, fourths, rotated, transposed, IsStoreElement};
 
 use crate::VFile;
 use rsp_decode::{Inst, VectorStoreRow};
+use rsp_lanes::VReg;
 use rsp_memory::SpMem;
 
 /// Executes a vector store at the address `a`, the one that `address` gives; STV stores parts of eight registers.
@@ -39,7 +42,7 @@ fn store_row(row: VectorStoreRow, vt: u8, e: usize, a: u32, file: &VFile, memory
         VectorStoreRow::Ssv => store_run(vt, e, 2, a, file, memory),
         VectorStoreRow::Slv => store_run(vt, e, 4, a, file, memory),
         VectorStoreRow::Sdv => store_run(vt, e, 8, a, file, memory),
-        VectorStoreRow::Sqv if e == 0 && place == 0 => store_whole(vt, a, file, memory),
+        VectorStoreRow::Sqv if place == 0 => store_run(vt, e, 16, a, file, memory),
         VectorStoreRow::Sqv => store_run(vt, e, 16 - place, a, file, memory),
         VectorStoreRow::Srv => store_run(vt, e + (16 - place), place, a - a % 16, file, memory),
         VectorStoreRow::Spv => store_packed(vt, e, a, file, memory),
@@ -52,48 +55,38 @@ fn store_row(row: VectorStoreRow, vt: u8, e: usize, a: u32, file: &VFile, memory
 }
 
 /// Stores `n` bytes of a register from byte `i` on, modulo 16.
-#[tactic(auto, using(crate::proofs::Pairs::stores), unfolding(crate::specs::Stores::stored, crate::specs::Stores::run))]
+#[inline(always)]
 fn store_run(vt: u8, i: usize, n: usize, a: u32, file: &VFile, memory: &mut SpMem)
     requires register { vt < 32 }
     requires first { i < 32 }
     requires count { n ≤ 16 }
     ensures { memory.new ≡ after_store file.now memory.old (run vt i n a) }
 {
-    let v = file.reg(vt);
-    for k in 0..n {
-        memory.set_byte(a.wrapping_add(k as u32), v.byte((i + k) % 16));
-    }
+    memory.set_bytes(a, &file.reg(vt).bytes_from(i as u8)[..n]);
 }
 
 /// Stores eight bytes: of an element below 8 the high byte of that lane, of another its bits 14 to 7.
-#[tactic(auto, using(crate::proofs::Pairs::stores), unfolding(crate::specs::Stores::stored, crate::specs::Stores::packed))]
+#[inline(always)]
 fn store_packed(vt: u8, e: usize, a: u32, file: &VFile, memory: &mut SpMem)
     requires register { vt < 32 }
     requires element { e < 24 }
     ensures { memory.new ≡ after_store file.now memory.old (packed vt e a 8) }
 {
-    for k in 0..8 {
-        let j = (e + k) % 16;
-        let byte = if j < 8 {
-            file.reg(vt).byte(2 * j)
-        } else {
-            file.middle(vt, 2 * (j - 8))
-        };
-        memory.set_byte(a.wrapping_add(k as u32), byte);
-    }
+    memory.set_bytes(a, &file.reg(vt).packed_from(e as u8)[..8]);
 }
 
 /// Stores bits 14 to 7 of eight pairs of bytes, two places apart among the sixteen bytes of a block.
-#[tactic(auto, using(crate::proofs::Pairs::stores), unfolding(crate::specs::Stores::stored, crate::specs::Stores::middles))]
+#[tactic(auto, using(crate::proofs::Pairs::stores), unfolding(crate::specs::Stores::middles))]
 fn store_middles(vt: u8, e: usize, a: u32, file: &VFile, memory: &mut SpMem)
     requires register { vt < 32 }
     requires element { e < 16 }
     ensures { memory.new ≡ after_store file.now memory.old (middles vt e a 8) }
 {
     let block = a - a % 8;
+    let bytes = VReg::from_bytes(file.reg(vt).bytes_from(e as u8)).packed_from(8);
     for j in 0..8 {
         let at = block.wrapping_add((a % 8 + 2 * j as u32) % 16);
-        memory.set_byte(at, file.middle(vt, (e + 2 * j) % 16));
+        memory.set_byte(at, bytes[j]);
     }
 }
 
@@ -112,49 +105,42 @@ fn store_fourths(vt: u8, first: usize, a: u32, file: &VFile, memory: &mut SpMem)
 }
 
 /// Stores the sixteen bytes of a register, among the sixteen bytes of a block.
-#[tactic(auto, using(crate::proofs::Pairs::stores), unfolding(crate::specs::Stores::stored, crate::specs::Stores::rotated))]
+#[inline(always)]
 fn store_rotated(vt: u8, e: usize, a: u32, file: &VFile, memory: &mut SpMem)
     requires register { vt < 32 }
     requires element { e < 16 }
     ensures { memory.new ≡ after_store file.now memory.old (rotated vt e a 16) }
 {
-    let block = a - a % 8;
-    let v = file.reg(vt);
-    for j in 0..16 {
-        let at = block.wrapping_add((a % 8 + j as u32) % 16);
-        memory.set_byte(at, v.byte((e + j) % 16));
-    }
+    let first = e as u8 + (16 - (a % 8) as u8);
+    memory.set_bytes(a - a % 8, &file.reg(vt).bytes_from(first));
 }
 
-/// Stores two bytes of each of eight registers.
-#[tactic(auto, using(crate::proofs::Pairs::stores), unfolding(crate::specs::Stores::stored, crate::specs::Stores::transposed))]
+/// Stores two bytes of each of eight registers, among the sixteen bytes of a block.
 fn store_transposed(vt: u8, e: usize, a: u32, file: &VFile, memory: &mut SpMem)
     requires register { vt < 32 }
     requires element { e < 16 }
     ensures { memory.new ≡ after_store file.now memory.old (transposed vt e a 16) }
 {
-    let block = a - a % 8;
-    let even = e - e % 2;
-    for k in 0..16 {
-        let v = file.reg(vt - vt % 8 + (k / 2) as u8);
-        let at = block.wrapping_add((a % 8 + 16 - even as u32 + k as u32) % 16);
-        memory.set_byte(at, v.byte((k + 16 - even) % 16));
-    }
+    let lanes = diagonal(vt - vt % 8, 8 - e / 2, file);
+    let first = (e - e % 2) as u8 + (16 - (a % 8) as u8);
+    memory.set_bytes(a - a % 8, &lanes.bytes_from(first));
 }
 
-/// Stores a whole register, by halves.
-#[inline(always)]
-fn store_whole(vt: u8, a: u32, file: &VFile, memory: &mut SpMem)
-    requires register { vt < 32 }
-    ensures { memory.new ≡ after_store file.now memory.old (run vt 0 16 a) }
+/// Of each of eight registers one lane: lane `turn` of the first, the next of the next, modulo 8.
+#[tactic(auto, unfolding(rsp_lanes::specs::Lanes::each_lane))]
+fn diagonal(first: u8, turn: usize, file: &VFile) -> VReg
+    requires registers { first ≤ 24 }
+    requires lane { turn ≤ 8 }
+    ensures { result ≡ each_lane (λ l. slice_index (register file.now (first + l)) ((turn + l) % 8)) }
 {
-    let v = file.reg(vt);
-    memory.set_half(a, v.lane(0));
-    memory.set_half(a.wrapping_add(2), v.lane(1));
-    memory.set_half(a.wrapping_add(4), v.lane(2));
-    memory.set_half(a.wrapping_add(6), v.lane(3));
-    memory.set_half(a.wrapping_add(8), v.lane(4));
-    memory.set_half(a.wrapping_add(10), v.lane(5));
-    memory.set_half(a.wrapping_add(12), v.lane(6));
-    memory.set_half(a.wrapping_add(14), v.lane(7));
+    VReg::from_array([
+        file.reg(first).lane(turn % 8),
+        file.reg(first + 1).lane((turn + 1) % 8),
+        file.reg(first + 2).lane((turn + 2) % 8),
+        file.reg(first + 3).lane((turn + 3) % 8),
+        file.reg(first + 4).lane((turn + 4) % 8),
+        file.reg(first + 5).lane((turn + 5) % 8),
+        file.reg(first + 6).lane((turn + 6) % 8),
+        file.reg(first + 7).lane((turn + 7) % 8),
+    ])
 }

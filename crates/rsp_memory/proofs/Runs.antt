@@ -1,11 +1,11 @@
 -- Bytes written one by one are a run written at once.
 use Rattle.std.proofs.Common.{◌≡◌, ℕ, zero, suc, ◌+◌, ◌-◌, ◌%◌, ◌<◌, ◌≤◌, List, [], ◌∷◌, ◌++◌, length, take, drop, get_or, set, refl, sym, ◌∙◌, ap, arith, add-zero, min, inl, inr}
-use Rattle.std.proofs.lemmas.List.{set_past, length-set, length-take, length-drop, take-append-drop, drop_all, take_all, take_more, take_min}
+use Rattle.std.proofs.lemmas.List.{set_past, length-set, length-take, length-drop, take-append-drop, drop_all, take_all, take_more, take_min, drop_more}
 use Rattle.std.proofs.lemmas.List.Edits.{sets, sets-eq}
 use Rattle.std.specs.Prelude.{slice_set}
 use Rattle.std.proofs.lemmas.Bool.{cases_lt}
 use Rattle.rsp_memory.specs.Runs.{write_all, spliced}
-use Rattle.rsp_memory.specs.Memory.{with_byte, with_bytes}
+use Rattle.rsp_memory.specs.Memory.{byte_at, bytes_at, with_byte, with_bytes}
 use Rattle.rsp_memory.specs.Image.{with_image_byte, with_image_bytes}
 
 -- two runs, one behind the other
@@ -59,7 +59,7 @@ with_bytes-sets m a (b ∷ bs) h =
     let ih = with_bytes-sets (set m a b) (suc a) bs (omega arith) in
     rw (e, f) ih
 
-with_bytes-spliced : (m : List ℕ) (a : ℕ) (bs : List ℕ) → a + length bs ≤ 4096 → length m ≡ 4096 → with_bytes m a bs ≡ spliced m a bs
+pub with_bytes-spliced : (m : List ℕ) (a : ℕ) (bs : List ℕ) → a + length bs ≤ 4096 → length m ≡ 4096 → with_bytes m a bs ≡ spliced m a bs
 with_bytes-spliced m a bs h n = with_bytes-sets m a bs h ∙ sets-eq bs m a (omega arith)
 
 -- addresses that differ by a multiple of 4096
@@ -67,6 +67,25 @@ with_bytes-ring : (m : List ℕ) (a b : ℕ) (bs : List ℕ) → a % 4096 ≡ b 
 unfolding with_byte
 with_bytes-ring m a b [] e = refl
 with_bytes-ring m a b (x ∷ bs) e = rw e (with_bytes-ring (slice_set m (b % 4096) x) (a + 1) (b + 1) bs (omega arith))
+
+pub with_bytes-inside : (m r : List ℕ) (a : ℕ) (bs : List ℕ) → length m ≡ 4096 → length bs ≤ 4096 - a % 4096
+    → r ≡ spliced m (a % 4096) bs → r ≡ with_bytes m a bs
+with_bytes-inside m r a bs n h e = e ∙ sym (with_bytes-spliced m (a % 4096) bs (omega arith) n) ∙ with_bytes-ring m (a % 4096) a bs (omega arith)
+
+-- the bytes from an address on, where they don't wrap
+bytes_at-from : (m : List ℕ) (a at n : ℕ) → a % 4096 ≡ at → at + n ≤ 4096 → length m ≡ 4096 → bytes_at m a n ≡ take n (drop at m)
+unfolding byte_at
+bytes_at-from m a at zero e h l = refl
+bytes_at-from m a at (suc zero) e h l = rw (e, drop_more m at 0 (omega arith)) refl
+bytes_at-from m a at (suc (suc n)) e h l =
+    rw (e, drop_more m at 0 (omega arith)) (ap (λ bs. get_or m at 0 ∷ bs) (bytes_at-from m (a + 1) (at + 1) (suc n) (omega arith) (omega arith) l))
+
+pub bytes_at-inside : (m tail window : List ℕ) (a n : ℕ) → length m ≡ 4096 → tail ≡ take (4096 - a % 4096) (drop (a % 4096) m)
+    → n ≤ length tail → window ≡ take n tail → window ≡ bytes_at m a n
+bytes_at-inside m tail window a n l t h e =
+    let all : tail ≡ drop (a % 4096) m = t ∙ take_all (4096 - a % 4096) (drop (a % 4096) m) (omega (arith, length-drop (a % 4096) m)) in
+    let room : n ≤ length (drop (a % 4096) m) = rw all at h in
+    e ∙ ap (take n) all ∙ sym (bytes_at-from m a (a % 4096) n refl (omega (arith, length-drop (a % 4096) m)) l)
 
 -- what is behind the wrap is written from 0 on
 with_bytes-wrap : (m : List ℕ) (a : ℕ) (bs : List ℕ) (n : ℕ) → n ≡ min (length bs) (4096 - a % 4096)

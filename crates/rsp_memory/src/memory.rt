@@ -156,66 +156,21 @@ impl SpMem {
         self.set_byte(a.wrapping_add(3), fourth);
     }
 
-    /// The sixteen bytes of the line that an address lies in, from the multiple of 16 at or below it on.
+    /// The sixteen bytes from an address on: as many as any one load reads or store writes.
     #[inline(always)]
-    #[tactic(auto, unfolding(crate::specs::Memory::byte_at))]
-    pub fn line(&self, a: u32) -> [u8; 16]
-        ensures { result ≡ bytes_at self.now (a / 16 * 16) 16 }
-    {
-        let at = (a % 4096 / 16 * 16) as usize;
-        [
-            self.bytes[at],
-            self.bytes[at + 1],
-            self.bytes[at + 2],
-            self.bytes[at + 3],
-            self.bytes[at + 4],
-            self.bytes[at + 5],
-            self.bytes[at + 6],
-            self.bytes[at + 7],
-            self.bytes[at + 8],
-            self.bytes[at + 9],
-            self.bytes[at + 10],
-            self.bytes[at + 11],
-            self.bytes[at + 12],
-            self.bytes[at + 13],
-            self.bytes[at + 14],
-            self.bytes[at + 15],
-        ]
-    }
-
-    /// The sixteen bytes from an address on: as many as any one store writes.
-    #[inline(always)]
-    #[tactic(auto, unfolding(crate::specs::Memory::byte_at))]
     pub fn window(&self, a: u32) -> [u8; 16]
         ensures { result ≡ bytes_at self.now a 16 }
     {
-        let at = (a % 4096) as usize;
-        if at <= 4080 {
-            [
-                self.bytes[at],
-                self.bytes[at + 1],
-                self.bytes[at + 2],
-                self.bytes[at + 3],
-                self.bytes[at + 4],
-                self.bytes[at + 5],
-                self.bytes[at + 6],
-                self.bytes[at + 7],
-                self.bytes[at + 8],
-                self.bytes[at + 9],
-                self.bytes[at + 10],
-                self.bytes[at + 11],
-                self.bytes[at + 12],
-                self.bytes[at + 13],
-                self.bytes[at + 14],
-                self.bytes[at + 15],
-            ]
-        } else {
-            self.wrapping_window(a)
+        match self.bytes[(a % 4096) as usize..].first_chunk::<16>() {
+            Some(bytes) => *bytes,
+            None => self.wrapping_window(a),
         }
     }
 
-    /// The sixteen bytes from an address on, of which some may wrap.
+    /// The sixteen bytes from an address on, of which some may wrap. Put inline, its single bytes would break up the
+    /// window's one read of sixteen.
     #[cold]
+    #[inline(never)]
     #[tactic(auto, using(crate::proofs::Wraps::wrapped))]
     fn wrapping_window(&self, a: u32) -> [u8; 16]
         ensures { result ≡ bytes_at self.now a 16 }
@@ -250,7 +205,23 @@ impl SpMem {
     }
 
     /// Writes at most 4096 bytes, one after the other from an address on.
+    #[inline]
     pub fn set_bytes(&mut self, a: u32, bytes: &[u8])
+        requires { length bytes.now ≤ 4096 }
+        ensures { self.new ≡ with_bytes self.old a bytes.now }
+    {
+        let at = (a % 4096) as usize;
+        if bytes.len() <= 4096 - at {
+            splice(&mut self.bytes, at, bytes);
+        } else {
+            self.set_wrapping_bytes(a, bytes);
+        }
+    }
+
+    /// Writes at most 4096 bytes, of which some may wrap.
+    #[cold]
+    #[inline(never)]
+    fn set_wrapping_bytes(&mut self, a: u32, bytes: &[u8])
         requires { length bytes.now ≤ 4096 }
         ensures { self.new ≡ with_bytes self.old a bytes.now }
     {

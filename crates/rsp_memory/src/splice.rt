@@ -2,6 +2,7 @@ ghost use Rattle.std.specs.Prelude.{◌≡◌, ◌≤◌, ◌+◌, length};
 ghost use Rattle.rsp_memory.specs.Runs.{spliced};
 
 /// Writes bytes over those from the place `at` on.
+#[inline(always)]
 pub(crate) fn splice(list: &mut [u8], at: usize, bytes: &[u8])
     requires { at + length bytes.now ≤ length list.old }
     ensures { list.new ≡ spliced list.old at bytes.now }

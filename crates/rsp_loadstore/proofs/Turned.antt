@@ -1,0 +1,124 @@
+-- Sixteen bytes that are stored one by one, from a place in the middle on and then from the first on.
+use Rattle.std.proofs.Common.{◌≡◌, ◌≢◌, ℕ, zero, suc, ◌+◌, ◌-◌, ◌/◌, ◌%◌, ◌<◌, List, [], ◌∷◌, ◌++◌, length, get_or, map, refl, sym, ap, ◌∙◌, arith, inl, inr}
+use Rattle.std.specs.List.{range_with_len}
+use Rattle.std.proofs.lemmas.List.FromFn.{length-map-range_with_len}
+use Rattle.std.proofs.lemmas.List.Sums.{fold-append}
+use Rattle.std.proofs.lemmas.List.{set_comm}
+use Rattle.std.proofs.lemmas.Bool.{cases_lt}
+use Rattle.rsp_memory.specs.Memory.{with_byte, with_bytes}
+use Rattle.rsp_memory.proofs.Runs.{write_all-append}
+use Rattle.rsp_lanes.specs.Lanes.{each_lane, register_byte}
+use Rattle.rsp_lanes.specs.Bytes.{each_byte}
+use Rattle.rsp_lanes.proofs.Kit.{below_eight, lane_of}
+use Rattle.rsp_lanes.proofs.ByteOrder.{each_byte_same}
+use Rattle.rsp_loadstore.specs.File.{register}
+use Rattle.rsp_loadstore.specs.Stores.{Store, from_byte, stored, after_store, rotated, transposed}
+
+-- two runs that have no place in common can be exchanged
+byte_past : (m : List ℕ) (p q b c : ℕ) → p % 4096 ≢ q % 4096 → with_byte (with_byte m p b) q c ≡ with_byte (with_byte m q c) p b
+unfolding with_byte
+byte_past m p q b c h = set_comm m (p % 4096) (q % 4096) b c h
+
+run_past : (m : List ℕ) (p b a : ℕ) (bs : List ℕ) → ((k : ℕ) → k < length bs → p % 4096 ≢ (a + k) % 4096)
+    → with_bytes (with_byte m p b) a bs ≡ with_byte (with_bytes m a bs) p b
+run_past m p b a [] h = refl
+run_past m p b a (x ∷ bs) h =
+    let other : p % 4096 ≢ a % 4096 = λ e. h 0 (omega arith) (e ∙ ap (λ n. n % 4096) (omega arith)) in
+    ap (λ m. with_bytes m (a + 1) bs) (byte_past m p a b x other)
+    ∙ run_past (with_byte m a x) p b (a + 1) bs (λ k l e. h (k + 1) (omega arith) (e ∙ ap (λ n. n % 4096) (omega arith)))
+
+runs_past : (m : List ℕ) (a b : ℕ) (xs ys : List ℕ) → ((j k : ℕ) → j < length xs → k < length ys → (a + j) % 4096 ≢ (b + k) % 4096)
+    → with_bytes (with_bytes m a xs) b ys ≡ with_bytes (with_bytes m b ys) a xs
+runs_past m a b [] ys h = refl
+runs_past m a b (x ∷ xs) ys h =
+    runs_past (with_byte m a x) (a + 1) b xs ys (λ j k l n e. h (j + 1) k (omega arith) n (ap (λ n. n % 4096) (omega arith) ∙ e))
+    ∙ ap (λ m. with_bytes m (a + 1) xs) (run_past m a x b ys (λ k l e. h 0 k (omega arith) l (ap (λ n. n % 4096) (omega arith) ∙ e)))
+
+-- n pairs from i on, which store the bytes f i and on from b on
+pairs_stored : (file : List (List ℕ)) (m : List ℕ) (pair : ℕ → Store) (f : ℕ → ℕ) (b i n : ℕ)
+    → ((m : List ℕ) (k : ℕ) → k < n → stored file m (pair (i + k)) ≡ with_byte m (b + k) (f (i + k)))
+    → after_store file m (map pair (range_with_len i n)) ≡ with_bytes m b (map f (range_with_len i n))
+unfolding after_store
+pairs_stored file m pair f b i zero each = refl
+pairs_stored file m pair f b i (suc n) each =
+    let e : i + 0 ≡ i = omega arith in
+    let g : b + 0 ≡ b = omega arith in
+    let first : stored file m (pair i) ≡ with_byte m b (f i) = rw (e, g) at (each m 0 (omega arith)) in
+    ap (λ m. after_store file m (map pair (range_with_len (i + 1) n))) first
+    ∙ pairs_stored file (with_byte m b (f i)) pair f (b + 1) (i + 1) n (λ m k l.
+    let x : i + 1 + k ≡ i + (k + 1) = omega arith in
+    let y : b + 1 + k ≡ b + (k + 1) = omega arith in
+    rw (x, y) (each m (k + 1) (omega arith)))
+
+-- sixteen of them in two parts
+parts : {X : Type 0} (g : ℕ → X) (s : ℕ) → s < 16 → map g (range_with_len 0 16) ≡ map g (range_with_len 0 (16 - s)) ++ map g (range_with_len (16 - s) s)
+parts g s h = elim (cases_lt s 8) [
+  | inl l ↦ below_eight (λ s. map g (range_with_len 0 16) ≡ map g (range_with_len 0 (16 - s)) ++ map g (range_with_len (16 - s) s)) refl refl refl refl refl refl refl refl s l
+  | inr l ↦
+      let e : 8 + (s - 8) ≡ s = omega arith in
+      rw (← e) (below_eight (λ s. map g (range_with_len 0 16) ≡ map g (range_with_len 0 (16 - (8 + s))) ++ map g (range_with_len (16 - (8 + s)) (8 + s))) refl refl refl refl refl refl refl refl (s - 8) (omega arith))
+]
+
+turned_parts : (f : ℕ → ℕ) (s : ℕ) → s < 16 → map f (range_with_len (16 - s) s) ++ map f (range_with_len 0 (16 - s)) ≡ each_byte (λ p. f ((p + (16 - s)) % 16))
+unfolding each_byte
+turned_parts f s h = elim (cases_lt s 8) [
+  | inl l ↦ below_eight (λ s. map f (range_with_len (16 - s) s) ++ map f (range_with_len 0 (16 - s)) ≡ each_byte (λ p. f ((p + (16 - s)) % 16))) refl refl refl refl refl refl refl refl s l
+  | inr l ↦
+      let e : 8 + (s - 8) ≡ s = omega arith in
+      rw (← e) (below_eight (λ s. map f (range_with_len (16 - (8 + s)) (8 + s)) ++ map f (range_with_len 0 (16 - (8 + s))) ≡ each_byte (λ p. f ((p + (16 - (8 + s))) % 16))) refl refl refl refl refl refl refl refl (s - 8) (omega arith))
+]
+
+-- sixteen pairs that store among sixteen places, from the place s on, modulo 16
+pub turned_stored : (file : List (List ℕ)) (m : List ℕ) (pair : ℕ → Store) (f : ℕ → ℕ) (block s : ℕ) → s < 16
+    → ((m : List ℕ) (k : ℕ) → stored file m (pair k) ≡ with_byte m (block + (s + k) % 16) (f k))
+    → with_bytes m block (each_byte (λ p. f ((p + (16 - s)) % 16))) ≡ after_store file m (map pair (range_with_len 0 16))
+unfolding after_store
+turned_stored file m pair f block s h each =
+    let front : List ℕ = map f (range_with_len 0 (16 - s)) in
+    let back : List ℕ = map f (range_with_len (16 - s) s) in
+    let one : after_store file m (map pair (range_with_len 0 (16 - s))) ≡ with_bytes m (block + s) front =
+    pairs_stored file m pair f (block + s) 0 (16 - s) (λ m k l.
+    let x : block + (s + (0 + k)) % 16 ≡ block + s + k = omega arith in
+    each m (0 + k) ∙ ap (λ a. with_byte m a (f (0 + k))) x) in
+    let two : after_store file (with_bytes m (block + s) front) (map pair (range_with_len (16 - s) s)) ≡ with_bytes (with_bytes m (block + s) front) block back =
+    pairs_stored file (with_bytes m (block + s) front) pair f block (16 - s) s (λ m k l.
+    let x : block + (s + (16 - s + k)) % 16 ≡ block + k = omega arith in
+    each m (16 - s + k) ∙ ap (λ a. with_byte m a (f (16 - s + k))) x) in
+    let apart : (j k : ℕ) → j < length front → k < length back → (block + s + j) % 4096 ≢ (block + k) % 4096 =
+    λ j k l n e. omega (arith, length-map-range_with_len f 0 (16 - s), length-map-range_with_len f (16 - s) s) in
+    let joined : with_bytes m block (back ++ front) ≡ with_bytes (with_bytes m block back) (block + s) front =
+    write_all-append with_byte m block back front ∙ ap (λ n. with_bytes (with_bytes m block back) (block + n) front) (length-map-range_with_len f (16 - s) s) in
+    ap (with_bytes m block) (sym (turned_parts f s h)) ∙ joined ∙ sym (runs_past m (block + s) block front back apart) ∙ sym two
+    ∙ ap (λ m. after_store file m (map pair (range_with_len (16 - s) s))) (sym one)
+    ∙ sym (ap (after_store file m) (parts pair s h) ∙ fold-append (stored file) m (map pair (range_with_len 0 (16 - s))) (map pair (range_with_len (16 - s) s)))
+
+pub rotated_stored : (file : List (List ℕ)) (m : List ℕ) (vt e a : ℕ)
+    → with_bytes m (a - a % 8) (each_byte (λ k. register_byte (register file vt) ((e + (16 - a % 8) + k) % 16))) ≡ after_store file m (rotated vt e a 16)
+unfolding rotated stored
+rotated_stored file m vt e a =
+    ap (with_bytes m (a - a % 8)) (each_byte_same _ _ (λ k h. ap (register_byte (register file vt)) (omega arith)))
+    ∙ turned_stored file m (λ j. from_byte vt ((e + j) % 16) (a - a % 8 + (a % 8 + j) % 16)) (λ k. register_byte (register file vt) ((e + k) % 16)) (a - a % 8) (a % 8) (omega arith) (λ _ _. refl)
+
+-- byte q of the lanes that a transposed store takes from eight registers
+diagonal_byte : (file : List (List ℕ)) (base e q : ℕ) → q < 16 → e < 16
+    → register_byte (each_lane (λ l. get_or (register file (base + l)) ((8 - e / 2 + l) % 8) 0)) q ≡ register_byte (register file (base + q / 2)) ((q + 16 - (e - e % 2)) % 16)
+unfolding register_byte
+diagonal_byte file base e q h k =
+    let lane = lane_of 0 (λ l. get_or (register file (base + l)) ((8 - e / 2 + l) % 8) 0) _ refl (q / 2) (omega arith) in
+    let p : (q + 16 - (e - e % 2)) % 16 % 2 ≡ q % 2 = omega arith in
+    let l : (q + 16 - (e - e % 2)) % 16 / 2 ≡ (8 - e / 2 + q / 2) % 8 = omega arith in
+    rw (lane, p, l) refl
+
+pub transposed_stored : (file : List (List ℕ)) (m : List ℕ) (vt e a : ℕ) → e < 16
+    → with_bytes m (a - a % 8) (each_byte (λ k. register_byte (each_lane (λ l. get_or (register file (vt - vt % 8 + l)) ((8 - e / 2 + l) % 8) 0)) ((e - e % 2 + (16 - a % 8) + k) % 16)))
+    ≡ after_store file m (transposed vt e a 16)
+unfolding transposed stored
+transposed_stored file m vt e a h =
+    ap (with_bytes m (a - a % 8)) (each_byte_same _ _ (λ k l.
+    let q : (e - e % 2 + (16 - a % 8) + k) % 16 ≡ (k + (16 - (a % 8 + 16 - (e - e % 2)) % 16)) % 16 = omega arith in
+    rw q (diagonal_byte file (vt - vt % 8) e ((k + (16 - (a % 8 + 16 - (e - e % 2)) % 16)) % 16) (omega arith) h)))
+    ∙ turned_stored file m
+    (λ k. from_byte (vt - vt % 8 + k / 2) ((k + 16 - (e - e % 2)) % 16) (a - a % 8 + (a % 8 + 16 - (e - e % 2) + k) % 16))
+    (λ k. register_byte (register file (vt - vt % 8 + k / 2)) ((k + 16 - (e - e % 2)) % 16))
+    (a - a % 8) ((a % 8 + 16 - (e - e % 2)) % 16) (omega arith)
+    (λ m k. ap (λ p. with_byte m (a - a % 8 + p) (register_byte (register file (vt - vt % 8 + k / 2)) ((k + 16 - (e - e % 2)) % 16))) (omega arith))
