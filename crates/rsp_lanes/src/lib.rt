@@ -9,6 +9,7 @@
 
 mod mask;
 mod shuffle;
+mod signed;
 mod vreg;
 
 pub use mask::Mask8;
