@@ -34,6 +34,7 @@ pub enum DivideOp {
 ///
 /// The source is lane `e` mod 8 of `vt`, which is the register as it stood before the row. All rows but VNOP and VNULL
 /// write lane `de` of `vd`, and the lanes of `vt` that `e` selects into the low sixteen bits of the accumulators.
+#[inline(always)]
 #[tactic(auto, unfolding(crate::specs::Rows::lane_written, crate::specs::Rows::divider_after, crate::specs::Rows::numbers_after))]
 pub fn divide_op<A: Acc>(
     op: DivideOp,
@@ -60,6 +61,7 @@ pub fn divide_op<A: Acc>(
 
 impl DivideOp {
     /// What the row writes into its lane, if it writes, by the source and the selected lane.
+    #[inline(always)]
     fn outcome(self, divider: &mut Divider, source: u16, selected: u16) -> Option<u16>
         ensures lane { result ≡ (outcome self divider.old source selected).lane }
         ensures divider { divider.new ≡ (outcome self divider.old source selected).divider }

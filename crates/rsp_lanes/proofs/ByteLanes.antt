@@ -1,5 +1,5 @@
 -- Eight lanes as sixteen bytes, the low byte of each lane first.
-use Rattle.std.proofs.Common.{◌≡◌, ◌∙◌, ℕ, w8, suc, zero, ◌+◌, ◌*◌, ◌/◌, ◌%◌, ◌<◌, List, [], ◌∷◌, length, get_or, refl, ap, arith}
+use Rattle.std.proofs.Common.{◌≡◌, ◌∙◌, ℕ, w8, suc, zero, ◌+◌, ◌*◌, ◌/◌, ◌%◌, ◌<◌, List, [], ◌∷◌, length, get_or, refl, ap, sym, arith}
 use Rattle.std.specs.Simd.Lanes.{Each1, number_l, digits_l, chunk}
 use Rattle.std.proofs.lemmas.Simd.{swz_l, length-swz_l, get_or-swz_l_below, Each1-from_get_or, get_or_wider, get_or_narrower, length-chunk, get_or-chunk}
 use Rattle.rsp_lanes.specs.Lanes.{each_lane, IsVector}
@@ -56,3 +56,10 @@ lanes_selected v js s vector n small inside low high =
   where
     byte : (i : ℕ) → i < 16 → get_or (swz_l w8 16 (bytes_of v) 0 js) i 0 ≡ get_or (bytes_of v) (get_or js i 0) 0
     byte i h = get_or-swz_l_below w8 16 (bytes_of v) 0 js i (omega (arith, n)) (small i h) ∙ ap (λ k. get_or (bytes_of v) k 0) (omega arith)
+
+-- the lanes of a vector's bytes are the vector
+pub lanes_again : (v : List ℕ) → IsVector v → lanes_of (bytes_of v) ≡ v
+lanes_again v h =
+    lanes_are (bytes_of v) (length-digits 256 16 (number_l 65536 v)) (λ i l. digit_below 16 (number_l 65536 v) i)
+    ∙ each_same (λ i. get_or (bytes_of v) (2 * i) 0 + 256 * get_or (bytes_of v) (2 * i + 1) 0) (λ i. get_or v i 0) (λ i l. rw (low_byte v h i l, high_byte v h i l) (omega arith))
+    ∙ sym (eta 0 v h.0)

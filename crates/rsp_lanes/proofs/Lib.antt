@@ -5,5 +5,6 @@ pub mod Carry
 pub mod Kit
 pub mod Masks
 pub mod Wide
+pub mod Products
 pub mod Signs
 pub mod Sources

@@ -1,6 +1,6 @@
 -- Registers and masks of eight lanes, as lists.
-use Rattle.std.specs.Prelude.{ℕ, ℤ, pos, negsuc, ◌+◌, ◌-◌, ◌*◌, ◌/◌, ◌%◌, ◌^◌, ◌<◌, ◌==◌, slice_set, nat_lt, nat_eq, if◌then◌else◌, ◌≡◌, Bool, true, false, cond, List, [], ◌∷◌, length, slice_index, map}
-use Rattle.std.specs.Int.{is_negative}
+use Rattle.std.specs.Prelude.{unsigned_abs, ℕ, ℤ, pos, negsuc, ◌+◌, ◌-◌, ◌*◌, ◌/◌, ◌%◌, ◌^◌, ◌<◌, ◌==◌, slice_set, nat_lt, nat_eq, if◌then◌else◌, ◌≡◌, Bool, true, false, cond, List, [], ◌∷◌, length, slice_index, map}
+use Rattle.std.specs.Int.{is_negative, int_rem_euclid, int_div_euclid}
 
 -- the list of eight whose member i is `f i`
 unfoldable pub each_lane : {X : Type 0} → (ℕ → X) → List X
@@ -50,3 +50,11 @@ register_byte v i = if i % 2 == 0 then slice_index v (i / 2) / 256 else slice_in
 unfoldable pub with_register_byte : List ℕ → ℕ → ℕ → List ℕ
 with_register_byte v i b =
     slice_set v (i / 2) (if i % 2 == 0 then b * 256 + slice_index v (i / 2) % 256 else slice_index v (i / 2) / 256 * 256 + b)
+
+-- the low sixteen bits of a number, in two's complement
+abbrev pub sixteen_bits : ℤ → ℕ
+sixteen_bits z = unsigned_abs (int_rem_euclid z (pos 65536))
+
+-- the sixteen bits above these
+abbrev pub upper_bits : ℤ → ℕ
+upper_bits z = sixteen_bits (int_div_euclid z (pos 65536))

@@ -10,6 +10,7 @@
 mod bytes;
 mod mask;
 mod shuffle;
+mod signed;
 mod vreg;
 
 pub use mask::Mask8;

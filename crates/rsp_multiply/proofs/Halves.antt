@@ -1,9 +1,9 @@
 -- The halves of a product of 32 bits, and the product by its halves.
-use Rattle.std.proofs.Common.{◌≡◌, ℕ, suc, ◌+◌, ◌-◌, ◌*◌, ◌/◌, ◌%◌, ◌^◌, ◌<◌, ℤ, pos, negsuc, ◌+ℤ◌, ◌*ℤ◌, cond, nat_lt, arith, refl, ap, ◌∙◌}
+use Rattle.std.proofs.Common.{◌≡◌, ℕ, suc, ◌+◌, ◌-◌, ◌*◌, ◌/◌, ◌%◌, ◌^◌, ◌<◌, ℤ, pos, negsuc, ◌+ℤ◌, ◌*ℤ◌, cond, nat_lt, arith, ap, ◌∙◌}
 use Rattle.std.specs.Prelude.{◌≤ℤ◌, ◌<ℤ◌}
 use Rattle.std.proofs.lemmas.Int.{ints}
 use Rattle.std.proofs.lemmas.Bool.{lt-ltb, le-ltb}
-use Rattle.rsp_numbers.specs.Numbers.{modulo, floor_div, join, s48, IsNumber}
+use Rattle.rsp_numbers.specs.Numbers.{modulo, floor_div, join}
 use Rattle.rsp_numbers.proofs.Wrap.{s48_is}
 use Rattle.rsp_numbers.proofs.Join.{join_small, join_large}
 
@@ -35,20 +35,9 @@ shifted (negsuc n) low high =
     let b : n < 2 ^ 31 = omega (arith, ints) in
     s48_is _ _ 0 1 (omega (arith, ints)) (omega (arith, ints)) (omega (arith, ints))
 
--- the high half of a signed product, from that of the unsigned one
-pub high_signed : (p k j m : ℕ) (z : ℤ) → z +ℤ pos (65536 * (k + j)) ≡ pos (p + m * 2 ^ 32) → k < 65536 → j < 65536
-    → ((p / 65536 + (65536 - k)) % 65536 + (65536 - j)) % 65536 ≡ modulo (floor_div z 65536) 65536
-high_signed p k j m z e f g = let h = high_half p (k + j) m z e (omega arith) in omega (arith, h)
-
+-- the halves of a mixed product
 pub high_mixed : (p k : ℕ) (z : ℤ) → z +ℤ pos (65536 * k) ≡ pos p → k < 65536 → (p / 65536 + (65536 - k)) % 65536 ≡ modulo (floor_div z 65536) 65536
 high_mixed p k z e f = let h = high_half p k 0 z (e ∙ ap pos (omega arith)) (omega arith) in omega (arith, h)
 
 pub low_mixed : (p k : ℕ) (z : ℤ) → z +ℤ pos (65536 * k) ≡ pos p → p % 65536 ≡ modulo z 65536
 low_mixed p k z e = low_half p k 0 z (e ∙ ap pos (omega arith))
-
--- a sum that needs no wrapping
-pub doubled : (z : ℤ) → negsuc (2 ^ 30 - 1) ≤ℤ z → z ≤ℤ pos (2 ^ 30) → s48 (z +ℤ z) ≡ pos 2 *ℤ z
-doubled z low high = s48_is _ _ 0 0 (omega (arith, ints)) (omega (arith, ints)) (omega (arith, ints))
-
-pub plain : (z : ℤ) → IsNumber z → s48 z ≡ z
-plain z h = s48_is z z 0 0 refl h.0 h.1

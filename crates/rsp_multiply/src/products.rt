@@ -1,17 +1,17 @@
-//! Products of lanes by the unsigned product and corrections, all in lanes of sixteen bits.
+//! Products of lanes, by their halves of sixteen bits.
 //!
 //! `let _ = a.to_simd();` tells the proof that the lanes are below 65536; it emits no instruction.
 
 ghost use Rattle.std.specs.Prelude.{◌≡◌, ◌*ℤ◌, pos, slice_index, nat_lt, if◌then◌else◌};
 ghost use Rattle.rsp_lanes.specs.Lanes.{each_lane};
 ghost use Rattle.rsp_numbers.specs.Numbers.{s16, modulo, floor_div, join};
+ghost use Rattle.rsp_multiply.specs.Doubles.{doubled_high, doubled_low};
 ghost use Rattle.rsp_multiply.specs.Rows.{rounded, lower, middle_left, upper, fraction};
 
 use rsp_acc::Addends;
 use rsp_lanes::VReg;
 
-/// The high and the low half of the products of the lanes as signed numbers. Of an unsigned product
-/// the high half has b too many where a is negative, and a too many where b is.
+/// The high and the low half of the products of the lanes as signed numbers.
 #[inline(always)]
 pub(crate) fn signed_product(a: &VReg, b: &VReg) -> (VReg, VReg)
     ensures high { result.0 ≡ each_lane (λ i. modulo (floor_div (s16 (slice_index a.now i) *ℤ s16 (slice_index b.now i)) 65536) 65536) }
@@ -19,10 +19,8 @@ pub(crate) fn signed_product(a: &VReg, b: &VReg) -> (VReg, VReg)
 {
     let _ = a.to_simd();
     let _ = b.to_simd();
-    let zeros = VReg::splat(0);
-    let (high, low) = a.product(b);
-    let high = high.subtract(&a.is_negative().merge(b, &zeros));
-    let high = high.subtract(&b.is_negative().merge(a, &zeros));
+    let high = a.signed_product_high(b);
+    let (_, low) = a.product(b);
     (high, low)
 }
 
@@ -40,18 +38,42 @@ pub(crate) fn mixed_product(a: &VReg, b: &VReg) -> (VReg, VReg)
     (high, low)
 }
 
+/// All ones where the lane is negative as a signed number, else 0: what stands above the lane in a longer number.
+#[inline(always)]
+fn sign(lanes: &VReg) -> VReg
+    ensures { result ≡ each_lane (λ i. if nat_lt 32767 (slice_index lanes.now i) then 65535 else 0) }
+{
+    lanes
+        .is_negative()
+        .merge(&VReg::splat(0xffff), &VReg::splat(0))
+}
+
+/// 1 where the top bit of the lane is set, else 0: what a doubled lane carries to the lane above it.
+#[inline(always)]
+fn top_bit(lanes: &VReg) -> VReg
+    ensures { result ≡ each_lane (λ i. if nat_lt 32767 (slice_index lanes.now i) then 1 else 0) }
+{
+    lanes.is_negative().merge(&VReg::splat(1), &VReg::splat(0))
+}
+
 /// The signed numbers of 32 bits with these halves.
 #[inline(always)]
 fn extended(high: &VReg, low: &VReg) -> Addends
     ensures { result ≡ each_lane (λ i. join (if nat_lt 32767 (slice_index high.now i) then 65535 else 0) (slice_index high.now i) (slice_index low.now i)) }
 {
-    let sign = high
-        .is_negative()
-        .merge(&VReg::splat(0xffff), &VReg::splat(0));
-    Addends::from_planes(&sign, high, low)
+    Addends::from_planes(&sign(high), high, low)
 }
 
-/// Twice the signed products.
+/// The halves of twice the number with these halves, modulo 2^32.
+#[inline(always)]
+fn doubled(high: &VReg, low: &VReg) -> (VReg, VReg)
+    ensures high { result.0 ≡ each_lane (λ i. doubled_high (slice_index high.now i) (slice_index low.now i)) }
+    ensures low { result.1 ≡ each_lane (λ i. doubled_low (slice_index low.now i)) }
+{
+    (high.add(high).add(&top_bit(low)), low.add(low))
+}
+
+/// Twice the signed products. Twice 2^30 has bit 31 set and is no negative number, so the sign is the product's.
 #[inline(always)]
 pub(crate) fn fraction(a: &VReg, b: &VReg) -> Addends
     ensures { result ≡ each_lane (λ i. fraction (slice_index a.now i) (slice_index b.now i)) }
@@ -59,19 +81,23 @@ pub(crate) fn fraction(a: &VReg, b: &VReg) -> Addends
     let _ = a.to_simd();
     let _ = b.to_simd();
     let (high, low) = signed_product(a, b);
-    let product = extended(&high, &low);
-    product.plus(&product)
+    let (middle, low) = doubled(&high, &low);
+    Addends::from_planes(&sign(&high), &middle, &low)
 }
 
-/// Twice the signed products and one half of 65536.
+/// Twice the signed products and one half of 65536. The sum is negative where the product is and bit 31 of the sum is set.
 #[inline(always)]
 pub(crate) fn rounded(a: &VReg, b: &VReg) -> Addends
     ensures { result ≡ each_lane (λ i. rounded (slice_index a.now i) (slice_index b.now i)) }
 {
     let _ = a.to_simd();
     let _ = b.to_simd();
-    let zeros = VReg::splat(0);
-    fraction(a, b).plus(&Addends::from_planes(&zeros, &zeros, &VReg::splat(0x8000)))
+    let (high, low) = signed_product(a, b);
+    let (middle, low) = doubled(&high, &low);
+    let middle = middle.add(&top_bit(&low));
+    let negative = high.is_negative().and(middle.is_negative());
+    let sign = negative.merge(&VReg::splat(0xffff), &VReg::splat(0));
+    Addends::from_planes(&sign, &middle, &low.add(&VReg::splat(0x8000)))
 }
 
 /// The unsigned products divided by 65536, rounded down.

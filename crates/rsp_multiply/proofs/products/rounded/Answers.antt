@@ -1,17 +1,25 @@
-use Rattle.std.proofs.Common.{◌∙◌, arith, pos}
+use Rattle.std.proofs.Common.{◌∙◌, false}
 use Rattle.rsp_lanes.proofs.Kit.{lane_of, each_same}
-use Rattle.rsp_numbers.proofs.Join.{join_small}
-use Rattle.rsp_multiply.specs.declared.ops.MultiplyOp.TheVariants.{Vmulf}
-use Rattle.rsp_multiply.proofs.Fits.{addend_fits}
-use Rattle.rsp_multiply.proofs.Halves.{plain}
+use Rattle.rsp_multiply.proofs.Signs.{signed}
+use Rattle.rsp_multiply.proofs.Doubles.{twice_rounded}
 use Rattle.rsp_multiply.proofs.products.rounded.Goals as goal
 
 pub returns : goal.returns
-returns c = c.plus.ensures ∙ each_same _ _ (λ i h.
-    rw (
-      lane_of (pos 0) _ _ c.fraction.ensures i h,
-      lane_of (pos 0) _ _ c.from_planes.ensures i h,
-      lane_of 0 _ _ c.splat-zeros.ensures i h,
+returns c = c.from_planes.ensures ∙ each_same _ _ (λ i h.
+    let s = (signed _ _ (c.to_simd.ensures.vector.1 i) (c.to_simd-2.ensures.vector.1 i)).1 in
+    simp (
+      lane_of 0 _ _ c.merge-sign.ensures i h,
+      lane_of false _ _ c.and-negative.ensures i h,
+      lane_of false _ _ c.is_negative.ensures i h,
+      lane_of false _ _ c.is_negative-2.ensures i h,
+      lane_of 0 _ _ c.add-middle.ensures i h,
+      lane_of 0 _ _ c.add.ensures i h,
+      lane_of 0 _ _ c.top_bit.ensures i h,
+      lane_of 0 _ _ c.doubled-middle.ensures.high i h,
+      lane_of 0 _ _ c.doubled-middle.ensures.low i h,
+      lane_of 0 _ _ c.signed_product-high.ensures.high i h,
+      lane_of 0 _ _ c.signed_product-high.ensures.low i h,
       lane_of 0 _ _ c.splat.ensures i h,
-      join_small 0 0 32768 (omega arith) (omega arith) (omega arith),
-    ) (plain _ (addend_fits _ _ (c.to_simd.ensures.vector.1 i) (c.to_simd-2.ensures.vector.1 i) Vmulf)))
+      lane_of 0 _ _ c.splat-2.ensures i h,
+      lane_of 0 _ _ c.splat-3.ensures i h,
+    ) (twice_rounded _ s.low s.high))

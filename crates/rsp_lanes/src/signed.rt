@@ -1,0 +1,32 @@
+//! Lanes as signed numbers.
+
+ghost use Rattle.std.specs.Prelude.{◌≡◌, ◌*ℤ◌, slice_index};
+ghost use Rattle.std.specs.Int.{cast_signed, w16};
+ghost use Rattle.rsp_lanes.specs.Lanes.{each_lane, upper_bits};
+
+use crate::VReg;
+use std::simd::prelude::*;
+
+/// The same bits as signed numbers.
+#[inline(always)]
+fn signed(v: &VReg) -> i16x8
+    ensures { result ≡ each_lane (λ i. cast_signed w16 (slice_index v.now i)) }
+{
+    i16x8::from_le_bytes(v.to_simd().to_le_bytes())
+}
+
+impl VReg {
+    /// The high half of the products of the lanes as signed numbers. LLVM makes one instruction of the body.
+    #[inline(always)]
+    pub fn signed_product_high(&self, other: &VReg) -> VReg
+        ensures { result ≡ each_lane (λ i. upper_bits (cast_signed w16 (slice_index self.now i) *ℤ cast_signed w16 (slice_index other.now i))) }
+    {
+        let _ = self.to_simd();
+        let _ = other.to_simd();
+        let product = signed(self)
+            .cast::<i32>()
+            .strict_mul(signed(other).cast::<i32>());
+        let high = (product >> i32x8::splat(16)).cast::<i16>();
+        VReg::from_simd(u16x8::from_le_bytes(high.to_le_bytes()))
+    }
+}

@@ -1,0 +1,64 @@
+-- Twice a product of 32 bits, by the halves of the product.
+use Rattle.std.proofs.Common.{◌≡◌, ◌∙◌, ℕ, ◌+◌, ◌-◌, ◌*◌, ◌/◌, ◌%◌, ◌^◌, ◌<◌, ◌≤◌, ℤ, pos, negsuc, ◌+ℤ◌, ◌*ℤ◌, ◌&&◌, cond, nat_lt, arith, ap, inl, inr}
+use Rattle.std.specs.Prelude.{◌≤ℤ◌}
+use Rattle.std.proofs.lemmas.Int.{ints}
+use Rattle.std.proofs.lemmas.Bool.{lt-ltb, le-ltb, cases_lt}
+use Rattle.std.proofs.lemmas.Bool.Decides.{nat_tests}
+use Rattle.rsp_numbers.specs.Numbers.{modulo, floor_div, join}
+use Rattle.rsp_numbers.proofs.Join.{join_small, join_large}
+use Rattle.rsp_multiply.specs.Doubles.{doubled_high, doubled_low}
+
+abbrev pub high_of : ℤ → ℕ
+high_of z = modulo (floor_div z 65536) 65536
+
+abbrev pub low_of : ℤ → ℕ
+low_of z = modulo z 65536
+
+-- the carry of a doubled half
+carry : (l : ℕ) → l < 65536 → cond (nat_lt 32767 l) 1 0 ≡ (l + l) / 65536
+carry l h = grind (arith, nat_tests)
+
+-- the planes of twice z
+pub twice : (z : ℤ) → negsuc (2 ^ 30 - 1) ≤ℤ z → z ≤ℤ pos (2 ^ 30)
+    → join (cond (nat_lt 32767 (high_of z)) 65535 0) (doubled_high (high_of z) (low_of z)) (doubled_low (low_of z)) ≡ pos 2 *ℤ z
+twice (pos n) low high =
+    let b : n ≤ 2 ^ 30 = omega (arith, ints) in
+    rw (carry (n % 65536) (omega arith), le-ltb 32767 (n / 65536 % 65536) (omega arith))
+    (join_small 0 _ _ (omega arith) (omega arith) (omega arith) ∙ ap pos (omega arith))
+twice (negsuc n) low high =
+    let b : n < 2 ^ 30 = omega (arith, ints) in
+    rw (carry (65535 - n % 65536) (omega arith), lt-ltb 32767 (65535 - n / 65536 % 65536) (omega arith))
+    (join_large 65535 _ _ (omega arith) (omega arith) (omega arith) (omega arith) ∙ omega (arith, ints))
+
+-- the middle plane of twice z and 32768
+abbrev pub rounded_middle : ℕ → ℕ → ℕ
+rounded_middle h l = (doubled_high h l + cond (nat_lt 32767 (doubled_low l)) 1 0) % 65536
+
+-- the middle and the low plane of twice z and 32768, as one number
+rounded_number : (h l : ℕ) → h < 65536 → l < 65536 → rounded_middle h l * 65536 + (doubled_low l + 32768) % 65536 ≡ (2 * (h * 65536 + l) + 32768) % 2 ^ 32
+rounded_number h l a b = rw (carry l b, carry (doubled_low l) (omega arith)) (omega arith)
+
+-- the planes of twice z and 32768, where m and l are the middle and the low one
+rounded_planes : (z : ℤ) (m l : ℕ) → negsuc (2 ^ 30 - 1) ≤ℤ z → z ≤ℤ pos (2 ^ 30) → m < 65536 → l < 65536
+    → m * 65536 + l ≡ (2 * (high_of z * 65536 + low_of z) + 32768) % 2 ^ 32
+    → join (cond (nat_lt 32767 (high_of z) && nat_lt 32767 m) 65535 0) m l ≡ pos 2 *ℤ z +ℤ pos 32768
+rounded_planes (pos n) m l low high a b e =
+    let c : n ≤ 2 ^ 30 = omega (arith, ints) in
+    let f : m * 65536 + l ≡ 2 * n + 32768 = omega (arith, e) in
+    rw (le-ltb 32767 (n / 65536 % 65536) (omega arith)) (join_small 0 _ _ (omega arith) a b ∙ ap pos (omega (arith, f)))
+rounded_planes (negsuc n) m l low high a b e =
+    let c : n < 2 ^ 30 = omega (arith, ints) in
+    let f : m * 65536 + l ≡ (2 * (2 ^ 32 - 1 - n) + 32768) % 2 ^ 32 = omega (arith, e) in
+    rw (lt-ltb 32767 (65535 - n / 65536 % 65536) (omega arith)) (elim (cases_lt m 32768) [
+      | inl s ↦ rw (le-ltb 32767 m (omega arith)) (join_small 0 _ _ (omega arith) a b ∙ omega (arith, ints, f))
+      | inr s ↦ rw (lt-ltb 32767 m (omega arith)) (join_large 65535 _ _ (omega arith) (omega arith) a b ∙ omega (arith, ints, f))
+    ])
+
+pub twice_rounded : (z : ℤ) → negsuc (2 ^ 30 - 1) ≤ℤ z → z ≤ℤ pos (2 ^ 30)
+    → join (cond (nat_lt 32767 (high_of z) && nat_lt 32767 (rounded_middle (high_of z) (low_of z))) 65535 0) (rounded_middle (high_of z) (low_of z)) ((doubled_low (low_of z) + 32768) % 65536)
+    ≡ pos 2 *ℤ z +ℤ pos 32768
+twice_rounded z low high = rounded_planes z _ _ low high (omega arith) (omega arith) (rounded_number (high_of z) (low_of z) (below (floor_div z 65536)) (below z))
+  where
+    below : (x : ℤ) → modulo x 65536 < 65536
+    below (pos n) = omega arith
+    below (negsuc n) = omega arith
