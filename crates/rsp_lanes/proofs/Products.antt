@@ -10,7 +10,7 @@ use lib.Signed.{shr_z}
 use Rattle.rsp_lanes.specs.Lanes.{each_lane, IsVector, upper_bits, sixteen_bits}
 use Rattle.std.proofs.lemmas.List.{get_or_past}
 use Rattle.rsp_lanes.proofs.Kit.{each_same, lane_of, length_each}
-use Rattle.rsp_lanes.proofs.Bytes.{bytes_of, lanes_of, lanes_again}
+use Rattle.rsp_lanes.proofs.ByteLanes.{bytes_of, lanes_of, lanes_again}
 
 -- a signed reading, with its range
 pub record InRange (z : ℤ) : Type 0 where

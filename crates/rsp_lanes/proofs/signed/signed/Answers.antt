@@ -1,6 +1,6 @@
 use Rattle.std.proofs.Common.{◌∙◌, map, ap, to_z, w16}
 use Rattle.rsp_lanes.proofs.Kit.{map_each}
-use Rattle.rsp_lanes.proofs.Bytes.{lanes_again}
+use Rattle.rsp_lanes.proofs.ByteLanes.{lanes_again}
 use Rattle.rsp_lanes.proofs.signed.signed.Goals as goal
 
 pub returns : goal.returns
