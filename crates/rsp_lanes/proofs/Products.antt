@@ -1,8 +1,9 @@
 -- Products of signed lanes, in lanes of 32 bits.
-use Rattle.std.proofs.Common.{◌≡◌, ◌∙◌, ℕ, suc, ◌-◌, ◌*◌, ◌/◌, ◌^◌, ◌<◌, ◌≤◌, ℤ, pos, negsuc, ◌*ℤ◌, to_z, of_z, SFits, w16, w32, List, get_or, arith, refl, ap, inl, inr}
+use Rattle.std.proofs.Common.{◌≡◌, ◌∙◌, ℕ, suc, ◌-◌, ◌*◌, ◌/◌, ◌^◌, ◌<◌, ◌≤◌, ℤ, pos, negsuc, ◌*ℤ◌, to_z, of_z, SFits, w16, w32, List, get_or, arith, refl, ap, inl, inr, cond, nat_lt}
 use Rattle.std.specs.Prelude.{◌≤ℤ◌, ◌<ℤ◌}
 use Rattle.std.proofs.lemmas.Int.{ints}
-use Rattle.std.proofs.lemmas.Bool.{cases_lt, le-ltb}
+use Rattle.std.proofs.lemmas.Bool.{cases_lt, le-ltb, lt-ltb}
+use Rattle.std.proofs.lemmas.Bool.Decides.{nat_tests}
 use Rattle.std.proofs.Math.Nat.{mul-le-mul}
 use Rattle.std.proofs.Math.Facts.{of_z-to_z, Fits-of_lt}
 use Rattle.std.specs.Int.{int_div_euclid}
@@ -135,3 +136,26 @@ pub high_lanes : (v w : List ℕ) → ((i : ℕ) → get_or v i 0 < 65536) → (
 high_lanes v w h k =
     let e = each_same (λ i. of_z w16 (shifted (get_or v i 0) (get_or w i 0))) (λ i. upper_bits (to_z w16 (get_or v i 0) *ℤ to_z w16 (get_or w i 0))) (λ i l. high_is _ _ (h i) (k i)) in
     ap (λ l. lanes_of (bytes_of l)) e ∙ lanes_again _ (high_vector _ (λ i. bits_below (to_z w16 (get_or v i 0) *ℤ to_z w16 (get_or w i 0))))
+
+-- a signed lane shifted down to its sign
+abbrev pub sign_bits : ℕ → ℕ
+sign_bits a = of_z w16 (shr_z (to_z w16 (of_z w16 (to_z w16 a))) 32768)
+
+sign_is : (a : ℕ) → a < 65536 → sign_bits a ≡ cond (nat_lt 32767 a) 65535 0
+sign_is a h = ap (λ n. of_z w16 (shr_z (to_z w16 n) 32768)) (of_z-to_z {w = w16} (Fits-of_lt h)) ∙ elim (cases_lt a 32768) [
+  | inl n ↦
+      let e : to_z w16 a ≡ pos a = omega (arith, ints) in
+      rw (e, le-ltb 32767 a (omega arith)) (omega arith)
+  | inr n ↦
+      let e : to_z w16 a ≡ negsuc (65535 - a) = rw (le-ltb a 32768 n) (ap negsuc (omega arith)) in
+      rw (e, lt-ltb 32767 a (omega arith)) (omega arith)
+]
+
+sign_below : (a : ℕ) → cond (nat_lt 32767 a) 65535 0 < 65536
+sign_below a = grind (arith, nat_tests)
+
+pub sign_lanes : (v : List ℕ) → ((i : ℕ) → get_or v i 0 < 65536)
+    → lanes_of (bytes_of (each_lane (λ i. sign_bits (get_or v i 0)))) ≡ each_lane (λ i. cond (nat_lt 32767 (get_or v i 0)) 65535 0)
+sign_lanes v h =
+    let e = each_same (λ i. sign_bits (get_or v i 0)) (λ i. cond (nat_lt 32767 (get_or v i 0)) 65535 0) (λ i l. sign_is _ (h i)) in
+    ap (λ l. lanes_of (bytes_of l)) e ∙ lanes_again _ (high_vector _ (λ i. sign_below (get_or v i 0)))

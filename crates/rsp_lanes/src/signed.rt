@@ -1,6 +1,6 @@
 //! Lanes as signed numbers.
 
-ghost use Rattle.std.specs.Prelude.{◌≡◌, ◌*ℤ◌, slice_index};
+ghost use Rattle.std.specs.Prelude.{◌≡◌, ◌*ℤ◌, cond, nat_lt, slice_index};
 ghost use Rattle.std.specs.Int.{cast_signed, w16};
 ghost use Rattle.rsp_lanes.specs.Lanes.{each_lane, upper_bits};
 
@@ -28,5 +28,15 @@ impl VReg {
             .strict_mul(signed(other).cast::<i32>());
         let high = (product >> i32x8::splat(16)).cast::<i16>();
         VReg::from_simd(u16x8::from_le_bytes(high.to_le_bytes()))
+    }
+
+    /// All ones where the lane is negative as a signed number, else 0.
+    #[inline(always)]
+    pub fn sign(&self) -> VReg
+        ensures { result ≡ each_lane (λ i. cond (nat_lt 32767 (slice_index self.now i)) 65535 0) }
+    {
+        let _ = self.to_simd();
+        let sign = signed(self) >> i16x8::splat(15);
+        VReg::from_simd(u16x8::from_le_bytes(sign.to_le_bytes()))
     }
 }

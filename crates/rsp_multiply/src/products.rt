@@ -38,16 +38,6 @@ pub(crate) fn mixed_product(a: &VReg, b: &VReg) -> (VReg, VReg)
     (high, low)
 }
 
-/// All ones where the lane is negative as a signed number, else 0: what stands above the lane in a longer number.
-#[inline(always)]
-fn sign(lanes: &VReg) -> VReg
-    ensures { result ≡ each_lane (λ i. if nat_lt 32767 (slice_index lanes.now i) then 65535 else 0) }
-{
-    lanes
-        .is_negative()
-        .merge(&VReg::splat(0xffff), &VReg::splat(0))
-}
-
 /// 1 where the top bit of the lane is set, else 0: what a doubled lane carries to the lane above it.
 #[inline(always)]
 fn top_bit(lanes: &VReg) -> VReg
@@ -61,7 +51,7 @@ fn top_bit(lanes: &VReg) -> VReg
 fn extended(high: &VReg, low: &VReg) -> Addends
     ensures { result ≡ each_lane (λ i. join (if nat_lt 32767 (slice_index high.now i) then 65535 else 0) (slice_index high.now i) (slice_index low.now i)) }
 {
-    Addends::from_planes(&sign(high), high, low)
+    Addends::from_planes(&high.sign(), high, low)
 }
 
 /// The halves of twice the number with these halves, modulo 2^32.
@@ -82,7 +72,7 @@ pub(crate) fn fraction(a: &VReg, b: &VReg) -> Addends
     let _ = b.to_simd();
     let (high, low) = signed_product(a, b);
     let (middle, low) = doubled(&high, &low);
-    Addends::from_planes(&sign(&high), &middle, &low)
+    Addends::from_planes(&high.sign(), &middle, &low)
 }
 
 /// Twice the signed products and one half of 65536. The sum is negative where the product is and bit 31 of the sum is set.
@@ -95,8 +85,7 @@ pub(crate) fn rounded(a: &VReg, b: &VReg) -> Addends
     let (high, low) = signed_product(a, b);
     let (middle, low) = doubled(&high, &low);
     let middle = middle.add(&top_bit(&low));
-    let negative = high.is_negative().and(middle.is_negative());
-    let sign = negative.merge(&VReg::splat(0xffff), &VReg::splat(0));
+    let sign = high.sign().and(&middle.sign());
     Addends::from_planes(&sign, &middle, &low.add(&VReg::splat(0x8000)))
 }
 

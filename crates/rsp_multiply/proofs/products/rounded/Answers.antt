@@ -1,5 +1,6 @@
-use Rattle.std.proofs.Common.{◌∙◌, false}
+use Rattle.std.proofs.Common.{◌∙◌}
 use Rattle.rsp_lanes.proofs.Kit.{lane_of, each_same}
+use Rattle.rsp_lanes.proofs.Masks.{bits-and}
 use Rattle.rsp_multiply.proofs.Signs.{signed}
 use Rattle.rsp_multiply.proofs.Doubles.{twice_rounded}
 use Rattle.rsp_multiply.proofs.products.rounded.Goals as goal
@@ -8,10 +9,10 @@ pub returns : goal.returns
 returns c = c.from_planes.ensures ∙ each_same _ _ (λ i h.
     let s = (signed _ _ (c.to_simd.ensures.vector.1 i) (c.to_simd-2.ensures.vector.1 i)).1 in
     simp (
-      lane_of 0 _ _ c.merge-sign.ensures i h,
-      lane_of false _ _ c.and-negative.ensures i h,
-      lane_of false _ _ c.is_negative.ensures i h,
-      lane_of false _ _ c.is_negative-2.ensures i h,
+      lane_of 0 _ _ c.and-sign.ensures i h,
+      lane_of 0 _ _ c.sign.ensures i h,
+      lane_of 0 _ _ c.sign-2.ensures i h,
+      bits-and,
       lane_of 0 _ _ c.add-middle.ensures i h,
       lane_of 0 _ _ c.add.ensures i h,
       lane_of 0 _ _ c.top_bit.ensures i h,
@@ -20,6 +21,4 @@ returns c = c.from_planes.ensures ∙ each_same _ _ (λ i h.
       lane_of 0 _ _ c.signed_product-high.ensures.high i h,
       lane_of 0 _ _ c.signed_product-high.ensures.low i h,
       lane_of 0 _ _ c.splat.ensures i h,
-      lane_of 0 _ _ c.splat-2.ensures i h,
-      lane_of 0 _ _ c.splat-3.ensures i h,
     ) (twice_rounded _ s.low s.high))
