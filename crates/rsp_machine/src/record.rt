@@ -6,7 +6,7 @@ ghost use Rattle.rsp_scalar.specs.Rows.{address};
 ghost use Rattle.rsp_loadstore.specs.File.{register as vector};
 ghost use Rattle.rsp_loadstore.specs.Addresses.{transfer_address};
 ghost use Rattle.rsp_machine.specs.declared.part.Part.TheVariants as part;
-ghost use Rattle.rsp_machine.specs.Saved.{IsPart, blank, is_back, may_store, window_of, group_at, with_group, vd_at, with_product, undone};
+ghost use Rattle.rsp_machine.specs.Saved.{IsPart, blank, is_back, may_store, window_of, group_at, with_group, vd_at, with_product, with_vco, undone};
 
 use crate::machine::Machine;
 use crate::part::{Part, vd_of};
@@ -216,15 +216,9 @@ impl<A: Acc> Machine<A> {
             Part::Vector(n) => self.vregs.set_reg(n as u8, slot.vector),
             Part::Group(n) => self.put_group(n as u8, &slot.vectors),
             Part::Product(_) => self.put_product(slot),
-            Part::Sum(_) => {
-                self.put_product(slot);
-                self.flags.carry = slot.flags.carry;
-                self.flags.differ = slot.flags.differ;
-            }
+            Part::Sum(_) => self.put_sum(slot),
             Part::Choice(_) => {
-                self.put_product(slot);
-                self.flags.carry = slot.flags.carry;
-                self.flags.differ = slot.flags.differ;
+                self.put_sum(slot);
                 self.flags.compare = slot.flags.compare;
                 self.flags.clip = slot.flags.clip;
             }
@@ -255,6 +249,15 @@ impl<A: Acc> Machine<A> {
         let vd = self.vd_at(slot.pc);
         self.vregs.set_reg(vd, slot.vector);
         self.acc.replace(&slot.accumulators);
+    }
+
+    /// Writes back a vector register, the accumulators and the flags of VCO.
+    fn put_sum(&mut self, slot: &Record)
+        ensures { self.new ≡ record (with_product slot.now self.old) { flags = with_vco slot.now.flags self.old.flags } }
+    {
+        self.put_product(slot);
+        self.flags.carry = slot.flags.carry;
+        self.flags.differ = slot.flags.differ;
     }
 
     /// The register that the computing row at a place writes; 0 where no such row stands there.
