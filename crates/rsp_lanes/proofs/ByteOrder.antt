@@ -1,5 +1,5 @@
 -- The sixteen bytes of a register, and the lanes that they make.
-use Rattle.std.proofs.Common.{◌≡◌, ℕ, zero, suc, ◌+◌, ◌-◌, ◌*◌, ◌/◌, ◌%◌, ◌<◌, ◌≤◌, ◌&&◌, List, [], ◌∷◌, ◌++◌, Bool, true, false, cond, if◌then◌else◌, nat_le, nat_lt, leb, ltb, length, get_or, map, replicate, refl, sym, ap, ◌∙◌, arith, inl, inr, Fits, w8, bit_and}
+use Rattle.std.proofs.Common.{◌≡◌, ℕ, suc, ◌+◌, ◌-◌, ◌*◌, ◌/◌, ◌%◌, ◌<◌, ◌≤◌, ◌&&◌, List, [], ◌∷◌, ◌++◌, Bool, true, false, cond, if◌then◌else◌, nat_le, nat_lt, leb, ltb, get_or, map, replicate, refl, ap, ◌∙◌, arith, inl, inr, Fits, w8, bit_and}
 use Rattle.std.specs.Simd.Lanes.{zip2, sel_l, pick_l, top, number_l, digits_l}
 use Rattle.std.proofs.Math.Nat.{mul-le-mul_left}
 use Rattle.std.proofs.lemmas.Simd.{swz_l}

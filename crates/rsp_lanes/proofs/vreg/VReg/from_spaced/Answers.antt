@@ -1,4 +1,4 @@
-use Rattle.std.proofs.Common.{◌∙◌, ◌+◌, ◌*◌, ◌%◌, ◌<◌, ℕ, get_or, rules, Fits, w8}
+use Rattle.std.proofs.Common.{◌∙◌, ◌+◌, ◌*◌, ◌%◌, ℕ, get_or, rules, Fits, w8}
 use Rattle.rsp_lanes.proofs.ByteOrder.{scaled}
 use Rattle.rsp_lanes.proofs.vreg.VReg.from_spaced.Goals as goal
 
