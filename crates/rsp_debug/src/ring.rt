@@ -35,9 +35,9 @@ impl Model for Ring {
     ghost invariant = { λ r. IsWithin r.first r.count r.depth r.slots.items };
 }
 
-/// Where the records stand in slots that a run has borrowed, as in a `Ring`.
+/// Where the records stand in slots that a run has borrowed: the fields of a `Ring` beside its slots.
 #[derive(Clone, Copy, Drop)]
-pub struct Places {
+pub struct Span {
     pub first: usize,
     pub count: usize,
     pub depth: usize,
@@ -128,7 +128,7 @@ impl Ring {
     }
 }
 
-impl Places {
+impl Span {
     /// One step of a machine, of which the slots keep what it changed. So the states that lead back from the machine
     /// are those before, with the one that the step left as the newest. `asks` is whether to tell that it may have changed DMEM.
     #[inline(always)]
@@ -156,13 +156,15 @@ impl Places {
             StepEnd::Halted => return Made { end, stored: false },
             StepEnd::Reserved { word: _ } => return Made { end, stored: false },
         }
-        let stored = asks && slot.may_store();
+        self.first = place;
         if is_back {
-            self.first = place;
             self.count = one_more(self.count, self.depth);
         } else {
             self.count = 0;
         }
-        Made { end, stored }
+        Made {
+            end,
+            stored: asks && slot.may_store(),
+        }
     }
 }

@@ -13,7 +13,7 @@ ghost use Rattle.rsp_debug.specs.declared.stop.Reason.TheVariants as why;
 
 use crate::breaks::Breaks;
 use crate::held::{Held, differs};
-use crate::ring::{Places, Ring};
+use crate::ring::{Ring, Span};
 use crate::stop::{Reason, Stop};
 use crate::watches::Watches;
 use rsp_acc::Acc;
@@ -111,26 +111,26 @@ fn hit<A: Acc>(
 fn go_on_in<A: Acc>(
     machine: &mut Machine<A>,
     slots: &mut [Record],
-    places: &mut Places,
+    span: &mut Span,
     breaks: &Breaks,
     held: &[Option<Held>],
     n: u32,
 ) -> (u32, Option<Reason>)
     requires same { differs held.now machine.old.dmem ≡ None }
-    requires places { IsWithin places.old.first places.old.count places.old.depth slots.old }
+    requires span { IsWithin span.old.first span.old.count span.old.depth slots.old }
     ensures within { result.0 ≤ n }
     ensures after { IsAfter result.0 machine.old machine.new }
-    ensures past { states_before machine.new (from_place places.new.first places.new.count slots.new) ≡ past_of result.0 places.old.depth machine.old (states_before machine.old (from_place places.old.first places.old.count slots.old)) }
-    ensures depth { places.new.depth ≡ places.old.depth }
+    ensures past { states_before machine.new (from_place span.new.first span.new.count slots.new) ≡ past_of result.0 span.old.depth machine.old (states_before machine.old (from_place span.old.first span.old.count slots.old)) }
+    ensures depth { span.new.depth ≡ span.old.depth }
     ensures len { length slots.new ≡ length slots.old }
-    ensures places { IsWithin places.new.first places.new.count places.new.depth slots.new }
+    ensures span { IsWithin span.new.first span.new.count span.new.depth slots.new }
     ensures first { (j : ℕ) → j < result.0 → reason_at breaks.now (watches_of held.now) n machine.old j ≡ None }
     ensures last { stuck_of machine.new ≡ None → reason_at breaks.now (watches_of held.now) n machine.old result.0 ≡ Some (unwrap_or result.1 why.Limit) }
 {
     let watching = is_watching(held);
     let breaking = is_breaking(breaks);
     for k in 0..n {
-        let made = places.step(slots, machine, watching);
+        let made = span.step(slots, machine, watching);
         match made.end {
             StepEnd::Done => {}
             StepEnd::Halted => return (k, None),
@@ -162,7 +162,7 @@ fn go_on<A: Acc>(
     ensures first { (j : ℕ) → j < result.0 → reason_at breaks.now (watches_of held.now) n machine.old j ≡ None }
     ensures last { stuck_of machine.new ≡ None → reason_at breaks.now (watches_of held.now) n machine.old result.0 ≡ Some (unwrap_or result.1 why.Limit) }
 {
-    let mut places = Places {
+    let mut span = Span {
         first: past.first,
         count: past.count,
         depth: past.depth,
@@ -170,13 +170,13 @@ fn go_on<A: Acc>(
     let made = go_on_in(
         machine,
         past.slots.make_contiguous(),
-        &mut places,
+        &mut span,
         breaks,
         held,
         n,
     );
-    past.first = places.first;
-    past.count = places.count;
+    past.first = span.first;
+    past.count = span.count;
     made
 }
 
