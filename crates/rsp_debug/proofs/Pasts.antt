@@ -71,11 +71,11 @@ rest_here s (x ∷ rs) r e =
     let same : x ≡ r = cc in
     rw (← same) refl
 
-pub back_here : (s : State) (xs : List Saved) (i count : ℕ) (r : Saved) → i < length xs → 0 < count → r ≡ get_or xs i r
+pub back_here : (s : State) (xs : List Saved) (i count : ℕ) (r : Saved) → i < length xs → 0 < count → slice_get xs i ≡ Some r
     → undone r s ≡ slice_index_or (states_before s (from_place i count xs)) 0 s
 back_here s xs i count r h c e = first_here s (from_place i count xs) r (first_is xs i count r h c e)
 
-pub back_rest : (s : State) (xs : List Saved) (i count : ℕ) (r : Saved) → i < length xs → 0 < count → count ≤ length xs → r ≡ get_or xs i r
+pub back_rest : (s : State) (xs : List Saved) (i count : ℕ) (r : Saved) → i < length xs → 0 < count → count ≤ length xs → slice_get xs i ≡ Some r
     → states_before (undone r s) (from_place (following (length xs) i) (count - 1) xs) ≡ drop 1 (states_before s (from_place i count xs))
 back_rest s xs i count r h c l e =
     ap (states_before (undone r s)) (popped xs i count r h l) ∙ rest_here s (from_place i count xs) r (first_is xs i count r h c e)

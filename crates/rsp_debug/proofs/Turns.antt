@@ -2,6 +2,7 @@
 use Rattle.std.proofs.Common.{◌≡◌, ℕ, zero, suc, ◌+◌, ◌-◌, ◌<◌, ◌≤◌, ◌==◌, Bool, true, false, List, [], ◌∷◌, ◌++◌, length, take, drop, refl, sym, ◌∙◌, ap, arith, add-one, get_or, set, append_assoc, min, inl, inr, Some}
 use Rattle.std.specs.Prelude.{if◌then◌else◌, slice_get}
 use Rattle.std.proofs.Math.Seq.{drop-cons}
+use Rattle.std.proofs.lemmas.Option.{get_or_from_slice_get}
 use Rattle.std.proofs.lemmas.List.{drop-set, take-set, take_more, take_all, drop_all, take-append-le, take-take, length-take, length-drop, length-append, length-set, set-get_or, append-nil}
 use Rattle.std.proofs.lemmas.Bool.{cases_lt}
 use Rattle.std.proofs.lemmas.Bool.Decides.{nat_tests}
@@ -78,10 +79,10 @@ module _ {X : Type 0} where
       ∙ take-append-le k (rest i xs) (get_or xs i d ∷ []) (omega arith)
       ∙ sym (ap (λ l. drop 1 (take (suc k) l)) (here i xs d h))
 
-  pub first_is : (xs : List X) (i count : ℕ) (x : X) → i < length xs → 0 < count → x ≡ get_or xs i x → slice_get (from_place i count xs) 0 ≡ Some x
+  pub first_is : (xs : List X) (i count : ℕ) (x : X) → i < length xs → 0 < count → slice_get xs i ≡ Some x → slice_get (from_place i count xs) 0 ≡ Some x
   first_is xs i zero x h c e = absurd (omega arith)
   first_is xs i (suc k) x h c e =
-      ap (λ l. slice_get (take (suc k) l) 0) (here i xs x h) ∙ ap Some (sym e)
+      ap (λ l. slice_get (take (suc k) l) 0) (here i xs x h) ∙ ap Some (get_or_from_slice_get xs i x x e)
 
   -- a member that is written over by itself
   pub kept_member : (xs : List X) (i : ℕ) (x : X) → x ≡ get_or xs i x → set xs i x ≡ xs

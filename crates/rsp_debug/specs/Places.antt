@@ -1,5 +1,5 @@
 -- Places in a ring of n.
-use Rattle.std.specs.Prelude.{ℕ, ◌+◌, ◌-◌, ◌==◌, List, ◌++◌, take, drop, if◌then◌else◌}
+use Rattle.std.specs.Prelude.{ℕ, ◌+◌, ◌-◌, ◌==◌, ◌<◌, ◌≤◌, List, ◌++◌, length, take, drop, if◌then◌else◌}
 
 -- the place after a place, and the one before it
 abbrev pub following : ℕ → ℕ → ℕ
@@ -15,3 +15,7 @@ rotated i xs = drop i xs ++ take i xs
 -- and as many of them
 abbrev pub from_place : {X : Type 0} → ℕ → ℕ → List X → List X
 from_place i count xs = take count (rotated i xs)
+
+-- so many members, at most depth, stand in xs from a place on
+abbrev pub IsWithin : {X : Type 0} → ℕ → ℕ → ℕ → List X → Type 0
+IsWithin i count depth xs = (i < length xs) × (count ≤ depth) × (depth ≤ length xs)

@@ -1,8 +1,9 @@
 ghost use Rattle.std.specs.Prelude.{◌≡◌, ◌+◌, ◌<◌, ◌≤◌, [], true, false, length, min, drop, slice_index_or, IfOk};
 ghost use Rattle.rsp_machine.specs.Step.{step_of};
-ghost use Rattle.rsp_debug.specs.Places.{following, previous};
+ghost use Rattle.rsp_debug.specs.Places.{following, previous, from_place, IsWithin};
 ghost use Rattle.rsp_debug.specs.Past.{states_before, past_after};
 
+use circular_buffer::HeapCircularBuffer;
 use rsp_acc::Acc;
 use rsp_machine::{Machine, Record, StepEnd};
 use std::alloc::{AllocError, Global};
@@ -12,17 +13,16 @@ use std::marker::Model;
 /// the records, the newest first, and how many may be kept.
 #[derive(Drop)]
 pub struct Ring {
-    slots: Vec<Record>,
+    pub(crate) slots: HeapCircularBuffer<Record>,
     /// The place of the newest record; the older ones stand behind it, round the end.
-    first: usize,
-    count: usize,
+    pub(crate) first: usize,
+    pub(crate) count: usize,
     /// How many records may stand. There is one slot more where it is 0, so that each step has a slot.
-    depth: usize,
+    pub(crate) depth: usize,
 }
 
 impl Model for Ring {
-    ghost use Rattle.std.specs.Prelude.{◌<◌, ◌≤◌, length};
-    ghost use Rattle.rsp_debug.specs.Places.{from_place};
+    ghost use Rattle.rsp_debug.specs.Places.{from_place, IsWithin};
     ghost use Rattle.rsp_debug.specs.Past.{Records};
 
     ghost Value = { Records };
@@ -32,10 +32,18 @@ impl Model for Ring {
       depth = r.depth;
     } };
 
-    ghost invariant = { λ r. (r.first < length r.slots.items) × (r.count ≤ r.depth) × (r.depth ≤ length r.slots.items) };
+    ghost invariant = { λ r. IsWithin r.first r.count r.depth r.slots.items };
 }
 
-/// What a step of a ring came to.
+/// Where the records stand in slots that a run has borrowed: the fields of a `Ring` beside its slots.
+#[derive(Clone, Copy, Drop)]
+pub struct Span {
+    pub first: usize,
+    pub count: usize,
+    pub depth: usize,
+}
+
+/// What a step came to.
 #[derive(Clone, Copy, Drop)]
 pub struct Made {
     /// What the step answered.
@@ -76,9 +84,9 @@ impl Ring {
         ensures { IfOk result (λ r. r ≡ record { newest = []; depth = depth }) }
     {
         let room = depth.max(1);
-        let mut slots = Vec::with_capacity(alloc, room)?;
+        let mut slots = HeapCircularBuffer::with_capacity(alloc, room)?;
         for _ in 0..room {
-            slots.push(Record::new())?;
+            let _ = slots.push_back(Record::new());
         }
         Ok(Ring {
             slots,
@@ -103,35 +111,6 @@ impl Ring {
         self.count = 0;
     }
 
-    /// One step of a machine, of which the ring keeps what it changed. So the states that lead back from the machine
-    /// are those before, with the one that the step left as the newest. `asks` is whether to tell that it may have changed DMEM.
-    #[inline(always)]
-    #[tactic(auto, using(crate::proofs::Pasts::pasts))]
-    pub fn step<A: Acc>(&mut self, machine: &mut Machine<A>, asks: bool) -> Made
-        ensures answer { result.end ≡ (step_of machine.old).0 }
-        ensures state { machine.new ≡ (step_of machine.old).1 }
-        ensures memory { result.end ≡ StepEnd.Done → asks ≡ true → result.stored ≡ false → machine.new.dmem ≡ machine.old.dmem }
-        ensures past { states_before machine.new self.new.newest ≡ past_after self.old.depth machine.old (states_before machine.old self.old.newest) }
-        ensures depth { self.new.depth ≡ self.old.depth }
-    {
-        let place = previous(self.slots.len(), self.first);
-        let slot = &mut self.slots[place];
-        let (end, is_back) = machine.record_step(slot);
-        match end {
-            StepEnd::Done => {}
-            StepEnd::Halted => return Made { end, stored: false },
-            StepEnd::Reserved { word: _ } => return Made { end, stored: false },
-        }
-        let stored = asks && slot.may_store();
-        if is_back {
-            self.first = place;
-            self.count = one_more(self.count, self.depth);
-        } else {
-            self.count = 0;
-        }
-        Made { end, stored }
-    }
-
     /// Goes back by the newest record, which leaves.
     #[tactic(auto, using(crate::proofs::Pasts::backs))]
     pub fn undo<A: Acc>(&mut self, machine: &mut Machine<A>)
@@ -140,8 +119,52 @@ impl Ring {
         ensures past { states_before machine.new self.new.newest ≡ drop 1 (states_before machine.old self.old.newest) }
         ensures depth { self.new.depth ≡ self.old.depth }
     {
-        machine.undo(&self.slots[self.first]);
+        let Some(slot) = self.slots.get(self.first) else {
+            unreachable!()
+        };
+        machine.undo(slot);
         self.first = following(self.slots.len(), self.first);
         self.count -= 1;
+    }
+}
+
+impl Span {
+    /// One step of a machine, of which the slots keep what it changed. So the states that lead back from the machine
+    /// are those before, with the one that the step left as the newest. `asks` is whether to tell that it may have changed DMEM.
+    #[inline(always)]
+    #[tactic(auto, using(crate::proofs::Pasts::pasts))]
+    pub fn step<A: Acc>(
+        &mut self,
+        slots: &mut [Record],
+        machine: &mut Machine<A>,
+        asks: bool,
+    ) -> Made
+        requires { IsWithin self.old.first self.old.count self.old.depth slots.old }
+        ensures answer { result.end ≡ (step_of machine.old).0 }
+        ensures state { machine.new ≡ (step_of machine.old).1 }
+        ensures memory { result.end ≡ StepEnd.Done → asks ≡ true → result.stored ≡ false → machine.new.dmem ≡ machine.old.dmem }
+        ensures past { states_before machine.new (from_place self.new.first self.new.count slots.new) ≡ past_after self.old.depth machine.old (states_before machine.old (from_place self.old.first self.old.count slots.old)) }
+        ensures depth { self.new.depth ≡ self.old.depth }
+        ensures len { length slots.new ≡ length slots.old }
+        ensures within { IsWithin self.new.first self.new.count self.new.depth slots.new }
+    {
+        let place = previous(slots.len(), self.first);
+        let slot = &mut slots[place];
+        let (end, is_back) = machine.record_step(slot);
+        match end {
+            StepEnd::Done => {}
+            StepEnd::Halted => return Made { end, stored: false },
+            StepEnd::Reserved { word: _ } => return Made { end, stored: false },
+        }
+        self.first = place;
+        if is_back {
+            self.count = one_more(self.count, self.depth);
+        } else {
+            self.count = 0;
+        }
+        Made {
+            end,
+            stored: asks && slot.may_store(),
+        }
     }
 }

@@ -7,17 +7,18 @@ ghost use Rattle.rsp_debug.specs.Breaks.{break_count};
 ghost use Rattle.rsp_debug.specs.Calls.{IsAfter};
 ghost use Rattle.rsp_debug.specs.Held.{differs, watches_of};
 ghost use Rattle.rsp_debug.specs.Past.{states_before, past_after, past_of};
+ghost use Rattle.rsp_debug.specs.Places.{from_place, IsWithin};
 ghost use Rattle.rsp_debug.specs.Runs.{stuck_of, hit_in};
 ghost use Rattle.rsp_debug.specs.declared.stop.Reason.TheVariants as why;
 
 use crate::breaks::Breaks;
 use crate::held::{Held, differs};
-use crate::ring::Ring;
+use crate::ring::{Ring, Span};
 use crate::stop::{Reason, Stop};
 use crate::watches::Watches;
 use rsp_acc::Acc;
 use rsp_decode::decode;
-use rsp_machine::{Machine, StepEnd};
+use rsp_machine::{Machine, Record, StepEnd};
 
 /// Why a machine can't go on.
 fn stuck<A: Acc>(machine: &Machine<A>) -> Option<Reason>
@@ -106,10 +107,48 @@ fn hit<A: Acc>(
     None
 }
 
+/// The steps of `go_on`, in slots that are borrowed once for all of them.
+#[inline(always)]
+#[tactic(auto, using(crate::proofs::Going::goes))]
+fn go_on_in<A: Acc>(
+    machine: &mut Machine<A>,
+    slots: &mut [Record],
+    span: &mut Span,
+    breaks: &Breaks,
+    held: &[Option<Held>],
+    n: u32,
+) -> (u32, Option<Reason>)
+    requires same { differs held.now machine.old.dmem ≡ None }
+    requires span { IsWithin span.old.first span.old.count span.old.depth slots.old }
+    ensures within { result.0 ≤ n }
+    ensures after { IsAfter result.0 machine.old machine.new }
+    ensures past { states_before machine.new (from_place span.new.first span.new.count slots.new) ≡ past_of result.0 span.old.depth machine.old (states_before machine.old (from_place span.old.first span.old.count slots.old)) }
+    ensures depth { span.new.depth ≡ span.old.depth }
+    ensures len { length slots.new ≡ length slots.old }
+    ensures span { IsWithin span.new.first span.new.count span.new.depth slots.new }
+    ensures first { (j : ℕ) → j < result.0 → reason_at breaks.now (watches_of held.now) n machine.old j ≡ None }
+    ensures last { stuck_of machine.new ≡ None → reason_at breaks.now (watches_of held.now) n machine.old result.0 ≡ Some (unwrap_or result.1 why.Limit) }
+{
+    let watching = is_watching(held);
+    let breaking = is_breaking(breaks);
+    for k in 0..n {
+        let made = span.step(slots, machine, watching);
+        match made.end {
+            StepEnd::Done => {}
+            StepEnd::Halted => return (k, None),
+            StepEnd::Reserved { word: _ } => return (k, None),
+        }
+        if let Some(reason) = hit(machine, breaks, held, breaking, made.stored) {
+            return (k + 1, Some(reason));
+        }
+    }
+    (n, None)
+}
+
 /// Makes steps as long as they answer Done, at most `n`, up to one that comes to a breakpoint or a watch. Tells how many, and
 /// which. All steps of a debugger are made here: the machine's step is put into one loop.
 #[inline(never)]
-#[tactic(auto, using(crate::proofs::Going::goes))]
+#[tactic(auto)]
 fn go_on<A: Acc>(
     machine: &mut Machine<A>,
     past: &mut Ring,
@@ -125,20 +164,22 @@ fn go_on<A: Acc>(
     ensures first { (j : ℕ) → j < result.0 → reason_at breaks.now (watches_of held.now) n machine.old j ≡ None }
     ensures last { stuck_of machine.new ≡ None → reason_at breaks.now (watches_of held.now) n machine.old result.0 ≡ Some (unwrap_or result.1 why.Limit) }
 {
-    let watching = is_watching(held);
-    let breaking = is_breaking(breaks);
-    for k in 0..n {
-        let made = past.step(machine, watching);
-        match made.end {
-            StepEnd::Done => {}
-            StepEnd::Halted => return (k, None),
-            StepEnd::Reserved { word: _ } => return (k, None),
-        }
-        if let Some(reason) = hit(machine, breaks, held, breaking, made.stored) {
-            return (k + 1, Some(reason));
-        }
-    }
-    (n, None)
+    let mut span = Span {
+        first: past.first,
+        count: past.count,
+        depth: past.depth,
+    };
+    let made = go_on_in(
+        machine,
+        past.slots.make_contiguous(),
+        &mut span,
+        breaks,
+        held,
+        n,
+    );
+    past.first = span.first;
+    past.count = span.count;
+    made
 }
 
 /// One step of a machine, of which the ring keeps what it changed.

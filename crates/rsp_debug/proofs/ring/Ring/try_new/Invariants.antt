@@ -4,6 +4,7 @@ use Rattle.rsp_debug.proofs.ring.Ring.try_new.Given as goal
 abbrev pub invariant-loop : goal.invariant-loop
 invariant-loop l = record {
   filled : length l.slots.items ≡ l.counter;
+  room : l.slots.capacity ≡ l.initial.room;
   kept : l.room ≡ l.initial.room;
   same : l.depth ≡ l.initial.depth;
 }

@@ -4,23 +4,26 @@ use Rattle.rsp_machine.specs.State.{State}
 use Rattle.rsp_debug.specs.declared.stop.Reason.TheVariants.{Limit}
 use Rattle.rsp_debug.specs.Stops.{reason_at}
 use Rattle.rsp_debug.specs.Past.{states_before}
+use Rattle.rsp_debug.specs.Places.{from_place}
 use Rattle.rsp_debug.specs.Held.{watches_of}
 use Rattle.rsp_debug.specs.Runs.{stuck_of}
 use Rattle.rsp_debug.proofs.Going.{past-none, past-step, past-halted, past-reserved}
 use Rattle.rsp_debug.proofs.Reasons.{reason-hit, reason-limit, next-reached, next-first, next-hit, nothing-differs, step-halted, step-halted-same, step-reserved, step-reserved-same}
 use Rattle.rsp_debug.proofs.Slots.{still-same}
 use Rattle.rsp_debug.proofs.Afters.{after-none, after-more, after-same, never}
-use Rattle.rsp_debug.proofs.runs.go_on.Goals as goal
+use Rattle.rsp_debug.proofs.runs.go_on_in.Goals as goal
 
 pub loop-k-init : goal.loop-k-init
 loop-k-init g c =
-    let s = c.args.machine.now in
+    let s = c.args.machine.now in let p = c.args.span.now in
     record {
       after = after-none s;
-      past = sym (past-none c.args.past.now.depth s (states_before s c.args.past.now.newest));
+      past = sym (past-none p.depth s (states_before s (from_place p.first p.count c.args.slots.now)));
       depth = refl;
+      len = refl;
+      span = c.requires.span;
       first = λ j h. absurd (omega arith);
-      same = c.requires;
+      same = c.requires.same;
       quiet = refl;
     }
 
@@ -31,8 +34,8 @@ returns-in-Halted-clause-after g c =
 
 pub returns-in-Halted-clause-past : goal.returns-in-Halted-clause-past
 returns-in-Halted-clause-past g c =
-    let m = c.loop-k.machine in let past = c.loop-k.past in
-    c.step-made.ensures.past ∙ past-halted past.depth m (states_before m past.newest) (sym c.step-made.ensures.answer ∙ c.in-Halted.is) ∙ c.loop-k.invariant.past
+    let l = c.loop-k in let m = l.machine in let p = l.span in
+    c.step-made.ensures.past ∙ past-halted p.depth m (states_before m (from_place p.first p.count l.slots)) (sym c.step-made.ensures.answer ∙ c.in-Halted.is) ∙ c.loop-k.invariant.past
 
 pub returns-in-Halted-clause-last : goal.returns-in-Halted-clause-last
 returns-in-Halted-clause-last g c none =
@@ -47,8 +50,8 @@ returns-in-Reserved-clause-after g c =
 
 pub returns-in-Reserved-clause-past : goal.returns-in-Reserved-clause-past
 returns-in-Reserved-clause-past g c =
-    let m = c.loop-k.machine in let past = c.loop-k.past in
-    c.step-made.ensures.past ∙ past-reserved past.depth m (states_before m past.newest) c.in-Reserved.word (sym c.step-made.ensures.answer ∙ c.in-Reserved.is) ∙ c.loop-k.invariant.past
+    let l = c.loop-k in let m = l.machine in let p = l.span in
+    c.step-made.ensures.past ∙ past-reserved p.depth m (states_before m (from_place p.first p.count l.slots)) c.in-Reserved.word (sym c.step-made.ensures.answer ∙ c.in-Reserved.is) ∙ c.loop-k.invariant.past
 
 pub returns-in-Reserved-clause-last : goal.returns-in-Reserved-clause-last
 returns-in-Reserved-clause-last g c none =
@@ -78,13 +81,15 @@ pub loop-k-preserved : goal.loop-k-preserved
 loop-k-preserved g c =
     let b = c.args.breaks.now in let w = watches_of c.args.held.now in
     let s = c.args.machine.now in let l = c.loop-k in let t = c.step-made.new.machine in
-    let d = c.args.held.now in let i = l.invariant in
+    let d = c.args.held.now in let i = l.invariant in let p = c.args.span.now in
     let there = next-reached s l.machine t l.k i.after.reached c.step-made.ensures.state in
     let none = sym c.hit.ensures ∙ c.in_default.is in
     record {
       after = after-more l.k s l.machine t i.after (sym c.step-made.ensures.answer ∙ c.in-Done.is) c.step-made.ensures.state;
-      past = c.step-made.ensures.past ∙ past-step l.k c.args.past.now.depth l.past.depth s l.machine (states_before s c.args.past.now.newest) (states_before l.machine l.past.newest) i.depth i.after.reached i.past;
+      past = c.step-made.ensures.past ∙ past-step l.k p.depth l.span.depth s l.machine (states_before s (from_place p.first p.count c.args.slots.now)) (states_before l.machine (from_place l.span.first l.span.count l.slots)) i.depth i.after.reached i.past;
       depth = c.step-made.ensures.depth ∙ i.depth;
+      len = c.step-made.ensures.len ∙ i.len;
+      span = c.step-made.ensures.within;
       first = next-first b w c.args.n s l.machine l.k i.after.reached (sym c.step-made.ensures.answer ∙ c.in-Done.is) i.quiet (omega arith) i.first;
       same = nothing-differs b d t none;
       quiet = next-hit b d s l.machine t l.k i.after.reached there i.same ∙ none;
