@@ -7,7 +7,7 @@ use Rattle.std.proofs.lemmas.Nat.Bits.{and_high}
 use Rattle.std.specs.Int.Bits.{and_block, and_zero_r}
 use Rattle.std.proofs.lemmas.Bool.{cases_eq, eqb-true, eqb-false, ne_eqb, eq-eqb, and_parts, cases_Bool, not-false, false≢true, cond-true, cond-false}
 use Rattle.rsp_decode.specs.declared.inst.Inst.{Inst}
-use Rattle.rsp_decode.specs.Table.{Row, rows, row_of, fits, fields, inst_of, pick, pick_transfer, value_at, whole, special_rows, regimm_rows, opcode_rows, cop0_rows, cop2_rows, computing_rows, load_rows, store_rows}
+use Rattle.rsp_decode.specs.Table.{Row, rows, row_of, fits, fields, inst_of, pick, pick_by_operation, value_at, whole, special_rows, regimm_rows, opcode_rows, cop0_rows, cop2_rows, computing_rows, lwc2_rows, swc2_rows}
 
 -- what two masks have in common
 pub common : (w a b x y : ℕ) → bit_and w a ≡ x → bit_and w b ≡ y → bit_and a y ≡ bit_and x b
@@ -68,18 +68,18 @@ and_join : (w k a b : ℕ) → b < 2 ^ k → bit_and w (a * 2 ^ k + b) ≡ bit_a
 and_join w k a b low = let p = block w k a b low in let q = upper w k a in let r = lower w k b low in omega arith
 
 -- a field under the mask of its bits
-at_place : (w low width : ℕ) → bit_and w (2 ^ (width + low) - 2 ^ low) ≡ value_at w (whole low width) * 2 ^ low
-at_place w low width = and_high w width low
+field_under : (w low width : ℕ) → bit_and w (2 ^ (width + low) - 2 ^ low) ≡ value_at w (whole low width) * 2 ^ low
+field_under w low width = and_high w width low
 
 -- two fields, the upper of which begins at bit k or above
 two_fields : (w k a b x y : ℕ) → b < 2 ^ k → bit_and w (a * 2 ^ k) ≡ x → bit_and w b ≡ y → bit_and w (a * 2 ^ k + b) ≡ x + y
 two_fields w k a b x y low p q = and_join w k a b low ∙ ap (λ n. n + bit_and w b) p ∙ ap (λ n. x + n) q
 
 opcode_under : (w o : ℕ) → value_at w (whole 26 6) ≡ o → bit_and w 0xfc000000 ≡ o * 2 ^ 26
-opcode_under w o e = at_place w 26 6 ∙ ap (λ n. n * 2 ^ 26) e
+opcode_under w o e = field_under w 26 6 ∙ ap (λ n. n * 2 ^ 26) e
 
 function_under : (w : ℕ) → bit_and w 63 ≡ value_at w (whole 0 6)
-function_under w = at_place w 0 6 ∙ mul-one (value_at w (whole 0 6))
+function_under w = field_under w 0 6 ∙ mul-one (value_at w (whole 0 6))
 
 -- the instruction of a word whose row is found among fewer
 unfoldable inst_by : ℕ → Option Row → Option Inst
@@ -106,25 +106,25 @@ module _ (w : ℕ) where
   regimm_is o =
       let under : bit_and w 0xfc000000 ≡ 2 ^ 26 = opcode_under w 1 o in
       found_in w 0xfc000000 (2 ^ 26) 0xfc1f0000 (2 ^ 26 + value_at w (whole 16 5) * 2 ^ 16) regimm_rows refl refl under
-      (two_fields w 26 63 0x1f0000 (2 ^ 26) _ (lit< tt) under (at_place w 16 5))
+      (two_fields w 26 63 0x1f0000 (2 ^ 26) _ (lit< tt) under (field_under w 16 5))
 
   pub cop0_is : value_at w (whole 26 6) ≡ 16 → inst_of w ≡ pick cop0_rows (16 * 2 ^ 26 + value_at w (whole 21 5) * 2 ^ 21) w
   cop0_is o =
       let under : bit_and w 0xfc000000 ≡ 16 * 2 ^ 26 = opcode_under w 16 o in
       found_in w 0xfc000000 (16 * 2 ^ 26) 0xffe00000 (16 * 2 ^ 26 + value_at w (whole 21 5) * 2 ^ 21) cop0_rows refl refl under
-      (two_fields w 26 63 0x3e00000 (16 * 2 ^ 26) _ (lit< tt) under (at_place w 21 5))
+      (two_fields w 26 63 0x3e00000 (16 * 2 ^ 26) _ (lit< tt) under (field_under w 21 5))
 
-  pub moves_is : value_at w (whole 26 6) ≡ 18 → value_at w (whole 25 1) ≡ 0 → inst_of w ≡ pick cop2_rows (18 * 2 ^ 26 + value_at w (whole 21 5) * 2 ^ 21) w
-  moves_is o bit =
+  pub cop2_is : value_at w (whole 26 6) ≡ 18 → value_at w (whole 25 1) ≡ 0 → inst_of w ≡ pick cop2_rows (18 * 2 ^ 26 + value_at w (whole 21 5) * 2 ^ 21) w
+  cop2_is o bit =
       let opcode : bit_and w 0xfc000000 ≡ 18 * 2 ^ 26 = opcode_under w 18 o in
       found_in w 0xfe000000 (18 * 2 ^ 26) 0xffe00000 (18 * 2 ^ 26 + value_at w (whole 21 5) * 2 ^ 21) cop2_rows refl refl
-      (two_fields w 26 63 0x2000000 (18 * 2 ^ 26) 0 (lit< tt) opcode (at_place w 25 1 ∙ ap (λ n. n * 2 ^ 25) bit))
-      (two_fields w 26 63 0x3e00000 (18 * 2 ^ 26) _ (lit< tt) opcode (at_place w 21 5))
+      (two_fields w 26 63 0x2000000 (18 * 2 ^ 26) 0 (lit< tt) opcode (field_under w 25 1 ∙ ap (λ n. n * 2 ^ 25) bit))
+      (two_fields w 26 63 0x3e00000 (18 * 2 ^ 26) _ (lit< tt) opcode (field_under w 21 5))
 
   pub computing_is : value_at w (whole 26 6) ≡ 18 → value_at w (whole 25 1) ≡ 1 → inst_of w ≡ pick computing_rows (18 * 2 ^ 26 + 2 ^ 25 + value_at w (whole 0 6)) w
   computing_is o bit =
       let opcode : bit_and w 0xfc000000 ≡ 18 * 2 ^ 26 = opcode_under w 18 o in
-      let under : bit_and w 0xfe000000 ≡ 37 * 2 ^ 25 = two_fields w 26 63 0x2000000 (18 * 2 ^ 26) (2 ^ 25) (lit< tt) opcode (at_place w 25 1 ∙ ap (λ n. n * 2 ^ 25) bit) in
+      let under : bit_and w 0xfe000000 ≡ 37 * 2 ^ 25 = two_fields w 26 63 0x2000000 (18 * 2 ^ 26) (2 ^ 25) (lit< tt) opcode (field_under w 25 1 ∙ ap (λ n. n * 2 ^ 25) bit) in
       found_in w 0xfe000000 (37 * 2 ^ 25) 0xfe00003f (37 * 2 ^ 25 + value_at w (whole 0 6)) computing_rows refl refl under
       (two_fields w 25 127 63 (37 * 2 ^ 25) _ (lit< tt) under (function_under w))
 
@@ -143,14 +143,14 @@ shared_not_fit w r own not_own =
     opcode_of : bit_and w r.mask ≡ r.value → bit_and r.mask 0xfc000000 ≡ 0xfc000000 → value_at w (whole 26 6) ≡ value_at r.value (whole 26 6)
     opcode_of e covers =
         let p : value_at w (whole 26 6) * 2 ^ 26 ≡ value_at r.value (whole 26 6) * 2 ^ 26 =
-        sym (at_place w 26 6) ∙ ap (bit_and w) (sym covers) ∙ sym (and_assoc 0xfc000000 w r.mask) ∙ ap (λ n. bit_and n 0xfc000000) e ∙ at_place r.value 26 6 in
+        sym (field_under w 26 6) ∙ ap (bit_and w) (sym covers) ∙ sym (and_assoc 0xfc000000 w r.mask) ∙ ap (λ n. bit_and n 0xfc000000) e ∙ field_under r.value 26 6 in
         omega arith
 
 pub plain_is : (w : ℕ) → is_shared (value_at w (whole 26 6)) ≡ false → inst_of w ≡ pick opcode_rows (value_at w (whole 26 6) * 2 ^ 26) w
 unfolding inst_by
 plain_is w own =
     let key = value_at w (whole 26 6) * 2 ^ 26 in
-    from_rows w _ (left_out (fits w) has_own rows (λ r. shared_not_fit w r own) ∙ by_value w 0xfc000000 key opcode_rows (at_place w 26 6) refl)
+    from_rows w _ (left_out (fits w) has_own rows (λ r. shared_not_fit w r own) ∙ by_value w 0xfc000000 key opcode_rows (field_under w 26 6) refl)
 
 -- The vector loads and stores, of which operation 9 has two more bits of mask
 abbrev wide : ℕ → Row → Bool
@@ -158,10 +158,10 @@ wide o r = not ((r.mask == 0xfc00fb80) && (r.value == o * 2 ^ 26 + 9 * 2 ^ 11))
 
 module _ (w o : ℕ) (at : value_at w (whole 26 6) ≡ o) where
   under_narrow : bit_and w 0xfc00fb80 ≡ o * 2 ^ 26 + (value_at w (whole 11 5) * 2 ^ 11 + value_at w (whole 7 3) * 2 ^ 7)
-  under_narrow = two_fields w 26 63 0xfb80 _ _ (lit< tt) (opcode_under w o at) (two_fields w 11 31 0x380 _ _ (lit< tt) (at_place w 11 5) (at_place w 7 3))
+  under_narrow = two_fields w 26 63 0xfb80 _ _ (lit< tt) (opcode_under w o at) (two_fields w 11 31 0x380 _ _ (lit< tt) (field_under w 11 5) (field_under w 7 3))
 
   under_wide : bit_and w 0xfc00f800 ≡ o * 2 ^ 26 + value_at w (whole 11 5) * 2 ^ 11
-  under_wide = two_fields w 26 63 0xf800 _ _ (lit< tt) (opcode_under w o at) (at_place w 11 5)
+  under_wide = two_fields w 26 63 0xf800 _ _ (lit< tt) (opcode_under w o at) (field_under w 11 5)
 
   low_three : value_at w (whole 7 3) < 8
   low_three = mod_below (w / 2 ^ 7) 8 (lit< tt)
@@ -214,8 +214,8 @@ module _ (w o : ℕ) (at : value_at w (whole 26 6) ≡ o) where
       turned true = refl
       turned false = refl
 
-  transfer_is : (rs rest : List Row) (r : Row) → filter (may_have 0xfc000000 (o * 2 ^ 26)) rows ≡ rs → filter (wide o) rs ≡ rest → list_all (λ (s : Row). s.mask == 0xfc00f800) rest ≡ true → filter (may_have 0xfc00f800 (o * 2 ^ 26 + 9 * 2 ^ 11)) rows ≡ r ∷ [] → r.mask ≡ 0xfc00fb80 → r.value ≡ o * 2 ^ 26 + 9 * 2 ^ 11 → pick rs (o * 2 ^ 26 + 9 * 2 ^ 11) w ≡ Some (r.inst (fields r w)) → inst_of w ≡ pick_transfer rs o w
-  transfer_is rs rest r which wider all one_row m v picked =
+  by_operation_is : (rs rest : List Row) (r : Row) → filter (may_have 0xfc000000 (o * 2 ^ 26)) rows ≡ rs → filter (wide o) rs ≡ rest → list_all (λ (s : Row). s.mask == 0xfc00f800) rest ≡ true → filter (may_have 0xfc00f800 (o * 2 ^ 26 + 9 * 2 ^ 11)) rows ≡ r ∷ [] → r.mask ≡ 0xfc00fb80 → r.value ≡ o * 2 ^ 26 + 9 * 2 ^ 11 → pick rs (o * 2 ^ 26 + 9 * 2 ^ 11) w ≡ Some (r.inst (fields r w)) → inst_of w ≡ pick_by_operation rs o w
+  by_operation_is rs rest r which wider all one_row m v picked =
       elim (cases_eq (value_at w (whole 11 5)) 9) [
         | inl nine ↦ nine_is r one_row m v nine ∙ sym (ap (cond (not (value_at w (whole 7 4) % 8 == 0)) None) (ap (λ n. pick rs (o * 2 ^ 26 + n * 2 ^ 11) w) nine ∙ picked))
             ∙ ap (λ t. if t && not (value_at w (whole 7 4) % 8 == 0) then None else pick rs (o * 2 ^ 26 + value_at w (whole 11 5) * 2 ^ 11) w) (sym (eq-eqb _ _ nine))
@@ -223,8 +223,8 @@ module _ (w o : ℕ) (at : value_at w (whole 26 6) ≡ o) where
             ∙ ap (λ t. if t && not (value_at w (whole 7 4) % 8 == 0) then None else pick rs (o * 2 ^ 26 + value_at w (whole 11 5) * 2 ^ 11) w) (sym (ne_eqb _ _ other))
       ]
 
-pub load_is : (w : ℕ) → value_at w (whole 26 6) ≡ 50 → inst_of w ≡ pick_transfer load_rows 50 w
-load_is w at = transfer_is w 50 at load_rows (filter (wide 50) load_rows) _ refl refl refl refl refl refl refl
+pub lwc2_is : (w : ℕ) → value_at w (whole 26 6) ≡ 50 → inst_of w ≡ pick_by_operation lwc2_rows 50 w
+lwc2_is w at = by_operation_is w 50 at lwc2_rows (filter (wide 50) lwc2_rows) _ refl refl refl refl refl refl refl
 
-pub store_is : (w : ℕ) → value_at w (whole 26 6) ≡ 58 → inst_of w ≡ pick_transfer store_rows 58 w
-store_is w at = transfer_is w 58 at store_rows (filter (wide 58) store_rows) _ refl refl refl refl refl refl refl
+pub swc2_is : (w : ℕ) → value_at w (whole 26 6) ≡ 58 → inst_of w ≡ pick_by_operation swc2_rows 58 w
+swc2_is w at = by_operation_is w 58 at swc2_rows (filter (wide 58) swc2_rows) _ refl refl refl refl refl refl refl

@@ -7,7 +7,7 @@ use Rattle.std.proofs.lemmas.Nat.Bits.{and_high}
 use Rattle.std.specs.Int.Bits.{and_zero_r}
 use Rattle.std.proofs.Math.Nat.{mod-eq_of_lt}
 use Rattle.std.proofs.lemmas.Bool.{eqb-true, and_parts}
-use Rattle.rsp_decode.specs.Table.{Place, whole, capped, stepped, value_at, placed, FitsPlace, FitPlaces, with_fields}
+use Rattle.rsp_decode.specs.Table.{Place, whole, capped, stepped, value_at, at_place, FitsPlace, FitPlaces, with_fields}
 
 -- the bits of a place
 abbrev pub mask_of : Place → ℕ
@@ -28,7 +28,7 @@ within : (v low width : ℕ) → v < 2 ^ width → bit_and (v * 2 ^ low) (2 ^ (w
 within v low width fits =
     and_high (v * 2 ^ low) width low ∙ ap (λ n. n % 2 ^ width * 2 ^ low) (shl-shr v low) ∙ ap (λ n. n * 2 ^ low) (mod-eq_of_lt fits)
 
-pub within_place : (p : Place) (v : ℕ) → FitsPlace p v → bit_and (placed p v) (mask_of p) ≡ placed p v
+pub within_place : (p : Place) (v : ℕ) → FitsPlace p v → bit_and (at_place p v) (mask_of p) ≡ at_place p v
 within_place (whole low width) v f = within v low width f
 within_place (capped low width most) v f = within v low width f.0
 within_place (stepped low width shift) v f = within (v / 2 ^ shift) low width f.0
@@ -36,7 +36,7 @@ within_place (stepped low width shift) v f = within (v / 2 ^ shift) low width f.
 cancel : (a b k : ℕ) → a * 2 ^ k ≡ b * 2 ^ k → a ≡ b
 cancel a b k e = sym (shl-shr a k) ∙ ap (λ n. n / 2 ^ k) e ∙ shl-shr b k
 
-pub read_back : (w : ℕ) (p : Place) (v : ℕ) → FitsPlace p v → bit_and w (mask_of p) ≡ placed p v → value_at w p ≡ v
+pub read_back : (w : ℕ) (p : Place) (v : ℕ) → FitsPlace p v → bit_and w (mask_of p) ≡ at_place p v → value_at w p ≡ v
 read_back w (whole low width) v f e = cancel _ _ low (sym (and_high w width low) ∙ e)
 read_back w (capped low width most) v f e =
     let same : w / 2 ^ low % 2 ^ width ≡ v = cancel _ _ low (sym (and_high w width low) ∙ e) in
@@ -46,9 +46,9 @@ read_back w (stepped low width shift) v f e =
     ap (λ n. n * 2 ^ shift) (cancel _ _ low (sym (and_high w width low) ∙ e)) ∙ f.1
 
 -- what a mask apart from a place has of a value there
-nothing_there : (p : Place) (v m : ℕ) → FitsPlace p v → bit_and (mask_of p) m ≡ 0 → bit_and (placed p v) m ≡ 0
+nothing_there : (p : Place) (v m : ℕ) → FitsPlace p v → bit_and (mask_of p) m ≡ 0 → bit_and (at_place p v) m ≡ 0
 nothing_there p v m f e =
-    ap (λ n. bit_and n m) (sym (within_place p v f)) ∙ and_assoc m (placed p v) (mask_of p) ∙ ap (bit_and (placed p v)) e ∙ and_zero_r (placed p v)
+    ap (λ n. bit_and n m) (sym (within_place p v f)) ∙ and_assoc m (at_place p v) (mask_of p) ∙ ap (bit_and (at_place p v)) e ∙ and_zero_r (at_place p v)
 
 -- under a mask that no place has a bit of, nothing changes
 pub under_others : (ps : List Place) (vs : List ℕ) (w m : ℕ) → FitPlaces ps vs → apart_from m ps ≡ true → bit_and (with_fields w ps vs) m ≡ bit_and w m
@@ -56,19 +56,19 @@ under_others [] vs w m f e = refl
 under_others (p ∷ ps) [] w m f e = refl
 under_others (p ∷ ps) (v ∷ vs) w m f e =
     let both = and_parts _ _ e in
-    under_others ps vs (bit_or w (placed p v)) m f.1 both.1
-    ∙ and_or_apart m w (placed p v) (nothing_there p v m f.0 (and_comm (mask_of p) m ∙ eqb-true _ _ both.0))
+    under_others ps vs (bit_or w (at_place p v)) m f.1 both.1
+    ∙ and_or_apart m w (at_place p v) (nothing_there p v m f.0 (and_comm (mask_of p) m ∙ eqb-true _ _ both.0))
 
 -- a word without any bit of the places
 abbrev pub Clear : ℕ → List Place → Type 0
 Clear w [] = Unit {0}
 Clear w (p ∷ ps) = (bit_and w (mask_of p) ≡ 0) × Clear w ps
 
-still_clear : (w : ℕ) (q : Place) (v : ℕ) (ps : List Place) → FitsPlace q v → apart_from (mask_of q) ps ≡ true → Clear w ps → Clear (bit_or w (placed q v)) ps
+still_clear : (w : ℕ) (q : Place) (v : ℕ) (ps : List Place) → FitsPlace q v → apart_from (mask_of q) ps ≡ true → Clear w ps → Clear (bit_or w (at_place q v)) ps
 still_clear w q v [] f e c = tt
 still_clear w q v (p ∷ ps) f e c =
     let both = and_parts _ _ e in
-    (and_or_apart (mask_of p) w (placed q v) (nothing_there q v (mask_of p) f (eqb-true _ _ both.0)) ∙ c.0, still_clear w q v ps f both.1 c.1)
+    (and_or_apart (mask_of p) w (at_place q v) (nothing_there q v (mask_of p) f (eqb-true _ _ both.0)) ∙ c.0, still_clear w q v ps f both.1 c.1)
 
 pub fields_back : (ps : List Place) (vs : List ℕ) (w : ℕ) → FitPlaces ps vs → all_apart ps ≡ true → Clear w ps → map (value_at (with_fields w ps vs)) ps ≡ vs
 fields_back [] [] w f e c = refl
@@ -76,11 +76,11 @@ fields_back [] (v ∷ vs) w f e c = absurd f
 fields_back (p ∷ ps) [] w f e c = absurd f
 fields_back (p ∷ ps) (v ∷ vs) w f e c =
     let both = and_parts _ _ e in
-    let next = bit_or w (placed p v) in
-    let here : bit_and (with_fields next ps vs) (mask_of p) ≡ placed p v =
+    let next = bit_or w (at_place p v) in
+    let here : bit_and (with_fields next ps vs) (mask_of p) ≡ at_place p v =
     under_others ps vs next (mask_of p) f.1 both.0
-    ∙ ap (λ n. bit_and n (mask_of p)) (or_comm w (placed p v))
-    ∙ and_or_apart (mask_of p) (placed p v) w c.0
+    ∙ ap (λ n. bit_and n (mask_of p)) (or_comm w (at_place p v))
+    ∙ and_or_apart (mask_of p) (at_place p v) w c.0
     ∙ within_place p v f.0 in
     let head : value_at (with_fields next ps vs) p ≡ v = read_back (with_fields next ps vs) p v f.0 here in
     let tail : map (value_at (with_fields next ps vs)) ps ≡ vs = fields_back ps vs next f.1 both.1 (still_clear w p v ps f.0 both.0 c.1) in

@@ -37,8 +37,8 @@ use Rattle.rsp_decode.specs.declared.inst.VectorClipRow.{VectorClipRow}
 use Rattle.rsp_decode.specs.declared.inst.VectorClipRow.TheVariants.{Vcl}
 use Rattle.rsp_decode.specs.declared.inst.VectorLogicRow.{VectorLogicRow}
 use Rattle.rsp_decode.specs.declared.inst.VectorLogicRow.TheVariants.{Vand}
-use Rattle.rsp_decode.specs.declared.inst.LaneRow.{LaneRow}
-use Rattle.rsp_decode.specs.declared.inst.LaneRow.TheVariants.{Vrcp}
+use Rattle.rsp_decode.specs.declared.inst.DivideRow.{DivideRow}
+use Rattle.rsp_decode.specs.declared.inst.DivideRow.TheVariants.{Vrcp}
 use Rattle.rsp_decode.specs.declared.inst.IdleRow.{IdleRow}
 use Rattle.rsp_decode.specs.declared.inst.IdleRow.TheVariants.{Vnop}
 use Rattle.rsp_decode.specs.declared.inst.VectorLoadRow.{VectorLoadRow}
@@ -46,8 +46,8 @@ use Rattle.rsp_decode.specs.declared.inst.VectorLoadRow.TheVariants.{Lbv}
 use Rattle.rsp_decode.specs.declared.inst.VectorStoreRow.{VectorStoreRow}
 use Rattle.rsp_decode.specs.declared.inst.VectorStoreRow.TheVariants.{Sbv}
 use Rattle.rsp_decode.specs.declared.inst.Control.TheVariants.{Vco, Vcc, Vce}
-use Rattle.rsp_decode.specs.declared.inst.Inst.TheVariants.{BranchEqual, BranchSign, Break, Idle, Immediate, Jump, JumpLinkRegister, JumpRegister, Lane, Load, LoadUpper, MoveControl, MoveSp, MoveVector, Register, Shift, ShiftBy, Store, Multiply, Round, MpegMultiply, ReadAccumulator, VectorAdd, VectorSelect, VectorClip, VectorMerge, VectorLogic, VectorLoad, VectorStore}
-use Rattle.rsp_decode.specs.Table.{Row, rows, row_of, fits, fields, row_places, inst_of, canonical_of, word_from, word_of, parts, IsInstruction, FitPlaces, shift_row, shift_by_row, jump_register_row, jump_link_register_row, break_row, register_row, branch_sign_row, jump_row, branch_equal_row, immediate_row, load_upper_row, load_row, store_row, move_sp_row, move_vector_row, move_control_row, multiply_row, round_row, mpeg_row, read_accumulator_row, vector_add_row, vector_select_row, vector_clip_row, vector_merge_row, vector_logic_row, lane_row, idle_row, vector_load_row, vector_store_row}
+use Rattle.rsp_decode.specs.declared.inst.Inst.TheVariants.{BranchEqual, BranchSign, Break, Idle, Immediate, Jump, JumpLinkRegister, JumpRegister, Divide, Load, LoadUpper, MoveControl, MoveSp, MoveVector, Register, Shift, ShiftBy, Store, Multiply, Round, MpegMultiply, ReadAccumulator, VectorAdd, VectorSelect, VectorClip, VectorMerge, VectorLogic, VectorLoad, VectorStore}
+use Rattle.rsp_decode.specs.Table.{Row, rows, row_of, fits, fields, row_places, inst_of, canonical_of, word_from, word_of, parts, IsInstruction, FitPlaces, shift_row, shift_by_row, jump_register_row, jump_link_register_row, break_row, register_row, branch_sign_row, jump_row, branch_equal_row, immediate_row, load_upper_row, load_row, store_row, move_sp_row, move_vector_row, move_control_row, multiply_row, round_row, mpeg_row, read_accumulator_row, vector_add_row, vector_select_row, vector_clip_row, vector_merge_row, vector_logic_row, divide_row, idle_row, vector_load_row, vector_store_row}
 use Rattle.rsp_decode.proofs.Keys.{may_have, narrowed}
 use Rattle.rsp_decode.proofs.Places.{apart_from, all_apart, under_others, fields_back, clear_from}
 
@@ -160,8 +160,8 @@ vector_merge_good = record { is_sound = refl; alone = refl }
 vector_logic_good : (r : VectorLogicRow) → Good (vector_logic_row r)
 vector_logic_good r = elim r as (λ s. Good (vector_logic_row s)) [ Vand ↦ record { is_sound = refl; alone = refl } | _ ↦ record { is_sound = refl; alone = refl } ]
 
-lane_good : (r : LaneRow) → Good (lane_row r)
-lane_good r = elim r as (λ s. Good (lane_row s)) [ Vrcp ↦ record { is_sound = refl; alone = refl } | _ ↦ record { is_sound = refl; alone = refl } ]
+divide_good : (r : DivideRow) → Good (divide_row r)
+divide_good r = elim r as (λ s. Good (divide_row s)) [ Vrcp ↦ record { is_sound = refl; alone = refl } | _ ↦ record { is_sound = refl; alone = refl } ]
 
 idle_good : (r : IdleRow) → Good (idle_row r)
 idle_good r = elim r as (λ s. Good (idle_row s)) [ Vnop ↦ record { is_sound = refl; alone = refl } | _ ↦ record { is_sound = refl; alone = refl } ]
@@ -174,34 +174,34 @@ vector_store_good r = elim r as (λ s. Good (vector_store_row s)) [ Sbv ↦ reco
 
 good_parts : (i : Inst) → Good (parts i).0
 good_parts (Shift r rd rt amount) = shift_good r
-good_parts (ShiftBy r rd rt rs) = shift_by_good r
+good_parts (ShiftBy r fields) = shift_by_good r
 good_parts (JumpRegister rs) = jump_register_good
 good_parts (JumpLinkRegister rd rs) = jump_link_register_good
 good_parts Break = break_good
-good_parts (Register r rd rs rt) = register_good r
+good_parts (Register r fields) = register_good r
 good_parts (BranchSign r rs offset) = branch_sign_good r
 good_parts (Jump r target) = jump_good r
 good_parts (BranchEqual r rs rt offset) = branch_equal_good r
 good_parts (Immediate r rt rs imm) = immediate_good r
 good_parts (LoadUpper rt imm) = load_upper_good
-good_parts (Load r rt offset base) = load_good r
-good_parts (Store r rt offset base) = store_good r
+good_parts (Load r fields) = load_good r
+good_parts (Store r fields) = store_good r
 good_parts (MoveSp r rt register) = move_sp_good r
 good_parts (MoveVector r rt vector' element) = move_vector_good r
 good_parts (MoveControl r rt control) = move_control_good r
-good_parts (Multiply r vd vs vt element) = multiply_good r
-good_parts (Round r vd vs vt element) = round_good r
-good_parts (MpegMultiply r vd vs vt element) = mpeg_good r
-good_parts (ReadAccumulator vd vs vt element) = read_accumulator_good
-good_parts (VectorAdd r vd vs vt element) = vector_add_good r
-good_parts (VectorSelect r vd vs vt element) = vector_select_good r
-good_parts (VectorClip r vd vs vt element) = vector_clip_good r
-good_parts (VectorMerge vd vs vt element) = vector_merge_good
-good_parts (VectorLogic r vd vs vt element) = vector_logic_good r
-good_parts (Lane r vd lane vt element) = lane_good r
+good_parts (Multiply r fields) = multiply_good r
+good_parts (Round r fields) = round_good r
+good_parts (MpegMultiply r fields) = mpeg_good r
+good_parts (ReadAccumulator fields) = read_accumulator_good
+good_parts (VectorAdd r fields) = vector_add_good r
+good_parts (VectorSelect r fields) = vector_select_good r
+good_parts (VectorClip r fields) = vector_clip_good r
+good_parts (VectorMerge fields) = vector_merge_good
+good_parts (VectorLogic r fields) = vector_logic_good r
+good_parts (Divide r vd lane vt element) = divide_good r
 good_parts (Idle r) = idle_good r
-good_parts (VectorLoad r vt element offset base) = vector_load_good r
-good_parts (VectorStore r vt element offset base) = vector_store_good r
+good_parts (VectorLoad r fields) = vector_load_good r
+good_parts (VectorStore r fields) = vector_store_good r
 
 rebuilt : (i : Inst) → (parts i).0.inst (parts i).1 ≡ i
 rebuilt (MoveControl r rt Vco) = refl

@@ -22,13 +22,13 @@ use Rattle.rsp_decode.specs.declared.inst.VectorAddRow.TheVariants.{Vadd, Vsub, 
 use Rattle.rsp_decode.specs.declared.inst.VectorSelectRow.TheVariants.{Vlt, Veq, Vne, Vge}
 use Rattle.rsp_decode.specs.declared.inst.VectorClipRow.TheVariants.{Vcl, Vch, Vcr}
 use Rattle.rsp_decode.specs.declared.inst.VectorLogicRow.TheVariants.{Vand, Vnand, Vor, Vnor, Vxor, Vnxor}
-use Rattle.rsp_decode.specs.declared.inst.LaneRow.TheVariants.{Vrcp, Vrcpl, Vrcph, Vmov, Vrsq, Vrsql, Vrsqh}
+use Rattle.rsp_decode.specs.declared.inst.DivideRow.TheVariants.{Vrcp, Vrcpl, Vrcph, Vmov, Vrsq, Vrsql, Vrsqh}
 use Rattle.rsp_decode.specs.declared.inst.IdleRow.TheVariants.{Vnop, Vnull}
 use Rattle.rsp_decode.specs.declared.inst.VectorLoadRow.{VectorLoadRow}
 use Rattle.rsp_decode.specs.declared.inst.VectorLoadRow.TheVariants.{Lbv, Lsv, Llv, Ldv, Lqv, Lrv, Lpv, Luv, Lhv, Lfv, Ltv}
 use Rattle.rsp_decode.specs.declared.inst.VectorStoreRow.{VectorStoreRow}
 use Rattle.rsp_decode.specs.declared.inst.VectorStoreRow.TheVariants.{Sbv, Ssv, Slv, Sdv, Sqv, Srv, Spv, Suv, Shv, Sfv, Swv, Stv}
-use Rattle.rsp_decode.specs.Table.{Row, rows, row_of, fits, fields, row_places, inst_of, canonical_of, meaning_of, word_from, word_of, parts, IsInstruction, FitPlaces, control_of, control_number, special_rows, regimm_rows, opcode_rows, cop0_rows, cop2_rows, computing_rows, load_rows, store_rows, shift_row, shift_by_row, jump_register_row, jump_link_register_row, break_row, register_row, branch_sign_row, jump_row, branch_equal_row, immediate_row, load_upper_row, load_row, store_row, move_sp_row, move_vector_row, move_control_row, multiply_row, round_row, mpeg_row, read_accumulator_row, vector_add_row, vector_select_row, vector_clip_row, vector_merge_row, vector_logic_row, lane_row, idle_row, vector_load_row, vector_store_row}
+use Rattle.rsp_decode.specs.Table.{Row, rows, row_of, fits, fields, row_places, inst_of, canonical_of, meaning_of, word_from, word_of, parts, IsInstruction, FitPlaces, control_of, control_number, special_rows, regimm_rows, opcode_rows, cop0_rows, cop2_rows, computing_rows, lwc2_rows, swc2_rows, shift_row, shift_by_row, jump_register_row, jump_link_register_row, break_row, register_row, branch_sign_row, jump_row, branch_equal_row, immediate_row, load_upper_row, load_row, store_row, move_sp_row, move_vector_row, move_control_row, multiply_row, round_row, mpeg_row, read_accumulator_row, vector_add_row, vector_select_row, vector_clip_row, vector_merge_row, vector_logic_row, divide_row, idle_row, vector_load_row, vector_store_row}
 use Rattle.rsp_decode.proofs.Places.{fit_read}
 
 -- a fact of each row of a list
@@ -128,14 +128,14 @@ computing_kept_rows =
     & group vector_clip_row (λ r w. refl) (Vcl ∷ Vch ∷ Vcr ∷ [])
     & alone vector_merge_row (λ w. refl)
     & group vector_logic_row (λ r w. refl) (Vand ∷ Vnand ∷ Vor ∷ Vnor ∷ Vxor ∷ Vnxor ∷ [])
-    & group lane_row (λ r w. refl) (Vrcp ∷ Vrcpl ∷ Vrcph ∷ Vmov ∷ Vrsq ∷ Vrsql ∷ Vrsqh ∷ [])
+    & group divide_row (λ r w. refl) (Vrcp ∷ Vrcpl ∷ Vrcph ∷ Vmov ∷ Vrsq ∷ Vrsql ∷ Vrsqh ∷ [])
     & group idle_row (λ r w. refl) (Vnop ∷ Vnull ∷ [])
 
-load_kept_rows : Each Kept load_rows
-load_kept_rows = group vector_load_row vector_load_kept (Lbv ∷ Lsv ∷ Llv ∷ Ldv ∷ Lqv ∷ Lrv ∷ Lpv ∷ Luv ∷ Lhv ∷ Lfv ∷ Ltv ∷ [])
+lwc2_kept_rows : Each Kept lwc2_rows
+lwc2_kept_rows = group vector_load_row vector_load_kept (Lbv ∷ Lsv ∷ Llv ∷ Ldv ∷ Lqv ∷ Lrv ∷ Lpv ∷ Luv ∷ Lhv ∷ Lfv ∷ Ltv ∷ [])
 
-store_kept_rows : Each Kept store_rows
-store_kept_rows = group vector_store_row vector_store_kept (Sbv ∷ Ssv ∷ Slv ∷ Sdv ∷ Sqv ∷ Srv ∷ Spv ∷ Suv ∷ Shv ∷ Sfv ∷ Swv ∷ Stv ∷ [])
+swc2_kept_rows : Each Kept swc2_rows
+swc2_kept_rows = group vector_store_row vector_store_kept (Sbv ∷ Ssv ∷ Slv ∷ Sdv ∷ Sqv ∷ Srv ∷ Spv ∷ Suv ∷ Shv ∷ Sfv ∷ Swv ∷ Stv ∷ [])
 
 all_kept : Each Kept rows
 all_kept =
@@ -145,8 +145,8 @@ all_kept =
     & cop0_kept_rows
     & cop2_kept_rows
     & computing_kept_rows
-    & load_kept_rows
-    & store_kept_rows
+    & lwc2_kept_rows
+    & swc2_kept_rows
 
 pub decoded : (w : ℕ) (i : Inst) → inst_of w ≡ Some i → IsInstruction i × (canonical_of w ≡ Some (word_of i))
 unfolding inst_of canonical_of row_of

@@ -5,21 +5,27 @@ ghost use Rattle.rsp_decode.specs.Visit.{is_known, visited};
 ghost use Rattle.rsp_decode.specs.Table.{inst_of, canonical_of, word_of, IsInstruction};
 
 mod computing;
-mod moves;
-mod opcodes;
+mod cop0;
+mod cop2;
+mod lwc2;
+mod opcode;
+mod regimm;
 mod special;
-mod transfers;
+mod swc2;
 
 use crate::encoding::encode;
-use crate::fields::opcode;
+use crate::fields;
 use crate::inst::Inst;
 use crate::kept::Kept;
 use crate::visitor::Visitor;
 use computing::visit_computing;
-use moves::{visit_sp_move, visit_vector_move};
-use opcodes::{visit_opcode, visit_regimm};
+use cop0::visit_cop0;
+use cop2::visit_cop2;
+use lwc2::visit_lwc2;
+use opcode::visit_opcode;
+use regimm::visit_regimm;
 use special::visit_special;
-use transfers::{visit_vector_load, visit_vector_store};
+use swc2::visit_swc2;
 
 /// What a word means by the instruction table, at its named fields: None exactly for a reserved
 /// word, which no row fits. Bits that the row neither selects by nor names are ignored.
@@ -49,19 +55,19 @@ pub fn visit<V: Visitor>(word: u32, visitor: &mut V) -> bool
     ensures known { result ≡ is_known (inst_of word) }
     ensures state { visitor.new ≡ visited V.after (inst_of word) visitor.old }
 {
-    match opcode(word) {
+    match fields::opcode(word) {
         0 => visit_special(word, visitor),
         1 => visit_regimm(word, visitor),
-        16 => visit_sp_move(word, visitor),
+        16 => visit_cop0(word, visitor),
         18 => {
             if word >> 25 & 1 == 1 {
                 visit_computing(word, visitor)
             } else {
-                visit_vector_move(word, visitor)
+                visit_cop2(word, visitor)
             }
         }
-        50 => visit_vector_load(word, visitor),
-        58 => visit_vector_store(word, visitor),
+        50 => visit_lwc2(word, visitor),
+        58 => visit_swc2(word, visitor),
         _ => visit_opcode(word, visitor),
     }
 }

@@ -1,21 +1,23 @@
 // Instructions to words.
 
-ghost use Rattle.std.specs.Prelude.{◌≡◌, ◌*◌, ◌^◌, ◌≤◌};
-ghost use Rattle.rsp_decode.specs.Table.{word_of, inst_of, canonical_of, IsInstruction, control_number};
+ghost use Rattle.std.specs.Prelude.{◌≡◌, ◌*◌, ◌^◌, ◌≤◌, flat_map};
+ghost use Rattle.rsp_decode.specs.Table.{word_of, inst_of, canonical_of, IsInstruction, control_number, with_fields, places, vector_operands, vector_values};
 
 mod scalar;
 mod vector;
 
 use crate::inst::{Control, Inst};
+use crate::operands::VectorFields;
 use scalar::{
     BREAK, JUMP_LINK_REGISTER, JUMP_REGISTER, LOAD_UPPER, branch_equal_value, branch_sign_value,
     immediate_value, jump_value, load_value, move_sp_value, register_value, shift_by_value,
     shift_value, store_value,
 };
 use vector::{
-    READ_ACCUMULATOR, VECTOR_MERGE, idle_value, lane_value, move_control_value, move_vector_value,
-    mpeg_value, multiply_value, round_value, vector_add_value, vector_clip_value,
-    vector_load_value, vector_logic_value, vector_select_value, vector_store_value,
+    READ_ACCUMULATOR, VECTOR_MERGE, divide_value, idle_value, move_control_value,
+    move_vector_value, mpeg_value, multiply_value, round_value, vector_add_value,
+    vector_clip_value, vector_load_value, vector_logic_value, vector_select_value,
+    vector_store_value,
 };
 
 /// The canonical word of an instruction: the bits that select its row, its named fields at their
@@ -44,17 +46,17 @@ fn canonical_word(inst: &Inst) -> u32
             rt,
             amount,
         } => shift_value(row) | at(rd, 11) | at(rt, 16) | at(amount, 6),
-        Inst::ShiftBy { row, rd, rt, rs } => shift_by_value(row)
-            | at(rd, 11)
-            | at(rt, 16)
-            | at(rs, 21),
+        Inst::ShiftBy { row, fields } => shift_by_value(row)
+            | at(fields.rd, 11)
+            | at(fields.rt, 16)
+            | at(fields.rs, 21),
         Inst::JumpRegister { rs } => JUMP_REGISTER | at(rs, 21),
         Inst::JumpLinkRegister { rd, rs } => JUMP_LINK_REGISTER | at(rd, 11) | at(rs, 21),
         Inst::Break => BREAK,
-        Inst::Register { row, rd, rs, rt } => register_value(row)
-            | at(rd, 11)
-            | at(rs, 21)
-            | at(rt, 16),
+        Inst::Register { row, fields } => register_value(row)
+            | at(fields.rd, 11)
+            | at(fields.rs, 21)
+            | at(fields.rt, 16),
         Inst::BranchSign { row, rs, offset } => branch_sign_value(row)
             | at(rs, 21)
             | u32::from(offset),
@@ -70,18 +72,14 @@ fn canonical_word(inst: &Inst) -> u32
             | at(rs, 21)
             | u32::from(imm),
         Inst::LoadUpper { rt, imm } => LOAD_UPPER | at(rt, 16) | u32::from(imm),
-        Inst::Load {
-            row,
-            rt,
-            offset,
-            base,
-        } => load_value(row) | at(rt, 16) | u32::from(offset) | at(base, 21),
-        Inst::Store {
-            row,
-            rt,
-            offset,
-            base,
-        } => store_value(row) | at(rt, 16) | u32::from(offset) | at(base, 21),
+        Inst::Load { row, fields } => load_value(row)
+            | at(fields.rt, 16)
+            | u32::from(fields.offset)
+            | at(fields.base, 21),
+        Inst::Store { row, fields } => store_value(row)
+            | at(fields.rt, 16)
+            | u32::from(fields.offset)
+            | at(fields.base, 21),
         Inst::MoveSp { row, rt, register } => move_sp_value(row) | at(rt, 16) | at(register, 11),
         Inst::MoveVector {
             row,
@@ -92,90 +90,42 @@ fn canonical_word(inst: &Inst) -> u32
         Inst::MoveControl { row, rt, control } => move_control_value(row)
             | at(rt, 16)
             | at(control_bits(control), 11),
-        Inst::Multiply {
-            row,
-            vd,
-            vs,
-            vt,
-            element,
-        } => multiply_value(row) | at(vd, 6) | at(vs, 11) | at(vt, 16) | at(element, 21),
-        Inst::Round {
-            row,
-            vd,
-            vs,
-            vt,
-            element,
-        } => round_value(row) | at(vd, 6) | at(vs, 11) | at(vt, 16) | at(element, 21),
-        Inst::MpegMultiply {
-            row,
-            vd,
-            vs,
-            vt,
-            element,
-        } => mpeg_value(row) | at(vd, 6) | at(vs, 11) | at(vt, 16) | at(element, 21),
-        Inst::ReadAccumulator {
-            vd,
-            vs,
-            vt,
-            element,
-        } => READ_ACCUMULATOR | at(vd, 6) | at(vs, 11) | at(vt, 16) | at(element, 21),
-        Inst::VectorAdd {
-            row,
-            vd,
-            vs,
-            vt,
-            element,
-        } => vector_add_value(row) | at(vd, 6) | at(vs, 11) | at(vt, 16) | at(element, 21),
-        Inst::VectorSelect {
-            row,
-            vd,
-            vs,
-            vt,
-            element,
-        } => vector_select_value(row) | at(vd, 6) | at(vs, 11) | at(vt, 16) | at(element, 21),
-        Inst::VectorClip {
-            row,
-            vd,
-            vs,
-            vt,
-            element,
-        } => vector_clip_value(row) | at(vd, 6) | at(vs, 11) | at(vt, 16) | at(element, 21),
-        Inst::VectorMerge {
-            vd,
-            vs,
-            vt,
-            element,
-        } => VECTOR_MERGE | at(vd, 6) | at(vs, 11) | at(vt, 16) | at(element, 21),
-        Inst::VectorLogic {
-            row,
-            vd,
-            vs,
-            vt,
-            element,
-        } => vector_logic_value(row) | at(vd, 6) | at(vs, 11) | at(vt, 16) | at(element, 21),
-        Inst::Lane {
+        Inst::Multiply { row, fields } => with_vectors(multiply_value(row), fields),
+        Inst::Round { row, fields } => with_vectors(round_value(row), fields),
+        Inst::MpegMultiply { row, fields } => with_vectors(mpeg_value(row), fields),
+        Inst::ReadAccumulator { fields } => with_vectors(READ_ACCUMULATOR, fields),
+        Inst::VectorAdd { row, fields } => with_vectors(vector_add_value(row), fields),
+        Inst::VectorSelect { row, fields } => with_vectors(vector_select_value(row), fields),
+        Inst::VectorClip { row, fields } => with_vectors(vector_clip_value(row), fields),
+        Inst::VectorMerge { fields } => with_vectors(VECTOR_MERGE, fields),
+        Inst::VectorLogic { row, fields } => with_vectors(vector_logic_value(row), fields),
+        Inst::Divide {
             row,
             vd,
             lane,
             vt,
             element,
-        } => lane_value(row) | at(vd, 6) | at(lane, 11) | at(vt, 16) | at(element, 21),
+        } => divide_value(row) | at(vd, 6) | at(lane, 11) | at(vt, 16) | at(element, 21),
         Inst::Idle { row } => idle_value(row),
-        Inst::VectorLoad {
-            row,
-            vt,
-            element,
-            offset,
-            base,
-        } => vector_load_value(row) | at(vt, 16) | at(element, 7) | at(offset, 0) | at(base, 21),
-        Inst::VectorStore {
-            row,
-            vt,
-            element,
-            offset,
-            base,
-        } => vector_store_value(row) | at(vt, 16) | at(element, 7) | at(offset, 0) | at(base, 21),
+        Inst::VectorLoad { row, fields } => vector_load_value(row)
+            | at(fields.vt, 16)
+            | at(fields.element, 7)
+            | at(fields.offset, 0)
+            | at(fields.base, 21),
+        Inst::VectorStore { row, fields } => vector_store_value(row)
+            | at(fields.vt, 16)
+            | at(fields.element, 7)
+            | at(fields.offset, 0)
+            | at(fields.base, 21),
     }
+}
+
+// A word with the fields of `$vD, $vS, $vT[e]` too.
+#[inline]
+fn with_vectors(word: u32, fields: VectorFields) -> u32
+    ensures { result ≡ with_fields word (flat_map places vector_operands) (vector_values fields) }
+{
+    word | at(fields.vd, 6) | at(fields.vs, 11) | at(fields.vt, 16) | at(fields.element, 21)
 }
 
 // A field at its place.

@@ -1,9 +1,10 @@
 // The fields of a word, each named for what the rows that have it take it as.
 
 ghost use Rattle.std.specs.Prelude.{◌≡◌};
-ghost use Rattle.rsp_decode.specs.Table.{value_at, whole, capped, control_of};
+ghost use Rattle.rsp_decode.specs.Table.{value_at, whole, capped, control_of, vector_memory_in};
 
 use crate::inst::Control;
+use crate::operands::{RegisterFields, ScalarMemoryFields, VectorFields, VectorMemoryFields};
 
 /// Bits 31 to 26.
 #[inline(always)]
@@ -151,4 +152,54 @@ pub fn vector_offset(word: u32) -> u8
     ensures { result ≡ value_at word (whole 0 7) }
 {
     (word & 127) as u8
+}
+
+/// The fields of `$d, $s, $t`.
+#[inline(always)]
+pub fn register_fields(word: u32) -> RegisterFields
+    ensures { result ≡ record { rd = value_at word (whole 11 5); rs = value_at word (whole 21 5); rt = value_at word (whole 16 5) } }
+{
+    RegisterFields {
+        rd: rd(word),
+        rs: rs(word),
+        rt: rt(word),
+    }
+}
+
+/// The fields of `$t, offset($base)`.
+#[inline(always)]
+pub fn scalar_memory_fields(word: u32) -> ScalarMemoryFields
+    ensures { result ≡ record { rt = value_at word (whole 16 5); offset = value_at word (whole 0 16); base = value_at word (whole 21 5) } }
+{
+    ScalarMemoryFields {
+        rt: rt(word),
+        offset: immediate(word),
+        base: rs(word),
+    }
+}
+
+/// The fields of `$vD, $vS, $vT[e]`.
+#[inline(always)]
+pub fn vector_fields(word: u32) -> VectorFields
+    ensures { result ≡ record { vd = value_at word (whole 6 5); vs = value_at word (whole 11 5); vt = value_at word (whole 16 5); element = value_at word (whole 21 4) } }
+{
+    VectorFields {
+        vd: vd(word),
+        vs: vs(word),
+        vt: vt(word),
+        element: element(word),
+    }
+}
+
+/// The fields of `$vT[e], offset($base)`.
+#[inline(always)]
+pub fn vector_memory_fields(word: u32) -> VectorMemoryFields
+    ensures { result ≡ vector_memory_in word }
+{
+    VectorMemoryFields {
+        vt: vt(word),
+        element: byte_element(word),
+        offset: vector_offset(word),
+        base: rs(word),
+    }
 }

@@ -1,15 +1,15 @@
 // What a word of the instruction table means: a variant for each group of rows.
 
-/// An instruction: its row of the instruction table, and the fields that the row's text shows, in
-/// the order of that text.
+use crate::operands::{RegisterFields, ScalarMemoryFields, VectorFields, VectorMemoryFields};
+
+/// An instruction: its row of the instruction table, and the fields that the row's text shows. Rows
+/// whose texts have the same operands share a struct of fields, which says the range of each.
 ///
-/// `rd`, `rs`, `rt`, `base` are numbers of scalar registers and `vd`, `vs`, `vt`, `vector` of
-/// vector registers, all below 32. `amount` is below 32, `register`, the number of an SP register,
-/// below 16, and `lane` below 8. `element` is below 16, and 0 or 8 of `lfv` and `sfv`. A jump's
-/// `target` is below 1024, in words. A branch's `offset` counts words from the delay slot on, and
-/// that of a scalar load or store counts bytes; both, like `imm`, are the 16 bits of the word, as
-/// yet without a sign. The `offset` of a vector load or store is the word's 7 bits, below 128,
-/// which the row's scale multiplies once the sign is taken.
+/// Elsewhere `rd`, `rs`, `rt` are numbers of scalar registers and `vd`, `vt`, `vector` of vector
+/// registers, all below 32. `amount` is below 32, `register`, the number of an SP register, below
+/// 16, `lane` below 8 and `element` below 16. A jump's `target` is below 1024, in words. A branch's
+/// `offset` counts words from the delay slot on; like `imm` it is the 16 bits of the word, as yet
+/// without a sign.
 ///
 /// `IsInstruction` says these ranges: they are what some word decodes to.
 #[derive(Clone, Copy, PartialEq, Eq)]
@@ -24,9 +24,7 @@ pub enum Inst {
     /// `sllv $d, $t, $s`.
     ShiftBy {
         row: ShiftByRow,
-        rd: u8,
-        rt: u8,
-        rs: u8,
+        fields: RegisterFields,
     },
     /// `jr $s`: jumps to the place in a register.
     JumpRegister {
@@ -42,9 +40,7 @@ pub enum Inst {
     /// `add $d, $s, $t`.
     Register {
         row: RegisterRow,
-        rd: u8,
-        rs: u8,
-        rt: u8,
+        fields: RegisterFields,
     },
     /// `bltz $s, target`.
     BranchSign {
@@ -79,16 +75,12 @@ pub enum Inst {
     /// `lw $t, offset($base)`.
     Load {
         row: LoadRow,
-        rt: u8,
-        offset: u16,
-        base: u8,
+        fields: ScalarMemoryFields,
     },
     /// `sw $t, offset($base)`.
     Store {
         row: StoreRow,
-        rt: u8,
-        offset: u16,
-        base: u8,
+        fields: ScalarMemoryFields,
     },
     /// `mfc0 $t, $cN`, `mtc0 $t, $cN`: an SP register.
     MoveSp {
@@ -112,76 +104,49 @@ pub enum Inst {
     /// `vmulf $vD, $vS, $vT[e]`.
     Multiply {
         row: MultiplyRow,
-        vd: u8,
-        vs: u8,
-        vt: u8,
-        element: u8,
+        fields: VectorFields,
     },
     /// `vrndp $vD, $vS, $vT[e]`: rounds the accumulator; what is added depends on whether `vs` is odd.
     Round {
         row: RoundRow,
-        vd: u8,
-        vs: u8,
-        vt: u8,
-        element: u8,
+        fields: VectorFields,
     },
     /// `vmulq $vD, $vS, $vT[e]`.
     MpegMultiply {
         row: MpegRow,
-        vd: u8,
-        vs: u8,
-        vt: u8,
-        element: u8,
+        fields: VectorFields,
     },
     /// `vsar $vD, $vS, $vT[e]`: reads the part of the accumulator that `element` names.
     ReadAccumulator {
-        vd: u8,
-        vs: u8,
-        vt: u8,
-        element: u8,
+        fields: VectorFields,
     },
     /// `vadd $vD, $vS, $vT[e]`.
     VectorAdd {
         row: VectorAddRow,
-        vd: u8,
-        vs: u8,
-        vt: u8,
-        element: u8,
+        fields: VectorFields,
     },
     /// `vlt $vD, $vS, $vT[e]`.
     VectorSelect {
         row: VectorSelectRow,
-        vd: u8,
-        vs: u8,
-        vt: u8,
-        element: u8,
+        fields: VectorFields,
     },
     /// `vcl $vD, $vS, $vT[e]`.
     VectorClip {
         row: VectorClipRow,
-        vd: u8,
-        vs: u8,
-        vt: u8,
-        element: u8,
+        fields: VectorFields,
     },
     /// `vmrg $vD, $vS, $vT[e]`: the lane of the first where compare is set, else of the second.
     VectorMerge {
-        vd: u8,
-        vs: u8,
-        vt: u8,
-        element: u8,
+        fields: VectorFields,
     },
     /// `vand $vD, $vS, $vT[e]`.
     VectorLogic {
         row: VectorLogicRow,
-        vd: u8,
-        vs: u8,
-        vt: u8,
-        element: u8,
+        fields: VectorFields,
     },
     /// `vrcp $vD[lane], $vT[e]`.
-    Lane {
-        row: LaneRow,
+    Divide {
+        row: DivideRow,
         vd: u8,
         lane: u8,
         vt: u8,
@@ -194,18 +159,12 @@ pub enum Inst {
     /// `lqv $vT[e], offset($base)`.
     VectorLoad {
         row: VectorLoadRow,
-        vt: u8,
-        element: u8,
-        offset: u8,
-        base: u8,
+        fields: VectorMemoryFields,
     },
     /// `sqv $vT[e], offset($base)`.
     VectorStore {
         row: VectorStoreRow,
-        vt: u8,
-        element: u8,
-        offset: u8,
-        base: u8,
+        fields: VectorMemoryFields,
     },
 }
 
@@ -463,7 +422,7 @@ pub enum VectorLogicRow {
 
 /// Rows that write one lane: the divider, and a move.
 #[derive(Clone, Copy, PartialEq, Eq)]
-pub enum LaneRow {
+pub enum DivideRow {
     /// `vrcp`: the reciprocal of a 16-bit number.
     Vrcp,
     /// `vrcpl`: the reciprocal of a number whose high half came before.

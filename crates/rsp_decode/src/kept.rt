@@ -3,10 +3,11 @@
 ghost use Rattle.std.specs.Prelude.{Some};
 
 use crate::inst::{
-    Control, EqualRow, IdleRow, ImmediateRow, Inst, JumpRow, LaneRow, LoadRow, MoveRow, MpegRow,
+    Control, DivideRow, EqualRow, IdleRow, ImmediateRow, Inst, JumpRow, LoadRow, MoveRow, MpegRow,
     MultiplyRow, RegisterRow, RoundRow, ShiftByRow, ShiftRow, SignRow, StoreRow, VectorAddRow,
     VectorClipRow, VectorLoadRow, VectorLogicRow, VectorSelectRow, VectorStoreRow,
 };
+use crate::operands::{RegisterFields, ScalarMemoryFields, VectorFields, VectorMemoryFields};
 use crate::visitor::Visitor;
 
 /// The last instruction that it was given.
@@ -29,8 +30,8 @@ impl Visitor for Kept {
     }
 
     #[inline(always)]
-    fn shift_by(&mut self, row: ShiftByRow, rd: u8, rt: u8, rs: u8) {
-        self.inst = Some(Inst::ShiftBy { row, rd, rt, rs });
+    fn shift_by(&mut self, row: ShiftByRow, fields: RegisterFields) {
+        self.inst = Some(Inst::ShiftBy { row, fields });
     }
 
     #[inline(always)]
@@ -44,13 +45,13 @@ impl Visitor for Kept {
     }
 
     #[inline(always)]
-    fn break_off(&mut self) {
+    fn break_instruction(&mut self) {
         self.inst = Some(Inst::Break);
     }
 
     #[inline(always)]
-    fn register(&mut self, row: RegisterRow, rd: u8, rs: u8, rt: u8) {
-        self.inst = Some(Inst::Register { row, rd, rs, rt });
+    fn register(&mut self, row: RegisterRow, fields: RegisterFields) {
+        self.inst = Some(Inst::Register { row, fields });
     }
 
     #[inline(always)]
@@ -84,23 +85,13 @@ impl Visitor for Kept {
     }
 
     #[inline(always)]
-    fn load(&mut self, row: LoadRow, rt: u8, offset: u16, base: u8) {
-        self.inst = Some(Inst::Load {
-            row,
-            rt,
-            offset,
-            base,
-        });
+    fn load(&mut self, row: LoadRow, fields: ScalarMemoryFields) {
+        self.inst = Some(Inst::Load { row, fields });
     }
 
     #[inline(always)]
-    fn store(&mut self, row: StoreRow, rt: u8, offset: u16, base: u8) {
-        self.inst = Some(Inst::Store {
-            row,
-            rt,
-            offset,
-            base,
-        });
+    fn store(&mut self, row: StoreRow, fields: ScalarMemoryFields) {
+        self.inst = Some(Inst::Store { row, fields });
     }
 
     #[inline(always)]
@@ -124,105 +115,53 @@ impl Visitor for Kept {
     }
 
     #[inline(always)]
-    fn multiply(&mut self, row: MultiplyRow, vd: u8, vs: u8, vt: u8, element: u8) {
-        self.inst = Some(Inst::Multiply {
-            row,
-            vd,
-            vs,
-            vt,
-            element,
-        });
+    fn multiply(&mut self, row: MultiplyRow, fields: VectorFields) {
+        self.inst = Some(Inst::Multiply { row, fields });
     }
 
     #[inline(always)]
-    fn round(&mut self, row: RoundRow, vd: u8, vs: u8, vt: u8, element: u8) {
-        self.inst = Some(Inst::Round {
-            row,
-            vd,
-            vs,
-            vt,
-            element,
-        });
+    fn round(&mut self, row: RoundRow, fields: VectorFields) {
+        self.inst = Some(Inst::Round { row, fields });
     }
 
     #[inline(always)]
-    fn mpeg_multiply(&mut self, row: MpegRow, vd: u8, vs: u8, vt: u8, element: u8) {
-        self.inst = Some(Inst::MpegMultiply {
-            row,
-            vd,
-            vs,
-            vt,
-            element,
-        });
+    fn mpeg_multiply(&mut self, row: MpegRow, fields: VectorFields) {
+        self.inst = Some(Inst::MpegMultiply { row, fields });
     }
 
     #[inline(always)]
-    fn read_accumulator(&mut self, vd: u8, vs: u8, vt: u8, element: u8) {
-        self.inst = Some(Inst::ReadAccumulator {
-            vd,
-            vs,
-            vt,
-            element,
-        });
+    fn read_accumulator(&mut self, fields: VectorFields) {
+        self.inst = Some(Inst::ReadAccumulator { fields });
     }
 
     #[inline(always)]
-    fn vector_add(&mut self, row: VectorAddRow, vd: u8, vs: u8, vt: u8, element: u8) {
-        self.inst = Some(Inst::VectorAdd {
-            row,
-            vd,
-            vs,
-            vt,
-            element,
-        });
+    fn vector_add(&mut self, row: VectorAddRow, fields: VectorFields) {
+        self.inst = Some(Inst::VectorAdd { row, fields });
     }
 
     #[inline(always)]
-    fn vector_select(&mut self, row: VectorSelectRow, vd: u8, vs: u8, vt: u8, element: u8) {
-        self.inst = Some(Inst::VectorSelect {
-            row,
-            vd,
-            vs,
-            vt,
-            element,
-        });
+    fn vector_select(&mut self, row: VectorSelectRow, fields: VectorFields) {
+        self.inst = Some(Inst::VectorSelect { row, fields });
     }
 
     #[inline(always)]
-    fn vector_clip(&mut self, row: VectorClipRow, vd: u8, vs: u8, vt: u8, element: u8) {
-        self.inst = Some(Inst::VectorClip {
-            row,
-            vd,
-            vs,
-            vt,
-            element,
-        });
+    fn vector_clip(&mut self, row: VectorClipRow, fields: VectorFields) {
+        self.inst = Some(Inst::VectorClip { row, fields });
     }
 
     #[inline(always)]
-    fn vector_merge(&mut self, vd: u8, vs: u8, vt: u8, element: u8) {
-        self.inst = Some(Inst::VectorMerge {
-            vd,
-            vs,
-            vt,
-            element,
-        });
+    fn vector_merge(&mut self, fields: VectorFields) {
+        self.inst = Some(Inst::VectorMerge { fields });
     }
 
     #[inline(always)]
-    fn vector_logic(&mut self, row: VectorLogicRow, vd: u8, vs: u8, vt: u8, element: u8) {
-        self.inst = Some(Inst::VectorLogic {
-            row,
-            vd,
-            vs,
-            vt,
-            element,
-        });
+    fn vector_logic(&mut self, row: VectorLogicRow, fields: VectorFields) {
+        self.inst = Some(Inst::VectorLogic { row, fields });
     }
 
     #[inline(always)]
-    fn lane(&mut self, row: LaneRow, vd: u8, lane: u8, vt: u8, element: u8) {
-        self.inst = Some(Inst::Lane {
+    fn divide(&mut self, row: DivideRow, vd: u8, lane: u8, vt: u8, element: u8) {
+        self.inst = Some(Inst::Divide {
             row,
             vd,
             lane,
@@ -237,24 +176,12 @@ impl Visitor for Kept {
     }
 
     #[inline(always)]
-    fn vector_load(&mut self, row: VectorLoadRow, vt: u8, element: u8, offset: u8, base: u8) {
-        self.inst = Some(Inst::VectorLoad {
-            row,
-            vt,
-            element,
-            offset,
-            base,
-        });
+    fn vector_load(&mut self, row: VectorLoadRow, fields: VectorMemoryFields) {
+        self.inst = Some(Inst::VectorLoad { row, fields });
     }
 
     #[inline(always)]
-    fn vector_store(&mut self, row: VectorStoreRow, vt: u8, element: u8, offset: u8, base: u8) {
-        self.inst = Some(Inst::VectorStore {
-            row,
-            vt,
-            element,
-            offset,
-            base,
-        });
+    fn vector_store(&mut self, row: VectorStoreRow, fields: VectorMemoryFields) {
+        self.inst = Some(Inst::VectorStore { row, fields });
     }
 }

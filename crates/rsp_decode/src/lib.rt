@@ -12,13 +12,15 @@ mod fields;
 mod inst;
 mod kept;
 pub mod laws;
+mod operands;
 mod visitor;
 
 pub use decoding::{decode, is_canonical, visit};
 pub use encoding::encode;
 pub use inst::{
-    Control, EqualRow, IdleRow, ImmediateRow, Inst, JumpRow, LaneRow, LoadRow, MoveRow, MpegRow,
+    Control, DivideRow, EqualRow, IdleRow, ImmediateRow, Inst, JumpRow, LoadRow, MoveRow, MpegRow,
     MultiplyRow, RegisterRow, RoundRow, ShiftByRow, ShiftRow, SignRow, StoreRow, VectorAddRow,
     VectorClipRow, VectorLoadRow, VectorLogicRow, VectorSelectRow, VectorStoreRow,
 };
+pub use operands::{RegisterFields, ScalarMemoryFields, VectorFields, VectorMemoryFields};
 pub use visitor::Visitor;

@@ -5,10 +5,11 @@ ghost use Rattle.rsp_decode.specs.declared.inst.Inst.{Inst};
 ghost use Rattle.rsp_decode.specs.Table.{IsInstruction};
 
 use crate::inst::{
-    Control, EqualRow, IdleRow, ImmediateRow, JumpRow, LaneRow, LoadRow, MoveRow, MpegRow,
+    Control, DivideRow, EqualRow, IdleRow, ImmediateRow, JumpRow, LoadRow, MoveRow, MpegRow,
     MultiplyRow, RegisterRow, RoundRow, ShiftByRow, ShiftRow, SignRow, StoreRow, VectorAddRow,
     VectorClipRow, VectorLoadRow, VectorLogicRow, VectorSelectRow, VectorStoreRow,
 };
+use crate::operands::{RegisterFields, ScalarMemoryFields, VectorFields, VectorMemoryFields};
 
 /// What takes the instruction of a word from [`crate::visit`]: one call for each variant of [`crate::Inst`], with its
 /// fields. So a word is taken apart and carried out by one match, and no `Inst` stands between.
@@ -22,9 +23,9 @@ pub trait Visitor {
         ensures { self.new ≡ after (Inst.Shift row rd rt amount) self.old };
 
     /// A shift by a register: `sllv $d, $t, $s`, `srlv`, `srav`.
-    fn shift_by(&mut self, row: ShiftByRow, rd: u8, rt: u8, rs: u8)
-        requires { IsInstruction (Inst.ShiftBy row rd rt rs) }
-        ensures { self.new ≡ after (Inst.ShiftBy row rd rt rs) self.old };
+    fn shift_by(&mut self, row: ShiftByRow, fields: RegisterFields)
+        requires { IsInstruction (Inst.ShiftBy row fields) }
+        ensures { self.new ≡ after (Inst.ShiftBy row fields) self.old };
 
     /// `jr $s`.
     fn jump_register(&mut self, rs: u8)
@@ -37,14 +38,14 @@ pub trait Visitor {
         ensures { self.new ≡ after (Inst.JumpLinkRegister rd rs) self.old };
 
     /// `break`.
-    fn break_off(&mut self)
+    fn break_instruction(&mut self)
         requires { IsInstruction Inst.Break }
         ensures { self.new ≡ after Inst.Break self.old };
 
     /// A row of two registers: `add $d, $s, $t`, `addu` and so on.
-    fn register(&mut self, row: RegisterRow, rd: u8, rs: u8, rt: u8)
-        requires { IsInstruction (Inst.Register row rd rs rt) }
-        ensures { self.new ≡ after (Inst.Register row rd rs rt) self.old };
+    fn register(&mut self, row: RegisterRow, fields: RegisterFields)
+        requires { IsInstruction (Inst.Register row fields) }
+        ensures { self.new ≡ after (Inst.Register row fields) self.old };
 
     /// A branch on a register's sign: `bltz $s, target` and so on.
     fn branch_sign(&mut self, row: SignRow, rs: u8, offset: u16)
@@ -72,14 +73,14 @@ pub trait Visitor {
         ensures { self.new ≡ after (Inst.LoadUpper rt imm) self.old };
 
     /// A scalar load: `lw $t, offset($base)` and so on.
-    fn load(&mut self, row: LoadRow, rt: u8, offset: u16, base: u8)
-        requires { IsInstruction (Inst.Load row rt offset base) }
-        ensures { self.new ≡ after (Inst.Load row rt offset base) self.old };
+    fn load(&mut self, row: LoadRow, fields: ScalarMemoryFields)
+        requires { IsInstruction (Inst.Load row fields) }
+        ensures { self.new ≡ after (Inst.Load row fields) self.old };
 
     /// A scalar store: `sw $t, offset($base)` and so on.
-    fn store(&mut self, row: StoreRow, rt: u8, offset: u16, base: u8)
-        requires { IsInstruction (Inst.Store row rt offset base) }
-        ensures { self.new ≡ after (Inst.Store row rt offset base) self.old };
+    fn store(&mut self, row: StoreRow, fields: ScalarMemoryFields)
+        requires { IsInstruction (Inst.Store row fields) }
+        ensures { self.new ≡ after (Inst.Store row fields) self.old };
 
     /// `mfc0 $t, $cN`, `mtc0 $t, $cN`.
     fn move_sp(&mut self, row: MoveRow, rt: u8, register: u8)
@@ -97,54 +98,54 @@ pub trait Visitor {
         ensures { self.new ≡ after (Inst.MoveControl row rt control) self.old };
 
     /// One of the twelve multiplies: `vmulf $vD, $vS, $vT[e]` and so on.
-    fn multiply(&mut self, row: MultiplyRow, vd: u8, vs: u8, vt: u8, element: u8)
-        requires { IsInstruction (Inst.Multiply row vd vs vt element) }
-        ensures { self.new ≡ after (Inst.Multiply row vd vs vt element) self.old };
+    fn multiply(&mut self, row: MultiplyRow, fields: VectorFields)
+        requires { IsInstruction (Inst.Multiply row fields) }
+        ensures { self.new ≡ after (Inst.Multiply row fields) self.old };
 
     /// `vrndp $vD, $vS, $vT[e]`, `vrndn`.
-    fn round(&mut self, row: RoundRow, vd: u8, vs: u8, vt: u8, element: u8)
-        requires { IsInstruction (Inst.Round row vd vs vt element) }
-        ensures { self.new ≡ after (Inst.Round row vd vs vt element) self.old };
+    fn round(&mut self, row: RoundRow, fields: VectorFields)
+        requires { IsInstruction (Inst.Round row fields) }
+        ensures { self.new ≡ after (Inst.Round row fields) self.old };
 
     /// `vmulq $vD, $vS, $vT[e]`, `vmacq`.
-    fn mpeg_multiply(&mut self, row: MpegRow, vd: u8, vs: u8, vt: u8, element: u8)
-        requires { IsInstruction (Inst.MpegMultiply row vd vs vt element) }
-        ensures { self.new ≡ after (Inst.MpegMultiply row vd vs vt element) self.old };
+    fn mpeg_multiply(&mut self, row: MpegRow, fields: VectorFields)
+        requires { IsInstruction (Inst.MpegMultiply row fields) }
+        ensures { self.new ≡ after (Inst.MpegMultiply row fields) self.old };
 
     /// `vsar $vD, $vS, $vT[e]`.
-    fn read_accumulator(&mut self, vd: u8, vs: u8, vt: u8, element: u8)
-        requires { IsInstruction (Inst.ReadAccumulator vd vs vt element) }
-        ensures { self.new ≡ after (Inst.ReadAccumulator vd vs vt element) self.old };
+    fn read_accumulator(&mut self, fields: VectorFields)
+        requires { IsInstruction (Inst.ReadAccumulator fields) }
+        ensures { self.new ≡ after (Inst.ReadAccumulator fields) self.old };
 
     /// A sum or a difference: `vadd $vD, $vS, $vT[e]` and so on.
-    fn vector_add(&mut self, row: VectorAddRow, vd: u8, vs: u8, vt: u8, element: u8)
-        requires { IsInstruction (Inst.VectorAdd row vd vs vt element) }
-        ensures { self.new ≡ after (Inst.VectorAdd row vd vs vt element) self.old };
+    fn vector_add(&mut self, row: VectorAddRow, fields: VectorFields)
+        requires { IsInstruction (Inst.VectorAdd row fields) }
+        ensures { self.new ≡ after (Inst.VectorAdd row fields) self.old };
 
     /// A comparison: `vlt $vD, $vS, $vT[e]` and so on.
-    fn vector_select(&mut self, row: VectorSelectRow, vd: u8, vs: u8, vt: u8, element: u8)
-        requires { IsInstruction (Inst.VectorSelect row vd vs vt element) }
-        ensures { self.new ≡ after (Inst.VectorSelect row vd vs vt element) self.old };
+    fn vector_select(&mut self, row: VectorSelectRow, fields: VectorFields)
+        requires { IsInstruction (Inst.VectorSelect row fields) }
+        ensures { self.new ≡ after (Inst.VectorSelect row fields) self.old };
 
     /// `vcl $vD, $vS, $vT[e]`, `vch`, `vcr`.
-    fn vector_clip(&mut self, row: VectorClipRow, vd: u8, vs: u8, vt: u8, element: u8)
-        requires { IsInstruction (Inst.VectorClip row vd vs vt element) }
-        ensures { self.new ≡ after (Inst.VectorClip row vd vs vt element) self.old };
+    fn vector_clip(&mut self, row: VectorClipRow, fields: VectorFields)
+        requires { IsInstruction (Inst.VectorClip row fields) }
+        ensures { self.new ≡ after (Inst.VectorClip row fields) self.old };
 
     /// `vmrg $vD, $vS, $vT[e]`.
-    fn vector_merge(&mut self, vd: u8, vs: u8, vt: u8, element: u8)
-        requires { IsInstruction (Inst.VectorMerge vd vs vt element) }
-        ensures { self.new ≡ after (Inst.VectorMerge vd vs vt element) self.old };
+    fn vector_merge(&mut self, fields: VectorFields)
+        requires { IsInstruction (Inst.VectorMerge fields) }
+        ensures { self.new ≡ after (Inst.VectorMerge fields) self.old };
 
     /// Logic: `vand $vD, $vS, $vT[e]` and so on.
-    fn vector_logic(&mut self, row: VectorLogicRow, vd: u8, vs: u8, vt: u8, element: u8)
-        requires { IsInstruction (Inst.VectorLogic row vd vs vt element) }
-        ensures { self.new ≡ after (Inst.VectorLogic row vd vs vt element) self.old };
+    fn vector_logic(&mut self, row: VectorLogicRow, fields: VectorFields)
+        requires { IsInstruction (Inst.VectorLogic row fields) }
+        ensures { self.new ≡ after (Inst.VectorLogic row fields) self.old };
 
-    /// A row of one lane: `vrcp $vD[lane], $vT[e]` and so on.
-    fn lane(&mut self, row: LaneRow, vd: u8, lane: u8, vt: u8, element: u8)
-        requires { IsInstruction (Inst.Lane row vd lane vt element) }
-        ensures { self.new ≡ after (Inst.Lane row vd lane vt element) self.old };
+    /// A divide row, which writes one lane: `vrcp $vD[lane], $vT[e]` and so on.
+    fn divide(&mut self, row: DivideRow, vd: u8, lane: u8, vt: u8, element: u8)
+        requires { IsInstruction (Inst.Divide row vd lane vt element) }
+        ensures { self.new ≡ after (Inst.Divide row vd lane vt element) self.old };
 
     /// `vnop`, `vnull`.
     fn idle(&mut self, row: IdleRow)
@@ -152,12 +153,12 @@ pub trait Visitor {
         ensures { self.new ≡ after (Inst.Idle row) self.old };
 
     /// A vector load: `lqv $vT[e], offset($base)` and so on.
-    fn vector_load(&mut self, row: VectorLoadRow, vt: u8, element: u8, offset: u8, base: u8)
-        requires { IsInstruction (Inst.VectorLoad row vt element offset base) }
-        ensures { self.new ≡ after (Inst.VectorLoad row vt element offset base) self.old };
+    fn vector_load(&mut self, row: VectorLoadRow, fields: VectorMemoryFields)
+        requires { IsInstruction (Inst.VectorLoad row fields) }
+        ensures { self.new ≡ after (Inst.VectorLoad row fields) self.old };
 
     /// A vector store: `sqv $vT[e], offset($base)` and so on.
-    fn vector_store(&mut self, row: VectorStoreRow, vt: u8, element: u8, offset: u8, base: u8)
-        requires { IsInstruction (Inst.VectorStore row vt element offset base) }
-        ensures { self.new ≡ after (Inst.VectorStore row vt element offset base) self.old };
+    fn vector_store(&mut self, row: VectorStoreRow, fields: VectorMemoryFields)
+        requires { IsInstruction (Inst.VectorStore row fields) }
+        ensures { self.new ≡ after (Inst.VectorStore row fields) self.old };
 }

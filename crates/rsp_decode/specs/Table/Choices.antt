@@ -9,8 +9,8 @@ abbrev pub pick : List Row → ℕ → ℕ → Option Inst
 pick rs value w = option_map (λ (r : Row). meaning_of r w) (find (λ (r : Row). r.value == value) rs)
 
 -- the same for a vector load or store, where operation 9 wants an element of 0 or 8
-abbrev pub pick_transfer : List Row → ℕ → ℕ → Option Inst
-pick_transfer rs o w =
+abbrev pub pick_by_operation : List Row → ℕ → ℕ → Option Inst
+pick_by_operation rs o w =
     if (value_at w (whole 11 5) == 9) && not (value_at w (whole 7 4) % 8 == 0)
     then None
     else pick rs (o * 2 ^ 26 + value_at w (whole 11 5) * 2 ^ 11) w

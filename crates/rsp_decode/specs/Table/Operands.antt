@@ -40,3 +40,7 @@ places (vector low) = whole low 5 ∷ []
 places (vector_byte low step) = whole low 5 ∷ element_place step ∷ []
 places vector_element = whole 16 5 ∷ whole 21 4 ∷ []
 places vector_lane = whole 6 5 ∷ whole 11 3 ∷ []
+
+-- the operands of the rows that compute with two vectors: $vD, $vS, $vT[e]
+abbrev pub vector_operands : List Operand
+vector_operands = vector 6 ∷ vector 11 ∷ vector_element ∷ []

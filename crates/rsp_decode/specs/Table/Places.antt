@@ -15,10 +15,10 @@ value_at w (capped low width most) = min most (w / 2 ^ low % 2 ^ width)
 value_at w (stepped low width shift) = w / 2 ^ low % 2 ^ width * 2 ^ shift
 
 -- a value at its place, and 0 elsewhere
-abbrev pub placed : Place → ℕ → ℕ
-placed (whole low width) v = v * 2 ^ low
-placed (capped low width most) v = v * 2 ^ low
-placed (stepped low width shift) v = v / 2 ^ shift * 2 ^ low
+abbrev pub at_place : Place → ℕ → ℕ
+at_place (whole low width) v = v * 2 ^ low
+at_place (capped low width most) v = v * 2 ^ low
+at_place (stepped low width shift) v = v / 2 ^ shift * 2 ^ low
 
 -- the values that a field has in some word
 abbrev pub FitsPlace : Place → ℕ → Type 0
@@ -30,7 +30,7 @@ FitsPlace (stepped low width shift) v = (v / 2 ^ shift < 2 ^ width) × (v / 2 ^ 
 abbrev pub with_fields : ℕ → List Place → List ℕ → ℕ
 with_fields w [] values = w
 with_fields w (p ∷ ps) [] = w
-with_fields w (p ∷ ps) (v ∷ vs) = with_fields (bit_or w (placed p v)) ps vs
+with_fields w (p ∷ ps) (v ∷ vs) = with_fields (bit_or w (at_place p v)) ps vs
 
 -- a list of values, each of which its place has in some word
 abbrev pub FitPlaces : List Place → List ℕ → Type 0

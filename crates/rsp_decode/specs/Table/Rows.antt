@@ -3,6 +3,11 @@ use Rattle.std.specs.Prelude.{ℕ, ◌+◌, ◌*◌, ◌^◌, ◌==◌, Bool, Li
 use Rattle.rsp_decode.specs.declared.inst.Inst.{Inst}
 use Rattle.rsp_decode.specs.Table.Places.{Place, value_at}
 use Rattle.rsp_decode.specs.Table.Operands.{Operand, places}
+use Rattle.rsp_decode.specs.declared.operands.RegisterFields.{RegisterFields}
+use Rattle.rsp_decode.specs.declared.operands.ScalarMemoryFields.{ScalarMemoryFields}
+use Rattle.rsp_decode.specs.declared.operands.VectorFields.{VectorFields}
+use Rattle.rsp_decode.specs.declared.operands.VectorMemoryFields.{VectorMemoryFields}
+use Rattle.rsp_decode.specs.Table.Fields.{register_fields, shift_by_fields, scalar_memory_fields, vector_fields, vector_memory_fields}
 
 -- what selects a row, and its name
 pub record Selector : Type 0 where
@@ -31,20 +36,28 @@ abbrev pub cop0 : ℕ → List ℕ → Selector
 cop0 rs = selector 0xffe00000 (16 * 2 ^ 26 + rs * 2 ^ 21)
 
 -- opcode 18 without bit 25, by rs
-abbrev pub cop2_move : ℕ → List ℕ → Selector
-cop2_move rs = selector 0xffe00000 (18 * 2 ^ 26 + rs * 2 ^ 21)
+abbrev pub cop2 : ℕ → List ℕ → Selector
+cop2 rs = selector 0xffe00000 (18 * 2 ^ 26 + rs * 2 ^ 21)
 
 -- opcode 18 with bit 25, by the function
 abbrev pub computing : ℕ → List ℕ → Selector
 computing function = selector 0xfe00003f (18 * 2 ^ 26 + 2 ^ 25 + function)
 
--- opcode 50 or 58, by the operation, bits 15 to 11
-abbrev pub transfer : ℕ → ℕ → List ℕ → Selector
-transfer o operation = selector 0xfc00f800 (o * 2 ^ 26 + operation * 2 ^ 11)
+-- opcode 50, by the operation, bits 15 to 11
+abbrev pub lwc2 : ℕ → List ℕ → Selector
+lwc2 operation = selector 0xfc00f800 (50 * 2 ^ 26 + operation * 2 ^ 11)
 
 -- the same where the element is 0 or 8: bits 9 to 7 are 0
-abbrev pub half_transfer : ℕ → ℕ → List ℕ → Selector
-half_transfer o operation = selector 0xfc00fb80 (o * 2 ^ 26 + operation * 2 ^ 11)
+abbrev pub lwc2_half : ℕ → List ℕ → Selector
+lwc2_half operation = selector 0xfc00fb80 (50 * 2 ^ 26 + operation * 2 ^ 11)
+
+-- opcode 58, by the operation
+abbrev pub swc2 : ℕ → List ℕ → Selector
+swc2 operation = selector 0xfc00f800 (58 * 2 ^ 26 + operation * 2 ^ 11)
+
+-- the same where the element is 0 or 8
+abbrev pub swc2_half : ℕ → List ℕ → Selector
+swc2_half operation = selector 0xfc00fb80 (58 * 2 ^ 26 + operation * 2 ^ 11)
 
 -- A row: the bits of a word that select it and what they are, its name, its operands in the order of its text, and what it
 -- means by the fields of those operands in that order.
@@ -75,6 +88,22 @@ three f fields = f (slice_index fields 0) (slice_index fields 1) (slice_index fi
 
 abbrev pub four : (ℕ → ℕ → ℕ → ℕ → Inst) → List ℕ → Inst
 four f fields = f (slice_index fields 0) (slice_index fields 1) (slice_index fields 2) (slice_index fields 3)
+
+-- an instruction of fields that travel together, in the order of the row's text
+abbrev pub of_registers : (RegisterFields → Inst) → List ℕ → Inst
+of_registers f fields = f (register_fields fields)
+
+abbrev pub of_shift_by : (RegisterFields → Inst) → List ℕ → Inst
+of_shift_by f fields = f (shift_by_fields fields)
+
+abbrev pub of_scalar_memory : (ScalarMemoryFields → Inst) → List ℕ → Inst
+of_scalar_memory f fields = f (scalar_memory_fields fields)
+
+abbrev pub of_vectors : (VectorFields → Inst) → List ℕ → Inst
+of_vectors f fields = f (vector_fields fields)
+
+abbrev pub of_vector_memory : (VectorMemoryFields → Inst) → List ℕ → Inst
+of_vector_memory f fields = f (vector_memory_fields fields)
 
 -- whether a row fits a word: the word has its value under its mask
 abbrev pub fits : ℕ → Row → Bool

@@ -22,7 +22,7 @@ use Rattle.rsp_decode.specs.declared.inst.StoreRow.TheVariants.{Sb, Sh, Sw}
 use Rattle.rsp_decode.specs.declared.inst.MoveRow.{MoveRow}
 use Rattle.rsp_decode.specs.declared.inst.MoveRow.TheVariants.{From, To}
 use Rattle.rsp_decode.specs.Table.Operands.{Operand, scalar, shift_amount, signed, unsigned, jump_target, branch_target, scalar_memory, sp_register}
-use Rattle.rsp_decode.specs.Table.Rows.{Row, row, Selector, opcode, special, regimm, cop0, none, one, two, three}
+use Rattle.rsp_decode.specs.Table.Rows.{Row, row, Selector, opcode, special, regimm, cop0, none, one, two, three, of_registers, of_shift_by, of_scalar_memory}
 
 -- what selects the shifts by an amount in the word
 abbrev pub shift_selector : ShiftRow → Selector
@@ -42,7 +42,7 @@ shift_by_selector Srav = special 7 (codes "srav")
 
 -- sllv $d, $t, $s
 abbrev pub shift_by_row : ShiftByRow → Row
-shift_by_row r = row (shift_by_selector r) (scalar 11 ∷ scalar 16 ∷ scalar 21 ∷ []) (three (ShiftBy r))
+shift_by_row r = row (shift_by_selector r) (scalar 11 ∷ scalar 16 ∷ scalar 21 ∷ []) (of_shift_by (ShiftBy r))
 
 -- jr $s
 abbrev pub jump_register_row : Row
@@ -71,7 +71,7 @@ register_selector Sltu = special 43 (codes "sltu")
 
 -- add $d, $s, $t
 abbrev pub register_row : RegisterRow → Row
-register_row r = row (register_selector r) (scalar 11 ∷ scalar 21 ∷ scalar 16 ∷ []) (three (Register r))
+register_row r = row (register_selector r) (scalar 11 ∷ scalar 21 ∷ scalar 16 ∷ []) (of_registers (Register r))
 
 -- what selects the branches on the sign of a register
 abbrev pub branch_sign_selector : SignRow → Selector
@@ -143,7 +143,7 @@ load_selector Lwu = opcode 39 (codes "lwu")
 
 -- lw $t, offset($base)
 abbrev pub load_row : LoadRow → Row
-load_row r = row (load_selector r) (scalar 16 ∷ scalar_memory ∷ []) (three (Load r))
+load_row r = row (load_selector r) (scalar 16 ∷ scalar_memory ∷ []) (of_scalar_memory (Load r))
 
 -- what selects the stores of a scalar register
 abbrev pub store_selector : StoreRow → Selector
@@ -153,7 +153,7 @@ store_selector Sw = opcode 43 (codes "sw")
 
 -- sw $t, offset($base)
 abbrev pub store_row : StoreRow → Row
-store_row r = row (store_selector r) (scalar 16 ∷ scalar_memory ∷ []) (three (Store r))
+store_row r = row (store_selector r) (scalar 16 ∷ scalar_memory ∷ []) (of_scalar_memory (Store r))
 
 -- what selects the moves from and to the SP registers
 abbrev pub move_sp_selector : MoveRow → Selector

@@ -1,6 +1,6 @@
 -- The rows of the vector unit: above each, the text of the first of its group.
 use Rattle.std.specs.Prelude.{ℕ, ◌==◌, List, [], ◌∷◌, ◌++◌, map, codes, if◌then◌else◌}
-use Rattle.rsp_decode.specs.declared.inst.Inst.TheVariants.{MoveVector, MoveControl, Multiply, Round, MpegMultiply, ReadAccumulator, VectorAdd, VectorSelect, VectorClip, VectorMerge, VectorLogic, Lane, Idle, VectorLoad, VectorStore}
+use Rattle.rsp_decode.specs.declared.inst.Inst.TheVariants.{MoveVector, MoveControl, Multiply, Round, MpegMultiply, ReadAccumulator, VectorAdd, VectorSelect, VectorClip, VectorMerge, VectorLogic, Divide, Idle, VectorLoad, VectorStore}
 use Rattle.rsp_decode.specs.declared.inst.MoveRow.{MoveRow}
 use Rattle.rsp_decode.specs.declared.inst.MoveRow.TheVariants.{From, To}
 use Rattle.rsp_decode.specs.declared.inst.Control.{Control}
@@ -19,16 +19,16 @@ use Rattle.rsp_decode.specs.declared.inst.VectorClipRow.{VectorClipRow}
 use Rattle.rsp_decode.specs.declared.inst.VectorClipRow.TheVariants.{Vcl, Vch, Vcr}
 use Rattle.rsp_decode.specs.declared.inst.VectorLogicRow.{VectorLogicRow}
 use Rattle.rsp_decode.specs.declared.inst.VectorLogicRow.TheVariants.{Vand, Vnand, Vor, Vnor, Vxor, Vnxor}
-use Rattle.rsp_decode.specs.declared.inst.LaneRow.{LaneRow}
-use Rattle.rsp_decode.specs.declared.inst.LaneRow.TheVariants.{Vrcp, Vrcpl, Vrcph, Vmov, Vrsq, Vrsql, Vrsqh}
+use Rattle.rsp_decode.specs.declared.inst.DivideRow.{DivideRow}
+use Rattle.rsp_decode.specs.declared.inst.DivideRow.TheVariants.{Vrcp, Vrcpl, Vrcph, Vmov, Vrsq, Vrsql, Vrsqh}
 use Rattle.rsp_decode.specs.declared.inst.IdleRow.{IdleRow}
 use Rattle.rsp_decode.specs.declared.inst.IdleRow.TheVariants.{Vnop, Vnull}
 use Rattle.rsp_decode.specs.declared.inst.VectorLoadRow.{VectorLoadRow}
 use Rattle.rsp_decode.specs.declared.inst.VectorLoadRow.TheVariants.{Lbv, Lsv, Llv, Ldv, Lqv, Lrv, Lpv, Luv, Lhv, Lfv, Ltv}
 use Rattle.rsp_decode.specs.declared.inst.VectorStoreRow.{VectorStoreRow}
 use Rattle.rsp_decode.specs.declared.inst.VectorStoreRow.TheVariants.{Sbv, Ssv, Slv, Sdv, Sqv, Srv, Spv, Suv, Shv, Sfv, Swv, Stv}
-use Rattle.rsp_decode.specs.Table.Operands.{scalar, control_register, vector, vector_byte, vector_element, vector_lane, vector_memory}
-use Rattle.rsp_decode.specs.Table.Rows.{Row, row, Selector, cop2_move, computing, transfer, half_transfer, none, two, three, four}
+use Rattle.rsp_decode.specs.Table.Operands.{scalar, control_register, vector_byte, vector_element, vector_lane, vector_memory, vector_operands}
+use Rattle.rsp_decode.specs.Table.Rows.{Row, row, Selector, cop2, computing, lwc2, lwc2_half, swc2, swc2_half, none, two, three, four, of_vectors, of_vector_memory}
 
 -- the control register of a number, where 3 is read as 2
 abbrev pub control_of : ℕ → Control
@@ -42,8 +42,8 @@ control_number Vce = 2
 
 -- what selects the moves from and to vector registers
 abbrev pub move_vector_selector : MoveRow → Selector
-move_vector_selector From = cop2_move 0 (codes "mfc2")
-move_vector_selector To = cop2_move 4 (codes "mtc2")
+move_vector_selector From = cop2 0 (codes "mfc2")
+move_vector_selector To = cop2 4 (codes "mtc2")
 
 -- mfc2 $t, $vN[e]
 abbrev pub move_vector_row : MoveRow → Row
@@ -51,8 +51,8 @@ move_vector_row r = row (move_vector_selector r) (scalar 16 ∷ vector_byte 11 1
 
 -- what selects the moves from and to the control registers
 abbrev pub move_control_selector : MoveRow → Selector
-move_control_selector From = cop2_move 2 (codes "cfc2")
-move_control_selector To = cop2_move 6 (codes "ctc2")
+move_control_selector From = cop2 2 (codes "cfc2")
+move_control_selector To = cop2 6 (codes "ctc2")
 
 -- cfc2 $t, $vco
 abbrev pub move_control_row : MoveRow → Row
@@ -75,7 +75,7 @@ multiply_selector Vmadh = computing 0x0f (codes "vmadh")
 
 -- vmulf $vD, $vS, $vT[e]
 abbrev pub multiply_row : MultiplyRow → Row
-multiply_row r = row (multiply_selector r) (vector 6 ∷ vector 11 ∷ vector_element ∷ []) (four (Multiply r))
+multiply_row r = row (multiply_selector r) vector_operands (of_vectors (Multiply r))
 
 -- what selects the roundings of the accumulator
 abbrev pub round_selector : RoundRow → Selector
@@ -84,7 +84,7 @@ round_selector Vrndn = computing 0x0a (codes "vrndn")
 
 -- vrndp $vD, $vS, $vT[e]
 abbrev pub round_row : RoundRow → Row
-round_row r = row (round_selector r) (vector 6 ∷ vector 11 ∷ vector_element ∷ []) (four (Round r))
+round_row r = row (round_selector r) vector_operands (of_vectors (Round r))
 
 -- what selects the multiplies for MPEG coefficients
 abbrev pub mpeg_selector : MpegRow → Selector
@@ -93,11 +93,11 @@ mpeg_selector Vmacq = computing 0x0b (codes "vmacq")
 
 -- vmulq $vD, $vS, $vT[e]
 abbrev pub mpeg_row : MpegRow → Row
-mpeg_row r = row (mpeg_selector r) (vector 6 ∷ vector 11 ∷ vector_element ∷ []) (four (MpegMultiply r))
+mpeg_row r = row (mpeg_selector r) vector_operands (of_vectors (MpegMultiply r))
 
 -- vsar $vD, $vS, $vT[e]
 abbrev pub read_accumulator_row : Row
-read_accumulator_row = row (computing 0x1d (codes "vsar")) (vector 6 ∷ vector 11 ∷ vector_element ∷ []) (four ReadAccumulator)
+read_accumulator_row = row (computing 0x1d (codes "vsar")) vector_operands (of_vectors ReadAccumulator)
 
 -- what selects the sums and differences of vectors
 abbrev pub vector_add_selector : VectorAddRow → Selector
@@ -109,7 +109,7 @@ vector_add_selector Vsubc = computing 0x15 (codes "vsubc")
 
 -- vadd $vD, $vS, $vT[e]
 abbrev pub vector_add_row : VectorAddRow → Row
-vector_add_row r = row (vector_add_selector r) (vector 6 ∷ vector 11 ∷ vector_element ∷ []) (four (VectorAdd r))
+vector_add_row r = row (vector_add_selector r) vector_operands (of_vectors (VectorAdd r))
 
 -- what selects the comparisons that select
 abbrev pub vector_select_selector : VectorSelectRow → Selector
@@ -120,7 +120,7 @@ vector_select_selector Vge = computing 0x23 (codes "vge")
 
 -- vlt $vD, $vS, $vT[e]
 abbrev pub vector_select_row : VectorSelectRow → Row
-vector_select_row r = row (vector_select_selector r) (vector 6 ∷ vector 11 ∷ vector_element ∷ []) (four (VectorSelect r))
+vector_select_row r = row (vector_select_selector r) vector_operands (of_vectors (VectorSelect r))
 
 -- what selects the clips
 abbrev pub vector_clip_selector : VectorClipRow → Selector
@@ -130,11 +130,11 @@ vector_clip_selector Vcr = computing 0x26 (codes "vcr")
 
 -- vcl $vD, $vS, $vT[e]
 abbrev pub vector_clip_row : VectorClipRow → Row
-vector_clip_row r = row (vector_clip_selector r) (vector 6 ∷ vector 11 ∷ vector_element ∷ []) (four (VectorClip r))
+vector_clip_row r = row (vector_clip_selector r) vector_operands (of_vectors (VectorClip r))
 
 -- vmrg $vD, $vS, $vT[e]
 abbrev pub vector_merge_row : Row
-vector_merge_row = row (computing 0x27 (codes "vmrg")) (vector 6 ∷ vector 11 ∷ vector_element ∷ []) (four VectorMerge)
+vector_merge_row = row (computing 0x27 (codes "vmrg")) vector_operands (of_vectors VectorMerge)
 
 -- what selects the logic of vectors
 abbrev pub vector_logic_selector : VectorLogicRow → Selector
@@ -147,21 +147,21 @@ vector_logic_selector Vnxor = computing 0x2d (codes "vnxor")
 
 -- vand $vD, $vS, $vT[e]
 abbrev pub vector_logic_row : VectorLogicRow → Row
-vector_logic_row r = row (vector_logic_selector r) (vector 6 ∷ vector 11 ∷ vector_element ∷ []) (four (VectorLogic r))
+vector_logic_row r = row (vector_logic_selector r) vector_operands (of_vectors (VectorLogic r))
 
--- what selects the single-lane rows
-abbrev pub lane_selector : LaneRow → Selector
-lane_selector Vrcp = computing 0x30 (codes "vrcp")
-lane_selector Vrcpl = computing 0x31 (codes "vrcpl")
-lane_selector Vrcph = computing 0x32 (codes "vrcph")
-lane_selector Vmov = computing 0x33 (codes "vmov")
-lane_selector Vrsq = computing 0x34 (codes "vrsq")
-lane_selector Vrsql = computing 0x35 (codes "vrsql")
-lane_selector Vrsqh = computing 0x36 (codes "vrsqh")
+-- what selects the divide rows, which write one lane
+abbrev pub divide_selector : DivideRow → Selector
+divide_selector Vrcp = computing 0x30 (codes "vrcp")
+divide_selector Vrcpl = computing 0x31 (codes "vrcpl")
+divide_selector Vrcph = computing 0x32 (codes "vrcph")
+divide_selector Vmov = computing 0x33 (codes "vmov")
+divide_selector Vrsq = computing 0x34 (codes "vrsq")
+divide_selector Vrsql = computing 0x35 (codes "vrsql")
+divide_selector Vrsqh = computing 0x36 (codes "vrsqh")
 
 -- vrcp $vD[lane], $vT[e]
-abbrev pub lane_row : LaneRow → Row
-lane_row r = row (lane_selector r) (vector_lane ∷ vector_element ∷ []) (four (Lane r))
+abbrev pub divide_row : DivideRow → Row
+divide_row r = row (divide_selector r) (vector_lane ∷ vector_element ∷ []) (four (Divide r))
 
 -- what selects the rows that change nothing
 abbrev pub idle_selector : IdleRow → Selector
@@ -174,17 +174,17 @@ idle_row r = row (idle_selector r) [] (none (Idle r))
 
 -- what selects the vector loads
 abbrev pub vector_load_selector : VectorLoadRow → Selector
-vector_load_selector Lbv = transfer 50 0 (codes "lbv")
-vector_load_selector Lsv = transfer 50 1 (codes "lsv")
-vector_load_selector Llv = transfer 50 2 (codes "llv")
-vector_load_selector Ldv = transfer 50 3 (codes "ldv")
-vector_load_selector Lqv = transfer 50 4 (codes "lqv")
-vector_load_selector Lrv = transfer 50 5 (codes "lrv")
-vector_load_selector Lpv = transfer 50 6 (codes "lpv")
-vector_load_selector Luv = transfer 50 7 (codes "luv")
-vector_load_selector Lhv = transfer 50 8 (codes "lhv")
-vector_load_selector Lfv = half_transfer 50 9 (codes "lfv")
-vector_load_selector Ltv = transfer 50 11 (codes "ltv")
+vector_load_selector Lbv = lwc2 0 (codes "lbv")
+vector_load_selector Lsv = lwc2 1 (codes "lsv")
+vector_load_selector Llv = lwc2 2 (codes "llv")
+vector_load_selector Ldv = lwc2 3 (codes "ldv")
+vector_load_selector Lqv = lwc2 4 (codes "lqv")
+vector_load_selector Lrv = lwc2 5 (codes "lrv")
+vector_load_selector Lpv = lwc2 6 (codes "lpv")
+vector_load_selector Luv = lwc2 7 (codes "luv")
+vector_load_selector Lhv = lwc2 8 (codes "lhv")
+vector_load_selector Lfv = lwc2_half 9 (codes "lfv")
+vector_load_selector Ltv = lwc2 11 (codes "ltv")
 
 -- what the offset in the word is multiplied by
 abbrev pub vector_load_scale : VectorLoadRow → ℕ
@@ -207,22 +207,22 @@ vector_load_step _ = 1
 
 -- lqv $vT[e], offset($base)
 abbrev pub vector_load_row : VectorLoadRow → Row
-vector_load_row r = row (vector_load_selector r) (vector_byte 16 (vector_load_step r) ∷ vector_memory (vector_load_scale r) ∷ []) (four (VectorLoad r))
+vector_load_row r = row (vector_load_selector r) (vector_byte 16 (vector_load_step r) ∷ vector_memory (vector_load_scale r) ∷ []) (of_vector_memory (VectorLoad r))
 
 -- what selects the vector stores
 abbrev pub vector_store_selector : VectorStoreRow → Selector
-vector_store_selector Sbv = transfer 58 0 (codes "sbv")
-vector_store_selector Ssv = transfer 58 1 (codes "ssv")
-vector_store_selector Slv = transfer 58 2 (codes "slv")
-vector_store_selector Sdv = transfer 58 3 (codes "sdv")
-vector_store_selector Sqv = transfer 58 4 (codes "sqv")
-vector_store_selector Srv = transfer 58 5 (codes "srv")
-vector_store_selector Spv = transfer 58 6 (codes "spv")
-vector_store_selector Suv = transfer 58 7 (codes "suv")
-vector_store_selector Shv = transfer 58 8 (codes "shv")
-vector_store_selector Sfv = half_transfer 58 9 (codes "sfv")
-vector_store_selector Swv = transfer 58 10 (codes "swv")
-vector_store_selector Stv = transfer 58 11 (codes "stv")
+vector_store_selector Sbv = swc2 0 (codes "sbv")
+vector_store_selector Ssv = swc2 1 (codes "ssv")
+vector_store_selector Slv = swc2 2 (codes "slv")
+vector_store_selector Sdv = swc2 3 (codes "sdv")
+vector_store_selector Sqv = swc2 4 (codes "sqv")
+vector_store_selector Srv = swc2 5 (codes "srv")
+vector_store_selector Spv = swc2 6 (codes "spv")
+vector_store_selector Suv = swc2 7 (codes "suv")
+vector_store_selector Shv = swc2 8 (codes "shv")
+vector_store_selector Sfv = swc2_half 9 (codes "sfv")
+vector_store_selector Swv = swc2 10 (codes "swv")
+vector_store_selector Stv = swc2 11 (codes "stv")
 
 -- what the offset in the word is multiplied by
 abbrev pub vector_store_scale : VectorStoreRow → ℕ
@@ -246,7 +246,7 @@ vector_store_step _ = 1
 
 -- sqv $vT[e], offset($base)
 abbrev pub vector_store_row : VectorStoreRow → Row
-vector_store_row r = row (vector_store_selector r) (vector_byte 16 (vector_store_step r) ∷ vector_memory (vector_store_scale r) ∷ []) (four (VectorStore r))
+vector_store_row r = row (vector_store_selector r) (vector_byte 16 (vector_store_step r) ∷ vector_memory (vector_store_scale r) ∷ []) (of_vector_memory (VectorStore r))
 
 -- rows of opcode 18 without bit 25, by rs
 abbrev pub cop2_rows : List Row
@@ -266,15 +266,15 @@ computing_rows =
     ++ map vector_clip_row (Vcl ∷ Vch ∷ Vcr ∷ [])
     ++ (vector_merge_row ∷ [])
     ++ map vector_logic_row (Vand ∷ Vnand ∷ Vor ∷ Vnor ∷ Vxor ∷ Vnxor ∷ [])
-    ++ map lane_row (Vrcp ∷ Vrcpl ∷ Vrcph ∷ Vmov ∷ Vrsq ∷ Vrsql ∷ Vrsqh ∷ [])
+    ++ map divide_row (Vrcp ∷ Vrcpl ∷ Vrcph ∷ Vmov ∷ Vrsq ∷ Vrsql ∷ Vrsqh ∷ [])
     ++ map idle_row (Vnop ∷ Vnull ∷ [])
 
 -- rows of opcode 50, by operation
-abbrev pub load_rows : List Row
-load_rows =
+abbrev pub lwc2_rows : List Row
+lwc2_rows =
     map vector_load_row (Lbv ∷ Lsv ∷ Llv ∷ Ldv ∷ Lqv ∷ Lrv ∷ Lpv ∷ Luv ∷ Lhv ∷ Lfv ∷ Ltv ∷ [])
 
 -- rows of opcode 58, by operation
-abbrev pub store_rows : List Row
-store_rows =
+abbrev pub swc2_rows : List Row
+swc2_rows =
     map vector_store_row (Sbv ∷ Ssv ∷ Slv ∷ Sdv ∷ Sqv ∷ Srv ∷ Spv ∷ Suv ∷ Shv ∷ Sfv ∷ Swv ∷ Stv ∷ [])

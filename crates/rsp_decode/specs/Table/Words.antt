@@ -1,15 +1,16 @@
 -- Words as instructions, and instructions as words.
 use Rattle.std.specs.Prelude.{ℕ, List, [], ◌∷◌, ◌++◌, find, Option, option_map}
 use Rattle.rsp_decode.specs.declared.inst.Inst.{Inst}
-use Rattle.rsp_decode.specs.declared.inst.Inst.TheVariants.{BranchEqual, BranchSign, Break, Idle, Immediate, Jump, JumpLinkRegister, JumpRegister, Lane, Load, LoadUpper, MoveControl, MoveSp, MoveVector, Register, Shift, ShiftBy, Store, Multiply, Round, MpegMultiply, ReadAccumulator, VectorAdd, VectorSelect, VectorClip, VectorMerge, VectorLogic, VectorLoad, VectorStore}
+use Rattle.rsp_decode.specs.declared.inst.Inst.TheVariants.{BranchEqual, BranchSign, Break, Idle, Immediate, Jump, JumpLinkRegister, JumpRegister, Divide, Load, LoadUpper, MoveControl, MoveSp, MoveVector, Register, Shift, ShiftBy, Store, Multiply, Round, MpegMultiply, ReadAccumulator, VectorAdd, VectorSelect, VectorClip, VectorMerge, VectorLogic, VectorLoad, VectorStore}
 use Rattle.rsp_decode.specs.Table.Places.{with_fields, FitPlaces}
+use Rattle.rsp_decode.specs.Table.Fields.{register_values, shift_by_values, scalar_memory_values, vector_values, vector_memory_values}
 use Rattle.rsp_decode.specs.Table.Rows.{Row, fits, fields, row_places, meaning_of}
 use Rattle.rsp_decode.specs.Table.ScalarRows.{shift_row, shift_by_row, jump_register_row, jump_link_register_row, break_row, register_row, branch_sign_row, jump_row, branch_equal_row, immediate_row, load_upper_row, load_row, store_row, move_sp_row, special_rows, regimm_rows, opcode_rows, cop0_rows}
-use Rattle.rsp_decode.specs.Table.VectorRows.{control_number, move_vector_row, move_control_row, multiply_row, round_row, mpeg_row, read_accumulator_row, vector_add_row, vector_select_row, vector_clip_row, vector_merge_row, vector_logic_row, lane_row, idle_row, vector_load_row, vector_store_row, cop2_rows, computing_rows, load_rows, store_rows}
+use Rattle.rsp_decode.specs.Table.VectorRows.{control_number, move_vector_row, move_control_row, multiply_row, round_row, mpeg_row, read_accumulator_row, vector_add_row, vector_select_row, vector_clip_row, vector_merge_row, vector_logic_row, divide_row, idle_row, vector_load_row, vector_store_row, cop2_rows, computing_rows, lwc2_rows, swc2_rows}
 
 -- the instruction table
 abbrev pub rows : List Row
-rows = special_rows ++ regimm_rows ++ opcode_rows ++ cop0_rows ++ cop2_rows ++ computing_rows ++ load_rows ++ store_rows
+rows = special_rows ++ regimm_rows ++ opcode_rows ++ cop0_rows ++ cop2_rows ++ computing_rows ++ lwc2_rows ++ swc2_rows
 
 -- the row of a word
 unfoldable pub row_of : ℕ → Option Row
@@ -30,34 +31,34 @@ canonical_of w = option_map (λ (r : Row). word_from r (fields r w)) (row_of w)
 -- the row of an instruction, and its fields in the order of the row's text
 abbrev pub parts : Inst → Row × List ℕ
 parts (Shift r rd rt amount) = (shift_row r, rd ∷ rt ∷ amount ∷ [])
-parts (ShiftBy r rd rt rs) = (shift_by_row r, rd ∷ rt ∷ rs ∷ [])
+parts (ShiftBy r fields) = (shift_by_row r, shift_by_values fields)
 parts (JumpRegister rs) = (jump_register_row, rs ∷ [])
 parts (JumpLinkRegister rd rs) = (jump_link_register_row, rd ∷ rs ∷ [])
 parts Break = (break_row, [])
-parts (Register r rd rs rt) = (register_row r, rd ∷ rs ∷ rt ∷ [])
+parts (Register r fields) = (register_row r, register_values fields)
 parts (BranchSign r rs offset) = (branch_sign_row r, rs ∷ offset ∷ [])
 parts (Jump r target) = (jump_row r, target ∷ [])
 parts (BranchEqual r rs rt offset) = (branch_equal_row r, rs ∷ rt ∷ offset ∷ [])
 parts (Immediate r rt rs imm) = (immediate_row r, rt ∷ rs ∷ imm ∷ [])
 parts (LoadUpper rt imm) = (load_upper_row, rt ∷ imm ∷ [])
-parts (Load r rt offset base) = (load_row r, rt ∷ offset ∷ base ∷ [])
-parts (Store r rt offset base) = (store_row r, rt ∷ offset ∷ base ∷ [])
+parts (Load r fields) = (load_row r, scalar_memory_values fields)
+parts (Store r fields) = (store_row r, scalar_memory_values fields)
 parts (MoveSp r rt register) = (move_sp_row r, rt ∷ register ∷ [])
 parts (MoveVector r rt vector' element) = (move_vector_row r, rt ∷ vector' ∷ element ∷ [])
 parts (MoveControl r rt control) = (move_control_row r, rt ∷ control_number control ∷ [])
-parts (Multiply r vd vs vt element) = (multiply_row r, vd ∷ vs ∷ vt ∷ element ∷ [])
-parts (Round r vd vs vt element) = (round_row r, vd ∷ vs ∷ vt ∷ element ∷ [])
-parts (MpegMultiply r vd vs vt element) = (mpeg_row r, vd ∷ vs ∷ vt ∷ element ∷ [])
-parts (ReadAccumulator vd vs vt element) = (read_accumulator_row, vd ∷ vs ∷ vt ∷ element ∷ [])
-parts (VectorAdd r vd vs vt element) = (vector_add_row r, vd ∷ vs ∷ vt ∷ element ∷ [])
-parts (VectorSelect r vd vs vt element) = (vector_select_row r, vd ∷ vs ∷ vt ∷ element ∷ [])
-parts (VectorClip r vd vs vt element) = (vector_clip_row r, vd ∷ vs ∷ vt ∷ element ∷ [])
-parts (VectorMerge vd vs vt element) = (vector_merge_row, vd ∷ vs ∷ vt ∷ element ∷ [])
-parts (VectorLogic r vd vs vt element) = (vector_logic_row r, vd ∷ vs ∷ vt ∷ element ∷ [])
-parts (Lane r vd lane vt element) = (lane_row r, vd ∷ lane ∷ vt ∷ element ∷ [])
+parts (Multiply r fields) = (multiply_row r, vector_values fields)
+parts (Round r fields) = (round_row r, vector_values fields)
+parts (MpegMultiply r fields) = (mpeg_row r, vector_values fields)
+parts (ReadAccumulator fields) = (read_accumulator_row, vector_values fields)
+parts (VectorAdd r fields) = (vector_add_row r, vector_values fields)
+parts (VectorSelect r fields) = (vector_select_row r, vector_values fields)
+parts (VectorClip r fields) = (vector_clip_row r, vector_values fields)
+parts (VectorMerge fields) = (vector_merge_row, vector_values fields)
+parts (VectorLogic r fields) = (vector_logic_row r, vector_values fields)
+parts (Divide r vd lane vt element) = (divide_row r, vd ∷ lane ∷ vt ∷ element ∷ [])
 parts (Idle r) = (idle_row r, [])
-parts (VectorLoad r vt element offset base) = (vector_load_row r, vt ∷ element ∷ offset ∷ base ∷ [])
-parts (VectorStore r vt element offset base) = (vector_store_row r, vt ∷ element ∷ offset ∷ base ∷ [])
+parts (VectorLoad r fields) = (vector_load_row r, vector_memory_values fields)
+parts (VectorStore r fields) = (vector_store_row r, vector_memory_values fields)
 
 -- an instruction that some word means
 abbrev pub IsInstruction : Inst → Type 0

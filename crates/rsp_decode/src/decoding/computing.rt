@@ -2,12 +2,12 @@
 
 ghost use Rattle.std.specs.Prelude.{true, ◌≡◌, ◌*◌, ◌+◌, ◌^◌};
 ghost use Rattle.rsp_decode.specs.Visit.{is_known, visited};
-ghost use Rattle.rsp_decode.specs.Table.{value_at, whole, pick, meaning_of, computing_rows, multiply_row, round_row, mpeg_row, read_accumulator_row, vector_add_row, vector_select_row, vector_clip_row, vector_merge_row, vector_logic_row, lane_row, idle_row};
+ghost use Rattle.rsp_decode.specs.Table.{value_at, whole, pick, meaning_of, computing_rows, multiply_row, round_row, mpeg_row, read_accumulator_row, vector_add_row, vector_select_row, vector_clip_row, vector_merge_row, vector_logic_row, divide_row, idle_row};
 
-use crate::fields::{element, function, lane, vd, vs, vt};
+use crate::fields::{element, function, lane, vd, vector_fields, vt};
 use crate::inst::{
-    IdleRow, LaneRow, MpegRow, MultiplyRow, RoundRow, VectorAddRow, VectorClipRow, VectorLogicRow,
-    VectorSelectRow,
+    DivideRow, IdleRow, MpegRow, MultiplyRow, RoundRow, VectorAddRow, VectorClipRow,
+    VectorLogicRow, VectorSelectRow,
 };
 use crate::visitor::Visitor;
 
@@ -16,7 +16,7 @@ fn multiply<V: Visitor>(word: u32, row: MultiplyRow, visitor: &mut V) -> bool
     ensures known { result ≡ true }
     ensures state { visitor.new ≡ V.after (meaning_of (multiply_row row) word) visitor.old }
 {
-    visitor.multiply(row, vd(word), vs(word), vt(word), element(word));
+    visitor.multiply(row, vector_fields(word));
     true
 }
 
@@ -25,7 +25,7 @@ fn round<V: Visitor>(word: u32, row: RoundRow, visitor: &mut V) -> bool
     ensures known { result ≡ true }
     ensures state { visitor.new ≡ V.after (meaning_of (round_row row) word) visitor.old }
 {
-    visitor.round(row, vd(word), vs(word), vt(word), element(word));
+    visitor.round(row, vector_fields(word));
     true
 }
 
@@ -34,7 +34,7 @@ fn mpeg_multiply<V: Visitor>(word: u32, row: MpegRow, visitor: &mut V) -> bool
     ensures known { result ≡ true }
     ensures state { visitor.new ≡ V.after (meaning_of (mpeg_row row) word) visitor.old }
 {
-    visitor.mpeg_multiply(row, vd(word), vs(word), vt(word), element(word));
+    visitor.mpeg_multiply(row, vector_fields(word));
     true
 }
 
@@ -43,7 +43,7 @@ fn read_accumulator<V: Visitor>(word: u32, visitor: &mut V) -> bool
     ensures known { result ≡ true }
     ensures state { visitor.new ≡ V.after (meaning_of read_accumulator_row word) visitor.old }
 {
-    visitor.read_accumulator(vd(word), vs(word), vt(word), element(word));
+    visitor.read_accumulator(vector_fields(word));
     true
 }
 
@@ -52,7 +52,7 @@ fn vector_add<V: Visitor>(word: u32, row: VectorAddRow, visitor: &mut V) -> bool
     ensures known { result ≡ true }
     ensures state { visitor.new ≡ V.after (meaning_of (vector_add_row row) word) visitor.old }
 {
-    visitor.vector_add(row, vd(word), vs(word), vt(word), element(word));
+    visitor.vector_add(row, vector_fields(word));
     true
 }
 
@@ -61,7 +61,7 @@ fn vector_select<V: Visitor>(word: u32, row: VectorSelectRow, visitor: &mut V) -
     ensures known { result ≡ true }
     ensures state { visitor.new ≡ V.after (meaning_of (vector_select_row row) word) visitor.old }
 {
-    visitor.vector_select(row, vd(word), vs(word), vt(word), element(word));
+    visitor.vector_select(row, vector_fields(word));
     true
 }
 
@@ -70,7 +70,7 @@ fn vector_clip<V: Visitor>(word: u32, row: VectorClipRow, visitor: &mut V) -> bo
     ensures known { result ≡ true }
     ensures state { visitor.new ≡ V.after (meaning_of (vector_clip_row row) word) visitor.old }
 {
-    visitor.vector_clip(row, vd(word), vs(word), vt(word), element(word));
+    visitor.vector_clip(row, vector_fields(word));
     true
 }
 
@@ -79,7 +79,7 @@ fn vector_merge<V: Visitor>(word: u32, visitor: &mut V) -> bool
     ensures known { result ≡ true }
     ensures state { visitor.new ≡ V.after (meaning_of vector_merge_row word) visitor.old }
 {
-    visitor.vector_merge(vd(word), vs(word), vt(word), element(word));
+    visitor.vector_merge(vector_fields(word));
     true
 }
 
@@ -88,16 +88,16 @@ fn vector_logic<V: Visitor>(word: u32, row: VectorLogicRow, visitor: &mut V) -> 
     ensures known { result ≡ true }
     ensures state { visitor.new ≡ V.after (meaning_of (vector_logic_row row) word) visitor.old }
 {
-    visitor.vector_logic(row, vd(word), vs(word), vt(word), element(word));
+    visitor.vector_logic(row, vector_fields(word));
     true
 }
 
 #[inline(always)]
-fn single_lane<V: Visitor>(word: u32, row: LaneRow, visitor: &mut V) -> bool
+fn divide<V: Visitor>(word: u32, row: DivideRow, visitor: &mut V) -> bool
     ensures known { result ≡ true }
-    ensures state { visitor.new ≡ V.after (meaning_of (lane_row row) word) visitor.old }
+    ensures state { visitor.new ≡ V.after (meaning_of (divide_row row) word) visitor.old }
 {
-    visitor.lane(row, vd(word), lane(word), vt(word), element(word));
+    visitor.divide(row, vd(word), lane(word), vt(word), element(word));
     true
 }
 
@@ -152,13 +152,13 @@ pub fn visit_computing<V: Visitor>(word: u32, visitor: &mut V) -> bool
         0x2b => vector_logic(word, VectorLogicRow::Vnor, visitor),
         0x2c => vector_logic(word, VectorLogicRow::Vxor, visitor),
         0x2d => vector_logic(word, VectorLogicRow::Vnxor, visitor),
-        0x30 => single_lane(word, LaneRow::Vrcp, visitor),
-        0x31 => single_lane(word, LaneRow::Vrcpl, visitor),
-        0x32 => single_lane(word, LaneRow::Vrcph, visitor),
-        0x33 => single_lane(word, LaneRow::Vmov, visitor),
-        0x34 => single_lane(word, LaneRow::Vrsq, visitor),
-        0x35 => single_lane(word, LaneRow::Vrsql, visitor),
-        0x36 => single_lane(word, LaneRow::Vrsqh, visitor),
+        0x30 => divide(word, DivideRow::Vrcp, visitor),
+        0x31 => divide(word, DivideRow::Vrcpl, visitor),
+        0x32 => divide(word, DivideRow::Vrcph, visitor),
+        0x33 => divide(word, DivideRow::Vmov, visitor),
+        0x34 => divide(word, DivideRow::Vrsq, visitor),
+        0x35 => divide(word, DivideRow::Vrsql, visitor),
+        0x36 => divide(word, DivideRow::Vrsqh, visitor),
         0x37 => idle(word, IdleRow::Vnop, visitor),
         0x3f => idle(word, IdleRow::Vnull, visitor),
         _ => false,

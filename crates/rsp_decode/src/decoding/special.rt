@@ -4,7 +4,7 @@ ghost use Rattle.std.specs.Prelude.{true, ◌≡◌};
 ghost use Rattle.rsp_decode.specs.Visit.{is_known, visited};
 ghost use Rattle.rsp_decode.specs.Table.{value_at, whole, pick, meaning_of, special_rows, shift_row, shift_by_row, jump_register_row, jump_link_register_row, register_row, break_row};
 
-use crate::fields::{function, rd, rs, rt, shift_amount};
+use crate::fields::{function, rd, register_fields, rs, rt, shift_amount};
 use crate::inst::{RegisterRow, ShiftByRow, ShiftRow};
 use crate::visitor::Visitor;
 
@@ -22,7 +22,7 @@ fn shift_by<V: Visitor>(word: u32, row: ShiftByRow, visitor: &mut V) -> bool
     ensures known { result ≡ true }
     ensures state { visitor.new ≡ V.after (meaning_of (shift_by_row row) word) visitor.old }
 {
-    visitor.shift_by(row, rd(word), rt(word), rs(word));
+    visitor.shift_by(row, register_fields(word));
     true
 }
 
@@ -49,16 +49,16 @@ fn register<V: Visitor>(word: u32, row: RegisterRow, visitor: &mut V) -> bool
     ensures known { result ≡ true }
     ensures state { visitor.new ≡ V.after (meaning_of (register_row row) word) visitor.old }
 {
-    visitor.register(row, rd(word), rs(word), rt(word));
+    visitor.register(row, register_fields(word));
     true
 }
 
 #[inline(always)]
-fn break_off<V: Visitor>(word: u32, visitor: &mut V) -> bool
+fn break_instruction<V: Visitor>(word: u32, visitor: &mut V) -> bool
     ensures known { result ≡ true }
     ensures state { visitor.new ≡ V.after (meaning_of break_row word) visitor.old }
 {
-    visitor.break_off();
+    visitor.break_instruction();
     true
 }
 
@@ -76,7 +76,7 @@ pub fn visit_special<V: Visitor>(word: u32, visitor: &mut V) -> bool
         7 => shift_by(word, ShiftByRow::Srav, visitor),
         8 => jump_register(word, visitor),
         9 => jump_link_register(word, visitor),
-        13 => break_off(word, visitor),
+        13 => break_instruction(word, visitor),
         32 => register(word, RegisterRow::Add, visitor),
         33 => register(word, RegisterRow::Addu, visitor),
         34 => register(word, RegisterRow::Sub, visitor),

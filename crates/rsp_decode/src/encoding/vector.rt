@@ -1,10 +1,10 @@
 // The bits that select the rows of the vector unit.
 
 ghost use Rattle.std.specs.Prelude.{◌≡◌};
-ghost use Rattle.rsp_decode.specs.Table.{move_vector_selector, move_control_selector, multiply_selector, round_selector, mpeg_selector, vector_add_selector, vector_select_selector, vector_clip_selector, vector_logic_selector, lane_selector, idle_selector, vector_load_selector, vector_store_selector};
+ghost use Rattle.rsp_decode.specs.Table.{move_vector_selector, move_control_selector, multiply_selector, round_selector, mpeg_selector, vector_add_selector, vector_select_selector, vector_clip_selector, vector_logic_selector, divide_selector, idle_selector, vector_load_selector, vector_store_selector};
 
 use crate::inst::{
-    IdleRow, LaneRow, MoveRow, MpegRow, MultiplyRow, RoundRow, VectorAddRow, VectorClipRow,
+    DivideRow, IdleRow, MoveRow, MpegRow, MultiplyRow, RoundRow, VectorAddRow, VectorClipRow,
     VectorLoadRow, VectorLogicRow, VectorSelectRow, VectorStoreRow,
 };
 
@@ -12,9 +12,9 @@ const COP2: u32 = 18 << 26;
 
 const COMPUTING: u32 = COP2 | 1 << 25;
 
-const LOAD: u32 = 50 << 26;
+const LWC2: u32 = 50 << 26;
 
-const STORE: u32 = 58 << 26;
+const SWC2: u32 = 58 << 26;
 
 pub const READ_ACCUMULATOR: u32 = COMPUTING | 0x1d;
 
@@ -131,17 +131,17 @@ pub fn vector_logic_value(row: VectorLogicRow) -> u32
 }
 
 #[inline]
-pub fn lane_value(row: LaneRow) -> u32
-    ensures { result ≡ (lane_selector row).value }
+pub fn divide_value(row: DivideRow) -> u32
+    ensures { result ≡ (divide_selector row).value }
 {
     match row {
-        LaneRow::Vrcp => COMPUTING | 0x30,
-        LaneRow::Vrcpl => COMPUTING | 0x31,
-        LaneRow::Vrcph => COMPUTING | 0x32,
-        LaneRow::Vmov => COMPUTING | 0x33,
-        LaneRow::Vrsq => COMPUTING | 0x34,
-        LaneRow::Vrsql => COMPUTING | 0x35,
-        LaneRow::Vrsqh => COMPUTING | 0x36,
+        DivideRow::Vrcp => COMPUTING | 0x30,
+        DivideRow::Vrcpl => COMPUTING | 0x31,
+        DivideRow::Vrcph => COMPUTING | 0x32,
+        DivideRow::Vmov => COMPUTING | 0x33,
+        DivideRow::Vrsq => COMPUTING | 0x34,
+        DivideRow::Vrsql => COMPUTING | 0x35,
+        DivideRow::Vrsqh => COMPUTING | 0x36,
     }
 }
 
@@ -160,17 +160,17 @@ pub fn vector_load_value(row: VectorLoadRow) -> u32
     ensures { result ≡ (vector_load_selector row).value }
 {
     match row {
-        VectorLoadRow::Lbv => LOAD,
-        VectorLoadRow::Lsv => LOAD | 1 << 11,
-        VectorLoadRow::Llv => LOAD | 2 << 11,
-        VectorLoadRow::Ldv => LOAD | 3 << 11,
-        VectorLoadRow::Lqv => LOAD | 4 << 11,
-        VectorLoadRow::Lrv => LOAD | 5 << 11,
-        VectorLoadRow::Lpv => LOAD | 6 << 11,
-        VectorLoadRow::Luv => LOAD | 7 << 11,
-        VectorLoadRow::Lhv => LOAD | 8 << 11,
-        VectorLoadRow::Lfv => LOAD | 9 << 11,
-        VectorLoadRow::Ltv => LOAD | 11 << 11,
+        VectorLoadRow::Lbv => LWC2,
+        VectorLoadRow::Lsv => LWC2 | 1 << 11,
+        VectorLoadRow::Llv => LWC2 | 2 << 11,
+        VectorLoadRow::Ldv => LWC2 | 3 << 11,
+        VectorLoadRow::Lqv => LWC2 | 4 << 11,
+        VectorLoadRow::Lrv => LWC2 | 5 << 11,
+        VectorLoadRow::Lpv => LWC2 | 6 << 11,
+        VectorLoadRow::Luv => LWC2 | 7 << 11,
+        VectorLoadRow::Lhv => LWC2 | 8 << 11,
+        VectorLoadRow::Lfv => LWC2 | 9 << 11,
+        VectorLoadRow::Ltv => LWC2 | 11 << 11,
     }
 }
 
@@ -179,17 +179,17 @@ pub fn vector_store_value(row: VectorStoreRow) -> u32
     ensures { result ≡ (vector_store_selector row).value }
 {
     match row {
-        VectorStoreRow::Sbv => STORE,
-        VectorStoreRow::Ssv => STORE | 1 << 11,
-        VectorStoreRow::Slv => STORE | 2 << 11,
-        VectorStoreRow::Sdv => STORE | 3 << 11,
-        VectorStoreRow::Sqv => STORE | 4 << 11,
-        VectorStoreRow::Srv => STORE | 5 << 11,
-        VectorStoreRow::Spv => STORE | 6 << 11,
-        VectorStoreRow::Suv => STORE | 7 << 11,
-        VectorStoreRow::Shv => STORE | 8 << 11,
-        VectorStoreRow::Sfv => STORE | 9 << 11,
-        VectorStoreRow::Swv => STORE | 10 << 11,
-        VectorStoreRow::Stv => STORE | 11 << 11,
+        VectorStoreRow::Sbv => SWC2,
+        VectorStoreRow::Ssv => SWC2 | 1 << 11,
+        VectorStoreRow::Slv => SWC2 | 2 << 11,
+        VectorStoreRow::Sdv => SWC2 | 3 << 11,
+        VectorStoreRow::Sqv => SWC2 | 4 << 11,
+        VectorStoreRow::Srv => SWC2 | 5 << 11,
+        VectorStoreRow::Spv => SWC2 | 6 << 11,
+        VectorStoreRow::Suv => SWC2 | 7 << 11,
+        VectorStoreRow::Shv => SWC2 | 8 << 11,
+        VectorStoreRow::Sfv => SWC2 | 9 << 11,
+        VectorStoreRow::Swv => SWC2 | 10 << 11,
+        VectorStoreRow::Stv => SWC2 | 11 << 11,
     }
 }

@@ -3,7 +3,7 @@ use Rattle.std.proofs.lemmas.Nat.{and_mask}
 use Rattle.std.proofs.lemmas.Bool.Decides.{nat_tests}
 use Rattle.rsp_decode.specs.declared.inst.Inst.{Inst}
 use Rattle.rsp_decode.specs.Visit.{is_known, visited}
-use Rattle.rsp_decode.proofs.Keys.{special_is, regimm_is, cop0_is, moves_is, computing_is, plain_is, load_is, store_is}
+use Rattle.rsp_decode.proofs.Keys.{special_is, regimm_is, cop0_is, cop2_is, computing_is, plain_is, lwc2_is, swc2_is}
 use Rattle.rsp_decode.proofs.decoding.visit.Goals as goal
 
 known_by : {b : Bool} {o p : Option Inst} → b ≡ is_known p → o ≡ p → b ≡ is_known o
@@ -30,11 +30,11 @@ returns-in-1-clause-state g c =
 
 pub returns-in-16-clause-known : goal.returns-in-16-clause-known
 returns-in-16-clause-known g c =
-    known_by c.visit_sp_move.ensures.known (cop0_is c.args.word (sym c.opcode.ensures ∙ c.in-16.is))
+    known_by c.visit_cop0.ensures.known (cop0_is c.args.word (sym c.opcode.ensures ∙ c.in-16.is))
 
 pub returns-in-16-clause-state : goal.returns-in-16-clause-state
 returns-in-16-clause-state g c =
-    state_by g.V.Visitor.after c.args.visitor.now c.visit_sp_move.ensures.state (cop0_is c.args.word (sym c.opcode.ensures ∙ c.in-16.is))
+    state_by g.V.Visitor.after c.args.visitor.now c.visit_cop0.ensures.state (cop0_is c.args.word (sym c.opcode.ensures ∙ c.in-16.is))
 
 pub returns-then-word-eq1-clause-known : goal.returns-then-word-eq1-clause-known
 returns-then-word-eq1-clause-known g c =
@@ -49,28 +49,28 @@ returns-then-word-eq1-clause-state g c =
 pub returns-else-word-eq1-clause-known : goal.returns-else-word-eq1-clause-known
 returns-else-word-eq1-clause-known g c =
     let bit = and_mask (c.args.word / 2 ^ 25) 1 in
-    known_by c.visit_vector_move.ensures.known (moves_is c.args.word (sym c.opcode.ensures ∙ c.in-18.is) (omega arith))
+    known_by c.visit_cop2.ensures.known (cop2_is c.args.word (sym c.opcode.ensures ∙ c.in-18.is) (omega arith))
 
 pub returns-else-word-eq1-clause-state : goal.returns-else-word-eq1-clause-state
 returns-else-word-eq1-clause-state g c =
     let bit = and_mask (c.args.word / 2 ^ 25) 1 in
-    state_by g.V.Visitor.after c.args.visitor.now c.visit_vector_move.ensures.state (moves_is c.args.word (sym c.opcode.ensures ∙ c.in-18.is) (omega arith))
+    state_by g.V.Visitor.after c.args.visitor.now c.visit_cop2.ensures.state (cop2_is c.args.word (sym c.opcode.ensures ∙ c.in-18.is) (omega arith))
 
 pub returns-in-50-clause-known : goal.returns-in-50-clause-known
 returns-in-50-clause-known g c =
-    known_by c.visit_vector_load.ensures.known (load_is c.args.word (sym c.opcode.ensures ∙ c.in-50.is))
+    known_by c.visit_lwc2.ensures.known (lwc2_is c.args.word (sym c.opcode.ensures ∙ c.in-50.is))
 
 pub returns-in-50-clause-state : goal.returns-in-50-clause-state
 returns-in-50-clause-state g c =
-    state_by g.V.Visitor.after c.args.visitor.now c.visit_vector_load.ensures.state (load_is c.args.word (sym c.opcode.ensures ∙ c.in-50.is))
+    state_by g.V.Visitor.after c.args.visitor.now c.visit_lwc2.ensures.state (lwc2_is c.args.word (sym c.opcode.ensures ∙ c.in-50.is))
 
 pub returns-in-58-clause-known : goal.returns-in-58-clause-known
 returns-in-58-clause-known g c =
-    known_by c.visit_vector_store.ensures.known (store_is c.args.word (sym c.opcode.ensures ∙ c.in-58.is))
+    known_by c.visit_swc2.ensures.known (swc2_is c.args.word (sym c.opcode.ensures ∙ c.in-58.is))
 
 pub returns-in-58-clause-state : goal.returns-in-58-clause-state
 returns-in-58-clause-state g c =
-    state_by g.V.Visitor.after c.args.visitor.now c.visit_vector_store.ensures.state (store_is c.args.word (sym c.opcode.ensures ∙ c.in-58.is))
+    state_by g.V.Visitor.after c.args.visitor.now c.visit_swc2.ensures.state (swc2_is c.args.word (sym c.opcode.ensures ∙ c.in-58.is))
 
 pub returns-in_default-clause-known : goal.returns-in_default-clause-known
 returns-in_default-clause-known g c =

@@ -1,21 +1,12 @@
-// The moves from and to the coprocessors, which go by rs.
+// The rows of opcode 18 without bit 25, the moves from and to the vector unit, which go by rs.
 
 ghost use Rattle.std.specs.Prelude.{true, ◌≡◌, ◌*◌, ◌+◌, ◌^◌};
 ghost use Rattle.rsp_decode.specs.Visit.{is_known, visited};
-ghost use Rattle.rsp_decode.specs.Table.{value_at, whole, pick, meaning_of, cop0_rows, cop2_rows, move_sp_row, move_vector_row, move_control_row};
+ghost use Rattle.rsp_decode.specs.Table.{value_at, whole, pick, meaning_of, cop2_rows, move_vector_row, move_control_row};
 
-use crate::fields::{byte_element, control, rd, rs, rt, sp_register};
+use crate::fields::{byte_element, control, rd, rs, rt};
 use crate::inst::MoveRow;
 use crate::visitor::Visitor;
-
-#[inline(always)]
-fn move_sp<V: Visitor>(word: u32, row: MoveRow, visitor: &mut V) -> bool
-    ensures known { result ≡ true }
-    ensures state { visitor.new ≡ V.after (meaning_of (move_sp_row row) word) visitor.old }
-{
-    visitor.move_sp(row, rt(word), sp_register(word));
-    true
-}
 
 #[inline(always)]
 fn move_vector<V: Visitor>(word: u32, row: MoveRow, visitor: &mut V) -> bool
@@ -36,19 +27,7 @@ fn move_control<V: Visitor>(word: u32, row: MoveRow, visitor: &mut V) -> bool
 }
 
 #[inline(always)]
-pub fn visit_sp_move<V: Visitor>(word: u32, visitor: &mut V) -> bool
-    ensures known { result ≡ is_known (pick cop0_rows (16 * 2 ^ 26 + value_at word (whole 21 5) * 2 ^ 21) word) }
-    ensures state { visitor.new ≡ visited V.after (pick cop0_rows (16 * 2 ^ 26 + value_at word (whole 21 5) * 2 ^ 21) word) visitor.old }
-{
-    match rs(word) {
-        0 => move_sp(word, MoveRow::From, visitor),
-        4 => move_sp(word, MoveRow::To, visitor),
-        _ => false,
-    }
-}
-
-#[inline(always)]
-pub fn visit_vector_move<V: Visitor>(word: u32, visitor: &mut V) -> bool
+pub fn visit_cop2<V: Visitor>(word: u32, visitor: &mut V) -> bool
     ensures known { result ≡ is_known (pick cop2_rows (18 * 2 ^ 26 + value_at word (whole 21 5) * 2 ^ 21) word) }
     ensures state { visitor.new ≡ visited V.after (pick cop2_rows (18 * 2 ^ 26 + value_at word (whole 21 5) * 2 ^ 21) word) visitor.old }
 {

@@ -1,22 +1,14 @@
-// The rows with an opcode of their own, and those of opcode 1, which go by rt.
+// The rows with an opcode of their own.
 
 ghost use Rattle.std.specs.Prelude.{true, ◌≡◌, ◌*◌, ◌+◌, ◌^◌};
 ghost use Rattle.rsp_decode.specs.declared.inst.Inst.{Inst};
 ghost use Rattle.rsp_decode.specs.Visit.{is_known, visited};
-ghost use Rattle.rsp_decode.specs.Table.{value_at, whole, pick, meaning_of, regimm_rows, opcode_rows, branch_sign_row, branch_equal_row, jump_row, load_upper_row, load_row, store_row};
+ghost use Rattle.rsp_decode.specs.Table.{value_at, whole, pick, meaning_of, opcode_rows, branch_equal_row, jump_row, load_upper_row, load_row, store_row};
 
-use crate::fields::{immediate, opcode, rs, rt, target};
+use crate::decoding::regimm::branch_sign;
+use crate::fields::{immediate, opcode, rs, rt, scalar_memory_fields, target};
 use crate::inst::{EqualRow, ImmediateRow, JumpRow, LoadRow, SignRow, StoreRow};
 use crate::visitor::Visitor;
-
-#[inline(always)]
-fn branch_sign<V: Visitor>(word: u32, row: SignRow, visitor: &mut V) -> bool
-    ensures known { result ≡ true }
-    ensures state { visitor.new ≡ V.after (meaning_of (branch_sign_row row) word) visitor.old }
-{
-    visitor.branch_sign(row, rs(word), immediate(word));
-    true
-}
 
 #[inline(always)]
 fn branch_equal<V: Visitor>(word: u32, row: EqualRow, visitor: &mut V) -> bool
@@ -59,7 +51,7 @@ fn load<V: Visitor>(word: u32, row: LoadRow, visitor: &mut V) -> bool
     ensures known { result ≡ true }
     ensures state { visitor.new ≡ V.after (meaning_of (load_row row) word) visitor.old }
 {
-    visitor.load(row, rt(word), immediate(word), rs(word));
+    visitor.load(row, scalar_memory_fields(word));
     true
 }
 
@@ -68,22 +60,8 @@ fn store<V: Visitor>(word: u32, row: StoreRow, visitor: &mut V) -> bool
     ensures known { result ≡ true }
     ensures state { visitor.new ≡ V.after (meaning_of (store_row row) word) visitor.old }
 {
-    visitor.store(row, rt(word), immediate(word), rs(word));
+    visitor.store(row, scalar_memory_fields(word));
     true
-}
-
-#[inline(always)]
-pub fn visit_regimm<V: Visitor>(word: u32, visitor: &mut V) -> bool
-    ensures known { result ≡ is_known (pick regimm_rows (2 ^ 26 + value_at word (whole 16 5) * 2 ^ 16) word) }
-    ensures state { visitor.new ≡ visited V.after (pick regimm_rows (2 ^ 26 + value_at word (whole 16 5) * 2 ^ 16) word) visitor.old }
-{
-    match rt(word) {
-        0 => branch_sign(word, SignRow::Bltz, visitor),
-        1 => branch_sign(word, SignRow::Bgez, visitor),
-        16 => branch_sign(word, SignRow::Bltzal, visitor),
-        17 => branch_sign(word, SignRow::Bgezal, visitor),
-        _ => false,
-    }
 }
 
 #[inline(always)]

@@ -1,0 +1,50 @@
+-- Fields that travel together: from their list in the order of a row's text, and back.
+use Rattle.std.specs.Prelude.{ℕ, ◌<◌, List, [], ◌∷◌, slice_index}
+use Rattle.rsp_decode.specs.declared.operands.RegisterFields.{RegisterFields}
+use Rattle.rsp_decode.specs.declared.operands.ScalarMemoryFields.{ScalarMemoryFields}
+use Rattle.rsp_decode.specs.declared.operands.VectorFields.{VectorFields}
+use Rattle.rsp_decode.specs.declared.operands.VectorMemoryFields.{VectorMemoryFields}
+use Rattle.rsp_decode.specs.Table.Places.{value_at, whole}
+
+-- $d, $s, $t
+abbrev pub register_fields : List ℕ → RegisterFields
+register_fields fs = record { rd = slice_index fs 0; rs = slice_index fs 1; rt = slice_index fs 2 }
+
+abbrev pub register_values : RegisterFields → List ℕ
+register_values f = f.rd ∷ f.rs ∷ f.rt ∷ []
+
+-- $d, $t, $s
+abbrev pub shift_by_fields : List ℕ → RegisterFields
+shift_by_fields fs = record { rd = slice_index fs 0; rs = slice_index fs 2; rt = slice_index fs 1 }
+
+abbrev pub shift_by_values : RegisterFields → List ℕ
+shift_by_values f = f.rd ∷ f.rt ∷ f.rs ∷ []
+
+-- $t, offset($base)
+abbrev pub scalar_memory_fields : List ℕ → ScalarMemoryFields
+scalar_memory_fields fs = record { rt = slice_index fs 0; offset = slice_index fs 1; base = slice_index fs 2 }
+
+abbrev pub scalar_memory_values : ScalarMemoryFields → List ℕ
+scalar_memory_values f = f.rt ∷ f.offset ∷ f.base ∷ []
+
+-- $vD, $vS, $vT[e]
+abbrev pub vector_fields : List ℕ → VectorFields
+vector_fields fs = record { vd = slice_index fs 0; vs = slice_index fs 1; vt = slice_index fs 2; element = slice_index fs 3 }
+
+abbrev pub vector_values : VectorFields → List ℕ
+vector_values f = f.vd ∷ f.vs ∷ f.vt ∷ f.element ∷ []
+
+-- the ranges of these
+abbrev pub IsVectorFields : VectorFields → Type 0
+IsVectorFields f = (f.vd < 32) × (f.vs < 32) × (f.vt < 32) × (f.element < 16)
+
+-- $vT[e], offset($base)
+abbrev pub vector_memory_fields : List ℕ → VectorMemoryFields
+vector_memory_fields fs = record { vt = slice_index fs 0; element = slice_index fs 1; offset = slice_index fs 2; base = slice_index fs 3 }
+
+abbrev pub vector_memory_values : VectorMemoryFields → List ℕ
+vector_memory_values f = f.vt ∷ f.element ∷ f.offset ∷ f.base ∷ []
+
+-- these as they stand in a word, whatever element the row wants
+abbrev pub vector_memory_in : ℕ → VectorMemoryFields
+vector_memory_in w = record { vt = value_at w (whole 16 5); element = value_at w (whole 7 4); offset = value_at w (whole 0 7); base = value_at w (whole 21 5) }

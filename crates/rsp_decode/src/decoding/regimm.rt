@@ -1,0 +1,32 @@
+// The rows of opcode 1, which go by rt.
+
+ghost use Rattle.std.specs.Prelude.{true, ◌≡◌, ◌*◌, ◌+◌, ◌^◌};
+ghost use Rattle.rsp_decode.specs.Visit.{is_known, visited};
+ghost use Rattle.rsp_decode.specs.Table.{value_at, whole, pick, meaning_of, regimm_rows, branch_sign_row};
+
+use crate::fields::{immediate, rs, rt};
+use crate::inst::SignRow;
+use crate::visitor::Visitor;
+
+#[inline(always)]
+pub fn branch_sign<V: Visitor>(word: u32, row: SignRow, visitor: &mut V) -> bool
+    ensures known { result ≡ true }
+    ensures state { visitor.new ≡ V.after (meaning_of (branch_sign_row row) word) visitor.old }
+{
+    visitor.branch_sign(row, rs(word), immediate(word));
+    true
+}
+
+#[inline(always)]
+pub fn visit_regimm<V: Visitor>(word: u32, visitor: &mut V) -> bool
+    ensures known { result ≡ is_known (pick regimm_rows (2 ^ 26 + value_at word (whole 16 5) * 2 ^ 16) word) }
+    ensures state { visitor.new ≡ visited V.after (pick regimm_rows (2 ^ 26 + value_at word (whole 16 5) * 2 ^ 16) word) visitor.old }
+{
+    match rt(word) {
+        0 => branch_sign(word, SignRow::Bltz, visitor),
+        1 => branch_sign(word, SignRow::Bgez, visitor),
+        16 => branch_sign(word, SignRow::Bltzal, visitor),
+        17 => branch_sign(word, SignRow::Bgezal, visitor),
+        _ => false,
+    }
+}

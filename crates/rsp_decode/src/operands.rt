@@ -1,0 +1,49 @@
+// Fields that travel together: the operands of rows that share the form of their text.
+
+/// The fields of `$vD, $vS, $vT[e]`.
+#[derive(Clone, Copy, PartialEq, Eq)]
+pub struct VectorFields {
+    /// The vector register that is written, below 32.
+    pub vd: u8,
+    /// The first vector register that is read, below 32.
+    pub vs: u8,
+    /// The second vector register that is read, below 32.
+    pub vt: u8,
+    /// Which lanes of the second one are taken, below 16.
+    pub element: u8,
+}
+
+/// The fields of `$vT[e], offset($base)`.
+#[derive(Clone, Copy, PartialEq, Eq)]
+pub struct VectorMemoryFields {
+    /// The vector register, below 32.
+    pub vt: u8,
+    /// The byte of the register at which the transfer begins, below 16; 0 or 8 of `lfv` and `sfv`.
+    pub element: u8,
+    /// The word's 7 bits, below 128, as yet without a sign. The row's scale multiplies them once the sign is taken.
+    pub offset: u8,
+    /// The scalar register that the address is counted from, below 32.
+    pub base: u8,
+}
+
+/// The fields of `$t, offset($base)`.
+#[derive(Clone, Copy, PartialEq, Eq)]
+pub struct ScalarMemoryFields {
+    /// The scalar register that is loaded or stored, below 32.
+    pub rt: u8,
+    /// The word's 16 bits, as yet without a sign.
+    pub offset: u16,
+    /// The scalar register that the address is counted from, below 32.
+    pub base: u8,
+}
+
+/// The fields of `$d, $s, $t`, and of `$d, $t, $s`.
+#[derive(Clone, Copy, PartialEq, Eq)]
+pub struct RegisterFields {
+    /// The scalar register that is written, below 32.
+    pub rd: u8,
+    /// The scalar register that bits 25 to 21 name, below 32.
+    pub rs: u8,
+    /// The scalar register that bits 20 to 16 name, below 32.
+    pub rt: u8,
+}
