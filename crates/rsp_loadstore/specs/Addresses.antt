@@ -15,6 +15,6 @@ displaced base offset scale = unsigned_abs (int_rem_euclid (pos base +ℤ (signe
 
 -- the address, by the value of the base register; for another instruction that value
 unfoldable pub transfer_address : Inst → ℕ → ℕ
-transfer_address (VectorLoad row vt element offset base) value = displaced value offset (vector_load_scale row)
-transfer_address (VectorStore row vt element offset base) value = displaced value offset (vector_store_scale row)
+transfer_address (VectorLoad row f) value = displaced value f.offset (vector_load_scale row)
+transfer_address (VectorStore row f) value = displaced value f.offset (vector_store_scale row)
 transfer_address _ value = value

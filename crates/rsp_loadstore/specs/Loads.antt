@@ -67,5 +67,5 @@ IsLoadElement _ e = Unit {0}
 
 -- the registers after a vector load at the address a; another instruction changes none
 unfoldable pub loaded_file : Inst → ℕ → List ℕ → List (List ℕ) → List (List ℕ)
-loaded_file (VectorLoad row vt element offset base) a memory file = after_load memory file (load_pairs row vt element a)
+loaded_file (VectorLoad row f) a memory file = after_load memory file (load_pairs row f.vt f.element a)
 loaded_file _ a memory file = file

@@ -84,5 +84,5 @@ IsStoreElement _ e = Unit {0}
 
 -- the memory after a vector store at the address a; another instruction changes nothing
 unfoldable pub stored_memory : Inst → ℕ → List (List ℕ) → List ℕ → List ℕ
-stored_memory (VectorStore row vt element offset base) a file memory = after_store file memory (store_pairs row vt element a)
+stored_memory (VectorStore row f) a file memory = after_store file memory (store_pairs row f.vt f.element a)
 stored_memory _ a file memory = memory

@@ -12,8 +12,8 @@ pub fn address(inst: &Inst, base: u32) -> u32
     ensures { result ≡ transfer_address inst.now base }
 {
     match *inst {
-        Inst::VectorLoad { row, offset, .. } => displaced(base, offset, load_scale(row)),
-        Inst::VectorStore { row, offset, .. } => displaced(base, offset, store_scale(row)),
+        Inst::VectorLoad { row, fields } => displaced(base, fields.offset, load_scale(row)),
+        Inst::VectorStore { row, fields } => displaced(base, fields.offset, store_scale(row)),
         _ => base,
     }
 }

@@ -15,14 +15,8 @@ pub fn load(inst: &Inst, a: u32, memory: &SpMem, file: &mut VFile)
     requires { IsInstruction inst.now }
     ensures { file.new ≡ loaded_file inst.now a memory.now file.old }
 {
-    if let Inst::VectorLoad {
-        row,
-        vt,
-        element,
-        ..
-    } = *inst
-    {
-        load_row(row, vt, element as usize, a, memory, file);
+    if let Inst::VectorLoad { row, fields } = *inst {
+        load_row(row, fields.vt, fields.element as usize, a, memory, file);
     }
 }
 

@@ -17,14 +17,8 @@ pub fn store(inst: &Inst, a: u32, file: &VFile, memory: &mut SpMem)
     requires { IsInstruction inst.now }
     ensures { memory.new ≡ stored_memory inst.now a file.now memory.old }
 {
-    if let Inst::VectorStore {
-        row,
-        vt,
-        element,
-        ..
-    } = *inst
-    {
-        store_row(row, vt, element as usize, a, file, memory);
+    if let Inst::VectorStore { row, fields } = *inst {
+        store_row(row, fields.vt, fields.element as usize, a, file, memory);
     }
 }
 

@@ -86,8 +86,8 @@ immediate_result Xori s imm = bit_xor s imm
 -- the registers after a row that computes; other rows change none
 abbrev pub computed : Inst → List ℕ → List ℕ
 computed (Shift row rd rt amount) r = with_register r rd (shift_result row (register r rt) amount)
-computed (ShiftBy row rd rt rs) r = with_register r rd (shift_by_result row (register r rt) (register r rs))
-computed (Register row rd rs rt) r = with_register r rd (register_result row (register r rs) (register r rt))
+computed (ShiftBy row f) r = with_register r f.rd (shift_by_result row (register r f.rt) (register r f.rs))
+computed (Register row f) r = with_register r f.rd (register_result row (register r f.rs) (register r f.rt))
 computed (Immediate row rt rs imm) r = with_register r rt (immediate_result row (register r rs) imm)
 computed (LoadUpper rt imm) r = with_register r rt (imm * 65536)
 computed _ r = r
@@ -107,7 +107,7 @@ load_result Lwu memory a = word_at memory a
 
 -- the registers after a load; other rows change none
 abbrev pub after_load : Inst → List ℕ → List ℕ → List ℕ
-after_load (Load row rt offset base) r memory = with_register r rt (load_result row memory (address r base offset))
+after_load (Load row f) r memory = with_register r f.rt (load_result row memory (address r f.base f.offset))
 after_load _ r memory = r
 
 -- the memory after a store of the low 1, 2 or 4 bytes of t
@@ -118,7 +118,7 @@ store_result Sw memory a t = with_word memory a t
 
 -- the memory after a store; other rows leave it
 abbrev pub after_store : Inst → List ℕ → List ℕ → List ℕ
-after_store (Store row rt offset base) r memory = store_result row memory (address r base offset) (register r rt)
+after_store (Store row f) r memory = store_result row memory (address r f.base f.offset) (register r f.rt)
 after_store _ r memory = memory
 
 -- the tests of the branches

@@ -49,14 +49,9 @@ pub fn load(inst: &Inst, regs: &mut Regs, memory: &SpMem)
     requires { IsInstruction inst.now }
     ensures { regs.new ≡ after_load inst.now regs.old memory.now }
 {
-    if let Inst::Load {
-        row,
-        rt,
-        offset,
-        base,
-    } = *inst
-    {
-        regs.set(rt, loaded(row, memory, address(regs, base, offset)));
+    if let Inst::Load { row, fields } = *inst {
+        let a = address(regs, fields.base, fields.offset);
+        regs.set(fields.rt, loaded(row, memory, a));
     }
 }
 
@@ -67,13 +62,8 @@ pub fn store(inst: &Inst, regs: &Regs, memory: &mut SpMem)
     requires { IsInstruction inst.now }
     ensures { memory.new ≡ after_store inst.now regs.now memory.old }
 {
-    if let Inst::Store {
-        row,
-        rt,
-        offset,
-        base,
-    } = *inst
-    {
-        write(row, memory, address(regs, base, offset), regs.get(rt));
+    if let Inst::Store { row, fields } = *inst {
+        let a = address(regs, fields.base, fields.offset);
+        write(row, memory, a, regs.get(fields.rt));
     }
 }

@@ -95,12 +95,14 @@ pub fn alu(inst: &Inst, regs: &mut Regs)
             rt,
             amount,
         } => regs.set(rd, shift(row, regs.get(rt), amount)),
-        Inst::ShiftBy { row, rd, rt, rs } => {
-            regs.set(rd, shift_by(row, regs.get(rt), regs.get(rs)))
-        }
-        Inst::Register { row, rd, rs, rt } => {
-            regs.set(rd, register(row, regs.get(rs), regs.get(rt)))
-        }
+        Inst::ShiftBy { row, fields } => regs.set(
+            fields.rd,
+            shift_by(row, regs.get(fields.rt), regs.get(fields.rs)),
+        ),
+        Inst::Register { row, fields } => regs.set(
+            fields.rd,
+            register(row, regs.get(fields.rs), regs.get(fields.rt)),
+        ),
         Inst::Immediate { row, rt, rs, imm } => regs.set(rt, immediate(row, regs.get(rs), imm)),
         Inst::LoadUpper { rt, imm } => regs.set(rt, (imm as u32) << 16),
         _ => {}

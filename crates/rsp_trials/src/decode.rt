@@ -1,6 +1,7 @@
 use rsp_decode::{
-    Control, EqualRow, ImmediateRow, Inst, JumpRow, LaneRow, MoveRow, MpegRow, RoundRow, ShiftRow,
-    SignRow, VectorAddRow, VectorLoadRow, VectorStoreRow, decode, encode, is_canonical,
+    Control, DivideRow, EqualRow, ImmediateRow, Inst, JumpRow, MoveRow, MpegRow, RoundRow,
+    ShiftRow, SignRow, VectorAddRow, VectorFields, VectorLoadRow, VectorMemoryFields,
+    VectorStoreRow, decode, encode, is_canonical,
 };
 
 // Canonical words with their text as written by hand.
@@ -121,10 +122,12 @@ const LISTING: [(u32, Inst); 22] = [
         0x4a03_1043,
         Inst::MpegMultiply {
             row: MpegRow::Vmulq,
-            vd: 1,
-            vs: 2,
-            vt: 3,
-            element: 0,
+            fields: VectorFields {
+                vd: 1,
+                vs: 2,
+                vt: 3,
+                element: 0,
+            },
         },
     ),
     // vrndp $v10, $v21, $v1[2h]
@@ -132,10 +135,12 @@ const LISTING: [(u32, Inst); 22] = [
         0x4ac1_aa82,
         Inst::Round {
             row: RoundRow::Vrndp,
-            vd: 10,
-            vs: 21,
-            vt: 1,
-            element: 6,
+            fields: VectorFields {
+                vd: 10,
+                vs: 21,
+                vt: 1,
+                element: 6,
+            },
         },
     ),
     // vrndn $v4, $v15, $v26[2h]
@@ -143,10 +148,12 @@ const LISTING: [(u32, Inst); 22] = [
         0x4ada_790a,
         Inst::Round {
             row: RoundRow::Vrndn,
-            vd: 4,
-            vs: 15,
-            vt: 26,
-            element: 6,
+            fields: VectorFields {
+                vd: 4,
+                vs: 15,
+                vt: 26,
+                element: 6,
+            },
         },
     ),
     // vmacq $v11, $v22, $v2[1]
@@ -154,10 +161,12 @@ const LISTING: [(u32, Inst); 22] = [
         0x4b22_b2cb,
         Inst::MpegMultiply {
             row: MpegRow::Vmacq,
-            vd: 11,
-            vs: 22,
-            vt: 2,
-            element: 9,
+            fields: VectorFields {
+                vd: 11,
+                vs: 22,
+                vt: 2,
+                element: 9,
+            },
         },
     ),
     // vadd $v1, $v2, $v3[2h]
@@ -165,17 +174,19 @@ const LISTING: [(u32, Inst); 22] = [
         0x4ac3_1050,
         Inst::VectorAdd {
             row: VectorAddRow::Vadd,
-            vd: 1,
-            vs: 2,
-            vt: 3,
-            element: 6,
+            fields: VectorFields {
+                vd: 1,
+                vs: 2,
+                vt: 3,
+                element: 6,
+            },
         },
     ),
     // vrcp $v1[3], $v2[5]
     (
         0x4ba2_1870,
-        Inst::Lane {
-            row: LaneRow::Vrcp,
+        Inst::Divide {
+            row: DivideRow::Vrcp,
             vd: 1,
             lane: 3,
             vt: 2,
@@ -187,10 +198,12 @@ const LISTING: [(u32, Inst); 22] = [
         0xc824_2001,
         Inst::VectorLoad {
             row: VectorLoadRow::Lqv,
-            vt: 4,
-            element: 0,
-            offset: 1,
-            base: 1,
+            fields: VectorMemoryFields {
+                vt: 4,
+                element: 0,
+                offset: 1,
+                base: 1,
+            },
         },
     ),
     // sdv $v4[8], -8($2)
@@ -198,10 +211,12 @@ const LISTING: [(u32, Inst); 22] = [
         0xe844_1c7f,
         Inst::VectorStore {
             row: VectorStoreRow::Sdv,
-            vt: 4,
-            element: 8,
-            offset: 0x7f,
-            base: 2,
+            fields: VectorMemoryFields {
+                vt: 4,
+                element: 8,
+                offset: 0x7f,
+                base: 2,
+            },
         },
     ),
 ];
