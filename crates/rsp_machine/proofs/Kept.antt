@@ -2,7 +2,7 @@
 use Rattle.std.proofs.Common.{◌≡◌, ℕ, ℤ, ◌-◌, ◌%◌, ◌==◌, ◌||◌, Bool, true, false, not, List, refl, sym, ap, subst, Option, Some, None}
 use Rattle.std.specs.Prelude.{if◌then◌else◌}
 use Rattle.rsp_decode.specs.declared.inst.Inst.{Inst}
-use Rattle.rsp_decode.specs.declared.inst.Inst.TheVariants.{Shift, ShiftBy, JumpRegister, JumpLinkRegister, Break, Register, BranchSign, BranchEqual, Jump, Immediate, LoadUpper, Load, Store, MoveSp, MoveVector, MoveControl, Multiply, Round, MpegMultiply, ReadAccumulator, VectorAdd, VectorSelect, VectorClip, VectorMerge, VectorLogic, Lane, Idle, VectorLoad, VectorStore}
+use Rattle.rsp_decode.specs.declared.inst.Inst.TheVariants.{Shift, ShiftBy, JumpRegister, JumpLinkRegister, Break, Register, BranchSign, BranchEqual, Jump, Immediate, LoadUpper, Load, Store, MoveSp, MoveVector, MoveControl, Multiply, Round, MpegMultiply, ReadAccumulator, VectorAdd, VectorSelect, VectorClip, VectorMerge, VectorLogic, Divide, Idle, VectorLoad, VectorStore}
 use Rattle.rsp_decode.specs.declared.inst.MoveRow.{MoveRow}
 use Rattle.rsp_decode.specs.declared.inst.MoveRow.TheVariants.{From, To}
 use Rattle.rsp_decode.specs.declared.inst.SignRow.{SignRow}
@@ -27,11 +27,11 @@ use Rattle.rsp_loadstore.specs.Moves.{moved_file}
 use Rattle.rsp_regs.specs.Sp.{Sp, after_step, after_read, written, bank_written, image_written, is_imem}
 use Rattle.rsp_machine.specs.State.{State, advanced}
 use Rattle.rsp_machine.specs.Vector.{multiplies, rounds, multiplies_mpeg, reads_accumulator, ruled, divides, loads_vector, stores_vector, moves_vector, moves_control}
-use Rattle.rsp_machine.specs.Step.{computes, loads, stores, jumps, breaks, moves_sp, executed, singled, step_by, step_of}
+use Rattle.rsp_machine.specs.Step.{computes, loads, stores, jumps, break_instruction, moves_sp, executed, singled, step_by, step_of}
 use Rattle.rsp_machine.specs.Host.{register_written}
 use Rattle.rsp_machine.specs.declared.step.StepEnd.TheVariants.{Done, Halted, Reserved}
-use Rattle.rsp_machine.specs.Saved.{Saved, kept, kept_part, saved, restored, part_of, vd_in, vd_at, undone, starts_dma, is_length, sign_part, jump_part, loaded_part, told_of, may_store, group_at, with_group, window_of, is_back_by, kept_by, can_undo, slot_after, is_back}
-use Rattle.rsp_machine.specs.declared.part.Part.TheVariants as of
+use Rattle.rsp_machine.specs.Saved.{Saved, kept, kept_change, saved, restored, change_of, vd_in, vd_at, undone, starts_dma, is_length, sign_change, jump_change, loaded_change, told_of, may_store, group_at, with_group, window_of, is_back_by, kept_by, can_undo, slot_after, is_back}
+use Rattle.rsp_machine.specs.declared.change.Change.TheVariants as of
 use Rattle.rsp_machine.proofs.Undoing.{register-back, vector-back, store-back, stored-back}
 use Rattle.rsp_machine.proofs.Loading.{loaded-back, put_back}
 use Rattle.rsp_machine.proofs.Flagging.{AreFlags, sum-back, merge-back, choice-back, logic-back}
@@ -55,25 +55,25 @@ memory_same s m h e = same_state s _ _ _ _ _ m _ _ h refl refl refl refl refl e 
 
 -- a row that changes a scalar register
 register_kept : (n v p : ℕ) (s : State) (r : Saved) → s.sp.halted ≡ false
-    → undone (kept_part (of.Register n) s r) (singled (record s { pc = s.npc; npc = p; registers = with_register s.registers n v })) ≡ s
-unfolding undone kept_part saved restored after_step
+    → undone (kept_change (of.Register n) s r) (singled (record s { pc = s.npc; npc = p; registers = with_register s.registers n v })) ≡ s
+unfolding undone kept_change saved restored after_step
 register_kept n v p s r h = registers_same s _ h (register-back s.registers n v)
 
 -- a row that changes the places alone
 places_kept : (p : ℕ) (s : State) (r : Saved) → s.sp.halted ≡ false
-    → undone (kept_part of.Places s r) (singled (record s { pc = s.npc; npc = p })) ≡ s
-unfolding undone kept_part saved restored after_step
+    → undone (kept_change of.Places s r) (singled (record s { pc = s.npc; npc = p })) ≡ s
+unfolding undone kept_change saved restored after_step
 places_kept p s r h = registers_same s _ h refl
 
 bytes_kept : (a : ℕ) (m : List ℕ) (s : State) (r : Saved) → s.sp.halted ≡ false → with_bytes m a (bytes_at s.dmem a 16) ≡ s.dmem
-    → undone (kept_part (of.Bytes a) s r) (singled (advanced (record s { dmem = m }))) ≡ s
-unfolding undone kept_part saved restored after_step
+    → undone (kept_change (of.Bytes a) s r) (singled (advanced (record s { dmem = m }))) ≡ s
+unfolding undone kept_change saved restored after_step
 bytes_kept a m s r h e = memory_same s _ h e
 
 -- a row that changes a vector register, and perhaps more
 vector_kept : (n : ℕ) (v : List ℕ) (s : State) (r : Saved) → s.sp.halted ≡ false
-    → undone (kept_part (of.Vector n) s r) (singled (advanced (record s { vectors = with_vector s.vectors n v }))) ≡ s
-unfolding undone kept_part saved restored after_step
+    → undone (kept_change (of.Vector n) s r) (singled (advanced (record s { vectors = with_vector s.vectors n v }))) ≡ s
+unfolding undone kept_change saved restored after_step
 vector_kept n v s r h = vectors_same s _ h (vector-back s.vectors n v)
 
 -- a computing row's register
@@ -81,8 +81,8 @@ computed-back : (file : List (List ℕ)) (n vd : ℕ) (v : List ℕ) → vd ≡ 
 computed-back file n vd v w = rw w (vector-back file n v)
 
 product_kept : (n : ℕ) (v : List ℕ) (x : List ℤ) (s : State) (r : Saved) → vd_at s.pc s ≡ n → s.sp.halted ≡ false
-    → undone (kept_part (of.Product n) s r) (singled (advanced (record s { vectors = with_vector s.vectors n v; accumulators = x }))) ≡ s
-unfolding undone kept_part saved restored after_step
+    → undone (kept_change (of.Product n) s r) (singled (advanced (record s { vectors = with_vector s.vectors n v; accumulators = x }))) ≡ s
+unfolding undone kept_change saved restored after_step
 product_kept n v x s r w h = vectors_same s _ h (computed-back s.vectors n (vd_at s.pc s) v w)
 
 -- where some flags are written back, the others are those before
@@ -90,55 +90,55 @@ flags_same : (s : State) (v : List (List ℕ)) (f : Flags) → s.sp.halted ≡ f
 flags_same s v f h e k = same_state s _ v _ f _ _ _ _ h refl e refl k refl refl refl refl
 
 sum_kept : (n : ℕ) (v : List ℕ) (x : List ℤ) (f : Flags) (s : State) (r : Saved) → vd_at s.pc s ≡ n → s.sp.halted ≡ false → record f { carry = s.flags.carry; differ = s.flags.differ } ≡ s.flags
-    → undone (kept_part (of.Sum n) s r) (singled (advanced (record s { vectors = with_vector s.vectors n v; accumulators = x; flags = f }))) ≡ s
-unfolding undone kept_part saved restored after_step
+    → undone (kept_change (of.Sum n) s r) (singled (advanced (record s { vectors = with_vector s.vectors n v; accumulators = x; flags = f }))) ≡ s
+unfolding undone kept_change saved restored after_step
 sum_kept n v x f s r w h e = flags_same s _ _ h (computed-back s.vectors n (vd_at s.pc s) v w) e
 
 choice_kept : (n : ℕ) (v : List ℕ) (x : List ℤ) (f : Flags) (s : State) (r : Saved) → vd_at s.pc s ≡ n → s.sp.halted ≡ false → record s.flags { extra = f.extra } ≡ s.flags
-    → undone (kept_part (of.Choice n) s r) (singled (advanced (record s { vectors = with_vector s.vectors n v; accumulators = x; flags = f }))) ≡ s
-unfolding undone kept_part saved restored after_step
+    → undone (kept_change (of.Choice n) s r) (singled (advanced (record s { vectors = with_vector s.vectors n v; accumulators = x; flags = f }))) ≡ s
+unfolding undone kept_change saved restored after_step
 choice_kept n v x f s r w h e = flags_same s _ _ h (computed-back s.vectors n (vd_at s.pc s) v w) e
 
 clip_kept : (n : ℕ) (v : List ℕ) (x : List ℤ) (f : Flags) (s : State) (r : Saved) → vd_at s.pc s ≡ n → s.sp.halted ≡ false
-    → undone (kept_part (of.Clip n) s r) (singled (advanced (record s { vectors = with_vector s.vectors n v; accumulators = x; flags = f }))) ≡ s
-unfolding undone kept_part saved restored after_step
+    → undone (kept_change (of.Clip n) s r) (singled (advanced (record s { vectors = with_vector s.vectors n v; accumulators = x; flags = f }))) ≡ s
+unfolding undone kept_change saved restored after_step
 clip_kept n v x f s r w h = vectors_same s _ h (computed-back s.vectors n (vd_at s.pc s) v w)
 
 logic_kept : (n : ℕ) (v : List ℕ) (x : List ℤ) (f : Flags) (s : State) (r : Saved) → vd_at s.pc s ≡ n → s.sp.halted ≡ false → f ≡ s.flags
-    → undone (kept_part (of.Product n) s r) (singled (advanced (record s { vectors = with_vector s.vectors n v; accumulators = x; flags = f }))) ≡ s
-unfolding undone kept_part saved restored after_step
+    → undone (kept_change (of.Product n) s r) (singled (advanced (record s { vectors = with_vector s.vectors n v; accumulators = x; flags = f }))) ≡ s
+unfolding undone kept_change saved restored after_step
 logic_kept n v x f s r w h e = flags_same s _ _ h (computed-back s.vectors n (vd_at s.pc s) v w) e
 
-lane_kept : (n : ℕ) (v : List ℕ) (x : List ℤ) (d : Divider) (s : State) (r : Saved) → vd_at s.pc s ≡ n → s.sp.halted ≡ false
-    → undone (kept_part (of.Lane n) s r) (singled (advanced (record s { vectors = with_vector s.vectors n v; accumulators = x; divider = d }))) ≡ s
-unfolding undone kept_part saved restored after_step
-lane_kept n v x d s r w h = vectors_same s _ h (computed-back s.vectors n (vd_at s.pc s) v w)
+divide_kept : (n : ℕ) (v : List ℕ) (x : List ℤ) (d : Divider) (s : State) (r : Saved) → vd_at s.pc s ≡ n → s.sp.halted ≡ false
+    → undone (kept_change (of.Divide n) s r) (singled (advanced (record s { vectors = with_vector s.vectors n v; accumulators = x; divider = d }))) ≡ s
+unfolding undone kept_change saved restored after_step
+divide_kept n v x d s r w h = vectors_same s _ h (computed-back s.vectors n (vd_at s.pc s) v w)
 
 flags_kept : (f : Flags) (s : State) (r : Saved) → s.sp.halted ≡ false
-    → undone (kept_part of.Flags s r) (singled (advanced (record s { flags = f }))) ≡ s
-unfolding undone kept_part saved restored after_step
+    → undone (kept_change of.Flags s r) (singled (advanced (record s { flags = f }))) ≡ s
+unfolding undone kept_change saved restored after_step
 flags_kept f s r h = registers_same s _ h refl
 
 -- a row that changes the SP registers and a scalar register; register 0 is none
 sp_kept : (n v : ℕ) (p : Sp) (s : State) (r : Saved) → s.sp.halted ≡ false
-    → undone (kept_part (of.Sp n) s r) (singled (advanced (record s { registers = with_register s.registers n v; sp = p }))) ≡ s
-unfolding undone kept_part saved restored after_step
+    → undone (kept_change (of.Sp n) s r) (singled (advanced (record s { registers = with_register s.registers n v; sp = p }))) ≡ s
+unfolding undone kept_change saved restored after_step
 sp_kept n v p s r h = registers_same s _ h (register-back s.registers n v)
 
 -- a vector load, and a move to an SP register that starts no DMA
 file_kept : (n : ℕ) (v : List (List ℕ)) (s : State) (r : Saved) → s.sp.halted ≡ false → with_vector v n (vector s.vectors n) ≡ s.vectors
-    → undone (kept_part (of.Vector n) s r) (singled (advanced (record s { vectors = v }))) ≡ s
-unfolding undone kept_part saved restored after_step
+    → undone (kept_change (of.Vector n) s r) (singled (advanced (record s { vectors = v }))) ≡ s
+unfolding undone kept_change saved restored after_step
 file_kept n v s r h e = vectors_same s _ h e
 
 group_kept : (n : ℕ) (v : List (List ℕ)) (s : State) (r : Saved) → s.sp.halted ≡ false → with_group v n (group_at s.vectors n) ≡ s.vectors
-    → undone (kept_part (of.Group n) s r) (singled (advanced (record s { vectors = v }))) ≡ s
-unfolding undone kept_part saved restored after_step
+    → undone (kept_change (of.Group n) s r) (singled (advanced (record s { vectors = v }))) ≡ s
+unfolding undone kept_change saved restored after_step
 group_kept n v s r h e = vectors_same s _ h e
 
 written_kept : (p : Sp) (m i q : List ℕ) (s : State) (r : Saved) → s.sp.halted ≡ false → m ≡ s.dmem → i ≡ s.imem → q ≡ s.rdram
-    → undone (kept_part (of.Sp 0) s r) (singled (advanced (record s { sp = p; dmem = m; imem = i; rdram = q }))) ≡ s
-unfolding undone kept_part saved restored after_step
+    → undone (kept_change (of.Sp 0) s r) (singled (advanced (record s { sp = p; dmem = m; imem = i; rdram = q }))) ≡ s
+unfolding undone kept_change saved restored after_step
 written_kept p m i q s r h em ei eq = same_state s _ _ _ _ _ m i q h refl refl refl refl refl em ei eq
 
 neither : (a b : Bool) → (a || b) ≡ false → (a ≡ false) × (b ≡ false)
@@ -155,18 +155,18 @@ image_same n v p dmem imem image e = rw e refl
 
 move_kept : (row : MoveRow) (rt n : ℕ) (s : State) (r : Saved) → starts_dma (MoveSp row rt n) ≡ false → s.sp.halted ≡ false
     → undone (kept (MoveSp row rt n) s r) (singled (executed (MoveSp row rt n) s)) ≡ s
-unfolding part_of executed moves_sp
+unfolding change_of executed moves_sp
 move_kept From rt n s r e h = sp_kept rt _ (after_read n s.sp) s r h
 move_kept To rt n s r e h =
     let k = neither (n % 16 == 2) (n % 16 == 3) e in
-    let P : Bool → Type 0 = λ b. undone (kept_part (if b then of.Nothing else of.Sp 0) s r) (singled (advanced (register_written n (register s.registers rt) s))) ≡ s in
+    let P : Bool → Type 0 = λ b. undone (kept_change (if b then of.Dma else of.Sp 0) s r) (singled (advanced (register_written n (register s.registers rt) s))) ≡ s in
     subst P (sym e) (written_kept (written n (register s.registers rt) s.sp) _ _ _ s r h
     (bank_same (not (is_imem s.sp)) n (register s.registers rt) s.sp s.rdram s.dmem k.0)
     (bank_same (is_imem s.sp) n (register s.registers rt) s.sp s.rdram s.imem k.0)
     (image_same n (register s.registers rt) s.sp s.dmem s.imem s.rdram k.1))
 
 load_kept : (row : VectorLoadRow) (vt : ℕ) (v : List (List ℕ)) (s : State) (r : Saved) → s.sp.halted ≡ false → put_back row vt s.vectors v ≡ s.vectors
-    → undone (kept_part (loaded_part row vt) s r) (singled (advanced (record s { vectors = v }))) ≡ s
+    → undone (kept_change (loaded_change row vt) s r) (singled (advanced (record s { vectors = v }))) ≡ s
 load_kept Ltv vt v s r h e = group_kept (vt - vt % 8) v s r h e
 load_kept Lbv vt v s r h e = file_kept vt v s r h e
 load_kept Lsv vt v s r h e = file_kept vt v s r h e
@@ -180,8 +180,8 @@ load_kept Lhv vt v s r h e = file_kept vt v s r h e
 load_kept Lfv vt v s r h e = file_kept vt v s r h e
 
 sign_kept : (row : SignRow) (rs offset p : ℕ) (s : State) (r : Saved) → s.sp.halted ≡ false
-    → undone (kept_part (sign_part row) s r) (singled (record s { pc = s.npc; npc = p; registers = linked (BranchSign row rs offset) s.registers s.npc })) ≡ s
-unfolding undone kept_part saved restored after_step
+    → undone (kept_change (sign_change row) s r) (singled (record s { pc = s.npc; npc = p; registers = linked (BranchSign row rs offset) s.registers s.npc })) ≡ s
+unfolding undone kept_change saved restored after_step
 sign_kept Bltz rs offset p s r h = registers_same s _ h refl
 sign_kept Bgez rs offset p s r h = registers_same s _ h refl
 sign_kept Bltzal rs offset p s r h = registers_same s _ h (register-back s.registers 31 _)
@@ -190,33 +190,33 @@ sign_kept Blez rs offset p s r h = registers_same s _ h refl
 sign_kept Bgtz rs offset p s r h = registers_same s _ h refl
 
 jump_kept : (row : JumpRow) (target p : ℕ) (s : State) (r : Saved) → s.sp.halted ≡ false
-    → undone (kept_part (jump_part row) s r) (singled (record s { pc = s.npc; npc = p; registers = linked (Jump row target) s.registers s.npc })) ≡ s
-unfolding undone kept_part saved restored after_step
+    → undone (kept_change (jump_change row) s r) (singled (record s { pc = s.npc; npc = p; registers = linked (Jump row target) s.registers s.npc })) ≡ s
+unfolding undone kept_change saved restored after_step
 jump_kept J target p s r h = registers_same s _ h refl
 jump_kept Jal target p s r h = registers_same s _ h (register-back s.registers 31 _)
 
 vector_move_kept : (row : MoveRow) (rt n e : ℕ) (s : State) (r : Saved) → s.sp.halted ≡ false
     → undone (kept (MoveVector row rt n e) s r) (singled (executed (MoveVector row rt n e) s)) ≡ s
-unfolding part_of executed moves_vector moved_file
+unfolding change_of executed moves_vector moved_file
 vector_move_kept From rt n e s r h = register_kept rt _ (going_on s.npc) s r h
 vector_move_kept To rt n e s r h = vector_kept n _ s r h
 
 control_move_kept : (row : MoveRow) (rt : ℕ) (control : Control) (s : State) (r : Saved) → s.sp.halted ≡ false
     → undone (kept (MoveControl row rt control) s r) (singled (executed (MoveControl row rt control) s)) ≡ s
-unfolding part_of executed moves_control
+unfolding change_of executed moves_control
 control_move_kept From rt control s r h = register_kept rt _ (going_on s.npc) s r h
 control_move_kept To rt control s r h = flags_kept _ s r h
 
 -- any instruction that starts no DMA
 kept_back : (i : Inst) (s : State) (r : Saved) → starts_dma i ≡ false → s.sp.halted ≡ false → AreFlags s.flags → inst_of (word_at s.imem s.pc) ≡ Some i → undone (kept i s r) (singled (executed i s)) ≡ s
-unfolding part_of executed computes loads stores jumps breaks multiplies rounds multiplies_mpeg reads_accumulator ruled divides loads_vector stores_vector loaded_file stored_memory
+unfolding change_of executed computes loads stores jumps break_instruction multiplies rounds multiplies_mpeg reads_accumulator ruled divides loads_vector stores_vector loaded_file stored_memory
 kept_back (Shift row rd rt amount) s r e h k o = register_kept rd _ (going_on s.npc) s r h
-kept_back (ShiftBy row rd rt rs) s r e h k o = register_kept rd _ (going_on s.npc) s r h
-kept_back (Register row rd rs rt) s r e h k o = register_kept rd _ (going_on s.npc) s r h
+kept_back (ShiftBy row f) s r e h k o = register_kept f.rd _ (going_on s.npc) s r h
+kept_back (Register row f) s r e h k o = register_kept f.rd _ (going_on s.npc) s r h
 kept_back (Immediate row rt rs imm) s r e h k o = register_kept rt _ (going_on s.npc) s r h
 kept_back (LoadUpper rt imm) s r e h k o = register_kept rt _ (going_on s.npc) s r h
-kept_back (Load row rt offset base) s r e h k o = register_kept rt _ (going_on s.npc) s r h
-kept_back (Store row rt offset base) s r e h k o = bytes_kept (address s.registers base offset) _ s r h (store-back row s.dmem (address s.registers base offset) (register s.registers rt))
+kept_back (Load row f) s r e h k o = register_kept f.rt _ (going_on s.npc) s r h
+kept_back (Store row f) s r e h k o = bytes_kept (address s.registers f.base f.offset) _ s r h (store-back row s.dmem (address s.registers f.base f.offset) (register s.registers f.rt))
 kept_back (JumpRegister rs) s r e h k o = places_kept _ s r h
 kept_back (JumpLinkRegister rd rs) s r e h k o = register_kept rd _ _ s r h
 kept_back (BranchSign row rs offset) s r e h k o = sign_kept row rs offset _ s r h
@@ -226,22 +226,22 @@ kept_back Break s r e h k o = sp_kept 0 0 _ s r h
 kept_back (MoveSp row rt n) s r e h k o = move_kept row rt n s r e h
 kept_back (MoveVector row rt n element) s r e h k o = vector_move_kept row rt n element s r h
 kept_back (MoveControl row rt control) s r e h k o = control_move_kept row rt control s r h
-kept_back (Multiply row vd vs vt n) s r e h k o = product_kept vd _ _ s r (ap vd_in o) h
-kept_back (Round row vd vs vt n) s r e h k o = product_kept vd _ _ s r (ap vd_in o) h
-kept_back (MpegMultiply row vd vs vt n) s r e h k o = product_kept vd _ _ s r (ap vd_in o) h
-kept_back (ReadAccumulator vd vs vt n) s r e h k o = vector_kept vd _ s r h
-kept_back (VectorAdd row vd vs vt n) s r e h k o = sum_kept vd _ _ _ s r (ap vd_in o) h (sum-back (add_op row) _ _ s.flags k)
-kept_back (VectorSelect row vd vs vt n) s r e h k o = choice_kept vd _ _ _ s r (ap vd_in o) h (choice-back (select_op row) _ _ s.flags k)
-kept_back (VectorClip row vd vs vt n) s r e h k o = clip_kept vd _ _ _ s r (ap vd_in o) h
-kept_back (VectorMerge vd vs vt n) s r e h k o = sum_kept vd _ _ _ s r (ap vd_in o) h (merge-back _ _ s.flags k)
-kept_back (VectorLogic row vd vs vt n) s r e h k o = logic_kept vd _ _ _ s r (ap vd_in o) h (logic-back (logic_op row) _ _ s.flags k)
-kept_back (Lane row vd lane vt n) s r e h k o = lane_kept vd _ _ _ s r (ap vd_in o) h
+kept_back (Multiply row f) s r e h k o = product_kept f.vd _ _ s r (ap vd_in o) h
+kept_back (Round row f) s r e h k o = product_kept f.vd _ _ s r (ap vd_in o) h
+kept_back (MpegMultiply row f) s r e h k o = product_kept f.vd _ _ s r (ap vd_in o) h
+kept_back (ReadAccumulator f) s r e h k o = vector_kept f.vd _ s r h
+kept_back (VectorAdd row f) s r e h k o = sum_kept f.vd _ _ _ s r (ap vd_in o) h (sum-back (add_op row) _ _ s.flags k)
+kept_back (VectorSelect row f) s r e h k o = choice_kept f.vd _ _ _ s r (ap vd_in o) h (choice-back (select_op row) _ _ s.flags k)
+kept_back (VectorClip row f) s r e h k o = clip_kept f.vd _ _ _ s r (ap vd_in o) h
+kept_back (VectorMerge f) s r e h k o = sum_kept f.vd _ _ _ s r (ap vd_in o) h (merge-back _ _ s.flags k)
+kept_back (VectorLogic row f) s r e h k o = logic_kept f.vd _ _ _ s r (ap vd_in o) h (logic-back (logic_op row) _ _ s.flags k)
+kept_back (Divide row vd lane vt n) s r e h k o = divide_kept vd _ _ _ s r (ap vd_in o) h
 kept_back (Idle row) s r e h k o = places_kept _ s r h
-kept_back (VectorLoad row vt n offset base) s r e h k o =
-    load_kept row vt _ s r h (loaded-back row s.dmem s.vectors vt n (transfer_address (VectorLoad row vt n offset base) (register s.registers base)))
-kept_back (VectorStore row vt n offset base) s r e h k o =
-    let a : ℕ = transfer_address (VectorStore row vt n offset base) (register s.registers base) in
-    bytes_kept (window_of row a) _ s r h (stored-back row vt n a s.vectors s.dmem)
+kept_back (VectorLoad row f) s r e h k o =
+    load_kept row f.vt _ s r h (loaded-back row s.dmem s.vectors f.vt f.element (transfer_address (VectorLoad row f) (register s.registers f.base)))
+kept_back (VectorStore row f) s r e h k o =
+    let a : ℕ = transfer_address (VectorStore row f) (register s.registers f.base) in
+    bytes_kept (window_of row a) _ s r h (stored-back row f.vt f.element a s.vectors s.dmem)
 
 -- any step that can be undone
 not_true : (b : Bool) → not b ≡ true → b ≡ false
@@ -262,8 +262,8 @@ unfolding can_undo slot_after told_of step_of
 slot_back s r k e = either_back s.sp.halted (inst_of (word_at s.imem s.pc)) (word_at s.imem s.pc) s r refl refl k e
 
 -- the mark in the slot tells whether an instruction can be undone
-load_marked : (row : VectorLoadRow) (vt : ℕ) (s : State) (r : Saved) → is_back (kept_part (loaded_part row vt) s r).part ≡ true
-unfolding kept_part saved
+load_marked : (row : VectorLoadRow) (vt : ℕ) (s : State) (r : Saved) → is_back (kept_change (loaded_change row vt) s r).change ≡ true
+unfolding kept_change saved
 load_marked Ltv vt s r = refl
 load_marked Lbv vt s r = refl
 load_marked Lsv vt s r = refl
@@ -276,13 +276,13 @@ load_marked Luv vt s r = refl
 load_marked Lhv vt s r = refl
 load_marked Lfv vt s r = refl
 
-move_marked : (b : Bool) (s : State) (r : Saved) → is_back (kept_part (if b then of.Nothing else of.Sp 0) s r).part ≡ not b
-unfolding kept_part saved
+move_marked : (b : Bool) (s : State) (r : Saved) → is_back (kept_change (if b then of.Dma else of.Sp 0) s r).change ≡ not b
+unfolding kept_change saved
 move_marked true s r = refl
 move_marked false s r = refl
 
-sign_marked : (row : SignRow) (s : State) (r : Saved) → is_back (kept_part (sign_part row) s r).part ≡ true
-unfolding kept_part saved
+sign_marked : (row : SignRow) (s : State) (r : Saved) → is_back (kept_change (sign_change row) s r).change ≡ true
+unfolding kept_change saved
 sign_marked Bltz s r = refl
 sign_marked Bgez s r = refl
 sign_marked Bltzal s r = refl
@@ -290,20 +290,20 @@ sign_marked Bgezal s r = refl
 sign_marked Blez s r = refl
 sign_marked Bgtz s r = refl
 
-jump_marked : (row : JumpRow) (s : State) (r : Saved) → is_back (kept_part (jump_part row) s r).part ≡ true
-unfolding kept_part saved
+jump_marked : (row : JumpRow) (s : State) (r : Saved) → is_back (kept_change (jump_change row) s r).change ≡ true
+unfolding kept_change saved
 jump_marked J s r = refl
 jump_marked Jal s r = refl
 
-pub kept_marked : (i : Inst) (s : State) (r : Saved) → is_back (kept i s r).part ≡ not (starts_dma i)
-unfolding part_of kept_part saved
+pub kept_marked : (i : Inst) (s : State) (r : Saved) → is_back (kept i s r).change ≡ not (starts_dma i)
+unfolding change_of kept_change saved
 kept_marked (Shift row rd rt amount) s r = refl
-kept_marked (ShiftBy row rd rt rs) s r = refl
-kept_marked (Register row rd rs rt) s r = refl
+kept_marked (ShiftBy row f) s r = refl
+kept_marked (Register row f) s r = refl
 kept_marked (Immediate row rt rs imm) s r = refl
 kept_marked (LoadUpper rt imm) s r = refl
-kept_marked (Load row rt offset base) s r = refl
-kept_marked (Store row rt offset base) s r = refl
+kept_marked (Load row f) s r = refl
+kept_marked (Store row f) s r = refl
 kept_marked (JumpRegister rs) s r = refl
 kept_marked (JumpLinkRegister rd rs) s r = refl
 kept_marked (BranchSign row rs offset) s r = sign_marked row s r
@@ -316,23 +316,23 @@ kept_marked (MoveVector From rt n element) s r = refl
 kept_marked (MoveVector To rt n element) s r = refl
 kept_marked (MoveControl From rt control) s r = refl
 kept_marked (MoveControl To rt control) s r = refl
-kept_marked (Multiply row vd vs vt n) s r = refl
-kept_marked (Round row vd vs vt n) s r = refl
-kept_marked (MpegMultiply row vd vs vt n) s r = refl
-kept_marked (ReadAccumulator vd vs vt n) s r = refl
-kept_marked (VectorAdd row vd vs vt n) s r = refl
-kept_marked (VectorSelect row vd vs vt n) s r = refl
-kept_marked (VectorClip row vd vs vt n) s r = refl
-kept_marked (VectorMerge vd vs vt n) s r = refl
-kept_marked (VectorLogic row vd vs vt n) s r = refl
-kept_marked (Lane row vd lane vt n) s r = refl
+kept_marked (Multiply row f) s r = refl
+kept_marked (Round row f) s r = refl
+kept_marked (MpegMultiply row f) s r = refl
+kept_marked (ReadAccumulator f) s r = refl
+kept_marked (VectorAdd row f) s r = refl
+kept_marked (VectorSelect row f) s r = refl
+kept_marked (VectorClip row f) s r = refl
+kept_marked (VectorMerge f) s r = refl
+kept_marked (VectorLogic row f) s r = refl
+kept_marked (Divide row vd lane vt n) s r = refl
 kept_marked (Idle row) s r = refl
-kept_marked (VectorLoad row vt n offset base) s r = load_marked row vt s r
-kept_marked (VectorStore row vt n offset base) s r = refl
+kept_marked (VectorLoad row f) s r = load_marked row f.vt s r
+kept_marked (VectorStore row f) s r = refl
 
 -- after a step that is Done the mark in the slot tells; after another one there is no way back
 done_by : (b : Bool) (o : Option Inst) (word : ℕ) (s : State) (r : Saved) → (if b then (Halted, s) else step_by o word s).0 ≡ Done
-    → (if b then false else is_back_by o) ≡ is_back (if b then r else kept_by o s r).part
+    → (if b then false else is_back_by o) ≡ is_back (if b then r else kept_by o s r).change
 done_by true o word s r e = cc
 done_by false None word s r e = cc
 done_by false (Some i) word s r e = sym (kept_marked i s r)
@@ -347,7 +347,7 @@ reserved_by true o word w s e = refl
 reserved_by false None word w s e = refl
 reserved_by false (Some i) word w s e = cc
 
-pub done_marked : (s : State) (r : Saved) → (step_of s).0 ≡ Done → can_undo s ≡ is_back (slot_after s r).part
+pub done_marked : (s : State) (r : Saved) → (step_of s).0 ≡ Done → can_undo s ≡ is_back (slot_after s r).change
 unfolding can_undo slot_after told_of step_of
 done_marked s r e = done_by s.sp.halted (inst_of (word_at s.imem s.pc)) (word_at s.imem s.pc) s r e
 
@@ -360,21 +360,21 @@ unfolding can_undo step_of
 reserved_marked s w e = reserved_by s.sp.halted (inst_of (word_at s.imem s.pc)) (word_at s.imem s.pc) w s e
 
 -- a step whose record says that it stored nothing leaves DMEM
-written_stays : (b : Bool) (v n : ℕ) (s : State) (r : Saved) → is_length n ≡ b → may_store (kept_part (if b then of.Nothing else of.Sp 0) s r) ≡ false
+written_stays : (b : Bool) (v n : ℕ) (s : State) (r : Saved) → is_length n ≡ b → may_store (kept_change (if b then of.Dma else of.Sp 0) s r) ≡ false
     → (register_written n v s).dmem ≡ s.dmem
-unfolding kept_part saved
+unfolding kept_change saved
 written_stays true v n s r e h = cc
 written_stays false v n s r e h = bank_same (not (is_imem s.sp)) n v s.sp s.rdram s.dmem (neither (n % 16 == 2) (n % 16 == 3) e).0
 
 kept_stays : (i : Inst) (s : State) (r : Saved) → may_store (kept i s r) ≡ false → (executed i s).dmem ≡ s.dmem
-unfolding part_of executed computes loads stores jumps breaks moves_sp multiplies rounds multiplies_mpeg reads_accumulator ruled divides loads_vector stores_vector moves_vector moves_control kept_part saved
+unfolding change_of executed computes loads stores jumps break_instruction moves_sp multiplies rounds multiplies_mpeg reads_accumulator ruled divides loads_vector stores_vector moves_vector moves_control kept_change saved
 kept_stays (Shift row rd rt amount) s r h = refl
-kept_stays (ShiftBy row rd rt rs) s r h = refl
-kept_stays (Register row rd rs rt) s r h = refl
+kept_stays (ShiftBy row f) s r h = refl
+kept_stays (Register row f) s r h = refl
 kept_stays (Immediate row rt rs imm) s r h = refl
 kept_stays (LoadUpper rt imm) s r h = refl
-kept_stays (Load row rt offset base) s r h = refl
-kept_stays (Store row rt offset base) s r h = cc
+kept_stays (Load row f) s r h = refl
+kept_stays (Store row f) s r h = cc
 kept_stays (JumpRegister rs) s r h = refl
 kept_stays (JumpLinkRegister rd rs) s r h = refl
 kept_stays (BranchSign row rs offset) s r h = refl
@@ -387,19 +387,19 @@ kept_stays (MoveVector From rt n element) s r h = refl
 kept_stays (MoveVector To rt n element) s r h = refl
 kept_stays (MoveControl From rt control) s r h = refl
 kept_stays (MoveControl To rt control) s r h = refl
-kept_stays (Multiply row vd vs vt n) s r h = refl
-kept_stays (Round row vd vs vt n) s r h = refl
-kept_stays (MpegMultiply row vd vs vt n) s r h = refl
-kept_stays (ReadAccumulator vd vs vt n) s r h = refl
-kept_stays (VectorAdd row vd vs vt n) s r h = refl
-kept_stays (VectorSelect row vd vs vt n) s r h = refl
-kept_stays (VectorClip row vd vs vt n) s r h = refl
-kept_stays (VectorMerge vd vs vt n) s r h = refl
-kept_stays (VectorLogic row vd vs vt n) s r h = refl
-kept_stays (Lane row vd lane vt n) s r h = refl
+kept_stays (Multiply row f) s r h = refl
+kept_stays (Round row f) s r h = refl
+kept_stays (MpegMultiply row f) s r h = refl
+kept_stays (ReadAccumulator f) s r h = refl
+kept_stays (VectorAdd row f) s r h = refl
+kept_stays (VectorSelect row f) s r h = refl
+kept_stays (VectorClip row f) s r h = refl
+kept_stays (VectorMerge f) s r h = refl
+kept_stays (VectorLogic row f) s r h = refl
+kept_stays (Divide row vd lane vt n) s r h = refl
 kept_stays (Idle row) s r h = refl
-kept_stays (VectorLoad row vt n offset base) s r h = refl
-kept_stays (VectorStore row vt n offset base) s r h = cc
+kept_stays (VectorLoad row f) s r h = refl
+kept_stays (VectorStore row f) s r h = cc
 
 stays_by : (b : Bool) (o : Option Inst) (word : ℕ) (s : State) (r : Saved) → (if b then (Halted, s) else step_by o word s).0 ≡ Done
     → may_store (if b then r else kept_by o s r) ≡ false → (if b then (Halted, s) else step_by o word s).1.dmem ≡ s.dmem

@@ -27,10 +27,10 @@ use Rattle.rsp_decode.specs.declared.inst.VectorLogicRow.{VectorLogicRow}
 use Rattle.rsp_decode.specs.declared.inst.VectorLogicRow.TheVariants as logic_rows
 use Rattle.rsp_compare.specs.declared.logic.LogicOp.{LogicOp}
 use Rattle.rsp_compare.specs.declared.logic.LogicOp.TheVariants as logic_ops
-use Rattle.rsp_decode.specs.declared.inst.LaneRow.{LaneRow}
-use Rattle.rsp_decode.specs.declared.inst.LaneRow.TheVariants as lane_rows
+use Rattle.rsp_decode.specs.declared.inst.DivideRow.{DivideRow}
+use Rattle.rsp_decode.specs.declared.inst.DivideRow.TheVariants as divide_rows
 use Rattle.rsp_divide.specs.declared.rows.DivideOp.{DivideOp}
-use Rattle.rsp_divide.specs.declared.rows.DivideOp.TheVariants as lane_ops
+use Rattle.rsp_divide.specs.declared.rows.DivideOp.TheVariants as divide_ops
 
 -- the twelve multiplies
 abbrev pub multiply_op : MultiplyRow → MultiplyOp
@@ -88,11 +88,11 @@ logic_op logic_rows.Vxor = logic_ops.Vxor
 logic_op logic_rows.Vnxor = logic_ops.Vnxor
 
 -- rows of one lane
-abbrev pub lane_op : LaneRow → DivideOp
-lane_op lane_rows.Vrcp = lane_ops.Vrcp
-lane_op lane_rows.Vrcpl = lane_ops.Vrcpl
-lane_op lane_rows.Vrcph = lane_ops.Vrcph
-lane_op lane_rows.Vmov = lane_ops.Vmov
-lane_op lane_rows.Vrsq = lane_ops.Vrsq
-lane_op lane_rows.Vrsql = lane_ops.Vrsql
-lane_op lane_rows.Vrsqh = lane_ops.Vrsqh
+abbrev pub divide_op : DivideRow → DivideOp
+divide_op divide_rows.Vrcp = divide_ops.Vrcp
+divide_op divide_rows.Vrcpl = divide_ops.Vrcpl
+divide_op divide_rows.Vrcph = divide_ops.Vrcph
+divide_op divide_rows.Vmov = divide_ops.Vmov
+divide_op divide_rows.Vrsq = divide_ops.Vrsq
+divide_op divide_rows.Vrsql = divide_ops.Vrsql
+divide_op divide_rows.Vrsqh = divide_ops.Vrsqh

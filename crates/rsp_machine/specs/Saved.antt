@@ -1,7 +1,7 @@
 -- What a step keeps of the state before it, and how that leads back.
 use Rattle.std.specs.Prelude.{ℕ, ℤ, pos, ◌<◌, ◌+◌, ◌-◌, ◌%◌, ◌==◌, ◌||◌, Bool, true, false, not, if◌then◌else◌, List, [], ◌∷◌, Option, Some, None, replicate}
 use Rattle.rsp_decode.specs.declared.inst.Inst.{Inst}
-use Rattle.rsp_decode.specs.declared.inst.Inst.TheVariants.{Shift, ShiftBy, JumpRegister, JumpLinkRegister, Break, Register, BranchSign, BranchEqual, Jump, Immediate, LoadUpper, Load, Store, MoveSp, MoveVector, MoveControl, Multiply, Round, MpegMultiply, ReadAccumulator, VectorAdd, VectorSelect, VectorClip, VectorMerge, VectorLogic, Lane, Idle, VectorLoad, VectorStore}
+use Rattle.rsp_decode.specs.declared.inst.Inst.TheVariants.{Shift, ShiftBy, JumpRegister, JumpLinkRegister, Break, Register, BranchSign, BranchEqual, Jump, Immediate, LoadUpper, Load, Store, MoveSp, MoveVector, MoveControl, Multiply, Round, MpegMultiply, ReadAccumulator, VectorAdd, VectorSelect, VectorClip, VectorMerge, VectorLogic, Divide, Idle, VectorLoad, VectorStore}
 use Rattle.rsp_decode.specs.declared.inst.MoveRow.{MoveRow}
 use Rattle.rsp_decode.specs.declared.inst.MoveRow.TheVariants.{From, To}
 use Rattle.rsp_decode.specs.declared.inst.SignRow.{SignRow}
@@ -25,13 +25,13 @@ use Rattle.rsp_scalar.specs.Rows.{address}
 use Rattle.rsp_loadstore.specs.File.{register as vector, with_register as with_vector}
 use Rattle.rsp_loadstore.specs.Addresses.{transfer_address}
 use Rattle.rsp_machine.specs.State.{State}
-use Rattle.rsp_machine.specs.declared.part.Part.{Part}
-use Rattle.rsp_machine.specs.declared.part.Part.TheVariants as of
+use Rattle.rsp_machine.specs.declared.change.Change.{Change}
+use Rattle.rsp_machine.specs.declared.change.Change.TheVariants as of
 
--- What one step changed, as it was before. Which of the values count is told by `part`.
+-- What one step changed, as it was before. Which of the values count is told by `change`.
 pub record Saved : Type 0 where
   pub pc : ℕ
-  pub part : Part
+  pub change : Change
   pub word : ℕ  -- the scalar register
   pub bytes : List ℕ
   pub vector : List ℕ
@@ -41,8 +41,8 @@ pub record Saved : Type 0 where
   pub divider : Divider
   pub sp : Sp
 
--- the last register that a part names
-abbrev pub last_register : Part → ℕ
+-- the last register that a change names
+abbrev pub last_register : Change → ℕ
 last_register (of.Register n) = n
 last_register (of.Vector n) = n
 last_register (of.Group n) = n + 7
@@ -50,18 +50,18 @@ last_register (of.Product n) = n
 last_register (of.Sum n) = n
 last_register (of.Choice n) = n
 last_register (of.Clip n) = n
-last_register (of.Lane n) = n
+last_register (of.Divide n) = n
 last_register (of.Sp n) = n
 last_register _ = 0
 
-abbrev pub IsPart : Part → Type 0
-IsPart part = last_register part < 32
+abbrev pub IsChange : Change → Type 0
+IsChange change = last_register change < 32
 
 -- the record of no step
 unfoldable pub blank : Saved
 blank = record {
   pc = 0;
-  part = of.Nothing;
+  change = of.Dma;
   word = 0;
   bytes = replicate 16 0;
   vector = each_lane (λ _. 0);
@@ -88,8 +88,8 @@ with_vco old f = record f { carry = old.carry; differ = old.differ }
 abbrev pub with_both : Flags → Flags → Flags
 with_both old f = record (with_vco old f) { compare = old.compare; clip = old.clip }
 
--- a slot in which a part of a state is kept
-unfoldable pub saved : Part → State → Saved → Saved
+-- a slot in which is kept what stands in a state before a change
+unfoldable pub saved : Change → State → Saved → Saved
 saved (of.Register n) s r = record r { word = register s.registers n }
 saved (of.Bytes a) s r = record r { bytes = bytes_at s.dmem a 16 }
 saved (of.Vector n) s r = record r { vector = vector s.vectors n }
@@ -98,34 +98,34 @@ saved (of.Product n) s r = record r { vector = vector s.vectors n; accumulators 
 saved (of.Sum n) s r = record r { vector = vector s.vectors n; accumulators = s.accumulators; flags = with_vco s.flags r.flags }
 saved (of.Choice n) s r = record r { vector = vector s.vectors n; accumulators = s.accumulators; flags = with_both s.flags r.flags }
 saved (of.Clip n) s r = record r { vector = vector s.vectors n; accumulators = s.accumulators; flags = s.flags }
-saved (of.Lane n) s r = record r { vector = vector s.vectors n; accumulators = s.accumulators; divider = s.divider }
+saved (of.Divide n) s r = record r { vector = vector s.vectors n; accumulators = s.accumulators; divider = s.divider }
 saved of.Flags s r = record r { flags = s.flags }
 saved (of.Sp n) s r = record r { word = register s.registers n; sp = s.sp }
 saved _ s r = r
 
--- a part as a slot holds it: the register that a computing row writes is read again from its word, in IMEM
-abbrev pub nameless : Part → Part
+-- a change as a slot holds it: the register that a computing row writes is read again from its word, in IMEM
+abbrev pub nameless : Change → Change
 nameless (of.Product n) = of.Product 0
 nameless (of.Sum n) = of.Sum 0
 nameless (of.Choice n) = of.Choice 0
 nameless (of.Clip n) = of.Clip 0
-nameless (of.Lane n) = of.Lane 0
-nameless part = part
+nameless (of.Divide n) = of.Divide 0
+nameless change = change
 
-unfoldable pub kept_part : Part → State → Saved → Saved
-kept_part part s r = saved part s (record r { pc = s.pc; part = nameless part })
+unfoldable pub kept_change : Change → State → Saved → Saved
+kept_change change s r = saved change s (record r { pc = s.pc; change = nameless change })
 
 -- the register vd of a computing row; the row that stands at a place
 abbrev pub vd_of : Inst → ℕ
-vd_of (Multiply row vd vs vt e) = vd
-vd_of (Round row vd vs vt e) = vd
-vd_of (MpegMultiply row vd vs vt e) = vd
-vd_of (VectorAdd row vd vs vt e) = vd
-vd_of (VectorSelect row vd vs vt e) = vd
-vd_of (VectorClip row vd vs vt e) = vd
-vd_of (VectorMerge vd vs vt e) = vd
-vd_of (VectorLogic row vd vs vt e) = vd
-vd_of (Lane row vd lane vt e) = vd
+vd_of (Multiply row f) = f.vd
+vd_of (Round row f) = f.vd
+vd_of (MpegMultiply row f) = f.vd
+vd_of (VectorAdd row f) = f.vd
+vd_of (VectorSelect row f) = f.vd
+vd_of (VectorClip row f) = f.vd
+vd_of (VectorMerge f) = f.vd
+vd_of (VectorLogic row f) = f.vd
+vd_of (Divide row vd lane vt e) = vd
 vd_of _ = 0
 
 abbrev pub vd_in : Option Inst → ℕ
@@ -136,14 +136,14 @@ abbrev pub vd_at : ℕ → State → ℕ
 vd_at pc s = vd_in (inst_of (word_at s.imem pc))
 
 -- what a jump or a branch changes: the register that it links
-abbrev pub sign_part : SignRow → Part
-sign_part Bltzal = of.Register 31
-sign_part Bgezal = of.Register 31
-sign_part _ = of.Places
+abbrev pub sign_change : SignRow → Change
+sign_change Bltzal = of.Register 31
+sign_change Bgezal = of.Register 31
+sign_change _ = of.Places
 
-abbrev pub jump_part : JumpRow → Part
-jump_part Jal = of.Register 31
-jump_part _ = of.Places
+abbrev pub jump_change : JumpRow → Change
+jump_change Jal = of.Register 31
+jump_change _ = of.Places
 
 -- whether a write of SP register n starts a DMA
 abbrev pub is_length : ℕ → Bool
@@ -154,65 +154,65 @@ abbrev pub window_of : VectorStoreRow → ℕ → ℕ
 window_of Srv a = a - a % 16
 window_of _ a = a - a % 8
 
-abbrev pub loaded_part : VectorLoadRow → ℕ → Part
-loaded_part Ltv vt = of.Group (vt - vt % 8)
-loaded_part _ vt = of.Vector vt
+abbrev pub loaded_change : VectorLoadRow → ℕ → Change
+loaded_change Ltv vt = of.Group (vt - vt % 8)
+loaded_change _ vt = of.Vector vt
 
-abbrev pub vector_move_part : MoveRow → ℕ → ℕ → Part
-vector_move_part From rt n = of.Register rt
-vector_move_part To rt n = of.Vector n
+abbrev pub vector_move_change : MoveRow → ℕ → ℕ → Change
+vector_move_change From rt n = of.Register rt
+vector_move_change To rt n = of.Vector n
 
-abbrev pub control_move_part : MoveRow → ℕ → Part
-control_move_part From rt = of.Register rt
-control_move_part To rt = of.Flags
+abbrev pub control_move_change : MoveRow → ℕ → Change
+control_move_change From rt = of.Register rt
+control_move_change To rt = of.Flags
 
-abbrev pub sp_move_part : MoveRow → ℕ → ℕ → Part
-sp_move_part From rt n = of.Sp rt
-sp_move_part To rt n = if is_length n then of.Nothing else of.Sp 0
+abbrev pub sp_move_change : MoveRow → ℕ → ℕ → Change
+sp_move_change From rt n = of.Sp rt
+sp_move_change To rt n = if is_length n then of.Dma else of.Sp 0
 
--- which part an instruction changes of a state, besides the places
-unfoldable pub part_of : Inst → State → Part
-part_of (Shift row rd rt amount) s = of.Register rd
-part_of (ShiftBy row rd rt rs) s = of.Register rd
-part_of (Register row rd rs rt) s = of.Register rd
-part_of (Immediate row rt rs imm) s = of.Register rt
-part_of (LoadUpper rt imm) s = of.Register rt
-part_of (Load row rt offset base) s = of.Register rt
-part_of (Store row rt offset base) s = of.Bytes (address s.registers base offset)
-part_of (JumpRegister rs) s = of.Places
-part_of (JumpLinkRegister rd rs) s = of.Register rd
-part_of (BranchSign row rs offset) s = sign_part row
-part_of (BranchEqual row rs rt offset) s = of.Places
-part_of (Jump row target) s = jump_part row
-part_of Break s = of.Sp 0
-part_of (MoveSp row rt n) s = sp_move_part row rt n
-part_of (MoveVector row rt n element) s = vector_move_part row rt n
-part_of (MoveControl row rt control) s = control_move_part row rt
-part_of (Multiply row vd vs vt e) s = of.Product vd
-part_of (Round row vd vs vt e) s = of.Product vd
-part_of (MpegMultiply row vd vs vt e) s = of.Product vd
-part_of (ReadAccumulator vd vs vt e) s = of.Vector vd
-part_of (VectorAdd row vd vs vt e) s = of.Sum vd
-part_of (VectorSelect row vd vs vt e) s = of.Choice vd
-part_of (VectorClip row vd vs vt e) s = of.Clip vd
-part_of (VectorMerge vd vs vt e) s = of.Sum vd
-part_of (VectorLogic row vd vs vt e) s = of.Product vd
-part_of (Lane row vd lane vt e) s = of.Lane vd
-part_of (Idle row) s = of.Places
-part_of (VectorLoad row vt e offset base) s = loaded_part row vt
-part_of (VectorStore row vt e offset base) s =
-    of.Bytes (window_of row (transfer_address (VectorStore row vt e offset base) (register s.registers base)))
+-- what an instruction changes of a state, besides the places
+unfoldable pub change_of : Inst → State → Change
+change_of (Shift row rd rt amount) s = of.Register rd
+change_of (ShiftBy row f) s = of.Register f.rd
+change_of (Register row f) s = of.Register f.rd
+change_of (Immediate row rt rs imm) s = of.Register rt
+change_of (LoadUpper rt imm) s = of.Register rt
+change_of (Load row f) s = of.Register f.rt
+change_of (Store row f) s = of.Bytes (address s.registers f.base f.offset)
+change_of (JumpRegister rs) s = of.Places
+change_of (JumpLinkRegister rd rs) s = of.Register rd
+change_of (BranchSign row rs offset) s = sign_change row
+change_of (BranchEqual row rs rt offset) s = of.Places
+change_of (Jump row target) s = jump_change row
+change_of Break s = of.Sp 0
+change_of (MoveSp row rt n) s = sp_move_change row rt n
+change_of (MoveVector row rt n element) s = vector_move_change row rt n
+change_of (MoveControl row rt control) s = control_move_change row rt
+change_of (Multiply row f) s = of.Product f.vd
+change_of (Round row f) s = of.Product f.vd
+change_of (MpegMultiply row f) s = of.Product f.vd
+change_of (ReadAccumulator f) s = of.Vector f.vd
+change_of (VectorAdd row f) s = of.Sum f.vd
+change_of (VectorSelect row f) s = of.Choice f.vd
+change_of (VectorClip row f) s = of.Clip f.vd
+change_of (VectorMerge f) s = of.Sum f.vd
+change_of (VectorLogic row f) s = of.Product f.vd
+change_of (Divide row vd lane vt e) s = of.Divide vd
+change_of (Idle row) s = of.Places
+change_of (VectorLoad row f) s = loaded_change row f.vt
+change_of (VectorStore row f) s =
+    of.Bytes (window_of row (transfer_address (VectorStore row f) (register s.registers f.base)))
 
 -- what is kept of the state before an instruction
 abbrev pub kept : Inst → State → Saved → Saved
-kept i s r = kept_part (part_of i s) s r
+kept i s r = kept_change (change_of i s) s r
 
--- A keeper after a step: it was told the part that the instruction changes, where there was one.
-abbrev pub told_by : {K : Type 0} → (Part → State → K → K) → Option Inst → State → K → K
+-- A keeper after a step: it was told what the instruction changes, where there was one.
+abbrev pub told_by : {K : Type 0} → (Change → State → K → K) → Option Inst → State → K → K
 told_by keeps None s k = k
-told_by keeps (Some i) s k = keeps (part_of i s) s k
+told_by keeps (Some i) s k = keeps (change_of i s) s k
 
-unfoldable pub told_of : {K : Type 0} → (Part → State → K → K) → State → K → K
+unfoldable pub told_of : {K : Type 0} → (Change → State → K → K) → State → K → K
 told_of keeps s k = if s.sp.halted then k else told_by keeps (inst_of (word_at s.imem s.pc)) s k
 
 -- whether an instruction starts a DMA
@@ -222,38 +222,38 @@ starts_dma _ = false
 
 -- what stands in a slot after a step, and whether the step can be undone by it: it was done, and started no DMA
 abbrev pub kept_by : Option Inst → State → Saved → Saved
-kept_by o s r = told_by kept_part o s r
+kept_by o s r = told_by kept_change o s r
 
 abbrev pub is_back_by : Option Inst → Bool
 is_back_by None = false
 is_back_by (Some i) = not (starts_dma i)
 
 unfoldable pub slot_after : State → Saved → Saved
-slot_after s r = told_of kept_part s r
+slot_after s r = told_of kept_change s r
 
 unfoldable pub can_undo : State → Bool
 can_undo s = if s.sp.halted then false else is_back_by (inst_of (word_at s.imem s.pc))
 
 -- whether a record leads back
-abbrev pub is_back : Part → Bool
-is_back of.Nothing = false
+abbrev pub is_back : Change → Bool
+is_back of.Dma = false
 is_back _ = true
 
 -- whether the step that a record was kept of may have changed DMEM: it stored there, or it started a DMA
-abbrev pub changes_memory : Part → Bool
+abbrev pub changes_memory : Change → Bool
 changes_memory (of.Bytes a) = true
-changes_memory of.Nothing = true
+changes_memory of.Dma = true
 changes_memory _ = false
 
 abbrev pub may_store : Saved → Bool
-may_store r = changes_memory r.part
+may_store r = changes_memory r.change
 
 -- the vector register of a computing row and the accumulators, written back
 abbrev pub with_product : Saved → State → State
 with_product r s = record s { vectors = with_vector s.vectors (vd_at r.pc s) r.vector; accumulators = r.accumulators }
 
 -- what was changed, written back
-unfoldable pub restored : Part → Saved → State → State
+unfoldable pub restored : Change → Saved → State → State
 restored (of.Register n) r s = record s { registers = with_register s.registers n r.word }
 restored (of.Bytes a) r s = record s { dmem = with_bytes s.dmem a r.bytes }
 restored (of.Vector n) r s = record s { vectors = with_vector s.vectors n r.vector }
@@ -262,7 +262,7 @@ restored (of.Product n) r s = with_product r s
 restored (of.Sum n) r s = record (with_product r s) { flags = with_vco r.flags s.flags }
 restored (of.Choice n) r s = record (with_product r s) { flags = with_both r.flags s.flags }
 restored (of.Clip n) r s = record (with_product r s) { flags = r.flags }
-restored (of.Lane n) r s = record (with_product r s) { divider = r.divider }
+restored (of.Divide n) r s = record (with_product r s) { divider = r.divider }
 restored of.Flags r s = record s { flags = r.flags }
 restored (of.Sp n) r s = record s { registers = with_register s.registers n r.word; sp = r.sp }
 restored _ r s = s
@@ -273,4 +273,4 @@ before pc npc s = record s { pc = pc; npc = npc; sp = record s.sp { halted = fal
 
 -- the state before the step, where a way leads back; else nothing changes
 unfoldable pub undone : Saved → State → State
-undone r s = if is_back r.part then before r.pc s.pc (restored r.part r s) else s
+undone r s = if is_back r.change then before r.pc s.pc (restored r.change r s) else s

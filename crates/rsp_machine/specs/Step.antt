@@ -1,7 +1,7 @@
 -- One step of the machine.
 use Rattle.std.specs.Prelude.{ℕ, Option, Some, None, if◌then◌else◌}
 use Rattle.rsp_decode.specs.declared.inst.Inst.{Inst}
-use Rattle.rsp_decode.specs.declared.inst.Inst.TheVariants.{Shift, ShiftBy, JumpRegister, JumpLinkRegister, Break, Register, BranchSign, BranchEqual, Jump, Immediate, LoadUpper, Load, Store, MoveSp, MoveVector, MoveControl, Multiply, Round, MpegMultiply, ReadAccumulator, VectorAdd, VectorSelect, VectorClip, VectorMerge, VectorLogic, Lane, Idle, VectorLoad, VectorStore}
+use Rattle.rsp_decode.specs.declared.inst.Inst.TheVariants.{Shift, ShiftBy, JumpRegister, JumpLinkRegister, Break, Register, BranchSign, BranchEqual, Jump, Immediate, LoadUpper, Load, Store, MoveSp, MoveVector, MoveControl, Multiply, Round, MpegMultiply, ReadAccumulator, VectorAdd, VectorSelect, VectorClip, VectorMerge, VectorLogic, Divide, Idle, VectorLoad, VectorStore}
 use Rattle.rsp_decode.specs.declared.inst.MoveRow.{MoveRow}
 use Rattle.rsp_decode.specs.declared.inst.MoveRow.TheVariants.{From, To}
 use Rattle.rsp_decode.specs.Table.{inst_of}
@@ -39,8 +39,8 @@ unfoldable pub jumps : Inst → State → State
 jumps i s = record s { pc = s.npc; npc = following i s.registers s.npc; registers = linked i s.registers s.npc }
 
 -- a BREAK, which goes on to the next place like any row
-unfoldable pub breaks : State → State
-breaks s = advanced (record s { sp = after_break s.sp })
+unfoldable pub break_instruction : State → State
+break_instruction s = advanced (record s { sp = after_break s.sp })
 
 -- a move from SP register n to scalar register rt, or back: what the host's read and write of it do
 unfoldable pub moves_sp : MoveRow → ℕ → ℕ → State → State
@@ -52,34 +52,34 @@ moves_sp To rt n s = advanced (register_written n (register s.registers rt) s)
 -- the state after an instruction of the table
 unfoldable pub executed : Inst → State → State
 executed (Shift row rd rt amount) s = computes (Shift row rd rt amount) s
-executed (ShiftBy row rd rt rs) s = computes (ShiftBy row rd rt rs) s
-executed (Register row rd rs rt) s = computes (Register row rd rs rt) s
+executed (ShiftBy row f) s = computes (ShiftBy row f) s
+executed (Register row f) s = computes (Register row f) s
 executed (Immediate row rt rs imm) s = computes (Immediate row rt rs imm) s
 executed (LoadUpper rt imm) s = computes (LoadUpper rt imm) s
-executed (Load row rt offset base) s = loads (Load row rt offset base) s
-executed (Store row rt offset base) s = stores (Store row rt offset base) s
+executed (Load row f) s = loads (Load row f) s
+executed (Store row f) s = stores (Store row f) s
 executed (JumpRegister rs) s = jumps (JumpRegister rs) s
 executed (JumpLinkRegister rd rs) s = jumps (JumpLinkRegister rd rs) s
 executed (BranchSign row rs offset) s = jumps (BranchSign row rs offset) s
 executed (BranchEqual row rs rt offset) s = jumps (BranchEqual row rs rt offset) s
 executed (Jump row target) s = jumps (Jump row target) s
-executed Break s = breaks s
+executed Break s = break_instruction s
 executed (MoveSp row rt n) s = moves_sp row rt n s
 executed (MoveVector row rt vector element) s = moves_vector row (MoveVector row rt vector element) rt s
 executed (MoveControl row rt control) s = moves_control row (MoveControl row rt control) rt s
-executed (Multiply row vd vs vt e) s = multiplies row vd vs vt e s
-executed (Round row vd vs vt e) s = rounds row vd vs vt e s
-executed (MpegMultiply row vd vs vt e) s = multiplies_mpeg row vd vs vt e s
-executed (ReadAccumulator vd vs vt e) s = reads_accumulator vd e s
-executed (VectorAdd row vd vs vt e) s = ruled (add_rule (add_op row)) vd vs vt e s
-executed (VectorSelect row vd vs vt e) s = ruled (select_rule (select_op row)) vd vs vt e s
-executed (VectorClip row vd vs vt e) s = ruled (clip_rule (clip_op row)) vd vs vt e s
-executed (VectorMerge vd vs vt e) s = ruled (merge_rule Vmrg) vd vs vt e s
-executed (VectorLogic row vd vs vt e) s = ruled (logic_rule (logic_op row)) vd vs vt e s
-executed (Lane row vd lane vt e) s = divides row vd lane vt e s
+executed (Multiply row f) s = multiplies row f s
+executed (Round row f) s = rounds row f s
+executed (MpegMultiply row f) s = multiplies_mpeg row f s
+executed (ReadAccumulator f) s = reads_accumulator f s
+executed (VectorAdd row f) s = ruled (add_rule (add_op row)) f s
+executed (VectorSelect row f) s = ruled (select_rule (select_op row)) f s
+executed (VectorClip row f) s = ruled (clip_rule (clip_op row)) f s
+executed (VectorMerge f) s = ruled (merge_rule Vmrg) f s
+executed (VectorLogic row f) s = ruled (logic_rule (logic_op row)) f s
+executed (Divide row vd lane vt e) s = divides row vd lane vt e s
 executed (Idle row) s = advanced s
-executed (VectorLoad row vt e offset base) s = loads_vector (VectorLoad row vt e offset base) base s
-executed (VectorStore row vt e offset base) s = stores_vector (VectorStore row vt e offset base) base s
+executed (VectorLoad row f) s = loads_vector row f s
+executed (VectorStore row f) s = stores_vector row f s
 
 -- the state after a step: halted where single step is set in the state that the instruction made
 abbrev pub singled : State → State

@@ -1,12 +1,17 @@
 -- What the vector rows do. Sources are those of the state before; each row then goes on to the next place.
 use Rattle.std.specs.Prelude.{ℕ, ◌%◌, ◌==◌, List, slice_index}
 use Rattle.rsp_decode.specs.declared.inst.Inst.{Inst}
+use Rattle.rsp_decode.specs.declared.inst.Inst.TheVariants.{VectorLoad, VectorStore}
 use Rattle.rsp_decode.specs.declared.inst.MoveRow.{MoveRow}
 use Rattle.rsp_decode.specs.declared.inst.MoveRow.TheVariants.{From, To}
 use Rattle.rsp_decode.specs.declared.inst.MultiplyRow.{MultiplyRow}
 use Rattle.rsp_decode.specs.declared.inst.RoundRow.{RoundRow}
 use Rattle.rsp_decode.specs.declared.inst.MpegRow.{MpegRow}
-use Rattle.rsp_decode.specs.declared.inst.LaneRow.{LaneRow}
+use Rattle.rsp_decode.specs.declared.inst.DivideRow.{DivideRow}
+use Rattle.rsp_decode.specs.declared.inst.VectorLoadRow.{VectorLoadRow}
+use Rattle.rsp_decode.specs.declared.inst.VectorStoreRow.{VectorStoreRow}
+use Rattle.rsp_decode.specs.declared.operands.VectorFields.{VectorFields}
+use Rattle.rsp_decode.specs.declared.operands.VectorMemoryFields.{VectorMemoryFields}
 use Rattle.rsp_lanes.specs.Lanes.{each_lane, source_lane}
 use Rattle.rsp_flags.specs.Outcome.{Rule, results_of, flags_after, numbers_after}
 use Rattle.rsp_multiply.specs.Rows.{accumulators_after, clamped_by, sar_of}
@@ -20,50 +25,50 @@ use Rattle.rsp_loadstore.specs.Stores.{stored_memory}
 use Rattle.rsp_loadstore.specs.Moves.{moved_file, moved_value}
 use Rattle.rsp_loadstore.specs.Controls.{controlled_flags, control_value}
 use Rattle.rsp_machine.specs.State.{State, advanced}
-use Rattle.rsp_machine.specs.Ops.{multiply_op, round_op, mpeg_op, lane_op}
+use Rattle.rsp_machine.specs.Ops.{multiply_op, round_op, mpeg_op, divide_op}
 
--- register vt with its lanes as the element e selects them
-abbrev pub selected : List (List ℕ) → ℕ → ℕ → List ℕ
-selected file vt e = each_lane (λ i. slice_index (vector file vt) (source_lane e i))
+-- register vt with its lanes as the element selects them
+abbrev pub selected : List (List ℕ) → VectorFields → List ℕ
+selected file f = each_lane (λ i. slice_index (vector file f.vt) (source_lane f.element i))
 
 -- a multiply of vs and the selected vt: the accumulators after it, and in vd their clamp
-unfoldable pub multiplies : MultiplyRow → ℕ → ℕ → ℕ → ℕ → State → State
-multiplies row vd vs vt e s =
-    let after = accumulators_after (multiply_op row) (vector s.vectors vs) (selected s.vectors vt e) s.accumulators in
-    advanced (record s { accumulators = after; vectors = with_vector s.vectors vd (clamped_by (multiply_op row) after) })
+unfoldable pub multiplies : MultiplyRow → VectorFields → State → State
+multiplies row f s =
+    let after = accumulators_after (multiply_op row) (vector s.vectors f.vs) (selected s.vectors f) s.accumulators in
+    advanced (record s { accumulators = after; vectors = with_vector s.vectors f.vd (clamped_by (multiply_op row) after) })
 
 -- a rounding of the accumulators by the selected vt, of which 65536 times as much counts where the number vs is odd: the
 -- accumulators after it, and in vd their signed clamp
-unfoldable pub rounds : RoundRow → ℕ → ℕ → ℕ → ℕ → State → State
-rounds row vd vs vt e s =
-    let after = accumulators_rounded (round_op row) (vs % 2 == 1) (selected s.vectors vt e) s.accumulators in
-    advanced (record s { accumulators = after; vectors = with_vector s.vectors vd (clamped_signed after) })
+unfoldable pub rounds : RoundRow → VectorFields → State → State
+rounds row f s =
+    let after = accumulators_rounded (round_op row) (f.vs % 2 == 1) (selected s.vectors f) s.accumulators in
+    advanced (record s { accumulators = after; vectors = with_vector s.vectors f.vd (clamped_signed after) })
 
 -- an MPEG multiply of vs and the selected vt: the accumulators after it, and in vd their halves
-unfoldable pub multiplies_mpeg : MpegRow → ℕ → ℕ → ℕ → ℕ → State → State
-multiplies_mpeg row vd vs vt e s =
-    let after = accumulators_mpeg (mpeg_op row) (vector s.vectors vs) (selected s.vectors vt e) s.accumulators in
-    advanced (record s { accumulators = after; vectors = with_vector s.vectors vd (halved_mpeg after) })
+unfoldable pub multiplies_mpeg : MpegRow → VectorFields → State → State
+multiplies_mpeg row f s =
+    let after = accumulators_mpeg (mpeg_op row) (vector s.vectors f.vs) (selected s.vectors f) s.accumulators in
+    advanced (record s { accumulators = after; vectors = with_vector s.vectors f.vd (halved_mpeg after) })
 
--- a read of the accumulators into vd, by the element e
-unfoldable pub reads_accumulator : ℕ → ℕ → State → State
-reads_accumulator vd e s = advanced (record s { vectors = with_vector s.vectors vd (sar_of e s.accumulators) })
+-- a read of the accumulators into vd, by the element
+unfoldable pub reads_accumulator : VectorFields → State → State
+reads_accumulator f s = advanced (record s { vectors = with_vector s.vectors f.vd (sar_of f.element s.accumulators) })
 
 -- a row that has a rule for one lane, on vs and the selected vt
-unfoldable pub ruled : Rule → ℕ → ℕ → ℕ → ℕ → State → State
-ruled rule vd vs vt e s =
-    let a = vector s.vectors vs in
-    let b = selected s.vectors vt e in
+unfoldable pub ruled : Rule → VectorFields → State → State
+ruled rule f s =
+    let a = vector s.vectors f.vs in
+    let b = selected s.vectors f in
     advanced (record s {
-      vectors = with_vector s.vectors vd (results_of rule a b s.flags);
+      vectors = with_vector s.vectors f.vd (results_of rule a b s.flags);
       flags = flags_after rule a b s.flags;
       accumulators = numbers_after rule a b s.flags s.accumulators;
     })
 
--- a row of one lane, which writes that lane of vd; vt is as it stood before, so that it may be vd
-unfoldable pub divides : LaneRow → ℕ → ℕ → ℕ → ℕ → State → State
+-- a divide row, which writes one lane of vd; vt is as it stood before, so that it may be vd
+unfoldable pub divides : DivideRow → ℕ → ℕ → ℕ → ℕ → State → State
 divides row vd lane vt e s =
-    let op = lane_op row in
+    let op = divide_op row in
     let source = vector s.vectors vt in
     advanced (record s {
       vectors = with_vector s.vectors vd (lane_written op e lane source s.divider (vector s.vectors vd));
@@ -72,15 +77,17 @@ divides row vd lane vt e s =
     })
 
 -- a vector load from DMEM, at the base register's value and the offset
-unfoldable pub loads_vector : Inst → ℕ → State → State
-loads_vector i base s =
-    let a = transfer_address i (register s.registers base) in
+unfoldable pub loads_vector : VectorLoadRow → VectorMemoryFields → State → State
+loads_vector row f s =
+    let i = VectorLoad row f in
+    let a = transfer_address i (register s.registers f.base) in
     advanced (record s { vectors = loaded_file i a s.dmem s.vectors })
 
 -- a vector store to DMEM, at such an address
-unfoldable pub stores_vector : Inst → ℕ → State → State
-stores_vector i base s =
-    let a = transfer_address i (register s.registers base) in
+unfoldable pub stores_vector : VectorStoreRow → VectorMemoryFields → State → State
+stores_vector row f s =
+    let i = VectorStore row f in
+    let a = transfer_address i (register s.registers f.base) in
     advanced (record s { dmem = stored_memory i a s.vectors s.dmem })
 
 -- a move from a vector register to scalar register rt, or back

@@ -5,11 +5,12 @@
 //! the states before and after it.
 #![tactic(auto)]
 
+mod change;
 mod host;
+mod lanes;
 pub mod laws;
 mod machine;
 mod ops;
-mod part;
 mod record;
 mod recorder;
 mod step;

@@ -1,10 +1,10 @@
 ghost use Rattle.std.specs.Prelude.{◌≡◌};
-ghost use Rattle.rsp_machine.specs.Ops.{multiply_op, round_op, mpeg_op, add_op, select_op, clip_op, logic_op, lane_op};
+ghost use Rattle.rsp_machine.specs.Ops.{multiply_op, round_op, mpeg_op, add_op, select_op, clip_op, logic_op, divide_op};
 
 use rsp_clip::ClipOp;
 use rsp_compare::{AddOp, LogicOp, SelectOp};
 use rsp_decode::{
-    LaneRow, MpegRow, MultiplyRow, RoundRow, VectorAddRow, VectorClipRow, VectorLogicRow,
+    DivideRow, MpegRow, MultiplyRow, RoundRow, VectorAddRow, VectorClipRow, VectorLogicRow,
     VectorSelectRow,
 };
 use rsp_divide::DivideOp;
@@ -102,16 +102,16 @@ pub(crate) fn logic_op(row: VectorLogicRow) -> LogicOp
 }
 
 #[inline(always)]
-pub(crate) fn lane_op(row: LaneRow) -> DivideOp
-    ensures { result ≡ lane_op row }
+pub(crate) fn divide_op(row: DivideRow) -> DivideOp
+    ensures { result ≡ divide_op row }
 {
     match row {
-        LaneRow::Vrcp => DivideOp::Vrcp,
-        LaneRow::Vrcpl => DivideOp::Vrcpl,
-        LaneRow::Vrcph => DivideOp::Vrcph,
-        LaneRow::Vmov => DivideOp::Vmov,
-        LaneRow::Vrsq => DivideOp::Vrsq,
-        LaneRow::Vrsql => DivideOp::Vrsql,
-        LaneRow::Vrsqh => DivideOp::Vrsqh,
+        DivideRow::Vrcp => DivideOp::Vrcp,
+        DivideRow::Vrcpl => DivideOp::Vrcpl,
+        DivideRow::Vrcph => DivideOp::Vrcph,
+        DivideRow::Vmov => DivideOp::Vmov,
+        DivideRow::Vrsq => DivideOp::Vrsq,
+        DivideRow::Vrsql => DivideOp::Vrsql,
+        DivideRow::Vrsqh => DivideOp::Vrsqh,
     }
 }

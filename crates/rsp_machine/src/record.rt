@@ -1,18 +1,19 @@
 // What one step changed, kept in a slot.
 
 ghost use Rattle.std.specs.Prelude.{◌≡◌, ◌<◌, ◌≤◌, ◌%◌};
+ghost use Rattle.rsp_decode.specs.declared.inst.Inst.{Inst};
 ghost use Rattle.rsp_scalar.specs.Registers.{register};
 ghost use Rattle.rsp_scalar.specs.Rows.{address};
 ghost use Rattle.rsp_loadstore.specs.File.{register as vector};
 ghost use Rattle.rsp_loadstore.specs.Addresses.{transfer_address};
-ghost use Rattle.rsp_machine.specs.declared.part.Part.TheVariants as part;
-ghost use Rattle.rsp_machine.specs.Saved.{IsPart, blank, is_back, may_store, window_of, group_at, with_group, vd_at, with_product, with_vco, undone};
+ghost use Rattle.rsp_machine.specs.declared.change.Change.TheVariants as change;
+ghost use Rattle.rsp_machine.specs.Saved.{IsChange, blank, is_back, may_store, window_of, group_at, with_group, vd_at, with_product, with_vco, undone};
 
+use crate::change::{Change, vd_of};
 use crate::machine::Machine;
-use crate::part::{Part, vd_of};
 use crate::visits::Keeper;
 use rsp_acc::{Acc, Addends};
-use rsp_decode::{Inst, VectorStoreRow, decode};
+use rsp_decode::{Inst, ScalarMemoryFields, VectorMemoryFields, VectorStoreRow, decode};
 use rsp_divide::Divider;
 use rsp_flags::Flags;
 use rsp_lanes::VReg;
@@ -25,7 +26,7 @@ use std::marker::Model;
 #[derive(Drop)]
 pub struct Record {
     pc: u16,
-    part: Part,
+    change: Change,
     word: u32,
     bytes: [u8; 16],
     vector: VReg,
@@ -38,13 +39,13 @@ pub struct Record {
 
 impl Model for Record {
     ghost use Rattle.std.specs.Prelude.{◌≡◌, ◌<◌, ◌%◌};
-    ghost use Rattle.rsp_machine.specs.Saved.{Saved, IsPart};
+    ghost use Rattle.rsp_machine.specs.Saved.{Saved, IsChange};
 
     ghost Value = { Saved };
 
     ghost view = { λ r. record {
       pc = r.pc;
-      part = r.part;
+      change = r.change;
       word = r.word;
       bytes = r.bytes;
       vector = r.vector;
@@ -55,7 +56,7 @@ impl Model for Record {
       sp = r.sp;
     } };
 
-    ghost invariant = { λ r. (r.pc < 4096) × (r.pc % 4 ≡ 0) × IsPart r.part };
+    ghost invariant = { λ r. (r.pc < 4096) × (r.pc % 4 ≡ 0) × IsChange r.change };
 }
 
 impl Record {
@@ -67,7 +68,7 @@ impl Record {
         let zeros = VReg::new();
         Record {
             pc: 0,
-            part: Part::Nothing,
+            change: Change::Dma,
             word: 0,
             bytes: [0; 16],
             vector: zeros,
@@ -82,9 +83,9 @@ impl Record {
     /// Whether a way leads back.
     #[inline(always)]
     pub(crate) fn is_back(&self) -> bool
-        ensures { result ≡ is_back self.now.part }
+        ensures { result ≡ is_back self.now.change }
     {
-        !matches!(self.part, Part::Nothing)
+        !matches!(self.change, Change::Dma)
     }
 
     /// Whether the step that this slot was last written by may have changed DMEM.
@@ -92,7 +93,7 @@ impl Record {
     pub fn may_store(&self) -> bool
         ensures { result ≡ may_store self.now }
     {
-        matches!(self.part, Part::Bytes(_) | Part::Nothing)
+        matches!(self.change, Change::Bytes(_) | Change::Dma)
     }
 
     /// Keeps vector register `n` and the accumulators.
@@ -136,42 +137,42 @@ impl Record {
 }
 
 impl Keeper for Record {
-    ghost use Rattle.rsp_machine.specs.Saved.{kept_part};
+    ghost use Rattle.rsp_machine.specs.Saved.{kept_change};
 
-    ghost keeps = { kept_part };
+    ghost keeps = { kept_change };
 
     #[inline(always)]
-    #[tactic(auto, unfolding(crate::specs::Saved::kept_part, crate::specs::Saved::saved))]
-    fn keep<A: Acc>(&mut self, machine: &Machine<A>, part: Part) {
+    #[tactic(auto, unfolding(crate::specs::Saved::kept_change, crate::specs::Saved::saved))]
+    fn keep<A: Acc>(&mut self, machine: &Machine<A>, change: Change) {
         self.pc = machine.pc;
-        self.part = part.nameless();
-        match part {
-            Part::Places | Part::Nothing => (),
-            Part::Register(n) => self.word = machine.regs.get(n as u8),
-            Part::Bytes(a) => self.bytes = machine.dmem.window(a),
-            Part::Vector(n) => self.vector = machine.vregs.reg(n as u8),
-            Part::Group(n) => self.keep_group(&machine.vregs, n),
-            Part::Product(n) => self.keep_product(machine, n),
-            Part::Sum(n) => {
+        self.change = change.nameless();
+        match change {
+            Change::Places | Change::Dma => (),
+            Change::Register(n) => self.word = machine.regs.get(n as u8),
+            Change::Bytes(a) => self.bytes = machine.dmem.window(a),
+            Change::Vector(n) => self.vector = machine.vregs.reg(n as u8),
+            Change::Group(n) => self.keep_group(&machine.vregs, n),
+            Change::Product(n) => self.keep_product(machine, n),
+            Change::Sum(n) => {
                 self.keep_product(machine, n);
                 self.keep_vco(&machine.flags);
             }
-            Part::Choice(n) => {
+            Change::Choice(n) => {
                 self.keep_product(machine, n);
                 self.keep_vco(&machine.flags);
                 self.flags.compare = machine.flags.compare;
                 self.flags.clip = machine.flags.clip;
             }
-            Part::Clip(n) => {
+            Change::Clip(n) => {
                 self.keep_product(machine, n);
                 self.flags = machine.flags;
             }
-            Part::Lane(n) => {
+            Change::Divide(n) => {
                 self.keep_product(machine, n);
                 self.divider = machine.divider;
             }
-            Part::Flags => self.flags = machine.flags,
-            Part::Sp(n) => {
+            Change::Flags => self.flags = machine.flags,
+            Change::Sp(n) => {
                 self.word = machine.regs.get(n as u8);
                 self.sp = machine.sp;
             }
@@ -182,21 +183,22 @@ impl Keeper for Record {
 impl<A: Acc> Machine<A> {
     /// The bytes of DMEM that a scalar store writes among.
     #[inline(always)]
-    pub(crate) fn stored_part(&self, offset: u16, base: u8) -> Part
-        requires { base < 32 }
-        ensures { result ≡ part.Bytes (address self.now.registers base offset) }
+    pub(crate) fn stored_change(&self, fields: ScalarMemoryFields) -> Change
+        requires { fields.base < 32 }
+        ensures { result ≡ change.Bytes (address self.now.registers fields.base fields.offset) }
     {
-        Part::Bytes(rsp_scalar::address(&self.regs, base, offset))
+        Change::Bytes(rsp_scalar::address(&self.regs, fields.base, fields.offset))
     }
 
     /// The bytes of DMEM that a vector store writes among.
     #[inline(always)]
-    pub(crate) fn window_part(&self, inst: &Inst, row: VectorStoreRow, base: u8) -> Part
-        requires { base < 32 }
-        ensures { result ≡ part.Bytes (window_of row (transfer_address inst.now (register self.now.registers base))) }
+    pub(crate) fn window_change(&self, row: VectorStoreRow, fields: VectorMemoryFields) -> Change
+        requires { fields.base < 32 }
+        ensures { result ≡ change.Bytes (window_of row (transfer_address (Inst.VectorStore row fields) (register self.now.registers fields.base))) }
     {
-        let a = rsp_loadstore::address(inst, self.regs.get(base));
-        Part::Bytes(match row {
+        let inst = Inst::VectorStore { row, fields };
+        let a = rsp_loadstore::address(&inst, self.regs.get(fields.base));
+        Change::Bytes(match row {
             VectorStoreRow::Srv => a - a % 16,
             _ => a - a % 8,
         })
@@ -209,33 +211,33 @@ impl<A: Acc> Machine<A> {
     pub fn undo(&mut self, slot: &Record)
         ensures { self.new ≡ undone slot.now self.old }
     {
-        match slot.part {
-            Part::Places => (),
-            Part::Register(n) => self.regs.set(n as u8, slot.word),
-            Part::Bytes(a) => self.dmem.set_bytes(a, &slot.bytes),
-            Part::Vector(n) => self.vregs.set_reg(n as u8, slot.vector),
-            Part::Group(n) => self.put_group(n as u8, &slot.vectors),
-            Part::Product(_) => self.put_product(slot),
-            Part::Sum(_) => self.put_sum(slot),
-            Part::Choice(_) => {
+        match slot.change {
+            Change::Places => (),
+            Change::Register(n) => self.regs.set(n as u8, slot.word),
+            Change::Bytes(a) => self.dmem.set_bytes(a, &slot.bytes),
+            Change::Vector(n) => self.vregs.set_reg(n as u8, slot.vector),
+            Change::Group(n) => self.put_group(n as u8, &slot.vectors),
+            Change::Product(_) => self.put_product(slot),
+            Change::Sum(_) => self.put_sum(slot),
+            Change::Choice(_) => {
                 self.put_sum(slot);
                 self.flags.compare = slot.flags.compare;
                 self.flags.clip = slot.flags.clip;
             }
-            Part::Clip(_) => {
+            Change::Clip(_) => {
                 self.put_product(slot);
                 self.flags = slot.flags;
             }
-            Part::Lane(_) => {
+            Change::Divide(_) => {
                 self.put_product(slot);
                 self.divider = slot.divider;
             }
-            Part::Flags => self.flags = slot.flags,
-            Part::Sp(n) => {
+            Change::Flags => self.flags = slot.flags,
+            Change::Sp(n) => {
                 self.regs.set(n as u8, slot.word);
                 self.sp = slot.sp;
             }
-            Part::Nothing => return,
+            Change::Dma => return,
         }
         self.sp.resume();
         self.npc = self.pc;

@@ -1,6 +1,6 @@
 ghost use Rattle.std.specs.Prelude.{◌≡◌, ◌<◌, ◌%◌};
 ghost use Rattle.rsp_decode.specs.Table.{IsInstruction};
-ghost use Rattle.rsp_machine.specs.Step.{computes, loads, stores, jumps, breaks, moves_sp, step_of};
+ghost use Rattle.rsp_machine.specs.Step.{computes, loads, stores, jumps, break_instruction, moves_sp, step_of};
 ghost use Rattle.rsp_machine.specs.State.{advanced};
 ghost use Rattle.rsp_machine.specs.Saved.{told_of};
 ghost use Rattle.rsp_scalar.specs.Flow.{going_on};
@@ -93,9 +93,9 @@ impl<A: Acc> Machine<A> {
 
     /// BREAK.
     #[inline(always)]
-    #[tactic(auto, unfolding(crate::specs::Step::breaks))]
-    pub(crate) fn stop(&mut self)
-        ensures { self.new ≡ breaks self.old }
+    #[tactic(auto, unfolding(crate::specs::Step::break_instruction))]
+    pub(crate) fn break_instruction(&mut self)
+        ensures { self.new ≡ break_instruction self.old }
     {
         self.sp.on_break();
         self.advance();
