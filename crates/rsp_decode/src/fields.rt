@@ -130,7 +130,7 @@ pub fn element(word: u32) -> u8
     (word >> 21 & 15) as u8
 }
 
-/// Bits 13 to 11: the lane that a single-lane row writes.
+/// Bits 13 to 11: the lane that a divide row writes.
 #[inline(always)]
 pub fn lane(word: u32) -> u8
     ensures { result ≡ value_at word (whole 11 3) }

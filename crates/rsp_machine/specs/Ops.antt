@@ -87,7 +87,7 @@ logic_op logic_rows.Vnor = logic_ops.Vnor
 logic_op logic_rows.Vxor = logic_ops.Vxor
 logic_op logic_rows.Vnxor = logic_ops.Vnxor
 
--- rows of one lane
+-- divide rows
 abbrev pub divide_op : DivideRow → DivideOp
 divide_op divide_rows.Vrcp = divide_ops.Vrcp
 divide_op divide_rows.Vrcpl = divide_ops.Vrcpl
