@@ -6,6 +6,7 @@ pub mod ScalarRows
 pub mod VectorRows
 pub mod Words
 pub mod Choices
+pub mod Entries
 pub use Places.{Place, value_at, placed, FitsPlace, with_fields, FitPlaces, whole, capped, stepped}
 pub use Operands.{Operand, element_place, places, scalar, shift_amount, signed, unsigned, jump_target, branch_target, scalar_memory, vector_memory, sp_register, control_register, vector, vector_byte, vector_element, vector_lane}
 pub use Rows.{Selector, selector, opcode, special, regimm, cop0, cop2_move, computing, transfer, half_transfer, Row, row, none, one, two, three, four, fits, row_places, fields, meaning_of}
@@ -14,3 +15,4 @@ pub use VectorRows.{control_of, control_number, move_vector_selector, move_vecto
 pub use Words.{rows, word_from, parts, IsInstruction, word_of}
 unfoldable pub use Words.{row_of, inst_of, canonical_of}
 pub use Choices.{pick, pick_transfer}
+pub use Entries.{Entry, entry_of, entry}

@@ -1,6 +1,6 @@
 use Rattle.std.proofs.Common.{◌≡◌, ◌∙◌, sym, ap, arith, length}
 use Rattle.std.specs.Prelude.{option_map, Some}
-use Rattle.rsp_text.specs.Rows.{row_entry}
+use Rattle.rsp_decode.specs.Table.{entry}
 use Rattle.rsp_text.specs.Source.{size_if, statement_words}
 use Rattle.rsp_text.specs.Statement.{statement_of, operand_texts, form_named, with_form, numbers_form, row_form}
 use Rattle.rsp_asm.specs.Forms.{form}
@@ -40,7 +40,7 @@ returns-in-Row c =
     let operands = c.split.result.1.now in
     let ts = operand_texts operands in
     let labels = c.args.labels.now in
-    let e = row_entry c.in-Row.row in
+    let e = entry c.in-Row.row in
     let is = is_row (form_named name (length ts)) e (sym (ap (option_map form) (c.in-Some.is ∙ ap Some c.in-Row.is)) ∙ c.form_of.ensures.form) in
     let st : statement_of text ≡ with_form (Some (row_form is.0)) ts = statement_is text name operands (Some (row_form is.0)) (sym c.is_empty.ensures ∙ c.if-is_empty.false) c.split.ensures.name c.split.ensures.operands is.1 in
     puts_same (row_words labels c.args.place e ts) (statement_words labels c.args.place (statement_of text)) (row_size e ts) (size_if (statement_of text)) c.args.words.now.items c.push_row.new.words.items c.push_row.result
