@@ -86,8 +86,8 @@ record Word (r : Row) (vs : List ℕ) : Type 0 where
   canonical : canonical_of (word_from r vs) ≡ Some (word_from r vs)
 
 -- the rows that statements have: their operands are of the fourteen kinds, and the table decodes their words
-record Usable (r : Row) : Type 0 where
-  kinds : list_all is_row_operand r.operands ≡ true
+pub record Usable (r : Row) : Type 0 where
+  pub kinds : list_all is_row_operand r.operands ≡ true
   words : (vs : List ℕ) → FitPlaces (row_places r) vs → Word r vs
 
 named_usable : (name : List ℕ) (r : Row) → row_named name ≡ Some r → Usable r
@@ -120,7 +120,7 @@ choose false false true o row e = let same : linking_row ≡ row = cc in inr (sy
 choose false false false None row e = absurd cc
 choose false false false (Some r) row e = let same : r ≡ row = cc in inl (ap Some same)
 
-form_usable : (name : List ℕ) (count : ℕ) (row : Row) → form_named name count ≡ Some (row_form row) → Usable row
+pub form_usable : (name : List ℕ) (count : ℕ) (row : Row) → form_named name count ≡ Some (row_form row) → Usable row
 form_usable name count row e =
     elim (choose (str_eq_ignore_ascii_case name (codes "nop")) (str_eq_ignore_ascii_case name (codes ".word")) (str_eq_ignore_ascii_case name (codes "jalr") && count == 1) (row_named name) row e) [
       | inl named ↦ named_usable name row named

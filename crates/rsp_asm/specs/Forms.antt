@@ -1,9 +1,6 @@
 -- The form of a statement, as the code has it. This is scaffolding of the proofs: what a statement means is in the
 -- definitions of rsp_text.
-use Rattle.std.specs.Prelude.{◌≡◌, true}
-use Rattle.std.specs.List.{list_all}
 use Rattle.rsp_decode.specs.Table.{Entry, entry_of, entry}
-use Rattle.rsp_text.specs.Rows.{is_row_operand}
 use Rattle.rsp_text.specs.Statement as statement
 use Rattle.rsp_text.specs.Statement.{no_operation, numbers_form, row_form}
 use Rattle.rsp_asm.specs.declared.form.Form.{Form}
@@ -24,9 +21,3 @@ abbrev pub form_shape : statement.Form → Shape
 form_shape no_operation = nothing_shape
 form_shape numbers_form = numbers_shape
 form_shape (row_form row) = row_shape (entry_of row)
-
--- the registers of a row stand inside the word
-abbrev pub FormFits : Form → Type 0
-FormFits NoOperation = Unit {0}
-FormFits Numbers = Unit {0}
-FormFits (Row row) = list_all is_row_operand row.operands.now ≡ true

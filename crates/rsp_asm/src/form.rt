@@ -1,11 +1,11 @@
 // What the name of a statement stands for.
 
-ghost use Rattle.std.specs.Prelude.{◌≡◌, ◌==◌, length, option_map, IfSome};
+ghost use Rattle.std.specs.Prelude.{◌≡◌, ◌==◌, length, option_map};
 ghost use Rattle.std.specs.List.{before_first, after_first};
 ghost use Rattle.rsp_text.specs.Chars.{stops};
 ghost use Rattle.rsp_text.specs.declared.text.Stop.TheVariants.{Blank};
 ghost use Rattle.rsp_text.specs.Statement.{form_named, operand_texts};
-ghost use Rattle.rsp_asm.specs.Forms.{form, form_shape, FormFits};
+ghost use Rattle.rsp_asm.specs.Forms.{form, form_shape};
 
 use rsp_decode::{Operand, TableRow};
 use rsp_text::{Stop, cut, find_row, is_same};
@@ -49,8 +49,7 @@ fn is_single(operands: &[u8]) -> bool
 /// The form of a name, in either case, before these operands: `jalr` with one operand links in register 31. It is None where
 /// no statement has this name.
 pub fn form_of(name: &[u8], operands: &[u8]) -> Option<Form>
-    ensures form { option_map form result ≡ option_map form_shape (form_named name.now (length (operand_texts operands.now))) }
-    ensures fit { IfSome result FormFits }
+    ensures { option_map form result ≡ option_map form_shape (form_named name.now (length (operand_texts operands.now))) }
 {
     if is_same(name, b"nop") {
         return Some(Form::NoOperation);

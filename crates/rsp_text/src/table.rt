@@ -1,9 +1,8 @@
 // The rows of the instruction table, by name and by word.
 
-ghost use Rattle.std.specs.Prelude.{◌≡◌, map, find, option_map, IfSome, true};
-ghost use Rattle.std.specs.List.{list_all};
+ghost use Rattle.std.specs.Prelude.{◌≡◌, map, find, option_map};
 ghost use Rattle.rsp_decode.specs.Table.{entry, entry_of, row_of};
-ghost use Rattle.rsp_text.specs.Rows.{has_name, is_selected, is_row_operand};
+ghost use Rattle.rsp_text.specs.Rows.{has_name, is_selected};
 ghost use Rattle.rsp_text.specs.Statement.{row_named};
 
 use crate::text::is_same;
@@ -22,8 +21,7 @@ fn find_in(rows: &'static [TableRow], name: &[u8]) -> Option<TableRow>
 
 /// The row of a name, in either case.
 pub fn find_row(name: &[u8]) -> Option<TableRow>
-    ensures row { option_map entry result ≡ option_map entry_of (row_named name.now) }
-    ensures operands { IfSome result (λ row. list_all is_row_operand row.operands.now ≡ true) }
+    ensures { option_map entry result ≡ option_map entry_of (row_named name.now) }
 {
     find_in(table(), name)
 }
