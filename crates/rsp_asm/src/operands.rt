@@ -3,7 +3,7 @@
 ghost use Rattle.std.specs.Prelude.{◌≡◌, ◌+◌, ◌≤◌, ◌∷◌, length, map, option_map, is_some, true};
 ghost use Rattle.std.specs.List.{slice_split, list_all};
 ghost use Rattle.rsp_text.specs.Chars.{stops, trim};
-ghost use Rattle.rsp_text.specs.Rows.{is_row_operand};
+ghost use Rattle.rsp_decode.specs.Table.{is_row_operand};
 ghost use Rattle.rsp_text.specs.Statement.{read_all, operand_texts, texts_in};
 ghost use Rattle.rsp_text.specs.declared.text.Stop.TheVariants.{Comma};
 ghost use Rattle.rsp_asm.specs.Walks.{left_length, any_fails, put_all};

@@ -3,8 +3,7 @@
 ghost use Rattle.std.specs.Prelude.{◌≡◌, ◌+◌, ◌≤◌, true};
 ghost use Rattle.std.specs.List.{list_all};
 ghost use Rattle.arrayvec.specs.ArrayVec.{array_vec_len};
-ghost use Rattle.rsp_decode.specs.Table.{entry};
-ghost use Rattle.rsp_text.specs.Rows.{is_row_operand};
+ghost use Rattle.rsp_decode.specs.Table.{entry, is_row_operand};
 ghost use Rattle.rsp_text.specs.Source.{size_if, statement_words};
 ghost use Rattle.rsp_text.specs.Statement.{statement_of, operand_texts};
 ghost use Rattle.rsp_asm.specs.Walks.{Puts, nothing_size, nothing_words, listed_size, listed_words, row_size, row_word, row_words};

@@ -8,7 +8,7 @@ pub mod Words
 pub mod Choices
 pub mod Entries
 pub use Places.{Place, value_at, placed, FitsPlace, with_fields, FitPlaces, whole, capped, stepped}
-pub use Operands.{Operand, element_place, places, scalar, shift_amount, signed, unsigned, jump_target, branch_target, scalar_memory, vector_memory, sp_register, control_register, vector, vector_byte, vector_element, vector_lane}
+pub use Operands.{Operand, element_place, places, is_scale, is_step, is_row_operand, scalar, shift_amount, signed, unsigned, jump_target, branch_target, scalar_memory, vector_memory, sp_register, control_register, vector, vector_byte, vector_element, vector_lane}
 pub use Rows.{Selector, selector, opcode, special, regimm, cop0, cop2_move, computing, transfer, half_transfer, Row, row, none, one, two, three, four, fits, row_places, fields, meaning_of}
 pub use ScalarRows.{shift_selector, shift_row, shift_by_selector, shift_by_row, jump_register_row, jump_link_register_row, break_row, register_selector, register_row, branch_sign_selector, branch_sign_row, jump_selector, jump_row, branch_equal_selector, branch_equal_row, immediate_selector, immediate_operand, immediate_row, load_upper_row, load_selector, load_row, store_selector, store_row, move_sp_selector, move_sp_row, special_rows, regimm_rows, opcode_rows, cop0_rows}
 pub use VectorRows.{control_of, control_number, move_vector_selector, move_vector_row, move_control_selector, move_control_row, multiply_selector, multiply_row, round_selector, round_row, mpeg_selector, mpeg_row, read_accumulator_row, vector_add_selector, vector_add_row, vector_select_selector, vector_select_row, vector_clip_selector, vector_clip_row, vector_merge_row, vector_logic_selector, vector_logic_row, lane_selector, lane_row, idle_selector, idle_row, vector_load_selector, vector_load_scale, vector_load_step, vector_load_row, vector_store_selector, vector_store_scale, vector_store_step, vector_store_row, cop2_rows, computing_rows, load_rows, store_rows}

@@ -2,8 +2,7 @@
 
 ghost use Rattle.std.specs.Prelude.{◌≡◌, ◌<◌, ◌≤◌, ◌+◌, ◌*◌, ◌++◌, [], ◌∷◌, true};
 ghost use Rattle.arrayvec.specs.ArrayString.{array_string_len};
-ghost use Rattle.rsp_decode.specs.Table.{value_at, whole, element_place};
-ghost use Rattle.rsp_text.specs.Rows.{is_row_operand};
+ghost use Rattle.rsp_decode.specs.Table.{value_at, whole, element_place, is_row_operand};
 ghost use Rattle.rsp_text.specs.Spell.{target, reaches, operand_text, scalar_name, vector_name, sp_name, target_text};
 
 use crate::line::Line;

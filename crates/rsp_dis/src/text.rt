@@ -3,8 +3,7 @@
 ghost use Rattle.std.specs.Prelude.{◌≡◌, ◌<◌, ◌≤◌, ◌+◌, ◌*◌, ◌++◌, true, map, length};
 ghost use Rattle.std.specs.List.{list_all};
 ghost use Rattle.arrayvec.specs.ArrayString.{array_string_len};
-ghost use Rattle.rsp_decode.specs.Table.{entry};
-ghost use Rattle.rsp_text.specs.Rows.{is_row_operand};
+ghost use Rattle.rsp_decode.specs.Table.{entry, is_row_operand};
 ghost use Rattle.rsp_text.specs.Spell.{reaches, operand_text, more_operands, behind_name, plain_word, spell};
 ghost use Rattle.rsp_dis.specs.Room.{is_short};
 

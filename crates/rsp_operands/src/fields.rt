@@ -1,8 +1,7 @@
 // The fields of an operand, and where they stand in the word.
 
 ghost use Rattle.std.specs.Prelude.{◌≡◌, ◌≤◌, ◌*◌, ◌^◌, ◌∷◌, [], ℕ, true, bit_or};
-ghost use Rattle.rsp_decode.specs.Table.{places, with_fields};
-ghost use Rattle.rsp_text.specs.Rows.{is_row_operand};
+ghost use Rattle.rsp_decode.specs.Table.{places, with_fields, is_row_operand};
 ghost use Rattle.rsp_text.specs.Statement as statement;
 ghost use Rattle.rsp_text.specs.Statement.{fields_of};
 ghost use Rattle.rsp_operands.specs.Readings.{reading, capped_reading};

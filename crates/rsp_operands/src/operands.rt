@@ -1,8 +1,7 @@
 // An operand by its kind.
 
 ghost use Rattle.std.specs.Prelude.{◌≡◌, ◌≤◌, true, is_some};
-ghost use Rattle.rsp_decode.specs.Table.{places};
-ghost use Rattle.rsp_text.specs.Rows.{is_row_operand};
+ghost use Rattle.rsp_decode.specs.Table.{places, is_row_operand};
 ghost use Rattle.rsp_text.specs.Statement.{read, reading_fails, reading_fields, with_values};
 
 use crate::fields::{put, reading_fields};
