@@ -60,7 +60,10 @@ const STATEMENTS: [(u32, &[(Operand, &str)], u32); 13] = [
     // sw $t0, ($sp)
     (
         0xac00_0000,
-        &[(Operand::Scalar(16), "$t0"), (Operand::ScalarMemory, "($sp)")],
+        &[
+            (Operand::Scalar(16), "$t0"),
+            (Operand::ScalarMemory, "($sp)"),
+        ],
         0xafa8_0000,
     ),
     // mfc0 $1, $c4
@@ -81,7 +84,10 @@ const STATEMENTS: [(u32, &[(Operand, &str)], u32); 13] = [
     // ctc2 $1, $VCC
     (
         0x48c0_0000,
-        &[(Operand::Scalar(16), "$1"), (Operand::ControlRegister, "$VCC")],
+        &[
+            (Operand::Scalar(16), "$1"),
+            (Operand::ControlRegister, "$VCC"),
+        ],
         0x48c1_0800,
     ),
     // vadd $v1, $v2, $v3[2h]

@@ -1,7 +1,7 @@
 use rsp_decode::Operand;
 use rsp_text::{
-    Stop, control, cut, element, find_row, is_label, is_plain, is_same, number,
-    read_expression, scalar, skip_blanks, small_number, sp_register, trim, unsigned, vector,
+    Stop, control, cut, element, find_row, is_label, is_plain, is_same, number, read_expression,
+    scalar, skip_blanks, small_number, sp_register, trim, unsigned, vector,
 };
 
 #[test]
