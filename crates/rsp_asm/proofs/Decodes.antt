@@ -5,14 +5,13 @@ use Rattle.std.specs.List.{list_all, before_first, after_first}
 use Rattle.std.specs.Str.{str_eq_ignore_ascii_case}
 use Rattle.std.proofs.lemmas.Bool.{and_parts, cases_Bool, cond-true, cond-false, eqb-true, eq-eqb}
 use Rattle.rsp_decode.specs.declared.inst.Inst.TheVariants.{JumpLinkRegister}
-use Rattle.rsp_decode.specs.Table.{Row, rows, row_of, row_places, fits, fields, word_from, inst_of, canonical_of, FitPlaces}
+use Rattle.rsp_decode.specs.Table.{Row, rows, row_of, row_places, fits, fields, word_from, inst_of, canonical_of, FitPlaces, is_row_operand}
 use Rattle.rsp_decode.proofs.OneRow.{one_row}
 use Rattle.rsp_decode.proofs.Places.{apart_from, all_apart, under_others, fields_back, clear_from}
 use Rattle.rsp_decode.proofs.RowsBack.{round_trip, word_of_is_canonical}
 use Rattle.rsp_text.specs.declared.fault.AsmFaultKind.{AsmFaultKind}
 use Rattle.rsp_text.specs.declared.text.Stop.TheVariants.{Blank}
 use Rattle.rsp_text.specs.Chars.{stops}
-use Rattle.rsp_text.specs.Rows.{is_row_operand}
 use Rattle.rsp_text.specs.Statement.{Labels, Reading, nothing, numbers, instruction, Form, no_operation, numbers_form, row_form, row_named, linking_row, form_named, read_all, read_numbers, with_operands, with_form, operand_texts, all_fields, one_word, words_of}
 use Rattle.rsp_asm.specs.Decoding.{Decodes, StatementsDecode}
 use Rattle.rsp_asm.proofs.Fits.{AllFit, all_fit}
@@ -86,8 +85,8 @@ record Word (r : Row) (vs : List ℕ) : Type 0 where
   canonical : canonical_of (word_from r vs) ≡ Some (word_from r vs)
 
 -- the rows that statements have: their operands are of the fourteen kinds, and the table decodes their words
-record Usable (r : Row) : Type 0 where
-  kinds : list_all is_row_operand r.operands ≡ true
+pub record Usable (r : Row) : Type 0 where
+  pub kinds : list_all is_row_operand r.operands ≡ true
   words : (vs : List ℕ) → FitPlaces (row_places r) vs → Word r vs
 
 named_usable : (name : List ℕ) (r : Row) → row_named name ≡ Some r → Usable r
@@ -120,7 +119,7 @@ choose false false true o row e = let same : linking_row ≡ row = cc in inr (sy
 choose false false false None row e = absurd cc
 choose false false false (Some r) row e = let same : r ≡ row = cc in inl (ap Some same)
 
-form_usable : (name : List ℕ) (count : ℕ) (row : Row) → form_named name count ≡ Some (row_form row) → Usable row
+pub form_usable : (name : List ℕ) (count : ℕ) (row : Row) → form_named name count ≡ Some (row_form row) → Usable row
 form_usable name count row e =
     elim (choose (str_eq_ignore_ascii_case name (codes "nop")) (str_eq_ignore_ascii_case name (codes ".word")) (str_eq_ignore_ascii_case name (codes "jalr") && count == 1) (row_named name) row e) [
       | inl named ↦ named_usable name row named

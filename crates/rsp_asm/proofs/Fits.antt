@@ -5,7 +5,7 @@ use Rattle.std.specs.List.{list_all}
 use Rattle.std.specs.Str.{str_eq_ignore_ascii_case}
 use Rattle.std.proofs.lemmas.Bool.{and_parts, or_cases, eqb-true}
 use Rattle.std.proofs.lemmas.Bool.Decides.{nat_tests}
-use Rattle.rsp_decode.specs.Table.{Operand, scalar, shift_amount, signed, unsigned, jump_target, branch_target, scalar_memory, vector_memory, sp_register, control_register, vector, vector_byte, vector_element, vector_lane, Place, places, element_place, FitsPlace, FitPlaces}
+use Rattle.rsp_decode.specs.Table.{Operand, scalar, shift_amount, signed, unsigned, jump_target, branch_target, scalar_memory, vector_memory, sp_register, control_register, vector, vector_byte, vector_element, vector_lane, Place, places, element_place, FitsPlace, FitPlaces, is_scale, is_step, is_row_operand}
 use Rattle.rsp_text.specs.declared.fault.AsmFaultKind.{AsmFaultKind}
 use Rattle.rsp_text.specs.declared.slot.Slot.{Slot}
 use Rattle.rsp_text.specs.declared.slot.Slot.TheVariants.{Half, Amount, Jump, Branch, Scaled}
@@ -13,7 +13,6 @@ use Rattle.rsp_text.specs.declared.text.Stop.TheVariants.{Parenthesis, Bracket}
 use Rattle.rsp_text.specs.Chars.{cut}
 use Rattle.rsp_text.specs.Names.{look_up, below, small_number, is_decimal, scalar_names, scalar_named, vector_named, sp_named, control_names, control_named, element_names, element_named}
 use Rattle.rsp_text.specs.Numbers.{Expression, expression_of}
-use Rattle.rsp_text.specs.Rows.{is_scale, is_step, is_row_operand}
 use Rattle.rsp_text.specs.Statement.{Labels, Reading, named, asks, base_of, offset_of, memory, bracketed, multiple, byte_named, lane_named, with_element, bracket_of, memory_of, read, field, half, amount, jump, branch, scaled, evaluate, in_range, field_of, then_registers, fields_of, append, all_fields, read_all}
 
 -- ---- names

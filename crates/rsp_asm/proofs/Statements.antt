@@ -9,12 +9,11 @@ use Rattle.rsp_text.specs.declared.fault.AsmFaultKind.{AsmFaultKind}
 use Rattle.rsp_text.specs.declared.fault.AsmFaultKind.TheVariants.{OutOfRange, BadOperand}
 use Rattle.rsp_text.specs.declared.text.Stop.TheVariants.{Blank}
 use Rattle.rsp_text.specs.Chars.{stops}
-use Rattle.rsp_text.specs.Rows.{Entry}
+use Rattle.rsp_decode.specs.Table.{Entry, entry_of}
 use Rattle.rsp_text.specs.Source.{Parts, parts_of, size_if, size_in, size_of, statement_words, parts_words, line_words}
 use Rattle.rsp_text.specs.Statement.{Labels, Reading, nothing, numbers, instruction, Form, no_operation, numbers_form, row_form, read_all, read_numbers, form_named, form_readings, with_operands, with_form, statement_of, operand_texts, all_fields, with_values, one_word}
 use Rattle.rsp_asm.specs.Walks.{checked, checked_readings, number_text_fails, number_words, nothing_words, listed_words, listed_size, counted, row_words, row_size, word_with, single, where_read, Pushed, Puts}
 use Rattle.rsp_asm.proofs.Readings.{fails, numbers_fail, numbers_length, numbers_read}
-use Rattle.rsp_asm.specs.Forms.{known}
 
 abbrev pub name_of : List ℕ → List ℕ
 name_of bs = before_first (stops Blank) bs
@@ -108,10 +107,10 @@ listed_sized (t ∷ ts) = go (read_numbers (t ∷ ts)) (λ rs h. numbers_length 
     go None same = refl
     go (Some rs) same = sym (same rs refl)
 
-pub row_said : (labels : Labels) (place : ℕ) (row : Row) (e : Entry) (ts : List (List ℕ)) → known row ≡ e → row_words labels place e ts ≡ statement_words labels place (with_operands (form_readings (row_form row) ts))
+pub row_said : (labels : Labels) (place : ℕ) (row : Row) (e : Entry) (ts : List (List ℕ)) → entry_of row ≡ e → row_words labels place e ts ≡ statement_words labels place (with_operands (form_readings (row_form row) ts))
 row_said labels place row e ts same = sym (ap (λ (x : Entry). row_words labels place x ts) same) ∙ go (read_all row.operands ts)
   where
-    go : (o : Option (List Reading)) → single (word_with labels place (known row) o) ≡ statement_words labels place (with_operands (option_map (instruction row) o))
+    go : (o : Option (List Reading)) → single (word_with labels place (entry_of row) o) ≡ statement_words labels place (with_operands (option_map (instruction row) o))
     go None = refl
     go (Some rs) = again (all_fields labels place rs)
       where
@@ -119,7 +118,7 @@ row_said labels place row e ts same = sym (ap (λ (x : Entry). row_words labels 
         again (Err kind) = refl
         again (Ok vs) = refl
 
-pub row_sized : (row : Row) (e : Entry) (ts : List (List ℕ)) → known row ≡ e → row_size e ts ≡ size_if (with_operands (form_readings (row_form row) ts))
+pub row_sized : (row : Row) (e : Entry) (ts : List (List ℕ)) → entry_of row ≡ e → row_size e ts ≡ size_if (with_operands (form_readings (row_form row) ts))
 row_sized row e ts same = sym (ap (λ (x : Entry). row_size x ts) same) ∙ go (read_all row.operands ts)
   where
     go : (o : Option (List Reading)) → counted 1 o ≡ size_if (with_operands (option_map (instruction row) o))

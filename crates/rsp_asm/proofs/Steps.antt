@@ -6,11 +6,10 @@ use Rattle.std.proofs.lemmas.List.Splits.{length-slice_split}
 use Rattle.rsp_decode.specs.Table.{Operand}
 use Rattle.rsp_text.specs.declared.fault.AsmFaultKind.{AsmFaultKind}
 use Rattle.rsp_text.specs.declared.fault.AsmFaultKind.TheVariants.{BadOperand}
-use Rattle.rsp_text.specs.declared.table.Kind.{Kind}
+use Rattle.rsp_decode.specs.declared.rows.Operand.{Operand}
 use Rattle.rsp_text.specs.declared.text.Stop.TheVariants.{Comma}
 use Rattle.rsp_text.specs.Chars.{stops, trim}
 use Rattle.rsp_text.specs.Numbers.{expression_of}
-use Rattle.rsp_text.specs.Rows.{operand}
 use Rattle.rsp_text.specs.Statement.{Labels, Reading, read, read_all, texts_in, append, number_value}
 use Rattle.rsp_text.proofs.Tables.{at_index}
 use Rattle.std.proofs.lemmas.List.{append_assoc}
@@ -27,20 +26,20 @@ read_one k ks t ts = go (read k t)
     go None = refl
     go (Some r) = is_some_map (λ (rs : List Reading). r ∷ rs) (read_all ks ts)
 
-module _ (kinds : List Kind) (i : ℕ) (lt : i < length kinds) where
-  pub one_of : (d : Kind) (t : List ℕ) (ts : List (List ℕ)) → is_some (read_all (map operand (drop i kinds)) (t ∷ ts)) ≡ is_some (read (operand (get_or kinds i d)) t) && is_some (read_all (map operand (drop (i + 1) kinds)) ts)
+module _ (kinds : List Operand) (i : ℕ) (lt : i < length kinds) where
+  pub one_of : (d : Operand) (t : List ℕ) (ts : List (List ℕ)) → is_some (read_all (drop i kinds) (t ∷ ts)) ≡ is_some (read (get_or kinds i d) t) && is_some (read_all (drop (i + 1) kinds) ts)
   one_of d t ts =
-      ap (λ ks. is_some (read_all (map operand ks) (t ∷ ts))) (at_index kinds i d lt)
-      ∙ read_one (operand (get_or kinds i d)) (map operand (drop (i + 1) kinds)) t ts
+      ap (λ ks. is_some (read_all ks (t ∷ ts))) (at_index kinds i d lt)
+      ∙ read_one (get_or kinds i d) (drop (i + 1) kinds) t ts
 
-  pub too_few : (d : Kind) → is_some (read_all (map operand (drop i kinds)) []) ≡ false
-  too_few d = ap (λ ks. is_some (read_all (map operand ks) [])) (at_index kinds i d lt)
+  pub too_few : (d : Operand) → is_some (read_all (drop i kinds) []) ≡ false
+  too_few d = ap (λ ks. is_some (read_all ks [])) (at_index kinds i d lt)
 
-  pub fails_none : (place : ℕ) (d : Kind) → any_fails place (map operand (drop i kinds)) [] ≡ false
-  fails_none place d = ap (λ ks. any_fails place (map operand ks) []) (at_index kinds i d lt)
+  pub fails_none : (place : ℕ) (d : Operand) → any_fails place (drop i kinds) [] ≡ false
+  fails_none place d = ap (λ ks. any_fails place ks []) (at_index kinds i d lt)
 
-  pub put_none : (labels : Labels) (place w : ℕ) (d : Kind) → put_all labels place w (map operand (drop i kinds)) [] ≡ Err BadOperand
-  put_none labels place w d = ap (λ ks. put_all labels place w (map operand ks) []) (at_index kinds i d lt)
+  pub put_none : (labels : Labels) (place w : ℕ) (d : Operand) → put_all labels place w (drop i kinds) [] ≡ Err BadOperand
+  put_none labels place w d = ap (λ ks. put_all labels place w ks []) (at_index kinds i d lt)
 
 pub none_left : (o : Option (List ℕ)) (whole : Bool) → is_some (read_all [] (texts_in o)) ≡ whole → is_none o ≡ whole
 none_left None whole e = e

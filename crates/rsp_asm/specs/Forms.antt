@@ -1,14 +1,12 @@
--- The form of a statement, as the code has it.
-use Rattle.std.specs.Prelude.{◌≡◌, true}
-use Rattle.std.specs.List.{list_all}
-use Rattle.rsp_decode.specs.Table as table
-use Rattle.rsp_text.specs.Rows.{Entry, entry_of, row_entry, is_row_operand}
+-- The form of a statement, as the code has it. This is scaffolding of the proofs: what a statement means is in the
+-- definitions of rsp_text.
+use Rattle.rsp_decode.specs.Table.{Entry, entry_of, entry}
 use Rattle.rsp_text.specs.Statement as statement
 use Rattle.rsp_text.specs.Statement.{no_operation, numbers_form, row_form}
 use Rattle.rsp_asm.specs.declared.form.Form.{Form}
 use Rattle.rsp_asm.specs.declared.form.Form.TheVariants.{NoOperation, Numbers, Row}
 
--- a form, of whose row only the word and the operands are known
+-- a form, of whose row all but its instruction is known
 pub data Shape : Type 0 where
   nothing_shape : Shape
   numbers_shape : Shape
@@ -17,19 +15,9 @@ pub data Shape : Type 0 where
 abbrev pub form : Form → Shape
 form NoOperation = nothing_shape
 form Numbers = numbers_shape
-form (Row row) = row_shape (row_entry row)
-
--- what the code knows of a row
-abbrev pub known : table.Row → Entry
-known row = (entry_of row).entry
+form (Row row) = row_shape (entry row)
 
 abbrev pub form_shape : statement.Form → Shape
 form_shape no_operation = nothing_shape
 form_shape numbers_form = numbers_shape
-form_shape (row_form row) = row_shape (known row)
-
--- the registers of a row stand inside the word
-abbrev pub FormFits : Form → Type 0
-FormFits NoOperation = Unit {0}
-FormFits Numbers = Unit {0}
-FormFits (Row row) = list_all is_row_operand (row_entry row).operands ≡ true
+form_shape (row_form row) = row_shape (entry_of row)

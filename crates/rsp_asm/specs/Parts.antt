@@ -1,4 +1,4 @@
--- The parts of a line.
+-- The parts of a line, as the code has them. This is scaffolding of the proofs.
 use Rattle.std.specs.Prelude.{option_map}
 use Rattle.rsp_asm.specs.declared.line.Parts.{Parts}
 use Rattle.rsp_text.specs.Source as source

@@ -1,12 +1,12 @@
--- What the walks over the texts of operands compute, where no reading is kept.
+-- What the walks over the texts of operands compute, where no reading is kept. This is scaffolding of the proofs, for the
+-- contracts of private functions: what a statement means is in the definitions of rsp_text.
 use Rattle.std.specs.Prelude.{◌≡◌, ℕ, ◌+◌, Bool, false, ◌||◌, List, [], ◌∷◌, ◌++◌, length, flat_map, Option, Some, None, option_map, Result, Ok, Err, MatchResult, if◌then◌else◌}
 use Rattle.std.specs.List.{list_any}
-use Rattle.rsp_decode.specs.Table.{Operand, places}
+use Rattle.rsp_decode.specs.Table.{Operand, places, Entry}
 use Rattle.rsp_text.specs.declared.fault.AsmFaultKind.{AsmFaultKind}
 use Rattle.rsp_text.specs.declared.fault.AsmFaultKind.TheVariants.{BadOperand, OutOfRange}
 use Rattle.rsp_text.specs.declared.slot.Slot.TheVariants.{Word}
 use Rattle.rsp_text.specs.Numbers.{expression_of}
-use Rattle.rsp_text.specs.Rows.{Entry}
 use Rattle.rsp_text.specs.Source.{has_bad_number}
 use Rattle.rsp_text.specs.Statement.{Labels, Reading, Statement, read, asks, number_fails, reading_fails, reading_fields, with_values, number_value, append, all_fields, read_all, read_numbers, size}
 

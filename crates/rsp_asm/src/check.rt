@@ -1,14 +1,14 @@
 // What the first pass says of a statement.
 
 ghost use Rattle.std.specs.Prelude.{◌≡◌, ◌≤◌, ℕ, map};
-ghost use Rattle.rsp_text.specs.Rows.{operand};
 ghost use Rattle.rsp_text.specs.Statement.{statement_of, read_all, operand_texts, form_readings, with_operands, no_operation, numbers_form};
 ghost use Rattle.rsp_asm.specs.Walks.{checked, checked_readings};
 
 use crate::form::{Form, form_of, split};
 use crate::numbers::{count_numbers, has_great_number};
 use crate::operands::{are_operands, have_bad_number};
-use rsp_text::{AsmFaultKind, Kind};
+use rsp_decode::Operand;
+use rsp_text::AsmFaultKind;
 
 fn check_nothing(operands: &[u8]) -> Result<usize, AsmFaultKind>
     ensures { (place : ℕ) → result ≡ checked place (with_operands (form_readings no_operation (operand_texts operands.now))) }
@@ -34,9 +34,9 @@ fn check_numbers(operands: &[u8]) -> Result<usize, AsmFaultKind>
     Ok(count)
 }
 
-fn check_row(kinds: &[Kind], operands: &[u8], place: u16) -> Result<usize, AsmFaultKind>
+fn check_row(kinds: &[Operand], operands: &[u8], place: u16) -> Result<usize, AsmFaultKind>
     requires { place ≤ 4096 }
-    ensures { result ≡ checked_readings place 1 (read_all (map operand kinds.now) (operand_texts operands.now)) }
+    ensures { result ≡ checked_readings place 1 (read_all kinds.now (operand_texts operands.now)) }
 {
     if !are_operands(kinds, operands) {
         return Err(AsmFaultKind::BadOperand);

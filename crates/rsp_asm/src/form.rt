@@ -1,14 +1,14 @@
 // What the name of a statement stands for.
 
-ghost use Rattle.std.specs.Prelude.{◌≡◌, ◌==◌, length, option_map, IfSome, true};
-ghost use Rattle.std.specs.List.{list_all, before_first, after_first};
+ghost use Rattle.std.specs.Prelude.{◌≡◌, ◌==◌, length, option_map};
+ghost use Rattle.std.specs.List.{before_first, after_first};
 ghost use Rattle.rsp_text.specs.Chars.{stops};
 ghost use Rattle.rsp_text.specs.declared.text.Stop.TheVariants.{Blank};
-ghost use Rattle.rsp_text.specs.Rows.{row_entry, is_row_operand};
-ghost use Rattle.rsp_text.specs.Statement.{form_named, operand_texts, row_named};
-ghost use Rattle.rsp_asm.specs.Forms.{form, form_shape, known, FormFits};
+ghost use Rattle.rsp_text.specs.Statement.{form_named, operand_texts};
+ghost use Rattle.rsp_asm.specs.Forms.{form, form_shape};
 
-use rsp_text::{Kind, Stop, TableRow, cut, find_row, is_same};
+use rsp_decode::{Operand, TableRow};
+use rsp_text::{Stop, cut, find_row, is_same};
 
 /// The name of a statement, and the text of its operands.
 pub fn split(text: &[u8]) -> (&[u8], &[u8])
@@ -32,10 +32,13 @@ pub enum Form {
     Row(TableRow),
 }
 
-const LINK_OPERANDS: &[Kind] = &[Kind::Scalar(21)];
-
-/// The word of `jalr` that links in register 31.
-const LINK_WORD: u32 = 0x0000_f809;
+/// `jalr` with one operand, which links in register 31.
+const LINKING_ROW: TableRow = TableRow {
+    name: "jalr",
+    mask: 0xfc00_003f,
+    value: 0x0000_f809,
+    operands: &[Operand::Scalar(21)],
+};
 
 fn is_single(operands: &[u8]) -> bool
     ensures { result ≡ (length (operand_texts operands.now) == 1) }
@@ -43,18 +46,10 @@ fn is_single(operands: &[u8]) -> bool
     !operands.is_empty() && cut(operands, Stop::Comma).is_none()
 }
 
-fn row_of(name: &[u8]) -> Option<TableRow>
-    ensures named { option_map row_entry result ≡ option_map known (row_named name.now) }
-    ensures fit { IfSome result (λ row. list_all is_row_operand (row_entry row).operands ≡ true) }
-{
-    find_row(name)
-}
-
 /// The form of a name, in either case, before these operands: `jalr` with one operand links in register 31. It is None where
 /// no statement has this name.
 pub fn form_of(name: &[u8], operands: &[u8]) -> Option<Form>
-    ensures form { option_map form result ≡ option_map form_shape (form_named name.now (length (operand_texts operands.now))) }
-    ensures fit { IfSome result FormFits }
+    ensures { option_map form result ≡ option_map form_shape (form_named name.now (length (operand_texts operands.now))) }
 {
     if is_same(name, b"nop") {
         return Some(Form::NoOperation);
@@ -63,10 +58,7 @@ pub fn form_of(name: &[u8], operands: &[u8]) -> Option<Form>
         return Some(Form::Numbers);
     }
     if is_same(name, b"jalr") && is_single(operands) {
-        return Some(Form::Row(TableRow {
-            value: LINK_WORD,
-            operands: LINK_OPERANDS,
-        }));
+        return Some(Form::Row(LINKING_ROW));
     }
-    Some(Form::Row(row_of(name)?))
+    Some(Form::Row(find_row(name)?))
 }

@@ -3,13 +3,14 @@
 ghost use Rattle.std.specs.Prelude.{◌≡◌, ◌+◌, ◌≤◌, ◌∷◌, length, map, option_map, is_some, true};
 ghost use Rattle.std.specs.List.{slice_split, list_all};
 ghost use Rattle.rsp_text.specs.Chars.{stops, trim};
-ghost use Rattle.rsp_text.specs.Rows.{operand, is_row_operand};
+ghost use Rattle.rsp_decode.specs.Table.{is_row_operand};
 ghost use Rattle.rsp_text.specs.Statement.{read_all, operand_texts, texts_in};
 ghost use Rattle.rsp_text.specs.declared.text.Stop.TheVariants.{Comma};
 ghost use Rattle.rsp_asm.specs.Walks.{left_length, any_fails, put_all};
 
+use rsp_decode::Operand;
 use rsp_operands::{Labels, is_operand, is_out_of_range, put_operand};
-use rsp_text::{AsmFaultKind, Kind, Stop, cut, trim};
+use rsp_text::{AsmFaultKind, Stop, cut, trim};
 
 /// The text of the operands, where there is any.
 pub fn operands_in(text: &[u8]) -> Option<&[u8]>
@@ -31,8 +32,8 @@ pub fn next_operand(text: &[u8]) -> (&[u8], Option<&[u8]>)
 }
 
 /// There are as many operands as kinds, and each can be read as its kind.
-pub fn are_operands(kinds: &[Kind], text: &[u8]) -> bool
-    ensures { result ≡ is_some (read_all (map operand kinds.now) (operand_texts text.now)) }
+pub fn are_operands(kinds: &[Operand], text: &[u8]) -> bool
+    ensures { result ≡ is_some (read_all kinds.now (operand_texts text.now)) }
 {
     let mut rest = operands_in(text);
     for kind in kinds {
@@ -49,9 +50,9 @@ pub fn are_operands(kinds: &[Kind], text: &[u8]) -> bool
 }
 
 /// An operand is out of its range, whatever the labels are.
-pub fn have_bad_number(kinds: &[Kind], text: &[u8], place: u16) -> bool
+pub fn have_bad_number(kinds: &[Operand], text: &[u8], place: u16) -> bool
     requires { place ≤ 4096 }
-    ensures { result ≡ any_fails place (map operand kinds.now) (operand_texts text.now) }
+    ensures { result ≡ any_fails place kinds.now (operand_texts text.now) }
 {
     let mut rest = operands_in(text);
     for kind in kinds {
@@ -69,15 +70,15 @@ pub fn have_bad_number(kinds: &[Kind], text: &[u8], place: u16) -> bool
 
 /// A word with the fields of all operands, or the fault of the leftmost operand that has one.
 pub fn put_operands(
-    kinds: &[Kind],
+    kinds: &[Operand],
     text: &[u8],
     place: u16,
     labels: &Labels<'_>,
     word: u32,
 ) -> Result<u32, AsmFaultKind>
     requires place { place ≤ 4096 }
-    requires room { list_all is_row_operand (map operand kinds.now) ≡ true }
-    ensures { result ≡ put_all labels.now place word (map operand kinds.now) (operand_texts text.now) }
+    requires room { list_all is_row_operand kinds.now ≡ true }
+    ensures { result ≡ put_all labels.now place word kinds.now (operand_texts text.now) }
 {
     let mut word = word;
     let mut rest = operands_in(text);

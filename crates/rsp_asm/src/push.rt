@@ -3,7 +3,7 @@
 ghost use Rattle.std.specs.Prelude.{◌≡◌, ◌+◌, ◌≤◌, true};
 ghost use Rattle.std.specs.List.{list_all};
 ghost use Rattle.arrayvec.specs.ArrayVec.{array_vec_len};
-ghost use Rattle.rsp_text.specs.Rows.{row_entry, is_row_operand};
+ghost use Rattle.rsp_decode.specs.Table.{entry, is_row_operand};
 ghost use Rattle.rsp_text.specs.Source.{size_if, statement_words};
 ghost use Rattle.rsp_text.specs.Statement.{statement_of, operand_texts};
 ghost use Rattle.rsp_asm.specs.Walks.{Puts, nothing_size, nothing_words, listed_size, listed_words, row_size, row_word, row_words};
@@ -12,8 +12,9 @@ use crate::form::{Form, form_of, split};
 use crate::numbers::{count_numbers, push_numbers};
 use crate::operands::{are_operands, put_operands};
 use crate::words::Words;
+use rsp_decode::TableRow;
 use rsp_operands::Labels;
-use rsp_text::{AsmFaultKind, TableRow};
+use rsp_text::AsmFaultKind;
 
 fn push_nothing(operands: &[u8], words: &mut Words) -> Result<(), AsmFaultKind>
     requires { array_vec_len words.old + nothing_size (operand_texts operands.now) ≤ 1024 }
@@ -46,8 +47,8 @@ fn row_word(
     labels: &Labels<'_>,
 ) -> Result<u32, AsmFaultKind>
     requires place { place ≤ 4096 }
-    requires fit { list_all is_row_operand (row_entry row).operands ≡ true }
-    ensures { result ≡ row_word labels.now place (row_entry row) (operand_texts operands.now) }
+    requires fit { list_all is_row_operand row.operands.now ≡ true }
+    ensures { result ≡ row_word labels.now place (entry row) (operand_texts operands.now) }
 {
     if !are_operands(row.operands, operands) {
         return Err(AsmFaultKind::BadOperand);
@@ -63,9 +64,9 @@ fn push_row(
     words: &mut Words,
 ) -> Result<(), AsmFaultKind>
     requires place { place ≤ 4096 }
-    requires fit { list_all is_row_operand (row_entry row).operands ≡ true }
-    requires room { array_vec_len words.old + row_size (row_entry row) (operand_texts operands.now) ≤ 1024 }
-    ensures { Puts (row_words labels.now place (row_entry row) (operand_texts operands.now)) (row_size (row_entry row) (operand_texts operands.now)) words.old.items words.new.items result }
+    requires fit { list_all is_row_operand row.operands.now ≡ true }
+    requires room { array_vec_len words.old + row_size (entry row) (operand_texts operands.now) ≤ 1024 }
+    ensures { Puts (row_words labels.now place (entry row) (operand_texts operands.now)) (row_size (entry row) (operand_texts operands.now)) words.old.items words.new.items result }
 {
     let word = row_word(row, operands, place, labels)?;
     words.push(word);

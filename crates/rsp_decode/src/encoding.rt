@@ -7,7 +7,7 @@ mod scalar;
 mod vector;
 
 use crate::inst::{Control, Inst};
-use crate::operands::VectorFields;
+use crate::shared_fields::VectorFields;
 use scalar::{
     BREAK, JUMP_LINK_REGISTER, JUMP_REGISTER, LOAD_UPPER, branch_equal_value, branch_sign_value,
     immediate_value, jump_value, load_value, move_sp_value, register_value, shift_by_value,

@@ -1,6 +1,6 @@
 // What a word of the instruction table means: a variant for each group of rows.
 
-use crate::operands::{RegisterFields, ScalarMemoryFields, VectorFields, VectorMemoryFields};
+use crate::shared_fields::{RegisterFields, ScalarMemoryFields, VectorFields, VectorMemoryFields};
 
 /// An instruction: its row of the instruction table, and the fields that the row's text shows. Rows
 /// whose texts have the same operands share a struct of fields, which says the range of each.

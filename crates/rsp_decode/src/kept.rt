@@ -7,7 +7,7 @@ use crate::inst::{
     MultiplyRow, RegisterRow, RoundRow, ShiftByRow, ShiftRow, SignRow, StoreRow, VectorAddRow,
     VectorClipRow, VectorLoadRow, VectorLogicRow, VectorSelectRow, VectorStoreRow,
 };
-use crate::operands::{RegisterFields, ScalarMemoryFields, VectorFields, VectorMemoryFields};
+use crate::shared_fields::{RegisterFields, ScalarMemoryFields, VectorFields, VectorMemoryFields};
 use crate::visitor::Visitor;
 
 /// The last instruction that it was given.

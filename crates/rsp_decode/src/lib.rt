@@ -3,7 +3,8 @@
 //! [`decode`] gives what a word means, None for a reserved word; [`encode`] gives an instruction's
 //! canonical word; [`is_canonical`] tells whether a word is that of its own meaning. The table
 //! itself is `specs/Table`: a list of rows, each with the bits that select it, its name, the
-//! operands of its text, and the instruction that it means. [`laws`] says that no word fits two.
+//! operands of its text, and the instruction that it means. [`table`] gives its rows but for the
+//! instructions. [`laws`] says that no word fits two.
 #![tactic(auto)]
 
 mod decoding;
@@ -12,7 +13,8 @@ mod fields;
 mod inst;
 mod kept;
 pub mod laws;
-mod operands;
+mod rows;
+mod shared_fields;
 mod visitor;
 
 pub use decoding::{decode, is_canonical, visit};
@@ -22,5 +24,6 @@ pub use inst::{
     MultiplyRow, RegisterRow, RoundRow, ShiftByRow, ShiftRow, SignRow, StoreRow, VectorAddRow,
     VectorClipRow, VectorLoadRow, VectorLogicRow, VectorSelectRow, VectorStoreRow,
 };
-pub use operands::{RegisterFields, ScalarMemoryFields, VectorFields, VectorMemoryFields};
+pub use rows::{Operand, TableRow, table};
+pub use shared_fields::{RegisterFields, ScalarMemoryFields, VectorFields, VectorMemoryFields};
 pub use visitor::Visitor;

@@ -9,7 +9,7 @@ use crate::inst::{
     MultiplyRow, RegisterRow, RoundRow, ShiftByRow, ShiftRow, SignRow, StoreRow, VectorAddRow,
     VectorClipRow, VectorLoadRow, VectorLogicRow, VectorSelectRow, VectorStoreRow,
 };
-use crate::operands::{RegisterFields, ScalarMemoryFields, VectorFields, VectorMemoryFields};
+use crate::shared_fields::{RegisterFields, ScalarMemoryFields, VectorFields, VectorMemoryFields};
 
 /// What takes the instruction of a word from [`crate::visit`]: one call for each variant of [`crate::Inst`], with its
 /// fields. So a word is taken apart and carried out by one match, and no `Inst` stands between.

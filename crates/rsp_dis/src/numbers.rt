@@ -5,7 +5,7 @@ ghost use Rattle.std.specs.Char.{digit_char};
 ghost use Rattle.std.specs.Fmt.{signed_decimal};
 ghost use Rattle.arrayvec.specs.ArrayString.{array_string_len};
 ghost use Rattle.rsp_text.specs.Spell.{hex, small, signed_half, signed_scaled, byte_name, element_name, base_name, control_name};
-ghost use Rattle.rsp_text.specs.Rows.{is_scale};
+ghost use Rattle.rsp_decode.specs.Table.{is_scale};
 
 use crate::line::Line;
 use itoa::Buffer;

@@ -2,8 +2,7 @@
 
 ghost use Rattle.std.specs.Prelude.{◌≡◌, ◌<◌, ◌≤◌, ◌+◌, ◌*◌, ◌++◌, [], ◌∷◌, true};
 ghost use Rattle.arrayvec.specs.ArrayString.{array_string_len};
-ghost use Rattle.rsp_decode.specs.Table.{value_at, whole, element_place};
-ghost use Rattle.rsp_text.specs.Rows.{operand, is_row_operand};
+ghost use Rattle.rsp_decode.specs.Table.{value_at, whole, element_place, is_row_operand};
 ghost use Rattle.rsp_text.specs.Spell.{target, reaches, operand_text, scalar_name, vector_name, sp_name, target_text};
 
 use crate::line::Line;
@@ -11,7 +10,7 @@ use crate::numbers::{
     control_text, push_base, push_byte, push_element, push_hex3, push_hex4, push_scaled,
     push_signed, push_small,
 };
-use rsp_text::Kind;
+use rsp_decode::Operand;
 
 /// The five bits from `low` on.
 fn register(word: u32, low: u8) -> u8
@@ -64,12 +63,12 @@ fn target_of(place: u16, offset: u16) -> Option<u16>
 }
 
 /// Whether an operand can be spelled: no branch out of IMEM.
-pub fn is_reached(kind: Kind, word: u32, place: u16) -> bool
+pub fn is_reached(kind: Operand, word: u32, place: u16) -> bool
     requires { place < 4096 }
-    ensures { result ≡ reaches word place (operand kind) }
+    ensures { result ≡ reaches word place kind }
 {
     match kind {
-        Kind::BranchTarget => target_of(place, half(word)).is_some(),
+        Operand::BranchTarget => target_of(place, half(word)).is_some(),
         _ => true,
     }
 }
@@ -117,46 +116,46 @@ fn push_target(line: &mut Line, place: u16, offset: u16)
 }
 
 /// An operand's text.
-pub fn push_operand(line: &mut Line, kind: Kind, word: u32, place: u16)
-    requires kind { is_row_operand (operand kind) ≡ true }
+pub fn push_operand(line: &mut Line, kind: Operand, word: u32, place: u16)
+    requires kind { is_row_operand kind ≡ true }
     requires place { place < 4096 }
     requires room { array_string_len line.old + 11 ≤ 64 }
-    ensures bytes { line.new.bytes ≡ line.old.bytes ++ operand_text word place (operand kind) }
+    ensures bytes { line.new.bytes ≡ line.old.bytes ++ operand_text word place kind }
     ensures len { array_string_len line.new ≤ array_string_len line.old + 11 }
 {
     match kind {
-        Kind::Scalar(low) => push_scalar(line, register(word, low)),
-        Kind::ShiftAmount => push_small(line, register(word, 6)),
-        Kind::Signed => push_signed(line, half(word)),
-        Kind::Unsigned => {
+        Operand::Scalar(low) => push_scalar(line, register(word, low)),
+        Operand::ShiftAmount => push_small(line, register(word, 6)),
+        Operand::Signed => push_signed(line, half(word)),
+        Operand::Unsigned => {
             line.push_str("0x");
             push_hex4(line, u32::from(half(word)));
         }
-        Kind::JumpTarget => {
+        Operand::JumpTarget => {
             line.push_str("0x");
             push_hex3(line, 4 * (word & 0x3ff));
         }
-        Kind::BranchTarget => push_target(line, place, half(word)),
-        Kind::ScalarMemory => {
+        Operand::BranchTarget => push_target(line, place, half(word)),
+        Operand::ScalarMemory => {
             push_signed(line, half(word));
             push_base(line, register(word, 21));
         }
-        Kind::VectorMemory(scale) => {
+        Operand::VectorMemory(scale) => {
             push_scaled(line, scale, (word & 127) as u8);
             push_base(line, register(word, 21));
         }
-        Kind::SpRegister => push_sp(line, (word >> 11 & 15) as u8),
-        Kind::ControlRegister => line.push_str(control_text((word >> 11 & 3) as u8)),
-        Kind::Vector(low) => push_vector(line, register(word, low)),
-        Kind::VectorByte(low, step) => {
+        Operand::SpRegister => push_sp(line, (word >> 11 & 15) as u8),
+        Operand::ControlRegister => line.push_str(control_text((word >> 11 & 3) as u8)),
+        Operand::Vector(low) => push_vector(line, register(word, low)),
+        Operand::VectorByte(low, step) => {
             push_vector(line, register(word, low));
             push_byte(line, byte_element(word, step));
         }
-        Kind::VectorElement => {
+        Operand::VectorElement => {
             push_vector(line, register(word, 16));
             push_element(line, (word >> 21 & 15) as u8);
         }
-        Kind::VectorLane => {
+        Operand::VectorLane => {
             push_vector(line, register(word, 6));
             push_byte(line, (word >> 11 & 7) as u8);
         }

@@ -3,20 +3,20 @@
 ghost use Rattle.std.specs.Prelude.{◌≡◌, ◌<◌, ◌≤◌, ◌+◌, ◌*◌, ◌++◌, true, map, length};
 ghost use Rattle.std.specs.List.{list_all};
 ghost use Rattle.arrayvec.specs.ArrayString.{array_string_len};
-ghost use Rattle.rsp_text.specs.Rows.{operand, is_row_operand, text_row};
+ghost use Rattle.rsp_decode.specs.Table.{entry, is_row_operand};
 ghost use Rattle.rsp_text.specs.Spell.{reaches, operand_text, more_operands, behind_name, plain_word, spell};
 ghost use Rattle.rsp_dis.specs.Room.{is_short};
 
 use crate::line::Line;
 use crate::numbers::push_hex4;
 use crate::operand::{is_reached, push_operand};
-use rsp_decode::is_canonical;
-use rsp_text::{Kind, TextRow, select_row};
+use rsp_decode::{Operand, TableRow, is_canonical};
+use rsp_text::select_row;
 
 /// No operand is a branch out of IMEM.
-fn are_reached(kinds: &[Kind], word: u32, place: u16) -> bool
+fn are_reached(kinds: &[Operand], word: u32, place: u16) -> bool
     requires { place < 4096 }
-    ensures { result ≡ list_all (reaches word place) (map operand kinds.now) }
+    ensures { result ≡ list_all (reaches word place) kinds.now }
 {
     for kind in kinds {
         if !is_reached(*kind, word, place) {
@@ -27,11 +27,11 @@ fn are_reached(kinds: &[Kind], word: u32, place: u16) -> bool
 }
 
 /// The operands behind the first, each behind a comma and a blank.
-fn push_more(line: &mut Line, kinds: &[Kind], word: u32, place: u16)
-    requires kinds { list_all is_row_operand (map operand kinds.now) ≡ true }
+fn push_more(line: &mut Line, kinds: &[Operand], word: u32, place: u16)
+    requires kinds { list_all is_row_operand kinds.now ≡ true }
     requires place { place < 4096 }
     requires room { array_string_len line.old + 13 * length kinds.now ≤ 64 }
-    ensures { line.new.bytes ≡ line.old.bytes ++ more_operands (map (operand_text word place) (map operand kinds.now)) }
+    ensures { line.new.bytes ≡ line.old.bytes ++ more_operands (map (operand_text word place) kinds.now) }
 {
     for kind in kinds {
         line.push_str(", ");
@@ -40,11 +40,11 @@ fn push_more(line: &mut Line, kinds: &[Kind], word: u32, place: u16)
 }
 
 /// The operands behind a name.
-fn push_operands(line: &mut Line, kinds: &[Kind], word: u32, place: u16)
-    requires kinds { list_all is_row_operand (map operand kinds.now) ≡ true }
+fn push_operands(line: &mut Line, kinds: &[Operand], word: u32, place: u16)
+    requires kinds { list_all is_row_operand kinds.now ≡ true }
     requires place { place < 4096 }
     requires room { array_string_len line.old + 13 * length kinds.now ≤ 64 }
-    ensures { line.new.bytes ≡ line.old.bytes ++ behind_name (map (operand_text word place) (map operand kinds.now)) }
+    ensures { line.new.bytes ≡ line.old.bytes ++ behind_name (map (operand_text word place) kinds.now) }
 {
     if let [first, more @ ..] = kinds {
         line.push_str(" ");
@@ -54,10 +54,10 @@ fn push_operands(line: &mut Line, kinds: &[Kind], word: u32, place: u16)
 }
 
 /// The text of a row's word.
-fn row_line(row: TextRow, word: u32, place: u16) -> Line
-    requires row { is_short (text_row row) ≡ true }
+fn row_line(row: TableRow, word: u32, place: u16) -> Line
+    requires row { is_short (entry row) ≡ true }
     requires place { place < 4096 }
-    ensures { result.bytes ≡ (text_row row).name ++ behind_name (map (operand_text word place) (text_row row).operands) }
+    ensures { result.bytes ≡ row.name.now ++ behind_name (map (operand_text word place) row.operands.now) }
 {
     let mut line = Line::new();
     line.push_str(row.name);

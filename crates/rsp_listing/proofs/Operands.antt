@@ -8,14 +8,13 @@ use Rattle.std.proofs.lemmas.Bool.{and_parts, eqb-true, or_cases, cond-false, ne
 use Rattle.std.proofs.lemmas.List.{length-append}
 use Rattle.std.proofs.lemmas.Fmt.{length_signed_le}
 use Rattle.std.proofs.lemmas.Nat.{mod_below}
-use Rattle.rsp_decode.specs.Table.{Operand, scalar, shift_amount, signed, unsigned, jump_target, branch_target, scalar_memory, vector_memory, sp_register, control_register, vector, vector_byte, vector_element, vector_lane, value_at, whole, capped}
+use Rattle.rsp_decode.specs.Table.{Operand, scalar, shift_amount, signed, unsigned, jump_target, branch_target, scalar_memory, vector_memory, sp_register, control_register, vector, vector_byte, vector_element, vector_lane, value_at, whole, capped, is_scale, is_step, is_row_operand}
 use Rattle.rsp_text.specs.declared.slot.Slot.{Slot}
 use Rattle.rsp_text.specs.declared.slot.Slot.TheVariants.{Half, Amount, Jump, Branch, Scaled}
 use Rattle.rsp_text.specs.declared.text.Stop.TheVariants.{Parenthesis}
 use Rattle.rsp_text.specs.Chars.{cut}
 use Rattle.rsp_text.specs.Numbers.{constant, expression_of}
 use Rattle.rsp_text.specs.Statement.{read, asks, field, offset_of, base_of, memory, memory_of, zero_expression, reading_fields}
-use Rattle.rsp_text.specs.Rows.{is_scale, is_step, is_row_operand}
 use Rattle.rsp_text.specs.Spell.{hex, small, signed_half, signed_scaled, target, target_text, scalar_name, base_name, spell_operand, operand_fields, operand_text, reaches}
 use Rattle.rsp_text.proofs.Cuts.{cut_between}
 use Rattle.rsp_listing.specs.Bytes.{is_quiet}

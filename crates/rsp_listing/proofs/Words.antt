@@ -4,7 +4,7 @@ use Rattle.std.specs.Prelude.{Option, Some, None, ◌==◌, nat_lt, map, flat_ma
 use Rattle.std.specs.List.{list_all, list_any}
 use Rattle.std.proofs.lemmas.Bool.{and_parts, cases_Bool, cond-true, cond-false, eqb-true, le-ltb, leb-true}
 use Rattle.std.proofs.lemmas.List.{map-append, length-map}
-use Rattle.rsp_decode.specs.Table.{Operand, Row, row_of, places, value_at, fields, word_from}
+use Rattle.rsp_decode.specs.Table.{Operand, Row, row_of, places, value_at, fields, word_from, is_row_operand}
 use Rattle.rsp_text.specs.declared.fault.AsmFaultKind.TheVariants.{OutOfRange, PastEnd}
 use Rattle.rsp_text.specs.declared.slot.Slot.TheVariants.{Word}
 use Rattle.rsp_text.specs.Chars.{is_plain}
@@ -14,7 +14,6 @@ use Rattle.rsp_text.specs.Statement.{Reading, asks, read_all, zero_expression, n
 use Rattle.rsp_text.specs.Spell.{hex, operand_fields, operand_text, reaches, row_text, plain_word, spell_row, spell}
 use Rattle.rsp_listing.proofs.Pieces.{is_piece, Piece, Pieces, piece_from}
 use Rattle.rsp_listing.proofs.Numbers.{IsNumber, hex_number, word_of, number_fields, number_fits}
-use Rattle.rsp_text.specs.Rows.{is_row_operand}
 use Rattle.rsp_listing.proofs.Operands.{kind_spelled}
 use Rattle.rsp_listing.proofs.Names.{name_piece, table_kinds, few_operands, form_back}
 use Rattle.rsp_listing.proofs.Lines.{line_is_plain, parts_back, statement_back}

@@ -10,8 +10,8 @@ use Rattle.rsp_decode.specs.declared.inst.MpegRow.{MpegRow}
 use Rattle.rsp_decode.specs.declared.inst.DivideRow.{DivideRow}
 use Rattle.rsp_decode.specs.declared.inst.VectorLoadRow.{VectorLoadRow}
 use Rattle.rsp_decode.specs.declared.inst.VectorStoreRow.{VectorStoreRow}
-use Rattle.rsp_decode.specs.declared.operands.VectorFields.{VectorFields}
-use Rattle.rsp_decode.specs.declared.operands.VectorMemoryFields.{VectorMemoryFields}
+use Rattle.rsp_decode.specs.declared.shared_fields.VectorFields.{VectorFields}
+use Rattle.rsp_decode.specs.declared.shared_fields.VectorMemoryFields.{VectorMemoryFields}
 use Rattle.rsp_lanes.specs.Lanes.{each_lane, source_lane}
 use Rattle.rsp_flags.specs.Outcome.{Rule, results_of, flags_after, numbers_after}
 use Rattle.rsp_multiply.specs.Rows.{accumulators_after, clamped_by, sar_of}

@@ -1,9 +1,8 @@
 -- The word with the fields of an operand.
 use Rattle.std.proofs.Common.{◌≡◌, sym, ap, ℕ, true, List, subst}
 use Rattle.std.specs.Prelude.{Option, Some, None, option_map, IfOk, Result, Ok, Err}
-use Rattle.rsp_decode.specs.Table.{Operand, places, with_fields}
+use Rattle.rsp_decode.specs.Table.{Operand, places, with_fields, is_row_operand}
 use Rattle.rsp_text.specs.declared.fault.AsmFaultKind.{AsmFaultKind}
-use Rattle.rsp_text.specs.Rows.{is_row_operand}
 use Rattle.rsp_text.specs.Statement.{Labels, Reading, read, fields_of, reading_fields, with_values}
 use Rattle.rsp_operands.specs.declared.fields.Fields.{Fields}
 use Rattle.rsp_operands.specs.Readings.{capped_reading}

@@ -1,8 +1,7 @@
 // The fields of an operand, and where they stand in the word.
 
 ghost use Rattle.std.specs.Prelude.{◌≡◌, ◌≤◌, ◌*◌, ◌^◌, ◌∷◌, [], ℕ, true, bit_or};
-ghost use Rattle.rsp_decode.specs.Table.{places, with_fields};
-ghost use Rattle.rsp_text.specs.Rows.{operand, is_row_operand};
+ghost use Rattle.rsp_decode.specs.Table.{places, with_fields, is_row_operand};
 ghost use Rattle.rsp_text.specs.Statement as statement;
 ghost use Rattle.rsp_text.specs.Statement.{fields_of};
 ghost use Rattle.rsp_operands.specs.Readings.{reading, capped_reading};
@@ -12,7 +11,8 @@ ghost use Rattle.rsp_operands.specs.Room.{FitWord};
 use crate::labels::Labels;
 use crate::reading::Reading;
 use crate::values::expression_field;
-use rsp_text::{AsmFaultKind, Kind};
+use rsp_decode::Operand;
+use rsp_text::AsmFaultKind;
 
 /// The values of an operand's fields, in the order of its text.
 #[derive(Clone, Copy)]
@@ -60,43 +60,44 @@ pub(crate) fn reading_fields(
 }
 
 /// The lowest bit of an operand's first field.
-fn first_low(kind: Kind) -> u8
-    requires { is_row_operand (operand kind) ≡ true }
+fn first_low(kind: Operand) -> u8
+    requires { is_row_operand kind ≡ true }
     ensures low { result ≤ 27 }
-    ensures place { (w v : ℕ) → with_fields w (places (operand kind)) (v ∷ []) ≡ bit_or w (v * 2 ^ result) }
+    ensures place { (w v : ℕ) → with_fields w (places kind) (v ∷ []) ≡ bit_or w (v * 2 ^ result) }
 {
     match kind {
-        Kind::Scalar(low) | Kind::Vector(low) | Kind::VectorByte(low, _) => low,
-        Kind::ShiftAmount | Kind::VectorLane => 6,
-        Kind::Signed | Kind::Unsigned | Kind::JumpTarget | Kind::BranchTarget => 0,
-        Kind::ScalarMemory | Kind::VectorMemory(_) => 0,
-        Kind::SpRegister | Kind::ControlRegister => 11,
-        Kind::VectorElement => 16,
+        Operand::Scalar(low) | Operand::Vector(low) | Operand::VectorByte(low, _) => low,
+        Operand::ShiftAmount | Operand::VectorLane => 6,
+        Operand::Signed | Operand::Unsigned | Operand::JumpTarget | Operand::BranchTarget => 0,
+        Operand::ScalarMemory | Operand::VectorMemory(_) => 0,
+        Operand::SpRegister | Operand::ControlRegister => 11,
+        Operand::VectorElement => 16,
     }
 }
 
 /// The bits of an operand's second field, where it has one.
 #[tactic(auto, using(crate::proofs::Words::or_none))]
-fn second_bits(kind: Kind, value: u32) -> u32
+fn second_bits(kind: Operand, value: u32) -> u32
     requires { value ≤ 31 }
-    ensures { (w v : ℕ) → with_fields w (places (operand kind)) (v ∷ value ∷ []) ≡ bit_or (with_fields w (places (operand kind)) (v ∷ [])) result }
+    ensures { (w v : ℕ) → with_fields w (places kind) (v ∷ value ∷ []) ≡ bit_or (with_fields w (places kind) (v ∷ [])) result }
 {
     match kind {
-        Kind::ScalarMemory | Kind::VectorMemory(_) | Kind::VectorElement => value << 21,
-        Kind::VectorLane => value << 11,
-        Kind::VectorByte(_, 1) => value << 7,
-        Kind::VectorByte(_, _) => value / 8 << 10,
-        Kind::Scalar(_) | Kind::Vector(_) | Kind::SpRegister | Kind::ControlRegister => 0,
-        Kind::ShiftAmount | Kind::Signed | Kind::Unsigned => 0,
-        Kind::JumpTarget | Kind::BranchTarget => 0,
+        Operand::ScalarMemory | Operand::VectorMemory(_) | Operand::VectorElement => value << 21,
+        Operand::VectorLane => value << 11,
+        Operand::VectorByte(_, 1) => value << 7,
+        Operand::VectorByte(_, _) => value / 8 << 10,
+        Operand::Scalar(_) | Operand::Vector(_) | Operand::SpRegister | Operand::ControlRegister =>
+            0,
+        Operand::ShiftAmount | Operand::Signed | Operand::Unsigned => 0,
+        Operand::JumpTarget | Operand::BranchTarget => 0,
     }
 }
 
 /// The word with the fields at their places too.
-pub(crate) fn put(kind: Kind, values: Fields, word: u32) -> u32
-    requires room { is_row_operand (operand kind) ≡ true }
-    requires fit { FitWord (operand kind) (fields values) }
-    ensures { result ≡ with_fields word (places (operand kind)) (fields values) }
+pub(crate) fn put(kind: Operand, values: Fields, word: u32) -> u32
+    requires room { is_row_operand kind ≡ true }
+    requires fit { FitWord kind (fields values) }
+    ensures { result ≡ with_fields word (places kind) (fields values) }
 {
     let with_first = word | values.first << first_low(kind);
     match values.second {

@@ -5,13 +5,13 @@ ghost use Rattle.rsp_text.specs.declared.text.Stop.TheVariants.{Bracket, Parenth
 ghost use Rattle.rsp_text.specs.Chars.{cut};
 ghost use Rattle.rsp_text.specs.Names.{vector_named, element_named};
 ghost use Rattle.rsp_text.specs.Numbers.{expression_of};
-ghost use Rattle.rsp_text.specs.Rows.{operand};
 ghost use Rattle.rsp_text.specs.Seen.{expression, capped_expression};
 ghost use Rattle.rsp_text.specs.Statement.{base_of, offset_of, bracketed, byte_named, lane_named, with_element, bracket_of, memory_of, asks, read};
 ghost use Rattle.rsp_operands.specs.Readings.{reading, capped_reading};
 
+use rsp_decode::Operand;
 use rsp_text::{
-    Expression, Kind, Slot, Stop, control, cut, element, read_expression, scalar, small_number,
+    Expression, Slot, Stop, control, cut, element, read_expression, scalar, small_number,
     sp_register, vector,
 };
 
@@ -124,22 +124,22 @@ fn memory(slot: Slot, text: &[u8]) -> Option<Reading<'_>>
 }
 
 /// What the text of an operand says; None where it is no operand of this kind.
-pub(crate) fn read_operand(kind: Kind, text: &[u8]) -> Option<Reading<'_>>
-    ensures { option_map reading result ≡ option_map capped_reading (read (operand kind) text.now) }
+pub(crate) fn read_operand(kind: Operand, text: &[u8]) -> Option<Reading<'_>>
+    ensures { option_map reading result ≡ option_map capped_reading (read kind text.now) }
 {
     match kind {
-        Kind::Scalar(_) => Some(Reading::Register(scalar(text)?)),
-        Kind::ShiftAmount => value(Slot::Amount, text),
-        Kind::Signed | Kind::Unsigned => value(Slot::Half, text),
-        Kind::JumpTarget => value(Slot::Jump, text),
-        Kind::BranchTarget => value(Slot::Branch, text),
-        Kind::ScalarMemory => memory(Slot::Half, text),
-        Kind::VectorMemory(scale) => memory(Slot::Scaled(scale), text),
-        Kind::SpRegister => Some(Reading::Register(sp_register(text)?)),
-        Kind::ControlRegister => Some(Reading::Register(control(text)?)),
-        Kind::Vector(_) => Some(Reading::Register(vector(text)?)),
-        Kind::VectorByte(_, step) => vector_byte(step, text),
-        Kind::VectorElement => vector_element(text),
-        Kind::VectorLane => vector_lane(text),
+        Operand::Scalar(_) => Some(Reading::Register(scalar(text)?)),
+        Operand::ShiftAmount => value(Slot::Amount, text),
+        Operand::Signed | Operand::Unsigned => value(Slot::Half, text),
+        Operand::JumpTarget => value(Slot::Jump, text),
+        Operand::BranchTarget => value(Slot::Branch, text),
+        Operand::ScalarMemory => memory(Slot::Half, text),
+        Operand::VectorMemory(scale) => memory(Slot::Scaled(scale), text),
+        Operand::SpRegister => Some(Reading::Register(sp_register(text)?)),
+        Operand::ControlRegister => Some(Reading::Register(control(text)?)),
+        Operand::Vector(_) => Some(Reading::Register(vector(text)?)),
+        Operand::VectorByte(_, step) => vector_byte(step, text),
+        Operand::VectorElement => vector_element(text),
+        Operand::VectorLane => vector_lane(text),
     }
 }

@@ -4,6 +4,7 @@ pub mod Lines
 pub mod Places
 pub mod Numerals
 pub mod Tables
+pub mod Rows
 pub mod Expressions
 pub mod Capping
 pub mod Examples

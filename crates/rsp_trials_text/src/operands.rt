@@ -1,10 +1,11 @@
 // Operands of single rows, with their words worked by hand.
 
+use rsp_decode::Operand;
 use rsp_operands::{
     Labels, is_number, is_number_out_of_range, is_operand, is_out_of_range, number_word,
     put_operand,
 };
-use rsp_text::{AsmFaultKind, Kind};
+use rsp_text::AsmFaultKind;
 use std::alloc::{AllocError, Global};
 use std::test::Fail;
 
@@ -17,26 +18,26 @@ fn two_labels(alloc: Global) -> Result<Labels<'static>, AllocError> {
 }
 
 // A word without operands, the operands of a statement at 4, and its word.
-const STATEMENTS: [(u32, &[(Kind, &str)], u32); 13] = [
+const STATEMENTS: [(u32, &[(Operand, &str)], u32); 13] = [
     // sll $1, $2, 31
     (
         0x0000_0000,
         &[
-            (Kind::Scalar(11), "$1"),
-            (Kind::Scalar(16), "$2"),
-            (Kind::ShiftAmount, "31"),
+            (Operand::Scalar(11), "$1"),
+            (Operand::Scalar(16), "$2"),
+            (Operand::ShiftAmount, "31"),
         ],
         0x0002_0fc0,
     ),
     // j end
-    (0x0800_0000, &[(Kind::JumpTarget, "end")], 0x0800_0008),
+    (0x0800_0000, &[(Operand::JumpTarget, "end")], 0x0800_0008),
     // bne $1, $2, loop
     (
         0x1400_0000,
         &[
-            (Kind::Scalar(21), "$1"),
-            (Kind::Scalar(16), "$2"),
-            (Kind::BranchTarget, "loop"),
+            (Operand::Scalar(21), "$1"),
+            (Operand::Scalar(16), "$2"),
+            (Operand::BranchTarget, "loop"),
         ],
         0x1422_fffe,
     ),
@@ -44,52 +45,58 @@ const STATEMENTS: [(u32, &[(Kind, &str)], u32); 13] = [
     (
         0x2400_0000,
         &[
-            (Kind::Scalar(16), "$1"),
-            (Kind::Scalar(21), "$1"),
-            (Kind::Signed, "-1"),
+            (Operand::Scalar(16), "$1"),
+            (Operand::Scalar(21), "$1"),
+            (Operand::Signed, "-1"),
         ],
         0x2421_ffff,
     ),
     // lui $ra, 0x8000
     (
         0x3c00_0000,
-        &[(Kind::Scalar(16), "$ra"), (Kind::Unsigned, "0x8000")],
+        &[(Operand::Scalar(16), "$ra"), (Operand::Unsigned, "0x8000")],
         0x3c1f_8000,
     ),
     // sw $t0, ($sp)
     (
         0xac00_0000,
-        &[(Kind::Scalar(16), "$t0"), (Kind::ScalarMemory, "($sp)")],
+        &[
+            (Operand::Scalar(16), "$t0"),
+            (Operand::ScalarMemory, "($sp)"),
+        ],
         0xafa8_0000,
     ),
     // mfc0 $1, $c4
     (
         0x4000_0000,
-        &[(Kind::Scalar(16), "$1"), (Kind::SpRegister, "$c4")],
+        &[(Operand::Scalar(16), "$1"), (Operand::SpRegister, "$c4")],
         0x4001_2000,
     ),
     // mfc2 $1, $v2[4]
     (
         0x4800_0000,
         &[
-            (Kind::Scalar(16), "$1"),
-            (Kind::VectorByte(11, 1), "$v2[4]"),
+            (Operand::Scalar(16), "$1"),
+            (Operand::VectorByte(11, 1), "$v2[4]"),
         ],
         0x4801_1200,
     ),
     // ctc2 $1, $VCC
     (
         0x48c0_0000,
-        &[(Kind::Scalar(16), "$1"), (Kind::ControlRegister, "$VCC")],
+        &[
+            (Operand::Scalar(16), "$1"),
+            (Operand::ControlRegister, "$VCC"),
+        ],
         0x48c1_0800,
     ),
     // vadd $v1, $v2, $v3[2h]
     (
         0x4a00_0010,
         &[
-            (Kind::Vector(6), "$v1"),
-            (Kind::Vector(11), "$v2"),
-            (Kind::VectorElement, "$v3[2h]"),
+            (Operand::Vector(6), "$v1"),
+            (Operand::Vector(11), "$v2"),
+            (Operand::VectorElement, "$v3[2h]"),
         ],
         0x4ac3_1050,
     ),
@@ -97,8 +104,8 @@ const STATEMENTS: [(u32, &[(Kind, &str)], u32); 13] = [
     (
         0x4a00_0030,
         &[
-            (Kind::VectorLane, "$v1[3]"),
-            (Kind::VectorElement, "$v2[5]"),
+            (Operand::VectorLane, "$v1[3]"),
+            (Operand::VectorElement, "$v2[5]"),
         ],
         0x4ba2_1870,
     ),
@@ -106,8 +113,8 @@ const STATEMENTS: [(u32, &[(Kind, &str)], u32); 13] = [
     (
         0xe800_1800,
         &[
-            (Kind::VectorByte(16, 1), "$v4[8]"),
-            (Kind::VectorMemory(8), "-8($2)"),
+            (Operand::VectorByte(16, 1), "$v4[8]"),
+            (Operand::VectorMemory(8), "-8($2)"),
         ],
         0xe844_1c7f,
     ),
@@ -115,43 +122,43 @@ const STATEMENTS: [(u32, &[(Kind, &str)], u32); 13] = [
     (
         0xc800_4800,
         &[
-            (Kind::VectorByte(16, 8), "$v1[8]"),
-            (Kind::VectorMemory(16), "-1024($0)"),
+            (Operand::VectorByte(16, 8), "$v1[8]"),
+            (Operand::VectorMemory(16), "-1024($0)"),
         ],
         0xc801_4c40,
     ),
 ];
 
 // Texts that are no operand of the kind.
-const OTHERS: [(Kind, &str); 14] = [
-    (Kind::Scalar(11), "$32"),
-    (Kind::ShiftAmount, "$1"),
-    (Kind::Signed, "1+1"),
-    (Kind::Unsigned, "0x"),
-    (Kind::JumpTarget, ""),
-    (Kind::BranchTarget, "x+-5"),
-    (Kind::ScalarMemory, "4 ( $sp )"),
-    (Kind::VectorMemory(16), "16"),
-    (Kind::SpRegister, "$c16"),
-    (Kind::ControlRegister, "$v0"),
-    (Kind::Vector(6), "$v01"),
-    (Kind::VectorByte(16, 8), "$v1[4]"),
-    (Kind::VectorElement, "$v3[8]"),
-    (Kind::VectorLane, "$v1"),
+const OTHERS: [(Operand, &str); 14] = [
+    (Operand::Scalar(11), "$32"),
+    (Operand::ShiftAmount, "$1"),
+    (Operand::Signed, "1+1"),
+    (Operand::Unsigned, "0x"),
+    (Operand::JumpTarget, ""),
+    (Operand::BranchTarget, "x+-5"),
+    (Operand::ScalarMemory, "4 ( $sp )"),
+    (Operand::VectorMemory(16), "16"),
+    (Operand::SpRegister, "$c16"),
+    (Operand::ControlRegister, "$v0"),
+    (Operand::Vector(6), "$v01"),
+    (Operand::VectorByte(16, 8), "$v1[4]"),
+    (Operand::VectorElement, "$v3[8]"),
+    (Operand::VectorLane, "$v1"),
 ];
 
 // Operands whose number is out of the range.
-const BEYOND: [(Kind, &str); 10] = [
-    (Kind::ShiftAmount, "32"),
-    (Kind::Signed, "70000"),
-    (Kind::Unsigned, "-32769"),
-    (Kind::JumpTarget, "4096"),
-    (Kind::BranchTarget, "2"),
-    (Kind::ScalarMemory, "65536($1)"),
-    (Kind::VectorMemory(16), "8($1)"),
-    (Kind::VectorMemory(8), "512($1)"),
-    (Kind::VectorMemory(1), "-65($1)"),
-    (Kind::Signed, "-99999999999999999999999999999999"),
+const BEYOND: [(Operand, &str); 10] = [
+    (Operand::ShiftAmount, "32"),
+    (Operand::Signed, "70000"),
+    (Operand::Unsigned, "-32769"),
+    (Operand::JumpTarget, "4096"),
+    (Operand::BranchTarget, "2"),
+    (Operand::ScalarMemory, "65536($1)"),
+    (Operand::VectorMemory(16), "8($1)"),
+    (Operand::VectorMemory(8), "512($1)"),
+    (Operand::VectorMemory(1), "-65($1)"),
+    (Operand::Signed, "-99999999999999999999999999999999"),
 ];
 
 #[test]
@@ -201,12 +208,12 @@ fn labels_are_found(rt: HostRuntime) -> Result<(), Fail> {
     assert!(rt; labels.find(b"end") == Some(0x20));
     assert!(rt; labels.find(b"End").is_none());
     // where the labels are not known yet, no number is out of its range
-    assert!(rt; !is_out_of_range(Kind::Signed, b"lop+70000", 0));
-    let missing = put_operand(Kind::Signed, b"lop+70000", 0, &labels, 0);
+    assert!(rt; !is_out_of_range(Operand::Signed, b"lop+70000", 0));
+    let missing = put_operand(Operand::Signed, b"lop+70000", 0, &labels, 0);
     assert!(rt; missing == Err(AsmFaultKind::LabelMissing));
-    let far = put_operand(Kind::Signed, b"end+65504", 0, &labels, 0);
+    let far = put_operand(Operand::Signed, b"end+65504", 0, &labels, 0);
     assert!(rt; far == Err(AsmFaultKind::OutOfRange));
-    let near = put_operand(Kind::Signed, b"end+65503", 0, &labels, 0);
+    let near = put_operand(Operand::Signed, b"end+65503", 0, &labels, 0);
     assert!(rt; near == Ok(0xffff));
     Ok(())
 }

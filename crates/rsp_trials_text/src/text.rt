@@ -1,6 +1,7 @@
+use rsp_decode::Operand;
 use rsp_text::{
-    Kind, Stop, control, cut, element, find_row, is_label, is_plain, is_same, number,
-    read_expression, scalar, skip_blanks, small_number, sp_register, trim, unsigned, vector,
+    Stop, control, cut, element, find_row, is_label, is_plain, is_same, number, read_expression,
+    scalar, skip_blanks, small_number, sp_register, trim, unsigned, vector,
 };
 
 #[test]
@@ -81,7 +82,7 @@ fn finds_rows(rt: HostRuntime) {
         return;
     };
     assert_eq!(rt; row.value, 0xc800_2000);
-    assert!(rt; row.operands == [Kind::VectorByte(16, 1), Kind::VectorMemory(16)].as_slice());
+    assert!(rt; row.operands == [Operand::VectorByte(16, 1), Operand::VectorMemory(16)].as_slice());
     assert!(rt; find_row(b"nop").is_none());
     assert!(rt; find_row(b"vmulx").is_none());
 }

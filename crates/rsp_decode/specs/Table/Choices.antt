@@ -1,4 +1,5 @@
--- How one match on a field chooses among the rows that it decides between.
+-- How one match on a field chooses among the rows that it decides between. This is scaffolding of the proofs, for the
+-- contracts of private functions: what a word means is in Words.antt.
 use Rattle.std.specs.Prelude.{ℕ, ◌+◌, ◌*◌, ◌%◌, ◌^◌, ◌==◌, ◌&&◌, not, List, find, Option, None, option_map, if◌then◌else◌}
 use Rattle.rsp_decode.specs.declared.inst.Inst.{Inst}
 use Rattle.rsp_decode.specs.Table.Places.{value_at, whole}

@@ -1,24 +1,10 @@
--- The kinds of operand in a row's text, and the fields that each shows.
-use Rattle.std.specs.Prelude.{ℕ, ◌==◌, List, [], ◌∷◌, if◌then◌else◌}
+-- The kinds of operand in a row's text, which are the variants of one enum, and the fields that each shows. A number says
+-- where its register stands; of vector memory it is the scale of the offset, and of a byte element the second one is what
+-- the element is a multiple of.
+use Rattle.std.specs.Prelude.{ℕ, nat_le, ◌==◌, Bool, true, ◌&&◌, ◌||◌, List, [], ◌∷◌, if◌then◌else◌}
 use Rattle.rsp_decode.specs.Table.Places.{Place, whole, capped, stepped}
-
--- The kinds of operand. A number says where its register stands; of vector memory it is the scale of the offset, and of
--- a byte element the second one is what the element is a multiple of.
-pub data Operand : Type 0 where
-  scalar : ℕ → Operand
-  shift_amount : Operand
-  signed : Operand
-  unsigned : Operand
-  jump_target : Operand
-  branch_target : Operand
-  scalar_memory : Operand
-  vector_memory : ℕ → Operand
-  sp_register : Operand
-  control_register : Operand
-  vector : ℕ → Operand
-  vector_byte : ℕ → ℕ → Operand
-  vector_element : Operand
-  vector_lane : Operand
+pub use Rattle.rsp_decode.specs.declared.rows.Operand.{Operand}
+pub use Rattle.rsp_decode.specs.declared.rows.Operand.TheVariants.{Scalar as scalar, ShiftAmount as shift_amount, Signed as signed, Unsigned as unsigned, JumpTarget as jump_target, BranchTarget as branch_target, ScalarMemory as scalar_memory, VectorMemory as vector_memory, SpRegister as sp_register, ControlRegister as control_register, Vector as vector, VectorByte as vector_byte, VectorElement as vector_element, VectorLane as vector_lane}
 
 -- a byte element, or its bit of 8 where it is 0 or 8
 abbrev pub element_place : ℕ → Place
@@ -44,3 +30,19 @@ places vector_lane = whole 6 5 ∷ whole 11 3 ∷ []
 -- the operands of the rows that compute with two vectors: $vD, $vS, $vT[e]
 abbrev pub vector_operands : List Operand
 vector_operands = vector 6 ∷ vector 11 ∷ vector_element ∷ []
+
+-- the scale of an offset is one of five
+abbrev pub is_scale : ℕ → Bool
+is_scale s = s == 1 || (s == 2 || (s == 4 || (s == 8 || s == 16)))
+
+-- a byte element is any or a multiple of 8
+abbrev pub is_step : ℕ → Bool
+is_step s = s == 1 || s == 8
+
+-- the numbers that the rows of the table give their operands: a register stands inside the word
+abbrev pub is_row_operand : Operand → Bool
+is_row_operand (scalar low) = nat_le low 27
+is_row_operand (vector low) = nat_le low 27
+is_row_operand (vector_byte low step) = nat_le low 27 && is_step step
+is_row_operand (vector_memory scale) = is_scale scale
+is_row_operand _ = true

@@ -1,11 +1,10 @@
 use Rattle.std.proofs.Common.{◌≡◌, drop}
-use Rattle.std.specs.Prelude.{map, option_map}
-use Rattle.rsp_text.specs.Rows.{operand}
+use Rattle.std.specs.Prelude.{option_map}
 use Rattle.rsp_text.specs.Statement.{operand_texts, texts_in}
 use Rattle.rsp_asm.specs.Walks.{any_fails}
 use Rattle.rsp_asm.proofs.operands.have_bad_number.Given as goal
 
 abbrev pub invariant-loop-kind : goal.invariant-loop-kind
 invariant-loop-kind l =
-    any_fails l.place (map operand (drop l.kind-index l.kinds)) (texts_in (option_map (λ t. t.now) l.rest))
-    ≡ any_fails l.place (map operand l.kinds) (operand_texts l.text)
+    any_fails l.place (drop l.kind-index l.kinds) (texts_in (option_map (λ t. t.now) l.rest))
+    ≡ any_fails l.place l.kinds (operand_texts l.text)

@@ -1,5 +1,5 @@
 use Rattle.std.proofs.Common.{◌∙◌, sym, ap}
-use Rattle.rsp_text.specs.Rows.{row_entry}
+use Rattle.rsp_decode.specs.Table.{entry}
 use Rattle.rsp_text.specs.Statement.{operand_texts, read_all}
 use Rattle.rsp_asm.specs.Walks.{word_with}
 use Rattle.rsp_asm.proofs.Readings.{put_read}
@@ -8,7 +8,7 @@ use Rattle.rsp_asm.proofs.push.row_word.Goals as goal
 
 pub returns : goal.returns
 returns c =
-    let e = row_entry c.args.row in
+    let e = entry c.args.row in
     let ts = operand_texts c.args.operands.now in
     let labels = c.args.labels.now in
     let p = some_readings (read_all e.operands ts) (sym c.are_operands.ensures ∙ c.if-not-are_operands.false) in

@@ -2,13 +2,13 @@ use Rattle.std.proofs.Common.{◌≡◌, ◌≤◌, ◌+◌, ◌*◌, ◌++◌, 
 use Rattle.std.specs.Prelude.{map}
 use Rattle.std.specs.List.{list_all}
 use Rattle.arrayvec.specs.ArrayString.{array_string_len}
-use Rattle.rsp_text.specs.Rows.{operand, is_row_operand}
+use Rattle.rsp_decode.specs.Table.{is_row_operand}
 use Rattle.rsp_text.specs.Spell.{operand_text, more_operands}
 use Rattle.rsp_dis.proofs.text.push_more.Given as goal
 
 abbrev pub invariant-loop-kind : goal.invariant-loop-kind
 invariant-loop-kind l = record {
-  bytes : l.line.bytes ++ more_operands (map (operand_text l.word l.place) (map operand (drop l.kind-index l.kinds))) ≡ l.initial.line.bytes ++ more_operands (map (operand_text l.word l.place) (map operand l.kinds));
+  bytes : l.line.bytes ++ more_operands (map (operand_text l.word l.place) (drop l.kind-index l.kinds)) ≡ l.initial.line.bytes ++ more_operands (map (operand_text l.word l.place) l.kinds);
   room : array_string_len l.line + 13 * length l.kinds ≤ 64 + 13 * l.kind-index;
-  kinds : list_all is_row_operand (map operand (drop l.kind-index l.kinds)) ≡ true;
+  kinds : list_all is_row_operand (drop l.kind-index l.kinds) ≡ true;
 }

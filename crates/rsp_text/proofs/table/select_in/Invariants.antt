@@ -1,9 +1,8 @@
 use Rattle.std.proofs.Common.{◌≡◌, drop}
-use Rattle.std.specs.Prelude.{map}
-use Rattle.rsp_text.specs.Rows.{operand, selected_at}
+use Rattle.std.specs.Prelude.{map, find}
+use Rattle.rsp_decode.specs.Table.{entry}
+use Rattle.rsp_text.specs.Rows.{is_selected}
 use Rattle.rsp_text.proofs.table.select_in.Given as goal
 
-abbrev pub invariant-loop-name : goal.invariant-loop-name
-invariant-loop-name l =
-    selected_at (map (λ e. record { mask = e.1; value = e.2; text = record { name = e.0.now; operands = map operand e.3.now } }) (drop l.name-index l.table)) l.word
-    ≡ selected_at (map (λ e. record { mask = e.1; value = e.2; text = record { name = e.0.now; operands = map operand e.3.now } }) l.table) l.word
+abbrev pub invariant-loop-row : goal.invariant-loop-row
+invariant-loop-row l = find (is_selected l.word) (map entry (drop l.row-index l.rows)) ≡ find (is_selected l.word) (map entry l.rows)
