@@ -12,7 +12,7 @@ abbrev pub wrapped_sums : List ℤ → List ℤ → List ℤ
 wrapped_sums xs ys = each_lane (λ i. s48 (number xs i +ℤ number ys i))
 
 -- accumulators whose low sixteen bits are written over, the high and middle ones kept
-abbrev pub with_low : List ℤ → List ℕ → List ℤ
+unfoldable pub with_low : List ℤ → List ℕ → List ℤ
 with_low xs l = each_lane (λ i. join (high (number xs i)) (middle (number xs i)) (slice_index l i))
 
 -- the high, the middle and the low sixteen bits of each

@@ -19,8 +19,8 @@ pub(crate) fn signs_differ(a: &VReg, b: &VReg) -> Mask8
 pub(crate) fn sum_or_difference(a: &VReg, b: &VReg) -> VReg
     ensures { result ≡ each_lane (λ i. modulo (sum_or_difference (slice_index a.now i) (slice_index b.now i)) 65536) }
 {
-    let _ = a.to_simd();
-    let _ = b.to_simd();
+    a.ranges();
+    b.ranges();
     signs_differ(a, b).merge(&a.add(b), &a.subtract(b))
 }
 

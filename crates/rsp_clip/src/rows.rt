@@ -42,8 +42,8 @@ fn vch(a: &VReg, b: &VReg, flags: &mut Flags) -> VReg
     ensures value { result ≡ results_of vch a.now b.now flags.old }
     ensures flags { flags.new ≡ flags_after vch a.now b.now flags.old }
 {
-    let _ = a.to_simd();
-    let _ = b.to_simd();
+    a.ranges();
+    b.ranges();
     let apart = signs_differ(a, b);
     let number = sum_or_difference(a, b);
     let is_zero = number.is_zero();
@@ -69,8 +69,8 @@ fn vcr(a: &VReg, b: &VReg, flags: &mut Flags) -> VReg
     ensures value { result ≡ results_of vcr a.now b.now flags.old }
     ensures flags { flags.new ≡ flags_after vcr a.now b.now flags.old }
 {
-    let _ = a.to_simd();
-    let _ = b.to_simd();
+    a.ranges();
+    b.ranges();
     let apart = signs_differ(a, b);
     let is_negative = sum_or_difference(a, b).is_negative();
     let compare = choose(apart, is_negative, b.is_negative());

@@ -61,8 +61,8 @@ fn clamped_sums(a: &VReg, b: &VReg, carry: Mask8) -> (VReg, VReg)
     ensures value { result.0 ≡ each_lane (λ i. word (clamp16 (s16 (slice_index a.now i) +ℤ s16 (slice_index b.now i) +ℤ pos (bit (slice_index_or carry i false))))) }
     ensures low { result.1 ≡ each_lane (λ i. word (s16 (slice_index a.now i) +ℤ s16 (slice_index b.now i) +ℤ pos (bit (slice_index_or carry i false)))) }
 {
-    let _ = a.to_simd();
-    let _ = b.to_simd();
+    a.ranges();
+    b.ranges();
     let half = VReg::splat(0x8000);
     let (sum, carried) = a.add(&half).add_carrying(&b.add(&half), carry);
     let top = sum.is_negative();
@@ -89,7 +89,7 @@ fn subtract(a: &VReg, b: &VReg, flags: &mut Flags) -> (VReg, VReg)
     ensures low { result.1 ≡ lows_of vsub a.now b.now flags.old }
     ensures flags { flags.new ≡ flags_after vsub a.now b.now flags.old }
 {
-    let _ = b.to_simd();
+    b.ranges();
     let sums = clamped_sums(a, &b.not(), flags.carry.not());
     flags.clear_vco();
     sums
@@ -101,8 +101,8 @@ fn absolute(a: &VReg, b: &VReg, flags: &mut Flags) -> (VReg, VReg)
     ensures low { result.1 ≡ lows_of vabs a.now b.now flags.old }
     ensures flags { flags.new ≡ flags_after vabs a.now b.now flags.old }
 {
-    let _ = a.to_simd();
-    let _ = b.to_simd();
+    a.ranges();
+    b.ranges();
     let negative = a.is_negative();
     let signed = negative.merge(&b.negate(), b);
     let low = a.is_zero().merge(&VReg::new(), &signed);
@@ -129,8 +129,8 @@ fn subtract_borrowed(a: &VReg, b: &VReg, flags: &mut Flags) -> (VReg, VReg)
     ensures low { result.1 ≡ lows_of vsubc a.now b.now flags.old }
     ensures flags { flags.new ≡ flags_after vsubc a.now b.now flags.old }
 {
-    let _ = a.to_simd();
-    let _ = b.to_simd();
+    a.ranges();
+    b.ranges();
     let difference = a.subtract(b);
     flags.set_vco(a.is_below(b), a.is_equal(b).not());
     (difference, difference)

@@ -79,8 +79,8 @@ impl SelectOp {
 fn is_below(a: &VReg, b: &VReg, flags: &Flags) -> Mask8
     ensures { result ≡ each_lane (λ i. vlt (slice_index a.now i) (slice_index b.now i) (flags_at flags.now i)) }
 {
-    let _ = a.to_simd();
-    let _ = b.to_simd();
+    a.ranges();
+    b.ranges();
     let both = flags.carry.and(flags.differ);
     a.is_below_signed(b).or(a.is_equal(b).and(both))
 }
@@ -89,8 +89,8 @@ fn is_below(a: &VReg, b: &VReg, flags: &Flags) -> Mask8
 fn is_equal(a: &VReg, b: &VReg, flags: &Flags) -> Mask8
     ensures { result ≡ each_lane (λ i. veq (slice_index a.now i) (slice_index b.now i) (flags_at flags.now i)) }
 {
-    let _ = a.to_simd();
-    let _ = b.to_simd();
+    a.ranges();
+    b.ranges();
     a.is_equal(b).and(flags.differ.not())
 }
 
@@ -98,8 +98,8 @@ fn is_equal(a: &VReg, b: &VReg, flags: &Flags) -> Mask8
 fn is_different(a: &VReg, b: &VReg, flags: &Flags) -> Mask8
     ensures { result ≡ each_lane (λ i. vne (slice_index a.now i) (slice_index b.now i) (flags_at flags.now i)) }
 {
-    let _ = a.to_simd();
-    let _ = b.to_simd();
+    a.ranges();
+    b.ranges();
     a.is_equal(b).not().or(flags.differ)
 }
 
@@ -107,8 +107,8 @@ fn is_different(a: &VReg, b: &VReg, flags: &Flags) -> Mask8
 fn is_at_least(a: &VReg, b: &VReg, flags: &Flags) -> Mask8
     ensures { result ≡ each_lane (λ i. vge (slice_index a.now i) (slice_index b.now i) (flags_at flags.now i)) }
 {
-    let _ = a.to_simd();
-    let _ = b.to_simd();
+    a.ranges();
+    b.ranges();
     let both = flags.carry.and(flags.differ);
     b.is_below_signed(a).or(a.is_equal(b).and(both.not()))
 }

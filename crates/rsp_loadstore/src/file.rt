@@ -59,7 +59,7 @@ impl VFile {
         ensures { self.new ≡ with_register self.old n v }
     {
         // Tells the proof that its lanes are eight, each below 2^16.
-        let _ = v.to_simd();
+        v.ranges();
         self.registers[n as usize] = v;
     }
 

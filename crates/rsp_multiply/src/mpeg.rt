@@ -1,7 +1,7 @@
 //! The rows for MPEG coefficients. What a lane adds is put together as a register of sixteen bits first, 0 where
 //! the row adds nothing, so one addition serves all eight.
 //!
-//! `let _ = b.to_simd();` tells the proof that the lanes are below 65536; it emits no instruction.
+//! `b.ranges();` tells the proof that the lanes are below 65536; it emits no instruction.
 
 ghost use Rattle.std.specs.Prelude.{◌≡◌, ◌*ℤ◌, pos, slice_index, int_lt};
 ghost use Rattle.rsp_lanes.specs.Lanes.{each_lane};
@@ -18,7 +18,7 @@ use rsp_lanes::{Mask8, VReg};
 fn signed(lanes: &VReg) -> Addends
     ensures { result ≡ each_lane (λ i. s16 (slice_index lanes.now i)) }
 {
-    let _ = lanes.to_simd();
+    lanes.ranges();
     let sign = lanes
         .is_negative()
         .merge(&VReg::splat(0xffff), &VReg::new());
@@ -30,7 +30,7 @@ fn signed(lanes: &VReg) -> Addends
 fn shifted(lanes: &VReg) -> Addends
     ensures { result ≡ each_lane (λ i. s16 (slice_index lanes.now i) *ℤ pos 65536) }
 {
-    let _ = lanes.to_simd();
+    lanes.ranges();
     let zeros = VReg::new();
     let sign = lanes.is_negative().merge(&VReg::splat(0xffff), &zeros);
     Addends::from_planes(&sign, lanes, &zeros)
@@ -124,7 +124,7 @@ fn halved<A: Acc>(acc: &A) -> VReg
     let mut other = A::zero();
     other.replace(&halves(acc));
     let clamped = other.clamp(Clamp::Signed);
-    let _ = clamped.to_simd();
+    clamped.ranges();
     clamped.and(&VReg::splat(0xfff0))
 }
 
@@ -150,8 +150,8 @@ pub fn mpeg_op<A: Acc>(op: MpegOp, a: &VReg, b: &VReg, acc: &mut A) -> VReg
 fn multiply_rounded<A: Acc>(a: &VReg, b: &VReg, acc: &mut A)
     ensures { A.numbers acc.new ≡ accumulators_mpeg MpegOp.Vmulq a.now b.now (A.numbers acc.old) }
 {
-    let _ = a.to_simd();
-    let _ = b.to_simd();
+    a.ranges();
+    b.ranges();
     acc.replace(&upper(a, b));
     let rounding = negative(acc).merge(&VReg::splat(31), &VReg::new());
     acc.add(&shifted(&rounding));

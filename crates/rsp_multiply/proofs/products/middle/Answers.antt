@@ -6,5 +6,5 @@ use Rattle.rsp_multiply.proofs.products.middle.Goals as goal
 
 pub returns : goal.returns
 returns c = c.extended.ensures ∙ each_same _ _ (λ i h.
-    let s = mixed _ _ (c.to_simd.ensures.vector.1 i) (c.to_simd-2.ensures.vector.1 i) in
+    let s = mixed _ _ (c.ranges-2.ensures.1 i) (c.ranges-3.ensures.1 i) in
     rw (lane_of 0 _ _ c.mixed_product-high.ensures.high i h, lane_of 0 _ _ c.mixed_product-high.ensures.low i h) (sign_extended _ s.low s.high))
