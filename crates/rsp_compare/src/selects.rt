@@ -1,7 +1,8 @@
 ghost use Rattle.std.specs.Prelude.{◌≡◌, slice_index};
 ghost use Rattle.rsp_lanes.specs.Lanes.{each_lane};
 ghost use Rattle.rsp_flags.specs.Flags.{flags_at};
-ghost use Rattle.rsp_flags.specs.Outcome.{results_of, flags_after, numbers_after};
+ghost use Rattle.rsp_flags.specs.Outcome.{results_of, lows_of, flags_after};
+ghost use Rattle.rsp_acc.specs.Planes.{with_low};
 ghost use Rattle.rsp_compare.specs.Selects.{vlt, veq, vne, vge, is_taken, select_rule, merge_rule};
 
 use rsp_acc::Acc;
@@ -34,7 +35,7 @@ pub enum MergeOp {
 pub fn select_op<A: Acc>(op: SelectOp, a: &VReg, b: &VReg, flags: &mut Flags, acc: &mut A) -> VReg
     ensures value { result ≡ results_of (select_rule op) a.now b.now flags.old }
     ensures flags { flags.new ≡ flags_after (select_rule op) a.now b.now flags.old }
-    ensures accumulator { A.numbers acc.new ≡ numbers_after (select_rule op) a.now b.now flags.old (A.numbers acc.old) }
+    ensures accumulator { A.numbers acc.new ≡ with_low (A.numbers acc.old) (lows_of (select_rule op) a.now b.now flags.old) }
 {
     let taken = op.taken(a, b, flags);
     flags.clear_vco();
@@ -50,7 +51,7 @@ pub fn select_op<A: Acc>(op: SelectOp, a: &VReg, b: &VReg, flags: &mut Flags, ac
 pub fn merge_op<A: Acc>(op: MergeOp, a: &VReg, b: &VReg, flags: &mut Flags, acc: &mut A) -> VReg
     ensures value { result ≡ results_of (merge_rule op) a.now b.now flags.old }
     ensures flags { flags.new ≡ flags_after (merge_rule op) a.now b.now flags.old }
-    ensures accumulator { A.numbers acc.new ≡ numbers_after (merge_rule op) a.now b.now flags.old (A.numbers acc.old) }
+    ensures accumulator { A.numbers acc.new ≡ with_low (A.numbers acc.old) (lows_of (merge_rule op) a.now b.now flags.old) }
 {
     let result = match op {
         MergeOp::Vmrg => flags.compare.merge(a, b),

@@ -30,4 +30,4 @@ returns-clause-low c = lows_are _ _ _ _ _ _ c.merge-low.ensures (λ i h.
     ) (ap (λ x. x.low) (sym (abs_is _ _ _ (c.ranges-2.ensures.1 i) (c.ranges-3.ensures.1 i)))))
 
 pub returns-clause-flags : goal.returns-clause-flags
-returns-clause-flags c = flags_are _ _ _ _ _ _ c.keep.ensures (λ i h. ap (λ x. x.flags) (sym (abs_is _ _ _ (c.ranges-2.ensures.1 i) (c.ranges-3.ensures.1 i))))
+returns-clause-flags c = flags_are _ _ _ _ _ _ c.ranges-4.ensures (λ i h. ap (λ x. x.flags) (sym (abs_is _ _ _ (c.ranges-2.ensures.1 i) (c.ranges-3.ensures.1 i))))
