@@ -4,7 +4,7 @@
 
 ghost use Rattle.std.specs.Prelude.{◌≡◌, ◌*ℤ◌, pos, slice_index, nat_lt, if◌then◌else◌};
 ghost use Rattle.rsp_lanes.specs.Lanes.{each_lane};
-ghost use Rattle.rsp_numbers.specs.Numbers.{s16, modulo, floor_div, join};
+ghost use Rattle.rsp_numbers.specs.Numbers.{s16, sixteen_bits, upper_bits, join};
 ghost use Rattle.rsp_multiply.specs.Doubles.{doubled_high, doubled_low};
 ghost use Rattle.rsp_multiply.specs.Rows.{rounded, lower, middle_left, upper, fraction};
 
@@ -14,8 +14,8 @@ use rsp_lanes::VReg;
 /// The high and the low half of the products of the lanes as signed numbers.
 #[inline(always)]
 pub(crate) fn signed_product(a: &VReg, b: &VReg) -> (VReg, VReg)
-    ensures high { result.0 ≡ each_lane (λ i. modulo (floor_div (s16 (slice_index a.now i) *ℤ s16 (slice_index b.now i)) 65536) 65536) }
-    ensures low { result.1 ≡ each_lane (λ i. modulo (s16 (slice_index a.now i) *ℤ s16 (slice_index b.now i)) 65536) }
+    ensures high { result.0 ≡ each_lane (λ i. upper_bits (s16 (slice_index a.now i) *ℤ s16 (slice_index b.now i))) }
+    ensures low { result.1 ≡ each_lane (λ i. sixteen_bits (s16 (slice_index a.now i) *ℤ s16 (slice_index b.now i))) }
 {
     a.ranges();
     b.ranges();
@@ -28,8 +28,8 @@ pub(crate) fn signed_product(a: &VReg, b: &VReg) -> (VReg, VReg)
 /// ones.
 #[inline(always)]
 pub(crate) fn mixed_product(a: &VReg, b: &VReg) -> (VReg, VReg)
-    ensures high { result.0 ≡ each_lane (λ i. modulo (floor_div (s16 (slice_index a.now i) *ℤ pos (slice_index b.now i)) 65536) 65536) }
-    ensures low { result.1 ≡ each_lane (λ i. modulo (s16 (slice_index a.now i) *ℤ pos (slice_index b.now i)) 65536) }
+    ensures high { result.0 ≡ each_lane (λ i. upper_bits (s16 (slice_index a.now i) *ℤ pos (slice_index b.now i))) }
+    ensures low { result.1 ≡ each_lane (λ i. sixteen_bits (s16 (slice_index a.now i) *ℤ pos (slice_index b.now i))) }
 {
     a.ranges();
     b.ranges();
@@ -48,7 +48,7 @@ fn top_bit(lanes: &VReg) -> VReg
 
 /// The signed numbers of 32 bits with these halves.
 #[inline(always)]
-fn extended(high: &VReg, low: &VReg) -> Addends
+fn from_halves(high: &VReg, low: &VReg) -> Addends
     ensures { result ≡ each_lane (λ i. join (if nat_lt 32767 (slice_index high.now i) then 65535 else 0) (slice_index high.now i) (slice_index low.now i)) }
 {
     Addends::from_planes(&high.sign(), high, low)
@@ -109,7 +109,7 @@ pub(crate) fn middle(a: &VReg, b: &VReg) -> Addends
     a.ranges();
     b.ranges();
     let (high, low) = mixed_product(a, b);
-    extended(&high, &low)
+    from_halves(&high, &low)
 }
 
 /// The signed products times 65536.
