@@ -1,11 +1,13 @@
 ghost use Rattle.std.specs.Prelude.{◌≡◌, ◌<◌};
 ghost use Rattle.rsp_decode.specs.Table.{IsInstruction};
+ghost use Rattle.rsp_lanes.specs.Lanes.{selected};
+ghost use Rattle.rsp_loadstore.specs.File.{register as vector};
 ghost use Rattle.rsp_compare.specs.Adds.{add_rule};
 ghost use Rattle.rsp_compare.specs.Selects.{select_rule, merge_rule};
 ghost use Rattle.rsp_compare.specs.Logic.{logic_rule};
 ghost use Rattle.rsp_clip.specs.Clips.{clip_rule};
 ghost use Rattle.rsp_machine.specs.Ops.{add_op, select_op, clip_op, logic_op};
-ghost use Rattle.rsp_machine.specs.Vector.{selected, multiplies, rounds, multiplies_mpeg, reads_accumulator, ruled, divides, loads_vector, stores_vector, moves_vector, moves_control};
+ghost use Rattle.rsp_machine.specs.Vector.{multiplies, rounds, multiplies_mpeg, reads_accumulator, ruled, divides, loads_vector, stores_vector, moves_vector, moves_control};
 
 use crate::machine::Machine;
 use crate::ops::{add_op, clip_op, lane_op, logic_op, mpeg_op, multiply_op, round_op, select_op};
@@ -26,7 +28,7 @@ impl<A: Acc> Machine<A> {
     fn selected(&self, vt: u8, element: u8) -> VReg
         requires register { vt < 32 }
         requires element { element < 16 }
-        ensures { result ≡ selected self.now.vectors vt element }
+        ensures { result ≡ selected (vector self.now.vectors vt) element }
     {
         select(&self.vregs.reg(vt), usize::from(element))
     }

@@ -1,7 +1,5 @@
 //! The rows for MPEG coefficients. What a lane adds is put together as a register of sixteen bits first, 0 where
 //! the row adds nothing, so one addition serves all eight.
-//!
-//! `b.ranges();` tells the proof that the lanes are below 65536; it emits no instruction.
 
 ghost use Rattle.std.specs.Prelude.{◌≡◌, ◌*ℤ◌, pos, slice_index, int_lt};
 ghost use Rattle.rsp_lanes.specs.Lanes.{each_lane};

@@ -1,6 +1,4 @@
 //! Products of lanes, by their halves of sixteen bits.
-//!
-//! `a.ranges();` tells the proof that the lanes are below 65536; it emits no instruction.
 
 ghost use Rattle.std.specs.Prelude.{◌≡◌, ◌*ℤ◌, pos, slice_index, nat_lt, if◌then◌else◌};
 ghost use Rattle.rsp_lanes.specs.Lanes.{each_lane};

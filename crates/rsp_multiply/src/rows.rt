@@ -62,7 +62,6 @@ pub fn multiply<A: Acc>(op: MultiplyOp, a: &VReg, b: &VReg, acc: &mut A) -> VReg
     ensures accumulators { A.numbers acc.new ≡ accumulators_after op a.now b.now (A.numbers acc.old) }
     ensures value { result ≡ clamped_by op (A.numbers acc.new) }
 {
-    // These two lines tell the proof that the lanes are below 65536.
     a.ranges();
     b.ranges();
     let addends = op.addends(a, b);
