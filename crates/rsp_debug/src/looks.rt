@@ -163,7 +163,7 @@ impl<A: Acc> Debugger<A> {
         )
     }
 
-    /// The flags of the eight lanes, and what the single-lane rows keep from one to the next.
+    /// The flags of the eight lanes, and what the divide rows keep from one to the next.
     pub fn flags(&self) -> (&Flags, &Divider)
         ensures flags { result.0.now ≡ self.now.state.flags }
         ensures divider { result.1.now ≡ self.now.state.divider }

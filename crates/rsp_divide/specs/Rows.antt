@@ -1,6 +1,6 @@
 -- The divide rows.
 use Rattle.std.specs.Prelude.{ℕ, ℤ, ◌%◌, Option, Some, None, List, slice_set, slice_index}
-use Rattle.rsp_lanes.specs.Lanes.{source_lane, selected}
+use Rattle.rsp_lanes.specs.Lanes.{selected}
 use Rattle.rsp_numbers.specs.Numbers.{s16}
 use Rattle.rsp_acc.specs.Planes.{with_low}
 use Rattle.rsp_divide.specs.Dividers.{Division, divided, loaded, moved, idle, operand}
@@ -23,7 +23,7 @@ division Vnull d source lane = idle d
 
 -- the row with the element e and the lane de
 abbrev pub division_at : DivideOp → ℕ → ℕ → List ℕ → Divider → Division
-division_at op e de vt d = division op d (slice_index vt (e % 8)) (slice_index vt (source_lane e de))
+division_at op e de vt d = division op d (slice_index vt (e % 8)) (slice_index (selected vt e) de)
 
 -- lane i written over, where there is something to write
 abbrev pub with_lane : List ℕ → ℕ → Option ℕ → List ℕ

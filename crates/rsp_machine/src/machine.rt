@@ -136,7 +136,7 @@ impl<A: Acc> Machine<A> {
         &self.flags
     }
 
-    /// What the single-lane rows keep from one to the next.
+    /// What the divide rows keep from one to the next.
     #[inline]
     pub fn divider(&self) -> &Divider
         ensures { result.now ≡ self.now.divider }

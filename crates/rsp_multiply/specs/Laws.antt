@@ -1,6 +1,6 @@
 -- A replacing row, and accumulating rows after it.
 use Rattle.std.specs.Prelude.{ℕ, ℤ, pos, ◌+ℤ◌, ◌<◌, ◌≡◌, true, false, List, [], ◌∷◌, slice_index, All}
-use Rattle.rsp_lanes.specs.Lanes.{each_lane, IsVector, source_lane, selected}
+use Rattle.rsp_lanes.specs.Lanes.{each_lane, IsVector, selected}
 use Rattle.rsp_numbers.specs.Numbers.{s48}
 use Rattle.rsp_acc.specs.Parts.{clamp_of}
 use Rattle.rsp_multiply.specs.declared.ops.MultiplyOp.{MultiplyOp}
@@ -23,7 +23,7 @@ operand s = selected s.vt s.element
 
 -- what the instruction makes of the operands' lanes i
 abbrev pub addend_of : Step → ℕ → ℤ
-addend_of s i = (row s.op).addend (slice_index s.vs i) (slice_index s.vt (source_lane s.element i))
+addend_of s i = (row s.op).addend (slice_index s.vs i) (slice_index (operand s) i)
 
 -- the eight accumulators after the instructions, from those before them
 abbrev pub after : List Step → List ℤ → List ℤ

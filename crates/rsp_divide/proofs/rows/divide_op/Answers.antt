@@ -1,6 +1,5 @@
-use Rattle.std.proofs.Common.{◌≡◌, ◌∙◌, ap, refl, sym, ℕ, ℤ, List, Some}
+use Rattle.std.proofs.Common.{◌≡◌, ◌∙◌, ap, refl, sym, ℕ, ℤ, List, Some, slice_index}
 use Rattle.rsp_lanes.specs.Lanes.{selected}
-use Rattle.rsp_lanes.proofs.Kit.{lane_of}
 use Rattle.rsp_acc.specs.Planes.{with_low}
 use Rattle.rsp_divide.specs.declared.divider.Divider.{Divider}
 use Rattle.rsp_divide.specs.declared.rows.DivideOp.{DivideOp}
@@ -15,7 +14,7 @@ same_division op d s t m n e f = ap (λ (k : ℕ). (division op d k n).lane) (sy
 -- what is written is the division's lane
 written : (g : Given.Over) (c : goal.After-set_low g) → (division_at c.args.op c.args.e c.args.de c.args.vt.now c.args.divider.now).lane ≡ Some c.in-Some.lane
 written g c =
-    same_division _ _ _ _ _ _ c.lane-source.ensures (c.lane.ensures ∙ lane_of 0 _ _ c.select-selected.ensures c.args.de c.requires.lane)
+    same_division _ _ _ _ _ _ c.lane-source.ensures (c.lane.ensures ∙ ap (λ v. slice_index v c.args.de) c.select-selected.ensures)
     ∙ sym c.in-Some.ensures.lane
 
 -- a row that writes a lane writes the accumulators
