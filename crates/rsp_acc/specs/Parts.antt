@@ -1,6 +1,6 @@
 -- What is read of an accumulator: sixteen of its bits, or a clamp.
 use Rattle.std.specs.Prelude.{ℕ, ℤ, pos, negsuc, int_lt, if◌then◌else◌}
-use Rattle.rsp_numbers.specs.Numbers.{floor_div, modulo, clamp16, high, middle, low}
+use Rattle.rsp_numbers.specs.Numbers.{floor_div, sixteen_bits, clamp16, high, middle, low}
 use Rattle.rsp_acc.specs.declared.parts.Part.{Part}
 use Rattle.rsp_acc.specs.declared.parts.Part.TheVariants.{High, Middle, Low}
 use Rattle.rsp_acc.specs.declared.parts.Clamp.{Clamp}
@@ -17,8 +17,8 @@ part_of Low x = low x
 -- Unsigned: 0 for a negative h, 65535 for an h above 32767, else h.
 -- LowKind: 0 for an h below -32768, 65535 for an h above 32767, else l.
 abbrev pub clamp_by : Clamp → ℤ → ℕ → ℕ
-clamp_by Signed h l = modulo (clamp16 h) 65536
-clamp_by Unsigned h l = if int_lt h (pos 0) then 0 else if int_lt (pos 32767) h then 65535 else modulo h 65536
+clamp_by Signed h l = sixteen_bits (clamp16 h)
+clamp_by Unsigned h l = if int_lt h (pos 0) then 0 else if int_lt (pos 32767) h then 65535 else sixteen_bits h
 clamp_by LowKind h l = if int_lt h (negsuc 32767) then 0 else if int_lt (pos 32767) h then 65535 else l
 
 -- a clamp of an accumulator

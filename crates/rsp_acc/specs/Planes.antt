@@ -11,9 +11,13 @@ joined h m l = each_lane (λ i. join (slice_index h i) (slice_index m i) (slice_
 abbrev pub wrapped_sums : List ℤ → List ℤ → List ℤ
 wrapped_sums xs ys = each_lane (λ i. s48 (number xs i +ℤ number ys i))
 
--- accumulators whose low sixteen bits are written over, the high and middle ones kept
-abbrev pub with_low : List ℤ → List ℕ → List ℤ
-with_low xs l = each_lane (λ i. join (high (number xs i)) (middle (number xs i)) (slice_index l i))
+-- an accumulator whose low sixteen bits are written over, the high and middle ones kept
+abbrev pub low_written : ℤ → ℕ → ℤ
+low_written x l = join (high x) (middle x) l
+
+-- the same of all eight
+unfoldable pub with_low : List ℤ → List ℕ → List ℤ
+with_low xs l = each_lane (λ i. low_written (number xs i) (slice_index l i))
 
 -- the high, the middle and the low sixteen bits of each
 abbrev pub high_plane : List ℤ → List ℕ

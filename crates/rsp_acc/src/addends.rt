@@ -1,5 +1,6 @@
 ghost use Rattle.std.specs.Prelude.{◌≡◌, pos};
 ghost use Rattle.rsp_lanes.specs.Lanes.{each_lane, IsVector};
+ghost use Rattle.rsp_numbers.specs.Numbers.{AreNumbers};
 ghost use Rattle.rsp_acc.specs.Planes.{joined, wrapped_sums};
 
 use crate::{Acc, Part};
@@ -18,7 +19,9 @@ pub struct Addends {
 impl Model for Addends {
     ghost use Rattle.std.specs.Prelude.{List, ℤ};
     ghost use Rattle.rsp_lanes.specs.Lanes.{IsVector};
+    ghost use Rattle.rsp_numbers.specs.Numbers.{AreNumbers};
     ghost use Rattle.rsp_acc.specs.Planes.{joined, high_plane, middle_plane, low_plane};
+    ghost use Rattle.rsp_numbers.specs.Numbers.{AreNumbers};
     ghost use Rattle.rsp_acc.specs.PlanesAgain.{high_joined, middle_joined, low_joined};
 
     ghost Value = { List ℤ };
@@ -65,6 +68,14 @@ impl Addends {
         let middle = acc.part(Part::Middle);
         let low = acc.part(Part::Low);
         Addends::from_planes(&high, &middle, &low)
+    }
+
+    /// Changes nothing. It says that they are eight numbers from -2^47 to 2^47 - 1.
+    #[inline(always)]
+    pub fn ranges(&self)
+        ensures { AreNumbers self.now }
+    {
+        let _ = &self.low;
     }
 
     /// The high, middle and low sixteen bits of each number.

@@ -1,6 +1,7 @@
 ghost use Rattle.std.specs.Prelude.{◌≡◌, ◌<◌, ◌<ℤ◌, ◌≤ℤ◌, pos, negsuc, ◌^◌, ◌-◌};
-ghost use Rattle.rsp_numbers.specs.Numbers.{s48, number, IsNumber, join, high, middle, modulo};
+ghost use Rattle.rsp_numbers.specs.Numbers.{s48, number, IsNumber, join, sixteen_bits};
 ghost use Rattle.rsp_acc.specs.Parts.{part_of, clamp_of, clamp_by};
+ghost use Rattle.rsp_acc.specs.Planes.{low_written};
 
 use crate::{Acc, Addends, Clamp, Part};
 use rsp_lanes::VReg;
@@ -39,8 +40,7 @@ impl Acc for PlainAcc {
     }
 
     fn replace(&mut self, addends: &Addends) {
-        // Tells the proof that they are eight.
-        let _ = addends.planes();
+        addends.ranges();
         let mut numbers = [0; 8];
         for i in 0..8 {
             numbers[i] = addend(addends, i);
@@ -116,7 +116,7 @@ fn join(high: u16, middle: u16, low: u16) -> i64
 /// A number with its low sixteen bits written over.
 fn with_low(number: i64, low: u16) -> i64
     requires { IsNumber number }
-    ensures value { result ≡ join (high number) (middle number) low }
+    ensures value { result ≡ low_written number low }
     ensures number { IsNumber result }
 {
     number - number.rem_euclid(65536) + low as i64
@@ -124,7 +124,7 @@ fn with_low(number: i64, low: u16) -> i64
 
 /// The low sixteen bits of a number.
 fn low16(n: i64) -> u16
-    ensures { result ≡ modulo n 65536 }
+    ensures { result ≡ sixteen_bits n }
 {
     n.rem_euclid(65536) as u16
 }

@@ -3,10 +3,10 @@ use Rattle.std.proofs.Common.{◌≡◌, ℕ, ◌+◌, ◌%◌, ◌<◌, ℤ, po
 use Rattle.std.specs.Prelude.{int_lt, int_le}
 use Rattle.std.specs.Ordering.{int_eq}
 use Rattle.std.proofs.lemmas.Bool.Decides.{nat_tests}
-use Rattle.rsp_numbers.specs.Numbers.{s16, modulo}
+use Rattle.rsp_numbers.specs.Numbers.{s16, sixteen_bits, complement, negated}
 use Rattle.rsp_flags.specs.Flags.{LaneFlags}
 use Rattle.rsp_flags.specs.Outcome.{Outcome, plain}
-use Rattle.rsp_clip.specs.Clips.{signs_differ, sum_or_difference, negated, complement, compare_flags, vch, vch_signs_differ, vch_signs_agree, vcl, vcr, vcr_signs_differ, vcr_signs_agree, clip_rule}
+use Rattle.rsp_clip.specs.Clips.{signs_differ, sum_or_difference, compare_flags, vch, vch_signs_differ, vch_signs_agree, vcl, vcr, vcr_signs_differ, vcr_signs_agree, clip_rule}
 use Rattle.rsp_clip.specs.declared.op.ClipOp.{ClipOp}
 use Rattle.rsp_clip.specs.declared.op.ClipOp.TheVariants.{Vcl, Vch, Vcr}
 use Rattle.rsp_clip.proofs.Signs.{IsSigned, below_zero, is_negative, is_zero, is_minus_one, sum_or_difference_signed}
@@ -41,12 +41,12 @@ vch_code t n a b =
     (record { carry = t; differ = not (nat_eq n 0 || t && nat_eq n 65535); compare = compare; clip = clip; extra = t && nat_eq n 65535 })
 
 vch_cases : (t : Bool) (y z : ℤ) (a b : ℕ) → IsSigned (cond t y z)
-    → vch_code t (modulo (cond t y z) 65536) a b ≡ cond t (vch_signs_differ a b y) (vch_signs_agree a b z)
+    → vch_code t (sixteen_bits (cond t y z)) a b ≡ cond t (vch_signs_differ a b y) (vch_signs_agree a b z)
 vch_cases true y z a b h = rw (is_negative y h, is_zero y h, is_minus_one y h, up_to_zero y, not_or, below_zero b) refl
 vch_cases false y z a b h = rw (is_negative z h, is_zero z h, from_zero z, or_false, below_zero b) refl
 
 pub vch_is : (a b : ℕ) (f : LaneFlags) → a < 65536 → b < 65536
-    → vch_code (signs_differ a b) (modulo (sum_or_difference a b) 65536) a b ≡ vch a b f
+    → vch_code (signs_differ a b) (sixteen_bits (sum_or_difference a b)) a b ≡ vch a b f
 vch_is a b f h k = vch_cases (signs_differ a b) (s16 a +ℤ s16 b) (s16 a -ℤ s16 b) a b (sum_or_difference_signed a b h k)
 
 -- VCR
@@ -57,12 +57,12 @@ vcr_code t n a b =
     plain (cond (cond t compare clip) (cond t (complement b) b) a) (compare_flags compare clip)
 
 vcr_cases : (t : Bool) (y z : ℤ) (a b : ℕ) → IsSigned (cond t y z) → y ≡ s16 a +ℤ s16 b → z ≡ s16 a -ℤ s16 b
-    → vcr_code t (modulo (cond t y z) 65536) a b ≡ cond t (vcr_signs_differ a b) (vcr_signs_agree a b)
+    → vcr_code t (sixteen_bits (cond t y z)) a b ≡ cond t (vcr_signs_differ a b) (vcr_signs_agree a b)
 vcr_cases true y z a b h e k = rw (← e, is_negative y h, before_zero y, below_zero b) refl
 vcr_cases false y z a b h e k = rw (← k, is_negative z h, from_zero z, below_zero b) refl
 
 pub vcr_is : (a b : ℕ) (f : LaneFlags) → a < 65536 → b < 65536
-    → vcr_code (signs_differ a b) (modulo (sum_or_difference a b) 65536) a b ≡ vcr a b f
+    → vcr_code (signs_differ a b) (sixteen_bits (sum_or_difference a b)) a b ≡ vcr a b f
 vcr_is a b f h k = vcr_cases (signs_differ a b) _ _ a b (sum_or_difference_signed a b h k) refl refl
 
 -- VCL, from the sum with no carry and from where it passes 65535

@@ -1,9 +1,9 @@
 -- The clip rows, each by its rule for one lane. a and b are the lanes of the operands: as they stand they are the unsigned
 -- readings, from 0 to 65535, and s16 gives the signed ones.
-use Rattle.std.specs.Prelude.{ℕ, ℤ, pos, negsuc, ◌+◌, ◌-◌, ◌%◌, ◌+ℤ◌, ◌-ℤ◌, Bool, true, false, not, ◌&&◌, ◌||◌, int_lt, int_le, nat_lt, nat_le, nat_eq, if◌then◌else◌}
+use Rattle.std.specs.Prelude.{ℕ, ℤ, pos, negsuc, ◌+◌, ◌%◌, ◌+ℤ◌, ◌-ℤ◌, Bool, true, false, not, ◌&&◌, ◌||◌, int_lt, int_le, nat_lt, nat_le, nat_eq, if◌then◌else◌}
 use Rattle.std.specs.Ordering.{int_eq}
 use Rattle.rsp_lanes.specs.Lanes.{bool_xor}
-use Rattle.rsp_numbers.specs.Numbers.{s16}
+use Rattle.rsp_numbers.specs.Numbers.{s16, complement, negated}
 use Rattle.rsp_flags.specs.Flags.{LaneFlags}
 use Rattle.rsp_flags.specs.Outcome.{Outcome, Rule, plain}
 use Rattle.rsp_clip.specs.declared.op.ClipOp.{ClipOp}
@@ -16,14 +16,6 @@ signs_differ a b = bool_xor (int_lt (s16 a) (pos 0)) (int_lt (s16 b) (pos 0))
 -- the sum where the signs differ, and the difference where they agree
 abbrev pub sum_or_difference : ℕ → ℕ → ℤ
 sum_or_difference a b = if signs_differ a b then s16 a +ℤ s16 b else s16 a -ℤ s16 b
-
--- -b, in sixteen bits
-abbrev pub negated : ℕ → ℕ
-negated b = (65536 - b) % 65536
-
--- b with each of its sixteen bits turned
-abbrev pub complement : ℕ → ℕ
-complement b = 65535 - b
 
 -- the flags with this compare and this clip: carry, not-equal and extra are cleared
 abbrev pub compare_flags : Bool → Bool → LaneFlags

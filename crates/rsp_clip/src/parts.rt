@@ -1,6 +1,6 @@
 ghost use Rattle.std.specs.Prelude.{◌≡◌, cond, false, slice_index, slice_index_or};
 ghost use Rattle.rsp_lanes.specs.Lanes.{each_lane};
-ghost use Rattle.rsp_numbers.specs.Numbers.{modulo};
+ghost use Rattle.rsp_numbers.specs.Numbers.{sixteen_bits};
 ghost use Rattle.rsp_clip.specs.Clips.{signs_differ, sum_or_difference};
 
 use rsp_lanes::{Mask8, VReg};
@@ -17,10 +17,10 @@ pub(crate) fn signs_differ(a: &VReg, b: &VReg) -> Mask8
 /// sixteen bits, so no bit is lost.
 #[inline(always)]
 pub(crate) fn sum_or_difference(a: &VReg, b: &VReg) -> VReg
-    ensures { result ≡ each_lane (λ i. modulo (sum_or_difference (slice_index a.now i) (slice_index b.now i)) 65536) }
+    ensures { result ≡ each_lane (λ i. sixteen_bits (sum_or_difference (slice_index a.now i) (slice_index b.now i))) }
 {
-    let _ = a.to_simd();
-    let _ = b.to_simd();
+    a.ranges();
+    b.ranges();
     signs_differ(a, b).merge(&a.add(b), &a.subtract(b))
 }
 

@@ -1,5 +1,6 @@
 ghost use Rattle.std.specs.Prelude.{◌≡◌};
-ghost use Rattle.rsp_flags.specs.Outcome.{results_of, flags_after, numbers_after};
+ghost use Rattle.rsp_flags.specs.Outcome.{results_of, lows_of, flags_after};
+ghost use Rattle.rsp_acc.specs.Planes.{with_low};
 ghost use Rattle.rsp_clip.specs.Clips.{vcl, vch, vcr, clip_rule};
 
 use crate::ClipOp;
@@ -42,8 +43,8 @@ fn vch(a: &VReg, b: &VReg, flags: &mut Flags) -> VReg
     ensures value { result ≡ results_of vch a.now b.now flags.old }
     ensures flags { flags.new ≡ flags_after vch a.now b.now flags.old }
 {
-    let _ = a.to_simd();
-    let _ = b.to_simd();
+    a.ranges();
+    b.ranges();
     let apart = signs_differ(a, b);
     let number = sum_or_difference(a, b);
     let is_zero = number.is_zero();
@@ -69,8 +70,8 @@ fn vcr(a: &VReg, b: &VReg, flags: &mut Flags) -> VReg
     ensures value { result ≡ results_of vcr a.now b.now flags.old }
     ensures flags { flags.new ≡ flags_after vcr a.now b.now flags.old }
 {
-    let _ = a.to_simd();
-    let _ = b.to_simd();
+    a.ranges();
+    b.ranges();
     let apart = signs_differ(a, b);
     let is_negative = sum_or_difference(a, b).is_negative();
     let compare = choose(apart, is_negative, b.is_negative());
@@ -110,7 +111,7 @@ fn clip(op: ClipOp, a: &VReg, b: &VReg, flags: &mut Flags) -> VReg
 pub fn clip_op<A: Acc>(op: ClipOp, a: &VReg, b: &VReg, flags: &mut Flags, acc: &mut A) -> VReg
     ensures value { result ≡ results_of (clip_rule op) a.now b.now flags.old }
     ensures flags { flags.new ≡ flags_after (clip_rule op) a.now b.now flags.old }
-    ensures accumulator { A.numbers acc.new ≡ numbers_after (clip_rule op) a.now b.now flags.old (A.numbers acc.old) }
+    ensures accumulator { A.numbers acc.new ≡ with_low (A.numbers acc.old) (lows_of (clip_rule op) a.now b.now flags.old) }
 {
     let result = clip(op, a, b, flags);
     acc.set_low(&result);

@@ -5,11 +5,11 @@ use Rattle.std.proofs.lemmas.Int.{ints}
 use Rattle.std.proofs.lemmas.Bool.{le-ltb, lt-ltb, cases_lt}
 use Rattle.std.proofs.lemmas.Bool.Decides.{nat_tests}
 use Rattle.rsp_lanes.specs.Lanes.{bit}
-use Rattle.rsp_numbers.specs.Numbers.{clamp16, s16}
+use Rattle.rsp_numbers.specs.Numbers.{clamp16, s16, sixteen_bits, complement, negated}
 use Rattle.rsp_acc.proofs.Clamps.{clamp16_pos, clamp16_negsuc}
 use Rattle.rsp_flags.specs.Flags.{LaneFlags}
 use Rattle.rsp_flags.specs.Outcome.{Outcome, plain}
-use Rattle.rsp_compare.specs.Adds.{word, vabs}
+use Rattle.rsp_compare.specs.Adds.{vabs}
 use Rattle.rsp_compare.proofs.Comparisons.{by_sign, below_zero, is_zero, is_least}
 
 -- the signed reading and the number that is 32768 too great
@@ -17,12 +17,12 @@ biased : (a : ℕ) → a < 65536 → s16 a +ℤ pos 32768 ≡ pos ((a + 32768) %
 biased a h = by_sign (λ t z. z +ℤ pos 32768 ≡ pos ((a + 32768) % 65536)) a h (λ n. omega (arith, ints)) (λ n. omega (arith, ints))
 
 -- n is t - 65536
-word_of : (n : ℤ) (t : ℕ) → n +ℤ pos 65536 ≡ pos t → t < 131072 → word n ≡ t % 65536
-word_of (pos n) t e h = let f : n + 65536 ≡ t = omega (arith, ints) in omega arith
-word_of (negsuc n) t e h = let f : 65536 ≡ t + suc n = omega (arith, ints) in omega arith
+sixteen_bits_of : (n : ℤ) (t : ℕ) → n +ℤ pos 65536 ≡ pos t → t < 131072 → sixteen_bits n ≡ t % 65536
+sixteen_bits_of (pos n) t e h = let f : n + 65536 ≡ t = omega (arith, ints) in omega arith
+sixteen_bits_of (negsuc n) t e h = let f : 65536 ≡ t + suc n = omega (arith, ints) in omega arith
 
 clamp_of : (n : ℤ) (t : ℕ) → n +ℤ pos 65536 ≡ pos t → t < 131072
-    → cond (nat_le 65536 t && nat_lt 32767 (t % 65536)) 32767 (cond (nat_le 65536 t || nat_lt 32767 (t % 65536)) (t % 65536) 32768) ≡ word (clamp16 n)
+    → cond (nat_le 65536 t && nat_lt 32767 (t % 65536)) 32767 (cond (nat_le 65536 t || nat_lt 32767 (t % 65536)) (t % 65536) 32768) ≡ sixteen_bits (clamp16 n)
 clamp_of (pos n) t e h = let f : n + 65536 ≡ t = omega (arith, ints) in rw (clamp16_pos n) (grind (arith, nat_tests))
 clamp_of (negsuc n) t e h = let f : 65536 ≡ t + suc n = omega (arith, ints) in rw (clamp16_negsuc n) (grind (arith, nat_tests))
 
@@ -33,27 +33,27 @@ sum_small : (a b : ℕ) (c : Bool) → (a + 32768) % 65536 + (b + 32768) % 65536
 sum_small a b true = omega arith
 sum_small a b false = omega arith
 
-pub sum_word : (a b : ℕ) (c : Bool) → a < 65536 → b < 65536 → ((a + 32768) % 65536 + (b + 32768) % 65536 + bit c) % 65536 ≡ word (s16 a +ℤ s16 b +ℤ pos (bit c))
-sum_word a b c h k = sym (word_of _ _ (sum_is a b c h k) (sum_small a b c))
+pub sum_bits : (a b : ℕ) (c : Bool) → a < 65536 → b < 65536 → ((a + 32768) % 65536 + (b + 32768) % 65536 + bit c) % 65536 ≡ sixteen_bits (s16 a +ℤ s16 b +ℤ pos (bit c))
+sum_bits a b c h k = sym (sixteen_bits_of _ _ (sum_is a b c h k) (sum_small a b c))
 
 pub sum_clamp : (a b : ℕ) (c : Bool) (t : ℕ) → t ≡ (a + 32768) % 65536 + (b + 32768) % 65536 + bit c → a < 65536 → b < 65536
-    → cond (nat_le 65536 t && nat_lt 32767 (t % 65536)) 32767 (cond (nat_le 65536 t || nat_lt 32767 (t % 65536)) (t % 65536) 32768) ≡ word (clamp16 (s16 a +ℤ s16 b +ℤ pos (bit c)))
+    → cond (nat_le 65536 t && nat_lt 32767 (t % 65536)) 32767 (cond (nat_le 65536 t || nat_lt 32767 (t % 65536)) (t % 65536) 32768) ≡ sixteen_bits (clamp16 (s16 a +ℤ s16 b +ℤ pos (bit c)))
 sum_clamp a b c t e h k = clamp_of _ t (sum_is a b c h k ∙ ap pos (sym e)) (omega (arith, sum_small a b c))
 
 -- a difference less a carry is the sum with the complement and with 1 where the carry is clear
-complement : (b : ℕ) → b < 65536 → s16 (65535 - b) +ℤ s16 b +ℤ pos 1 ≡ pos 0
-complement b h = omega (arith, ints, biased b h, biased (65535 - b) (omega arith))
+of_complement : (b : ℕ) → b < 65536 → s16 (complement b) +ℤ s16 b +ℤ pos 1 ≡ pos 0
+of_complement b h = omega (arith, ints, biased b h, biased (complement b) (omega arith))
 
-pub difference : (a b : ℕ) (c : Bool) → b < 65536 → s16 a +ℤ s16 (65535 - b) +ℤ pos (bit (not c)) ≡ s16 a -ℤ s16 b -ℤ pos (bit c)
-difference a b true h = omega (arith, ints, complement b h)
-difference a b false h = omega (arith, ints, complement b h)
+pub difference : (a b : ℕ) (c : Bool) → b < 65536 → s16 a +ℤ s16 (complement b) +ℤ pos (bit (not c)) ≡ s16 a -ℤ s16 b -ℤ pos (bit c)
+difference a b true h = omega (arith, ints, of_complement b h)
+difference a b false h = omega (arith, ints, of_complement b h)
 
-pub difference_word : (a b : ℕ) → a < 65536 → b < 65536 → (a + (65536 - b)) % 65536 ≡ word (pos a -ℤ pos b)
-difference_word a b h k = sym (word_of (pos a -ℤ pos b) (a + (65536 - b)) (omega (arith, ints)) (omega arith))
+pub difference_bits : (a b : ℕ) → a < 65536 → b < 65536 → (a + (65536 - b)) % 65536 ≡ sixteen_bits (pos a -ℤ pos b)
+difference_bits a b h k = sym (sixteen_bits_of (pos a -ℤ pos b) (a + (65536 - b)) (omega (arith, ints)) (omega arith))
 
 -- what the code computes for VABS
 abbrev pub abs_low : ℕ → ℕ → ℕ
-abs_low a b = cond (nat_eq a 0) 0 (cond (nat_lt 32767 a) ((65536 - b) % 65536) b)
+abs_low a b = cond (nat_eq a 0) 0 (cond (nat_lt 32767 a) (negated b) b)
 
 abbrev pub abs_computed : ℕ → ℕ → LaneFlags → Outcome
 abs_computed a b f = record { result = cond (nat_lt 32767 a && nat_eq b 32768) 32767 (abs_low a b); low = abs_low a b; flags = f }
@@ -63,8 +63,8 @@ not_zero a h = grind (arith, nat_tests)
 
 -- the second case: a is negative
 abs_negative : (a b : ℕ) (least : Bool) (f : LaneFlags) → least ≡ nat_eq b 32768 → 32768 ≤ a → b < 65536
-    → cond least (record { result = 32767; low = 32768; flags = f }) (plain ((65536 - b) % 65536) f)
-    ≡ record { result = cond least 32767 (cond (nat_eq a 0) 0 ((65536 - b) % 65536)); low = cond (nat_eq a 0) 0 ((65536 - b) % 65536); flags = f }
+    → cond least (record { result = 32767; low = 32768; flags = f }) (plain (negated b) f)
+    ≡ record { result = cond least 32767 (cond (nat_eq a 0) 0 (negated b)); low = cond (nat_eq a 0) 0 (negated b); flags = f }
 abs_negative a b true f e h k =
     let m : b ≡ 32768 = grind (arith, nat_tests) in
     rw (m, not_zero a (omega arith)) refl

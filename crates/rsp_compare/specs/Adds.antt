@@ -1,21 +1,17 @@
 -- The add rows, each by its rule for one lane. a and b are the lanes of the operands: as they stand they are the unsigned
 -- readings, from 0 to 65535, and s16 gives the signed ones. A flag that a rule doesn't name is kept.
-use Rattle.std.specs.Prelude.{ℕ, ℤ, pos, negsuc, ◌+◌, ◌-◌, ◌%◌, ◌+ℤ◌, ◌-ℤ◌, false, not, ◌&&◌, int_lt, nat_lt, nat_eq, if◌then◌else◌}
+use Rattle.std.specs.Prelude.{ℕ, ℤ, pos, negsuc, ◌+◌, ◌%◌, ◌+ℤ◌, ◌-ℤ◌, false, not, ◌&&◌, int_lt, nat_lt, nat_eq, if◌then◌else◌}
 use Rattle.std.specs.Ordering.{int_eq}
 use Rattle.rsp_lanes.specs.Lanes.{bit}
-use Rattle.rsp_numbers.specs.Numbers.{modulo, clamp16, s16}
+use Rattle.rsp_numbers.specs.Numbers.{s16, sixteen_bits, negated, clamp16}
 use Rattle.rsp_flags.specs.Flags.{LaneFlags, vco_cleared}
 use Rattle.rsp_flags.specs.Outcome.{Outcome, Rule, plain}
 use Rattle.rsp_compare.specs.declared.adds.AddOp.{AddOp}
 use Rattle.rsp_compare.specs.declared.adds.AddOp.TheVariants.{Vadd, Vsub, Vabs, Vaddc, Vsubc}
 
--- n modulo 65536
-abbrev pub word : ℤ → ℕ
-word n = modulo n 65536
-
 -- n is the low accumulator, n clamped the result; VCO is cleared
 abbrev pub clamped : ℤ → LaneFlags → Outcome
-clamped n f = record { result = word (clamp16 n); low = word n; flags = vco_cleared f }
+clamped n f = record { result = sixteen_bits (clamp16 n); low = sixteen_bits n; flags = vco_cleared f }
 
 abbrev pub vadd : Rule
 vadd a b f = clamped (s16 a +ℤ s16 b +ℤ pos (bit f.carry)) f
@@ -24,9 +20,9 @@ abbrev pub vsub : Rule
 vsub a b f = clamped (s16 a -ℤ s16 b -ℤ pos (bit f.carry)) f
 
 -- -b for a negative a, 0 for 0, b for a positive one
-abbrev pub signed_by : ℕ → ℕ → ℕ
-signed_by a b =
-    if int_lt (s16 a) (pos 0) then (65536 - b) % 65536
+abbrev pub with_sign_of : ℕ → ℕ → ℕ
+with_sign_of a b =
+    if int_lt (s16 a) (pos 0) then negated b
     else if int_eq (s16 a) (pos 0) then 0
     else b
 
@@ -34,13 +30,13 @@ signed_by a b =
 abbrev pub vabs : Rule
 vabs a b f =
     if int_lt (s16 a) (pos 0) && int_eq (s16 b) (negsuc 32767) then record { result = 32767; low = 32768; flags = f }
-    else plain (signed_by a b) f
+    else plain (with_sign_of a b) f
 
 abbrev pub vaddc : Rule
 vaddc a b f = plain ((a + b) % 65536) (record f { carry = nat_lt 65535 (a + b); differ = false })
 
 abbrev pub vsubc : Rule
-vsubc a b f = plain (word (pos a -ℤ pos b)) (record f { carry = nat_lt a b; differ = not (nat_eq a b) })
+vsubc a b f = plain (sixteen_bits (pos a -ℤ pos b)) (record f { carry = nat_lt a b; differ = not (nat_eq a b) })
 
 abbrev pub add_rule : AddOp → Rule
 add_rule Vadd = vadd

@@ -1,13 +1,10 @@
 -- The logic rows, each by its rule for one lane.
-use Rattle.std.specs.Prelude.{ℕ, ◌-◌}
+use Rattle.std.specs.Prelude.{ℕ}
 use Rattle.std.specs.Int.Bits.{bit_and, bit_or, bit_xor}
+use Rattle.rsp_numbers.specs.Numbers.{complement}
 use Rattle.rsp_flags.specs.Outcome.{Rule, plain}
 use Rattle.rsp_compare.specs.declared.logic.LogicOp.{LogicOp}
 use Rattle.rsp_compare.specs.declared.logic.LogicOp.TheVariants.{Vand, Vnand, Vor, Vnor, Vxor, Vnxor}
-
--- n with each of its sixteen bits turned
-abbrev pub complement : ℕ → ℕ
-complement n = 65535 - n
 
 abbrev pub bits_of : LogicOp → ℕ → ℕ → ℕ
 bits_of Vand a b = bit_and a b

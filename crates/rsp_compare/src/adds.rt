@@ -1,8 +1,9 @@
 ghost use Rattle.std.specs.Prelude.{◌≡◌, ◌+ℤ◌, pos, slice_index, slice_index_or, false};
 ghost use Rattle.rsp_lanes.specs.Lanes.{each_lane, bit};
-ghost use Rattle.rsp_numbers.specs.Numbers.{s16, clamp16};
-ghost use Rattle.rsp_flags.specs.Outcome.{results_of, lows_of, flags_after, numbers_after};
-ghost use Rattle.rsp_compare.specs.Adds.{word, vadd, vsub, vabs, vaddc, vsubc, add_rule};
+ghost use Rattle.rsp_numbers.specs.Numbers.{s16, sixteen_bits, clamp16};
+ghost use Rattle.rsp_flags.specs.Outcome.{results_of, lows_of, flags_after};
+ghost use Rattle.rsp_acc.specs.Planes.{with_low};
+ghost use Rattle.rsp_compare.specs.Adds.{vadd, vsub, vabs, vaddc, vsubc, add_rule};
 
 use rsp_acc::Acc;
 use rsp_flags::Flags;
@@ -29,7 +30,7 @@ pub enum AddOp {
 pub fn add_op<A: Acc>(op: AddOp, a: &VReg, b: &VReg, flags: &mut Flags, acc: &mut A) -> VReg
     ensures value { result ≡ results_of (add_rule op) a.now b.now flags.old }
     ensures flags { flags.new ≡ flags_after (add_rule op) a.now b.now flags.old }
-    ensures accumulator { A.numbers acc.new ≡ numbers_after (add_rule op) a.now b.now flags.old (A.numbers acc.old) }
+    ensures accumulator { A.numbers acc.new ≡ with_low (A.numbers acc.old) (lows_of (add_rule op) a.now b.now flags.old) }
 {
     let (result, low) = op.sums(a, b, flags);
     acc.set_low(&low);
@@ -58,11 +59,11 @@ impl AddOp {
 /// the sum's top bit then tell which limit the sum passed.
 #[inline(always)]
 fn clamped_sums(a: &VReg, b: &VReg, carry: Mask8) -> (VReg, VReg)
-    ensures value { result.0 ≡ each_lane (λ i. word (clamp16 (s16 (slice_index a.now i) +ℤ s16 (slice_index b.now i) +ℤ pos (bit (slice_index_or carry i false))))) }
-    ensures low { result.1 ≡ each_lane (λ i. word (s16 (slice_index a.now i) +ℤ s16 (slice_index b.now i) +ℤ pos (bit (slice_index_or carry i false)))) }
+    ensures value { result.0 ≡ each_lane (λ i. sixteen_bits (clamp16 (s16 (slice_index a.now i) +ℤ s16 (slice_index b.now i) +ℤ pos (bit (slice_index_or carry i false))))) }
+    ensures low { result.1 ≡ each_lane (λ i. sixteen_bits (s16 (slice_index a.now i) +ℤ s16 (slice_index b.now i) +ℤ pos (bit (slice_index_or carry i false)))) }
 {
-    let _ = a.to_simd();
-    let _ = b.to_simd();
+    a.ranges();
+    b.ranges();
     let half = VReg::splat(0x8000);
     let (sum, carried) = a.add(&half).add_carrying(&b.add(&half), carry);
     let top = sum.is_negative();
@@ -89,7 +90,7 @@ fn subtract(a: &VReg, b: &VReg, flags: &mut Flags) -> (VReg, VReg)
     ensures low { result.1 ≡ lows_of vsub a.now b.now flags.old }
     ensures flags { flags.new ≡ flags_after vsub a.now b.now flags.old }
 {
-    let _ = b.to_simd();
+    b.ranges();
     let sums = clamped_sums(a, &b.not(), flags.carry.not());
     flags.clear_vco();
     sums
@@ -101,13 +102,13 @@ fn absolute(a: &VReg, b: &VReg, flags: &mut Flags) -> (VReg, VReg)
     ensures low { result.1 ≡ lows_of vabs a.now b.now flags.old }
     ensures flags { flags.new ≡ flags_after vabs a.now b.now flags.old }
 {
-    let _ = a.to_simd();
-    let _ = b.to_simd();
+    a.ranges();
+    b.ranges();
     let negative = a.is_negative();
     let signed = negative.merge(&b.negate(), b);
     let low = a.is_zero().merge(&VReg::new(), &signed);
     let passes = negative.and(b.is_equal(&VReg::splat(0x8000)));
-    flags.keep();
+    flags.ranges();
     (passes.merge(&VReg::splat(0x7fff), &low), low)
 }
 
@@ -129,8 +130,8 @@ fn subtract_borrowed(a: &VReg, b: &VReg, flags: &mut Flags) -> (VReg, VReg)
     ensures low { result.1 ≡ lows_of vsubc a.now b.now flags.old }
     ensures flags { flags.new ≡ flags_after vsubc a.now b.now flags.old }
 {
-    let _ = a.to_simd();
-    let _ = b.to_simd();
+    a.ranges();
+    b.ranges();
     let difference = a.subtract(b);
     flags.set_vco(a.is_below(b), a.is_equal(b).not());
     (difference, difference)

@@ -1,6 +1,7 @@
 ghost use Rattle.std.specs.Prelude.{◌≡◌, slice_index};
 ghost use Rattle.rsp_lanes.specs.Lanes.{each_lane};
-ghost use Rattle.rsp_flags.specs.Outcome.{results_of, flags_after, numbers_after};
+ghost use Rattle.rsp_flags.specs.Outcome.{results_of, lows_of, flags_after};
+ghost use Rattle.rsp_acc.specs.Planes.{with_low};
 ghost use Rattle.rsp_compare.specs.Logic.{bits_of, logic_rule};
 
 use rsp_acc::Acc;
@@ -29,10 +30,10 @@ pub enum LogicOp {
 pub fn logic_op<A: Acc>(op: LogicOp, a: &VReg, b: &VReg, flags: &mut Flags, acc: &mut A) -> VReg
     ensures value { result ≡ results_of (logic_rule op) a.now b.now flags.old }
     ensures flags { flags.new ≡ flags_after (logic_rule op) a.now b.now flags.old }
-    ensures accumulator { A.numbers acc.new ≡ numbers_after (logic_rule op) a.now b.now flags.old (A.numbers acc.old) }
+    ensures accumulator { A.numbers acc.new ≡ with_low (A.numbers acc.old) (lows_of (logic_rule op) a.now b.now flags.old) }
 {
     let result = op.bits(a, b);
-    flags.keep();
+    flags.ranges();
     acc.set_low(&result);
     result
 }

@@ -1,7 +1,8 @@
 ghost use Rattle.std.specs.Prelude.{◌≡◌, slice_index};
 ghost use Rattle.rsp_lanes.specs.Lanes.{each_lane};
 ghost use Rattle.rsp_flags.specs.Flags.{flags_at};
-ghost use Rattle.rsp_flags.specs.Outcome.{results_of, flags_after, numbers_after};
+ghost use Rattle.rsp_flags.specs.Outcome.{results_of, lows_of, flags_after};
+ghost use Rattle.rsp_acc.specs.Planes.{with_low};
 ghost use Rattle.rsp_compare.specs.Selects.{vlt, veq, vne, vge, is_taken, select_rule, merge_rule};
 
 use rsp_acc::Acc;
@@ -34,7 +35,7 @@ pub enum MergeOp {
 pub fn select_op<A: Acc>(op: SelectOp, a: &VReg, b: &VReg, flags: &mut Flags, acc: &mut A) -> VReg
     ensures value { result ≡ results_of (select_rule op) a.now b.now flags.old }
     ensures flags { flags.new ≡ flags_after (select_rule op) a.now b.now flags.old }
-    ensures accumulator { A.numbers acc.new ≡ numbers_after (select_rule op) a.now b.now flags.old (A.numbers acc.old) }
+    ensures accumulator { A.numbers acc.new ≡ with_low (A.numbers acc.old) (lows_of (select_rule op) a.now b.now flags.old) }
 {
     let taken = op.taken(a, b, flags);
     flags.clear_vco();
@@ -50,7 +51,7 @@ pub fn select_op<A: Acc>(op: SelectOp, a: &VReg, b: &VReg, flags: &mut Flags, ac
 pub fn merge_op<A: Acc>(op: MergeOp, a: &VReg, b: &VReg, flags: &mut Flags, acc: &mut A) -> VReg
     ensures value { result ≡ results_of (merge_rule op) a.now b.now flags.old }
     ensures flags { flags.new ≡ flags_after (merge_rule op) a.now b.now flags.old }
-    ensures accumulator { A.numbers acc.new ≡ numbers_after (merge_rule op) a.now b.now flags.old (A.numbers acc.old) }
+    ensures accumulator { A.numbers acc.new ≡ with_low (A.numbers acc.old) (lows_of (merge_rule op) a.now b.now flags.old) }
 {
     let result = match op {
         MergeOp::Vmrg => flags.compare.merge(a, b),
@@ -79,8 +80,8 @@ impl SelectOp {
 fn is_below(a: &VReg, b: &VReg, flags: &Flags) -> Mask8
     ensures { result ≡ each_lane (λ i. vlt (slice_index a.now i) (slice_index b.now i) (flags_at flags.now i)) }
 {
-    let _ = a.to_simd();
-    let _ = b.to_simd();
+    a.ranges();
+    b.ranges();
     let both = flags.carry.and(flags.differ);
     a.is_below_signed(b).or(a.is_equal(b).and(both))
 }
@@ -89,8 +90,8 @@ fn is_below(a: &VReg, b: &VReg, flags: &Flags) -> Mask8
 fn is_equal(a: &VReg, b: &VReg, flags: &Flags) -> Mask8
     ensures { result ≡ each_lane (λ i. veq (slice_index a.now i) (slice_index b.now i) (flags_at flags.now i)) }
 {
-    let _ = a.to_simd();
-    let _ = b.to_simd();
+    a.ranges();
+    b.ranges();
     a.is_equal(b).and(flags.differ.not())
 }
 
@@ -98,8 +99,8 @@ fn is_equal(a: &VReg, b: &VReg, flags: &Flags) -> Mask8
 fn is_different(a: &VReg, b: &VReg, flags: &Flags) -> Mask8
     ensures { result ≡ each_lane (λ i. vne (slice_index a.now i) (slice_index b.now i) (flags_at flags.now i)) }
 {
-    let _ = a.to_simd();
-    let _ = b.to_simd();
+    a.ranges();
+    b.ranges();
     a.is_equal(b).not().or(flags.differ)
 }
 
@@ -107,8 +108,8 @@ fn is_different(a: &VReg, b: &VReg, flags: &Flags) -> Mask8
 fn is_at_least(a: &VReg, b: &VReg, flags: &Flags) -> Mask8
     ensures { result ≡ each_lane (λ i. vge (slice_index a.now i) (slice_index b.now i) (flags_at flags.now i)) }
 {
-    let _ = a.to_simd();
-    let _ = b.to_simd();
+    a.ranges();
+    b.ranges();
     let both = flags.carry.and(flags.differ);
     b.is_below_signed(a).or(a.is_equal(b).and(both.not()))
 }

@@ -1,4 +1,4 @@
--- The single-lane rows.
+-- The divide rows.
 pub mod Dividers
 pub mod Entries
 pub mod Quotients

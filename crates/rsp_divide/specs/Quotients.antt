@@ -27,19 +27,20 @@ reciprocal_bits y = scaled (reciprocal_entry (nine_bits y)) (31 - zeros y)
 unfoldable pub root_bits : ℕ → ℕ
 root_bits y = scaled (root_entry (root_index y)) ((31 - zeros y) / 2)
 
--- By the sign, with special answers for 0 and -32768. Of a negative number the size is taken, which below -32768 is one
--- less, and the answer is the complement. Here -(n + 1) is `negsuc n`, so that the complement of r is `negsuc r`.
-abbrev pub signed_by : (ℕ → ℕ) → ℤ → ℤ
-signed_by bits (pos y) = if y == 0 then pos 2147483647 else pos (bits y)
-signed_by bits (negsuc n) =
+-- The quotient of a signed number: by its sign, with special answers for 0 and -32768. Of a negative number the size is
+-- taken, which below -32768 is one less, and the answer is the complement. Here -(n + 1) is `negsuc n`, so that the
+-- complement of r is `negsuc r`.
+abbrev pub quotient_of : (ℕ → ℕ) → ℤ → ℤ
+quotient_of bits (pos y) = if y == 0 then pos 2147483647 else pos (bits y)
+quotient_of bits (negsuc n) =
     if nat_lt n 32767 then negsuc (bits (n + 1))
     else if n == 32767 then negsuc 65535
     else negsuc (bits n)
 
 -- the reciprocal of a signed number
 abbrev pub reciprocal_of : ℤ → ℤ
-reciprocal_of x = signed_by reciprocal_bits x
+reciprocal_of x = quotient_of reciprocal_bits x
 
 -- the inverse square root of a signed number
 abbrev pub inverse_root_of : ℤ → ℤ
-inverse_root_of x = signed_by root_bits x
+inverse_root_of x = quotient_of root_bits x

@@ -1,7 +1,8 @@
 ghost use Rattle.std.specs.Prelude.{◌≡◌, Some};
-ghost use Rattle.rsp_divide.specs.Dividers.{no_divider, divided, loaded, short, long};
+ghost use Rattle.rsp_divide.specs.Dividers.{no_divider, divided, loaded, operand};
+ghost use Rattle.rsp_numbers.specs.Numbers.{s16};
 
-/// What the single-lane rows keep from one to the next.
+/// What the divide rows keep from one to the next.
 #[derive(Clone, Copy, PartialEq, Eq, Debug, Drop)]
 pub struct Divider {
     /// DIV_IN: the high half of an operand, as VRCPH and VRSQH leave it.
@@ -27,13 +28,13 @@ impl Divider {
 
     /// The operand of VRCPL and VRSQL: 32 bits where the high half was loaded, else 16.
     #[inline]
-    pub(crate) fn long(&self, source: u16) -> i32
-        ensures { result ≡ long self.now source }
+    pub(crate) fn operand(&self, source: u16) -> i32
+        ensures { result ≡ operand self.now source }
     {
         if self.loaded {
             ((self.input as u32) << 16 | source as u32).cast_signed()
         } else {
-            short(source)
+            signed(source)
         }
     }
 
@@ -63,8 +64,8 @@ impl Divider {
 
 /// The operand of VRCP and VRSQ: a lane as a signed number.
 #[inline]
-pub(crate) fn short(source: u16) -> i32
-    ensures { result ≡ short source }
+pub(crate) fn signed(source: u16) -> i32
+    ensures { result ≡ s16 source }
 {
     source.cast_signed() as i32
 }

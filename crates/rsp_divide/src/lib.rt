@@ -1,4 +1,4 @@
-//! The single-lane rows: reciprocals, inverse square roots and moves of one lane, and the divider that carries a 32-bit
+//! The divide rows: reciprocals, inverse square roots and moves of one lane, and the divider that carries a 32-bit
 //! operand and its quotient from one row to the next.
 #![tactic(auto)]
 

@@ -1,13 +1,13 @@
 ghost use Rattle.std.specs.Prelude.{◌≡◌, ◌<◌};
-ghost use Rattle.rsp_divide.specs.Rows.{outcome, lane_written, divider_after, numbers_after};
+ghost use Rattle.rsp_divide.specs.Rows.{division, lane_written, divider_after, lows_written};
 
 use crate::Divider;
-use crate::divider::short;
+use crate::divider::signed;
 use crate::quotients::{reciprocal, root};
 use rsp_acc::Acc;
 use rsp_lanes::{VReg, select};
 
-/// The single-lane rows of the instruction table.
+/// The divide rows of the instruction table.
 #[derive(Clone, Copy, PartialEq, Eq, Debug, Drop)]
 pub enum DivideOp {
     /// The reciprocal of the source.
@@ -30,12 +30,12 @@ pub enum DivideOp {
     Vnull,
 }
 
-/// Executes a single-lane row with the element `e`, below 16, on lane `de`, below 8, of `vd`.
+/// Executes a divide row with the element `e`, below 16, on lane `de`, below 8, of `vd`.
 ///
 /// The source is lane `e` mod 8 of `vt`, which is the register as it stood before the row. All rows but VNOP and VNULL
 /// write lane `de` of `vd`, and the lanes of `vt` that `e` selects into the low sixteen bits of the accumulators.
 #[inline(always)]
-#[tactic(auto, unfolding(crate::specs::Rows::lane_written, crate::specs::Rows::divider_after, crate::specs::Rows::numbers_after))]
+#[tactic(auto, unfolding(crate::specs::Rows::lane_written, crate::specs::Rows::divider_after, crate::specs::Rows::lows_written))]
 pub fn divide_op<A: Acc>(
     op: DivideOp,
     e: usize,
@@ -49,11 +49,11 @@ pub fn divide_op<A: Acc>(
     requires lane { de < 8 }
     ensures lane { vd.new ≡ lane_written op e de vt.now divider.old vd.old }
     ensures divider { divider.new ≡ divider_after op e de vt.now divider.old }
-    ensures accumulator { A.numbers acc.new ≡ numbers_after op e vt.now (A.numbers acc.old) }
+    ensures accumulator { A.numbers acc.new ≡ lows_written op e vt.now (A.numbers acc.old) }
 {
     let source = vt.lane(e % 8);
     let selected = select(vt, e);
-    if let Some(lane) = op.outcome(divider, source, selected.lane(de)) {
+    if let Some(lane) = op.division(divider, source, selected.lane(de)) {
         vd.set_lane(de, lane);
         acc.set_low(&selected);
     }
@@ -62,17 +62,17 @@ pub fn divide_op<A: Acc>(
 impl DivideOp {
     /// What the row writes into its lane, if it writes, by the source and the selected lane.
     #[inline(always)]
-    fn outcome(self, divider: &mut Divider, source: u16, selected: u16) -> Option<u16>
-        ensures lane { result ≡ (outcome self divider.old source selected).lane }
-        ensures divider { divider.new ≡ (outcome self divider.old source selected).divider }
+    fn division(self, divider: &mut Divider, source: u16, selected: u16) -> Option<u16>
+        ensures lane { result ≡ (division self divider.old source selected).lane }
+        ensures divider { divider.new ≡ (division self divider.old source selected).divider }
     {
         match self {
-            DivideOp::Vrcp => Some(divider.divided(reciprocal(short(source)))),
-            DivideOp::Vrcpl => Some(divider.divided(reciprocal(divider.long(source)))),
+            DivideOp::Vrcp => Some(divider.divided(reciprocal(signed(source)))),
+            DivideOp::Vrcpl => Some(divider.divided(reciprocal(divider.operand(source)))),
             DivideOp::Vrcph | DivideOp::Vrsqh => Some(divider.load(source)),
             DivideOp::Vmov => Some(selected),
-            DivideOp::Vrsq => Some(divider.divided(root(short(source)))),
-            DivideOp::Vrsql => Some(divider.divided(root(divider.long(source)))),
+            DivideOp::Vrsq => Some(divider.divided(root(signed(source)))),
+            DivideOp::Vrsql => Some(divider.divided(root(divider.operand(source)))),
             DivideOp::Vnop | DivideOp::Vnull => None,
         }
     }

@@ -1,7 +1,6 @@
 -- What a row of the vector unit does, from its rule for one lane.
-use Rattle.std.specs.Prelude.{ℕ, ℤ, List, slice_index}
+use Rattle.std.specs.Prelude.{ℕ, List, slice_index}
 use Rattle.rsp_lanes.specs.Lanes.{each_lane}
-use Rattle.rsp_numbers.specs.Numbers.{number, join, high, middle}
 use Rattle.rsp_flags.specs.declared.flags.Flags.{Flags}
 use Rattle.rsp_flags.specs.Flags.{LaneFlags, flags_at, all_flags}
 
@@ -27,15 +26,10 @@ outcome_at rule a b f i = rule (slice_index a i) (slice_index b i) (flags_at f i
 unfoldable pub results_of : Rule → List ℕ → List ℕ → Flags → List ℕ
 results_of rule a b f = each_lane (λ i. (outcome_at rule a b f i).result)
 
--- the eight low sixteen bits of the accumulators
+-- the low sixteen bits of the eight accumulators, whose other bits a row keeps
 unfoldable pub lows_of : Rule → List ℕ → List ℕ → Flags → List ℕ
 lows_of rule a b f = each_lane (λ i. (outcome_at rule a b f i).low)
 
 -- the flags after the row
 unfoldable pub flags_after : Rule → List ℕ → List ℕ → Flags → Flags
 flags_after rule a b f = all_flags (λ i. (outcome_at rule a b f i).flags)
-
--- the accumulators x after the row, which writes their low sixteen bits alone
-unfoldable pub numbers_after : Rule → List ℕ → List ℕ → Flags → List ℤ → List ℤ
-numbers_after rule a b f x =
-    each_lane (λ i. join (high (number x i)) (middle (number x i)) (outcome_at rule a b f i).low)

@@ -34,16 +34,16 @@ impl Flags {
         }
     }
 
-    /// Changes no flag: the flags are those of their eight lanes. A row that writes no flag calls it.
+    /// Changes nothing. It says that the flags are those of their eight lanes.
     #[inline(always)]
-    pub fn keep(&self)
+    pub fn ranges(&self)
         ensures { self.now ≡ all_flags (flags_at self.now) }
     {
-        let _ = self.carry.to_simd();
-        let _ = self.differ.to_simd();
-        let _ = self.compare.to_simd();
-        let _ = self.clip.to_simd();
-        let _ = self.extra.to_simd();
+        self.carry.ranges();
+        self.differ.ranges();
+        self.compare.ranges();
+        self.clip.ranges();
+        self.extra.ranges();
     }
 
     /// Writes VCO, the carries and the not-equal flags; VCC and VCE stay.
@@ -51,9 +51,9 @@ impl Flags {
     pub fn set_vco(&mut self, carry: Mask8, differ: Mask8)
         ensures { self.new ≡ all_flags (λ i. record (flags_at self.old i) { carry = slice_index_or carry i false; differ = slice_index_or differ i false }) }
     {
-        let _ = carry.to_simd();
-        let _ = differ.to_simd();
-        self.keep();
+        carry.ranges();
+        differ.ranges();
+        self.ranges();
         self.carry = carry;
         self.differ = differ;
     }
@@ -71,9 +71,9 @@ impl Flags {
     pub fn set_vcc(&mut self, compare: Mask8, clip: Mask8)
         ensures { self.new ≡ all_flags (λ i. record (flags_at self.old i) { compare = slice_index_or compare i false; clip = slice_index_or clip i false }) }
     {
-        let _ = compare.to_simd();
-        let _ = clip.to_simd();
-        self.keep();
+        compare.ranges();
+        clip.ranges();
+        self.ranges();
         self.compare = compare;
         self.clip = clip;
     }

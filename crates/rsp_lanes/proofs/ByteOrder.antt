@@ -7,7 +7,7 @@ use Rattle.std.proofs.lemmas.Nat.{and_mask}
 use Rattle.std.proofs.lemmas.Bool.{cases_lt}
 use Rattle.std.proofs.lemmas.Bool.Decides.{nat_tests}
 use Rattle.rsp_lanes.specs.Lanes.{each_lane, IsVector, register_byte}
-use Rattle.rsp_lanes.specs.Bytes.{each_byte, of_bytes, placed, packed_byte}
+use Rattle.rsp_lanes.specs.Bytes.{each_byte, of_bytes, with_register_bytes, packed_byte}
 use Rattle.rsp_lanes.proofs.Kit.{eta, below_eight, zip2_each}
 
 -- the byte that stands at a place of the lanes, which have their low bytes first
@@ -137,9 +137,9 @@ swizzled : (old : ℕ → ℕ) (source : List ℕ) (i n : ℕ) → placed_le (ea
 unfolding each_byte
 swizzled old source i n = refl
 
-pub placed_is : (v source : List ℕ) (i n : ℕ) → IsVector v → ((k : ℕ) → Fits w8 (get_or source k 0)) → i < 32 → n ≤ 16
-    → digits_l 65536 8 (number_l 256 (placed_le (digits_l 256 16 (number_l 65536 v)) source i n)) ≡ placed v source i n
-placed_is v source i n h fits l m = ap (λ le. digits_l 65536 8 (number_l 256 (placed_le le source i n))) (to_le v h)
+pub with_register_bytes_is : (v source : List ℕ) (i n : ℕ) → IsVector v → ((k : ℕ) → Fits w8 (get_or source k 0)) → i < 32 → n ≤ 16
+    → digits_l 65536 8 (number_l 256 (placed_le (digits_l 256 16 (number_l 65536 v)) source i n)) ≡ with_register_bytes v source i n
+with_register_bytes_is v source i n h fits l m = ap (λ le. digits_l 65536 8 (number_l 256 (placed_le le source i n))) (to_le v h)
     ∙ ap (λ bytes. digits_l 65536 8 (number_l 256 bytes)) (swizzled (register_byte v) source i n ∙ swapped_same (λ k. moved source k i n (register_byte v k)) byte (λ k b. moved_is source k i n (register_byte v k) b l m))
     ∙ from_le byte (λ k. one_below (nat_le i k && nat_lt k (i + n)) _ _ 256 (fits (k - i)).fits (byte_below v k h))
   where

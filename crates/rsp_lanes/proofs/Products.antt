@@ -8,7 +8,8 @@ use Rattle.std.proofs.Math.Nat.{mul-le-mul}
 use Rattle.std.proofs.Math.Facts.{of_z-to_z, Fits-of_lt}
 use Rattle.std.specs.Int.{int_div_euclid}
 use lib.Signed.{shr_z}
-use Rattle.rsp_lanes.specs.Lanes.{each_lane, IsVector, upper_bits, sixteen_bits}
+use Rattle.rsp_lanes.specs.Lanes.{each_lane, IsVector}
+use Rattle.rsp_numbers.specs.Numbers.{upper_bits, sixteen_bits}
 use Rattle.std.proofs.lemmas.List.{get_or_past}
 use Rattle.rsp_lanes.proofs.Kit.{each_same, lane_of, length_each}
 use Rattle.rsp_lanes.proofs.ByteLanes.{bytes_of, lanes_of, lanes_again}

@@ -12,8 +12,8 @@ unfoldable pub of_bytes : (ℕ → ℕ) → List ℕ
 of_bytes f = each_lane (λ i. f (2 * i) * 256 + f (2 * i + 1))
 
 -- the register in which the n bytes from byte i on, as far as there are, are the first n of a list
-abbrev pub placed : List ℕ → List ℕ → ℕ → ℕ → List ℕ
-placed v source i n =
+abbrev pub with_register_bytes : List ℕ → List ℕ → ℕ → ℕ → List ℕ
+with_register_bytes v source i n =
     of_bytes (λ k. if nat_le i k && nat_lt k (i + n) then slice_index source (k - i) else register_byte v k)
 
 -- the high byte of lane j for j below 8, else bits 14 to 7 of lane j - 8

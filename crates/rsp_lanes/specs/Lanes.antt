@@ -1,6 +1,6 @@
 -- Registers and masks of eight lanes, as lists.
-use Rattle.std.specs.Prelude.{unsigned_abs, ℕ, ℤ, pos, negsuc, ◌+◌, ◌-◌, ◌*◌, ◌/◌, ◌%◌, ◌^◌, ◌<◌, ◌==◌, slice_set, nat_lt, nat_eq, if◌then◌else◌, ◌≡◌, Bool, true, false, cond, List, [], ◌∷◌, length, slice_index, map}
-use Rattle.std.specs.Int.{is_negative, int_rem_euclid, int_div_euclid}
+use Rattle.std.specs.Prelude.{ℕ, ℤ, pos, negsuc, ◌+◌, ◌-◌, ◌*◌, ◌/◌, ◌%◌, ◌^◌, ◌<◌, ◌==◌, slice_set, nat_lt, nat_eq, if◌then◌else◌, ◌≡◌, Bool, true, false, cond, List, [], ◌∷◌, length, slice_index, map}
+use Rattle.std.specs.Int.{is_negative}
 
 -- the list of eight whose member i is `f i`
 unfoldable pub each_lane : {X : Type 0} → (ℕ → X) → List X
@@ -38,6 +38,10 @@ source_lane e i =
     else if nat_lt e 8 then (i - i % 4) + (e - 4)
     else e - 8
 
+-- the register v with its lanes as the element e selects them
+abbrev pub selected : List ℕ → ℕ → List ℕ
+selected v e = each_lane (λ i. slice_index v (source_lane e i))
+
 -- whether bit i of a number is 1
 abbrev pub bit_set : ℕ → ℕ → Bool
 bit_set n i = nat_eq (n / 2 ^ i % 2) 1
@@ -50,11 +54,3 @@ register_byte v i = if i % 2 == 0 then slice_index v (i / 2) / 256 else slice_in
 unfoldable pub with_register_byte : List ℕ → ℕ → ℕ → List ℕ
 with_register_byte v i b =
     slice_set v (i / 2) (if i % 2 == 0 then b * 256 + slice_index v (i / 2) % 256 else slice_index v (i / 2) / 256 * 256 + b)
-
--- the low sixteen bits of a number, in two's complement
-abbrev pub sixteen_bits : ℤ → ℕ
-sixteen_bits z = unsigned_abs (int_rem_euclid z (pos 65536))
-
--- the sixteen bits above these
-abbrev pub upper_bits : ℤ → ℕ
-upper_bits z = sixteen_bits (int_div_euclid z (pos 65536))

@@ -1,6 +1,6 @@
 ghost use Rattle.std.specs.Prelude.{◌≡◌, ◌+◌, ◌*◌, ◌%◌, ◌<◌, ◌≤◌, slice_index};
 ghost use Rattle.rsp_lanes.specs.Lanes.{each_lane, register_byte};
-ghost use Rattle.rsp_lanes.specs.Bytes.{each_byte, packed_byte, placed};
+ghost use Rattle.rsp_lanes.specs.Bytes.{each_byte, packed_byte, with_register_bytes};
 
 use crate::VReg;
 use std::simd::prelude::*;
@@ -26,7 +26,7 @@ impl VReg {
     pub fn with_bytes(&self, source: [u8; 16], i: u8, n: u8) -> VReg
         requires first { i < 32 }
         requires count { n ≤ 16 }
-        ensures { result ≡ placed self.now source i n }
+        ensures { result ≡ with_register_bytes self.now source i n }
     {
         let places = u8x16::from_array(ORDER) - u8x16::splat(i);
         let moved = u8x16::from_array(source).swizzle_dyn(places);

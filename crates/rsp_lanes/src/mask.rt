@@ -48,6 +48,14 @@ impl Mask8 {
         self.lanes
     }
 
+    /// Changes nothing. It says that they are eight lanes.
+    #[inline(always)]
+    pub fn ranges(self)
+        ensures { length self ≡ 8 }
+    {
+        let _ = &self.lanes;
+    }
+
     /// Set where both are.
     #[inline(always)]
     pub fn and(self, other: Self) -> Self

@@ -1,5 +1,5 @@
 ghost use Rattle.std.specs.Prelude.{◌≡◌, ◌<◌, ◌+◌, ◌*◌, ℕ, slice_index};
-ghost use Rattle.rsp_lanes.specs.Lanes.{each_lane, source_lane};
+ghost use Rattle.rsp_lanes.specs.Lanes.{selected, source_lane};
 
 use crate::VReg;
 use std::simd::prelude::*;
@@ -48,7 +48,7 @@ fn sources(e: usize) -> u8x16
 #[inline(always)]
 pub fn select(v: &VReg, e: usize) -> VReg
     requires { e < 16 }
-    ensures { result ≡ each_lane (λ i. slice_index v.now (source_lane e i)) }
+    ensures { result ≡ selected v.now e }
 {
     let bytes = v.to_simd().to_le_bytes();
     VReg::from_simd(u16x8::from_le_bytes(bytes.swizzle_dyn(sources(e))))

@@ -1,7 +1,7 @@
 ghost use Rattle.std.specs.Prelude.{◌≡◌, ◌+◌, ◌-◌, ◌*◌, ◌/◌, ◌%◌, ◌<◌, slice_index, slice_index_or, slice_set, nat_lt, nat_eq, nat_le, int_lt, false};
-ghost use Rattle.std.specs.Int.{cast_signed, w16};
 ghost use Rattle.std.specs.Int.Bits.{bit_and, bit_or, bit_xor};
 ghost use Rattle.rsp_lanes.specs.Lanes.{each_lane, bit, IsVector, register_byte, with_register_byte};
+ghost use Rattle.rsp_numbers.specs.Numbers.{s16, complement, negated};
 
 use crate::Mask8;
 use std::marker::Model;
@@ -97,6 +97,14 @@ impl VReg {
         self.lanes
     }
 
+    /// Changes nothing. It says that they are eight lanes, each below 65536.
+    #[inline(always)]
+    pub fn ranges(&self)
+        ensures { IsVector self.now }
+    {
+        let _ = &self.lanes;
+    }
+
     /// Lane `i`, from 0 to 7.
     #[inline(always)]
     pub fn lane(&self, i: usize) -> u16
@@ -187,7 +195,7 @@ impl VReg {
     /// The complements of the lanes: each bit is set where it was clear.
     #[inline(always)]
     pub fn not(&self) -> VReg
-        ensures { result ≡ each_lane (λ i. 65535 - slice_index self.now i) }
+        ensures { result ≡ each_lane (λ i. complement (slice_index self.now i)) }
     {
         VReg::from_simd(!self.lanes)
     }
@@ -195,7 +203,7 @@ impl VReg {
     /// The lanes with their signs changed, modulo 65536: 8000 hex stays.
     #[inline(always)]
     pub fn negate(&self) -> VReg
-        ensures { result ≡ each_lane (λ i. (65536 - slice_index self.now i) % 65536) }
+        ensures { result ≡ each_lane (λ i. negated (slice_index self.now i)) }
     {
         VReg::new().subtract(self)
     }
@@ -219,10 +227,10 @@ impl VReg {
     /// Where the lane is below the other's, both as signed numbers.
     #[inline(always)]
     pub fn is_below_signed(&self, other: &VReg) -> Mask8
-        ensures { result ≡ each_lane (λ i. int_lt (cast_signed w16 (slice_index self.now i)) (cast_signed w16 (slice_index other.now i))) }
+        ensures { result ≡ each_lane (λ i. int_lt (s16 (slice_index self.now i)) (s16 (slice_index other.now i))) }
     {
-        let _ = self.to_simd();
-        let _ = other.to_simd();
+        self.ranges();
+        other.ranges();
         let half = VReg::splat(0x8000);
         self.add(&half).is_below(&other.add(&half))
     }
@@ -241,8 +249,8 @@ impl VReg {
         ensures sum { result.0 ≡ each_lane (λ i. (slice_index self.now i + slice_index other.now i + bit (slice_index_or carry i false)) % 65536) }
         ensures carry { result.1 ≡ each_lane (λ i. nat_le 65536 (slice_index self.now i + slice_index other.now i + bit (slice_index_or carry i false))) }
     {
-        let _ = self.to_simd();
-        let _ = other.to_simd();
+        self.ranges();
+        other.ranges();
         let plain = self.add(other);
         let sum = plain.add(&carry.merge(&VReg::splat(1), &VReg::new()));
         (sum, plain.is_below(self).or(sum.is_below(&plain)))

@@ -6,7 +6,7 @@ use Rattle.std.proofs.lemmas.Bool.Decides.{nat_tests}
 use Rattle.std.proofs.lemmas.List.{set-set, get_or-set_same, set-get_or}
 use Rattle.rsp_memory.specs.Memory.{byte_at, bytes_at}
 use Rattle.rsp_lanes.specs.Lanes.{each_lane, register_byte, with_register_byte}
-use Rattle.rsp_lanes.specs.Bytes.{of_bytes, placed}
+use Rattle.rsp_lanes.specs.Bytes.{of_bytes, with_register_bytes}
 use Rattle.rsp_lanes.proofs.Kit.{eta, each_same, lane_of, below_eight}
 use Rattle.rsp_loadstore.specs.File.{register, with_register}
 use Rattle.rsp_loadstore.specs.Loads.{Load, to_byte, to_lane, loaded, after_load, bytes, lanes, spaced}
@@ -103,7 +103,7 @@ both_bytes v l =
     let q : (2 * l + 1) % 2 ≡ 1 = omega arith in
     rw (e, f, p, q) (omega arith)
 
-placed_none : (v source : List ℕ) (i : ℕ) → length v ≡ 8 → placed v source i 0 ≡ v
+placed_none : (v source : List ℕ) (i : ℕ) → length v ≡ 8 → with_register_bytes v source i 0 ≡ v
 unfolding of_bytes
 placed_none v source i h = each_same _ _ (λ l k. rw (none_byte v source i (2 * l), none_byte v source i (2 * l + 1)) (both_bytes v l)) ∙ sym (eta 0 v h)
 
@@ -115,7 +115,7 @@ kept_byte v source i n j h =
     let f : nat_lt (2 * j + 1) (i + n) ≡ false = grind (arith, nat_tests) in
     grind (arith, nat_tests, q, f)
 
-placed_more : (v source : List ℕ) (i n : ℕ) → i + n < 16 → placed v source i (n + 1) ≡ with_register_byte (placed v source i n) (i + n) (get_or source n 0)
+placed_more : (v source : List ℕ) (i n : ℕ) → i + n < 16 → with_register_bytes v source i (n + 1) ≡ with_register_byte (with_register_bytes v source i n) (i + n) (get_or source n 0)
 placed_more v source i n h =
     sym (byte_written (placed_byte v source i n) (placed_byte v source i (n + 1)) (i + n) (get_or source n 0) h (λ k d. other k d) here (kept_byte v source i n))
   where
@@ -128,7 +128,7 @@ placed_more v source i n h =
         grind (arith, nat_tests)
 
 -- of more bytes than there is room for the first are placed
-placed_room : (v source : List ℕ) (i n : ℕ) → placed v source i n ≡ placed v source i (min n (16 - i))
+placed_room : (v source : List ℕ) (i n : ℕ) → with_register_bytes v source i n ≡ with_register_bytes v source i (min n (16 - i))
 unfolding of_bytes
 placed_room v source i n = each_same _ _ (λ l h. rw (room (2 * l) (omega arith), room (2 * l + 1) (omega arith)) refl)
   where
@@ -136,15 +136,15 @@ placed_room v source i n = each_same _ _ (λ l h. rw (room (2 * l) (omega arith)
     room k h = grind (arith, nat_tests)
 
 pub placed_loaded : (m : List ℕ) (file : List (List ℕ)) (vt i n a : ℕ) → vt < length file → length (register file vt) ≡ 8 → n ≤ 16
-    → with_register file vt (placed (register file vt) (bytes_at m a 16) i n) ≡ after_load m file (bytes vt i (min n (16 - i)) a)
+    → with_register file vt (with_register_bytes (register file vt) (bytes_at m a 16) i n) ≡ after_load m file (bytes vt i (min n (16 - i)) a)
 unfolding bytes loaded
 placed_loaded m file vt i n a h l k =
     let v = register file vt in
     let w = bytes_at m a 16 in
     ap (with_register file vt) (placed_room v w i n)
-    ∙ sym (one_register m file vt (min n (16 - i)) (λ k. to_byte vt (i + k) (a + k)) (λ v k. with_register_byte v (i + k) (byte_at m (a + k))) (placed v w i)
+    ∙ sym (one_register m file vt (min n (16 - i)) (λ k. to_byte vt (i + k) (a + k)) (λ v k. with_register_byte v (i + k) (byte_at m (a + k))) (with_register_bytes v w i)
     h (λ _ _. refl) (placed_none v w i l)
-    (λ k lt. placed_more v w i k (omega arith) ∙ ap (with_register_byte (placed v w i k) (i + k)) (window_byte m a 16 k (omega arith))))
+    (λ k lt. placed_more v w i k (omega arith) ∙ ap (with_register_byte (with_register_bytes v w i k) (i + k)) (window_byte m a 16 k (omega arith))))
 
 -- a register of which the first n lanes are given
 abbrev first_given : (ℕ → ℕ) → List ℕ → ℕ → List ℕ

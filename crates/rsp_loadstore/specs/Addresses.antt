@@ -1,6 +1,6 @@
 -- The address of a vector load or store.
-use Rattle.std.specs.Prelude.{ℕ, ℤ, pos, ◌^◌, ◌+ℤ◌, ◌-ℤ◌, ◌*ℤ◌, nat_lt, if◌then◌else◌, unsigned_abs}
-use Rattle.std.specs.Int.{int_rem_euclid}
+use Rattle.std.specs.Prelude.{ℕ, ℤ, pos, ◌^◌, ◌+ℤ◌, ◌-ℤ◌, ◌*ℤ◌, nat_lt, if◌then◌else◌}
+use Rattle.rsp_numbers.specs.Numbers.{modulo}
 use Rattle.rsp_decode.specs.Table.{vector_load_scale, vector_store_scale}
 use Rattle.rsp_decode.specs.declared.inst.Inst.{Inst}
 use Rattle.rsp_decode.specs.declared.inst.Inst.TheVariants.{VectorLoad, VectorStore}
@@ -11,7 +11,7 @@ signed_offset n = if nat_lt n 64 then pos n else pos n -ℤ pos 128
 
 -- the base plus the offset times the scale, modulo 2^32
 abbrev pub displaced : ℕ → ℕ → ℕ → ℕ
-displaced base offset scale = unsigned_abs (int_rem_euclid (pos base +ℤ (signed_offset offset *ℤ pos scale)) (pos (2 ^ 32)))
+displaced base offset scale = modulo (pos base +ℤ (signed_offset offset *ℤ pos scale)) (2 ^ 32)
 
 -- the address, by the value of the base register; for another instruction that value
 unfoldable pub transfer_address : Inst → ℕ → ℕ

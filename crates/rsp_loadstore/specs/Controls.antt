@@ -1,6 +1,8 @@
 -- Moves between a scalar register and a control register of the vector unit.
 use Rattle.std.specs.Prelude.{ℕ, ◌+◌, ◌*◌, ◌/◌, ◌%◌, Bool, List}
+use Rattle.std.specs.Int.{w16}
 use Rattle.std.specs.Simd.Lanes.{mask_l}
+use Rattle.rsp_numbers.specs.Numbers.{extended}
 use Rattle.rsp_lanes.specs.Lanes.{each_lane, bit_set}
 use Rattle.rsp_flags.specs.declared.flags.Flags.{Flags}
 use Rattle.rsp_decode.specs.declared.inst.Inst.{Inst}
@@ -8,7 +10,6 @@ use Rattle.rsp_decode.specs.declared.inst.Inst.TheVariants.{MoveControl}
 use Rattle.rsp_decode.specs.declared.inst.MoveRow.TheVariants.{From, To}
 use Rattle.rsp_decode.specs.declared.inst.Control.{Control}
 use Rattle.rsp_decode.specs.declared.inst.Control.TheVariants.{Vco, Vcc, Vce}
-use Rattle.rsp_loadstore.specs.Moves.{sign_extended}
 
 -- eight marks in bits 0 to 7, and eight in bits 8 to 15
 abbrev pub joined : List Bool → List Bool → ℕ
@@ -20,8 +21,8 @@ marks n = each_lane (λ i. bit_set n i)
 
 -- a control register as a number of 32 bits: VCO and VCC are signed, VCE is not
 abbrev pub control_word : Control → Flags → ℕ
-control_word Vco f = sign_extended (joined f.carry f.differ)
-control_word Vcc f = sign_extended (joined f.compare f.clip)
+control_word Vco f = extended w16 (joined f.carry f.differ)
+control_word Vcc f = extended w16 (joined f.compare f.clip)
 control_word Vce f = mask_l f.extra
 
 -- the flags after a write of a control register

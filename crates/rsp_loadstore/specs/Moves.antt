@@ -1,15 +1,12 @@
 -- Moves between a scalar register and a vector register.
 use Rattle.std.specs.Prelude.{ℕ, ◌+◌, ◌*◌, ◌/◌, ◌%◌, List, nat_lt, if◌then◌else◌}
-use Rattle.std.specs.Int.{cast_signed, cast_unsigned, w16, w32}
+use Rattle.std.specs.Int.{w16}
+use Rattle.rsp_numbers.specs.Numbers.{extended}
 use Rattle.rsp_lanes.specs.Lanes.{register_byte, with_register_byte}
 use Rattle.rsp_decode.specs.declared.inst.Inst.{Inst}
 use Rattle.rsp_decode.specs.declared.inst.Inst.TheVariants.{MoveVector}
 use Rattle.rsp_decode.specs.declared.inst.MoveRow.TheVariants.{From, To}
 use Rattle.rsp_loadstore.specs.File.{register, with_register}
-
--- sixteen bits with their sign, modulo 2^32
-abbrev pub sign_extended : ℕ → ℕ
-sign_extended n = cast_unsigned w32 (cast_signed w16 n)
 
 -- the sixteen bits at bytes e and e + 1, modulo 16
 unfoldable pub register_half : List ℕ → ℕ → ℕ
@@ -23,7 +20,7 @@ with_register_half v e value =
 
 -- what MFC2 reads; for another instruction 0
 unfoldable pub moved_value : Inst → List (List ℕ) → ℕ
-moved_value (MoveVector From rt vector element) file = sign_extended (register_half (register file vector) element)
+moved_value (MoveVector From rt vector element) file = extended w16 (register_half (register file vector) element)
 moved_value _ file = 0
 
 -- the registers after MTC2 of a value; another instruction changes none

@@ -2,7 +2,7 @@ ghost use Rattle.std.specs.Prelude.{◌≡◌};
 ghost use Rattle.rsp_decode.specs.Table.{IsInstruction};
 ghost use Rattle.rsp_loadstore.specs.Controls.{joined, control_value, controlled_flags};
 
-use crate::moves::sign_extended;
+use crate::moves::extended;
 use rsp_decode::{Control, Inst, MoveRow};
 use rsp_flags::Flags;
 use rsp_lanes::Mask8;
@@ -26,8 +26,8 @@ pub fn control_from(inst: &Inst, flags: &Flags) -> u32
             control,
             ..
         } => match control {
-            Control::Vco => sign_extended(joined(flags.carry, flags.differ)),
-            Control::Vcc => sign_extended(joined(flags.compare, flags.clip)),
+            Control::Vco => extended(joined(flags.carry, flags.differ)),
+            Control::Vcc => extended(joined(flags.compare, flags.clip)),
             Control::Vce => flags.extra.bits() as u32,
         },
         _ => 0,

@@ -55,7 +55,7 @@ fn load_bytes(vt: u8, i: usize, n: usize, a: u32, memory: &SpMem, file: &mut VFi
     ensures { file.new ≡ after_load memory.now file.old (bytes vt i (min n (16 - i)) a) }
 {
     let v = file.reg(vt);
-    let _ = v.to_simd();
+    v.ranges();
     file.set_reg(vt, v.with_bytes(memory.window(a), i as u8, n as u8));
 }
 
@@ -76,7 +76,7 @@ fn load_spaced(
     requires stride { stride ≤ 4 }
     ensures { file.new ≡ after_load memory.now file.old (lanes vt (spaced 0 8 factor start stride) block) }
 {
-    let _ = file.reg(vt).to_simd();
+    file.reg(vt).ranges();
     let window = memory.window(block);
     file.set_reg(
         vt,
@@ -141,7 +141,7 @@ fn load_transposed(vt: u8, e: usize, a: u32, memory: &SpMem, file: &mut VFile)
     for i in 0..8 {
         let register = vt - vt % 8 + ((e / 2 + i) % 8) as u8;
         let mut v = file.reg(register);
-        let _ = v.to_simd();
+        v.ranges();
         v.set_lane(i, lanes.lane(i));
         file.set_reg(register, v);
     }

@@ -1,14 +1,16 @@
 ghost use Rattle.std.specs.Prelude.{◌≡◌};
 ghost use Rattle.rsp_decode.specs.Table.{IsInstruction};
-ghost use Rattle.rsp_loadstore.specs.Moves.{sign_extended, moved_file, moved_value};
+ghost use Rattle.std.specs.Int.{w16};
+ghost use Rattle.rsp_numbers.specs.Numbers.{extended};
+ghost use Rattle.rsp_loadstore.specs.Moves.{moved_file, moved_value};
 
 use crate::VFile;
 use rsp_decode::{Inst, MoveRow};
 
-/// Sixteen bits, their sign extended to 32.
+/// Sixteen bits as a signed number, modulo 2^32.
 #[inline]
-pub(crate) fn sign_extended(n: u16) -> u32
-    ensures { result ≡ sign_extended n }
+pub(crate) fn extended(n: u16) -> u32
+    ensures { result ≡ extended w16 n }
 {
     (n.cast_signed() as i32).cast_unsigned()
 }
@@ -29,7 +31,7 @@ pub fn move_from(inst: &Inst, file: &VFile) -> u32
         } => {
             let e = element as usize;
             let v = file.reg(vector);
-            sign_extended(u16::from_be_bytes([v.byte(e), v.byte((e + 1) % 16)]))
+            extended(u16::from_be_bytes([v.byte(e), v.byte((e + 1) % 16)]))
         }
         _ => 0,
     }

@@ -1,5 +1,5 @@
 -- What the vector rows do. Sources are those of the state before; each row then goes on to the next place.
-use Rattle.std.specs.Prelude.{ℕ, ◌%◌, ◌==◌, List, slice_index}
+use Rattle.std.specs.Prelude.{ℕ, ◌%◌, ◌==◌}
 use Rattle.rsp_decode.specs.declared.inst.Inst.{Inst}
 use Rattle.rsp_decode.specs.declared.inst.Inst.TheVariants.{VectorLoad, VectorStore}
 use Rattle.rsp_decode.specs.declared.inst.MoveRow.{MoveRow}
@@ -12,11 +12,12 @@ use Rattle.rsp_decode.specs.declared.inst.VectorLoadRow.{VectorLoadRow}
 use Rattle.rsp_decode.specs.declared.inst.VectorStoreRow.{VectorStoreRow}
 use Rattle.rsp_decode.specs.declared.shared_fields.VectorFields.{VectorFields}
 use Rattle.rsp_decode.specs.declared.shared_fields.VectorMemoryFields.{VectorMemoryFields}
-use Rattle.rsp_lanes.specs.Lanes.{each_lane, source_lane}
-use Rattle.rsp_flags.specs.Outcome.{Rule, results_of, flags_after, numbers_after}
+use Rattle.rsp_lanes.specs.Lanes.{selected}
+use Rattle.rsp_flags.specs.Outcome.{Rule, results_of, lows_of, flags_after}
+use Rattle.rsp_acc.specs.Planes.{with_low}
 use Rattle.rsp_multiply.specs.Rows.{accumulators_after, clamped_by, sar_of}
 use Rattle.rsp_multiply.specs.Mpeg.{accumulators_rounded, clamped_signed, accumulators_mpeg, halved_mpeg}
-use Rattle.rsp_divide.specs.Rows.{lane_written, divider_after, numbers_after as numbers_after_lane}
+use Rattle.rsp_divide.specs.Rows.{lane_written, divider_after, lows_written}
 use Rattle.rsp_scalar.specs.Registers.{register, with_register}
 use Rattle.rsp_loadstore.specs.File.{register as vector, with_register as with_vector}
 use Rattle.rsp_loadstore.specs.Addresses.{transfer_address}
@@ -27,27 +28,23 @@ use Rattle.rsp_loadstore.specs.Controls.{controlled_flags, control_value}
 use Rattle.rsp_machine.specs.State.{State, advanced}
 use Rattle.rsp_machine.specs.Ops.{multiply_op, round_op, mpeg_op, divide_op}
 
--- register vt with its lanes as the element selects them
-abbrev pub selected : List (List ℕ) → VectorFields → List ℕ
-selected file f = each_lane (λ i. slice_index (vector file f.vt) (source_lane f.element i))
-
 -- a multiply of vs and the selected vt: the accumulators after it, and in vd their clamp
 unfoldable pub multiplies : MultiplyRow → VectorFields → State → State
 multiplies row f s =
-    let after = accumulators_after (multiply_op row) (vector s.vectors f.vs) (selected s.vectors f) s.accumulators in
+    let after = accumulators_after (multiply_op row) (vector s.vectors f.vs) (selected (vector s.vectors f.vt) f.element) s.accumulators in
     advanced (record s { accumulators = after; vectors = with_vector s.vectors f.vd (clamped_by (multiply_op row) after) })
 
 -- a rounding of the accumulators by the selected vt, of which 65536 times as much counts where the number vs is odd: the
 -- accumulators after it, and in vd their signed clamp
 unfoldable pub rounds : RoundRow → VectorFields → State → State
 rounds row f s =
-    let after = accumulators_rounded (round_op row) (f.vs % 2 == 1) (selected s.vectors f) s.accumulators in
+    let after = accumulators_rounded (round_op row) (f.vs % 2 == 1) (selected (vector s.vectors f.vt) f.element) s.accumulators in
     advanced (record s { accumulators = after; vectors = with_vector s.vectors f.vd (clamped_signed after) })
 
 -- an MPEG multiply of vs and the selected vt: the accumulators after it, and in vd their halves
 unfoldable pub multiplies_mpeg : MpegRow → VectorFields → State → State
 multiplies_mpeg row f s =
-    let after = accumulators_mpeg (mpeg_op row) (vector s.vectors f.vs) (selected s.vectors f) s.accumulators in
+    let after = accumulators_mpeg (mpeg_op row) (vector s.vectors f.vs) (selected (vector s.vectors f.vt) f.element) s.accumulators in
     advanced (record s { accumulators = after; vectors = with_vector s.vectors f.vd (halved_mpeg after) })
 
 -- a read of the accumulators into vd, by the element
@@ -58,11 +55,11 @@ reads_accumulator f s = advanced (record s { vectors = with_vector s.vectors f.v
 unfoldable pub ruled : Rule → VectorFields → State → State
 ruled rule f s =
     let a = vector s.vectors f.vs in
-    let b = selected s.vectors f in
+    let b = selected (vector s.vectors f.vt) f.element in
     advanced (record s {
       vectors = with_vector s.vectors f.vd (results_of rule a b s.flags);
       flags = flags_after rule a b s.flags;
-      accumulators = numbers_after rule a b s.flags s.accumulators;
+      accumulators = with_low s.accumulators (lows_of rule a b s.flags);
     })
 
 -- a divide row, which writes one lane of vd; vt is as it stood before, so that it may be vd
@@ -73,7 +70,7 @@ divides row vd lane vt e s =
     advanced (record s {
       vectors = with_vector s.vectors vd (lane_written op e lane source s.divider (vector s.vectors vd));
       divider = divider_after op e lane source s.divider;
-      accumulators = numbers_after_lane op e source s.accumulators;
+      accumulators = lows_written op e source s.accumulators;
     })
 
 -- a vector load from DMEM, at the base register's value and the offset

@@ -1,7 +1,8 @@
 // Rows that have a rule for one lane.
 
 ghost use Rattle.std.specs.Prelude.{◌≡◌};
-ghost use Rattle.rsp_flags.specs.Outcome.{Rule, results_of, flags_after, numbers_after};
+ghost use Rattle.rsp_flags.specs.Outcome.{Rule, results_of, lows_of, flags_after};
+ghost use Rattle.rsp_acc.specs.Planes.{with_low};
 
 use rsp_acc::Acc;
 use rsp_clip::ClipOp;
@@ -18,7 +19,7 @@ pub(crate) trait LaneOp {
     fn apply<A: Acc>(self, a: &VReg, b: &VReg, flags: &mut Flags, acc: &mut A) -> VReg
         ensures value { result ≡ results_of (rule self) a.now b.now flags.old }
         ensures flags { flags.new ≡ flags_after (rule self) a.now b.now flags.old }
-        ensures accumulator { A.numbers acc.new ≡ numbers_after (rule self) a.now b.now flags.old (A.numbers acc.old) };
+        ensures accumulator { A.numbers acc.new ≡ with_low (A.numbers acc.old) (lows_of (rule self) a.now b.now flags.old) };
 }
 
 impl LaneOp for AddOp {

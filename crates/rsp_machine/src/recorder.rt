@@ -24,7 +24,7 @@ impl<A: Acc> Machine<A> {
         ensures back { can_undo self.old ≡ true → undone slot.new self.new ≡ self.old }
         ensures memory { result.0 ≡ StepEnd.Done → may_store slot.new ≡ false → self.new.dmem ≡ self.old.dmem }
     {
-        self.flags.keep();
+        self.flags.ranges();
         let end = self.step_told(slot);
         let is_back = match end {
             StepEnd::Done => slot.is_back(),

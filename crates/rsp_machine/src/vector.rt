@@ -1,7 +1,9 @@
 ghost use Rattle.std.specs.Prelude.{◌≡◌, ◌<◌};
 ghost use Rattle.rsp_decode.specs.declared.inst.Inst.{Inst};
 ghost use Rattle.rsp_decode.specs.Table.{IsInstruction, IsVectorFields};
-ghost use Rattle.rsp_machine.specs.Vector.{selected, multiplies, rounds, multiplies_mpeg, reads_accumulator, ruled, divides, loads_vector, stores_vector, moves_vector, moves_control};
+ghost use Rattle.rsp_lanes.specs.Lanes.{selected};
+ghost use Rattle.rsp_loadstore.specs.File.{register as vector};
+ghost use Rattle.rsp_machine.specs.Vector.{multiplies, rounds, multiplies_mpeg, reads_accumulator, ruled, divides, loads_vector, stores_vector, moves_vector, moves_control};
 
 use crate::lanes::LaneOp;
 use crate::machine::Machine;
@@ -20,7 +22,7 @@ impl<A: Acc> Machine<A> {
     #[inline(always)]
     fn selected(&self, fields: VectorFields) -> VReg
         requires { IsVectorFields fields }
-        ensures { result ≡ selected self.now.vectors fields }
+        ensures { result ≡ selected (vector self.now.vectors fields.vt) fields.element }
     {
         select(&self.vregs.reg(fields.vt), usize::from(fields.element))
     }

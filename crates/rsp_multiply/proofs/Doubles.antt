@@ -4,15 +4,9 @@ use Rattle.std.specs.Prelude.{◌≤ℤ◌}
 use Rattle.std.proofs.lemmas.Int.{ints}
 use Rattle.std.proofs.lemmas.Bool.{lt-ltb, le-ltb, cases_lt}
 use Rattle.std.proofs.lemmas.Bool.Decides.{nat_tests}
-use Rattle.rsp_numbers.specs.Numbers.{modulo, floor_div, join}
+use Rattle.rsp_numbers.specs.Numbers.{sixteen_bits, upper_bits, floor_div, join}
 use Rattle.rsp_numbers.proofs.Join.{join_small, join_large}
 use Rattle.rsp_multiply.specs.Doubles.{doubled_high, doubled_low}
-
-abbrev pub high_of : ℤ → ℕ
-high_of z = modulo (floor_div z 65536) 65536
-
-abbrev pub low_of : ℤ → ℕ
-low_of z = modulo z 65536
 
 -- the carry of a doubled half
 carry : (l : ℕ) → l < 65536 → cond (nat_lt 32767 l) 1 0 ≡ (l + l) / 65536
@@ -20,7 +14,7 @@ carry l h = grind (arith, nat_tests)
 
 -- the planes of twice z
 pub twice : (z : ℤ) → negsuc (2 ^ 30 - 1) ≤ℤ z → z ≤ℤ pos (2 ^ 30)
-    → join (cond (nat_lt 32767 (high_of z)) 65535 0) (doubled_high (high_of z) (low_of z)) (doubled_low (low_of z)) ≡ pos 2 *ℤ z
+    → join (cond (nat_lt 32767 (upper_bits z)) 65535 0) (doubled_high (upper_bits z) (sixteen_bits z)) (doubled_low (sixteen_bits z)) ≡ pos 2 *ℤ z
 twice (pos n) low high =
     let b : n ≤ 2 ^ 30 = omega (arith, ints) in
     rw (carry (n % 65536) (omega arith), le-ltb 32767 (n / 65536 % 65536) (omega arith))
@@ -40,8 +34,8 @@ rounded_number h l a b = rw (carry l b, carry (doubled_low l) (omega arith)) (om
 
 -- the planes of twice z and 32768, where m and l are the middle and the low one
 rounded_planes : (z : ℤ) (m l : ℕ) → negsuc (2 ^ 30 - 1) ≤ℤ z → z ≤ℤ pos (2 ^ 30) → m < 65536 → l < 65536
-    → m * 65536 + l ≡ (2 * (high_of z * 65536 + low_of z) + 32768) % 2 ^ 32
-    → join (cond (nat_lt 32767 (high_of z) && nat_lt 32767 m) 65535 0) m l ≡ pos 2 *ℤ z +ℤ pos 32768
+    → m * 65536 + l ≡ (2 * (upper_bits z * 65536 + sixteen_bits z) + 32768) % 2 ^ 32
+    → join (cond (nat_lt 32767 (upper_bits z) && nat_lt 32767 m) 65535 0) m l ≡ pos 2 *ℤ z +ℤ pos 32768
 rounded_planes (pos n) m l low high a b e =
     let c : n ≤ 2 ^ 30 = omega (arith, ints) in
     let f : m * 65536 + l ≡ 2 * n + 32768 = omega (arith, e) in
@@ -55,10 +49,10 @@ rounded_planes (negsuc n) m l low high a b e =
     ])
 
 pub twice_rounded : (z : ℤ) → negsuc (2 ^ 30 - 1) ≤ℤ z → z ≤ℤ pos (2 ^ 30)
-    → join (cond (nat_lt 32767 (high_of z) && nat_lt 32767 (rounded_middle (high_of z) (low_of z))) 65535 0) (rounded_middle (high_of z) (low_of z)) ((doubled_low (low_of z) + 32768) % 65536)
+    → join (cond (nat_lt 32767 (upper_bits z) && nat_lt 32767 (rounded_middle (upper_bits z) (sixteen_bits z))) 65535 0) (rounded_middle (upper_bits z) (sixteen_bits z)) ((doubled_low (sixteen_bits z) + 32768) % 65536)
     ≡ pos 2 *ℤ z +ℤ pos 32768
-twice_rounded z low high = rounded_planes z _ _ low high (omega arith) (omega arith) (rounded_number (high_of z) (low_of z) (below (floor_div z 65536)) (below z))
+twice_rounded z low high = rounded_planes z _ _ low high (omega arith) (omega arith) (rounded_number (upper_bits z) (sixteen_bits z) (below (floor_div z 65536)) (below z))
   where
-    below : (x : ℤ) → modulo x 65536 < 65536
+    below : (x : ℤ) → sixteen_bits x < 65536
     below (pos n) = omega arith
     below (negsuc n) = omega arith

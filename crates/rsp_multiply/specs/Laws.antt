@@ -1,6 +1,6 @@
 -- A replacing row, and accumulating rows after it.
 use Rattle.std.specs.Prelude.{ℕ, ℤ, pos, ◌+ℤ◌, ◌<◌, ◌≡◌, true, false, List, [], ◌∷◌, slice_index, All}
-use Rattle.rsp_lanes.specs.Lanes.{each_lane, IsVector, source_lane}
+use Rattle.rsp_lanes.specs.Lanes.{each_lane, IsVector, selected}
 use Rattle.rsp_numbers.specs.Numbers.{s48}
 use Rattle.rsp_acc.specs.Parts.{clamp_of}
 use Rattle.rsp_multiply.specs.declared.ops.MultiplyOp.{MultiplyOp}
@@ -19,11 +19,11 @@ IsStep s = IsVector s.vs × IsVector s.vt × (s.element < 16)
 
 -- the lanes of vt that the element selects
 abbrev pub operand : Step → List ℕ
-operand s = each_lane (λ i. slice_index s.vt (source_lane s.element i))
+operand s = selected s.vt s.element
 
 -- what the instruction makes of the operands' lanes i
 abbrev pub addend_of : Step → ℕ → ℤ
-addend_of s i = (row s.op).addend (slice_index s.vs i) (slice_index s.vt (source_lane s.element i))
+addend_of s i = (row s.op).addend (slice_index s.vs i) (slice_index (operand s) i)
 
 -- the eight accumulators after the instructions, from those before them
 abbrev pub after : List Step → List ℤ → List ℤ

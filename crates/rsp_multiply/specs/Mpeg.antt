@@ -1,7 +1,7 @@
 -- The four rows for MPEG coefficients: two that round the accumulator by its sign, and two multiplies.
 use Rattle.std.specs.Prelude.{ℕ, ℤ, pos, negsuc, ◌*◌, ◌/◌, ◌+ℤ◌, ◌*ℤ◌, Bool, not, List, slice_index, nat_eq, int_lt, if◌then◌else◌}
 use Rattle.rsp_lanes.specs.Lanes.{each_lane}
-use Rattle.rsp_numbers.specs.Numbers.{s16, s48, number, low, floor_div, modulo, clamp16}
+use Rattle.rsp_numbers.specs.Numbers.{s16, s48, number, low, floor_div, modulo, sixteen_bits, clamp16}
 use Rattle.rsp_acc.specs.Parts.{clamp_of}
 use Rattle.rsp_acc.specs.declared.parts.Clamp.TheVariants.{Signed}
 use Rattle.rsp_multiply.specs.declared.ops.RoundOp.{RoundOp}
@@ -50,7 +50,7 @@ mpeg_accumulated Vmacq x a b = let p = floor_div x 65536 in (p +ℤ step p) *ℤ
 -- the result of an MPEG multiply that left p: half of p, rounded down, limited to -32768 .. 32767, as
 -- sixteen bits, of which the low four are cleared
 abbrev pub mpeg_half : ℤ → ℕ
-mpeg_half p = modulo (clamp16 (floor_div p 2)) 65536 / 16 * 16
+mpeg_half p = sixteen_bits (clamp16 (floor_div p 2)) / 16 * 16
 
 -- the eight accumulators after a rounding row on the register b, from the eight before it
 unfoldable pub accumulators_rounded : RoundOp → Bool → List ℕ → List ℤ → List ℤ

@@ -1,11 +1,9 @@
 //! The rows for MPEG coefficients. What a lane adds is put together as a register of sixteen bits first, 0 where
 //! the row adds nothing, so one addition serves all eight.
-//!
-//! `let _ = b.to_simd();` tells the proof that the lanes are below 65536; it emits no instruction.
 
 ghost use Rattle.std.specs.Prelude.{◌≡◌, ◌*ℤ◌, pos, slice_index, int_lt};
 ghost use Rattle.rsp_lanes.specs.Lanes.{each_lane};
-ghost use Rattle.rsp_numbers.specs.Numbers.{s16, number, floor_div, modulo};
+ghost use Rattle.rsp_numbers.specs.Numbers.{s16, number, floor_div, sixteen_bits};
 ghost use Rattle.rsp_multiply.specs.Mpeg.{rounds, rounding, step, accumulators_rounded, clamped_signed, accumulators_mpeg, halved_mpeg};
 
 use crate::products::upper;
@@ -18,7 +16,7 @@ use rsp_lanes::{Mask8, VReg};
 fn signed(lanes: &VReg) -> Addends
     ensures { result ≡ each_lane (λ i. s16 (slice_index lanes.now i)) }
 {
-    let _ = lanes.to_simd();
+    lanes.ranges();
     let sign = lanes
         .is_negative()
         .merge(&VReg::splat(0xffff), &VReg::new());
@@ -30,7 +28,7 @@ fn signed(lanes: &VReg) -> Addends
 fn shifted(lanes: &VReg) -> Addends
     ensures { result ≡ each_lane (λ i. s16 (slice_index lanes.now i) *ℤ pos 65536) }
 {
-    let _ = lanes.to_simd();
+    lanes.ranges();
     let zeros = VReg::new();
     let sign = lanes.is_negative().merge(&VReg::splat(0xffff), &zeros);
     Addends::from_planes(&sign, lanes, &zeros)
@@ -84,7 +82,7 @@ pub fn round_op<A: Acc>(op: RoundOp, odd: bool, b: &VReg, acc: &mut A) -> VReg
 /// The steps of VMACQ, as sixteen bits.
 #[inline(always)]
 fn steps<A: Acc>(acc: &A) -> VReg
-    ensures { result ≡ each_lane (λ i. modulo (step (floor_div (number (A.numbers acc.now) i) 65536)) 65536) }
+    ensures { result ≡ each_lane (λ i. sixteen_bits (step (floor_div (number (A.numbers acc.now) i) 65536))) }
 {
     acc.ranges();
     let zeros = VReg::new();
@@ -124,7 +122,7 @@ fn halved<A: Acc>(acc: &A) -> VReg
     let mut other = A::zero();
     other.replace(&halves(acc));
     let clamped = other.clamp(Clamp::Signed);
-    let _ = clamped.to_simd();
+    clamped.ranges();
     clamped.and(&VReg::splat(0xfff0))
 }
 
@@ -150,8 +148,8 @@ pub fn mpeg_op<A: Acc>(op: MpegOp, a: &VReg, b: &VReg, acc: &mut A) -> VReg
 fn multiply_rounded<A: Acc>(a: &VReg, b: &VReg, acc: &mut A)
     ensures { A.numbers acc.new ≡ accumulators_mpeg MpegOp.Vmulq a.now b.now (A.numbers acc.old) }
 {
-    let _ = a.to_simd();
-    let _ = b.to_simd();
+    a.ranges();
+    b.ranges();
     acc.replace(&upper(a, b));
     let rounding = negative(acc).merge(&VReg::splat(31), &VReg::new());
     acc.add(&shifted(&rounding));

@@ -1,10 +1,8 @@
 //! Products of lanes, by their halves of sixteen bits.
-//!
-//! `let _ = a.to_simd();` tells the proof that the lanes are below 65536; it emits no instruction.
 
 ghost use Rattle.std.specs.Prelude.{◌≡◌, ◌*ℤ◌, pos, slice_index, nat_lt, if◌then◌else◌};
 ghost use Rattle.rsp_lanes.specs.Lanes.{each_lane};
-ghost use Rattle.rsp_numbers.specs.Numbers.{s16, modulo, floor_div, join};
+ghost use Rattle.rsp_numbers.specs.Numbers.{s16, sixteen_bits, upper_bits, join};
 ghost use Rattle.rsp_multiply.specs.Doubles.{doubled_high, doubled_low};
 ghost use Rattle.rsp_multiply.specs.Rows.{rounded, lower, middle_left, upper, fraction};
 
@@ -14,11 +12,11 @@ use rsp_lanes::VReg;
 /// The high and the low half of the products of the lanes as signed numbers.
 #[inline(always)]
 pub(crate) fn signed_product(a: &VReg, b: &VReg) -> (VReg, VReg)
-    ensures high { result.0 ≡ each_lane (λ i. modulo (floor_div (s16 (slice_index a.now i) *ℤ s16 (slice_index b.now i)) 65536) 65536) }
-    ensures low { result.1 ≡ each_lane (λ i. modulo (s16 (slice_index a.now i) *ℤ s16 (slice_index b.now i)) 65536) }
+    ensures high { result.0 ≡ each_lane (λ i. upper_bits (s16 (slice_index a.now i) *ℤ s16 (slice_index b.now i))) }
+    ensures low { result.1 ≡ each_lane (λ i. sixteen_bits (s16 (slice_index a.now i) *ℤ s16 (slice_index b.now i))) }
 {
-    let _ = a.to_simd();
-    let _ = b.to_simd();
+    a.ranges();
+    b.ranges();
     let high = a.signed_product_high(b);
     let (_, low) = a.product(b);
     (high, low)
@@ -28,11 +26,11 @@ pub(crate) fn signed_product(a: &VReg, b: &VReg) -> (VReg, VReg)
 /// ones.
 #[inline(always)]
 pub(crate) fn mixed_product(a: &VReg, b: &VReg) -> (VReg, VReg)
-    ensures high { result.0 ≡ each_lane (λ i. modulo (floor_div (s16 (slice_index a.now i) *ℤ pos (slice_index b.now i)) 65536) 65536) }
-    ensures low { result.1 ≡ each_lane (λ i. modulo (s16 (slice_index a.now i) *ℤ pos (slice_index b.now i)) 65536) }
+    ensures high { result.0 ≡ each_lane (λ i. upper_bits (s16 (slice_index a.now i) *ℤ pos (slice_index b.now i))) }
+    ensures low { result.1 ≡ each_lane (λ i. sixteen_bits (s16 (slice_index a.now i) *ℤ pos (slice_index b.now i))) }
 {
-    let _ = a.to_simd();
-    let _ = b.to_simd();
+    a.ranges();
+    b.ranges();
     let (high, low) = a.product(b);
     let high = high.subtract(&a.is_negative().merge(b, &VReg::splat(0)));
     (high, low)
@@ -48,7 +46,7 @@ fn top_bit(lanes: &VReg) -> VReg
 
 /// The signed numbers of 32 bits with these halves.
 #[inline(always)]
-fn extended(high: &VReg, low: &VReg) -> Addends
+fn from_halves(high: &VReg, low: &VReg) -> Addends
     ensures { result ≡ each_lane (λ i. join (if nat_lt 32767 (slice_index high.now i) then 65535 else 0) (slice_index high.now i) (slice_index low.now i)) }
 {
     Addends::from_planes(&high.sign(), high, low)
@@ -68,8 +66,8 @@ fn doubled(high: &VReg, low: &VReg) -> (VReg, VReg)
 pub(crate) fn fraction(a: &VReg, b: &VReg) -> Addends
     ensures { result ≡ each_lane (λ i. fraction (slice_index a.now i) (slice_index b.now i)) }
 {
-    let _ = a.to_simd();
-    let _ = b.to_simd();
+    a.ranges();
+    b.ranges();
     let (high, low) = signed_product(a, b);
     let (middle, low) = doubled(&high, &low);
     Addends::from_planes(&high.sign(), &middle, &low)
@@ -80,8 +78,8 @@ pub(crate) fn fraction(a: &VReg, b: &VReg) -> Addends
 pub(crate) fn rounded(a: &VReg, b: &VReg) -> Addends
     ensures { result ≡ each_lane (λ i. rounded (slice_index a.now i) (slice_index b.now i)) }
 {
-    let _ = a.to_simd();
-    let _ = b.to_simd();
+    a.ranges();
+    b.ranges();
     let (high, low) = signed_product(a, b);
     let (middle, low) = doubled(&high, &low);
     let middle = middle.add(&top_bit(&low));
@@ -94,8 +92,8 @@ pub(crate) fn rounded(a: &VReg, b: &VReg) -> Addends
 pub(crate) fn lower(a: &VReg, b: &VReg) -> Addends
     ensures { result ≡ each_lane (λ i. lower (slice_index a.now i) (slice_index b.now i)) }
 {
-    let _ = a.to_simd();
-    let _ = b.to_simd();
+    a.ranges();
+    b.ranges();
     let zeros = VReg::splat(0);
     let (high, _) = a.product(b);
     Addends::from_planes(&zeros, &zeros, &high)
@@ -106,10 +104,10 @@ pub(crate) fn lower(a: &VReg, b: &VReg) -> Addends
 pub(crate) fn middle(a: &VReg, b: &VReg) -> Addends
     ensures { result ≡ each_lane (λ i. middle_left (slice_index a.now i) (slice_index b.now i)) }
 {
-    let _ = a.to_simd();
-    let _ = b.to_simd();
+    a.ranges();
+    b.ranges();
     let (high, low) = mixed_product(a, b);
-    extended(&high, &low)
+    from_halves(&high, &low)
 }
 
 /// The signed products times 65536.
@@ -117,8 +115,8 @@ pub(crate) fn middle(a: &VReg, b: &VReg) -> Addends
 pub(crate) fn upper(a: &VReg, b: &VReg) -> Addends
     ensures { result ≡ each_lane (λ i. upper (slice_index a.now i) (slice_index b.now i)) }
 {
-    let _ = a.to_simd();
-    let _ = b.to_simd();
+    a.ranges();
+    b.ranges();
     let (high, low) = signed_product(a, b);
     Addends::from_planes(&high, &low, &VReg::splat(0))
 }

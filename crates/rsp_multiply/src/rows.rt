@@ -62,9 +62,8 @@ pub fn multiply<A: Acc>(op: MultiplyOp, a: &VReg, b: &VReg, acc: &mut A) -> VReg
     ensures accumulators { A.numbers acc.new ≡ accumulators_after op a.now b.now (A.numbers acc.old) }
     ensures value { result ≡ clamped_by op (A.numbers acc.new) }
 {
-    // These two lines tell the proof that the lanes are below 65536.
-    let _ = a.to_simd();
-    let _ = b.to_simd();
+    a.ranges();
+    b.ranges();
     let addends = op.addends(a, b);
     if op.adds() {
         acc.add(&addends);

@@ -1,6 +1,6 @@
 -- Whole numbers, their signed readings of 16, 32 and 48 bits, and the parts of an accumulator.
-use Rattle.std.specs.Prelude.{ℕ, ℤ, pos, negsuc, ◌+◌, ◌*◌, ◌^◌, ◌+ℤ◌, ◌-ℤ◌, unsigned_abs, List, slice_index_or, length, ◌-◌, ◌≡◌, ◌≤ℤ◌, ◌<ℤ◌}
-use Rattle.std.specs.Int.{int_rem_euclid, int_div_euclid, int_min, int_max, cast_signed, w16, w32}
+use Rattle.std.specs.Prelude.{ℕ, ℤ, pos, negsuc, ◌+◌, ◌*◌, ◌%◌, ◌^◌, ◌+ℤ◌, ◌-ℤ◌, unsigned_abs, List, slice_index_or, length, ◌-◌, ◌≡◌, ◌≤ℤ◌, ◌<ℤ◌}
+use Rattle.std.specs.Int.{int_rem_euclid, int_div_euclid, int_min, int_max, Width, cast_signed, w16, w32}
 
 -- z divided by m, rounded toward minus infinity
 abbrev pub floor_div : ℤ → ℕ → ℤ
@@ -9,6 +9,22 @@ floor_div z m = int_div_euclid z (pos m)
 -- the number from 0 to m - 1 that differs from z by a multiple of m
 abbrev pub modulo : ℤ → ℕ → ℕ
 modulo z m = unsigned_abs (int_rem_euclid z (pos m))
+
+-- the low sixteen bits of a number, a negative one in two's complement
+abbrev pub sixteen_bits : ℤ → ℕ
+sixteen_bits z = modulo z 65536
+
+-- the sixteen bits above these
+abbrev pub upper_bits : ℤ → ℕ
+upper_bits z = sixteen_bits (floor_div z 65536)
+
+-- sixteen bits, each of them turned
+abbrev pub complement : ℕ → ℕ
+complement n = 65535 - n
+
+-- the sixteen bits of -n
+abbrev pub negated : ℕ → ℕ
+negated n = (65536 - n) % 65536
 
 -- the number from -2^47 to 2^47 - 1 that differs from z by a multiple of 2^48
 unfoldable pub s48 : ℤ → ℤ
@@ -22,21 +38,25 @@ s16 n = cast_signed w16 n
 abbrev pub s32 : ℕ → ℤ
 s32 n = cast_signed w32 n
 
+-- w bits as a signed number, modulo 2^32
+abbrev pub extended : Width → ℕ → ℕ
+extended w n = modulo (cast_signed w n) (2 ^ 32)
+
 -- z limited to -32768 .. 32767
 unfoldable pub clamp16 : ℤ → ℤ
 clamp16 z = int_max (negsuc 32767) (int_min (pos 32767) z)
 
 -- the high sixteen bits of an accumulator x: floor(x / 2^32) modulo 2^16
 unfoldable pub high : ℤ → ℕ
-high x = modulo (floor_div x (2 ^ 32)) 65536
+high x = sixteen_bits (floor_div x (2 ^ 32))
 
 -- the middle sixteen bits: floor(x / 2^16) modulo 2^16
 unfoldable pub middle : ℤ → ℕ
-middle x = modulo (floor_div x (2 ^ 16)) 65536
+middle x = sixteen_bits (floor_div x (2 ^ 16))
 
 -- the low sixteen bits: x modulo 2^16
 unfoldable pub low : ℤ → ℕ
-low x = modulo x 65536
+low x = sixteen_bits x
 
 -- the accumulator with these high, middle and low sixteen bits
 unfoldable pub join : ℕ → ℕ → ℕ → ℤ

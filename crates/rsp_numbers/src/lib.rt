@@ -1,5 +1,6 @@
-//! The numbers that the vector unit computes with, in the contracts: signed readings of 16, 32
-//! and 48 bits, the high, middle and low parts of an accumulator, and the clamp to 16 bits.
+//! The numbers that the machine computes with, in the contracts: the low bits of a number, its
+//! signed readings of 16, 32 and 48 bits, the high, middle and low parts of an accumulator, and
+//! the clamp to 16 bits.
 //!
 //! The definitions stand in `specs/Numbers.antt`; no code is behind them. `laws` proves what
 //! they are known by.

@@ -1,6 +1,6 @@
 -- The scalar rows of the instruction table, on numbers modulo 2^32.
-use Rattle.std.specs.Prelude.{ℕ, ℤ, pos, ◌+◌, ◌-◌, ◌*◌, ◌/◌, ◌%◌, ◌^◌, ◌==◌, ◌+ℤ◌, ◌*ℤ◌, Bool, true, false, not, nat_lt, int_lt, if◌then◌else◌, bit_and, bit_or, bit_xor, unsigned_abs, List}
-use Rattle.std.specs.Int.{cast_signed, Width, w8, w16, w32, int_div_euclid, int_rem_euclid}
+use Rattle.std.specs.Prelude.{ℕ, ℤ, pos, ◌+◌, ◌-◌, ◌*◌, ◌/◌, ◌%◌, ◌^◌, ◌==◌, ◌+ℤ◌, ◌*ℤ◌, Bool, true, false, not, nat_lt, int_lt, if◌then◌else◌, bit_and, bit_or, bit_xor, List}
+use Rattle.std.specs.Int.{w8, w16}
 use Rattle.rsp_decode.specs.declared.inst.Inst.{Inst}
 use Rattle.rsp_decode.specs.declared.inst.Inst.TheVariants.{Shift, ShiftBy, JumpRegister, JumpLinkRegister, Register, BranchSign, BranchEqual, Jump, Immediate, LoadUpper, Load, Store}
 use Rattle.rsp_decode.specs.declared.inst.ShiftRow.{ShiftRow}
@@ -20,19 +20,8 @@ use Rattle.rsp_decode.specs.declared.inst.LoadRow.TheVariants.{Lb, Lh, Lw, Lbu, 
 use Rattle.rsp_decode.specs.declared.inst.StoreRow.{StoreRow}
 use Rattle.rsp_decode.specs.declared.inst.StoreRow.TheVariants.{Sb, Sh, Sw}
 use Rattle.rsp_memory.specs.Memory.{byte_at, half_at, word_at, with_byte, with_half, with_word}
+use Rattle.rsp_numbers.specs.Numbers.{s16, s32, modulo, floor_div, extended}
 use Rattle.rsp_scalar.specs.Registers.{register, with_register}
-
--- the signed reading of 32 bits
-abbrev pub signed : ℕ → ℤ
-signed n = cast_signed w32 n
-
--- z modulo m
-abbrev pub modulo : ℤ → ℕ → ℕ
-modulo z m = unsigned_abs (int_rem_euclid z (pos m))
-
--- a number of w bits, read as a signed one, modulo 2^32
-abbrev pub extended : Width → ℕ → ℕ
-extended w n = modulo (cast_signed w n) (2 ^ 32)
 
 -- 1 where a comparison holds, else 0
 abbrev pub truth : Bool → ℕ
@@ -47,7 +36,7 @@ shifted_right t k = t / 2 ^ k
 
 -- t shifted by k to the right with its sign: the quotient of the signed reading, rounded down
 abbrev pub shifted_signed : ℕ → ℕ → ℕ
-shifted_signed t k = modulo (int_div_euclid (signed t) (pos (2 ^ k))) (2 ^ 32)
+shifted_signed t k = modulo (floor_div (s32 t) (2 ^ k)) (2 ^ 32)
 
 -- shifts by a constant, and by the low five bits of a register
 abbrev pub shift_result : ShiftRow → ℕ → ℕ → ℕ
@@ -70,14 +59,14 @@ register_result And s t = bit_and s t
 register_result Or s t = bit_or s t
 register_result Xor s t = bit_xor s t
 register_result Nor s t = 2 ^ 32 - 1 - bit_or s t
-register_result Slt s t = truth (int_lt (signed s) (signed t))
+register_result Slt s t = truth (int_lt (s32 s) (s32 t))
 register_result Sltu s t = truth (nat_lt s t)
 
 -- rows of a register and sixteen bits
 abbrev pub immediate_result : ImmediateRow → ℕ → ℕ → ℕ
 immediate_result Addi s imm = (s + extended w16 imm) % 2 ^ 32
 immediate_result Addiu s imm = (s + extended w16 imm) % 2 ^ 32
-immediate_result Slti s imm = truth (int_lt (signed s) (cast_signed w16 imm))
+immediate_result Slti s imm = truth (int_lt (s32 s) (s16 imm))
 immediate_result Sltiu s imm = truth (nat_lt s (extended w16 imm))
 immediate_result Andi s imm = bit_and s imm
 immediate_result Ori s imm = bit_or s imm
@@ -138,14 +127,14 @@ equal_test Bne s t = not (s == t)
 abbrev pub is_taken : Inst → List ℕ → Bool
 is_taken (JumpRegister rs) r = true
 is_taken (JumpLinkRegister rd rs) r = true
-is_taken (BranchSign row rs offset) r = sign_test row (signed (register r rs))
+is_taken (BranchSign row rs offset) r = sign_test row (s32 (register r rs))
 is_taken (BranchEqual row rs rt offset) r = equal_test row (register r rs) (register r rt)
 is_taken (Jump row target) r = true
 is_taken _ r = false
 
 -- npc + 4 * offset, modulo 4096
 abbrev pub branch_target : ℕ → ℕ → ℕ
-branch_target npc offset = modulo (pos npc +ℤ (pos 4 *ℤ cast_signed w16 offset)) 4096
+branch_target npc offset = modulo (pos npc +ℤ (pos 4 *ℤ s16 offset)) 4096
 
 -- where a taken branch or jump goes; another row goes on
 abbrev pub target_of : Inst → List ℕ → ℕ → ℕ

@@ -1,7 +1,8 @@
 ghost use Rattle.std.specs.Prelude.{◌≡◌, ◌<◌};
 ghost use Rattle.std.specs.Int.{w16};
 ghost use Rattle.rsp_decode.specs.Table.{IsInstruction};
-ghost use Rattle.rsp_scalar.specs.Rows.{extended, shift_result, shift_by_result, shifted_signed, register_result, immediate_result, computed};
+ghost use Rattle.rsp_numbers.specs.Numbers.{extended};
+ghost use Rattle.rsp_scalar.specs.Rows.{shift_result, shift_by_result, shifted_signed, register_result, immediate_result, computed};
 
 use crate::Regs;
 use rsp_decode::{ImmediateRow, Inst, RegisterRow, ShiftByRow, ShiftRow};

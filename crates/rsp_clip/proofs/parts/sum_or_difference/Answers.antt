@@ -6,4 +6,4 @@ use Rattle.rsp_clip.proofs.parts.sum_or_difference.Goals as goal
 pub returns : goal.returns
 returns c = c.merge.ensures ∙ each_same _ _ (λ i h.
     rw (lane_of false _ _ c.signs_differ.ensures i h, lane_of 0 _ _ c.add.ensures i h, lane_of 0 _ _ c.subtract.ensures i h)
-    (sum_or_difference_is _ _ (c.to_simd.ensures.vector.1 i) (c.to_simd-2.ensures.vector.1 i)))
+    (sum_or_difference_is _ _ (c.ranges-2.ensures.1 i) (c.ranges-3.ensures.1 i)))

@@ -31,5 +31,5 @@ returns c =
       lane_of false _ _ c.is_zero-is_zero.ensures i h,
       lane_of 0 _ _ c.sum_or_difference-number.ensures i h,
       lane_of false _ _ c.signs_differ-apart.ensures i h,
-    ) (vch_is _ _ (flags_at c.args.flags.now i) (c.to_simd.ensures.vector.1 i) (c.to_simd-2.ensures.vector.1 i))) in
+    ) (vch_is _ _ (flags_at c.args.flags.now i) (c.ranges-2.ensures.1 i) (c.ranges-3.ensures.1 i))) in
     record { value = row.value; flags = row.flags }

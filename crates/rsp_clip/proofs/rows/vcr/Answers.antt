@@ -26,5 +26,5 @@ returns c =
       lane_of 0 _ _ c.sum_or_difference.ensures i h,
       lane_of false _ _ c.signs_differ-apart.ensures i h,
       lane_of false _ _ c.splat-clear.ensures i h,
-    ) (vcr_is _ _ (flags_at c.args.flags.now i) (c.to_simd.ensures.vector.1 i) (c.to_simd-2.ensures.vector.1 i))) in
+    ) (vcr_is _ _ (flags_at c.args.flags.now i) (c.ranges-2.ensures.1 i) (c.ranges-3.ensures.1 i))) in
     record { value = row.value; flags = row.flags }

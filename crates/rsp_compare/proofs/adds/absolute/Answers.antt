@@ -17,7 +17,7 @@ returns-clause-value c = results_are _ _ _ _ _ _ c.merge.ensures (λ i h.
       lane_of 0 _ _ c.new.ensures i h,
       lane_of 0 _ _ c.splat.ensures i h,
       lane_of 0 _ _ c.splat-2.ensures i h,
-    ) (ap (λ x. x.result) (sym (abs_is _ _ _ (c.to_simd.ensures.vector.1 i) (c.to_simd-2.ensures.vector.1 i)))))
+    ) (ap (λ x. x.result) (sym (abs_is _ _ _ (c.ranges-2.ensures.1 i) (c.ranges-3.ensures.1 i)))))
 
 pub returns-clause-low : goal.returns-clause-low
 returns-clause-low c = lows_are _ _ _ _ _ _ c.merge-low.ensures (λ i h.
@@ -27,7 +27,7 @@ returns-clause-low c = lows_are _ _ _ _ _ _ c.merge-low.ensures (λ i h.
       lane_of false _ _ c.is_negative-negative.ensures i h,
       lane_of 0 _ _ c.negate.ensures i h,
       lane_of 0 _ _ c.new.ensures i h,
-    ) (ap (λ x. x.low) (sym (abs_is _ _ _ (c.to_simd.ensures.vector.1 i) (c.to_simd-2.ensures.vector.1 i)))))
+    ) (ap (λ x. x.low) (sym (abs_is _ _ _ (c.ranges-2.ensures.1 i) (c.ranges-3.ensures.1 i)))))
 
 pub returns-clause-flags : goal.returns-clause-flags
-returns-clause-flags c = flags_are _ _ _ _ _ _ c.keep.ensures (λ i h. ap (λ x. x.flags) (sym (abs_is _ _ _ (c.to_simd.ensures.vector.1 i) (c.to_simd-2.ensures.vector.1 i))))
+returns-clause-flags c = flags_are _ _ _ _ _ _ c.ranges-4.ensures (λ i h. ap (λ x. x.flags) (sym (abs_is _ _ _ (c.ranges-2.ensures.1 i) (c.ranges-3.ensures.1 i))))

@@ -1,12 +1,13 @@
-use Rattle.std.proofs.Common.{refl}
-use Rattle.rsp_flags.proofs.Rules.{results_are, lows_are, flags_are, numbers_are}
+use Rattle.std.proofs.Common.{◌∙◌, ap, refl}
+use Rattle.rsp_acc.specs.Planes.{with_low}
+use Rattle.rsp_flags.proofs.Rules.{results_are, lows_are, flags_are}
 use Rattle.rsp_compare.proofs.logic.logic_op.Goals as goal
 
 pub returns-clause-value : goal.returns-clause-value
 returns-clause-value g c = results_are _ _ _ _ _ _ c.bits-result.ensures (λ i h. refl)
 
 pub returns-clause-flags : goal.returns-clause-flags
-returns-clause-flags g c = flags_are _ _ _ _ _ _ c.keep.ensures (λ i h. refl)
+returns-clause-flags g c = flags_are _ _ _ _ _ _ c.ranges-2.ensures (λ i h. refl)
 
 pub returns-clause-accumulator : goal.returns-clause-accumulator
-returns-clause-accumulator g c = numbers_are _ _ _ _ _ _ _ c.set_low.ensures (lows_are _ _ _ _ _ _ c.bits-result.ensures (λ i h. refl))
+returns-clause-accumulator g c = c.set_low.ensures ∙ ap (with_low _) (lows_are _ _ _ _ _ _ c.bits-result.ensures (λ i h. refl))

@@ -1,5 +1,6 @@
-use Rattle.std.proofs.Common.{refl}
-use Rattle.rsp_flags.proofs.Rules.{results_are, lows_are, flags_are, numbers_are}
+use Rattle.std.proofs.Common.{◌∙◌, ap, refl}
+use Rattle.rsp_acc.specs.Planes.{with_low}
+use Rattle.rsp_flags.proofs.Rules.{results_are, lows_are, flags_are}
 use Rattle.rsp_compare.proofs.Merges.{merge_is}
 use Rattle.rsp_compare.specs.Selects.{vmrg}
 use Rattle.rsp_compare.proofs.selects.merge_op.Goals as goal
@@ -11,4 +12,4 @@ pub returns-clause-flags : goal.returns-clause-flags
 returns-clause-flags g c = rw (merge_is c.args.op) (flags_are vmrg _ _ _ _ _ c.clear_vco.ensures (λ i h. refl))
 
 pub returns-clause-accumulator : goal.returns-clause-accumulator
-returns-clause-accumulator g c = rw (merge_is c.args.op) (numbers_are vmrg _ _ _ _ _ _ c.set_low.ensures (lows_are vmrg _ _ _ _ _ c.merge-result.ensures (λ i h. refl)))
+returns-clause-accumulator g c = rw (merge_is c.args.op) (c.set_low.ensures ∙ ap (with_low _) (lows_are vmrg _ _ _ _ _ c.merge-result.ensures (λ i h. refl)))

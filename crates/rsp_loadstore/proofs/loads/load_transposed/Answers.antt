@@ -11,7 +11,7 @@ loop-i-preserved c =
     let i = c.loop-i.i in
     transposed_more c.args.memory.now c.args.file.now c.loop-i.file c.set_reg.new.self c.args.vt c.args.e c.args.a c.loop-i.i _ c.lane.result c.window-window.result c.loop-i-test.true
     (λ k. (fits k).fits) c.window-window.ensures refl (omega (arith, c.reg-v.ensures.file, c.requires.register))
-    (omega (arith, c.loop-i-test.true, ap length (sym c.reg-v.ensures.value) ∙ c.to_simd.ensures.vector.0))
+    (omega (arith, c.loop-i-test.true, ap length (sym c.reg-v.ensures.value) ∙ c.ranges-in-loop-i.ensures.0))
     c.loop-i.invariant
     (c.lane.ensures ∙ rw (c.from_bytes-lanes.ensures, c.bytes_from.ensures, c.from_bytes.ensures) refl)
     (c.set_reg.ensures ∙ rw (c.set_lane.ensures, c.reg-v.ensures.value) refl)

@@ -1,7 +1,7 @@
-use Rattle.std.proofs.Common.{◌≡◌, ◌∙◌, ◌<◌, ℕ, ℤ, pos, ◌+ℤ◌, List, [], ◌∷◌, refl, ap, arith, true, false, All, get_or}
+use Rattle.std.proofs.Common.{◌≡◌, ◌∙◌, ℕ, ℤ, pos, ◌+ℤ◌, List, [], ◌∷◌, refl, ap, arith, true, false, All}
 use Rattle.std.proofs.lemmas.Int.{ints}
 use Rattle.std.proofs.lemmas.List.Elements.{All-head, All-tail}
-use Rattle.rsp_lanes.specs.Lanes.{each_lane, source_lane}
+use Rattle.rsp_lanes.specs.Lanes.{each_lane}
 use Rattle.rsp_lanes.proofs.Kit.{lane_of, each_same}
 use Rattle.rsp_numbers.specs.Numbers.{s48}
 use Rattle.rsp_numbers.proofs.Wrap.{s48_differs, s48_same}
@@ -20,17 +20,13 @@ wrapped sum = each_lane (λ i. s48 (sum i))
 abbrev Adds : Step → Type 0
 Adds s = (row s.op).adds ≡ true
 
--- lane i of the selected operand
-operand_lane : (s : Step) (i : ℕ) → i < 8 → get_or (operand s) i 0 ≡ get_or s.vt (source_lane s.element i) 0
-operand_lane s i h = lane_of 0 (λ i. get_or s.vt (source_lane s.element i) 0) (operand s) refl i h
-
 replaced : (s : Step) (before : List ℤ) → (row s.op).adds ≡ false → accumulators_after s.op s.vs (operand s) before ≡ wrapped (λ i. pos 0 +ℤ addend_of s i)
 unfolding accumulators_after
-replaced s before e = each_same _ _ (λ i h. rw (e, operand_lane s i h) (ap s48 (omega (arith, ints))))
+replaced s before e = each_same _ _ (λ i h. rw e (ap s48 (omega (arith, ints))))
 
 added : (s : Step) (sum : ℕ → ℤ) → (row s.op).adds ≡ true → accumulators_after s.op s.vs (operand s) (wrapped sum) ≡ wrapped (λ i. sum i +ℤ addend_of s i)
 unfolding accumulators_after
-added s sum e = each_same _ _ (λ i h. rw (e, operand_lane s i h, lane_of (pos 0) (λ i. s48 (sum i)) (wrapped sum) refl i h) (s48_sum (sum i) (addend_of s i)))
+added s sum e = each_same _ _ (λ i h. rw (e, lane_of (pos 0) (λ i. s48 (sum i)) (wrapped sum) refl i h) (s48_sum (sum i) (addend_of s i)))
 
 -- the accumulators after rows that add, from a sum so far
 sums : (sum : ℕ → ℤ) (ss : List Step) → All Adds ss → after ss (wrapped sum) ≡ wrapped (λ i. sum i +ℤ sum_of ss i)

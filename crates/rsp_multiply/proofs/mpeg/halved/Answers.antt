@@ -7,5 +7,5 @@ use Rattle.rsp_multiply.proofs.mpeg.halved.Goals as goal
 pub returns : goal.returns
 unfolding halved_mpeg
 returns g c = c.and.ensures ∙ each_same _ _ (λ i h.
-    rw (lane_of 0 _ _ c.splat.ensures i h, cut _ (c.to_simd.ensures.vector.1 i), lane_of 0 _ _ c.clamp-clamped.ensures i h, c.replace.ensures, lane_of (pos 0) _ _ c.halves.ensures i h)
+    rw (lane_of 0 _ _ c.splat.ensures i h, cut _ (c.ranges-2.ensures.1 i), lane_of 0 _ _ c.clamp-clamped.ensures i h, c.replace.ensures, lane_of (pos 0) _ _ c.halves.ensures i h)
     (half_clamped _))

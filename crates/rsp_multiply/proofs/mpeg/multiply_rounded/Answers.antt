@@ -8,7 +8,7 @@ use Rattle.rsp_multiply.proofs.mpeg.multiply_rounded.Goals as goal
 pub returns : goal.returns
 unfolding accumulators_mpeg
 returns g c = c.add.ensures ∙ each_same _ _ (λ i h.
-    let s = (signed _ _ (c.to_simd.ensures.vector.1 i) (c.to_simd-2.ensures.vector.1 i)).1 in
+    let s = (signed _ _ (c.ranges-2.ensures.1 i) (c.ranges-3.ensures.1 i)).1 in
     rw (
       lane_of (pos 0) _ _ c.shifted.ensures i h,
       lane_of 0 _ _ c.merge-rounding.ensures i h,

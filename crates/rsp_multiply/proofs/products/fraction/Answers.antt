@@ -6,7 +6,7 @@ use Rattle.rsp_multiply.proofs.products.fraction.Goals as goal
 
 pub returns : goal.returns
 returns c = c.from_planes.ensures ∙ each_same _ _ (λ i h.
-    let s = (signed _ _ (c.to_simd.ensures.vector.1 i) (c.to_simd-2.ensures.vector.1 i)).1 in
+    let s = (signed _ _ (c.ranges-2.ensures.1 i) (c.ranges-3.ensures.1 i)).1 in
     rw (
       lane_of 0 _ _ c.sign.ensures i h,
       lane_of 0 _ _ c.doubled-middle.ensures.high i h,

@@ -6,5 +6,5 @@ use Rattle.rsp_multiply.proofs.products.lower.Goals as goal
 
 pub returns : goal.returns
 returns c = c.from_planes.ensures ∙ each_same _ _ (λ i h.
-    let s = mul-lt _ _ 65536 65536 (c.to_simd.ensures.vector.1 i) (c.to_simd-2.ensures.vector.1 i) in
+    let s = mul-lt _ _ 65536 65536 (c.ranges-2.ensures.1 i) (c.ranges-3.ensures.1 i) in
     rw (lane_of 0 _ _ c.splat-zeros.ensures i h, lane_of 0 _ _ c.product-high.ensures.high i h) (join_small 0 0 _ (omega arith) (omega arith) (omega (arith, s)) ∙ ap pos (omega arith)))

@@ -1,10 +1,10 @@
 use Rattle.std.proofs.Common.{◌∙◌}
 use Rattle.rsp_lanes.proofs.Kit.{lane_of, each_same}
 use Rattle.rsp_multiply.proofs.Signs.{mixed}
-use Rattle.rsp_multiply.proofs.Halves.{sign_extended}
+use Rattle.rsp_multiply.proofs.Halves.{halves_joined}
 use Rattle.rsp_multiply.proofs.products.middle.Goals as goal
 
 pub returns : goal.returns
-returns c = c.extended.ensures ∙ each_same _ _ (λ i h.
-    let s = mixed _ _ (c.to_simd.ensures.vector.1 i) (c.to_simd-2.ensures.vector.1 i) in
-    rw (lane_of 0 _ _ c.mixed_product-high.ensures.high i h, lane_of 0 _ _ c.mixed_product-high.ensures.low i h) (sign_extended _ s.low s.high))
+returns c = c.from_halves.ensures ∙ each_same _ _ (λ i h.
+    let s = mixed _ _ (c.ranges-2.ensures.1 i) (c.ranges-3.ensures.1 i) in
+    rw (lane_of 0 _ _ c.mixed_product-high.ensures.high i h, lane_of 0 _ _ c.mixed_product-high.ensures.low i h) (halves_joined _ s.low s.high))

@@ -7,7 +7,7 @@ use Rattle.rsp_multiply.proofs.products.rounded.Goals as goal
 
 pub returns : goal.returns
 returns c = c.from_planes.ensures ∙ each_same _ _ (λ i h.
-    let s = (signed _ _ (c.to_simd.ensures.vector.1 i) (c.to_simd-2.ensures.vector.1 i)).1 in
+    let s = (signed _ _ (c.ranges-2.ensures.1 i) (c.ranges-3.ensures.1 i)).1 in
     simp (
       lane_of 0 _ _ c.and-sign.ensures i h,
       lane_of 0 _ _ c.sign.ensures i h,

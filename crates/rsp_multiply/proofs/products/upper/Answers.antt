@@ -6,6 +6,6 @@ use Rattle.rsp_multiply.proofs.products.upper.Goals as goal
 
 pub returns : goal.returns
 returns c = c.from_planes.ensures ∙ each_same _ _ (λ i h.
-    let s = (signed _ _ (c.to_simd.ensures.vector.1 i) (c.to_simd-2.ensures.vector.1 i)).1 in
+    let s = (signed _ _ (c.ranges-2.ensures.1 i) (c.ranges-3.ensures.1 i)).1 in
     rw (lane_of 0 _ _ c.signed_product-high.ensures.high i h, lane_of 0 _ _ c.signed_product-high.ensures.low i h, lane_of 0 _ _ c.splat.ensures i h)
     (shifted _ s.wide_low s.wide_high))

@@ -14,7 +14,7 @@ returns-clause-accumulators g c =
           rw w.acc-is (w.add.ensures ∙ each_same _ _ (λ i h. rw (yes, lane_of (pos 0) _ _ c.addends-addends.ensures i h) refl))
       | else-adds w ↦
           let no : (row c.args.op).adds ≡ false = sym c.adds.ensures ∙ w.if-adds.false in
-          rw w.acc-is (w.replace.ensures ∙ c.addends-addends.ensures ∙ each_same _ _ (λ i h. rw no (sym (addend_again _ _ (c.to_simd.ensures.vector.1 i) (c.to_simd-2.ensures.vector.1 i) c.args.op))))
+          rw w.acc-is (w.replace.ensures ∙ c.addends-addends.ensures ∙ each_same _ _ (λ i h. rw no (sym (addend_again _ _ (c.ranges-2.ensures.1 i) (c.ranges-3.ensures.1 i) c.args.op))))
     ]
 
 pub returns-clause-value : goal.returns-clause-value

@@ -21,4 +21,4 @@ returns-clause-carry c =
       lane_of 0 _ _ c.splat.ensures i h,
       lane_of 0 _ _ c.new.ensures i h,
     )
-    (carry_out _ _ (get_or c.args.carry i false) (c.to_simd.ensures.vector.1 i) (c.to_simd-2.ensures.vector.1 i)))
+    (carry_out _ _ (get_or c.args.carry i false) (c.ranges-2.ensures.1 i) (c.ranges-3.ensures.1 i)))

@@ -6,8 +6,8 @@ use Rattle.rsp_lanes.proofs.vreg.VReg.signed_product_high.Goals as goal
 pub overflow_mul-product : goal.overflow_mul-product
 unfolding each_lane
 overflow_mul-product c =
-    let v = c.to_simd.ensures.vector.1 in
-    let w = c.to_simd-2.ensures.vector.1 in
+    let v = c.ranges-2.ensures.1 in
+    let w = c.ranges-3.ensures.1 in
     rw (c.signed.ensures, c.signed-2.ensures) (
       product_fits _ _ (v 0) (w 0),
       (
@@ -25,8 +25,8 @@ overflow_mul-product c =
 pub overflow_cast-high : goal.overflow_cast-high
 unfolding each_lane
 overflow_cast-high c =
-    let v = c.to_simd.ensures.vector.1 in
-    let w = c.to_simd-2.ensures.vector.1 in
+    let v = c.ranges-2.ensures.1 in
+    let w = c.ranges-3.ensures.1 in
     rw (c.signed.ensures, c.signed-2.ensures) (
       shifted_fits _ _ (v 0) (w 0),
       (
@@ -44,6 +44,6 @@ overflow_cast-high c =
 pub returns : goal.returns
 unfolding each_lane
 returns c =
-    let v = c.to_simd.ensures.vector.1 in
-    let w = c.to_simd-2.ensures.vector.1 in
+    let v = c.ranges-2.ensures.1 in
+    let w = c.ranges-3.ensures.1 in
     c.from_simd.ensures ∙ rw (c.signed.ensures, c.signed-2.ensures) (high_lanes c.args.self.now c.args.other.now v w)

@@ -2,4 +2,4 @@ use Rattle.rsp_loadstore.proofs.Ranges.{file_set}
 use Rattle.rsp_loadstore.proofs.file.VFile.set_reg.Goals as goal
 
 pub invariant_of-self : goal.invariant_of-self
-invariant_of-self c = file_set _ _ _ c.requires c.to_simd.ensures.vector c.self.invariant
+invariant_of-self c = file_set _ _ _ c.requires c.ranges-2.ensures c.self.invariant
