@@ -1,5 +1,5 @@
 -- What is kept of a step leads back.
-use Rattle.std.proofs.Common.{◌≡◌, ℕ, ℤ, ◌-◌, ◌%◌, ◌==◌, ◌||◌, Bool, true, false, not, List, refl, sym, ap, subst, Option, Some, None}
+use Rattle.std.proofs.Common.{◌≡◌, ℕ, ℤ, ◌-◌, ◌%◌, ◌==◌, ◌||◌, Bool, true, false, not, List, refl, sym, ap, subst, ◌∙◌, Option, Some, None}
 use Rattle.std.specs.Prelude.{if◌then◌else◌}
 use Rattle.rsp_decode.specs.declared.inst.Inst.{Inst}
 use Rattle.rsp_decode.specs.declared.inst.Inst.TheVariants.{Shift, ShiftBy, JumpRegister, JumpLinkRegister, Break, Register, BranchSign, BranchEqual, Jump, Immediate, LoadUpper, Load, Store, MoveSp, MoveVector, MoveControl, Multiply, Round, MpegMultiply, ReadAccumulator, VectorAdd, VectorSelect, VectorClip, VectorMerge, VectorLogic, Lane, Idle, VectorLoad, VectorStore}
@@ -24,7 +24,7 @@ use Rattle.rsp_loadstore.specs.Addresses.{transfer_address}
 use Rattle.rsp_loadstore.specs.Loads.{loaded_file}
 use Rattle.rsp_loadstore.specs.Stores.{stored_memory}
 use Rattle.rsp_loadstore.specs.Moves.{moved_file}
-use Rattle.rsp_regs.specs.Sp.{Sp, after_step, after_read, written, bank_written, image_written, is_imem}
+use Rattle.rsp_regs.specs.Sp.{Sp, after_step, after_read, written}
 use Rattle.rsp_machine.specs.State.{State, advanced}
 use Rattle.rsp_machine.specs.Vector.{multiplies, rounds, multiplies_mpeg, reads_accumulator, ruled, divides, loads_vector, stores_vector, moves_vector, moves_control}
 use Rattle.rsp_machine.specs.Step.{computes, loads, stores, jumps, breaks, moves_sp, executed, singled, step_by, step_of}
@@ -136,34 +136,29 @@ group_kept : (n : ℕ) (v : List (List ℕ)) (s : State) (r : Saved) → s.sp.ha
 unfolding undone kept_part saved restored after_step
 group_kept n v s r h e = vectors_same s _ h e
 
-written_kept : (p : Sp) (m i q : List ℕ) (s : State) (r : Saved) → s.sp.halted ≡ false → m ≡ s.dmem → i ≡ s.imem → q ≡ s.rdram
-    → undone (kept_part (of.Sp 0) s r) (singled (advanced (record s { sp = p; dmem = m; imem = i; rdram = q }))) ≡ s
+written_kept : (p : Sp) (s : State) (r : Saved) → s.sp.halted ≡ false
+    → undone (kept_part (of.Sp 0) s r) (singled (advanced (record s { sp = p }))) ≡ s
 unfolding undone kept_part saved restored after_step
-written_kept p m i q s r h em ei eq = same_state s _ _ _ _ _ m i q h refl refl refl refl refl em ei eq
+written_kept p s r h = registers_same s _ h refl
 
 neither : (a b : Bool) → (a || b) ≡ false → (a ≡ false) × (b ≡ false)
 neither false b e = (refl, e)
 neither true b e = cc
 
-bank_same : (chosen : Bool) (n v : ℕ) (p : Sp) (image bank : List ℕ) → (n % 16 == 2) ≡ false → bank_written chosen n v p image bank ≡ bank
-unfolding bank_written
-bank_same chosen n v p image bank e = rw e refl
-
-image_same : (n v : ℕ) (p : Sp) (dmem imem image : List ℕ) → (n % 16 == 3) ≡ false → image_written n v p dmem imem image ≡ image
-unfolding image_written
-image_same n v p dmem imem image e = rw e refl
+-- a write that starts no DMA
+no_dma : (n v : ℕ) (s : State) → is_length n ≡ false → register_written n v s ≡ record s { sp = written n v s.sp }
+no_dma n v s e =
+    let k = neither (n % 16 == 2) (n % 16 == 3) e in
+    rw (k.0, k.1) refl
 
 move_kept : (row : MoveRow) (rt n : ℕ) (s : State) (r : Saved) → starts_dma (MoveSp row rt n) ≡ false → s.sp.halted ≡ false
     → undone (kept (MoveSp row rt n) s r) (singled (executed (MoveSp row rt n) s)) ≡ s
 unfolding part_of executed moves_sp
 move_kept From rt n s r e h = sp_kept rt _ (after_read n s.sp) s r h
 move_kept To rt n s r e h =
-    let k = neither (n % 16 == 2) (n % 16 == 3) e in
-    let P : Bool → Type 0 = λ b. undone (kept_part (if b then of.Nothing else of.Sp 0) s r) (singled (advanced (register_written n (register s.registers rt) s))) ≡ s in
-    subst P (sym e) (written_kept (written n (register s.registers rt) s.sp) _ _ _ s r h
-    (bank_same (not (is_imem s.sp)) n (register s.registers rt) s.sp s.rdram s.dmem k.0)
-    (bank_same (is_imem s.sp) n (register s.registers rt) s.sp s.rdram s.imem k.0)
-    (image_same n (register s.registers rt) s.sp s.dmem s.imem s.rdram k.1))
+    let v = register s.registers rt in
+    let P : Bool → Type 0 = λ b. undone (kept_part (if b then of.Nothing else of.Sp 0) s r) (singled (advanced (register_written n v s))) ≡ s in
+    subst P (sym e) (ap (λ t. undone (kept_part (of.Sp 0) s r) (singled (advanced t))) (no_dma n v s e) ∙ written_kept (written n v s.sp) s r h)
 
 load_kept : (row : VectorLoadRow) (vt : ℕ) (v : List (List ℕ)) (s : State) (r : Saved) → s.sp.halted ≡ false → put_back row vt s.vectors v ≡ s.vectors
     → undone (kept_part (loaded_part row vt) s r) (singled (advanced (record s { vectors = v }))) ≡ s
@@ -364,7 +359,7 @@ written_stays : (b : Bool) (v n : ℕ) (s : State) (r : Saved) → is_length n �
     → (register_written n v s).dmem ≡ s.dmem
 unfolding kept_part saved
 written_stays true v n s r e h = cc
-written_stays false v n s r e h = bank_same (not (is_imem s.sp)) n v s.sp s.rdram s.dmem (neither (n % 16 == 2) (n % 16 == 3) e).0
+written_stays false v n s r e h = ap (λ t. t.dmem) (no_dma n v s e)
 
 kept_stays : (i : Inst) (s : State) (r : Saved) → may_store (kept i s r) ≡ false → (executed i s).dmem ≡ s.dmem
 unfolding part_of executed computes loads stores jumps breaks moves_sp multiplies rounds multiplies_mpeg reads_accumulator ruled divides loads_vector stores_vector moves_vector moves_control kept_part saved
