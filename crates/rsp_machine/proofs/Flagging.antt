@@ -1,14 +1,16 @@
 -- Which flags the rows that go by a rule for one lane leave.
 use Rattle.std.proofs.Common.{◌≡◌, ℕ, Bool, true, false, List, refl, sym, ◌∙◌, ap}
 use Rattle.std.specs.Prelude.{if◌then◌else◌}
+use Rattle.rsp_lanes.specs.Lanes.{each_lane}
 use Rattle.rsp_lanes.proofs.Kit.{each_same}
 use Rattle.rsp_flags.specs.declared.flags.Flags.{Flags}
 use Rattle.rsp_flags.specs.Flags.{LaneFlags, flags_at, all_flags}
-use Rattle.rsp_flags.specs.Outcome.{Outcome, Rule, flags_after}
+use Rattle.rsp_flags.specs.Outcome.{Outcome, Rule, outcome_at, flags_after}
 use Rattle.rsp_compare.specs.declared.adds.AddOp.{AddOp}
 use Rattle.rsp_compare.specs.declared.adds.AddOp.TheVariants.{Vadd, Vsub, Vabs, Vaddc, Vsubc}
 use Rattle.rsp_compare.specs.Adds.{add_rule}
 use Rattle.rsp_compare.specs.declared.selects.SelectOp.{SelectOp}
+use Rattle.rsp_compare.specs.declared.selects.MergeOp.{MergeOp}
 use Rattle.rsp_compare.specs.declared.selects.MergeOp.TheVariants.{Vmrg}
 use Rattle.rsp_compare.specs.Selects.{select_rule, merge_rule}
 use Rattle.rsp_compare.specs.declared.logic.LogicOp.{LogicOp}

@@ -9,8 +9,6 @@ use Rattle.rsp_decode.specs.declared.inst.SignRow.{SignRow}
 use Rattle.rsp_decode.specs.declared.inst.SignRow.TheVariants.{Bltz, Bgez, Bltzal, Bgezal, Blez, Bgtz}
 use Rattle.rsp_decode.specs.declared.inst.JumpRow.{JumpRow}
 use Rattle.rsp_decode.specs.declared.inst.JumpRow.TheVariants.{J, Jal}
-use Rattle.rsp_decode.specs.declared.inst.VectorLoadRow.{VectorLoadRow}
-use Rattle.rsp_decode.specs.declared.inst.VectorLoadRow.TheVariants.{Lbv, Lsv, Llv, Ldv, Lqv, Lrv, Lpv, Luv, Lhv, Lfv, Ltv}
 use Rattle.rsp_flags.specs.declared.flags.Flags.{Flags}
 use Rattle.rsp_divide.specs.declared.divider.Divider.{Divider}
 use Rattle.rsp_memory.specs.Memory.{word_at, bytes_at, with_bytes}
@@ -19,20 +17,21 @@ use Rattle.rsp_scalar.specs.Rows.{address}
 use Rattle.rsp_scalar.specs.Flow.{linked, going_on}
 use Rattle.rsp_decode.specs.declared.inst.Control.{Control}
 use Rattle.rsp_decode.specs.Table.{inst_of}
-use Rattle.rsp_loadstore.specs.File.{register as vector, with_register as with_vector}
+use Rattle.rsp_loadstore.specs.File.{vector, with_vector}
 use Rattle.rsp_loadstore.specs.Addresses.{transfer_address}
-use Rattle.rsp_loadstore.specs.Loads.{loaded_file}
-use Rattle.rsp_loadstore.specs.Stores.{stored_memory}
+use Rattle.rsp_loadstore.specs.Loads.{loaded_file, writes_group}
+use Rattle.rsp_loadstore.specs.Stores.{stored_memory, window_of}
 use Rattle.rsp_loadstore.specs.Moves.{moved_file}
+use Rattle.rsp_loadstore.proofs.Reach.{stored-back}
 use Rattle.rsp_regs.specs.Sp.{Sp, after_step, after_read, written}
 use Rattle.rsp_machine.specs.State.{State, advanced}
 use Rattle.rsp_machine.specs.Vector.{multiplies, rounds, multiplies_mpeg, reads_accumulator, ruled, divides, loads_vector, stores_vector, moves_vector, moves_control}
 use Rattle.rsp_machine.specs.Step.{computes, loads, stores, jumps, breaks, moves_sp, executed, singled, step_by, step_of}
 use Rattle.rsp_machine.specs.Host.{register_written}
 use Rattle.rsp_machine.specs.declared.step.StepEnd.TheVariants.{Done, Halted, Reserved}
-use Rattle.rsp_machine.specs.Saved.{Saved, kept, kept_part, saved, restored, part_of, vd_in, vd_at, undone, starts_dma, is_length, sign_part, jump_part, loaded_part, told_of, may_store, group_at, with_group, window_of, is_back_by, kept_by, can_undo, slot_after, is_back}
+use Rattle.rsp_machine.specs.Saved.{Saved, kept, kept_part, saved, restored, part_of, vd_in, vd_at, undone, starts_dma, is_length, sign_part, jump_part, told_of, may_store, group_at, with_group, is_back_by, kept_by, can_undo, slot_after, is_back}
 use Rattle.rsp_machine.specs.declared.part.Part.TheVariants as of
-use Rattle.rsp_machine.proofs.Undoing.{register-back, vector-back, store-back, stored-back}
+use Rattle.rsp_machine.proofs.Undoing.{register-back, vector-back, store-back}
 use Rattle.rsp_machine.proofs.Loading.{loaded-back, put_back}
 use Rattle.rsp_machine.proofs.Flagging.{AreFlags, sum-back, merge-back, choice-back, logic-back}
 use Rattle.rsp_machine.specs.Ops.{add_op, select_op, logic_op}
@@ -160,19 +159,10 @@ move_kept To rt n s r e h =
     let P : Bool → Type 0 = λ b. undone (kept_part (if b then of.Nothing else of.Sp 0) s r) (singled (advanced (register_written n v s))) ≡ s in
     subst P (sym e) (ap (λ t. undone (kept_part (of.Sp 0) s r) (singled (advanced t))) (no_dma n v s e) ∙ written_kept (written n v s.sp) s r h)
 
-load_kept : (row : VectorLoadRow) (vt : ℕ) (v : List (List ℕ)) (s : State) (r : Saved) → s.sp.halted ≡ false → put_back row vt s.vectors v ≡ s.vectors
-    → undone (kept_part (loaded_part row vt) s r) (singled (advanced (record s { vectors = v }))) ≡ s
-load_kept Ltv vt v s r h e = group_kept (vt - vt % 8) v s r h e
-load_kept Lbv vt v s r h e = file_kept vt v s r h e
-load_kept Lsv vt v s r h e = file_kept vt v s r h e
-load_kept Llv vt v s r h e = file_kept vt v s r h e
-load_kept Ldv vt v s r h e = file_kept vt v s r h e
-load_kept Lqv vt v s r h e = file_kept vt v s r h e
-load_kept Lrv vt v s r h e = file_kept vt v s r h e
-load_kept Lpv vt v s r h e = file_kept vt v s r h e
-load_kept Luv vt v s r h e = file_kept vt v s r h e
-load_kept Lhv vt v s r h e = file_kept vt v s r h e
-load_kept Lfv vt v s r h e = file_kept vt v s r h e
+load_kept : (group : Bool) (vt : ℕ) (v : List (List ℕ)) (s : State) (r : Saved) → s.sp.halted ≡ false → put_back group vt s.vectors v ≡ s.vectors
+    → undone (kept_part (if group then of.Group (vt - vt % 8) else of.Vector vt) s r) (singled (advanced (record s { vectors = v }))) ≡ s
+load_kept true vt v s r h e = group_kept (vt - vt % 8) v s r h e
+load_kept false vt v s r h e = file_kept vt v s r h e
 
 sign_kept : (row : SignRow) (rs offset p : ℕ) (s : State) (r : Saved) → s.sp.halted ≡ false
     → undone (kept_part (sign_part row) s r) (singled (record s { pc = s.npc; npc = p; registers = linked (BranchSign row rs offset) s.registers s.npc })) ≡ s
@@ -233,7 +223,7 @@ kept_back (VectorLogic row vd vs vt n) s r e h k o = logic_kept vd _ _ _ s r (ap
 kept_back (Lane row vd lane vt n) s r e h k o = lane_kept vd _ _ _ s r (ap vd_in o) h
 kept_back (Idle row) s r e h k o = places_kept _ s r h
 kept_back (VectorLoad row vt n offset base) s r e h k o =
-    load_kept row vt _ s r h (loaded-back row s.dmem s.vectors vt n (transfer_address (VectorLoad row vt n offset base) (register s.registers base)))
+    load_kept (writes_group row) vt _ s r h (loaded-back row s.dmem s.vectors vt n (transfer_address (VectorLoad row vt n offset base) (register s.registers base)))
 kept_back (VectorStore row vt n offset base) s r e h k o =
     let a : ℕ = transfer_address (VectorStore row vt n offset base) (register s.registers base) in
     bytes_kept (window_of row a) _ s r h (stored-back row vt n a s.vectors s.dmem)
@@ -257,19 +247,10 @@ unfolding can_undo slot_after told_of step_of
 slot_back s r k e = either_back s.sp.halted (inst_of (word_at s.imem s.pc)) (word_at s.imem s.pc) s r refl refl k e
 
 -- the mark in the slot tells whether an instruction can be undone
-load_marked : (row : VectorLoadRow) (vt : ℕ) (s : State) (r : Saved) → is_back (kept_part (loaded_part row vt) s r).part ≡ true
+load_marked : (group : Bool) (vt : ℕ) (s : State) (r : Saved) → is_back (kept_part (if group then of.Group (vt - vt % 8) else of.Vector vt) s r).part ≡ true
 unfolding kept_part saved
-load_marked Ltv vt s r = refl
-load_marked Lbv vt s r = refl
-load_marked Lsv vt s r = refl
-load_marked Llv vt s r = refl
-load_marked Ldv vt s r = refl
-load_marked Lqv vt s r = refl
-load_marked Lrv vt s r = refl
-load_marked Lpv vt s r = refl
-load_marked Luv vt s r = refl
-load_marked Lhv vt s r = refl
-load_marked Lfv vt s r = refl
+load_marked true vt s r = refl
+load_marked false vt s r = refl
 
 move_marked : (b : Bool) (s : State) (r : Saved) → is_back (kept_part (if b then of.Nothing else of.Sp 0) s r).part ≡ not b
 unfolding kept_part saved
@@ -322,7 +303,7 @@ kept_marked (VectorMerge vd vs vt n) s r = refl
 kept_marked (VectorLogic row vd vs vt n) s r = refl
 kept_marked (Lane row vd lane vt n) s r = refl
 kept_marked (Idle row) s r = refl
-kept_marked (VectorLoad row vt n offset base) s r = load_marked row vt s r
+kept_marked (VectorLoad row vt n offset base) s r = load_marked (writes_group row) vt s r
 kept_marked (VectorStore row vt n offset base) s r = refl
 
 -- after a step that is Done the mark in the slot tells; after another one there is no way back
