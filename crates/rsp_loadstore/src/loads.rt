@@ -1,7 +1,8 @@
-ghost use Rattle.std.specs.Prelude.{◌≡◌, ◌<◌, ◌≤◌, ◌+◌, ◌-◌, ◌*◌, ◌/◌, ◌%◌, min};
+ghost use Rattle.std.specs.Prelude.{◌≡◌, ◌<◌, ◌≤◌, ◌+◌, ◌-◌, min};
 ghost use Rattle.rsp_decode.specs.Table.{IsInstruction};
+ghost use Rattle.rsp_decode.specs.declared.inst.VectorLoadRow.TheVariants.{Lhv, Lfv, Ltv};
 ghost use Rattle.rsp_loadstore.specs.Loads.{to_byte, to_lane, after_load, load_pairs, loaded_file, IsLoadElement};
-ghost use Rattle.rsp_loadstore.specs.Pairs.{for_each, block, place};
+ghost use Rattle.rsp_loadstore.specs.Pairs.{for_each, place};
 
 use crate::VFile;
 use rsp_decode::{Inst, VectorLoadRow};
@@ -46,7 +47,7 @@ fn load_row(row: VectorLoadRow, vt: u8, e: usize, a: u32, memory: &SpMem, file: 
         VectorLoadRow::Lpv => load_packed(vt, 256, e, a, memory, file),
         VectorLoadRow::Luv => load_packed(vt, 128, e, a, memory, file),
         VectorLoadRow::Lhv => load_halves(vt, e, a, memory, file),
-        VectorLoadRow::Lfv => load_fourths(vt, e / 2, a, memory, file),
+        VectorLoadRow::Lfv => load_fourths(vt, e, a, memory, file),
         VectorLoadRow::Ltv => load_transposed(vt, e, a, memory, file),
     }
 }
@@ -64,7 +65,7 @@ fn load_bytes(vt: u8, i: usize, n: usize, a: u32, memory: &SpMem, file: &mut VFi
     file.set_reg(vt, v.with_bytes(memory.window(a), i as u8, n as u8));
 }
 
-/// Loads the eight lanes of a register, each with a byte of a block, times a factor.
+/// LPV and LUV: loads the eight lanes of a register, with the bytes of a block, times a factor.
 #[inline(always)]
 fn load_packed(vt: u8, factor: u16, e: usize, a: u32, memory: &SpMem, file: &mut VFile)
     requires register { vt < 32 }
@@ -78,12 +79,12 @@ fn load_packed(vt: u8, factor: u16, e: usize, a: u32, memory: &SpMem, file: &mut
     file.set_reg(vt, VReg::from_spaced(window, start, 1, factor));
 }
 
-/// Loads the eight lanes of a register, each with every second byte of a block, times 128.
+/// LHV: loads the eight lanes of a register, with every second byte of a block, times 128.
 #[inline(always)]
 fn load_halves(vt: u8, e: usize, a: u32, memory: &SpMem, file: &mut VFile)
     requires register { vt < 32 }
     requires element { e < 16 }
-    ensures { file.new ≡ after_load memory.now file.old (for_each 8 (λ j. to_lane vt j 128 (place a (16 - e + 2 * j)))) }
+    ensures { file.new ≡ after_load memory.now file.old (load_pairs Lhv vt e a) }
 {
     file.ranges();
     let window = memory.window(a - a % 8);
@@ -91,26 +92,27 @@ fn load_halves(vt: u8, e: usize, a: u32, memory: &SpMem, file: &mut VFile)
     file.set_reg(vt, VReg::from_spaced(window, start, 2, 128));
 }
 
-/// Loads four lanes of a register, each with every fourth byte of a block, times 128.
+/// LFV: loads four lanes of a register, with every fourth byte of a block, times 128.
 #[inline]
-#[tactic(auto, using(crate::proofs::Pairs::loads), unfolding(crate::specs::Loads::loaded))]
-fn load_fourths(vt: u8, first: usize, a: u32, memory: &SpMem, file: &mut VFile)
+#[tactic(auto, using(crate::proofs::Pairs::loads), unfolding(crate::specs::Loads::loaded, crate::specs::Loads::load_pairs))]
+fn load_fourths(vt: u8, e: usize, a: u32, memory: &SpMem, file: &mut VFile)
     requires register { vt < 32 }
-    requires lane { first ≤ 4 }
-    ensures { file.new ≡ after_load memory.now file.old (for_each 4 (λ j. to_lane vt (first + j) 128 (place a (4 * j)))) }
+    requires element { e ≤ 8 }
+    ensures { file.new ≡ after_load memory.now file.old (load_pairs Lfv vt e a) }
 {
     let block = a - a % 8;
     for j in 0..4 {
         let byte = memory.byte(block.wrapping_add((a % 8 + 4 * j as u32) % 16));
-        file.set_lane(vt, first + j, u16::from(byte) * 128);
+        file.set_lane(vt, e / 2 + j, u16::from(byte) * 128);
     }
 }
 
-/// Loads two bytes of each of eight registers: a lane of each.
+/// LTV: loads two bytes of each of eight registers, a lane of each.
+#[tactic(auto, unfolding(crate::specs::Loads::load_pairs))]
 fn load_transposed(vt: u8, e: usize, a: u32, memory: &SpMem, file: &mut VFile)
     requires register { vt < 32 }
     requires element { e < 16 }
-    ensures { file.new ≡ after_load memory.now file.old (for_each 16 (λ k. to_byte (vt - vt % 8 + (e / 2 + k / 2) % 8) k (block a + (k + e + a / 8 % 2 * 8) % 16))) }
+    ensures { file.new ≡ after_load memory.now file.old (load_pairs Ltv vt e a) }
 {
     let first = (e as u32 + a / 8 % 2 * 8) as u8;
     let window = memory.window(a - a % 8);

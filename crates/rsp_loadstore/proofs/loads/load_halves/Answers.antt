@@ -1,8 +1,10 @@
 use Rattle.std.proofs.Common.{◌+◌, ◌-◌, ◌*◌, ◌%◌, ◌∙◌, arith}
+use Rattle.rsp_loadstore.specs.Loads.{load_pairs}
 use Rattle.rsp_loadstore.proofs.Placed.{spaced_loaded}
 use Rattle.rsp_loadstore.proofs.loads.load_halves.Goals as goal
 
 pub returns : goal.returns
+unfolding load_pairs
 returns c =
     c.set_reg.ensures ∙ rw (c.from_spaced.ensures, c.window-window.ensures)
     (spaced_loaded c.args.memory.now c.args.file.now c.args.vt 128 (c.args.a % 8 + 16 - c.args.e) 2 c.args.a (λ j. 16 - c.args.e + 2 * j)
