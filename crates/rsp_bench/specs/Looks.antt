@@ -2,8 +2,8 @@
 use Rattle.std.specs.Prelude.{ℕ, ℤ, ◌+◌, ◌*◌, ◌/◌, List, [], ◌∷◌, ◌++◌, take, drop, length, codes, slice_index, if◌then◌else◌}
 use Rattle.std.specs.List.{flat_map}
 use Rattle.rsp_scalar.specs.Registers.{register}
-use Rattle.rsp_loadstore.specs.File.{register as vector}
-use Rattle.rsp_loadstore.specs.Controls.{joined}
+use Rattle.rsp_loadstore.specs.File.{vector}
+use Rattle.rsp_loadstore.specs.Controls.{control_half}
 use Rattle.rsp_flags.specs.declared.flags.Flags.{Flags}
 use Rattle.rsp_divide.specs.declared.divider.Divider.{Divider}
 use Rattle.rsp_numbers.specs.Numbers.{number, high, middle, low}
@@ -77,6 +77,6 @@ accumulators_text xs =
 -- the control registers, and the divider
 unfoldable pub flags_text : Flags → Divider → List ℕ
 flags_text f d =
-    codes "vco " ++ hex_text 4 (joined f.carry f.differ) ++ codes " vcc " ++ hex_text 4 (joined f.compare f.clip)
+    codes "vco " ++ hex_text 4 (control_half f.carry f.differ) ++ codes " vcc " ++ hex_text 4 (control_half f.compare f.clip)
     ++ codes " vce " ++ hex_text 2 (mask_l f.extra) ++ codes " in " ++ hex_text 4 d.input ++ codes " out " ++ hex_text 4 d.output
     ++ codes " loaded " ++ (if d.loaded then 49 else 48) ∷ 10 ∷ []

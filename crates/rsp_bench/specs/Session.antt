@@ -18,7 +18,7 @@ use Rattle.rsp_block.specs.Fault.{hides_no_fault}
 use Rattle.rsp_regs.specs.Sp.{peeked}
 use Rattle.rsp_machine.specs.State.{State, start_of}
 use Rattle.rsp_machine.specs.Step.{step_of}
-use Rattle.rsp_machine.specs.Host.{is_inside, loaded, register_written, placed, task_fault, tasked}
+use Rattle.rsp_machine.specs.Host.{is_inside, loaded, register_written, with_pc, task_fault, tasked}
 use Rattle.rsp_machine.specs.declared.host.TaskFault.{TaskFault}
 use Rattle.rsp_debug.specs.Debugging.{Debugging, debugging_of, stepped, stop_in, ran, broken_at, unbroken_at, watching, unwatching, gone_back, resumed, read_from}
 use Rattle.rsp_debug.specs.Stops.{is_break}
@@ -144,7 +144,7 @@ plain_outcome (Unwatch k) s = unwatch_outcome k s
 plain_outcome (Back n) s = back_outcome (back_fault n s.debugging.past) n s
 plain_outcome (Read n) s = read_outcome n s
 plain_outcome (Write n value) s = moved ok_text (register_written n value s.debugging.state) s
-plain_outcome (SetPc place) s = moved ok_text (placed place s.debugging.state) s
+plain_outcome (SetPc place) s = moved ok_text (with_pc place s.debugging.state) s
 plain_outcome (Task a) s = task_outcome (task_fault a s.debugging.state.rdram) a s
 plain_outcome (Show look) s = same (look_text look s.debugging.state) s
 plain_outcome (Asm place) s = with_block (opened place) s

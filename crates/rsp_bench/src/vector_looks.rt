@@ -1,8 +1,8 @@
 ghost use Rattle.std.specs.Prelude.{◌≡◌, ℕ, ◌+◌, ◌*◌, ◌<◌, ◌≤◌, ◌++◌, List, length, slice_index};
-ghost use Rattle.rsp_loadstore.specs.File.{register as vector};
+ghost use Rattle.rsp_loadstore.specs.File.{vector};
 ghost use Rattle.rsp_reply.specs.Text.{each_text};
 ghost use Rattle.rsp_bench.specs.Looks.{half_text, vector_line, vectors_text, accumulator_line, accumulators_text, flags_text};
-ghost use Rattle.rsp_loadstore.specs.Controls.{joined};
+ghost use Rattle.rsp_loadstore.specs.Controls.{control_half};
 
 use rsp_acc::Acc;
 use rsp_debug::Debugger;
@@ -106,8 +106,8 @@ pub(crate) fn accumulators<A: Acc>(debugger: &Debugger<A>) -> Reply
     reply
 }
 
-fn joined(low: Mask8, high: Mask8) -> u64
-    ensures { result ≡ joined low high }
+fn control_half(low: Mask8, high: Mask8) -> u64
+    ensures { result ≡ control_half low high }
 {
     low.bits() + high.bits() * 256
 }
@@ -119,9 +119,9 @@ pub(crate) fn flags_and_divider(flags: &Flags, divider: &Divider) -> Reply
 {
     let mut reply = Reply::new();
     reply.push_text(b"vco ");
-    reply.push_hex(joined(flags.carry, flags.differ), 4);
+    reply.push_hex(control_half(flags.carry, flags.differ), 4);
     reply.push_text(b" vcc ");
-    reply.push_hex(joined(flags.compare, flags.clip), 4);
+    reply.push_hex(control_half(flags.compare, flags.clip), 4);
     reply.push_text(b" vce ");
     reply.push_hex(flags.extra.bits(), 2);
     reply.push_text(b" in ");

@@ -2,7 +2,7 @@
 
 ghost use Rattle.std.specs.Prelude.{◌≡◌, ◌<◌, ◌%◌, ◌↔◌, Some, None, length, OnOk, OnErr, IsOk, IsTrue, MatchResult};
 ghost use Rattle.rsp_regs.specs.Sp.{peeked};
-ghost use Rattle.rsp_machine.specs.Host.{register_written, is_inside, loaded, task_fault, tasked, placed};
+ghost use Rattle.rsp_machine.specs.Host.{register_written, is_inside, loaded, task_fault, tasked, with_pc};
 ghost use Rattle.rsp_debug.specs.Debugging.{resumed, read_from};
 
 use crate::debugger::Debugger;
@@ -37,7 +37,7 @@ impl<A: Acc> Debugger<A> {
     pub fn set_pc(&mut self, pc: u16)
         requires below { pc < 4096 }
         requires whole { pc % 4 ≡ 0 }
-        ensures { self.new ≡ resumed (placed pc self.old.state) self.old }
+        ensures { self.new ≡ resumed (with_pc pc self.old.state) self.old }
     {
         self.past.clear();
         self.machine.set_pc(pc);

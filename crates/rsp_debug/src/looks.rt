@@ -7,7 +7,7 @@ ghost use Rattle.rsp_lanes.specs.Lanes.{each_lane};
 ghost use Rattle.rsp_acc.specs.declared.parts.Part.TheVariants as part;
 ghost use Rattle.rsp_memory.specs.Memory.{word_at};
 ghost use Rattle.rsp_scalar.specs.Registers.{register};
-ghost use Rattle.rsp_loadstore.specs.File.{register as vector};
+ghost use Rattle.rsp_loadstore.specs.File.{vector};
 ghost use Rattle.rsp_machine.specs.Host.{is_inside};
 ghost use Rattle.rsp_debug.specs.Looks.{bank_byte, memory_of, listed_at, listing_of};
 

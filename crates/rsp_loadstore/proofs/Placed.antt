@@ -1,6 +1,5 @@
 -- Bytes that are loaded one by one are placed in the register at once.
-use Rattle.std.proofs.Common.{◌≡◌, ◌≢◌, ℕ, zero, suc, ◌+◌, ◌-◌, ◌*◌, ◌/◌, ◌%◌, ◌<◌, ◌≤◌, ◌&&◌, min, List, [], false, if◌then◌else◌, nat_le, nat_lt, nat_eq, length, get_or, set, map, refl, sym, ap, ◌∙◌, arith, inl, inr, mul_comm}
-use Rattle.std.specs.List.{range_with_len}
+use Rattle.std.proofs.Common.{◌≡◌, ◌≢◌, ℕ, zero, suc, ◌+◌, ◌-◌, ◌*◌, ◌/◌, ◌%◌, ◌<◌, ◌≤◌, ◌&&◌, min, List, [], false, if◌then◌else◌, nat_le, nat_lt, nat_eq, length, get_or, set, refl, sym, ap, ◌∙◌, arith, inl, inr}
 use Rattle.std.proofs.lemmas.Bool.{cases_eq}
 use Rattle.std.proofs.lemmas.Bool.Decides.{nat_tests}
 use Rattle.std.proofs.lemmas.List.{set-set, get_or-set_same, set-get_or}
@@ -8,33 +7,34 @@ use Rattle.rsp_memory.specs.Memory.{byte_at, bytes_at}
 use Rattle.rsp_lanes.specs.Lanes.{each_lane, register_byte, with_register_byte}
 use Rattle.rsp_lanes.specs.Bytes.{of_bytes, with_register_bytes}
 use Rattle.rsp_lanes.proofs.Kit.{eta, each_same, lane_of, below_eight}
-use Rattle.rsp_loadstore.specs.File.{register, with_register}
-use Rattle.rsp_loadstore.specs.Loads.{Load, to_byte, to_lane, loaded, after_load, bytes, lanes, spaced}
+use Rattle.rsp_loadstore.specs.File.{vector, with_vector}
+use Rattle.rsp_loadstore.specs.Loads.{Load, to_byte, to_lane, loaded, after_load}
+use Rattle.rsp_loadstore.specs.Pairs.{for_each, block, place}
 use Rattle.rsp_loadstore.proofs.Pairs.{load_none, load_more}
 
 -- a register that was written is read and written again
-same_register : (file : List (List ℕ)) (n : ℕ) → with_register file n (register file n) ≡ file
-unfolding with_register register
+same_register : (file : List (List ℕ)) (n : ℕ) → with_vector file n (vector file n) ≡ file
+unfolding with_vector vector
 same_register file n = set-get_or file n []
 
 pub register_again : (file : List (List ℕ)) (n : ℕ) (v w : List ℕ) → n < length file
-    → (register (with_register file n v) n ≡ v) × (with_register (with_register file n v) n w ≡ with_register file n w)
-unfolding with_register register
+    → (vector (with_vector file n v) n ≡ v) × (with_vector (with_vector file n v) n w ≡ with_vector file n w)
+unfolding with_vector vector
 register_again file n v w h = (get_or-set_same file n v [] h, set-set file n v w)
 
 -- where each pair changes one register alone, the register's states tell what becomes of the file
 pub one_register : (m : List ℕ) (file : List (List ℕ)) (vt n : ℕ) (f : ℕ → Load) (step : List ℕ → ℕ → List ℕ) (states : ℕ → List ℕ)
     → vt < length file
-    → ((file : List (List ℕ)) (k : ℕ) → loaded m file (f k) ≡ with_register file vt (step (register file vt) k))
-    → states 0 ≡ register file vt → ((k : ℕ) → k < n → states (k + 1) ≡ step (states k) k)
-    → after_load m file (map f (range_with_len 0 n)) ≡ with_register file vt (states n)
-one_register m file vt zero f step states h one first more = load_none m file ∙ sym (same_register file vt) ∙ ap (with_register file vt) (sym first)
+    → ((file : List (List ℕ)) (k : ℕ) → loaded m file (f k) ≡ with_vector file vt (step (vector file vt) k))
+    → states 0 ≡ vector file vt → ((k : ℕ) → k < n → states (k + 1) ≡ step (states k) k)
+    → after_load m file (for_each n f) ≡ with_vector file vt (states n)
+one_register m file vt zero f step states h one first more = load_none m file f ∙ sym (same_register file vt) ∙ ap (with_vector file vt) (sym first)
 one_register m file vt (suc n) f step states h one first more =
-    let ih : after_load m file (map f (range_with_len 0 n)) ≡ with_register file vt (states n) = one_register m file vt n f step states h one first (λ k l. more k (omega arith)) in
+    let ih : after_load m file (for_each n f) ≡ with_vector file vt (states n) = one_register m file vt n f step states h one first (λ k l. more k (omega arith)) in
     let e : suc n ≡ n + 1 = omega arith in
     let again = register_again file vt (states n) (step (states n) n) h in
-    ap (λ k. after_load m file (map f (range_with_len 0 k))) e ∙ load_more m file f n
-    ∙ rw (ih, one (with_register file vt (states n)) n, again.0, again.1) (ap (with_register file vt) (sym (ap states e ∙ more n (omega arith))))
+    ap (λ k. after_load m file (for_each k f)) e ∙ load_more m file f n
+    ∙ rw (ih, one (with_vector file vt (states n)) n, again.0, again.1) (ap (with_vector file vt) (sym (ap states e ∙ more n (omega arith))))
 
 -- a lane of a list that was made lane by lane
 set_each : (f : ℕ → ℕ) (j y : ℕ) → j < 8 → set (each_lane f) j y ≡ each_lane (λ l. if nat_eq l j then y else f l)
@@ -135,13 +135,13 @@ placed_room v source i n = each_same _ _ (λ l h. rw (room (2 * l) (omega arith)
     room : (k : ℕ) → k < 16 → placed_byte v source i n k ≡ placed_byte v source i (min n (16 - i)) k
     room k h = grind (arith, nat_tests)
 
-pub placed_loaded : (m : List ℕ) (file : List (List ℕ)) (vt i n a : ℕ) → vt < length file → length (register file vt) ≡ 8 → n ≤ 16
-    → with_register file vt (with_register_bytes (register file vt) (bytes_at m a 16) i n) ≡ after_load m file (bytes vt i (min n (16 - i)) a)
-unfolding bytes loaded
+pub placed_loaded : (m : List ℕ) (file : List (List ℕ)) (vt i n a : ℕ) → vt < length file → length (vector file vt) ≡ 8 → n ≤ 16
+    → with_vector file vt (with_register_bytes (vector file vt) (bytes_at m a 16) i n) ≡ after_load m file (for_each (min n (16 - i)) (λ k. to_byte vt (i + k) (a + k)))
+unfolding loaded
 placed_loaded m file vt i n a h l k =
-    let v = register file vt in
+    let v = vector file vt in
     let w = bytes_at m a 16 in
-    ap (with_register file vt) (placed_room v w i n)
+    ap (with_vector file vt) (placed_room v w i n)
     ∙ sym (one_register m file vt (min n (16 - i)) (λ k. to_byte vt (i + k) (a + k)) (λ v k. with_register_byte v (i + k) (byte_at m (a + k))) (with_register_bytes v w i)
     h (λ _ _. refl) (placed_none v w i l)
     (λ k lt. placed_more v w i k (omega arith) ∙ ap (with_register_byte (with_register_bytes v w i k) (i + k)) (window_byte m a 16 k (omega arith))))
@@ -162,17 +162,18 @@ given_more value v n h = sym (set_each (λ j. if nat_lt j n then value j else ge
 given_all : (value : ℕ → ℕ) (v : List ℕ) → first_given value v 8 ≡ each_lane value
 given_all value v = each_same _ _ (λ j l. grind (arith, nat_tests))
 
-pub spaced_loaded : (m : List ℕ) (file : List (List ℕ)) (vt factor start stride block : ℕ) → vt < length file → length (register file vt) ≡ 8
-    → with_register file vt (each_lane (λ j. get_or (bytes_at m block 16) ((start + j * stride) % 16) 0 * factor)) ≡ after_load m file (lanes vt (spaced 0 8 factor start stride) block)
-unfolding lanes loaded
-spaced_loaded m file vt factor start stride block h l =
-    ap (with_register file vt) (each_same _ _ (λ j k. ap (λ b. b * factor) (byte j)) ∙ sym (given_all value (register file vt)))
-    ∙ sym (one_register m file vt 8 (λ j. to_lane vt (0 + j) factor (block + (start + stride * j) % 16)) (λ v j. set v (0 + j) (value j)) (first_given value (register file vt))
-    h (λ _ _. refl) (given_none value (register file vt) l)
-    (λ k lt. given_more value (register file vt) k lt ∙ ap (λ n. set (first_given value (register file vt) k) n (value k)) (omega arith)))
+pub spaced_loaded : (m : List ℕ) (file : List (List ℕ)) (vt factor start stride a : ℕ) (step : ℕ → ℕ) → vt < length file → length (vector file vt) ≡ 8
+    → ((j : ℕ) → (start + j * stride) % 16 ≡ (a % 8 + step j) % 16)
+    → with_vector file vt (each_lane (λ j. get_or (bytes_at m (block a) 16) ((start + j * stride) % 16) 0 * factor))
+    ≡ after_load m file (for_each 8 (λ j. to_lane vt j factor (place a (step j))))
+unfolding loaded
+spaced_loaded m file vt factor start stride a step h l at =
+    ap (with_vector file vt) (each_same _ _ (λ j k. ap (λ b. b * factor) (byte j)) ∙ sym (given_all value (vector file vt)))
+    ∙ sym (one_register m file vt 8 (λ j. to_lane vt j factor (place a (step j))) (λ v j. set v j (value j)) (first_given value (vector file vt))
+    h (λ _ _. refl) (given_none value (vector file vt) l) (λ k lt. given_more value (vector file vt) k lt))
   where
     value : ℕ → ℕ
-    value j = byte_at m (block + (start + stride * j) % 16) * factor
+    value j = byte_at m (place a (step j)) * factor
 
-    byte : (j : ℕ) → get_or (bytes_at m block 16) ((start + j * stride) % 16) 0 ≡ byte_at m (block + (start + stride * j) % 16)
-    byte j = window_byte m block 16 ((start + j * stride) % 16) (omega arith) ∙ ap (λ p. byte_at m (block + (start + p) % 16)) (mul_comm j stride)
+    byte : (j : ℕ) → get_or (bytes_at m (block a) 16) ((start + j * stride) % 16) 0 ≡ byte_at m (place a (step j))
+    byte j = window_byte m (block a) 16 ((start + j * stride) % 16) (omega arith) ∙ ap (λ p. byte_at m (block a + p)) (at j)

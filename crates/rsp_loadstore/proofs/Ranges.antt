@@ -4,7 +4,7 @@ use Rattle.std.proofs.Math.ListN.{set}
 use Rattle.std.proofs.lemmas.List.{get_or-replicate, length-set, get_or-set_same, get_or-set_other}
 use Rattle.std.proofs.lemmas.Bool.{cases_eq}
 use Rattle.rsp_lanes.specs.Lanes.{each_lane, IsVector}
-use Rattle.rsp_loadstore.specs.File.{IsFile, register}
+use Rattle.rsp_loadstore.specs.File.{IsFile, vector}
 
 zeros : (n i : ℕ) → slice_index (replicate n 0) i < 65536
 zeros zero i = omega arith
@@ -16,13 +16,13 @@ unfolding each_lane
 zero_lanes = (refl, zeros 8)
 
 pub file_of_zeros : (v : List ℕ) → v ≡ each_lane (λ _. 0) → IsFile (replicate 32 v)
-unfolding register
+unfolding vector
 file_of_zeros v e =
     let k = subst IsVector (sym e) zero_lanes in
     record { count = refl; registers = λ n h. rw (get_or-replicate 32 n v [] h) k }
 
-registers_set : (file : List (List ℕ)) (n : ℕ) (v : List ℕ) → n < length file → IsVector v → ((i : ℕ) → i < 32 → IsVector (register file i)) → (i : ℕ) → i < 32 → IsVector (register (set file n v) i)
-unfolding register
+registers_set : (file : List (List ℕ)) (n : ℕ) (v : List ℕ) → n < length file → IsVector v → ((i : ℕ) → i < 32 → IsVector (vector file i)) → (i : ℕ) → i < 32 → IsVector (vector (set file n v) i)
+unfolding vector
 registers_set file n v below k all i h =
     elim (cases_eq i n) [
       | inl e ↦ rw (e, get_or-set_same file n v [] below) k

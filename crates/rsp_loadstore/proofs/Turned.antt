@@ -11,8 +11,9 @@ use Rattle.rsp_lanes.specs.Lanes.{each_lane, register_byte}
 use Rattle.rsp_lanes.specs.Bytes.{each_byte}
 use Rattle.rsp_lanes.proofs.Kit.{below_eight, lane_of}
 use Rattle.rsp_lanes.proofs.ByteOrder.{each_byte_same}
-use Rattle.rsp_loadstore.specs.File.{register}
-use Rattle.rsp_loadstore.specs.Stores.{Store, from_byte, stored, after_store, rotated, transposed}
+use Rattle.rsp_loadstore.specs.File.{vector}
+use Rattle.rsp_loadstore.specs.Stores.{Store, from_byte, stored, after_store}
+use Rattle.rsp_loadstore.specs.Pairs.{for_each, block, place}
 
 -- two runs that have no place in common can be exchanged
 byte_past : (m : List ℕ) (p q b c : ℕ) → p % 4096 ≢ q % 4096 → with_byte (with_byte m p b) q c ≡ with_byte (with_byte m q c) p b
@@ -71,8 +72,8 @@ turned_parts f s h = elim (cases_lt s 8) [
 -- sixteen pairs that store among sixteen places, from the place s on, modulo 16
 pub turned_stored : (file : List (List ℕ)) (m : List ℕ) (pair : ℕ → Store) (f : ℕ → ℕ) (block s : ℕ) → s < 16
     → ((m : List ℕ) (k : ℕ) → stored file m (pair k) ≡ with_byte m (block + (s + k) % 16) (f k))
-    → with_bytes m block (each_byte (λ p. f ((p + (16 - s)) % 16))) ≡ after_store file m (map pair (range_with_len 0 16))
-unfolding after_store
+    → with_bytes m block (each_byte (λ p. f ((p + (16 - s)) % 16))) ≡ after_store file m (for_each 16 pair)
+unfolding after_store for_each
 turned_stored file m pair f block s h each =
     let front : List ℕ = map f (range_with_len 0 (16 - s)) in
     let back : List ℕ = map f (range_with_len (16 - s) s) in
@@ -93,32 +94,32 @@ turned_stored file m pair f block s h each =
     ∙ sym (ap (after_store file m) (parts pair s h) ∙ fold-append (stored file) m (map pair (range_with_len 0 (16 - s))) (map pair (range_with_len (16 - s) s)))
 
 pub rotated_stored : (file : List (List ℕ)) (m : List ℕ) (vt e a : ℕ)
-    → with_bytes m (a - a % 8) (each_byte (λ k. register_byte (register file vt) ((e + (16 - a % 8) + k) % 16))) ≡ after_store file m (rotated vt e a 16)
-unfolding rotated stored
+    → with_bytes m (block a) (each_byte (λ k. register_byte (vector file vt) ((e + (16 - a % 8) + k) % 16))) ≡ after_store file m (for_each 16 (λ j. from_byte vt ((e + j) % 16) (place a j)))
+unfolding stored
 rotated_stored file m vt e a =
-    ap (with_bytes m (a - a % 8)) (each_byte_same _ _ (λ k h. ap (register_byte (register file vt)) (omega arith)))
-    ∙ turned_stored file m (λ j. from_byte vt ((e + j) % 16) (a - a % 8 + (a % 8 + j) % 16)) (λ k. register_byte (register file vt) ((e + k) % 16)) (a - a % 8) (a % 8) (omega arith) (λ _ _. refl)
+    ap (with_bytes m (block a)) (each_byte_same _ _ (λ k h. ap (register_byte (vector file vt)) (omega arith)))
+    ∙ turned_stored file m (λ j. from_byte vt ((e + j) % 16) (place a j)) (λ k. register_byte (vector file vt) ((e + k) % 16)) (block a) (a % 8) (omega arith) (λ _ _. refl)
 
 -- byte q of the lanes that a transposed store takes from eight registers
 diagonal_byte : (file : List (List ℕ)) (base e q : ℕ) → q < 16 → e < 16
-    → register_byte (each_lane (λ l. get_or (register file (base + l)) ((8 - e / 2 + l) % 8) 0)) q ≡ register_byte (register file (base + q / 2)) ((q + 16 - (e - e % 2)) % 16)
+    → register_byte (each_lane (λ l. get_or (vector file (base + l)) ((8 - e / 2 + l) % 8) 0)) q ≡ register_byte (vector file (base + q / 2)) ((q + 16 - (e - e % 2)) % 16)
 unfolding register_byte
 diagonal_byte file base e q h k =
-    let lane = lane_of 0 (λ l. get_or (register file (base + l)) ((8 - e / 2 + l) % 8) 0) _ refl (q / 2) (omega arith) in
+    let lane = lane_of 0 (λ l. get_or (vector file (base + l)) ((8 - e / 2 + l) % 8) 0) _ refl (q / 2) (omega arith) in
     let p : (q + 16 - (e - e % 2)) % 16 % 2 ≡ q % 2 = omega arith in
     let l : (q + 16 - (e - e % 2)) % 16 / 2 ≡ (8 - e / 2 + q / 2) % 8 = omega arith in
     rw (lane, p, l) refl
 
 pub transposed_stored : (file : List (List ℕ)) (m : List ℕ) (vt e a : ℕ) → e < 16
-    → with_bytes m (a - a % 8) (each_byte (λ k. register_byte (each_lane (λ l. get_or (register file (vt - vt % 8 + l)) ((8 - e / 2 + l) % 8) 0)) ((e - e % 2 + (16 - a % 8) + k) % 16)))
-    ≡ after_store file m (transposed vt e a 16)
-unfolding transposed stored
+    → with_bytes m (block a) (each_byte (λ k. register_byte (each_lane (λ l. get_or (vector file (vt - vt % 8 + l)) ((8 - e / 2 + l) % 8) 0)) ((e - e % 2 + (16 - a % 8) + k) % 16)))
+    ≡ after_store file m (for_each 16 (λ k. from_byte (vt - vt % 8 + k / 2) ((k + 16 - (e - e % 2)) % 16) (place a (16 - (e - e % 2) + k))))
+unfolding stored
 transposed_stored file m vt e a h =
-    ap (with_bytes m (a - a % 8)) (each_byte_same _ _ (λ k l.
+    ap (with_bytes m (block a)) (each_byte_same _ _ (λ k l.
     let q : (e - e % 2 + (16 - a % 8) + k) % 16 ≡ (k + (16 - (a % 8 + 16 - (e - e % 2)) % 16)) % 16 = omega arith in
     rw q (diagonal_byte file (vt - vt % 8) e ((k + (16 - (a % 8 + 16 - (e - e % 2)) % 16)) % 16) (omega arith) h)))
     ∙ turned_stored file m
-    (λ k. from_byte (vt - vt % 8 + k / 2) ((k + 16 - (e - e % 2)) % 16) (a - a % 8 + (a % 8 + 16 - (e - e % 2) + k) % 16))
-    (λ k. register_byte (register file (vt - vt % 8 + k / 2)) ((k + 16 - (e - e % 2)) % 16))
-    (a - a % 8) ((a % 8 + 16 - (e - e % 2)) % 16) (omega arith)
-    (λ m k. ap (λ p. with_byte m (a - a % 8 + p) (register_byte (register file (vt - vt % 8 + k / 2)) ((k + 16 - (e - e % 2)) % 16))) (omega arith))
+    (λ k. from_byte (vt - vt % 8 + k / 2) ((k + 16 - (e - e % 2)) % 16) (place a (16 - (e - e % 2) + k)))
+    (λ k. register_byte (vector file (vt - vt % 8 + k / 2)) ((k + 16 - (e - e % 2)) % 16))
+    (block a) ((a % 8 + 16 - (e - e % 2)) % 16) (omega arith)
+    (λ m k. ap (λ p. with_byte m (block a + p) (register_byte (vector file (vt - vt % 8 + k / 2)) ((k + 16 - (e - e % 2)) % 16))) (omega arith))

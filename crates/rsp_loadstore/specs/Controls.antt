@@ -11,9 +11,9 @@ use Rattle.rsp_decode.specs.declared.inst.MoveRow.TheVariants.{From, To}
 use Rattle.rsp_decode.specs.declared.inst.Control.{Control}
 use Rattle.rsp_decode.specs.declared.inst.Control.TheVariants.{Vco, Vcc, Vce}
 
--- eight marks in bits 0 to 7, and eight in bits 8 to 15
-abbrev pub joined : List Bool → List Bool → ℕ
-joined low high = mask_l low + mask_l high * 256
+-- the sixteen bits of VCO or of VCC: eight marks in bits 0 to 7, and eight in bits 8 to 15
+abbrev pub control_half : List Bool → List Bool → ℕ
+control_half low high = mask_l low + mask_l high * 256
 
 -- bits 0 to 7 of a number as marks
 abbrev pub marks : ℕ → List Bool
@@ -21,8 +21,8 @@ marks n = each_lane (λ i. bit_set n i)
 
 -- a control register as a number of 32 bits: VCO and VCC are signed, VCE is not
 abbrev pub control_word : Control → Flags → ℕ
-control_word Vco f = extended w16 (joined f.carry f.differ)
-control_word Vcc f = extended w16 (joined f.compare f.clip)
+control_word Vco f = extended w16 (control_half f.carry f.differ)
+control_word Vcc f = extended w16 (control_half f.compare f.clip)
 control_word Vce f = mask_l f.extra
 
 -- the flags after a write of a control register

@@ -7,18 +7,18 @@ unfoldable pub empty_file : List (List ℕ)
 empty_file = replicate 32 (each_lane (λ _. 0))
 
 -- register n
-unfoldable pub register : List (List ℕ) → ℕ → List ℕ
-register file n = slice_index_or file n []
+unfoldable pub vector : List (List ℕ) → ℕ → List ℕ
+vector file n = slice_index_or file n []
 
 -- the registers' ranges
 pub record IsFile (file : List (List ℕ)) : Type 0 where
   pub count : length file ≡ 32
-  pub registers : (n : ℕ) → n < 32 → IsVector (register file n)
+  pub registers : (n : ℕ) → n < 32 → IsVector (vector file n)
 
 -- the registers after a write of register n
-unfoldable pub with_register : List (List ℕ) → ℕ → List ℕ → List (List ℕ)
-with_register file n v = slice_set file n v
+unfoldable pub with_vector : List (List ℕ) → ℕ → List ℕ → List (List ℕ)
+with_vector file n v = slice_set file n v
 
 -- bits 14 to 7 of the sixteen bits at bytes i and i + 1, modulo 16
-unfoldable pub middle : List ℕ → ℕ → ℕ
-middle v i = (register_byte v i * 256 + register_byte v ((i + 1) % 16)) / 128 % 256
+unfoldable pub bits_14_to_7 : List ℕ → ℕ → ℕ
+bits_14_to_7 v i = (register_byte v i * 256 + register_byte v ((i + 1) % 16)) / 128 % 256

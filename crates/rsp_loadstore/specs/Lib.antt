@@ -1,6 +1,7 @@
 -- Vector registers, vector loads and stores, and moves.
 pub mod File
 pub mod Addresses
+pub mod Pairs
 pub mod Loads
 pub mod Stores
 pub mod Moves

@@ -6,7 +6,7 @@ use Rattle.rsp_lanes.specs.Lanes.{register_byte, with_register_byte}
 use Rattle.rsp_decode.specs.declared.inst.Inst.{Inst}
 use Rattle.rsp_decode.specs.declared.inst.Inst.TheVariants.{MoveVector}
 use Rattle.rsp_decode.specs.declared.inst.MoveRow.TheVariants.{From, To}
-use Rattle.rsp_loadstore.specs.File.{register, with_register}
+use Rattle.rsp_loadstore.specs.File.{vector, with_vector}
 
 -- the sixteen bits at bytes e and e + 1, modulo 16
 unfoldable pub register_half : List ℕ → ℕ → ℕ
@@ -20,11 +20,10 @@ with_register_half v e value =
 
 -- what MFC2 reads; for another instruction 0
 unfoldable pub moved_value : Inst → List (List ℕ) → ℕ
-moved_value (MoveVector From rt vector element) file = extended w16 (register_half (register file vector) element)
+moved_value (MoveVector From rt n element) file = extended w16 (register_half (vector file n) element)
 moved_value _ file = 0
 
 -- the registers after MTC2 of a value; another instruction changes none
 unfoldable pub moved_file : Inst → ℕ → List (List ℕ) → List (List ℕ)
-moved_file (MoveVector To rt vector element) value file =
-    with_register file vector (with_register_half (register file vector) element value)
+moved_file (MoveVector To rt n element) value file = with_vector file n (with_register_half (vector file n) element value)
 moved_file _ value file = file

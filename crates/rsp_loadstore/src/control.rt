@@ -1,15 +1,15 @@
 ghost use Rattle.std.specs.Prelude.{◌≡◌};
 ghost use Rattle.rsp_decode.specs.Table.{IsInstruction};
-ghost use Rattle.rsp_loadstore.specs.Controls.{joined, control_value, controlled_flags};
+ghost use Rattle.rsp_loadstore.specs.Controls.{control_half, control_value, controlled_flags};
 
 use crate::moves::extended;
 use rsp_decode::{Control, Inst, MoveRow};
 use rsp_flags::Flags;
 use rsp_lanes::Mask8;
 
-/// Eight marks in bits 7 to 0, and eight in bits 15 to 8.
-fn joined(low: Mask8, high: Mask8) -> u16
-    ensures { result ≡ joined low high }
+/// The sixteen bits of VCO or of VCC: eight marks in bits 7 to 0, and eight in bits 15 to 8.
+fn control_half(low: Mask8, high: Mask8) -> u16
+    ensures { result ≡ control_half low high }
 {
     (low.bits() + high.bits() * 256) as u16
 }
@@ -26,8 +26,8 @@ pub fn control_from(inst: &Inst, flags: &Flags) -> u32
             control,
             ..
         } => match control {
-            Control::Vco => extended(joined(flags.carry, flags.differ)),
-            Control::Vcc => extended(joined(flags.compare, flags.clip)),
+            Control::Vco => extended(control_half(flags.carry, flags.differ)),
+            Control::Vcc => extended(control_half(flags.compare, flags.clip)),
             Control::Vce => flags.extra.bits() as u32,
         },
         _ => 0,

@@ -1,5 +1,5 @@
-ghost use Rattle.std.specs.Prelude.{◌≡◌, ◌<◌, length, slice_set};
-ghost use Rattle.rsp_loadstore.specs.File.{IsFile, register, with_register, empty_file, middle};
+ghost use Rattle.std.specs.Prelude.{◌≡◌, ◌<◌, slice_set};
+ghost use Rattle.rsp_loadstore.specs.File.{IsFile, vector, with_vector, empty_file, bits_14_to_7};
 
 use rsp_lanes::VReg;
 use std::marker::Model;
@@ -42,21 +42,20 @@ impl VFile {
 
     /// Register `n`, below 32.
     #[inline(always)]
-    #[tactic(auto, using(std::proofs::lemmas::List::get_or_default), unfolding(crate::specs::File::register))]
+    #[tactic(auto, using(std::proofs::lemmas::List::get_or_default), unfolding(crate::specs::File::vector))]
     pub fn reg(&self, n: u8) -> VReg
         requires { n < 32 }
-        ensures value { result ≡ register self.now n }
-        ensures file { length self.now ≡ 32 }
+        ensures { result ≡ vector self.now n }
     {
         self.registers[n as usize]
     }
 
     /// Writes register `n`, below 32; the others stay.
     #[inline(always)]
-    #[tactic(auto, unfolding(crate::specs::File::with_register))]
+    #[tactic(auto, unfolding(crate::specs::File::with_vector))]
     pub fn set_reg(&mut self, n: u8, v: VReg)
         requires { n < 32 }
-        ensures { self.new ≡ with_register self.old n v }
+        ensures { self.new ≡ with_vector self.old n v }
     {
         v.ranges();
         self.registers[n as usize] = v;
@@ -67,7 +66,7 @@ impl VFile {
     pub(crate) fn set_lane(&mut self, n: u8, i: usize, value: u16)
         requires register { n < 32 }
         requires lane { i < 8 }
-        ensures { self.new ≡ with_register self.old n (slice_set (register self.old n) i value) }
+        ensures { self.new ≡ with_vector self.old n (slice_set (vector self.old n) i value) }
     {
         let mut v = self.reg(n);
         v.set_lane(i, value);
@@ -76,11 +75,11 @@ impl VFile {
 
     /// Bits 14 to 7 of the sixteen bits at byte `i` and the next, modulo 16.
     #[inline(always)]
-    #[tactic(auto, unfolding(crate::specs::File::middle))]
-    pub(crate) fn middle(&self, n: u8, i: usize) -> u8
+    #[tactic(auto, unfolding(crate::specs::File::bits_14_to_7))]
+    pub(crate) fn bits_14_to_7(&self, n: u8, i: usize) -> u8
         requires register { n < 32 }
         requires byte { i < 16 }
-        ensures { result ≡ middle (register self.now n) i }
+        ensures { result ≡ bits_14_to_7 (vector self.now n) i }
     {
         let v = self.reg(n);
         let bits = u16::from_be_bytes([v.byte(i), v.byte((i + 1) % 16)]);

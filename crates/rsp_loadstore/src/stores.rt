@@ -1,8 +1,10 @@
 ghost use Rattle.std.specs.Prelude.{◌≡◌, ◌<◌, ◌≤◌, ◌+◌, ◌%◌, slice_index};
 ghost use Rattle.rsp_lanes.specs.Lanes.{each_lane};
-ghost use Rattle.rsp_loadstore.specs.File.{register};
+ghost use Rattle.rsp_loadstore.specs.File.{vector};
 ghost use Rattle.rsp_decode.specs.Table.{IsInstruction};
-ghost use Rattle.rsp_loadstore.specs.Stores.{after_store, store_pairs, stored_memory, run, packed, middles, fourths, rotated, transposed, IsStoreElement};
+ghost use Rattle.rsp_decode.specs.declared.inst.VectorStoreRow.TheVariants.{Spv, Suv, Shv, Sfv, Swv, Stv};
+ghost use Rattle.rsp_loadstore.specs.Stores.{from_byte, after_store, store_pairs, stored_memory, IsStoreElement};
+ghost use Rattle.rsp_loadstore.specs.Pairs.{for_each};
 
 use crate::VFile;
 use rsp_decode::{Inst, VectorStoreRow};
@@ -40,9 +42,9 @@ fn store_row(row: VectorStoreRow, vt: u8, e: usize, a: u32, file: &VFile, memory
         VectorStoreRow::Sqv => store_run(vt, e, 16 - place, a, file, memory),
         VectorStoreRow::Srv => store_run(vt, e + (16 - place), place, a - a % 16, file, memory),
         VectorStoreRow::Spv => store_packed(vt, e, a, file, memory),
-        VectorStoreRow::Suv => store_packed(vt, e + 8, a, file, memory),
-        VectorStoreRow::Shv => store_middles(vt, e, a, file, memory),
-        VectorStoreRow::Sfv => store_fourths(vt, e / 2, a, file, memory),
+        VectorStoreRow::Suv => store_unsigned_packed(vt, e, a, file, memory),
+        VectorStoreRow::Shv => store_halves(vt, e, a, file, memory),
+        VectorStoreRow::Sfv => store_fourths(vt, e, a, file, memory),
         VectorStoreRow::Swv => store_rotated(vt, e, a, file, memory),
         VectorStoreRow::Stv => store_transposed(vt, e, a, file, memory),
     }
@@ -54,27 +56,37 @@ fn store_run(vt: u8, i: usize, n: usize, a: u32, file: &VFile, memory: &mut SpMe
     requires register { vt < 32 }
     requires first { i < 32 }
     requires count { n ≤ 16 }
-    ensures { memory.new ≡ after_store file.now memory.old (run vt i n a) }
+    ensures { memory.new ≡ after_store file.now memory.old (for_each n (λ k. from_byte vt ((i + k) % 16) (a + k))) }
 {
     memory.set_bytes(a, &file.reg(vt).bytes_from(i as u8)[..n]);
 }
 
-/// Stores eight bytes: of an element below 8 the high byte of that lane, of another its bits 14 to 7.
+/// SPV: stores eight bytes, each of a lane: for a number below 8 its high byte, else its bits 14 to 7.
 #[inline(always)]
 fn store_packed(vt: u8, e: usize, a: u32, file: &VFile, memory: &mut SpMem)
     requires register { vt < 32 }
-    requires element { e < 24 }
-    ensures { memory.new ≡ after_store file.now memory.old (packed vt e a 8) }
+    requires element { e < 16 }
+    ensures { memory.new ≡ after_store file.now memory.old (store_pairs Spv vt e a) }
 {
     memory.set_bytes(a, &file.reg(vt).packed_from(e as u8)[..8]);
 }
 
-/// Stores bits 14 to 7 of eight pairs of bytes, two places apart among the sixteen bytes of a block.
-#[tactic(auto, using(crate::proofs::Pairs::stores), unfolding(crate::specs::Stores::middles))]
-fn store_middles(vt: u8, e: usize, a: u32, file: &VFile, memory: &mut SpMem)
+/// SUV: stores eight bytes, each of a lane: for a number below 8 its bits 14 to 7, else its high byte.
+#[inline(always)]
+fn store_unsigned_packed(vt: u8, e: usize, a: u32, file: &VFile, memory: &mut SpMem)
     requires register { vt < 32 }
     requires element { e < 16 }
-    ensures { memory.new ≡ after_store file.now memory.old (middles vt e a 8) }
+    ensures { memory.new ≡ after_store file.now memory.old (store_pairs Suv vt e a) }
+{
+    memory.set_bytes(a, &file.reg(vt).packed_from(e as u8 + 8)[..8]);
+}
+
+/// SHV: stores bits 14 to 7 of eight pairs of bytes, two places apart in a block.
+#[tactic(auto, using(crate::proofs::Pairs::stores), unfolding(crate::specs::Stores::store_pairs))]
+fn store_halves(vt: u8, e: usize, a: u32, file: &VFile, memory: &mut SpMem)
+    requires register { vt < 32 }
+    requires element { e < 16 }
+    ensures { memory.new ≡ after_store file.now memory.old (store_pairs Shv vt e a) }
 {
     let block = a - a % 8;
     let bytes = VReg::from_bytes(file.reg(vt).bytes_from(e as u8)).packed_from(8);
@@ -84,36 +96,36 @@ fn store_middles(vt: u8, e: usize, a: u32, file: &VFile, memory: &mut SpMem)
     }
 }
 
-/// Stores bits 14 to 7 of four lanes, four places apart among the sixteen bytes of a block.
-#[tactic(auto, using(crate::proofs::Pairs::stores), unfolding(crate::specs::Stores::stored, crate::specs::Stores::fourths))]
-fn store_fourths(vt: u8, first: usize, a: u32, file: &VFile, memory: &mut SpMem)
+/// SFV: stores bits 14 to 7 of four lanes, four places apart in a block.
+#[tactic(auto, using(crate::proofs::Pairs::stores), unfolding(crate::specs::Stores::stored, crate::specs::Stores::store_pairs))]
+fn store_fourths(vt: u8, e: usize, a: u32, file: &VFile, memory: &mut SpMem)
     requires register { vt < 32 }
-    requires lane { first ≤ 4 }
-    ensures { memory.new ≡ after_store file.now memory.old (fourths vt first a 4) }
+    requires element { e ≤ 8 }
+    ensures { memory.new ≡ after_store file.now memory.old (store_pairs Sfv vt e a) }
 {
     let block = a - a % 8;
     for j in 0..4 {
         let at = block.wrapping_add((a % 8 + 4 * j as u32) % 16);
-        memory.set_byte(at, file.middle(vt, 2 * (first + j)));
+        memory.set_byte(at, file.bits_14_to_7(vt, 2 * (e / 2 + j)));
     }
 }
 
-/// Stores the sixteen bytes of a register, among the sixteen bytes of a block.
+/// SWV: stores the sixteen bytes of a register in a block.
 #[inline(always)]
 fn store_rotated(vt: u8, e: usize, a: u32, file: &VFile, memory: &mut SpMem)
     requires register { vt < 32 }
     requires element { e < 16 }
-    ensures { memory.new ≡ after_store file.now memory.old (rotated vt e a 16) }
+    ensures { memory.new ≡ after_store file.now memory.old (store_pairs Swv vt e a) }
 {
     let first = e as u8 + (16 - (a % 8) as u8);
     memory.set_bytes(a - a % 8, &file.reg(vt).bytes_from(first));
 }
 
-/// Stores two bytes of each of eight registers, among the sixteen bytes of a block.
+/// STV: stores two bytes of each of eight registers in a block.
 fn store_transposed(vt: u8, e: usize, a: u32, file: &VFile, memory: &mut SpMem)
     requires register { vt < 32 }
     requires element { e < 16 }
-    ensures { memory.new ≡ after_store file.now memory.old (transposed vt e a 16) }
+    ensures { memory.new ≡ after_store file.now memory.old (store_pairs Stv vt e a) }
 {
     let lanes = diagonal(vt - vt % 8, 8 - e / 2, file);
     let first = (e - e % 2) as u8 + (16 - (a % 8) as u8);
@@ -125,7 +137,7 @@ fn store_transposed(vt: u8, e: usize, a: u32, file: &VFile, memory: &mut SpMem)
 fn diagonal(first: u8, turn: usize, file: &VFile) -> VReg
     requires registers { first ≤ 24 }
     requires lane { turn ≤ 8 }
-    ensures { result ≡ each_lane (λ l. slice_index (register file.now (first + l)) ((turn + l) % 8)) }
+    ensures { result ≡ each_lane (λ l. slice_index (vector file.now (first + l)) ((turn + l) % 8)) }
 {
     VReg::from_array([
         file.reg(first).lane(turn % 8),

@@ -1,5 +1,5 @@
 -- What is kept of a step leads back.
-use Rattle.std.proofs.Common.{◌≡◌, ℕ, ℤ, ◌-◌, ◌%◌, ◌==◌, ◌||◌, Bool, true, false, not, List, refl, sym, ap, subst, Option, Some, None}
+use Rattle.std.proofs.Common.{◌≡◌, ℕ, ℤ, ◌-◌, ◌%◌, ◌==◌, ◌||◌, Bool, true, false, not, List, refl, sym, ap, subst, ◌∙◌, Option, Some, None}
 use Rattle.std.specs.Prelude.{if◌then◌else◌}
 use Rattle.rsp_decode.specs.declared.inst.Inst.{Inst}
 use Rattle.rsp_decode.specs.declared.inst.Inst.TheVariants.{Shift, ShiftBy, JumpRegister, JumpLinkRegister, Break, Register, BranchSign, BranchEqual, Jump, Immediate, LoadUpper, Load, Store, MoveSp, MoveVector, MoveControl, Multiply, Round, MpegMultiply, ReadAccumulator, VectorAdd, VectorSelect, VectorClip, VectorMerge, VectorLogic, Divide, Idle, VectorLoad, VectorStore}
@@ -9,8 +9,6 @@ use Rattle.rsp_decode.specs.declared.inst.SignRow.{SignRow}
 use Rattle.rsp_decode.specs.declared.inst.SignRow.TheVariants.{Bltz, Bgez, Bltzal, Bgezal, Blez, Bgtz}
 use Rattle.rsp_decode.specs.declared.inst.JumpRow.{JumpRow}
 use Rattle.rsp_decode.specs.declared.inst.JumpRow.TheVariants.{J, Jal}
-use Rattle.rsp_decode.specs.declared.inst.VectorLoadRow.{VectorLoadRow}
-use Rattle.rsp_decode.specs.declared.inst.VectorLoadRow.TheVariants.{Lbv, Lsv, Llv, Ldv, Lqv, Lrv, Lpv, Luv, Lhv, Lfv, Ltv}
 use Rattle.rsp_flags.specs.declared.flags.Flags.{Flags}
 use Rattle.rsp_divide.specs.declared.divider.Divider.{Divider}
 use Rattle.rsp_memory.specs.Memory.{word_at, bytes_at, with_bytes}
@@ -19,20 +17,21 @@ use Rattle.rsp_scalar.specs.Rows.{address}
 use Rattle.rsp_scalar.specs.Flow.{linked, going_on}
 use Rattle.rsp_decode.specs.declared.inst.Control.{Control}
 use Rattle.rsp_decode.specs.Table.{inst_of}
-use Rattle.rsp_loadstore.specs.File.{register as vector, with_register as with_vector}
+use Rattle.rsp_loadstore.specs.File.{vector, with_vector}
 use Rattle.rsp_loadstore.specs.Addresses.{transfer_address}
-use Rattle.rsp_loadstore.specs.Loads.{loaded_file}
-use Rattle.rsp_loadstore.specs.Stores.{stored_memory}
+use Rattle.rsp_loadstore.specs.Loads.{loaded_file, writes_group}
+use Rattle.rsp_loadstore.specs.Stores.{stored_memory, window_of}
 use Rattle.rsp_loadstore.specs.Moves.{moved_file}
-use Rattle.rsp_regs.specs.Sp.{Sp, after_step, after_read, written, bank_written, image_written, is_imem}
+use Rattle.rsp_loadstore.proofs.Reach.{stored-back}
+use Rattle.rsp_regs.specs.Sp.{Sp, after_step, after_read, written}
 use Rattle.rsp_machine.specs.State.{State, advanced}
 use Rattle.rsp_machine.specs.Vector.{multiplies, rounds, multiplies_mpeg, reads_accumulator, ruled, divides, loads_vector, stores_vector, moves_vector, moves_control}
 use Rattle.rsp_machine.specs.Step.{computes, loads, stores, jumps, break_instruction, moves_sp, executed, singled, step_by, step_of}
 use Rattle.rsp_machine.specs.Host.{register_written}
 use Rattle.rsp_machine.specs.declared.step.StepEnd.TheVariants.{Done, Halted, Reserved}
-use Rattle.rsp_machine.specs.Saved.{Saved, kept, kept_change, saved, restored, change_of, vd_in, vd_at, undone, starts_dma, is_length, sign_change, jump_change, loaded_change, told_of, may_store, group_at, with_group, window_of, is_back_by, kept_by, can_undo, slot_after, is_back}
+use Rattle.rsp_machine.specs.Saved.{Saved, kept, kept_change, saved, restored, change_of, vd_in, vd_at, undone, starts_dma, is_length, sign_change, jump_change, told_of, may_store, group_at, with_group, is_back_by, kept_by, can_undo, slot_after, is_back}
 use Rattle.rsp_machine.specs.declared.change.Change.TheVariants as of
-use Rattle.rsp_machine.proofs.Undoing.{register-back, vector-back, store-back, stored-back}
+use Rattle.rsp_machine.proofs.Undoing.{register-back, vector-back, store-back}
 use Rattle.rsp_machine.proofs.Loading.{loaded-back, put_back}
 use Rattle.rsp_machine.proofs.Flagging.{AreFlags, sum-back, merge-back, choice-back, logic-back}
 use Rattle.rsp_machine.specs.Ops.{add_op, select_op, logic_op}
@@ -136,48 +135,34 @@ group_kept : (n : ℕ) (v : List (List ℕ)) (s : State) (r : Saved) → s.sp.ha
 unfolding undone kept_change saved restored after_step
 group_kept n v s r h e = vectors_same s _ h e
 
-written_kept : (p : Sp) (m i q : List ℕ) (s : State) (r : Saved) → s.sp.halted ≡ false → m ≡ s.dmem → i ≡ s.imem → q ≡ s.rdram
-    → undone (kept_change (of.Sp 0) s r) (singled (advanced (record s { sp = p; dmem = m; imem = i; rdram = q }))) ≡ s
+written_kept : (p : Sp) (s : State) (r : Saved) → s.sp.halted ≡ false
+    → undone (kept_change (of.Sp 0) s r) (singled (advanced (record s { sp = p }))) ≡ s
 unfolding undone kept_change saved restored after_step
-written_kept p m i q s r h em ei eq = same_state s _ _ _ _ _ m i q h refl refl refl refl refl em ei eq
+written_kept p s r h = registers_same s _ h refl
 
 neither : (a b : Bool) → (a || b) ≡ false → (a ≡ false) × (b ≡ false)
 neither false b e = (refl, e)
 neither true b e = cc
 
-bank_same : (chosen : Bool) (n v : ℕ) (p : Sp) (image bank : List ℕ) → (n % 16 == 2) ≡ false → bank_written chosen n v p image bank ≡ bank
-unfolding bank_written
-bank_same chosen n v p image bank e = rw e refl
-
-image_same : (n v : ℕ) (p : Sp) (dmem imem image : List ℕ) → (n % 16 == 3) ≡ false → image_written n v p dmem imem image ≡ image
-unfolding image_written
-image_same n v p dmem imem image e = rw e refl
+-- a write that starts no DMA
+no_dma : (n v : ℕ) (s : State) → is_length n ≡ false → register_written n v s ≡ record s { sp = written n v s.sp }
+no_dma n v s e =
+    let k = neither (n % 16 == 2) (n % 16 == 3) e in
+    rw (k.0, k.1) refl
 
 move_kept : (row : MoveRow) (rt n : ℕ) (s : State) (r : Saved) → starts_dma (MoveSp row rt n) ≡ false → s.sp.halted ≡ false
     → undone (kept (MoveSp row rt n) s r) (singled (executed (MoveSp row rt n) s)) ≡ s
 unfolding change_of executed moves_sp
 move_kept From rt n s r e h = sp_kept rt _ (after_read n s.sp) s r h
 move_kept To rt n s r e h =
-    let k = neither (n % 16 == 2) (n % 16 == 3) e in
-    let P : Bool → Type 0 = λ b. undone (kept_change (if b then of.Dma else of.Sp 0) s r) (singled (advanced (register_written n (register s.registers rt) s))) ≡ s in
-    subst P (sym e) (written_kept (written n (register s.registers rt) s.sp) _ _ _ s r h
-    (bank_same (not (is_imem s.sp)) n (register s.registers rt) s.sp s.rdram s.dmem k.0)
-    (bank_same (is_imem s.sp) n (register s.registers rt) s.sp s.rdram s.imem k.0)
-    (image_same n (register s.registers rt) s.sp s.dmem s.imem s.rdram k.1))
+    let v = register s.registers rt in
+    let P : Bool → Type 0 = λ b. undone (kept_change (if b then of.Dma else of.Sp 0) s r) (singled (advanced (register_written n v s))) ≡ s in
+    subst P (sym e) (ap (λ t. undone (kept_change (of.Sp 0) s r) (singled (advanced t))) (no_dma n v s e) ∙ written_kept (written n v s.sp) s r h)
 
-load_kept : (row : VectorLoadRow) (vt : ℕ) (v : List (List ℕ)) (s : State) (r : Saved) → s.sp.halted ≡ false → put_back row vt s.vectors v ≡ s.vectors
-    → undone (kept_change (loaded_change row vt) s r) (singled (advanced (record s { vectors = v }))) ≡ s
-load_kept Ltv vt v s r h e = group_kept (vt - vt % 8) v s r h e
-load_kept Lbv vt v s r h e = file_kept vt v s r h e
-load_kept Lsv vt v s r h e = file_kept vt v s r h e
-load_kept Llv vt v s r h e = file_kept vt v s r h e
-load_kept Ldv vt v s r h e = file_kept vt v s r h e
-load_kept Lqv vt v s r h e = file_kept vt v s r h e
-load_kept Lrv vt v s r h e = file_kept vt v s r h e
-load_kept Lpv vt v s r h e = file_kept vt v s r h e
-load_kept Luv vt v s r h e = file_kept vt v s r h e
-load_kept Lhv vt v s r h e = file_kept vt v s r h e
-load_kept Lfv vt v s r h e = file_kept vt v s r h e
+load_kept : (group : Bool) (vt : ℕ) (v : List (List ℕ)) (s : State) (r : Saved) → s.sp.halted ≡ false → put_back group vt s.vectors v ≡ s.vectors
+    → undone (kept_change (if group then of.Group (vt - vt % 8) else of.Vector vt) s r) (singled (advanced (record s { vectors = v }))) ≡ s
+load_kept true vt v s r h e = group_kept (vt - vt % 8) v s r h e
+load_kept false vt v s r h e = file_kept vt v s r h e
 
 sign_kept : (row : SignRow) (rs offset p : ℕ) (s : State) (r : Saved) → s.sp.halted ≡ false
     → undone (kept_change (sign_change row) s r) (singled (record s { pc = s.npc; npc = p; registers = linked (BranchSign row rs offset) s.registers s.npc })) ≡ s
@@ -238,7 +223,7 @@ kept_back (VectorLogic row f) s r e h k o = logic_kept f.vd _ _ _ s r (ap vd_in 
 kept_back (Divide row vd lane vt n) s r e h k o = divide_kept vd _ _ _ s r (ap vd_in o) h
 kept_back (Idle row) s r e h k o = places_kept _ s r h
 kept_back (VectorLoad row f) s r e h k o =
-    load_kept row f.vt _ s r h (loaded-back row s.dmem s.vectors f.vt f.element (transfer_address (VectorLoad row f) (register s.registers f.base)))
+    load_kept (writes_group row) f.vt _ s r h (loaded-back row s.dmem s.vectors f.vt f.element (transfer_address (VectorLoad row f) (register s.registers f.base)))
 kept_back (VectorStore row f) s r e h k o =
     let a : ℕ = transfer_address (VectorStore row f) (register s.registers f.base) in
     bytes_kept (window_of row a) _ s r h (stored-back row f.vt f.element a s.vectors s.dmem)
@@ -262,19 +247,10 @@ unfolding can_undo slot_after told_of step_of
 slot_back s r k e = either_back s.sp.halted (inst_of (word_at s.imem s.pc)) (word_at s.imem s.pc) s r refl refl k e
 
 -- the mark in the slot tells whether an instruction can be undone
-load_marked : (row : VectorLoadRow) (vt : ℕ) (s : State) (r : Saved) → is_back (kept_change (loaded_change row vt) s r).change ≡ true
+load_marked : (group : Bool) (vt : ℕ) (s : State) (r : Saved) → is_back (kept_change (if group then of.Group (vt - vt % 8) else of.Vector vt) s r).change ≡ true
 unfolding kept_change saved
-load_marked Ltv vt s r = refl
-load_marked Lbv vt s r = refl
-load_marked Lsv vt s r = refl
-load_marked Llv vt s r = refl
-load_marked Ldv vt s r = refl
-load_marked Lqv vt s r = refl
-load_marked Lrv vt s r = refl
-load_marked Lpv vt s r = refl
-load_marked Luv vt s r = refl
-load_marked Lhv vt s r = refl
-load_marked Lfv vt s r = refl
+load_marked true vt s r = refl
+load_marked false vt s r = refl
 
 move_marked : (b : Bool) (s : State) (r : Saved) → is_back (kept_change (if b then of.Dma else of.Sp 0) s r).change ≡ not b
 unfolding kept_change saved
@@ -327,7 +303,7 @@ kept_marked (VectorMerge f) s r = refl
 kept_marked (VectorLogic row f) s r = refl
 kept_marked (Divide row vd lane vt n) s r = refl
 kept_marked (Idle row) s r = refl
-kept_marked (VectorLoad row f) s r = load_marked row f.vt s r
+kept_marked (VectorLoad row f) s r = load_marked (writes_group row) f.vt s r
 kept_marked (VectorStore row f) s r = refl
 
 -- after a step that is Done the mark in the slot tells; after another one there is no way back
@@ -364,7 +340,7 @@ written_stays : (b : Bool) (v n : ℕ) (s : State) (r : Saved) → is_length n �
     → (register_written n v s).dmem ≡ s.dmem
 unfolding kept_change saved
 written_stays true v n s r e h = cc
-written_stays false v n s r e h = bank_same (not (is_imem s.sp)) n v s.sp s.rdram s.dmem (neither (n % 16 == 2) (n % 16 == 3) e).0
+written_stays false v n s r e h = ap (λ t. t.dmem) (no_dma n v s e)
 
 kept_stays : (i : Inst) (s : State) (r : Saved) → may_store (kept i s r) ≡ false → (executed i s).dmem ≡ s.dmem
 unfolding change_of executed computes loads stores jumps break_instruction moves_sp multiplies rounds multiplies_mpeg reads_accumulator ruled divides loads_vector stores_vector moves_vector moves_control kept_change saved

@@ -2,7 +2,7 @@
 use Rattle.std.specs.Prelude.{ℕ, ◌+◌, ◌*◌, ◌%◌, Bool, not, nat_le, nat_lt, ◌==◌, ◌&&◌, ◌||◌, if◌then◌else◌, List, length, Option, Some, None}
 use Rattle.rsp_memory.specs.Memory.{with_bytes}
 use Rattle.rsp_memory.specs.Image.{image_byte, with_image_bytes}
-use Rattle.rsp_regs.specs.Sp.{after_read, written, bank_written, image_written, is_imem, after_task}
+use Rattle.rsp_regs.specs.Sp.{after_read, written, dmem_from_rdram, imem_from_rdram, rdram_from_bank, after_task}
 use Rattle.rsp_regs.specs.Dma.{pairs, copied_in}
 use Rattle.rsp_regs.specs.declared.transfer.Transfer.{Transfer}
 use Rattle.rsp_machine.specs.State.{State}
@@ -15,15 +15,19 @@ use Rattle.rsp_machine.specs.declared.host.TaskFault.TheVariants.{TaskPlace, Tas
 abbrev pub register_read : ℕ → State → State
 register_read n s = record s { sp = after_read n s.sp }
 
--- the state after a write of v to SP register n, modulo 16, with the DMA that it asks for: from the RDRAM into the bank that
--- SP_MEM_ADDR names, or back
+-- the state after the DMA that v asks for from the RDRAM, into the bank that SP_MEM_ADDR names
+abbrev pub moved_in : ℕ → State → State
+moved_in v s = record s { dmem = dmem_from_rdram v s.sp s.rdram s.dmem; imem = imem_from_rdram v s.sp s.rdram s.imem }
+
+-- the state after the DMA that v asks for from that bank, into the RDRAM
+abbrev pub moved_out : ℕ → State → State
+moved_out v s = record s { rdram = rdram_from_bank v s.sp s.dmem s.imem s.rdram }
+
+-- the state after a write of v to SP register n, modulo 16: number 2 starts the one DMA, and number 3 the other
 abbrev pub register_written : ℕ → ℕ → State → State
-register_written n v s = record s {
-  sp = written n v s.sp;
-  dmem = bank_written (not (is_imem s.sp)) n v s.sp s.rdram s.dmem;
-  imem = bank_written (is_imem s.sp) n v s.sp s.rdram s.imem;
-  rdram = image_written n v s.sp s.dmem s.imem s.rdram;
-}
+register_written n v s =
+    let t = if n % 16 == 2 then moved_in v s else if n % 16 == 3 then moved_out v s else s in
+    record t { sp = written n v s.sp }
 
 -- the length of a bank
 abbrev pub bank_length : Bank → State → ℕ
@@ -79,5 +83,5 @@ tasked a s = record s {
 }
 
 -- the state that goes on at a place of IMEM
-abbrev pub placed : ℕ → State → State
-placed place s = record s { pc = place; npc = (place + 4) % 4096 }
+abbrev pub with_pc : ℕ → State → State
+with_pc place s = record s { pc = place; npc = (place + 4) % 4096 }

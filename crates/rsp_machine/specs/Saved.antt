@@ -9,9 +9,6 @@ use Rattle.rsp_decode.specs.declared.inst.SignRow.TheVariants.{Bltzal, Bgezal}
 use Rattle.rsp_decode.specs.declared.inst.JumpRow.{JumpRow}
 use Rattle.rsp_decode.specs.declared.inst.JumpRow.TheVariants.{Jal}
 use Rattle.rsp_decode.specs.declared.inst.VectorLoadRow.{VectorLoadRow}
-use Rattle.rsp_decode.specs.declared.inst.VectorLoadRow.TheVariants.{Ltv}
-use Rattle.rsp_decode.specs.declared.inst.VectorStoreRow.{VectorStoreRow}
-use Rattle.rsp_decode.specs.declared.inst.VectorStoreRow.TheVariants.{Srv}
 use Rattle.rsp_decode.specs.Table.{inst_of}
 use Rattle.rsp_lanes.specs.Lanes.{each_lane}
 use Rattle.rsp_flags.specs.declared.flags.Flags.{Flags}
@@ -22,8 +19,10 @@ use Rattle.rsp_memory.specs.Memory.{word_at, bytes_at, with_bytes}
 use Rattle.rsp_regs.specs.Sp.{Sp, start}
 use Rattle.rsp_scalar.specs.Registers.{register, with_register}
 use Rattle.rsp_scalar.specs.Rows.{address}
-use Rattle.rsp_loadstore.specs.File.{register as vector, with_register as with_vector}
+use Rattle.rsp_loadstore.specs.File.{vector, with_vector}
 use Rattle.rsp_loadstore.specs.Addresses.{transfer_address}
+use Rattle.rsp_loadstore.specs.Loads.{writes_group}
+use Rattle.rsp_loadstore.specs.Stores.{window_of}
 use Rattle.rsp_machine.specs.State.{State}
 use Rattle.rsp_machine.specs.declared.change.Change.{Change}
 use Rattle.rsp_machine.specs.declared.change.Change.TheVariants as of
@@ -149,14 +148,9 @@ jump_change _ = of.Places
 abbrev pub is_length : ℕ → Bool
 is_length n = (n % 16 == 2) || (n % 16 == 3)
 
--- where the sixteen bytes begin that a vector store writes among
-abbrev pub window_of : VectorStoreRow → ℕ → ℕ
-window_of Srv a = a - a % 16
-window_of _ a = a - a % 8
-
+-- what a vector load changes: the eight registers of a group, or one
 abbrev pub loaded_change : VectorLoadRow → ℕ → Change
-loaded_change Ltv vt = of.Group (vt - vt % 8)
-loaded_change _ vt = of.Vector vt
+loaded_change row vt = if writes_group row then of.Group (vt - vt % 8) else of.Vector vt
 
 abbrev pub vector_move_change : MoveRow → ℕ → ℕ → Change
 vector_move_change From rt n = of.Register rt

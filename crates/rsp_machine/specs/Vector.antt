@@ -19,7 +19,7 @@ use Rattle.rsp_multiply.specs.Rows.{accumulators_after, clamped_by, sar_of}
 use Rattle.rsp_multiply.specs.Mpeg.{accumulators_rounded, clamped_signed, accumulators_mpeg, halved_mpeg}
 use Rattle.rsp_divide.specs.Rows.{lane_written, divider_after, lows_written}
 use Rattle.rsp_scalar.specs.Registers.{register, with_register}
-use Rattle.rsp_loadstore.specs.File.{register as vector, with_register as with_vector}
+use Rattle.rsp_loadstore.specs.File.{vector, with_vector}
 use Rattle.rsp_loadstore.specs.Addresses.{transfer_address}
 use Rattle.rsp_loadstore.specs.Loads.{loaded_file}
 use Rattle.rsp_loadstore.specs.Stores.{stored_memory}

@@ -1,5 +1,5 @@
 ghost use Rattle.std.specs.Prelude.{◌≡◌, ◌<◌, ◌≤◌, ◌↔◌, ◌+◌, ◌%◌, IsOk, OnOk, OnErr, IsTrue, ℕ, Ok, Err, Some, None, length, MatchResult};
-ghost use Rattle.rsp_machine.specs.Host.{register_read, register_written, is_inside, loaded, image_word, task_fault, tasked, one_run, placed};
+ghost use Rattle.rsp_machine.specs.Host.{register_read, register_written, is_inside, loaded, image_word, task_fault, tasked, one_run, with_pc};
 ghost use Rattle.rsp_regs.specs.Sp.{peeked};
 
 use crate::machine::Machine;
@@ -62,7 +62,7 @@ impl<A: Acc> Machine<A> {
     pub fn set_pc(&mut self, pc: u16)
         requires below { pc < 4096 }
         requires whole { pc % 4 ≡ 0 }
-        ensures { self.new ≡ placed pc self.old }
+        ensures { self.new ≡ with_pc pc self.old }
     {
         self.pc = pc;
         self.npc = (pc + 4) % 4096;

@@ -1,7 +1,7 @@
 ghost use Rattle.std.specs.Prelude.{◌≡◌, ◌<◌, ◌%◌};
 ghost use Rattle.rsp_machine.specs.State.{IsState, start_of};
 ghost use Rattle.rsp_scalar.specs.Registers.{register};
-ghost use Rattle.rsp_loadstore.specs.File.{register as vector};
+ghost use Rattle.rsp_loadstore.specs.File.{vector};
 
 use rsp_acc::Acc;
 use rsp_divide::Divider;

@@ -4,10 +4,11 @@ ghost use Rattle.std.specs.Prelude.{◌≡◌, ◌<◌, ◌≤◌, ◌%◌};
 ghost use Rattle.rsp_decode.specs.declared.inst.Inst.{Inst};
 ghost use Rattle.rsp_scalar.specs.Registers.{register};
 ghost use Rattle.rsp_scalar.specs.Rows.{address};
-ghost use Rattle.rsp_loadstore.specs.File.{register as vector};
+ghost use Rattle.rsp_loadstore.specs.File.{vector};
 ghost use Rattle.rsp_loadstore.specs.Addresses.{transfer_address};
+ghost use Rattle.rsp_loadstore.specs.Stores.{window_of};
 ghost use Rattle.rsp_machine.specs.declared.change.Change.TheVariants as change;
-ghost use Rattle.rsp_machine.specs.Saved.{IsChange, blank, is_back, may_store, window_of, group_at, with_group, vd_at, with_product, with_vco, undone};
+ghost use Rattle.rsp_machine.specs.Saved.{IsChange, blank, is_back, may_store, group_at, with_group, vd_at, with_product, with_vco, undone};
 
 use crate::change::{Change, vd_of};
 use crate::machine::Machine;
@@ -276,7 +277,7 @@ impl<A: Acc> Machine<A> {
     }
 
     /// Writes eight vector registers, from `n` on.
-    #[tactic(auto, using(std::proofs::lemmas::List::get_or_default), unfolding(rsp_loadstore::specs::File::register))]
+    #[tactic(auto, using(std::proofs::lemmas::List::get_or_default), unfolding(rsp_loadstore::specs::File::vector))]
     fn put_group(&mut self, n: u8, vectors: &[VReg; 8])
         requires { n ≤ 24 }
         ensures { self.new ≡ record self.old { vectors = with_group self.old.vectors n vectors.now } }

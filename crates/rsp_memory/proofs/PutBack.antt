@@ -1,5 +1,5 @@
 -- Writing back what stood in a list before gives the list back.
-use Rattle.std.proofs.Common.{◌≡◌, ◌≢◌, ℕ, zero, suc, ◌+◌, ◌%◌, inl, inr, List, [], ◌∷◌, length, refl, sym, ◌∙◌, arith, get_or, set, get_or-set_same, get_or-set_other}
+use Rattle.std.proofs.Common.{◌≡◌, ◌≢◌, ℕ, zero, suc, ◌+◌, ◌%◌, ◌<◌, add-zero, inl, inr, List, [], ◌∷◌, length, refl, sym, ◌∙◌, arith, get_or, set, get_or-set_same, get_or-set_other}
 use Rattle.std.proofs.lemmas.List.{ext_get_or, length-set}
 use Rattle.std.proofs.Math.ListN.{get_or-eq_default}
 use Rattle.std.proofs.lemmas.Bool.{cases_lt}
@@ -46,3 +46,20 @@ with_bytes-put_back m n a (suc k) = with_bytes-put_back m (set n (a % 4096) (get
 pub bytes-back : (m n : List ℕ) (a k : ℕ) → length n ≡ length m
     → ((r : ℕ) → IsElsewhere r (places a k) → get_or n r 0 ≡ get_or m r 0) → with_bytes n a (bytes_at m a k) ≡ m
 bytes-back m n a k e h = with_bytes-put_back m n a k ∙ back_is m (places a k) n e h
+
+-- a byte that is written changes no other place, and no length
+pub length-with_byte : (m : List ℕ) (a b : ℕ) → length (with_byte m a b) ≡ length m
+unfolding with_byte
+length-with_byte m a b = length-set m (a % 4096) b
+
+pub with_byte-elsewhere : (m : List ℕ) (a b r : ℕ) → r ≢ a % 4096 → get_or (with_byte m a b) r 0 ≡ get_or m r 0
+unfolding with_byte
+with_byte-elsewhere m a b r h = get_or-set_other m (a % 4096) r b 0 h
+
+-- a place outside of the n bytes from an address on is none of them
+pub elsewhere-at : (r a n j : ℕ) → IsElsewhere r (places a n) → j < n → r ≢ (a + j) % 4096
+elsewhere-at r a zero j there h = absurd (omega arith)
+elsewhere-at r a (suc n) zero there h = rw add-zero there.0
+elsewhere-at r a (suc n) (suc j) there h =
+    let e : a + suc j ≡ a + 1 + j = omega arith in
+    rw e (elsewhere-at r (a + 1) n j there.1 (omega arith))

@@ -8,7 +8,7 @@ use Rattle.rsp_memory.specs.Memory.{byte_at, with_byte, with_bytes}
 use Rattle.rsp_memory.specs.Image.{image_byte, with_image_byte, with_image_bytes}
 use Rattle.rsp_memory.proofs.Runs.{run_turn}
 use Rattle.rsp_regs.specs.declared.transfer.Transfer.{Transfer}
-use Rattle.rsp_regs.specs.Dma.{row_pairs, row, rows, one_in, one_out, copied_in, copied_out}
+use Rattle.rsp_regs.specs.Dma.{row_pairs, row, first_rows, one_in, one_out, copied_in, copied_out}
 
 -- a fold over what f makes of the numbers below i + 1
 fold_map_more : {A B : Type 0} (step : B → A → B) (s : B) (f : ℕ → A) (i : ℕ)
@@ -78,22 +78,22 @@ unfolding image_byte
 past_end image a n run e h z = get_or_past image (a % 16777216) 0 (omega (arith, ap length e, length-take n (drop (a % 16777216) image), length-drop (a % 16777216) image))
 
 -- no row, and one more
-pub rows_in-none : (image bank : List ℕ) (t : Transfer) → copied_in image bank (rows t 0) ≡ bank
-unfolding copied_in rows
+pub rows_in-none : (image bank : List ℕ) (t : Transfer) → copied_in image bank (first_rows t 0) ≡ bank
+unfolding copied_in first_rows
 rows_in-none image bank t = refl
 
-pub rows_out-none : (bank image : List ℕ) (t : Transfer) → copied_out bank image (rows t 0) ≡ image
-unfolding copied_out rows
+pub rows_out-none : (bank image : List ℕ) (t : Transfer) → copied_out bank image (first_rows t 0) ≡ image
+unfolding copied_out first_rows
 rows_out-none bank image t = refl
 
 pub rows_in-more : (image bank : List ℕ) (t : Transfer) (r : ℕ)
-    → copied_in image bank (rows t (r + 1)) ≡ copied_in image (copied_in image bank (rows t r)) (row t r)
-unfolding copied_in rows
+    → copied_in image bank (first_rows t (r + 1)) ≡ copied_in image (copied_in image bank (first_rows t r)) (row t r)
+unfolding copied_in first_rows
 rows_in-more image bank t r = fold_flat_map_more (one_in image) bank (row t) r
 
 pub rows_out-more : (bank image : List ℕ) (t : Transfer) (r : ℕ)
-    → copied_out bank image (rows t (r + 1)) ≡ copied_out bank (copied_out bank image (rows t r)) (row t r)
-unfolding copied_out rows
+    → copied_out bank image (first_rows t (r + 1)) ≡ copied_out bank (copied_out bank image (first_rows t r)) (row t r)
+unfolding copied_out first_rows
 rows_out-more bank image t r = fold_flat_map_more (one_out bank) image (row t) r
 
 pub ruleset copies = (row_in-none, row_out-none, row_in-more, row_out-more, rows_in-none, rows_out-none, rows_in-more, rows_out-more)

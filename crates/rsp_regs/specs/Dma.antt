@@ -21,11 +21,11 @@ row_pairs sp dram length = map (λ i. (sp + i, dram + i)) (range_with_len 0 leng
 abbrev pub row : Transfer → ℕ → List (ℕ × ℕ)
 row t r = row_pairs (t.sp + r * t.length) (t.dram + r * (t.length + t.skip)) t.length
 
-unfoldable pub rows : Transfer → ℕ → List (ℕ × ℕ)
-rows t n = flat_map (row t) (range_with_len 0 n)
+unfoldable pub first_rows : Transfer → ℕ → List (ℕ × ℕ)
+first_rows t n = flat_map (row t) (range_with_len 0 n)
 
 abbrev pub pairs : Transfer → List (ℕ × ℕ)
-pairs t = rows t (t.count + 1)
+pairs t = first_rows t (t.count + 1)
 
 -- one pair, into a bank and out of it
 abbrev pub one_in : List ℕ → List ℕ → ℕ × ℕ → List ℕ

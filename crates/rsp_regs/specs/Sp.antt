@@ -1,5 +1,5 @@
 -- The registers of the signal processor, as the register table has them.
-use Rattle.std.specs.Prelude.{ℕ, ◌+◌, ◌*◌, ◌/◌, ◌%◌, ◌^◌, ◌<◌, Bool, true, false, ◌&&◌, ◌||◌, List, ◌∷◌, map, replicate, slice_index, slice_index_or, slice_set, nat_lt, if◌then◌else◌, ◌-◌, ◌==◌}
+use Rattle.std.specs.Prelude.{ℕ, ◌+◌, ◌*◌, ◌/◌, ◌%◌, ◌^◌, ◌<◌, Bool, true, false, ◌||◌, List, ◌∷◌, map, replicate, slice_index, slice_index_or, slice_set, nat_lt, if◌then◌else◌, ◌-◌, ◌==◌}
 use Rattle.std.specs.List.{range_with_len, sum_by}
 use Rattle.rsp_regs.specs.declared.transfer.Transfer.{Transfer}
 use Rattle.rsp_regs.specs.Dma.{pairs, copied_in, copied_out}
@@ -64,19 +64,19 @@ peeked n s = slice_index (words s) (n % 16)
 unfoldable pub after_read : ℕ → Sp → Sp
 after_read n s = if n % 16 == 7 then record s { semaphore = true } else s
 
--- bit n of a word
-abbrev pub bit : ℕ → ℕ → Bool
-bit v n = v / 2 ^ n % 2 == 1
+-- whether bit n of a word is 1
+abbrev pub bit_set : ℕ → ℕ → Bool
+bit_set v n = v / 2 ^ n % 2 == 1
 
 -- a mark under the bit that clears it and the next one, which sets it; both, or neither, change nothing
 abbrev pub paired : ℕ → ℕ → Bool → Bool
-paired v n old = if bit v n then (if bit v (n + 1) then old else false) else (if bit v (n + 1) then true else old)
+paired v n old = if bit_set v n then (if bit_set v (n + 1) then old else false) else (if bit_set v (n + 1) then true else old)
 
 -- the registers after a write of SP_STATUS: twelve pairs (clear, set), and bit 2, which clears broke alone
 unfoldable pub status_written : ℕ → Sp → Sp
 status_written v s = record s {
   halted = paired v 0 s.halted;
-  broke = if bit v 2 then false else s.broke;
+  broke = if bit_set v 2 then false else s.broke;
   interrupt = paired v 3 s.interrupt;
   single_step = paired v 5 s.single_step;
   intbreak = paired v 7 s.intbreak;
@@ -116,16 +116,18 @@ written n v s =
 
 -- the bank is IMEM where bit 12 of SP_MEM_ADDR is set
 abbrev pub is_imem : Sp → Bool
-is_imem s = bit s.memory 12
+is_imem s = bit_set s.memory 12
 
--- the memories after a write: number 2 moves from the RDRAM into a bank, and number 3 from a bank into the RDRAM
-unfoldable pub bank_written : Bool → ℕ → ℕ → Sp → List ℕ → List ℕ → List ℕ
-bank_written chosen n v s image bank =
-    if n % 16 == 2 && chosen then copied_in image bank (pairs (transfer v s)) else bank
+-- DMEM and IMEM after the DMA that v asks for from the RDRAM: it goes into the bank that SP_MEM_ADDR names
+unfoldable pub dmem_from_rdram : ℕ → Sp → List ℕ → List ℕ → List ℕ
+dmem_from_rdram v s image dmem = if is_imem s then dmem else copied_in image dmem (pairs (transfer v s))
 
-unfoldable pub image_written : ℕ → ℕ → Sp → List ℕ → List ℕ → List ℕ → List ℕ
-image_written n v s dmem imem image =
-    if n % 16 == 3 then copied_out (if is_imem s then imem else dmem) image (pairs (transfer v s)) else image
+unfoldable pub imem_from_rdram : ℕ → Sp → List ℕ → List ℕ → List ℕ
+imem_from_rdram v s image imem = if is_imem s then copied_in image imem (pairs (transfer v s)) else imem
+
+-- the RDRAM after the DMA that v asks for from that bank
+unfoldable pub rdram_from_bank : ℕ → Sp → List ℕ → List ℕ → List ℕ → List ℕ
+rdram_from_bank v s dmem imem image = copied_out (if is_imem s then imem else dmem) image (pairs (transfer v s))
 
 -- the registers after a BREAK
 unfoldable pub after_break : Sp → Sp

@@ -1,5 +1,5 @@
 ghost use Rattle.std.specs.Prelude.{◌≡◌, ◌≤◌, ◌<◌};
-ghost use Rattle.rsp_regs.specs.Sp.{flag, bit, paired};
+ghost use Rattle.rsp_regs.specs.Sp.{flag, bit_set, paired};
 
 /// The weight of a mark that is set, else 0.
 #[inline]
@@ -10,11 +10,11 @@ pub(crate) fn flag(value: bool, weight: u32) -> u32
     if value { weight } else { 0 }
 }
 
-/// Bit `n` of a word.
+/// Whether bit `n` of a word is 1.
 #[inline]
-pub(crate) fn bit(value: u32, n: u32) -> bool
+pub(crate) fn bit_set(value: u32, n: u32) -> bool
     requires { n < 32 }
-    ensures { result ≡ bit value n }
+    ensures { result ≡ bit_set value n }
 {
     value >> n & 1 == 1
 }
@@ -25,7 +25,7 @@ pub(crate) fn paired(value: u32, n: u32, old: bool) -> bool
     requires { n < 31 }
     ensures { result ≡ paired value n old }
 {
-    match (bit(value, n), bit(value, n + 1)) {
+    match (bit_set(value, n), bit_set(value, n + 1)) {
         (true, false) => false,
         (false, true) => true,
         _ => old,

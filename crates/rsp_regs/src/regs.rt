@@ -1,9 +1,9 @@
-ghost use Rattle.std.specs.Prelude.{◌≡◌, false, not};
+ghost use Rattle.std.specs.Prelude.{◌≡◌, ◌%◌, ◌==◌, if◌then◌else◌, false};
 ghost use Rattle.rsp_regs.specs.Dma.{IsTransfer};
-ghost use Rattle.rsp_regs.specs.Sp.{start, status, peeked, after_read, status_written, transfer, moved, written, is_imem, bank_written, image_written, after_break, after_step, after_task};
+ghost use Rattle.rsp_regs.specs.Sp.{start, status, peeked, after_read, status_written, transfer, moved, written, dmem_from_rdram, imem_from_rdram, rdram_from_bank, after_break, after_step, after_task};
 
 use crate::Transfer;
-use crate::bits::{bit, flag, paired};
+use crate::bits::{bit_set, flag, paired};
 use rsp_memory::{Rdram, SpMem};
 use std::marker::Model;
 
@@ -89,22 +89,6 @@ impl SpRegs {
         ensures { result ≡ self.now.halted }
     {
         self.halted
-    }
-
-    /// Whether a BREAK was executed since the mark was cleared.
-    #[inline]
-    pub fn broke(&self) -> bool
-        ensures { result ≡ self.now.broke }
-    {
-        self.broke
-    }
-
-    /// Whether each instruction halts the processor.
-    #[inline]
-    pub fn single_step(&self) -> bool
-        ensures { result ≡ self.now.single_step }
-    {
-        self.single_step
     }
 
     /// The interrupt flag.
@@ -217,7 +201,7 @@ impl SpRegs {
         ensures { self.new ≡ status_written value self.old }
     {
         self.halted = paired(value, 0, self.halted);
-        self.broke = self.broke && !bit(value, 2);
+        self.broke = self.broke && !bit_set(value, 2);
         self.interrupt = paired(value, 3, self.interrupt);
         self.single_step = paired(value, 5, self.single_step);
         self.intbreak = paired(value, 7, self.intbreak);
@@ -263,15 +247,15 @@ impl SpRegs {
 
     /// The DMA from the RDRAM into the bank of SP_MEM_ADDR, as `value` asks for it when it is written
     /// to SP_RD_LEN.
-    #[tactic(auto, unfolding(crate::specs::Sp::bank_written))]
+    #[tactic(auto, unfolding(crate::specs::Sp::dmem_from_rdram, crate::specs::Sp::imem_from_rdram))]
     pub fn dma_in(&mut self, value: u32, dmem: &mut SpMem, imem: &mut SpMem, rdram: &mut Rdram)
         ensures registers { self.new ≡ moved (transfer value self.old) self.old }
-        ensures dmem { dmem.new ≡ bank_written (not (is_imem self.old)) 2 value self.old rdram.old dmem.old }
-        ensures imem { imem.new ≡ bank_written (is_imem self.old) 2 value self.old rdram.old imem.old }
+        ensures dmem { dmem.new ≡ dmem_from_rdram value self.old rdram.old dmem.old }
+        ensures imem { imem.new ≡ imem_from_rdram value self.old rdram.old imem.old }
         ensures rdram { rdram.new ≡ rdram.old }
     {
         let t = self.transfer(value);
-        if bit(self.memory, 12) {
+        if bit_set(self.memory, 12) {
             t.copy_in(rdram, imem);
         } else {
             t.copy_in(rdram, dmem);
@@ -281,15 +265,15 @@ impl SpRegs {
 
     /// The DMA from the bank of SP_MEM_ADDR to the RDRAM, as `value` asks for it when it is written to
     /// SP_WR_LEN.
-    #[tactic(auto, unfolding(crate::specs::Sp::image_written))]
+    #[tactic(auto, unfolding(crate::specs::Sp::rdram_from_bank))]
     pub fn dma_out(&mut self, value: u32, dmem: &mut SpMem, imem: &mut SpMem, rdram: &mut Rdram)
         ensures registers { self.new ≡ moved (transfer value self.old) self.old }
         ensures dmem { dmem.new ≡ dmem.old }
         ensures imem { imem.new ≡ imem.old }
-        ensures rdram { rdram.new ≡ image_written 3 value self.old dmem.old imem.old rdram.old }
+        ensures rdram { rdram.new ≡ rdram_from_bank value self.old dmem.old imem.old rdram.old }
     {
         let t = self.transfer(value);
-        if bit(self.memory, 12) {
+        if bit_set(self.memory, 12) {
             t.copy_out(imem, rdram);
         } else {
             t.copy_out(dmem, rdram);
@@ -298,7 +282,7 @@ impl SpRegs {
     }
 
     /// Writes register `n`, and does the DMA that a write of a length register asks for.
-    #[tactic(auto, unfolding(crate::specs::Sp::written, crate::specs::Sp::bank_written, crate::specs::Sp::image_written))]
+    #[tactic(auto, unfolding(crate::specs::Sp::written))]
     pub fn host_write(
         &mut self,
         n: u32,
@@ -308,9 +292,9 @@ impl SpRegs {
         rdram: &mut Rdram,
     )
         ensures registers { self.new ≡ written n value self.old }
-        ensures dmem { dmem.new ≡ bank_written (not (is_imem self.old)) n value self.old rdram.old dmem.old }
-        ensures imem { imem.new ≡ bank_written (is_imem self.old) n value self.old rdram.old imem.old }
-        ensures rdram { rdram.new ≡ image_written n value self.old dmem.old imem.old rdram.old }
+        ensures dmem { dmem.new ≡ if n % 16 == 2 then dmem_from_rdram value self.old rdram.old dmem.old else dmem.old }
+        ensures imem { imem.new ≡ if n % 16 == 2 then imem_from_rdram value self.old rdram.old imem.old else imem.old }
+        ensures rdram { rdram.new ≡ if n % 16 == 3 then rdram_from_bank value self.old dmem.old imem.old rdram.old else rdram.old }
     {
         match n % 16 {
             0 => self.memory = value % 0x2000 / 8 * 8,

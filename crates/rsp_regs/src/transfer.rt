@@ -35,7 +35,7 @@ impl Transfer {
 
     /// Copies from a bank into the RDRAM.
     #[tactic(auto, using(crate::proofs::Pairs::copies))]
-    pub fn copy_out(&self, bank: &SpMem, rdram: &mut Rdram)
+    pub(crate) fn copy_out(&self, bank: &SpMem, rdram: &mut Rdram)
         requires { IsTransfer self.now }
         ensures { rdram.new ≡ copied_out bank.now rdram.old (pairs self.now) }
     {

@@ -1,7 +1,9 @@
 use Rattle.std.proofs.Common.{◌∙◌, arith}
+use Rattle.rsp_loadstore.specs.Stores.{store_pairs}
 use Rattle.rsp_loadstore.proofs.AtOnce.{packed_stored}
 use Rattle.rsp_loadstore.proofs.stores.store_packed.Goals as goal
 
 pub returns : goal.returns
+unfolding store_pairs
 returns c =
-    c.set_bytes.ensures ∙ rw (c.packed_from.ensures, c.reg.ensures.value) (packed_stored c.args.file.now c.args.memory.now c.args.vt c.args.e c.args.a 8 (omega arith))
+    c.set_bytes.ensures ∙ rw (c.packed_from.ensures, c.reg.ensures) (packed_stored c.args.file.now c.args.memory.now c.args.vt c.args.e c.args.a 8 (omega arith))
