@@ -1,6 +1,6 @@
 // The fields of a word, each named for what the rows that have it take it as.
 
-ghost use Rattle.std.specs.Prelude.{◌≡◌};
+ghost use Rattle.std.specs.Prelude.{◌≡◌, ◌<◌};
 ghost use Rattle.rsp_decode.specs.Table.{value_at, whole, capped, control_of, vector_memory_in};
 
 use crate::inst::Control;
@@ -9,7 +9,8 @@ use crate::shared_fields::{RegisterFields, ScalarMemoryFields, VectorFields, Vec
 /// Bits 31 to 26.
 #[inline(always)]
 pub fn opcode(word: u32) -> u8
-    ensures { result ≡ value_at word (whole 26 6) }
+    ensures value { result ≡ value_at word (whole 26 6) }
+    ensures bound { result < 64 }
 {
     (word >> 26) as u8
 }
@@ -17,7 +18,8 @@ pub fn opcode(word: u32) -> u8
 /// Bits 5 to 0, which select a row of opcode 0 and a computing one.
 #[inline(always)]
 pub fn function(word: u32) -> u32
-    ensures { result ≡ value_at word (whole 0 6) }
+    ensures value { result ≡ value_at word (whole 0 6) }
+    ensures bound { result < 64 }
 {
     word & 63
 }

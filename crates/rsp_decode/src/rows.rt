@@ -134,10 +134,10 @@ const MOVE: u32 = 0xffe0_0000;
 const COMPUTING: u32 = 0xfe00_003f;
 
 /// Of the vector loads and stores, by their operation.
-const TRANSFER: u32 = 0xfc00_f800;
+const VECTOR_MEMORY: u32 = 0xfc00_f800;
 
 /// Of those whose element is 0 or 8.
-const HALF_TRANSFER: u32 = 0xfc00_fb80;
+const HALF_VECTOR_MEMORY: u32 = 0xfc00_fb80;
 
 macro_rules! row {
     ($name:expr, $mask:expr, $value:expr, $operands:expr) => {
@@ -249,29 +249,29 @@ static ROWS: [TableRow; 120] = [
     row!("vrsqh", COMPUTING, 0x4a00_0036, LANE),
     row!("vnop", COMPUTING, 0x4a00_0037, NOTHING),
     row!("vnull", COMPUTING, 0x4a00_003f, NOTHING),
-    row!("lbv", TRANSFER, 0xc800_0000, VECTOR_MEMORY_1),
-    row!("lsv", TRANSFER, 0xc800_0800, VECTOR_MEMORY_2),
-    row!("llv", TRANSFER, 0xc800_1000, VECTOR_MEMORY_4),
-    row!("ldv", TRANSFER, 0xc800_1800, VECTOR_MEMORY_8),
-    row!("lqv", TRANSFER, 0xc800_2000, VECTOR_MEMORY_16),
-    row!("lrv", TRANSFER, 0xc800_2800, VECTOR_MEMORY_16),
-    row!("lpv", TRANSFER, 0xc800_3000, VECTOR_MEMORY_8),
-    row!("luv", TRANSFER, 0xc800_3800, VECTOR_MEMORY_8),
-    row!("lhv", TRANSFER, 0xc800_4000, VECTOR_MEMORY_16),
-    row!("lfv", HALF_TRANSFER, 0xc800_4800, VECTOR_MEMORY_HALF),
-    row!("ltv", TRANSFER, 0xc800_5800, VECTOR_MEMORY_16),
-    row!("sbv", TRANSFER, 0xe800_0000, VECTOR_MEMORY_1),
-    row!("ssv", TRANSFER, 0xe800_0800, VECTOR_MEMORY_2),
-    row!("slv", TRANSFER, 0xe800_1000, VECTOR_MEMORY_4),
-    row!("sdv", TRANSFER, 0xe800_1800, VECTOR_MEMORY_8),
-    row!("sqv", TRANSFER, 0xe800_2000, VECTOR_MEMORY_16),
-    row!("srv", TRANSFER, 0xe800_2800, VECTOR_MEMORY_16),
-    row!("spv", TRANSFER, 0xe800_3000, VECTOR_MEMORY_8),
-    row!("suv", TRANSFER, 0xe800_3800, VECTOR_MEMORY_8),
-    row!("shv", TRANSFER, 0xe800_4000, VECTOR_MEMORY_16),
-    row!("sfv", HALF_TRANSFER, 0xe800_4800, VECTOR_MEMORY_HALF),
-    row!("swv", TRANSFER, 0xe800_5000, VECTOR_MEMORY_16),
-    row!("stv", TRANSFER, 0xe800_5800, VECTOR_MEMORY_16),
+    row!("lbv", VECTOR_MEMORY, 0xc800_0000, VECTOR_MEMORY_1),
+    row!("lsv", VECTOR_MEMORY, 0xc800_0800, VECTOR_MEMORY_2),
+    row!("llv", VECTOR_MEMORY, 0xc800_1000, VECTOR_MEMORY_4),
+    row!("ldv", VECTOR_MEMORY, 0xc800_1800, VECTOR_MEMORY_8),
+    row!("lqv", VECTOR_MEMORY, 0xc800_2000, VECTOR_MEMORY_16),
+    row!("lrv", VECTOR_MEMORY, 0xc800_2800, VECTOR_MEMORY_16),
+    row!("lpv", VECTOR_MEMORY, 0xc800_3000, VECTOR_MEMORY_8),
+    row!("luv", VECTOR_MEMORY, 0xc800_3800, VECTOR_MEMORY_8),
+    row!("lhv", VECTOR_MEMORY, 0xc800_4000, VECTOR_MEMORY_16),
+    row!("lfv", HALF_VECTOR_MEMORY, 0xc800_4800, VECTOR_MEMORY_HALF),
+    row!("ltv", VECTOR_MEMORY, 0xc800_5800, VECTOR_MEMORY_16),
+    row!("sbv", VECTOR_MEMORY, 0xe800_0000, VECTOR_MEMORY_1),
+    row!("ssv", VECTOR_MEMORY, 0xe800_0800, VECTOR_MEMORY_2),
+    row!("slv", VECTOR_MEMORY, 0xe800_1000, VECTOR_MEMORY_4),
+    row!("sdv", VECTOR_MEMORY, 0xe800_1800, VECTOR_MEMORY_8),
+    row!("sqv", VECTOR_MEMORY, 0xe800_2000, VECTOR_MEMORY_16),
+    row!("srv", VECTOR_MEMORY, 0xe800_2800, VECTOR_MEMORY_16),
+    row!("spv", VECTOR_MEMORY, 0xe800_3000, VECTOR_MEMORY_8),
+    row!("suv", VECTOR_MEMORY, 0xe800_3800, VECTOR_MEMORY_8),
+    row!("shv", VECTOR_MEMORY, 0xe800_4000, VECTOR_MEMORY_16),
+    row!("sfv", HALF_VECTOR_MEMORY, 0xe800_4800, VECTOR_MEMORY_HALF),
+    row!("swv", VECTOR_MEMORY, 0xe800_5000, VECTOR_MEMORY_16),
+    row!("stv", VECTOR_MEMORY, 0xe800_5800, VECTOR_MEMORY_16),
 ];
 
 /// All rows of the instruction table.

@@ -1,6 +1,7 @@
-// The rows of opcode 18 with bit 25, which go by the function.
+// The rows of opcode 18 with bit 25, which go by the function. Two functions share them, so that each is small enough to be put
+// into the loop over steps; reserved values have arms of their own, so that the jump needs no test of its range.
 
-ghost use Rattle.std.specs.Prelude.{true, ◌≡◌, ◌*◌, ◌+◌, ◌^◌};
+ghost use Rattle.std.specs.Prelude.{true, ◌≡◌, ◌*◌, ◌+◌, ◌^◌, ◌<◌, ◌≤◌};
 ghost use Rattle.rsp_decode.specs.Visit.{is_known, visited};
 ghost use Rattle.rsp_decode.specs.Table.{value_at, whole, pick, meaning_of, computing_rows, multiply_row, round_row, mpeg_row, read_accumulator_row, vector_add_row, vector_select_row, vector_clip_row, vector_merge_row, vector_logic_row, divide_row, idle_row};
 
@@ -110,8 +111,10 @@ fn idle<V: Visitor>(word: u32, row: IdleRow, visitor: &mut V) -> bool
     true
 }
 
-#[inline(always)]
-pub fn visit_computing<V: Visitor>(word: u32, visitor: &mut V) -> bool
+/// The functions below 16: the multiplies and the roundings.
+#[inline]
+fn visit_products<V: Visitor>(word: u32, visitor: &mut V) -> bool
+    requires { value_at word (whole 0 6) < 16 }
     ensures known { result ≡ is_known (pick computing_rows (18 * 2 ^ 26 + 2 ^ 25 + value_at word (whole 0 6)) word) }
     ensures state { visitor.new ≡ visited V.after (pick computing_rows (18 * 2 ^ 26 + 2 ^ 25 + value_at word (whole 0 6)) word) visitor.old }
 {
@@ -132,12 +135,34 @@ pub fn visit_computing<V: Visitor>(word: u32, visitor: &mut V) -> bool
         0x0d => multiply(word, MultiplyRow::Vmadm, visitor),
         0x0e => multiply(word, MultiplyRow::Vmadn, visitor),
         0x0f => multiply(word, MultiplyRow::Vmadh, visitor),
+        _ => unreachable!(),
+    }
+}
+
+/// The functions from 16 on.
+#[inline]
+fn visit_others<V: Visitor>(word: u32, visitor: &mut V) -> bool
+    requires { 16 ≤ value_at word (whole 0 6) }
+    ensures known { result ≡ is_known (pick computing_rows (18 * 2 ^ 26 + 2 ^ 25 + value_at word (whole 0 6)) word) }
+    ensures state { visitor.new ≡ visited V.after (pick computing_rows (18 * 2 ^ 26 + 2 ^ 25 + value_at word (whole 0 6)) word) visitor.old }
+{
+    match function(word) {
         0x10 => vector_add(word, VectorAddRow::Vadd, visitor),
         0x11 => vector_add(word, VectorAddRow::Vsub, visitor),
+        0x12 => false,
         0x13 => vector_add(word, VectorAddRow::Vabs, visitor),
         0x14 => vector_add(word, VectorAddRow::Vaddc, visitor),
         0x15 => vector_add(word, VectorAddRow::Vsubc, visitor),
+        0x16 => false,
+        0x17 => false,
+        0x18 => false,
+        0x19 => false,
+        0x1a => false,
+        0x1b => false,
+        0x1c => false,
         0x1d => read_accumulator(word, visitor),
+        0x1e => false,
+        0x1f => false,
         0x20 => vector_select(word, VectorSelectRow::Vlt, visitor),
         0x21 => vector_select(word, VectorSelectRow::Veq, visitor),
         0x22 => vector_select(word, VectorSelectRow::Vne, visitor),
@@ -152,6 +177,8 @@ pub fn visit_computing<V: Visitor>(word: u32, visitor: &mut V) -> bool
         0x2b => vector_logic(word, VectorLogicRow::Vnor, visitor),
         0x2c => vector_logic(word, VectorLogicRow::Vxor, visitor),
         0x2d => vector_logic(word, VectorLogicRow::Vnxor, visitor),
+        0x2e => false,
+        0x2f => false,
         0x30 => divide(word, DivideRow::Vrcp, visitor),
         0x31 => divide(word, DivideRow::Vrcpl, visitor),
         0x32 => divide(word, DivideRow::Vrcph, visitor),
@@ -160,7 +187,26 @@ pub fn visit_computing<V: Visitor>(word: u32, visitor: &mut V) -> bool
         0x35 => divide(word, DivideRow::Vrsql, visitor),
         0x36 => divide(word, DivideRow::Vrsqh, visitor),
         0x37 => idle(word, IdleRow::Vnop, visitor),
+        0x38 => false,
+        0x39 => false,
+        0x3a => false,
+        0x3b => false,
+        0x3c => false,
+        0x3d => false,
+        0x3e => false,
         0x3f => idle(word, IdleRow::Vnull, visitor),
-        _ => false,
+        _ => unreachable!(),
+    }
+}
+
+#[inline(always)]
+pub fn visit_computing<V: Visitor>(word: u32, visitor: &mut V) -> bool
+    ensures known { result ≡ is_known (pick computing_rows (18 * 2 ^ 26 + 2 ^ 25 + value_at word (whole 0 6)) word) }
+    ensures state { visitor.new ≡ visited V.after (pick computing_rows (18 * 2 ^ 26 + 2 ^ 25 + value_at word (whole 0 6)) word) visitor.old }
+{
+    if function(word) < 16 {
+        visit_products(word, visitor)
+    } else {
+        visit_others(word, visitor)
     }
 }
