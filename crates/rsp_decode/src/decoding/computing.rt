@@ -1,6 +1,6 @@
 // The rows of opcode 18 with bit 25, which go by the function.
 
-ghost use Rattle.std.specs.Prelude.{true, ◌≡◌, ◌*◌, ◌+◌, ◌^◌};
+ghost use Rattle.std.specs.Prelude.{true, ◌≡◌, ◌*◌, ◌+◌, ◌^◌, ◌<◌, ◌≤◌};
 ghost use Rattle.rsp_decode.specs.Visit.{is_known, visited};
 ghost use Rattle.rsp_decode.specs.Table.{value_at, whole, pick, meaning_of, computing_rows, multiply_row, round_row, mpeg_row, read_accumulator_row, vector_add_row, vector_select_row, vector_clip_row, vector_merge_row, vector_logic_row, lane_row, idle_row};
 
@@ -110,8 +110,10 @@ fn idle<V: Visitor>(word: u32, row: IdleRow, visitor: &mut V) -> bool
     true
 }
 
-#[inline(always)]
-pub fn visit_computing<V: Visitor>(word: u32, visitor: &mut V) -> bool
+/// The functions below 16: the multiplies and the roundings. There is a row for each.
+#[inline]
+fn visit_products<V: Visitor>(word: u32, visitor: &mut V) -> bool
+    requires { value_at word (whole 0 6) < 16 }
     ensures known { result ≡ is_known (pick computing_rows (18 * 2 ^ 26 + 2 ^ 25 + value_at word (whole 0 6)) word) }
     ensures state { visitor.new ≡ visited V.after (pick computing_rows (18 * 2 ^ 26 + 2 ^ 25 + value_at word (whole 0 6)) word) visitor.old }
 {
@@ -132,6 +134,18 @@ pub fn visit_computing<V: Visitor>(word: u32, visitor: &mut V) -> bool
         0x0d => multiply(word, MultiplyRow::Vmadm, visitor),
         0x0e => multiply(word, MultiplyRow::Vmadn, visitor),
         0x0f => multiply(word, MultiplyRow::Vmadh, visitor),
+        _ => unreachable!(),
+    }
+}
+
+/// The functions from 16 on.
+#[inline]
+fn visit_others<V: Visitor>(word: u32, visitor: &mut V) -> bool
+    requires { 16 ≤ value_at word (whole 0 6) }
+    ensures known { result ≡ is_known (pick computing_rows (18 * 2 ^ 26 + 2 ^ 25 + value_at word (whole 0 6)) word) }
+    ensures state { visitor.new ≡ visited V.after (pick computing_rows (18 * 2 ^ 26 + 2 ^ 25 + value_at word (whole 0 6)) word) visitor.old }
+{
+    match function(word) {
         0x10 => vector_add(word, VectorAddRow::Vadd, visitor),
         0x11 => vector_add(word, VectorAddRow::Vsub, visitor),
         0x13 => vector_add(word, VectorAddRow::Vabs, visitor),
@@ -162,5 +176,18 @@ pub fn visit_computing<V: Visitor>(word: u32, visitor: &mut V) -> bool
         0x37 => idle(word, IdleRow::Vnop, visitor),
         0x3f => idle(word, IdleRow::Vnull, visitor),
         _ => false,
+    }
+}
+
+/// The two halves stand apart so that each is small enough to be put into the loop over steps.
+#[inline(always)]
+pub fn visit_computing<V: Visitor>(word: u32, visitor: &mut V) -> bool
+    ensures known { result ≡ is_known (pick computing_rows (18 * 2 ^ 26 + 2 ^ 25 + value_at word (whole 0 6)) word) }
+    ensures state { visitor.new ≡ visited V.after (pick computing_rows (18 * 2 ^ 26 + 2 ^ 25 + value_at word (whole 0 6)) word) visitor.old }
+{
+    if function(word) < 16 {
+        visit_products(word, visitor)
+    } else {
+        visit_others(word, visitor)
     }
 }

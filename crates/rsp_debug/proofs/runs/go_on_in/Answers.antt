@@ -9,7 +9,8 @@ use Rattle.rsp_debug.specs.Held.{watches_of}
 use Rattle.rsp_debug.specs.Runs.{stuck_of}
 use Rattle.rsp_debug.proofs.Going.{past-none, past-step, past-halted, past-reserved}
 use Rattle.rsp_debug.proofs.Reasons.{reason-hit, reason-limit, next-reached, next-first, next-hit, nothing-differs, step-halted, step-halted-same, step-reserved, step-reserved-same}
-use Rattle.rsp_debug.proofs.Slots.{still-same}
+use Rattle.rsp_debug.proofs.Slots.{still-same, differs-empty}
+use Rattle.rsp_debug.proofs.Hits.{unbroken-hit}
 use Rattle.rsp_debug.proofs.Afters.{after-none, after-more, after-same, never}
 use Rattle.rsp_debug.proofs.runs.go_on_in.Goals as goal
 
@@ -108,5 +109,10 @@ hit-requires-clause-free g c e = c.is_breaking-breaking.ensures e
 
 pub hit-requires-clause-same : goal.hit-requires-clause-same
 hit-requires-clause-same g c e =
-    still-same c.is_watching-watching.result c.args.held.now c.loop-k.machine.dmem c.step-made.new.machine.dmem c.is_watching-watching.ensures
+    still-same c.is_looking-looking.result c.args.held.now c.loop-k.machine.dmem c.step-made.new.machine.dmem c.is_looking-looking.ensures.watches
     (λ asks. c.step-made.ensures.memory c.in-Done.is asks e) c.loop-k.invariant.same
+
+pub hit-requires-clause-quiet : goal.hit-requires-clause-quiet
+hit-requires-clause-quiet g c e =
+    let m = c.step-made.new.machine in
+    sym (unbroken-hit c.args.breaks.now c.args.held.now m (differs-empty c.args.held.now m.dmem (c.is_looking-looking.ensures.watches e)) (c.is_looking-looking.ensures.breaks e))
