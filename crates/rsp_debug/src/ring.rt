@@ -1,4 +1,4 @@
-ghost use Rattle.std.specs.Prelude.{◌≡◌, ◌+◌, ◌-◌, ◌==◌, if◌then◌else◌, ◌<◌, ◌≤◌, [], true, false, length, min, drop, slice_index_or, IfOk};
+ghost use Rattle.std.specs.Prelude.{◌≡◌, ◌+◌, ◌-◌, ◌==◌, if◌then◌else◌, ◌&&◌, ◌<◌, ◌≤◌, [], true, false, length, min, drop, slice_index_or, IfOk};
 ghost use Rattle.rsp_machine.specs.Step.{step_of};
 ghost use Rattle.rsp_debug.specs.Places.{following, one_down, from_place, IsStanding};
 ghost use Rattle.rsp_debug.specs.Past.{states_before, past_after};
@@ -35,14 +35,50 @@ impl Model for Ring {
     ghost invariant = { λ r. IsWithin r.first r.count r.depth r.slots.items };
 }
 
-/// Where the records stand in slots that a run has borrowed. Each step puts one before the newest, so that nothing has to be
-/// counted: `older` records stood when the newest was at `base`.
+/// So many records stood when the newest was at a place. Each step puts one before it, so that none has to be counted.
+#[derive(Clone, Copy, Drop)]
+struct Counted {
+    older: usize,
+    base: usize,
+}
+
+impl Counted {
+    /// How many records stand where the newest is at a place at or before the base.
+    fn upto(self, first: usize, depth: usize) -> usize
+        requires { first ≤ self.base }
+        ensures { result ≡ min (self.older + (self.base - first)) depth }
+    {
+        self.older.saturating_add(self.base - first).min(depth)
+    }
+
+    /// The same records, from place 0 on, as they stand where that place is called `slots`.
+    #[cold]
+    #[inline(never)]
+    fn turned(self, slots: usize, depth: usize) -> Counted
+        ensures { result ≡ record { older = min (self.older + self.base) depth; base = slots } }
+    {
+        Counted {
+            older: self.upto(0, depth),
+            base: slots,
+        }
+    }
+
+    /// No record, where the newest was at a place.
+    #[cold]
+    #[inline(never)]
+    fn none(base: usize) -> Counted
+        ensures { result ≡ record { older = 0; base = base } }
+    {
+        Counted { older: 0, base }
+    }
+}
+
+/// Where the records stand in slots that a run has borrowed.
 #[derive(Drop)]
 pub struct Span {
     /// The place of the newest record, or the number of slots for place 0.
     first: usize,
-    base: usize,
-    older: usize,
+    counted: Counted,
     depth: usize,
 }
 
@@ -54,11 +90,19 @@ impl Model for Span {
 
     ghost view = { λ s. record {
       first = s.first;
-      count = min (s.older + (s.base - s.first)) s.depth;
+      count = min (s.counted.older + (s.counted.base - s.first)) s.depth;
       depth = s.depth;
     } };
 
-    ghost invariant = { λ s. s.first ≤ s.base };
+    ghost invariant = { λ s. s.first ≤ s.counted.base };
+}
+
+/// What a run looks for behind each step. Where it looks for nothing, one test is all that this costs.
+#[derive(Clone, Copy, Drop)]
+pub struct Sought {
+    pub any: bool,
+    pub watches: bool,
+    pub breaks: bool,
 }
 
 /// What a step came to.
@@ -138,8 +182,10 @@ impl Span {
         let first = if first == 0 { slots } else { first };
         Span {
             first,
-            base: first,
-            older: count,
+            counted: Counted {
+                older: count,
+                base: first,
+            },
             depth,
         }
     }
@@ -155,9 +201,7 @@ impl Span {
     pub fn count(&self) -> usize
         ensures { result ≡ self.now.count }
     {
-        self.older
-            .saturating_add(self.base - self.first)
-            .min(self.depth)
+        self.counted.upto(self.first, self.depth)
     }
 
     /// The place of the next record.
@@ -169,17 +213,6 @@ impl Span {
         self.first - 1
     }
 
-    /// Goes round from place 0.
-    #[cold]
-    fn turn(&mut self, slots: usize)
-        requires { self.old.first ≡ 0 }
-        ensures { self.new ≡ record self.old { first = slots } }
-    {
-        self.older = self.count();
-        self.base = slots;
-        self.first = slots;
-    }
-
     /// One record more, before the newest, in a ring of so many slots.
     #[inline(always)]
     fn grow(&mut self, slots: usize)
@@ -188,33 +221,34 @@ impl Span {
     {
         self.first -= 1;
         if self.first == 0 {
-            self.turn(slots);
+            self.counted = self.counted.turned(slots, self.depth);
+            self.first = slots;
         }
     }
 
     /// Forgets all records.
-    #[cold]
+    #[inline(always)]
     fn forget(&mut self)
         ensures { self.new ≡ record self.old { count = 0 } }
     {
-        self.older = 0;
-        self.base = self.first;
+        self.counted = Counted::none(self.first);
     }
 
     /// One step of a machine, of which the slots keep what it changed. So the states that lead back from the machine
-    /// are those before, with the one that the step left as the newest. `asks` is whether to tell that it may have changed DMEM.
+    /// are those before, with the one that the step left as the newest. Whether it may have changed DMEM is told where a run looks for
+    /// watches.
     #[inline(always)]
     #[tactic(auto, using(crate::proofs::Pasts::pasts))]
     pub fn step<A: Acc>(
         &mut self,
         slots: &mut [Record],
         machine: &mut Machine<A>,
-        asks: bool,
+        sought: Sought,
     ) -> Made
         requires { IsStanding self.old slots.old }
         ensures answer { result.end ≡ (step_of machine.old).0 }
         ensures state { machine.new ≡ (step_of machine.old).1 }
-        ensures memory { result.end ≡ StepEnd.Done → asks ≡ true → result.stored ≡ false → machine.new.dmem ≡ machine.old.dmem }
+        ensures memory { result.end ≡ StepEnd.Done → (sought.any && sought.watches) ≡ true → result.stored ≡ false → machine.new.dmem ≡ machine.old.dmem }
         ensures past { states_before machine.new (from_place self.new.first self.new.count slots.new) ≡ past_after self.old.depth machine.old (states_before machine.old (from_place self.old.first self.old.count slots.old)) }
         ensures depth { self.new.depth ≡ self.old.depth }
         ensures len { length slots.new ≡ length slots.old }
@@ -234,7 +268,7 @@ impl Span {
         }
         Made {
             end,
-            stored: asks && slot.may_store(),
+            stored: sought.any && sought.watches && slot.may_store(),
         }
     }
 }

@@ -1,6 +1,6 @@
 // Steps, one after the other, up to a reason to stop.
 
-ghost use Rattle.std.specs.Prelude.{◌≡◌, ◌<◌, ◌≤◌, ℕ, Some, None, length, is_some, unwrap_or, true, false};
+ghost use Rattle.std.specs.Prelude.{◌≡◌, ◌&&◌, ◌<◌, ◌≤◌, ℕ, Some, None, length, is_some, unwrap_or, true, false};
 ghost use Rattle.rsp_machine.specs.Step.{step_of};
 ghost use Rattle.rsp_debug.specs.Stops.{IsStop, reason_at};
 ghost use Rattle.rsp_debug.specs.Breaks.{break_count};
@@ -13,7 +13,7 @@ ghost use Rattle.rsp_debug.specs.declared.stop.Reason.TheVariants as why;
 
 use crate::breaks::Breaks;
 use crate::held::{Held, differs};
-use crate::ring::{Ring, Span};
+use crate::ring::{Ring, Sought, Span};
 use crate::stop::{Reason, Stop};
 use crate::watches::Watches;
 use rsp_acc::Acc;
@@ -69,19 +69,19 @@ fn dmem_bytes<A: Acc>(machine: &Machine<A>) -> &[u8]
     dmem.run(0, 4096)
 }
 
-/// Whether there are watches or breakpoints.
-fn is_looking(breaks: &Breaks, held: &[Option<Held>]) -> bool
-    ensures watches { result ≡ false → length held.now ≡ 0 }
-    ensures breaks { result ≡ false → break_count breaks.now ≡ 0 }
+/// What there is to look for.
+fn sought(breaks: &Breaks, held: &[Option<Held>]) -> Sought
+    ensures watches { (result.any && result.watches) ≡ false → length held.now ≡ 0 }
+    ensures none { result.any ≡ false → (length held.now ≡ 0) × (break_count breaks.now ≡ 0) }
+    ensures breaks { result.breaks ≡ false → break_count breaks.now ≡ 0 }
 {
-    !held.is_empty() || !breaks.is_empty()
-}
-
-/// Whether there are breakpoints.
-fn is_breaking(breaks: &Breaks) -> bool
-    ensures { result ≡ false → break_count breaks.now ≡ 0 }
-{
-    !breaks.is_empty()
+    let watches = !held.is_empty();
+    let breaks = !breaks.is_empty();
+    Sought {
+        any: watches || breaks,
+        watches,
+        breaks,
+    }
 }
 
 /// The watch or the breakpoint that a step has come to. Bytes are compared only where the step may have stored, and places
@@ -92,22 +92,21 @@ fn hit<A: Acc>(
     machine: &Machine<A>,
     breaks: &Breaks,
     held: &[Option<Held>],
-    looking: bool,
-    breaking: bool,
+    sought: Sought,
     stored: bool,
 ) -> Option<Reason>
-    requires quiet { looking ≡ false → hit_in breaks.now held.now machine.now ≡ None }
-    requires free { breaking ≡ false → break_count breaks.now ≡ 0 }
+    requires quiet { sought.any ≡ false → hit_in breaks.now held.now machine.now ≡ None }
+    requires free { sought.breaks ≡ false → break_count breaks.now ≡ 0 }
     requires same { stored ≡ false → differs held.now machine.now.dmem ≡ None }
     ensures { result ≡ hit_in breaks.now held.now machine.now }
 {
-    if !looking {
+    if !sought.any {
         return None;
     }
     if stored && let Some(k) = differs(held, dmem_bytes(machine)) {
         return Some(Reason::Watched(k));
     }
-    if breaking && breaks.contains(machine.pc()) {
+    if sought.breaks && breaks.contains(machine.pc()) {
         return Some(Reason::Break);
     }
     None
@@ -135,16 +134,15 @@ fn go_on_in<A: Acc>(
     ensures first { (j : ℕ) → j < result.0 → reason_at breaks.now (watches_of held.now) n machine.old j ≡ None }
     ensures last { stuck_of machine.new ≡ None → reason_at breaks.now (watches_of held.now) n machine.old result.0 ≡ Some (unwrap_or result.1 why.Limit) }
 {
-    let looking = is_looking(breaks, held);
-    let breaking = is_breaking(breaks);
+    let sought = sought(breaks, held);
     for k in 0..n {
-        let made = span.step(slots, machine, looking);
+        let made = span.step(slots, machine, sought);
         match made.end {
             StepEnd::Done => {}
             StepEnd::Halted => return (k, None),
             StepEnd::Reserved { word: _ } => return (k, None),
         }
-        if let Some(reason) = hit(machine, breaks, held, looking, breaking, made.stored) {
+        if let Some(reason) = hit(machine, breaks, held, sought, made.stored) {
             return (k + 1, Some(reason));
         }
     }

@@ -1,4 +1,4 @@
-use Rattle.std.proofs.Common.{◌≡◌, ◌∙◌, arith, sym, refl, ap, ◌+◌, Some}
+use Rattle.std.proofs.Common.{◌≡◌, ◌&&◌, ◌∙◌, arith, sym, refl, ap, ◌+◌, Some}
 use Rattle.std.specs.Prelude.{is_some}
 use Rattle.rsp_machine.specs.State.{State}
 use Rattle.rsp_debug.specs.declared.stop.Reason.TheVariants.{Limit}
@@ -105,14 +105,14 @@ returns-clause-last g c free =
     ∙ reason-limit b w c.args.n c.args.machine.now l.machine l.k l.invariant.after.reached free l.invariant.quiet (sym e)
 
 pub hit-requires-clause-free : goal.hit-requires-clause-free
-hit-requires-clause-free g c e = c.is_breaking-breaking.ensures e
+hit-requires-clause-free g c e = c.sought-sought.ensures.breaks e
 
 pub hit-requires-clause-same : goal.hit-requires-clause-same
 hit-requires-clause-same g c e =
-    still-same c.is_looking-looking.result c.args.held.now c.loop-k.machine.dmem c.step-made.new.machine.dmem c.is_looking-looking.ensures.watches
+    still-same (c.sought-sought.result.any && c.sought-sought.result.watches) c.args.held.now c.loop-k.machine.dmem c.step-made.new.machine.dmem c.sought-sought.ensures.watches
     (λ asks. c.step-made.ensures.memory c.in-Done.is asks e) c.loop-k.invariant.same
 
 pub hit-requires-clause-quiet : goal.hit-requires-clause-quiet
 hit-requires-clause-quiet g c e =
     let m = c.step-made.new.machine in
-    sym (unbroken-hit c.args.breaks.now c.args.held.now m (differs-empty c.args.held.now m.dmem (c.is_looking-looking.ensures.watches e)) (c.is_looking-looking.ensures.breaks e))
+    sym (unbroken-hit c.args.breaks.now c.args.held.now m (differs-empty c.args.held.now m.dmem (c.sought-sought.ensures.none e).0) (c.sought-sought.ensures.none e).1)
