@@ -9,9 +9,9 @@ use Rattle.rsp_machine.specs.Step.{step_of}
 use Rattle.rsp_machine.specs.Saved.{Saved, undone, can_undo, slot_after}
 use Rattle.rsp_machine.specs.declared.step.StepEnd.TheVariants.{Done, Halted, Reserved}
 use Rattle.rsp_machine.proofs.Kept.{halted_stays, reserved_stays}
-use Rattle.rsp_debug.specs.Places.{previous, following, from_place}
+use Rattle.rsp_debug.specs.Places.{one_down, following, from_place}
 use Rattle.rsp_debug.specs.Past.{states_before, past_by, past_after}
-use Rattle.rsp_debug.proofs.Turns.{pushed, popped, first_is, kept_member}
+use Rattle.rsp_debug.proofs.Turns.{grown, popped, first_is, kept_member}
 
 pub states_before-take : (s : State) (n : ℕ) (rs : List Saved) → states_before s (take n rs) ≡ take n (states_before s rs)
 states_before-take s zero rs = refl
@@ -23,13 +23,13 @@ length-states_before s [] = refl
 length-states_before s (r ∷ rs) = ap suc (length-states_before (undone r s) rs)
 
 -- a step that can be undone
-pub past_done : (s t : State) (xs : List Saved) (i count n : ℕ) (x : Saved) → i < length xs → n ≤ length xs
+pub past_done : (s t : State) (xs : List Saved) (i count n : ℕ) (x : Saved) → 0 < i → i ≤ length xs → n ≤ length xs
     → (step_of s).0 ≡ Done → can_undo s ≡ true → undone x t ≡ s
-    → states_before t (from_place (previous (length xs) i) (min (count + 1) n) (set xs (previous (length xs) i) x))
+    → states_before t (from_place (one_down (length xs) i) (min (count + 1) n) (set xs (i - 1) x))
     ≡ past_after n s (states_before s (from_place i count xs))
 unfolding past_after
-past_done s t xs i count n x h c d u e =
-    ap (states_before t) (pushed xs i count n x h c)
+past_done s t xs i count n x h l c d u e =
+    ap (states_before t) (grown xs i count n x h l c)
     ∙ states_before-take t n (x ∷ from_place i count xs)
     ∙ ap (λ z. take n (z ∷ states_before z (from_place i count xs))) e
     ∙ sym (ap (λ b. past_by Done b n s (states_before s (from_place i count xs))) u)

@@ -6,7 +6,7 @@ use Rattle.std.proofs.lemmas.Option.{get_or_from_slice_get}
 use Rattle.std.proofs.lemmas.List.{drop-set, take-set, take_more, take_all, drop_all, take-append-le, take-take, length-take, length-drop, length-append, length-set, set-get_or, append-nil}
 use Rattle.std.proofs.lemmas.Bool.{cases_lt}
 use Rattle.std.proofs.lemmas.Bool.Decides.{nat_tests}
-use Rattle.rsp_debug.specs.Places.{following, previous, rotated, from_place}
+use Rattle.rsp_debug.specs.Places.{following, previous, one_down, rotated, from_place}
 
 following_previous : (n i : ℕ) → i < n → following n (previous n i) ≡ i
 following_previous n i h = grind (arith, nat_tests)
@@ -67,6 +67,38 @@ module _ {X : Type 0} where
       ∙ ap (λ k. take k (x ∷ rest p xs)) m
       ∙ ap (λ l. x ∷ l) (cut n count (rest p xs) o (omega arith))
       ∙ sym (ap (λ l. take (suc n) (x ∷ take count l)) f)
+
+  -- place 0 by the number of places
+  round : (xs : List X) (i count : ℕ) → i ≡ length xs → from_place i count xs ≡ from_place 0 count xs
+  round xs i count e =
+      ap (λ l. take count (l ++ take i xs)) (drop_all i xs (omega arith)) ∙ ap (take count) (take_all i xs (omega arith) ∙ sym (append-nil xs))
+
+  place_by : (b : Bool) (xs : List X) (i count : ℕ) → (i == 0) ≡ b → from_place (if b then length xs else i) count xs ≡ from_place i count xs
+  place_by true xs i count e =
+      let z : i ≡ 0 = grind (arith, nat_tests) in
+      round xs (length xs) count refl ∙ ap (λ j. from_place j count xs) (sym z)
+  place_by false xs i count e = refl
+
+  before_by : (b : Bool) (xs : List X) (i count n : ℕ) (x : X) → (i == length xs) ≡ b → 0 < i → i ≤ length xs → n ≤ length xs
+      → from_place (i - 1) (min (count + 1) n) (set xs (i - 1) x) ≡ take n (x ∷ from_place i count xs)
+  before_by true xs i count n x e h c d =
+      let k : i ≡ length xs = grind (arith, nat_tests) in
+      let p : previous (length xs) 0 ≡ i - 1 = grind (arith, nat_tests) in
+      ap (λ j. from_place j (min (count + 1) n) (set xs j x)) (sym p)
+      ∙ pushed xs 0 count n x (omega arith) d
+      ∙ ap (λ l. take n (x ∷ l)) (sym (round xs i count k))
+  before_by false xs i count n x e h c d =
+      let l : i < length xs = grind (arith, nat_tests) in
+      let p : previous (length xs) i ≡ i - 1 = grind (arith, nat_tests) in
+      ap (λ j. from_place j (min (count + 1) n) (set xs j x)) (sym p) ∙ pushed xs i count n x l d
+
+  -- the same by the places 1 to n
+  pub grown : (xs : List X) (i count n : ℕ) (x : X) → 0 < i → i ≤ length xs → n ≤ length xs
+      → from_place (one_down (length xs) i) (min (count + 1) n) (set xs (i - 1) x) ≡ take n (x ∷ from_place i count xs)
+  grown xs i count n x h c d =
+      ap (λ l. from_place (if i - 1 == 0 then l else i - 1) (min (count + 1) n) (set xs (i - 1) x)) (sym (length-set xs (i - 1) x))
+      ∙ place_by (i - 1 == 0) (set xs (i - 1) x) (i - 1) (min (count + 1) n) refl
+      ∙ before_by (i == length xs) xs i count n x refl h c d
 
   -- the first member goes
   pub popped : (xs : List X) (i count : ℕ) (d : X) → i < length xs → count ≤ length xs → from_place (following (length xs) i) (count - 1) xs ≡ drop 1 (from_place i count xs)

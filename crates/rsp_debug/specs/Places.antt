@@ -19,3 +19,17 @@ from_place i count xs = take count (rotated i xs)
 -- so many members, at most depth, stand in xs from a place on
 abbrev pub IsWithin : {X : Type 0} → ℕ → ℕ → ℕ → List X → Type 0
 IsWithin i count depth xs = (i < length xs) × (count ≤ depth) × (depth ≤ length xs)
+
+-- Where records stand while a run goes on: the place of the newest, or their number of slots for place 0; how many; and how many
+-- may.
+pub record Standing : Type 0 where
+  pub first : ℕ
+  pub count : ℕ
+  pub depth : ℕ
+
+-- the place before one of the n places 1 to n, of which n is place 0 of the ring
+abbrev pub one_down : ℕ → ℕ → ℕ
+one_down n i = if i - 1 == 0 then n else i - 1
+
+abbrev pub IsStanding : {X : Type 0} → Standing → List X → Type 0
+IsStanding s xs = (0 < s.first) × (s.first ≤ length xs) × (s.count ≤ s.depth) × (s.depth ≤ length xs)

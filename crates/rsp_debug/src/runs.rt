@@ -1,19 +1,19 @@
 // Steps, one after the other, up to a reason to stop.
 
-ghost use Rattle.std.specs.Prelude.{◌≡◌, ◌<◌, ◌≤◌, ℕ, Some, None, length, is_some, unwrap_or, true, false};
+ghost use Rattle.std.specs.Prelude.{◌≡◌, ◌&&◌, ◌<◌, ◌≤◌, ℕ, Some, None, length, is_some, unwrap_or, true, false};
 ghost use Rattle.rsp_machine.specs.Step.{step_of};
 ghost use Rattle.rsp_debug.specs.Stops.{IsStop, reason_at};
 ghost use Rattle.rsp_debug.specs.Breaks.{break_count};
 ghost use Rattle.rsp_debug.specs.Calls.{IsAfter};
 ghost use Rattle.rsp_debug.specs.Held.{differs, watches_of};
 ghost use Rattle.rsp_debug.specs.Past.{states_before, past_after, past_of};
-ghost use Rattle.rsp_debug.specs.Places.{from_place, IsWithin};
+ghost use Rattle.rsp_debug.specs.Places.{from_place, IsStanding};
 ghost use Rattle.rsp_debug.specs.Runs.{stuck_of, hit_in};
 ghost use Rattle.rsp_debug.specs.declared.stop.Reason.TheVariants as why;
 
 use crate::breaks::Breaks;
 use crate::held::{Held, differs};
-use crate::ring::{Ring, Span};
+use crate::ring::{Ring, Sought, Span};
 use crate::stop::{Reason, Stop};
 use crate::watches::Watches;
 use rsp_acc::Acc;
@@ -69,18 +69,19 @@ fn dmem_bytes<A: Acc>(machine: &Machine<A>) -> &[u8]
     dmem.run(0, 4096)
 }
 
-/// Whether there are watches.
-fn is_watching(held: &[Option<Held>]) -> bool
-    ensures { result ≡ false → length held.now ≡ 0 }
+/// What there is to look for.
+fn sought(breaks: &Breaks, held: &[Option<Held>]) -> Sought
+    ensures watches { (result.any && result.watches) ≡ false → length held.now ≡ 0 }
+    ensures none { result.any ≡ false → (length held.now ≡ 0) × (break_count breaks.now ≡ 0) }
+    ensures breaks { result.breaks ≡ false → break_count breaks.now ≡ 0 }
 {
-    !held.is_empty()
-}
-
-/// Whether there are breakpoints.
-fn is_breaking(breaks: &Breaks) -> bool
-    ensures { result ≡ false → break_count breaks.now ≡ 0 }
-{
-    !breaks.is_empty()
+    let watches = !held.is_empty();
+    let breaks = !breaks.is_empty();
+    Sought {
+        any: watches || breaks,
+        watches,
+        breaks,
+    }
 }
 
 /// The watch or the breakpoint that a step has come to. Bytes are compared only where the step may have stored, and places
@@ -91,17 +92,21 @@ fn hit<A: Acc>(
     machine: &Machine<A>,
     breaks: &Breaks,
     held: &[Option<Held>],
-    breaking: bool,
+    sought: Sought,
     stored: bool,
 ) -> Option<Reason>
-    requires free { breaking ≡ false → break_count breaks.now ≡ 0 }
+    requires quiet { sought.any ≡ false → hit_in breaks.now held.now machine.now ≡ None }
+    requires free { sought.breaks ≡ false → break_count breaks.now ≡ 0 }
     requires same { stored ≡ false → differs held.now machine.now.dmem ≡ None }
     ensures { result ≡ hit_in breaks.now held.now machine.now }
 {
+    if !sought.any {
+        return None;
+    }
     if stored && let Some(k) = differs(held, dmem_bytes(machine)) {
         return Some(Reason::Watched(k));
     }
-    if breaking && breaks.contains(machine.pc()) {
+    if sought.breaks && breaks.contains(machine.pc()) {
         return Some(Reason::Break);
     }
     None
@@ -119,26 +124,25 @@ fn go_on_in<A: Acc>(
     n: u32,
 ) -> (u32, Option<Reason>)
     requires same { differs held.now machine.old.dmem ≡ None }
-    requires span { IsWithin span.old.first span.old.count span.old.depth slots.old }
+    requires span { IsStanding span.old slots.old }
     ensures within { result.0 ≤ n }
     ensures after { IsAfter result.0 machine.old machine.new }
     ensures past { states_before machine.new (from_place span.new.first span.new.count slots.new) ≡ past_of result.0 span.old.depth machine.old (states_before machine.old (from_place span.old.first span.old.count slots.old)) }
     ensures depth { span.new.depth ≡ span.old.depth }
     ensures len { length slots.new ≡ length slots.old }
-    ensures span { IsWithin span.new.first span.new.count span.new.depth slots.new }
+    ensures span { IsStanding span.new slots.new }
     ensures first { (j : ℕ) → j < result.0 → reason_at breaks.now (watches_of held.now) n machine.old j ≡ None }
     ensures last { stuck_of machine.new ≡ None → reason_at breaks.now (watches_of held.now) n machine.old result.0 ≡ Some (unwrap_or result.1 why.Limit) }
 {
-    let watching = is_watching(held);
-    let breaking = is_breaking(breaks);
+    let sought = sought(breaks, held);
     for k in 0..n {
-        let made = span.step(slots, machine, watching);
+        let made = span.step(slots, machine, sought);
         match made.end {
             StepEnd::Done => {}
             StepEnd::Halted => return (k, None),
             StepEnd::Reserved { word: _ } => return (k, None),
         }
-        if let Some(reason) = hit(machine, breaks, held, breaking, made.stored) {
+        if let Some(reason) = hit(machine, breaks, held, sought, made.stored) {
             return (k + 1, Some(reason));
         }
     }
@@ -164,11 +168,7 @@ fn go_on<A: Acc>(
     ensures first { (j : ℕ) → j < result.0 → reason_at breaks.now (watches_of held.now) n machine.old j ≡ None }
     ensures last { stuck_of machine.new ≡ None → reason_at breaks.now (watches_of held.now) n machine.old result.0 ≡ Some (unwrap_or result.1 why.Limit) }
 {
-    let mut span = Span {
-        first: past.first,
-        count: past.count,
-        depth: past.depth,
-    };
+    let mut span = Span::of(past.first, past.count, past.depth, past.slots.len());
     let made = go_on_in(
         machine,
         past.slots.make_contiguous(),
@@ -177,8 +177,8 @@ fn go_on<A: Acc>(
         held,
         n,
     );
-    past.first = span.first;
-    past.count = span.count;
+    past.first = span.first(past.slots.len());
+    past.count = span.count();
     made
 }
 

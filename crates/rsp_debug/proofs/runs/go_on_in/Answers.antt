@@ -1,4 +1,4 @@
-use Rattle.std.proofs.Common.{◌≡◌, ◌∙◌, arith, sym, refl, ap, ◌+◌, Some}
+use Rattle.std.proofs.Common.{◌≡◌, ◌&&◌, ◌∙◌, arith, sym, refl, ap, ◌+◌, Some}
 use Rattle.std.specs.Prelude.{is_some}
 use Rattle.rsp_machine.specs.State.{State}
 use Rattle.rsp_debug.specs.declared.stop.Reason.TheVariants.{Limit}
@@ -9,7 +9,8 @@ use Rattle.rsp_debug.specs.Held.{watches_of}
 use Rattle.rsp_debug.specs.Runs.{stuck_of}
 use Rattle.rsp_debug.proofs.Going.{past-none, past-step, past-halted, past-reserved}
 use Rattle.rsp_debug.proofs.Reasons.{reason-hit, reason-limit, next-reached, next-first, next-hit, nothing-differs, step-halted, step-halted-same, step-reserved, step-reserved-same}
-use Rattle.rsp_debug.proofs.Slots.{still-same}
+use Rattle.rsp_debug.proofs.Slots.{still-same, differs-empty}
+use Rattle.rsp_debug.proofs.Hits.{unbroken-hit}
 use Rattle.rsp_debug.proofs.Afters.{after-none, after-more, after-same, never}
 use Rattle.rsp_debug.proofs.runs.go_on_in.Goals as goal
 
@@ -104,9 +105,14 @@ returns-clause-last g c free =
     ∙ reason-limit b w c.args.n c.args.machine.now l.machine l.k l.invariant.after.reached free l.invariant.quiet (sym e)
 
 pub hit-requires-clause-free : goal.hit-requires-clause-free
-hit-requires-clause-free g c e = c.is_breaking-breaking.ensures e
+hit-requires-clause-free g c e = c.sought-sought.ensures.breaks e
 
 pub hit-requires-clause-same : goal.hit-requires-clause-same
 hit-requires-clause-same g c e =
-    still-same c.is_watching-watching.result c.args.held.now c.loop-k.machine.dmem c.step-made.new.machine.dmem c.is_watching-watching.ensures
+    still-same (c.sought-sought.result.any && c.sought-sought.result.watches) c.args.held.now c.loop-k.machine.dmem c.step-made.new.machine.dmem c.sought-sought.ensures.watches
     (λ asks. c.step-made.ensures.memory c.in-Done.is asks e) c.loop-k.invariant.same
+
+pub hit-requires-clause-quiet : goal.hit-requires-clause-quiet
+hit-requires-clause-quiet g c e =
+    let m = c.step-made.new.machine in
+    sym (unbroken-hit c.args.breaks.now c.args.held.now m (differs-empty c.args.held.now m.dmem (c.sought-sought.ensures.none e).0) (c.sought-sought.ensures.none e).1)
