@@ -6,7 +6,11 @@ use Rattle.std.proofs.lemmas.Option.{get_or_from_slice_get}
 use Rattle.std.proofs.lemmas.List.{drop-set, take-set, take_more, take_all, drop_all, take-append-le, take-take, length-take, length-drop, length-append, length-set, set-get_or, append-nil}
 use Rattle.std.proofs.lemmas.Bool.{cases_lt}
 use Rattle.std.proofs.lemmas.Bool.Decides.{nat_tests}
-use Rattle.rsp_debug.specs.Places.{following, previous, one_down, rotated, from_place}
+use Rattle.rsp_debug.specs.Places.{following, one_down, rotated, from_place}
+
+-- the place before a place
+abbrev previous : ℕ → ℕ → ℕ
+previous n i = if i == 0 then n - 1 else i - 1
 
 following_previous : (n i : ℕ) → i < n → following n (previous n i) ≡ i
 following_previous n i h = grind (arith, nat_tests)

@@ -1,12 +1,9 @@
 -- Places in a ring of n.
 use Rattle.std.specs.Prelude.{ℕ, ◌+◌, ◌-◌, ◌==◌, ◌<◌, ◌≤◌, List, ◌++◌, length, take, drop, if◌then◌else◌}
 
--- the place after a place, and the one before it
+-- the place after a place
 abbrev pub following : ℕ → ℕ → ℕ
 following n i = if i + 1 == n then 0 else i + 1
-
-abbrev pub previous : ℕ → ℕ → ℕ
-previous n i = if i == 0 then n - 1 else i - 1
 
 -- the members from a place on, round the end
 abbrev pub rotated : {X : Type 0} → ℕ → List X → List X
