@@ -7,7 +7,7 @@ use Rattle.rsp_text.specs.declared.fault.AsmFaultKind.{AsmFaultKind}
 use Rattle.rsp_text.specs.declared.fault.AsmFaultKind.TheVariants.{OutOfRange, PastEnd, LabelTwice, OutOfMemory}
 use Rattle.rsp_text.specs.declared.slot.Slot.{Slot}
 use Rattle.rsp_text.specs.declared.text.Stop.TheVariants.{Blank}
-use Rattle.rsp_text.specs.Chars.{stops}
+use Rattle.rsp_text.specs.Cuts.{stops}
 use Rattle.rsp_text.specs.Numbers.{Expression}
 use Rattle.rsp_text.specs.Statement.{Labels, Reading, Statement, nothing, numbers, instruction, Form, form_named, form_readings, with_operands, with_form, operand_texts, statement_of, size, field, evaluate, in_range, field_of, then_registers, fields_with, fields_of, append, all_fields, one_word}
 use Rattle.rsp_text.specs.Source.{Parts, parts_of, is_twice, has_bad_number, statement_fault, parts_fault, first_fault, statement_words, parts_words, line_words}

@@ -2,12 +2,13 @@
 
 ghost use Rattle.std.specs.Prelude.{◌≡◌, ◌==◌, length, option_map, IfSome, true};
 ghost use Rattle.std.specs.List.{list_all, before_first, after_first};
-ghost use Rattle.rsp_text.specs.Chars.{stops};
+ghost use Rattle.rsp_text.specs.Cuts.{stops};
 ghost use Rattle.rsp_text.specs.declared.text.Stop.TheVariants.{Blank};
 ghost use Rattle.rsp_text.specs.Rows.{row_entry, is_row_operand};
 ghost use Rattle.rsp_text.specs.Statement.{form_named, operand_texts, row_named};
 ghost use Rattle.rsp_asm.specs.Forms.{form, form_shape, known, FormFits};
 
+use crate::operands::Operands;
 use rsp_text::{Kind, Stop, TableRow, cut, find_row, is_same};
 
 /// The name of a statement, and the text of its operands.
@@ -40,7 +41,8 @@ const LINK_WORD: u32 = 0x0000_f809;
 fn is_single(operands: &[u8]) -> bool
     ensures { result ≡ (length (operand_texts operands.now) == 1) }
 {
-    !operands.is_empty() && cut(operands, Stop::Comma).is_none()
+    let mut operands = Operands::new(operands);
+    operands.next().is_some() && operands.next().is_none()
 }
 
 fn row_of(name: &[u8]) -> Option<TableRow>

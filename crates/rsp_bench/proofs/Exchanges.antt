@@ -2,7 +2,8 @@
 use Rattle.std.proofs.Common.{◌≡◌, ◌⊎◌, inl, inr, ℕ, zero, suc, List, [], ◌∷◌, ◌++◌, replicate, refl, ap, sym, ◌∙◌, subst, append_assoc, Bool, true, false, cond, Option, Some, None, Result, Ok, Err}
 use Rattle.std.specs.Prelude.{codes, nat_le, length, is_some, if◌then◌else◌}
 use Rattle.std.specs.List.{before_first, list_all}
-use Rattle.rsp_script.specs.Text.{is_hash, is_text}
+use Rattle.rsp_chars.specs.Chars.{is_plain}
+use Rattle.rsp_script.specs.Line.{is_hash}
 use Rattle.rsp_script.specs.Words.{words_of}
 use Rattle.rsp_script.specs.Names.{name_of}
 use Rattle.rsp_script.specs.Operand.{bank_of, ranged_of, address_of, place_of}
@@ -151,7 +152,7 @@ quiet_refused false text r e = refl
 
 quiet_line : (line : List ℕ) → looks line ≡ true → is_quiet (plain_command line) ≡ true
 unfolding name_on
-quiet_line line e = quiet_refused (nat_le (length line) 256) (list_all is_text line) _ (quiet_words (words_of (before_first is_hash line)) e)
+quiet_line line e = quiet_refused (nat_le (length line) 256) (list_all is_plain line) _ (quiet_words (words_of (before_first is_hash line)) e)
 
 pub looks-change-nothing : (line : List ℕ) (s : SessionState) → s.block ≡ None → looks line ≡ true → (line_outcome line s).next ≡ s
 looks-change-nothing line s closed e =
@@ -260,7 +261,7 @@ running_refused false text r e = refl
 
 running_line : (line : List ℕ) → runs line ≡ true → is_running (plain_command line) ≡ true
 unfolding name_on
-running_line line e = running_refused (nat_le (length line) 256) (list_all is_text line) _ (running_words (words_of (before_first is_hash line)) e)
+running_line line e = running_refused (nat_le (length line) 256) (list_all is_plain line) _ (running_words (words_of (before_first is_hash line)) e)
 
 ran_line : (line : List ℕ) (s : SessionState) → s.block ≡ None → runs line ≡ true
     → Ran (steps_by (plain_command line) s.debugging) s (line_outcome line s).next (line_outcome line s).reply

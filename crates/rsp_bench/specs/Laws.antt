@@ -1,7 +1,7 @@
 -- What stays the same where lines of a script are exchanged for others.
 use Rattle.std.specs.Prelude.{◌≡◌, ◌⊎◌, ℕ, List, [], ◌∷◌, ◌++◌, Bool, true, false, Option, Some, None, replicate, codes}
 use Rattle.std.specs.List.{before_first}
-use Rattle.rsp_script.specs.Text.{is_hash}
+use Rattle.rsp_script.specs.Line.{is_hash}
 use Rattle.rsp_script.specs.Words.{words_of}
 use Rattle.rsp_script.specs.Names.{name_of}
 use Rattle.rsp_script.specs.declared.name.Name.{Name}

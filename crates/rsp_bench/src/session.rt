@@ -1,7 +1,7 @@
 ghost use Rattle.std.specs.Prelude.{◌≡◌, ◌≤◌, true, None, IsOk, IsSome, IfSome, IfOk, IfErr, OnOk, OnErr, List, ℕ, length, []};
 ghost use Rattle.std.specs.List.{list_all};
 ghost use Rattle.rsp_script.specs.Command.{IsCommand};
-ghost use Rattle.rsp_script.specs.Text.{is_text};
+ghost use Rattle.rsp_chars.specs.Chars.{is_plain};
 ghost use Rattle.rsp_block.specs.Source.{with_line, meaning};
 ghost use Rattle.rsp_bench.specs.Session.{NeedsNoMemory, HidesNoFault, EndHidesNoFault, outcome_of, plain_outcome, block_outcome, with_block, end_outcome, line_outcome, first_session, closing, in_block};
 ghost use Rattle.rsp_bench.specs.Replies.{line_fault_text};
@@ -104,7 +104,7 @@ impl Session {
     /// Keeps a line of the open block.
     fn keep(&mut self, line: &SourceLine) -> Result<(), AllocError>
         requires open { IsSome self.old.block }
-        requires text { list_all is_text line.now ≡ true }
+        requires text { list_all is_plain line.now ≡ true }
         ensures next { OnOk result (IfSome self.old.block (λ b. self.new ≡ (with_block (with_line line.now b) self.old).next)) }
         ensures err { OnErr result (self.new ≡ self.old) }
     {

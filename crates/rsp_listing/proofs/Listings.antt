@@ -4,7 +4,7 @@ use Rattle.std.specs.Prelude.{None, Ok}
 use Rattle.std.specs.List.{All, list_all}
 use Rattle.std.proofs.lemmas.Bool.{and_from}
 use Rattle.std.proofs.lemmas.List.{append-nil}
-use Rattle.rsp_text.specs.Chars.{is_plain}
+use Rattle.rsp_chars.specs.Chars.{is_plain}
 use Rattle.rsp_text.specs.Source.{size_of, first_fault, line_words, text_of_lines}
 use Rattle.rsp_text.specs.Means.{place_after, labelled, labels_from, this_or, lowest, joined, in_turn, first, second, unless, means_lines, means}
 use Rattle.rsp_text.specs.Spell.{spell, listing}

@@ -16,7 +16,8 @@ use Rattle.std.proofs.lemmas.Int.{ints}
 use Rattle.std.proofs.lemmas.Nat.{mod_below, div_below}
 use Rattle.rsp_text.specs.declared.slot.Slot.{Slot}
 use Rattle.rsp_text.specs.declared.text.Stop.TheVariants.{Plus, Minus}
-use Rattle.rsp_text.specs.Chars.{cut, is_name_start, is_name_byte}
+use Rattle.rsp_chars.specs.Chars.{is_name_start, is_name_byte}
+use Rattle.rsp_text.specs.Cuts.{cut}
 use Rattle.rsp_text.specs.Numbers.{is_numeral, numeral, unsigned_of, number_of, is_label, constant, sides, number_or, expression_of}
 use Rattle.rsp_text.specs.Statement.{asks, field, in_range, then_registers, fields_of, number_fails, half, branch, amount, jump, scaled, word}
 use Rattle.rsp_text.specs.Spell.{hex, small, signed_half, signed_scaled, target}

@@ -12,7 +12,7 @@ use Rattle.rsp_decode.specs.Table.{Operand, scalar, shift_amount, signed, unsign
 use Rattle.rsp_text.specs.declared.slot.Slot.{Slot}
 use Rattle.rsp_text.specs.declared.slot.Slot.TheVariants.{Half, Amount, Jump, Branch, Scaled}
 use Rattle.rsp_text.specs.declared.text.Stop.TheVariants.{Parenthesis}
-use Rattle.rsp_text.specs.Chars.{cut}
+use Rattle.rsp_text.specs.Cuts.{cut}
 use Rattle.rsp_text.specs.Numbers.{constant, expression_of}
 use Rattle.rsp_text.specs.Statement.{read, asks, field, offset_of, base_of, memory, memory_of, zero_expression, reading_fields}
 use Rattle.rsp_text.specs.Rows.{is_scale, is_step, is_row_operand}

@@ -13,7 +13,7 @@ use Rattle.rsp_text.specs.Rows.{is_step, is_row_operand}
 use Rattle.rsp_text.specs.declared.slot.Slot.{Slot}
 use Rattle.rsp_text.specs.declared.slot.Slot.TheVariants.{Half, Amount, Jump, Branch, Scaled, Word}
 use Rattle.rsp_text.specs.declared.text.Stop.TheVariants.{Parenthesis, Bracket}
-use Rattle.rsp_text.specs.Chars.{cut}
+use Rattle.rsp_text.specs.Cuts.{cut}
 use Rattle.rsp_text.specs.Names.{look_up, below, small_number, is_decimal, scalar_names, scalar_named, vector_named, sp_named, control_names, control_named, element_names, element_named}
 use Rattle.rsp_text.specs.Numbers.{Expression, expression_of}
 use Rattle.rsp_text.specs.Statement.{Labels, Reading, named, asks, base_of, offset_of, memory, bracketed, multiple, byte_named, lane_named, with_element, bracket_of, memory_of, read, field, evaluate, in_range, field_of, then_registers, fields_of}

@@ -2,7 +2,7 @@
 
 ghost use Rattle.std.specs.Prelude.{◌≡◌, [], Some, None, option_map};
 ghost use Rattle.rsp_text.specs.declared.text.Stop.TheVariants.{Bracket, Parenthesis};
-ghost use Rattle.rsp_text.specs.Chars.{cut};
+ghost use Rattle.rsp_text.specs.Cuts.{cut};
 ghost use Rattle.rsp_text.specs.Names.{vector_named, element_named};
 ghost use Rattle.rsp_text.specs.Numbers.{expression_of};
 ghost use Rattle.rsp_text.specs.Rows.{operand};

@@ -1,13 +1,14 @@
 -- The words of a line, one at a time.
-use Rattle.std.proofs.Common.{◌≡◌, ℕ, ◌+◌, ◌<◌, true, false, List, [], ◌∷◌, length, take, drop, get_or, refl, arith, sym, ◌∙◌, ap, not, length-take, take_all}
+use Rattle.std.proofs.Common.{◌≡◌, ℕ, ◌+◌, ◌<◌, true, false, List, [], ◌∷◌, length, take, drop, get_or, refl, arith, sym, ◌∙◌, ap, not, length-take, take_all, inl, inr}
 use Rattle.std.proofs.lemmas.List.{drop_more, drop_all}
 use Rattle.std.specs.Prelude.{filter}
 use Rattle.std.proofs.lemmas.Grind.{common_steps}
-use Rattle.std.proofs.lemmas.Bool.{cond-true}
+use Rattle.std.proofs.lemmas.Bool.{cond-true, cond-false, cases_Bool}
 use Rattle.std.specs.List.{slice_split, position_or_len, before_first, after_first}
 use Rattle.std.proofs.lemmas.List.Splits.{slice_split_first, slice_split_none, slice_split-cons_yes}
 use Rattle.std.proofs.lemmas.List.Sums.{fails_before_first, passes_at_first, prefix_len-le-length}
-use Rattle.rsp_script.specs.Words.{is_blank, is_word, words_of}
+use Rattle.rsp_chars.specs.Chars.{is_blank, skip_blanks}
+use Rattle.rsp_script.specs.Words.{is_word, words_of}
 
 -- a blank in front makes no word
 words-blank : (b : ℕ) (bs : List ℕ) → is_blank b ≡ true → words_of (b ∷ bs) ≡ words_of bs
@@ -42,18 +43,40 @@ begins [] h e = absurd (omega arith)
 begins (b ∷ bs) h e = rw (cond-true (not (is_blank b)) (1 + position_or_len is_blank bs) 0 (ap not e)) (omega arith)
 
 -- a text that begins with no blank begins with a word, up to the first blank
-pub words-first : (bs : List ℕ) → 0 < length bs → is_blank (get_or bs 0 0) ≡ false
+words-first : (bs : List ℕ) → 0 < length bs → is_blank (get_or bs 0 0) ≡ false
     → words_of bs ≡ take (position_or_len is_blank bs) bs ∷ words_of (drop (position_or_len is_blank bs) bs)
 words-first bs h e = grind (arith, begins bs h e, first-inside bs, first-all bs h, prefix_len-le-length (λ b. not (is_blank b)) bs)
 
 -- no bytes, no words
-pub words-empty : (bs : List ℕ) → length bs ≡ 0 → words_of bs ≡ []
+words-empty : (bs : List ℕ) → length bs ≡ 0 → words_of bs ≡ []
 words-empty [] h = refl
 words-empty (b ∷ bs) h = absurd (omega arith)
 
--- a text without its first byte, a blank
-pub words-rest : (bs : List ℕ) → 0 < length bs → is_blank (get_or bs 0 0) ≡ true → words_of (drop 1 bs) ≡ words_of bs
-words-rest [] h e = absurd (omega arith)
-words-rest (b ∷ bs) h e = sym (words-blank b bs e)
+-- a text without the blanks in front
+words-rest : (bs : List ℕ) → words_of (skip_blanks bs) ≡ words_of bs
+words-rest [] = refl
+words-rest (b ∷ bs) = elim (cases_Bool (is_blank b)) [
+  | inl t ↦ ap words_of (cond-true (is_blank b) (skip_blanks bs) (b ∷ bs) t) ∙ words-rest bs ∙ sym (words-blank b bs t)
+  | inr f ↦ ap words_of (cond-false (is_blank b) (skip_blanks bs) (b ∷ bs) f)
+]
 
-pub ruleset cuts = (words-first, words-empty, words-rest)
+begins_plain : (bs : List ℕ) → 0 < length (skip_blanks bs) → is_blank (get_or (skip_blanks bs) 0 0) ≡ false
+begins_plain [] h = absurd (omega arith)
+begins_plain (b ∷ bs) h = elim (cases_Bool (is_blank b)) [
+  | inl t ↦
+      let same : skip_blanks (b ∷ bs) ≡ skip_blanks bs = cond-true (is_blank b) (skip_blanks bs) (b ∷ bs) t in
+      ap (λ cs. is_blank (get_or cs 0 0)) same ∙ begins_plain bs (rw same at h)
+  | inr f ↦ ap (λ cs. is_blank (get_or cs 0 0)) (cond-false (is_blank b) (skip_blanks bs) (b ∷ bs) f) ∙ f
+]
+
+-- the words of a text, where the text without the blanks in front is `rest`
+pub words-none : (bs rest : List ℕ) → rest ≡ skip_blanks bs → length rest ≡ 0 → words_of bs ≡ []
+words-none bs rest e h = sym (words-rest bs) ∙ ap words_of (sym e) ∙ words-empty rest h
+
+pub words-next : (bs rest : List ℕ) → rest ≡ skip_blanks bs → 0 < length rest
+    → words_of bs ≡ take (position_or_len is_blank rest) rest ∷ words_of (drop (position_or_len is_blank rest) rest)
+words-next bs rest e h =
+    sym (words-rest bs) ∙ ap words_of (sym e)
+    ∙ words-first rest h (rw e (begins_plain bs (rw e at h)))
+
+pub ruleset cuts = (words-none, words-next)

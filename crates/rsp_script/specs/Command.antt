@@ -2,7 +2,7 @@
 use Rattle.std.specs.Prelude.{ℕ, true, ◌≡◌, ◌<◌, ◌≤◌, ◌%◌, List, [], ◌∷◌, Option, Some, None, Result, Ok, Err, ok_or}
 use Rattle.arrayvec.specs.ArrayVec.{array_vec_len}
 use Rattle.std.specs.List.{list_all}
-use Rattle.rsp_script.specs.Text.{is_text}
+use Rattle.rsp_chars.specs.Chars.{is_plain}
 use Rattle.rsp_script.specs.Names.{name_of}
 use Rattle.rsp_script.specs.Operand.{bank_of, ranged_of, place_of, address_of, bytes_of}
 use Rattle.rsp_script.specs.declared.name.Name.{Name}
@@ -131,5 +131,5 @@ IsCommand (Show look) = IsLook look
 IsCommand (Asm address) = (address ≤ 4092) × (address % 4 ≡ 0)
 IsCommand (Break address) = (address ≤ 4092) × (address % 4 ≡ 0)
 IsCommand (Unbreak address) = (address ≤ 4092) × (address % 4 ≡ 0)
-IsCommand (BlockLine line) = list_all is_text line ≡ true
+IsCommand (BlockLine line) = list_all is_plain line ≡ true
 IsCommand _ = Unit {0}

@@ -1,4 +1,3 @@
-pub mod Text
 pub mod Number
 pub mod Words
 pub mod Names

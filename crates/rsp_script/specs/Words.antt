@@ -1,11 +1,8 @@
 -- The words of a line.
-use Rattle.std.specs.Prelude.{ℕ, List, [], ◌∷◌, Bool, false, ◌==◌, ◌||◌, filter, length, nat_lt, codes}
+use Rattle.std.specs.Prelude.{ℕ, List, [], ◌∷◌, Bool, false, filter, length, nat_lt, codes}
 use Rattle.std.specs.List.{slice_split}
 use Rattle.std.specs.Str.{bytes_eq}
-
--- a blank is a space or a tab
-abbrev pub is_blank : ℕ → Bool
-is_blank b = (b == 32) || (b == 9)
+use Rattle.rsp_chars.specs.Chars.{is_blank}
 
 -- a part that isn't empty
 abbrev pub is_word : List ℕ → Bool

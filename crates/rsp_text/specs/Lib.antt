@@ -1,4 +1,4 @@
-pub mod Chars
+pub mod Cuts
 pub mod Numbers
 pub mod Names
 pub mod Seen

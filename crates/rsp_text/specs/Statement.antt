@@ -9,7 +9,8 @@ use Rattle.rsp_text.specs.declared.fault.AsmFaultKind.TheVariants.{UnknownName, 
 use Rattle.rsp_text.specs.declared.text.Stop.TheVariants.{Blank, Comma, Parenthesis, Bracket}
 use Rattle.rsp_text.specs.declared.slot.Slot.{Slot}
 use Rattle.rsp_text.specs.declared.slot.Slot.TheVariants.{Half, Amount, Jump, Branch, Scaled, Word}
-use Rattle.rsp_text.specs.Chars.{cut, stops, trim}
+use Rattle.rsp_chars.specs.Chars.{trim}
+use Rattle.rsp_text.specs.Cuts.{cut, stops}
 use Rattle.rsp_text.specs.Numbers.{Expression, expression_of}
 use Rattle.rsp_text.specs.Names.{scalar_named, vector_named, sp_named, control_named, element_named, small_number}
 
@@ -285,8 +286,3 @@ abbrev pub statement_of : List ℕ → Result Statement AsmFaultKind
 statement_of bs =
     if length bs == 0 then Ok nothing
     else statement_with (before_first (stops Blank) bs) (operand_texts (after_first (stops Blank) bs))
-
--- the texts of the operands that are left
-abbrev pub texts_in : Option (List ℕ) → List (List ℕ)
-texts_in None = []
-texts_in (Some bs) = map trim (slice_split (stops Comma) bs)

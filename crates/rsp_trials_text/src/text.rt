@@ -1,10 +1,10 @@
 use rsp_text::{
-    Kind, Stop, control, cut, element, find_row, is_label, is_plain, is_same, number,
-    read_expression, scalar, skip_blanks, small_number, sp_register, trim, unsigned, vector,
+    Kind, Stop, control, cut, element, find_row, is_label, is_same, number,
+    read_expression, scalar, small_number, sp_register, unsigned, vector,
 };
 
 #[test]
-fn cuts_and_trims(rt: HostRuntime) {
+fn cuts_at_a_comment(rt: HostRuntime) {
     let Some((name, rest)) = cut(b"j x # on", Stop::Comment) else {
         assert!(rt; false);
         return;
@@ -12,10 +12,7 @@ fn cuts_and_trims(rt: HostRuntime) {
     assert!(rt; name == b"j x ".as_slice());
     assert!(rt; rest == b" on".as_slice());
     assert!(rt; cut(b"nop", Stop::Colon).is_none());
-    assert!(rt; trim(b" \t4($1) ") == b"4($1)".as_slice());
-    assert!(rt; skip_blanks(b"\t x ") == b"x ".as_slice());
     assert!(rt; is_same(b"$Sp", b"$sP"));
-    assert!(rt; is_plain(b'\t') && is_plain(b'~') && !is_plain(0x7f));
 }
 
 #[test]
