@@ -52,13 +52,10 @@ two_words command (a ∷ []) = Err BadCommand
 two_words command (a ∷ b ∷ []) = command a b
 two_words command (a ∷ b ∷ c ∷ more) = Err BadCommand
 
--- a command of three words more
-abbrev pub three_words : (List ℕ → List ℕ → List ℕ → Result Command LineFault) → List (List ℕ) → Result Command LineFault
-three_words command [] = Err BadCommand
-three_words command (a ∷ []) = Err BadCommand
-three_words command (a ∷ b ∷ []) = Err BadCommand
-three_words command (a ∷ b ∷ c ∷ []) = command a b c
-three_words command (a ∷ b ∷ c ∷ d ∷ more) = Err BadCommand
+-- a command of a bank and two words more
+abbrev pub on_bank : (Bank → List ℕ → List ℕ → Result Command LineFault) → List (List ℕ) → Result Command LineFault
+on_bank command [] = Err BadCommand
+on_bank command (bank ∷ ws) = two_words (λ a b. in_bank (λ k. command k a b) (bank_of bank)) ws
 
 -- a command of one number
 abbrev pub with_operand : (ℕ → Command) → Result ℕ LineFault → Result Command LineFault
@@ -67,11 +64,11 @@ with_operand command (Err fault) = Err fault
 
 -- `load BANK ADDR HEX`
 unfoldable pub load : List (List ℕ) → Result Command LineFault
-load = three_words (λ bank address hex. in_bank (λ b. with_both (λ a bytes. Load b a bytes) (address_of address) (bytes_of hex)) (bank_of bank))
+load = on_bank (λ b address hex. with_both (λ a bytes. Load b a bytes) (address_of address) (bytes_of hex))
 
 -- `mem BANK ADDR LEN`
 unfoldable pub mem : List (List ℕ) → Result Command LineFault
-mem = three_words (λ bank address len. in_bank (λ b. with_both (λ a n. Show (Mem b a n)) (address_of address) (ranged_of 1 256 len)) (bank_of bank))
+mem = on_bank (λ b address len. with_both (λ a n. Show (Mem b a n)) (address_of address) (ranged_of 1 256 len))
 
 -- `write N VALUE`
 unfoldable pub write : List (List ℕ) → Result Command LineFault
