@@ -4,3 +4,4 @@ pub mod Names
 pub mod Operand
 pub mod Command
 pub mod Line
+pub mod Faults

@@ -7,3 +7,4 @@ pub mod Source
 pub mod Means
 pub mod Rows
 pub mod Spell
+pub mod Faults
