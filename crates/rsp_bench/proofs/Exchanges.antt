@@ -1,14 +1,14 @@
 -- Lines that can be exchanged.
-use Rattle.std.proofs.Common.{◌≡◌, ◌⊎◌, inl, inr, ℕ, zero, suc, List, [], ◌∷◌, ◌++◌, replicate, refl, ap, sym, ◌∙◌, subst, append_assoc, Bool, true, false, cond, Option, Some, None, Result, Ok, Err}
+use Rattle.std.proofs.Common.{◌≡◌, inl, inr, ℕ, zero, suc, List, [], ◌∷◌, ◌++◌, replicate, refl, ap, sym, ◌∙◌, subst, append_assoc, Bool, true, false, cond, Option, Some, None, Result, Ok, Err}
 use Rattle.std.specs.Prelude.{codes, nat_le, length, is_some, if◌then◌else◌}
 use Rattle.std.specs.List.{before_first, list_all}
 use Rattle.rsp_chars.specs.Chars.{is_plain}
 use Rattle.rsp_script.specs.Line.{is_hash}
-use Rattle.rsp_script.specs.Words.{words_of}
+use Rattle.rsp_script.specs.Words.{words_in}
 use Rattle.rsp_script.specs.Names.{name_of}
 use Rattle.rsp_script.specs.Operand.{bank_of, ranged_of, address_of, place_of}
 use Rattle.rsp_script.specs.Line.{command_of, plain_command}
-use Rattle.rsp_script.specs.Command.{named, alone, mem, dis, with_both, with_operand, in_bank, one_number, command_of_words}
+use Rattle.rsp_script.specs.Command.{command_named, alone, mem, dis, with_both, with_operand, in_bank, one_number, command_of_words}
 use Rattle.rsp_script.specs.declared.name.Name.{Name}
 use Rattle.rsp_script.specs.declared.name.Name.TheVariants as names
 use Rattle.rsp_script.specs.declared.command.Command.{Command}
@@ -24,7 +24,7 @@ use Rattle.rsp_debug.specs.Calls.{is_count}
 use Rattle.rsp_debug.specs.Debugging.{Debugging, stepped, steps_made, stop_in, ran}
 use Rattle.rsp_lines.specs.Replies.{replies, final}
 use Rattle.rsp_bench.specs.Replies.{stop_text, count_text}
-use Rattle.rsp_bench.specs.Session.{SessionState, same, changed, plain_answer, answer_in, answer_of, parsed_answer, in_block, line_answer, step_answer, run_answer}
+use Rattle.rsp_bench.specs.Session.{SessionState, same, then_debugging, plain_answer, answer_in, answer_of, parsed_answer, in_block, line_answer, step_answer, run_answer}
 use Rattle.rsp_bench.specs.Laws.{is_look_name, is_run_name, first_name, name_on, looks, runs, TellsSteps, IsExchange, IsStepLines, LinesComeOut}
 
 -- ---- lines after lines
@@ -130,7 +130,7 @@ quiet_dis (a ∷ []) = refl
 quiet_dis (a ∷ b ∷ []) = quiet_listing (place_of a) (ranged_of 1 64 b)
 quiet_dis (a ∷ b ∷ c ∷ more) = refl
 
-quiet_named : (name : Option Name) (operands : List (List ℕ)) → is_look_name name ≡ true → is_quiet (named name operands) ≡ true
+quiet_named : (name : Option Name) (operands : List (List ℕ)) → is_look_name name ≡ true → is_quiet (command_named name operands) ≡ true
 quiet_named (Some names.Regs) operands e = quiet_alone Regs operands
 quiet_named (Some names.Mem) operands e = quiet_mem operands
 quiet_named (Some names.Dis) operands e = quiet_dis operands
@@ -152,7 +152,7 @@ quiet_refused false text r e = refl
 
 quiet_line : (line : List ℕ) → looks line ≡ true → is_quiet (plain_command line) ≡ true
 unfolding name_on
-quiet_line line e = quiet_refused (nat_le (length line) 256) (list_all is_plain line) _ (quiet_words (words_of (before_first is_hash line)) e)
+quiet_line line e = quiet_refused (nat_le (length line) 256) (list_all is_plain line) _ (quiet_words (words_in (before_first is_hash line)) e)
 
 pub looks-change-nothing : (line : List ℕ) (s : SessionState) → s.block ≡ None → looks line ≡ true → (line_answer line s).next ≡ s
 looks-change-nothing line s closed e =
@@ -221,8 +221,8 @@ refused s fault = record {
 
 accepted : (accepts : Bool) (n : ℕ) (s : SessionState)
     → Ran (if accepts then (stop_in n s.debugging).steps else 0) s
-    (if accepts then changed (stop_text (stop_in n s.debugging)) (ran n s.debugging) s else same count_text s).next
-    (if accepts then changed (stop_text (stop_in n s.debugging)) (ran n s.debugging) s else same count_text s).reply
+    (if accepts then then_debugging (stop_text (stop_in n s.debugging)) (ran n s.debugging) s else same count_text s).next
+    (if accepts then then_debugging (stop_text (stop_in n s.debugging)) (ran n s.debugging) s else same count_text s).reply
 unfolding stop_of
 accepted true n s = record { session = refl; told = inl (stop_in n s.debugging, refl, refl) }
 accepted false n s = refused s (codes "26 Count" ++ 10 ∷ [])
@@ -245,7 +245,7 @@ running_operand : (n : Result ℕ LineFault) → is_running (with_operand (λ k.
 running_operand (Ok n) = refl
 running_operand (Err fault) = refl
 
-running_named : (name : Option Name) (operands : List (List ℕ)) → is_run_name name ≡ true → is_running (named name operands) ≡ true
+running_named : (name : Option Name) (operands : List (List ℕ)) → is_run_name name ≡ true → is_running (command_named name operands) ≡ true
 running_named (Some names.Run) operands e = running_operand (one_number 0 4294967295 operands)
 running_named _ operands e = cc
 
@@ -261,7 +261,7 @@ running_refused false text r e = refl
 
 running_line : (line : List ℕ) → runs line ≡ true → is_running (plain_command line) ≡ true
 unfolding name_on
-running_line line e = running_refused (nat_le (length line) 256) (list_all is_plain line) _ (running_words (words_of (before_first is_hash line)) e)
+running_line line e = running_refused (nat_le (length line) 256) (list_all is_plain line) _ (running_words (words_in (before_first is_hash line)) e)
 
 ran_line : (line : List ℕ) (s : SessionState) → s.block ≡ None → runs line ≡ true
     → Ran (steps_by (plain_command line) s.debugging) s (line_answer line s).next (line_answer line s).reply

@@ -1,5 +1,5 @@
 -- What is refused leaves the session as it was.
-use Rattle.std.proofs.Common.{◌≡◌, ◌⊎◌, inl, inr, ℕ, List, length, refl, Bool, true, false, Option, Some, None, Result, Ok, Err}
+use Rattle.std.proofs.Common.{◌≡◌, inl, inr, ℕ, List, length, refl, Bool, true, false, Option, Some, None, Result, Ok, Err}
 use Rattle.std.specs.Prelude.{if◌then◌else◌}
 use Rattle.rsp_script.specs.declared.command.Command.{Command}
 use Rattle.rsp_script.specs.declared.command.Command.TheVariants.{Nothing, Load, Step, Run, Break, Unbreak, Watch, Unwatch, Back, Read, Write, SetPc, Task, Show, Asm, BlockLine, End}
@@ -19,7 +19,7 @@ use Rattle.rsp_debug.specs.declared.debugger.BackFault.{BackFault}
 use Rattle.rsp_lines.specs.Replies.{Answered}
 use Rattle.rsp_bench.specs.Looks.{sp_line}
 use Rattle.rsp_bench.specs.Replies.{ok_text, range_text, count_text, stop_text, no_break_text, no_watch_text}
-use Rattle.rsp_bench.specs.Session.{SessionState, same, changed, moved, plain_answer, block_answer, answer_in, answer_of, load_answer, step_answer, read_answer, task_answer, run_answer, break_answer, unbreak_answer, watch_answer, unwatch_answer, back_fault, back_answer, end_answer}
+use Rattle.rsp_bench.specs.Session.{SessionState, same, then_debugging, then_state, plain_answer, block_answer, answer_in, answer_of, load_answer, step_answer, read_answer, task_answer, run_answer, break_answer, watch_answer, back_fault, back_answer, end_answer}
 use Rattle.rsp_bench.specs.Refusals.{is_refusal, IsKept}
 
 -- an answered that leaves the session as it was, where its reply refuses
@@ -33,7 +33,7 @@ keeps_if false o text s accepted e = refl
 
 keeps_load : (bank : Bank) (a : ℕ) (bytes : List ℕ) (s : SessionState) → Keeps (load_answer bank a bytes s) s
 unfolding load_answer
-keeps_load bank a bytes s e = keeps_if (is_inside bank a (length bytes) s.debugging.state) (moved ok_text (loaded bank a bytes s.debugging.state) s) range_text s refl e
+keeps_load bank a bytes s e = keeps_if (is_inside bank a (length bytes) s.debugging.state) (then_state ok_text (loaded bank a bytes s.debugging.state) s) range_text s refl e
 
 keeps_step : (s : SessionState) → Keeps (step_answer s) s
 unfolding step_answer
@@ -45,7 +45,7 @@ keeps_read n s e = cc
 
 keeps_run : (n : ℕ) (s : SessionState) → Keeps (run_answer n s) s
 unfolding run_answer
-keeps_run n s e = keeps_if (is_count n) (changed (stop_text (stop_in n s.debugging)) (ran n s.debugging) s) count_text s refl e
+keeps_run n s e = keeps_if (is_count n) (then_debugging (stop_text (stop_in n s.debugging)) (ran n s.debugging) s) count_text s refl e
 
 keeps_task : (fault : Option TaskFault) (a : ℕ) (s : SessionState) → Keeps (task_answer fault a s) s
 keeps_task None a s e = cc
@@ -69,9 +69,9 @@ keeps_plain (Load bank a bytes) s e = keeps_load bank a bytes.items s e
 keeps_plain Step s e = keeps_step s e
 keeps_plain (Run n) s e = keeps_run n s e
 keeps_plain (Break place) s e = keeps_break (break_fault place s.debugging.breaks) place s e
-keeps_plain (Unbreak place) s e = keeps_if (is_break s.debugging.breaks place) (changed ok_text (unbroken_at place s.debugging) s) no_break_text s refl e
+keeps_plain (Unbreak place) s e = keeps_if (is_break s.debugging.breaks place) (then_debugging ok_text (unbroken_at place s.debugging) s) no_break_text s refl e
 keeps_plain (Watch a n) s e = keeps_watch (number_for a n s.debugging.watches) a n s e
-keeps_plain (Unwatch k) s e = keeps_if (has_watch k s.debugging.watches) (changed ok_text (unwatching k s.debugging) s) no_watch_text s refl e
+keeps_plain (Unwatch k) s e = keeps_if (has_watch k s.debugging.watches) (then_debugging ok_text (unwatching k s.debugging) s) no_watch_text s refl e
 keeps_plain (Back n) s e = keeps_back (back_fault n s.debugging.past) n s e
 keeps_plain (Read n) s e = keeps_read n s e
 keeps_plain (Write n value) s e = cc

@@ -1,5 +1,5 @@
 -- A run that ends before its first read.
-use Rattle.std.proofs.Common.{◌≡◌, ◌⊎◌, inl, ℕ, List, [], Option, sym, arith}
+use Rattle.std.proofs.Common.{inl, ℕ, List, [], Option, sym, arith}
 use Rattle.rsp_lines.specs.Left.{TakesAtMost, AnswersFront}
 use Rattle.rsp_lines.proofs.KnownEnds.{prepend_known-nil}
 use Rattle.rsp_lines.proofs.Left.{front-none}

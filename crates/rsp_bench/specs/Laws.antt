@@ -2,7 +2,7 @@
 use Rattle.std.specs.Prelude.{◌≡◌, ◌⊎◌, ℕ, List, [], ◌∷◌, ◌++◌, Bool, true, false, Option, Some, None, replicate, codes}
 use Rattle.std.specs.List.{before_first}
 use Rattle.rsp_script.specs.Line.{is_hash}
-use Rattle.rsp_script.specs.Words.{words_of}
+use Rattle.rsp_script.specs.Words.{words_in}
 use Rattle.rsp_script.specs.Names.{name_of}
 use Rattle.rsp_script.specs.declared.name.Name.{Name}
 use Rattle.rsp_script.specs.declared.name.Name.TheVariants as names
@@ -34,7 +34,7 @@ first_name (name ∷ operands) = name_of name
 
 -- the command's name that a line outside a block begins with, whatever the line is answered
 unfoldable pub name_on : List ℕ → Option Name
-name_on line = first_name (words_of (before_first is_hash line))
+name_on line = first_name (words_in (before_first is_hash line))
 
 -- a line that looks, accepted or refused
 abbrev pub looks : List ℕ → Bool

@@ -44,56 +44,56 @@ abbrev pub same : List ℕ → SessionState → Answered SessionState
 same text s = record { reply = text; next = s }
 
 -- a reply, and what the debugger holds after the command
-abbrev pub changed : List ℕ → Debugging → SessionState → Answered SessionState
-changed text d s = record { reply = text; next = record s { debugging = d } }
+abbrev pub then_debugging : List ℕ → Debugging → SessionState → Answered SessionState
+then_debugging text d s = record { reply = text; next = record s { debugging = d } }
 
 -- a reply, and the state after the command, which goes on from there: there is no way back
-abbrev pub moved : List ℕ → State → SessionState → Answered SessionState
-moved text state s = changed text (resumed state s.debugging) s
+abbrev pub then_state : List ℕ → State → SessionState → Answered SessionState
+then_state text state s = then_debugging text (resumed state s.debugging) s
 
 -- ---- the machine
 
 abbrev pub task_answer : Option TaskFault → ℕ → SessionState → Answered SessionState
-task_answer None a s = moved ok_text (tasked a s.debugging.state) s
+task_answer None a s = then_state ok_text (tasked a s.debugging.state) s
 task_answer (Some fault) a s = same (task_fault_text fault) s
 
 unfoldable pub load_answer : Bank → ℕ → List ℕ → SessionState → Answered SessionState
 load_answer bank a bytes s =
-    if is_inside bank a (length bytes) s.debugging.state then moved ok_text (loaded bank a bytes s.debugging.state) s
+    if is_inside bank a (length bytes) s.debugging.state then then_state ok_text (loaded bank a bytes s.debugging.state) s
     else same range_text s
 
 unfoldable pub step_answer : SessionState → Answered SessionState
 step_answer s =
     let after = stepped s.debugging in
-    changed (step_text (step_of s.debugging.state).0 after.state.pc) after s
+    then_debugging (step_text (step_of s.debugging.state).0 after.state.pc) after s
 
 abbrev pub read_answer : ℕ → SessionState → Answered SessionState
-read_answer n s = changed (sp_line n (peeked n s.debugging.state.sp)) (read_from n s.debugging) s
+read_answer n s = then_debugging (sp_line n (peeked n s.debugging.state.sp)) (read_from n s.debugging) s
 
 -- ---- the debugger
 
 unfoldable pub run_answer : ℕ → SessionState → Answered SessionState
 run_answer n s =
-    if is_count n then changed (stop_text (stop_in n s.debugging)) (ran n s.debugging) s
+    if is_count n then then_debugging (stop_text (stop_in n s.debugging)) (ran n s.debugging) s
     else same count_text s
 
 abbrev pub break_answer : Option BreakFault → ℕ → SessionState → Answered SessionState
-break_answer None place s = changed ok_text (broken_at place s.debugging) s
+break_answer None place s = then_debugging ok_text (broken_at place s.debugging) s
 break_answer (Some fault) place s = same (break_fault_text fault) s
 
 abbrev pub unbreak_answer : ℕ → SessionState → Answered SessionState
 unbreak_answer place s =
-    if is_break s.debugging.breaks place then changed ok_text (unbroken_at place s.debugging) s
+    if is_break s.debugging.breaks place then then_debugging ok_text (unbroken_at place s.debugging) s
     else same no_break_text s
 
 -- a watch of some bytes, with the number that it gets
 abbrev pub watch_answer : Result ℕ WatchFault → ℕ → ℕ → SessionState → Answered SessionState
-watch_answer (Ok k) a n s = changed (watch_text k) (watching k a n s.debugging) s
+watch_answer (Ok k) a n s = then_debugging (watch_text k) (watching k a n s.debugging) s
 watch_answer (Err fault) a n s = same (watch_fault_text fault) s
 
 abbrev pub unwatch_answer : ℕ → SessionState → Answered SessionState
 unwatch_answer k s =
-    if has_watch k s.debugging.watches then changed ok_text (unwatching k s.debugging) s
+    if has_watch k s.debugging.watches then then_debugging ok_text (unwatching k s.debugging) s
     else same no_watch_text s
 
 -- why n states of a past can't be gone back; the count comes first
@@ -104,7 +104,7 @@ back_fault n past =
     else None
 
 abbrev pub back_answer : Option BackFault → ℕ → SessionState → Answered SessionState
-back_answer None n s = changed ok_text (gone_back n s.debugging) s
+back_answer None n s = then_debugging ok_text (gone_back n s.debugging) s
 back_answer (Some fault) n s = same (back_fault_text fault) s
 
 -- ---- looks
@@ -143,8 +143,8 @@ plain_answer (Watch a n) s = watch_answer (number_for a n s.debugging.watches) a
 plain_answer (Unwatch k) s = unwatch_answer k s
 plain_answer (Back n) s = back_answer (back_fault n s.debugging.past) n s
 plain_answer (Read n) s = read_answer n s
-plain_answer (Write n value) s = moved ok_text (register_written n value s.debugging.state) s
-plain_answer (SetPc place) s = moved ok_text (placed place s.debugging.state) s
+plain_answer (Write n value) s = then_state ok_text (register_written n value s.debugging.state) s
+plain_answer (SetPc place) s = then_state ok_text (placed place s.debugging.state) s
 plain_answer (Task a) s = task_answer (task_fault a s.debugging.state.rdram) a s
 plain_answer (Show look) s = same (look_text look s.debugging.state) s
 plain_answer (Asm place) s = with_block (opened place) s

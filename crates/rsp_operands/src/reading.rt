@@ -7,7 +7,7 @@ ghost use Rattle.rsp_text.specs.Names.{vector_named, element_named};
 ghost use Rattle.rsp_text.specs.Numbers.{expression_of};
 ghost use Rattle.rsp_text.specs.Rows.{operand};
 ghost use Rattle.rsp_text.specs.Seen.{expression, capped_expression};
-ghost use Rattle.rsp_text.specs.Statement.{base_of, offset_of, bracketed, byte_named, lane_named, with_element, bracket_of, memory_of, asks, read};
+ghost use Rattle.rsp_text.specs.Statement.{base_of, offset_of, bracketed, byte_named, lane_named, with_element, bracket_of, memory_operand, asks, read};
 ghost use Rattle.rsp_operands.specs.Readings.{reading, capped_reading};
 
 use rsp_text::{
@@ -117,7 +117,7 @@ fn offset(text: &[u8]) -> Option<Expression<'_>>
 }
 
 fn memory(slot: Slot, text: &[u8]) -> Option<Reading<'_>>
-    ensures { option_map reading result ≡ option_map capped_reading (memory_of slot (cut Parenthesis text.now)) }
+    ensures { option_map reading result ≡ option_map capped_reading (memory_operand slot (cut Parenthesis text.now)) }
 {
     let (front, rest) = cut(text, Stop::Parenthesis)?;
     Some(Reading::Memory(slot, offset(front)?, base(rest)?))

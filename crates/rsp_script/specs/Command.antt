@@ -83,33 +83,33 @@ unfoldable pub watch : List (List ℕ) → Result Command LineFault
 watch = two_words (λ address len. with_both (λ a n. Watch a n) (ranged_of 0 4294967295 address) (ranged_of 0 4294967295 len))
 
 -- the command of a name with its operands
-abbrev pub named : Option Name → List (List ℕ) → Result Command LineFault
-named None operands = Err BadCommand
-named (Some names.Load) operands = load operands
-named (Some names.Step) operands = alone Step operands
-named (Some names.Regs) operands = alone (Show Regs) operands
-named (Some names.Mem) operands = mem operands
-named (Some names.Read) operands = with_operand (λ n. Read n) (one_number 0 15 operands)
-named (Some names.Write) operands = write operands
-named (Some names.Pc) operands = with_operand (λ a. SetPc a) (one_place operands)
-named (Some names.Task) operands = with_operand (λ a. Task a) (one_number 0 16777215 operands)
-named (Some names.Sp) operands = alone (Show Sp) operands
-named (Some names.Vregs) operands = alone (Show Vregs) operands
-named (Some names.Acc) operands = alone (Show Acc) operands
-named (Some names.Flags) operands = alone (Show Flags) operands
-named (Some names.Asm) operands = with_operand (λ a. Asm a) (one_place operands)
-named (Some names.Dis) operands = dis operands
-named (Some names.Run) operands = with_operand (λ n. Run n) (one_number 0 4294967295 operands)
-named (Some names.Break) operands = with_operand (λ a. Break a) (one_place operands)
-named (Some names.Unbreak) operands = with_operand (λ a. Unbreak a) (one_place operands)
-named (Some names.Watch) operands = watch operands
-named (Some names.Unwatch) operands = with_operand (λ k. Unwatch k) (one_number 0 4294967295 operands)
-named (Some names.Back) operands = with_operand (λ n. Back n) (one_number 0 4294967295 operands)
+abbrev pub command_named : Option Name → List (List ℕ) → Result Command LineFault
+command_named None operands = Err BadCommand
+command_named (Some names.Load) operands = load operands
+command_named (Some names.Step) operands = alone Step operands
+command_named (Some names.Regs) operands = alone (Show Regs) operands
+command_named (Some names.Mem) operands = mem operands
+command_named (Some names.Read) operands = with_operand (λ n. Read n) (one_number 0 15 operands)
+command_named (Some names.Write) operands = write operands
+command_named (Some names.Pc) operands = with_operand (λ a. SetPc a) (one_place operands)
+command_named (Some names.Task) operands = with_operand (λ a. Task a) (one_number 0 16777215 operands)
+command_named (Some names.Sp) operands = alone (Show Sp) operands
+command_named (Some names.Vregs) operands = alone (Show Vregs) operands
+command_named (Some names.Acc) operands = alone (Show Acc) operands
+command_named (Some names.Flags) operands = alone (Show Flags) operands
+command_named (Some names.Asm) operands = with_operand (λ a. Asm a) (one_place operands)
+command_named (Some names.Dis) operands = dis operands
+command_named (Some names.Run) operands = with_operand (λ n. Run n) (one_number 0 4294967295 operands)
+command_named (Some names.Break) operands = with_operand (λ a. Break a) (one_place operands)
+command_named (Some names.Unbreak) operands = with_operand (λ a. Unbreak a) (one_place operands)
+command_named (Some names.Watch) operands = watch operands
+command_named (Some names.Unwatch) operands = with_operand (λ k. Unwatch k) (one_number 0 4294967295 operands)
+command_named (Some names.Back) operands = with_operand (λ n. Back n) (one_number 0 4294967295 operands)
 
 -- what the words of a line ask for
 unfoldable pub command_of_words : List (List ℕ) → Result Command LineFault
 command_of_words [] = Ok Nothing
-command_of_words (name ∷ operands) = named (name_of name) operands
+command_of_words (name ∷ operands) = command_named (name_of name) operands
 
 -- a look that a line can ask for: its operands are in their ranges
 abbrev pub IsLook : Look → Type 0

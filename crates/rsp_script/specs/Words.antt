@@ -9,8 +9,8 @@ abbrev pub is_word : List ℕ → Bool
 is_word part = nat_lt 0 (length part)
 
 -- the words of a text: its parts between blanks that aren't empty
-abbrev pub words_of : List ℕ → List (List ℕ)
-words_of text = filter is_word (slice_split is_blank text)
+abbrev pub words_in : List ℕ → List (List ℕ)
+words_in text = filter is_word (slice_split is_blank text)
 
 -- the one word `end`
 abbrev pub is_end : List (List ℕ) → Bool

@@ -2,7 +2,7 @@ ghost use Rattle.std.specs.Prelude.{◌≡◌, ◌≤◌, length, IfOk};
 ghost use Rattle.std.specs.List.{list_all, position_or_len};
 ghost use Rattle.rsp_chars.specs.Chars.{is_plain};
 ghost use Rattle.rsp_script.specs.Line.{is_hash};
-ghost use Rattle.rsp_script.specs.Words.{words_of, is_end};
+ghost use Rattle.rsp_script.specs.Words.{words_in, is_end};
 ghost use Rattle.rsp_script.specs.Line.{block_command, command_of};
 ghost use Rattle.rsp_script.specs.Command.{IsCommand};
 
@@ -22,7 +22,7 @@ fn comment_at(line: &[u8]) -> usize
 /// Whether a line is `end` but for outer blanks.
 fn is_end(line: &[u8]) -> bool
     requires { length line.now ≤ 256 }
-    ensures { result ≡ is_end (words_of line.now) }
+    ensures { result ≡ is_end (words_in line.now) }
 {
     let mut words = Words::new(line);
     match (words.next(), words.next()) {

@@ -1,7 +1,7 @@
 ghost use Rattle.std.specs.Prelude.{◌≡◌, ℕ, List, [], ◌∷◌, ◌≤◌, length, IfSome, MatchOption};
 ghost use Rattle.std.specs.List.{position_or_len};
 ghost use Rattle.rsp_chars.specs.Chars.{is_blank};
-ghost use Rattle.rsp_script.specs.Words.{words_of};
+ghost use Rattle.rsp_script.specs.Words.{words_in};
 
 use rsp_chars::{is_blank, skip_blanks};
 use std::marker::Model;
@@ -15,7 +15,7 @@ pub struct Words<'a> {
 impl<'a> Model for Words<'a> {
     ghost Value = { List (List ℕ) };
 
-    ghost view = { λ w. words_of w.text.now };
+    ghost view = { λ w. words_in w.text.now };
 
     ghost invariant = { λ w. length w.text.now ≤ 256 };
 }
@@ -32,7 +32,7 @@ impl<'a> Words<'a> {
     /// The words of a line.
     pub fn new(text: &'a [u8]) -> Words<'a>
         requires { length text.now ≤ 256 }
-        ensures { result ≡ words_of text.now }
+        ensures { result ≡ words_in text.now }
     {
         Words { text }
     }

@@ -1,5 +1,6 @@
+use rsp_script::LineFault;
 use rsp_text::{
-    Kind, Stop, control, cut, element, find_row, is_label, is_same, number,
+    AsmFaultKind, Kind, Stop, control, cut, element, find_row, is_label, is_same, number,
     read_expression, scalar, small_number, sp_register, unsigned, vector,
 };
 
@@ -81,4 +82,10 @@ fn finds_rows(rt: HostRuntime) {
     assert!(rt; row.operands == [Kind::VectorByte(16, 1), Kind::VectorMemory(16)].as_slice());
     assert!(rt; find_row(b"nop").is_none());
     assert!(rt; find_row(b"vmulx").is_none());
+}
+
+#[test]
+fn names_faults(rt: HostRuntime) {
+    assert!(rt; AsmFaultKind::PastEnd.as_str() == "16 PastEnd");
+    assert!(rt; LineFault::NotText.as_str() == "33 NotText");
 }
