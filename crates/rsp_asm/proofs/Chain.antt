@@ -6,7 +6,7 @@ use Rattle.rsp_text.specs.declared.fault.AsmFaultKind.{AsmFaultKind}
 use Rattle.rsp_text.specs.declared.fault.AsmFaultKind.TheVariants.{OutOfRange, PastEnd, LabelTwice}
 use Rattle.rsp_text.specs.Statement.{Labels, Statement, statement_of, size}
 use Rattle.rsp_text.specs.Source.{Parts, parts_of, is_twice, size_if, size_in, size_of, has_bad_number, statement_fault, parts_fault, first_fault}
-use Rattle.rsp_asm.specs.Walks.{checked}
+use Rattle.rsp_asm.specs.Statements.{checked}
 
 -- a line of this size behind those with a fault
 abbrev pub last_fault : ℕ → ℕ → Option AsmFaultKind

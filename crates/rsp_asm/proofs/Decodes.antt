@@ -11,7 +11,8 @@ use Rattle.rsp_decode.proofs.Places.{apart_from, all_apart, under_others, fields
 use Rattle.rsp_decode.proofs.RowsBack.{round_trip, word_of_is_canonical}
 use Rattle.rsp_text.specs.declared.fault.AsmFaultKind.{AsmFaultKind}
 use Rattle.rsp_text.specs.declared.text.Stop.TheVariants.{Blank}
-use Rattle.rsp_text.specs.Chars.{stops}
+use Rattle.rsp_text.specs.Cuts.{stops}
+use Rattle.rsp_decode.specs.Table.{is_row_operand}
 use Rattle.rsp_text.specs.Statement.{Labels, Reading, nothing, numbers, instruction, Form, no_operation, numbers_form, row_form, row_named, linking_row, form_named, read_all, read_numbers, with_operands, with_form, operand_texts, all_fields, one_word, words_of}
 use Rattle.rsp_asm.specs.Decoding.{Decodes, StatementsDecode}
 use Rattle.rsp_asm.proofs.Fits.{AllFit, all_fit}

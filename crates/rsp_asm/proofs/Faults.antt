@@ -7,14 +7,14 @@ use Rattle.rsp_text.specs.declared.fault.AsmFaultKind.{AsmFaultKind}
 use Rattle.rsp_text.specs.declared.fault.AsmFaultKind.TheVariants.{OutOfRange, PastEnd, LabelTwice, OutOfMemory}
 use Rattle.rsp_text.specs.declared.slot.Slot.{Slot}
 use Rattle.rsp_text.specs.declared.text.Stop.TheVariants.{Blank}
-use Rattle.rsp_text.specs.Chars.{stops}
+use Rattle.rsp_text.specs.Cuts.{stops}
 use Rattle.rsp_text.specs.Numbers.{Expression}
-use Rattle.rsp_text.specs.Statement.{Labels, Reading, Statement, nothing, numbers, instruction, Form, form_named, form_readings, with_operands, with_form, operand_texts, statement_of, size, field, evaluate, in_range, field_of, then_registers, fields_with, fields_of, append, all_fields, one_word}
+use Rattle.rsp_text.specs.Statement.{Labels, Reading, Statement, nothing, numbers, instruction, Form, form_named, form_readings, with_operands, with_form, operand_texts, statement_of, size, field, evaluate, or_out_of_range, field_of, then_registers, fields_with, fields_of, append, all_fields, one_word}
 use Rattle.rsp_text.specs.Source.{Parts, parts_of, is_twice, has_bad_number, statement_fault, parts_fault, first_fault, statement_words, parts_words, line_words}
 use Rattle.std.specs.Str.Lines.{lines}
 use Rattle.std.proofs.lemmas.Bool.{false≢true}
 use Rattle.rsp_asm.specs.Answer.{IsFault, HidesNoFault}
-use Rattle.rsp_text.specs.Means.{this_or, lowest, joined, in_turn, first, second, unless, labels_from, means_lines}
+use Rattle.rsp_text.specs.Means.{this_or, lowest, then_later, in_turn, first, second, unless, labels_from, means_lines}
 
 -- a kind that a text can have
 abbrev pub of_text : AsmFaultKind → Bool
@@ -80,7 +80,7 @@ lowest_fine fault fine earlier (l ∷ ls) f e = go (fault earlier l) (fine earli
 
 -- ---- the second pass
 
-value_fine : (o : Option ℕ) → FineResult (in_range o)
+value_fine : (o : Option ℕ) → FineResult (or_out_of_range o)
 value_fine None = refl
 value_fine (Some v) = tt
 
@@ -128,7 +128,7 @@ turn_fine : (words : List (List ℕ) → List ℕ → Result (List ℕ) AsmFault
 turn_fine words fine earlier [] f e = absurd cc
 turn_fine words fine earlier (l ∷ ls) f e = go (words earlier l) (fine earlier l) (in_turn words (earlier ++ l ∷ []) ls) (turn_fine words fine (earlier ++ l ∷ []) ls f) e
   where
-    go : (r : Result (List ℕ) AsmFaultKind) → FineResult r → (later : Result (List ℕ) AsmFault) → (later ≡ Err f → of_text f.kind ≡ true) → joined (length earlier + 1) r later ≡ Err f → of_text f.kind ≡ true
+    go : (r : Result (List ℕ) AsmFaultKind) → FineResult r → (later : Result (List ℕ) AsmFault) → (later ≡ Err f → of_text f.kind ≡ true) → then_later (length earlier + 1) r later ≡ Err f → of_text f.kind ≡ true
     go (Err kind) h later rest e =
         let same : kind ≡ f.kind = cc in
         subst (λ k. of_text k ≡ true) same h

@@ -10,10 +10,11 @@ use Rattle.rsp_text.specs.declared.fault.AsmFaultKind.{AsmFaultKind}
 use Rattle.rsp_text.specs.declared.slot.Slot.{Slot}
 use Rattle.rsp_text.specs.declared.slot.Slot.TheVariants.{Half, Amount, Jump, Branch, Scaled}
 use Rattle.rsp_text.specs.declared.text.Stop.TheVariants.{Parenthesis, Bracket}
-use Rattle.rsp_text.specs.Chars.{cut}
+use Rattle.rsp_text.specs.Cuts.{cut}
 use Rattle.rsp_text.specs.Names.{look_up, below, small_number, is_decimal, scalar_names, scalar_named, vector_named, sp_named, control_names, control_named, element_names, element_named}
 use Rattle.rsp_text.specs.Numbers.{Expression, expression_of}
-use Rattle.rsp_text.specs.Statement.{Labels, Reading, named, asks, base_of, offset_of, memory, bracketed, multiple, byte_named, lane_named, with_element, bracket_of, memory_of, read, field, half, amount, jump, branch, scaled, evaluate, in_range, field_of, then_registers, fields_of, append, all_fields, read_all}
+use Rattle.rsp_decode.specs.Table.{is_scale, is_step, is_row_operand}
+use Rattle.rsp_text.specs.Statement.{Labels, Reading, one_register, asks, base_of, offset_of, memory, bracketed, multiple, byte_named, lane_named, with_element, bracket_of, memory_operand, read, field, half, amount, jump, branch, scaled, evaluate, or_out_of_range, field_of, then_registers, fields_of, append, all_fields, read_all}
 
 -- ---- names
 
@@ -140,7 +141,7 @@ module _ (labels : Labels) (place : ℕ) where
   valued : (k : Operand) (slot : Slot) (limit : ℕ) (ns : List ℕ) (e : Expression) → ((z : ℤ) → Below limit (field slot place z)) → ((v : ℕ) → v < limit → FitPlaces (places k) (v ∷ ns)) → IfOk (fields_of labels place (asks slot ns e)) (FitPlaces (places k))
   valued k slot limit ns e all h = go (evaluate labels e)
     where
-      ranged : (o : Option ℕ) → Below limit o → IfOk (then_registers ns (in_range o)) (FitPlaces (places k))
+      ranged : (o : Option ℕ) → Below limit o → IfOk (then_registers ns (or_out_of_range o)) (FitPlaces (places k))
       ranged None b = tt
       ranged (Some v) b = h v b
 
@@ -157,11 +158,11 @@ module _ (labels : Labels) (place : ℕ) where
   offset_fits k slot limit (Some e) None b all h = tt
   offset_fits k slot limit (Some e) (Some n) b all h = valued k slot limit (n ∷ []) e all (λ v lt. h v n lt b)
 
-  memory_fits : (k : Operand) (slot : Slot) (limit : ℕ) (o : Option (List ℕ × List ℕ)) → ((z : ℤ) → Below limit (field slot place z)) → ((v n : ℕ) → v < limit → n < 32 → FitPlaces (places k) (v ∷ n ∷ [])) → Fits k (memory_of slot o)
+  memory_fits : (k : Operand) (slot : Slot) (limit : ℕ) (o : Option (List ℕ × List ℕ)) → ((z : ℤ) → Below limit (field slot place z)) → ((v n : ℕ) → v < limit → n < 32 → FitPlaces (places k) (v ∷ n ∷ [])) → Fits k (memory_operand slot o)
   memory_fits k slot limit None all h = tt
   memory_fits k slot limit (Some p) all h = offset_fits k slot limit (offset_of p.0) (base_of p.1) (base_below p.1) all h
 
-  one_fits : (k : Operand) (limit : ℕ) (o : Option ℕ) → Below limit o → ((n : ℕ) → n < limit → FitPlaces (places k) (n ∷ [])) → Fits k (option_map named o)
+  one_fits : (k : Operand) (limit : ℕ) (o : Option ℕ) → Below limit o → ((n : ℕ) → n < limit → FitPlaces (places k) (n ∷ [])) → Fits k (option_map one_register o)
   one_fits k limit None b h = tt
   one_fits k limit (Some n) b h = h n b
 

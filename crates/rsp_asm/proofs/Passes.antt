@@ -11,7 +11,7 @@ use Rattle.rsp_text.proofs.Places.{place_push, labels_push}
 use Rattle.rsp_operands.specs.Labels.{SamePlaces}
 use Rattle.rsp_asm.specs.Answer.{HidesNoFault}
 use Rattle.rsp_asm.proofs.Same.{first_same, same_behind, new_label}
-use Rattle.rsp_text.specs.Means.{place_after, labelled, labels_from, fault_at, this_or, lowest, joined, in_turn, first, second, unless, means_lines}
+use Rattle.rsp_text.specs.Means.{place_after, labelled, labels_from, fault_at, this_or, lowest, then_later, in_turn, first, second, unless, means_lines}
 
 -- the next of the lines that are left
 pub take_next : (ls : List (List ℕ)) (n : ℕ) (l : List ℕ) (more : List (List ℕ)) → drop n ls ≡ l ∷ more → take (n + 1) ls ≡ take n ls ++ l ∷ []
@@ -126,7 +126,7 @@ fault_means origin ls fault e = ap (λ o. unless o (in_turn (second origin (labe
 -- ---- the second pass
 
 -- an Ok of both parts
-joined_ok : (number : ℕ) (r : Result (List ℕ) AsmFaultKind) (later : Result (List ℕ) AsmFault) (ws : List ℕ) → joined number r later ≡ Ok ws → (vs : List ℕ) × (bs : List ℕ) × (r ≡ Ok vs) × (later ≡ Ok bs) × (vs ++ bs ≡ ws)
+joined_ok : (number : ℕ) (r : Result (List ℕ) AsmFaultKind) (later : Result (List ℕ) AsmFault) (ws : List ℕ) → then_later number r later ≡ Ok ws → (vs : List ℕ) × (bs : List ℕ) × (r ≡ Ok vs) × (later ≡ Ok bs) × (vs ++ bs ≡ ws)
 joined_ok number (Err kind) later ws e = absurd cc
 joined_ok number (Ok vs) (Err f) ws e = absurd cc
 joined_ok number (Ok vs) (Ok bs) ws e = let same : vs ++ bs ≡ ws = cc in (vs, bs, refl, refl, same)
@@ -135,24 +135,24 @@ module _ (words : List (List ℕ) → List ℕ → Result (List ℕ) AsmFaultKin
   turn_push : (earlier xs : List (List ℕ)) (l : List ℕ) (ws vs : List ℕ) → in_turn words earlier xs ≡ Ok ws → words (earlier ++ xs) l ≡ Ok vs → in_turn words earlier (xs ++ l ∷ []) ≡ Ok (ws ++ vs)
   turn_push earlier [] l ws vs a b =
       let none : [] ≡ ws = cc in
-      ap (λ o. joined (length earlier + 1) o (Ok [])) (ap (λ t. words t l) (sym (append-nil earlier)) ∙ b)
+      ap (λ o. then_later (length earlier + 1) o (Ok [])) (ap (λ t. words t l) (sym (append-nil earlier)) ∙ b)
       ∙ ap Ok (append-nil vs ∙ ap (λ t. t ++ vs) none)
   turn_push earlier (x ∷ xs) l ws vs a b =
       let k = joined_ok (length earlier + 1) (words earlier x) (in_turn words (earlier ++ x ∷ []) xs) ws a in
       let more = turn_push (earlier ++ x ∷ []) xs l k.1 vs k.3 (ap (λ t. words t l) (append_assoc earlier (x ∷ []) xs) ∙ b) in
-      ap (λ o. joined (length earlier + 1) o (in_turn words (earlier ++ x ∷ []) (xs ++ l ∷ []))) k.2
-      ∙ ap (joined (length earlier + 1) (Ok k.0)) more
+      ap (λ o. then_later (length earlier + 1) o (in_turn words (earlier ++ x ∷ []) (xs ++ l ∷ []))) k.2
+      ∙ ap (then_later (length earlier + 1) (Ok k.0)) more
       ∙ ap Ok (sym (append_assoc k.0 k.1 vs) ∙ ap (λ t. t ++ vs) k.4)
 
   turn_fault : (earlier xs : List (List ℕ)) (l : List ℕ) (ys : List (List ℕ)) (ws : List ℕ) (kind : AsmFaultKind) → in_turn words earlier xs ≡ Ok ws → words (earlier ++ xs) l ≡ Err kind → in_turn words earlier (xs ++ l ∷ ys) ≡ Err (fault_at (length earlier + length xs + 1) kind)
   turn_fault earlier [] l ys ws kind a b =
-      ap (λ o. joined (length earlier + 1) o (in_turn words (earlier ++ l ∷ []) ys)) (ap (λ t. words t l) (sym (append-nil earlier)) ∙ b)
+      ap (λ o. then_later (length earlier + 1) o (in_turn words (earlier ++ l ∷ []) ys)) (ap (λ t. words t l) (sym (append-nil earlier)) ∙ b)
       ∙ ap (λ n. Err (fault_at n kind)) (omega arith)
   turn_fault earlier (x ∷ xs) l ys ws kind a b =
       let k = joined_ok (length earlier + 1) (words earlier x) (in_turn words (earlier ++ x ∷ []) xs) ws a in
       let more = turn_fault (earlier ++ x ∷ []) xs l ys k.1 kind k.3 (ap (λ t. words t l) (append_assoc earlier (x ∷ []) xs) ∙ b) in
-      ap (λ o. joined (length earlier + 1) o (in_turn words (earlier ++ x ∷ []) (xs ++ l ∷ ys))) k.2
-      ∙ ap (joined (length earlier + 1) (Ok k.0)) more
+      ap (λ o. then_later (length earlier + 1) o (in_turn words (earlier ++ x ∷ []) (xs ++ l ∷ ys))) k.2
+      ∙ ap (then_later (length earlier + 1) (Ok k.0)) more
       ∙ ap (λ n. Err (fault_at n kind)) (omega (arith, length-append earlier (x ∷ [])))
 
 -- the second pass has done the first lines of a text, and these are left

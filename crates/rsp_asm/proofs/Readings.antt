@@ -7,11 +7,12 @@ use Rattle.rsp_text.specs.declared.fault.AsmFaultKind.{AsmFaultKind}
 use Rattle.rsp_text.specs.declared.slot.Slot.{Slot}
 use Rattle.rsp_text.specs.declared.slot.Slot.TheVariants.{Half, Amount, Jump, Branch, Scaled, Word}
 use Rattle.rsp_text.specs.declared.text.Stop.TheVariants.{Parenthesis, Bracket}
-use Rattle.rsp_text.specs.Chars.{cut}
+use Rattle.rsp_text.specs.Cuts.{cut}
 use Rattle.rsp_text.specs.Names.{scalar_named, vector_named, sp_named, control_named, element_named}
 use Rattle.rsp_text.specs.Numbers.{Expression, expression_of}
-use Rattle.rsp_text.specs.Statement.{Labels, Reading, named, pair, asks, memory, memory_of, with_element, bracket_of, bracketed, byte_named, lane_named, offset_of, base_of, read, read_all, read_numbers, number_fails, reading_fails, reading_fields, fields_of, fields_with, field_of, evaluate, then_registers, append, all_fields, with_values, number_value, in_range, word}
-use Rattle.rsp_asm.specs.Walks.{any_fails, number_text_fails, and_then, put_all, single, number_words}
+use Rattle.rsp_text.specs.Statement.{Labels, Reading, one_register, pair, asks, memory, memory_operand, with_element, bracket_of, bracketed, byte_named, lane_named, offset_of, base_of, read, read_all, read_numbers, number_fails, reading_fails, reading_fields, fields_of, fields_with, field_of, evaluate, then_registers, append, all_fields, with_values, number_value, or_out_of_range, word}
+use Rattle.rsp_asm.specs.Statements.{single}
+use Rattle.rsp_asm.specs.Walks.{any_fails, number_text_fails, and_then, put_all, number_words}
 
 abbrev pub fails : ℕ → Reading → Bool
 fails place r = number_fails place r.value
@@ -57,7 +58,7 @@ module _ {A : Type 0} (f : A → Reading) (n : ℕ) (each : (a : A) → span (f 
   from_map None e = absurd cc
   from_map (Some a) e = let same : f a ≡ r = cc in sym (ap span same) ∙ each a
 
-memory_span : (slot : Slot) (o : Option (List ℕ × List ℕ)) (r : Reading) → memory_of slot o ≡ Some r → span r ≡ 2
+memory_span : (slot : Slot) (o : Option (List ℕ × List ℕ)) (r : Reading) → memory_operand slot o ≡ Some r → span r ≡ 2
 memory_span slot None r e = absurd cc
 memory_span slot (Some p) r e = go (offset_of p.0) (base_of p.1) e
   where
@@ -76,7 +77,7 @@ bracket_span look default None bs r e = pair_span (vector_named bs) default r e
 bracket_span look default (Some p) bs r e = pair_span (vector_named p.0) (bracketed look p.1) r e
 
 read_span : (k : Operand) (t : List ℕ) (r : Reading) → read k t ≡ Some r → span r ≡ length (places k)
-read_span (scalar low) t r e = from_map named 1 (λ _. refl) r (scalar_named t) e
+read_span (scalar low) t r e = from_map one_register 1 (λ _. refl) r (scalar_named t) e
 read_span shift_amount t r e = from_map (asks Amount []) 1 (λ _. refl) r (expression_of t) e
 read_span signed t r e = from_map (asks Half []) 1 (λ _. refl) r (expression_of t) e
 read_span unsigned t r e = from_map (asks Half []) 1 (λ _. refl) r (expression_of t) e
@@ -84,9 +85,9 @@ read_span jump_target t r e = from_map (asks Jump []) 1 (λ _. refl) r (expressi
 read_span branch_target t r e = from_map (asks Branch []) 1 (λ _. refl) r (expression_of t) e
 read_span scalar_memory t r e = memory_span Half (cut Parenthesis t) r e
 read_span (vector_memory scale) t r e = memory_span (Scaled scale) (cut Parenthesis t) r e
-read_span sp_register t r e = from_map named 1 (λ _. refl) r (sp_named t) e
-read_span control_register t r e = from_map named 1 (λ _. refl) r (control_named t) e
-read_span (vector low) t r e = from_map named 1 (λ _. refl) r (vector_named t) e
+read_span sp_register t r e = from_map one_register 1 (λ _. refl) r (sp_named t) e
+read_span control_register t r e = from_map one_register 1 (λ _. refl) r (control_named t) e
+read_span (vector low) t r e = from_map one_register 1 (λ _. refl) r (vector_named t) e
 read_span (vector_byte low step) t r e = bracket_span (byte_named step) (Some 0) (cut Bracket t) t r e
 read_span vector_element t r e = bracket_span element_named (Some 0) (cut Bracket t) t r e
 read_span vector_lane t r e = bracket_span lane_named None (cut Bracket t) t r e
@@ -150,7 +151,7 @@ one_number labels place e = go (evaluate labels e)
     go None = refl
     go (Some z) = again (word z)
       where
-        again : (o : Option ℕ) → single (in_range o) ≡ then_registers [] (in_range o)
+        again : (o : Option ℕ) → single (or_out_of_range o) ≡ then_registers [] (or_out_of_range o)
         again None = refl
         again (Some v) = refl
 

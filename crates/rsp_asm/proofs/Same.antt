@@ -12,7 +12,7 @@ use Rattle.rsp_text.specs.declared.slot.Slot.{Slot}
 use Rattle.rsp_text.specs.Numbers.{Expression}
 use Rattle.rsp_text.specs.Statement.{Labels, find_label, label_place, evaluate, field_of, then_registers, fields_with, fields_of, Reading, append, all_fields, Statement, nothing, numbers, instruction, one_word, statement_of}
 use Rattle.rsp_text.specs.Source.{Parts, parts_of, is_twice, statement_fault, parts_fault, first_fault, label_in, label_of, statement_words, parts_words, line_words}
-use Rattle.rsp_text.specs.Means.{labelled, labels_from, place_after, joined, lowest, in_turn, first, second, unless, means_lines}
+use Rattle.rsp_text.specs.Means.{labelled, labels_from, place_after, then_later, lowest, in_turn, first, second, unless, means_lines}
 use Rattle.rsp_operands.specs.Labels.{SamePlaces}
 
 -- ---- a label behind others
@@ -92,8 +92,8 @@ module _ (xs ys : Labels) (same : SamePlaces xs ys) where
   pub turn_same : (origin : ℕ) (earlier ls : List (List ℕ)) → in_turn (second origin xs) earlier ls ≡ in_turn (second origin ys) earlier ls
   turn_same origin earlier [] = refl
   turn_same origin earlier (l ∷ ls) =
-      ap (λ w. joined (length earlier + 1) w (in_turn (second origin xs) (earlier ++ l ∷ []) ls)) (line_same (place_after origin earlier) l)
-      ∙ ap (joined (length earlier + 1) (second origin ys earlier l)) (turn_same origin (earlier ++ l ∷ []) ls)
+      ap (λ w. then_later (length earlier + 1) w (in_turn (second origin xs) (earlier ++ l ∷ []) ls)) (line_same (place_after origin earlier) l)
+      ∙ ap (then_later (length earlier + 1) (second origin ys earlier l)) (turn_same origin (earlier ++ l ∷ []) ls)
 
 -- a line without fault has a label that none of the labels is
 pub new_label : (labels : Labels) (place : ℕ) (line : List ℕ) → first_fault labels place line ≡ None → is_twice labels (label_of line) ≡ false

@@ -8,11 +8,12 @@ use Rattle.rsp_decode.specs.Table.{Row, places}
 use Rattle.rsp_text.specs.declared.fault.AsmFaultKind.{AsmFaultKind}
 use Rattle.rsp_text.specs.declared.fault.AsmFaultKind.TheVariants.{OutOfRange, BadOperand}
 use Rattle.rsp_text.specs.declared.text.Stop.TheVariants.{Blank}
-use Rattle.rsp_text.specs.Chars.{stops}
-use Rattle.rsp_decode.specs.Table.{Entry, entry_of}
+use Rattle.rsp_text.specs.Cuts.{stops}
+use Rattle.rsp_decode.specs.Table.{Entry}
 use Rattle.rsp_text.specs.Source.{Parts, parts_of, size_if, size_in, size_of, statement_words, parts_words, line_words}
 use Rattle.rsp_text.specs.Statement.{Labels, Reading, nothing, numbers, instruction, Form, no_operation, numbers_form, row_form, read_all, read_numbers, form_named, form_readings, with_operands, with_form, statement_of, operand_texts, all_fields, with_values, one_word}
-use Rattle.rsp_asm.specs.Walks.{checked, checked_readings, number_text_fails, number_words, nothing_words, listed_words, listed_size, counted, row_words, row_size, word_with, single, where_read, Pushed, Puts}
+use Rattle.rsp_asm.specs.Statements.{checked, checked_readings, counted, row_words, row_size, word_with, single, Pushed, Puts}
+use Rattle.rsp_asm.specs.Walks.{number_text_fails, number_words}
 use Rattle.rsp_asm.proofs.Readings.{fails, numbers_fail, numbers_length, numbers_read}
 
 abbrev pub name_of : List ℕ → List ℕ
@@ -65,9 +66,23 @@ numbers_checked place count (t ∷ ts) bad lt e same = go (read_numbers (t ∷ t
 
 -- ---- the second pass
 
-pub nothing_unsaid : (ts : List (List ℕ)) → 0 < length ts → nothing_words ts ≡ Err BadOperand
-nothing_unsaid [] lt = absurd (omega arith)
-nothing_unsaid (t ∷ ts) lt = refl
+pub nothing_unsaid : (labels : Labels) (place : ℕ) (ts : List (List ℕ)) → 0 < length ts → statement_words labels place (with_operands (form_readings no_operation ts)) ≡ Err BadOperand
+nothing_unsaid labels place [] lt = absurd (omega arith)
+nothing_unsaid labels place (t ∷ ts) lt = refl
+
+-- words, where the operands can be read
+abbrev pub where_read : Option (List Reading) → Result (List ℕ) AsmFaultKind → Result (List ℕ) AsmFaultKind
+where_read None words = Err BadOperand
+where_read (Some rs) words = words
+
+-- .word with these texts as operands: how many words, and which
+abbrev pub listed_size : List (List ℕ) → ℕ
+listed_size [] = 0
+listed_size (t ∷ ts) = counted (length (t ∷ ts)) (read_numbers (t ∷ ts))
+
+abbrev pub listed_words : Labels → List (List ℕ) → Result (List ℕ) AsmFaultKind
+listed_words labels [] = Err BadOperand
+listed_words labels (t ∷ ts) = where_read (read_numbers (t ∷ ts)) (number_words labels (t ∷ ts))
 
 pub listed_said : (labels : Labels) (place : ℕ) (ts : List (List ℕ)) → listed_words labels ts ≡ statement_words labels place (with_operands (form_readings numbers_form ts))
 listed_said labels place [] = refl

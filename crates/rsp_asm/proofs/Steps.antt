@@ -1,19 +1,16 @@
 -- One step of a walk over the texts of operands.
-use Rattle.std.proofs.Common.{◌≡◌, refl, sym, ap, ◌∙◌, ℕ, ◌+◌, ◌<◌, List, [], ◌∷◌, ◌++◌, length, length-append, drop, get_or, Bool, true, false, not, ◌&&◌, arith, Bor}
-use Rattle.std.specs.Prelude.{Option, Some, None, map, is_some, is_none, option_map, option_and_then, Result, Ok, Err}
-use Rattle.std.specs.List.{slice_split}
-use Rattle.std.proofs.lemmas.List.Splits.{length-slice_split}
+use Rattle.std.proofs.Common.{◌≡◌, refl, sym, ap, ◌∙◌, ℕ, ◌+◌, ◌<◌, List, [], ◌∷◌, ◌++◌, length, length-append, drop, get_or, true, false, ◌&&◌, arith}
+use Rattle.std.specs.Prelude.{Option, Some, None, map, is_some, option_map, option_and_then, Result, Ok, Err}
 use Rattle.rsp_decode.specs.Table.{Operand}
 use Rattle.rsp_text.specs.declared.fault.AsmFaultKind.{AsmFaultKind}
 use Rattle.rsp_text.specs.declared.fault.AsmFaultKind.TheVariants.{BadOperand}
-use Rattle.rsp_decode.specs.declared.rows.Operand.{Operand}
-use Rattle.rsp_text.specs.declared.text.Stop.TheVariants.{Comma}
-use Rattle.rsp_text.specs.Chars.{stops, trim}
-use Rattle.rsp_text.specs.Numbers.{expression_of}
-use Rattle.rsp_text.specs.Statement.{Labels, Reading, read, read_all, texts_in, append, number_value}
+use Rattle.rsp_text.specs.declared.slot.Slot.TheVariants.{Word}
+use Rattle.rsp_text.specs.Numbers.{Expression, expression_of}
+use Rattle.rsp_text.specs.Statement.{Labels, Reading, read, read_all, read_numbers, asks, append, number_value}
 use Rattle.rsp_text.proofs.Tables.{at_index}
 use Rattle.std.proofs.lemmas.List.{append_assoc}
-use Rattle.rsp_asm.specs.Walks.{any_fails, put_all, single, number_words}
+use Rattle.rsp_asm.specs.Statements.{single}
+use Rattle.rsp_asm.specs.Walks.{any_fails, put_all, number_words}
 
 is_some_map : {A B : Type 0} (f : A → B) (o : Option A) → is_some (option_map f o) ≡ is_some o
 is_some_map f None = refl
@@ -41,24 +38,29 @@ module _ (kinds : List Operand) (i : ℕ) (lt : i < length kinds) where
   pub put_none : (labels : Labels) (place w : ℕ) (d : Operand) → put_all labels place w (drop i kinds) [] ≡ Err BadOperand
   put_none labels place w d = ap (λ ks. put_all labels place w ks []) (at_index kinds i d lt)
 
-pub none_left : (o : Option (List ℕ)) (whole : Bool) → is_some (read_all [] (texts_in o)) ≡ whole → is_none o ≡ whole
-none_left None whole e = e
-none_left (Some bs) whole e = none_split (slice_split (stops Comma) bs) _ (length-slice_split (stops Comma) bs) ∙ e
-  where
-    none_split : (parts : List (List ℕ)) (n : ℕ) → length parts ≡ n + 1 → false ≡ is_some (read_all [] (map trim parts))
-    none_split [] n e = absurd (omega arith)
-    none_split (p ∷ ps) n e = refl
-
-pub none_answer : (o : Option (Bor (List ℕ))) (r : Bool) → is_some o ≡ not r → r ≡ is_none (option_map (λ (t : Bor (List ℕ)). t.now) o)
-none_answer None true e = refl
-none_answer None false e = e
-none_answer (Some t) true e = e
-none_answer (Some t) false e = refl
-
 -- ---- the numbers of .word
 
 abbrev pub plus_length : ℕ → Option (List Reading) → Option ℕ
 plus_length n o = option_map (λ k. n + k) (option_map length o)
+
+module _ (t : List ℕ) (ts : List (List ℕ)) (n : ℕ) where
+  abbrev with_number : Option Expression → Option (List Reading) → Option (List Reading)
+  with_number o q = option_and_then (λ (e : Expression). option_map (λ (rs : List Reading). asks Word [] e ∷ rs) q) o
+
+  pub number_unread : false ≡ is_some (expression_of t) → None ≡ plus_length n (read_numbers (t ∷ ts))
+  number_unread h = go (expression_of t) h
+    where
+      go : (o : Option Expression) → false ≡ is_some o → None ≡ plus_length n (with_number o (read_numbers ts))
+      go None h = refl
+      go (Some e) h = absurd cc
+
+  pub number_counted : true ≡ is_some (expression_of t) → plus_length (n + 1) (read_numbers ts) ≡ plus_length n (read_numbers (t ∷ ts))
+  number_counted h = go (expression_of t) (read_numbers ts) h
+    where
+      go : (o : Option Expression) (q : Option (List Reading)) → true ≡ is_some o → plus_length (n + 1) q ≡ plus_length n (with_number o q)
+      go None q h = absurd cc
+      go (Some e) None h = refl
+      go (Some e) (Some rs) h = ap Some (omega arith)
 
 -- some of the numbers are put behind the words before them, and these texts are left
 pub record Part (labels : Labels) (old new : List ℕ) (left ts : List (List ℕ)) : Type 0 where

@@ -1,4 +1,6 @@
 pub mod Parts
+pub mod Operands
+pub mod Statements
 pub mod Walks
 pub mod Forms
 pub mod Answer

@@ -2,11 +2,11 @@
 
 ghost use Rattle.std.specs.Prelude.{◌≡◌, ◌≤◌, ℕ, map};
 ghost use Rattle.rsp_text.specs.Statement.{statement_of, read_all, operand_texts, form_readings, with_operands, no_operation, numbers_form};
-ghost use Rattle.rsp_asm.specs.Walks.{checked, checked_readings};
+ghost use Rattle.rsp_asm.specs.Statements.{checked, checked_readings};
 
 use crate::form::{Form, form_of, split};
 use crate::numbers::{count_numbers, has_great_number};
-use crate::operands::{are_operands, have_bad_number};
+use crate::row::{are_operands, have_bad_number};
 use rsp_decode::Operand;
 use rsp_text::AsmFaultKind;
 

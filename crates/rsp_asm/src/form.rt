@@ -2,11 +2,12 @@
 
 ghost use Rattle.std.specs.Prelude.{◌≡◌, ◌==◌, length, option_map};
 ghost use Rattle.std.specs.List.{before_first, after_first};
-ghost use Rattle.rsp_text.specs.Chars.{stops};
+ghost use Rattle.rsp_text.specs.Cuts.{stops};
 ghost use Rattle.rsp_text.specs.declared.text.Stop.TheVariants.{Blank};
 ghost use Rattle.rsp_text.specs.Statement.{form_named, operand_texts};
 ghost use Rattle.rsp_asm.specs.Forms.{form, form_shape};
 
+use crate::operands::Operands;
 use rsp_decode::{Operand, TableRow};
 use rsp_text::{Stop, cut, find_row, is_same};
 
@@ -43,7 +44,8 @@ const LINKING_ROW: TableRow = TableRow {
 fn is_single(operands: &[u8]) -> bool
     ensures { result ≡ (length (operand_texts operands.now) == 1) }
 {
-    !operands.is_empty() && cut(operands, Stop::Comma).is_none()
+    let mut operands = Operands::new(operands);
+    operands.next().is_some() && operands.next().is_none()
 }
 
 /// The form of a name, in either case, before these operands: `jalr` with one operand links in register 31. It is None where

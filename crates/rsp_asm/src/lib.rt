@@ -10,6 +10,7 @@ mod line;
 mod numbers;
 mod operands;
 mod push;
+mod row;
 mod source;
 mod words;
 

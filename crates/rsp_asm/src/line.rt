@@ -2,14 +2,15 @@
 
 ghost use Rattle.std.specs.Prelude.{◌≡◌, ◌+◌, ◌*◌, ◌≤◌, None, Some, Ok, Err, option_map, IfOk, IfErr, OnOk, drop, ◌++◌};
 ghost use Rattle.arrayvec.specs.ArrayVec.{array_vec_len};
-ghost use Rattle.rsp_text.specs.Source.{is_line, code_of, parts_of, is_twice, first_fault, label_of, size_of, line_words};
+ghost use Rattle.rsp_text.specs.Source.{code_of, parts_of, is_twice, first_fault, label_of, size_of, line_words};
 ghost use Rattle.rsp_asm.specs.Parts.{parts};
 
 use crate::check::check_statement;
 use crate::push::push_statement;
 use crate::words::Words;
+use rsp_chars::{is_line, skip_blanks, trim};
 use rsp_operands::Labels;
-use rsp_text::{AsmFaultKind, Stop, cut, is_label, is_plain, skip_blanks, trim};
+use rsp_text::{AsmFaultKind, Stop, cut, is_label};
 
 /// What the first pass finds in a line.
 #[derive(Clone, Copy)]
@@ -18,20 +19,6 @@ pub struct Line<'a> {
     pub label: Option<&'a [u8]>,
     /// How many words it gives.
     pub size: u16,
-}
-
-fn is_line(line: &[u8]) -> bool
-    ensures { result ≡ is_line line.now }
-{
-    if line.len() > 256 {
-        return false;
-    }
-    for c in line {
-        if !is_plain(*c) {
-            return false;
-        }
-    }
-    true
 }
 
 fn code(line: &[u8]) -> &[u8]

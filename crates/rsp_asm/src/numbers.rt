@@ -4,9 +4,10 @@ ghost use Rattle.std.specs.Prelude.{◌≡◌, ◌+◌, ◌≤◌, length, optio
 ghost use Rattle.std.specs.List.{list_any};
 ghost use Rattle.arrayvec.specs.ArrayVec.{array_vec_len};
 ghost use Rattle.rsp_text.specs.Statement.{read_numbers, operand_texts};
-ghost use Rattle.rsp_asm.specs.Walks.{Puts, number_text_fails, number_words};
+ghost use Rattle.rsp_asm.specs.Statements.{Puts};
+ghost use Rattle.rsp_asm.specs.Walks.{number_text_fails, number_words};
 
-use crate::operands::{next_operand, operands_in};
+use crate::operands::Operands;
 use crate::words::Words;
 use rsp_operands::{Labels, is_number, is_number_out_of_range, number_word};
 use rsp_text::AsmFaultKind;
@@ -16,14 +17,12 @@ pub fn count_numbers(text: &[u8]) -> Option<usize>
     ensures { result ≡ option_map length (read_numbers (operand_texts text.now)) }
 {
     let mut count = 0;
-    let mut rest = operands_in(text);
-    while let Some(left) = rest {
-        let (front, more) = next_operand(left);
-        if !is_number(front) {
+    let mut operands = Operands::new(text);
+    while let Some(operand) = operands.next() {
+        if !is_number(operand) {
             return None;
         }
         count += 1;
-        rest = more;
     }
     Some(count)
 }
@@ -32,13 +31,11 @@ pub fn count_numbers(text: &[u8]) -> Option<usize>
 pub fn has_great_number(text: &[u8]) -> bool
     ensures { result ≡ list_any number_text_fails (operand_texts text.now) }
 {
-    let mut rest = operands_in(text);
-    while let Some(left) = rest {
-        let (front, more) = next_operand(left);
-        if is_number_out_of_range(front) {
+    let mut operands = Operands::new(text);
+    while let Some(operand) = operands.next() {
+        if is_number_out_of_range(operand) {
             return true;
         }
-        rest = more;
     }
     false
 }
@@ -48,12 +45,10 @@ pub fn push_numbers(text: &[u8], labels: &Labels<'_>, words: &mut Words) -> Resu
     requires { array_vec_len words.old + length (operand_texts text.now) ≤ 1024 }
     ensures { Puts (number_words labels.now (operand_texts text.now)) (length (operand_texts text.now)) words.old.items words.new.items result }
 {
-    let mut rest = operands_in(text);
-    while let Some(left) = rest {
-        let (front, more) = next_operand(left);
-        let word = number_word(front, labels)?;
+    let mut operands = Operands::new(text);
+    while let Some(operand) = operands.next() {
+        let word = number_word(operand, labels)?;
         words.push(word);
-        rest = more;
     }
     Ok(())
 }

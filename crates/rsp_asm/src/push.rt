@@ -1,24 +1,25 @@
 // What the second pass writes of a statement.
 
-ghost use Rattle.std.specs.Prelude.{◌≡◌, ◌+◌, ◌≤◌, true};
+ghost use Rattle.std.specs.Prelude.{◌≡◌, ℕ, ◌+◌, ◌≤◌, true};
 ghost use Rattle.std.specs.List.{list_all};
 ghost use Rattle.arrayvec.specs.ArrayVec.{array_vec_len};
 ghost use Rattle.rsp_decode.specs.Table.{entry, is_row_operand};
 ghost use Rattle.rsp_text.specs.Source.{size_if, statement_words};
-ghost use Rattle.rsp_text.specs.Statement.{statement_of, operand_texts};
-ghost use Rattle.rsp_asm.specs.Walks.{Puts, nothing_size, nothing_words, listed_size, listed_words, row_size, row_word, row_words};
+ghost use Rattle.rsp_text.specs.Statement.{Labels, statement_of, operand_texts, form_readings, with_operands, no_operation, numbers_form};
+ghost use Rattle.rsp_asm.specs.Statements.{Puts, row_size, row_word, row_words};
 
 use crate::form::{Form, form_of, split};
 use crate::numbers::{count_numbers, push_numbers};
-use crate::operands::{are_operands, put_operands};
+use crate::row::{are_operands, put_operands};
 use crate::words::Words;
 use rsp_decode::TableRow;
 use rsp_operands::Labels;
 use rsp_text::AsmFaultKind;
 
 fn push_nothing(operands: &[u8], words: &mut Words) -> Result<(), AsmFaultKind>
-    requires { array_vec_len words.old + nothing_size (operand_texts operands.now) ≤ 1024 }
-    ensures { Puts (nothing_words (operand_texts operands.now)) (nothing_size (operand_texts operands.now)) words.old.items words.new.items result }
+    requires { array_vec_len words.old + size_if (with_operands (form_readings no_operation (operand_texts operands.now))) ≤ 1024 }
+    ensures { (labels : Labels) (place : ℕ) → Puts (statement_words labels place (with_operands (form_readings no_operation (operand_texts operands.now))))
+        (size_if (with_operands (form_readings no_operation (operand_texts operands.now)))) words.old.items words.new.items result }
 {
     if !operands.is_empty() {
         return Err(AsmFaultKind::BadOperand);
@@ -28,8 +29,9 @@ fn push_nothing(operands: &[u8], words: &mut Words) -> Result<(), AsmFaultKind>
 }
 
 fn push_listed(operands: &[u8], labels: &Labels<'_>, words: &mut Words) -> Result<(), AsmFaultKind>
-    requires { array_vec_len words.old + listed_size (operand_texts operands.now) ≤ 1024 }
-    ensures { Puts (listed_words labels.now (operand_texts operands.now)) (listed_size (operand_texts operands.now)) words.old.items words.new.items result }
+    requires { array_vec_len words.old + size_if (with_operands (form_readings numbers_form (operand_texts operands.now))) ≤ 1024 }
+    ensures { (place : ℕ) → Puts (statement_words labels.now place (with_operands (form_readings numbers_form (operand_texts operands.now))))
+        (size_if (with_operands (form_readings numbers_form (operand_texts operands.now)))) words.old.items words.new.items result }
 {
     if operands.is_empty() {
         return Err(AsmFaultKind::BadOperand);

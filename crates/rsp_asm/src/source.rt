@@ -2,25 +2,17 @@
 
 ghost use Rattle.std.specs.Prelude.{◌≡◌, ◌+◌, ◌*◌, ◌<◌, ◌≤◌, [], ◌∷◌, None, Ok, Err, length, ◌++◌, MatchOption, IfOk, IfErr, OnOk, OnErr, option_map, is_some, true};
 ghost use Rattle.arrayvec.specs.ArrayVec.{array_vec_len};
-ghost use Rattle.std.specs.Str.Lines.{lines, strip_carriage_return};
+ghost use Rattle.std.specs.Str.Lines.{lines};
 ghost use Rattle.rsp_text.specs.Means.{lowest, first, second, in_turn, means, labelled, labels_from, place_after};
 ghost use Rattle.rsp_operands.specs.Labels.{SamePlaces};
 ghost use Rattle.rsp_asm.specs.Answer.{IsFault};
 
 use crate::line::{check_line, push_words};
 use crate::words::Words;
+use rsp_chars::without_return;
 use rsp_operands::Labels;
 use rsp_text::{AsmFault, AsmFaultKind, Stop, cut};
 use std::alloc::{AllocError, Global};
-
-fn without_return(line: &[u8]) -> &[u8]
-    ensures { result.now ≡ strip_carriage_return line.now }
-{
-    match line {
-        [front @ .., b'\r'] => front,
-        _ => line,
-    }
-}
 
 /// The first line, and what follows it.
 fn next_line(text: &[u8]) -> Option<(&[u8], &[u8])>

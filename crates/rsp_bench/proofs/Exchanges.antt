@@ -1,13 +1,14 @@
 -- Lines that can be exchanged.
-use Rattle.std.proofs.Common.{◌≡◌, ◌⊎◌, inl, inr, ℕ, zero, suc, List, [], ◌∷◌, ◌++◌, replicate, refl, ap, sym, ◌∙◌, subst, append_assoc, Bool, true, false, cond, Option, Some, None, Result, Ok, Err}
+use Rattle.std.proofs.Common.{◌≡◌, inl, inr, ℕ, zero, suc, List, [], ◌∷◌, ◌++◌, replicate, refl, ap, sym, ◌∙◌, subst, append_assoc, Bool, true, false, cond, Option, Some, None, Result, Ok, Err}
 use Rattle.std.specs.Prelude.{codes, nat_le, length, is_some, if◌then◌else◌}
 use Rattle.std.specs.List.{before_first, list_all}
-use Rattle.rsp_script.specs.Text.{is_hash, is_text}
-use Rattle.rsp_script.specs.Words.{words_of}
+use Rattle.rsp_chars.specs.Chars.{is_plain}
+use Rattle.rsp_script.specs.Line.{is_hash}
+use Rattle.rsp_script.specs.Words.{words_in}
 use Rattle.rsp_script.specs.Names.{name_of}
 use Rattle.rsp_script.specs.Operand.{bank_of, ranged_of, address_of, place_of}
 use Rattle.rsp_script.specs.Line.{command_of, plain_command}
-use Rattle.rsp_script.specs.Command.{named, alone, mem, dis, with_both, with_operand, in_bank, one_number, command_of_words}
+use Rattle.rsp_script.specs.Command.{command_named, alone, mem, dis, with_both, with_operand, in_bank, one_number, command_of_words}
 use Rattle.rsp_script.specs.declared.name.Name.{Name}
 use Rattle.rsp_script.specs.declared.name.Name.TheVariants as names
 use Rattle.rsp_script.specs.declared.command.Command.{Command}
@@ -23,36 +24,36 @@ use Rattle.rsp_debug.specs.Calls.{is_count}
 use Rattle.rsp_debug.specs.Debugging.{Debugging, stepped, steps_made, stop_in, ran}
 use Rattle.rsp_lines.specs.Replies.{replies, final}
 use Rattle.rsp_bench.specs.Replies.{stop_text, count_text}
-use Rattle.rsp_bench.specs.Session.{SessionState, same, changed, plain_outcome, outcome_in, outcome_of, parsed_outcome, in_block, line_outcome, step_outcome, run_outcome}
+use Rattle.rsp_bench.specs.Session.{SessionState, same, then_debugging, plain_answer, answer_in, answer_of, parsed_answer, in_block, line_answer, step_answer, run_answer}
 use Rattle.rsp_bench.specs.Laws.{is_look_name, is_run_name, first_name, name_on, looks, runs, TellsSteps, IsExchange, IsStepLines, LinesComeOut}
 
 -- ---- lines after lines
-final-append : (p q : List (List ℕ)) (s : SessionState) → final line_outcome (p ++ q) s ≡ final line_outcome q (final line_outcome p s)
+final-append : (p q : List (List ℕ)) (s : SessionState) → final line_answer (p ++ q) s ≡ final line_answer q (final line_answer p s)
 final-append [] q s = refl
-final-append (l ∷ p) q s = final-append p q (line_outcome l s).next
+final-append (l ∷ p) q s = final-append p q (line_answer l s).next
 
 replies-append : (p q : List (List ℕ)) (s : SessionState)
-    → replies line_outcome (p ++ q) s ≡ replies line_outcome p s ++ replies line_outcome q (final line_outcome p s)
+    → replies line_answer (p ++ q) s ≡ replies line_answer p s ++ replies line_answer q (final line_answer p s)
 replies-append [] q s = refl
 replies-append (l ∷ p) q s =
-    ap (λ r. (line_outcome l s).reply ++ r) (replies-append p q (line_outcome l s).next) ∙ sym (append_assoc (line_outcome l s).reply _ _)
+    ap (λ r. (line_answer l s).reply ++ r) (replies-append p q (line_answer l s).next) ∙ sym (append_assoc (line_answer l s).reply _ _)
 
-replies_between : (p lines q : List (List ℕ)) (s after : SessionState) → final line_outcome lines (final line_outcome p s) ≡ after
-    → replies line_outcome (p ++ (lines ++ q)) s
-    ≡ replies line_outcome p s ++ (replies line_outcome lines (final line_outcome p s) ++ replies line_outcome q after)
+replies_between : (p lines q : List (List ℕ)) (s after : SessionState) → final line_answer lines (final line_answer p s) ≡ after
+    → replies line_answer (p ++ (lines ++ q)) s
+    ≡ replies line_answer p s ++ (replies line_answer lines (final line_answer p s) ++ replies line_answer q after)
 replies_between p lines q s after e =
-    let t = final line_outcome p s in
+    let t = final line_answer p s in
     replies-append p (lines ++ q) s
-    ∙ ap (λ r. replies line_outcome p s ++ r) (replies-append lines q t)
-    ∙ ap (λ (u : SessionState). replies line_outcome p s ++ (replies line_outcome lines t ++ replies line_outcome q u)) e
+    ∙ ap (λ r. replies line_answer p s ++ r) (replies-append lines q t)
+    ∙ ap (λ (u : SessionState). replies line_answer p s ++ (replies line_answer lines t ++ replies line_answer q u)) e
 
-session_between : (p lines q : List (List ℕ)) (s after : SessionState) → final line_outcome lines (final line_outcome p s) ≡ after
-    → final line_outcome (p ++ (lines ++ q)) s ≡ final line_outcome q after
+session_between : (p lines q : List (List ℕ)) (s after : SessionState) → final line_answer lines (final line_answer p s) ≡ after
+    → final line_answer (p ++ (lines ++ q)) s ≡ final line_answer q after
 session_between p lines q s after e =
-    final-append p (lines ++ q) s ∙ final-append lines q (final line_outcome p s) ∙ ap (λ (u : SessionState). final line_outcome q u) e
+    final-append p (lines ++ q) s ∙ final-append lines q (final line_answer p s) ∙ ap (λ (u : SessionState). final line_answer q u) e
 
 exchange : (p lines others q : List (List ℕ)) (s after : SessionState)
-    → final line_outcome lines (final line_outcome p s) ≡ after → final line_outcome others (final line_outcome p s) ≡ after → IsExchange p lines others q s
+    → final line_answer lines (final line_answer p s) ≡ after → final line_answer others (final line_answer p s) ≡ after → IsExchange p lines others q s
 exchange p lines others q s after with_lines without = record {
   after = after;
   replies_with = replies_between p lines q s after with_lines;
@@ -71,13 +72,13 @@ closed_in : (b : Option Source) → b ≡ None → is_some b ≡ false
 closed_in b e = ap is_some e
 
 -- what a line comes to is what its words come to, too long or no text aside
-by_command : (line : List ℕ) (s : SessionState) → s.block ≡ None → line_outcome line s ≡ parsed_outcome (plain_command line) s
-unfolding line_outcome
-by_command line s closed = ap (λ r. parsed_outcome r s) (plainly line (in_block s) (closed_in s.block closed))
+by_command : (line : List ℕ) (s : SessionState) → s.block ≡ None → line_answer line s ≡ parsed_answer (plain_command line) s
+unfolding line_answer
+by_command line s closed = ap (λ r. parsed_answer r s) (plainly line (in_block s) (closed_in s.block closed))
 
-by_outcome : (c : Command) (s : SessionState) → s.block ≡ None → outcome_of c s ≡ plain_outcome c s
-unfolding outcome_of
-by_outcome c s closed = ap (λ (b : Option Source). outcome_in b c s) closed
+by_answer : (c : Command) (s : SessionState) → s.block ≡ None → answer_of c s ≡ plain_answer c s
+unfolding answer_of
+by_answer c s closed = ap (λ (b : Option Source). answer_in b c s) closed
 
 -- ---- looks
 abbrev is_look : Command → Bool
@@ -88,12 +89,12 @@ abbrev is_quiet : Result Command LineFault → Bool
 is_quiet (Ok command) = is_look command
 is_quiet (Err fault) = true
 
-quiet_plain : (c : Command) (s : SessionState) → is_look c ≡ true → (plain_outcome c s).next ≡ s
+quiet_plain : (c : Command) (s : SessionState) → is_look c ≡ true → (plain_answer c s).next ≡ s
 quiet_plain (Show look) s e = refl
 quiet_plain _ s e = cc
 
-quiet_next : (r : Result Command LineFault) (s : SessionState) → s.block ≡ None → is_quiet r ≡ true → (parsed_outcome r s).next ≡ s
-quiet_next (Ok c) s closed e = ap (λ o. o.next) (by_outcome c s closed) ∙ quiet_plain c s e
+quiet_next : (r : Result Command LineFault) (s : SessionState) → s.block ≡ None → is_quiet r ≡ true → (parsed_answer r s).next ≡ s
+quiet_next (Ok c) s closed e = ap (λ o. o.next) (by_answer c s closed) ∙ quiet_plain c s e
 quiet_next (Err fault) s closed e = refl
 
 quiet_alone : (look : Look) (operands : List (List ℕ)) → is_quiet (alone (Show look) operands) ≡ true
@@ -129,7 +130,7 @@ quiet_dis (a ∷ []) = refl
 quiet_dis (a ∷ b ∷ []) = quiet_listing (place_of a) (ranged_of 1 64 b)
 quiet_dis (a ∷ b ∷ c ∷ more) = refl
 
-quiet_named : (name : Option Name) (operands : List (List ℕ)) → is_look_name name ≡ true → is_quiet (named name operands) ≡ true
+quiet_named : (name : Option Name) (operands : List (List ℕ)) → is_look_name name ≡ true → is_quiet (command_named name operands) ≡ true
 quiet_named (Some names.Regs) operands e = quiet_alone Regs operands
 quiet_named (Some names.Mem) operands e = quiet_mem operands
 quiet_named (Some names.Dis) operands e = quiet_dis operands
@@ -151,15 +152,15 @@ quiet_refused false text r e = refl
 
 quiet_line : (line : List ℕ) → looks line ≡ true → is_quiet (plain_command line) ≡ true
 unfolding name_on
-quiet_line line e = quiet_refused (nat_le (length line) 256) (list_all is_text line) _ (quiet_words (words_of (before_first is_hash line)) e)
+quiet_line line e = quiet_refused (nat_le (length line) 256) (list_all is_plain line) _ (quiet_words (words_in (before_first is_hash line)) e)
 
-pub looks-change-nothing : (line : List ℕ) (s : SessionState) → s.block ≡ None → looks line ≡ true → (line_outcome line s).next ≡ s
+pub looks-change-nothing : (line : List ℕ) (s : SessionState) → s.block ≡ None → looks line ≡ true → (line_answer line s).next ≡ s
 looks-change-nothing line s closed e =
     ap (λ o. o.next) (by_command line s closed) ∙ quiet_next (plain_command line) s closed (quiet_line line e)
 
-look-comes-out : (p q : List (List ℕ)) (line : List ℕ) (s : SessionState) → (final line_outcome p s).block ≡ None → looks line ≡ true
+look-comes-out : (p q : List (List ℕ)) (line : List ℕ) (s : SessionState) → (final line_answer p s).block ≡ None → looks line ≡ true
     → IsExchange p (line ∷ []) [] q s
-look-comes-out p q line s closed e = exchange p (line ∷ []) [] q s (final line_outcome p s) (looks-change-nothing line (final line_outcome p s) closed e) refl
+look-comes-out p q line s closed e = exchange p (line ∷ []) [] q s (final line_answer p s) (looks-change-nothing line (final line_answer p s) closed e) refl
 
 -- ---- steps
 abbrev at : SessionState → Debugging → SessionState
@@ -169,12 +170,12 @@ step_command : plain_command (codes "step") ≡ Ok Step
 unfolding command_of_words name_of
 step_command = refl
 
-step_next : (s : SessionState) → s.block ≡ None → (line_outcome (codes "step") s).next ≡ at s (stepped s.debugging)
-unfolding step_outcome
+step_next : (s : SessionState) → s.block ≡ None → (line_answer (codes "step") s).next ≡ at s (stepped s.debugging)
+unfolding step_answer
 step_next s closed =
     ap (λ o. o.next) (by_command (codes "step") s closed)
-    ∙ ap (λ r. (parsed_outcome r s).next) step_command
-    ∙ ap (λ o. o.next) (by_outcome Step s closed)
+    ∙ ap (λ r. (parsed_answer r s).next) step_command
+    ∙ ap (λ o. o.next) (by_answer Step s closed)
 
 first_step : (k : ℕ) (d : Debugging) → steps_made k (stepped d) ≡ stepped (steps_made k d)
 unfolding steps_made
@@ -189,10 +190,10 @@ one_more : (k : ℕ) (d : Debugging) → steps_made (suc k) d ≡ stepped (steps
 unfolding steps_made
 one_more k d = refl
 
-step_lines : (k : ℕ) (s : SessionState) → s.block ≡ None → final line_outcome (replicate k (codes "step")) s ≡ at s (steps_made k s.debugging)
+step_lines : (k : ℕ) (s : SessionState) → s.block ≡ None → final line_answer (replicate k (codes "step")) s ≡ at s (steps_made k s.debugging)
 step_lines zero s closed = ap (at s) (sym (no_steps s.debugging))
 step_lines (suc k) s closed =
-    ap (λ (u : SessionState). final line_outcome (replicate k (codes "step")) u) (step_next s closed)
+    ap (λ (u : SessionState). final line_answer (replicate k (codes "step")) u) (step_next s closed)
     ∙ step_lines k (at s (stepped s.debugging)) closed
     ∙ ap (at s) (first_step k s.debugging ∙ sym (one_more k s.debugging))
 
@@ -220,23 +221,23 @@ refused s fault = record {
 
 accepted : (accepts : Bool) (n : ℕ) (s : SessionState)
     → Ran (if accepts then (stop_in n s.debugging).steps else 0) s
-    (if accepts then changed (stop_text (stop_in n s.debugging)) (ran n s.debugging) s else same count_text s).next
-    (if accepts then changed (stop_text (stop_in n s.debugging)) (ran n s.debugging) s else same count_text s).reply
+    (if accepts then then_debugging (stop_text (stop_in n s.debugging)) (ran n s.debugging) s else same count_text s).next
+    (if accepts then then_debugging (stop_text (stop_in n s.debugging)) (ran n s.debugging) s else same count_text s).reply
 unfolding stop_of
 accepted true n s = record { session = refl; told = inl (stop_in n s.debugging, refl, refl) }
 accepted false n s = refused s (codes "26 Count" ++ 10 ∷ [])
 
-run_fault : (fault : LineFault) (s : SessionState) → Ran 0 s (parsed_outcome (Err fault) s).next (parsed_outcome (Err fault) s).reply
+run_fault : (fault : LineFault) (s : SessionState) → Ran 0 s (parsed_answer (Err fault) s).next (parsed_answer (Err fault) s).reply
 run_fault BadCommand s = refused s (codes "30 BadCommand" ++ 10 ∷ [])
 run_fault BadNumber s = refused s (codes "31 BadNumber" ++ 10 ∷ [])
 run_fault LineTooLong s = refused s (codes "32 LineTooLong" ++ 10 ∷ [])
 run_fault NotText s = refused s (codes "33 NotText" ++ 10 ∷ [])
 
 ran_by : (r : Result Command LineFault) (s : SessionState) → s.block ≡ None → is_running r ≡ true
-    → Ran (steps_by r s.debugging) s (parsed_outcome r s).next (parsed_outcome r s).reply
-unfolding run_outcome
+    → Ran (steps_by r s.debugging) s (parsed_answer r s).next (parsed_answer r s).reply
+unfolding run_answer
 ran_by (Ok (Run n)) s closed e =
-    subst (λ o. Ran (steps_by (Ok (Run n)) s.debugging) s o.next o.reply) (sym (by_outcome (Run n) s closed)) (accepted (is_count n) n s)
+    subst (λ o. Ran (steps_by (Ok (Run n)) s.debugging) s o.next o.reply) (sym (by_answer (Run n) s closed)) (accepted (is_count n) n s)
 ran_by (Ok _) s closed e = cc
 ran_by (Err fault) s closed e = run_fault fault s
 
@@ -244,7 +245,7 @@ running_operand : (n : Result ℕ LineFault) → is_running (with_operand (λ k.
 running_operand (Ok n) = refl
 running_operand (Err fault) = refl
 
-running_named : (name : Option Name) (operands : List (List ℕ)) → is_run_name name ≡ true → is_running (named name operands) ≡ true
+running_named : (name : Option Name) (operands : List (List ℕ)) → is_run_name name ≡ true → is_running (command_named name operands) ≡ true
 running_named (Some names.Run) operands e = running_operand (one_number 0 4294967295 operands)
 running_named _ operands e = cc
 
@@ -260,26 +261,26 @@ running_refused false text r e = refl
 
 running_line : (line : List ℕ) → runs line ≡ true → is_running (plain_command line) ≡ true
 unfolding name_on
-running_line line e = running_refused (nat_le (length line) 256) (list_all is_text line) _ (running_words (words_of (before_first is_hash line)) e)
+running_line line e = running_refused (nat_le (length line) 256) (list_all is_plain line) _ (running_words (words_in (before_first is_hash line)) e)
 
 ran_line : (line : List ℕ) (s : SessionState) → s.block ≡ None → runs line ≡ true
-    → Ran (steps_by (plain_command line) s.debugging) s (line_outcome line s).next (line_outcome line s).reply
+    → Ran (steps_by (plain_command line) s.debugging) s (line_answer line s).next (line_answer line s).reply
 ran_line line s closed e =
     subst (λ o. Ran (steps_by (plain_command line) s.debugging) s o.next o.reply) (sym (by_command line s closed))
     (ran_by (plain_command line) s closed (running_line line e))
 
-run-comes-out : (p q : List (List ℕ)) (line : List ℕ) (s : SessionState) → (final line_outcome p s).block ≡ None → runs line ≡ true → IsStepLines p line q s
+run-comes-out : (p q : List (List ℕ)) (line : List ℕ) (s : SessionState) → (final line_answer p s).block ≡ None → runs line ≡ true → IsStepLines p line q s
 run-comes-out p q line s closed e =
-    let t : SessionState = final line_outcome p s in
+    let t : SessionState = final line_answer p s in
     let k : ℕ = steps_by (plain_command line) t.debugging in
-    let h : Ran k t (line_outcome line t).next (line_outcome line t).reply = ran_line line t closed e in
+    let h : Ran k t (line_answer line t).next (line_answer line t).reply = ran_line line t closed e in
     record {
       count = k;
       told = h.told;
       exchanged = exchange p (line ∷ []) _ q s _ h.session (step_lines k t closed);
     }
 
-pub looks-and-runs-come-out : (p q : List (List ℕ)) (line : List ℕ) (s : SessionState) → (final line_outcome p s).block ≡ None → LinesComeOut p line q s
+pub looks-and-runs-come-out : (p q : List (List ℕ)) (line : List ℕ) (s : SessionState) → (final line_answer p s).block ≡ None → LinesComeOut p line q s
 looks-and-runs-come-out p q line s closed = record {
   look = λ e. look-comes-out p q line s closed e;
   run = λ e. run-comes-out p q line s closed e;

@@ -1,5 +1,5 @@
 -- What is refused leaves the session as it was.
-use Rattle.std.proofs.Common.{◌≡◌, ◌⊎◌, inl, inr, ℕ, List, length, refl, Bool, true, false, Option, Some, None, Result, Ok, Err}
+use Rattle.std.proofs.Common.{◌≡◌, inl, inr, ℕ, List, length, refl, Bool, true, false, Option, Some, None, Result, Ok, Err}
 use Rattle.std.specs.Prelude.{if◌then◌else◌}
 use Rattle.rsp_script.specs.declared.command.Command.{Command}
 use Rattle.rsp_script.specs.declared.command.Command.TheVariants.{Nothing, Load, Step, Run, Break, Unbreak, Watch, Unwatch, Back, Read, Write, SetPc, Task, Show, Asm, BlockLine, End}
@@ -16,62 +16,62 @@ use Rattle.rsp_debug.specs.Watches.{number_for, has_watch}
 use Rattle.rsp_debug.specs.declared.breaks.BreakFault.{BreakFault}
 use Rattle.rsp_debug.specs.declared.watches.WatchFault.{WatchFault}
 use Rattle.rsp_debug.specs.declared.debugger.BackFault.{BackFault}
-use Rattle.rsp_lines.specs.Replies.{Outcome}
+use Rattle.rsp_lines.specs.Replies.{Answered}
 use Rattle.rsp_bench.specs.Looks.{sp_line}
 use Rattle.rsp_bench.specs.Replies.{ok_text, range_text, count_text, stop_text, no_break_text, no_watch_text}
-use Rattle.rsp_bench.specs.Session.{SessionState, same, changed, moved, plain_outcome, block_outcome, outcome_in, outcome_of, load_outcome, step_outcome, read_outcome, task_outcome, run_outcome, break_outcome, unbreak_outcome, watch_outcome, unwatch_outcome, back_fault, back_outcome, end_outcome}
+use Rattle.rsp_bench.specs.Session.{SessionState, same, then_debugging, then_state, plain_answer, block_answer, answer_in, answer_of, load_answer, step_answer, read_answer, task_answer, run_answer, break_answer, watch_answer, back_fault, back_answer, end_answer}
 use Rattle.rsp_bench.specs.Refusals.{is_refusal, IsKept}
 
--- an outcome that leaves the session as it was, where its reply refuses
-abbrev Keeps : Outcome SessionState → SessionState → Type 0
+-- an answered that leaves the session as it was, where its reply refuses
+abbrev Keeps : Answered SessionState → SessionState → Type 0
 Keeps o s = is_refusal o.reply ≡ true → o.next ≡ s
 
-keeps_if : (accepts : Bool) (o : Outcome SessionState) (text : List ℕ) (s : SessionState) → is_refusal o.reply ≡ false
+keeps_if : (accepts : Bool) (o : Answered SessionState) (text : List ℕ) (s : SessionState) → is_refusal o.reply ≡ false
     → Keeps (if accepts then o else same text s) s
 keeps_if true o text s accepted e = cc
 keeps_if false o text s accepted e = refl
 
-keeps_load : (bank : Bank) (a : ℕ) (bytes : List ℕ) (s : SessionState) → Keeps (load_outcome bank a bytes s) s
-unfolding load_outcome
-keeps_load bank a bytes s e = keeps_if (is_inside bank a (length bytes) s.debugging.state) (moved ok_text (loaded bank a bytes s.debugging.state) s) range_text s refl e
+keeps_load : (bank : Bank) (a : ℕ) (bytes : List ℕ) (s : SessionState) → Keeps (load_answer bank a bytes s) s
+unfolding load_answer
+keeps_load bank a bytes s e = keeps_if (is_inside bank a (length bytes) s.debugging.state) (then_state ok_text (loaded bank a bytes s.debugging.state) s) range_text s refl e
 
-keeps_step : (s : SessionState) → Keeps (step_outcome s) s
-unfolding step_outcome
+keeps_step : (s : SessionState) → Keeps (step_answer s) s
+unfolding step_answer
 keeps_step s e = cc
 
-keeps_read : (n : ℕ) (s : SessionState) → Keeps (read_outcome n s) s
+keeps_read : (n : ℕ) (s : SessionState) → Keeps (read_answer n s) s
 unfolding sp_line
 keeps_read n s e = cc
 
-keeps_run : (n : ℕ) (s : SessionState) → Keeps (run_outcome n s) s
-unfolding run_outcome
-keeps_run n s e = keeps_if (is_count n) (changed (stop_text (stop_in n s.debugging)) (ran n s.debugging) s) count_text s refl e
+keeps_run : (n : ℕ) (s : SessionState) → Keeps (run_answer n s) s
+unfolding run_answer
+keeps_run n s e = keeps_if (is_count n) (then_debugging (stop_text (stop_in n s.debugging)) (ran n s.debugging) s) count_text s refl e
 
-keeps_task : (fault : Option TaskFault) (a : ℕ) (s : SessionState) → Keeps (task_outcome fault a s) s
+keeps_task : (fault : Option TaskFault) (a : ℕ) (s : SessionState) → Keeps (task_answer fault a s) s
 keeps_task None a s e = cc
 keeps_task (Some fault) a s e = refl
 
-keeps_break : (fault : Option BreakFault) (place : ℕ) (s : SessionState) → Keeps (break_outcome fault place s) s
+keeps_break : (fault : Option BreakFault) (place : ℕ) (s : SessionState) → Keeps (break_answer fault place s) s
 keeps_break None place s e = cc
 keeps_break (Some fault) place s e = refl
 
-keeps_watch : (number : Result ℕ WatchFault) (a n : ℕ) (s : SessionState) → Keeps (watch_outcome number a n s) s
+keeps_watch : (number : Result ℕ WatchFault) (a n : ℕ) (s : SessionState) → Keeps (watch_answer number a n s) s
 keeps_watch (Ok k) a n s e = cc
 keeps_watch (Err fault) a n s e = refl
 
-keeps_back : (fault : Option BackFault) (n : ℕ) (s : SessionState) → Keeps (back_outcome fault n s) s
+keeps_back : (fault : Option BackFault) (n : ℕ) (s : SessionState) → Keeps (back_answer fault n s) s
 keeps_back None n s e = cc
 keeps_back (Some fault) n s e = refl
 
-keeps_plain : (c : Command) (s : SessionState) → Keeps (plain_outcome c s) s
+keeps_plain : (c : Command) (s : SessionState) → Keeps (plain_answer c s) s
 keeps_plain Nothing s e = refl
 keeps_plain (Load bank a bytes) s e = keeps_load bank a bytes.items s e
 keeps_plain Step s e = keeps_step s e
 keeps_plain (Run n) s e = keeps_run n s e
 keeps_plain (Break place) s e = keeps_break (break_fault place s.debugging.breaks) place s e
-keeps_plain (Unbreak place) s e = keeps_if (is_break s.debugging.breaks place) (changed ok_text (unbroken_at place s.debugging) s) no_break_text s refl e
+keeps_plain (Unbreak place) s e = keeps_if (is_break s.debugging.breaks place) (then_debugging ok_text (unbroken_at place s.debugging) s) no_break_text s refl e
 keeps_plain (Watch a n) s e = keeps_watch (number_for a n s.debugging.watches) a n s e
-keeps_plain (Unwatch k) s e = keeps_if (has_watch k s.debugging.watches) (changed ok_text (unwatching k s.debugging) s) no_watch_text s refl e
+keeps_plain (Unwatch k) s e = keeps_if (has_watch k s.debugging.watches) (then_debugging ok_text (unwatching k s.debugging) s) no_watch_text s refl e
 keeps_plain (Back n) s e = keeps_back (back_fault n s.debugging.past) n s e
 keeps_plain (Read n) s e = keeps_read n s e
 keeps_plain (Write n value) s e = cc
@@ -86,20 +86,20 @@ as_it_was : (c : Command) (s next : SessionState) → next ≡ s → IsKept c s 
 as_it_was End s next e = inl e
 as_it_was _ s next e = e
 
-kept_end : (b : Source) (r : Result (List ℕ) AsmFault) (s : SessionState) → is_refusal (end_outcome b r s).reply ≡ true → IsKept End s (end_outcome b r s).next
+kept_end : (b : Source) (r : Result (List ℕ) AsmFault) (s : SessionState) → is_refusal (end_answer b r s).reply ≡ true → IsKept End s (end_answer b r s).next
 kept_end b (Ok words) s e = cc
 kept_end b (Err fault) s e = inr refl
 
-kept_block : (b : Source) (c : Command) (s : SessionState) → is_refusal (block_outcome b c s).reply ≡ true → IsKept c s (block_outcome b c s).next
+kept_block : (b : Source) (c : Command) (s : SessionState) → is_refusal (block_answer b c s).reply ≡ true → IsKept c s (block_answer b c s).next
 kept_block b (BlockLine line) s e = cc
 kept_block b End s e = kept_end b (meaning b) s e
 kept_block b _ s e = refl
 
-kept_in : (open_block : Option Source) (c : Command) (s : SessionState) → is_refusal (outcome_in open_block c s).reply ≡ true
-    → IsKept c s (outcome_in open_block c s).next
+kept_in : (open_block : Option Source) (c : Command) (s : SessionState) → is_refusal (answer_in open_block c s).reply ≡ true
+    → IsKept c s (answer_in open_block c s).next
 kept_in None c s e = as_it_was c s _ (keeps_plain c s e)
 kept_in (Some b) c s e = kept_block b c s e
 
-pub kept : (c : Command) (s : SessionState) → is_refusal (outcome_of c s).reply ≡ true → IsKept c s (outcome_of c s).next
-unfolding outcome_of
+pub kept : (c : Command) (s : SessionState) → is_refusal (answer_of c s).reply ≡ true → IsKept c s (answer_of c s).next
+unfolding answer_of
 kept c s e = kept_in s.block c s e

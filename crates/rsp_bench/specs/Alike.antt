@@ -3,12 +3,12 @@ use Rattle.std.proofs.Common.{◌≡◌, ℕ, ◌<◌, List, length, Bool, true,
 use Rattle.rsp_lines.specs.Replies.{AnswersLongAlike}
 use Rattle.rsp_script.specs.Line.{command_of}
 use Rattle.rsp_script.proofs.LongLines.{too_long, too_long_in_block}
-use Rattle.rsp_bench.specs.Session.{line_outcome, parsed_outcome, in_block}
+use Rattle.rsp_bench.specs.Session.{line_answer, parsed_answer, in_block}
 
 same_command : (line other : List ℕ) (open_block : Bool) → 256 < length line → 256 < length other → command_of line open_block ≡ command_of other open_block
 same_command line other false h g = too_long line h ∙ sym (too_long other g)
 same_command line other true h g = too_long_in_block line h ∙ sym (too_long_in_block other g)
 
-pub long_alike : AnswersLongAlike line_outcome
-unfolding line_outcome
-long_alike line other s h g = ap (λ r. parsed_outcome r s) (same_command line other (in_block s) h g)
+pub long_alike : AnswersLongAlike line_answer
+unfolding line_answer
+long_alike line other s h g = ap (λ r. parsed_answer r s) (same_command line other (in_block s) h g)

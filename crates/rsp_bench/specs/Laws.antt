@@ -1,15 +1,15 @@
 -- What stays the same where lines of a script are exchanged for others.
 use Rattle.std.specs.Prelude.{◌≡◌, ◌⊎◌, ℕ, List, [], ◌∷◌, ◌++◌, Bool, true, false, Option, Some, None, replicate, codes}
 use Rattle.std.specs.List.{before_first}
-use Rattle.rsp_script.specs.Text.{is_hash}
-use Rattle.rsp_script.specs.Words.{words_of}
+use Rattle.rsp_script.specs.Line.{is_hash}
+use Rattle.rsp_script.specs.Words.{words_in}
 use Rattle.rsp_script.specs.Names.{name_of}
 use Rattle.rsp_script.specs.declared.name.Name.{Name}
 use Rattle.rsp_script.specs.declared.name.Name.TheVariants as names
 use Rattle.rsp_debug.specs.declared.stop.Stop.{Stop}
 use Rattle.rsp_lines.specs.Replies.{replies, final}
 use Rattle.rsp_bench.specs.Replies.{stop_text}
-use Rattle.rsp_bench.specs.Session.{SessionState, line_outcome}
+use Rattle.rsp_bench.specs.Session.{SessionState, line_answer}
 
 -- ---- looks and runs
 
@@ -34,7 +34,7 @@ first_name (name ∷ operands) = name_of name
 
 -- the command's name that a line outside a block begins with, whatever the line is answered
 unfoldable pub name_on : List ℕ → Option Name
-name_on line = first_name (words_of (before_first is_hash line))
+name_on line = first_name (words_in (before_first is_hash line))
 
 -- a line that looks, accepted or refused
 abbrev pub looks : List ℕ → Bool
@@ -56,17 +56,17 @@ TellsSteps k reply =
 -- to q stay, and so does the session at the end, with what is left to say there and the image.
 pub record IsExchange (p lines others q : List (List ℕ)) (s : SessionState) : Type 0 where
   pub after : SessionState
-  pub replies_with : replies line_outcome (p ++ (lines ++ q)) s
-      ≡ replies line_outcome p s ++ (replies line_outcome lines (final line_outcome p s) ++ replies line_outcome q after)
-  pub replies_without : replies line_outcome (p ++ (others ++ q)) s
-      ≡ replies line_outcome p s ++ (replies line_outcome others (final line_outcome p s) ++ replies line_outcome q after)
-  pub session_with : final line_outcome (p ++ (lines ++ q)) s ≡ final line_outcome q after
-  pub session_without : final line_outcome (p ++ (others ++ q)) s ≡ final line_outcome q after
+  pub replies_with : replies line_answer (p ++ (lines ++ q)) s
+      ≡ replies line_answer p s ++ (replies line_answer lines (final line_answer p s) ++ replies line_answer q after)
+  pub replies_without : replies line_answer (p ++ (others ++ q)) s
+      ≡ replies line_answer p s ++ (replies line_answer others (final line_answer p s) ++ replies line_answer q after)
+  pub session_with : final line_answer (p ++ (lines ++ q)) s ≡ final line_answer q after
+  pub session_without : final line_answer (p ++ (others ++ q)) s ≡ final line_answer q after
 
 -- as many lines `step` as the steps that a line's reply tells take its place
 pub record IsStepLines (p : List (List ℕ)) (line : List ℕ) (q : List (List ℕ)) (s : SessionState) : Type 0 where
   pub count : ℕ
-  pub told : TellsSteps count (line_outcome line (final line_outcome p s)).reply
+  pub told : TellsSteps count (line_answer line (final line_answer p s)).reply
   pub exchanged : IsExchange p (line ∷ []) (replicate count (codes "step")) q s
 
 -- The law: outside a block, a line that looks can be taken out, and a line that runs be exchanged for lines `step`.
@@ -77,8 +77,8 @@ pub record LinesComeOut (p : List (List ℕ)) (line : List ℕ) (q : List (List 
 -- for all lines before and behind, and every session at the start
 abbrev pub LooksAndRunsComeOut : Type 0
 LooksAndRunsComeOut = (p q : List (List ℕ)) (line : List ℕ) (s : SessionState)
-    → (final line_outcome p s).block ≡ None → LinesComeOut p line q s
+    → (final line_answer p s).block ≡ None → LinesComeOut p line q s
 
 -- what a line that looks leaves, outside a block: the session as it was
 abbrev pub LooksChangeNothing : Type 0
-LooksChangeNothing = (line : List ℕ) (s : SessionState) → s.block ≡ None → looks line ≡ true → (line_outcome line s).next ≡ s
+LooksChangeNothing = (line : List ℕ) (s : SessionState) → s.block ≡ None → looks line ≡ true → (line_answer line s).next ≡ s

@@ -3,7 +3,7 @@ use Rattle.std.specs.Prelude.{◌≡◌, ◌⊎◌, ℕ, List, take, Bool, true,
 use Rattle.std.specs.Str.{bytes_eq}
 use Rattle.rsp_script.specs.declared.command.Command.{Command}
 use Rattle.rsp_script.specs.declared.command.Command.TheVariants.{End}
-use Rattle.rsp_bench.specs.Session.{SessionState, outcome_of}
+use Rattle.rsp_bench.specs.Session.{SessionState, answer_of}
 
 -- a reply that refuses
 abbrev pub is_refusal : List ℕ → Bool
@@ -16,4 +16,4 @@ IsKept _ s next = next ≡ s
 
 -- what is refused changes nothing
 abbrev pub RefusalsChangeNothing : Type 0
-RefusalsChangeNothing = (c : Command) (s : SessionState) → is_refusal (outcome_of c s).reply ≡ true → IsKept c s (outcome_of c s).next
+RefusalsChangeNothing = (c : Command) (s : SessionState) → is_refusal (answer_of c s).reply ≡ true → IsKept c s (answer_of c s).next

@@ -1,7 +1,7 @@
 -- The texts of replies.
 use Rattle.std.specs.Prelude.{ℕ, List, ◌∷◌, [], ◌++◌, codes, decimal}
 use Rattle.rsp_script.specs.declared.fault.LineFault.{LineFault}
-use Rattle.rsp_script.specs.declared.fault.LineFault.TheVariants.{BadCommand, BadNumber, LineTooLong, NotText}
+use Rattle.rsp_script.specs.Faults.{line_fault_name}
 use Rattle.rsp_machine.specs.declared.step.StepEnd.{StepEnd}
 use Rattle.rsp_machine.specs.declared.step.StepEnd.TheVariants.{Done, Halted, Reserved}
 use Rattle.rsp_machine.specs.declared.host.TaskFault.{TaskFault}
@@ -16,8 +16,7 @@ use Rattle.rsp_debug.specs.declared.stop.Reason.{Reason}
 use Rattle.rsp_debug.specs.declared.stop.Reason.TheVariants as reasons
 use Rattle.rsp_debug.specs.declared.stop.Stop.{Stop}
 use Rattle.rsp_text.specs.declared.fault.AsmFault.{AsmFault}
-use Rattle.rsp_text.specs.declared.fault.AsmFaultKind.{AsmFaultKind}
-use Rattle.rsp_text.specs.declared.fault.AsmFaultKind.TheVariants.{BadLine, UnknownName, BadOperand, OutOfRange, LabelTwice, LabelMissing, PastEnd, OutOfMemory}
+use Rattle.rsp_text.specs.Faults.{kind_name}
 use Rattle.rsp_reply.specs.Text.{hex_text}
 
 -- a line of a reply
@@ -27,39 +26,40 @@ line_of text = text ++ 10 ∷ []
 abbrev pub ok_text : List ℕ
 ok_text = line_of (codes "ok")
 
+-- the line of a fault, by its number and its name
+abbrev pub fault_line : List ℕ → List ℕ
+fault_line name = line_of (codes "fault " ++ name)
+
 abbrev pub range_text : List ℕ
-range_text = line_of (codes "fault 6 RangeFault")
+range_text = fault_line (codes "6 RangeFault")
 
 abbrev pub line_fault_text : LineFault → List ℕ
-line_fault_text BadCommand = line_of (codes "fault 30 BadCommand")
-line_fault_text BadNumber = line_of (codes "fault 31 BadNumber")
-line_fault_text LineTooLong = line_of (codes "fault 32 LineTooLong")
-line_fault_text NotText = line_of (codes "fault 33 NotText")
+line_fault_text fault = fault_line (line_fault_name fault)
 
 abbrev pub task_fault_text : TaskFault → List ℕ
-task_fault_text TaskPlace = line_of (codes "fault 4 TaskPlace")
-task_fault_text TaskSize = line_of (codes "fault 5 TaskSize")
+task_fault_text TaskPlace = fault_line (codes "4 TaskPlace")
+task_fault_text TaskSize = fault_line (codes "5 TaskSize")
 
 abbrev pub break_fault_text : BreakFault → List ℕ
-break_fault_text BreakFull = line_of (codes "fault 20 BreakFull")
-break_fault_text BreakTwice = line_of (codes "fault 21 BreakTwice")
+break_fault_text BreakFull = fault_line (codes "20 BreakFull")
+break_fault_text BreakTwice = fault_line (codes "21 BreakTwice")
 
 abbrev pub no_break_text : List ℕ
-no_break_text = line_of (codes "fault 22 NoBreak")
+no_break_text = fault_line (codes "22 NoBreak")
 
 abbrev pub watch_fault_text : WatchFault → List ℕ
-watch_fault_text WatchFull = line_of (codes "fault 23 WatchFull")
-watch_fault_text WatchRange = line_of (codes "fault 25 WatchRange")
+watch_fault_text WatchFull = fault_line (codes "23 WatchFull")
+watch_fault_text WatchRange = fault_line (codes "25 WatchRange")
 
 abbrev pub no_watch_text : List ℕ
-no_watch_text = line_of (codes "fault 24 NoWatch")
+no_watch_text = fault_line (codes "24 NoWatch")
 
 abbrev pub count_text : List ℕ
-count_text = line_of (codes "fault 26 Count")
+count_text = fault_line (codes "26 Count")
 
 abbrev pub back_fault_text : BackFault → List ℕ
 back_fault_text Count = count_text
-back_fault_text ShortHistory = line_of (codes "fault 27 ShortHistory")
+back_fault_text ShortHistory = fault_line (codes "27 ShortHistory")
 
 abbrev pub end_text : StepEnd → List ℕ
 end_text Done = codes "Done"
@@ -90,16 +90,6 @@ watch_text k = line_of (codes "ok watch " ++ decimal k)
 abbrev pub words_text : ℕ → List ℕ
 words_text n = line_of (codes "ok " ++ decimal n ++ codes " words")
 
-abbrev pub kind_text : AsmFaultKind → List ℕ
-kind_text BadLine = codes "10 BadLine"
-kind_text UnknownName = codes "11 UnknownName"
-kind_text BadOperand = codes "12 BadOperand"
-kind_text OutOfRange = codes "13 OutOfRange"
-kind_text LabelTwice = codes "14 LabelTwice"
-kind_text LabelMissing = codes "15 LabelMissing"
-kind_text PastEnd = codes "16 PastEnd"
-kind_text OutOfMemory = codes "17 OutOfMemory"
-
 -- why a block gave no words
 abbrev pub asm_fault_text : AsmFault → List ℕ
-asm_fault_text fault = line_of (codes "fault " ++ kind_text fault.kind ++ codes " line " ++ decimal fault.line)
+asm_fault_text fault = line_of (codes "fault " ++ kind_name fault.kind ++ codes " line " ++ decimal fault.line)

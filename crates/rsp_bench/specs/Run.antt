@@ -2,18 +2,18 @@
 use Rattle.std.specs.Prelude.{ℕ, List}
 use Rattle.std.specs.Str.Lines.{lines}
 use Rattle.rsp_lines.specs.Replies.{final, out_of as written_of}
-use Rattle.rsp_bench.specs.Session.{SessionState, line_outcome, closing, first_session}
+use Rattle.rsp_bench.specs.Session.{SessionState, line_answer, closing, first_session}
 use Rattle.rsp_bench.specs.declared.run.BenchEnd.{BenchEnd}
 use Rattle.rsp_bench.specs.declared.run.BenchEnd.TheVariants.{Finished, ReadFault, WriteFault, ScriptTooLong, OutOfMemory}
 
 -- all that is written for a script: the replies to its lines, each in the session that the lines before it left, and
 -- what is left to say at its end
 abbrev pub out_of : List ℕ → List ℕ → List ℕ
-out_of script image = written_of line_outcome closing script (first_session image)
+out_of script image = written_of line_answer closing script (first_session image)
 
 -- the session that the lines of a script leave
 abbrev pub session_of : List ℕ → List ℕ → SessionState
-session_of script image = final line_outcome (lines script) (first_session image)
+session_of script image = final line_answer (lines script) (first_session image)
 
 -- the reads that failed in a run: the one that ended it, where one did
 abbrev pub failed_reads : BenchEnd → ℕ

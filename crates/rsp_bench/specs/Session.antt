@@ -6,7 +6,7 @@ use Rattle.rsp_script.specs.declared.command.Look.{Look}
 use Rattle.rsp_script.specs.declared.command.Look.TheVariants.{Regs, Vregs, Acc, Flags, Sp, Mem, Dis}
 use Rattle.rsp_script.specs.declared.fault.LineFault.{LineFault}
 use Rattle.rsp_script.specs.declared.fault.LineFault.TheVariants.{BadCommand}
-use Rattle.rsp_lines.specs.Replies.{Outcome}
+use Rattle.rsp_lines.specs.Replies.{Answered}
 use Rattle.rsp_script.specs.Line.{command_of}
 use Rattle.rsp_memory.specs.declared.bank.Bank.{Bank}
 use Rattle.rsp_memory.specs.declared.bank.Bank.TheVariants.{Imem}
@@ -40,60 +40,60 @@ pub record SessionState : Type 0 where
   pub block : Option Source
 
 -- a reply that leaves the session as it was
-abbrev pub same : List ℕ → SessionState → Outcome SessionState
+abbrev pub same : List ℕ → SessionState → Answered SessionState
 same text s = record { reply = text; next = s }
 
 -- a reply, and what the debugger holds after the command
-abbrev pub changed : List ℕ → Debugging → SessionState → Outcome SessionState
-changed text d s = record { reply = text; next = record s { debugging = d } }
+abbrev pub then_debugging : List ℕ → Debugging → SessionState → Answered SessionState
+then_debugging text d s = record { reply = text; next = record s { debugging = d } }
 
 -- a reply, and the state after the command, which goes on from there: there is no way back
-abbrev pub moved : List ℕ → State → SessionState → Outcome SessionState
-moved text state s = changed text (resumed state s.debugging) s
+abbrev pub then_state : List ℕ → State → SessionState → Answered SessionState
+then_state text state s = then_debugging text (resumed state s.debugging) s
 
 -- ---- the machine
 
-abbrev pub task_outcome : Option TaskFault → ℕ → SessionState → Outcome SessionState
-task_outcome None a s = moved ok_text (tasked a s.debugging.state) s
-task_outcome (Some fault) a s = same (task_fault_text fault) s
+abbrev pub task_answer : Option TaskFault → ℕ → SessionState → Answered SessionState
+task_answer None a s = then_state ok_text (tasked a s.debugging.state) s
+task_answer (Some fault) a s = same (task_fault_text fault) s
 
-unfoldable pub load_outcome : Bank → ℕ → List ℕ → SessionState → Outcome SessionState
-load_outcome bank a bytes s =
-    if is_inside bank a (length bytes) s.debugging.state then moved ok_text (loaded bank a bytes s.debugging.state) s
+unfoldable pub load_answer : Bank → ℕ → List ℕ → SessionState → Answered SessionState
+load_answer bank a bytes s =
+    if is_inside bank a (length bytes) s.debugging.state then then_state ok_text (loaded bank a bytes s.debugging.state) s
     else same range_text s
 
-unfoldable pub step_outcome : SessionState → Outcome SessionState
-step_outcome s =
+unfoldable pub step_answer : SessionState → Answered SessionState
+step_answer s =
     let after = stepped s.debugging in
-    changed (step_text (step_of s.debugging.state).0 after.state.pc) after s
+    then_debugging (step_text (step_of s.debugging.state).0 after.state.pc) after s
 
-abbrev pub read_outcome : ℕ → SessionState → Outcome SessionState
-read_outcome n s = changed (sp_line n (peeked n s.debugging.state.sp)) (read_from n s.debugging) s
+abbrev pub read_answer : ℕ → SessionState → Answered SessionState
+read_answer n s = then_debugging (sp_line n (peeked n s.debugging.state.sp)) (read_from n s.debugging) s
 
 -- ---- the debugger
 
-unfoldable pub run_outcome : ℕ → SessionState → Outcome SessionState
-run_outcome n s =
-    if is_count n then changed (stop_text (stop_in n s.debugging)) (ran n s.debugging) s
+unfoldable pub run_answer : ℕ → SessionState → Answered SessionState
+run_answer n s =
+    if is_count n then then_debugging (stop_text (stop_in n s.debugging)) (ran n s.debugging) s
     else same count_text s
 
-abbrev pub break_outcome : Option BreakFault → ℕ → SessionState → Outcome SessionState
-break_outcome None place s = changed ok_text (broken_at place s.debugging) s
-break_outcome (Some fault) place s = same (break_fault_text fault) s
+abbrev pub break_answer : Option BreakFault → ℕ → SessionState → Answered SessionState
+break_answer None place s = then_debugging ok_text (broken_at place s.debugging) s
+break_answer (Some fault) place s = same (break_fault_text fault) s
 
-abbrev pub unbreak_outcome : ℕ → SessionState → Outcome SessionState
-unbreak_outcome place s =
-    if is_break s.debugging.breaks place then changed ok_text (unbroken_at place s.debugging) s
+abbrev pub unbreak_answer : ℕ → SessionState → Answered SessionState
+unbreak_answer place s =
+    if is_break s.debugging.breaks place then then_debugging ok_text (unbroken_at place s.debugging) s
     else same no_break_text s
 
 -- a watch of some bytes, with the number that it gets
-abbrev pub watch_outcome : Result ℕ WatchFault → ℕ → ℕ → SessionState → Outcome SessionState
-watch_outcome (Ok k) a n s = changed (watch_text k) (watching k a n s.debugging) s
-watch_outcome (Err fault) a n s = same (watch_fault_text fault) s
+abbrev pub watch_answer : Result ℕ WatchFault → ℕ → ℕ → SessionState → Answered SessionState
+watch_answer (Ok k) a n s = then_debugging (watch_text k) (watching k a n s.debugging) s
+watch_answer (Err fault) a n s = same (watch_fault_text fault) s
 
-abbrev pub unwatch_outcome : ℕ → SessionState → Outcome SessionState
-unwatch_outcome k s =
-    if has_watch k s.debugging.watches then changed ok_text (unwatching k s.debugging) s
+abbrev pub unwatch_answer : ℕ → SessionState → Answered SessionState
+unwatch_answer k s =
+    if has_watch k s.debugging.watches then then_debugging ok_text (unwatching k s.debugging) s
     else same no_watch_text s
 
 -- why n states of a past can't be gone back; the count comes first
@@ -103,9 +103,9 @@ back_fault n past =
     else if nat_lt (length past) n then Some ShortHistory
     else None
 
-abbrev pub back_outcome : Option BackFault → ℕ → SessionState → Outcome SessionState
-back_outcome None n s = changed ok_text (gone_back n s.debugging) s
-back_outcome (Some fault) n s = same (back_fault_text fault) s
+abbrev pub back_answer : Option BackFault → ℕ → SessionState → Answered SessionState
+back_answer None n s = then_debugging ok_text (gone_back n s.debugging) s
+back_answer (Some fault) n s = same (back_fault_text fault) s
 
 -- ---- looks
 
@@ -128,50 +128,50 @@ look_text (Dis place n) state = dis_text place n state
 -- ---- commands
 
 -- no reply, and the block after the command
-abbrev pub with_block : Source → SessionState → Outcome SessionState
+abbrev pub with_block : Source → SessionState → Answered SessionState
 with_block b s = record { reply = []; next = record s { block = Some b } }
 
 -- what a command comes to where no block is open
-abbrev pub plain_outcome : Command → SessionState → Outcome SessionState
-plain_outcome Nothing s = same [] s
-plain_outcome (Load bank a bytes) s = load_outcome bank a bytes.items s
-plain_outcome Step s = step_outcome s
-plain_outcome (Run n) s = run_outcome n s
-plain_outcome (Break place) s = break_outcome (break_fault place s.debugging.breaks) place s
-plain_outcome (Unbreak place) s = unbreak_outcome place s
-plain_outcome (Watch a n) s = watch_outcome (number_for a n s.debugging.watches) a n s
-plain_outcome (Unwatch k) s = unwatch_outcome k s
-plain_outcome (Back n) s = back_outcome (back_fault n s.debugging.past) n s
-plain_outcome (Read n) s = read_outcome n s
-plain_outcome (Write n value) s = moved ok_text (register_written n value s.debugging.state) s
-plain_outcome (SetPc place) s = moved ok_text (with_pc place s.debugging.state) s
-plain_outcome (Task a) s = task_outcome (task_fault a s.debugging.state.rdram) a s
-plain_outcome (Show look) s = same (look_text look s.debugging.state) s
-plain_outcome (Asm place) s = with_block (opened place) s
-plain_outcome (BlockLine line) s = same (line_fault_text BadCommand) s
-plain_outcome End s = same (line_fault_text BadCommand) s
+abbrev pub plain_answer : Command → SessionState → Answered SessionState
+plain_answer Nothing s = same [] s
+plain_answer (Load bank a bytes) s = load_answer bank a bytes.items s
+plain_answer Step s = step_answer s
+plain_answer (Run n) s = run_answer n s
+plain_answer (Break place) s = break_answer (break_fault place s.debugging.breaks) place s
+plain_answer (Unbreak place) s = unbreak_answer place s
+plain_answer (Watch a n) s = watch_answer (number_for a n s.debugging.watches) a n s
+plain_answer (Unwatch k) s = unwatch_answer k s
+plain_answer (Back n) s = back_answer (back_fault n s.debugging.past) n s
+plain_answer (Read n) s = read_answer n s
+plain_answer (Write n value) s = then_state ok_text (register_written n value s.debugging.state) s
+plain_answer (SetPc place) s = then_state ok_text (with_pc place s.debugging.state) s
+plain_answer (Task a) s = task_answer (task_fault a s.debugging.state.rdram) a s
+plain_answer (Show look) s = same (look_text look s.debugging.state) s
+plain_answer (Asm place) s = with_block (opened place) s
+plain_answer (BlockLine line) s = same (line_fault_text BadCommand) s
+plain_answer End s = same (line_fault_text BadCommand) s
 
 -- the end of a block: its words go to IMEM, or nothing changes there
-abbrev pub end_outcome : Source → Result (List ℕ) AsmFault → SessionState → Outcome SessionState
-end_outcome b (Ok words) s = record {
+abbrev pub end_answer : Source → Result (List ℕ) AsmFault → SessionState → Answered SessionState
+end_answer b (Ok words) s = record {
   reply = words_text (length words);
   next = record { debugging = resumed (loaded Imem b.place (words_bytes words) s.debugging.state) s.debugging; block = None };
 }
-end_outcome b (Err fault) s = record { reply = asm_fault_text fault; next = record s { block = None } }
+end_answer b (Err fault) s = record { reply = asm_fault_text fault; next = record s { block = None } }
 
 -- what a command comes to while a block is open
-abbrev pub block_outcome : Source → Command → SessionState → Outcome SessionState
-block_outcome b (BlockLine line) s = with_block (with_line line b) s
-block_outcome b End s = end_outcome b (meaning b) s
-block_outcome b _ s = same (line_fault_text BadCommand) s
+abbrev pub block_answer : Source → Command → SessionState → Answered SessionState
+block_answer b (BlockLine line) s = with_block (with_line line b) s
+block_answer b End s = end_answer b (meaning b) s
+block_answer b _ s = same (line_fault_text BadCommand) s
 
-abbrev pub outcome_in : Option Source → Command → SessionState → Outcome SessionState
-outcome_in None command s = plain_outcome command s
-outcome_in (Some b) command s = block_outcome b command s
+abbrev pub answer_in : Option Source → Command → SessionState → Answered SessionState
+answer_in None command s = plain_answer command s
+answer_in (Some b) command s = block_answer b command s
 
 -- what a command comes to
-unfoldable pub outcome_of : Command → SessionState → Outcome SessionState
-outcome_of command s = outcome_in s.block command s
+unfoldable pub answer_of : Command → SessionState → Answered SessionState
+answer_of command s = answer_in s.block command s
 
 -- a command that needs no memory: only a line of an open block and its end may need some
 abbrev pub NeedsNoMemory : Command → SessionState → Type 0
@@ -192,13 +192,13 @@ EndHidesNoFault _ s = Unit {0}
 abbrev pub in_block : SessionState → Bool
 in_block s = is_some s.block
 
-abbrev pub parsed_outcome : Result Command LineFault → SessionState → Outcome SessionState
-parsed_outcome (Ok command) s = outcome_of command s
-parsed_outcome (Err fault) s = same (line_fault_text fault) s
+abbrev pub parsed_answer : Result Command LineFault → SessionState → Answered SessionState
+parsed_answer (Ok command) s = answer_of command s
+parsed_answer (Err fault) s = same (line_fault_text fault) s
 
 -- what a line comes to
-unfoldable pub line_outcome : List ℕ → SessionState → Outcome SessionState
-line_outcome line s = parsed_outcome (command_of line (in_block s)) s
+unfoldable pub line_answer : List ℕ → SessionState → Answered SessionState
+line_answer line s = parsed_answer (command_of line (in_block s)) s
 
 -- a block that is still open has no line that ends it
 abbrev pub closing_of : Option Source → List ℕ

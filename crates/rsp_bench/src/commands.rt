@@ -3,7 +3,7 @@ ghost use Rattle.rsp_script.specs.Command.{IsLook};
 ghost use Rattle.rsp_machine.specs.Host.{task_fault};
 ghost use Rattle.rsp_debug.specs.Breaks.{break_fault};
 ghost use Rattle.rsp_debug.specs.Watches.{number_for};
-ghost use Rattle.rsp_bench.specs.Session.{load_outcome, step_outcome, read_outcome, task_outcome, run_outcome, break_outcome, unbreak_outcome, watch_outcome, unwatch_outcome, back_fault, back_outcome, memory_text, dis_text, look_text};
+ghost use Rattle.rsp_bench.specs.Session.{load_answer, step_answer, read_answer, task_answer, run_answer, break_answer, unbreak_answer, watch_answer, unwatch_answer, back_fault, back_answer, memory_text, dis_text, look_text};
 
 use crate::looks::{dump, listing, push_sp_line, registers, sp_registers};
 use crate::replies::{
@@ -18,10 +18,10 @@ use rsp_script::Look;
 
 /// What each command does where no block is open.
 impl Session {
-    #[tactic(auto, unfolding(crate::specs::Session::load_outcome))]
+    #[tactic(auto, unfolding(crate::specs::Session::load_answer))]
     pub(crate) fn load(&mut self, bank: Bank, address: u32, bytes: &[u8]) -> Reply
-        ensures reply { result ≡ (load_outcome bank address bytes.now self.old).reply }
-        ensures next { self.new ≡ (load_outcome bank address bytes.now self.old).next }
+        ensures reply { result ≡ (load_answer bank address bytes.now self.old).reply }
+        ensures next { self.new ≡ (load_answer bank address bytes.now self.old).next }
     {
         match self.debugger.load_bytes(bank, address, bytes) {
             Ok(()) => ok_reply(),
@@ -29,19 +29,19 @@ impl Session {
         }
     }
 
-    #[tactic(auto, unfolding(crate::specs::Session::step_outcome))]
+    #[tactic(auto, unfolding(crate::specs::Session::step_answer))]
     pub(crate) fn step(&mut self) -> Reply
-        ensures reply { result ≡ (step_outcome self.old).reply }
-        ensures next { self.new ≡ (step_outcome self.old).next }
+        ensures reply { result ≡ (step_answer self.old).reply }
+        ensures next { self.new ≡ (step_answer self.old).next }
     {
         let end = self.debugger.step();
         step_reply(end, self.debugger.machine().pc())
     }
 
-    #[tactic(auto, unfolding(crate::specs::Session::run_outcome))]
+    #[tactic(auto, unfolding(crate::specs::Session::run_answer))]
     pub(crate) fn run(&mut self, limit: u32) -> Reply
-        ensures reply { result ≡ (run_outcome limit self.old).reply }
-        ensures next { self.new ≡ (run_outcome limit self.old).next }
+        ensures reply { result ≡ (run_answer limit self.old).reply }
+        ensures next { self.new ≡ (run_answer limit self.old).next }
     {
         match self.debugger.run(limit) {
             Ok(stop) => stop_reply(stop),
@@ -52,8 +52,8 @@ impl Session {
     pub(crate) fn add_break(&mut self, place: u16) -> Reply
         requires below { place < 4096 }
         requires whole { place % 4 ≡ 0 }
-        ensures reply { result ≡ (break_outcome (break_fault place self.old.debugging.breaks) place self.old).reply }
-        ensures next { self.new ≡ (break_outcome (break_fault place self.old.debugging.breaks) place self.old).next }
+        ensures reply { result ≡ (break_answer (break_fault place self.old.debugging.breaks) place self.old).reply }
+        ensures next { self.new ≡ (break_answer (break_fault place self.old.debugging.breaks) place self.old).next }
     {
         match self.debugger.add_break(place) {
             Ok(()) => ok_reply(),
@@ -64,8 +64,8 @@ impl Session {
     pub(crate) fn drop_break(&mut self, place: u16) -> Reply
         requires below { place < 4096 }
         requires whole { place % 4 ≡ 0 }
-        ensures reply { result ≡ (unbreak_outcome place self.old).reply }
-        ensures next { self.new ≡ (unbreak_outcome place self.old).next }
+        ensures reply { result ≡ (unbreak_answer place self.old).reply }
+        ensures next { self.new ≡ (unbreak_answer place self.old).next }
     {
         match self.debugger.drop_break(place) {
             Ok(()) => ok_reply(),
@@ -74,8 +74,8 @@ impl Session {
     }
 
     pub(crate) fn add_watch(&mut self, address: u32, len: u32) -> Reply
-        ensures reply { result ≡ (watch_outcome (number_for address len self.old.debugging.watches) address len self.old).reply }
-        ensures next { self.new ≡ (watch_outcome (number_for address len self.old.debugging.watches) address len self.old).next }
+        ensures reply { result ≡ (watch_answer (number_for address len self.old.debugging.watches) address len self.old).reply }
+        ensures next { self.new ≡ (watch_answer (number_for address len self.old.debugging.watches) address len self.old).next }
     {
         match self.debugger.add_watch(address, len) {
             Ok(number) => watch_reply(number),
@@ -84,8 +84,8 @@ impl Session {
     }
 
     pub(crate) fn drop_watch(&mut self, number: u32) -> Reply
-        ensures reply { result ≡ (unwatch_outcome number self.old).reply }
-        ensures next { self.new ≡ (unwatch_outcome number self.old).next }
+        ensures reply { result ≡ (unwatch_answer number self.old).reply }
+        ensures next { self.new ≡ (unwatch_answer number self.old).next }
     {
         match self.debugger.drop_watch(number) {
             Ok(()) => ok_reply(),
@@ -94,8 +94,8 @@ impl Session {
     }
 
     pub(crate) fn back(&mut self, count: u32) -> Reply
-        ensures reply { result ≡ (back_outcome (back_fault count self.old.debugging.past) count self.old).reply }
-        ensures next { self.new ≡ (back_outcome (back_fault count self.old.debugging.past) count self.old).next }
+        ensures reply { result ≡ (back_answer (back_fault count self.old.debugging.past) count self.old).reply }
+        ensures next { self.new ≡ (back_answer (back_fault count self.old.debugging.past) count self.old).next }
     {
         match self.debugger.back(count) {
             Ok(()) => ok_reply(),
@@ -105,8 +105,8 @@ impl Session {
 
     pub(crate) fn read(&mut self, register: u8) -> Reply
         requires { register < 16 }
-        ensures reply { result ≡ (read_outcome register self.old).reply }
-        ensures next { self.new ≡ (read_outcome register self.old).next }
+        ensures reply { result ≡ (read_answer register self.old).reply }
+        ensures next { self.new ≡ (read_answer register self.old).next }
     {
         let value = self.debugger.read_reg(u32::from(register));
         let mut reply = Reply::new();
@@ -115,8 +115,8 @@ impl Session {
     }
 
     pub(crate) fn start(&mut self, address: u32) -> Reply
-        ensures reply { result ≡ (task_outcome (task_fault address self.old.debugging.state.rdram) address self.old).reply }
-        ensures next { self.new ≡ (task_outcome (task_fault address self.old.debugging.state.rdram) address self.old).next }
+        ensures reply { result ≡ (task_answer (task_fault address self.old.debugging.state.rdram) address self.old).reply }
+        ensures next { self.new ≡ (task_answer (task_fault address self.old.debugging.state.rdram) address self.old).next }
     {
         match self.debugger.start_task(address) {
             Ok(()) => ok_reply(),

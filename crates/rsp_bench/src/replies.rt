@@ -1,52 +1,52 @@
 ghost use Rattle.std.specs.Prelude.{◌≡◌, ◌+◌, ◌≤◌, ◌++◌, length, decimal};
-ghost use Rattle.rsp_bench.specs.Replies.{ok_text, range_text, line_fault_text, task_fault_text, break_fault_text, no_break_text, watch_fault_text, no_watch_text, back_fault_text, count_text, step_text, reason_text, stop_text, watch_text, words_text, kind_text, asm_fault_text};
+ghost use Rattle.rsp_bench.specs.Replies.{ok_text, fault_line, range_text, line_fault_text, task_fault_text, break_fault_text, no_break_text, watch_fault_text, no_watch_text, back_fault_text, count_text, step_text, reason_text, stop_text, watch_text, words_text, asm_fault_text};
 
 use itoa::Buffer;
-use rsp_block::{AsmFault, AsmFaultKind};
+use rsp_block::AsmFault;
 use rsp_debug::{BackFault, BreakFault, Reason, Stop, WatchFault};
 use rsp_machine::{StepEnd, TaskFault};
 use rsp_reply::{REPLY_LIMIT, Reply};
 use rsp_script::LineFault;
 
-/// A reply of one text.
-fn reply_of(text: &[u8]) -> Reply
-    requires { length text.now ≤ REPLY_LIMIT }
-    ensures { result ≡ text.now }
+/// The reply of a fault, by its number and its name.
+#[tactic(auto, using(rsp_reply::proofs::Texts::parts))]
+fn fault_reply(name: &str) -> Reply
+    requires { length name.now ≤ 32 }
+    ensures { result ≡ fault_line name.now }
 {
     let mut reply = Reply::new();
-    reply.push_text(text);
+    reply.push_text(b"fault ");
+    reply.push_text(name.as_bytes());
+    reply.push_text(b"\n");
     reply
 }
 
 pub(crate) fn ok_reply() -> Reply
     ensures { result ≡ ok_text }
 {
-    reply_of(b"ok\n")
+    let mut reply = Reply::new();
+    reply.push_text(b"ok\n");
+    reply
 }
 
 pub(crate) fn range_reply() -> Reply
     ensures { result ≡ range_text }
 {
-    reply_of(b"fault 6 RangeFault\n")
+    fault_reply("6 RangeFault")
 }
 
 pub(crate) fn line_fault_reply(fault: LineFault) -> Reply
     ensures { result ≡ line_fault_text fault }
 {
-    match fault {
-        LineFault::BadCommand => reply_of(b"fault 30 BadCommand\n"),
-        LineFault::BadNumber => reply_of(b"fault 31 BadNumber\n"),
-        LineFault::LineTooLong => reply_of(b"fault 32 LineTooLong\n"),
-        LineFault::NotText => reply_of(b"fault 33 NotText\n"),
-    }
+    fault_reply(fault.as_str())
 }
 
 pub(crate) fn task_fault_reply(fault: TaskFault) -> Reply
     ensures { result ≡ task_fault_text fault }
 {
     match fault {
-        TaskFault::TaskPlace => reply_of(b"fault 4 TaskPlace\n"),
-        TaskFault::TaskSize => reply_of(b"fault 5 TaskSize\n"),
+        TaskFault::TaskPlace => fault_reply("4 TaskPlace"),
+        TaskFault::TaskSize => fault_reply("5 TaskSize"),
     }
 }
 
@@ -54,36 +54,36 @@ pub(crate) fn break_fault_reply(fault: BreakFault) -> Reply
     ensures { result ≡ break_fault_text fault }
 {
     match fault {
-        BreakFault::BreakFull => reply_of(b"fault 20 BreakFull\n"),
-        BreakFault::BreakTwice => reply_of(b"fault 21 BreakTwice\n"),
+        BreakFault::BreakFull => fault_reply("20 BreakFull"),
+        BreakFault::BreakTwice => fault_reply("21 BreakTwice"),
     }
 }
 
 pub(crate) fn no_break_reply() -> Reply
     ensures { result ≡ no_break_text }
 {
-    reply_of(b"fault 22 NoBreak\n")
+    fault_reply("22 NoBreak")
 }
 
 pub(crate) fn watch_fault_reply(fault: WatchFault) -> Reply
     ensures { result ≡ watch_fault_text fault }
 {
     match fault {
-        WatchFault::WatchFull => reply_of(b"fault 23 WatchFull\n"),
-        WatchFault::WatchRange => reply_of(b"fault 25 WatchRange\n"),
+        WatchFault::WatchFull => fault_reply("23 WatchFull"),
+        WatchFault::WatchRange => fault_reply("25 WatchRange"),
     }
 }
 
 pub(crate) fn no_watch_reply() -> Reply
     ensures { result ≡ no_watch_text }
 {
-    reply_of(b"fault 24 NoWatch\n")
+    fault_reply("24 NoWatch")
 }
 
 pub(crate) fn count_reply() -> Reply
     ensures { result ≡ count_text }
 {
-    reply_of(b"fault 26 Count\n")
+    fault_reply("26 Count")
 }
 
 pub(crate) fn back_fault_reply(fault: BackFault) -> Reply
@@ -91,7 +91,7 @@ pub(crate) fn back_fault_reply(fault: BackFault) -> Reply
 {
     match fault {
         BackFault::Count => count_reply(),
-        BackFault::ShortHistory => reply_of(b"fault 27 ShortHistory\n"),
+        BackFault::ShortHistory => fault_reply("27 ShortHistory"),
     }
 }
 
@@ -182,22 +182,6 @@ pub(crate) fn words_reply(count: usize) -> Reply
     reply
 }
 
-fn kind_text(kind: AsmFaultKind) -> &'static [u8]
-    ensures text { result.now ≡ kind_text kind }
-    ensures short { length result.now ≤ 15 }
-{
-    match kind {
-        AsmFaultKind::BadLine => b"10 BadLine",
-        AsmFaultKind::UnknownName => b"11 UnknownName",
-        AsmFaultKind::BadOperand => b"12 BadOperand",
-        AsmFaultKind::OutOfRange => b"13 OutOfRange",
-        AsmFaultKind::LabelTwice => b"14 LabelTwice",
-        AsmFaultKind::LabelMissing => b"15 LabelMissing",
-        AsmFaultKind::PastEnd => b"16 PastEnd",
-        AsmFaultKind::OutOfMemory => b"17 OutOfMemory",
-    }
-}
-
 /// Why a block gave no words, and the number of the line.
 #[tactic(auto, using(rsp_reply::proofs::Texts::parts))]
 pub(crate) fn asm_fault_reply(fault: AsmFault) -> Reply
@@ -205,7 +189,7 @@ pub(crate) fn asm_fault_reply(fault: AsmFault) -> Reply
 {
     let mut reply = Reply::new();
     reply.push_text(b"fault ");
-    reply.push_text(kind_text(fault.kind));
+    reply.push_text(fault.kind.as_str().as_bytes());
     reply.push_text(b" line ");
     push_number(&mut reply, fault.line);
     reply.push_text(b"\n");

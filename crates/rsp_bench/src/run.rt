@@ -4,7 +4,7 @@ ghost use Rattle.rsp_lines.specs.Left.{TakesAtMost, AnswersEnded, AnswersFront};
 ghost use Rattle.rsp_lines.specs.Lines.{ended_lines};
 ghost use Rattle.rsp_lines.specs.Replies.{replies};
 ghost use Rattle.rsp_bench.specs.Run.{out_of, session_of, failed_reads, failed_writes, IfFinished};
-ghost use Rattle.rsp_bench.specs.Session.{line_outcome, closing, first_session};
+ghost use Rattle.rsp_bench.specs.Session.{line_answer, closing, first_session};
 
 use crate::session::Session;
 use rsp_ends::{Sink, Source};
@@ -56,13 +56,13 @@ pub fn run_bench<R: Source, W: Sink>(
 
     // What each other end leaves written.
     ensures left_read { result ≡ BenchEnd.ReadFault →
-        AnswersEnded line_outcome (first_session image) (R.rest source.old) (R.rest source.new) (W.written sink.old) (W.written sink.new) }
+        AnswersEnded line_answer (first_session image) (R.rest source.old) (R.rest source.new) (W.written sink.old) (W.written sink.new) }
     ensures left_long { IfSome (R.rest source.old) (λ script. result ≡ BenchEnd.ScriptTooLong →
-        W.written sink.new ≡ append_known (W.written sink.old) (replies line_outcome (ended_lines (take SCRIPT_LIMIT script)) (first_session image))) }
+        W.written sink.new ≡ append_known (W.written sink.old) (replies line_answer (ended_lines (take SCRIPT_LIMIT script)) (first_session image))) }
     ensures left_write { result ≡ BenchEnd.WriteFault →
-        AnswersFront line_outcome closing (first_session image) (R.rest source.old) (R.rest source.new) (W.written sink.old) (W.written sink.new) }
+        AnswersFront line_answer closing (first_session image) (R.rest source.old) (R.rest source.new) (W.written sink.old) (W.written sink.new) }
     ensures left_memory { result ≡ BenchEnd.OutOfMemory →
-        AnswersFront line_outcome closing (first_session image) (R.rest source.old) (R.rest source.new) (W.written sink.old) (W.written sink.new) }
+        AnswersFront line_answer closing (first_session image) (R.rest source.old) (R.rest source.new) (W.written sink.old) (W.written sink.new) }
 {
     let Ok(mut session) = Session::try_new(alloc, image) else {
         return BenchEnd::OutOfMemory;

@@ -1,9 +1,9 @@
 ghost use Rattle.std.specs.Prelude.{◌≡◌, ◌≤◌, true, None, IsOk, IsSome, IfSome, IfOk, IfErr, OnOk, OnErr, List, ℕ, length, []};
 ghost use Rattle.std.specs.List.{list_all};
 ghost use Rattle.rsp_script.specs.Command.{IsCommand};
-ghost use Rattle.rsp_script.specs.Text.{is_text};
+ghost use Rattle.rsp_chars.specs.Chars.{is_plain};
 ghost use Rattle.rsp_block.specs.Source.{with_line, meaning};
-ghost use Rattle.rsp_bench.specs.Session.{NeedsNoMemory, HidesNoFault, EndHidesNoFault, outcome_of, plain_outcome, block_outcome, with_block, end_outcome, line_outcome, first_session, closing, in_block};
+ghost use Rattle.rsp_bench.specs.Session.{NeedsNoMemory, HidesNoFault, EndHidesNoFault, answer_of, plain_answer, block_answer, with_block, end_answer, line_answer, first_session, closing, in_block};
 ghost use Rattle.rsp_bench.specs.Replies.{line_fault_text};
 
 use crate::replies::{asm_fault_reply, line_fault_reply, ok_reply, words_reply};
@@ -65,8 +65,8 @@ impl Session {
     fn answer_plain(&mut self, alloc: Global, command: &Command) -> Reply
         requires command { IsCommand command.now }
         requires closed { self.old.block ≡ None }
-        ensures reply { result ≡ (plain_outcome command.now self.old).reply }
-        ensures next { self.new ≡ (plain_outcome command.now self.old).next }
+        ensures reply { result ≡ (plain_answer command.now self.old).reply }
+        ensures next { self.new ≡ (plain_answer command.now self.old).next }
     {
         match command {
             Command::Nothing => Reply::new(),
@@ -104,7 +104,7 @@ impl Session {
     /// Keeps a line of the open block.
     fn keep(&mut self, line: &SourceLine) -> Result<(), AllocError>
         requires open { IsSome self.old.block }
-        requires text { list_all is_text line.now ≡ true }
+        requires text { list_all is_plain line.now ≡ true }
         ensures next { OnOk result (IfSome self.old.block (λ b. self.new ≡ (with_block (with_line line.now b) self.old).next)) }
         ensures err { OnErr result (self.new ≡ self.old) }
     {
@@ -117,8 +117,8 @@ impl Session {
     /// Closes the open block: its words go to IMEM, or its fault is told.
     fn end(&mut self, alloc: Global) -> Result<Reply, AllocError>
         requires open { IsSome self.old.block }
-        ensures reply { IfOk result (λ reply. IfSome self.old.block (λ b. reply ≡ (end_outcome b (meaning b) self.old).reply)) }
-        ensures next { OnOk result (IfSome self.old.block (λ b. self.new ≡ (end_outcome b (meaning b) self.old).next)) }
+        ensures reply { IfOk result (λ reply. IfSome self.old.block (λ b. reply ≡ (end_answer b (meaning b) self.old).reply)) }
+        ensures next { OnOk result (IfSome self.old.block (λ b. self.new ≡ (end_answer b (meaning b) self.old).next)) }
         ensures err { OnErr result (self.new ≡ self.old) }
         ensures hides { OnErr result (IfSome self.old.block HidesNoFault) }
     {
@@ -140,12 +140,12 @@ impl Session {
     /// Does a command that `parse_line` gave, and answers it. Only a line of an open block and its end may need memory;
     /// where there is none, the session stays as it was, and the block stays open. At an end that hides no fault of the text:
     /// memory ran out at a line with a label, and no line up to that one has a fault of the first pass.
-    #[tactic(auto, unfolding(crate::specs::Session::outcome_of))]
+    #[tactic(auto, unfolding(crate::specs::Session::answer_of))]
     pub fn exec(&mut self, alloc: Global, command: &Command) -> Result<Reply, AllocError>
         requires { IsCommand command.now }
         ensures answered { NeedsNoMemory command.now self.old → IsOk result }
-        ensures reply { IfOk result (λ reply. reply ≡ (outcome_of command.now self.old).reply) }
-        ensures next { OnOk result (self.new ≡ (outcome_of command.now self.old).next) }
+        ensures reply { IfOk result (λ reply. reply ≡ (answer_of command.now self.old).reply) }
+        ensures next { OnOk result (self.new ≡ (answer_of command.now self.old).next) }
         ensures err { OnErr result (self.new ≡ self.old) }
         ensures hides { OnErr result (EndHidesNoFault command.now self.old) }
     {
@@ -172,8 +172,8 @@ impl Session {
         reply: &mut Reply,
     ) -> Result<(), AllocError>
         requires { IsCommand command.now }
-        ensures reply { OnOk result (reply.new ≡ (outcome_of command.now self.old).reply) }
-        ensures next { OnOk result (self.new ≡ (outcome_of command.now self.old).next) }
+        ensures reply { OnOk result (reply.new ≡ (answer_of command.now self.old).reply) }
+        ensures next { OnOk result (self.new ≡ (answer_of command.now self.old).next) }
         ensures err { OnErr result (self.new ≡ self.old) }
     {
         *reply = self.exec(alloc, command)?;
@@ -181,7 +181,7 @@ impl Session {
     }
 
     /// Does a command as `exec_to` does, and at once where it says nothing.
-    #[tactic(auto, unfolding(crate::specs::Session::outcome_of))]
+    #[tactic(auto, unfolding(crate::specs::Session::answer_of))]
     fn exec_quickly(
         &mut self,
         alloc: Global,
@@ -189,8 +189,8 @@ impl Session {
         reply: &mut Reply,
     ) -> Result<(), AllocError>
         requires { IsCommand command.now }
-        ensures reply { OnOk result (reply.new ≡ (outcome_of command.now self.old).reply) }
-        ensures next { OnOk result (self.new ≡ (outcome_of command.now self.old).next) }
+        ensures reply { OnOk result (reply.new ≡ (answer_of command.now self.old).reply) }
+        ensures next { OnOk result (self.new ≡ (answer_of command.now self.old).next) }
         ensures err { OnErr result (self.new ≡ self.old) }
     {
         match (command, self.in_block()) {
@@ -205,15 +205,15 @@ impl Session {
     }
 
     /// Does what a line of a script says, and answers it. The answer takes the place of what stood in the reply.
-    #[tactic(auto, unfolding(crate::specs::Session::line_outcome))]
+    #[tactic(auto, unfolding(crate::specs::Session::line_answer))]
     fn answer_line(
         &mut self,
         alloc: Global,
         line: &[u8],
         reply: &mut Reply,
     ) -> Result<(), AllocError>
-        ensures reply { OnOk result (reply.new ≡ (line_outcome line.now self.old).reply) }
-        ensures next { OnOk result (self.new ≡ (line_outcome line.now self.old).next) }
+        ensures reply { OnOk result (reply.new ≡ (line_answer line.now self.old).reply) }
+        ensures next { OnOk result (self.new ≡ (line_answer line.now self.old).next) }
         ensures err { OnErr result (self.new ≡ self.old) }
     {
         match parse_line(line, self.in_block()) {
@@ -254,12 +254,12 @@ fn refuse(fault: LineFault, reply: &mut Reply)
 }
 
 impl Answering for Session {
-    ghost use Rattle.rsp_bench.specs.Session.{line_outcome, closing};
+    ghost use Rattle.rsp_bench.specs.Session.{line_answer, closing};
     ghost use Rattle.rsp_bench.specs.Alike.{long_alike};
 
     type Reply = Reply;
 
-    ghost outcome = { line_outcome };
+    ghost answered = { line_answer };
 
     ghost closing = { closing };
 

@@ -1,5 +1,5 @@
 -- A text of plain lines, and what a line more makes of it.
-use Rattle.std.proofs.Common.{◌≡◌, refl, sym, ap, ◌∙◌, ℕ, ◌-◌, List, [], ◌∷◌, ◌++◌, true, subst}
+use Rattle.std.proofs.Common.{◌≡◌, refl, sym, ap, ◌∙◌, ℕ, List, [], ◌∷◌, ◌++◌, true, subst}
 use Rattle.std.specs.Prelude.{Result, Ok, Err, OnOk, OnErr}
 use Rattle.std.specs.List.{list_all}
 use Rattle.std.specs.Str.Lines.{lines}
@@ -7,7 +7,7 @@ use Rattle.std.proofs.lemmas.Bool.{and_from}
 use Rattle.std.proofs.lemmas.List.{append_assoc, append-nil}
 use Rattle.std.proofs.lemmas.List.Concat.{flat_map-append, flat_map-cons}
 use Rattle.std.proofs.lemmas.List.Folds.{list_all-append}
-use Rattle.rsp_text.specs.Chars.{is_plain}
+use Rattle.rsp_chars.specs.Chars.{is_plain}
 use Rattle.rsp_text.specs.Source.{text_of_lines}
 use Rattle.rsp_text.proofs.Lines.{lines_back}
 use Rattle.rsp_block.specs.Lines.{IsText}

@@ -2,7 +2,7 @@
 use Rattle.std.specs.Prelude.{ℕ, ◌≡◌, true, List}
 use Rattle.std.specs.List.{list_all}
 use Rattle.std.specs.Str.Lines.{lines}
-use Rattle.rsp_text.specs.Chars.{is_plain}
+use Rattle.rsp_chars.specs.Chars.{is_plain}
 use Rattle.rsp_text.specs.Source.{text_of_lines}
 
 -- a text of plain lines, each of which LF follows

@@ -1,7 +1,7 @@
 ghost use Rattle.std.specs.Prelude.{◌≡◌, ◌+◌, ◌*◌, ◌^◌, ◌<◌, ◌≤◌, ◌++◌, ◌∷◌, [], true, Ok, IfOk, IfErr, OnOk, OnErr, length};
 ghost use Rattle.std.specs.List.{list_all};
 ghost use Rattle.std.specs.String.{string_bytes};
-ghost use Rattle.rsp_text.specs.Chars.{is_plain};
+ghost use Rattle.rsp_chars.specs.Chars.{is_plain};
 ghost use Rattle.rsp_block.specs.Source.{opened, with_line, meaning};
 ghost use Rattle.rsp_block.specs.Fault.{IsBlockFault};
 

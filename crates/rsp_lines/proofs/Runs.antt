@@ -10,7 +10,7 @@ use Rattle.rsp_lines.specs.declared.run.TheConstants.{SCRIPT_LIMIT}
 use Rattle.rsp_lines.specs.Answers.{Answers}
 use Rattle.rsp_lines.specs.Left.{WritesFront, TakesAtMost, AnswersEnded, AnswersFront}
 use Rattle.rsp_lines.specs.Lines.{ended_lines, ended_after, open_after, last_line, kept}
-use Rattle.rsp_lines.specs.Replies.{Outcome, AnswersLongAlike, replies, final, out_of}
+use Rattle.rsp_lines.specs.Replies.{Answered, AnswersLongAlike, replies, final, out_of}
 use Rattle.rsp_lines.proofs.Alike.{Alike, alike-last}
 use Rattle.rsp_lines.proofs.Answered.{answers-none, answers-then, answers-front}
 use Rattle.rsp_lines.proofs.KnownEnds.{append_known-append, prepend_known-append, prepend_known-nil}
@@ -60,53 +60,53 @@ read_cut read others n k within h e =
         ap (λ i. take i read) same ∙ sym (take_all k (take n read) (omega (arith, length-take n read)))
 
 -- the bytes that the reads of a run gave, and what came of them
-pub record Progress {S : Type 0} (outcome : List ℕ → S → Outcome S) (rest unread old now : Option (List ℕ)) (line : List ℕ) (s t : S) (total : ℕ) : Type 0 where
+pub record Progress {S : Type 0} (answered : List ℕ → S → Answered S) (rest unread old now : Option (List ℕ)) (line : List ℕ) (s t : S) (total : ℕ) : Type 0 where
   pub taken : List ℕ
   pub told : rest ≡ prepend_known taken unread
   pub count : length taken ≡ total
-  pub answers : Answers outcome old now [] line s t (take SCRIPT_LIMIT taken)
+  pub answers : Answers answered old now [] line s t (take SCRIPT_LIMIT taken)
 
-module _ {S : Type 0} (outcome : List ℕ → S → Outcome S) (closing : S → List ℕ) (alike : AnswersLongAlike outcome) where
-  pub progress-none : (r w : Option (List ℕ)) (s : S) → Progress outcome r r w w [] s s 0
-  progress-none r w s = record { taken = []; told = sym (prepend_known-nil r); count = refl; answers = answers-none outcome alike w [] s }
+module _ {S : Type 0} (answered : List ℕ → S → Answered S) (closing : S → List ℕ) (alike : AnswersLongAlike answered) where
+  pub progress-none : (r w : Option (List ℕ)) (s : S) → Progress answered r r w w [] s s 0
+  progress-none r w s = record { taken = []; told = sym (prepend_known-nil r); count = refl; answers = answers-none answered alike w [] s }
 
-  pub progress-more : {r u v w x y : Option (List ℕ)} {l m : List ℕ} {s t o : S} {total : ℕ} (piece within : List ℕ) (n : ℕ) → Progress outcome r u w x l s t total
-      → u ≡ prepend_known piece v → length piece ≡ n → total ≤ SCRIPT_LIMIT → within ≡ take (SCRIPT_LIMIT - total) piece → Answers outcome x y l m t o within
-      → Progress outcome r v w y m s o (total + n)
+  pub progress-more : {r u v w x y : Option (List ℕ)} {l m : List ℕ} {s t o : S} {total : ℕ} (piece within : List ℕ) (n : ℕ) → Progress answered r u w x l s t total
+      → u ≡ prepend_known piece v → length piece ≡ n → total ≤ SCRIPT_LIMIT → within ≡ take (SCRIPT_LIMIT - total) piece → Answers answered x y l m t o within
+      → Progress answered r v w y m s o (total + n)
   progress-more {w = w} {y = y} {m = m} {s = s} {o = o} {total = total} piece within n h e len few cut a = record {
     taken = h.taken ++ piece;
     told = h.told ∙ ap (prepend_known h.taken) e ∙ prepend_known-append _ h.taken piece;
     count = omega (arith, length-append h.taken piece, h.count);
     answers = rw (← limit_more h.taken piece within total h.count few cut)
-        (answers-then outcome alike (take SCRIPT_LIMIT h.taken) within h.answers a);
+        (answers-then answered alike (take SCRIPT_LIMIT h.taken) within h.answers a);
   }
 
   -- a read failed
-  pub progress-ended : {r u v w x : Option (List ℕ)} {l : List ℕ} {s t : S} {total : ℕ} → Progress outcome r u w x l s t total
-      → u ≡ prepend_known [] v → total ≤ SCRIPT_LIMIT → AnswersEnded outcome s r v w x
+  pub progress-ended : {r u v w x : Option (List ℕ)} {l : List ℕ} {s t : S} {total : ℕ} → Progress answered r u w x l s t total
+      → u ≡ prepend_known [] v → total ≤ SCRIPT_LIMIT → AnswersEnded answered s r v w x
   progress-ended {w = w} {s = s} {total = total} h e few = record {
     taken = h.taken;
     told = h.told ∙ ap (prepend_known h.taken) (e ∙ prepend_known-nil _);
     few = omega (arith, h.count);
-    written = h.answers.written ∙ ap (λ text. append_known w (replies outcome (ended_after [] text) s)) (limit_all h.taken (omega (arith, h.count)))
-        ∙ ap (λ ls. append_known w (replies outcome ls s)) (sym (ended_lines-after h.taken));
+    written = h.answers.written ∙ ap (λ text. append_known w (replies answered (ended_after [] text) s)) (limit_all h.taken (omega (arith, h.count)))
+        ∙ ap (λ ls. append_known w (replies answered ls s)) (sym (ended_lines-after h.taken));
   }
 
   -- a piece was not answered to its end
-  pub progress-front : {r u v w x y : Option (List ℕ)} {l : List ℕ} {s t : S} {total : ℕ} (piece within : List ℕ) → Progress outcome r u w x l s t total
+  pub progress-front : {r u v w x y : Option (List ℕ)} {l : List ℕ} {s t : S} {total : ℕ} (piece within : List ℕ) → Progress answered r u w x l s t total
       → u ≡ prepend_known piece v → total ≤ SCRIPT_LIMIT → within ≡ take (SCRIPT_LIMIT - total) piece
-      → WritesFront x y (replies outcome (ended_after l within) t) → AnswersFront outcome closing s r v w y
+      → WritesFront x y (replies answered (ended_after l within) t) → AnswersFront answered closing s r v w y
   progress-front {s = s} {total = total} piece within h e few cut f = record {
     taken = h.taken ++ piece;
     told = h.told ∙ ap (prepend_known h.taken) e ∙ prepend_known-append _ h.taken piece;
     front = inl (front-along
-        (ap (λ text. replies outcome (ended_after [] text) s) (limit_more h.taken piece within total h.count few cut)
-        ∙ ap (λ ls. replies outcome ls s) (sym (ended_lines-after (take SCRIPT_LIMIT (h.taken ++ piece)))))
-        (answers-front outcome alike (take SCRIPT_LIMIT h.taken) within h.answers f));
+        (ap (λ text. replies answered (ended_after [] text) s) (limit_more h.taken piece within total h.count few cut)
+        ∙ ap (λ ls. replies answered ls s) (sym (ended_lines-after (take SCRIPT_LIMIT (h.taken ++ piece)))))
+        (answers-front answered alike (take SCRIPT_LIMIT h.taken) within h.answers f));
   }
 
   -- at most one byte past the limit was taken
-  pub progress-few : {r u w x : Option (List ℕ)} {l : List ℕ} {s t : S} {total : ℕ} (v : Option (List ℕ)) (piece : List ℕ) → Progress outcome r u w x l s t total
+  pub progress-few : {r u w x : Option (List ℕ)} {l : List ℕ} {s t : S} {total : ℕ} (v : Option (List ℕ)) (piece : List ℕ) → Progress answered r u w x l s t total
       → u ≡ prepend_known piece v → total + length piece ≤ SCRIPT_LIMIT + 1 → TakesAtMost (SCRIPT_LIMIT + 1) r v
   progress-few v piece h e few = (
     h.taken ++ piece,
@@ -115,60 +115,60 @@ module _ {S : Type 0} (outcome : List ℕ → S → Outcome S) (closing : S → 
   )
 
   -- a script that goes on past the limit
-  pub progress-long : {r u w x : Option (List ℕ)} {l : List ℕ} {s t : S} {total : ℕ} (P : Type 0) → Progress outcome r u w x l s t total
-      → SCRIPT_LIMIT < total → IfSome r (λ script. P → x ≡ append_known w (replies outcome (ended_lines (take SCRIPT_LIMIT script)) s))
+  pub progress-long : {r u w x : Option (List ℕ)} {l : List ℕ} {s t : S} {total : ℕ} (P : Type 0) → Progress answered r u w x l s t total
+      → SCRIPT_LIMIT < total → IfSome r (λ script. P → x ≡ append_known w (replies answered (ended_lines (take SCRIPT_LIMIT script)) s))
   progress-long {r = r} {u = u} {w = w} {s = s} P h long = if_some r _ (λ script e _.
       let there : (more : List ℕ) × (h.taken ++ more ≡ script) = told_front r u h.taken script h.told e in
       let same : take SCRIPT_LIMIT h.taken ≡ take SCRIPT_LIMIT script =
       sym (take-append-le SCRIPT_LIMIT h.taken there.0 (omega (arith, h.count))) ∙ ap (take SCRIPT_LIMIT) there.1 in
-      h.answers.written ∙ ap (λ text. append_known w (replies outcome (ended_after [] text) s)) same
-      ∙ ap (λ ls. append_known w (replies outcome ls s)) (sym (ended_lines-after (take SCRIPT_LIMIT script))))
+      h.answers.written ∙ ap (λ text. append_known w (replies answered (ended_after [] text) s)) same
+      ∙ ap (λ ls. append_known w (replies answered ls s)) (sym (ended_lines-after (take SCRIPT_LIMIT script))))
 
   -- the replies to the lines that a newline ended, and what is left to answer and to say
-  out-pieces : (taken line : List ℕ) (s t : S) → kept line ≡ kept (open_after [] taken) → t ≡ final outcome (ended_after [] taken) s
-      → replies outcome (ended_after [] taken) s ++ (replies outcome (last_line line) t ++ closing (final outcome (last_line line) t))
-      ≡ out_of outcome closing taken s
+  out-pieces : (taken line : List ℕ) (s t : S) → kept line ≡ kept (open_after [] taken) → t ≡ final answered (ended_after [] taken) s
+      → replies answered (ended_after [] taken) s ++ (replies answered (last_line line) t ++ closing (final answered (last_line line) t))
+      ≡ out_of answered closing taken s
   out-pieces taken line s t e n =
-      let same : Alike outcome (last_line line) (last_line (open_after [] taken)) t = alike-last outcome alike line (open_after [] taken) t e in
+      let same : Alike answered (last_line line) (last_line (open_after [] taken)) t = alike-last answered alike line (open_after [] taken) t e in
       rw (
         lines-ended taken,
-        replies-append outcome (ended_after [] taken) (last_line (open_after [] taken)) s,
-        final-append outcome (ended_after [] taken) (last_line (open_after [] taken)) s,
+        replies-append answered (ended_after [] taken) (last_line (open_after [] taken)) s,
+        final-append answered (ended_after [] taken) (last_line (open_after [] taken)) s,
         ← n,
         ← same.reply,
         ← same.next,
       )
-      (sym (append_assoc (replies outcome (ended_after [] taken) s) (replies outcome (last_line line) t) (closing (final outcome (last_line line) t))))
+      (sym (append_assoc (replies answered (ended_after [] taken) s) (replies answered (last_line line) t) (closing (final answered (last_line line) t))))
 
-  final-pieces : (taken line : List ℕ) (s t : S) → kept line ≡ kept (open_after [] taken) → t ≡ final outcome (ended_after [] taken) s
-      → final outcome (last_line line) t ≡ final outcome (lines taken) s
+  final-pieces : (taken line : List ℕ) (s t : S) → kept line ≡ kept (open_after [] taken) → t ≡ final answered (ended_after [] taken) s
+      → final answered (last_line line) t ≡ final answered (lines taken) s
   final-pieces taken line s t e n =
-      let same : Alike outcome (last_line line) (last_line (open_after [] taken)) t = alike-last outcome alike line (open_after [] taken) t e in
-      rw (lines-ended taken, final-append outcome (ended_after [] taken) (last_line (open_after [] taken)) s, ← n) same.next
+      let same : Alike answered (last_line line) (last_line (open_after [] taken)) t = alike-last answered alike line (open_after [] taken) t e in
+      rw (lines-ended taken, final-append answered (ended_after [] taken) (last_line (open_after [] taken)) s, ← n) same.next
 
   -- where the end of input was met and answered
-  pub progress-end : {r u w x y : Option (List ℕ)} {l : List ℕ} {s t o : S} {total : ℕ} (v : Option (List ℕ)) (script : List ℕ) → Progress outcome r u w x l s t total
+  pub progress-end : {r u w x y : Option (List ℕ)} {l : List ℕ} {s t o : S} {total : ℕ} (v : Option (List ℕ)) (script : List ℕ) → Progress answered r u w x l s t total
       → u ≡ prepend_known [] v → IsAtEnd v → total ≤ SCRIPT_LIMIT → r ≡ Some script
-      → y ≡ append_known x (replies outcome (last_line l) t ++ closing (final outcome (last_line l) t)) → o ≡ final outcome (last_line l) t
-      → (length script ≤ SCRIPT_LIMIT) × (y ≡ append_known w (out_of outcome closing script s)) × (o ≡ final outcome (lines script) s)
+      → y ≡ append_known x (replies answered (last_line l) t ++ closing (final answered (last_line l) t)) → o ≡ final answered (last_line l) t
+      → (length script ≤ SCRIPT_LIMIT) × (y ≡ append_known w (out_of answered closing script s)) × (o ≡ final answered (lines script) s)
   progress-end {r = r} {w = w} {x = x} {l = l} {s = s} {t = t} v script h e d few k written next =
       let all : h.taken ≡ script = told_all r v h.taken script (h.told ∙ ap (prepend_known h.taken) (e ∙ prepend_known-nil _)) d k in
       let part : take SCRIPT_LIMIT h.taken ≡ script = limit_all h.taken (omega (arith, h.count)) ∙ all in
-      let a : Answers outcome w x [] l s t script = rw (← part) h.answers in (
+      let a : Answers answered w x [] l s t script = rw (← part) h.answers in (
         omega (arith, h.count, ap length all),
-        written ∙ ap (λ b. append_known b (replies outcome (last_line l) t ++ closing (final outcome (last_line l) t))) a.written
-            ∙ append_known-append w (replies outcome (ended_after [] script) s) _ ∙ ap (append_known w) (out-pieces script l s t a.last a.session),
+        written ∙ ap (λ b. append_known b (replies answered (last_line l) t ++ closing (final answered (last_line l) t))) a.written
+            ∙ append_known-append w (replies answered (ended_after [] script) s) _ ∙ ap (append_known w) (out-pieces script l s t a.last a.session),
         next ∙ final-pieces script l s t a.last a.session,
       )
 
   -- where the end of input was met and not answered
-  pub progress-end_front : {r u v w x y : Option (List ℕ)} {l : List ℕ} {s t : S} {total : ℕ} → Progress outcome r u w x l s t total
+  pub progress-end_front : {r u v w x y : Option (List ℕ)} {l : List ℕ} {s t : S} {total : ℕ} → Progress answered r u w x l s t total
       → u ≡ prepend_known [] v → IsAtEnd v → total ≤ SCRIPT_LIMIT
-      → WritesFront x y (replies outcome (last_line l) t ++ closing (final outcome (last_line l) t)) → AnswersFront outcome closing s r v w y
+      → WritesFront x y (replies answered (last_line l) t ++ closing (final answered (last_line l) t)) → AnswersFront answered closing s r v w y
   progress-end_front {w = w} {x = x} {l = l} {s = s} {t = t} h e d few f =
-      let a : Answers outcome w x [] l s t h.taken = rw (← limit_all h.taken (omega (arith, h.count))) h.answers in
+      let a : Answers answered w x [] l s t h.taken = rw (← limit_all h.taken (omega (arith, h.count))) h.answers in
       record {
         taken = h.taken;
         told = h.told ∙ ap (prepend_known h.taken) (e ∙ prepend_known-nil _);
-        front = inr (d, front-along (out-pieces h.taken l s t a.last a.session) (front-then (replies outcome (ended_after [] h.taken) s) a.written f));
+        front = inr (d, front-along (out-pieces h.taken l s t a.last a.session) (front-then (replies answered (ended_after [] h.taken) s) a.written f));
       }

@@ -5,13 +5,13 @@ use Rattle.std.proofs.lemmas.Bool.{lt-leb}
 use Rattle.std.specs.Str.Lines.{lines}
 
 -- what a line comes to: its reply, and what answers the next line
-pub record Outcome (S : Type 0) : Type 0 where
+pub record Answered (S : Type 0) : Type 0 where
   pub reply : List ℕ
   pub next : S
 
 -- lines of more than 256 bytes are answered alike, whatever they say
-abbrev pub AnswersLongAlike : {S : Type 0} → (List ℕ → S → Outcome S) → Type 0
-AnswersLongAlike {S} outcome = (line other : List ℕ) (s : S) → 256 < length line → 256 < length other → outcome line s ≡ outcome other s
+abbrev pub AnswersLongAlike : {S : Type 0} → (List ℕ → S → Answered S) → Type 0
+AnswersLongAlike {S} answered = (line other : List ℕ) (s : S) → 256 < length line → 256 < length other → answered line s ≡ answered other s
 
 -- what tells long lines by their length alone answers them alike
 pub long-alike : {A : Type 0} (f : List ℕ → A) (long : A) (line other : List ℕ) → 256 < length line → 256 < length other
@@ -21,15 +21,15 @@ long-alike f long line other h g =
     ∙ sym (ap (λ t. if t then f other else long) (lt-leb (length other) 256 g))
 
 -- the replies to lines, one after another
-abbrev pub replies : {S : Type 0} → (List ℕ → S → Outcome S) → List (List ℕ) → S → List ℕ
-replies outcome [] s = []
-replies outcome (l ∷ ls) s = (outcome l s).reply ++ replies outcome ls (outcome l s).next
+abbrev pub replies : {S : Type 0} → (List ℕ → S → Answered S) → List (List ℕ) → S → List ℕ
+replies answered [] s = []
+replies answered (l ∷ ls) s = (answered l s).reply ++ replies answered ls (answered l s).next
 
 -- what is there after lines
-abbrev pub final : {S : Type 0} → (List ℕ → S → Outcome S) → List (List ℕ) → S → S
-final outcome [] s = s
-final outcome (l ∷ ls) s = final outcome ls (outcome l s).next
+abbrev pub final : {S : Type 0} → (List ℕ → S → Answered S) → List (List ℕ) → S → S
+final answered [] s = s
+final answered (l ∷ ls) s = final answered ls (answered l s).next
 
 -- all that is written for a script: the replies to its lines, and what is left to say at its end
-abbrev pub out_of : {S : Type 0} → (List ℕ → S → Outcome S) → (S → List ℕ) → List ℕ → S → List ℕ
-out_of outcome closing script s = replies outcome (lines script) s ++ closing (final outcome (lines script) s)
+abbrev pub out_of : {S : Type 0} → (List ℕ → S → Answered S) → (S → List ℕ) → List ℕ → S → List ℕ
+out_of answered closing script s = replies answered (lines script) s ++ closing (final answered (lines script) s)

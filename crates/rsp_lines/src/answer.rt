@@ -40,9 +40,9 @@ fn answer_line<S: Answering, W: Sink>(
     sink: &mut W,
 ) -> Result<(), RunFault>
     requires { W.fault_count sink.old < 2 ^ 64 - 1 }
-    ensures written { OnOk result (W.written sink.new ≡ append_known (W.written sink.old) (S.outcome line.now session.old).reply) }
-    ensures session { OnOk result (session.new ≡ (S.outcome line.now session.old).next) }
-    ensures front { OnErr result (WritesFront (W.written sink.old) (W.written sink.new) (S.outcome line.now session.old).reply) }
+    ensures written { OnOk result (W.written sink.new ≡ append_known (W.written sink.old) (S.answered line.now session.old).reply) }
+    ensures session { OnOk result (session.new ≡ (S.answered line.now session.old).next) }
+    ensures front { OnErr result (WritesFront (W.written sink.old) (W.written sink.new) (S.answered line.now session.old).reply) }
     ensures count { W.fault_count sink.new ≡ W.fault_count sink.old + failed_writes result }
     ensures cause { IfErr result IsAnswerFault }
 {
@@ -65,8 +65,8 @@ fn answer_byte<S: Answering, W: Sink>(
     sink: &mut W,
 ) -> Result<(), RunFault>
     requires { W.fault_count sink.old < 2 ^ 64 - 1 }
-    ensures answers { OnOk result (Answers S.outcome (W.written sink.old) (W.written sink.new) line.old line.new session.old session.new (byte ∷ [])) }
-    ensures front { OnErr result (WritesFront (W.written sink.old) (W.written sink.new) (replies S.outcome (ended_after line.old (byte ∷ [])) session.old)) }
+    ensures answers { OnOk result (Answers S.answered (W.written sink.old) (W.written sink.new) line.old line.new session.old session.new (byte ∷ [])) }
+    ensures front { OnErr result (WritesFront (W.written sink.old) (W.written sink.new) (replies S.answered (ended_after line.old (byte ∷ [])) session.old)) }
     ensures count { W.fault_count sink.new ≡ W.fault_count sink.old + failed_writes result }
     ensures cause { IfErr result IsAnswerFault }
 {
@@ -89,8 +89,8 @@ pub(crate) fn answer_piece<S: Answering, W: Sink>(
     sink: &mut W,
 ) -> Result<(), RunFault>
     requires { W.fault_count sink.old < 2 ^ 64 - 1 }
-    ensures answers { OnOk result (Answers S.outcome (W.written sink.old) (W.written sink.new) line.old line.new session.old session.new piece.now) }
-    ensures front { OnErr result (WritesFront (W.written sink.old) (W.written sink.new) (replies S.outcome (ended_after line.old piece.now) session.old)) }
+    ensures answers { OnOk result (Answers S.answered (W.written sink.old) (W.written sink.new) line.old line.new session.old session.new piece.now) }
+    ensures front { OnErr result (WritesFront (W.written sink.old) (W.written sink.new) (replies S.answered (ended_after line.old piece.now) session.old)) }
     ensures count { W.fault_count sink.new ≡ W.fault_count sink.old + failed_writes result }
     ensures cause { IfErr result IsAnswerFault }
 {
@@ -110,9 +110,9 @@ fn answer_last<S: Answering, W: Sink>(
     sink: &mut W,
 ) -> Result<(), RunFault>
     requires { W.fault_count sink.old < 2 ^ 64 - 1 }
-    ensures written { OnOk result (W.written sink.new ≡ append_known (W.written sink.old) (replies S.outcome (last_line line.now) session.old)) }
-    ensures session { OnOk result (session.new ≡ final S.outcome (last_line line.now) session.old) }
-    ensures front { OnErr result (WritesFront (W.written sink.old) (W.written sink.new) (replies S.outcome (last_line line.now) session.old)) }
+    ensures written { OnOk result (W.written sink.new ≡ append_known (W.written sink.old) (replies S.answered (last_line line.now) session.old)) }
+    ensures session { OnOk result (session.new ≡ final S.answered (last_line line.now) session.old) }
+    ensures front { OnErr result (WritesFront (W.written sink.old) (W.written sink.new) (replies S.answered (last_line line.now) session.old)) }
     ensures count { W.fault_count sink.new ≡ W.fault_count sink.old + failed_writes result }
     ensures cause { IfErr result IsAnswerFault }
 {
@@ -133,10 +133,10 @@ pub(crate) fn answer_end<S: Answering, W: Sink>(
 ) -> Result<(), RunFault>
     requires { W.fault_count sink.old < 2 ^ 64 - 1 }
     ensures written { OnOk result (W.written sink.new ≡ append_known (W.written sink.old)
-        (replies S.outcome (last_line line.now) session.old ++ S.closing (final S.outcome (last_line line.now) session.old))) }
-    ensures session { OnOk result (session.new ≡ final S.outcome (last_line line.now) session.old) }
+        (replies S.answered (last_line line.now) session.old ++ S.closing (final S.answered (last_line line.now) session.old))) }
+    ensures session { OnOk result (session.new ≡ final S.answered (last_line line.now) session.old) }
     ensures front { OnErr result (WritesFront (W.written sink.old) (W.written sink.new)
-        (replies S.outcome (last_line line.now) session.old ++ S.closing (final S.outcome (last_line line.now) session.old))) }
+        (replies S.answered (last_line line.now) session.old ++ S.closing (final S.answered (last_line line.now) session.old))) }
     ensures count { W.fault_count sink.new ≡ W.fault_count sink.old + failed_writes result }
     ensures cause { IfErr result IsAnswerFault }
 {

@@ -1,5 +1,5 @@
 ghost use Rattle.std.specs.Prelude.{◌≡◌, ℕ, List, [], OnOk};
-ghost use Rattle.rsp_lines.specs.Replies.{Outcome, AnswersLongAlike};
+ghost use Rattle.rsp_lines.specs.Replies.{Answered, AnswersLongAlike};
 
 use std::alloc::{AllocError, Global};
 
@@ -23,7 +23,7 @@ pub trait Answering {
     type Reply: ReplyBytes + Drop;
 
     /// What a line comes to: its reply, and what answers the next line.
-    ghost outcome: { List ℕ → Self → Outcome Self };
+    ghost answered: { List ℕ → Self → Answered Self };
 
     /// What is left to say at the end of a script, after the replies to all its lines.
     ghost closing: { Self → List ℕ };
@@ -37,13 +37,13 @@ pub trait Answering {
         line: &[u8],
         reply: &mut Self::Reply,
     ) -> Result<(), AllocError>
-        ensures reply { OnOk result (Self.Reply.bytes reply.new ≡ (outcome line.now self.old).reply) }
-        ensures next { OnOk result (self.new ≡ (outcome line.now self.old).next) };
+        ensures reply { OnOk result (Self.Reply.bytes reply.new ≡ (answered line.now self.old).reply) }
+        ensures next { OnOk result (self.new ≡ (answered line.now self.old).next) };
 
     /// What is left to say at the end of a script, after the replies to all its lines.
     fn close(&self) -> Self::Reply
         ensures { Self.Reply.bytes result ≡ closing self.now };
 
     /// Lines of more than 256 bytes are answered alike, whatever they say. So a run need not keep them whole.
-    ghost alike: { AnswersLongAlike outcome };
+    ghost alike: { AnswersLongAlike answered };
 }

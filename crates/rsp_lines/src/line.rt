@@ -3,6 +3,7 @@ ghost use Rattle.std.specs.Str.Lines.{strip_carriage_return};
 ghost use Rattle.rsp_lines.specs.Lines.{kept, IsLike};
 
 use arrayvec::ArrayVec;
+use rsp_chars::without_return;
 use std::marker::Model;
 
 /// What a run keeps of a line that no newline has ended: its first 258 bytes, as which it is seen, and a mark that
@@ -68,17 +69,7 @@ impl LineSoFar {
         if self.longer {
             self.bytes.as_slice()
         } else {
-            strip_return(self.bytes.as_slice())
+            without_return(self.bytes.as_slice())
         }
-    }
-}
-
-/// A line without the one carriage return at its end.
-fn strip_return(line: &[u8]) -> &[u8]
-    ensures { result.now ≡ strip_carriage_return line.now }
-{
-    match line {
-        [front @ .., b'\r'] => front,
-        _ => line,
     }
 }

@@ -48,8 +48,8 @@ pub fn answer_script<S: Answering, R: Source, W: Sink>(
     // A run that ends well has answered the whole script.
     ensures fits { IfSome (R.rest source.old) (λ script. OnOk result (length script ≤ SCRIPT_LIMIT)) }
     ensures written { IfSome (R.rest source.old) (λ script. OnOk result (
-        W.written sink.new ≡ append_known (W.written sink.old) (out_of S.outcome S.closing script session.old))) }
-    ensures session { IfSome (R.rest source.old) (λ script. OnOk result (session.new ≡ final S.outcome (lines script) session.old)) }
+        W.written sink.new ≡ append_known (W.written sink.old) (out_of S.answered S.closing script session.old))) }
+    ensures session { IfSome (R.rest source.old) (λ script. OnOk result (session.new ≡ final S.answered (lines script) session.old)) }
 
     // A fault has its cause, and a read or a write that failed is not tried again.
     ensures reads { R.fault_count source.new ≡ R.fault_count source.old + failed_reads result }
@@ -59,13 +59,13 @@ pub fn answer_script<S: Answering, R: Source, W: Sink>(
 
     // What a fault leaves written.
     ensures left_read { IsErrOf result RunFault.ReadFault →
-        AnswersEnded S.outcome session.old (R.rest source.old) (R.rest source.new) (W.written sink.old) (W.written sink.new) }
+        AnswersEnded S.answered session.old (R.rest source.old) (R.rest source.new) (W.written sink.old) (W.written sink.new) }
     ensures left_long { IfSome (R.rest source.old) (λ script. IsErrOf result RunFault.ScriptTooLong →
-        W.written sink.new ≡ append_known (W.written sink.old) (replies S.outcome (ended_lines (take SCRIPT_LIMIT script)) session.old)) }
+        W.written sink.new ≡ append_known (W.written sink.old) (replies S.answered (ended_lines (take SCRIPT_LIMIT script)) session.old)) }
     ensures left_write { IsErrOf result RunFault.WriteFault →
-        AnswersFront S.outcome S.closing session.old (R.rest source.old) (R.rest source.new) (W.written sink.old) (W.written sink.new) }
+        AnswersFront S.answered S.closing session.old (R.rest source.old) (R.rest source.new) (W.written sink.old) (W.written sink.new) }
     ensures left_memory { IsErrOf result RunFault.OutOfMemory →
-        AnswersFront S.outcome S.closing session.old (R.rest source.old) (R.rest source.new) (W.written sink.old) (W.written sink.new) }
+        AnswersFront S.answered S.closing session.old (R.rest source.old) (R.rest source.new) (W.written sink.old) (W.written sink.new) }
 {
     let mut line = LineSoFar::new();
     let mut buffer = [0u8; PIECE_LENGTH];

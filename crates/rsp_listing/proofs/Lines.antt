@@ -6,8 +6,10 @@ use Rattle.std.proofs.lemmas.Bool.{and_parts, and_from, cond-true, cond-false, n
 use Rattle.std.proofs.lemmas.Bool.Decides.{nat_tests}
 use Rattle.std.proofs.lemmas.List.{append_assoc, append-nil, length-append, reverse-append, reverse-reverse}
 use Rattle.rsp_text.specs.declared.text.Stop.TheVariants.{Blank, Colon, Comma, Comment}
-use Rattle.rsp_text.specs.Chars.{is_blank, is_plain, stops, cut, skip_blanks, trim}
-use Rattle.rsp_text.specs.Source.{is_line, front_of, code_of, labelled_parts, parts_of}
+use Rattle.rsp_chars.specs.Chars.{is_blank, is_plain, skip_blanks, trim}
+use Rattle.rsp_text.specs.Cuts.{stops, cut}
+use Rattle.rsp_chars.specs.Chars.{is_line}
+use Rattle.rsp_text.specs.Source.{front_of, code_of, labelled_parts, parts_of}
 use Rattle.rsp_text.specs.Statement.{nothing, statement_of, statement_with, operand_texts}
 use Rattle.rsp_text.specs.Spell.{more_operands, behind_name}
 use Rattle.rsp_text.proofs.Cuts.{no, cut_none, before_stop, after_stop}

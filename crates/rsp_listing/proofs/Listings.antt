@@ -4,9 +4,9 @@ use Rattle.std.specs.Prelude.{None, Ok}
 use Rattle.std.specs.List.{All, list_all}
 use Rattle.std.proofs.lemmas.Bool.{and_from}
 use Rattle.std.proofs.lemmas.List.{append-nil}
-use Rattle.rsp_text.specs.Chars.{is_plain}
+use Rattle.rsp_chars.specs.Chars.{is_plain}
 use Rattle.rsp_text.specs.Source.{size_of, first_fault, line_words, text_of_lines}
-use Rattle.rsp_text.specs.Means.{place_after, labelled, labels_from, this_or, lowest, joined, in_turn, first, second, unless, means_lines, means}
+use Rattle.rsp_text.specs.Means.{place_after, labelled, labels_from, this_or, lowest, then_later, in_turn, first, second, unless, means_lines, means}
 use Rattle.rsp_text.specs.Spell.{spell, listing}
 use Rattle.rsp_text.proofs.Lines.{lines_back}
 use Rattle.rsp_text.proofs.Places.{place_push, labels_push}
@@ -46,8 +46,8 @@ module _ (origin : ℕ) where
   all_words place (w ∷ ws) earlier h aligned room here =
       let g = here_gives w ws place h aligned room in
       let l = spell w place in
-      ap (λ o. joined (length earlier + 1) o (in_turn (second origin []) (earlier ++ l ∷ []) (listing (place + 4) ws))) (ap (λ p. line_words [] p l) here ∙ g.gives)
-      ∙ ap (joined (length earlier + 1) (Ok (w ∷ []))) (all_words (place + 4) ws (earlier ++ l ∷ []) (others w ws h) (omega arith) (omega arith) (place_push origin earlier l ∙ omega (arith, here, g.one_word)))
+      ap (λ o. then_later (length earlier + 1) o (in_turn (second origin []) (earlier ++ l ∷ []) (listing (place + 4) ws))) (ap (λ p. line_words [] p l) here ∙ g.gives)
+      ∙ ap (then_later (length earlier + 1) (Ok (w ∷ []))) (all_words (place + 4) ws (earlier ++ l ∷ []) (others w ws h) (omega arith) (omega arith) (place_push origin earlier l ∙ omega (arith, here, g.one_word)))
 
 pub listing_means : (ws : List ℕ) → length ws ≤ 1024 → AreWords ws → means_lines (listing 0 ws) 0 ≡ Ok ws
 listing_means ws few h =

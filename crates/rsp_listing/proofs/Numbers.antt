@@ -16,9 +16,10 @@ use Rattle.std.proofs.lemmas.Int.{ints}
 use Rattle.std.proofs.lemmas.Nat.{mod_below, div_below}
 use Rattle.rsp_text.specs.declared.slot.Slot.{Slot}
 use Rattle.rsp_text.specs.declared.text.Stop.TheVariants.{Plus, Minus}
-use Rattle.rsp_text.specs.Chars.{cut, is_name_start, is_name_byte}
+use Rattle.rsp_chars.specs.Chars.{is_name_start, is_name_byte}
+use Rattle.rsp_text.specs.Cuts.{cut}
 use Rattle.rsp_text.specs.Numbers.{is_numeral, numeral, unsigned_of, number_of, is_label, constant, sides, number_or, expression_of}
-use Rattle.rsp_text.specs.Statement.{asks, field, in_range, then_registers, fields_of, number_fails, half, branch, amount, jump, scaled, word}
+use Rattle.rsp_text.specs.Statement.{asks, field, or_out_of_range, then_registers, fields_of, number_fails, half, branch, amount, jump, scaled, word}
 use Rattle.rsp_text.specs.Spell.{hex, small, signed_half, signed_scaled, target}
 use Rattle.rsp_listing.specs.Bytes.{is_quiet}
 use Rattle.rsp_listing.proofs.Finite.{below, Said}
@@ -32,7 +33,7 @@ zero_plus (negsuc n) = omega (arith, ints)
 
 -- what asks for a number that is in its range
 pub number_fields : (slot : Slot) (place : ℕ) (registers : List ℕ) (z : ℤ) (v : ℕ) → field slot place z ≡ Some v → fields_of [] place (asks slot registers (constant z)) ≡ Ok (v ∷ registers)
-number_fields slot place registers z v found = ap (λ x. then_registers registers (in_range (field slot place x))) (zero_plus z) ∙ ap (λ o. then_registers registers (in_range o)) found
+number_fields slot place registers z v found = ap (λ x. then_registers registers (or_out_of_range (field slot place x))) (zero_plus z) ∙ ap (λ o. then_registers registers (or_out_of_range o)) found
 
 pub number_fits : (slot : Slot) (place : ℕ) (z : ℤ) (v : ℕ) → field slot place z ≡ Some v → number_fails place (Some (slot, constant z)) ≡ false
 number_fits slot place z v found = ap is_none found

@@ -12,9 +12,10 @@ use Rattle.rsp_decode.specs.Table.{Operand, scalar, shift_amount, signed, unsign
 use Rattle.rsp_text.specs.declared.slot.Slot.{Slot}
 use Rattle.rsp_text.specs.declared.slot.Slot.TheVariants.{Half, Amount, Jump, Branch, Scaled}
 use Rattle.rsp_text.specs.declared.text.Stop.TheVariants.{Parenthesis}
-use Rattle.rsp_text.specs.Chars.{cut}
+use Rattle.rsp_text.specs.Cuts.{cut}
 use Rattle.rsp_text.specs.Numbers.{constant, expression_of}
-use Rattle.rsp_text.specs.Statement.{read, asks, field, offset_of, base_of, memory, memory_of, zero_expression, reading_fields}
+use Rattle.rsp_text.specs.Statement.{read, asks, field, offset_of, base_of, memory, memory_operand, zero_expression, reading_fields}
+use Rattle.rsp_decode.specs.Table.{is_scale, is_step, is_row_operand}
 use Rattle.rsp_text.specs.Spell.{hex, small, signed_half, signed_scaled, target, target_text, scalar_name, base_name, spell_operand, operand_fields, operand_text, reaches}
 use Rattle.rsp_text.proofs.Cuts.{cut_between}
 use Rattle.rsp_listing.specs.Bytes.{is_quiet}
@@ -66,10 +67,10 @@ offset_read z bs num =
     let some : 0 < length bs = (piece_from bs num.piece).some in
     cond-false (length bs == 0) (Some zero_expression) (expression_of bs) (ne_eqb (length bs) 0 (λ e. omega arith)) ∙ num.reads
 
-memory_said : (slot : Slot) (place : ℕ) (z : ℤ) (v n : ℕ) (bs : List ℕ) → IsNumber z bs → field slot place z ≡ Some v → n < 32 → Said place (memory_of slot (cut Parenthesis (bs ++ base_name n))) (v ∷ n ∷ [])
+memory_said : (slot : Slot) (place : ℕ) (z : ℤ) (v n : ℕ) (bs : List ℕ) → IsNumber z bs → field slot place z ≡ Some v → n < 32 → Said place (memory_operand slot (cut Parenthesis (bs ++ base_name n))) (v ∷ n ∷ [])
 memory_said slot place z v n bs num found lt =
-    let is : memory_of slot (cut Parenthesis (bs ++ base_name n)) ≡ Some (asks slot (n ∷ []) (constant z)) =
-    ap (memory_of slot) (cut_between Parenthesis bs (scalar_name n ++ 41 ∷ []) 40 num.no_parenthesis refl)
+    let is : memory_operand slot (cut Parenthesis (bs ++ base_name n)) ≡ Some (asks slot (n ∷ []) (constant z)) =
+    ap (memory_operand slot) (cut_between Parenthesis bs (scalar_name n ++ 41 ∷ []) 40 num.no_parenthesis refl)
     ∙ ap (λ o. memory slot o (base_of (scalar_name n ++ 41 ∷ []))) (offset_read z bs num)
     ∙ ap (memory slot (Some (constant z))) (base_back n lt) in
     subst (λ x. Said place x (v ∷ n ∷ [])) (sym is) (number_said slot place (n ∷ []) z v found)

@@ -7,7 +7,7 @@ use Rattle.std.proofs.lemmas.List.{map-append, length-map}
 use Rattle.rsp_decode.specs.Table.{Operand, Row, row_of, places, value_at, fields, word_from, is_row_operand}
 use Rattle.rsp_text.specs.declared.fault.AsmFaultKind.TheVariants.{OutOfRange, PastEnd}
 use Rattle.rsp_text.specs.declared.slot.Slot.TheVariants.{Word}
-use Rattle.rsp_text.specs.Chars.{is_plain}
+use Rattle.rsp_chars.specs.Chars.{is_plain}
 use Rattle.rsp_text.specs.Numbers.{constant}
 use Rattle.rsp_text.specs.Source.{parts_of, label_in, label_of, size_if, size_in, size_of, has_bad_number, statement_fault, parts_fault, first_fault, statement_words, parts_words, line_words}
 use Rattle.rsp_text.specs.Statement.{Reading, asks, read_all, zero_expression, number_fails, append, all_fields, Statement, numbers, instruction, readings, size, one_word, words_of, statement_of, form_named, with_operands, with_form}

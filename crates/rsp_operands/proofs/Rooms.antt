@@ -12,10 +12,10 @@ use Rattle.rsp_text.specs.declared.fault.AsmFaultKind.{AsmFaultKind}
 use Rattle.rsp_text.specs.declared.slot.Slot.{Slot}
 use Rattle.rsp_text.specs.declared.slot.Slot.TheVariants.{Half, Amount, Jump, Branch, Scaled, Word}
 use Rattle.rsp_text.specs.declared.text.Stop.TheVariants.{Parenthesis, Bracket}
-use Rattle.rsp_text.specs.Chars.{cut}
+use Rattle.rsp_text.specs.Cuts.{cut}
 use Rattle.rsp_text.specs.Names.{look_up, below, small_number, is_decimal, scalar_names, scalar_named, vector_named, sp_named, control_names, control_named, element_names, element_named}
 use Rattle.rsp_text.specs.Numbers.{Expression, expression_of}
-use Rattle.rsp_text.specs.Statement.{Labels, Reading, named, asks, base_of, offset_of, memory, bracketed, multiple, byte_named, lane_named, with_element, bracket_of, memory_of, read, field, evaluate, in_range, field_of, then_registers, fields_of}
+use Rattle.rsp_text.specs.Statement.{Labels, Reading, one_register, asks, base_of, offset_of, memory, bracketed, multiple, byte_named, lane_named, with_element, bracket_of, memory_operand, read, field, evaluate, or_out_of_range, field_of, then_registers, fields_of}
 use Rattle.rsp_operands.specs.Room.{FitWord}
 
 -- ---- names
@@ -101,7 +101,7 @@ field_of_most : (slot : Slot) (place : ℕ) (z : Option ℤ) → IfOk (field_of 
 field_of_most slot place None = tt
 field_of_most slot place (Some z) = ranged (field slot place z) (field_most slot place z)
   where
-    ranged : (o : Option ℕ) → Most (most_of slot) o → IfOk (in_range o) (λ v. v ≤ most_of slot)
+    ranged : (o : Option ℕ) → Most (most_of slot) o → IfOk (or_out_of_range o) (λ v. v ≤ most_of slot)
     ranged None m = tt
     ranged (Some v) m = m
 
@@ -140,11 +140,11 @@ module _ (labels : Labels) (place : ℕ) where
   offset_room k slot (Some e) None m h = tt
   offset_room k slot (Some e) (Some b) m h = with_registers k (b ∷ []) (most_of slot) (field_of slot place (evaluate labels e)) (field_of_most slot place (evaluate labels e)) (λ v le. ((h v le).0, (m, tt)))
 
-  memory_room : (k : Operand) (slot : Slot) (o : Option (List ℕ × List ℕ)) → ((v : ℕ) → v ≤ most_of slot → FitWord k (v ∷ [])) → HasRoom k (memory_of slot o)
+  memory_room : (k : Operand) (slot : Slot) (o : Option (List ℕ × List ℕ)) → ((v : ℕ) → v ≤ most_of slot → FitWord k (v ∷ [])) → HasRoom k (memory_operand slot o)
   memory_room k slot None h = tt
   memory_room k slot (Some p) h = offset_room k slot (offset_of p.0) (base_of p.1) (base_most p.1) h
 
-  one_room : (k : Operand) (o : Option ℕ) → Most 31 o → ((n : ℕ) → n ≤ 31 → FitWord k (n ∷ [])) → HasRoom k (option_map named o)
+  one_room : (k : Operand) (o : Option ℕ) → Most 31 o → ((n : ℕ) → n ≤ 31 → FitWord k (n ∷ [])) → HasRoom k (option_map one_register o)
   one_room k None m h = tt
   one_room k (Some n) m h = h n m
 

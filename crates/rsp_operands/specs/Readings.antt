@@ -2,12 +2,12 @@
 use Rattle.std.specs.Prelude.{[], ◌∷◌, option_map}
 use Rattle.rsp_text.specs.Seen.{expression, capped_expression}
 use Rattle.rsp_text.specs.Statement as statement
-use Rattle.rsp_text.specs.Statement.{named, pair, asks}
+use Rattle.rsp_text.specs.Statement.{one_register, pair, asks}
 use Rattle.rsp_operands.specs.declared.reading.Reading.{Reading}
 use Rattle.rsp_operands.specs.declared.reading.Reading.TheVariants.{Register, Pair, Value, Memory}
 
 abbrev pub reading : Reading → statement.Reading
-reading (Register n) = named n
+reading (Register n) = one_register n
 reading (Pair n e) = pair n e
 reading (Value slot e) = asks slot [] (expression e)
 reading (Memory slot e b) = asks slot (b ∷ []) (expression e)

@@ -2,11 +2,11 @@
 
 ghost use Rattle.std.specs.Prelude.{◌≡◌, [], Some, None, option_map};
 ghost use Rattle.rsp_text.specs.declared.text.Stop.TheVariants.{Bracket, Parenthesis};
-ghost use Rattle.rsp_text.specs.Chars.{cut};
+ghost use Rattle.rsp_text.specs.Cuts.{cut};
 ghost use Rattle.rsp_text.specs.Names.{vector_named, element_named};
 ghost use Rattle.rsp_text.specs.Numbers.{expression_of};
 ghost use Rattle.rsp_text.specs.Seen.{expression, capped_expression};
-ghost use Rattle.rsp_text.specs.Statement.{base_of, offset_of, bracketed, byte_named, lane_named, with_element, bracket_of, memory_of, asks, read};
+ghost use Rattle.rsp_text.specs.Statement.{base_of, offset_of, bracketed, byte_named, lane_named, with_element, bracket_of, memory_operand, asks, read};
 ghost use Rattle.rsp_operands.specs.Readings.{reading, capped_reading};
 
 use rsp_decode::Operand;
@@ -117,7 +117,7 @@ fn offset(text: &[u8]) -> Option<Expression<'_>>
 }
 
 fn memory(slot: Slot, text: &[u8]) -> Option<Reading<'_>>
-    ensures { option_map reading result ≡ option_map capped_reading (memory_of slot (cut Parenthesis text.now)) }
+    ensures { option_map reading result ≡ option_map capped_reading (memory_operand slot (cut Parenthesis text.now)) }
 {
     let (front, rest) = cut(text, Stop::Parenthesis)?;
     Some(Reading::Memory(slot, offset(front)?, base(rest)?))

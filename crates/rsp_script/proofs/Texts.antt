@@ -7,16 +7,16 @@ use Rattle.std.proofs.lemmas.Str.{IsUtf8-from_ascii}
 use Rattle.std.proofs.lemmas.Str.Ascii.{IsAscii-nil, IsAscii-cons}
 use Rattle.std.proofs.lemmas.Bool.{and_parts}
 use Rattle.std.proofs.lemmas.Grind.{common_steps}
-use Rattle.rsp_script.specs.Text.{is_text}
+use Rattle.rsp_chars.specs.Chars.{is_plain}
 
-byte_is_ascii : (b : ℕ) → is_text b ≡ true → b < 128
+byte_is_ascii : (b : ℕ) → is_plain b ≡ true → b < 128
 byte_is_ascii b h = grind (arith, common_steps)
 
-text_is_ascii : (bs : List ℕ) → list_all is_text bs ≡ true → IsAscii bs
+text_is_ascii : (bs : List ℕ) → list_all is_plain bs ≡ true → IsAscii bs
 text_is_ascii [] h = IsAscii-nil
 text_is_ascii (b ∷ bs) h =
-    let parts = and_parts (is_text b) (list_all is_text bs) h in
+    let parts = and_parts (is_plain b) (list_all is_plain bs) h in
     IsAscii-cons b bs (byte_is_ascii b parts.0) (text_is_ascii bs parts.1)
 
-pub text_is_utf8 : (bs : List ℕ) → list_all is_text bs ≡ true → IsUtf8 bs
+pub text_is_utf8 : (bs : List ℕ) → list_all is_plain bs ≡ true → IsUtf8 bs
 text_is_utf8 bs h = IsUtf8-from_ascii bs (text_is_ascii bs h)

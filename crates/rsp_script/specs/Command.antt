@@ -2,7 +2,7 @@
 use Rattle.std.specs.Prelude.{ℕ, true, ◌≡◌, ◌<◌, ◌≤◌, ◌%◌, List, [], ◌∷◌, Option, Some, None, Result, Ok, Err, ok_or}
 use Rattle.arrayvec.specs.ArrayVec.{array_vec_len}
 use Rattle.std.specs.List.{list_all}
-use Rattle.rsp_script.specs.Text.{is_text}
+use Rattle.rsp_chars.specs.Chars.{is_plain}
 use Rattle.rsp_script.specs.Names.{name_of}
 use Rattle.rsp_script.specs.Operand.{bank_of, ranged_of, place_of, address_of, bytes_of}
 use Rattle.rsp_script.specs.declared.name.Name.{Name}
@@ -52,13 +52,10 @@ two_words command (a ∷ []) = Err BadCommand
 two_words command (a ∷ b ∷ []) = command a b
 two_words command (a ∷ b ∷ c ∷ more) = Err BadCommand
 
--- a command of three words more
-abbrev pub three_words : (List ℕ → List ℕ → List ℕ → Result Command LineFault) → List (List ℕ) → Result Command LineFault
-three_words command [] = Err BadCommand
-three_words command (a ∷ []) = Err BadCommand
-three_words command (a ∷ b ∷ []) = Err BadCommand
-three_words command (a ∷ b ∷ c ∷ []) = command a b c
-three_words command (a ∷ b ∷ c ∷ d ∷ more) = Err BadCommand
+-- a command of a bank and two words more
+abbrev pub on_bank : (Bank → List ℕ → List ℕ → Result Command LineFault) → List (List ℕ) → Result Command LineFault
+on_bank command [] = Err BadCommand
+on_bank command (bank ∷ ws) = two_words (λ a b. in_bank (λ k. command k a b) (bank_of bank)) ws
 
 -- a command of one number
 abbrev pub with_operand : (ℕ → Command) → Result ℕ LineFault → Result Command LineFault
@@ -67,11 +64,11 @@ with_operand command (Err fault) = Err fault
 
 -- `load BANK ADDR HEX`
 unfoldable pub load : List (List ℕ) → Result Command LineFault
-load = three_words (λ bank address hex. in_bank (λ b. with_both (λ a bytes. Load b a bytes) (address_of address) (bytes_of hex)) (bank_of bank))
+load = on_bank (λ b address hex. with_both (λ a bytes. Load b a bytes) (address_of address) (bytes_of hex))
 
 -- `mem BANK ADDR LEN`
 unfoldable pub mem : List (List ℕ) → Result Command LineFault
-mem = three_words (λ bank address len. in_bank (λ b. with_both (λ a n. Show (Mem b a n)) (address_of address) (ranged_of 1 256 len)) (bank_of bank))
+mem = on_bank (λ b address len. with_both (λ a n. Show (Mem b a n)) (address_of address) (ranged_of 1 256 len))
 
 -- `write N VALUE`
 unfoldable pub write : List (List ℕ) → Result Command LineFault
@@ -86,33 +83,33 @@ unfoldable pub watch : List (List ℕ) → Result Command LineFault
 watch = two_words (λ address len. with_both (λ a n. Watch a n) (ranged_of 0 4294967295 address) (ranged_of 0 4294967295 len))
 
 -- the command of a name with its operands
-abbrev pub named : Option Name → List (List ℕ) → Result Command LineFault
-named None operands = Err BadCommand
-named (Some names.Load) operands = load operands
-named (Some names.Step) operands = alone Step operands
-named (Some names.Regs) operands = alone (Show Regs) operands
-named (Some names.Mem) operands = mem operands
-named (Some names.Read) operands = with_operand (λ n. Read n) (one_number 0 15 operands)
-named (Some names.Write) operands = write operands
-named (Some names.Pc) operands = with_operand (λ a. SetPc a) (one_place operands)
-named (Some names.Task) operands = with_operand (λ a. Task a) (one_number 0 16777215 operands)
-named (Some names.Sp) operands = alone (Show Sp) operands
-named (Some names.Vregs) operands = alone (Show Vregs) operands
-named (Some names.Acc) operands = alone (Show Acc) operands
-named (Some names.Flags) operands = alone (Show Flags) operands
-named (Some names.Asm) operands = with_operand (λ a. Asm a) (one_place operands)
-named (Some names.Dis) operands = dis operands
-named (Some names.Run) operands = with_operand (λ n. Run n) (one_number 0 4294967295 operands)
-named (Some names.Break) operands = with_operand (λ a. Break a) (one_place operands)
-named (Some names.Unbreak) operands = with_operand (λ a. Unbreak a) (one_place operands)
-named (Some names.Watch) operands = watch operands
-named (Some names.Unwatch) operands = with_operand (λ k. Unwatch k) (one_number 0 4294967295 operands)
-named (Some names.Back) operands = with_operand (λ n. Back n) (one_number 0 4294967295 operands)
+abbrev pub command_named : Option Name → List (List ℕ) → Result Command LineFault
+command_named None operands = Err BadCommand
+command_named (Some names.Load) operands = load operands
+command_named (Some names.Step) operands = alone Step operands
+command_named (Some names.Regs) operands = alone (Show Regs) operands
+command_named (Some names.Mem) operands = mem operands
+command_named (Some names.Read) operands = with_operand (λ n. Read n) (one_number 0 15 operands)
+command_named (Some names.Write) operands = write operands
+command_named (Some names.Pc) operands = with_operand (λ a. SetPc a) (one_place operands)
+command_named (Some names.Task) operands = with_operand (λ a. Task a) (one_number 0 16777215 operands)
+command_named (Some names.Sp) operands = alone (Show Sp) operands
+command_named (Some names.Vregs) operands = alone (Show Vregs) operands
+command_named (Some names.Acc) operands = alone (Show Acc) operands
+command_named (Some names.Flags) operands = alone (Show Flags) operands
+command_named (Some names.Asm) operands = with_operand (λ a. Asm a) (one_place operands)
+command_named (Some names.Dis) operands = dis operands
+command_named (Some names.Run) operands = with_operand (λ n. Run n) (one_number 0 4294967295 operands)
+command_named (Some names.Break) operands = with_operand (λ a. Break a) (one_place operands)
+command_named (Some names.Unbreak) operands = with_operand (λ a. Unbreak a) (one_place operands)
+command_named (Some names.Watch) operands = watch operands
+command_named (Some names.Unwatch) operands = with_operand (λ k. Unwatch k) (one_number 0 4294967295 operands)
+command_named (Some names.Back) operands = with_operand (λ n. Back n) (one_number 0 4294967295 operands)
 
 -- what the words of a line ask for
 unfoldable pub command_of_words : List (List ℕ) → Result Command LineFault
 command_of_words [] = Ok Nothing
-command_of_words (name ∷ operands) = named (name_of name) operands
+command_of_words (name ∷ operands) = command_named (name_of name) operands
 
 -- a look that a line can ask for: its operands are in their ranges
 abbrev pub IsLook : Look → Type 0
@@ -131,5 +128,5 @@ IsCommand (Show look) = IsLook look
 IsCommand (Asm address) = (address ≤ 4092) × (address % 4 ≡ 0)
 IsCommand (Break address) = (address ≤ 4092) × (address % 4 ≡ 0)
 IsCommand (Unbreak address) = (address ≤ 4092) × (address % 4 ≡ 0)
-IsCommand (BlockLine line) = list_all is_text line ≡ true
+IsCommand (BlockLine line) = list_all is_plain line ≡ true
 IsCommand _ = Unit {0}

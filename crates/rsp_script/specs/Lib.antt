@@ -1,7 +1,7 @@
-pub mod Text
 pub mod Number
 pub mod Words
 pub mod Names
 pub mod Operand
 pub mod Command
 pub mod Line
+pub mod Faults

@@ -1,19 +1,16 @@
 -- The words of a line.
-use Rattle.std.specs.Prelude.{ℕ, List, [], ◌∷◌, Bool, false, ◌==◌, ◌||◌, filter, length, nat_lt, codes}
+use Rattle.std.specs.Prelude.{ℕ, List, [], ◌∷◌, Bool, false, filter, length, nat_lt, codes}
 use Rattle.std.specs.List.{slice_split}
 use Rattle.std.specs.Str.{bytes_eq}
-
--- a blank is a space or a tab
-abbrev pub is_blank : ℕ → Bool
-is_blank b = (b == 32) || (b == 9)
+use Rattle.rsp_chars.specs.Chars.{is_blank}
 
 -- a part that isn't empty
 abbrev pub is_word : List ℕ → Bool
 is_word part = nat_lt 0 (length part)
 
 -- the words of a text: its parts between blanks that aren't empty
-abbrev pub words_of : List ℕ → List (List ℕ)
-words_of text = filter is_word (slice_split is_blank text)
+abbrev pub words_in : List ℕ → List (List ℕ)
+words_in text = filter is_word (slice_split is_blank text)
 
 -- the one word `end`
 abbrev pub is_end : List (List ℕ) → Bool

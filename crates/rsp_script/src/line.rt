@@ -1,21 +1,15 @@
 ghost use Rattle.std.specs.Prelude.{◌≡◌, ◌≤◌, length, IfOk};
 ghost use Rattle.std.specs.List.{list_all, position_or_len};
-ghost use Rattle.rsp_script.specs.Text.{is_text, is_hash};
-ghost use Rattle.rsp_script.specs.Words.{words_of, is_end};
+ghost use Rattle.rsp_chars.specs.Chars.{is_plain};
+ghost use Rattle.rsp_script.specs.Line.{is_hash};
+ghost use Rattle.rsp_script.specs.Words.{words_in, is_end};
 ghost use Rattle.rsp_script.specs.Line.{block_command, command_of};
 ghost use Rattle.rsp_script.specs.Command.{IsCommand};
 
 use crate::parse::parse_words;
 use crate::words::Words;
 use crate::{Command, LineFault, SourceLine};
-
-const MAX_LINE_LEN: usize = 256;
-
-fn is_text(line: &[u8]) -> bool
-    ensures { result ≡ list_all is_text line.now }
-{
-    line.iter().all(|byte| matches!(*byte, b'\t' | b' '..=b'~'))
-}
+use rsp_chars::{MAX_LINE_LEN, is_line, is_text};
 
 /// How many bytes stand before a comment.
 fn comment_at(line: &[u8]) -> usize
@@ -28,7 +22,7 @@ fn comment_at(line: &[u8]) -> usize
 /// Whether a line is `end` but for outer blanks.
 fn is_end(line: &[u8]) -> bool
     requires { length line.now ≤ 256 }
-    ensures { result ≡ is_end (words_of line.now) }
+    ensures { result ≡ is_end (words_in line.now) }
 {
     let mut words = Words::new(line);
     match (words.next(), words.next()) {
@@ -43,7 +37,7 @@ fn block_command(line: &[u8]) -> Command
     ensures value { result ≡ block_command line.now }
     ensures ranges { IsCommand result }
 {
-    if line.len() > MAX_LINE_LEN || !is_text(line) {
+    if !is_line(line) {
         return Command::BlockLine(SourceLine::new(b":"));
     }
     if is_end(line) {

@@ -1,10 +1,11 @@
-ghost use Rattle.std.specs.Prelude.{◌≡◌, ◌≤◌, ◌%◌, IfOk};
-ghost use Rattle.rsp_script.specs.Command.{IsCommand, alone, one_number, one_place, load, mem, write, dis, watch, command_of_words};
+ghost use Rattle.std.specs.Prelude.{◌≡◌, ℕ, ◌≤◌, ◌%◌, List, length, Result, IfOk, Err, MatchResult};
+ghost use Rattle.rsp_script.specs.Command.{IsCommand, alone, one_number, one_place, two_words, on_bank, load, mem, write, dis, watch, command_of_words};
 
 use crate::name::{Name, name_of};
 use crate::operand::{bank, bytes, place, ranged};
 use crate::words::Words;
 use crate::{Command, LineFault, Look};
+use rsp_memory::Bank;
 
 const LAST_ADDRESS: u32 = 16_777_215;
 
@@ -44,23 +45,43 @@ fn one_place(mut words: Words) -> Result<u16, LineFault>
     place(word).ok_or(LineFault::BadNumber)
 }
 
+/// The two operands.
+fn two_words(mut words: Words) -> Result<(&[u8], &[u8]), LineFault>
+    ensures words { (command : List ℕ → List ℕ → Result Command LineFault) → MatchResult result
+        (λ w. two_words command words.entry ≡ command w.0.now w.1.now)
+        (λ fault. two_words command words.entry ≡ Err fault) }
+    ensures fits { IfOk result (λ w. length w.1.now ≤ 256) }
+{
+    match (words.next(), words.next(), words.next()) {
+        (Some(first), Some(second), None) => Ok((first, second)),
+        _ => Err(LineFault::BadCommand),
+    }
+}
+
+/// A bank, and the two operands behind it.
+fn on_bank(mut words: Words) -> Result<(Bank, &[u8], &[u8]), LineFault>
+    ensures words { (command : Bank → List ℕ → List ℕ → Result Command LineFault) → MatchResult result
+        (λ w. on_bank command words.entry ≡ command w.0 w.1.now w.2.now)
+        (λ fault. on_bank command words.entry ≡ Err fault) }
+    ensures fits { IfOk result (λ w. length w.2.now ≤ 256) }
+{
+    let Some(name) = words.next() else {
+        return Err(LineFault::BadCommand);
+    };
+    let (first, second) = two_words(words)?;
+    match bank(name) {
+        Some(bank) => Ok((bank, first, second)),
+        None => Err(LineFault::BadCommand),
+    }
+}
+
 /// `load BANK ADDR HEX`
 #[tactic(auto, unfolding(crate::specs::Command::load))]
-fn parse_load(mut words: Words) -> Result<Command, LineFault>
+fn parse_load(words: Words) -> Result<Command, LineFault>
     ensures value { result ≡ load words.entry }
     ensures ranges { IfOk result IsCommand }
 {
-    let (Some(bank_word), Some(address), Some(digits), None) = (
-        words.next(),
-        words.next(),
-        words.next(),
-        words.next(),
-    ) else {
-        return Err(LineFault::BadCommand);
-    };
-    let Some(bank) = bank(bank_word) else {
-        return Err(LineFault::BadCommand);
-    };
+    let (bank, address, digits) = on_bank(words)?;
     match (ranged(0, LAST_ADDRESS, address), bytes(digits)) {
         (Some(address), Some(bytes)) => Ok(Command::Load {
             bank,
@@ -73,21 +94,11 @@ fn parse_load(mut words: Words) -> Result<Command, LineFault>
 
 /// `mem BANK ADDR LEN`
 #[tactic(auto, unfolding(crate::specs::Command::mem))]
-fn parse_mem(mut words: Words) -> Result<Command, LineFault>
+fn parse_mem(words: Words) -> Result<Command, LineFault>
     ensures value { result ≡ mem words.entry }
     ensures ranges { IfOk result IsCommand }
 {
-    let (Some(bank_word), Some(address), Some(len), None) = (
-        words.next(),
-        words.next(),
-        words.next(),
-        words.next(),
-    ) else {
-        return Err(LineFault::BadCommand);
-    };
-    let Some(bank) = bank(bank_word) else {
-        return Err(LineFault::BadCommand);
-    };
+    let (bank, address, len) = on_bank(words)?;
     match (ranged(0, LAST_ADDRESS, address), ranged(1, 256, len)) {
         (Some(address), Some(len)) => Ok(Command::Show(Look::Mem { bank, address, len })),
         _ => Err(LineFault::BadNumber),
@@ -96,13 +107,11 @@ fn parse_mem(mut words: Words) -> Result<Command, LineFault>
 
 /// `write N VALUE`
 #[tactic(auto, unfolding(crate::specs::Command::write))]
-fn parse_write(mut words: Words) -> Result<Command, LineFault>
+fn parse_write(words: Words) -> Result<Command, LineFault>
     ensures value { result ≡ write words.entry }
     ensures ranges { IfOk result IsCommand }
 {
-    let (Some(register), Some(value), None) = (words.next(), words.next(), words.next()) else {
-        return Err(LineFault::BadCommand);
-    };
+    let (register, value) = two_words(words)?;
     match (ranged(0, 15, register), ranged(0, u32::MAX, value)) {
         (Some(register), Some(value)) => Ok(Command::Write {
             register: register as u8,
@@ -114,13 +123,11 @@ fn parse_write(mut words: Words) -> Result<Command, LineFault>
 
 /// `dis ADDR N`
 #[tactic(auto, unfolding(crate::specs::Command::dis))]
-fn parse_dis(mut words: Words) -> Result<Command, LineFault>
+fn parse_dis(words: Words) -> Result<Command, LineFault>
     ensures value { result ≡ dis words.entry }
     ensures ranges { IfOk result IsCommand }
 {
-    let (Some(address), Some(count), None) = (words.next(), words.next(), words.next()) else {
-        return Err(LineFault::BadCommand);
-    };
+    let (address, count) = two_words(words)?;
     match (place(address), ranged(1, 64, count)) {
         (Some(address), Some(count)) => Ok(Command::Show(Look::Dis { address, count })),
         _ => Err(LineFault::BadNumber),
@@ -129,13 +136,11 @@ fn parse_dis(mut words: Words) -> Result<Command, LineFault>
 
 /// `watch ADDR LEN`
 #[tactic(auto, unfolding(crate::specs::Command::watch))]
-fn parse_watch(mut words: Words) -> Result<Command, LineFault>
+fn parse_watch(words: Words) -> Result<Command, LineFault>
     ensures value { result ≡ watch words.entry }
     ensures ranges { IfOk result IsCommand }
 {
-    let (Some(address), Some(len), None) = (words.next(), words.next(), words.next()) else {
-        return Err(LineFault::BadCommand);
-    };
+    let (address, len) = two_words(words)?;
     match (ranged(0, u32::MAX, address), ranged(0, u32::MAX, len)) {
         (Some(address), Some(len)) => Ok(Command::Watch { address, len }),
         _ => Err(LineFault::BadNumber),

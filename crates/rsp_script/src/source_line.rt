@@ -1,6 +1,6 @@
 ghost use Rattle.std.specs.Prelude.{◌≡◌, ℕ, List, ◌≤◌, true, length};
 ghost use Rattle.std.specs.List.{list_all};
-ghost use Rattle.rsp_script.specs.Text.{is_text};
+ghost use Rattle.rsp_chars.specs.Chars.{is_plain};
 
 use arrayvec::ArrayString;
 use std::marker::Model;
@@ -23,7 +23,7 @@ impl SourceLine {
     #[tactic(auto, using(crate::proofs::Texts::text_is_utf8))]
     pub(crate) fn new(line: &[u8]) -> SourceLine
         requires fits { length line.now ≤ 256 }
-        requires text { list_all is_text line.now ≡ true }
+        requires text { list_all is_plain line.now ≡ true }
         ensures { result ≡ line.now }
     {
         let mut text = ArrayString::new();

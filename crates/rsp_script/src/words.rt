@@ -1,7 +1,9 @@
-ghost use Rattle.std.specs.Prelude.{◌≡◌, ℕ, List, [], ◌∷◌, ◌<◌, ◌≤◌, false, length, slice_index, IfSome, MatchOption};
+ghost use Rattle.std.specs.Prelude.{◌≡◌, ℕ, List, [], ◌∷◌, ◌≤◌, length, IfSome, MatchOption};
 ghost use Rattle.std.specs.List.{position_or_len};
-ghost use Rattle.rsp_script.specs.Words.{is_blank, words_of};
+ghost use Rattle.rsp_chars.specs.Chars.{is_blank};
+ghost use Rattle.rsp_script.specs.Words.{words_in};
 
+use rsp_chars::{is_blank, skip_blanks};
 use std::marker::Model;
 
 /// The words that are left of a line, which has at most 256 bytes.
@@ -13,32 +15,9 @@ pub struct Words<'a> {
 impl<'a> Model for Words<'a> {
     ghost Value = { List (List ℕ) };
 
-    ghost view = { λ w. words_of w.text.now };
+    ghost view = { λ w. words_in w.text.now };
 
     ghost invariant = { λ w. length w.text.now ≤ 256 };
-}
-
-fn is_blank(byte: u8) -> bool
-    ensures { result ≡ is_blank byte }
-{
-    byte == b' ' || byte == b'\t'
-}
-
-/// What follows the blanks in front.
-#[tactic(auto, using(crate::proofs::WordCuts::cuts))]
-fn skip_blanks(text: &[u8]) -> &[u8]
-    ensures same { words_of result.now ≡ words_of text.now }
-    ensures front { 0 < length result.now → is_blank (slice_index result.now 0) ≡ false }
-    ensures shorter { length result.now ≤ length text.now }
-{
-    let mut rest = text;
-    while let [first, more @ ..] = rest {
-        if !is_blank(*first) {
-            break;
-        }
-        rest = more;
-    }
-    rest
 }
 
 /// How many bytes stand before the first blank.
@@ -53,7 +32,7 @@ impl<'a> Words<'a> {
     /// The words of a line.
     pub fn new(text: &'a [u8]) -> Words<'a>
         requires { length text.now ≤ 256 }
-        ensures { result ≡ words_of text.now }
+        ensures { result ≡ words_in text.now }
     {
         Words { text }
     }

@@ -5,7 +5,7 @@ use Rattle.std.specs.List.{list_all, before_first, after_first, list_any, positi
 use Rattle.std.proofs.lemmas.Bool.{and_parts, and_from, cond-true, cond-false, cases_Bool}
 use Rattle.std.proofs.lemmas.List.{take_at, drop_at, append_assoc, take-append-drop}
 use Rattle.rsp_text.specs.declared.text.Stop.{Stop}
-use Rattle.rsp_text.specs.Chars.{stops, cut}
+use Rattle.rsp_text.specs.Cuts.{stops, cut}
 
 abbrev pub no : (ℕ → Bool) → List ℕ → Bool
 no p bs = list_all (λ c. not (p c)) bs

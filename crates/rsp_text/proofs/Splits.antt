@@ -5,7 +5,7 @@ use Rattle.std.specs.List.{slice_split, onto_first, before_first, after_first, p
 use Rattle.std.proofs.lemmas.Bool.{and_parts, cond-true, cond-false, not-true}
 use Rattle.std.proofs.lemmas.List.{take_all, drop_all}
 use Rattle.rsp_text.specs.declared.text.Stop.TheVariants.{Blank}
-use Rattle.rsp_text.specs.Chars.{stops, cut}
+use Rattle.rsp_text.specs.Cuts.{stops, cut}
 use Rattle.rsp_text.proofs.Cuts.{no, cut_nothing}
 
 pub split_cons : (p : ℕ → Bool) (xs ys : List ℕ) (s : ℕ) → no p xs ≡ true → p s ≡ true → slice_split p (xs ++ s ∷ ys) ≡ xs ∷ slice_split p ys

@@ -1,4 +1,4 @@
-pub mod Chars
+pub mod Cuts
 pub mod Numbers
 pub mod Names
 pub mod Seen
@@ -7,3 +7,4 @@ pub mod Source
 pub mod Means
 pub mod Rows
 pub mod Spell
+pub mod Faults

@@ -31,15 +31,16 @@ abbrev pub lowest : (List (List ℕ) → List ℕ → Option AsmFaultKind) → L
 lowest fault earlier [] = None
 lowest fault earlier (l ∷ ls) = this_or (length earlier + 1) (fault earlier l) (lowest fault (earlier ++ l ∷ []) ls)
 
-abbrev pub joined : ℕ → Result (List ℕ) AsmFaultKind → Result (List ℕ) AsmFault → Result (List ℕ) AsmFault
-joined number (Err kind) later = Err (fault_at number kind)
-joined number (Ok words) (Err fault) = Err fault
-joined number (Ok words) (Ok more) = Ok (words ++ more)
+-- the words of a line and those of the lines behind it, or the fault of the lowest that has one
+abbrev pub then_later : ℕ → Result (List ℕ) AsmFaultKind → Result (List ℕ) AsmFault → Result (List ℕ) AsmFault
+then_later number (Err kind) later = Err (fault_at number kind)
+then_later number (Ok words) (Err fault) = Err fault
+then_later number (Ok words) (Ok more) = Ok (words ++ more)
 
 -- the words of all lines, or the fault of the lowest line that has one
 abbrev pub in_turn : (List (List ℕ) → List ℕ → Result (List ℕ) AsmFaultKind) → List (List ℕ) → List (List ℕ) → Result (List ℕ) AsmFault
 in_turn words earlier [] = Ok []
-in_turn words earlier (l ∷ ls) = joined (length earlier + 1) (words earlier l) (in_turn words (earlier ++ l ∷ []) ls)
+in_turn words earlier (l ∷ ls) = then_later (length earlier + 1) (words earlier l) (in_turn words (earlier ++ l ∷ []) ls)
 
 -- the faults of the first pass
 abbrev pub first : ℕ → List (List ℕ) → List ℕ → Option AsmFaultKind

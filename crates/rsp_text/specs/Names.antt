@@ -21,19 +21,19 @@ small_number limit bs =
     then below limit (10 * (slice_index bs 0 - 48) + (slice_index bs 1 - 48))
     else None)
 
-abbrev pub named : List ℕ → ℕ → List ℕ × ℕ
-named name n = (name, n)
+abbrev pub numbered : List ℕ → ℕ → List ℕ × ℕ
+numbered name n = (name, n)
 
 abbrev pub scalar_names : List (List ℕ × ℕ)
 scalar_names =
-    named (codes "$zero") 0 ∷ named (codes "$at") 1
-    ∷ named (codes "$a0") 4 ∷ named (codes "$a1") 5 ∷ named (codes "$a2") 6 ∷ named (codes "$a3") 7
-    ∷ named (codes "$t0") 8 ∷ named (codes "$t1") 9 ∷ named (codes "$t2") 10 ∷ named (codes "$t3") 11
-    ∷ named (codes "$t4") 12 ∷ named (codes "$t5") 13 ∷ named (codes "$t6") 14 ∷ named (codes "$t7") 15
-    ∷ named (codes "$s0") 16 ∷ named (codes "$s1") 17 ∷ named (codes "$s2") 18 ∷ named (codes "$s3") 19
-    ∷ named (codes "$s4") 20 ∷ named (codes "$s5") 21 ∷ named (codes "$s6") 22 ∷ named (codes "$s7") 23
-    ∷ named (codes "$t8") 24 ∷ named (codes "$t9") 25 ∷ named (codes "$k0") 26 ∷ named (codes "$k1") 27
-    ∷ named (codes "$gp") 28 ∷ named (codes "$sp") 29 ∷ named (codes "$fp") 30 ∷ named (codes "$s8") 30 ∷ named (codes "$ra") 31 ∷ []
+    numbered (codes "$zero") 0 ∷ numbered (codes "$at") 1
+    ∷ numbered (codes "$a0") 4 ∷ numbered (codes "$a1") 5 ∷ numbered (codes "$a2") 6 ∷ numbered (codes "$a3") 7
+    ∷ numbered (codes "$t0") 8 ∷ numbered (codes "$t1") 9 ∷ numbered (codes "$t2") 10 ∷ numbered (codes "$t3") 11
+    ∷ numbered (codes "$t4") 12 ∷ numbered (codes "$t5") 13 ∷ numbered (codes "$t6") 14 ∷ numbered (codes "$t7") 15
+    ∷ numbered (codes "$s0") 16 ∷ numbered (codes "$s1") 17 ∷ numbered (codes "$s2") 18 ∷ numbered (codes "$s3") 19
+    ∷ numbered (codes "$s4") 20 ∷ numbered (codes "$s5") 21 ∷ numbered (codes "$s6") 22 ∷ numbered (codes "$s7") 23
+    ∷ numbered (codes "$t8") 24 ∷ numbered (codes "$t9") 25 ∷ numbered (codes "$k0") 26 ∷ numbered (codes "$k1") 27
+    ∷ numbered (codes "$gp") 28 ∷ numbered (codes "$sp") 29 ∷ numbered (codes "$fp") 30 ∷ numbered (codes "$s8") 30 ∷ numbered (codes "$ra") 31 ∷ []
 
 -- $ and a number, or a name
 abbrev pub scalar_named : List ℕ → Option ℕ
@@ -52,7 +52,7 @@ sp_named bs =
     if slice_index bs 0 == 36 && (slice_index bs 1 == 99 || slice_index bs 1 == 67) then small_number 16 (drop 2 bs) else None
 
 abbrev pub control_names : List (List ℕ × ℕ)
-control_names = named (codes "$vco") 0 ∷ named (codes "$vcc") 1 ∷ named (codes "$vce") 2 ∷ []
+control_names = numbered (codes "$vco") 0 ∷ numbered (codes "$vcc") 1 ∷ numbered (codes "$vce") 2 ∷ []
 
 -- $vco, $vcc or $vce
 abbrev pub control_named : List ℕ → Option ℕ
@@ -60,10 +60,10 @@ control_named bs = look_up control_names bs
 
 abbrev pub element_names : List (List ℕ × ℕ)
 element_names =
-    named (codes "v") 1 ∷ named (codes "0q") 2 ∷ named (codes "1q") 3
-    ∷ named (codes "0h") 4 ∷ named (codes "1h") 5 ∷ named (codes "2h") 6 ∷ named (codes "3h") 7
-    ∷ named (codes "0") 8 ∷ named (codes "1") 9 ∷ named (codes "2") 10 ∷ named (codes "3") 11
-    ∷ named (codes "4") 12 ∷ named (codes "5") 13 ∷ named (codes "6") 14 ∷ named (codes "7") 15 ∷ []
+    numbered (codes "v") 1 ∷ numbered (codes "0q") 2 ∷ numbered (codes "1q") 3
+    ∷ numbered (codes "0h") 4 ∷ numbered (codes "1h") 5 ∷ numbered (codes "2h") 6 ∷ numbered (codes "3h") 7
+    ∷ numbered (codes "0") 8 ∷ numbered (codes "1") 9 ∷ numbered (codes "2") 10 ∷ numbered (codes "3") 11
+    ∷ numbered (codes "4") 12 ∷ numbered (codes "5") 13 ∷ numbered (codes "6") 14 ∷ numbered (codes "7") 15 ∷ []
 
 -- the element of a computing row, by what stands between the brackets
 abbrev pub element_named : List ℕ → Option ℕ

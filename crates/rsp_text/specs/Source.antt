@@ -1,10 +1,11 @@
 -- What a line means, where the labels and its place are known.
-use Rattle.std.specs.Prelude.{ℕ, ◌+◌, ◌*◌, nat_le, nat_lt, Bool, false, ◌&&◌, List, [], ◌∷◌, ◌++◌, flat_map, length, Option, Some, None, is_some, Result, Ok, Err, if◌then◌else◌}
-use Rattle.std.specs.List.{list_all, list_any}
+use Rattle.std.specs.Prelude.{ℕ, ◌+◌, ◌*◌, nat_lt, Bool, false, List, [], ◌∷◌, ◌++◌, flat_map, Option, Some, None, is_some, Result, Ok, Err, if◌then◌else◌}
+use Rattle.std.specs.List.{list_any}
 use Rattle.rsp_text.specs.declared.fault.AsmFaultKind.{AsmFaultKind}
 use Rattle.rsp_text.specs.declared.fault.AsmFaultKind.TheVariants.{BadLine, OutOfRange, LabelTwice, PastEnd}
 use Rattle.rsp_text.specs.declared.text.Stop.TheVariants.{Comment, Colon}
-use Rattle.rsp_text.specs.Chars.{is_plain, cut, skip_blanks, trim}
+use Rattle.rsp_chars.specs.Chars.{is_line, skip_blanks, trim}
+use Rattle.rsp_text.specs.Cuts.{cut}
 use Rattle.rsp_text.specs.Numbers.{is_label}
 use Rattle.rsp_text.specs.Statement.{Labels, find_label, Reading, Statement, readings, statement_of, size, number_fails, words_of}
 
@@ -16,9 +17,6 @@ text_of_lines ls = flat_map (λ l. l ++ 10 ∷ []) ls
 pub record Parts : Type 0 where
   pub label : Option (List ℕ)
   pub body : List ℕ
-
-abbrev pub is_line : List ℕ → Bool
-is_line bs = nat_le (length bs) 256 && list_all is_plain bs
 
 -- the part before a cut, or the whole text
 abbrev pub front_of : Option (List ℕ × List ℕ) → List ℕ → List ℕ

@@ -9,7 +9,8 @@ use Rattle.rsp_text.specs.declared.fault.AsmFaultKind.TheVariants.{UnknownName, 
 use Rattle.rsp_text.specs.declared.text.Stop.TheVariants.{Blank, Comma, Parenthesis, Bracket}
 use Rattle.rsp_text.specs.declared.slot.Slot.{Slot}
 use Rattle.rsp_text.specs.declared.slot.Slot.TheVariants.{Half, Amount, Jump, Branch, Scaled, Word}
-use Rattle.rsp_text.specs.Chars.{cut, stops, trim}
+use Rattle.rsp_chars.specs.Chars.{trim}
+use Rattle.rsp_text.specs.Cuts.{cut, stops}
 use Rattle.rsp_text.specs.Numbers.{Expression, expression_of}
 use Rattle.rsp_text.specs.Names.{scalar_named, vector_named, sp_named, control_named, element_named, small_number}
 
@@ -19,8 +20,8 @@ pub record Reading : Type 0 where
   pub value : Option (Slot × Expression)
   pub registers : List ℕ
 
-abbrev pub named : ℕ → Reading
-named n = record { value = None; registers = n ∷ [] }
+abbrev pub one_register : ℕ → Reading
+one_register n = record { value = None; registers = n ∷ [] }
 
 abbrev pub pair : ℕ → ℕ → Reading
 pair n e = record { value = None; registers = n ∷ e ∷ [] }
@@ -63,23 +64,23 @@ abbrev pub bracket_of : (List ℕ → Option ℕ) → Option ℕ → Option (Lis
 bracket_of look default None bs = with_element (vector_named bs) default
 bracket_of look default (Some p) bs = with_element (vector_named p.0) (bracketed look p.1)
 
-abbrev pub memory_of : Slot → Option (List ℕ × List ℕ) → Option Reading
-memory_of slot None = None
-memory_of slot (Some p) = memory slot (offset_of p.0) (base_of p.1)
+abbrev pub memory_operand : Slot → Option (List ℕ × List ℕ) → Option Reading
+memory_operand slot None = None
+memory_operand slot (Some p) = memory slot (offset_of p.0) (base_of p.1)
 
 -- what the text of an operand says, by its kind
 abbrev pub read : Operand → List ℕ → Option Reading
-read (scalar low) bs = option_map named (scalar_named bs)
+read (scalar low) bs = option_map one_register (scalar_named bs)
 read shift_amount bs = option_map (asks Amount []) (expression_of bs)
 read signed bs = option_map (asks Half []) (expression_of bs)
 read unsigned bs = option_map (asks Half []) (expression_of bs)
 read jump_target bs = option_map (asks Jump []) (expression_of bs)
 read branch_target bs = option_map (asks Branch []) (expression_of bs)
-read scalar_memory bs = memory_of Half (cut Parenthesis bs)
-read (vector_memory scale) bs = memory_of (Scaled scale) (cut Parenthesis bs)
-read sp_register bs = option_map named (sp_named bs)
-read control_register bs = option_map named (control_named bs)
-read (vector low) bs = option_map named (vector_named bs)
+read scalar_memory bs = memory_operand Half (cut Parenthesis bs)
+read (vector_memory scale) bs = memory_operand (Scaled scale) (cut Parenthesis bs)
+read sp_register bs = option_map one_register (sp_named bs)
+read control_register bs = option_map one_register (control_named bs)
+read (vector low) bs = option_map one_register (vector_named bs)
 read (vector_byte low step) bs = bracket_of (byte_named step) (Some 0) (cut Bracket bs) bs
 read vector_element bs = bracket_of element_named (Some 0) (cut Bracket bs) bs
 read vector_lane bs = bracket_of lane_named None (cut Bracket bs) bs
@@ -142,13 +143,13 @@ label_place labels (Some name) = find_label labels name
 abbrev pub evaluate : Labels → Expression → Option ℤ
 evaluate labels e = option_map (λ p. pos p +ℤ e.offset) (label_place labels e.label)
 
-abbrev pub in_range : Option ℕ → Result ℕ AsmFaultKind
-in_range None = Err OutOfRange
-in_range (Some v) = Ok v
+abbrev pub or_out_of_range : Option ℕ → Result ℕ AsmFaultKind
+or_out_of_range None = Err OutOfRange
+or_out_of_range (Some v) = Ok v
 
 abbrev pub field_of : Slot → ℕ → Option ℤ → Result ℕ AsmFaultKind
 field_of slot place None = Err LabelMissing
-field_of slot place (Some z) = in_range (field slot place z)
+field_of slot place (Some z) = or_out_of_range (field slot place z)
 
 abbrev pub then_registers : List ℕ → Result ℕ AsmFaultKind → Result (List ℕ) AsmFaultKind
 then_registers ns (Ok v) = Ok (v ∷ ns)
@@ -285,8 +286,3 @@ abbrev pub statement_of : List ℕ → Result Statement AsmFaultKind
 statement_of bs =
     if length bs == 0 then Ok nothing
     else statement_with (before_first (stops Blank) bs) (operand_texts (after_first (stops Blank) bs))
-
--- the texts of the operands that are left
-abbrev pub texts_in : Option (List ℕ) → List (List ℕ)
-texts_in None = []
-texts_in (Some bs) = map trim (slice_split (stops Comma) bs)

@@ -2,32 +2,47 @@ use thiserror::Error;
 
 /// Why a text has no meaning.
 #[derive(Clone, Copy, PartialEq, Eq, Debug, Error)]
+#[error("{}", self.as_str())]
 pub enum AsmFaultKind {
     /// 10: the line is longer than 256 bytes, has a byte that isn't printed, or what stands before its colon is no
     /// label name.
-    #[error("10 BadLine")]
     BadLine,
     /// 11: no statement has this name.
-    #[error("11 UnknownName")]
     UnknownName,
     /// 12: the number or the form of the operands is another.
-    #[error("12 BadOperand")]
     BadOperand,
     /// 13: a value is out of its range.
-    #[error("13 OutOfRange")]
     OutOfRange,
     /// 14: a line before it has this label.
-    #[error("14 LabelTwice")]
     LabelTwice,
     /// 15: no line has this label.
-    #[error("15 LabelMissing")]
     LabelMissing,
     /// 16: a word would stand at 4096 or later.
-    #[error("16 PastEnd")]
     PastEnd,
     /// 17: there was no memory for the labels.
-    #[error("17 OutOfMemory")]
     OutOfMemory,
+}
+
+impl AsmFaultKind {
+    ghost use Rattle.std.specs.Prelude.{◌≡◌, ◌≤◌, length};
+    ghost use Rattle.rsp_text.specs.Faults.{kind_name};
+
+    /// The number and the name of the fault.
+    pub fn as_str(self) -> &'static str
+        ensures text { result.now ≡ kind_name self }
+        ensures short { length result.now ≤ 15 }
+    {
+        match self {
+            AsmFaultKind::BadLine => "10 BadLine",
+            AsmFaultKind::UnknownName => "11 UnknownName",
+            AsmFaultKind::BadOperand => "12 BadOperand",
+            AsmFaultKind::OutOfRange => "13 OutOfRange",
+            AsmFaultKind::LabelTwice => "14 LabelTwice",
+            AsmFaultKind::LabelMissing => "15 LabelMissing",
+            AsmFaultKind::PastEnd => "16 PastEnd",
+            AsmFaultKind::OutOfMemory => "17 OutOfMemory",
+        }
+    }
 }
 
 /// A fault, and the number of its line, from 1.

@@ -19,4 +19,4 @@ pub use names::{control, element, scalar, small_number, sp_register, vector};
 pub use numbers::{number, unsigned};
 pub use slot::Slot;
 pub use table::{find_row, select_row};
-pub use text::{Stop, cut, is_plain, is_same, skip_blanks, trim};
+pub use text::{Stop, cut, is_same};

@@ -1,8 +1,10 @@
-// The bytes of a text, and where it is cut.
+// Where a text is cut.
 
-ghost use Rattle.std.specs.Prelude.{◌≡◌, option_map, length, reverse, ◌≤◌};
-ghost use Rattle.rsp_text.specs.Chars.{is_blank, is_name_start, is_name_byte, is_plain, skip_blanks, trim, cut};
+ghost use Rattle.std.specs.Prelude.{◌≡◌, option_map};
+ghost use Rattle.rsp_text.specs.Cuts.{cut};
 ghost use Rattle.std.specs.Str.{str_eq_ignore_ascii_case};
+
+use rsp_chars::is_blank;
 
 /// Where a text is cut: at the first of these bytes.
 #[derive(Clone, Copy, PartialEq, Eq, Debug)]
@@ -27,36 +29,8 @@ pub enum Stop {
     Minus,
 }
 
-/// A space or a tab.
-fn is_blank(c: u8) -> bool
-    ensures { result ≡ is_blank c }
-{
-    c == b' ' || c == b'\t'
-}
-
-/// What a label may begin with: a letter, or `_`.
-pub(crate) fn is_name_start(c: u8) -> bool
-    ensures { result ≡ is_name_start c }
-{
-    matches!(c, b'A'..=b'Z' | b'a'..=b'z' | b'_')
-}
-
-/// What may stand in a label: a letter, a digit, or `_`.
-pub(crate) fn is_name_byte(c: u8) -> bool
-    ensures { result ≡ is_name_byte c }
-{
-    is_name_start(c) || matches!(c, b'0'..=b'9')
-}
-
-/// What may stand in a line: a tab, or 20 to 7e hexadecimal.
-pub fn is_plain(c: u8) -> bool
-    ensures { result ≡ is_plain c }
-{
-    c == b'\t' || matches!(c, b' '..=b'~')
-}
-
 impl Stop {
-    ghost use Rattle.rsp_text.specs.Chars.{stops};
+    ghost use Rattle.rsp_text.specs.Cuts.{stops};
 
     /// Whether a text is cut at this byte.
     fn is_at(self, c: u8) -> bool
@@ -86,44 +60,6 @@ pub fn cut(text: &[u8], stop: Stop) -> Option<(&[u8], &[u8])>
         }
     }
     None
-}
-
-/// The text without the blanks in front.
-pub fn skip_blanks(text: &[u8]) -> &[u8]
-    ensures value { result.now ≡ skip_blanks text.now }
-    ensures len { length result.now ≤ length text.now }
-{
-    let mut text = text;
-    while let [first, rest @ ..] = text {
-        if !is_blank(*first) {
-            break;
-        }
-        text = rest;
-    }
-    text
-}
-
-/// The text without the blanks at its end.
-fn drop_last_blanks(text: &[u8]) -> &[u8]
-    ensures value { result.now ≡ reverse (skip_blanks (reverse text.now)) }
-    ensures len { length result.now ≤ length text.now }
-{
-    let mut text = text;
-    while let [rest @ .., last] = text {
-        if !is_blank(*last) {
-            break;
-        }
-        text = rest;
-    }
-    text
-}
-
-/// The text without the blanks on either side.
-pub fn trim(text: &[u8]) -> &[u8]
-    ensures value { result.now ≡ trim text.now }
-    ensures len { length result.now ≤ length text.now }
-{
-    drop_last_blanks(skip_blanks(text))
 }
 
 /// Whether two names are the same, their letters in either case.

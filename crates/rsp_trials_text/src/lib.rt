@@ -9,6 +9,8 @@ mod bench;
 #[cfg(test)]
 mod block;
 #[cfg(test)]
+mod chars;
+#[cfg(test)]
 mod ends;
 #[cfg(test)]
 mod fakes;

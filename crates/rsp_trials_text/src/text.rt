@@ -1,11 +1,12 @@
 use rsp_decode::Operand;
+use rsp_script::LineFault;
 use rsp_text::{
-    Stop, control, cut, element, find_row, is_label, is_plain, is_same, number, read_expression,
-    scalar, skip_blanks, small_number, sp_register, trim, unsigned, vector,
+    AsmFaultStop, control, cut, element, find_row, is_label, is_same, number,
+    read_expression, scalar, small_number, sp_register, unsigned, vector,
 };
 
 #[test]
-fn cuts_and_trims(rt: HostRuntime) {
+fn cuts_at_a_comment(rt: HostRuntime) {
     let Some((name, rest)) = cut(b"j x # on", Stop::Comment) else {
         assert!(rt; false);
         return;
@@ -13,10 +14,7 @@ fn cuts_and_trims(rt: HostRuntime) {
     assert!(rt; name == b"j x ".as_slice());
     assert!(rt; rest == b" on".as_slice());
     assert!(rt; cut(b"nop", Stop::Colon).is_none());
-    assert!(rt; trim(b" \t4($1) ") == b"4($1)".as_slice());
-    assert!(rt; skip_blanks(b"\t x ") == b"x ".as_slice());
     assert!(rt; is_same(b"$Sp", b"$sP"));
-    assert!(rt; is_plain(b'\t') && is_plain(b'~') && !is_plain(0x7f));
 }
 
 #[test]
@@ -85,4 +83,10 @@ fn finds_rows(rt: HostRuntime) {
     assert!(rt; row.operands == [Operand::VectorByte(16, 1), Operand::VectorMemory(16)].as_slice());
     assert!(rt; find_row(b"nop").is_none());
     assert!(rt; find_row(b"vmulx").is_none());
+}
+
+#[test]
+fn names_faults(rt: HostRuntime) {
+    assert!(rt; AsmFaultKind::PastEnd.as_str() == "16 PastEnd");
+    assert!(rt; LineFault::NotText.as_str() == "33 NotText");
 }

@@ -34,7 +34,7 @@ impl ReplyBytes for Echoed {
 impl Answering for Echo {
     type Reply = Echoed;
 
-    ghost outcome = { λ line s. record {
+    ghost answered = { λ line s. record {
       reply = if nat_le (length line) 256 then line ++ 10 ∷ [] else codes "long\n";
       next = record { lines = (s.lines + 1) % 256 };
     } };

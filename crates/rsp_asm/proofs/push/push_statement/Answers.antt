@@ -5,10 +5,9 @@ use Rattle.rsp_decode.specs.Table.{Entry, entry, is_row_operand}
 use Rattle.rsp_text.specs.Source.{size_if, statement_words}
 use Rattle.rsp_text.specs.Statement.{statement_of, operand_texts, form_named, with_form, numbers_form, row_form}
 use Rattle.rsp_asm.specs.Forms.{form}
-use Rattle.rsp_asm.specs.Walks.{listed_words, listed_size, row_words, row_size}
+use Rattle.rsp_asm.specs.Statements.{row_words, row_size}
 use Rattle.rsp_asm.proofs.Forms.{is_numbers, is_row}
-use Rattle.rsp_asm.proofs.Decodes.{form_usable}
-use Rattle.rsp_asm.proofs.Statements.{statement_is, listed_said, listed_sized, row_said, row_sized, puts_same}
+use Rattle.rsp_asm.proofs.Statements.{statement_is, row_said, row_sized, puts_same}
 use Rattle.rsp_asm.proofs.push.push_statement.Goals as goal
 
 pub push_listed-requires : goal.push_listed-requires
@@ -19,7 +18,7 @@ push_listed-requires c =
     let ts = operand_texts operands in
     let is = is_numbers (form_named name (length ts)) (sym (ap (option_map form) (c.in-Some.is ∙ ap Some c.in-Numbers.is)) ∙ c.form_of.ensures) in
     let st : statement_of text ≡ with_form (Some numbers_form) ts = statement_is text name operands (Some numbers_form) (sym c.is_empty.ensures ∙ c.if-is_empty.false) c.split.ensures.name c.split.ensures.operands is in
-    let sizes = listed_sized ts ∙ ap size_if (sym st) in
+    let sizes = ap size_if (sym st) in
     let room = c.requires.room in
     omega (arith, sizes, room)
 
@@ -32,8 +31,8 @@ returns-in-Numbers c =
     let labels = c.args.labels.now in
     let is = is_numbers (form_named name (length ts)) (sym (ap (option_map form) (c.in-Some.is ∙ ap Some c.in-Numbers.is)) ∙ c.form_of.ensures) in
     let st : statement_of text ≡ with_form (Some numbers_form) ts = statement_is text name operands (Some numbers_form) (sym c.is_empty.ensures ∙ c.if-is_empty.false) c.split.ensures.name c.split.ensures.operands is in
-    puts_same (listed_words labels ts) (statement_words labels c.args.place (statement_of text)) (listed_size ts) (size_if (statement_of text)) c.args.words.now.items c.push_listed.new.words.items c.push_listed.result
-    (listed_said labels c.args.place ts ∙ ap (statement_words labels c.args.place) (sym st)) (listed_sized ts ∙ ap size_if (sym st)) c.push_listed.ensures
+    puts_same (statement_words labels c.args.place (with_form (Some numbers_form) ts)) (statement_words labels c.args.place (statement_of text)) (size_if (with_form (Some numbers_form) ts)) (size_if (statement_of text)) c.args.words.now.items c.push_listed.new.words.items c.push_listed.result
+    (ap (statement_words labels c.args.place) (sym st)) (ap size_if (sym st)) (c.push_listed.ensures c.args.place)
 
 pub push_row-requires-clause-fit : goal.push_row-requires-clause-fit
 push_row-requires-clause-fit c =

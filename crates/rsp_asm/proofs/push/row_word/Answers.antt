@@ -1,7 +1,7 @@
 use Rattle.std.proofs.Common.{◌∙◌, sym, ap}
 use Rattle.rsp_decode.specs.Table.{entry}
 use Rattle.rsp_text.specs.Statement.{operand_texts, read_all}
-use Rattle.rsp_asm.specs.Walks.{word_with}
+use Rattle.rsp_asm.specs.Statements.{word_with}
 use Rattle.rsp_asm.proofs.Readings.{put_read}
 use Rattle.rsp_asm.proofs.Statements.{some_readings}
 use Rattle.rsp_asm.proofs.push.row_word.Goals as goal

@@ -2,7 +2,7 @@ use Rattle.std.proofs.Common.{sym, ap, ◌∙◌, ◌<◌, ◌∷◌, arith, len
 use Rattle.std.specs.Str.Lines.{lines}
 use Rattle.rsp_text.specs.declared.text.Stop.TheVariants.{Newline}
 use Rattle.rsp_text.proofs.Cuts.{IsCut, cut_some, cut_nothing}
-use Rattle.rsp_text.specs.Chars.{stops}
+use Rattle.rsp_text.specs.Cuts.{stops}
 use Rattle.std.proofs.lemmas.Grind.{common_steps}
 use Rattle.rsp_text.proofs.Lines.{first_line, last_line}
 use Rattle.rsp_asm.proofs.source.next_line.Goals as goal

@@ -7,20 +7,20 @@ use Rattle.rsp_lines.proofs.run.answer_script.Goals as goal
 -- a read failed
 pub returns-in_default-clause-left_read : goal.returns-in_default-clause-left_read
 returns-in_default-clause-left_read g c =
-    λ _. progress-ended g.S.Answering.outcome g.S.Answering.closing g.met.S.Answering.alike c.loop-total.invariant.progress c.in_default.ensures.told (omega arith)
+    λ _. progress-ended g.S.Answering.answered g.S.Answering.closing g.met.S.Answering.alike c.loop-total.invariant.progress c.in_default.ensures.told (omega arith)
 
 -- the end of input
 pub returns-in_err-answer_end-clause-few : goal.returns-in_err-answer_end-clause-few
 returns-in_err-answer_end-clause-few g c =
     let told : g.R.Source.rest c.loop-total.source ≡ prepend_known [] (g.R.Source.rest c.read.new.self) = rw c.if-n-eq0.true at c.in-Ok.ensures.told in
-    progress-few g.S.Answering.outcome g.S.Answering.closing g.met.S.Answering.alike _ [] c.loop-total.invariant.progress told (omega arith)
+    progress-few g.S.Answering.answered g.S.Answering.closing g.met.S.Answering.alike _ [] c.loop-total.invariant.progress told (omega arith)
 
 pub returns-in_err-answer_end-clause-left_write : goal.returns-in_err-answer_end-clause-left_write
 returns-in_err-answer_end-clause-left_write g c =
     let told : g.R.Source.rest c.loop-total.source ≡ prepend_known [] (g.R.Source.rest c.read.new.self) = rw c.if-n-eq0.true at c.in-Ok.ensures.told in
     let ended : IsAtEnd (g.R.Source.rest c.read.new.self) = c.in-Ok.ensures.end c.if-n-eq0.true
     (omega (arith, c.read.auto.buf, length-take c.min-room.result c.loop-total.buffer)) in
-    λ _. progress-end_front g.S.Answering.outcome g.S.Answering.closing g.met.S.Answering.alike c.loop-total.invariant.progress told ended (omega arith)
+    λ _. progress-end_front g.S.Answering.answered g.S.Answering.closing g.met.S.Answering.alike c.loop-total.invariant.progress told ended (omega arith)
     c.in_err-answer_end.ensures.front
 
 pub returns-in_err-answer_end-clause-left_memory : goal.returns-in_err-answer_end-clause-left_memory
@@ -28,7 +28,7 @@ returns-in_err-answer_end-clause-left_memory g c =
     let told : g.R.Source.rest c.loop-total.source ≡ prepend_known [] (g.R.Source.rest c.read.new.self) = rw c.if-n-eq0.true at c.in-Ok.ensures.told in
     let ended : IsAtEnd (g.R.Source.rest c.read.new.self) = c.in-Ok.ensures.end c.if-n-eq0.true
     (omega (arith, c.read.auto.buf, length-take c.min-room.result c.loop-total.buffer)) in
-    λ _. progress-end_front g.S.Answering.outcome g.S.Answering.closing g.met.S.Answering.alike c.loop-total.invariant.progress told ended (omega arith)
+    λ _. progress-end_front g.S.Answering.answered g.S.Answering.closing g.met.S.Answering.alike c.loop-total.invariant.progress told ended (omega arith)
     c.in_err-answer_end.ensures.front
 
 pub returns-then-n-eq0-clause-written : goal.returns-then-n-eq0-clause-written
@@ -36,7 +36,7 @@ returns-then-n-eq0-clause-written g c =
     let told : g.R.Source.rest c.loop-total.source ≡ prepend_known [] (g.R.Source.rest c.read.new.self) = rw c.if-n-eq0.true at c.in-Ok.ensures.told in
     let ended : IsAtEnd (g.R.Source.rest c.read.new.self) = c.in-Ok.ensures.end c.if-n-eq0.true
     (omega (arith, c.read.auto.buf, length-take c.min-room.result c.loop-total.buffer)) in
-    if_some _ _ (λ script e. (progress-end g.S.Answering.outcome g.S.Answering.closing g.met.S.Answering.alike _ script c.loop-total.invariant.progress told ended
+    if_some _ _ (λ script e. (progress-end g.S.Answering.answered g.S.Answering.closing g.met.S.Answering.alike _ script c.loop-total.invariant.progress told ended
     (omega arith) e c.in_ok-answer_end.ensures.written c.in_ok-answer_end.ensures.session).1)
 
 pub returns-then-n-eq0-clause-session : goal.returns-then-n-eq0-clause-session
@@ -44,35 +44,35 @@ returns-then-n-eq0-clause-session g c =
     let told : g.R.Source.rest c.loop-total.source ≡ prepend_known [] (g.R.Source.rest c.read.new.self) = rw c.if-n-eq0.true at c.in-Ok.ensures.told in
     let ended : IsAtEnd (g.R.Source.rest c.read.new.self) = c.in-Ok.ensures.end c.if-n-eq0.true
     (omega (arith, c.read.auto.buf, length-take c.min-room.result c.loop-total.buffer)) in
-    if_some _ _ (λ script e. (progress-end g.S.Answering.outcome g.S.Answering.closing g.met.S.Answering.alike _ script c.loop-total.invariant.progress told ended
+    if_some _ _ (λ script e. (progress-end g.S.Answering.answered g.S.Answering.closing g.met.S.Answering.alike _ script c.loop-total.invariant.progress told ended
     (omega arith) e c.in_ok-answer_end.ensures.written c.in_ok-answer_end.ensures.session).2)
 
 pub returns-then-n-eq0-clause-few : goal.returns-then-n-eq0-clause-few
 returns-then-n-eq0-clause-few g c =
     let told : g.R.Source.rest c.loop-total.source ≡ prepend_known [] (g.R.Source.rest c.read.new.self) = rw c.if-n-eq0.true at c.in-Ok.ensures.told in
-    progress-few g.S.Answering.outcome g.S.Answering.closing g.met.S.Answering.alike _ [] c.loop-total.invariant.progress told (omega arith)
+    progress-few g.S.Answering.answered g.S.Answering.closing g.met.S.Answering.alike _ [] c.loop-total.invariant.progress told (omega arith)
 
 -- a piece
 pub returns-in_err-answer_piece-clause-few : goal.returns-in_err-answer_piece-clause-few
 returns-in_err-answer_piece-clause-few g c =
-    progress-few g.S.Answering.outcome g.S.Answering.closing g.met.S.Answering.alike _ _ c.loop-total.invariant.progress c.in-Ok.ensures.told
+    progress-few g.S.Answering.answered g.S.Answering.closing g.met.S.Answering.alike _ _ c.loop-total.invariant.progress c.in-Ok.ensures.told
     (omega (arith, c.in-Ok.ensures.bound, length-take c.in-Ok.n c.read.new.buf, length-take c.min-room.result c.loop-total.buffer))
 
 pub returns-in_err-answer_piece-clause-left_write : goal.returns-in_err-answer_piece-clause-left_write
 returns-in_err-answer_piece-clause-left_write g c =
-    λ _. progress-front g.S.Answering.outcome g.S.Answering.closing g.met.S.Answering.alike _ _ c.loop-total.invariant.progress c.in-Ok.ensures.told (omega arith)
+    λ _. progress-front g.S.Answering.answered g.S.Answering.closing g.met.S.Answering.alike _ _ c.loop-total.invariant.progress c.in-Ok.ensures.told (omega arith)
     (read_cut c.read.new.buf _ c.in-Ok.n (1048576 - c.loop-total.total) c.min-within.result (omega (arith, c.in-Ok.ensures.bound, c.read.auto.buf)) c.min-within.ensures)
     c.in_err-answer_piece.ensures.front
 
 pub returns-in_err-answer_piece-clause-left_memory : goal.returns-in_err-answer_piece-clause-left_memory
 returns-in_err-answer_piece-clause-left_memory g c =
-    λ _. progress-front g.S.Answering.outcome g.S.Answering.closing g.met.S.Answering.alike _ _ c.loop-total.invariant.progress c.in-Ok.ensures.told (omega arith)
+    λ _. progress-front g.S.Answering.answered g.S.Answering.closing g.met.S.Answering.alike _ _ c.loop-total.invariant.progress c.in-Ok.ensures.told (omega arith)
     (read_cut c.read.new.buf _ c.in-Ok.n (1048576 - c.loop-total.total) c.min-within.result (omega (arith, c.in-Ok.ensures.bound, c.read.auto.buf)) c.min-within.ensures)
     c.in_err-answer_piece.ensures.front
 
 pub loop-total-preserved : goal.loop-total-preserved
 loop-total-preserved g c = record {
-  progress = progress-more g.S.Answering.outcome g.S.Answering.closing g.met.S.Answering.alike _ _ c.in-Ok.n c.loop-total.invariant.progress c.in-Ok.ensures.told
+  progress = progress-more g.S.Answering.answered g.S.Answering.closing g.met.S.Answering.alike _ _ c.in-Ok.n c.loop-total.invariant.progress c.in-Ok.ensures.told
       (omega (arith, c.in-Ok.ensures.bound, c.read.auto.buf, length-take c.in-Ok.n c.read.new.buf)) (omega arith)
       (read_cut c.read.new.buf _ c.in-Ok.n (1048576 - c.loop-total.total) c.min-within.result (omega (arith, c.in-Ok.ensures.bound, c.read.auto.buf)) c.min-within.ensures)
       c.in_ok-answer_piece.ensures.answers;
@@ -84,5 +84,5 @@ loop-total-preserved g c = record {
 -- a script that goes on past the limit
 pub returns-clause-left_long : goal.returns-clause-left_long
 returns-clause-left_long g c =
-    progress-long g.S.Answering.outcome g.S.Answering.closing g.met.S.Answering.alike (IsErrOf (Err ScriptTooLong) ScriptTooLong)
+    progress-long g.S.Answering.answered g.S.Answering.closing g.met.S.Answering.alike (IsErrOf (Err ScriptTooLong) ScriptTooLong)
     c.loop-total.invariant.progress (omega arith)

@@ -4,7 +4,7 @@ use Rattle.rsp_lines.proofs.run.answer_script.Given as goal
 
 abbrev pub invariant-loop-total : goal.invariant-loop-total
 invariant-loop-total g l = record {
-  progress : Progress g.S.Answering.outcome (g.R.Source.rest l.initial.source) (g.R.Source.rest l.source)
+  progress : Progress g.S.Answering.answered (g.R.Source.rest l.initial.source) (g.R.Source.rest l.source)
       (g.W.Sink.written l.initial.sink) (g.W.Sink.written l.sink) l.line l.initial.session l.session l.total;
   few : l.total ≤ 1048577;
   reads : g.R.Source.fault_count l.source ≡ g.R.Source.fault_count l.initial.source;

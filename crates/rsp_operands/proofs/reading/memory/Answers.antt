@@ -2,7 +2,7 @@ use Rattle.std.proofs.Common.{ap, ◌∙◌, sym}
 use Rattle.std.specs.Prelude.{option_map}
 use Rattle.rsp_text.specs.Seen.{expression}
 use Rattle.rsp_operands.specs.Readings.{reading, capped_reading}
-use Rattle.rsp_text.specs.Statement.{base_of, offset_of, memory, memory_of}
+use Rattle.rsp_text.specs.Statement.{base_of, offset_of, memory, memory_operand}
 use Rattle.rsp_operands.proofs.Readings.{found_memory, lost_base}
 use Rattle.rsp_operands.proofs.reading.memory.Goals as goal
 
@@ -12,10 +12,10 @@ returns-in_err-base c =
     ap (option_map reading) c.from_residual-in_err-base.ensures
     ∙ ap (option_map capped_reading) (sym (lost_base slot (offset_of c.in_ok-front.front.now)))
     ∙ ap (λ b. option_map capped_reading (memory slot (offset_of c.in_ok-front.front.now) b)) c.in_err-base.ensures
-    ∙ ap (λ o. option_map capped_reading (memory_of slot o)) c.in_ok-front.ensures
+    ∙ ap (λ o. option_map capped_reading (memory_operand slot o)) c.in_ok-front.ensures
 
 pub returns : goal.returns
 returns c =
     let slot = c.args.slot in
     found_memory slot (offset_of c.in_ok-front.front.now) (expression c.in_ok-offset.field-0) c.in_ok-base.field-0 (base_of c.in_ok-front.rest.now) c.in_ok-offset.ensures c.in_ok-base.ensures
-    ∙ ap (λ o. option_map capped_reading (memory_of slot o)) c.in_ok-front.ensures
+    ∙ ap (λ o. option_map capped_reading (memory_operand slot o)) c.in_ok-front.ensures

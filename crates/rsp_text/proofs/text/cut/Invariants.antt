@@ -1,5 +1,5 @@
 use Rattle.std.proofs.Common.{◌≡◌, take, true}
-use Rattle.rsp_text.specs.Chars.{stops}
+use Rattle.rsp_text.specs.Cuts.{stops}
 use Rattle.rsp_text.proofs.Cuts.{no}
 use Rattle.rsp_text.proofs.text.cut.Given as goal
 

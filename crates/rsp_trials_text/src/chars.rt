@@ -1,0 +1,26 @@
+use rsp_chars::{
+    is_blank, is_line, is_name_byte, is_name_start, is_plain, is_text, skip_blanks, trim,
+    without_return,
+};
+
+#[test]
+fn tells_bytes_apart(rt: HostRuntime) {
+    assert!(rt; is_blank(b' ') && is_blank(b'\t') && !is_blank(b'\n'));
+    assert!(rt; is_plain(b'\t') && is_plain(b'~') && !is_plain(0x7f));
+    assert!(rt; is_name_start(b'_') && !is_name_start(b'7'));
+    assert!(rt; is_name_byte(b'7') && !is_name_byte(b'-'));
+}
+
+#[test]
+fn takes_blanks_away(rt: HostRuntime) {
+    assert!(rt; trim(b" \t4($1) ") == b"4($1)".as_slice());
+    assert!(rt; skip_blanks(b"\t x ") == b"x ".as_slice());
+}
+
+#[test]
+fn tells_lines_apart(rt: HostRuntime) {
+    assert!(rt; is_text(b"break # \t") && !is_text(b"break\r"));
+    assert!(rt; is_line(&[b'x'; 256]) && !is_line(&[b'x'; 257]));
+    assert!(rt; without_return(b"break\r") == b"break".as_slice());
+    assert!(rt; without_return(b"break") == b"break".as_slice());
+}
