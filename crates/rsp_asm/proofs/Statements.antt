@@ -4,12 +4,11 @@ use Rattle.std.specs.Prelude.{Option, Some, None, option_map, Result, Ok, Err, i
 use Rattle.std.specs.List.{list_any, before_first, after_first}
 use Rattle.std.proofs.lemmas.Bool.{cond-false}
 use Rattle.std.proofs.lemmas.List.{drop_at}
-use Rattle.rsp_decode.specs.Table.{Row, places}
+use Rattle.rsp_decode.specs.Table.{Row, places, Entry, entry_of}
 use Rattle.rsp_text.specs.declared.fault.AsmFaultKind.{AsmFaultKind}
 use Rattle.rsp_text.specs.declared.fault.AsmFaultKind.TheVariants.{OutOfRange, BadOperand}
 use Rattle.rsp_text.specs.declared.text.Stop.TheVariants.{Blank}
 use Rattle.rsp_text.specs.Cuts.{stops}
-use Rattle.rsp_decode.specs.Table.{Entry}
 use Rattle.rsp_text.specs.Source.{Parts, parts_of, size_if, size_in, size_of, statement_words, parts_words, line_words}
 use Rattle.rsp_text.specs.Statement.{Labels, Reading, nothing, numbers, instruction, Form, no_operation, numbers_form, row_form, read_all, read_numbers, form_named, form_readings, with_operands, with_form, statement_of, operand_texts, all_fields, with_values, one_word}
 use Rattle.rsp_asm.specs.Statements.{checked, checked_readings, counted, row_words, row_size, word_with, single, Pushed, Puts}

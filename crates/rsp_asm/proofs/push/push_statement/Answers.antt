@@ -7,6 +7,7 @@ use Rattle.rsp_text.specs.Statement.{statement_of, operand_texts, form_named, wi
 use Rattle.rsp_asm.specs.Forms.{form}
 use Rattle.rsp_asm.specs.Statements.{row_words, row_size}
 use Rattle.rsp_asm.proofs.Forms.{is_numbers, is_row}
+use Rattle.rsp_asm.proofs.Decodes.{form_usable}
 use Rattle.rsp_asm.proofs.Statements.{statement_is, row_said, row_sized, puts_same}
 use Rattle.rsp_asm.proofs.push.push_statement.Goals as goal
 
