@@ -8,28 +8,28 @@ use Rattle.rsp_decode.specs.Table.Places.{value_at, whole}
 
 -- $d, $s, $t
 abbrev pub register_fields : List ℕ → RegisterFields
-register_fields fs = record { rd = slice_index fs 0; rs = slice_index fs 1; rt = slice_index fs 2 }
+register_fields values = record { rd = slice_index values 0; rs = slice_index values 1; rt = slice_index values 2 }
 
 abbrev pub register_values : RegisterFields → List ℕ
 register_values f = f.rd ∷ f.rs ∷ f.rt ∷ []
 
 -- $d, $t, $s
 abbrev pub shift_by_fields : List ℕ → RegisterFields
-shift_by_fields fs = record { rd = slice_index fs 0; rs = slice_index fs 2; rt = slice_index fs 1 }
+shift_by_fields values = record { rd = slice_index values 0; rs = slice_index values 2; rt = slice_index values 1 }
 
 abbrev pub shift_by_values : RegisterFields → List ℕ
 shift_by_values f = f.rd ∷ f.rt ∷ f.rs ∷ []
 
 -- $t, offset($base)
 abbrev pub scalar_memory_fields : List ℕ → ScalarMemoryFields
-scalar_memory_fields fs = record { rt = slice_index fs 0; offset = slice_index fs 1; base = slice_index fs 2 }
+scalar_memory_fields values = record { rt = slice_index values 0; offset = slice_index values 1; base = slice_index values 2 }
 
 abbrev pub scalar_memory_values : ScalarMemoryFields → List ℕ
 scalar_memory_values f = f.rt ∷ f.offset ∷ f.base ∷ []
 
 -- $vD, $vS, $vT[e]
 abbrev pub vector_fields : List ℕ → VectorFields
-vector_fields fs = record { vd = slice_index fs 0; vs = slice_index fs 1; vt = slice_index fs 2; element = slice_index fs 3 }
+vector_fields values = record { vd = slice_index values 0; vs = slice_index values 1; vt = slice_index values 2; element = slice_index values 3 }
 
 abbrev pub vector_values : VectorFields → List ℕ
 vector_values f = f.vd ∷ f.vs ∷ f.vt ∷ f.element ∷ []
@@ -40,7 +40,7 @@ IsVectorFields f = (f.vd < 32) × (f.vs < 32) × (f.vt < 32) × (f.element < 16)
 
 -- $vT[e], offset($base)
 abbrev pub vector_memory_fields : List ℕ → VectorMemoryFields
-vector_memory_fields fs = record { vt = slice_index fs 0; element = slice_index fs 1; offset = slice_index fs 2; base = slice_index fs 3 }
+vector_memory_fields values = record { vt = slice_index values 0; element = slice_index values 1; offset = slice_index values 2; base = slice_index values 3 }
 
 abbrev pub vector_memory_values : VectorMemoryFields → List ℕ
 vector_memory_values f = f.vt ∷ f.element ∷ f.offset ∷ f.base ∷ []
