@@ -1,7 +1,7 @@
 use rsp_decode::Operand;
 use rsp_script::LineFault;
 use rsp_text::{
-    AsmFaultStop, control, cut, element, find_row, is_label, is_same, number,
+    AsmFaultKind, Stop, control, cut, element, find_row, is_label, is_same, number,
     read_expression, scalar, small_number, sp_register, unsigned, vector,
 };
 
