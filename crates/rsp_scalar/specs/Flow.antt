@@ -1,5 +1,5 @@
--- What a branch or a jump does to npc, and to the register that it links. npc is the place of the next instruction, in the
--- delay slot of a branch. A place is an address of IMEM: a multiple of 4 below 4096.
+-- What a branch or a jump does to npc, and to the register that it links. npc is the place of the instruction
+-- that is executed next: the delay slot. A place is an address of IMEM, a multiple of 4 below 4096.
 use Rattle.std.specs.Prelude.{ℕ, ◌+◌, ◌%◌, if◌then◌else◌, List}
 use Rattle.rsp_decode.specs.declared.inst.Inst.{Inst}
 use Rattle.rsp_decode.specs.declared.inst.Inst.TheVariants.{JumpLinkRegister, BranchSign, Jump}

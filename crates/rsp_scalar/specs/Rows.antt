@@ -132,7 +132,7 @@ is_taken (BranchEqual row rs rt offset) r = equal_test row (register r rs) (regi
 is_taken (Jump row target) r = true
 is_taken _ r = false
 
--- npc + 4 * offset, modulo 4096: npc is the place after the branch
+-- npc + 4 * offset, modulo 4096: npc is the place of the delay slot
 abbrev pub branch_target : ℕ → ℕ → ℕ
 branch_target npc offset = modulo (pos npc +ℤ (pos 4 *ℤ s16 offset)) 4096
 
