@@ -1,4 +1,5 @@
--- The divider: what a divide row writes into its lane, and what it keeps for the next.
+-- The divider: what a divide row writes into its lane, and what it keeps for the next. `input` is DIV_IN, `output` is
+-- DIV_OUT, and `loaded` is the mark that DIV_IN is loaded.
 use Rattle.std.specs.Prelude.{ℕ, ℤ, ◌+◌, ◌*◌, true, false, if◌then◌else◌, Option, Some, None}
 use Rattle.rsp_numbers.specs.Numbers.{s16, s32, sixteen_bits, upper_bits}
 use Rattle.rsp_divide.specs.declared.divider.Divider.{Divider}
