@@ -1,3 +1,4 @@
+-- Assembly: from a source text to its words.
 pub mod Parts
 pub mod Operands
 pub mod Statements

@@ -1,4 +1,4 @@
--- The operands that are left of a statement, as the code has them.
+-- The operands that are left of a statement, as the code has them. This is scaffolding of the proofs.
 use Rattle.std.specs.Prelude.{ℕ, List, [], Option, Some, None, map}
 use Rattle.std.specs.List.{slice_split}
 use Rattle.rsp_chars.specs.Chars.{trim}

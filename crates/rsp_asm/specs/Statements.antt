@@ -1,4 +1,5 @@
--- What the two passes say of a statement.
+-- What the two passes of the code say of a statement. This is scaffolding of the proofs: what a statement means is in the
+-- definitions of rsp_text.
 use Rattle.std.specs.Prelude.{◌≡◌, ℕ, List, [], ◌∷◌, ◌++◌, length, flat_map, Option, Some, None, Result, Ok, Err, MatchResult, if◌then◌else◌}
 use Rattle.std.specs.List.{list_any}
 use Rattle.rsp_decode.specs.Table.{places}

@@ -1,4 +1,4 @@
--- Lines of more than 256 bytes are answered alike.
+-- A proof: lines of more than 256 bytes get the same answer.
 use Rattle.std.proofs.Common.{◌≡◌, ℕ, ◌<◌, List, length, Bool, true, false, ap, sym, ◌∙◌}
 use Rattle.rsp_lines.specs.Replies.{AnswersLongAlike}
 use Rattle.rsp_script.specs.Line.{command_of}

@@ -52,8 +52,8 @@ TellsSteps k reply =
 
 -- ---- lines that are exchanged
 
--- Of a script of the lines p, some lines and the lines q, where others take the place of those between: the replies to p and
--- to q stay, and so does the session at the end, with what is left to say there and the image.
+-- Two scripts: the lines p, some lines and the lines q; and the same with others in place of those between. The replies to p
+-- and to q are the same in both, and so is the session at the end.
 pub record IsExchange (p lines others q : List (List ℕ)) (s : SessionState) : Type 0 where
   pub after : SessionState
   pub replies_with : replies line_answer (p ++ (lines ++ q)) s
@@ -63,7 +63,7 @@ pub record IsExchange (p lines others q : List (List ℕ)) (s : SessionState) : 
   pub session_with : final line_answer (p ++ (lines ++ q)) s ≡ final line_answer q after
   pub session_without : final line_answer (p ++ (others ++ q)) s ≡ final line_answer q after
 
--- as many lines `step` as the steps that a line's reply tells take its place
+-- a line is exchanged for as many lines `step` as its reply tells steps
 pub record IsStepLines (p : List (List ℕ)) (line : List ℕ) (q : List (List ℕ)) (s : SessionState) : Type 0 where
   pub count : ℕ
   pub told : TellsSteps count (line_answer line (final line_answer p s)).reply

@@ -1,1 +1,2 @@
+-- What a text is made of.
 pub mod Chars

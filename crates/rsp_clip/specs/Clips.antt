@@ -9,11 +9,11 @@ use Rattle.rsp_flags.specs.Outcome.{Outcome, Rule, plain}
 use Rattle.rsp_clip.specs.declared.op.ClipOp.{ClipOp}
 use Rattle.rsp_clip.specs.declared.op.ClipOp.TheVariants.{Vcl, Vch, Vcr}
 
--- whether just one of the two is negative
+-- whether just one of the signed readings is negative
 abbrev pub signs_differ : ℕ → ℕ → Bool
 signs_differ a b = bool_xor (int_lt (s16 a) (pos 0)) (int_lt (s16 b) (pos 0))
 
--- the sum where the signs differ, and the difference where they agree
+-- of the signed readings the sum where their signs differ, else the difference
 abbrev pub sum_or_difference : ℕ → ℕ → ℤ
 sum_or_difference a b = if signs_differ a b then s16 a +ℤ s16 b else s16 a -ℤ s16 b
 
@@ -29,7 +29,7 @@ by_compare limit a compare clip = plain (if compare then limit else a) (compare_
 abbrev pub by_clip : ℕ → ℕ → Bool → Bool → Outcome
 by_clip b a compare clip = plain (if clip then b else a) (compare_flags compare clip)
 
--- VCH where the signs differ: n is sa + sb, and the limit -b
+-- VCH where the signs differ: n is the sum of the signed readings, and the limit is -b
 abbrev pub vch_signs_differ : ℕ → ℕ → ℤ → Outcome
 vch_signs_differ a b n =
     plain (if int_le n (pos 0) then negated b else a)
@@ -41,7 +41,7 @@ vch_signs_differ a b n =
       extra = int_eq n (negsuc 0);
     })
 
--- VCH where they agree: n is sa - sb, and the limit b
+-- VCH where they agree: n is the signed reading of a less that of b, and the limit is b
 abbrev pub vch_signs_agree : ℕ → ℕ → ℤ → Outcome
 vch_signs_agree a b n =
     plain (if int_le (pos 0) n then b else a)

@@ -31,10 +31,10 @@ break_fault place breaks =
 unfoldable pub table : (ℕ → Bool) → ℕ → List Bool
 table test n = map test (range_with_len 0 n)
 
--- whether a bit is set, of sixteen words
+-- scaffolding of proofs: whether bit i is set, of sixteen words of 64 bits
 abbrev pub is_set : List ℕ → ℕ → Bool
 is_set words i = bit_at (slice_index words (i / 64)) (i % 64) == 1
 
--- the truth values of 1024 bits
+-- the truth values of their 1024 bits
 unfoldable pub places_of : List ℕ → List Bool
 places_of words = table (is_set words) 1024

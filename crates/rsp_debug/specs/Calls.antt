@@ -1,4 +1,4 @@
--- Calls of a debugger, one after the other.
+-- What calls of a debugger come to, one after the other, and the laws of runs and of ways back.
 use Rattle.std.specs.Prelude.{◌≡◌, ◌<◌, ◌≤◌, ◌+◌, ◌-◌, ℕ, List, [], ◌∷◌, length, Bool, ◌&&◌, nat_le, Option, if◌then◌else◌}
 use Rattle.rsp_machine.specs.State.{State}
 use Rattle.rsp_machine.specs.Step.{step_of}

@@ -1,4 +1,4 @@
--- The bytes of watches, as they were when a run began: what its loop compares with.
+-- Scaffolding of proofs: the bytes of watches as they were when a run began, with which its loop compares. Stops has the meaning.
 use Rattle.std.specs.Prelude.{◌≤◌, ℕ, List, map, position, Bool, false, not, bytes_eq, Option, Some, None, option_map}
 use Rattle.rsp_debug.specs.declared.stop.Watch.{Watch}
 use Rattle.rsp_debug.specs.declared.held.Held.{Held}

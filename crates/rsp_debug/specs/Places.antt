@@ -1,4 +1,4 @@
--- Places in a ring of n.
+-- Scaffolding of proofs: places in a ring of n slots, which holds the records that lead back.
 use Rattle.std.specs.Prelude.{ℕ, ◌+◌, ◌-◌, ◌==◌, ◌<◌, ◌≤◌, List, ◌++◌, length, take, drop, if◌then◌else◌}
 
 -- the place after a place

@@ -1,4 +1,4 @@
--- What the loop of a run asks.
+-- Scaffolding of proofs: what the loop of a run asks. Stops has the meaning.
 use Rattle.std.specs.Prelude.{List, [], ◌∷◌, Bool, Option, option_map}
 use Rattle.rsp_machine.specs.State.{State}
 use Rattle.rsp_debug.specs.declared.held.Held.{Held}

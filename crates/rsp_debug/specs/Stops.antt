@@ -22,7 +22,7 @@ is_changed before dmem (Some w) = not (bytes_eq (watched w before) (watched w dm
 unfoldable pub changed : List (Option Watch) → List ℕ → List ℕ → Option ℕ
 changed watches before dmem = position (is_changed before dmem) watches
 
--- whether a place of IMEM, a multiple of 4, has a breakpoint: of each place a truth value
+-- whether a place of IMEM has a breakpoint: `breaks` has a truth value for each of the 1024 places
 abbrev pub is_break : List Bool → ℕ → Bool
 is_break breaks place = slice_index_or breaks (place / 4) false
 

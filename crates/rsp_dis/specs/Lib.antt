@@ -1,1 +1,2 @@
+-- Disassembly: the room that a text needs.
 pub mod Room

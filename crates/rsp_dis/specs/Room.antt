@@ -1,4 +1,5 @@
--- What the code needs of the rows of the table: the numbers of their operands, and that their texts are short.
+-- Scaffolding of the proofs. What the code needs of the rows of the table: the numbers of their operands, and that their
+-- texts are short.
 use Rattle.std.specs.Prelude.{nat_le, Bool, ◌&&◌, length}
 use Rattle.std.specs.List.{list_all}
 use Rattle.rsp_decode.specs.Table.{Entry, is_row_operand}

@@ -1,9 +1,10 @@
--- The divider: what a divide row writes into its lane, and what it keeps for the next.
+-- The divider: what a divide row writes into its lane, and what it keeps for the next. `input` is DIV_IN, `output` is
+-- DIV_OUT, and `loaded` is the mark that DIV_IN is loaded.
 use Rattle.std.specs.Prelude.{ℕ, ℤ, ◌+◌, ◌*◌, true, false, if◌then◌else◌, Option, Some, None}
 use Rattle.rsp_numbers.specs.Numbers.{s16, s32, sixteen_bits, upper_bits}
 use Rattle.rsp_divide.specs.declared.divider.Divider.{Divider}
 
--- as at the start
+-- the divider at the start
 abbrev pub no_divider : Divider
 no_divider = record { input = 0; output = 0; loaded = false }
 
@@ -12,14 +13,14 @@ pub record Division : Type 0 where
   pub lane : Option ℕ
   pub divider : Divider
 
--- a quotient is written: its low half into the lane, its high half into the divider, and the mark is cleared
+-- a quotient is written: its low half into the lane, its high half into the divider; and `loaded` is cleared
 abbrev pub divided : Divider → ℤ → Division
 divided d q = record {
   lane = Some (sixteen_bits q);
   divider = record { input = d.input; output = upper_bits q; loaded = false };
 }
 
--- the high half of an operand is kept and the mark set, and the high half of the last quotient is written
+-- the high half of an operand is kept, `loaded` is set, and the high half of the last quotient is written
 abbrev pub loaded : Divider → ℕ → Division
 loaded d source = record { lane = Some d.output; divider = record { input = source; output = d.output; loaded = true } }
 
@@ -31,6 +32,6 @@ moved d lane = record { lane = Some lane; divider = d }
 abbrev pub idle : Divider → Division
 idle d = record { lane = None; divider = d }
 
--- the operand of VRCPL and VRSQL: 32 bits where the mark is set, else 16, as a signed number
+-- the operand of VRCPL and VRSQL, as a signed number: where `loaded` is set 32 bits, else 16
 abbrev pub operand : Divider → ℕ → ℤ
 operand d source = if d.loaded then s32 (d.input * 65536 + source) else s16 source

@@ -1,4 +1,4 @@
--- The divide rows.
+-- The divide rows: what each writes into vd, into the divider and into the accumulators.
 use Rattle.std.specs.Prelude.{ℕ, ℤ, ◌%◌, Option, Some, None, List, slice_set, slice_index}
 use Rattle.rsp_lanes.specs.Lanes.{selected}
 use Rattle.rsp_numbers.specs.Numbers.{s16}

@@ -3,7 +3,7 @@ use Rattle.std.specs.Prelude.{ℕ, Bool, false, slice_index_or}
 use Rattle.rsp_lanes.specs.Lanes.{each_lane}
 use Rattle.rsp_flags.specs.declared.flags.Flags.{Flags}
 
--- the flags of one lane
+-- The flags of one lane. Carry and not-equal (`differ`) are in VCO, compare and clip in VCC, and extra is in VCE.
 pub record LaneFlags : Type 0 where
   pub carry : Bool
   pub differ : Bool

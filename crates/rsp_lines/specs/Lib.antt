@@ -1,3 +1,4 @@
+-- Scripts that are answered in pieces.
 pub mod Answers
 pub mod Faults
 pub mod Left

@@ -30,7 +30,7 @@ open_after line (b ∷ text) = if is_newline b then open_after [] text else open
 abbrev pub last_line : List ℕ → List (List ℕ)
 last_line line = if length line == 0 then [] else line ∷ []
 
--- what is kept of a line
+-- what is kept of a line: as much as tells that it has more than 256 bytes, even where the last one is a carriage return
 unfoldable pub kept : List ℕ → List ℕ
 kept line = take 258 line
 

@@ -11,15 +11,15 @@ use Rattle.rsp_decode.specs.declared.inst.MoveRow.TheVariants.{From, To}
 use Rattle.rsp_decode.specs.declared.inst.Control.{Control}
 use Rattle.rsp_decode.specs.declared.inst.Control.TheVariants.{Vco, Vcc, Vce}
 
--- the sixteen bits of VCO or of VCC: eight marks in bits 0 to 7, and eight in bits 8 to 15
+-- the sixteen bits of VCO or of VCC: eight flags in bits 0 to 7, and eight in bits 8 to 15
 abbrev pub control_half : List Bool → List Bool → ℕ
 control_half low high = mask_l low + mask_l high * 256
 
--- bits 0 to 7 of a number as marks
+-- bits 0 to 7 of a number as the flags of lanes 0 to 7
 abbrev pub marks : ℕ → List Bool
 marks n = each_lane (λ i. bit_set n i)
 
--- a control register as a number of 32 bits: VCO and VCC are signed, VCE is not
+-- a control register as a number of 32 bits: bit 15 of VCO and VCC is repeated above, VCE has 0 there
 abbrev pub control_word : Control → Flags → ℕ
 control_word Vco f = extended w16 (control_half f.carry f.differ)
 control_word Vcc f = extended w16 (control_half f.compare f.clip)

@@ -70,9 +70,9 @@ task_fault a image =
     else if nat_le 1 (boot_size a image) && nat_le (boot_size a image) 4096 then None
     else Some TaskSize
 
--- The state after a task's start: the 64 bytes of its structure stand in DMEM from FC0 hex on, and its boot code in IMEM from 0 on,
--- where the bytes past the image's end are 0; IMEM's other bytes stay. intbreak is set, and halted, broke and signals 0 to 2
--- are cleared.
+-- The state after a task's start. The 64 bytes of its structure stand in DMEM from FC0 hex on, and its boot code in IMEM from
+-- 0 on. Boot code past the image's end is 0, and IMEM's other bytes stay. intbreak is set, and halted, broke and signals 0 to
+-- 2 are cleared.
 unfoldable pub tasked : ℕ → State → State
 tasked a s = record s {
   dmem = copied_in s.rdram s.dmem (pairs (one_run 4032 a 64));

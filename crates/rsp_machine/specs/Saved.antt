@@ -1,4 +1,4 @@
--- What a step keeps of the state before it, and how that leads back.
+-- What a step keeps of the state before it, and how that leads back: for the debugger. What an instruction does is in Step.
 use Rattle.std.specs.Prelude.{ℕ, ℤ, pos, ◌<◌, ◌+◌, ◌-◌, ◌%◌, ◌==◌, ◌||◌, Bool, true, false, not, if◌then◌else◌, List, [], ◌∷◌, Option, Some, None, replicate}
 use Rattle.rsp_decode.specs.declared.inst.Inst.{Inst}
 use Rattle.rsp_decode.specs.declared.inst.Inst.TheVariants.{Shift, ShiftBy, JumpRegister, JumpLinkRegister, Break, Register, BranchSign, BranchEqual, Jump, Immediate, LoadUpper, Load, Store, MoveSp, MoveVector, MoveControl, Multiply, Round, MpegMultiply, ReadAccumulator, VectorAdd, VectorSelect, VectorClip, VectorMerge, VectorLogic, Divide, Idle, VectorLoad, VectorStore}
@@ -80,14 +80,14 @@ with_group file n vs =
     let half = with_vector (with_vector (with_vector (with_vector file n (vector vs 0)) (n + 1) (vector vs 1)) (n + 2) (vector vs 2)) (n + 3) (vector vs 3) in
     with_vector (with_vector (with_vector (with_vector half (n + 4) (vector vs 4)) (n + 5) (vector vs 5)) (n + 6) (vector vs 6)) (n + 7) (vector vs 7)
 
--- a slot with the flags of VCO kept; with those of VCC too
+-- flags in which VCO is that of `old`; and in which VCC is too
 abbrev pub with_vco : Flags → Flags → Flags
 with_vco old f = record f { carry = old.carry; differ = old.differ }
 
 abbrev pub with_both : Flags → Flags → Flags
 with_both old f = record (with_vco old f) { compare = old.compare; clip = old.clip }
 
--- a slot in which is kept what stands in a state before a change
+-- a record after it has kept what a change will write over
 unfoldable pub saved : Change → State → Saved → Saved
 saved (of.Register n) s r = record r { word = register s.registers n }
 saved (of.Bytes a) s r = record r { bytes = bytes_at s.dmem a 16 }
@@ -102,7 +102,7 @@ saved of.Flags s r = record r { flags = s.flags }
 saved (of.Sp n) s r = record r { word = register s.registers n; sp = s.sp }
 saved _ s r = r
 
--- a change as a slot holds it: the register that a computing row writes is read again from its word, in IMEM
+-- a change as a record holds it: the register that a computing row writes isn't kept, since the row's word in IMEM tells it
 abbrev pub nameless : Change → Change
 nameless (of.Product n) = of.Product 0
 nameless (of.Sum n) = of.Sum 0
@@ -164,7 +164,7 @@ abbrev pub sp_move_change : MoveRow → ℕ → ℕ → Change
 sp_move_change From rt n = of.Sp rt
 sp_move_change To rt n = if is_length n then of.Dma else of.Sp 0
 
--- what an instruction changes of a state, besides the places
+-- what an instruction changes of a state, besides pc and npc
 unfoldable pub change_of : Inst → State → Change
 change_of (Shift row rd rt amount) s = of.Register rd
 change_of (ShiftBy row f) s = of.Register f.rd
@@ -201,7 +201,7 @@ change_of (VectorStore row f) s =
 abbrev pub kept : Inst → State → Saved → Saved
 kept i s r = kept_change (change_of i s) s r
 
--- A keeper after a step: it was told what the instruction changes, where there was one.
+-- What keeps records, after a step: it is told what the instruction changes, where there is one.
 abbrev pub told_by : {K : Type 0} → (Change → State → K → K) → Option Inst → State → K → K
 told_by keeps None s k = k
 told_by keeps (Some i) s k = keeps (change_of i s) s k
@@ -214,7 +214,7 @@ abbrev pub starts_dma : Inst → Bool
 starts_dma (MoveSp To rt n) = is_length n
 starts_dma _ = false
 
--- what stands in a slot after a step, and whether the step can be undone by it: it was done, and started no DMA
+-- a record after a step, and whether the step can be undone by it: it was done, and started no DMA
 abbrev pub kept_by : Option Inst → State → Saved → Saved
 kept_by o s r = told_by kept_change o s r
 

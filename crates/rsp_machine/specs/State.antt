@@ -20,7 +20,7 @@ pub record State : Type 0 where
   pub vectors : List (List ℕ)  -- 32 registers of eight numbers below 2^16
   pub accumulators : List ℤ  -- eight numbers from -2^47 to 2^47 - 1
   pub flags : Flags  -- five flags of each lane
-  pub divider : Divider  -- two numbers below 2^16 and a mark
+  pub divider : Divider  -- DIV_IN and DIV_OUT, below 2^16, and the mark that DIV_IN is loaded
   pub dmem : List ℕ  -- 4096 bytes
   pub imem : List ℕ  -- 4096 bytes
   pub rdram : List ℕ  -- as many bytes as the image has

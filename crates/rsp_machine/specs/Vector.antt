@@ -47,7 +47,7 @@ multiplies_mpeg row f s =
     let after = accumulators_mpeg (mpeg_op row) (vector s.vectors f.vs) (selected (vector s.vectors f.vt) f.element) s.accumulators in
     advanced (record s { accumulators = after; vectors = with_vector s.vectors f.vd (halved_mpeg after) })
 
--- a read of the accumulators into vd, by the element
+-- VSAR: sixteen bits of each accumulator into vd, as the element selects them
 unfoldable pub reads_accumulator : VectorFields → State → State
 reads_accumulator f s = advanced (record s { vectors = with_vector s.vectors f.vd (sar_of f.element s.accumulators) })
 
@@ -80,7 +80,7 @@ loads_vector row f s =
     let a = transfer_address i (register s.registers f.base) in
     advanced (record s { vectors = loaded_file i a s.dmem s.vectors })
 
--- a vector store to DMEM, at such an address
+-- a vector store to DMEM, at the same address
 unfoldable pub stores_vector : VectorStoreRow → VectorMemoryFields → State → State
 stores_vector row f s =
     let i = VectorStore row f in

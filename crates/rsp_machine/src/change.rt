@@ -6,7 +6,7 @@ ghost use Rattle.rsp_machine.specs.Saved.{IsChange, sign_change, jump_change, lo
 
 use rsp_decode::{Inst, JumpRow, MoveRow, SignRow, VectorLoadRow};
 
-/// What an instruction changes of a machine besides the places, with the register or the address that it names. Register
+/// What an instruction changes of a machine besides pc and npc, with the register or the address that it names. Register
 /// numbers are words here, since a step stores one: the lower half of a word costs two instructions more.
 #[derive(Clone, Copy)]
 pub(crate) enum Change {

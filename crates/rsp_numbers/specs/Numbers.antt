@@ -14,11 +14,11 @@ modulo z m = unsigned_abs (int_rem_euclid z (pos m))
 abbrev pub sixteen_bits : ℤ → ℕ
 sixteen_bits z = modulo z 65536
 
--- the sixteen bits above these
+-- bits 31 to 16 of a number, a negative one in two's complement
 abbrev pub upper_bits : ℤ → ℕ
 upper_bits z = sixteen_bits (floor_div z 65536)
 
--- sixteen bits, each of them turned
+-- the sixteen bits of n, each inverted
 abbrev pub complement : ℕ → ℕ
 complement n = 65535 - n
 

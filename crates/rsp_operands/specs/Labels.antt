@@ -1,4 +1,4 @@
--- The labels of the code's table.
+-- Scaffolding of the contracts: the labels of the code's table.
 use Rattle.std.specs.Prelude.{◌≡◌, ℕ, List, map}
 use Rattle.std.specs.Borrow.{Bor}
 use Rattle.rsp_text.specs.Statement.{Labels, find_label}

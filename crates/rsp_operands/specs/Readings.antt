@@ -1,4 +1,5 @@
--- What the code read of an operand.
+-- What the values of the code say of an operand. This is scaffolding of the contracts: what its text says is in Statement of
+-- rsp_text.
 use Rattle.std.specs.Prelude.{[], ◌∷◌, option_map}
 use Rattle.rsp_text.specs.Seen.{expression, capped_expression}
 use Rattle.rsp_text.specs.Statement as statement

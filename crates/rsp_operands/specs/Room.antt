@@ -1,4 +1,4 @@
--- The room that the fields of an operand have in a word.
+-- Scaffolding of the contracts: the room that the fields of an operand have in a word.
 use Rattle.std.specs.Prelude.{ℕ, ◌<◌, ◌≤◌, ◌^◌, List, [], ◌∷◌}
 use Rattle.rsp_decode.specs.Table.{Operand, places, with_fields}
 

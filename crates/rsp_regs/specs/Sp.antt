@@ -34,7 +34,7 @@ start = record {
   dpc = replicate 8 0;
 }
 
--- what a mark adds to a word
+-- what a flag adds to a word: the weight of its bit where it is set
 abbrev pub flag : Bool → ℕ → ℕ
 flag b weight = if b then weight else 0
 
@@ -68,7 +68,7 @@ after_read n s = if n % 16 == 7 then record s { semaphore = true } else s
 abbrev pub bit_set : ℕ → ℕ → Bool
 bit_set v n = v / 2 ^ n % 2 == 1
 
--- a mark under the bit that clears it and the next one, which sets it; both, or neither, change nothing
+-- a flag after a write of v: bit n clears it, and bit n + 1 sets it; both, or neither, change nothing
 abbrev pub paired : ℕ → ℕ → Bool → Bool
 paired v n old = if bit_set v n then (if bit_set v (n + 1) then old else false) else (if bit_set v (n + 1) then true else old)
 
@@ -102,7 +102,8 @@ moved t s = record s {
   skip = t.skip;
 }
 
--- the registers after a write of v to register n: 0 keeps bits 12 to 3, 1 keeps bits 23 to 3, any write clears the semaphore
+-- The registers after a write of v to register n. 0 keeps bits 12 to 3 of v, and 1 bits 23 to 3. 2 and 3 start a DMA, 4 is
+-- SP_STATUS, and 7 is cleared whatever v is. 5 and 6 keep nothing, and the DPC registers, 8 to 15, all of v.
 unfoldable pub written : ℕ → ℕ → Sp → Sp
 written n v s =
     let k = n % 16 in

@@ -1,7 +1,7 @@
 ghost use Rattle.std.specs.Prelude.{◌≡◌, ◌≤◌, ◌<◌};
 ghost use Rattle.rsp_regs.specs.Sp.{flag, bit_set, paired};
 
-/// The weight of a mark that is set, else 0.
+/// The weight of a flag that is set, else 0.
 #[inline]
 pub(crate) fn flag(value: bool, weight: u32) -> u32
     ensures value { result ≡ flag value weight }
@@ -19,7 +19,7 @@ pub(crate) fn bit_set(value: u32, n: u32) -> bool
     value >> n & 1 == 1
 }
 
-/// A mark under bit `n` of a word, which clears it, and the next one, which sets it.
+/// A flag after a write of a word: bit `n` clears it, and the next bit sets it; both, or neither, change nothing.
 #[inline]
 pub(crate) fn paired(value: u32, n: u32, old: bool) -> bool
     requires { n < 31 }

@@ -1,4 +1,5 @@
--- What a branch or a jump does to the places, and to the register that it links.
+-- What a branch or a jump does to npc, and to the register that it links. npc is the place of the instruction
+-- that is executed next: the delay slot. A place is an address of IMEM, a multiple of 4 below 4096.
 use Rattle.std.specs.Prelude.{ℕ, ◌+◌, ◌%◌, if◌then◌else◌, List}
 use Rattle.rsp_decode.specs.declared.inst.Inst.{Inst}
 use Rattle.rsp_decode.specs.declared.inst.Inst.TheVariants.{JumpLinkRegister, BranchSign, Jump}
@@ -15,7 +16,7 @@ going_on npc = (npc + 4) % 4096
 abbrev pub following : Inst → List ℕ → ℕ → ℕ
 following i r npc = if is_taken i r then target_of i r npc else going_on npc
 
--- the registers after the link is written, taken or not: the place after npc, into rd or register 31
+-- the registers after the link is written: the place after npc, into rd or register 31, even where the branch isn't taken
 abbrev pub linked : Inst → List ℕ → ℕ → List ℕ
 linked (JumpLinkRegister rd rs) r npc = with_register r rd (going_on npc)
 linked (BranchSign Bltzal rs offset) r npc = with_register r 31 (going_on npc)

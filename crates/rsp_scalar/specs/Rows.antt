@@ -49,7 +49,7 @@ shift_by_result Sllv t s = shifted_left t (s % 32)
 shift_by_result Srlv t s = shifted_right t (s % 32)
 shift_by_result Srav t s = shifted_signed t (s % 32)
 
--- rows of two registers, s and t
+-- rows of two registers, s and t; ADD and SUB never trap
 abbrev pub register_result : RegisterRow → ℕ → ℕ → ℕ
 register_result Add s t = (s + t) % 2 ^ 32
 register_result Addu s t = (s + t) % 2 ^ 32
@@ -62,7 +62,7 @@ register_result Nor s t = 2 ^ 32 - 1 - bit_or s t
 register_result Slt s t = truth (int_lt (s32 s) (s32 t))
 register_result Sltu s t = truth (nat_lt s t)
 
--- rows of a register and sixteen bits
+-- rows of a register and sixteen bits; ADDI never traps
 abbrev pub immediate_result : ImmediateRow → ℕ → ℕ → ℕ
 immediate_result Addi s imm = (s + extended w16 imm) % 2 ^ 32
 immediate_result Addiu s imm = (s + extended w16 imm) % 2 ^ 32
@@ -132,7 +132,7 @@ is_taken (BranchEqual row rs rt offset) r = equal_test row (register r rs) (regi
 is_taken (Jump row target) r = true
 is_taken _ r = false
 
--- npc + 4 * offset, modulo 4096
+-- npc + 4 * offset, modulo 4096: npc is the place of the delay slot
 abbrev pub branch_target : ℕ → ℕ → ℕ
 branch_target npc offset = modulo (pos npc +ℤ (pos 4 *ℤ s16 offset)) 4096
 

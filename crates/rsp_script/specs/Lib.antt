@@ -1,3 +1,4 @@
+-- From a line of a script to its command.
 pub mod Number
 pub mod Words
 pub mod Names

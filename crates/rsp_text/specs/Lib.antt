@@ -1,3 +1,4 @@
+-- Assembly text: what it means, and how a word is spelled.
 pub mod Cuts
 pub mod Numbers
 pub mod Names

@@ -50,6 +50,7 @@ first origin earlier l = first_fault (labels_from origin earlier) (place_after o
 abbrev pub second : ℕ → Labels → List (List ℕ) → List ℕ → Result (List ℕ) AsmFaultKind
 second origin labels earlier l = line_words labels (place_after origin earlier) l
 
+-- a fault of the first pass comes before any of the second
 abbrev pub unless : Option AsmFault → Result (List ℕ) AsmFault → Result (List ℕ) AsmFault
 unless None words = words
 unless (Some fault) words = Err fault
@@ -57,5 +58,6 @@ unless (Some fault) words = Err fault
 abbrev pub means_lines : List (List ℕ) → ℕ → Result (List ℕ) AsmFault
 means_lines ls origin = unless (lowest (first origin) [] ls) (in_turn (second origin (labels_from origin ls)) [] ls)
 
+-- what a source text means, from a place on: its words, or its fault
 abbrev pub means : List ℕ → ℕ → Result (List ℕ) AsmFault
 means text origin = means_lines (lines text) origin

@@ -1,4 +1,4 @@
--- What the code's values mean.
+-- Scaffolding of the contracts: what the code's values mean.
 use Rattle.std.specs.Prelude.{option_map}
 use Rattle.rsp_text.specs.declared.expression.Expression.{Expression}
 use Rattle.rsp_text.specs.Numbers as numbers

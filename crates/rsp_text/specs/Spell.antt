@@ -125,6 +125,7 @@ spell_row w place None = plain_word w
 spell_row w place (Some r) =
     if (word_from r (fields r w) == w) && list_all (reaches w place) r.operands then row_text w place r else plain_word w
 
+-- the canonical text of a word at a place
 unfoldable pub spell : ℕ → ℕ → List ℕ
 spell w place = if w == 0 then codes "nop" else spell_row w place (row_of w)
 

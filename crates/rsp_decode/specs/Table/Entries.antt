@@ -1,4 +1,4 @@
--- The rows as the code has them.
+-- The rows as the code has them, for the contracts of its table: a row's meaning is in Words.antt.
 use Rattle.std.specs.Prelude.{ℕ, List}
 use Rattle.rsp_decode.specs.declared.rows.TableRow.{TableRow}
 use Rattle.rsp_decode.specs.Table.Operands.{Operand}
