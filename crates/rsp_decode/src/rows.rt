@@ -151,7 +151,7 @@ macro_rules! row {
 }
 
 /// The rows, in the order of the instruction table.
-static ROWS: [TableRow; 120] = [
+static ROWS: &[TableRow] = &[
     row!("sll", SPECIAL, 0x0000_0000, SHIFT),
     row!("srl", SPECIAL, 0x0000_0002, SHIFT),
     row!("sra", SPECIAL, 0x0000_0003, SHIFT),
@@ -278,5 +278,5 @@ static ROWS: [TableRow; 120] = [
 pub fn table() -> &'static [TableRow]
     ensures { map entry result.now ≡ map entry_of rows }
 {
-    &ROWS
+    ROWS
 }

@@ -6,7 +6,7 @@ use Rattle.rsp_flags.specs.declared.flags.Flags.{Flags}
 use Rattle.rsp_flags.specs.Flags.{LaneFlags, flags_at, all_flags}
 use Rattle.rsp_flags.specs.Outcome.{Outcome, Rule, flags_after}
 use Rattle.rsp_compare.specs.declared.adds.AddOp.{AddOp}
-use Rattle.rsp_compare.specs.declared.adds.AddOp.TheVariants.{Vadd, Vsub, Vabs, Vaddc, Vsubc}
+use Rattle.rsp_compare.specs.declared.adds.AddOp.TheVariants.{Vabs}
 use Rattle.rsp_compare.specs.Adds.{add_rule}
 use Rattle.rsp_compare.specs.declared.selects.SelectOp.{SelectOp}
 use Rattle.rsp_compare.specs.declared.selects.MergeOp.TheVariants.{Vmrg}
@@ -36,25 +36,13 @@ vabs_leaves : (a b : ℕ) (f : LaneFlags) → (add_rule Vabs a b f).flags ≡ f
 vabs_leaves a b f = either _ _ _ f refl refl
 
 add_extra : (op : AddOp) → LeavesExtra (add_rule op)
-add_extra Vadd a b f = refl
-add_extra Vsub a b f = refl
-add_extra Vabs a b f = ap (λ g. g.extra) (vabs_leaves a b f)
-add_extra Vaddc a b f = refl
-add_extra Vsubc a b f = refl
+add_extra op = elim op as (λ o. LeavesExtra (add_rule o)) [ Vabs ↦ λ a b f. ap (λ g. g.extra) (vabs_leaves a b f) | _ ↦ λ a b f. refl ]
 
 add_compare : (op : AddOp) → LeavesCompare (add_rule op)
-add_compare Vadd a b f = refl
-add_compare Vsub a b f = refl
-add_compare Vabs a b f = ap (λ g. g.compare) (vabs_leaves a b f)
-add_compare Vaddc a b f = refl
-add_compare Vsubc a b f = refl
+add_compare op = elim op as (λ o. LeavesCompare (add_rule o)) [ Vabs ↦ λ a b f. ap (λ g. g.compare) (vabs_leaves a b f) | _ ↦ λ a b f. refl ]
 
 add_clip : (op : AddOp) → LeavesClip (add_rule op)
-add_clip Vadd a b f = refl
-add_clip Vsub a b f = refl
-add_clip Vabs a b f = ap (λ g. g.clip) (vabs_leaves a b f)
-add_clip Vaddc a b f = refl
-add_clip Vsubc a b f = refl
+add_clip op = elim op as (λ o. LeavesClip (add_rule o)) [ Vabs ↦ λ a b f. ap (λ g. g.clip) (vabs_leaves a b f) | _ ↦ λ a b f. refl ]
 
 module _ (rule : Rule) (a b : List ℕ) (f : Flags) (e : AreFlags f) where
   extra_same : LeavesExtra rule → (flags_after rule a b f).extra ≡ f.extra
