@@ -1,6 +1,7 @@
 -- The registers of the signal processor, as the register table has them.
 use Rattle.std.specs.Prelude.{ℕ, ◌+◌, ◌*◌, ◌/◌, ◌%◌, ◌^◌, ◌<◌, Bool, true, false, ◌||◌, List, ◌∷◌, map, replicate, slice_index, slice_index_or, slice_set, nat_lt, if◌then◌else◌, ◌-◌, ◌==◌}
 use Rattle.std.specs.List.{range_with_len, sum_by}
+use Rattle.rsp_numbers.specs.Numbers.{bit_set}
 use Rattle.rsp_regs.specs.declared.transfer.Transfer.{Transfer}
 use Rattle.rsp_regs.specs.Dma.{pairs, copied_in, copied_out}
 
@@ -63,10 +64,6 @@ peeked n s = slice_index (words s) (n % 16)
 -- the registers after a read of register n: that of the semaphore sets it
 unfoldable pub after_read : ℕ → Sp → Sp
 after_read n s = if n % 16 == 7 then record s { semaphore = true } else s
-
--- whether bit n of a word is 1
-abbrev pub bit_set : ℕ → ℕ → Bool
-bit_set v n = v / 2 ^ n % 2 == 1
 
 -- a flag after a write of v: bit n clears it, and bit n + 1 sets it; both, or neither, change nothing
 abbrev pub paired : ℕ → ℕ → Bool → Bool
