@@ -21,8 +21,8 @@ divided d q = record {
 }
 
 -- the high half of an operand is kept, `loaded` is set, and the high half of the last quotient is written
-abbrev pub loaded : Divider → ℕ → Division
-loaded d source = record { lane = Some d.output; divider = record { input = source; output = d.output; loaded = true } }
+abbrev pub half_taken : Divider → ℕ → Division
+half_taken d source = record { lane = Some d.output; divider = record { input = source; output = d.output; loaded = true } }
 
 -- a lane is written, and nothing kept
 abbrev pub moved : Divider → ℕ → Division
