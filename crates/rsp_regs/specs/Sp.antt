@@ -92,8 +92,8 @@ transfer v s = record {
 }
 
 -- the registers after a DMA: the bank is kept, and the last row adds no skip
-unfoldable pub moved : Transfer → Sp → Sp
-moved t s = record s {
+unfoldable pub after_dma : Transfer → Sp → Sp
+after_dma t s = record s {
   memory = s.memory / 4096 * 4096 + (t.sp + (t.count + 1) * t.length) % 4096;
   dram = (t.dram + (t.count + 1) * t.length + t.count * t.skip) % 16777216;
   skip = t.skip;
@@ -106,7 +106,7 @@ written n v s =
     let k = n % 16 in
     if k == 0 then record s { memory = v % 8192 / 8 * 8 }
     else if k == 1 then record s { dram = v % 16777216 / 8 * 8 }
-    else if k == 2 || k == 3 then moved (transfer v s) s
+    else if k == 2 || k == 3 then after_dma (transfer v s) s
     else if k == 4 then status_written v s
     else if k == 7 then record s { semaphore = false }
     else if nat_lt k 8 then s
