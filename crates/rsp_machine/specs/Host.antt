@@ -40,10 +40,10 @@ abbrev pub is_inside : Bank → ℕ → ℕ → State → Bool
 is_inside bank a n s = nat_le (a + n) (bank_length bank s)
 
 -- the state after bytes, all inside a bank, were written to it from an address on
-unfoldable pub loaded : Bank → ℕ → List ℕ → State → State
-loaded Dmem a bytes s = record s { dmem = with_bytes s.dmem a bytes }
-loaded Imem a bytes s = record s { imem = with_bytes s.imem a bytes }
-loaded Rdram a bytes s = record s { rdram = with_image_bytes s.rdram a bytes }
+unfoldable pub with_bank_bytes : Bank → ℕ → List ℕ → State → State
+with_bank_bytes Dmem a bytes s = record s { dmem = with_bytes s.dmem a bytes }
+with_bank_bytes Imem a bytes s = record s { imem = with_bytes s.imem a bytes }
+with_bank_bytes Rdram a bytes s = record s { rdram = with_image_bytes s.rdram a bytes }
 
 -- the word at an address of the RDRAM, the highest byte first
 unfoldable pub image_word : List ℕ → ℕ → ℕ
