@@ -5,6 +5,7 @@ use Rattle.rsp_memory.specs.Image.{image_byte, with_image_bytes}
 use Rattle.rsp_regs.specs.Sp.{after_read, written, dmem_from_rdram, imem_from_rdram, rdram_from_bank, after_task}
 use Rattle.rsp_regs.specs.Dma.{pairs, copied_in}
 use Rattle.rsp_regs.specs.declared.transfer.Transfer.{Transfer}
+use Rattle.rsp_scalar.specs.Flow.{going_on}
 use Rattle.rsp_machine.specs.State.{State}
 use Rattle.rsp_memory.specs.declared.bank.Bank.{Bank}
 use Rattle.rsp_memory.specs.declared.bank.Bank.TheVariants.{Dmem, Imem, Rdram}
@@ -84,4 +85,4 @@ tasked a s = record s {
 
 -- the state that goes on at a place of IMEM
 abbrev pub with_pc : ℕ → State → State
-with_pc place s = record s { pc = place; npc = (place + 4) % 4096 }
+with_pc place s = record s { pc = place; npc = going_on place }
