@@ -6,7 +6,7 @@ use Rattle.rsp_script.specs.declared.command.Command.TheVariants.{Nothing, Load,
 use Rattle.rsp_memory.specs.declared.bank.Bank.{Bank}
 use Rattle.rsp_text.specs.declared.fault.AsmFault.{AsmFault}
 use Rattle.rsp_block.specs.Source.{Source, meaning}
-use Rattle.rsp_machine.specs.Host.{is_inside, loaded, task_fault}
+use Rattle.rsp_machine.specs.Host.{is_inside, with_bank_bytes, task_fault}
 use Rattle.rsp_machine.specs.declared.host.TaskFault.{TaskFault}
 use Rattle.rsp_debug.specs.Stops.{is_break}
 use Rattle.rsp_debug.specs.Calls.{is_count}
@@ -33,7 +33,7 @@ keeps_if false o text s accepted e = refl
 
 keeps_load : (bank : Bank) (a : ℕ) (bytes : List ℕ) (s : SessionState) → Keeps (load_answer bank a bytes s) s
 unfolding load_answer
-keeps_load bank a bytes s e = keeps_if (is_inside bank a (length bytes) s.debugging.state) (then_state ok_text (loaded bank a bytes s.debugging.state) s) range_text s refl e
+keeps_load bank a bytes s e = keeps_if (is_inside bank a (length bytes) s.debugging.state) (then_state ok_text (with_bank_bytes bank a bytes s.debugging.state) s) range_text s refl e
 
 keeps_step : (s : SessionState) → Keeps (step_answer s) s
 unfolding step_answer

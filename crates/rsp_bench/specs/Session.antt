@@ -18,7 +18,7 @@ use Rattle.rsp_block.specs.Fault.{hides_no_fault}
 use Rattle.rsp_regs.specs.Sp.{peeked}
 use Rattle.rsp_machine.specs.State.{State, start_of}
 use Rattle.rsp_machine.specs.Step.{step_of}
-use Rattle.rsp_machine.specs.Host.{is_inside, loaded, register_written, with_pc, task_fault, tasked}
+use Rattle.rsp_machine.specs.Host.{is_inside, with_bank_bytes, register_written, with_pc, task_fault, tasked}
 use Rattle.rsp_machine.specs.declared.host.TaskFault.{TaskFault}
 use Rattle.rsp_debug.specs.Debugging.{Debugging, debugging_of, stepped, stop_in, ran, broken_at, unbroken_at, watching, unwatching, gone_back, resumed, read_from}
 use Rattle.rsp_debug.specs.Stops.{is_break}
@@ -59,7 +59,7 @@ task_answer (Some fault) a s = same (task_fault_text fault) s
 
 unfoldable pub load_answer : Bank → ℕ → List ℕ → SessionState → Answered SessionState
 load_answer bank a bytes s =
-    if is_inside bank a (length bytes) s.debugging.state then then_state ok_text (loaded bank a bytes s.debugging.state) s
+    if is_inside bank a (length bytes) s.debugging.state then then_state ok_text (with_bank_bytes bank a bytes s.debugging.state) s
     else same range_text s
 
 unfoldable pub step_answer : SessionState → Answered SessionState
@@ -155,7 +155,7 @@ plain_answer End s = same (line_fault_text BadCommand) s
 abbrev pub end_answer : Source → Result (List ℕ) AsmFault → SessionState → Answered SessionState
 end_answer b (Ok words) s = record {
   reply = words_text (length words);
-  next = record { debugging = resumed (loaded Imem b.place (words_bytes words) s.debugging.state) s.debugging; block = None };
+  next = record { debugging = resumed (with_bank_bytes Imem b.place (words_bytes words) s.debugging.state) s.debugging; block = None };
 }
 end_answer b (Err fault) s = record { reply = asm_fault_text fault; next = record s { block = None } }
 

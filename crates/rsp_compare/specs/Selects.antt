@@ -22,17 +22,17 @@ vne a b f = not (int_eq (s16 a) (s16 b)) || f.differ
 abbrev pub vge : ℕ → ℕ → LaneFlags → Bool
 vge a b f = int_lt (s16 b) (s16 a) || (int_eq (s16 a) (s16 b) && not (f.carry && f.differ))
 
-abbrev pub is_taken : SelectOp → ℕ → ℕ → LaneFlags → Bool
-is_taken Vlt = vlt
-is_taken Veq = veq
-is_taken Vne = vne
-is_taken Vge = vge
+abbrev pub holds : SelectOp → ℕ → ℕ → LaneFlags → Bool
+holds Vlt = vlt
+holds Veq = veq
+holds Vne = vne
+holds Vge = vge
 
 -- a where it holds, else b; compare is the answer, clip and VCO are cleared
 abbrev pub select_rule : SelectOp → Rule
 select_rule op a b f =
-    plain (if is_taken op a b f then a else b)
-    (record f { carry = false; differ = false; compare = is_taken op a b f; clip = false })
+    plain (if holds op a b f then a else b)
+    (record f { carry = false; differ = false; compare = holds op a b f; clip = false })
 
 -- a where compare is set, else b; VCO is cleared
 abbrev pub vmrg : Rule

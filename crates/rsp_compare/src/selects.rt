@@ -3,7 +3,7 @@ ghost use Rattle.rsp_lanes.specs.Lanes.{each_lane};
 ghost use Rattle.rsp_flags.specs.Flags.{flags_at};
 ghost use Rattle.rsp_flags.specs.Outcome.{results_of, lows_of, flags_after};
 ghost use Rattle.rsp_acc.specs.Planes.{with_low};
-ghost use Rattle.rsp_compare.specs.Selects.{vlt, veq, vne, vge, is_taken, select_rule, merge_rule};
+ghost use Rattle.rsp_compare.specs.Selects.{vlt, veq, vne, vge, holds, select_rule, merge_rule};
 
 use rsp_acc::Acc;
 use rsp_flags::Flags;
@@ -65,7 +65,7 @@ impl SelectOp {
     /// Where the comparison holds.
     #[inline(always)]
     fn taken(self, a: &VReg, b: &VReg, flags: &Flags) -> Mask8
-        ensures { result ≡ each_lane (λ i. is_taken self (slice_index a.now i) (slice_index b.now i) (flags_at flags.now i)) }
+        ensures { result ≡ each_lane (λ i. holds self (slice_index a.now i) (slice_index b.now i) (flags_at flags.now i)) }
     {
         match self {
             SelectOp::Vlt => is_below(a, b, flags),

@@ -9,7 +9,7 @@ use Rattle.rsp_machine.specs.Step.{step_of}
 use Rattle.rsp_machine.specs.Saved.{Saved, undone, can_undo, slot_after}
 use Rattle.rsp_machine.specs.declared.step.StepEnd.TheVariants.{Done, Halted, Reserved}
 use Rattle.rsp_machine.proofs.Kept.{halted_stays, reserved_stays}
-use Rattle.rsp_debug.specs.Places.{one_down, following, from_place}
+use Rattle.rsp_debug.specs.Places.{one_down, next_place, from_place}
 use Rattle.rsp_debug.specs.Past.{states_before, past_by, past_after}
 use Rattle.rsp_debug.proofs.Turns.{grown, popped, first_is, kept_member}
 
@@ -76,7 +76,7 @@ pub back_here : (s : State) (xs : List Saved) (i count : ℕ) (r : Saved) → i 
 back_here s xs i count r h c e = first_here s (from_place i count xs) r (first_is xs i count r h c e)
 
 pub back_rest : (s : State) (xs : List Saved) (i count : ℕ) (r : Saved) → i < length xs → 0 < count → count ≤ length xs → slice_get xs i ≡ Some r
-    → states_before (undone r s) (from_place (following (length xs) i) (count - 1) xs) ≡ drop 1 (states_before s (from_place i count xs))
+    → states_before (undone r s) (from_place (next_place (length xs) i) (count - 1) xs) ≡ drop 1 (states_before s (from_place i count xs))
 back_rest s xs i count r h c l e =
     ap (states_before (undone r s)) (popped xs i count r h l) ∙ rest_here s (from_place i count xs) r (first_is xs i count r h c e)
 

@@ -6,14 +6,14 @@ use Rattle.std.proofs.lemmas.Option.{get_or_from_slice_get}
 use Rattle.std.proofs.lemmas.List.{drop-set, take-set, take_more, take_all, drop_all, take-append-le, take-take, length-take, length-drop, length-append, length-set, set-get_or, append-nil}
 use Rattle.std.proofs.lemmas.Bool.{cases_lt}
 use Rattle.std.proofs.lemmas.Bool.Decides.{nat_tests}
-use Rattle.rsp_debug.specs.Places.{following, one_down, rotated, from_place}
+use Rattle.rsp_debug.specs.Places.{next_place, one_down, rotated, from_place}
 
 -- the place before a place
 abbrev previous : ℕ → ℕ → ℕ
 previous n i = if i == 0 then n - 1 else i - 1
 
-following_previous : (n i : ℕ) → i < n → following n (previous n i) ≡ i
-following_previous n i h = grind (arith, nat_tests)
+next_of_previous : (n i : ℕ) → i < n → next_place n (previous n i) ≡ i
+next_of_previous n i h = grind (arith, nat_tests)
 
 previous_below : (n i : ℕ) → i < n → previous n i < n
 previous_below n i h = grind (arith, nat_tests)
@@ -37,7 +37,7 @@ module _ {X : Type 0} where
   there_by false i xs d e h =
       ap (λ l. drop (i + 1) xs ++ l) (take_more xs i d h) ∙ sym (append_assoc (drop (i + 1) xs) (take i xs) (get_or xs i d ∷ []))
 
-  there : (i : ℕ) (xs : List X) (d : X) → i < length xs → rotated (following (length xs) i) xs ≡ rest i xs ++ get_or xs i d ∷ []
+  there : (i : ℕ) (xs : List X) (d : X) → i < length xs → rotated (next_place (length xs) i) xs ≡ rest i xs ++ get_or xs i d ∷ []
   there i xs d h = there_by (i + 1 == length xs) i xs d refl h
 
   written : (i : ℕ) (xs : List X) (x : X) → i < length xs → rotated i (set xs i x) ≡ x ∷ rest i xs
@@ -63,7 +63,7 @@ module _ {X : Type 0} where
       let p : ℕ = previous (length xs) i in
       let l : p < length xs = previous_below (length xs) i h in
       let e : rotated p (set xs p x) ≡ x ∷ rest p xs = written p xs x l in
-      let f : rotated i xs ≡ rest p xs ++ get_or xs p x ∷ [] = rw (following_previous (length xs) i h) at (there p xs x l) in
+      let f : rotated i xs ≡ rest p xs ++ get_or xs p x ∷ [] = rw (next_of_previous (length xs) i h) at (there p xs x l) in
       let r = length-rest p xs l in
       let o : X = get_or xs p x in
       let m : min (count + 1) (suc n) ≡ suc (min count n) = omega arith in
@@ -105,12 +105,12 @@ module _ {X : Type 0} where
       ∙ before_by (i == length xs) xs i count n x refl h c d
 
   -- the first member goes
-  pub popped : (xs : List X) (i count : ℕ) (d : X) → i < length xs → count ≤ length xs → from_place (following (length xs) i) (count - 1) xs ≡ drop 1 (from_place i count xs)
+  pub popped : (xs : List X) (i count : ℕ) (d : X) → i < length xs → count ≤ length xs → from_place (next_place (length xs) i) (count - 1) xs ≡ drop 1 (from_place i count xs)
   popped xs i zero d h c = refl
   popped xs i (suc k) d h c =
       let r = length-rest i xs h in
       let e : suc k - 1 ≡ k = omega arith in
-      ap (λ n. take n (rotated (following (length xs) i) xs)) e
+      ap (λ n. take n (rotated (next_place (length xs) i) xs)) e
       ∙ ap (take k) (there i xs d h)
       ∙ take-append-le k (rest i xs) (get_or xs i d ∷ []) (omega arith)
       ∙ sym (ap (λ l. drop 1 (take (suc k) l)) (here i xs d h))

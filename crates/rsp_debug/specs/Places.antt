@@ -2,8 +2,8 @@
 use Rattle.std.specs.Prelude.{ℕ, ◌+◌, ◌-◌, ◌==◌, ◌<◌, ◌≤◌, List, ◌++◌, length, take, drop, if◌then◌else◌}
 
 -- the place after a place
-abbrev pub following : ℕ → ℕ → ℕ
-following n i = if i + 1 == n then 0 else i + 1
+abbrev pub next_place : ℕ → ℕ → ℕ
+next_place n i = if i + 1 == n then 0 else i + 1
 
 -- the members from a place on, round the end
 abbrev pub rotated : {X : Type 0} → ℕ → List X → List X

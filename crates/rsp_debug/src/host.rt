@@ -2,7 +2,7 @@
 
 ghost use Rattle.std.specs.Prelude.{◌≡◌, ◌<◌, ◌%◌, ◌↔◌, Some, None, length, OnOk, OnErr, IsOk, IsTrue, MatchResult};
 ghost use Rattle.rsp_regs.specs.Sp.{peeked};
-ghost use Rattle.rsp_machine.specs.Host.{register_written, is_inside, loaded, task_fault, tasked, with_pc};
+ghost use Rattle.rsp_machine.specs.Host.{register_written, is_inside, with_bank_bytes, task_fault, tasked, with_pc};
 ghost use Rattle.rsp_debug.specs.Debugging.{resumed, read_from};
 
 use crate::debugger::Debugger;
@@ -47,7 +47,7 @@ impl<A: Acc> Debugger<A> {
     /// where there are no bytes. RangeFault, and nothing changes, where they pass the bank's end.
     pub fn load_bytes(&mut self, bank: Bank, a: u32, bytes: &[u8]) -> Result<(), RangeFault>
         ensures inside { IsOk result ↔ IsTrue (is_inside bank a (length bytes.now) self.old.state) }
-        ensures ok { OnOk result (self.new ≡ resumed (loaded bank a bytes.now self.old.state) self.old) }
+        ensures ok { OnOk result (self.new ≡ resumed (with_bank_bytes bank a bytes.now self.old.state) self.old) }
         ensures err { OnErr result (self.new ≡ self.old) }
     {
         self.machine.load_bytes(bank, a, bytes)?;

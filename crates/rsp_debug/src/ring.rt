@@ -1,6 +1,6 @@
 ghost use Rattle.std.specs.Prelude.{◌≡◌, ◌+◌, ◌-◌, ◌==◌, if◌then◌else◌, ◌&&◌, ◌<◌, ◌≤◌, [], true, false, length, min, drop, slice_index_or, IfOk};
 ghost use Rattle.rsp_machine.specs.Step.{step_of};
-ghost use Rattle.rsp_debug.specs.Places.{following, one_down, from_place, IsStanding};
+ghost use Rattle.rsp_debug.specs.Places.{next_place, one_down, from_place, IsStanding};
 ghost use Rattle.rsp_debug.specs.Past.{states_before, past_after};
 
 use circular_buffer::HeapCircularBuffer;
@@ -116,9 +116,9 @@ pub struct Made {
 
 /// The place after a place of a ring.
 #[inline(always)]
-fn following(n: usize, i: usize) -> usize
+fn next_place(n: usize, i: usize) -> usize
     requires { i < n }
-    ensures { result ≡ following n i }
+    ensures { result ≡ next_place n i }
 {
     if i + 1 == n { 0 } else { i + 1 }
 }
@@ -168,7 +168,7 @@ impl Ring {
             unreachable!()
         };
         machine.undo(slot);
-        self.first = following(self.slots.len(), self.first);
+        self.first = next_place(self.slots.len(), self.first);
         self.count -= 1;
     }
 }

@@ -21,12 +21,12 @@ divided d q = record {
 }
 
 -- the high half of an operand is kept, `loaded` is set, and the high half of the last quotient is written
-abbrev pub loaded : Divider → ℕ → Division
-loaded d source = record { lane = Some d.output; divider = record { input = source; output = d.output; loaded = true } }
+abbrev pub half_taken : Divider → ℕ → Division
+half_taken d source = record { lane = Some d.output; divider = record { input = source; output = d.output; loaded = true } }
 
 -- a lane is written, and nothing kept
-abbrev pub moved : Divider → ℕ → Division
-moved d lane = record { lane = Some lane; divider = d }
+abbrev pub lane_only : Divider → ℕ → Division
+lane_only d lane = record { lane = Some lane; divider = d }
 
 -- nothing is written
 abbrev pub idle : Divider → Division

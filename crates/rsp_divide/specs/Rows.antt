@@ -3,7 +3,7 @@ use Rattle.std.specs.Prelude.{ℕ, ℤ, ◌%◌, Option, Some, None, List, slice
 use Rattle.rsp_lanes.specs.Lanes.{selected}
 use Rattle.rsp_numbers.specs.Numbers.{s16}
 use Rattle.rsp_acc.specs.Planes.{with_low}
-use Rattle.rsp_divide.specs.Dividers.{Division, divided, loaded, moved, idle, operand}
+use Rattle.rsp_divide.specs.Dividers.{Division, divided, half_taken, lane_only, idle, operand}
 use Rattle.rsp_divide.specs.Quotients.{reciprocal_of, inverse_root_of}
 use Rattle.rsp_divide.specs.declared.divider.Divider.{Divider}
 use Rattle.rsp_divide.specs.declared.rows.DivideOp.{DivideOp}
@@ -13,11 +13,11 @@ use Rattle.rsp_divide.specs.declared.rows.DivideOp.TheVariants.{Vrcp, Vrcpl, Vrc
 abbrev pub division : DivideOp → Divider → ℕ → ℕ → Division
 division Vrcp d source lane = divided d (reciprocal_of (s16 source))
 division Vrcpl d source lane = divided d (reciprocal_of (operand d source))
-division Vrcph d source lane = loaded d source
-division Vmov d source lane = moved d lane
+division Vrcph d source lane = half_taken d source
+division Vmov d source lane = lane_only d lane
 division Vrsq d source lane = divided d (inverse_root_of (s16 source))
 division Vrsql d source lane = divided d (inverse_root_of (operand d source))
-division Vrsqh d source lane = loaded d source
+division Vrsqh d source lane = half_taken d source
 division Vnop d source lane = idle d
 division Vnull d source lane = idle d
 

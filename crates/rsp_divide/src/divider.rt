@@ -1,5 +1,5 @@
 ghost use Rattle.std.specs.Prelude.{◌≡◌, Some};
-ghost use Rattle.rsp_divide.specs.Dividers.{no_divider, divided, loaded, operand};
+ghost use Rattle.rsp_divide.specs.Dividers.{no_divider, divided, half_taken, operand};
 ghost use Rattle.rsp_numbers.specs.Numbers.{s16};
 
 /// What the divide rows keep from one to the next.
@@ -53,8 +53,8 @@ impl Divider {
     /// Keeps the high half of an operand, sets the mark, and gives the high half of the last quotient.
     #[inline]
     pub(crate) fn load(&mut self, source: u16) -> u16
-        ensures lane { Some result ≡ (loaded self.old source).lane }
-        ensures divider { self.new ≡ (loaded self.old source).divider }
+        ensures lane { Some result ≡ (half_taken self.old source).lane }
+        ensures divider { self.new ≡ (half_taken self.old source).divider }
     {
         self.input = source;
         self.loaded = true;

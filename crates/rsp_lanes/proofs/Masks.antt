@@ -6,7 +6,8 @@ use Rattle.std.specs.Int.{is_negative}
 use Rattle.std.proofs.lemmas.Nat.Bits.{and_pow, bit_at-lt}
 use Rattle.std.proofs.lemmas.Bool.Decides.{nat_tests}
 use Rattle.std.specs.Simd.Lanes.{top}
-use Rattle.rsp_lanes.specs.Lanes.{each_lane, mask_lane, IsMask, truths, bool_xor, bit_set}
+use Rattle.rsp_lanes.specs.Lanes.{each_lane, mask_lane, IsMask, truths, bool_xor}
+use Rattle.rsp_numbers.specs.Numbers.{bit_set}
 use Rattle.rsp_lanes.proofs.Kit.{length_of, each_same, map_each, map_of_each}
 
 -- a lane's bits

@@ -1,5 +1,5 @@
 -- Registers and masks of eight lanes, as lists.
-use Rattle.std.specs.Prelude.{ℕ, ℤ, pos, negsuc, ◌+◌, ◌-◌, ◌*◌, ◌/◌, ◌%◌, ◌^◌, ◌<◌, ◌==◌, slice_set, nat_lt, nat_eq, if◌then◌else◌, ◌≡◌, Bool, true, false, cond, List, [], ◌∷◌, length, slice_index, map}
+use Rattle.std.specs.Prelude.{ℕ, ℤ, pos, negsuc, ◌+◌, ◌-◌, ◌*◌, ◌/◌, ◌%◌, ◌<◌, ◌==◌, slice_set, nat_lt, if◌then◌else◌, ◌≡◌, Bool, true, false, cond, List, [], ◌∷◌, length, slice_index, map}
 use Rattle.std.specs.Int.{is_negative}
 
 -- the list of eight whose member i is `f i`
@@ -41,10 +41,6 @@ source_lane e i =
 -- the register v with its lanes as the element e selects them
 abbrev pub selected : List ℕ → ℕ → List ℕ
 selected v e = each_lane (λ i. slice_index v (source_lane e i))
-
--- whether bit i of a number is 1
-abbrev pub bit_set : ℕ → ℕ → Bool
-bit_set n i = nat_eq (n / 2 ^ i % 2) 1
 
 -- byte i of the sixteen of a register: byte 0 is the high byte of lane 0
 unfoldable pub register_byte : List ℕ → ℕ → ℕ

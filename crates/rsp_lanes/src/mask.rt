@@ -1,6 +1,7 @@
 ghost use Rattle.std.specs.Prelude.{◌≡◌, ◌<◌, ◌&&◌, ◌||◌, not, length, slice_index, slice_index_or, false, cond};
 ghost use Rattle.std.specs.Simd.Lanes.{mask_l};
-ghost use Rattle.rsp_lanes.specs.Lanes.{each_lane, IsMask, truths, bool_xor, bit_set};
+ghost use Rattle.rsp_lanes.specs.Lanes.{each_lane, IsMask, truths, bool_xor};
+ghost use Rattle.rsp_numbers.specs.Numbers.{bit_set};
 
 use crate::VReg;
 use std::marker::Model;

@@ -1,7 +1,5 @@
 -- What is written for a script.
-use Rattle.std.specs.Prelude.{◌≡◌, ℕ, ◌<◌, List, [], ◌∷◌, ◌++◌, length, nat_le, if◌then◌else◌}
-use Rattle.std.proofs.Common.{ap, sym, ◌∙◌}
-use Rattle.std.proofs.lemmas.Bool.{lt-leb}
+use Rattle.std.specs.Prelude.{◌≡◌, ℕ, ◌<◌, List, [], ◌∷◌, ◌++◌, length}
 use Rattle.std.specs.Str.Lines.{lines}
 
 -- what a line comes to: its reply, and what answers the next line
@@ -12,13 +10,6 @@ pub record Answered (S : Type 0) : Type 0 where
 -- lines of more than 256 bytes are answered alike, whatever they say
 abbrev pub AnswersLongAlike : {S : Type 0} → (List ℕ → S → Answered S) → Type 0
 AnswersLongAlike {S} answered = (line other : List ℕ) (s : S) → 256 < length line → 256 < length other → answered line s ≡ answered other s
-
--- what tells long lines by their length alone answers them alike
-pub long-alike : {A : Type 0} (f : List ℕ → A) (long : A) (line other : List ℕ) → 256 < length line → 256 < length other
-    → (if nat_le (length line) 256 then f line else long) ≡ (if nat_le (length other) 256 then f other else long)
-long-alike f long line other h g =
-    ap (λ t. if t then f line else long) (lt-leb (length line) 256 h)
-    ∙ sym (ap (λ t. if t then f other else long) (lt-leb (length other) 256 g))
 
 -- the replies to lines, one after another
 abbrev pub replies : {S : Type 0} → (List ℕ → S → Answered S) → List (List ℕ) → S → List ℕ

@@ -2,8 +2,8 @@
 use Rattle.std.specs.Prelude.{ℕ, ◌+◌, ◌*◌, ◌/◌, ◌%◌, Bool, List}
 use Rattle.std.specs.Int.{w16}
 use Rattle.std.specs.Simd.Lanes.{mask_l}
-use Rattle.rsp_numbers.specs.Numbers.{extended}
-use Rattle.rsp_lanes.specs.Lanes.{each_lane, bit_set}
+use Rattle.rsp_numbers.specs.Numbers.{bit_set, extended}
+use Rattle.rsp_lanes.specs.Lanes.{each_lane}
 use Rattle.rsp_flags.specs.declared.flags.Flags.{Flags}
 use Rattle.rsp_decode.specs.declared.inst.Inst.{Inst}
 use Rattle.rsp_decode.specs.declared.inst.Inst.TheVariants.{MoveControl}

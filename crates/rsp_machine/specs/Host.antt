@@ -5,6 +5,7 @@ use Rattle.rsp_memory.specs.Image.{image_byte, with_image_bytes}
 use Rattle.rsp_regs.specs.Sp.{after_read, written, dmem_from_rdram, imem_from_rdram, rdram_from_bank, after_task}
 use Rattle.rsp_regs.specs.Dma.{pairs, copied_in}
 use Rattle.rsp_regs.specs.declared.transfer.Transfer.{Transfer}
+use Rattle.rsp_scalar.specs.Flow.{going_on}
 use Rattle.rsp_machine.specs.State.{State}
 use Rattle.rsp_memory.specs.declared.bank.Bank.{Bank}
 use Rattle.rsp_memory.specs.declared.bank.Bank.TheVariants.{Dmem, Imem, Rdram}
@@ -40,10 +41,10 @@ abbrev pub is_inside : Bank → ℕ → ℕ → State → Bool
 is_inside bank a n s = nat_le (a + n) (bank_length bank s)
 
 -- the state after bytes, all inside a bank, were written to it from an address on
-unfoldable pub loaded : Bank → ℕ → List ℕ → State → State
-loaded Dmem a bytes s = record s { dmem = with_bytes s.dmem a bytes }
-loaded Imem a bytes s = record s { imem = with_bytes s.imem a bytes }
-loaded Rdram a bytes s = record s { rdram = with_image_bytes s.rdram a bytes }
+unfoldable pub with_bank_bytes : Bank → ℕ → List ℕ → State → State
+with_bank_bytes Dmem a bytes s = record s { dmem = with_bytes s.dmem a bytes }
+with_bank_bytes Imem a bytes s = record s { imem = with_bytes s.imem a bytes }
+with_bank_bytes Rdram a bytes s = record s { rdram = with_image_bytes s.rdram a bytes }
 
 -- the word at an address of the RDRAM, the highest byte first
 unfoldable pub image_word : List ℕ → ℕ → ℕ
@@ -84,4 +85,4 @@ tasked a s = record s {
 
 -- the state that goes on at a place of IMEM
 abbrev pub with_pc : ℕ → State → State
-with_pc place s = record s { pc = place; npc = (place + 4) % 4096 }
+with_pc place s = record s { pc = place; npc = going_on place }

@@ -84,8 +84,8 @@ with_group file n vs =
 abbrev pub with_vco : Flags → Flags → Flags
 with_vco old f = record f { carry = old.carry; differ = old.differ }
 
-abbrev pub with_both : Flags → Flags → Flags
-with_both old f = record (with_vco old f) { compare = old.compare; clip = old.clip }
+abbrev pub with_vco_and_vcc : Flags → Flags → Flags
+with_vco_and_vcc old f = record (with_vco old f) { compare = old.compare; clip = old.clip }
 
 -- a record after it has kept what a change will write over
 unfoldable pub saved : Change → State → Saved → Saved
@@ -95,7 +95,7 @@ saved (of.Vector n) s r = record r { vector = vector s.vectors n }
 saved (of.Group n) s r = record r { vectors = group_at s.vectors n }
 saved (of.Product n) s r = record r { vector = vector s.vectors n; accumulators = s.accumulators }
 saved (of.Sum n) s r = record r { vector = vector s.vectors n; accumulators = s.accumulators; flags = with_vco s.flags r.flags }
-saved (of.Choice n) s r = record r { vector = vector s.vectors n; accumulators = s.accumulators; flags = with_both s.flags r.flags }
+saved (of.Choice n) s r = record r { vector = vector s.vectors n; accumulators = s.accumulators; flags = with_vco_and_vcc s.flags r.flags }
 saved (of.Clip n) s r = record r { vector = vector s.vectors n; accumulators = s.accumulators; flags = s.flags }
 saved (of.Divide n) s r = record r { vector = vector s.vectors n; accumulators = s.accumulators; divider = s.divider }
 saved of.Flags s r = record r { flags = s.flags }
@@ -254,7 +254,7 @@ restored (of.Vector n) r s = record s { vectors = with_vector s.vectors n r.vect
 restored (of.Group n) r s = record s { vectors = with_group s.vectors n r.vectors }
 restored (of.Product n) r s = with_product r s
 restored (of.Sum n) r s = record (with_product r s) { flags = with_vco r.flags s.flags }
-restored (of.Choice n) r s = record (with_product r s) { flags = with_both r.flags s.flags }
+restored (of.Choice n) r s = record (with_product r s) { flags = with_vco_and_vcc r.flags s.flags }
 restored (of.Clip n) r s = record (with_product r s) { flags = r.flags }
 restored (of.Divide n) r s = record (with_product r s) { divider = r.divider }
 restored of.Flags r s = record s { flags = r.flags }

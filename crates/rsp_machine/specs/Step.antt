@@ -7,7 +7,7 @@ use Rattle.rsp_decode.specs.declared.inst.MoveRow.TheVariants.{From, To}
 use Rattle.rsp_decode.specs.Table.{inst_of}
 use Rattle.rsp_memory.specs.Memory.{word_at}
 use Rattle.rsp_scalar.specs.Registers.{register, with_register}
-use Rattle.rsp_scalar.specs.Rows.{computed, after_load, after_store}
+use Rattle.rsp_scalar.specs.Rows.{computed, scalar_loaded, scalar_stored}
 use Rattle.rsp_scalar.specs.Flow.{following, linked}
 use Rattle.rsp_regs.specs.Sp.{peeked, after_break, after_step}
 use Rattle.rsp_compare.specs.Adds.{add_rule}
@@ -28,11 +28,11 @@ computes i s = advanced (record s { registers = computed i s.registers })
 
 -- a scalar load from DMEM
 unfoldable pub loads : Inst → State → State
-loads i s = advanced (record s { registers = after_load i s.registers s.dmem })
+loads i s = advanced (record s { registers = scalar_loaded i s.registers s.dmem })
 
 -- a scalar store to DMEM
 unfoldable pub stores : Inst → State → State
-stores i s = advanced (record s { dmem = after_store i s.registers s.dmem })
+stores i s = advanced (record s { dmem = scalar_stored i s.registers s.dmem })
 
 -- a jump or a branch, taken or not; it reads its registers before it writes its link
 unfoldable pub jumps : Inst → State → State

@@ -1,5 +1,5 @@
 ghost use Rattle.std.specs.Prelude.{◌≡◌, ◌<◌, ◌≤◌, ◌↔◌, ◌+◌, ◌%◌, IsOk, OnOk, OnErr, IsTrue, ℕ, Ok, Err, Some, None, length, MatchResult};
-ghost use Rattle.rsp_machine.specs.Host.{register_read, register_written, is_inside, loaded, image_word, task_fault, tasked, one_run, with_pc};
+ghost use Rattle.rsp_machine.specs.Host.{register_read, register_written, is_inside, with_bank_bytes, image_word, task_fault, tasked, one_run, with_pc};
 ghost use Rattle.rsp_regs.specs.Sp.{peeked};
 
 use crate::machine::Machine;
@@ -85,10 +85,10 @@ impl<A: Acc> Machine<A> {
 
     /// Writes bytes to a bank from an address on. RangeFault, and nothing changes, where they pass the
     /// bank's end, as [`Machine::is_inside`] tells.
-    #[tactic(auto, unfolding(crate::specs::Host::loaded))]
+    #[tactic(auto, unfolding(crate::specs::Host::with_bank_bytes))]
     pub fn load_bytes(&mut self, bank: Bank, a: u32, bytes: &[u8]) -> Result<(), RangeFault>
         ensures inside { IsOk result ↔ IsTrue (is_inside bank a (length bytes.now) self.old) }
-        ensures ok { OnOk result (self.new ≡ loaded bank a bytes.now self.old) }
+        ensures ok { OnOk result (self.new ≡ with_bank_bytes bank a bytes.now self.old) }
         ensures err { OnErr result (self.new ≡ self.old) }
     {
         if !self.is_inside(bank, a, bytes.len()) {

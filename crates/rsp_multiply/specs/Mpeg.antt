@@ -10,9 +10,9 @@ use Rattle.rsp_multiply.specs.declared.ops.MpegOp.{MpegOp}
 use Rattle.rsp_multiply.specs.declared.ops.MpegOp.TheVariants.{Vmulq, Vmacq}
 
 -- whether a rounding row adds to the accumulator x: VRNDP where x is 0 or more, VRNDN where x is negative
-abbrev pub rounds : RoundOp → ℤ → Bool
-rounds Vrndp x = not (int_lt x (pos 0))
-rounds Vrndn x = int_lt x (pos 0)
+abbrev pub rounding_adds : RoundOp → ℤ → Bool
+rounding_adds Vrndp x = not (int_lt x (pos 0))
+rounding_adds Vrndn x = int_lt x (pos 0)
 
 -- what it adds: the lane b of the selected vt as a signed number, times 65536 where the vs field is odd
 abbrev pub rounding : Bool → ℕ → ℤ
@@ -20,7 +20,7 @@ rounding odd b = if odd then s16 b *ℤ pos 65536 else s16 b
 
 -- the accumulator x after a rounding row on the lane b
 abbrev pub rounded_by : RoundOp → Bool → ℤ → ℕ → ℤ
-rounded_by op odd x b = if rounds op x then s48 (x +ℤ rounding odd b) else x
+rounded_by op odd x b = if rounding_adds op x then s48 (x +ℤ rounding odd b) else x
 
 -- the product of the lanes as signed numbers, and 31 more where it is negative
 abbrev pub mpeg_product : ℕ → ℕ → ℤ

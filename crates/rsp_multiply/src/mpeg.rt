@@ -4,7 +4,7 @@
 ghost use Rattle.std.specs.Prelude.{◌≡◌, ◌*ℤ◌, pos, slice_index, int_lt};
 ghost use Rattle.rsp_lanes.specs.Lanes.{each_lane};
 ghost use Rattle.rsp_numbers.specs.Numbers.{s16, number, floor_div, sixteen_bits};
-ghost use Rattle.rsp_multiply.specs.Mpeg.{rounds, rounding, step, accumulators_rounded, clamped_signed, accumulators_mpeg, halved_mpeg};
+ghost use Rattle.rsp_multiply.specs.Mpeg.{rounding_adds, rounding, step, accumulators_rounded, clamped_signed, accumulators_mpeg, halved_mpeg};
 
 use crate::products::upper;
 use crate::{MpegOp, RoundOp};
@@ -55,7 +55,7 @@ impl RoundOp {
     /// Where the row adds to the accumulator.
     #[inline(always)]
     fn places<A: Acc>(self, acc: &A) -> Mask8
-        ensures { result ≡ each_lane (λ i. rounds self (number (A.numbers acc.now) i)) }
+        ensures { result ≡ each_lane (λ i. rounding_adds self (number (A.numbers acc.now) i)) }
     {
         let negative = negative(acc);
         match self {

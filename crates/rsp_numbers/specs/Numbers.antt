@@ -1,5 +1,5 @@
 -- Whole numbers, their signed readings of 16, 32 and 48 bits, and the parts of an accumulator.
-use Rattle.std.specs.Prelude.{ℕ, ℤ, pos, negsuc, ◌+◌, ◌*◌, ◌%◌, ◌^◌, ◌+ℤ◌, ◌-ℤ◌, unsigned_abs, List, slice_index_or, length, ◌-◌, ◌≡◌, ◌≤ℤ◌, ◌<ℤ◌}
+use Rattle.std.specs.Prelude.{ℕ, ℤ, pos, negsuc, ◌+◌, ◌*◌, ◌/◌, ◌%◌, ◌^◌, ◌==◌, Bool, ◌+ℤ◌, ◌-ℤ◌, unsigned_abs, List, slice_index_or, length, ◌-◌, ◌≡◌, ◌≤ℤ◌, ◌<ℤ◌}
 use Rattle.std.specs.Int.{int_rem_euclid, int_div_euclid, int_min, int_max, Width, cast_signed, w16, w32}
 
 -- z divided by m, rounded toward minus infinity
@@ -61,6 +61,10 @@ low x = sixteen_bits x
 -- the accumulator with these high, middle and low sixteen bits
 unfoldable pub join : ℕ → ℕ → ℕ → ℤ
 join h m l = s48 (pos (h * 2 ^ 32 + m * 2 ^ 16 + l))
+
+-- whether bit i of a number is 1
+abbrev pub bit_set : ℕ → ℕ → Bool
+bit_set n i = n / 2 ^ i % 2 == 1
 
 -- number i of a list, 0 past its end
 abbrev pub number : List ℤ → ℕ → ℤ

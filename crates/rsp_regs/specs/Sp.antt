@@ -1,6 +1,7 @@
 -- The registers of the signal processor, as the register table has them.
 use Rattle.std.specs.Prelude.{ℕ, ◌+◌, ◌*◌, ◌/◌, ◌%◌, ◌^◌, ◌<◌, Bool, true, false, ◌||◌, List, ◌∷◌, map, replicate, slice_index, slice_index_or, slice_set, nat_lt, if◌then◌else◌, ◌-◌, ◌==◌}
 use Rattle.std.specs.List.{range_with_len, sum_by}
+use Rattle.rsp_numbers.specs.Numbers.{bit_set}
 use Rattle.rsp_regs.specs.declared.transfer.Transfer.{Transfer}
 use Rattle.rsp_regs.specs.Dma.{pairs, copied_in, copied_out}
 
@@ -64,10 +65,6 @@ peeked n s = slice_index (words s) (n % 16)
 unfoldable pub after_read : ℕ → Sp → Sp
 after_read n s = if n % 16 == 7 then record s { semaphore = true } else s
 
--- whether bit n of a word is 1
-abbrev pub bit_set : ℕ → ℕ → Bool
-bit_set v n = v / 2 ^ n % 2 == 1
-
 -- a flag after a write of v: bit n clears it, and bit n + 1 sets it; both, or neither, change nothing
 abbrev pub paired : ℕ → ℕ → Bool → Bool
 paired v n old = if bit_set v n then (if bit_set v (n + 1) then old else false) else (if bit_set v (n + 1) then true else old)
@@ -95,8 +92,8 @@ transfer v s = record {
 }
 
 -- the registers after a DMA: the bank is kept, and the last row adds no skip
-unfoldable pub moved : Transfer → Sp → Sp
-moved t s = record s {
+unfoldable pub after_dma : Transfer → Sp → Sp
+after_dma t s = record s {
   memory = s.memory / 4096 * 4096 + (t.sp + (t.count + 1) * t.length) % 4096;
   dram = (t.dram + (t.count + 1) * t.length + t.count * t.skip) % 16777216;
   skip = t.skip;
@@ -109,7 +106,7 @@ written n v s =
     let k = n % 16 in
     if k == 0 then record s { memory = v % 8192 / 8 * 8 }
     else if k == 1 then record s { dram = v % 16777216 / 8 * 8 }
-    else if k == 2 || k == 3 then moved (transfer v s) s
+    else if k == 2 || k == 3 then after_dma (transfer v s) s
     else if k == 4 then status_written v s
     else if k == 7 then record s { semaphore = false }
     else if nat_lt k 8 then s

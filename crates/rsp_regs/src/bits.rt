@@ -1,5 +1,6 @@
 ghost use Rattle.std.specs.Prelude.{◌≡◌, ◌≤◌, ◌<◌};
-ghost use Rattle.rsp_regs.specs.Sp.{flag, bit_set, paired};
+ghost use Rattle.rsp_numbers.specs.Numbers.{bit_set};
+ghost use Rattle.rsp_regs.specs.Sp.{flag, paired};
 
 /// The weight of a flag that is set, else 0.
 #[inline]

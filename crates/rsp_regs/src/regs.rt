@@ -1,6 +1,6 @@
 ghost use Rattle.std.specs.Prelude.{◌≡◌, ◌%◌, ◌==◌, if◌then◌else◌, false};
 ghost use Rattle.rsp_regs.specs.Dma.{IsTransfer};
-ghost use Rattle.rsp_regs.specs.Sp.{start, status, peeked, after_read, status_written, transfer, moved, written, dmem_from_rdram, imem_from_rdram, rdram_from_bank, after_break, after_step, after_task};
+ghost use Rattle.rsp_regs.specs.Sp.{start, status, peeked, after_read, status_written, transfer, after_dma, written, dmem_from_rdram, imem_from_rdram, rdram_from_bank, after_break, after_step, after_task};
 
 use crate::Transfer;
 use crate::bits::{bit_set, flag, paired};
@@ -234,10 +234,10 @@ impl SpRegs {
     }
 
     /// Moves the registers on past what a DMA has moved. After the last row there is no skip.
-    #[tactic(auto, unfolding(crate::specs::Sp::moved))]
+    #[tactic(auto, unfolding(crate::specs::Sp::after_dma))]
     fn advance(&mut self, t: &Transfer)
         requires { IsTransfer t.now }
-        ensures { self.new ≡ moved t.now self.old }
+        ensures { self.new ≡ after_dma t.now self.old }
     {
         let bytes = (t.count + 1) * t.length;
         self.memory = self.memory / 4096 * 4096 + (t.sp + bytes) % 4096;
@@ -249,7 +249,7 @@ impl SpRegs {
     /// to SP_RD_LEN.
     #[tactic(auto, unfolding(crate::specs::Sp::dmem_from_rdram, crate::specs::Sp::imem_from_rdram))]
     pub fn dma_in(&mut self, value: u32, dmem: &mut SpMem, imem: &mut SpMem, rdram: &mut Rdram)
-        ensures registers { self.new ≡ moved (transfer value self.old) self.old }
+        ensures registers { self.new ≡ after_dma (transfer value self.old) self.old }
         ensures dmem { dmem.new ≡ dmem_from_rdram value self.old rdram.old dmem.old }
         ensures imem { imem.new ≡ imem_from_rdram value self.old rdram.old imem.old }
         ensures rdram { rdram.new ≡ rdram.old }
@@ -267,7 +267,7 @@ impl SpRegs {
     /// SP_WR_LEN.
     #[tactic(auto, unfolding(crate::specs::Sp::rdram_from_bank))]
     pub fn dma_out(&mut self, value: u32, dmem: &mut SpMem, imem: &mut SpMem, rdram: &mut Rdram)
-        ensures registers { self.new ≡ moved (transfer value self.old) self.old }
+        ensures registers { self.new ≡ after_dma (transfer value self.old) self.old }
         ensures dmem { dmem.new ≡ dmem.old }
         ensures imem { imem.new ≡ imem.old }
         ensures rdram { rdram.new ≡ rdram_from_bank value self.old dmem.old imem.old rdram.old }

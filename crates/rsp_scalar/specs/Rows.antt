@@ -95,9 +95,9 @@ load_result Lhu memory a = half_at memory a
 load_result Lwu memory a = word_at memory a
 
 -- the registers after a load; other rows change none
-abbrev pub after_load : Inst → List ℕ → List ℕ → List ℕ
-after_load (Load row f) r memory = with_register r f.rt (load_result row memory (address r f.base f.offset))
-after_load _ r memory = r
+abbrev pub scalar_loaded : Inst → List ℕ → List ℕ → List ℕ
+scalar_loaded (Load row f) r memory = with_register r f.rt (load_result row memory (address r f.base f.offset))
+scalar_loaded _ r memory = r
 
 -- the memory after a store of the low 1, 2 or 4 bytes of t
 abbrev pub store_result : StoreRow → List ℕ → ℕ → ℕ → List ℕ
@@ -106,9 +106,9 @@ store_result Sh memory a t = with_half memory a (t % 2 ^ 16)
 store_result Sw memory a t = with_word memory a t
 
 -- the memory after a store; other rows leave it
-abbrev pub after_store : Inst → List ℕ → List ℕ → List ℕ
-after_store (Store row f) r memory = store_result row memory (address r f.base f.offset) (register r f.rt)
-after_store _ r memory = memory
+abbrev pub scalar_stored : Inst → List ℕ → List ℕ → List ℕ
+scalar_stored (Store row f) r memory = store_result row memory (address r f.base f.offset) (register r f.rt)
+scalar_stored _ r memory = memory
 
 -- the tests of the branches
 abbrev pub sign_test : SignRow → ℤ → Bool

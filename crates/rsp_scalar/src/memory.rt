@@ -1,6 +1,6 @@
 ghost use Rattle.std.specs.Prelude.{◌≡◌, ◌<◌};
 ghost use Rattle.rsp_decode.specs.Table.{IsInstruction};
-ghost use Rattle.rsp_scalar.specs.Rows.{address, load_result, store_result, after_load, after_store};
+ghost use Rattle.rsp_scalar.specs.Rows.{address, load_result, store_result, scalar_loaded, scalar_stored};
 
 use crate::Regs;
 use crate::rows::extended;
@@ -47,7 +47,7 @@ fn write(row: StoreRow, memory: &mut SpMem, a: u32, t: u32)
 #[inline(always)]
 pub fn load(inst: &Inst, regs: &mut Regs, memory: &SpMem)
     requires { IsInstruction inst.now }
-    ensures { regs.new ≡ after_load inst.now regs.old memory.now }
+    ensures { regs.new ≡ scalar_loaded inst.now regs.old memory.now }
 {
     if let Inst::Load { row, fields } = *inst {
         let a = address(regs, fields.base, fields.offset);
@@ -60,7 +60,7 @@ pub fn load(inst: &Inst, regs: &mut Regs, memory: &SpMem)
 #[inline(always)]
 pub fn store(inst: &Inst, regs: &Regs, memory: &mut SpMem)
     requires { IsInstruction inst.now }
-    ensures { memory.new ≡ after_store inst.now regs.now memory.old }
+    ensures { memory.new ≡ scalar_stored inst.now regs.now memory.old }
 {
     if let Inst::Store { row, fields } = *inst {
         let a = address(regs, fields.base, fields.offset);

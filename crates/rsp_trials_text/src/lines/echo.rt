@@ -1,6 +1,6 @@
 ghost use Rattle.std.specs.Prelude.{◌≡◌, ◌+◌, ◌%◌, ◌++◌, ◌∷◌, [], length, nat_le, codes, if◌then◌else◌};
 ghost use Rattle.std.proofs.Common.{ap};
-ghost use Rattle.rsp_lines.specs.Replies.{long-alike};
+ghost use Rattle.rsp_lines.proofs.Alike.{long-alike};
 
 use arrayvec::ArrayVec;
 use rsp_lines::{Answering, ReplyBytes};

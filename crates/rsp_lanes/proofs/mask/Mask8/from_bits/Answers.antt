@@ -1,6 +1,7 @@
 use Rattle.std.proofs.Common.{◌≡◌, ◌∙◌, ℕ, [], ◌∷◌, replicate, not, nat_eq, bit_and, refl}
 use Rattle.std.specs.Simd.Lanes.{zip2}
-use Rattle.rsp_lanes.specs.Lanes.{each_lane, bit_set}
+use Rattle.rsp_lanes.specs.Lanes.{each_lane}
+use Rattle.rsp_numbers.specs.Numbers.{bit_set}
 use Rattle.rsp_lanes.proofs.Masks.{made_mask, made_truths, bit_test, bits_lane}
 use Rattle.rsp_lanes.proofs.mask.Mask8.from_bits.Goals as goal
 
