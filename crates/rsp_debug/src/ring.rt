@@ -44,7 +44,7 @@ struct Counted {
 
 impl Counted {
     /// How many records stand where the newest is at a place at or before the base.
-    fn upto(self, first: usize, depth: usize) -> usize
+    fn count_from(self, first: usize, depth: usize) -> usize
         requires { first ≤ self.base }
         ensures { result ≡ min (self.older + (self.base - first)) depth }
     {
@@ -58,7 +58,7 @@ impl Counted {
         ensures { result ≡ record { older = min (self.older + self.base) depth; base = slots } }
     {
         Counted {
-            older: self.upto(0, depth),
+            older: self.count_from(0, depth),
             base: slots,
         }
     }
@@ -97,7 +97,7 @@ impl Model for Span {
     ghost invariant = { λ s. s.first ≤ s.counted.base };
 }
 
-/// What a run looks for behind each step. Where it looks for nothing, one test is all that this costs.
+/// What a run looks for behind each step. Where it looks for nothing, `any` is all that is asked.
 #[derive(Clone, Copy, Drop)]
 pub struct Sought {
     pub any: bool,
@@ -201,7 +201,7 @@ impl Span {
     pub fn count(&self) -> usize
         ensures { result ≡ self.now.count }
     {
-        self.counted.upto(self.first, self.depth)
+        self.counted.count_from(self.first, self.depth)
     }
 
     /// The place of the next record.
