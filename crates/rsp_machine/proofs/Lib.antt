@@ -3,3 +3,4 @@ pub mod Undoing
 pub mod Loading
 pub mod Flagging
 pub mod Kept
+pub mod Ending

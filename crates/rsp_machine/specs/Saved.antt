@@ -228,6 +228,12 @@ slot_after s r = told_of kept_change s r
 unfoldable pub can_undo : State → Bool
 can_undo s = if s.sp.halted then false else is_back_by (inst_of (word_at s.imem s.pc))
 
+-- whether an instruction with a change may have read or written the SP registers; any other leaves them
+abbrev pub reaches_sp : Change → Bool
+reaches_sp (of.Sp n) = true
+reaches_sp of.Dma = true
+reaches_sp _ = false
+
 -- whether a record leads back
 abbrev pub is_back : Change → Bool
 is_back of.Dma = false

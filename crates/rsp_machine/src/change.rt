@@ -2,7 +2,7 @@
 
 ghost use Rattle.std.specs.Prelude.{◌≡◌, ◌<◌};
 ghost use Rattle.rsp_decode.specs.Table.{IsInstruction};
-ghost use Rattle.rsp_machine.specs.Saved.{IsChange, sign_change, jump_change, loaded_change, vector_move_change, control_move_change, sp_move_change, nameless, vd_of};
+ghost use Rattle.rsp_machine.specs.Saved.{IsChange, sign_change, jump_change, loaded_change, vector_move_change, control_move_change, sp_move_change, nameless, reaches_sp, vd_of};
 
 use rsp_decode::{Inst, JumpRow, MoveRow, SignRow, VectorLoadRow};
 
@@ -54,6 +54,14 @@ impl Change {
             Change::Divide(_) => Change::Divide(0),
             change => change,
         }
+    }
+
+    /// Whether an instruction with this change may read or write the SP registers.
+    #[inline(always)]
+    pub(crate) fn reaches_sp(self) -> bool
+        ensures { result ≡ reaches_sp self }
+    {
+        matches!(self, Change::Sp(_) | Change::Dma)
     }
 }
 

@@ -20,4 +20,5 @@ mod visits;
 pub use host::{RangeFault, TaskFault};
 pub use machine::Machine;
 pub use record::Record;
+pub use recorder::Recorded;
 pub use step::StepEnd;

@@ -1,36 +1,71 @@
 // Steps of which a record is kept.
 
 ghost use Rattle.std.specs.Prelude.{◌≡◌, ◌↔◌, true, false, IsSome, IfSome};
-ghost use Rattle.rsp_machine.specs.Step.{step_of};
-ghost use Rattle.rsp_machine.specs.Saved.{slot_after, can_undo, may_store, undone};
+ghost use Rattle.rsp_machine.specs.Step.{singled, step_of};
+ghost use Rattle.rsp_machine.specs.Saved.{slot_after, can_undo, is_back, may_store, undone};
 
 use crate::machine::Machine;
 use crate::record::Record;
 use crate::step::StepEnd;
 use rsp_acc::Acc;
 
+/// What a step came to of which a record is kept.
+#[derive(Clone, Copy, Debug, PartialEq, Eq)]
+pub struct Recorded {
+    /// What the step answered.
+    pub end: StepEnd,
+    /// Whether [`Machine::undo`] of the record leads back: exactly where the step is Done and started no DMA.
+    pub is_back: bool,
+    /// Whether the machine is halted behind it.
+    pub halted: bool,
+}
+
 impl<A: Acc> Machine<A> {
-    /// One step, as [`Machine::step`] makes it, with what it changed kept in a slot. The answer beside the step's is
-    /// whether [`Machine::undo`] leads back: exactly where the step is Done and started no DMA. Where it isn't Done the
-    /// slot stays.
-    /// A step that is Done changes DMEM only where [`Record::may_store`] of the slot says so.
+    /// One step of a machine that isn't halted, as [`Machine::step`] makes it, with what it changed kept in a slot. Where it
+    /// isn't Done the slot stays. A step that is Done changes DMEM only where [`Record::may_store`] of the slot says so.
     #[inline(always)]
-    #[tactic(auto, using(crate::proofs::Kept::recording), unfolding(crate::specs::Saved::slot_after))]
-    pub fn record_step(&mut self, slot: &mut Record) -> (StepEnd, bool)
-        ensures answer { result.0 ≡ (step_of self.old).0 }
+    pub fn record_step(&mut self, slot: &mut Record) -> Recorded
+        requires { self.old.sp.halted ≡ false }
+        ensures answer { result.end ≡ (step_of self.old).0 }
         ensures state { self.new ≡ (step_of self.old).1 }
         ensures slot { slot.new ≡ slot_after self.old slot.old }
-        ensures which { result.1 ≡ can_undo self.old }
+        ensures which { result.is_back ≡ can_undo self.old }
+        ensures halted { result.halted ≡ self.new.sp.halted }
         ensures back { can_undo self.old ≡ true → undone slot.new self.new ≡ self.old }
-        ensures memory { result.0 ≡ StepEnd.Done → may_store slot.new ≡ false → self.new.dmem ≡ self.old.dmem }
+        ensures memory { result.end ≡ StepEnd.Done → may_store slot.new ≡ false → self.new.dmem ≡ self.old.dmem }
     {
         self.flags.ranges();
-        let end = self.step_told(slot);
-        let is_back = match end {
-            StepEnd::Done => slot.is_back(),
-            StepEnd::Halted | StepEnd::Reserved { .. } => false,
+        let word = self.imem.aligned_word(self.pc);
+        let Some(reaches_sp) = self.execute(word, slot) else {
+            return Recorded {
+                end: StepEnd::Reserved { word },
+                is_back: false,
+                halted: false,
+            };
         };
-        (end, is_back)
+        if reaches_sp || self.sp.single_step() {
+            return self.end_recorded(slot);
+        }
+        Recorded {
+            end: StepEnd::Done,
+            is_back: true,
+            halted: false,
+        }
+    }
+
+    /// The end of an instruction that may have reached the SP registers, or was a single step.
+    #[cold]
+    #[inline(never)]
+    fn end_recorded(&mut self, slot: &Record) -> Recorded
+        ensures state { self.new ≡ singled self.old }
+        ensures value { result ≡ record { end = StepEnd.Done; is_back = is_back slot.now.change; halted = self.new.sp.halted } }
+    {
+        self.sp.on_step();
+        Recorded {
+            end: StepEnd::Done,
+            is_back: slot.is_back(),
+            halted: self.sp.halted(),
+        }
     }
 
     /// One step, with a record of what it changed beside its answer: None exactly where the answer isn't Done or a DMA
@@ -41,8 +76,12 @@ impl<A: Acc> Machine<A> {
         ensures which { IsSome result.1 ↔ (can_undo self.old ≡ true) }
         ensures back { IfSome result.1 (λ r. undone r self.new ≡ self.old) }
     {
+        if self.sp.halted() {
+            return (StepEnd::Halted, None);
+        }
         let mut slot = Record::new();
-        let (end, is_back) = self.record_step(&mut slot);
-        (end, if is_back { Some(slot) } else { None })
+        let recorded = self.record_step(&mut slot);
+        let slot = if recorded.is_back { Some(slot) } else { None };
+        (recorded.end, slot)
     }
 }

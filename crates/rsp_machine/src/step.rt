@@ -1,8 +1,8 @@
-ghost use Rattle.std.specs.Prelude.{◌≡◌, ◌<◌, ◌%◌};
-ghost use Rattle.rsp_decode.specs.Table.{IsInstruction};
-ghost use Rattle.rsp_machine.specs.Step.{computes, loads, stores, jumps, break_instruction, moves_sp, step_of};
+ghost use Rattle.std.specs.Prelude.{◌≡◌, ◌<◌, ◌%◌, option_map, unwrap_or};
+ghost use Rattle.rsp_decode.specs.Table.{IsInstruction, inst_of};
+ghost use Rattle.rsp_machine.specs.Step.{computes, loads, stores, jumps, break_instruction, moves_sp, executed, singled, step_of};
 ghost use Rattle.rsp_machine.specs.State.{advanced};
-ghost use Rattle.rsp_machine.specs.Saved.{told_of};
+ghost use Rattle.rsp_machine.specs.Saved.{change_of, reaches_sp, told_by};
 ghost use Rattle.rsp_scalar.specs.Flow.{going_on};
 
 use crate::machine::Machine;
@@ -120,27 +120,43 @@ impl<A: Acc> Machine<A> {
         self.advance();
     }
 
-    /// One step, of which a keeper is told.
+    /// Executes a word, of which a keeper is told, and tells whether that may have read or written the SP registers. None for a
+    /// reserved word, which changes nothing.
     #[inline(always)]
-    #[tactic(auto, unfolding(crate::specs::Step::step_of, crate::specs::Saved::told_of))]
-    pub(crate) fn step_told<K: Keeper>(&mut self, keeper: &mut K) -> StepEnd
-        ensures answer { result ≡ (step_of self.old).0 }
-        ensures state { self.new ≡ (step_of self.old).1 }
-        ensures keeper { keeper.new ≡ told_of K.keeps self.old keeper.old }
+    pub(crate) fn execute<K: Keeper>(&mut self, word: u32, keeper: &mut K) -> Option<bool>
+        ensures answer { result ≡ option_map (λ i. reaches_sp (change_of i self.old)) (inst_of word) }
+        ensures state { self.new ≡ unwrap_or (option_map (λ i. executed i self.old) (inst_of word)) self.old }
+        ensures keeper { keeper.new ≡ told_by K.keeps (inst_of word) self.old keeper.old }
     {
-        if self.sp.halted() {
-            return StepEnd::Halted;
-        }
-        let word = self.imem.aligned_word(self.pc);
         let mut executor = Executor {
             machine: self,
             keeper,
+            reaches_sp: false,
         };
         if !visit(word, &mut executor) {
-            return StepEnd::Reserved { word };
+            return None;
         }
+        Some(executor.reaches_sp)
+    }
+
+    /// The end of an instruction: halted, where single step is set.
+    #[cold]
+    #[inline(never)]
+    fn end_instruction(&mut self)
+        ensures { self.new ≡ singled self.old }
+    {
         self.sp.on_step();
-        StepEnd::Done
+    }
+
+    /// A step where the machine is halted, or single step is set.
+    #[cold]
+    #[inline(never)]
+    fn step_held(&mut self) -> StepEnd
+        ensures answer { result ≡ (step_of self.old).0 }
+        ensures state { self.new ≡ (step_of self.old).1 }
+    {
+        let (end, _) = self.step_recorded();
+        end
     }
 
     /// One step: Halted where the machine is halted, else Reserved where the word of IMEM at pc is, and
@@ -152,7 +168,17 @@ impl<A: Acc> Machine<A> {
         ensures answer { result ≡ (step_of self.old).0 }
         ensures state { self.new ≡ (step_of self.old).1 }
     {
-        let mut keeper = Unkept;
-        self.step_told(&mut keeper)
+        if self.sp.is_held() {
+            return self.step_held();
+        }
+        let word = self.imem.aligned_word(self.pc);
+        let Some(reaches_sp) = self.execute(word, &mut Unkept) else {
+            return StepEnd::Reserved { word };
+        };
+        // Single step was clear, and only an instruction that reaches it can have set it.
+        if reaches_sp {
+            self.end_instruction();
+        }
+        StepEnd::Done
     }
 }

@@ -2,7 +2,7 @@
 
 ghost use Rattle.std.specs.Prelude.{◌≡◌};
 ghost use Rattle.rsp_machine.specs.State.{State};
-ghost use Rattle.rsp_machine.specs.Saved.{IsChange};
+ghost use Rattle.rsp_machine.specs.Saved.{IsChange, reaches_sp};
 ghost use Rattle.rsp_machine.specs.declared.change.Change.{Change};
 
 use crate::change::{
@@ -48,22 +48,36 @@ impl Keeper for Unkept {
 pub(crate) struct Executor<'a, A: Acc, K: Keeper> {
     pub(crate) machine: &'a mut Machine<A>,
     pub(crate) keeper: &'a mut K,
+    /// Whether the instruction may have read or written the SP registers.
+    pub(crate) reaches_sp: bool,
+}
+
+impl<'a, A: Acc, K: Keeper> Executor<'a, A, K> {
+    /// Tells the keeper of a change, before it is made.
+    #[inline(always)]
+    fn keep(&mut self, change: Change)
+        requires { IsChange change }
+        ensures { self.new ≡ record self.old { keeper = record self.old.keeper { now = K.keeps change self.old.machine.now self.old.keeper.now }; reaches_sp = reaches_sp change } }
+    {
+        self.keeper.keep(self.machine, change);
+        self.reaches_sp = change.reaches_sp();
+    }
 }
 
 impl<'a, A: Acc, K: Keeper> Visitor for Executor<'a, A, K> {
     ghost use Rattle.rsp_machine.specs.Step.{executed};
-    ghost use Rattle.rsp_machine.specs.Saved.{change_of};
+    ghost use Rattle.rsp_machine.specs.Saved.{change_of, reaches_sp};
 
     ghost after = { λ i e. record {
       machine = record e.machine { now = executed i e.machine.now };
       keeper = record e.keeper { now = K.keeps (change_of i e.machine.now) e.machine.now e.keeper.now };
+      reaches_sp = reaches_sp (change_of i e.machine.now);
     } };
 
     #[inline(always)]
     #[tactic(auto, unfolding(crate::specs::Step::executed, crate::specs::Saved::change_of))]
     fn shift(&mut self, row: ShiftRow, rd: u8, rt: u8, amount: u8) {
-        self.keeper
-            .keep(self.machine, Change::Register(u32::from(rd)));
+        self.keep(Change::Register(u32::from(rd)));
         self.machine.compute(&Inst::Shift {
             row,
             rd,
@@ -75,52 +89,49 @@ impl<'a, A: Acc, K: Keeper> Visitor for Executor<'a, A, K> {
     #[inline(always)]
     #[tactic(auto, unfolding(crate::specs::Step::executed, crate::specs::Saved::change_of))]
     fn shift_by(&mut self, row: ShiftByRow, fields: RegisterFields) {
-        self.keeper
-            .keep(self.machine, Change::Register(u32::from(fields.rd)));
+        self.keep(Change::Register(u32::from(fields.rd)));
         self.machine.compute(&Inst::ShiftBy { row, fields });
     }
 
     #[inline(always)]
     #[tactic(auto, unfolding(crate::specs::Step::executed, crate::specs::Saved::change_of))]
     fn jump_register(&mut self, rs: u8) {
-        self.keeper.keep(self.machine, Change::Places);
+        self.keep(Change::Places);
         self.machine.go_to(&Inst::JumpRegister { rs });
     }
 
     #[inline(always)]
     #[tactic(auto, unfolding(crate::specs::Step::executed, crate::specs::Saved::change_of))]
     fn jump_link_register(&mut self, rd: u8, rs: u8) {
-        self.keeper
-            .keep(self.machine, Change::Register(u32::from(rd)));
+        self.keep(Change::Register(u32::from(rd)));
         self.machine.go_to(&Inst::JumpLinkRegister { rd, rs });
     }
 
     #[inline(always)]
     #[tactic(auto, unfolding(crate::specs::Step::executed, crate::specs::Saved::change_of))]
     fn break_instruction(&mut self) {
-        self.keeper.keep(self.machine, Change::Sp(0));
+        self.keep(Change::Sp(0));
         self.machine.break_instruction();
     }
 
     #[inline(always)]
     #[tactic(auto, unfolding(crate::specs::Step::executed, crate::specs::Saved::change_of))]
     fn register(&mut self, row: RegisterRow, fields: RegisterFields) {
-        self.keeper
-            .keep(self.machine, Change::Register(u32::from(fields.rd)));
+        self.keep(Change::Register(u32::from(fields.rd)));
         self.machine.compute(&Inst::Register { row, fields });
     }
 
     #[inline(always)]
     #[tactic(auto, unfolding(crate::specs::Step::executed, crate::specs::Saved::change_of))]
     fn branch_sign(&mut self, row: SignRow, rs: u8, offset: u16) {
-        self.keeper.keep(self.machine, sign_change(row));
+        self.keep(sign_change(row));
         self.machine.go_to(&Inst::BranchSign { row, rs, offset });
     }
 
     #[inline(always)]
     #[tactic(auto, unfolding(crate::specs::Step::executed, crate::specs::Saved::change_of))]
     fn branch_equal(&mut self, row: EqualRow, rs: u8, rt: u8, offset: u16) {
-        self.keeper.keep(self.machine, Change::Places);
+        self.keep(Change::Places);
         self.machine.go_to(&Inst::BranchEqual {
             row,
             rs,
@@ -132,31 +143,28 @@ impl<'a, A: Acc, K: Keeper> Visitor for Executor<'a, A, K> {
     #[inline(always)]
     #[tactic(auto, unfolding(crate::specs::Step::executed, crate::specs::Saved::change_of))]
     fn jump(&mut self, row: JumpRow, target: u16) {
-        self.keeper.keep(self.machine, jump_change(row));
+        self.keep(jump_change(row));
         self.machine.go_to(&Inst::Jump { row, target });
     }
 
     #[inline(always)]
     #[tactic(auto, unfolding(crate::specs::Step::executed, crate::specs::Saved::change_of))]
     fn immediate(&mut self, row: ImmediateRow, rt: u8, rs: u8, imm: u16) {
-        self.keeper
-            .keep(self.machine, Change::Register(u32::from(rt)));
+        self.keep(Change::Register(u32::from(rt)));
         self.machine.compute(&Inst::Immediate { row, rt, rs, imm });
     }
 
     #[inline(always)]
     #[tactic(auto, unfolding(crate::specs::Step::executed, crate::specs::Saved::change_of))]
     fn load_upper(&mut self, rt: u8, imm: u16) {
-        self.keeper
-            .keep(self.machine, Change::Register(u32::from(rt)));
+        self.keep(Change::Register(u32::from(rt)));
         self.machine.compute(&Inst::LoadUpper { rt, imm });
     }
 
     #[inline(always)]
     #[tactic(auto, unfolding(crate::specs::Step::executed, crate::specs::Saved::change_of))]
     fn load(&mut self, row: LoadRow, fields: ScalarMemoryFields) {
-        self.keeper
-            .keep(self.machine, Change::Register(u32::from(fields.rt)));
+        self.keep(Change::Register(u32::from(fields.rt)));
         self.machine.load_scalar(&Inst::Load { row, fields });
     }
 
@@ -164,23 +172,21 @@ impl<'a, A: Acc, K: Keeper> Visitor for Executor<'a, A, K> {
     #[tactic(auto, unfolding(crate::specs::Step::executed, crate::specs::Saved::change_of))]
     fn store(&mut self, row: StoreRow, fields: ScalarMemoryFields) {
         let change = self.machine.stored_change(fields);
-        self.keeper.keep(self.machine, change);
+        self.keep(change);
         self.machine.store_scalar(&Inst::Store { row, fields });
     }
 
     #[inline(always)]
     #[tactic(auto, unfolding(crate::specs::Step::executed, crate::specs::Saved::change_of))]
     fn move_sp(&mut self, row: MoveRow, rt: u8, register: u8) {
-        self.keeper
-            .keep(self.machine, sp_move_change(row, rt, register));
+        self.keep(sp_move_change(row, rt, register));
         self.machine.move_sp_register(row, rt, register);
     }
 
     #[inline(always)]
     #[tactic(auto, unfolding(crate::specs::Step::executed, crate::specs::Saved::change_of))]
     fn move_vector(&mut self, row: MoveRow, rt: u8, vector: u8, element: u8) {
-        self.keeper
-            .keep(self.machine, vector_move_change(row, rt, vector));
+        self.keep(vector_move_change(row, rt, vector));
         self.machine.move_lanes(
             &Inst::MoveVector {
                 row,
@@ -196,7 +202,7 @@ impl<'a, A: Acc, K: Keeper> Visitor for Executor<'a, A, K> {
     #[inline(always)]
     #[tactic(auto, unfolding(crate::specs::Step::executed, crate::specs::Saved::change_of))]
     fn move_control(&mut self, row: MoveRow, rt: u8, control: Control) {
-        self.keeper.keep(self.machine, control_move_change(row, rt));
+        self.keep(control_move_change(row, rt));
         self.machine
             .move_flags(&Inst::MoveControl { row, rt, control }, row, rt);
     }
@@ -204,95 +210,84 @@ impl<'a, A: Acc, K: Keeper> Visitor for Executor<'a, A, K> {
     #[inline(always)]
     #[tactic(auto, unfolding(crate::specs::Step::executed, crate::specs::Saved::change_of))]
     fn multiply(&mut self, row: MultiplyRow, fields: VectorFields) {
-        self.keeper
-            .keep(self.machine, Change::Product(u32::from(fields.vd)));
+        self.keep(Change::Product(u32::from(fields.vd)));
         self.machine.multiply_lanes(row, fields);
     }
 
     #[inline(always)]
     #[tactic(auto, unfolding(crate::specs::Step::executed, crate::specs::Saved::change_of))]
     fn round(&mut self, row: RoundRow, fields: VectorFields) {
-        self.keeper
-            .keep(self.machine, Change::Product(u32::from(fields.vd)));
+        self.keep(Change::Product(u32::from(fields.vd)));
         self.machine.round_lanes(row, fields);
     }
 
     #[inline(always)]
     #[tactic(auto, unfolding(crate::specs::Step::executed, crate::specs::Saved::change_of))]
     fn mpeg_multiply(&mut self, row: MpegRow, fields: VectorFields) {
-        self.keeper
-            .keep(self.machine, Change::Product(u32::from(fields.vd)));
+        self.keep(Change::Product(u32::from(fields.vd)));
         self.machine.multiply_mpeg(row, fields);
     }
 
     #[inline(always)]
     #[tactic(auto, unfolding(crate::specs::Step::executed, crate::specs::Saved::change_of))]
     fn read_accumulator(&mut self, fields: VectorFields) {
-        self.keeper
-            .keep(self.machine, Change::Vector(u32::from(fields.vd)));
+        self.keep(Change::Vector(u32::from(fields.vd)));
         self.machine.read_part(fields);
     }
 
     #[inline(always)]
     #[tactic(auto, unfolding(crate::specs::Step::executed, crate::specs::Saved::change_of))]
     fn vector_add(&mut self, row: VectorAddRow, fields: VectorFields) {
-        self.keeper
-            .keep(self.machine, Change::Sum(u32::from(fields.vd)));
+        self.keep(Change::Sum(u32::from(fields.vd)));
         self.machine.compute_lanes(add_op(row), fields);
     }
 
     #[inline(always)]
     #[tactic(auto, unfolding(crate::specs::Step::executed, crate::specs::Saved::change_of))]
     fn vector_select(&mut self, row: VectorSelectRow, fields: VectorFields) {
-        self.keeper
-            .keep(self.machine, Change::Choice(u32::from(fields.vd)));
+        self.keep(Change::Choice(u32::from(fields.vd)));
         self.machine.compute_lanes(select_op(row), fields);
     }
 
     #[inline(always)]
     #[tactic(auto, unfolding(crate::specs::Step::executed, crate::specs::Saved::change_of))]
     fn vector_clip(&mut self, row: VectorClipRow, fields: VectorFields) {
-        self.keeper
-            .keep(self.machine, Change::Clip(u32::from(fields.vd)));
+        self.keep(Change::Clip(u32::from(fields.vd)));
         self.machine.compute_lanes(clip_op(row), fields);
     }
 
     #[inline(always)]
     #[tactic(auto, unfolding(crate::specs::Step::executed, crate::specs::Saved::change_of))]
     fn vector_merge(&mut self, fields: VectorFields) {
-        self.keeper
-            .keep(self.machine, Change::Sum(u32::from(fields.vd)));
+        self.keep(Change::Sum(u32::from(fields.vd)));
         self.machine.compute_lanes(MergeOp::Vmrg, fields);
     }
 
     #[inline(always)]
     #[tactic(auto, unfolding(crate::specs::Step::executed, crate::specs::Saved::change_of))]
     fn vector_logic(&mut self, row: VectorLogicRow, fields: VectorFields) {
-        self.keeper
-            .keep(self.machine, Change::Product(u32::from(fields.vd)));
+        self.keep(Change::Product(u32::from(fields.vd)));
         self.machine.compute_lanes(logic_op(row), fields);
     }
 
     #[inline(always)]
     #[tactic(auto, unfolding(crate::specs::Step::executed, crate::specs::Saved::change_of))]
     fn divide(&mut self, row: DivideRow, vd: u8, lane: u8, vt: u8, element: u8) {
-        self.keeper
-            .keep(self.machine, Change::Divide(u32::from(vd)));
+        self.keep(Change::Divide(u32::from(vd)));
         self.machine.divide(row, vd, lane, vt, element);
     }
 
     #[inline(always)]
     #[tactic(auto, unfolding(crate::specs::Step::executed, crate::specs::Saved::change_of))]
     fn idle(&mut self, _row: IdleRow) {
-        self.keeper.keep(self.machine, Change::Places);
+        self.keep(Change::Places);
         self.machine.advance();
     }
 
     #[inline(always)]
     #[tactic(auto, unfolding(crate::specs::Step::executed, crate::specs::Saved::change_of))]
     fn vector_load(&mut self, row: VectorLoadRow, fields: VectorMemoryFields) {
-        self.keeper
-            .keep(self.machine, loaded_change(row, fields.vt));
+        self.keep(loaded_change(row, fields.vt));
         self.machine.load_register(row, fields);
     }
 
@@ -300,7 +295,7 @@ impl<'a, A: Acc, K: Keeper> Visitor for Executor<'a, A, K> {
     #[tactic(auto, unfolding(crate::specs::Step::executed, crate::specs::Saved::change_of))]
     fn vector_store(&mut self, row: VectorStoreRow, fields: VectorMemoryFields) {
         let change = self.machine.window_change(row, fields);
-        self.keeper.keep(self.machine, change);
+        self.keep(change);
         self.machine.store_register(row, fields);
     }
 }

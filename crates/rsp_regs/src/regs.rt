@@ -1,4 +1,4 @@
-ghost use Rattle.std.specs.Prelude.{◌≡◌, ◌%◌, ◌==◌, if◌then◌else◌, false};
+ghost use Rattle.std.specs.Prelude.{◌≡◌, ◌%◌, ◌==◌, ◌||◌, if◌then◌else◌, false};
 ghost use Rattle.rsp_regs.specs.Dma.{IsTransfer};
 ghost use Rattle.rsp_regs.specs.Sp.{start, status, peeked, after_read, status_written, transfer, after_dma, written, dmem_from_rdram, imem_from_rdram, rdram_from_bank, after_break, after_step, after_task};
 
@@ -20,6 +20,8 @@ pub struct SpRegs {
     halted: bool,
     broke: bool,
     single_step: bool,
+    /// Halted or single step, kept so that a step tests one value.
+    is_held: bool,
     intbreak: bool,
     signals: [bool; 8],
     interrupt: bool,
@@ -28,6 +30,7 @@ pub struct SpRegs {
 }
 
 impl Model for SpRegs {
+    ghost use Rattle.std.specs.Prelude.{◌≡◌, ◌||◌};
     ghost use Rattle.rsp_regs.specs.Sp.{Sp, IsSp};
 
     ghost Value = { Sp };
@@ -46,7 +49,7 @@ impl Model for SpRegs {
       dpc = s.dpc;
     } };
 
-    ghost invariant = { λ s. IsSp s.memory s.dram s.skip };
+    ghost invariant = { λ s. IsSp s.memory s.dram s.skip × (s.is_held ≡ (s.halted || s.single_step)) };
 
     ghost inverse = { λ s. record {
       memory = s.memory;
@@ -55,6 +58,7 @@ impl Model for SpRegs {
       halted = s.halted;
       broke = s.broke;
       single_step = s.single_step;
+      is_held = s.halted || s.single_step;
       intbreak = s.intbreak;
       signals = s.signals;
       interrupt = s.interrupt;
@@ -75,6 +79,7 @@ impl SpRegs {
             halted: false,
             broke: false,
             single_step: false,
+            is_held: false,
             intbreak: false,
             signals: [false; 8],
             interrupt: false,
@@ -89,6 +94,22 @@ impl SpRegs {
         ensures { result ≡ self.now.halted }
     {
         self.halted
+    }
+
+    /// Whether single step is set.
+    #[inline]
+    pub fn single_step(&self) -> bool
+        ensures { result ≡ self.now.single_step }
+    {
+        self.single_step
+    }
+
+    /// Whether the processor is halted, or will be after one instruction.
+    #[inline(always)]
+    pub fn is_held(&self) -> bool
+        ensures { result ≡ (self.now.halted || self.now.single_step) }
+    {
+        self.is_held
     }
 
     /// The interrupt flag.
@@ -157,6 +178,7 @@ impl SpRegs {
         ensures { self.new ≡ after_break self.old }
     {
         self.halted = true;
+        self.is_held = true;
         self.broke = true;
         self.interrupt = self.interrupt || self.intbreak;
     }
@@ -167,6 +189,7 @@ impl SpRegs {
         ensures { self.new ≡ record self.old { halted = false } }
     {
         self.halted = false;
+        self.is_held = self.single_step;
     }
 
     /// What the end of an instruction sets: halted, where single step is set.
@@ -186,7 +209,7 @@ impl SpRegs {
     pub fn on_task(&mut self)
         ensures { self.new ≡ after_task self.old }
     {
-        self.halted = false;
+        self.resume();
         self.broke = false;
         self.intbreak = true;
         self.signals[0] = false;
@@ -204,6 +227,7 @@ impl SpRegs {
         self.broke = self.broke && !bit_set(value, 2);
         self.interrupt = paired(value, 3, self.interrupt);
         self.single_step = paired(value, 5, self.single_step);
+        self.is_held = self.halted || self.single_step;
         self.intbreak = paired(value, 7, self.intbreak);
         let [a, b, c, d, e, f, g, h] = self.signals;
         self.signals = [

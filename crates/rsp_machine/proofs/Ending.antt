@@ -1,0 +1,151 @@
+-- How a step of a machine that isn't halted ends.
+use Rattle.std.proofs.Common.{◌≡◌, ℕ, ◌||◌, Bool, true, false, not, refl, sym, ap, subst, ◌∙◌, Option, Some, None}
+use Rattle.std.specs.Prelude.{if◌then◌else◌, option_map, unwrap_or}
+use Rattle.rsp_decode.specs.declared.inst.Inst.{Inst}
+use Rattle.rsp_decode.specs.declared.inst.Inst.TheVariants.{Break, MoveSp, MoveVector, MoveControl}
+use Rattle.rsp_decode.specs.declared.inst.MoveRow.TheVariants.{From, To}
+use Rattle.rsp_decode.specs.Table.{inst_of}
+use Rattle.rsp_memory.specs.Memory.{word_at}
+use Rattle.rsp_regs.specs.Sp.{Sp, after_step}
+use Rattle.rsp_machine.specs.State.{State}
+use Rattle.rsp_machine.specs.Vector.{multiplies, rounds, multiplies_mpeg, reads_accumulator, ruled, divides, loads_vector, stores_vector, moves_vector, moves_control}
+use Rattle.rsp_machine.specs.Step.{computes, loads, stores, jumps, executed, singled, step_by, step_of}
+use Rattle.rsp_machine.specs.declared.step.StepEnd.TheVariants.{Done, Halted, Reserved}
+use Rattle.rsp_machine.specs.declared.change.Change.TheVariants as of
+use Rattle.rsp_machine.specs.Saved.{Saved, change_of, kept_change, reaches_sp, told_by, told_of, slot_after, starts_dma, is_length, is_back_by, can_undo, may_store, undone}
+use Rattle.rsp_machine.proofs.Flagging.{AreFlags}
+use Rattle.rsp_machine.proofs.Kept.{slot_back, memory_stays}
+
+-- whether an instruction, where there is one, reaches the SP registers; and the state after it
+abbrev pub reached : State → Option Inst → Option Bool
+reached s o = option_map (λ i. reaches_sp (change_of i s)) o
+
+abbrev pub after : State → Option Inst → State
+after s o = unwrap_or (option_map (λ i. executed i s) o) s
+
+-- an instruction that doesn't reach the SP registers leaves them, and starts no DMA
+dma_reaches : (b : Bool) (X : Type 0) → reaches_sp (if b then of.Dma else of.Sp 0) ≡ false → X
+dma_reaches true X h = cc
+dma_reaches false X h = cc
+
+leaves : (i : Inst) (s : State) → reaches_sp (change_of i s) ≡ false → (executed i s).sp ≡ s.sp
+unfolding change_of executed computes loads stores jumps multiplies rounds multiplies_mpeg reads_accumulator ruled divides loads_vector stores_vector moves_vector moves_control
+leaves Break s h = cc
+leaves (MoveSp From rt n) s h = cc
+leaves (MoveSp To rt n) s h = dma_reaches (is_length n) ((executed (MoveSp To rt n) s).sp ≡ s.sp) h
+leaves (MoveVector From rt n element) s h = refl
+leaves (MoveVector To rt n element) s h = refl
+leaves (MoveControl From rt control) s h = refl
+leaves (MoveControl To rt control) s h = refl
+leaves _ s h = refl
+
+not_reached : (b : Bool) → Some b ≡ Some false → b ≡ false
+not_reached false h = refl
+not_reached true h = cc
+
+no_transfer : (i : Inst) (s : State) → reaches_sp (change_of i s) ≡ false → starts_dma i ≡ false
+unfolding change_of
+no_transfer (MoveSp From rt n) s h = refl
+no_transfer (MoveSp To rt n) s h = dma_reaches (is_length n) (starts_dma (MoveSp To rt n) ≡ false) h
+no_transfer _ s h = refl
+
+stays_by : (o : Option Inst) (s t : State) → reached s o ≡ Some false → t ≡ after s o → t.sp ≡ s.sp
+stays_by None s t h e = cc
+stays_by (Some i) s t h e = ap (λ (x : State). x.sp) e ∙ leaves i s (not_reached (reaches_sp (change_of i s)) h)
+
+pub stays : {b : Bool} (o : Option Inst) (s t : State) → b ≡ false → Some b ≡ reached s o → t ≡ after s o → t.sp ≡ s.sp
+stays o s t h r e = stays_by o s t (sym r ∙ ap Some h) e
+
+pub halted_as : (s t : State) → s.sp.halted ≡ false → t.sp ≡ s.sp → false ≡ t.sp.halted
+halted_as s t h e = sym (ap (λ (p : Sp). p.halted) e ∙ h)
+
+leads_back : (o : Option Inst) (s : State) → reached s o ≡ Some false → is_back_by o ≡ true
+leads_back None s h = cc
+leads_back (Some i) s h = ap not (no_transfer i s (not_reached (reaches_sp (change_of i s)) h))
+
+-- single step halts nothing where it is clear
+halts_none : (p : Sp) → p.halted ≡ false → p.single_step ≡ false → after_step p ≡ p
+unfolding after_step
+halts_none p h e = rw (e, h) refl
+
+pub free : (s t : State) → s.sp.halted ≡ false → t.sp ≡ s.sp → t.sp.single_step ≡ false → t ≡ singled t
+free s t h same e = sym (ap (λ p. record t { sp = p }) (halts_none t.sp (ap (λ (p : Sp). p.halted) same ∙ h) e))
+
+pub clear_as : (s t : State) → s.sp.single_step ≡ false → t.sp ≡ s.sp → t.sp.single_step ≡ false
+clear_as s t h e = ap (λ (p : Sp). p.single_step) e ∙ h
+
+pub neither : {a b : Bool} → (a || b) ≡ false → (a ≡ false) × (b ≡ false)
+neither {a = false} e = (refl, e)
+neither {a = true} e = cc
+
+-- a step of a halted machine
+halted_by : (b : Bool) (o : Option Inst) (w : ℕ) (s : State) → b ≡ true → (if b then (Halted, s) else step_by o w s) ≡ (Halted, s)
+halted_by true o w s h = refl
+halted_by false o w s h = cc
+
+pub step_halted : (s : State) → s.sp.halted ≡ true → step_of s ≡ (Halted, s)
+unfolding step_of
+step_halted s h = halted_by s.sp.halted (inst_of (word_at s.imem s.pc)) (word_at s.imem s.pc) s h
+
+no_undo_by : (b : Bool) (o : Option Inst) → b ≡ true → (if b then false else is_back_by o) ≡ false
+no_undo_by true o h = refl
+no_undo_by false o h = cc
+
+pub no_undo_halted : (s : State) → s.sp.halted ≡ true → (false ≡ true → can_undo s ≡ true) × (can_undo s ≡ true → false ≡ true)
+unfolding can_undo
+no_undo_halted s h = (λ e. cc, λ u. sym (no_undo_by s.sp.halted (inst_of (word_at s.imem s.pc)) h) ∙ u)
+
+-- a step of a machine that isn't halted
+running : (b : Bool) (o : Option Inst) (w : ℕ) (s : State) → b ≡ false → (if b then (Halted, s) else step_by o w s) ≡ step_by o w s
+running true o w s h = cc
+running false o w s h = refl
+
+reserved : (o : Option Inst) (w : ℕ) (s t : State) → reached s o ≡ None → t ≡ after s o → step_by o w s ≡ (Reserved w, t)
+reserved None w s t h e = ap (λ (x : State). (Reserved w, x)) (sym e)
+reserved (Some i) w s t h e = cc
+
+done : (o : Option Inst) (w : ℕ) (s t : State) (b : Bool) → reached s o ≡ Some b → t ≡ after s o → step_by o w s ≡ (Done, singled t)
+done None w s t b h e = cc
+done (Some i) w s t b h e = ap (λ (x : State). (Done, singled x)) (sym e)
+
+pub step_reserved : (w : ℕ) (s t : State) → s.sp.halted ≡ false → w ≡ word_at s.imem s.pc → None ≡ reached s (inst_of w) → t ≡ after s (inst_of w)
+    → step_of s ≡ (Reserved w, t)
+unfolding step_of
+step_reserved w s t h e r there = rw (← e) (running s.sp.halted (inst_of w) w s h ∙ reserved (inst_of w) w s t (sym r) there)
+
+pub step_done : (w : ℕ) (s t : State) (b : Bool) → s.sp.halted ≡ false → w ≡ word_at s.imem s.pc → Some b ≡ reached s (inst_of w) → t ≡ after s (inst_of w)
+    → step_of s ≡ (Done, singled t)
+unfolding step_of
+step_done w s t b h e r there = rw (← e) (running s.sp.halted (inst_of w) w s h ∙ done (inst_of w) w s t b (sym r) there)
+
+-- and its record
+told_running : (b : Bool) (o : Option Inst) (s : State) (r : Saved) → b ≡ false → (if b then r else told_by kept_change o s r) ≡ told_by kept_change o s r
+told_running true o s r h = cc
+told_running false o s r h = refl
+
+pub slot_running : (w : ℕ) (s : State) (r : Saved) → s.sp.halted ≡ false → w ≡ word_at s.imem s.pc → slot_after s r ≡ told_by kept_change (inst_of w) s r
+unfolding slot_after told_of
+slot_running w s r h e = rw (← e) (told_running s.sp.halted (inst_of w) s r h)
+
+-- and whether it leads back
+undo_running : (b : Bool) (o : Option Inst) → b ≡ false → (if b then false else is_back_by o) ≡ is_back_by o
+undo_running true o h = cc
+undo_running false o h = refl
+
+pub undo_free : {b : Bool} (w : ℕ) (s : State) → s.sp.halted ≡ false → w ≡ word_at s.imem s.pc → b ≡ false → Some b ≡ reached s (inst_of w) → can_undo s ≡ true
+unfolding can_undo
+undo_free w s h e f r = rw (← e) (undo_running s.sp.halted (inst_of w) h ∙ leads_back (inst_of w) s (sym r ∙ ap Some f))
+
+no_way : (o : Option Inst) (s : State) → reached s o ≡ None → is_back_by o ≡ false
+no_way None s h = refl
+no_way (Some i) s h = cc
+
+pub undo_reserved : (w : ℕ) (s : State) → s.sp.halted ≡ false → w ≡ word_at s.imem s.pc → None ≡ reached s (inst_of w) → can_undo s ≡ false
+unfolding can_undo
+undo_reserved w s h e r = rw (← e) (undo_running s.sp.halted (inst_of w) h ∙ no_way (inst_of w) s (sym r))
+
+pub back : (s t : State) (r q : Saved) → AreFlags s.flags → q ≡ slot_after s r → t ≡ (step_of s).1 → can_undo s ≡ true → undone q t ≡ s
+back s t r q flags slot there u = rw (slot, there) (slot_back s r flags u)
+
+pub memory : (s t : State) (r q : Saved) → q ≡ slot_after s r → t ≡ (step_of s).1 → (step_of s).0 ≡ Done → may_store q ≡ false → t.dmem ≡ s.dmem
+memory s t r q slot there e none = ap (λ (x : State). x.dmem) there ∙ memory_stays s r e (ap may_store (sym slot) ∙ none)

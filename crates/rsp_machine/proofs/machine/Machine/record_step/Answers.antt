@@ -1,0 +1,109 @@
+use Rattle.std.proofs.Common.{◌∙◌, ap, sym, refl, subst}
+use Rattle.rsp_decode.specs.Table.{inst_of}
+use Rattle.rsp_memory.specs.Memory.{word_at}
+use Rattle.rsp_machine.specs.State.{State}
+use Rattle.rsp_machine.specs.Saved.{is_back}
+use Rattle.rsp_machine.proofs.Flagging.{AreFlags}
+use Rattle.rsp_machine.proofs.Kept.{done_marked}
+use Rattle.rsp_machine.proofs.Ending.{stays, free, step_reserved, step_done, slot_running, undo_reserved, undo_free, back, memory, halted_as}
+use Rattle.rsp_machine.proofs.machine.Machine.record_step.Goals as goal
+
+-- a reserved word
+pub returns-in_default-clause-answer : goal.returns-in_default-clause-answer
+returns-in_default-clause-answer g c =
+    let word = c.aligned_word-word.ensures ∙ ap (λ (x : State). word_at x.imem x.pc) c.self.view_is in
+    ap (λ x. x.0) (sym (step_reserved c.aligned_word-word.result c.args.self.now c.execute.new.self c.requires word c.in_default.ensures.answer c.execute.ensures.state))
+
+pub returns-in_default-clause-state : goal.returns-in_default-clause-state
+returns-in_default-clause-state g c =
+    let word = c.aligned_word-word.ensures ∙ ap (λ (x : State). word_at x.imem x.pc) c.self.view_is in
+    ap (λ x. x.1) (sym (step_reserved c.aligned_word-word.result c.args.self.now c.execute.new.self c.requires word c.in_default.ensures.answer c.execute.ensures.state))
+
+pub returns-in_default-clause-slot : goal.returns-in_default-clause-slot
+returns-in_default-clause-slot g c =
+    let word = c.aligned_word-word.ensures ∙ ap (λ (x : State). word_at x.imem x.pc) c.self.view_is in
+    c.execute.ensures.keeper ∙ sym (slot_running c.aligned_word-word.result c.args.self.now c.args.slot.now c.requires word)
+
+pub returns-in_default-clause-which : goal.returns-in_default-clause-which
+returns-in_default-clause-which g c =
+    let word = c.aligned_word-word.ensures ∙ ap (λ (x : State). word_at x.imem x.pc) c.self.view_is in
+    sym (undo_reserved c.aligned_word-word.result c.args.self.now c.requires word c.in_default.ensures.answer)
+
+pub returns-in_default-clause-back : goal.returns-in_default-clause-back
+returns-in_default-clause-back g c =
+    let flags = subst (λ (x : State). AreFlags x.flags) c.self.view_is c.ranges-2.ensures in
+    back c.args.self.now c.execute.new.self c.args.slot.now c.execute.new.keeper flags (returns-in_default-clause-slot g c) (returns-in_default-clause-state g c)
+
+-- an instruction that may have reached the SP registers, or a single step
+pub returns-then-reaches_sp-clause-answer : goal.returns-then-reaches_sp-clause-answer
+returns-then-reaches_sp-clause-answer g c =
+    let word = c.aligned_word-word.ensures ∙ ap (λ (x : State). word_at x.imem x.pc) c.self.view_is in
+    ap (λ r. r.end) c.end_recorded.ensures.value
+    ∙ ap (λ x. x.0) (sym (step_done c.aligned_word-word.result c.args.self.now c.execute.new.self c.in-Some.reaches_sp c.requires word c.in-Some.ensures.answer c.execute.ensures.state))
+
+pub returns-then-reaches_sp-clause-state : goal.returns-then-reaches_sp-clause-state
+returns-then-reaches_sp-clause-state g c =
+    let word = c.aligned_word-word.ensures ∙ ap (λ (x : State). word_at x.imem x.pc) c.self.view_is in
+    c.end_recorded.ensures.state
+    ∙ ap (λ x. x.1) (sym (step_done c.aligned_word-word.result c.args.self.now c.execute.new.self c.in-Some.reaches_sp c.requires word c.in-Some.ensures.answer c.execute.ensures.state))
+
+pub returns-then-reaches_sp-clause-slot : goal.returns-then-reaches_sp-clause-slot
+returns-then-reaches_sp-clause-slot g c =
+    let word = c.aligned_word-word.ensures ∙ ap (λ (x : State). word_at x.imem x.pc) c.self.view_is in
+    c.execute.ensures.keeper ∙ sym (slot_running c.aligned_word-word.result c.args.self.now c.args.slot.now c.requires word)
+
+pub returns-then-reaches_sp-clause-which : goal.returns-then-reaches_sp-clause-which
+returns-then-reaches_sp-clause-which g c =
+    let done = sym (returns-then-reaches_sp-clause-answer g c) ∙ ap (λ r. r.end) c.end_recorded.ensures.value in
+    ap (λ r. r.is_back) c.end_recorded.ensures.value
+    ∙ ap (λ r. is_back r.change) (returns-then-reaches_sp-clause-slot g c)
+    ∙ sym (done_marked c.args.self.now c.args.slot.now done)
+
+pub returns-then-reaches_sp-clause-back : goal.returns-then-reaches_sp-clause-back
+returns-then-reaches_sp-clause-back g c =
+    let flags = subst (λ (x : State). AreFlags x.flags) c.self.view_is c.ranges-2.ensures in
+    back c.args.self.now c.end_recorded.new.self c.args.slot.now c.execute.new.keeper flags (returns-then-reaches_sp-clause-slot g c) (returns-then-reaches_sp-clause-state g c)
+
+pub returns-then-reaches_sp-clause-memory : goal.returns-then-reaches_sp-clause-memory
+returns-then-reaches_sp-clause-memory g c end =
+    memory c.args.self.now c.end_recorded.new.self c.args.slot.now c.execute.new.keeper (returns-then-reaches_sp-clause-slot g c) (returns-then-reaches_sp-clause-state g c)
+    (sym (returns-then-reaches_sp-clause-answer g c) ∙ end)
+
+-- any other instruction
+pub returns-clause-answer : goal.returns-clause-answer
+returns-clause-answer g c =
+    let word = c.aligned_word-word.ensures ∙ ap (λ (x : State). word_at x.imem x.pc) c.self.view_is in
+    ap (λ x. x.0) (sym (step_done c.aligned_word-word.result c.args.self.now c.execute.new.self c.in-Some.reaches_sp c.requires word c.in-Some.ensures.answer c.execute.ensures.state))
+
+pub returns-clause-state : goal.returns-clause-state
+returns-clause-state g c =
+    let s = c.args.self.now in let t = c.execute.new.self in let w = c.aligned_word-word.result in
+    let word = c.aligned_word-word.ensures ∙ ap (λ (x : State). word_at x.imem x.pc) c.self.view_is in
+    let single = ap (λ (x : State). x.sp.single_step) (sym c.self-2.view_is) ∙ sym c.if-single_step.ensures in
+    let same = stays (inst_of w) s t c.if-reaches_sp.false c.in-Some.ensures.answer c.execute.ensures.state in
+    free s t c.requires same single
+    ∙ ap (λ x. x.1) (sym (step_done w s t c.in-Some.reaches_sp c.requires word c.in-Some.ensures.answer c.execute.ensures.state))
+
+pub returns-clause-slot : goal.returns-clause-slot
+returns-clause-slot g c =
+    let word = c.aligned_word-word.ensures ∙ ap (λ (x : State). word_at x.imem x.pc) c.self.view_is in
+    c.execute.ensures.keeper ∙ sym (slot_running c.aligned_word-word.result c.args.self.now c.args.slot.now c.requires word)
+
+pub returns-clause-which : goal.returns-clause-which
+returns-clause-which g c =
+    let word = c.aligned_word-word.ensures ∙ ap (λ (x : State). word_at x.imem x.pc) c.self.view_is in
+    sym (undo_free c.aligned_word-word.result c.args.self.now c.requires word c.if-reaches_sp.false c.in-Some.ensures.answer)
+
+pub returns-clause-halted : goal.returns-clause-halted
+returns-clause-halted g c =
+    let s = c.args.self.now in let t = c.execute.new.self in
+    halted_as s t c.requires (stays (inst_of c.aligned_word-word.result) s t c.if-reaches_sp.false c.in-Some.ensures.answer c.execute.ensures.state)
+
+pub returns-clause-back : goal.returns-clause-back
+returns-clause-back g c =
+    let flags = subst (λ (x : State). AreFlags x.flags) c.self.view_is c.ranges-2.ensures in
+    back c.args.self.now c.execute.new.self c.args.slot.now c.execute.new.keeper flags (returns-clause-slot g c) (returns-clause-state g c)
+
+pub returns-clause-memory : goal.returns-clause-memory
+returns-clause-memory g c end =
+    memory c.args.self.now c.execute.new.self c.args.slot.now c.execute.new.keeper (returns-clause-slot g c) (returns-clause-state g c) (sym (returns-clause-answer g c))
