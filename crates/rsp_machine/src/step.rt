@@ -155,8 +155,15 @@ impl<A: Acc> Machine<A> {
         ensures answer { result ≡ (step_of self.old).0 }
         ensures state { self.new ≡ (step_of self.old).1 }
     {
-        let (end, _) = self.step_recorded();
-        end
+        if self.sp.halted() {
+            return StepEnd::Halted;
+        }
+        let word = self.imem.aligned_word(self.pc);
+        let Some(_) = self.execute(word, &mut Unkept::<true>) else {
+            return StepEnd::Reserved { word };
+        };
+        self.end_instruction();
+        StepEnd::Done
     }
 
     /// One step: Halted where the machine is halted, else Reserved where the word of IMEM at pc is, and
@@ -172,7 +179,7 @@ impl<A: Acc> Machine<A> {
             return self.step_held();
         }
         let word = self.imem.aligned_word(self.pc);
-        let Some(reaches_sp) = self.execute(word, &mut Unkept) else {
+        let Some(reaches_sp) = self.execute(word, &mut Unkept::<false>) else {
             return StepEnd::Reserved { word };
         };
         // Single step was clear, and only an instruction that reaches it can have set it.

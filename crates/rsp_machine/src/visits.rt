@@ -31,11 +31,12 @@ pub(crate) trait Keeper {
         ensures { self.new ≡ keeps change machine.now self.old };
 }
 
-/// A keeper that keeps nothing, for a step that isn't recorded.
+/// A keeper that keeps nothing, for a step that isn't recorded. A step of a held machine has a kind of its own, and so its own copy of
+/// the decoder: of one copy with two callers, LLVM would put no part into the loop over free steps.
 #[derive(Clone, Copy, Drop)]
-pub(crate) struct Unkept;
+pub(crate) struct Unkept<const HELD: bool>;
 
-impl Keeper for Unkept {
+impl<const HELD: bool> Keeper for Unkept<HELD> {
     ghost keeps = { λ p s k. k };
 
     #[inline(always)]
