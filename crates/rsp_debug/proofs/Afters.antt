@@ -69,13 +69,13 @@ pub least-below : (test : ℕ → Bool) (n j : ℕ) → j < least test n → tes
 least-below test zero j h = absurd (omega arith)
 least-below test (suc n) j h = least_step test n j (test zero) refl (least-below (λ k. test (suc k)) n) h
 
-no_some : {X : Type 0} (o : Option X) → is_some o ≡ false → o ≡ None
-no_some None e = refl
-no_some (Some x) e = cc
+pub no-some : {X : Type 0} (o : Option X) → is_some o ≡ false → o ≡ None
+no-some None e = refl
+no-some (Some x) e = cc
 
 pub no-reason : (b : List Bool) (w : List (Option Watch)) (n : ℕ) (s : State) (j : ℕ) → j < run_steps b w n s → reason_at b w n s j ≡ None
 unfolding run_steps
-no-reason b w n s j h = no_some _ (least-below (λ k. is_some (reason_at b w n s k)) n j h)
+no-reason b w n s j h = no-some _ (least-below (λ k. is_some (reason_at b w n s k)) n j h)
 
 reason_goes : (b : List Bool) (w : List (Option Watch)) (n : ℕ) (s : State) (k : ℕ) → reason_at b w n s k ≡ None → stuck_of (steps_of k s) ≡ None
 unfolding reason_at

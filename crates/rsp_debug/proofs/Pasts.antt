@@ -9,7 +9,7 @@ use Rattle.rsp_machine.specs.Step.{step_of}
 use Rattle.rsp_machine.specs.Saved.{Saved, undone, can_undo, slot_after}
 use Rattle.rsp_machine.specs.declared.step.StepEnd.TheVariants.{Done, Halted, Reserved}
 use Rattle.rsp_machine.proofs.Kept.{halted_stays, reserved_stays}
-use Rattle.rsp_debug.specs.Places.{one_down, next_place, from_place}
+use Rattle.rsp_debug.specs.Places.{next_place, from_place}
 use Rattle.rsp_debug.specs.Past.{states_before, past_by, past_after}
 use Rattle.rsp_debug.proofs.Turns.{grown, popped, first_is, kept_member}
 
@@ -25,7 +25,7 @@ length-states_before s (r ∷ rs) = ap suc (length-states_before (undone r s) rs
 -- a step that can be undone
 pub past_done : (s t : State) (xs : List Saved) (i count n : ℕ) (x : Saved) → 0 < i → i ≤ length xs → n ≤ length xs
     → (step_of s).0 ≡ Done → can_undo s ≡ true → undone x t ≡ s
-    → states_before t (from_place (one_down (length xs) i) (min (count + 1) n) (set xs (i - 1) x))
+    → states_before t (from_place (i - 1) (min (count + 1) n) (set xs (i - 1) x))
     ≡ past_after n s (states_before s (from_place i count xs))
 unfolding past_after
 past_done s t xs i count n x h l c d u e =

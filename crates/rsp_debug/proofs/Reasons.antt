@@ -1,6 +1,6 @@
 -- Which reason holds, by what a step answers.
 use Rattle.std.proofs.Common.{◌≡◌, ◌≢◌, ℕ, zero, suc, ◌+◌, ◌-◌, ◌<◌, ◌≤◌, List, [], ◌∷◌, refl, ap, sym, ◌∙◌, subst, arith, Bool, true, false, cond, Option, Some, None, below_more, add-one}
-use Rattle.std.specs.Prelude.{is_none, take, length, nat_lt, nat_eq, ◌==◌, option_map, ◌&&◌, not}
+use Rattle.std.specs.Prelude.{is_none, is_some, take, length, nat_lt, nat_eq, ◌==◌, option_map, ◌&&◌, not}
 use Rattle.std.proofs.lemmas.Grind.{common_steps}
 use Rattle.rsp_memory.specs.Memory.{word_at}
 use Rattle.std.proofs.lemmas.List.{take_all}
@@ -78,6 +78,18 @@ step-reserved s w e = stuck_is s.sp.halted _ ∙ (answer_reserved s.sp.halted (i
 pub step-reserved-same : (s : State) (w : ℕ) → (step_of s).0 ≡ end.Reserved w → (step_of s).1 ≡ s
 unfolding step_of
 step-reserved-same s w e = (answer_reserved s.sp.halted (inst_of (word_at s.imem s.pc)) (word_at s.imem s.pc) w s e).1
+
+pub halted-stuck : (s : State) → s.sp.halted ≡ true → is_some (stuck_of s) ≡ true
+halted-stuck s e =
+    let i = inst_of (word_at s.imem s.pc) in
+    ap is_some (stuck_is s.sp.halted i) ∙ ap (λ halted. is_some (stuck_by halted i)) e
+
+-- behind a step that isn't Done the machine can't go on
+pub stuck-halted : (s t : State) → t ≡ (step_of s).1 → (step_of s).0 ≡ end.Halted → is_some (stuck_of t) ≡ true
+stuck-halted s t there e = ap (λ (x : State). is_some (stuck_of x)) (there ∙ step-halted-same s e) ∙ ap is_some (step-halted s e)
+
+pub stuck-reserved : (s t : State) (w : ℕ) → t ≡ (step_of s).1 → (step_of s).0 ≡ end.Reserved w → is_some (stuck_of t) ≡ true
+stuck-reserved s t w there e = ap (λ (x : State). is_some (stuck_of x)) (there ∙ step-reserved-same s w e) ∙ ap is_some (step-reserved s w e)
 
 -- the five reasons, from the first two, the next two and the last
 two_more : (a b c d e : Option Reason) → first_of (a ∷ b ∷ []) ≡ None → first_of (a ∷ b ∷ c ∷ d ∷ e ∷ []) ≡ first_of (c ∷ d ∷ e ∷ [])

@@ -6,7 +6,7 @@ use Rattle.std.proofs.lemmas.Option.{get_or_from_slice_get}
 use Rattle.std.proofs.lemmas.List.{drop-set, take-set, take_more, take_all, drop_all, take-append-le, take-take, length-take, length-drop, length-append, length-set, set-get_or, append-nil}
 use Rattle.std.proofs.lemmas.Bool.{cases_lt}
 use Rattle.std.proofs.lemmas.Bool.Decides.{nat_tests}
-use Rattle.rsp_debug.specs.Places.{next_place, one_down, rotated, from_place}
+use Rattle.rsp_debug.specs.Places.{next_place, rotated, from_place}
 
 -- the place before a place
 abbrev previous : ℕ → ℕ → ℕ
@@ -77,12 +77,6 @@ module _ {X : Type 0} where
   round xs i count e =
       ap (λ l. take count (l ++ take i xs)) (drop_all i xs (omega arith)) ∙ ap (take count) (take_all i xs (omega arith) ∙ sym (append-nil xs))
 
-  place_by : (b : Bool) (xs : List X) (i count : ℕ) → (i == 0) ≡ b → from_place (if b then length xs else i) count xs ≡ from_place i count xs
-  place_by true xs i count e =
-      let z : i ≡ 0 = grind (arith, nat_tests) in
-      round xs (length xs) count refl ∙ ap (λ j. from_place j count xs) (sym z)
-  place_by false xs i count e = refl
-
   before_by : (b : Bool) (xs : List X) (i count n : ℕ) (x : X) → (i == length xs) ≡ b → 0 < i → i ≤ length xs → n ≤ length xs
       → from_place (i - 1) (min (count + 1) n) (set xs (i - 1) x) ≡ take n (x ∷ from_place i count xs)
   before_by true xs i count n x e h c d =
@@ -98,11 +92,19 @@ module _ {X : Type 0} where
 
   -- the same by the places 1 to n
   pub grown : (xs : List X) (i count n : ℕ) (x : X) → 0 < i → i ≤ length xs → n ≤ length xs
-      → from_place (one_down (length xs) i) (min (count + 1) n) (set xs (i - 1) x) ≡ take n (x ∷ from_place i count xs)
-  grown xs i count n x h c d =
-      ap (λ l. from_place (if i - 1 == 0 then l else i - 1) (min (count + 1) n) (set xs (i - 1) x)) (sym (length-set xs (i - 1) x))
-      ∙ place_by (i - 1 == 0) (set xs (i - 1) x) (i - 1) (min (count + 1) n) refl
-      ∙ before_by (i == length xs) xs i count n x refl h c d
+      → from_place (i - 1) (min (count + 1) n) (set xs (i - 1) x) ≡ take n (x ∷ from_place i count xs)
+  grown xs i count n x h c d = before_by (i == length xs) xs i count n x refl h c d
+
+  -- place 0 by its other name
+  turned_by : (b : Bool) (xs : List X) (i count : ℕ) → (i == 0) ≡ b → from_place (if b then length xs else i) count xs ≡ from_place i count xs
+  turned_by true xs i count e =
+      let z : i ≡ 0 = grind (arith, nat_tests) in
+      round xs (length xs) count refl ∙ ap (λ j. from_place j count xs) (sym z)
+  turned_by false xs i count e = refl
+
+  pub turned : (xs : List X) (n i j count more : ℕ) → n ≡ length xs → j ≡ (if i == 0 then n else i) → more ≡ count → from_place j more xs ≡ from_place i count xs
+  turned xs n i j count more e there same =
+      ap (λ k. from_place k more xs) (there ∙ ap (λ l. if i == 0 then l else i) e) ∙ turned_by (i == 0) xs i more refl ∙ ap (λ k. from_place i k xs) same
 
   -- the first member goes
   pub popped : (xs : List X) (i count : ℕ) (d : X) → i < length xs → count ≤ length xs → from_place (next_place (length xs) i) (count - 1) xs ≡ drop 1 (from_place i count xs)

@@ -17,16 +17,22 @@ from_place i count xs = take count (rotated i xs)
 abbrev pub IsWithin : {X : Type 0} → ℕ → ℕ → ℕ → List X → Type 0
 IsWithin i count depth xs = (i < length xs) × (count ≤ depth) × (depth ≤ length xs)
 
--- Where records stand while a run goes on: the place of the newest, or their number of slots for place 0; how many; and how many
--- may.
+-- Where records stand while a run goes on: the place of the newest (their number of slots stands for place 0); how many; and how many
+-- may. And how far it goes: how many steps are left of the stretch, and how many behind that.
 pub record Standing : Type 0 where
   pub first : ℕ
+  pub far : ℕ
+  pub later : ℕ
   pub count : ℕ
   pub depth : ℕ
 
--- the place before one of the n places 1 to n, of which n is place 0 of the ring
-abbrev pub one_down : ℕ → ℕ → ℕ
-one_down n i = if i - 1 == 0 then n else i - 1
+-- how many steps are left in all
+abbrev pub steps_left : Standing → ℕ
+steps_left s = s.far + s.later
+
+-- how many were made
+abbrev pub steps_between : Standing → Standing → ℕ
+steps_between s t = steps_left s - steps_left t
 
 abbrev pub IsStanding : {X : Type 0} → Standing → List X → Type 0
-IsStanding s xs = (0 < s.first) × (s.first ≤ length xs) × (s.count ≤ s.depth) × (s.depth ≤ length xs)
+IsStanding s xs = (s.far ≤ s.first) × (s.first ≤ length xs) × (0 < length xs) × (s.count ≤ s.depth) × (s.depth ≤ length xs)

@@ -1,7 +1,9 @@
-ghost use Rattle.std.specs.Prelude.{◌≡◌, ◌+◌, ◌-◌, ◌==◌, if◌then◌else◌, ◌&&◌, ◌<◌, ◌≤◌, [], true, false, length, min, drop, slice_index_or, IfOk};
+ghost use Rattle.std.specs.Prelude.{◌≡◌, ◌+◌, ◌-◌, ◌^◌, ◌==◌, if◌then◌else◌, ◌<◌, ◌≤◌, Bool, [], true, false, length, min, drop, is_some, slice_index_or, IfOk};
 ghost use Rattle.rsp_machine.specs.Step.{step_of};
-ghost use Rattle.rsp_debug.specs.Places.{next_place, one_down, from_place, IsStanding};
+ghost use Rattle.rsp_debug.specs.Calls.{done_steps};
+ghost use Rattle.rsp_debug.specs.Places.{next_place, from_place, steps_left, IsStanding};
 ghost use Rattle.rsp_debug.specs.Past.{states_before, past_after};
+ghost use Rattle.rsp_debug.specs.Runs.{stuck_of, IsGoing};
 
 use circular_buffer::HeapCircularBuffer;
 use rsp_acc::Acc;
@@ -73,11 +75,16 @@ impl Counted {
     }
 }
 
-/// Where the records stand in slots that a run has borrowed.
+/// Where the records stand in slots that a run has borrowed, and how far the run still goes. It goes in stretches: through one it only makes
+/// steps, each in the slot before the last, and at its end it looks round.
 #[derive(Drop)]
 pub struct Span {
-    /// The place of the newest record, or the number of slots for place 0.
+    /// The place of the newest record. Place 0 is also called by the number of slots.
     first: usize,
+    /// The newest record's place at the stretch's end.
+    rest: usize,
+    /// How many steps are to be made behind the stretch.
+    later: usize,
     counted: Counted,
     depth: usize,
 }
@@ -90,28 +97,24 @@ impl Model for Span {
 
     ghost view = { λ s. record {
       first = s.first;
+      far = s.first - s.rest;
+      later = s.later;
       count = min (s.counted.older + (s.counted.base - s.first)) s.depth;
       depth = s.depth;
     } };
 
-    ghost invariant = { λ s. s.first ≤ s.counted.base };
+    ghost invariant = { λ s. (s.rest ≤ s.first) × (s.first ≤ s.counted.base) };
 }
 
-/// What a run looks for behind each step. Where it looks for nothing, `any` is all that is asked.
+/// What a step of a stretch came to.
 #[derive(Clone, Copy, Drop)]
-pub struct Sought {
-    pub any: bool,
-    pub watches: bool,
-    pub breaks: bool,
-}
-
-/// What a step came to.
-#[derive(Clone, Copy, Drop)]
-pub struct Made {
-    /// What the step answered.
-    pub end: StepEnd,
-    /// Whether it may have changed DMEM, where it was done and that is asked.
-    pub stored: bool,
+pub enum Made {
+    /// The machine can't go on.
+    Stuck,
+    /// The stretch goes on.
+    Goes,
+    /// The stretch is at its end, and whether the step may have changed DMEM, where that is asked.
+    Rests { stored: bool },
 }
 
 /// The place after a place of a ring.
@@ -174,14 +177,15 @@ impl Ring {
 }
 
 impl Span {
-    /// Where the records of a ring of so many slots stand.
-    pub fn of(first: usize, count: usize, depth: usize, slots: usize) -> Span
+    /// Where the records of a ring stand, before a run of so many steps.
+    pub fn of(first: usize, count: usize, depth: usize, steps: usize) -> Span
         requires { count ≤ depth }
-        ensures { result ≡ record { first = if first == 0 then slots else first; count = count; depth = depth } }
+        ensures { result ≡ record { first = first; far = 0; later = steps; count = count; depth = depth } }
     {
-        let first = if first == 0 { slots } else { first };
         Span {
             first,
+            rest: first,
+            later: steps,
             counted: Counted {
                 older: count,
                 base: first,
@@ -204,26 +208,62 @@ impl Span {
         self.counted.count_from(self.first, self.depth)
     }
 
+    /// How many steps are to be made.
+    pub fn left(&self) -> usize
+        requires { steps_left self.now < 2 ^ 64 }
+        ensures { result ≡ steps_left self.now }
+    {
+        self.first - self.rest + self.later
+    }
+
+    /// Whether no step is to be made behind the stretch.
+    pub fn is_last(&self) -> bool
+        ensures { result ≡ (self.now.later == 0) }
+    {
+        self.later == 0
+    }
+
+    /// The next stretch, in a ring of so many slots: one step where the run looks for something behind each, else as many as there are slots
+    /// up to place 0.
+    #[inline(always)]
+    pub fn set_out(&mut self, slots: usize, looks: bool)
+        requires slots { 0 < slots }
+        requires within { self.old.first ≤ slots }
+        requires rests { self.old.far ≡ 0 }
+        requires later { 0 < self.old.later }
+        ensures first { self.new.first ≡ (if self.old.first == 0 then slots else self.old.first) }
+        ensures within { self.new.first ≤ slots }
+        ensures far { (0 < self.new.far) × (self.new.far ≤ self.new.first) }
+        ensures looks { looks ≡ true → self.new.far ≡ 1 }
+        ensures left { steps_left self.new ≡ steps_left self.old }
+        ensures count { self.new.count ≡ self.old.count }
+        ensures depth { self.new.depth ≡ self.old.depth }
+    {
+        if self.first == 0 {
+            self.counted = self.counted.turned(slots, self.depth);
+            self.first = slots;
+        }
+        let far = if looks { 1 } else { self.later.min(self.first) };
+        self.rest = self.first - far;
+        self.later -= far;
+    }
+
     /// The place of the next record.
     #[inline(always)]
     fn next(&self) -> usize
-        requires { 0 < self.now.first }
+        requires { 0 < self.now.far }
         ensures { result ≡ self.now.first - 1 }
     {
         self.first - 1
     }
 
-    /// One record more, before the newest, in a ring of so many slots.
+    /// One record more, before the newest.
     #[inline(always)]
-    fn grow(&mut self, slots: usize)
-        requires { 0 < self.old.first }
-        ensures { self.new ≡ record self.old { first = one_down slots self.old.first; count = min (self.old.count + 1) self.old.depth } }
+    fn grow(&mut self)
+        requires { 0 < self.old.far }
+        ensures { self.new ≡ record self.old { first = self.old.first - 1; far = self.old.far - 1; count = min (self.old.count + 1) self.old.depth } }
     {
         self.first -= 1;
-        if self.first == 0 {
-            self.counted = self.counted.turned(slots, self.depth);
-            self.first = slots;
-        }
     }
 
     /// Forgets all records.
@@ -234,41 +274,51 @@ impl Span {
         self.counted = Counted::none(self.first);
     }
 
-    /// One step of a machine, of which the slots keep what it changed. So the states that lead back from the machine
-    /// are those before, with the one that the step left as the newest. Whether it may have changed DMEM is told where a run looks for
-    /// watches.
+    /// One step of a machine that isn't halted, of which the slots keep what it changed. So the states that lead back from the machine
+    /// are those before, with the one that the step left as the newest. Whether it may have changed DMEM is told at a stretch's end, where
+    /// a run looks for watches.
     #[inline(always)]
     #[tactic(auto, using(crate::proofs::Pasts::pasts))]
     pub fn step<A: Acc>(
         &mut self,
         slots: &mut [Record],
         machine: &mut Machine<A>,
-        sought: Sought,
+        watches: bool,
     ) -> Made
-        requires { IsStanding self.old slots.old }
-        ensures answer { result.end ≡ (step_of machine.old).0 }
+        requires span { IsStanding self.old slots.old }
+        requires far { 0 < self.old.far }
+        requires goes { machine.old.sp.halted ≡ false }
         ensures state { machine.new ≡ (step_of machine.old).1 }
-        ensures memory { result.end ≡ StepEnd.Done → (sought.any && sought.watches) ≡ true → result.stored ≡ false → machine.new.dmem ≡ machine.old.dmem }
+        ensures stuck { result ≡ Made.Stuck → is_some (stuck_of machine.new) ≡ true }
+        ensures goes { result ≡ Made.Goes → (0 < self.new.far) × IsGoing machine.old machine.new }
+        ensures rests { (stored : Bool) → result ≡ Made.Rests stored → (self.new.far ≡ 0) × IsGoing machine.old machine.new }
+        ensures memory { result ≡ Made.Rests false → watches ≡ true → machine.new.dmem ≡ machine.old.dmem }
         ensures past { states_before machine.new (from_place self.new.first self.new.count slots.new) ≡ past_after self.old.depth machine.old (states_before machine.old (from_place self.old.first self.old.count slots.old)) }
+        ensures far { self.new.far + done_steps (step_of machine.old).0 ≡ self.old.far }
+        ensures later { self.new.later ≡ self.old.later }
         ensures depth { self.new.depth ≡ self.old.depth }
         ensures len { length slots.new ≡ length slots.old }
-        ensures within { IsStanding self.new slots.new }
+        ensures span { IsStanding self.new slots.new }
     {
-        let room = slots.len();
         let slot = &mut slots[self.next()];
-        let (end, is_back) = machine.record_step(slot);
-        match end {
+        let made = machine.record_step(slot);
+        match made.end {
             StepEnd::Done => {}
-            StepEnd::Halted => return Made { end, stored: false },
-            StepEnd::Reserved { word: _ } => return Made { end, stored: false },
+            StepEnd::Halted => return Made::Stuck,
+            StepEnd::Reserved { word: _ } => return Made::Stuck,
         }
-        self.grow(room);
-        if !is_back {
+        self.grow();
+        if !made.is_back {
             self.forget();
         }
-        Made {
-            end,
-            stored: sought.any && sought.watches && slot.may_store(),
+        if made.halted {
+            return Made::Stuck;
+        }
+        if self.first != self.rest {
+            return Made::Goes;
+        }
+        Made::Rests {
+            stored: watches && slot.may_store(),
         }
     }
 }

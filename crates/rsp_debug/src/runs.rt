@@ -1,19 +1,19 @@
 // Steps, one after the other, up to a reason to stop.
 
-ghost use Rattle.std.specs.Prelude.{◌≡◌, ◌&&◌, ◌<◌, ◌≤◌, ℕ, Some, None, length, is_some, unwrap_or, true, false};
+ghost use Rattle.std.specs.Prelude.{◌≡◌, ◌<◌, ◌≤◌, ℕ, Some, None, length, is_some, unwrap_or, true, false};
 ghost use Rattle.rsp_machine.specs.Step.{step_of};
 ghost use Rattle.rsp_debug.specs.Stops.{IsStop, reason_at};
 ghost use Rattle.rsp_debug.specs.Breaks.{break_count};
 ghost use Rattle.rsp_debug.specs.Calls.{IsAfter};
 ghost use Rattle.rsp_debug.specs.Held.{differs, watches_of};
 ghost use Rattle.rsp_debug.specs.Past.{states_before, past_after, past_of};
-ghost use Rattle.rsp_debug.specs.Places.{from_place, IsStanding};
+ghost use Rattle.rsp_debug.specs.Places.{from_place, steps_left, steps_between, IsStanding};
 ghost use Rattle.rsp_debug.specs.Runs.{stuck_of, hit_in};
 ghost use Rattle.rsp_debug.specs.declared.stop.Reason.TheVariants as why;
 
 use crate::breaks::Breaks;
 use crate::held::{Held, differs};
-use crate::ring::{Ring, Sought, Span};
+use crate::ring::{Made, Ring, Span};
 use crate::stop::{Reason, Stop};
 use crate::watches::Watches;
 use rsp_acc::Acc;
@@ -69,18 +69,27 @@ fn dmem_bytes<A: Acc>(machine: &Machine<A>) -> &[u8]
     dmem.run(0, 4096)
 }
 
-/// What there is to look for.
-fn sought(breaks: &Breaks, held: &[Option<Held>]) -> Sought
-    ensures watches { (result.any && result.watches) ≡ false → length held.now ≡ 0 }
-    ensures none { result.any ≡ false → (length held.now ≡ 0) × (break_count breaks.now ≡ 0) }
-    ensures breaks { result.breaks ≡ false → break_count breaks.now ≡ 0 }
-{
-    let watches = !held.is_empty();
-    let breaks = !breaks.is_empty();
-    Sought {
-        any: watches || breaks,
-        watches,
-        breaks,
+/// What a run looks for behind each step.
+#[derive(Clone, Copy, Drop)]
+struct Sought {
+    any: bool,
+    watches: bool,
+    breaks: bool,
+}
+
+impl Sought {
+    fn of(breaks: &Breaks, held: &[Option<Held>]) -> Sought
+        ensures watches { result.watches ≡ false → length held.now ≡ 0 }
+        ensures breaks { result.breaks ≡ false → break_count breaks.now ≡ 0 }
+        ensures none { result.any ≡ false → (length held.now ≡ 0) × (break_count breaks.now ≡ 0) }
+    {
+        let watches = !held.is_empty();
+        let breaks = !breaks.is_empty();
+        Sought {
+            any: watches || breaks,
+            watches,
+            breaks,
+        }
     }
 }
 
@@ -95,14 +104,10 @@ fn hit<A: Acc>(
     sought: Sought,
     stored: bool,
 ) -> Option<Reason>
-    requires quiet { sought.any ≡ false → hit_in breaks.now held.now machine.now ≡ None }
     requires free { sought.breaks ≡ false → break_count breaks.now ≡ 0 }
     requires same { stored ≡ false → differs held.now machine.now.dmem ≡ None }
     ensures { result ≡ hit_in breaks.now held.now machine.now }
 {
-    if !sought.any {
-        return None;
-    }
     if stored && let Some(k) = differs(held, dmem_bytes(machine)) {
         return Some(Reason::Watched(k));
     }
@@ -112,7 +117,7 @@ fn hit<A: Acc>(
     None
 }
 
-/// The steps of `go_on`, in slots that are borrowed once for all of them.
+/// The steps of `go_on`, in slots that are borrowed once for all of them. How many are left stands in the span.
 #[inline(always)]
 #[tactic(auto, using(crate::proofs::Going::goes))]
 fn go_on_in<A: Acc>(
@@ -121,32 +126,36 @@ fn go_on_in<A: Acc>(
     span: &mut Span,
     breaks: &Breaks,
     held: &[Option<Held>],
-    n: u32,
-) -> (u32, Option<Reason>)
+) -> Option<Reason>
     requires same { differs held.now machine.old.dmem ≡ None }
+    requires goes { machine.old.sp.halted ≡ false }
     requires span { IsStanding span.old slots.old }
-    ensures within { result.0 ≤ n }
-    ensures after { IsAfter result.0 machine.old machine.new }
-    ensures past { states_before machine.new (from_place span.new.first span.new.count slots.new) ≡ past_of result.0 span.old.depth machine.old (states_before machine.old (from_place span.old.first span.old.count slots.old)) }
+    requires rests { span.old.far ≡ 0 }
+    requires later { 0 < span.old.later }
+    ensures within { steps_left span.new ≤ steps_left span.old }
+    ensures after { IsAfter (steps_between span.old span.new) machine.old machine.new }
+    ensures past { states_before machine.new (from_place span.new.first span.new.count slots.new) ≡ past_of (steps_between span.old span.new) span.old.depth machine.old (states_before machine.old (from_place span.old.first span.old.count slots.old)) }
     ensures depth { span.new.depth ≡ span.old.depth }
     ensures len { length slots.new ≡ length slots.old }
     ensures span { IsStanding span.new slots.new }
-    ensures first { (j : ℕ) → j < result.0 → reason_at breaks.now (watches_of held.now) n machine.old j ≡ None }
-    ensures last { stuck_of machine.new ≡ None → reason_at breaks.now (watches_of held.now) n machine.old result.0 ≡ Some (unwrap_or result.1 why.Limit) }
+    ensures first { (j : ℕ) → j < steps_between span.old span.new → reason_at breaks.now (watches_of held.now) (steps_left span.old) machine.old j ≡ None }
+    ensures last { stuck_of machine.new ≡ None → reason_at breaks.now (watches_of held.now) (steps_left span.old) machine.old (steps_between span.old span.new) ≡ Some (unwrap_or result why.Limit) }
 {
-    let sought = sought(breaks, held);
-    for k in 0..n {
-        let made = span.step(slots, machine, sought);
-        match made.end {
-            StepEnd::Done => {}
-            StepEnd::Halted => return (k, None),
-            StepEnd::Reserved { word: _ } => return (k, None),
-        }
-        if let Some(reason) = hit(machine, breaks, held, sought, made.stored) {
-            return (k + 1, Some(reason));
+    let sought = Sought::of(breaks, held);
+    span.set_out(slots.len(), sought.any);
+    'steps: loop {
+        match span.step(slots, machine, sought.watches) {
+            Made::Stuck => return None,
+            Made::Goes => {}
+            Made::Rests { stored } => {
+                let found = hit(machine, breaks, held, sought, stored);
+                if found.is_some() || span.is_last() {
+                    return found;
+                }
+                span.set_out(slots.len(), sought.any);
+            }
         }
     }
-    (n, None)
 }
 
 /// Makes steps as long as they answer Done, at most `n`, up to one that comes to a breakpoint or a watch. Tells how many, and
@@ -168,18 +177,20 @@ fn go_on<A: Acc>(
     ensures first { (j : ℕ) → j < result.0 → reason_at breaks.now (watches_of held.now) n machine.old j ≡ None }
     ensures last { stuck_of machine.new ≡ None → reason_at breaks.now (watches_of held.now) n machine.old result.0 ≡ Some (unwrap_or result.1 why.Limit) }
 {
-    let mut span = Span::of(past.first, past.count, past.depth, past.slots.len());
-    let made = go_on_in(
+    if n == 0 || machine.sp_regs().halted() {
+        return (0, None);
+    }
+    let mut span = Span::of(past.first, past.count, past.depth, n as usize);
+    let found = go_on_in(
         machine,
         past.slots.make_contiguous(),
         &mut span,
         breaks,
         held,
-        n,
     );
     past.first = span.first(past.slots.len());
     past.count = span.count();
-    made
+    (n - span.left() as u32, found)
 }
 
 /// One step of a machine, of which the ring keeps what it changed.

@@ -1,118 +1,141 @@
-use Rattle.std.proofs.Common.{◌≡◌, ◌&&◌, ◌∙◌, arith, sym, refl, ap, ◌+◌, Some}
-use Rattle.std.specs.Prelude.{is_some}
-use Rattle.rsp_machine.specs.State.{State}
-use Rattle.rsp_debug.specs.declared.stop.Reason.TheVariants.{Limit}
-use Rattle.rsp_debug.specs.Stops.{reason_at}
+use Rattle.std.proofs.Common.{◌≡◌, ◌∙◌, ◌-◌, arith, sym, refl, ap}
+use Rattle.std.proofs.lemmas.Bool.{false≢true}
+use Rattle.rsp_machine.specs.Step.{step_of}
+use Rattle.rsp_machine.specs.Laws.{steps_of}
+use Rattle.rsp_debug.specs.Calls.{done_steps}
 use Rattle.rsp_debug.specs.Past.{states_before}
-use Rattle.rsp_debug.specs.Places.{from_place}
+use Rattle.rsp_debug.specs.Places.{from_place, steps_left, steps_between}
 use Rattle.rsp_debug.specs.Held.{watches_of}
-use Rattle.rsp_debug.specs.Runs.{stuck_of}
-use Rattle.rsp_debug.proofs.Going.{past-none, past-step, past-halted, past-reserved}
-use Rattle.rsp_debug.proofs.Reasons.{reason-hit, reason-limit, next-reached, next-first, next-hit, nothing-differs, step-halted, step-halted-same, step-reserved, step-reserved-same}
+use Rattle.rsp_debug.specs.declared.ring.Made.TheVariants.{Rests}
+use Rattle.rsp_debug.proofs.Going.{come-none, come-on, come-as, count-on, unsought, all-made, hit-now, stop-come}
+use Rattle.rsp_debug.proofs.Reasons.{nothing-differs, unhit}
+use Rattle.rsp_debug.proofs.Afters.{never, no-some}
 use Rattle.rsp_debug.proofs.Slots.{still-same, differs-empty}
 use Rattle.rsp_debug.proofs.Hits.{unbroken-hit}
-use Rattle.rsp_debug.proofs.Afters.{after-none, after-more, after-same, never}
+use Rattle.rsp_debug.proofs.Turns.{turned}
+use Rattle.rsp_debug.proofs.runs.go_on_in.Goals.{then-is_some-via-then-is_some, then-is_some-via-else-is_some+then-is_last}
 use Rattle.rsp_debug.proofs.runs.go_on_in.Goals as goal
 
-pub loop-k-init : goal.loop-k-init
-loop-k-init g c =
-    let s = c.args.machine.now in let p = c.args.span.now in
+pub steps-init : goal.steps-init
+steps-init g c =
+    let s = c.args.machine.now in let p = c.args.span.now in let o = c.set_out.new.self in let e = c.set_out.ensures in
+    let w = watches_of c.args.held.now in
+    let none : steps_between p o ≡ 0 = omega (arith, e.left) in
     record {
-      after = after-none s;
-      past = sym (past-none p.depth s (states_before s (from_place p.first p.count c.args.slots.now)));
-      depth = refl;
-      len = refl;
-      span = c.requires.span;
-      first = λ j h. absurd (omega arith);
+      come = come-none c.args.breaks.now w (steps_left p) p.depth s (states_before s (from_place p.first p.count c.args.slots.now)) _ (steps_between p o)
+      none (ap (states_before s) (turned c.args.slots.now _ p.first o.first p.count o.count refl e.first e.count));
       same = c.requires.same;
-      quiet = refl;
+      quiet = unhit c.args.breaks.now w (steps_between p o) (steps_of (steps_between p o - 1) s) (steps_of (steps_between p o) s) (omega (arith, none));
+      goes = c.requires.goes;
+      left = omega (arith, e.left);
+      far = e.far.0;
+      looks = e.looks;
+      depth = e.depth;
+      len = refl;
+      span = (e.far.1, e.within, c.requires.span.2, omega (arith, e.count, e.depth, c.requires.span.3), omega (arith, e.depth, c.requires.span.4));
     }
 
-pub returns-in-Halted-clause-after : goal.returns-in-Halted-clause-after
-returns-in-Halted-clause-after g c =
-    let m = c.loop-k.machine in
-    after-same c.loop-k.k c.args.machine.now m c.step-made.new.machine c.loop-k.invariant.after (c.step-made.ensures.state ∙ step-halted-same m (sym c.step-made.ensures.answer ∙ c.in-Halted.is))
+pub returns-in-Stuck-clause-after : goal.returns-in-Stuck-clause-after
+returns-in-Stuck-clause-after g c =
+    let l = c.steps in let i = l.invariant in let y = c.step.new in let e = c.step.ensures in
+    (come-on _ _ c.args.span.now l.span y.self c.args.machine.now l.machine y.machine c.args.slots.now l.slots y.slots
+    i.come i.quiet i.left i.far i.depth e.state e.past e.far e.later).after
 
-pub returns-in-Halted-clause-past : goal.returns-in-Halted-clause-past
-returns-in-Halted-clause-past g c =
-    let l = c.loop-k in let m = l.machine in let p = l.span in
-    c.step-made.ensures.past ∙ past-halted p.depth m (states_before m (from_place p.first p.count l.slots)) (sym c.step-made.ensures.answer ∙ c.in-Halted.is) ∙ c.loop-k.invariant.past
+pub returns-in-Stuck-clause-past : goal.returns-in-Stuck-clause-past
+returns-in-Stuck-clause-past g c =
+    let l = c.steps in let i = l.invariant in let y = c.step.new in let e = c.step.ensures in
+    (come-on _ _ c.args.span.now l.span y.self c.args.machine.now l.machine y.machine c.args.slots.now l.slots y.slots
+    i.come i.quiet i.left i.far i.depth e.state e.past e.far e.later).kept
 
-pub returns-in-Halted-clause-last : goal.returns-in-Halted-clause-last
-returns-in-Halted-clause-last g c none =
-    let m = c.loop-k.machine in let answer = sym c.step-made.ensures.answer ∙ c.in-Halted.is in
-    never (stuck_of c.step-made.new.machine) (reason_at c.args.breaks.now (watches_of c.args.held.now) c.args.n c.args.machine.now c.loop-k.k ≡ Some Limit)
-    (ap (λ (x : State). is_some (stuck_of x)) (c.step-made.ensures.state ∙ step-halted-same m answer) ∙ ap is_some (step-halted m answer)) none
+pub returns-in-Stuck-clause-first : goal.returns-in-Stuck-clause-first
+returns-in-Stuck-clause-first g c =
+    let l = c.steps in let i = l.invariant in let y = c.step.new in let e = c.step.ensures in
+    (come-on _ _ c.args.span.now l.span y.self c.args.machine.now l.machine y.machine c.args.slots.now l.slots y.slots
+    i.come i.quiet i.left i.far i.depth e.state e.past e.far e.later).first
 
-pub returns-in-Reserved-clause-after : goal.returns-in-Reserved-clause-after
-returns-in-Reserved-clause-after g c =
-    let m = c.loop-k.machine in
-    after-same c.loop-k.k c.args.machine.now m c.step-made.new.machine c.loop-k.invariant.after (c.step-made.ensures.state ∙ step-reserved-same m c.in-Reserved.word (sym c.step-made.ensures.answer ∙ c.in-Reserved.is))
-
-pub returns-in-Reserved-clause-past : goal.returns-in-Reserved-clause-past
-returns-in-Reserved-clause-past g c =
-    let l = c.loop-k in let m = l.machine in let p = l.span in
-    c.step-made.ensures.past ∙ past-reserved p.depth m (states_before m (from_place p.first p.count l.slots)) c.in-Reserved.word (sym c.step-made.ensures.answer ∙ c.in-Reserved.is) ∙ c.loop-k.invariant.past
-
-pub returns-in-Reserved-clause-last : goal.returns-in-Reserved-clause-last
-returns-in-Reserved-clause-last g c none =
-    let m = c.loop-k.machine in let answer = sym c.step-made.ensures.answer ∙ c.in-Reserved.is in
-    never (stuck_of c.step-made.new.machine) (reason_at c.args.breaks.now (watches_of c.args.held.now) c.args.n c.args.machine.now c.loop-k.k ≡ Some Limit)
-    (ap (λ (x : State). is_some (stuck_of x)) (c.step-made.ensures.state ∙ step-reserved-same m c.in-Reserved.word answer) ∙ ap is_some (step-reserved m c.in-Reserved.word answer)) none
-
-pub returns-in-Some-clause-after : goal.returns-in-Some-clause-after
-returns-in-Some-clause-after g c =
-    after-more c.loop-k.k c.args.machine.now c.loop-k.machine c.step-made.new.machine c.loop-k.invariant.after (sym c.step-made.ensures.answer ∙ c.in-Done.is) c.step-made.ensures.state
-
-pub returns-in-Some-clause-first : goal.returns-in-Some-clause-first
-returns-in-Some-clause-first g c =
-    let b = c.args.breaks.now in let w = watches_of c.args.held.now in
-    let l = c.loop-k in
-    next-first b w c.args.n c.args.machine.now l.machine l.k l.invariant.after.reached (sym c.step-made.ensures.answer ∙ c.in-Done.is) l.invariant.quiet (omega arith) l.invariant.first
-
-pub returns-in-Some-clause-last : goal.returns-in-Some-clause-last
-returns-in-Some-clause-last g c free =
-    let b = c.args.breaks.now in let w = watches_of c.args.held.now in
-    let s = c.args.machine.now in let l = c.loop-k in let t = c.step-made.new.machine in
-    let there = next-reached s l.machine t l.k l.invariant.after.reached c.step-made.ensures.state in
-    reason-hit b w c.args.n s t (l.k + 1) c.in-Some.reason there free
-    (next-hit b c.args.held.now s l.machine t l.k l.invariant.after.reached there l.invariant.same ∙ sym c.hit.ensures ∙ c.in-Some.is)
-
-pub loop-k-preserved : goal.loop-k-preserved
-loop-k-preserved g c =
-    let b = c.args.breaks.now in let w = watches_of c.args.held.now in
-    let s = c.args.machine.now in let l = c.loop-k in let t = c.step-made.new.machine in
-    let d = c.args.held.now in let i = l.invariant in let p = c.args.span.now in
-    let there = next-reached s l.machine t l.k i.after.reached c.step-made.ensures.state in
-    let none = sym c.hit.ensures ∙ c.in_default.is in
+pub steps-preserved-in-Goes : goal.steps-preserved-in-Goes
+steps-preserved-in-Goes g c =
+    let l = c.steps in let i = l.invariant in let y = c.step.new in let e = c.step.ensures in
+    let b = c.args.breaks.now in let d = c.args.held.now in let p = c.args.span.now in let s = c.args.machine.now in let t = y.machine in
+    let going = e.goes c.in-Goes.is in
+    let any = unsought c.of-sought.result.any l.span y.self l.machine i.looks e.far going.1.0 going.0 in
+    let none = c.of-sought.ensures.none any in
+    let same = differs-empty d t.dmem none.0 in
     record {
-      after = after-more l.k s l.machine t i.after (sym c.step-made.ensures.answer ∙ c.in-Done.is) c.step-made.ensures.state;
-      past = c.step-made.ensures.past ∙ past-step l.k p.depth l.span.depth s l.machine (states_before s (from_place p.first p.count c.args.slots.now)) (states_before l.machine (from_place l.span.first l.span.count l.slots)) i.depth i.after.reached i.past;
-      depth = c.step-made.ensures.depth ∙ i.depth;
-      len = c.step-made.ensures.len ∙ i.len;
-      span = c.step-made.ensures.within;
-      first = next-first b w c.args.n s l.machine l.k i.after.reached (sym c.step-made.ensures.answer ∙ c.in-Done.is) i.quiet (omega arith) i.first;
-      same = nothing-differs b d t none;
-      quiet = next-hit b d s l.machine t l.k i.after.reached there i.same ∙ none;
+      come = come-on _ _ c.args.span.now l.span y.self c.args.machine.now l.machine y.machine c.args.slots.now l.slots y.slots
+      i.come i.quiet i.left i.far i.depth e.state e.past e.far e.later;
+      same = same;
+      quiet = hit-now b d s l.machine t (steps_between p l.span) (steps_between p y.self) i.come.after e.state going.1.0 i.same (count-on p l.span y.self (done_steps (step_of l.machine).0) i.left e.far e.later)
+      ∙ sym (unbroken-hit b d t same none.1);
+      goes = going.1.1;
+      left = omega (arith, i.left, e.far, e.later);
+      far = going.0;
+      looks = λ sought. absurd (false≢true (sym any ∙ sought));
+      depth = e.depth ∙ i.depth;
+      len = e.len ∙ i.len;
+      span = e.span;
     }
 
-pub returns-clause-last : goal.returns-clause-last
-returns-clause-last g c free =
-    let b = c.args.breaks.now in let w = watches_of c.args.held.now in
-    let l = c.loop-k in
-    let e : c.args.n ≡ l.k = omega arith in
-    ap (λ k. reason_at b w c.args.n c.args.machine.now k) e
-    ∙ reason-limit b w c.args.n c.args.machine.now l.machine l.k l.invariant.after.reached free l.invariant.quiet (sym e)
+pub hit-found-requires-clause-same : goal.hit-found-requires-clause-same
+hit-found-requires-clause-same g c none =
+    still-same c.of-sought.result.watches c.args.held.now c.steps.machine.dmem c.step.new.machine.dmem c.of-sought.ensures.watches
+    (c.step.ensures.memory (c.in-Rests.is ∙ ap Rests none)) c.steps.invariant.same
 
-pub hit-requires-clause-free : goal.hit-requires-clause-free
-hit-requires-clause-free g c e = c.sought-sought.ensures.breaks e
+pub returns-then-is_some-clause-after : goal.returns-then-is_some-clause-after
+returns-then-is_some-clause-after g c =
+    let l = c.steps in let i = l.invariant in let y = c.step.new in let e = c.step.ensures in
+    (come-on _ _ c.args.span.now l.span y.self c.args.machine.now l.machine y.machine c.args.slots.now l.slots y.slots
+    i.come i.quiet i.left i.far i.depth e.state e.past e.far e.later).after
 
-pub hit-requires-clause-same : goal.hit-requires-clause-same
-hit-requires-clause-same g c e =
-    still-same (c.sought-sought.result.any && c.sought-sought.result.watches) c.args.held.now c.loop-k.machine.dmem c.step-made.new.machine.dmem c.sought-sought.ensures.watches
-    (λ asks. c.step-made.ensures.memory c.in-Done.is asks e) c.loop-k.invariant.same
+pub returns-then-is_some-clause-past : goal.returns-then-is_some-clause-past
+returns-then-is_some-clause-past g c =
+    let l = c.steps in let i = l.invariant in let y = c.step.new in let e = c.step.ensures in
+    (come-on _ _ c.args.span.now l.span y.self c.args.machine.now l.machine y.machine c.args.slots.now l.slots y.slots
+    i.come i.quiet i.left i.far i.depth e.state e.past e.far e.later).kept
 
-pub hit-requires-clause-quiet : goal.hit-requires-clause-quiet
-hit-requires-clause-quiet g c e =
-    let m = c.step-made.new.machine in
-    sym (unbroken-hit c.args.breaks.now c.args.held.now m (differs-empty c.args.held.now m.dmem (c.sought-sought.ensures.none e).0) (c.sought-sought.ensures.none e).1)
+pub returns-then-is_some-clause-first : goal.returns-then-is_some-clause-first
+returns-then-is_some-clause-first g c =
+    let l = c.steps in let i = l.invariant in let y = c.step.new in let e = c.step.ensures in
+    (come-on _ _ c.args.span.now l.span y.self c.args.machine.now l.machine y.machine c.args.slots.now l.slots y.slots
+    i.come i.quiet i.left i.far i.depth e.state e.past e.far e.later).first
+
+pub returns-then-is_some-clause-last : goal.returns-then-is_some-clause-last
+returns-then-is_some-clause-last g c free =
+    let l = c.steps in let i = l.invariant in let y = c.step.new in let e = c.step.ensures in
+    let b = c.args.breaks.now in let d = c.args.held.now in let p = c.args.span.now in let s = c.args.machine.now in let t = y.machine in
+    let rests = e.rests c.in-Rests.stored c.in-Rests.is in
+    stop-come b d (steps_left p) p.depth s (states_before s (from_place p.first p.count c.args.slots.now)) (steps_between p y.self) t _ c.hit-found.result
+    (come-on _ _ c.args.span.now l.span y.self c.args.machine.now l.machine y.machine c.args.slots.now l.slots y.slots
+    i.come i.quiet i.left i.far i.depth e.state e.past e.far e.later)
+    (hit-now b d s l.machine t (steps_between p l.span) (steps_between p y.self) i.come.after e.state rests.1.0 i.same (count-on p l.span y.self (done_steps (step_of l.machine).0) i.left e.far e.later)
+    ∙ sym c.hit-found.ensures)
+    (λ none. elim c.then-is_some.branch [
+      | then-is_some-via-then-is_some w ↦ never c.hit-found.result (steps_between p y.self ≡ steps_left p) (sym c.is_some.ensures ∙ w.if-is_some.true) none
+      | then-is_some-via-else-is_some+then-is_last w ↦ all-made p y.self rests.0 (sym w.is_last.ensures ∙ w.if-is_last.true)
+    ])
+    free
+
+pub steps-preserved : goal.steps-preserved
+steps-preserved g c =
+    let l = c.steps in let i = l.invariant in let y = c.step.new in let e = c.step.ensures in
+    let b = c.args.breaks.now in let d = c.args.held.now in let p = c.args.span.now in let s = c.args.machine.now in let t = y.machine in
+    let rests = e.rests c.in-Rests.stored c.in-Rests.is in
+    let z = c.set_out-in-Rests.new.self in let o = c.set_out-in-Rests.ensures in
+    let none = sym c.hit-found.ensures ∙ no-some c.hit-found.result (sym c.is_some.ensures ∙ c.if-is_some.false) in
+    let count : steps_between p z ≡ steps_between p y.self = omega (arith, o.left) in
+    record {
+      come = come-as b (watches_of d) (steps_left p) p.depth s (states_before s (from_place p.first p.count c.args.slots.now)) (steps_between p y.self) (steps_between p z) t _ _
+      (come-on _ _ c.args.span.now l.span y.self c.args.machine.now l.machine y.machine c.args.slots.now l.slots y.slots
+      i.come i.quiet i.left i.far i.depth e.state e.past e.far e.later)
+      count (ap (states_before t) (turned y.slots _ y.self.first z.first y.self.count z.count refl o.first o.count));
+      same = nothing-differs b d t none;
+      quiet = hit-now b d s l.machine t (steps_between p l.span) (steps_between p z) i.come.after e.state rests.1.0 i.same
+      (count ∙ count-on p l.span y.self (done_steps (step_of l.machine).0) i.left e.far e.later) ∙ none;
+      goes = rests.1.1;
+      left = omega (arith, i.left, e.far, e.later, o.left);
+      far = o.far.0;
+      looks = o.looks;
+      depth = o.depth ∙ e.depth ∙ i.depth;
+      len = e.len ∙ i.len;
+      span = (o.far.1, o.within, e.span.2, omega (arith, o.count, o.depth, e.span.3), omega (arith, o.depth, e.span.4));
+    }
