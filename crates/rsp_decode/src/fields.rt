@@ -27,7 +27,8 @@ pub fn function(word: u32) -> u32
 /// Bits 15 to 11, which select a vector load or store.
 #[inline(always)]
 pub fn operation(word: u32) -> u8
-    ensures { result ≡ value_at word (whole 11 5) }
+    ensures value { result ≡ value_at word (whole 11 5) }
+    ensures bound { result < 32 }
 {
     (word >> 11 & 31) as u8
 }

@@ -1,4 +1,5 @@
-// The rows of opcode 50, the vector loads, which go by the operation.
+// The rows of opcode 50, the vector loads, which go by the operation. Reserved operations have arms too, so that the jump needs
+// no test of its range.
 
 ghost use Rattle.std.specs.Prelude.{true, ◌≡◌};
 ghost use Rattle.rsp_decode.specs.declared.inst.Inst.{Inst};
@@ -35,7 +36,29 @@ pub fn visit_lwc2<V: Visitor>(word: u32, visitor: &mut V) -> bool
         7 => vector_load(word, VectorLoadRow::Luv, visitor),
         8 => vector_load(word, VectorLoadRow::Lhv, visitor),
         9 if byte_element(word) % 8 == 0 => vector_load(word, VectorLoadRow::Lfv, visitor),
+        9 => false,
+        10 => false,
         11 => vector_load(word, VectorLoadRow::Ltv, visitor),
-        _ => false,
+        12 => false,
+        13 => false,
+        14 => false,
+        15 => false,
+        16 => false,
+        17 => false,
+        18 => false,
+        19 => false,
+        20 => false,
+        21 => false,
+        22 => false,
+        23 => false,
+        24 => false,
+        25 => false,
+        26 => false,
+        27 => false,
+        28 => false,
+        29 => false,
+        30 => false,
+        31 => false,
+        _ => unreachable!(),
     }
 }

@@ -1,4 +1,5 @@
-// The rows of opcode 58, the vector stores, which go by the operation.
+// The rows of opcode 58, the vector stores, which go by the operation. Reserved operations have arms too, so that the jump needs
+// no test of its range.
 
 ghost use Rattle.std.specs.Prelude.{true, ◌≡◌};
 ghost use Rattle.rsp_decode.specs.declared.inst.Inst.{Inst};
@@ -35,8 +36,29 @@ pub fn visit_swc2<V: Visitor>(word: u32, visitor: &mut V) -> bool
         7 => vector_store(word, VectorStoreRow::Suv, visitor),
         8 => vector_store(word, VectorStoreRow::Shv, visitor),
         9 if byte_element(word) % 8 == 0 => vector_store(word, VectorStoreRow::Sfv, visitor),
+        9 => false,
         10 => vector_store(word, VectorStoreRow::Swv, visitor),
         11 => vector_store(word, VectorStoreRow::Stv, visitor),
-        _ => false,
+        12 => false,
+        13 => false,
+        14 => false,
+        15 => false,
+        16 => false,
+        17 => false,
+        18 => false,
+        19 => false,
+        20 => false,
+        21 => false,
+        22 => false,
+        23 => false,
+        24 => false,
+        25 => false,
+        26 => false,
+        27 => false,
+        28 => false,
+        29 => false,
+        30 => false,
+        31 => false,
+        _ => unreachable!(),
     }
 }
