@@ -1,7 +1,8 @@
 // The rows of opcode 18 with bit 25, which go by the function. Two functions share them, so that each is small enough to be put
-// into the loop over steps; reserved values have arms of their own, so that the jump needs no test of its range.
+// into the loop over steps. There their jumps become one: both match the same value, and no other test stands between them.
+// Reserved values have arms of their own, so that the jump needs no test of its range.
 
-ghost use Rattle.std.specs.Prelude.{true, ◌≡◌, ◌*◌, ◌+◌, ◌^◌, ◌<◌, ◌≤◌};
+ghost use Rattle.std.specs.Prelude.{true, false, ◌≡◌, ◌↔◌, ◌*◌, ◌+◌, ◌^◌, ◌<◌, ◌≤◌, IsTrue};
 ghost use Rattle.rsp_decode.specs.Visit.{is_known, visited};
 ghost use Rattle.rsp_decode.specs.Table.{value_at, whole, pick, meaning_of, computing_rows, multiply_row, round_row, mpeg_row, read_accumulator_row, vector_add_row, vector_select_row, vector_clip_row, vector_merge_row, vector_logic_row, divide_row, idle_row};
 
@@ -111,12 +112,14 @@ fn idle<V: Visitor>(word: u32, row: IdleRow, visitor: &mut V) -> bool
     true
 }
 
-/// The functions below 16: the multiplies and the roundings.
+/// The functions below 16: the multiplies and the roundings, each of which is a row. Answers whether the function is one of these:
+/// for another one the visitor stays as it is.
 #[inline]
 fn visit_products<V: Visitor>(word: u32, visitor: &mut V) -> bool
-    requires { value_at word (whole 0 6) < 16 }
-    ensures known { result ≡ is_known (pick computing_rows (18 * 2 ^ 26 + 2 ^ 25 + value_at word (whole 0 6)) word) }
-    ensures state { visitor.new ≡ visited V.after (pick computing_rows (18 * 2 ^ 26 + 2 ^ 25 + value_at word (whole 0 6)) word) visitor.old }
+    ensures which { IsTrue result ↔ (value_at word (whole 0 6) < 16) }
+    ensures known { IsTrue result → is_known (pick computing_rows (18 * 2 ^ 26 + 2 ^ 25 + value_at word (whole 0 6)) word) ≡ true }
+    ensures state { IsTrue result → visitor.new ≡ visited V.after (pick computing_rows (18 * 2 ^ 26 + 2 ^ 25 + value_at word (whole 0 6)) word) visitor.old }
+    ensures others { result ≡ false → visitor.new ≡ visitor.old }
 {
     match function(word) {
         0x00 => multiply(word, MultiplyRow::Vmulf, visitor),
@@ -135,7 +138,7 @@ fn visit_products<V: Visitor>(word: u32, visitor: &mut V) -> bool
         0x0d => multiply(word, MultiplyRow::Vmadm, visitor),
         0x0e => multiply(word, MultiplyRow::Vmadn, visitor),
         0x0f => multiply(word, MultiplyRow::Vmadh, visitor),
-        _ => unreachable!(),
+        _ => false,
     }
 }
 
@@ -204,9 +207,5 @@ pub fn visit_computing<V: Visitor>(word: u32, visitor: &mut V) -> bool
     ensures known { result ≡ is_known (pick computing_rows (18 * 2 ^ 26 + 2 ^ 25 + value_at word (whole 0 6)) word) }
     ensures state { visitor.new ≡ visited V.after (pick computing_rows (18 * 2 ^ 26 + 2 ^ 25 + value_at word (whole 0 6)) word) visitor.old }
 {
-    if function(word) < 16 {
-        visit_products(word, visitor)
-    } else {
-        visit_others(word, visitor)
-    }
+    visit_products(word, visitor) || visit_others(word, visitor)
 }
