@@ -36,7 +36,8 @@ pub fn operation(word: u32) -> u8
 /// Bits 25 to 21: a scalar register, the base of a load or store, or what selects a move.
 #[inline(always)]
 pub fn rs(word: u32) -> u8
-    ensures { result ≡ value_at word (whole 21 5) }
+    ensures value { result ≡ value_at word (whole 21 5) }
+    ensures bound { result < 32 }
 {
     (word >> 21 & 31) as u8
 }

@@ -1,4 +1,5 @@
-// The rows of opcode 18 without bit 25, the moves from and to the vector unit, which go by rs.
+// The rows of opcode 18 without bit 25, the moves from and to the vector unit, which go by rs. Reserved values have arms too, so
+// that the jump needs no test of its range.
 
 ghost use Rattle.std.specs.Prelude.{true, ◌≡◌, ◌*◌, ◌+◌, ◌^◌};
 ghost use Rattle.rsp_decode.specs.Visit.{is_known, visited};
@@ -33,9 +34,37 @@ pub fn visit_cop2<V: Visitor>(word: u32, visitor: &mut V) -> bool
 {
     match rs(word) {
         0 => move_vector(word, MoveRow::From, visitor),
+        1 => false,
         2 => move_control(word, MoveRow::From, visitor),
+        3 => false,
         4 => move_vector(word, MoveRow::To, visitor),
+        5 => false,
         6 => move_control(word, MoveRow::To, visitor),
-        _ => false,
+        7 => false,
+        8 => false,
+        9 => false,
+        10 => false,
+        11 => false,
+        12 => false,
+        13 => false,
+        14 => false,
+        15 => false,
+        16 => false,
+        17 => false,
+        18 => false,
+        19 => false,
+        20 => false,
+        21 => false,
+        22 => false,
+        23 => false,
+        24 => false,
+        25 => false,
+        26 => false,
+        27 => false,
+        28 => false,
+        29 => false,
+        30 => false,
+        31 => false,
+        _ => unreachable!(),
     }
 }
