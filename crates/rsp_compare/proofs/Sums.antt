@@ -1,12 +1,11 @@
 -- Sums and differences of signed readings, by numbers that are 32768 too great.
-use Rattle.std.proofs.Common.{◌≡◌, ℕ, suc, ◌+◌, ◌-◌, ◌%◌, ◌<◌, ◌≤◌, ℤ, pos, negsuc, ◌+ℤ◌, Bool, true, false, cond, not, ◌&&◌, ◌||◌, nat_lt, nat_le, nat_eq, arith, refl, ap, sym, ◌∙◌, inl, inr}
+use Rattle.std.proofs.Common.{◌≡◌, ℕ, suc, ◌+◌, ◌-◌, ◌%◌, ◌<◌, ◌≤◌, ℤ, pos, negsuc, ◌+ℤ◌, Bool, true, false, cond, not, ◌&&◌, nat_lt, nat_eq, arith, refl, sym, ◌∙◌, inl, inr}
 use Rattle.std.specs.Prelude.{◌-ℤ◌}
 use Rattle.std.proofs.lemmas.Int.{ints}
 use Rattle.std.proofs.lemmas.Bool.{le-ltb, lt-ltb, cases_lt}
 use Rattle.std.proofs.lemmas.Bool.Decides.{nat_tests}
 use Rattle.rsp_lanes.specs.Lanes.{bit}
-use Rattle.rsp_numbers.specs.Numbers.{clamp16, s16, sixteen_bits, complement, negated}
-use Rattle.rsp_acc.proofs.Clamps.{clamp16_pos, clamp16_negsuc}
+use Rattle.rsp_numbers.specs.Numbers.{s16, sixteen_bits, complement, negated}
 use Rattle.rsp_flags.specs.Flags.{LaneFlags}
 use Rattle.rsp_flags.specs.Outcome.{Outcome, plain}
 use Rattle.rsp_compare.specs.Adds.{vabs}
@@ -21,11 +20,6 @@ sixteen_bits_of : (n : ℤ) (t : ℕ) → n +ℤ pos 65536 ≡ pos t → t < 131
 sixteen_bits_of (pos n) t e h = let f : n + 65536 ≡ t = omega (arith, ints) in omega arith
 sixteen_bits_of (negsuc n) t e h = let f : 65536 ≡ t + suc n = omega (arith, ints) in omega arith
 
-clamp_of : (n : ℤ) (t : ℕ) → n +ℤ pos 65536 ≡ pos t → t < 131072
-    → cond (nat_le 65536 t && nat_lt 32767 (t % 65536)) 32767 (cond (nat_le 65536 t || nat_lt 32767 (t % 65536)) (t % 65536) 32768) ≡ sixteen_bits (clamp16 n)
-clamp_of (pos n) t e h = let f : n + 65536 ≡ t = omega (arith, ints) in rw (clamp16_pos n) (grind (arith, nat_tests))
-clamp_of (negsuc n) t e h = let f : 65536 ≡ t + suc n = omega (arith, ints) in rw (clamp16_negsuc n) (grind (arith, nat_tests))
-
 sum_is : (a b : ℕ) (c : Bool) → a < 65536 → b < 65536 → (s16 a +ℤ s16 b +ℤ pos (bit c)) +ℤ pos 65536 ≡ pos ((a + 32768) % 65536 + (b + 32768) % 65536 + bit c)
 sum_is a b c h k = omega (arith, ints, biased a h, biased b k)
 
@@ -33,12 +27,10 @@ sum_small : (a b : ℕ) (c : Bool) → (a + 32768) % 65536 + (b + 32768) % 65536
 sum_small a b true = omega arith
 sum_small a b false = omega arith
 
-pub sum_bits : (a b : ℕ) (c : Bool) → a < 65536 → b < 65536 → ((a + 32768) % 65536 + (b + 32768) % 65536 + bit c) % 65536 ≡ sixteen_bits (s16 a +ℤ s16 b +ℤ pos (bit c))
-sum_bits a b c h k = sym (sixteen_bits_of _ _ (sum_is a b c h k) (sum_small a b c))
-
-pub sum_clamp : (a b : ℕ) (c : Bool) (t : ℕ) → t ≡ (a + 32768) % 65536 + (b + 32768) % 65536 + bit c → a < 65536 → b < 65536
-    → cond (nat_le 65536 t && nat_lt 32767 (t % 65536)) 32767 (cond (nat_le 65536 t || nat_lt 32767 (t % 65536)) (t % 65536) 32768) ≡ sixteen_bits (clamp16 (s16 a +ℤ s16 b +ℤ pos (bit c)))
-sum_clamp a b c t e h k = clamp_of _ t (sum_is a b c h k ∙ ap pos (sym e)) (omega (arith, sum_small a b c))
+pub sum_bits : (a b : ℕ) (c : Bool) → a < 65536 → b < 65536 → (a + b + bit c) % 65536 ≡ sixteen_bits (s16 a +ℤ s16 b +ℤ pos (bit c))
+sum_bits a b c h k =
+    let e : (a + b + bit c) % 65536 ≡ ((a + 32768) % 65536 + (b + 32768) % 65536 + bit c) % 65536 = omega arith in
+    e ∙ sym (sixteen_bits_of _ _ (sum_is a b c h k) (sum_small a b c))
 
 -- a difference less a carry is the sum with the complement and with 1 where the carry is clear
 of_complement : (b : ℕ) → b < 65536 → s16 (complement b) +ℤ s16 b +ℤ pos 1 ≡ pos 0

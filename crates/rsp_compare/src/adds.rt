@@ -55,8 +55,7 @@ impl AddOp {
     }
 }
 
-/// The signed sums with the carries, clamped, and modulo 65536. Numbers that are 32768 too great are added: the carry out and
-/// the sum's top bit then tell which limit the sum passed.
+/// The signed sums with the carries, clamped, and modulo 65536.
 #[inline(always)]
 fn clamped_sums(a: &VReg, b: &VReg, carry: Mask8) -> (VReg, VReg)
     ensures value { result.0 ≡ each_lane (λ i. sixteen_bits (clamp16 (s16 (slice_index a.now i) +ℤ s16 (slice_index b.now i) +ℤ pos (bit (slice_index_or carry i false))))) }
@@ -64,12 +63,8 @@ fn clamped_sums(a: &VReg, b: &VReg, carry: Mask8) -> (VReg, VReg)
 {
     a.ranges();
     b.ranges();
-    let half = VReg::splat(0x8000);
-    let (sum, carried) = a.add(&half).add_carrying(&b.add(&half), carry);
-    let top = sum.is_negative();
-    let low_end = carried.or(top).merge(&sum, &half);
-    let clamped = carried.and(top).merge(&VReg::splat(0x7fff), &low_end);
-    (clamped, sum)
+    let (sum, _) = a.add_carrying(b, carry);
+    (a.add_clamped(b, carry), sum)
 }
 
 #[inline(always)]

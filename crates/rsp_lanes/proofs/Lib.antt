@@ -3,8 +3,10 @@ pub mod ByteOrder
 pub mod ByteLanes
 pub mod Carry
 pub mod Kit
+pub mod Limits
 pub mod Masks
 pub mod Wide
 pub mod Products
 pub mod Signs
 pub mod Sources
+pub mod Sums

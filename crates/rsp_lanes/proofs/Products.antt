@@ -64,7 +64,7 @@ fits_32 : (z : ℤ) → negsuc (2 ^ 31 - 1) ≤ℤ z → z <ℤ pos (2 ^ 31) →
 fits_32 (pos n) low high = record { sfits = omega (arith, ints) }
 fits_32 (negsuc n) low high = record { sfits = omega (arith, ints) }
 
-fits_16 : (z : ℤ) → InRange z → SFits w16 z
+pub fits_16 : (z : ℤ) → InRange z → SFits w16 z
 fits_16 (pos n) r = record { sfits = omega (arith, ints, r.most) }
 fits_16 (negsuc n) r = record { sfits = omega (arith, ints, r.least) }
 
@@ -118,7 +118,7 @@ module _ (a b : ℕ) (h : a < 65536) (k : b < 65536) where
       sixteen (pos n) r = omega (arith, ints, r.most)
       sixteen (negsuc n) r = omega (arith, ints, r.least)
 
-high_vector : (f : ℕ → ℕ) → ((i : ℕ) → f i < 65536) → IsVector (each_lane f)
+pub high_vector : (f : ℕ → ℕ) → ((i : ℕ) → f i < 65536) → IsVector (each_lane f)
 high_vector f h = (
   length_each f,
   λ i. elim (cases_lt i 8) [

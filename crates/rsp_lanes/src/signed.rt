@@ -1,10 +1,11 @@
 //! Lanes as signed numbers.
 
-ghost use Rattle.std.specs.Prelude.{◌≡◌, ◌*ℤ◌, cond, nat_lt, slice_index};
-ghost use Rattle.rsp_lanes.specs.Lanes.{each_lane};
-ghost use Rattle.rsp_numbers.specs.Numbers.{s16, upper_bits};
+ghost use Rattle.std.specs.Prelude.{ℕ, ◌≡◌, ◌<◌, ◌^◌, ◌-◌, ◌*ℤ◌, ◌+ℤ◌, ◌-ℤ◌, ◌≤ℤ◌, ◌<ℤ◌, pos, negsuc, cond, nat_lt, slice_index, slice_index_or, false};
+ghost use Rattle.std.specs.Int.{int_min, int_max};
+ghost use Rattle.rsp_lanes.specs.Lanes.{each_lane, bit};
+ghost use Rattle.rsp_numbers.specs.Numbers.{s16, upper_bits, sixteen_bits, clamp16, number};
 
-use crate::VReg;
+use crate::{Mask8, VReg};
 use std::simd::prelude::*;
 
 /// The same bits as signed numbers.
@@ -15,7 +16,75 @@ fn signed(v: &VReg) -> i16x8
     i16x8::from_le_bytes(v.to_simd().to_le_bytes())
 }
 
+/// The lanes as signed numbers of 32 bits.
+#[inline(always)]
+fn wide(v: &VReg) -> i32x8
+    ensures { result ≡ each_lane (λ i. s16 (slice_index v.now i)) }
+{
+    v.ranges();
+    signed(v).cast::<i32>()
+}
+
+/// The lesser lanes, as signed numbers of 32 bits.
+#[inline(always)]
+fn lesser(a: &VReg, b: &VReg) -> i32x8
+    ensures { result ≡ each_lane (λ i. int_min (s16 (slice_index a.now i)) (s16 (slice_index b.now i))) }
+{
+    a.ranges();
+    b.ranges();
+    signed(a).simd_min(signed(b)).cast::<i32>()
+}
+
+/// The greater lanes, as signed numbers of 32 bits.
+#[inline(always)]
+fn greater(a: &VReg, b: &VReg) -> i32x8
+    ensures { result ≡ each_lane (λ i. int_max (s16 (slice_index a.now i)) (s16 (slice_index b.now i))) }
+{
+    a.ranges();
+    b.ranges();
+    signed(a).simd_max(signed(b)).cast::<i32>()
+}
+
+/// The numbers, limited to those of sixteen bits. Where they are sums or differences of lanes, LLVM makes one
+/// instruction of both.
+#[inline(always)]
+fn limited(numbers: i32x8) -> VReg
+    requires lanes { numbers ≡ each_lane (number numbers) }
+    requires range { (i : ℕ) → i < 8 → (negsuc (2 ^ 31 - 1) ≤ℤ number numbers i) × (number numbers i <ℤ pos (2 ^ 31)) }
+    ensures { result ≡ each_lane (λ i. sixteen_bits (clamp16 (number numbers i))) }
+{
+    let limited = numbers
+        .simd_max(i32x8::splat(-32768))
+        .simd_min(i32x8::splat(32767));
+    VReg::from_simd(u16x8::from_le_bytes(limited.cast::<i16>().to_le_bytes()))
+}
+
 impl VReg {
+    /// The sums of the lanes as signed numbers, with a carry that comes in, limited to -32768..=32767. The carry goes to the
+    /// lesser lane: that passes 32767 only where both lanes are 32767, and there the sum is limited all the same.
+    #[inline(always)]
+    pub fn add_clamped(&self, other: &VReg, carry: Mask8) -> VReg
+        ensures { result ≡ each_lane (λ i. sixteen_bits (clamp16 (s16 (slice_index self.now i) +ℤ s16 (slice_index other.now i) +ℤ pos (bit (slice_index_or carry i false))))) }
+    {
+        self.ranges();
+        other.ranges();
+        let minus_carry = carry.merge(&VReg::splat(0xffff), &VReg::new());
+        minus_carry.ranges();
+        let carried = limited(lesser(self, other) - wide(&minus_carry));
+        carried.ranges();
+        limited(greater(self, other) + wide(&carried))
+    }
+
+    /// The signed numbers of 32 bits with these lanes as their upper halves, limited to -32768..=32767.
+    #[inline(always)]
+    pub fn clamped_with(&self, lower: &VReg) -> VReg
+        ensures { result ≡ each_lane (λ i. sixteen_bits (clamp16 (s16 (slice_index self.now i) *ℤ pos 65536 +ℤ pos (slice_index lower.now i)))) }
+    {
+        self.ranges();
+        lower.ranges();
+        limited(wide(self) * i32x8::splat(65536) + lower.to_simd().cast::<i32>())
+    }
+
     /// The high half of the products of the lanes as signed numbers. LLVM makes one instruction of the body.
     #[inline(always)]
     pub fn signed_product_high(&self, other: &VReg) -> VReg

@@ -51,3 +51,29 @@ fn compares_and_adds(rt: HostRuntime) {
         [1, 0, 0, 0, 0, 0, 0, 0]
     );
 }
+
+#[test]
+fn limits_to_signed_numbers(rt: HostRuntime) {
+    let v = VReg::from_array(LANES);
+    let carry = Mask8::from_bits(0b0001_0001);
+    assert_eq!(rt;
+        v.add_clamped(&v, carry).to_array(),
+        [3, 0x2426, 0x484a, 0x6c6e, 0x7fff, 0x8000, 0xfffc, 0xfffe]
+    );
+    assert_eq!(rt;
+        VReg::splat(0x7fff)
+            .add_clamped(&VReg::splat(0xffff), carry)
+            .to_array(),
+        [
+            0x7fff, 0x7ffe, 0x7ffe, 0x7ffe, 0x7fff, 0x7ffe, 0x7ffe, 0x7ffe
+        ]
+    );
+    let upper = VReg::from_array([0, 0, 1, 0x7fff, 0xffff, 0xffff, 0xfffe, 0xffff]);
+    let lower = VReg::from_array([0x7fff, 0x8000, 0, 0xffff, 0x8000, 0x7fff, 0xffff, 0xfffe]);
+    assert_eq!(rt;
+        upper.clamped_with(&lower).to_array(),
+        [
+            0x7fff, 0x7fff, 0x7fff, 0x7fff, 0x8000, 0x8000, 0x8000, 0xfffe
+        ]
+    );
+}
