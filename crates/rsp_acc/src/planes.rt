@@ -112,10 +112,7 @@ impl Acc for PlaneAcc {
         let extension = middle.is_negative().merge(&ones, &zeros);
         let fits = high.is_equal(&extension);
         match clamp {
-            Clamp::Signed => {
-                let ends = is_negative.merge(&VReg::splat(0x8000), &VReg::splat(0x7fff));
-                fits.merge(&middle, &ends)
-            }
+            Clamp::Signed => high.clamped_with(&middle),
             Clamp::Unsigned => {
                 let inside = fits.merge(&middle, &ones);
                 is_negative.merge(&zeros, &inside)
