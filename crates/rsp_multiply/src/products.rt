@@ -3,7 +3,7 @@
 ghost use Rattle.std.specs.Prelude.{◌≡◌, ◌*ℤ◌, pos, slice_index, nat_lt, if◌then◌else◌};
 ghost use Rattle.rsp_lanes.specs.Lanes.{each_lane};
 ghost use Rattle.rsp_numbers.specs.Numbers.{s16, sixteen_bits, upper_bits, join};
-ghost use Rattle.rsp_multiply.specs.Doubles.{doubled_high, doubled_low};
+ghost use Rattle.rsp_multiply.specs.Doubles.{doubled_high, doubled_low, doubled_sign};
 ghost use Rattle.rsp_multiply.specs.Rows.{rounded, lower, middle_left, upper, fraction};
 
 use rsp_acc::Addends;
@@ -61,7 +61,18 @@ fn doubled(high: &VReg, low: &VReg) -> (VReg, VReg)
     (high.add(high).add(&top_bit(low)), low.add(low))
 }
 
-/// Twice the signed products. Twice 2^30 has bit 31 set and is no negative number, so the sign is the product's.
+/// All ones where twice a product is negative, or twice a product and one half of 65536, else 0: by the high half of the product and
+/// the middle plane of what is asked. That plane is right but where 31 bits aren't enough, and there the number is positive.
+/// The sign of `high` would be as good, but LLVM takes that from products of 32 bits, which cost more.
+#[inline(always)]
+fn doubled_sign(high: &VReg, middle: &VReg) -> VReg
+    ensures { result ≡ each_lane (λ i. doubled_sign (slice_index high.now i) (slice_index middle.now i)) }
+{
+    let is_large = VReg::splat(0x3ffe).is_below_signed(high);
+    is_large.merge(&VReg::new(), &middle.sign())
+}
+
+/// Twice the signed products.
 #[inline(always)]
 pub(crate) fn fraction(a: &VReg, b: &VReg) -> Addends
     ensures { result ≡ each_lane (λ i. fraction (slice_index a.now i) (slice_index b.now i)) }
@@ -70,10 +81,10 @@ pub(crate) fn fraction(a: &VReg, b: &VReg) -> Addends
     b.ranges();
     let (high, low) = signed_product(a, b);
     let (middle, low) = doubled(&high, &low);
-    Addends::from_planes(&high.sign(), &middle, &low)
+    Addends::from_planes(&doubled_sign(&high, &middle), &middle, &low)
 }
 
-/// Twice the signed products and one half of 65536. The sum is negative where the product is and bit 31 of the sum is set.
+/// Twice the signed products and one half of 65536.
 #[inline(always)]
 pub(crate) fn rounded(a: &VReg, b: &VReg) -> Addends
     ensures { result ≡ each_lane (λ i. rounded (slice_index a.now i) (slice_index b.now i)) }
@@ -83,7 +94,7 @@ pub(crate) fn rounded(a: &VReg, b: &VReg) -> Addends
     let (high, low) = signed_product(a, b);
     let (middle, low) = doubled(&high, &low);
     let middle = middle.add(&top_bit(&low));
-    let sign = high.sign().and(&middle.sign());
+    let sign = doubled_sign(&high, &middle);
     Addends::from_planes(&sign, &middle, &low.add(&VReg::splat(0x8000)))
 }
 

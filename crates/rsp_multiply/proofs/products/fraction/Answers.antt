@@ -8,7 +8,7 @@ pub returns : goal.returns
 returns c = c.from_planes.ensures ∙ each_same _ _ (λ i h.
     let s = (signed _ _ (c.ranges-2.ensures.1 i) (c.ranges-3.ensures.1 i)).1 in
     rw (
-      lane_of 0 _ _ c.sign.ensures i h,
+      lane_of 0 _ _ c.doubled_sign.ensures i h,
       lane_of 0 _ _ c.doubled-middle.ensures.high i h,
       lane_of 0 _ _ c.doubled-middle.ensures.low i h,
       lane_of 0 _ _ c.signed_product-high.ensures.high i h,

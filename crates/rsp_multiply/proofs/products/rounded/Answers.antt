@@ -1,6 +1,5 @@
 use Rattle.std.proofs.Common.{◌∙◌}
 use Rattle.rsp_lanes.proofs.Kit.{lane_of, each_same}
-use Rattle.rsp_lanes.proofs.Masks.{bits-and}
 use Rattle.rsp_multiply.proofs.Signs.{signed}
 use Rattle.rsp_multiply.proofs.Doubles.{twice_rounded}
 use Rattle.rsp_multiply.proofs.products.rounded.Goals as goal
@@ -9,10 +8,7 @@ pub returns : goal.returns
 returns c = c.from_planes.ensures ∙ each_same _ _ (λ i h.
     let s = (signed _ _ (c.ranges-2.ensures.1 i) (c.ranges-3.ensures.1 i)).1 in
     simp (
-      lane_of 0 _ _ c.and-sign.ensures i h,
-      lane_of 0 _ _ c.sign.ensures i h,
-      lane_of 0 _ _ c.sign-2.ensures i h,
-      bits-and,
+      lane_of 0 _ _ c.doubled_sign-sign.ensures i h,
       lane_of 0 _ _ c.add-middle.ensures i h,
       lane_of 0 _ _ c.add.ensures i h,
       lane_of 0 _ _ c.top_bit.ensures i h,
