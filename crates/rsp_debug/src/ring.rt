@@ -75,15 +75,17 @@ impl Counted {
     }
 }
 
-/// Where the records stand in slots that a run has borrowed, and how far the run still goes. It goes in stretches: through one it only makes
-/// steps, each in the slot before the last, and at its end it looks round.
+/// Where the records stand in slots that a run has borrowed, and how far the run still goes. Up to a place it only makes steps, each in the
+/// slot before the last; there it rests and looks round.
 #[derive(Drop)]
 pub struct Span {
     /// The place of the newest record. Place 0 is also called by the number of slots.
     first: usize,
-    /// The newest record's place at the stretch's end.
+    /// The place at which the run rests.
     rest: usize,
-    /// How many steps are to be made behind the stretch.
+    /// The place up to which it goes before it goes round the ring's end, or has made all its steps.
+    end: usize,
+    /// How many steps are to be made behind that.
     later: usize,
     counted: Counted,
     depth: usize,
@@ -98,22 +100,22 @@ impl Model for Span {
     ghost view = { λ s. record {
       first = s.first;
       far = s.first - s.rest;
-      later = s.later;
+      later = s.rest - s.end + s.later;
       count = min (s.counted.older + (s.counted.base - s.first)) s.depth;
       depth = s.depth;
     } };
 
-    ghost invariant = { λ s. (s.rest ≤ s.first) × (s.first ≤ s.counted.base) };
+    ghost invariant = { λ s. (s.end ≤ s.rest) × (s.rest ≤ s.first) × (s.first ≤ s.counted.base) };
 }
 
-/// What a step of a stretch came to.
+/// What a step came to.
 #[derive(Clone, Copy, Drop)]
 pub enum Made {
     /// The machine can't go on.
     Stuck,
-    /// The stretch goes on.
+    /// It can, and the run isn't at its place of rest.
     Goes,
-    /// The stretch is at its end, and whether the step may have changed DMEM, where that is asked.
+    /// The run is there, and whether the step may have changed DMEM, where that is asked.
     Rests { stored: bool },
 }
 
@@ -185,6 +187,7 @@ impl Span {
         Span {
             first,
             rest: first,
+            end: first,
             later: steps,
             counted: Counted {
                 older: count,
@@ -213,18 +216,18 @@ impl Span {
         requires { steps_left self.now < 2 ^ 64 }
         ensures { result ≡ steps_left self.now }
     {
-        self.first - self.rest + self.later
+        self.first - self.end + self.later
     }
 
-    /// Whether no step is to be made behind the stretch.
+    /// Whether no step is to be made behind the place of rest.
     pub fn is_last(&self) -> bool
         ensures { result ≡ (self.now.later == 0) }
     {
-        self.later == 0
+        self.rest == self.end && self.later == 0
     }
 
-    /// The next stretch, in a ring of so many slots: one step where the run looks for something behind each, else as many as there are slots
-    /// up to place 0.
+    /// From the place of rest to the next, in a ring of so many slots: the next place where the run looks for something behind each step, else
+    /// as far as there are slots up to place 0.
     #[inline(always)]
     pub fn set_out(&mut self, slots: usize, looks: bool)
         requires slots { 0 < slots }
@@ -239,13 +242,18 @@ impl Span {
         ensures count { self.new.count ≡ self.old.count }
         ensures depth { self.new.depth ≡ self.old.depth }
     {
+        if self.first != self.end {
+            self.rest = self.first - 1;
+            return;
+        }
         if self.first == 0 {
             self.counted = self.counted.turned(slots, self.depth);
             self.first = slots;
         }
-        let far = if looks { 1 } else { self.later.min(self.first) };
-        self.rest = self.first - far;
+        let far = self.later.min(self.first);
+        self.end = self.first - far;
         self.later -= far;
+        self.rest = if looks { self.first - 1 } else { self.end };
     }
 
     /// The place of the next record.
@@ -275,7 +283,7 @@ impl Span {
     }
 
     /// One step of a machine that isn't halted, of which the slots keep what it changed. So the states that lead back from the machine
-    /// are those before, with the one that the step left as the newest. Whether it may have changed DMEM is told at a stretch's end, where
+    /// are those before, with the one that the step left as the newest. Whether it may have changed DMEM is told at the place of rest, where
     /// a run looks for watches.
     #[inline(always)]
     #[tactic(auto, using(crate::proofs::Pasts::pasts))]
