@@ -126,7 +126,7 @@ impl SpMem {
     }
 
     /// Writes 32 bits.
-    #[inline]
+    #[inline(always)]
     #[tactic(auto, unfolding(crate::specs::Memory::with_word, crate::specs::Memory::with_byte))]
     pub fn set_word(&mut self, a: u32, w: u32)
         ensures { self.new ≡ with_word self.old a w }
