@@ -3,6 +3,7 @@ use Rattle.std.proofs.Common.{◌≡◌, ℕ, ◌+◌, ◌%◌, ◌<◌, ℤ, po
 use Rattle.std.specs.Prelude.{int_lt, int_le}
 use Rattle.std.specs.Ordering.{int_eq}
 use Rattle.std.proofs.lemmas.Bool.Decides.{nat_tests}
+use Rattle.rsp_lanes.specs.Lanes.{bool_xor}
 use Rattle.rsp_numbers.specs.Numbers.{s16, sixteen_bits, complement, negated}
 use Rattle.rsp_flags.specs.Flags.{LaneFlags}
 use Rattle.rsp_flags.specs.Outcome.{Outcome, plain}
@@ -12,15 +13,19 @@ use Rattle.rsp_clip.specs.declared.op.ClipOp.TheVariants.{Vcl, Vch, Vcr}
 use Rattle.rsp_clip.proofs.Signs.{IsSigned, below_zero, is_negative, is_zero, is_minus_one, sum_or_difference_signed}
 
 -- tests of a signed number
-up_to_zero : (z : ℤ) → (int_lt z (pos 0) || int_eq z (pos 0)) ≡ int_le z (pos 0)
+up_to_zero : (z : ℤ) → (int_eq z (pos 0) || not (bool_xor (int_lt z (pos 0)) true)) ≡ int_le z (pos 0)
 up_to_zero (pos n) = grind (arith, nat_tests)
 up_to_zero (negsuc n) = refl
 
-from_zero : (z : ℤ) → not (int_lt z (pos 0)) ≡ int_le (pos 0) z
+zero_or_more : (z : ℤ) → (int_eq z (pos 0) || not (bool_xor (int_lt z (pos 0)) false)) ≡ int_le (pos 0) z
+zero_or_more (pos n) = grind (arith, nat_tests)
+zero_or_more (negsuc n) = refl
+
+from_zero : (z : ℤ) → not (bool_xor (int_lt z (pos 0)) false) ≡ int_le (pos 0) z
 from_zero (pos n) = grind (arith, nat_tests)
 from_zero (negsuc n) = refl
 
-before_zero : (z : ℤ) → int_lt z (pos 0) ≡ int_le (z +ℤ pos 1) (pos 0)
+before_zero : (z : ℤ) → not (bool_xor (int_lt z (pos 0)) true) ≡ int_le (z +ℤ pos 1) (pos 0)
 before_zero (pos n) = grind (arith, nat_tests)
 before_zero (negsuc n) = grind (arith, nat_tests)
 
@@ -32,18 +37,24 @@ or_false : (x : Bool) → (x || false) ≡ x
 or_false true = refl
 or_false false = refl
 
+and_or : (x y : Bool) → ((x && y) || (x || y)) ≡ (x || y)
+and_or true true = refl
+and_or true false = refl
+and_or false y = refl
+
 -- VCH
 abbrev pub vch_code : Bool → ℕ → ℕ → ℕ → Outcome
 vch_code t n a b =
-    let compare = cond t (nat_lt 32767 n || nat_eq n 0) (nat_lt 32767 b) in
-    let clip = cond t (nat_lt 32767 b) (not (nat_lt 32767 n)) in
-    plain (cond (cond t compare clip) (cond t (negated b) b) a)
+    let taken = nat_eq n 0 || not (bool_xor (nat_lt 32767 n) t) in
+    let compare = cond t taken (nat_lt 32767 b) in
+    let clip = cond t (nat_lt 32767 b) taken in
+    plain (cond taken (cond t (negated b) b) a)
     (record { carry = t; differ = not (nat_eq n 0 || t && nat_eq n 65535); compare = compare; clip = clip; extra = t && nat_eq n 65535 })
 
 vch_cases : (t : Bool) (y z : ℤ) (a b : ℕ) → IsSigned (cond t y z)
     → vch_code t (sixteen_bits (cond t y z)) a b ≡ cond t (vch_signs_differ a b y) (vch_signs_agree a b z)
 vch_cases true y z a b h = rw (is_negative y h, is_zero y h, is_minus_one y h, up_to_zero y, not_or, below_zero b) refl
-vch_cases false y z a b h = rw (is_negative z h, is_zero z h, from_zero z, or_false, below_zero b) refl
+vch_cases false y z a b h = rw (is_negative z h, is_zero z h, zero_or_more z, or_false, below_zero b) refl
 
 pub vch_is : (a b : ℕ) (f : LaneFlags) → a < 65536 → b < 65536
     → vch_code (signs_differ a b) (sixteen_bits (sum_or_difference a b)) a b ≡ vch a b f
@@ -52,9 +63,10 @@ vch_is a b f h k = vch_cases (signs_differ a b) (s16 a +ℤ s16 b) (s16 a -ℤ s
 -- VCR
 abbrev pub vcr_code : Bool → ℕ → ℕ → ℕ → Outcome
 vcr_code t n a b =
-    let compare = cond t (nat_lt 32767 n) (nat_lt 32767 b) in
-    let clip = cond t (nat_lt 32767 b) (not (nat_lt 32767 n)) in
-    plain (cond (cond t compare clip) (cond t (complement b) b) a) (compare_flags compare clip)
+    let taken = not (bool_xor (nat_lt 32767 n) t) in
+    let compare = cond t taken (nat_lt 32767 b) in
+    let clip = cond t (nat_lt 32767 b) taken in
+    plain (cond taken (cond t (complement b) b) a) (compare_flags compare clip)
 
 vcr_cases : (t : Bool) (y z : ℤ) (a b : ℕ) → IsSigned (cond t y z) → y ≡ s16 a +ℤ s16 b → z ≡ s16 a -ℤ s16 b
     → vcr_code t (sixteen_bits (cond t y z)) a b ≡ cond t (vcr_signs_differ a b) (vcr_signs_agree a b)
@@ -79,7 +91,7 @@ abbrev pub vcl_code : ℕ → ℕ → ℕ → LaneFlags → Outcome
 vcl_code n a b f =
     let is_zero = nat_eq (n % 65536) 0 in
     let fits = not (nat_le 65536 n) in
-    let compare = cond (f.carry && not f.differ) (cond f.extra (is_zero || fits) (is_zero && fits)) f.compare in
+    let compare = cond (f.carry && not f.differ) ((is_zero && fits) || (f.extra && (is_zero || fits))) f.compare in
     let clip = cond (not (f.carry || f.differ)) (not (nat_lt a b)) f.clip in
     plain (cond (cond f.carry compare clip) (cond f.carry (negated b) b) a) (compare_flags compare clip)
 
@@ -87,8 +99,8 @@ vcl_cases : (a b : ℕ) (p q c l e : Bool)
     → vcl_code (a + b) a b (record { carry = p; differ = q; compare = c; clip = l; extra = e })
     ≡ vcl a b (record { carry = p; differ = q; compare = c; clip = l; extra = e })
 vcl_cases a b true true c l e = refl
-vcl_cases a b true false c l true = rw (fits (a + b)) refl
-vcl_cases a b true false c l false = rw (fits (a + b), is_all_zero (a + b)) refl
+vcl_cases a b true false c l true = rw (fits (a + b), and_or (nat_eq ((a + b) % 65536) 0) (nat_lt (a + b) 65536)) refl
+vcl_cases a b true false c l false = rw (fits (a + b), is_all_zero (a + b), or_false (nat_eq (a + b) 0)) refl
 vcl_cases a b false true c l e = refl
 vcl_cases a b false false c l e = rw (up_to a b) refl
 

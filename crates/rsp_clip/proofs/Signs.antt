@@ -6,7 +6,7 @@ use Rattle.std.proofs.lemmas.Int.{ints}
 use Rattle.std.proofs.lemmas.Bool.{cases_lt, le-ltb, lt-ltb}
 use Rattle.std.proofs.lemmas.Bool.Decides.{nat_tests}
 use Rattle.rsp_lanes.specs.Lanes.{bool_xor}
-use Rattle.rsp_numbers.specs.Numbers.{s16, modulo}
+use Rattle.rsp_numbers.specs.Numbers.{s16, modulo, negated}
 use Rattle.rsp_clip.specs.Clips.{signs_differ, sum_or_difference}
 
 small : (a : ℕ) → a < 32768 → s16 a ≡ pos a
@@ -79,3 +79,8 @@ sum_or_difference_is a b h k = by_signs (λ t z. cond t ((a + b) % 65536) ((a + 
     (λ m n. sym (modulo_is _ _ 1 ((a + b) / 65536) (omega arith) (omega (arith, ints))))
     (λ m n. sym (modulo_is _ _ 1 ((a + (65536 - b)) / 65536) (omega arith) (omega (arith, ints))))
     (λ m n. sym (modulo_is _ _ 1 ((a + (65536 - b)) / 65536) (omega arith) (omega (arith, ints))))
+
+-- the difference to -b or b is the sum or the difference
+pub to_limit : (t : Bool) (a b : ℕ) → a < 65536 → b < 65536 → (a + (65536 - cond t (negated b) b)) % 65536 ≡ cond t ((a + b) % 65536) ((a + (65536 - b)) % 65536)
+to_limit true a b h k = omega arith
+to_limit false a b h k = refl

@@ -4,7 +4,7 @@ ghost use Rattle.rsp_acc.specs.Planes.{with_low};
 ghost use Rattle.rsp_clip.specs.Clips.{vcl, vch, vcr, clip_rule};
 
 use crate::ClipOp;
-use crate::parts::{choose, signs_differ, sum_or_difference};
+use crate::parts::{choose, exchanged, signs_differ, sum_or_difference};
 use rsp_acc::Acc;
 use rsp_flags::Flags;
 use rsp_lanes::{Mask8, VReg};
@@ -20,7 +20,7 @@ fn vcl(a: &VReg, b: &VReg, flags: &mut Flags) -> VReg
     let (sum, passes) = a.add_carrying(b, clear);
     let is_zero = sum.is_zero();
     let fits = passes.not();
-    let is_small = choose(flags.extra, is_zero.or(fits), is_zero.and(fits));
+    let is_small = is_zero.and(fits).or(flags.extra.and(is_zero.or(fits)));
     let carry_alone = flags.carry.and(flags.differ.not());
     let compare = choose(carry_alone, is_small, flags.compare);
     let neither = flags.carry.or(flags.differ).not();
@@ -50,10 +50,10 @@ fn vch(a: &VReg, b: &VReg, flags: &mut Flags) -> VReg
     let is_zero = number.is_zero();
     let is_negative = number.is_negative();
     let extra = apart.and(number.is_equal(&VReg::splat(0xffff)));
-    let compare = choose(apart, is_negative.or(is_zero), b.is_negative());
-    let clip = choose(apart, b.is_negative(), is_negative.not());
+    let taken = is_zero.or(is_negative.xor(apart).not());
+    let (compare, clip) = exchanged(apart, b.is_negative(), taken);
     let limit = apart.merge(&b.negate(), b);
-    let result = choose(apart, compare, clip).merge(&limit, a);
+    let result = taken.merge(&limit, a);
     *flags = Flags {
         carry: apart,
         differ: is_zero.or(extra).not(),
@@ -74,10 +74,10 @@ fn vcr(a: &VReg, b: &VReg, flags: &mut Flags) -> VReg
     b.ranges();
     let apart = signs_differ(a, b);
     let is_negative = sum_or_difference(a, b).is_negative();
-    let compare = choose(apart, is_negative, b.is_negative());
-    let clip = choose(apart, b.is_negative(), is_negative.not());
+    let taken = is_negative.xor(apart).not();
+    let (compare, clip) = exchanged(apart, b.is_negative(), taken);
     let limit = apart.merge(&b.not(), b);
-    let result = choose(apart, compare, clip).merge(&limit, a);
+    let result = taken.merge(&limit, a);
     let clear = Mask8::splat(false);
     *flags = Flags {
         carry: clear,

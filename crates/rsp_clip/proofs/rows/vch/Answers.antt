@@ -10,23 +10,22 @@ pub returns : goal.returns
 returns c =
     let row = row_of vch c.args.a.now c.args.b.now c.args.flags.now _ _ _ _ _ _
     (length_of _ _ c.merge-result.ensures) (length_of _ _ c.signs_differ-apart.ensures) (length_of _ _ c.not-2.ensures)
-    (length_of _ _ c.choose-compare.ensures) (length_of _ _ c.choose-clip.ensures) (length_of _ _ c.and-extra.ensures)
+    (length_of _ _ c.exchanged-compare.ensures.first) (length_of _ _ c.exchanged-compare.ensures.second) (length_of _ _ c.and-extra.ensures)
     (λ i h. simp (
       lane_of 0 _ _ c.merge-result.ensures i h,
       lane_of 0 _ _ c.merge-limit.ensures i h,
       lane_of 0 _ _ c.negate.ensures i h,
-      lane_of false _ _ c.choose.ensures i h,
-      lane_of false _ _ c.choose-compare.ensures i h,
-      lane_of false _ _ c.choose-clip.ensures i h,
+      lane_of false _ _ c.exchanged-compare.ensures.first i h,
+      lane_of false _ _ c.exchanged-compare.ensures.second i h,
+      lane_of false _ _ c.or-taken.ensures i h,
+      lane_of false _ _ c.xor.ensures i h,
       lane_of false _ _ c.not-2.ensures i h,
-      lane_of false _ _ c.or-2.ensures i h,
       lane_of false _ _ c.and-extra.ensures i h,
       lane_of false _ _ c.is_equal.ensures i h,
       lane_of 0 _ _ c.splat.ensures i h,
       lane_of false _ _ c.or.ensures i h,
       lane_of false _ _ c.not.ensures i h,
       lane_of false _ _ c.is_negative.ensures i h,
-      lane_of false _ _ c.is_negative-2.ensures i h,
       lane_of false _ _ c.is_negative-is_negative.ensures i h,
       lane_of false _ _ c.is_zero-is_zero.ensures i h,
       lane_of 0 _ _ c.sum_or_difference-number.ensures i h,

@@ -11,17 +11,16 @@ returns c =
     let clear = length_of _ _ c.splat-clear.ensures in
     let row = row_of vcr c.args.a.now c.args.b.now c.args.flags.now _ _ _ _ _ _
     (length_of _ _ c.merge-result.ensures) clear clear
-    (length_of _ _ c.choose-compare.ensures) (length_of _ _ c.choose-clip.ensures) clear
+    (length_of _ _ c.exchanged-compare.ensures.first) (length_of _ _ c.exchanged-compare.ensures.second) clear
     (λ i h. simp (
       lane_of 0 _ _ c.merge-result.ensures i h,
       lane_of 0 _ _ c.merge-limit.ensures i h,
-      lane_of 0 _ _ c.not-2.ensures i h,
-      lane_of false _ _ c.choose.ensures i h,
-      lane_of false _ _ c.choose-compare.ensures i h,
-      lane_of false _ _ c.choose-clip.ensures i h,
-      lane_of false _ _ c.not.ensures i h,
+      lane_of 0 _ _ c.not.ensures i h,
+      lane_of false _ _ c.exchanged-compare.ensures.first i h,
+      lane_of false _ _ c.exchanged-compare.ensures.second i h,
+      lane_of false _ _ c.not-taken.ensures i h,
+      lane_of false _ _ c.xor.ensures i h,
       lane_of false _ _ c.is_negative.ensures i h,
-      lane_of false _ _ c.is_negative-2.ensures i h,
       lane_of false _ _ c.is_negative-is_negative.ensures i h,
       lane_of 0 _ _ c.sum_or_difference.ensures i h,
       lane_of false _ _ c.signs_differ-apart.ensures i h,
