@@ -25,14 +25,15 @@ fn wide(v: &VReg) -> i32x8
     signed(v).cast::<i32>()
 }
 
-/// The lesser lanes, as signed numbers of 32 bits.
+/// The lesser lanes as signed numbers, or 32766 where both are 32767.
 #[inline(always)]
-fn lesser(a: &VReg, b: &VReg) -> i32x8
-    ensures { result ≡ each_lane (λ i. int_min (s16 (slice_index a.now i)) (s16 (slice_index b.now i))) }
+fn lesser(a: &VReg, b: &VReg) -> VReg
+    ensures { (i : ℕ) → i < 8 → s16 (slice_index result i) ≡ int_min (int_min (s16 (slice_index a.now i)) (s16 (slice_index b.now i))) (pos 32766) }
 {
     a.ranges();
     b.ranges();
-    signed(a).simd_min(signed(b)).cast::<i32>()
+    let lesser = signed(a).simd_min(signed(b)).simd_min(i16x8::splat(0x7ffe));
+    VReg::from_simd(u16x8::from_le_bytes(lesser.to_le_bytes()))
 }
 
 /// The greater lanes, as signed numbers of 32 bits.
@@ -60,17 +61,18 @@ fn limited(numbers: i32x8) -> VReg
 }
 
 impl VReg {
-    /// The sums of the lanes as signed numbers, with a carry that comes in, limited to -32768..=32767. The carry goes to the
-    /// lesser lane: that passes 32767 only where both lanes are 32767, and there the sum is limited all the same.
+    /// The sums of the lanes as signed numbers, with a carry that comes in, limited to -32768..=32767. The carry is added to the
+    /// lesser lane: that is 32767 only where both lanes are, and there 32766 with a carry or without gives the same limit.
     #[inline(always)]
     pub fn add_clamped(&self, other: &VReg, carry: Mask8) -> VReg
         ensures { result ≡ each_lane (λ i. sixteen_bits (clamp16 (s16 (slice_index self.now i) +ℤ s16 (slice_index other.now i) +ℤ pos (bit (slice_index_or carry i false))))) }
     {
         self.ranges();
         other.ranges();
+        let lesser = lesser(self, other);
+        lesser.ranges();
         let minus_carry = carry.merge(&VReg::splat(0xffff), &VReg::new());
-        minus_carry.ranges();
-        let carried = limited(lesser(self, other) - wide(&minus_carry));
+        let carried = lesser.subtract(&minus_carry);
         carried.ranges();
         limited(greater(self, other) + wide(&carried))
     }
