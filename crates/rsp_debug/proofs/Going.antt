@@ -158,14 +158,14 @@ pub come-as : (b : List Bool) (w : List (Option Watch)) (n depth : ℕ) (s : Sta
 come-as b w n depth s before k more m past next come count same =
     subst (λ (i : ℕ). IsCome b w n depth s before i m next) (sym count) (record { after = come.after; kept = same ∙ come.kept; first = come.first })
 
--- what a step has come to, by what is sought
-pub hit-now : (b : List Bool) (held : List (Option Held)) (s m t : State) (k more : ℕ)
-    → IsAfter k s m → t ≡ (step_of m).1 → (step_of m).0 ≡ end.Done → differs held m.dmem ≡ None → more ≡ k + done_steps (step_of m).0
-    → hit_of b (watches_of held) more (steps_of (more - 1) s) (steps_of more s) ≡ hit_in b held t
-hit-now b held s m t k more after there done same count =
+-- what a step has come to
+pub hit-now : (b : List Bool) (held : List (Option Held)) (s m t : State) (k more : ℕ) (o : Option Reason)
+    → IsAfter k s m → t ≡ (step_of m).1 → (step_of m).0 ≡ end.Done → differs held m.dmem ≡ None → more ≡ k + done_steps (step_of m).0 → o ≡ hit_in b held t
+    → hit_of b (watches_of held) more (steps_of (more - 1) s) (steps_of more s) ≡ o
+hit-now b held s m t k more o after there done same count hit =
     let one : more ≡ k + 1 = count ∙ ap (λ e. k + done_steps e) done in
     ap (λ i. hit_of b (watches_of held) i (steps_of (i - 1) s) (steps_of i s)) one
-    ∙ next-hit b held s m t k after.reached (next-reached s m t k after.reached there) same
+    ∙ next-hit b held s m t k after.reached (next-reached s m t k after.reached there) same ∙ sym hit
 
 pub count-on : (p x y : Standing) (d : ℕ) → steps_left x ≤ steps_left p → y.far + d ≡ x.far → y.later ≡ x.later → steps_between p y ≡ steps_between p x + d
 count-on p x y d within far later = omega arith

@@ -219,11 +219,12 @@ impl Span {
         self.first - self.end + self.later
     }
 
-    /// Whether no step is to be made behind the place of rest.
+    /// Whether no step is to be made behind the place of rest, where that is the newest record's.
     pub fn is_last(&self) -> bool
+        requires { self.now.far ≡ 0 }
         ensures { result ≡ (self.now.later == 0) }
     {
-        self.rest == self.end && self.later == 0
+        self.first == self.end && self.later == 0
     }
 
     /// From the place of rest to the next, in a ring of so many slots: the next place where the run looks for something behind each step, else

@@ -146,7 +146,7 @@ fn go_on_in<A: Acc>(
     'steps: loop {
         match span.step(slots, machine, sought.watches) {
             Made::Stuck => return None,
-            Made::Goes => continue,
+            Made::Goes => {}
             Made::Rests { stored } => {
                 let found = hit(machine, breaks, held, sought, stored);
                 if found.is_some() || span.is_last() {

@@ -1,4 +1,4 @@
-use Rattle.std.proofs.Common.{◌≡◌, ◌∙◌, ◌-◌, arith, sym, refl, ap}
+use Rattle.std.proofs.Common.{◌≡◌, ◌∙◌, ◌-◌, arith, sym, refl, ap, None}
 use Rattle.std.proofs.lemmas.Bool.{false≢true}
 use Rattle.rsp_machine.specs.Step.{step_of}
 use Rattle.rsp_machine.specs.Laws.{steps_of}
@@ -6,6 +6,7 @@ use Rattle.rsp_debug.specs.Calls.{done_steps}
 use Rattle.rsp_debug.specs.Past.{states_before}
 use Rattle.rsp_debug.specs.Places.{from_place, steps_left, steps_between}
 use Rattle.rsp_debug.specs.Held.{watches_of}
+use Rattle.rsp_debug.specs.Runs.{hit_in}
 use Rattle.rsp_debug.specs.declared.ring.Made.TheVariants.{Rests}
 use Rattle.rsp_debug.proofs.Going.{come-none, come-on, come-as, count-on, unsought, all-made, hit-now, stop-come}
 use Rattle.rsp_debug.proofs.Reasons.{nothing-differs, unhit}
@@ -23,7 +24,7 @@ steps-init g c =
     let none : steps_between p o ≡ 0 = omega (arith, e.left) in
     record {
       come = come-none c.args.breaks.now w (steps_left p) p.depth s (states_before s (from_place p.first p.count c.args.slots.now)) _ (steps_between p o)
-      none (ap (states_before s) (turned c.args.slots.now _ p.first o.first p.count o.count refl e.first e.count));
+          none (ap (states_before s) (turned c.args.slots.now _ p.first o.first p.count o.count refl e.first e.count));
       same = c.requires.same;
       quiet = unhit c.args.breaks.now w (steps_between p o) (steps_of (steps_between p o - 1) s) (steps_of (steps_between p o) s) (omega (arith, none));
       goes = c.requires.goes;
@@ -63,10 +64,10 @@ steps-preserved-in-Goes g c =
     let same = differs-empty d t.dmem none.0 in
     record {
       come = come-on _ _ c.args.span.now l.span y.self c.args.machine.now l.machine y.machine c.args.slots.now l.slots y.slots
-      i.come i.quiet i.left i.far i.depth e.state e.past e.far e.later;
+          i.come i.quiet i.left i.far i.depth e.state e.past e.far e.later;
       same = same;
-      quiet = hit-now b d s l.machine t (steps_between p l.span) (steps_between p y.self) i.come.after e.state going.1.0 i.same (count-on p l.span y.self (done_steps (step_of l.machine).0) i.left e.far e.later)
-      ∙ sym (unbroken-hit b d t same none.1);
+      quiet = hit-now b d s l.machine t (steps_between p l.span) (steps_between p y.self) None i.come.after e.state going.1.0 i.same
+          (count-on p l.span y.self (done_steps (step_of l.machine).0) i.left e.far e.later) (unbroken-hit b d t same none.1);
       goes = going.1.1;
       left = omega (arith, i.left, e.far, e.later);
       far = going.0;
@@ -107,8 +108,8 @@ returns-then-is_some-clause-last g c free =
     stop-come b d (steps_left p) p.depth s (states_before s (from_place p.first p.count c.args.slots.now)) (steps_between p y.self) t _ c.hit-found.result
     (come-on _ _ c.args.span.now l.span y.self c.args.machine.now l.machine y.machine c.args.slots.now l.slots y.slots
     i.come i.quiet i.left i.far i.depth e.state e.past e.far e.later)
-    (hit-now b d s l.machine t (steps_between p l.span) (steps_between p y.self) i.come.after e.state rests.1.0 i.same (count-on p l.span y.self (done_steps (step_of l.machine).0) i.left e.far e.later)
-    ∙ sym c.hit-found.ensures)
+    (hit-now b d s l.machine t (steps_between p l.span) (steps_between p y.self) c.hit-found.result i.come.after e.state rests.1.0 i.same
+    (count-on p l.span y.self (done_steps (step_of l.machine).0) i.left e.far e.later) c.hit-found.ensures)
     (λ none. elim c.then-is_some.branch [
       | then-is_some-via-then-is_some w ↦ never c.hit-found.result (steps_between p y.self ≡ steps_left p) (sym c.is_some.ensures ∙ w.if-is_some.true) none
       | then-is_some-via-else-is_some+then-is_last w ↦ all-made p y.self rests.0 (sym w.is_last.ensures ∙ w.if-is_last.true)
@@ -121,16 +122,16 @@ steps-preserved g c =
     let b = c.args.breaks.now in let d = c.args.held.now in let p = c.args.span.now in let s = c.args.machine.now in let t = y.machine in
     let rests = e.rests c.in-Rests.stored c.in-Rests.is in
     let z = c.set_out-in-Rests.new.self in let o = c.set_out-in-Rests.ensures in
-    let none = sym c.hit-found.ensures ∙ no-some c.hit-found.result (sym c.is_some.ensures ∙ c.if-is_some.false) in
+    let none = no-some c.hit-found.result (sym c.is_some.ensures ∙ c.if-is_some.false) in
     let count : steps_between p z ≡ steps_between p y.self = omega (arith, o.left) in
     record {
       come = come-as b (watches_of d) (steps_left p) p.depth s (states_before s (from_place p.first p.count c.args.slots.now)) (steps_between p y.self) (steps_between p z) t _ _
-      (come-on _ _ c.args.span.now l.span y.self c.args.machine.now l.machine y.machine c.args.slots.now l.slots y.slots
-      i.come i.quiet i.left i.far i.depth e.state e.past e.far e.later)
-      count (ap (states_before t) (turned y.slots _ y.self.first z.first y.self.count z.count refl o.first o.count));
-      same = nothing-differs b d t none;
-      quiet = hit-now b d s l.machine t (steps_between p l.span) (steps_between p z) i.come.after e.state rests.1.0 i.same
-      (count ∙ count-on p l.span y.self (done_steps (step_of l.machine).0) i.left e.far e.later) ∙ none;
+          (come-on _ _ c.args.span.now l.span y.self c.args.machine.now l.machine y.machine c.args.slots.now l.slots y.slots
+          i.come i.quiet i.left i.far i.depth e.state e.past e.far e.later)
+          count (ap (states_before t) (turned y.slots _ y.self.first z.first y.self.count z.count refl o.first o.count));
+      same = nothing-differs b d t (sym {b = hit_in b d t} c.hit-found.ensures ∙ none);
+      quiet = hit-now b d s l.machine t (steps_between p l.span) (steps_between p z) c.hit-found.result i.come.after e.state rests.1.0 i.same
+          (count ∙ count-on p l.span y.self (done_steps (step_of l.machine).0) i.left e.far e.later) c.hit-found.ensures ∙ none;
       goes = rests.1.1;
       left = omega (arith, i.left, e.far, e.later, o.left);
       far = o.far.0;
