@@ -55,8 +55,8 @@ impl Regs {
         requires { n < 32 }
         ensures { self.new ≡ with_register self.old n value }
     {
-        if n != 0 {
-            self.words[n as usize] = value;
-        }
+        self.words[n as usize] = value;
+        // A store costs less than a test of `n`.
+        self.words[0] = 0;
     }
 }
