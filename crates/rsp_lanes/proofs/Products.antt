@@ -64,7 +64,7 @@ fits_32 : (z : ℤ) → negsuc (2 ^ 31 - 1) ≤ℤ z → z <ℤ pos (2 ^ 31) →
 fits_32 (pos n) low high = record { sfits = omega (arith, ints) }
 fits_32 (negsuc n) low high = record { sfits = omega (arith, ints) }
 
-pub fits_16 : (z : ℤ) → InRange z → SFits w16 z
+fits_16 : (z : ℤ) → InRange z → SFits w16 z
 fits_16 (pos n) r = record { sfits = omega (arith, ints, r.most) }
 fits_16 (negsuc n) r = record { sfits = omega (arith, ints, r.least) }
 

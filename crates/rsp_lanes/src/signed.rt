@@ -1,6 +1,6 @@
 //! Lanes as signed numbers.
 
-ghost use Rattle.std.specs.Prelude.{ℕ, ◌≡◌, ◌<◌, ◌^◌, ◌-◌, ◌*ℤ◌, ◌+ℤ◌, ◌-ℤ◌, ◌≤ℤ◌, ◌<ℤ◌, pos, negsuc, cond, nat_lt, slice_index, slice_index_or, false};
+ghost use Rattle.std.specs.Prelude.{ℕ, ◌≡◌, ◌<◌, ◌^◌, ◌-◌, ◌*ℤ◌, ◌+ℤ◌, ◌≤ℤ◌, ◌<ℤ◌, pos, negsuc, cond, nat_lt, slice_index, slice_index_or, false};
 ghost use Rattle.std.specs.Int.{int_min, int_max};
 ghost use Rattle.rsp_lanes.specs.Lanes.{each_lane, bit};
 ghost use Rattle.rsp_numbers.specs.Numbers.{s16, upper_bits, sixteen_bits, clamp16, number};
@@ -46,8 +46,7 @@ fn greater(a: &VReg, b: &VReg) -> i32x8
     signed(a).simd_max(signed(b)).cast::<i32>()
 }
 
-/// The numbers, limited to those of sixteen bits. Where they are sums or differences of lanes, LLVM makes one
-/// instruction of both.
+/// The numbers, limited to those of sixteen bits. Where they are sums of two lanes, LLVM makes one instruction of both.
 #[inline(always)]
 fn limited(numbers: i32x8) -> VReg
     requires lanes { numbers ≡ each_lane (number numbers) }
