@@ -18,7 +18,7 @@ abbrev pub IsWithin : {X : Type 0} → ℕ → ℕ → ℕ → List X → Type 0
 IsWithin i count depth xs = (i < length xs) × (count ≤ depth) × (depth ≤ length xs)
 
 -- Where records stand while a run goes on: the place of the newest (their number of slots stands for place 0); how many; and how many
--- may. And how far it goes: how many steps are left of the stretch, and how many behind that.
+-- may. And how far the run goes: how many steps it makes up to its next place of rest, and how many behind that.
 pub record Standing : Type 0 where
   pub first : ℕ
   pub far : ℕ
@@ -34,5 +34,6 @@ steps_left s = s.far + s.later
 abbrev pub steps_between : Standing → Standing → ℕ
 steps_between s t = steps_left s - steps_left t
 
+-- where they stand in slots
 abbrev pub IsStanding : {X : Type 0} → Standing → List X → Type 0
 IsStanding s xs = (s.far ≤ s.first) × (s.first ≤ length xs) × (0 < length xs) × (s.count ≤ s.depth) × (s.depth ≤ length xs)
