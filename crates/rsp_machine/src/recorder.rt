@@ -1,8 +1,8 @@
 // Steps of which a record is kept.
 
 ghost use Rattle.std.specs.Prelude.{◌≡◌, ◌↔◌, true, false, IsSome, IfSome};
-ghost use Rattle.rsp_machine.specs.Step.{singled, step_of};
-ghost use Rattle.rsp_machine.specs.Saved.{slot_after, can_undo, is_back, may_store, undone};
+ghost use Rattle.rsp_machine.specs.Step.{step_of};
+ghost use Rattle.rsp_machine.specs.Saved.{slot_after, can_undo, may_store, undone};
 
 use crate::machine::Machine;
 use crate::record::Record;
@@ -44,27 +44,17 @@ impl<A: Acc> Machine<A> {
             };
         };
         if reaches_sp || self.sp.single_step() {
-            return self.end_recorded(slot);
+            self.end_instruction();
+            return Recorded {
+                end: StepEnd::Done,
+                is_back: slot.is_back(),
+                halted: self.sp.halted(),
+            };
         }
         Recorded {
             end: StepEnd::Done,
             is_back: true,
             halted: false,
-        }
-    }
-
-    /// The end of an instruction that may have reached the SP registers, or was a single step.
-    #[cold]
-    #[inline(never)]
-    fn end_recorded(&mut self, slot: &Record) -> Recorded
-        ensures state { self.new ≡ singled self.old }
-        ensures value { result ≡ record { end = StepEnd.Done; is_back = is_back slot.now.change; halted = self.new.sp.halted } }
-    {
-        self.sp.on_step();
-        Recorded {
-            end: StepEnd::Done,
-            is_back: slot.is_back(),
-            halted: self.sp.halted(),
         }
     }
 

@@ -142,7 +142,7 @@ impl<A: Acc> Machine<A> {
     /// The end of an instruction: halted, where single step is set.
     #[cold]
     #[inline(never)]
-    fn end_instruction(&mut self)
+    pub(crate) fn end_instruction(&mut self)
         ensures { self.new ≡ singled self.old }
     {
         self.sp.on_step();

@@ -38,13 +38,12 @@ returns-in_default-clause-back g c =
 pub returns-then-reaches_sp-clause-answer : goal.returns-then-reaches_sp-clause-answer
 returns-then-reaches_sp-clause-answer g c =
     let word = c.aligned_word-word.ensures ∙ ap (λ (x : State). word_at x.imem x.pc) c.self.view_is in
-    ap (λ r. r.end) c.end_recorded.ensures.value
-    ∙ ap (λ x. x.0) (sym (step_done c.aligned_word-word.result c.args.self.now c.execute.new.self c.in-Some.reaches_sp c.requires word c.in-Some.ensures.answer c.execute.ensures.state))
+    ap (λ x. x.0) (sym (step_done c.aligned_word-word.result c.args.self.now c.execute.new.self c.in-Some.reaches_sp c.requires word c.in-Some.ensures.answer c.execute.ensures.state))
 
 pub returns-then-reaches_sp-clause-state : goal.returns-then-reaches_sp-clause-state
 returns-then-reaches_sp-clause-state g c =
     let word = c.aligned_word-word.ensures ∙ ap (λ (x : State). word_at x.imem x.pc) c.self.view_is in
-    c.end_recorded.ensures.state
+    c.end_instruction.ensures
     ∙ ap (λ x. x.1) (sym (step_done c.aligned_word-word.result c.args.self.now c.execute.new.self c.in-Some.reaches_sp c.requires word c.in-Some.ensures.answer c.execute.ensures.state))
 
 pub returns-then-reaches_sp-clause-slot : goal.returns-then-reaches_sp-clause-slot
@@ -54,19 +53,18 @@ returns-then-reaches_sp-clause-slot g c =
 
 pub returns-then-reaches_sp-clause-which : goal.returns-then-reaches_sp-clause-which
 returns-then-reaches_sp-clause-which g c =
-    let done = sym (returns-then-reaches_sp-clause-answer g c) ∙ ap (λ r. r.end) c.end_recorded.ensures.value in
-    ap (λ r. r.is_back) c.end_recorded.ensures.value
+    c.is_back.ensures
     ∙ ap (λ r. is_back r.change) (returns-then-reaches_sp-clause-slot g c)
-    ∙ sym (done_marked c.args.self.now c.args.slot.now done)
+    ∙ sym (done_marked c.args.self.now c.args.slot.now (sym (returns-then-reaches_sp-clause-answer g c)))
 
 pub returns-then-reaches_sp-clause-back : goal.returns-then-reaches_sp-clause-back
 returns-then-reaches_sp-clause-back g c =
     let flags = subst (λ (x : State). AreFlags x.flags) c.self.view_is c.ranges-2.ensures in
-    back c.args.self.now c.end_recorded.new.self c.args.slot.now c.execute.new.keeper flags (returns-then-reaches_sp-clause-slot g c) (returns-then-reaches_sp-clause-state g c)
+    back c.args.self.now c.end_instruction.new.self c.args.slot.now c.execute.new.keeper flags (returns-then-reaches_sp-clause-slot g c) (returns-then-reaches_sp-clause-state g c)
 
 pub returns-then-reaches_sp-clause-memory : goal.returns-then-reaches_sp-clause-memory
 returns-then-reaches_sp-clause-memory g c end =
-    memory c.args.self.now c.end_recorded.new.self c.args.slot.now c.execute.new.keeper (returns-then-reaches_sp-clause-slot g c) (returns-then-reaches_sp-clause-state g c)
+    memory c.args.self.now c.end_instruction.new.self c.args.slot.now c.execute.new.keeper (returns-then-reaches_sp-clause-slot g c) (returns-then-reaches_sp-clause-state g c)
     (sym (returns-then-reaches_sp-clause-answer g c) ∙ end)
 
 -- any other instruction
