@@ -1,5 +1,5 @@
 -- How a step of a machine that isn't halted ends.
-use Rattle.std.proofs.Common.{◌≡◌, ℕ, ◌||◌, Bool, true, false, not, refl, sym, ap, ◌∙◌, Option, Some, None}
+use Rattle.std.proofs.Common.{◌≡◌, ℕ, Bool, true, false, not, refl, sym, ap, ◌∙◌, Option, Some, None}
 use Rattle.std.specs.Prelude.{if◌then◌else◌, option_map, unwrap_or}
 use Rattle.rsp_decode.specs.declared.inst.Inst.{Inst}
 use Rattle.rsp_decode.specs.declared.inst.Inst.TheVariants.{Break, MoveSp, MoveVector, MoveControl}
@@ -74,9 +74,8 @@ free s t h same e = sym (ap (λ p. record t { sp = p }) (halts_none t.sp (ap (λ
 pub clear_as : (s t : State) → s.sp.single_step ≡ false → t.sp ≡ s.sp → t.sp.single_step ≡ false
 clear_as s t h e = ap (λ (p : Sp). p.single_step) e ∙ h
 
-pub neither : {a b : Bool} → (a || b) ≡ false → (a ≡ false) × (b ≡ false)
-neither {a = false} e = (refl, e)
-neither {a = true} e = cc
+pub ended : (v t : State) (p : Sp) → v ≡ t → p ≡ after_step v.sp → record v { sp = p } ≡ singled t
+ended v t p e f = ap (λ (q : Sp). record v { sp = q }) f ∙ ap singled e
 
 -- a step of a halted machine
 halted_by : (b : Bool) (o : Option Inst) (w : ℕ) (s : State) → b ≡ true → (if b then (Halted, s) else step_by o w s) ≡ (Halted, s)

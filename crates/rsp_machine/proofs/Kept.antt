@@ -140,7 +140,7 @@ written_kept : (p : Sp) (s : State) (r : Saved) → s.sp.halted ≡ false
 unfolding undone kept_change saved restored after_step
 written_kept p s r h = registers_same s _ h refl
 
-neither : (a b : Bool) → (a || b) ≡ false → (a ≡ false) × (b ≡ false)
+pub neither : (a b : Bool) → (a || b) ≡ false → (a ≡ false) × (b ≡ false)
 neither false b e = (refl, e)
 neither true b e = cc
 

@@ -10,7 +10,7 @@ use crate::step::StepEnd;
 use rsp_acc::Acc;
 
 /// What a step came to of which a record is kept.
-#[derive(Clone, Copy, Debug, PartialEq, Eq)]
+#[derive(Clone, Copy)]
 pub struct Recorded {
     /// What the step answered.
     pub end: StepEnd,

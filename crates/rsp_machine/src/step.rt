@@ -184,7 +184,7 @@ impl<A: Acc> Machine<A> {
         };
         // Single step was clear, and only an instruction that reaches it can have set it.
         if reaches_sp {
-            self.end_instruction();
+            self.sp.on_step();
         }
         StepEnd::Done
     }
