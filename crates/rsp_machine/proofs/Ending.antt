@@ -9,7 +9,7 @@ use Rattle.rsp_memory.specs.Memory.{word_at}
 use Rattle.rsp_regs.specs.Sp.{Sp, after_step}
 use Rattle.rsp_machine.specs.State.{State}
 use Rattle.rsp_machine.specs.Vector.{multiplies, rounds, multiplies_mpeg, reads_accumulator, ruled, divides, loads_vector, stores_vector, moves_vector, moves_control}
-use Rattle.rsp_machine.specs.Step.{computes, loads, stores, jumps, executed, singled, step_by, step_of}
+use Rattle.rsp_machine.specs.Step.{computes, loads, stores, jumps, worked, executed, singled, step_by, step_of}
 use Rattle.rsp_machine.specs.declared.step.StepEnd.TheVariants.{Done, Halted, Reserved}
 use Rattle.rsp_machine.specs.declared.change.Change.TheVariants as of
 use Rattle.rsp_machine.specs.Saved.{Saved, change_of, kept_change, reaches_sp, told_by, told_of, slot_after, starts_dma, is_length, is_back_by, can_undo, may_store, undone}
@@ -29,7 +29,7 @@ dma_reaches true X h = cc
 dma_reaches false X h = cc
 
 leaves : (i : Inst) (s : State) → reaches_sp (change_of i s) ≡ false → (executed i s).sp ≡ s.sp
-unfolding change_of executed computes loads stores jumps multiplies rounds multiplies_mpeg reads_accumulator ruled divides loads_vector stores_vector moves_vector moves_control
+unfolding change_of executed worked computes loads stores jumps multiplies rounds multiplies_mpeg reads_accumulator ruled divides loads_vector stores_vector moves_vector moves_control
 leaves Break s h = cc
 leaves (MoveSp From rt n) s h = cc
 leaves (MoveSp To rt n) s h = dma_reaches (is_length n) ((executed (MoveSp To rt n) s).sp ≡ s.sp) h

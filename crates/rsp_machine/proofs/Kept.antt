@@ -26,7 +26,7 @@ use Rattle.rsp_loadstore.proofs.Reach.{stored-back}
 use Rattle.rsp_regs.specs.Sp.{Sp, after_step, after_read, written}
 use Rattle.rsp_machine.specs.State.{State, advanced}
 use Rattle.rsp_machine.specs.Vector.{multiplies, rounds, multiplies_mpeg, reads_accumulator, ruled, divides, loads_vector, stores_vector, moves_vector, moves_control}
-use Rattle.rsp_machine.specs.Step.{computes, loads, stores, jumps, break_instruction, moves_sp, executed, singled, step_by, step_of}
+use Rattle.rsp_machine.specs.Step.{computes, loads, stores, jumps, break_instruction, moves_sp, worked, executed, singled, step_by, step_of}
 use Rattle.rsp_machine.specs.Host.{register_written}
 use Rattle.rsp_machine.specs.declared.step.StepEnd.TheVariants.{Done, Halted, Reserved}
 use Rattle.rsp_machine.specs.Saved.{Saved, kept, kept_change, saved, restored, change_of, vd_in, vd_at, undone, starts_dma, is_length, sign_change, jump_change, told_of, may_store, group_at, with_group, is_back_by, kept_by, can_undo, slot_after, is_back}
@@ -152,12 +152,12 @@ no_dma n v s e =
 
 move_kept : (row : MoveRow) (rt n : ℕ) (s : State) (r : Saved) → starts_dma (MoveSp row rt n) ≡ false → s.sp.halted ≡ false
     → undone (kept (MoveSp row rt n) s r) (singled (executed (MoveSp row rt n) s)) ≡ s
-unfolding change_of executed moves_sp
+unfolding change_of executed worked moves_sp
 move_kept From rt n s r e h = sp_kept rt _ (after_read n s.sp) s r h
 move_kept To rt n s r e h =
     let v = register s.registers rt in
-    let P : Bool → Type 0 = λ b. undone (kept_change (if b then of.Dma else of.Sp 0) s r) (singled (advanced (register_written n v s))) ≡ s in
-    subst P (sym e) (ap (λ t. undone (kept_change (of.Sp 0) s r) (singled (advanced t))) (no_dma n v s e) ∙ written_kept (written n v s.sp) s r h)
+    let P : Bool → Type 0 = λ b. undone (kept_change (if b then of.Dma else of.Sp 0) s r) (singled (register_written n v (advanced s))) ≡ s in
+    subst P (sym e) (ap (λ t. undone (kept_change (of.Sp 0) s r) (singled t)) (no_dma n v (advanced s) e) ∙ written_kept (written n v s.sp) s r h)
 
 load_kept : (group : Bool) (vt : ℕ) (v : List (List ℕ)) (s : State) (r : Saved) → s.sp.halted ≡ false → put_back group vt s.vectors v ≡ s.vectors
     → undone (kept_change (if group then of.Group (vt - vt % 8) else of.Vector vt) s r) (singled (advanced (record s { vectors = v }))) ≡ s
@@ -182,19 +182,19 @@ jump_kept Jal target p s r h = registers_same s _ h (register-back s.registers 3
 
 vector_move_kept : (row : MoveRow) (rt n e : ℕ) (s : State) (r : Saved) → s.sp.halted ≡ false
     → undone (kept (MoveVector row rt n e) s r) (singled (executed (MoveVector row rt n e) s)) ≡ s
-unfolding change_of executed moves_vector moved_file
+unfolding change_of executed worked moves_vector moved_file
 vector_move_kept From rt n e s r h = register_kept rt _ (going_on s.npc) s r h
 vector_move_kept To rt n e s r h = vector_kept n _ s r h
 
 control_move_kept : (row : MoveRow) (rt : ℕ) (control : Control) (s : State) (r : Saved) → s.sp.halted ≡ false
     → undone (kept (MoveControl row rt control) s r) (singled (executed (MoveControl row rt control) s)) ≡ s
-unfolding change_of executed moves_control
+unfolding change_of executed worked moves_control
 control_move_kept From rt control s r h = register_kept rt _ (going_on s.npc) s r h
 control_move_kept To rt control s r h = flags_kept _ s r h
 
 -- any instruction that starts no DMA
 kept_back : (i : Inst) (s : State) (r : Saved) → starts_dma i ≡ false → s.sp.halted ≡ false → AreFlags s.flags → inst_of (word_at s.imem s.pc) ≡ Some i → undone (kept i s r) (singled (executed i s)) ≡ s
-unfolding change_of executed computes loads stores jumps break_instruction multiplies rounds multiplies_mpeg reads_accumulator ruled divides loads_vector stores_vector loaded_file stored_memory
+unfolding change_of executed worked computes loads stores jumps break_instruction multiplies rounds multiplies_mpeg reads_accumulator ruled divides loads_vector stores_vector loaded_file stored_memory
 kept_back (Shift row rd rt amount) s r e h k o = register_kept rd _ (going_on s.npc) s r h
 kept_back (ShiftBy row f) s r e h k o = register_kept f.rd _ (going_on s.npc) s r h
 kept_back (Register row f) s r e h k o = register_kept f.rd _ (going_on s.npc) s r h
@@ -337,13 +337,13 @@ reserved_marked s w e = reserved_by s.sp.halted (inst_of (word_at s.imem s.pc)) 
 
 -- a step whose record says that it stored nothing leaves DMEM
 written_stays : (b : Bool) (v n : ℕ) (s : State) (r : Saved) → is_length n ≡ b → may_store (kept_change (if b then of.Dma else of.Sp 0) s r) ≡ false
-    → (register_written n v s).dmem ≡ s.dmem
+    → (register_written n v (advanced s)).dmem ≡ s.dmem
 unfolding kept_change saved
 written_stays true v n s r e h = cc
-written_stays false v n s r e h = ap (λ t. t.dmem) (no_dma n v s e)
+written_stays false v n s r e h = ap (λ t. t.dmem) (no_dma n v (advanced s) e)
 
 kept_stays : (i : Inst) (s : State) (r : Saved) → may_store (kept i s r) ≡ false → (executed i s).dmem ≡ s.dmem
-unfolding change_of executed computes loads stores jumps break_instruction moves_sp multiplies rounds multiplies_mpeg reads_accumulator ruled divides loads_vector stores_vector moves_vector moves_control kept_change saved
+unfolding change_of executed worked computes loads stores jumps break_instruction moves_sp multiplies rounds multiplies_mpeg reads_accumulator ruled divides loads_vector stores_vector moves_vector moves_control kept_change saved
 kept_stays (Shift row rd rt amount) s r h = refl
 kept_stays (ShiftBy row f) s r h = refl
 kept_stays (Register row f) s r h = refl

@@ -58,6 +58,10 @@ start_of image = record {
   sp = start;
 }
 
--- after an instruction that doesn't jump: pc becomes npc, and npc the place after it
+-- where pc and npc have gone on: pc becomes npc, and npc the place after it
 abbrev pub advanced : State → State
 advanced s = record s { pc = s.npc; npc = going_on s.npc }
+
+-- and back again to a place
+abbrev pub gone_back : ℕ → State → State
+gone_back pc s = record s { pc = pc; npc = s.pc }

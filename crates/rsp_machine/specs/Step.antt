@@ -1,4 +1,5 @@
--- One step of the machine.
+-- One step of the machine. An instruction first goes on: pc becomes npc, and npc the place after it. Then it does its work, and a jump or a
+-- branch writes npc once more. So pc is the place of the delay slot while it works.
 use Rattle.std.specs.Prelude.{ℕ, Option, Some, None, if◌then◌else◌}
 use Rattle.rsp_decode.specs.declared.inst.Inst.{Inst}
 use Rattle.rsp_decode.specs.declared.inst.Inst.TheVariants.{Shift, ShiftBy, JumpRegister, JumpLinkRegister, Break, Register, BranchSign, BranchEqual, Jump, Immediate, LoadUpper, Load, Store, MoveSp, MoveVector, MoveControl, Multiply, Round, MpegMultiply, ReadAccumulator, VectorAdd, VectorSelect, VectorClip, VectorMerge, VectorLogic, Divide, Idle, VectorLoad, VectorStore}
@@ -24,62 +25,66 @@ use Rattle.rsp_machine.specs.declared.step.StepEnd.TheVariants.{Done, Halted, Re
 
 -- a scalar row that computes
 unfoldable pub computes : Inst → State → State
-computes i s = advanced (record s { registers = computed i s.registers })
+computes i s = record s { registers = computed i s.registers }
 
 -- a scalar load from DMEM
 unfoldable pub loads : Inst → State → State
-loads i s = advanced (record s { registers = scalar_loaded i s.registers s.dmem })
+loads i s = record s { registers = scalar_loaded i s.registers s.dmem }
 
 -- a scalar store to DMEM
 unfoldable pub stores : Inst → State → State
-stores i s = advanced (record s { dmem = scalar_stored i s.registers s.dmem })
+stores i s = record s { dmem = scalar_stored i s.registers s.dmem }
 
 -- a jump or a branch, taken or not; it reads its registers before it writes its link
 unfoldable pub jumps : Inst → State → State
-jumps i s = record s { pc = s.npc; npc = following i s.registers s.npc; registers = linked i s.registers s.npc }
+jumps i s = record s { npc = following i s.registers s.pc; registers = linked i s.registers s.pc }
 
 -- a BREAK, which goes on to the next place like any row
 unfoldable pub break_instruction : State → State
-break_instruction s = advanced (record s { sp = after_break s.sp })
+break_instruction s = record s { sp = after_break s.sp }
 
 -- a move from SP register n to scalar register rt, or back: what the host's read and write of it do
 unfoldable pub moves_sp : MoveRow → ℕ → ℕ → State → State
 moves_sp From rt n s =
     let after = register_read n s in
-    advanced (record after { registers = with_register s.registers rt (peeked n s.sp) })
-moves_sp To rt n s = advanced (register_written n (register s.registers rt) s)
+    record after { registers = with_register s.registers rt (peeked n s.sp) }
+moves_sp To rt n s = register_written n (register s.registers rt) s
 
--- the state after an instruction of the table
+-- what an instruction of the table does, once the places have gone on
+unfoldable pub worked : Inst → State → State
+worked (Shift row rd rt amount) s = computes (Shift row rd rt amount) s
+worked (ShiftBy row f) s = computes (ShiftBy row f) s
+worked (Register row f) s = computes (Register row f) s
+worked (Immediate row rt rs imm) s = computes (Immediate row rt rs imm) s
+worked (LoadUpper rt imm) s = computes (LoadUpper rt imm) s
+worked (Load row f) s = loads (Load row f) s
+worked (Store row f) s = stores (Store row f) s
+worked (JumpRegister rs) s = jumps (JumpRegister rs) s
+worked (JumpLinkRegister rd rs) s = jumps (JumpLinkRegister rd rs) s
+worked (BranchSign row rs offset) s = jumps (BranchSign row rs offset) s
+worked (BranchEqual row rs rt offset) s = jumps (BranchEqual row rs rt offset) s
+worked (Jump row target) s = jumps (Jump row target) s
+worked Break s = break_instruction s
+worked (MoveSp row rt n) s = moves_sp row rt n s
+worked (MoveVector row rt vector element) s = moves_vector row (MoveVector row rt vector element) rt s
+worked (MoveControl row rt control) s = moves_control row (MoveControl row rt control) rt s
+worked (Multiply row f) s = multiplies row f s
+worked (Round row f) s = rounds row f s
+worked (MpegMultiply row f) s = multiplies_mpeg row f s
+worked (ReadAccumulator f) s = reads_accumulator f s
+worked (VectorAdd row f) s = ruled (add_rule (add_op row)) f s
+worked (VectorSelect row f) s = ruled (select_rule (select_op row)) f s
+worked (VectorClip row f) s = ruled (clip_rule (clip_op row)) f s
+worked (VectorMerge f) s = ruled (merge_rule Vmrg) f s
+worked (VectorLogic row f) s = ruled (logic_rule (logic_op row)) f s
+worked (Divide row vd lane vt e) s = divides row vd lane vt e s
+worked (Idle row) s = s
+worked (VectorLoad row f) s = loads_vector row f s
+worked (VectorStore row f) s = stores_vector row f s
+
+-- the state after an instruction
 unfoldable pub executed : Inst → State → State
-executed (Shift row rd rt amount) s = computes (Shift row rd rt amount) s
-executed (ShiftBy row f) s = computes (ShiftBy row f) s
-executed (Register row f) s = computes (Register row f) s
-executed (Immediate row rt rs imm) s = computes (Immediate row rt rs imm) s
-executed (LoadUpper rt imm) s = computes (LoadUpper rt imm) s
-executed (Load row f) s = loads (Load row f) s
-executed (Store row f) s = stores (Store row f) s
-executed (JumpRegister rs) s = jumps (JumpRegister rs) s
-executed (JumpLinkRegister rd rs) s = jumps (JumpLinkRegister rd rs) s
-executed (BranchSign row rs offset) s = jumps (BranchSign row rs offset) s
-executed (BranchEqual row rs rt offset) s = jumps (BranchEqual row rs rt offset) s
-executed (Jump row target) s = jumps (Jump row target) s
-executed Break s = break_instruction s
-executed (MoveSp row rt n) s = moves_sp row rt n s
-executed (MoveVector row rt vector element) s = moves_vector row (MoveVector row rt vector element) rt s
-executed (MoveControl row rt control) s = moves_control row (MoveControl row rt control) rt s
-executed (Multiply row f) s = multiplies row f s
-executed (Round row f) s = rounds row f s
-executed (MpegMultiply row f) s = multiplies_mpeg row f s
-executed (ReadAccumulator f) s = reads_accumulator f s
-executed (VectorAdd row f) s = ruled (add_rule (add_op row)) f s
-executed (VectorSelect row f) s = ruled (select_rule (select_op row)) f s
-executed (VectorClip row f) s = ruled (clip_rule (clip_op row)) f s
-executed (VectorMerge f) s = ruled (merge_rule Vmrg) f s
-executed (VectorLogic row f) s = ruled (logic_rule (logic_op row)) f s
-executed (Divide row vd lane vt e) s = divides row vd lane vt e s
-executed (Idle row) s = advanced s
-executed (VectorLoad row f) s = loads_vector row f s
-executed (VectorStore row f) s = stores_vector row f s
+executed i s = worked i (advanced s)
 
 -- the state after a step: halted where single step is set in the state that the instruction made
 abbrev pub singled : State → State

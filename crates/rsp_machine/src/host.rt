@@ -3,6 +3,7 @@ ghost use Rattle.rsp_machine.specs.Host.{register_read, register_written, is_ins
 ghost use Rattle.rsp_regs.specs.Sp.{peeked};
 
 use crate::machine::Machine;
+use crate::place::Place;
 use rsp_acc::Acc;
 use rsp_memory::{Bank, Rdram};
 use rsp_regs::Transfer;
@@ -64,8 +65,8 @@ impl<A: Acc> Machine<A> {
         requires whole { pc % 4 ≡ 0 }
         ensures { self.new ≡ with_pc pc self.old }
     {
-        self.pc = pc;
-        self.npc = (pc + 4) % 4096;
+        self.pc = Place::new(pc);
+        self.npc = self.pc.next();
     }
 
     /// Whether `n` bytes from an address on stand in a bank, which for DMEM and IMEM ends at 4096 and
@@ -126,8 +127,7 @@ impl<A: Acc> Machine<A> {
         let boot = image_word(&self.rdram, a + 8) % 0x100_0000;
         one_run(0xfc0, a, 64).copy_in(&self.rdram, &mut self.dmem);
         one_run(0, boot, size).copy_in(&self.rdram, &mut self.imem);
-        self.pc = 0;
-        self.npc = 4;
+        self.set_pc(0);
         self.sp.on_task();
         Ok(())
     }

@@ -11,6 +11,7 @@ mod lanes;
 pub mod laws;
 mod machine;
 mod ops;
+mod place;
 mod record;
 mod recorder;
 mod step;

@@ -3,6 +3,7 @@ ghost use Rattle.rsp_machine.specs.State.{IsState, start_of};
 ghost use Rattle.rsp_scalar.specs.Registers.{register};
 ghost use Rattle.rsp_loadstore.specs.File.{vector};
 
+use crate::place::Place;
 use rsp_acc::Acc;
 use rsp_divide::Divider;
 use rsp_flags::Flags;
@@ -18,8 +19,8 @@ use std::marker::Model;
 /// IMEM, the image of the RDRAM and the SP registers. Contracts see all of them as a `State`.
 #[derive(Drop)]
 pub struct Machine<A: Acc> {
-    pub(crate) pc: u16,
-    pub(crate) npc: u16,
+    pub(crate) pc: Place,
+    pub(crate) npc: Place,
     pub(crate) regs: Regs,
     pub(crate) vregs: VFile,
     pub(crate) acc: A,
@@ -32,7 +33,6 @@ pub struct Machine<A: Acc> {
 }
 
 impl<A: Acc> Model for Machine<A> {
-    ghost use Rattle.std.specs.Prelude.{◌≡◌, ◌<◌, ◌%◌};
     ghost use Rattle.rsp_machine.specs.State.{State};
 
     ghost Value = { State };
@@ -50,8 +50,6 @@ impl<A: Acc> Model for Machine<A> {
       rdram = m.rdram;
       sp = m.sp;
     } };
-
-    ghost invariant = { λ m. (m.pc < 4096) × (m.npc < 4096) × (m.pc % 4 ≡ 0) × (m.npc % 4 ≡ 0) };
 }
 
 impl<A: Acc> Machine<A> {
@@ -61,8 +59,8 @@ impl<A: Acc> Machine<A> {
         ensures { result ≡ start_of rdram }
     {
         Machine {
-            pc: 0,
-            npc: 4,
+            pc: Place::new(0),
+            npc: Place::new(4),
             regs: Regs::new(),
             vregs: VFile::new(),
             acc: A::zero(),
@@ -80,6 +78,8 @@ impl<A: Acc> Machine<A> {
     pub fn ranges(&self)
         ensures { IsState self.now }
     {
+        let _pc = self.pc.get();
+        let _npc = self.npc.get();
         self.regs.ranges();
         self.vregs.ranges();
         self.acc.ranges();
@@ -97,7 +97,7 @@ impl<A: Acc> Machine<A> {
         ensures place { result < 4096 }
         ensures whole { result % 4 ≡ 0 }
     {
-        self.pc
+        self.pc.get()
     }
 
     /// The place in IMEM of the instruction after the next, a multiple of 4 below 4096.
@@ -107,7 +107,7 @@ impl<A: Acc> Machine<A> {
         ensures place { result < 4096 }
         ensures whole { result % 4 ≡ 0 }
     {
-        self.npc
+        self.npc.get()
     }
 
     /// Scalar register `n`, below 32. Register 0 is 0.

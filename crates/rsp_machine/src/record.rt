@@ -12,6 +12,7 @@ ghost use Rattle.rsp_machine.specs.Saved.{IsChange, blank, is_back, may_store, g
 
 use crate::change::{Change, vd_of};
 use crate::machine::Machine;
+use crate::place::Place;
 use crate::visits::Keeper;
 use rsp_acc::{Acc, Addends};
 use rsp_decode::{Inst, ScalarMemoryFields, VectorMemoryFields, VectorStoreRow, decode};
@@ -26,7 +27,7 @@ use std::marker::Model;
 /// step after step only what the last step's instruction can change is written; contracts see the rest as it was left.
 #[derive(Drop)]
 pub struct Record {
-    pc: u16,
+    pc: Place,
     change: Change,
     word: u32,
     bytes: [u8; 16],
@@ -39,7 +40,6 @@ pub struct Record {
 }
 
 impl Model for Record {
-    ghost use Rattle.std.specs.Prelude.{◌≡◌, ◌<◌, ◌%◌};
     ghost use Rattle.rsp_machine.specs.Saved.{Saved, IsChange};
 
     ghost Value = { Saved };
@@ -57,7 +57,7 @@ impl Model for Record {
       sp = r.sp;
     } };
 
-    ghost invariant = { λ r. (r.pc < 4096) × (r.pc % 4 ≡ 0) × IsChange r.change };
+    ghost invariant = { λ r. IsChange r.change };
 }
 
 impl Record {
@@ -68,7 +68,7 @@ impl Record {
     {
         let zeros = VReg::new();
         Record {
-            pc: 0,
+            pc: Place::new(0),
             change: Change::Dma,
             word: 0,
             bytes: [0; 16],
@@ -144,8 +144,8 @@ impl Keeper for Record {
 
     #[inline(always)]
     #[tactic(auto, unfolding(crate::specs::Saved::kept_change, crate::specs::Saved::saved))]
-    fn keep<A: Acc>(&mut self, machine: &Machine<A>, change: Change) {
-        self.pc = machine.pc;
+    fn keep<A: Acc>(&mut self, machine: &Machine<A>, from: Place, change: Change) {
+        self.pc = from;
         self.change = change.nameless();
         match change {
             Change::Places | Change::Dma => (),
@@ -241,8 +241,7 @@ impl<A: Acc> Machine<A> {
             Change::Dma => return,
         }
         self.sp.resume();
-        self.npc = self.pc;
-        self.pc = slot.pc;
+        self.go_back(slot.pc);
     }
 
     /// Writes back the vector register of a computing row and the accumulators.
@@ -264,13 +263,11 @@ impl<A: Acc> Machine<A> {
     }
 
     /// The register that the computing row at a place writes; 0 where no such row stands there.
-    fn vd_at(&self, place: u16) -> u8
-        requires below { place < 4096 }
-        requires whole { place % 4 ≡ 0 }
+    fn vd_at(&self, place: Place) -> u8
         ensures value { result ≡ vd_at place self.now }
         ensures bound { result < 32 }
     {
-        match decode(self.imem.aligned_word(place)) {
+        match decode(self.imem.aligned_word(place.get())) {
             Some(inst) => vd_of(&inst),
             None => 0,
         }

@@ -35,7 +35,7 @@ impl<A: Acc> Machine<A> {
         ensures memory { result.end ≡ StepEnd.Done → may_store slot.new ≡ false → self.new.dmem ≡ self.old.dmem }
     {
         self.flags.ranges();
-        let word = self.imem.aligned_word(self.pc);
+        let word = self.fetch();
         let Some(reaches_sp) = self.execute(word, slot) else {
             return Recorded {
                 end: StepEnd::Reserved { word },

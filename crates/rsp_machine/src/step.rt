@@ -1,11 +1,12 @@
 ghost use Rattle.std.specs.Prelude.{◌≡◌, ◌<◌, ◌%◌, option_map, unwrap_or};
 ghost use Rattle.rsp_decode.specs.Table.{IsInstruction, inst_of};
 ghost use Rattle.rsp_machine.specs.Step.{computes, loads, stores, jumps, break_instruction, moves_sp, executed, singled, step_of};
-ghost use Rattle.rsp_machine.specs.State.{advanced};
+ghost use Rattle.rsp_machine.specs.State.{advanced, gone_back};
+ghost use Rattle.rsp_memory.specs.Memory.{word_at};
 ghost use Rattle.rsp_machine.specs.Saved.{change_of, reaches_sp, told_by};
-ghost use Rattle.rsp_scalar.specs.Flow.{going_on};
 
 use crate::machine::Machine;
+use crate::place::Place;
 use crate::visits::{Executor, Keeper, Unkept};
 use rsp_acc::Acc;
 use rsp_decode::{Inst, MoveRow, visit};
@@ -25,25 +26,31 @@ pub enum StepEnd {
     },
 }
 
-/// The place after a place in IMEM, where it wraps.
-#[inline(always)]
-fn going_on(npc: u16) -> u16
-    requires { npc < 4096 }
-    ensures value { result ≡ going_on npc }
-    ensures place { result < 4096 }
-    ensures whole { npc % 4 ≡ 0 → result % 4 ≡ 0 }
-{
-    (npc + 4) % 4096
-}
-
 impl<A: Acc> Machine<A> {
-    /// Goes on to the next place, as each instruction but a jump or a branch does.
+    /// The word of IMEM at pc.
     #[inline(always)]
-    pub(crate) fn advance(&mut self)
+    pub(crate) fn fetch(&self) -> u32
+        ensures { result ≡ word_at self.now.imem self.now.pc }
+    {
+        self.imem.aligned_word(self.pc.get())
+    }
+
+    /// Goes on to the next place, as each instruction does before its work.
+    #[inline(always)]
+    fn advance(&mut self)
         ensures { self.new ≡ advanced self.old }
     {
         self.pc = self.npc;
-        self.npc = going_on(self.npc);
+        self.npc = self.npc.next();
+    }
+
+    /// Goes back to the place that it went on from.
+    #[inline(always)]
+    pub(crate) fn go_back(&mut self, from: Place)
+        ensures { self.new ≡ gone_back from self.old }
+    {
+        self.npc = self.pc;
+        self.pc = from;
     }
 
     /// A scalar row that computes.
@@ -54,7 +61,6 @@ impl<A: Acc> Machine<A> {
         ensures { self.new ≡ computes inst.now self.old }
     {
         alu(inst, &mut self.regs);
-        self.advance();
     }
 
     /// A scalar load.
@@ -65,7 +71,6 @@ impl<A: Acc> Machine<A> {
         ensures { self.new ≡ loads inst.now self.old }
     {
         load(inst, &mut self.regs, &self.dmem);
-        self.advance();
     }
 
     /// A scalar store.
@@ -76,19 +81,16 @@ impl<A: Acc> Machine<A> {
         ensures { self.new ≡ stores inst.now self.old }
     {
         store(inst, &self.regs, &mut self.dmem);
-        self.advance();
     }
 
-    /// A jump or a branch: the instruction behind it, at npc, is executed before its target.
+    /// A jump or a branch: the instruction behind it, which is at pc now, is executed before its target.
     #[inline(always)]
     #[tactic(auto, unfolding(crate::specs::Step::jumps))]
     pub(crate) fn go_to(&mut self, inst: &Inst)
         requires { IsInstruction inst.now }
         ensures { self.new ≡ jumps inst.now self.old }
     {
-        let next = jump(inst, &mut self.regs, self.npc);
-        self.pc = self.npc;
-        self.npc = next;
+        self.npc = Place::new(jump(inst, &mut self.regs, self.pc.get()));
     }
 
     /// BREAK.
@@ -98,7 +100,6 @@ impl<A: Acc> Machine<A> {
         ensures { self.new ≡ break_instruction self.old }
     {
         self.sp.on_break();
-        self.advance();
     }
 
     /// A move between scalar register `rt` and an SP register.
@@ -117,23 +118,27 @@ impl<A: Acc> Machine<A> {
                 self.write_reg(u32::from(register), value);
             }
         }
-        self.advance();
     }
 
     /// Executes a word, of which a keeper is told, and tells whether that may have read or written the SP registers. None for a
     /// reserved word, which changes nothing.
     #[inline(always)]
+    #[tactic(auto, unfolding(crate::specs::Step::executed))]
     pub(crate) fn execute<K: Keeper>(&mut self, word: u32, keeper: &mut K) -> Option<bool>
         ensures answer { result ≡ option_map (λ i. reaches_sp (change_of i self.old)) (inst_of word) }
         ensures state { self.new ≡ unwrap_or (option_map (λ i. executed i self.old) (inst_of word)) self.old }
         ensures keeper { keeper.new ≡ told_by K.keeps (inst_of word) self.old keeper.old }
     {
+        let from = self.pc;
+        self.advance();
         let mut executor = Executor {
             machine: self,
             keeper,
+            from,
             reaches_sp: false,
         };
         if !visit(word, &mut executor) {
+            self.go_back(from);
             return None;
         }
         Some(executor.reaches_sp)
@@ -158,7 +163,7 @@ impl<A: Acc> Machine<A> {
         if self.sp.halted() {
             return StepEnd::Halted;
         }
-        let word = self.imem.aligned_word(self.pc);
+        let word = self.fetch();
         let Some(_) = self.execute(word, &mut Unkept::<true>) else {
             return StepEnd::Reserved { word };
         };
@@ -178,7 +183,7 @@ impl<A: Acc> Machine<A> {
         if self.sp.is_held() {
             return self.step_held();
         }
-        let word = self.imem.aligned_word(self.pc);
+        let word = self.fetch();
         let Some(reaches_sp) = self.execute(word, &mut Unkept::<false>) else {
             return StepEnd::Reserved { word };
         };

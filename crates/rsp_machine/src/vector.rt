@@ -38,7 +38,6 @@ impl<A: Acc> Machine<A> {
         let b = self.selected(fields);
         let result = rsp_multiply::multiply(multiply_op(row), &a, &b, &mut self.acc);
         self.vregs.set_reg(fields.vd, result);
-        self.advance();
     }
 
     /// Rounds the accumulators by their sign.
@@ -52,7 +51,6 @@ impl<A: Acc> Machine<A> {
         let odd = fields.vs % 2 == 1;
         let result = rsp_multiply::round_op(round_op(row), odd, &b, &mut self.acc);
         self.vregs.set_reg(fields.vd, result);
-        self.advance();
     }
 
     /// An MPEG multiply.
@@ -66,7 +64,6 @@ impl<A: Acc> Machine<A> {
         let b = self.selected(fields);
         let result = rsp_multiply::mpeg_op(mpeg_op(row), &a, &b, &mut self.acc);
         self.vregs.set_reg(fields.vd, result);
-        self.advance();
     }
 
     /// Reads a part of the accumulators.
@@ -78,7 +75,6 @@ impl<A: Acc> Machine<A> {
     {
         let result = sar(usize::from(fields.element), &self.acc);
         self.vregs.set_reg(fields.vd, result);
-        self.advance();
     }
 
     /// A row that has a rule for one lane: sums, comparisons, clips, merges and logic.
@@ -92,7 +88,6 @@ impl<A: Acc> Machine<A> {
         let b = self.selected(fields);
         let result = op.apply(&a, &b, &mut self.flags, &mut self.acc);
         self.vregs.set_reg(fields.vd, result);
-        self.advance();
     }
 
     /// A divide row, which writes one lane.
@@ -114,7 +109,6 @@ impl<A: Acc> Machine<A> {
             &mut self.acc,
         );
         self.vregs.set_reg(vd, register);
-        self.advance();
     }
 
     /// A vector load.
@@ -127,7 +121,6 @@ impl<A: Acc> Machine<A> {
         let inst = Inst::VectorLoad { row, fields };
         let a = address(&inst, self.regs.get(fields.base));
         rsp_loadstore::load(&inst, a, &self.dmem, &mut self.vregs);
-        self.advance();
     }
 
     /// A vector store.
@@ -140,7 +133,6 @@ impl<A: Acc> Machine<A> {
         let inst = Inst::VectorStore { row, fields };
         let a = address(&inst, self.regs.get(fields.base));
         rsp_loadstore::store(&inst, a, &self.vregs, &mut self.dmem);
-        self.advance();
     }
 
     /// A move between scalar register `rt` and a vector register.
@@ -155,7 +147,6 @@ impl<A: Acc> Machine<A> {
             MoveRow::From => self.regs.set(rt, move_from(inst, &self.vregs)),
             MoveRow::To => move_to(inst, self.regs.get(rt), &mut self.vregs),
         }
-        self.advance();
     }
 
     /// A move between scalar register `rt` and a control register.
@@ -170,6 +161,5 @@ impl<A: Acc> Machine<A> {
             MoveRow::From => self.regs.set(rt, control_from(inst, &self.flags)),
             MoveRow::To => control_to(inst, self.regs.get(rt), &mut self.flags),
         }
-        self.advance();
     }
 }

@@ -1,7 +1,7 @@
 // A machine takes the instructions of the table, one call for each group of rows.
 
 ghost use Rattle.std.specs.Prelude.{◌≡◌};
-ghost use Rattle.rsp_machine.specs.State.{State};
+ghost use Rattle.rsp_machine.specs.State.{State, gone_back};
 ghost use Rattle.rsp_machine.specs.Saved.{IsChange, reaches_sp};
 ghost use Rattle.rsp_machine.specs.declared.change.Change.{Change};
 
@@ -11,6 +11,7 @@ use crate::change::{
 };
 use crate::machine::Machine;
 use crate::ops::{add_op, clip_op, logic_op, select_op};
+use crate::place::Place;
 use rsp_acc::Acc;
 use rsp_compare::MergeOp;
 use rsp_decode::{
@@ -25,10 +26,10 @@ pub(crate) trait Keeper {
     /// What it is after it was told.
     ghost keeps: { Change → State → Self → Self };
 
-    /// Takes what it wants of what is there before the change.
-    fn keep<A: Acc>(&mut self, machine: &Machine<A>, change: Change)
+    /// Takes what it wants of what is there before the change, of a machine that has gone on from a place.
+    fn keep<A: Acc>(&mut self, machine: &Machine<A>, from: Place, change: Change)
         requires { IsChange change }
-        ensures { self.new ≡ keeps change machine.now self.old };
+        ensures { self.new ≡ keeps change (gone_back from machine.now) self.old };
 }
 
 /// A keeper that keeps nothing, for a step that isn't recorded. A step of a held machine has a kind of its own, and so its own copy of
@@ -40,7 +41,7 @@ impl<const HELD: bool> Keeper for Unkept<HELD> {
     ghost keeps = { λ p s k. k };
 
     #[inline(always)]
-    fn keep<A: Acc>(&mut self, _machine: &Machine<A>, _change: Change) {}
+    fn keep<A: Acc>(&mut self, _machine: &Machine<A>, _from: Place, _change: Change) {}
 }
 
 /// A machine as the table's instructions reach it, and what is told of them. It stands apart from the machine so that an
@@ -49,6 +50,8 @@ impl<const HELD: bool> Keeper for Unkept<HELD> {
 pub(crate) struct Executor<'a, A: Acc, K: Keeper> {
     pub(crate) machine: &'a mut Machine<A>,
     pub(crate) keeper: &'a mut K,
+    /// The place of the instruction. The machine has gone on from it.
+    pub(crate) from: Place,
     /// Whether the instruction may have read or written the SP registers.
     pub(crate) reaches_sp: bool,
 }
@@ -58,25 +61,29 @@ impl<'a, A: Acc, K: Keeper> Executor<'a, A, K> {
     #[inline(always)]
     fn keep(&mut self, change: Change)
         requires { IsChange change }
-        ensures { self.new ≡ record self.old { keeper = record self.old.keeper { now = K.keeps change self.old.machine.now self.old.keeper.now }; reaches_sp = reaches_sp change } }
+        ensures { self.new ≡ record self.old { keeper = record self.old.keeper { now = K.keeps change (gone_back self.old.from self.old.machine.now) self.old.keeper.now }; reaches_sp = reaches_sp change } }
     {
-        self.keeper.keep(self.machine, change);
+        self.keeper.keep(self.machine, self.from, change);
         self.reaches_sp = change.reaches_sp();
     }
 }
 
 impl<'a, A: Acc, K: Keeper> Visitor for Executor<'a, A, K> {
-    ghost use Rattle.rsp_machine.specs.Step.{executed};
+    ghost use Rattle.rsp_machine.specs.State.{gone_back};
+    ghost use Rattle.rsp_machine.specs.Step.{worked};
     ghost use Rattle.rsp_machine.specs.Saved.{change_of, reaches_sp};
 
-    ghost after = { λ i e. record {
-      machine = record e.machine { now = executed i e.machine.now };
-      keeper = record e.keeper { now = K.keeps (change_of i e.machine.now) e.machine.now e.keeper.now };
-      reaches_sp = reaches_sp (change_of i e.machine.now);
-    } };
+    ghost after = { λ i e.
+        let before = gone_back e.from e.machine.now in
+        record {
+          machine = record e.machine { now = worked i e.machine.now };
+          keeper = record e.keeper { now = K.keeps (change_of i before) before e.keeper.now };
+          from = e.from;
+          reaches_sp = reaches_sp (change_of i before);
+        } };
 
     #[inline(always)]
-    #[tactic(auto, unfolding(crate::specs::Step::executed, crate::specs::Saved::change_of))]
+    #[tactic(auto, unfolding(crate::specs::Step::worked, crate::specs::Saved::change_of))]
     fn shift(&mut self, row: ShiftRow, rd: u8, rt: u8, amount: u8) {
         self.keep(Change::Register(u32::from(rd)));
         self.machine.compute(&Inst::Shift {
@@ -88,49 +95,49 @@ impl<'a, A: Acc, K: Keeper> Visitor for Executor<'a, A, K> {
     }
 
     #[inline(always)]
-    #[tactic(auto, unfolding(crate::specs::Step::executed, crate::specs::Saved::change_of))]
+    #[tactic(auto, unfolding(crate::specs::Step::worked, crate::specs::Saved::change_of))]
     fn shift_by(&mut self, row: ShiftByRow, fields: RegisterFields) {
         self.keep(Change::Register(u32::from(fields.rd)));
         self.machine.compute(&Inst::ShiftBy { row, fields });
     }
 
     #[inline(always)]
-    #[tactic(auto, unfolding(crate::specs::Step::executed, crate::specs::Saved::change_of))]
+    #[tactic(auto, unfolding(crate::specs::Step::worked, crate::specs::Saved::change_of))]
     fn jump_register(&mut self, rs: u8) {
         self.keep(Change::Places);
         self.machine.go_to(&Inst::JumpRegister { rs });
     }
 
     #[inline(always)]
-    #[tactic(auto, unfolding(crate::specs::Step::executed, crate::specs::Saved::change_of))]
+    #[tactic(auto, unfolding(crate::specs::Step::worked, crate::specs::Saved::change_of))]
     fn jump_link_register(&mut self, rd: u8, rs: u8) {
         self.keep(Change::Register(u32::from(rd)));
         self.machine.go_to(&Inst::JumpLinkRegister { rd, rs });
     }
 
     #[inline(always)]
-    #[tactic(auto, unfolding(crate::specs::Step::executed, crate::specs::Saved::change_of))]
+    #[tactic(auto, unfolding(crate::specs::Step::worked, crate::specs::Saved::change_of))]
     fn break_instruction(&mut self) {
         self.keep(Change::Sp(0));
         self.machine.break_instruction();
     }
 
     #[inline(always)]
-    #[tactic(auto, unfolding(crate::specs::Step::executed, crate::specs::Saved::change_of))]
+    #[tactic(auto, unfolding(crate::specs::Step::worked, crate::specs::Saved::change_of))]
     fn register(&mut self, row: RegisterRow, fields: RegisterFields) {
         self.keep(Change::Register(u32::from(fields.rd)));
         self.machine.compute(&Inst::Register { row, fields });
     }
 
     #[inline(always)]
-    #[tactic(auto, unfolding(crate::specs::Step::executed, crate::specs::Saved::change_of))]
+    #[tactic(auto, unfolding(crate::specs::Step::worked, crate::specs::Saved::change_of))]
     fn branch_sign(&mut self, row: SignRow, rs: u8, offset: u16) {
         self.keep(sign_change(row));
         self.machine.go_to(&Inst::BranchSign { row, rs, offset });
     }
 
     #[inline(always)]
-    #[tactic(auto, unfolding(crate::specs::Step::executed, crate::specs::Saved::change_of))]
+    #[tactic(auto, unfolding(crate::specs::Step::worked, crate::specs::Saved::change_of))]
     fn branch_equal(&mut self, row: EqualRow, rs: u8, rt: u8, offset: u16) {
         self.keep(Change::Places);
         self.machine.go_to(&Inst::BranchEqual {
@@ -142,35 +149,35 @@ impl<'a, A: Acc, K: Keeper> Visitor for Executor<'a, A, K> {
     }
 
     #[inline(always)]
-    #[tactic(auto, unfolding(crate::specs::Step::executed, crate::specs::Saved::change_of))]
+    #[tactic(auto, unfolding(crate::specs::Step::worked, crate::specs::Saved::change_of))]
     fn jump(&mut self, row: JumpRow, target: u16) {
         self.keep(jump_change(row));
         self.machine.go_to(&Inst::Jump { row, target });
     }
 
     #[inline(always)]
-    #[tactic(auto, unfolding(crate::specs::Step::executed, crate::specs::Saved::change_of))]
+    #[tactic(auto, unfolding(crate::specs::Step::worked, crate::specs::Saved::change_of))]
     fn immediate(&mut self, row: ImmediateRow, rt: u8, rs: u8, imm: u16) {
         self.keep(Change::Register(u32::from(rt)));
         self.machine.compute(&Inst::Immediate { row, rt, rs, imm });
     }
 
     #[inline(always)]
-    #[tactic(auto, unfolding(crate::specs::Step::executed, crate::specs::Saved::change_of))]
+    #[tactic(auto, unfolding(crate::specs::Step::worked, crate::specs::Saved::change_of))]
     fn load_upper(&mut self, rt: u8, imm: u16) {
         self.keep(Change::Register(u32::from(rt)));
         self.machine.compute(&Inst::LoadUpper { rt, imm });
     }
 
     #[inline(always)]
-    #[tactic(auto, unfolding(crate::specs::Step::executed, crate::specs::Saved::change_of))]
+    #[tactic(auto, unfolding(crate::specs::Step::worked, crate::specs::Saved::change_of))]
     fn load(&mut self, row: LoadRow, fields: ScalarMemoryFields) {
         self.keep(Change::Register(u32::from(fields.rt)));
         self.machine.load_scalar(&Inst::Load { row, fields });
     }
 
     #[inline(always)]
-    #[tactic(auto, unfolding(crate::specs::Step::executed, crate::specs::Saved::change_of))]
+    #[tactic(auto, unfolding(crate::specs::Step::worked, crate::specs::Saved::change_of))]
     fn store(&mut self, row: StoreRow, fields: ScalarMemoryFields) {
         let change = self.machine.stored_change(fields);
         self.keep(change);
@@ -178,14 +185,14 @@ impl<'a, A: Acc, K: Keeper> Visitor for Executor<'a, A, K> {
     }
 
     #[inline(always)]
-    #[tactic(auto, unfolding(crate::specs::Step::executed, crate::specs::Saved::change_of))]
+    #[tactic(auto, unfolding(crate::specs::Step::worked, crate::specs::Saved::change_of))]
     fn move_sp(&mut self, row: MoveRow, rt: u8, register: u8) {
         self.keep(sp_move_change(row, rt, register));
         self.machine.move_sp_register(row, rt, register);
     }
 
     #[inline(always)]
-    #[tactic(auto, unfolding(crate::specs::Step::executed, crate::specs::Saved::change_of))]
+    #[tactic(auto, unfolding(crate::specs::Step::worked, crate::specs::Saved::change_of))]
     fn move_vector(&mut self, row: MoveRow, rt: u8, vector: u8, element: u8) {
         self.keep(vector_move_change(row, rt, vector));
         self.machine.move_lanes(
@@ -201,7 +208,7 @@ impl<'a, A: Acc, K: Keeper> Visitor for Executor<'a, A, K> {
     }
 
     #[inline(always)]
-    #[tactic(auto, unfolding(crate::specs::Step::executed, crate::specs::Saved::change_of))]
+    #[tactic(auto, unfolding(crate::specs::Step::worked, crate::specs::Saved::change_of))]
     fn move_control(&mut self, row: MoveRow, rt: u8, control: Control) {
         self.keep(control_move_change(row, rt));
         self.machine
@@ -209,91 +216,90 @@ impl<'a, A: Acc, K: Keeper> Visitor for Executor<'a, A, K> {
     }
 
     #[inline(always)]
-    #[tactic(auto, unfolding(crate::specs::Step::executed, crate::specs::Saved::change_of))]
+    #[tactic(auto, unfolding(crate::specs::Step::worked, crate::specs::Saved::change_of))]
     fn multiply(&mut self, row: MultiplyRow, fields: VectorFields) {
         self.keep(Change::Product(u32::from(fields.vd)));
         self.machine.multiply_lanes(row, fields);
     }
 
     #[inline(always)]
-    #[tactic(auto, unfolding(crate::specs::Step::executed, crate::specs::Saved::change_of))]
+    #[tactic(auto, unfolding(crate::specs::Step::worked, crate::specs::Saved::change_of))]
     fn round(&mut self, row: RoundRow, fields: VectorFields) {
         self.keep(Change::Product(u32::from(fields.vd)));
         self.machine.round_lanes(row, fields);
     }
 
     #[inline(always)]
-    #[tactic(auto, unfolding(crate::specs::Step::executed, crate::specs::Saved::change_of))]
+    #[tactic(auto, unfolding(crate::specs::Step::worked, crate::specs::Saved::change_of))]
     fn mpeg_multiply(&mut self, row: MpegRow, fields: VectorFields) {
         self.keep(Change::Product(u32::from(fields.vd)));
         self.machine.multiply_mpeg(row, fields);
     }
 
     #[inline(always)]
-    #[tactic(auto, unfolding(crate::specs::Step::executed, crate::specs::Saved::change_of))]
+    #[tactic(auto, unfolding(crate::specs::Step::worked, crate::specs::Saved::change_of))]
     fn read_accumulator(&mut self, fields: VectorFields) {
         self.keep(Change::Vector(u32::from(fields.vd)));
         self.machine.read_part(fields);
     }
 
     #[inline(always)]
-    #[tactic(auto, unfolding(crate::specs::Step::executed, crate::specs::Saved::change_of))]
+    #[tactic(auto, unfolding(crate::specs::Step::worked, crate::specs::Saved::change_of))]
     fn vector_add(&mut self, row: VectorAddRow, fields: VectorFields) {
         self.keep(Change::Sum(u32::from(fields.vd)));
         self.machine.compute_lanes(add_op(row), fields);
     }
 
     #[inline(always)]
-    #[tactic(auto, unfolding(crate::specs::Step::executed, crate::specs::Saved::change_of))]
+    #[tactic(auto, unfolding(crate::specs::Step::worked, crate::specs::Saved::change_of))]
     fn vector_select(&mut self, row: VectorSelectRow, fields: VectorFields) {
         self.keep(Change::Choice(u32::from(fields.vd)));
         self.machine.compute_lanes(select_op(row), fields);
     }
 
     #[inline(always)]
-    #[tactic(auto, unfolding(crate::specs::Step::executed, crate::specs::Saved::change_of))]
+    #[tactic(auto, unfolding(crate::specs::Step::worked, crate::specs::Saved::change_of))]
     fn vector_clip(&mut self, row: VectorClipRow, fields: VectorFields) {
         self.keep(Change::Clip(u32::from(fields.vd)));
         self.machine.compute_lanes(clip_op(row), fields);
     }
 
     #[inline(always)]
-    #[tactic(auto, unfolding(crate::specs::Step::executed, crate::specs::Saved::change_of))]
+    #[tactic(auto, unfolding(crate::specs::Step::worked, crate::specs::Saved::change_of))]
     fn vector_merge(&mut self, fields: VectorFields) {
         self.keep(Change::Sum(u32::from(fields.vd)));
         self.machine.compute_lanes(MergeOp::Vmrg, fields);
     }
 
     #[inline(always)]
-    #[tactic(auto, unfolding(crate::specs::Step::executed, crate::specs::Saved::change_of))]
+    #[tactic(auto, unfolding(crate::specs::Step::worked, crate::specs::Saved::change_of))]
     fn vector_logic(&mut self, row: VectorLogicRow, fields: VectorFields) {
         self.keep(Change::Product(u32::from(fields.vd)));
         self.machine.compute_lanes(logic_op(row), fields);
     }
 
     #[inline(always)]
-    #[tactic(auto, unfolding(crate::specs::Step::executed, crate::specs::Saved::change_of))]
+    #[tactic(auto, unfolding(crate::specs::Step::worked, crate::specs::Saved::change_of))]
     fn divide(&mut self, row: DivideRow, vd: u8, lane: u8, vt: u8, element: u8) {
         self.keep(Change::Divide(u32::from(vd)));
         self.machine.divide(row, vd, lane, vt, element);
     }
 
     #[inline(always)]
-    #[tactic(auto, unfolding(crate::specs::Step::executed, crate::specs::Saved::change_of))]
+    #[tactic(auto, unfolding(crate::specs::Step::worked, crate::specs::Saved::change_of))]
     fn idle(&mut self, _row: IdleRow) {
         self.keep(Change::Places);
-        self.machine.advance();
     }
 
     #[inline(always)]
-    #[tactic(auto, unfolding(crate::specs::Step::executed, crate::specs::Saved::change_of))]
+    #[tactic(auto, unfolding(crate::specs::Step::worked, crate::specs::Saved::change_of))]
     fn vector_load(&mut self, row: VectorLoadRow, fields: VectorMemoryFields) {
         self.keep(loaded_change(row, fields.vt));
         self.machine.load_register(row, fields);
     }
 
     #[inline(always)]
-    #[tactic(auto, unfolding(crate::specs::Step::executed, crate::specs::Saved::change_of))]
+    #[tactic(auto, unfolding(crate::specs::Step::worked, crate::specs::Saved::change_of))]
     fn vector_store(&mut self, row: VectorStoreRow, fields: VectorMemoryFields) {
         let change = self.machine.window_change(row, fields);
         self.keep(change);

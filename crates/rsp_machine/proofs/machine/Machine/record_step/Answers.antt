@@ -1,6 +1,5 @@
 use Rattle.std.proofs.Common.{◌∙◌, ap, sym, subst}
 use Rattle.rsp_decode.specs.Table.{inst_of}
-use Rattle.rsp_memory.specs.Memory.{word_at}
 use Rattle.rsp_machine.specs.State.{State}
 use Rattle.rsp_machine.specs.Saved.{is_back}
 use Rattle.rsp_machine.proofs.Flagging.{AreFlags}
@@ -11,23 +10,23 @@ use Rattle.rsp_machine.proofs.machine.Machine.record_step.Goals as goal
 -- a reserved word
 pub returns-in_default-clause-answer : goal.returns-in_default-clause-answer
 returns-in_default-clause-answer g c =
-    let word = c.aligned_word-word.ensures ∙ ap (λ (x : State). word_at x.imem x.pc) c.self.view_is in
-    ap (λ x. x.0) (sym (step_reserved c.aligned_word-word.result c.args.self.now c.execute.new.self c.requires word c.in_default.ensures.answer c.execute.ensures.state))
+    let word = c.fetch-word.ensures in
+    ap (λ x. x.0) (sym (step_reserved c.fetch-word.result c.args.self.now c.execute.new.self c.requires word c.in_default.ensures.answer c.execute.ensures.state))
 
 pub returns-in_default-clause-state : goal.returns-in_default-clause-state
 returns-in_default-clause-state g c =
-    let word = c.aligned_word-word.ensures ∙ ap (λ (x : State). word_at x.imem x.pc) c.self.view_is in
-    ap (λ x. x.1) (sym (step_reserved c.aligned_word-word.result c.args.self.now c.execute.new.self c.requires word c.in_default.ensures.answer c.execute.ensures.state))
+    let word = c.fetch-word.ensures in
+    ap (λ x. x.1) (sym (step_reserved c.fetch-word.result c.args.self.now c.execute.new.self c.requires word c.in_default.ensures.answer c.execute.ensures.state))
 
 pub returns-in_default-clause-slot : goal.returns-in_default-clause-slot
 returns-in_default-clause-slot g c =
-    let word = c.aligned_word-word.ensures ∙ ap (λ (x : State). word_at x.imem x.pc) c.self.view_is in
-    c.execute.ensures.keeper ∙ sym (slot_running c.aligned_word-word.result c.args.self.now c.args.slot.now c.requires word)
+    let word = c.fetch-word.ensures in
+    c.execute.ensures.keeper ∙ sym (slot_running c.fetch-word.result c.args.self.now c.args.slot.now c.requires word)
 
 pub returns-in_default-clause-which : goal.returns-in_default-clause-which
 returns-in_default-clause-which g c =
-    let word = c.aligned_word-word.ensures ∙ ap (λ (x : State). word_at x.imem x.pc) c.self.view_is in
-    sym (undo_reserved c.aligned_word-word.result c.args.self.now c.requires word c.in_default.ensures.answer)
+    let word = c.fetch-word.ensures in
+    sym (undo_reserved c.fetch-word.result c.args.self.now c.requires word c.in_default.ensures.answer)
 
 pub returns-in_default-clause-back : goal.returns-in_default-clause-back
 returns-in_default-clause-back g c =
@@ -37,19 +36,19 @@ returns-in_default-clause-back g c =
 -- an instruction that may have reached the SP registers, or a single step
 pub returns-then-reaches_sp-clause-answer : goal.returns-then-reaches_sp-clause-answer
 returns-then-reaches_sp-clause-answer g c =
-    let word = c.aligned_word-word.ensures ∙ ap (λ (x : State). word_at x.imem x.pc) c.self.view_is in
-    ap (λ x. x.0) (sym (step_done c.aligned_word-word.result c.args.self.now c.execute.new.self c.in-Some.reaches_sp c.requires word c.in-Some.ensures.answer c.execute.ensures.state))
+    let word = c.fetch-word.ensures in
+    ap (λ x. x.0) (sym (step_done c.fetch-word.result c.args.self.now c.execute.new.self c.in-Some.reaches_sp c.requires word c.in-Some.ensures.answer c.execute.ensures.state))
 
 pub returns-then-reaches_sp-clause-state : goal.returns-then-reaches_sp-clause-state
 returns-then-reaches_sp-clause-state g c =
-    let word = c.aligned_word-word.ensures ∙ ap (λ (x : State). word_at x.imem x.pc) c.self.view_is in
+    let word = c.fetch-word.ensures in
     c.end_instruction.ensures
-    ∙ ap (λ x. x.1) (sym (step_done c.aligned_word-word.result c.args.self.now c.execute.new.self c.in-Some.reaches_sp c.requires word c.in-Some.ensures.answer c.execute.ensures.state))
+    ∙ ap (λ x. x.1) (sym (step_done c.fetch-word.result c.args.self.now c.execute.new.self c.in-Some.reaches_sp c.requires word c.in-Some.ensures.answer c.execute.ensures.state))
 
 pub returns-then-reaches_sp-clause-slot : goal.returns-then-reaches_sp-clause-slot
 returns-then-reaches_sp-clause-slot g c =
-    let word = c.aligned_word-word.ensures ∙ ap (λ (x : State). word_at x.imem x.pc) c.self.view_is in
-    c.execute.ensures.keeper ∙ sym (slot_running c.aligned_word-word.result c.args.self.now c.args.slot.now c.requires word)
+    let word = c.fetch-word.ensures in
+    c.execute.ensures.keeper ∙ sym (slot_running c.fetch-word.result c.args.self.now c.args.slot.now c.requires word)
 
 pub returns-then-reaches_sp-clause-which : goal.returns-then-reaches_sp-clause-which
 returns-then-reaches_sp-clause-which g c =
@@ -70,13 +69,13 @@ returns-then-reaches_sp-clause-memory g c end =
 -- any other instruction
 pub returns-clause-answer : goal.returns-clause-answer
 returns-clause-answer g c =
-    let word = c.aligned_word-word.ensures ∙ ap (λ (x : State). word_at x.imem x.pc) c.self.view_is in
-    ap (λ x. x.0) (sym (step_done c.aligned_word-word.result c.args.self.now c.execute.new.self c.in-Some.reaches_sp c.requires word c.in-Some.ensures.answer c.execute.ensures.state))
+    let word = c.fetch-word.ensures in
+    ap (λ x. x.0) (sym (step_done c.fetch-word.result c.args.self.now c.execute.new.self c.in-Some.reaches_sp c.requires word c.in-Some.ensures.answer c.execute.ensures.state))
 
 pub returns-clause-state : goal.returns-clause-state
 returns-clause-state g c =
-    let s = c.args.self.now in let t = c.execute.new.self in let w = c.aligned_word-word.result in
-    let word = c.aligned_word-word.ensures ∙ ap (λ (x : State). word_at x.imem x.pc) c.self.view_is in
+    let s = c.args.self.now in let t = c.execute.new.self in let w = c.fetch-word.result in
+    let word = c.fetch-word.ensures in
     let single = ap (λ (x : State). x.sp.single_step) (sym c.self-2.view_is) ∙ sym c.if-single_step.ensures in
     let same = stays (inst_of w) s t c.if-reaches_sp.false c.in-Some.ensures.answer c.execute.ensures.state in
     free s t c.requires same single
@@ -84,18 +83,18 @@ returns-clause-state g c =
 
 pub returns-clause-slot : goal.returns-clause-slot
 returns-clause-slot g c =
-    let word = c.aligned_word-word.ensures ∙ ap (λ (x : State). word_at x.imem x.pc) c.self.view_is in
-    c.execute.ensures.keeper ∙ sym (slot_running c.aligned_word-word.result c.args.self.now c.args.slot.now c.requires word)
+    let word = c.fetch-word.ensures in
+    c.execute.ensures.keeper ∙ sym (slot_running c.fetch-word.result c.args.self.now c.args.slot.now c.requires word)
 
 pub returns-clause-which : goal.returns-clause-which
 returns-clause-which g c =
-    let word = c.aligned_word-word.ensures ∙ ap (λ (x : State). word_at x.imem x.pc) c.self.view_is in
-    sym (undo_free c.aligned_word-word.result c.args.self.now c.requires word c.if-reaches_sp.false c.in-Some.ensures.answer)
+    let word = c.fetch-word.ensures in
+    sym (undo_free c.fetch-word.result c.args.self.now c.requires word c.if-reaches_sp.false c.in-Some.ensures.answer)
 
 pub returns-clause-halted : goal.returns-clause-halted
 returns-clause-halted g c =
     let s = c.args.self.now in let t = c.execute.new.self in
-    halted_as s t c.requires (stays (inst_of c.aligned_word-word.result) s t c.if-reaches_sp.false c.in-Some.ensures.answer c.execute.ensures.state)
+    halted_as s t c.requires (stays (inst_of c.fetch-word.result) s t c.if-reaches_sp.false c.in-Some.ensures.answer c.execute.ensures.state)
 
 pub returns-clause-back : goal.returns-clause-back
 returns-clause-back g c =

@@ -1,5 +1,4 @@
 use Rattle.std.proofs.Common.{◌∙◌, ap, sym}
-use Rattle.rsp_memory.specs.Memory.{word_at}
 use Rattle.rsp_machine.specs.State.{State}
 use Rattle.rsp_machine.proofs.Ending.{step_halted, step_reserved, step_done}
 use Rattle.rsp_machine.proofs.machine.Machine.step_held.Goals as goal
@@ -14,25 +13,25 @@ returns-then-halted-clause-state g c =
 
 pub returns-in_default-clause-answer : goal.returns-in_default-clause-answer
 returns-in_default-clause-answer g c =
-    let word = c.aligned_word-word.ensures ∙ ap (λ (x : State). word_at x.imem x.pc) c.self.view_is in
+    let word = c.fetch-word.ensures in
     let halted = ap (λ (x : State). x.sp.halted) (sym c.self.view_is) ∙ sym c.if-halted.ensures in
-    ap (λ x. x.0) (sym (step_reserved c.aligned_word-word.result c.args.self.now c.execute.new.self halted word c.in_default.ensures.answer c.execute.ensures.state))
+    ap (λ x. x.0) (sym (step_reserved c.fetch-word.result c.args.self.now c.execute.new.self halted word c.in_default.ensures.answer c.execute.ensures.state))
 
 pub returns-in_default-clause-state : goal.returns-in_default-clause-state
 returns-in_default-clause-state g c =
-    let word = c.aligned_word-word.ensures ∙ ap (λ (x : State). word_at x.imem x.pc) c.self.view_is in
+    let word = c.fetch-word.ensures in
     let halted = ap (λ (x : State). x.sp.halted) (sym c.self.view_is) ∙ sym c.if-halted.ensures in
-    ap (λ x. x.1) (sym (step_reserved c.aligned_word-word.result c.args.self.now c.execute.new.self halted word c.in_default.ensures.answer c.execute.ensures.state))
+    ap (λ x. x.1) (sym (step_reserved c.fetch-word.result c.args.self.now c.execute.new.self halted word c.in_default.ensures.answer c.execute.ensures.state))
 
 pub returns-clause-answer : goal.returns-clause-answer
 returns-clause-answer g c =
-    let word = c.aligned_word-word.ensures ∙ ap (λ (x : State). word_at x.imem x.pc) c.self.view_is in
+    let word = c.fetch-word.ensures in
     let halted = ap (λ (x : State). x.sp.halted) (sym c.self.view_is) ∙ sym c.if-halted.ensures in
-    ap (λ x. x.0) (sym (step_done c.aligned_word-word.result c.args.self.now c.execute.new.self c.in-Some.field-0 halted word c.in-Some.ensures.answer c.execute.ensures.state))
+    ap (λ x. x.0) (sym (step_done c.fetch-word.result c.args.self.now c.execute.new.self c.in-Some.field-0 halted word c.in-Some.ensures.answer c.execute.ensures.state))
 
 pub returns-clause-state : goal.returns-clause-state
 returns-clause-state g c =
-    let word = c.aligned_word-word.ensures ∙ ap (λ (x : State). word_at x.imem x.pc) c.self.view_is in
+    let word = c.fetch-word.ensures in
     let halted = ap (λ (x : State). x.sp.halted) (sym c.self.view_is) ∙ sym c.if-halted.ensures in
     c.end_instruction.ensures
-    ∙ ap (λ x. x.1) (sym (step_done c.aligned_word-word.result c.args.self.now c.execute.new.self c.in-Some.field-0 halted word c.in-Some.ensures.answer c.execute.ensures.state))
+    ∙ ap (λ x. x.1) (sym (step_done c.fetch-word.result c.args.self.now c.execute.new.self c.in-Some.field-0 halted word c.in-Some.ensures.answer c.execute.ensures.state))
