@@ -53,6 +53,15 @@ impl<A: Acc> Machine<A> {
         self.pc = from;
     }
 
+    /// Goes back from a reserved word. Put inline, it would have each step keep the old npc in a register.
+    #[cold]
+    #[inline(never)]
+    fn refuse(&mut self, from: Place)
+        ensures { self.new ≡ gone_back from self.old }
+    {
+        self.go_back(from);
+    }
+
     /// A scalar row that computes.
     #[inline(always)]
     #[tactic(auto, unfolding(crate::specs::Step::computes))]
@@ -138,7 +147,7 @@ impl<A: Acc> Machine<A> {
             reaches_sp: false,
         };
         if !visit(word, &mut executor) {
-            self.go_back(from);
+            self.refuse(from);
             return None;
         }
         Some(executor.reaches_sp)
