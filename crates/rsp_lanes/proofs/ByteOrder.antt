@@ -1,9 +1,8 @@
 -- The sixteen bytes of a register, and the lanes that they make.
-use Rattle.std.proofs.Common.{◌≡◌, ℕ, suc, ◌+◌, ◌-◌, ◌*◌, ◌/◌, ◌%◌, ◌<◌, ◌≤◌, ◌&&◌, List, [], ◌∷◌, ◌++◌, Bool, true, false, cond, if◌then◌else◌, nat_le, nat_lt, leb, ltb, get_or, map, replicate, refl, ap, ◌∙◌, arith, inl, inr, Fits, w8, bit_and}
+use Rattle.std.proofs.Common.{◌≡◌, ℕ, suc, ◌+◌, ◌-◌, ◌*◌, ◌/◌, ◌%◌, ◌<◌, ◌≤◌, ◌&&◌, List, [], ◌∷◌, ◌++◌, Bool, true, false, cond, if◌then◌else◌, nat_le, nat_lt, leb, ltb, get_or, map, replicate, refl, ap, ◌∙◌, arith, inl, inr, w8}
 use Rattle.std.specs.Simd.Lanes.{zip2, sel_l, pick_l, top, number_l, digits_l}
 use Rattle.std.proofs.Math.Nat.{mul-le-mul_left}
 use Rattle.std.proofs.lemmas.Simd.{swz_l}
-use Rattle.std.proofs.lemmas.Nat.{and_mask}
 use Rattle.std.proofs.lemmas.Bool.{cases_lt}
 use Rattle.std.proofs.lemmas.Bool.Decides.{nat_tests}
 use Rattle.rsp_lanes.specs.Lanes.{each_lane, IsVector, register_byte}
@@ -137,11 +136,11 @@ swizzled : (old : ℕ → ℕ) (source : List ℕ) (i n : ℕ) → placed_le (ea
 unfolding each_byte
 swizzled old source i n = refl
 
-pub with_register_bytes_is : (v source : List ℕ) (i n : ℕ) → IsVector v → ((k : ℕ) → Fits w8 (get_or source k 0)) → i < 32 → n ≤ 16
+pub with_register_bytes_is : (v source : List ℕ) (i n : ℕ) → IsVector v → ((k : ℕ) → get_or source k 0 < 256) → i < 32 → n ≤ 16
     → digits_l 65536 8 (number_l 256 (placed_le (digits_l 256 16 (number_l 65536 v)) source i n)) ≡ with_register_bytes v source i n
-with_register_bytes_is v source i n h fits l m = ap (λ le. digits_l 65536 8 (number_l 256 (placed_le le source i n))) (to_le v h)
+with_register_bytes_is v source i n h below l m = ap (λ le. digits_l 65536 8 (number_l 256 (placed_le le source i n))) (to_le v h)
     ∙ ap (λ bytes. digits_l 65536 8 (number_l 256 bytes)) (swizzled (register_byte v) source i n ∙ swapped_same (λ k. moved source k i n (register_byte v k)) byte (λ k b. moved_is source k i n (register_byte v k) b l m))
-    ∙ from_le byte (λ k. one_below (nat_le i k && nat_lt k (i + n)) _ _ 256 (fits (k - i)).fits (byte_below v k h))
+    ∙ from_le byte (λ k. one_below (nat_le i k && nat_lt k (i + n)) _ _ 256 (below (k - i)) (byte_below v k h))
   where
     byte : ℕ → ℕ
     byte k = if nat_le i k && nat_lt k (i + n) then get_or source (k - i) 0 else register_byte v k
@@ -178,41 +177,9 @@ each_byte_same f g e =
       e 15 (omega arith),
     ) refl
 
--- the places that are looked up
-abbrev places : List ℕ
-places = 0 ∷ 1 ∷ 2 ∷ 3 ∷ 4 ∷ 5 ∷ 6 ∷ 7 ∷ 8 ∷ 9 ∷ 10 ∷ 11 ∷ 12 ∷ 13 ∷ 14 ∷ 15 ∷ []
-
-abbrev pub spaced_places : ℕ → ℕ → List ℕ
-spaced_places start stride =
-    zip2 bit_and (zip2 (λ a b. (a + b) % 256) (zip2 (λ a b. a * b % 256) places (replicate 16 stride)) (replicate 16 start)) (replicate 16 15)
-
-abbrev looked_up : List ℕ → ℕ → ℕ
-looked_up bytes p = cond (leb 128 p) 0 (get_or bytes (0 + p) 0)
-
-looked_up_is : (bytes : List ℕ) (start n : ℕ) → looked_up bytes (bit_and ((n % 256 + start) % 256) 15) ≡ get_or bytes ((start + n) % 16) 0
-looked_up_is bytes start n =
-    let e : bit_and ((n % 256 + start) % 256) 15 ≡ (start + n) % 16 = and_mask ((n % 256 + start) % 256) 4 ∙ omega arith in
-    let f : leb 128 ((start + n) % 16) ≡ false = grind (arith, nat_tests) in
-    let z : 0 + (start + n) % 16 ≡ (start + n) % 16 = omega arith in
-    rw (e, f, z) refl
-
-spaced_by : (bytes : List ℕ) (start stride : ℕ) → swz_l w8 16 bytes 0 (spaced_places start stride) ≡ each_byte (λ k. looked_up bytes (bit_and ((k * stride % 256 + start) % 256) 15))
-unfolding each_byte
-spaced_by bytes start stride = refl
-
-pub spaced_is : (bytes : List ℕ) (start stride : ℕ) → swz_l w8 16 bytes 0 (spaced_places start stride) ≡ each_byte (λ k. get_or bytes ((start + k * stride) % 16) 0)
-spaced_is bytes start stride = spaced_by bytes start stride ∙ each_byte_same _ _ (λ k h. looked_up_is bytes start (k * stride))
-
--- a register's bytes in order
-pub in_order : (v : List ℕ) → IsVector v → swz_l w8 16 (digits_l 256 16 (number_l 65536 v)) 0 order ≡ each_byte (register_byte v)
-unfolding each_byte
-in_order v h = ap (λ le. swz_l w8 16 le 0 order) (to_le v h)
-
 -- bytes one behind the other
-pub turned : (f : ℕ → ℕ) (bytes : List ℕ) (start : ℕ) → bytes ≡ each_byte f → each_byte (λ k. get_or bytes ((start + k * 1) % 16) 0) ≡ each_byte (λ k. f ((start + k) % 16))
-turned f bytes start e = each_byte_same _ _ (λ k h.
-    let same : (start + k * 1) % 16 ≡ (start + k) % 16 = omega arith in
-    ap (λ bs. get_or bs ((start + k * 1) % 16) 0) e ∙ rw same (byte_of f ((start + k) % 16) (omega arith)))
+pub turned : (f : ℕ → ℕ) (bytes : List ℕ) (start : ℕ) → bytes ≡ each_byte f → each_byte (λ k. get_or bytes ((start + k) % 16) 0) ≡ each_byte (λ k. f ((start + k) % 16))
+turned f bytes start e = each_byte_same _ _ (λ k h. ap (λ bs. get_or bs ((start + k) % 16) 0) e ∙ byte_of f ((start + k) % 16) (omega arith))
 
 -- the high bytes of a register and of its double
 abbrev double : List ℕ → List ℕ

@@ -5,6 +5,7 @@ pub mod Carry
 pub mod Kit
 pub mod Limits
 pub mod Masks
+pub mod Places
 pub mod Wide
 pub mod Products
 pub mod Signs

@@ -1,6 +1,10 @@
 -- The sixteen bytes of a register: byte 0 is the high byte of lane 0, byte 15 the low byte of lane 7.
-use Rattle.std.specs.Prelude.{ℕ, ◌+◌, ◌-◌, ◌*◌, ◌/◌, ◌%◌, ◌&&◌, nat_le, nat_lt, if◌then◌else◌, List, [], ◌∷◌, slice_index}
+use Rattle.std.specs.Prelude.{ℕ, ◌≡◌, ◌<◌, ◌+◌, ◌-◌, ◌*◌, ◌/◌, ◌%◌, ◌&&◌, nat_le, nat_lt, if◌then◌else◌, List, [], ◌∷◌, length, slice_index}
 use Rattle.rsp_lanes.specs.Lanes.{each_lane, register_byte}
+
+-- sixteen bytes
+abbrev pub IsBytes : List ℕ → Type 0
+IsBytes v = (length v ≡ 16) × ((i : ℕ) → slice_index v i < 256)
 
 -- the list of sixteen whose member k is `f k`
 unfoldable pub each_byte : (ℕ → ℕ) → List ℕ

@@ -8,11 +8,13 @@
 #![tactic(auto)]
 
 mod bytes;
+mod bytes16;
 mod mask;
 mod shuffle;
 mod signed;
 mod vreg;
 
+pub use bytes16::Bytes16;
 pub use mask::Mask8;
 pub use shuffle::select;
 /// Eight lanes of sixteen bits, which are all that the planes above hold.

@@ -162,12 +162,12 @@ given_more value v n h = sym (set_each (λ j. if nat_lt j n then value j else ge
 given_all : (value : ℕ → ℕ) (v : List ℕ) → first_given value v 8 ≡ each_lane value
 given_all value v = each_same _ _ (λ j l. grind (arith, nat_tests))
 
-pub spaced_loaded : (m : List ℕ) (file : List (List ℕ)) (vt factor start stride a : ℕ) (step : ℕ → ℕ) → vt < length file → length (vector file vt) ≡ 8
-    → ((j : ℕ) → (start + j * stride) % 16 ≡ (a % 8 + step j) % 16)
-    → with_vector file vt (each_lane (λ j. get_or (bytes_at m (block a) 16) ((start + j * stride) % 16) 0 * factor))
+pub lanes_loaded : (m : List ℕ) (file : List (List ℕ)) (vt factor a : ℕ) (from step : ℕ → ℕ) → vt < length file → length (vector file vt) ≡ 8
+    → ((j : ℕ) → from j % 16 ≡ (a % 8 + step j) % 16)
+    → with_vector file vt (each_lane (λ j. get_or (bytes_at m (block a) 16) (from j % 16) 0 * factor))
     ≡ after_load m file (for_each 8 (λ j. to_lane vt j factor (place a (step j))))
 unfolding loaded
-spaced_loaded m file vt factor start stride a step h l at =
+lanes_loaded m file vt factor a from step h l at =
     ap (with_vector file vt) (each_same _ _ (λ j k. ap (λ b. b * factor) (byte j)) ∙ sym (given_all value (vector file vt)))
     ∙ sym (one_register m file vt 8 (λ j. to_lane vt j factor (place a (step j))) (λ v j. set v j (value j)) (first_given value (vector file vt))
     h (λ _ _. refl) (given_none value (vector file vt) l) (λ k lt. given_more value (vector file vt) k lt))
@@ -175,5 +175,5 @@ spaced_loaded m file vt factor start stride a step h l at =
     value : ℕ → ℕ
     value j = byte_at m (place a (step j)) * factor
 
-    byte : (j : ℕ) → get_or (bytes_at m (block a) 16) ((start + j * stride) % 16) 0 ≡ byte_at m (place a (step j))
-    byte j = window_byte m (block a) 16 ((start + j * stride) % 16) (omega arith) ∙ ap (λ p. byte_at m (block a + p)) (at j)
+    byte : (j : ℕ) → get_or (bytes_at m (block a) 16) (from j % 16) 0 ≡ byte_at m (place a (step j))
+    byte j = window_byte m (block a) 16 (from j % 16) (omega arith) ∙ ap (λ p. byte_at m (block a + p)) (at j)

@@ -1,4 +1,5 @@
 ghost use Rattle.std.specs.Prelude.{◌≡◌, ◌<◌, ◌≤◌, ◌+◌, ◌-◌, min};
+ghost use Rattle.rsp_memory.specs.Memory.{bytes_at};
 ghost use Rattle.rsp_decode.specs.Table.{IsInstruction};
 ghost use Rattle.rsp_decode.specs.declared.inst.VectorLoadRow.TheVariants.{Lhv, Lfv, Ltv};
 ghost use Rattle.rsp_loadstore.specs.Loads.{to_byte, to_lane, after_load, load_pairs, loaded_file, IsLoadElement};
@@ -6,7 +7,7 @@ ghost use Rattle.rsp_loadstore.specs.Pairs.{for_each, place};
 
 use crate::VFile;
 use rsp_decode::{Inst, VectorLoadRow};
-use rsp_lanes::VReg;
+use rsp_lanes::{Bytes16, VReg};
 use rsp_memory::SpMem;
 
 /// Executes a vector load at the address `a`, the one that `address` gives; LTV writes parts of eight registers.
@@ -46,6 +47,18 @@ fn load_row(row: VectorLoadRow, vt: u8, e: usize, a: u32, memory: &SpMem, file: 
     }
 }
 
+/// The sixteen bytes from an address on. Each arm makes the vector, so that it is read where the bytes stand: an array that
+/// either arm gave would be copied first.
+#[inline(always)]
+fn window(memory: &SpMem, a: u32) -> Bytes16
+    ensures { result ≡ bytes_at memory.now a 16 }
+{
+    match memory.whole_window(a) {
+        Some(bytes) => Bytes16::from_array(*bytes),
+        None => Bytes16::from_array(memory.window(a)),
+    }
+}
+
 /// Loads `n` bytes of a register from byte `i` on, as far as there are; all of them lie in the sixteen from `a` on.
 #[inline(always)]
 fn load_bytes(vt: u8, i: usize, n: usize, a: u32, memory: &SpMem, file: &mut VFile)
@@ -56,7 +69,7 @@ fn load_bytes(vt: u8, i: usize, n: usize, a: u32, memory: &SpMem, file: &mut VFi
 {
     file.ranges();
     let v = file.reg(vt);
-    file.set_reg(vt, v.with_bytes(memory.window(a), i as u8, n as u8));
+    file.set_reg(vt, v.with_bytes(window(memory, a), i as u8, n as u8));
 }
 
 /// LPV and LUV: loads the eight lanes of a register, with the bytes of a block, times a factor.
@@ -68,9 +81,9 @@ fn load_packed(vt: u8, factor: u16, e: usize, a: u32, memory: &SpMem, file: &mut
     ensures { file.new ≡ after_load memory.now file.old (for_each 8 (λ j. to_lane vt j factor (place a (16 - e + j)))) }
 {
     file.ranges();
-    let window = memory.window(a - a % 8);
+    let bytes = window(memory, a - a % 8);
     let start = (a % 8) as u8 + 16 - e as u8;
-    file.set_reg(vt, VReg::from_spaced(window, start, 1, factor));
+    file.set_reg(vt, VReg::from_packed(bytes, start, factor));
 }
 
 /// LHV: loads the eight lanes of a register, with every second byte of a block, times 128.
@@ -81,9 +94,9 @@ fn load_halves(vt: u8, e: usize, a: u32, memory: &SpMem, file: &mut VFile)
     ensures { file.new ≡ after_load memory.now file.old (load_pairs Lhv vt e a) }
 {
     file.ranges();
-    let window = memory.window(a - a % 8);
+    let bytes = window(memory, a - a % 8);
     let start = (a % 8) as u8 + 16 - e as u8;
-    file.set_reg(vt, VReg::from_spaced(window, start, 2, 128));
+    file.set_reg(vt, VReg::from_halves(bytes, start));
 }
 
 /// LFV: loads four lanes of a register, with every fourth byte of a block, times 128.

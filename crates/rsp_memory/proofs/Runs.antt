@@ -1,7 +1,8 @@
 -- Bytes written one by one are a run written at once.
-use Rattle.std.proofs.Common.{◌≡◌, ℕ, zero, suc, ◌+◌, ◌-◌, ◌%◌, ◌<◌, ◌≤◌, List, [], ◌∷◌, ◌++◌, length, take, drop, get_or, set, refl, sym, ◌∙◌, ap, arith, add-zero, min, inl, inr}
+use Rattle.std.proofs.Common.{◌≡◌, ℕ, zero, suc, ◌+◌, ◌-◌, ◌%◌, ◌<◌, ◌≤◌, List, [], ◌∷◌, ◌++◌, length, take, drop, get_or, set, refl, sym, ◌∙◌, ap, arith, add-zero, min, inl, inr, Option, None, Some, MatchOption, Bor}
 use Rattle.std.proofs.lemmas.List.{set_past, length-set, length-take, length-drop, take-append-drop, drop_all, take_all, take_more, take_min, drop_more}
 use Rattle.std.proofs.lemmas.List.Edits.{sets, sets-eq}
+use Rattle.std.specs.Array.{IsFirstChunk}
 use Rattle.std.specs.Prelude.{slice_set}
 use Rattle.std.proofs.lemmas.Bool.{cases_lt}
 use Rattle.rsp_memory.specs.Runs.{write_all, spliced}
@@ -86,6 +87,13 @@ bytes_at-inside m tail window a n l t h e =
     let all : tail ≡ drop (a % 4096) m = t ∙ take_all (4096 - a % 4096) (drop (a % 4096) m) (omega (arith, length-drop (a % 4096) m)) in
     let room : n ≤ length (drop (a % 4096) m) = rw all at h in
     e ∙ ap (take n) all ∙ sym (bytes_at-from m a (a % 4096) n refl (omega (arith, length-drop (a % 4096) m)) l)
+
+pub window_whole : (m tail : List ℕ) (a : ℕ) (r : Option (Bor (List ℕ))) → length m ≡ 4096 → tail ≡ take (4096 - a % 4096) (drop (a % 4096) m)
+    → MatchOption r (length tail < 16) (λ y. IsFirstChunk tail y.now 16)
+    → MatchOption r (4080 < a % 4096) (λ y. (a % 4096 ≤ 4080) × (y.now ≡ bytes_at m a 16))
+window_whole m tail a None l t h = omega (arith, h, ap length t, length-take (4096 - a % 4096) (drop (a % 4096) m), length-drop (a % 4096) m)
+window_whole m tail a (Some y) l t h =
+    (omega (arith, h.enough, ap length t, length-take (4096 - a % 4096) (drop (a % 4096) m), length-drop (a % 4096) m), bytes_at-inside m tail y.now a 16 l t h.enough h.same)
 
 -- what is behind the wrap is written from 0 on
 with_bytes-wrap : (m : List ℕ) (a : ℕ) (bs : List ℕ) (n : ℕ) → n ≡ min (length bs) (4096 - a % 4096)

@@ -1,4 +1,4 @@
-ghost use Rattle.std.specs.Prelude.{◌≡◌, ◌<◌, ◌≤◌, ◌%◌, ◌*◌, ◌/◌, ℕ, List, length, take, drop};
+ghost use Rattle.std.specs.Prelude.{◌≡◌, ◌<◌, ◌≤◌, ◌%◌, ◌*◌, ◌/◌, ℕ, List, length, take, drop, MatchOption};
 ghost use Rattle.rsp_memory.specs.Memory.{empty_memory, byte_at, half_at, word_at, with_byte, with_half, with_word, bytes_at, with_bytes};
 
 use crate::splice::splice;
@@ -161,10 +161,18 @@ impl SpMem {
     pub fn window(&self, a: u32) -> [u8; 16]
         ensures { result ≡ bytes_at self.now a 16 }
     {
-        match self.bytes[(a % 4096) as usize..].first_chunk::<16>() {
+        match self.whole_window(a) {
             Some(bytes) => *bytes,
             None => self.wrapping_window(a),
         }
+    }
+
+    /// The sixteen bytes from an address on where they stand, unless some wrap.
+    #[inline(always)]
+    pub fn whole_window(&self, a: u32) -> Option<&[u8; 16]>
+        ensures { MatchOption result (4080 < a % 4096) (λ bytes. (a % 4096 ≤ 4080) × (bytes.now ≡ bytes_at self.now a 16)) }
+    {
+        self.bytes[(a % 4096) as usize..].first_chunk::<16>()
     }
 
     /// The sixteen bytes from an address on, of which some may wrap. Put inline, its single bytes would break up the

@@ -1,6 +1,8 @@
-use Rattle.std.proofs.Common.{◌∙◌, rules}
+use Rattle.std.proofs.Common.{◌∙◌}
 use Rattle.rsp_lanes.proofs.ByteOrder.{with_register_bytes_is}
 use Rattle.rsp_lanes.proofs.vreg.VReg.with_bytes.Goals as goal
 
 pub returns : goal.returns
-returns c = c.from_simd.ensures ∙ rw (c.to_simd.ensures.value) (with_register_bytes_is c.args.self.now c.args.source c.args.i c.args.n c.to_simd.ensures.vector (search rules) c.requires.first c.requires.count)
+returns c =
+    c.from_simd.ensures
+    ∙ rw (c.to_simd.ensures.value, c.to_simd-2.ensures.value) (with_register_bytes_is c.args.self.now c.args.source c.args.i c.args.n c.to_simd-2.ensures.vector c.to_simd.ensures.bytes.1 c.requires.first c.requires.count)

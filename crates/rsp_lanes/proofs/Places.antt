@@ -1,0 +1,87 @@
+-- The tables of places, and the bytes that stand at sixteen of them.
+use Rattle.std.proofs.Common.{◌≡◌, ℕ, ◌+◌, ◌*◌, ◌/◌, ◌%◌, ◌<◌, List, length, map, take, drop, get_or, true, nat_eq, nat_lt, ltb→lt, subst, T, suc, refl, sym, ap, ◌∙◌, arith, w8}
+use Rattle.std.specs.Simd.Lanes.{chunk, number_l, digits_l}
+use Rattle.std.proofs.lemmas.Simd.{swz_l, length-swz_l, get_or-swz_l_below, SwzOk, SwzOk-from_below, Each1-from_get_or, length-chunk, get_or-chunk}
+use Rattle.std.proofs.lemmas.List.{length-take, length-drop, get_or-take, get_or-drop}
+use Rattle.std.proofs.lemmas.Grind.{same_number_lists}
+use Rattle.std.proofs.lemmas.Bool.{agree_below_at, eqb-true}
+use Rattle.rsp_lanes.specs.Lanes.{each_lane, IsVector, register_byte}
+use Rattle.rsp_lanes.specs.Bytes.{each_byte}
+use Rattle.rsp_lanes.specs.declared.bytes.TheConstants.{PLACES, ORDERED_PLACES}
+use Rattle.rsp_lanes.proofs.ByteOrder.{swapped, to_le, byte_of, each_byte_same}
+use Rattle.rsp_lanes.proofs.ByteLanes.{lanes_of, lanes_are}
+use Rattle.rsp_lanes.proofs.Kit.{each_same, map_of_each}
+
+length-each_byte : (f : ℕ → ℕ) → length (each_byte f) ≡ 16
+unfolding each_byte
+length-each_byte f = refl
+
+-- the tables, tested entry by entry
+place_at : (j : ℕ) → j < 31 → get_or PLACES j 0 ≡ j % 16
+place_at j h = eqb-true _ _ (agree_below_at (λ j. nat_eq (get_or PLACES j 0) (j % 16)) (λ _. true) 31 j refl h)
+
+ordered_at : (j : ℕ) → j < 31 → get_or ORDERED_PLACES j 0 ≡ swapped (j % 16)
+ordered_at j h = eqb-true _ _ (agree_below_at (λ j. nat_eq (get_or ORDERED_PLACES j 0) (swapped (j % 16))) (λ _. true) 31 j refl h)
+
+swapped_twice : (j : ℕ) → j < 16 → swapped (swapped j) ≡ j
+swapped_twice j h = eqb-true _ _ (agree_below_at (λ j. nat_eq (swapped (swapped j)) j) (λ _. true) 16 j refl h)
+
+pub swapped_below : (j : ℕ) → j < 16 → swapped j < 16
+swapped_below j h = ltb→lt _ _ (subst T (sym (agree_below_at (λ j. nat_lt (swapped j) 16) (λ _. true) 16 j refl h)) tt)
+
+pub places_from : (start : ℕ) → each_byte (λ k. get_or PLACES (start % 16 + k) 0) ≡ each_byte (λ k. (start + k) % 16)
+places_from start = each_byte_same _ _ (λ k h. place_at (start % 16 + k) (omega arith) ∙ omega arith)
+
+pub ordered_from : (start : ℕ) → each_byte (λ k. get_or ORDERED_PLACES (start % 16 + k) 0) ≡ each_byte (λ k. swapped ((start + k) % 16))
+ordered_from start = each_byte_same _ _ (λ k h. ordered_at (start % 16 + k) (omega arith) ∙ ap swapped (omega arith))
+
+-- sixteen members that were cut out of a list
+pub cut_out : (xs : List ℕ) (first n : ℕ) → first + 16 < suc (length xs) → n ≡ 16 → chunk 0 16 (take n (drop first xs)) ≡ each_byte (λ k. get_or xs (first + k) 0)
+cut_out xs first n h e =
+    let l : length (chunk 0 16 (take n (drop first xs))) ≡ 16 = length-chunk 0 16 _ (omega (arith, length-take n (drop first xs), length-drop first xs)) in
+    same_number_lists _ _ (l ∙ sym (length-each_byte _)) (λ k b.
+    get_or-chunk 0 16 (take n (drop first xs)) k 0 (omega (arith, l, b))
+    ∙ get_or-take n (drop first xs) (0 + k) 0 (omega (arith, l, b))
+    ∙ get_or-drop first xs (0 + k) 0
+    ∙ ap (λ j. get_or xs (first + j) 0) (omega arith)
+    ∙ sym (byte_of (λ k. get_or xs (first + k) 0) k (omega (arith, l, b))))
+
+module _ (js : List ℕ) (f : ℕ → ℕ) (e : js ≡ each_byte f) (h : (k : ℕ) → k < 16 → f k < 16) where
+  sixteen_places : length js ≡ 16
+  sixteen_places = ap length e ∙ length-each_byte f
+
+  place_is : (k : ℕ) → k < 16 → get_or js k 0 ≡ f k
+  place_is k l = ap (λ js. get_or js k 0) e ∙ byte_of f k l
+
+  pub places_ok : SwzOk w8 16 16 0 js
+  places_ok = SwzOk-from_below w8 16 1 16 0 js refl (omega (arith, sixteen_places)) (Each1-from_get_or (λ j. j < 16) js 0 (λ k l. omega (arith, place_is k (omega (arith, l, sixteen_places)), h k (omega (arith, l, sixteen_places)))))
+
+  pub at_places : (bytes : List ℕ) → swz_l w8 16 bytes 0 js ≡ each_byte (λ k. get_or bytes (f k) 0)
+  at_places bytes =
+      same_number_lists _ _ (length-swz_l w8 16 bytes 0 js ∙ sixteen_places ∙ sym (length-each_byte _)) (λ k b.
+      let l : k < 16 = omega (arith, b, length-swz_l w8 16 bytes 0 js, sixteen_places) in
+      get_or-swz_l_below w8 16 bytes 0 js k (omega (arith, l, sixteen_places)) (omega (arith, place_is k l, h k l))
+      ∙ ap (λ j. get_or bytes j 0) (omega (arith, place_is k l))
+      ∙ sym (byte_of (λ k. get_or bytes (f k) 0) k l))
+
+-- a register's bytes, found in its lanes
+pub register_places : (v js : List ℕ) (start : ℕ) → IsVector v → js ≡ each_byte (λ k. get_or ORDERED_PLACES (start % 16 + k) 0)
+    → swz_l w8 16 (digits_l 256 16 (number_l 65536 v)) 0 js ≡ each_byte (λ k. register_byte v ((start + k) % 16))
+register_places v js start h e =
+    at_places js (λ k. swapped ((start + k) % 16)) (e ∙ ordered_from start) (λ k l. swapped_below _ (omega arith)) (digits_l 256 16 (number_l 65536 v))
+    ∙ each_byte_same _ _ (λ k l.
+    let at : (start + k) % 16 < 16 = omega arith in
+    ap (λ le. get_or le (swapped ((start + k) % 16)) 0) (to_le v h)
+    ∙ byte_of (λ p. register_byte v (swapped p)) (swapped ((start + k) % 16)) (swapped_below ((start + k) % 16) at)
+    ∙ ap (register_byte v) (swapped_twice ((start + k) % 16) at))
+
+-- the low byte of each lane, times 128, of bytes that stand from a place on
+pub every_second : (source bytes : List ℕ) (start : ℕ) → bytes ≡ each_byte (λ k. get_or source ((start + k) % 16) 0) → ((k : ℕ) → get_or source k 0 < 256)
+    → map (λ x. x * 256 % 65536 / 2) (lanes_of bytes) ≡ each_lane (λ i. get_or source ((start + 2 * i) % 16) 0 * 128)
+every_second source bytes start e below =
+    ap (map (λ x. x * 256 % 65536 / 2)) (lanes_are bytes (ap length e ∙ length-each_byte _) (λ k h. rw (byte k h) (below ((start + k) % 16))))
+    ∙ map_of_each (λ x. x * 256 % 65536 / 2) _
+    ∙ each_same _ _ (λ i h. rw (byte (2 * i) (omega arith)) (omega (arith, below ((start + 2 * i) % 16))))
+  where
+    byte : (k : ℕ) → k < 16 → get_or bytes k 0 ≡ get_or source ((start + k) % 16) 0
+    byte k h = ap (λ bs. get_or bs k 0) e ∙ byte_of (λ k. get_or source ((start + k) % 16) 0) k h
