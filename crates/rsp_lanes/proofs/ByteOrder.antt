@@ -128,7 +128,7 @@ byte_below : (v : List ℕ) (k : ℕ) → IsVector v → register_byte v k < 256
 unfolding register_byte
 byte_below v k h = grind (arith, nat_tests, h.1 (k / 2))
 
-one_below : (b : Bool) (x y n : ℕ) → x < n → y < n → cond b x y < n
+pub one_below : (b : Bool) (x y n : ℕ) → x < n → y < n → cond b x y < n
 one_below true x y n h k = h
 one_below false x y n h k = k
 

@@ -4,6 +4,7 @@ pub mod ByteLanes
 pub mod Carry
 pub mod Kit
 pub mod Limits
+pub mod OneLane
 pub mod Masks
 pub mod Places
 pub mod Wide

@@ -1,4 +1,4 @@
-ghost use Rattle.std.specs.Prelude.{◌≡◌, ◌<◌, ◌+◌, ◌*◌, ℕ, slice_index};
+ghost use Rattle.std.specs.Prelude.{◌≡◌, ◌<◌, ◌+◌, ◌*◌, ◌%◌, ℕ, slice_index, slice_set};
 ghost use Rattle.rsp_lanes.specs.Lanes.{selected, source_lane};
 
 use crate::VReg;
@@ -52,4 +52,25 @@ pub fn select(v: &VReg, e: usize) -> VReg
 {
     let bytes = v.to_simd().to_le_bytes();
     VReg::from_simd(u16x8::from_le_bytes(bytes.swizzle_dyn(sources(e))))
+}
+
+/// Two bytes of ones with fourteen of zeros before them, between them and the next two, and behind those. The sixteen that
+/// begin 2 i before byte 30 have their ones at lane i, modulo 8.
+static ONE_LANE: [u8; 46] = [
+    0, 0, 0, 0, 0, 0, 0, 0, 0, 0, 0, 0, 0, 0, 255, 255, 0, 0, 0, 0, 0, 0, 0, 0, 0, 0, 0, 0, 0, 0,
+    255, 255, 0, 0, 0, 0, 0, 0, 0, 0, 0, 0, 0, 0, 0, 0,
+];
+
+impl VReg {
+    /// The register in which one lane is another's: lane `i`, modulo 8.
+    #[inline(always)]
+    pub fn with_lane_of(&self, other: &VReg, i: usize) -> VReg
+        requires { i < 16 }
+        ensures { result ≡ slice_set self.now (i % 8) (slice_index other.now (i % 8)) }
+    {
+        let ones = u8x16::from_slice(&ONE_LANE[30 - 2 * i..46 - 2 * i]);
+        let there = ones.simd_ge(u8x16::splat(128));
+        let bytes = there.select(other.to_simd().to_le_bytes(), self.to_simd().to_le_bytes());
+        VReg::from_simd(u16x8::from_le_bytes(bytes))
+    }
 }

@@ -1,6 +1,6 @@
 -- Bytes that are loaded one by one are placed in the register at once.
-use Rattle.std.proofs.Common.{◌≡◌, ◌≢◌, ℕ, zero, suc, ◌+◌, ◌-◌, ◌*◌, ◌/◌, ◌%◌, ◌<◌, ◌≤◌, ◌&&◌, min, List, [], false, if◌then◌else◌, nat_le, nat_lt, nat_eq, length, get_or, set, refl, sym, ap, ◌∙◌, arith, inl, inr}
-use Rattle.std.proofs.lemmas.Bool.{cases_eq}
+use Rattle.std.proofs.Common.{◌≡◌, ◌≢◌, ℕ, zero, suc, ◌+◌, ◌-◌, ◌*◌, ◌/◌, ◌%◌, ◌<◌, ◌≤◌, ◌&&◌, min, List, [], true, false, if◌then◌else◌, nat_le, nat_lt, nat_eq, length, get_or, set, refl, sym, ap, ◌∙◌, arith, inl, inr}
+use Rattle.std.proofs.lemmas.Bool.{cases_eq, cases_lt}
 use Rattle.std.proofs.lemmas.Bool.Decides.{nat_tests}
 use Rattle.std.proofs.lemmas.List.{set-set, get_or-set_same, set-get_or}
 use Rattle.rsp_memory.specs.Memory.{byte_at, bytes_at}
@@ -9,6 +9,7 @@ use Rattle.rsp_lanes.specs.Bytes.{of_bytes, with_register_bytes}
 use Rattle.rsp_lanes.proofs.Kit.{eta, each_same, lane_of, below_eight}
 use Rattle.rsp_loadstore.specs.File.{vector, with_vector}
 use Rattle.rsp_loadstore.specs.Loads.{Load, to_byte, to_lane, loaded, after_load}
+use Rattle.rsp_loadstore.specs.Moves.{with_register_half}
 use Rattle.rsp_loadstore.specs.Pairs.{for_each, block, place}
 use Rattle.rsp_loadstore.proofs.Pairs.{load_none, load_more}
 
@@ -37,7 +38,7 @@ one_register m file vt (suc n) f step states h one first more =
     ∙ rw (ih, one (with_vector file vt (states n)) n, again.0, again.1) (ap (with_vector file vt) (sym (ap states e ∙ more n (omega arith))))
 
 -- a lane of a list that was made lane by lane
-set_each : (f : ℕ → ℕ) (j y : ℕ) → j < 8 → set (each_lane f) j y ≡ each_lane (λ l. if nat_eq l j then y else f l)
+pub set_each : (f : ℕ → ℕ) (j y : ℕ) → j < 8 → set (each_lane f) j y ≡ each_lane (λ l. if nat_eq l j then y else f l)
 unfolding each_lane
 set_each f j y = below_eight (λ j. set (each_lane f) j y ≡ each_lane (λ l. if nat_eq l j then y else f l)) refl refl refl refl refl refl refl refl j
 
@@ -134,6 +135,29 @@ placed_room v source i n = each_same _ _ (λ l h. rw (room (2 * l) (omega arith)
   where
     room : (k : ℕ) → k < 16 → placed_byte v source i n k ≡ placed_byte v source i (min n (16 - i)) k
     room k h = grind (arith, nat_tests)
+
+-- of two bytes the second where there is room
+two_placed : (v source : List ℕ) (i : ℕ) → length v ≡ 8 → i < 16
+    → with_register_bytes v source i 2
+    ≡ (if nat_lt i 15 then with_register_byte (with_register_byte v i (get_or source 0 0)) (i + 1) (get_or source 1 0) else with_register_byte v i (get_or source 0 0))
+two_placed v source i h l =
+    let here : i + 0 ≡ i = omega arith in
+    let one : with_register_bytes v source i 1 ≡ with_register_byte v i (get_or source 0 0) =
+    placed_more v source i 0 (omega arith) ∙ ap (λ v. with_register_byte v (i + 0) (get_or source 0 0)) (placed_none v source i h) ∙ ap (λ k. with_register_byte v k (get_or source 0 0)) here in
+    elim (cases_lt i 15) [
+      | inl b ↦
+          let t : nat_lt i 15 ≡ true = grind (arith, nat_tests) in
+          placed_more v source i 1 (omega arith) ∙ rw (t, one) refl
+      | inr b ↦
+          let t : nat_lt i 15 ≡ false = grind (arith, nat_tests) in
+          let n : min 2 (16 - i) ≡ 1 = omega arith in
+          placed_room v source i 2 ∙ rw (n, t) one
+    ]
+
+pub half_placed : (v source : List ℕ) (e value : ℕ) → length v ≡ 8 → e < 16 → get_or source 0 0 ≡ value / 256 % 256 → get_or source 1 0 ≡ value % 256
+    → with_register_bytes v source e 2 ≡ with_register_half v e value
+unfolding with_register_half
+half_placed v source e value h l high low = two_placed v source e h l ∙ rw (high, low) refl
 
 pub placed_loaded : (m : List ℕ) (file : List (List ℕ)) (vt i n a : ℕ) → vt < length file → length (vector file vt) ≡ 8 → n ≤ 16
     → with_vector file vt (with_register_bytes (vector file vt) (bytes_at m a 16) i n) ≡ after_load m file (for_each (min n (16 - i)) (λ k. to_byte vt (i + k) (a + k)))

@@ -1,32 +1,45 @@
 -- A transposed load, by lanes.
-use Rattle.std.proofs.Common.{◌≡◌, ℕ, ◌+◌, ◌-◌, ◌*◌, ◌/◌, ◌%◌, ◌<◌, List, length, get_or, set, refl, sym, ap, ◌∙◌, arith, inl, inr}
-use Rattle.std.proofs.lemmas.Bool.{cases_eq}
-use Rattle.std.proofs.lemmas.List.{set-set, get_or-set_same}
+use Rattle.std.proofs.Common.{◌≡◌, ℕ, zero, suc, ◌≤◌, [], map, ◌+◌, ◌-◌, ◌*◌, ◌/◌, ◌%◌, ◌<◌, List, length, get_or, set, refl, sym, ap, ◌∙◌, arith, inl, inr}
+use Rattle.std.specs.List.{range_with_len, fold}
+use Rattle.std.proofs.lemmas.Bool.{cases_eq, cases_lt}
+use Rattle.std.proofs.lemmas.List.{set-set, set_past, get_or-set_same}
 use Rattle.rsp_memory.specs.Memory.{byte_at, bytes_at}
 use Rattle.rsp_lanes.specs.Lanes.{each_lane, register_byte, with_register_byte}
 use Rattle.rsp_lanes.specs.Bytes.{each_byte}
 use Rattle.rsp_lanes.proofs.Kit.{lane_of}
 use Rattle.rsp_lanes.proofs.ByteOrder.{byte_of}
-use Rattle.rsp_loadstore.specs.File.{vector, with_vector}
+use Rattle.rsp_loadstore.specs.File.{vector, with_vector, with_lane, with_diagonal}
 use Rattle.rsp_loadstore.specs.Loads.{Load, to_byte, loaded, after_load}
 use Rattle.rsp_loadstore.specs.Pairs.{for_each, block}
-use Rattle.rsp_loadstore.proofs.Pairs.{load_none, load_more}
-use Rattle.rsp_loadstore.proofs.Placed.{register_again, window_byte}
+use Rattle.rsp_loadstore.proofs.Pairs.{load_none, load_more, fold_map_more}
+use Rattle.rsp_loadstore.proofs.Placed.{window_byte}
+use Rattle.rsp_loadstore.proofs.Diagonal.{diagonal_by_lanes}
 
 -- a pair of the load
 abbrev pub pair_of : ℕ → ℕ → ℕ → ℕ → Load
 pair_of vt e a k = to_byte (vt - vt % 8 + (e / 2 + k / 2) % 8) k (block a + (k + e + a / 8 % 2 * 8) % 16)
 
--- two bytes make a lane
-byte_pair : (v : List ℕ) (j b c : ℕ) → j < length v → with_register_byte (with_register_byte v (2 * j) b) (2 * j + 1) c ≡ set v j (b * 256 + c)
+-- two bytes make a lane; where there is no such lane nothing is written
+byte_pair : (v : List ℕ) (j b c : ℕ) → with_register_byte (with_register_byte v (2 * j) b) (2 * j + 1) c ≡ set v j (b * 256 + c)
 unfolding with_register_byte
-byte_pair v j b c h =
+byte_pair v j b c =
     let e : 2 * j / 2 ≡ j = omega arith in
     let f : (2 * j + 1) / 2 ≡ j = omega arith in
     let g : 2 * j % 2 ≡ 0 = omega arith in
     let k : (2 * j + 1) % 2 ≡ 1 = omega arith in
     let x : (b * 256 + get_or v j 0 % 256) / 256 ≡ b = omega arith in
-    rw (e, f, g, k, set-set, get_or-set_same v j (b * 256 + get_or v j 0 % 256) 0 h, x) refl
+    rw (e, f, g, k, set-set) (elim (cases_lt j (length v)) [
+      | inl h ↦ rw (get_or-set_same v j (b * 256 + get_or v j 0 % 256) 0 h, x) refl
+      | inr h ↦ set_past v j _ h ∙ sym (set_past v j _ h)
+    ])
+
+-- a register that is written by what it was written with; where there is no such register nothing is written
+written_twice : (file : List (List ℕ)) (n : ℕ) (v : List ℕ) (f : List ℕ → List ℕ) → with_vector (with_vector file n v) n (f (vector (with_vector file n v) n)) ≡ with_vector file n (f v)
+unfolding with_vector vector
+written_twice file n v f = set-set file n v _ ∙ elim (cases_lt n (length file)) [
+  | inl h ↦ ap (λ u. set file n (f u)) (get_or-set_same file n v [] h)
+  | inr h ↦ set_past file n _ h ∙ sym (set_past file n _ h)
+]
 
 -- the register whose bytes are a list's
 abbrev pub of_list : List ℕ → List ℕ
@@ -59,37 +72,51 @@ turned_lane window first i small h =
       of_list_byte window ((first + (2 * i + 1)) % 16) small (omega arith),
     ) refl
 
-pub transposed_none : (m : List ℕ) (file : List (List ℕ)) (vt e a : ℕ) → file ≡ after_load m file (for_each 0 (pair_of vt e a))
-transposed_none m file vt e a = sym (load_none m file (pair_of vt e a))
+-- the bytes of a window, turned
+abbrev pub turned_bytes : List ℕ → ℕ → List ℕ
+turned_bytes window first = of_list (each_byte (λ k. register_byte (of_list window) ((first + k) % 16)))
 
-pub transposed_more : (m : List ℕ) (file now then : List (List ℕ)) (vt e a i n lane : ℕ) (window : List ℕ) → i < 8
-    → ((k : ℕ) → get_or window k 0 < 256) → window ≡ bytes_at m (block a) 16
-    → n ≡ vt - vt % 8 + (e / 2 + i) % 8 → n < length now → i < length (vector now n)
-    → now ≡ after_load m file (for_each (2 * i) (pair_of vt e a))
-    → lane ≡ get_or (of_list (each_byte (λ k. register_byte (of_list window) ((e + a / 8 % 2 * 8 + k) % 16)))) i 0
-    → then ≡ with_vector now n (set (vector now n) i lane)
-    → then ≡ after_load m file (for_each (2 * (i + 1)) (pair_of vt e a))
+-- two pairs are a lane of a register
+lane_loaded : (m : List ℕ) (file : List (List ℕ)) (vt e a i : ℕ) (window : List ℕ) → e < 16 → i < 8 → ((k : ℕ) → get_or window k 0 < 256) → window ≡ bytes_at m (block a) 16
+    → loaded m (loaded m file (pair_of vt e a (2 * i))) (pair_of vt e a (2 * i + 1)) ≡ with_lane (turned_bytes window (e + a / 8 % 2 * 8)) (vt - vt % 8) (e / 2) file ((e / 2 + i) % 8)
 unfolding loaded
-transposed_more m file now then vt e a i n lane window h small w r inside long f l g =
-    let x : vt - vt % 8 + (e / 2 + 2 * i / 2) % 8 ≡ n = omega (arith, r) in
-    let y : vt - vt % 8 + (e / 2 + (2 * i + 1) / 2) % 8 ≡ n = omega (arith, r) in
+lane_loaded m file vt e a i window l h small w =
+    let n : ℕ = vt - vt % 8 + (e / 2 + i) % 8 in
+    let lanes : List ℕ = turned_bytes window (e + a / 8 % 2 * 8) in
     let b : ℕ = byte_at m (block a + (2 * i + e + a / 8 % 2 * 8) % 16) in
     let c : ℕ = byte_at m (block a + (2 * i + 1 + e + a / 8 % 2 * 8) % 16) in
-    let v : List ℕ = with_register_byte (vector now n) (2 * i) b in
-    let again = register_again now n v (with_register_byte v (2 * i + 1) c) inside in
-    let one : loaded m now (pair_of vt e a (2 * i)) ≡ with_vector now n v = ap (λ r. with_vector now r (with_register_byte (vector now r) (2 * i) b)) x in
-    let two : loaded m (with_vector now n v) (pair_of vt e a (2 * i + 1)) ≡ with_vector (with_vector now n v) n (with_register_byte (vector (with_vector now n v) n) (2 * i + 1) c) =
-    ap (λ r. with_vector (with_vector now n v) r (with_register_byte (vector (with_vector now n v) r) (2 * i + 1) c)) y in
+    let x : (e / 2 + 2 * i / 2) % 8 ≡ (e / 2 + i) % 8 = omega arith in
+    let y : (e / 2 + (2 * i + 1) / 2) % 8 ≡ (e / 2 + i) % 8 = omega arith in
+    let j : i ≡ ((e / 2 + i) % 8 + 8 - e / 2) % 8 = omega arith in
     let high : get_or window ((e + a / 8 % 2 * 8 + 2 * i) % 16) 0 ≡ b =
     ap (λ bs. get_or bs ((e + a / 8 % 2 * 8 + 2 * i) % 16) 0) w ∙ window_byte m (block a) 16 _ (omega arith) ∙ ap (λ p. byte_at m (block a + p)) (omega arith) in
     let low : get_or window ((e + a / 8 % 2 * 8 + (2 * i + 1)) % 16) 0 ≡ c =
     ap (λ bs. get_or bs ((e + a / 8 % 2 * 8 + (2 * i + 1)) % 16) 0) w ∙ window_byte m (block a) 16 _ (omega arith) ∙ ap (λ p. byte_at m (block a + p)) (omega arith) in
-    let value : lane ≡ b * 256 + c = l ∙ turned_lane window (e + a / 8 % 2 * 8) i small h ∙ rw (high, low) refl in
-    let twice : 2 * (i + 1) ≡ 2 * i + 1 + 1 = omega arith in
-    let first : after_load m file (for_each (2 * i + 1) (pair_of vt e a)) ≡ with_vector now n v =
-    load_more m file (pair_of vt e a) (2 * i) ∙ ap (λ s. loaded m s (pair_of vt e a (2 * i))) (sym f) ∙ one in
-    let second : after_load m file (for_each (2 * i + 1 + 1) (pair_of vt e a)) ≡ with_vector now n (with_register_byte v (2 * i + 1) c) =
-    load_more m file (pair_of vt e a) (2 * i + 1) ∙ ap (λ s. loaded m s (pair_of vt e a (2 * i + 1))) first ∙ two
-    ∙ ap (λ u. with_vector (with_vector now n v) n (with_register_byte u (2 * i + 1) c)) again.0 ∙ again.1 in
-    g ∙ ap (λ k. with_vector now n (set (vector now n) i k)) value ∙ ap (with_vector now n) (sym (byte_pair (vector now n) i b c long))
-    ∙ sym second ∙ ap (λ k. after_load m file (for_each k (pair_of vt e a))) (sym twice)
+    let value : b * 256 + c ≡ get_or lanes i 0 = sym (turned_lane window (e + a / 8 % 2 * 8) i small h ∙ rw (high, low) refl) in
+    rw (x, y) (written_twice file n (with_register_byte (vector file n) (2 * i) b) (λ v. with_register_byte v (2 * i + 1) c))
+    ∙ ap (with_vector file n) (byte_pair (vector file n) i b c ∙ ap (set (vector file n) i) value ∙ ap (λ i. set (vector file n) i (get_or lanes i 0)) j)
+
+-- lane by lane
+lanes_loaded : (m : List ℕ) (file : List (List ℕ)) (vt e a n : ℕ) (window : List ℕ) → e < 16 → n ≤ 8 → ((k : ℕ) → get_or window k 0 < 256) → window ≡ bytes_at m (block a) 16
+    → after_load m file (for_each (2 * n) (pair_of vt e a))
+    ≡ fold (with_lane (turned_bytes window (e + a / 8 % 2 * 8)) (vt - vt % 8) (e / 2)) file (map (λ i. (e / 2 + i) % 8) (range_with_len 0 n))
+lanes_loaded m file vt e a zero window l h small w = load_none m file (pair_of vt e a)
+lanes_loaded m file vt e a (suc n) window l h small w =
+    let step : List (List ℕ) → ℕ → List (List ℕ) = with_lane (turned_bytes window (e + a / 8 % 2 * 8)) (vt - vt % 8) (e / 2) in
+    let pair : ℕ → Load = pair_of vt e a in
+    let place : ℕ → ℕ = λ i. (e / 2 + i) % 8 in
+    let twice : 2 * suc n ≡ 2 * n + 1 + 1 = omega arith in
+    let more : n + 1 ≡ suc n = omega arith in
+    let ih : after_load m file (for_each (2 * n) pair) ≡ fold step file (map place (range_with_len 0 n)) = lanes_loaded m file vt e a n window l (omega arith) small w in
+    ap (λ k. after_load m file (for_each k pair)) twice
+    ∙ load_more m file pair (2 * n + 1)
+    ∙ ap (λ s. loaded m s (pair (2 * n + 1))) (load_more m file pair (2 * n) ∙ ap (λ s. loaded m s (pair (2 * n))) ih)
+    ∙ lane_loaded m (fold step file (map place (range_with_len 0 n))) vt e a n window l (omega arith) small w
+    ∙ sym (fold_map_more step file place n)
+    ∙ ap (λ k. fold step file (map place (range_with_len 0 k))) more
+
+pub transposed_loaded : (m : List ℕ) (file : List (List ℕ)) (vt e a : ℕ) (window : List ℕ) → e < 16 → ((k : ℕ) → get_or window k 0 < 256) → window ≡ bytes_at m (block a) 16
+    → with_diagonal (turned_bytes window (e + a / 8 % 2 * 8)) (vt - vt % 8) (e / 2) file 8 ≡ after_load m file (for_each 16 (pair_of vt e a))
+transposed_loaded m file vt e a window h small w =
+    diagonal_by_lanes (turned_bytes window (e + a / 8 % 2 * 8)) (vt - vt % 8) (e / 2) file (omega arith)
+    ∙ sym (lanes_loaded m file vt e a 8 window h (omega arith) small w)

@@ -101,23 +101,25 @@ rotated_stored file m vt e a =
     ∙ turned_stored file m (λ j. from_byte vt ((e + j) % 16) (place a j)) (λ k. register_byte (vector file vt) ((e + k) % 16)) (block a) (a % 8) (omega arith) (λ _ _. refl)
 
 -- byte q of the lanes that a transposed store takes from eight registers
-diagonal_byte : (file : List (List ℕ)) (base e q : ℕ) → q < 16 → e < 16
-    → register_byte (each_lane (λ l. get_or (vector file (base + l)) ((8 - e / 2 + l) % 8) 0)) q ≡ register_byte (vector file (base + q / 2)) ((q + 16 - (e - e % 2)) % 16)
+diagonal_byte : (file : List (List ℕ)) (base half q : ℕ) → q < 16
+    → register_byte (each_lane (λ i. get_or (vector file (base + (half + i) % 8)) i 0)) q ≡ register_byte (vector file (base + (half + q / 2) % 8)) q
 unfolding register_byte
-diagonal_byte file base e q h k =
-    let lane = lane_of 0 (λ l. get_or (vector file (base + l)) ((8 - e / 2 + l) % 8) 0) _ refl (q / 2) (omega arith) in
-    let p : (q + 16 - (e - e % 2)) % 16 % 2 ≡ q % 2 = omega arith in
-    let l : (q + 16 - (e - e % 2)) % 16 / 2 ≡ (8 - e / 2 + q / 2) % 8 = omega arith in
-    rw (lane, p, l) refl
+diagonal_byte file base half q h =
+    let lane = lane_of 0 (λ i. get_or (vector file (base + (half + i) % 8)) i 0) _ refl (q / 2) (omega arith) in
+    rw lane refl
 
 pub transposed_stored : (file : List (List ℕ)) (m : List ℕ) (vt e a : ℕ) → e < 16
-    → with_bytes m (block a) (each_byte (λ k. register_byte (each_lane (λ l. get_or (vector file (vt - vt % 8 + l)) ((8 - e / 2 + l) % 8) 0)) ((e - e % 2 + (16 - a % 8) + k) % 16)))
+    → with_bytes m (block a) (each_byte (λ k. register_byte (each_lane (λ i. get_or (vector file (vt - vt % 8 + (e / 2 + i) % 8)) i 0)) ((16 - a % 8 + k) % 16)))
     ≡ after_store file m (for_each 16 (λ k. from_byte (vt - vt % 8 + k / 2) ((k + 16 - (e - e % 2)) % 16) (place a (16 - (e - e % 2) + k))))
 unfolding stored
 transposed_stored file m vt e a h =
-    ap (with_bytes m (block a)) (each_byte_same _ _ (λ k l.
-    let q : (e - e % 2 + (16 - a % 8) + k) % 16 ≡ (k + (16 - (a % 8 + 16 - (e - e % 2)) % 16)) % 16 = omega arith in
-    rw q (diagonal_byte file (vt - vt % 8) e ((k + (16 - (a % 8 + 16 - (e - e % 2)) % 16)) % 16) (omega arith) h)))
+    ap (with_bytes m (block a)) (each_byte_same _ _ (λ p l.
+    let k : ℕ = (p + (16 - (a % 8 + 16 - (e - e % 2)) % 16)) % 16 in
+    let r : (e / 2 + (16 - a % 8 + p) % 16 / 2) % 8 ≡ k / 2 = omega arith in
+    let q : (16 - a % 8 + p) % 16 ≡ (k + 16 - (e - e % 2)) % 16 = omega arith in
+    diagonal_byte file (vt - vt % 8) (e / 2) ((16 - a % 8 + p) % 16) (omega arith)
+    ∙ ap (λ n. register_byte (vector file (vt - vt % 8 + n)) ((16 - a % 8 + p) % 16)) r
+    ∙ ap (register_byte (vector file (vt - vt % 8 + k / 2))) q))
     ∙ turned_stored file m
     (λ k. from_byte (vt - vt % 8 + k / 2) ((k + 16 - (e - e % 2)) % 16) (place a (16 - (e - e % 2) + k)))
     (λ k. register_byte (vector file (vt - vt % 8 + k / 2)) ((k + 16 - (e - e % 2)) % 16))

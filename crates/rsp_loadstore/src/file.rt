@@ -42,23 +42,41 @@ impl VFile {
 
     /// Register `n`, below 32.
     #[inline(always)]
-    #[tactic(auto, using(std::proofs::lemmas::List::get_or_default), unfolding(crate::specs::File::vector))]
     pub fn reg(&self, n: u8) -> VReg
         requires { n < 32 }
         ensures { result ≡ vector self.now n }
     {
-        self.registers[n as usize]
+        self.at(n as usize)
+    }
+
+    /// The same for a number that counts registers: one behind the other they stand at fixed distances.
+    #[inline(always)]
+    #[tactic(auto, using(std::proofs::lemmas::List::get_or_default), unfolding(crate::specs::File::vector))]
+    pub(crate) fn at(&self, n: usize) -> VReg
+        requires { n < 32 }
+        ensures { result ≡ vector self.now n }
+    {
+        self.registers[n]
     }
 
     /// Writes register `n`, below 32; the others stay.
     #[inline(always)]
-    #[tactic(auto, unfolding(crate::specs::File::with_vector))]
     pub fn set_reg(&mut self, n: u8, v: VReg)
         requires { n < 32 }
         ensures { self.new ≡ with_vector self.old n v }
     {
+        self.put(n as usize, v);
+    }
+
+    /// The same for a number that counts registers.
+    #[inline(always)]
+    #[tactic(auto, unfolding(crate::specs::File::with_vector))]
+    pub(crate) fn put(&mut self, n: usize, v: VReg)
+        requires { n < 32 }
+        ensures { self.new ≡ with_vector self.old n v }
+    {
         v.ranges();
-        self.registers[n as usize] = v;
+        self.registers[n] = v;
     }
 
     /// Writes a lane of a register.

@@ -3,6 +3,7 @@ ghost use Rattle.rsp_memory.specs.Memory.{bytes_at};
 ghost use Rattle.rsp_decode.specs.Table.{IsInstruction};
 ghost use Rattle.rsp_decode.specs.declared.inst.VectorLoadRow.TheVariants.{Lhv, Lfv, Ltv};
 ghost use Rattle.rsp_loadstore.specs.Loads.{to_byte, to_lane, after_load, load_pairs, loaded_file, IsLoadElement};
+ghost use Rattle.rsp_loadstore.specs.File.{with_diagonal};
 ghost use Rattle.rsp_loadstore.specs.Pairs.{for_each, place};
 
 use crate::VFile;
@@ -115,7 +116,7 @@ fn load_fourths(vt: u8, e: usize, a: u32, memory: &SpMem, file: &mut VFile)
 }
 
 /// LTV: loads two bytes of each of eight registers, a lane of each.
-#[tactic(auto, unfolding(crate::specs::Loads::load_pairs))]
+#[inline(always)]
 fn load_transposed(vt: u8, e: usize, a: u32, memory: &SpMem, file: &mut VFile)
     requires register { vt < 32 }
     requires element { e < 16 }
@@ -124,11 +125,19 @@ fn load_transposed(vt: u8, e: usize, a: u32, memory: &SpMem, file: &mut VFile)
     let first = (e as u32 + a / 8 % 2 * 8) as u8;
     let window = memory.window(a - a % 8);
     let lanes = VReg::from_bytes(VReg::from_bytes(window).bytes_from(first));
-    for i in 0..8 {
-        let register = vt - vt % 8 + ((e / 2 + i) % 8) as u8;
-        file.ranges();
-        let mut v = file.reg(register);
-        v.set_lane(i, lanes.lane(i));
-        file.set_reg(register, v);
+    set_diagonal((vt - vt % 8) as usize, e / 2, &lanes, file);
+}
+
+/// Writes one lane of each of eight registers: of register `half` the first, of the next the next, modulo 8.
+#[inline(never)]
+#[tactic(auto, using(crate::proofs::Diagonal::diagonals))]
+fn set_diagonal(first: usize, half: usize, lanes: &VReg, file: &mut VFile)
+    requires registers { first ≤ 24 }
+    requires half { half < 8 }
+    ensures { file.new ≡ with_diagonal lanes.now first half file.old 8 }
+{
+    for l in 0..8 {
+        let v = file.at(first + l);
+        file.put(first + l, v.with_lane_of(lanes, l + 8 - half));
     }
 }

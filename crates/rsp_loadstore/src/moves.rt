@@ -1,8 +1,9 @@
-ghost use Rattle.std.specs.Prelude.{◌≡◌};
+ghost use Rattle.std.specs.Prelude.{◌≡◌, ◌<◌};
 ghost use Rattle.rsp_decode.specs.Table.{IsInstruction};
 ghost use Rattle.std.specs.Int.{w16};
 ghost use Rattle.rsp_numbers.specs.Numbers.{extended};
-ghost use Rattle.rsp_loadstore.specs.Moves.{moved_file, moved_value};
+ghost use Rattle.rsp_loadstore.specs.File.{vector, with_vector};
+ghost use Rattle.rsp_loadstore.specs.Moves.{moved_file, moved_value, with_register_half};
 
 use crate::VFile;
 use rsp_decode::{Inst, MoveRow};
@@ -39,7 +40,7 @@ pub fn move_from(inst: &Inst, file: &VFile) -> u32
 
 /// Executes MTC2: the low sixteen bits of `value` are written at a byte of a vector register and the next; what would be
 /// byte 16 is dropped. Another instruction changes nothing.
-#[tactic(auto, unfolding(crate::specs::Moves::moved_file, crate::specs::Moves::with_register_half))]
+#[tactic(auto, unfolding(crate::specs::Moves::moved_file))]
 pub fn move_to(inst: &Inst, value: u32, file: &mut VFile)
     requires { IsInstruction inst.now }
     ensures { file.new ≡ moved_file inst.now value file.old }
@@ -51,11 +52,21 @@ pub fn move_to(inst: &Inst, value: u32, file: &mut VFile)
         ..
     } = *inst
     {
-        let mut v = file.reg(vector);
-        v.set_byte(element as usize, (value / 256 % 256) as u8);
-        if element < 15 {
-            v.set_byte(element as usize + 1, (value % 256) as u8);
-        }
-        file.set_reg(vector, v);
+        set_half(vector, element, value, file);
     }
+}
+
+/// Writes the low sixteen bits of `value` at byte `e` of a register and the next.
+#[inline(always)]
+fn set_half(n: u8, e: u8, value: u32, file: &mut VFile)
+    requires register { n < 32 }
+    requires byte { e < 16 }
+    ensures { file.new ≡ with_vector file.old n (with_register_half (vector file.old n) e value) }
+{
+    file.ranges();
+    let v = file.reg(n);
+    let high = (value / 256 % 256) as u8;
+    let low = (value % 256) as u8;
+    let half = [high, low, 0, 0, 0, 0, 0, 0, 0, 0, 0, 0, 0, 0, 0, 0];
+    file.set_reg(n, v.with_bytes(half, e, 2));
 }

@@ -127,26 +127,21 @@ fn store_transposed(vt: u8, e: usize, a: u32, file: &VFile, memory: &mut SpMem)
     requires element { e < 16 }
     ensures { memory.new ≡ after_store file.now memory.old (store_pairs Stv vt e a) }
 {
-    let lanes = diagonal(vt - vt % 8, 8 - e / 2, file);
-    let first = (e - e % 2) as u8 + (16 - (a % 8) as u8);
-    memory.set_bytes(a - a % 8, &lanes.bytes_from(first));
+    let lanes = diagonal((vt - vt % 8) as usize, e / 2, file);
+    memory.set_bytes(a - a % 8, &lanes.bytes_from(16 - (a % 8) as u8));
 }
 
-/// Of each of eight registers one lane: lane `turn` of the first, the next of the next, modulo 8.
-#[tactic(auto, unfolding(rsp_lanes::specs::Lanes::each_lane))]
-fn diagonal(first: u8, turn: usize, file: &VFile) -> VReg
+/// Of each of eight registers one lane: of register `half` the first, of the next the next, modulo 8.
+#[inline(always)]
+fn diagonal(first: usize, half: usize, file: &VFile) -> VReg
     requires registers { first ≤ 24 }
-    requires lane { turn ≤ 8 }
-    ensures { result ≡ each_lane (λ l. slice_index (vector file.now (first + l)) ((turn + l) % 8)) }
+    requires half { half < 8 }
+    ensures { result ≡ each_lane (λ i. slice_index (vector file.now (first + (half + i) % 8)) i) }
 {
-    VReg::from_array([
-        file.reg(first).lane(turn % 8),
-        file.reg(first + 1).lane((turn + 1) % 8),
-        file.reg(first + 2).lane((turn + 2) % 8),
-        file.reg(first + 3).lane((turn + 3) % 8),
-        file.reg(first + 4).lane((turn + 4) % 8),
-        file.reg(first + 5).lane((turn + 5) % 8),
-        file.reg(first + 6).lane((turn + 6) % 8),
-        file.reg(first + 7).lane((turn + 7) % 8),
-    ])
+    file.ranges();
+    let mut lanes = file.at(first);
+    for l in 1..8 {
+        lanes = lanes.with_lane_of(&file.at(first + l), l + 8 - half);
+    }
+    lanes
 }

@@ -1,0 +1,101 @@
+-- Lanes that eight registers get one after the other, from any of the eight on.
+use Rattle.std.proofs.Common.{◌≡◌, ◌≢◌, ℕ, zero, suc, ◌+◌, ◌-◌, ◌%◌, ◌<◌, ◌≤◌, List, [], ◌++◌, set, get_or, length, nat_lt, nat_eq, if◌then◌else◌, true, false, map, refl, sym, ap, ◌∙◌, arith, inl, inr}
+use Rattle.std.specs.List.{range_with_len, fold}
+use Rattle.std.proofs.lemmas.List.{set_comm, get_or-set_other}
+use Rattle.std.proofs.lemmas.List.Sums.{fold-append}
+use Rattle.rsp_lanes.specs.Lanes.{each_lane}
+use Rattle.rsp_lanes.proofs.Kit.{below_eight, eta, each_same}
+use Rattle.std.proofs.lemmas.Bool.{cases_eq}
+use Rattle.std.proofs.lemmas.Bool.Decides.{nat_tests}
+use Rattle.rsp_loadstore.proofs.Pairs.{fold_more}
+use Rattle.rsp_loadstore.proofs.Placed.{set_each}
+use Rattle.rsp_loadstore.specs.File.{vector, with_vector, with_lane, with_diagonal}
+
+-- steps that can be exchanged can be done in another order
+module _ {X : Type 0} (step : X → ℕ → X) (exchanged : (s : X) (i j : ℕ) → i ≢ j → step (step s i) j ≡ step (step s j) i) where
+  one_past : (s : X) (x i n : ℕ) → x < i → fold step (step s x) (range_with_len i n) ≡ step (fold step s (range_with_len i n)) x
+  one_past s x i zero h = refl
+  one_past s x i (suc n) h = ap (λ s. fold step s (range_with_len (i + 1) n)) (exchanged s x i (λ e. omega arith)) ∙ one_past (step s i) x (i + 1) n (omega arith)
+
+  all_past : (s : X) (i n j m : ℕ) → i + n ≤ j → fold step (fold step s (range_with_len i n)) (range_with_len j m) ≡ fold step (fold step s (range_with_len j m)) (range_with_len i n)
+  all_past s i zero j m h = refl
+  all_past s i (suc n) j m h =
+      all_past (step s i) (i + 1) n j m (omega arith) ∙ ap (λ s. fold step s (range_with_len (i + 1) n)) (one_past s i j m (omega arith))
+
+  -- eight of them from the one at `half` on
+  pub turned_steps : (s : X) (half : ℕ) → half < 8 → fold step s (range_with_len 0 8) ≡ fold step s (map (λ i. (half + i) % 8) (range_with_len 0 8))
+  turned_steps s half h =
+      ap (fold step s) (below_eight (λ half. range_with_len 0 8 ≡ range_with_len 0 half ++ range_with_len half (8 - half)) refl refl refl refl refl refl refl refl half h)
+      ∙ fold-append step s (range_with_len 0 half) (range_with_len half (8 - half))
+      ∙ all_past s 0 half half (8 - half) (omega arith)
+      ∙ sym (fold-append step s (range_with_len half (8 - half)) (range_with_len 0 half))
+      ∙ ap (fold step s) (below_eight (λ half. range_with_len half (8 - half) ++ range_with_len 0 half ≡ map (λ i. (half + i) % 8) (range_with_len 0 8)) refl refl refl refl refl refl refl refl half h)
+
+other_register : (file : List (List ℕ)) (n k : ℕ) (v : List ℕ) → k ≢ n → vector (with_vector file n v) k ≡ vector file k
+unfolding with_vector vector
+other_register file n k v h = get_or-set_other file n k v [] h
+
+other_write : (file : List (List ℕ)) (n k : ℕ) (v w : List ℕ) → n ≢ k → with_vector (with_vector file n v) k w ≡ with_vector (with_vector file k w) n v
+unfolding with_vector
+other_write file n k v w h = set_comm file n k v w h
+
+lanes_exchanged : (lanes : List ℕ) (first half : ℕ) (file : List (List ℕ)) (l k : ℕ) → l ≢ k
+    → with_lane lanes first half (with_lane lanes first half file l) k ≡ with_lane lanes first half (with_lane lanes first half file k) l
+lanes_exchanged lanes first half file l k h =
+    let lane : List ℕ → ℕ → List ℕ = λ v j. set v j (get_or lanes j 0) in
+    let i : ℕ = (l + 8 - half) % 8 in
+    let j : ℕ = (k + 8 - half) % 8 in
+    let apart : first + l ≢ first + k = λ e. h (omega arith) in
+    let back : first + k ≢ first + l = λ e. h (omega arith) in
+    rw (other_register file (first + l) (first + k) (lane (vector file (first + l)) i) back, other_register file (first + k) (first + l) (lane (vector file (first + k)) j) apart)
+    (other_write file (first + l) (first + k) (lane (vector file (first + l)) i) (lane (vector file (first + k)) j) apart)
+
+pub diagonal_by_lanes : (lanes : List ℕ) (first half : ℕ) (file : List (List ℕ)) → half < 8
+    → with_diagonal lanes first half file 8 ≡ fold (with_lane lanes first half) file (map (λ i. (half + i) % 8) (range_with_len 0 8))
+unfolding with_diagonal
+diagonal_by_lanes lanes first half file h = turned_steps (with_lane lanes first half) (lanes_exchanged lanes first half) file half h
+
+pub diagonal_none : (lanes : List ℕ) (first half : ℕ) (file : List (List ℕ)) → with_diagonal lanes first half file 0 ≡ file
+unfolding with_diagonal
+diagonal_none lanes first half file = refl
+
+pub diagonal_more : (lanes : List ℕ) (first half : ℕ) (file : List (List ℕ)) (n : ℕ)
+    → with_diagonal lanes first half file (n + 1) ≡ with_lane lanes first half (with_diagonal lanes first half file n) n
+unfolding with_diagonal
+diagonal_more lanes first half file n = fold_more (with_lane lanes first half) file n
+
+pub ruleset diagonals = (diagonal_none, diagonal_more)
+
+-- of each of eight registers one lane; of the registers from n on the first register's stands there
+abbrev pub taken : List (List ℕ) → ℕ → ℕ → ℕ → List ℕ
+taken file first half n = each_lane (λ i. get_or (vector file (first + (if nat_lt ((half + i) % 8) n then (half + i) % 8 else 0))) i 0)
+
+pub taken_one : (file : List (List ℕ)) (first half : ℕ) → length (vector file first) ≡ 8 → vector file first ≡ taken file first half 1
+taken_one file first half h = eta 0 (vector file first) h ∙ each_same _ _ (λ i l. ap (λ n. get_or (vector file n) i 0) (grind (arith, nat_tests)))
+
+pub taken_more : (file : List (List ℕ)) (first half n : ℕ) → half < 8 → n < 8
+    → set (taken file first half n) ((n + 8 - half) % 8) (get_or (vector file (first + n)) ((n + 8 - half) % 8) 0) ≡ taken file first half (n + 1)
+taken_more file first half n h l =
+    set_each (λ i. get_or (vector file (first + (if nat_lt ((half + i) % 8) n then (half + i) % 8 else 0))) i 0) j (get_or (vector file (first + n)) j 0) (omega arith)
+    ∙ each_same _ _ lane
+  where
+    j : ℕ
+    j = (n + 8 - half) % 8
+
+    lane : (i : ℕ) → i < 8 → (if nat_eq i j then get_or (vector file (first + n)) j 0 else get_or (vector file (first + (if nat_lt ((half + i) % 8) n then (half + i) % 8 else 0))) i 0)
+        ≡ get_or (vector file (first + (if nat_lt ((half + i) % 8) (n + 1) then (half + i) % 8 else 0))) i 0
+    lane i m = elim (cases_eq i j) [
+      | inl e ↦
+          let q : (half + i) % 8 ≡ n = omega (arith, e) in
+          let t : nat_eq i j ≡ true = grind (arith, nat_tests, e) in
+          let u : nat_lt n (n + 1) ≡ true = grind (arith, nat_tests) in
+          rw (t, q, u, ← e) refl
+      | inr d ↦
+          let q : (half + i) % 8 ≢ n = λ e. d (omega arith) in
+          let t : nat_eq i j ≡ false = grind (arith, nat_tests, d) in
+          let u : nat_lt ((half + i) % 8) (n + 1) ≡ nat_lt ((half + i) % 8) n = grind (arith, nat_tests, q) in
+          rw (t, u) refl
+    ]
+
+pub taken_all : (file : List (List ℕ)) (first half : ℕ) → taken file first half 8 ≡ each_lane (λ i. get_or (vector file (first + (half + i) % 8)) i 0)
+taken_all file first half = each_same _ _ (λ i l. ap (λ n. get_or (vector file (first + n)) i 0) (grind (arith, nat_tests)))
