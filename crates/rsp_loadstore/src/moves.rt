@@ -7,6 +7,7 @@ ghost use Rattle.rsp_loadstore.specs.Moves.{moved_file, moved_value, with_regist
 
 use crate::VFile;
 use rsp_decode::{Inst, MoveRow};
+use rsp_lanes::Bytes16;
 
 /// Sixteen bits as a signed number, modulo 2^32.
 #[inline]
@@ -68,5 +69,5 @@ fn set_half(n: u8, e: u8, value: u32, file: &mut VFile)
     let high = (value / 256 % 256) as u8;
     let low = (value % 256) as u8;
     let half = [high, low, 0, 0, 0, 0, 0, 0, 0, 0, 0, 0, 0, 0, 0, 0];
-    file.set_reg(n, v.with_bytes(half, e, 2));
+    file.set_reg(n, v.with_bytes(Bytes16::from_array(half), e, 2));
 }

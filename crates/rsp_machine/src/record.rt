@@ -150,7 +150,10 @@ impl Keeper for Record {
         match change {
             Change::Places | Change::Dma => (),
             Change::Register(n) => self.word = machine.regs.get(n as u8),
-            Change::Bytes(a) => self.bytes = machine.dmem.window(a),
+            Change::Bytes(a) => match machine.dmem.whole_window(a) {
+                Some(bytes) => self.bytes = *bytes,
+                None => self.bytes = machine.dmem.window(a),
+            },
             Change::Vector(n) => self.vector = machine.vregs.reg(n as u8),
             Change::Group(n) => self.keep_group(&machine.vregs, n),
             Change::Product(n) => self.keep_product(machine, n),

@@ -213,7 +213,7 @@ impl SpMem {
     }
 
     /// Writes at most 4096 bytes, one after the other from an address on.
-    #[inline]
+    #[inline(always)]
     pub fn set_bytes(&mut self, a: u32, bytes: &[u8])
         requires { length bytes.now ≤ 4096 }
         ensures { self.new ≡ with_bytes self.old a bytes.now }
