@@ -1,5 +1,6 @@
 ghost use Rattle.std.specs.Prelude.{◌≡◌, ◌<◌, ◌%◌, option_map, unwrap_or};
 ghost use Rattle.rsp_decode.specs.Table.{IsInstruction, inst_of};
+ghost use Rattle.rsp_decode.specs.declared.inst.MoveRow.TheVariants as row;
 ghost use Rattle.rsp_machine.specs.Step.{computes, loads, stores, jumps, break_instruction, moves_sp, executed, singled, step_of};
 ghost use Rattle.rsp_machine.specs.State.{advanced, gone_back};
 ghost use Rattle.rsp_memory.specs.Memory.{word_at};
@@ -112,21 +113,35 @@ impl<A: Acc> Machine<A> {
     }
 
     /// A move between scalar register `rt` and an SP register.
-    #[tactic(auto, unfolding(crate::specs::Step::moves_sp))]
+    #[inline(always)]
     pub(crate) fn move_sp_register(&mut self, row: MoveRow, rt: u8, register: u8)
         requires { rt < 32 }
         ensures { self.new ≡ moves_sp row rt register self.old }
     {
         match row {
-            MoveRow::From => {
-                let value = self.sp.host_read(u32::from(register));
-                self.regs.set(rt, value);
-            }
-            MoveRow::To => {
-                let value = self.regs.get(rt);
-                self.write_reg(u32::from(register), value);
-            }
+            MoveRow::From => self.move_from_sp(rt, register),
+            MoveRow::To => self.move_to_sp(rt, register),
         }
+    }
+
+    /// A read of an SP register into scalar register `rt`. It stands apart from the write, which is long by its DMA.
+    #[tactic(auto, unfolding(crate::specs::Step::moves_sp))]
+    fn move_from_sp(&mut self, rt: u8, register: u8)
+        requires { rt < 32 }
+        ensures { self.new ≡ moves_sp row.From rt register self.old }
+    {
+        let value = self.sp.host_read(u32::from(register));
+        self.regs.set(rt, value);
+    }
+
+    /// A write of an SP register from scalar register `rt`.
+    #[tactic(auto, unfolding(crate::specs::Step::moves_sp))]
+    fn move_to_sp(&mut self, rt: u8, register: u8)
+        requires { rt < 32 }
+        ensures { self.new ≡ moves_sp row.To rt register self.old }
+    {
+        let value = self.regs.get(rt);
+        self.write_reg(u32::from(register), value);
     }
 
     /// Executes a word, of which a keeper is told, and tells whether that may have read or written the SP registers. None for a
