@@ -118,11 +118,11 @@ moved_is source k i n old h l m = elim (cases_lt k i) [
 ]
 
 -- the distances of all places
-abbrev distances : ℕ → List ℕ
+abbrev pub distances : ℕ → List ℕ
 distances i = zip2 (λ a b. (a + (256 - b)) % 256) order (replicate 16 i)
 
-abbrev placed_le : List ℕ → List ℕ → ℕ → ℕ → List ℕ
-placed_le le source i n = sel_l (map (top 7) (zip2 (λ a b. cond (ltb a b) 255 0) (distances i) (replicate 16 n))) (swz_l w8 16 source 0 (distances i)) le
+abbrev placed_le : List ℕ → List ℕ → List ℕ → ℕ → List ℕ
+placed_le le source far n = sel_l (map (top 7) (zip2 (λ a b. cond (ltb a b) 255 0) far (replicate 16 n))) (swz_l w8 16 source 0 far) le
 
 byte_below : (v : List ℕ) (k : ℕ) → IsVector v → register_byte v k < 256
 unfolding register_byte
@@ -132,13 +132,14 @@ pub one_below : (b : Bool) (x y n : ℕ) → x < n → y < n → cond b x y < n
 one_below true x y n h k = h
 one_below false x y n h k = k
 
-swizzled : (old : ℕ → ℕ) (source : List ℕ) (i n : ℕ) → placed_le (each_byte (λ p. old (swapped p))) source i n ≡ each_byte (λ p. moved source (swapped p) i n (old (swapped p)))
+swizzled : (old : ℕ → ℕ) (source : List ℕ) (i n : ℕ) → placed_le (each_byte (λ p. old (swapped p))) source (distances i) n ≡ each_byte (λ p. moved source (swapped p) i n (old (swapped p)))
 unfolding each_byte
 swizzled old source i n = refl
 
-pub with_register_bytes_is : (v source : List ℕ) (i n : ℕ) → IsVector v → ((k : ℕ) → get_or source k 0 < 256) → i < 32 → n ≤ 16
-    → digits_l 65536 8 (number_l 256 (placed_le (digits_l 256 16 (number_l 65536 v)) source i n)) ≡ with_register_bytes v source i n
-with_register_bytes_is v source i n h below l m = ap (λ le. digits_l 65536 8 (number_l 256 (placed_le le source i n))) (to_le v h)
+pub with_register_bytes_is : (v source far : List ℕ) (i n : ℕ) → IsVector v → ((k : ℕ) → get_or source k 0 < 256) → i < 32 → n ≤ 16 → far ≡ distances i
+    → digits_l 65536 8 (number_l 256 (placed_le (digits_l 256 16 (number_l 65536 v)) source far n)) ≡ with_register_bytes v source i n
+with_register_bytes_is v source far i n h below l m e = ap (λ le. digits_l 65536 8 (number_l 256 (placed_le le source far n))) (to_le v h)
+    ∙ ap (λ far. digits_l 65536 8 (number_l 256 (placed_le (each_byte (λ p. register_byte v (swapped p))) source far n))) e
     ∙ ap (λ bytes. digits_l 65536 8 (number_l 256 bytes)) (swizzled (register_byte v) source i n ∙ swapped_same (λ k. moved source k i n (register_byte v k)) byte (λ k b. moved_is source k i n (register_byte v k) b l m))
     ∙ from_le byte (λ k. one_below (nat_le i k && nat_lt k (i + n)) _ _ 256 (below (k - i)) (byte_below v k h))
   where

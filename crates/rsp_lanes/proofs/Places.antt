@@ -1,14 +1,15 @@
 -- The tables of places, and the bytes that stand at sixteen of them.
-use Rattle.std.proofs.Common.{◌≡◌, ℕ, ◌+◌, ◌*◌, ◌/◌, ◌%◌, ◌<◌, List, length, map, take, drop, get_or, true, nat_eq, nat_lt, ltb→lt, subst, T, suc, refl, sym, ap, ◌∙◌, arith, w8}
+use Rattle.std.proofs.Common.{◌≡◌, ℕ, ◌+◌, ◌-◌, ◌*◌, ◌/◌, ◌%◌, ◌<◌, List, length, map, take, drop, get_or, true, nat_eq, nat_lt, false, leb, ltb, ◌||◌, inl, inr, ltb→lt, subst, T, suc, refl, sym, ap, ◌∙◌, arith, w8}
 use Rattle.std.specs.Simd.Lanes.{chunk, number_l, digits_l}
-use Rattle.std.proofs.lemmas.Simd.{swz_l, length-swz_l, get_or-swz_l_below, SwzOk, SwzOk-from_below, Each1-from_get_or, length-chunk, get_or-chunk}
+use Rattle.std.proofs.lemmas.Simd.{swz_l, length-swz_l, get_or-swz_l_below, SwzOk, SwzOk-from_below, SwzOk-from_Each1, Each1-from_get_or, length-chunk, get_or-chunk}
 use Rattle.std.proofs.lemmas.List.{length-take, length-drop, get_or-take, get_or-drop}
 use Rattle.std.proofs.lemmas.Grind.{same_number_lists}
-use Rattle.std.proofs.lemmas.Bool.{agree_below_at, eqb-true}
+use Rattle.std.proofs.lemmas.Bool.{agree_below_at, eqb-true, cases_lt}
+use Rattle.std.proofs.lemmas.Bool.Decides.{nat_tests}
 use Rattle.rsp_lanes.specs.Lanes.{each_lane, IsVector, register_byte}
-use Rattle.rsp_lanes.specs.Bytes.{each_byte}
-use Rattle.rsp_lanes.specs.declared.bytes.TheConstants.{PLACES, ORDERED_PLACES}
-use Rattle.rsp_lanes.proofs.ByteOrder.{swapped, to_le, byte_of, each_byte_same}
+use Rattle.rsp_lanes.specs.Bytes.{each_byte, byte_at_place}
+use Rattle.rsp_lanes.specs.declared.bytes.TheConstants.{PLACES, ORDERED_PLACES, DISTANCES, FROM_LAST}
+use Rattle.rsp_lanes.proofs.ByteOrder.{swapped, distances, to_le, byte_of, each_byte_same}
 use Rattle.rsp_lanes.proofs.ByteLanes.{lanes_of, lanes_are}
 use Rattle.rsp_lanes.proofs.Kit.{each_same, map_of_each}
 
@@ -74,6 +75,63 @@ register_places v js start h e =
     ap (λ le. get_or le (swapped ((start + k) % 16)) 0) (to_le v h)
     ∙ byte_of (λ p. register_byte v (swapped p)) (swapped ((start + k) % 16)) (swapped_below ((start + k) % 16) at)
     ∙ ap (register_byte v) (swapped_twice ((start + k) % 16) at))
+
+-- how far the bytes at all places are behind a byte
+abbrev pub far_behind : ℕ → List ℕ
+far_behind i = each_byte (λ p. (byte_at_place p + (256 - i)) % 256)
+
+distance_at : (j : ℕ) → j < 47 → get_or DISTANCES j 0 ≡ (271 - j) % 256
+distance_at j h = eqb-true _ _ (agree_below_at (λ j. nat_eq (get_or DISTANCES j 0) ((271 - j) % 256)) (λ _. true) 47 j refl h)
+
+from_last_at : (p : ℕ) → p < 16 → get_or FROM_LAST p 0 ≡ 15 - byte_at_place p
+from_last_at p h = eqb-true _ _ (agree_below_at (λ p. nat_eq (get_or FROM_LAST p 0) (15 - byte_at_place p)) (λ _. true) 16 p refl h)
+
+swapped_at : (p : ℕ) → p < 16 → swapped p ≡ byte_at_place p
+swapped_at p h = eqb-true _ _ (agree_below_at (λ p. nat_eq (swapped p) (byte_at_place p)) (λ _. true) 16 p refl h)
+
+from_last : FROM_LAST ≡ each_byte (λ p. 15 - byte_at_place p)
+unfolding each_byte
+from_last = refl
+
+pub from_last_ok : SwzOk w8 16 16 0 FROM_LAST
+from_last_ok = places_ok FROM_LAST (λ p. 15 - byte_at_place p) from_last (λ k h. omega arith)
+
+pub far_behind_is : (numbers : List ℕ) (i : ℕ) → i < 32 → numbers ≡ each_byte (λ k. get_or DISTANCES (i + k) 0) → swz_l w8 16 numbers 0 FROM_LAST ≡ far_behind i
+far_behind_is numbers i h e =
+    at_places FROM_LAST (λ p. 15 - byte_at_place p) from_last (λ k h. omega arith) numbers
+    ∙ each_byte_same _ _ (λ p l.
+    ap (λ ns. get_or ns (15 - byte_at_place p) 0) e
+    ∙ byte_of (λ k. get_or DISTANCES (i + k) 0) (15 - byte_at_place p) (omega arith)
+    ∙ distance_at (i + (15 - byte_at_place p)) (omega (arith, h))
+    ∙ omega (arith, h, l))
+
+in_reach : (i p : ℕ) → i < 32 → p < 16 → (leb 128 ((byte_at_place p + (256 - i)) % 256) || ltb ((byte_at_place p + (256 - i)) % 256) 16) ≡ true
+in_reach i p h l = elim (cases_lt (byte_at_place p) i) [
+  | inl b ↦
+      let e : (byte_at_place p + (256 - i)) % 256 ≡ byte_at_place p + 256 - i = omega arith in
+      let f : leb 128 (byte_at_place p + 256 - i) ≡ true = grind (arith, nat_tests) in
+      rw (e, f) refl
+  | inr b ↦
+      let e : (byte_at_place p + (256 - i)) % 256 ≡ byte_at_place p - i = omega arith in
+      let f : leb 128 (byte_at_place p - i) ≡ false = grind (arith, nat_tests) in
+      let g : ltb (byte_at_place p - i) 16 ≡ true = grind (arith, nat_tests) in
+      rw (e, f, g) refl
+]
+
+pub far_behind_ok : (far : List ℕ) (i : ℕ) → i < 32 → far ≡ far_behind i → SwzOk w8 16 16 0 far
+far_behind_ok far i h e =
+    let n : length far ≡ 16 = ap length e ∙ length-each_byte _ in
+    SwzOk-from_Each1 w8 16 1 16 0 far refl (omega (arith, n)) (Each1-from_get_or (λ j. T (leb 128 j || ltb j 16)) far 0 (λ k l.
+    let b : k < 16 = omega (arith, l, n) in
+    let at : get_or far k 0 ≡ (byte_at_place k + (256 - i)) % 256 = ap (λ js. get_or js k 0) e ∙ byte_of (λ p. (byte_at_place p + (256 - i)) % 256) k b in
+    subst T (sym (ap (λ j. leb 128 j || ltb j 16) at ∙ in_reach i k h b)) tt))
+
+each_distance : (i : ℕ) → each_byte (λ p. (swapped p + (256 - i)) % 256) ≡ distances i
+unfolding each_byte
+each_distance i = refl
+
+pub far_behind_distances : (i : ℕ) → far_behind i ≡ distances i
+far_behind_distances i = each_byte_same _ _ (λ p h. ap (λ b. (b + (256 - i)) % 256) (sym (swapped_at p h))) ∙ each_distance i
 
 -- the low byte of each lane, times 128, of bytes that stand from a place on
 pub every_second : (source bytes : List ℕ) (start : ℕ) → bytes ≡ each_byte (λ k. get_or source ((start + k) % 16) 0) → ((k : ℕ) → get_or source k 0 < 256)

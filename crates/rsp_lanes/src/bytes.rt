@@ -1,12 +1,9 @@
-ghost use Rattle.std.specs.Prelude.{◌≡◌, ◌+◌, ◌*◌, ◌%◌, ◌<◌, ◌≤◌, slice_index};
+ghost use Rattle.std.specs.Prelude.{◌≡◌, ◌+◌, ◌-◌, ◌*◌, ◌%◌, ◌<◌, ◌≤◌, slice_index};
 ghost use Rattle.rsp_lanes.specs.Lanes.{each_lane, register_byte};
-ghost use Rattle.rsp_lanes.specs.Bytes.{each_byte, packed_byte, with_register_bytes};
+ghost use Rattle.rsp_lanes.specs.Bytes.{each_byte, byte_at_place, packed_byte, with_register_bytes};
 
 use crate::{Bytes16, VReg};
 use std::simd::prelude::*;
-
-/// The byte of a register that stands at each place of its lanes, low byte first.
-const ORDER: [u8; 16] = [1, 0, 3, 2, 5, 4, 7, 6, 9, 8, 11, 10, 13, 12, 15, 14];
 
 /// Sixteen places and then again the first fifteen: the sixteen from any of them on, modulo 16, stand side by side.
 static PLACES: [u8; 31] = [
@@ -14,11 +11,32 @@ static PLACES: [u8; 31] = [
     13, 14,
 ];
 
-/// For each of these the byte that ORDER has there.
+/// For each of these the byte of a register that stands there in its lanes, low byte first.
 static ORDERED_PLACES: [u8; 31] = [
     1, 0, 3, 2, 5, 4, 7, 6, 9, 8, 11, 10, 13, 12, 15, 14, 1, 0, 3, 2, 5, 4, 7, 6, 9, 8, 11, 10, 13,
     12, 15,
 ];
+
+/// The numbers from 15 down, modulo 256. From place `i` on they say how far each byte of a register is behind byte `i`, the
+/// last byte first.
+static DISTANCES: [u8; 47] = [
+    15, 14, 13, 12, 11, 10, 9, 8, 7, 6, 5, 4, 3, 2, 1, 0, 255, 254, 253, 252, 251, 250, 249, 248,
+    247, 246, 245, 244, 243, 242, 241, 240, 239, 238, 237, 236, 235, 234, 233, 232, 231, 230, 229,
+    228, 227, 226, 225,
+];
+
+/// The byte of a register, numbered from the last on, that stands at each place of its lanes, low byte first.
+const FROM_LAST: [u8; 16] = [14, 15, 12, 13, 10, 11, 8, 9, 6, 7, 4, 5, 2, 3, 0, 1];
+
+/// How far the byte at each place of a register's lanes is behind byte `i`, modulo 256.
+#[inline(always)]
+fn distances(i: u8) -> u8x16
+    requires { i < 32 }
+    ensures { result ≡ each_byte (λ p. (byte_at_place p + (256 - i)) % 256) }
+{
+    let first = usize::from(i);
+    u8x16::from_slice(&DISTANCES[first..first + 16]).swizzle_dyn(u8x16::from_array(FROM_LAST))
+}
 
 /// Sixteen members of a list of places, from `start` modulo 16 on.
 #[inline(always)]
@@ -46,9 +64,9 @@ impl VReg {
         requires count { n ≤ 16 }
         ensures { result ≡ with_register_bytes self.now source i n }
     {
-        let places = u8x16::from_array(ORDER) - u8x16::splat(i);
-        let moved = source.to_simd().swizzle_dyn(places);
-        let chosen = places.simd_lt(u8x16::splat(n));
+        let behind = distances(i);
+        let moved = source.to_simd().swizzle_dyn(behind);
+        let chosen = behind.simd_lt(u8x16::splat(n));
         VReg::from_simd(u16x8::from_le_bytes(chosen.select(moved, self.to_simd().to_le_bytes())))
     }
 

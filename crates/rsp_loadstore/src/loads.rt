@@ -38,6 +38,8 @@ fn load_row(row: VectorLoadRow, vt: u8, e: usize, a: u32, memory: &SpMem, file: 
         VectorLoadRow::Lsv => load_bytes(vt, e, 2, a, memory, file),
         VectorLoadRow::Llv => load_bytes(vt, e, 4, a, memory, file),
         VectorLoadRow::Ldv => load_bytes(vt, e, 8, a, memory, file),
+        // A whole register: no place of a byte is looked up.
+        VectorLoadRow::Lqv if e + place == 0 => load_bytes(vt, 0, 16, a - a % 16, memory, file),
         VectorLoadRow::Lqv => load_bytes(vt, e, 16 - place, a, memory, file),
         VectorLoadRow::Lrv => load_bytes(vt, 16 - place + e, 16, a - a % 16, memory, file),
         VectorLoadRow::Lpv => load_packed(vt, 256, e, a, memory, file),
