@@ -54,15 +54,16 @@ pub fn select(v: &VReg, e: usize) -> VReg
     VReg::from_simd(u16x8::from_le_bytes(bytes.swizzle_dyn(sources(e))))
 }
 
-/// Two bytes of ones with fourteen of zeros before them, between them and the next two, and behind those. The sixteen that
-/// begin 2 i before byte 30 have their ones at lane i, modulo 8.
+/// Two bytes of ones twice, with fourteen zeros before, between and behind them. The sixteen bytes that begin 2 i before byte
+/// 30 have their ones at the place of lane i, modulo 8.
 static ONE_LANE: [u8; 46] = [
     0, 0, 0, 0, 0, 0, 0, 0, 0, 0, 0, 0, 0, 0, 255, 255, 0, 0, 0, 0, 0, 0, 0, 0, 0, 0, 0, 0, 0, 0,
     255, 255, 0, 0, 0, 0, 0, 0, 0, 0, 0, 0, 0, 0, 0, 0,
 ];
 
 impl VReg {
-    /// The register in which one lane is another's: lane `i`, modulo 8.
+    /// The register in which lane `i`, modulo 8, is another's. Each byte is chosen by the top bit of a byte of the table, which
+    /// is one instruction.
     #[inline(always)]
     pub fn with_lane_of(&self, other: &VReg, i: usize) -> VReg
         requires { i < 16 }

@@ -18,7 +18,7 @@ same_register : (file : List (List ℕ)) (n : ℕ) → with_vector file n (vecto
 unfolding with_vector vector
 same_register file n = set-get_or file n []
 
-pub register_again : (file : List (List ℕ)) (n : ℕ) (v w : List ℕ) → n < length file
+register_again : (file : List (List ℕ)) (n : ℕ) (v w : List ℕ) → n < length file
     → (vector (with_vector file n v) n ≡ v) × (with_vector (with_vector file n v) n w ≡ with_vector file n w)
 unfolding with_vector vector
 register_again file n v w h = (get_or-set_same file n v [] h, set-set file n v w)

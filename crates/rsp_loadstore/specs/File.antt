@@ -20,8 +20,8 @@ pub record IsFile (file : List (List ℕ)) : Type 0 where
 unfoldable pub with_vector : List (List ℕ) → ℕ → List ℕ → List (List ℕ)
 with_vector file n v = slice_set file n v
 
--- the registers after register l of the eight from `first` on got its lane of a list: lane 0 is register `half`'s, and so on,
--- modulo 8
+-- the registers after register l of the eight from `first` on got one lane of a list: lane 0 goes to the register `half`
+-- behind `first`, lane 1 to the next, and so on, modulo 8
 abbrev pub with_lane : List ℕ → ℕ → ℕ → List (List ℕ) → ℕ → List (List ℕ)
 with_lane lanes first half file l =
     with_vector file (first + l) (slice_set (vector file (first + l)) ((l + 8 - half) % 8) (slice_index lanes ((l + 8 - half) % 8)))

@@ -130,7 +130,8 @@ fn load_transposed(vt: u8, e: usize, a: u32, memory: &SpMem, file: &mut VFile)
     set_diagonal((vt - vt % 8) as usize, e / 2, &lanes, file);
 }
 
-/// Writes one lane of each of eight registers: of register `half` the first, of the next the next, modulo 8.
+/// Writes one lane of each of the eight registers from `first` on: lane 0 of the register `half` behind it, lane 1 of the
+/// next, and so on, modulo 8. It calls nothing, so that it saves no registers.
 #[inline(never)]
 #[tactic(auto, using(crate::proofs::Diagonal::diagonals))]
 fn set_diagonal(first: usize, half: usize, lanes: &VReg, file: &mut VFile)

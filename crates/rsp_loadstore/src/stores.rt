@@ -159,7 +159,8 @@ fn store_transposed(vt: u8, e: usize, a: u32, file: &VFile, memory: &mut SpMem)
     memory.set_bytes(a - a % 8, &lanes.bytes_from(16 - (a % 8) as u8));
 }
 
-/// Of each of eight registers one lane: of register `half` the first, of the next the next, modulo 8.
+/// Of each of the eight registers from `first` on one lane: lane 0 of the register `half` behind it, lane 1 of the next,
+/// and so on, modulo 8.
 #[inline(always)]
 fn diagonal(first: usize, half: usize, file: &VFile) -> VReg
     requires registers { first ≤ 24 }
