@@ -235,3 +235,11 @@ scaled f factor h k =
       times (f 7) factor (h 7) k,
     )
     refl
+
+-- sixteen bytes in order as lanes
+ordered : (f : ℕ → ℕ) → swz_l w8 16 (each_byte f) 0 order ≡ each_byte (λ p. f (swapped p))
+unfolding each_byte
+ordered f = refl
+
+pub ordered_lanes : (f : ℕ → ℕ) → ((k : ℕ) → f k < 256) → digits_l 65536 8 (number_l 256 (swz_l w8 16 (each_byte f) 0 order)) ≡ of_bytes f
+ordered_lanes f h = ap (λ bytes. digits_l 65536 8 (number_l 256 bytes)) (ordered f) ∙ from_le f h

@@ -1,6 +1,6 @@
 ghost use Rattle.std.specs.Prelude.{◌≡◌, ◌+◌, ◌-◌, ◌*◌, ◌%◌, ◌<◌, ◌≤◌, slice_index};
 ghost use Rattle.rsp_lanes.specs.Lanes.{each_lane, register_byte};
-ghost use Rattle.rsp_lanes.specs.Bytes.{each_byte, byte_at_place, packed_byte, with_register_bytes};
+ghost use Rattle.rsp_lanes.specs.Bytes.{each_byte, of_bytes, byte_at_place, packed_byte, with_register_bytes};
 
 use crate::{Bytes16, VReg};
 use std::simd::prelude::*;
@@ -107,5 +107,14 @@ impl VReg {
     {
         let pairs = u16x8::from_le_bytes(turned(source.to_simd(), start));
         VReg::from_simd(pairs << u16x8::splat(8) >> u16x8::splat(1))
+    }
+
+    /// The register whose bytes are those of `source` from `start` on, modulo 16.
+    #[inline(always)]
+    pub fn from_turned(source: Bytes16, start: u8) -> VReg
+        ensures { result ≡ of_bytes (λ k. slice_index source ((start + k) % 16)) }
+    {
+        let bytes = turned(source.to_simd(), start);
+        VReg::from_simd(u16x8::from_le_bytes(bytes.swizzle_dyn(u8x16::from_array(ORDER))))
     }
 }

@@ -1,13 +1,12 @@
 -- A transposed load, by lanes.
 use Rattle.std.proofs.Common.{◌≡◌, ℕ, zero, suc, ◌≤◌, [], map, ◌+◌, ◌-◌, ◌*◌, ◌/◌, ◌%◌, ◌<◌, List, length, get_or, set, refl, sym, ap, ◌∙◌, arith, inl, inr}
 use Rattle.std.specs.List.{range_with_len, fold}
-use Rattle.std.proofs.lemmas.Bool.{cases_eq, cases_lt}
+use Rattle.std.proofs.lemmas.Bool.{cases_lt}
 use Rattle.std.proofs.lemmas.List.{set-set, set_past, get_or-set_same}
 use Rattle.rsp_memory.specs.Memory.{byte_at, bytes_at}
-use Rattle.rsp_lanes.specs.Lanes.{each_lane, register_byte, with_register_byte}
-use Rattle.rsp_lanes.specs.Bytes.{each_byte}
+use Rattle.rsp_lanes.specs.Lanes.{with_register_byte}
+use Rattle.rsp_lanes.specs.Bytes.{of_bytes}
 use Rattle.rsp_lanes.proofs.Kit.{lane_of}
-use Rattle.rsp_lanes.proofs.ByteOrder.{byte_of}
 use Rattle.rsp_loadstore.specs.File.{vector, with_vector, with_lane, with_diagonal}
 use Rattle.rsp_loadstore.specs.Loads.{Load, to_byte, loaded, after_load}
 use Rattle.rsp_loadstore.specs.Pairs.{for_each, block}
@@ -41,46 +40,19 @@ written_twice file n v f = set-set file n v _ ∙ elim (cases_lt n (length file)
   | inr h ↦ set_past file n _ h ∙ sym (set_past file n _ h)
 ]
 
--- the register whose bytes are a list's
-abbrev pub of_list : List ℕ → List ℕ
-of_list bytes = each_lane (λ i. get_or bytes (2 * i) 0 * 256 + get_or bytes (2 * i + 1) 0)
-
-of_list_byte : (bytes : List ℕ) (q : ℕ) → ((k : ℕ) → get_or bytes k 0 < 256) → q < 16 → register_byte (of_list bytes) q ≡ get_or bytes q 0
-unfolding register_byte
-of_list_byte bytes q small h =
-    let lane = lane_of 0 (λ i. get_or bytes (2 * i) 0 * 256 + get_or bytes (2 * i + 1) 0) (of_list bytes) refl (q / 2) (omega arith) in
-    elim (cases_eq (q % 2) 0) [
-      | inl p ↦
-          let e : 2 * (q / 2) ≡ q = omega arith in
-          rw (p, lane, e) (omega (arith, small (q + 1)))
-      | inr p ↦
-          let o : q % 2 ≡ 1 = omega arith in
-          let e : 2 * (q / 2) + 1 ≡ q = omega arith in
-          rw (o, lane, e) (omega (arith, small q))
-    ]
-
-turned_lane : (window : List ℕ) (first i : ℕ) → ((k : ℕ) → get_or window k 0 < 256) → i < 8
-    → get_or (of_list (each_byte (λ k. register_byte (of_list window) ((first + k) % 16)))) i 0
-    ≡ get_or window ((first + 2 * i) % 16) 0 * 256 + get_or window ((first + (2 * i + 1)) % 16) 0
-turned_lane window first i small h =
-    let bytes : List ℕ = each_byte (λ k. register_byte (of_list window) ((first + k) % 16)) in
-    lane_of 0 (λ i. get_or bytes (2 * i) 0 * 256 + get_or bytes (2 * i + 1) 0) _ refl i h
-    ∙ rw (
-      byte_of (λ k. register_byte (of_list window) ((first + k) % 16)) (2 * i) (omega arith),
-      byte_of (λ k. register_byte (of_list window) ((first + k) % 16)) (2 * i + 1) (omega arith),
-      of_list_byte window ((first + 2 * i) % 16) small (omega arith),
-      of_list_byte window ((first + (2 * i + 1)) % 16) small (omega arith),
-    ) refl
-
 -- the bytes of a window, turned
 abbrev pub turned_bytes : List ℕ → ℕ → List ℕ
-turned_bytes window first = of_list (each_byte (λ k. register_byte (of_list window) ((first + k) % 16)))
+turned_bytes window first = of_bytes (λ k. get_or window ((first + k) % 16) 0)
+
+turned_lane : (window : List ℕ) (first i : ℕ) → i < 8 → get_or (turned_bytes window first) i 0 ≡ get_or window ((first + 2 * i) % 16) 0 * 256 + get_or window ((first + (2 * i + 1)) % 16) 0
+unfolding of_bytes
+turned_lane window first i h = lane_of 0 (λ i. get_or window ((first + 2 * i) % 16) 0 * 256 + get_or window ((first + (2 * i + 1)) % 16) 0) _ refl i h
 
 -- two pairs are a lane of a register
-lane_loaded : (m : List ℕ) (file : List (List ℕ)) (vt e a i : ℕ) (window : List ℕ) → e < 16 → i < 8 → ((k : ℕ) → get_or window k 0 < 256) → window ≡ bytes_at m (block a) 16
+lane_loaded : (m : List ℕ) (file : List (List ℕ)) (vt e a i : ℕ) (window : List ℕ) → e < 16 → i < 8 → window ≡ bytes_at m (block a) 16
     → loaded m (loaded m file (pair_of vt e a (2 * i))) (pair_of vt e a (2 * i + 1)) ≡ with_lane (turned_bytes window (e + a / 8 % 2 * 8)) (vt - vt % 8) (e / 2) file ((e / 2 + i) % 8)
 unfolding loaded
-lane_loaded m file vt e a i window l h small w =
+lane_loaded m file vt e a i window l h w =
     let n : ℕ = vt - vt % 8 + (e / 2 + i) % 8 in
     let lanes : List ℕ = turned_bytes window (e + a / 8 % 2 * 8) in
     let b : ℕ = byte_at m (block a + (2 * i + e + a / 8 % 2 * 8) % 16) in
@@ -92,31 +64,31 @@ lane_loaded m file vt e a i window l h small w =
     ap (λ bs. get_or bs ((e + a / 8 % 2 * 8 + 2 * i) % 16) 0) w ∙ window_byte m (block a) 16 _ (omega arith) ∙ ap (λ p. byte_at m (block a + p)) (omega arith) in
     let low : get_or window ((e + a / 8 % 2 * 8 + (2 * i + 1)) % 16) 0 ≡ c =
     ap (λ bs. get_or bs ((e + a / 8 % 2 * 8 + (2 * i + 1)) % 16) 0) w ∙ window_byte m (block a) 16 _ (omega arith) ∙ ap (λ p. byte_at m (block a + p)) (omega arith) in
-    let value : b * 256 + c ≡ get_or lanes i 0 = sym (turned_lane window (e + a / 8 % 2 * 8) i small h ∙ rw (high, low) refl) in
+    let value : b * 256 + c ≡ get_or lanes i 0 = sym (turned_lane window (e + a / 8 % 2 * 8) i h ∙ rw (high, low) refl) in
     rw (x, y) (written_twice file n (with_register_byte (vector file n) (2 * i) b) (λ v. with_register_byte v (2 * i + 1) c))
     ∙ ap (with_vector file n) (byte_pair (vector file n) i b c ∙ ap (set (vector file n) i) value ∙ ap (λ i. set (vector file n) i (get_or lanes i 0)) j)
 
 -- lane by lane
-lanes_loaded : (m : List ℕ) (file : List (List ℕ)) (vt e a n : ℕ) (window : List ℕ) → e < 16 → n ≤ 8 → ((k : ℕ) → get_or window k 0 < 256) → window ≡ bytes_at m (block a) 16
+lanes_loaded : (m : List ℕ) (file : List (List ℕ)) (vt e a n : ℕ) (window : List ℕ) → e < 16 → n ≤ 8 → window ≡ bytes_at m (block a) 16
     → after_load m file (for_each (2 * n) (pair_of vt e a))
     ≡ fold (with_lane (turned_bytes window (e + a / 8 % 2 * 8)) (vt - vt % 8) (e / 2)) file (map (λ i. (e / 2 + i) % 8) (range_with_len 0 n))
-lanes_loaded m file vt e a zero window l h small w = load_none m file (pair_of vt e a)
-lanes_loaded m file vt e a (suc n) window l h small w =
+lanes_loaded m file vt e a zero window l h w = load_none m file (pair_of vt e a)
+lanes_loaded m file vt e a (suc n) window l h w =
     let step : List (List ℕ) → ℕ → List (List ℕ) = with_lane (turned_bytes window (e + a / 8 % 2 * 8)) (vt - vt % 8) (e / 2) in
     let pair : ℕ → Load = pair_of vt e a in
     let place : ℕ → ℕ = λ i. (e / 2 + i) % 8 in
     let twice : 2 * suc n ≡ 2 * n + 1 + 1 = omega arith in
     let more : n + 1 ≡ suc n = omega arith in
-    let ih : after_load m file (for_each (2 * n) pair) ≡ fold step file (map place (range_with_len 0 n)) = lanes_loaded m file vt e a n window l (omega arith) small w in
+    let ih : after_load m file (for_each (2 * n) pair) ≡ fold step file (map place (range_with_len 0 n)) = lanes_loaded m file vt e a n window l (omega arith) w in
     ap (λ k. after_load m file (for_each k pair)) twice
     ∙ load_more m file pair (2 * n + 1)
     ∙ ap (λ s. loaded m s (pair (2 * n + 1))) (load_more m file pair (2 * n) ∙ ap (λ s. loaded m s (pair (2 * n))) ih)
-    ∙ lane_loaded m (fold step file (map place (range_with_len 0 n))) vt e a n window l (omega arith) small w
+    ∙ lane_loaded m (fold step file (map place (range_with_len 0 n))) vt e a n window l (omega arith) w
     ∙ sym (fold_map_more step file place n)
     ∙ ap (λ k. fold step file (map place (range_with_len 0 k))) more
 
-pub transposed_loaded : (m : List ℕ) (file : List (List ℕ)) (vt e a : ℕ) (window : List ℕ) → e < 16 → ((k : ℕ) → get_or window k 0 < 256) → window ≡ bytes_at m (block a) 16
+pub transposed_loaded : (m : List ℕ) (file : List (List ℕ)) (vt e a : ℕ) (window : List ℕ) → e < 16 → window ≡ bytes_at m (block a) 16
     → with_diagonal (turned_bytes window (e + a / 8 % 2 * 8)) (vt - vt % 8) (e / 2) file 8 ≡ after_load m file (for_each 16 (pair_of vt e a))
-transposed_loaded m file vt e a window h small w =
+transposed_loaded m file vt e a window h w =
     diagonal_by_lanes (turned_bytes window (e + a / 8 % 2 * 8)) (vt - vt % 8) (e / 2) file (omega arith)
-    ∙ sym (lanes_loaded m file vt e a 8 window h (omega arith) small w)
+    ∙ sym (lanes_loaded m file vt e a 8 window h (omega arith) w)

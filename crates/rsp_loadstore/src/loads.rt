@@ -103,7 +103,7 @@ fn load_halves(vt: u8, e: usize, a: u32, memory: &SpMem, file: &mut VFile)
 }
 
 /// LFV: loads four lanes of a register, with every fourth byte of a block, times 128.
-#[inline]
+#[inline(never)]
 #[tactic(auto, using(crate::proofs::Pairs::loads), unfolding(crate::specs::Loads::loaded, crate::specs::Loads::load_pairs))]
 fn load_fourths(vt: u8, e: usize, a: u32, memory: &SpMem, file: &mut VFile)
     requires register { vt < 32 }
@@ -125,8 +125,7 @@ fn load_transposed(vt: u8, e: usize, a: u32, memory: &SpMem, file: &mut VFile)
     ensures { file.new ≡ after_load memory.now file.old (load_pairs Ltv vt e a) }
 {
     let first = (e as u32 + a / 8 % 2 * 8) as u8;
-    let window = memory.window(a - a % 8);
-    let lanes = VReg::from_bytes(VReg::from_bytes(window).bytes_from(first));
+    let lanes = VReg::from_turned(window(memory, a - a % 8), first);
     set_diagonal((vt - vt % 8) as usize, e / 2, &lanes, file);
 }
 

@@ -68,6 +68,6 @@ fn set_half(n: u8, e: u8, value: u32, file: &mut VFile)
     let v = file.reg(n);
     let high = (value / 256 % 256) as u8;
     let low = (value % 256) as u8;
-    let half = [high, low, 0, 0, 0, 0, 0, 0, 0, 0, 0, 0, 0, 0, 0, 0];
-    file.set_reg(n, v.with_bytes(Bytes16::from_array(half), e, 2));
+    let half = Bytes16::from_array([high, low, 0, 0, 0, 0, 0, 0, 0, 0, 0, 0, 0, 0, 0, 0]);
+    file.set_reg(n, v.with_bytes(half, e, 2));
 }

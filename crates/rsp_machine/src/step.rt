@@ -135,6 +135,7 @@ impl<A: Acc> Machine<A> {
     }
 
     /// A write of an SP register from scalar register `rt`.
+    #[inline(never)]
     #[tactic(auto, unfolding(crate::specs::Step::moves_sp))]
     fn move_to_sp(&mut self, rt: u8, register: u8)
         requires { rt < 32 }

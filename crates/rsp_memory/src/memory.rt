@@ -156,18 +156,8 @@ impl SpMem {
         self.set_byte(a.wrapping_add(3), fourth);
     }
 
-    /// The sixteen bytes from an address on: as many as any one load reads or store writes.
-    #[inline(always)]
-    pub fn window(&self, a: u32) -> [u8; 16]
-        ensures { result ≡ bytes_at self.now a 16 }
-    {
-        match self.whole_window(a) {
-            Some(bytes) => *bytes,
-            None => self.wrapping_window(a),
-        }
-    }
-
-    /// The sixteen bytes from an address on where they stand, unless some wrap.
+    /// The sixteen bytes from an address on, as many as any one load reads or store writes, where they stand: None where some of
+    /// them wrap.
     #[inline(always)]
     pub fn whole_window(&self, a: u32) -> Option<&[u8; 16]>
         ensures { MatchOption result (4080 < a % 4096) (λ bytes. (a % 4096 ≤ 4080) × (bytes.now ≡ bytes_at self.now a 16)) }
@@ -175,12 +165,12 @@ impl SpMem {
         self.bytes[(a % 4096) as usize..].first_chunk::<16>()
     }
 
-    /// The sixteen bytes from an address on, of which some may wrap. Put inline, its single bytes would break up the
-    /// window's one read of sixteen.
+    /// The sixteen bytes from an address on, of which some may wrap. It is for where [`SpMem::whole_window`] gives none: put inline, its
+    /// single bytes would break up the window's one read of sixteen.
     #[cold]
     #[inline(never)]
     #[tactic(auto, using(crate::proofs::Wraps::wrapped))]
-    fn wrapping_window(&self, a: u32) -> [u8; 16]
+    pub fn window(&self, a: u32) -> [u8; 16]
         ensures { result ≡ bytes_at self.now a 16 }
     {
         [
