@@ -5,13 +5,16 @@ ghost use Rattle.rsp_lanes.specs.Bytes.{each_byte, of_bytes, byte_at_place, pack
 use crate::{Bytes16, VReg};
 use std::simd::prelude::*;
 
+/// The byte of a register that stands at each place of its lanes, low byte first.
+const ORDER: [u8; 16] = [1, 0, 3, 2, 5, 4, 7, 6, 9, 8, 11, 10, 13, 12, 15, 14];
+
 /// Sixteen places and then again the first fifteen: the sixteen from any of them on, modulo 16, stand side by side.
 static PLACES: [u8; 31] = [
     0, 1, 2, 3, 4, 5, 6, 7, 8, 9, 10, 11, 12, 13, 14, 15, 0, 1, 2, 3, 4, 5, 6, 7, 8, 9, 10, 11, 12,
     13, 14,
 ];
 
-/// For each of these the byte of a register that stands there in its lanes, low byte first.
+/// For each of these the byte that ORDER has there.
 static ORDERED_PLACES: [u8; 31] = [
     1, 0, 3, 2, 5, 4, 7, 6, 9, 8, 11, 10, 13, 12, 15, 14, 1, 0, 3, 2, 5, 4, 7, 6, 9, 8, 11, 10, 13,
     12, 15,
