@@ -34,14 +34,6 @@ impl Bytes16 {
         }
     }
 
-    /// The bytes as an array.
-    #[inline(always)]
-    pub fn to_array(self) -> [u8; 16]
-        ensures { result ≡ self }
-    {
-        self.bytes.to_array()
-    }
-
     /// The bytes: sixteen, each below 256.
     #[inline(always)]
     pub(crate) fn to_simd(self) -> u8x16

@@ -38,8 +38,6 @@ fn load_row(row: VectorLoadRow, vt: u8, e: usize, a: u32, memory: &SpMem, file: 
         VectorLoadRow::Lsv => load_bytes(vt, e, 2, a, memory, file),
         VectorLoadRow::Llv => load_bytes(vt, e, 4, a, memory, file),
         VectorLoadRow::Ldv => load_bytes(vt, e, 8, a, memory, file),
-        // A whole register: no place of a byte is looked up.
-        VectorLoadRow::Lqv if e + place == 0 => load_bytes(vt, 0, 16, a - a % 16, memory, file),
         VectorLoadRow::Lqv => load_bytes(vt, e, 16 - place, a, memory, file),
         VectorLoadRow::Lrv => load_bytes(vt, 16 - place + e, 16, a - a % 16, memory, file),
         VectorLoadRow::Lpv => load_packed(vt, 256, e, a, memory, file),
@@ -63,7 +61,7 @@ fn window(memory: &SpMem, a: u32) -> Bytes16
 }
 
 /// Loads `n` bytes of a register from byte `i` on, as far as there are; all of them lie in the sixteen from `a` on.
-#[inline(always)]
+#[inline]
 fn load_bytes(vt: u8, i: usize, n: usize, a: u32, memory: &SpMem, file: &mut VFile)
     requires register { vt < 32 }
     requires first { i < 32 }
@@ -76,7 +74,7 @@ fn load_bytes(vt: u8, i: usize, n: usize, a: u32, memory: &SpMem, file: &mut VFi
 }
 
 /// LPV and LUV: loads the eight lanes of a register, with the bytes of a block, times a factor.
-#[inline(always)]
+#[inline]
 fn load_packed(vt: u8, factor: u16, e: usize, a: u32, memory: &SpMem, file: &mut VFile)
     requires register { vt < 32 }
     requires factor { factor ≤ 256 }
@@ -90,7 +88,7 @@ fn load_packed(vt: u8, factor: u16, e: usize, a: u32, memory: &SpMem, file: &mut
 }
 
 /// LHV: loads the eight lanes of a register, with every second byte of a block, times 128.
-#[inline(always)]
+#[inline]
 fn load_halves(vt: u8, e: usize, a: u32, memory: &SpMem, file: &mut VFile)
     requires register { vt < 32 }
     requires element { e < 16 }
@@ -118,7 +116,7 @@ fn load_fourths(vt: u8, e: usize, a: u32, memory: &SpMem, file: &mut VFile)
 }
 
 /// LTV: loads two bytes of each of eight registers, a lane of each.
-#[inline(always)]
+#[inline]
 fn load_transposed(vt: u8, e: usize, a: u32, memory: &SpMem, file: &mut VFile)
     requires register { vt < 32 }
     requires element { e < 16 }

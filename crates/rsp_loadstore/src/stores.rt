@@ -1,7 +1,6 @@
-ghost use Rattle.std.specs.Prelude.{◌≡◌, ◌<◌, ◌≤◌, ◌+◌, ◌%◌, slice_index, take};
+ghost use Rattle.std.specs.Prelude.{◌≡◌, ◌<◌, ◌≤◌, ◌+◌, ◌%◌, slice_index};
 ghost use Rattle.rsp_lanes.specs.Lanes.{each_lane};
 ghost use Rattle.rsp_loadstore.specs.File.{vector};
-ghost use Rattle.rsp_memory.specs.Memory.{with_bytes};
 ghost use Rattle.rsp_decode.specs.Table.{IsInstruction};
 ghost use Rattle.rsp_decode.specs.declared.inst.VectorStoreRow.TheVariants.{Spv, Suv, Shv, Sfv, Swv, Stv};
 ghost use Rattle.rsp_loadstore.specs.Stores.{from_byte, after_store, store_pairs, stored_memory, IsStoreElement};
@@ -9,7 +8,7 @@ ghost use Rattle.rsp_loadstore.specs.Pairs.{for_each};
 
 use crate::VFile;
 use rsp_decode::{Inst, VectorStoreRow};
-use rsp_lanes::{Bytes16, VReg};
+use rsp_lanes::VReg;
 use rsp_memory::SpMem;
 
 /// Executes a vector store at the address `a`, the one that `address` gives; STV stores parts of eight registers.
@@ -51,30 +50,6 @@ fn store_row(row: VectorStoreRow, vt: u8, e: usize, a: u32, file: &VFile, memory
     }
 }
 
-/// Stores the first `n` of sixteen bytes from an address on. Only near the memory's end does a call get them: what a call gets
-/// stands on the stack, and so each arm makes an array of its own.
-#[inline(always)]
-fn store_first(n: usize, bytes: Bytes16, a: u32, memory: &mut SpMem)
-    requires { n ≤ 16 }
-    ensures { memory.new ≡ with_bytes memory.old a (take n bytes) }
-{
-    if memory.whole_window(a).is_some() {
-        memory.set_bytes(a, &bytes.to_array()[..n]);
-    } else {
-        store_near_end(n, bytes.to_array(), a, memory);
-    }
-}
-
-/// The same where some of the sixteen would wrap.
-#[cold]
-#[inline(never)]
-fn store_near_end(n: usize, bytes: [u8; 16], a: u32, memory: &mut SpMem)
-    requires { n ≤ 16 }
-    ensures { memory.new ≡ with_bytes memory.old a (take n bytes) }
-{
-    memory.set_bytes(a, &bytes[..n]);
-}
-
 /// Stores `n` bytes of a register from byte `i` on, modulo 16.
 #[inline(always)]
 fn store_run(vt: u8, i: usize, n: usize, a: u32, file: &VFile, memory: &mut SpMem)
@@ -83,8 +58,7 @@ fn store_run(vt: u8, i: usize, n: usize, a: u32, file: &VFile, memory: &mut SpMe
     requires count { n ≤ 16 }
     ensures { memory.new ≡ after_store file.now memory.old (for_each n (λ k. from_byte vt ((i + k) % 16) (a + k))) }
 {
-    let bytes = Bytes16::from_array(file.reg(vt).bytes_from(i as u8));
-    store_first(n, bytes, a, memory);
+    memory.set_bytes(a, &file.reg(vt).bytes_from(i as u8)[..n]);
 }
 
 /// SPV: stores eight bytes, each of a lane: for a number below 8 its high byte, else its bits 14 to 7.
@@ -94,8 +68,7 @@ fn store_packed(vt: u8, e: usize, a: u32, file: &VFile, memory: &mut SpMem)
     requires element { e < 16 }
     ensures { memory.new ≡ after_store file.now memory.old (store_pairs Spv vt e a) }
 {
-    let bytes = Bytes16::from_array(file.reg(vt).packed_from(e as u8));
-    store_first(8, bytes, a, memory);
+    memory.set_bytes(a, &file.reg(vt).packed_from(e as u8)[..8]);
 }
 
 /// SUV: stores eight bytes, each of a lane: for a number below 8 its bits 14 to 7, else its high byte.
@@ -105,8 +78,7 @@ fn store_unsigned_packed(vt: u8, e: usize, a: u32, file: &VFile, memory: &mut Sp
     requires element { e < 16 }
     ensures { memory.new ≡ after_store file.now memory.old (store_pairs Suv vt e a) }
 {
-    let bytes = Bytes16::from_array(file.reg(vt).packed_from(e as u8 + 8));
-    store_first(8, bytes, a, memory);
+    memory.set_bytes(a, &file.reg(vt).packed_from(e as u8 + 8)[..8]);
 }
 
 /// SHV: stores bits 14 to 7 of eight pairs of bytes, two places apart in a block.
