@@ -9,7 +9,7 @@ fn nine_bits(y: u32) -> usize
     ensures value { result ≡ nine_bits y }
     ensures bound { result < 512 }
 {
-    (y << y.leading_zeros() >> 22 & 511) as usize
+    (((y as u64) << 9 >> (31 - y.leading_zeros())) & 511) as usize
 }
 
 /// An entry with its highest bit, shifted to its place.
