@@ -128,16 +128,6 @@ fn next_place(n: usize, i: usize) -> usize
     if i + 1 == n { 0 } else { i + 1 }
 }
 
-/// The place behind a place.
-#[cold]
-#[inline(never)]
-fn behind(place: usize) -> usize
-    requires { place + 1 < 2 ^ 64 }
-    ensures { result ≡ place + 1 }
-{
-    place + 1
-}
-
 impl Ring {
     /// An empty ring of so many slots.
     pub fn try_new(alloc: Global, depth: usize) -> Result<Ring, AllocError>
@@ -285,15 +275,6 @@ impl Span {
         self.first -= 1;
     }
 
-    /// Changes nothing. It finds the newest record's place from the next one's, so that a step needs to hold that alone.
-    #[inline(always)]
-    fn stay(&mut self)
-        requires { 0 < self.old.far }
-        ensures { self.new ≡ self.old }
-    {
-        self.first = behind(self.next());
-    }
-
     /// Forgets all records.
     #[inline(always)]
     fn forget(&mut self)
@@ -332,10 +313,8 @@ impl Span {
         let made = machine.record_step(slot);
         match made.end {
             StepEnd::Done => {}
-            StepEnd::Halted | StepEnd::Reserved { .. } => {
-                self.stay();
-                return Made::Stuck;
-            }
+            StepEnd::Halted => return Made::Stuck,
+            StepEnd::Reserved { word: _ } => return Made::Stuck,
         }
         self.grow();
         if !made.is_back {
