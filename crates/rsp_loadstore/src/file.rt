@@ -49,7 +49,7 @@ impl VFile {
         self.at(n as usize)
     }
 
-    /// The same for a number that counts registers: one behind the other they stand at fixed distances.
+    /// Register `n`, below 32, by an index. Of indexes LLVM sees that registers one behind the other stand at fixed distances.
     #[inline(always)]
     #[tactic(auto, using(std::proofs::lemmas::List::get_or_default), unfolding(crate::specs::File::vector))]
     pub(crate) fn at(&self, n: usize) -> VReg
@@ -68,7 +68,7 @@ impl VFile {
         self.put(n as usize, v);
     }
 
-    /// The same for a number that counts registers.
+    /// Writes register `n`, below 32, by an index; the others stay.
     #[inline(always)]
     #[tactic(auto, unfolding(crate::specs::File::with_vector))]
     pub(crate) fn put(&mut self, n: usize, v: VReg)
