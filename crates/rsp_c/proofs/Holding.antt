@@ -1,0 +1,62 @@
+-- The steps of a handle's walks. Assumes `Logic`.
+use mathlib.Core.Path.{◌≡◌, refl, subst}
+use mathlib.Core.List.{List, [], ◌∷◌, ◌++◌}
+use Prim.Native.Nat.{ℕ}
+use seplogic.Ra.Ura.{Ura}
+use mir.Raw.{raw as bare}
+use mir.Val.{Val, vstruct, vcons, vnil, of_list}
+use base.Fraction.{full_share}
+use base.Logic.{SProp, ent, guard, never, fst∗, snd∗, via, guard_i}
+use types.Logic.{Logic, sem}
+use types.Kit.{Item, Goal, Seq, Step, step, ‵, given, ◌$◌, move, drop, fsplit, fjoin, fpick, fpack, feq_l, feq_i, learn, use1}
+use contract.Monad.{fact_use}
+use denote.RattleType.{Valss}
+use denote.Builtin.{RawPtr}
+use denote.Memory.{lone}
+use denote.RawPtr.{Ptr, block_ptr, null_ptr, ptr_val, in_a_block, lies_at, Testable}
+use denote.Steps.{nothing}
+use denote.Struct.Struct.{within}
+use denote.Struct.Owning.{shape}
+use Rattle.std.specs.Prelude.{Option, None, Some}
+use Rattle.std.specs.Box.Ownership.{box_owns}
+use Rattle.std.specs.Global.{Global}
+use Rattle.std.proofs.GlobalToken.{dealloc_token-Testable}
+use Rattle.std.proofs.alloc.Calls.{Fits, handle_tells}
+use Rattle.std_heap.specs.contracts.GlobalAllocator.TheImpl.{ghosts}
+use Rattle.rsp_c.specs.Holding.{Opened, holding}
+use Rattle.rsp_c.specs.contracts.handle.Handle as Handle
+use Rattle.rsp_c.proofs.AsBox.{E}
+
+abbrev pub boxed : Global → Ptr → Opened → base.Fml.Fml
+boxed a p x = box_owns (ghosts.dealloc_token a) E.row p x
+
+abbrev pub pair : Val → Val → Val
+pair v w = vstruct (vcons v (vcons w vnil))
+
+module _ {M : Type 1} {𝓤 : Ura M} (𝓛 : Logic 𝓤) where
+  -- a session's block may be compared with null
+  pub tested : (a : Global) (p : Ptr) (x : Opened) → ent 𝓤 (sem 𝓛 (boxed a p x)) (guard 𝓤 (Testable p) (sem 𝓛 (boxed a p x)))
+  tested a p x = let B : SProp 𝓤 = sem 𝓛 (boxed a p x) in
+      fact_use 𝓤 (Testable p) (via 𝓤 _ (snd∗ 𝓤 (sem 𝓛 (lies_at E.row full_share p x)) (sem 𝓛 (ghosts.dealloc_token a (bare (lone E.row.mir)) p))) (dealloc_token-Testable 𝓛 a (bare (lone E.row.mir)) p)) (guard_i 𝓤 (Testable p) B)
+
+module _ {M : Type 1} {𝓤 : Ura M} {𝓛 : Logic 𝓤} {K : Type 0} {Γ : List (Item 𝓤)} {G : Goal 𝓤 𝓛.H} where
+  -- a handle is null and holds none, or leads to a block that holds one
+  pub either : K → (a : Global) (p : Ptr) (s : Option Opened) → (p ≡ null_ptr → s ≡ None → Seq K 𝓛 Γ G)
+      → ((b o : ℕ) (x : Opened) → p ≡ block_ptr b o → s ≡ Some x → Testable (block_ptr b o) → Seq K 𝓛 (‵ (boxed a (block_ptr b o) x) ∷ Γ) G) → Seq K 𝓛 (‵ (holding a p s) ∷ Γ) G
+  either t a p None none one = feq_l t (λ e. none e refl)
+  either t a p (Some x) none one =
+      in_a_block t p (λ q. boxed a q x) (fst∗ 𝓤 (never 𝓤) (sem 𝓛 (ghosts.dealloc_token a (bare (lone E.row.mir)) null_ptr))) (λ b o e.
+      use1 𝓛 (given (Testable (block_ptr b o)) (‵ (boxed a (block_ptr b o) x))) (tested 𝓛 a (block_ptr b o) x) $ learn t (λ test. one b o x e refl test))
+
+  -- a handle by value is [what it holds; the allocator]
+  pub held_out : K → (d : Handle.the_row.Denot) (vs : List Val)
+      → ((h : Val) → vs ≡ pair (ptr_val d.at) h ∷ [] → Fits E.al h → Seq K 𝓛 (‵ (holding d.alloc d.at d.session) ∷ ‵ (E.al.row.own_val d.alloc (h ∷ [])) ∷ Γ) G) → Seq K 𝓛 (‵ (Handle.the_row.own_val d vs) ∷ Γ) G
+  held_out t d vs k =
+      fsplit t $ fpick t (λ vss. fsplit t $ feq_l t (λ ev. fsplit t $ feq_l t (λ ep. fsplit t $ handle_tells E.al t d.alloc vss.1.0 (λ h ea fits. move t (1 ∷ []) $ drop t $ move t (1 ∷ []) $ k h
+      (subst (λ (ws : List Val). vs ≡ vstruct (of_list (ptr_val d.at ∷ (ws ++ []))) ∷ []) ea (subst (λ (ps : List Val). vs ≡ vstruct (of_list (ps ++ (vss.1.0 ++ []))) ∷ []) ep ev)) fits))))
+
+  pub held_in : K → (d : Handle.the_row.Denot) (h : Val)
+      → Step K 𝓛 (‵ (Handle.the_row.own_val d (pair (ptr_val d.at) h ∷ [])) ∷ Γ) G (‵ (holding d.alloc d.at d.session) ∷ ‵ (E.al.row.own_val d.alloc (h ∷ [])) ∷ Γ) G
+  held_in t d h = step (λ s. let v : Val = pair (ptr_val d.at) h in let p : List Val = ptr_val d.at ∷ [] in
+      nothing t $ move t (2 ∷ 0 ∷ []) $ fjoin t $ feq_i t (List Val) p p refl $ fjoin t $ feq_i t (List Val) (v ∷ []) (v ∷ []) refl $ fjoin t $
+      fpack t (Valss (RawPtr ∷ E.al.row ∷ [])) (within (shape Handle.the_type) (d.at, (((tt, tt), tt), tt)) (v ∷ [])) (p, (h ∷ [], tt)) $ fjoin t $ s)

@@ -1,0 +1,75 @@
+// What crosses to C behind a pointer.
+
+/// Where a run stopped.
+#[repr(C)]
+#[derive(Clone, Copy, Drop)]
+pub struct RspStop {
+    /// 0 at a reserved word, 1 halted, 2 at a watch, 3 at a breakpoint, 4 where all steps are made.
+    pub reason: u32,
+    /// How many steps it made.
+    pub steps: u32,
+    /// The watch's number, if it stopped at one, and else 0.
+    pub watch: usize,
+    /// The place of the next instruction.
+    pub pc: u16,
+}
+
+/// The places and the scalar registers.
+#[repr(C)]
+#[derive(Clone, Copy, Drop)]
+pub struct RspRegs {
+    /// The 32 scalar registers.
+    pub words: [u32; 32],
+    /// The place of the next instruction.
+    pub pc: u16,
+    /// The place of the one after it.
+    pub npc: u16,
+}
+
+/// A vector register.
+#[repr(C)]
+#[derive(Clone, Copy, Drop)]
+pub struct RspLanes {
+    /// Its lanes.
+    pub lanes: [u16; 8],
+}
+
+/// What an assembly came to.
+#[repr(C)]
+#[derive(Clone, Copy, Drop)]
+pub struct RspAssembled {
+    /// How many words there are.
+    pub count: usize,
+    /// The number of the line that has a fault, from 1.
+    pub line: usize,
+    /// The number of the fault, 10 to 17, or 33 where the text isn't UTF-8.
+    pub fault: u32,
+}
+
+/// The accumulators.
+#[repr(C)]
+#[derive(Clone, Copy, Drop)]
+pub struct RspAcc {
+    /// Bits 32 to 47 of each.
+    pub high: [u16; 8],
+    /// Bits 16 to 31 of each.
+    pub middle: [u16; 8],
+    /// Bits 0 to 15 of each.
+    pub low: [u16; 8],
+}
+
+/// The flags, a bit for each lane.
+#[repr(C)]
+#[derive(Clone, Copy, Drop)]
+pub struct RspFlags {
+    /// The low half of VCO.
+    pub carry: u8,
+    /// The high half of VCO.
+    pub differ: u8,
+    /// The low half of VCC.
+    pub compare: u8,
+    /// The high half of VCC.
+    pub clip: u8,
+    /// VCE.
+    pub extra: u8,
+}
