@@ -1,4 +1,4 @@
-ghost use Rattle.std.specs.Prelude.{◌≡◌, ℕ, ◌+◌, ◌-◌, ◌*◌, ◌/◌, ◌^◌, ◌<◌, ◌≤◌, ◌++◌, take, drop, length, slice_index};
+ghost use Rattle.std.specs.Prelude.{◌≡◌, ℕ, ◌+◌, ◌-◌, ◌*◌, ◌/◌, ◌^◌, ◌<◌, ◌≤◌, [], ◌++◌, take, drop, length, slice_index};
 ghost use Rattle.std.specs.List.{flat_map};
 ghost use Rattle.rsp_regs.specs.Sp.{peeked};
 ghost use Rattle.rsp_reply.specs.Text.{each_text, hex_text};
@@ -16,7 +16,7 @@ fn push_word(reply: &mut Reply, word: u32)
     ensures len { length reply.new ≡ length reply.old + 9 }
 {
     reply.push_text(b" ");
-    reply.push_hex(u64::from(word), 8);
+    reply.push_hex(word, 8);
 }
 
 /// Four registers from `first` on.
@@ -57,18 +57,17 @@ fn push_register_lines(reply: &mut Reply, words: &[u32; 32])
 
 /// The places and the scalar registers.
 #[tactic(auto, using(rsp_reply::proofs::Texts::parts), unfolding(crate::specs::Looks::registers_text))]
-pub(crate) fn registers<A: Acc>(debugger: &Debugger<A>) -> Reply
-    ensures { result ≡ registers_text debugger.now.state }
+pub(crate) fn tell_registers<A: Acc>(reply: &mut Reply, debugger: &Debugger<A>)
+    requires { reply.old ≡ [] }
+    ensures { reply.new ≡ registers_text debugger.now.state }
 {
     let places = debugger.regs();
-    let mut reply = Reply::new();
     reply.push_text(b"pc ");
-    reply.push_hex(u64::from(places.pc), 3);
+    reply.push_hex(u32::from(places.pc), 3);
     reply.push_text(b" npc ");
-    reply.push_hex(u64::from(places.npc), 3);
+    reply.push_hex(u32::from(places.npc), 3);
     reply.push_text(b"\n");
-    push_register_lines(&mut reply, &places.words);
-    reply
+    push_register_lines(reply, &places.words);
 }
 
 /// One SP register: its number below 16, and its value.
@@ -98,14 +97,13 @@ fn push_sp_lines(reply: &mut Reply, sp: &SpRegs)
 
 /// The SP registers as they would read, and the interrupt flag.
 #[tactic(auto, using(rsp_reply::proofs::Texts::parts), unfolding(crate::specs::Looks::sp_text))]
-pub(crate) fn sp_registers(sp: &SpRegs) -> Reply
-    ensures { result ≡ sp_text sp.now }
+pub(crate) fn tell_sp_registers(reply: &mut Reply, sp: &SpRegs)
+    requires { reply.old ≡ [] }
+    ensures { reply.new ≡ sp_text sp.now }
 {
-    let mut reply = Reply::new();
-    push_sp_lines(&mut reply, sp);
+    push_sp_lines(reply, sp);
     reply.push_text(b"interrupt ");
     reply.push_text(if sp.interrupt() { b"1\n" } else { b"0\n" });
-    reply
 }
 
 #[tactic(auto, using(rsp_reply::proofs::Texts::parts))]
@@ -115,7 +113,7 @@ fn push_bytes(reply: &mut Reply, bytes: &[u8])
     ensures len { length reply.new ≡ length reply.old + 2 * length bytes.now }
 {
     for byte in bytes {
-        reply.push_hex(u64::from(*byte), 2);
+        reply.push_hex(u32::from(*byte), 2);
     }
 }
 
@@ -126,7 +124,7 @@ fn push_dump_line(reply: &mut Reply, a: u32, bytes: &[u8])
     ensures text { reply.new ≡ reply.old ++ dump_line a bytes.now }
     ensures len { length reply.new ≤ length reply.old + 41 }
 {
-    reply.push_hex(u64::from(a), 6);
+    reply.push_hex(a, 6);
     reply.push_text(b": ");
     push_bytes(reply, bytes);
     reply.push_text(b"\n");
@@ -152,28 +150,17 @@ fn push_dump_row(reply: &mut Reply, a: u32, bytes: &[u8], k: usize)
     push_dump_line(reply, a + start as u32, first_line(&bytes[start..]));
 }
 
-#[tactic(auto, using(rsp_reply::proofs::Texts::parts))]
-fn push_dump_lines(reply: &mut Reply, a: u32, bytes: &[u8])
+/// At most 256 bytes that stand at an address, 16 in a line.
+#[tactic(auto, using(rsp_reply::proofs::Texts::parts), unfolding(crate::specs::Looks::dump_text))]
+pub(crate) fn tell_dump(reply: &mut Reply, a: u32, bytes: &[u8])
     requires place { a + length bytes.now < 2 ^ 31 }
     requires few { length bytes.now ≤ 256 }
-    requires room { length reply.old + 656 ≤ REPLY_LIMIT }
-    ensures { reply.new ≡ reply.old ++ each_text (λ k. dump_line (a + 16 * k) (take 16 (drop (16 * k) bytes.now))) ((length bytes.now + 15) / 16) }
+    requires empty { reply.old ≡ [] }
+    ensures { reply.new ≡ dump_text a bytes.now }
 {
     for k in 0..(bytes.len() + 15) / 16 {
         push_dump_row(reply, a, bytes, k);
     }
-}
-
-/// At most 256 bytes that stand at an address, 16 in a line.
-#[tactic(auto, using(rsp_reply::proofs::Texts::parts), unfolding(crate::specs::Looks::dump_text))]
-pub(crate) fn dump(a: u32, bytes: &[u8]) -> Reply
-    requires place { a + length bytes.now < 2 ^ 31 }
-    requires few { length bytes.now ≤ 256 }
-    ensures { result ≡ dump_text a bytes.now }
-{
-    let mut reply = Reply::new();
-    push_dump_lines(&mut reply, a, bytes);
-    reply
 }
 
 #[tactic(auto, using(rsp_reply::proofs::Texts::parts), unfolding(crate::specs::Looks::listed_line))]
@@ -182,7 +169,7 @@ fn push_listed_line(reply: &mut Reply, listed: &Listed)
     ensures text { reply.new ≡ reply.old ++ listed_line listed.now }
     ensures len { length reply.new ≤ length reply.old + 78 }
 {
-    reply.push_hex(u64::from(listed.place), 3);
+    reply.push_hex(u32::from(listed.place), 3);
     push_word(reply, listed.word);
     reply.push_text(b" ");
     reply.push_text(listed.text.as_str().as_bytes());
@@ -191,13 +178,12 @@ fn push_listed_line(reply: &mut Reply, listed: &Listed)
 
 /// At most 64 words of IMEM, a line each.
 #[tactic(auto, using(rsp_reply::proofs::Texts::parts), unfolding(crate::specs::Looks::listing_text))]
-pub(crate) fn listing(words: &[Listed]) -> Reply
-    requires { length words.now ≤ 64 }
-    ensures { result ≡ listing_text words.now }
+pub(crate) fn tell_listing(reply: &mut Reply, words: &[Listed])
+    requires few { length words.now ≤ 64 }
+    requires empty { reply.old ≡ [] }
+    ensures { reply.new ≡ listing_text words.now }
 {
-    let mut reply = Reply::new();
     for listed in words {
-        push_listed_line(&mut reply, listed);
+        push_listed_line(reply, listed);
     }
-    reply
 }

@@ -6,7 +6,7 @@ ghost use Rattle.rsp_block.specs.Source.{with_line, meaning};
 ghost use Rattle.rsp_bench.specs.Session.{NeedsNoMemory, HidesNoFault, EndHidesNoFault, answer_of, plain_answer, block_answer, with_block, end_answer, line_answer, first_session, closing, in_block};
 ghost use Rattle.rsp_bench.specs.Replies.{line_fault_text};
 
-use crate::replies::{asm_fault_reply, line_fault_reply, ok_reply, words_reply};
+use crate::replies::{tell_asm_fault, tell_line_fault, tell_ok, tell_words};
 use crate::words::load_words;
 use rsp_acc::PlaneAcc;
 use rsp_block::{AsmFault, AsmFaultKind, Block, BlockFault};
@@ -62,42 +62,40 @@ impl Session {
     }
 
     /// Does a command where no block is open.
-    fn answer_plain(&mut self, alloc: Global, command: &Command) -> Reply
+    fn answer_plain(&mut self, alloc: Global, command: &Command, reply: &mut Reply)
         requires command { IsCommand command.now }
         requires closed { self.old.block ≡ None }
-        ensures reply { result ≡ (plain_answer command.now self.old).reply }
+        requires empty { reply.old ≡ [] }
+        ensures reply { reply.new ≡ (plain_answer command.now self.old).reply }
         ensures next { self.new ≡ (plain_answer command.now self.old).next }
     {
         match command {
-            Command::Nothing => Reply::new(),
+            Command::Nothing => {}
             Command::Load {
                 bank,
                 address,
                 bytes,
-            } => self.load(*bank, *address, bytes.as_slice()),
-            Command::Step => self.step(),
-            Command::Run { limit } => self.run(*limit),
-            Command::Break { address } => self.add_break(*address),
-            Command::Unbreak { address } => self.drop_break(*address),
-            Command::Watch { address, len } => self.add_watch(*address, *len),
-            Command::Unwatch { number } => self.drop_watch(*number),
-            Command::Back { count } => self.back(*count),
-            Command::Read { register } => self.read(*register),
+            } => self.load(*bank, *address, bytes.as_slice(), reply),
+            Command::Step => self.step(reply),
+            Command::Run { limit } => self.run(*limit, reply),
+            Command::Break { address } => self.add_break(*address, reply),
+            Command::Unbreak { address } => self.drop_break(*address, reply),
+            Command::Watch { address, len } => self.add_watch(*address, *len, reply),
+            Command::Unwatch { number } => self.drop_watch(*number, reply),
+            Command::Back { count } => self.back(*count, reply),
+            Command::Read { register } => self.read(*register, reply),
             Command::Write { register, value } => {
                 self.debugger.write_reg(u32::from(*register), *value);
-                ok_reply()
+                tell_ok(reply);
             }
             Command::SetPc { address } => {
                 self.debugger.set_pc(*address);
-                ok_reply()
+                tell_ok(reply);
             }
-            Command::Task { address } => self.start(*address),
-            Command::Show(look) => self.show(look),
-            Command::Asm { address } => {
-                self.block = Some(Block::new(alloc, *address));
-                Reply::new()
-            }
-            Command::BlockLine(_) | Command::End => line_fault_reply(LineFault::BadCommand),
+            Command::Task { address } => self.start(*address, reply),
+            Command::Show(look) => self.show(look, reply),
+            Command::Asm { address } => self.block = Some(Block::new(alloc, *address)),
+            Command::BlockLine(_) | Command::End => tell_line_fault(reply, LineFault::BadCommand),
         }
     }
 
@@ -115,9 +113,10 @@ impl Session {
     }
 
     /// Closes the open block: its words go to IMEM, or its fault is told.
-    fn end(&mut self, alloc: Global) -> Result<Reply, AllocError>
+    fn end(&mut self, alloc: Global, reply: &mut Reply) -> Result<(), AllocError>
         requires open { IsSome self.old.block }
-        ensures reply { IfOk result (λ reply. IfSome self.old.block (λ b. reply ≡ (end_answer b (meaning b) self.old).reply)) }
+        requires empty { reply.old ≡ [] }
+        ensures reply { OnOk result (IfSome self.old.block (λ b. reply.new ≡ (end_answer b (meaning b) self.old).reply)) }
         ensures next { OnOk result (IfSome self.old.block (λ b. self.new ≡ (end_answer b (meaning b) self.old).next)) }
         ensures err { OnErr result (self.new ≡ self.old) }
         ensures hides { OnErr result (IfSome self.old.block HidesNoFault) }
@@ -125,16 +124,16 @@ impl Session {
         let Some(block) = &self.block else {
             unreachable!();
         };
-        let reply = match block.assemble(alloc) {
+        match block.assemble(alloc) {
             Ok(words) => {
                 load_words(&mut self.debugger, block.place(), words.as_slice());
-                words_reply(words.len())
+                tell_words(reply, words.len());
             }
-            Err(BlockFault::Text(fault)) => asm_fault_reply(fault),
+            Err(BlockFault::Text(fault)) => tell_asm_fault(reply, fault),
             Err(BlockFault::OutOfMemory { .. }) => return Err(AllocError),
-        };
+        }
         self.block = None;
-        Ok(reply)
+        Ok(())
     }
 
     /// Does a command that `parse_line` gave, and answers it. Only a line of an open block and its end may need memory;
@@ -149,91 +148,57 @@ impl Session {
         ensures err { OnErr result (self.new ≡ self.old) }
         ensures hides { OnErr result (EndHidesNoFault command.now self.old) }
     {
-        if !self.in_block() {
-            return Ok(self.answer_plain(alloc, command));
-        }
-        match command {
-            Command::BlockLine(line) => {
-                self.keep(line)?;
-                Ok(Reply::new())
-            }
-            Command::End => self.end(alloc),
-            _ => Ok(line_fault_reply(LineFault::BadCommand)),
-        }
+        let mut reply = Reply::new();
+        self.exec_to(alloc, command, &mut reply)?;
+        Ok(reply)
     }
 
-    /// Does a command as `exec` does; the answer takes the place of what stood in the reply. It is a call of its own, so that a line
-    /// that says nothing doesn't pay for the replies of 8 KB that are moved here.
-    #[inline(never)]
+    /// Does a command as `exec` does, and answers it in a reply that says nothing so far.
+    #[tactic(auto, unfolding(crate::specs::Session::answer_of))]
     fn exec_to(
         &mut self,
         alloc: Global,
         command: &Command,
         reply: &mut Reply,
     ) -> Result<(), AllocError>
-        requires { IsCommand command.now }
+        requires command { IsCommand command.now }
+        requires empty { reply.old ≡ [] }
+        ensures answered { NeedsNoMemory command.now self.old → IsOk result }
         ensures reply { OnOk result (reply.new ≡ (answer_of command.now self.old).reply) }
         ensures next { OnOk result (self.new ≡ (answer_of command.now self.old).next) }
         ensures err { OnErr result (self.new ≡ self.old) }
-    {
-        *reply = self.exec(alloc, command)?;
-        Ok(())
-    }
-
-    /// Does a command as `exec_to` does, and at once where it says nothing.
-    #[tactic(auto, unfolding(crate::specs::Session::answer_of))]
-    fn exec_quickly(
-        &mut self,
-        alloc: Global,
-        command: &Command,
-        reply: &mut Reply,
-    ) -> Result<(), AllocError>
-        requires { IsCommand command.now }
-        ensures reply { OnOk result (reply.new ≡ (answer_of command.now self.old).reply) }
-        ensures next { OnOk result (self.new ≡ (answer_of command.now self.old).next) }
-        ensures err { OnErr result (self.new ≡ self.old) }
+        ensures hides { OnErr result (EndHidesNoFault command.now self.old) }
     {
         match (command, self.in_block()) {
-            (Command::Nothing, false) => reply.clear(),
-            (Command::BlockLine(line), true) => {
-                self.keep(line)?;
-                reply.clear();
-            }
-            _ => self.exec_to(alloc, command, reply)?,
+            (command, false) => self.answer_plain(alloc, command, reply),
+            (Command::BlockLine(line), true) => self.keep(line)?,
+            (Command::End, true) => self.end(alloc, reply)?,
+            _ => tell_line_fault(reply, LineFault::BadCommand),
         }
         Ok(())
     }
 
-    /// Does what a line of a script says, and answers it. The answer takes the place of what stood in the reply.
-    #[tactic(auto, unfolding(crate::specs::Session::line_answer))]
-    fn answer_line(
-        &mut self,
-        alloc: Global,
-        line: &[u8],
-        reply: &mut Reply,
-    ) -> Result<(), AllocError>
-        ensures reply { OnOk result (reply.new ≡ (line_answer line.now self.old).reply) }
-        ensures next { OnOk result (self.new ≡ (line_answer line.now self.old).next) }
-        ensures err { OnErr result (self.new ≡ self.old) }
+    /// Says what is left at the end of a script in a reply that says nothing so far.
+    fn finish_to(&self, reply: &mut Reply)
+        requires { reply.old ≡ [] }
+        ensures { reply.new ≡ closing self.now }
     {
-        match parse_line(line, self.in_block()) {
-            Ok(command) => self.exec_quickly(alloc, &command, reply)?,
-            Err(fault) => refuse(fault, reply),
+        if let Some(block) = &self.block {
+            let fault = AsmFault {
+                line: block.line_count() + 1,
+                kind: AsmFaultKind::BadLine,
+            };
+            tell_asm_fault(reply, fault);
         }
-        Ok(())
     }
 
     /// What is left to say at the end of a script: the fault of an open block, else nothing.
     pub fn finish(&self) -> Reply
         ensures { result ≡ closing self.now }
     {
-        match &self.block {
-            None => Reply::new(),
-            Some(block) => asm_fault_reply(AsmFault {
-                line: block.line_count() + 1,
-                kind: AsmFaultKind::BadLine,
-            }),
-        }
+        let mut reply = Reply::new();
+        self.finish_to(&mut reply);
+        reply
     }
 
     /// The image of the RDRAM; the rest of the session is dropped.
@@ -245,30 +210,27 @@ impl Session {
     }
 }
 
-/// Answers a line that is no command.
-#[inline(never)]
-fn refuse(fault: LineFault, reply: &mut Reply)
-    ensures { reply.new ≡ line_fault_text fault }
-{
-    *reply = line_fault_reply(fault);
-}
-
 impl Answering for Session {
     ghost use Rattle.rsp_bench.specs.Session.{line_answer, closing};
     ghost use Rattle.rsp_bench.specs.Alike.{long_alike};
-
-    type Reply = Reply;
 
     ghost answered = { line_answer };
 
     ghost closing = { closing };
 
+    #[tactic(auto, unfolding(crate::specs::Session::line_answer))]
     fn answer(&mut self, alloc: Global, line: &[u8], reply: &mut Reply) -> Result<(), AllocError> {
-        self.answer_line(alloc, line, reply)
+        reply.clear();
+        match &parse_line(line, self.in_block()) {
+            Ok(command) => self.exec_to(alloc, command, reply)?,
+            Err(fault) => tell_line_fault(reply, *fault),
+        }
+        Ok(())
     }
 
-    fn close(&self) -> Reply {
-        self.finish()
+    fn close(&self, reply: &mut Reply) {
+        reply.clear();
+        self.finish_to(reply);
     }
 
     ghost alike = { long_alike };

@@ -1,4 +1,4 @@
-ghost use Rattle.std.specs.Prelude.{◌≡◌, ℕ, ◌+◌, ◌*◌, ◌<◌, ◌≤◌, ◌++◌, List, length, slice_index};
+ghost use Rattle.std.specs.Prelude.{◌≡◌, ℕ, ◌+◌, ◌*◌, ◌<◌, ◌≤◌, [], ◌++◌, List, length, slice_index};
 ghost use Rattle.rsp_loadstore.specs.File.{vector};
 ghost use Rattle.rsp_reply.specs.Text.{each_text};
 ghost use Rattle.rsp_bench.specs.Looks.{half_text, vector_line, vectors_text, accumulator_line, accumulators_text, flags_text};
@@ -18,7 +18,7 @@ fn push_half(reply: &mut Reply, half: u16)
     ensures len { length reply.new ≡ length reply.old + 5 }
 {
     reply.push_text(b" ");
-    reply.push_hex(u64::from(half), 4);
+    reply.push_hex(u32::from(half), 4);
 }
 
 #[tactic(auto, using(rsp_reply::proofs::Texts::parts))]
@@ -45,25 +45,15 @@ fn push_vector_line(reply: &mut Reply, n: u8, register: &VReg)
     reply.push_text(b"\n");
 }
 
-#[tactic(auto, using(rsp_reply::proofs::Texts::parts))]
-fn push_vector_lines<A: Acc>(reply: &mut Reply, debugger: &Debugger<A>)
-    requires { length reply.old + 1408 ≤ REPLY_LIMIT }
-    ensures { reply.new ≡ reply.old ++ each_text (λ n. vector_line n (vector debugger.now.state.vectors n)) 32 }
-{
-    for n in 0..32 {
-        let register = debugger.vreg(n);
-        push_vector_line(reply, n, &register);
-    }
-}
-
 /// The 32 vector registers.
 #[tactic(auto, using(rsp_reply::proofs::Texts::parts), unfolding(crate::specs::Looks::vectors_text))]
-pub(crate) fn vector_registers<A: Acc>(debugger: &Debugger<A>) -> Reply
-    ensures { result ≡ vectors_text debugger.now.state.vectors }
+pub(crate) fn tell_vector_registers<A: Acc>(reply: &mut Reply, debugger: &Debugger<A>)
+    requires { reply.old ≡ [] }
+    ensures { reply.new ≡ vectors_text debugger.now.state.vectors }
 {
-    let mut reply = Reply::new();
-    push_vector_lines(&mut reply, debugger);
-    reply
+    for n in 0..32 {
+        push_vector_line(reply, n, &debugger.vreg(n));
+    }
 }
 
 /// One accumulator, by its parts.
@@ -77,9 +67,9 @@ fn push_accumulator_line(reply: &mut Reply, i: u8, high: u16, middle: u16, low: 
     reply.push_text(b"a");
     reply.push_decimal(i);
     reply.push_text(b" ");
-    reply.push_hex(u64::from(high), 4);
-    reply.push_hex(u64::from(middle), 4);
-    reply.push_hex(u64::from(low), 4);
+    reply.push_hex(u32::from(high), 4);
+    reply.push_hex(u32::from(middle), 4);
+    reply.push_hex(u32::from(low), 4);
     reply.push_text(b"\n");
 }
 
@@ -97,38 +87,36 @@ fn push_accumulator_lines(reply: &mut Reply, high: &VReg, middle: &VReg, low: &V
 
 /// The eight accumulators.
 #[tactic(auto, using(rsp_reply::proofs::Texts::parts))]
-pub(crate) fn accumulators<A: Acc>(debugger: &Debugger<A>) -> Reply
-    ensures { result ≡ accumulators_text debugger.now.state.accumulators }
+pub(crate) fn tell_accumulators<A: Acc>(reply: &mut Reply, debugger: &Debugger<A>)
+    requires { reply.old ≡ [] }
+    ensures { reply.new ≡ accumulators_text debugger.now.state.accumulators }
 {
-    let mut reply = Reply::new();
     let (high, middle, low) = debugger.acc();
-    push_accumulator_lines(&mut reply, &high, &middle, &low);
-    reply
+    push_accumulator_lines(reply, &high, &middle, &low);
 }
 
-fn control_half(low: Mask8, high: Mask8) -> u64
+fn control_half(low: Mask8, high: Mask8) -> u32
     ensures { result ≡ control_half low high }
 {
-    low.bits() + high.bits() * 256
+    (low.bits() + high.bits() * 256) as u32
 }
 
 /// The control registers, and the divider.
 #[tactic(auto, using(rsp_reply::proofs::Texts::parts), unfolding(crate::specs::Looks::flags_text))]
-pub(crate) fn flags_and_divider(flags: &Flags, divider: &Divider) -> Reply
-    ensures { result ≡ flags_text flags.now divider.now }
+pub(crate) fn tell_flags(reply: &mut Reply, flags: &Flags, divider: &Divider)
+    requires { reply.old ≡ [] }
+    ensures { reply.new ≡ flags_text flags.now divider.now }
 {
-    let mut reply = Reply::new();
     reply.push_text(b"vco ");
     reply.push_hex(control_half(flags.carry, flags.differ), 4);
     reply.push_text(b" vcc ");
     reply.push_hex(control_half(flags.compare, flags.clip), 4);
     reply.push_text(b" vce ");
-    reply.push_hex(flags.extra.bits(), 2);
+    reply.push_hex(flags.extra.bits() as u32, 2);
     reply.push_text(b" in ");
-    reply.push_hex(u64::from(divider.input), 4);
+    reply.push_hex(u32::from(divider.input), 4);
     reply.push_text(b" out ");
-    reply.push_hex(u64::from(divider.output), 4);
+    reply.push_hex(u32::from(divider.output), 4);
     reply.push_text(b" loaded ");
     reply.push_text(if divider.loaded { b"1\n" } else { b"0\n" });
-    reply
 }

@@ -16,11 +16,15 @@ pub fn is_plain(c: u8) -> bool
     c == b'\t' || matches!(c, b' '..=b'~')
 }
 
-/// Whether each byte may stand in a line.
+/// Whether each byte may stand in a line. It looks at all of them, many at a time.
 pub fn is_text(line: &[u8]) -> bool
     ensures { result ≡ list_all is_plain line.now }
 {
-    line.iter().all(|c| is_plain(*c))
+    let mut plain = true;
+    for c in line {
+        plain &= is_plain(*c);
+    }
+    plain
 }
 
 /// Whether a line has at most 256 bytes, and each of them may stand in a line.

@@ -1,7 +1,7 @@
 -- Pieces that are answered one after another.
-use Rattle.std.proofs.Common.{◌≡◌, ℕ, false, List, [], ◌∷◌, ◌++◌, Option, ◌+◌, ◌<◌, length, take, drop, get_or, refl, sym, ◌∙◌, ap}
-use Rattle.std.proofs.lemmas.List.{append-nil, take_more, take-append-drop}
-use Rattle.std.specs.Prelude.{cond}
+use Rattle.std.proofs.Common.{◌≡◌, ℕ, List, [], ◌∷◌, ◌++◌, Option, ◌<◌, length, refl, sym, ◌∙◌, ap, subst, append_assoc, arith}
+use Rattle.std.proofs.lemmas.List.{append-nil, take_all}
+use Rattle.std.specs.List.{position_or_len, before_first, after_first}
 use Rattle.std.specs.Io.KnownBytes.{append_known}
 use Rattle.std.specs.Str.Lines.{strip_carriage_return}
 use Rattle.rsp_lines.specs.Answers.{Answers}
@@ -12,20 +12,20 @@ use Rattle.rsp_lines.proofs.Alike.{answered-like, replies-kept, final-kept}
 use Rattle.rsp_lines.proofs.Kept.{kept-kept, open-kept}
 use Rattle.rsp_lines.proofs.KnownEnds.{append_known-nil, append_known-append}
 use Rattle.rsp_lines.proofs.Left.{front-along, front-first, front-then}
-use Rattle.rsp_lines.proofs.Pieces.{ended-append, open-append}
+use Rattle.rsp_lines.proofs.Pieces.{ended-append, open-append, ended-line, open-line, cut_at_newline}
 use Rattle.rsp_lines.proofs.Replies.{replies-append, final-append}
 
 module _ {S : Type 0} (answered : List ℕ → S → Answered S) (alike : AnswersLongAlike answered) where
   pub answers-none : (w : Option (List ℕ)) (line : List ℕ) (s : S) → Answers answered w w line line s s []
   answers-none w line s = record { written = sym (append_known-nil w); session = refl; last = refl }
 
-  -- another byte goes into the line
-  pub answers-other : (w : Option (List ℕ)) (line : List ℕ) (b : ℕ) (s : S) → is_newline b ≡ false
-      → Answers answered w w line (kept (line ++ b ∷ [])) s s (b ∷ [])
-  answers-other w line b s e = record {
-    written = sym (append_known-nil w) ∙ ap (λ t. append_known w (replies answered (cond t (strip_carriage_return line ∷ []) []) s)) (sym e);
-    session = ap (λ t. final answered (cond t (strip_carriage_return line ∷ []) []) s) (sym e);
-    last = kept-kept (line ++ b ∷ []) ∙ ap (λ t. kept (cond t [] (line ++ b ∷ []))) (sym e);
+  -- the bytes before a newline go into the line
+  pub answers-line : (w : Option (List ℕ)) (line text : List ℕ) (s : S)
+      → Answers answered w w line (kept (line ++ before_first is_newline text)) s s (before_first is_newline text)
+  answers-line w line text s = record {
+    written = sym (append_known-nil w) ∙ ap (λ ls. append_known w (replies answered ls s)) (sym (ended-line line text));
+    session = ap (λ ls. final answered ls s) (sym (ended-line line text));
+    last = kept-kept (line ++ before_first is_newline text) ∙ ap kept (sym (open-line line text));
   }
 
   -- a newline answers the line
@@ -87,12 +87,51 @@ module _ {S : Type 0} (answered : List ℕ → S → Answered S) (alike : Answer
   front-more line a b s f =
       front-along (replies-pieces line (open_after line a) a b s (final answered (ended_after line a) s) refl refl) (front-first _ f)
 
-  -- a front of the replies to the lines that end in a piece up to its byte i
-  pub front-byte : {old now new : Option (List ℕ)} {mid : List ℕ} {t : S} (line piece : List ℕ) (s : S) (i : ℕ) → i < length piece
-      → Answers answered old now line mid s t (take i piece) → WritesFront now new (replies answered (ended_after mid (get_or piece i 0 ∷ [])) t)
-      → WritesFront old new (replies answered (ended_after line piece) s)
-  front-byte line piece s i h a f =
-      front-along
-      (ap (λ p. replies answered (ended_after line p) s)
-      (ap (λ p. p ++ drop (i + 1) piece) (sym (take_more piece i 0 h)) ∙ take-append-drop (i + 1) piece))
-      (front-more line (take i piece ++ get_or piece i 0 ∷ []) (drop (i + 1) piece) s (answers-front (take i piece) (get_or piece i 0 ∷ []) a f))
+  -- a piece of which all but a rest was answered
+  pub record Leads (old new : Option (List ℕ)) (line mid : List ℕ) (s t : S) (piece rest : List ℕ) : Type 0 where
+    pub taken : List ℕ
+    pub whole : taken ++ rest ≡ piece
+    pub answers : Answers answered old new line mid s t taken
+
+  pub leads-none : (w : Option (List ℕ)) (line piece : List ℕ) (s : S) → Leads w w line line s s piece piece
+  leads-none w line piece s = record { taken = []; whole = refl; answers = answers-none w line s }
+
+  -- the bytes up to the first newline of the rest
+  leads-whole : {old new : Option (List ℕ)} {line mid : List ℕ} {s t : S} (piece rest : List ℕ) (h : Leads old new line mid s t piece rest)
+      → position_or_len is_newline rest < length rest
+      → ((h.taken ++ before_first is_newline rest) ++ 10 ∷ []) ++ after_first is_newline rest ≡ piece
+  leads-whole piece rest h lt =
+      append_assoc (h.taken ++ before_first is_newline rest) (10 ∷ []) (after_first is_newline rest)
+      ∙ append_assoc h.taken (before_first is_newline rest) (10 ∷ after_first is_newline rest)
+      ∙ ap (λ r. h.taken ++ r) (sym (cut_at_newline rest lt)) ∙ h.whole
+
+  leads-line : {old new : Option (List ℕ)} {line mid : List ℕ} {s t : S} (piece rest : List ℕ) (h : Leads old new line mid s t piece rest)
+      → Answers answered old new line (kept (mid ++ before_first is_newline rest)) s t (h.taken ++ before_first is_newline rest)
+  leads-line {mid = mid} {t = t} piece rest h = answers-then h.taken (before_first is_newline rest) h.answers (answers-line _ mid rest t)
+
+  -- one line more was answered
+  pub leads-more : {old now new : Option (List ℕ)} {line mid ended : List ℕ} {s t u : S} (piece rest : List ℕ) → Leads old now line mid s t piece rest
+      → position_or_len is_newline rest < length rest → IsLike ended (strip_carriage_return (kept (mid ++ before_first is_newline rest)))
+      → new ≡ append_known now (answered ended t).reply → u ≡ (answered ended t).next → Leads old new line [] s u piece (after_first is_newline rest)
+  leads-more piece rest h lt like e n = record {
+    taken = (h.taken ++ before_first is_newline rest) ++ 10 ∷ [];
+    whole = leads-whole piece rest h lt;
+    answers = answers-then (h.taken ++ before_first is_newline rest) (10 ∷ []) (leads-line piece rest h) (answers-newline _ _ _ _ _ _ like e n);
+  }
+
+  -- or a front of its reply was written
+  pub leads-front : {old now new : Option (List ℕ)} {line mid ended : List ℕ} {s t : S} (piece rest : List ℕ) → Leads old now line mid s t piece rest
+      → position_or_len is_newline rest < length rest → IsLike ended (strip_carriage_return (kept (mid ++ before_first is_newline rest)))
+      → WritesFront now new (answered ended t).reply → WritesFront old new (replies answered (ended_after line piece) s)
+  leads-front {line = line} {mid = mid} {ended = ended} {s = s} {t = t} piece rest h lt like f =
+      front-along (ap (λ p. replies answered (ended_after line p) s) (leads-whole piece rest h lt))
+      (front-more line ((h.taken ++ before_first is_newline rest) ++ 10 ∷ []) (after_first is_newline rest) s
+      (answers-front (h.taken ++ before_first is_newline rest) (10 ∷ []) (leads-line piece rest h) (front-along (replies-newline (kept (mid ++ before_first is_newline rest)) ended t like) f)))
+
+  -- the rest has no newline
+  pub leads-end : {old new : Option (List ℕ)} {line mid : List ℕ} {s t : S} (piece rest : List ℕ) → Leads old new line mid s t piece rest
+      → position_or_len is_newline rest ≡ length rest → Answers answered old new line (kept (mid ++ before_first is_newline rest)) s t piece
+  leads-end {old = old} {new = new} {line = line} {mid = mid} {s = s} {t = t} piece rest h e =
+      subst (λ p. Answers answered old new line (kept (mid ++ before_first is_newline rest)) s t p)
+      (ap (λ r. h.taken ++ r) (take_all (position_or_len is_newline rest) rest (omega (arith, e))) ∙ h.whole)
+      (leads-line piece rest h)

@@ -1,5 +1,6 @@
 -- What is kept of a line.
 use Rattle.std.proofs.Common.{◌≡◌, ℕ, ◌+◌, ◌<◌, ◌≤◌, ◌⊎◌, Bool, true, false, List, [], ◌∷◌, ◌++◌, length, take, refl, sym, ◌∙◌, ap, inl, inr, ⊎_elim, arith, length-append, length-take}
+use Rattle.std.proofs.Math.Seq.{take-append-add}
 use Rattle.std.proofs.lemmas.Grind.{common_steps}
 use Rattle.std.proofs.lemmas.Bool.{cases_lt}
 use Rattle.std.proofs.lemmas.Bool.Decides.{nat_tests}
@@ -16,7 +17,14 @@ pub kept_full : (line more : List ℕ) → length line ≡ 258 → kept (line ++
 unfolding kept
 kept_full line more h = take_at line more 258 h
 
-pub ruleset kept_byte = (kept_short, kept_full, length-append)
+-- as much of what follows as there is room for
+pub kept_front : (line more : List ℕ) (room : ℕ) → room + length line ≡ 258 → line ++ take room more ≡ kept (line ++ more)
+unfolding kept
+kept_front line more room h =
+    let e : 258 ≡ length line + room = omega (arith, h) in
+    rw e (sym (take-append-add line more room))
+
+pub ruleset kept_bytes = (kept_short, kept_front, length-append, length-take)
 
 kept_long : (line more : List ℕ) → 258 ≤ length line → kept (line ++ more) ≡ kept line
 unfolding kept

@@ -2,8 +2,10 @@
 use Rattle.std.proofs.Common.{◌≡◌, ◌<◌, ℕ, Bool, true, false, List, [], ◌∷◌, ◌++◌, length, refl, sym, ◌∙◌, ap, arith, append_assoc}
 use Rattle.std.proofs.lemmas.List.{append-nil}
 use Rattle.std.proofs.lemmas.List.Splits.{length-slice_split}
-use Rattle.std.specs.List.{slice_split, onto_first}
-use Rattle.std.specs.Prelude.{cond}
+use Rattle.std.proofs.lemmas.List.Sums.{take_while-cons, passes_at_first, split_at_first}
+use Rattle.std.proofs.lemmas.Bool.Decides.{nat_tests}
+use Rattle.std.specs.List.{slice_split, onto_first, position_or_len, before_first, after_first}
+use Rattle.std.specs.Prelude.{cond, not, get_or}
 use Rattle.std.specs.Str.Lines.{lines, lines_of_parts, strip_carriage_return}
 use Rattle.rsp_lines.specs.Lines.{is_newline, ended_of_parts, ended_lines, ended_after, open_after, last_line}
 
@@ -22,6 +24,30 @@ open-append line (b ∷ text) more =
     elim (is_newline b) as (λ t. cond t (open_after [] (text ++ more)) (open_after (line ++ b ∷ []) (text ++ more))
     ≡ open_after (cond t (open_after [] text) (open_after (line ++ b ∷ []) text)) more)
     [ true ↦ open-append [] text more | false ↦ open-append (line ++ b ∷ []) text more ]
+
+-- no line ends before the first newline
+pub ended-line : (line text : List ℕ) → ended_after line (before_first is_newline text) ≡ []
+ended-line line [] = refl
+ended-line line (b ∷ text) = by (ended-line (line ++ b ∷ []) text) (is_newline b) refl
+  where
+    by : ended_after (line ++ b ∷ []) (before_first is_newline text) ≡ [] → (t : Bool) → is_newline b ≡ t → ended_after line (before_first is_newline (b ∷ text)) ≡ []
+    by h true e = rw (take_while-cons (λ c. not (is_newline c)) b text, e) refl
+    by h false e = rw (take_while-cons (λ c. not (is_newline c)) b text, e) (rw e h)
+
+pub open-line : (line text : List ℕ) → open_after line (before_first is_newline text) ≡ line ++ before_first is_newline text
+open-line line [] = sym (append-nil line)
+open-line line (b ∷ text) = by (open-line (line ++ b ∷ []) text) (is_newline b) refl
+  where
+    by : open_after (line ++ b ∷ []) (before_first is_newline text) ≡ (line ++ b ∷ []) ++ before_first is_newline text → (t : Bool) → is_newline b ≡ t → open_after line (before_first is_newline (b ∷ text)) ≡ line ++ before_first is_newline (b ∷ text)
+    by h true e = rw (take_while-cons (λ c. not (is_newline c)) b text, e) (sym (append-nil line))
+    by h false e = rw (take_while-cons (λ c. not (is_newline c)) b text, e) (rw e (h ∙ append_assoc line (b ∷ []) _))
+
+pub cut_at_newline : (text : List ℕ) → position_or_len is_newline text < length text
+    → text ≡ before_first is_newline text ++ 10 ∷ after_first is_newline text
+cut_at_newline text h =
+    let e : is_newline (get_or text (position_or_len is_newline text) 0) ≡ true = passes_at_first is_newline text 0 h in
+    let same : get_or text (position_or_len is_newline text) 0 ≡ 10 = grind (arith, nat_tests, e) in
+    split_at_first is_newline text 0 h ∙ ap (λ b. before_first is_newline text ++ b ∷ after_first is_newline text) same
 
 -- the first of some parts goes on with a line
 abbrev onto : List ℕ → List (List ℕ) → List (List ℕ)

@@ -1,4 +1,4 @@
-ghost use Rattle.std.specs.Prelude.{◌≡◌, ℕ, ◌+◌, ◌-◌, ◌<◌, ◌^◌, [], ◌∷◌, ◌++◌, OnOk, OnErr, IfErr};
+ghost use Rattle.std.specs.Prelude.{◌≡◌, ℕ, ◌+◌, ◌-◌, ◌<◌, ◌^◌, ◌++◌, OnOk, OnErr, IfErr};
 ghost use Rattle.std.specs.Io.KnownBytes.{append_known};
 ghost use Rattle.rsp_lines.specs.Answers.{Answers};
 ghost use Rattle.rsp_lines.specs.Faults.{failed_writes, IsAnswerFault};
@@ -6,10 +6,12 @@ ghost use Rattle.rsp_lines.specs.Left.{WritesFront};
 ghost use Rattle.rsp_lines.specs.Lines.{ended_after, last_line};
 ghost use Rattle.rsp_lines.specs.Replies.{replies, final};
 
-use crate::answering::{Answering, ReplyBytes};
+use crate::answering::Answering;
 use crate::line::LineSoFar;
 use crate::run::RunFault;
+use rsp_chars::len_before;
 use rsp_ends::{EndFault, Sink};
+use rsp_reply::Reply;
 use std::alloc::Global;
 
 /// Writes the whole of some bytes. A write that fails, or takes nothing, is not tried again.
@@ -36,7 +38,7 @@ fn answer_line<S: Answering, W: Sink>(
     alloc: Global,
     session: &mut S,
     line: &[u8],
-    reply: &mut S::Reply,
+    reply: &mut Reply,
     sink: &mut W,
 ) -> Result<(), RunFault>
     requires { W.fault_count sink.old < 2 ^ 64 - 1 }
@@ -55,37 +57,13 @@ fn answer_line<S: Answering, W: Sink>(
     Ok(())
 }
 
-/// Takes the next byte of a script, and answers the line that it ends.
-fn answer_byte<S: Answering, W: Sink>(
-    alloc: Global,
-    session: &mut S,
-    line: &mut LineSoFar,
-    byte: u8,
-    reply: &mut S::Reply,
-    sink: &mut W,
-) -> Result<(), RunFault>
-    requires { W.fault_count sink.old < 2 ^ 64 - 1 }
-    ensures answers { OnOk result (Answers S.answered (W.written sink.old) (W.written sink.new) line.old line.new session.old session.new (byte ∷ [])) }
-    ensures front { OnErr result (WritesFront (W.written sink.old) (W.written sink.new) (replies S.answered (ended_after line.old (byte ∷ [])) session.old)) }
-    ensures count { W.fault_count sink.new ≡ W.fault_count sink.old + failed_writes result }
-    ensures cause { IfErr result IsAnswerFault }
-{
-    if byte != b'\n' {
-        line.push(byte);
-        return Ok(());
-    }
-    answer_line(alloc, session, line.ended(), reply, sink)?;
-    line.clear();
-    Ok(())
-}
-
 /// Takes the next piece of a script, and answers each line that ends in it.
 pub(crate) fn answer_piece<S: Answering, W: Sink>(
     alloc: Global,
     session: &mut S,
     line: &mut LineSoFar,
     piece: &[u8],
-    reply: &mut S::Reply,
+    reply: &mut Reply,
     sink: &mut W,
 ) -> Result<(), RunFault>
     requires { W.fault_count sink.old < 2 ^ 64 - 1 }
@@ -94,10 +72,17 @@ pub(crate) fn answer_piece<S: Answering, W: Sink>(
     ensures count { W.fault_count sink.new ≡ W.fault_count sink.old + failed_writes result }
     ensures cause { IfErr result IsAnswerFault }
 {
-    for byte in piece {
-        answer_byte(alloc, session, line, *byte, reply, sink)?;
+    let mut rest = piece;
+    loop {
+        let end = len_before(b'\n', rest);
+        line.push(&rest[..end]);
+        if end == rest.len() {
+            return Ok(());
+        }
+        answer_line(alloc, session, line.ended(), reply, sink)?;
+        line.clear();
+        rest = &rest[end + 1..];
     }
-    Ok(())
 }
 
 /// Answers a line that no newline ended, where it has any bytes.
@@ -106,7 +91,7 @@ fn answer_last<S: Answering, W: Sink>(
     alloc: Global,
     session: &mut S,
     line: &[u8],
-    reply: &mut S::Reply,
+    reply: &mut Reply,
     sink: &mut W,
 ) -> Result<(), RunFault>
     requires { W.fault_count sink.old < 2 ^ 64 - 1 }
@@ -128,7 +113,7 @@ pub(crate) fn answer_end<S: Answering, W: Sink>(
     alloc: Global,
     session: &mut S,
     line: &LineSoFar,
-    reply: &mut S::Reply,
+    reply: &mut Reply,
     sink: &mut W,
 ) -> Result<(), RunFault>
     requires { W.fault_count sink.old < 2 ^ 64 - 1 }
@@ -141,7 +126,8 @@ pub(crate) fn answer_end<S: Answering, W: Sink>(
     ensures cause { IfErr result IsAnswerFault }
 {
     answer_last(alloc, session, line.last(), reply, sink)?;
-    let Ok(()) = write_all(sink, session.close().bytes()) else {
+    session.close(reply);
+    let Ok(()) = write_all(sink, reply.bytes()) else {
         return Err(RunFault::WriteFault);
     };
     Ok(())

@@ -1,27 +1,11 @@
-ghost use Rattle.std.specs.Prelude.{◌≡◌, ℕ, List, [], OnOk};
+ghost use Rattle.std.specs.Prelude.{◌≡◌, ℕ, List, OnOk};
 ghost use Rattle.rsp_lines.specs.Replies.{Answered, AnswersLongAlike};
 
+use rsp_reply::Reply;
 use std::alloc::{AllocError, Global};
-
-/// A reply, which is some bytes.
-pub trait ReplyBytes {
-    /// The bytes of the reply.
-    ghost bytes: { Self → List ℕ };
-
-    /// A reply of no bytes.
-    fn empty() -> Self
-        ensures { bytes result ≡ [] };
-
-    /// The bytes of the reply.
-    fn bytes(&self) -> &[u8]
-        ensures { result.now ≡ bytes self.now };
-}
 
 /// What answers the lines of a script, one after another.
 pub trait Answering {
-    /// What a line is answered with.
-    type Reply: ReplyBytes + Drop;
-
     /// What a line comes to: its reply, and what answers the next line.
     ghost answered: { List ℕ → Self → Answered Self };
 
@@ -35,14 +19,14 @@ pub trait Answering {
         &mut self,
         alloc: Global,
         line: &[u8],
-        reply: &mut Self::Reply,
+        reply: &mut Reply,
     ) -> Result<(), AllocError>
-        ensures reply { OnOk result (Self.Reply.bytes reply.new ≡ (answered line.now self.old).reply) }
+        ensures reply { OnOk result (reply.new ≡ (answered line.now self.old).reply) }
         ensures next { OnOk result (self.new ≡ (answered line.now self.old).next) };
 
-    /// What is left to say at the end of a script, after the replies to all its lines.
-    fn close(&self) -> Self::Reply
-        ensures { Self.Reply.bytes result ≡ closing self.now };
+    /// What is left to say at the end of a script, after the replies to all its lines. It takes the place of what stood in the reply.
+    fn close(&self, reply: &mut Reply)
+        ensures { reply.new ≡ closing self.now };
 
     /// Lines of more than 256 bytes are answered alike, whatever they say. So a run need not keep them whole.
     ghost alike: { AnswersLongAlike answered };

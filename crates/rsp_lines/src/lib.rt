@@ -9,8 +9,7 @@
 mod answer;
 mod answering;
 mod line;
-mod reply;
 mod run;
 
-pub use answering::{Answering, ReplyBytes};
+pub use answering::Answering;
 pub use run::{RunFault, SCRIPT_LIMIT, answer_script};

@@ -1,4 +1,4 @@
-ghost use Rattle.std.specs.Prelude.{◌≡◌, ◌∷◌, [], ◌++◌};
+ghost use Rattle.std.specs.Prelude.{◌≡◌, [], ◌++◌};
 ghost use Rattle.std.specs.Str.Lines.{strip_carriage_return};
 ghost use Rattle.rsp_lines.specs.Lines.{kept, IsLike};
 
@@ -43,13 +43,17 @@ impl LineSoFar {
         self.longer = false;
     }
 
-    /// Takes the line's next byte.
-    #[tactic(auto, using(crate::proofs::Kept::kept_byte))]
-    pub(crate) fn push(&mut self, byte: u8)
-        ensures { self.new ≡ kept (self.old ++ byte ∷ []) }
+    /// Takes the line's next bytes.
+    #[tactic(auto, using(crate::proofs::Kept::kept_bytes))]
+    pub(crate) fn push(&mut self, bytes: &[u8])
+        ensures { self.new ≡ kept (self.old ++ bytes.now) }
     {
-        if self.bytes.try_push(byte).is_err() {
+        let room = self.bytes.remaining_capacity();
+        if bytes.len() > room {
             self.longer = true;
+            let _ = self.bytes.try_extend_from_slice(&bytes[..room]);
+        } else {
+            let _ = self.bytes.try_extend_from_slice(bytes);
         }
     }
 

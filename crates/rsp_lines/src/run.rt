@@ -7,9 +7,10 @@ ghost use Rattle.rsp_lines.specs.Lines.{ended_lines};
 ghost use Rattle.rsp_lines.specs.Replies.{replies, final, out_of};
 
 use crate::answer::{answer_end, answer_piece};
-use crate::answering::{Answering, ReplyBytes};
+use crate::answering::Answering;
 use crate::line::LineSoFar;
 use rsp_ends::{Sink, Source};
+use rsp_reply::Reply;
 use std::alloc::Global;
 
 /// The most bytes that a script has.
@@ -69,7 +70,7 @@ pub fn answer_script<S: Answering, R: Source, W: Sink>(
 {
     let mut line = LineSoFar::new();
     let mut buffer = [0u8; PIECE_LENGTH];
-    let mut reply = S::Reply::empty();
+    let mut reply = Reply::new();
     let mut total = 0usize;
     while total <= SCRIPT_LIMIT {
         let room = PIECE_LENGTH.min(SCRIPT_LIMIT + 1 - total);

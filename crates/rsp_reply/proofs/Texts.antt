@@ -1,21 +1,21 @@
 -- Texts, a digit or a part at a time.
-use Rattle.std.proofs.Common.{◌≡◌, ℕ, zero, suc, ◌+◌, ◌-◌, ◌*◌, ◌/◌, ◌%◌, ◌^◌, ◌<◌, List, [], ◌∷◌, ◌++◌, length, refl, append_assoc, arith, sub-one, add-one}
-use Rattle.std.proofs.lemmas.List.{append-nil}
-use Rattle.rsp_reply.specs.Text.{hex_digit, hex_text, each_text}
+use Rattle.std.proofs.Common.{◌≡◌, ℕ, zero, suc, ◌+◌, ◌-◌, ◌≤◌, List, [], ◌∷◌, ◌++◌, length, take, drop, refl, ap, append_assoc, arith, add-one}
+use Rattle.std.proofs.lemmas.List.{append-nil, take_all}
+use Rattle.rsp_reply.specs.Text.{hex_text, each_text}
 
-pub hex_text-first : (k n : ℕ) → 0 < k → hex_text k n ≡ hex_digit (n / 2 ^ (4 * (k - 1)) % 16) ∷ hex_text (k - 1) n
-unfolding hex_text
-hex_text-first zero n h = absurd (omega arith)
-hex_text-first (suc k) n h = rw sub-one refl
-
-pub length-hex_text : (k n : ℕ) → length (hex_text k n) ≡ k
+length-hex_text : (k n : ℕ) → length (hex_text k n) ≡ k
 unfolding hex_text
 length-hex_text zero n = refl
 length-hex_text (suc k) n = omega (arith, length-hex_text k n)
 
-pub hex_step : (bs cs : List ℕ) (k n d : ℕ) → 0 < k → d ≡ hex_digit (n / 2 ^ (4 * (k - 1)) % 16) → bs ++ hex_text k n ≡ cs
-    → (bs ++ d ∷ []) ++ hex_text (k - 1) n ≡ cs
-hex_step bs cs k n d h e g = rw (append_assoc, e) (rw (hex_text-first k n h) at g)
+drop-hex_text : (j k n m : ℕ) → m ≡ j + k → drop j (hex_text m n) ≡ hex_text k n
+unfolding hex_text
+drop-hex_text zero k n m e = ap (λ i. hex_text i n) (omega (arith, e))
+drop-hex_text (suc j) k n zero e = absurd (omega (arith, e))
+drop-hex_text (suc j) k n (suc m) e = drop-hex_text j k n m (omega (arith, e))
+
+pub hex_last : (k n : ℕ) → k ≤ 8 → take (8 - (8 - k)) (drop (8 - k) (hex_text 8 n)) ≡ hex_text k n
+hex_last k n h = rw (drop-hex_text (8 - k) k n 8 (omega arith)) (take_all _ (hex_text k n) (omega (arith, length-hex_text k n)))
 
 -- no part, and one part more, behind a text
 pub each_text-none : (bs : List ℕ) (f : ℕ → List ℕ) → bs ++ each_text f 0 ≡ bs

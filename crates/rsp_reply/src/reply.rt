@@ -1,4 +1,4 @@
-ghost use Rattle.std.specs.Prelude.{◌≡◌, ℕ, ◌+◌, ◌<◌, ◌≤◌, List, [], ◌∷◌, ◌++◌, length};
+ghost use Rattle.std.specs.Prelude.{◌≡◌, ℕ, ◌+◌, ◌*◌, ◌/◌, ◌%◌, ◌^◌, ◌<◌, ◌≤◌, List, [], ◌∷◌, ◌++◌, length};
 ghost use Rattle.rsp_reply.specs.Text.{hex_digit, hex_text, two_digits, short_decimal};
 
 use arrayvec::ArrayVec;
@@ -19,16 +19,46 @@ impl Model for Reply {
     ghost view = { λ r. r.bytes.items };
 }
 
+/// The hexadecimal digit of a number that `4 * k` bits stand behind.
 #[tactic(auto, unfolding(crate::specs::Text::hex_digit))]
-fn hex_digit(n: u64) -> u8
-    requires { n < 16 }
-    ensures { result ≡ hex_digit n }
+fn hex_digit(n: u32, k: u32) -> u8
+    requires { k < 8 }
+    ensures { result ≡ hex_digit (n / 2 ^ (4 * k) % 16) }
 {
-    if n < 10 {
-        b'0' + n as u8
-    } else {
-        b'a' - 10 + n as u8
+    match n >> (4 * k) & 15 {
+        0 => b'0',
+        1 => b'1',
+        2 => b'2',
+        3 => b'3',
+        4 => b'4',
+        5 => b'5',
+        6 => b'6',
+        7 => b'7',
+        8 => b'8',
+        9 => b'9',
+        10 => b'a',
+        11 => b'b',
+        12 => b'c',
+        13 => b'd',
+        14 => b'e',
+        _ => b'f',
     }
+}
+
+#[tactic(auto, unfolding(crate::specs::Text::hex_text))]
+fn hex_digits(n: u32) -> [u8; 8]
+    ensures { result ≡ hex_text 8 n }
+{
+    [
+        hex_digit(n, 7),
+        hex_digit(n, 6),
+        hex_digit(n, 5),
+        hex_digit(n, 4),
+        hex_digit(n, 3),
+        hex_digit(n, 2),
+        hex_digit(n, 1),
+        hex_digit(n, 0),
+    ]
 }
 
 impl Reply {
@@ -65,18 +95,16 @@ impl Reply {
         let _ = self.bytes.try_extend_from_slice(text);
     }
 
-    /// Appends the lowest `digits` hexadecimal digits of a number, at most 12 of them.
-    #[tactic(auto, using(crate::proofs::Texts::hex_step), unfolding(crate::specs::Text::hex_text))]
-    pub fn push_hex(&mut self, n: u64, digits: u32)
-        requires few { digits ≤ 12 }
+    /// Appends the lowest `digits` hexadecimal digits of a number, at most 8 of them.
+    #[inline(always)]
+    #[tactic(auto, using(crate::proofs::Texts::hex_last))]
+    pub fn push_hex(&mut self, n: u32, digits: usize)
+        requires few { digits ≤ 8 }
         requires room { length self.old + digits ≤ REPLY_LIMIT }
         ensures text { self.new ≡ self.old ++ hex_text digits n }
         ensures len { length self.new ≡ length self.old + digits }
     {
-        for k in (0..digits).rev() {
-            let digit = hex_digit(n >> (4 * k) & 15);
-            self.bytes.push(digit);
-        }
+        self.push_text(&hex_digits(n)[8 - digits..]);
     }
 
     /// Appends the two decimal digits of a number below 100.

@@ -1,7 +1,6 @@
-ghost use Rattle.std.specs.Prelude.{◌≡◌, ◌≤◌, length, IfOk};
-ghost use Rattle.std.specs.List.{list_all, position_or_len};
+ghost use Rattle.std.specs.Prelude.{◌≡◌, ◌≤◌, length, Ok, IfOk};
+ghost use Rattle.std.specs.List.{list_all};
 ghost use Rattle.rsp_chars.specs.Chars.{is_plain};
-ghost use Rattle.rsp_script.specs.Line.{is_hash};
 ghost use Rattle.rsp_script.specs.Words.{words_in, is_end};
 ghost use Rattle.rsp_script.specs.Line.{block_command, command_of};
 ghost use Rattle.rsp_script.specs.Command.{IsCommand};
@@ -9,15 +8,7 @@ ghost use Rattle.rsp_script.specs.Command.{IsCommand};
 use crate::parse::parse_words;
 use crate::words::Words;
 use crate::{Command, LineFault, SourceLine};
-use rsp_chars::{MAX_LINE_LEN, is_line, is_text};
-
-/// How many bytes stand before a comment.
-fn comment_at(line: &[u8]) -> usize
-    ensures value { result ≡ position_or_len is_hash line.now }
-    ensures within { result ≤ length line.now }
-{
-    line.iter().take_while(|byte| **byte != b'#').count()
-}
+use rsp_chars::{MAX_LINE_LEN, is_line, is_text, len_before};
 
 /// Whether a line is `end` but for outer blanks.
 fn is_end(line: &[u8]) -> bool
@@ -31,19 +22,20 @@ fn is_end(line: &[u8]) -> bool
     }
 }
 
-/// What a line in a block says.
+/// What a line in a block says. It is a call of its own, so that other lines don't pay for its places of 256 bytes.
+#[inline(never)]
 #[tactic(auto, unfolding(crate::specs::Line::block_command))]
-fn block_command(line: &[u8]) -> Command
-    ensures value { result ≡ block_command line.now }
-    ensures ranges { IsCommand result }
+fn block_command(line: &[u8]) -> Result<Command, LineFault>
+    ensures value { result ≡ Ok (block_command line.now) }
+    ensures ranges { IfOk result IsCommand }
 {
     if !is_line(line) {
-        return Command::BlockLine(SourceLine::new(b":"));
+        return Ok(Command::BlockLine(SourceLine::new(b":")));
     }
     if is_end(line) {
-        Command::End
+        Ok(Command::End)
     } else {
-        Command::BlockLine(SourceLine::new(line))
+        Ok(Command::BlockLine(SourceLine::new(line)))
     }
 }
 
@@ -61,7 +53,7 @@ pub fn parse_line(line: &[u8], in_block: bool) -> Result<Command, LineFault>
     ensures ranges { IfOk result IsCommand }
 {
     if in_block {
-        return Ok(block_command(line));
+        return block_command(line);
     }
     if line.len() > MAX_LINE_LEN {
         return Err(LineFault::LineTooLong);
@@ -69,5 +61,5 @@ pub fn parse_line(line: &[u8], in_block: bool) -> Result<Command, LineFault>
     if !is_text(line) {
         return Err(LineFault::NotText);
     }
-    parse_words(Words::new(&line[..comment_at(line)]))
+    parse_words(Words::new(&line[..len_before(b'#', line)]))
 }

@@ -1,4 +1,4 @@
-ghost use Rattle.std.specs.Prelude.{◌≡◌, ℕ, ◌≤◌, ◌%◌, List, length, Result, IfOk, Err, MatchResult};
+ghost use Rattle.std.specs.Prelude.{◌≡◌, ℕ, ◌≤◌, ◌%◌, List, length, Result, IfOk, Ok, Err, MatchResult};
 ghost use Rattle.rsp_script.specs.Command.{IsCommand, alone, one_number, one_place, two_words, on_bank, load, mem, write, dis, watch, command_of_words};
 
 use crate::name::{Name, name_of};
@@ -9,14 +9,14 @@ use rsp_memory::Bank;
 
 const LAST_ADDRESS: u32 = 16_777_215;
 
-/// A command without operands.
-fn alone(mut words: Words, command: Command) -> Result<Command, LineFault>
-    requires { IsCommand command }
-    ensures value { result ≡ alone command words.entry }
-    ensures ranges { IfOk result IsCommand }
+/// That there are no operands.
+fn alone(mut words: Words) -> Result<(), LineFault>
+    ensures { (command : Command) → MatchResult result
+        (λ _. alone command words.entry ≡ Ok command)
+        (λ fault. alone command words.entry ≡ Err fault) }
 {
     match words.next() {
-        None => Ok(command),
+        None => Ok(()),
         Some(_) => Err(LineFault::BadCommand),
     }
 }
@@ -161,8 +161,14 @@ pub fn parse_words(mut words: Words) -> Result<Command, LineFault>
     };
     match name {
         Name::Load => parse_load(words),
-        Name::Step => alone(words, Command::Step),
-        Name::Regs => alone(words, Command::Show(Look::Regs)),
+        Name::Step => {
+            alone(words)?;
+            Ok(Command::Step)
+        }
+        Name::Regs => {
+            alone(words)?;
+            Ok(Command::Show(Look::Regs))
+        }
         Name::Mem => parse_mem(words),
         Name::Read => Ok(Command::Read {
             register: one_number(0, 15, words)? as u8,
@@ -174,10 +180,22 @@ pub fn parse_words(mut words: Words) -> Result<Command, LineFault>
         Name::Task => Ok(Command::Task {
             address: one_number(0, LAST_ADDRESS, words)?,
         }),
-        Name::Sp => alone(words, Command::Show(Look::Sp)),
-        Name::Vregs => alone(words, Command::Show(Look::Vregs)),
-        Name::Acc => alone(words, Command::Show(Look::Acc)),
-        Name::Flags => alone(words, Command::Show(Look::Flags)),
+        Name::Sp => {
+            alone(words)?;
+            Ok(Command::Show(Look::Sp))
+        }
+        Name::Vregs => {
+            alone(words)?;
+            Ok(Command::Show(Look::Vregs))
+        }
+        Name::Acc => {
+            alone(words)?;
+            Ok(Command::Show(Look::Acc))
+        }
+        Name::Flags => {
+            alone(words)?;
+            Ok(Command::Show(Look::Flags))
+        }
         Name::Asm => Ok(Command::Asm {
             address: one_place(words)?,
         }),

@@ -1,9 +1,7 @@
 ghost use Rattle.std.specs.Prelude.{◌≡◌, ℕ, List, [], ◌∷◌, ◌≤◌, length, IfSome, MatchOption};
-ghost use Rattle.std.specs.List.{position_or_len};
-ghost use Rattle.rsp_chars.specs.Chars.{is_blank};
 ghost use Rattle.rsp_script.specs.Words.{words_in};
 
-use rsp_chars::{is_blank, skip_blanks};
+use rsp_chars::{len_before_blank, skip_blanks};
 use std::marker::Model;
 
 /// The words that are left of a line, which has at most 256 bytes.
@@ -18,14 +16,6 @@ impl<'a> Model for Words<'a> {
     ghost view = { λ w. words_in w.text.now };
 
     ghost invariant = { λ w. length w.text.now ≤ 256 };
-}
-
-/// How many bytes stand before the first blank.
-fn word_len(text: &[u8]) -> usize
-    ensures value { result ≡ position_or_len is_blank text.now }
-    ensures within { result ≤ length text.now }
-{
-    text.iter().take_while(|byte| !is_blank(**byte)).count()
 }
 
 impl<'a> Words<'a> {
@@ -48,7 +38,7 @@ impl<'a> Words<'a> {
             self.text = text;
             return None;
         }
-        let (word, rest) = text.split_at(word_len(text));
+        let (word, rest) = text.split_at(len_before_blank(text));
         self.text = rest;
         Some(word)
     }

@@ -1,23 +1,35 @@
-use Rattle.std.proofs.Common.{arith, refl}
-use Rattle.std.proofs.lemmas.List.{take_more}
-use Rattle.rsp_lines.proofs.Answered.{answers-none, answers-then, front-byte}
+use Rattle.std.proofs.Common.{◌+◌, arith, refl}
+use Rattle.std.proofs.lemmas.List.{take_rest}
+use Rattle.rsp_lines.proofs.Answered.{leads-none, leads-more, leads-front, leads-end}
 use Rattle.rsp_lines.proofs.Left.{on_err}
 use Rattle.rsp_lines.proofs.answer.answer_piece.Goals as goal
 
-pub loop-byte-init : goal.loop-byte-init
-loop-byte-init g c = record {
-  answers = answers-none g.S.Answering.answered g.met.S.Answering.alike _ _ _;
+pub loop-rest-init : goal.loop-rest-init
+loop-rest-init g c = record {
+  leads = leads-none g.S.Answering.answered g.met.S.Answering.alike _ _ _ _;
   count = refl;
 }
 
-pub returns-in_err-answer_byte-clause-front : goal.returns-in_err-answer_byte-clause-front
-returns-in_err-answer_byte-clause-front g c =
-    on_err _ _ (front-byte g.S.Answering.answered g.met.S.Answering.alike c.args.line.now c.args.piece.now c.args.session.now c.loop-byte.byte-index (omega arith)
-    c.loop-byte.invariant.answers c.in_err-answer_byte.ensures.front)
+pub returns-then-end-rest-clause-answers : goal.returns-then-end-rest-clause-answers
+returns-then-end-rest-clause-answers g c =
+    let pushed = rw c.len_before-end.ensures.value at c.push.ensures in
+    rw pushed (leads-end g.S.Answering.answered g.met.S.Answering.alike c.args.piece.now c.loop-rest.rest.now c.loop-rest.invariant.leads
+    (omega (arith, c.if-end-rest.true, c.len_before-end.ensures.value)))
 
-pub loop-byte-preserved : goal.loop-byte-preserved
-loop-byte-preserved g c = record {
-  answers = rw (take_more c.args.piece.now c.loop-byte.byte-index 0 (omega arith))
-      (answers-then g.S.Answering.answered g.met.S.Answering.alike _ _ c.loop-byte.invariant.answers c.in_ok-answer_byte.ensures.answers);
-  count = omega (arith, c.in_ok-answer_byte.ensures.count, c.loop-byte.invariant.count);
-}
+pub returns-in_err-answer_line-clause-front : goal.returns-in_err-answer_line-clause-front
+returns-in_err-answer_line-clause-front g c =
+    let pushed = rw c.len_before-end.ensures.value at c.push.ensures in
+    on_err _ _ (leads-front g.S.Answering.answered g.met.S.Answering.alike c.args.piece.now c.loop-rest.rest.now c.loop-rest.invariant.leads
+    (omega (arith, c.if-end-rest.false, c.len_before-end.ensures.value, c.len_before-end.ensures.within))
+    (rw pushed at c.ended.ensures) c.in_err-answer_line.ensures.front)
+
+pub loop-rest-preserved : goal.loop-rest-preserved
+loop-rest-preserved g c =
+    let pushed = rw c.len_before-end.ensures.value at c.push.ensures in
+    record {
+      leads = rw (c.clear.ensures, take_rest c.loop-rest.rest.now (c.len_before-end.result + 1), c.len_before-end.ensures.value)
+          (leads-more g.S.Answering.answered g.met.S.Answering.alike c.args.piece.now c.loop-rest.rest.now c.loop-rest.invariant.leads
+          (omega (arith, c.if-end-rest.false, c.len_before-end.ensures.value, c.len_before-end.ensures.within))
+          (rw pushed at c.ended.ensures) c.in_ok-answer_line.ensures.written c.in_ok-answer_line.ensures.session);
+      count = omega (arith, c.in_ok-answer_line.ensures.count, c.loop-rest.invariant.count);
+    }

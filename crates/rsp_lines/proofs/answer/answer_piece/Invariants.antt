@@ -1,10 +1,13 @@
-use Rattle.std.proofs.Common.{◌≡◌, take}
-use Rattle.rsp_lines.specs.Answers.{Answers}
+use Rattle.std.proofs.Common.{◌≡◌, length}
+use Rattle.rsp_lines.proofs.Answered.{Leads}
 use Rattle.rsp_lines.proofs.answer.answer_piece.Given as goal
 
-abbrev pub invariant-loop-byte : goal.invariant-loop-byte
-invariant-loop-byte g l = record {
-  answers : Answers g.S.Answering.answered (g.W.Sink.written l.initial.sink) (g.W.Sink.written l.sink)
-      l.initial.line l.line l.initial.session l.session (take l.byte-index l.piece);
+abbrev pub invariant-loop-rest : goal.invariant-loop-rest
+invariant-loop-rest g l = record {
+  leads : Leads g.S.Answering.answered g.met.S.Answering.alike (g.W.Sink.written l.initial.sink) (g.W.Sink.written l.sink)
+      l.initial.line l.line l.initial.session l.session l.piece l.rest;
   count : g.W.Sink.fault_count l.sink ≡ g.W.Sink.fault_count l.initial.sink;
 }
+
+abbrev pub decreases-loop-rest : goal.decreases-loop-rest
+decreases-loop-rest g l = length l.rest

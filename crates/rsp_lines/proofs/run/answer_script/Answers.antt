@@ -9,6 +9,10 @@ pub returns-in_default-clause-left_read : goal.returns-in_default-clause-left_re
 returns-in_default-clause-left_read g c =
     λ _. progress-ended g.S.Answering.answered g.S.Answering.closing g.met.S.Answering.alike c.loop-total.invariant.progress c.in_default.ensures.told (omega arith)
 
+pub returns-in_default-clause-few : goal.returns-in_default-clause-few
+returns-in_default-clause-few g c =
+    progress-few g.S.Answering.answered g.S.Answering.closing g.met.S.Answering.alike _ [] c.loop-total.invariant.progress c.in_default.ensures.told (omega arith)
+
 -- the end of input
 pub returns-in_err-answer_end-clause-few : goal.returns-in_err-answer_end-clause-few
 returns-in_err-answer_end-clause-few g c =

@@ -1,7 +1,7 @@
 use Rattle.std.proofs.Common.{◌≡◌, ◌≤◌, ◌+◌, ◌*◌, ◌++◌, take, drop, length}
 use Rattle.rsp_reply.specs.Text.{each_text}
 use Rattle.rsp_bench.specs.Looks.{dump_line}
-use Rattle.rsp_bench.proofs.looks.push_dump_lines.Given as goal
+use Rattle.rsp_bench.proofs.looks.tell_dump.Given as goal
 
 abbrev pub invariant-loop-k : goal.invariant-loop-k
 invariant-loop-k l =
