@@ -3,32 +3,16 @@ use Rattle.std.proofs.Common.{◌≡◌, refl, sym, ap, subst, ◌∙◌, ℕ, z
 use Rattle.std.specs.Prelude.{find, map, Some, None, option_map, IfSome}
 use Rattle.std.proofs.lemmas.Bool.{cond-true, cond-false, cases_Bool}
 use Rattle.rsp_decode.specs.declared.inst.Inst.{Inst}
-use Rattle.rsp_decode.specs.declared.inst.ShiftRow.TheVariants.{Sll, Srl, Sra}
-use Rattle.rsp_decode.specs.declared.inst.ShiftByRow.TheVariants.{Sllv, Srlv, Srav}
-use Rattle.rsp_decode.specs.declared.inst.RegisterRow.TheVariants.{Add, Addu, Sub, Subu, And, Or, Xor, Nor, Slt, Sltu}
 use Rattle.rsp_decode.specs.declared.inst.SignRow.TheVariants.{Bltz, Bgez, Bltzal, Bgezal, Blez, Bgtz}
-use Rattle.rsp_decode.specs.declared.inst.JumpRow.TheVariants.{J, Jal}
-use Rattle.rsp_decode.specs.declared.inst.EqualRow.TheVariants.{Beq, Bne}
 use Rattle.rsp_decode.specs.declared.inst.ImmediateRow.{ImmediateRow}
-use Rattle.rsp_decode.specs.declared.inst.ImmediateRow.TheVariants.{Addi, Addiu, Slti, Sltiu, Andi, Ori, Xori}
-use Rattle.rsp_decode.specs.declared.inst.LoadRow.TheVariants.{Lb, Lh, Lw, Lbu, Lhu, Lwu}
-use Rattle.rsp_decode.specs.declared.inst.StoreRow.TheVariants.{Sb, Sh, Sw}
+use Rattle.rsp_decode.specs.declared.inst.ImmediateRow.TheVariants.{Addi}
 use Rattle.rsp_decode.specs.declared.inst.MoveRow.{MoveRow}
 use Rattle.rsp_decode.specs.declared.inst.MoveRow.TheVariants.{From, To}
-use Rattle.rsp_decode.specs.declared.inst.MultiplyRow.TheVariants.{Vmulf, Vmulu, Vmudl, Vmudm, Vmudn, Vmudh, Vmacf, Vmacu, Vmadl, Vmadm, Vmadn, Vmadh}
-use Rattle.rsp_decode.specs.declared.inst.RoundRow.TheVariants.{Vrndp, Vrndn}
-use Rattle.rsp_decode.specs.declared.inst.MpegRow.TheVariants.{Vmulq, Vmacq}
-use Rattle.rsp_decode.specs.declared.inst.VectorAddRow.TheVariants.{Vadd, Vsub, Vabs, Vaddc, Vsubc}
-use Rattle.rsp_decode.specs.declared.inst.VectorSelectRow.TheVariants.{Vlt, Veq, Vne, Vge}
-use Rattle.rsp_decode.specs.declared.inst.VectorClipRow.TheVariants.{Vcl, Vch, Vcr}
-use Rattle.rsp_decode.specs.declared.inst.VectorLogicRow.TheVariants.{Vand, Vnand, Vor, Vnor, Vxor, Vnxor}
-use Rattle.rsp_decode.specs.declared.inst.DivideRow.TheVariants.{Vrcp, Vrcpl, Vrcph, Vmov, Vrsq, Vrsql, Vrsqh}
-use Rattle.rsp_decode.specs.declared.inst.IdleRow.TheVariants.{Vnop, Vnull}
 use Rattle.rsp_decode.specs.declared.inst.VectorLoadRow.{VectorLoadRow}
-use Rattle.rsp_decode.specs.declared.inst.VectorLoadRow.TheVariants.{Lbv, Lsv, Llv, Ldv, Lqv, Lrv, Lpv, Luv, Lhv, Lfv, Ltv}
+use Rattle.rsp_decode.specs.declared.inst.VectorLoadRow.TheVariants.{Lbv}
 use Rattle.rsp_decode.specs.declared.inst.VectorStoreRow.{VectorStoreRow}
-use Rattle.rsp_decode.specs.declared.inst.VectorStoreRow.TheVariants.{Sbv, Ssv, Slv, Sdv, Sqv, Srv, Spv, Suv, Shv, Sfv, Swv, Stv}
-use Rattle.rsp_decode.specs.Table.{Row, rows, row_of, fits, fields, row_places, inst_of, canonical_of, meaning_of, word_from, word_of, parts, IsInstruction, FitPlaces, control_of, control_number, special_rows, regimm_rows, opcode_rows, cop0_rows, cop2_rows, computing_rows, lwc2_rows, swc2_rows, shift_row, shift_by_row, jump_register_row, jump_link_register_row, break_row, register_row, branch_sign_row, jump_row, branch_equal_row, immediate_row, load_upper_row, load_row, store_row, move_sp_row, move_vector_row, move_control_row, multiply_row, round_row, mpeg_row, read_accumulator_row, vector_add_row, vector_select_row, vector_clip_row, vector_merge_row, vector_logic_row, divide_row, idle_row, vector_load_row, vector_store_row}
+use Rattle.rsp_decode.specs.declared.inst.VectorStoreRow.TheVariants.{Sbv}
+use Rattle.rsp_decode.specs.Table.{shifts, shifts_by, registers, jumps, branches_equal, immediates, loads, stores, multiplies, rounds, mpegs, vector_adds, vector_selects, vector_clips, vector_logics, divides, idles, vector_loads, vector_stores, Row, rows, row_of, fits, fields, row_places, inst_of, canonical_of, meaning_of, word_from, word_of, parts, IsInstruction, FitPlaces, control_of, control_number, special_rows, regimm_rows, opcode_rows, cop0_rows, cop2_rows, computing_rows, lwc2_rows, swc2_rows, shift_row, shift_by_row, jump_register_row, jump_link_register_row, break_row, register_row, branch_sign_row, jump_row, branch_equal_row, immediate_row, load_upper_row, load_row, store_row, move_sp_row, move_vector_row, move_control_row, multiply_row, round_row, mpeg_row, read_accumulator_row, vector_add_row, vector_select_row, vector_clip_row, vector_merge_row, vector_logic_row, divide_row, idle_row, vector_load_row, vector_store_row}
 use Rattle.rsp_decode.proofs.Places.{fit_read}
 
 -- a fact of each row of a list
@@ -89,12 +73,12 @@ vector_store_kept r = elim r as (λ s. Kept (vector_store_row s)) [ Sbv ↦ λ w
 
 special_kept_rows : Each Kept special_rows
 special_kept_rows =
-    group shift_row (λ r w. refl) (Sll ∷ Srl ∷ Sra ∷ [])
-    & group shift_by_row (λ r w. refl) (Sllv ∷ Srlv ∷ Srav ∷ [])
+    group shift_row (λ r w. refl) shifts
+    & group shift_by_row (λ r w. refl) shifts_by
     & alone jump_register_row (λ w. refl)
     & alone jump_link_register_row (λ w. refl)
     & alone break_row (λ w. refl)
-    & group register_row (λ r w. refl) (Add ∷ Addu ∷ Sub ∷ Subu ∷ And ∷ Or ∷ Xor ∷ Nor ∷ Slt ∷ Sltu ∷ [])
+    & group register_row (λ r w. refl) registers
 
 regimm_kept_rows : Each Kept regimm_rows
 regimm_kept_rows = group branch_sign_row (λ r w. refl) (Bltz ∷ Bgez ∷ Bltzal ∷ Bgezal ∷ [])
@@ -102,12 +86,12 @@ regimm_kept_rows = group branch_sign_row (λ r w. refl) (Bltz ∷ Bgez ∷ Bltza
 opcode_kept_rows : Each Kept opcode_rows
 opcode_kept_rows =
     group branch_sign_row (λ r w. refl) (Blez ∷ Bgtz ∷ [])
-    & group jump_row (λ r w. refl) (J ∷ Jal ∷ [])
-    & group branch_equal_row (λ r w. refl) (Beq ∷ Bne ∷ [])
-    & group immediate_row immediate_kept (Addi ∷ Addiu ∷ Slti ∷ Sltiu ∷ Andi ∷ Ori ∷ Xori ∷ [])
+    & group jump_row (λ r w. refl) jumps
+    & group branch_equal_row (λ r w. refl) branches_equal
+    & group immediate_row immediate_kept immediates
     & alone load_upper_row (λ w. refl)
-    & group load_row (λ r w. refl) (Lb ∷ Lh ∷ Lw ∷ Lbu ∷ Lhu ∷ Lwu ∷ [])
-    & group store_row (λ r w. refl) (Sb ∷ Sh ∷ Sw ∷ [])
+    & group load_row (λ r w. refl) loads
+    & group store_row (λ r w. refl) stores
 
 cop0_kept_rows : Each Kept cop0_rows
 cop0_kept_rows = group move_sp_row (λ r w. refl) (From ∷ To ∷ [])
@@ -119,23 +103,23 @@ cop2_kept_rows =
 
 computing_kept_rows : Each Kept computing_rows
 computing_kept_rows =
-    group multiply_row (λ r w. refl) (Vmulf ∷ Vmulu ∷ Vmudl ∷ Vmudm ∷ Vmudn ∷ Vmudh ∷ Vmacf ∷ Vmacu ∷ Vmadl ∷ Vmadm ∷ Vmadn ∷ Vmadh ∷ [])
-    & group round_row (λ r w. refl) (Vrndp ∷ Vrndn ∷ [])
-    & group mpeg_row (λ r w. refl) (Vmulq ∷ Vmacq ∷ [])
+    group multiply_row (λ r w. refl) multiplies
+    & group round_row (λ r w. refl) rounds
+    & group mpeg_row (λ r w. refl) mpegs
     & alone read_accumulator_row (λ w. refl)
-    & group vector_add_row (λ r w. refl) (Vadd ∷ Vsub ∷ Vabs ∷ Vaddc ∷ Vsubc ∷ [])
-    & group vector_select_row (λ r w. refl) (Vlt ∷ Veq ∷ Vne ∷ Vge ∷ [])
-    & group vector_clip_row (λ r w. refl) (Vcl ∷ Vch ∷ Vcr ∷ [])
+    & group vector_add_row (λ r w. refl) vector_adds
+    & group vector_select_row (λ r w. refl) vector_selects
+    & group vector_clip_row (λ r w. refl) vector_clips
     & alone vector_merge_row (λ w. refl)
-    & group vector_logic_row (λ r w. refl) (Vand ∷ Vnand ∷ Vor ∷ Vnor ∷ Vxor ∷ Vnxor ∷ [])
-    & group divide_row (λ r w. refl) (Vrcp ∷ Vrcpl ∷ Vrcph ∷ Vmov ∷ Vrsq ∷ Vrsql ∷ Vrsqh ∷ [])
-    & group idle_row (λ r w. refl) (Vnop ∷ Vnull ∷ [])
+    & group vector_logic_row (λ r w. refl) vector_logics
+    & group divide_row (λ r w. refl) divides
+    & group idle_row (λ r w. refl) idles
 
 lwc2_kept_rows : Each Kept lwc2_rows
-lwc2_kept_rows = group vector_load_row vector_load_kept (Lbv ∷ Lsv ∷ Llv ∷ Ldv ∷ Lqv ∷ Lrv ∷ Lpv ∷ Luv ∷ Lhv ∷ Lfv ∷ Ltv ∷ [])
+lwc2_kept_rows = group vector_load_row vector_load_kept vector_loads
 
 swc2_kept_rows : Each Kept swc2_rows
-swc2_kept_rows = group vector_store_row vector_store_kept (Sbv ∷ Ssv ∷ Slv ∷ Sdv ∷ Sqv ∷ Srv ∷ Spv ∷ Suv ∷ Shv ∷ Sfv ∷ Swv ∷ Stv ∷ [])
+swc2_kept_rows = group vector_store_row vector_store_kept vector_stores
 
 all_kept : Each Kept rows
 all_kept =

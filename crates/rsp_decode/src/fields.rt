@@ -1,6 +1,6 @@
 // The fields of a word, each named for what the rows that have it take it as.
 
-ghost use Rattle.std.specs.Prelude.{◌≡◌, ◌<◌};
+ghost use Rattle.std.specs.Prelude.{◌≡◌, ◌<◌, ◌==◌, ◌%◌};
 ghost use Rattle.rsp_decode.specs.Table.{value_at, whole, capped, control_of, vector_memory_in};
 
 use crate::inst::Control;
@@ -148,6 +148,14 @@ pub fn byte_element(word: u32) -> u8
     ensures { result ≡ value_at word (whole 7 4) }
 {
     (word >> 7 & 15) as u8
+}
+
+/// Whether the byte element is 0 or 8.
+#[inline(always)]
+pub fn half(word: u32) -> bool
+    ensures { result ≡ (value_at word (whole 7 4) % 8 == 0) }
+{
+    byte_element(word) % 8 == 0
 }
 
 /// Bits 6 to 0: the offset of a vector load or store.

@@ -172,47 +172,47 @@ pub enum Inst {
 #[derive(Clone, Copy, PartialEq, Eq)]
 pub enum ShiftRow {
     /// `sll`: to the left.
-    Sll,
+    Sll = 0x00,
     /// `srl`: to the right, zeros from above.
-    Srl,
+    Srl = 0x02,
     /// `sra`: to the right, the sign from above.
-    Sra,
+    Sra = 0x03,
 }
 
 /// Shifts by the low five bits of a register.
 #[derive(Clone, Copy, PartialEq, Eq)]
 pub enum ShiftByRow {
     /// `sllv`: to the left.
-    Sllv,
+    Sllv = 0x04,
     /// `srlv`: to the right, zeros from above.
-    Srlv,
+    Srlv = 0x06,
     /// `srav`: to the right, the sign from above.
-    Srav,
+    Srav = 0x07,
 }
 
 /// Results of two registers.
 #[derive(Clone, Copy, PartialEq, Eq)]
 pub enum RegisterRow {
     /// `add`: the sum modulo 2^32; there is no overflow trap, so it is `addu`.
-    Add,
+    Add = 0x20,
     /// `addu`: the sum modulo 2^32.
-    Addu,
+    Addu = 0x21,
     /// `sub`: the difference modulo 2^32, as `subu`.
-    Sub,
+    Sub = 0x22,
     /// `subu`: the difference modulo 2^32.
-    Subu,
+    Subu = 0x23,
     /// `and`, bit by bit.
-    And,
+    And = 0x24,
     /// `or`, bit by bit.
-    Or,
+    Or = 0x25,
     /// `xor`: the bits that differ.
-    Xor,
+    Xor = 0x26,
     /// `nor`: the bits set in neither.
-    Nor,
+    Nor = 0x27,
     /// `slt`: 1 where the first is less as a signed number, else 0.
-    Slt,
+    Slt = 0x2a,
     /// `sltu`: 1 where the first is less as an unsigned number, else 0.
-    Sltu,
+    Sltu = 0x2b,
 }
 
 /// Branches on the sign of a register.
@@ -236,74 +236,74 @@ pub enum SignRow {
 #[derive(Clone, Copy, PartialEq, Eq)]
 pub enum EqualRow {
     /// `beq`: taken where they are equal.
-    Beq,
+    Beq = 0x04,
     /// `bne`: taken where they differ.
-    Bne,
+    Bne = 0x05,
 }
 
 /// Jumps to a place that stands in the word.
 #[derive(Clone, Copy, PartialEq, Eq)]
 pub enum JumpRow {
     /// `j`: jumps.
-    J,
+    J = 0x02,
     /// `jal`: jumps and links.
-    Jal,
+    Jal = 0x03,
 }
 
 /// Results of a register and an immediate.
 #[derive(Clone, Copy, PartialEq, Eq)]
 pub enum ImmediateRow {
     /// `addi`: the sum with a signed immediate modulo 2^32; there is no overflow trap.
-    Addi,
+    Addi = 0x08,
     /// `addiu`: as `addi`.
-    Addiu,
+    Addiu = 0x09,
     /// `slti`: 1 where the register is less than the signed immediate, else 0.
-    Slti,
+    Slti = 0x0a,
     /// `sltiu`: the same comparison, both taken as numbers modulo 2^32.
-    Sltiu,
+    Sltiu = 0x0b,
     /// `andi`, bit by bit, with an unsigned immediate.
-    Andi,
+    Andi = 0x0c,
     /// `ori`, bit by bit, with an unsigned immediate.
-    Ori,
+    Ori = 0x0d,
     /// `xori`, bit by bit, with an unsigned immediate.
-    Xori,
+    Xori = 0x0e,
 }
 
 /// Loads of a scalar register from DMEM.
 #[derive(Clone, Copy, PartialEq, Eq)]
 pub enum LoadRow {
     /// `lb`: a byte, its sign extended.
-    Lb,
+    Lb = 0x20,
     /// `lh`: two bytes, their sign extended.
-    Lh,
+    Lh = 0x21,
     /// `lw`: four bytes.
-    Lw,
+    Lw = 0x23,
     /// `lbu`: a byte, zeros above.
-    Lbu,
+    Lbu = 0x24,
     /// `lhu`: two bytes, zeros above.
-    Lhu,
+    Lhu = 0x25,
     /// `lwu`: four bytes, as `lw`.
-    Lwu,
+    Lwu = 0x27,
 }
 
 /// Stores of a scalar register to DMEM.
 #[derive(Clone, Copy, PartialEq, Eq)]
 pub enum StoreRow {
     /// `sb`: the low byte.
-    Sb,
+    Sb = 0x28,
     /// `sh`: the low two bytes.
-    Sh,
+    Sh = 0x29,
     /// `sw`: all four bytes.
-    Sw,
+    Sw = 0x2b,
 }
 
 /// Which way a move between a scalar register and a coprocessor goes.
 #[derive(Clone, Copy, PartialEq, Eq)]
 pub enum MoveRow {
     /// `mfc0`, `mfc2`, `cfc2`: into the scalar register.
-    From,
+    From = 0x00,
     /// `mtc0`, `mtc2`, `ctc2`: out of the scalar register.
-    To,
+    To = 0x04,
 }
 
 /// The control registers of the vector unit.
@@ -321,185 +321,185 @@ pub enum Control {
 #[derive(Clone, Copy, PartialEq, Eq)]
 pub enum MultiplyRow {
     /// `vmulf`: signed fractions, rounded.
-    Vmulf,
+    Vmulf = 0x00,
     /// `vmulu`: the same, the result unsigned.
-    Vmulu,
+    Vmulu = 0x01,
     /// `vmudl`: the upper half of an unsigned product.
-    Vmudl,
+    Vmudl = 0x04,
     /// `vmudm`: signed by unsigned.
-    Vmudm,
+    Vmudm = 0x05,
     /// `vmudn`: unsigned by signed.
-    Vmudn,
+    Vmudn = 0x06,
     /// `vmudh`: signed, 16 bits up.
-    Vmudh,
+    Vmudh = 0x07,
     /// `vmacf`: adds signed fractions.
-    Vmacf,
+    Vmacf = 0x08,
     /// `vmacu`: the same, the result unsigned.
-    Vmacu,
+    Vmacu = 0x09,
     /// `vmadl`: adds the upper half of an unsigned product.
-    Vmadl,
+    Vmadl = 0x0c,
     /// `vmadm`: adds signed by unsigned.
-    Vmadm,
+    Vmadm = 0x0d,
     /// `vmadn`: adds unsigned by signed.
-    Vmadn,
+    Vmadn = 0x0e,
     /// `vmadh`: adds signed, 16 bits up.
-    Vmadh,
+    Vmadh = 0x0f,
 }
 
 /// Roundings of the accumulator by its sign.
 #[derive(Clone, Copy, PartialEq, Eq, Debug)]
 pub enum RoundRow {
     /// `vrndp`: where it is 0 or more.
-    Vrndp,
+    Vrndp = 0x02,
     /// `vrndn`: where it is negative.
-    Vrndn,
+    Vrndn = 0x0a,
 }
 
 /// Multiplies for MPEG coefficients.
 #[derive(Clone, Copy, PartialEq, Eq, Debug)]
 pub enum MpegRow {
     /// `vmulq`: a signed product, rounded toward 0.
-    Vmulq,
+    Vmulq = 0x03,
     /// `vmacq`: a step of the accumulator toward an odd multiple of 32.
-    Vmacq,
+    Vmacq = 0x0b,
 }
 
 /// Sums and differences of two vectors, lane by lane.
 #[derive(Clone, Copy, PartialEq, Eq)]
 pub enum VectorAddRow {
     /// `vadd`: the sum with carry, clamped.
-    Vadd,
+    Vadd = 0x10,
     /// `vsub`: the difference with borrow, clamped.
-    Vsub,
+    Vsub = 0x11,
     /// `vabs`: the second, negated where the first is negative, and 0 where it is 0.
-    Vabs,
+    Vabs = 0x13,
     /// `vaddc`: the sum modulo 2^16; sets carry.
-    Vaddc,
+    Vaddc = 0x14,
     /// `vsubc`: the difference modulo 2^16; sets carry and not-equal.
-    Vsubc,
+    Vsubc = 0x15,
 }
 
 /// Comparisons of two vectors that select a lane of one of them.
 #[derive(Clone, Copy, PartialEq, Eq)]
 pub enum VectorSelectRow {
     /// `vlt`: the first where it is less.
-    Vlt,
+    Vlt = 0x20,
     /// `veq`: where they are equal.
-    Veq,
+    Veq = 0x21,
     /// `vne`: where they differ.
-    Vne,
+    Vne = 0x22,
     /// `vge`: the first where it is not less.
-    Vge,
+    Vge = 0x23,
 }
 
 /// Clips of a vector by another, lane by lane.
 #[derive(Clone, Copy, PartialEq, Eq)]
 pub enum VectorClipRow {
     /// `vcl`: the low half, by the flags that `vch` left.
-    Vcl,
+    Vcl = 0x24,
     /// `vch`: the high half, or a clip alone.
-    Vch,
+    Vch = 0x25,
     /// `vcr`: a clip in one's complement.
-    Vcr,
+    Vcr = 0x26,
 }
 
 /// Logic of two vectors, bit by bit.
 #[derive(Clone, Copy, PartialEq, Eq)]
 pub enum VectorLogicRow {
     /// `vand`: the bits set in both.
-    Vand,
+    Vand = 0x28,
     /// `vnand`: the bits not set in both.
-    Vnand,
+    Vnand = 0x29,
     /// `vor`: the bits set in either.
-    Vor,
+    Vor = 0x2a,
     /// `vnor`: the bits set in neither.
-    Vnor,
+    Vnor = 0x2b,
     /// `vxor`: the bits that differ.
-    Vxor,
+    Vxor = 0x2c,
     /// `vnxor`: the bits that agree.
-    Vnxor,
+    Vnxor = 0x2d,
 }
 
 /// Rows that write one lane: the divider, and a move.
 #[derive(Clone, Copy, PartialEq, Eq)]
 pub enum DivideRow {
     /// `vrcp`: the reciprocal of a 16-bit number.
-    Vrcp,
+    Vrcp = 0x30,
     /// `vrcpl`: the reciprocal of a number whose high half came before.
-    Vrcpl,
+    Vrcpl = 0x31,
     /// `vrcph`: gives the high half of the last answer and takes a high half.
-    Vrcph,
+    Vrcph = 0x32,
     /// `vmov`: copies a lane.
-    Vmov,
+    Vmov = 0x33,
     /// `vrsq`: the inverse square root of a 16-bit number.
-    Vrsq,
+    Vrsq = 0x34,
     /// `vrsql`: the inverse square root of a number whose high half came before.
-    Vrsql,
+    Vrsql = 0x35,
     /// `vrsqh`: as `vrcph`.
-    Vrsqh,
+    Vrsqh = 0x36,
 }
 
 /// Rows of the vector unit that change nothing.
 #[derive(Clone, Copy, PartialEq, Eq)]
 pub enum IdleRow {
     /// `vnop`.
-    Vnop,
+    Vnop = 0x37,
     /// `vnull`.
-    Vnull,
+    Vnull = 0x3f,
 }
 
 /// Loads of a vector register from DMEM.
 #[derive(Clone, Copy, PartialEq, Eq)]
 pub enum VectorLoadRow {
     /// `lbv`: one byte.
-    Lbv,
+    Lbv = 0x00,
     /// `lsv`: two bytes.
-    Lsv,
+    Lsv = 0x01,
     /// `llv`: four bytes.
-    Llv,
+    Llv = 0x02,
     /// `ldv`: eight bytes.
-    Ldv,
+    Ldv = 0x03,
     /// `lqv`: from the address to the end of its line of 16.
-    Lqv,
+    Lqv = 0x04,
     /// `lrv`: from the start of the line up to the address.
-    Lrv,
+    Lrv = 0x05,
     /// `lpv`: eight bytes, each the high byte of a lane.
-    Lpv,
+    Lpv = 0x06,
     /// `luv`: eight bytes, each half as high as by `lpv`.
-    Luv,
+    Luv = 0x07,
     /// `lhv`: every second byte, placed as by `luv`.
-    Lhv,
+    Lhv = 0x08,
     /// `lfv`: every fourth byte, into four lanes; its element is 0 or 8.
-    Lfv,
+    Lfv = 0x09,
     /// `ltv`: a line, spread over a group of eight registers.
-    Ltv,
+    Ltv = 0x0b,
 }
 
 /// Stores of a vector register to DMEM.
 #[derive(Clone, Copy, PartialEq, Eq)]
 pub enum VectorStoreRow {
     /// `sbv`: one byte.
-    Sbv,
+    Sbv = 0x00,
     /// `ssv`: two bytes.
-    Ssv,
+    Ssv = 0x01,
     /// `slv`: four bytes.
-    Slv,
+    Slv = 0x02,
     /// `sdv`: eight bytes.
-    Sdv,
+    Sdv = 0x03,
     /// `sqv`: from the address to the end of its line of 16.
-    Sqv,
+    Sqv = 0x04,
     /// `srv`: from the start of the line up to the address.
-    Srv,
+    Srv = 0x05,
     /// `spv`: eight bytes, the high byte of a lane for each at element 0.
-    Spv,
+    Spv = 0x06,
     /// `suv`: eight bytes, bits 14 to 7 of a lane for each at element 0.
-    Suv,
+    Suv = 0x07,
     /// `shv`: bits 14 to 7 of each lane, to every second place.
-    Shv,
+    Shv = 0x08,
     /// `sfv`: those of four lanes, to every fourth place; its element is 0 or 8.
-    Sfv,
+    Sfv = 0x09,
     /// `swv`: all sixteen bytes, in a ring.
-    Swv,
+    Swv = 0x0a,
     /// `stv`: a line, gathered from a group of eight registers.
-    Stv,
+    Stv = 0x0b,
 }

@@ -139,140 +139,232 @@ const VECTOR_MEMORY: u32 = 0xfc00_f800;
 /// Of those whose element is 0 or 8.
 const HALF_VECTOR_MEMORY: u32 = 0xfc00_fb80;
 
-macro_rules! row {
-    ($name:expr, $mask:expr, $value:expr, $operands:expr) => {
-        TableRow {
-            name: $name,
-            mask: $mask,
-            value: $value,
-            operands: $operands,
+/// The rows of the instruction table, by the match that decides between them: what selects a row there, its name, its operands,
+/// and the call of the decoder. Reserved values have arms too, so that a jump needs no test of its range.
+macro_rules! instruction_table {
+    ($then:ident $more:tt) => {
+        $then! { $more
+            special {
+                0x00 "sll" SHIFT shift(ShiftRow::Sll);
+                0x02 "srl" SHIFT shift(ShiftRow::Srl);
+                0x03 "sra" SHIFT shift(ShiftRow::Sra);
+                0x04 "sllv" SHIFT_BY shift_by(ShiftByRow::Sllv);
+                0x06 "srlv" SHIFT_BY shift_by(ShiftByRow::Srlv);
+                0x07 "srav" SHIFT_BY shift_by(ShiftByRow::Srav);
+                0x08 "jr" SOURCE jump_register;
+                0x09 "jalr" LINK jump_link_register;
+                0x0d "break" NOTHING break_instruction;
+                0x20 "add" REGISTERS register(RegisterRow::Add);
+                0x21 "addu" REGISTERS register(RegisterRow::Addu);
+                0x22 "sub" REGISTERS register(RegisterRow::Sub);
+                0x23 "subu" REGISTERS register(RegisterRow::Subu);
+                0x24 "and" REGISTERS register(RegisterRow::And);
+                0x25 "or" REGISTERS register(RegisterRow::Or);
+                0x26 "xor" REGISTERS register(RegisterRow::Xor);
+                0x27 "nor" REGISTERS register(RegisterRow::Nor);
+                0x2a "slt" REGISTERS register(RegisterRow::Slt);
+                0x2b "sltu" REGISTERS register(RegisterRow::Sltu);
+                reserved 0x01 0x05 0x0a 0x0b 0x0c 0x0e 0x0f 0x10 0x11 0x12 0x13 0x14 0x15 0x16 0x17 0x18 0x19 0x1a 0x1b 0x1c 0x1d 0x1e 0x1f 0x28 0x29 0x2c 0x2d 0x2e 0x2f 0x30 0x31 0x32 0x33 0x34 0x35 0x36 0x37 0x38 0x39 0x3a 0x3b 0x3c 0x3d 0x3e 0x3f;
+            }
+            regimm {
+                0x00 "bltz" BRANCH_SIGN branch_sign(SignRow::Bltz);
+                0x01 "bgez" BRANCH_SIGN branch_sign(SignRow::Bgez);
+                0x10 "bltzal" BRANCH_SIGN branch_sign(SignRow::Bltzal);
+                0x11 "bgezal" BRANCH_SIGN branch_sign(SignRow::Bgezal);
+                otherwise false;
+            }
+            opcode {
+                0x06 "blez" BRANCH_SIGN branch_sign(SignRow::Blez);
+                0x07 "bgtz" BRANCH_SIGN branch_sign(SignRow::Bgtz);
+                0x02 "j" JUMP jump(JumpRow::J);
+                0x03 "jal" JUMP jump(JumpRow::Jal);
+                0x04 "beq" BRANCH_EQUAL branch_equal(EqualRow::Beq);
+                0x05 "bne" BRANCH_EQUAL branch_equal(EqualRow::Bne);
+                0x08 "addi" SIGNED with_immediate(ImmediateRow::Addi);
+                0x09 "addiu" SIGNED with_immediate(ImmediateRow::Addiu);
+                0x0a "slti" SIGNED with_immediate(ImmediateRow::Slti);
+                0x0b "sltiu" SIGNED with_immediate(ImmediateRow::Sltiu);
+                0x0c "andi" UNSIGNED with_immediate(ImmediateRow::Andi);
+                0x0d "ori" UNSIGNED with_immediate(ImmediateRow::Ori);
+                0x0e "xori" UNSIGNED with_immediate(ImmediateRow::Xori);
+                0x0f "lui" UPPER load_upper;
+                0x20 "lb" MEMORY load(LoadRow::Lb);
+                0x21 "lh" MEMORY load(LoadRow::Lh);
+                0x23 "lw" MEMORY load(LoadRow::Lw);
+                0x24 "lbu" MEMORY load(LoadRow::Lbu);
+                0x25 "lhu" MEMORY load(LoadRow::Lhu);
+                0x27 "lwu" MEMORY load(LoadRow::Lwu);
+                0x28 "sb" MEMORY store(StoreRow::Sb);
+                0x29 "sh" MEMORY store(StoreRow::Sh);
+                0x2b "sw" MEMORY store(StoreRow::Sw);
+                reserved 0x00 0x01 0x10 0x11 0x12 0x13 0x14 0x15 0x16 0x17 0x18 0x19 0x1a 0x1b 0x1c 0x1d 0x1e 0x1f 0x22 0x26 0x2a 0x2c 0x2d 0x2e 0x2f 0x30 0x31 0x32 0x33 0x34 0x35 0x36 0x37 0x38 0x39 0x3a 0x3b 0x3c 0x3d 0x3e 0x3f;
+            }
+            cop0 {
+                0x00 "mfc0" MOVE_SP move_sp(MoveRow::From);
+                0x04 "mtc0" MOVE_SP move_sp(MoveRow::To);
+                otherwise false;
+            }
+            cop2 {
+                0x00 "mfc2" MOVE_VECTOR move_vector(MoveRow::From);
+                0x04 "mtc2" MOVE_VECTOR move_vector(MoveRow::To);
+                0x02 "cfc2" MOVE_CONTROL move_control(MoveRow::From);
+                0x06 "ctc2" MOVE_CONTROL move_control(MoveRow::To);
+                reserved 0x01 0x03 0x05 0x07 0x08 0x09 0x0a 0x0b 0x0c 0x0d 0x0e 0x0f 0x10 0x11 0x12 0x13 0x14 0x15 0x16 0x17 0x18 0x19 0x1a 0x1b 0x1c 0x1d 0x1e 0x1f;
+            }
+            products {
+                0x00 "vmulf" VECTORS multiply(MultiplyRow::Vmulf);
+                0x01 "vmulu" VECTORS multiply(MultiplyRow::Vmulu);
+                0x04 "vmudl" VECTORS multiply(MultiplyRow::Vmudl);
+                0x05 "vmudm" VECTORS multiply(MultiplyRow::Vmudm);
+                0x06 "vmudn" VECTORS multiply(MultiplyRow::Vmudn);
+                0x07 "vmudh" VECTORS multiply(MultiplyRow::Vmudh);
+                0x08 "vmacf" VECTORS multiply(MultiplyRow::Vmacf);
+                0x09 "vmacu" VECTORS multiply(MultiplyRow::Vmacu);
+                0x0c "vmadl" VECTORS multiply(MultiplyRow::Vmadl);
+                0x0d "vmadm" VECTORS multiply(MultiplyRow::Vmadm);
+                0x0e "vmadn" VECTORS multiply(MultiplyRow::Vmadn);
+                0x0f "vmadh" VECTORS multiply(MultiplyRow::Vmadh);
+                0x02 "vrndp" VECTORS round(RoundRow::Vrndp);
+                0x0a "vrndn" VECTORS round(RoundRow::Vrndn);
+                0x03 "vmulq" VECTORS mpeg_multiply(MpegRow::Vmulq);
+                0x0b "vmacq" VECTORS mpeg_multiply(MpegRow::Vmacq);
+                otherwise false;
+            }
+            others {
+                0x1d "vsar" VECTORS read_accumulator;
+                0x10 "vadd" VECTORS vector_add(VectorAddRow::Vadd);
+                0x11 "vsub" VECTORS vector_add(VectorAddRow::Vsub);
+                0x13 "vabs" VECTORS vector_add(VectorAddRow::Vabs);
+                0x14 "vaddc" VECTORS vector_add(VectorAddRow::Vaddc);
+                0x15 "vsubc" VECTORS vector_add(VectorAddRow::Vsubc);
+                0x20 "vlt" VECTORS vector_select(VectorSelectRow::Vlt);
+                0x21 "veq" VECTORS vector_select(VectorSelectRow::Veq);
+                0x22 "vne" VECTORS vector_select(VectorSelectRow::Vne);
+                0x23 "vge" VECTORS vector_select(VectorSelectRow::Vge);
+                0x24 "vcl" VECTORS vector_clip(VectorClipRow::Vcl);
+                0x25 "vch" VECTORS vector_clip(VectorClipRow::Vch);
+                0x26 "vcr" VECTORS vector_clip(VectorClipRow::Vcr);
+                0x27 "vmrg" VECTORS vector_merge;
+                0x28 "vand" VECTORS vector_logic(VectorLogicRow::Vand);
+                0x29 "vnand" VECTORS vector_logic(VectorLogicRow::Vnand);
+                0x2a "vor" VECTORS vector_logic(VectorLogicRow::Vor);
+                0x2b "vnor" VECTORS vector_logic(VectorLogicRow::Vnor);
+                0x2c "vxor" VECTORS vector_logic(VectorLogicRow::Vxor);
+                0x2d "vnxor" VECTORS vector_logic(VectorLogicRow::Vnxor);
+                0x30 "vrcp" LANE divide(DivideRow::Vrcp);
+                0x31 "vrcpl" LANE divide(DivideRow::Vrcpl);
+                0x32 "vrcph" LANE divide(DivideRow::Vrcph);
+                0x33 "vmov" LANE divide(DivideRow::Vmov);
+                0x34 "vrsq" LANE divide(DivideRow::Vrsq);
+                0x35 "vrsql" LANE divide(DivideRow::Vrsql);
+                0x36 "vrsqh" LANE divide(DivideRow::Vrsqh);
+                0x37 "vnop" NOTHING idle(IdleRow::Vnop);
+                0x3f "vnull" NOTHING idle(IdleRow::Vnull);
+                reserved 0x12 0x16 0x17 0x18 0x19 0x1a 0x1b 0x1c 0x1e 0x1f 0x2e 0x2f 0x38 0x39 0x3a 0x3b 0x3c 0x3d 0x3e;
+            }
+            lwc2 {
+                0x00 "lbv" VECTOR_MEMORY_1 vector_load(VectorLoadRow::Lbv);
+                0x01 "lsv" VECTOR_MEMORY_2 vector_load(VectorLoadRow::Lsv);
+                0x02 "llv" VECTOR_MEMORY_4 vector_load(VectorLoadRow::Llv);
+                0x03 "ldv" VECTOR_MEMORY_8 vector_load(VectorLoadRow::Ldv);
+                0x04 "lqv" VECTOR_MEMORY_16 vector_load(VectorLoadRow::Lqv);
+                0x05 "lrv" VECTOR_MEMORY_16 vector_load(VectorLoadRow::Lrv);
+                0x06 "lpv" VECTOR_MEMORY_8 vector_load(VectorLoadRow::Lpv);
+                0x07 "luv" VECTOR_MEMORY_8 vector_load(VectorLoadRow::Luv);
+                0x08 "lhv" VECTOR_MEMORY_16 vector_load(VectorLoadRow::Lhv);
+                0x09 half "lfv" VECTOR_MEMORY_HALF vector_load(VectorLoadRow::Lfv);
+                0x0b "ltv" VECTOR_MEMORY_16 vector_load(VectorLoadRow::Ltv);
+                reserved 0x09 0x0a 0x0c 0x0d 0x0e 0x0f 0x10 0x11 0x12 0x13 0x14 0x15 0x16 0x17 0x18 0x19 0x1a 0x1b 0x1c 0x1d 0x1e 0x1f;
+            }
+            swc2 {
+                0x00 "sbv" VECTOR_MEMORY_1 vector_store(VectorStoreRow::Sbv);
+                0x01 "ssv" VECTOR_MEMORY_2 vector_store(VectorStoreRow::Ssv);
+                0x02 "slv" VECTOR_MEMORY_4 vector_store(VectorStoreRow::Slv);
+                0x03 "sdv" VECTOR_MEMORY_8 vector_store(VectorStoreRow::Sdv);
+                0x04 "sqv" VECTOR_MEMORY_16 vector_store(VectorStoreRow::Sqv);
+                0x05 "srv" VECTOR_MEMORY_16 vector_store(VectorStoreRow::Srv);
+                0x06 "spv" VECTOR_MEMORY_8 vector_store(VectorStoreRow::Spv);
+                0x07 "suv" VECTOR_MEMORY_8 vector_store(VectorStoreRow::Suv);
+                0x08 "shv" VECTOR_MEMORY_16 vector_store(VectorStoreRow::Shv);
+                0x09 half "sfv" VECTOR_MEMORY_HALF vector_store(VectorStoreRow::Sfv);
+                0x0a "swv" VECTOR_MEMORY_16 vector_store(VectorStoreRow::Swv);
+                0x0b "stv" VECTOR_MEMORY_16 vector_store(VectorStoreRow::Stv);
+                reserved 0x09 0x0c 0x0d 0x0e 0x0f 0x10 0x11 0x12 0x13 0x14 0x15 0x16 0x17 0x18 0x19 0x1a 0x1b 0x1c 0x1d 0x1e 0x1f;
+            }
         }
     };
 }
 
+macro_rules! mask {
+    (special) => { SPECIAL };
+    (regimm) => { REGIMM };
+    (opcode) => { OPCODE };
+    (cop0) => { MOVE };
+    (cop2) => { MOVE };
+    (products) => { COMPUTING };
+    (others) => { COMPUTING };
+    (lwc2) => { VECTOR_MEMORY };
+    (swc2) => { VECTOR_MEMORY };
+    (lwc2 half) => { HALF_VECTOR_MEMORY };
+    (swc2 half) => { HALF_VECTOR_MEMORY };
+}
+
+macro_rules! value {
+    (special $n:literal) => { $n };
+    (regimm $n:literal) => { 1 << 26 | $n << 16 };
+    (opcode $n:literal) => { $n << 26 };
+    (cop0 $n:literal) => { 16 << 26 | $n << 21 };
+    (cop2 $n:literal) => { 18 << 26 | $n << 21 };
+    (products $n:literal) => { 18 << 26 | 1 << 25 | $n };
+    (others $n:literal) => { 18 << 26 | 1 << 25 | $n };
+    (lwc2 $n:literal) => { 50 << 26 | $n << 11 };
+    (swc2 $n:literal) => { 58 << 26 | $n << 11 };
+}
+
+macro_rules! all_rows {
+    (() $($section:ident {
+        $($n:literal $($half:ident)? $name:literal $operands:ident $call:ident $(($row:path))?;)*
+        $(reserved $($r:literal)*;)?
+        $(otherwise $other:expr;)?
+    })*) => {
+        &[$($(TableRow {
+            name: $name,
+            mask: mask!($section $($half)?),
+            value: value!($section $n),
+            operands: $operands,
+        },)*)*]
+    };
+}
+
+/// The match of one part of the table.
+macro_rules! arms {
+    (@($key:expr, $word:ident, $visitor:ident)
+        $($n:literal $($half:ident)? $name:literal $operands:ident $call:ident $(($row:path))?;)*
+        $(reserved $($r:literal)*;)?
+        $(otherwise $other:expr;)?
+    ) => {
+        match $key {
+            $($n $(if $half($word))? => $call($word, $($row,)? $visitor),)*
+            $($($r => false,)* _ => unreachable!(),)?
+            $(_ => $other,)?
+        }
+    };
+    ((special $a:tt) special { $($t:tt)* } $($rest:tt)*) => { arms!(@$a $($t)*) };
+    ((regimm $a:tt) special $b:tt regimm { $($t:tt)* } $($rest:tt)*) => { arms!(@$a $($t)*) };
+    ((opcode $a:tt) special $b:tt regimm $c:tt opcode { $($t:tt)* } $($rest:tt)*) => { arms!(@$a $($t)*) };
+    ((cop0 $a:tt) special $b:tt regimm $c:tt opcode $d:tt cop0 { $($t:tt)* } $($rest:tt)*) => { arms!(@$a $($t)*) };
+    ((cop2 $a:tt) special $b:tt regimm $c:tt opcode $d:tt cop0 $e:tt cop2 { $($t:tt)* } $($rest:tt)*) => { arms!(@$a $($t)*) };
+    ((products $a:tt) special $b:tt regimm $c:tt opcode $d:tt cop0 $e:tt cop2 $f:tt products { $($t:tt)* } $($rest:tt)*) => { arms!(@$a $($t)*) };
+    ((others $a:tt) special $b:tt regimm $c:tt opcode $d:tt cop0 $e:tt cop2 $f:tt products $g:tt others { $($t:tt)* } $($rest:tt)*) => { arms!(@$a $($t)*) };
+    ((lwc2 $a:tt) special $b:tt regimm $c:tt opcode $d:tt cop0 $e:tt cop2 $f:tt products $g:tt others $h:tt lwc2 { $($t:tt)* } $($rest:tt)*) => { arms!(@$a $($t)*) };
+    ((swc2 $a:tt) special $b:tt regimm $c:tt opcode $d:tt cop0 $e:tt cop2 $f:tt products $g:tt others $h:tt lwc2 $i:tt swc2 { $($t:tt)* }) => { arms!(@$a $($t)*) };
+}
+
+pub(crate) use arms;
+pub(crate) use instruction_table;
+
 /// The rows, in the order of the instruction table.
-static ROWS: &[TableRow] = &[
-    row!("sll", SPECIAL, 0x0000_0000, SHIFT),
-    row!("srl", SPECIAL, 0x0000_0002, SHIFT),
-    row!("sra", SPECIAL, 0x0000_0003, SHIFT),
-    row!("sllv", SPECIAL, 0x0000_0004, SHIFT_BY),
-    row!("srlv", SPECIAL, 0x0000_0006, SHIFT_BY),
-    row!("srav", SPECIAL, 0x0000_0007, SHIFT_BY),
-    row!("jr", SPECIAL, 0x0000_0008, SOURCE),
-    row!("jalr", SPECIAL, 0x0000_0009, LINK),
-    row!("break", SPECIAL, 0x0000_000d, NOTHING),
-    row!("add", SPECIAL, 0x0000_0020, REGISTERS),
-    row!("addu", SPECIAL, 0x0000_0021, REGISTERS),
-    row!("sub", SPECIAL, 0x0000_0022, REGISTERS),
-    row!("subu", SPECIAL, 0x0000_0023, REGISTERS),
-    row!("and", SPECIAL, 0x0000_0024, REGISTERS),
-    row!("or", SPECIAL, 0x0000_0025, REGISTERS),
-    row!("xor", SPECIAL, 0x0000_0026, REGISTERS),
-    row!("nor", SPECIAL, 0x0000_0027, REGISTERS),
-    row!("slt", SPECIAL, 0x0000_002a, REGISTERS),
-    row!("sltu", SPECIAL, 0x0000_002b, REGISTERS),
-    row!("bltz", REGIMM, 0x0400_0000, BRANCH_SIGN),
-    row!("bgez", REGIMM, 0x0401_0000, BRANCH_SIGN),
-    row!("bltzal", REGIMM, 0x0410_0000, BRANCH_SIGN),
-    row!("bgezal", REGIMM, 0x0411_0000, BRANCH_SIGN),
-    row!("blez", OPCODE, 0x1800_0000, BRANCH_SIGN),
-    row!("bgtz", OPCODE, 0x1c00_0000, BRANCH_SIGN),
-    row!("j", OPCODE, 0x0800_0000, JUMP),
-    row!("jal", OPCODE, 0x0c00_0000, JUMP),
-    row!("beq", OPCODE, 0x1000_0000, BRANCH_EQUAL),
-    row!("bne", OPCODE, 0x1400_0000, BRANCH_EQUAL),
-    row!("addi", OPCODE, 0x2000_0000, SIGNED),
-    row!("addiu", OPCODE, 0x2400_0000, SIGNED),
-    row!("slti", OPCODE, 0x2800_0000, SIGNED),
-    row!("sltiu", OPCODE, 0x2c00_0000, SIGNED),
-    row!("andi", OPCODE, 0x3000_0000, UNSIGNED),
-    row!("ori", OPCODE, 0x3400_0000, UNSIGNED),
-    row!("xori", OPCODE, 0x3800_0000, UNSIGNED),
-    row!("lui", OPCODE, 0x3c00_0000, UPPER),
-    row!("lb", OPCODE, 0x8000_0000, MEMORY),
-    row!("lh", OPCODE, 0x8400_0000, MEMORY),
-    row!("lw", OPCODE, 0x8c00_0000, MEMORY),
-    row!("lbu", OPCODE, 0x9000_0000, MEMORY),
-    row!("lhu", OPCODE, 0x9400_0000, MEMORY),
-    row!("lwu", OPCODE, 0x9c00_0000, MEMORY),
-    row!("sb", OPCODE, 0xa000_0000, MEMORY),
-    row!("sh", OPCODE, 0xa400_0000, MEMORY),
-    row!("sw", OPCODE, 0xac00_0000, MEMORY),
-    row!("mfc0", MOVE, 0x4000_0000, MOVE_SP),
-    row!("mtc0", MOVE, 0x4080_0000, MOVE_SP),
-    row!("mfc2", MOVE, 0x4800_0000, MOVE_VECTOR),
-    row!("mtc2", MOVE, 0x4880_0000, MOVE_VECTOR),
-    row!("cfc2", MOVE, 0x4840_0000, MOVE_CONTROL),
-    row!("ctc2", MOVE, 0x48c0_0000, MOVE_CONTROL),
-    row!("vmulf", COMPUTING, 0x4a00_0000, VECTORS),
-    row!("vmulu", COMPUTING, 0x4a00_0001, VECTORS),
-    row!("vmudl", COMPUTING, 0x4a00_0004, VECTORS),
-    row!("vmudm", COMPUTING, 0x4a00_0005, VECTORS),
-    row!("vmudn", COMPUTING, 0x4a00_0006, VECTORS),
-    row!("vmudh", COMPUTING, 0x4a00_0007, VECTORS),
-    row!("vmacf", COMPUTING, 0x4a00_0008, VECTORS),
-    row!("vmacu", COMPUTING, 0x4a00_0009, VECTORS),
-    row!("vmadl", COMPUTING, 0x4a00_000c, VECTORS),
-    row!("vmadm", COMPUTING, 0x4a00_000d, VECTORS),
-    row!("vmadn", COMPUTING, 0x4a00_000e, VECTORS),
-    row!("vmadh", COMPUTING, 0x4a00_000f, VECTORS),
-    row!("vrndp", COMPUTING, 0x4a00_0002, VECTORS),
-    row!("vrndn", COMPUTING, 0x4a00_000a, VECTORS),
-    row!("vmulq", COMPUTING, 0x4a00_0003, VECTORS),
-    row!("vmacq", COMPUTING, 0x4a00_000b, VECTORS),
-    row!("vsar", COMPUTING, 0x4a00_001d, VECTORS),
-    row!("vadd", COMPUTING, 0x4a00_0010, VECTORS),
-    row!("vsub", COMPUTING, 0x4a00_0011, VECTORS),
-    row!("vabs", COMPUTING, 0x4a00_0013, VECTORS),
-    row!("vaddc", COMPUTING, 0x4a00_0014, VECTORS),
-    row!("vsubc", COMPUTING, 0x4a00_0015, VECTORS),
-    row!("vlt", COMPUTING, 0x4a00_0020, VECTORS),
-    row!("veq", COMPUTING, 0x4a00_0021, VECTORS),
-    row!("vne", COMPUTING, 0x4a00_0022, VECTORS),
-    row!("vge", COMPUTING, 0x4a00_0023, VECTORS),
-    row!("vcl", COMPUTING, 0x4a00_0024, VECTORS),
-    row!("vch", COMPUTING, 0x4a00_0025, VECTORS),
-    row!("vcr", COMPUTING, 0x4a00_0026, VECTORS),
-    row!("vmrg", COMPUTING, 0x4a00_0027, VECTORS),
-    row!("vand", COMPUTING, 0x4a00_0028, VECTORS),
-    row!("vnand", COMPUTING, 0x4a00_0029, VECTORS),
-    row!("vor", COMPUTING, 0x4a00_002a, VECTORS),
-    row!("vnor", COMPUTING, 0x4a00_002b, VECTORS),
-    row!("vxor", COMPUTING, 0x4a00_002c, VECTORS),
-    row!("vnxor", COMPUTING, 0x4a00_002d, VECTORS),
-    row!("vrcp", COMPUTING, 0x4a00_0030, LANE),
-    row!("vrcpl", COMPUTING, 0x4a00_0031, LANE),
-    row!("vrcph", COMPUTING, 0x4a00_0032, LANE),
-    row!("vmov", COMPUTING, 0x4a00_0033, LANE),
-    row!("vrsq", COMPUTING, 0x4a00_0034, LANE),
-    row!("vrsql", COMPUTING, 0x4a00_0035, LANE),
-    row!("vrsqh", COMPUTING, 0x4a00_0036, LANE),
-    row!("vnop", COMPUTING, 0x4a00_0037, NOTHING),
-    row!("vnull", COMPUTING, 0x4a00_003f, NOTHING),
-    row!("lbv", VECTOR_MEMORY, 0xc800_0000, VECTOR_MEMORY_1),
-    row!("lsv", VECTOR_MEMORY, 0xc800_0800, VECTOR_MEMORY_2),
-    row!("llv", VECTOR_MEMORY, 0xc800_1000, VECTOR_MEMORY_4),
-    row!("ldv", VECTOR_MEMORY, 0xc800_1800, VECTOR_MEMORY_8),
-    row!("lqv", VECTOR_MEMORY, 0xc800_2000, VECTOR_MEMORY_16),
-    row!("lrv", VECTOR_MEMORY, 0xc800_2800, VECTOR_MEMORY_16),
-    row!("lpv", VECTOR_MEMORY, 0xc800_3000, VECTOR_MEMORY_8),
-    row!("luv", VECTOR_MEMORY, 0xc800_3800, VECTOR_MEMORY_8),
-    row!("lhv", VECTOR_MEMORY, 0xc800_4000, VECTOR_MEMORY_16),
-    row!("lfv", HALF_VECTOR_MEMORY, 0xc800_4800, VECTOR_MEMORY_HALF),
-    row!("ltv", VECTOR_MEMORY, 0xc800_5800, VECTOR_MEMORY_16),
-    row!("sbv", VECTOR_MEMORY, 0xe800_0000, VECTOR_MEMORY_1),
-    row!("ssv", VECTOR_MEMORY, 0xe800_0800, VECTOR_MEMORY_2),
-    row!("slv", VECTOR_MEMORY, 0xe800_1000, VECTOR_MEMORY_4),
-    row!("sdv", VECTOR_MEMORY, 0xe800_1800, VECTOR_MEMORY_8),
-    row!("sqv", VECTOR_MEMORY, 0xe800_2000, VECTOR_MEMORY_16),
-    row!("srv", VECTOR_MEMORY, 0xe800_2800, VECTOR_MEMORY_16),
-    row!("spv", VECTOR_MEMORY, 0xe800_3000, VECTOR_MEMORY_8),
-    row!("suv", VECTOR_MEMORY, 0xe800_3800, VECTOR_MEMORY_8),
-    row!("shv", VECTOR_MEMORY, 0xe800_4000, VECTOR_MEMORY_16),
-    row!("sfv", HALF_VECTOR_MEMORY, 0xe800_4800, VECTOR_MEMORY_HALF),
-    row!("swv", VECTOR_MEMORY, 0xe800_5000, VECTOR_MEMORY_16),
-    row!("stv", VECTOR_MEMORY, 0xe800_5800, VECTOR_MEMORY_16),
-];
+static ROWS: &[TableRow] = instruction_table!(all_rows());
 
 /// All rows of the instruction table.
 pub fn table() -> &'static [TableRow]

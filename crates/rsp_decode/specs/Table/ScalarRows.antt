@@ -164,15 +164,47 @@ move_sp_selector To = cop0 4 (codes "mtc0")
 abbrev pub move_sp_row : MoveRow → Row
 move_sp_row r = row (move_sp_selector r) (scalar 16 ∷ sp_register ∷ []) (two (MoveSp r))
 
+-- the rows of a group
+abbrev pub shifts : List ShiftRow
+shifts = Sll ∷ Srl ∷ Sra ∷ []
+
+-- the rows of a group
+abbrev pub shifts_by : List ShiftByRow
+shifts_by = Sllv ∷ Srlv ∷ Srav ∷ []
+
+-- the rows of a group
+abbrev pub registers : List RegisterRow
+registers = Add ∷ Addu ∷ Sub ∷ Subu ∷ And ∷ Or ∷ Xor ∷ Nor ∷ Slt ∷ Sltu ∷ []
+
+-- the rows of a group
+abbrev pub jumps : List JumpRow
+jumps = J ∷ Jal ∷ []
+
+-- the rows of a group
+abbrev pub branches_equal : List EqualRow
+branches_equal = Beq ∷ Bne ∷ []
+
+-- the rows of a group
+abbrev pub immediates : List ImmediateRow
+immediates = Addi ∷ Addiu ∷ Slti ∷ Sltiu ∷ Andi ∷ Ori ∷ Xori ∷ []
+
+-- the rows of a group
+abbrev pub loads : List LoadRow
+loads = Lb ∷ Lh ∷ Lw ∷ Lbu ∷ Lhu ∷ Lwu ∷ []
+
+-- the rows of a group
+abbrev pub stores : List StoreRow
+stores = Sb ∷ Sh ∷ Sw ∷ []
+
 -- rows of opcode 0, by function
 abbrev pub special_rows : List Row
 special_rows =
-    map shift_row (Sll ∷ Srl ∷ Sra ∷ [])
-    ++ map shift_by_row (Sllv ∷ Srlv ∷ Srav ∷ [])
+    map shift_row shifts
+    ++ map shift_by_row shifts_by
     ++ (jump_register_row ∷ [])
     ++ (jump_link_register_row ∷ [])
     ++ (break_row ∷ [])
-    ++ map register_row (Add ∷ Addu ∷ Sub ∷ Subu ∷ And ∷ Or ∷ Xor ∷ Nor ∷ Slt ∷ Sltu ∷ [])
+    ++ map register_row registers
 
 -- rows of opcode 1, by rt
 abbrev pub regimm_rows : List Row
@@ -183,12 +215,12 @@ regimm_rows =
 abbrev pub opcode_rows : List Row
 opcode_rows =
     map branch_sign_row (Blez ∷ Bgtz ∷ [])
-    ++ map jump_row (J ∷ Jal ∷ [])
-    ++ map branch_equal_row (Beq ∷ Bne ∷ [])
-    ++ map immediate_row (Addi ∷ Addiu ∷ Slti ∷ Sltiu ∷ Andi ∷ Ori ∷ Xori ∷ [])
+    ++ map jump_row jumps
+    ++ map branch_equal_row branches_equal
+    ++ map immediate_row immediates
     ++ (load_upper_row ∷ [])
-    ++ map load_row (Lb ∷ Lh ∷ Lw ∷ Lbu ∷ Lhu ∷ Lwu ∷ [])
-    ++ map store_row (Sb ∷ Sh ∷ Sw ∷ [])
+    ++ map load_row loads
+    ++ map store_row stores
 
 -- rows of opcode 16, by rs
 abbrev pub cop0_rows : List Row

@@ -248,6 +248,50 @@ vector_store_step _ = 1
 abbrev pub vector_store_row : VectorStoreRow → Row
 vector_store_row r = row (vector_store_selector r) (vector_byte 16 (vector_store_step r) ∷ vector_memory (vector_store_scale r) ∷ []) (of_vector_memory (VectorStore r))
 
+-- the rows of a group
+abbrev pub multiplies : List MultiplyRow
+multiplies = Vmulf ∷ Vmulu ∷ Vmudl ∷ Vmudm ∷ Vmudn ∷ Vmudh ∷ Vmacf ∷ Vmacu ∷ Vmadl ∷ Vmadm ∷ Vmadn ∷ Vmadh ∷ []
+
+-- the rows of a group
+abbrev pub rounds : List RoundRow
+rounds = Vrndp ∷ Vrndn ∷ []
+
+-- the rows of a group
+abbrev pub mpegs : List MpegRow
+mpegs = Vmulq ∷ Vmacq ∷ []
+
+-- the rows of a group
+abbrev pub vector_adds : List VectorAddRow
+vector_adds = Vadd ∷ Vsub ∷ Vabs ∷ Vaddc ∷ Vsubc ∷ []
+
+-- the rows of a group
+abbrev pub vector_selects : List VectorSelectRow
+vector_selects = Vlt ∷ Veq ∷ Vne ∷ Vge ∷ []
+
+-- the rows of a group
+abbrev pub vector_clips : List VectorClipRow
+vector_clips = Vcl ∷ Vch ∷ Vcr ∷ []
+
+-- the rows of a group
+abbrev pub vector_logics : List VectorLogicRow
+vector_logics = Vand ∷ Vnand ∷ Vor ∷ Vnor ∷ Vxor ∷ Vnxor ∷ []
+
+-- the rows of a group
+abbrev pub divides : List DivideRow
+divides = Vrcp ∷ Vrcpl ∷ Vrcph ∷ Vmov ∷ Vrsq ∷ Vrsql ∷ Vrsqh ∷ []
+
+-- the rows of a group
+abbrev pub idles : List IdleRow
+idles = Vnop ∷ Vnull ∷ []
+
+-- the rows of a group
+abbrev pub vector_loads : List VectorLoadRow
+vector_loads = Lbv ∷ Lsv ∷ Llv ∷ Ldv ∷ Lqv ∷ Lrv ∷ Lpv ∷ Luv ∷ Lhv ∷ Lfv ∷ Ltv ∷ []
+
+-- the rows of a group
+abbrev pub vector_stores : List VectorStoreRow
+vector_stores = Sbv ∷ Ssv ∷ Slv ∷ Sdv ∷ Sqv ∷ Srv ∷ Spv ∷ Suv ∷ Shv ∷ Sfv ∷ Swv ∷ Stv ∷ []
+
 -- rows of opcode 18 without bit 25, by rs
 abbrev pub cop2_rows : List Row
 cop2_rows =
@@ -257,24 +301,24 @@ cop2_rows =
 -- rows of opcode 18 with bit 25, by function
 abbrev pub computing_rows : List Row
 computing_rows =
-    map multiply_row (Vmulf ∷ Vmulu ∷ Vmudl ∷ Vmudm ∷ Vmudn ∷ Vmudh ∷ Vmacf ∷ Vmacu ∷ Vmadl ∷ Vmadm ∷ Vmadn ∷ Vmadh ∷ [])
-    ++ map round_row (Vrndp ∷ Vrndn ∷ [])
-    ++ map mpeg_row (Vmulq ∷ Vmacq ∷ [])
+    map multiply_row multiplies
+    ++ map round_row rounds
+    ++ map mpeg_row mpegs
     ++ (read_accumulator_row ∷ [])
-    ++ map vector_add_row (Vadd ∷ Vsub ∷ Vabs ∷ Vaddc ∷ Vsubc ∷ [])
-    ++ map vector_select_row (Vlt ∷ Veq ∷ Vne ∷ Vge ∷ [])
-    ++ map vector_clip_row (Vcl ∷ Vch ∷ Vcr ∷ [])
+    ++ map vector_add_row vector_adds
+    ++ map vector_select_row vector_selects
+    ++ map vector_clip_row vector_clips
     ++ (vector_merge_row ∷ [])
-    ++ map vector_logic_row (Vand ∷ Vnand ∷ Vor ∷ Vnor ∷ Vxor ∷ Vnxor ∷ [])
-    ++ map divide_row (Vrcp ∷ Vrcpl ∷ Vrcph ∷ Vmov ∷ Vrsq ∷ Vrsql ∷ Vrsqh ∷ [])
-    ++ map idle_row (Vnop ∷ Vnull ∷ [])
+    ++ map vector_logic_row vector_logics
+    ++ map divide_row divides
+    ++ map idle_row idles
 
 -- rows of opcode 50, by operation
 abbrev pub lwc2_rows : List Row
 lwc2_rows =
-    map vector_load_row (Lbv ∷ Lsv ∷ Llv ∷ Ldv ∷ Lqv ∷ Lrv ∷ Lpv ∷ Luv ∷ Lhv ∷ Lfv ∷ Ltv ∷ [])
+    map vector_load_row vector_loads
 
 -- rows of opcode 58, by operation
 abbrev pub swc2_rows : List Row
 swc2_rows =
-    map vector_store_row (Sbv ∷ Ssv ∷ Slv ∷ Sdv ∷ Sqv ∷ Srv ∷ Spv ∷ Suv ∷ Shv ∷ Sfv ∷ Swv ∷ Stv ∷ [])
+    map vector_store_row vector_stores

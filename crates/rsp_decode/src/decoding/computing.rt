@@ -11,6 +11,7 @@ use crate::inst::{
     DivideRow, IdleRow, MpegRow, MultiplyRow, RoundRow, VectorAddRow, VectorClipRow,
     VectorLogicRow, VectorSelectRow,
 };
+use crate::rows::{arms, instruction_table};
 use crate::visitor::Visitor;
 
 #[inline(always)]
@@ -121,25 +122,7 @@ fn visit_products<V: Visitor>(word: u32, visitor: &mut V) -> bool
     ensures state { IsTrue result → visitor.new ≡ visited V.after (pick computing_rows (18 * 2 ^ 26 + 2 ^ 25 + value_at word (whole 0 6)) word) visitor.old }
     ensures others { result ≡ false → visitor.new ≡ visitor.old }
 {
-    match function(word) {
-        0x00 => multiply(word, MultiplyRow::Vmulf, visitor),
-        0x01 => multiply(word, MultiplyRow::Vmulu, visitor),
-        0x02 => round(word, RoundRow::Vrndp, visitor),
-        0x03 => mpeg_multiply(word, MpegRow::Vmulq, visitor),
-        0x04 => multiply(word, MultiplyRow::Vmudl, visitor),
-        0x05 => multiply(word, MultiplyRow::Vmudm, visitor),
-        0x06 => multiply(word, MultiplyRow::Vmudn, visitor),
-        0x07 => multiply(word, MultiplyRow::Vmudh, visitor),
-        0x08 => multiply(word, MultiplyRow::Vmacf, visitor),
-        0x09 => multiply(word, MultiplyRow::Vmacu, visitor),
-        0x0a => round(word, RoundRow::Vrndn, visitor),
-        0x0b => mpeg_multiply(word, MpegRow::Vmacq, visitor),
-        0x0c => multiply(word, MultiplyRow::Vmadl, visitor),
-        0x0d => multiply(word, MultiplyRow::Vmadm, visitor),
-        0x0e => multiply(word, MultiplyRow::Vmadn, visitor),
-        0x0f => multiply(word, MultiplyRow::Vmadh, visitor),
-        _ => false,
-    }
+    instruction_table!(arms(products(function(word), word, visitor)))
 }
 
 /// The functions from 16 on.
@@ -149,57 +132,7 @@ fn visit_others<V: Visitor>(word: u32, visitor: &mut V) -> bool
     ensures known { result ≡ is_known (pick computing_rows (18 * 2 ^ 26 + 2 ^ 25 + value_at word (whole 0 6)) word) }
     ensures state { visitor.new ≡ visited V.after (pick computing_rows (18 * 2 ^ 26 + 2 ^ 25 + value_at word (whole 0 6)) word) visitor.old }
 {
-    match function(word) {
-        0x10 => vector_add(word, VectorAddRow::Vadd, visitor),
-        0x11 => vector_add(word, VectorAddRow::Vsub, visitor),
-        0x12 => false,
-        0x13 => vector_add(word, VectorAddRow::Vabs, visitor),
-        0x14 => vector_add(word, VectorAddRow::Vaddc, visitor),
-        0x15 => vector_add(word, VectorAddRow::Vsubc, visitor),
-        0x16 => false,
-        0x17 => false,
-        0x18 => false,
-        0x19 => false,
-        0x1a => false,
-        0x1b => false,
-        0x1c => false,
-        0x1d => read_accumulator(word, visitor),
-        0x1e => false,
-        0x1f => false,
-        0x20 => vector_select(word, VectorSelectRow::Vlt, visitor),
-        0x21 => vector_select(word, VectorSelectRow::Veq, visitor),
-        0x22 => vector_select(word, VectorSelectRow::Vne, visitor),
-        0x23 => vector_select(word, VectorSelectRow::Vge, visitor),
-        0x24 => vector_clip(word, VectorClipRow::Vcl, visitor),
-        0x25 => vector_clip(word, VectorClipRow::Vch, visitor),
-        0x26 => vector_clip(word, VectorClipRow::Vcr, visitor),
-        0x27 => vector_merge(word, visitor),
-        0x28 => vector_logic(word, VectorLogicRow::Vand, visitor),
-        0x29 => vector_logic(word, VectorLogicRow::Vnand, visitor),
-        0x2a => vector_logic(word, VectorLogicRow::Vor, visitor),
-        0x2b => vector_logic(word, VectorLogicRow::Vnor, visitor),
-        0x2c => vector_logic(word, VectorLogicRow::Vxor, visitor),
-        0x2d => vector_logic(word, VectorLogicRow::Vnxor, visitor),
-        0x2e => false,
-        0x2f => false,
-        0x30 => divide(word, DivideRow::Vrcp, visitor),
-        0x31 => divide(word, DivideRow::Vrcpl, visitor),
-        0x32 => divide(word, DivideRow::Vrcph, visitor),
-        0x33 => divide(word, DivideRow::Vmov, visitor),
-        0x34 => divide(word, DivideRow::Vrsq, visitor),
-        0x35 => divide(word, DivideRow::Vrsql, visitor),
-        0x36 => divide(word, DivideRow::Vrsqh, visitor),
-        0x37 => idle(word, IdleRow::Vnop, visitor),
-        0x38 => false,
-        0x39 => false,
-        0x3a => false,
-        0x3b => false,
-        0x3c => false,
-        0x3d => false,
-        0x3e => false,
-        0x3f => idle(word, IdleRow::Vnull, visitor),
-        _ => unreachable!(),
-    }
+    instruction_table!(arms(others(function(word), word, visitor)))
 }
 
 #[inline(always)]

@@ -6,6 +6,7 @@ ghost use Rattle.rsp_decode.specs.Table.{value_at, whole, pick, meaning_of, cop0
 
 use crate::fields::{rs, rt, sp_register};
 use crate::inst::MoveRow;
+use crate::rows::{arms, instruction_table};
 use crate::visitor::Visitor;
 
 #[inline(always)]
@@ -22,9 +23,5 @@ pub fn visit_cop0<V: Visitor>(word: u32, visitor: &mut V) -> bool
     ensures known { result ≡ is_known (pick cop0_rows (16 * 2 ^ 26 + value_at word (whole 21 5) * 2 ^ 21) word) }
     ensures state { visitor.new ≡ visited V.after (pick cop0_rows (16 * 2 ^ 26 + value_at word (whole 21 5) * 2 ^ 21) word) visitor.old }
 {
-    match rs(word) {
-        0 => move_sp(word, MoveRow::From, visitor),
-        4 => move_sp(word, MoveRow::To, visitor),
-        _ => false,
-    }
+    instruction_table!(arms(cop0(rs(word), word, visitor)))
 }

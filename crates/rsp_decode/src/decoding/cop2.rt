@@ -7,6 +7,7 @@ ghost use Rattle.rsp_decode.specs.Table.{value_at, whole, pick, meaning_of, cop2
 
 use crate::fields::{byte_element, control, rd, rs, rt};
 use crate::inst::MoveRow;
+use crate::rows::{arms, instruction_table};
 use crate::visitor::Visitor;
 
 #[inline(always)]
@@ -32,39 +33,5 @@ pub fn visit_cop2<V: Visitor>(word: u32, visitor: &mut V) -> bool
     ensures known { result ≡ is_known (pick cop2_rows (18 * 2 ^ 26 + value_at word (whole 21 5) * 2 ^ 21) word) }
     ensures state { visitor.new ≡ visited V.after (pick cop2_rows (18 * 2 ^ 26 + value_at word (whole 21 5) * 2 ^ 21) word) visitor.old }
 {
-    match rs(word) {
-        0 => move_vector(word, MoveRow::From, visitor),
-        1 => false,
-        2 => move_control(word, MoveRow::From, visitor),
-        3 => false,
-        4 => move_vector(word, MoveRow::To, visitor),
-        5 => false,
-        6 => move_control(word, MoveRow::To, visitor),
-        7 => false,
-        8 => false,
-        9 => false,
-        10 => false,
-        11 => false,
-        12 => false,
-        13 => false,
-        14 => false,
-        15 => false,
-        16 => false,
-        17 => false,
-        18 => false,
-        19 => false,
-        20 => false,
-        21 => false,
-        22 => false,
-        23 => false,
-        24 => false,
-        25 => false,
-        26 => false,
-        27 => false,
-        28 => false,
-        29 => false,
-        30 => false,
-        31 => false,
-        _ => unreachable!(),
-    }
+    instruction_table!(arms(cop2(rs(word), word, visitor)))
 }

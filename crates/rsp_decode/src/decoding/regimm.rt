@@ -6,6 +6,7 @@ ghost use Rattle.rsp_decode.specs.Table.{value_at, whole, pick, meaning_of, regi
 
 use crate::fields::{immediate, rs, rt};
 use crate::inst::SignRow;
+use crate::rows::{arms, instruction_table};
 use crate::visitor::Visitor;
 
 #[inline(always)]
@@ -22,11 +23,5 @@ pub fn visit_regimm<V: Visitor>(word: u32, visitor: &mut V) -> bool
     ensures known { result ≡ is_known (pick regimm_rows (2 ^ 26 + value_at word (whole 16 5) * 2 ^ 16) word) }
     ensures state { visitor.new ≡ visited V.after (pick regimm_rows (2 ^ 26 + value_at word (whole 16 5) * 2 ^ 16) word) visitor.old }
 {
-    match rt(word) {
-        0 => branch_sign(word, SignRow::Bltz, visitor),
-        1 => branch_sign(word, SignRow::Bgez, visitor),
-        16 => branch_sign(word, SignRow::Bltzal, visitor),
-        17 => branch_sign(word, SignRow::Bgezal, visitor),
-        _ => false,
-    }
+    instruction_table!(arms(regimm(rt(word), word, visitor)))
 }

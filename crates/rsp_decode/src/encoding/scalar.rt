@@ -24,40 +24,21 @@ const COP0: u32 = 16 << 26;
 pub fn shift_value(row: ShiftRow) -> u32
     ensures { result ≡ (shift_selector row).value }
 {
-    match row {
-        ShiftRow::Sll => 0,
-        ShiftRow::Srl => 2,
-        ShiftRow::Sra => 3,
-    }
+    row as u32
 }
 
 #[inline]
 pub fn shift_by_value(row: ShiftByRow) -> u32
     ensures { result ≡ (shift_by_selector row).value }
 {
-    match row {
-        ShiftByRow::Sllv => 4,
-        ShiftByRow::Srlv => 6,
-        ShiftByRow::Srav => 7,
-    }
+    row as u32
 }
 
 #[inline]
 pub fn register_value(row: RegisterRow) -> u32
     ensures { result ≡ (register_selector row).value }
 {
-    match row {
-        RegisterRow::Add => 32,
-        RegisterRow::Addu => 33,
-        RegisterRow::Sub => 34,
-        RegisterRow::Subu => 35,
-        RegisterRow::And => 36,
-        RegisterRow::Or => 37,
-        RegisterRow::Xor => 38,
-        RegisterRow::Nor => 39,
-        RegisterRow::Slt => 42,
-        RegisterRow::Sltu => 43,
-    }
+    row as u32
 }
 
 #[inline]
@@ -78,68 +59,40 @@ pub fn branch_sign_value(row: SignRow) -> u32
 pub fn jump_value(row: JumpRow) -> u32
     ensures { result ≡ (jump_selector row).value }
 {
-    match row {
-        JumpRow::J => 2 << 26,
-        JumpRow::Jal => 3 << 26,
-    }
+    (row as u32) << 26
 }
 
 #[inline]
 pub fn branch_equal_value(row: EqualRow) -> u32
     ensures { result ≡ (branch_equal_selector row).value }
 {
-    match row {
-        EqualRow::Beq => 4 << 26,
-        EqualRow::Bne => 5 << 26,
-    }
+    (row as u32) << 26
 }
 
 #[inline]
 pub fn immediate_value(row: ImmediateRow) -> u32
     ensures { result ≡ (immediate_selector row).value }
 {
-    match row {
-        ImmediateRow::Addi => 8 << 26,
-        ImmediateRow::Addiu => 9 << 26,
-        ImmediateRow::Slti => 10 << 26,
-        ImmediateRow::Sltiu => 11 << 26,
-        ImmediateRow::Andi => 12 << 26,
-        ImmediateRow::Ori => 13 << 26,
-        ImmediateRow::Xori => 14 << 26,
-    }
+    (row as u32) << 26
 }
 
 #[inline]
 pub fn load_value(row: LoadRow) -> u32
     ensures { result ≡ (load_selector row).value }
 {
-    match row {
-        LoadRow::Lb => 32 << 26,
-        LoadRow::Lh => 33 << 26,
-        LoadRow::Lw => 35 << 26,
-        LoadRow::Lbu => 36 << 26,
-        LoadRow::Lhu => 37 << 26,
-        LoadRow::Lwu => 39 << 26,
-    }
+    (row as u32) << 26
 }
 
 #[inline]
 pub fn store_value(row: StoreRow) -> u32
     ensures { result ≡ (store_selector row).value }
 {
-    match row {
-        StoreRow::Sb => 40 << 26,
-        StoreRow::Sh => 41 << 26,
-        StoreRow::Sw => 43 << 26,
-    }
+    (row as u32) << 26
 }
 
 #[inline]
 pub fn move_sp_value(row: MoveRow) -> u32
     ensures { result ≡ (move_sp_selector row).value }
 {
-    match row {
-        MoveRow::From => COP0,
-        MoveRow::To => COP0 | 4 << 21,
-    }
+    COP0 | (row as u32) << 21
 }
