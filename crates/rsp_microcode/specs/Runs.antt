@@ -1,0 +1,59 @@
+-- Straight microcode: rows that only go on, one after the other.
+use Rattle.std.specs.Prelude.{ℕ, ◌≡◌, Bool, true, false, ◌&&◌, List, [], ◌∷◌, length, map, Some}
+use Rattle.rsp_decode.specs.declared.inst.Inst.{Inst}
+use Rattle.rsp_decode.specs.declared.inst.Inst.TheVariants.{JumpRegister, JumpLinkRegister, Break, BranchSign, BranchEqual, Jump, MoveSp}
+use Rattle.rsp_decode.specs.Table.{inst_of}
+use Rattle.rsp_memory.specs.Memory.{word_at}
+use Rattle.rsp_scalar.specs.Flow.{going_on}
+use Rattle.rsp_machine.specs.State.{State}
+use Rattle.rsp_machine.specs.Step.{step_of, executed}
+use Rattle.rsp_machine.specs.declared.step.StepEnd.TheVariants.{Done}
+use Rattle.rsp_machine.specs.Laws.{steps_of}
+
+-- a step over a word that means an instruction, of any row, where single step isn't set after it
+abbrev pub StepsOver : Type 0
+StepsOver = (i : Inst) (s : State) → s.sp.halted ≡ false → inst_of (word_at s.imem s.pc) ≡ Some i → (executed i s).sp.single_step ≡ false
+    → step_of s ≡ (Done, executed i s)
+
+-- whether a row leaves pc, npc and the SP registers to the step: all but jumps, branches, BREAK and moves of SP registers
+abbrev pub goes_on : Inst → Bool
+goes_on (JumpRegister rs) = false
+goes_on (JumpLinkRegister rd rs) = false
+goes_on Break = false
+goes_on (BranchSign row rs offset) = false
+goes_on (BranchEqual row rs rt offset) = false
+goes_on (Jump row target) = false
+goes_on (MoveSp row rt n) = false
+goes_on _ = true
+
+abbrev pub all_go_on : List Inst → Bool
+all_go_on [] = true
+all_go_on (i ∷ is) = goes_on i && all_go_on is
+
+-- the words stand in IMEM from a place on; as for pc, 0 comes after the last place
+abbrev pub Stand : List ℕ → ℕ → List ℕ → Type 0
+Stand [] place imem = Unit {0}
+Stand (w ∷ ws) place imem = (word_at imem place ≡ w) × Stand ws (going_on place) imem
+
+-- the machine goes, not by single steps, and the words are what it executes next
+pub record IsAt (words : List ℕ) (s : State) : Type 0 where
+  pub goes : s.sp.halted ≡ false
+  pub runs : s.sp.single_step ≡ false
+  pub next : s.npc ≡ going_on s.pc
+  pub stand : Stand words s.pc s.imem
+
+-- the state after instructions, each executed once
+abbrev pub ran_through : List Inst → State → State
+ran_through [] s = s
+ran_through (i ∷ is) s = ran_through is (executed i s)
+
+-- the place that as many steps go on to as the list is long
+abbrev pub place_after : {X : Type 0} → List X → ℕ → ℕ
+place_after [] place = place
+place_after (x ∷ xs) place = place_after xs (going_on place)
+
+-- steps over words that mean straight instructions come to the state after those instructions
+abbrev pub StraightRuns : Type 0
+StraightRuns = (words : List ℕ) (code : List Inst) (s : State)
+    → map inst_of words ≡ map Some code → all_go_on code ≡ true → IsAt words s
+    → steps_of (length words) s ≡ ran_through code s
