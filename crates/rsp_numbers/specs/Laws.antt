@@ -17,6 +17,8 @@ pub record Readings : Type 0 where
   pub of16 : (n : ℕ) → n < 2 ^ 16 → IsReading (2 ^ 15) (pos n) (s16 n)
   pub of32 : (n : ℕ) → n < 2 ^ 32 → IsReading (2 ^ 31) (pos n) (s32 n)
   pub of48 : (z : ℤ) → IsReading (2 ^ 47) z (s48 z)
+  pub only16 : (n : ℕ) (r : ℤ) → n < 2 ^ 16 → IsReading (2 ^ 15) (pos n) r → s16 n ≡ r
+  pub only32 : (n : ℕ) (r : ℤ) → n < 2 ^ 32 → IsReading (2 ^ 31) (pos n) r → s32 n ≡ r
   pub only48 : (z r : ℤ) → IsReading (2 ^ 47) z r → s48 z ≡ r
 
 -- the parts of a joined number are what it was joined from

@@ -2,8 +2,8 @@
 
 ghost use Rattle.rsp_numbers.specs.Laws.{PartsOfJoin, Readings};
 
-/// Each signed reading lies in its range and differs from what it reads by a multiple of 2^16,
-/// 2^32 or 2^48; of 48 bits there is one such number alone.
+/// Each signed reading, of 16, 32 and 48 bits, lies in its range and differs from what it reads by a
+/// multiple of 2^16, 2^32 or 2^48; and it is the only number that does.
 pub fn signed_readings()
     ensures { Readings }
 {}
