@@ -9,7 +9,8 @@ use Rattle.std.proofs.lemmas.Bool.{cases_eq}
 use Rattle.std.proofs.lemmas.Bool.Decides.{nat_tests}
 use Rattle.rsp_loadstore.proofs.Pairs.{fold_more}
 use Rattle.rsp_loadstore.proofs.Placed.{set_each}
-use Rattle.rsp_loadstore.specs.File.{vector, with_vector, with_lane, with_diagonal}
+use Rattle.rsp_loadstore.specs.File.{vector, with_vector}
+use Rattle.rsp_loadstore.specs.Diagonal.{with_diagonal_lane, with_diagonal}
 
 -- steps that can be exchanged can be done in another order
 module _ {X : Type 0} (step : X → ℕ → X) (exchanged : (s : X) (i j : ℕ) → i ≢ j → step (step s i) j ≡ step (step s j) i) where
@@ -40,7 +41,7 @@ unfolding with_vector
 other_write file n k v w h = set_comm file n k v w h
 
 lanes_exchanged : (lanes : List ℕ) (first half : ℕ) (file : List (List ℕ)) (l k : ℕ) → l ≢ k
-    → with_lane lanes first half (with_lane lanes first half file l) k ≡ with_lane lanes first half (with_lane lanes first half file k) l
+    → with_diagonal_lane lanes first half (with_diagonal_lane lanes first half file l) k ≡ with_diagonal_lane lanes first half (with_diagonal_lane lanes first half file k) l
 lanes_exchanged lanes first half file l k h =
     let lane : List ℕ → ℕ → List ℕ = λ v j. set v j (get_or lanes j 0) in
     let i : ℕ = (l + 8 - half) % 8 in
@@ -51,18 +52,18 @@ lanes_exchanged lanes first half file l k h =
     (other_write file (first + l) (first + k) (lane (vector file (first + l)) i) (lane (vector file (first + k)) j) apart)
 
 pub diagonal_by_lanes : (lanes : List ℕ) (first half : ℕ) (file : List (List ℕ)) → half < 8
-    → with_diagonal lanes first half file 8 ≡ fold (with_lane lanes first half) file (map (λ i. (half + i) % 8) (range_with_len 0 8))
+    → with_diagonal lanes first half file 8 ≡ fold (with_diagonal_lane lanes first half) file (map (λ i. (half + i) % 8) (range_with_len 0 8))
 unfolding with_diagonal
-diagonal_by_lanes lanes first half file h = turned_steps (with_lane lanes first half) (lanes_exchanged lanes first half) file half h
+diagonal_by_lanes lanes first half file h = turned_steps (with_diagonal_lane lanes first half) (lanes_exchanged lanes first half) file half h
 
 pub diagonal_none : (lanes : List ℕ) (first half : ℕ) (file : List (List ℕ)) → with_diagonal lanes first half file 0 ≡ file
 unfolding with_diagonal
 diagonal_none lanes first half file = refl
 
 pub diagonal_more : (lanes : List ℕ) (first half : ℕ) (file : List (List ℕ)) (n : ℕ)
-    → with_diagonal lanes first half file (n + 1) ≡ with_lane lanes first half (with_diagonal lanes first half file n) n
+    → with_diagonal lanes first half file (n + 1) ≡ with_diagonal_lane lanes first half (with_diagonal lanes first half file n) n
 unfolding with_diagonal
-diagonal_more lanes first half file n = fold_more (with_lane lanes first half) file n
+diagonal_more lanes first half file n = fold_more (with_diagonal_lane lanes first half) file n
 
 pub ruleset diagonals = (diagonal_none, diagonal_more)
 

@@ -10,9 +10,10 @@ use Rattle.rsp_decode.specs.declared.inst.VectorLoadRow.TheVariants.{Lbv, Lsv, L
 use Rattle.rsp_decode.specs.declared.inst.VectorStoreRow.{VectorStoreRow}
 use Rattle.rsp_decode.specs.declared.inst.VectorStoreRow.TheVariants.{Sbv, Ssv, Slv, Sdv, Sqv, Srv, Spv, Suv, Shv, Sfv, Swv, Stv}
 use Rattle.rsp_loadstore.specs.File.{with_vector}
-use Rattle.rsp_loadstore.specs.Pairs.{for_each}
-use Rattle.rsp_loadstore.specs.Loads.{Load, to_byte, to_lane, loaded, after_load, load_pairs, writes_group}
-use Rattle.rsp_loadstore.specs.Stores.{Store, from_byte, from_bits_14_to_7, high_byte, shifted, packed, unsigned_packed, stored, after_store, store_pairs, window_of}
+use Rattle.rsp_loadstore.specs.Pairs.{for_each, group}
+use Rattle.rsp_loadstore.specs.Loads.{Load, to_byte, to_lane, loaded, after_load, load_pairs}
+use Rattle.rsp_loadstore.specs.Stores.{Store, from_byte, from_bits_14_to_7, high_byte, shifted, packed, unsigned_packed, stored, after_store, store_pairs}
+use Rattle.rsp_loadstore.specs.Reach.{writes_group, window_of}
 
 -- what holds of each member of a list
 abbrev Each : {P : Type 0} → (P → Type 0) → List P → Type 0
@@ -99,10 +100,10 @@ register_of (to_byte r i a) = r
 register_of (to_lane r i f a) = r
 
 abbrev pub first_of : Bool → ℕ → ℕ
-first_of group vt = if group then vt - vt % 8 else vt
+first_of eight vt = if eight then group vt else vt
 
 abbrev pub count_of : Bool → ℕ
-count_of group = if group then 8 else 1
+count_of eight = if eight then 8 else 1
 
 abbrev IsAmong : ℕ → ℕ → Load → Type 0
 IsAmong first n p = (first ≤ register_of p) × (register_of p < first + n)
@@ -120,7 +121,7 @@ loads_among Lpv vt e a = each_for_each (IsAmong vt 1) 8 _ (λ k h. (omega arith,
 loads_among Luv vt e a = each_for_each (IsAmong vt 1) 8 _ (λ k h. (omega arith, omega arith))
 loads_among Lhv vt e a = each_for_each (IsAmong vt 1) 8 _ (λ k h. (omega arith, omega arith))
 loads_among Lfv vt e a = each_for_each (IsAmong vt 1) 4 _ (λ k h. (omega arith, omega arith))
-loads_among Ltv vt e a = each_for_each (IsAmong (vt - vt % 8) 8) 16 _ (λ k h. (omega arith, omega arith))
+loads_among Ltv vt e a = each_for_each (IsAmong (group vt) 8) 16 _ (λ k h. (omega arith, omega arith))
 
 length-loaded : (m : List ℕ) (file : List (List ℕ)) (p : Load) → length (loaded m file p) ≡ length file
 unfolding loaded with_vector

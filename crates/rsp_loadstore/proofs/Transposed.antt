@@ -7,16 +7,17 @@ use Rattle.rsp_memory.specs.Memory.{byte_at, bytes_at}
 use Rattle.rsp_lanes.specs.Lanes.{with_register_byte}
 use Rattle.rsp_lanes.specs.Bytes.{of_bytes}
 use Rattle.rsp_lanes.proofs.Kit.{lane_of}
-use Rattle.rsp_loadstore.specs.File.{vector, with_vector, with_lane, with_diagonal}
+use Rattle.rsp_loadstore.specs.File.{vector, with_vector}
+use Rattle.rsp_loadstore.specs.Diagonal.{with_diagonal_lane, with_diagonal}
 use Rattle.rsp_loadstore.specs.Loads.{Load, to_byte, loaded, after_load}
-use Rattle.rsp_loadstore.specs.Pairs.{for_each, block}
+use Rattle.rsp_loadstore.specs.Pairs.{for_each, block, group}
 use Rattle.rsp_loadstore.proofs.Pairs.{load_none, load_more, fold_map_more}
 use Rattle.rsp_loadstore.proofs.Placed.{window_byte}
 use Rattle.rsp_loadstore.proofs.Diagonal.{diagonal_by_lanes}
 
 -- a pair of the load
 abbrev pub pair_of : ℕ → ℕ → ℕ → ℕ → Load
-pair_of vt e a k = to_byte (vt - vt % 8 + (e / 2 + k / 2) % 8) k (block a + (k + e + a / 8 % 2 * 8) % 16)
+pair_of vt e a k = to_byte (group vt + (e / 2 + k / 2) % 8) k (block a + (k + e + a / 8 % 2 * 8) % 16)
 
 -- two bytes make a lane; where there is no such lane nothing is written
 byte_pair : (v : List ℕ) (j b c : ℕ) → with_register_byte (with_register_byte v (2 * j) b) (2 * j + 1) c ≡ set v j (b * 256 + c)
@@ -50,10 +51,10 @@ turned_lane window first i h = lane_of 0 (λ i. get_or window ((first + 2 * i) %
 
 -- two pairs are a lane of a register
 lane_loaded : (m : List ℕ) (file : List (List ℕ)) (vt e a i : ℕ) (window : List ℕ) → e < 16 → i < 8 → window ≡ bytes_at m (block a) 16
-    → loaded m (loaded m file (pair_of vt e a (2 * i))) (pair_of vt e a (2 * i + 1)) ≡ with_lane (turned_bytes window (e + a / 8 % 2 * 8)) (vt - vt % 8) (e / 2) file ((e / 2 + i) % 8)
+    → loaded m (loaded m file (pair_of vt e a (2 * i))) (pair_of vt e a (2 * i + 1)) ≡ with_diagonal_lane (turned_bytes window (e + a / 8 % 2 * 8)) (group vt) (e / 2) file ((e / 2 + i) % 8)
 unfolding loaded
 lane_loaded m file vt e a i window l h w =
-    let n : ℕ = vt - vt % 8 + (e / 2 + i) % 8 in
+    let n : ℕ = group vt + (e / 2 + i) % 8 in
     let lanes : List ℕ = turned_bytes window (e + a / 8 % 2 * 8) in
     let b : ℕ = byte_at m (block a + (2 * i + e + a / 8 % 2 * 8) % 16) in
     let c : ℕ = byte_at m (block a + (2 * i + 1 + e + a / 8 % 2 * 8) % 16) in
@@ -71,10 +72,10 @@ lane_loaded m file vt e a i window l h w =
 -- lane by lane
 lanes_loaded : (m : List ℕ) (file : List (List ℕ)) (vt e a n : ℕ) (window : List ℕ) → e < 16 → n ≤ 8 → window ≡ bytes_at m (block a) 16
     → after_load m file (for_each (2 * n) (pair_of vt e a))
-    ≡ fold (with_lane (turned_bytes window (e + a / 8 % 2 * 8)) (vt - vt % 8) (e / 2)) file (map (λ i. (e / 2 + i) % 8) (range_with_len 0 n))
+    ≡ fold (with_diagonal_lane (turned_bytes window (e + a / 8 % 2 * 8)) (group vt) (e / 2)) file (map (λ i. (e / 2 + i) % 8) (range_with_len 0 n))
 lanes_loaded m file vt e a zero window l h w = load_none m file (pair_of vt e a)
 lanes_loaded m file vt e a (suc n) window l h w =
-    let step : List (List ℕ) → ℕ → List (List ℕ) = with_lane (turned_bytes window (e + a / 8 % 2 * 8)) (vt - vt % 8) (e / 2) in
+    let step : List (List ℕ) → ℕ → List (List ℕ) = with_diagonal_lane (turned_bytes window (e + a / 8 % 2 * 8)) (group vt) (e / 2) in
     let pair : ℕ → Load = pair_of vt e a in
     let place : ℕ → ℕ = λ i. (e / 2 + i) % 8 in
     let twice : 2 * suc n ≡ 2 * n + 1 + 1 = omega arith in
@@ -88,7 +89,7 @@ lanes_loaded m file vt e a (suc n) window l h w =
     ∙ ap (λ k. fold step file (map place (range_with_len 0 k))) more
 
 pub transposed_loaded : (m : List ℕ) (file : List (List ℕ)) (vt e a : ℕ) (window : List ℕ) → e < 16 → window ≡ bytes_at m (block a) 16
-    → with_diagonal (turned_bytes window (e + a / 8 % 2 * 8)) (vt - vt % 8) (e / 2) file 8 ≡ after_load m file (for_each 16 (pair_of vt e a))
+    → with_diagonal (turned_bytes window (e + a / 8 % 2 * 8)) (group vt) (e / 2) file 8 ≡ after_load m file (for_each 16 (pair_of vt e a))
 transposed_loaded m file vt e a window h w =
-    diagonal_by_lanes (turned_bytes window (e + a / 8 % 2 * 8)) (vt - vt % 8) (e / 2) file (omega arith)
+    diagonal_by_lanes (turned_bytes window (e + a / 8 % 2 * 8)) (group vt) (e / 2) file (omega arith)
     ∙ sym (lanes_loaded m file vt e a 8 window h (omega arith) w)

@@ -13,7 +13,7 @@ use Rattle.rsp_lanes.proofs.Kit.{below_eight, lane_of}
 use Rattle.rsp_lanes.proofs.ByteOrder.{each_byte_same}
 use Rattle.rsp_loadstore.specs.File.{vector}
 use Rattle.rsp_loadstore.specs.Stores.{Store, from_byte, stored, after_store}
-use Rattle.rsp_loadstore.specs.Pairs.{for_each, block, place}
+use Rattle.rsp_loadstore.specs.Pairs.{for_each, block, place, group, even, behind}
 
 -- two runs that have no place in common can be exchanged
 byte_past : (m : List ℕ) (p q b c : ℕ) → p % 4096 ≢ q % 4096 → with_byte (with_byte m p b) q c ≡ with_byte (with_byte m q c) p b
@@ -109,19 +109,19 @@ diagonal_byte file base half q h =
     rw lane refl
 
 pub transposed_stored : (file : List (List ℕ)) (m : List ℕ) (vt e a : ℕ) → e < 16
-    → with_bytes m (block a) (each_byte (λ k. register_byte (each_lane (λ i. get_or (vector file (vt - vt % 8 + (e / 2 + i) % 8)) i 0)) ((16 - a % 8 + k) % 16)))
-    ≡ after_store file m (for_each 16 (λ k. from_byte (vt - vt % 8 + k / 2) ((k + 16 - (e - e % 2)) % 16) (place a (16 - (e - e % 2) + k))))
+    → with_bytes m (block a) (each_byte (λ k. register_byte (each_lane (λ i. get_or (vector file (group vt + (e / 2 + i) % 8)) i 0)) ((16 - a % 8 + k) % 16)))
+    ≡ after_store file m (for_each 16 (λ k. from_byte (group vt + k / 2) (behind k (even e)) (place a (behind k (even e)))))
 unfolding stored
 transposed_stored file m vt e a h =
     ap (with_bytes m (block a)) (each_byte_same _ _ (λ p l.
-    let k : ℕ = (p + (16 - (a % 8 + 16 - (e - e % 2)) % 16)) % 16 in
+    let k : ℕ = (p + (16 - (a % 8 + 16 - even e) % 16)) % 16 in
     let r : (e / 2 + (16 - a % 8 + p) % 16 / 2) % 8 ≡ k / 2 = omega arith in
-    let q : (16 - a % 8 + p) % 16 ≡ (k + 16 - (e - e % 2)) % 16 = omega arith in
-    diagonal_byte file (vt - vt % 8) (e / 2) ((16 - a % 8 + p) % 16) (omega arith)
-    ∙ ap (λ n. register_byte (vector file (vt - vt % 8 + n)) ((16 - a % 8 + p) % 16)) r
-    ∙ ap (register_byte (vector file (vt - vt % 8 + k / 2))) q))
+    let q : (16 - a % 8 + p) % 16 ≡ behind k (even e) = omega arith in
+    diagonal_byte file (group vt) (e / 2) ((16 - a % 8 + p) % 16) (omega arith)
+    ∙ ap (λ n. register_byte (vector file (group vt + n)) ((16 - a % 8 + p) % 16)) r
+    ∙ ap (register_byte (vector file (group vt + k / 2))) q))
     ∙ turned_stored file m
-    (λ k. from_byte (vt - vt % 8 + k / 2) ((k + 16 - (e - e % 2)) % 16) (place a (16 - (e - e % 2) + k)))
-    (λ k. register_byte (vector file (vt - vt % 8 + k / 2)) ((k + 16 - (e - e % 2)) % 16))
-    (block a) ((a % 8 + 16 - (e - e % 2)) % 16) (omega arith)
-    (λ m k. ap (λ p. with_byte m (block a + p) (register_byte (vector file (vt - vt % 8 + k / 2)) ((k + 16 - (e - e % 2)) % 16))) (omega arith))
+    (λ k. from_byte (group vt + k / 2) (behind k (even e)) (place a (behind k (even e))))
+    (λ k. register_byte (vector file (group vt + k / 2)) (behind k (even e)))
+    (block a) ((a % 8 + 16 - even e) % 16) (omega arith)
+    (λ m k. ap (λ p. with_byte m (block a + p) (register_byte (vector file (group vt + k / 2)) (behind k (even e)))) (omega arith))

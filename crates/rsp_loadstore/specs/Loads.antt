@@ -1,5 +1,5 @@
 -- Vector loads as lists of pairs: where a byte of memory goes, and the byte's address.
-use Rattle.std.specs.Prelude.{ℕ, ◌≡◌, ◌⊎◌, ◌+◌, ◌-◌, ◌*◌, ◌/◌, ◌%◌, min, Bool, true, false, List, slice_set}
+use Rattle.std.specs.Prelude.{ℕ, ◌≡◌, ◌⊎◌, ◌+◌, ◌-◌, ◌*◌, ◌/◌, ◌%◌, min, List, slice_set}
 use Rattle.std.specs.List.{fold}
 use Rattle.rsp_memory.specs.Memory.{byte_at}
 use Rattle.rsp_lanes.specs.Lanes.{with_register_byte}
@@ -8,7 +8,7 @@ use Rattle.rsp_decode.specs.declared.inst.Inst.TheVariants.{VectorLoad}
 use Rattle.rsp_decode.specs.declared.inst.VectorLoadRow.{VectorLoadRow}
 use Rattle.rsp_decode.specs.declared.inst.VectorLoadRow.TheVariants.{Lbv, Lsv, Llv, Ldv, Lqv, Lrv, Lpv, Luv, Lhv, Lfv, Ltv}
 use Rattle.rsp_loadstore.specs.File.{vector, with_vector}
-use Rattle.rsp_loadstore.specs.Pairs.{for_each, line, block, place}
+use Rattle.rsp_loadstore.specs.Pairs.{for_each, line, block, place, group}
 
 -- a byte of a register, or a lane, which gets the byte times a factor; and the address in memory, modulo 4096
 pub data Load : Type 0 where
@@ -37,12 +37,7 @@ load_pairs Lpv vt e a = for_each 8 (λ j. to_lane vt j 256 (place a (16 - e + j)
 load_pairs Luv vt e a = for_each 8 (λ j. to_lane vt j 128 (place a (16 - e + j)))
 load_pairs Lhv vt e a = for_each 8 (λ j. to_lane vt j 128 (place a (16 - e + 2 * j)))
 load_pairs Lfv vt e a = for_each 4 (λ j. to_lane vt (e / 2 + j) 128 (place a (4 * j)))
-load_pairs Ltv vt e a = for_each 16 (λ k. to_byte (vt - vt % 8 + (e / 2 + k / 2) % 8) k (block a + (k + e + a / 8 % 2 * 8) % 16))
-
--- whether a row writes the eight registers of a group, and not one alone
-abbrev pub writes_group : VectorLoadRow → Bool
-writes_group Ltv = true
-writes_group _ = false
+load_pairs Ltv vt e a = for_each 16 (λ k. to_byte (group vt + (e / 2 + k / 2) % 8) k (block a + (k + e + a / 8 % 2 * 8) % 16))
 
 -- the elements of LFV are 0 and 8
 abbrev pub IsLoadElement : VectorLoadRow → ℕ → Type 0

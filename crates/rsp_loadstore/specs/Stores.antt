@@ -7,7 +7,7 @@ use Rattle.rsp_decode.specs.declared.inst.Inst.{Inst}
 use Rattle.rsp_decode.specs.declared.inst.Inst.TheVariants.{VectorStore}
 use Rattle.rsp_decode.specs.declared.inst.VectorStoreRow.{VectorStoreRow}
 use Rattle.rsp_decode.specs.declared.inst.VectorStoreRow.TheVariants.{Sbv, Ssv, Slv, Sdv, Sqv, Srv, Spv, Suv, Shv, Sfv, Swv, Stv}
-use Rattle.rsp_loadstore.specs.Pairs.{for_each, line, block, place}
+use Rattle.rsp_loadstore.specs.Pairs.{for_each, line, place, group, even, behind}
 use Rattle.rsp_loadstore.specs.File.{vector, bits_14_to_7}
 
 -- a byte of a register, or bits 14 to 7 of the sixteen bits at a byte and the next, modulo 16; and the address in memory,
@@ -53,12 +53,7 @@ store_pairs Suv vt e a = for_each 8 (λ k. unsigned_packed vt ((e + k) % 16) (a 
 store_pairs Shv vt e a = for_each 8 (λ j. from_bits_14_to_7 vt ((e + 2 * j) % 16) (place a (2 * j)))
 store_pairs Sfv vt e a = for_each 4 (λ j. shifted vt (e / 2 + j) (place a (4 * j)))
 store_pairs Swv vt e a = for_each 16 (λ j. from_byte vt ((e + j) % 16) (place a j))
-store_pairs Stv vt e a = for_each 16 (λ k. from_byte (vt - vt % 8 + k / 2) ((k + 16 - (e - e % 2)) % 16) (place a (16 - (e - e % 2) + k)))
-
--- where the sixteen bytes begin that a row stores among
-abbrev pub window_of : VectorStoreRow → ℕ → ℕ
-window_of Srv a = line a
-window_of _ a = block a
+store_pairs Stv vt e a = for_each 16 (λ k. from_byte (group vt + k / 2) (behind k (even e)) (place a (behind k (even e))))
 
 -- the elements of SFV are 0 and 8
 abbrev pub IsStoreElement : VectorStoreRow → ℕ → Type 0

@@ -19,8 +19,9 @@ use Rattle.rsp_decode.specs.declared.inst.Control.{Control}
 use Rattle.rsp_decode.specs.Table.{inst_of}
 use Rattle.rsp_loadstore.specs.File.{vector, with_vector}
 use Rattle.rsp_loadstore.specs.Addresses.{transfer_address}
-use Rattle.rsp_loadstore.specs.Loads.{loaded_file, writes_group}
-use Rattle.rsp_loadstore.specs.Stores.{stored_memory, window_of}
+use Rattle.rsp_loadstore.specs.Loads.{loaded_file}
+use Rattle.rsp_loadstore.specs.Reach.{writes_group, window_of}
+use Rattle.rsp_loadstore.specs.Stores.{stored_memory}
 use Rattle.rsp_loadstore.specs.Moves.{moved_file}
 use Rattle.rsp_loadstore.proofs.Reach.{stored-back}
 use Rattle.rsp_regs.specs.Sp.{Sp, after_step, after_read, written}

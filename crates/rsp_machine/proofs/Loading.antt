@@ -5,7 +5,8 @@ use Rattle.std.proofs.Math.Nat.{add_assoc}
 use Rattle.rsp_memory.proofs.PutBack.{IsElsewhere}
 use Rattle.rsp_decode.specs.declared.inst.VectorLoadRow.{VectorLoadRow}
 use Rattle.rsp_loadstore.specs.File.{vector, with_vector}
-use Rattle.rsp_loadstore.specs.Loads.{after_load, load_pairs, writes_group}
+use Rattle.rsp_loadstore.specs.Loads.{after_load, load_pairs}
+use Rattle.rsp_loadstore.specs.Reach.{writes_group}
 use Rattle.rsp_loadstore.proofs.Reach.{first_of, count_of, length-load, load-elsewhere}
 use Rattle.rsp_machine.specs.Saved.{group_at, with_group}
 use Rattle.rsp_machine.proofs.Back.{back_is}

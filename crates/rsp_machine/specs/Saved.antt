@@ -21,8 +21,7 @@ use Rattle.rsp_scalar.specs.Registers.{register, with_register}
 use Rattle.rsp_scalar.specs.Rows.{address}
 use Rattle.rsp_loadstore.specs.File.{vector, with_vector}
 use Rattle.rsp_loadstore.specs.Addresses.{transfer_address}
-use Rattle.rsp_loadstore.specs.Loads.{writes_group}
-use Rattle.rsp_loadstore.specs.Stores.{window_of}
+use Rattle.rsp_loadstore.specs.Reach.{writes_group, window_of}
 use Rattle.rsp_machine.specs.State.{State}
 use Rattle.rsp_machine.specs.declared.change.Change.{Change}
 use Rattle.rsp_machine.specs.declared.change.Change.TheVariants as of

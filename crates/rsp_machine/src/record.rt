@@ -6,7 +6,7 @@ ghost use Rattle.rsp_scalar.specs.Registers.{register};
 ghost use Rattle.rsp_scalar.specs.Rows.{address};
 ghost use Rattle.rsp_loadstore.specs.File.{vector};
 ghost use Rattle.rsp_loadstore.specs.Addresses.{transfer_address};
-ghost use Rattle.rsp_loadstore.specs.Stores.{window_of};
+ghost use Rattle.rsp_loadstore.specs.Reach.{window_of};
 ghost use Rattle.rsp_machine.specs.declared.change.Change.TheVariants as change;
 ghost use Rattle.rsp_machine.specs.Saved.{IsChange, blank, is_back, may_store, group_at, with_group, vd_at, with_product, with_vco, undone};
 

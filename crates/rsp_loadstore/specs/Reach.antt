@@ -1,0 +1,17 @@
+-- Scaffolding of proofs: where a row's pairs reach, for whoever takes a step back.
+use Rattle.std.specs.Prelude.{ℕ, Bool, true, false}
+use Rattle.rsp_decode.specs.declared.inst.VectorLoadRow.{VectorLoadRow}
+use Rattle.rsp_decode.specs.declared.inst.VectorLoadRow.TheVariants.{Ltv}
+use Rattle.rsp_decode.specs.declared.inst.VectorStoreRow.{VectorStoreRow}
+use Rattle.rsp_decode.specs.declared.inst.VectorStoreRow.TheVariants.{Srv}
+use Rattle.rsp_loadstore.specs.Pairs.{line, block}
+
+-- whether a row writes the eight registers of a group, and not one alone
+abbrev pub writes_group : VectorLoadRow → Bool
+writes_group Ltv = true
+writes_group _ = false
+
+-- where the sixteen bytes begin that a row stores among
+abbrev pub window_of : VectorStoreRow → ℕ → ℕ
+window_of Srv a = line a
+window_of _ a = block a
