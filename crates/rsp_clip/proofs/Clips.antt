@@ -7,7 +7,8 @@ use Rattle.rsp_lanes.specs.Lanes.{bool_xor}
 use Rattle.rsp_numbers.specs.Numbers.{s16, sixteen_bits, complement, negated}
 use Rattle.rsp_flags.specs.Flags.{LaneFlags}
 use Rattle.rsp_flags.specs.Outcome.{Outcome, plain}
-use Rattle.rsp_clip.specs.Clips.{signs_differ, sum_or_difference, compare_flags, vch, vch_signs_differ, vch_signs_agree, vcl, vcr, vcr_signs_differ, vcr_signs_agree, clip_rule}
+use Rattle.rsp_clip.specs.Parts.{sum_or_difference}
+use Rattle.rsp_clip.specs.Clips.{signs_differ, compare_flags, vch, vch_signs_differ, vch_signs_agree, vcl, vcr, vcr_signs_differ, vcr_signs_agree, clip_rule}
 use Rattle.rsp_clip.specs.declared.op.ClipOp.{ClipOp}
 use Rattle.rsp_clip.specs.declared.op.ClipOp.TheVariants.{Vcl, Vch, Vcr}
 use Rattle.rsp_clip.proofs.Signs.{IsSigned, below_zero, is_negative, is_zero, is_minus_one, sum_or_difference_signed}
@@ -51,14 +52,14 @@ vch_code t n a b =
     plain (cond taken (cond t (negated b) b) a)
     (record { carry = t; differ = not (nat_eq n 0 || t && nat_eq n 65535); compare = compare; clip = clip; extra = t && nat_eq n 65535 })
 
-vch_cases : (t : Bool) (y z : ℤ) (a b : ℕ) → IsSigned (cond t y z)
-    → vch_code t (sixteen_bits (cond t y z)) a b ≡ cond t (vch_signs_differ a b y) (vch_signs_agree a b z)
-vch_cases true y z a b h = rw (is_negative y h, is_zero y h, is_minus_one y h, up_to_zero y, not_or, below_zero b) refl
-vch_cases false y z a b h = rw (is_negative z h, is_zero z h, zero_or_more z, or_false, below_zero b) refl
+vch_cases : (t : Bool) (y z : ℤ) (a b : ℕ) → IsSigned (cond t y z) → y ≡ s16 a +ℤ s16 b → z ≡ s16 a -ℤ s16 b
+    → vch_code t (sixteen_bits (cond t y z)) a b ≡ cond t (vch_signs_differ a b) (vch_signs_agree a b)
+vch_cases true y z a b h e k = rw (← e, is_negative y h, is_zero y h, is_minus_one y h, up_to_zero y, not_or, below_zero b) refl
+vch_cases false y z a b h e k = rw (← k, is_negative z h, is_zero z h, zero_or_more z, or_false, below_zero b) refl
 
 pub vch_is : (a b : ℕ) (f : LaneFlags) → a < 65536 → b < 65536
     → vch_code (signs_differ a b) (sixteen_bits (sum_or_difference a b)) a b ≡ vch a b f
-vch_is a b f h k = vch_cases (signs_differ a b) (s16 a +ℤ s16 b) (s16 a -ℤ s16 b) a b (sum_or_difference_signed a b h k)
+vch_is a b f h k = vch_cases (signs_differ a b) _ _ a b (sum_or_difference_signed a b h k) refl refl
 
 -- VCR
 abbrev pub vcr_code : Bool → ℕ → ℕ → ℕ → Outcome
@@ -114,9 +115,9 @@ vcl_low a b true false c l e f is = rw is refl
 vcl_low a b false true c l e f is = rw is refl
 vcl_low a b false false c l e f is = rw is refl
 
-vch_low : (t : Bool) (a b : ℕ) (y z : ℤ) → (cond t (vch_signs_differ a b y) (vch_signs_agree a b z)).result ≡ (cond t (vch_signs_differ a b y) (vch_signs_agree a b z)).low
-vch_low true a b y z = refl
-vch_low false a b y z = refl
+vch_low : (t : Bool) (a b : ℕ) → (cond t (vch_signs_differ a b) (vch_signs_agree a b)).result ≡ (cond t (vch_signs_differ a b) (vch_signs_agree a b)).low
+vch_low true a b = refl
+vch_low false a b = refl
 
 vcr_low : (t : Bool) (a b : ℕ) → (cond t (vcr_signs_differ a b) (vcr_signs_agree a b)).result ≡ (cond t (vcr_signs_differ a b) (vcr_signs_agree a b)).low
 vcr_low true a b = refl
@@ -124,5 +125,5 @@ vcr_low false a b = refl
 
 pub low_is : (op : ClipOp) (a b : ℕ) (f : LaneFlags) → (clip_rule op a b f).result ≡ (clip_rule op a b f).low
 low_is Vcl a b f = vcl_low a b f.carry f.differ f.compare f.clip f.extra f refl
-low_is Vch a b f = vch_low (signs_differ a b) a b (s16 a +ℤ s16 b) (s16 a -ℤ s16 b)
+low_is Vch a b f = vch_low (signs_differ a b) a b
 low_is Vcr a b f = vcr_low (signs_differ a b) a b

@@ -7,7 +7,8 @@ use Rattle.std.proofs.lemmas.Bool.{cases_lt, le-ltb, lt-ltb}
 use Rattle.std.proofs.lemmas.Bool.Decides.{nat_tests}
 use Rattle.rsp_lanes.specs.Lanes.{bool_xor}
 use Rattle.rsp_numbers.specs.Numbers.{s16, modulo, negated}
-use Rattle.rsp_clip.specs.Clips.{signs_differ, sum_or_difference}
+use Rattle.rsp_clip.specs.Clips.{signs_differ}
+use Rattle.rsp_clip.specs.Parts.{sum_or_difference}
 
 small : (a : ℕ) → a < 32768 → s16 a ≡ pos a
 small a h = omega (arith, ints)

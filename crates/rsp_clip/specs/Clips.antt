@@ -13,10 +13,6 @@ use Rattle.rsp_clip.specs.declared.op.ClipOp.TheVariants.{Vcl, Vch, Vcr}
 abbrev pub signs_differ : ℕ → ℕ → Bool
 signs_differ a b = bool_xor (int_lt (s16 a) (pos 0)) (int_lt (s16 b) (pos 0))
 
--- of the signed readings the sum where their signs differ, else the difference
-abbrev pub sum_or_difference : ℕ → ℕ → ℤ
-sum_or_difference a b = if signs_differ a b then s16 a +ℤ s16 b else s16 a -ℤ s16 b
-
 -- the flags with this compare and this clip: carry, not-equal and extra are cleared
 abbrev pub compare_flags : Bool → Bool → LaneFlags
 compare_flags compare clip = record { carry = false; differ = false; compare = compare; clip = clip; extra = false }
@@ -29,9 +25,10 @@ by_compare limit a compare clip = plain (if compare then limit else a) (compare_
 abbrev pub by_clip : ℕ → ℕ → Bool → Bool → Outcome
 by_clip b a compare clip = plain (if clip then b else a) (compare_flags compare clip)
 
--- VCH where the signs differ: n is the sum of the signed readings, and the limit is -b
-abbrev pub vch_signs_differ : ℕ → ℕ → ℤ → Outcome
-vch_signs_differ a b n =
+-- VCH where the signs differ: the limit is -b, and n is the sum
+abbrev pub vch_signs_differ : ℕ → ℕ → Outcome
+vch_signs_differ a b =
+    let n = s16 a +ℤ s16 b in
     plain (if int_le n (pos 0) then negated b else a)
     (record {
       carry = true;
@@ -41,9 +38,10 @@ vch_signs_differ a b n =
       extra = int_eq n (negsuc 0);
     })
 
--- VCH where they agree: n is the signed reading of a less that of b, and the limit is b
-abbrev pub vch_signs_agree : ℕ → ℕ → ℤ → Outcome
-vch_signs_agree a b n =
+-- VCH where they agree: the limit is b, and n is the difference
+abbrev pub vch_signs_agree : ℕ → ℕ → Outcome
+vch_signs_agree a b =
+    let n = s16 a -ℤ s16 b in
     plain (if int_le (pos 0) n then b else a)
     (record {
       carry = false;
@@ -55,9 +53,7 @@ vch_signs_agree a b n =
 
 -- VCH, which reads no flag
 abbrev pub vch : Rule
-vch a b f =
-    if signs_differ a b then vch_signs_differ a b (s16 a +ℤ s16 b)
-    else vch_signs_agree a b (s16 a -ℤ s16 b)
+vch a b f = if signs_differ a b then vch_signs_differ a b else vch_signs_agree a b
 
 -- what VCL puts in compare where carry alone is set: n is the whole sum of the unsigned readings
 abbrev pub vcl_compare : ℕ → Bool → Bool

@@ -1,2 +1,3 @@
 -- The clip rows.
 pub mod Clips
+pub mod Parts

@@ -1,7 +1,8 @@
 ghost use Rattle.std.specs.Prelude.{◌≡◌, cond, false, slice_index, slice_index_or};
 ghost use Rattle.rsp_lanes.specs.Lanes.{each_lane};
 ghost use Rattle.rsp_numbers.specs.Numbers.{sixteen_bits};
-ghost use Rattle.rsp_clip.specs.Clips.{signs_differ, sum_or_difference};
+ghost use Rattle.rsp_clip.specs.Clips.{signs_differ};
+ghost use Rattle.rsp_clip.specs.Parts.{sum_or_difference};
 
 use rsp_lanes::{Mask8, VReg};
 
