@@ -1,6 +1,7 @@
 -- The reciprocal and the root of a signed number of 32 bits.
-use Rattle.std.specs.Prelude.{ℕ, ℤ, pos, negsuc, ◌+◌, ◌-◌, ◌*◌, ◌/◌, ◌%◌, ◌^◌, ◌==◌, nat_lt, if◌then◌else◌}
+use Rattle.std.specs.Prelude.{ℕ, ℤ, pos, negsuc, ◌+◌, ◌-◌, ◌*◌, ◌/◌, ◌%◌, ◌^◌, ◌-ℤ◌, int_lt, unsigned_abs, if◌then◌else◌}
 use Rattle.std.specs.Int.{leading_zeros, w32}
+use Rattle.std.specs.Ordering.{int_eq}
 use Rattle.rsp_divide.specs.Entries.{reciprocal_entry, root_entry}
 
 -- the count of leading zeros in 32 bits
@@ -27,15 +28,18 @@ reciprocal_bits y = scaled (reciprocal_entry (nine_bits y)) (31 - zeros y)
 unfoldable pub root_bits : ℕ → ℕ
 root_bits y = scaled (root_entry (root_index y)) ((31 - zeros y) / 2)
 
--- The quotient of a signed number: by its sign, with special answers for 0 and -32768. Of a negative number the size is
--- taken, which below -32768 is one less, and the answer is the complement. Here -(n + 1) is `negsuc n`, so that the
--- complement of r is `negsuc r`.
+-- the size of a negative number, which is one less where the number is below -32768
+abbrev pub size_of : ℤ → ℕ
+size_of x = if int_lt x (negsuc 32767) then unsigned_abs x - 1 else unsigned_abs x
+
+-- the quotient of a signed number: special ones of 0 and of -32768; of a positive number what `bits` gives; of another negative
+-- one the complement of what it gives for the size
 abbrev pub quotient_of : (ℕ → ℕ) → ℤ → ℤ
-quotient_of bits (pos y) = if y == 0 then pos 2147483647 else pos (bits y)
-quotient_of bits (negsuc n) =
-    if nat_lt n 32767 then negsuc (bits (n + 1))
-    else if n == 32767 then negsuc 65535
-    else negsuc (bits n)
+quotient_of bits x =
+    if int_eq x (pos 0) then pos 2147483647
+    else if int_eq x (negsuc 32767) then negsuc 65535
+    else if int_lt x (pos 0) then negsuc 0 -ℤ pos (bits (size_of x))
+    else pos (bits (unsigned_abs x))
 
 -- the reciprocal of a signed number
 abbrev pub reciprocal_of : ℤ → ℤ
