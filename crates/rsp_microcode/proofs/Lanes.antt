@@ -8,7 +8,7 @@ use Rattle.rsp_lanes.proofs.Kit.{lane_of}
 use Rattle.rsp_loadstore.specs.File.{vector, with_vector}
 use Rattle.rsp_acc.specs.Parts.{clamp_of}
 use Rattle.rsp_acc.specs.declared.parts.Clamp.TheVariants.{Signed, LowKind}
-use Rattle.rsp_multiply.specs.Rows.{lower, middle_left, middle_right, upper}
+use Rattle.rsp_multiply.specs.Rows.{unsigned_over_65536, signed_by_unsigned, unsigned_by_signed, signed_times_65536}
 use Rattle.rsp_microcode.specs.Product.{fixed, limited, fixed_product}
 use Rattle.rsp_microcode.proofs.Multiplies.{read_same, read_other}
 use Rattle.rsp_microcode.proofs.Whole.{sum, whole, in_range, clamped}
@@ -37,14 +37,14 @@ itself v i h = lane_of 0 (λ i. get_or v i 0) (selected v 0) refl i h
 -- the addends so far, and the one of the last row, whose sources are 0
 abbrev so_far : List ℕ → List ℕ → List ℕ → List ℕ → ℕ → ℤ
 so_far a b c d i =
-    (((pos 0 +ℤ lower (get_or b i 0) (get_or (selected d 0) i 0)) +ℤ middle_left (get_or a i 0) (get_or (selected d 0) i 0))
-    +ℤ middle_right (get_or b i 0) (get_or (selected c 0) i 0)) +ℤ upper (get_or a i 0) (get_or (selected c 0) i 0)
+    (((pos 0 +ℤ unsigned_over_65536 (get_or b i 0) (get_or (selected d 0) i 0)) +ℤ signed_by_unsigned (get_or a i 0) (get_or (selected d 0) i 0))
+    +ℤ unsigned_by_signed (get_or b i 0) (get_or (selected c 0) i 0)) +ℤ signed_times_65536 (get_or a i 0) (get_or (selected c 0) i 0)
 
 abbrev last : List ℕ → ℕ → ℤ
-last z i = middle_right (get_or z i 0) (get_or (selected z 0) i 0)
+last z i = unsigned_by_signed (get_or z i 0) (get_or (selected z 0) i 0)
 
 far_sum : (a b c d : List ℕ) (i : ℕ) → i < 8 → so_far a b c d i ≡ sum (get_or a i 0) (get_or b i 0) (get_or c i 0) (get_or d i 0)
-far_sum a b c d i h = rw (itself d i h, itself c i h, +ℤ_idl (lower (get_or b i 0) (get_or d i 0))) refl
+far_sum a b c d i h = rw (itself d i h, itself c i h, +ℤ_idl (unsigned_over_65536 (get_or b i 0) (get_or d i 0))) refl
 
 nothing : (z : List ℕ) (i : ℕ) → i < 8 → z ≡ each_lane (λ _. 0) → last z i ≡ pos 0
 nothing z i h e = rw (lane_of 0 (λ _. 0) z e i h) (zero-*ℤ (s16 (get_or (selected z 0) i 0)))

@@ -13,7 +13,7 @@ use Rattle.rsp_numbers.proofs.Signed.{s16_small, s16_large, s32_small, s32_large
 use Rattle.rsp_multiply.proofs.Signs.{mixed, signed}
 use Rattle.rsp_acc.specs.Parts.{clamp_of}
 use Rattle.rsp_acc.specs.declared.parts.Clamp.TheVariants.{Signed, LowKind}
-use Rattle.rsp_multiply.specs.Rows.{lower, middle_left, middle_right, upper}
+use Rattle.rsp_multiply.specs.Rows.{unsigned_over_65536, signed_by_unsigned, unsigned_by_signed, signed_times_65536}
 use Rattle.rsp_microcode.specs.Product.{limited}
 
 -- a number of 32 bits from its halves
@@ -40,7 +40,7 @@ floored (negsuc n) (negsuc m) r h e = omega (arith, ints)
 
 -- the sum of the five addends
 abbrev pub sum : ℕ → ℕ → ℕ → ℕ → ℤ
-sum a b c d = ((lower b d +ℤ middle_left a d) +ℤ middle_right b c) +ℤ upper a c
+sum a b c d = ((unsigned_over_65536 b d +ℤ signed_by_unsigned a d) +ℤ unsigned_by_signed b c) +ℤ signed_times_65536 a c
 
 pub whole : (a b c d : ℕ) → a < 65536 → b < 65536 → c < 65536 → d < 65536
     → floor_div (s32 (a * 65536 + b) *ℤ s32 (c * 65536 + d)) 65536 ≡ sum a b c d
@@ -55,7 +55,7 @@ in_range a b c d h i j k =
     let r = (signed a c h j).1 in
     let m : b * d ≤ 65535 * 65535 = let u : b ≤ 65535 = omega arith in let v : d ≤ 65535 = omega arith in mul-le-mul u v in
     let e : pos b *ℤ s16 c ≡ s16 c *ℤ pos b = *ℤ_comm (pos b) (s16 c) in
-    bounded (lower b d) (s16 a *ℤ pos d) (pos b *ℤ s16 c) (s16 a *ℤ s16 c) (omega (arith, ints)) (omega (arith, ints)) p.low p.high (rw e q.low) (rw e q.high) r.low r.high
+    bounded (unsigned_over_65536 b d) (s16 a *ℤ pos d) (pos b *ℤ s16 c) (s16 a *ℤ s16 c) (omega (arith, ints)) (omega (arith, ints)) p.low p.high (rw e q.low) (rw e q.high) r.low r.high
   where
     bounded : (l x y z : ℤ) → pos 0 ≤ℤ l → l <ℤ pos 65536 → negsuc (2 ^ 31 - 1) ≤ℤ x → x <ℤ pos (2 ^ 31) → negsuc (2 ^ 31 - 1) ≤ℤ y → y <ℤ pos (2 ^ 31)
         → negsuc (2 ^ 30 - 1) ≤ℤ z → z ≤ℤ pos (2 ^ 30) → s48 (((l +ℤ x) +ℤ y) +ℤ z *ℤ pos 65536) ≡ ((l +ℤ x) +ℤ y) +ℤ z *ℤ pos 65536

@@ -10,7 +10,7 @@ use Rattle.rsp_numbers.proofs.Wrap.{s48_is}
 use Rattle.rsp_numbers.proofs.Join.{join_small, join_large}
 use Rattle.rsp_acc.specs.Parts.{clamp_of}
 use Rattle.rsp_acc.specs.declared.parts.Clamp.TheVariants.{Signed}
-use Rattle.rsp_multiply.specs.Mpeg.{step, mpeg_half}
+use Rattle.rsp_multiply.specs.Mpeg.{vmacq_step, mpeg_half}
 
 -- an accumulator by its upper 32 bits
 pub by_upper : (P : ℕ → ℕ → ℤ → Type 0) (x : ℤ) → IsNumber x
@@ -34,21 +34,21 @@ bit_5 m = and_high m 1 5
 -- the step by the high and middle sixteen bits
 pub step_lane : (x : ℤ) → IsNumber x
     → cond (nat_eq (high x) 0 && nat_lt (middle x) 32) 0 (cond (nat_eq (bit_and (middle x) 32) 0) (cond (nat_lt 32767 (high x)) 32 65504) 0)
-    ≡ sixteen_bits (step (floor_div x 65536))
-step_lane x h = by_upper (λ u m p. cond (nat_eq u 0 && nat_lt m 32) 0 (cond (nat_eq (bit_and m 32) 0) (cond (nat_lt 32767 u) 32 65504) 0) ≡ sixteen_bits (step p)) x h
+    ≡ sixteen_bits (vmacq_step (floor_div x 65536))
+step_lane x h = by_upper (λ u m p. cond (nat_eq u 0 && nat_lt m 32) 0 (cond (nat_eq (bit_and m 32) 0) (cond (nat_lt 32767 u) 32 65504) 0) ≡ sixteen_bits (vmacq_step p)) x h
     (λ q b. rw (bit_5 (q % 65536)) (grind (arith, nat_tests)))
     (λ q b. rw (bit_5 (65535 - q % 65536)) (grind (arith, nat_tests)))
 
-step_again : (p : ℤ) → s16 (sixteen_bits (step p)) ≡ step p
+step_again : (p : ℤ) → s16 (sixteen_bits (vmacq_step p)) ≡ vmacq_step p
 step_again (pos q) = grind (arith, nat_tests)
 step_again (negsuc q) = grind (arith, nat_tests)
 
 -- the accumulator after a step
-pub stepped : (x : ℤ) → IsNumber x → s48 (x +ℤ s16 (sixteen_bits (step (floor_div x 65536))) *ℤ pos 65536) ≡ (floor_div x 65536 +ℤ step (floor_div x 65536)) *ℤ pos 65536 +ℤ pos (low x)
+pub stepped : (x : ℤ) → IsNumber x → s48 (x +ℤ s16 (sixteen_bits (vmacq_step (floor_div x 65536))) *ℤ pos 65536) ≡ (floor_div x 65536 +ℤ vmacq_step (floor_div x 65536)) *ℤ pos 65536 +ℤ pos (low x)
 unfolding low
 stepped x h = rw (step_again (floor_div x 65536)) (go x h)
   where
-    go : (x : ℤ) → IsNumber x → s48 (x +ℤ step (floor_div x 65536) *ℤ pos 65536) ≡ (floor_div x 65536 +ℤ step (floor_div x 65536)) *ℤ pos 65536 +ℤ pos (sixteen_bits x)
+    go : (x : ℤ) → IsNumber x → s48 (x +ℤ vmacq_step (floor_div x 65536) *ℤ pos 65536) ≡ (floor_div x 65536 +ℤ vmacq_step (floor_div x 65536)) *ℤ pos 65536 +ℤ pos (sixteen_bits x)
     go (pos n) h = s48_is _ _ 0 0 (grind (arith, nat_tests)) (grind (arith, nat_tests)) (grind (arith, nat_tests))
     go (negsuc n) h = s48_is _ _ 0 0 (grind (arith, nat_tests)) (grind (arith, nat_tests)) (grind (arith, nat_tests))
 

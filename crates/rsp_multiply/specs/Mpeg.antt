@@ -34,8 +34,8 @@ has_bit_5 p = nat_eq (modulo (floor_div p 32) 2) 1
 
 -- the step of a number by VMACQ: none where its bit 5 is set, else 32 up for a negative one, and 32
 -- down for one of 32 or more
-abbrev pub step : ℤ → ℤ
-step p =
+abbrev pub vmacq_step : ℤ → ℤ
+vmacq_step p =
     if has_bit_5 p then pos 0
     else if int_lt p (pos 0) then pos 32
     else if int_lt p (pos 32) then pos 0
@@ -45,7 +45,7 @@ step p =
 -- 0, or for VMACQ the low sixteen bits that were there. VMACQ takes p from the accumulator
 abbrev pub mpeg_accumulated : MpegOp → ℤ → ℕ → ℕ → ℤ
 mpeg_accumulated Vmulq x a b = mpeg_product a b *ℤ pos 65536
-mpeg_accumulated Vmacq x a b = let p = floor_div x 65536 in (p +ℤ step p) *ℤ pos 65536 +ℤ pos (low x)
+mpeg_accumulated Vmacq x a b = let p = floor_div x 65536 in (p +ℤ vmacq_step p) *ℤ pos 65536 +ℤ pos (low x)
 
 -- the result of an MPEG multiply that left p: half of p, rounded down, limited to -32768 .. 32767, as
 -- sixteen bits, of which the low four are cleared

@@ -24,35 +24,35 @@ abbrev pub rounded : ℕ → ℕ → ℤ
 rounded a b = fraction a b +ℤ pos 32768
 
 -- the product of the lanes as unsigned numbers, divided by 65536 and rounded down
-abbrev pub lower : ℕ → ℕ → ℤ
-lower a b = pos (a * b / 65536)
+abbrev pub unsigned_over_65536 : ℕ → ℕ → ℤ
+unsigned_over_65536 a b = pos (a * b / 65536)
 
 -- a as a signed number by b as an unsigned one
-abbrev pub middle_left : ℕ → ℕ → ℤ
-middle_left a b = s16 a *ℤ pos b
+abbrev pub signed_by_unsigned : ℕ → ℕ → ℤ
+signed_by_unsigned a b = s16 a *ℤ pos b
 
 -- a as an unsigned number by b as a signed one
-abbrev pub middle_right : ℕ → ℕ → ℤ
-middle_right a b = pos a *ℤ s16 b
+abbrev pub unsigned_by_signed : ℕ → ℕ → ℤ
+unsigned_by_signed a b = pos a *ℤ s16 b
 
 -- the product of the lanes as signed numbers, times 65536
-abbrev pub upper : ℕ → ℕ → ℤ
-upper a b = (s16 a *ℤ s16 b) *ℤ pos 65536
+abbrev pub signed_times_65536 : ℕ → ℕ → ℤ
+signed_times_65536 a b = (s16 a *ℤ s16 b) *ℤ pos 65536
 
 -- the table of the twelve rows
 abbrev pub row : MultiplyOp → Row
 row Vmulf = record { addend = rounded; adds = false; clamp = Signed }
 row Vmulu = record { addend = rounded; adds = false; clamp = Unsigned }
-row Vmudl = record { addend = lower; adds = false; clamp = LowKind }
-row Vmudm = record { addend = middle_left; adds = false; clamp = Signed }
-row Vmudn = record { addend = middle_right; adds = false; clamp = LowKind }
-row Vmudh = record { addend = upper; adds = false; clamp = Signed }
+row Vmudl = record { addend = unsigned_over_65536; adds = false; clamp = LowKind }
+row Vmudm = record { addend = signed_by_unsigned; adds = false; clamp = Signed }
+row Vmudn = record { addend = unsigned_by_signed; adds = false; clamp = LowKind }
+row Vmudh = record { addend = signed_times_65536; adds = false; clamp = Signed }
 row Vmacf = record { addend = fraction; adds = true; clamp = Signed }
 row Vmacu = record { addend = fraction; adds = true; clamp = Unsigned }
-row Vmadl = record { addend = lower; adds = true; clamp = LowKind }
-row Vmadm = record { addend = middle_left; adds = true; clamp = Signed }
-row Vmadn = record { addend = middle_right; adds = true; clamp = LowKind }
-row Vmadh = record { addend = upper; adds = true; clamp = Signed }
+row Vmadl = record { addend = unsigned_over_65536; adds = true; clamp = LowKind }
+row Vmadm = record { addend = signed_by_unsigned; adds = true; clamp = Signed }
+row Vmadn = record { addend = unsigned_by_signed; adds = true; clamp = LowKind }
+row Vmadh = record { addend = signed_times_65536; adds = true; clamp = Signed }
 
 -- the accumulator x after a row on the lanes a and b
 abbrev pub accumulated : MultiplyOp → ℤ → ℕ → ℕ → ℤ

@@ -4,7 +4,7 @@
 ghost use Rattle.std.specs.Prelude.{◌≡◌, ◌*ℤ◌, pos, slice_index, int_lt};
 ghost use Rattle.rsp_lanes.specs.Lanes.{each_lane};
 ghost use Rattle.rsp_numbers.specs.Numbers.{s16, number, floor_div, sixteen_bits};
-ghost use Rattle.rsp_multiply.specs.Mpeg.{rounding_adds, rounding, step, accumulators_rounded, clamped_signed, accumulators_mpeg, halved_mpeg};
+ghost use Rattle.rsp_multiply.specs.Mpeg.{rounding_adds, rounding, vmacq_step, accumulators_rounded, clamped_signed, accumulators_mpeg, halved_mpeg};
 
 use crate::products::upper;
 use crate::{MpegOp, RoundOp};
@@ -82,7 +82,7 @@ pub fn round_op<A: Acc>(op: RoundOp, odd: bool, b: &VReg, acc: &mut A) -> VReg
 /// The steps of VMACQ, as sixteen bits.
 #[inline(always)]
 fn steps<A: Acc>(acc: &A) -> VReg
-    ensures { result ≡ each_lane (λ i. sixteen_bits (step (floor_div (number (A.numbers acc.now) i) 65536))) }
+    ensures { result ≡ each_lane (λ i. sixteen_bits (vmacq_step (floor_div (number (A.numbers acc.now) i) 65536))) }
 {
     acc.ranges();
     let zeros = VReg::new();

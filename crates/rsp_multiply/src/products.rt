@@ -4,7 +4,7 @@ ghost use Rattle.std.specs.Prelude.{◌≡◌, ◌*ℤ◌, pos, slice_index, nat
 ghost use Rattle.rsp_lanes.specs.Lanes.{each_lane};
 ghost use Rattle.rsp_numbers.specs.Numbers.{s16, sixteen_bits, upper_bits, join};
 ghost use Rattle.rsp_multiply.specs.Doubles.{doubled_high, doubled_low, doubled_sign};
-ghost use Rattle.rsp_multiply.specs.Rows.{rounded, lower, middle_left, upper, fraction};
+ghost use Rattle.rsp_multiply.specs.Rows.{rounded, unsigned_over_65536, signed_by_unsigned, signed_times_65536, fraction};
 
 use rsp_acc::Addends;
 use rsp_lanes::VReg;
@@ -101,7 +101,7 @@ pub(crate) fn rounded(a: &VReg, b: &VReg) -> Addends
 /// The unsigned products divided by 65536, rounded down.
 #[inline(always)]
 pub(crate) fn lower(a: &VReg, b: &VReg) -> Addends
-    ensures { result ≡ each_lane (λ i. lower (slice_index a.now i) (slice_index b.now i)) }
+    ensures { result ≡ each_lane (λ i. unsigned_over_65536 (slice_index a.now i) (slice_index b.now i)) }
 {
     a.ranges();
     b.ranges();
@@ -113,7 +113,7 @@ pub(crate) fn lower(a: &VReg, b: &VReg) -> Addends
 /// The products of a's lanes as signed numbers and b's as unsigned ones.
 #[inline(always)]
 pub(crate) fn middle(a: &VReg, b: &VReg) -> Addends
-    ensures { result ≡ each_lane (λ i. middle_left (slice_index a.now i) (slice_index b.now i)) }
+    ensures { result ≡ each_lane (λ i. signed_by_unsigned (slice_index a.now i) (slice_index b.now i)) }
 {
     a.ranges();
     b.ranges();
@@ -124,7 +124,7 @@ pub(crate) fn middle(a: &VReg, b: &VReg) -> Addends
 /// The signed products times 65536.
 #[inline(always)]
 pub(crate) fn upper(a: &VReg, b: &VReg) -> Addends
-    ensures { result ≡ each_lane (λ i. upper (slice_index a.now i) (slice_index b.now i)) }
+    ensures { result ≡ each_lane (λ i. signed_times_65536 (slice_index a.now i) (slice_index b.now i)) }
 {
     a.ranges();
     b.ranges();
