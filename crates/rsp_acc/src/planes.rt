@@ -100,8 +100,9 @@ impl Acc for PlaneAcc {
         }
     }
 
-    /// The high plane tells the sign, and high and middle plane together whether the upper 32
-    /// bits are the sign extension of the middle ones.
+    /// Signed: high and middle plane joined, as numbers of 32 bits, are limited. Unsigned and low:
+    /// the high plane tells the sign, and both together whether the upper 32 bits are the sign
+    /// extension of the middle ones.
     #[inline(always)]
     fn clamp(&self, clamp: Clamp) -> VReg {
         let high = VReg::from_simd(self.high);
