@@ -1,5 +1,5 @@
 -- No text means a fault of memory.
-use Rattle.std.proofs.Common.{◌≡◌, refl, subst, ap, ◌∙◌, ℕ, ◌+◌, ◌*◌, List, [], ◌∷◌, ◌++◌, length, Bool, true, false, sym, inl, inr}
+use Rattle.std.proofs.Common.{◌≡◌, refl, subst, ap, ◌∙◌, ℕ, zero, suc, ◌+◌, ◌*◌, List, [], ◌∷◌, length, Bool, true, false, sym, inl, inr}
 use Rattle.std.specs.Prelude.{Option, Some, None, Result, Ok, Err, ◌==◌, if◌then◌else◌, nat_lt, ℤ}
 use Rattle.std.specs.List.{before_first, after_first}
 use Rattle.rsp_text.specs.declared.fault.AsmFault.{AsmFault}
@@ -14,7 +14,7 @@ use Rattle.rsp_text.specs.Source.{Parts, parts_of, is_twice, has_bad_number, sta
 use Rattle.std.specs.Str.Lines.{lines}
 use Rattle.std.proofs.lemmas.Bool.{false≢true}
 use Rattle.rsp_asm.specs.Answer.{IsFault, HidesNoFault}
-use Rattle.rsp_text.specs.Means.{this_or, lowest, then_later, in_turn, first, second, unless, labels_from, means_lines}
+use Rattle.rsp_text.specs.Means.{all_labels, fault_of_line, words_of_line, or_fault, fault_before, and_words, words_before, unless, means_lines}
 
 -- a kind that a text can have
 abbrev pub of_text : AsmFaultKind → Bool
@@ -68,13 +68,14 @@ first_fine : (labels : Labels) (place : ℕ) (line : List ℕ) → Fine (first_f
 unfolding first_fault
 first_fine labels place line = parts_fine labels place (parts_of line)
 
-lowest_fine : (fault : List (List ℕ) → List ℕ → Option AsmFaultKind) → ((earlier : List (List ℕ)) (l : List ℕ) → Fine (fault earlier l)) → (earlier ls : List (List ℕ)) (f : AsmFault) → lowest fault earlier ls ≡ Some f → of_text f.kind ≡ true
-lowest_fine fault fine earlier [] f e = absurd cc
-lowest_fine fault fine earlier (l ∷ ls) f e = go (fault earlier l) (fine earlier l) (lowest_fine fault fine (earlier ++ l ∷ []) ls f) e
+fault_fine : (origin : ℕ) (ls : List (List ℕ)) (n : ℕ) (f : AsmFault) → fault_before origin ls n ≡ Some f → of_text f.kind ≡ true
+fault_fine origin ls zero f e = absurd cc
+fault_fine origin ls (suc n) f e = go (fault_before origin ls n) (fault_fine origin ls n f) (fault_of_line origin ls n) (first_fine _ _ _) e
   where
-    go : (o : Option AsmFaultKind) → Fine o → (lowest fault (earlier ++ l ∷ []) ls ≡ Some f → of_text f.kind ≡ true) → this_or (length earlier + 1) o (lowest fault (earlier ++ l ∷ []) ls) ≡ Some f → of_text f.kind ≡ true
-    go None h later e = later e
-    go (Some kind) h later e =
+    go : (o : Option AsmFault) → (o ≡ Some f → of_text f.kind ≡ true) → (q : Option AsmFaultKind) → Fine q → or_fault o (suc n) q ≡ Some f → of_text f.kind ≡ true
+    go (Some g) earlier q h e = earlier e
+    go None earlier None h e = absurd cc
+    go None earlier (Some kind) h e =
         let same : kind ≡ f.kind = cc in
         subst (λ k. of_text k ≡ true) same h
 
@@ -124,28 +125,26 @@ second_fine : (labels : Labels) (place : ℕ) (line : List ℕ) → FineResult (
 unfolding line_words
 second_fine labels place line = line_fine labels place (parts_of line)
 
-turn_fine : (words : List (List ℕ) → List ℕ → Result (List ℕ) AsmFaultKind) → ((earlier : List (List ℕ)) (l : List ℕ) → FineResult (words earlier l)) → (earlier ls : List (List ℕ)) (f : AsmFault) → in_turn words earlier ls ≡ Err f → of_text f.kind ≡ true
-turn_fine words fine earlier [] f e = absurd cc
-turn_fine words fine earlier (l ∷ ls) f e = go (words earlier l) (fine earlier l) (in_turn words (earlier ++ l ∷ []) ls) (turn_fine words fine (earlier ++ l ∷ []) ls f) e
+words_of_text : (labels : Labels) (origin : ℕ) (ls : List (List ℕ)) (n : ℕ) (f : AsmFault) → words_before labels origin ls n ≡ Err f → of_text f.kind ≡ true
+words_of_text labels origin ls zero f e = absurd cc
+words_of_text labels origin ls (suc n) f e = go (words_before labels origin ls n) (words_of_text labels origin ls n f) (words_of_line labels origin ls n) (second_fine _ _ _) e
   where
-    go : (r : Result (List ℕ) AsmFaultKind) → FineResult r → (later : Result (List ℕ) AsmFault) → (later ≡ Err f → of_text f.kind ≡ true) → then_later (length earlier + 1) r later ≡ Err f → of_text f.kind ≡ true
-    go (Err kind) h later rest e =
+    go : (o : Result (List ℕ) AsmFault) → (o ≡ Err f → of_text f.kind ≡ true) → (q : Result (List ℕ) AsmFaultKind) → FineResult q → and_words o (suc n) q ≡ Err f → of_text f.kind ≡ true
+    go (Err g) earlier q h e = earlier e
+    go (Ok ws) earlier (Ok more) h e = absurd cc
+    go (Ok ws) earlier (Err kind) h e =
         let same : kind ≡ f.kind = cc in
         subst (λ k. of_text k ≡ true) same h
-    go (Ok ws) h (Err fault) rest e =
-        let same : fault ≡ f = cc in
-        rest (ap Err same)
-    go (Ok ws) h (Ok more) rest e = absurd cc
 
 -- the fault that lines mean is one of the text
 pub means_of_text : (ls : List (List ℕ)) (origin : ℕ) (f : AsmFault) → means_lines ls origin ≡ Err f → of_text f.kind ≡ true
-means_of_text ls origin f e = go (lowest (first origin) [] ls) refl e
+means_of_text ls origin f e = go (fault_before origin ls (length ls)) refl e
   where
-    go : (o : Option AsmFault) → lowest (first origin) [] ls ≡ o → unless o (in_turn (second origin (labels_from origin ls)) [] ls) ≡ Err f → of_text f.kind ≡ true
-    go None is e = turn_fine (second origin (labels_from origin ls)) (λ earlier l. second_fine _ _ l) [] ls f e
+    go : (o : Option AsmFault) → fault_before origin ls (length ls) ≡ o → unless o (words_before (all_labels origin ls) origin ls (length ls)) ≡ Err f → of_text f.kind ≡ true
+    go None is e = words_of_text (all_labels origin ls) origin ls (length ls) f e
     go (Some fault) is e =
         let same : fault ≡ f = cc in
-        lowest_fine (first origin) (λ earlier l. first_fine _ _ l) [] ls f (is ∙ ap Some same)
+        fault_fine origin ls (length ls) f (is ∙ ap Some same)
 
 -- want of memory is at a line where it hides no fault of the text
 pub short_hides : (origin : ℕ) (text : List ℕ) (f : AsmFault) → IsFault origin text f → f.kind ≡ OutOfMemory → HidesNoFault origin (lines text) f.line

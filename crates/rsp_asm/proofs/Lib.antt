@@ -9,3 +9,4 @@ pub mod Faults
 pub mod Fits
 pub mod Decodes
 pub mod Same
+pub mod Blocks

@@ -1,6 +1,6 @@
 -- Tables with the same place for each name give each line the same fault and the same words.
-use Rattle.std.proofs.Common.{◌≡◌, refl, sym, ap, ◌∙◌, ℕ, List, [], ◌∷◌, ◌++◌, length, Bool, true, false, inl, inr, arith}
-use Rattle.std.specs.Prelude.{Option, Some, None, is_some, Result, Ok, Err, if◌then◌else◌, pos, ◌+ℤ◌, option_map, ◌+◌}
+use Rattle.std.proofs.Common.{◌≡◌, refl, sym, ap, ◌∙◌, ℕ, zero, suc, List, [], ◌∷◌, ◌++◌, length, Bool, true, false, inl, inr, arith}
+use Rattle.std.specs.Prelude.{Option, Some, None, is_some, Result, Ok, Err, if◌then◌else◌, pos, ◌+ℤ◌, option_map}
 use Rattle.std.specs.Str.{bytes_eq}
 use Rattle.std.proofs.lemmas.Bool.{cases_Bool, cond-true, cond-false}
 use Rattle.std.proofs.lemmas.Grind.{common_steps}
@@ -12,7 +12,7 @@ use Rattle.rsp_text.specs.declared.slot.Slot.{Slot}
 use Rattle.rsp_text.specs.Numbers.{Expression}
 use Rattle.rsp_text.specs.Statement.{Labels, find_label, label_place, evaluate, field_of, then_registers, fields_with, fields_of, Reading, append, all_fields, Statement, nothing, numbers, instruction, one_word, statement_of}
 use Rattle.rsp_text.specs.Source.{Parts, parts_of, is_twice, statement_fault, parts_fault, first_fault, label_in, label_of, statement_words, parts_words, line_words}
-use Rattle.rsp_text.specs.Means.{labelled, labels_from, place_after, then_later, lowest, in_turn, first, second, unless, means_lines}
+use Rattle.rsp_text.specs.Means.{line, place_of_line, labelled, all_labels, words_of_line, fault_before, and_words, words_before, unless, means_lines}
 use Rattle.rsp_operands.specs.Labels.{SamePlaces}
 
 -- ---- a label behind others
@@ -89,11 +89,11 @@ module _ (xs ys : Labels) (same : SamePlaces xs ys) where
       go None = refl
       go (Some p) = said_same place (statement_of p.body)
 
-  pub turn_same : (origin : ℕ) (earlier ls : List (List ℕ)) → in_turn (second origin xs) earlier ls ≡ in_turn (second origin ys) earlier ls
-  turn_same origin earlier [] = refl
-  turn_same origin earlier (l ∷ ls) =
-      ap (λ w. then_later (length earlier + 1) w (in_turn (second origin xs) (earlier ++ l ∷ []) ls)) (line_same (place_after origin earlier) l)
-      ∙ ap (then_later (length earlier + 1) (second origin ys earlier l)) (turn_same origin (earlier ++ l ∷ []) ls)
+  pub words_same : (origin : ℕ) (ls : List (List ℕ)) (n : ℕ) → words_before xs origin ls n ≡ words_before ys origin ls n
+  words_same origin ls zero = refl
+  words_same origin ls (suc n) =
+      ap (λ o. and_words o (suc n) (words_of_line xs origin ls n)) (words_same origin ls n)
+      ∙ ap (and_words (words_before ys origin ls n) (suc n)) (line_same (place_of_line origin ls n) (line ls n))
 
 -- a line without fault has a label that none of the labels is
 pub new_label : (labels : Labels) (place : ℕ) (line : List ℕ) → first_fault labels place line ≡ None → is_twice labels (label_of line) ≡ false
@@ -109,7 +109,7 @@ new_label labels place line e = go (parts_of line) e
     go (Some p) e = once (is_twice labels p.label) (statement_fault place (statement_of p.body)) e
 
 -- what the second pass says with such a table is what the lines mean, where the first pass finds no fault
-pub means_same : (origin : ℕ) (ls : List (List ℕ)) (labels : Labels) → lowest (first origin) [] ls ≡ None → SamePlaces labels (labels_from origin ls) → in_turn (second origin labels) [] ls ≡ means_lines ls origin
+pub means_same : (origin : ℕ) (ls : List (List ℕ)) (labels : Labels) → fault_before origin ls (length ls) ≡ None → SamePlaces labels (all_labels origin ls) → words_before labels origin ls (length ls) ≡ means_lines ls origin
 means_same origin ls labels clean same =
-    turn_same labels (labels_from origin ls) same origin [] ls
-    ∙ sym (ap (λ o. unless o (in_turn (second origin (labels_from origin ls)) [] ls)) clean)
+    words_same labels (all_labels origin ls) same origin ls (length ls)
+    ∙ sym (ap (λ o. unless o (words_before (all_labels origin ls) origin ls (length ls))) clean)

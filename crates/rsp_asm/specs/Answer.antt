@@ -1,10 +1,10 @@
 -- What `assemble` may answer.
-use Rattle.std.specs.Prelude.{◌≡◌, ◌⊎◌, ℕ, ◌-◌, ◌<◌, ◌≤◌, List, [], length, take, slice_index_or, is_some, true, None, Err}
+use Rattle.std.specs.Prelude.{◌≡◌, ◌⊎◌, ℕ, ◌-◌, ◌<◌, ◌≤◌, List, [], length, slice_index_or, is_some, true, None, Err}
 use Rattle.std.specs.Str.Lines.{lines}
 use Rattle.rsp_text.specs.declared.fault.AsmFault.{AsmFault}
 use Rattle.rsp_text.specs.declared.fault.AsmFaultKind.TheVariants.{OutOfMemory}
 use Rattle.rsp_text.specs.Source.{label_of}
-use Rattle.rsp_text.specs.Means.{lowest, first, means}
+use Rattle.rsp_text.specs.Means.{fault_before, means}
 
 -- Memory ran out at a line, and that hides no fault of the text: the line has a label, and neither the line nor one before it
 -- has a fault of the first pass.
@@ -12,7 +12,7 @@ pub record HidesNoFault (place : ℕ) (ls : List (List ℕ)) (line : ℕ) : Type
   pub positive : 0 < line
   pub inside : line ≤ length ls
   pub labelled : is_some (label_of (slice_index_or ls (line - 1) [])) ≡ true
-  pub clean : lowest (first place) [] (take line ls) ≡ None
+  pub clean : fault_before place ls line ≡ None
 
 -- the fault of want of memory, at a line where it hides no fault of the text
 pub record IsShortOfMemory (origin : ℕ) (text : List ℕ) (fault : AsmFault) : Type 0 where

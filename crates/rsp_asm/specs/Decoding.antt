@@ -1,7 +1,9 @@
--- What the table makes of the words of instruction statements.
-use Rattle.std.specs.Prelude.{◌≡◌, ℕ, List, [], ◌∷◌, Some, Ok}
+-- What the table makes of the words of statements, and of a block.
+use Rattle.std.specs.Prelude.{◌≡◌, ℕ, ◌+◌, ◌*◌, ◌<◌, List, [], ◌∷◌, length, slice_index, slice_index_or, Some, Ok}
 use Rattle.rsp_decode.specs.Table.{Row, inst_of, canonical_of}
-use Rattle.rsp_text.specs.Statement.{Labels, Reading, instruction, statement_of, words_of, all_fields}
+use Rattle.rsp_text.specs.Statement.{Labels, Reading, Statement, nothing, numbers, instruction, statement_of, words_of, fields_of, all_fields}
+use Rattle.rsp_text.specs.Source.{Parts, parts_of}
+use Rattle.rsp_text.specs.Means.{line, place_of_line, all_labels, means_lines}
 
 -- A row's statement with these operands gave these words: it is one word, which the table decodes to the instruction of the
 -- row with the values of the operands as its fields, and which is the canonical word of that.
@@ -19,3 +21,30 @@ StatementsDecode =
     (labels : Labels) (place : ℕ) (text : List ℕ) (row : Row) (operands : List Reading) (words : List ℕ)
     → statement_of text ≡ Ok (instruction row operands) → words_of labels place (instruction row operands) ≡ Ok words
     → Decodes labels place row operands words
+
+-- word i of a statement at a place: the number of operand i of .word, or the only word of a row
+abbrev pub IsWord : Labels → ℕ → Statement → ℕ → ℕ → Type 0
+IsWord labels place nothing i word = ⊥
+IsWord labels place (numbers rs) i word = (i < length rs) × ((d : Reading) → fields_of labels place (slice_index_or rs i d) ≡ Ok (word ∷ []))
+IsWord labels place (instruction row operands) i word = (i ≡ 0) × Decodes labels place row operands (word ∷ [])
+
+-- Word j of a block, whose first word stands at the origin, is word i of its line k, with these labels.
+pub record IsWordOfLine (labels : Labels) (origin : ℕ) (ls : List (List ℕ)) (j word : ℕ) : Type 0 where
+  pub k : ℕ
+  pub i : ℕ
+  pub inside : k < length ls
+  pub place : origin + 4 * j ≡ place_of_line origin ls k + 4 * i
+  pub parts : Parts
+  pub is_line : parts_of (line ls k) ≡ Some parts
+  pub statement : Statement
+  pub says : statement_of parts.body ≡ Ok statement
+  pub meaning : IsWord labels (place_of_line origin ls k) statement i word
+
+-- Each word of a block is one of a line's, with the labels of all lines, and no line has more words than stand there.
+pub record BlockDecodes (origin : ℕ) (ls : List (List ℕ)) (words : List ℕ) : Type 0 where
+  pub each : (j : ℕ) → j < length words → IsWordOfLine (all_labels origin ls) origin ls j (slice_index words j)
+  pub no_more : origin + 4 * length words ≡ place_of_line origin ls (length ls)
+
+-- the words of each accepted block
+abbrev pub BlocksDecode : Type 0
+BlocksDecode = (ls : List (List ℕ)) (origin : ℕ) (words : List ℕ) → means_lines ls origin ≡ Ok words → BlockDecodes origin ls words

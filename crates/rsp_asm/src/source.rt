@@ -3,7 +3,7 @@
 ghost use Rattle.std.specs.Prelude.{◌≡◌, ◌+◌, ◌*◌, ◌<◌, ◌≤◌, [], ◌∷◌, None, Ok, Err, length, ◌++◌, MatchOption, IfOk, IfErr, OnOk, OnErr, option_map, is_some, true};
 ghost use Rattle.arrayvec.specs.ArrayVec.{array_vec_len};
 ghost use Rattle.std.specs.Str.Lines.{lines};
-ghost use Rattle.rsp_text.specs.Means.{lowest, first, second, in_turn, means, labelled, labels_from, place_after};
+ghost use Rattle.rsp_text.specs.Means.{fault_before, words_before, means, labelled, all_labels, place_of_line};
 ghost use Rattle.rsp_operands.specs.Labels.{SamePlaces};
 ghost use Rattle.rsp_asm.specs.Answer.{IsFault};
 
@@ -40,9 +40,9 @@ fn note<'a>(labels: &mut Labels<'a>, name: Option<&'a [u8]>, place: u16) -> Resu
 
 fn first_pass<'a>(alloc: Global, origin: u16, text: &'a [u8]) -> Result<Labels<'a>, AsmFault>
     requires { origin ≤ 4096 }
-    ensures clean { IfOk result (λ v. lowest (first origin) [] (lines text.now) ≡ None) }
-    ensures labels { IfOk result (λ v. SamePlaces v (labels_from origin (lines text.now))) }
-    ensures room { IfOk result (λ v. place_after origin (lines text.now) ≤ 4096) }
+    ensures clean { IfOk result (λ v. fault_before origin (lines text.now) (length (lines text.now)) ≡ None) }
+    ensures labels { IfOk result (λ v. SamePlaces v (all_labels origin (lines text.now))) }
+    ensures room { IfOk result (λ v. place_of_line origin (lines text.now) (length (lines text.now)) ≤ 4096) }
     ensures err { IfErr result (IsFault origin text.now) }
 {
     let mut labels = Labels::new(alloc);
@@ -68,10 +68,10 @@ fn first_pass<'a>(alloc: Global, origin: u16, text: &'a [u8]) -> Result<Labels<'
 }
 
 fn second_pass(origin: u16, text: &[u8], labels: &Labels<'_>) -> Result<Words, AsmFault>
-    requires { place_after origin (lines text.now) ≤ 4096 }
-    ensures ok { IfOk result (λ w. in_turn (second origin labels.now) [] (lines text.now) ≡ Ok w.items) }
+    requires { place_of_line origin (lines text.now) (length (lines text.now)) ≤ 4096 }
+    ensures ok { IfOk result (λ w. words_before labels.now origin (lines text.now) (length (lines text.now)) ≡ Ok w.items) }
     ensures room { IfOk result (λ w. origin + 4 * array_vec_len w ≤ 4096) }
-    ensures err { IfErr result (λ f. in_turn (second origin labels.now) [] (lines text.now) ≡ Err f) }
+    ensures err { IfErr result (λ f. words_before labels.now origin (lines text.now) (length (lines text.now)) ≡ Err f) }
 {
     let mut words = Words::new();
     let mut number = 0;

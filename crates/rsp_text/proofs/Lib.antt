@@ -1,7 +1,6 @@
 pub mod Cuts
 pub mod Splits
 pub mod Lines
-pub mod Places
 pub mod Numerals
 pub mod Tables
 pub mod Rows

@@ -1,62 +1,73 @@
--- What a source text means.
-use Rattle.std.specs.Prelude.{ℕ, ◌+◌, ◌*◌, List, [], ◌∷◌, ◌++◌, length, sum_by, Option, Some, None, Result, Ok, Err}
+-- What a source text means, by the numbers of its lines. Lines are counted from 0 here; a fault counts its line from 1.
+use Rattle.std.specs.Prelude.{ℕ, zero, suc, ◌+◌, ◌*◌, List, [], ◌∷◌, ◌++◌, length, slice_index_or, Option, Some, None, Result, Ok, Err}
 use Rattle.std.specs.Str.Lines.{lines}
 use Rattle.rsp_text.specs.declared.fault.AsmFault.{AsmFault}
 use Rattle.rsp_text.specs.declared.fault.AsmFaultKind.{AsmFaultKind}
 use Rattle.rsp_text.specs.Statement.{Labels}
 use Rattle.rsp_text.specs.Source.{label_of, size_of, first_fault, line_words}
 
--- the place behind some lines
-abbrev pub place_after : ℕ → List (List ℕ) → ℕ
-place_after origin ls = origin + 4 * sum_by size_of ls
+-- line k
+abbrev pub line : List (List ℕ) → ℕ → List ℕ
+line ls k = slice_index_or ls k []
+
+-- the place of line k, behind the words of the lines before it
+abbrev pub place_of_line : ℕ → List (List ℕ) → ℕ → ℕ
+place_of_line origin ls zero = origin
+place_of_line origin ls (suc k) = place_of_line origin ls k + 4 * size_of (line ls k)
 
 abbrev pub labelled : Option (List ℕ) → ℕ → Labels
 labelled None place = []
 labelled (Some name) place = (name, place) ∷ []
 
--- the labels of some lines, the first of which stands at a place
-abbrev pub labels_from : ℕ → List (List ℕ) → Labels
-labels_from place [] = []
-labels_from place (l ∷ ls) = labelled (label_of l) place ++ labels_from (place + 4 * size_of l) ls
+-- the labels of the lines before line k, each with the place of its line
+abbrev pub labels_before : ℕ → List (List ℕ) → ℕ → Labels
+labels_before origin ls zero = []
+labels_before origin ls (suc k) = labels_before origin ls k ++ labelled (label_of (line ls k)) (place_of_line origin ls k)
+
+abbrev pub all_labels : ℕ → List (List ℕ) → Labels
+all_labels origin ls = labels_before origin ls (length ls)
+
+-- the fault that the first pass finds in line k
+abbrev pub fault_of_line : ℕ → List (List ℕ) → ℕ → Option AsmFaultKind
+fault_of_line origin ls k = first_fault (labels_before origin ls k) (place_of_line origin ls k) (line ls k)
+
+-- the words that the second pass gives line k, with these labels, or the fault that it finds there
+abbrev pub words_of_line : Labels → ℕ → List (List ℕ) → ℕ → Result (List ℕ) AsmFaultKind
+words_of_line labels origin ls k = line_words labels (place_of_line origin ls k) (line ls k)
 
 abbrev pub fault_at : ℕ → AsmFaultKind → AsmFault
 fault_at number kind = record { line = number; kind = kind }
 
-abbrev pub this_or : ℕ → Option AsmFaultKind → Option AsmFault → Option AsmFault
-this_or number None later = later
-this_or number (Some kind) later = Some (fault_at number kind)
+-- a fault stays, and where there is none yet, a line may have one
+abbrev pub or_fault : Option AsmFault → ℕ → Option AsmFaultKind → Option AsmFault
+or_fault (Some fault) number found = Some fault
+or_fault None number None = None
+or_fault None number (Some kind) = Some (fault_at number kind)
 
--- the fault of the lowest line that has one; a line is looked at with the lines before it
-abbrev pub lowest : (List (List ℕ) → List ℕ → Option AsmFaultKind) → List (List ℕ) → List (List ℕ) → Option AsmFault
-lowest fault earlier [] = None
-lowest fault earlier (l ∷ ls) = this_or (length earlier + 1) (fault earlier l) (lowest fault (earlier ++ l ∷ []) ls)
+-- the fault of the lowest line before line k in which the first pass finds one
+abbrev pub fault_before : ℕ → List (List ℕ) → ℕ → Option AsmFault
+fault_before origin ls zero = None
+fault_before origin ls (suc k) = or_fault (fault_before origin ls k) (suc k) (fault_of_line origin ls k)
 
--- the words of a line and those of the lines behind it, or the fault of the lowest that has one
-abbrev pub then_later : ℕ → Result (List ℕ) AsmFaultKind → Result (List ℕ) AsmFault → Result (List ℕ) AsmFault
-then_later number (Err kind) later = Err (fault_at number kind)
-then_later number (Ok words) (Err fault) = Err fault
-then_later number (Ok words) (Ok more) = Ok (words ++ more)
+-- a fault stays, and where there is none yet, a line gives words or has one
+abbrev pub and_words : Result (List ℕ) AsmFault → ℕ → Result (List ℕ) AsmFaultKind → Result (List ℕ) AsmFault
+and_words (Err fault) number found = Err fault
+and_words (Ok words) number (Err kind) = Err (fault_at number kind)
+and_words (Ok words) number (Ok more) = Ok (words ++ more)
 
--- the words of all lines, or the fault of the lowest line that has one
-abbrev pub in_turn : (List (List ℕ) → List ℕ → Result (List ℕ) AsmFaultKind) → List (List ℕ) → List (List ℕ) → Result (List ℕ) AsmFault
-in_turn words earlier [] = Ok []
-in_turn words earlier (l ∷ ls) = then_later (length earlier + 1) (words earlier l) (in_turn words (earlier ++ l ∷ []) ls)
-
--- the faults of the first pass
-abbrev pub first : ℕ → List (List ℕ) → List ℕ → Option AsmFaultKind
-first origin earlier l = first_fault (labels_from origin earlier) (place_after origin earlier) l
-
--- the words of the second pass, with the labels of all lines
-abbrev pub second : ℕ → Labels → List (List ℕ) → List ℕ → Result (List ℕ) AsmFaultKind
-second origin labels earlier l = line_words labels (place_after origin earlier) l
+-- the words of the lines before line k, or the fault of the lowest of them in which the second pass finds one
+abbrev pub words_before : Labels → ℕ → List (List ℕ) → ℕ → Result (List ℕ) AsmFault
+words_before labels origin ls zero = Ok []
+words_before labels origin ls (suc k) = and_words (words_before labels origin ls k) (suc k) (words_of_line labels origin ls k)
 
 -- a fault of the first pass comes before any of the second
 abbrev pub unless : Option AsmFault → Result (List ℕ) AsmFault → Result (List ℕ) AsmFault
 unless None words = words
 unless (Some fault) words = Err fault
 
+-- what lines mean, from a place on: their words, each line's with the labels of all lines, or a fault
 abbrev pub means_lines : List (List ℕ) → ℕ → Result (List ℕ) AsmFault
-means_lines ls origin = unless (lowest (first origin) [] ls) (in_turn (second origin (labels_from origin ls)) [] ls)
+means_lines ls origin = unless (fault_before origin ls (length ls)) (words_before (all_labels origin ls) origin ls (length ls))
 
 -- what a source text means, from a place on: its words, or its fault
 abbrev pub means : List ℕ → ℕ → Result (List ℕ) AsmFault

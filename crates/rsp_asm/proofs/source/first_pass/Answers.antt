@@ -1,7 +1,7 @@
-use Rattle.std.proofs.Common.{◌≡◌, sym, ap, ◌∙◌, subst, inl, inr, refl, arith, ◌+◌, ◌*◌, ◌≤◌, [], ◌∷◌, ◌++◌, List, ℕ, take}
+use Rattle.std.proofs.Common.{◌≡◌, sym, ap, ◌∙◌, subst, inl, inr, refl, arith, ◌+◌, ◌*◌, ◌≤◌, [], ◌∷◌, ◌++◌, List, ℕ, length}
 use Rattle.std.specs.Prelude.{is_some}
 use Rattle.std.specs.Str.Lines.{lines}
-use Rattle.rsp_text.specs.Means.{labels_from, place_after, lowest, first, labelled}
+use Rattle.rsp_text.specs.Means.{labels_before, labelled, place_of_line, fault_before}
 use Rattle.rsp_operands.specs.Labels.{SamePlaces}
 use Rattle.rsp_asm.proofs.Passes.{Done, done_more, done_fault, done_all, done_short, on_ok, on_err, fault_means}
 use Rattle.rsp_asm.proofs.source.first_pass.Goals as goal
@@ -24,10 +24,9 @@ loop-line-preserved c =
     let table = c.loop-line.labels in
     let done : Done c.args.origin c.loop-line.number ls (line ∷ more) table c.loop-line.place =
     subst (λ (left : List (List ℕ)). Done c.args.origin c.loop-line.number ls left table c.loop-line.place) c.in-Some.ensures.0 c.loop-line.invariant.0 in
-    let none = c.in-Ok.ensures.fault in
     let noted = on_ok c.note.result _ (sym c.is_err.ensures.value ∙ c.if-is_err.false) c.note.ensures.ok in (
-      done_more c.args.origin c.loop-line.number ls line more table c.loop-line.place done (c.loop-line.number + 1) c.note.new.labels (c.loop-line.place + 4 * c.in-Ok.found.size)
-          none refl (subst (λ o. SamePlaces c.note.new.labels (labelled o c.loop-line.place ++ table)) c.in-Ok.ensures.label noted) (ap (λ n. c.loop-line.place + 4 * n) c.in-Ok.ensures.size),
+      done_more c.args.origin c.loop-line.number ls line more table c.loop-line.place done c.note.new.labels (c.loop-line.place + 4 * c.in-Ok.found.size)
+          c.in-Ok.ensures.fault (subst (λ o. SamePlaces c.note.new.labels (labelled o c.loop-line.place ++ table)) c.in-Ok.ensures.label noted) (ap (λ n. c.loop-line.place + 4 * n) c.in-Ok.ensures.size),
       c.in-Ok.ensures.room,
       omega (arith, c.in-Some.ensures.1),
     )
@@ -38,8 +37,7 @@ returns-clause-clean c =
     let table = c.loop-line.labels in
     let done : Done c.args.origin c.loop-line.number ls [] table c.loop-line.place =
     subst (λ (left : List (List ℕ)). Done c.args.origin c.loop-line.number ls left table c.loop-line.place) c.in_default.ensures c.loop-line.invariant.0 in
-    let all : take c.loop-line.number ls ≡ ls = done_all c.args.origin c.loop-line.number ls table c.loop-line.place done in
-    sym (ap (lowest (first c.args.origin) []) all) ∙ done.clean
+    ap (fault_before c.args.origin ls) (sym (done_all c.args.origin c.loop-line.number ls table c.loop-line.place done)) ∙ done.clean
 
 pub returns-clause-labels : goal.returns-clause-labels
 returns-clause-labels c =
@@ -47,8 +45,7 @@ returns-clause-labels c =
     let table = c.loop-line.labels in
     let done : Done c.args.origin c.loop-line.number ls [] table c.loop-line.place =
     subst (λ (left : List (List ℕ)). Done c.args.origin c.loop-line.number ls left table c.loop-line.place) c.in_default.ensures c.loop-line.invariant.0 in
-    let all : take c.loop-line.number ls ≡ ls = done_all c.args.origin c.loop-line.number ls table c.loop-line.place done in
-    subst (λ ls. SamePlaces table (labels_from c.args.origin ls)) all done.labels_are
+    subst (λ n. SamePlaces table (labels_before c.args.origin ls n)) (done_all c.args.origin c.loop-line.number ls table c.loop-line.place done) done.labels_are
 
 pub returns-clause-room : goal.returns-clause-room
 returns-clause-room c =
@@ -56,8 +53,7 @@ returns-clause-room c =
     let table = c.loop-line.labels in
     let done : Done c.args.origin c.loop-line.number ls [] table c.loop-line.place =
     subst (λ (left : List (List ℕ)). Done c.args.origin c.loop-line.number ls left table c.loop-line.place) c.in_default.ensures c.loop-line.invariant.0 in
-    let all : take c.loop-line.number ls ≡ ls = done_all c.args.origin c.loop-line.number ls table c.loop-line.place done in
-    let at : c.loop-line.place ≡ place_after c.args.origin ls = done.place_is ∙ ap (place_after c.args.origin) all in
+    let at : c.loop-line.place ≡ place_of_line c.args.origin ls (length ls) = done.place_is ∙ ap (place_of_line c.args.origin ls) (done_all c.args.origin c.loop-line.number ls table c.loop-line.place done) in
     subst (λ p. p ≤ 4096) at c.loop-line.invariant.1
 
 pub returns-then-is_err-clause-err : goal.returns-then-is_err-clause-err
@@ -68,6 +64,5 @@ returns-then-is_err-clause-err c =
     let table = c.loop-line.labels in
     let done : Done c.args.origin c.loop-line.number ls (line ∷ more) table c.loop-line.place =
     subst (λ (left : List (List ℕ)). Done c.args.origin c.loop-line.number ls left table c.loop-line.place) c.in-Some.ensures.0 c.loop-line.invariant.0 in
-    let none = c.in-Ok.ensures.fault in
     let labelled = ap is_some (sym c.in-Ok.ensures.label) ∙ on_err c.note.result _ (sym c.is_err.ensures.value ∙ c.if-is_err.true) c.note.ensures.err in
-    inr (record { kind = refl; hides = done_short c.args.origin c.loop-line.number ls line more table c.loop-line.place done none labelled })
+    inr (record { kind = refl; hides = done_short c.args.origin c.loop-line.number ls line more table c.loop-line.place done c.in-Ok.ensures.fault labelled })

@@ -1,8 +1,19 @@
-use Rattle.std.proofs.Common.{ap, subst, refl, arith, ◌+◌, ◌*◌, ◌∷◌, List, ℕ, drop}
+use Rattle.std.proofs.Common.{ap, subst, arith, ◌+◌, ◌*◌, ◌∷◌, List, ℕ, drop}
 use Rattle.std.specs.Str.Lines.{lines}
 use Rattle.arrayvec.specs.ArrayVec.{array_vec_len}
 use Rattle.rsp_asm.proofs.Passes.{Written, written_more, written_fault, written_all, written_place, written_room}
 use Rattle.rsp_asm.proofs.source.second_pass.Goals as goal
+
+pub overflow_add-place : goal.overflow_add-place
+overflow_add-place c =
+    let ls = lines c.args.text.now in
+    let table = c.args.labels.now in
+    let count = array_vec_len c.loop-line.words in
+    let done : Written c.args.origin c.loop-line.number ls (c.in-Some.line.now ∷ lines c.in-Some.more.now) table count c.loop-line.words.items =
+    subst (λ (left : List (List ℕ)). Written c.args.origin c.loop-line.number ls left table count c.loop-line.words.items) c.in-Some.ensures.0 c.loop-line.invariant.0 in
+    let room = written_room c.args.origin c.loop-line.number ls c.in-Some.line.now (lines c.in-Some.more.now) table count c.loop-line.words.items done in
+    let len = c.len.ensures.value in
+    omega (arith, room, len, c.requires)
 
 pub push_words-requires : goal.push_words-requires
 push_words-requires c =
@@ -31,8 +42,8 @@ loop-line-preserved c =
     let done : Written c.args.origin c.loop-line.number ls (c.in-Some.line.now ∷ lines c.in-Some.more.now) table count c.loop-line.words.items =
     subst (λ (left : List (List ℕ)). Written c.args.origin c.loop-line.number ls left table count c.loop-line.words.items) c.in-Some.ensures.0 c.loop-line.invariant.0 in (
       written_more c.args.origin c.loop-line.number ls c.in-Some.line.now (lines c.in-Some.more.now) table count c.loop-line.words.items done
-          (c.args.origin + 4 * c.len.result) (c.loop-line.number + 1) (array_vec_len c.push_words.new.words) (drop count c.push_words.new.words.items) c.push_words.new.words.items
-          (ap (λ n. c.args.origin + 4 * n) c.len.ensures.value) c.in_default-push_words.ensures.ok refl c.in_default-push_words.ensures.len c.in_default-push_words.ensures.kept,
+          (c.args.origin + 4 * c.len.result) (array_vec_len c.push_words.new.words) (drop count c.push_words.new.words.items) c.push_words.new.words.items
+          (ap (λ n. c.args.origin + 4 * n) c.len.ensures.value) c.in_default-push_words.ensures.ok c.in_default-push_words.ensures.len c.in_default-push_words.ensures.kept,
       omega (arith, c.in-Some.ensures.1),
     )
 

@@ -1,0 +1,202 @@
+-- The words of a block, by its lines.
+use Rattle.std.proofs.Common.{◌≡◌, refl, sym, ap, ◌∙◌, subst, ℕ, zero, suc, ◌+◌, ◌*◌, ◌<◌, ◌≤◌, List, [], ◌∷◌, ◌++◌, length, length-append, get_or, Bool, true, false, arith, inl, inr}
+use Rattle.std.specs.Prelude.{◌==◌, Option, Some, None, Result, Ok, Err, option_map, if◌then◌else◌, ◌-◌}
+use Rattle.std.specs.List.{before_first, after_first}
+use Rattle.std.proofs.lemmas.Bool.{cases_lt}
+use Rattle.std.proofs.lemmas.List.{get_or_append_left, get_or-append_right}
+use Rattle.rsp_text.specs.declared.fault.AsmFault.{AsmFault}
+use Rattle.rsp_text.specs.declared.fault.AsmFaultKind.{AsmFaultKind}
+use Rattle.rsp_text.specs.declared.slot.Slot.TheVariants.{Word}
+use Rattle.rsp_text.specs.declared.text.Stop.TheVariants.{Blank}
+use Rattle.rsp_text.specs.Cuts.{stops}
+use Rattle.rsp_text.specs.Numbers.{Expression}
+use Rattle.rsp_text.specs.Statement.{Labels, Reading, asks, zero_expression, Statement, nothing, numbers, instruction, Form, no_operation, numbers_form, row_form, form_named, read_all, read_numbers, with_operands, with_form, operand_texts, statement_of, size, evaluate, field_of, then_registers, fields_of, append, all_fields, words_of}
+use Rattle.rsp_text.specs.Source.{Parts, parts_of, size_if, size_in, size_of, statement_words, parts_words, line_words}
+use Rattle.rsp_text.specs.Means.{line, place_of_line, all_labels, words_of_line, fault_before, and_words, words_before, unless, means_lines}
+use Rattle.rsp_asm.specs.Decoding.{Decodes, IsWord, IsWordOfLine, BlocksDecode}
+use Rattle.rsp_asm.proofs.Readings.{numbers_parts}
+use Rattle.rsp_asm.proofs.Decodes.{statements_decode}
+
+-- ---- the numbers of .word
+
+-- each of these readings is a number
+abbrev AreNumbers : List Reading → Type 0
+AreNumbers [] = Unit {0}
+AreNumbers (r ∷ rs) = (e : Expression) × (asks Word [] e ≡ r) × AreNumbers rs
+
+are_numbers : (ts : List (List ℕ)) (rs : List Reading) → read_numbers ts ≡ Some rs → AreNumbers rs
+are_numbers [] rs e = let none : [] ≡ rs = cc in subst AreNumbers none tt
+are_numbers (t ∷ ts) rs e =
+    let p = numbers_parts t ts rs e in
+    subst AreNumbers p.4 (p.0, refl, are_numbers ts p.1 p.3)
+
+append_ok : (x y : Result (List ℕ) AsmFaultKind) (ws : List ℕ) → append x y ≡ Ok ws → (vs : List ℕ) × (more : List ℕ) × (x ≡ Ok vs) × (y ≡ Ok more) × (vs ++ more ≡ ws)
+append_ok (Err kind) y ws e = absurd cc
+append_ok (Ok vs) (Err kind) ws e = absurd cc
+append_ok (Ok vs) (Ok more) ws e = let same : vs ++ more ≡ ws = cc in (vs, more, refl, refl, same)
+
+one_value : (x : Result ℕ AsmFaultKind) (vs : List ℕ) → then_registers [] x ≡ Ok vs → (v : ℕ) × (v ∷ [] ≡ vs)
+one_value (Ok v) vs e = let same : v ∷ [] ≡ vs = cc in (v, same)
+one_value (Err kind) vs e = absurd cc
+
+module _ (labels : Labels) (place : ℕ) where
+  -- word i is the number of reading i
+  abbrev Each : List Reading → List ℕ → Type 0
+  Each rs ws = (i : ℕ) (d : Reading) → i < length rs → fields_of labels place (get_or rs i d) ≡ Ok (get_or ws i 0 ∷ [])
+
+  one_more : (r : Reading) (rs : List Reading) (v : ℕ) (ws : List ℕ) → fields_of labels place r ≡ Ok (v ∷ []) → Each rs ws → Each (r ∷ rs) (v ∷ ws)
+  one_more r rs v ws e each zero d lt = e
+  one_more r rs v ws e each (suc i) d lt = each i d (omega arith)
+
+  numbers_each : (rs : List Reading) (ws : List ℕ) → AreNumbers rs → all_fields labels place rs ≡ Ok ws → (length ws ≡ length rs) × Each rs ws
+  numbers_each [] ws h e = let none : [] ≡ ws = cc in (sym (ap length none), λ i d lt. absurd (omega arith))
+  numbers_each (r ∷ rs) ws h e =
+      let p = append_ok (fields_of labels place r) (all_fields labels place rs) ws e in
+      let one = one_value (field_of Word place (evaluate labels h.0)) p.0 (ap (fields_of labels place) h.1 ∙ p.2) in
+      let rest = numbers_each rs p.1 h.2 p.3 in
+      let whole : one.0 ∷ p.1 ≡ ws = ap (λ t. t ++ p.1) one.1 ∙ p.4 in
+      let count = rest.0 in (
+        omega (arith, ap length whole, count),
+        subst (Each (r ∷ rs)) whole (one_more r rs one.0 p.1 (p.2 ∙ ap Ok (sym one.1)) rest.1),
+      )
+
+-- ---- the words of a statement
+
+number_form : (o : Option Form) (ts : List (List ℕ)) (rs : List Reading) → with_form o ts ≡ Ok (numbers rs) → AreNumbers rs
+number_form None ts rs e = absurd cc
+number_form (Some no_operation) [] rs e = let same : asks Word [] zero_expression ∷ [] ≡ rs = cc in subst AreNumbers same (zero_expression, refl, tt)
+number_form (Some no_operation) (t ∷ ts) rs e = absurd cc
+number_form (Some numbers_form) [] rs e = absurd cc
+number_form (Some numbers_form) (t ∷ ts) rs e = go (read_numbers (t ∷ ts)) refl e
+  where
+    go : (o : Option (List Reading)) → read_numbers (t ∷ ts) ≡ o → with_operands (option_map numbers o) ≡ Ok (numbers rs) → AreNumbers rs
+    go None is e = absurd cc
+    go (Some found) is e = let same : found ≡ rs = cc in are_numbers (t ∷ ts) rs (is ∙ ap Some same)
+number_form (Some (row_form r)) ts rs e = go (read_all r.operands ts) e
+  where
+    go : (o : Option (List Reading)) → with_operands (option_map (instruction r) o) ≡ Ok (numbers rs) → AreNumbers rs
+    go None e = absurd cc
+    go (Some found) e = absurd cc
+
+number_statement : (text : List ℕ) (rs : List Reading) → statement_of text ≡ Ok (numbers rs) → AreNumbers rs
+number_statement text rs e = go (length text == 0) e
+  where
+    name : List ℕ
+    name = before_first (stops Blank) text
+
+    ts : List (List ℕ)
+    ts = operand_texts (after_first (stops Blank) text)
+
+    go : (b : Bool) → (if b then Ok nothing else with_form (form_named name (length ts)) ts) ≡ Ok (numbers rs) → AreNumbers rs
+    go true e = absurd cc
+    go false e = number_form (form_named name (length ts)) ts rs e
+
+-- so many words, each of which is the statement's
+record AreWords (labels : Labels) (place : ℕ) (s : Statement) (ws : List ℕ) : Type 0 where
+  count : length ws ≡ size s
+  each : (i : ℕ) → i < length ws → IsWord labels place s i (get_or ws i 0)
+
+module _ (labels : Labels) (place : ℕ) (text : List ℕ) (ws : List ℕ) where
+  row_words : (s : Statement) → length ws ≡ 1 → IsWord labels place s 0 (get_or ws 0 0) → size s ≡ 1 → AreWords labels place s ws
+  row_words s one word sized = record {
+    count = one ∙ sym sized;
+    each = λ i lt. let first : 0 ≡ i = omega (arith, one) in subst (λ n. IsWord labels place s n (get_or ws n 0)) first word;
+  }
+
+  are_words : (s : Statement) → statement_of text ≡ Ok s → words_of labels place s ≡ Ok ws → AreWords labels place s ws
+  are_words nothing said e =
+      let none : [] ≡ ws = cc in
+      let count : 0 ≡ length ws = ap length none in
+      record { count = sym count; each = λ i lt. absurd (omega (arith, count)) }
+  are_words (numbers rs) said e =
+      let p = numbers_each labels place rs ws (number_statement text rs said) e in
+      let count = p.0 in
+      record { count = count; each = λ i lt. let inside : i < length rs = omega (arith, count) in (inside, λ d. p.1 i d inside) }
+  are_words (instruction row rs) said e =
+      let d = statements_decode labels place text row rs ws said e in
+      let whole : ws ≡ get_or ws 0 0 ∷ [] = d.one ∙ ap (λ t. get_or t 0 0 ∷ []) (sym d.one) in
+      row_words (instruction row rs) (ap length d.one) (refl, subst (Decodes labels place row rs) whole d) refl
+
+-- ---- the words of a line
+
+record LineWords (labels : Labels) (place : ℕ) (l : List ℕ) (ws : List ℕ) : Type 0 where
+  parts : Parts
+  is_line : parts_of l ≡ Some parts
+  statement : Statement
+  says : statement_of parts.body ≡ Ok statement
+  count : length ws ≡ size_of l
+  each : (i : ℕ) → i < length ws → IsWord labels place statement i (get_or ws i 0)
+
+line_gives : (labels : Labels) (place : ℕ) (l : List ℕ) (ws : List ℕ) → line_words labels place l ≡ Ok ws → LineWords labels place l ws
+unfolding line_words size_of
+line_gives labels place l ws e = go (parts_of l) refl e
+  where
+    said : (p : Parts) → parts_of l ≡ Some p → (r : Result Statement AsmFaultKind) → statement_of p.body ≡ r → statement_words labels place r ≡ Ok ws → LineWords labels place l ws
+    said p is (Err kind) says e = absurd cc
+    said p is (Ok s) says e =
+        let words = are_words labels place p.body ws s says e in
+        record {
+          parts = p;
+          is_line = is;
+          statement = s;
+          says = says;
+          count = words.count ∙ sym (ap size_in is ∙ ap size_if says);
+          each = words.each;
+        }
+
+    go : (o : Option Parts) → parts_of l ≡ o → parts_words labels place o ≡ Ok ws → LineWords labels place l ws
+    go None is e = absurd cc
+    go (Some p) is e = said p is (statement_of p.body) refl e
+
+-- ---- the words of a block
+
+words_ok : (x : Result (List ℕ) AsmFault) (n : ℕ) (y : Result (List ℕ) AsmFaultKind) (ws : List ℕ) → and_words x n y ≡ Ok ws → (before : List ℕ) × (more : List ℕ) × (x ≡ Ok before) × (y ≡ Ok more) × (before ++ more ≡ ws)
+words_ok (Err fault) n y ws e = absurd cc
+words_ok (Ok before) n (Err kind) ws e = absurd cc
+words_ok (Ok before) n (Ok more) ws e = let same : before ++ more ≡ ws = cc in (before, more, refl, refl, same)
+
+module _ (labels : Labels) (origin : ℕ) (ls : List (List ℕ)) where
+  block_place : (n : ℕ) (ws : List ℕ) → words_before labels origin ls n ≡ Ok ws → origin + 4 * length ws ≡ place_of_line origin ls n
+  block_place zero ws e = let none : [] ≡ ws = cc in omega (arith, ap length none)
+  block_place (suc n) ws e =
+      let p = words_ok (words_before labels origin ls n) (suc n) (words_of_line labels origin ls n) ws e in
+      let here = block_place n p.0 p.2 in
+      let words = line_gives labels (place_of_line origin ls n) (line ls n) p.1 p.3 in
+      let count = words.count in
+      omega (arith, here, count, ap length p.4, length-append p.0 p.1)
+
+  block_each : (n : ℕ) (ws : List ℕ) → n ≤ length ls → words_before labels origin ls n ≡ Ok ws → (j : ℕ) → j < length ws → IsWordOfLine labels origin ls j (get_or ws j 0)
+  block_each zero ws le e j lt = let none : [] ≡ ws = cc in absurd (omega (arith, ap length none))
+  block_each (suc n) ws le e j lt =
+      let p = words_ok (words_before labels origin ls n) (suc n) (words_of_line labels origin ls n) ws e in
+      elim (cases_lt j (length p.0)) [
+        | inl before ↦
+            let same : get_or p.0 j 0 ≡ get_or ws j 0 = sym (get_or_append_left p.0 p.1 0 j before) ∙ ap (λ t. get_or t j 0) p.4 in
+            subst (IsWordOfLine labels origin ls j) same (block_each n p.0 (omega arith) p.2 j before)
+        | inr behind ↦
+            let same : get_or p.1 (j - length p.0) 0 ≡ get_or ws j 0 = sym (get_or-append_right p.0 p.1 (length p.0) j 0 refl behind) ∙ ap (λ t. get_or t j 0) p.4 in
+            let words = line_gives labels (place_of_line origin ls n) (line ls n) p.1 p.3 in
+            let here = block_place n p.0 p.2 in
+            record {
+              k = n;
+              i = j - length p.0;
+              inside = omega arith;
+              place = omega (arith, here, behind);
+              parts = words.parts;
+              is_line = words.is_line;
+              statement = words.statement;
+              says = words.says;
+              meaning =
+                  subst (IsWord labels (place_of_line origin ls n) words.statement (j - length p.0)) same
+                  (words.each (j - length p.0) (omega (arith, lt, behind, ap length p.4, length-append p.0 p.1)));
+            }
+      ]
+
+pub blocks_decode : BlocksDecode
+blocks_decode ls origin words e =
+    let said = go (fault_before origin ls (length ls)) e in
+    record { each = block_each (all_labels origin ls) origin ls (length ls) words (omega arith) said; no_more = block_place (all_labels origin ls) origin ls (length ls) words said }
+  where
+    go : (o : Option AsmFault) → unless o (words_before (all_labels origin ls) origin ls (length ls)) ≡ Ok words → words_before (all_labels origin ls) origin ls (length ls) ≡ Ok words
+    go None e = e
+    go (Some fault) e = absurd cc
