@@ -10,7 +10,8 @@ use Rattle.rsp_text.specs.declared.text.Stop.TheVariants.{Parenthesis, Bracket}
 use Rattle.rsp_text.specs.Cuts.{cut}
 use Rattle.rsp_text.specs.Names.{scalar_named, vector_named, sp_named, control_named, element_named}
 use Rattle.rsp_text.specs.Numbers.{Expression, expression_of}
-use Rattle.rsp_text.specs.Statement.{Labels, Reading, one_register, pair, asks, memory, memory_operand, with_element, bracket_of, bracketed, byte_named, lane_named, offset_of, base_of, read, read_all, read_numbers, number_fails, reading_fails, reading_fields, fields_of, fields_with, field_of, evaluate, then_registers, append, all_fields, with_values, number_value, or_out_of_range, word}
+use Rattle.rsp_text.specs.Statement.{Labels, Reading, one_register, pair, asks, memory, memory_operand, with_element, bracket_of, bracketed, byte_named, lane_named, offset_of, base_of, read, read_all, read_numbers, number_fails, fields_of, fields_with, field_of, evaluate, then_registers, append, all_fields, or_out_of_range, word}
+use Rattle.rsp_text.specs.Walks.{reading_fails, reading_fields, with_values, number_value}
 use Rattle.rsp_asm.specs.Statements.{single}
 use Rattle.rsp_asm.specs.Walks.{any_fails, number_text_fails, and_then, put_all, number_words}
 

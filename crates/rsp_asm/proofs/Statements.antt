@@ -10,7 +10,8 @@ use Rattle.rsp_text.specs.declared.fault.AsmFaultKind.TheVariants.{OutOfRange, B
 use Rattle.rsp_text.specs.declared.text.Stop.TheVariants.{Blank}
 use Rattle.rsp_text.specs.Cuts.{stops}
 use Rattle.rsp_text.specs.Source.{Parts, parts_of, size_if, size_in, size_of, statement_words, parts_words, line_words}
-use Rattle.rsp_text.specs.Statement.{Labels, Reading, nothing, numbers, instruction, Form, no_operation, numbers_form, row_form, read_all, read_numbers, form_named, form_readings, with_operands, with_form, statement_of, operand_texts, all_fields, with_values, one_word}
+use Rattle.rsp_text.specs.Statement.{Labels, Reading, nothing, numbers, instruction, Form, no_operation, numbers_form, row_form, read_all, read_numbers, form_named, form_readings, with_operands, with_form, statement_of, operand_texts, all_fields, one_word}
+use Rattle.rsp_text.specs.Walks.{with_values}
 use Rattle.rsp_asm.specs.Statements.{checked, checked_readings, counted, row_words, row_size, word_with, single, Pushed, Puts}
 use Rattle.rsp_asm.specs.Walks.{number_text_fails, number_words}
 use Rattle.rsp_asm.proofs.Readings.{fails, numbers_fail, numbers_length, numbers_read}

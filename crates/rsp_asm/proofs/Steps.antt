@@ -6,7 +6,8 @@ use Rattle.rsp_text.specs.declared.fault.AsmFaultKind.{AsmFaultKind}
 use Rattle.rsp_text.specs.declared.fault.AsmFaultKind.TheVariants.{BadOperand}
 use Rattle.rsp_text.specs.declared.slot.Slot.TheVariants.{Word}
 use Rattle.rsp_text.specs.Numbers.{Expression, expression_of}
-use Rattle.rsp_text.specs.Statement.{Labels, Reading, read, read_all, read_numbers, asks, append, number_value}
+use Rattle.rsp_text.specs.Statement.{Labels, Reading, read, read_all, read_numbers, asks, append}
+use Rattle.rsp_text.specs.Walks.{number_value}
 use Rattle.rsp_text.proofs.Tables.{at_index}
 use Rattle.std.proofs.lemmas.List.{append_assoc}
 use Rattle.rsp_asm.specs.Statements.{single}

@@ -7,7 +7,8 @@ use Rattle.rsp_text.specs.declared.fault.AsmFaultKind.{AsmFaultKind}
 use Rattle.rsp_text.specs.declared.fault.AsmFaultKind.TheVariants.{BadOperand, OutOfRange}
 use Rattle.rsp_decode.specs.Table.{Entry}
 use Rattle.rsp_text.specs.Source.{has_bad_number}
-use Rattle.rsp_text.specs.Statement.{Labels, Reading, Statement, number_fails, with_values, all_fields, read_all, size}
+use Rattle.rsp_text.specs.Statement.{Labels, Reading, Statement, number_fails, all_fields, read_all, size}
+use Rattle.rsp_text.specs.Walks.{with_values}
 
 -- ---- the first pass
 

@@ -5,7 +5,8 @@ use Rattle.rsp_text.specs.declared.fault.AsmFaultKind.{AsmFaultKind}
 use Rattle.rsp_text.specs.declared.fault.AsmFaultKind.TheVariants.{BadOperand}
 use Rattle.rsp_text.specs.declared.slot.Slot.TheVariants.{Word}
 use Rattle.rsp_text.specs.Numbers.{expression_of}
-use Rattle.rsp_text.specs.Statement.{Labels, read, asks, reading_fails, reading_fields, with_values, number_value, append}
+use Rattle.rsp_text.specs.Statement.{Labels, read, asks, append}
+use Rattle.rsp_text.specs.Walks.{reading_fails, reading_fields, with_values, number_value}
 use Rattle.rsp_asm.specs.Statements.{single}
 
 -- an operand of a row is out of its range

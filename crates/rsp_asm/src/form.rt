@@ -36,7 +36,7 @@ pub enum Form {
 /// `jalr` with one operand, which links in register 31.
 const LINKING_ROW: TableRow = TableRow {
     name: "jalr",
-    mask: 0xfc00_003f,
+    mask: 0xfc00_f83f,
     value: 0x0000_f809,
     operands: &[Operand::Scalar(21)],
 };

@@ -14,7 +14,8 @@ use Rattle.rsp_text.specs.declared.slot.Slot.TheVariants.{Half, Amount, Jump, Br
 use Rattle.rsp_text.specs.declared.text.Stop.TheVariants.{Parenthesis}
 use Rattle.rsp_text.specs.Cuts.{cut}
 use Rattle.rsp_text.specs.Numbers.{constant, expression_of}
-use Rattle.rsp_text.specs.Statement.{read, asks, field, offset_of, base_of, memory, memory_operand, zero_expression, reading_fields}
+use Rattle.rsp_text.specs.Statement.{read, asks, field, offset_of, base_of, memory, memory_operand, zero_expression}
+use Rattle.rsp_text.specs.Walks.{reading_fields}
 use Rattle.rsp_decode.specs.Table.{is_scale, is_step, is_row_operand}
 use Rattle.rsp_text.specs.Spell.{hex, small, signed_half, signed_scaled, target, target_text, scalar_name, base_name, spell_operand, operand_fields, operand_text, reaches}
 use Rattle.rsp_text.proofs.Cuts.{cut_between}

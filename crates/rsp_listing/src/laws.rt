@@ -5,7 +5,8 @@ ghost use Rattle.std.specs.List.{All, list_all};
 ghost use Rattle.std.specs.Str.{str_eq_ignore_ascii_case};
 ghost use Rattle.rsp_decode.specs.Table.{Operand, Row, rows, is_row_operand};
 ghost use Rattle.rsp_text.specs.Spell.{operand_fields, operand_text, reaches};
-ghost use Rattle.rsp_text.specs.Statement.{read, reading_fields};
+ghost use Rattle.rsp_text.specs.Statement.{read};
+ghost use Rattle.rsp_text.specs.Walks.{reading_fields};
 ghost use Rattle.rsp_listing.specs.Bytes.{is_quiet};
 
 /// The rows of the instruction table have distinct names, in either case, and none is called `nop` or `.word`.

@@ -6,7 +6,7 @@ use Rattle.std.proofs.Math.Nat.{mod-zero, mul-le-mul_left}
 use Rattle.std.proofs.lemmas.Bool.{cases_lt, cases_Bool, cond-false, and_parts}
 use Rattle.std.proofs.lemmas.Bool.Decides.{nat_tests}
 use Rattle.std.proofs.lemmas.Int.{ints}
-use Rattle.rsp_text.specs.Numbers.{capped_ℤ, many}
+use Rattle.rsp_text.specs.Seen.{capped_ℤ, many}
 use Rattle.rsp_text.specs.Statement.{scaled}
 
 -- nothing far is a multiple of a small scale, at most 64 times it

@@ -3,7 +3,8 @@ use Rattle.std.proofs.Common.{◌≡◌, sym, ap, ℕ, true, List, subst}
 use Rattle.std.specs.Prelude.{Option, Some, None, option_map, IfOk, Result, Ok, Err}
 use Rattle.rsp_decode.specs.Table.{Operand, places, with_fields, is_row_operand}
 use Rattle.rsp_text.specs.declared.fault.AsmFaultKind.{AsmFaultKind}
-use Rattle.rsp_text.specs.Statement.{Labels, Reading, read, fields_of, reading_fields, with_values}
+use Rattle.rsp_text.specs.Statement.{Labels, Reading, read, fields_of}
+use Rattle.rsp_text.specs.Walks.{reading_fields, with_values}
 use Rattle.rsp_operands.specs.declared.fields.Fields.{Fields}
 use Rattle.rsp_operands.specs.Readings.{capped_reading}
 use Rattle.rsp_operands.specs.Fields.{fields, fields_in}

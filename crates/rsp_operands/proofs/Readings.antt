@@ -5,7 +5,8 @@ use Rattle.rsp_text.specs.declared.fault.AsmFaultKind.{AsmFaultKind}
 use Rattle.rsp_text.specs.declared.slot.Slot.{Slot}
 use Rattle.rsp_text.specs.declared.slot.Slot.TheVariants.{Word}
 use Rattle.rsp_text.specs.Numbers.{Expression}
-use Rattle.rsp_text.specs.Statement.{Labels, asks, memory, evaluate, field_of, number_fails, reading_fails, number_value}
+use Rattle.rsp_text.specs.Statement.{Labels, asks, memory, evaluate, field_of, number_fails}
+use Rattle.rsp_text.specs.Walks.{reading_fails, number_value}
 use Rattle.rsp_text.specs.Seen.{capped_expression}
 use Rattle.rsp_operands.specs.Readings.{capped_reading}
 

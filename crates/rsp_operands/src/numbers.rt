@@ -3,7 +3,8 @@
 ghost use Rattle.std.specs.Prelude.{◌≡◌, [], is_some, option_map};
 ghost use Rattle.rsp_text.specs.declared.slot.Slot.TheVariants.{Word};
 ghost use Rattle.rsp_text.specs.Numbers.{expression_of};
-ghost use Rattle.rsp_text.specs.Statement.{asks, reading_fails, number_value};
+ghost use Rattle.rsp_text.specs.Statement.{asks};
+ghost use Rattle.rsp_text.specs.Walks.{reading_fails, number_value};
 
 use crate::labels::Labels;
 use crate::values::{expression_field, is_beyond};

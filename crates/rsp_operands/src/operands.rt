@@ -2,7 +2,8 @@
 
 ghost use Rattle.std.specs.Prelude.{◌≡◌, ◌≤◌, true, is_some};
 ghost use Rattle.rsp_decode.specs.Table.{places, is_row_operand};
-ghost use Rattle.rsp_text.specs.Statement.{read, reading_fails, reading_fields, with_values};
+ghost use Rattle.rsp_text.specs.Statement.{read};
+ghost use Rattle.rsp_text.specs.Walks.{reading_fails, reading_fields, with_values};
 
 use crate::fields::{put, reading_fields};
 use crate::labels::Labels;

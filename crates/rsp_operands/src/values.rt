@@ -1,7 +1,7 @@
 // The fields of expressions.
 
 ghost use Rattle.std.specs.Prelude.{◌≡◌, ◌≤◌, ℤ, pos, ◌+ℤ◌, Some};
-ghost use Rattle.rsp_text.specs.Numbers.{capped_ℤ};
+ghost use Rattle.rsp_text.specs.Seen.{capped_ℤ};
 ghost use Rattle.rsp_text.specs.Numbers as numbers;
 ghost use Rattle.rsp_text.specs.Seen.{expression, capped_expression};
 ghost use Rattle.rsp_text.specs.Statement.{field, evaluate, field_of, number_fails};

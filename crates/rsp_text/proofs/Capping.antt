@@ -4,7 +4,7 @@ use Rattle.std.specs.Prelude.{◌+ℤ◌, None, min}
 use Rattle.std.proofs.lemmas.Bool.{cases_lt}
 use Rattle.std.proofs.lemmas.Bool.Decides.{nat_tests}
 use Rattle.std.proofs.lemmas.Int.{ints}
-use Rattle.rsp_text.specs.Numbers.{capped_ℤ, many}
+use Rattle.rsp_text.specs.Seen.{capped_ℤ, many}
 use Rattle.rsp_text.specs.Statement.{half}
 
 pub half_capped : (base : ℕ) (z : ℤ) → base ≤ 4096 → half (pos base +ℤ capped_ℤ z) ≡ half (pos base +ℤ z)

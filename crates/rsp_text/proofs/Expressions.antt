@@ -5,7 +5,8 @@ use Rattle.std.proofs.lemmas.Bool.{cond-false}
 use Rattle.rsp_text.specs.declared.text.Stop.TheVariants.{Plus, Minus}
 use Rattle.rsp_chars.specs.Chars.{skip_blanks, trim}
 use Rattle.rsp_text.specs.Cuts.{cut}
-use Rattle.rsp_text.specs.Numbers.{Expression, constant, plus, capped, capped_ℤ, signed_number, is_label, number_of, number_or, sides, label_and_number, expression_of}
+use Rattle.rsp_text.specs.Numbers.{Expression, constant, plus, signed_number, is_label, number_of, number_or, sides, label_and_number, expression_of}
+use Rattle.rsp_text.specs.Seen.{capped, capped_ℤ}
 use Rattle.rsp_text.specs.Seen.{capped_expression}
 use Rattle.rsp_text.proofs.Numerals.{capped_neg}
 

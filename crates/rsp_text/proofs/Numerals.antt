@@ -5,7 +5,7 @@ use Rattle.std.specs.List.{list_all}
 use Rattle.std.proofs.Math.Seq.{take-suc}
 use Rattle.std.proofs.Math.Nat.{mul-le-mul_left}
 use Rattle.std.proofs.lemmas.Bool.{and_parts, and_from, cases_lt}
-use Rattle.rsp_text.specs.Numbers.{capped, capped_ℤ, many}
+use Rattle.rsp_text.specs.Seen.{capped, capped_ℤ, many}
 
 pub capped_step : (v r d top : ℕ) → 1 ≤ r → min (min v top * r + d) top ≡ min (v * r + d) top
 capped_step v r d top base = elim (cases_lt v top) [

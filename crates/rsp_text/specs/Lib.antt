@@ -3,7 +3,9 @@ pub mod Cuts
 pub mod Numbers
 pub mod Names
 pub mod Seen
+pub mod Operands
 pub mod Statement
+pub mod Walks
 pub mod Source
 pub mod Means
 pub mod Rows

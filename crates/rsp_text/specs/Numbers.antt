@@ -61,14 +61,3 @@ abbrev pub expression_of : List ℕ → Option Expression
 expression_of bs =
     if is_label bs then Some (plus bs (pos 0))
     else number_or (number_of bs) (sides false (cut Plus bs) (sides true (cut Minus bs) None))
-
--- Beyond each range of an expression: the code takes a greater number for this one.
-abbrev pub many : ℕ
-many = 2 ^ 40
-
-abbrev pub capped : ℕ → ℕ
-capped n = min n many
-
-abbrev pub capped_ℤ : ℤ → ℤ
-capped_ℤ (pos n) = pos (min n many)
-capped_ℤ (negsuc n) = negsuc (min n (many - 1))

@@ -1,94 +1,12 @@
--- The canonical spelling of a word at a place: each kind of operand is spelled beside the text that Statement reads for it.
+-- The canonical spelling of a word at a place. How each kind of operand is spelled stands in Operands, beside how it is read.
 use Rattle.std.specs.Prelude.{ℕ, zero, suc, ◌+◌, ◌-◌, ◌*◌, ◌/◌, ◌%◌, ◌==◌, nat_lt, nat_le, Bool, true, ◌&&◌, if◌then◌else◌, List, [], ◌∷◌, ◌++◌, map, slice_index, Option, Some, None, is_some, codes, ℤ, pos, negsuc}
 use Rattle.std.specs.List.{list_all}
 use Rattle.std.specs.Char.{digit_char}
 use Rattle.std.specs.Fmt.{signed_decimal}
 use Rattle.rsp_decode.specs.Table.{Operand, scalar, shift_amount, signed, unsigned, jump_target, branch_target, scalar_memory, vector_memory, sp_register, control_register, vector, vector_byte, vector_element, vector_lane, Row, row_of, places, value_at, whole, fields, word_from}
-
--- ---- numbers
-
--- the lowest k hexadecimal digits of a number
-abbrev pub hex : ℕ → ℕ → List ℕ
-hex zero n = []
-hex (suc k) n = hex k (n / 16) ++ digit_char (n % 16) ∷ []
-
--- a number below 100
-abbrev pub small : ℕ → List ℕ
-small n = if nat_lt n 10 then (48 + n) ∷ [] else (48 + n / 10) ∷ (48 + n % 10) ∷ []
-
--- 16 bits as a signed number
-abbrev pub signed_half : ℕ → ℤ
-signed_half n = if nat_lt n 32768 then pos n else negsuc (65535 - n)
-
--- 7 bits as a signed number, times the scale
-abbrev pub signed_scaled : ℕ → ℕ → ℤ
-signed_scaled scale v = if nat_lt v 64 then pos (v * scale) else negsuc ((128 - v) * scale - 1)
-
--- the place so many bytes ahead, and so many bytes back, where that is in IMEM
-abbrev pub ahead : ℕ → ℕ → Option ℕ
-ahead place n = if nat_lt (place + n) 4096 then Some (place + n) else None
-
-abbrev pub back : ℕ → ℕ → Option ℕ
-back place n = if nat_le n place then Some (place - n) else None
-
--- the target of a branch at a place, where that is in IMEM: words are counted from the delay slot
-abbrev pub target : ℕ → ℕ → Option ℕ
-target place v = if nat_lt v 32768 then ahead (place + 4) (4 * v) else back (place + 4) (4 * (65536 - v))
-
--- ---- names
-
-abbrev pub scalar_name : ℕ → List ℕ
-scalar_name n = 36 ∷ small n
-
-abbrev pub vector_name : ℕ → List ℕ
-vector_name n = 36 ∷ 118 ∷ small n
-
-abbrev pub sp_name : ℕ → List ℕ
-sp_name n = 36 ∷ 99 ∷ small n
-
-abbrev pub control_name : ℕ → List ℕ
-control_name n = if n == 0 then codes "$vco" else (if n == 1 then codes "$vcc" else codes "$vce")
-
--- a byte element or a lane
-abbrev pub byte_name : ℕ → List ℕ
-byte_name e = 91 ∷ (small e ++ 93 ∷ [])
-
--- the element of a computing row; 0 is shown as nothing
-abbrev pub element_name : ℕ → List ℕ
-element_name e =
-    if e == 0 then []
-    else (if e == 1 then codes "[v]"
-    else (if nat_lt e 4 then 91 ∷ (46 + e) ∷ codes "q]"
-    else (if nat_lt e 8 then 91 ∷ (44 + e) ∷ codes "h]"
-    else 91 ∷ (40 + e) ∷ 93 ∷ [])))
-
--- a base, behind an offset
-abbrev pub base_name : ℕ → List ℕ
-base_name n = 40 ∷ (scalar_name n ++ 41 ∷ [])
-
--- of no target it is nothing
-abbrev pub target_text : Option ℕ → List ℕ
-target_text None = []
-target_text (Some t) = codes "0x" ++ hex 3 t
+pub use Rattle.rsp_text.specs.Operands.{hex, small, signed_half, signed_scaled, ahead, back, target, scalar_name, vector_name, sp_name, control_name, byte_name, element_name, base_name, target_text, spell_operand}
 
 -- ---- operands
-
--- the spelling of an operand with these fields, for a word at a place
-abbrev pub spell_operand : ℕ → Operand → List ℕ → List ℕ
-spell_operand place (scalar low) vs = scalar_name (slice_index vs 0)
-spell_operand place shift_amount vs = small (slice_index vs 0)
-spell_operand place signed vs = signed_decimal (signed_half (slice_index vs 0))
-spell_operand place unsigned vs = codes "0x" ++ hex 4 (slice_index vs 0)
-spell_operand place jump_target vs = codes "0x" ++ hex 3 (4 * slice_index vs 0)
-spell_operand place branch_target vs = target_text (target place (slice_index vs 0))
-spell_operand place scalar_memory vs = signed_decimal (signed_half (slice_index vs 0)) ++ base_name (slice_index vs 1)
-spell_operand place (vector_memory scale) vs = signed_decimal (signed_scaled scale (slice_index vs 0)) ++ base_name (slice_index vs 1)
-spell_operand place sp_register vs = sp_name (slice_index vs 0)
-spell_operand place control_register vs = control_name (slice_index vs 0)
-spell_operand place (vector low) vs = vector_name (slice_index vs 0)
-spell_operand place (vector_byte low step) vs = vector_name (slice_index vs 0) ++ byte_name (slice_index vs 1)
-spell_operand place vector_element vs = vector_name (slice_index vs 0) ++ element_name (slice_index vs 1)
-spell_operand place vector_lane vs = vector_name (slice_index vs 0) ++ byte_name (slice_index vs 1)
 
 -- the fields that an operand shows of a word
 abbrev pub operand_fields : Operand → ℕ → List ℕ

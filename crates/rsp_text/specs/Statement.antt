@@ -13,77 +13,7 @@ use Rattle.rsp_chars.specs.Chars.{trim}
 use Rattle.rsp_text.specs.Cuts.{cut, stops}
 use Rattle.rsp_text.specs.Numbers.{Expression, expression_of}
 use Rattle.rsp_text.specs.Names.{scalar_named, vector_named, sp_named, control_named, element_named, small_number}
-
--- What an operand says: an expression with the range that it must be in, where there is one, and the numbers of registers
--- and elements behind it.
-pub record Reading : Type 0 where
-  pub value : Option (Slot × Expression)
-  pub registers : List ℕ
-
-abbrev pub one_register : ℕ → Reading
-one_register n = record { value = None; registers = n ∷ [] }
-
-abbrev pub pair : ℕ → ℕ → Reading
-pair n e = record { value = None; registers = n ∷ e ∷ [] }
-
-abbrev pub asks : Slot → List ℕ → Expression → Reading
-asks slot registers e = record { value = Some (slot, e); registers = registers }
-
--- the text between the first parenthesis and a closing one at the end
-abbrev pub base_of : List ℕ → Option ℕ
-base_of bs = if slice_index bs (length bs - 1) == 41 then scalar_named (take (length bs - 1) bs) else None
-
-abbrev pub zero_expression : Expression
-zero_expression = record { label = None; offset = pos 0 }
-
-abbrev pub offset_of : List ℕ → Option Expression
-offset_of bs = if length bs == 0 then Some zero_expression else expression_of bs
-
-abbrev pub memory : Slot → Option Expression → Option ℕ → Option Reading
-memory slot e base = option_and_then (λ x. option_map (λ b. asks slot (b ∷ []) x) base) e
-
--- what a look-up says of the text before a closing bracket at the end
-abbrev pub bracketed : (List ℕ → Option ℕ) → List ℕ → Option ℕ
-bracketed look bs = if slice_index bs (length bs - 1) == 93 then look (take (length bs - 1) bs) else None
-
-abbrev pub multiple : ℕ → ℕ → Option ℕ
-multiple step e = if e % step == 0 then Some e else None
-
--- a byte of a register, a multiple of step
-abbrev pub byte_named : ℕ → List ℕ → Option ℕ
-byte_named step bs = option_and_then (multiple step) (small_number 16 bs)
-
-abbrev pub lane_named : List ℕ → Option ℕ
-lane_named bs = small_number 8 bs
-
-abbrev pub with_element : Option ℕ → Option ℕ → Option Reading
-with_element v e = option_and_then (λ n. option_map (pair n) e) v
-
--- a vector register, and what stands between brackets, where there are any
-abbrev pub bracket_of : (List ℕ → Option ℕ) → Option ℕ → Option (List ℕ × List ℕ) → List ℕ → Option Reading
-bracket_of look default None bs = with_element (vector_named bs) default
-bracket_of look default (Some p) bs = with_element (vector_named p.0) (bracketed look p.1)
-
-abbrev pub memory_operand : Slot → Option (List ℕ × List ℕ) → Option Reading
-memory_operand slot None = None
-memory_operand slot (Some p) = memory slot (offset_of p.0) (base_of p.1)
-
--- what the text of an operand says, by its kind
-abbrev pub read : Operand → List ℕ → Option Reading
-read (scalar low) bs = option_map one_register (scalar_named bs)
-read shift_amount bs = option_map (asks Amount []) (expression_of bs)
-read signed bs = option_map (asks Half []) (expression_of bs)
-read unsigned bs = option_map (asks Half []) (expression_of bs)
-read jump_target bs = option_map (asks Jump []) (expression_of bs)
-read branch_target bs = option_map (asks Branch []) (expression_of bs)
-read scalar_memory bs = memory_operand Half (cut Parenthesis bs)
-read (vector_memory scale) bs = memory_operand (Scaled scale) (cut Parenthesis bs)
-read sp_register bs = option_map one_register (sp_named bs)
-read control_register bs = option_map one_register (control_named bs)
-read (vector low) bs = option_map one_register (vector_named bs)
-read (vector_byte low step) bs = bracket_of (byte_named step) (Some 0) (cut Bracket bs) bs
-read vector_element bs = bracket_of element_named (Some 0) (cut Bracket bs) bs
-read vector_lane bs = bracket_of lane_named None (cut Bracket bs) bs
+pub use Rattle.rsp_text.specs.Operands.{Reading, one_register, pair, asks, base_of, zero_expression, offset_of, memory, bracketed, multiple, byte_named, lane_named, with_element, bracket_of, memory_operand, read}
 
 -- ---- values
 
@@ -178,25 +108,6 @@ abbrev pub number_fails : ℕ → Option (Slot × Expression) → Bool
 number_fails place None = false
 number_fails place (Some v) = is_none v.1.label && is_none (field v.0 place v.1.offset)
 
--- what the first pass says of an operand that could be read, or couldn't
-abbrev pub reading_fails : ℕ → Option Reading → Bool
-reading_fails place None = false
-reading_fails place (Some r) = number_fails place r.value
-
-abbrev pub reading_fields : Labels → ℕ → Option Reading → Result (List ℕ) AsmFaultKind
-reading_fields labels place None = Err BadOperand
-reading_fields labels place (Some r) = fields_of labels place r
-
--- a word with an operand's values at their places
-abbrev pub with_values : ℕ → List Place → Result (List ℕ) AsmFaultKind → Result ℕ AsmFaultKind
-with_values w ps (Err kind) = Err kind
-with_values w ps (Ok vs) = Ok (with_fields w ps vs)
-
--- the word of a number of .word
-abbrev pub number_value : Labels → Option Expression → Result ℕ AsmFaultKind
-number_value labels None = Err BadOperand
-number_value labels (Some e) = field_of Word 0 (evaluate labels e)
-
 -- ---- statements
 
 pub data Statement : Type 0 where
@@ -232,7 +143,7 @@ row_named name = find (λ (r : Row). str_eq_ignore_ascii_case name r.name) rows
 
 -- jalr $s, which links in $31
 abbrev pub linking_row : Row
-linking_row = row (selector 0xfc00003f (9 + 31 * 2 ^ 11) (codes "jalr")) (scalar 21 ∷ []) (one (JumpLinkRegister 31))
+linking_row = row (selector 0xfc00f83f (9 + 31 * 2 ^ 11) (codes "jalr")) (scalar 21 ∷ []) (one (JumpLinkRegister 31))
 
 abbrev pub read_all : List Operand → List (List ℕ) → Option (List Reading)
 read_all [] [] = Some []

@@ -4,8 +4,8 @@ use thiserror::Error;
 #[derive(Clone, Copy, PartialEq, Eq, Debug, Error)]
 #[error("{}", self.as_str())]
 pub enum AsmFaultKind {
-    /// 10: the line is longer than 256 bytes, has a byte that isn't printed, or what stands before its colon is no
-    /// label name.
+    /// 10: the line is longer than 256 bytes, has a byte that is neither printed nor a tab, or what stands before its
+    /// colon is no label name.
     BadLine,
     /// 11: no statement has this name.
     UnknownName,

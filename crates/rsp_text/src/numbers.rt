@@ -1,7 +1,8 @@
 // Numbers of any length.
 
 ghost use Rattle.std.specs.Prelude.{◌≡◌, ◌≤◌, ◌^◌, pos, neg_ℤ, IfSome, option_map};
-ghost use Rattle.rsp_text.specs.Numbers.{numeral, signed_number, unsigned_of, number_of, capped, capped_ℤ, many};
+ghost use Rattle.rsp_text.specs.Numbers.{numeral, signed_number, unsigned_of, number_of};
+ghost use Rattle.rsp_text.specs.Seen.{capped, capped_ℤ, many};
 
 /// Beyond each range of an expression: a greater number counts as this one.
 const MANY: u64 = 1 << 40;

@@ -4,7 +4,7 @@ use Rattle.std.specs.Char.{digit_value}
 use Rattle.std.specs.Str.Parse.{digits_value}
 use Rattle.std.proofs.lemmas.Bool.{lt-ltb}
 use Rattle.std.proofs.lemmas.Int.Digits.{digits_value_more}
-use Rattle.rsp_text.specs.Numbers.{many}
+use Rattle.rsp_text.specs.Seen.{many}
 use Rattle.rsp_text.proofs.Numerals.{capped_step, all_more}
 use Rattle.rsp_text.proofs.numbers.numeral.Goals as goal
 

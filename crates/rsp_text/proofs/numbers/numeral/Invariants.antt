@@ -3,7 +3,7 @@ use Rattle.std.specs.Prelude.{nat_lt}
 use Rattle.std.specs.List.{list_all}
 use Rattle.std.specs.Char.{digit_value}
 use Rattle.std.specs.Str.Parse.{digits_value}
-use Rattle.rsp_text.specs.Numbers.{capped, many}
+use Rattle.rsp_text.specs.Seen.{capped, many}
 use Rattle.rsp_text.proofs.numbers.numeral.Given as goal
 
 abbrev pub invariant-loop-c : goal.invariant-loop-c
