@@ -6,8 +6,8 @@ use Rattle.rsp_lanes.specs.Lanes.{bool_xor}
 use Rattle.rsp_numbers.specs.Numbers.{s16, complement, negated}
 use Rattle.rsp_flags.specs.Flags.{LaneFlags}
 use Rattle.rsp_flags.specs.Outcome.{Outcome, Rule, plain}
-use Rattle.rsp_clip.specs.declared.op.ClipOp.{ClipOp}
-use Rattle.rsp_clip.specs.declared.op.ClipOp.TheVariants.{Vcl, Vch, Vcr}
+use Rattle.rsp_rows.specs.declared.vector.VectorClipRow.{VectorClipRow}
+use Rattle.rsp_rows.specs.declared.vector.VectorClipRow.TheVariants.{Vcl, Vch, Vcr}
 
 -- whether just one of the signed readings is negative
 abbrev pub signs_differ : ℕ → ℕ → Bool
@@ -81,7 +81,7 @@ abbrev pub vcr : Rule
 vcr a b f = if signs_differ a b then vcr_signs_differ a b else vcr_signs_agree a b
 
 -- the rule of each row
-abbrev pub clip_rule : ClipOp → Rule
+abbrev pub clip_rule : VectorClipRow → Rule
 clip_rule Vcl = vcl
 clip_rule Vch = vch
 clip_rule Vcr = vcr

@@ -8,50 +8,34 @@ ghost use Rattle.rsp_compare.specs.Adds.{vadd, vsub, vabs, vaddc, vsubc, add_rul
 use rsp_acc::Acc;
 use rsp_flags::Flags;
 use rsp_lanes::{Mask8, VReg};
-
-/// An add row.
-#[derive(Clone, Copy, PartialEq, Eq, Debug, Drop)]
-pub enum AddOp {
-    /// The signed sum with the carry, clamped.
-    Vadd,
-    /// The signed difference less the carry, clamped.
-    Vsub,
-    /// b with the sign of a: -b, 0 or b.
-    Vabs,
-    /// The sum modulo 65536; its carry goes to VCO.
-    Vaddc,
-    /// The difference modulo 65536; VCO tells where it fell below 0, and where it isn't 0.
-    Vsubc,
-}
+use rsp_rows::VectorAddRow;
 
 /// Does an add row: gives the results, writes them to the low sixteen bits of the accumulators (for VADD and VSUB the
 /// number before the clamp) and writes VCO. VABS writes no flag; VCC and VCE always stay.
 #[inline]
-pub fn add_op<A: Acc>(op: AddOp, a: &VReg, b: &VReg, flags: &mut Flags, acc: &mut A) -> VReg
+pub fn add_op<A: Acc>(op: VectorAddRow, a: &VReg, b: &VReg, flags: &mut Flags, acc: &mut A) -> VReg
     ensures value { result ≡ results_of (add_rule op) a.now b.now flags.old }
     ensures flags { flags.new ≡ flags_after (add_rule op) a.now b.now flags.old }
     ensures accumulator { A.numbers acc.new ≡ with_low (A.numbers acc.old) (lows_of (add_rule op) a.now b.now flags.old) }
 {
-    let (result, low) = op.sums(a, b, flags);
+    let (result, low) = sums(op, a, b, flags);
     acc.set_low(&low);
     result
 }
 
-impl AddOp {
-    /// The results, and the low sixteen bits of the accumulators.
-    #[inline(always)]
-    fn sums(self, a: &VReg, b: &VReg, flags: &mut Flags) -> (VReg, VReg)
-        ensures value { result.0 ≡ results_of (add_rule self) a.now b.now flags.old }
-        ensures low { result.1 ≡ lows_of (add_rule self) a.now b.now flags.old }
-        ensures flags { flags.new ≡ flags_after (add_rule self) a.now b.now flags.old }
-    {
-        match self {
-            AddOp::Vadd => add(a, b, flags),
-            AddOp::Vsub => subtract(a, b, flags),
-            AddOp::Vabs => absolute(a, b, flags),
-            AddOp::Vaddc => add_carried(a, b, flags),
-            AddOp::Vsubc => subtract_borrowed(a, b, flags),
-        }
+/// The results, and the low sixteen bits of the accumulators.
+#[inline(always)]
+fn sums(op: VectorAddRow, a: &VReg, b: &VReg, flags: &mut Flags) -> (VReg, VReg)
+    ensures value { result.0 ≡ results_of (add_rule op) a.now b.now flags.old }
+    ensures low { result.1 ≡ lows_of (add_rule op) a.now b.now flags.old }
+    ensures flags { flags.new ≡ flags_after (add_rule op) a.now b.now flags.old }
+{
+    match op {
+        VectorAddRow::Vadd => add(a, b, flags),
+        VectorAddRow::Vsub => subtract(a, b, flags),
+        VectorAddRow::Vabs => absolute(a, b, flags),
+        VectorAddRow::Vaddc => add_carried(a, b, flags),
+        VectorAddRow::Vsubc => subtract_borrowed(a, b, flags),
     }
 }
 

@@ -10,8 +10,9 @@ mod adds;
 mod logic;
 mod selects;
 
-pub use adds::{AddOp, add_op};
-pub use logic::{LogicOp, logic_op};
-pub use rsp_clip::{ClipOp, clip_op};
+pub use adds::add_op;
+pub use logic::logic_op;
+pub use rsp_clip::{VectorClipRow, clip_op};
 pub use rsp_flags::Flags;
-pub use selects::{MergeOp, SelectOp, merge_op, select_op};
+pub use rsp_rows::{VectorAddRow, VectorLogicRow, VectorSelectRow};
+pub use selects::{MergeOp, merge_op, select_op};

@@ -8,19 +8,7 @@ ghost use Rattle.rsp_compare.specs.Selects.{vlt, veq, vne, vge, holds, select_ru
 use rsp_acc::Acc;
 use rsp_flags::Flags;
 use rsp_lanes::{Mask8, VReg};
-
-/// A compare row.
-#[derive(Clone, Copy, PartialEq, Eq, Debug, Drop)]
-pub enum SelectOp {
-    /// Below, or equal where carry and not-equal are both set.
-    Vlt,
-    /// Equal, and not-equal is clear.
-    Veq,
-    /// Different, or not-equal is set.
-    Vne,
-    /// Above, or equal but where carry and not-equal are both set.
-    Vge,
-}
+use rsp_rows::VectorSelectRow;
 
 /// A merge row.
 #[derive(Clone, Copy, PartialEq, Eq, Debug, Drop)]
@@ -32,12 +20,18 @@ pub enum MergeOp {
 /// Does a compare row: gives a where the comparison holds, else b, and writes that to the low sixteen bits of the accumulators.
 /// The answer goes to compare; clip and VCO are cleared, VCE stays.
 #[inline]
-pub fn select_op<A: Acc>(op: SelectOp, a: &VReg, b: &VReg, flags: &mut Flags, acc: &mut A) -> VReg
+pub fn select_op<A: Acc>(
+    op: VectorSelectRow,
+    a: &VReg,
+    b: &VReg,
+    flags: &mut Flags,
+    acc: &mut A,
+) -> VReg
     ensures value { result ≡ results_of (select_rule op) a.now b.now flags.old }
     ensures flags { flags.new ≡ flags_after (select_rule op) a.now b.now flags.old }
     ensures accumulator { A.numbers acc.new ≡ with_low (A.numbers acc.old) (lows_of (select_rule op) a.now b.now flags.old) }
 {
-    let taken = op.taken(a, b, flags);
+    let taken = taken(op, a, b, flags);
     flags.clear_vco();
     flags.set_vcc(taken, Mask8::splat(false));
     let result = taken.merge(a, b);
@@ -61,18 +55,16 @@ pub fn merge_op<A: Acc>(op: MergeOp, a: &VReg, b: &VReg, flags: &mut Flags, acc:
     result
 }
 
-impl SelectOp {
-    /// Where the comparison holds.
-    #[inline(always)]
-    fn taken(self, a: &VReg, b: &VReg, flags: &Flags) -> Mask8
-        ensures { result ≡ each_lane (λ i. holds self (slice_index a.now i) (slice_index b.now i) (flags_at flags.now i)) }
-    {
-        match self {
-            SelectOp::Vlt => is_below(a, b, flags),
-            SelectOp::Veq => is_equal(a, b, flags),
-            SelectOp::Vne => is_different(a, b, flags),
-            SelectOp::Vge => is_at_least(a, b, flags),
-        }
+/// Where the comparison holds.
+#[inline(always)]
+fn taken(op: VectorSelectRow, a: &VReg, b: &VReg, flags: &Flags) -> Mask8
+    ensures { result ≡ each_lane (λ i. holds op (slice_index a.now i) (slice_index b.now i) (flags_at flags.now i)) }
+{
+    match op {
+        VectorSelectRow::Vlt => is_below(a, b, flags),
+        VectorSelectRow::Veq => is_equal(a, b, flags),
+        VectorSelectRow::Vne => is_different(a, b, flags),
+        VectorSelectRow::Vge => is_at_least(a, b, flags),
     }
 }
 

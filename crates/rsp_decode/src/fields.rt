@@ -3,8 +3,7 @@
 ghost use Rattle.std.specs.Prelude.{◌≡◌, ◌<◌, ◌==◌, ◌%◌};
 ghost use Rattle.rsp_decode.specs.Table.{value_at, whole, capped, control_of, vector_memory_in};
 
-use crate::inst::Control;
-use crate::shared_fields::{RegisterFields, ScalarMemoryFields, VectorFields, VectorMemoryFields};
+use rsp_rows::{Control, RegisterFields, ScalarMemoryFields, VectorFields, VectorMemoryFields};
 
 /// Bits 31 to 26.
 #[inline(always)]

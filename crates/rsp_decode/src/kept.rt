@@ -2,13 +2,14 @@
 
 ghost use Rattle.std.specs.Prelude.{Some};
 
-use crate::inst::{
-    Control, DivideRow, EqualRow, IdleRow, ImmediateRow, Inst, JumpRow, LoadRow, MoveRow, MpegRow,
-    MultiplyRow, RegisterRow, RoundRow, ShiftByRow, ShiftRow, SignRow, StoreRow, VectorAddRow,
-    VectorClipRow, VectorLoadRow, VectorLogicRow, VectorSelectRow, VectorStoreRow,
-};
-use crate::shared_fields::{RegisterFields, ScalarMemoryFields, VectorFields, VectorMemoryFields};
+use crate::inst::Inst;
 use crate::visitor::Visitor;
+use rsp_rows::{
+    Control, DivideRow, EqualRow, IdleRow, ImmediateRow, JumpRow, LoadRow, MoveRow, MpegRow,
+    MultiplyRow, RegisterFields, RegisterRow, RoundRow, ScalarMemoryFields, ShiftByRow, ShiftRow,
+    SignRow, StoreRow, VectorAddRow, VectorClipRow, VectorFields, VectorLoadRow, VectorLogicRow,
+    VectorMemoryFields, VectorSelectRow, VectorStoreRow,
+};
 
 /// The last instruction that it was given.
 #[derive(Drop)]

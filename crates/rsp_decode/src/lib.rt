@@ -14,16 +14,16 @@ mod inst;
 mod kept;
 pub mod laws;
 mod rows;
-mod shared_fields;
 mod visitor;
 
 pub use decoding::{decode, is_canonical, visit};
 pub use encoding::encode;
-pub use inst::{
-    Control, DivideRow, EqualRow, IdleRow, ImmediateRow, Inst, JumpRow, LoadRow, MoveRow, MpegRow,
-    MultiplyRow, RegisterRow, RoundRow, ShiftByRow, ShiftRow, SignRow, StoreRow, VectorAddRow,
-    VectorClipRow, VectorLoadRow, VectorLogicRow, VectorSelectRow, VectorStoreRow,
-};
+pub use inst::Inst;
 pub use rows::{Operand, TableRow, table};
-pub use shared_fields::{RegisterFields, ScalarMemoryFields, VectorFields, VectorMemoryFields};
+pub use rsp_rows::{
+    Control, DivideRow, EqualRow, IdleRow, ImmediateRow, JumpRow, LoadRow, MoveRow, MpegRow,
+    MultiplyRow, RegisterFields, RegisterRow, RoundRow, ScalarMemoryFields, ShiftByRow, ShiftRow,
+    SignRow, StoreRow, VectorAddRow, VectorClipRow, VectorFields, VectorLoadRow, VectorLogicRow,
+    VectorMemoryFields, VectorSelectRow, VectorStoreRow,
+};
 pub use visitor::Visitor;

@@ -139,8 +139,10 @@ const VECTOR_MEMORY: u32 = 0xfc00_f800;
 /// Of those whose element is 0 or 8.
 const HALF_VECTOR_MEMORY: u32 = 0xfc00_fb80;
 
-/// The rows of the instruction table, by the match that decides between them: what selects a row there, its name, its operands,
-/// and the call of the decoder. Reserved values have arms too, so that a jump needs no test of its range.
+/// The rows of the instruction table, by the match that decides between them. A line has the value that selects its row there, its
+/// name, its operands, and the decoder's call for it. `$then` is given all of them, behind what it is given by the caller.
+///
+/// A match names its reserved values one by one, so that its jump needs no test of a range, or says what it is otherwise.
 macro_rules! instruction_table {
     ($then:ident $more:tt) => {
         $then! { $more
@@ -164,7 +166,10 @@ macro_rules! instruction_table {
                 0x27 "nor" REGISTERS register(RegisterRow::Nor);
                 0x2a "slt" REGISTERS register(RegisterRow::Slt);
                 0x2b "sltu" REGISTERS register(RegisterRow::Sltu);
-                reserved 0x01 0x05 0x0a 0x0b 0x0c 0x0e 0x0f 0x10 0x11 0x12 0x13 0x14 0x15 0x16 0x17 0x18 0x19 0x1a 0x1b 0x1c 0x1d 0x1e 0x1f 0x28 0x29 0x2c 0x2d 0x2e 0x2f 0x30 0x31 0x32 0x33 0x34 0x35 0x36 0x37 0x38 0x39 0x3a 0x3b 0x3c 0x3d 0x3e 0x3f;
+                reserved 0x01 0x05 0x0a 0x0b 0x0c 0x0e 0x0f 0x10 0x11 0x12 0x13 0x14 0x15 0x16
+                    0x17 0x18 0x19 0x1a 0x1b 0x1c 0x1d 0x1e 0x1f 0x28 0x29 0x2c 0x2d 0x2e 0x2f
+                    0x30 0x31 0x32 0x33 0x34 0x35 0x36 0x37 0x38 0x39 0x3a 0x3b 0x3c 0x3d 0x3e
+                    0x3f;
             }
             regimm {
                 0x00 "bltz" BRANCH_SIGN branch_sign(SignRow::Bltz);
@@ -197,7 +202,9 @@ macro_rules! instruction_table {
                 0x28 "sb" MEMORY store(StoreRow::Sb);
                 0x29 "sh" MEMORY store(StoreRow::Sh);
                 0x2b "sw" MEMORY store(StoreRow::Sw);
-                reserved 0x00 0x01 0x10 0x11 0x12 0x13 0x14 0x15 0x16 0x17 0x18 0x19 0x1a 0x1b 0x1c 0x1d 0x1e 0x1f 0x22 0x26 0x2a 0x2c 0x2d 0x2e 0x2f 0x30 0x31 0x32 0x33 0x34 0x35 0x36 0x37 0x38 0x39 0x3a 0x3b 0x3c 0x3d 0x3e 0x3f;
+                reserved 0x00 0x01 0x10 0x11 0x12 0x13 0x14 0x15 0x16 0x17 0x18 0x19 0x1a 0x1b
+                    0x1c 0x1d 0x1e 0x1f 0x22 0x26 0x2a 0x2c 0x2d 0x2e 0x2f 0x30 0x31 0x32 0x33
+                    0x34 0x35 0x36 0x37 0x38 0x39 0x3a 0x3b 0x3c 0x3d 0x3e 0x3f;
             }
             cop0 {
                 0x00 "mfc0" MOVE_SP move_sp(MoveRow::From);
@@ -209,7 +216,8 @@ macro_rules! instruction_table {
                 0x04 "mtc2" MOVE_VECTOR move_vector(MoveRow::To);
                 0x02 "cfc2" MOVE_CONTROL move_control(MoveRow::From);
                 0x06 "ctc2" MOVE_CONTROL move_control(MoveRow::To);
-                reserved 0x01 0x03 0x05 0x07 0x08 0x09 0x0a 0x0b 0x0c 0x0d 0x0e 0x0f 0x10 0x11 0x12 0x13 0x14 0x15 0x16 0x17 0x18 0x19 0x1a 0x1b 0x1c 0x1d 0x1e 0x1f;
+                reserved 0x01 0x03 0x05 0x07 0x08 0x09 0x0a 0x0b 0x0c 0x0d 0x0e 0x0f 0x10 0x11
+                    0x12 0x13 0x14 0x15 0x16 0x17 0x18 0x19 0x1a 0x1b 0x1c 0x1d 0x1e 0x1f;
             }
             products {
                 0x00 "vmulf" VECTORS multiply(MultiplyRow::Vmulf);
@@ -260,7 +268,8 @@ macro_rules! instruction_table {
                 0x36 "vrsqh" LANE divide(DivideRow::Vrsqh);
                 0x37 "vnop" NOTHING idle(IdleRow::Vnop);
                 0x3f "vnull" NOTHING idle(IdleRow::Vnull);
-                reserved 0x12 0x16 0x17 0x18 0x19 0x1a 0x1b 0x1c 0x1e 0x1f 0x2e 0x2f 0x38 0x39 0x3a 0x3b 0x3c 0x3d 0x3e;
+                reserved 0x12 0x16 0x17 0x18 0x19 0x1a 0x1b 0x1c 0x1e 0x1f 0x2e 0x2f 0x38 0x39
+                    0x3a 0x3b 0x3c 0x3d 0x3e;
             }
             lwc2 {
                 0x00 "lbv" VECTOR_MEMORY_1 vector_load(VectorLoadRow::Lbv);
@@ -274,7 +283,8 @@ macro_rules! instruction_table {
                 0x08 "lhv" VECTOR_MEMORY_16 vector_load(VectorLoadRow::Lhv);
                 0x09 half "lfv" VECTOR_MEMORY_HALF vector_load(VectorLoadRow::Lfv);
                 0x0b "ltv" VECTOR_MEMORY_16 vector_load(VectorLoadRow::Ltv);
-                reserved 0x09 0x0a 0x0c 0x0d 0x0e 0x0f 0x10 0x11 0x12 0x13 0x14 0x15 0x16 0x17 0x18 0x19 0x1a 0x1b 0x1c 0x1d 0x1e 0x1f;
+                reserved 0x09 0x0a 0x0c 0x0d 0x0e 0x0f 0x10 0x11 0x12 0x13 0x14 0x15 0x16 0x17
+                    0x18 0x19 0x1a 0x1b 0x1c 0x1d 0x1e 0x1f;
             }
             swc2 {
                 0x00 "sbv" VECTOR_MEMORY_1 vector_store(VectorStoreRow::Sbv);
@@ -289,12 +299,14 @@ macro_rules! instruction_table {
                 0x09 half "sfv" VECTOR_MEMORY_HALF vector_store(VectorStoreRow::Sfv);
                 0x0a "swv" VECTOR_MEMORY_16 vector_store(VectorStoreRow::Swv);
                 0x0b "stv" VECTOR_MEMORY_16 vector_store(VectorStoreRow::Stv);
-                reserved 0x09 0x0c 0x0d 0x0e 0x0f 0x10 0x11 0x12 0x13 0x14 0x15 0x16 0x17 0x18 0x19 0x1a 0x1b 0x1c 0x1d 0x1e 0x1f;
+                reserved 0x09 0x0c 0x0d 0x0e 0x0f 0x10 0x11 0x12 0x13 0x14 0x15 0x16 0x17 0x18
+                    0x19 0x1a 0x1b 0x1c 0x1d 0x1e 0x1f;
             }
         }
     };
 }
 
+/// The bits that select a row of a match.
 macro_rules! mask {
     (special) => { SPECIAL };
     (regimm) => { REGIMM };
@@ -309,6 +321,7 @@ macro_rules! mask {
     (swc2 half) => { HALF_VECTOR_MEMORY };
 }
 
+/// What those bits are.
 macro_rules! value {
     (special $n:literal) => { $n };
     (regimm $n:literal) => { 1 << 26 | $n << 16 };
@@ -321,11 +334,12 @@ macro_rules! value {
     (swc2 $n:literal) => { 58 << 26 | $n << 11 };
 }
 
+/// All lines as rows.
 macro_rules! all_rows {
     (() $($section:ident {
         $($n:literal $($half:ident)? $name:literal $operands:ident $call:ident $(($row:path))?;)*
-        $(reserved $($r:literal)*;)?
-        $(otherwise $other:expr;)?
+        $(reserved $($reserved:literal)*;)?
+        $(otherwise $otherwise:expr;)?
     })*) => {
         &[$($(TableRow {
             name: $name,
@@ -336,28 +350,30 @@ macro_rules! all_rows {
     };
 }
 
-/// The match of one part of the table.
+/// One of the matches: `arms(NAME(KEY, WORD, VISITOR))` of the table is its match on the key. The first line whose guard holds is
+/// called.
 macro_rules! arms {
-    (@($key:expr, $word:ident, $visitor:ident)
+    (@($key:expr, $word:ident, $visitor:ident) {
         $($n:literal $($half:ident)? $name:literal $operands:ident $call:ident $(($row:path))?;)*
-        $(reserved $($r:literal)*;)?
-        $(otherwise $other:expr;)?
-    ) => {
+        $(reserved $($reserved:literal)*;)?
+        $(otherwise $otherwise:expr;)?
+    }) => {
         match $key {
             $($n $(if $half($word))? => $call($word, $($row,)? $visitor),)*
-            $($($r => false,)* _ => unreachable!(),)?
-            $(_ => $other,)?
+            $($($reserved => false,)* _ => unreachable!(),)?
+            $(_ => $otherwise,)?
         }
     };
-    ((special $a:tt) special { $($t:tt)* } $($rest:tt)*) => { arms!(@$a $($t)*) };
-    ((regimm $a:tt) special $b:tt regimm { $($t:tt)* } $($rest:tt)*) => { arms!(@$a $($t)*) };
-    ((opcode $a:tt) special $b:tt regimm $c:tt opcode { $($t:tt)* } $($rest:tt)*) => { arms!(@$a $($t)*) };
-    ((cop0 $a:tt) special $b:tt regimm $c:tt opcode $d:tt cop0 { $($t:tt)* } $($rest:tt)*) => { arms!(@$a $($t)*) };
-    ((cop2 $a:tt) special $b:tt regimm $c:tt opcode $d:tt cop0 $e:tt cop2 { $($t:tt)* } $($rest:tt)*) => { arms!(@$a $($t)*) };
-    ((products $a:tt) special $b:tt regimm $c:tt opcode $d:tt cop0 $e:tt cop2 $f:tt products { $($t:tt)* } $($rest:tt)*) => { arms!(@$a $($t)*) };
-    ((others $a:tt) special $b:tt regimm $c:tt opcode $d:tt cop0 $e:tt cop2 $f:tt products $g:tt others { $($t:tt)* } $($rest:tt)*) => { arms!(@$a $($t)*) };
-    ((lwc2 $a:tt) special $b:tt regimm $c:tt opcode $d:tt cop0 $e:tt cop2 $f:tt products $g:tt others $h:tt lwc2 { $($t:tt)* } $($rest:tt)*) => { arms!(@$a $($t)*) };
-    ((swc2 $a:tt) special $b:tt regimm $c:tt opcode $d:tt cop0 $e:tt cop2 $f:tt products $g:tt others $h:tt lwc2 $i:tt swc2 { $($t:tt)* }) => { arms!(@$a $($t)*) };
+    ((special $at:tt) special $lines:tt $($rest:tt)*) => { arms!(@$at $lines) };
+    ((regimm $at:tt) regimm $lines:tt $($rest:tt)*) => { arms!(@$at $lines) };
+    ((opcode $at:tt) opcode $lines:tt $($rest:tt)*) => { arms!(@$at $lines) };
+    ((cop0 $at:tt) cop0 $lines:tt $($rest:tt)*) => { arms!(@$at $lines) };
+    ((cop2 $at:tt) cop2 $lines:tt $($rest:tt)*) => { arms!(@$at $lines) };
+    ((products $at:tt) products $lines:tt $($rest:tt)*) => { arms!(@$at $lines) };
+    ((others $at:tt) others $lines:tt $($rest:tt)*) => { arms!(@$at $lines) };
+    ((lwc2 $at:tt) lwc2 $lines:tt $($rest:tt)*) => { arms!(@$at $lines) };
+    ((swc2 $at:tt) swc2 $lines:tt $($rest:tt)*) => { arms!(@$at $lines) };
+    ($wanted:tt $other:ident $lines:tt $($rest:tt)*) => { arms!($wanted $($rest)*) };
 }
 
 pub(crate) use arms;

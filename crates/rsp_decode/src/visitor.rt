@@ -4,12 +4,12 @@ ghost use Rattle.std.specs.Prelude.{◌≡◌};
 ghost use Rattle.rsp_decode.specs.declared.inst.Inst.{Inst};
 ghost use Rattle.rsp_decode.specs.Table.{IsInstruction};
 
-use crate::inst::{
+use rsp_rows::{
     Control, DivideRow, EqualRow, IdleRow, ImmediateRow, JumpRow, LoadRow, MoveRow, MpegRow,
-    MultiplyRow, RegisterRow, RoundRow, ShiftByRow, ShiftRow, SignRow, StoreRow, VectorAddRow,
-    VectorClipRow, VectorLoadRow, VectorLogicRow, VectorSelectRow, VectorStoreRow,
+    MultiplyRow, RegisterFields, RegisterRow, RoundRow, ScalarMemoryFields, ShiftByRow, ShiftRow,
+    SignRow, StoreRow, VectorAddRow, VectorClipRow, VectorFields, VectorLoadRow, VectorLogicRow,
+    VectorMemoryFields, VectorSelectRow, VectorStoreRow,
 };
-use crate::shared_fields::{RegisterFields, ScalarMemoryFields, VectorFields, VectorMemoryFields};
 
 /// What takes the instruction of a word from [`crate::visit`]: one call for each variant of [`crate::Inst`], with its
 /// fields. So a word is taken apart and carried out by one match, and no `Inst` stands between.

@@ -1,16 +1,15 @@
 -- The divide rows: what each writes into vd, into the divider and into the accumulators.
-use Rattle.std.specs.Prelude.{ℕ, ℤ, ◌%◌, Option, Some, None, List, slice_set, slice_index}
+use Rattle.std.specs.Prelude.{ℕ, ◌%◌, List, slice_set, slice_index}
 use Rattle.rsp_lanes.specs.Lanes.{selected}
 use Rattle.rsp_numbers.specs.Numbers.{s16}
-use Rattle.rsp_acc.specs.Planes.{with_low}
-use Rattle.rsp_divide.specs.Dividers.{Division, divided, half_taken, lane_only, idle, operand}
+use Rattle.rsp_divide.specs.Dividers.{Division, divided, half_taken, lane_only, operand}
 use Rattle.rsp_divide.specs.Quotients.{reciprocal_of, inverse_root_of}
 use Rattle.rsp_divide.specs.declared.divider.Divider.{Divider}
-use Rattle.rsp_divide.specs.declared.rows.DivideOp.{DivideOp}
-use Rattle.rsp_divide.specs.declared.rows.DivideOp.TheVariants.{Vrcp, Vrcpl, Vrcph, Vmov, Vrsq, Vrsql, Vrsqh, Vnop, Vnull}
+use Rattle.rsp_rows.specs.declared.vector.DivideRow.{DivideRow}
+use Rattle.rsp_rows.specs.declared.vector.DivideRow.TheVariants.{Vrcp, Vrcpl, Vrcph, Vmov, Vrsq, Vrsql, Vrsqh}
 
 -- what a row does, by the divider, the source (lane e mod 8 of vt), and the lane, which is lane de of the selected vt
-abbrev pub division : DivideOp → Divider → ℕ → ℕ → Division
+abbrev pub division : DivideRow → Divider → ℕ → ℕ → Division
 division Vrcp d source lane = divided d (reciprocal_of (s16 source))
 division Vrcpl d source lane = divided d (reciprocal_of (operand d source))
 division Vrcph d source lane = half_taken d source
@@ -18,28 +17,15 @@ division Vmov d source lane = lane_only d lane
 division Vrsq d source lane = divided d (inverse_root_of (s16 source))
 division Vrsql d source lane = divided d (inverse_root_of (operand d source))
 division Vrsqh d source lane = half_taken d source
-division Vnop d source lane = idle d
-division Vnull d source lane = idle d
 
 -- the row with the element e and the lane de
-abbrev pub division_at : DivideOp → ℕ → ℕ → List ℕ → Divider → Division
+abbrev pub division_at : DivideRow → ℕ → ℕ → List ℕ → Divider → Division
 division_at op e de vt d = division op d (slice_index vt (e % 8)) (slice_index (selected vt e) de)
 
--- lane i written over, where there is something to write
-abbrev pub with_lane : List ℕ → ℕ → Option ℕ → List ℕ
-with_lane v i None = v
-with_lane v i (Some n) = slice_set v i n
-
 -- the register vd after the row, which writes lane de alone
-unfoldable pub lane_written : DivideOp → ℕ → ℕ → List ℕ → Divider → List ℕ → List ℕ
-lane_written op e de vt d vd = with_lane vd de (division_at op e de vt d).lane
+unfoldable pub lane_written : DivideRow → ℕ → ℕ → List ℕ → Divider → List ℕ → List ℕ
+lane_written op e de vt d vd = slice_set vd de (division_at op e de vt d).lane
 
 -- the divider after the row
-unfoldable pub divider_after : DivideOp → ℕ → ℕ → List ℕ → Divider → Divider
+unfoldable pub divider_after : DivideRow → ℕ → ℕ → List ℕ → Divider → Divider
 divider_after op e de vt d = (division_at op e de vt d).divider
-
--- the accumulators x after the row: their low sixteen bits become the selected lanes, but VNOP and VNULL keep them
-unfoldable pub lows_written : DivideOp → ℕ → List ℕ → List ℤ → List ℤ
-lows_written Vnop e vt x = x
-lows_written Vnull e vt x = x
-lows_written op e vt x = with_low x (selected vt e)

@@ -1,4 +1,4 @@
-ghost use Rattle.std.specs.Prelude.{◌≡◌, Some};
+ghost use Rattle.std.specs.Prelude.{◌≡◌};
 ghost use Rattle.rsp_divide.specs.Dividers.{no_divider, divided, half_taken, operand};
 ghost use Rattle.rsp_numbers.specs.Numbers.{s16};
 
@@ -41,7 +41,7 @@ impl Divider {
     /// Keeps the high half of a quotient, clears the mark, and gives the low half.
     #[inline]
     pub(crate) fn divided(&mut self, quotient: i32) -> u16
-        ensures lane { Some result ≡ (divided self.old quotient).lane }
+        ensures lane { result ≡ (divided self.old quotient).lane }
         ensures divider { self.new ≡ (divided self.old quotient).divider }
     {
         let bits = quotient.cast_unsigned();
@@ -53,7 +53,7 @@ impl Divider {
     /// Keeps the high half of an operand, sets the mark, and gives the high half of the last quotient.
     #[inline]
     pub(crate) fn load(&mut self, source: u16) -> u16
-        ensures lane { Some result ≡ (half_taken self.old source).lane }
+        ensures lane { result ≡ (half_taken self.old source).lane }
         ensures divider { self.new ≡ (half_taken self.old source).divider }
     {
         self.input = source;

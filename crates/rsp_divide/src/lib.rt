@@ -12,4 +12,5 @@ mod tables;
 pub use divider::Divider;
 pub use entries::{rcp_entry, rsq_entry};
 pub use quotients::{reciprocal, root};
-pub use rows::{DivideOp, divide_op};
+pub use rows::divide_op;
+pub use rsp_rows::DivideRow;

@@ -1,43 +1,23 @@
 ghost use Rattle.std.specs.Prelude.{◌≡◌, ◌<◌};
-ghost use Rattle.rsp_divide.specs.Rows.{division, lane_written, divider_after, lows_written};
+ghost use Rattle.rsp_lanes.specs.Lanes.{selected};
+ghost use Rattle.rsp_acc.specs.Planes.{with_low};
+ghost use Rattle.rsp_divide.specs.Rows.{division, lane_written, divider_after};
 
 use crate::Divider;
 use crate::divider::signed;
 use crate::quotients::{reciprocal, root};
 use rsp_acc::Acc;
 use rsp_lanes::{VReg, select};
-
-/// The divide rows of the instruction table.
-#[derive(Clone, Copy, PartialEq, Eq, Debug, Drop)]
-pub enum DivideOp {
-    /// The reciprocal of the source.
-    Vrcp,
-    /// The reciprocal of the loaded input and the source.
-    Vrcpl,
-    /// Loads the input, and reads the output.
-    Vrcph,
-    /// Moves a lane.
-    Vmov,
-    /// The inverse square root of the source.
-    Vrsq,
-    /// The inverse square root of the loaded input and the source.
-    Vrsql,
-    /// Loads the input, and reads the output.
-    Vrsqh,
-    /// Does nothing.
-    Vnop,
-    /// Does nothing.
-    Vnull,
-}
+use rsp_rows::DivideRow;
 
 /// Executes a divide row with the element `e`, below 16, on lane `de`, below 8, of `vd`.
 ///
-/// The source is lane `e` mod 8 of `vt`, which is the register as it stood before the row. All rows but VNOP and VNULL
-/// write lane `de` of `vd`, and the lanes of `vt` that `e` selects into the low sixteen bits of the accumulators.
+/// The source is lane `e` mod 8 of `vt`, which is the register as it stood before the row. The row writes lane `de` of
+/// `vd`, and the lanes of `vt` that `e` selects into the low sixteen bits of the accumulators.
 #[inline(always)]
-#[tactic(auto, unfolding(crate::specs::Rows::lane_written, crate::specs::Rows::divider_after, crate::specs::Rows::lows_written))]
+#[tactic(auto, unfolding(crate::specs::Rows::lane_written, crate::specs::Rows::divider_after))]
 pub fn divide_op<A: Acc>(
-    op: DivideOp,
+    op: DivideRow,
     e: usize,
     de: usize,
     vt: &VReg,
@@ -49,31 +29,26 @@ pub fn divide_op<A: Acc>(
     requires lane { de < 8 }
     ensures lane { vd.new ≡ lane_written op e de vt.now divider.old vd.old }
     ensures divider { divider.new ≡ divider_after op e de vt.now divider.old }
-    ensures accumulator { A.numbers acc.new ≡ lows_written op e vt.now (A.numbers acc.old) }
+    ensures accumulator { A.numbers acc.new ≡ with_low (A.numbers acc.old) (selected vt.now e) }
 {
     let source = vt.lane(e % 8);
     let selected = select(vt, e);
-    if let Some(lane) = op.division(divider, source, selected.lane(de)) {
-        vd.set_lane(de, lane);
-        acc.set_low(&selected);
-    }
+    vd.set_lane(de, division(op, divider, source, selected.lane(de)));
+    acc.set_low(&selected);
 }
 
-impl DivideOp {
-    /// What the row writes into its lane, if it writes, by the source and the selected lane.
-    #[inline(always)]
-    fn division(self, divider: &mut Divider, source: u16, selected: u16) -> Option<u16>
-        ensures lane { result ≡ (division self divider.old source selected).lane }
-        ensures divider { divider.new ≡ (division self divider.old source selected).divider }
-    {
-        match self {
-            DivideOp::Vrcp => Some(divider.divided(reciprocal(signed(source)))),
-            DivideOp::Vrcpl => Some(divider.divided(reciprocal(divider.operand(source)))),
-            DivideOp::Vrcph | DivideOp::Vrsqh => Some(divider.load(source)),
-            DivideOp::Vmov => Some(selected),
-            DivideOp::Vrsq => Some(divider.divided(root(signed(source)))),
-            DivideOp::Vrsql => Some(divider.divided(root(divider.operand(source)))),
-            DivideOp::Vnop | DivideOp::Vnull => None,
-        }
+/// What the row writes into its lane, by the source and the selected lane.
+#[inline(always)]
+fn division(op: DivideRow, divider: &mut Divider, source: u16, selected: u16) -> u16
+    ensures lane { result ≡ (division op divider.old source selected).lane }
+    ensures divider { divider.new ≡ (division op divider.old source selected).divider }
+{
+    match op {
+        DivideRow::Vrcp => divider.divided(reciprocal(signed(source))),
+        DivideRow::Vrcpl => divider.divided(reciprocal(divider.operand(source))),
+        DivideRow::Vrcph | DivideRow::Vrsqh => divider.load(source),
+        DivideRow::Vmov => selected,
+        DivideRow::Vrsq => divider.divided(root(signed(source))),
+        DivideRow::Vrsql => divider.divided(root(divider.operand(source))),
     }
 }

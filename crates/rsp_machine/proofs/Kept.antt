@@ -3,19 +3,19 @@ use Rattle.std.proofs.Common.{◌≡◌, ℕ, ℤ, ◌-◌, ◌%◌, ◌==◌, �
 use Rattle.std.specs.Prelude.{if◌then◌else◌}
 use Rattle.rsp_decode.specs.declared.inst.Inst.{Inst}
 use Rattle.rsp_decode.specs.declared.inst.Inst.TheVariants.{Shift, ShiftBy, JumpRegister, JumpLinkRegister, Break, Register, BranchSign, BranchEqual, Jump, Immediate, LoadUpper, Load, Store, MoveSp, MoveVector, MoveControl, Multiply, Round, MpegMultiply, ReadAccumulator, VectorAdd, VectorSelect, VectorClip, VectorMerge, VectorLogic, Divide, Idle, VectorLoad, VectorStore}
-use Rattle.rsp_decode.specs.declared.inst.MoveRow.{MoveRow}
-use Rattle.rsp_decode.specs.declared.inst.MoveRow.TheVariants.{From, To}
-use Rattle.rsp_decode.specs.declared.inst.SignRow.{SignRow}
-use Rattle.rsp_decode.specs.declared.inst.SignRow.TheVariants.{Bltz, Bgez, Bltzal, Bgezal, Blez, Bgtz}
-use Rattle.rsp_decode.specs.declared.inst.JumpRow.{JumpRow}
-use Rattle.rsp_decode.specs.declared.inst.JumpRow.TheVariants.{J, Jal}
+use Rattle.rsp_rows.specs.declared.scalar.MoveRow.{MoveRow}
+use Rattle.rsp_rows.specs.declared.scalar.MoveRow.TheVariants.{From, To}
+use Rattle.rsp_rows.specs.declared.scalar.SignRow.{SignRow}
+use Rattle.rsp_rows.specs.declared.scalar.SignRow.TheVariants.{Bltz, Bgez, Bltzal, Bgezal, Blez, Bgtz}
+use Rattle.rsp_rows.specs.declared.scalar.JumpRow.{JumpRow}
+use Rattle.rsp_rows.specs.declared.scalar.JumpRow.TheVariants.{J, Jal}
 use Rattle.rsp_flags.specs.declared.flags.Flags.{Flags}
 use Rattle.rsp_divide.specs.declared.divider.Divider.{Divider}
 use Rattle.rsp_memory.specs.Memory.{word_at, bytes_at, with_bytes}
 use Rattle.rsp_scalar.specs.Registers.{register, with_register}
 use Rattle.rsp_scalar.specs.Rows.{address}
 use Rattle.rsp_scalar.specs.Flow.{linked, going_on}
-use Rattle.rsp_decode.specs.declared.inst.Control.{Control}
+use Rattle.rsp_rows.specs.declared.vector.Control.{Control}
 use Rattle.rsp_decode.specs.Table.{inst_of}
 use Rattle.rsp_loadstore.specs.File.{vector, with_vector}
 use Rattle.rsp_loadstore.specs.Addresses.{transfer_address}
@@ -35,7 +35,6 @@ use Rattle.rsp_machine.specs.declared.change.Change.TheVariants as of
 use Rattle.rsp_machine.proofs.Undoing.{register-back, vector-back, store-back}
 use Rattle.rsp_machine.proofs.Loading.{loaded-back, put_back}
 use Rattle.rsp_machine.proofs.Flagging.{AreFlags, sum-back, merge-back, choice-back, logic-back}
-use Rattle.rsp_machine.specs.Ops.{add_op, select_op, logic_op}
 
 -- the state with its parts given back
 same_state : (s : State) (r : List ℕ) (v : List (List ℕ)) (x : List ℤ) (f : Flags) (d : Divider) (m i q : List ℕ) → s.sp.halted ≡ false
@@ -216,11 +215,11 @@ kept_back (Multiply row f) s r e h k o = product_kept f.vd _ _ s r (ap vd_in o) 
 kept_back (Round row f) s r e h k o = product_kept f.vd _ _ s r (ap vd_in o) h
 kept_back (MpegMultiply row f) s r e h k o = product_kept f.vd _ _ s r (ap vd_in o) h
 kept_back (ReadAccumulator f) s r e h k o = vector_kept f.vd _ s r h
-kept_back (VectorAdd row f) s r e h k o = sum_kept f.vd _ _ _ s r (ap vd_in o) h (sum-back (add_op row) _ _ s.flags k)
-kept_back (VectorSelect row f) s r e h k o = choice_kept f.vd _ _ _ s r (ap vd_in o) h (choice-back (select_op row) _ _ s.flags k)
+kept_back (VectorAdd row f) s r e h k o = sum_kept f.vd _ _ _ s r (ap vd_in o) h (sum-back row _ _ s.flags k)
+kept_back (VectorSelect row f) s r e h k o = choice_kept f.vd _ _ _ s r (ap vd_in o) h (choice-back row _ _ s.flags k)
 kept_back (VectorClip row f) s r e h k o = clip_kept f.vd _ _ _ s r (ap vd_in o) h
 kept_back (VectorMerge f) s r e h k o = sum_kept f.vd _ _ _ s r (ap vd_in o) h (merge-back _ _ s.flags k)
-kept_back (VectorLogic row f) s r e h k o = logic_kept f.vd _ _ _ s r (ap vd_in o) h (logic-back (logic_op row) _ _ s.flags k)
+kept_back (VectorLogic row f) s r e h k o = logic_kept f.vd _ _ _ s r (ap vd_in o) h (logic-back row _ _ s.flags k)
 kept_back (Divide row vd lane vt n) s r e h k o = divide_kept vd _ _ _ s r (ap vd_in o) h
 kept_back (Idle row) s r e h k o = places_kept _ s r h
 kept_back (VectorLoad row f) s r e h k o =

@@ -1,6 +1,5 @@
 -- The machine: its state, one step, and what the host does with it.
 pub mod State
-pub mod Ops
 pub mod Vector
 pub mod Host
 pub mod Step

@@ -5,8 +5,8 @@ ghost use Rattle.rsp_flags.specs.Outcome.{Rule, results_of, lows_of, flags_after
 ghost use Rattle.rsp_acc.specs.Planes.{with_low};
 
 use rsp_acc::Acc;
-use rsp_clip::ClipOp;
-use rsp_compare::{AddOp, LogicOp, MergeOp, SelectOp};
+use rsp_compare::MergeOp;
+use rsp_decode::{VectorAddRow, VectorClipRow, VectorLogicRow, VectorSelectRow};
 use rsp_flags::Flags;
 use rsp_lanes::VReg;
 
@@ -22,7 +22,7 @@ pub(crate) trait LaneOp {
         ensures accumulator { A.numbers acc.new ≡ with_low (A.numbers acc.old) (lows_of (rule self) a.now b.now flags.old) };
 }
 
-impl LaneOp for AddOp {
+impl LaneOp for VectorAddRow {
     ghost use Rattle.rsp_compare.specs.Adds.{add_rule};
 
     ghost rule = { add_rule };
@@ -33,7 +33,7 @@ impl LaneOp for AddOp {
     }
 }
 
-impl LaneOp for SelectOp {
+impl LaneOp for VectorSelectRow {
     ghost use Rattle.rsp_compare.specs.Selects.{select_rule};
 
     ghost rule = { select_rule };
@@ -44,7 +44,7 @@ impl LaneOp for SelectOp {
     }
 }
 
-impl LaneOp for ClipOp {
+impl LaneOp for VectorClipRow {
     ghost use Rattle.rsp_clip.specs.Clips.{clip_rule};
 
     ghost rule = { clip_rule };
@@ -66,7 +66,7 @@ impl LaneOp for MergeOp {
     }
 }
 
-impl LaneOp for LogicOp {
+impl LaneOp for VectorLogicRow {
     ghost use Rattle.rsp_compare.specs.Logic.{logic_rule};
 
     ghost rule = { logic_rule };

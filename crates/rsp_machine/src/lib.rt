@@ -10,7 +10,6 @@ mod host;
 mod lanes;
 pub mod laws;
 mod machine;
-mod ops;
 mod place;
 mod record;
 mod recorder;

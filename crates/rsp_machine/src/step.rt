@@ -1,6 +1,6 @@
 ghost use Rattle.std.specs.Prelude.{◌≡◌, ◌<◌, ◌%◌, option_map, unwrap_or};
 ghost use Rattle.rsp_decode.specs.Table.{IsInstruction, inst_of};
-ghost use Rattle.rsp_decode.specs.declared.inst.MoveRow.TheVariants as row;
+ghost use Rattle.rsp_rows.specs.declared.scalar.MoveRow.TheVariants as row;
 ghost use Rattle.rsp_machine.specs.Step.{computes, loads, stores, jumps, break_instruction, moves_sp, executed, singled, step_of};
 ghost use Rattle.rsp_machine.specs.State.{advanced, gone_back};
 ghost use Rattle.rsp_memory.specs.Memory.{word_at};

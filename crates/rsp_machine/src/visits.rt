@@ -10,7 +10,6 @@ use crate::change::{
     vector_move_change,
 };
 use crate::machine::Machine;
-use crate::ops::{add_op, clip_op, logic_op, select_op};
 use crate::place::Place;
 use rsp_acc::Acc;
 use rsp_compare::MergeOp;
@@ -247,21 +246,21 @@ impl<'a, A: Acc, K: Keeper> Visitor for Executor<'a, A, K> {
     #[tactic(auto, unfolding(crate::specs::Step::worked, crate::specs::Saved::change_of))]
     fn vector_add(&mut self, row: VectorAddRow, fields: VectorFields) {
         self.keep(Change::Sum(u32::from(fields.vd)));
-        self.machine.compute_lanes(add_op(row), fields);
+        self.machine.compute_lanes(row, fields);
     }
 
     #[inline(always)]
     #[tactic(auto, unfolding(crate::specs::Step::worked, crate::specs::Saved::change_of))]
     fn vector_select(&mut self, row: VectorSelectRow, fields: VectorFields) {
         self.keep(Change::Choice(u32::from(fields.vd)));
-        self.machine.compute_lanes(select_op(row), fields);
+        self.machine.compute_lanes(row, fields);
     }
 
     #[inline(always)]
     #[tactic(auto, unfolding(crate::specs::Step::worked, crate::specs::Saved::change_of))]
     fn vector_clip(&mut self, row: VectorClipRow, fields: VectorFields) {
         self.keep(Change::Clip(u32::from(fields.vd)));
-        self.machine.compute_lanes(clip_op(row), fields);
+        self.machine.compute_lanes(row, fields);
     }
 
     #[inline(always)]
@@ -275,7 +274,7 @@ impl<'a, A: Acc, K: Keeper> Visitor for Executor<'a, A, K> {
     #[tactic(auto, unfolding(crate::specs::Step::worked, crate::specs::Saved::change_of))]
     fn vector_logic(&mut self, row: VectorLogicRow, fields: VectorFields) {
         self.keep(Change::Product(u32::from(fields.vd)));
-        self.machine.compute_lanes(logic_op(row), fields);
+        self.machine.compute_lanes(row, fields);
     }
 
     #[inline(always)]

@@ -3,10 +3,10 @@ use Rattle.std.proofs.Common.{◌≡◌, ℕ, ◌+◌, ◌%◌, ◌^◌, ◌<◌
 use Rattle.std.proofs.lemmas.List.{get_or-set_same, get_or-set_other, set-set}
 use Rattle.rsp_decode.specs.declared.inst.Inst.{Inst}
 use Rattle.rsp_decode.specs.declared.inst.Inst.TheVariants.{Immediate, Load, Store}
-use Rattle.rsp_decode.specs.declared.inst.ImmediateRow.TheVariants.{Addiu}
-use Rattle.rsp_decode.specs.declared.inst.LoadRow.TheVariants.{Lw}
-use Rattle.rsp_decode.specs.declared.inst.StoreRow.TheVariants.{Sw}
-use Rattle.rsp_decode.specs.declared.shared_fields.ScalarMemoryFields.{ScalarMemoryFields}
+use Rattle.rsp_rows.specs.declared.scalar.ImmediateRow.TheVariants.{Addiu}
+use Rattle.rsp_rows.specs.declared.scalar.LoadRow.TheVariants.{Lw}
+use Rattle.rsp_rows.specs.declared.scalar.StoreRow.TheVariants.{Sw}
+use Rattle.rsp_rows.specs.declared.fields.ScalarMemoryFields.{ScalarMemoryFields}
 use Rattle.rsp_decode.specs.Table.Words.{inst_of, row_of}
 use Rattle.rsp_memory.specs.Memory.{word_at, with_word}
 use Rattle.rsp_scalar.specs.Registers.{register}

@@ -8,9 +8,9 @@ use Rattle.rsp_numbers.specs.Numbers.{s16}
 use Rattle.std.proofs.lemmas.List.{get_or-set_same, get_or-set_other, set-set}
 use Rattle.rsp_decode.specs.declared.inst.Inst.{Inst}
 use Rattle.rsp_decode.specs.declared.inst.Inst.TheVariants.{Immediate, BranchEqual, Shift}
-use Rattle.rsp_decode.specs.declared.inst.ImmediateRow.TheVariants.{Addiu}
-use Rattle.rsp_decode.specs.declared.inst.EqualRow.TheVariants.{Bne}
-use Rattle.rsp_decode.specs.declared.inst.ShiftRow.TheVariants.{Sll}
+use Rattle.rsp_rows.specs.declared.scalar.ImmediateRow.TheVariants.{Addiu}
+use Rattle.rsp_rows.specs.declared.scalar.EqualRow.TheVariants.{Bne}
+use Rattle.rsp_rows.specs.declared.scalar.ShiftRow.TheVariants.{Sll}
 use Rattle.rsp_decode.specs.Table.Words.{inst_of, row_of}
 use Rattle.rsp_memory.specs.Memory.{word_at}
 use Rattle.rsp_scalar.specs.Registers.{register, with_register, IsRegisters}

@@ -10,7 +10,6 @@ use Rattle.rsp_loadstore.specs.File.{vector, with_vector}
 use Rattle.rsp_multiply.specs.Laws.{Step, IsStep, SumsOfProducts, after, results, sum_of}
 use Rattle.rsp_multiply.specs.Rows.{clamped_by}
 use Rattle.rsp_machine.specs.State.{State, IsState}
-use Rattle.rsp_machine.specs.Ops.{multiply_op}
 use Rattle.rsp_machine.specs.Step.{executed, worked}
 use Rattle.rsp_machine.specs.Vector.{multiplies}
 use Rattle.rsp_microcode.specs.Runs.{IsAt, all_go_on, ran_through, place_after}
@@ -62,7 +61,7 @@ run (m ∷ ms) s h e =
     let both = and_parts _ _ h in
     let t = executed (instruction m) s in
     run ms t both.1 refl
-    ∙ ap (with_steps ms t) (same_steps s.vectors m.fields.vd (clamped_by (multiply_op m.name) t.accumulators) ms both.0)
+    ∙ ap (with_steps ms t) (same_steps s.vectors m.fields.vd (clamped_by m.name t.accumulators) ms both.0)
     ∙ ap (λ (n : ℕ). let u : State = record s {
       pc = place_after ms n;
       npc = place_after (m ∷ ms) s.npc;

@@ -3,8 +3,8 @@ use Rattle.std.specs.Prelude.{ℕ, pos, ◌≡◌, Bool, true, false, not, ◌&&
 use Rattle.std.specs.List.{list_all}
 use Rattle.rsp_decode.specs.declared.inst.Inst.{Inst}
 use Rattle.rsp_decode.specs.declared.inst.Inst.TheVariants.{Multiply}
-use Rattle.rsp_decode.specs.declared.inst.MultiplyRow.{MultiplyRow}
-use Rattle.rsp_decode.specs.declared.shared_fields.VectorFields.{VectorFields}
+use Rattle.rsp_rows.specs.declared.vector.MultiplyRow.{MultiplyRow}
+use Rattle.rsp_rows.specs.declared.fields.VectorFields.{VectorFields}
 use Rattle.rsp_loadstore.specs.File.{vector, with_vector}
 use Rattle.rsp_multiply.specs.Laws.{Step, after, results, sum_of, clamped_sums}
 use Rattle.rsp_multiply.specs.Rows.{row}
@@ -14,7 +14,6 @@ use Rattle.rsp_decode.specs.Table.{inst_of}
 use Rattle.rsp_machine.specs.Laws.{steps_of}
 use Rattle.rsp_scalar.specs.Flow.{going_on}
 use Rattle.rsp_machine.specs.State.{State, IsState}
-use Rattle.rsp_machine.specs.Ops.{multiply_op}
 use Rattle.rsp_microcode.specs.Runs.{IsAt, ran_through, place_after}
 
 pub record Product : Type 0 where
@@ -30,7 +29,7 @@ instruction m = Multiply m.name m.fields
 
 -- the row with the registers that it reads in these registers
 abbrev pub step_in : List (List ℕ) → Product → Step
-step_in file m = record { op = multiply_op m.name; vs = vector file m.fields.vs; vt = vector file m.fields.vt; element = m.fields.element }
+step_in file m = record { op = m.name; vs = vector file m.fields.vs; vt = vector file m.fields.vt; element = m.fields.element }
 
 abbrev pub reads_other : ℕ → Product → Bool
 reads_other vd m = not (nat_eq vd m.fields.vs) && not (nat_eq vd m.fields.vt)
@@ -57,7 +56,7 @@ multiplied ms s = record s {
 
 -- the first replaces the accumulators, the others add to them, and their fields are those of a word
 abbrev pub adds : Product → Bool
-adds m = (row (multiply_op m.name)).adds
+adds m = (row m.name).adds
 
 abbrev pub has_fields : Product → Bool
 has_fields m = (nat_lt m.fields.vs 32 && nat_lt m.fields.vt 32) && nat_lt m.fields.element 16

@@ -2,7 +2,7 @@
 use Rattle.std.specs.Prelude.{ℕ, ℤ, pos, negsuc, ◌≡◌, ◌+◌, ◌*◌, ◌<◌, ◌*ℤ◌, List, [], ◌∷◌, map, slice_index}
 use Rattle.std.specs.Int.{int_min, int_max}
 use Rattle.rsp_decode.specs.declared.inst.Inst.{Inst}
-use Rattle.rsp_decode.specs.declared.inst.MultiplyRow.TheVariants.{Vmudl, Vmadm, Vmadn, Vmadh}
+use Rattle.rsp_rows.specs.declared.vector.MultiplyRow.TheVariants.{Vmudl, Vmadm, Vmadn, Vmadh}
 use Rattle.rsp_numbers.specs.Numbers.{s32, floor_div}
 use Rattle.rsp_lanes.specs.Lanes.{each_lane}
 use Rattle.rsp_loadstore.specs.File.{vector, with_vector}

@@ -4,10 +4,9 @@
 
 pub mod laws;
 mod mpeg;
-mod ops;
 mod products;
 mod rows;
 
 pub use mpeg::{mpeg_op, round_op};
-pub use ops::{MpegOp, MultiplyOp, RoundOp};
 pub use rows::{multiply, sar};
+pub use rsp_rows::{MpegRow, MultiplyRow, RoundRow};

@@ -2,55 +2,53 @@ ghost use Rattle.std.specs.Prelude.{◌≡◌, slice_index};
 ghost use Rattle.rsp_lanes.specs.Lanes.{each_lane};
 ghost use Rattle.rsp_multiply.specs.Rows.{row, accumulators_after, clamped_by, sar_of};
 
-use crate::MultiplyOp;
 use crate::products::{fraction, lower, middle, rounded, upper};
 use rsp_acc::{Acc, Addends, Clamp, Part};
 use rsp_lanes::VReg;
+use rsp_rows::MultiplyRow;
 
-impl MultiplyOp {
-    /// What the row makes of the lanes of a and b.
-    #[inline(always)]
-    fn addends(self, a: &VReg, b: &VReg) -> Addends
-        ensures { result ≡ each_lane (λ i. (row self).addend (slice_index a.now i) (slice_index b.now i)) }
-    {
-        match self {
-            MultiplyOp::Vmulf | MultiplyOp::Vmulu => rounded(a, b),
-            MultiplyOp::Vmacf | MultiplyOp::Vmacu => fraction(a, b),
-            MultiplyOp::Vmudl | MultiplyOp::Vmadl => lower(a, b),
-            MultiplyOp::Vmudm | MultiplyOp::Vmadm => middle(a, b),
-            MultiplyOp::Vmudn | MultiplyOp::Vmadn => middle(b, a),
-            MultiplyOp::Vmudh | MultiplyOp::Vmadh => upper(a, b),
-        }
+/// What the row makes of the lanes of a and b.
+#[inline(always)]
+fn addends(op: MultiplyRow, a: &VReg, b: &VReg) -> Addends
+    ensures { result ≡ each_lane (λ i. (row op).addend (slice_index a.now i) (slice_index b.now i)) }
+{
+    match op {
+        MultiplyRow::Vmulf | MultiplyRow::Vmulu => rounded(a, b),
+        MultiplyRow::Vmacf | MultiplyRow::Vmacu => fraction(a, b),
+        MultiplyRow::Vmudl | MultiplyRow::Vmadl => lower(a, b),
+        MultiplyRow::Vmudm | MultiplyRow::Vmadm => middle(a, b),
+        MultiplyRow::Vmudn | MultiplyRow::Vmadn => middle(b, a),
+        MultiplyRow::Vmudh | MultiplyRow::Vmadh => upper(a, b),
     }
+}
 
-    /// Whether the row adds to the accumulators, or replaces them.
-    #[inline(always)]
-    fn adds(self) -> bool
-        ensures { result ≡ (row self).adds }
-    {
-        match self {
-            MultiplyOp::Vmacf
-            | MultiplyOp::Vmacu
-            | MultiplyOp::Vmadl
-            | MultiplyOp::Vmadm
-            | MultiplyOp::Vmadn
-            | MultiplyOp::Vmadh => true,
-            _ => false,
-        }
+/// Whether the row adds to the accumulators, or replaces them.
+#[inline(always)]
+fn adds(op: MultiplyRow) -> bool
+    ensures { result ≡ (row op).adds }
+{
+    match op {
+        MultiplyRow::Vmacf
+        | MultiplyRow::Vmacu
+        | MultiplyRow::Vmadl
+        | MultiplyRow::Vmadm
+        | MultiplyRow::Vmadn
+        | MultiplyRow::Vmadh => true,
+        _ => false,
     }
+}
 
-    /// How the row takes its result from the accumulators.
-    #[inline(always)]
-    fn clamp(self) -> Clamp
-        ensures { result ≡ (row self).clamp }
-    {
-        match self {
-            MultiplyOp::Vmulu | MultiplyOp::Vmacu => Clamp::Unsigned,
-            MultiplyOp::Vmudl | MultiplyOp::Vmudn | MultiplyOp::Vmadl | MultiplyOp::Vmadn => {
-                Clamp::LowKind
-            }
-            _ => Clamp::Signed,
+/// How the row takes its result from the accumulators.
+#[inline(always)]
+fn clamp(op: MultiplyRow) -> Clamp
+    ensures { result ≡ (row op).clamp }
+{
+    match op {
+        MultiplyRow::Vmulu | MultiplyRow::Vmacu => Clamp::Unsigned,
+        MultiplyRow::Vmudl | MultiplyRow::Vmudn | MultiplyRow::Vmadl | MultiplyRow::Vmadn => {
+            Clamp::LowKind
         }
+        _ => Clamp::Signed,
     }
 }
 
@@ -58,19 +56,19 @@ impl MultiplyOp {
 /// the row's addends, or their sums with them, as numbers of 48 bits, and the result is the row's
 /// clamp of the new accumulators.
 #[inline(always)]
-pub fn multiply<A: Acc>(op: MultiplyOp, a: &VReg, b: &VReg, acc: &mut A) -> VReg
+pub fn multiply<A: Acc>(op: MultiplyRow, a: &VReg, b: &VReg, acc: &mut A) -> VReg
     ensures accumulators { A.numbers acc.new ≡ accumulators_after op a.now b.now (A.numbers acc.old) }
     ensures value { result ≡ clamped_by op (A.numbers acc.new) }
 {
     a.ranges();
     b.ranges();
-    let addends = op.addends(a, b);
-    if op.adds() {
+    let addends = addends(op, a, b);
+    if adds(op) {
         acc.add(&addends);
     } else {
         acc.replace(&addends);
     }
-    acc.clamp(op.clamp())
+    acc.clamp(clamp(op))
 }
 
 /// VSAR: the high, middle or low sixteen bits of the accumulators for an element e of 8, 9 or 10,

@@ -1,6 +1,7 @@
 use rsp_acc::{Acc, Part, PlainAcc, PlaneAcc};
 use rsp_compare::{
-    AddOp, Flags, LogicOp, MergeOp, SelectOp, add_op, logic_op, merge_op, select_op,
+    Flags, MergeOp, VectorAddRow, VectorLogicRow, VectorSelectRow, add_op, logic_op, merge_op,
+    select_op,
 };
 use rsp_lanes::VReg;
 use std::process::Abort;
@@ -15,7 +16,7 @@ fn worked_sums<A: Acc>(rt: &impl Abort) {
     let mut acc = A::zero();
 
     let sum = add_op(
-        AddOp::Vaddc,
+        VectorAddRow::Vaddc,
         &VReg::splat(0xffff),
         &VReg::splat(1),
         &mut flags,
@@ -24,7 +25,7 @@ fn worked_sums<A: Acc>(rt: &impl Abort) {
     assert_eq!(rt; sum, VReg::splat(0));
     assert_eq!(rt; vco(&flags), (255, 0));
     let sum = add_op(
-        AddOp::Vadd,
+        VectorAddRow::Vadd,
         &VReg::splat(0x7fff),
         &VReg::splat(0),
         &mut flags,
@@ -34,7 +35,7 @@ fn worked_sums<A: Acc>(rt: &impl Abort) {
     assert_eq!(rt; acc.part(Part::Low), VReg::splat(0x8000));
     assert_eq!(rt; vco(&flags), (0, 0));
     let signed = add_op(
-        AddOp::Vabs,
+        VectorAddRow::Vabs,
         &VReg::splat(0xffff),
         &VReg::splat(0x8000),
         &mut flags,
@@ -44,7 +45,7 @@ fn worked_sums<A: Acc>(rt: &impl Abort) {
     assert_eq!(rt; acc.part(Part::Low), VReg::splat(0x8000));
 
     let difference = add_op(
-        AddOp::Vsubc,
+        VectorAddRow::Vsubc,
         &VReg::splat(3),
         &VReg::splat(5),
         &mut flags,
@@ -53,7 +54,7 @@ fn worked_sums<A: Acc>(rt: &impl Abort) {
     assert_eq!(rt; difference, VReg::splat(0xfffe));
     assert_eq!(rt; vco(&flags), (255, 255));
     let difference = add_op(
-        AddOp::Vsub,
+        VectorAddRow::Vsub,
         &VReg::splat(0x8000),
         &VReg::splat(0),
         &mut flags,
@@ -72,10 +73,10 @@ fn worked_comparisons<A: Acc>(rt: &impl Abort) {
     let b = VReg::from_array([5, 1, 0xffff, 0x7fff, 0x8000, 0, 6, 4]);
 
     for (op, answer) in [
-        (SelectOp::Vlt, 0b0100_1010),
-        (SelectOp::Veq, 0b0010_0001),
-        (SelectOp::Vne, 0b1101_1110),
-        (SelectOp::Vge, 0b1011_0101),
+        (VectorSelectRow::Vlt, 0b0100_1010),
+        (VectorSelectRow::Veq, 0b0010_0001),
+        (VectorSelectRow::Vne, 0b1101_1110),
+        (VectorSelectRow::Vge, 0b1011_0101),
     ] {
         let _ = select_op(op, &a, &b, &mut flags, &mut acc);
         assert_eq!(rt; flags.compare.bits(), answer);
@@ -83,13 +84,13 @@ fn worked_comparisons<A: Acc>(rt: &impl Abort) {
 
     // Three below five leaves both of VCO set: equal lanes are then below, and no longer at least.
     let _ = add_op(
-        AddOp::Vsubc,
+        VectorAddRow::Vsubc,
         &VReg::splat(3),
         &VReg::splat(5),
         &mut flags,
         &mut acc,
     );
-    let lower = select_op(SelectOp::Vlt, &a, &b, &mut flags, &mut acc);
+    let lower = select_op(VectorSelectRow::Vlt, &a, &b, &mut flags, &mut acc);
     assert_eq!(rt;
         lower.to_array(),
         [5, 0xffff, 0xffff, 0x8000, 0x8000, 0, 5, 4]
@@ -113,12 +114,12 @@ fn worked_bits<A: Acc>(rt: &impl Abort) {
     let mut flags = Flags::new();
     let mut acc = A::zero();
     for (op, bits) in [
-        (LogicOp::Vand, 0x0c30),
-        (LogicOp::Vnand, 0xf3cf),
-        (LogicOp::Vor, 0x3ffc),
-        (LogicOp::Vnor, 0xc003),
-        (LogicOp::Vxor, 0x33cc),
-        (LogicOp::Vnxor, 0xcc33),
+        (VectorLogicRow::Vand, 0x0c30),
+        (VectorLogicRow::Vnand, 0xf3cf),
+        (VectorLogicRow::Vor, 0x3ffc),
+        (VectorLogicRow::Vnor, 0xc003),
+        (VectorLogicRow::Vxor, 0x33cc),
+        (VectorLogicRow::Vnxor, 0xcc33),
     ] {
         let result = logic_op(
             op,

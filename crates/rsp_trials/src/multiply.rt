@@ -1,6 +1,6 @@
 use rsp_acc::{Acc, PlainAcc, PlaneAcc};
 use rsp_lanes::VReg;
-use rsp_multiply::{MultiplyOp, multiply, sar};
+use rsp_multiply::{MultiplyRow, multiply, sar};
 use std::process::Abort;
 
 /// Each row with its lanes a and b, the accumulator after it and its result. Every list begins with
@@ -9,7 +9,7 @@ fn worked_rows<A: Acc>(rt: &impl Abort) {
     let mut acc = A::zero();
     for (op, a, b, high, middle, low, result) in [
         (
-            MultiplyOp::Vmulf,
+            MultiplyRow::Vmulf,
             0x8000,
             0x8000,
             0x0000,
@@ -18,7 +18,7 @@ fn worked_rows<A: Acc>(rt: &impl Abort) {
             0x7fff,
         ),
         (
-            MultiplyOp::Vmulu,
+            MultiplyRow::Vmulu,
             0x8000,
             0x8000,
             0x0000,
@@ -27,7 +27,7 @@ fn worked_rows<A: Acc>(rt: &impl Abort) {
             0xffff,
         ),
         (
-            MultiplyOp::Vmudh,
+            MultiplyRow::Vmudh,
             0x7fff,
             0x7fff,
             0x3fff,
@@ -36,7 +36,7 @@ fn worked_rows<A: Acc>(rt: &impl Abort) {
             0x7fff,
         ),
         (
-            MultiplyOp::Vmadh,
+            MultiplyRow::Vmadh,
             0x7fff,
             0x7fff,
             0x7ffe,
@@ -45,7 +45,7 @@ fn worked_rows<A: Acc>(rt: &impl Abort) {
             0x7fff,
         ),
         (
-            MultiplyOp::Vmadh,
+            MultiplyRow::Vmadh,
             0x7fff,
             0x7fff,
             0xbffd,
@@ -54,7 +54,7 @@ fn worked_rows<A: Acc>(rt: &impl Abort) {
             0x8000,
         ),
         (
-            MultiplyOp::Vmudn,
+            MultiplyRow::Vmudn,
             0xffff,
             0x0001,
             0x0000,
@@ -63,7 +63,7 @@ fn worked_rows<A: Acc>(rt: &impl Abort) {
             0xffff,
         ),
         (
-            MultiplyOp::Vmadl,
+            MultiplyRow::Vmadl,
             0xffff,
             0xffff,
             0x0000,
@@ -72,7 +72,7 @@ fn worked_rows<A: Acc>(rt: &impl Abort) {
             0xfffd,
         ),
         (
-            MultiplyOp::Vmudh,
+            MultiplyRow::Vmudh,
             0x0100,
             0x0100,
             0x0001,
@@ -81,7 +81,7 @@ fn worked_rows<A: Acc>(rt: &impl Abort) {
             0x7fff,
         ),
         (
-            MultiplyOp::Vmacu,
+            MultiplyRow::Vmacu,
             0x0000,
             0x0000,
             0x0001,
@@ -90,7 +90,7 @@ fn worked_rows<A: Acc>(rt: &impl Abort) {
             0xffff,
         ),
         (
-            MultiplyOp::Vmudh,
+            MultiplyRow::Vmudh,
             0xffff,
             0x0001,
             0xffff,
@@ -99,7 +99,7 @@ fn worked_rows<A: Acc>(rt: &impl Abort) {
             0xffff,
         ),
         (
-            MultiplyOp::Vmacu,
+            MultiplyRow::Vmacu,
             0x0000,
             0x0000,
             0xffff,
@@ -108,11 +108,28 @@ fn worked_rows<A: Acc>(rt: &impl Abort) {
             0x0000,
         ),
     ] {
+        let function = op as u32;
         let value = multiply(op, &VReg::splat(a), &VReg::splat(b), &mut acc);
-        assert_eq!(rt; value, VReg::splat(result), "result of {op:?}");
-        assert_eq!(rt; sar(8, &acc), VReg::splat(high), "high after {op:?}");
-        assert_eq!(rt; sar(9, &acc), VReg::splat(middle), "middle after {op:?}");
-        assert_eq!(rt; sar(10, &acc), VReg::splat(low), "low after {op:?}");
+        assert_eq!(rt;
+            value,
+            VReg::splat(result),
+            "result of function {function:02x}"
+        );
+        assert_eq!(rt;
+            sar(8, &acc),
+            VReg::splat(high),
+            "high after function {function:02x}"
+        );
+        assert_eq!(rt;
+            sar(9, &acc),
+            VReg::splat(middle),
+            "middle after function {function:02x}"
+        );
+        assert_eq!(rt;
+            sar(10, &acc),
+            VReg::splat(low),
+            "low after function {function:02x}"
+        );
         assert_eq!(rt; sar(11, &acc), VReg::splat(0));
     }
 }

@@ -5,9 +5,9 @@ ghost use Rattle.rsp_decode.specs.Visit.{is_known, visited};
 ghost use Rattle.rsp_decode.specs.Table.{value_at, whole, pick, meaning_of, cop0_rows, move_sp_row};
 
 use crate::fields::{rs, rt, sp_register};
-use crate::inst::MoveRow;
 use crate::rows::{arms, instruction_table};
 use crate::visitor::Visitor;
+use rsp_rows::MoveRow;
 
 #[inline(always)]
 fn move_sp<V: Visitor>(word: u32, row: MoveRow, visitor: &mut V) -> bool

@@ -6,9 +6,9 @@ ghost use Rattle.rsp_decode.specs.Visit.{is_known, visited};
 ghost use Rattle.rsp_decode.specs.Table.{value_at, whole, pick, meaning_of, cop2_rows, move_vector_row, move_control_row};
 
 use crate::fields::{byte_element, control, rd, rs, rt};
-use crate::inst::MoveRow;
 use crate::rows::{arms, instruction_table};
 use crate::visitor::Visitor;
+use rsp_rows::MoveRow;
 
 #[inline(always)]
 fn move_vector<V: Visitor>(word: u32, row: MoveRow, visitor: &mut V) -> bool

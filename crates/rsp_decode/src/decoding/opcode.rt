@@ -7,9 +7,9 @@ ghost use Rattle.rsp_decode.specs.Table.{value_at, whole, pick, meaning_of, opco
 
 use crate::decoding::regimm::branch_sign;
 use crate::fields::{immediate, opcode, rs, rt, scalar_memory_fields, target};
-use crate::inst::{EqualRow, ImmediateRow, JumpRow, LoadRow, SignRow, StoreRow};
 use crate::rows::{arms, instruction_table};
 use crate::visitor::Visitor;
+use rsp_rows::{EqualRow, ImmediateRow, JumpRow, LoadRow, SignRow, StoreRow};
 
 #[inline(always)]
 fn branch_equal<V: Visitor>(word: u32, row: EqualRow, visitor: &mut V) -> bool

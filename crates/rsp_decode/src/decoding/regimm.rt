@@ -5,9 +5,9 @@ ghost use Rattle.rsp_decode.specs.Visit.{is_known, visited};
 ghost use Rattle.rsp_decode.specs.Table.{value_at, whole, pick, meaning_of, regimm_rows, branch_sign_row};
 
 use crate::fields::{immediate, rs, rt};
-use crate::inst::SignRow;
 use crate::rows::{arms, instruction_table};
 use crate::visitor::Visitor;
+use rsp_rows::SignRow;
 
 #[inline(always)]
 pub fn branch_sign<V: Visitor>(word: u32, row: SignRow, visitor: &mut V) -> bool

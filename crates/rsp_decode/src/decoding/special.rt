@@ -5,9 +5,9 @@ ghost use Rattle.rsp_decode.specs.Visit.{is_known, visited};
 ghost use Rattle.rsp_decode.specs.Table.{value_at, whole, pick, meaning_of, special_rows, shift_row, shift_by_row, jump_register_row, jump_link_register_row, register_row, break_row};
 
 use crate::fields::{function, rd, register_fields, rs, rt, shift_amount};
-use crate::inst::{RegisterRow, ShiftByRow, ShiftRow};
 use crate::rows::{arms, instruction_table};
 use crate::visitor::Visitor;
+use rsp_rows::{RegisterRow, ShiftByRow, ShiftRow};
 
 #[inline(always)]
 fn shift<V: Visitor>(word: u32, row: ShiftRow, visitor: &mut V) -> bool

@@ -7,9 +7,9 @@ ghost use Rattle.rsp_decode.specs.Visit.{is_known, visited};
 ghost use Rattle.rsp_decode.specs.Table.{IsInstruction, pick_by_operation, vector_memory_in, swc2_rows};
 
 use crate::fields::{half, operation, vector_memory_fields};
-use crate::inst::VectorStoreRow;
 use crate::rows::{arms, instruction_table};
 use crate::visitor::Visitor;
+use rsp_rows::VectorStoreRow;
 
 #[inline(always)]
 fn vector_store<V: Visitor>(word: u32, row: VectorStoreRow, visitor: &mut V) -> bool

@@ -1,7 +1,7 @@
 // Fields that travel together: the operands of rows that share the form of their text.
 
 /// The fields of `$vD, $vS, $vT[e]`.
-#[derive(Clone, Copy, PartialEq, Eq)]
+#[derive(Clone, Copy)]
 pub struct VectorFields {
     /// The vector register that is written, below 32.
     pub vd: u8,
@@ -14,7 +14,7 @@ pub struct VectorFields {
 }
 
 /// The fields of `$vT[e], offset($base)`.
-#[derive(Clone, Copy, PartialEq, Eq)]
+#[derive(Clone, Copy)]
 pub struct VectorMemoryFields {
     /// The vector register, below 32.
     pub vt: u8,
@@ -27,7 +27,7 @@ pub struct VectorMemoryFields {
 }
 
 /// The fields of `$t, offset($base)`.
-#[derive(Clone, Copy, PartialEq, Eq)]
+#[derive(Clone, Copy)]
 pub struct ScalarMemoryFields {
     /// The scalar register that is loaded or stored, below 32.
     pub rt: u8,
@@ -38,7 +38,7 @@ pub struct ScalarMemoryFields {
 }
 
 /// The fields of `$d, $s, $t`, and of `$d, $t, $s`.
-#[derive(Clone, Copy, PartialEq, Eq)]
+#[derive(Clone, Copy)]
 pub struct RegisterFields {
     /// The scalar register that is written, below 32.
     pub rd: u8,

@@ -1,6 +1,6 @@
 use Rattle.std.proofs.Common.{◌∙◌, refl}
 use Rattle.rsp_lanes.proofs.Kit.{lane_of, each_same}
-use Rattle.rsp_compare.proofs.logic.LogicOp.bits.Goals as goal
+use Rattle.rsp_compare.proofs.logic.bits.Goals as goal
 
 pub returns-in-Vnand : goal.returns-in-Vnand
 returns-in-Vnand c = rw c.in-Vnand.is (c.not.ensures ∙ each_same _ _ (λ i h. rw (lane_of 0 _ _ c.and-in-Vnand.ensures i h) refl))
