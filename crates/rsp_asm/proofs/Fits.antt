@@ -5,7 +5,7 @@ use Rattle.std.specs.List.{list_all}
 use Rattle.std.specs.Str.{str_eq_ignore_ascii_case}
 use Rattle.std.proofs.lemmas.Bool.{and_parts, or_cases, eqb-true}
 use Rattle.std.proofs.lemmas.Bool.Decides.{nat_tests}
-use Rattle.rsp_decode.specs.Table.{Operand, scalar, shift_amount, signed, unsigned, jump_target, branch_target, scalar_memory, vector_memory, sp_register, control_register, vector, vector_byte, vector_element, vector_lane, Place, places, element_place, FitsPlace, FitPlaces, is_scale, is_step, is_row_operand}
+use Rattle.rsp_decode.specs.Table.{Operand, scalar, shift_amount, signed, unsigned, jump_target, branch_target, scalar_memory, vector_memory, sp_register, control_register, vector, vector_byte, vector_half, vector_element, vector_lane, Place, places, stepped, FitsPlace, FitPlaces, is_scale, is_row_operand}
 use Rattle.rsp_text.specs.declared.fault.AsmFaultKind.{AsmFaultKind}
 use Rattle.rsp_text.specs.declared.slot.Slot.{Slot}
 use Rattle.rsp_text.specs.declared.slot.Slot.TheVariants.{Half, Amount, Jump, Branch, Scaled}
@@ -13,8 +13,7 @@ use Rattle.rsp_text.specs.declared.text.Stop.TheVariants.{Parenthesis, Bracket}
 use Rattle.rsp_text.specs.Cuts.{cut}
 use Rattle.rsp_text.specs.Names.{look_up, below, small_number, is_decimal, scalar_names, scalar_named, vector_named, sp_named, control_names, control_named, element_names, element_named}
 use Rattle.rsp_text.specs.Numbers.{Expression, expression_of}
-use Rattle.rsp_decode.specs.Table.{is_scale, is_step, is_row_operand}
-use Rattle.rsp_text.specs.Statement.{Labels, Reading, one_register, asks, base_of, offset_of, memory, bracketed, multiple, byte_named, lane_named, with_element, bracket_of, memory_operand, read, field, half, amount, jump, branch, scaled, evaluate, or_out_of_range, field_of, then_registers, fields_of, append, all_fields, read_all}
+use Rattle.rsp_text.specs.Statement.{Labels, Reading, one_register, asks, base_of, offset_of, memory, bracketed, half_start, byte_named, half_named, lane_named, with_element, bracket_of, memory_operand, read, field, half, amount, jump, branch, scaled, evaluate, or_out_of_range, field_of, then_registers, fields_of, append, all_fields, read_all}
 
 -- ---- names
 
@@ -64,22 +63,12 @@ base_below bs = either (λ v. v < 32) (slice_index bs (length bs - 1) == 41) (sc
 bracketed_fits : (P : ℕ → Type 0) (look : List ℕ → Option ℕ) → ((bs : List ℕ) → IfSome (look bs) P) → (bs : List ℕ) → IfSome (bracketed look bs) P
 bracketed_fits P look all bs = either P (slice_index bs (length bs - 1) == 93) (look (take (length bs - 1) bs)) None (all (take (length bs - 1) bs)) tt
 
-stepped_byte : (P : ℕ → Type 0) (step : ℕ) → ((e : ℕ) → e < 16 → (e % step == 0) ≡ true → P e) → (o : Option ℕ) → Below 16 o → IfSome (option_and_then (multiple step) o) P
-stepped_byte P step h None b = tt
-stepped_byte P step h (Some e) b = when P (e % step == 0) e (h e b)
+half_of : (e : ℕ) → e < 16 → e % 8 ≡ 0 → FitsPlace (stepped 10 1 3) e
+half_of e lt h = (omega arith, omega arith)
 
--- the element of a byte, and the one that is left out
-abbrev ByteFits : ℕ → Type 0
-ByteFits step = ((bs : List ℕ) → IfSome (byte_named step bs) (FitsPlace (element_place step))) × FitsPlace (element_place step) 0
-
-byte_fits : (step : ℕ) → is_step step ≡ true → ByteFits step
-byte_fits step e = elim (or_cases (step == 1) (step == 8) e) [
-  | inl a ↦ subst ByteFits (sym (eqb-true step 1 a)) ((λ bs. stepped_byte (λ v. v < 16) 1 (λ v lt h. lt) (small_number 16 bs) (number_below 16 bs)), omega arith)
-  | inr b ↦ subst ByteFits (sym (eqb-true step 8 b)) ((λ bs. stepped_byte (FitsPlace (element_place 8)) 8 (λ v lt h. eight v lt (eqb-true (v % 8) 0 h)) (small_number 16 bs) (number_below 16 bs)), (omega arith, omega arith))
-]
-  where
-    eight : (v : ℕ) → v < 16 → v % 8 ≡ 0 → (v / 8 < 2) × (v / 8 * 8 ≡ v)
-    eight v lt h = (omega arith, omega arith)
+half_fits : (o : Option ℕ) → Below 16 o → IfSome (option_and_then half_start o) (FitsPlace (stepped 10 1 3))
+half_fits None b = tt
+half_fits (Some e) b = when (FitsPlace (stepped 10 1 3)) (e % 8 == 0) e (λ t. half_of e b (eqb-true (e % 8) 0 t))
 
 -- ---- values
 
@@ -178,9 +167,10 @@ module _ (labels : Labels) (place : ℕ) where
   read_fits sp_register bs ok = one_fits sp_register 16 (sp_named bs) (sp_below bs) (λ n lt. (lt, tt))
   read_fits control_register bs ok = one_fits control_register 3 (control_named bs) (look_up_below 3 control_names bs refl) (λ n lt. ((omega arith, omega arith), tt))
   read_fits (vector low) bs ok = one_fits (vector low) 32 (vector_named bs) (vector_below bs) (λ n lt. (lt, tt))
-  read_fits (vector_byte low step) bs ok =
-      let byte = byte_fits step (and_parts (nat_le low 27) (is_step step) ok).1 in
-      bracket_fits (vector_byte low step) (FitsPlace (element_place step)) (byte_named step) (Some 0) (cut Bracket bs) bs byte.0 byte.1 (λ n m lt f. (lt, (f, tt)))
+  read_fits (vector_byte low) bs ok =
+      bracket_fits (vector_byte low) (λ m. m < 16) byte_named (Some 0) (cut Bracket bs) bs (λ b. number_below 16 b) (omega arith) (λ n m lt f. (lt, (f, tt)))
+  read_fits vector_half bs ok =
+      bracket_fits vector_half (FitsPlace (stepped 10 1 3)) half_named (Some 0) (cut Bracket bs) bs (λ b. half_fits (small_number 16 b) (number_below 16 b)) (omega arith, omega arith) (λ n m lt f. (lt, (f, tt)))
   read_fits vector_element bs ok =
       bracket_fits vector_element (λ m. m < 16) element_named (Some 0) (cut Bracket bs) bs (λ b. look_up_below 16 element_names b refl) (omega arith) (λ n m lt f. (lt, (f, tt)))
   read_fits vector_lane bs ok =

@@ -2,7 +2,7 @@
 use Rattle.std.proofs.Common.{◌≡◌, refl, sym, ap, ◌∙◌, ℕ, ◌+◌, List, [], ◌∷◌, ◌++◌, length, Bool, ◌||◌, arith}
 use Rattle.std.specs.Prelude.{Option, Some, None, flat_map, option_map, option_and_then, Result, Ok, Err, ℤ}
 use Rattle.std.specs.List.{list_any}
-use Rattle.rsp_decode.specs.Table.{Operand, scalar, shift_amount, signed, unsigned, jump_target, branch_target, scalar_memory, vector_memory, sp_register, control_register, vector, vector_byte, vector_element, vector_lane, Place, places, with_fields}
+use Rattle.rsp_decode.specs.Table.{Operand, scalar, shift_amount, signed, unsigned, jump_target, branch_target, scalar_memory, vector_memory, sp_register, control_register, vector, vector_byte, vector_half, vector_element, vector_lane, Place, places, with_fields}
 use Rattle.rsp_text.specs.declared.fault.AsmFaultKind.{AsmFaultKind}
 use Rattle.rsp_text.specs.declared.slot.Slot.{Slot}
 use Rattle.rsp_text.specs.declared.slot.Slot.TheVariants.{Half, Amount, Jump, Branch, Scaled, Word}
@@ -10,7 +10,7 @@ use Rattle.rsp_text.specs.declared.text.Stop.TheVariants.{Parenthesis, Bracket}
 use Rattle.rsp_text.specs.Cuts.{cut}
 use Rattle.rsp_text.specs.Names.{scalar_named, vector_named, sp_named, control_named, element_named}
 use Rattle.rsp_text.specs.Numbers.{Expression, expression_of}
-use Rattle.rsp_text.specs.Statement.{Labels, Reading, one_register, pair, asks, memory, memory_operand, with_element, bracket_of, bracketed, byte_named, lane_named, offset_of, base_of, read, read_all, read_numbers, number_fails, fields_of, fields_with, field_of, evaluate, then_registers, append, all_fields, or_out_of_range, word}
+use Rattle.rsp_text.specs.Statement.{Labels, Reading, one_register, pair, asks, memory, memory_operand, with_element, bracket_of, bracketed, byte_named, half_named, lane_named, offset_of, base_of, read, read_all, read_numbers, number_fails, fields_of, fields_with, field_of, evaluate, then_registers, append, all_fields, or_out_of_range, word}
 use Rattle.rsp_text.specs.Walks.{reading_fails, reading_fields, with_values, number_value}
 use Rattle.rsp_asm.specs.Statements.{single}
 use Rattle.rsp_asm.specs.Walks.{any_fails, number_text_fails, and_then, put_all, number_words}
@@ -89,7 +89,8 @@ read_span (vector_memory scale) t r e = memory_span (Scaled scale) (cut Parenthe
 read_span sp_register t r e = from_map one_register 1 (λ _. refl) r (sp_named t) e
 read_span control_register t r e = from_map one_register 1 (λ _. refl) r (control_named t) e
 read_span (vector low) t r e = from_map one_register 1 (λ _. refl) r (vector_named t) e
-read_span (vector_byte low step) t r e = bracket_span (byte_named step) (Some 0) (cut Bracket t) t r e
+read_span (vector_byte low) t r e = bracket_span byte_named (Some 0) (cut Bracket t) t r e
+read_span vector_half t r e = bracket_span half_named (Some 0) (cut Bracket t) t r e
 read_span vector_element t r e = bracket_span element_named (Some 0) (cut Bracket t) t r e
 read_span vector_lane t r e = bracket_span lane_named None (cut Bracket t) t r e
 

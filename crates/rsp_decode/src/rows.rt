@@ -4,7 +4,7 @@ ghost use Rattle.std.specs.Prelude.{◌≡◌, map};
 ghost use Rattle.rsp_decode.specs.Table.{rows, entry, entry_of};
 
 /// The kind of an operand. A number is the lowest bit of its register in the word; of vector memory it is the scale of
-/// the offset, and the second one of a byte element is what the element is a multiple of.
+/// the offset.
 #[derive(Clone, Copy, PartialEq, Eq, Debug)]
 pub enum Operand {
     /// A scalar register.
@@ -30,7 +30,9 @@ pub enum Operand {
     /// A vector register.
     Vector(u8),
     /// A vector register and a byte of it.
-    VectorByte(u8, u8),
+    VectorByte(u8),
+    /// A vector register and the byte that one of its halves begins with, 0 or 8.
+    VectorHalf,
     /// A vector register and the element of a computing row.
     VectorElement,
     /// A vector register and a lane of it.
@@ -94,7 +96,7 @@ const MEMORY: &[Operand] = &[Operand::Scalar(16), Operand::ScalarMemory];
 
 const MOVE_SP: &[Operand] = &[Operand::Scalar(16), Operand::SpRegister];
 
-const MOVE_VECTOR: &[Operand] = &[Operand::Scalar(16), Operand::VectorByte(11, 1)];
+const MOVE_VECTOR: &[Operand] = &[Operand::Scalar(16), Operand::VectorByte(11)];
 
 const MOVE_CONTROL: &[Operand] = &[Operand::Scalar(16), Operand::ControlRegister];
 
@@ -106,17 +108,17 @@ const VECTORS: &[Operand] = &[
 
 const LANE: &[Operand] = &[Operand::VectorLane, Operand::VectorElement];
 
-const VECTOR_MEMORY_1: &[Operand] = &[Operand::VectorByte(16, 1), Operand::VectorMemory(1)];
+const VECTOR_MEMORY_1: &[Operand] = &[Operand::VectorByte(16), Operand::VectorMemory(1)];
 
-const VECTOR_MEMORY_2: &[Operand] = &[Operand::VectorByte(16, 1), Operand::VectorMemory(2)];
+const VECTOR_MEMORY_2: &[Operand] = &[Operand::VectorByte(16), Operand::VectorMemory(2)];
 
-const VECTOR_MEMORY_4: &[Operand] = &[Operand::VectorByte(16, 1), Operand::VectorMemory(4)];
+const VECTOR_MEMORY_4: &[Operand] = &[Operand::VectorByte(16), Operand::VectorMemory(4)];
 
-const VECTOR_MEMORY_8: &[Operand] = &[Operand::VectorByte(16, 1), Operand::VectorMemory(8)];
+const VECTOR_MEMORY_8: &[Operand] = &[Operand::VectorByte(16), Operand::VectorMemory(8)];
 
-const VECTOR_MEMORY_16: &[Operand] = &[Operand::VectorByte(16, 1), Operand::VectorMemory(16)];
+const VECTOR_MEMORY_16: &[Operand] = &[Operand::VectorByte(16), Operand::VectorMemory(16)];
 
-const VECTOR_MEMORY_HALF: &[Operand] = &[Operand::VectorByte(16, 8), Operand::VectorMemory(16)];
+const VECTOR_MEMORY_HALF: &[Operand] = &[Operand::VectorHalf, Operand::VectorMemory(16)];
 
 /// The bits that select a row of opcode 0, by its function.
 const SPECIAL: u32 = 0xfc00_003f;

@@ -2,7 +2,7 @@
 
 ghost use Rattle.std.specs.Prelude.{◌≡◌, ◌<◌, ◌≤◌, ◌+◌, ◌*◌, ◌++◌, [], ◌∷◌, true};
 ghost use Rattle.arrayvec.specs.ArrayString.{array_string_len};
-ghost use Rattle.rsp_decode.specs.Table.{value_at, whole, element_place, is_row_operand};
+ghost use Rattle.rsp_decode.specs.Table.{value_at, whole, stepped, is_row_operand};
 ghost use Rattle.rsp_text.specs.Spell.{target, reaches, operand_text, scalar_name, vector_name, sp_name, target_text};
 
 use crate::line::Line;
@@ -27,16 +27,12 @@ fn half(word: u32) -> u16
     (word & 0xffff) as u16
 }
 
-/// The element of a byte of a vector register.
-fn byte_element(word: u32, step: u8) -> u8
-    ensures value { result ≡ value_at word (element_place step) }
+/// The byte of a vector register that one of its halves begins with.
+fn half_element(word: u32) -> u8
+    ensures value { result ≡ value_at word (stepped 10 1 3) }
     ensures below { result < 16 }
 {
-    if step == 1 {
-        (word >> 7 & 15) as u8
-    } else {
-        (word >> 10 & 1) as u8 * 8
-    }
+    (word >> 10 & 1) as u8 * 8
 }
 
 /// The target of a branch, where it is in IMEM.
@@ -147,9 +143,13 @@ pub fn push_operand(line: &mut Line, kind: Operand, word: u32, place: u16)
         Operand::SpRegister => push_sp(line, (word >> 11 & 15) as u8),
         Operand::ControlRegister => line.push_str(control_text((word >> 11 & 3) as u8)),
         Operand::Vector(low) => push_vector(line, register(word, low)),
-        Operand::VectorByte(low, step) => {
+        Operand::VectorByte(low) => {
             push_vector(line, register(word, low));
-            push_byte(line, byte_element(word, step));
+            push_byte(line, (word >> 7 & 15) as u8);
+        }
+        Operand::VectorHalf => {
+            push_vector(line, register(word, 16));
+            push_byte(line, half_element(word));
         }
         Operand::VectorElement => {
             push_vector(line, register(word, 16));

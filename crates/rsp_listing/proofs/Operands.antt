@@ -8,7 +8,7 @@ use Rattle.std.proofs.lemmas.Bool.{and_parts, eqb-true, or_cases, cond-false, ne
 use Rattle.std.proofs.lemmas.List.{length-append}
 use Rattle.std.proofs.lemmas.Fmt.{length_signed_le}
 use Rattle.std.proofs.lemmas.Nat.{mod_below}
-use Rattle.rsp_decode.specs.Table.{Operand, scalar, shift_amount, signed, unsigned, jump_target, branch_target, scalar_memory, vector_memory, sp_register, control_register, vector, vector_byte, vector_element, vector_lane, value_at, whole, capped, is_scale, is_step, is_row_operand}
+use Rattle.rsp_decode.specs.Table.{Operand, scalar, shift_amount, signed, unsigned, jump_target, branch_target, scalar_memory, vector_memory, sp_register, control_register, vector, vector_byte, vector_half, vector_element, vector_lane, value_at, whole, capped, is_scale, is_row_operand}
 use Rattle.rsp_text.specs.declared.slot.Slot.{Slot}
 use Rattle.rsp_text.specs.declared.slot.Slot.TheVariants.{Half, Amount, Jump, Branch, Scaled}
 use Rattle.rsp_text.specs.declared.text.Stop.TheVariants.{Parenthesis}
@@ -16,7 +16,6 @@ use Rattle.rsp_text.specs.Cuts.{cut}
 use Rattle.rsp_text.specs.Numbers.{constant, expression_of}
 use Rattle.rsp_text.specs.Statement.{read, asks, field, offset_of, base_of, memory, memory_operand, zero_expression}
 use Rattle.rsp_text.specs.Walks.{reading_fields}
-use Rattle.rsp_decode.specs.Table.{is_scale, is_step, is_row_operand}
 use Rattle.rsp_text.specs.Spell.{hex, small, signed_half, signed_scaled, target, target_text, scalar_name, base_name, spell_operand, operand_fields, operand_text, reaches}
 use Rattle.rsp_text.proofs.Cuts.{cut_between}
 use Rattle.rsp_listing.specs.Bytes.{is_quiet}
@@ -37,8 +36,8 @@ names_one k n = says (read k (spell_operand 0 k (n ∷ []))) (n ∷ []) && is_pi
 abbrev names_two : Operand → ℕ → ℕ → Bool
 names_two k n e = says (read k (spell_operand 0 k (n ∷ e ∷ []))) (n ∷ e ∷ []) && is_piece (spell_operand 0 k (n ∷ e ∷ []))
 
-abbrev names_eight : ℕ → ℕ → Bool
-names_eight n b = names_two (vector_byte 0 8) n (b * 8)
+abbrev names_half : ℕ → ℕ → Bool
+names_half n b = names_two vector_half n (b * 8)
 
 spelled : (place : ℕ) (k : Operand) (vs : List ℕ) → (says (read k (spell_operand place k vs)) vs && is_piece (spell_operand place k vs)) ≡ true → IsSpelled place k vs
 spelled place k vs e =
@@ -128,16 +127,6 @@ scaled_back s v e lt = elim (or_cases _ _ e) [
     at : (k : ℕ) → s ≡ k → ScaledBack k v → ScaledBack s v
     at k is h = subst (λ n. ScaledBack n v) (sym is) h
 
-byte_spelled : (place w low step : ℕ) → is_step step ≡ true → Spelled place w (vector_byte low step)
-byte_spelled place w low step e = elim (or_cases (step == 1) (step == 8) e) [
-  | inl a ↦ subst (λ s. Spelled place w (vector_byte low s)) (sym (eqb-true step 1 a))
-      (spelled place (vector_byte low 1) (operand_fields (vector_byte low 1) w)
-      (below_both (names_two (vector_byte 0 1)) 32 16 refl (value_at w (whole low 5)) (value_at w (whole 7 4)) (five_bits w low) (four_bits w 7)))
-  | inr b ↦ subst (λ s. Spelled place w (vector_byte low s)) (sym (eqb-true step 8 b))
-      (spelled place (vector_byte low 8) (operand_fields (vector_byte low 8) w)
-      (below_both names_eight 32 2 refl (value_at w (whole low 5)) (w / 2 ^ 10 % 2) (five_bits w low) (mod_below (w / 2 ^ 10) 2 (lit< tt))))
-]
-
 target_spelled : (place w : ℕ) (o : Option ℕ) → place % 4 ≡ 0 → place < 4096 → target place (value_at w (whole 0 16)) ≡ o → is_some o ≡ true → (Said place (read branch_target (target_text o)) (value_at w (whole 0 16) ∷ [])) × (is_piece (target_text o) ≡ true)
 target_spelled place w None aligned inside is e = absurd cc
 target_spelled place w (Some t) aligned inside is e =
@@ -186,7 +175,8 @@ kind_spelled place w aligned inside (vector_memory s) e near =
 kind_spelled place w aligned inside sp_register e near = spelled place sp_register _ (below (names_one sp_register) 16 refl (value_at w (whole 11 4)) (four_bits w 11))
 kind_spelled place w aligned inside control_register e near = spelled place control_register _ (below (names_one control_register) 3 refl (value_at w (capped 11 2 2)) (control_below w))
 kind_spelled place w aligned inside (vector low) e near = spelled place (vector low) _ (below (names_one (vector 0)) 32 refl (value_at w (whole low 5)) (five_bits w low))
-kind_spelled place w aligned inside (vector_byte low step) e near = byte_spelled place w low step (and_parts (nat_le low 27) (is_step step) e).1
+kind_spelled place w aligned inside (vector_byte low) e near = spelled place (vector_byte low) _ (below_both (names_two (vector_byte 0)) 32 16 refl (value_at w (whole low 5)) (value_at w (whole 7 4)) (five_bits w low) (four_bits w 7))
+kind_spelled place w aligned inside vector_half e near = spelled place vector_half _ (below_both names_half 32 2 refl (value_at w (whole 16 5)) (w / 2 ^ 10 % 2) (five_bits w 16) (mod_below (w / 2 ^ 10) 2 (lit< tt)))
 kind_spelled place w aligned inside vector_element e near = spelled place vector_element _ (below_both (names_two vector_element) 32 16 refl (value_at w (whole 16 5)) (value_at w (whole 21 4)) (five_bits w 16) (four_bits w 21))
 kind_spelled place w aligned inside vector_lane e near = spelled place vector_lane _ (below_both (names_two vector_lane) 32 8 refl (value_at w (whole 6 5)) (value_at w (whole 11 3)) (five_bits w 6) (three_bits w))
 

@@ -66,12 +66,12 @@ fn first_low(kind: Operand) -> u8
     ensures place { (w v : ℕ) → with_fields w (places kind) (v ∷ []) ≡ bit_or w (v * 2 ^ result) }
 {
     match kind {
-        Operand::Scalar(low) | Operand::Vector(low) | Operand::VectorByte(low, _) => low,
+        Operand::Scalar(low) | Operand::Vector(low) | Operand::VectorByte(low) => low,
         Operand::ShiftAmount | Operand::VectorLane => 6,
         Operand::Signed | Operand::Unsigned | Operand::JumpTarget | Operand::BranchTarget => 0,
         Operand::ScalarMemory | Operand::VectorMemory(_) => 0,
         Operand::SpRegister | Operand::ControlRegister => 11,
-        Operand::VectorElement => 16,
+        Operand::VectorElement | Operand::VectorHalf => 16,
     }
 }
 
@@ -84,8 +84,8 @@ fn second_bits(kind: Operand, value: u32) -> u32
     match kind {
         Operand::ScalarMemory | Operand::VectorMemory(_) | Operand::VectorElement => value << 21,
         Operand::VectorLane => value << 11,
-        Operand::VectorByte(_, 1) => value << 7,
-        Operand::VectorByte(_, _) => value / 8 << 10,
+        Operand::VectorByte(_) => value << 7,
+        Operand::VectorHalf => value / 8 << 10,
         Operand::Scalar(_) | Operand::Vector(_) | Operand::SpRegister | Operand::ControlRegister =>
             0,
         Operand::ShiftAmount | Operand::Signed | Operand::Unsigned => 0,

@@ -77,7 +77,7 @@ const STATEMENTS: [(u32, &[(Operand, &str)], u32); 13] = [
         0x4800_0000,
         &[
             (Operand::Scalar(16), "$1"),
-            (Operand::VectorByte(11, 1), "$v2[4]"),
+            (Operand::VectorByte(11), "$v2[4]"),
         ],
         0x4801_1200,
     ),
@@ -113,7 +113,7 @@ const STATEMENTS: [(u32, &[(Operand, &str)], u32); 13] = [
     (
         0xe800_1800,
         &[
-            (Operand::VectorByte(16, 1), "$v4[8]"),
+            (Operand::VectorByte(16), "$v4[8]"),
             (Operand::VectorMemory(8), "-8($2)"),
         ],
         0xe844_1c7f,
@@ -122,7 +122,7 @@ const STATEMENTS: [(u32, &[(Operand, &str)], u32); 13] = [
     (
         0xc800_4800,
         &[
-            (Operand::VectorByte(16, 8), "$v1[8]"),
+            (Operand::VectorHalf, "$v1[8]"),
             (Operand::VectorMemory(16), "-1024($0)"),
         ],
         0xc801_4c40,
@@ -142,7 +142,7 @@ const OTHERS: [(Operand, &str); 14] = [
     (Operand::SpRegister, "$c16"),
     (Operand::ControlRegister, "$v0"),
     (Operand::Vector(6), "$v01"),
-    (Operand::VectorByte(16, 8), "$v1[4]"),
+    (Operand::VectorHalf, "$v1[4]"),
     (Operand::VectorElement, "$v3[8]"),
     (Operand::VectorLane, "$v1"),
 ];

@@ -80,7 +80,7 @@ fn finds_rows(rt: HostRuntime) {
         return;
     };
     assert_eq!(rt; row.value, 0xc800_2000);
-    assert!(rt; row.operands == [Operand::VectorByte(16, 1), Operand::VectorMemory(16)].as_slice());
+    assert!(rt; row.operands == [Operand::VectorByte(16), Operand::VectorMemory(16)].as_slice());
     assert!(rt; find_row(b"nop").is_none());
     assert!(rt; find_row(b"vmulx").is_none());
 }

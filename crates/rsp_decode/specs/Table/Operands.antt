@@ -1,14 +1,9 @@
 -- The kinds of operand in a row's text, which are the variants of one enum, and the fields that each shows. A number says
--- where its register stands; of vector memory it is the scale of the offset, and of a byte element the second one is what
--- the element is a multiple of.
-use Rattle.std.specs.Prelude.{ℕ, nat_le, ◌==◌, Bool, true, ◌&&◌, ◌||◌, List, [], ◌∷◌, if◌then◌else◌}
+-- where its register stands; of vector memory it is the scale of the offset.
+use Rattle.std.specs.Prelude.{ℕ, nat_le, ◌==◌, Bool, true, ◌||◌, List, [], ◌∷◌}
 use Rattle.rsp_decode.specs.Table.Places.{Place, whole, capped, stepped}
 pub use Rattle.rsp_decode.specs.declared.rows.Operand.{Operand}
-pub use Rattle.rsp_decode.specs.declared.rows.Operand.TheVariants.{Scalar as scalar, ShiftAmount as shift_amount, Signed as signed, Unsigned as unsigned, JumpTarget as jump_target, BranchTarget as branch_target, ScalarMemory as scalar_memory, VectorMemory as vector_memory, SpRegister as sp_register, ControlRegister as control_register, Vector as vector, VectorByte as vector_byte, VectorElement as vector_element, VectorLane as vector_lane}
-
--- a byte element, or its bit of 8 where it is 0 or 8
-abbrev pub element_place : ℕ → Place
-element_place step = if step == 1 then whole 7 4 else stepped 10 1 3
+pub use Rattle.rsp_decode.specs.declared.rows.Operand.TheVariants.{Scalar as scalar, ShiftAmount as shift_amount, Signed as signed, Unsigned as unsigned, JumpTarget as jump_target, BranchTarget as branch_target, ScalarMemory as scalar_memory, VectorMemory as vector_memory, SpRegister as sp_register, ControlRegister as control_register, Vector as vector, VectorByte as vector_byte, VectorHalf as vector_half, VectorElement as vector_element, VectorLane as vector_lane}
 
 -- the fields that an operand shows, in the order of its text
 abbrev pub places : Operand → List Place
@@ -23,7 +18,8 @@ places (vector_memory scale) = whole 0 7 ∷ whole 21 5 ∷ []
 places sp_register = whole 11 4 ∷ []
 places control_register = capped 11 2 2 ∷ []
 places (vector low) = whole low 5 ∷ []
-places (vector_byte low step) = whole low 5 ∷ element_place step ∷ []
+places (vector_byte low) = whole low 5 ∷ whole 7 4 ∷ []
+places vector_half = whole 16 5 ∷ stepped 10 1 3 ∷ []
 places vector_element = whole 16 5 ∷ whole 21 4 ∷ []
 places vector_lane = whole 6 5 ∷ whole 11 3 ∷ []
 
@@ -35,14 +31,10 @@ vector_operands = vector 6 ∷ vector 11 ∷ vector_element ∷ []
 abbrev pub is_scale : ℕ → Bool
 is_scale s = s == 1 || (s == 2 || (s == 4 || (s == 8 || s == 16)))
 
--- a byte element is any or a multiple of 8
-abbrev pub is_step : ℕ → Bool
-is_step s = s == 1 || s == 8
-
 -- the numbers that the rows of the table give their operands: a register stands inside the word
 abbrev pub is_row_operand : Operand → Bool
 is_row_operand (scalar low) = nat_le low 27
 is_row_operand (vector low) = nat_le low 27
-is_row_operand (vector_byte low step) = nat_le low 27 && is_step step
+is_row_operand (vector_byte low) = nat_le low 27
 is_row_operand (vector_memory scale) = is_scale scale
 is_row_operand _ = true

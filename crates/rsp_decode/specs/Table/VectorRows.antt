@@ -27,7 +27,7 @@ use Rattle.rsp_rows.specs.declared.vector.VectorLoadRow.{VectorLoadRow}
 use Rattle.rsp_rows.specs.declared.vector.VectorLoadRow.TheVariants.{Lbv, Lsv, Llv, Ldv, Lqv, Lrv, Lpv, Luv, Lhv, Lfv, Ltv}
 use Rattle.rsp_rows.specs.declared.vector.VectorStoreRow.{VectorStoreRow}
 use Rattle.rsp_rows.specs.declared.vector.VectorStoreRow.TheVariants.{Sbv, Ssv, Slv, Sdv, Sqv, Srv, Spv, Suv, Shv, Sfv, Swv, Stv}
-use Rattle.rsp_decode.specs.Table.Operands.{scalar, control_register, vector_byte, vector_element, vector_lane, vector_memory, vector_operands}
+use Rattle.rsp_decode.specs.Table.Operands.{Operand, scalar, control_register, vector_byte, vector_half, vector_element, vector_lane, vector_memory, vector_operands}
 use Rattle.rsp_decode.specs.Table.Rows.{Row, row, Selector, cop2, computing, lwc2, lwc2_half, swc2, swc2_half, none, two, three, four, of_vectors, of_vector_memory}
 
 -- the control register of a number, where 3 is read as 2
@@ -47,7 +47,7 @@ move_vector_selector To = cop2 4 (codes "mtc2")
 
 -- mfc2 $t, $vN[e]
 abbrev pub move_vector_row : MoveRow → Row
-move_vector_row r = row (move_vector_selector r) (scalar 16 ∷ vector_byte 11 1 ∷ []) (three (MoveVector r))
+move_vector_row r = row (move_vector_selector r) (scalar 16 ∷ vector_byte 11 ∷ []) (three (MoveVector r))
 
 -- what selects the moves from and to the control registers
 abbrev pub move_control_selector : MoveRow → Selector
@@ -200,14 +200,14 @@ vector_load_scale Lhv = 16
 vector_load_scale Lfv = 16
 vector_load_scale Ltv = 16
 
--- what the element is a multiple of
-abbrev pub vector_load_step : VectorLoadRow → ℕ
-vector_load_step Lfv = 8
-vector_load_step _ = 1
+-- the register, and the byte of it at which the transfer begins
+abbrev pub vector_load_operand : VectorLoadRow → Operand
+vector_load_operand Lfv = vector_half
+vector_load_operand _ = vector_byte 16
 
 -- lqv $vT[e], offset($base)
 abbrev pub vector_load_row : VectorLoadRow → Row
-vector_load_row r = row (vector_load_selector r) (vector_byte 16 (vector_load_step r) ∷ vector_memory (vector_load_scale r) ∷ []) (of_vector_memory (VectorLoad r))
+vector_load_row r = row (vector_load_selector r) (vector_load_operand r ∷ vector_memory (vector_load_scale r) ∷ []) (of_vector_memory (VectorLoad r))
 
 -- what selects the vector stores
 abbrev pub vector_store_selector : VectorStoreRow → Selector
@@ -239,14 +239,14 @@ vector_store_scale Sfv = 16
 vector_store_scale Swv = 16
 vector_store_scale Stv = 16
 
--- what the element is a multiple of
-abbrev pub vector_store_step : VectorStoreRow → ℕ
-vector_store_step Sfv = 8
-vector_store_step _ = 1
+-- the register, and the byte of it at which the transfer begins
+abbrev pub vector_store_operand : VectorStoreRow → Operand
+vector_store_operand Sfv = vector_half
+vector_store_operand _ = vector_byte 16
 
 -- sqv $vT[e], offset($base)
 abbrev pub vector_store_row : VectorStoreRow → Row
-vector_store_row r = row (vector_store_selector r) (vector_byte 16 (vector_store_step r) ∷ vector_memory (vector_store_scale r) ∷ []) (of_vector_memory (VectorStore r))
+vector_store_row r = row (vector_store_selector r) (vector_store_operand r ∷ vector_memory (vector_store_scale r) ∷ []) (of_vector_memory (VectorStore r))
 
 -- the rows of a group
 abbrev pub multiplies : List MultiplyRow
