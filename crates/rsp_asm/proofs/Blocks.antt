@@ -12,7 +12,7 @@ use Rattle.rsp_text.specs.Cuts.{stops}
 use Rattle.rsp_text.specs.Numbers.{Expression}
 use Rattle.rsp_text.specs.Statement.{Labels, Reading, asks, zero_expression, Statement, nothing, numbers, instruction, Form, no_operation, numbers_form, row_form, form_named, read_all, read_numbers, with_operands, with_form, operand_texts, statement_of, size, evaluate, field_of, then_registers, fields_of, append, all_fields, words_of}
 use Rattle.rsp_text.specs.Source.{Parts, parts_of, size_if, size_in, size_of, statement_words, parts_words, line_words}
-use Rattle.rsp_text.specs.Means.{line, place_of_line, all_labels, words_of_line, fault_before, and_words, words_before, unless, means_lines}
+use Rattle.rsp_text.specs.Means.{line, place_of_line, all_labels, words_of_line, fault_before, and_words, words_before, unless}
 use Rattle.rsp_asm.specs.Decoding.{Decodes, IsWord, IsWordOfLine, BlocksDecode}
 use Rattle.rsp_asm.proofs.Readings.{numbers_parts}
 use Rattle.rsp_asm.proofs.Decodes.{statements_decode}

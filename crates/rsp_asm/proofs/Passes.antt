@@ -1,6 +1,6 @@
 -- The lines that a pass has done.
-use Rattle.std.proofs.Common.{◌≡◌, refl, sym, ap, ◌∙◌, subst, ℕ, zero, suc, ◌+◌, ◌*◌, ◌<◌, ◌≤◌, List, [], ◌∷◌, ◌++◌, length, drop, drop-cons, arith, add-one, true, false}
-use Rattle.std.specs.Prelude.{Option, Some, None, Result, Ok, Err, is_some, is_err, OnOk, OnErr, ◌-◌}
+use Rattle.std.proofs.Common.{◌≡◌, sym, ap, ◌∙◌, subst, ℕ, zero, suc, ◌+◌, ◌*◌, ◌<◌, ◌≤◌, List, [], ◌∷◌, ◌++◌, length, drop, drop-cons, arith, add-one, true, false}
+use Rattle.std.specs.Prelude.{Some, None, Result, Ok, Err, is_some, is_err, OnOk, OnErr, ◌-◌}
 use Rattle.std.proofs.lemmas.List.{length-drop}
 use Rattle.rsp_text.specs.declared.fault.AsmFault.{AsmFault}
 use Rattle.rsp_text.specs.declared.fault.AsmFaultKind.{AsmFaultKind}

@@ -1,6 +1,6 @@
 -- One step of a walk over the texts of operands.
 use Rattle.std.proofs.Common.{◌≡◌, refl, sym, ap, ◌∙◌, ℕ, ◌+◌, ◌<◌, List, [], ◌∷◌, ◌++◌, length, length-append, drop, get_or, true, false, ◌&&◌, arith}
-use Rattle.std.specs.Prelude.{Option, Some, None, map, is_some, option_map, option_and_then, Result, Ok, Err}
+use Rattle.std.specs.Prelude.{Option, Some, None, is_some, option_map, option_and_then, Result, Ok, Err}
 use Rattle.rsp_decode.specs.Table.{Operand}
 use Rattle.rsp_text.specs.declared.fault.AsmFaultKind.{AsmFaultKind}
 use Rattle.rsp_text.specs.declared.fault.AsmFaultKind.TheVariants.{BadOperand}

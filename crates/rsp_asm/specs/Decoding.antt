@@ -40,7 +40,8 @@ pub record IsWordOfLine (labels : Labels) (origin : ℕ) (ls : List (List ℕ)) 
   pub says : statement_of parts.body ≡ Ok statement
   pub meaning : IsWord labels (place_of_line origin ls k) statement i word
 
--- Each word of a block is one of a line's, with the labels of all lines, and no line has more words than stand there.
+-- Each word of a block is a word of one of its lines, with the labels of all lines. The last line ends where the last word
+-- does, so no line has a word that isn't there.
 pub record BlockDecodes (origin : ℕ) (ls : List (List ℕ)) (words : List ℕ) : Type 0 where
   pub each : (j : ℕ) → j < length words → IsWordOfLine (all_labels origin ls) origin ls j (slice_index words j)
   pub no_more : origin + 4 * length words ≡ place_of_line origin ls (length ls)

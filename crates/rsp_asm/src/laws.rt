@@ -9,10 +9,10 @@ pub fn words_decode()
     ensures { StatementsDecode }
 {}
 
-/// A block that the table decodes to its lines, labels resolved: each word of an accepted block is one of a line's, with the
-/// labels of all lines. It is the word that [`words_decode`] speaks of, or the number of an operand of `.word` (`nop` is
-/// `.word 0`). It stands at its line's place, as many words ahead as the statement has before it, and the last line's words
-/// end the block.
+/// Blocks that the table decodes to their lines, labels resolved: each word of an accepted block is a word of one of its
+/// lines, with the labels of all lines. It is the number of an operand of `.word` (`nop` is `.word 0`), or the one word of an
+/// instruction, of which [`words_decode`] says the rest. The words stand from the origin on, line by line, and no line has a
+/// word that isn't there.
 pub fn blocks_decode()
     ensures { BlocksDecode }
 {}

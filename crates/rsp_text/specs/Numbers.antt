@@ -1,5 +1,5 @@
 -- Numbers of any length, labels and expressions.
-use Rattle.std.specs.Prelude.{ℕ, ◌^◌, min, ◌==◌, nat_eq, nat_lt, nat_le, Bool, true, false, ◌&&◌, List, drop, length, slice_index, Option, Some, None, option_map, if◌then◌else◌, codes, ℤ, pos, negsuc, neg_ℤ, ◌-◌}
+use Rattle.std.specs.Prelude.{ℕ, ◌==◌, nat_eq, nat_lt, nat_le, Bool, true, false, ◌&&◌, List, drop, length, slice_index, Option, Some, None, option_map, if◌then◌else◌, codes, ℤ, pos, neg_ℤ}
 use Rattle.std.specs.List.{list_all, starts_with}
 use Rattle.std.specs.Char.{digit_value}
 use Rattle.std.specs.Str.Parse.{digits_value}

@@ -1,9 +1,7 @@
 -- The canonical spelling of a word at a place. How each kind of operand is spelled stands in Operands, beside how it is read.
-use Rattle.std.specs.Prelude.{ℕ, zero, suc, ◌+◌, ◌-◌, ◌*◌, ◌/◌, ◌%◌, ◌==◌, nat_lt, nat_le, Bool, true, ◌&&◌, if◌then◌else◌, List, [], ◌∷◌, ◌++◌, map, slice_index, Option, Some, None, is_some, codes, ℤ, pos, negsuc}
+use Rattle.std.specs.Prelude.{ℕ, ◌+◌, ◌==◌, Bool, true, ◌&&◌, if◌then◌else◌, List, [], ◌∷◌, ◌++◌, map, Option, Some, None, is_some, codes}
 use Rattle.std.specs.List.{list_all}
-use Rattle.std.specs.Char.{digit_char}
-use Rattle.std.specs.Fmt.{signed_decimal}
-use Rattle.rsp_decode.specs.Table.{Operand, scalar, shift_amount, signed, unsigned, jump_target, branch_target, scalar_memory, vector_memory, sp_register, control_register, vector, vector_byte, vector_half, vector_element, vector_lane, Row, row_of, places, value_at, whole, fields, word_from}
+use Rattle.rsp_decode.specs.Table.{Operand, branch_target, Row, row_of, places, value_at, whole, fields, word_from}
 pub use Rattle.rsp_text.specs.Operands.{hex, small, signed_half, signed_scaled, ahead, back, target, scalar_name, vector_name, sp_name, control_name, byte_name, element_name, base_name, target_text, spell_operand}
 
 -- ---- operands

@@ -1,18 +1,17 @@
 -- What a statement means, where the labels and its place are known.
-use Rattle.std.specs.Prelude.{ℕ, suc, ◌^◌, ◌+◌, ◌-◌, ◌*◌, ◌/◌, ◌%◌, ◌==◌, nat_le, nat_lt, Bool, false, ◌&&◌, List, [], ◌∷◌, ◌++◌, length, map, find, take, slice_index, is_none, Option, Some, None, option_map, option_and_then, Result, Ok, Err, if◌then◌else◌, codes, ℤ, pos, negsuc, ◌+ℤ◌}
+use Rattle.std.specs.Prelude.{ℕ, suc, ◌^◌, ◌+◌, ◌-◌, ◌*◌, ◌/◌, ◌%◌, ◌==◌, nat_le, nat_lt, Bool, false, ◌&&◌, List, [], ◌∷◌, ◌++◌, length, map, find, is_none, Option, Some, None, option_map, option_and_then, Result, Ok, Err, if◌then◌else◌, codes, ℤ, pos, negsuc, ◌+ℤ◌}
 use Rattle.std.specs.List.{before_first, after_first, slice_split}
 use Rattle.std.specs.Str.{bytes_eq, str_eq_ignore_ascii_case}
-use Rattle.rsp_decode.specs.Table.{Operand, scalar, shift_amount, signed, unsigned, jump_target, branch_target, scalar_memory, vector_memory, sp_register, control_register, vector, vector_byte, vector_half, vector_element, vector_lane, Place, with_fields, Row, row, selector, one, rows, word_from}
+use Rattle.rsp_decode.specs.Table.{Operand, scalar, Row, row, selector, one, rows, word_from}
 use Rattle.rsp_decode.specs.declared.inst.Inst.TheVariants.{JumpLinkRegister}
 use Rattle.rsp_text.specs.declared.fault.AsmFaultKind.{AsmFaultKind}
 use Rattle.rsp_text.specs.declared.fault.AsmFaultKind.TheVariants.{UnknownName, BadOperand, OutOfRange, LabelMissing}
-use Rattle.rsp_text.specs.declared.text.Stop.TheVariants.{Blank, Comma, Parenthesis, Bracket}
+use Rattle.rsp_text.specs.declared.text.Stop.TheVariants.{Blank, Comma}
 use Rattle.rsp_text.specs.declared.slot.Slot.{Slot}
 use Rattle.rsp_text.specs.declared.slot.Slot.TheVariants.{Half, Amount, Jump, Branch, Scaled, Word}
 use Rattle.rsp_chars.specs.Chars.{trim}
-use Rattle.rsp_text.specs.Cuts.{cut, stops}
+use Rattle.rsp_text.specs.Cuts.{stops}
 use Rattle.rsp_text.specs.Numbers.{Expression, expression_of}
-use Rattle.rsp_text.specs.Names.{scalar_named, vector_named, sp_named, control_named, element_named, small_number}
 pub use Rattle.rsp_text.specs.Operands.{Reading, one_register, pair, asks, base_of, zero_expression, offset_of, memory, bracketed, half_start, byte_named, half_named, lane_named, with_element, bracket_of, memory_operand, read}
 
 -- ---- values

@@ -1,5 +1,5 @@
 use Rattle.std.proofs.Common.{ap, ◌∙◌, sym, ◌+◌, drop, List, ℕ, arith, ◌&&◌}
-use Rattle.std.specs.Prelude.{map, is_some}
+use Rattle.std.specs.Prelude.{is_some}
 use Rattle.rsp_decode.specs.declared.rows.Operand.TheVariants.{Scalar}
 use Rattle.rsp_text.specs.Statement.{read_all}
 use Rattle.rsp_asm.proofs.Steps.{one_of, too_few}

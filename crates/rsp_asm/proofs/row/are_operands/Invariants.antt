@@ -1,5 +1,5 @@
 use Rattle.std.proofs.Common.{◌≡◌, drop}
-use Rattle.std.specs.Prelude.{map, is_some}
+use Rattle.std.specs.Prelude.{is_some}
 use Rattle.rsp_text.specs.Statement.{read_all, operand_texts}
 use Rattle.rsp_asm.proofs.row.are_operands.Given as goal
 

@@ -1,5 +1,4 @@
 use Rattle.std.proofs.Common.{ap, ◌∙◌, sym, arith, List, ℕ, drop}
-use Rattle.std.specs.Prelude.{map}
 use Rattle.rsp_decode.specs.declared.rows.Operand.TheVariants.{Scalar}
 use Rattle.rsp_asm.specs.Walks.{any_fails}
 use Rattle.rsp_asm.proofs.Steps.{fails_none}

@@ -1,5 +1,4 @@
 use Rattle.std.proofs.Common.{◌≡◌, drop}
-use Rattle.std.specs.Prelude.{map}
 use Rattle.rsp_text.specs.Statement.{operand_texts}
 use Rattle.rsp_asm.specs.Walks.{put_all}
 use Rattle.rsp_asm.proofs.row.put_operands.Given as goal
