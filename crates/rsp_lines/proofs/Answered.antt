@@ -1,5 +1,5 @@
 -- Pieces that are answered one after another.
-use Rattle.std.proofs.Common.{◌≡◌, ℕ, List, [], ◌∷◌, ◌++◌, Option, ◌<◌, length, refl, sym, ◌∙◌, ap, subst, append_assoc, arith}
+use Rattle.std.proofs.Common.{◌≡◌, ℕ, List, [], ◌∷◌, ◌++◌, Option, ◌<◌, length, refl, sym, ◌∙◌, ap, arith}
 use Rattle.std.proofs.lemmas.List.{append-nil, take_all}
 use Rattle.std.specs.List.{position_or_len, before_first, after_first}
 use Rattle.std.specs.Io.KnownBytes.{append_known}
@@ -11,37 +11,13 @@ use Rattle.rsp_lines.specs.Replies.{Answered, AnswersLongAlike, replies, final}
 use Rattle.rsp_lines.proofs.Alike.{answered-like, replies-kept, final-kept}
 use Rattle.rsp_lines.proofs.Kept.{kept-kept, open-kept}
 use Rattle.rsp_lines.proofs.KnownEnds.{append_known-nil, append_known-append}
-use Rattle.rsp_lines.proofs.Left.{front-along, front-first, front-then}
+use Rattle.rsp_lines.proofs.Left.{Leaves, leaves-less, front-along, front-first, front-then}
 use Rattle.rsp_lines.proofs.Pieces.{ended-append, open-append, ended-line, open-line, cut_at_newline}
 use Rattle.rsp_lines.proofs.Replies.{replies-append, final-append}
 
 module _ {S : Type 0} (answered : List ℕ → S → Answered S) (alike : AnswersLongAlike answered) where
   pub answers-none : (w : Option (List ℕ)) (line : List ℕ) (s : S) → Answers answered w w line line s s []
   answers-none w line s = record { written = sym (append_known-nil w); session = refl; last = refl }
-
-  -- the bytes before a newline go into the line
-  pub answers-line : (w : Option (List ℕ)) (line text : List ℕ) (s : S)
-      → Answers answered w w line (kept (line ++ before_first is_newline text)) s s (before_first is_newline text)
-  answers-line w line text s = record {
-    written = sym (append_known-nil w) ∙ ap (λ ls. append_known w (replies answered ls s)) (sym (ended-line line text));
-    session = ap (λ ls. final answered ls s) (sym (ended-line line text));
-    last = kept-kept (line ++ before_first is_newline text) ∙ ap kept (sym (open-line line text));
-  }
-
-  -- a newline answers the line
-  pub replies-newline : (line ended : List ℕ) (s : S) → IsLike ended (strip_carriage_return line)
-      → (answered ended s).reply ≡ replies answered (ended_after line (10 ∷ [])) s
-  replies-newline line ended s h =
-      ap (λ o. o.reply) (answered-like answered ended (strip_carriage_return line) s alike h)
-      ∙ sym (append-nil (answered (strip_carriage_return line) s).reply)
-
-  pub answers-newline : (old new : Option (List ℕ)) (line ended : List ℕ) (s t : S) → IsLike ended (strip_carriage_return line)
-      → new ≡ append_known old (answered ended s).reply → t ≡ (answered ended s).next → Answers answered old new line [] s t (10 ∷ [])
-  answers-newline old new line ended s t h e n = record {
-    written = e ∙ ap (append_known old) (replies-newline line ended s h);
-    session = n ∙ ap (λ o. o.next) (answered-like answered ended (strip_carriage_return line) s alike h);
-    last = refl;
-  }
 
   -- the replies to the lines of two pieces
   pub replies-pieces : (line mid a b : List ℕ) (s t : S) → kept mid ≡ kept (open_after line a) → t ≡ final answered (ended_after line a) s
@@ -81,57 +57,71 @@ module _ {S : Type 0} (answered : List ℕ → S → Answered S) (alike : Answer
   answers-front {line = line} {mid = mid} {s = s} {t = t} a b h f =
       front-along (replies-pieces line mid a b s t h.last h.session) (front-then (replies answered (ended_after line a) s) h.written f)
 
-  -- and of those of a third
-  pub front-more : {old new : Option (List ℕ)} (line a b : List ℕ) (s : S)
-      → WritesFront old new (replies answered (ended_after line a) s) → WritesFront old new (replies answered (ended_after line (a ++ b)) s)
-  front-more line a b s f =
-      front-along (replies-pieces line (open_after line a) a b s (final answered (ended_after line a) s) refl refl) (front-first _ f)
-
-  -- a piece of which all but a rest was answered
+  -- a piece of which a rest is still to be answered
   pub record Leads (old new : Option (List ℕ)) (line mid : List ℕ) (s t : S) (piece rest : List ℕ) : Type 0 where
-    pub taken : List ℕ
-    pub whole : taken ++ rest ≡ piece
-    pub answers : Answers answered old new line mid s t taken
+    pub written : Leaves old new (replies answered (ended_after line piece) s) (replies answered (ended_after mid rest) t)
+    pub session : final answered (ended_after mid rest) t ≡ final answered (ended_after line piece) s
+    pub last : kept (open_after mid rest) ≡ kept (open_after line piece)
 
   pub leads-none : (w : Option (List ℕ)) (line piece : List ℕ) (s : S) → Leads w w line line s s piece piece
-  leads-none w line piece s = record { taken = []; whole = refl; answers = answers-none w line s }
+  leads-none w line piece s = record {
+    written = record { front = []; grows = sym (append_known-nil w); whole = refl };
+    session = refl;
+    last = refl;
+  }
 
-  -- the bytes up to the first newline of the rest
-  leads-whole : {old new : Option (List ℕ)} {line mid : List ℕ} {s t : S} (piece rest : List ℕ) (h : Leads old new line mid s t piece rest)
-      → position_or_len is_newline rest < length rest
-      → ((h.taken ++ before_first is_newline rest) ++ 10 ∷ []) ++ after_first is_newline rest ≡ piece
-  leads-whole piece rest h lt =
-      append_assoc (h.taken ++ before_first is_newline rest) (10 ∷ []) (after_first is_newline rest)
-      ∙ append_assoc h.taken (before_first is_newline rest) (10 ∷ after_first is_newline rest)
-      ∙ ap (λ r. h.taken ++ r) (sym (cut_at_newline rest lt)) ∙ h.whole
+  -- the line that the first newline of the rest ends, of which `ended` stands for what was kept
+  ended-first : (line rest : List ℕ) → position_or_len is_newline rest < length rest
+      → ended_after (line ++ before_first is_newline rest) (10 ∷ after_first is_newline rest) ≡ ended_after line rest
+  ended-first line rest lt =
+      sym (ended-line line rest (10 ∷ after_first is_newline rest)) ∙ ap (ended_after line) (sym (cut_at_newline rest lt))
 
-  leads-line : {old new : Option (List ℕ)} {line mid : List ℕ} {s t : S} (piece rest : List ℕ) (h : Leads old new line mid s t piece rest)
-      → Answers answered old new line (kept (mid ++ before_first is_newline rest)) s t (h.taken ++ before_first is_newline rest)
-  leads-line {mid = mid} {t = t} piece rest h = answers-then h.taken (before_first is_newline rest) h.answers (answers-line _ mid rest t)
+  replies-first : (line rest ended : List ℕ) (t : S) → position_or_len is_newline rest < length rest
+      → IsLike ended (strip_carriage_return (kept (line ++ before_first is_newline rest)))
+      → (answered ended t).reply ++ replies answered (ended_after [] (after_first is_newline rest)) (answered ended t).next
+      ≡ replies answered (ended_after line rest) t
+  replies-first line rest ended t lt like =
+      ap (λ o. o.reply ++ replies answered (ended_after [] (after_first is_newline rest)) o.next) (answered-like answered ended _ t alike like)
+      ∙ replies-kept answered alike _ (line ++ before_first is_newline rest) (10 ∷ after_first is_newline rest) t (kept-kept (line ++ before_first is_newline rest))
+      ∙ ap (λ ls. replies answered ls t) (ended-first line rest lt)
+
+  final-first : (line rest ended : List ℕ) (t : S) → position_or_len is_newline rest < length rest
+      → IsLike ended (strip_carriage_return (kept (line ++ before_first is_newline rest)))
+      → final answered (ended_after [] (after_first is_newline rest)) (answered ended t).next ≡ final answered (ended_after line rest) t
+  final-first line rest ended t lt like =
+      ap (λ o. final answered (ended_after [] (after_first is_newline rest)) o.next) (answered-like answered ended _ t alike like)
+      ∙ final-kept answered alike _ (line ++ before_first is_newline rest) (10 ∷ after_first is_newline rest) t (kept-kept (line ++ before_first is_newline rest))
+      ∙ ap (λ ls. final answered ls t) (ended-first line rest lt)
+
+  open-first : (line rest : List ℕ) → position_or_len is_newline rest < length rest → open_after [] (after_first is_newline rest) ≡ open_after line rest
+  open-first line rest lt =
+      sym (open-line line rest (10 ∷ after_first is_newline rest)) ∙ ap (open_after line) (sym (cut_at_newline rest lt))
 
   -- one line more was answered
   pub leads-more : {old now new : Option (List ℕ)} {line mid ended : List ℕ} {s t u : S} (piece rest : List ℕ) → Leads old now line mid s t piece rest
       → position_or_len is_newline rest < length rest → IsLike ended (strip_carriage_return (kept (mid ++ before_first is_newline rest)))
       → new ≡ append_known now (answered ended t).reply → u ≡ (answered ended t).next → Leads old new line [] s u piece (after_first is_newline rest)
-  leads-more piece rest h lt like e n = record {
-    taken = (h.taken ++ before_first is_newline rest) ++ 10 ∷ [];
-    whole = leads-whole piece rest h lt;
-    answers = answers-then (h.taken ++ before_first is_newline rest) (10 ∷ []) (leads-line piece rest h) (answers-newline _ _ _ _ _ _ like e n);
-  }
+  leads-more {mid = mid} {ended = ended} {t = t} piece rest h lt like e n = rw n (record {
+    written = leaves-less (answered ended t).reply _ h.written e (replies-first mid rest ended t lt like);
+    session = final-first mid rest ended t lt like ∙ h.session;
+    last = ap kept (open-first mid rest lt) ∙ h.last;
+  })
 
   -- or a front of its reply was written
   pub leads-front : {old now new : Option (List ℕ)} {line mid ended : List ℕ} {s t : S} (piece rest : List ℕ) → Leads old now line mid s t piece rest
       → position_or_len is_newline rest < length rest → IsLike ended (strip_carriage_return (kept (mid ++ before_first is_newline rest)))
       → WritesFront now new (answered ended t).reply → WritesFront old new (replies answered (ended_after line piece) s)
-  leads-front {line = line} {mid = mid} {ended = ended} {s = s} {t = t} piece rest h lt like f =
-      front-along (ap (λ p. replies answered (ended_after line p) s) (leads-whole piece rest h lt))
-      (front-more line ((h.taken ++ before_first is_newline rest) ++ 10 ∷ []) (after_first is_newline rest) s
-      (answers-front (h.taken ++ before_first is_newline rest) (10 ∷ []) (leads-line piece rest h) (front-along (replies-newline (kept (mid ++ before_first is_newline rest)) ended t like) f)))
+  leads-front {mid = mid} {ended = ended} {t = t} piece rest h lt like f =
+      front-along h.written.whole (front-then h.written.front h.written.grows (front-along (replies-first mid rest ended t lt like) (front-first _ f)))
 
   -- the rest has no newline
   pub leads-end : {old new : Option (List ℕ)} {line mid : List ℕ} {s t : S} (piece rest : List ℕ) → Leads old new line mid s t piece rest
       → position_or_len is_newline rest ≡ length rest → Answers answered old new line (kept (mid ++ before_first is_newline rest)) s t piece
-  leads-end {old = old} {new = new} {line = line} {mid = mid} {s = s} {t = t} piece rest h e =
-      subst (λ p. Answers answered old new line (kept (mid ++ before_first is_newline rest)) s t p)
-      (ap (λ r. h.taken ++ r) (take_all (position_or_len is_newline rest) rest (omega (arith, e))) ∙ h.whole)
-      (leads-line piece rest h)
+  leads-end {old = old} {line = line} {mid = mid} {s = s} {t = t} piece rest h e =
+      let all : before_first is_newline rest ++ [] ≡ rest = append-nil _ ∙ take_all (position_or_len is_newline rest) rest (omega (arith, e)) in
+      let none : ended_after mid rest ≡ [] = ap (ended_after mid) (sym all) ∙ ended-line mid rest [] in
+      record {
+        written = h.written.grows ∙ ap (append_known old) (sym (append-nil h.written.front) ∙ ap (λ ls. h.written.front ++ replies answered ls t) (sym none) ∙ h.written.whole);
+        session = ap (λ ls. final answered ls t) (sym none) ∙ h.session;
+        last = kept-kept (mid ++ before_first is_newline rest) ∙ ap kept (sym (open-line mid rest []) ∙ ap (open_after mid) all) ∙ h.last;
+      }

@@ -25,22 +25,24 @@ open-append line (b ∷ text) more =
     ≡ open_after (cond t (open_after [] text) (open_after (line ++ b ∷ []) text)) more)
     [ true ↦ open-append [] text more | false ↦ open-append (line ++ b ∷ []) text more ]
 
--- no line ends before the first newline
-pub ended-line : (line text : List ℕ) → ended_after line (before_first is_newline text) ≡ []
-ended-line line [] = refl
-ended-line line (b ∷ text) = by (ended-line (line ++ b ∷ []) text) (is_newline b) refl
+-- the bytes before the first newline go into the line
+pub ended-line : (line text more : List ℕ) → ended_after line (before_first is_newline text ++ more) ≡ ended_after (line ++ before_first is_newline text) more
+ended-line line [] more = ap (λ l. ended_after l more) (sym (append-nil line))
+ended-line line (b ∷ text) more = by (ended-line (line ++ b ∷ []) text more) (is_newline b) refl
   where
-    by : ended_after (line ++ b ∷ []) (before_first is_newline text) ≡ [] → (t : Bool) → is_newline b ≡ t → ended_after line (before_first is_newline (b ∷ text)) ≡ []
-    by h true e = rw (take_while-cons (λ c. not (is_newline c)) b text, e) refl
-    by h false e = rw (take_while-cons (λ c. not (is_newline c)) b text, e) (rw e h)
+    by : ended_after (line ++ b ∷ []) (before_first is_newline text ++ more) ≡ ended_after ((line ++ b ∷ []) ++ before_first is_newline text) more
+        → (t : Bool) → is_newline b ≡ t → ended_after line (before_first is_newline (b ∷ text) ++ more) ≡ ended_after (line ++ before_first is_newline (b ∷ text)) more
+    by h true e = rw (take_while-cons (λ c. not (is_newline c)) b text, e) (ap (λ l. ended_after l more) (sym (append-nil line)))
+    by h false e = rw (take_while-cons (λ c. not (is_newline c)) b text, e) (rw e (h ∙ ap (λ l. ended_after l more) (append_assoc line (b ∷ []) _)))
 
-pub open-line : (line text : List ℕ) → open_after line (before_first is_newline text) ≡ line ++ before_first is_newline text
-open-line line [] = sym (append-nil line)
-open-line line (b ∷ text) = by (open-line (line ++ b ∷ []) text) (is_newline b) refl
+pub open-line : (line text more : List ℕ) → open_after line (before_first is_newline text ++ more) ≡ open_after (line ++ before_first is_newline text) more
+open-line line [] more = ap (λ l. open_after l more) (sym (append-nil line))
+open-line line (b ∷ text) more = by (open-line (line ++ b ∷ []) text more) (is_newline b) refl
   where
-    by : open_after (line ++ b ∷ []) (before_first is_newline text) ≡ (line ++ b ∷ []) ++ before_first is_newline text → (t : Bool) → is_newline b ≡ t → open_after line (before_first is_newline (b ∷ text)) ≡ line ++ before_first is_newline (b ∷ text)
-    by h true e = rw (take_while-cons (λ c. not (is_newline c)) b text, e) (sym (append-nil line))
-    by h false e = rw (take_while-cons (λ c. not (is_newline c)) b text, e) (rw e (h ∙ append_assoc line (b ∷ []) _))
+    by : open_after (line ++ b ∷ []) (before_first is_newline text ++ more) ≡ open_after ((line ++ b ∷ []) ++ before_first is_newline text) more
+        → (t : Bool) → is_newline b ≡ t → open_after line (before_first is_newline (b ∷ text) ++ more) ≡ open_after (line ++ before_first is_newline (b ∷ text)) more
+    by h true e = rw (take_while-cons (λ c. not (is_newline c)) b text, e) (ap (λ l. open_after l more) (sym (append-nil line)))
+    by h false e = rw (take_while-cons (λ c. not (is_newline c)) b text, e) (rw e (h ∙ ap (λ l. open_after l more) (append_assoc line (b ∷ []) _)))
 
 pub cut_at_newline : (text : List ℕ) → position_or_len is_newline text < length text
     → text ≡ before_first is_newline text ++ 10 ∷ after_first is_newline text

@@ -15,12 +15,7 @@ pub trait Answering {
     /// Answers a line, which comes without its LF and without the one CR before that. It may be any line, but of one of
     /// more than 258 bytes only the first 258 come. The answer takes the place of what stood in the reply: a reply can be long, so
     /// one serves for all lines. Where there is no memory for it, the run ends.
-    fn answer(
-        &mut self,
-        alloc: Global,
-        line: &[u8],
-        reply: &mut Reply,
-    ) -> Result<(), AllocError>
+    fn answer(&mut self, alloc: Global, line: &[u8], reply: &mut Reply) -> Result<(), AllocError>
         ensures reply { OnOk result (reply.new ≡ (answered line.now self.old).reply) }
         ensures next { OnOk result (self.new ≡ (answered line.now self.old).next) };
 

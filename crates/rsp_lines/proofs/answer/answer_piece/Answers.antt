@@ -1,4 +1,4 @@
-use Rattle.std.proofs.Common.{◌+◌, arith, refl}
+use Rattle.std.proofs.Common.{◌+◌, arith, refl, length-drop}
 use Rattle.std.proofs.lemmas.List.{take_rest}
 use Rattle.rsp_lines.proofs.Answered.{leads-none, leads-more, leads-front, leads-end}
 use Rattle.rsp_lines.proofs.Left.{on_err}
@@ -7,6 +7,7 @@ use Rattle.rsp_lines.proofs.answer.answer_piece.Goals as goal
 pub loop-rest-init : goal.loop-rest-init
 loop-rest-init g c = record {
   leads = leads-none g.S.Answering.answered g.met.S.Answering.alike _ _ _ _;
+  within = omega arith;
   count = refl;
 }
 
@@ -31,5 +32,6 @@ loop-rest-preserved g c =
           (leads-more g.S.Answering.answered g.met.S.Answering.alike c.args.piece.now c.loop-rest.rest.now c.loop-rest.invariant.leads
           (omega (arith, c.if-end-rest.false, c.len_before-end.ensures.value, c.len_before-end.ensures.within))
           (rw pushed at c.ended.ensures) c.in_ok-answer_line.ensures.written c.in_ok-answer_line.ensures.session);
+      within = omega (arith, length-drop (c.len_before-end.result + 1) c.loop-rest.rest.now, c.loop-rest.invariant.within);
       count = omega (arith, c.in_ok-answer_line.ensures.count, c.loop-rest.invariant.count);
     }

@@ -1,4 +1,4 @@
-use Rattle.std.proofs.Common.{◌≡◌, length}
+use Rattle.std.proofs.Common.{◌≡◌, ◌≤◌, length}
 use Rattle.rsp_lines.proofs.Answered.{Leads}
 use Rattle.rsp_lines.proofs.answer.answer_piece.Given as goal
 
@@ -6,6 +6,7 @@ abbrev pub invariant-loop-rest : goal.invariant-loop-rest
 invariant-loop-rest g l = record {
   leads : Leads g.S.Answering.answered g.met.S.Answering.alike (g.W.Sink.written l.initial.sink) (g.W.Sink.written l.sink)
       l.initial.line l.line l.initial.session l.session l.piece l.rest;
+  within : length l.rest ≤ length l.piece;
   count : g.W.Sink.fault_count l.sink ≡ g.W.Sink.fault_count l.initial.sink;
 }
 
