@@ -1,8 +1,10 @@
 -- What is refused leaves the session as it was.
-use Rattle.std.proofs.Common.{◌≡◌, inl, inr, ℕ, List, length, refl, Bool, true, false, Option, Some, None, Result, Ok, Err}
+use Rattle.std.proofs.Common.{◌≡◌, ◌∙◌, ℕ, List, length, refl, ap, Bool, true, false, Option, Some, None, Result, Ok, Err}
 use Rattle.std.specs.Prelude.{if◌then◌else◌}
 use Rattle.rsp_script.specs.declared.command.Command.{Command}
 use Rattle.rsp_script.specs.declared.command.Command.TheVariants.{Nothing, Load, Step, Run, Break, Unbreak, Watch, Unwatch, Back, Read, Write, SetPc, Task, Show, Asm, BlockLine, End}
+use Rattle.rsp_script.specs.declared.fault.LineFault.{LineFault}
+use Rattle.rsp_script.specs.Line.{command_of}
 use Rattle.rsp_memory.specs.declared.bank.Bank.{Bank}
 use Rattle.rsp_text.specs.declared.fault.AsmFault.{AsmFault}
 use Rattle.rsp_block.specs.Source.{Source, meaning}
@@ -19,8 +21,8 @@ use Rattle.rsp_debug.specs.declared.debugger.BackFault.{BackFault}
 use Rattle.rsp_lines.specs.Replies.{Answered}
 use Rattle.rsp_bench.specs.Looks.{sp_line}
 use Rattle.rsp_bench.specs.Replies.{ok_text, range_text, count_text, stop_text, no_break_text, no_watch_text}
-use Rattle.rsp_bench.specs.Session.{SessionState, same, then_debugging, then_state, plain_answer, block_answer, answer_in, answer_of, load_answer, step_answer, read_answer, task_answer, run_answer, break_answer, watch_answer, back_fault, back_answer, end_answer}
-use Rattle.rsp_bench.specs.Refusals.{is_refusal, IsKept}
+use Rattle.rsp_bench.specs.Session.{SessionState, same, then_debugging, then_state, plain_answer, block_answer, answer_in, answer_of, load_answer, step_answer, read_answer, task_answer, run_answer, break_answer, watch_answer, back_fault, back_answer, end_answer, parsed_answer, line_answer, in_block}
+use Rattle.rsp_bench.specs.Refusals.{is_refusal, kept_by, kept_by_line}
 
 -- an answered that leaves the session as it was, where its reply refuses
 abbrev Keeps : Answered SessionState → SessionState → Type 0
@@ -82,24 +84,36 @@ keeps_plain (Asm place) s e = cc
 keeps_plain (BlockLine line) s e = refl
 keeps_plain End s e = refl
 
-as_it_was : (c : Command) (s next : SessionState) → next ≡ s → IsKept c s next
-as_it_was End s next e = inl e
-as_it_was _ s next e = e
+-- where no block is open, there is none to close
+none_to_close : (c : Command) (s next : SessionState) → s.block ≡ None → next ≡ s → next ≡ kept_by c s
+none_to_close End s next closed e = e ∙ ap (λ b. record s { block = b }) closed
+none_to_close _ s next closed e = e
 
-kept_end : (b : Source) (r : Result (List ℕ) AsmFault) (s : SessionState) → is_refusal (end_answer b r s).reply ≡ true → IsKept End s (end_answer b r s).next
+kept_end : (b : Source) (r : Result (List ℕ) AsmFault) (s : SessionState) → is_refusal (end_answer b r s).reply ≡ true
+    → (end_answer b r s).next ≡ kept_by End s
 kept_end b (Ok words) s e = cc
-kept_end b (Err fault) s e = inr refl
+kept_end b (Err fault) s e = refl
 
-kept_block : (b : Source) (c : Command) (s : SessionState) → is_refusal (block_answer b c s).reply ≡ true → IsKept c s (block_answer b c s).next
+kept_block : (b : Source) (c : Command) (s : SessionState) → is_refusal (block_answer b c s).reply ≡ true → (block_answer b c s).next ≡ kept_by c s
 kept_block b (BlockLine line) s e = cc
 kept_block b End s e = kept_end b (meaning b) s e
 kept_block b _ s e = refl
 
-kept_in : (open_block : Option Source) (c : Command) (s : SessionState) → is_refusal (answer_in open_block c s).reply ≡ true
-    → IsKept c s (answer_in open_block c s).next
-kept_in None c s e = as_it_was c s _ (keeps_plain c s e)
-kept_in (Some b) c s e = kept_block b c s e
+kept_in : (open_block : Option Source) (c : Command) (s : SessionState) → s.block ≡ open_block → is_refusal (answer_in open_block c s).reply ≡ true
+    → (answer_in open_block c s).next ≡ kept_by c s
+kept_in None c s closed e = none_to_close c s _ closed (keeps_plain c s e)
+kept_in (Some b) c s closed e = kept_block b c s e
 
-pub kept : (c : Command) (s : SessionState) → is_refusal (answer_of c s).reply ≡ true → IsKept c s (answer_of c s).next
+pub refused_commands : (c : Command) (s : SessionState) → is_refusal (answer_of c s).reply ≡ true → (answer_of c s).next ≡ kept_by c s
 unfolding answer_of
-kept c s e = kept_in s.block c s e
+refused_commands c s e = kept_in s.block c s refl e
+
+kept_parsed : (r : Result Command LineFault) (s : SessionState) → is_refusal (parsed_answer r s).reply ≡ true
+    → (parsed_answer r s).next ≡ kept_by_line r s
+kept_parsed (Ok c) s e = refused_commands c s e
+kept_parsed (Err fault) s e = refl
+
+pub refused_lines : (line : List ℕ) (s : SessionState) → is_refusal (line_answer line s).reply ≡ true
+    → (line_answer line s).next ≡ kept_by_line (command_of line (in_block s)) s
+unfolding line_answer
+refused_lines line s e = kept_parsed (command_of line (in_block s)) s e

@@ -132,6 +132,8 @@ impl Session {
         }
     }
 
+    /// A call of its own, so that other commands don't pay for its place of 256 bytes.
+    #[inline(never)]
     fn memory(&self, bank: Bank, address: u32, len: u32, reply: &mut Reply)
         requires address { address ≤ 16777215 }
         requires some { 1 ≤ len }
@@ -145,6 +147,8 @@ impl Session {
         }
     }
 
+    /// A call of its own, so that other commands don't pay for its place of 64 lines.
+    #[inline(never)]
     fn disassembly(&self, place: u16, count: u32, reply: &mut Reply)
         requires below { place < 4096 }
         requires whole { place % 4 ≡ 0 }

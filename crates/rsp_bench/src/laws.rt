@@ -6,7 +6,7 @@ ghost use Rattle.rsp_text.specs.Means.{means, means_lines};
 ghost use Rattle.rsp_text.specs.Source.{text_of_lines};
 ghost use Rattle.rsp_text.specs.Spell.{listing};
 ghost use Rattle.rsp_bench.specs.Laws.{LooksAndRunsComeOut, LooksChangeNothing};
-ghost use Rattle.rsp_bench.specs.Refusals.{RefusalsChangeNothing};
+ghost use Rattle.rsp_bench.specs.Refusals.{RefusedCommandsChangeNothing, RefusedLinesChangeNothing};
 
 /// Listings assemble back: for every list of at most 1024 words, the lines that spell them from place 0 on mean that list
 /// at origin 0. So does their text, where LF stands behind each line.
@@ -21,10 +21,11 @@ pub fn looks_change_nothing()
     ensures { LooksChangeNothing }
 {}
 
-/// A refused command changes nothing: where the reply to a command is a fault, the session stays as it was, but that a
-/// refused end closes its block.
+/// A refused command changes nothing: where the reply to a command or a line is a fault, the session stays as it was, but
+/// that a refused `end` closes its block. A line that is no command, with a fault 30 to 33, is refused too.
 pub fn refusals_change_nothing()
-    ensures { RefusalsChangeNothing }
+    ensures commands { RefusedCommandsChangeNothing }
+    ensures lines { RefusedLinesChangeNothing }
 {}
 
 /// Looks and runs come out: for all lines before and behind, a line that looks can be taken out of a script, and a line `run`

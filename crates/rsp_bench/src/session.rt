@@ -178,26 +178,12 @@ impl Session {
         Ok(())
     }
 
-    /// Says what is left at the end of a script in a reply that says nothing so far.
-    fn finish_to(&self, reply: &mut Reply)
-        requires { reply.old ≡ [] }
-        ensures { reply.new ≡ closing self.now }
-    {
-        if let Some(block) = &self.block {
-            let fault = AsmFault {
-                line: block.line_count() + 1,
-                kind: AsmFaultKind::BadLine,
-            };
-            tell_asm_fault(reply, fault);
-        }
-    }
-
     /// What is left to say at the end of a script: the fault of an open block, else nothing.
     pub fn finish(&self) -> Reply
         ensures { result ≡ closing self.now }
     {
         let mut reply = Reply::new();
-        self.finish_to(&mut reply);
+        self.close(&mut reply);
         reply
     }
 
@@ -230,7 +216,13 @@ impl Answering for Session {
 
     fn close(&self, reply: &mut Reply) {
         reply.clear();
-        self.finish_to(reply);
+        if let Some(block) = &self.block {
+            let fault = AsmFault {
+                line: block.line_count() + 1,
+                kind: AsmFaultKind::BadLine,
+            };
+            tell_asm_fault(reply, fault);
+        }
     }
 
     ghost alike = { long_alike };
