@@ -13,13 +13,15 @@ pub trait Answering {
     ghost closing: { Self → List ℕ };
 
     /// Answers a line, which comes without its LF and without the one CR before that. It may be any line, but of one of
-    /// more than 258 bytes only the first 258 come. The answer takes the place of what stood in the reply: a reply can be long, so
-    /// one serves for all lines. Where there is no memory for it, the run ends.
+    /// more than 258 bytes only the first 258 come. The answer takes the place of what stood in the reply, so one reply
+    /// serves for all lines: it is long, and to move or to fill one would cost more than most lines do. Where there is no
+    /// memory for the answer, the run ends.
     fn answer(&mut self, alloc: Global, line: &[u8], reply: &mut Reply) -> Result<(), AllocError>
         ensures reply { OnOk result (reply.new ≡ (answered line.now self.old).reply) }
         ensures next { OnOk result (self.new ≡ (answered line.now self.old).next) };
 
-    /// What is left to say at the end of a script, after the replies to all its lines. It takes the place of what stood in the reply.
+    /// What is left to say at the end of a script, after the replies to all its lines. It takes the place of what stood in
+    /// the reply.
     fn close(&self, reply: &mut Reply)
         ensures { reply.new ≡ closing self.now };
 
