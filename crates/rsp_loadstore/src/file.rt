@@ -32,6 +32,29 @@ impl VFile {
         }
     }
 
+    /// The registers with these lanes, lane 0 of each first.
+    pub fn from_lanes(lanes: &[[u16; 8]; 32]) -> VFile
+        ensures { result ≡ lanes.now }
+    {
+        let mut file = VFile::new();
+        for n in 0..32 {
+            file.put(n, VReg::from_array(lanes[n]));
+        }
+        file
+    }
+
+    /// The lanes of all registers, lane 0 of each first.
+    pub fn lanes(&self) -> [[u16; 8]; 32]
+        ensures { result ≡ self.now }
+    {
+        self.ranges();
+        let mut lanes = [[0; 8]; 32];
+        for n in 0..32 {
+            lanes[n] = self.at(n).to_array();
+        }
+        lanes
+    }
+
     /// Changes nothing. It says that they are 32 registers, each of eight numbers below 2^16.
     #[inline(always)]
     pub fn ranges(&self)

@@ -4,3 +4,4 @@ pub mod Loading
 pub mod Flagging
 pub mod Kept
 pub mod Ending
+pub mod Whole

@@ -5,3 +5,4 @@ pub mod Host
 pub mod Step
 pub mod Laws
 pub mod Saved
+pub mod Registers

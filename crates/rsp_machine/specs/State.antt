@@ -11,7 +11,7 @@ use Rattle.rsp_divide.specs.Dividers.{no_divider}
 use Rattle.rsp_loadstore.specs.File.{IsFile, empty_file}
 use Rattle.rsp_scalar.specs.Registers.{IsRegisters, empty_registers}
 use Rattle.rsp_scalar.specs.Flow.{going_on}
-use Rattle.rsp_regs.specs.Sp.{Sp, start}
+use Rattle.rsp_regs.specs.Sp.{Sp, IsSp, start}
 
 pub record State : Type 0 where
   pub pc : ℕ  -- the place in IMEM of the next instruction, below 4096
@@ -30,6 +30,14 @@ pub record State : Type 0 where
 abbrev pub IsPlace : ℕ → Type 0
 IsPlace n = (n < 4096) × (n % 4 ≡ 0)
 
+-- eight flags in each of the five lists
+pub record AreFlags (f : Flags) : Type 0 where
+  pub carry : length f.carry ≡ 8
+  pub differ : length f.differ ≡ 8
+  pub compare : length f.compare ≡ 8
+  pub clip : length f.clip ≡ 8
+  pub extra : length f.extra ≡ 8
+
 -- The ranges of a state, in which that of every machine lies.
 pub record IsState (s : State) : Type 0 where
   pub pc : IsPlace s.pc
@@ -37,10 +45,12 @@ pub record IsState (s : State) : Type 0 where
   pub registers : IsRegisters s.registers  -- 32 numbers below 2^32, of which number 0 is 0
   pub vectors : IsFile s.vectors  -- 32 registers of eight numbers below 2^16
   pub accumulators : AreNumbers s.accumulators  -- eight, from -2^47 to 2^47 - 1
+  pub flags : AreFlags s.flags  -- eight in each of the five lists
   pub divider : (s.divider.input < 65536) × (s.divider.output < 65536)
   pub dmem : length s.dmem ≡ 4096
   pub imem : length s.imem ≡ 4096
   pub rdram : IsImageLength (length s.rdram)  -- a multiple of 8 from 64 to 8,388,608
+  pub sp : IsSp s.sp  -- the SP registers' ranges
 
 -- The start: all 0, but for the image and npc, which is 4. SP registers 2 and 3 read FF8 hex, since the kept skip is 0.
 unfoldable pub start_of : List ℕ → State

@@ -83,11 +83,17 @@ impl<A: Acc> Machine<A> {
         self.regs.ranges();
         self.vregs.ranges();
         self.acc.ranges();
+        self.flags.carry.ranges();
+        self.flags.differ.ranges();
+        self.flags.compare.ranges();
+        self.flags.clip.ranges();
+        self.flags.extra.ranges();
         let _input = self.divider.input;
         let _output = self.divider.output;
         self.dmem.ranges();
         self.imem.ranges();
         self.rdram.ranges();
+        self.sp.ranges();
     }
 
     /// The place in IMEM of the next instruction, a multiple of 4 below 4096.

@@ -1,5 +1,5 @@
 -- A DMA as a list of pairs (address in a bank, address in the RDRAM), ordered by row, then byte.
-use Rattle.std.specs.Prelude.{ℕ, ◌+◌, ◌*◌, ◌<◌, ◌≤◌, List, map}
+use Rattle.std.specs.Prelude.{ℕ, ◌+◌, ◌*◌, ◌%◌, ◌≡◌, ◌<◌, ◌≤◌, List, map}
 use Rattle.std.specs.List.{range_with_len, flat_map, fold}
 use Rattle.rsp_memory.specs.Memory.{byte_at, with_byte}
 use Rattle.rsp_memory.specs.Image.{image_byte, with_image_byte}
@@ -12,6 +12,13 @@ pub record IsTransfer (t : Transfer) : Type 0 where
   pub length : t.length ≤ 4096
   pub count : t.count < 256
   pub skip : t.skip < 4096
+
+-- and that all of it is whole: multiples of 8, as the registers ask for it
+pub record AreWhole (t : Transfer) : Type 0 where
+  pub sp : t.sp % 8 ≡ 0
+  pub dram : t.dram % 8 ≡ 0
+  pub length : t.length % 8 ≡ 0
+  pub skip : t.skip % 8 ≡ 0
 
 -- the pairs of one row, in order: addresses in a bank are taken modulo 4096, those in the RDRAM modulo 2^24
 unfoldable pub row_pairs : ℕ → ℕ → ℕ → List (ℕ × ℕ)

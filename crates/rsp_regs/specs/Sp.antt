@@ -1,5 +1,5 @@
 -- The registers of the signal processor, as the register table has them.
-use Rattle.std.specs.Prelude.{ℕ, ◌+◌, ◌*◌, ◌/◌, ◌%◌, ◌^◌, ◌<◌, Bool, true, false, ◌||◌, List, ◌∷◌, map, replicate, slice_index, slice_index_or, slice_set, nat_lt, if◌then◌else◌, ◌-◌, ◌==◌}
+use Rattle.std.specs.Prelude.{ℕ, ◌+◌, ◌*◌, ◌/◌, ◌%◌, ◌^◌, ◌<◌, ◌≡◌, Bool, true, false, ◌||◌, List, ◌∷◌, length, map, replicate, slice_index, slice_index_or, slice_set, nat_lt, if◌then◌else◌, ◌-◌, ◌==◌}
 use Rattle.std.specs.List.{range_with_len, sum_by}
 use Rattle.rsp_numbers.specs.Numbers.{bit_set}
 use Rattle.rsp_regs.specs.declared.transfer.Transfer.{Transfer}
@@ -144,8 +144,15 @@ after_task s = record s {
   signals = slice_set (slice_set (slice_set s.signals 0 false) 1 false) 2 false;
 }
 
+-- the ranges of the two addresses and of the skip: SP_MEM_ADDR keeps bits 12 to 3, SP_DRAM_ADDR bits 23 to 3, the skip bits 11 to 3
+pub record AreKept (m d k : ℕ) : Type 0 where
+  pub memory : (m < 8192) × (m % 8 ≡ 0)
+  pub dram : (d < 16777216) × (d % 8 ≡ 0)
+  pub skip : (k < 4096) × (k % 8 ≡ 0)
+
 -- the registers' ranges
-pub record IsSp (memory dram skip : ℕ) : Type 0 where
-  pub memory_below : memory < 8192
-  pub dram_below : dram < 16777216
-  pub skip_below : skip < 4096
+pub record IsSp (s : Sp) : Type 0 where
+  pub kept : AreKept s.memory s.dram s.skip
+  pub signals : length s.signals ≡ 8
+  pub dpc : length s.dpc ≡ 8
+  pub words : (i : ℕ) → slice_index s.dpc i < 2 ^ 32

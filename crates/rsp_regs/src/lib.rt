@@ -3,8 +3,10 @@
 #![tactic(auto)]
 
 mod bits;
+mod parts;
 mod regs;
 mod transfer;
 
+pub use parts::SpParts;
 pub use regs::SpRegs;
 pub use transfer::Transfer;

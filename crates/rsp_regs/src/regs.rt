@@ -1,9 +1,10 @@
-ghost use Rattle.std.specs.Prelude.{◌≡◌, ◌%◌, ◌==◌, ◌||◌, if◌then◌else◌, false};
-ghost use Rattle.rsp_regs.specs.Dma.{IsTransfer};
-ghost use Rattle.rsp_regs.specs.Sp.{start, status, peeked, after_read, status_written, transfer, after_dma, written, dmem_from_rdram, imem_from_rdram, rdram_from_bank, after_break, after_step, after_task};
+ghost use Rattle.std.specs.Prelude.{◌≡◌, ◌%◌, ◌==◌, ◌||◌, ◌<◌, ◌^◌, ℕ, if◌then◌else◌, slice_index, false};
+ghost use Rattle.rsp_regs.specs.Dma.{IsTransfer, AreWhole};
+ghost use Rattle.rsp_regs.specs.Parts.{parts_of, sp_of};
+ghost use Rattle.rsp_regs.specs.Sp.{AreKept, IsSp, start, status, peeked, after_read, status_written, transfer, after_dma, written, dmem_from_rdram, imem_from_rdram, rdram_from_bank, after_break, after_step, after_task};
 
-use crate::Transfer;
 use crate::bits::{bit_set, flag, paired};
+use crate::{SpParts, Transfer};
 use rsp_memory::{Rdram, SpMem};
 use std::marker::Model;
 
@@ -31,7 +32,7 @@ pub struct SpRegs {
 
 impl Model for SpRegs {
     ghost use Rattle.std.specs.Prelude.{◌≡◌, ◌||◌};
-    ghost use Rattle.rsp_regs.specs.Sp.{Sp, IsSp};
+    ghost use Rattle.rsp_regs.specs.Sp.{Sp, AreKept};
 
     ghost Value = { Sp };
 
@@ -49,7 +50,7 @@ impl Model for SpRegs {
       dpc = s.dpc;
     } };
 
-    ghost invariant = { λ s. IsSp s.memory s.dram s.skip × (s.is_held ≡ (s.halted || s.single_step)) };
+    ghost invariant = { λ s. AreKept s.memory s.dram s.skip × (s.is_held ≡ (s.halted || s.single_step)) };
 
     ghost inverse = { λ s. record {
       memory = s.memory;
@@ -65,6 +66,14 @@ impl Model for SpRegs {
       semaphore = s.semaphore;
       dpc = s.dpc;
     } };
+}
+
+/// Changes nothing. It says that words are below 2^32.
+#[inline(always)]
+fn below(words: [u32; 8])
+    ensures { (i : ℕ) → slice_index words i < 2 ^ 32 }
+{
+    let _ = words;
 }
 
 impl SpRegs {
@@ -85,6 +94,54 @@ impl SpRegs {
             interrupt: false,
             semaphore: false,
             dpc: [0; 8],
+        }
+    }
+
+    /// Changes nothing. It says that they lie in their ranges.
+    #[inline(always)]
+    pub fn ranges(&self)
+        ensures { IsSp self.now }
+    {
+        below(self.dpc);
+    }
+
+    /// All registers as plain parts. Changes nothing: the semaphore isn't taken.
+    pub fn parts(&self) -> SpParts
+        ensures { result ≡ parts_of self.now }
+    {
+        SpParts {
+            memory: self.memory,
+            dram: self.dram,
+            skip: self.skip,
+            halted: self.halted,
+            broke: self.broke,
+            single_step: self.single_step,
+            intbreak: self.intbreak,
+            signals: self.signals,
+            interrupt: self.interrupt,
+            semaphore: self.semaphore,
+            dpc: self.dpc,
+        }
+    }
+
+    /// The registers of plain parts, of which none is wider than its register.
+    pub fn from_parts(parts: &SpParts) -> SpRegs
+        requires { AreKept parts.now.memory parts.now.dram parts.now.skip }
+        ensures { result ≡ sp_of parts.now }
+    {
+        SpRegs {
+            memory: parts.memory,
+            dram: parts.dram,
+            skip: parts.skip,
+            halted: parts.halted,
+            broke: parts.broke,
+            single_step: parts.single_step,
+            is_held: parts.halted || parts.single_step,
+            intbreak: parts.intbreak,
+            signals: parts.signals,
+            interrupt: parts.interrupt,
+            semaphore: parts.semaphore,
+            dpc: parts.dpc,
         }
     }
 
@@ -247,6 +304,7 @@ impl SpRegs {
     fn transfer(&self, value: u32) -> Transfer
         ensures value { result ≡ transfer value self.now }
         ensures ranges { IsTransfer result }
+        ensures whole { AreWhole result }
     {
         Transfer {
             sp: self.memory % 4096,
@@ -260,7 +318,8 @@ impl SpRegs {
     /// Moves the registers on past what a DMA has moved. After the last row there is no skip.
     #[tactic(auto, unfolding(crate::specs::Sp::after_dma))]
     fn advance(&mut self, t: &Transfer)
-        requires { IsTransfer t.now }
+        requires ranges { IsTransfer t.now }
+        requires whole { AreWhole t.now }
         ensures { self.new ≡ after_dma t.now self.old }
     {
         let bytes = (t.count + 1) * t.length;

@@ -1,4 +1,4 @@
-ghost use Rattle.std.specs.Prelude.{◌≡◌, ◌<◌};
+ghost use Rattle.std.specs.Prelude.{◌≡◌, ◌<◌, slice_index};
 ghost use Rattle.rsp_scalar.specs.Registers.{IsRegisters, empty_registers, register, with_register};
 
 use std::marker::Model;
@@ -30,6 +30,21 @@ impl Regs {
         ensures { result ≡ empty_registers }
     {
         Regs { words: [0; 32] }
+    }
+
+    /// The registers with these words, of which number 0 is 0.
+    pub fn from_words(words: [u32; 32]) -> Self
+        requires { slice_index words 0 ≡ 0 }
+        ensures { result ≡ words }
+    {
+        Regs { words }
+    }
+
+    /// All 32 words.
+    pub fn words(&self) -> [u32; 32]
+        ensures { result ≡ self.now }
+    {
+        self.words
     }
 
     /// Changes nothing. It says that they are 32 numbers below 2^32, of which number 0 is 0.
