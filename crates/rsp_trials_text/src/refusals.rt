@@ -4,7 +4,7 @@
 ghost use Rattle.std.specs.Prelude.{◌≡◌, IfOk};
 
 use rsp_asm::{AsmFaultKind, assemble};
-use rsp_bench::{BenchEnd, MemSink, MemSource, Session, parse_line, run_bench};
+use rsp_bench::{BenchEnd, MemSink, MemSource, Session, Source, parse_line, run_bench};
 use rsp_memory::Rdram;
 use std::test::Fail;
 
@@ -103,6 +103,10 @@ fn a_run_is_whole_when_memory_is_there(rt: HostRuntime) -> Result<(), Fail> {
             BenchEnd::OutOfMemory => {
                 println!(rt; "no memory after {} bytes", sink.bytes().len())?;
                 assert!(rt; replies.starts_with(sink.bytes()));
+                // the first line needs no memory: where it isn't answered, the session was refused, and nothing was read
+                let mut first = [0u8; 1];
+                let is_unread = source.read(&mut first) == Ok(1) && first == [b's'];
+                assert!(rt; is_unread == sink.bytes().is_empty());
             }
             _ => return Err(Fail::new("the run ends otherwise")),
         }
