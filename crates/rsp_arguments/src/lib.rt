@@ -3,8 +3,13 @@
 #![tactic(auto)]
 
 use clap::builder::ValueParser;
-use clap::{Arg, ArgAction, Command, Error};
+use clap::error::ErrorKind;
+use clap::{Arg, ArgAction, ArgMatches, Command, Error};
 use std::alloc::Global;
+
+/// The version of all that stands in this repository, and the day that it is of. It stands here alone: the script `rsp` at the top
+/// reads it from this line.
+const VERSION: &str = "1.0.0 (2026-11-23)";
 
 /// The files of a run.
 #[derive(Drop)]
@@ -26,11 +31,17 @@ pub enum Asked<'a> {
         source: &'a str,
         /// The file that the words are written to.
         out: &'a str,
+        /// The place of the first word, as it was written; 0 where none was.
+        at: Option<&'a str>,
     },
     /// Printing the texts of the words of a file.
     Disassemble {
         /// The file of the words.
         words: &'a str,
+        /// The place of the first word, as it was written; 0 where none was.
+        at: Option<&'a str>,
+        /// Whether each text has its place and its word before it.
+        with_places: bool,
     },
 }
 
@@ -52,6 +63,16 @@ fn file_option<'a>(alloc: Global, name: &'a str, about: &'a str) -> Arg<'a> {
         .help(about)
 }
 
+/// The place of the first word. The command line says what a place is; who reads it refuses what is none.
+fn place_option<'a>(alloc: Global) -> Arg<'a> {
+    Arg::new(alloc, "at")
+        .long("at")
+        .value_name("ADDR")
+        .value_parser(ValueParser::NonEmptyString)
+        .action(ArgAction::Set)
+        .help("The place of the first word in IMEM, a multiple of 4 up to 4092; without it 0")
+}
+
 /// The forms of the command line.
 fn command<'a>(alloc: Global) -> Result<Command<'a>, Error> {
     let run = Command::new(alloc, "run")
@@ -64,15 +85,24 @@ fn command<'a>(alloc: Global) -> Result<Command<'a>, Error> {
         ))?
         .arg(file_option(alloc, "save", "Where the image is written after the run"))?;
     let asm = Command::new(alloc, "asm")
-        .about("Assembles a text at 0, and writes its words with the high byte first")
+        .about("Assembles a text, and writes its words with the high byte first")
         .arg(file_argument(alloc, "SRC", "The source text"))?
-        .arg(file_argument(alloc, "OUT", "Where the words are written"))?;
+        .arg(file_argument(alloc, "OUT", "Where the words are written"))?
+        .arg(place_option(alloc))?;
     let dis = Command::new(alloc, "dis")
         .about("Prints the words of a file, the high byte first, as assembly text")
-        .arg(file_argument(alloc, "FILE", "The words, at most 1024"))?;
+        .arg(file_argument(alloc, "FILE", "The words, at most 1024"))?
+        .arg(place_option(alloc))?
+        .arg(
+            Arg::new(alloc, "places")
+                .long("places")
+                .action(ArgAction::SetTrue)
+                .help("Shows the place and the word before each text"),
+        )?;
     let command = Command::new(alloc, "rsp")
         .bin_name("rsp")?
         .about("A bench for the Reality Signal Processor")
+        .version(VERSION)
         .subcommand_required(true)
         .subcommand(run)?
         .subcommand(asm)?
@@ -80,23 +110,37 @@ fn command<'a>(alloc: Global) -> Result<Command<'a>, Error> {
     Ok(command)
 }
 
+/// What the matches of the command line ask for; nothing where they are of no subcommand, or lack what it must have.
+fn asked_in<'a>(matches: &ArgMatches<'a>) -> Option<Asked<'a>> {
+    let (name, given) = matches.subcommand()?;
+    match name {
+        "run" => Some(Asked::Run(RunFiles {
+            rdram: given.get_str("rdram"),
+            save: given.get_str("save"),
+        })),
+        "asm" => Some(Asked::Assemble {
+            source: given.get_str("SRC")?,
+            out: given.get_str("OUT")?,
+            at: given.get_str("at"),
+        }),
+        "dis" => Some(Asked::Disassemble {
+            words: given.get_str("FILE")?,
+            at: given.get_str("at"),
+            with_places: given.get_flag("places"),
+        }),
+        _ => None,
+    }
+}
+
 /// Reads the words of the command line, the first of which is the program's name. Why they ask for nothing, the error
-/// says, as it does for `--help`.
+/// says, as it does for `--help` and `--version`.
 pub fn read_arguments<'a>(alloc: Global, words: &'a [String]) -> Result<Asked<'a>, Error> {
     let matches = command(alloc)?.try_get_matches_from(words)?;
-    if let Some(asm) = matches.subcommand_matches("asm")
-        && let (Some(source), Some(out)) = (asm.get_str("SRC"), asm.get_str("OUT"))
-    {
-        return Ok(Asked::Assemble { source, out });
+    match asked_in(&matches) {
+        Some(asked) => Ok(asked),
+        None => Err(command(alloc)?.error(
+            ErrorKind::MissingSubcommand,
+            "the command line asks for nothing that is known",
+        )?),
     }
-    if let Some(dis) = matches.subcommand_matches("dis")
-        && let Some(words) = dis.get_str("FILE")
-    {
-        return Ok(Asked::Disassemble { words });
-    }
-    let run = matches.subcommand_matches("run");
-    Ok(Asked::Run(RunFiles {
-        rdram: run.and_then(|run| run.get_str("rdram")),
-        save: run.and_then(|run| run.get_str("save")),
-    }))
 }

@@ -1,4 +1,7 @@
+ghost use Rattle.std.specs.Prelude.{◌≤◌};
+
 use crate::fault::Fault;
+use crate::origin::origin_of;
 use crate::program::file_fault;
 use crate::store::FileStore;
 use rsp_asm::{AsmFaultKind, Words, assemble};
@@ -12,18 +15,21 @@ const SOURCE_LIMIT: usize = 1_048_576;
 /// One byte more: who has read these knows that a file is too long.
 const SOURCE_READ_LIMIT: u64 = 1_048_577;
 
-/// Assembles a file at 0, writes its words to another, with the high byte first, and says how many there are.
+/// Assembles a file, its first word at a place of IMEM, writes its words to another, with the high byte first, and says how many
+/// there are.
 pub fn assemble_file<'a, F: FileStore, W: Write + Drop>(
     alloc: Global,
     files: &mut F,
     source: &'a str,
     out: &'a str,
+    at: Option<&'a str>,
     mut output: W,
 ) -> Result<(), Fault<'a>> {
+    let origin = origin_of(at)?;
     let bytes = files
         .read(alloc, source, SOURCE_READ_LIMIT)
         .map_err(|fault| file_fault(fault, Fault::CannotRead(source)))?;
-    let words = assembled(alloc, bytes.as_slice())?;
+    let words = assembled(alloc, origin, bytes.as_slice())?;
     let bytes = big_endian(alloc, words.as_slice()).map_err(|_| Fault::OutOfMemory)?;
     files
         .write(out, bytes.as_slice())
@@ -33,12 +39,14 @@ pub fn assemble_file<'a, F: FileStore, W: Write + Drop>(
 }
 
 /// The words of a source text. That it is too long comes before that it isn't UTF-8.
-fn assembled<'a>(alloc: Global, bytes: &[u8]) -> Result<Words, Fault<'a>> {
+fn assembled<'a>(alloc: Global, origin: u16, bytes: &[u8]) -> Result<Words, Fault<'a>>
+    requires { origin ≤ 4092 }
+{
     if bytes.len() > SOURCE_LIMIT {
         return Err(Fault::ScriptTooLong);
     }
     let text = str::from_utf8(bytes).map_err(|_| Fault::NotText)?;
-    assemble(alloc, 0, text).map_err(|fault| match fault.kind {
+    assemble(alloc, origin, text).map_err(|fault| match fault.kind {
         AsmFaultKind::OutOfMemory => Fault::OutOfMemory,
         _ => Fault::Source(fault),
     })

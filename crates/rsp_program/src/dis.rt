@@ -1,11 +1,12 @@
-ghost use Rattle.std.specs.Prelude.{◌<◌};
+ghost use Rattle.std.specs.Prelude.{◌<◌, ◌≤◌};
 
 use crate::fault::Fault;
+use crate::origin::origin_of;
 use crate::program::file_fault;
 use crate::store::FileStore;
 use rsp_dis::text_of;
 use std::alloc::Global;
-use std::io::Write;
+use std::io::{self, Write};
 
 /// The bytes of IMEM: the most that a file of words has.
 const WORDS_LIMIT: usize = 4096;
@@ -13,31 +14,46 @@ const WORDS_LIMIT: usize = 4096;
 /// One byte more: who has read these knows that a file is too long.
 const WORDS_READ_LIMIT: u64 = 4097;
 
-/// Prints the canonical text of each word of a file, whose high byte comes first, as it stands in IMEM from place 0 on; a
-/// line each.
+/// Prints the canonical text of each word of a file, whose high byte comes first, as it stands in IMEM from a place on; a
+/// line each. Before it may stand the place and the word.
 pub fn disassemble_file<'a, F: FileStore, W: Write + Drop>(
     alloc: Global,
     files: &mut F,
     name: &'a str,
+    at: Option<&'a str>,
+    with_places: bool,
     mut output: W,
 ) -> Result<(), Fault<'a>> {
+    let origin = origin_of(at)?;
     let bytes = files
         .read(alloc, name, WORDS_READ_LIMIT)
         .map_err(|fault| file_fault(fault, Fault::CannotRead(name)))?;
-    if bytes.len() > WORDS_LIMIT || bytes.len() % 4 != 0 {
+    if bytes.len() > WORDS_LIMIT - usize::from(origin) || bytes.len() % 4 != 0 {
         return Err(Fault::WordsSize);
     }
     for (index, bytes) in bytes.chunks_exact(4).enumerate() {
         let word = u32::from_be_bytes([bytes[0], bytes[1], bytes[2], bytes[3]]);
-        let line = text_of(word, place_of(index));
-        writeln!(output, "{line}").map_err(|_| Fault::RunWrite)?;
+        print_word(&mut output, place_of(origin, index), word, with_places).map_err(
+            |_| Fault::RunWrite,
+        )?;
     }
     Ok(())
 }
 
-/// The place of a word in IMEM, by how many stand before it.
-fn place_of(index: usize) -> u16
+/// The place of a word in IMEM, by the place of the first one and by how many stand before it.
+fn place_of(origin: u16, index: usize) -> u16
+    requires { origin ≤ 4092 }
     ensures { result < 4096 }
 {
-    (index % 1024 * 4) as u16
+    ((usize::from(origin) + index % 1024 * 4) % 4096) as u16
+}
+
+fn print_word<W: Write>(output: &mut W, place: u16, word: u32, with_places: bool) -> io::Result<()>
+    requires { place < 4096 }
+{
+    let line = text_of(word, place);
+    if with_places {
+        write!(output, "{place:03x} {word:08x} ")?;
+    }
+    writeln!(output, "{line}")
 }

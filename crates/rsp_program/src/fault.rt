@@ -4,6 +4,9 @@ use thiserror::Error;
 /// What ends the program, as the line on standard error says it.
 #[derive(Clone, Copy, Debug, PartialEq, Eq, Error)]
 pub enum Fault<'a> {
+    /// `--at` was given what is no place of IMEM.
+    #[error("invalid value '{0}' for '--at <ADDR>': not a multiple of 4 from 0 to 4092")]
+    NoPlace(&'a str),
     /// A file that should be read wasn't.
     #[error("cannot read {0}")]
     CannotRead(&'a str),

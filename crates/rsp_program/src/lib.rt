@@ -5,6 +5,7 @@
 mod assembling;
 mod dis;
 mod fault;
+mod origin;
 mod program;
 mod status;
 mod store;

@@ -3,6 +3,7 @@ use crate::dis::disassemble_file;
 use crate::fault::Fault;
 use crate::status::Status;
 use crate::store::{FileFault, FileStore};
+use clap::Error;
 use clap::error::ErrorKind;
 use rsp_arguments::{Asked, RunFiles, read_arguments};
 use rsp_bench::{BenchEnd, FromRead, ToWrite, run_bench};
@@ -28,22 +29,37 @@ pub fn work<F: FileStore, R: Read + Drop, W: Write + Drop, E: Write>(
 ) -> Status {
     let asked = match read_arguments(alloc, args) {
         Ok(asked) => asked,
-        Err(error) if error.kind() == ErrorKind::OutOfMemory => {
-            return faulted(Fault::OutOfMemory, errors);
-        }
-        Err(error) => {
-            let _ = write!(errors, "{error}");
-            return Status::Refused;
-        }
+        Err(error) => return answer_words(&error, output, errors),
     };
     let done = match asked {
         Asked::Run(named) => run(alloc, &named, files, input, output),
-        Asked::Assemble { source, out } => assemble_file(alloc, files, source, out, output),
-        Asked::Disassemble { words } => disassemble_file(alloc, files, words, output),
+        Asked::Assemble { source, out, at } => {
+            assemble_file(alloc, files, source, out, at, output)
+        }
+        Asked::Disassemble {
+            words,
+            at,
+            with_places,
+        } => disassemble_file(alloc, files, words, at, with_places, output),
     };
     match done {
         Ok(()) => Status::Done,
         Err(fault) => faulted(fault, errors),
+    }
+}
+
+/// Answers words that ask for no work: by the version where they ask for it, and else by why they are refused.
+fn answer_words<W: Write + Drop, E: Write>(error: &Error, mut output: W, errors: &mut E) -> Status {
+    match error.kind() {
+        ErrorKind::OutOfMemory => faulted(Fault::OutOfMemory, errors),
+        ErrorKind::DisplayVersion => match write!(output, "{error}") {
+            Ok(()) => Status::Done,
+            Err(_) => faulted(Fault::RunWrite, errors),
+        },
+        _ => {
+            let _ = write!(errors, "{error}");
+            Status::Refused
+        }
     }
 }
 
@@ -56,8 +72,16 @@ pub fn without_words<E: Write>(error: &io::Error, errors: &mut E) -> Status {
     Status::Refused
 }
 
-/// Names a fault on a line of its own. A line that can't be written changes nothing: the status still tells.
+/// Names a fault on a line of its own; one of the command line as other refusals of it are told. A line that can't be written
+/// changes nothing: the status still tells.
 fn faulted<E: Write>(fault: Fault, errors: &mut E) -> Status {
+    if let Fault::NoPlace(_) = fault {
+        let _ = writeln!(
+            errors,
+            "error: {fault}\n\nFor more information, try '--help'."
+        );
+        return Status::Refused;
+    }
     let _ = writeln!(errors, "rsp: {fault}");
     Status::Faulted
 }

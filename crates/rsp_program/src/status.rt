@@ -1,7 +1,7 @@
 /// What the program's exit status tells.
 #[derive(Clone, Copy, Debug, PartialEq, Eq)]
 pub enum Status {
-    /// 0: all is done. Faults in the replies to a script don't change that.
+    /// 0: all is done, or the version told. Faults in the replies to a script don't change that.
     Done,
     /// 1: a fault, which a line on standard error names.
     Faulted,

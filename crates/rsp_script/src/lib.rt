@@ -14,4 +14,5 @@ mod words;
 pub use command::{Command, Look};
 pub use fault::LineFault;
 pub use line::parse_line;
+pub use operand::place;
 pub use source_line::SourceLine;
