@@ -34,7 +34,8 @@ loads i s = record s { registers = scalar_loaded i s.registers s.dmem }
 unfoldable pub stores : Inst → State → State
 stores i s = record s { dmem = scalar_stored i s.registers s.dmem }
 
--- a jump or a branch, taken or not; it reads its registers before it writes its link
+-- A jump or a branch, taken or not; it reads its registers before it writes its link. The places have gone on by then, so s.pc is
+-- the delay slot, from which a target is counted and behind which a link leads.
 unfoldable pub jumps : Inst → State → State
 jumps i s = record s { npc = following i s.registers s.pc; registers = linked i s.registers s.pc }
 
