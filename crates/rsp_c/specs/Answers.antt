@@ -1,18 +1,23 @@
 -- What the calls answer.
-use Rattle.std.specs.Prelude.{ℕ, ◌==◌, Option, None, Some, if◌then◌else◌}
+use Rattle.std.specs.Prelude.{ℕ, ◌%◌, ◌==◌, ◌&&◌, nat_lt, Bool, List, Option, None, Some, Result, Ok, Err, if◌then◌else◌}
 use Rattle.rsp_machine.specs.declared.step.StepEnd.{StepEnd}
 use Rattle.rsp_machine.specs.declared.step.StepEnd.TheVariants as end
+use Rattle.rsp_machine.specs.declared.host.TaskFault.{TaskFault}
+use Rattle.rsp_machine.specs.declared.host.TaskFault.TheVariants as task
 use Rattle.rsp_memory.specs.declared.bank.Bank.{Bank}
 use Rattle.rsp_memory.specs.declared.bank.Bank.TheVariants as bank
-use Rattle.rsp_debug.specs.declared.stop.Reason.{Reason}
-use Rattle.rsp_debug.specs.declared.stop.Reason.TheVariants as why
-use Rattle.rsp_debug.specs.declared.stop.Stop.{Stop}
-use Rattle.rsp_flags.specs.declared.flags.Flags.{Flags}
-use Rattle.std.specs.Simd.Lanes.{mask_l}
-use Rattle.rsp_c.specs.declared.shapes.RspStop.{RspStop}
-use Rattle.rsp_c.specs.declared.shapes.RspFlags.{RspFlags}
+use Rattle.rsp_debug.specs.declared.breaks.BreakFault.{BreakFault}
+use Rattle.rsp_debug.specs.declared.breaks.BreakFault.TheVariants as breaking
+use Rattle.rsp_debug.specs.declared.watches.WatchFault.{WatchFault}
+use Rattle.rsp_debug.specs.declared.watches.WatchFault.TheVariants as watching
+use Rattle.rsp_debug.specs.declared.stop.Watch.{Watch}
+use Rattle.rsp_debug.specs.Breaks.{break_fault}
+use Rattle.rsp_debug.specs.Stops.{is_break}
+use Rattle.rsp_debug.specs.Watches.{has_watch}
+use Rattle.rsp_text.specs.declared.fault.AsmFaultKind.{AsmFaultKind}
+use Rattle.rsp_text.specs.declared.fault.AsmFaultKind.TheVariants as fault
 
--- the status of a step: done, halted, or at a reserved word
+-- a step: done, halted, or at a reserved word
 abbrev pub step_status : StepEnd → ℕ
 step_status end.Done = 0
 step_status end.Halted = 4
@@ -22,26 +27,50 @@ step_status (end.Reserved word) = 5
 abbrev pub bank_of : ℕ → Option Bank
 bank_of n = if n == 0 then Some bank.Dmem else if n == 1 then Some bank.Imem else if n == 2 then Some bank.Rdram else None
 
--- the number of a reason
-abbrev pub reason_number : Reason → ℕ
-reason_number why.Reserved = 0
-reason_number why.Halted = 1
-reason_number (why.Watched k) = 2
-reason_number why.Break = 3
-reason_number why.Limit = 4
+-- whether a word of IMEM stands there that an instruction can be fetched from
+abbrev pub is_place : ℕ → Bool
+is_place n = nat_lt n 4096 && n % 4 == 0
 
--- the watch of a reason, and 0 where it is another
-abbrev pub reason_watch : Reason → ℕ
-reason_watch why.Reserved = 0
-reason_watch why.Halted = 0
-reason_watch (why.Watched k) = k
-reason_watch why.Break = 0
-reason_watch why.Limit = 0
+-- a new place
+abbrev pub place_status : ℕ → ℕ
+place_status place = if is_place place then 0 else 3
 
--- a stop as C sees it
-abbrev pub seen_stop : Stop → RspStop
-seen_stop s = record { reason = reason_number s.reason; steps = s.steps; watch = reason_watch s.reason; pc = s.pc }
+-- a task's start
+abbrev pub task_status : Option TaskFault → ℕ
+task_status None = 0
+task_status (Some task.TaskPlace) = 7
+task_status (Some task.TaskSize) = 8
 
--- the flags as C sees them
-abbrev pub seen_flags : Flags → RspFlags
-seen_flags f = record { carry = mask_l f.carry; differ = mask_l f.differ; compare = mask_l f.compare; clip = mask_l f.clip; extra = mask_l f.extra }
+-- a new breakpoint
+abbrev pub fault_status : Option BreakFault → ℕ
+fault_status None = 0
+fault_status (Some breaking.BreakFull) = 9
+fault_status (Some breaking.BreakTwice) = 10
+
+abbrev pub break_status : ℕ → List Bool → ℕ
+break_status place breaks = if is_place place then fault_status (break_fault place breaks) else 3
+
+-- a breakpoint that is dropped
+abbrev pub unbreak_status : ℕ → List Bool → ℕ
+unbreak_status place breaks = if is_place place then (if is_break breaks place then 0 else 11) else 3
+
+-- a new watch
+abbrev pub watch_status : Result ℕ WatchFault → ℕ
+watch_status (Ok k) = 0
+watch_status (Err watching.WatchRange) = 3
+watch_status (Err watching.WatchFull) = 12
+
+-- a watch that is dropped
+abbrev pub unwatch_status : ℕ → List (Option Watch) → ℕ
+unwatch_status k watches = if has_watch k watches then 0 else 13
+
+-- the number of a fault of a text
+abbrev pub fault_number : AsmFaultKind → ℕ
+fault_number fault.BadLine = 10
+fault_number fault.UnknownName = 11
+fault_number fault.BadOperand = 12
+fault_number fault.OutOfRange = 13
+fault_number fault.LabelTwice = 14
+fault_number fault.LabelMissing = 15
+fault_number fault.PastEnd = 16
+fault_number fault.OutOfMemory = 17

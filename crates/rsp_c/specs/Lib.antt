@@ -1,2 +1,4 @@
 pub mod Answers
+pub mod Bytes
 pub mod Holding
+pub mod Seen

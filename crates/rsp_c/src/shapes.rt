@@ -17,7 +17,7 @@ pub struct RspStop {
 /// The places and the scalar registers.
 #[repr(C)]
 #[derive(Clone, Copy, Drop)]
-pub struct RspRegs {
+pub struct RspScalars {
     /// The 32 scalar registers.
     pub words: [u32; 32],
     /// The place of the next instruction.
@@ -34,22 +34,10 @@ pub struct RspLanes {
     pub lanes: [u16; 8],
 }
 
-/// What an assembly came to.
-#[repr(C)]
-#[derive(Clone, Copy, Drop)]
-pub struct RspAssembled {
-    /// How many words there are.
-    pub count: usize,
-    /// The number of the line that has a fault, from 1.
-    pub line: usize,
-    /// The number of the fault, 10 to 17, or 33 where the text isn't UTF-8.
-    pub fault: u32,
-}
-
 /// The accumulators.
 #[repr(C)]
 #[derive(Clone, Copy, Drop)]
-pub struct RspAcc {
+pub struct RspAccumulators {
     /// Bits 32 to 47 of each.
     pub high: [u16; 8],
     /// Bits 16 to 31 of each.
@@ -61,15 +49,53 @@ pub struct RspAcc {
 /// The flags, a bit for each lane.
 #[repr(C)]
 #[derive(Clone, Copy, Drop)]
-pub struct RspFlags {
-    /// The low half of VCO.
+pub struct RspFlagBits {
+    /// Bits 0 to 7 of VCO.
     pub carry: u8,
-    /// The high half of VCO.
+    /// Bits 8 to 15 of VCO.
     pub differ: u8,
-    /// The low half of VCC.
+    /// Bits 0 to 7 of VCC.
     pub compare: u8,
-    /// The high half of VCC.
+    /// Bits 8 to 15 of VCC.
     pub clip: u8,
     /// VCE.
     pub extra: u8,
+}
+
+/// What the divide rows keep from one to the next.
+#[repr(C)]
+#[derive(Clone, Copy, Drop)]
+pub struct RspDivideState {
+    /// DIV_IN.
+    pub input: u16,
+    /// DIV_OUT.
+    pub output: u16,
+    /// 1 where DIV_IN is loaded, and else 0.
+    pub loaded: u16,
+}
+
+/// What an assembly came to.
+#[repr(C)]
+#[derive(Clone, Copy, Drop)]
+pub struct RspAssembled {
+    /// How many words there are.
+    pub count: usize,
+    /// The number of the line that has a fault, from 1, and else 0.
+    pub line: usize,
+    /// The number of the fault, 10 to 17, or 33 where the text isn't UTF-8, and else 0.
+    pub fault: u32,
+}
+
+/// A word with its text.
+#[repr(C)]
+#[derive(Clone, Copy, Drop)]
+pub struct RspLine {
+    /// The word.
+    pub word: u32,
+    /// Its place in IMEM.
+    pub place: u16,
+    /// How many bytes its text has, at most 64.
+    pub len: u16,
+    /// Its canonical text, and zeros behind it.
+    pub text: [u8; 68],
 }

@@ -1,12 +1,11 @@
 // What a call answers.
 
-ghost use Rattle.std.specs.Prelude.{◌≡◌};
-ghost use Rattle.rsp_c.specs.Answers.{step_status, bank_of, seen_stop};
+ghost use Rattle.std.specs.Prelude.{◌≡◌, ◌<◌, ◌%◌, IsTrue, Some, Err};
+ghost use Rattle.rsp_c.specs.Answers.{step_status, bank_of, is_place, task_status, fault_status, watch_status, fault_number};
 
-use crate::shapes::RspStop;
 use rsp_asm::AsmFaultKind;
-use rsp_debug::{Reason, Stop};
-use rsp_machine::StepEnd;
+use rsp_debug::{BreakFault, WatchFault};
+use rsp_machine::{StepEnd, TaskFault};
 use rsp_memory::Bank;
 
 /// It did what it was asked.
@@ -23,6 +22,24 @@ pub const HALTED: u32 = 4;
 pub const RESERVED: u32 = 5;
 /// A text means nothing.
 pub const NO_MEANING: u32 = 6;
+/// A task's structure stands at a wrong place.
+pub const TASK_PLACE: u32 = 7;
+/// A task's boot code has a wrong size.
+pub const TASK_SIZE: u32 = 8;
+/// Sixteen places have a breakpoint.
+pub const BREAK_FULL: u32 = 9;
+/// The place has a breakpoint.
+pub const BREAK_TWICE: u32 = 10;
+/// The place has no breakpoint.
+pub const NO_BREAK: u32 = 11;
+/// Eight numbers stand for watches.
+pub const WATCH_FULL: u32 = 12;
+/// The number stands for no watch.
+pub const NO_WATCH: u32 = 13;
+/// The past holds fewer states.
+pub const SHORT_HISTORY: u32 = 14;
+/// A buffer is too short for what there is.
+pub const NO_ROOM: u32 = 15;
 
 /// What a step answers.
 pub fn status_of_step(end: StepEnd) -> u32
@@ -35,8 +52,38 @@ pub fn status_of_step(end: StepEnd) -> u32
     }
 }
 
+/// What a task's start answers where it can't be.
+pub fn status_of_task(fault: TaskFault) -> u32
+    ensures { result ≡ task_status (Some fault) }
+{
+    match fault {
+        TaskFault::TaskPlace => TASK_PLACE,
+        TaskFault::TaskSize => TASK_SIZE,
+    }
+}
+
+/// What a new breakpoint answers where it can't be.
+pub fn status_of_break(fault: BreakFault) -> u32
+    ensures { result ≡ fault_status (Some fault) }
+{
+    match fault {
+        BreakFault::BreakFull => BREAK_FULL,
+        BreakFault::BreakTwice => BREAK_TWICE,
+    }
+}
+
+/// What a new watch answers where it can't be.
+pub fn status_of_watch(fault: WatchFault) -> u32
+    ensures { result ≡ watch_status (Err fault) }
+{
+    match fault {
+        WatchFault::WatchRange => OUT_OF_RANGE,
+        WatchFault::WatchFull => WATCH_FULL,
+    }
+}
+
 /// The bank of a number: 0 for DMEM, 1 for IMEM, 2 for the RDRAM.
-pub fn bank(number: u32) -> Option<Bank>
+pub fn bank_of(number: u32) -> Option<Bank>
     ensures { result ≡ bank_of number }
 {
     match number {
@@ -47,27 +94,19 @@ pub fn bank(number: u32) -> Option<Bank>
     }
 }
 
-/// A stop as C sees it.
-pub fn seen(stop: Stop) -> RspStop
-    ensures { result ≡ seen_stop stop }
+/// Whether a number is a place of IMEM, a multiple of 4 below 4096.
+pub fn is_place(number: u32) -> bool
+    ensures value { result ≡ is_place number }
+    ensures below { IsTrue result → number < 4096 }
+    ensures whole { IsTrue result → number % 4 ≡ 0 }
 {
-    let (reason, watch) = match stop.reason {
-        Reason::Reserved => (0, 0),
-        Reason::Halted => (1, 0),
-        Reason::Watched(k) => (2, k),
-        Reason::Break => (3, 0),
-        Reason::Limit => (4, 0),
-    };
-    RspStop {
-        reason,
-        steps: stop.steps,
-        watch,
-        pc: stop.pc,
-    }
+    number < 4096 && number % 4 == 0
 }
 
-/// The number of a fault.
-pub fn fault_number(kind: AsmFaultKind) -> u32 {
+/// The number of a fault of a text.
+pub fn fault_number(kind: AsmFaultKind) -> u32
+    ensures { result ≡ fault_number kind }
+{
     match kind {
         AsmFaultKind::BadLine => 10,
         AsmFaultKind::UnknownName => 11,

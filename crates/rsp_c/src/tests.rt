@@ -1,10 +1,12 @@
 // The calls on their happy paths and their refusals.
 
-use crate::calls::{
-    rsp_assemble, rsp_free, rsp_load, rsp_new, rsp_reg, rsp_run, rsp_step, rsp_text,
-};
 use crate::handle::Handle;
-use crate::shapes::{RspAssembled, RspStop};
+use crate::life::{rsp_free, rsp_new};
+use crate::looks::rsp_reg;
+use crate::memory::{rsp_load_words, rsp_memory};
+use crate::shapes::{RspAssembled, RspLine, RspStop};
+use crate::steps::{rsp_run, rsp_step};
+use crate::texts::{rsp_assemble, rsp_text};
 use std::test::Fail;
 
 #[test]
@@ -25,14 +27,10 @@ fn a_program_is_assembled_loaded_and_run(rt: HostRuntime) -> Result<(), Fail> {
     assert_eq!(rt; rsp_assemble(alloc, 0, text, &mut words, &mut found), 0);
     assert_eq!(rt; found.count, 2);
     assert_eq!(rt; words[0], 0x3402_1234);
-    assert_eq!(rt;
-        rsp_load(&mut handle, alloc, 1, 0, &words[0].to_be_bytes()),
-        0
-    );
-    assert_eq!(rt;
-        rsp_load(&mut handle, alloc, 1, 4, &words[1].to_be_bytes()),
-        0
-    );
+    assert_eq!(rt; rsp_load_words(&mut handle, alloc, 1, 0, &words[..2]), 0);
+    let mut bytes = [0; 4];
+    assert_eq!(rt; rsp_memory(&mut handle, alloc, 1, 0, &mut bytes), 0);
+    assert_eq!(rt; bytes[3], 0x34);
     assert_eq!(rt; rsp_step(&mut handle, alloc), 0);
     let mut value = 0;
     assert_eq!(rt; rsp_reg(&mut handle, alloc, 2, &mut value), 0);
@@ -46,11 +44,15 @@ fn a_program_is_assembled_loaded_and_run(rt: HostRuntime) -> Result<(), Fail> {
     assert_eq!(rt; rsp_run(&mut handle, alloc, 10, &mut stop), 0);
     assert_eq!(rt; stop.reason, 1);
     assert_eq!(rt; stop.steps, 1);
-    let mut line = [0; 64];
-    let mut len = 0;
-    assert_eq!(rt; rsp_text(words[1], 4, &mut line, &mut len), 0);
-    assert_eq!(rt; len, 5);
-    assert_eq!(rt; &line[..5], b"break".as_slice());
+    let mut line = RspLine {
+        word: 0,
+        place: 0,
+        len: 0,
+        text: [1; 68],
+    };
+    assert_eq!(rt; rsp_text(words[1], 4, &mut line), 0);
+    assert_eq!(rt; line.len, 5);
+    assert_eq!(rt; &line.text[..6], b"break\0".as_slice());
     rsp_free(&mut handle, alloc);
     assert_eq!(rt; rsp_step(&mut handle, alloc), 1);
     Ok(())

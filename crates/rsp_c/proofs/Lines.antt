@@ -1,0 +1,31 @@
+-- Lines of words with their texts.
+use Rattle.std.proofs.Common.{◌≡◌, ℕ, ◌+◌, ◌*◌, ◌<◌, ◌≤◌, List, [], ◌∷◌, ◌++◌, length, take, map, ap, sym, ◌∙◌, arith}
+use Rattle.std.specs.Prelude.{slice_set}
+use Rattle.std.specs.List.{range_with_len}
+use Rattle.std.proofs.lemmas.List.{take_more_set, take_all}
+use Rattle.std.proofs.lemmas.List.FromFn.{map-range_with_len_more}
+use Rattle.rsp_memory.specs.Memory.{word_at}
+use Rattle.rsp_c.specs.declared.shapes.RspLine.{RspLine}
+use Rattle.rsp_c.specs.Seen.{seen_line, seen_lines}
+
+-- no lines
+pub lines-none : (imem : List ℕ) (place n : ℕ) (lines : List RspLine) → n ≡ 0 → take n lines ≡ seen_lines imem place n
+unfolding seen_lines
+lines-none imem place n lines e = ap (λ k. take k lines) e ∙ sym (ap (λ k. map (λ i. seen_line (word_at imem (place + 4 * i)) (place + 4 * i)) (range_with_len 0 k)) e)
+
+-- one line more
+pub lines-more : (imem : List ℕ) (place i : ℕ) (lines : List RspLine) (line : RspLine) → i < length lines
+    → take i lines ≡ seen_lines imem place i → line ≡ seen_line (word_at imem (place + 4 * i)) (place + 4 * i)
+    → take (i + 1) (slice_set lines i line) ≡ seen_lines imem place (i + 1)
+unfolding seen_lines
+lines-more imem place i lines line h e same =
+    take_more_set lines i line h ∙ ap (λ xs. xs ++ line ∷ []) e
+    ∙ ap (λ x. map (λ i. seen_line (word_at imem (place + 4 * i)) (place + 4 * i)) (range_with_len 0 i) ++ x ∷ []) same
+    ∙ sym (map-range_with_len_more (λ i. seen_line (word_at imem (place + 4 * i)) (place + 4 * i)) 0 i i (omega arith))
+
+-- all of them
+pub lines-all : (imem : List ℕ) (place n k : ℕ) (lines : List RspLine) → length lines ≡ n → n ≤ k → take k lines ≡ seen_lines imem place k → k ≤ n → lines ≡ seen_lines imem place n
+lines-all imem place n k lines e h all b =
+    sym (take_all k lines (omega (arith, e, h))) ∙ all ∙ ap (λ j. seen_lines imem place j) (omega (arith, h, b))
+
+pub ruleset listing = (lines-all)

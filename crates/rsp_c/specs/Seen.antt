@@ -1,0 +1,71 @@
+-- Parts of the machine as C sees them.
+use Rattle.std.specs.Prelude.{ℕ, ◌+◌, ◌-◌, ◌*◌, ℤ, List, ◌++◌, length, map, replicate, Bool, if◌then◌else◌}
+use Rattle.std.specs.List.{range_with_len}
+use Rattle.std.specs.Simd.Lanes.{mask_l}
+use Rattle.rsp_numbers.specs.Numbers.{number}
+use Rattle.rsp_lanes.specs.Lanes.{each_lane}
+use Rattle.rsp_acc.specs.Parts.{part_of}
+use Rattle.rsp_acc.specs.declared.parts.Part.TheVariants as part
+use Rattle.rsp_flags.specs.declared.flags.Flags.{Flags}
+use Rattle.rsp_divide.specs.declared.divider.Divider.{Divider}
+use Rattle.rsp_memory.specs.Memory.{word_at}
+use Rattle.rsp_text.specs.Spell.{spell}
+use Rattle.rsp_debug.specs.declared.stop.Reason.{Reason}
+use Rattle.rsp_debug.specs.declared.stop.Reason.TheVariants as why
+use Rattle.rsp_debug.specs.declared.stop.Stop.{Stop}
+use Rattle.rsp_c.specs.declared.shapes.RspStop.{RspStop}
+use Rattle.rsp_c.specs.declared.shapes.RspAccumulators.{RspAccumulators}
+use Rattle.rsp_c.specs.declared.shapes.RspFlagBits.{RspFlagBits}
+use Rattle.rsp_c.specs.declared.shapes.RspDivideState.{RspDivideState}
+use Rattle.rsp_c.specs.declared.shapes.RspLine.{RspLine}
+
+-- the number of a reason
+abbrev pub reason_number : Reason → ℕ
+reason_number why.Reserved = 0
+reason_number why.Halted = 1
+reason_number (why.Watched k) = 2
+reason_number why.Break = 3
+reason_number why.Limit = 4
+
+-- the watch of a reason, and 0 where it is another
+abbrev pub reason_watch : Reason → ℕ
+reason_watch why.Reserved = 0
+reason_watch why.Halted = 0
+reason_watch (why.Watched k) = k
+reason_watch why.Break = 0
+reason_watch why.Limit = 0
+
+abbrev pub seen_stop : Stop → RspStop
+seen_stop s = record { reason = reason_number s.reason; steps = s.steps; watch = reason_watch s.reason; pc = s.pc }
+
+-- a flag as a number
+abbrev pub bit : Bool → ℕ
+bit b = if b then 1 else 0
+
+-- the high, the middle and the low 16 bits of each accumulator
+abbrev pub seen_accumulators : List ℤ → RspAccumulators
+seen_accumulators accumulators = record {
+  high = each_lane (λ i. part_of part.High (number accumulators i));
+  middle = each_lane (λ i. part_of part.Middle (number accumulators i));
+  low = each_lane (λ i. part_of part.Low (number accumulators i));
+}
+
+-- the flags, bit i for lane i
+abbrev pub seen_flags : Flags → RspFlagBits
+seen_flags f = record { carry = mask_l f.carry; differ = mask_l f.differ; compare = mask_l f.compare; clip = mask_l f.clip; extra = mask_l f.extra }
+
+abbrev pub seen_divider : Divider → RspDivideState
+seen_divider d = record { input = d.input; output = d.output; loaded = bit d.loaded }
+
+-- a word that stands at a place, with its canonical text, behind which there are zeros
+abbrev pub seen_line : ℕ → ℕ → RspLine
+seen_line word place = record {
+  word = word;
+  place = place;
+  len = length (spell word place);
+  text = spell word place ++ replicate (68 - length (spell word place)) 0;
+}
+
+-- the n words of IMEM from a place on
+unfoldable pub seen_lines : List ℕ → ℕ → ℕ → List RspLine
+seen_lines imem place n = map (λ i. seen_line (word_at imem (place + 4 * i)) (place + 4 * i)) (range_with_len 0 n)

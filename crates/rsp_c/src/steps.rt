@@ -1,0 +1,81 @@
+// Steps, runs and the way back.
+
+ghost use Rattle.std.specs.Prelude.{◌≡◌, ◌<◌, ◌≤◌, ◌↔◌, ◌⊎◌, IfSome, IfNone, length, option_map};
+ghost use Rattle.rsp_machine.specs.Step.{step_of};
+ghost use Rattle.rsp_debug.specs.Debugging.{stepped, ran, stop_in, gone_back};
+ghost use Rattle.rsp_c.specs.Answers.{step_status};
+ghost use Rattle.rsp_c.specs.Seen.{seen_stop};
+
+use crate::handle::Handle;
+use crate::seen::seen_stop;
+use crate::shapes::RspStop;
+use crate::status::{NO_MACHINE, OK, OUT_OF_RANGE, SHORT_HISTORY, status_of_step};
+use rsp_debug::BackFault;
+use std::alloc::Global;
+
+/// Makes one step. HALTED or RESERVED where the machine can't, and then nothing changes.
+#[unsafe(no_mangle)]
+pub extern "C" fn rsp_step(handle: &mut Handle, alloc: Global) -> u32
+    ensures none { IfNone handle.old.session (result ≡ NO_MACHINE) }
+    ensures answer { IfSome handle.old.session (λ d. result ≡ step_status (step_of d.state).0) }
+    ensures next { handle.new.session ≡ option_map stepped handle.old.session }
+{
+    match handle.take(alloc) {
+        None => NO_MACHINE,
+        Some(mut session) => {
+            let end = session.debugger.step();
+            handle.put(session);
+            status_of_step(end)
+        }
+    }
+}
+
+/// Makes steps up to a breakpoint, a watch, a halt, a reserved word, or `n` of them, 1 to 1000000, and says where it stopped.
+#[unsafe(no_mangle)]
+pub extern "C" fn rsp_run(handle: &mut Handle, alloc: Global, n: u32, out: &mut RspStop) -> u32
+    ensures none { IfNone handle.old.session (result ≡ NO_MACHINE) }
+    ensures count { IfSome handle.old.session (λ d. (result ≡ OK) ↔ ((1 ≤ n) × (n ≤ 1000000))) }
+    ensures stop { result ≡ OK → IfSome handle.old.session (λ d. out.new ≡ seen_stop (stop_in n d)) }
+    ensures next { result ≡ OK → handle.new.session ≡ option_map (ran n) handle.old.session }
+    ensures same { (result ≡ OK → ⊥) → handle.new.session ≡ handle.old.session }
+    ensures answer { IfSome handle.old.session (λ d. (result ≡ OK) ⊎ (result ≡ OUT_OF_RANGE)) }
+{
+    match handle.take(alloc) {
+        None => NO_MACHINE,
+        Some(mut session) => {
+            let stop = session.debugger.run(n);
+            handle.put(session);
+            match stop {
+                Err(_) => OUT_OF_RANGE,
+                Ok(stop) => {
+                    *out = seen_stop(stop);
+                    OK
+                }
+            }
+        }
+    }
+}
+
+/// Goes back `n` states, 1 to 1000000. SHORT_HISTORY where the past holds fewer.
+#[unsafe(no_mangle)]
+pub extern "C" fn rsp_back(handle: &mut Handle, alloc: Global, n: u32) -> u32
+    ensures none { IfNone handle.old.session (result ≡ NO_MACHINE) }
+    ensures count { IfSome handle.old.session (λ d. (result ≡ OUT_OF_RANGE) ↔ ((n ≡ 0) ⊎ (1000000 < n))) }
+    ensures short { IfSome handle.old.session (λ d. (result ≡ SHORT_HISTORY) ↔ ((0 < n) × (n ≤ 1000000) × (length d.past < n))) }
+    ensures answer { IfSome handle.old.session (λ d. (result ≡ OK) ⊎ (result ≡ OUT_OF_RANGE) ⊎ (result ≡ SHORT_HISTORY)) }
+    ensures next { result ≡ OK → handle.new.session ≡ option_map (gone_back n) handle.old.session }
+    ensures same { (result ≡ OK → ⊥) → handle.new.session ≡ handle.old.session }
+{
+    match handle.take(alloc) {
+        None => NO_MACHINE,
+        Some(mut session) => {
+            let gone = session.debugger.back(n);
+            handle.put(session);
+            match gone {
+                Ok(()) => OK,
+                Err(BackFault::Count) => OUT_OF_RANGE,
+                Err(BackFault::ShortHistory) => SHORT_HISTORY,
+            }
+        }
+    }
+}

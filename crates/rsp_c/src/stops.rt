@@ -1,0 +1,118 @@
+// Breakpoints and watches.
+
+ghost use Rattle.std.specs.Prelude.{◌≡◌, ◌<◌, ◌%◌, ◌↔◌, IfSome, IfNone, Ok, Some, IsTrue, option_map};
+ghost use Rattle.rsp_debug.specs.Breaks.{break_fault};
+ghost use Rattle.rsp_debug.specs.Stops.{is_break};
+ghost use Rattle.rsp_debug.specs.Watches.{number_for, has_watch};
+ghost use Rattle.rsp_debug.specs.Debugging.{broken_at, unbroken_at, watching, unwatching};
+ghost use Rattle.rsp_c.specs.Answers.{is_place, break_status, unbreak_status, watch_status, unwatch_status};
+
+use crate::handle::Handle;
+use crate::status::{
+    NO_BREAK, NO_MACHINE, NO_WATCH, OK, OUT_OF_RANGE, is_place, status_of_break, status_of_watch,
+};
+use std::alloc::Global;
+
+/// Gives a place of IMEM, a multiple of 4 below 4096, a breakpoint. BREAK_TWICE where it has one, BREAK_FULL where sixteen places
+/// have one.
+#[unsafe(no_mangle)]
+pub extern "C" fn rsp_add_break(handle: &mut Handle, alloc: Global, place: u32) -> u32
+    ensures none { IfNone handle.old.session (result ≡ NO_MACHINE) }
+    ensures answer { IfSome handle.old.session (λ d. result ≡ break_status place d.breaks) }
+    ensures next { result ≡ OK → handle.new.session ≡ option_map (broken_at place) handle.old.session }
+    ensures same { (result ≡ OK → ⊥) → handle.new.session ≡ handle.old.session }
+{
+    match handle.take(alloc) {
+        None => NO_MACHINE,
+        Some(mut session) => {
+            if !is_place(place) {
+                handle.put(session);
+                return OUT_OF_RANGE;
+            }
+            let added = session.debugger.add_break(place as u16);
+            handle.put(session);
+            match added {
+                Ok(()) => OK,
+                Err(fault) => status_of_break(fault),
+            }
+        }
+    }
+}
+
+/// Takes the breakpoint of a place of IMEM away. NO_BREAK where it has none.
+#[unsafe(no_mangle)]
+pub extern "C" fn rsp_drop_break(handle: &mut Handle, alloc: Global, place: u32) -> u32
+    ensures none { IfNone handle.old.session (result ≡ NO_MACHINE) }
+    ensures answer { IfSome handle.old.session (λ d. result ≡ unbreak_status place d.breaks) }
+    ensures next { result ≡ OK → handle.new.session ≡ option_map (unbroken_at place) handle.old.session }
+    ensures same { (result ≡ OK → ⊥) → handle.new.session ≡ handle.old.session }
+{
+    match handle.take(alloc) {
+        None => NO_MACHINE,
+        Some(mut session) => {
+            if !is_place(place) {
+                handle.put(session);
+                return OUT_OF_RANGE;
+            }
+            let dropped = session.debugger.drop_break(place as u16);
+            handle.put(session);
+            match dropped {
+                Ok(()) => OK,
+                Err(_) => NO_BREAK,
+            }
+        }
+    }
+}
+
+/// Watches `len` bytes of DMEM from an address on, 1 to 64 of them, and tells the watch's number, the lowest that is free. WATCH_FULL
+/// where eight watches stand.
+#[unsafe(no_mangle)]
+pub extern "C" fn rsp_add_watch(
+    handle: &mut Handle,
+    alloc: Global,
+    address: u32,
+    len: u32,
+    number: &mut usize,
+) -> u32
+    ensures none { IfNone handle.old.session (result ≡ NO_MACHINE) }
+    ensures answer { IfSome handle.old.session (λ d. result ≡ watch_status (number_for address len d.watches)) }
+    ensures number { result ≡ OK → IfSome handle.old.session (λ d. number_for address len d.watches ≡ Ok number.new) }
+    ensures next { result ≡ OK → handle.new.session ≡ option_map (watching number.new address len) handle.old.session }
+    ensures same { (result ≡ OK → ⊥) → handle.new.session ≡ handle.old.session }
+{
+    match handle.take(alloc) {
+        None => NO_MACHINE,
+        Some(mut session) => {
+            let added = session.debugger.add_watch(address, len);
+            handle.put(session);
+            match added {
+                Err(fault) => status_of_watch(fault),
+                Ok(k) => {
+                    *number = k;
+                    OK
+                }
+            }
+        }
+    }
+}
+
+/// Drops the watch of a number. NO_WATCH where there is none.
+#[unsafe(no_mangle)]
+pub extern "C" fn rsp_drop_watch(handle: &mut Handle, alloc: Global, number: u32) -> u32
+    ensures none { IfNone handle.old.session (result ≡ NO_MACHINE) }
+    ensures answer { IfSome handle.old.session (λ d. result ≡ unwatch_status number d.watches) }
+    ensures next { result ≡ OK → handle.new.session ≡ option_map (unwatching number) handle.old.session }
+    ensures same { (result ≡ OK → ⊥) → handle.new.session ≡ handle.old.session }
+{
+    match handle.take(alloc) {
+        None => NO_MACHINE,
+        Some(mut session) => {
+            let dropped = session.debugger.drop_watch(number);
+            handle.put(session);
+            match dropped {
+                Ok(()) => OK,
+                Err(_) => NO_WATCH,
+            }
+        }
+    }
+}

@@ -1,0 +1,54 @@
+// Where the machine goes on: at a task, or at a place.
+
+ghost use Rattle.std.specs.Prelude.{◌≡◌, IfSome, IfNone, option_map, if◌then◌else◌};
+ghost use Rattle.rsp_machine.specs.Host.{task_fault, tasked, with_pc};
+ghost use Rattle.rsp_debug.specs.Debugging.{resumed};
+ghost use Rattle.rsp_c.specs.Answers.{is_place, place_status, task_status};
+
+use crate::handle::Handle;
+use crate::status::{NO_MACHINE, OK, OUT_OF_RANGE, is_place, status_of_task};
+use std::alloc::Global;
+
+/// Starts the task whose structure of 64 bytes stands at an address of the RDRAM, and empties the past. TASK_PLACE or TASK_SIZE where
+/// it can't start.
+#[unsafe(no_mangle)]
+pub extern "C" fn rsp_task(handle: &mut Handle, alloc: Global, address: u32) -> u32
+    ensures none { IfNone handle.old.session (result ≡ NO_MACHINE) }
+    ensures answer { IfSome handle.old.session (λ d. result ≡ task_status (task_fault address d.state.rdram)) }
+    ensures next { result ≡ OK → handle.new.session ≡ option_map (λ d. resumed (tasked address d.state) d) handle.old.session }
+    ensures same { (result ≡ OK → ⊥) → handle.new.session ≡ handle.old.session }
+{
+    match handle.take(alloc) {
+        None => NO_MACHINE,
+        Some(mut session) => {
+            let started = session.debugger.start_task(address);
+            handle.put(session);
+            match started {
+                Ok(()) => OK,
+                Err(fault) => status_of_task(fault),
+            }
+        }
+    }
+}
+
+/// Goes on at a place of IMEM, a multiple of 4 below 4096, and empties the past.
+#[unsafe(no_mangle)]
+pub extern "C" fn rsp_set_pc(handle: &mut Handle, alloc: Global, pc: u32) -> u32
+    ensures none { IfNone handle.old.session (result ≡ NO_MACHINE) }
+    ensures answer { IfSome handle.old.session (λ d. result ≡ place_status pc) }
+    ensures next { result ≡ OK → handle.new.session ≡ option_map (λ d. resumed (with_pc pc d.state) d) handle.old.session }
+    ensures same { (result ≡ OK → ⊥) → handle.new.session ≡ handle.old.session }
+{
+    match handle.take(alloc) {
+        None => NO_MACHINE,
+        Some(mut session) => {
+            if !is_place(pc) {
+                handle.put(session);
+                return OUT_OF_RANGE;
+            }
+            session.debugger.set_pc(pc as u16);
+            handle.put(session);
+            OK
+        }
+    }
+}

@@ -1,0 +1,158 @@
+// Texts: from a source to words, and from words to their text.
+
+ghost use Rattle.std.specs.Prelude.{◌≡◌, ◌+◌, ◌-◌, ◌*◌, ◌++◌, ◌<◌, ◌≤◌, ◌%◌, ◌↔◌, ◌⊎◌, Ok, IfSome, IfNone, MatchResult, length, take, replicate};
+ghost use Rattle.rsp_text.specs.Means.{means};
+ghost use Rattle.rsp_c.specs.Answers.{fault_number, place_status};
+ghost use Rattle.rsp_c.specs.Seen.{seen_line, seen_lines};
+
+use crate::handle::Handle;
+use crate::shapes::{RspAssembled, RspLine};
+use crate::status::{
+    NO_MACHINE, NO_MEANING, NO_MEMORY, NO_ROOM, OK, OUT_OF_RANGE, fault_number, is_place,
+};
+use rsp_asm::{AsmFaultKind, assemble};
+use rsp_dis::text_of;
+use rsp_memory::SpMem;
+use std::alloc::Global;
+use std::str;
+
+/// The number of the fault of a text that isn't UTF-8.
+const NOT_TEXT: u32 = 33;
+
+/// The words of a text of UTF-8 whose first word stands at `origin`, a multiple of 4 up to 4096. They are at most 1024. NO_MEANING
+/// where the text has a fault, which `out` then tells; NO_ROOM where there are more words than the buffer has.
+#[unsafe(no_mangle)]
+pub extern "C" fn rsp_assemble(
+    alloc: Global,
+    origin: u32,
+    text: &[u8],
+    words: &mut [u32],
+    out: &mut RspAssembled,
+) -> u32
+    ensures range { (result ≡ OUT_OF_RANGE) ↔ ((4096 < origin) ⊎ ¬ (origin % 4 ≡ 0)) }
+    ensures words { result ≡ OK → means text.now origin ≡ Ok (take out.new.count words.new) }
+    ensures count { result ≡ OK → out.new.count ≤ length words.new }
+    ensures fault { result ≡ NO_MEANING → (out.new.fault ≡ NOT_TEXT) ⊎ MatchResult (means text.now origin) (λ _. ⊥) (λ f. (out.new.line ≡ f.line) × (out.new.fault ≡ fault_number f.kind)) }
+    ensures room { result ≡ NO_ROOM → MatchResult (means text.now origin) (λ found. length words.old < length found) (λ _. ⊥) }
+    ensures refused { (result ≡ OK → ⊥) → words.new ≡ words.old }
+    ensures answer { (result ≡ OK) ⊎ (result ≡ NO_MEMORY) ⊎ (result ≡ OUT_OF_RANGE) ⊎ (result ≡ NO_MEANING) ⊎ (result ≡ NO_ROOM) }
+{
+    if origin > 4096 || origin % 4 != 0 {
+        return OUT_OF_RANGE;
+    }
+    let Ok(text) = str::from_utf8(text) else {
+        *out = RspAssembled {
+            count: 0,
+            line: 0,
+            fault: NOT_TEXT,
+        };
+        return NO_MEANING;
+    };
+    match assemble(alloc, origin as u16, text) {
+        Err(fault) => {
+            *out = RspAssembled {
+                count: 0,
+                line: fault.line,
+                fault: fault_number(fault.kind),
+            };
+            match fault.kind {
+                AsmFaultKind::OutOfMemory => NO_MEMORY,
+                _ => NO_MEANING,
+            }
+        }
+        Ok(found) => {
+            let count = found.len();
+            if count > words.len() {
+                return NO_ROOM;
+            }
+            words[..count].copy_from_slice(found.as_slice());
+            *out = RspAssembled {
+                count,
+                line: 0,
+                fault: 0,
+            };
+            OK
+        }
+    }
+}
+
+/// At most 64 bytes, and zeros behind them.
+fn padded(bytes: &[u8]) -> [u8; 68]
+    requires { length bytes.now ≤ 64 }
+    ensures { result ≡ bytes.now ++ replicate (68 - length bytes.now) 0 }
+{
+    let mut text = [0; 68];
+    text[..bytes.len()].copy_from_slice(bytes);
+    text
+}
+
+/// A word with its canonical text, as it stands at a place of IMEM.
+fn line_of(word: u32, place: u16) -> RspLine
+    requires { place < 4096 }
+    ensures { result ≡ seen_line word place }
+{
+    let line = text_of(word, place);
+    let bytes = line.as_str().as_bytes();
+    let text = padded(bytes);
+    RspLine {
+        word,
+        place,
+        len: bytes.len() as u16,
+        text,
+    }
+}
+
+/// The canonical text of a word that stands at a place of IMEM, a multiple of 4 below 4096.
+#[unsafe(no_mangle)]
+pub extern "C" fn rsp_text(word: u32, place: u32, out: &mut RspLine) -> u32
+    ensures answer { result ≡ place_status place }
+    ensures value { result ≡ OK → out.new ≡ seen_line word place }
+{
+    if !is_place(place) {
+        return OUT_OF_RANGE;
+    }
+    *out = line_of(word, place as u16);
+    OK
+}
+
+/// The words of IMEM from a place on, with their texts.
+#[tactic(auto, using(crate::proofs::Lines::listing))]
+fn fill_lines(imem: &SpMem, place: u16, lines: &mut [RspLine])
+    requires { place + 4 * length lines.old ≤ 4096 }
+    ensures { lines.new ≡ seen_lines imem.now place (length lines.old) }
+{
+    for i in 0..lines.len() {
+        let at = place + 4 * i as u16;
+        lines[i] = line_of(imem.word(u32::from(at)), at);
+    }
+}
+
+/// The words of IMEM from a place on, a multiple of 4 below 4096, as many as there are lines for them, each with its canonical text.
+/// OUT_OF_RANGE where they pass the end of IMEM.
+#[unsafe(no_mangle)]
+pub extern "C" fn rsp_listing(
+    handle: &mut Handle,
+    alloc: Global,
+    place: u32,
+    lines: &mut [RspLine],
+) -> u32
+    ensures none { IfNone handle.old.session (result ≡ NO_MACHINE) }
+    ensures range { IfSome handle.old.session (λ d. (result ≡ OK) ↔ ((place % 4 ≡ 0) × (place < 4096) × (place + 4 * length lines.old ≤ 4096))) }
+    ensures answer { IfSome handle.old.session (λ d. (result ≡ OK) ⊎ (result ≡ OUT_OF_RANGE)) }
+    ensures value { result ≡ OK → IfSome handle.old.session (λ d. lines.new ≡ seen_lines d.state.imem place (length lines.old)) }
+    ensures refused { (result ≡ OK → ⊥) → lines.new ≡ lines.old }
+    ensures same { handle.new.session ≡ handle.old.session }
+{
+    match handle.take(alloc) {
+        None => NO_MACHINE,
+        Some(session) => {
+            if !is_place(place) || lines.len() > (4096 - place as usize) / 4 {
+                handle.put(session);
+                return OUT_OF_RANGE;
+            }
+            fill_lines(session.debugger.machine().imem(), place as u16, lines);
+            handle.put(session);
+            OK
+        }
+    }
+}

@@ -1,0 +1,51 @@
+//! Texts: from a source to words, and from words to their text.
+
+use crate::error::done;
+use crate::raw;
+use crate::shapes::Line;
+use crate::Refused;
+
+const NO_MEANING: u32 = 6;
+
+pub(crate) const NO_LINE: raw::Line = raw::Line {
+    word: 0,
+    place: 0,
+    len: 0,
+    text: [0; 68],
+};
+
+pub(crate) fn seen(line: &raw::Line) -> Line {
+    Line {
+        place: line.place,
+        word: line.word,
+        text: String::from_utf8_lossy(&line.text[..usize::from(line.len)]).into_owned(),
+    }
+}
+
+/// The words of a source whose first stands at `origin`, a multiple of 4 up to 4096.
+pub fn assemble(text: &str, origin: u32) -> Result<Vec<u32>, Refused> {
+    let mut words = vec![0; 1024];
+    let mut out = raw::Assembled::default();
+    // SAFETY: each pointer is of a borrow, with its own length.
+    let status = unsafe { raw::rsp_assemble(origin, text.as_ptr(), text.len(), words.as_mut_ptr(), words.len(), &mut out) };
+    if status == NO_MEANING {
+        return Err(Refused::NoMeaning { line: out.line, fault: out.fault });
+    }
+    done(status)?;
+    words.truncate(out.count);
+    Ok(words)
+}
+
+/// The canonical text of a word that stands at a place, a multiple of 4 below 4096.
+pub fn text(word: u32, place: u32) -> Result<String, Refused> {
+    let mut line = NO_LINE;
+    // SAFETY: the pointer is of a borrow.
+    done(unsafe { raw::rsp_text(word, place, &mut line) })?;
+    Ok(seen(&line).text)
+}
+
+/// The version of the library's interface.
+pub fn version() -> u32 {
+    // SAFETY: it takes nothing.
+    unsafe { raw::rsp_version() }
+}

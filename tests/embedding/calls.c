@@ -1,0 +1,325 @@
+/* Each call of c/rsp.h, in its range and out of it. It is C99 and C++11. The last line is `N passed, M failed`. */
+#include "rsp.h"
+#include <stdio.h>
+#include <string.h>
+
+static int passed, failed;
+
+static void see(int line, const char *what, int is_right)
+{
+    passed += is_right;
+    failed += !is_right;
+    if (!is_right) printf("FAIL line %d: %s\n", line, what);
+}
+#define SEE(is_right) see(__LINE__, #is_right, (is_right) ? 1 : 0)
+
+static const uint32_t ANY = 0xffffffffu;
+static uint8_t image[4096];
+
+/* Assembles a text to 0 of IMEM. */
+static void load(rsp *m, const char *text)
+{
+    uint32_t words[1024];
+    rsp_assembled out;
+    SEE(rsp_assemble(0, (const uint8_t *)text, strlen(text), words, 1024, &out) == RSP_OK);
+    SEE(rsp_load_words(m, RSP_IMEM, 0, words, out.count) == RSP_OK);
+}
+
+static void without_machine(void)
+{
+    rsp none = RSP_NONE, freed = RSP_NONE;
+    rsp *handles[2];
+    uint8_t byte = 0;
+    uint32_t word = 0;
+    size_t number = 0;
+    rsp_stop stop;
+    rsp_scalars scalars;
+    rsp_lanes lanes;
+    rsp_accumulators acc;
+    rsp_flag_bits flags;
+    rsp_divide_state divider;
+    rsp_line line;
+    int i;
+    SEE(rsp_new(&freed, image, 64, 0) == RSP_OK);
+    rsp_free(&freed);
+    rsp_free(&freed);
+    handles[0] = &none;
+    handles[1] = &freed;
+    for (i = 0; i < 2; i++) {
+        rsp *m = handles[i];
+        SEE(rsp_load(m, 0, 0, &byte, 1) == RSP_NO_MACHINE);
+        SEE(rsp_load(m, 9, ANY, &byte, 1) == RSP_NO_MACHINE);
+        SEE(rsp_load_words(m, 0, 0, &word, 1) == RSP_NO_MACHINE);
+        SEE(rsp_memory(m, 0, 0, &byte, 1) == RSP_NO_MACHINE);
+        SEE(rsp_task(m, 0) == RSP_NO_MACHINE);
+        SEE(rsp_set_pc(m, 0) == RSP_NO_MACHINE);
+        SEE(rsp_set_pc(m, 1) == RSP_NO_MACHINE);
+        SEE(rsp_step(m) == RSP_NO_MACHINE);
+        SEE(rsp_run(m, 1, &stop) == RSP_NO_MACHINE);
+        SEE(rsp_run(m, 0, &stop) == RSP_NO_MACHINE);
+        SEE(rsp_back(m, 1) == RSP_NO_MACHINE);
+        SEE(rsp_add_break(m, 0) == RSP_NO_MACHINE);
+        SEE(rsp_drop_break(m, 0) == RSP_NO_MACHINE);
+        SEE(rsp_add_watch(m, 0, 1, &number) == RSP_NO_MACHINE);
+        SEE(rsp_drop_watch(m, 0) == RSP_NO_MACHINE);
+        SEE(rsp_reg(m, 0, &word) == RSP_NO_MACHINE);
+        SEE(rsp_regs(m, &scalars) == RSP_NO_MACHINE);
+        SEE(rsp_vreg(m, 0, &lanes) == RSP_NO_MACHINE);
+        SEE(rsp_acc(m, &acc) == RSP_NO_MACHINE);
+        SEE(rsp_flags(m, &flags) == RSP_NO_MACHINE);
+        SEE(rsp_divider(m, &divider) == RSP_NO_MACHINE);
+        SEE(rsp_read(m, 7, &word) == RSP_NO_MACHINE);
+        SEE(rsp_peek(m, 7, &word) == RSP_NO_MACHINE);
+        SEE(rsp_write(m, 0, 8) == RSP_NO_MACHINE);
+        SEE(rsp_listing(m, 0, &line, 1) == RSP_NO_MACHINE);
+        SEE(m->at == NULL);
+    }
+}
+
+static void lives(void)
+{
+    rsp m = RSP_NONE;
+    uint32_t word = 0;
+    static const size_t wrong[] = { 0, 1, 56, 63, 65, 68, 4092 };
+    size_t i;
+    SEE(rsp_version() == RSP_VERSION);
+    for (i = 0; i < sizeof wrong / sizeof *wrong; i++) SEE(rsp_new(&m, image, wrong[i], 0) == RSP_OUT_OF_RANGE);
+    SEE(rsp_new(&m, image, 64, 4097) == RSP_OUT_OF_RANGE);
+    SEE(rsp_new(&m, image, 64, ANY) == RSP_OUT_OF_RANGE);
+    SEE(m.at == NULL);
+    SEE(rsp_new(&m, image, 4096, 4096) == RSP_OK);
+    SEE(rsp_write(&m, 8, 77) == RSP_OK);
+    SEE(rsp_new(&m, image, 65, 0) == RSP_OUT_OF_RANGE); /* the machine is kept */
+    SEE(rsp_peek(&m, 8, &word) == RSP_OK && word == 77);
+    SEE(rsp_new(&m, image, 64, 0) == RSP_OK); /* and freed for another */
+    SEE(rsp_peek(&m, 8, &word) == RSP_OK && word == 0);
+    rsp_free(&m);
+    SEE(m.at == NULL);
+}
+
+static void memories(void)
+{
+    rsp m = RSP_NONE;
+    static uint8_t bytes[4096], found[4096];
+    static uint32_t words[1025];
+    uint32_t bank;
+    size_t i;
+    for (i = 0; i < 4096; i++) bytes[i] = (uint8_t)(i * 7 + i / 256);
+    for (i = 0; i < 1025; i++) words[i] = 0x01020304u + (uint32_t)i;
+    SEE(rsp_new(&m, image, 4096, 0) == RSP_OK);
+    for (bank = RSP_DMEM; bank <= RSP_RDRAM; bank++) {
+        SEE(rsp_load(&m, bank, 0, bytes, 4096) == RSP_OK);
+        memset(found, 0, sizeof found);
+        SEE(rsp_memory(&m, bank, 0, found, 4096) == RSP_OK && !memcmp(found, bytes, 4096));
+        SEE(rsp_memory(&m, bank, 4000, found, 96) == RSP_OK && !memcmp(found, bytes + 4000, 96));
+        SEE(rsp_memory(&m, bank, 17, found, 1000) == RSP_OK && !memcmp(found, bytes + 17, 1000));
+        SEE(rsp_memory(&m, bank, 4096, found, 0) == RSP_OK);
+        SEE(rsp_load(&m, bank, 4096, bytes, 0) == RSP_OK);
+        found[0] = 0xa5;
+        SEE(rsp_memory(&m, bank, 1, found, 4096) == RSP_OUT_OF_RANGE && found[0] == 0xa5);
+        SEE(rsp_memory(&m, bank, 4097, found, 0) == RSP_OUT_OF_RANGE);
+        SEE(rsp_memory(&m, bank, ANY, found, 1) == RSP_OUT_OF_RANGE);
+        SEE(rsp_load(&m, bank, 4095, bytes + 1, 2) == RSP_OUT_OF_RANGE);
+        SEE(rsp_load(&m, bank, ANY, bytes, 2) == RSP_OUT_OF_RANGE);
+        SEE(rsp_load_words(&m, bank, 4093, words, 1) == RSP_OUT_OF_RANGE);
+        SEE(rsp_load_words(&m, bank, 0, words, 1025) == RSP_OUT_OF_RANGE);
+        SEE(rsp_memory(&m, bank, 0, found, 4096) == RSP_OK && !memcmp(found, bytes, 4096));
+        SEE(rsp_load_words(&m, bank, 8, words, 2) == RSP_OK);
+        SEE(rsp_memory(&m, bank, 7, found, 10) == RSP_OK && found[0] == bytes[7] && found[9] == bytes[16]);
+        SEE(!memcmp(found + 1, "\1\2\3\4\1\2\3\5", 8));
+        SEE(rsp_load_words(&m, bank, 0, words, 1024) == RSP_OK);
+        SEE(rsp_memory(&m, bank, 4092, found, 4) == RSP_OK && !memcmp(found, "\1\2\7\3", 4));
+    }
+    SEE(rsp_load(&m, 3, 0, bytes, 1) == RSP_OUT_OF_RANGE);
+    SEE(rsp_load_words(&m, ANY, 0, words, 1) == RSP_OUT_OF_RANGE);
+    SEE(rsp_memory(&m, 3, 0, found, 1) == RSP_OUT_OF_RANGE);
+    rsp_free(&m);
+}
+
+static void steps(void)
+{
+    rsp m = RSP_NONE;
+    rsp_stop stop;
+    rsp_scalars scalars;
+    uint32_t word = 0, i;
+    size_t number = 9;
+    SEE(rsp_new(&m, image, 64, 8) == RSP_OK);
+    load(&m, "addiu $1, $0, 3\nloop: addiu $1, $1, -1\nsw $1, 0x40($0)\nbne $1, $0, loop\nnop\nbreak\n");
+    SEE(rsp_step(&m) == RSP_OK);
+    SEE(rsp_reg(&m, 1, &word) == RSP_OK && word == 3);
+    SEE(rsp_reg(&m, 32, &word) == RSP_OUT_OF_RANGE);
+    SEE(rsp_reg(&m, ANY, &word) == RSP_OUT_OF_RANGE);
+    SEE(rsp_back(&m, 2) == RSP_SHORT_HISTORY);
+    SEE(rsp_back(&m, 0) == RSP_OUT_OF_RANGE);
+    SEE(rsp_back(&m, 1000001) == RSP_OUT_OF_RANGE);
+    SEE(rsp_back(&m, 1) == RSP_OK);
+    SEE(rsp_regs(&m, &scalars) == RSP_OK && scalars.pc == 0 && scalars.npc == 4 && scalars.words[1] == 0);
+    SEE(rsp_run(&m, 0, &stop) == RSP_OUT_OF_RANGE);
+    SEE(rsp_run(&m, 1000001, &stop) == RSP_OUT_OF_RANGE);
+    SEE(rsp_run(&m, 2, &stop) == RSP_OK && stop.reason == RSP_AT_LIMIT && stop.steps == 2 && stop.pc == 8);
+
+    SEE(rsp_add_break(&m, 16) == RSP_OK);
+    SEE(rsp_add_break(&m, 16) == RSP_BREAK_TWICE);
+    SEE(rsp_add_break(&m, 18) == RSP_OUT_OF_RANGE);
+    SEE(rsp_add_break(&m, 4096) == RSP_OUT_OF_RANGE);
+    SEE(rsp_add_break(&m, 65536 + 16) == RSP_OUT_OF_RANGE);
+    SEE(rsp_run(&m, 100, &stop) == RSP_OK && stop.reason == RSP_AT_BREAK && stop.steps == 2 && stop.pc == 16);
+    SEE(rsp_drop_break(&m, 16) == RSP_OK);
+    SEE(rsp_drop_break(&m, 16) == RSP_NO_BREAK);
+    SEE(rsp_drop_break(&m, 15) == RSP_OUT_OF_RANGE);
+    for (i = 0; i < 16; i++) SEE(rsp_add_break(&m, 2048 + 4 * i) == RSP_OK);
+    SEE(rsp_add_break(&m, 1024) == RSP_BREAK_FULL);
+
+    SEE(rsp_add_watch(&m, 0x80, 64, &number) == RSP_OK && number == 0);
+    SEE(rsp_add_watch(&m, 0x43, 1, &number) == RSP_OK && number == 1);
+    SEE(rsp_add_watch(&m, 4096, 1, &number) == RSP_OUT_OF_RANGE);
+    SEE(rsp_add_watch(&m, 0, 0, &number) == RSP_OUT_OF_RANGE);
+    SEE(rsp_add_watch(&m, 0, 65, &number) == RSP_OUT_OF_RANGE);
+    SEE(rsp_add_watch(&m, ANY, ANY, &number) == RSP_OUT_OF_RANGE);
+    SEE(rsp_run(&m, 100, &stop) == RSP_OK && stop.reason == RSP_AT_WATCH && stop.watch == 1 && stop.steps == 3 && stop.pc == 12);
+    SEE(rsp_drop_watch(&m, 1) == RSP_OK);
+    SEE(rsp_drop_watch(&m, 1) == RSP_NO_WATCH);
+    SEE(rsp_drop_watch(&m, 8) == RSP_NO_WATCH);
+    SEE(rsp_drop_watch(&m, ANY) == RSP_NO_WATCH);
+    for (i = 1; i < 8; i++) SEE(rsp_add_watch(&m, 0xf00 + i, 1, &number) == RSP_OK && number == i);
+    SEE(rsp_add_watch(&m, 0, 1, &number) == RSP_WATCH_FULL);
+
+    SEE(rsp_run(&m, 100, &stop) == RSP_OK && stop.reason == RSP_AT_HALT && stop.pc == 24);
+    SEE(rsp_step(&m) == RSP_HALTED);
+    SEE(rsp_back(&m, 1) == RSP_OK);
+    SEE(rsp_step(&m) == RSP_OK);
+    SEE(rsp_write(&m, 4, 1) == RSP_OK); /* clears halted */
+    SEE(rsp_back(&m, 1) == RSP_SHORT_HISTORY);
+    word = 0xffffffffu;
+    SEE(rsp_load_words(&m, RSP_IMEM, 24, &word, 1) == RSP_OK);
+    SEE(rsp_step(&m) == RSP_RESERVED);
+    SEE(rsp_run(&m, 5, &stop) == RSP_OK && stop.reason == RSP_AT_RESERVED && stop.steps == 0 && stop.pc == 24);
+    SEE(rsp_set_pc(&m, 2) == RSP_OUT_OF_RANGE);
+    SEE(rsp_set_pc(&m, 4096) == RSP_OUT_OF_RANGE);
+    SEE(rsp_set_pc(&m, 65536) == RSP_OUT_OF_RANGE);
+    SEE(rsp_set_pc(&m, 4092) == RSP_OK);
+    SEE(rsp_regs(&m, &scalars) == RSP_OK && scalars.pc == 4092 && scalars.npc == 0);
+    rsp_free(&m);
+}
+
+static void looks(void)
+{
+    rsp m = RSP_NONE;
+    rsp_lanes lanes;
+    rsp_accumulators acc;
+    rsp_flag_bits flags;
+    rsp_divide_state divider;
+    rsp_stop stop;
+    SEE(rsp_new(&m, image, 64, 0) == RSP_OK);
+    load(&m, "ori $1, $0, 0x8001\nmtc2 $1, $v1[2]\nvmudh $v2, $v1, $v1[1]\nvaddc $v3, $v1, $v1[1]\nori $2, $0, 0x0f3c\nctc2 $2, $vcc\n"
+             "ori $2, $0, 0x5a\nctc2 $2, $vce\nvrcph $v4[0], $v1[1]\nbreak\n");
+    SEE(rsp_run(&m, 100, &stop) == RSP_OK && stop.reason == RSP_AT_HALT);
+    SEE(rsp_vreg(&m, 1, &lanes) == RSP_OK && lanes.lanes[0] == 0 && lanes.lanes[1] == 0x8001 && lanes.lanes[7] == 0);
+    SEE(rsp_vreg(&m, 32, &lanes) == RSP_OUT_OF_RANGE);
+    SEE(rsp_vreg(&m, 256, &lanes) == RSP_OUT_OF_RANGE);
+    /* (-32767) * (-32767) * 65536 is 3fff 0001 0000; vaddc then leaves 8001 + 8001 and a carry in lane 1 */
+    SEE(rsp_acc(&m, &acc) == RSP_OK && acc.high[1] == 0x3fff && acc.middle[1] == 1 && acc.high[0] == 0 && acc.middle[7] == 0);
+    SEE(rsp_flags(&m, &flags) == RSP_OK && flags.carry == 2 && flags.differ == 0);
+    SEE(flags.compare == 0x3c && flags.clip == 0x0f && flags.extra == 0x5a);
+    SEE(rsp_divider(&m, &divider) == RSP_OK && divider.input == 0x8001 && divider.loaded == 1);
+    rsp_free(&m);
+}
+
+static void sp_registers(void)
+{
+    rsp m = RSP_NONE;
+    uint32_t word = 9;
+    uint8_t bytes[8];
+    int i;
+    for (i = 0; i < 64; i++) image[i] = (uint8_t)i;
+    SEE(rsp_new(&m, image, 64, 0) == RSP_OK);
+    SEE(rsp_peek(&m, 7, &word) == RSP_OK && word == 0);
+    SEE(rsp_read(&m, 7, &word) == RSP_OK && word == 0);
+    SEE(rsp_peek(&m, 7, &word) == RSP_OK && word == 1);
+    SEE(rsp_read(&m, 23, &word) == RSP_OK && word == 1);
+    SEE(rsp_write(&m, 7, ANY) == RSP_OK);
+    SEE(rsp_peek(&m, 16 + 7, &word) == RSP_OK && word == 0);
+    SEE(rsp_write(&m, ANY, 5) == RSP_OK); /* register 15 */
+    SEE(rsp_read(&m, 15, &word) == RSP_OK && word == 5);
+    SEE(rsp_write(&m, 0, 0x100) == RSP_OK && rsp_write(&m, 1, 16) == RSP_OK && rsp_write(&m, 2, 7) == RSP_OK);
+    SEE(rsp_memory(&m, RSP_DMEM, 0x100, bytes, 8) == RSP_OK && bytes[0] == 16 && bytes[7] == 23);
+    SEE(rsp_read(&m, 0, &word) == RSP_OK && word == 0x108);
+    rsp_free(&m);
+}
+
+static void tasks(void)
+{
+    rsp m = RSP_NONE;
+    static uint8_t ram[256];
+    uint8_t bytes[4];
+    uint32_t word = 0;
+    ram[64 + 8 + 3] = 128; /* ucode_boot is at 128 */
+    ram[64 + 12 + 3] = 8;  /* and has 8 bytes */
+    memcpy(ram + 128, "\x34\x02\x12\x34\0\0\0\x0d", 8);
+    SEE(rsp_new(&m, ram, sizeof ram, 0) == RSP_OK);
+    SEE(rsp_task(&m, 4) == RSP_TASK_PLACE);
+    SEE(rsp_task(&m, 200) == RSP_TASK_PLACE);
+    SEE(rsp_task(&m, ANY) == RSP_TASK_PLACE);
+    SEE(rsp_task(&m, 0) == RSP_TASK_SIZE);
+    SEE(rsp_task(&m, 64) == RSP_OK);
+    SEE(rsp_memory(&m, RSP_DMEM, 0xfc8, bytes, 4) == RSP_OK && bytes[3] == 128);
+    SEE(rsp_step(&m) == RSP_OK && rsp_reg(&m, 2, &word) == RSP_OK && word == 0x1234);
+    SEE(rsp_step(&m) == RSP_OK && rsp_step(&m) == RSP_HALTED);
+    rsp_free(&m);
+}
+
+static void texts(void)
+{
+    rsp m = RSP_NONE;
+    uint32_t words[4] = { 9, 9, 9, 9 };
+    rsp_assembled out;
+    rsp_line line, lines[3];
+    static rsp_line many[1025];
+    const char *good = "nop\nvadd $v1, $v2, $v3[1q]\nbreak\n";
+    const uint8_t *text = (const uint8_t *)good;
+    SEE(rsp_assemble(0, text, strlen(good), words, 2, &out) == RSP_NO_ROOM && words[0] == 9);
+    SEE(rsp_assemble(2, text, strlen(good), words, 4, &out) == RSP_OUT_OF_RANGE && words[0] == 9);
+    SEE(rsp_assemble(4100, text, strlen(good), words, 4, &out) == RSP_OUT_OF_RANGE);
+    SEE(rsp_assemble(4096, text, 0, words, 4, &out) == RSP_OK && out.count == 0);
+    SEE(rsp_assemble(4092, text, strlen(good), words, 4, &out) == RSP_NO_MEANING && out.line == 2 && out.fault == 16);
+    SEE(rsp_assemble(0, (const uint8_t *)"nop\nfoo $1\n", 11, words, 4, &out) == RSP_NO_MEANING && out.line == 2 && out.fault == 11);
+    SEE(rsp_assemble(0, (const uint8_t *)"nop\n\xff\n", 6, words, 4, &out) == RSP_NO_MEANING && out.fault == 33);
+    SEE(words[0] == 9);
+    SEE(rsp_assemble(0, text, strlen(good), words, 4, &out) == RSP_OK && out.count == 3 && out.line == 0 && out.fault == 0);
+    SEE(words[0] == 0 && words[1] == 0x4a631050u && words[2] == 0x0d && words[3] == 9);
+    memset(&line, 0xee, sizeof line);
+    SEE(rsp_text(words[1], 4, &line) == RSP_OK && !strcmp(line.text, "vadd $v1, $v2, $v3[1q]") && line.len == 22);
+    SEE(line.text[67] == 0 && line.word == words[1] && line.place == 4);
+    SEE(rsp_text(0x1000ffffu, 0, &line) == RSP_OK && !strcmp(line.text, "beq $0, $0, 0x000"));
+    SEE(rsp_text(0xffffffffu, 0, &line) == RSP_OK && !strcmp(line.text, ".word 0xffffffff"));
+    SEE(rsp_text(0, 4096, &line) == RSP_OUT_OF_RANGE);
+    SEE(rsp_text(0, 6, &line) == RSP_OUT_OF_RANGE);
+    SEE(rsp_new(&m, image, 64, 0) == RSP_OK);
+    SEE(rsp_load_words(&m, RSP_IMEM, 4084, words, 3) == RSP_OK);
+    SEE(rsp_listing(&m, 4084, lines, 3) == RSP_OK);
+    SEE(!strcmp(lines[0].text, "nop") && !strcmp(lines[1].text, "vadd $v1, $v2, $v3[1q]") && !strcmp(lines[2].text, "break"));
+    SEE(lines[0].place == 4084 && lines[2].place == 4092 && lines[2].word == 0x0d && lines[2].len == 5);
+    SEE(rsp_listing(&m, 4088, lines, 3) == RSP_OUT_OF_RANGE);
+    SEE(rsp_listing(&m, 4096, lines, 0) == RSP_OUT_OF_RANGE);
+    SEE(rsp_listing(&m, 2, lines, 1) == RSP_OUT_OF_RANGE);
+    SEE(rsp_listing(&m, ANY, lines, 1) == RSP_OUT_OF_RANGE);
+    SEE(rsp_listing(&m, 0, lines, 0) == RSP_OK);
+    SEE(!strcmp(lines[0].text, "nop"));
+    SEE(rsp_listing(&m, 0, many, 1025) == RSP_OUT_OF_RANGE);
+    SEE(rsp_listing(&m, 0, many, 1024) == RSP_OK && !strcmp(many[1023].text, "break") && many[1023].place == 4092);
+    rsp_free(&m);
+}
+
+int main(void)
+{
+    without_machine();
+    lives();
+    memories();
+    steps();
+    looks();
+    sp_registers();
+    tasks();
+    texts();
+    printf("%d passed, %d failed\n", passed, failed);
+    return failed != 0;
+}

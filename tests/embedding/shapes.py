@@ -1,0 +1,63 @@
+"""What crates/rsp_c exports, read from its source: the calls, the structs and the numbers of statuses, for comparisons with the headers."""
+
+import ctypes
+import re
+
+NUMBERS = {"u8": ctypes.c_uint8, "u16": ctypes.c_uint16, "u32": ctypes.c_uint32, "usize": ctypes.c_size_t}
+AS_C = {"u32": "uint32_t", "usize": "size_t", "Global": "", "&mut Handle": "rsp *", "": "void"}
+
+
+def c_name(rust):
+    """RspFlagBits is rsp_flag_bits."""
+    return re.sub(r"(?<!^)(?=[A-Z])", "_", rust).lower()
+
+
+def c_types(rust):
+    """The C parameters of a Rust one, joined by bars."""
+    if rust in AS_C:
+        return AS_C[rust]
+    mutable, inner = re.fullmatch(r"&(mut )?(.+)", rust).groups()
+    slice_of = re.fullmatch(r"\[(\w+)\]", inner)
+    element = slice_of[1] if slice_of else inner
+    named = {"u8": "uint8_t", "u32": "uint32_t", "usize": "size_t"}.get(element) or c_name(element)
+    return f"{'' if mutable else 'const '}{named} *" + ("|size_t" if slice_of else "")
+
+
+def exported(source):
+    """(name, result, parameters) of each exported call."""
+    for path in sorted(source.glob("*.rt")):
+        for name, given, result in re.findall(r'extern "C" fn (\w+)\((.*?)\)(?: -> (\w+))?\s', path.read_text(), re.S):
+            types = [c_types(it.split(":", 1)[1].strip()) for it in given.split(",") if it.strip()]
+            yield name, AS_C[result], "|".join(it for it in types if it) or "void"
+
+
+def declared(header):
+    """The same of a header."""
+    text = re.sub(r"/\*.*?\*/", "", header, flags=re.S)
+    for result, name, given in re.findall(r"^(\w+) (rsp_\w+)\((.*?)\);", text, re.M):
+        types = [it.strip() if it.strip() == "void" else re.sub(r"\w+$", "", it.strip()).strip() for it in given.split(",")]
+        yield name, result, "|".join(types)
+
+
+def statuses(source):
+    """The names of the statuses with their numbers."""
+    return {name: int(value) for name, value in re.findall(r"pub const (\w+): u32 = (\d+);", (source / "status.rt").read_text())}
+
+
+def structs(source):
+    """Each repr(C) struct as ctypes lays it out, which does so by C's rules."""
+    made = {}
+
+    def typed(text):
+        array = re.fullmatch(r"\[(.+); (\d+)\]", text)
+        return typed(array[1]) * int(array[2]) if array else NUMBERS.get(text) or made[text]
+
+    for name, body in re.findall(r"#\[repr\(C\)\].*?pub struct (\w+) \{(.*?)\n\}", (source / "shapes.rt").read_text(), re.S):
+        fields = [(field, typed(kind)) for field, kind in re.findall(r"pub (\w+): (.+),", body)]
+        made[name] = type(name, (ctypes.Structure,), {"_fields_": fields})
+    return made
+
+
+def layout(struct):
+    """Its size, and (name, offset, size) of each field."""
+    return ctypes.sizeof(struct), [(name, getattr(struct, name).offset, getattr(struct, name).size) for name, *_ in struct._fields_]
