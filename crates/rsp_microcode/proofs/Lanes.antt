@@ -1,64 +1,106 @@
--- The product in each lane, and the registers after it.
-use Rattle.std.proofs.Common.{◌≡◌, ℕ, ◌+◌, ◌*◌, ◌<◌, List, length, length-set, get_or, refl, ap, sym, ◌∙◌, arith, ℤ, pos, ◌+ℤ◌}
-use Rattle.std.proofs.Math.IntN.{+ℤ_idl, +ℤ_idr, zero-*ℤ}
-use Rattle.std.proofs.lemmas.List.{set-set, set_comm}
-use Rattle.rsp_numbers.specs.Numbers.{s16, s32, s48}
-use Rattle.rsp_lanes.specs.Lanes.{each_lane, selected, IsVector}
-use Rattle.rsp_lanes.proofs.Kit.{lane_of}
+-- LQV and SQV at aligned addresses.
+use Rattle.std.proofs.Common.{◌≡◌, ℕ, ◌+◌, ◌-◌, ◌*◌, ◌/◌, ◌%◌, ◌^◌, ◌<◌, min, List, [], ◌∷◌, length, get_or, take, true, nat_lt, nat_le, refl, ap, sym, ◌∙◌, arith}
+use Rattle.std.specs.Prelude.{if◌then◌else◌, ◌&&◌}
+use Rattle.std.proofs.lemmas.Bool.Decides.{nat_tests}
+use Rattle.rsp_memory.specs.Memory.{byte_at, bytes_at, half_at, with_bytes, with_byte, with_half}
+use Rattle.rsp_rows.specs.declared.vector.VectorLoadRow.TheVariants.{Lqv}
+use Rattle.rsp_rows.specs.declared.vector.VectorStoreRow.TheVariants.{Sqv}
+use Rattle.rsp_lanes.specs.Lanes.{register_byte}
+use Rattle.rsp_lanes.specs.Bytes.{each_byte, of_bytes, with_register_bytes}
+use Rattle.rsp_lanes.proofs.Kit.{each_same, eight}
+use Rattle.rsp_scalar.specs.Registers.{register}
+use Rattle.rsp_scalar.specs.Flow.{going_on}
 use Rattle.rsp_loadstore.specs.File.{vector, with_vector}
-use Rattle.rsp_acc.specs.Parts.{clamp_of}
-use Rattle.rsp_acc.specs.declared.parts.Clamp.TheVariants.{Signed, LowKind}
-use Rattle.rsp_multiply.specs.Rows.{unsigned_over_65536, signed_by_unsigned, unsigned_by_signed, signed_times_65536}
-use Rattle.rsp_microcode.specs.Product.{fixed, limited, fixed_product}
-use Rattle.rsp_microcode.proofs.Multiplies.{read_same, read_other}
-use Rattle.rsp_microcode.proofs.Whole.{sum, whole, in_range, clamped}
+use Rattle.rsp_loadstore.specs.Addresses.{transfer_address}
+use Rattle.rsp_loadstore.specs.Pairs.{for_each}
+use Rattle.rsp_loadstore.specs.Loads.{to_byte, after_load, load_pairs, loaded_file}
+use Rattle.rsp_loadstore.specs.Stores.{from_byte, after_store, store_pairs, stored_memory}
+use Rattle.rsp_loadstore.proofs.Placed.{placed_loaded, window_byte}
+use Rattle.rsp_loadstore.proofs.AtOnce.{run_stored}
+use Rattle.rsp_machine.specs.State.{State}
+use Rattle.rsp_machine.specs.Step.{executed, worked}
+use Rattle.rsp_machine.specs.Vector.{loads_vector, stores_vector}
+use Rattle.rsp_microcode.specs.Lanes.{lanes_at, with_halves, with_lanes, lqv, sqv, LoadsLanes, StoresLanes}
+use Rattle.rsp_microcode.proofs.Bytes.{lanes_ring, with_lanes_ring}
 
--- the registers that the rows wrote
-pub settled : (file : List (List ℕ)) (p q r high low : List ℕ)
-    → with_vector (with_vector (with_vector (with_vector (with_vector file 10 p) 10 q) 10 r) 9 high) 10 low ≡ with_vector (with_vector file 9 high) 10 low
-unfolding with_vector
-settled file p q r high low =
-    rw (set-set file 10 p q, set-set file 10 q r, set_comm file 10 9 r high (omega arith)) (set-set _ 10 r low)
+placed : (m v : List ℕ) (a k : ℕ) → k < 16 → (if nat_le 0 k && nat_lt k (0 + 16) then get_or (bytes_at m a 16) (k - 0) 0 else register_byte v k) ≡ byte_at m (a + k)
+placed m v a k h =
+    let e : k - 0 ≡ k = omega arith in
+    let w : get_or (bytes_at m a 16) k 0 ≡ byte_at m (a + k) = window_byte m a 16 k h in
+    grind (arith, nat_tests)
 
-pub read_high : (file : List (List ℕ)) (high low : List ℕ) → length file ≡ 32 → vector (with_vector (with_vector file 9 high) 10 low) 9 ≡ high
-read_high file high low n = read_other (with_vector file 9 high) 10 9 low (omega arith) ∙ read_same file 9 high (omega arith)
+whole_register : (m v : List ℕ) (a : ℕ) → with_register_bytes v (bytes_at m a 16) 0 16 ≡ lanes_at m a
+unfolding of_bytes lanes_at half_at
+whole_register m v a = each_same _ _ (λ i h.
+    let e : a + 2 * i + 1 ≡ a + (2 * i + 1) = omega arith in
+    rw (placed m v a (2 * i) (omega arith), placed m v a (2 * i + 1) (omega arith), e) refl)
 
-pub read_low : (file : List (List ℕ)) (high low : List ℕ) → length file ≡ 32 → vector (with_vector (with_vector file 9 high) 10 low) 10 ≡ low
-unfolding with_vector
-read_low file high low n = read_same (with_vector file 9 high) 10 low (omega (arith, length-set {A = List ℕ}))
+load_is : (m : List ℕ) (file : List (List ℕ)) (vt a : ℕ) → vt < length file → length (vector file vt) ≡ 8 → a % 16 ≡ 0
+    → after_load m file (load_pairs Lqv vt 0 a) ≡ with_vector file vt (lanes_at m a)
+unfolding load_pairs
+load_is m file vt a h l e =
+    let n : min (16 - a % 16) (16 - 0) ≡ min 16 (16 - 0) = omega arith in
+    ap (λ k. after_load m file (for_each k (λ k. to_byte vt (0 + k) (a + k)))) n
+    ∙ sym (placed_loaded m file vt 0 16 a h l (omega arith))
+    ∙ ap (with_vector file vt) (whole_register m (vector file vt) a)
 
-pub both_written : (file : List (List ℕ)) (high low v w : List ℕ) → v ≡ high → w ≡ low → with_vector (with_vector file 9 high) 10 low ≡ with_vector (with_vector file 9 v) 10 w
-both_written file high low v w e f = rw (e, f) refl
+-- the bytes of lanes, high ones first
+abbrev bytes_of : List ℕ → List ℕ
+bytes_of [] = []
+bytes_of (h ∷ hs) = h / 256 ∷ h % 256 ∷ bytes_of hs
 
--- the element 0 selects each lane for itself
-itself : (v : List ℕ) (i : ℕ) → i < 8 → get_or (selected v 0) i 0 ≡ get_or v i 0
-itself v i h = lane_of 0 (λ i. get_or v i 0) (selected v 0) refl i h
+by_halves : (hs m : List ℕ) (a : ℕ) → with_bytes m a (bytes_of hs) ≡ with_halves m a hs
+unfolding with_half
+by_halves [] m a = refl
+by_halves (h ∷ hs) m a =
+    let e : a + 1 + 1 ≡ a + 2 = omega arith in
+    ap (λ n. with_bytes (with_byte (with_byte m a (h / 256)) (a + 1) (h % 256)) n (bytes_of hs)) e ∙ by_halves hs (with_half m a h) (a + 2)
 
--- the addends so far, and the one of the last row, whose sources are 0
-abbrev so_far : List ℕ → List ℕ → List ℕ → List ℕ → ℕ → ℤ
-so_far a b c d i =
-    (((pos 0 +ℤ unsigned_over_65536 (get_or b i 0) (get_or (selected d 0) i 0)) +ℤ signed_by_unsigned (get_or a i 0) (get_or (selected d 0) i 0))
-    +ℤ unsigned_by_signed (get_or b i 0) (get_or (selected c 0) i 0)) +ℤ signed_times_65536 (get_or a i 0) (get_or (selected c 0) i 0)
+all_bytes : (v : List ℕ) → length v ≡ 8 → take 16 (each_byte (λ k. register_byte v ((0 + k) % 16))) ≡ bytes_of v
+unfolding each_byte register_byte
+all_bytes = eight (λ v. take 16 (each_byte (λ k. register_byte v ((0 + k) % 16))) ≡ bytes_of v) (λ a b c d e f g h. refl)
 
-abbrev last : List ℕ → ℕ → ℤ
-last z i = unsigned_by_signed (get_or z i 0) (get_or (selected z 0) i 0)
+store_is : (m : List ℕ) (file : List (List ℕ)) (vt a : ℕ) → length (vector file vt) ≡ 8 → a % 16 ≡ 0
+    → after_store file m (store_pairs Sqv vt 0 a) ≡ with_lanes m a (vector file vt)
+unfolding store_pairs with_lanes
+store_is m file vt a l e =
+    let n : 16 - a % 16 ≡ 16 = omega arith in
+    ap (λ k. after_store file m (for_each k (λ k. from_byte vt ((0 + k) % 16) (a + k)))) n
+    ∙ sym (run_stored file m vt 0 16 a (omega arith))
+    ∙ ap (with_bytes m a) (all_bytes (vector file vt) l)
+    ∙ by_halves (vector file vt) m a
 
-far_sum : (a b c d : List ℕ) (i : ℕ) → i < 8 → so_far a b c d i ≡ sum (get_or a i 0) (get_or b i 0) (get_or c i 0) (get_or d i 0)
-far_sum a b c d i h = rw (itself d i h, itself c i h, +ℤ_idl (unsigned_over_65536 (get_or b i 0) (get_or d i 0))) refl
+-- the address, but for multiples of 2^32
+load_address : (vt offset base value : ℕ) → offset < 64 → transfer_address (lqv vt offset base) value ≡ (value + 16 * offset) % 2 ^ 32
+unfolding transfer_address
+load_address vt offset base value h =
+    let e : nat_lt offset 64 ≡ true = grind (arith, nat_tests) in
+    rw e (omega arith)
 
-nothing : (z : List ℕ) (i : ℕ) → i < 8 → z ≡ each_lane (λ _. 0) → last z i ≡ pos 0
-nothing z i h e = rw (lane_of 0 (λ _. 0) z e i h) (zero-*ℤ (s16 (get_or (selected z 0) i 0)))
+store_address : (vt offset base value : ℕ) → offset < 64 → transfer_address (sqv vt offset base) value ≡ (value + 16 * offset) % 2 ^ 32
+unfolding transfer_address
+store_address vt offset base value h =
+    let e : nat_lt offset 64 ≡ true = grind (arith, nat_tests) in
+    rw e (omega arith)
 
-pub lane : (a b c d z high low : List ℕ) → IsVector a → IsVector b → IsVector c → IsVector d → z ≡ each_lane (λ _. 0)
-    → high ≡ each_lane (λ i. clamp_of Signed (s48 (so_far a b c d i)))
-    → low ≡ each_lane (λ i. clamp_of LowKind (s48 (so_far a b c d i +ℤ last z i)))
-    → (i : ℕ) → i < 8 → fixed high low i ≡ fixed_product (fixed a b i) (fixed c d i)
-lane a b c d z high low is_a is_b is_c is_d zero is_high is_low i h =
-    let s = sum (get_or a i 0) (get_or b i 0) (get_or c i 0) (get_or d i 0) in
-    let f : so_far a b c d i ≡ s = far_sum a b c d i h in
-    let g : s48 s ≡ s = in_range _ _ _ _ (is_a.1 i) (is_b.1 i) (is_c.1 i) (is_d.1 i) in
-    let top : get_or high i 0 ≡ clamp_of Signed s = lane_of 0 _ high is_high i h ∙ ap (λ x. clamp_of Signed (s48 x)) f ∙ ap (clamp_of Signed) g in
-    let same : so_far a b c d i +ℤ last z i ≡ s = ap (λ x. so_far a b c d i +ℤ x) (nothing z i h zero) ∙ +ℤ_idr _ ∙ f in
-    let bottom : get_or low i 0 ≡ clamp_of LowKind s = lane_of 0 _ low is_low i h ∙ ap (λ x. clamp_of LowKind (s48 x)) same ∙ ap (clamp_of LowKind) g in
-    ap (λ n. s32 (n * 65536 + get_or low i 0)) top ∙ ap (λ n. s32 (clamp_of Signed s * 65536 + n)) bottom
-    ∙ clamped s ∙ sym (ap limited (whole _ _ _ _ (is_a.1 i) (is_b.1 i) (is_c.1 i) (is_d.1 i)))
+pub loads_lanes : LoadsLanes
+unfolding executed worked loads_vector loaded_file
+loads_lanes vt offset base s is h o e =
+    let b = register s.registers base in
+    let a = transfer_address (lqv vt offset base) b in
+    let f : a ≡ (b + 16 * offset) % 2 ^ 32 = load_address vt offset base b o in
+    let loaded : after_load s.dmem s.vectors (load_pairs Lqv vt 0 a) ≡ with_vector s.vectors vt (lanes_at s.dmem (b + 16 * offset)) =
+    load_is s.dmem s.vectors vt a (omega (arith, is.count)) (is.registers vt h).0 (omega arith)
+    ∙ ap (with_vector s.vectors vt) (lanes_ring s.dmem a (b + 16 * offset) (omega arith)) in
+    ap (λ v. let t : State = record s { pc = s.npc; npc = going_on s.npc; vectors = v } in t) loaded
+
+pub stores_lanes : StoresLanes
+unfolding executed worked stores_vector stored_memory
+stores_lanes vt offset base s l o e =
+    let b = register s.registers base in
+    let a = transfer_address (sqv vt offset base) b in
+    let f : a ≡ (b + 16 * offset) % 2 ^ 32 = store_address vt offset base b o in
+    let stored : after_store s.vectors s.dmem (store_pairs Sqv vt 0 a) ≡ with_lanes s.dmem (b + 16 * offset) (vector s.vectors vt) =
+    store_is s.dmem s.vectors vt a l (omega arith)
+    ∙ with_lanes_ring s.dmem (vector s.vectors vt) a (b + 16 * offset) (omega arith) in
+    ap (λ m. let t : State = record s { pc = s.npc; npc = going_on s.npc; dmem = m } in t) stored

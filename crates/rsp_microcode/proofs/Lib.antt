@@ -1,6 +1,12 @@
 pub mod Runs
-pub mod Multiplies
-pub mod Whole
+pub mod Bytes
 pub mod Lanes
-pub mod Loop
-pub mod Counter
+pub mod Registers
+pub mod LoadRuns
+pub mod Multiplies
+pub mod FixedSums
+pub mod FixedLanes
+pub mod OneAdd
+pub mod Multiplying
+pub mod Transforms
+pub mod BufferSums

@@ -1,5 +1,5 @@
--- Runs of multiplies of which none reads what another wrote.
-use Rattle.std.proofs.Common.{◌≡◌, ◌≢◌, ℕ, List, [], ◌∷◌, length, map, refl, ap, sym, ◌∙◌, arith, true, not, nat_eq, ◌<◌, All, Some, ℤ}
+-- Sums of products.
+use Rattle.std.proofs.Common.{◌≡◌, ◌≢◌, ℕ, List, [], ◌∷◌, length, map, refl, ap, sym, ◌∙◌, arith, true, not, nat_eq, ◌<◌, All, ℤ}
 use Rattle.std.proofs.lemmas.Bool.{not-true, ltb-true}
 use Rattle.std.specs.List.{list_all}
 use Rattle.std.proofs.lemmas.Bool.{and_parts}
@@ -9,19 +9,17 @@ use Rattle.rsp_scalar.specs.Flow.{going_on}
 use Rattle.rsp_loadstore.specs.File.{vector, with_vector}
 use Rattle.rsp_multiply.specs.Laws.{Step, IsStep, SumsOfProducts, after, results, sum_of}
 use Rattle.rsp_multiply.specs.Rows.{clamped_by}
-use Rattle.rsp_machine.specs.State.{State, IsState}
+use Rattle.rsp_machine.specs.State.{State}
 use Rattle.rsp_machine.specs.Step.{executed, worked}
 use Rattle.rsp_machine.specs.Vector.{multiplies}
-use Rattle.rsp_microcode.specs.Runs.{IsAt, all_go_on, ran_through, place_after}
-use Rattle.rsp_microcode.proofs.Runs.{straight}
-use Rattle.rsp_machine.specs.Laws.{steps_of}
-use Rattle.rsp_decode.specs.Table.{inst_of}
+use Rattle.rsp_microcode.specs.Runs.{all_go_on, ran_through, place_after}
 use Rattle.rsp_multiply.specs.Rows.{row}
 use Rattle.rsp_numbers.specs.Numbers.{s48}
 use Rattle.rsp_lanes.specs.Lanes.{each_lane}
 use Rattle.std.proofs.lemmas.List.Elements.{All-nil, All-cons}
 use Rattle.rsp_loadstore.specs.File.{IsFile}
-use Rattle.rsp_microcode.specs.Multiplies.{Product, instruction, step_in, reads_other, independent, written, multiplied, adds, has_fields, is_sum, summed}
+use Rattle.rsp_microcode.specs.Reads.{Write}
+use Rattle.rsp_microcode.specs.Multiplies.{Term, instruction, step_in, reads_other, independent, written, multiplied, adds, has_fields, is_sum, summed, SumsOfMultiplies}
 
 -- a register that was written, and another one
 pub read_same : (file : List (List ℕ)) (n : ℕ) (v : List ℕ) → n < length file → vector (with_vector file n v) n ≡ v
@@ -35,18 +33,18 @@ read_other file n k v h = get_or-set_other file n k v [] h
 apart : (a b : ℕ) → not (nat_eq a b) ≡ true → b ≢ a
 apart a b h = grind (arith, nat_tests)
 
-same_step : (file : List (List ℕ)) (vd : ℕ) (v : List ℕ) (m : Product) → reads_other vd m ≡ true → step_in (with_vector file vd v) m ≡ step_in file m
+same_step : (file : List (List ℕ)) (vd : ℕ) (v : List ℕ) (m : Term) → reads_other vd m ≡ true → step_in (with_vector file vd v) m ≡ step_in file m
 same_step file vd v m h =
     let both = and_parts _ _ h in
     rw (read_other file vd m.fields.vs v (apart _ _ both.0), read_other file vd m.fields.vt v (apart _ _ both.1)) refl
 
-same_steps : (file : List (List ℕ)) (vd : ℕ) (v : List ℕ) (ms : List Product) → list_all (reads_other vd) ms ≡ true → map (step_in (with_vector file vd v)) ms ≡ map (step_in file) ms
+same_steps : (file : List (List ℕ)) (vd : ℕ) (v : List ℕ) (ms : List Term) → list_all (reads_other vd) ms ≡ true → map (step_in (with_vector file vd v)) ms ≡ map (step_in file) ms
 same_steps file vd v [] h = refl
 same_steps file vd v (m ∷ ms) h =
     let both = and_parts _ _ h in
     rw (same_step file vd v m both.0, same_steps file vd v ms both.1) refl
 
-abbrev with_steps : List Product → State → List Step → State
+abbrev with_steps : List Term → State → List Step → State
 with_steps ms s steps = record s {
   pc = place_after ms s.pc;
   npc = place_after ms s.npc;
@@ -54,14 +52,14 @@ with_steps ms s steps = record s {
   vectors = written ms (results steps s.accumulators) s.vectors;
 }
 
-pub run : (ms : List Product) (s : State) → independent ms ≡ true → s.npc ≡ going_on s.pc → ran_through (map instruction ms) s ≡ multiplied ms s
+pub run : (ms : List Term) (s : State) → independent ms ≡ true → s.npc ≡ going_on s.pc → ran_through (map instruction ms) s ≡ multiplied ms s
 unfolding executed worked multiplies
 run [] s h e = refl
 run (m ∷ ms) s h e =
     let both = and_parts _ _ h in
     let t = executed (instruction m) s in
     run ms t both.1 refl
-    ∙ ap (with_steps ms t) (same_steps s.vectors m.fields.vd (clamped_by m.name t.accumulators) ms both.0)
+    ∙ ap (with_steps ms t) (same_steps s.vectors m.fields.vd (clamped_by (step_in [] m).op t.accumulators) ms both.0)
     ∙ ap (λ (n : ℕ). let u : State = record s {
       pc = place_after ms n;
       npc = place_after (m ∷ ms) s.npc;
@@ -69,11 +67,11 @@ run (m ∷ ms) s h e =
       vectors = written (m ∷ ms) (results (map (step_in s.vectors) (m ∷ ms)) s.accumulators) s.vectors;
     } in u) e
 
-all_straight : (ms : List Product) → all_go_on (map instruction ms) ≡ true
+pub all_straight : (ms : List Term) → all_go_on (map instruction ms) ≡ true
 all_straight [] = refl
 all_straight (m ∷ ms) = all_straight ms
 
-step_fits : (file : List (List ℕ)) (m : Product) → IsFile file → has_fields m ≡ true → IsStep (step_in file m)
+step_fits : (file : List (List ℕ)) (m : Term) → IsFile file → has_fields m ≡ true → IsStep (step_in file m)
 step_fits file m is h =
     let two = and_parts _ _ h in
     let both = and_parts _ _ two.0 in
@@ -82,19 +80,19 @@ step_fits file m is h =
 abbrev Adds : Step → Type 0
 Adds s = (row s.op).adds ≡ true
 
-steps_fit : (file : List (List ℕ)) (ms : List Product) → IsFile file → list_all has_fields ms ≡ true → All IsStep (map (step_in file) ms)
+steps_fit : (file : List (List ℕ)) (ms : List Term) → IsFile file → list_all has_fields ms ≡ true → All IsStep (map (step_in file) ms)
 steps_fit file [] is h = All-nil IsStep
 steps_fit file (m ∷ ms) is h =
     let both = and_parts _ _ h in
     All-cons IsStep _ _ (step_fits file m is both.0) (steps_fit file ms is both.1)
 
-steps_add : (file : List (List ℕ)) (ms : List Product) → list_all adds ms ≡ true → All Adds (map (step_in file) ms)
+steps_add : (file : List (List ℕ)) (ms : List Term) → list_all adds ms ≡ true → All Adds (map (step_in file) ms)
 steps_add file [] h = All-nil Adds
 steps_add file (m ∷ ms) h =
     let both = and_parts _ _ h in
     All-cons Adds _ _ both.0 (steps_add file ms both.1)
 
-abbrev with_results : List Product → State → List ℤ → List (List ℕ) → State
+abbrev with_results : List Term → State → List ℤ → List (List ℕ) → State
 with_results ms s xs rs = record s {
   pc = place_after ms s.pc;
   npc = place_after ms s.npc;
@@ -102,7 +100,7 @@ with_results ms s xs rs = record s {
   vectors = written ms rs s.vectors;
 }
 
-sums_of_run : SumsOfProducts → (ms : List Product) (s : State) → IsFile s.vectors → is_sum ms ≡ true → multiplied ms s ≡ summed ms s
+sums_of_run : SumsOfProducts → (ms : List Term) (s : State) → IsFile s.vectors → is_sum ms ≡ true → multiplied ms s ≡ summed ms s
 sums_of_run law [] s is h = cc
 sums_of_run law (m ∷ ms) s is h =
     let two = and_parts _ _ h in
@@ -112,16 +110,20 @@ sums_of_run law (m ∷ ms) s is h =
     ap (λ xs. with_results (m ∷ ms) s xs (results (map (step_in s.vectors) (m ∷ ms)) s.accumulators)) r.0
     ∙ ap (with_results (m ∷ ms) s (each_lane (λ i. s48 (sum_of (map (step_in s.vectors) (m ∷ ms)) i)))) r.1
 
-pub sums : SumsOfProducts → (words : List ℕ) (ms : List Product) (s : State) → IsState s → IsAt words s
-    → map inst_of words ≡ map Some (map instruction ms) → independent ms ≡ true → is_sum ms ≡ true
-    → steps_of (length words) s ≡ summed ms s
-sums law words ms s is at e h k = straight words (map instruction ms) s e (all_straight ms) at ∙ run ms s h at.next ∙ sums_of_run law ms s is.vectors k
+pub sums : SumsOfProducts → SumsOfMultiplies
+sums law ms s is next h k = run ms s h next ∙ sums_of_run law ms s is k
 
 -- what stays as it was
-abbrev pub elsewhere : List Product → State → List ℤ → List (List ℕ) → State
+abbrev pub elsewhere : List Term → State → List ℤ → List (List ℕ) → State
 elsewhere ms s xs file = record s { pc = place_after ms s.pc; npc = place_after ms s.npc; accumulators = xs; vectors = file }
 
-pub changed : (ms : List Product) (s t : State) → t ≡ summed ms s → t ≡ elsewhere ms s t.accumulators t.vectors
+pub changed : (ms : List Term) (s t : State) → t ≡ summed ms s → t ≡ elsewhere ms s t.accumulators t.vectors
 changed ms s t e =
     e ∙ ap (λ xs. elsewhere ms s xs (summed ms s).vectors) (sym (ap (λ (x : State). x.accumulators) e))
     ∙ ap (elsewhere ms s t.accumulators) (sym (ap (λ (x : State). x.vectors) e))
+
+-- the results as writes of registers
+abbrev pub writes : List Term → List (List ℕ) → List (Write (List ℕ))
+writes [] rs = []
+writes (m ∷ ms) [] = []
+writes (m ∷ ms) (r ∷ rs) = (m.fields.vd, r) ∷ writes ms rs

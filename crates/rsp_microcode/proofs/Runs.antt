@@ -1,5 +1,5 @@
 -- Steps over straight microcode.
-use Rattle.std.proofs.Common.{◌≡◌, ℕ, zero, suc, ◌+◌, List, [], ◌∷◌, length, map, refl, ap, sym, ◌∙◌, arith, Bool, true, false, Option, Some, ◌||◌}
+use Rattle.std.proofs.Common.{◌≡◌, ℕ, zero, suc, ◌+◌, List, [], ◌∷◌, length, map, ◌++◌, ◌<◌, ◌*◌, subst, refl, ap, sym, ◌∙◌, arith, Bool, true, false, Option, Some, ◌||◌}
 use Rattle.std.specs.Prelude.{if◌then◌else◌}
 use Rattle.std.proofs.lemmas.Bool.{and_parts}
 use Rattle.rsp_decode.specs.declared.inst.Inst.{Inst}
@@ -11,11 +11,11 @@ use Rattle.rsp_scalar.specs.Flow.{going_on}
 use Rattle.rsp_regs.specs.Sp.{Sp, after_step}
 use Rattle.rsp_machine.specs.State.{State}
 use Rattle.rsp_machine.specs.Vector.{multiplies, rounds, multiplies_mpeg, reads_accumulator, ruled, divides, loads_vector, stores_vector, moves_vector, moves_control}
-use Rattle.rsp_machine.specs.Step.{step_of, step_by, singled, executed, worked, computes, loads, stores}
+use Rattle.rsp_machine.specs.Step.{step_of, step_by, singled, executed, worked, computes, loads, stores, jumps}
 use Rattle.rsp_machine.specs.Laws.{steps_of}
 use Rattle.rsp_machine.specs.declared.step.StepEnd.{StepEnd}
 use Rattle.rsp_machine.specs.declared.step.StepEnd.TheVariants.{Done, Halted}
-use Rattle.rsp_microcode.specs.Runs.{goes_on, all_go_on, Stand, IsAt, ran_through, StepsOver}
+use Rattle.rsp_microcode.specs.Runs.{goes_on, branches, all_go_on, Stand, IsAt, ran_through, StepsOver, StraightRuns, BranchRuns, RoundsRun}
 
 -- what a row that goes on leaves
 record Goes (s t : State) : Type 0 where
@@ -75,21 +75,85 @@ steps-first (suc n) s = ap (λ (x : State). (step_of x).1) (steps-first n s)
 still : (ws : List ℕ) (a b : ℕ) (m n : List ℕ) → a ≡ b → m ≡ n → Stand ws a m → Stand ws b n
 still ws a b m n p q h = rw (← p, ← q) h
 
-pub straight : (words : List ℕ) (code : List Inst) (s : State) → map inst_of words ≡ map Some code → all_go_on code ≡ true → IsAt words s → steps_of (length words) s ≡ ran_through code s
+-- the words behind a row that goes on are at pc after it
+behind : (i : Inst) (s : State) (w : ℕ) (ws : List ℕ) → Goes s (executed i s) → IsAt (w ∷ ws) s → IsAt ws (executed i s)
+behind i s w ws kept at = record {
+  goes = ap (λ (p : Sp). p.halted) kept.sp ∙ at.goes;
+  runs = ap (λ (p : Sp). p.single_step) kept.sp ∙ at.runs;
+  next = kept.npc ∙ ap going_on (sym kept.pc);
+  stand = still ws _ _ _ _ (sym at.next ∙ sym kept.pc) (sym kept.imem) at.stand.1;
+}
+
+-- the first of some steps, over a row that goes on
+first_step : (n : ℕ) (i : Inst) (s : State) (w : ℕ) (ws : List ℕ) → inst_of w ≡ Some i → goes_on i ≡ true → IsAt (w ∷ ws) s → steps_of (suc n) s ≡ steps_of n (executed i s)
+first_step n i s w ws e g at =
+    steps-first n s ∙ ap (λ (x : StepEnd × State). steps_of n x.1) (step_is i s at.goes at.runs (ap inst_of at.stand.0 ∙ e) g)
+
+pub straight : StraightRuns
 unfolding steps_of
 straight [] [] s e g at = refl
 straight [] (i ∷ is) s e g at = cc
 straight (w ∷ ws) [] s e g at = cc
 straight (w ∷ ws) (i ∷ is) s e g at =
-    let parts = and_parts _ _ g in
-    let kept = gone i s parts.0 in
+    let parts = and_parts (goes_on i) (all_go_on is) g in
     let first : inst_of w ≡ Some i = cc in
     let more : map inst_of ws ≡ map Some is = cc in
-    let one : step_of s ≡ (Done, executed i s) = step_is i s at.goes at.runs (ap inst_of at.stand.0 ∙ first) parts.0 in
-    steps-first (length ws) s ∙ ap (λ (x : StepEnd × State). steps_of (length ws) x.1) one
-    ∙ straight ws is (executed i s) more parts.1 record {
-      goes = ap (λ (p : Sp). p.halted) kept.sp ∙ at.goes;
-      runs = ap (λ (p : Sp). p.single_step) kept.sp ∙ at.runs;
-      next = kept.npc ∙ ap going_on (sym kept.pc);
-      stand = still ws _ _ _ _ (sym at.next ∙ sym kept.pc) (sym kept.imem) at.stand.1;
-    }
+    first_step (length ws) i s w ws first parts.0 at ∙ straight ws is (executed i s) more parts.1 (behind i s w ws (gone i s parts.0) at)
+
+-- what a branch or a jump leaves
+record Turns (s t : State) : Type 0 where
+  pc : t.pc ≡ s.npc
+  imem : t.imem ≡ s.imem
+  sp : t.sp ≡ s.sp
+
+turned : (i : Inst) (s : State) → branches i ≡ true → Turns s (executed i s)
+unfolding executed worked jumps
+turned (JumpRegister rs) s h = record { pc = refl; imem = refl; sp = refl }
+turned (JumpLinkRegister rd rs) s h = record { pc = refl; imem = refl; sp = refl }
+turned (BranchSign row rs offset) s h = record { pc = refl; imem = refl; sp = refl }
+turned (BranchEqual row rs rt offset) s h = record { pc = refl; imem = refl; sp = refl }
+turned (Jump row target) s h = record { pc = refl; imem = refl; sp = refl }
+turned _ s h = cc
+
+branch_and_slot : (w v : ℕ) (b d : Inst) (s : State) → inst_of w ≡ Some b → inst_of v ≡ Some d → branches b ≡ true → goes_on d ≡ true → IsAt (w ∷ v ∷ []) s
+    → steps_of 2 s ≡ executed d (executed b s)
+unfolding steps_of
+branch_and_slot w v b d s e f h k at =
+    let kept = turned b s h in
+    let t = executed b s in
+    let runs : t.sp.single_step ≡ false = ap (λ (p : Sp). p.single_step) kept.sp ∙ at.runs in
+    let goes : t.sp.halted ≡ false = ap (λ (p : Sp). p.halted) kept.sp ∙ at.goes in
+    let slot = still (v ∷ []) _ _ _ _ (sym at.next ∙ sym kept.pc) (sym kept.imem) at.stand.1 in
+    ap (λ (x : StepEnd × State). (step_of x.1).1) (over b s at.goes (ap inst_of at.stand.0 ∙ e) runs)
+    ∙ ap (λ (x : StepEnd × State). x.1) (step_is d t goes runs (ap inst_of slot.0 ∙ f) k)
+
+pub with_branch : BranchRuns
+with_branch (w ∷ v ∷ []) [] b d s e g h k at = let e1 : inst_of w ≡ Some b = cc in let e2 : inst_of v ≡ Some d = cc in branch_and_slot w v b d s e1 e2 h k at
+with_branch [] [] b d s e g h k at = cc
+with_branch (w ∷ []) [] b d s e g h k at = cc
+with_branch (w ∷ v ∷ u ∷ ws) [] b d s e g h k at = cc
+with_branch [] (i ∷ is) b d s e g h k at = cc
+with_branch (w ∷ ws) (i ∷ is) b d s e g h k at =
+    let parts = and_parts (goes_on i) (all_go_on is) g in
+    let first : inst_of w ≡ Some i = cc in
+    let more : map inst_of ws ≡ map Some (is ++ b ∷ d ∷ []) = cc in
+    first_step (length ws) i s w ws first parts.0 at ∙ with_branch ws is b d (executed i s) more parts.1 h k (behind i s w ws (gone i s parts.0) at)
+
+-- what holds before the first round, and is handed on by each, holds after them
+pub rounds_kept : (size n : ℕ) (Holds : ℕ → State → Type 0) (s : State) → Holds 0 s → ((k : ℕ) (t : State) → k < n → Holds k t → Holds (k + 1) (steps_of size t)) → Holds n (steps_of (n * size) s)
+unfolding steps_of
+rounds_kept size zero Holds s base more = let e : 0 ≡ 0 * size = omega arith in subst (λ n. Holds 0 (steps_of n s)) e base
+rounds_kept size (suc k) Holds s base more =
+    let count : suc k * size ≡ size + k * size = omega arith in
+    let all : steps_of (suc k * size) s ≡ steps_of size (steps_of (k * size) s) = ap (λ n. steps_of n s) count ∙ steps-plus size (k * size) s in
+    let e : k + 1 ≡ suc k = omega arith in
+    let last : Holds (k + 1) (steps_of size (steps_of (k * size) s)) = more k _ (omega arith) (rounds_kept size k Holds s base (λ j t h. more j t (omega arith))) in
+    subst (λ n. Holds n (steps_of (suc k * size) s)) e (subst (Holds (k + 1)) (sym all) last)
+
+pub all_rounds : RoundsRun
+all_rounds size n states each = rounds_kept size n (λ k t. t ≡ states k) (states 0) refl (λ k t h e. ap (steps_of size) e ∙ each k h)
+
+-- runs, one behind the other
+pub ran_on : (a b : List Inst) (s : State) → ran_through (a ++ b) s ≡ ran_through b (ran_through a s)
+ran_on [] b s = refl
+ran_on (i ∷ is) b s = ran_on is b (executed i s)

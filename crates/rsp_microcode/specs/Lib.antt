@@ -1,7 +1,11 @@
--- Straight runs of microcode, and the product of fixed-point numbers.
+-- Laws of runs of microcode, and theorems about some.
 pub mod Runs
+pub mod Lanes
+pub mod Reads
+pub mod Loads
 pub mod Multiplies
-pub mod Product
-pub mod Source
-pub mod Loop
-pub mod Counter
+pub mod Text
+pub mod OneAdd
+pub mod FixedProduct
+pub mod Transform
+pub mod BufferSum

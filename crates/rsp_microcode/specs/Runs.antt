@@ -1,5 +1,5 @@
--- Straight microcode: rows that only go on, one after the other.
-use Rattle.std.specs.Prelude.{ℕ, ◌≡◌, Bool, true, false, ◌&&◌, List, [], ◌∷◌, length, map, Some}
+-- Runs of microcode: what stands at pc, straight code, code that ends with a branch and its slot, and rounds of a loop.
+use Rattle.std.specs.Prelude.{ℕ, ◌≡◌, ◌<◌, ◌+◌, ◌*◌, Bool, true, false, ◌&&◌, List, [], ◌∷◌, ◌++◌, length, map, Some}
 use Rattle.rsp_decode.specs.declared.inst.Inst.{Inst}
 use Rattle.rsp_decode.specs.declared.inst.Inst.TheVariants.{JumpRegister, JumpLinkRegister, Break, BranchSign, BranchEqual, Jump, MoveSp}
 use Rattle.rsp_decode.specs.Table.{inst_of}
@@ -52,8 +52,31 @@ abbrev pub place_after : {X : Type 0} → List X → ℕ → ℕ
 place_after [] place = place
 place_after (x ∷ xs) place = place_after xs (going_on place)
 
+-- whether a row is a branch or a jump
+abbrev pub branches : Inst → Bool
+branches (JumpRegister rs) = true
+branches (JumpLinkRegister rd rs) = true
+branches (BranchSign row rs offset) = true
+branches (BranchEqual row rs rt offset) = true
+branches (Jump row target) = true
+branches _ = false
+
 -- steps over words that mean straight instructions come to the state after those instructions
 abbrev pub StraightRuns : Type 0
 StraightRuns = (words : List ℕ) (code : List Inst) (s : State)
     → map inst_of words ≡ map Some code → all_go_on code ≡ true → IsAt words s
     → steps_of (length words) s ≡ ran_through code s
+
+-- Steps over straight code, a branch or jump, and the row in its slot come to the state after all of them. Where the branch
+-- is taken, pc is then its target (`following`), since the branch wrote npc and the slot's row went on to it.
+abbrev pub BranchRuns : Type 0
+BranchRuns = (words : List ℕ) (front : List Inst) (branch slot : Inst) (s : State)
+    → map inst_of words ≡ map Some (front ++ branch ∷ slot ∷ []) → all_go_on front ≡ true → branches branch ≡ true → goes_on slot ≡ true
+    → IsAt words s
+    → steps_of (length words) s ≡ executed slot (executed branch (ran_through front s))
+
+-- A loop of n rounds of so many steps each: where each comes from one of these states to the next, all of them come from the
+-- first to the last.
+abbrev pub RoundsRun : Type 0
+RoundsRun = (size n : ℕ) (states : ℕ → State) → ((k : ℕ) → k < n → steps_of size (states k) ≡ states (k + 1))
+    → steps_of (n * size) (states 0) ≡ states n

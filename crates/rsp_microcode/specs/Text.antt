@@ -1,0 +1,11 @@
+-- Source texts.
+use Rattle.std.specs.Prelude.{ℕ, ◌≡◌, ◌++◌, List, [], ◌∷◌, Ok}
+use Rattle.rsp_text.specs.Means.{means}
+
+-- a line of a text
+abbrev pub line : List ℕ → List ℕ
+line text = text ++ 10 ∷ []
+
+-- a text, assembled at 0, means these words
+abbrev pub Assembles : List ℕ → List ℕ → Type 0
+Assembles text words = means text 0 ≡ Ok words
