@@ -11,7 +11,7 @@ use Rattle.rsp_microcode.specs.Lanes.{lanes_at, with_lanes, IsOutside}
 abbrev pub Write : Type 0 → Type 0
 Write X = ℕ × X
 
--- all of them are to registers below 32, and none to register `kept`
+-- all of them are to registers below 32
 abbrev pub are_registers : {X : Type 0} → List (Write X) → Bool
 are_registers ws = list_all (λ w. nat_lt w.0 32) ws
 

@@ -46,7 +46,8 @@ abbrev pub coordinate_at : List ℕ → ℕ → ℕ → ℕ → ℤ
 coordinate_at memory a i k = s16 (slice_index (lanes_at memory a) (i - i % 4 + k))
 
 -- Row i of a matrix times its vector: the sum of the four products, as the accumulator keeps it (modulo 2^48, with its sign),
--- limited to 32 signed bits. Nothing is rounded, since the coordinates are whole numbers.
+-- limited to 32 signed bits. Nothing is rounded, since the coordinates are whole numbers. The sum wraps only where it reaches
+-- 2^47, which is 2^31 as a number: 65536 times the limit.
 abbrev pub transformed : List ℕ → ℕ → ℕ → ℕ → ℤ
 transformed memory matrix vector i =
     limited (s48 (((matrix_at memory matrix i 0 *ℤ coordinate_at memory vector i 0
