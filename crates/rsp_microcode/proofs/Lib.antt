@@ -10,3 +10,4 @@ pub mod OneAdd
 pub mod Multiplying
 pub mod Transforms
 pub mod BufferSums
+pub mod NewtonStep

@@ -9,3 +9,4 @@ pub mod OneAdd
 pub mod FixedProduct
 pub mod Transform
 pub mod BufferSum
+pub mod Newton

@@ -6,12 +6,14 @@
 
 mod adding;
 pub mod laws;
+mod newton;
 mod one_add;
 mod product;
 mod running;
 mod transforming;
 
 pub use adding::add_buffers;
+pub use newton::improve_reciprocal;
 pub use one_add::add_lanes;
 pub use product::multiply_fixed;
 pub use running::{multiply, ready};
