@@ -12,8 +12,8 @@ use Rattle.rsp_numbers.proofs.Signed.{s32_small, s32_large}
 use Rattle.rsp_numbers.proofs.Wrap.{s48_is}
 use Rattle.rsp_decode.specs.declared.inst.Inst.{Inst}
 use Rattle.rsp_decode.specs.declared.inst.Inst.TheVariants.{Divide}
-use Rattle.rsp_decode.specs.declared.inst.DivideRow.TheVariants.{Vrcph, Vrcpl}
-use Rattle.rsp_decode.specs.declared.inst.MultiplyRow.TheVariants.{Vmudl, Vmudh, Vmadm, Vmadn, Vmadh}
+use Rattle.rsp_rows.specs.declared.vector.DivideRow.TheVariants.{Vrcph, Vrcpl}
+use Rattle.rsp_rows.specs.declared.vector.MultiplyRow.TheVariants.{Vmudl, Vmudh, Vmadm, Vmadn, Vmadh}
 use Rattle.rsp_decode.specs.Table.Words.{inst_of, row_of}
 use Rattle.rsp_lanes.specs.Lanes.{each_lane, selected, IsVector}
 use Rattle.rsp_lanes.proofs.Kit.{lane_of}
@@ -25,7 +25,7 @@ use Rattle.rsp_divide.specs.Rows.{lane_written, divider_after, lows_written}
 use Rattle.rsp_divide.specs.Quotients.{reciprocal_of, reciprocal_bits, nine_bits, zeros}
 use Rattle.rsp_divide.specs.Entries.{reciprocal_entry}
 use Rattle.std.proofs.Math.Nat.{div-le_self}
-use Rattle.rsp_multiply.specs.Rows.{middle_right, upper}
+use Rattle.rsp_multiply.specs.Rows.{unsigned_by_signed, signed_times_65536}
 use Rattle.rsp_multiply.specs.Laws.{clamped_sums}
 use Rattle.rsp_scalar.specs.Flow.{going_on}
 use Rattle.rsp_loadstore.specs.File.{IsFile, vector, with_vector}
@@ -172,8 +172,8 @@ s32_range n h = elim (cases_lt n (2 ^ 31)) [
 -- two less twice a number
 abbrev rest_so_far : List ℕ → List ℕ → List ℕ → ℕ → ℤ
 rest_so_far k h l i =
-    ((pos 0 +ℤ upper (get_or k i 0) (get_or (selected k 9) i 0)) +ℤ middle_right (get_or l i 0) (get_or (selected k 10) i 0))
-    +ℤ upper (get_or h i 0) (get_or (selected k 10) i 0)
+    ((pos 0 +ℤ signed_times_65536 (get_or k i 0) (get_or (selected k 9) i 0)) +ℤ unsigned_by_signed (get_or l i 0) (get_or (selected k 10) i 0))
+    +ℤ signed_times_65536 (get_or h i 0) (get_or (selected k 10) i 0)
 
 rest_is : (k h l : List ℕ) → HasConstants k → IsVector h → IsVector l → rest_so_far k h l 0 ≡ pos 131072 -ℤ pos 2 *ℤ fixed h l 0
 rest_is k h l const is_h is_l =
