@@ -10,7 +10,8 @@ loop-i-init c = (lines-none c.args.imem.now c.args.place 0 [] refl, refl)
 
 pub loop-i-preserved : goal.loop-i-preserved
 loop-i-preserved c =
-    let at = c.args.place + 4 * c.loop-i.i in
-    (lines-more c.args.imem.now c.args.place c.loop-i.i c.loop-i.lines c.line_of.result (omega (arith, c.loop-i.invariant.1)) c.loop-i.invariant.0
-      (c.line_of.ensures ∙ ap (λ w. seen_line w at) (c.word.ensures ∙ ap (λ a. word_at c.args.imem.now a) c.from.ensures)),
-    length-set c.loop-i.lines c.loop-i.i c.line_of.result ∙ c.loop-i.invariant.1)
+    let at = c.args.place + 4 * c.loop-i.i in (
+      lines-more c.args.imem.now c.args.place c.loop-i.i c.loop-i.lines c.line_of.result (omega (arith, c.loop-i.invariant.1)) c.loop-i.invariant.0
+          (c.line_of.ensures ∙ ap (λ w. seen_line w at) (c.word.ensures ∙ ap (λ a. word_at c.args.imem.now a) c.from.ensures)),
+      length-set c.loop-i.lines c.loop-i.i c.line_of.result ∙ c.loop-i.invariant.1,
+    )
