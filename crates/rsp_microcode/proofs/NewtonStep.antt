@@ -1,7 +1,8 @@
 -- A step of Newton's method.
 use Rattle.std.proofs.Common.{◌≡◌, ◌≢◌, ℕ, ◌+◌, ◌*◌, ◌/◌, ◌%◌, ◌^◌, ◌<◌, ◌≤◌, ℤ, pos, negsuc, ◌+ℤ◌, ◌*ℤ◌, List, [], ◌∷◌, ◌++◌, length, length-set, get_or, set, map, Some, true, refl, ap, sym, subst, ◌∙◌, ◌-◌, arith, inl, inr, nat_lt}
-use Rattle.std.specs.Prelude.{◌≤ℤ◌, ◌<ℤ◌, ◌-ℤ◌, Bool, false, if◌then◌else◌, ◌==◌, int_lt}
+use Rattle.std.specs.Prelude.{◌≤ℤ◌, ◌<ℤ◌, ◌-ℤ◌, Bool, false, if◌then◌else◌, ◌==◌, int_lt, unsigned_abs}
 use Rattle.std.specs.List.{list_all}
+use Rattle.std.specs.Ordering.{int_eq}
 use Rattle.std.proofs.lemmas.Int.{ints}
 use Rattle.std.proofs.lemmas.Bool.{cases_eq, cases_lt, and_parts, ltb-true}
 use Rattle.std.proofs.lemmas.Bool.Decides.{nat_tests}
@@ -21,8 +22,8 @@ use Rattle.rsp_lanes.proofs.Products.{high_vector}
 use Rattle.rsp_acc.specs.Parts.{clamp_of}
 use Rattle.rsp_acc.specs.declared.parts.Clamp.{Clamp}
 use Rattle.rsp_acc.specs.declared.parts.Clamp.TheVariants.{Signed, Unsigned, LowKind}
-use Rattle.rsp_divide.specs.Rows.{lane_written, divider_after, lows_written}
-use Rattle.rsp_divide.specs.Quotients.{reciprocal_of, reciprocal_bits, nine_bits, zeros}
+use Rattle.rsp_divide.specs.Rows.{lane_written, divider_after}
+use Rattle.rsp_divide.specs.Quotients.{reciprocal_of, reciprocal_bits, nine_bits, zeros, size_of}
 use Rattle.rsp_divide.specs.Entries.{reciprocal_entry}
 use Rattle.std.proofs.Math.Nat.{div-le_self}
 use Rattle.rsp_multiply.specs.Rows.{unsigned_by_signed, signed_times_65536}
@@ -156,12 +157,17 @@ one_is : (b : Bool) (x y : ℤ) → Is32 x → Is32 y → Is32 (if b then x else
 one_is true x y h k = h
 one_is false x y h k = k
 
+minus_is : (n : ℕ) → n < 2 ^ 31 → Is32 (negsuc 0 -ℤ pos n)
+minus_is n h = (omega (arith, ints), omega (arith, ints))
+
 quotient_range : (x : ℤ) → Is32 (reciprocal_of x)
-quotient_range (pos n) = one_is (n == 0) (pos 2147483647) (pos (reciprocal_bits n)) (pos_is 2147483647 (omega arith)) (pos_is (reciprocal_bits n) (bits_small n))
-quotient_range (negsuc n) =
-    one_is (nat_lt n 32767) (negsuc (reciprocal_bits (n + 1))) (if n == 32767 then negsuc 65535 else negsuc (reciprocal_bits n))
-        (neg_is (reciprocal_bits (n + 1)) (bits_small (n + 1)))
-        (one_is (n == 32767) (negsuc 65535) (negsuc (reciprocal_bits n)) (neg_is 65535 (omega arith)) (neg_is (reciprocal_bits n) (bits_small n)))
+quotient_range x =
+    let above = pos (reciprocal_bits (unsigned_abs x)) in
+    let below = negsuc 0 -ℤ pos (reciprocal_bits (size_of x)) in
+    let signed = if int_lt x (pos 0) then below else above in
+    one_is (int_eq x (pos 0)) (pos 2147483647) (if int_eq x (negsuc 32767) then negsuc 65535 else signed) (pos_is 2147483647 (omega arith))
+        (one_is (int_eq x (negsuc 32767)) (negsuc 65535) signed (neg_is 65535 (omega arith))
+        (one_is (int_lt x (pos 0)) below above (minus_is (reciprocal_bits (size_of x)) (bits_small (size_of x))) (pos_is (reciprocal_bits (unsigned_abs x)) (bits_small (unsigned_abs x)))))
 
 s32_range : (n : ℕ) → n < 2 ^ 32 → (negsuc (2 ^ 31 - 1) ≤ℤ s32 n) × (s32 n <ℤ pos (2 ^ 31))
 s32_range n h = elim (cases_lt n (2 ^ 31)) [
