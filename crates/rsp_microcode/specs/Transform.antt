@@ -65,7 +65,7 @@ pub record Transforms (words : List ℕ) (s t : State) (matrix vectors result : 
   pub product : (i : ℕ) → i < 8 → fixed (lanes_at t.dmem result) (lanes_at t.dmem (result + 16)) i ≡ transformed s.dmem matrix vectors i
   -- no other byte of DMEM changed
   pub outside : (x : ℕ) → IsOutside result 32 x → byte_at t.dmem x ≡ byte_at s.dmem x
-  -- vector register 0, and those from 12 on, are as they were
+  -- the vector registers from 12 on are as they were
   pub registers : (n : ℕ) → 11 < n → vector t.vectors n ≡ vector s.vectors n
   -- nor did anything else change, but the accumulators, pc and npc
   pub others : t ≡ record s {
