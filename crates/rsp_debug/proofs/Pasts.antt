@@ -1,5 +1,5 @@
 -- Records stand for states.
-use Rattle.std.proofs.Common.{◌≡◌, ℕ, zero, suc, ◌+◌, ◌-◌, ◌<◌, ◌≤◌, Bool, true, false, List, [], ◌∷◌, length, take, drop, refl, sym, ◌∙◌, ap, arith, add-one, get_or, set, min, Option, Some, None}
+use Rattle.std.proofs.Common.{◌≡◌, ℕ, zero, suc, ◌+◌, ◌-◌, ◌<◌, ◌≤◌, Bool, true, false, not, List, [], ◌∷◌, length, take, drop, refl, sym, ◌∙◌, ap, arith, add-one, get_or, set, min, Option, Some, None}
 use Rattle.std.specs.Prelude.{slice_get, slice_index_or}
 use Rattle.std.proofs.lemmas.Option.{none-some}
 use Rattle.std.proofs.Math.Seq.{drop-cons}
@@ -9,9 +9,10 @@ use Rattle.rsp_machine.specs.Step.{step_of}
 use Rattle.rsp_machine.specs.Saved.{Saved, undone, can_undo, slot_after}
 use Rattle.rsp_machine.specs.declared.step.StepEnd.TheVariants.{Done, Halted, Reserved}
 use Rattle.rsp_machine.proofs.Kept.{halted_stays, reserved_stays}
-use Rattle.rsp_debug.specs.Places.{next_place, from_place}
+use Rattle.rsp_machine.proofs.Ending.{step_halted}
+use Rattle.rsp_debug.specs.Places.{next_place, previous_place, from_place}
 use Rattle.rsp_debug.specs.Past.{states_before, past_by, past_after}
-use Rattle.rsp_debug.proofs.Turns.{grown, popped, first_is, kept_member}
+use Rattle.rsp_debug.proofs.Turns.{grown, pushed, popped, first_is, kept_member}
 
 pub states_before-take : (s : State) (n : ℕ) (rs : List Saved) → states_before s (take n rs) ≡ take n (states_before s rs)
 states_before-take s zero rs = refl
@@ -22,18 +23,21 @@ pub length-states_before : (s : State) (rs : List Saved) → length (states_befo
 length-states_before s [] = refl
 length-states_before s (r ∷ rs) = ap suc (length-states_before (undone r s) rs)
 
--- a step that can be undone
+-- a step that can be undone, by the record x of it
+led : (s t : State) (rs : List Saved) (n : ℕ) (x : Saved) → (step_of s).0 ≡ Done → can_undo s ≡ true → undone x t ≡ s
+    → states_before t (take n (x ∷ rs)) ≡ past_after n s (states_before s rs)
+unfolding past_after
+led s t rs n x d u e =
+    states_before-take t n (x ∷ rs)
+    ∙ ap (λ z. take n (z ∷ states_before z rs)) e
+    ∙ sym (ap (λ b. past_by Done b n s (states_before s rs)) u)
+    ∙ sym (ap (λ b. past_by b (can_undo s) n s (states_before s rs)) d)
+
 pub past_done : (s t : State) (xs : List Saved) (i count n : ℕ) (x : Saved) → 0 < i → i ≤ length xs → n ≤ length xs
     → (step_of s).0 ≡ Done → can_undo s ≡ true → undone x t ≡ s
     → states_before t (from_place (i - 1) (min (count + 1) n) (set xs (i - 1) x))
     ≡ past_after n s (states_before s (from_place i count xs))
-unfolding past_after
-past_done s t xs i count n x h l c d u e =
-    ap (states_before t) (grown xs i count n x h l c)
-    ∙ states_before-take t n (x ∷ from_place i count xs)
-    ∙ ap (λ z. take n (z ∷ states_before z (from_place i count xs))) e
-    ∙ sym (ap (λ b. past_by Done b n s (states_before s (from_place i count xs))) u)
-    ∙ sym (ap (λ b. past_by b (can_undo s) n s (states_before s (from_place i count xs))) d)
+past_done s t xs i count n x h l c d u e = ap (states_before t) (grown xs i count n x h l c) ∙ led s t (from_place i count xs) n x d u e
 
 -- a step that started a DMA
 pub past_gone : (s : State) (past : List State) (n : ℕ) → (step_of s).0 ≡ Done → can_undo s ≡ false → [] ≡ past_after n s past
@@ -57,6 +61,33 @@ past_reserved s xs p i n count w x e d =
     rw (k.0, k.1, kept_member xs p x e, d) refl
 
 pub ruleset pasts = (past_done, past_gone, past_halted, past_reserved)
+
+-- the same by the places of a ring
+pub past_one : (s t : State) (xs : List Saved) (i p count more n : ℕ) (x : Saved) → i < length xs → n ≤ length xs → p ≡ previous_place (length xs) i
+    → more ≡ min (count + 1) n → (step_of s).0 ≡ Done → can_undo s ≡ true → undone x t ≡ s
+    → states_before t (from_place p more (set xs p x)) ≡ past_after n s (states_before s (from_place i count xs))
+past_one s t xs i p count more n x h c there up d u e =
+    ap (λ q. states_before t (from_place q more (set xs q x))) there
+    ∙ ap (λ k. states_before t (from_place (previous_place (length xs) i) k (set xs (previous_place (length xs) i) x))) up
+    ∙ ap (states_before t) (pushed xs i count n x h c)
+    ∙ led s t (from_place i count xs) n x d u e
+
+pub leads_back : (b : Bool) → not b ≡ false → b ≡ true
+leads_back true e = refl
+leads_back false e = cc
+
+-- a step of a halted machine
+pub halted_answer : (s : State) → s.sp.halted ≡ true → Halted ≡ (step_of s).0
+halted_answer s h = ap (λ r. r.0) (sym (step_halted s h))
+
+pub halted_state : (s : State) → s.sp.halted ≡ true → s ≡ (step_of s).1
+halted_state s h = ap (λ r. r.1) (sym (step_halted s h))
+
+pub halted_past : (s : State) (past : List State) (n : ℕ) → s.sp.halted ≡ true → past ≡ past_after n s past
+unfolding past_after
+halted_past s past n h = sym (ap (λ r. past_by r.0 (can_undo s) n s past) (step_halted s h))
+
+pub ruleset singles = (past_gone, halted_answer, halted_state, halted_past)
 
 -- back by one
 first_here : (s : State) (rs : List Saved) (r : Saved) → slice_get rs 0 ≡ Some r → undone r s ≡ slice_index_or (states_before s rs) 0 s

@@ -6,16 +6,12 @@ use Rattle.std.proofs.lemmas.Option.{get_or_from_slice_get}
 use Rattle.std.proofs.lemmas.List.{drop-set, take-set, take_more, take_all, drop_all, take-append-le, take-take, length-take, length-drop, length-append, length-set, set-get_or, append-nil}
 use Rattle.std.proofs.lemmas.Bool.{cases_lt}
 use Rattle.std.proofs.lemmas.Bool.Decides.{nat_tests}
-use Rattle.rsp_debug.specs.Places.{next_place, rotated, from_place}
+use Rattle.rsp_debug.specs.Places.{next_place, previous_place, rotated, from_place}
 
--- the place before a place
-abbrev previous : ℕ → ℕ → ℕ
-previous n i = if i == 0 then n - 1 else i - 1
-
-next_of_previous : (n i : ℕ) → i < n → next_place n (previous n i) ≡ i
+next_of_previous : (n i : ℕ) → i < n → next_place n (previous_place n i) ≡ i
 next_of_previous n i h = grind (arith, nat_tests)
 
-previous_below : (n i : ℕ) → i < n → previous n i < n
+previous_below : (n i : ℕ) → i < n → previous_place n i < n
 previous_below n i h = grind (arith, nat_tests)
 
 module _ {X : Type 0} where
@@ -55,12 +51,12 @@ module _ {X : Type 0} where
 
   -- a member that is written before the first, where n may stand
   pub pushed : (xs : List X) (i count n : ℕ) (x : X) → i < length xs → n ≤ length xs
-      → from_place (previous (length xs) i) (min (count + 1) n) (set xs (previous (length xs) i) x) ≡ take n (x ∷ from_place i count xs)
+      → from_place (previous_place (length xs) i) (min (count + 1) n) (set xs (previous_place (length xs) i) x) ≡ take n (x ∷ from_place i count xs)
   pushed xs i count zero x h c =
       let m : min (count + 1) 0 ≡ 0 = omega arith in
-      ap (λ k. take k (rotated (previous (length xs) i) (set xs (previous (length xs) i) x))) m
+      ap (λ k. take k (rotated (previous_place (length xs) i) (set xs (previous_place (length xs) i) x))) m
   pushed xs i count (suc n) x h c =
-      let p : ℕ = previous (length xs) i in
+      let p : ℕ = previous_place (length xs) i in
       let l : p < length xs = previous_below (length xs) i h in
       let e : rotated p (set xs p x) ≡ x ∷ rest p xs = written p xs x l in
       let f : rotated i xs ≡ rest p xs ++ get_or xs p x ∷ [] = rw (next_of_previous (length xs) i h) at (there p xs x l) in
@@ -81,13 +77,13 @@ module _ {X : Type 0} where
       → from_place (i - 1) (min (count + 1) n) (set xs (i - 1) x) ≡ take n (x ∷ from_place i count xs)
   before_by true xs i count n x e h c d =
       let k : i ≡ length xs = grind (arith, nat_tests) in
-      let p : previous (length xs) 0 ≡ i - 1 = grind (arith, nat_tests) in
+      let p : previous_place (length xs) 0 ≡ i - 1 = grind (arith, nat_tests) in
       ap (λ j. from_place j (min (count + 1) n) (set xs j x)) (sym p)
       ∙ pushed xs 0 count n x (omega arith) d
       ∙ ap (λ l. take n (x ∷ l)) (sym (round xs i count k))
   before_by false xs i count n x e h c d =
       let l : i < length xs = grind (arith, nat_tests) in
-      let p : previous (length xs) i ≡ i - 1 = grind (arith, nat_tests) in
+      let p : previous_place (length xs) i ≡ i - 1 = grind (arith, nat_tests) in
       ap (λ j. from_place j (min (count + 1) n) (set xs j x)) (sym p) ∙ pushed xs i count n x l d
 
   -- the same by the places 1 to n

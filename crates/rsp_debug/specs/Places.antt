@@ -5,6 +5,10 @@ use Rattle.std.specs.Prelude.{ℕ, ◌+◌, ◌-◌, ◌==◌, ◌<◌, ◌≤�
 abbrev pub next_place : ℕ → ℕ → ℕ
 next_place n i = if i + 1 == n then 0 else i + 1
 
+-- the place before a place
+abbrev pub previous_place : ℕ → ℕ → ℕ
+previous_place n i = if i == 0 then n - 1 else i - 1
+
 -- the members from a place on, round the end
 abbrev pub rotated : {X : Type 0} → ℕ → List X → List X
 rotated i xs = drop i xs ++ take i xs

@@ -99,7 +99,7 @@ impl<A: Acc> Debugger<A> {
         ensures answer { result ≡ (step_of self.old.state).0 }
         ensures next { self.new ≡ stepped self.old }
     {
-        step(&mut self.machine, &mut self.past, &self.breaks)
+        step(&mut self.machine, &mut self.past)
     }
 
     /// Gives a place of IMEM, a multiple of 4 below 4096, a breakpoint: a run stops when it comes there. BreakTwice where it

@@ -1,7 +1,7 @@
 ghost use Rattle.std.specs.Prelude.{◌≡◌, ◌+◌, ◌-◌, ◌^◌, ◌==◌, if◌then◌else◌, ◌<◌, ◌≤◌, Bool, [], true, false, length, min, drop, is_some, slice_index_or, IfOk};
 ghost use Rattle.rsp_machine.specs.Step.{step_of};
 ghost use Rattle.rsp_debug.specs.Calls.{done_steps};
-ghost use Rattle.rsp_debug.specs.Places.{next_place, from_place, steps_left, IsStanding};
+ghost use Rattle.rsp_debug.specs.Places.{next_place, previous_place, from_place, steps_left, IsStanding};
 ghost use Rattle.rsp_debug.specs.Past.{states_before, past_after};
 ghost use Rattle.rsp_debug.specs.Runs.{stuck_of, IsGoing};
 
@@ -128,6 +128,15 @@ fn next_place(n: usize, i: usize) -> usize
     if i + 1 == n { 0 } else { i + 1 }
 }
 
+/// The place before a place of a ring.
+#[inline(always)]
+fn previous_place(n: usize, i: usize) -> usize
+    requires { i < n }
+    ensures { result ≡ previous_place n i }
+{
+    if i == 0 { n - 1 } else { i - 1 }
+}
+
 impl Ring {
     /// An empty ring of so many slots.
     pub fn try_new(alloc: Global, depth: usize) -> Result<Ring, AllocError>
@@ -168,6 +177,37 @@ impl Ring {
         ensures { self.new ≡ record self.old { newest = [] } }
     {
         self.count = 0;
+    }
+
+    /// One step of a machine, of which the ring keeps what it changed. It stands apart from a run, whose set-up costs more than a step.
+    #[inline(never)]
+    #[tactic(auto, using(crate::proofs::Pasts::singles))]
+    pub fn step<A: Acc>(&mut self, machine: &mut Machine<A>) -> StepEnd
+        ensures answer { result ≡ (step_of machine.old).0 }
+        ensures state { machine.new ≡ (step_of machine.old).1 }
+        ensures past { states_before machine.new self.new.newest ≡ past_after self.old.depth machine.old (states_before machine.old self.old.newest) }
+        ensures depth { self.new.depth ≡ self.old.depth }
+    {
+        if machine.sp_regs().halted() {
+            return StepEnd::Halted;
+        }
+        let place = previous_place(self.slots.len(), self.first);
+        let Some(slot) = self.slots.get_mut(place) else {
+            unreachable!()
+        };
+        let made = machine.record_step::<true>(slot);
+        match made.end {
+            StepEnd::Done => {}
+            StepEnd::Halted => return made.end,
+            StepEnd::Reserved { word: _ } => return made.end,
+        }
+        self.first = place;
+        if !made.is_back {
+            self.count = 0;
+            return made.end;
+        }
+        self.count = self.count.saturating_add(1).min(self.depth);
+        made.end
     }
 
     /// Goes back by the newest record, which leaves.
@@ -319,7 +359,7 @@ impl Span {
         ensures span { IsStanding self.new slots.new }
     {
         let slot = &mut slots[self.next()];
-        let made = machine.record_step(slot);
+        let made = machine.record_step::<false>(slot);
         match made.end {
             StepEnd::Done => {}
             StepEnd::Halted => return Made::Stuck,

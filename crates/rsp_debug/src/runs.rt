@@ -33,21 +33,6 @@ fn stuck<A: Acc>(machine: &Machine<A>) -> Option<Reason>
     None
 }
 
-/// What a step of a machine that can't go on answers.
-#[tactic(auto, using(crate::proofs::Going::refusals))]
-fn refusal<A: Acc>(machine: &Machine<A>) -> StepEnd
-    requires { is_some (stuck_of machine.now) ≡ true }
-    ensures answer { result ≡ (step_of machine.now).0 }
-    ensures state { machine.now ≡ (step_of machine.now).1 }
-{
-    if machine.sp_regs().halted() {
-        return StepEnd::Halted;
-    }
-    StepEnd::Reserved {
-        word: machine.imem().word(u32::from(machine.pc())),
-    }
-}
-
 /// A stop where the machine stands: it can't go on, or there is another reason.
 fn stopped_here<A: Acc>(machine: &Machine<A>, otherwise: Reason, steps: u32) -> Stop
     ensures { result ≡ record { reason = unwrap_or (stuck_of machine.now) otherwise; steps = steps; pc = machine.now.pc } }
@@ -159,7 +144,7 @@ fn go_on_in<A: Acc>(
 }
 
 /// Makes steps as long as they answer Done, at most `n`, up to one that comes to a breakpoint or a watch. Tells how many, and
-/// which. All steps of a debugger are made here: the machine's step is put into one loop.
+/// which. All steps of a run are made here: the machine's step is put into one loop.
 #[inline(never)]
 #[tactic(auto)]
 fn go_on<A: Acc>(
@@ -204,7 +189,7 @@ fn step_unkept<A: Acc>(machine: &mut Machine<A>) -> StepEnd
 
 /// One step of a machine, of which the ring keeps what it changed.
 #[tactic(auto, using(crate::proofs::Going::unkept))]
-pub(crate) fn step<A: Acc>(machine: &mut Machine<A>, past: &mut Ring, breaks: &Breaks) -> StepEnd
+pub(crate) fn step<A: Acc>(machine: &mut Machine<A>, past: &mut Ring) -> StepEnd
     ensures answer { result ≡ (step_of machine.old).0 }
     ensures state { machine.new ≡ (step_of machine.old).1 }
     ensures past { states_before machine.new past.new.newest ≡ past_after past.old.depth machine.old (states_before machine.old past.old.newest) }
@@ -213,11 +198,7 @@ pub(crate) fn step<A: Acc>(machine: &mut Machine<A>, past: &mut Ring, breaks: &B
     if past.keeps_none() {
         return step_unkept(machine);
     }
-    let (made, _) = go_on(machine, past, breaks, &[], 1);
-    if made == 1 {
-        return StepEnd::Done;
-    }
-    refusal(machine)
+    past.step(machine)
 }
 
 /// Runs to breakpoints, and to watches that are given with their bytes.

@@ -22,9 +22,10 @@ pub struct Recorded {
 
 impl<A: Acc> Machine<A> {
     /// One step of a machine that isn't halted, as [`Machine::step`] makes it, with what it changed kept in a slot. Where it
-    /// isn't Done the slot stays. A step that is Done changes DMEM only where [`Record::may_store`] of the slot says so.
+    /// isn't Done the slot stays. A step that is Done changes DMEM only where [`Record::may_store`] of the slot says so. What steps
+    /// in a loop and what steps `APART` from it each have a copy of the decoder, and so each copy has one caller.
     #[inline(always)]
-    pub fn record_step(&mut self, slot: &mut Record) -> Recorded
+    pub fn record_step<const APART: bool>(&mut self, slot: &mut Record) -> Recorded
         requires { self.old.sp.halted ≡ false }
         ensures answer { result.end ≡ (step_of self.old).0 }
         ensures state { self.new ≡ (step_of self.old).1 }
@@ -36,7 +37,7 @@ impl<A: Acc> Machine<A> {
     {
         self.flags.ranges();
         let word = self.fetch();
-        let Some(reaches_sp) = self.execute(word, slot) else {
+        let Some(reaches_sp) = self.execute::<Record, APART>(word, slot) else {
             return Recorded {
                 end: StepEnd::Reserved { word },
                 is_back: false,
@@ -70,7 +71,7 @@ impl<A: Acc> Machine<A> {
             return (StepEnd::Halted, None);
         }
         let mut slot = Record::new();
-        let recorded = self.record_step(&mut slot);
+        let recorded = self.record_step::<true>(&mut slot);
         let slot = if recorded.is_back { Some(slot) } else { None };
         (recorded.end, slot)
     }

@@ -149,14 +149,18 @@ impl<A: Acc> Machine<A> {
     /// reserved word, which changes nothing.
     #[inline(always)]
     #[tactic(auto, unfolding(crate::specs::Step::executed))]
-    pub(crate) fn execute<K: Keeper>(&mut self, word: u32, keeper: &mut K) -> Option<bool>
+    pub(crate) fn execute<K: Keeper, const APART: bool>(
+        &mut self,
+        word: u32,
+        keeper: &mut K,
+    ) -> Option<bool>
         ensures answer { result ≡ option_map (λ i. reaches_sp (change_of i self.old)) (inst_of word) }
         ensures state { self.new ≡ unwrap_or (option_map (λ i. executed i self.old) (inst_of word)) self.old }
         ensures keeper { keeper.new ≡ told_by K.keeps (inst_of word) self.old keeper.old }
     {
         let from = self.pc;
         self.advance();
-        let mut executor = Executor {
+        let mut executor: Executor<A, K, APART> = Executor {
             machine: self,
             keeper,
             from,
@@ -189,7 +193,7 @@ impl<A: Acc> Machine<A> {
             return StepEnd::Halted;
         }
         let word = self.fetch();
-        let Some(_) = self.execute(word, &mut Unkept::<true>) else {
+        let Some(_) = self.execute::<Unkept, true>(word, &mut Unkept) else {
             return StepEnd::Reserved { word };
         };
         self.end_instruction();
@@ -209,7 +213,7 @@ impl<A: Acc> Machine<A> {
             return self.step_held();
         }
         let word = self.fetch();
-        let Some(reaches_sp) = self.execute(word, &mut Unkept::<false>) else {
+        let Some(reaches_sp) = self.execute::<Unkept, false>(word, &mut Unkept) else {
             return StepEnd::Reserved { word };
         };
         // Single step was clear, and only an instruction that reaches it can have set it.

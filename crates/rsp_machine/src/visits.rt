@@ -31,12 +31,11 @@ pub(crate) trait Keeper {
         ensures { self.new ≡ keeps change (gone_back from machine.now) self.old };
 }
 
-/// A keeper that keeps nothing, for a step that isn't recorded. A step of a held machine has a kind of its own, and so its own copy of
-/// the decoder: of one copy with two callers, LLVM would put no part into the loop over free steps.
+/// A keeper that keeps nothing, for a step that isn't recorded.
 #[derive(Clone, Copy, Drop)]
-pub(crate) struct Unkept<const HELD: bool>;
+pub(crate) struct Unkept;
 
-impl<const HELD: bool> Keeper for Unkept<HELD> {
+impl Keeper for Unkept {
     ghost keeps = { λ p s k. k };
 
     #[inline(always)]
@@ -44,9 +43,10 @@ impl<const HELD: bool> Keeper for Unkept<HELD> {
 }
 
 /// A machine as the table's instructions reach it, and what is told of them. It stands apart from the machine so that an
-/// embedder, who can step a machine, can't execute without fetch and without the halted test.
+/// embedder, who can step a machine, can't execute without fetch and without the halted test. What executes apart from a loop over
+/// steps has a kind of its own, and so its own copy of the decoder: of one copy with two callers, LLVM would put no part into the loop.
 #[derive(Drop)]
-pub(crate) struct Executor<'a, A: Acc, K: Keeper> {
+pub(crate) struct Executor<'a, A: Acc, K: Keeper, const APART: bool> {
     pub(crate) machine: &'a mut Machine<A>,
     pub(crate) keeper: &'a mut K,
     /// The place of the instruction. The machine has gone on from it.
@@ -55,7 +55,7 @@ pub(crate) struct Executor<'a, A: Acc, K: Keeper> {
     pub(crate) reaches_sp: bool,
 }
 
-impl<'a, A: Acc, K: Keeper> Executor<'a, A, K> {
+impl<'a, A: Acc, K: Keeper, const APART: bool> Executor<'a, A, K, APART> {
     /// Tells the keeper of a change, before it is made.
     #[inline(always)]
     fn keep(&mut self, change: Change)
@@ -67,7 +67,7 @@ impl<'a, A: Acc, K: Keeper> Executor<'a, A, K> {
     }
 }
 
-impl<'a, A: Acc, K: Keeper> Visitor for Executor<'a, A, K> {
+impl<'a, A: Acc, K: Keeper, const APART: bool> Visitor for Executor<'a, A, K, APART> {
     ghost use Rattle.rsp_machine.specs.State.{gone_back};
     ghost use Rattle.rsp_machine.specs.Step.{worked};
     ghost use Rattle.rsp_machine.specs.Saved.{change_of, reaches_sp};
