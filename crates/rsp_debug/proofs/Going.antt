@@ -85,6 +85,21 @@ unfolding past_after
 past-refused depth s past e =
     ap (λ r. past_by r.0 (can_undo s) depth s past) (refusal-is s e) ∙ past_cond s.sp.halted (can_undo s) (word_at s.imem s.pc) depth s past
 
+-- where nothing is kept
+none_by : (e : StepEnd) (b : Bool) (s : State) → past_by e b 0 s [] ≡ []
+none_by end.Done true s = refl
+none_by end.Done false s = refl
+none_by end.Halted b s = refl
+none_by (end.Reserved w) b s = refl
+
+pub past-unkept : (depth : ℕ) (s t : State) (rs : List Saved) → rs ≡ [] → (depth == 0) ≡ true → states_before t rs ≡ past_after depth s (states_before s rs)
+unfolding past_after
+past-unkept depth s t rs none e =
+    let z : depth ≡ 0 = grind (arith, nat_tests) in
+    rw (none, z) (sym (none_by (step_of s).0 (can_undo s) s))
+
+pub ruleset unkept = (past-unkept)
+
 pub past-stays : (k depth : ℕ) (s : State) (past : List State) → k ≡ 0 → is_some (stuck_of s) ≡ true → past_of k depth s past ≡ past_after depth s past
 past-stays k depth s past z e = ap (λ i. past_of i depth s past) z ∙ past-none depth s past ∙ sym (past-refused depth s past e)
 

@@ -1,5 +1,7 @@
 ghost use Rattle.std.specs.Prelude.{◌≡◌, ◌<◌, ◌≤◌, ◌%◌, ◌⊎◌, ◌↔◌, Some, None, length, OnOk, OnErr, IfOk, IfErr, IsOk, IsErrOf, IsTrue, MatchResult};
 ghost use Rattle.rsp_machine.specs.Step.{step_of};
+ghost use Rattle.rsp_machine.specs.Laws.{steps_of};
+ghost use Rattle.rsp_machine.specs.State.{IsState};
 ghost use Rattle.rsp_debug.specs.Stops.{is_break};
 ghost use Rattle.rsp_debug.specs.Breaks.{break_fault};
 ghost use Rattle.rsp_debug.specs.Watches.{number_for, has_watch};
@@ -81,6 +83,17 @@ impl<A: Acc> Debugger<A> {
         }
     }
 
+    /// Changes nothing. It says that the machine's state lies in its ranges, and that the past has at most as many states as
+    /// are kept, which a caller's proof may need.
+    #[tactic(auto, using(crate::proofs::Pasts::more))]
+    pub fn ranges(&self)
+        ensures state { IsState self.now.state }
+        ensures past { length self.now.past ≤ self.now.depth }
+    {
+        self.machine.ranges();
+        let _ = self.past.len();
+    }
+
     /// One step of the machine, as [`Machine::step`] makes it.
     pub fn step(&mut self) -> StepEnd
         ensures answer { result ≡ (step_of self.old.state).0 }
@@ -139,6 +152,7 @@ impl<A: Acc> Debugger<A> {
     pub fn run(&mut self, n: u32) -> Result<Stop, CountFault>
         ensures count { IsOk result ↔ ((1 ≤ n) × (n ≤ 1000000)) }
         ensures stop { IfOk result (λ stop. stop ≡ stop_in n self.old) }
+        ensures reached { IfOk result (λ stop. self.new.state ≡ steps_of stop.steps self.old.state) }
         ensures next { OnOk result (self.new ≡ ran n self.old) }
         ensures err { OnErr result (self.new ≡ self.old) }
     {

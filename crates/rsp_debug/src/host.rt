@@ -3,11 +3,12 @@
 ghost use Rattle.std.specs.Prelude.{◌≡◌, ◌<◌, ◌%◌, ◌↔◌, Some, None, length, OnOk, OnErr, IsOk, IsTrue, MatchResult};
 ghost use Rattle.rsp_regs.specs.Sp.{peeked};
 ghost use Rattle.rsp_machine.specs.Host.{register_written, is_inside, with_bank_bytes, task_fault, tasked, with_pc};
+ghost use Rattle.rsp_machine.specs.Registers.{registers_of, with_registers, registers_fault};
 ghost use Rattle.rsp_debug.specs.Debugging.{resumed, read_from};
 
 use crate::debugger::Debugger;
 use rsp_acc::Acc;
-use rsp_machine::{RangeFault, TaskFault};
+use rsp_machine::{AllRegisters, RangeFault, RegistersFault, TaskFault};
 use rsp_memory::{Bank, Rdram};
 
 impl<A: Acc> Debugger<A> {
@@ -41,6 +42,25 @@ impl<A: Acc> Debugger<A> {
     {
         self.past.clear();
         self.machine.set_pc(pc);
+    }
+
+    /// All registers, as [`rsp_machine::Machine::all_registers`] gives them. Changes nothing.
+    pub fn all_registers(&self) -> AllRegisters
+        ensures { result ≡ registers_of self.now.state }
+    {
+        self.machine.all_registers()
+    }
+
+    /// Sets all registers, as [`rsp_machine::Machine::set_all_registers`] does, and empties the past. Where a fault of
+    /// [`RegistersFault`] holds it is answered, and nothing changes.
+    pub fn set_all_registers(&mut self, given: &AllRegisters) -> Result<(), RegistersFault>
+        ensures fault { MatchResult result (λ _. registers_fault given.now ≡ None) (λ f. registers_fault given.now ≡ Some f) }
+        ensures ok { OnOk result (self.new ≡ resumed (with_registers given.now self.old.state) self.old) }
+        ensures err { OnErr result (self.new ≡ self.old) }
+    {
+        self.machine.set_all_registers(given)?;
+        self.past.clear();
+        Ok(())
     }
 
     /// Writes bytes to a bank from an address on, as [`rsp_machine::Machine::load_bytes`] does, and empties the past, also

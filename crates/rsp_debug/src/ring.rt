@@ -154,6 +154,15 @@ impl Ring {
         self.count
     }
 
+    /// Whether no record is kept.
+    #[inline(always)]
+    pub fn keeps_none(&self) -> bool
+        ensures depth { result ≡ (self.now.depth == 0) }
+        ensures none { result ≡ true → self.now.newest ≡ [] }
+    {
+        self.depth == 0
+    }
+
     /// Forgets all records.
     pub fn clear(&mut self)
         ensures { self.new ≡ record self.old { newest = [] } }

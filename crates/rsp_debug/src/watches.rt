@@ -56,7 +56,7 @@ impl Watches {
 
     /// Whether there is no watch.
     pub fn is_empty(&self) -> bool
-        ensures { IsTrue result → All IsNone self.now }
+        ensures { IsTrue result ↔ All IsNone self.now }
     {
         self.slots.iter().all(|slot| slot.is_none())
     }

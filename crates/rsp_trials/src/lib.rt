@@ -43,3 +43,5 @@ mod spelling;
 mod trials;
 #[cfg(test)]
 mod undo;
+#[cfg(test)]
+mod whole_states;

@@ -11,7 +11,7 @@ run_to-requires g c = differs-empty _ _ refl
 
 pub returns-then-is_empty-clause-stop : goal.returns-then-is_empty-clause-stop
 returns-then-is_empty-clause-stop g c =
-    unwatched-stop c.args.breaks.now c.args.watches.now c.args.n c.args.machine.now c.run_to.new.machine c.run_to.result c.run_to.ensures.stop (c.is_empty.ensures c.if-is_empty.true)
+    unwatched-stop c.args.breaks.now c.args.watches.now c.args.n c.args.machine.now c.run_to.new.machine c.run_to.result c.run_to.ensures.stop (c.is_empty.ensures.0 c.if-is_empty.true)
 
 pub run_to-requires-2 : goal.run_to-requires-2
 run_to-requires-2 g c =

@@ -1,4 +1,5 @@
 use Rattle.std.proofs.Common.{◌∙◌, ap}
+use Rattle.rsp_machine.specs.Laws.{steps_of}
 use Rattle.rsp_debug.specs.Past.{states_before}
 use Rattle.rsp_debug.specs.Debugging.{Debugging, stop_in, ran}
 use Rattle.rsp_debug.proofs.Ends.{stop-is, ran-is}
@@ -6,6 +7,9 @@ use Rattle.rsp_debug.proofs.debugger.Debugger.run.Goals as goal
 
 pub returns-clause-stop : goal.returns-clause-stop
 returns-clause-stop g c = stop-is _ _ _ _ _ _ c.run.ensures.stop ∙ ap (λ (d : Debugging). stop_in c.args.n d) c.self.view_is
+
+pub returns-clause-reached : goal.returns-clause-reached
+returns-clause-reached g c = c.run.ensures.stop.reached ∙ ap (λ (d : Debugging). steps_of c.run.result.steps d.state) c.self.view_is
 
 pub returns-clause-next : goal.returns-clause-next
 returns-clause-next g c =
