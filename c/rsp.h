@@ -83,6 +83,18 @@ typedef struct rsp_divide_state {
     uint16_t input, output, loaded;
 } rsp_divide_state;
 
+/* All registers. */
+typedef struct rsp_state {
+    uint32_t words[32];       /* scalar registers; number 0 is 0 */
+    uint16_t vectors[32][8];  /* vector registers, lane 0 first */
+    rsp_accumulators accumulators;
+    rsp_flag_bits flags;
+    rsp_divide_state divider;
+    uint16_t pc, npc;         /* multiples of 4 below 4096 */
+    uint32_t sp[16];          /* SP registers 0 to 7 and the DPC's 0 to 7, as they read */
+    uint32_t interrupt;       /* 1 where the interrupt flag is set, else 0 */
+} rsp_state;
+
 typedef struct rsp_assembled {
     size_t count;   /* how many words there are */
     size_t line;    /* with a fault: the number of its line, from 1; else 0 */
@@ -108,6 +120,11 @@ uint32_t rsp_version(void);
  * RSP_NONE. */
 uint32_t rsp_new(rsp *m, const uint8_t *image, size_t len, uint32_t depth);
 void rsp_free(rsp *m);
+
+/* Whole states: all registers. The memories stay. rsp_set refuses, as out of range, a state in which the machine can't be: register 0 isn't
+ * 0, pc or npc is no place, a word of an SP register could not be read from it, `loaded` or `interrupt` isn't 0 or 1. It empties the past. */
+uint32_t rsp_get(rsp *m, rsp_state *out);
+uint32_t rsp_set(rsp *m, const rsp_state *state);
 
 /* Memories: bytes in, words in (at most 1024, the highest byte of each first), and bytes out. All stand inside the bank. Writing empties the
  * past. Where rsp_memory is refused, the buffer is as it was. */

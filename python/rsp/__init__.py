@@ -119,22 +119,20 @@ class _Plain(Structure):
     """A structure of numbers, equal to another where all of them are."""
 
     def __eq__(self, other: object) -> bool:
-        return type(self) is type(other) and self._numbers() == other._numbers()  # type: ignore[attr-defined]
+        return type(self) is type(other) and self._parts() == other._parts()  # type: ignore[attr-defined]
 
     __hash__ = None  # type: ignore[assignment]
 
-    def _numbers(self) -> list:
-        return [_number_of(getattr(self, name)) for name, *_ in self._fields_]
+    def _parts(self) -> dict:
+        return {name: _plain_of(getattr(self, name)) for name, *_ in self._fields_}
 
     def __repr__(self) -> str:
-        return f"{type(self).__name__}({', '.join(f'{it[0]}={_number_of(getattr(self, it[0]))}' for it in self._fields_)})"
+        return f"{type(self).__name__}({', '.join(f'{name}={value}' for name, value in self._parts().items())})"
 
 
-def _number_of(value: Any) -> Any:
-    """A number, or a list of what an array or a structure has."""
-    if isinstance(value, ctypes.Array):
-        return [_number_of(it) for it in value]
-    return value._numbers() if isinstance(value, _Plain) else value
+def _plain_of(value: Any) -> Any:
+    """A number or a structure as it is, or a list of what an array has."""
+    return [_plain_of(it) for it in value] if isinstance(value, ctypes.Array) else value
 
 
 class Scalars(_Plain):
@@ -161,6 +159,22 @@ class Divider(_Plain):
     _fields_ = [("input", c_uint16), ("output", c_uint16), ("loaded", c_uint16)]
 
 
+class State(_Plain):
+    """All registers: scalars `words`, `vectors[n][lane]`, .., and `sp`, the sixteen SP registers as they read."""
+
+    _fields_ = [
+        ("words", c_uint32 * 32),
+        ("vectors", (c_uint16 * 8) * 32),
+        ("accumulators", Accumulators),
+        ("flags", Flags),
+        ("divider", Divider),
+        ("pc", c_uint16),
+        ("npc", c_uint16),
+        ("sp", c_uint32 * 16),
+        ("interrupt", c_uint32),
+    ]
+
+
 def _library() -> str:
     """The library in the package, or, in the repository, the one that c/build has made."""
     here = os.path.dirname(os.path.abspath(__file__))
@@ -171,7 +185,7 @@ def _library() -> str:
 _lib = ctypes.CDLL(_library())
 _M, _U, _Z, _B, _W = POINTER(_Handle), c_uint32, c_size_t, c_char_p, POINTER(c_uint32)
 _CALLS = {
-    "rsp_version": [], "rsp_new": [_M, _B, _Z, _U], 
+    "rsp_version": [], "rsp_new": [_M, _B, _Z, _U], "rsp_get": [_M, POINTER(State)], "rsp_set": [_M, POINTER(State)],
     "rsp_load": [_M, _U, _U, _B, _Z], "rsp_load_words": [_M, _U, _U, _W, _Z], "rsp_memory": [_M, _U, _U, c_void_p, _Z],
     "rsp_task": [_M, _U], "rsp_set_pc": [_M, _U], "rsp_step": [_M], "rsp_run": [_M, _U, POINTER(_Stop)], "rsp_back": [_M, _U],
     "rsp_add_break": [_M, _U], "rsp_drop_break": [_M, _U], "rsp_add_watch": [_M, _U, _U, POINTER(_Z)], "rsp_drop_watch": [_M, _U],
@@ -263,6 +277,14 @@ class Rsp:
         out = c_uint32()
         _ok(getattr(_lib, name)(byref(self._handle), *numbers, byref(out)))
         return out.value
+
+    def get(self) -> State:
+        """All registers."""
+        return self._look("rsp_get", State())
+
+    def set(self, state: State) -> None:
+        """Sets all registers. The memories stay, and the past is empty."""
+        _ok(_lib.rsp_set(byref(self._handle), byref(state)))
 
     def load(self, bank: int, address: int, data: bytes) -> None:
         _u32(bank, address)

@@ -20,5 +20,5 @@ mod texts;
 
 pub use error::Refused;
 pub use machine::Machine;
-pub use shapes::{Accumulators, Bank, DivideState, FlagBits, Line, Reason, Scalars, StepEnd, Stop};
+pub use shapes::{Accumulators, Bank, DivideState, FlagBits, Line, Reason, Scalars, State, StepEnd, Stop};
 pub use texts::{assemble, text, version};

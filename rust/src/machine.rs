@@ -2,7 +2,7 @@
 
 use crate::error::done;
 use crate::raw;
-use crate::shapes::{Accumulators, Bank, DivideState, FlagBits, Line, Reason, Scalars, StepEnd, Stop};
+use crate::shapes::{Accumulators, Bank, DivideState, FlagBits, Line, Reason, Scalars, State, StepEnd, Stop};
 use crate::texts::{seen, NO_LINE};
 use crate::Refused;
 use std::cell::UnsafeCell;
@@ -27,6 +27,18 @@ impl Machine {
 
     fn at(&self) -> *mut raw::Handle {
         self.handle.get()
+    }
+
+    /// All registers.
+    pub fn get(&self) -> Result<State, Refused> {
+        let mut out = State::default();
+        done(unsafe { raw::rsp_get(self.at(), &mut out) })?;
+        Ok(out)
+    }
+
+    /// Sets all registers. The memories stay, and the past is empty.
+    pub fn set(&mut self, state: &State) -> Result<(), Refused> {
+        done(unsafe { raw::rsp_set(self.at(), state) })
     }
 
     /// Writes bytes to a bank from an address on.

@@ -1,6 +1,6 @@
 //! What c/rsp.h declares.
 
-use crate::shapes::{Accumulators, DivideState, FlagBits, Scalars};
+use crate::shapes::{Accumulators, DivideState, FlagBits, Scalars, State};
 
 #[repr(C)]
 pub struct Handle {
@@ -43,6 +43,8 @@ extern "C" {
     pub fn rsp_version() -> u32;
     pub fn rsp_new(m: *mut Handle, image: *const u8, len: usize, depth: u32) -> u32;
     pub fn rsp_free(m: *mut Handle);
+    pub fn rsp_get(m: *mut Handle, out: *mut State) -> u32;
+    pub fn rsp_set(m: *mut Handle, state: *const State) -> u32;
     pub fn rsp_load(m: *mut Handle, bank: u32, address: u32, bytes: *const u8, len: usize) -> u32;
     pub fn rsp_load_words(m: *mut Handle, bank: u32, address: u32, words: *const u32, len: usize) -> u32;
     pub fn rsp_memory(m: *mut Handle, bank: u32, address: u32, bytes: *mut u8, len: usize) -> u32;

@@ -38,6 +38,27 @@ pub struct DivideState {
     pub loaded: u16,
 }
 
+/// All registers.
+#[repr(C)]
+#[derive(Clone, Copy, Debug, Default, PartialEq, Eq)]
+pub struct State {
+    /// The scalar registers, of which number 0 is 0.
+    pub words: [u32; 32],
+    /// The vector registers, lane 0 first.
+    pub vectors: [[u16; 8]; 32],
+    pub accumulators: Accumulators,
+    pub flags: FlagBits,
+    pub divider: DivideState,
+    /// The place of the next instruction, a multiple of 4 below 4096.
+    pub pc: u16,
+    /// The place of the one after it.
+    pub npc: u16,
+    /// The SP registers 0 to 7 and the DPC's, as they read.
+    pub sp: [u32; 16],
+    /// 1 where the interrupt flag is set, and else 0.
+    pub interrupt: u32,
+}
+
 /// One of the three memories.
 #[derive(Clone, Copy, Debug, PartialEq, Eq)]
 pub enum Bank {

@@ -1,6 +1,6 @@
 //! The calls in their ranges and out of them.
 
-use rsp::{assemble, text, version, Bank, Machine, Reason, Refused, StepEnd};
+use rsp::{assemble, text, version, Bank, Machine, Reason, Refused, State, StepEnd};
 
 fn loaded(source: &str, depth: u32) -> Machine {
     let mut machine = Machine::new(&[0; 4096], depth).unwrap();
@@ -50,12 +50,19 @@ fn runs_and_stops() {
 }
 
 #[test]
-fn registers_and_memories() {
+fn states_and_memories() {
     let mut machine = loaded("nop\nbreak\n", 0);
-    machine.write(31, 4).unwrap();
+    let mut state = State { npc: 4, ..State::default() };
+    assert_eq!(machine.set(&state), Err(Refused::OutOfRange));
+    (state.sp[2], state.sp[3]) = (0xff8, 0xff8);
+    assert_eq!(machine.set(&state), Ok(()));
+    (state.words[31], state.vectors[31][7], state.accumulators.low[7], state.sp[15]) = (1, 2, 3, 4);
+    machine.set(&state).unwrap();
+    assert_eq!(machine.get(), Ok(state));
+    assert_eq!(machine.reg(31), Ok(1));
     assert_eq!(machine.reg(32), Err(Refused::OutOfRange));
-    assert_eq!(machine.vreg(31), Ok([0; 8]));
-    assert_eq!(machine.acc().unwrap().low[7], 0);
+    assert_eq!(machine.vreg(31).unwrap()[7], 2);
+    assert_eq!(machine.acc().unwrap().low[7], 3);
     assert_eq!(machine.peek(15), Ok(4));
     assert_eq!(machine.read(31), Ok(4));
     assert_eq!(machine.regs().unwrap().npc, 4);

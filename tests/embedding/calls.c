@@ -15,6 +15,7 @@ static void see(int line, const char *what, int is_right)
 
 static const uint32_t ANY = 0xffffffffu;
 static uint8_t image[4096];
+static rsp_state state, other;
 
 /* Assembles a text to 0 of IMEM. */
 static void load(rsp *m, const char *text)
@@ -45,8 +46,11 @@ static void without_machine(void)
     rsp_free(&freed);
     handles[0] = &none;
     handles[1] = &freed;
+    memset(&state, 0, sizeof state);
     for (i = 0; i < 2; i++) {
         rsp *m = handles[i];
+        SEE(rsp_get(m, &state) == RSP_NO_MACHINE);
+        SEE(rsp_set(m, &state) == RSP_NO_MACHINE);
         SEE(rsp_load(m, 0, 0, &byte, 1) == RSP_NO_MACHINE);
         SEE(rsp_load(m, 9, ANY, &byte, 1) == RSP_NO_MACHINE);
         SEE(rsp_load_words(m, 0, 0, &word, 1) == RSP_NO_MACHINE);
@@ -268,6 +272,82 @@ static void tasks(void)
     rsp_free(&m);
 }
 
+/* A state in which each number is another. */
+static void fill(rsp_state *s)
+{
+    int n, i;
+    memset(s, 0, sizeof *s);
+    for (n = 1; n < 32; n++) s->words[n] = 0x01010101u * (uint32_t)n;
+    for (n = 0; n < 32; n++) for (i = 0; i < 8; i++) s->vectors[n][i] = (uint16_t)(n * 256 + i * 17);
+    for (i = 0; i < 8; i++) {
+        s->accumulators.high[i] = (uint16_t)(0x8000 + i);
+        s->accumulators.middle[i] = (uint16_t)(0x9000 + i);
+        s->accumulators.low[i] = (uint16_t)(0xa000 + i);
+    }
+    s->flags.carry = 1, s->flags.differ = 2, s->flags.compare = 0x84, s->flags.clip = 8, s->flags.extra = 0x90;
+    s->divider.input = 0x1111, s->divider.output = 0x2222, s->divider.loaded = 1;
+    s->pc = 0x120, s->npc = 0xffc;
+    s->sp[0] = 0x1ff8, s->sp[1] = 0xfffff8, s->sp[2] = s->sp[3] = 0x038u << 20 | 0xff8, s->sp[4] = 0x50e2, s->sp[7] = 1;
+    for (n = 8; n < 16; n++) s->sp[n] = 0xd0000000u + (uint32_t)n;
+    s->interrupt = 1;
+}
+
+static int is_same(const rsp_state *a, const rsp_state *b)
+{
+    return !memcmp(a->words, b->words, sizeof a->words) && !memcmp(a->vectors, b->vectors, sizeof a->vectors)
+        && !memcmp(&a->accumulators, &b->accumulators, sizeof a->accumulators) && !memcmp(&a->flags, &b->flags, sizeof a->flags)
+        && !memcmp(&a->divider, &b->divider, sizeof a->divider) && a->pc == b->pc && a->npc == b->npc
+        && !memcmp(a->sp, b->sp, sizeof a->sp) && a->interrupt == b->interrupt;
+}
+
+#define REFUSED(change) do { rsp_state bad = state; change; SEE(rsp_set(&m, &bad) == RSP_OUT_OF_RANGE); } while (0)
+
+static void states(void)
+{
+    rsp m = RSP_NONE;
+    rsp_scalars scalars;
+    rsp_lanes lanes;
+    rsp_accumulators acc;
+    uint32_t word = 0;
+    uint8_t bytes[4] = { 1, 2, 3, 4 };
+    SEE(rsp_new(&m, image, 64, 4) == RSP_OK);
+    SEE(rsp_get(&m, &state) == RSP_OK && state.pc == 0 && state.npc == 4 && state.sp[2] == 0xff8 && state.sp[3] == 0xff8);
+    SEE(rsp_load(&m, RSP_DMEM, 8, bytes, 4) == RSP_OK);
+    SEE(rsp_step(&m) == RSP_OK);
+    fill(&state);
+    SEE(rsp_set(&m, &state) == RSP_OK);
+    SEE(rsp_back(&m, 1) == RSP_SHORT_HISTORY);
+    memset(&other, 0xee, sizeof other);
+    SEE(rsp_get(&m, &other) == RSP_OK && is_same(&state, &other));
+    SEE(rsp_regs(&m, &scalars) == RSP_OK && scalars.pc == 0x120 && scalars.npc == 0xffc && scalars.words[31] == 0x1f1f1f1f);
+    SEE(rsp_vreg(&m, 31, &lanes) == RSP_OK && lanes.lanes[7] == 31 * 256 + 7 * 17);
+    SEE(rsp_acc(&m, &acc) == RSP_OK && acc.high[7] == 0x8007 && acc.middle[0] == 0x9000 && acc.low[3] == 0xa003);
+    SEE(rsp_peek(&m, 4, &word) == RSP_OK && word == 0x50e2);
+    SEE(rsp_memory(&m, RSP_DMEM, 8, bytes, 4) == RSP_OK && bytes[3] == 4);
+
+    REFUSED(bad.words[0] = 1);
+    REFUSED(bad.pc = 2);
+    REFUSED(bad.pc = 4096);
+    REFUSED(bad.npc = 0xffff);
+    REFUSED(bad.divider.loaded = 2);
+    REFUSED(bad.interrupt = 2);
+    REFUSED(bad.sp[0] = 4);
+    REFUSED(bad.sp[0] = 0x2000);
+    REFUSED(bad.sp[1] = 0x1000000);
+    REFUSED(bad.sp[1] = 1);
+    REFUSED(bad.sp[2] = 0);
+    REFUSED(bad.sp[3] = 0xff8);
+    REFUSED(bad.sp[2] = bad.sp[3] = 0x001u << 20 | 0xff8);
+    REFUSED(bad.sp[4] = 4);
+    REFUSED(bad.sp[4] = 0x8000);
+    REFUSED(bad.sp[5] = 1);
+    REFUSED(bad.sp[6] = 1);
+    REFUSED(bad.sp[7] = 2);
+    memset(&other, 0xee, sizeof other);
+    SEE(rsp_get(&m, &other) == RSP_OK && is_same(&state, &other));
+    rsp_free(&m);
+}
+
 static void texts(void)
 {
     rsp m = RSP_NONE;
@@ -319,6 +399,7 @@ int main(void)
     looks();
     sp_registers();
     tasks();
+    states();
     texts();
     printf("%d passed, %d failed\n", passed, failed);
     return failed != 0;

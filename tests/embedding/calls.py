@@ -36,7 +36,7 @@ def lives():
         refused(out, rsp.Rsp, bytes(64), depth)
     with rsp.Rsp() as machine:
         see("a new machine", machine.regs().npc == 4)
-    for call in (machine.step, machine.regs, machine.acc, machine.flags, machine.divider):
+    for call in (machine.get, machine.step, machine.regs, machine.acc, machine.flags, machine.divider):
         refused(rsp.Status.NO_MACHINE, call)
     for call in (machine.reg, machine.vreg, machine.read, machine.peek, machine.run, machine.back, machine.add_break, machine.set_pc):
         refused(rsp.Status.NO_MACHINE, call, 4)
@@ -72,6 +72,23 @@ def runs():
         refused(rsp.Status.OUT_OF_RANGE, machine.reg, number)
         refused(rsp.Status.OUT_OF_RANGE, machine.vreg, number)
     refused(rsp.Status.OUT_OF_RANGE, machine.write, 0, -1)
+
+
+def states():
+    machine = rsp.Rsp()
+    state = machine.get()
+    see("the first state", (state.pc, state.npc, state.sp[2]) == (0, 4, 0xFF8))
+    state.words[31], state.vectors[31][7], state.accumulators.high[7], state.sp[15] = 1, 2, 3, 4
+    state.divider.loaded = state.interrupt = 1
+    state.flags.extra = 0x80
+    machine.set(state)
+    see("a state comes back", machine.get() == state)
+    see("its parts", (machine.reg(31), machine.vreg(31)[7], machine.acc().high[7], machine.peek(15)) == (1, 2, 3, 4))
+    see("and the rest", (machine.divider().loaded, machine.flags().extra, machine.read(31)) == (1, 0x80, 4))
+    state.words[0] = 1
+    refused(rsp.Status.OUT_OF_RANGE, machine.set, state)
+    see("a refused state changes nothing", machine.get() != state and machine.get().words[31] == 1)
+    see("a state is told", "interrupt=1" in repr(state) and "extra=128" in repr(state))
 
 
 def memories():
@@ -112,7 +129,7 @@ def texts():
     refused(rsp.Status.OUT_OF_RANGE, machine.listing, 0, 1 << 31)
 
 
-for part in (lives, runs, memories, texts):
+for part in (lives, runs, states, memories, texts):
     part()
 print(f"{COUNTS[0]} passed, {COUNTS[1]} failed")
 sys.exit(COUNTS[1] > 0)

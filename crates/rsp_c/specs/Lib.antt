@@ -2,3 +2,4 @@ pub mod Answers
 pub mod Bytes
 pub mod Holding
 pub mod Seen
+pub mod States

@@ -74,6 +74,30 @@ pub struct RspDivideState {
     pub loaded: u16,
 }
 
+/// All registers.
+#[repr(C)]
+#[derive(Clone, Copy, Drop)]
+pub struct RspState {
+    /// The 32 scalar registers, of which number 0 is 0.
+    pub words: [u32; 32],
+    /// The lanes of the 32 vector registers.
+    pub vectors: [[u16; 8]; 32],
+    /// The accumulators.
+    pub accumulators: RspAccumulators,
+    /// The flags.
+    pub flags: RspFlagBits,
+    /// What the divide rows keep.
+    pub divider: RspDivideState,
+    /// The place of the next instruction.
+    pub pc: u16,
+    /// The place of the one after it.
+    pub npc: u16,
+    /// The sixteen SP registers as they read: eight, and then those of the DPC.
+    pub sp: [u32; 16],
+    /// 1 where the interrupt flag is set, and else 0.
+    pub interrupt: u32,
+}
+
 /// What an assembly came to.
 #[repr(C)]
 #[derive(Clone, Copy, Drop)]

@@ -4,7 +4,10 @@ use crate::handle::Handle;
 use crate::life::{rsp_free, rsp_new};
 use crate::looks::rsp_reg;
 use crate::memory::{rsp_load_words, rsp_memory};
-use crate::shapes::{RspAssembled, RspLine, RspStop};
+use crate::shapes::{
+    RspAccumulators, RspAssembled, RspDivideState, RspFlagBits, RspLine, RspState, RspStop,
+};
+use crate::state::{rsp_get, rsp_set};
 use crate::steps::{rsp_run, rsp_step};
 use crate::texts::{rsp_assemble, rsp_text};
 use std::test::Fail;
@@ -55,5 +58,80 @@ fn a_program_is_assembled_loaded_and_run(rt: HostRuntime) -> Result<(), Fail> {
     assert_eq!(rt; &line.text[..6], b"break\0".as_slice());
     rsp_free(&mut handle, alloc);
     assert_eq!(rt; rsp_step(&mut handle, alloc), 1);
+    Ok(())
+}
+
+/// All registers of a machine at its start, but for what a state with some numbers in it has.
+fn new_state() -> RspState {
+    let mut sp = [0; 16];
+    sp[0] = 0x1ff8;
+    sp[2] = 0x0380_0ff8;
+    sp[3] = 0x0380_0ff8;
+    sp[4] = 0x50e2;
+    sp[7] = 1;
+    sp[15] = 15;
+    let mut words = [0; 32];
+    words[31] = 31;
+    let mut vectors = [[0; 8]; 32];
+    vectors[31][7] = 7;
+    RspState {
+        words,
+        vectors,
+        accumulators: RspAccumulators {
+            high: [0x8000; 8],
+            middle: [1; 8],
+            low: [2; 8],
+        },
+        flags: RspFlagBits {
+            carry: 1,
+            differ: 2,
+            compare: 4,
+            clip: 8,
+            extra: 0x90,
+        },
+        divider: RspDivideState {
+            input: 3,
+            output: 4,
+            loaded: 1,
+        },
+        pc: 8,
+        npc: 0xffc,
+        sp,
+        interrupt: 1,
+    }
+}
+
+#[test]
+fn a_state_goes_in_and_comes_out(rt: HostRuntime) -> Result<(), Fail> {
+    let alloc = rt.alloc();
+    let mut handle = Handle::none(alloc);
+    let mut state = new_state();
+    assert_eq!(rt; rsp_set(&mut handle, alloc, &state), 1);
+    assert_eq!(rt; rsp_get(&mut handle, alloc, &mut state), 1);
+    assert_eq!(rt; rsp_new(&mut handle, alloc, &[0; 64], 0), 0);
+    assert_eq!(rt; rsp_set(&mut handle, alloc, &state), 0);
+    let mut found = new_state();
+    found.pc = 0;
+    found.sp[4] = 0;
+    assert_eq!(rt; rsp_get(&mut handle, alloc, &mut found), 0);
+    assert_eq!(rt; found.pc, 8);
+    assert_eq!(rt; found.npc, 0xffc);
+    assert_eq!(rt; found.words[31], 31);
+    assert_eq!(rt; found.vectors[31][7], 7);
+    assert_eq!(rt; found.accumulators.high[7], 0x8000);
+    assert_eq!(rt; found.flags.extra, 0x90);
+    assert_eq!(rt; found.divider.loaded, 1);
+    assert_eq!(rt; found.sp[0], 0x1ff8);
+    assert_eq!(rt; found.sp[2], 0x0380_0ff8);
+    assert_eq!(rt; found.sp[4], 0x50e2);
+    assert_eq!(rt; found.sp[7], 1);
+    assert_eq!(rt; found.sp[15], 15);
+    assert_eq!(rt; found.interrupt, 1);
+    state.sp[4] = 4;
+    assert_eq!(rt; rsp_set(&mut handle, alloc, &state), 3);
+    state.sp[4] = 0;
+    state.words[0] = 1;
+    assert_eq!(rt; rsp_set(&mut handle, alloc, &state), 3);
+    rsp_free(&mut handle, alloc);
     Ok(())
 }

@@ -1,0 +1,80 @@
+-- All registers as C sees them, and back.
+use Rattle.std.specs.Prelude.{ℕ, ◌+◌, ◌*◌, ◌/◌, ◌%◌, ◌==◌, ◌&&◌, nat_le, List, [], ◌∷◌, slice_index, Bool, Option, Some, None, if◌then◌else◌}
+use Rattle.rsp_loadstore.specs.Controls.{marks}
+use Rattle.rsp_regs.specs.Sp.{Sp, peeked}
+use Rattle.rsp_regs.specs.declared.parts.SpParts.{SpParts}
+use Rattle.rsp_machine.specs.declared.registers.AllRegisters.{AllRegisters}
+use Rattle.rsp_c.specs.declared.shapes.RspState.{RspState}
+use Rattle.rsp_c.specs.Seen.{bit, seen_flags, seen_divider}
+
+-- the sixteen SP registers as a peek shows them
+abbrev pub sp_words : Sp → List ℕ
+sp_words s =
+    peeked 0 s ∷ peeked 1 s ∷ peeked 2 s ∷ peeked 3 s ∷ peeked 4 s ∷ peeked 5 s ∷ peeked 6 s ∷ peeked 7 s
+    ∷ peeked 8 s ∷ peeked 9 s ∷ peeked 10 s ∷ peeked 11 s ∷ peeked 12 s ∷ peeked 13 s ∷ peeked 14 s ∷ peeked 15 s ∷ []
+
+-- all registers, with the SP registers as words
+abbrev pub seen_state : AllRegisters → Sp → RspState
+seen_state r s = record {
+  words = r.registers;
+  vectors = r.vectors;
+  accumulators = record { high = r.accumulators_high; middle = r.accumulators_middle; low = r.accumulators_low };
+  flags = seen_flags r.flags;
+  divider = seen_divider r.divider;
+  pc = r.pc;
+  npc = r.npc;
+  sp = sp_words s;
+  interrupt = bit s.interrupt;
+}
+
+-- Whether sixteen words are such as SP registers read: 2 and 3 the same, with FF8 hex below the skip; of SP_STATUS bits 0, 1 and 5 to 14
+-- alone; 5 and 6 are 0, and the semaphore is 0 or 1. The ranges of the addresses and of the skip are those of a machine's registers.
+abbrev pub are_sp_words : List ℕ → Bool
+are_sp_words w =
+    slice_index w 2 % 1048576 == 4088 && slice_index w 3 == slice_index w 2
+    && slice_index w 4 == slice_index w 4 % 4 + slice_index w 4 / 32 % 1024 * 32
+    && slice_index w 5 == 0 && slice_index w 6 == 0 && nat_le (slice_index w 7) 1
+
+-- whether a bit is set, by its weight
+abbrev pub is_set : ℕ → ℕ → Bool
+is_set w weight = w / weight % 2 == 1
+
+-- the SP registers that read these words
+abbrev pub sp_parts : List ℕ → ℕ → SpParts
+sp_parts w interrupt =
+    let status = slice_index w 4 in
+    record {
+      memory = slice_index w 0;
+      dram = slice_index w 1;
+      skip = slice_index w 2 / 1048576;
+      halted = status % 2 == 1;
+      broke = is_set status 2;
+      single_step = is_set status 32;
+      intbreak = is_set status 64;
+      signals =
+          is_set status 128 ∷ is_set status 256 ∷ is_set status 512 ∷ is_set status 1024
+          ∷ is_set status 2048 ∷ is_set status 4096 ∷ is_set status 8192 ∷ is_set status 16384 ∷ [];
+      interrupt = interrupt == 1;
+      semaphore = slice_index w 7 == 1;
+      dpc =
+          slice_index w 8 ∷ slice_index w 9 ∷ slice_index w 10 ∷ slice_index w 11
+          ∷ slice_index w 12 ∷ slice_index w 13 ∷ slice_index w 14 ∷ slice_index w 15 ∷ [];
+    }
+
+-- the registers that C gives; None where its words, marks or flags aren't such as registers read
+abbrev pub registers_in : RspState → Option AllRegisters
+registers_in g =
+    if are_sp_words g.sp && nat_le g.divider.loaded 1 && nat_le g.interrupt 1 then
+    Some (record {
+      pc = g.pc;
+      npc = g.npc;
+      registers = g.words;
+      vectors = g.vectors;
+      accumulators_high = g.accumulators.high;
+      accumulators_middle = g.accumulators.middle;
+      accumulators_low = g.accumulators.low;
+      flags = record { carry = marks g.flags.carry; differ = marks g.flags.differ; compare = marks g.flags.compare; clip = marks g.flags.clip; extra = marks g.flags.extra };
+      divider = record { input = g.divider.input; output = g.divider.output; loaded = g.divider.loaded == 1 };
+      sp = sp_parts g.sp g.interrupt;
+    })
+    else None

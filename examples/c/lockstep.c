@@ -1,0 +1,106 @@
+/* Lock step: an emulator of a few scalar rows beside the proved machine, from one state on. The first difference is told with the text of its
+ * instruction. The emulator has a fault that is planted: its SRA shifts zeros in. See docs/EMBEDDING.md. */
+#include "rsp.h"
+#include <stdio.h>
+#include <string.h>
+
+/* What stands here for your emulator. */
+typedef struct emulator {
+    uint32_t r[32];
+    uint16_t pc, npc;
+    const uint32_t *imem;
+    int has_fault;
+} emulator;
+
+static uint32_t shifted(const emulator *e, uint32_t value, unsigned amount)
+{
+    uint32_t sign = value >> 31 && amount && !e->has_fault ? ~(0xffffffffu >> amount) : 0;
+    return value >> amount | sign;
+}
+
+/* Executes one instruction: NOP, SRA, ADDU, ADDIU, BNE, and BREAK, which does nothing here. */
+static void emulate(emulator *e)
+{
+    uint32_t word = e->imem[e->pc / 4], low = (uint32_t)(int16_t)word;
+    unsigned s = word >> 21 & 31, t = word >> 16 & 31, d = word >> 11 & 31;
+    uint16_t place = e->npc, next = (uint16_t)((e->npc + 4) % 4096);
+    switch (word >> 26) {
+    case 0:
+        if ((word & 63) == 3) e->r[d] = shifted(e, e->r[t], word >> 6 & 31);
+        if ((word & 63) == 33) e->r[d] = e->r[s] + e->r[t];
+        break;
+    case 5:
+        if (e->r[s] != e->r[t]) next = (uint16_t)((e->npc + 4 * low) % 4096);
+        break;
+    case 9:
+        e->r[t] = e->r[s] + low;
+        break;
+    }
+    e->r[0] = 0;
+    e->pc = place, e->npc = next;
+}
+
+/* Tells the first part in which they differ, and answers whether there is one. */
+static int differs(const emulator *e, const rsp_scalars *now, const rsp_line *line, int steps)
+{
+    int n;
+    for (n = 0; n < 32; n++) {
+        if (e->r[n] == now->words[n]) continue;
+        printf("step %d, %03x: %s\n", steps, line->place, line->text);
+        printf("  $%d is %08x on the machine and %08x in the emulator\n", n, now->words[n], e->r[n]);
+        return 1;
+    }
+    if (e->pc == now->pc && e->npc == now->npc) return 0;
+    printf("step %d, %03x: %s\n", steps, line->place, line->text);
+    printf("  pc, npc are %03x, %03x on the machine and %03x, %03x in the emulator\n", now->pc, now->npc, e->pc, e->npc);
+    return 1;
+}
+
+/* Steps both from one state on, up to a difference or a halt. */
+static int lockstep(rsp *m, emulator *e, const rsp_state *state)
+{
+    rsp_scalars now;
+    rsp_line line;
+    int steps = 0;
+    if (rsp_set(m, state) != RSP_OK) return 1;
+    memcpy(e->r, state->words, sizeof e->r);
+    e->pc = state->pc, e->npc = state->npc;
+    for (;;) {
+        rsp_text(e->imem[e->pc / 4], e->pc, &line);
+        if (rsp_step(m) != RSP_OK) break;
+        emulate(e);
+        steps++;
+        rsp_regs(m, &now);
+        if (differs(e, &now, &line, steps)) return 0;
+    }
+    printf("no difference in %d steps\n", steps);
+    return 0;
+}
+
+int main(void)
+{
+    static const uint8_t image[64] = { 0 };
+    static const char *const program = "loop: sra $3, $1, 2\n"
+                                       "addu $4, $4, $3\n"
+                                       "addiu $2, $2, -1\n"
+                                       "bne $2, $0, loop\n"
+                                       "nop\n"
+                                       "break\n";
+    static rsp_state state;
+    static uint32_t imem[1024];
+    rsp m = RSP_NONE;
+    rsp_assembled out;
+    emulator e = { { 0 }, 0, 0, imem, 1 };
+
+    if (rsp_new(&m, image, sizeof image, 0) != RSP_OK) return 1;
+    if (rsp_assemble(0, (const uint8_t *)program, strlen(program), imem, 1024, &out) != RSP_OK) return 1;
+    if (rsp_load_words(&m, RSP_IMEM, 0, imem, 1024) != RSP_OK) return 1;
+    if (rsp_get(&m, &state) != RSP_OK) return 1;
+    state.words[1] = 0xffffffc0u; /* -64 */
+    state.words[2] = 4;
+    if (lockstep(&m, &e, &state)) return 1;
+    e.has_fault = 0;
+    if (lockstep(&m, &e, &state)) return 1;
+    rsp_free(&m);
+    return 0;
+}

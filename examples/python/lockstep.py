@@ -1,0 +1,82 @@
+"""Lock step: an emulator of a few scalar rows beside the proved machine, from one state on. The first difference is told with the text of its
+instruction. The emulator has a fault that is planted: its SRA shifts zeros in. See docs/EMBEDDING.md.
+"""
+
+import rsp
+
+PROGRAM = """
+loop: sra $3, $1, 2
+      addu $4, $4, $3
+      addiu $2, $2, -1
+      bne $2, $0, loop
+      nop
+      break
+"""
+BELOW = 1 << 32
+
+
+class Emulator:
+    """What stands here for your emulator: NOP, SRA, ADDU, ADDIU, BNE, and BREAK, which does nothing here."""
+
+    def __init__(self, imem, state, has_fault):
+        self.imem, self.has_fault = imem, has_fault
+        self.r, self.pc, self.npc = list(state.words), state.pc, state.npc
+
+    def step(self):
+        word = self.imem[self.pc // 4]
+        s, t, d = word >> 21 & 31, word >> 16 & 31, word >> 11 & 31
+        low = (word & 0xFFFF) - (word << 1 & 0x10000)
+        place, following = self.npc, (self.npc + 4) % 4096
+        if word >> 26 == 0 and word & 63 == 3:
+            value = self.r[t] if self.has_fault else self.r[t] - (self.r[t] << 1 & BELOW)
+            self.r[d] = (value >> (word >> 6 & 31)) % BELOW
+        elif word >> 26 == 0 and word & 63 == 33:
+            self.r[d] = (self.r[s] + self.r[t]) % BELOW
+        elif word >> 26 == 5 and self.r[s] != self.r[t]:
+            following = (self.npc + 4 * low) % 4096
+        elif word >> 26 == 9:
+            self.r[t] = (self.r[s] + low) % BELOW
+        self.r[0] = 0
+        self.pc, self.npc = place, following
+
+
+def difference(emulator, now):
+    """The first part in which they differ, if there is one."""
+    for n, (mine, right) in enumerate(zip(emulator.r, now.words)):
+        if mine != right:
+            return f"${n} is {right:08x} on the machine and {mine:08x} in the emulator"
+    if (emulator.pc, emulator.npc) != (now.pc, now.npc):
+        return f"pc, npc are {now.pc:03x}, {now.npc:03x} on the machine and {emulator.pc:03x}, {emulator.npc:03x} in the emulator"
+    return None
+
+
+def lockstep(machine, emulator, state):
+    """Steps both from one state on, up to a difference or a halt."""
+    machine.set(state)
+    steps = 0
+    while True:
+        place = emulator.pc
+        if machine.step() != rsp.Status.OK:
+            print(f"no difference in {steps} steps")
+            return
+        emulator.step()
+        steps += 1
+        found = difference(emulator, machine.regs())
+        if found:
+            print(f"step {steps}, {place:03x}: {rsp.text(emulator.imem[place // 4], place)}\n  {found}")
+            return
+
+
+def main():
+    words = rsp.assemble(PROGRAM)
+    imem = words + [0] * (1024 - len(words))
+    with rsp.Rsp() as machine:
+        machine.load_words(rsp.IMEM, 0, imem)
+        state = machine.get()
+        state.words[1] = -64 % BELOW
+        state.words[2] = 4
+        for has_fault in (True, False):
+            lockstep(machine, Emulator(imem, state, has_fault), state)
+
+
+main()
