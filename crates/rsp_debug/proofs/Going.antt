@@ -19,7 +19,8 @@ use Rattle.rsp_debug.specs.declared.held.Held.{Held}
 use Rattle.rsp_debug.specs.Held.{differs, watches_of}
 use Rattle.rsp_debug.specs.Calls.{IsAfter, done_steps}
 use Rattle.rsp_debug.specs.Stops.{reason_at}
-use Rattle.rsp_machine.specs.Saved.{Saved, can_undo}
+use Rattle.rsp_machine.specs.Saved.{Saved}
+use Rattle.rsp_machine.specs.Transfers.{starts_dma_at}
 use Rattle.rsp_debug.specs.Places.{Standing, from_place, steps_left, steps_between}
 use Rattle.rsp_debug.specs.Runs.{stuck_of, hit_in}
 use Rattle.rsp_debug.proofs.Reasons.{stuck_by, stuck_is, reason-none, reason-hit, reason-limit, unhit, hit_of, next-reached, next-first, next-hit, step-halted-same, step-reserved-same, steps-none}
@@ -76,14 +77,14 @@ pub past-one : (k depth : ℕ) (s : State) (past : List State) → k ≡ 1 → p
 unfolding past_of steps_of
 past-one k depth s past e = ap (λ i. past_of i depth s past) e
 
-past_cond : (halted undoable : Bool) (w depth : ℕ) (s : State) (past : List State) → past_by (cond halted end.Halted (end.Reserved w)) undoable depth s past ≡ past
+past_cond : (halted dma : Bool) (w depth : ℕ) (s : State) (past : List State) → past_by (cond halted end.Halted (end.Reserved w)) dma depth s past ≡ past
 past_cond true u w depth s past = refl
 past_cond false u w depth s past = refl
 
 pub past-refused : (depth : ℕ) (s : State) (past : List State) → is_some (stuck_of s) ≡ true → past_after depth s past ≡ past
 unfolding past_after
 past-refused depth s past e =
-    ap (λ r. past_by r.0 (can_undo s) depth s past) (refusal-is s e) ∙ past_cond s.sp.halted (can_undo s) (word_at s.imem s.pc) depth s past
+    ap (λ r. past_by r.0 (starts_dma_at s) depth s past) (refusal-is s e) ∙ past_cond s.sp.halted (starts_dma_at s) (word_at s.imem s.pc) depth s past
 
 -- where nothing is kept
 none_by : (e : StepEnd) (b : Bool) (s : State) → past_by e b 0 s [] ≡ []
@@ -96,7 +97,7 @@ pub past-unkept : (depth : ℕ) (s t : State) (rs : List Saved) → rs ≡ [] �
 unfolding past_after
 past-unkept depth s t rs none e =
     let z : depth ≡ 0 = grind (arith, nat_tests) in
-    rw (none, z) (sym (none_by (step_of s).0 (can_undo s) s))
+    rw (none, z) (sym (none_by (step_of s).0 (starts_dma_at s) s))
 
 pub ruleset unkept = (past-unkept)
 
