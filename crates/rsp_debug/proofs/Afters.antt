@@ -169,15 +169,6 @@ after-more k s m t h e there = subst (λ (x : State). IsAfter (k + 1) s x) (sym 
 pub after-same : (k : ℕ) (s m t : State) → IsAfter k s m → t ≡ m → IsAfter k s t
 after-same k s m t h there = subst (λ (x : State). IsAfter k s x) (sym there) h
 
-pub one-done : (k : ℕ) (m t : State) → IsAfter k m t → 0 < k → (step_of m).0 ≡ end.Done
-one-done k m t h one = ap (λ (x : State). (step_of x).0) (sym (steps-none m)) ∙ h.done 0 one
-
-pub one-state : (k : ℕ) (m t : State) → IsAfter k m t → k ≡ 1 → t ≡ (step_of m).1
-one-state k m t h one = h.reached ∙ ap (λ i. steps_of i m) one ∙ steps-more 0 m ∙ ap (λ (x : State). (step_of x).1) (steps-none m)
-
-pub none-state : (k : ℕ) (m t : State) → IsAfter k m t → k ≡ 0 → t ≡ m
-none-state k m t h none = h.reached ∙ ap (λ i. steps_of i m) none ∙ steps-none m
-
 pub limit-reached : (k n : ℕ) (o : Option Reason) → k ≤ n → (k < n → is_some o ≡ true) → o ≡ None → k ≡ n
 limit-reached k n o within stuck none =
     elim (cases_lt k n) [

@@ -5,7 +5,7 @@ use Rattle.std.proofs.lemmas.Bool.Decides.{nat_tests}
 use Rattle.rsp_machine.specs.State.{State}
 use Rattle.rsp_machine.specs.Step.{step_of}
 use Rattle.rsp_machine.specs.Laws.{steps_of}
-use Rattle.rsp_machine.specs.Saved.{can_undo}
+use Rattle.rsp_machine.specs.Transfers.{starts_dma_at}
 use Rattle.rsp_machine.specs.declared.step.StepEnd.{StepEnd}
 use Rattle.rsp_machine.specs.declared.step.StepEnd.TheVariants.{Done, Halted, Reserved}
 use Rattle.rsp_debug.specs.Past.{past_by, past_after}
@@ -64,11 +64,11 @@ sound_at : (s : State) (m n taken : ℕ) (d : Debugging) → m ≡ n → Sound s
 sound_at s m n taken d e h = let P : ℕ → Type 0 = λ k. Sound s k taken d in subst P e h
 
 done_trails : (b : Bool) (s : State) (m depth : ℕ) (x : State) (past : List State) → x ≡ steps_of m s → Trails s m past → Trails s (suc m) (past_by Done b depth x past)
-done_trails true s m depth x past e h = trails-take s (suc m) depth (x ∷ past) (e, h)
-done_trails false s m depth x past e h = tt
+done_trails false s m depth x past e h = trails-take s (suc m) depth (x ∷ past) (e, h)
+done_trails true s m depth x past e h = tt
 
 abbrev ended : StepEnd → Debugging → Debugging
-ended end d = record d { state = (step_of d.state).1; past = past_by end (can_undo d.state) d.depth d.state d.past }
+ended end d = record d { state = (step_of d.state).1; past = past_by end (starts_dma_at d.state) d.depth d.state d.past }
 
 done_sound : (s : State) (n taken : ℕ) (d : Debugging) → (step_of d.state).0 ≡ Done → Sound s n taken d → Sound s (n + 1) taken (ended Done d)
 unfolding steps_of
@@ -80,8 +80,8 @@ done_sound s n taken d e h =
     record {
       order = omega arith;
       state = ap (λ z. (step_of z).1) h.state ∙ ap (λ j. steps_of j s) k;
-      past = let Q : ℕ → Type 0 = λ j. Trails s j (past_by Done (can_undo d.state) d.depth d.state d.past) in
-          subst Q k (done_trails (can_undo d.state) s (n - taken) d.depth d.state d.past h.state h.past);
+      past = let Q : ℕ → Type 0 = λ j. Trails s j (past_by Done (starts_dma_at d.state) d.depth d.state d.past) in
+          subst Q k (done_trails (starts_dma_at d.state) s (n - taken) d.depth d.state d.past h.state h.past);
       all_done = λ j l. below_more P (n - taken) h.all_done here j (omega arith);
     }
 

@@ -1,13 +1,10 @@
 -- Going on by steps.
-use Rattle.std.proofs.Common.{◌≡◌, ℕ, zero, suc, ◌+◌, ◌-◌, ◌<◌, ◌≤◌, List, [], refl, ap, sym, ◌∙◌, subst, arith, add-one, Bool, true, false, Option, Some, None, cond}
-use Rattle.std.specs.Prelude.{is_some, unwrap_or, ◌==◌}
+use Rattle.std.proofs.Common.{◌≡◌, ℕ, zero, suc, ◌+◌, ◌-◌, ◌<◌, ◌≤◌, List, [], refl, ap, sym, ◌∙◌, subst, arith, add-one, Bool, true, false, Option, Some, None}
+use Rattle.std.specs.Prelude.{unwrap_or, ◌==◌}
 use Rattle.std.proofs.lemmas.Bool.Decides.{nat_tests}
 use Rattle.rsp_machine.specs.State.{State}
-use Rattle.rsp_machine.specs.Step.{step_of, step_by}
+use Rattle.rsp_machine.specs.Step.{step_of}
 use Rattle.rsp_machine.specs.Laws.{steps_of}
-use Rattle.rsp_memory.specs.Memory.{word_at}
-use Rattle.rsp_decode.specs.Table.{inst_of}
-use Rattle.rsp_decode.specs.declared.inst.Inst.{Inst}
 use Rattle.rsp_machine.specs.declared.step.StepEnd.{StepEnd}
 use Rattle.rsp_machine.specs.declared.step.StepEnd.TheVariants as end
 use Rattle.rsp_debug.specs.Past.{states_before, past_by, past_after, past_of}
@@ -19,10 +16,11 @@ use Rattle.rsp_debug.specs.declared.held.Held.{Held}
 use Rattle.rsp_debug.specs.Held.{differs, watches_of}
 use Rattle.rsp_debug.specs.Calls.{IsAfter, done_steps}
 use Rattle.rsp_debug.specs.Stops.{reason_at}
-use Rattle.rsp_machine.specs.Saved.{Saved, can_undo}
+use Rattle.rsp_machine.specs.Saved.{Saved}
+use Rattle.rsp_machine.specs.Transfers.{starts_dma_at}
 use Rattle.rsp_debug.specs.Places.{Standing, from_place, steps_left, steps_between}
 use Rattle.rsp_debug.specs.Runs.{stuck_of, hit_in}
-use Rattle.rsp_debug.proofs.Reasons.{stuck_by, stuck_is, reason-none, reason-hit, reason-limit, unhit, hit_of, next-reached, next-first, next-hit, step-halted-same, step-reserved-same, steps-none}
+use Rattle.rsp_debug.proofs.Reasons.{reason-hit, reason-limit, unhit, hit_of, next-reached, next-first, next-hit, step-halted-same, step-reserved-same, steps-none}
 use Rattle.rsp_debug.proofs.Afters.{after-none, after-more, after-same}
 
 -- n steps of a debugger are n steps of its machine, and fill its past
@@ -59,32 +57,6 @@ pub past-reserved : (depth : ℕ) (s : State) (past : List State) (w : ℕ) → 
 unfolding past_after
 past-reserved depth s past w e = rw e refl
 
--- what a machine that can't go on answers
-refused : (halted : Bool) (i : Option Inst) (w : ℕ) (s : State) → is_some (stuck_by halted i) ≡ true
-    → (cond halted (end.Halted, s) (step_by i w s)) ≡ (cond halted end.Halted (end.Reserved w), s)
-refused true i w s e = refl
-refused false None w s e = refl
-refused false (Some i) w s e = cc
-
-pub refusal-is : (s : State) → is_some (stuck_of s) ≡ true → step_of s ≡ (cond s.sp.halted end.Halted (end.Reserved (word_at s.imem s.pc)), s)
-unfolding step_of
-refusal-is s e =
-    refused s.sp.halted (inst_of (word_at s.imem s.pc)) (word_at s.imem s.pc) s (ap is_some (sym (stuck_is s.sp.halted (inst_of (word_at s.imem s.pc)))) ∙ e)
-
--- one step, or none
-pub past-one : (k depth : ℕ) (s : State) (past : List State) → k ≡ 1 → past_of k depth s past ≡ past_after depth s past
-unfolding past_of steps_of
-past-one k depth s past e = ap (λ i. past_of i depth s past) e
-
-past_cond : (halted undoable : Bool) (w depth : ℕ) (s : State) (past : List State) → past_by (cond halted end.Halted (end.Reserved w)) undoable depth s past ≡ past
-past_cond true u w depth s past = refl
-past_cond false u w depth s past = refl
-
-pub past-refused : (depth : ℕ) (s : State) (past : List State) → is_some (stuck_of s) ≡ true → past_after depth s past ≡ past
-unfolding past_after
-past-refused depth s past e =
-    ap (λ r. past_by r.0 (can_undo s) depth s past) (refusal-is s e) ∙ past_cond s.sp.halted (can_undo s) (word_at s.imem s.pc) depth s past
-
 -- where nothing is kept
 none_by : (e : StepEnd) (b : Bool) (s : State) → past_by e b 0 s [] ≡ []
 none_by end.Done true s = refl
@@ -96,20 +68,9 @@ pub past-unkept : (depth : ℕ) (s t : State) (rs : List Saved) → rs ≡ [] �
 unfolding past_after
 past-unkept depth s t rs none e =
     let z : depth ≡ 0 = grind (arith, nat_tests) in
-    rw (none, z) (sym (none_by (step_of s).0 (can_undo s) s))
+    rw (none, z) (sym (none_by (step_of s).0 (starts_dma_at s) s))
 
 pub ruleset unkept = (past-unkept)
-
-pub past-stays : (k depth : ℕ) (s : State) (past : List State) → k ≡ 0 → is_some (stuck_of s) ≡ true → past_of k depth s past ≡ past_after depth s past
-past-stays k depth s past z e = ap (λ i. past_of i depth s past) z ∙ past-none depth s past ∙ sym (past-refused depth s past e)
-
-pub first-stuck : (b : List Bool) (k : ℕ) (s t : State) (r : Reason) (o : Option Reason) → stuck_of t ≡ o → t ≡ steps_of k s → k < 1
-    → (stuck_of t ≡ None → reason_at b [] 1 s k ≡ Some r) → is_some o ≡ true
-first-stuck b k s t r None e there h last =
-    let some = last e in
-    let none = reason-none b [] 1 s t k there e (unhit b [] k (steps_of (k - 1) s) (steps_of k s) h) h in
-    cc
-first-stuck b k s t r (Some q) e there h last = refl
 
 -- A run of at most n steps from s has made k of them: where it stands and how that came.
 pub record IsCome (b : List Bool) (w : List (Option Watch)) (n depth : ℕ) (s : State) (before : List State) (k : ℕ) (m : State) (past : List State) : Type 0 where
@@ -208,5 +169,3 @@ pub none-asked : (b : List Bool) (w : List (Option Watch)) (n : ℕ) (s : State)
 none-asked b w n s none free = reason-limit b w n s s 0 (sym (steps-none s)) free (unhit b w 0 (steps_of 0 s) (steps_of 0 s) (omega arith)) (sym none)
 
 pub ruleset goes = (past-none, past-more)
-
-pub ruleset refusals = (refusal-is)

@@ -9,7 +9,8 @@ use Rattle.rsp_machine.specs.Step.{step_of}
 use Rattle.rsp_machine.specs.Saved.{Saved, undone, can_undo, slot_after}
 use Rattle.rsp_machine.specs.declared.step.StepEnd.TheVariants.{Done, Halted, Reserved}
 use Rattle.rsp_machine.proofs.Kept.{halted_stays, reserved_stays}
-use Rattle.rsp_machine.proofs.Ending.{step_halted}
+use Rattle.rsp_machine.proofs.Ending.{step_halted, undo-done}
+use Rattle.rsp_machine.specs.Transfers.{starts_dma_at}
 use Rattle.rsp_debug.specs.Places.{next_place, previous_place, from_place}
 use Rattle.rsp_debug.specs.Past.{states_before, past_by, past_after}
 use Rattle.rsp_debug.proofs.Turns.{grown, pushed, popped, first_is, kept_member}
@@ -23,6 +24,14 @@ pub length-states_before : (s : State) (rs : List Saved) → length (states_befo
 length-states_before s [] = refl
 length-states_before s (r ∷ rs) = ap suc (length-states_before (undone r s) rs)
 
+-- a step that is Done can be undone unless it starts a DMA
+not_of : (dma b : Bool) → not dma ≡ b → dma ≡ not b
+not_of true b e = ap not e
+not_of false b e = ap not e
+
+no-dma : (s : State) (b : Bool) → (step_of s).0 ≡ Done → can_undo s ≡ b → starts_dma_at s ≡ not b
+no-dma s b d u = not_of (starts_dma_at s) b (sym (undo-done s d) ∙ u)
+
 -- a step that can be undone, by the record x of it
 led : (s t : State) (rs : List Saved) (n : ℕ) (x : Saved) → (step_of s).0 ≡ Done → can_undo s ≡ true → undone x t ≡ s
     → states_before t (take n (x ∷ rs)) ≡ past_after n s (states_before s rs)
@@ -30,8 +39,8 @@ unfolding past_after
 led s t rs n x d u e =
     states_before-take t n (x ∷ rs)
     ∙ ap (λ z. take n (z ∷ states_before z rs)) e
-    ∙ sym (ap (λ b. past_by Done b n s (states_before s rs)) u)
-    ∙ sym (ap (λ b. past_by b (can_undo s) n s (states_before s rs)) d)
+    ∙ sym (ap (λ b. past_by Done b n s (states_before s rs)) (no-dma s true d u))
+    ∙ sym (ap (λ b. past_by b (starts_dma_at s) n s (states_before s rs)) d)
 
 pub past_done : (s t : State) (xs : List Saved) (i count n : ℕ) (x : Saved) → 0 < i → i ≤ length xs → n ≤ length xs
     → (step_of s).0 ≡ Done → can_undo s ≡ true → undone x t ≡ s
@@ -43,7 +52,7 @@ past_done s t xs i count n x h l c d u e = ap (states_before t) (grown xs i coun
 pub past_gone : (s : State) (past : List State) (n : ℕ) → (step_of s).0 ≡ Done → can_undo s ≡ false → [] ≡ past_after n s past
 unfolding past_after
 past_gone s past n d u =
-    sym (ap (λ b. past_by Done b n s past) u) ∙ sym (ap (λ b. past_by b (can_undo s) n s past) d)
+    sym (ap (λ b. past_by Done b n s past) (no-dma s false d u)) ∙ sym (ap (λ b. past_by b (starts_dma_at s) n s past) d)
 
 -- a step that isn't Done
 pub past_halted : (s : State) (xs : List Saved) (p i n count : ℕ) (x : Saved) → x ≡ get_or xs p x → (step_of s).0 ≡ Halted
@@ -85,7 +94,7 @@ halted_state s h = ap (λ r. r.1) (sym (step_halted s h))
 
 pub halted_past : (s : State) (past : List State) (n : ℕ) → s.sp.halted ≡ true → past ≡ past_after n s past
 unfolding past_after
-halted_past s past n h = sym (ap (λ r. past_by r.0 (can_undo s) n s past) (step_halted s h))
+halted_past s past n h = sym (ap (λ r. past_by r.0 (starts_dma_at s) n s past) (step_halted s h))
 
 pub ruleset singles = (past_gone, halted_answer, halted_state, halted_past)
 

@@ -3,7 +3,8 @@ use Rattle.std.specs.Prelude.{ℕ, zero, suc, List, [], ◌∷◌, take, Bool, t
 use Rattle.rsp_machine.specs.State.{State}
 use Rattle.rsp_machine.specs.Step.{step_of}
 use Rattle.rsp_machine.specs.Laws.{steps_of}
-use Rattle.rsp_machine.specs.Saved.{Saved, undone, can_undo}
+use Rattle.rsp_machine.specs.Saved.{Saved, undone}
+use Rattle.rsp_machine.specs.Transfers.{starts_dma_at}
 use Rattle.rsp_machine.specs.declared.step.StepEnd.{StepEnd}
 use Rattle.rsp_machine.specs.declared.step.StepEnd.TheVariants.{Done, Halted, Reserved}
 
@@ -17,15 +18,16 @@ abbrev pub states_before : State → List Saved → List State
 states_before s [] = []
 states_before s (r ∷ rs) = undone r s ∷ states_before (undone r s) rs
 
--- the past after a step from s: s leads it where the step can be undone, a DMA empties it, and any other step leaves it
+-- The past after a step from s, by what it answers and whether it starts a DMA: a step that is Done puts s in front, a DMA empties
+-- the past, and a step that isn't Done leaves it.
 abbrev pub past_by : StepEnd → Bool → ℕ → State → List State → List State
-past_by Done true depth s past = take depth (s ∷ past)
-past_by Done false depth s past = []
+past_by Done false depth s past = take depth (s ∷ past)
+past_by Done true depth s past = []
 past_by Halted b depth s past = past
 past_by (Reserved w) b depth s past = past
 
 unfoldable pub past_after : ℕ → State → List State → List State
-past_after depth s past = past_by (step_of s).0 (can_undo s) depth s past
+past_after depth s past = past_by (step_of s).0 (starts_dma_at s) depth s past
 
 -- the past after n steps from s
 unfoldable pub past_of : ℕ → ℕ → State → List State → List State

@@ -178,15 +178,6 @@ fn go_on<A: Acc>(
     (n - span.left() as u32, found)
 }
 
-/// One step of a machine of which nothing is kept.
-#[inline(never)]
-fn step_unkept<A: Acc>(machine: &mut Machine<A>) -> StepEnd
-    ensures answer { result ≡ (step_of machine.old).0 }
-    ensures state { machine.new ≡ (step_of machine.old).1 }
-{
-    machine.step()
-}
-
 /// One step of a machine, of which the ring keeps what it changed.
 #[tactic(auto, using(crate::proofs::Going::unkept))]
 pub(crate) fn step<A: Acc>(machine: &mut Machine<A>, past: &mut Ring) -> StepEnd
@@ -196,7 +187,7 @@ pub(crate) fn step<A: Acc>(machine: &mut Machine<A>, past: &mut Ring) -> StepEnd
     ensures depth { past.new.depth ≡ past.old.depth }
 {
     if past.keeps_none() {
-        return step_unkept(machine);
+        return machine.step_apart();
     }
     past.step(machine)
 }

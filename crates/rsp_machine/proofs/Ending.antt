@@ -11,6 +11,8 @@ use Rattle.rsp_machine.specs.State.{State}
 use Rattle.rsp_machine.specs.Vector.{multiplies, rounds, multiplies_mpeg, reads_accumulator, ruled, divides, loads_vector, stores_vector, moves_vector, moves_control}
 use Rattle.rsp_machine.specs.Step.{computes, loads, stores, jumps, worked, executed, singled, step_by, step_of}
 use Rattle.rsp_machine.specs.declared.step.StepEnd.TheVariants.{Done, Halted, Reserved}
+use Rattle.rsp_machine.specs.declared.step.StepEnd.{StepEnd}
+use Rattle.rsp_machine.specs.Transfers.{starts_dma_in, starts_dma_at}
 use Rattle.rsp_machine.specs.declared.change.Change.TheVariants as of
 use Rattle.rsp_machine.specs.Saved.{Saved, change_of, kept_change, reaches_sp, told_by, told_of, slot_after, starts_dma, is_length, is_back_by, can_undo, may_store, undone}
 use Rattle.rsp_machine.proofs.Flagging.{AreFlags}
@@ -86,13 +88,41 @@ pub step_halted : (s : State) → s.sp.halted ≡ true → step_of s ≡ (Halted
 unfolding step_of
 step_halted s h = halted_by s.sp.halted (inst_of (word_at s.imem s.pc)) (word_at s.imem s.pc) s h
 
-no_undo_by : (b : Bool) (o : Option Inst) → b ≡ true → (if b then false else is_back_by o) ≡ false
-no_undo_by true o h = refl
-no_undo_by false o h = cc
+-- a step can be undone exactly where it is Done and starts no DMA
+undo_by : (b : Bool) (o : Option Inst) (w : ℕ) (s : State) → (if b then (Halted, s) else step_by o w s).0 ≡ Done
+    → (if b then false else is_back_by o) ≡ not (starts_dma_in o)
+undo_by true o w s e = cc
+undo_by false None w s e = cc
+undo_by false (Some i) w s e = refl
 
-pub no_undo_halted : (s : State) → s.sp.halted ≡ true → (false ≡ true → can_undo s ≡ true) × (can_undo s ≡ true → false ≡ true)
-unfolding can_undo
-no_undo_halted s h = (λ e. cc, λ u. sym (no_undo_by s.sp.halted (inst_of (word_at s.imem s.pc)) h) ∙ u)
+pub undo-done : (s : State) → (step_of s).0 ≡ Done → can_undo s ≡ not (starts_dma_at s)
+unfolding can_undo step_of starts_dma_at
+undo-done s e = undo_by s.sp.halted (inst_of (word_at s.imem s.pc)) (word_at s.imem s.pc) s e
+
+steps_by : (b : Bool) (o : Option Inst) (w : ℕ) (s : State) → (if b then false else is_back_by o) ≡ true
+    → (if b then (Halted, s) else step_by o w s).0 ≡ Done
+steps_by true o w s e = cc
+steps_by false None w s e = cc
+steps_by false (Some i) w s e = refl
+
+undo_steps : (s : State) → can_undo s ≡ true → (step_of s).0 ≡ Done
+unfolding can_undo step_of
+undo_steps s e = steps_by s.sp.halted (inst_of (word_at s.imem s.pc)) (word_at s.imem s.pc) s e
+
+none_of : (dma : Bool) → not dma ≡ true → dma ≡ false
+none_of true e = cc
+none_of false e = refl
+
+-- so a record that is given where a step can be undone is given exactly there
+pub undo-is : (s : State) (end : StepEnd) (A : Type 0) → end ≡ (step_of s).0 → (A → can_undo s ≡ true) × (can_undo s ≡ true → A)
+    → (A → (end ≡ Done) × (starts_dma_at s ≡ false)) × ((end ≡ Done) × (starts_dma_at s ≡ false) → A)
+undo-is s end A e h = (
+  λ a. (e ∙ undo_steps s (h.0 a), none_of (starts_dma_at s) (sym (undo-done s (undo_steps s (h.0 a))) ∙ h.0 a)),
+  λ p. h.1 (undo-done s (sym e ∙ p.0) ∙ ap not p.1),
+)
+
+pub no-record-halted : (dma : Bool) → (false ≡ true → (Halted ≡ Done) × (dma ≡ false)) × ((Halted ≡ Done) × (dma ≡ false) → false ≡ true)
+no-record-halted dma = (λ e. cc, λ p. let h : Halted ≡ Done = p.0 in cc)
 
 -- a step of a machine that isn't halted
 running : (b : Bool) (o : Option Inst) (w : ℕ) (s : State) → b ≡ false → (if b then (Halted, s) else step_by o w s) ≡ step_by o w s

@@ -6,3 +6,4 @@ pub mod Step
 pub mod Laws
 pub mod Saved
 pub mod Registers
+pub mod Transfers

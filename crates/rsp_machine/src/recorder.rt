@@ -2,6 +2,8 @@
 
 ghost use Rattle.std.specs.Prelude.{◌≡◌, ◌↔◌, true, false, IsSome, IfSome};
 ghost use Rattle.rsp_machine.specs.Step.{step_of};
+ghost use Rattle.rsp_machine.specs.Transfers.{starts_dma_at};
+ghost use Rattle.rsp_machine.specs.declared.step.StepEnd.TheVariants.{Done};
 ghost use Rattle.rsp_machine.specs.Saved.{slot_after, can_undo, may_store, undone};
 
 use crate::machine::Machine;
@@ -64,7 +66,7 @@ impl<A: Acc> Machine<A> {
     pub fn step_recorded(&mut self) -> (StepEnd, Option<Record>)
         ensures answer { result.0 ≡ (step_of self.old).0 }
         ensures state { self.new ≡ (step_of self.old).1 }
-        ensures which { IsSome result.1 ↔ (can_undo self.old ≡ true) }
+        ensures which { IsSome result.1 ↔ ((result.0 ≡ Done) × (starts_dma_at self.old ≡ false)) }
         ensures back { IfSome result.1 (λ r. undone r self.new ≡ self.old) }
     {
         if self.sp.halted() {

@@ -182,10 +182,10 @@ impl<A: Acc> Machine<A> {
         self.sp.on_step();
     }
 
-    /// A step where the machine is halted, or single step is set.
-    #[cold]
+    /// One step, as [`Machine::step`] makes it, for a caller that makes no loop of them. It has its own copy of the decoder, and
+    /// so leaves the other to such a loop.
     #[inline(never)]
-    fn step_held(&mut self) -> StepEnd
+    pub fn step_apart(&mut self) -> StepEnd
         ensures answer { result ≡ (step_of self.old).0 }
         ensures state { self.new ≡ (step_of self.old).1 }
     {
@@ -198,6 +198,16 @@ impl<A: Acc> Machine<A> {
         };
         self.end_instruction();
         StepEnd::Done
+    }
+
+    /// A step where the machine is halted, or single step is set.
+    #[cold]
+    #[inline(never)]
+    fn step_held(&mut self) -> StepEnd
+        ensures answer { result ≡ (step_of self.old).0 }
+        ensures state { self.new ≡ (step_of self.old).1 }
+    {
+        self.step_apart()
     }
 
     /// One step: Halted where the machine is halted, else Reserved where the word of IMEM at pc is, and

@@ -1,7 +1,7 @@
 use Rattle.std.proofs.Common.{◌∙◌, ap, sym}
 use Rattle.rsp_machine.specs.State.{State}
 use Rattle.rsp_machine.proofs.Ending.{step_halted, step_reserved, step_done}
-use Rattle.rsp_machine.proofs.machine.Machine.step_held.Goals as goal
+use Rattle.rsp_machine.proofs.machine.Machine.step_apart.Goals as goal
 
 pub returns-then-halted-clause-answer : goal.returns-then-halted-clause-answer
 returns-then-halted-clause-answer g c =
