@@ -178,27 +178,6 @@ impl Session {
         Ok(())
     }
 
-    /// Answers a line in a reply that says nothing so far. It is a call of its own, so that a line without bytes doesn't pay
-    /// for the places of its command.
-    #[inline(never)]
-    #[tactic(auto, unfolding(crate::specs::Session::line_answer))]
-    fn answer_text(
-        &mut self,
-        alloc: Global,
-        line: &[u8],
-        reply: &mut Reply,
-    ) -> Result<(), AllocError>
-        requires empty { reply.old ≡ [] }
-        ensures reply { OnOk result (reply.new ≡ (line_answer line.now self.old).reply) }
-        ensures next { OnOk result (self.new ≡ (line_answer line.now self.old).next) }
-    {
-        match &parse_line(line, self.in_block()) {
-            Ok(command) => self.exec_to(alloc, command, reply)?,
-            Err(fault) => tell_line_fault(reply, *fault),
-        }
-        Ok(())
-    }
-
     /// What is left to say at the end of a script: the fault of an open block, else nothing.
     pub fn finish(&self) -> Reply
         ensures { result ≡ closing self.now }
@@ -225,13 +204,14 @@ impl Answering for Session {
 
     ghost closing = { closing };
 
-    #[tactic(auto, using(crate::proofs::Blank::blank))]
+    #[tactic(auto, unfolding(crate::specs::Session::line_answer))]
     fn answer(&mut self, alloc: Global, line: &[u8], reply: &mut Reply) -> Result<(), AllocError> {
         reply.clear();
-        if line.is_empty() && !self.in_block() {
-            return Ok(());
+        match &parse_line(line, self.in_block()) {
+            Ok(command) => self.exec_to(alloc, command, reply)?,
+            Err(fault) => tell_line_fault(reply, *fault),
         }
-        self.answer_text(alloc, line, reply)
+        Ok(())
     }
 
     fn close(&self, reply: &mut Reply) {
