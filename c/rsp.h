@@ -163,8 +163,8 @@ uint32_t rsp_read(rsp *m, uint32_t n, uint32_t *out);
 uint32_t rsp_peek(rsp *m, uint32_t n, uint32_t *out);
 uint32_t rsp_write(rsp *m, uint32_t n, uint32_t value);
 
-/* Texts. rsp_assemble gives the words of a source in UTF-8, at most 1024, whose first stands at `origin`, a multiple of 4 up to 4096; where it is
- * refused, `words` is as it was. rsp_text gives the text of a word at a place, and rsp_listing those of the words of IMEM from a place on,
+/* Texts. rsp_assemble gives the words of a source in UTF-8, at most 1024, whose first stands at `origin`, a multiple of 4 up to 4096; what stands
+ * behind them in `words` stays, and where it is refused, all. rsp_text gives the text of a word at a place, and rsp_listing those of the words of IMEM from a place on,
  * as many as `len` says, all inside IMEM. */
 uint32_t rsp_assemble(uint32_t origin, const uint8_t *text, size_t len, uint32_t *words, size_t capacity, rsp_assembled *out);
 uint32_t rsp_text(uint32_t word, uint32_t place, rsp_line *out);

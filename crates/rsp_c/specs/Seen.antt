@@ -18,6 +18,9 @@ use Rattle.rsp_c.specs.declared.shapes.RspAccumulators.{RspAccumulators}
 use Rattle.rsp_c.specs.declared.shapes.RspFlagBits.{RspFlagBits}
 use Rattle.rsp_c.specs.declared.shapes.RspDivideState.{RspDivideState}
 use Rattle.rsp_c.specs.declared.shapes.RspLine.{RspLine}
+use Rattle.rsp_c.specs.declared.shapes.RspAssembled.{RspAssembled}
+use Rattle.rsp_c.specs.Answers.{fault_number}
+use Rattle.rsp_text.specs.declared.fault.AsmFault.{AsmFault}
 
 -- the number of a reason
 abbrev pub reason_number : Reason → ℕ
@@ -69,3 +72,13 @@ seen_line word place = record {
 -- the n words of IMEM from a place on
 unfoldable pub seen_lines : List ℕ → ℕ → ℕ → List RspLine
 seen_lines imem place n = map (λ i. seen_line (word_at imem (place + 4 * i)) (place + 4 * i)) (range_with_len 0 n)
+
+-- what an assembly tells: how many words there are, a fault of the text, and that the bytes are no text
+abbrev pub told_words : ℕ → RspAssembled
+told_words n = record { count = n; line = 0; fault = 0 }
+
+abbrev pub told_fault : AsmFault → RspAssembled
+told_fault f = record { count = 0; line = f.line; fault = fault_number f.kind }
+
+abbrev pub told_no_text : RspAssembled
+told_no_text = record { count = 0; line = 0; fault = 33 }

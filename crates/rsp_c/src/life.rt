@@ -1,6 +1,6 @@
 // A machine's life.
 
-ghost use Rattle.std.specs.Prelude.{◌≡◌, ◌<◌, ◌⊎◌, Some, None, length};
+ghost use Rattle.std.specs.Prelude.{◌≡◌, ◌<◌, ◌≤◌, ◌⊎◌, Some, None, length};
 ghost use Rattle.rsp_machine.specs.State.{start_of};
 ghost use Rattle.rsp_memory.specs.Image.{IsImageLength};
 ghost use Rattle.rsp_debug.specs.Debugging.{debugging_of};
@@ -29,6 +29,7 @@ pub extern "C" fn rsp_version() -> u32
 #[unsafe(no_mangle)]
 pub extern "C" fn rsp_new(handle: &mut Handle, alloc: Global, image: &[u8], depth: u32) -> u32
     ensures ok { result ≡ OK → handle.new.session ≡ Some (debugging_of depth (start_of image.now)) }
+    ensures range { result ≡ OK → (depth ≤ 4096) × IsImageLength (length image.now) }
     ensures answer { (result ≡ OK) ⊎ (result ≡ NO_MEMORY) ⊎ ((result ≡ OUT_OF_RANGE) × ((4096 < depth) ⊎ ¬ (IsImageLength (length image.now)))) }
     ensures same { (result ≡ OK → ⊥) → handle.new.session ≡ handle.old.session }
 {

@@ -1,9 +1,10 @@
 // Texts: from a source to words, and from words to their text.
 
-ghost use Rattle.std.specs.Prelude.{◌≡◌, ◌+◌, ◌-◌, ◌*◌, ◌++◌, ◌<◌, ◌≤◌, ◌%◌, ◌↔◌, ◌⊎◌, Ok, IfSome, IfNone, MatchResult, length, take, replicate};
+ghost use Rattle.std.specs.Prelude.{◌≡◌, ◌+◌, ◌-◌, ◌*◌, ◌++◌, ◌<◌, ◌≤◌, ◌%◌, ◌↔◌, ◌⊎◌, Ok, IfSome, IfNone, MatchResult, length, take, drop, replicate};
+ghost use Rattle.std.specs.Str.{IsUtf8};
 ghost use Rattle.rsp_text.specs.Means.{means};
 ghost use Rattle.rsp_c.specs.Answers.{fault_number, place_status};
-ghost use Rattle.rsp_c.specs.Seen.{seen_line, seen_lines};
+ghost use Rattle.rsp_c.specs.Seen.{seen_line, seen_lines, told_words, told_fault, told_no_text};
 
 use crate::handle::Handle;
 use crate::shapes::{RspAssembled, RspLine};
@@ -31,8 +32,11 @@ pub extern "C" fn rsp_assemble(
 ) -> u32
     ensures range { (result ≡ OUT_OF_RANGE) ↔ ((4096 < origin) ⊎ ¬ (origin % 4 ≡ 0)) }
     ensures words { result ≡ OK → means text.now origin ≡ Ok (take out.new.count words.new) }
+    ensures rest { result ≡ OK → drop out.new.count words.new ≡ drop out.new.count words.old }
     ensures count { result ≡ OK → out.new.count ≤ length words.new }
-    ensures fault { result ≡ NO_MEANING → (out.new.fault ≡ NOT_TEXT) ⊎ MatchResult (means text.now origin) (λ _. ⊥) (λ f. (out.new.line ≡ f.line) × (out.new.fault ≡ fault_number f.kind)) }
+    ensures told { result ≡ OK → out.new ≡ told_words out.new.count }
+    ensures fault { result ≡ NO_MEANING → IsUtf8 text.now → MatchResult (means text.now origin) (λ _. ⊥) (λ f. out.new ≡ told_fault f) }
+    ensures no_text { ¬ (IsUtf8 text.now) → (result ≡ OUT_OF_RANGE) ⊎ ((result ≡ NO_MEANING) × (out.new ≡ told_no_text)) }
     ensures room { result ≡ NO_ROOM → MatchResult (means text.now origin) (λ found. length words.old < length found) (λ _. ⊥) }
     ensures refused { (result ≡ OK → ⊥) → words.new ≡ words.old }
     ensures answer { (result ≡ OK) ⊎ (result ≡ NO_MEMORY) ⊎ (result ≡ OUT_OF_RANGE) ⊎ (result ≡ NO_MEANING) ⊎ (result ≡ NO_ROOM) }
