@@ -178,6 +178,40 @@ impl Session {
         Ok(())
     }
 
+    /// Whether a line is answered with nothing, and changes nothing, for it has no bytes and no block is open.
+    #[tactic(auto, using(crate::proofs::Blank::reply, crate::proofs::Blank::next))]
+    fn says_nothing(&self, line: &[u8]) -> bool
+        ensures reply { result ≡ true → (line_answer line.now self.now).reply ≡ [] }
+        ensures next { result ≡ true → (line_answer line.now self.now).next ≡ self.now }
+    {
+        if line.is_empty() {
+            !self.in_block()
+        } else {
+            false
+        }
+    }
+
+    /// Answers a line in a reply that says nothing so far. It is a call of its own, so that a line without bytes doesn't pay
+    /// for the places of a command.
+    #[inline(never)]
+    #[tactic(auto, unfolding(crate::specs::Session::line_answer))]
+    fn answer_text(
+        &mut self,
+        alloc: Global,
+        line: &[u8],
+        reply: &mut Reply,
+    ) -> Result<(), AllocError>
+        requires empty { reply.old ≡ [] }
+        ensures reply { OnOk result (reply.new ≡ (line_answer line.now self.old).reply) }
+        ensures next { OnOk result (self.new ≡ (line_answer line.now self.old).next) }
+    {
+        match &parse_line(line, self.in_block()) {
+            Ok(command) => self.exec_to(alloc, command, reply)?,
+            Err(fault) => tell_line_fault(reply, *fault),
+        }
+        Ok(())
+    }
+
     /// What is left to say at the end of a script: the fault of an open block, else nothing.
     pub fn finish(&self) -> Reply
         ensures { result ≡ closing self.now }
@@ -204,14 +238,12 @@ impl Answering for Session {
 
     ghost closing = { closing };
 
-    #[tactic(auto, unfolding(crate::specs::Session::line_answer))]
     fn answer(&mut self, alloc: Global, line: &[u8], reply: &mut Reply) -> Result<(), AllocError> {
         reply.clear();
-        match &parse_line(line, self.in_block()) {
-            Ok(command) => self.exec_to(alloc, command, reply)?,
-            Err(fault) => tell_line_fault(reply, *fault),
+        if self.says_nothing(line) {
+            return Ok(());
         }
-        Ok(())
+        self.answer_text(alloc, line, reply)
     }
 
     fn close(&self, reply: &mut Reply) {
