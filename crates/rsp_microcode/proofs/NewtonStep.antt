@@ -166,8 +166,8 @@ quotient_range x =
     let below = negsuc 0 -ℤ pos (reciprocal_bits (size_of x)) in
     let signed = if int_lt x (pos 0) then below else above in
     one_is (int_eq x (pos 0)) (pos 2147483647) (if int_eq x (negsuc 32767) then negsuc 65535 else signed) (pos_is 2147483647 (omega arith))
-        (one_is (int_eq x (negsuc 32767)) (negsuc 65535) signed (neg_is 65535 (omega arith))
-        (one_is (int_lt x (pos 0)) below above (minus_is (reciprocal_bits (size_of x)) (bits_small (size_of x))) (pos_is (reciprocal_bits (unsigned_abs x)) (bits_small (unsigned_abs x)))))
+    (one_is (int_eq x (negsuc 32767)) (negsuc 65535) signed (neg_is 65535 (omega arith))
+    (one_is (int_lt x (pos 0)) below above (minus_is (reciprocal_bits (size_of x)) (bits_small (size_of x))) (pos_is (reciprocal_bits (unsigned_abs x)) (bits_small (unsigned_abs x)))))
 
 s32_range : (n : ℕ) → n < 2 ^ 32 → (negsuc (2 ^ 31 - 1) ≤ℤ s32 n) × (s32 n <ℤ pos (2 ^ 31))
 s32_range n h = elim (cases_lt n (2 ^ 31)) [
