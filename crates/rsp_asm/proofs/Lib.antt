@@ -10,3 +10,4 @@ pub mod Fits
 pub mod Decodes
 pub mod Same
 pub mod Blocks
+pub mod BlockTexts

@@ -7,7 +7,7 @@ use Rattle.std.proofs.lemmas.List.Splits.{length-slice_split}
 use Rattle.std.proofs.lemmas.List.Sums.{count_by-le-length}
 use Rattle.std.proofs.lemmas.List.{length-map}
 use Rattle.rsp_text.specs.declared.text.Stop.TheVariants.{Comma}
-use Rattle.rsp_chars.specs.Chars.{trim}
+use Rattle.rsp_text.specs.Chars.{trim}
 use Rattle.rsp_text.specs.Cuts.{stops, cut}
 use Rattle.rsp_text.specs.Statement.{operand_texts}
 use Rattle.rsp_text.proofs.Cuts.{IsCut, cut_some, cut_nothing}

@@ -6,3 +6,5 @@ pub mod Walks
 pub mod Forms
 pub mod Answer
 pub mod Decoding
+pub mod Block
+pub mod BlockFault

@@ -1,7 +1,7 @@
 -- The operands that are left of a statement, as the code has them. This is scaffolding of the proofs.
 use Rattle.std.specs.Prelude.{ℕ, List, [], Option, Some, None, map}
 use Rattle.std.specs.List.{slice_split}
-use Rattle.rsp_chars.specs.Chars.{trim}
+use Rattle.rsp_text.specs.Chars.{trim}
 use Rattle.rsp_text.specs.Cuts.{stops}
 use Rattle.rsp_text.specs.declared.text.Stop.TheVariants.{Comma}
 

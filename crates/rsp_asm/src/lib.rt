@@ -3,6 +3,7 @@
 //! The first pass finds the place of each label, and each fault that needs no label. The second one writes the words.
 #![tactic(auto)]
 
+mod block;
 mod check;
 mod form;
 pub mod laws;
@@ -14,6 +15,7 @@ mod row;
 mod source;
 mod words;
 
+pub use block::{Block, BlockFault};
 pub use rsp_text::{AsmFault, AsmFaultKind};
 pub use source::assemble;
 pub use words::Words;

@@ -8,9 +8,8 @@ ghost use Rattle.rsp_asm.specs.Parts.{parts};
 use crate::check::check_statement;
 use crate::push::push_statement;
 use crate::words::Words;
-use rsp_chars::{is_line, skip_blanks, trim};
 use rsp_operands::Labels;
-use rsp_text::{AsmFaultKind, Stop, cut, is_label};
+use rsp_text::{AsmFaultKind, Stop, cut, is_label, is_line, skip_blanks, trim};
 
 /// What the first pass finds in a line.
 #[derive(Clone, Copy)]

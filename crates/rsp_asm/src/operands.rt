@@ -3,8 +3,7 @@
 ghost use Rattle.std.specs.Prelude.{◌≡◌, ◌+◌, ◌≤◌, [], ◌∷◌, length, MatchOption};
 ghost use Rattle.rsp_text.specs.Statement.{operand_texts};
 
-use rsp_chars::trim;
-use rsp_text::{Stop, cut};
+use rsp_text::{Stop, cut, trim};
 use std::marker::Model;
 
 /// The operands that are left of a statement. Contracts see their texts.

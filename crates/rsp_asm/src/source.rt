@@ -9,9 +9,8 @@ ghost use Rattle.rsp_asm.specs.Answer.{IsFault};
 
 use crate::line::{check_line, push_words};
 use crate::words::Words;
-use rsp_chars::without_return;
 use rsp_operands::Labels;
-use rsp_text::{AsmFault, AsmFaultKind, Stop, cut};
+use rsp_text::{AsmFault, AsmFaultKind, Stop, cut, without_return};
 use std::alloc::{AllocError, Global};
 
 /// The first line, and what follows it.

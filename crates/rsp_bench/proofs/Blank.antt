@@ -3,11 +3,11 @@ use Rattle.std.proofs.Common.{◌≡◌, ◌==◌, ℕ, List, [], ◌∷◌, len
 use Rattle.std.specs.Prelude.{is_some}
 use Rattle.rsp_script.specs.Command.{command_of_words}
 use Rattle.rsp_script.specs.Line.{command_of}
-use Rattle.rsp_block.specs.Source.{Source}
+use Rattle.rsp_asm.specs.Block.{OpenBlock}
 use Rattle.rsp_debug.specs.Debugging.{Debugging}
 use Rattle.rsp_bench.specs.Session.{SessionState, same, line_answer, answer_of, in_block}
 
-said : (line : List ℕ) (d : Debugging) (b : Option Source) → length line ≡ 0 → is_some b ≡ false
+said : (line : List ℕ) (d : Debugging) (b : Option OpenBlock) → length line ≡ 0 → is_some b ≡ false
     → line_answer line (record { debugging = d; block = b }) ≡ same [] (record { debugging = d; block = b })
 unfolding line_answer answer_of command_of command_of_words
 said [] d None e f = refl

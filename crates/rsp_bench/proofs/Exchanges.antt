@@ -2,7 +2,7 @@
 use Rattle.std.proofs.Common.{◌≡◌, inl, inr, ℕ, zero, suc, List, [], ◌∷◌, ◌++◌, replicate, refl, ap, sym, ◌∙◌, subst, append_assoc, Bool, true, false, cond, Option, Some, None, Result, Ok, Err}
 use Rattle.std.specs.Prelude.{codes, nat_le, length, is_some, if◌then◌else◌}
 use Rattle.std.specs.List.{before_first, list_all}
-use Rattle.rsp_chars.specs.Chars.{is_plain}
+use Rattle.rsp_text.specs.Chars.{is_plain}
 use Rattle.rsp_script.specs.Line.{is_hash}
 use Rattle.rsp_script.specs.Words.{words_in}
 use Rattle.rsp_script.specs.Names.{name_of}
@@ -18,7 +18,7 @@ use Rattle.rsp_script.specs.declared.command.Look.TheVariants.{Regs, Vregs, Acc,
 use Rattle.rsp_script.specs.declared.fault.LineFault.{LineFault}
 use Rattle.rsp_script.specs.declared.fault.LineFault.TheVariants.{BadCommand, BadNumber, LineTooLong, NotText}
 use Rattle.rsp_memory.specs.declared.bank.Bank.{Bank}
-use Rattle.rsp_block.specs.Source.{Source}
+use Rattle.rsp_asm.specs.Block.{OpenBlock}
 use Rattle.rsp_debug.specs.Stops.{stop_of}
 use Rattle.rsp_debug.specs.Calls.{is_count}
 use Rattle.rsp_debug.specs.Debugging.{Debugging, stepped, steps_made, stop_in, ran}
@@ -68,7 +68,7 @@ unfolding command_of
 plainly line true e = cc
 plainly line false e = refl
 
-closed_in : (b : Option Source) → b ≡ None → is_some b ≡ false
+closed_in : (b : Option OpenBlock) → b ≡ None → is_some b ≡ false
 closed_in b e = ap is_some e
 
 -- what a line comes to is what its words come to, too long or no text aside
@@ -78,7 +78,7 @@ by_command line s closed = ap (λ r. parsed_answer r s) (plainly line (in_block 
 
 by_answer : (c : Command) (s : SessionState) → s.block ≡ None → answer_of c s ≡ plain_answer c s
 unfolding answer_of
-by_answer c s closed = ap (λ (b : Option Source). answer_in b c s) closed
+by_answer c s closed = ap (λ (b : Option OpenBlock). answer_in b c s) closed
 
 -- ---- looks
 abbrev is_look : Command → Bool

@@ -7,7 +7,7 @@ use Rattle.rsp_script.specs.declared.fault.LineFault.{LineFault}
 use Rattle.rsp_script.specs.Line.{command_of}
 use Rattle.rsp_memory.specs.declared.bank.Bank.{Bank}
 use Rattle.rsp_text.specs.declared.fault.AsmFault.{AsmFault}
-use Rattle.rsp_block.specs.Source.{Source, meaning}
+use Rattle.rsp_asm.specs.Block.{OpenBlock, meaning}
 use Rattle.rsp_machine.specs.Host.{is_inside, with_bank_bytes, task_fault}
 use Rattle.rsp_machine.specs.declared.host.TaskFault.{TaskFault}
 use Rattle.rsp_debug.specs.Stops.{is_break}
@@ -89,17 +89,17 @@ none_to_close : (c : Command) (s next : SessionState) → s.block ≡ None → n
 none_to_close End s next closed e = e ∙ ap (λ b. record s { block = b }) closed
 none_to_close _ s next closed e = e
 
-kept_end : (b : Source) (r : Result (List ℕ) AsmFault) (s : SessionState) → is_refusal (end_answer b r s).reply ≡ true
+kept_end : (b : OpenBlock) (r : Result (List ℕ) AsmFault) (s : SessionState) → is_refusal (end_answer b r s).reply ≡ true
     → (end_answer b r s).next ≡ kept_by End s
 kept_end b (Ok words) s e = cc
 kept_end b (Err fault) s e = refl
 
-kept_block : (b : Source) (c : Command) (s : SessionState) → is_refusal (block_answer b c s).reply ≡ true → (block_answer b c s).next ≡ kept_by c s
+kept_block : (b : OpenBlock) (c : Command) (s : SessionState) → is_refusal (block_answer b c s).reply ≡ true → (block_answer b c s).next ≡ kept_by c s
 kept_block b (BlockLine line) s e = cc
 kept_block b End s e = kept_end b (meaning b) s e
 kept_block b _ s e = refl
 
-kept_in : (open_block : Option Source) (c : Command) (s : SessionState) → s.block ≡ open_block → is_refusal (answer_in open_block c s).reply ≡ true
+kept_in : (open_block : Option OpenBlock) (c : Command) (s : SessionState) → s.block ≡ open_block → is_refusal (answer_in open_block c s).reply ≡ true
     → (answer_in open_block c s).next ≡ kept_by c s
 kept_in None c s closed e = none_to_close c s _ closed (keeps_plain c s e)
 kept_in (Some b) c s closed e = kept_block b c s e

@@ -4,14 +4,14 @@ use Rattle.std.specs.List.{flat_map}
 use Rattle.rsp_scalar.specs.Registers.{register}
 use Rattle.rsp_loadstore.specs.File.{vector}
 use Rattle.rsp_loadstore.specs.Controls.{control_half}
-use Rattle.rsp_flags.specs.declared.flags.Flags.{Flags}
+use Rattle.rsp_lanes.specs.declared.flags.Flags.{Flags}
 use Rattle.rsp_divide.specs.declared.divider.Divider.{Divider}
 use Rattle.rsp_numbers.specs.Numbers.{number, high, middle, low}
 use Rattle.std.specs.Simd.Lanes.{mask_l}
 use Rattle.rsp_regs.specs.Sp.{Sp, peeked}
 use Rattle.rsp_machine.specs.State.{State}
 use Rattle.rsp_debug.specs.Looks.{ListedWord}
-use Rattle.rsp_reply.specs.Text.{hex_text, two_digits, short_decimal, each_text}
+use Rattle.rsp_lines.specs.Text.{hex_text, two_digits, short_decimal, each_text}
 
 -- a blank and a word
 unfoldable pub word_text : ℕ → List ℕ

@@ -17,7 +17,7 @@ use Rattle.rsp_debug.specs.declared.stop.Reason.TheVariants as reasons
 use Rattle.rsp_debug.specs.declared.stop.Stop.{Stop}
 use Rattle.rsp_text.specs.declared.fault.AsmFault.{AsmFault}
 use Rattle.rsp_text.specs.Faults.{kind_name}
-use Rattle.rsp_reply.specs.Text.{hex_text}
+use Rattle.rsp_lines.specs.Text.{hex_text}
 
 -- a line of a reply
 abbrev pub line_of : List ℕ → List ℕ

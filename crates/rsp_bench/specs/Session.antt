@@ -13,8 +13,8 @@ use Rattle.rsp_memory.specs.declared.bank.Bank.TheVariants.{Imem}
 use Rattle.rsp_text.specs.declared.fault.AsmFault.{AsmFault}
 use Rattle.rsp_text.specs.declared.fault.AsmFaultKind.TheVariants.{BadLine}
 use Rattle.rsp_text.specs.Means.{fault_at}
-use Rattle.rsp_block.specs.Source.{Source, opened, with_line, meaning}
-use Rattle.rsp_block.specs.Fault.{hides_no_fault}
+use Rattle.rsp_asm.specs.Block.{OpenBlock, opened, with_line, meaning}
+use Rattle.rsp_asm.specs.BlockFault.{hides_no_fault}
 use Rattle.rsp_regs.specs.Sp.{peeked}
 use Rattle.rsp_machine.specs.State.{State, start_of}
 use Rattle.rsp_machine.specs.Step.{step_of}
@@ -37,7 +37,7 @@ use Rattle.rsp_bench.specs.Words.{words_bytes}
 -- a session: what its debugger holds, and the block of source text that is open
 pub record SessionState : Type 0 where
   pub debugging : Debugging
-  pub block : Option Source
+  pub block : Option OpenBlock
 
 -- a reply that leaves the session as it was
 abbrev pub same : List ℕ → SessionState → Answered SessionState
@@ -128,7 +128,7 @@ look_text (Dis place n) state = dis_text place n state
 -- ---- commands
 
 -- no reply, and the block after the command
-abbrev pub with_block : Source → SessionState → Answered SessionState
+abbrev pub with_block : OpenBlock → SessionState → Answered SessionState
 with_block b s = record { reply = []; next = record s { block = Some b } }
 
 -- what a command comes to where no block is open
@@ -152,7 +152,7 @@ plain_answer (BlockLine line) s = same (line_fault_text BadCommand) s
 plain_answer End s = same (line_fault_text BadCommand) s
 
 -- the end of a block: its words go to IMEM, or nothing changes there
-abbrev pub end_answer : Source → Result (List ℕ) AsmFault → SessionState → Answered SessionState
+abbrev pub end_answer : OpenBlock → Result (List ℕ) AsmFault → SessionState → Answered SessionState
 end_answer b (Ok words) s = record {
   reply = words_text (length words);
   next = record { debugging = resumed (with_bank_bytes Imem b.place (words_bytes words) s.debugging.state) s.debugging; block = None };
@@ -160,12 +160,12 @@ end_answer b (Ok words) s = record {
 end_answer b (Err fault) s = record { reply = asm_fault_text fault; next = record s { block = None } }
 
 -- what a command comes to while a block is open
-abbrev pub block_answer : Source → Command → SessionState → Answered SessionState
+abbrev pub block_answer : OpenBlock → Command → SessionState → Answered SessionState
 block_answer b (BlockLine line) s = with_block (with_line line b) s
 block_answer b End s = end_answer b (meaning b) s
 block_answer b _ s = same (line_fault_text BadCommand) s
 
-abbrev pub answer_in : Option Source → Command → SessionState → Answered SessionState
+abbrev pub answer_in : Option OpenBlock → Command → SessionState → Answered SessionState
 answer_in None command s = plain_answer command s
 answer_in (Some b) command s = block_answer b command s
 
@@ -180,7 +180,7 @@ NeedsNoMemory End s = s.block ≡ None
 NeedsNoMemory _ s = Unit {0}
 
 -- want of memory for the words of a block, at a line where it hides no fault of the text
-abbrev pub HidesNoFault : Source → Type 0
+abbrev pub HidesNoFault : OpenBlock → Type 0
 HidesNoFault b = (line : ℕ) × hides_no_fault b line
 
 -- such want of memory, where a command ends a block
@@ -201,7 +201,7 @@ unfoldable pub line_answer : List ℕ → SessionState → Answered SessionState
 line_answer line s = parsed_answer (command_of line (in_block s)) s
 
 -- a block that is still open has no line that ends it
-abbrev pub closing_of : Option Source → List ℕ
+abbrev pub closing_of : Option OpenBlock → List ℕ
 closing_of None = []
 closing_of (Some b) = asm_fault_text (fault_at (length b.lines + 1) BadLine)
 

@@ -12,8 +12,8 @@ use crate::replies::{
 };
 use crate::session::Session;
 use crate::vector_looks::{tell_accumulators, tell_flags, tell_vector_registers};
+use rsp_lines::Reply;
 use rsp_memory::Bank;
-use rsp_reply::Reply;
 use rsp_script::Look;
 
 /// What each command does where no block is open.

@@ -10,8 +10,7 @@ mod session;
 mod vector_looks;
 mod words;
 
-pub use rsp_ends::{EndFault, FromRead, MemSink, MemSource, Sink, Source, ToWrite};
-pub use rsp_reply::Reply;
+pub use rsp_lines::{EndFault, FromRead, MemSink, MemSource, Reply, Sink, Source, ToWrite};
 pub use rsp_script::{Command, LineFault, Look, SourceLine, parse_line};
 pub use run::{BenchEnd, run_bench};
 pub use session::Session;

@@ -1,15 +1,15 @@
 ghost use Rattle.std.specs.Prelude.{◌≡◌, ℕ, ◌+◌, ◌-◌, ◌*◌, ◌/◌, ◌^◌, ◌<◌, ◌≤◌, [], ◌++◌, take, drop, length, slice_index};
 ghost use Rattle.std.specs.List.{flat_map};
 ghost use Rattle.rsp_regs.specs.Sp.{peeked};
-ghost use Rattle.rsp_reply.specs.Text.{each_text, hex_text};
+ghost use Rattle.rsp_lines.specs.Text.{each_text, hex_text};
 ghost use Rattle.rsp_bench.specs.Looks.{word_text, register_line, registers_text, sp_line, sp_text, dump_line, dump_text, listed_line, listing_text};
 
 use rsp_acc::Acc;
 use rsp_debug::{Debugger, Listed};
+use rsp_lines::{REPLY_LIMIT, Reply};
 use rsp_regs::SpRegs;
-use rsp_reply::{REPLY_LIMIT, Reply};
 
-#[tactic(auto, using(rsp_reply::proofs::Texts::parts), unfolding(crate::specs::Looks::word_text))]
+#[tactic(auto, using(rsp_lines::proofs::Texts::parts), unfolding(crate::specs::Looks::word_text))]
 fn push_word(reply: &mut Reply, word: u32)
     requires { length reply.old + 9 ≤ REPLY_LIMIT }
     ensures text { reply.new ≡ reply.old ++ word_text word }
@@ -20,7 +20,7 @@ fn push_word(reply: &mut Reply, word: u32)
 }
 
 /// Four registers from `first` on.
-#[tactic(auto, using(rsp_reply::proofs::Texts::parts))]
+#[tactic(auto, using(rsp_lines::proofs::Texts::parts))]
 fn push_four(reply: &mut Reply, words: &[u32; 32], first: u8)
     requires registers { first + 4 ≤ 32 }
     requires room { length reply.old + 36 ≤ REPLY_LIMIT }
@@ -32,7 +32,7 @@ fn push_four(reply: &mut Reply, words: &[u32; 32], first: u8)
     }
 }
 
-#[tactic(auto, using(rsp_reply::proofs::Texts::parts), unfolding(crate::specs::Looks::register_line))]
+#[tactic(auto, using(rsp_lines::proofs::Texts::parts), unfolding(crate::specs::Looks::register_line))]
 fn push_register_line(reply: &mut Reply, words: &[u32; 32], k: u8)
     requires registers { k < 8 }
     requires room { length reply.old + 40 ≤ REPLY_LIMIT }
@@ -45,7 +45,7 @@ fn push_register_line(reply: &mut Reply, words: &[u32; 32], k: u8)
     reply.push_text(b"\n");
 }
 
-#[tactic(auto, using(rsp_reply::proofs::Texts::parts))]
+#[tactic(auto, using(rsp_lines::proofs::Texts::parts))]
 fn push_register_lines(reply: &mut Reply, words: &[u32; 32])
     requires { length reply.old + 320 ≤ REPLY_LIMIT }
     ensures { reply.new ≡ reply.old ++ each_text (register_line (λ n. slice_index words.now n)) 8 }
@@ -56,7 +56,7 @@ fn push_register_lines(reply: &mut Reply, words: &[u32; 32])
 }
 
 /// The places and the scalar registers.
-#[tactic(auto, using(rsp_reply::proofs::Texts::parts), unfolding(crate::specs::Looks::registers_text))]
+#[tactic(auto, using(rsp_lines::proofs::Texts::parts), unfolding(crate::specs::Looks::registers_text))]
 pub(crate) fn tell_registers<A: Acc>(reply: &mut Reply, debugger: &Debugger<A>)
     requires { reply.old ≡ [] }
     ensures { reply.new ≡ registers_text debugger.now.state }
@@ -71,7 +71,7 @@ pub(crate) fn tell_registers<A: Acc>(reply: &mut Reply, debugger: &Debugger<A>)
 }
 
 /// One SP register: its number below 16, and its value.
-#[tactic(auto, using(rsp_reply::proofs::Texts::parts), unfolding(crate::specs::Looks::sp_line))]
+#[tactic(auto, using(rsp_lines::proofs::Texts::parts), unfolding(crate::specs::Looks::sp_line))]
 pub(crate) fn push_sp_line(reply: &mut Reply, n: u8, value: u32)
     requires register { n < 16 }
     requires room { length reply.old + 13 ≤ REPLY_LIMIT }
@@ -84,7 +84,7 @@ pub(crate) fn push_sp_line(reply: &mut Reply, n: u8, value: u32)
     reply.push_text(b"\n");
 }
 
-#[tactic(auto, using(rsp_reply::proofs::Texts::parts))]
+#[tactic(auto, using(rsp_lines::proofs::Texts::parts))]
 fn push_sp_lines(reply: &mut Reply, sp: &SpRegs)
     requires { length reply.old + 208 ≤ REPLY_LIMIT }
     ensures text { reply.new ≡ reply.old ++ each_text (λ n. sp_line n (peeked n sp.now)) 16 }
@@ -96,7 +96,7 @@ fn push_sp_lines(reply: &mut Reply, sp: &SpRegs)
 }
 
 /// The SP registers as they would read, and the interrupt flag.
-#[tactic(auto, using(rsp_reply::proofs::Texts::parts), unfolding(crate::specs::Looks::sp_text))]
+#[tactic(auto, using(rsp_lines::proofs::Texts::parts), unfolding(crate::specs::Looks::sp_text))]
 pub(crate) fn tell_sp_registers(reply: &mut Reply, sp: &SpRegs)
     requires { reply.old ≡ [] }
     ensures { reply.new ≡ sp_text sp.now }
@@ -106,7 +106,7 @@ pub(crate) fn tell_sp_registers(reply: &mut Reply, sp: &SpRegs)
     reply.push_text(if sp.interrupt() { b"1\n" } else { b"0\n" });
 }
 
-#[tactic(auto, using(rsp_reply::proofs::Texts::parts))]
+#[tactic(auto, using(rsp_lines::proofs::Texts::parts))]
 fn push_bytes(reply: &mut Reply, bytes: &[u8])
     requires { length reply.old + 2 * length bytes.now ≤ REPLY_LIMIT }
     ensures text { reply.new ≡ reply.old ++ flat_map (hex_text 2) bytes.now }
@@ -117,7 +117,7 @@ fn push_bytes(reply: &mut Reply, bytes: &[u8])
     }
 }
 
-#[tactic(auto, using(rsp_reply::proofs::Texts::parts), unfolding(crate::specs::Looks::dump_line))]
+#[tactic(auto, using(rsp_lines::proofs::Texts::parts), unfolding(crate::specs::Looks::dump_line))]
 fn push_dump_line(reply: &mut Reply, a: u32, bytes: &[u8])
     requires few { length bytes.now ≤ 16 }
     requires room { length reply.old + 41 ≤ REPLY_LIMIT }
@@ -151,7 +151,7 @@ fn push_dump_row(reply: &mut Reply, a: u32, bytes: &[u8], k: usize)
 }
 
 /// At most 256 bytes that stand at an address, 16 in a line.
-#[tactic(auto, using(rsp_reply::proofs::Texts::parts), unfolding(crate::specs::Looks::dump_text))]
+#[tactic(auto, using(rsp_lines::proofs::Texts::parts), unfolding(crate::specs::Looks::dump_text))]
 pub(crate) fn tell_dump(reply: &mut Reply, a: u32, bytes: &[u8])
     requires place { a + length bytes.now < 2 ^ 31 }
     requires few { length bytes.now ≤ 256 }
@@ -163,7 +163,7 @@ pub(crate) fn tell_dump(reply: &mut Reply, a: u32, bytes: &[u8])
     }
 }
 
-#[tactic(auto, using(rsp_reply::proofs::Texts::parts), unfolding(crate::specs::Looks::listed_line))]
+#[tactic(auto, using(rsp_lines::proofs::Texts::parts), unfolding(crate::specs::Looks::listed_line))]
 fn push_listed_line(reply: &mut Reply, listed: &Listed)
     requires { length reply.old + 78 ≤ REPLY_LIMIT }
     ensures text { reply.new ≡ reply.old ++ listed_line listed.now }
@@ -177,7 +177,7 @@ fn push_listed_line(reply: &mut Reply, listed: &Listed)
 }
 
 /// At most 64 words of IMEM, a line each.
-#[tactic(auto, using(rsp_reply::proofs::Texts::parts), unfolding(crate::specs::Looks::listing_text))]
+#[tactic(auto, using(rsp_lines::proofs::Texts::parts), unfolding(crate::specs::Looks::listing_text))]
 pub(crate) fn tell_listing(reply: &mut Reply, words: &[Listed])
     requires few { length words.now ≤ 64 }
     requires empty { reply.old ≡ [] }

@@ -2,14 +2,14 @@ ghost use Rattle.std.specs.Prelude.{◌≡◌, ◌+◌, ◌≤◌, [], ◌++◌,
 ghost use Rattle.rsp_bench.specs.Replies.{ok_text, fault_line, range_text, line_fault_text, task_fault_text, break_fault_text, no_break_text, watch_fault_text, no_watch_text, back_fault_text, count_text, step_text, reason_text, stop_text, watch_text, words_text, asm_fault_text};
 
 use itoa::Buffer;
-use rsp_block::AsmFault;
+use rsp_asm::AsmFault;
 use rsp_debug::{BackFault, BreakFault, Reason, Stop, WatchFault};
+use rsp_lines::{REPLY_LIMIT, Reply};
 use rsp_machine::{StepEnd, TaskFault};
-use rsp_reply::{REPLY_LIMIT, Reply};
 use rsp_script::LineFault;
 
 /// The reply of a fault, by its number and its name.
-#[tactic(auto, using(rsp_reply::proofs::Texts::parts))]
+#[tactic(auto, using(rsp_lines::proofs::Texts::parts))]
 fn tell_fault(reply: &mut Reply, name: &str)
     requires short { length name.now ≤ 32 }
     requires empty { reply.old ≡ [] }
@@ -130,7 +130,7 @@ fn push_number(reply: &mut Reply, n: usize)
     reply.push_text(buffer.format(n).as_bytes());
 }
 
-#[tactic(auto, using(rsp_reply::proofs::Texts::parts))]
+#[tactic(auto, using(rsp_lines::proofs::Texts::parts))]
 fn push_reason(reply: &mut Reply, reason: Reason)
     requires { length reply.old + 46 ≤ REPLY_LIMIT }
     ensures text { reply.new ≡ reply.old ++ reason_text reason }
@@ -149,7 +149,7 @@ fn push_reason(reply: &mut Reply, reason: Reason)
 }
 
 /// Why a run stopped, how many steps it made, and pc after it.
-#[tactic(auto, using(rsp_reply::proofs::Texts::parts))]
+#[tactic(auto, using(rsp_lines::proofs::Texts::parts))]
 pub(crate) fn tell_stop(reply: &mut Reply, stop: Stop)
     requires { reply.old ≡ [] }
     ensures { reply.new ≡ stop_text stop }
@@ -164,7 +164,7 @@ pub(crate) fn tell_stop(reply: &mut Reply, stop: Stop)
 }
 
 /// The number of a new watch.
-#[tactic(auto, using(rsp_reply::proofs::Texts::parts))]
+#[tactic(auto, using(rsp_lines::proofs::Texts::parts))]
 pub(crate) fn tell_watch(reply: &mut Reply, number: usize)
     requires { reply.old ≡ [] }
     ensures { reply.new ≡ watch_text number }
@@ -175,7 +175,7 @@ pub(crate) fn tell_watch(reply: &mut Reply, number: usize)
 }
 
 /// How many words a block gave.
-#[tactic(auto, using(rsp_reply::proofs::Texts::parts))]
+#[tactic(auto, using(rsp_lines::proofs::Texts::parts))]
 pub(crate) fn tell_words(reply: &mut Reply, count: usize)
     requires { reply.old ≡ [] }
     ensures { reply.new ≡ words_text count }
@@ -186,7 +186,7 @@ pub(crate) fn tell_words(reply: &mut Reply, count: usize)
 }
 
 /// Why a block gave no words, and the number of the line.
-#[tactic(auto, using(rsp_reply::proofs::Texts::parts))]
+#[tactic(auto, using(rsp_lines::proofs::Texts::parts))]
 pub(crate) fn tell_asm_fault(reply: &mut Reply, fault: AsmFault)
     requires { reply.old ≡ [] }
     ensures { reply.new ≡ asm_fault_text fault }

@@ -7,8 +7,7 @@ ghost use Rattle.rsp_bench.specs.Run.{out_of, session_of, failed_reads, failed_w
 ghost use Rattle.rsp_bench.specs.Session.{line_answer, closing, first_session};
 
 use crate::session::Session;
-use rsp_ends::{Sink, Source};
-use rsp_lines::{RunFault, SCRIPT_LIMIT, answer_script};
+use rsp_lines::{RunFault, SCRIPT_LIMIT, Sink, Source, answer_script};
 use rsp_memory::Rdram;
 use std::alloc::Global;
 

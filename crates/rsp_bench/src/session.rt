@@ -1,20 +1,19 @@
 ghost use Rattle.std.specs.Prelude.{◌≡◌, ◌≤◌, true, None, IsOk, IsSome, IfSome, IfOk, IfErr, OnOk, OnErr, List, ℕ, length, []};
 ghost use Rattle.std.specs.List.{list_all};
 ghost use Rattle.rsp_script.specs.Command.{IsCommand};
-ghost use Rattle.rsp_chars.specs.Chars.{is_plain};
-ghost use Rattle.rsp_block.specs.Source.{with_line, meaning};
+ghost use Rattle.rsp_text.specs.Chars.{is_plain};
+ghost use Rattle.rsp_asm.specs.Block.{with_line, meaning};
 ghost use Rattle.rsp_bench.specs.Session.{NeedsNoMemory, HidesNoFault, EndHidesNoFault, answer_of, plain_answer, block_answer, with_block, end_answer, line_answer, first_session, closing, in_block};
 ghost use Rattle.rsp_bench.specs.Replies.{line_fault_text};
 
 use crate::replies::{tell_asm_fault, tell_line_fault, tell_ok, tell_words};
 use crate::words::load_words;
 use rsp_acc::PlaneAcc;
-use rsp_block::{AsmFault, AsmFaultKind, Block, BlockFault};
+use rsp_asm::{AsmFault, AsmFaultKind, Block, BlockFault};
 use rsp_debug::Debugger;
-use rsp_lines::Answering;
+use rsp_lines::{Answering, Reply};
 use rsp_machine::Machine;
 use rsp_memory::Rdram;
-use rsp_reply::Reply;
 use rsp_script::{Command, LineFault, SourceLine, parse_line};
 use std::alloc::{AllocError, Global};
 use std::marker::Model;

@@ -6,7 +6,7 @@ use Rattle.rsp_numbers.specs.Numbers.{number}
 use Rattle.rsp_lanes.specs.Lanes.{each_lane}
 use Rattle.rsp_acc.specs.Parts.{part_of}
 use Rattle.rsp_acc.specs.declared.parts.Part.TheVariants as part
-use Rattle.rsp_flags.specs.declared.flags.Flags.{Flags}
+use Rattle.rsp_lanes.specs.declared.flags.Flags.{Flags}
 use Rattle.rsp_divide.specs.declared.divider.Divider.{Divider}
 use Rattle.rsp_memory.specs.Memory.{word_at}
 use Rattle.rsp_text.specs.Spell.{spell}

@@ -6,8 +6,7 @@ ghost use Rattle.rsp_c.specs.States.{seen_state, sp_words, are_sp_words, sp_part
 use crate::seen::{seen_divider, seen_flags};
 use crate::shapes::{RspAccumulators, RspState};
 use rsp_divide::Divider;
-use rsp_flags::Flags;
-use rsp_lanes::Mask8;
+use rsp_lanes::{Flags, Mask8};
 use rsp_machine::AllRegisters;
 use rsp_regs::{SpParts, SpRegs};
 

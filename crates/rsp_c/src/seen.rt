@@ -7,7 +7,7 @@ use crate::shapes::{RspAccumulators, RspDivideState, RspFlagBits, RspStop};
 use rsp_acc::Acc;
 use rsp_debug::{Debugger, Reason, Stop};
 use rsp_divide::Divider;
-use rsp_flags::Flags;
+use rsp_lanes::Flags;
 
 /// The accumulators.
 pub fn seen_accumulators<A: Acc>(debugger: &Debugger<A>) -> RspAccumulators

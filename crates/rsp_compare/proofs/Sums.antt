@@ -6,8 +6,8 @@ use Rattle.std.proofs.lemmas.Bool.{le-ltb, lt-ltb, cases_lt}
 use Rattle.std.proofs.lemmas.Bool.Decides.{nat_tests}
 use Rattle.rsp_lanes.specs.Lanes.{bit}
 use Rattle.rsp_numbers.specs.Numbers.{s16, sixteen_bits, complement, negated}
-use Rattle.rsp_flags.specs.Flags.{LaneFlags}
-use Rattle.rsp_flags.specs.Outcome.{Outcome, plain}
+use Rattle.rsp_lanes.specs.Flags.{LaneFlags}
+use Rattle.rsp_lanes.specs.Outcome.{Outcome, plain}
 use Rattle.rsp_compare.specs.Adds.{vabs}
 use Rattle.rsp_compare.proofs.Comparisons.{by_sign, below_zero, is_zero, is_least}
 

@@ -4,8 +4,8 @@ use Rattle.std.specs.Prelude.{ℕ, ℤ, pos, negsuc, ◌+◌, ◌%◌, ◌+ℤ�
 use Rattle.std.specs.Ordering.{int_eq}
 use Rattle.rsp_lanes.specs.Lanes.{bit}
 use Rattle.rsp_numbers.specs.Numbers.{s16, sixteen_bits, negated, clamp16}
-use Rattle.rsp_flags.specs.Flags.{LaneFlags, vco_cleared}
-use Rattle.rsp_flags.specs.Outcome.{Outcome, Rule, plain}
+use Rattle.rsp_lanes.specs.Flags.{LaneFlags, vco_cleared}
+use Rattle.rsp_lanes.specs.Outcome.{Outcome, Rule, plain}
 use Rattle.rsp_rows.specs.declared.vector.VectorAddRow.{VectorAddRow}
 use Rattle.rsp_rows.specs.declared.vector.VectorAddRow.TheVariants.{Vadd, Vsub, Vabs, Vaddc, Vsubc}
 

@@ -1,4 +1,6 @@
--- The add, compare, merge and logic rows, each by its rule for one lane.
+-- The add, compare, clip, merge and logic rows, each by its rule for one lane.
 pub mod Adds
+pub mod Clips
+pub mod ClipParts
 pub mod Logic
 pub mod Selects

@@ -2,7 +2,7 @@
 use Rattle.std.specs.Prelude.{ℕ}
 use Rattle.std.specs.Int.Bits.{bit_and, bit_or, bit_xor}
 use Rattle.rsp_numbers.specs.Numbers.{complement}
-use Rattle.rsp_flags.specs.Outcome.{Rule, plain}
+use Rattle.rsp_lanes.specs.Outcome.{Rule, plain}
 use Rattle.rsp_rows.specs.declared.vector.VectorLogicRow.{VectorLogicRow}
 use Rattle.rsp_rows.specs.declared.vector.VectorLogicRow.TheVariants.{Vand, Vnand, Vor, Vnor, Vxor, Vnxor}
 

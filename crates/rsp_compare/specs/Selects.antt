@@ -2,8 +2,8 @@
 use Rattle.std.specs.Prelude.{ℕ, Bool, false, not, ◌&&◌, ◌||◌, int_lt, if◌then◌else◌}
 use Rattle.std.specs.Ordering.{int_eq}
 use Rattle.rsp_numbers.specs.Numbers.{s16}
-use Rattle.rsp_flags.specs.Flags.{LaneFlags, vco_cleared}
-use Rattle.rsp_flags.specs.Outcome.{Rule, plain}
+use Rattle.rsp_lanes.specs.Flags.{LaneFlags, vco_cleared}
+use Rattle.rsp_lanes.specs.Outcome.{Rule, plain}
 use Rattle.rsp_rows.specs.declared.vector.VectorSelectRow.{VectorSelectRow}
 use Rattle.rsp_rows.specs.declared.vector.VectorSelectRow.TheVariants.{Vlt, Veq, Vne, Vge}
 use Rattle.rsp_compare.specs.declared.selects.MergeOp.{MergeOp}

@@ -1,13 +1,12 @@
 ghost use Rattle.std.specs.Prelude.{◌≡◌, ◌+ℤ◌, pos, slice_index, slice_index_or, false};
 ghost use Rattle.rsp_lanes.specs.Lanes.{each_lane, bit};
 ghost use Rattle.rsp_numbers.specs.Numbers.{s16, sixteen_bits, clamp16};
-ghost use Rattle.rsp_flags.specs.Outcome.{results_of, lows_of, flags_after};
+ghost use Rattle.rsp_lanes.specs.Outcome.{results_of, lows_of, flags_after};
 ghost use Rattle.rsp_acc.specs.Planes.{with_low};
 ghost use Rattle.rsp_compare.specs.Adds.{vadd, vsub, vabs, vaddc, vsubc, add_rule};
 
 use rsp_acc::Acc;
-use rsp_flags::Flags;
-use rsp_lanes::{Mask8, VReg};
+use rsp_lanes::{Flags, Mask8, VReg};
 use rsp_rows::VectorAddRow;
 
 /// Does an add row: gives the results, writes them to the low sixteen bits of the accumulators (for VADD and VSUB the

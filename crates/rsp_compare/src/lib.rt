@@ -7,12 +7,14 @@
 #![tactic(auto)]
 
 mod adds;
+mod clip_parts;
+mod clips;
 mod logic;
 mod selects;
 
 pub use adds::add_op;
+pub use clips::clip_op;
 pub use logic::logic_op;
-pub use rsp_clip::{VectorClipRow, clip_op};
-pub use rsp_flags::Flags;
-pub use rsp_rows::{VectorAddRow, VectorLogicRow, VectorSelectRow};
+pub use rsp_lanes::Flags;
+pub use rsp_rows::{VectorAddRow, VectorClipRow, VectorLogicRow, VectorSelectRow};
 pub use selects::{MergeOp, merge_op, select_op};

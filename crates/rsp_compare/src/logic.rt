@@ -1,12 +1,11 @@
 ghost use Rattle.std.specs.Prelude.{◌≡◌, slice_index};
 ghost use Rattle.rsp_lanes.specs.Lanes.{each_lane};
-ghost use Rattle.rsp_flags.specs.Outcome.{results_of, lows_of, flags_after};
+ghost use Rattle.rsp_lanes.specs.Outcome.{results_of, lows_of, flags_after};
 ghost use Rattle.rsp_acc.specs.Planes.{with_low};
 ghost use Rattle.rsp_compare.specs.Logic.{bits_of, logic_rule};
 
 use rsp_acc::Acc;
-use rsp_flags::Flags;
-use rsp_lanes::VReg;
+use rsp_lanes::{Flags, VReg};
 use rsp_rows::VectorLogicRow;
 
 /// Does a logic row: gives the results and writes them to the low sixteen bits of the accumulators. All flags stay.

@@ -1,13 +1,12 @@
 ghost use Rattle.std.specs.Prelude.{◌≡◌, slice_index};
 ghost use Rattle.rsp_lanes.specs.Lanes.{each_lane};
-ghost use Rattle.rsp_flags.specs.Flags.{flags_at};
-ghost use Rattle.rsp_flags.specs.Outcome.{results_of, lows_of, flags_after};
+ghost use Rattle.rsp_lanes.specs.Flags.{flags_at};
+ghost use Rattle.rsp_lanes.specs.Outcome.{results_of, lows_of, flags_after};
 ghost use Rattle.rsp_acc.specs.Planes.{with_low};
 ghost use Rattle.rsp_compare.specs.Selects.{vlt, veq, vne, vge, holds, select_rule, merge_rule};
 
 use rsp_acc::Acc;
-use rsp_flags::Flags;
-use rsp_lanes::{Mask8, VReg};
+use rsp_lanes::{Flags, Mask8, VReg};
 use rsp_rows::VectorSelectRow;
 
 /// A merge row.

@@ -4,6 +4,7 @@
 //! fields from the word. What it writes is the definition `spell` of `rsp_text/specs/Spell.antt`.
 #![tactic(auto)]
 
+pub mod laws;
 mod line;
 mod numbers;
 mod operand;

@@ -1,4 +1,4 @@
--- Lemmas on eight lanes.
+-- Lemmas on eight lanes, on flags and on rules of one lane.
 pub mod ByteOrder
 pub mod ByteLanes
 pub mod Carry
@@ -12,3 +12,5 @@ pub mod Products
 pub mod Signs
 pub mod Sources
 pub mod Sums
+pub mod FlagLanes
+pub mod Rules

@@ -6,3 +6,4 @@ pub mod Left
 pub mod Pieces
 pub mod Replies
 pub mod Runs
+pub mod Texts

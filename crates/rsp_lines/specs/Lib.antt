@@ -4,3 +4,6 @@ pub mod Faults
 pub mod Left
 pub mod Lines
 pub mod Replies
+pub mod Ends
+pub mod Held
+pub mod Text

@@ -8,10 +8,11 @@ ghost use Rattle.rsp_lines.specs.Replies.{replies, final};
 
 use crate::answering::Answering;
 use crate::line::LineSoFar;
+use crate::reply::Reply;
 use crate::run::RunFault;
-use rsp_chars::len_before;
-use rsp_ends::{EndFault, Sink};
-use rsp_reply::Reply;
+use crate::sink::Sink;
+use crate::source::EndFault;
+use rsp_text::len_before;
 use std::alloc::Global;
 
 /// Writes the whole of some bytes. A write that fails, or takes nothing, is not tried again.

@@ -1,7 +1,7 @@
 ghost use Rattle.std.specs.Prelude.{◌≡◌, ℕ, List, OnOk};
 ghost use Rattle.rsp_lines.specs.Replies.{Answered, AnswersLongAlike};
 
-use rsp_reply::Reply;
+use crate::reply::Reply;
 use std::alloc::{AllocError, Global};
 
 /// What answers the lines of a script, one after another.

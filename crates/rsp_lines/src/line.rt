@@ -3,7 +3,7 @@ ghost use Rattle.std.specs.Str.Lines.{strip_carriage_return};
 ghost use Rattle.rsp_lines.specs.Lines.{kept, IsLike};
 
 use arrayvec::ArrayVec;
-use rsp_chars::without_return;
+use rsp_text::without_return;
 use std::marker::Model;
 
 /// What a run keeps of a line that no newline has ended: its first 258 bytes, as which it is seen, and a mark that

@@ -9,8 +9,9 @@ ghost use Rattle.rsp_lines.specs.Replies.{replies, final, out_of};
 use crate::answer::{answer_end, answer_piece};
 use crate::answering::Answering;
 use crate::line::LineSoFar;
-use rsp_ends::{Sink, Source};
-use rsp_reply::Reply;
+use crate::reply::Reply;
+use crate::sink::Sink;
+use crate::source::Source;
 use std::alloc::Global;
 
 /// The most bytes that a script has.

@@ -4,7 +4,7 @@ use Rattle.std.specs.Int.{w16}
 use Rattle.std.specs.Simd.Lanes.{mask_l}
 use Rattle.rsp_numbers.specs.Numbers.{bit_set, extended}
 use Rattle.rsp_lanes.specs.Lanes.{each_lane}
-use Rattle.rsp_flags.specs.declared.flags.Flags.{Flags}
+use Rattle.rsp_lanes.specs.declared.flags.Flags.{Flags}
 use Rattle.rsp_decode.specs.declared.inst.Inst.{Inst}
 use Rattle.rsp_decode.specs.declared.inst.Inst.TheVariants.{MoveControl}
 use Rattle.rsp_rows.specs.declared.scalar.MoveRow.TheVariants.{From, To}

@@ -4,8 +4,7 @@ ghost use Rattle.rsp_loadstore.specs.Controls.{control_half, control_value, cont
 
 use crate::moves::extended;
 use rsp_decode::{Control, Inst, MoveRow};
-use rsp_flags::Flags;
-use rsp_lanes::Mask8;
+use rsp_lanes::{Flags, Mask8};
 
 /// The sixteen bits of VCO or of VCC: eight marks in bits 7 to 0, and eight in bits 15 to 8.
 fn control_half(low: Mask8, high: Mask8) -> u16

@@ -2,9 +2,9 @@
 use Rattle.std.proofs.Common.{◌≡◌, ℕ, Bool, true, false, List, refl, sym, ◌∙◌, ap}
 use Rattle.std.specs.Prelude.{if◌then◌else◌}
 use Rattle.rsp_lanes.proofs.Kit.{each_same}
-use Rattle.rsp_flags.specs.declared.flags.Flags.{Flags}
-use Rattle.rsp_flags.specs.Flags.{LaneFlags, flags_at, all_flags}
-use Rattle.rsp_flags.specs.Outcome.{Outcome, Rule, flags_after}
+use Rattle.rsp_lanes.specs.declared.flags.Flags.{Flags}
+use Rattle.rsp_lanes.specs.Flags.{LaneFlags, flags_at, all_flags}
+use Rattle.rsp_lanes.specs.Outcome.{Outcome, Rule, flags_after}
 use Rattle.rsp_rows.specs.declared.vector.VectorAddRow.{VectorAddRow}
 use Rattle.rsp_rows.specs.declared.vector.VectorAddRow.TheVariants.{Vabs}
 use Rattle.rsp_compare.specs.Adds.{add_rule}

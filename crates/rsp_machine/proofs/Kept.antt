@@ -9,7 +9,7 @@ use Rattle.rsp_rows.specs.declared.scalar.SignRow.{SignRow}
 use Rattle.rsp_rows.specs.declared.scalar.SignRow.TheVariants.{Bltz, Bgez, Bltzal, Bgezal, Blez, Bgtz}
 use Rattle.rsp_rows.specs.declared.scalar.JumpRow.{JumpRow}
 use Rattle.rsp_rows.specs.declared.scalar.JumpRow.TheVariants.{J, Jal}
-use Rattle.rsp_flags.specs.declared.flags.Flags.{Flags}
+use Rattle.rsp_lanes.specs.declared.flags.Flags.{Flags}
 use Rattle.rsp_divide.specs.declared.divider.Divider.{Divider}
 use Rattle.rsp_memory.specs.Memory.{word_at, bytes_at, with_bytes}
 use Rattle.rsp_scalar.specs.Registers.{register, with_register}

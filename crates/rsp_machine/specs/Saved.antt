@@ -11,8 +11,8 @@ use Rattle.rsp_rows.specs.declared.scalar.JumpRow.TheVariants.{Jal}
 use Rattle.rsp_rows.specs.declared.vector.VectorLoadRow.{VectorLoadRow}
 use Rattle.rsp_decode.specs.Table.{inst_of}
 use Rattle.rsp_lanes.specs.Lanes.{each_lane}
-use Rattle.rsp_flags.specs.declared.flags.Flags.{Flags}
-use Rattle.rsp_flags.specs.Flags.{no_flags}
+use Rattle.rsp_lanes.specs.declared.flags.Flags.{Flags}
+use Rattle.rsp_lanes.specs.Flags.{no_flags}
 use Rattle.rsp_divide.specs.declared.divider.Divider.{Divider}
 use Rattle.rsp_divide.specs.Dividers.{no_divider}
 use Rattle.rsp_memory.specs.Memory.{word_at, bytes_at, with_bytes}

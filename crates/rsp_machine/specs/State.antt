@@ -4,8 +4,8 @@ use Rattle.rsp_lanes.specs.Lanes.{each_lane}
 use Rattle.rsp_numbers.specs.Numbers.{AreNumbers}
 use Rattle.rsp_memory.specs.Memory.{empty_memory}
 use Rattle.rsp_memory.specs.Image.{IsImageLength}
-use Rattle.rsp_flags.specs.declared.flags.Flags.{Flags}
-use Rattle.rsp_flags.specs.Flags.{no_flags}
+use Rattle.rsp_lanes.specs.declared.flags.Flags.{Flags}
+use Rattle.rsp_lanes.specs.Flags.{no_flags}
 use Rattle.rsp_divide.specs.declared.divider.Divider.{Divider}
 use Rattle.rsp_divide.specs.Dividers.{no_divider}
 use Rattle.rsp_loadstore.specs.File.{IsFile, empty_file}

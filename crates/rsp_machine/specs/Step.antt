@@ -15,7 +15,7 @@ use Rattle.rsp_compare.specs.Adds.{add_rule}
 use Rattle.rsp_compare.specs.Selects.{select_rule, merge_rule}
 use Rattle.rsp_compare.specs.Logic.{logic_rule}
 use Rattle.rsp_compare.specs.declared.selects.MergeOp.TheVariants.{Vmrg}
-use Rattle.rsp_clip.specs.Clips.{clip_rule}
+use Rattle.rsp_compare.specs.Clips.{clip_rule}
 use Rattle.rsp_machine.specs.State.{State, advanced}
 use Rattle.rsp_machine.specs.Vector.{multiplies, rounds, multiplies_mpeg, reads_accumulator, ruled, divides, loads_vector, stores_vector, moves_vector, moves_control}
 use Rattle.rsp_machine.specs.Host.{register_read, register_written}

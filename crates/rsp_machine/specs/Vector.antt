@@ -13,7 +13,7 @@ use Rattle.rsp_rows.specs.declared.vector.VectorStoreRow.{VectorStoreRow}
 use Rattle.rsp_rows.specs.declared.fields.VectorFields.{VectorFields}
 use Rattle.rsp_rows.specs.declared.fields.VectorMemoryFields.{VectorMemoryFields}
 use Rattle.rsp_lanes.specs.Lanes.{selected}
-use Rattle.rsp_flags.specs.Outcome.{Rule, results_of, lows_of, flags_after}
+use Rattle.rsp_lanes.specs.Outcome.{Rule, results_of, lows_of, flags_after}
 use Rattle.rsp_acc.specs.Planes.{with_low}
 use Rattle.rsp_multiply.specs.Rows.{accumulators_after, clamped_by, sar_of}
 use Rattle.rsp_multiply.specs.Mpeg.{accumulators_rounded, clamped_signed, accumulators_mpeg, halved_mpeg}

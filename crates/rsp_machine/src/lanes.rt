@@ -1,14 +1,13 @@
 // Rows that have a rule for one lane.
 
 ghost use Rattle.std.specs.Prelude.{◌≡◌};
-ghost use Rattle.rsp_flags.specs.Outcome.{Rule, results_of, lows_of, flags_after};
+ghost use Rattle.rsp_lanes.specs.Outcome.{Rule, results_of, lows_of, flags_after};
 ghost use Rattle.rsp_acc.specs.Planes.{with_low};
 
 use rsp_acc::Acc;
 use rsp_compare::MergeOp;
 use rsp_decode::{VectorAddRow, VectorClipRow, VectorLogicRow, VectorSelectRow};
-use rsp_flags::Flags;
-use rsp_lanes::VReg;
+use rsp_lanes::{Flags, VReg};
 
 /// An operation that does its rule for one lane on every lane.
 pub(crate) trait LaneOp {
@@ -45,13 +44,13 @@ impl LaneOp for VectorSelectRow {
 }
 
 impl LaneOp for VectorClipRow {
-    ghost use Rattle.rsp_clip.specs.Clips.{clip_rule};
+    ghost use Rattle.rsp_compare.specs.Clips.{clip_rule};
 
     ghost rule = { clip_rule };
 
     #[inline(always)]
     fn apply<A: Acc>(self, a: &VReg, b: &VReg, flags: &mut Flags, acc: &mut A) -> VReg {
-        rsp_clip::clip_op(self, a, b, flags, acc)
+        rsp_compare::clip_op(self, a, b, flags, acc)
     }
 }
 

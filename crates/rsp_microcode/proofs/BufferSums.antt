@@ -14,7 +14,7 @@ use Rattle.rsp_decode.specs.Table.Words.{inst_of, row_of}
 use Rattle.rsp_memory.specs.Memory.{byte_at}
 use Rattle.rsp_lanes.specs.Lanes.{each_lane, selected, IsVector}
 use Rattle.rsp_lanes.proofs.Products.{high_vector}
-use Rattle.rsp_flags.specs.Outcome.{results_of, lows_of, flags_after}
+use Rattle.rsp_lanes.specs.Outcome.{results_of, lows_of, flags_after}
 use Rattle.rsp_compare.specs.Adds.{vadd}
 use Rattle.rsp_acc.specs.Planes.{with_low}
 use Rattle.rsp_scalar.specs.Registers.{register, with_register}

@@ -8,8 +8,8 @@ use Rattle.rsp_rows.specs.declared.vector.VectorAddRow.TheVariants.{Vadd}
 use Rattle.rsp_decode.specs.Table.Words.{inst_of, row_of}
 use Rattle.rsp_lanes.specs.Lanes.{each_lane, selected}
 use Rattle.rsp_lanes.proofs.Kit.{lane_of, each_same}
-use Rattle.rsp_flags.specs.declared.flags.Flags.{Flags}
-use Rattle.rsp_flags.specs.Outcome.{results_of}
+use Rattle.rsp_lanes.specs.declared.flags.Flags.{Flags}
+use Rattle.rsp_lanes.specs.Outcome.{results_of}
 use Rattle.rsp_compare.specs.Adds.{vadd}
 use Rattle.rsp_loadstore.specs.File.{vector, with_vector}
 use Rattle.rsp_machine.specs.State.{State}

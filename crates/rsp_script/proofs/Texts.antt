@@ -7,7 +7,7 @@ use Rattle.std.proofs.lemmas.Str.{IsUtf8-from_ascii}
 use Rattle.std.proofs.lemmas.Str.Ascii.{IsAscii-nil, IsAscii-cons}
 use Rattle.std.proofs.lemmas.Bool.{and_parts}
 use Rattle.std.proofs.lemmas.Grind.{common_steps}
-use Rattle.rsp_chars.specs.Chars.{is_plain}
+use Rattle.rsp_text.specs.Chars.{is_plain}
 
 byte_is_ascii : (b : ℕ) → is_plain b ≡ true → b < 128
 byte_is_ascii b h = grind (arith, common_steps)

@@ -7,7 +7,7 @@ use Rattle.std.proofs.lemmas.Bool.{cond-true, cond-false, cases_Bool}
 use Rattle.std.specs.List.{slice_split, position_or_len, before_first, after_first}
 use Rattle.std.proofs.lemmas.List.Splits.{slice_split_first, slice_split_none, slice_split-cons_yes}
 use Rattle.std.proofs.lemmas.List.Sums.{fails_before_first, passes_at_first, prefix_len-le-length}
-use Rattle.rsp_chars.specs.Chars.{is_blank, skip_blanks}
+use Rattle.rsp_text.specs.Chars.{is_blank, skip_blanks}
 use Rattle.rsp_script.specs.Words.{is_word, words_in}
 
 -- a blank in front makes no word

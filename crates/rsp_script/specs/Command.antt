@@ -2,7 +2,7 @@
 use Rattle.std.specs.Prelude.{ℕ, true, ◌≡◌, ◌<◌, ◌≤◌, ◌%◌, List, [], ◌∷◌, Option, Some, None, Result, Ok, Err, ok_or}
 use Rattle.arrayvec.specs.ArrayVec.{array_vec_len}
 use Rattle.std.specs.List.{list_all}
-use Rattle.rsp_chars.specs.Chars.{is_plain}
+use Rattle.rsp_text.specs.Chars.{is_plain}
 use Rattle.rsp_script.specs.Names.{name_of}
 use Rattle.rsp_script.specs.Operand.{bank_of, ranged_of, place_of, address_of, bytes_of}
 use Rattle.rsp_script.specs.declared.name.Name.{Name}

@@ -1,7 +1,7 @@
 -- What a line of a script says.
 use Rattle.std.specs.Prelude.{ℕ, List, Bool, Result, Ok, Err, if◌then◌else◌, nat_le, ◌==◌, codes, length}
 use Rattle.std.specs.List.{list_all, before_first}
-use Rattle.rsp_chars.specs.Chars.{is_plain, is_line}
+use Rattle.rsp_text.specs.Chars.{is_plain, is_line}
 use Rattle.rsp_script.specs.Words.{words_in, is_end}
 use Rattle.rsp_script.specs.Command.{command_of_words}
 use Rattle.rsp_script.specs.declared.command.Command.{Command}

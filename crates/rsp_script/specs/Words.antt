@@ -2,7 +2,7 @@
 use Rattle.std.specs.Prelude.{ℕ, List, [], ◌∷◌, Bool, false, filter, length, nat_lt, codes}
 use Rattle.std.specs.List.{slice_split}
 use Rattle.std.specs.Str.{bytes_eq}
-use Rattle.rsp_chars.specs.Chars.{is_blank}
+use Rattle.rsp_text.specs.Chars.{is_blank}
 
 -- a part that isn't empty
 abbrev pub is_word : List ℕ → Bool

@@ -1,6 +1,6 @@
 ghost use Rattle.std.specs.Prelude.{◌≡◌, ◌≤◌, length, Ok, IfOk};
 ghost use Rattle.std.specs.List.{list_all};
-ghost use Rattle.rsp_chars.specs.Chars.{is_plain};
+ghost use Rattle.rsp_text.specs.Chars.{is_plain};
 ghost use Rattle.rsp_script.specs.Words.{words_in, is_end};
 ghost use Rattle.rsp_script.specs.Line.{block_command, command_of};
 ghost use Rattle.rsp_script.specs.Command.{IsCommand};
@@ -8,7 +8,7 @@ ghost use Rattle.rsp_script.specs.Command.{IsCommand};
 use crate::parse::parse_words;
 use crate::words::Words;
 use crate::{Command, LineFault, SourceLine};
-use rsp_chars::{MAX_LINE_LEN, is_line, is_text, len_before};
+use rsp_text::{MAX_LINE_LEN, is_line, is_text, len_before};
 
 /// Whether a line is `end` but for outer blanks.
 fn is_end(line: &[u8]) -> bool

@@ -1,6 +1,6 @@
 ghost use Rattle.std.specs.Prelude.{◌≡◌, ℕ, List, ◌≤◌, true, length};
 ghost use Rattle.std.specs.List.{list_all};
-ghost use Rattle.rsp_chars.specs.Chars.{is_plain};
+ghost use Rattle.rsp_text.specs.Chars.{is_plain};
 
 use arrayvec::ArrayString;
 use std::marker::Model;

@@ -1,7 +1,7 @@
 ghost use Rattle.std.specs.Prelude.{◌≡◌, ℕ, List, [], ◌∷◌, ◌≤◌, length, IfSome, MatchOption};
 ghost use Rattle.rsp_script.specs.Words.{words_in};
 
-use rsp_chars::{len_before_blank, skip_blanks};
+use rsp_text::{len_before_blank, skip_blanks};
 use std::marker::Model;
 
 /// The words that are left of a line, which has at most 256 bytes.

@@ -3,7 +3,7 @@ use Rattle.std.proofs.Common.{◌≡◌, refl, sym, ap, ◌∙◌, ℕ, List, Bo
 use Rattle.std.specs.Prelude.{Option, Some, None, ℤ, option_map}
 use Rattle.std.proofs.lemmas.Bool.{cond-false}
 use Rattle.rsp_text.specs.declared.text.Stop.TheVariants.{Plus, Minus}
-use Rattle.rsp_chars.specs.Chars.{skip_blanks, trim}
+use Rattle.rsp_text.specs.Chars.{skip_blanks, trim}
 use Rattle.rsp_text.specs.Cuts.{cut}
 use Rattle.rsp_text.specs.Numbers.{Expression, constant, plus, signed_number, is_label, number_of, number_or, sides, label_and_number, expression_of}
 use Rattle.rsp_text.specs.Seen.{capped, capped_ℤ}

@@ -1,3 +1,4 @@
+pub mod Trims
 pub mod Cuts
 pub mod Splits
 pub mod Lines

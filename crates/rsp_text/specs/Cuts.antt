@@ -1,7 +1,7 @@
 -- Where a text is cut.
 use Rattle.std.specs.Prelude.{ℕ, ◌==◌, Bool, ◌||◌, List, Option, Some, None, if◌then◌else◌}
 use Rattle.std.specs.List.{list_any, before_first, after_first}
-use Rattle.rsp_chars.specs.Chars.{is_blank}
+use Rattle.rsp_text.specs.Chars.{is_blank}
 use Rattle.rsp_text.specs.declared.text.Stop.{Stop}
 use Rattle.rsp_text.specs.declared.text.Stop.TheVariants.{Blank, Colon, Comma, Comment, Bracket, Newline, Parenthesis, Plus, Minus}
 

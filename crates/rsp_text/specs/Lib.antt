@@ -1,4 +1,5 @@
--- Assembly text: what it means, and how a word is spelled.
+-- What a text is made of, what assembly text means, and how a word is spelled.
+pub mod Chars
 pub mod Cuts
 pub mod Numbers
 pub mod Names

@@ -4,7 +4,7 @@ use Rattle.std.specs.List.{list_all, starts_with}
 use Rattle.std.specs.Char.{digit_value}
 use Rattle.std.specs.Str.Parse.{digits_value}
 use Rattle.rsp_text.specs.declared.text.Stop.TheVariants.{Plus, Minus}
-use Rattle.rsp_chars.specs.Chars.{is_name_start, is_name_byte, skip_blanks, trim}
+use Rattle.rsp_text.specs.Chars.{is_name_start, is_name_byte, skip_blanks, trim}
 use Rattle.rsp_text.specs.Cuts.{cut}
 
 -- one digit or more

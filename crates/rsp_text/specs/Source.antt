@@ -4,7 +4,7 @@ use Rattle.std.specs.List.{list_any}
 use Rattle.rsp_text.specs.declared.fault.AsmFaultKind.{AsmFaultKind}
 use Rattle.rsp_text.specs.declared.fault.AsmFaultKind.TheVariants.{BadLine, OutOfRange, LabelTwice, PastEnd}
 use Rattle.rsp_text.specs.declared.text.Stop.TheVariants.{Comment, Colon}
-use Rattle.rsp_chars.specs.Chars.{is_line, skip_blanks, trim}
+use Rattle.rsp_text.specs.Chars.{is_line, skip_blanks, trim}
 use Rattle.rsp_text.specs.Cuts.{cut}
 use Rattle.rsp_text.specs.Numbers.{is_label}
 use Rattle.rsp_text.specs.Statement.{Labels, find_label, Reading, Statement, readings, statement_of, size, number_fails, words_of}

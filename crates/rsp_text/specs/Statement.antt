@@ -9,7 +9,7 @@ use Rattle.rsp_text.specs.declared.fault.AsmFaultKind.TheVariants.{UnknownName, 
 use Rattle.rsp_text.specs.declared.text.Stop.TheVariants.{Blank, Comma}
 use Rattle.rsp_text.specs.declared.slot.Slot.{Slot}
 use Rattle.rsp_text.specs.declared.slot.Slot.TheVariants.{Half, Amount, Jump, Branch, Scaled, Word}
-use Rattle.rsp_chars.specs.Chars.{trim}
+use Rattle.rsp_text.specs.Chars.{trim}
 use Rattle.rsp_text.specs.Cuts.{stops}
 use Rattle.rsp_text.specs.Numbers.{Expression, expression_of}
 pub use Rattle.rsp_text.specs.Operands.{Reading, one_register, pair, asks, base_of, zero_expression, offset_of, memory, bracketed, half_start, byte_named, half_named, lane_named, with_element, bracket_of, memory_operand, read}

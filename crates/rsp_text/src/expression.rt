@@ -2,13 +2,14 @@
 
 ghost use Rattle.std.specs.Prelude.{◌≡◌, ◌≤◌, length, option_map, slice_index, Some};
 ghost use Rattle.std.specs.List.{list_all};
-ghost use Rattle.rsp_chars.specs.Chars.{is_name_byte, is_name_start};
+ghost use Rattle.rsp_text.specs.Chars.{is_name_byte, is_name_start};
 ghost use Rattle.rsp_text.specs.Numbers.{is_label, expression_of, label_and_number};
 ghost use Rattle.rsp_text.specs.Seen.{expression, capped_expression};
 
+use crate::blanks::{skip_blanks, trim};
+use crate::name_bytes::{is_name_byte, is_name_start};
 use crate::numbers::{number, signed, unsigned};
 use crate::text::{Stop, cut};
-use rsp_chars::{is_name_byte, is_name_start, skip_blanks, trim};
 
 /// The value of an operand: a number, or the place of a label and a number that is added to it.
 #[derive(Clone, Copy)]

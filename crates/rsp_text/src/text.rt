@@ -4,7 +4,7 @@ ghost use Rattle.std.specs.Prelude.{◌≡◌, option_map};
 ghost use Rattle.rsp_text.specs.Cuts.{cut};
 ghost use Rattle.std.specs.Str.{str_eq_ignore_ascii_case};
 
-use rsp_chars::is_blank;
+use crate::blanks::is_blank;
 
 /// Where a text is cut: at the first of these bytes.
 #[derive(Clone, Copy, PartialEq, Eq, Debug)]

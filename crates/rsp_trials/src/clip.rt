@@ -1,7 +1,6 @@
 use rsp_acc::{Acc, Part, PlainAcc, PlaneAcc};
-use rsp_clip::{VectorClipRow, clip_op};
-use rsp_flags::Flags;
-use rsp_lanes::{Mask8, VReg};
+use rsp_compare::{VectorClipRow, clip_op};
+use rsp_lanes::{Flags, Mask8, VReg};
 
 /// The flags that are set in every lane: carry, not-equal, compare, clip and extra.
 fn flags(carry: bool, differ: bool, compare: bool, clip: bool, extra: bool) -> Flags {

@@ -1,6 +1,5 @@
 use rsp_decode::decode;
-use rsp_flags::Flags;
-use rsp_lanes::VReg;
+use rsp_lanes::{Flags, VReg};
 use rsp_loadstore::{VFile, address, control_from, control_to, load, move_from, move_to, store};
 use rsp_memory::SpMem;
 

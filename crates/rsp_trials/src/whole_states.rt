@@ -1,8 +1,7 @@
 use rsp_acc::{Acc, Part, PlainAcc, PlaneAcc};
 use rsp_debug::{BackFault, Debugger};
 use rsp_divide::Divider;
-use rsp_flags::Flags;
-use rsp_lanes::{Mask8, VReg};
+use rsp_lanes::{Flags, Mask8, VReg};
 use rsp_machine::{AllRegisters, Machine, RegistersFault, StepEnd};
 use rsp_memory::{Bank, Rdram};
 use rsp_regs::SpParts;

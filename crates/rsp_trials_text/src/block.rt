@@ -1,4 +1,4 @@
-use rsp_block::{Block, BlockFault};
+use rsp_asm::{Block, BlockFault};
 use std::test::Fail;
 
 #[test]

@@ -1,4 +1,4 @@
-use rsp_chars::{
+use rsp_text::{
     is_blank, is_line, is_name_byte, is_name_start, is_plain, is_text, skip_blanks, trim,
     without_return,
 };

@@ -1,4 +1,4 @@
-use rsp_ends::{EndFault, FromRead, MemSink, MemSource, Sink, Source, ToWrite};
+use rsp_lines::{EndFault, FromRead, MemSink, MemSource, Sink, Source, ToWrite};
 use std::io;
 use std::io::{ErrorKind, Read};
 use std::test::Fail;

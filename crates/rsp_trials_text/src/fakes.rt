@@ -2,7 +2,7 @@
 
 ghost use Rattle.std.specs.Prelude.{◌≡◌, ℕ, ◌+◌, Some, None};
 
-use rsp_ends::{EndFault, MemSink, MemSource, Sink, Source};
+use rsp_lines::{EndFault, MemSink, MemSource, Sink, Source};
 
 /// A script that comes some bytes a read, and fails after a number of reads.
 #[derive(Drop)]

@@ -2,8 +2,7 @@ mod echo;
 
 use crate::fakes::{CutSource, NarrowSink};
 use echo::Echo;
-use rsp_ends::{MemSink, MemSource, Sink, Source};
-use rsp_lines::{RunFault, SCRIPT_LIMIT, answer_script};
+use rsp_lines::{MemSink, MemSource, RunFault, SCRIPT_LIMIT, Sink, Source, answer_script};
 use std::test::Fail;
 
 /// Answers a script that comes some bytes a read and goes a byte a write, and says whether it ended as it should.

@@ -2,8 +2,7 @@ ghost use Rattle.std.specs.Prelude.{◌≡◌, ◌+◌, ◌%◌, ◌++◌, ◌�
 ghost use Rattle.std.proofs.Common.{ap};
 ghost use Rattle.rsp_lines.proofs.Alike.{long-alike};
 
-use rsp_lines::Answering;
-use rsp_reply::Reply;
+use rsp_lines::{Answering, Reply};
 use std::alloc::{AllocError, Global};
 
 /// Says each line again, but for long ones, and counts them.

@@ -1,6 +1,6 @@
 use Rattle.std.proofs.Common.{◌≡◌, ◌+◌, ◌*◌, ◌++◌, take, length}
 use Rattle.std.specs.List.{flat_map}
-use Rattle.rsp_reply.specs.Text.{hex_text}
+use Rattle.rsp_lines.specs.Text.{hex_text}
 use Rattle.rsp_bench.proofs.looks.push_bytes.Given as goal
 
 abbrev pub invariant-loop-byte : goal.invariant-loop-byte

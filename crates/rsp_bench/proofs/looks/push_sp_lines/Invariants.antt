@@ -1,6 +1,6 @@
 use Rattle.std.proofs.Common.{◌≡◌, ◌≤◌, ◌+◌, ◌*◌, ◌++◌, length}
 use Rattle.rsp_regs.specs.Sp.{peeked}
-use Rattle.rsp_reply.specs.Text.{each_text}
+use Rattle.rsp_lines.specs.Text.{each_text}
 use Rattle.rsp_bench.specs.Looks.{sp_line}
 use Rattle.rsp_bench.proofs.looks.push_sp_lines.Given as goal
 

@@ -1,5 +1,5 @@
 use Rattle.std.proofs.Common.{◌≡◌, ◌≤◌, ◌+◌, ◌*◌, ◌++◌, take, drop, length}
-use Rattle.rsp_reply.specs.Text.{each_text}
+use Rattle.rsp_lines.specs.Text.{each_text}
 use Rattle.rsp_bench.specs.Looks.{dump_line}
 use Rattle.rsp_bench.proofs.looks.tell_dump.Given as goal
 

@@ -1,5 +1,5 @@
 use Rattle.std.proofs.Common.{refl}
-use Rattle.rsp_flags.proofs.Rules.{results_are, lows_are, flags_are}
+use Rattle.rsp_lanes.proofs.Rules.{results_are, lows_are, flags_are}
 use Rattle.rsp_compare.proofs.adds.add.Goals as goal
 
 pub returns-clause-value : goal.returns-clause-value

@@ -1,6 +1,6 @@
 use Rattle.std.proofs.Common.{refl, false, add-zero}
 use Rattle.rsp_lanes.proofs.Kit.{lane_of}
-use Rattle.rsp_flags.proofs.Rules.{results_are, lows_are, flags_are}
+use Rattle.rsp_lanes.proofs.Rules.{results_are, lows_are, flags_are}
 use Rattle.rsp_compare.proofs.adds.add_carried.Goals as goal
 
 pub returns-clause-value : goal.returns-clause-value

@@ -1,6 +1,6 @@
 use Rattle.std.proofs.Common.{refl, false}
 use Rattle.rsp_lanes.proofs.Kit.{lane_of}
-use Rattle.rsp_flags.proofs.Rules.{results_are, lows_are, flags_are}
+use Rattle.rsp_lanes.proofs.Rules.{results_are, lows_are, flags_are}
 use Rattle.rsp_compare.proofs.Sums.{difference_bits}
 use Rattle.rsp_compare.proofs.adds.subtract_borrowed.Goals as goal
 

@@ -1,6 +1,6 @@
 use Rattle.std.proofs.Common.{◌∙◌, ap, refl}
 use Rattle.rsp_acc.specs.Planes.{with_low}
-use Rattle.rsp_flags.proofs.Rules.{results_are, lows_are, flags_are}
+use Rattle.rsp_lanes.proofs.Rules.{results_are, lows_are, flags_are}
 use Rattle.rsp_compare.proofs.Merges.{merge_is}
 use Rattle.rsp_compare.specs.Selects.{vmrg}
 use Rattle.rsp_compare.proofs.selects.merge_op.Goals as goal

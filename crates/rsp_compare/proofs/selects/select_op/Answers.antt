@@ -1,8 +1,8 @@
 use Rattle.std.proofs.Common.{◌∙◌, ap, refl, false}
 use Rattle.rsp_lanes.proofs.Kit.{lane_of}
 use Rattle.rsp_acc.specs.Planes.{with_low}
-use Rattle.rsp_flags.proofs.Rules.{results_are, lows_are, flags_are}
-use Rattle.rsp_flags.proofs.Lanes.{flags_of, with_vcc}
+use Rattle.rsp_lanes.proofs.Rules.{results_are, lows_are, flags_are}
+use Rattle.rsp_lanes.proofs.FlagLanes.{flags_of, with_vcc}
 use Rattle.rsp_compare.proofs.selects.select_op.Goals as goal
 
 pub returns-clause-value : goal.returns-clause-value

@@ -1,6 +1,6 @@
 use Rattle.std.proofs.Common.{◌≡◌, take, true}
 use Rattle.std.specs.List.{list_all}
-use Rattle.rsp_chars.specs.Chars.{is_name_byte}
+use Rattle.rsp_text.specs.Chars.{is_name_byte}
 use Rattle.rsp_text.proofs.expression.has_name_bytes.Given as goal
 
 abbrev pub invariant-loop-c : goal.invariant-loop-c

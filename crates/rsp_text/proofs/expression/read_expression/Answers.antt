@@ -1,7 +1,7 @@
 use Rattle.std.proofs.Common.{ap, ◌∙◌, sym, false, true, rules, w64, FitsSigned}
 use Rattle.std.specs.Prelude.{Some, option_map}
 use Rattle.std.proofs.lemmas.Int.{to_z-of_z}
-use Rattle.rsp_chars.specs.Chars.{trim}
+use Rattle.rsp_text.specs.Chars.{trim}
 use Rattle.rsp_text.specs.Numbers.{constant, label_and_number}
 use Rattle.rsp_text.specs.Seen.{expression, capped_expression}
 use Rattle.rsp_text.proofs.Expressions.{is_number, is_sum, is_difference, is_nothing}

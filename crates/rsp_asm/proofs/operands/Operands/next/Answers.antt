@@ -2,7 +2,7 @@ use Rattle.std.proofs.Common.{ap, ◌∙◌, sym, ◌∷◌, [], List, ℕ, Bor}
 use Rattle.std.specs.Prelude.{map, Option, option_map}
 use Rattle.std.specs.List.{slice_split}
 use Rattle.rsp_text.specs.declared.text.Stop.TheVariants.{Comma}
-use Rattle.rsp_chars.specs.Chars.{trim}
+use Rattle.rsp_text.specs.Chars.{trim}
 use Rattle.rsp_text.specs.Cuts.{stops}
 use Rattle.rsp_asm.specs.Operands.{texts_in}
 use Rattle.rsp_asm.proofs.Texts.{first_of_more, only_one}

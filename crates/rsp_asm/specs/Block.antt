@@ -1,0 +1,30 @@
+-- An open block of source text.
+use Rattle.std.specs.Prelude.{ℕ, List, [], ◌∷◌, ◌++◌, ◌≡◌, Result, true}
+use Rattle.std.specs.List.{list_all}
+use Rattle.std.specs.Str.Lines.{lines}
+use Rattle.rsp_text.specs.Chars.{is_plain}
+use Rattle.rsp_text.specs.Source.{text_of_lines}
+use Rattle.rsp_text.specs.declared.fault.AsmFault.{AsmFault}
+use Rattle.rsp_text.specs.Means.{means_lines}
+
+-- the place of its first word, and its lines
+pub record OpenBlock : Type 0 where
+  pub place : ℕ
+  pub lines : List (List ℕ)
+
+-- a block that was just opened
+abbrev pub opened : ℕ → OpenBlock
+opened place = record { place = place; lines = [] }
+
+-- a block with one line more
+abbrev pub with_line : List ℕ → OpenBlock → OpenBlock
+with_line line b = record b { lines = b.lines ++ line ∷ [] }
+
+-- what its lines mean
+unfoldable pub meaning : OpenBlock → Result (List ℕ) AsmFault
+meaning b = means_lines b.lines b.place
+
+-- the text that keeps its lines: plain lines, each of which LF follows
+pub record IsText (text : List ℕ) : Type 0 where
+  pub whole : text ≡ text_of_lines (lines text)
+  pub plain : list_all (list_all is_plain) (lines text) ≡ true

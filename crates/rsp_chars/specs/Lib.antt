@@ -1,2 +1,0 @@
--- What a text is made of.
-pub mod Chars

@@ -1,4 +1,0 @@
--- Proofs of the clip rows.
-mod Signs
-mod Clips
-mod Lanes

@@ -1,3 +1,0 @@
--- The clip rows.
-pub mod Clips
-pub mod Parts

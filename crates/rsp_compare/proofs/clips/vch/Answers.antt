@@ -1,0 +1,34 @@
+use Rattle.std.proofs.Common.{false}
+use Rattle.rsp_lanes.proofs.Kit.{lane_of, length_of}
+use Rattle.rsp_compare.proofs.Clips.{vch_is}
+use Rattle.rsp_compare.proofs.ClipLanes.{row_of}
+use Rattle.rsp_lanes.specs.Flags.{flags_at}
+use Rattle.rsp_compare.specs.Clips.{vch}
+use Rattle.rsp_compare.proofs.rows.vch.Goals as goal
+
+pub returns : goal.returns
+returns c =
+    let row = row_of vch c.args.a.now c.args.b.now c.args.flags.now _ _ _ _ _ _
+    (length_of _ _ c.merge-result.ensures) (length_of _ _ c.signs_differ-apart.ensures) (length_of _ _ c.not-2.ensures)
+    (length_of _ _ c.exchanged-compare.ensures.first) (length_of _ _ c.exchanged-compare.ensures.second) (length_of _ _ c.and-extra.ensures)
+    (λ i h. simp (
+      lane_of 0 _ _ c.merge-result.ensures i h,
+      lane_of 0 _ _ c.merge-limit.ensures i h,
+      lane_of 0 _ _ c.negate.ensures i h,
+      lane_of false _ _ c.exchanged-compare.ensures.first i h,
+      lane_of false _ _ c.exchanged-compare.ensures.second i h,
+      lane_of false _ _ c.or-taken.ensures i h,
+      lane_of false _ _ c.xor.ensures i h,
+      lane_of false _ _ c.not-2.ensures i h,
+      lane_of false _ _ c.and-extra.ensures i h,
+      lane_of false _ _ c.is_equal.ensures i h,
+      lane_of 0 _ _ c.splat.ensures i h,
+      lane_of false _ _ c.or.ensures i h,
+      lane_of false _ _ c.not.ensures i h,
+      lane_of false _ _ c.is_negative.ensures i h,
+      lane_of false _ _ c.is_negative-is_negative.ensures i h,
+      lane_of false _ _ c.is_zero-is_zero.ensures i h,
+      lane_of 0 _ _ c.sum_or_difference-number.ensures i h,
+      lane_of false _ _ c.signs_differ-apart.ensures i h,
+    ) (vch_is _ _ (flags_at c.args.flags.now i) (c.ranges-2.ensures.1 i) (c.ranges-3.ensures.1 i))) in
+    record { value = row.value; flags = row.flags }

@@ -1,0 +1,44 @@
+ghost use Rattle.std.specs.Prelude.{◌≡◌, cond, false, slice_index, slice_index_or};
+ghost use Rattle.rsp_lanes.specs.Lanes.{each_lane};
+ghost use Rattle.rsp_numbers.specs.Numbers.{sixteen_bits};
+ghost use Rattle.rsp_compare.specs.Clips.{signs_differ};
+ghost use Rattle.rsp_compare.specs.ClipParts.{sum_or_difference};
+
+use rsp_lanes::{Mask8, VReg};
+
+/// Where just one of the two is negative.
+#[inline(always)]
+pub(crate) fn signs_differ(a: &VReg, b: &VReg) -> Mask8
+    ensures { result ≡ each_lane (λ i. signs_differ (slice_index a.now i) (slice_index b.now i)) }
+{
+    a.is_negative().xor(b.is_negative())
+}
+
+/// The sum where the signs differ, and the difference where they agree, as the difference to -b or b. Neither leaves the
+/// signed numbers of sixteen bits, so no bit is lost.
+#[inline(always)]
+pub(crate) fn sum_or_difference(a: &VReg, b: &VReg) -> VReg
+    ensures { result ≡ each_lane (λ i. sixteen_bits (sum_or_difference (slice_index a.now i) (slice_index b.now i))) }
+{
+    a.ranges();
+    b.ranges();
+    a.subtract(&signs_differ(a, b).merge(&b.negate(), b))
+}
+
+/// `a` where `at` is set, and `b` elsewhere.
+#[inline(always)]
+pub(crate) fn choose(at: Mask8, a: Mask8, b: Mask8) -> Mask8
+    ensures { result ≡ each_lane (λ i. cond (slice_index_or at i false) (slice_index_or a i false) (slice_index_or b i false)) }
+{
+    at.and(a).or(at.not().and(b))
+}
+
+/// `a` and `b`, exchanged where `at` is set.
+#[inline(always)]
+pub(crate) fn exchanged(at: Mask8, a: Mask8, b: Mask8) -> (Mask8, Mask8)
+    ensures first { result.0 ≡ each_lane (λ i. cond (slice_index_or at i false) (slice_index_or b i false) (slice_index_or a i false)) }
+    ensures second { result.1 ≡ each_lane (λ i. cond (slice_index_or at i false) (slice_index_or a i false) (slice_index_or b i false)) }
+{
+    let difference = a.xor(b).and(at);
+    (a.xor(difference), b.xor(difference))
+}

@@ -1,0 +1,83 @@
+-- A listing means its words.
+use Rattle.std.proofs.Common.{◌≡◌, refl, sym, ap, ◌∙◌, subst, ℕ, zero, suc, ◌+◌, ◌*◌, ◌%◌, ◌<◌, ◌≤◌, List, [], ◌∷◌, ◌++◌, length, take, get_or, arith, true}
+use Rattle.std.specs.Prelude.{None, Ok}
+use Rattle.std.specs.List.{All, list_all}
+use Rattle.std.proofs.Math.Seq.{take-suc, take-length}
+use Rattle.std.proofs.lemmas.Bool.{and_from}
+use Rattle.std.proofs.lemmas.List.{append-nil}
+use Rattle.rsp_text.specs.Chars.{is_plain}
+use Rattle.rsp_text.specs.Source.{first_fault, line_words, text_of_lines}
+use Rattle.rsp_text.specs.Means.{line, place_of_line, labelled, labels_before, fault_of_line, words_of_line, or_fault, fault_before, and_words, words_before, unless, means_lines, means}
+use Rattle.rsp_text.specs.Spell.{spell, listing}
+use Rattle.rsp_text.proofs.Lines.{lines_back}
+use Rattle.rsp_dis.proofs.Words.{Gives, spelled_gives}
+
+abbrev AreWords : List ℕ → Type 0
+AreWords ws = All (λ w. w < 4294967296) ws
+
+length_listing : (place : ℕ) (ws : List ℕ) → length (listing place ws) ≡ length ws
+length_listing place [] = refl
+length_listing place (w ∷ ws) = let more = length_listing (place + 4) ws in omega (arith, more)
+
+line_of : (place : ℕ) (ws : List ℕ) (k : ℕ) → k < length ws → line (listing place ws) k ≡ spell (get_or ws k 0) (place + 4 * k)
+line_of place [] k lt = absurd (omega arith)
+line_of place (w ∷ ws) zero lt = ap (spell w) (omega arith)
+line_of place (w ∷ ws) (suc k) lt = line_of (place + 4) ws k (omega arith) ∙ ap (spell (get_or ws k 0)) (omega arith)
+
+module _ (ws : List ℕ) (few : length ws ≤ 1024) (h : AreWords ws) where
+  abbrev ls : List (List ℕ)
+  ls = listing 0 ws
+
+  at : (k : ℕ) → k < length ws → Gives (line ls k) (4 * k) (get_or ws k 0)
+  at k lt =
+      let same : line ls k ≡ spell (get_or ws k 0) (4 * k) = line_of 0 ws k lt ∙ ap (spell (get_or ws k 0)) (omega arith) in
+      subst (λ l. Gives l (4 * k) (get_or ws k 0)) (sym same) (spelled_gives (get_or ws k 0) (4 * k) (omega arith) (h k 0 lt) (omega arith))
+
+  place_is : (k : ℕ) → k ≤ length ws → place_of_line 0 ls k ≡ 4 * k
+  place_is zero le = omega arith
+  place_is (suc k) le =
+      let here = place_is k (omega arith) in
+      let g = at k (omega arith) in
+      omega (arith, here, g.one_word)
+
+  no_labels : (k : ℕ) → k ≤ length ws → labels_before 0 ls k ≡ []
+  no_labels zero le = refl
+  no_labels (suc k) le =
+      let g = at k (omega arith) in
+      ap (λ o. labels_before 0 ls k ++ labelled o (place_of_line 0 ls k)) g.no_label ∙ append-nil (labels_before 0 ls k) ∙ no_labels k (omega arith)
+
+  no_fault : (k : ℕ) → k ≤ length ws → fault_before 0 ls k ≡ None
+  no_fault zero le = refl
+  no_fault (suc k) le =
+      let g = at k (omega arith) in
+      ap (λ o. or_fault o (suc k) (fault_of_line 0 ls k)) (no_fault k (omega arith))
+      ∙ ap (λ t. or_fault None (suc k) (first_fault t (place_of_line 0 ls k) (line ls k))) (no_labels k (omega arith))
+      ∙ ap (λ p. or_fault None (suc k) (first_fault [] p (line ls k))) (place_is k (omega arith))
+      ∙ ap (or_fault None (suc k)) g.no_fault
+
+  words_are : (k : ℕ) → k ≤ length ws → words_before [] 0 ls k ≡ Ok (take k ws)
+  words_are zero le = refl
+  words_are (suc k) le =
+      let g = at k (omega arith) in
+      ap (λ o. and_words o (suc k) (words_of_line [] 0 ls k)) (words_are k (omega arith))
+      ∙ ap (λ p. and_words (Ok (take k ws)) (suc k) (line_words [] p (line ls k))) (place_is k (omega arith))
+      ∙ ap (and_words (Ok (take k ws)) (suc k)) g.gives
+      ∙ ap Ok (sym (take-suc ws k 0 (omega arith)))
+
+  pub listing_means : means_lines ls 0 ≡ Ok ws
+  listing_means =
+      let n = length ws in
+      ap (λ k. unless (fault_before 0 ls k) (words_before (labels_before 0 ls k) 0 ls k)) (length_listing 0 ws)
+      ∙ ap (λ o. unless o (words_before (labels_before 0 ls n) 0 ls n)) (no_fault n (omega arith))
+      ∙ ap (λ t. words_before t 0 ls n) (no_labels n (omega arith))
+      ∙ words_are n (omega arith)
+      ∙ ap Ok (take-length ws)
+
+all_plain : (place : ℕ) (ws : List ℕ) → AreWords ws → place % 4 ≡ 0 → place + 4 * length ws ≤ 4096 → list_all (list_all is_plain) (listing place ws) ≡ true
+all_plain place [] h aligned room = refl
+all_plain place (w ∷ ws) h aligned room =
+    let g = let word : w < 4294967296 = h 0 w (omega arith) in spelled_gives w place aligned word (omega arith) in
+    and_from _ _ g.plain (all_plain (place + 4) ws (λ k d lt. h (suc k) d (omega arith)) (omega arith) (omega arith))
+
+pub text_means : (ws : List ℕ) → length ws ≤ 1024 → AreWords ws → means (text_of_lines (listing 0 ws)) 0 ≡ Ok ws
+text_means ws few h = ap (λ ls. means_lines ls 0) (lines_back (listing 0 ws) (all_plain 0 ws h refl (omega arith))) ∙ listing_means ws few h

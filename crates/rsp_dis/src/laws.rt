@@ -1,0 +1,27 @@
+//! What holds of names and operands alone: each law is the contract of a function that does nothing.
+
+ghost use Rattle.std.specs.Prelude.{◌≡◌, ℕ, ◌<◌, ◌%◌, false, true, ◌||◌, [], length, slice_index_or, codes, Ok};
+ghost use Rattle.std.specs.List.{All, list_all};
+ghost use Rattle.std.specs.Str.{str_eq_ignore_ascii_case};
+ghost use Rattle.rsp_decode.specs.Table.{Operand, Row, rows, is_row_operand};
+ghost use Rattle.rsp_text.specs.Spell.{operand_fields, operand_text, reaches};
+ghost use Rattle.rsp_text.specs.Statement.{read};
+ghost use Rattle.rsp_text.specs.Walks.{reading_fields};
+ghost use Rattle.rsp_dis.specs.Quiet.{is_quiet};
+
+/// The rows of the instruction table have distinct names, in either case, and none is called `nop` or `.word`.
+pub fn names_are_distinct()
+    ensures distinct { (i j : ℕ) (d : Row) → i < j → j < length rows →
+        str_eq_ignore_ascii_case (slice_index_or rows j d).name (slice_index_or rows i d).name ≡ false }
+    ensures free { All (λ (r : Row).
+        (str_eq_ignore_ascii_case r.name (codes "nop") || str_eq_ignore_ascii_case r.name (codes ".word")) ≡ false) rows }
+{}
+
+/// Operands are read back: of each word, at each place in IMEM, the text of an operand of a row is read as the operand's
+/// fields in that word, where it isn't a branch out of IMEM. No byte of it is a blank, a comma, a colon or a comment sign.
+pub fn operands_are_read_back()
+    ensures fields { (w place : ℕ) (k : Operand) → place < 4096 → place % 4 ≡ 0 → is_row_operand k ≡ true → reaches w place k ≡ true →
+        reading_fields [] place (read k (operand_text w place k)) ≡ Ok (operand_fields k w) }
+    ensures bytes { (w place : ℕ) (k : Operand) → place < 4096 → place % 4 ≡ 0 → is_row_operand k ≡ true → reaches w place k ≡ true →
+        list_all is_quiet (operand_text w place k) ≡ true }
+{}

@@ -1,3 +1,0 @@
--- Lemmas on flags and on rules of one lane.
-pub mod Lanes
-pub mod Rules

@@ -1,3 +1,0 @@
--- Flags, and rules of one lane.
-pub mod Flags
-pub mod Outcome

@@ -1,0 +1,46 @@
+-- The flags of the vector unit: those of one lane, and those of all eight.
+use Rattle.std.specs.Prelude.{ℕ, Bool, false, slice_index_or}
+use Rattle.rsp_lanes.specs.Lanes.{each_lane}
+use Rattle.rsp_lanes.specs.declared.flags.Flags.{Flags}
+
+-- The flags of one lane. Carry and not-equal (`differ`) are in VCO, compare and clip in VCC, and extra is in VCE.
+pub record LaneFlags : Type 0 where
+  pub carry : Bool
+  pub differ : Bool
+  pub compare : Bool
+  pub clip : Bool
+  pub extra : Bool
+
+-- those of lane i
+abbrev pub flags_at : Flags → ℕ → LaneFlags
+flags_at f i = record {
+  carry = slice_index_or f.carry i false;
+  differ = slice_index_or f.differ i false;
+  compare = slice_index_or f.compare i false;
+  clip = slice_index_or f.clip i false;
+  extra = slice_index_or f.extra i false;
+}
+
+-- the flags whose lane i is f i
+abbrev pub all_flags : (ℕ → LaneFlags) → Flags
+all_flags f = record {
+  carry = each_lane (λ i. (f i).carry);
+  differ = each_lane (λ i. (f i).differ);
+  compare = each_lane (λ i. (f i).compare);
+  clip = each_lane (λ i. (f i).clip);
+  extra = each_lane (λ i. (f i).extra);
+}
+
+-- all clear
+abbrev pub no_flags : Flags
+no_flags = record {
+  carry = each_lane (λ _. false);
+  differ = each_lane (λ _. false);
+  compare = each_lane (λ _. false);
+  clip = each_lane (λ _. false);
+  extra = each_lane (λ _. false);
+}
+
+-- a lane's flags with carry and not-equal clear
+abbrev pub vco_cleared : LaneFlags → LaneFlags
+vco_cleared f = record f { carry = false; differ = false }

@@ -1,5 +1,0 @@
-use Rattle.rsp_listing.proofs.Operands.{fields_back, bytes_quiet}
-use Rattle.rsp_listing.proofs.laws.operands_are_read_back.Goals as goal
-
-pub returns : goal.returns
-returns c = record { fields = fields_back; bytes = bytes_quiet }

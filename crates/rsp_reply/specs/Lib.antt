@@ -1,2 +1,0 @@
--- Text of replies.
-pub mod Text

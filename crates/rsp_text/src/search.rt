@@ -1,0 +1,31 @@
+// Where a byte first stands in a text.
+
+ghost use Rattle.std.specs.Prelude.{◌≡◌, ◌≤◌, ◌==◌, length};
+ghost use Rattle.std.specs.List.{position_or_len};
+ghost use Rattle.rsp_text.specs.Chars.{is_blank};
+
+use memchr::{memchr, memchr2};
+
+/// How many bytes stand before the first that is this one.
+#[tactic(auto, using(crate::proofs::Trims::first_places))]
+pub fn len_before(byte: u8, text: &[u8]) -> usize
+    ensures value { result ≡ position_or_len (λ b. b == byte) text.now }
+    ensures within { result ≤ length text.now }
+{
+    match memchr(byte, text) {
+        Some(place) => place,
+        None => text.len(),
+    }
+}
+
+/// How many bytes stand before the first blank.
+#[tactic(auto, using(crate::proofs::Trims::first_places))]
+pub fn len_before_blank(text: &[u8]) -> usize
+    ensures value { result ≡ position_or_len is_blank text.now }
+    ensures within { result ≤ length text.now }
+{
+    match memchr2(b' ', b'\t', text) {
+        Some(place) => place,
+        None => text.len(),
+    }
+}
