@@ -20,7 +20,8 @@ fn bytes_of<A: Acc>(machine: &Machine<A>, bank: Bank, a: u32, n: usize) -> &[u8]
     ensures bytes { result.now ≡ take n (drop a (bank_bytes bank machine.now)) }
     ensures len { length result.now ≡ n }
 {
-    machine.ranges();
+    machine.dmem().ranges();
+    machine.imem().ranges();
     match bank {
         Bank::Dmem => machine.dmem().run(a, n),
         Bank::Imem => machine.imem().run(a, n),

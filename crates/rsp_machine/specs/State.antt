@@ -2,8 +2,8 @@
 use Rattle.std.specs.Prelude.{ℕ, ℤ, pos, List, length, ◌≡◌, ◌<◌, ◌%◌}
 use Rattle.rsp_lanes.specs.Lanes.{each_lane}
 use Rattle.rsp_numbers.specs.Numbers.{AreNumbers}
-use Rattle.rsp_memory.specs.Memory.{empty_memory}
-use Rattle.rsp_memory.specs.Image.{IsImageLength}
+use Rattle.rsp_memory.specs.Memory.{IsMemory, empty_memory}
+use Rattle.rsp_memory.specs.Image.{IsImage}
 use Rattle.rsp_lanes.specs.declared.flags.Flags.{Flags}
 use Rattle.rsp_lanes.specs.Flags.{no_flags}
 use Rattle.rsp_divide.specs.declared.divider.Divider.{Divider}
@@ -21,9 +21,9 @@ pub record State : Type 0 where
   pub accumulators : List ℤ  -- eight numbers from -2^47 to 2^47 - 1
   pub flags : Flags  -- five flags of each lane
   pub divider : Divider  -- DIV_IN and DIV_OUT, below 2^16, and the mark that DIV_IN is loaded
-  pub dmem : List ℕ  -- 4096 bytes
-  pub imem : List ℕ  -- 4096 bytes
-  pub rdram : List ℕ  -- as many bytes as the image has
+  pub dmem : List ℕ  -- 4096 numbers below 2^8
+  pub imem : List ℕ  -- 4096 numbers below 2^8
+  pub rdram : List ℕ  -- as many numbers below 2^8 as the image has bytes
   pub sp : Sp  -- the SP registers, with the interrupt flag
 
 -- where a word of IMEM stands that an instruction can be fetched from
@@ -47,9 +47,9 @@ pub record IsState (s : State) : Type 0 where
   pub accumulators : AreNumbers s.accumulators  -- eight, from -2^47 to 2^47 - 1
   pub flags : AreFlags s.flags  -- eight in each of the five lists
   pub divider : (s.divider.input < 65536) × (s.divider.output < 65536)
-  pub dmem : length s.dmem ≡ 4096
-  pub imem : length s.imem ≡ 4096
-  pub rdram : IsImageLength (length s.rdram)  -- a multiple of 8 from 64 to 8,388,608
+  pub dmem : IsMemory s.dmem  -- 4096 numbers below 2^8
+  pub imem : IsMemory s.imem
+  pub rdram : IsImage s.rdram  -- numbers below 2^8, a multiple of 8 of them, from 64 to 8,388,608
   pub sp : IsSp s.sp  -- the SP registers' ranges
 
 -- The start: all 0, but for the image and npc, which is 4. SP registers 2 and 3 read FF8 hex, since the kept skip is 0.

@@ -89,9 +89,9 @@ impl<A: Acc> Machine<A> {
         self.flags.extra.ranges();
         let _input = self.divider.input;
         let _output = self.divider.output;
-        self.dmem.ranges();
-        self.imem.ranges();
-        self.rdram.ranges();
+        self.dmem.byte_ranges();
+        self.imem.byte_ranges();
+        self.rdram.byte_ranges();
         self.sp.ranges();
     }
 

@@ -1,5 +1,5 @@
 -- The image of the RDRAM, as the list of its bytes.
-use Rattle.std.specs.Prelude.{◌≡◌, ◌≤◌, ℕ, ◌%◌, List, slice_index, slice_set}
+use Rattle.std.specs.Prelude.{◌≡◌, ◌≤◌, ◌<◌, ℕ, ◌%◌, List, length, slice_index, slice_set}
 use Rattle.rsp_memory.specs.Runs.{write_all}
 
 -- the lengths that an image can have: multiples of 8 from 64 to 8,388,608
@@ -7,6 +7,11 @@ pub record IsImageLength (n : ℕ) : Type 0 where
   pub at_least : 64 ≤ n
   pub at_most : n ≤ 8388608
   pub whole : n % 8 ≡ 0
+
+-- what every image is: as many numbers below 256 as an image can have
+pub record IsImage (image : List ℕ) : Type 0 where
+  pub count : IsImageLength (length image)
+  pub bytes : (i : ℕ) → slice_index image i < 256
 
 -- the byte at an address, which is taken modulo 2^24; past the end it is 0
 unfoldable pub image_byte : List ℕ → ℕ → ℕ

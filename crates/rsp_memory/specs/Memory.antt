@@ -1,6 +1,11 @@
 -- The memory of the signal processor: 4096 bytes in a ring, in which numbers stand highest byte first.
-use Rattle.std.specs.Prelude.{ℕ, zero, suc, ◌+◌, ◌*◌, ◌/◌, ◌%◌, List, [], ◌∷◌, slice_index, slice_set, replicate}
+use Rattle.std.specs.Prelude.{ℕ, zero, suc, ◌+◌, ◌*◌, ◌/◌, ◌%◌, ◌≡◌, ◌<◌, List, [], ◌∷◌, length, slice_index, slice_set, replicate}
 use Rattle.rsp_memory.specs.Runs.{write_all}
+
+-- what every memory is: 4096 numbers below 256
+pub record IsMemory (memory : List ℕ) : Type 0 where
+  pub count : length memory ≡ 4096
+  pub bytes : (i : ℕ) → slice_index memory i < 256
 
 -- the memory at the start
 abbrev pub empty_memory : List ℕ

@@ -1,5 +1,5 @@
 ghost use Rattle.std.specs.Prelude.{◌≡◌, ℕ, List, length, vec_len, ◌↔◌, ◌≤◌, IsOk, IfOk, IfErr, take, drop, ◌+◌, ◌%◌};
-ghost use Rattle.rsp_memory.specs.Image.{IsImageLength, image_byte, with_image_byte, with_image_bytes};
+ghost use Rattle.rsp_memory.specs.Image.{IsImage, IsImageLength, image_byte, with_image_byte, with_image_bytes};
 
 use crate::splice::splice;
 use std::marker::Model;
@@ -50,6 +50,17 @@ impl Rdram {
         ensures { IsImageLength (length self.now) }
     {
         let _ = &self.bytes;
+    }
+
+    /// Changes nothing. It says that they are numbers below 256, as many as an image can have.
+    #[inline(always)]
+    pub fn byte_ranges(&self)
+        ensures { IsImage self.now }
+    {
+        // A number that was read is known to be in its type's range. An optimised build drops the loop.
+        for i in 0..self.len() {
+            let _byte = self.bytes[i];
+        }
     }
 
     /// The byte at an address.

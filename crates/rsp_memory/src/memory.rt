@@ -1,5 +1,5 @@
 ghost use Rattle.std.specs.Prelude.{◌≡◌, ◌<◌, ◌≤◌, ◌%◌, ◌*◌, ◌/◌, ℕ, List, length, take, drop, MatchOption};
-ghost use Rattle.rsp_memory.specs.Memory.{empty_memory, byte_at, half_at, word_at, with_byte, with_half, with_word, bytes_at, with_bytes};
+ghost use Rattle.rsp_memory.specs.Memory.{IsMemory, empty_memory, byte_at, half_at, word_at, with_byte, with_half, with_word, bytes_at, with_bytes};
 
 use crate::splice::splice;
 use byteorder::{BigEndian, ByteOrder};
@@ -35,6 +35,17 @@ impl SpMem {
         ensures { length self.now ≡ 4096 }
     {
         let _ = &self.bytes;
+    }
+
+    /// Changes nothing. It says that they are 4096 numbers below 256.
+    #[inline(always)]
+    pub fn byte_ranges(&self)
+        ensures { IsMemory self.now }
+    {
+        // A number that was read is known to be in its type's range. An optimised build drops the loop.
+        for i in 0..4096 {
+            let _byte = self.bytes[i];
+        }
     }
 
     /// The byte at an address.

@@ -34,7 +34,7 @@ use Rattle.rsp_microcode.specs.OneAdd.{limited_sums}
 use Rattle.rsp_microcode.specs.BufferSum.{SparesBuffer, IsEntered, AddsAllBuffers}
 use Rattle.rsp_microcode.proofs.Runs.{with_branch, ran_on, rounds_kept}
 use Rattle.rsp_microcode.proofs.Registers.{vector_reads, scalar_reads, unwritten, length-with_register}
-use Rattle.rsp_microcode.proofs.Bytes.{lanes_read, lanes_elsewhere, same_lanes, outside_read, length-with_lanes, lanes_have_bytes}
+use Rattle.rsp_microcode.proofs.Bytes.{has_bytes, lanes_read, lanes_elsewhere, same_lanes, outside_read, length-with_lanes, lanes_have_bytes}
 use Rattle.rsp_microcode.proofs.Lanes.{stores_lanes}
 use Rattle.rsp_microcode.proofs.LoadRuns.{loads_run, file_written}
 use Rattle.rsp_microcode.proofs.OneAdd.{sums_are}
@@ -330,7 +330,7 @@ one_round s a b c n place at entered k t h is =
     subst (Stands s a b c n (k + 1)) (sym made) after
 
 pub adds : AddsAllBuffers words
-adds s is bytes at entered =
+adds s is at entered =
     let r = s.registers in
     let a = register r 1 in
     let b = register r 2 in
@@ -345,8 +345,8 @@ adds s is bytes at entered =
       four = omega arith;
       file = is.vectors;
       carry = entered.carry;
-      size = is.dmem;
-      bytes = bytes;
+      size = is.dmem.count;
+      bytes = has_bytes s.dmem is.dmem;
       pc = λ h. refl;
       gone = λ h. absurd (let e = entered.count in omega arith);
       next = at.next;

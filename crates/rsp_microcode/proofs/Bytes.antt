@@ -2,7 +2,7 @@
 use Rattle.std.proofs.Common.{◌≡◌, ◌≢◌, ℕ, zero, suc, ◌+◌, ◌*◌, ◌/◌, ◌%◌, ◌^◌, ◌<◌, ◌≤◌, List, [], ◌∷◌, length, get_or, refl, ap, sym, ◌∙◌, arith, inl, inr}
 use Rattle.std.proofs.lemmas.Bool.{cases_eq, eq-eqb, ne_eqb}
 use Rattle.std.proofs.lemmas.List.{get_or-set_same, get_or-set_other}
-use Rattle.rsp_memory.specs.Memory.{byte_at, with_byte, half_at, with_half, word_at, with_word}
+use Rattle.rsp_memory.specs.Memory.{IsMemory, byte_at, with_byte, half_at, with_half, word_at, with_word}
 use Rattle.rsp_memory.proofs.PutBack.{length-with_byte}
 use Rattle.rsp_lanes.specs.Lanes.{IsVector}
 use Rattle.rsp_lanes.proofs.Kit.{each_same, eta}
@@ -107,6 +107,11 @@ lanes_reads m a b v l is p q = elim (cases_eq (a % 4096) (b % 4096)) [
   | inl e ↦ rw (eq-eqb (a % 4096) (b % 4096) e) (ap (λ n. lanes_at n b) (with_lanes_ring m v a b e) ∙ lanes_read m v b l is.0)
   | inr ne ↦ rw (ne_eqb (a % 4096) (b % 4096) ne) (lanes_elsewhere m v a b is.0 p q ne)
 ]
+
+-- every memory's are
+pub has_bytes : (m : List ℕ) → IsMemory m → HasBytes m
+unfolding byte_at
+has_bytes m is a = is.bytes (a % 4096)
 
 -- the lanes of bytes are numbers of sixteen bits
 pub lanes_are : (m : List ℕ) (a : ℕ) → HasBytes m → IsVector (lanes_at m a)

@@ -20,7 +20,7 @@ use Rattle.rsp_machine.specs.State.{State, IsState}
 use Rattle.rsp_machine.specs.Step.{executed}
 use Rattle.rsp_machine.specs.Laws.{steps_of}
 use Rattle.rsp_microcode.specs.Runs.{IsAt, ran_through, place_after}
-use Rattle.rsp_microcode.specs.Lanes.{lanes_at, with_lanes, sqv, lanes_address, HasBytes}
+use Rattle.rsp_microcode.specs.Lanes.{lanes_at, with_lanes, sqv, lanes_address}
 use Rattle.rsp_microcode.specs.Reads.{after_writes}
 use Rattle.rsp_microcode.specs.Loads.{WholeLoad, load_of, loaded, AreAllAligned}
 use Rattle.rsp_microcode.specs.Multiplies.{Term, term, instruction, summed, step_in}
@@ -28,7 +28,7 @@ use Rattle.rsp_microcode.specs.FixedProduct.{fixed, limited}
 use Rattle.rsp_microcode.specs.Transform.{AreAligned, Transforms, TransformsVectors}
 use Rattle.rsp_microcode.proofs.Runs.{straight, ran_on}
 use Rattle.rsp_microcode.proofs.Registers.{vector_reads, unwritten}
-use Rattle.rsp_microcode.proofs.Bytes.{lanes_read, lanes_ring, lanes_elsewhere, outside_read, length-with_lanes}
+use Rattle.rsp_microcode.proofs.Bytes.{has_bytes, lanes_read, lanes_ring, lanes_elsewhere, outside_read, length-with_lanes}
 use Rattle.rsp_microcode.proofs.Lanes.{stores_lanes}
 use Rattle.rsp_microcode.proofs.LoadRuns.{loads_run}
 use Rattle.rsp_microcode.proofs.Multiplies.{writes, sums}
@@ -231,8 +231,9 @@ length_high s n = ap length (made_high (before s) n) ∙ length_each _
 length_low : (s : State) → length (file s) ≡ 32 → length (low s) ≡ 8
 length_low s n = ap length (made_low (before s) n) ∙ length_each _
 
-ran : SumsOfProducts → (s : State) → IsState s → HasBytes s.dmem → IsAt words s → AreAligned s → steps_of 20 s ≡ done s s.npc
-ran law s is bytes at aligned =
+ran : SumsOfProducts → (s : State) → IsState s → IsAt words s → AreAligned s → steps_of 20 s ≡ done s s.npc
+ran law s is at aligned =
+    let bytes = has_bytes s.dmem is.dmem in
     let went = loads_run loads s is.vectors bytes at.next refl (all_aligned s aligned) in
     let u = before s in
     let v = made s in
@@ -247,7 +248,8 @@ ran law s is bytes at aligned =
 
 pub transforms : SumsOfProducts → TransformsVectors words
 unfolding in_memory
-transforms law s is bytes at zero aligned =
+transforms law s is at zero aligned =
+    let bytes = has_bytes s.dmem is.dmem in
     let a = register s.registers 1 in
     let b = register s.registers 2 in
     let c = register s.registers 3 in
@@ -260,9 +262,9 @@ transforms law s is bytes at zero aligned =
     let ll = length_low s n in
     let one = with_lanes s.dmem (c + 16 * 0) hi in
     let two = with_lanes one (c + 16 * 1) lo in
-    let here : lanes_at one c ≡ hi = lanes_ring one c (c + 16 * 0) (omega arith) ∙ lanes_read s.dmem hi (c + 16 * 0) is.dmem lh in
+    let here : lanes_at one c ≡ hi = lanes_ring one c (c + 16 * 0) (omega arith) ∙ lanes_read s.dmem hi (c + 16 * 0) is.dmem.count lh in
     let first : lanes_at two c ≡ hi = lanes_elsewhere one lo (c + 16 * 1) c ll (omega arith) there (omega arith) ∙ here in
-    let second : lanes_at two (c + 16) ≡ lo = lanes_read one lo (c + 16 * 1) (length-with_lanes s.dmem hi (c + 16 * 0) ∙ is.dmem) ll in
+    let second : lanes_at two (c + 16) ≡ lo = lanes_read one lo (c + 16 * 1) (length-with_lanes s.dmem hi (c + 16 * 0) ∙ is.dmem.count) ll in
     let none : vector (file s) 0 ≡ each_lane (λ _. 0) = vector_reads (loaded loads s.dmem s.registers) s.vectors 0 is.vectors.count refl ∙ zero in
     let all : Transforms words s (done s s.npc) a b c = record {
       product = λ i h.
@@ -282,4 +284,4 @@ transforms law s is bytes at zero aligned =
         dmem = two;
       } in t) at.next;
     } in
-    subst (λ (t : State). Transforms words s t a b c) (sym (ran law s is bytes at aligned)) all
+    subst (λ (t : State). Transforms words s t a b c) (sym (ran law s is at aligned)) all

@@ -7,7 +7,7 @@ use Rattle.rsp_loadstore.specs.File.{vector}
 use Rattle.rsp_machine.specs.State.{State, IsState}
 use Rattle.rsp_machine.specs.Laws.{steps_of}
 use Rattle.rsp_microcode.specs.Runs.{IsAt, place_after}
-use Rattle.rsp_microcode.specs.Lanes.{lanes_at, HasBytes, IsOutside}
+use Rattle.rsp_microcode.specs.Lanes.{lanes_at, IsOutside}
 use Rattle.rsp_microcode.specs.OneAdd.{limited_sums}
 use Rattle.rsp_microcode.specs.Text.{line}
 
@@ -64,6 +64,6 @@ pub record AddsBuffers (words : List ℕ) (s t : State) (first second sums n : �
 
 -- from each state that is about to execute the words, with the addresses and the count in registers 1 to 4: nine steps a vector
 abbrev pub AddsAllBuffers : List ℕ → Type 0
-AddsAllBuffers words = (s : State) → IsState s → HasBytes s.dmem → IsAt words s
+AddsAllBuffers words = (s : State) → IsState s → IsAt words s
     → IsEntered s (register s.registers 1) (register s.registers 2) (register s.registers 3) (register s.registers 4)
     → AddsBuffers words s (steps_of (register s.registers 4 * 9) s) (register s.registers 1) (register s.registers 2) (register s.registers 3) (register s.registers 4)

@@ -8,7 +8,7 @@ use Rattle.rsp_loadstore.specs.File.{vector}
 use Rattle.rsp_machine.specs.State.{State, IsState}
 use Rattle.rsp_machine.specs.Laws.{steps_of}
 use Rattle.rsp_microcode.specs.Runs.{IsAt, place_after}
-use Rattle.rsp_microcode.specs.Lanes.{lanes_at, HasBytes, IsOutside}
+use Rattle.rsp_microcode.specs.Lanes.{lanes_at, IsOutside}
 use Rattle.rsp_microcode.specs.FixedProduct.{fixed, limited}
 use Rattle.rsp_microcode.specs.Text.{line}
 
@@ -78,5 +78,5 @@ pub record Transforms (words : List ℕ) (s t : State) (matrix vectors result : 
 
 -- from each state that is about to execute the words, with aligned addresses and 0 in vector register 0
 abbrev pub TransformsVectors : List ℕ → Type 0
-TransformsVectors words = (s : State) → IsState s → HasBytes s.dmem → IsAt words s → vector s.vectors 0 ≡ each_lane (λ _. 0) → AreAligned s
+TransformsVectors words = (s : State) → IsState s → IsAt words s → vector s.vectors 0 ≡ each_lane (λ _. 0) → AreAligned s
     → Transforms words s (steps_of 20 s) (register s.registers 1) (register s.registers 2) (register s.registers 3)
