@@ -9,7 +9,7 @@ use Rattle.std.proofs.lemmas.List.Concat.{flat_map-append, flat_map-cons}
 use Rattle.std.proofs.lemmas.List.Folds.{list_all-append}
 use Rattle.rsp_text.specs.Chars.{is_plain}
 use Rattle.rsp_text.specs.Source.{text_of_lines}
-use Rattle.rsp_text.proofs.Lines.{lines_back}
+use Rattle.rsp_text.proofs.TextLines.{lines_back}
 use Rattle.rsp_asm.specs.Block.{IsText}
 
 pub one_more : (text line : List ℕ) → IsText text → list_all is_plain line ≡ true → (lines (text ++ line ++ 10 ∷ []) ≡ lines text ++ line ∷ []) × IsText (text ++ line ++ 10 ∷ [])

@@ -1,7 +1,7 @@
 -- Lemmas on the rows.
 mod ClipLanes
 mod ClipSigns
-mod Clips
+mod ClipRows
 pub mod Comparisons
 pub mod Merges
 pub mod Sums

@@ -9,7 +9,7 @@ use Rattle.rsp_text.specs.Chars.{is_plain}
 use Rattle.rsp_text.specs.Source.{first_fault, line_words, text_of_lines}
 use Rattle.rsp_text.specs.Means.{line, place_of_line, labelled, labels_before, fault_of_line, words_of_line, or_fault, fault_before, and_words, words_before, unless, means_lines, means}
 use Rattle.rsp_text.specs.Spell.{spell, listing}
-use Rattle.rsp_text.proofs.Lines.{lines_back}
+use Rattle.rsp_text.proofs.TextLines.{lines_back}
 use Rattle.rsp_dis.proofs.Words.{Gives, spelled_gives}
 
 abbrev AreWords : List ℕ → Type 0

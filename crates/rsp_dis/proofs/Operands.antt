@@ -21,7 +21,7 @@ use Rattle.rsp_text.proofs.Cuts.{cut_between}
 use Rattle.rsp_dis.specs.Quiet.{is_quiet}
 use Rattle.rsp_dis.proofs.Finite.{below, below_both, Said, says, said_by}
 use Rattle.rsp_dis.proofs.Pieces.{is_piece, piece_from, piece_of, all_append}
-use Rattle.rsp_dis.proofs.Numbers.{IsNumber, number_said, signed_number, hex_number, small_number, half_back, half_small, half_of, amount_of, jump_back, branch_back, branch_below, ScaledBack, by_1, by_2, by_4, by_8, by_16}
+use Rattle.rsp_dis.proofs.SpelledNumbers.{IsNumber, number_said, signed_number, hex_number, small_number, half_back, half_small, half_of, amount_of, jump_back, branch_back, branch_below, ScaledBack, by_1, by_2, by_4, by_8, by_16}
 
 -- an operand whose spelling at a place is read as these fields
 pub record IsSpelled (place : ℕ) (k : Operand) (vs : List ℕ) : Type 0 where

@@ -13,7 +13,7 @@ use Rattle.rsp_text.specs.Source.{parts_of, label_in, label_of, size_if, size_in
 use Rattle.rsp_text.specs.Statement.{Reading, asks, read_all, zero_expression, number_fails, append, all_fields, Statement, numbers, instruction, readings, size, one_word, words_of, statement_of, form_named, with_operands, with_form}
 use Rattle.rsp_text.specs.Spell.{hex, operand_fields, operand_text, reaches, row_text, plain_word, spell_row, spell}
 use Rattle.rsp_dis.proofs.Pieces.{is_piece, Piece, Pieces, piece_from}
-use Rattle.rsp_dis.proofs.Numbers.{IsNumber, hex_number, word_of, number_fields, number_fits}
+use Rattle.rsp_dis.proofs.SpelledNumbers.{IsNumber, hex_number, word_of, number_fields, number_fits}
 use Rattle.rsp_dis.proofs.Operands.{kind_spelled}
 use Rattle.rsp_dis.proofs.Names.{name_piece, table_kinds, few_operands, form_back}
 use Rattle.rsp_dis.proofs.Lines.{line_is_plain, parts_back, statement_back}

@@ -1,7 +1,7 @@
 pub mod Trims
 pub mod Cuts
 pub mod Splits
-pub mod Lines
+pub mod TextLines
 pub mod Numerals
 pub mod Tables
 pub mod Rows

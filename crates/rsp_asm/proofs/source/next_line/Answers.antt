@@ -4,7 +4,7 @@ use Rattle.rsp_text.specs.declared.text.Stop.TheVariants.{Newline}
 use Rattle.rsp_text.proofs.Cuts.{IsCut, cut_some, cut_nothing}
 use Rattle.rsp_text.specs.Cuts.{stops}
 use Rattle.std.proofs.lemmas.Grind.{common_steps}
-use Rattle.rsp_text.proofs.Lines.{first_line, last_line}
+use Rattle.rsp_text.proofs.TextLines.{first_line, last_line}
 use Rattle.rsp_asm.proofs.source.next_line.Goals as goal
 
 pub returns-in-Some : goal.returns-in-Some

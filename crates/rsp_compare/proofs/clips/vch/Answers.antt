@@ -1,6 +1,6 @@
 use Rattle.std.proofs.Common.{false}
 use Rattle.rsp_lanes.proofs.Kit.{lane_of, length_of}
-use Rattle.rsp_compare.proofs.Clips.{vch_is}
+use Rattle.rsp_compare.proofs.ClipRows.{vch_is}
 use Rattle.rsp_compare.proofs.ClipLanes.{row_of}
 use Rattle.rsp_lanes.specs.Flags.{flags_at}
 use Rattle.rsp_compare.specs.Clips.{vch}

@@ -2,7 +2,7 @@ use Rattle.std.proofs.Common.{◌+◌, false, arith, slice_index}
 use Rattle.rsp_lanes.proofs.Kit.{lane_of, length_of}
 use Rattle.rsp_lanes.specs.Flags.{flags_at}
 use Rattle.rsp_compare.specs.Clips.{vcl}
-use Rattle.rsp_compare.proofs.Clips.{vcl_is}
+use Rattle.rsp_compare.proofs.ClipRows.{vcl_is}
 use Rattle.rsp_compare.proofs.ClipLanes.{row_of}
 use Rattle.rsp_compare.proofs.rows.vcl.Goals as goal
 

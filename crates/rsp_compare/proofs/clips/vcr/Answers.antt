@@ -2,7 +2,7 @@ use Rattle.std.proofs.Common.{false}
 use Rattle.rsp_lanes.proofs.Kit.{lane_of, length_of}
 use Rattle.rsp_lanes.specs.Flags.{flags_at}
 use Rattle.rsp_compare.specs.Clips.{vcr}
-use Rattle.rsp_compare.proofs.Clips.{vcr_is}
+use Rattle.rsp_compare.proofs.ClipRows.{vcr_is}
 use Rattle.rsp_compare.proofs.ClipLanes.{row_of}
 use Rattle.rsp_compare.proofs.rows.vcr.Goals as goal
 
