@@ -1,6 +1,6 @@
 use Rattle.std.proofs.Common.{◌≡◌, ◌∙◌, refl, true, false, Bool, cond, not, ◌&&◌, ◌||◌, slice_index_or}
 use Rattle.rsp_lanes.proofs.Kit.{lane_of, each_same}
-use Rattle.rsp_compare.proofs.parts.choose.Goals as goal
+use Rattle.rsp_compare.proofs.clip_parts.choose.Goals as goal
 
 chosen : (t x y : Bool) → ((t && x) || (not t && y)) ≡ cond t x y
 chosen true true y = refl

@@ -1,7 +1,7 @@
 use Rattle.std.proofs.Common.{◌≡◌, ◌∙◌, refl, true, false, Bool, cond, ◌&&◌, slice_index_or}
 use Rattle.rsp_lanes.specs.Lanes.{bool_xor}
 use Rattle.rsp_lanes.proofs.Kit.{lane_of, each_same}
-use Rattle.rsp_compare.proofs.parts.exchanged.Goals as goal
+use Rattle.rsp_compare.proofs.clip_parts.exchanged.Goals as goal
 
 first : (t x y : Bool) → bool_xor x (bool_xor x y && t) ≡ cond t y x
 first true true true = refl

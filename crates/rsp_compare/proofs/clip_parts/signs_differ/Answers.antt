@@ -1,7 +1,7 @@
 use Rattle.std.proofs.Common.{◌∙◌, false}
 use Rattle.rsp_lanes.proofs.Kit.{lane_of, each_same}
 use Rattle.rsp_compare.proofs.ClipSigns.{below_zero}
-use Rattle.rsp_compare.proofs.parts.signs_differ.Goals as goal
+use Rattle.rsp_compare.proofs.clip_parts.signs_differ.Goals as goal
 
 pub returns : goal.returns
 returns c = c.xor.ensures ∙ each_same _ _ (λ i h.

@@ -2,7 +2,7 @@ use Rattle.std.proofs.Common.{◌∙◌, false, get_or}
 use Rattle.rsp_compare.specs.Clips.{signs_differ}
 use Rattle.rsp_lanes.proofs.Kit.{lane_of, each_same}
 use Rattle.rsp_compare.proofs.ClipSigns.{sum_or_difference_is, to_limit}
-use Rattle.rsp_compare.proofs.parts.sum_or_difference.Goals as goal
+use Rattle.rsp_compare.proofs.clip_parts.sum_or_difference.Goals as goal
 
 pub returns : goal.returns
 returns c = c.subtract.ensures ∙ each_same _ _ (λ i h.

@@ -3,7 +3,7 @@ use Rattle.rsp_acc.specs.Planes.{with_low}
 use Rattle.rsp_lanes.specs.Outcome.{results_of}
 use Rattle.rsp_lanes.proofs.Rules.{lows_are}
 use Rattle.rsp_compare.proofs.ClipRows.{low_is}
-use Rattle.rsp_compare.proofs.rows.clip_op.Goals as goal
+use Rattle.rsp_compare.proofs.clips.clip_op.Goals as goal
 
 pub returns-clause-accumulator : goal.returns-clause-accumulator
 unfolding results_of

@@ -4,7 +4,7 @@ use Rattle.rsp_compare.proofs.ClipRows.{vch_is}
 use Rattle.rsp_compare.proofs.ClipLanes.{row_of}
 use Rattle.rsp_lanes.specs.Flags.{flags_at}
 use Rattle.rsp_compare.specs.Clips.{vch}
-use Rattle.rsp_compare.proofs.rows.vch.Goals as goal
+use Rattle.rsp_compare.proofs.clips.vch.Goals as goal
 
 pub returns : goal.returns
 returns c =
