@@ -7,7 +7,8 @@ use Rattle.std.proofs.lemmas.Grind.{same_number_lists}
 use Rattle.std.proofs.lemmas.Bool.{agree_below_at, eqb-true, cases_lt}
 use Rattle.std.proofs.lemmas.Bool.Decides.{nat_tests}
 use Rattle.rsp_lanes.specs.Lanes.{each_lane, IsVector, register_byte}
-use Rattle.rsp_lanes.specs.Bytes.{each_byte, byte_at_place}
+use Rattle.rsp_lanes.specs.Bytes.{each_byte}
+use Rattle.rsp_lanes.specs.Swap.{byte_at_place}
 use Rattle.rsp_lanes.specs.declared.bytes.TheConstants.{PLACES, ORDERED_PLACES, DISTANCES, FROM_LAST}
 use Rattle.rsp_lanes.proofs.ByteOrder.{swapped, distances, to_le, byte_of, each_byte_same}
 use Rattle.rsp_lanes.proofs.ByteLanes.{lanes_of, lanes_are}

@@ -23,7 +23,3 @@ with_register_bytes v source i n =
 -- the high byte of lane j for j below 8, else bits 14 to 7 of lane j - 8
 abbrev pub packed_byte : List ℕ → ℕ → ℕ
 packed_byte v j = if nat_lt j 8 then slice_index v j / 256 else slice_index v (j - 8) / 128 % 256
-
--- the byte of a register that stands at a place of its lanes, low byte first
-abbrev pub byte_at_place : ℕ → ℕ
-byte_at_place p = p + 1 - 2 * (p % 2)

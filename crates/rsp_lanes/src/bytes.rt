@@ -1,6 +1,7 @@
 ghost use Rattle.std.specs.Prelude.{◌≡◌, ◌+◌, ◌-◌, ◌*◌, ◌%◌, ◌<◌, ◌≤◌, slice_index};
 ghost use Rattle.rsp_lanes.specs.Lanes.{each_lane, register_byte};
-ghost use Rattle.rsp_lanes.specs.Bytes.{each_byte, of_bytes, byte_at_place, packed_byte, with_register_bytes};
+ghost use Rattle.rsp_lanes.specs.Bytes.{each_byte, of_bytes, packed_byte, with_register_bytes};
+ghost use Rattle.rsp_lanes.specs.Swap.{byte_at_place};
 
 use crate::{Bytes16, VReg};
 use std::simd::prelude::*;

@@ -5,7 +5,8 @@ use Rattle.std.proofs.lemmas.List.Edits.{sets, sets-eq}
 use Rattle.std.specs.Array.{IsFirstChunk}
 use Rattle.std.specs.Prelude.{slice_set}
 use Rattle.std.proofs.lemmas.Bool.{cases_lt}
-use Rattle.rsp_memory.specs.Runs.{write_all, spliced}
+use Rattle.rsp_memory.specs.Runs.{write_all}
+use Rattle.rsp_memory.specs.Splices.{spliced}
 use Rattle.rsp_memory.specs.Memory.{byte_at, bytes_at, with_byte, with_bytes}
 use Rattle.rsp_memory.specs.Image.{with_image_byte, with_image_bytes}
 

@@ -2,3 +2,4 @@
 pub mod Memory
 pub mod Image
 pub mod Runs
+pub mod Splices

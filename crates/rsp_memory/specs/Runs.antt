@@ -1,11 +1,7 @@
 -- Bytes that are written one after the other.
-use Rattle.std.specs.Prelude.{ℕ, ◌+◌, List, [], ◌∷◌, ◌++◌, take, drop, length}
+use Rattle.std.specs.Prelude.{ℕ, ◌+◌, List, [], ◌∷◌}
 
 -- what becomes of a memory when bytes are written, one by one, to the addresses from a on
 abbrev pub write_all : {X : Type 0} → (X → ℕ → ℕ → X) → X → ℕ → List ℕ → X
 write_all write memory a [] = memory
 write_all write memory a (b ∷ bs) = write_all write (write memory a b) (a + 1) bs
-
--- a list after bytes were written over those from a place on
-abbrev pub spliced : List ℕ → ℕ → List ℕ → List ℕ
-spliced list at bytes = take at list ++ bytes ++ drop (at + length bytes) list

@@ -1,5 +1,5 @@
 ghost use Rattle.std.specs.Prelude.{◌≡◌, ◌≤◌, ◌+◌, length};
-ghost use Rattle.rsp_memory.specs.Runs.{spliced};
+ghost use Rattle.rsp_memory.specs.Splices.{spliced};
 
 /// Writes bytes over those from the place `at` on.
 #[inline(always)]
