@@ -18,17 +18,17 @@ use Rattle.rsp_debug.specs.Watches.{number_for, has_watch}
 use Rattle.rsp_debug.specs.declared.breaks.BreakFault.{BreakFault}
 use Rattle.rsp_debug.specs.declared.watches.WatchFault.{WatchFault}
 use Rattle.rsp_debug.specs.declared.debugger.BackFault.{BackFault}
-use Rattle.rsp_lines.specs.Replies.{Answered}
+use Rattle.rsp_lines.specs.Replies.{Answer}
 use Rattle.rsp_bench.specs.Looks.{sp_line}
 use Rattle.rsp_bench.specs.Replies.{ok_text, range_text, count_text, stop_text, no_break_text, no_watch_text}
 use Rattle.rsp_bench.specs.Session.{SessionState, same, then_debugging, then_state, plain_answer, block_answer, answer_in, answer_of, load_answer, step_answer, read_answer, task_answer, run_answer, break_answer, watch_answer, back_fault, back_answer, end_answer, parsed_answer, line_answer, in_block}
 use Rattle.rsp_bench.specs.Refusals.{is_refusal, kept_by, kept_by_line}
 
 -- an answered that leaves the session as it was, where its reply refuses
-abbrev Keeps : Answered SessionState → SessionState → Type 0
+abbrev Keeps : Answer SessionState → SessionState → Type 0
 Keeps o s = is_refusal o.reply ≡ true → o.next ≡ s
 
-keeps_if : (accepts : Bool) (o : Answered SessionState) (text : List ℕ) (s : SessionState) → is_refusal o.reply ≡ false
+keeps_if : (accepts : Bool) (o : Answer SessionState) (text : List ℕ) (s : SessionState) → is_refusal o.reply ≡ false
     → Keeps (if accepts then o else same text s) s
 keeps_if true o text s accepted e = cc
 keeps_if false o text s accepted e = refl

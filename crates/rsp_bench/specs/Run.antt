@@ -7,7 +7,7 @@ use Rattle.rsp_bench.specs.declared.run.BenchEnd.{BenchEnd}
 use Rattle.rsp_bench.specs.declared.run.BenchEnd.TheVariants.{Finished, ReadFault, WriteFault, ScriptTooLong, OutOfMemory}
 
 -- all that is written for a script: the replies to its lines, each in the session that the lines before it left, and
--- what is left to say at its end
+-- the closing fault
 abbrev pub out_of : List ℕ → List ℕ → List ℕ
 out_of script image = written_of line_answer closing script (first_session image)
 

@@ -6,7 +6,7 @@ use Rattle.rsp_script.specs.declared.command.Look.{Look}
 use Rattle.rsp_script.specs.declared.command.Look.TheVariants.{Regs, Vregs, Acc, Flags, Sp, Mem, Dis}
 use Rattle.rsp_script.specs.declared.fault.LineFault.{LineFault}
 use Rattle.rsp_script.specs.declared.fault.LineFault.TheVariants.{BadCommand}
-use Rattle.rsp_lines.specs.Replies.{Answered}
+use Rattle.rsp_lines.specs.Replies.{Answer}
 use Rattle.rsp_script.specs.Line.{command_of}
 use Rattle.rsp_memory.specs.declared.bank.Bank.{Bank}
 use Rattle.rsp_memory.specs.declared.bank.Bank.TheVariants.{Imem}
@@ -40,58 +40,58 @@ pub record SessionState : Type 0 where
   pub block : Option OpenBlock
 
 -- a reply that leaves the session as it was
-abbrev pub same : List ℕ → SessionState → Answered SessionState
+abbrev pub same : List ℕ → SessionState → Answer SessionState
 same text s = record { reply = text; next = s }
 
 -- a reply, and what the debugger holds after the command
-abbrev pub then_debugging : List ℕ → Debugging → SessionState → Answered SessionState
+abbrev pub then_debugging : List ℕ → Debugging → SessionState → Answer SessionState
 then_debugging text d s = record { reply = text; next = record s { debugging = d } }
 
 -- a reply, and the state after the command, which goes on from there: there is no way back
-abbrev pub then_state : List ℕ → State → SessionState → Answered SessionState
+abbrev pub then_state : List ℕ → State → SessionState → Answer SessionState
 then_state text state s = then_debugging text (resumed state s.debugging) s
 
 -- ---- the machine
 
-abbrev pub task_answer : Option TaskFault → ℕ → SessionState → Answered SessionState
+abbrev pub task_answer : Option TaskFault → ℕ → SessionState → Answer SessionState
 task_answer None a s = then_state ok_text (tasked a s.debugging.state) s
 task_answer (Some fault) a s = same (task_fault_text fault) s
 
-unfoldable pub load_answer : Bank → ℕ → List ℕ → SessionState → Answered SessionState
+unfoldable pub load_answer : Bank → ℕ → List ℕ → SessionState → Answer SessionState
 load_answer bank a bytes s =
     if is_inside bank a (length bytes) s.debugging.state then then_state ok_text (with_bank_bytes bank a bytes s.debugging.state) s
     else same range_text s
 
-unfoldable pub step_answer : SessionState → Answered SessionState
+unfoldable pub step_answer : SessionState → Answer SessionState
 step_answer s =
     let after = stepped s.debugging in
     then_debugging (step_text (step_of s.debugging.state).0 after.state.pc) after s
 
-abbrev pub read_answer : ℕ → SessionState → Answered SessionState
+abbrev pub read_answer : ℕ → SessionState → Answer SessionState
 read_answer n s = then_debugging (sp_line n (peeked n s.debugging.state.sp)) (read_from n s.debugging) s
 
 -- ---- the debugger
 
-unfoldable pub run_answer : ℕ → SessionState → Answered SessionState
+unfoldable pub run_answer : ℕ → SessionState → Answer SessionState
 run_answer n s =
     if is_count n then then_debugging (stop_text (stop_in n s.debugging)) (ran n s.debugging) s
     else same count_text s
 
-abbrev pub break_answer : Option BreakFault → ℕ → SessionState → Answered SessionState
+abbrev pub break_answer : Option BreakFault → ℕ → SessionState → Answer SessionState
 break_answer None place s = then_debugging ok_text (broken_at place s.debugging) s
 break_answer (Some fault) place s = same (break_fault_text fault) s
 
-abbrev pub unbreak_answer : ℕ → SessionState → Answered SessionState
+abbrev pub unbreak_answer : ℕ → SessionState → Answer SessionState
 unbreak_answer place s =
     if is_break s.debugging.breaks place then then_debugging ok_text (unbroken_at place s.debugging) s
     else same no_break_text s
 
 -- a watch of some bytes, with the number that it gets
-abbrev pub watch_answer : Result ℕ WatchFault → ℕ → ℕ → SessionState → Answered SessionState
+abbrev pub watch_answer : Result ℕ WatchFault → ℕ → ℕ → SessionState → Answer SessionState
 watch_answer (Ok k) a n s = then_debugging (watch_text k) (watching k a n s.debugging) s
 watch_answer (Err fault) a n s = same (watch_fault_text fault) s
 
-abbrev pub unwatch_answer : ℕ → SessionState → Answered SessionState
+abbrev pub unwatch_answer : ℕ → SessionState → Answer SessionState
 unwatch_answer k s =
     if has_watch k s.debugging.watches then then_debugging ok_text (unwatching k s.debugging) s
     else same no_watch_text s
@@ -103,7 +103,7 @@ back_fault n past =
     else if nat_lt (length past) n then Some ShortHistory
     else None
 
-abbrev pub back_answer : Option BackFault → ℕ → SessionState → Answered SessionState
+abbrev pub back_answer : Option BackFault → ℕ → SessionState → Answer SessionState
 back_answer None n s = then_debugging ok_text (gone_back n s.debugging) s
 back_answer (Some fault) n s = same (back_fault_text fault) s
 
@@ -128,11 +128,11 @@ look_text (Dis place n) state = dis_text place n state
 -- ---- commands
 
 -- no reply, and the block after the command
-abbrev pub with_block : OpenBlock → SessionState → Answered SessionState
+abbrev pub with_block : OpenBlock → SessionState → Answer SessionState
 with_block b s = record { reply = []; next = record s { block = Some b } }
 
 -- what a command comes to where no block is open
-abbrev pub plain_answer : Command → SessionState → Answered SessionState
+abbrev pub plain_answer : Command → SessionState → Answer SessionState
 plain_answer Nothing s = same [] s
 plain_answer (Load bank a bytes) s = load_answer bank a bytes.items s
 plain_answer Step s = step_answer s
@@ -152,7 +152,7 @@ plain_answer (BlockLine line) s = same (line_fault_text BadCommand) s
 plain_answer End s = same (line_fault_text BadCommand) s
 
 -- the end of a block: its words go to IMEM, or nothing changes there
-abbrev pub end_answer : OpenBlock → Result (List ℕ) AsmFault → SessionState → Answered SessionState
+abbrev pub end_answer : OpenBlock → Result (List ℕ) AsmFault → SessionState → Answer SessionState
 end_answer b (Ok words) s = record {
   reply = words_text (length words);
   next = record { debugging = resumed (with_bank_bytes Imem b.place (words_bytes words) s.debugging.state) s.debugging; block = None };
@@ -160,17 +160,17 @@ end_answer b (Ok words) s = record {
 end_answer b (Err fault) s = record { reply = asm_fault_text fault; next = record s { block = None } }
 
 -- what a command comes to while a block is open
-abbrev pub block_answer : OpenBlock → Command → SessionState → Answered SessionState
+abbrev pub block_answer : OpenBlock → Command → SessionState → Answer SessionState
 block_answer b (BlockLine line) s = with_block (with_line line b) s
 block_answer b End s = end_answer b (meaning b) s
 block_answer b _ s = same (line_fault_text BadCommand) s
 
-abbrev pub answer_in : Option OpenBlock → Command → SessionState → Answered SessionState
+abbrev pub answer_in : Option OpenBlock → Command → SessionState → Answer SessionState
 answer_in None command s = plain_answer command s
 answer_in (Some b) command s = block_answer b command s
 
 -- what a command comes to
-unfoldable pub answer_of : Command → SessionState → Answered SessionState
+unfoldable pub answer_of : Command → SessionState → Answer SessionState
 answer_of command s = answer_in s.block command s
 
 -- a command that needs no memory: only a line of an open block and its end may need some
@@ -179,11 +179,11 @@ NeedsNoMemory (BlockLine line) s = s.block ≡ None
 NeedsNoMemory End s = s.block ≡ None
 NeedsNoMemory _ s = Unit {0}
 
--- want of memory for the words of a block, at a line where it hides no fault of the text
+-- no memory for the words of a block, at a line where that hides no fault of the text
 abbrev pub HidesNoFault : OpenBlock → Type 0
 HidesNoFault b = (line : ℕ) × hides_no_fault b line
 
--- such want of memory, where a command ends a block
+-- the same, where a command ends a block
 abbrev pub EndHidesNoFault : Command → SessionState → Type 0
 EndHidesNoFault End s = IfSome s.block HidesNoFault
 EndHidesNoFault _ s = Unit {0}
@@ -192,12 +192,12 @@ EndHidesNoFault _ s = Unit {0}
 abbrev pub in_block : SessionState → Bool
 in_block s = is_some s.block
 
-abbrev pub parsed_answer : Result Command LineFault → SessionState → Answered SessionState
+abbrev pub parsed_answer : Result Command LineFault → SessionState → Answer SessionState
 parsed_answer (Ok command) s = answer_of command s
 parsed_answer (Err fault) s = same (line_fault_text fault) s
 
 -- what a line comes to
-unfoldable pub line_answer : List ℕ → SessionState → Answered SessionState
+unfoldable pub line_answer : List ℕ → SessionState → Answer SessionState
 line_answer line s = parsed_answer (command_of line (in_block s)) s
 
 -- a block that is still open has no line that ends it
@@ -205,7 +205,7 @@ abbrev pub closing_of : Option OpenBlock → List ℕ
 closing_of None = []
 closing_of (Some b) = asm_fault_text (fault_at (length b.lines + 1) BadLine)
 
--- what is left to say at the end of a script
+-- the closing fault: what is written where the script ends in an open block
 abbrev pub closing : SessionState → List ℕ
 closing s = closing_of s.block
 

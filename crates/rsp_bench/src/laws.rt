@@ -29,8 +29,8 @@ pub fn refusals_change_nothing()
 {}
 
 /// Looks and runs come out: for all lines before and behind, a line that looks can be taken out of a script, and a line `run`
-/// be exchanged for as many lines `step` as the steps that it answers, without changing the reply to any other line, what is
-/// left to say at the end, or the image.
+/// be exchanged for as many lines `step` as the steps that it answers, without changing the reply to any other line, the
+/// closing fault, or the image.
 #[tactic(auto, using(crate::proofs::Exchanges::exchanges))]
 pub fn l6()
     ensures { LooksAndRunsComeOut }

@@ -1,6 +1,6 @@
 ghost use Rattle.std.specs.Prelude.{◌≡◌, ℕ, ◌<◌, ◌≤◌, ◌+◌, ◌-◌, ◌^◌, List, length, take, IfSome};
 ghost use Rattle.std.specs.Io.KnownBytes.{append_known};
-ghost use Rattle.rsp_lines.specs.Left.{TakesAtMost, AnswersEnded, AnswersFront};
+ghost use Rattle.rsp_lines.specs.Left.{TakesAtMost, EndedLinesWritten, FrontWritten};
 ghost use Rattle.rsp_lines.specs.Lines.{ended_lines};
 ghost use Rattle.rsp_lines.specs.Replies.{replies};
 ghost use Rattle.rsp_bench.specs.Run.{out_of, session_of, failed_reads, failed_writes, IfFinished};
@@ -55,13 +55,37 @@ pub fn run_bench<R: Source, W: Sink>(
 
     // What each other end leaves written.
     ensures left_read { result ≡ BenchEnd.ReadFault →
-        AnswersEnded line_answer (first_session image) (R.rest source.old) (R.rest source.new) (W.written sink.old) (W.written sink.new) }
+        EndedLinesWritten (record {
+            answered = line_answer;
+            closing = closing;
+            session = first_session image;
+            script = R.rest source.old;
+            unread = R.rest source.new;
+            before = W.written sink.old;
+            written = W.written sink.new;
+        }) }
     ensures left_long { IfSome (R.rest source.old) (λ script. result ≡ BenchEnd.ScriptTooLong →
         W.written sink.new ≡ append_known (W.written sink.old) (replies line_answer (ended_lines (take SCRIPT_LIMIT script)) (first_session image))) }
     ensures left_write { result ≡ BenchEnd.WriteFault →
-        AnswersFront line_answer closing (first_session image) (R.rest source.old) (R.rest source.new) (W.written sink.old) (W.written sink.new) }
+        FrontWritten (record {
+            answered = line_answer;
+            closing = closing;
+            session = first_session image;
+            script = R.rest source.old;
+            unread = R.rest source.new;
+            before = W.written sink.old;
+            written = W.written sink.new;
+        }) }
     ensures left_memory { result ≡ BenchEnd.OutOfMemory →
-        AnswersFront line_answer closing (first_session image) (R.rest source.old) (R.rest source.new) (W.written sink.old) (W.written sink.new) }
+        FrontWritten (record {
+            answered = line_answer;
+            closing = closing;
+            session = first_session image;
+            script = R.rest source.old;
+            unread = R.rest source.new;
+            before = W.written sink.old;
+            written = W.written sink.new;
+        }) }
 {
     let Ok(mut session) = Session::try_new(alloc, image) else {
         return BenchEnd::OutOfMemory;

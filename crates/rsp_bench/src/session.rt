@@ -135,9 +135,9 @@ impl Session {
         Ok(())
     }
 
-    /// Does a command that `parse_line` gave, and answers it. Only a line of an open block and its end may need memory;
-    /// where there is none, the session stays as it was, and the block stays open. At an end that hides no fault of the text:
-    /// memory ran out at a line with a label, and no line up to that one has a fault of the first pass.
+    /// Carries out a command that `parse_line` gave, and answers it. Only a line of an open block and its `end` may need
+    /// memory; where there is none, the session stays as it was, and the block stays open. At an `end` memory runs out at a
+    /// line with a label, and no line up to that one has a fault of the first pass: so no fault of the text is hidden.
     #[tactic(auto, unfolding(crate::specs::Session::answer_of))]
     pub fn exec(&mut self, alloc: Global, command: &Command) -> Result<Reply, AllocError>
         requires { IsCommand command.now }
@@ -152,7 +152,7 @@ impl Session {
         Ok(reply)
     }
 
-    /// Does a command as `exec` does, and answers it in a reply that says nothing so far.
+    /// Carries out a command as `exec` does, and answers it in an empty reply.
     #[tactic(auto, unfolding(crate::specs::Session::answer_of))]
     fn exec_to(
         &mut self,
@@ -211,12 +211,12 @@ impl Session {
         Ok(())
     }
 
-    /// What is left to say at the end of a script: the fault of an open block, else nothing.
+    /// The closing fault: that of a block which is open at the end of the script, else nothing.
     pub fn finish(&self) -> Reply
         ensures { result ≡ closing self.now }
     {
         let mut reply = Reply::new();
-        self.close(&mut reply);
+        self.put_closing(&mut reply);
         reply
     }
 
@@ -245,7 +245,7 @@ impl Answering for Session {
         self.answer_text(alloc, line, reply)
     }
 
-    fn close(&self, reply: &mut Reply) {
+    fn put_closing(&self, reply: &mut Reply) {
         reply.clear();
         if let Some(block) = &self.block {
             let fault = AsmFault {

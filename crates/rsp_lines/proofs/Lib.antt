@@ -1,5 +1,5 @@
 pub mod Alike
-pub mod Answered
+pub mod PieceAnswers
 pub mod Kept
 pub mod KnownEnds
 pub mod Left

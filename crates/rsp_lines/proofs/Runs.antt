@@ -7,12 +7,12 @@ use Rattle.std.proofs.lemmas.Option.{none-some}
 use Rattle.std.specs.Io.KnownBytes.{append_known, prepend_known, IsAtEnd}
 use Rattle.std.specs.Str.Lines.{lines}
 use Rattle.rsp_lines.specs.declared.run.TheConstants.{SCRIPT_LIMIT}
-use Rattle.rsp_lines.specs.Answers.{Answers}
-use Rattle.rsp_lines.specs.Left.{WritesFront, TakesAtMost, AnswersEnded, AnswersFront}
+use Rattle.rsp_lines.specs.Pieces.{PieceAnswered}
+use Rattle.rsp_lines.specs.Left.{WritesFront, TakesAtMost, EndedLinesWritten, FrontWritten}
 use Rattle.rsp_lines.specs.Lines.{ended_lines, ended_after, open_after, last_line, kept}
-use Rattle.rsp_lines.specs.Replies.{Answered, AnswersLongAlike, replies, final, out_of}
+use Rattle.rsp_lines.specs.Replies.{Answer, LongLinesAlike, replies, final, out_of}
 use Rattle.rsp_lines.proofs.Alike.{Alike, alike-last}
-use Rattle.rsp_lines.proofs.Answered.{answers-none, answers-then, answers-front}
+use Rattle.rsp_lines.proofs.PieceAnswers.{answers-none, answers-then, answers-front}
 use Rattle.rsp_lines.proofs.KnownEnds.{append_known-append, prepend_known-append, prepend_known-nil}
 use Rattle.rsp_lines.proofs.Left.{front-along, front-then}
 use Rattle.rsp_lines.proofs.Pieces.{ended_lines-after, lines-ended}
@@ -60,18 +60,18 @@ read_cut read others n k within h e =
         ap (λ i. take i read) same ∙ sym (take_all k (take n read) (omega (arith, length-take n read)))
 
 -- the bytes that the reads of a run gave, and what came of them
-pub record Progress {S : Type 0} (answered : List ℕ → S → Answered S) (rest unread old now : Option (List ℕ)) (line : List ℕ) (s t : S) (total : ℕ) : Type 0 where
+pub record Progress {S : Type 0} (answered : List ℕ → S → Answer S) (rest unread old now : Option (List ℕ)) (line : List ℕ) (s t : S) (total : ℕ) : Type 0 where
   pub taken : List ℕ
   pub told : rest ≡ prepend_known taken unread
   pub count : length taken ≡ total
-  pub answers : Answers answered old now [] line s t (take SCRIPT_LIMIT taken)
+  pub answers : PieceAnswered answered old now [] line s t (take SCRIPT_LIMIT taken)
 
-module _ {S : Type 0} (answered : List ℕ → S → Answered S) (closing : S → List ℕ) (alike : AnswersLongAlike answered) where
+module _ {S : Type 0} (answered : List ℕ → S → Answer S) (closing : S → List ℕ) (alike : LongLinesAlike answered) where
   pub progress-none : (r w : Option (List ℕ)) (s : S) → Progress answered r r w w [] s s 0
   progress-none r w s = record { taken = []; told = sym (prepend_known-nil r); count = refl; answers = answers-none answered alike w [] s }
 
   pub progress-more : {r u v w x y : Option (List ℕ)} {l m : List ℕ} {s t o : S} {total : ℕ} (piece within : List ℕ) (n : ℕ) → Progress answered r u w x l s t total
-      → u ≡ prepend_known piece v → length piece ≡ n → total ≤ SCRIPT_LIMIT → within ≡ take (SCRIPT_LIMIT - total) piece → Answers answered x y l m t o within
+      → u ≡ prepend_known piece v → length piece ≡ n → total ≤ SCRIPT_LIMIT → within ≡ take (SCRIPT_LIMIT - total) piece → PieceAnswered answered x y l m t o within
       → Progress answered r v w y m s o (total + n)
   progress-more {w = w} {y = y} {m = m} {s = s} {o = o} {total = total} piece within n h e len few cut a = record {
     taken = h.taken ++ piece;
@@ -83,7 +83,7 @@ module _ {S : Type 0} (answered : List ℕ → S → Answered S) (closing : S �
 
   -- a read failed
   pub progress-ended : {r u v w x : Option (List ℕ)} {l : List ℕ} {s t : S} {total : ℕ} → Progress answered r u w x l s t total
-      → u ≡ prepend_known [] v → total ≤ SCRIPT_LIMIT → AnswersEnded answered s r v w x
+      → u ≡ prepend_known [] v → total ≤ SCRIPT_LIMIT → EndedLinesWritten (record { answered = answered; closing = closing; session = s; script = r; unread = v; before = w; written = x })
   progress-ended {w = w} {s = s} {total = total} h e few = record {
     taken = h.taken;
     told = h.told ∙ ap (prepend_known h.taken) (e ∙ prepend_known-nil _);
@@ -95,7 +95,7 @@ module _ {S : Type 0} (answered : List ℕ → S → Answered S) (closing : S �
   -- a piece was not answered to its end
   pub progress-front : {r u v w x y : Option (List ℕ)} {l : List ℕ} {s t : S} {total : ℕ} (piece within : List ℕ) → Progress answered r u w x l s t total
       → u ≡ prepend_known piece v → total ≤ SCRIPT_LIMIT → within ≡ take (SCRIPT_LIMIT - total) piece
-      → WritesFront x y (replies answered (ended_after l within) t) → AnswersFront answered closing s r v w y
+      → WritesFront x y (replies answered (ended_after l within) t) → FrontWritten (record { answered = answered; closing = closing; session = s; script = r; unread = v; before = w; written = y })
   progress-front {s = s} {total = total} piece within h e few cut f = record {
     taken = h.taken ++ piece;
     told = h.told ∙ ap (prepend_known h.taken) e ∙ prepend_known-append _ h.taken piece;
@@ -154,7 +154,7 @@ module _ {S : Type 0} (answered : List ℕ → S → Answered S) (closing : S �
   progress-end {r = r} {w = w} {x = x} {l = l} {s = s} {t = t} v script h e d few k written next =
       let all : h.taken ≡ script = told_all r v h.taken script (h.told ∙ ap (prepend_known h.taken) (e ∙ prepend_known-nil _)) d k in
       let part : take SCRIPT_LIMIT h.taken ≡ script = limit_all h.taken (omega (arith, h.count)) ∙ all in
-      let a : Answers answered w x [] l s t script = rw (← part) h.answers in (
+      let a : PieceAnswered answered w x [] l s t script = rw (← part) h.answers in (
         omega (arith, h.count, ap length all),
         written ∙ ap (λ b. append_known b (replies answered (last_line l) t ++ closing (final answered (last_line l) t))) a.written
             ∙ append_known-append w (replies answered (ended_after [] script) s) _ ∙ ap (append_known w) (out-pieces script l s t a.last a.session),
@@ -164,9 +164,9 @@ module _ {S : Type 0} (answered : List ℕ → S → Answered S) (closing : S �
   -- where the end of input was met and not answered
   pub progress-end_front : {r u v w x y : Option (List ℕ)} {l : List ℕ} {s t : S} {total : ℕ} → Progress answered r u w x l s t total
       → u ≡ prepend_known [] v → IsAtEnd v → total ≤ SCRIPT_LIMIT
-      → WritesFront x y (replies answered (last_line l) t ++ closing (final answered (last_line l) t)) → AnswersFront answered closing s r v w y
+      → WritesFront x y (replies answered (last_line l) t ++ closing (final answered (last_line l) t)) → FrontWritten (record { answered = answered; closing = closing; session = s; script = r; unread = v; before = w; written = y })
   progress-end_front {w = w} {x = x} {l = l} {s = s} {t = t} h e d few f =
-      let a : Answers answered w x [] l s t h.taken = rw (← limit_all h.taken (omega (arith, h.count))) h.answers in
+      let a : PieceAnswered answered w x [] l s t h.taken = rw (← limit_all h.taken (omega (arith, h.count))) h.answers in
       record {
         taken = h.taken;
         told = h.told ∙ ap (prepend_known h.taken) (e ∙ prepend_known-nil _);

@@ -3,7 +3,7 @@ use Rattle.std.specs.Prelude.{◌≡◌, ◌≤◌, ℕ, ◌⊎◌, List, ◌++�
 use Rattle.std.specs.Io.KnownBytes.{append_known, prepend_known, IsAtEnd}
 use Rattle.rsp_lines.specs.declared.run.TheConstants.{SCRIPT_LIMIT}
 use Rattle.rsp_lines.specs.Lines.{ended_lines}
-use Rattle.rsp_lines.specs.Replies.{Answered, replies, out_of}
+use Rattle.rsp_lines.specs.Replies.{Answer, replies, out_of}
 
 -- a front of these bytes was written after the old ones, and nothing else
 pub record WritesFront (old new : Option (List ℕ)) (bytes : List ℕ) : Type 0 where
@@ -16,18 +16,29 @@ pub record WritesFront (old new : Option (List ℕ)) (bytes : List ℕ) : Type 0
 abbrev pub TakesAtMost : ℕ → Option (List ℕ) → Option (List ℕ) → Type 0
 TakesAtMost n rest unread = (taken : List ℕ) × (rest ≡ prepend_known taken unread) × (length taken ≤ n)
 
+-- A run of a script: what a line comes to, what is written at the end, what answers the first line; the script before the run, and what of
+-- it is left; what was written before the run, and what is written now.
+pub record ScriptRun (S : Type 0) : Type 0 where
+  pub answered : List ℕ → S → Answer S
+  pub closing : S → List ℕ
+  pub session : S
+  pub script : Option (List ℕ)
+  pub unread : Option (List ℕ)
+  pub before : Option (List ℕ)
+  pub written : Option (List ℕ)
+
 -- each line that had ended in what was taken was answered in full, and nothing else was written; what was taken is within
 -- the limit of a script
-pub record AnswersEnded {S : Type 0} (answered : List ℕ → S → Answered S) (s : S) (rest unread old new : Option (List ℕ)) : Type 0 where
+pub record EndedLinesWritten {S : Type 0} (r : ScriptRun S) : Type 0 where
   pub taken : List ℕ
-  pub told : rest ≡ prepend_known taken unread
+  pub told : r.script ≡ prepend_known taken r.unread
   pub few : length taken ≤ SCRIPT_LIMIT
-  pub written : new ≡ append_known old (replies answered (ended_lines taken) s)
+  pub written : r.written ≡ append_known r.before (replies r.answered (ended_lines taken) r.session)
 
 -- a front was written of the replies to the lines that had ended in what was taken, as far as it is within the limit of a
 -- script, or, where the end of input was met, of all that is written for it; and nothing else was written
-pub record AnswersFront {S : Type 0} (answered : List ℕ → S → Answered S) (closing : S → List ℕ) (s : S) (rest unread old new : Option (List ℕ)) : Type 0 where
+pub record FrontWritten {S : Type 0} (r : ScriptRun S) : Type 0 where
   pub taken : List ℕ
-  pub told : rest ≡ prepend_known taken unread
-  pub front : WritesFront old new (replies answered (ended_lines (take SCRIPT_LIMIT taken)) s)
-      ⊎ (IsAtEnd unread × WritesFront old new (out_of answered closing taken s))
+  pub told : r.script ≡ prepend_known taken r.unread
+  pub front : WritesFront r.before r.written (replies r.answered (ended_lines (take SCRIPT_LIMIT taken)) r.session)
+      ⊎ (IsAtEnd r.unread × WritesFront r.before r.written (out_of r.answered r.closing taken r.session))

@@ -1,9 +1,9 @@
 -- Scripts that are answered in pieces.
-pub mod Answers
+pub mod Pieces
 pub mod Faults
 pub mod Left
 pub mod Lines
 pub mod Replies
 pub mod Ends
-pub mod Held
+pub mod Views
 pub mod Text

@@ -1,6 +1,6 @@
 ghost use Rattle.std.specs.Prelude.{◌≡◌, ℕ, ◌+◌, ◌-◌, ◌<◌, ◌^◌, ◌++◌, OnOk, OnErr, IfErr};
 ghost use Rattle.std.specs.Io.KnownBytes.{append_known};
-ghost use Rattle.rsp_lines.specs.Answers.{Answers};
+ghost use Rattle.rsp_lines.specs.Pieces.{PieceAnswered};
 ghost use Rattle.rsp_lines.specs.Faults.{failed_writes, IsAnswerFault};
 ghost use Rattle.rsp_lines.specs.Left.{WritesFront};
 ghost use Rattle.rsp_lines.specs.Lines.{ended_after, last_line};
@@ -68,7 +68,7 @@ pub(crate) fn answer_piece<S: Answering, W: Sink>(
     sink: &mut W,
 ) -> Result<(), RunFault>
     requires { W.fault_count sink.old < 2 ^ 64 - 1 }
-    ensures answers { OnOk result (Answers S.answered (W.written sink.old) (W.written sink.new) line.old line.new session.old session.new piece.now) }
+    ensures answers { OnOk result (PieceAnswered S.answered (W.written sink.old) (W.written sink.new) line.old line.new session.old session.new piece.now) }
     ensures front { OnErr result (WritesFront (W.written sink.old) (W.written sink.new) (replies S.answered (ended_after line.old piece.now) session.old)) }
     ensures count { W.fault_count sink.new ≡ W.fault_count sink.old + failed_writes result }
     ensures cause { IfErr result IsAnswerFault }
@@ -109,7 +109,7 @@ fn answer_last<S: Answering, W: Sink>(
     Ok(())
 }
 
-/// Answers what no newline ended, and says what is left to say.
+/// Answers what no newline ended, and writes the closing fault.
 pub(crate) fn answer_end<S: Answering, W: Sink>(
     alloc: Global,
     session: &mut S,
@@ -127,7 +127,7 @@ pub(crate) fn answer_end<S: Answering, W: Sink>(
     ensures cause { IfErr result IsAnswerFault }
 {
     answer_last(alloc, session, line.last(), reply, sink)?;
-    session.close(reply);
+    session.put_closing(reply);
     let Ok(()) = write_all(sink, reply.bytes()) else {
         return Err(RunFault::WriteFault);
     };

@@ -25,7 +25,7 @@ impl Model for LineSoFar {
 }
 
 impl LineSoFar {
-    /// A line of which nothing has come.
+    /// An empty line.
     pub(crate) fn new() -> LineSoFar
         ensures { result ≡ [] }
     {

@@ -2,7 +2,7 @@ ghost use Rattle.std.specs.Prelude.{◌≡◌, ℕ, ◌+◌, ◌-◌, ◌<◌, �
 ghost use Rattle.std.specs.Io.KnownBytes.{append_known};
 ghost use Rattle.std.specs.Str.Lines.{lines};
 ghost use Rattle.rsp_lines.specs.Faults.{failed_reads, failed_writes};
-ghost use Rattle.rsp_lines.specs.Left.{TakesAtMost, AnswersEnded, AnswersFront};
+ghost use Rattle.rsp_lines.specs.Left.{TakesAtMost, EndedLinesWritten, FrontWritten};
 ghost use Rattle.rsp_lines.specs.Lines.{ended_lines};
 ghost use Rattle.rsp_lines.specs.Replies.{replies, final, out_of};
 
@@ -34,9 +34,9 @@ pub enum RunFault {
 }
 
 /// Reads a script by pieces of at most 4096 bytes, and writes the reply to each line that ends in a piece before it asks
-/// for the next. At the end it answers what no LF ended, and writes what is left to say.
+/// for the next. At the end it answers what no LF ended, and writes the closing fault, where there is one.
 ///
-/// It ends early with the first read or write that fails, or for want of memory to answer a line, or once it has read a
+/// It ends early with the first read or write that fails, or when there is no memory to answer a line, or once it has read a
 /// byte more than `SCRIPT_LIMIT` and answered the lines that ended within the limit. It reads no further than that byte.
 pub fn answer_script<S: Answering, R: Source, W: Sink>(
     alloc: Global,
@@ -61,13 +61,37 @@ pub fn answer_script<S: Answering, R: Source, W: Sink>(
 
     // What a fault leaves written.
     ensures left_read { IsErrOf result RunFault.ReadFault →
-        AnswersEnded S.answered session.old (R.rest source.old) (R.rest source.new) (W.written sink.old) (W.written sink.new) }
+        EndedLinesWritten (record {
+            answered = S.answered;
+            closing = S.closing;
+            session = session.old;
+            script = R.rest source.old;
+            unread = R.rest source.new;
+            before = W.written sink.old;
+            written = W.written sink.new;
+        }) }
     ensures left_long { IfSome (R.rest source.old) (λ script. IsErrOf result RunFault.ScriptTooLong →
         W.written sink.new ≡ append_known (W.written sink.old) (replies S.answered (ended_lines (take SCRIPT_LIMIT script)) session.old)) }
     ensures left_write { IsErrOf result RunFault.WriteFault →
-        AnswersFront S.answered S.closing session.old (R.rest source.old) (R.rest source.new) (W.written sink.old) (W.written sink.new) }
+        FrontWritten (record {
+            answered = S.answered;
+            closing = S.closing;
+            session = session.old;
+            script = R.rest source.old;
+            unread = R.rest source.new;
+            before = W.written sink.old;
+            written = W.written sink.new;
+        }) }
     ensures left_memory { IsErrOf result RunFault.OutOfMemory →
-        AnswersFront S.answered S.closing session.old (R.rest source.old) (R.rest source.new) (W.written sink.old) (W.written sink.new) }
+        FrontWritten (record {
+            answered = S.answered;
+            closing = S.closing;
+            session = session.old;
+            script = R.rest source.old;
+            unread = R.rest source.new;
+            before = W.written sink.old;
+            written = W.written sink.new;
+        }) }
 {
     let mut line = LineSoFar::new();
     let mut buffer = [0u8; PIECE_LENGTH];

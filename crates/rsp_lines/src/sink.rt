@@ -38,9 +38,9 @@ pub struct MemSink {
 
 impl Model for MemSink {
     ghost use Rattle.std.specs.Prelude.{◌≤◌, length, take};
-    ghost use Rattle.rsp_lines.specs.Held.{Held};
+    ghost use Rattle.rsp_lines.specs.Views.{MemoryWritten};
 
-    ghost Value = { Held };
+    ghost Value = { MemoryWritten };
 
     ghost view = { λ s. record {
       bytes = take s.used s.buffer.items;
@@ -107,7 +107,7 @@ pub struct ToWrite<W> {
 }
 
 impl<W> Model for ToWrite<W> {
-    ghost use Rattle.rsp_lines.specs.Held.{Counted};
+    ghost use Rattle.rsp_lines.specs.Views.{Counted};
 
     ghost Value = { Counted W };
 

@@ -86,7 +86,7 @@ pub struct FromRead<R> {
 }
 
 impl<R> Model for FromRead<R> {
-    ghost use Rattle.rsp_lines.specs.Held.{Counted};
+    ghost use Rattle.rsp_lines.specs.Views.{Counted};
 
     ghost Value = { Counted R };
 

@@ -34,7 +34,7 @@ impl Answering for Echo {
         Ok(())
     }
 
-    fn close(&self, reply: &mut Reply) {
+    fn put_closing(&self, reply: &mut Reply) {
         reply.clear();
         reply.push_text(b"end\n");
     }

@@ -13,6 +13,6 @@ returns-in_default-clause-front g c =
     front-along
     (ap (λ l. replies g.S.Answering.answered (last_line l) c.args.session.now ++ c.bytes.result.now) c.last.ensures
     ∙ ap (λ b. replies g.S.Answering.answered (last_line c.args.line.now) c.args.session.now ++ b)
-    (c.bytes.ensures.value ∙ c.close.ensures ∙ ap g.S.Answering.closing
+    (c.bytes.ensures.value ∙ c.put_closing.ensures ∙ ap g.S.Answering.closing
     (c.in_ok-answer_last.ensures.session ∙ ap (λ l. final g.S.Answering.answered (last_line l) c.args.session.now) c.last.ensures)))
     (front-then _ c.in_ok-answer_last.ensures.written c.in_default.ensures.front)

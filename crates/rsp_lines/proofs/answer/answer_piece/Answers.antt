@@ -1,6 +1,6 @@
 use Rattle.std.proofs.Common.{◌+◌, arith, refl, length-drop}
 use Rattle.std.proofs.lemmas.List.{take_rest}
-use Rattle.rsp_lines.proofs.Answered.{leads-none, leads-more, leads-front, leads-end}
+use Rattle.rsp_lines.proofs.PieceAnswers.{leads-none, leads-more, leads-front, leads-end}
 use Rattle.rsp_lines.proofs.Left.{on_err}
 use Rattle.rsp_lines.proofs.answer.answer_piece.Goals as goal
 

@@ -1,5 +1,5 @@
 use Rattle.std.proofs.Common.{◌≡◌, ◌≤◌, length}
-use Rattle.rsp_lines.proofs.Answered.{Leads}
+use Rattle.rsp_lines.proofs.PieceAnswers.{Leads}
 use Rattle.rsp_lines.proofs.answer.answer_piece.Given as goal
 
 abbrev pub invariant-loop-rest : goal.invariant-loop-rest

@@ -4,10 +4,10 @@ use Rattle.std.proofs.lemmas.List.{append-nil, take_all}
 use Rattle.std.specs.List.{position_or_len, before_first, after_first}
 use Rattle.std.specs.Io.KnownBytes.{append_known}
 use Rattle.std.specs.Str.Lines.{strip_carriage_return}
-use Rattle.rsp_lines.specs.Answers.{Answers}
+use Rattle.rsp_lines.specs.Pieces.{PieceAnswered}
 use Rattle.rsp_lines.specs.Left.{WritesFront}
 use Rattle.rsp_lines.specs.Lines.{is_newline, ended_after, open_after, kept, IsLike}
-use Rattle.rsp_lines.specs.Replies.{Answered, AnswersLongAlike, replies, final}
+use Rattle.rsp_lines.specs.Replies.{Answer, LongLinesAlike, replies, final}
 use Rattle.rsp_lines.proofs.Alike.{answered-like, replies-kept, final-kept}
 use Rattle.rsp_lines.proofs.Kept.{kept-kept, open-kept}
 use Rattle.rsp_lines.proofs.KnownEnds.{append_known-nil, append_known-append}
@@ -15,8 +15,8 @@ use Rattle.rsp_lines.proofs.Left.{Leaves, leaves-less, front-along, front-first,
 use Rattle.rsp_lines.proofs.Pieces.{ended-append, open-append, ended-line, open-line, cut_at_newline}
 use Rattle.rsp_lines.proofs.Replies.{replies-append, final-append}
 
-module _ {S : Type 0} (answered : List ℕ → S → Answered S) (alike : AnswersLongAlike answered) where
-  pub answers-none : (w : Option (List ℕ)) (line : List ℕ) (s : S) → Answers answered w w line line s s []
+module _ {S : Type 0} (answered : List ℕ → S → Answer S) (alike : LongLinesAlike answered) where
+  pub answers-none : (w : Option (List ℕ)) (line : List ℕ) (s : S) → PieceAnswered answered w w line line s s []
   answers-none w line s = record { written = sym (append_known-nil w); session = refl; last = refl }
 
   -- the replies to the lines of two pieces
@@ -38,7 +38,7 @@ module _ {S : Type 0} (answered : List ℕ → S → Answered S) (alike : Answer
       ∙ ap (λ ls. final answered ls s) (sym (ended-append line a b))
 
   pub answers-then : {old now new : Option (List ℕ)} {line mid after : List ℕ} {s t u : S} (a b : List ℕ)
-      → Answers answered old now line mid s t a → Answers answered now new mid after t u b → Answers answered old new line after s u (a ++ b)
+      → PieceAnswered answered old now line mid s t a → PieceAnswered answered now new mid after t u b → PieceAnswered answered old new line after s u (a ++ b)
   answers-then {old = old} {line = line} {mid = mid} {s = s} {t = t} a b h g = record {
     written =
         g.written ∙ ap (λ w. append_known w (replies answered (ended_after mid b) t)) h.written
@@ -52,7 +52,7 @@ module _ {S : Type 0} (answered : List ℕ → S → Answered S) (alike : Answer
 
   -- a front of the replies to the lines of the second piece
   pub answers-front : {old now new : Option (List ℕ)} {line mid : List ℕ} {s t : S} (a b : List ℕ)
-      → Answers answered old now line mid s t a → WritesFront now new (replies answered (ended_after mid b) t)
+      → PieceAnswered answered old now line mid s t a → WritesFront now new (replies answered (ended_after mid b) t)
       → WritesFront old new (replies answered (ended_after line (a ++ b)) s)
   answers-front {line = line} {mid = mid} {s = s} {t = t} a b h f =
       front-along (replies-pieces line mid a b s t h.last h.session) (front-then (replies answered (ended_after line a) s) h.written f)
@@ -116,7 +116,7 @@ module _ {S : Type 0} (answered : List ℕ → S → Answered S) (alike : Answer
 
   -- the rest has no newline
   pub leads-end : {old new : Option (List ℕ)} {line mid : List ℕ} {s t : S} (piece rest : List ℕ) → Leads old new line mid s t piece rest
-      → position_or_len is_newline rest ≡ length rest → Answers answered old new line (kept (mid ++ before_first is_newline rest)) s t piece
+      → position_or_len is_newline rest ≡ length rest → PieceAnswered answered old new line (kept (mid ++ before_first is_newline rest)) s t piece
   leads-end {old = old} {line = line} {mid = mid} {s = s} {t = t} piece rest h e =
       let all : before_first is_newline rest ++ [] ≡ rest = append-nil _ ∙ take_all (position_or_len is_newline rest) rest (omega (arith, e)) in
       let none : ended_after mid rest ≡ [] = ap (ended_after mid) (sym all) ∙ ended-line mid rest [] in

@@ -2,7 +2,7 @@
 use Rattle.std.specs.Prelude.{ℕ, List}
 
 -- a sink in memory: the bytes that were written, for how many there is room in all, and its failures
-pub record Held : Type 0 where
+pub record MemoryWritten : Type 0 where
   pub bytes : List ℕ
   pub room : ℕ
   pub failures : ℕ
