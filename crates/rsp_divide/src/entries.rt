@@ -3,8 +3,8 @@ ghost use Rattle.rsp_divide.specs.Entries.{reciprocal_entry, root_entry, IsRootE
 
 use crate::tables::{RECIPROCALS, ROOTS};
 
-/// Entry `i` of the reciprocal table, for `i` below 512: `(2^34 / (512 + i) + 1) / 256` without its highest bit, and
-/// FFFF hex for `i` = 0.
+/// Entry `i` of the reciprocal table, for `i` below 512: `(2^34 / (512 + i) + 1) / 256` modulo 65536, but FFFF hex for
+/// `i` = 0.
 #[inline]
 pub fn rcp_entry(i: usize) -> u16
     requires { i < 512 }
@@ -14,7 +14,7 @@ pub fn rcp_entry(i: usize) -> u16
 }
 
 /// Entry `i` of the root table, for `i` below 512: half of the greatest number whose square, times the radicand of `i`,
-/// is below 2^44, without its highest bit. The radicand is `512 + i` for an even `i`, and half of that for an odd one.
+/// is below 2^44, modulo 65536. The radicand is `512 + i` for an even `i`, and `(512 + i) / 2` for an odd one.
 #[inline]
 pub fn rsq_entry(i: usize) -> u16
     requires { i < 512 }
