@@ -20,7 +20,7 @@ use Rattle.rsp_machine.specs.State.{State, start_of}
 use Rattle.rsp_machine.specs.Step.{step_of}
 use Rattle.rsp_machine.specs.Host.{is_inside, with_bank_bytes, register_written, with_pc, task_fault, tasked}
 use Rattle.rsp_machine.specs.declared.host.TaskFault.{TaskFault}
-use Rattle.rsp_debug.specs.Debugging.{Debugging, debugging_of, stepped, stop_in, ran, broken_at, unbroken_at, watching, unwatching, gone_back, resumed, read_from}
+use Rattle.rsp_debug.specs.Debugging.{Debugging, debugging_of, stepped, stop_in, ran, broken_at, unbroken_at, watching, unwatching, gone_back, brought_to, read_from}
 use Rattle.rsp_debug.specs.Stops.{is_break}
 use Rattle.rsp_debug.specs.Calls.{is_count}
 use Rattle.rsp_debug.specs.Looks.{memory_of, listing_of}
@@ -49,7 +49,7 @@ then_debugging text d s = record { reply = text; next = record s { debugging = d
 
 -- a reply, and the state after the command, which goes on from there: there is no way back
 abbrev pub then_state : List ℕ → State → SessionState → Answer SessionState
-then_state text state s = then_debugging text (resumed state s.debugging) s
+then_state text state s = then_debugging text (brought_to state s.debugging) s
 
 -- ---- the machine
 
@@ -155,7 +155,7 @@ plain_answer End s = same (line_fault_text BadCommand) s
 abbrev pub end_answer : OpenBlock → Result (List ℕ) AsmFault → SessionState → Answer SessionState
 end_answer b (Ok words) s = record {
   reply = words_text (length words);
-  next = record { debugging = resumed (with_bank_bytes Imem b.place (words_bytes words) s.debugging.state) s.debugging; block = None };
+  next = record { debugging = brought_to (with_bank_bytes Imem b.place (words_bytes words) s.debugging.state) s.debugging; block = None };
 }
 end_answer b (Err fault) s = record { reply = asm_fault_text fault; next = record s { block = None } }
 

@@ -1,7 +1,7 @@
 ghost use Rattle.std.specs.Prelude.{◌≡◌, ◌+◌, ◌*◌, ◌≤◌, length};
 ghost use Rattle.arrayvec.specs.ArrayVec.{array_vec_len};
 ghost use Rattle.rsp_machine.specs.Host.{with_bank_bytes};
-ghost use Rattle.rsp_debug.specs.Debugging.{resumed};
+ghost use Rattle.rsp_debug.specs.Debugging.{brought_to};
 ghost use Rattle.rsp_bench.specs.Words.{words_bytes};
 
 use arrayvec::ArrayVec;
@@ -25,7 +25,7 @@ fn word_bytes(words: &[u32]) -> ArrayVec<u8, 4096>
 /// Writes words to IMEM from a place on; they all stand there. That empties the past, also where there are none.
 pub(crate) fn load_words<A: Acc>(debugger: &mut Debugger<A>, place: u16, words: &[u32])
     requires { place + 4 * length words.now ≤ 4096 }
-    ensures { debugger.new ≡ resumed (with_bank_bytes Bank.Imem place (words_bytes words.now) debugger.old.state) debugger.old }
+    ensures { debugger.new ≡ brought_to (with_bank_bytes Bank.Imem place (words_bytes words.now) debugger.old.state) debugger.old }
 {
     let bytes = word_bytes(words);
     let _ = debugger.load_bytes(Bank::Imem, u32::from(place), bytes.as_slice());

@@ -2,7 +2,7 @@
 
 ghost use Rattle.std.specs.Prelude.{◌≡◌, ◌+◌, ◌*◌, ◌≤◌, ◌↔◌, ◌⊎◌, IfSome, IfNone, length, take, drop, option_map, IsTrue, IsSomeAnd};
 ghost use Rattle.rsp_machine.specs.Host.{with_bank_bytes, is_inside};
-ghost use Rattle.rsp_debug.specs.Debugging.{resumed};
+ghost use Rattle.rsp_debug.specs.Debugging.{brought_to};
 ghost use Rattle.rsp_c.specs.Answers.{bank_of};
 ghost use Rattle.rsp_c.specs.Bytes.{bank_bytes, words_bytes};
 
@@ -41,7 +41,7 @@ pub extern "C" fn rsp_load(
     ensures none { IfNone handle.old.session (result ≡ NO_MACHINE) }
     ensures inside { IfSome handle.old.session (λ d. (result ≡ OK) ↔ IsSomeAnd (bank_of number) (λ b. IsTrue (is_inside b address (length bytes.now) d.state))) }
     ensures answer { IfSome handle.old.session (λ d. (result ≡ OK) ⊎ (result ≡ OUT_OF_RANGE)) }
-    ensures next { result ≡ OK → IfSome (bank_of number) (λ b. handle.new.session ≡ option_map (λ d. resumed (with_bank_bytes b address bytes.now d.state) d) handle.old.session) }
+    ensures next { result ≡ OK → IfSome (bank_of number) (λ b. handle.new.session ≡ option_map (λ d. brought_to (with_bank_bytes b address bytes.now d.state) d) handle.old.session) }
     ensures same { (result ≡ OK → ⊥) → handle.new.session ≡ handle.old.session }
 {
     match handle.take(alloc) {
@@ -73,7 +73,7 @@ pub extern "C" fn rsp_load_words(
     ensures none { IfNone handle.old.session (result ≡ NO_MACHINE) }
     ensures inside { IfSome handle.old.session (λ d. (result ≡ OK) ↔ ((length words.now ≤ 1024) × IsSomeAnd (bank_of number) (λ b. IsTrue (is_inside b address (4 * length words.now) d.state)))) }
     ensures answer { IfSome handle.old.session (λ d. (result ≡ OK) ⊎ (result ≡ OUT_OF_RANGE)) }
-    ensures next { result ≡ OK → IfSome (bank_of number) (λ b. handle.new.session ≡ option_map (λ d. resumed (with_bank_bytes b address (words_bytes words.now) d.state) d) handle.old.session) }
+    ensures next { result ≡ OK → IfSome (bank_of number) (λ b. handle.new.session ≡ option_map (λ d. brought_to (with_bank_bytes b address (words_bytes words.now) d.state) d) handle.old.session) }
     ensures same { (result ≡ OK → ⊥) → handle.new.session ≡ handle.old.session }
 {
     match handle.take(alloc) {

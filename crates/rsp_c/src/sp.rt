@@ -3,7 +3,7 @@
 ghost use Rattle.std.specs.Prelude.{◌≡◌, IfSome, IfNone, option_map};
 ghost use Rattle.rsp_machine.specs.Host.{register_written};
 ghost use Rattle.rsp_regs.specs.Sp.{peeked};
-ghost use Rattle.rsp_debug.specs.Debugging.{resumed, read_from};
+ghost use Rattle.rsp_debug.specs.Debugging.{brought_to, read_from};
 
 use crate::handle::Handle;
 use crate::status::{NO_MACHINE, OK};
@@ -50,7 +50,7 @@ pub extern "C" fn rsp_peek(handle: &mut Handle, alloc: Global, n: u32, out: &mut
 pub extern "C" fn rsp_write(handle: &mut Handle, alloc: Global, n: u32, value: u32) -> u32
     ensures none { IfNone handle.old.session (result ≡ NO_MACHINE) }
     ensures ok { IfSome handle.old.session (λ d. result ≡ OK) }
-    ensures next { handle.new.session ≡ option_map (λ d. resumed (register_written n value d.state) d) handle.old.session }
+    ensures next { handle.new.session ≡ option_map (λ d. brought_to (register_written n value d.state) d) handle.old.session }
 {
     match handle.take(alloc) {
         None => NO_MACHINE,

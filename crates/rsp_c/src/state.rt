@@ -2,7 +2,7 @@
 
 ghost use Rattle.std.specs.Prelude.{◌≡◌, ◌↔◌, ◌⊎◌, Some, None, IfSome, IfNone, IsSomeAnd, option_map};
 ghost use Rattle.rsp_machine.specs.Registers.{registers_of, with_registers, registers_fault};
-ghost use Rattle.rsp_debug.specs.Debugging.{resumed};
+ghost use Rattle.rsp_debug.specs.Debugging.{brought_to};
 ghost use Rattle.rsp_c.specs.States.{seen_state, registers_in};
 
 use crate::handle::Handle;
@@ -38,7 +38,7 @@ pub extern "C" fn rsp_set(handle: &mut Handle, alloc: Global, state: &RspState) 
     ensures none { IfNone handle.old.session (result ≡ NO_MACHINE) }
     ensures range { IfSome handle.old.session (λ d. (result ≡ OK) ↔ IsSomeAnd (registers_in state.now) (λ r. registers_fault r ≡ None)) }
     ensures answer { IfSome handle.old.session (λ d. (result ≡ OK) ⊎ (result ≡ OUT_OF_RANGE)) }
-    ensures next { result ≡ OK → IfSome (registers_in state.now) (λ r. handle.new.session ≡ option_map (λ d. resumed (with_registers r d.state) d) handle.old.session) }
+    ensures next { result ≡ OK → IfSome (registers_in state.now) (λ r. handle.new.session ≡ option_map (λ d. brought_to (with_registers r d.state) d) handle.old.session) }
     ensures same { (result ≡ OK → ⊥) → handle.new.session ≡ handle.old.session }
 {
     match handle.take(alloc) {

@@ -2,7 +2,7 @@
 
 ghost use Rattle.std.specs.Prelude.{◌≡◌, IfSome, IfNone, option_map, if◌then◌else◌};
 ghost use Rattle.rsp_machine.specs.Host.{task_fault, tasked, with_pc};
-ghost use Rattle.rsp_debug.specs.Debugging.{resumed};
+ghost use Rattle.rsp_debug.specs.Debugging.{brought_to};
 ghost use Rattle.rsp_c.specs.Answers.{is_place, place_status, task_status};
 
 use crate::handle::Handle;
@@ -15,7 +15,7 @@ use std::alloc::Global;
 pub extern "C" fn rsp_task(handle: &mut Handle, alloc: Global, address: u32) -> u32
     ensures none { IfNone handle.old.session (result ≡ NO_MACHINE) }
     ensures answer { IfSome handle.old.session (λ d. result ≡ task_status (task_fault address d.state.rdram)) }
-    ensures next { result ≡ OK → handle.new.session ≡ option_map (λ d. resumed (tasked address d.state) d) handle.old.session }
+    ensures next { result ≡ OK → handle.new.session ≡ option_map (λ d. brought_to (tasked address d.state) d) handle.old.session }
     ensures same { (result ≡ OK → ⊥) → handle.new.session ≡ handle.old.session }
 {
     match handle.take(alloc) {
@@ -36,7 +36,7 @@ pub extern "C" fn rsp_task(handle: &mut Handle, alloc: Global, address: u32) -> 
 pub extern "C" fn rsp_set_pc(handle: &mut Handle, alloc: Global, pc: u32) -> u32
     ensures none { IfNone handle.old.session (result ≡ NO_MACHINE) }
     ensures answer { IfSome handle.old.session (λ d. result ≡ place_status pc) }
-    ensures next { result ≡ OK → handle.new.session ≡ option_map (λ d. resumed (with_pc pc d.state) d) handle.old.session }
+    ensures next { result ≡ OK → handle.new.session ≡ option_map (λ d. brought_to (with_pc pc d.state) d) handle.old.session }
     ensures same { (result ≡ OK → ⊥) → handle.new.session ≡ handle.old.session }
 {
     match handle.take(alloc) {

@@ -14,6 +14,7 @@ use Rattle.rsp_debug.specs.Calls.{Going, StepCall, RunCall, made_steps, done_ste
 use Rattle.rsp_debug.proofs.Reasons.{step-halted-same, step-reserved-same}
 use Rattle.rsp_debug.proofs.Afters.{after-call}
 use Rattle.rsp_debug.proofs.Going.{made-state}
+use Rattle.rsp_debug.proofs.Pasts.{state_back}
 
 -- the past of the state after m steps from s: those after m - 1, m - 2 and so on
 abbrev Trails : State → ℕ → List State → Type 0
@@ -117,27 +118,30 @@ going_sound s (RunCall b w count) n taken d h = steps_sound s (made_steps b w co
 accepted_within : (n : ℕ) (d : Debugging) → is_accepted n d ≡ true → n ≤ length d.past
 accepted_within n d e = grind (arith, nat_tests)
 
+accepted_some : (n : ℕ) (d : Debugging) → is_accepted n d ≡ true → 0 < n
+accepted_some n d e = grind (arith, nat_tests)
+
 abbrev Sounds : State → Tally → Type 0
 Sounds s t = Sound s t.done t.taken t.debugging
 
-back_by : (b : Bool) (s : State) (n : ℕ) (t : Tally) → (b ≡ true → n ≤ length t.debugging.past) → Sounds s t
+back_by : (b : Bool) (s : State) (n : ℕ) (t : Tally) → (b ≡ true → n ≤ length t.debugging.past) → (b ≡ true → 0 < n) → Sounds s t
     → Sounds s (if b then record t { debugging = gone_back n t.debugging; taken = t.taken + n } else t)
-back_by false s n t l h = h
-back_by true s n t l h =
+back_by false s n t l some h = h
+back_by true s n t l some h =
     let b = behind s (t.done - t.taken) n t.debugging.state t.debugging.state t.debugging.past h.state h.past (l refl) in
     let o : t.taken ≤ t.done = h.order in
     let w : n ≤ t.done - t.taken = b.within in
     let k : t.done - t.taken - n ≡ t.done - (t.taken + n) = omega arith in
     record {
       order = omega arith;
-      state = b.state ∙ ap (λ j. steps_of j s) k;
+      state = state_back t.debugging.state t.debugging.past n (some refl) ∙ b.state ∙ ap (λ j. steps_of j s) k;
       past = let Q : ℕ → Type 0 = λ j. Trails s j (drop n t.debugging.past) in subst Q k b.past;
       all_done = λ j v. h.all_done j (omega arith);
     }
 
 call_sound : (s : State) (call : Call) (t : Tally) → Sounds s t → Sounds s (after_call call t)
 call_sound s (GoOn call) t h = going_sound s call t.done t.taken t.debugging h
-call_sound s (GoBack n) t h = back_by (is_accepted n t.debugging) s n t (accepted_within n t.debugging) h
+call_sound s (GoBack n) t h = back_by (is_accepted n t.debugging) s n t (accepted_within n t.debugging) (accepted_some n t.debugging) h
 
 calls_sound : (s : State) (calls : List Call) (t : Tally) → Sounds s t → Sounds s (after_calls calls t)
 calls_sound s [] t h = h

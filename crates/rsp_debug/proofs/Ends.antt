@@ -4,15 +4,15 @@ use Rattle.std.specs.Prelude.{All, IsNone, is_some, unwrap_or, nat_lt, option_ma
 use Rattle.rsp_machine.specs.State.{State}
 use Rattle.rsp_machine.specs.Laws.{steps_of}
 use Rattle.rsp_debug.specs.Stops.{is_break, is_reserved, when, first_of, reason_at, least, run_steps, stop_of, IsStop}
-use Rattle.rsp_debug.specs.Held.{held_in, watches_of}
-use Rattle.rsp_debug.specs.Past.{past_of}
+use Rattle.rsp_debug.specs.Snapshots.{snapshot_of, watches_of}
+use Rattle.rsp_debug.specs.Ring.{past_of}
 use Rattle.rsp_debug.specs.Debugging.{Debugging, steps_made, ran}
 use Rattle.rsp_debug.proofs.Going.{made-is}
 use Rattle.rsp_debug.specs.declared.stop.Watch.{Watch}
 use Rattle.rsp_debug.specs.declared.stop.Reason.{Reason}
 use Rattle.rsp_debug.specs.declared.stop.Reason.TheVariants.{Reserved, Halted, Watched, Break, Limit}
 use Rattle.rsp_debug.specs.declared.stop.Stop.{Stop}
-use Rattle.rsp_debug.proofs.Slots.{none-changed, changed-none, watches-held}
+use Rattle.rsp_debug.proofs.Watched.{none-changed, changed-none, watches-of}
 
 -- the least number that passes
 pub least-is : (test : ℕ → Bool) (n k : ℕ) → k ≤ n → test k ≡ true → ((j : ℕ) → j < k → test j ≡ false) → least test n ≡ k
@@ -59,9 +59,9 @@ unwatched-stop b w n s t stop is none = record {
   place = is.place;
 }
 
--- the watches are those that are held
-pub held-stop : (b : List Bool) (w : List (Option Watch)) (n : ℕ) (s t : State) (stop : Stop) (dmem : List ℕ) → IsStop b (watches_of (map (held_in dmem) w)) n s t stop → IsStop b w n s t stop
-held-stop b w n s t stop dmem is = subst (λ (x : List (Option Watch)). IsStop b x n s t stop) (watches-held w dmem) is
+-- the watches are those of the snapshots
+pub snapshots-stop : (b : List Bool) (w : List (Option Watch)) (n : ℕ) (s t : State) (stop : Stop) (dmem : List ℕ) → IsStop b (watches_of (map (snapshot_of dmem) w)) n s t stop → IsStop b w n s t stop
+snapshots-stop b w n s t stop dmem is = subst (λ (x : List (Option Watch)). IsStop b x n s t stop) (watches-of w dmem) is
 
 pub ruleset frees = (unwatched-stop)
 

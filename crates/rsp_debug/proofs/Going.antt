@@ -7,18 +7,19 @@ use Rattle.rsp_machine.specs.Step.{step_of}
 use Rattle.rsp_machine.specs.Laws.{steps_of}
 use Rattle.rsp_machine.specs.declared.step.StepEnd.{StepEnd}
 use Rattle.rsp_machine.specs.declared.step.StepEnd.TheVariants as end
-use Rattle.rsp_debug.specs.Past.{states_before, past_by, past_after, past_of}
+use Rattle.rsp_debug.specs.Past.{past_by, past_after}
+use Rattle.rsp_debug.specs.Ring.{states_before, past_of, from_slot}
 use Rattle.rsp_debug.specs.Debugging.{Debugging, steps_made}
 use Rattle.rsp_debug.specs.declared.stop.Watch.{Watch}
 use Rattle.rsp_debug.specs.declared.stop.Reason.{Reason}
 use Rattle.rsp_debug.specs.declared.stop.Reason.TheVariants.{Limit}
-use Rattle.rsp_debug.specs.declared.held.Held.{Held}
-use Rattle.rsp_debug.specs.Held.{differs, watches_of}
+use Rattle.rsp_debug.specs.declared.snapshot.Snapshot.{Snapshot}
+use Rattle.rsp_debug.specs.Snapshots.{differs, watches_of}
 use Rattle.rsp_debug.specs.Calls.{IsAfter, done_steps}
 use Rattle.rsp_debug.specs.Stops.{reason_at}
 use Rattle.rsp_machine.specs.Saved.{Saved}
 use Rattle.rsp_machine.specs.Transfers.{starts_dma_at}
-use Rattle.rsp_debug.specs.Places.{Standing, from_place, steps_left, steps_between}
+use Rattle.rsp_debug.specs.Span.{Standing, steps_left, steps_between}
 use Rattle.rsp_debug.specs.Runs.{stuck_of, hit_in}
 use Rattle.rsp_debug.proofs.Reasons.{reason-hit, reason-limit, unhit, hit_of, next-reached, next-first, next-hit, step-halted-same, step-reserved-same, steps-none}
 use Rattle.rsp_debug.proofs.Afters.{after-none, after-more, after-same}
@@ -117,15 +118,15 @@ come-more b w n depth s before k more m t past next now come quiet h there grown
 
 -- the same by the places of a run: those at its start, before a step and after it
 pub come-on : (b : List Bool) (w : List (Option Watch)) (p x y : Standing) (s m t : State) (old xs ys : List Saved)
-    → IsCome b w (steps_left p) p.depth s (states_before s (from_place p.first p.count old)) (steps_between p x) m (states_before m (from_place x.first x.count xs))
+    → IsCome b w (steps_left p) p.depth s (states_before s (from_slot p.first p.count old)) (steps_between p x) m (states_before m (from_slot x.first x.count xs))
     → hit_of b w (steps_between p x) (steps_of (steps_between p x - 1) s) (steps_of (steps_between p x) s) ≡ None
     → steps_left x ≤ steps_left p → 0 < x.far → x.depth ≡ p.depth → t ≡ (step_of m).1
-    → states_before t (from_place y.first y.count ys) ≡ past_after x.depth m (states_before m (from_place x.first x.count xs))
+    → states_before t (from_slot y.first y.count ys) ≡ past_after x.depth m (states_before m (from_slot x.first x.count xs))
     → y.far + done_steps (step_of m).0 ≡ x.far → y.later ≡ x.later
-    → IsCome b w (steps_left p) p.depth s (states_before s (from_place p.first p.count old)) (steps_between p y) t (states_before t (from_place y.first y.count ys))
+    → IsCome b w (steps_left p) p.depth s (states_before s (from_slot p.first p.count old)) (steps_between p y) t (states_before t (from_slot y.first y.count ys))
 come-on b w p x y s m t old xs ys come quiet within some depth there grown far later =
-    come-more b w (steps_left p) p.depth s (states_before s (from_place p.first p.count old)) (steps_between p x) (steps_between p y) m t
-    (states_before m (from_place x.first x.count xs)) (states_before t (from_place y.first y.count ys)) x.depth
+    come-more b w (steps_left p) p.depth s (states_before s (from_slot p.first p.count old)) (steps_between p x) (steps_between p y) m t
+    (states_before m (from_slot x.first x.count xs)) (states_before t (from_slot y.first y.count ys)) x.depth
     come quiet (omega arith) there grown depth (omega arith)
 
 -- the same, where the past is told in another way
@@ -135,13 +136,13 @@ come-as b w n depth s before k more m past next come count same =
     subst (λ (i : ℕ). IsCome b w n depth s before i m next) (sym count) (record { after = come.after; kept = same ∙ come.kept; first = come.first })
 
 -- what a step has come to
-pub hit-now : (b : List Bool) (held : List (Option Held)) (s m t : State) (k more : ℕ) (o : Option Reason)
-    → IsAfter k s m → t ≡ (step_of m).1 → (step_of m).0 ≡ end.Done → differs held m.dmem ≡ None → more ≡ k + done_steps (step_of m).0 → o ≡ hit_in b held t
-    → hit_of b (watches_of held) more (steps_of (more - 1) s) (steps_of more s) ≡ o
-hit-now b held s m t k more o after there done same count hit =
+pub hit-now : (b : List Bool) (snapshots : List (Option Snapshot)) (s m t : State) (k more : ℕ) (o : Option Reason)
+    → IsAfter k s m → t ≡ (step_of m).1 → (step_of m).0 ≡ end.Done → differs snapshots m.dmem ≡ None → more ≡ k + done_steps (step_of m).0 → o ≡ hit_in b snapshots t
+    → hit_of b (watches_of snapshots) more (steps_of (more - 1) s) (steps_of more s) ≡ o
+hit-now b snapshots s m t k more o after there done same count hit =
     let one : more ≡ k + 1 = count ∙ ap (λ e. k + done_steps e) done in
-    ap (λ i. hit_of b (watches_of held) i (steps_of (i - 1) s) (steps_of i s)) one
-    ∙ next-hit b held s m t k after.reached (next-reached s m t k after.reached there) same ∙ sym hit
+    ap (λ i. hit_of b (watches_of snapshots) i (steps_of (i - 1) s) (steps_of i s)) one
+    ∙ next-hit b snapshots s m t k after.reached (next-reached s m t k after.reached there) same ∙ sym hit
 
 pub count-on : (p x y : Standing) (d : ℕ) → steps_left x ≤ steps_left p → y.far + d ≡ x.far → y.later ≡ x.later → steps_between p y ≡ steps_between p x + d
 count-on p x y d within far later = omega arith
@@ -158,11 +159,11 @@ pub all-made : (p y : Standing) → y.far ≡ 0 → (y.later == 0) ≡ true → 
 all-made p y far last = let none : y.later ≡ 0 = grind (arith, nat_tests) in omega arith
 
 -- why a run stops that looks round, and finds a reason or has made all its steps
-pub stop-come : (b : List Bool) (held : List (Option Held)) (n depth : ℕ) (s : State) (before : List State) (k : ℕ) (t : State) (past : List State) (o : Option Reason)
-    → IsCome b (watches_of held) n depth s before k t past → hit_of b (watches_of held) k (steps_of (k - 1) s) (steps_of k s) ≡ o → (o ≡ None → k ≡ n)
-    → stuck_of t ≡ None → reason_at b (watches_of held) n s k ≡ Some (unwrap_or o Limit)
-stop-come b held n depth s before k t past None come hit all free = reason-limit b (watches_of held) n s t k come.after.reached free hit (all refl)
-stop-come b held n depth s before k t past (Some r) come hit all free = reason-hit b (watches_of held) n s t k r come.after.reached free hit
+pub stop-come : (b : List Bool) (snapshots : List (Option Snapshot)) (n depth : ℕ) (s : State) (before : List State) (k : ℕ) (t : State) (past : List State) (o : Option Reason)
+    → IsCome b (watches_of snapshots) n depth s before k t past → hit_of b (watches_of snapshots) k (steps_of (k - 1) s) (steps_of k s) ≡ o → (o ≡ None → k ≡ n)
+    → stuck_of t ≡ None → reason_at b (watches_of snapshots) n s k ≡ Some (unwrap_or o Limit)
+stop-come b snapshots n depth s before k t past None come hit all free = reason-limit b (watches_of snapshots) n s t k come.after.reached free hit (all refl)
+stop-come b snapshots n depth s before k t past (Some r) come hit all free = reason-hit b (watches_of snapshots) n s t k r come.after.reached free hit
 
 -- where no step is asked for
 pub none-asked : (b : List Bool) (w : List (Option Watch)) (n : ℕ) (s : State) → n ≡ 0 → stuck_of s ≡ None → reason_at b w n s 0 ≡ Some Limit

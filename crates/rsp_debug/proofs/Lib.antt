@@ -1,7 +1,7 @@
 pub mod Turns
 pub mod Pasts
 pub mod Tables
-pub mod Slots
+pub mod Watched
 pub mod Reasons
 pub mod Hits
 pub mod Afters

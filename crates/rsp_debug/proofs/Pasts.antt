@@ -6,14 +6,14 @@ use Rattle.std.proofs.Math.Seq.{drop-cons}
 use Rattle.std.proofs.lemmas.List.{drop-drop, length-drop}
 use Rattle.rsp_machine.specs.State.{State}
 use Rattle.rsp_machine.specs.Step.{step_of}
-use Rattle.rsp_machine.specs.Saved.{Saved, undone, can_undo, slot_after}
+use Rattle.rsp_machine.specs.Saved.{Saved, undone, can_undo, record_after}
 use Rattle.rsp_machine.specs.declared.step.StepEnd.TheVariants.{Done, Halted, Reserved}
-use Rattle.rsp_machine.proofs.Kept.{halted_stays, reserved_stays}
+use Rattle.rsp_machine.proofs.Saving.{halted_stays, reserved_stays}
 use Rattle.rsp_machine.proofs.Ending.{step_halted, undo-done}
 use Rattle.rsp_machine.specs.Transfers.{starts_dma_at}
-use Rattle.rsp_debug.specs.Places.{next_place, previous_place, from_place}
-use Rattle.rsp_debug.specs.Past.{states_before, past_by, past_after}
-use Rattle.rsp_debug.proofs.Turns.{grown, pushed, popped, first_is, kept_member}
+use Rattle.rsp_debug.specs.Ring.{next_slot, previous_slot, from_slot, states_before}
+use Rattle.rsp_debug.specs.Past.{past_by, past_after}
+use Rattle.rsp_debug.proofs.Turns.{grown, pushed, popped, first_is, same_member}
 
 pub states_before-take : (s : State) (n : ℕ) (rs : List Saved) → states_before s (take n rs) ≡ take n (states_before s rs)
 states_before-take s zero rs = refl
@@ -44,9 +44,9 @@ led s t rs n x d u e =
 
 pub past_done : (s t : State) (xs : List Saved) (i count n : ℕ) (x : Saved) → 0 < i → i ≤ length xs → n ≤ length xs
     → (step_of s).0 ≡ Done → can_undo s ≡ true → undone x t ≡ s
-    → states_before t (from_place (i - 1) (min (count + 1) n) (set xs (i - 1) x))
-    ≡ past_after n s (states_before s (from_place i count xs))
-past_done s t xs i count n x h l c d u e = ap (states_before t) (grown xs i count n x h l c) ∙ led s t (from_place i count xs) n x d u e
+    → states_before t (from_slot (i - 1) (min (count + 1) n) (set xs (i - 1) x))
+    ≡ past_after n s (states_before s (from_slot i count xs))
+past_done s t xs i count n x h l c d u e = ap (states_before t) (grown xs i count n x h l c) ∙ led s t (from_slot i count xs) n x d u e
 
 -- a step that started a DMA
 pub past_gone : (s : State) (past : List State) (n : ℕ) → (step_of s).0 ≡ Done → can_undo s ≡ false → [] ≡ past_after n s past
@@ -56,30 +56,30 @@ past_gone s past n d u =
 
 -- a step that isn't Done
 pub past_halted : (s : State) (xs : List Saved) (p i n count : ℕ) (x : Saved) → x ≡ get_or xs p x → (step_of s).0 ≡ Halted
-    → states_before (step_of s).1 (from_place i count (set xs p (slot_after s x))) ≡ past_after n s (states_before s (from_place i count xs))
+    → states_before (step_of s).1 (from_slot i count (set xs p (record_after s x))) ≡ past_after n s (states_before s (from_slot i count xs))
 unfolding past_after
 past_halted s xs p i n count x e d =
     let k = halted_stays s x d in
-    rw (k.0, k.1, kept_member xs p x e, d) refl
+    rw (k.0, k.1, same_member xs p x e, d) refl
 
 pub past_reserved : (s : State) (xs : List Saved) (p i n count w : ℕ) (x : Saved) → x ≡ get_or xs p x → (step_of s).0 ≡ Reserved w
-    → states_before (step_of s).1 (from_place i count (set xs p (slot_after s x))) ≡ past_after n s (states_before s (from_place i count xs))
+    → states_before (step_of s).1 (from_slot i count (set xs p (record_after s x))) ≡ past_after n s (states_before s (from_slot i count xs))
 unfolding past_after
 past_reserved s xs p i n count w x e d =
     let k = reserved_stays s x w d in
-    rw (k.0, k.1, kept_member xs p x e, d) refl
+    rw (k.0, k.1, same_member xs p x e, d) refl
 
 pub ruleset pasts = (past_done, past_gone, past_halted, past_reserved)
 
 -- the same by the places of a ring
-pub past_one : (s t : State) (xs : List Saved) (i p count more n : ℕ) (x : Saved) → i < length xs → n ≤ length xs → p ≡ previous_place (length xs) i
+pub past_one : (s t : State) (xs : List Saved) (i p count more n : ℕ) (x : Saved) → i < length xs → n ≤ length xs → p ≡ previous_slot (length xs) i
     → more ≡ min (count + 1) n → (step_of s).0 ≡ Done → can_undo s ≡ true → undone x t ≡ s
-    → states_before t (from_place p more (set xs p x)) ≡ past_after n s (states_before s (from_place i count xs))
+    → states_before t (from_slot p more (set xs p x)) ≡ past_after n s (states_before s (from_slot i count xs))
 past_one s t xs i p count more n x h c there up d u e =
-    ap (λ q. states_before t (from_place q more (set xs q x))) there
-    ∙ ap (λ k. states_before t (from_place (previous_place (length xs) i) k (set xs (previous_place (length xs) i) x))) up
+    ap (λ q. states_before t (from_slot q more (set xs q x))) there
+    ∙ ap (λ k. states_before t (from_slot (previous_slot (length xs) i) k (set xs (previous_slot (length xs) i) x))) up
     ∙ ap (states_before t) (pushed xs i count n x h c)
-    ∙ led s t (from_place i count xs) n x d u e
+    ∙ led s t (from_slot i count xs) n x d u e
 
 pub leads_back : (b : Bool) → not b ≡ false → b ≡ true
 leads_back true e = refl
@@ -112,13 +112,13 @@ rest_here s (x ∷ rs) r e =
     rw (← same) refl
 
 pub back_here : (s : State) (xs : List Saved) (i count : ℕ) (r : Saved) → i < length xs → 0 < count → slice_get xs i ≡ Some r
-    → undone r s ≡ slice_index_or (states_before s (from_place i count xs)) 0 s
-back_here s xs i count r h c e = first_here s (from_place i count xs) r (first_is xs i count r h c e)
+    → undone r s ≡ slice_index_or (states_before s (from_slot i count xs)) 0 s
+back_here s xs i count r h c e = first_here s (from_slot i count xs) r (first_is xs i count r h c e)
 
 pub back_rest : (s : State) (xs : List Saved) (i count : ℕ) (r : Saved) → i < length xs → 0 < count → count ≤ length xs → slice_get xs i ≡ Some r
-    → states_before (undone r s) (from_place (next_place (length xs) i) (count - 1) xs) ≡ drop 1 (states_before s (from_place i count xs))
+    → states_before (undone r s) (from_slot (next_slot (length xs) i) (count - 1) xs) ≡ drop 1 (states_before s (from_slot i count xs))
 back_rest s xs i count r h c l e =
-    ap (states_before (undone r s)) (popped xs i count r h l) ∙ rest_here s (from_place i count xs) r (first_is xs i count r h c e)
+    ap (states_before (undone r s)) (popped xs i count r h l) ∙ rest_here s (from_slot i count xs) r (first_is xs i count r h c e)
 
 pub ruleset backs = (back_here, back_rest)
 
@@ -129,4 +129,9 @@ past_more past i = drop-drop 1 i past
 pub state_more : (m s : State) (past : List State) (i : ℕ) → i < length past → slice_index_or (drop i past) 0 s ≡ slice_index_or (m ∷ past) (i + 1) m
 state_more m s past i h = rw (add-one, drop-cons past i m h) refl
 
-pub ruleset more = (past_more, state_more, length-states_before, length-drop)
+-- and the state that n of them lead to
+pub state_back : (s : State) (past : List State) (n : ℕ) → 0 < n → slice_index_or past (n - 1) s ≡ slice_index_or (s ∷ past) n s
+state_back s past zero h = absurd (omega arith)
+state_back s past (suc n) h = let e : suc n - 1 ≡ n = omega arith in ap (λ i. slice_index_or past i s) e
+
+pub ruleset more = (past_more, state_more, state_back, length-states_before, length-drop)

@@ -4,7 +4,7 @@ use Rattle.std.specs.Prelude.{is_none, is_some, take, length, nat_lt, nat_eq, �
 use Rattle.std.proofs.lemmas.Grind.{common_steps}
 use Rattle.rsp_memory.specs.Memory.{word_at}
 use Rattle.std.proofs.lemmas.List.{take_all}
-use Rattle.rsp_debug.proofs.Slots.{differs-since}
+use Rattle.rsp_debug.proofs.Watched.{differs-since}
 use Rattle.rsp_decode.specs.declared.inst.Inst.{Inst}
 use Rattle.rsp_decode.specs.Table.{inst_of}
 use Rattle.rsp_machine.specs.State.{State}
@@ -13,8 +13,8 @@ use Rattle.rsp_machine.specs.Laws.{steps_of}
 use Rattle.rsp_machine.specs.declared.step.StepEnd.TheVariants as end
 use Rattle.rsp_debug.specs.Stops.{changed, is_break, when, first_of, reason_at, IsStop}
 use Rattle.rsp_debug.specs.Runs.{stuck_of, hit_in}
-use Rattle.rsp_debug.specs.Held.{differs, watches_of}
-use Rattle.rsp_debug.specs.declared.held.Held.{Held}
+use Rattle.rsp_debug.specs.Snapshots.{differs, watches_of}
+use Rattle.rsp_debug.specs.declared.snapshot.Snapshot.{Snapshot}
 use Rattle.rsp_debug.specs.declared.stop.Watch.{Watch}
 use Rattle.rsp_debug.specs.declared.stop.Reason.{Reason}
 use Rattle.rsp_debug.specs.declared.stop.Reason.TheVariants.{Reserved, Halted, Watched, Break, Limit}
@@ -183,25 +183,25 @@ hit_later : (b : List Bool) (o : Option ℕ) (positive : Bool) (s : State) → p
 hit_later b o true s e = refl
 hit_later b o false s e = cc
 
-pub next-hit : (b : List Bool) (held : List (Option Held)) (s m t : State) (k : ℕ)
-    → m ≡ steps_of k s → t ≡ steps_of (k + 1) s → differs held m.dmem ≡ None
-    → hit_of b (watches_of held) (k + 1) (steps_of (k + 1 - 1) s) (steps_of (k + 1) s) ≡ hit_in b held t
-next-hit b held s m t k here there same =
+pub next-hit : (b : List Bool) (snapshots : List (Option Snapshot)) (s m t : State) (k : ℕ)
+    → m ≡ steps_of k s → t ≡ steps_of (k + 1) s → differs snapshots m.dmem ≡ None
+    → hit_of b (watches_of snapshots) (k + 1) (steps_of (k + 1 - 1) s) (steps_of (k + 1) s) ≡ hit_in b snapshots t
+next-hit b snapshots s m t k here there same =
     let positive : nat_lt 0 (k + 1) ≡ true = grind (arith, common_steps) in
     let before : k + 1 - 1 ≡ k = omega arith in
     let back : steps_of (k + 1 - 1) s ≡ m = ap (λ i. steps_of i s) before ∙ sym here in
-    let w = watches_of held in
+    let w = watches_of snapshots in
     hit_later b (changed w (steps_of (k + 1 - 1) s).dmem (steps_of (k + 1) s).dmem) (nat_lt 0 (k + 1)) (steps_of (k + 1) s) positive
     ∙ ap (λ (x : State). hit_by b (changed w (steps_of (k + 1 - 1) s).dmem x.dmem) x) (sym there)
     ∙ ap (λ (x : State). hit_by b (changed w x.dmem t.dmem) t) back
-    ∙ ap (λ o. hit_by b o t) (sym (differs-since held m.dmem t.dmem same))
+    ∙ ap (λ o. hit_by b o t) (sym (differs-since snapshots m.dmem t.dmem same))
 
 hit_nothing : (o : Option ℕ) (d : Option Reason) → first_of (option_map Watched o ∷ d ∷ []) ≡ None → o ≡ None
 hit_nothing None d e = refl
 hit_nothing (Some k) d e = cc
 
-pub nothing-differs : (b : List Bool) (held : List (Option Held)) (t : State) → hit_in b held t ≡ None → differs held t.dmem ≡ None
-nothing-differs b held t e = hit_nothing (differs held t.dmem) (when (is_break b t.pc) Break) e
+pub nothing-differs : (b : List Bool) (snapshots : List (Option Snapshot)) (t : State) → hit_in b snapshots t ≡ None → differs snapshots t.dmem ≡ None
+nothing-differs b snapshots t e = hit_nothing (differs snapshots t.dmem) (when (is_break b t.pc) Break) e
 
 -- before the first step nothing is hit
 pub unhit : (b : List Bool) (w : List (Option Watch)) (k : ℕ) (before s : State) → k < 1 → hit_of b w k before s ≡ None

@@ -7,7 +7,8 @@ use Rattle.std.proofs.lemmas.List.FromFn.{get_or-map-range_with_len, length-map-
 use Rattle.std.proofs.lemmas.Nat.Bits.{bit_at_set_same, bit_at_set_other, bit_at_clear_same, bit_at_clear_other, bit_at-zero, shr_and_one}
 use Rattle.std.proofs.lemmas.Bool.{cases_eq, cases_lt}
 use Rattle.std.proofs.lemmas.List.Sums.{sum_by-set}
-use Rattle.rsp_debug.specs.Breaks.{no_breaks, break_count, table, is_set, places_of}
+use Rattle.rsp_debug.specs.Breaks.{no_breaks, break_count}
+use Rattle.rsp_debug.specs.Bits.{table, is_set, breaks_of}
 
 length-table : (f : ℕ → Bool) (n : ℕ) → length (table f n) ≡ n
 unfolding table
@@ -34,8 +35,8 @@ same_place k at q r = omega arith
 -- a word that differs from the one before at one bit
 written : (words : List ℕ) (at v : ℕ) (value : Bool) → length words ≡ 16 → at < 1024 → (bit_at v (at % 64) == 1) ≡ value
     → ((i : ℕ) → i < 64 → i ≢ at % 64 → bit_at v i ≡ bit_at (slice_index words (at / 64)) i)
-    → places_of (slice_set words (at / 64) v) ≡ slice_set (places_of words) at value
-unfolding places_of
+    → breaks_of (slice_set words (at / 64) v) ≡ slice_set (breaks_of words) at value
+unfolding breaks_of
 written words at v value n h here there =
     let room : at / 64 < length words = omega arith in
     table-set (is_set words) (is_set (slice_set words (at / 64) v)) 1024 at value h
@@ -51,7 +52,7 @@ written words at v value n h here there =
     ])
 
 pub bit-added : (words : List ℕ) (at : ℕ) → length words ≡ 16 → at < 1024
-    → places_of (slice_set words (at / 64) (bit_or (slice_index words (at / 64)) (1 * 2 ^ (at % 64) % 2 ^ 64))) ≡ slice_set (places_of words) at true
+    → breaks_of (slice_set words (at / 64) (bit_or (slice_index words (at / 64)) (1 * 2 ^ (at % 64) % 2 ^ 64))) ≡ slice_set (breaks_of words) at true
 bit-added words at n h =
     let small : at % 64 < 64 = omega arith in
     let w = slice_index words (at / 64) in
@@ -60,7 +61,7 @@ bit-added words at n h =
     (λ i b ne. bit_at_set_other w64 w (at % 64) small i ne)
 
 pub bit-dropped : (words : List ℕ) (at : ℕ) → length words ≡ 16 → at < 1024
-    → places_of (slice_set words (at / 64) (bit_and (slice_index words (at / 64)) (bit_not w64 (1 * 2 ^ (at % 64) % 2 ^ 64)))) ≡ slice_set (places_of words) at false
+    → breaks_of (slice_set words (at / 64) (bit_and (slice_index words (at / 64)) (bit_not w64 (1 * 2 ^ (at % 64) % 2 ^ 64)))) ≡ slice_set (breaks_of words) at false
 bit-dropped words at n h =
     let small : at % 64 < 64 = omega arith in
     let w = slice_index words (at / 64) in
@@ -68,24 +69,24 @@ bit-dropped words at n h =
     (ap (λ x. x == 1) (bit_at_clear_same w64 w (at % 64) small))
     (λ i b ne. bit_at_clear_other w64 w (at % 64) small i b ne)
 
-pub place-is : (words : List ℕ) (at : ℕ) → at < 1024 → slice_index_or (places_of words) at false ≡ is_set words at
-unfolding places_of
+pub place-is : (words : List ℕ) (at : ℕ) → at < 1024 → slice_index_or (breaks_of words) at false ≡ is_set words at
+unfolding breaks_of
 place-is words at h = get-table (is_set words) 1024 at false h
 
 pub bit-is : (w k : ℕ) → (bit_and (w / 2 ^ k) 1 == 1) ≡ (bit_at w k == 1)
 bit-is w k = ap (λ x. x == 1) (shr_and_one w k)
 
-pub length-places : (words : List ℕ) → length (places_of words) ≡ 1024
-unfolding places_of
-length-places words = length-table (is_set words) 1024
+pub length-breaks : (words : List ℕ) → length (breaks_of words) ≡ 1024
+unfolding breaks_of
+length-breaks words = length-table (is_set words) 1024
 
 -- the table of no breakpoints
 zero_word : (i : ℕ) → slice_index (replicate 16 0) i ≡ 0
 zero_word i = elim (cases_lt i 16) [ inl h ↦ get_or-replicate 16 i 0 0 h | inr h ↦ get_or_past (replicate 16 0) i 0 (omega (arith, length-replicate {A = ℕ} 16 0)) ]
 
-pub places-none : places_of (replicate 16 0) ≡ no_breaks
-unfolding places_of no_breaks
-places-none = same_lists _ _ (length-table _ 1024 ∙ sym (length-replicate 1024 false)) (λ k d below.
+pub breaks-none : breaks_of (replicate 16 0) ≡ no_breaks
+unfolding breaks_of no_breaks
+breaks-none = same_lists _ _ (length-table _ 1024 ∙ sym (length-replicate 1024 false)) (λ k d below.
     let b : k < 1024 = omega (arith, length-table (is_set (replicate 16 0)) 1024, below) in
     get-table _ 1024 k d b ∙ ap (λ w. bit_at w (k % 64) == 1) (zero_word (k / 64)) ∙ ap (λ x. x == 1) (bit_at-zero (k % 64)) ∙ sym (get_or-replicate 1024 k false d b))
 
@@ -130,4 +131,4 @@ empty_at l i true e none =
 pub empty-break : (l : List Bool) (i : ℕ) → break_count l ≡ 0 → slice_index_or l i false ≡ false
 empty-break l i none = empty_at l i (slice_index_or l i false) refl none
 
-pub ruleset tables = (bit-added, bit-dropped, place-is, bit-is, length-places, places-none, count-none, count-added, count-dropped, nothing-dropped)
+pub ruleset tables = (bit-added, bit-dropped, place-is, bit-is, length-breaks, breaks-none, count-none, count-added, count-dropped, nothing-dropped)

@@ -6,12 +6,12 @@ use Rattle.std.proofs.lemmas.Option.{get_or_from_slice_get}
 use Rattle.std.proofs.lemmas.List.{drop-set, take-set, take_more, take_all, drop_all, take-append-le, take-take, length-take, length-drop, length-append, length-set, set-get_or, append-nil}
 use Rattle.std.proofs.lemmas.Bool.{cases_lt}
 use Rattle.std.proofs.lemmas.Bool.Decides.{nat_tests}
-use Rattle.rsp_debug.specs.Places.{next_place, previous_place, rotated, from_place}
+use Rattle.rsp_debug.specs.Ring.{next_slot, previous_slot, rotated, from_slot}
 
-next_of_previous : (n i : ℕ) → i < n → next_place n (previous_place n i) ≡ i
+next_of_previous : (n i : ℕ) → i < n → next_slot n (previous_slot n i) ≡ i
 next_of_previous n i h = grind (arith, nat_tests)
 
-previous_below : (n i : ℕ) → i < n → previous_place n i < n
+previous_below : (n i : ℕ) → i < n → previous_slot n i < n
 previous_below n i h = grind (arith, nat_tests)
 
 module _ {X : Type 0} where
@@ -33,7 +33,7 @@ module _ {X : Type 0} where
   there_by false i xs d e h =
       ap (λ l. drop (i + 1) xs ++ l) (take_more xs i d h) ∙ sym (append_assoc (drop (i + 1) xs) (take i xs) (get_or xs i d ∷ []))
 
-  there : (i : ℕ) (xs : List X) (d : X) → i < length xs → rotated (next_place (length xs) i) xs ≡ rest i xs ++ get_or xs i d ∷ []
+  there : (i : ℕ) (xs : List X) (d : X) → i < length xs → rotated (next_slot (length xs) i) xs ≡ rest i xs ++ get_or xs i d ∷ []
   there i xs d h = there_by (i + 1 == length xs) i xs d refl h
 
   written : (i : ℕ) (xs : List X) (x : X) → i < length xs → rotated i (set xs i x) ≡ x ∷ rest i xs
@@ -51,12 +51,12 @@ module _ {X : Type 0} where
 
   -- a member that is written before the first, where n may stand
   pub pushed : (xs : List X) (i count n : ℕ) (x : X) → i < length xs → n ≤ length xs
-      → from_place (previous_place (length xs) i) (min (count + 1) n) (set xs (previous_place (length xs) i) x) ≡ take n (x ∷ from_place i count xs)
+      → from_slot (previous_slot (length xs) i) (min (count + 1) n) (set xs (previous_slot (length xs) i) x) ≡ take n (x ∷ from_slot i count xs)
   pushed xs i count zero x h c =
       let m : min (count + 1) 0 ≡ 0 = omega arith in
-      ap (λ k. take k (rotated (previous_place (length xs) i) (set xs (previous_place (length xs) i) x))) m
+      ap (λ k. take k (rotated (previous_slot (length xs) i) (set xs (previous_slot (length xs) i) x))) m
   pushed xs i count (suc n) x h c =
-      let p : ℕ = previous_place (length xs) i in
+      let p : ℕ = previous_slot (length xs) i in
       let l : p < length xs = previous_below (length xs) i h in
       let e : rotated p (set xs p x) ≡ x ∷ rest p xs = written p xs x l in
       let f : rotated i xs ≡ rest p xs ++ get_or xs p x ∷ [] = rw (next_of_previous (length xs) i h) at (there p xs x l) in
@@ -69,58 +69,58 @@ module _ {X : Type 0} where
       ∙ sym (ap (λ l. take (suc n) (x ∷ take count l)) f)
 
   -- place 0 by the number of places
-  round : (xs : List X) (i count : ℕ) → i ≡ length xs → from_place i count xs ≡ from_place 0 count xs
+  round : (xs : List X) (i count : ℕ) → i ≡ length xs → from_slot i count xs ≡ from_slot 0 count xs
   round xs i count e =
       ap (λ l. take count (l ++ take i xs)) (drop_all i xs (omega arith)) ∙ ap (take count) (take_all i xs (omega arith) ∙ sym (append-nil xs))
 
   before_by : (b : Bool) (xs : List X) (i count n : ℕ) (x : X) → (i == length xs) ≡ b → 0 < i → i ≤ length xs → n ≤ length xs
-      → from_place (i - 1) (min (count + 1) n) (set xs (i - 1) x) ≡ take n (x ∷ from_place i count xs)
+      → from_slot (i - 1) (min (count + 1) n) (set xs (i - 1) x) ≡ take n (x ∷ from_slot i count xs)
   before_by true xs i count n x e h c d =
       let k : i ≡ length xs = grind (arith, nat_tests) in
-      let p : previous_place (length xs) 0 ≡ i - 1 = grind (arith, nat_tests) in
-      ap (λ j. from_place j (min (count + 1) n) (set xs j x)) (sym p)
+      let p : previous_slot (length xs) 0 ≡ i - 1 = grind (arith, nat_tests) in
+      ap (λ j. from_slot j (min (count + 1) n) (set xs j x)) (sym p)
       ∙ pushed xs 0 count n x (omega arith) d
       ∙ ap (λ l. take n (x ∷ l)) (sym (round xs i count k))
   before_by false xs i count n x e h c d =
       let l : i < length xs = grind (arith, nat_tests) in
-      let p : previous_place (length xs) i ≡ i - 1 = grind (arith, nat_tests) in
-      ap (λ j. from_place j (min (count + 1) n) (set xs j x)) (sym p) ∙ pushed xs i count n x l d
+      let p : previous_slot (length xs) i ≡ i - 1 = grind (arith, nat_tests) in
+      ap (λ j. from_slot j (min (count + 1) n) (set xs j x)) (sym p) ∙ pushed xs i count n x l d
 
   -- the same by the places 1 to n
   pub grown : (xs : List X) (i count n : ℕ) (x : X) → 0 < i → i ≤ length xs → n ≤ length xs
-      → from_place (i - 1) (min (count + 1) n) (set xs (i - 1) x) ≡ take n (x ∷ from_place i count xs)
+      → from_slot (i - 1) (min (count + 1) n) (set xs (i - 1) x) ≡ take n (x ∷ from_slot i count xs)
   grown xs i count n x h c d = before_by (i == length xs) xs i count n x refl h c d
 
   -- place 0 by its other name
-  turned_by : (b : Bool) (xs : List X) (i count : ℕ) → (i == 0) ≡ b → from_place (if b then length xs else i) count xs ≡ from_place i count xs
+  turned_by : (b : Bool) (xs : List X) (i count : ℕ) → (i == 0) ≡ b → from_slot (if b then length xs else i) count xs ≡ from_slot i count xs
   turned_by true xs i count e =
       let z : i ≡ 0 = grind (arith, nat_tests) in
-      round xs (length xs) count refl ∙ ap (λ j. from_place j count xs) (sym z)
+      round xs (length xs) count refl ∙ ap (λ j. from_slot j count xs) (sym z)
   turned_by false xs i count e = refl
 
-  pub turned : (xs : List X) (n i j count more : ℕ) → n ≡ length xs → j ≡ (if i == 0 then n else i) → more ≡ count → from_place j more xs ≡ from_place i count xs
+  pub turned : (xs : List X) (n i j count more : ℕ) → n ≡ length xs → j ≡ (if i == 0 then n else i) → more ≡ count → from_slot j more xs ≡ from_slot i count xs
   turned xs n i j count more e there same =
-      ap (λ k. from_place k more xs) (there ∙ ap (λ l. if i == 0 then l else i) e) ∙ turned_by (i == 0) xs i more refl ∙ ap (λ k. from_place i k xs) same
+      ap (λ k. from_slot k more xs) (there ∙ ap (λ l. if i == 0 then l else i) e) ∙ turned_by (i == 0) xs i more refl ∙ ap (λ k. from_slot i k xs) same
 
   -- the first member goes
-  pub popped : (xs : List X) (i count : ℕ) (d : X) → i < length xs → count ≤ length xs → from_place (next_place (length xs) i) (count - 1) xs ≡ drop 1 (from_place i count xs)
+  pub popped : (xs : List X) (i count : ℕ) (d : X) → i < length xs → count ≤ length xs → from_slot (next_slot (length xs) i) (count - 1) xs ≡ drop 1 (from_slot i count xs)
   popped xs i zero d h c = refl
   popped xs i (suc k) d h c =
       let r = length-rest i xs h in
       let e : suc k - 1 ≡ k = omega arith in
-      ap (λ n. take n (rotated (next_place (length xs) i) xs)) e
+      ap (λ n. take n (rotated (next_slot (length xs) i) xs)) e
       ∙ ap (take k) (there i xs d h)
       ∙ take-append-le k (rest i xs) (get_or xs i d ∷ []) (omega arith)
       ∙ sym (ap (λ l. drop 1 (take (suc k) l)) (here i xs d h))
 
-  pub first_is : (xs : List X) (i count : ℕ) (x : X) → i < length xs → 0 < count → slice_get xs i ≡ Some x → slice_get (from_place i count xs) 0 ≡ Some x
+  pub first_is : (xs : List X) (i count : ℕ) (x : X) → i < length xs → 0 < count → slice_get xs i ≡ Some x → slice_get (from_slot i count xs) 0 ≡ Some x
   first_is xs i zero x h c e = absurd (omega arith)
   first_is xs i (suc k) x h c e =
       ap (λ l. slice_get (take (suc k) l) 0) (here i xs x h) ∙ ap Some (get_or_from_slice_get xs i x x e)
 
   -- a member that is written over by itself
-  pub kept_member : (xs : List X) (i : ℕ) (x : X) → x ≡ get_or xs i x → set xs i x ≡ xs
-  kept_member xs i x e = ap (set xs i) e ∙ set-get_or xs i x
+  pub same_member : (xs : List X) (i : ℕ) (x : X) → x ≡ get_or xs i x → set xs i x ≡ xs
+  same_member xs i x e = ap (set xs i) e ∙ set-get_or xs i x
 
   pub length-written : (xs : List X) (i : ℕ) (x : X) → length (set xs i x) ≡ length xs
   length-written xs i x = length-set xs i x

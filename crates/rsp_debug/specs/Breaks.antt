@@ -1,7 +1,5 @@
 -- Breakpoints.
-use Rattle.std.specs.Prelude.{◌/◌, ◌%◌, ℕ, List, map, replicate, slice_set, slice_index, count_by, Bool, true, false, ◌==◌, nat_le, Option, Some, None, if◌then◌else◌}
-use Rattle.std.specs.List.{range_with_len}
-use Rattle.std.specs.Int.{bit_at}
+use Rattle.std.specs.Prelude.{◌/◌, ℕ, List, replicate, slice_set, count_by, Bool, true, false, nat_le, Option, Some, None, if◌then◌else◌}
 use Rattle.rsp_debug.specs.Stops.{is_break}
 use Rattle.rsp_debug.specs.declared.breaks.BreakFault.{BreakFault}
 use Rattle.rsp_debug.specs.declared.breaks.BreakFault.TheVariants.{BreakTwice, BreakFull}
@@ -26,15 +24,3 @@ break_fault place breaks =
     if is_break breaks place then Some BreakTwice
     else if nat_le 16 (break_count breaks) then Some BreakFull
     else None
-
--- the first n truth values of a test
-unfoldable pub table : (ℕ → Bool) → ℕ → List Bool
-table test n = map test (range_with_len 0 n)
-
--- scaffolding of proofs: whether bit i is set, of sixteen words of 64 bits
-abbrev pub is_set : List ℕ → ℕ → Bool
-is_set words i = bit_at (slice_index words (i / 64)) (i % 64) == 1
-
--- the truth values of their 1024 bits
-unfoldable pub places_of : List ℕ → List Bool
-places_of words = table (is_set words) 1024

@@ -1,5 +1,5 @@
 -- What a debugger holds, and its calls.
-use Rattle.std.specs.Prelude.{ℕ, zero, suc, ◌%◌, ◌==◌, List, [], ◌∷◌, drop, slice_index_or, Bool, Option, if◌then◌else◌}
+use Rattle.std.specs.Prelude.{ℕ, zero, suc, ◌-◌, ◌%◌, ◌==◌, List, [], drop, slice_index_or, Bool, Option, if◌then◌else◌}
 use Rattle.rsp_machine.specs.State.{State}
 use Rattle.rsp_machine.specs.Step.{step_of}
 use Rattle.rsp_machine.specs.Host.{register_read}
@@ -54,13 +54,13 @@ watching k address len d = record d { watches = with_watch k address len d.watch
 abbrev pub unwatching : ℕ → Debugging → Debugging
 unwatching k d = record d { watches = without_watch k d.watches }
 
--- n states back
+-- n states back, at least one: to state n of those that lead back, which leaves with the newer ones
 abbrev pub gone_back : ℕ → Debugging → Debugging
-gone_back n d = record d { state = slice_index_or (d.state ∷ d.past) n d.state; past = drop n d.past }
+gone_back n d = record d { state = slice_index_or d.past (n - 1) d.state; past = drop n d.past }
 
--- with a state that no step has led to, from which there is no way back
-abbrev pub resumed : State → Debugging → Debugging
-resumed s d = record d { state = s; past = [] }
+-- with a state that the host brought it to: no step led there, and no way leads back from it
+abbrev pub brought_to : State → Debugging → Debugging
+brought_to s d = record d { state = s; past = [] }
 
 -- after a read of SP register n, modulo 16: that of the semaphore empties the past
 abbrev pub read_from : ℕ → Debugging → Debugging

@@ -1,11 +1,13 @@
 -- Runs, breakpoints, watches, looks, and steps back.
-pub mod Places
 pub mod Past
 pub mod Stops
 pub mod Breaks
 pub mod Watches
 pub mod Debugging
 pub mod Looks
-pub mod Held
-pub mod Runs
 pub mod Calls
+pub mod Bits
+pub mod Ring
+pub mod Span
+pub mod Snapshots
+pub mod Runs

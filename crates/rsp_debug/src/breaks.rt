@@ -26,13 +26,14 @@ pub struct Breaks {
 
 impl Model for Breaks {
     ghost use Rattle.std.specs.Prelude.{List, Bool, ◌≡◌};
-    ghost use Rattle.rsp_debug.specs.Breaks.{places_of, break_count};
+    ghost use Rattle.rsp_debug.specs.Breaks.{break_count};
+    ghost use Rattle.rsp_debug.specs.Bits.{breaks_of};
 
     ghost Value = { List Bool };
 
-    ghost view = { λ b. places_of b.bits };
+    ghost view = { λ b. breaks_of b.bits };
 
-    ghost invariant = { λ b. b.count ≡ break_count (places_of b.bits) };
+    ghost invariant = { λ b. b.count ≡ break_count (breaks_of b.bits) };
 }
 
 impl Breaks {

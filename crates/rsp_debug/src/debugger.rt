@@ -9,7 +9,7 @@ ghost use Rattle.rsp_debug.specs.Debugging.{debugging_of, stepped, stop_in, ran,
 
 use crate::breaks::{BreakFault, Breaks, NoBreak};
 use crate::ring::Ring;
-use crate::runs::{run, step};
+use crate::runs::run;
 use crate::stop::Stop;
 use crate::watches::{NoWatch, WatchFault, Watches};
 use rsp_acc::Acc;
@@ -46,7 +46,7 @@ pub struct Debugger<A: Acc> {
 }
 
 impl<A: Acc> Model for Debugger<A> {
-    ghost use Rattle.rsp_debug.specs.Past.{states_before};
+    ghost use Rattle.rsp_debug.specs.Ring.{states_before};
     ghost use Rattle.rsp_debug.specs.Debugging.{Debugging};
 
     ghost Value = { Debugging };
@@ -99,7 +99,7 @@ impl<A: Acc> Debugger<A> {
         ensures answer { result ≡ (step_of self.old.state).0 }
         ensures next { self.new ≡ stepped self.old }
     {
-        step(&mut self.machine, &mut self.past)
+        self.past.step(&mut self.machine)
     }
 
     /// Gives a place of IMEM, a multiple of 4 below 4096, a breakpoint: a run stops when it comes there. BreakTwice where it

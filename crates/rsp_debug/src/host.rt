@@ -4,7 +4,7 @@ ghost use Rattle.std.specs.Prelude.{◌≡◌, ◌<◌, ◌%◌, ◌↔◌, Some
 ghost use Rattle.rsp_regs.specs.Sp.{peeked};
 ghost use Rattle.rsp_machine.specs.Host.{register_written, is_inside, with_bank_bytes, task_fault, tasked, with_pc};
 ghost use Rattle.rsp_machine.specs.Registers.{registers_of, with_registers, registers_fault};
-ghost use Rattle.rsp_debug.specs.Debugging.{resumed, read_from};
+ghost use Rattle.rsp_debug.specs.Debugging.{brought_to, read_from};
 
 use crate::debugger::Debugger;
 use rsp_acc::Acc;
@@ -27,7 +27,7 @@ impl<A: Acc> Debugger<A> {
 
     /// Writes an SP register, as [`rsp_machine::Machine::write_reg`] does, and empties the past.
     pub fn write_reg(&mut self, n: u32, value: u32)
-        ensures { self.new ≡ resumed (register_written n value self.old.state) self.old }
+        ensures { self.new ≡ brought_to (register_written n value self.old.state) self.old }
     {
         self.past.clear();
         self.machine.write_reg(n, value);
@@ -38,7 +38,7 @@ impl<A: Acc> Debugger<A> {
     pub fn set_pc(&mut self, pc: u16)
         requires below { pc < 4096 }
         requires whole { pc % 4 ≡ 0 }
-        ensures { self.new ≡ resumed (with_pc pc self.old.state) self.old }
+        ensures { self.new ≡ brought_to (with_pc pc self.old.state) self.old }
     {
         self.past.clear();
         self.machine.set_pc(pc);
@@ -55,7 +55,7 @@ impl<A: Acc> Debugger<A> {
     /// [`RegistersFault`] holds it is answered, and nothing changes.
     pub fn set_all_registers(&mut self, given: &AllRegisters) -> Result<(), RegistersFault>
         ensures fault { MatchResult result (λ _. registers_fault given.now ≡ None) (λ f. registers_fault given.now ≡ Some f) }
-        ensures ok { OnOk result (self.new ≡ resumed (with_registers given.now self.old.state) self.old) }
+        ensures ok { OnOk result (self.new ≡ brought_to (with_registers given.now self.old.state) self.old) }
         ensures err { OnErr result (self.new ≡ self.old) }
     {
         self.machine.set_all_registers(given)?;
@@ -67,7 +67,7 @@ impl<A: Acc> Debugger<A> {
     /// where there are no bytes. RangeFault, and nothing changes, where they pass the bank's end.
     pub fn load_bytes(&mut self, bank: Bank, a: u32, bytes: &[u8]) -> Result<(), RangeFault>
         ensures inside { IsOk result ↔ IsTrue (is_inside bank a (length bytes.now) self.old.state) }
-        ensures ok { OnOk result (self.new ≡ resumed (with_bank_bytes bank a bytes.now self.old.state) self.old) }
+        ensures ok { OnOk result (self.new ≡ brought_to (with_bank_bytes bank a bytes.now self.old.state) self.old) }
         ensures err { OnErr result (self.new ≡ self.old) }
     {
         self.machine.load_bytes(bank, a, bytes)?;
@@ -80,7 +80,7 @@ impl<A: Acc> Debugger<A> {
     /// it can't start.
     pub fn start_task(&mut self, a: u32) -> Result<(), TaskFault>
         ensures fault { MatchResult result (λ _. task_fault a self.old.state.rdram ≡ None) (λ f. task_fault a self.old.state.rdram ≡ Some f) }
-        ensures ok { OnOk result (self.new ≡ resumed (tasked a self.old.state) self.old) }
+        ensures ok { OnOk result (self.new ≡ brought_to (tasked a self.old.state) self.old) }
         ensures err { OnErr result (self.new ≡ self.old) }
     {
         self.machine.start_task(a)?;

@@ -3,12 +3,14 @@
 
 mod breaks;
 mod debugger;
-mod held;
 mod host;
 pub mod laws;
 mod looks;
 mod ring;
 mod runs;
+mod snapshot;
+mod span;
+mod steps;
 mod stop;
 mod watches;
 

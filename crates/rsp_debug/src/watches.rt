@@ -1,8 +1,8 @@
 ghost use Rattle.std.specs.Prelude.{◌≡◌, ◌≤◌, ◌<◌, IsTrue, IsNone, All, map, IfOk, IfSome, OnOk, OnErr, IsOk, ◌↔◌};
 ghost use Rattle.rsp_debug.specs.Watches.{no_watches, is_watchable, free_number, number_for, with_watch, has_watch, without_watch};
-ghost use Rattle.rsp_debug.specs.Held.{held_in};
+ghost use Rattle.rsp_debug.specs.Snapshots.{snapshot_of};
 
-use crate::held::{Held, hold};
+use crate::snapshot::{Snapshot, snapshot_of};
 use crate::stop::Watch;
 use std::marker::Model;
 
@@ -22,19 +22,19 @@ pub struct NoWatch;
 /// What the watches' numbers, 0 to 7, stand for.
 #[derive(Drop)]
 pub struct Watches {
-    slots: [Option<Watch>; 8],
+    numbers: [Option<Watch>; 8],
 }
 
 impl Model for Watches {
     ghost use Rattle.std.specs.Prelude.{List, Option, All};
     ghost use Rattle.rsp_debug.specs.declared.stop.Watch.{Watch};
-    ghost use Rattle.rsp_debug.specs.Held.{IsShort};
+    ghost use Rattle.rsp_debug.specs.Snapshots.{IsShort};
 
     ghost Value = { List (Option Watch) };
 
-    ghost view = { λ w. w.slots };
+    ghost view = { λ w. w.numbers };
 
-    ghost invariant = { λ w. All IsShort w.slots };
+    ghost invariant = { λ w. All IsShort w.numbers };
 }
 
 /// Whether a watch is 1 to 64 bytes that stand in DMEM.
@@ -51,30 +51,30 @@ impl Watches {
     pub fn new() -> Watches
         ensures { result ≡ no_watches }
     {
-        Watches { slots: [None; 8] }
+        Watches { numbers: [None; 8] }
     }
 
     /// Whether there is no watch.
     pub fn is_empty(&self) -> bool
         ensures { IsTrue result ↔ All IsNone self.now }
     {
-        self.slots.iter().all(|slot| slot.is_none())
+        self.numbers.iter().all(|watch| watch.is_none())
     }
 
     /// The watches with their bytes.
-    pub fn held(&self, dmem: &[u8]) -> [Option<Held>; 8]
-        ensures { result ≡ map (held_in dmem.now) self.now }
+    pub fn snapshots(&self, dmem: &[u8]) -> [Option<Snapshot>; 8]
+        ensures { result ≡ map (snapshot_of dmem.now) self.now }
     {
-        let [a, b, c, d, e, f, g, h] = self.slots;
+        let [a, b, c, d, e, f, g, h] = self.numbers;
         [
-            hold(a, dmem),
-            hold(b, dmem),
-            hold(c, dmem),
-            hold(d, dmem),
-            hold(e, dmem),
-            hold(f, dmem),
-            hold(g, dmem),
-            hold(h, dmem),
+            snapshot_of(a, dmem),
+            snapshot_of(b, dmem),
+            snapshot_of(c, dmem),
+            snapshot_of(d, dmem),
+            snapshot_of(e, dmem),
+            snapshot_of(f, dmem),
+            snapshot_of(g, dmem),
+            snapshot_of(h, dmem),
         ]
     }
 
@@ -83,7 +83,7 @@ impl Watches {
         ensures value { result ≡ free_number self.now }
         ensures below { IfSome result (λ k. k < 8) }
     {
-        self.slots.iter().position(|slot| slot.is_none())
+        self.numbers.iter().position(|watch| watch.is_none())
     }
 
     /// Adds a watch, under the lowest free number.
@@ -98,7 +98,7 @@ impl Watches {
         match self.free_number() {
             None => Err(WatchFault::WatchFull),
             Some(k) => {
-                self.slots[k] = Some(Watch {
+                self.numbers[k] = Some(Watch {
                     address: address as u16,
                     len: len as u8,
                 });
@@ -108,14 +108,14 @@ impl Watches {
     }
 
     /// Whether a number stands for a watch.
-    #[tactic(auto, using(crate::proofs::Slots::slots))]
+    #[tactic(auto, using(crate::proofs::Watched::numbers))]
     fn has(&self, k: u32) -> bool
         ensures value { result ≡ has_watch k self.now }
         ensures below { IsTrue result → k < 8 }
     {
-        match self.slots.get(k as usize) {
+        match self.numbers.get(k as usize) {
             None => false,
-            Some(slot) => slot.is_some(),
+            Some(watch) => watch.is_some(),
         }
     }
 
@@ -128,7 +128,7 @@ impl Watches {
         if !self.has(k) {
             return Err(NoWatch);
         }
-        self.slots[k as usize] = None;
+        self.numbers[k as usize] = None;
         Ok(())
     }
 }

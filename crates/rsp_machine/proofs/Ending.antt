@@ -14,9 +14,10 @@ use Rattle.rsp_machine.specs.declared.step.StepEnd.TheVariants.{Done, Halted, Re
 use Rattle.rsp_machine.specs.declared.step.StepEnd.{StepEnd}
 use Rattle.rsp_machine.specs.Transfers.{starts_dma_in, starts_dma_at}
 use Rattle.rsp_machine.specs.declared.change.Change.TheVariants as of
-use Rattle.rsp_machine.specs.Saved.{Saved, change_of, kept_change, reaches_sp, told_by, told_of, slot_after, starts_dma, is_length, is_back_by, can_undo, may_store, undone}
+use Rattle.rsp_machine.specs.Saved.{Saved, change_of, change_saved, told_by, told_of, record_after, starts_dma, is_length, is_back_by, can_undo, may_store, undone}
+use Rattle.rsp_machine.specs.Changes.{reaches_sp}
 use Rattle.rsp_machine.proofs.Flagging.{AreFlags}
-use Rattle.rsp_machine.proofs.Kept.{slot_back, memory_stays}
+use Rattle.rsp_machine.proofs.Saving.{record_back, memory_stays}
 
 -- whether an instruction, where there is one, reaches the SP registers; and the state after it
 abbrev pub reached : State → Option Inst → Option Bool
@@ -148,13 +149,13 @@ unfolding step_of
 step_done w s t b h e r there = rw (← e) (running s.sp.halted (inst_of w) w s h ∙ done (inst_of w) w s t b (sym r) there)
 
 -- and its record
-told_running : (b : Bool) (o : Option Inst) (s : State) (r : Saved) → b ≡ false → (if b then r else told_by kept_change o s r) ≡ told_by kept_change o s r
+told_running : (b : Bool) (o : Option Inst) (s : State) (r : Saved) → b ≡ false → (if b then r else told_by change_saved o s r) ≡ told_by change_saved o s r
 told_running true o s r h = cc
 told_running false o s r h = refl
 
-pub slot_running : (w : ℕ) (s : State) (r : Saved) → s.sp.halted ≡ false → w ≡ word_at s.imem s.pc → slot_after s r ≡ told_by kept_change (inst_of w) s r
-unfolding slot_after told_of
-slot_running w s r h e = rw (← e) (told_running s.sp.halted (inst_of w) s r h)
+pub record_running : (w : ℕ) (s : State) (r : Saved) → s.sp.halted ≡ false → w ≡ word_at s.imem s.pc → record_after s r ≡ told_by change_saved (inst_of w) s r
+unfolding record_after told_of
+record_running w s r h e = rw (← e) (told_running s.sp.halted (inst_of w) s r h)
 
 -- and whether it leads back
 undo_running : (b : Bool) (o : Option Inst) → b ≡ false → (if b then false else is_back_by o) ≡ is_back_by o
@@ -173,8 +174,8 @@ pub undo_reserved : (w : ℕ) (s : State) → s.sp.halted ≡ false → w ≡ wo
 unfolding can_undo
 undo_reserved w s h e r = rw (← e) (undo_running s.sp.halted (inst_of w) h ∙ no_way (inst_of w) s (sym r))
 
-pub back : (s t : State) (r q : Saved) → AreFlags s.flags → q ≡ slot_after s r → t ≡ (step_of s).1 → can_undo s ≡ true → undone q t ≡ s
-back s t r q flags slot there u = rw (slot, there) (slot_back s r flags u)
+pub back : (s t : State) (r q : Saved) → AreFlags s.flags → q ≡ record_after s r → t ≡ (step_of s).1 → can_undo s ≡ true → undone q t ≡ s
+back s t r q flags same there u = rw (same, there) (record_back s r flags u)
 
-pub memory : (s t : State) (r q : Saved) → q ≡ slot_after s r → t ≡ (step_of s).1 → (step_of s).0 ≡ Done → may_store q ≡ false → t.dmem ≡ s.dmem
-memory s t r q slot there e none = ap (λ (x : State). x.dmem) there ∙ memory_stays s r e (ap may_store (sym slot) ∙ none)
+pub memory : (s t : State) (r q : Saved) → q ≡ record_after s r → t ≡ (step_of s).1 → (step_of s).0 ≡ Done → may_store q ≡ false → t.dmem ≡ s.dmem
+memory s t r q same there e none = ap (λ (x : State). x.dmem) there ∙ memory_stays s r e (ap may_store (sym same) ∙ none)

@@ -2,6 +2,6 @@ pub mod Back
 pub mod Undoing
 pub mod Loading
 pub mod Flagging
-pub mod Kept
+pub mod Saving
 pub mod Ending
 pub mod Whole

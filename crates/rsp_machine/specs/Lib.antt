@@ -5,5 +5,6 @@ pub mod Host
 pub mod Step
 pub mod Laws
 pub mod Saved
+pub mod Changes
 pub mod Registers
 pub mod Transfers

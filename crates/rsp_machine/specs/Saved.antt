@@ -1,5 +1,5 @@
--- What a step keeps of the state before it, and how that leads back: for the debugger. What an instruction does is in Step.
-use Rattle.std.specs.Prelude.{ℕ, ℤ, pos, ◌<◌, ◌+◌, ◌-◌, ◌%◌, ◌==◌, ◌||◌, Bool, true, false, not, if◌then◌else◌, List, [], ◌∷◌, Option, Some, None, replicate}
+-- What a record saves of the state before a step, and how it leads back: for the debugger. What an instruction does is in Step.
+use Rattle.std.specs.Prelude.{ℕ, ℤ, pos, ◌+◌, ◌-◌, ◌%◌, ◌==◌, ◌||◌, Bool, true, false, not, if◌then◌else◌, List, [], ◌∷◌, Option, Some, None, replicate}
 use Rattle.rsp_decode.specs.declared.inst.Inst.{Inst}
 use Rattle.rsp_decode.specs.declared.inst.Inst.TheVariants.{Shift, ShiftBy, JumpRegister, JumpLinkRegister, Break, Register, BranchSign, BranchEqual, Jump, Immediate, LoadUpper, Load, Store, MoveSp, MoveVector, MoveControl, Multiply, Round, MpegMultiply, ReadAccumulator, VectorAdd, VectorSelect, VectorClip, VectorMerge, VectorLogic, Divide, Idle, VectorLoad, VectorStore}
 use Rattle.rsp_rows.specs.declared.scalar.MoveRow.{MoveRow}
@@ -26,7 +26,7 @@ use Rattle.rsp_machine.specs.State.{State}
 use Rattle.rsp_machine.specs.declared.change.Change.{Change}
 use Rattle.rsp_machine.specs.declared.change.Change.TheVariants as of
 
--- What one step changed, as it was before. Which of the values count is told by `change`.
+-- What one step saved: values as they were before it. Which of them count is told by `change`.
 pub record Saved : Type 0 where
   pub pc : ℕ
   pub change : Change
@@ -38,22 +38,6 @@ pub record Saved : Type 0 where
   pub flags : Flags
   pub divider : Divider
   pub sp : Sp
-
--- the last register that a change names
-abbrev pub last_register : Change → ℕ
-last_register (of.Register n) = n
-last_register (of.Vector n) = n
-last_register (of.Group n) = n + 7
-last_register (of.Product n) = n
-last_register (of.Sum n) = n
-last_register (of.Choice n) = n
-last_register (of.Clip n) = n
-last_register (of.Divide n) = n
-last_register (of.Sp n) = n
-last_register _ = 0
-
-abbrev pub IsChange : Change → Type 0
-IsChange change = last_register change < 32
 
 -- the record of no step
 unfoldable pub blank : Saved
@@ -86,22 +70,22 @@ with_vco old f = record f { carry = old.carry; differ = old.differ }
 abbrev pub with_vco_and_vcc : Flags → Flags → Flags
 with_vco_and_vcc old f = record (with_vco old f) { compare = old.compare; clip = old.clip }
 
--- a record after it has kept what a change will write over
-unfoldable pub saved : Change → State → Saved → Saved
-saved (of.Register n) s r = record r { word = register s.registers n }
-saved (of.Bytes a) s r = record r { bytes = bytes_at s.dmem a 16 }
-saved (of.Vector n) s r = record r { vector = vector s.vectors n }
-saved (of.Group n) s r = record r { vectors = group_at s.vectors n }
-saved (of.Product n) s r = record r { vector = vector s.vectors n; accumulators = s.accumulators }
-saved (of.Sum n) s r = record r { vector = vector s.vectors n; accumulators = s.accumulators; flags = with_vco s.flags r.flags }
-saved (of.Choice n) s r = record r { vector = vector s.vectors n; accumulators = s.accumulators; flags = with_vco_and_vcc s.flags r.flags }
-saved (of.Clip n) s r = record r { vector = vector s.vectors n; accumulators = s.accumulators; flags = s.flags }
-saved (of.Divide n) s r = record r { vector = vector s.vectors n; accumulators = s.accumulators; divider = s.divider }
-saved of.Flags s r = record r { flags = s.flags }
-saved (of.Sp n) s r = record r { word = register s.registers n; sp = s.sp }
-saved _ s r = r
+-- a record after it has saved the values that a change will write over
+unfoldable pub values_saved : Change → State → Saved → Saved
+values_saved (of.Register n) s r = record r { word = register s.registers n }
+values_saved (of.Bytes a) s r = record r { bytes = bytes_at s.dmem a 16 }
+values_saved (of.Vector n) s r = record r { vector = vector s.vectors n }
+values_saved (of.Group n) s r = record r { vectors = group_at s.vectors n }
+values_saved (of.Product n) s r = record r { vector = vector s.vectors n; accumulators = s.accumulators }
+values_saved (of.Sum n) s r = record r { vector = vector s.vectors n; accumulators = s.accumulators; flags = with_vco s.flags r.flags }
+values_saved (of.Choice n) s r = record r { vector = vector s.vectors n; accumulators = s.accumulators; flags = with_vco_and_vcc s.flags r.flags }
+values_saved (of.Clip n) s r = record r { vector = vector s.vectors n; accumulators = s.accumulators; flags = s.flags }
+values_saved (of.Divide n) s r = record r { vector = vector s.vectors n; accumulators = s.accumulators; divider = s.divider }
+values_saved of.Flags s r = record r { flags = s.flags }
+values_saved (of.Sp n) s r = record r { word = register s.registers n; sp = s.sp }
+values_saved _ s r = r
 
--- a change as a record holds it: the register that a computing row writes isn't kept, since the row's word in IMEM tells it
+-- a change as a record has it: the register that a computing row writes isn't saved, since the row's word in IMEM tells it
 abbrev pub nameless : Change → Change
 nameless (of.Product n) = of.Product 0
 nameless (of.Sum n) = of.Sum 0
@@ -110,8 +94,9 @@ nameless (of.Clip n) = of.Clip 0
 nameless (of.Divide n) = of.Divide 0
 nameless change = change
 
-unfoldable pub kept_change : Change → State → Saved → Saved
-kept_change change s r = saved change s (record r { pc = s.pc; change = nameless change })
+-- a record after it was told of a change
+unfoldable pub change_saved : Change → State → Saved → Saved
+change_saved change s r = values_saved change s (record r { pc = s.pc; change = nameless change })
 
 -- the register vd of a computing row; the row that stands at a place
 abbrev pub vd_of : Inst → ℕ
@@ -196,49 +181,37 @@ change_of (VectorLoad row f) s = loaded_change row f.vt
 change_of (VectorStore row f) s =
     of.Bytes (window_of row (transfer_address (VectorStore row f) (register s.registers f.base)))
 
--- what is kept of the state before an instruction
-abbrev pub kept : Inst → State → Saved → Saved
-kept i s r = kept_change (change_of i s) s r
-
--- What keeps records, after a step: it is told what the instruction changes, where there is one.
+-- A saver after a step: it is told what the instruction changes, where there is one.
 abbrev pub told_by : {K : Type 0} → (Change → State → K → K) → Option Inst → State → K → K
-told_by keeps None s k = k
-told_by keeps (Some i) s k = keeps (change_of i s) s k
+told_by saves None s k = k
+told_by saves (Some i) s k = saves (change_of i s) s k
 
 unfoldable pub told_of : {K : Type 0} → (Change → State → K → K) → State → K → K
-told_of keeps s k = if s.sp.halted then k else told_by keeps (inst_of (word_at s.imem s.pc)) s k
+told_of saves s k = if s.sp.halted then k else told_by saves (inst_of (word_at s.imem s.pc)) s k
 
 -- whether an instruction starts a DMA
 abbrev pub starts_dma : Inst → Bool
 starts_dma (MoveSp To rt n) = is_length n
 starts_dma _ = false
 
--- a record after a step, and whether the step can be undone by it: it was done, and started no DMA
-abbrev pub kept_by : Option Inst → State → Saved → Saved
-kept_by o s r = told_by kept_change o s r
-
+-- whether a step can be undone, by the instruction that it executes: it started no DMA
 abbrev pub is_back_by : Option Inst → Bool
 is_back_by None = false
 is_back_by (Some i) = not (starts_dma i)
 
-unfoldable pub slot_after : State → Saved → Saved
-slot_after s r = told_of kept_change s r
+-- a record after a step, and whether the step can be undone by it: it was done, and started no DMA
+unfoldable pub record_after : State → Saved → Saved
+record_after s r = told_of change_saved s r
 
 unfoldable pub can_undo : State → Bool
 can_undo s = if s.sp.halted then false else is_back_by (inst_of (word_at s.imem s.pc))
-
--- whether an instruction with a change may have read or written the SP registers; any other leaves them
-abbrev pub reaches_sp : Change → Bool
-reaches_sp (of.Sp n) = true
-reaches_sp of.Dma = true
-reaches_sp _ = false
 
 -- whether a record leads back
 abbrev pub is_back : Change → Bool
 is_back of.Dma = false
 is_back _ = true
 
--- whether the step that a record was kept of may have changed DMEM: it stored there, or it started a DMA
+-- whether the step that wrote a record may have changed DMEM: it stored there, or it started a DMA
 abbrev pub changes_memory : Change → Bool
 changes_memory (of.Bytes a) = true
 changes_memory of.Dma = true

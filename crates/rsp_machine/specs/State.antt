@@ -73,5 +73,5 @@ abbrev pub advanced : State → State
 advanced s = record s { pc = s.npc; npc = going_on s.npc }
 
 -- and back again to a place
-abbrev pub gone_back : ℕ → State → State
-gone_back pc s = record s { pc = pc; npc = s.pc }
+abbrev pub taken_back : ℕ → State → State
+taken_back pc s = record s { pc = pc; npc = s.pc }

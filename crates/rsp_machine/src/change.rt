@@ -2,7 +2,8 @@
 
 ghost use Rattle.std.specs.Prelude.{◌≡◌, ◌<◌};
 ghost use Rattle.rsp_decode.specs.Table.{IsInstruction};
-ghost use Rattle.rsp_machine.specs.Saved.{IsChange, sign_change, jump_change, loaded_change, vector_move_change, control_move_change, sp_move_change, nameless, reaches_sp, vd_of};
+ghost use Rattle.rsp_machine.specs.Saved.{sign_change, jump_change, loaded_change, vector_move_change, control_move_change, sp_move_change, nameless, vd_of};
+ghost use Rattle.rsp_machine.specs.Changes.{IsChange, reaches_sp};
 
 use rsp_decode::{Inst, JumpRow, MoveRow, SignRow, VectorLoadRow};
 
@@ -34,12 +35,12 @@ pub(crate) enum Change {
     Flags,
     /// The SP registers, and a scalar register.
     Sp(u32),
-    /// What a DMA changes, which isn't kept: no way leads back.
+    /// What a DMA changes, which isn't saved: no way leads back.
     Dma,
 }
 
 impl Change {
-    /// The change as a slot holds it, without the register that a computing row writes: its word, in IMEM, names that.
+    /// The change as a record has it, without the register that a computing row writes: its word, in IMEM, names that.
     #[inline(always)]
     pub(crate) fn nameless(self) -> Change
         requires { IsChange self }

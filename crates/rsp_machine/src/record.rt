@@ -1,4 +1,4 @@
-// What one step changed, kept in a slot.
+// What one step saves, and how it leads back.
 
 ghost use Rattle.std.specs.Prelude.{◌≡◌, ◌<◌, ◌≤◌, ◌%◌};
 ghost use Rattle.rsp_decode.specs.declared.inst.Inst.{Inst};
@@ -8,12 +8,12 @@ ghost use Rattle.rsp_loadstore.specs.File.{vector};
 ghost use Rattle.rsp_loadstore.specs.Addresses.{transfer_address};
 ghost use Rattle.rsp_loadstore.specs.Reach.{window_of};
 ghost use Rattle.rsp_machine.specs.declared.change.Change.TheVariants as change;
-ghost use Rattle.rsp_machine.specs.Saved.{IsChange, blank, is_back, may_store, group_at, with_group, vd_at, with_product, with_vco, undone};
+ghost use Rattle.rsp_machine.specs.Saved.{blank, is_back, may_store, group_at, with_group, vd_at, with_product, with_vco, undone};
 
 use crate::change::{Change, vd_of};
 use crate::machine::Machine;
 use crate::place::Place;
-use crate::visits::Keeper;
+use crate::visits::Saver;
 use rsp_acc::{Acc, Addends};
 use rsp_decode::{Inst, ScalarMemoryFields, VectorMemoryFields, VectorStoreRow, decode};
 use rsp_divide::Divider;
@@ -22,8 +22,9 @@ use rsp_loadstore::VFile;
 use rsp_regs::SpRegs;
 use std::marker::Model;
 
-/// What one step changed, as it was before, and nothing else: [`Machine::undo`] writes it back. In a slot that serves
-/// step after step only what the last step's instruction can change is written; contracts see the rest as it was left.
+/// What one step saved: the values that its instruction can change, as they were before. [`Machine::undo`] writes them
+/// back. A record can serve step after step. Each writes only the values that count for it, and the others stay as
+/// earlier steps left them, also in contracts.
 #[derive(Drop)]
 pub struct Record {
     pc: Place,
@@ -39,7 +40,8 @@ pub struct Record {
 }
 
 impl Model for Record {
-    ghost use Rattle.rsp_machine.specs.Saved.{Saved, IsChange};
+    ghost use Rattle.rsp_machine.specs.Saved.{Saved};
+    ghost use Rattle.rsp_machine.specs.Changes.{IsChange};
 
     ghost Value = { Saved };
 
@@ -60,7 +62,7 @@ impl Model for Record {
 }
 
 impl Record {
-    /// A blank, which records no step: [`Machine::undo`] of it changes nothing.
+    /// A blank, which no step wrote: [`Machine::undo`] of it changes nothing.
     #[tactic(auto, unfolding(crate::specs::Saved::blank))]
     pub fn new() -> Record
         ensures { result ≡ blank }
@@ -88,7 +90,7 @@ impl Record {
         !matches!(self.change, Change::Dma)
     }
 
-    /// Whether the step that this slot was last written by may have changed DMEM.
+    /// Whether the step that last wrote the record may have changed DMEM.
     #[inline(always)]
     pub fn may_store(&self) -> bool
         ensures { result ≡ may_store self.now }
@@ -96,9 +98,9 @@ impl Record {
         matches!(self.change, Change::Bytes(_) | Change::Dma)
     }
 
-    /// Keeps vector register `n` and the accumulators.
+    /// Saves vector register `n` and the accumulators.
     #[inline(always)]
-    fn keep_product<A: Acc>(&mut self, machine: &Machine<A>, n: u32)
+    fn save_product<A: Acc>(&mut self, machine: &Machine<A>, n: u32)
         requires { n < 32 }
         ensures { self.new ≡ record self.old { vector = vector machine.now.vectors n; accumulators = machine.now.accumulators } }
     {
@@ -106,18 +108,18 @@ impl Record {
         self.accumulators = Addends::of(&machine.acc);
     }
 
-    /// Keeps the flags of VCO.
+    /// Saves the flags of VCO.
     #[inline(always)]
-    fn keep_vco(&mut self, flags: &Flags)
+    fn save_vco(&mut self, flags: &Flags)
         ensures { self.new ≡ record self.old { flags = record self.old.flags { carry = flags.now.carry; differ = flags.now.differ } } }
     {
         self.flags.carry = flags.carry;
         self.flags.differ = flags.differ;
     }
 
-    /// Keeps the eight vector registers from `n` on.
+    /// Saves the eight vector registers from `n` on.
     #[cold]
-    fn keep_group(&mut self, file: &VFile, n: u32)
+    fn save_group(&mut self, file: &VFile, n: u32)
         requires { n ≤ 24 }
         ensures { self.new ≡ record self.old { vectors = group_at file.now n } }
     {
@@ -136,14 +138,14 @@ impl Record {
     }
 }
 
-impl Keeper for Record {
-    ghost use Rattle.rsp_machine.specs.Saved.{kept_change};
+impl Saver for Record {
+    ghost use Rattle.rsp_machine.specs.Saved.{change_saved};
 
-    ghost keeps = { kept_change };
+    ghost saves = { change_saved };
 
     #[inline(always)]
-    #[tactic(auto, unfolding(crate::specs::Saved::kept_change, crate::specs::Saved::saved))]
-    fn keep<A: Acc>(&mut self, machine: &Machine<A>, from: Place, change: Change) {
+    #[tactic(auto, unfolding(crate::specs::Saved::change_saved, crate::specs::Saved::values_saved))]
+    fn save<A: Acc>(&mut self, machine: &Machine<A>, from: Place, change: Change) {
         self.pc = from;
         self.change = change.nameless();
         match change {
@@ -154,24 +156,24 @@ impl Keeper for Record {
                 None => self.bytes = machine.dmem.window(a),
             },
             Change::Vector(n) => self.vector = machine.vregs.reg(n as u8),
-            Change::Group(n) => self.keep_group(&machine.vregs, n),
-            Change::Product(n) => self.keep_product(machine, n),
+            Change::Group(n) => self.save_group(&machine.vregs, n),
+            Change::Product(n) => self.save_product(machine, n),
             Change::Sum(n) => {
-                self.keep_product(machine, n);
-                self.keep_vco(&machine.flags);
+                self.save_product(machine, n);
+                self.save_vco(&machine.flags);
             }
             Change::Choice(n) => {
-                self.keep_product(machine, n);
-                self.keep_vco(&machine.flags);
+                self.save_product(machine, n);
+                self.save_vco(&machine.flags);
                 self.flags.compare = machine.flags.compare;
                 self.flags.clip = machine.flags.clip;
             }
             Change::Clip(n) => {
-                self.keep_product(machine, n);
+                self.save_product(machine, n);
                 self.flags = machine.flags;
             }
             Change::Divide(n) => {
-                self.keep_product(machine, n);
+                self.save_product(machine, n);
                 self.divider = machine.divider;
             }
             Change::Flags => self.flags = machine.flags,
@@ -211,57 +213,57 @@ impl<A: Acc> Machine<A> {
     /// gives the whole state before it. A blank, and what [`Machine::record_step`] leaves of a step that starts a DMA,
     /// change nothing.
     #[tactic(auto, unfolding(crate::specs::Saved::undone, crate::specs::Saved::restored))]
-    pub fn undo(&mut self, slot: &Record)
-        ensures { self.new ≡ undone slot.now self.old }
+    pub fn undo(&mut self, saved: &Record)
+        ensures { self.new ≡ undone saved.now self.old }
     {
-        match slot.change {
+        match saved.change {
             Change::Places => (),
-            Change::Register(n) => self.regs.set(n as u8, slot.word),
-            Change::Bytes(a) => self.dmem.set_bytes(a, &slot.bytes),
-            Change::Vector(n) => self.vregs.set_reg(n as u8, slot.vector),
-            Change::Group(n) => self.put_group(n as u8, &slot.vectors),
-            Change::Product(_) => self.put_product(slot),
-            Change::Sum(_) => self.put_sum(slot),
+            Change::Register(n) => self.regs.set(n as u8, saved.word),
+            Change::Bytes(a) => self.dmem.set_bytes(a, &saved.bytes),
+            Change::Vector(n) => self.vregs.set_reg(n as u8, saved.vector),
+            Change::Group(n) => self.put_group(n as u8, &saved.vectors),
+            Change::Product(_) => self.put_product(saved),
+            Change::Sum(_) => self.put_sum(saved),
             Change::Choice(_) => {
-                self.put_sum(slot);
-                self.flags.compare = slot.flags.compare;
-                self.flags.clip = slot.flags.clip;
+                self.put_sum(saved);
+                self.flags.compare = saved.flags.compare;
+                self.flags.clip = saved.flags.clip;
             }
             Change::Clip(_) => {
-                self.put_product(slot);
-                self.flags = slot.flags;
+                self.put_product(saved);
+                self.flags = saved.flags;
             }
             Change::Divide(_) => {
-                self.put_product(slot);
-                self.divider = slot.divider;
+                self.put_product(saved);
+                self.divider = saved.divider;
             }
-            Change::Flags => self.flags = slot.flags,
+            Change::Flags => self.flags = saved.flags,
             Change::Sp(n) => {
-                self.regs.set(n as u8, slot.word);
-                self.sp = slot.sp;
+                self.regs.set(n as u8, saved.word);
+                self.sp = saved.sp;
             }
             Change::Dma => return,
         }
         self.sp.resume();
-        self.go_back(slot.pc);
+        self.take_back(saved.pc);
     }
 
     /// Writes back the vector register of a computing row and the accumulators.
-    fn put_product(&mut self, slot: &Record)
-        ensures { self.new ≡ with_product slot.now self.old }
+    fn put_product(&mut self, saved: &Record)
+        ensures { self.new ≡ with_product saved.now self.old }
     {
-        let vd = self.vd_at(slot.pc);
-        self.vregs.set_reg(vd, slot.vector);
-        self.acc.replace(&slot.accumulators);
+        let vd = self.vd_at(saved.pc);
+        self.vregs.set_reg(vd, saved.vector);
+        self.acc.replace(&saved.accumulators);
     }
 
     /// Writes back a vector register, the accumulators and the flags of VCO.
-    fn put_sum(&mut self, slot: &Record)
-        ensures { self.new ≡ record (with_product slot.now self.old) { flags = with_vco slot.now.flags self.old.flags } }
+    fn put_sum(&mut self, saved: &Record)
+        ensures { self.new ≡ record (with_product saved.now self.old) { flags = with_vco saved.now.flags self.old.flags } }
     {
-        self.put_product(slot);
-        self.flags.carry = slot.flags.carry;
-        self.flags.differ = slot.flags.differ;
+        self.put_product(saved);
+        self.flags.carry = saved.flags.carry;
+        self.flags.differ = saved.flags.differ;
     }
 
     /// The register that the computing row at a place writes; 0 where no such row stands there.

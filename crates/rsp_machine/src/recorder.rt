@@ -1,17 +1,17 @@
-// Steps of which a record is kept.
+// Steps that write a record.
 
 ghost use Rattle.std.specs.Prelude.{◌≡◌, ◌↔◌, true, false, IsSome, IfSome};
 ghost use Rattle.rsp_machine.specs.Step.{step_of};
 ghost use Rattle.rsp_machine.specs.Transfers.{starts_dma_at};
 ghost use Rattle.rsp_machine.specs.declared.step.StepEnd.TheVariants.{Done};
-ghost use Rattle.rsp_machine.specs.Saved.{slot_after, can_undo, may_store, undone};
+ghost use Rattle.rsp_machine.specs.Saved.{record_after, can_undo, may_store, undone};
 
 use crate::machine::Machine;
 use crate::record::Record;
 use crate::step::StepEnd;
 use rsp_acc::Acc;
 
-/// What a step came to of which a record is kept.
+/// What a step came to that wrote a record.
 #[derive(Clone, Copy)]
 pub struct Recorded {
     /// What the step answered.
@@ -23,23 +23,23 @@ pub struct Recorded {
 }
 
 impl<A: Acc> Machine<A> {
-    /// One step of a machine that isn't halted, as [`Machine::step`] makes it, with what it changed kept in a slot. Where it
-    /// isn't Done the slot stays. A step that is Done changes DMEM only where [`Record::may_store`] of the slot says so. What steps
-    /// in a loop and what steps `APART` from it each have a copy of the decoder, and so each copy has one caller.
+    /// One step of a machine that isn't halted, as [`Machine::step`] makes it, with what it changes saved in a record. Where it
+    /// isn't Done the record stays. A step that is Done changes DMEM only where [`Record::may_store`] says so of the record. A
+    /// loop of steps and the steps `APART` from it have a copy of the decoder each, so that each copy has one caller.
     #[inline(always)]
-    pub fn record_step<const APART: bool>(&mut self, slot: &mut Record) -> Recorded
+    pub fn record_step<const APART: bool>(&mut self, saved: &mut Record) -> Recorded
         requires { self.old.sp.halted ≡ false }
         ensures answer { result.end ≡ (step_of self.old).0 }
         ensures state { self.new ≡ (step_of self.old).1 }
-        ensures slot { slot.new ≡ slot_after self.old slot.old }
+        ensures saved { saved.new ≡ record_after self.old saved.old }
         ensures which { result.is_back ≡ can_undo self.old }
         ensures halted { result.halted ≡ self.new.sp.halted }
-        ensures back { can_undo self.old ≡ true → undone slot.new self.new ≡ self.old }
-        ensures memory { result.end ≡ StepEnd.Done → may_store slot.new ≡ false → self.new.dmem ≡ self.old.dmem }
+        ensures back { can_undo self.old ≡ true → undone saved.new self.new ≡ self.old }
+        ensures memory { result.end ≡ StepEnd.Done → may_store saved.new ≡ false → self.new.dmem ≡ self.old.dmem }
     {
         self.flags.ranges();
         let word = self.fetch();
-        let Some(reaches_sp) = self.execute::<Record, APART>(word, slot) else {
+        let Some(reaches_sp) = self.execute::<Record, APART>(word, saved) else {
             return Recorded {
                 end: StepEnd::Reserved { word },
                 is_back: false,
@@ -50,7 +50,7 @@ impl<A: Acc> Machine<A> {
             self.end_instruction();
             return Recorded {
                 end: StepEnd::Done,
-                is_back: slot.is_back(),
+                is_back: saved.is_back(),
                 halted: self.sp.halted(),
             };
         }
@@ -61,7 +61,7 @@ impl<A: Acc> Machine<A> {
         }
     }
 
-    /// One step, with a record of what it changed beside its answer: None exactly where the answer isn't Done or a DMA
+    /// One step, with the record that leads back beside its answer: None exactly where the answer isn't Done or a DMA
     /// started.
     pub fn step_recorded(&mut self) -> (StepEnd, Option<Record>)
         ensures answer { result.0 ≡ (step_of self.old).0 }
@@ -72,9 +72,9 @@ impl<A: Acc> Machine<A> {
         if self.sp.halted() {
             return (StepEnd::Halted, None);
         }
-        let mut slot = Record::new();
-        let recorded = self.record_step::<true>(&mut slot);
-        let slot = if recorded.is_back { Some(slot) } else { None };
-        (recorded.end, slot)
+        let mut saved = Record::new();
+        let recorded = self.record_step::<true>(&mut saved);
+        let saved = if recorded.is_back { Some(saved) } else { None };
+        (recorded.end, saved)
     }
 }

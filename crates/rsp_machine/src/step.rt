@@ -2,13 +2,14 @@ ghost use Rattle.std.specs.Prelude.{◌≡◌, ◌<◌, ◌%◌, option_map, unw
 ghost use Rattle.rsp_decode.specs.Table.{IsInstruction, inst_of};
 ghost use Rattle.rsp_rows.specs.declared.scalar.MoveRow.TheVariants as row;
 ghost use Rattle.rsp_machine.specs.Step.{computes, loads, stores, jumps, break_instruction, moves_sp, executed, singled, step_of};
-ghost use Rattle.rsp_machine.specs.State.{advanced, gone_back};
+ghost use Rattle.rsp_machine.specs.State.{advanced, taken_back};
 ghost use Rattle.rsp_memory.specs.Memory.{word_at};
-ghost use Rattle.rsp_machine.specs.Saved.{change_of, reaches_sp, told_by};
+ghost use Rattle.rsp_machine.specs.Saved.{change_of, told_by};
+ghost use Rattle.rsp_machine.specs.Changes.{reaches_sp};
 
 use crate::machine::Machine;
 use crate::place::Place;
-use crate::visits::{Executor, Keeper, Unkept};
+use crate::visits::{Executor, NoRecord, Saver};
 use rsp_acc::Acc;
 use rsp_decode::{Inst, MoveRow, visit};
 use rsp_scalar::{alu, jump, load, store};
@@ -45,22 +46,22 @@ impl<A: Acc> Machine<A> {
         self.npc = self.npc.next();
     }
 
-    /// Goes back to the place that it went on from.
+    /// Takes the machine back to the place that it went on from.
     #[inline(always)]
-    pub(crate) fn go_back(&mut self, from: Place)
-        ensures { self.new ≡ gone_back from self.old }
+    pub(crate) fn take_back(&mut self, from: Place)
+        ensures { self.new ≡ taken_back from self.old }
     {
         self.npc = self.pc;
         self.pc = from;
     }
 
-    /// Goes back from a reserved word. Put inline, it would have each step keep the old npc in a register.
+    /// Takes it back from a reserved word. Put inline, it would have each step keep the old npc in a register.
     #[cold]
     #[inline(never)]
     fn refuse(&mut self, from: Place)
-        ensures { self.new ≡ gone_back from self.old }
+        ensures { self.new ≡ taken_back from self.old }
     {
-        self.go_back(from);
+        self.take_back(from);
     }
 
     /// A scalar row that computes.
@@ -145,24 +146,24 @@ impl<A: Acc> Machine<A> {
         self.write_reg(u32::from(register), value);
     }
 
-    /// Executes a word, of which a keeper is told, and tells whether that may have read or written the SP registers. None for a
-    /// reserved word, which changes nothing.
+    /// Executes a word, of whose changes a saver is told, and answers whether they may have reached the SP registers. None for
+    /// a reserved word, which changes nothing.
     #[inline(always)]
     #[tactic(auto, unfolding(crate::specs::Step::executed))]
-    pub(crate) fn execute<K: Keeper, const APART: bool>(
+    pub(crate) fn execute<K: Saver, const APART: bool>(
         &mut self,
         word: u32,
-        keeper: &mut K,
+        saver: &mut K,
     ) -> Option<bool>
         ensures answer { result ≡ option_map (λ i. reaches_sp (change_of i self.old)) (inst_of word) }
         ensures state { self.new ≡ unwrap_or (option_map (λ i. executed i self.old) (inst_of word)) self.old }
-        ensures keeper { keeper.new ≡ told_by K.keeps (inst_of word) self.old keeper.old }
+        ensures saver { saver.new ≡ told_by K.saves (inst_of word) self.old saver.old }
     {
         let from = self.pc;
         self.advance();
         let mut executor: Executor<A, K, APART> = Executor {
             machine: self,
-            keeper,
+            saver,
             from,
             reaches_sp: false,
         };
@@ -193,7 +194,7 @@ impl<A: Acc> Machine<A> {
             return StepEnd::Halted;
         }
         let word = self.fetch();
-        let Some(_) = self.execute::<Unkept, true>(word, &mut Unkept) else {
+        let Some(_) = self.execute::<NoRecord, true>(word, &mut NoRecord) else {
             return StepEnd::Reserved { word };
         };
         self.end_instruction();
@@ -223,7 +224,7 @@ impl<A: Acc> Machine<A> {
             return self.step_held();
         }
         let word = self.fetch();
-        let Some(reaches_sp) = self.execute::<Unkept, false>(word, &mut Unkept) else {
+        let Some(reaches_sp) = self.execute::<NoRecord, false>(word, &mut NoRecord) else {
             return StepEnd::Reserved { word };
         };
         // Single step was clear, and only an instruction that reaches it can have set it.

@@ -1,8 +1,8 @@
 // A machine takes the instructions of the table, one call for each group of rows.
 
 ghost use Rattle.std.specs.Prelude.{◌≡◌};
-ghost use Rattle.rsp_machine.specs.State.{State, gone_back};
-ghost use Rattle.rsp_machine.specs.Saved.{IsChange, reaches_sp};
+ghost use Rattle.rsp_machine.specs.State.{State, taken_back};
+ghost use Rattle.rsp_machine.specs.Changes.{IsChange, reaches_sp};
 ghost use Rattle.rsp_machine.specs.declared.change.Change.{Change};
 
 use crate::change::{
@@ -20,63 +20,65 @@ use rsp_decode::{
     VectorMemoryFields, VectorSelectRow, VectorStoreRow, Visitor,
 };
 
-/// What is told of each instruction, before it is executed, what it changes of the machine.
-pub(crate) trait Keeper {
+/// What is told of each instruction, before it is executed, which parts of the machine it changes.
+pub(crate) trait Saver {
     /// What it is after it was told.
-    ghost keeps: { Change → State → Self → Self };
+    ghost saves: { Change → State → Self → Self };
 
-    /// Takes what it wants of what is there before the change, of a machine that has gone on from a place.
-    fn keep<A: Acc>(&mut self, machine: &Machine<A>, from: Place, change: Change)
+    /// Saves what it wants of the values before the change, of a machine that has gone on from a place.
+    fn save<A: Acc>(&mut self, machine: &Machine<A>, from: Place, change: Change)
         requires { IsChange change }
-        ensures { self.new ≡ keeps change (gone_back from machine.now) self.old };
+        ensures { self.new ≡ saves change (taken_back from machine.now) self.old };
 }
 
-/// A keeper that keeps nothing, for a step that isn't recorded.
+/// A saver that saves nothing, for a step that writes no record.
 #[derive(Clone, Copy, Drop)]
-pub(crate) struct Unkept;
+pub(crate) struct NoRecord;
 
-impl Keeper for Unkept {
-    ghost keeps = { λ p s k. k };
+impl Saver for NoRecord {
+    ghost saves = { λ p s k. k };
 
     #[inline(always)]
-    fn keep<A: Acc>(&mut self, _machine: &Machine<A>, _from: Place, _change: Change) {}
+    fn save<A: Acc>(&mut self, _machine: &Machine<A>, _from: Place, _change: Change) {}
 }
 
-/// A machine as the table's instructions reach it, and what is told of them. It stands apart from the machine so that an
-/// embedder, who can step a machine, can't execute without fetch and without the halted test. What executes apart from a loop over
-/// steps has a kind of its own, and so its own copy of the decoder: of one copy with two callers, LLVM would put no part into the loop.
+/// A machine as the table's instructions reach it, and the saver that is told of them. It stands apart from the machine so
+/// that an embedder, who can step a machine, can't execute without fetch and without the halted test. What executes `APART`
+/// from a loop over steps has a kind of its own, and so its own copy of the decoder: of one copy with two callers, LLVM would
+/// put no part into the loop.
 #[derive(Drop)]
-pub(crate) struct Executor<'a, A: Acc, K: Keeper, const APART: bool> {
+pub(crate) struct Executor<'a, A: Acc, K: Saver, const APART: bool> {
     pub(crate) machine: &'a mut Machine<A>,
-    pub(crate) keeper: &'a mut K,
+    pub(crate) saver: &'a mut K,
     /// The place of the instruction. The machine has gone on from it.
     pub(crate) from: Place,
     /// Whether the instruction may have read or written the SP registers.
     pub(crate) reaches_sp: bool,
 }
 
-impl<'a, A: Acc, K: Keeper, const APART: bool> Executor<'a, A, K, APART> {
-    /// Tells the keeper of a change, before it is made.
+impl<'a, A: Acc, K: Saver, const APART: bool> Executor<'a, A, K, APART> {
+    /// Tells the saver of a change, before it is made.
     #[inline(always)]
-    fn keep(&mut self, change: Change)
+    fn save(&mut self, change: Change)
         requires { IsChange change }
-        ensures { self.new ≡ record self.old { keeper = record self.old.keeper { now = K.keeps change (gone_back self.old.from self.old.machine.now) self.old.keeper.now }; reaches_sp = reaches_sp change } }
+        ensures { self.new ≡ record self.old { saver = record self.old.saver { now = K.saves change (taken_back self.old.from self.old.machine.now) self.old.saver.now }; reaches_sp = reaches_sp change } }
     {
-        self.keeper.keep(self.machine, self.from, change);
+        self.saver.save(self.machine, self.from, change);
         self.reaches_sp = change.reaches_sp();
     }
 }
 
-impl<'a, A: Acc, K: Keeper, const APART: bool> Visitor for Executor<'a, A, K, APART> {
-    ghost use Rattle.rsp_machine.specs.State.{gone_back};
+impl<'a, A: Acc, K: Saver, const APART: bool> Visitor for Executor<'a, A, K, APART> {
+    ghost use Rattle.rsp_machine.specs.State.{taken_back};
     ghost use Rattle.rsp_machine.specs.Step.{worked};
-    ghost use Rattle.rsp_machine.specs.Saved.{change_of, reaches_sp};
+    ghost use Rattle.rsp_machine.specs.Saved.{change_of};
+    ghost use Rattle.rsp_machine.specs.Changes.{reaches_sp};
 
     ghost after = { λ i e.
-        let before = gone_back e.from e.machine.now in
+        let before = taken_back e.from e.machine.now in
         record {
           machine = record e.machine { now = worked i e.machine.now };
-          keeper = record e.keeper { now = K.keeps (change_of i before) before e.keeper.now };
+          saver = record e.saver { now = K.saves (change_of i before) before e.saver.now };
           from = e.from;
           reaches_sp = reaches_sp (change_of i before);
         } };
@@ -84,7 +86,7 @@ impl<'a, A: Acc, K: Keeper, const APART: bool> Visitor for Executor<'a, A, K, AP
     #[inline(always)]
     #[tactic(auto, unfolding(crate::specs::Step::worked, crate::specs::Saved::change_of))]
     fn shift(&mut self, row: ShiftRow, rd: u8, rt: u8, amount: u8) {
-        self.keep(Change::Register(u32::from(rd)));
+        self.save(Change::Register(u32::from(rd)));
         self.machine.compute(&Inst::Shift {
             row,
             rd,
@@ -96,49 +98,49 @@ impl<'a, A: Acc, K: Keeper, const APART: bool> Visitor for Executor<'a, A, K, AP
     #[inline(always)]
     #[tactic(auto, unfolding(crate::specs::Step::worked, crate::specs::Saved::change_of))]
     fn shift_by(&mut self, row: ShiftByRow, fields: RegisterFields) {
-        self.keep(Change::Register(u32::from(fields.rd)));
+        self.save(Change::Register(u32::from(fields.rd)));
         self.machine.compute(&Inst::ShiftBy { row, fields });
     }
 
     #[inline(always)]
     #[tactic(auto, unfolding(crate::specs::Step::worked, crate::specs::Saved::change_of))]
     fn jump_register(&mut self, rs: u8) {
-        self.keep(Change::Places);
+        self.save(Change::Places);
         self.machine.go_to(&Inst::JumpRegister { rs });
     }
 
     #[inline(always)]
     #[tactic(auto, unfolding(crate::specs::Step::worked, crate::specs::Saved::change_of))]
     fn jump_link_register(&mut self, rd: u8, rs: u8) {
-        self.keep(Change::Register(u32::from(rd)));
+        self.save(Change::Register(u32::from(rd)));
         self.machine.go_to(&Inst::JumpLinkRegister { rd, rs });
     }
 
     #[inline(always)]
     #[tactic(auto, unfolding(crate::specs::Step::worked, crate::specs::Saved::change_of))]
     fn break_instruction(&mut self) {
-        self.keep(Change::Sp(0));
+        self.save(Change::Sp(0));
         self.machine.break_instruction();
     }
 
     #[inline(always)]
     #[tactic(auto, unfolding(crate::specs::Step::worked, crate::specs::Saved::change_of))]
     fn register(&mut self, row: RegisterRow, fields: RegisterFields) {
-        self.keep(Change::Register(u32::from(fields.rd)));
+        self.save(Change::Register(u32::from(fields.rd)));
         self.machine.compute(&Inst::Register { row, fields });
     }
 
     #[inline(always)]
     #[tactic(auto, unfolding(crate::specs::Step::worked, crate::specs::Saved::change_of))]
     fn branch_sign(&mut self, row: SignRow, rs: u8, offset: u16) {
-        self.keep(sign_change(row));
+        self.save(sign_change(row));
         self.machine.go_to(&Inst::BranchSign { row, rs, offset });
     }
 
     #[inline(always)]
     #[tactic(auto, unfolding(crate::specs::Step::worked, crate::specs::Saved::change_of))]
     fn branch_equal(&mut self, row: EqualRow, rs: u8, rt: u8, offset: u16) {
-        self.keep(Change::Places);
+        self.save(Change::Places);
         self.machine.go_to(&Inst::BranchEqual {
             row,
             rs,
@@ -150,28 +152,28 @@ impl<'a, A: Acc, K: Keeper, const APART: bool> Visitor for Executor<'a, A, K, AP
     #[inline(always)]
     #[tactic(auto, unfolding(crate::specs::Step::worked, crate::specs::Saved::change_of))]
     fn jump(&mut self, row: JumpRow, target: u16) {
-        self.keep(jump_change(row));
+        self.save(jump_change(row));
         self.machine.go_to(&Inst::Jump { row, target });
     }
 
     #[inline(always)]
     #[tactic(auto, unfolding(crate::specs::Step::worked, crate::specs::Saved::change_of))]
     fn immediate(&mut self, row: ImmediateRow, rt: u8, rs: u8, imm: u16) {
-        self.keep(Change::Register(u32::from(rt)));
+        self.save(Change::Register(u32::from(rt)));
         self.machine.compute(&Inst::Immediate { row, rt, rs, imm });
     }
 
     #[inline(always)]
     #[tactic(auto, unfolding(crate::specs::Step::worked, crate::specs::Saved::change_of))]
     fn load_upper(&mut self, rt: u8, imm: u16) {
-        self.keep(Change::Register(u32::from(rt)));
+        self.save(Change::Register(u32::from(rt)));
         self.machine.compute(&Inst::LoadUpper { rt, imm });
     }
 
     #[inline(always)]
     #[tactic(auto, unfolding(crate::specs::Step::worked, crate::specs::Saved::change_of))]
     fn load(&mut self, row: LoadRow, fields: ScalarMemoryFields) {
-        self.keep(Change::Register(u32::from(fields.rt)));
+        self.save(Change::Register(u32::from(fields.rt)));
         self.machine.load_scalar(&Inst::Load { row, fields });
     }
 
@@ -179,21 +181,21 @@ impl<'a, A: Acc, K: Keeper, const APART: bool> Visitor for Executor<'a, A, K, AP
     #[tactic(auto, unfolding(crate::specs::Step::worked, crate::specs::Saved::change_of))]
     fn store(&mut self, row: StoreRow, fields: ScalarMemoryFields) {
         let change = self.machine.stored_change(fields);
-        self.keep(change);
+        self.save(change);
         self.machine.store_scalar(&Inst::Store { row, fields });
     }
 
     #[inline(always)]
     #[tactic(auto, unfolding(crate::specs::Step::worked, crate::specs::Saved::change_of))]
     fn move_sp(&mut self, row: MoveRow, rt: u8, register: u8) {
-        self.keep(sp_move_change(row, rt, register));
+        self.save(sp_move_change(row, rt, register));
         self.machine.move_sp_register(row, rt, register);
     }
 
     #[inline(always)]
     #[tactic(auto, unfolding(crate::specs::Step::worked, crate::specs::Saved::change_of))]
     fn move_vector(&mut self, row: MoveRow, rt: u8, vector: u8, element: u8) {
-        self.keep(vector_move_change(row, rt, vector));
+        self.save(vector_move_change(row, rt, vector));
         self.machine.move_lanes(
             &Inst::MoveVector {
                 row,
@@ -209,7 +211,7 @@ impl<'a, A: Acc, K: Keeper, const APART: bool> Visitor for Executor<'a, A, K, AP
     #[inline(always)]
     #[tactic(auto, unfolding(crate::specs::Step::worked, crate::specs::Saved::change_of))]
     fn move_control(&mut self, row: MoveRow, rt: u8, control: Control) {
-        self.keep(control_move_change(row, rt));
+        self.save(control_move_change(row, rt));
         self.machine
             .move_flags(&Inst::MoveControl { row, rt, control }, row, rt);
     }
@@ -217,83 +219,83 @@ impl<'a, A: Acc, K: Keeper, const APART: bool> Visitor for Executor<'a, A, K, AP
     #[inline(always)]
     #[tactic(auto, unfolding(crate::specs::Step::worked, crate::specs::Saved::change_of))]
     fn multiply(&mut self, row: MultiplyRow, fields: VectorFields) {
-        self.keep(Change::Product(u32::from(fields.vd)));
+        self.save(Change::Product(u32::from(fields.vd)));
         self.machine.multiply_lanes(row, fields);
     }
 
     #[inline(always)]
     #[tactic(auto, unfolding(crate::specs::Step::worked, crate::specs::Saved::change_of))]
     fn round(&mut self, row: RoundRow, fields: VectorFields) {
-        self.keep(Change::Product(u32::from(fields.vd)));
+        self.save(Change::Product(u32::from(fields.vd)));
         self.machine.round_lanes(row, fields);
     }
 
     #[inline(always)]
     #[tactic(auto, unfolding(crate::specs::Step::worked, crate::specs::Saved::change_of))]
     fn mpeg_multiply(&mut self, row: MpegRow, fields: VectorFields) {
-        self.keep(Change::Product(u32::from(fields.vd)));
+        self.save(Change::Product(u32::from(fields.vd)));
         self.machine.multiply_mpeg(row, fields);
     }
 
     #[inline(always)]
     #[tactic(auto, unfolding(crate::specs::Step::worked, crate::specs::Saved::change_of))]
     fn read_accumulator(&mut self, fields: VectorFields) {
-        self.keep(Change::Vector(u32::from(fields.vd)));
+        self.save(Change::Vector(u32::from(fields.vd)));
         self.machine.read_part(fields);
     }
 
     #[inline(always)]
     #[tactic(auto, unfolding(crate::specs::Step::worked, crate::specs::Saved::change_of))]
     fn vector_add(&mut self, row: VectorAddRow, fields: VectorFields) {
-        self.keep(Change::Sum(u32::from(fields.vd)));
+        self.save(Change::Sum(u32::from(fields.vd)));
         self.machine.compute_lanes(row, fields);
     }
 
     #[inline(always)]
     #[tactic(auto, unfolding(crate::specs::Step::worked, crate::specs::Saved::change_of))]
     fn vector_select(&mut self, row: VectorSelectRow, fields: VectorFields) {
-        self.keep(Change::Choice(u32::from(fields.vd)));
+        self.save(Change::Choice(u32::from(fields.vd)));
         self.machine.compute_lanes(row, fields);
     }
 
     #[inline(always)]
     #[tactic(auto, unfolding(crate::specs::Step::worked, crate::specs::Saved::change_of))]
     fn vector_clip(&mut self, row: VectorClipRow, fields: VectorFields) {
-        self.keep(Change::Clip(u32::from(fields.vd)));
+        self.save(Change::Clip(u32::from(fields.vd)));
         self.machine.compute_lanes(row, fields);
     }
 
     #[inline(always)]
     #[tactic(auto, unfolding(crate::specs::Step::worked, crate::specs::Saved::change_of))]
     fn vector_merge(&mut self, fields: VectorFields) {
-        self.keep(Change::Sum(u32::from(fields.vd)));
+        self.save(Change::Sum(u32::from(fields.vd)));
         self.machine.compute_lanes(MergeOp::Vmrg, fields);
     }
 
     #[inline(always)]
     #[tactic(auto, unfolding(crate::specs::Step::worked, crate::specs::Saved::change_of))]
     fn vector_logic(&mut self, row: VectorLogicRow, fields: VectorFields) {
-        self.keep(Change::Product(u32::from(fields.vd)));
+        self.save(Change::Product(u32::from(fields.vd)));
         self.machine.compute_lanes(row, fields);
     }
 
     #[inline(always)]
     #[tactic(auto, unfolding(crate::specs::Step::worked, crate::specs::Saved::change_of))]
     fn divide(&mut self, row: DivideRow, vd: u8, lane: u8, vt: u8, element: u8) {
-        self.keep(Change::Divide(u32::from(vd)));
+        self.save(Change::Divide(u32::from(vd)));
         self.machine.divide(row, vd, lane, vt, element);
     }
 
     #[inline(always)]
     #[tactic(auto, unfolding(crate::specs::Step::worked, crate::specs::Saved::change_of))]
     fn idle(&mut self, _row: IdleRow) {
-        self.keep(Change::Places);
+        self.save(Change::Places);
     }
 
     #[inline(always)]
     #[tactic(auto, unfolding(crate::specs::Step::worked, crate::specs::Saved::change_of))]
     fn vector_load(&mut self, row: VectorLoadRow, fields: VectorMemoryFields) {
-        self.keep(loaded_change(row, fields.vt));
+        self.save(loaded_change(row, fields.vt));
         self.machine.load_register(row, fields);
     }
 
@@ -301,7 +303,7 @@ impl<'a, A: Acc, K: Keeper, const APART: bool> Visitor for Executor<'a, A, K, AP
     #[tactic(auto, unfolding(crate::specs::Step::worked, crate::specs::Saved::change_of))]
     fn vector_store(&mut self, row: VectorStoreRow, fields: VectorMemoryFields) {
         let change = self.machine.window_change(row, fields);
-        self.keep(change);
+        self.save(change);
         self.machine.store_register(row, fields);
     }
 }

@@ -1,6 +1,6 @@
 use Rattle.std.proofs.Common.{◌∙◌, ap}
 use Rattle.rsp_machine.specs.Laws.{steps_of}
-use Rattle.rsp_debug.specs.Past.{states_before}
+use Rattle.rsp_debug.specs.Ring.{states_before}
 use Rattle.rsp_debug.specs.Debugging.{Debugging, stop_in, ran}
 use Rattle.rsp_debug.proofs.Ends.{stop-is, ran-is}
 use Rattle.rsp_debug.proofs.debugger.Debugger.run.Goals as goal

@@ -3,8 +3,8 @@ use Rattle.rsp_decode.specs.Table.{inst_of}
 use Rattle.rsp_machine.specs.State.{State}
 use Rattle.rsp_machine.specs.Saved.{is_back}
 use Rattle.rsp_machine.proofs.Flagging.{AreFlags}
-use Rattle.rsp_machine.proofs.Kept.{done_marked}
-use Rattle.rsp_machine.proofs.Ending.{stays, free, step_reserved, step_done, slot_running, undo_reserved, undo_free, back, memory, halted_as}
+use Rattle.rsp_machine.proofs.Saving.{done_marked}
+use Rattle.rsp_machine.proofs.Ending.{stays, free, step_reserved, step_done, record_running, undo_reserved, undo_free, back, memory, halted_as}
 use Rattle.rsp_machine.proofs.machine.Machine.record_step.Goals as goal
 
 -- a reserved word
@@ -18,10 +18,10 @@ returns-in_default-clause-state g c =
     let word = c.fetch-word.ensures in
     ap (λ x. x.1) (sym (step_reserved c.fetch-word.result c.args.self.now c.execute.new.self c.requires word c.in_default.ensures.answer c.execute.ensures.state))
 
-pub returns-in_default-clause-slot : goal.returns-in_default-clause-slot
-returns-in_default-clause-slot g c =
+pub returns-in_default-clause-saved : goal.returns-in_default-clause-saved
+returns-in_default-clause-saved g c =
     let word = c.fetch-word.ensures in
-    c.execute.ensures.keeper ∙ sym (slot_running c.fetch-word.result c.args.self.now c.args.slot.now c.requires word)
+    c.execute.ensures.saver ∙ sym (record_running c.fetch-word.result c.args.self.now c.args.saved.now c.requires word)
 
 pub returns-in_default-clause-which : goal.returns-in_default-clause-which
 returns-in_default-clause-which g c =
@@ -31,7 +31,7 @@ returns-in_default-clause-which g c =
 pub returns-in_default-clause-back : goal.returns-in_default-clause-back
 returns-in_default-clause-back g c =
     let flags = subst (λ (x : State). AreFlags x.flags) c.self.view_is c.ranges-2.ensures in
-    back c.args.self.now c.execute.new.self c.args.slot.now c.execute.new.keeper flags (returns-in_default-clause-slot g c) (returns-in_default-clause-state g c)
+    back c.args.self.now c.execute.new.self c.args.saved.now c.execute.new.saver flags (returns-in_default-clause-saved g c) (returns-in_default-clause-state g c)
 
 -- an instruction that may have reached the SP registers, or a single step
 pub returns-then-reaches_sp-clause-answer : goal.returns-then-reaches_sp-clause-answer
@@ -45,25 +45,25 @@ returns-then-reaches_sp-clause-state g c =
     c.end_instruction.ensures
     ∙ ap (λ x. x.1) (sym (step_done c.fetch-word.result c.args.self.now c.execute.new.self c.in-Some.reaches_sp c.requires word c.in-Some.ensures.answer c.execute.ensures.state))
 
-pub returns-then-reaches_sp-clause-slot : goal.returns-then-reaches_sp-clause-slot
-returns-then-reaches_sp-clause-slot g c =
+pub returns-then-reaches_sp-clause-saved : goal.returns-then-reaches_sp-clause-saved
+returns-then-reaches_sp-clause-saved g c =
     let word = c.fetch-word.ensures in
-    c.execute.ensures.keeper ∙ sym (slot_running c.fetch-word.result c.args.self.now c.args.slot.now c.requires word)
+    c.execute.ensures.saver ∙ sym (record_running c.fetch-word.result c.args.self.now c.args.saved.now c.requires word)
 
 pub returns-then-reaches_sp-clause-which : goal.returns-then-reaches_sp-clause-which
 returns-then-reaches_sp-clause-which g c =
     c.is_back.ensures
-    ∙ ap (λ r. is_back r.change) (returns-then-reaches_sp-clause-slot g c)
-    ∙ sym (done_marked c.args.self.now c.args.slot.now (sym (returns-then-reaches_sp-clause-answer g c)))
+    ∙ ap (λ r. is_back r.change) (returns-then-reaches_sp-clause-saved g c)
+    ∙ sym (done_marked c.args.self.now c.args.saved.now (sym (returns-then-reaches_sp-clause-answer g c)))
 
 pub returns-then-reaches_sp-clause-back : goal.returns-then-reaches_sp-clause-back
 returns-then-reaches_sp-clause-back g c =
     let flags = subst (λ (x : State). AreFlags x.flags) c.self.view_is c.ranges-2.ensures in
-    back c.args.self.now c.end_instruction.new.self c.args.slot.now c.execute.new.keeper flags (returns-then-reaches_sp-clause-slot g c) (returns-then-reaches_sp-clause-state g c)
+    back c.args.self.now c.end_instruction.new.self c.args.saved.now c.execute.new.saver flags (returns-then-reaches_sp-clause-saved g c) (returns-then-reaches_sp-clause-state g c)
 
 pub returns-then-reaches_sp-clause-memory : goal.returns-then-reaches_sp-clause-memory
 returns-then-reaches_sp-clause-memory g c end =
-    memory c.args.self.now c.end_instruction.new.self c.args.slot.now c.execute.new.keeper (returns-then-reaches_sp-clause-slot g c) (returns-then-reaches_sp-clause-state g c)
+    memory c.args.self.now c.end_instruction.new.self c.args.saved.now c.execute.new.saver (returns-then-reaches_sp-clause-saved g c) (returns-then-reaches_sp-clause-state g c)
     (sym (returns-then-reaches_sp-clause-answer g c) ∙ end)
 
 -- any other instruction
@@ -81,10 +81,10 @@ returns-clause-state g c =
     free s t c.requires same single
     ∙ ap (λ x. x.1) (sym (step_done w s t c.in-Some.reaches_sp c.requires word c.in-Some.ensures.answer c.execute.ensures.state))
 
-pub returns-clause-slot : goal.returns-clause-slot
-returns-clause-slot g c =
+pub returns-clause-saved : goal.returns-clause-saved
+returns-clause-saved g c =
     let word = c.fetch-word.ensures in
-    c.execute.ensures.keeper ∙ sym (slot_running c.fetch-word.result c.args.self.now c.args.slot.now c.requires word)
+    c.execute.ensures.saver ∙ sym (record_running c.fetch-word.result c.args.self.now c.args.saved.now c.requires word)
 
 pub returns-clause-which : goal.returns-clause-which
 returns-clause-which g c =
@@ -99,8 +99,8 @@ returns-clause-halted g c =
 pub returns-clause-back : goal.returns-clause-back
 returns-clause-back g c =
     let flags = subst (λ (x : State). AreFlags x.flags) c.self.view_is c.ranges-2.ensures in
-    back c.args.self.now c.execute.new.self c.args.slot.now c.execute.new.keeper flags (returns-clause-slot g c) (returns-clause-state g c)
+    back c.args.self.now c.execute.new.self c.args.saved.now c.execute.new.saver flags (returns-clause-saved g c) (returns-clause-state g c)
 
 pub returns-clause-memory : goal.returns-clause-memory
 returns-clause-memory g c end =
-    memory c.args.self.now c.execute.new.self c.args.slot.now c.execute.new.keeper (returns-clause-slot g c) (returns-clause-state g c) (sym (returns-clause-answer g c))
+    memory c.args.self.now c.execute.new.self c.args.saved.now c.execute.new.saver (returns-clause-saved g c) (returns-clause-state g c) (sym (returns-clause-answer g c))

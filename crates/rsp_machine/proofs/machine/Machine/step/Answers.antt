@@ -1,7 +1,7 @@
 use Rattle.std.proofs.Common.{◌∙◌, ◌||◌, ap, sym}
 use Rattle.rsp_decode.specs.Table.{inst_of}
 use Rattle.rsp_machine.specs.State.{State}
-use Rattle.rsp_machine.proofs.Kept.{neither}
+use Rattle.rsp_machine.proofs.Saving.{neither}
 use Rattle.rsp_machine.proofs.Ending.{stays, free, ended, clear_as, step_reserved, step_done}
 use Rattle.rsp_machine.proofs.machine.Machine.step.Goals as goal
 

@@ -1,26 +1,26 @@
 use Rattle.std.proofs.Common.{◌≡◌, ◌<◌, ◌≤◌, ◌-◌, None, false, true, length}
 use Rattle.rsp_machine.specs.Laws.{steps_of}
-use Rattle.rsp_debug.specs.Past.{states_before}
-use Rattle.rsp_debug.specs.Places.{from_place, steps_left, steps_between, IsStanding}
-use Rattle.rsp_debug.specs.Held.{differs, watches_of}
+use Rattle.rsp_debug.specs.Ring.{states_before, from_slot}
+use Rattle.rsp_debug.specs.Span.{steps_left, steps_between, IsStanding}
+use Rattle.rsp_debug.specs.Snapshots.{differs, watches_of}
 use Rattle.rsp_debug.proofs.Reasons.{hit_of}
 use Rattle.rsp_debug.proofs.Going.{IsCome}
-use Rattle.rsp_debug.proofs.runs.go_on_in.Given as goal
+use Rattle.rsp_debug.proofs.steps.make_steps.Given as goal
 
 abbrev pub invariant-steps : goal.invariant-steps
 invariant-steps g l =
     let s = l.fn.machine in
     let p = l.fn.span in
-    let w = watches_of l.held in
+    let w = watches_of l.snapshots in
     let k = steps_between p l.span in
     record {
-      come : IsCome l.breaks w (steps_left p) p.depth s (states_before s (from_place p.first p.count l.fn.slots)) k l.machine (states_before l.machine (from_place l.span.first l.span.count l.slots));
-      same : differs l.held l.machine.dmem ≡ None;
+      come : IsCome l.breaks w (steps_left p) p.depth s (states_before s (from_slot p.first p.count l.fn.slots)) k l.machine (states_before l.machine (from_slot l.span.first l.span.count l.slots));
+      same : differs l.snapshots l.machine.dmem ≡ None;
       quiet : hit_of l.breaks w k (steps_of (k - 1) s) (steps_of k s) ≡ None;
       goes : l.machine.sp.halted ≡ false;
       left : steps_left l.span ≤ steps_left p;
       far : 0 < l.span.far;
-      looks : l.sought.any ≡ true → l.span.far ≡ 1;
+      one : l.sought.any ≡ true → l.span.far ≡ 1;
       depth : l.span.depth ≡ p.depth;
       len : length l.slots ≡ length l.fn.slots;
       span : IsStanding l.span l.slots;

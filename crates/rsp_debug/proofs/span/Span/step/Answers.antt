@@ -1,6 +1,6 @@
 use Rattle.std.proofs.Common.{sym, ◌∙◌}
 use Rattle.rsp_debug.proofs.Reasons.{stuck-halted, stuck-reserved}
-use Rattle.rsp_debug.proofs.ring.Span.step.Goals as goal
+use Rattle.rsp_debug.proofs.span.Span.step.Goals as goal
 
 pub returns-in-Halted-clause-stuck : goal.returns-in-Halted-clause-stuck
 returns-in-Halted-clause-stuck g c e =

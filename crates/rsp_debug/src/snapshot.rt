@@ -2,14 +2,14 @@
 
 ghost use Rattle.std.specs.Prelude.{◌≡◌};
 ghost use Rattle.rsp_debug.specs.Stops.{watched};
-ghost use Rattle.rsp_debug.specs.Held.{IsShort, held_in, is_other, differs};
+ghost use Rattle.rsp_debug.specs.Snapshots.{IsShort, snapshot_of, is_other, differs};
 
 use crate::stop::Watch;
 use arrayvec::ArrayVec;
 
 /// A watch, and its bytes as they were.
 #[derive(Drop)]
-pub struct Held {
+pub struct Snapshot {
     watch: Watch,
     bytes: ArrayVec<u8, 64>,
 }
@@ -24,31 +24,33 @@ fn watched<'a>(watch: &Watch, dmem: &'a [u8]) -> &'a [u8]
 }
 
 /// What a number stands for, with its bytes.
-pub fn hold(slot: Option<Watch>, dmem: &[u8]) -> Option<Held>
-    requires { IsShort slot }
-    ensures { result ≡ held_in dmem.now slot }
+pub fn snapshot_of(watch: Option<Watch>, dmem: &[u8]) -> Option<Snapshot>
+    requires { IsShort watch }
+    ensures { result ≡ snapshot_of dmem.now watch }
 {
-    let watch = slot?;
+    let watch = watch?;
     match ArrayVec::try_from(watched(&watch, dmem)) {
-        Ok(bytes) => Some(Held { watch, bytes }),
+        Ok(bytes) => Some(Snapshot { watch, bytes }),
         Err(_) => unreachable!(),
     }
 }
 
 /// Whether a byte of a watch isn't what it was.
-fn is_other(slot: &Option<Held>, dmem: &[u8]) -> bool
-    ensures { result ≡ is_other dmem.now slot.now }
+fn is_other(snapshot: &Option<Snapshot>, dmem: &[u8]) -> bool
+    ensures { result ≡ is_other dmem.now snapshot.now }
 {
-    match slot {
+    match snapshot {
         None => false,
-        Some(held) => held.bytes.as_slice() != watched(&held.watch, dmem),
+        Some(snapshot) => snapshot.bytes.as_slice() != watched(&snapshot.watch, dmem),
     }
 }
 
 /// The lowest number of a watch of which a byte isn't what it was.
-#[tactic(auto, unfolding(crate::specs::Held::differs))]
-pub fn differs(held: &[Option<Held>], dmem: &[u8]) -> Option<usize>
-    ensures { result ≡ differs held.now dmem.now }
+#[tactic(auto, unfolding(crate::specs::Snapshots::differs))]
+pub fn differs(snapshots: &[Option<Snapshot>], dmem: &[u8]) -> Option<usize>
+    ensures { result ≡ differs snapshots.now dmem.now }
 {
-    held.iter().position(|slot| is_other(slot, dmem))
+    snapshots
+        .iter()
+        .position(|snapshot| is_other(snapshot, dmem))
 }

@@ -3,34 +3,34 @@ use Rattle.std.proofs.lemmas.Bool.{false≢true}
 use Rattle.rsp_machine.specs.Step.{step_of}
 use Rattle.rsp_machine.specs.Laws.{steps_of}
 use Rattle.rsp_debug.specs.Calls.{done_steps}
-use Rattle.rsp_debug.specs.Past.{states_before}
-use Rattle.rsp_debug.specs.Places.{from_place, steps_left, steps_between}
-use Rattle.rsp_debug.specs.Held.{watches_of}
+use Rattle.rsp_debug.specs.Ring.{states_before, from_slot}
+use Rattle.rsp_debug.specs.Span.{steps_left, steps_between}
+use Rattle.rsp_debug.specs.Snapshots.{watches_of}
 use Rattle.rsp_debug.specs.Runs.{hit_in}
-use Rattle.rsp_debug.specs.declared.ring.Made.TheVariants.{Rests}
+use Rattle.rsp_debug.specs.declared.span.Made.TheVariants.{Pauses}
 use Rattle.rsp_debug.proofs.Going.{come-none, come-on, come-as, count-on, unsought, all-made, hit-now, stop-come}
 use Rattle.rsp_debug.proofs.Reasons.{nothing-differs, unhit}
 use Rattle.rsp_debug.proofs.Afters.{never, no-some}
-use Rattle.rsp_debug.proofs.Slots.{still-same, differs-empty}
+use Rattle.rsp_debug.proofs.Watched.{still-same, differs-empty}
 use Rattle.rsp_debug.proofs.Hits.{unbroken-hit}
 use Rattle.rsp_debug.proofs.Turns.{turned}
-use Rattle.rsp_debug.proofs.runs.go_on_in.Goals.{then-is_some-via-then-is_some, then-is_some-via-else-is_some+then-is_last}
-use Rattle.rsp_debug.proofs.runs.go_on_in.Goals as goal
+use Rattle.rsp_debug.proofs.steps.make_steps.Goals.{then-is_some-via-then-is_some, then-is_some-via-else-is_some+then-is_last}
+use Rattle.rsp_debug.proofs.steps.make_steps.Goals as goal
 
 pub steps-init : goal.steps-init
 steps-init g c =
     let s = c.args.machine.now in let p = c.args.span.now in let o = c.set_out.new.self in let e = c.set_out.ensures in
-    let w = watches_of c.args.held.now in
+    let w = watches_of c.args.snapshots.now in
     let none : steps_between p o ≡ 0 = omega (arith, e.left) in
     record {
-      come = come-none c.args.breaks.now w (steps_left p) p.depth s (states_before s (from_place p.first p.count c.args.slots.now)) _ (steps_between p o)
+      come = come-none c.args.breaks.now w (steps_left p) p.depth s (states_before s (from_slot p.first p.count c.args.slots.now)) _ (steps_between p o)
           none (ap (states_before s) (turned c.args.slots.now _ p.first o.first p.count o.count refl e.first e.count));
       same = c.requires.same;
       quiet = unhit c.args.breaks.now w (steps_between p o) (steps_of (steps_between p o - 1) s) (steps_of (steps_between p o) s) (omega (arith, none));
       goes = c.requires.goes;
       left = omega (arith, e.left);
       far = e.far.0;
-      looks = e.looks;
+      one = e.one;
       depth = e.depth;
       len = refl;
       span = (e.far.1, e.within, c.requires.span.2, omega (arith, e.count, e.depth, c.requires.span.3), omega (arith, e.depth, c.requires.span.4));
@@ -57,9 +57,9 @@ returns-in-Stuck-clause-first g c =
 pub steps-preserved-in-Goes : goal.steps-preserved-in-Goes
 steps-preserved-in-Goes g c =
     let l = c.steps in let i = l.invariant in let y = c.step.new in let e = c.step.ensures in
-    let b = c.args.breaks.now in let d = c.args.held.now in let p = c.args.span.now in let s = c.args.machine.now in let t = y.machine in
+    let b = c.args.breaks.now in let d = c.args.snapshots.now in let p = c.args.span.now in let s = c.args.machine.now in let t = y.machine in
     let going = e.goes c.in-Goes.is in
-    let any = unsought c.of-sought.result.any l.span y.self l.machine i.looks e.far going.1.0 going.0 in
+    let any = unsought c.of-sought.result.any l.span y.self l.machine i.one e.far going.1.0 going.0 in
     let none = c.of-sought.ensures.none any in
     let same = differs-empty d t.dmem none.0 in
     record {
@@ -71,7 +71,7 @@ steps-preserved-in-Goes g c =
       goes = going.1.1;
       left = omega (arith, i.left, e.far, e.later);
       far = going.0;
-      looks = λ sought. absurd (false≢true (sym any ∙ sought));
+      one = λ sought. absurd (false≢true (sym any ∙ sought));
       depth = e.depth ∙ i.depth;
       len = e.len ∙ i.len;
       span = e.span;
@@ -79,8 +79,8 @@ steps-preserved-in-Goes g c =
 
 pub hit-found-requires-clause-same : goal.hit-found-requires-clause-same
 hit-found-requires-clause-same g c none =
-    still-same c.of-sought.result.watches c.args.held.now c.steps.machine.dmem c.step.new.machine.dmem c.of-sought.ensures.watches
-    (c.step.ensures.memory (c.in-Rests.is ∙ ap Rests none)) c.steps.invariant.same
+    still-same c.of-sought.result.watches c.args.snapshots.now c.steps.machine.dmem c.step.new.machine.dmem c.of-sought.ensures.watches
+    (c.step.ensures.memory (c.in-Pauses.is ∙ ap Pauses none)) c.steps.invariant.same
 
 pub returns-then-is_some-clause-after : goal.returns-then-is_some-clause-after
 returns-then-is_some-clause-after g c =
@@ -103,39 +103,39 @@ returns-then-is_some-clause-first g c =
 pub returns-then-is_some-clause-last : goal.returns-then-is_some-clause-last
 returns-then-is_some-clause-last g c free =
     let l = c.steps in let i = l.invariant in let y = c.step.new in let e = c.step.ensures in
-    let b = c.args.breaks.now in let d = c.args.held.now in let p = c.args.span.now in let s = c.args.machine.now in let t = y.machine in
-    let rests = e.rests c.in-Rests.stored c.in-Rests.is in
-    stop-come b d (steps_left p) p.depth s (states_before s (from_place p.first p.count c.args.slots.now)) (steps_between p y.self) t _ c.hit-found.result
+    let b = c.args.breaks.now in let d = c.args.snapshots.now in let p = c.args.span.now in let s = c.args.machine.now in let t = y.machine in
+    let pauses = e.pauses c.in-Pauses.stored c.in-Pauses.is in
+    stop-come b d (steps_left p) p.depth s (states_before s (from_slot p.first p.count c.args.slots.now)) (steps_between p y.self) t _ c.hit-found.result
     (come-on _ _ c.args.span.now l.span y.self c.args.machine.now l.machine y.machine c.args.slots.now l.slots y.slots
     i.come i.quiet i.left i.far i.depth e.state e.past e.far e.later)
-    (hit-now b d s l.machine t (steps_between p l.span) (steps_between p y.self) c.hit-found.result i.come.after e.state rests.1.0 i.same
+    (hit-now b d s l.machine t (steps_between p l.span) (steps_between p y.self) c.hit-found.result i.come.after e.state pauses.1.0 i.same
     (count-on p l.span y.self (done_steps (step_of l.machine).0) i.left e.far e.later) c.hit-found.ensures)
     (λ none. elim c.then-is_some.branch [
       | then-is_some-via-then-is_some w ↦ never c.hit-found.result (steps_between p y.self ≡ steps_left p) (sym c.is_some.ensures ∙ w.if-is_some.true) none
-      | then-is_some-via-else-is_some+then-is_last w ↦ all-made p y.self rests.0 (sym w.is_last.ensures ∙ w.if-is_last.true)
+      | then-is_some-via-else-is_some+then-is_last w ↦ all-made p y.self pauses.0 (sym w.is_last.ensures ∙ w.if-is_last.true)
     ])
     free
 
 pub steps-preserved : goal.steps-preserved
 steps-preserved g c =
     let l = c.steps in let i = l.invariant in let y = c.step.new in let e = c.step.ensures in
-    let b = c.args.breaks.now in let d = c.args.held.now in let p = c.args.span.now in let s = c.args.machine.now in let t = y.machine in
-    let rests = e.rests c.in-Rests.stored c.in-Rests.is in
-    let z = c.set_out-in-Rests.new.self in let o = c.set_out-in-Rests.ensures in
+    let b = c.args.breaks.now in let d = c.args.snapshots.now in let p = c.args.span.now in let s = c.args.machine.now in let t = y.machine in
+    let pauses = e.pauses c.in-Pauses.stored c.in-Pauses.is in
+    let z = c.set_out-in-Pauses.new.self in let o = c.set_out-in-Pauses.ensures in
     let none = no-some c.hit-found.result (sym c.is_some.ensures ∙ c.if-is_some.false) in
     let count : steps_between p z ≡ steps_between p y.self = omega (arith, o.left) in
     record {
-      come = come-as b (watches_of d) (steps_left p) p.depth s (states_before s (from_place p.first p.count c.args.slots.now)) (steps_between p y.self) (steps_between p z) t _ _
+      come = come-as b (watches_of d) (steps_left p) p.depth s (states_before s (from_slot p.first p.count c.args.slots.now)) (steps_between p y.self) (steps_between p z) t _ _
           (come-on _ _ c.args.span.now l.span y.self c.args.machine.now l.machine y.machine c.args.slots.now l.slots y.slots
           i.come i.quiet i.left i.far i.depth e.state e.past e.far e.later)
           count (ap (states_before t) (turned y.slots _ y.self.first z.first y.self.count z.count refl o.first o.count));
       same = nothing-differs b d t (sym {b = hit_in b d t} c.hit-found.ensures ∙ none);
-      quiet = hit-now b d s l.machine t (steps_between p l.span) (steps_between p z) c.hit-found.result i.come.after e.state rests.1.0 i.same
+      quiet = hit-now b d s l.machine t (steps_between p l.span) (steps_between p z) c.hit-found.result i.come.after e.state pauses.1.0 i.same
           (count ∙ count-on p l.span y.self (done_steps (step_of l.machine).0) i.left e.far e.later) c.hit-found.ensures ∙ none;
-      goes = rests.1.1;
+      goes = pauses.1.1;
       left = omega (arith, i.left, e.far, e.later, o.left);
       far = o.far.0;
-      looks = o.looks;
+      one = o.one;
       depth = o.depth ∙ e.depth ∙ i.depth;
       len = e.len ∙ i.len;
       span = (o.far.1, o.within, e.span.2, omega (arith, o.count, o.depth, e.span.3), omega (arith, o.depth, e.span.4));

@@ -9,9 +9,9 @@ use Rattle.std.proofs.lemmas.Slice.Eq.{bytes_eq-Decides}
 use Rattle.std.proofs.lemmas.Grind.{common_steps}
 use Rattle.std.proofs.lemmas.List.Sums.{prefix_len-le-length, fails_before_first, passes_at_first, position_or_len_is}
 use Rattle.rsp_debug.specs.declared.stop.Watch.{Watch}
-use Rattle.rsp_debug.specs.declared.held.Held.{Held}
+use Rattle.rsp_debug.specs.declared.snapshot.Snapshot.{Snapshot}
 use Rattle.rsp_debug.specs.Stops.{watched, is_changed, changed}
-use Rattle.rsp_debug.specs.Held.{IsShort, held_in, is_other, differs, watches_of}
+use Rattle.rsp_debug.specs.Snapshots.{IsShort, snapshot_of, is_other, differs, watches_of}
 
 -- a number that stands for no watch
 pub past-watch : (watches : List (Option Watch)) (k : ℕ) → length watches ≤ k → slice_index_or watches k None ≡ None
@@ -22,7 +22,7 @@ past-set [] k h = refl
 past-set (w ∷ watches) zero h = absurd (omega arith)
 past-set (w ∷ watches) (suc k) h = ap (λ l. w ∷ l) (past-set watches k (omega arith))
 
-pub ruleset slots = (past-watch, past-set)
+pub ruleset numbers = (past-watch, past-set)
 
 -- the first index that passes, of two tests that agree on a list
 first-le : {X : Type 0} (p : X → Bool) (xs : List X) → position_or_len p xs ≤ length xs
@@ -67,54 +67,54 @@ position-map p f xs =
     ap (λ i. cond (nat_lt i (length (map f xs))) (Some i) None) (prefix-map (λ y. not (p y)) f xs)
     ∙ ap (λ l. cond (nat_lt (position_or_len (λ x. p (f x)) xs) l) (Some (position_or_len (λ x. p (f x)) xs)) None) (length-map xs f)
 
--- a watch whose bytes are still those that are held, and what then changes
-unlike : (now next : List ℕ) (slot : Option Held) → is_other now slot ≡ false → is_other next slot ≡ is_changed now next (option_map (λ h. h.watch) slot)
+-- a watch whose bytes are still those of its snapshot, and what then changes
+unlike : (now next : List ℕ) (one : Option Snapshot) → is_other now one ≡ false → is_other next one ≡ is_changed now next (option_map (λ h. h.watch) one)
 unlike now next None e = refl
 unlike now next (Some h) e =
     let same : h.bytes.items ≡ watched h.watch now = (bytes_eq-Decides h.bytes.items (watched h.watch now)).0 (not_not _ e) in
     ap (λ bytes. not (bytes_eq bytes (watched h.watch next))) same
 
-pub differs-since : (held : List (Option Held)) (now next : List ℕ) → differs held now ≡ None → differs held next ≡ changed (watches_of held) now next
+pub differs-since : (snapshots : List (Option Snapshot)) (now next : List ℕ) → differs snapshots now ≡ None → differs snapshots next ≡ changed (watches_of snapshots) now next
 unfolding differs changed
-differs-since held now next e =
-    same_position (is_other next) (λ h. is_changed now next (option_map (λ h. h.watch) h)) held None
-    (λ k h. unlike now next (get_or held k None) (passes_nowhere _ held None _ refl e k h))
-    ∙ sym (position-map (is_changed now next) (option_map (λ h. h.watch)) held)
+differs-since snapshots now next e =
+    same_position (is_other next) (λ h. is_changed now next (option_map (λ h. h.watch) h)) snapshots None
+    (λ k h. unlike now next (get_or snapshots k None) (passes_nowhere _ snapshots None _ refl e k h))
+    ∙ sym (position-map (is_changed now next) (option_map (λ h. h.watch)) snapshots)
 
--- watches that are held as they are
-fresh : (dmem : List ℕ) (slot : Option Watch) → is_other dmem (held_in dmem slot) ≡ false
+-- snapshots of watches as they are
+fresh : (dmem : List ℕ) (watch : Option Watch) → is_other dmem (snapshot_of dmem watch) ≡ false
 fresh dmem None = refl
 fresh dmem (Some w) = ap not ((bytes_eq-Decides (watched w dmem) (watched w dmem)).1 refl)
 
-pub differs-fresh : (watches : List (Option Watch)) (dmem : List ℕ) → differs (map (held_in dmem) watches) dmem ≡ None
+pub differs-fresh : (watches : List (Option Watch)) (dmem : List ℕ) → differs (map (snapshot_of dmem) watches) dmem ≡ None
 unfolding differs
 differs-fresh watches dmem =
-    position-map (is_other dmem) (held_in dmem) watches ∙ no_position _ watches None (λ k h. fresh dmem (get_or watches k None))
+    position-map (is_other dmem) (snapshot_of dmem) watches ∙ no_position _ watches None (λ k h. fresh dmem (get_or watches k None))
 
-pub watches-held : (watches : List (Option Watch)) (dmem : List ℕ) → watches_of (map (held_in dmem) watches) ≡ watches
-watches-held [] dmem = refl
-watches-held (None ∷ watches) dmem = ap (λ l. None ∷ l) (watches-held watches dmem)
-watches-held (Some w ∷ watches) dmem = ap (λ l. Some w ∷ l) (watches-held watches dmem)
+pub watches-of : (watches : List (Option Watch)) (dmem : List ℕ) → watches_of (map (snapshot_of dmem) watches) ≡ watches
+watches-of [] dmem = refl
+watches-of (None ∷ watches) dmem = ap (λ l. None ∷ l) (watches-of watches dmem)
+watches-of (Some w ∷ watches) dmem = ap (λ l. Some w ∷ l) (watches-of watches dmem)
 
 pub eight-mapped : {X Y : Type 0} (f : X → Y) (xs : List X) (d : X) → length xs ≡ 8
     → f (get_or xs 0 d) ∷ f (get_or xs 1 d) ∷ f (get_or xs 2 d) ∷ f (get_or xs 3 d) ∷ f (get_or xs 4 d) ∷ f (get_or xs 5 d) ∷ f (get_or xs 6 d) ∷ f (get_or xs 7 d) ∷ [] ≡ map f xs
 eight-mapped f xs d e =
     sym (fill_by_all (λ k. f (get_or xs k d)) (map f xs) 8 (f d) (length-map xs f ∙ e) (λ k h. get_or-map f xs k d (f d) (omega (arith, e))))
 
--- where nothing is held, nothing differs
-pub differs-empty : (held : List (Option Held)) (dmem : List ℕ) → length held ≡ 0 → differs held dmem ≡ None
+-- where there is no snapshot, nothing differs
+pub differs-empty : (snapshots : List (Option Snapshot)) (dmem : List ℕ) → length snapshots ≡ 0 → differs snapshots dmem ≡ None
 unfolding differs
 differs-empty [] dmem e = refl
-differs-empty (h ∷ held) dmem e = absurd (omega arith)
+differs-empty (h ∷ snapshots) dmem e = absurd (omega arith)
 
 -- where there is no watch, none has changed
-no_slot : (before dmem : List ℕ) (slot : Option Watch) → IsNone slot → is_changed before dmem slot ≡ false
-no_slot before dmem None h = refl
-no_slot before dmem (Some w) h = cc
+no_watch : (before dmem : List ℕ) (watch : Option Watch) → IsNone watch → is_changed before dmem watch ≡ false
+no_watch before dmem None h = refl
+no_watch before dmem (Some w) h = cc
 
 pub changed-none : (watches : List (Option Watch)) (before dmem : List ℕ) → All IsNone watches → changed watches before dmem ≡ None
 unfolding changed
-changed-none watches before dmem none = no_position _ watches None (λ k h. no_slot before dmem (get_or watches k None) (none k None h))
+changed-none watches before dmem none = no_position _ watches None (λ k h. no_watch before dmem (get_or watches k None) (none k None h))
 
 pub none-changed : (before dmem : List ℕ) → changed [] before dmem ≡ None
 unfolding changed
@@ -131,7 +131,7 @@ short-dropped watches k h = All-set IsShort watches k None tt h
 pub ruleset shorts = (short-written, short-dropped)
 
 -- a step that may store nothing, or no watch
-pub still-same : (asks : Bool) (held : List (Option Held)) (old new : List ℕ) → (asks ≡ false → length held ≡ 0) → (asks ≡ true → new ≡ old)
-    → differs held old ≡ None → differs held new ≡ None
-still-same false held old new none same e = differs-empty held new (none refl)
-still-same true held old new none same e = ap (differs held) (same refl) ∙ e
+pub still-same : (asks : Bool) (snapshots : List (Option Snapshot)) (old new : List ℕ) → (asks ≡ false → length snapshots ≡ 0) → (asks ≡ true → new ≡ old)
+    → differs snapshots old ≡ None → differs snapshots new ≡ None
+still-same false snapshots old new none same e = differs-empty snapshots new (none refl)
+still-same true snapshots old new none same e = ap (differs snapshots) (same refl) ∙ e

@@ -1,0 +1,118 @@
+// The steps of a run, in one loop into which the machine's step is put. `Span` says what makes it fast.
+
+ghost use Rattle.std.specs.Prelude.{◌≡◌, ◌<◌, ◌≤◌, ℕ, Some, None, length, unwrap_or, true, false};
+ghost use Rattle.rsp_debug.specs.Stops.{reason_at};
+ghost use Rattle.rsp_debug.specs.Breaks.{break_count};
+ghost use Rattle.rsp_debug.specs.Calls.{IsAfter};
+ghost use Rattle.rsp_debug.specs.Snapshots.{differs, watches_of};
+ghost use Rattle.rsp_debug.specs.Ring.{from_slot, states_before, past_of};
+ghost use Rattle.rsp_debug.specs.Span.{steps_left, steps_between, IsStanding};
+ghost use Rattle.rsp_debug.specs.Runs.{stuck_of, hit_in};
+ghost use Rattle.rsp_debug.specs.declared.stop.Reason.TheVariants as why;
+
+use crate::breaks::Breaks;
+use crate::snapshot::{Snapshot, differs};
+use crate::span::{Made, Span};
+use crate::stop::Reason;
+use rsp_acc::Acc;
+use rsp_machine::{Machine, Record};
+
+/// The bytes of DMEM.
+pub fn dmem_bytes<A: Acc>(machine: &Machine<A>) -> &[u8]
+    ensures value { result.now ≡ machine.now.dmem }
+    ensures len { length result.now ≡ 4096 }
+{
+    let dmem = machine.dmem();
+    dmem.ranges();
+    dmem.run(0, 4096)
+}
+
+/// What a run looks for in its pauses.
+#[derive(Clone, Copy, Drop)]
+struct Sought {
+    any: bool,
+    watches: bool,
+    breaks: bool,
+}
+
+impl Sought {
+    fn of(breaks: &Breaks, snapshots: &[Option<Snapshot>]) -> Sought
+        ensures watches { result.watches ≡ false → length snapshots.now ≡ 0 }
+        ensures breaks { result.breaks ≡ false → break_count breaks.now ≡ 0 }
+        ensures none { result.any ≡ false → (length snapshots.now ≡ 0) × (break_count breaks.now ≡ 0) }
+    {
+        let watches = !snapshots.is_empty();
+        let breaks = !breaks.is_empty();
+        Sought {
+            any: watches || breaks,
+            watches,
+            breaks,
+        }
+    }
+}
+
+/// The watch or the breakpoint that a step has come to. Bytes are compared only where the step may have stored, and places
+/// looked up only where there are breakpoints.
+#[inline(always)]
+#[tactic(auto, using(crate::proofs::Hits::hits))]
+fn hit<A: Acc>(
+    machine: &Machine<A>,
+    breaks: &Breaks,
+    snapshots: &[Option<Snapshot>],
+    sought: Sought,
+    stored: bool,
+) -> Option<Reason>
+    requires free { sought.breaks ≡ false → break_count breaks.now ≡ 0 }
+    requires same { stored ≡ false → differs snapshots.now machine.now.dmem ≡ None }
+    ensures { result ≡ hit_in breaks.now snapshots.now machine.now }
+{
+    if stored && let Some(k) = differs(snapshots, dmem_bytes(machine)) {
+        return Some(Reason::Watched(k));
+    }
+    if sought.breaks && breaks.contains(machine.pc()) {
+        return Some(Reason::Break);
+    }
+    None
+}
+
+/// Makes steps as long as they answer Done, as many as the span has left, up to one that comes to a breakpoint or a watch.
+/// Tells which.
+#[inline(always)]
+#[tactic(auto, using(crate::proofs::Going::goes))]
+pub fn make_steps<A: Acc>(
+    machine: &mut Machine<A>,
+    slots: &mut [Record],
+    span: &mut Span,
+    breaks: &Breaks,
+    snapshots: &[Option<Snapshot>],
+) -> Option<Reason>
+    requires same { differs snapshots.now machine.old.dmem ≡ None }
+    requires goes { machine.old.sp.halted ≡ false }
+    requires span { IsStanding span.old slots.old }
+    requires pauses { span.old.far ≡ 0 }
+    requires later { 0 < span.old.later }
+    ensures within { steps_left span.new ≤ steps_left span.old }
+    ensures after { IsAfter (steps_between span.old span.new) machine.old machine.new }
+    ensures past { states_before machine.new (from_slot span.new.first span.new.count slots.new) ≡ past_of (steps_between span.old span.new) span.old.depth machine.old (states_before machine.old (from_slot span.old.first span.old.count slots.old)) }
+    ensures depth { span.new.depth ≡ span.old.depth }
+    ensures len { length slots.new ≡ length slots.old }
+    ensures span { IsStanding span.new slots.new }
+    ensures first { (j : ℕ) → j < steps_between span.old span.new → reason_at breaks.now (watches_of snapshots.now) (steps_left span.old) machine.old j ≡ None }
+    ensures last { stuck_of machine.new ≡ None → reason_at breaks.now (watches_of snapshots.now) (steps_left span.old) machine.old (steps_between span.old span.new) ≡ Some (unwrap_or result why.Limit) }
+{
+    let sought = Sought::of(breaks, snapshots);
+    span.set_out(slots.len(), sought.any);
+    'steps: loop {
+        match span.step(slots, machine, sought.watches) {
+            Made::Stuck => return None,
+            Made::Goes => {}
+            Made::Pauses { stored } => {
+                let found = hit(machine, breaks, snapshots, sought, stored);
+                if found.is_some() || span.is_last() {
+                    return found;
+                }
+                span.set_out(slots.len(), sought.any);
+            }
+        }
+    }
+}

@@ -1,0 +1,412 @@
+-- What is saved of a step leads back.
+use Rattle.std.proofs.Common.{◌≡◌, ℕ, ℤ, ◌-◌, ◌%◌, ◌==◌, ◌||◌, Bool, true, false, not, List, refl, sym, ap, subst, ◌∙◌, Option, Some, None}
+use Rattle.std.specs.Prelude.{if◌then◌else◌}
+use Rattle.rsp_decode.specs.declared.inst.Inst.{Inst}
+use Rattle.rsp_decode.specs.declared.inst.Inst.TheVariants.{Shift, ShiftBy, JumpRegister, JumpLinkRegister, Break, Register, BranchSign, BranchEqual, Jump, Immediate, LoadUpper, Load, Store, MoveSp, MoveVector, MoveControl, Multiply, Round, MpegMultiply, ReadAccumulator, VectorAdd, VectorSelect, VectorClip, VectorMerge, VectorLogic, Divide, Idle, VectorLoad, VectorStore}
+use Rattle.rsp_rows.specs.declared.scalar.MoveRow.{MoveRow}
+use Rattle.rsp_rows.specs.declared.scalar.MoveRow.TheVariants.{From, To}
+use Rattle.rsp_rows.specs.declared.scalar.SignRow.{SignRow}
+use Rattle.rsp_rows.specs.declared.scalar.SignRow.TheVariants.{Bltz, Bgez, Bltzal, Bgezal, Blez, Bgtz}
+use Rattle.rsp_rows.specs.declared.scalar.JumpRow.{JumpRow}
+use Rattle.rsp_rows.specs.declared.scalar.JumpRow.TheVariants.{J, Jal}
+use Rattle.rsp_lanes.specs.declared.flags.Flags.{Flags}
+use Rattle.rsp_divide.specs.declared.divider.Divider.{Divider}
+use Rattle.rsp_memory.specs.Memory.{word_at, bytes_at, with_bytes}
+use Rattle.rsp_scalar.specs.Registers.{register, with_register}
+use Rattle.rsp_scalar.specs.Rows.{address}
+use Rattle.rsp_scalar.specs.Flow.{linked, going_on}
+use Rattle.rsp_rows.specs.declared.vector.Control.{Control}
+use Rattle.rsp_decode.specs.Table.{inst_of}
+use Rattle.rsp_loadstore.specs.File.{vector, with_vector}
+use Rattle.rsp_loadstore.specs.Addresses.{transfer_address}
+use Rattle.rsp_loadstore.specs.Loads.{loaded_file}
+use Rattle.rsp_loadstore.specs.Reach.{writes_group, window_of}
+use Rattle.rsp_loadstore.specs.Stores.{stored_memory}
+use Rattle.rsp_loadstore.specs.Moves.{moved_file}
+use Rattle.rsp_loadstore.proofs.Reach.{stored-back}
+use Rattle.rsp_regs.specs.Sp.{Sp, after_step, after_read, written}
+use Rattle.rsp_machine.specs.State.{State, advanced}
+use Rattle.rsp_machine.specs.Vector.{multiplies, rounds, multiplies_mpeg, reads_accumulator, ruled, divides, loads_vector, stores_vector, moves_vector, moves_control}
+use Rattle.rsp_machine.specs.Step.{computes, loads, stores, jumps, break_instruction, moves_sp, worked, executed, singled, step_by, step_of}
+use Rattle.rsp_machine.specs.Host.{register_written}
+use Rattle.rsp_machine.specs.declared.step.StepEnd.TheVariants.{Done, Halted, Reserved}
+use Rattle.rsp_machine.specs.Saved.{Saved, change_saved, values_saved, restored, change_of, vd_in, vd_at, undone, starts_dma, is_length, sign_change, jump_change, told_of, may_store, group_at, with_group, is_back_by, can_undo, record_after, is_back}
+use Rattle.rsp_machine.specs.Changes.{saved_of, saved_by}
+use Rattle.rsp_machine.specs.declared.change.Change.TheVariants as of
+use Rattle.rsp_machine.proofs.Undoing.{register-back, vector-back, store-back}
+use Rattle.rsp_machine.proofs.Loading.{loaded-back, put_back}
+use Rattle.rsp_machine.proofs.Flagging.{AreFlags, sum-back, merge-back, choice-back, logic-back}
+
+-- the state with its parts given back
+same_state : (s : State) (r : List ℕ) (v : List (List ℕ)) (x : List ℤ) (f : Flags) (d : Divider) (m i q : List ℕ) → s.sp.halted ≡ false
+    → r ≡ s.registers → v ≡ s.vectors → x ≡ s.accumulators → f ≡ s.flags → d ≡ s.divider → m ≡ s.dmem → i ≡ s.imem → q ≡ s.rdram
+    → record s { registers = r; vectors = v; accumulators = x; flags = f; divider = d; dmem = m; imem = i; rdram = q; sp = record s.sp { halted = false } } ≡ s
+same_state s r v x f d m i q h er ev ex ef ed em ei eq =
+    rw (er, ev, ex, ef, ed, em, ei, eq) (ap (λ b. record s { sp = record s.sp { halted = b } }) (sym h))
+
+registers_same : (s : State) (r : List ℕ) → s.sp.halted ≡ false → r ≡ s.registers → record s { registers = r; sp = record s.sp { halted = false } } ≡ s
+registers_same s r h e = same_state s r _ _ _ _ _ _ _ h e refl refl refl refl refl refl refl
+
+vectors_same : (s : State) (v : List (List ℕ)) → s.sp.halted ≡ false → v ≡ s.vectors → record s { vectors = v; sp = record s.sp { halted = false } } ≡ s
+vectors_same s v h e = same_state s _ v _ _ _ _ _ _ h refl e refl refl refl refl refl refl
+
+memory_same : (s : State) (m : List ℕ) → s.sp.halted ≡ false → m ≡ s.dmem → record s { dmem = m; sp = record s.sp { halted = false } } ≡ s
+memory_same s m h e = same_state s _ _ _ _ _ m _ _ h refl refl refl refl refl e refl refl
+
+-- a row that changes a scalar register
+register_saved : (n v p : ℕ) (s : State) (r : Saved) → s.sp.halted ≡ false
+    → undone (change_saved (of.Register n) s r) (singled (record s { pc = s.npc; npc = p; registers = with_register s.registers n v })) ≡ s
+unfolding undone change_saved values_saved restored after_step
+register_saved n v p s r h = registers_same s _ h (register-back s.registers n v)
+
+-- a row that changes the places alone
+places_saved : (p : ℕ) (s : State) (r : Saved) → s.sp.halted ≡ false
+    → undone (change_saved of.Places s r) (singled (record s { pc = s.npc; npc = p })) ≡ s
+unfolding undone change_saved values_saved restored after_step
+places_saved p s r h = registers_same s _ h refl
+
+bytes_saved : (a : ℕ) (m : List ℕ) (s : State) (r : Saved) → s.sp.halted ≡ false → with_bytes m a (bytes_at s.dmem a 16) ≡ s.dmem
+    → undone (change_saved (of.Bytes a) s r) (singled (advanced (record s { dmem = m }))) ≡ s
+unfolding undone change_saved values_saved restored after_step
+bytes_saved a m s r h e = memory_same s _ h e
+
+-- a row that changes a vector register, and perhaps more
+vector_saved : (n : ℕ) (v : List ℕ) (s : State) (r : Saved) → s.sp.halted ≡ false
+    → undone (change_saved (of.Vector n) s r) (singled (advanced (record s { vectors = with_vector s.vectors n v }))) ≡ s
+unfolding undone change_saved values_saved restored after_step
+vector_saved n v s r h = vectors_same s _ h (vector-back s.vectors n v)
+
+-- a computing row's register
+computed-back : (file : List (List ℕ)) (n vd : ℕ) (v : List ℕ) → vd ≡ n → with_vector (with_vector file n v) vd (vector file n) ≡ file
+computed-back file n vd v w = rw w (vector-back file n v)
+
+product_saved : (n : ℕ) (v : List ℕ) (x : List ℤ) (s : State) (r : Saved) → vd_at s.pc s ≡ n → s.sp.halted ≡ false
+    → undone (change_saved (of.Product n) s r) (singled (advanced (record s { vectors = with_vector s.vectors n v; accumulators = x }))) ≡ s
+unfolding undone change_saved values_saved restored after_step
+product_saved n v x s r w h = vectors_same s _ h (computed-back s.vectors n (vd_at s.pc s) v w)
+
+-- where some flags are written back, the others are those before
+flags_same : (s : State) (v : List (List ℕ)) (f : Flags) → s.sp.halted ≡ false → v ≡ s.vectors → f ≡ s.flags → record s { vectors = v; flags = f; sp = record s.sp { halted = false } } ≡ s
+flags_same s v f h e k = same_state s _ v _ f _ _ _ _ h refl e refl k refl refl refl refl
+
+sum_saved : (n : ℕ) (v : List ℕ) (x : List ℤ) (f : Flags) (s : State) (r : Saved) → vd_at s.pc s ≡ n → s.sp.halted ≡ false → record f { carry = s.flags.carry; differ = s.flags.differ } ≡ s.flags
+    → undone (change_saved (of.Sum n) s r) (singled (advanced (record s { vectors = with_vector s.vectors n v; accumulators = x; flags = f }))) ≡ s
+unfolding undone change_saved values_saved restored after_step
+sum_saved n v x f s r w h e = flags_same s _ _ h (computed-back s.vectors n (vd_at s.pc s) v w) e
+
+choice_saved : (n : ℕ) (v : List ℕ) (x : List ℤ) (f : Flags) (s : State) (r : Saved) → vd_at s.pc s ≡ n → s.sp.halted ≡ false → record s.flags { extra = f.extra } ≡ s.flags
+    → undone (change_saved (of.Choice n) s r) (singled (advanced (record s { vectors = with_vector s.vectors n v; accumulators = x; flags = f }))) ≡ s
+unfolding undone change_saved values_saved restored after_step
+choice_saved n v x f s r w h e = flags_same s _ _ h (computed-back s.vectors n (vd_at s.pc s) v w) e
+
+clip_saved : (n : ℕ) (v : List ℕ) (x : List ℤ) (f : Flags) (s : State) (r : Saved) → vd_at s.pc s ≡ n → s.sp.halted ≡ false
+    → undone (change_saved (of.Clip n) s r) (singled (advanced (record s { vectors = with_vector s.vectors n v; accumulators = x; flags = f }))) ≡ s
+unfolding undone change_saved values_saved restored after_step
+clip_saved n v x f s r w h = vectors_same s _ h (computed-back s.vectors n (vd_at s.pc s) v w)
+
+logic_saved : (n : ℕ) (v : List ℕ) (x : List ℤ) (f : Flags) (s : State) (r : Saved) → vd_at s.pc s ≡ n → s.sp.halted ≡ false → f ≡ s.flags
+    → undone (change_saved (of.Product n) s r) (singled (advanced (record s { vectors = with_vector s.vectors n v; accumulators = x; flags = f }))) ≡ s
+unfolding undone change_saved values_saved restored after_step
+logic_saved n v x f s r w h e = flags_same s _ _ h (computed-back s.vectors n (vd_at s.pc s) v w) e
+
+divide_saved : (n : ℕ) (v : List ℕ) (x : List ℤ) (d : Divider) (s : State) (r : Saved) → vd_at s.pc s ≡ n → s.sp.halted ≡ false
+    → undone (change_saved (of.Divide n) s r) (singled (advanced (record s { vectors = with_vector s.vectors n v; accumulators = x; divider = d }))) ≡ s
+unfolding undone change_saved values_saved restored after_step
+divide_saved n v x d s r w h = vectors_same s _ h (computed-back s.vectors n (vd_at s.pc s) v w)
+
+flags_saved : (f : Flags) (s : State) (r : Saved) → s.sp.halted ≡ false
+    → undone (change_saved of.Flags s r) (singled (advanced (record s { flags = f }))) ≡ s
+unfolding undone change_saved values_saved restored after_step
+flags_saved f s r h = registers_same s _ h refl
+
+-- a row that changes the SP registers and a scalar register; register 0 is none
+sp_saved : (n v : ℕ) (p : Sp) (s : State) (r : Saved) → s.sp.halted ≡ false
+    → undone (change_saved (of.Sp n) s r) (singled (advanced (record s { registers = with_register s.registers n v; sp = p }))) ≡ s
+unfolding undone change_saved values_saved restored after_step
+sp_saved n v p s r h = registers_same s _ h (register-back s.registers n v)
+
+-- a vector load, and a move to an SP register that starts no DMA
+file_saved : (n : ℕ) (v : List (List ℕ)) (s : State) (r : Saved) → s.sp.halted ≡ false → with_vector v n (vector s.vectors n) ≡ s.vectors
+    → undone (change_saved (of.Vector n) s r) (singled (advanced (record s { vectors = v }))) ≡ s
+unfolding undone change_saved values_saved restored after_step
+file_saved n v s r h e = vectors_same s _ h e
+
+group_saved : (n : ℕ) (v : List (List ℕ)) (s : State) (r : Saved) → s.sp.halted ≡ false → with_group v n (group_at s.vectors n) ≡ s.vectors
+    → undone (change_saved (of.Group n) s r) (singled (advanced (record s { vectors = v }))) ≡ s
+unfolding undone change_saved values_saved restored after_step
+group_saved n v s r h e = vectors_same s _ h e
+
+written_saved : (p : Sp) (s : State) (r : Saved) → s.sp.halted ≡ false
+    → undone (change_saved (of.Sp 0) s r) (singled (advanced (record s { sp = p }))) ≡ s
+unfolding undone change_saved values_saved restored after_step
+written_saved p s r h = registers_same s _ h refl
+
+pub neither : (a b : Bool) → (a || b) ≡ false → (a ≡ false) × (b ≡ false)
+neither false b e = (refl, e)
+neither true b e = cc
+
+-- a write that starts no DMA
+no_dma : (n v : ℕ) (s : State) → is_length n ≡ false → register_written n v s ≡ record s { sp = written n v s.sp }
+no_dma n v s e =
+    let k = neither (n % 16 == 2) (n % 16 == 3) e in
+    rw (k.0, k.1) refl
+
+move_saved : (row : MoveRow) (rt n : ℕ) (s : State) (r : Saved) → starts_dma (MoveSp row rt n) ≡ false → s.sp.halted ≡ false
+    → undone (saved_of (MoveSp row rt n) s r) (singled (executed (MoveSp row rt n) s)) ≡ s
+unfolding change_of executed worked moves_sp
+move_saved From rt n s r e h = sp_saved rt _ (after_read n s.sp) s r h
+move_saved To rt n s r e h =
+    let v = register s.registers rt in
+    let P : Bool → Type 0 = λ b. undone (change_saved (if b then of.Dma else of.Sp 0) s r) (singled (register_written n v (advanced s))) ≡ s in
+    subst P (sym e) (ap (λ t. undone (change_saved (of.Sp 0) s r) (singled t)) (no_dma n v (advanced s) e) ∙ written_saved (written n v s.sp) s r h)
+
+load_saved : (group : Bool) (vt : ℕ) (v : List (List ℕ)) (s : State) (r : Saved) → s.sp.halted ≡ false → put_back group vt s.vectors v ≡ s.vectors
+    → undone (change_saved (if group then of.Group (vt - vt % 8) else of.Vector vt) s r) (singled (advanced (record s { vectors = v }))) ≡ s
+load_saved true vt v s r h e = group_saved (vt - vt % 8) v s r h e
+load_saved false vt v s r h e = file_saved vt v s r h e
+
+sign_saved : (row : SignRow) (rs offset p : ℕ) (s : State) (r : Saved) → s.sp.halted ≡ false
+    → undone (change_saved (sign_change row) s r) (singled (record s { pc = s.npc; npc = p; registers = linked (BranchSign row rs offset) s.registers s.npc })) ≡ s
+unfolding undone change_saved values_saved restored after_step
+sign_saved Bltz rs offset p s r h = registers_same s _ h refl
+sign_saved Bgez rs offset p s r h = registers_same s _ h refl
+sign_saved Bltzal rs offset p s r h = registers_same s _ h (register-back s.registers 31 _)
+sign_saved Bgezal rs offset p s r h = registers_same s _ h (register-back s.registers 31 _)
+sign_saved Blez rs offset p s r h = registers_same s _ h refl
+sign_saved Bgtz rs offset p s r h = registers_same s _ h refl
+
+jump_saved : (row : JumpRow) (target p : ℕ) (s : State) (r : Saved) → s.sp.halted ≡ false
+    → undone (change_saved (jump_change row) s r) (singled (record s { pc = s.npc; npc = p; registers = linked (Jump row target) s.registers s.npc })) ≡ s
+unfolding undone change_saved values_saved restored after_step
+jump_saved J target p s r h = registers_same s _ h refl
+jump_saved Jal target p s r h = registers_same s _ h (register-back s.registers 31 _)
+
+vector_move_saved : (row : MoveRow) (rt n e : ℕ) (s : State) (r : Saved) → s.sp.halted ≡ false
+    → undone (saved_of (MoveVector row rt n e) s r) (singled (executed (MoveVector row rt n e) s)) ≡ s
+unfolding change_of executed worked moves_vector moved_file
+vector_move_saved From rt n e s r h = register_saved rt _ (going_on s.npc) s r h
+vector_move_saved To rt n e s r h = vector_saved n _ s r h
+
+control_move_saved : (row : MoveRow) (rt : ℕ) (control : Control) (s : State) (r : Saved) → s.sp.halted ≡ false
+    → undone (saved_of (MoveControl row rt control) s r) (singled (executed (MoveControl row rt control) s)) ≡ s
+unfolding change_of executed worked moves_control
+control_move_saved From rt control s r h = register_saved rt _ (going_on s.npc) s r h
+control_move_saved To rt control s r h = flags_saved _ s r h
+
+-- any instruction that starts no DMA
+saved_back : (i : Inst) (s : State) (r : Saved) → starts_dma i ≡ false → s.sp.halted ≡ false → AreFlags s.flags → inst_of (word_at s.imem s.pc) ≡ Some i → undone (saved_of i s r) (singled (executed i s)) ≡ s
+unfolding change_of executed worked computes loads stores jumps break_instruction multiplies rounds multiplies_mpeg reads_accumulator ruled divides loads_vector stores_vector loaded_file stored_memory
+saved_back (Shift row rd rt amount) s r e h k o = register_saved rd _ (going_on s.npc) s r h
+saved_back (ShiftBy row f) s r e h k o = register_saved f.rd _ (going_on s.npc) s r h
+saved_back (Register row f) s r e h k o = register_saved f.rd _ (going_on s.npc) s r h
+saved_back (Immediate row rt rs imm) s r e h k o = register_saved rt _ (going_on s.npc) s r h
+saved_back (LoadUpper rt imm) s r e h k o = register_saved rt _ (going_on s.npc) s r h
+saved_back (Load row f) s r e h k o = register_saved f.rt _ (going_on s.npc) s r h
+saved_back (Store row f) s r e h k o = bytes_saved (address s.registers f.base f.offset) _ s r h (store-back row s.dmem (address s.registers f.base f.offset) (register s.registers f.rt))
+saved_back (JumpRegister rs) s r e h k o = places_saved _ s r h
+saved_back (JumpLinkRegister rd rs) s r e h k o = register_saved rd _ _ s r h
+saved_back (BranchSign row rs offset) s r e h k o = sign_saved row rs offset _ s r h
+saved_back (BranchEqual row rs rt offset) s r e h k o = places_saved _ s r h
+saved_back (Jump row target) s r e h k o = jump_saved row target _ s r h
+saved_back Break s r e h k o = sp_saved 0 0 _ s r h
+saved_back (MoveSp row rt n) s r e h k o = move_saved row rt n s r e h
+saved_back (MoveVector row rt n element) s r e h k o = vector_move_saved row rt n element s r h
+saved_back (MoveControl row rt control) s r e h k o = control_move_saved row rt control s r h
+saved_back (Multiply row f) s r e h k o = product_saved f.vd _ _ s r (ap vd_in o) h
+saved_back (Round row f) s r e h k o = product_saved f.vd _ _ s r (ap vd_in o) h
+saved_back (MpegMultiply row f) s r e h k o = product_saved f.vd _ _ s r (ap vd_in o) h
+saved_back (ReadAccumulator f) s r e h k o = vector_saved f.vd _ s r h
+saved_back (VectorAdd row f) s r e h k o = sum_saved f.vd _ _ _ s r (ap vd_in o) h (sum-back row _ _ s.flags k)
+saved_back (VectorSelect row f) s r e h k o = choice_saved f.vd _ _ _ s r (ap vd_in o) h (choice-back row _ _ s.flags k)
+saved_back (VectorClip row f) s r e h k o = clip_saved f.vd _ _ _ s r (ap vd_in o) h
+saved_back (VectorMerge f) s r e h k o = sum_saved f.vd _ _ _ s r (ap vd_in o) h (merge-back _ _ s.flags k)
+saved_back (VectorLogic row f) s r e h k o = logic_saved f.vd _ _ _ s r (ap vd_in o) h (logic-back row _ _ s.flags k)
+saved_back (Divide row vd lane vt n) s r e h k o = divide_saved vd _ _ _ s r (ap vd_in o) h
+saved_back (Idle row) s r e h k o = places_saved _ s r h
+saved_back (VectorLoad row f) s r e h k o =
+    load_saved (writes_group row) f.vt _ s r h (loaded-back row s.dmem s.vectors f.vt f.element (transfer_address (VectorLoad row f) (register s.registers f.base)))
+saved_back (VectorStore row f) s r e h k o =
+    let a : ℕ = transfer_address (VectorStore row f) (register s.registers f.base) in
+    bytes_saved (window_of row a) _ s r h (stored-back row f.vt f.element a s.vectors s.dmem)
+
+-- any step that can be undone
+not_true : (b : Bool) → not b ≡ true → b ≡ false
+not_true false e = refl
+not_true true e = cc
+
+word_back : (o : Option Inst) (word : ℕ) (s : State) (r : Saved) → inst_of (word_at s.imem s.pc) ≡ o → s.sp.halted ≡ false → AreFlags s.flags → is_back_by o ≡ true → undone (saved_by o s r) (step_by o word s).1 ≡ s
+word_back None word s r w h k e = cc
+word_back (Some i) word s r w h k e = saved_back i s r (not_true (starts_dma i) e) h k w
+
+either_back : (b : Bool) (o : Option Inst) (word : ℕ) (s : State) (r : Saved) → inst_of (word_at s.imem s.pc) ≡ o → s.sp.halted ≡ b → AreFlags s.flags → (if b then false else is_back_by o) ≡ true
+    → undone (if b then r else saved_by o s r) (if b then (Halted, s) else step_by o word s).1 ≡ s
+either_back true o word s r w h k e = cc
+either_back false o word s r w h k e = word_back o word s r w h k e
+
+pub record_back : (s : State) (r : Saved) → AreFlags s.flags → can_undo s ≡ true → undone (record_after s r) (step_of s).1 ≡ s
+unfolding can_undo record_after told_of step_of
+record_back s r k e = either_back s.sp.halted (inst_of (word_at s.imem s.pc)) (word_at s.imem s.pc) s r refl refl k e
+
+-- the mark in the record tells whether an instruction can be undone
+load_marked : (group : Bool) (vt : ℕ) (s : State) (r : Saved) → is_back (change_saved (if group then of.Group (vt - vt % 8) else of.Vector vt) s r).change ≡ true
+unfolding change_saved values_saved
+load_marked true vt s r = refl
+load_marked false vt s r = refl
+
+move_marked : (b : Bool) (s : State) (r : Saved) → is_back (change_saved (if b then of.Dma else of.Sp 0) s r).change ≡ not b
+unfolding change_saved values_saved
+move_marked true s r = refl
+move_marked false s r = refl
+
+sign_marked : (row : SignRow) (s : State) (r : Saved) → is_back (change_saved (sign_change row) s r).change ≡ true
+unfolding change_saved values_saved
+sign_marked Bltz s r = refl
+sign_marked Bgez s r = refl
+sign_marked Bltzal s r = refl
+sign_marked Bgezal s r = refl
+sign_marked Blez s r = refl
+sign_marked Bgtz s r = refl
+
+jump_marked : (row : JumpRow) (s : State) (r : Saved) → is_back (change_saved (jump_change row) s r).change ≡ true
+unfolding change_saved values_saved
+jump_marked J s r = refl
+jump_marked Jal s r = refl
+
+pub saved_marked : (i : Inst) (s : State) (r : Saved) → is_back (saved_of i s r).change ≡ not (starts_dma i)
+unfolding change_of change_saved values_saved
+saved_marked (Shift row rd rt amount) s r = refl
+saved_marked (ShiftBy row f) s r = refl
+saved_marked (Register row f) s r = refl
+saved_marked (Immediate row rt rs imm) s r = refl
+saved_marked (LoadUpper rt imm) s r = refl
+saved_marked (Load row f) s r = refl
+saved_marked (Store row f) s r = refl
+saved_marked (JumpRegister rs) s r = refl
+saved_marked (JumpLinkRegister rd rs) s r = refl
+saved_marked (BranchSign row rs offset) s r = sign_marked row s r
+saved_marked (BranchEqual row rs rt offset) s r = refl
+saved_marked (Jump row target) s r = jump_marked row s r
+saved_marked Break s r = refl
+saved_marked (MoveSp From rt n) s r = refl
+saved_marked (MoveSp To rt n) s r = move_marked (is_length n) s r
+saved_marked (MoveVector From rt n element) s r = refl
+saved_marked (MoveVector To rt n element) s r = refl
+saved_marked (MoveControl From rt control) s r = refl
+saved_marked (MoveControl To rt control) s r = refl
+saved_marked (Multiply row f) s r = refl
+saved_marked (Round row f) s r = refl
+saved_marked (MpegMultiply row f) s r = refl
+saved_marked (ReadAccumulator f) s r = refl
+saved_marked (VectorAdd row f) s r = refl
+saved_marked (VectorSelect row f) s r = refl
+saved_marked (VectorClip row f) s r = refl
+saved_marked (VectorMerge f) s r = refl
+saved_marked (VectorLogic row f) s r = refl
+saved_marked (Divide row vd lane vt n) s r = refl
+saved_marked (Idle row) s r = refl
+saved_marked (VectorLoad row f) s r = load_marked (writes_group row) f.vt s r
+saved_marked (VectorStore row f) s r = refl
+
+-- after a step that is Done the mark in the record tells; after another one there is no way back
+done_by : (b : Bool) (o : Option Inst) (word : ℕ) (s : State) (r : Saved) → (if b then (Halted, s) else step_by o word s).0 ≡ Done
+    → (if b then false else is_back_by o) ≡ is_back (if b then r else saved_by o s r).change
+done_by true o word s r e = cc
+done_by false None word s r e = cc
+done_by false (Some i) word s r e = sym (saved_marked i s r)
+
+halted_by : (b : Bool) (o : Option Inst) (word : ℕ) (s : State) → (if b then (Halted, s) else step_by o word s).0 ≡ Halted → (if b then false else is_back_by o) ≡ false
+halted_by true o word s e = refl
+halted_by false None word s e = refl
+halted_by false (Some i) word s e = cc
+
+reserved_by : (b : Bool) (o : Option Inst) (word w : ℕ) (s : State) → (if b then (Halted, s) else step_by o word s).0 ≡ Reserved w → (if b then false else is_back_by o) ≡ false
+reserved_by true o word w s e = refl
+reserved_by false None word w s e = refl
+reserved_by false (Some i) word w s e = cc
+
+pub done_marked : (s : State) (r : Saved) → (step_of s).0 ≡ Done → can_undo s ≡ is_back (record_after s r).change
+unfolding can_undo record_after told_of step_of
+done_marked s r e = done_by s.sp.halted (inst_of (word_at s.imem s.pc)) (word_at s.imem s.pc) s r e
+
+pub halted_marked : (s : State) → (step_of s).0 ≡ Halted → can_undo s ≡ false
+unfolding can_undo step_of
+halted_marked s e = halted_by s.sp.halted (inst_of (word_at s.imem s.pc)) (word_at s.imem s.pc) s e
+
+pub reserved_marked : (s : State) (w : ℕ) → (step_of s).0 ≡ Reserved w → can_undo s ≡ false
+unfolding can_undo step_of
+reserved_marked s w e = reserved_by s.sp.halted (inst_of (word_at s.imem s.pc)) (word_at s.imem s.pc) w s e
+
+-- a step whose record says that it stored nothing leaves DMEM
+written_stays : (b : Bool) (v n : ℕ) (s : State) (r : Saved) → is_length n ≡ b → may_store (change_saved (if b then of.Dma else of.Sp 0) s r) ≡ false
+    → (register_written n v (advanced s)).dmem ≡ s.dmem
+unfolding change_saved values_saved
+written_stays true v n s r e h = cc
+written_stays false v n s r e h = ap (λ t. t.dmem) (no_dma n v (advanced s) e)
+
+saved_stays : (i : Inst) (s : State) (r : Saved) → may_store (saved_of i s r) ≡ false → (executed i s).dmem ≡ s.dmem
+unfolding change_of executed worked computes loads stores jumps break_instruction moves_sp multiplies rounds multiplies_mpeg reads_accumulator ruled divides loads_vector stores_vector moves_vector moves_control change_saved values_saved
+saved_stays (Shift row rd rt amount) s r h = refl
+saved_stays (ShiftBy row f) s r h = refl
+saved_stays (Register row f) s r h = refl
+saved_stays (Immediate row rt rs imm) s r h = refl
+saved_stays (LoadUpper rt imm) s r h = refl
+saved_stays (Load row f) s r h = refl
+saved_stays (Store row f) s r h = cc
+saved_stays (JumpRegister rs) s r h = refl
+saved_stays (JumpLinkRegister rd rs) s r h = refl
+saved_stays (BranchSign row rs offset) s r h = refl
+saved_stays (BranchEqual row rs rt offset) s r h = refl
+saved_stays (Jump row target) s r h = refl
+saved_stays Break s r h = refl
+saved_stays (MoveSp From rt n) s r h = refl
+saved_stays (MoveSp To rt n) s r h = written_stays (is_length n) (register s.registers rt) n s r refl h
+saved_stays (MoveVector From rt n element) s r h = refl
+saved_stays (MoveVector To rt n element) s r h = refl
+saved_stays (MoveControl From rt control) s r h = refl
+saved_stays (MoveControl To rt control) s r h = refl
+saved_stays (Multiply row f) s r h = refl
+saved_stays (Round row f) s r h = refl
+saved_stays (MpegMultiply row f) s r h = refl
+saved_stays (ReadAccumulator f) s r h = refl
+saved_stays (VectorAdd row f) s r h = refl
+saved_stays (VectorSelect row f) s r h = refl
+saved_stays (VectorClip row f) s r h = refl
+saved_stays (VectorMerge f) s r h = refl
+saved_stays (VectorLogic row f) s r h = refl
+saved_stays (Divide row vd lane vt n) s r h = refl
+saved_stays (Idle row) s r h = refl
+saved_stays (VectorLoad row f) s r h = refl
+saved_stays (VectorStore row f) s r h = cc
+
+stays_by : (b : Bool) (o : Option Inst) (word : ℕ) (s : State) (r : Saved) → (if b then (Halted, s) else step_by o word s).0 ≡ Done
+    → may_store (if b then r else saved_by o s r) ≡ false → (if b then (Halted, s) else step_by o word s).1.dmem ≡ s.dmem
+stays_by true o word s r e h = cc
+stays_by false None word s r e h = cc
+stays_by false (Some i) word s r e h = saved_stays i s r h
+
+pub memory_stays : (s : State) (r : Saved) → (step_of s).0 ≡ Done → may_store (record_after s r) ≡ false → (step_of s).1.dmem ≡ s.dmem
+unfolding record_after told_of step_of
+memory_stays s r e h = stays_by s.sp.halted (inst_of (word_at s.imem s.pc)) (word_at s.imem s.pc) s r e h
+
+pub ruleset recording = (record_back, done_marked, halted_marked, reserved_marked, memory_stays)
+
+-- a step that isn't Done leaves all as it is
+halted_stays_by : (b : Bool) (o : Option Inst) (word : ℕ) (s : State) (r : Saved) → (if b then (Halted, s) else step_by o word s).0 ≡ Halted
+    → ((if b then (Halted, s) else step_by o word s).1 ≡ s) × ((if b then r else saved_by o s r) ≡ r)
+halted_stays_by true o word s r e = (refl, refl)
+halted_stays_by false None word s r e = (refl, refl)
+halted_stays_by false (Some i) word s r e = cc
+
+reserved_stays_by : (b : Bool) (o : Option Inst) (word w : ℕ) (s : State) (r : Saved) → (if b then (Halted, s) else step_by o word s).0 ≡ Reserved w
+    → ((if b then (Halted, s) else step_by o word s).1 ≡ s) × ((if b then r else saved_by o s r) ≡ r)
+reserved_stays_by true o word w s r e = (refl, refl)
+reserved_stays_by false None word w s r e = (refl, refl)
+reserved_stays_by false (Some i) word w s r e = cc
+
+pub halted_stays : (s : State) (r : Saved) → (step_of s).0 ≡ Halted → ((step_of s).1 ≡ s) × (record_after s r ≡ r)
+unfolding record_after told_of step_of
+halted_stays s r e = halted_stays_by s.sp.halted (inst_of (word_at s.imem s.pc)) (word_at s.imem s.pc) s r e
+
+pub reserved_stays : (s : State) (r : Saved) (w : ℕ) → (step_of s).0 ≡ Reserved w → ((step_of s).1 ≡ s) × (record_after s r ≡ r)
+unfolding record_after told_of step_of
+reserved_stays s r w e = reserved_stays_by s.sp.halted (inst_of (word_at s.imem s.pc)) (word_at s.imem s.pc) w s r e

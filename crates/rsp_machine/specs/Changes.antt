@@ -1,0 +1,37 @@
+-- Scaffolding of proofs: what the code asks of a change. Saved has the meaning.
+use Rattle.std.specs.Prelude.{ℕ, ◌+◌, ◌<◌, Bool, true, false, Option}
+use Rattle.rsp_decode.specs.declared.inst.Inst.{Inst}
+use Rattle.rsp_machine.specs.State.{State}
+use Rattle.rsp_machine.specs.Saved.{Saved, change_of, change_saved, told_by}
+use Rattle.rsp_machine.specs.declared.change.Change.{Change}
+use Rattle.rsp_machine.specs.declared.change.Change.TheVariants as of
+
+-- the last register that a change names
+abbrev pub last_register : Change → ℕ
+last_register (of.Register n) = n
+last_register (of.Vector n) = n
+last_register (of.Group n) = n + 7
+last_register (of.Product n) = n
+last_register (of.Sum n) = n
+last_register (of.Choice n) = n
+last_register (of.Clip n) = n
+last_register (of.Divide n) = n
+last_register (of.Sp n) = n
+last_register _ = 0
+
+abbrev pub IsChange : Change → Type 0
+IsChange change = last_register change < 32
+
+-- whether an instruction with a change may have read or written the SP registers; any other leaves them
+abbrev pub reaches_sp : Change → Bool
+reaches_sp (of.Sp n) = true
+reaches_sp of.Dma = true
+reaches_sp _ = false
+
+-- a record after it was told of an instruction
+abbrev pub saved_of : Inst → State → Saved → Saved
+saved_of i s r = change_saved (change_of i s) s r
+
+-- and of that of a word, where there is one
+abbrev pub saved_by : Option Inst → State → Saved → Saved
+saved_by o s r = told_by change_saved o s r
