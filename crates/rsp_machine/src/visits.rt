@@ -68,6 +68,7 @@ impl<'a, A: Acc, K: Saver, const APART: bool> Executor<'a, A, K, APART> {
     }
 }
 
+#[tactic(auto, unfolding(crate::specs::Step::worked, crate::specs::Saved::change_of))]
 impl<'a, A: Acc, K: Saver, const APART: bool> Visitor for Executor<'a, A, K, APART> {
     ghost use Rattle.rsp_machine.specs.State.{taken_back};
     ghost use Rattle.rsp_machine.specs.Step.{worked};
@@ -84,7 +85,6 @@ impl<'a, A: Acc, K: Saver, const APART: bool> Visitor for Executor<'a, A, K, APA
         } };
 
     #[inline(always)]
-    #[tactic(auto, unfolding(crate::specs::Step::worked, crate::specs::Saved::change_of))]
     fn shift(&mut self, row: ShiftRow, rd: u8, rt: u8, amount: u8) {
         self.save(Change::Register(u32::from(rd)));
         self.machine.compute(&Inst::Shift {
@@ -96,49 +96,42 @@ impl<'a, A: Acc, K: Saver, const APART: bool> Visitor for Executor<'a, A, K, APA
     }
 
     #[inline(always)]
-    #[tactic(auto, unfolding(crate::specs::Step::worked, crate::specs::Saved::change_of))]
     fn shift_by(&mut self, row: ShiftByRow, fields: RegisterFields) {
         self.save(Change::Register(u32::from(fields.rd)));
         self.machine.compute(&Inst::ShiftBy { row, fields });
     }
 
     #[inline(always)]
-    #[tactic(auto, unfolding(crate::specs::Step::worked, crate::specs::Saved::change_of))]
     fn jump_register(&mut self, rs: u8) {
         self.save(Change::Places);
         self.machine.go_to(&Inst::JumpRegister { rs });
     }
 
     #[inline(always)]
-    #[tactic(auto, unfolding(crate::specs::Step::worked, crate::specs::Saved::change_of))]
     fn jump_link_register(&mut self, rd: u8, rs: u8) {
         self.save(Change::Register(u32::from(rd)));
         self.machine.go_to(&Inst::JumpLinkRegister { rd, rs });
     }
 
     #[inline(always)]
-    #[tactic(auto, unfolding(crate::specs::Step::worked, crate::specs::Saved::change_of))]
     fn break_instruction(&mut self) {
         self.save(Change::Sp(0));
         self.machine.break_instruction();
     }
 
     #[inline(always)]
-    #[tactic(auto, unfolding(crate::specs::Step::worked, crate::specs::Saved::change_of))]
     fn register(&mut self, row: RegisterRow, fields: RegisterFields) {
         self.save(Change::Register(u32::from(fields.rd)));
         self.machine.compute(&Inst::Register { row, fields });
     }
 
     #[inline(always)]
-    #[tactic(auto, unfolding(crate::specs::Step::worked, crate::specs::Saved::change_of))]
     fn branch_sign(&mut self, row: SignRow, rs: u8, offset: u16) {
         self.save(sign_change(row));
         self.machine.go_to(&Inst::BranchSign { row, rs, offset });
     }
 
     #[inline(always)]
-    #[tactic(auto, unfolding(crate::specs::Step::worked, crate::specs::Saved::change_of))]
     fn branch_equal(&mut self, row: EqualRow, rs: u8, rt: u8, offset: u16) {
         self.save(Change::Places);
         self.machine.go_to(&Inst::BranchEqual {
@@ -150,35 +143,30 @@ impl<'a, A: Acc, K: Saver, const APART: bool> Visitor for Executor<'a, A, K, APA
     }
 
     #[inline(always)]
-    #[tactic(auto, unfolding(crate::specs::Step::worked, crate::specs::Saved::change_of))]
     fn jump(&mut self, row: JumpRow, target: u16) {
         self.save(jump_change(row));
         self.machine.go_to(&Inst::Jump { row, target });
     }
 
     #[inline(always)]
-    #[tactic(auto, unfolding(crate::specs::Step::worked, crate::specs::Saved::change_of))]
     fn immediate(&mut self, row: ImmediateRow, rt: u8, rs: u8, imm: u16) {
         self.save(Change::Register(u32::from(rt)));
         self.machine.compute(&Inst::Immediate { row, rt, rs, imm });
     }
 
     #[inline(always)]
-    #[tactic(auto, unfolding(crate::specs::Step::worked, crate::specs::Saved::change_of))]
     fn load_upper(&mut self, rt: u8, imm: u16) {
         self.save(Change::Register(u32::from(rt)));
         self.machine.compute(&Inst::LoadUpper { rt, imm });
     }
 
     #[inline(always)]
-    #[tactic(auto, unfolding(crate::specs::Step::worked, crate::specs::Saved::change_of))]
     fn load(&mut self, row: LoadRow, fields: ScalarMemoryFields) {
         self.save(Change::Register(u32::from(fields.rt)));
         self.machine.load_scalar(&Inst::Load { row, fields });
     }
 
     #[inline(always)]
-    #[tactic(auto, unfolding(crate::specs::Step::worked, crate::specs::Saved::change_of))]
     fn store(&mut self, row: StoreRow, fields: ScalarMemoryFields) {
         let change = self.machine.stored_change(fields);
         self.save(change);
@@ -186,14 +174,12 @@ impl<'a, A: Acc, K: Saver, const APART: bool> Visitor for Executor<'a, A, K, APA
     }
 
     #[inline(always)]
-    #[tactic(auto, unfolding(crate::specs::Step::worked, crate::specs::Saved::change_of))]
     fn move_sp(&mut self, row: MoveRow, rt: u8, register: u8) {
         self.save(sp_move_change(row, rt, register));
         self.machine.move_sp_register(row, rt, register);
     }
 
     #[inline(always)]
-    #[tactic(auto, unfolding(crate::specs::Step::worked, crate::specs::Saved::change_of))]
     fn move_vector(&mut self, row: MoveRow, rt: u8, vector: u8, element: u8) {
         self.save(vector_move_change(row, rt, vector));
         self.machine.move_lanes(
@@ -209,7 +195,6 @@ impl<'a, A: Acc, K: Saver, const APART: bool> Visitor for Executor<'a, A, K, APA
     }
 
     #[inline(always)]
-    #[tactic(auto, unfolding(crate::specs::Step::worked, crate::specs::Saved::change_of))]
     fn move_control(&mut self, row: MoveRow, rt: u8, control: Control) {
         self.save(control_move_change(row, rt));
         self.machine
@@ -217,90 +202,77 @@ impl<'a, A: Acc, K: Saver, const APART: bool> Visitor for Executor<'a, A, K, APA
     }
 
     #[inline(always)]
-    #[tactic(auto, unfolding(crate::specs::Step::worked, crate::specs::Saved::change_of))]
     fn multiply(&mut self, row: MultiplyRow, fields: VectorFields) {
         self.save(Change::Product(u32::from(fields.vd)));
         self.machine.multiply_lanes(row, fields);
     }
 
     #[inline(always)]
-    #[tactic(auto, unfolding(crate::specs::Step::worked, crate::specs::Saved::change_of))]
     fn round(&mut self, row: RoundRow, fields: VectorFields) {
         self.save(Change::Product(u32::from(fields.vd)));
         self.machine.round_lanes(row, fields);
     }
 
     #[inline(always)]
-    #[tactic(auto, unfolding(crate::specs::Step::worked, crate::specs::Saved::change_of))]
     fn mpeg_multiply(&mut self, row: MpegRow, fields: VectorFields) {
         self.save(Change::Product(u32::from(fields.vd)));
         self.machine.multiply_mpeg(row, fields);
     }
 
     #[inline(always)]
-    #[tactic(auto, unfolding(crate::specs::Step::worked, crate::specs::Saved::change_of))]
     fn read_accumulator(&mut self, fields: VectorFields) {
         self.save(Change::Vector(u32::from(fields.vd)));
         self.machine.read_part(fields);
     }
 
     #[inline(always)]
-    #[tactic(auto, unfolding(crate::specs::Step::worked, crate::specs::Saved::change_of))]
     fn vector_add(&mut self, row: VectorAddRow, fields: VectorFields) {
         self.save(Change::Sum(u32::from(fields.vd)));
         self.machine.compute_lanes(row, fields);
     }
 
     #[inline(always)]
-    #[tactic(auto, unfolding(crate::specs::Step::worked, crate::specs::Saved::change_of))]
     fn vector_select(&mut self, row: VectorSelectRow, fields: VectorFields) {
         self.save(Change::Choice(u32::from(fields.vd)));
         self.machine.compute_lanes(row, fields);
     }
 
     #[inline(always)]
-    #[tactic(auto, unfolding(crate::specs::Step::worked, crate::specs::Saved::change_of))]
     fn vector_clip(&mut self, row: VectorClipRow, fields: VectorFields) {
         self.save(Change::Clip(u32::from(fields.vd)));
         self.machine.compute_lanes(row, fields);
     }
 
     #[inline(always)]
-    #[tactic(auto, unfolding(crate::specs::Step::worked, crate::specs::Saved::change_of))]
     fn vector_merge(&mut self, fields: VectorFields) {
         self.save(Change::Sum(u32::from(fields.vd)));
         self.machine.compute_lanes(MergeOp::Vmrg, fields);
     }
 
     #[inline(always)]
-    #[tactic(auto, unfolding(crate::specs::Step::worked, crate::specs::Saved::change_of))]
     fn vector_logic(&mut self, row: VectorLogicRow, fields: VectorFields) {
         self.save(Change::Product(u32::from(fields.vd)));
         self.machine.compute_lanes(row, fields);
     }
 
     #[inline(always)]
-    #[tactic(auto, unfolding(crate::specs::Step::worked, crate::specs::Saved::change_of))]
     fn divide(&mut self, row: DivideRow, vd: u8, lane: u8, vt: u8, element: u8) {
         self.save(Change::Divide(u32::from(vd)));
         self.machine.divide(row, vd, lane, vt, element);
     }
 
     #[inline(always)]
-    #[tactic(auto, unfolding(crate::specs::Step::worked, crate::specs::Saved::change_of))]
     fn idle(&mut self, _row: IdleRow) {
         self.save(Change::Places);
     }
 
     #[inline(always)]
-    #[tactic(auto, unfolding(crate::specs::Step::worked, crate::specs::Saved::change_of))]
     fn vector_load(&mut self, row: VectorLoadRow, fields: VectorMemoryFields) {
         self.save(loaded_change(row, fields.vt));
         self.machine.load_register(row, fields);
     }
 
     #[inline(always)]
-    #[tactic(auto, unfolding(crate::specs::Step::worked, crate::specs::Saved::change_of))]
     fn vector_store(&mut self, row: VectorStoreRow, fields: VectorMemoryFields) {
         let change = self.machine.window_change(row, fields);
         self.save(change);
