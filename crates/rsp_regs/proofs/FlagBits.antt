@@ -1,5 +1,5 @@
 -- One bit of a word that masks and shifts made, and words that have no bit but those of flags.
-use Rattle.std.proofs.Common.{◌≡◌, ℕ, suc, ◌+◌, ◌-◌, ◌/◌, ◌%◌, ◌^◌, ◌<◌, Bool, true, false, ◌||◌, ◌&&◌, List, map, length, nat_eq, min, max, bit_and, bit_or, w32, sym, ap, ◌∙◌, refl, arith}
+use Rattle.std.proofs.Common.{◌≡◌, ◌≢◌, ℕ, suc, ◌+◌, ◌-◌, ◌/◌, ◌%◌, ◌^◌, ◌<◌, Bool, true, false, not, ◌||◌, ◌&&◌, List, map, length, nat_eq, min, max, bit_and, bit_or, w32, sym, ap, ◌∙◌, refl, arith}
 use Rattle.std.specs.Prelude.{bit_xor, if◌then◌else◌}
 use Rattle.std.specs.Int.{bit_at}
 use Rattle.std.specs.List.{range_with_len}
@@ -20,11 +20,6 @@ both a b g h = grind (arith, nat_tests)
 
 one_of : (a b : ℕ) → a < 2 → b < 2 → nat_eq (max a b) 1 ≡ if nat_eq b 1 then true else nat_eq a 1
 one_of a b g h = grind (arith, nat_tests)
-
--- a bit as the code tests it
-pub bit_is : (f k : ℕ) (b c : Bool) → b ≡ bit_set f k → b ≡ c → has_bit f k ≡ c
-unfolding has_bit
-bit_is f k b c e h = sym e ∙ h
 
 pub bit-or : (a b i : ℕ) → has_bit (bit_or a b) i ≡ (has_bit a i || has_bit b i)
 unfolding has_bit
@@ -187,6 +182,30 @@ more_bits n k m r apart e =
     let split : bit_and n (2 ^ k + m) ≡ bit_or (flag (has_bit n k) (2 ^ k)) (bit_and n m) = ap (bit_and n) (sym (or_disjoint (2 ^ k) m apart)) ∙ more_flags n k m (bit_and n m) refl in
     let none : bit_and (flag (has_bit n k) (2 ^ k)) (bit_and n m) ≡ 0 = rw (← one_flag n k) (apart_under n (2 ^ k) m apart) in
     split ∙ or_disjoint (flag (has_bit n k) (2 ^ k)) (bit_and n m) none ∙ ap (λ x. flag (has_bit n k) (2 ^ k) + x) e
+
+-- flags as masks test them
+any_of : (a b : Bool) → not (nat_eq (flag a 1 + flag b 32) 0) ≡ (a || b)
+any_of true true = refl
+any_of true false = refl
+any_of false true = refl
+any_of false false = refl
+
+pub is_held : (f : ℕ) → not (nat_eq (bit_and f 33) 0) ≡ (has_bit f 0 || has_bit f 5)
+is_held f = ap (λ x. not (nat_eq x 0)) (more_bits f 0 32 _ refl (one_flag f 5)) ∙ any_of (has_bit f 0) (has_bit f 5)
+
+stays_set : (b : Bool) (n : ℕ) → n ≡ flag b 32 → n ≢ 0 → b ≡ true
+stays_set true n e h = refl
+stays_set false n e h = absurd (h e)
+
+stays_clear : (b : Bool) (n : ℕ) → n ≡ flag b 32 → n ≡ 0 → b ≡ false
+stays_clear true n e h = absurd (omega arith)
+stays_clear false n e h = refl
+
+pub is_single_step : (f : ℕ) → bit_and f 32 ≢ 0 → has_bit f 5 ≡ true
+is_single_step f h = stays_set (has_bit f 5) (bit_and f 32) (one_flag f 5) h
+
+pub isnt_single_step : (f : ℕ) → bit_and f 32 ≡ 0 → has_bit f 5 ≡ false
+isnt_single_step f h = stays_clear (has_bit f 5) (bit_and f 32) (one_flag f 5) h
 
 within_mask : (mask x m : ℕ) → bit_and m mask ≡ m → IsWithin mask (bit_and x m)
 within_mask mask x m h = within_right mask x m (record { kept = h })

@@ -192,11 +192,10 @@ impl SpRegs {
 
     /// Whether the processor is halted, or will be after one instruction.
     #[inline(always)]
-    #[tactic(auto, unfolding(crate::specs::Flags::has_bit))]
     pub fn is_held(&self) -> bool
         ensures { result ≡ (self.now.halted || self.now.single_step) }
     {
-        bit_set(self.flags, HALTED) || bit_set(self.flags, SINGLE_STEP)
+        self.flags & (1 << HALTED | 1 << SINGLE_STEP) != 0
     }
 
     /// The interrupt flag.
@@ -274,7 +273,7 @@ impl SpRegs {
     pub fn on_step(&mut self)
         ensures { self.new ≡ after_step self.old }
     {
-        if bit_set(self.flags, SINGLE_STEP) {
+        if self.flags & 1 << SINGLE_STEP != 0 {
             self.flags |= 1 << HALTED;
         }
     }
