@@ -1,5 +1,5 @@
 -- Scaffolding of proofs: the flags as bits of one word, each at the bit that clears it in a write of SP_STATUS.
-use Rattle.std.specs.Prelude.{ℕ, ◌+◌, ◌*◌, ◌^◌, ◌≡◌, ◌<◌, ◌==◌, Bool, List, map, bit_and, bit_or}
+use Rattle.std.specs.Prelude.{ℕ, ◌+◌, ◌*◌, ◌^◌, ◌≡◌, ◌<◌, ◌==◌, ◌||◌, Bool, List, map, bit_and, bit_or}
 use Rattle.std.proofs.Common.{zero, suc, sym, ◌∙◌, refl, arith}
 use Rattle.std.specs.List.{range_with_len}
 use Rattle.std.specs.Int.{bit_at}
@@ -63,3 +63,8 @@ word_again f h =
     (more_flags f 9 11184128 _ (more_flags f 11 11182080 _ (more_flags f 13 11173888 _ (more_flags f 15 11141120 _ (more_flags f 17 11010048 _
     (more_flags f 19 10485760 _ (more_flags f 21 8388608 _ (one_flag f 23)))))))))))))
     ∙ h.kept
+
+-- so is it beside the test of two of them
+pub both_again : (f : ℕ) (held : Bool) → AreFlags f → held ≡ (has_bit f 0 || has_bit f 5)
+    → ◌≡◌ {A = ℕ × Bool} (word_of (has_bit f 0) (has_bit f 2) (has_bit f 3) (has_bit f 5) (has_bit f 7) (signals_of f), has_bit f 0 || has_bit f 5) (f, held)
+both_again f held h e = rw (word_again f h, e) refl

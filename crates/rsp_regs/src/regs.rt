@@ -1,6 +1,6 @@
 ghost use Rattle.std.specs.Prelude.{◌≡◌, ◌%◌, ◌==◌, ◌||◌, ◌<◌, ◌^◌, ℕ, if◌then◌else◌, slice_index, length, false};
 ghost use Rattle.rsp_regs.specs.Dma.{IsTransfer, AreWhole};
-ghost use Rattle.rsp_regs.specs.Flags.{word_of};
+ghost use Rattle.rsp_regs.specs.Flags.{has_bit, word_of};
 ghost use Rattle.rsp_regs.specs.Parts.{parts_of, sp_of};
 ghost use Rattle.rsp_regs.specs.Sp.{AreKept, IsSp, start, status, peeked, after_read, status_written, transfer, after_dma, written, dmem_from_rdram, imem_from_rdram, rdram_from_bank, after_break, after_step, after_task};
 
@@ -38,15 +38,17 @@ pub struct SpRegs {
     skip: u32,
     /// Halted, broke, the interrupt flag, single step, intbreak and the signals.
     flags: u32,
+    /// Halted or single step, kept so that a step tests one value.
+    is_held: bool,
     semaphore: bool,
     dpc: [u32; 8],
 }
 
 impl Model for SpRegs {
-    ghost use Rattle.std.specs.Prelude.{◌≡◌};
+    ghost use Rattle.std.specs.Prelude.{◌≡◌, ◌||◌};
     ghost use Rattle.std.proofs.Common.{ap};
     ghost use Rattle.rsp_regs.specs.Sp.{Sp, AreKept};
-    ghost use Rattle.rsp_regs.specs.Flags.{has_bit, signals_of, AreFlags, word_of, word_again};
+    ghost use Rattle.rsp_regs.specs.Flags.{has_bit, signals_of, AreFlags, word_of, both_again};
 
     ghost Value = { Sp };
 
@@ -64,18 +66,19 @@ impl Model for SpRegs {
       dpc = s.dpc;
     } };
 
-    ghost invariant = { λ s. AreKept s.memory s.dram s.skip × AreFlags s.flags };
+    ghost invariant = { λ s. AreKept s.memory s.dram s.skip × (AreFlags s.flags × (s.is_held ≡ (has_bit s.flags 0 || has_bit s.flags 5))) };
 
     ghost inverse = { λ s. record {
       memory = s.memory;
       dram = s.dram;
       skip = s.skip;
       flags = word_of s.halted s.broke s.interrupt s.single_step s.intbreak s.signals;
+      is_held = s.halted || s.single_step;
       semaphore = s.semaphore;
       dpc = s.dpc;
     } };
 
-    ghost inverse_ok = { λ s h. ap (λ f. record { memory = s.memory; dram = s.dram; skip = s.skip; flags = f; semaphore = s.semaphore; dpc = s.dpc }) (word_again s.flags h.1) };
+    ghost inverse_ok = { λ s h. ap (λ p. record { memory = s.memory; dram = s.dram; skip = s.skip; flags = p.0; is_held = p.1; semaphore = s.semaphore; dpc = s.dpc }) (both_again s.flags s.is_held h.1.0 h.1.1) };
 }
 
 /// Changes nothing. It says that words are below 2^32.
@@ -84,6 +87,14 @@ fn below(words: [u32; 8])
     ensures { (i : ℕ) → slice_index words i < 2 ^ 32 }
 {
     let _ = words;
+}
+
+/// Whether halted or single step is set in a word of flags.
+#[inline(always)]
+fn is_held_word(flags: u32) -> bool
+    ensures { result ≡ (has_bit flags 0 || has_bit flags 5) }
+{
+    flags & (1 << HALTED | 1 << SINGLE_STEP) != 0
 }
 
 /// The word of the flags that parts have.
@@ -115,6 +126,7 @@ impl SpRegs {
             dram: 0,
             skip: 0,
             flags: 0,
+            is_held: false,
             semaphore: false,
             dpc: [0; 8],
         }
@@ -162,11 +174,13 @@ impl SpRegs {
         requires { AreKept parts.now.memory parts.now.dram parts.now.skip }
         ensures { result ≡ sp_of parts.now }
     {
+        let flags = flags_word(parts);
         SpRegs {
             memory: parts.memory,
             dram: parts.dram,
             skip: parts.skip,
-            flags: flags_word(parts),
+            flags,
+            is_held: is_held_word(flags),
             semaphore: parts.semaphore,
             dpc: parts.dpc,
         }
@@ -195,7 +209,7 @@ impl SpRegs {
     pub fn is_held(&self) -> bool
         ensures { result ≡ (self.now.halted || self.now.single_step) }
     {
-        self.flags & (1 << HALTED | 1 << SINGLE_STEP) != 0
+        self.is_held
     }
 
     /// The interrupt flag.
@@ -258,6 +272,7 @@ impl SpRegs {
     {
         let interrupt = self.flags >> (INTBREAK - INTERRUPT) & 1 << INTERRUPT;
         self.flags = self.flags | (1 << HALTED | 1 << BROKE) | interrupt;
+        self.is_held = true;
     }
 
     /// Clears halted. All else stays.
@@ -266,6 +281,7 @@ impl SpRegs {
         ensures { self.new ≡ record self.old { halted = false } }
     {
         self.flags &= !(1 << HALTED);
+        self.is_held = is_held_word(self.flags);
     }
 
     /// What the end of an instruction sets: halted, where single step is set.
@@ -275,6 +291,7 @@ impl SpRegs {
     {
         if self.flags & 1 << SINGLE_STEP != 0 {
             self.flags |= 1 << HALTED;
+            self.is_held = true;
         }
     }
 
@@ -286,6 +303,7 @@ impl SpRegs {
         let signals = 1 << SIGNALS | 1 << (SIGNALS + 2) | 1 << (SIGNALS + 4);
         let cleared = 1 << HALTED | 1 << BROKE | signals;
         self.flags = self.flags & !cleared | 1 << INTBREAK;
+        self.is_held = is_held_word(self.flags);
     }
 
     /// A write of SP_STATUS: twelve pairs of a bit that clears and one that sets, and a lone bit that
@@ -297,6 +315,7 @@ impl SpRegs {
         let changed = (value ^ set) & PAIRED;
         let flags = self.flags & !changed | set & changed;
         self.flags = flags & !(value & 1 << BROKE);
+        self.is_held = is_held_word(self.flags);
     }
 
     /// What a word written to a length register asks for.

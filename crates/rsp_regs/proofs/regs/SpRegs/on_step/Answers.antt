@@ -4,7 +4,7 @@ use Rattle.rsp_regs.proofs.FlagBits.{within_or, bit-or_mask, is_single_step, isn
 use Rattle.rsp_regs.proofs.regs.SpRegs.on_step.Goals as goal
 
 pub invariant_of-self : goal.invariant_of-self
-invariant_of-self c = (c.self.invariant.0, within_or _ _ _ c.self.invariant.1 (record { kept = refl }))
+invariant_of-self c = (c.self.invariant.0, (within_or _ _ _ c.self.invariant.1.0 (record { kept = refl }), simp bit-or_mask))
 
 pub returns-then-self-ne0 : goal.returns-then-self-ne0
 unfolding after_step

@@ -5,4 +5,4 @@ use Rattle.rsp_regs.proofs.regs.SpRegs.status.Goals as goal
 
 pub returns : goal.returns
 unfolding status
-returns c = rw (← c.self.view_is) (is_read c.self.inside.flags c.self.invariant.1 ∙ omega arith)
+returns c = rw (← c.self.view_is) (is_read c.self.inside.flags c.self.invariant.1.0 ∙ omega arith)

@@ -4,7 +4,7 @@ use Rattle.rsp_regs.proofs.FlagBits.{bits_written, within_written}
 use Rattle.rsp_regs.proofs.regs.SpRegs.write_status.Goals as goal
 
 pub invariant_of-self : goal.invariant_of-self
-invariant_of-self c = (c.self.invariant.0, within_written c.args.value _ c.self.invariant.1)
+invariant_of-self c = (c.self.invariant.0, (within_written c.args.value _ c.self.invariant.1.0, c.is_held_word-self-inside.ensures))
 
 pub returns : goal.returns
 unfolding status_written
