@@ -6,6 +6,7 @@ pub mod Kit
 pub mod Limits
 pub mod OneLane
 pub mod Masks
+pub mod Merged
 pub mod Places
 pub mod Wide
 pub mod Products

@@ -1,4 +1,4 @@
--- One lane taken from another register.
+-- Lanes taken from another register.
 use Rattle.std.proofs.Common.{◌≡◌, ℕ, ◌+◌, ◌-◌, ◌*◌, ◌/◌, ◌%◌, ◌<◌, List, [], ◌∷◌, Bool, true, false, cond, nat_eq, leb, length, get_or, set, map, take, drop, replicate, refl, sym, ◌∙◌, arith}
 use Rattle.std.specs.Simd.Lanes.{zip2, sel_l, top, chunk, number_l}
 use Rattle.std.proofs.lemmas.Bool.{agree_below, agree_below_at, eqb-true}
@@ -37,27 +37,30 @@ set_from v w j n h =
     eight (λ v. each_lane (λ l. cond (nat_eq l j) (get_or w l 0) (get_or v l 0)) ≡ set v j (get_or w j 0))
     (λ a b c d e f g i. below_eight (λ j. each_lane (λ l. cond (nat_eq l j) (get_or w l 0) (get_or (a ∷ b ∷ c ∷ d ∷ e ∷ f ∷ g ∷ i ∷ []) l 0)) ≡ set (a ∷ b ∷ c ∷ d ∷ e ∷ f ∷ g ∷ i ∷ []) j (get_or w j 0)) refl refl refl refl refl refl refl refl j h) v n
 
-pub lane_taken : (v w : List ℕ) (i : ℕ) → IsVector v → IsVector w → i < 16 → lanes_of (sel_l (there i) (bytes_of w) (bytes_of v)) ≡ set v (i % 8) (get_or w (i % 8) 0)
-lane_taken v w i h k l =
-    lanes_are bytes (length-sel_l (there i) (bytes_of w) (bytes_of v) (long ∙ sym (all w)) (long ∙ sym (all v)) ∙ long)
-    (λ j m. rw (byte j m) (one_below (nat_eq (j / 2) (i % 8)) _ _ 256 (digit_below 16 _ j) (digit_below 16 _ j)))
-    ∙ each_same _ _ lane ∙ set_from v w (i % 8) h.0 (omega arith)
+-- lanes of which both bytes are chosen alike
+pub lanes_chosen : (p : ℕ → Bool) (there : List Bool) (v w : List ℕ) → IsVector v → IsVector w → length there ≡ 16 → ((k : ℕ) → k < 16 → get_or there k false ≡ p (k / 2))
+    → lanes_of (sel_l there (bytes_of w) (bytes_of v)) ≡ each_lane (λ l. cond (p l) (get_or w l 0) (get_or v l 0))
+lanes_chosen p there v w h k long at =
+    lanes_are bytes (length-sel_l there (bytes_of w) (bytes_of v) (long ∙ sym (all w)) (long ∙ sym (all v)) ∙ long)
+    (λ j m. rw (byte j m) (one_below (p (j / 2)) _ _ 256 (digit_below 16 _ j) (digit_below 16 _ j)))
+    ∙ each_same _ _ lane
   where
     bytes : List ℕ
-    bytes = sel_l (there i) (bytes_of w) (bytes_of v)
-
-    long : length (there i) ≡ 16
-    long = there_length i l
+    bytes = sel_l there (bytes_of w) (bytes_of v)
 
     all : (v : List ℕ) → length (bytes_of v) ≡ 16
     all v = length-digits 256 16 (number_l 65536 v)
 
-    byte : (j : ℕ) → j < 16 → get_or bytes j 0 ≡ cond (nat_eq (j / 2) (i % 8)) (get_or (bytes_of w) j 0) (get_or (bytes_of v) j 0)
-    byte j m = get_or-sel_l (there i) (bytes_of w) (bytes_of v) j 0 (omega (arith, long)) (omega (arith, all w)) (omega (arith, all v)) ∙ rw (there_at i j l m) refl
+    byte : (j : ℕ) → j < 16 → get_or bytes j 0 ≡ cond (p (j / 2)) (get_or (bytes_of w) j 0) (get_or (bytes_of v) j 0)
+    byte j m = get_or-sel_l there (bytes_of w) (bytes_of v) j 0 (omega (arith, long)) (omega (arith, all w)) (omega (arith, all v)) ∙ rw (at j m) refl
 
-    lane : (j : ℕ) → j < 8 → get_or bytes (2 * j) 0 + 256 * get_or bytes (2 * j + 1) 0 ≡ cond (nat_eq j (i % 8)) (get_or w j 0) (get_or v j 0)
+    lane : (j : ℕ) → j < 8 → get_or bytes (2 * j) 0 + 256 * get_or bytes (2 * j + 1) 0 ≡ cond (p j) (get_or w j 0) (get_or v j 0)
     lane j m =
         let e : 2 * j / 2 ≡ j = omega arith in
         let f : (2 * j + 1) / 2 ≡ j = omega arith in
         rw (byte (2 * j) (omega arith), byte (2 * j + 1) (omega arith), e, f, low_byte w k j m, high_byte w k j m, low_byte v h j m, high_byte v h j m)
-        (chosen_lane (nat_eq j (i % 8)) (get_or w j 0) (get_or v j 0))
+        (chosen_lane (p j) (get_or w j 0) (get_or v j 0))
+
+pub lane_taken : (v w : List ℕ) (i : ℕ) → IsVector v → IsVector w → i < 16 → lanes_of (sel_l (there i) (bytes_of w) (bytes_of v)) ≡ set v (i % 8) (get_or w (i % 8) 0)
+lane_taken v w i h k l =
+    lanes_chosen (λ j. nat_eq j (i % 8)) (there i) v w h k (there_length i l) (λ j m. there_at i j l m) ∙ set_from v w (i % 8) h.0 (omega arith)

@@ -70,8 +70,7 @@ impl VReg {
         other.ranges();
         let lesser = lesser(self, other);
         lesser.ranges();
-        let minus_carry = carry.merge(&VReg::splat(0xffff), &VReg::new());
-        let carried = lesser.subtract(&minus_carry);
+        let carried = lesser.subtract(&carry.ones());
         carried.ranges();
         limited(greater(self, other) + wide(&carried))
     }

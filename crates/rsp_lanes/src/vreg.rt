@@ -252,7 +252,7 @@ impl VReg {
         self.ranges();
         other.ranges();
         let plain = self.add(other);
-        let sum = plain.add(&carry.merge(&VReg::splat(1), &VReg::new()));
+        let sum = plain.subtract(&carry.ones());
         (sum, plain.is_below(self).or(sum.is_below(&plain)))
     }
 
