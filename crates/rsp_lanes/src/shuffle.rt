@@ -1,5 +1,5 @@
 ghost use Rattle.std.specs.Prelude.{◌≡◌, ◌<◌, ◌+◌, ◌*◌, ◌%◌, ℕ, slice_index, slice_set};
-ghost use Rattle.rsp_lanes.specs.Lanes.{selected, source_lane};
+ghost use Rattle.rsp_lanes.specs.Lanes.{each_lane, selected, source_lane};
 
 use crate::VReg;
 use std::simd::prelude::*;
@@ -62,6 +62,14 @@ static ONE_LANE: [u8; 46] = [
 ];
 
 impl VReg {
+    /// Its lanes 0, 2, 4 and 6, twice.
+    #[inline(always)]
+    pub fn even_lanes(&self) -> VReg
+        ensures { result ≡ each_lane (λ i. slice_index self.now (2 * i % 8)) }
+    {
+        VReg::from_simd(self.to_simd().swizzle([0, 2, 4, 6, 0, 2, 4, 6]))
+    }
+
     /// The register in which lane `i`, modulo 8, is another's. Each byte is chosen by the top bit of a byte of the table, which
     /// is one instruction.
     #[inline(always)]

@@ -4,7 +4,7 @@ use Rattle.std.specs.List.{range_with_len, fold}
 use Rattle.std.proofs.lemmas.List.{map-id}
 use Rattle.std.proofs.lemmas.List.Sums.{fold_push}
 use Rattle.std.proofs.lemmas.List.FromFn.{map-range_with_len_more}
-use Rattle.rsp_memory.proofs.Wraps.{byte_at-wrapped, with_byte-wrapped}
+use Rattle.rsp_memory.proofs.Wraps.{with_byte-wrapped}
 use Rattle.rsp_loadstore.specs.Pairs.{for_each}
 use Rattle.rsp_loadstore.specs.Loads.{Load, loaded, after_load}
 use Rattle.rsp_loadstore.specs.Stores.{Store, stored, after_store}
@@ -35,7 +35,5 @@ pub store_more : (file : List (List ℕ)) (s : List ℕ) (f : ℕ → Store) (i 
     → after_store file s (for_each (i + 1) f) ≡ stored file (after_store file s (for_each i f)) (f i)
 unfolding after_store for_each
 store_more file s f i = fold_map_more (stored file) s f i
-
-pub ruleset loads = (load_none, load_more, byte_at-wrapped)
 
 pub ruleset stores = (store_none, store_more, with_byte-wrapped)

@@ -1,9 +1,10 @@
 -- Bytes that are loaded one by one are placed in the register at once.
-use Rattle.std.proofs.Common.{◌≡◌, ◌≢◌, ℕ, zero, suc, ◌+◌, ◌-◌, ◌*◌, ◌/◌, ◌%◌, ◌<◌, ◌≤◌, ◌&&◌, min, List, [], true, false, if◌then◌else◌, nat_le, nat_lt, nat_eq, length, get_or, set, refl, sym, ap, ◌∙◌, arith, inl, inr}
+use Rattle.std.proofs.Common.{◌≡◌, ◌≢◌, ℕ, zero, suc, ◌+◌, ◌-◌, ◌*◌, ◌/◌, ◌%◌, ◌<◌, ◌≤◌, ◌&&◌, min, ◌^◌, ◌⊎◌, cond, List, [], true, false, if◌then◌else◌, nat_le, nat_lt, nat_eq, length, get_or, set, refl, sym, ap, ◌∙◌, arith, inl, inr}
 use Rattle.std.proofs.lemmas.Bool.{cases_eq, cases_lt}
 use Rattle.std.proofs.lemmas.Bool.Decides.{nat_tests}
 use Rattle.std.proofs.lemmas.List.{set-set, get_or-set_same, set-get_or}
 use Rattle.rsp_memory.specs.Memory.{byte_at, bytes_at}
+use Rattle.rsp_numbers.specs.Numbers.{bit_set}
 use Rattle.rsp_lanes.specs.Lanes.{each_lane, register_byte, with_register_byte}
 use Rattle.rsp_lanes.specs.Bytes.{of_bytes, with_register_bytes}
 use Rattle.rsp_lanes.proofs.Kit.{eta, each_same, lane_of, below_eight}
@@ -169,6 +170,76 @@ placed_loaded m file vt i n a h l k =
     ∙ sym (one_register m file vt (min n (16 - i)) (λ k. to_byte vt (i + k) (a + k)) (λ v k. with_register_byte v (i + k) (byte_at m (a + k))) (with_register_bytes v w i)
     h (λ _ _. refl) (placed_none v w i l)
     (λ k lt. placed_more v w i k (omega arith) ∙ ap (with_register_byte (with_register_bytes v w i k) (i + k)) (window_byte m a 16 k (omega arith))))
+
+-- a whole line
+pub line_loaded : (m : List ℕ) (file : List (List ℕ)) (vt a : ℕ) → vt < length file → length (vector file vt) ≡ 8
+    → with_vector file vt (of_bytes (λ k. get_or (bytes_at m a 16) ((0 + k) % 16) 0)) ≡ after_load m file (for_each 16 (λ k. to_byte vt (0 + k) (a + k)))
+unfolding of_bytes
+line_loaded m file vt a h l = ap (with_vector file vt) (each_same _ _ (λ i k. rw (byte (2 * i) (omega arith), byte (2 * i + 1) (omega arith)) refl)) ∙ placed_loaded m file vt 0 16 a h l (omega arith)
+  where
+    byte : (k : ℕ) → k < 16 → get_or (bytes_at m a 16) ((0 + k) % 16) 0 ≡ placed_byte (vector file vt) (bytes_at m a 16) 0 16 k
+    byte k h =
+        let e : (0 + k) % 16 ≡ k = omega arith in
+        let s : nat_le 0 k ≡ true = grind (arith, nat_tests) in
+        let t : nat_lt k (0 + 16) ≡ true = grind (arith, nat_tests) in
+        let d : k - 0 ≡ k = omega arith in
+        rw (e, s, t, d) refl
+
+-- a register of which n lanes from one on are given
+abbrev from_given : (ℕ → ℕ) → List ℕ → ℕ → ℕ → List ℕ
+from_given value v half n = each_lane (λ i. if nat_le half i && nat_lt i (half + n) then value (i - half) else get_or v i 0)
+
+from_given_none : (value : ℕ → ℕ) (v : List ℕ) (half : ℕ) → length v ≡ 8 → from_given value v half 0 ≡ v
+from_given_none value v half h = each_same _ _ (λ i l. grind (arith, nat_tests)) ∙ sym (eta 0 v h)
+
+from_given_more : (value : ℕ → ℕ) (v : List ℕ) (half n : ℕ) → half + n < 8 → from_given value v half (n + 1) ≡ set (from_given value v half n) (half + n) (value n)
+from_given_more value v half n h = sym (set_each (λ i. if nat_le half i && nat_lt i (half + n) then value (i - half) else get_or v i 0) (half + n) (value n) h ∙ each_same _ _ (λ i l. same i))
+  where
+    same : (i : ℕ) → (if nat_eq i (half + n) then value n else if nat_le half i && nat_lt i (half + n) then value (i - half) else get_or v i 0)
+        ≡ (if nat_le half i && nat_lt i (half + (n + 1)) then value (i - half) else get_or v i 0)
+    same i = elim (cases_eq i (half + n)) [
+      | inl e ↦
+          let k : i - half ≡ n = omega arith in
+          let t : nat_eq i (half + n) ≡ true = grind (arith, nat_tests, e) in
+          let u : nat_le half i ≡ true = grind (arith, nat_tests, e) in
+          let w : nat_lt i (half + (n + 1)) ≡ true = grind (arith, nat_tests, e) in
+          rw (t, u, w, k) refl
+      | inr d ↦
+          let t : nat_eq i (half + n) ≡ false = grind (arith, nat_tests, d) in
+          let w : nat_lt i (half + (n + 1)) ≡ nat_lt i (half + n) = grind (arith, nat_tests, d) in
+          rw (t, w) refl
+    ]
+
+-- four lanes, with every fourth byte of a window
+pub fourths_loaded : (m : List ℕ) (file : List (List ℕ)) (vt e a : ℕ) → vt < length file → length (vector file vt) ≡ 8 → (e ≡ 0) ⊎ (e ≡ 8)
+    → with_vector file vt (each_lane (λ i. cond (bit_set (15 * 2 ^ (e / 2) % 65536) i) (get_or (bytes_at m (block a) 16) ((a % 8 + 2 * (2 * i % 8)) % 16) 0 * 128) (get_or (vector file vt) i 0)))
+    ≡ after_load m file (for_each 4 (λ j. to_lane vt (e / 2 + j) 128 (place a (4 * j))))
+unfolding loaded
+fourths_loaded m file vt e a h l half =
+    ap (with_vector file vt) (each_same _ _ (λ i k. ap (λ b. cond (bit_set (15 * 2 ^ (e / 2) % 65536) i) (b * 128) (get_or (vector file vt) i 0)) (byte i) ∙ lane i k))
+    ∙ sym (one_register m file vt 4 (λ j. to_lane vt (e / 2 + j) 128 (place a (4 * j))) (λ v j. set v (e / 2 + j) (value j)) (from_given value (vector file vt) (e / 2))
+    h (λ _ _. refl) (from_given_none value (vector file vt) (e / 2) l) (λ k lt. from_given_more value (vector file vt) (e / 2) k (small k lt)))
+  where
+    value : ℕ → ℕ
+    value j = byte_at m (place a (4 * j)) * 128
+
+    small : (k : ℕ) → k < 4 → e / 2 + k < 8
+    small k lt = elim half [
+      | inl z ↦ omega (arith, z)
+      | inr z ↦ omega (arith, z)
+    ]
+
+    byte : (i : ℕ) → get_or (bytes_at m (block a) 16) ((a % 8 + 2 * (2 * i % 8)) % 16) 0 ≡ byte_at m (block a + (a % 8 + 2 * (2 * i % 8)) % 16)
+    byte i = window_byte m (block a) 16 _ (omega arith)
+
+    lane : (i : ℕ) → i < 8 → cond (bit_set (15 * 2 ^ (e / 2) % 65536) i) (byte_at m (block a + (a % 8 + 2 * (2 * i % 8)) % 16) * 128) (get_or (vector file vt) i 0)
+        ≡ (if nat_le (e / 2) i && nat_lt i (e / 2 + 4) then value (i - e / 2) else get_or (vector file vt) i 0)
+    lane i k = elim half [
+      | inl z ↦ rw z (below_eight (λ i. cond (bit_set 15 i) (byte_at m (block a + (a % 8 + 2 * (2 * i % 8)) % 16) * 128) (get_or (vector file vt) i 0)
+          ≡ (if nat_le 0 i && nat_lt i 4 then value (i - 0) else get_or (vector file vt) i 0)) refl refl refl refl refl refl refl refl i k)
+      | inr z ↦ rw z (below_eight (λ i. cond (bit_set 240 i) (byte_at m (block a + (a % 8 + 2 * (2 * i % 8)) % 16) * 128) (get_or (vector file vt) i 0)
+          ≡ (if nat_le 4 i && nat_lt i 8 then value (i - 4) else get_or (vector file vt) i 0)) refl refl refl refl refl refl refl refl i k)
+    ]
 
 -- a register of which the first n lanes are given
 abbrev first_given : (ℕ → ℕ) → List ℕ → ℕ → List ℕ

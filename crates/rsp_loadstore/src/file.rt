@@ -1,4 +1,4 @@
-ghost use Rattle.std.specs.Prelude.{◌≡◌, ◌<◌, slice_set};
+ghost use Rattle.std.specs.Prelude.{◌≡◌, ◌<◌};
 ghost use Rattle.rsp_loadstore.specs.File.{IsFile, vector, with_vector, empty_file, bits_14_to_7};
 
 use rsp_lanes::VReg;
@@ -100,18 +100,6 @@ impl VFile {
     {
         v.ranges();
         self.registers[n] = v;
-    }
-
-    /// Writes a lane of a register.
-    #[inline(always)]
-    pub(crate) fn set_lane(&mut self, n: u8, i: usize, value: u16)
-        requires register { n < 32 }
-        requires lane { i < 8 }
-        ensures { self.new ≡ with_vector self.old n (slice_set (vector self.old n) i value) }
-    {
-        let mut v = self.reg(n);
-        v.set_lane(i, value);
-        self.set_reg(n, v);
     }
 
     /// Bits 14 to 7 of the sixteen bits at byte `i` and the next, modulo 16.

@@ -8,7 +8,7 @@ ghost use Rattle.rsp_loadstore.specs.Pairs.{for_each, place};
 
 use crate::VFile;
 use rsp_decode::{Inst, VectorLoadRow};
-use rsp_lanes::{Bytes16, VReg};
+use rsp_lanes::{Bytes16, Mask8, VReg};
 use rsp_memory::SpMem;
 
 /// Executes a vector load at the address `a`, the one that `address` gives; LTV writes parts of eight registers.
@@ -38,6 +38,7 @@ fn load_row(row: VectorLoadRow, vt: u8, e: usize, a: u32, memory: &SpMem, file: 
         VectorLoadRow::Lsv => load_bytes(vt, e, 2, a, memory, file),
         VectorLoadRow::Llv => load_bytes(vt, e, 4, a, memory, file),
         VectorLoadRow::Ldv => load_bytes(vt, e, 8, a, memory, file),
+        VectorLoadRow::Lqv if place == 0 && e == 0 => load_line(vt, a, memory, file),
         VectorLoadRow::Lqv => load_bytes(vt, e, 16 - place, a, memory, file),
         VectorLoadRow::Lrv => load_bytes(vt, 16 - place + e, 16, a - a % 16, memory, file),
         VectorLoadRow::Lpv => load_packed(vt, 256, e, a, memory, file),
@@ -73,6 +74,16 @@ fn load_bytes(vt: u8, i: usize, n: usize, a: u32, memory: &SpMem, file: &mut VFi
     file.set_reg(vt, v.with_bytes(window(memory, a), i as u8, n as u8));
 }
 
+/// LQV of a whole line: loads a register. It is what microcode does most.
+#[inline]
+fn load_line(vt: u8, a: u32, memory: &SpMem, file: &mut VFile)
+    requires { vt < 32 }
+    ensures { file.new ≡ after_load memory.now file.old (for_each 16 (λ k. to_byte vt (0 + k) (a + k))) }
+{
+    file.ranges();
+    file.set_reg(vt, VReg::from_turned(window(memory, a), 0));
+}
+
 /// LPV and LUV: loads the eight lanes of a register, with the bytes of a block, times a factor.
 #[inline]
 fn load_packed(vt: u8, factor: u16, e: usize, a: u32, memory: &SpMem, file: &mut VFile)
@@ -101,18 +112,18 @@ fn load_halves(vt: u8, e: usize, a: u32, memory: &SpMem, file: &mut VFile)
 }
 
 /// LFV: loads four lanes of a register, with every fourth byte of a block, times 128.
-#[inline(never)]
-#[tactic(auto, using(crate::proofs::Pairs::loads), unfolding(crate::specs::Loads::loaded, crate::specs::Loads::load_pairs))]
+#[inline]
 fn load_fourths(vt: u8, e: usize, a: u32, memory: &SpMem, file: &mut VFile)
     requires register { vt < 32 }
-    requires element { e ≤ 8 }
+    requires element { IsLoadElement Lfv e }
     ensures { file.new ≡ after_load memory.now file.old (load_pairs Lfv vt e a) }
 {
-    let block = a - a % 8;
-    for j in 0..4 {
-        let byte = memory.byte(block.wrapping_add((a % 8 + 4 * j as u32) % 16));
-        file.set_lane(vt, e / 2 + j, u16::from(byte) * 128);
-    }
+    file.ranges();
+    let bytes = window(memory, a - a % 8);
+    let fourths = VReg::from_halves(bytes, (a % 8) as u8).even_lanes();
+    let places = Mask8::from_bits(15 << e / 2);
+    let v = file.reg(vt);
+    file.set_reg(vt, places.merge(&fourths, &v));
 }
 
 /// LTV: loads two bytes of each of eight registers, a lane of each.
@@ -124,20 +135,20 @@ fn load_transposed(vt: u8, e: usize, a: u32, memory: &SpMem, file: &mut VFile)
 {
     let first = (e as u32 + a / 8 % 2 * 8) as u8;
     let lanes = VReg::from_turned(window(memory, a - a % 8), first);
-    set_diagonal((vt - vt % 8) as usize, e / 2, &lanes, file);
+    set_diagonal((vt - vt % 8) as usize, e / 2, lanes, file);
 }
 
 /// Writes one lane of each of the eight registers from `first` on: lane 0 of the register `half` behind it, lane 1 of the
 /// next, and so on, modulo 8. It calls nothing, so that it saves no registers.
 #[inline(never)]
 #[tactic(auto, using(crate::proofs::Diagonal::diagonals))]
-fn set_diagonal(first: usize, half: usize, lanes: &VReg, file: &mut VFile)
+fn set_diagonal(first: usize, half: usize, lanes: VReg, file: &mut VFile)
     requires registers { first ≤ 24 }
     requires half { half < 8 }
-    ensures { file.new ≡ with_diagonal lanes.now first half file.old 8 }
+    ensures { file.new ≡ with_diagonal lanes first half file.old 8 }
 {
     for l in 0..8 {
         let v = file.at(first + l);
-        file.put(first + l, v.with_lane_of(lanes, l + 8 - half));
+        file.put(first + l, v.with_lane_of(&lanes, l + 8 - half));
     }
 }
