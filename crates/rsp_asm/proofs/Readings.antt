@@ -2,7 +2,7 @@
 use Rattle.std.proofs.Common.{◌≡◌, refl, sym, ap, ◌∙◌, ℕ, ◌+◌, List, [], ◌∷◌, ◌++◌, length, Bool, ◌||◌, arith}
 use Rattle.std.specs.Prelude.{Option, Some, None, flat_map, option_map, option_and_then, Result, Ok, Err, ℤ}
 use Rattle.std.specs.List.{list_any}
-use Rattle.rsp_decode.specs.Table.{Operand, scalar, shift_amount, signed, unsigned, jump_target, branch_target, scalar_memory, vector_memory, sp_register, control_register, vector, vector_byte, vector_half, vector_element, vector_lane, BitField, bit_fields, with_fields}
+use Rattle.rsp_decode.specs.Table.{Operand, scalar, shift_amount, signed, unsigned, jump_target, branch_target, scalar_memory, vector_memory, sp_register, control_register, vector, vector_byte, vector_half, vector_element, vector_lane, Place, places, with_fields}
 use Rattle.rsp_text.specs.declared.fault.AsmFaultKind.{AsmFaultKind}
 use Rattle.rsp_text.specs.declared.slot.Slot.{Slot}
 use Rattle.rsp_text.specs.declared.slot.Slot.TheVariants.{Half, Amount, Jump, Branch, Scaled, Word}
@@ -77,7 +77,7 @@ bracket_span : (look : List ℕ → Option ℕ) (default : Option ℕ) (o : Opti
 bracket_span look default None bs r e = pair_span (vector_named bs) default r e
 bracket_span look default (Some p) bs r e = pair_span (vector_named p.0) (bracketed look p.1) r e
 
-read_span : (k : Operand) (t : List ℕ) (r : Reading) → read k t ≡ Some r → span r ≡ length (bit_fields k)
+read_span : (k : Operand) (t : List ℕ) (r : Reading) → read k t ≡ Some r → span r ≡ length (places k)
 read_span (scalar low) t r e = from_map one_register 1 (λ _. refl) r (scalar_named t) e
 read_span shift_amount t r e = from_map (asks Amount []) 1 (λ _. refl) r (expression_of t) e
 read_span signed t r e = from_map (asks Half []) 1 (λ _. refl) r (expression_of t) e
@@ -94,13 +94,13 @@ read_span vector_half t r e = bracket_span half_named (Some 0) (cut Bracket t) t
 read_span vector_element t r e = bracket_span element_named (Some 0) (cut Bracket t) t r e
 read_span vector_lane t r e = bracket_span lane_named None (cut Bracket t) t r e
 
-with_fields_append : (ps qs : List BitField) (vs ws : List ℕ) (w : ℕ) → length vs ≡ length ps → with_fields w (ps ++ qs) (vs ++ ws) ≡ with_fields (with_fields w ps vs) qs ws
+with_fields_append : (ps qs : List Place) (vs ws : List ℕ) (w : ℕ) → length vs ≡ length ps → with_fields w (ps ++ qs) (vs ++ ws) ≡ with_fields (with_fields w ps vs) qs ws
 with_fields_append [] qs [] ws w e = refl
 with_fields_append [] qs (v ∷ vs) ws w e = absurd (omega arith)
 with_fields_append (p ∷ ps) qs [] ws w e = absurd (omega arith)
 with_fields_append (p ∷ ps) qs (v ∷ vs) ws w e = with_fields_append ps qs vs ws _ (omega arith)
 
-put_one : (w : ℕ) (ps qs : List BitField) (o more : Result (List ℕ) AsmFaultKind) → ((vs : List ℕ) → o ≡ Ok vs → length vs ≡ length ps) → and_then (with_values w ps o) (λ v. with_values v qs more) ≡ with_values w (ps ++ qs) (append o more)
+put_one : (w : ℕ) (ps qs : List Place) (o more : Result (List ℕ) AsmFaultKind) → ((vs : List ℕ) → o ≡ Ok vs → length vs ≡ length ps) → and_then (with_values w ps o) (λ v. with_values v qs more) ≡ with_values w (ps ++ qs) (append o more)
 put_one w ps qs (Err kind) more fit = refl
 put_one w ps qs (Ok vs) (Err kind) fit = refl
 put_one w ps qs (Ok vs) (Ok ws) fit = ap Ok (sym (with_fields_append ps qs vs ws w (fit vs refl)))
@@ -109,17 +109,17 @@ and_then_same : (o : Result ℕ AsmFaultKind) (f g : ℕ → Result ℕ AsmFault
 and_then_same (Err kind) f g same = refl
 and_then_same (Ok v) f g same = same v
 
-pub put_read : (labels : Labels) (place w : ℕ) (ks : List Operand) (ts : List (List ℕ)) (rs : List Reading) → read_all ks ts ≡ Some rs → put_all labels place w ks ts ≡ with_values w (flat_map bit_fields ks) (all_fields labels place rs)
+pub put_read : (labels : Labels) (place w : ℕ) (ks : List Operand) (ts : List (List ℕ)) (rs : List Reading) → read_all ks ts ≡ Some rs → put_all labels place w ks ts ≡ with_values w (flat_map places ks) (all_fields labels place rs)
 put_read labels place w [] [] rs e = let none : [] ≡ rs = cc in ap (λ (xs : List Reading). with_values w [] (all_fields labels place xs)) none
 put_read labels place w [] (t ∷ ts) rs e = absurd cc
 put_read labels place w (k ∷ ks) [] rs e = absurd cc
 put_read labels place w (k ∷ ks) (t ∷ ts) rs e =
     let p = read_parts k ks t ts rs e in
-    ap (λ o. and_then (with_values w (bit_fields k) (reading_fields labels place o)) (λ v. put_all labels place v ks ts)) p.2
-    ∙ and_then_same (with_values w (bit_fields k) (fields_of labels place p.0)) (λ v. put_all labels place v ks ts) (λ v. with_values v (flat_map bit_fields ks) (all_fields labels place p.1)) (λ v. put_read labels place v ks ts p.1 p.3)
-    ∙ put_one w (bit_fields k) (flat_map bit_fields ks) (fields_of labels place p.0) (all_fields labels place p.1)
+    ap (λ o. and_then (with_values w (places k) (reading_fields labels place o)) (λ v. put_all labels place v ks ts)) p.2
+    ∙ and_then_same (with_values w (places k) (fields_of labels place p.0)) (λ v. put_all labels place v ks ts) (λ v. with_values v (flat_map places ks) (all_fields labels place p.1)) (λ v. put_read labels place v ks ts p.1 p.3)
+    ∙ put_one w (places k) (flat_map places ks) (fields_of labels place p.0) (all_fields labels place p.1)
     (λ vs h. fields_span labels place p.0.registers p.0.value vs h ∙ read_span k t p.0 p.2)
-    ∙ ap (λ (xs : List Reading). with_values w (flat_map bit_fields (k ∷ ks)) (all_fields labels place xs)) p.4
+    ∙ ap (λ (xs : List Reading). with_values w (flat_map places (k ∷ ks)) (all_fields labels place xs)) p.4
 
 -- ---- the numbers of .word
 

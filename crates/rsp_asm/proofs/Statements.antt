@@ -4,7 +4,7 @@ use Rattle.std.specs.Prelude.{Option, Some, None, option_map, Result, Ok, Err, i
 use Rattle.std.specs.List.{list_any, before_first, after_first}
 use Rattle.std.proofs.lemmas.Bool.{cond-false}
 use Rattle.std.proofs.lemmas.List.{drop_at}
-use Rattle.rsp_decode.specs.Table.{Row, bit_fields, Entry, entry_of}
+use Rattle.rsp_decode.specs.Table.{Row, places, Entry, entry_of}
 use Rattle.rsp_text.specs.declared.fault.AsmFaultKind.{AsmFaultKind}
 use Rattle.rsp_text.specs.declared.fault.AsmFaultKind.TheVariants.{OutOfRange, BadOperand}
 use Rattle.rsp_text.specs.declared.text.Stop.TheVariants.{Blank}
@@ -129,7 +129,7 @@ row_said labels place row e ts same = sym (ap (λ (x : Entry). row_words labels 
     go None = refl
     go (Some rs) = again (all_fields labels place rs)
       where
-        again : (f : Result (List ℕ) AsmFaultKind) → single (with_values row.value (flat_map bit_fields row.operands) f) ≡ one_word row f
+        again : (f : Result (List ℕ) AsmFaultKind) → single (with_values row.value (flat_map places row.operands) f) ≡ one_word row f
         again (Err kind) = refl
         again (Ok vs) = refl
 

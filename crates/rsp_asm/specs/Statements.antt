@@ -2,7 +2,7 @@
 -- definitions of rsp_text.
 use Rattle.std.specs.Prelude.{◌≡◌, ℕ, List, [], ◌∷◌, ◌++◌, length, flat_map, Option, Some, None, Result, Ok, Err, MatchResult, if◌then◌else◌}
 use Rattle.std.specs.List.{list_any}
-use Rattle.rsp_decode.specs.Table.{bit_fields}
+use Rattle.rsp_decode.specs.Table.{places}
 use Rattle.rsp_text.specs.declared.fault.AsmFaultKind.{AsmFaultKind}
 use Rattle.rsp_text.specs.declared.fault.AsmFaultKind.TheVariants.{BadOperand, OutOfRange}
 use Rattle.rsp_decode.specs.Table.{Entry}
@@ -52,7 +52,7 @@ row_size e ts = counted 1 (read_all e.operands ts)
 
 abbrev pub word_with : Labels → ℕ → Entry → Option (List Reading) → Result ℕ AsmFaultKind
 word_with labels place e None = Err BadOperand
-word_with labels place e (Some rs) = with_values e.value (flat_map bit_fields e.operands) (all_fields labels place rs)
+word_with labels place e (Some rs) = with_values e.value (flat_map places e.operands) (all_fields labels place rs)
 
 abbrev pub row_word : Labels → ℕ → Entry → List (List ℕ) → Result ℕ AsmFaultKind
 row_word labels place e ts = word_with labels place e (read_all e.operands ts)

@@ -1,6 +1,6 @@
 -- Scaffolding of the proofs: what the loops over the texts of operands compute, where no reading is kept.
 use Rattle.std.specs.Prelude.{ℕ, Bool, false, ◌||◌, List, [], ◌∷◌, option_map, Result, Ok, Err}
-use Rattle.rsp_decode.specs.Table.{Operand, bit_fields}
+use Rattle.rsp_decode.specs.Table.{Operand, places}
 use Rattle.rsp_text.specs.declared.fault.AsmFaultKind.{AsmFaultKind}
 use Rattle.rsp_text.specs.declared.fault.AsmFaultKind.TheVariants.{BadOperand}
 use Rattle.rsp_text.specs.declared.slot.Slot.TheVariants.{Word}
@@ -28,7 +28,7 @@ abbrev pub put_all : Labels → ℕ → ℕ → List Operand → List (List ℕ)
 put_all labels place w [] ts = Ok w
 put_all labels place w (k ∷ ks) [] = Err BadOperand
 put_all labels place w (k ∷ ks) (t ∷ ts) =
-    and_then (with_values w (bit_fields k) (reading_fields labels place (read k t))) (λ v. put_all labels place v ks ts)
+    and_then (with_values w (places k) (reading_fields labels place (read k t))) (λ v. put_all labels place v ks ts)
 
 -- the words of all numbers, or the fault of the leftmost that has one
 abbrev pub number_words : Labels → List (List ℕ) → Result (List ℕ) AsmFaultKind

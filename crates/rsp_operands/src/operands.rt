@@ -1,7 +1,7 @@
 // An operand by its kind.
 
 ghost use Rattle.std.specs.Prelude.{◌≡◌, ◌≤◌, true, is_some};
-ghost use Rattle.rsp_decode.specs.Table.{bit_fields, is_row_operand};
+ghost use Rattle.rsp_decode.specs.Table.{places, is_row_operand};
 ghost use Rattle.rsp_text.specs.Statement.{read};
 ghost use Rattle.rsp_text.specs.Walks.{reading_fails, reading_fields, with_values};
 
@@ -45,7 +45,7 @@ pub fn put_operand(
 ) -> Result<u32, AsmFaultKind>
     requires inside { place ≤ 4096 }
     requires room { is_row_operand kind ≡ true }
-    ensures { result ≡ with_values word (bit_fields kind) (reading_fields labels.now place (read kind text.now)) }
+    ensures { result ≡ with_values word (places kind) (reading_fields labels.now place (read kind text.now)) }
 {
     let Some(reading) = read_operand(kind, text) else {
         return Err(AsmFaultKind::BadOperand);

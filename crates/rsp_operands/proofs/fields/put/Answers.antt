@@ -1,5 +1,5 @@
 use Rattle.std.proofs.Common.{ap, ◌∙◌, sym, ◌∷◌, bit_or}
-use Rattle.rsp_decode.specs.Table.{bit_fields, with_fields}
+use Rattle.rsp_decode.specs.Table.{places, with_fields}
 use Rattle.rsp_operands.specs.Fields.{optional}
 use Rattle.rsp_operands.proofs.Words.{second_small, first_put}
 use Rattle.rsp_operands.proofs.fields.put.Goals as goal
