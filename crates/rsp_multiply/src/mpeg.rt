@@ -6,7 +6,7 @@ ghost use Rattle.rsp_lanes.specs.Lanes.{each_lane};
 ghost use Rattle.rsp_numbers.specs.Numbers.{s16, number, floor_div, sixteen_bits};
 ghost use Rattle.rsp_multiply.specs.Mpeg.{rounding_adds, rounding, vmacq_step, accumulators_rounded, clamped_signed, accumulators_mpeg, halved_mpeg};
 
-use crate::products::upper;
+use crate::products::signed_times_65536;
 use rsp_acc::{Acc, Addends, Clamp, Part};
 use rsp_lanes::{Mask8, VReg};
 use rsp_rows::{MpegRow, RoundRow};
@@ -148,7 +148,7 @@ fn multiply_rounded<A: Acc>(a: &VReg, b: &VReg, acc: &mut A)
 {
     a.ranges();
     b.ranges();
-    acc.replace(&upper(a, b));
+    acc.replace(&signed_times_65536(a, b));
     let rounding = negative(acc).merge(&VReg::splat(31), &VReg::new());
     acc.add(&shifted(&rounding));
 }

@@ -100,7 +100,7 @@ pub(crate) fn rounded(a: &VReg, b: &VReg) -> Addends
 
 /// The unsigned products divided by 65536, rounded down.
 #[inline(always)]
-pub(crate) fn lower(a: &VReg, b: &VReg) -> Addends
+pub(crate) fn unsigned_over_65536(a: &VReg, b: &VReg) -> Addends
     ensures { result ≡ each_lane (λ i. unsigned_over_65536 (slice_index a.now i) (slice_index b.now i)) }
 {
     a.ranges();
@@ -112,7 +112,7 @@ pub(crate) fn lower(a: &VReg, b: &VReg) -> Addends
 
 /// The products of a's lanes as signed numbers and b's as unsigned ones.
 #[inline(always)]
-pub(crate) fn middle(a: &VReg, b: &VReg) -> Addends
+pub(crate) fn signed_by_unsigned(a: &VReg, b: &VReg) -> Addends
     ensures { result ≡ each_lane (λ i. signed_by_unsigned (slice_index a.now i) (slice_index b.now i)) }
 {
     a.ranges();
@@ -123,7 +123,7 @@ pub(crate) fn middle(a: &VReg, b: &VReg) -> Addends
 
 /// The signed products times 65536.
 #[inline(always)]
-pub(crate) fn upper(a: &VReg, b: &VReg) -> Addends
+pub(crate) fn signed_times_65536(a: &VReg, b: &VReg) -> Addends
     ensures { result ≡ each_lane (λ i. signed_times_65536 (slice_index a.now i) (slice_index b.now i)) }
 {
     a.ranges();

@@ -2,7 +2,9 @@ ghost use Rattle.std.specs.Prelude.{◌≡◌, slice_index};
 ghost use Rattle.rsp_lanes.specs.Lanes.{each_lane};
 ghost use Rattle.rsp_multiply.specs.Rows.{row, accumulators_after, clamped_by, sar_of};
 
-use crate::products::{fraction, lower, middle, rounded, upper};
+use crate::products::{
+    fraction, rounded, signed_by_unsigned, signed_times_65536, unsigned_over_65536,
+};
 use rsp_acc::{Acc, Addends, Clamp, Part};
 use rsp_lanes::VReg;
 use rsp_rows::MultiplyRow;
@@ -15,10 +17,10 @@ fn addends(op: MultiplyRow, a: &VReg, b: &VReg) -> Addends
     match op {
         MultiplyRow::Vmulf | MultiplyRow::Vmulu => rounded(a, b),
         MultiplyRow::Vmacf | MultiplyRow::Vmacu => fraction(a, b),
-        MultiplyRow::Vmudl | MultiplyRow::Vmadl => lower(a, b),
-        MultiplyRow::Vmudm | MultiplyRow::Vmadm => middle(a, b),
-        MultiplyRow::Vmudn | MultiplyRow::Vmadn => middle(b, a),
-        MultiplyRow::Vmudh | MultiplyRow::Vmadh => upper(a, b),
+        MultiplyRow::Vmudl | MultiplyRow::Vmadl => unsigned_over_65536(a, b),
+        MultiplyRow::Vmudm | MultiplyRow::Vmadm => signed_by_unsigned(a, b),
+        MultiplyRow::Vmudn | MultiplyRow::Vmadn => signed_by_unsigned(b, a),
+        MultiplyRow::Vmudh | MultiplyRow::Vmadh => signed_times_65536(a, b),
     }
 }
 

@@ -14,7 +14,7 @@ returns g c = c.add.ensures ∙ each_same _ _ (λ i h.
       lane_of 0 _ _ c.merge-rounding.ensures i h,
       lane_of false _ _ c.negative.ensures i h,
       c.replace.ensures,
-      lane_of (pos 0) _ _ c.upper.ensures i h,
+      lane_of (pos 0) _ _ c.signed_times_65536.ensures i h,
       lane_of 0 _ _ c.splat.ensures i h,
       lane_of 0 _ _ c.new.ensures i h,
     ) (product_rounded _ s.low s.high))

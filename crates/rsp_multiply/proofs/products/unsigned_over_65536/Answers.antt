@@ -2,7 +2,7 @@ use Rattle.std.proofs.Common.{◌∙◌, ap, pos, arith}
 use Rattle.std.proofs.lemmas.Nat.{mul-lt}
 use Rattle.rsp_lanes.proofs.Kit.{lane_of, each_same}
 use Rattle.rsp_numbers.proofs.Join.{join_small}
-use Rattle.rsp_multiply.proofs.products.lower.Goals as goal
+use Rattle.rsp_multiply.proofs.products.unsigned_over_65536.Goals as goal
 
 pub returns : goal.returns
 returns c = c.from_planes.ensures ∙ each_same _ _ (λ i h.

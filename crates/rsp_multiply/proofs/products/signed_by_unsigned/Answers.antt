@@ -2,7 +2,7 @@ use Rattle.std.proofs.Common.{◌∙◌}
 use Rattle.rsp_lanes.proofs.Kit.{lane_of, each_same}
 use Rattle.rsp_multiply.proofs.Signs.{mixed}
 use Rattle.rsp_multiply.proofs.Halves.{halves_joined}
-use Rattle.rsp_multiply.proofs.products.middle.Goals as goal
+use Rattle.rsp_multiply.proofs.products.signed_by_unsigned.Goals as goal
 
 pub returns : goal.returns
 returns c = c.from_halves.ensures ∙ each_same _ _ (λ i h.

@@ -2,7 +2,7 @@ use Rattle.std.proofs.Common.{◌∙◌}
 use Rattle.rsp_lanes.proofs.Kit.{lane_of, each_same}
 use Rattle.rsp_multiply.proofs.Signs.{signed}
 use Rattle.rsp_multiply.proofs.Halves.{shifted}
-use Rattle.rsp_multiply.proofs.products.upper.Goals as goal
+use Rattle.rsp_multiply.proofs.products.signed_times_65536.Goals as goal
 
 pub returns : goal.returns
 returns c = c.from_planes.ensures ∙ each_same _ _ (λ i h.
