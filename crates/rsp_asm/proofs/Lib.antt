@@ -2,8 +2,8 @@ pub mod Passes
 pub mod Texts
 pub mod Readings
 pub mod Forms
-pub mod Statements
 pub mod Steps
+pub mod Statements
 pub mod Chain
 pub mod Faults
 pub mod Fits

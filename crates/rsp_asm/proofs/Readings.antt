@@ -1,7 +1,6 @@
--- What the walks say of the readings of a statement.
-use Rattle.std.proofs.Common.{◌≡◌, refl, sym, ap, ◌∙◌, ℕ, ◌+◌, List, [], ◌∷◌, ◌++◌, length, Bool, ◌||◌, arith}
-use Rattle.std.specs.Prelude.{Option, Some, None, flat_map, option_map, option_and_then, Result, Ok, Err, ℤ}
-use Rattle.std.specs.List.{list_any}
+-- How many fields the operands of a statement have.
+use Rattle.std.proofs.Common.{◌≡◌, refl, sym, ap, ◌∙◌, ℕ, ◌+◌, List, [], ◌∷◌, ◌++◌, length, arith}
+use Rattle.std.specs.Prelude.{Option, Some, None, option_map, option_and_then, Result, Ok, Err}
 use Rattle.rsp_decode.specs.Table.{Operand, scalar, shift_amount, signed, unsigned, jump_target, branch_target, scalar_memory, vector_memory, sp_register, control_register, vector, vector_byte, vector_half, vector_element, vector_lane, Place, places, with_fields}
 use Rattle.rsp_text.specs.declared.fault.AsmFaultKind.{AsmFaultKind}
 use Rattle.rsp_text.specs.declared.slot.Slot.{Slot}
@@ -10,43 +9,17 @@ use Rattle.rsp_text.specs.declared.text.Stop.TheVariants.{Parenthesis, Bracket}
 use Rattle.rsp_text.specs.Cuts.{cut}
 use Rattle.rsp_text.specs.Names.{scalar_named, vector_named, sp_named, control_named, element_named}
 use Rattle.rsp_text.specs.Numbers.{Expression, expression_of}
-use Rattle.rsp_text.specs.Statement.{Labels, Reading, one_register, pair, asks, memory, memory_operand, with_element, bracket_of, bracketed, byte_named, half_named, lane_named, offset_of, base_of, read, read_all, read_numbers, number_fails, fields_of, fields_with, field_of, evaluate, then_registers, append, all_fields, or_out_of_range, word}
-use Rattle.rsp_text.specs.Walks.{reading_fails, reading_fields, with_values, number_value}
-use Rattle.rsp_asm.specs.Statements.{single}
-use Rattle.rsp_asm.specs.Walks.{any_fails, number_text_fails, and_then, put_all, number_words}
-
-abbrev pub fails : ℕ → Reading → Bool
-fails place r = number_fails place r.value
-
--- ---- the operands of a row
-
-pub read_parts : (k : Operand) (ks : List Operand) (t : List ℕ) (ts : List (List ℕ)) (rs : List Reading) → read_all (k ∷ ks) (t ∷ ts) ≡ Some rs → (r : Reading) × (more : List Reading) × (read k t ≡ Some r) × (read_all ks ts ≡ Some more) × (r ∷ more ≡ rs)
-read_parts k ks t ts rs e = go (read k t) (read_all ks ts) e
-  where
-    go : (o : Option Reading) (q : Option (List Reading)) → option_and_then (λ (r : Reading). option_map (λ (rs : List Reading). r ∷ rs) q) o ≡ Some rs → (r : Reading) × (more : List Reading) × (o ≡ Some r) × (q ≡ Some more) × (r ∷ more ≡ rs)
-    go None q e = absurd cc
-    go (Some r) None e = absurd cc
-    go (Some r) (Some more) e = let same : r ∷ more ≡ rs = cc in (r, more, refl, refl, same)
-
-pub fails_read : (place : ℕ) (ks : List Operand) (ts : List (List ℕ)) (rs : List Reading) → read_all ks ts ≡ Some rs → any_fails place ks ts ≡ list_any (fails place) rs
-fails_read place [] [] rs e = let none : [] ≡ rs = cc in ap (list_any (fails place)) none
-fails_read place [] (t ∷ ts) rs e = absurd cc
-fails_read place (k ∷ ks) [] rs e = absurd cc
-fails_read place (k ∷ ks) (t ∷ ts) rs e =
-    let p = read_parts k ks t ts rs e in
-    ap (λ o. reading_fails place o || any_fails place ks ts) p.2
-    ∙ ap (λ b. number_fails place p.0.value || b) (fails_read place ks ts p.1 p.3)
-    ∙ ap (list_any (fails place)) p.4
+use Rattle.rsp_text.specs.Statement.{Labels, Reading, one_register, pair, asks, memory, memory_operand, with_element, bracket_of, bracketed, byte_named, half_named, lane_named, offset_of, base_of, read, read_numbers, fields_with, field_of, evaluate, then_registers}
 
 -- how many fields a reading has
-abbrev value_span : Option (Slot × Expression) → ℕ
+abbrev pub value_span : Option (Slot × Expression) → ℕ
 value_span None = 0
 value_span (Some v) = 1
 
-abbrev span : Reading → ℕ
+abbrev pub span : Reading → ℕ
 span r = value_span r.value + length r.registers
 
-fields_span : (labels : Labels) (place : ℕ) (ns : List ℕ) (v : Option (Slot × Expression)) (vs : List ℕ) → fields_with labels place ns v ≡ Ok vs → length vs ≡ value_span v + length ns
+pub fields_span : (labels : Labels) (place : ℕ) (ns : List ℕ) (v : Option (Slot × Expression)) (vs : List ℕ) → fields_with labels place ns v ≡ Ok vs → length vs ≡ value_span v + length ns
 fields_span labels place ns None vs e = let same : ns ≡ vs = cc in omega (arith, ap length same)
 fields_span labels place ns (Some v) vs e = go (field_of v.0 place (evaluate labels v.1)) e
   where
@@ -77,7 +50,7 @@ bracket_span : (look : List ℕ → Option ℕ) (default : Option ℕ) (o : Opti
 bracket_span look default None bs r e = pair_span (vector_named bs) default r e
 bracket_span look default (Some p) bs r e = pair_span (vector_named p.0) (bracketed look p.1) r e
 
-read_span : (k : Operand) (t : List ℕ) (r : Reading) → read k t ≡ Some r → span r ≡ length (places k)
+pub read_span : (k : Operand) (t : List ℕ) (r : Reading) → read k t ≡ Some r → span r ≡ length (places k)
 read_span (scalar low) t r e = from_map one_register 1 (λ _. refl) r (scalar_named t) e
 read_span shift_amount t r e = from_map (asks Amount []) 1 (λ _. refl) r (expression_of t) e
 read_span signed t r e = from_map (asks Half []) 1 (λ _. refl) r (expression_of t) e
@@ -94,32 +67,11 @@ read_span vector_half t r e = bracket_span half_named (Some 0) (cut Bracket t) t
 read_span vector_element t r e = bracket_span element_named (Some 0) (cut Bracket t) t r e
 read_span vector_lane t r e = bracket_span lane_named None (cut Bracket t) t r e
 
-with_fields_append : (ps qs : List Place) (vs ws : List ℕ) (w : ℕ) → length vs ≡ length ps → with_fields w (ps ++ qs) (vs ++ ws) ≡ with_fields (with_fields w ps vs) qs ws
+pub with_fields_append : (ps qs : List Place) (vs ws : List ℕ) (w : ℕ) → length vs ≡ length ps → with_fields w (ps ++ qs) (vs ++ ws) ≡ with_fields (with_fields w ps vs) qs ws
 with_fields_append [] qs [] ws w e = refl
 with_fields_append [] qs (v ∷ vs) ws w e = absurd (omega arith)
 with_fields_append (p ∷ ps) qs [] ws w e = absurd (omega arith)
 with_fields_append (p ∷ ps) qs (v ∷ vs) ws w e = with_fields_append ps qs vs ws _ (omega arith)
-
-put_one : (w : ℕ) (ps qs : List Place) (o more : Result (List ℕ) AsmFaultKind) → ((vs : List ℕ) → o ≡ Ok vs → length vs ≡ length ps) → and_then (with_values w ps o) (λ v. with_values v qs more) ≡ with_values w (ps ++ qs) (append o more)
-put_one w ps qs (Err kind) more fit = refl
-put_one w ps qs (Ok vs) (Err kind) fit = refl
-put_one w ps qs (Ok vs) (Ok ws) fit = ap Ok (sym (with_fields_append ps qs vs ws w (fit vs refl)))
-
-and_then_same : (o : Result ℕ AsmFaultKind) (f g : ℕ → Result ℕ AsmFaultKind) → ((v : ℕ) → f v ≡ g v) → and_then o f ≡ and_then o g
-and_then_same (Err kind) f g same = refl
-and_then_same (Ok v) f g same = same v
-
-pub put_read : (labels : Labels) (place w : ℕ) (ks : List Operand) (ts : List (List ℕ)) (rs : List Reading) → read_all ks ts ≡ Some rs → put_all labels place w ks ts ≡ with_values w (flat_map places ks) (all_fields labels place rs)
-put_read labels place w [] [] rs e = let none : [] ≡ rs = cc in ap (λ (xs : List Reading). with_values w [] (all_fields labels place xs)) none
-put_read labels place w [] (t ∷ ts) rs e = absurd cc
-put_read labels place w (k ∷ ks) [] rs e = absurd cc
-put_read labels place w (k ∷ ks) (t ∷ ts) rs e =
-    let p = read_parts k ks t ts rs e in
-    ap (λ o. and_then (with_values w (places k) (reading_fields labels place o)) (λ v. put_all labels place v ks ts)) p.2
-    ∙ and_then_same (with_values w (places k) (fields_of labels place p.0)) (λ v. put_all labels place v ks ts) (λ v. with_values v (flat_map places ks) (all_fields labels place p.1)) (λ v. put_read labels place v ks ts p.1 p.3)
-    ∙ put_one w (places k) (flat_map places ks) (fields_of labels place p.0) (all_fields labels place p.1)
-    (λ vs h. fields_span labels place p.0.registers p.0.value vs h ∙ read_span k t p.0 p.2)
-    ∙ ap (λ (xs : List Reading). with_values w (flat_map places (k ∷ ks)) (all_fields labels place xs)) p.4
 
 -- ---- the numbers of .word
 
@@ -131,37 +83,9 @@ numbers_parts t ts rs e = go (expression_of t) (read_numbers ts) e
     go (Some x) None e = absurd cc
     go (Some x) (Some more) e = let same : asks Word [] x ∷ more ≡ rs = cc in (x, more, refl, refl, same)
 
-pub numbers_fail : (place : ℕ) (ts : List (List ℕ)) (rs : List Reading) → read_numbers ts ≡ Some rs → list_any number_text_fails ts ≡ list_any (fails place) rs
-numbers_fail place [] rs e = let none : [] ≡ rs = cc in ap (list_any (fails place)) none
-numbers_fail place (t ∷ ts) rs e =
-    let p = numbers_parts t ts rs e in
-    ap (λ o. reading_fails 0 (option_map (asks Word []) o) || list_any number_text_fails ts) p.2
-    ∙ ap (λ b. number_fails place (Some (Word, p.0)) || b) (numbers_fail place ts p.1 p.3)
-    ∙ ap (list_any (fails place)) p.4
-
 pub numbers_length : (ts : List (List ℕ)) (rs : List Reading) → read_numbers ts ≡ Some rs → length rs ≡ length ts
 numbers_length [] rs e = let none : [] ≡ rs = cc in sym (ap length none)
 numbers_length (t ∷ ts) rs e =
     let p = numbers_parts t ts rs e in
     let more = numbers_length ts p.1 p.3 in
     omega (arith, more, ap length p.4)
-
-one_number : (labels : Labels) (place : ℕ) (e : Expression) → single (number_value labels (Some e)) ≡ fields_of labels place (asks Word [] e)
-one_number labels place e = go (evaluate labels e)
-  where
-    go : (o : Option ℤ) → single (field_of Word 0 o) ≡ then_registers [] (field_of Word place o)
-    go None = refl
-    go (Some z) = again (word z)
-      where
-        again : (o : Option ℕ) → single (or_out_of_range o) ≡ then_registers [] (or_out_of_range o)
-        again None = refl
-        again (Some v) = refl
-
-pub numbers_read : (labels : Labels) (place : ℕ) (ts : List (List ℕ)) (rs : List Reading) → read_numbers ts ≡ Some rs → number_words labels ts ≡ all_fields labels place rs
-numbers_read labels place [] rs e = let none : [] ≡ rs = cc in ap (all_fields labels place) none
-numbers_read labels place (t ∷ ts) rs e =
-    let p = numbers_parts t ts rs e in
-    ap (λ o. append (single (number_value labels o)) (number_words labels ts)) p.2
-    ∙ ap (λ o. append o (number_words labels ts)) (one_number labels place p.0)
-    ∙ ap (append (fields_of labels place (asks Word [] p.0))) (numbers_read labels place ts p.1 p.3)
-    ∙ ap (all_fields labels place) p.4

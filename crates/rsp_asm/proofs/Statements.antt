@@ -1,20 +1,20 @@
 -- Statements by their forms.
-use Rattle.std.proofs.Common.{◌≡◌, refl, sym, ap, ◌∙◌, subst, ℕ, ◌<◌, ◌+◌, List, [], ◌∷◌, ◌++◌, length, length-append, drop, Bool, true, false, arith}
-use Rattle.std.specs.Prelude.{Option, Some, None, option_map, Result, Ok, Err, if◌then◌else◌, is_some, ◌==◌, flat_map}
+use Rattle.std.proofs.Common.{◌≡◌, refl, sym, ap, ◌∙◌, subst, ℕ, ◌<◌, ◌≤◌, ◌+◌, List, [], ◌∷◌, ◌++◌, length, length-append, drop, false, arith}
+use Rattle.std.specs.Prelude.{Option, Some, None, option_map, Result, Ok, Err, if◌then◌else◌, ◌==◌, flat_map}
 use Rattle.std.specs.List.{list_any, before_first, after_first}
 use Rattle.std.proofs.lemmas.Bool.{cond-false}
-use Rattle.std.proofs.lemmas.List.{drop_at}
+use Rattle.std.proofs.lemmas.List.{drop_at, append-nil}
 use Rattle.rsp_decode.specs.Table.{Row, places, Entry, entry_of}
 use Rattle.rsp_text.specs.declared.fault.AsmFaultKind.{AsmFaultKind}
 use Rattle.rsp_text.specs.declared.fault.AsmFaultKind.TheVariants.{OutOfRange, BadOperand}
 use Rattle.rsp_text.specs.declared.text.Stop.TheVariants.{Blank}
 use Rattle.rsp_text.specs.Cuts.{stops}
 use Rattle.rsp_text.specs.Source.{Parts, parts_of, size_if, size_in, size_of, statement_words, parts_words, line_words}
-use Rattle.rsp_text.specs.Statement.{Labels, Reading, nothing, numbers, instruction, Form, no_operation, numbers_form, row_form, read_all, read_numbers, form_named, form_readings, with_operands, with_form, statement_of, operand_texts, all_fields, one_word}
-use Rattle.rsp_text.specs.Walks.{with_values}
+use Rattle.rsp_text.specs.Statement.{Labels, Reading, Statement, nothing, numbers, instruction, Form, no_operation, numbers_form, row_form, read_all, read_numbers, form_named, form_readings, with_operands, with_form, statement_of, operand_texts, append, all_fields, one_word}
+use Rattle.rsp_text.specs.Walks.{reading_fails, with_values}
 use Rattle.rsp_asm.specs.Statements.{checked, checked_readings, counted, row_words, row_size, word_with, single, Pushed, Puts}
-use Rattle.rsp_asm.specs.Walks.{number_text_fails, number_words}
-use Rattle.rsp_asm.proofs.Readings.{fails, numbers_fail, numbers_length, numbers_read}
+use Rattle.rsp_asm.proofs.Readings.{numbers_length}
+use Rattle.rsp_asm.proofs.Steps.{Part, words_with}
 
 abbrev pub name_of : List ℕ → List ℕ
 name_of bs = before_first (stops Blank) bs
@@ -36,33 +36,13 @@ pub nothing_unread : (place : ℕ) (ts : List (List ℕ)) → 0 < length ts → 
 nothing_unread place [] lt = absurd (omega arith)
 nothing_unread place (t ∷ ts) lt = refl
 
-pub some_readings : (o : Option (List Reading)) → is_some o ≡ true → (rs : List Reading) × (o ≡ Some rs)
-some_readings None e = absurd cc
-some_readings (Some rs) e = (rs, refl)
-
--- the readings of a list are out of range as its walk says
-pub read_and_checked : (place count : ℕ) (o : Option (List Reading)) (rs : List Reading) (bad : Bool) → o ≡ Some rs → bad ≡ list_any (fails place) rs → (if bad then Err OutOfRange else Ok count) ≡ checked_readings place count o
-read_and_checked place count o rs bad is same =
-    ap (λ b. if b then Err OutOfRange else Ok count) same ∙ sym (ap (checked_readings place count) is)
-
-pub numbers_unread : (place : ℕ) (ts : List (List ℕ)) → 0 < length ts → None ≡ option_map length (read_numbers ts) → Err BadOperand ≡ checked place (with_operands (form_readings numbers_form ts))
-numbers_unread place [] lt e = absurd (omega arith)
-numbers_unread place (t ∷ ts) lt e = go (read_numbers (t ∷ ts)) e
+pub numbers_checked : (place : ℕ) (ts : List (List ℕ)) → 0 < length ts → checked_readings place false (length ts) (read_numbers ts) ≡ checked place (with_operands (form_readings numbers_form ts))
+numbers_checked place [] some = absurd (omega arith)
+numbers_checked place (t ∷ ts) some = go (read_numbers (t ∷ ts)) (numbers_length (t ∷ ts))
   where
-    go : (o : Option (List Reading)) → None ≡ option_map length o → Err BadOperand ≡ checked place (with_operands (option_map numbers o))
-    go None e = refl
-    go (Some rs) e = absurd cc
-
-pub numbers_checked : (place count : ℕ) (ts : List (List ℕ)) (bad : Bool) → 0 < length ts → Some count ≡ option_map length (read_numbers ts) → bad ≡ list_any number_text_fails ts → (if bad then Err OutOfRange else Ok count) ≡ checked place (with_operands (form_readings numbers_form ts))
-numbers_checked place count [] bad lt e same = absurd (omega arith)
-numbers_checked place count (t ∷ ts) bad lt e same = go (read_numbers (t ∷ ts)) e (λ rs h. same ∙ numbers_fail place (t ∷ ts) rs h)
-  where
-    go : (o : Option (List Reading)) → Some count ≡ option_map length o → ((rs : List Reading) → o ≡ Some rs → bad ≡ list_any (fails place) rs) → (if bad then Err OutOfRange else Ok count) ≡ checked place (with_operands (option_map numbers o))
-    go None e same = absurd cc
-    go (Some rs) e same =
-        let many : count ≡ length rs = cc in
-        ap (λ b. if b then Err OutOfRange else Ok count) (same rs refl)
-        ∙ ap (λ n. if list_any (fails place) rs then Err OutOfRange else Ok n) many
+    go : (o : Option (List Reading)) → ((rs : List Reading) → o ≡ Some rs → length rs ≡ length (t ∷ ts)) → checked_readings place false (length (t ∷ ts)) o ≡ checked place (with_operands (option_map numbers o))
+    go None many = refl
+    go (Some rs) many = ap (λ n. if list_any (reading_fails place) rs then Err OutOfRange else Ok n) (sym (many rs refl))
 
 -- ---- the second pass
 
@@ -70,62 +50,66 @@ pub nothing_unsaid : (labels : Labels) (place : ℕ) (ts : List (List ℕ)) → 
 nothing_unsaid labels place [] lt = absurd (omega arith)
 nothing_unsaid labels place (t ∷ ts) lt = refl
 
--- words, where the operands can be read
-abbrev pub where_read : Option (List Reading) → Result (List ℕ) AsmFaultKind → Result (List ℕ) AsmFaultKind
-where_read None words = Err BadOperand
-where_read (Some rs) words = words
+-- what .word gives of these texts
+abbrev pub listed : List (List ℕ) → Result Statement AsmFaultKind
+listed ts = with_operands (form_readings numbers_form ts)
 
--- .word with these texts as operands: how many words, and which
-abbrev pub listed_size : List (List ℕ) → ℕ
-listed_size [] = 0
-listed_size (t ∷ ts) = counted (length (t ∷ ts)) (read_numbers (t ∷ ts))
+append_to_none : (o : Result (List ℕ) AsmFaultKind) → append (Ok []) o ≡ o
+append_to_none (Err kind) = refl
+append_to_none (Ok vs) = refl
 
-abbrev pub listed_words : Labels → List (List ℕ) → Result (List ℕ) AsmFaultKind
-listed_words labels [] = Err BadOperand
-listed_words labels (t ∷ ts) = where_read (read_numbers (t ∷ ts)) (number_words labels (t ∷ ts))
-
-pub listed_said : (labels : Labels) (place : ℕ) (ts : List (List ℕ)) → listed_words labels ts ≡ statement_words labels place (with_operands (form_readings numbers_form ts))
-listed_said labels place [] = refl
-listed_said labels place (t ∷ ts) = go (read_numbers (t ∷ ts)) (λ rs h. numbers_read labels place (t ∷ ts) rs h)
+pub numbers_said : (labels : Labels) (place : ℕ) (ts : List (List ℕ)) → 0 < length ts → words_with labels place (Ok []) (read_numbers ts) ≡ statement_words labels place (listed ts)
+numbers_said labels place [] some = absurd (omega arith)
+numbers_said labels place (t ∷ ts) some = go (read_numbers (t ∷ ts))
   where
-    go : (o : Option (List Reading)) → ((rs : List Reading) → o ≡ Some rs → number_words labels (t ∷ ts) ≡ all_fields labels place rs) → where_read o (number_words labels (t ∷ ts)) ≡ statement_words labels place (with_operands (option_map numbers o))
-    go None same = refl
-    go (Some rs) same = same rs refl
-
-pub same_read : (ts : List (List ℕ)) (o : Option ℕ) → o ≡ option_map length (read_numbers ts) → is_some (read_numbers ts) ≡ is_some o
-same_read ts o e = go (read_numbers ts) ∙ sym (ap is_some e)
-  where
-    go : (q : Option (List Reading)) → is_some q ≡ is_some (option_map length q)
+    go : (o : Option (List Reading)) → words_with labels place (Ok []) o ≡ statement_words labels place (with_operands (option_map numbers o))
     go None = refl
-    go (Some rs) = refl
+    go (Some rs) = append_to_none (all_fields labels place rs)
 
--- numbers that can be read say what their walk says
-pub listed_is : (labels : Labels) (ts : List (List ℕ)) → 0 < length ts → is_some (read_numbers ts) ≡ true → (number_words labels ts ≡ listed_words labels ts) × (length ts ≡ listed_size ts)
-listed_is labels [] lt e = absurd (omega arith)
-listed_is labels (t ∷ ts) lt e =
-    let p = some_readings (read_numbers (t ∷ ts)) e in
-    (sym (ap (λ o. where_read o (number_words labels (t ∷ ts))) p.1), sym (ap (counted (length (t ∷ ts))) p.1))
+module _ (labels : Labels) (place : ℕ) (ts : List (List ℕ)) (some : 0 < length ts) where
+  -- numbers that give words are as many as their texts
+  numbers_sized : (words : List ℕ) → Ok words ≡ statement_words labels place (listed ts) → size_if (listed ts) ≡ length ts
+  numbers_sized words e = go ts some e
+    where
+      go : (ts : List (List ℕ)) → 0 < length ts → Ok words ≡ statement_words labels place (listed ts) → size_if (listed ts) ≡ length ts
+      go [] some e = absurd (omega arith)
+      go (t ∷ ts) some e = again (read_numbers (t ∷ ts)) (numbers_length (t ∷ ts)) e
+        where
+          again : (o : Option (List Reading)) → ((rs : List Reading) → o ≡ Some rs → length rs ≡ length (t ∷ ts)) → Ok words ≡ statement_words labels place (with_operands (option_map numbers o)) → size_if (with_operands (option_map numbers o)) ≡ length (t ∷ ts)
+          again None many e = absurd cc
+          again (Some rs) many e = many rs refl
 
-pub listed_unread : (labels : Labels) (ts : List (List ℕ)) → is_some (read_numbers ts) ≡ false → listed_words labels ts ≡ Err BadOperand
-listed_unread labels [] e = refl
-listed_unread labels (t ∷ ts) e = go (read_numbers (t ∷ ts)) e
-  where
-    go : (o : Option (List Reading)) → is_some o ≡ false → where_read o (number_words labels (t ∷ ts)) ≡ Err BadOperand
-    go None e = refl
-    go (Some rs) e = absurd cc
+  -- numbers that have no room can't be read
+  pub numbers_full : (room : ℕ) → size_if (listed ts) ≤ room → room < length ts → statement_words labels place (listed ts) ≡ Err BadOperand
+  numbers_full room fits less = go ts some fits less
+    where
+      go : (ts : List (List ℕ)) → 0 < length ts → size_if (listed ts) ≤ room → room < length ts → statement_words labels place (listed ts) ≡ Err BadOperand
+      go [] some fits less = absurd (omega arith)
+      go (t ∷ ts) some fits less = again (read_numbers (t ∷ ts)) (numbers_length (t ∷ ts)) fits
+        where
+          again : (o : Option (List Reading)) → ((rs : List Reading) → o ≡ Some rs → length rs ≡ length (t ∷ ts)) → size_if (with_operands (option_map numbers o)) ≤ room → statement_words labels place (with_operands (option_map numbers o)) ≡ Err BadOperand
+          again None many fits = refl
+          again (Some rs) many fits = let same = many rs refl in absurd (omega (arith, same))
 
-pub listed_sized : (ts : List (List ℕ)) → listed_size ts ≡ size_if (with_operands (form_readings numbers_form ts))
-listed_sized [] = refl
-listed_sized (t ∷ ts) = go (read_numbers (t ∷ ts)) (λ rs h. numbers_length (t ∷ ts) rs h)
-  where
-    go : (o : Option (List Reading)) → ((rs : List Reading) → o ≡ Some rs → length rs ≡ length (t ∷ ts)) → counted (length (t ∷ ts)) o ≡ size_if (with_operands (option_map numbers o))
-    go None same = refl
-    go (Some rs) same = sym (same rs refl)
+  module _ (old new : List ℕ) where
+    -- the numbers are put where none of them has a fault
+    pub all_put : Part labels old new None [] ts → Pushed (statement_words labels place (listed ts)) (size_if (listed ts)) old new
+    all_put p =
+        let same : Ok (p.words ++ []) ≡ statement_words labels place (listed ts) = p.said place ∙ numbers_said labels place ts some in
+        record {
+          words = p.words;
+          said_words = sym same ∙ ap Ok (append-nil p.words);
+          kept = p.kept;
+          count_is = let count = p.count_is refl in let size = numbers_sized (p.words ++ []) same in omega (arith, count, size);
+        }
+
+    pub none_put : (kind : AsmFaultKind) → Part labels old new (Some kind) [] ts → statement_words labels place (listed ts) ≡ Err kind
+    none_put kind p = sym (p.said place ∙ numbers_said labels place ts some)
 
 pub row_said : (labels : Labels) (place : ℕ) (row : Row) (e : Entry) (ts : List (List ℕ)) → entry_of row ≡ e → row_words labels place e ts ≡ statement_words labels place (with_operands (form_readings (row_form row) ts))
 row_said labels place row e ts same = sym (ap (λ (x : Entry). row_words labels place x ts) same) ∙ go (read_all row.operands ts)
   where
-    go : (o : Option (List Reading)) → single (word_with labels place (entry_of row) o) ≡ statement_words labels place (with_operands (option_map (instruction row) o))
+    go : (o : Option (List Reading)) → single (word_with labels place (Ok row.value) (flat_map places row.operands) o) ≡ statement_words labels place (with_operands (option_map (instruction row) o))
     go None = refl
     go (Some rs) = again (all_fields labels place rs)
       where

@@ -1,84 +1,192 @@
--- One step of a walk over the texts of operands.
-use Rattle.std.proofs.Common.{◌≡◌, refl, sym, ap, ◌∙◌, ℕ, ◌+◌, ◌<◌, List, [], ◌∷◌, ◌++◌, length, length-append, drop, get_or, true, false, ◌&&◌, arith}
-use Rattle.std.specs.Prelude.{Option, Some, None, is_some, option_map, option_and_then, Result, Ok, Err}
-use Rattle.rsp_decode.specs.Table.{Operand}
+-- One step of a loop over the texts of operands.
+use Rattle.std.proofs.Common.{◌≡◌, refl, sym, ap, ◌∙◌, ℕ, ◌+◌, ◌<◌, ◌≤◌, List, [], ◌∷◌, ◌++◌, length, length-append, drop, get_or, Bool, true, false, ◌||◌, arith}
+use Rattle.std.specs.Prelude.{Option, Some, None, option_map, option_and_then, Result, Ok, Err, ℤ, flat_map, if◌then◌else◌}
+use Rattle.std.specs.List.{list_any}
+use Rattle.std.specs.Option.{option_or}
+use Rattle.std.specs.Result.{result_err, result_unwrap_or}
+use Rattle.std.proofs.lemmas.List.{append_assoc}
+use Rattle.rsp_decode.specs.Table.{Operand, Place, places}
 use Rattle.rsp_text.specs.declared.fault.AsmFaultKind.{AsmFaultKind}
-use Rattle.rsp_text.specs.declared.fault.AsmFaultKind.TheVariants.{BadOperand}
+use Rattle.rsp_text.specs.declared.fault.AsmFaultKind.TheVariants.{BadOperand, OutOfRange}
 use Rattle.rsp_text.specs.declared.slot.Slot.TheVariants.{Word}
 use Rattle.rsp_text.specs.Numbers.{Expression, expression_of}
-use Rattle.rsp_text.specs.Statement.{Labels, Reading, read, read_all, read_numbers, asks, append}
-use Rattle.rsp_text.specs.Walks.{number_value}
+use Rattle.rsp_text.specs.Statement.{Labels, Reading, read, read_all, read_numbers, asks, append, evaluate, field_of, fields_of, all_fields, then_registers, or_out_of_range, word}
+use Rattle.rsp_text.specs.Walks.{reading_fails, with_values, word_fails, word_value}
 use Rattle.rsp_text.proofs.Tables.{at_index}
-use Rattle.std.proofs.lemmas.List.{append_assoc}
-use Rattle.rsp_asm.specs.Statements.{single}
-use Rattle.rsp_asm.specs.Walks.{any_fails, put_all, number_words}
+use Rattle.rsp_asm.specs.Statements.{checked_readings, and_then, word_with, single}
+use Rattle.rsp_asm.proofs.Readings.{span, fields_span, read_span, with_fields_append}
 
-is_some_map : {A B : Type 0} (f : A → B) (o : Option A) → is_some (option_map f o) ≡ is_some o
-is_some_map f None = refl
-is_some_map f (Some x) = refl
+-- a reading before others, where all can be read
+abbrev pub before_others : Option Reading → Option (List Reading) → Option (List Reading)
+before_others o q = option_and_then (λ (r : Reading). option_map (λ (rs : List Reading). r ∷ rs) q) o
 
-read_one : (k : Operand) (ks : List Operand) (t : List ℕ) (ts : List (List ℕ)) → is_some (read_all (k ∷ ks) (t ∷ ts)) ≡ is_some (read k t) && is_some (read_all ks ts)
-read_one k ks t ts = go (read k t)
-  where
-    go : (o : Option Reading) → is_some (option_and_then (λ (r : Reading). option_map (λ (rs : List Reading). r ∷ rs) (read_all ks ts)) o) ≡ is_some o && is_some (read_all ks ts)
-    go None = refl
-    go (Some r) = is_some_map (λ (rs : List Reading). r ∷ rs) (read_all ks ts)
+-- a fault that was found, or what was made so far
+abbrev pub so_far : {A : Type 0} → Option AsmFaultKind → A → Result A AsmFaultKind
+so_far None x = Ok x
+so_far (Some kind) x = Err kind
+
+-- ---- the first pass
+
+or_both : (a b c : Bool) → (a || b) || c ≡ a || (b || c)
+or_both true b c = refl
+or_both false b c = refl
+
+module _ (place count : ℕ) (bad : Bool) where
+  pub checked_next : (o : Option Reading) (q : Option (List Reading)) (b : Bool) → Some b ≡ option_map (reading_fails place) o → checked_readings place (bad || b) count q ≡ checked_readings place bad count (before_others o q)
+  checked_next None q b e = absurd cc
+  checked_next (Some r) None b e = refl
+  checked_next (Some r) (Some rs) b e =
+      let same : b ≡ reading_fails place r = cc in
+      ap (λ t. if (bad || t) || list_any (reading_fails place) rs then Err OutOfRange else Ok count) same
+      ∙ ap (λ t. if t then Err OutOfRange else Ok count) (or_both bad (reading_fails place r) (list_any (reading_fails place) rs))
+
+-- ---- the second pass
+
+put_one : (w : ℕ) (ps qs : List Place) (o more : Result (List ℕ) AsmFaultKind) → ((vs : List ℕ) → o ≡ Ok vs → length vs ≡ length ps) → and_then (with_values w ps o) (λ v. with_values v qs more) ≡ with_values w (ps ++ qs) (append o more)
+put_one w ps qs (Err kind) more fit = refl
+put_one w ps qs (Ok vs) (Err kind) fit = refl
+put_one w ps qs (Ok vs) (Ok ws) fit = ap Ok (sym (with_fields_append ps qs vs ws w (fit vs refl)))
+
+module _ (labels : Labels) (place v : ℕ) (ps qs : List Place) where
+  word_next : (fault : Option AsmFaultKind) (o : Option Reading) (q : Option (List Reading)) (p : Result ℕ AsmFaultKind) → ((r : Reading) → o ≡ Some r → span r ≡ length ps) → Some p ≡ option_map (λ (r : Reading). with_values v ps (fields_of labels place r)) o → word_with labels place (and_then (so_far fault v) (λ x. p)) qs q ≡ word_with labels place (so_far fault v) (ps ++ qs) (before_others o q)
+  word_next fault None q p fit e = absurd cc
+  word_next fault (Some r) None p fit e = refl
+  word_next (Some kind) (Some r) (Some rs) p fit e = refl
+  word_next None (Some r) (Some rs) p fit e =
+      let same : p ≡ with_values v ps (fields_of labels place r) = cc in
+      ap (λ x. and_then x (λ y. with_values y qs (all_fields labels place rs))) same
+      ∙ put_one v ps qs (fields_of labels place r) (all_fields labels place rs) (λ vs h. fields_span labels place r.registers r.value vs h ∙ fit r refl)
+
+pub word_kept : (fault : Option AsmFaultKind) (v : ℕ) (p : Result ℕ AsmFaultKind) → so_far (option_or fault (result_err p)) (result_unwrap_or p v) ≡ and_then (so_far fault v) (λ x. p)
+word_kept None v (Ok next) = refl
+word_kept None v (Err kind) = refl
+word_kept (Some first) v (Ok next) = refl
+word_kept (Some first) v (Err kind) = refl
+
+-- ---- the operands of a row
 
 module _ (kinds : List Operand) (i : ℕ) (lt : i < length kinds) where
-  pub one_of : (d : Operand) (t : List ℕ) (ts : List (List ℕ)) → is_some (read_all (drop i kinds) (t ∷ ts)) ≡ is_some (read (get_or kinds i d) t) && is_some (read_all (drop (i + 1) kinds) ts)
-  one_of d t ts =
-      ap (λ ks. is_some (read_all ks (t ∷ ts))) (at_index kinds i d lt)
-      ∙ read_one (get_or kinds i d) (drop (i + 1) kinds) t ts
+  pub too_few : (d : Operand) → read_all (drop i kinds) [] ≡ None
+  too_few d = ap (λ ks. read_all ks []) (at_index kinds i d lt)
 
-  pub too_few : (d : Operand) → is_some (read_all (drop i kinds) []) ≡ false
-  too_few d = ap (λ ks. is_some (read_all ks [])) (at_index kinds i d lt)
+  pub first_read : (d : Operand) (t : List ℕ) (ts : List (List ℕ)) → read_all (drop i kinds) (t ∷ ts) ≡ before_others (read (get_or kinds i d) t) (read_all (drop (i + 1) kinds) ts)
+  first_read d t ts = ap (λ ks. read_all ks (t ∷ ts)) (at_index kinds i d lt)
 
-  pub fails_none : (place : ℕ) (d : Operand) → any_fails place (drop i kinds) [] ≡ false
-  fails_none place d = ap (λ ks. any_fails place ks []) (at_index kinds i d lt)
+  pub first_put : (d : Operand) (t : List ℕ) (ts : List (List ℕ)) (labels : Labels) (place v : ℕ) (fault : Option AsmFaultKind) (p w : Result ℕ AsmFaultKind)
+      → Some p ≡ option_map (λ (r : Reading). with_values v (places (get_or kinds i d)) (fields_of labels place r)) (read (get_or kinds i d) t)
+      → w ≡ and_then (so_far fault v) (λ x. p)
+      → word_with labels place w (flat_map places (drop (i + 1) kinds)) (read_all (drop (i + 1) kinds) ts) ≡ word_with labels place (so_far fault v) (flat_map places (drop i kinds)) (read_all (drop i kinds) (t ∷ ts))
+  first_put d t ts labels place v fault p w e is =
+      let k = get_or kinds i d in
+      let ks = drop (i + 1) kinds in
+      ap (λ x. word_with labels place x (flat_map places ks) (read_all ks ts)) is
+      ∙ word_next labels place v (places k) (flat_map places ks) fault (read k t) (read_all ks ts) p (read_span k t) e
+      ∙ sym (ap (λ (xs : List Operand). word_with labels place (so_far fault v) (flat_map places xs) (read_all xs (t ∷ ts))) (at_index kinds i d lt))
 
-  pub put_none : (labels : Labels) (place w : ℕ) (d : Operand) → put_all labels place w (drop i kinds) [] ≡ Err BadOperand
-  put_none labels place w d = ap (λ ks. put_all labels place w ks []) (at_index kinds i d lt)
+  -- an operand that can't be read leaves nothing to read
+  pub first_unread : {A : Type 0} (f : Reading → A) (d : Operand) (t : List ℕ) (ts : List (List ℕ)) → None ≡ option_map f (read (get_or kinds i d) t) → None ≡ read_all (drop i kinds) (t ∷ ts)
+  first_unread f d t ts e = go (read (get_or kinds i d) t) e ∙ sym (first_read d t ts)
+    where
+      go : (o : Option Reading) → None ≡ option_map f o → None ≡ before_others o (read_all (drop (i + 1) kinds) ts)
+      go None e = refl
+      go (Some r) e = absurd cc
 
 -- ---- the numbers of .word
 
-abbrev pub plus_length : ℕ → Option (List Reading) → Option ℕ
-plus_length n o = option_map (λ k. n + k) (option_map length o)
+pub numbers_first : (t : List ℕ) (ts : List (List ℕ)) → read_numbers (t ∷ ts) ≡ before_others (option_map (asks Word []) (expression_of t)) (read_numbers ts)
+numbers_first t ts = go (expression_of t)
+  where
+    go : (o : Option Expression) → option_and_then (λ (e : Expression). option_map (λ (rs : List Reading). asks Word [] e ∷ rs) (read_numbers ts)) o ≡ before_others (option_map (asks Word []) o) (read_numbers ts)
+    go None = refl
+    go (Some e) = refl
 
-module _ (t : List ℕ) (ts : List (List ℕ)) (n : ℕ) where
-  abbrev with_number : Option Expression → Option (List Reading) → Option (List Reading)
-  with_number o q = option_and_then (λ (e : Expression). option_map (λ (rs : List Reading). asks Word [] e ∷ rs) q) o
+pub numbers_unread : {A : Type 0} (f : Expression → A) (t : List ℕ) (ts : List (List ℕ)) → None ≡ option_map f (expression_of t) → None ≡ read_numbers (t ∷ ts)
+numbers_unread f t ts e = go (expression_of t) e ∙ sym (numbers_first t ts)
+  where
+    go : (o : Option Expression) → None ≡ option_map f o → None ≡ before_others (option_map (asks Word []) o) (read_numbers ts)
+    go None e = refl
+    go (Some x) e = absurd cc
 
-  pub number_unread : false ≡ is_some (expression_of t) → None ≡ plus_length n (read_numbers (t ∷ ts))
-  number_unread h = go (expression_of t) h
-    where
-      go : (o : Option Expression) → false ≡ is_some o → None ≡ plus_length n (with_number o (read_numbers ts))
-      go None h = refl
-      go (Some e) h = absurd cc
+pub word_fails_so : (place : ℕ) (o : Option Expression) → option_map word_fails o ≡ option_map (reading_fails place) (option_map (asks Word []) o)
+word_fails_so place None = refl
+word_fails_so place (Some e) = refl
 
-  pub number_counted : true ≡ is_some (expression_of t) → plus_length (n + 1) (read_numbers ts) ≡ plus_length n (read_numbers (t ∷ ts))
-  number_counted h = go (expression_of t) (read_numbers ts) h
-    where
-      go : (o : Option Expression) (q : Option (List Reading)) → true ≡ is_some o → plus_length (n + 1) q ≡ plus_length n (with_number o q)
-      go None q h = absurd cc
-      go (Some e) None h = refl
-      go (Some e) (Some rs) h = ap Some (omega arith)
+-- words with those of these readings behind them, or the fault of the leftmost that has one
+abbrev pub words_with : Labels → ℕ → Result (List ℕ) AsmFaultKind → Option (List Reading) → Result (List ℕ) AsmFaultKind
+words_with labels place words None = Err BadOperand
+words_with labels place words (Some rs) = append words (all_fields labels place rs)
 
--- some of the numbers are put behind the words before them, and these texts are left
-pub record Part (labels : Labels) (old new : List ℕ) (left ts : List (List ℕ)) : Type 0 where
+one_number : (labels : Labels) (place : ℕ) (e : Expression) → single (word_value labels e) ≡ fields_of labels place (asks Word [] e)
+one_number labels place e = go (evaluate labels e)
+  where
+    go : (o : Option ℤ) → single (field_of Word 0 o) ≡ then_registers [] (field_of Word place o)
+    go None = refl
+    go (Some z) = again (word z)
+      where
+        again : (o : Option ℕ) → single (or_out_of_range o) ≡ then_registers [] (or_out_of_range o)
+        again None = refl
+        again (Some v) = refl
+
+append_three : (a b c : Result (List ℕ) AsmFaultKind) → append (append a b) c ≡ append a (append b c)
+append_three (Err kind) b c = refl
+append_three (Ok vs) (Err kind) c = refl
+append_three (Ok vs) (Ok ws) (Err kind) = refl
+append_three (Ok vs) (Ok ws) (Ok us) = ap Ok (append_assoc vs ws us)
+
+numbers_next : (labels : Labels) (place : ℕ) (words : Result (List ℕ) AsmFaultKind) (o : Option Expression) (q : Option (List Reading)) (p : Result ℕ AsmFaultKind) → Some p ≡ option_map (word_value labels) o → words_with labels place (append words (single p)) q ≡ words_with labels place words (before_others (option_map (asks Word []) o) q)
+numbers_next labels place words None q p e = absurd cc
+numbers_next labels place words (Some x) None p e = refl
+numbers_next labels place words (Some x) (Some rs) p e =
+    let same : p ≡ word_value labels x = cc in
+    ap (λ y. append (append words (single y)) (all_fields labels place rs)) same
+    ∙ ap (λ y. append (append words y) (all_fields labels place rs)) (one_number labels place x)
+    ∙ append_three words (fields_of labels place (asks Word [] x)) (all_fields labels place rs)
+
+-- Some of the numbers are put behind the words before them, or one of them has a fault, and these texts are left.
+pub record Part (labels : Labels) (old new : List ℕ) (fault : Option AsmFaultKind) (left ts : List (List ℕ)) : Type 0 where
   pub words : List ℕ
   pub kept : new ≡ old ++ words
-  pub said : number_words labels ts ≡ append (Ok words) (number_words labels left)
-  pub count_is : length words + length left ≡ length ts
+  pub said : (place : ℕ) → words_with labels place (so_far fault words) (read_numbers left) ≡ words_with labels place (Ok []) (read_numbers ts)
+  pub few : length words + length left ≤ length ts
+  pub count_is : fault ≡ None → length words + length left ≡ length ts
 
-append_more : (words : List ℕ) (w : ℕ) (o : Result (List ℕ) AsmFaultKind) → append (Ok words) (append (Ok (w ∷ [])) o) ≡ append (Ok (words ++ w ∷ [])) o
-append_more words w (Err kind) = refl
-append_more words w (Ok vs) = ap Ok (sym (append_assoc words (w ∷ []) vs))
+words_kept : (fault : Option AsmFaultKind) (words : List ℕ) (w : ℕ) → so_far fault (words ++ w ∷ []) ≡ append (so_far fault words) (single (Ok w))
+words_kept None words w = refl
+words_kept (Some kind) words w = refl
 
-module _ (labels : Labels) (old new : List ℕ) (t : List ℕ) (left ts : List (List ℕ)) (p : Part labels old new (t ∷ left) ts) where
-  pub part_more : (w : ℕ) (new' : List ℕ) → Ok w ≡ number_value labels (expression_of t) → new' ≡ new ++ w ∷ [] → Part labels old new' left ts
+faults_kept : (fault : Option AsmFaultKind) (words : List ℕ) (kind : AsmFaultKind) → so_far (option_or fault (Some kind)) words ≡ append (so_far fault words) (single (Err kind))
+faults_kept None words kind = refl
+faults_kept (Some first) words kind = refl
+
+still_none : {A : Type 0} (fault : Option AsmFaultKind) (kind : AsmFaultKind) → option_or fault (Some kind) ≡ None → A
+still_none None kind e = absurd cc
+still_none (Some first) kind e = absurd cc
+
+module _ (labels : Labels) (old new : List ℕ) (fault : Option AsmFaultKind) (t : List ℕ) (left ts : List (List ℕ)) (p : Part labels old new fault (t ∷ left) ts) where
+  goes_on : (words : Result (List ℕ) AsmFaultKind) (found : Result ℕ AsmFaultKind) → Some found ≡ option_map (word_value labels) (expression_of t) → words ≡ append (so_far fault p.words) (single found) → (place : ℕ) → words_with labels place words (read_numbers left) ≡ words_with labels place (Ok []) (read_numbers ts)
+  goes_on words found e is place =
+      ap (λ ws. words_with labels place ws (read_numbers left)) is
+      ∙ numbers_next labels place (so_far fault p.words) (expression_of t) (read_numbers left) found e
+      ∙ ap (words_with labels place (so_far fault p.words)) (sym (numbers_first t left))
+      ∙ p.said place
+
+  pub part_more : (w : ℕ) (new' : List ℕ) → Some (Ok w) ≡ option_map (word_value labels) (expression_of t) → new' ≡ new ++ w ∷ [] → Part labels old new' fault left ts
   part_more w new' e is = record {
     words = p.words ++ w ∷ [];
     kept = is ∙ ap (λ xs. xs ++ w ∷ []) p.kept ∙ append_assoc old p.words (w ∷ []);
-    said = p.said ∙ ap (λ o. append (Ok p.words) (append (single o) (number_words labels left))) (sym e) ∙ append_more p.words w (number_words labels left);
-    count_is = let same = p.count_is in omega (arith, same, length-append p.words (w ∷ []));
+    said = goes_on (so_far fault (p.words ++ w ∷ [])) (Ok w) e (words_kept fault p.words w);
+    few = let few = p.few in omega (arith, few, length-append p.words (w ∷ []));
+    count_is = λ none. let same = p.count_is none in omega (arith, same, length-append p.words (w ∷ []));
   }
+
+  pub part_fault : (kind : AsmFaultKind) → Some (Err kind) ≡ option_map (word_value labels) (expression_of t) → Part labels old new (option_or fault (Some kind)) left ts
+  part_fault kind e = record {
+    words = p.words;
+    kept = p.kept;
+    said = goes_on (so_far (option_or fault (Some kind)) p.words) (Err kind) e (faults_kept fault p.words kind);
+    few = let few = p.few in omega (arith, few);
+    count_is = λ none. still_none fault kind none;
+  }
+
+  pub part_unread : None ≡ option_map (word_value labels) (expression_of t) → (place : ℕ) → words_with labels place (Ok []) (read_numbers ts) ≡ Err BadOperand
+  part_unread e place = sym (p.said place) ∙ ap (words_with labels place (so_far fault p.words)) (sym (numbers_unread (word_value labels) t left e))

@@ -2,7 +2,6 @@
 pub mod Parts
 pub mod Operands
 pub mod Statements
-pub mod Walks
 pub mod Forms
 pub mod Answer
 pub mod Decoding

@@ -1,22 +1,21 @@
--- What the two passes of the code say of a statement. This is scaffolding of the proofs: what a statement means is in the
+-- Scaffolding of the proofs: what the two passes of the code say of a statement. What a statement means is in the
 -- definitions of rsp_text.
-use Rattle.std.specs.Prelude.{◌≡◌, ℕ, List, [], ◌∷◌, ◌++◌, length, flat_map, Option, Some, None, Result, Ok, Err, MatchResult, if◌then◌else◌}
+use Rattle.std.specs.Prelude.{◌≡◌, ℕ, Bool, ◌||◌, List, [], ◌∷◌, ◌++◌, length, flat_map, Option, Some, None, Result, Ok, Err, MatchResult, if◌then◌else◌}
 use Rattle.std.specs.List.{list_any}
-use Rattle.rsp_decode.specs.Table.{places}
+use Rattle.rsp_decode.specs.Table.{Entry, Place, places}
 use Rattle.rsp_text.specs.declared.fault.AsmFaultKind.{AsmFaultKind}
 use Rattle.rsp_text.specs.declared.fault.AsmFaultKind.TheVariants.{BadOperand, OutOfRange}
-use Rattle.rsp_decode.specs.Table.{Entry}
 use Rattle.rsp_text.specs.Source.{has_bad_number}
-use Rattle.rsp_text.specs.Statement.{Labels, Reading, Statement, number_fails, all_fields, read_all, size}
-use Rattle.rsp_text.specs.Walks.{with_values}
+use Rattle.rsp_text.specs.Statement.{Labels, Reading, Statement, all_fields, read_all, size}
+use Rattle.rsp_text.specs.Walks.{reading_fails, with_values}
 
 -- ---- the first pass
 
--- how many words so many readings give, or the fault that they have without labels
-abbrev pub checked_readings : ℕ → ℕ → Option (List Reading) → Result ℕ AsmFaultKind
-checked_readings place count None = Err BadOperand
-checked_readings place count (Some rs) =
-    if list_any (λ (r : Reading). number_fails place r.value) rs then Err OutOfRange else Ok count
+-- The first number, or the fault that readings have without labels. `bad` says that an operand before them is out of its
+-- range.
+abbrev pub checked_readings : ℕ → Bool → ℕ → Option (List Reading) → Result ℕ AsmFaultKind
+checked_readings place bad count None = Err BadOperand
+checked_readings place bad count (Some rs) = if bad || list_any (reading_fails place) rs then Err OutOfRange else Ok count
 
 -- how many words a statement gives, or the fault that it has without labels
 abbrev pub checked : ℕ → Result Statement AsmFaultKind → Result ℕ AsmFaultKind
@@ -50,12 +49,17 @@ counted n (Some rs) = n
 abbrev pub row_size : Entry → List (List ℕ) → ℕ
 row_size e ts = counted 1 (read_all e.operands ts)
 
-abbrev pub word_with : Labels → ℕ → Entry → Option (List Reading) → Result ℕ AsmFaultKind
-word_with labels place e None = Err BadOperand
-word_with labels place e (Some rs) = with_values e.value (flat_map places e.operands) (all_fields labels place rs)
+abbrev pub and_then : Result ℕ AsmFaultKind → (ℕ → Result ℕ AsmFaultKind) → Result ℕ AsmFaultKind
+and_then (Err kind) more = Err kind
+and_then (Ok w) more = more w
+
+-- a word with the fields of these readings at these places, or the fault of the leftmost that has one
+abbrev pub word_with : Labels → ℕ → Result ℕ AsmFaultKind → List Place → Option (List Reading) → Result ℕ AsmFaultKind
+word_with labels place w ps None = Err BadOperand
+word_with labels place w ps (Some rs) = and_then w (λ v. with_values v ps (all_fields labels place rs))
 
 abbrev pub row_word : Labels → ℕ → Entry → List (List ℕ) → Result ℕ AsmFaultKind
-row_word labels place e ts = word_with labels place e (read_all e.operands ts)
+row_word labels place e ts = word_with labels place (Ok e.value) (flat_map places e.operands) (read_all e.operands ts)
 
 abbrev pub row_words : Labels → ℕ → Entry → List (List ℕ) → Result (List ℕ) AsmFaultKind
 row_words labels place e ts = single (row_word labels place e ts)

@@ -1,54 +1,68 @@
-// The numbers of `.word`, one after another.
+// The numbers of `.word`. Each pass reads a number once, so what is found in one is kept until all of them are read.
 
-ghost use Rattle.std.specs.Prelude.{◌≡◌, ◌+◌, ◌≤◌, length, option_map, Err, MatchResult};
-ghost use Rattle.std.specs.List.{list_any};
+ghost use Rattle.std.specs.Prelude.{◌≡◌, ℕ, ◌+◌, ◌≤◌};
 ghost use Rattle.arrayvec.specs.ArrayVec.{array_vec_len};
-ghost use Rattle.rsp_text.specs.Statement.{read_numbers, operand_texts};
-ghost use Rattle.rsp_asm.specs.Statements.{Puts};
-ghost use Rattle.rsp_asm.specs.Walks.{number_text_fails, number_words};
+ghost use Rattle.rsp_text.specs.Source.{size_if, statement_words};
+ghost use Rattle.rsp_text.specs.Statement.{operand_texts, form_readings, with_operands, numbers_form};
+ghost use Rattle.rsp_asm.specs.Statements.{checked, Puts};
 
 use crate::operands::Operands;
 use crate::words::Words;
-use rsp_operands::{Labels, is_number, is_number_out_of_range, number_word};
+use rsp_operands::{Labels, is_number_out_of_range, number_word};
 use rsp_text::AsmFaultKind;
 
-/// How many numbers there are, where each of them can be read.
-pub fn count_numbers(text: &[u8]) -> Option<usize>
-    ensures { result ≡ option_map length (read_numbers (operand_texts text.now)) }
+/// How many numbers there are.
+///
+/// Refused are none at all, one that can't be read, and then one that no word has whatever the labels are.
+pub fn check_numbers(text: &[u8]) -> Result<usize, AsmFaultKind>
+    ensures { (place : ℕ) → result ≡ checked place (with_operands (form_readings numbers_form (operand_texts text.now))) }
 {
+    if text.is_empty() {
+        return Err(AsmFaultKind::BadOperand);
+    }
     let mut count = 0;
+    let mut bad = false;
     let mut operands = Operands::new(text);
     while let Some(operand) = operands.next() {
-        if !is_number(operand) {
-            return None;
-        }
+        let Some(beyond) = is_number_out_of_range(operand) else {
+            return Err(AsmFaultKind::BadOperand);
+        };
+        bad |= beyond;
         count += 1;
     }
-    Some(count)
-}
-
-/// A number is out of the range of a word, whatever the labels are.
-pub fn has_great_number(text: &[u8]) -> bool
-    ensures { result ≡ list_any number_text_fails (operand_texts text.now) }
-{
-    let mut operands = Operands::new(text);
-    while let Some(operand) = operands.next() {
-        if is_number_out_of_range(operand) {
-            return true;
-        }
+    if bad {
+        return Err(AsmFaultKind::OutOfRange);
     }
-    false
+    Ok(count)
 }
 
 /// Puts the numbers behind the words before them.
+///
+/// Refused are none at all, one that can't be read, and then the leftmost whose label is missing or that no word has.
 pub fn push_numbers(text: &[u8], labels: &Labels<'_>, words: &mut Words) -> Result<(), AsmFaultKind>
-    requires { array_vec_len words.old + length (operand_texts text.now) ≤ 1024 }
-    ensures { Puts (number_words labels.now (operand_texts text.now)) (length (operand_texts text.now)) words.old.items words.new.items result }
+    requires { array_vec_len words.old + size_if (with_operands (form_readings numbers_form (operand_texts text.now))) ≤ 1024 }
+    ensures { (place : ℕ) → Puts (statement_words labels.now place (with_operands (form_readings numbers_form (operand_texts text.now))))
+        (size_if (with_operands (form_readings numbers_form (operand_texts text.now)))) words.old.items words.new.items result }
 {
+    if text.is_empty() {
+        return Err(AsmFaultKind::BadOperand);
+    }
+    let mut fault = None;
     let mut operands = Operands::new(text);
     while let Some(operand) = operands.next() {
-        let word = number_word(operand, labels)?;
-        words.push(word);
+        match number_word(operand, labels) {
+            None => return Err(AsmFaultKind::BadOperand),
+            Some(Err(kind)) => fault = fault.or(Some(kind)),
+            Some(Ok(word)) => {
+                // there is room for all numbers, where each of them can be read
+                if words.try_push(word).is_err() {
+                    return Err(AsmFaultKind::BadOperand);
+                }
+            }
+        }
     }
-    Ok(())
+    match fault {
+        None => Ok(()),
+        Some(kind) => Err(kind),
+    }
 }

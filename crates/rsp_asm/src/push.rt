@@ -5,12 +5,12 @@ ghost use Rattle.std.specs.List.{list_all};
 ghost use Rattle.arrayvec.specs.ArrayVec.{array_vec_len};
 ghost use Rattle.rsp_decode.specs.Table.{entry, is_row_operand};
 ghost use Rattle.rsp_text.specs.Source.{size_if, statement_words};
-ghost use Rattle.rsp_text.specs.Statement.{Labels, statement_of, operand_texts, form_readings, with_operands, no_operation, numbers_form};
-ghost use Rattle.rsp_asm.specs.Statements.{Puts, row_size, row_word, row_words};
+ghost use Rattle.rsp_text.specs.Statement.{Labels, statement_of, operand_texts, form_readings, with_operands, no_operation};
+ghost use Rattle.rsp_asm.specs.Statements.{Puts, row_size, row_words};
 
 use crate::form::{Form, form_of, split};
-use crate::numbers::{count_numbers, push_numbers};
-use crate::row::{are_operands, put_operands};
+use crate::numbers::push_numbers;
+use crate::row::row_word;
 use crate::words::Words;
 use rsp_decode::TableRow;
 use rsp_operands::Labels;
@@ -26,36 +26,6 @@ fn push_nothing(operands: &[u8], words: &mut Words) -> Result<(), AsmFaultKind>
     }
     words.push(0);
     Ok(())
-}
-
-fn push_listed(operands: &[u8], labels: &Labels<'_>, words: &mut Words) -> Result<(), AsmFaultKind>
-    requires { array_vec_len words.old + size_if (with_operands (form_readings numbers_form (operand_texts operands.now))) ≤ 1024 }
-    ensures { (place : ℕ) → Puts (statement_words labels.now place (with_operands (form_readings numbers_form (operand_texts operands.now))))
-        (size_if (with_operands (form_readings numbers_form (operand_texts operands.now)))) words.old.items words.new.items result }
-{
-    if operands.is_empty() {
-        return Err(AsmFaultKind::BadOperand);
-    }
-    if count_numbers(operands).is_none() {
-        return Err(AsmFaultKind::BadOperand);
-    }
-    push_numbers(operands, labels, words)
-}
-
-fn row_word(
-    row: TableRow,
-    operands: &[u8],
-    place: u16,
-    labels: &Labels<'_>,
-) -> Result<u32, AsmFaultKind>
-    requires place { place ≤ 4096 }
-    requires fit { list_all is_row_operand row.operands.now ≡ true }
-    ensures { result ≡ row_word labels.now place (entry row) (operand_texts operands.now) }
-{
-    if !are_operands(row.operands, operands) {
-        return Err(AsmFaultKind::BadOperand);
-    }
-    put_operands(row.operands, operands, place, labels, row.value)
 }
 
 fn push_row(
@@ -98,7 +68,7 @@ pub fn push_statement(
     };
     match form {
         Form::NoOperation => push_nothing(operands, words),
-        Form::Numbers => push_listed(operands, labels, words),
+        Form::Numbers => push_numbers(operands, labels, words),
         Form::Row(row) => push_row(row, operands, place, labels, words),
     }
 }

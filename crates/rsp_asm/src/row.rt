@@ -1,68 +1,77 @@
-// The operands of an instruction.
+// The operands of an instruction. Each pass reads an operand once, so what is found in one is kept until all of them are
+// read: one that can't be read is the fault that is told.
 
-ghost use Rattle.std.specs.Prelude.{◌≡◌, ◌≤◌, map, is_some, true};
+ghost use Rattle.std.specs.Prelude.{◌≡◌, ◌≤◌, false, true};
 ghost use Rattle.std.specs.List.{list_all};
-ghost use Rattle.rsp_decode.specs.Table.{is_row_operand};
+ghost use Rattle.rsp_decode.specs.Table.{entry, is_row_operand};
 ghost use Rattle.rsp_text.specs.Statement.{read_all, operand_texts};
-ghost use Rattle.rsp_asm.specs.Walks.{any_fails, put_all};
+ghost use Rattle.rsp_asm.specs.Statements.{checked_readings, row_word};
 
 use crate::operands::Operands;
-use rsp_decode::Operand;
-use rsp_operands::{Labels, is_operand, is_out_of_range, put_operand};
+use rsp_decode::{Operand, TableRow};
+use rsp_operands::{Labels, is_out_of_range, put_operand};
 use rsp_text::AsmFaultKind;
 
-/// There are as many operands as kinds, and each can be read as its kind.
-pub fn are_operands(kinds: &[Operand], text: &[u8]) -> bool
-    ensures { result ≡ is_some (read_all kinds.now (operand_texts text.now)) }
-{
-    let mut operands = Operands::new(text);
-    for kind in kinds {
-        let Some(operand) = operands.next() else {
-            return false;
-        };
-        if !is_operand(*kind, operand) {
-            return false;
-        }
-    }
-    operands.next().is_none()
-}
-
-/// An operand is out of its range, whatever the labels are.
-pub fn have_bad_number(kinds: &[Operand], text: &[u8], place: u16) -> bool
+/// The one word that an instruction gives.
+///
+/// Refused are operands that can't be read or are too few or too many, and then a number that is out of its range whatever
+/// the labels are.
+pub fn check_row(kinds: &[Operand], text: &[u8], place: u16) -> Result<usize, AsmFaultKind>
     requires { place ≤ 4096 }
-    ensures { result ≡ any_fails place kinds.now (operand_texts text.now) }
+    ensures { result ≡ checked_readings place false 1 (read_all kinds.now (operand_texts text.now)) }
 {
-    let mut operands = Operands::new(text);
-    for kind in kinds {
-        let Some(operand) = operands.next() else {
-            return false;
-        };
-        if is_out_of_range(*kind, operand, place) {
-            return true;
-        }
-    }
-    false
-}
-
-/// A word with the fields of all operands, or the fault of the leftmost operand that has one.
-pub fn put_operands(
-    kinds: &[Operand],
-    text: &[u8],
-    place: u16,
-    labels: &Labels<'_>,
-    word: u32,
-) -> Result<u32, AsmFaultKind>
-    requires place { place ≤ 4096 }
-    requires room { list_all is_row_operand kinds.now ≡ true }
-    ensures { result ≡ put_all labels.now place word kinds.now (operand_texts text.now) }
-{
-    let mut word = word;
+    let mut bad = false;
     let mut operands = Operands::new(text);
     for kind in kinds {
         let Some(operand) = operands.next() else {
             return Err(AsmFaultKind::BadOperand);
         };
-        word = put_operand(*kind, operand, place, labels, word)?;
+        let Some(beyond) = is_out_of_range(*kind, operand, place) else {
+            return Err(AsmFaultKind::BadOperand);
+        };
+        bad |= beyond;
     }
-    Ok(word)
+    if operands.next().is_some() {
+        return Err(AsmFaultKind::BadOperand);
+    }
+    if bad {
+        return Err(AsmFaultKind::OutOfRange);
+    }
+    Ok(1)
+}
+
+/// The word of an instruction.
+///
+/// Refused are operands that can't be read or are too few or too many, and then the leftmost whose label is missing or
+/// whose value is out of its range.
+pub fn row_word(
+    row: TableRow,
+    text: &[u8],
+    place: u16,
+    labels: &Labels<'_>,
+) -> Result<u32, AsmFaultKind>
+    requires place { place ≤ 4096 }
+    requires fit { list_all is_row_operand row.operands.now ≡ true }
+    ensures { result ≡ row_word labels.now place (entry row) (operand_texts text.now) }
+{
+    let mut word = row.value;
+    let mut fault = None;
+    let mut operands = Operands::new(text);
+    for kind in row.operands {
+        let Some(operand) = operands.next() else {
+            return Err(AsmFaultKind::BadOperand);
+        };
+        let Some(put) = put_operand(*kind, operand, place, labels, word) else {
+            return Err(AsmFaultKind::BadOperand);
+        };
+        fault = fault.or(put.err());
+        word = put.unwrap_or(word);
+    }
+    if operands.next().is_some() {
+        return Err(AsmFaultKind::BadOperand);
+    }
+    match fault {
+        None => Ok(word),
+        Some(kind) => Err(kind),
+    }
 }

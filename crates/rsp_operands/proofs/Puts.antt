@@ -1,10 +1,9 @@
 -- The word with the fields of an operand.
-use Rattle.std.proofs.Common.{◌≡◌, sym, ap, ℕ, true, List, subst}
+use Rattle.std.proofs.Common.{◌≡◌, sym, ℕ, true, List, subst}
 use Rattle.std.specs.Prelude.{Option, Some, None, option_map, IfOk, Result, Ok, Err}
-use Rattle.rsp_decode.specs.Table.{Operand, places, with_fields, is_row_operand}
+use Rattle.rsp_decode.specs.Table.{Operand, is_row_operand}
 use Rattle.rsp_text.specs.declared.fault.AsmFaultKind.{AsmFaultKind}
 use Rattle.rsp_text.specs.Statement.{Labels, Reading, read, fields_of}
-use Rattle.rsp_text.specs.Walks.{reading_fields, with_values}
 use Rattle.rsp_operands.specs.declared.fields.Fields.{Fields}
 use Rattle.rsp_operands.specs.Readings.{capped_reading}
 use Rattle.rsp_operands.specs.Fields.{fields, fields_in}
@@ -26,7 +25,3 @@ module _ (labels : Labels) (place : ℕ) where
 
   pub fields_fit : (k : Operand) (bs : List ℕ) → is_row_operand k ≡ true → (seen : Reading) (f : Fields) → Some seen ≡ option_map capped_reading (read k bs) → Found seen (Ok f) → FitWord k (fields f)
   fields_fit k bs fits seen f e found = fit_from k (read k bs) seen f (read_room labels place k bs fits) e found
-
-  pub fields_put : (k : Operand) (w : ℕ) (o : Option Reading) (seen : Reading) (f : Fields) → Some seen ≡ option_map capped_reading o → Found seen (Ok f) → Ok (with_fields w (places k) (fields f)) ≡ with_values w (places k) (reading_fields labels place o)
-  fields_put k w None seen f e found = absurd cc
-  fields_put k w (Some r) seen f e found = ap (with_values w (places k)) (found r cc)

@@ -1,5 +1,5 @@
 -- Scaffolding of contracts: what the assembler's code says of the text of one operand. What a source text means doesn't need it.
-use Rattle.std.specs.Prelude.{ℕ, Bool, false, List, Option, Some, None, Result, Ok, Err}
+use Rattle.std.specs.Prelude.{ℕ, Bool, List, Option, Some, None, Result, Ok, Err}
 use Rattle.rsp_decode.specs.Table.{Place, with_fields}
 use Rattle.rsp_text.specs.declared.fault.AsmFaultKind.{AsmFaultKind}
 use Rattle.rsp_text.specs.declared.fault.AsmFaultKind.TheVariants.{BadOperand}
@@ -7,11 +7,11 @@ use Rattle.rsp_text.specs.declared.slot.Slot.TheVariants.{Word}
 use Rattle.rsp_text.specs.Numbers.{Expression}
 use Rattle.rsp_text.specs.Statement.{Labels, Reading, evaluate, field_of, fields_of, number_fails}
 
--- what the first pass says of an operand that could be read, or couldn't
-abbrev pub reading_fails : ℕ → Option Reading → Bool
-reading_fails place None = false
-reading_fails place (Some r) = number_fails place r.value
+-- an operand is out of its range whatever the labels are
+abbrev pub reading_fails : ℕ → Reading → Bool
+reading_fails place r = number_fails place r.value
 
+-- the fields of an operand that could be read, or couldn't
 abbrev pub reading_fields : Labels → ℕ → Option Reading → Result (List ℕ) AsmFaultKind
 reading_fields labels place None = Err BadOperand
 reading_fields labels place (Some r) = fields_of labels place r
@@ -21,7 +21,10 @@ abbrev pub with_values : ℕ → List Place → Result (List ℕ) AsmFaultKind �
 with_values w ps (Err kind) = Err kind
 with_values w ps (Ok vs) = Ok (with_fields w ps vs)
 
+-- a number of .word is out of its range whatever the labels are
+abbrev pub word_fails : Expression → Bool
+word_fails e = number_fails 0 (Some (Word, e))
+
 -- the word of a number of .word
-abbrev pub number_value : Labels → Option Expression → Result ℕ AsmFaultKind
-number_value labels None = Err BadOperand
-number_value labels (Some e) = field_of Word 0 (evaluate labels e)
+abbrev pub word_value : Labels → Expression → Result ℕ AsmFaultKind
+word_value labels e = field_of Word 0 (evaluate labels e)

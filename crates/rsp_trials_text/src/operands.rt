@@ -1,10 +1,7 @@
 // Operands of single rows, with their words worked by hand.
 
 use rsp_decode::Operand;
-use rsp_operands::{
-    Labels, is_number, is_number_out_of_range, is_operand, is_out_of_range, number_word,
-    put_operand,
-};
+use rsp_operands::{Labels, is_number_out_of_range, is_out_of_range, number_word, put_operand};
 use rsp_text::AsmFaultKind;
 use std::alloc::{AllocError, Global};
 use std::test::Fail;
@@ -167,11 +164,15 @@ fn words_are_as_listed(rt: HostRuntime) -> Result<(), Fail> {
     for (value, operands, expected) in STATEMENTS {
         let mut word = value;
         for (kind, text) in operands {
-            assert!(rt; is_operand(*kind, text.as_bytes()), "{text}");
-            assert!(rt; !is_out_of_range(*kind, text.as_bytes(), 4), "{text}");
+            assert!(rt;
+                is_out_of_range(*kind, text.as_bytes(), 4) == Some(false),
+                "{text}"
+            );
             let next = put_operand(*kind, text.as_bytes(), 4, &labels, word);
-            assert!(rt; next.is_ok(), "{text}");
-            word = next.unwrap_or(word);
+            let Some(Ok(next)) = next else {
+                return Err(Fail::new("an operand is refused"));
+            };
+            word = next;
         }
         assert!(rt; word == expected, "{word:08x}");
     }
@@ -182,10 +183,14 @@ fn words_are_as_listed(rt: HostRuntime) -> Result<(), Fail> {
 fn other_texts_are_refused(rt: HostRuntime) -> Result<(), Fail> {
     let labels = two_labels(rt.alloc())?;
     for (kind, text) in OTHERS {
-        assert!(rt; !is_operand(kind, text.as_bytes()), "{text}");
-        assert!(rt; !is_out_of_range(kind, text.as_bytes(), 0), "{text}");
-        let refused = put_operand(kind, text.as_bytes(), 0, &labels, 0);
-        assert!(rt; refused == Err(AsmFaultKind::BadOperand), "{text}");
+        assert!(rt;
+            is_out_of_range(kind, text.as_bytes(), 0).is_none(),
+            "{text}"
+        );
+        assert!(rt;
+            put_operand(kind, text.as_bytes(), 0, &labels, 0).is_none(),
+            "{text}"
+        );
     }
     Ok(())
 }
@@ -194,10 +199,12 @@ fn other_texts_are_refused(rt: HostRuntime) -> Result<(), Fail> {
 fn numbers_out_of_range_are_refused(rt: HostRuntime) -> Result<(), Fail> {
     let labels = two_labels(rt.alloc())?;
     for (kind, text) in BEYOND {
-        assert!(rt; is_operand(kind, text.as_bytes()), "{text}");
-        assert!(rt; is_out_of_range(kind, text.as_bytes(), 0), "{text}");
+        assert!(rt;
+            is_out_of_range(kind, text.as_bytes(), 0) == Some(true),
+            "{text}"
+        );
         let refused = put_operand(kind, text.as_bytes(), 0, &labels, 0);
-        assert!(rt; refused == Err(AsmFaultKind::OutOfRange), "{text}");
+        assert!(rt; refused == Some(Err(AsmFaultKind::OutOfRange)), "{text}");
     }
     Ok(())
 }
@@ -208,28 +215,35 @@ fn labels_are_found(rt: HostRuntime) -> Result<(), Fail> {
     assert!(rt; labels.find(b"end") == Some(0x20));
     assert!(rt; labels.find(b"End").is_none());
     // where the labels are not known yet, no number is out of its range
-    assert!(rt; !is_out_of_range(Operand::Signed, b"lop+70000", 0));
+    assert!(rt; is_out_of_range(Operand::Signed, b"lop+70000", 0) == Some(false));
     let missing = put_operand(Operand::Signed, b"lop+70000", 0, &labels, 0);
-    assert!(rt; missing == Err(AsmFaultKind::LabelMissing));
+    assert!(rt; missing == Some(Err(AsmFaultKind::LabelMissing)));
     let far = put_operand(Operand::Signed, b"end+65504", 0, &labels, 0);
-    assert!(rt; far == Err(AsmFaultKind::OutOfRange));
+    assert!(rt; far == Some(Err(AsmFaultKind::OutOfRange)));
     let near = put_operand(Operand::Signed, b"end+65503", 0, &labels, 0);
-    assert!(rt; near == Ok(0xffff));
+    assert!(rt; near == Some(Ok(0xffff)));
     Ok(())
 }
 
 #[test]
 fn words_of_numbers(rt: HostRuntime) -> Result<(), Fail> {
     let labels = two_labels(rt.alloc())?;
-    assert!(rt; is_number(b"end + 4") && !is_number(b"end+4+4"));
-    assert!(rt; is_number_out_of_range(b"0x100000000") && !is_number_out_of_range(b"0xffffffff"));
-    assert!(rt; is_number_out_of_range(b"-2147483649") && !is_number_out_of_range(b"lop"));
     for (text, expected) in [
-        (b"end - 4".as_slice(), Ok(0x1c)),
-        (b"-1", Ok(0xffff_ffff)),
-        (b"4294967296", Err(AsmFaultKind::OutOfRange)),
-        (b"lop", Err(AsmFaultKind::LabelMissing)),
-        (b"$1", Err(AsmFaultKind::BadOperand)),
+        (b"0x100000000".as_slice(), Some(true)),
+        (b"0xffffffff", Some(false)),
+        (b"-2147483649", Some(true)),
+        (b"lop", Some(false)),
+        (b"end + 4", Some(false)),
+        (b"end+4+4", None),
+    ] {
+        assert!(rt; is_number_out_of_range(text) == expected);
+    }
+    for (text, expected) in [
+        (b"end - 4".as_slice(), Some(Ok(0x1c))),
+        (b"-1", Some(Ok(0xffff_ffff))),
+        (b"4294967296", Some(Err(AsmFaultKind::OutOfRange))),
+        (b"lop", Some(Err(AsmFaultKind::LabelMissing))),
+        (b"$1", None),
     ] {
         assert!(rt; number_word(text, &labels) == expected);
     }

@@ -11,8 +11,8 @@ use Rattle.rsp_asm.proofs.Decodes.{form_usable}
 use Rattle.rsp_asm.proofs.Statements.{statement_is, row_said, row_sized, puts_same}
 use Rattle.rsp_asm.proofs.push.push_statement.Goals as goal
 
-pub push_listed-requires : goal.push_listed-requires
-push_listed-requires c =
+pub push_numbers-requires : goal.push_numbers-requires
+push_numbers-requires c =
     let text = c.args.text.now in
     let name = c.split.result.0.now in
     let operands = c.split.result.1.now in
@@ -32,8 +32,8 @@ returns-in-Numbers c =
     let labels = c.args.labels.now in
     let is = is_numbers (form_named name (length ts)) (sym (ap (option_map form) (c.in-Some.is ∙ ap Some c.in-Numbers.is)) ∙ c.form_of.ensures) in
     let st : statement_of text ≡ with_form (Some numbers_form) ts = statement_is text name operands (Some numbers_form) (sym c.is_empty.ensures ∙ c.if-is_empty.false) c.split.ensures.name c.split.ensures.operands is in
-    puts_same (statement_words labels c.args.place (with_form (Some numbers_form) ts)) (statement_words labels c.args.place (statement_of text)) (size_if (with_form (Some numbers_form) ts)) (size_if (statement_of text)) c.args.words.now.items c.push_listed.new.words.items c.push_listed.result
-    (ap (statement_words labels c.args.place) (sym st)) (ap size_if (sym st)) (c.push_listed.ensures c.args.place)
+    puts_same (statement_words labels c.args.place (with_form (Some numbers_form) ts)) (statement_words labels c.args.place (statement_of text)) (size_if (with_form (Some numbers_form) ts)) (size_if (statement_of text)) c.args.words.now.items c.push_numbers.new.words.items c.push_numbers.result
+    (ap (statement_words labels c.args.place) (sym st)) (ap size_if (sym st)) (c.push_numbers.ensures c.args.place)
 
 pub push_row-requires-clause-fit : goal.push_row-requires-clause-fit
 push_row-requires-clause-fit c =

@@ -1,15 +1,28 @@
 use Rattle.std.proofs.Common.{ap, ◌∙◌}
-use Rattle.std.specs.Prelude.{Ok}
-use Rattle.rsp_text.specs.Statement.{read}
-use Rattle.rsp_operands.specs.Readings.{reading}
-use Rattle.rsp_operands.proofs.Puts.{fields_fit, fields_put}
+use Rattle.std.specs.Prelude.{Ok, Err}
+use Rattle.rsp_decode.specs.Table.{places}
+use Rattle.rsp_text.specs.Statement as statement
+use Rattle.rsp_text.specs.Statement.{read, fields_of}
+use Rattle.rsp_text.specs.Walks.{with_values}
+use Rattle.rsp_operands.specs.Readings.{reading, capped_reading}
+use Rattle.rsp_operands.proofs.Puts.{fields_fit}
+use Rattle.rsp_operands.proofs.Readings.{found_alike}
 use Rattle.rsp_operands.proofs.operands.put_operand.Goals as goal
 
 pub put-requires-clause-fit : goal.put-requires-clause-fit
 put-requires-clause-fit c =
-    fields_fit c.args.labels.now c.args.place c.args.kind c.args.text.now c.requires.room (reading c.in-Some.reading) c.in_ok-fields.fields c.in-Some.ensures c.in_ok-fields.ensures
+    fields_fit c.args.labels.now c.args.place c.args.kind c.args.text.now c.requires.room (reading c.in_ok-reading.reading) c.in-Ok.fields c.in_ok-reading.ensures c.in-Ok.ensures
 
-pub returns : goal.returns
-returns c =
-    ap Ok c.put.ensures
-    ∙ fields_put c.args.labels.now c.args.place c.args.kind c.args.word (read c.args.kind c.args.text.now) (reading c.in-Some.reading) c.in_ok-fields.fields c.in-Some.ensures c.in_ok-fields.ensures
+pub returns-in-Ok : goal.returns-in-Ok
+returns-in-Ok c =
+    found_alike (reading c.in_ok-reading.reading) capped_reading
+    (λ (r : statement.Reading). with_values c.args.word (places c.args.kind) (fields_of c.args.labels.now c.args.place r))
+    (read c.args.kind c.args.text.now) (Ok c.put.result) c.in_ok-reading.ensures
+    (λ r h. ap Ok c.put.ensures ∙ ap (with_values c.args.word (places c.args.kind)) (c.in-Ok.ensures r h))
+
+pub returns-in-Err : goal.returns-in-Err
+returns-in-Err c =
+    found_alike (reading c.in_ok-reading.reading) capped_reading
+    (λ (r : statement.Reading). with_values c.args.word (places c.args.kind) (fields_of c.args.labels.now c.args.place r))
+    (read c.args.kind c.args.text.now) (Err c.in-Err.fault) c.in_ok-reading.ensures
+    (λ r h. ap (with_values c.args.word (places c.args.kind)) (c.in-Err.ensures r h))
