@@ -8,7 +8,7 @@ use Rattle.std.proofs.lemmas.List.{append_assoc, append-nil}
 use Rattle.std.proofs.lemmas.List.Concat.{flat_map-append, flat_map-cons}
 use Rattle.std.proofs.lemmas.List.Folds.{list_all-append}
 use Rattle.rsp_text.specs.Chars.{is_plain}
-use Rattle.rsp_text.specs.Source.{text_of_lines}
+use Rattle.rsp_text.specs.SourceLine.{text_of_lines}
 use Rattle.rsp_text.proofs.TextLines.{lines_back}
 use Rattle.rsp_asm.specs.Block.{IsText}
 

@@ -7,12 +7,12 @@ use Rattle.std.proofs.lemmas.List.{get_or_append_left, get_or-append_right}
 use Rattle.rsp_text.specs.declared.fault.AsmFault.{AsmFault}
 use Rattle.rsp_text.specs.declared.fault.AsmFaultKind.{AsmFaultKind}
 use Rattle.rsp_text.specs.declared.slot.Slot.TheVariants.{Word}
-use Rattle.rsp_text.specs.declared.text.Stop.TheVariants.{Blank}
-use Rattle.rsp_text.specs.Cuts.{stops}
+use Rattle.rsp_text.specs.declared.text.Boundary.TheVariants.{Blank}
+use Rattle.rsp_text.specs.Cuts.{is_boundary}
 use Rattle.rsp_text.specs.Numbers.{Expression}
 use Rattle.rsp_text.specs.Statement.{Labels, Reading, asks, zero_expression, Statement, nothing, numbers, instruction, Form, no_operation, numbers_form, row_form, form_named, read_all, read_numbers, with_operands, with_form, operand_texts, statement_of, size, evaluate, field_of, then_registers, fields_of, append, all_fields, words_of}
-use Rattle.rsp_text.specs.Source.{Parts, parts_of, size_if, size_in, size_of, statement_words, parts_words, line_words}
-use Rattle.rsp_text.specs.Means.{line, place_of_line, all_labels, words_of_line, fault_before, and_words, words_before, unless}
+use Rattle.rsp_text.specs.SourceLine.{Parts, split_line, size_if, size_in, line_size, statement_words, parts_words, line_words}
+use Rattle.rsp_text.specs.Means.{line_at, place_of_line, all_labels, words_of_line, fault_before, and_words, words_before, unless}
 use Rattle.rsp_asm.specs.Decoding.{Decodes, IsWord, IsWordOfLine, BlocksDecode}
 use Rattle.rsp_asm.proofs.Readings.{numbers_parts}
 use Rattle.rsp_asm.proofs.Decodes.{statements_decode}
@@ -82,10 +82,10 @@ number_statement : (text : List ℕ) (rs : List Reading) → statement_of text �
 number_statement text rs e = go (length text == 0) e
   where
     name : List ℕ
-    name = before_first (stops Blank) text
+    name = before_first (is_boundary Blank) text
 
     ts : List (List ℕ)
-    ts = operand_texts (after_first (stops Blank) text)
+    ts = operand_texts (after_first (is_boundary Blank) text)
 
     go : (b : Bool) → (if b then Ok nothing else with_form (form_named name (length ts)) ts) ≡ Ok (numbers rs) → AreNumbers rs
     go true e = absurd cc
@@ -121,17 +121,17 @@ module _ (labels : Labels) (place : ℕ) (text : List ℕ) (ws : List ℕ) where
 
 record LineWords (labels : Labels) (place : ℕ) (l : List ℕ) (ws : List ℕ) : Type 0 where
   parts : Parts
-  is_line : parts_of l ≡ Some parts
+  is_line : split_line l ≡ Some parts
   statement : Statement
   says : statement_of parts.body ≡ Ok statement
-  count : length ws ≡ size_of l
+  count : length ws ≡ line_size l
   each : (i : ℕ) → i < length ws → IsWord labels place statement i (get_or ws i 0)
 
 line_gives : (labels : Labels) (place : ℕ) (l : List ℕ) (ws : List ℕ) → line_words labels place l ≡ Ok ws → LineWords labels place l ws
-unfolding line_words size_of
-line_gives labels place l ws e = go (parts_of l) refl e
+unfolding line_words line_size
+line_gives labels place l ws e = go (split_line l) refl e
   where
-    said : (p : Parts) → parts_of l ≡ Some p → (r : Result Statement AsmFaultKind) → statement_of p.body ≡ r → statement_words labels place r ≡ Ok ws → LineWords labels place l ws
+    said : (p : Parts) → split_line l ≡ Some p → (r : Result Statement AsmFaultKind) → statement_of p.body ≡ r → statement_words labels place r ≡ Ok ws → LineWords labels place l ws
     said p is (Err kind) says e = absurd cc
     said p is (Ok s) says e =
         let words = are_words labels place p.body ws s says e in
@@ -144,7 +144,7 @@ line_gives labels place l ws e = go (parts_of l) refl e
           each = words.each;
         }
 
-    go : (o : Option Parts) → parts_of l ≡ o → parts_words labels place o ≡ Ok ws → LineWords labels place l ws
+    go : (o : Option Parts) → split_line l ≡ o → parts_words labels place o ≡ Ok ws → LineWords labels place l ws
     go None is e = absurd cc
     go (Some p) is e = said p is (statement_of p.body) refl e
 
@@ -161,7 +161,7 @@ module _ (labels : Labels) (origin : ℕ) (ls : List (List ℕ)) where
   block_place (suc n) ws e =
       let p = words_ok (words_before labels origin ls n) (suc n) (words_of_line labels origin ls n) ws e in
       let here = block_place n p.0 p.2 in
-      let words = line_gives labels (place_of_line origin ls n) (line ls n) p.1 p.3 in
+      let words = line_gives labels (place_of_line origin ls n) (line_at ls n) p.1 p.3 in
       let count = words.count in
       omega (arith, here, count, ap length p.4, length-append p.0 p.1)
 
@@ -175,7 +175,7 @@ module _ (labels : Labels) (origin : ℕ) (ls : List (List ℕ)) where
             subst (IsWordOfLine labels origin ls j) same (block_each n p.0 (omega arith) p.2 j before)
         | inr behind ↦
             let same : get_or p.1 (j - length p.0) 0 ≡ get_or ws j 0 = sym (get_or-append_right p.0 p.1 (length p.0) j 0 refl behind) ∙ ap (λ t. get_or t j 0) p.4 in
-            let words = line_gives labels (place_of_line origin ls n) (line ls n) p.1 p.3 in
+            let words = line_gives labels (place_of_line origin ls n) (line_at ls n) p.1 p.3 in
             let here = block_place n p.0 p.2 in
             record {
               k = n;

@@ -5,7 +5,7 @@ use Rattle.std.proofs.lemmas.Bool.{cond-false}
 use Rattle.rsp_text.specs.declared.fault.AsmFaultKind.{AsmFaultKind}
 use Rattle.rsp_text.specs.declared.fault.AsmFaultKind.TheVariants.{OutOfRange, PastEnd, LabelTwice}
 use Rattle.rsp_text.specs.Statement.{Labels, Statement, statement_of, size}
-use Rattle.rsp_text.specs.Source.{Parts, parts_of, is_twice, size_if, size_in, size_of, has_bad_number, statement_fault, parts_fault, first_fault}
+use Rattle.rsp_text.specs.SourceLine.{Parts, split_line, is_twice, size_if, size_in, line_size, has_bad_number, statement_fault, parts_fault, first_fault}
 use Rattle.rsp_asm.specs.Statements.{checked}
 
 -- a line of this size behind those with a fault
@@ -35,7 +35,7 @@ of_size : (place m : ℕ) (r : Result Statement AsmFaultKind) → Ok m ≡ check
 of_size place m (Err k) e = absurd cc
 of_size place m (Ok s) e = of_good place (size s) m (has_bad_number place (Ok s)) e
 
-module _ (labels : Labels) (place : ℕ) (line : List ℕ) (p : Parts) (is : Some p ≡ parts_of line) (once : is_twice labels p.label ≡ false) where
+module _ (labels : Labels) (place : ℕ) (line : List ℕ) (p : Parts) (is : Some p ≡ split_line line) (once : is_twice labels p.label ≡ false) where
   as_statement : first_fault labels place line ≡ statement_fault place (statement_of p.body)
   unfolding first_fault
   as_statement =
@@ -48,6 +48,6 @@ module _ (labels : Labels) (place : ℕ) (line : List ℕ) (p : Parts) (is : Som
   pub line_last : (m : ℕ) → Ok m ≡ checked place (statement_of p.body) → first_fault labels place line ≡ last_fault place m
   line_last m e = as_statement ∙ (of_size place m (statement_of p.body) e).0
 
-pub line_size : (place : ℕ) (line : List ℕ) (p : Parts) (m : ℕ) → Some p ≡ parts_of line → Ok m ≡ checked place (statement_of p.body) → m ≡ size_of line
-unfolding size_of
-line_size place line p m is e = (of_size place m (statement_of p.body) e).1 ∙ ap size_in is
+pub line_size_is : (place : ℕ) (line : List ℕ) (p : Parts) (m : ℕ) → Some p ≡ split_line line → Ok m ≡ checked place (statement_of p.body) → m ≡ line_size line
+unfolding line_size
+line_size_is place line p m is e = (of_size place m (statement_of p.body) e).1 ∙ ap size_in is

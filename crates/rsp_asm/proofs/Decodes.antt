@@ -10,8 +10,8 @@ use Rattle.rsp_decode.proofs.OneRow.{one_row}
 use Rattle.rsp_decode.proofs.Places.{apart_from, all_apart, under_others, fields_back, clear_from}
 use Rattle.rsp_decode.proofs.RowsBack.{round_trip, word_of_is_canonical}
 use Rattle.rsp_text.specs.declared.fault.AsmFaultKind.{AsmFaultKind}
-use Rattle.rsp_text.specs.declared.text.Stop.TheVariants.{Blank}
-use Rattle.rsp_text.specs.Cuts.{stops}
+use Rattle.rsp_text.specs.declared.text.Boundary.TheVariants.{Blank}
+use Rattle.rsp_text.specs.Cuts.{is_boundary}
 use Rattle.rsp_decode.specs.Table.{is_row_operand}
 use Rattle.rsp_text.specs.Statement.{Labels, Reading, nothing, numbers, instruction, Form, no_operation, numbers_form, row_form, row_named, linking_row, form_named, read_all, read_numbers, with_operands, with_form, operand_texts, all_fields, one_word, words_of}
 use Rattle.rsp_asm.specs.Decoding.{Decodes, StatementsDecode}
@@ -174,10 +174,10 @@ pub statements_decode : StatementsDecode
 statements_decode labels place text row rs words said gives = go (length text == 0) said
   where
     name : List ℕ
-    name = before_first (stops Blank) text
+    name = before_first (is_boundary Blank) text
 
     ts : List (List ℕ)
-    ts = operand_texts (after_first (stops Blank) text)
+    ts = operand_texts (after_first (is_boundary Blank) text)
 
     go : (b : Bool) → (if b then Ok nothing else with_form (form_named name (length ts)) ts) ≡ Ok (instruction row rs) → Decodes labels place row rs words
     go true e = absurd cc

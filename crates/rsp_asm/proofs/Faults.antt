@@ -6,11 +6,11 @@ use Rattle.rsp_text.specs.declared.fault.AsmFault.{AsmFault}
 use Rattle.rsp_text.specs.declared.fault.AsmFaultKind.{AsmFaultKind}
 use Rattle.rsp_text.specs.declared.fault.AsmFaultKind.TheVariants.{OutOfRange, PastEnd, LabelTwice, OutOfMemory}
 use Rattle.rsp_text.specs.declared.slot.Slot.{Slot}
-use Rattle.rsp_text.specs.declared.text.Stop.TheVariants.{Blank}
-use Rattle.rsp_text.specs.Cuts.{stops}
+use Rattle.rsp_text.specs.declared.text.Boundary.TheVariants.{Blank}
+use Rattle.rsp_text.specs.Cuts.{is_boundary}
 use Rattle.rsp_text.specs.Numbers.{Expression}
 use Rattle.rsp_text.specs.Statement.{Labels, Reading, Statement, nothing, numbers, instruction, Form, form_named, form_readings, with_operands, with_form, operand_texts, statement_of, size, field, evaluate, or_out_of_range, field_of, then_registers, fields_with, fields_of, append, all_fields, one_word}
-use Rattle.rsp_text.specs.Source.{Parts, parts_of, is_twice, has_bad_number, statement_fault, parts_fault, first_fault, statement_words, parts_words, line_words}
+use Rattle.rsp_text.specs.SourceLine.{Parts, split_line, is_twice, has_bad_number, statement_fault, parts_fault, first_fault, statement_words, parts_words, line_words}
 use Rattle.std.specs.Str.Lines.{lines}
 use Rattle.std.proofs.lemmas.Bool.{false≢true}
 use Rattle.rsp_asm.specs.Answer.{IsFault, HidesNoFault}
@@ -50,7 +50,7 @@ form_fine (Some form) ts = read_fine (form_readings form ts)
 statement_fine : (bs : List ℕ) → FineResult (statement_of bs)
 statement_fine bs =
     either_result (length bs == 0) (Ok nothing) _ tt
-    (form_fine (form_named (before_first (stops Blank) bs) (length (operand_texts (after_first (stops Blank) bs)))) (operand_texts (after_first (stops Blank) bs)))
+    (form_fine (form_named (before_first (is_boundary Blank) bs) (length (operand_texts (after_first (is_boundary Blank) bs)))) (operand_texts (after_first (is_boundary Blank) bs)))
 
 -- ---- the first pass
 
@@ -66,7 +66,7 @@ parts_fine labels place (Some p) =
 
 first_fine : (labels : Labels) (place : ℕ) (line : List ℕ) → Fine (first_fault labels place line)
 unfolding first_fault
-first_fine labels place line = parts_fine labels place (parts_of line)
+first_fine labels place line = parts_fine labels place (split_line line)
 
 fault_fine : (origin : ℕ) (ls : List (List ℕ)) (n : ℕ) (f : AsmFault) → fault_before origin ls n ≡ Some f → of_text f.kind ≡ true
 fault_fine origin ls zero f e = absurd cc
@@ -123,7 +123,7 @@ line_fine labels place (Some p) = words_fine labels place (statement_of p.body) 
 
 second_fine : (labels : Labels) (place : ℕ) (line : List ℕ) → FineResult (line_words labels place line)
 unfolding line_words
-second_fine labels place line = line_fine labels place (parts_of line)
+second_fine labels place line = line_fine labels place (split_line line)
 
 words_of_text : (labels : Labels) (origin : ℕ) (ls : List (List ℕ)) (n : ℕ) (f : AsmFault) → words_before labels origin ls n ≡ Err f → of_text f.kind ≡ true
 words_of_text labels origin ls zero f e = absurd cc
@@ -146,7 +146,7 @@ means_of_text ls origin f e = go (fault_before origin ls (length ls)) refl e
         let same : fault ≡ f = cc in
         fault_fine origin ls (length ls) f (is ∙ ap Some same)
 
--- want of memory is at a line where it hides no fault of the text
+-- there was no memory at a line where that hides no fault of the text
 pub short_hides : (origin : ℕ) (text : List ℕ) (f : AsmFault) → IsFault origin text f → f.kind ≡ OutOfMemory → HidesNoFault origin (lines text) f.line
 short_hides origin text f (inl means) e = absurd (false≢true (sym (ap of_text e) ∙ means_of_text (lines text) origin f means))
 short_hides origin text f (inr short) e = short.hides

@@ -9,11 +9,11 @@ use Rattle.rsp_decode.specs.Table.{Operand, scalar, shift_amount, signed, unsign
 use Rattle.rsp_text.specs.declared.fault.AsmFaultKind.{AsmFaultKind}
 use Rattle.rsp_text.specs.declared.slot.Slot.{Slot}
 use Rattle.rsp_text.specs.declared.slot.Slot.TheVariants.{Half, Amount, Jump, Branch, Scaled}
-use Rattle.rsp_text.specs.declared.text.Stop.TheVariants.{Parenthesis, Bracket}
+use Rattle.rsp_text.specs.declared.text.Boundary.TheVariants.{Parenthesis, Bracket}
 use Rattle.rsp_text.specs.Cuts.{cut}
 use Rattle.rsp_text.specs.Names.{look_up, below, small_number, is_decimal, scalar_names, scalar_named, vector_named, sp_named, control_names, control_named, element_names, element_named}
 use Rattle.rsp_text.specs.Numbers.{Expression, expression_of}
-use Rattle.rsp_text.specs.Statement.{Labels, Reading, one_register, asks, base_of, offset_of, memory, bracketed, half_start, byte_named, half_named, lane_named, with_element, bracket_of, memory_operand, read, field, half, amount, jump, branch, scaled, evaluate, or_out_of_range, field_of, then_registers, fields_of, append, all_fields, read_all}
+use Rattle.rsp_text.specs.Statement.{Labels, Reading, one_register, asks, base_of, offset_of, memory, bracketed, half_start, byte_named, half_named, lane_named, with_element, bracket_of, memory_operand, read, field, half, amount, jump, branch, scaled_offset, evaluate, or_out_of_range, field_of, then_registers, fields_of, append, all_fields, read_all}
 
 -- ---- names
 
@@ -89,7 +89,7 @@ branch_below place (pos n) = when (λ v. v < 65536) (nat_lt n 4096 && n % 4 == 0
 branch_below place (negsuc n) = tt
 
 abbrev ScaledFits : ℕ → Type 0
-ScaledFits s = (z : ℤ) → Below 128 (scaled s z)
+ScaledFits s = (z : ℤ) → Below 128 (scaled_offset s z)
 
 -- a scale that isn't 0
 scaled_by : (s : ℕ) → ((n : ℕ) → suc n % s ≡ 0 → 0 < suc n / s) → ScaledFits s

@@ -5,8 +5,8 @@ use Rattle.std.proofs.lemmas.List.{length-drop}
 use Rattle.rsp_text.specs.declared.fault.AsmFault.{AsmFault}
 use Rattle.rsp_text.specs.declared.fault.AsmFaultKind.{AsmFaultKind}
 use Rattle.rsp_text.specs.Statement.{Labels}
-use Rattle.rsp_text.specs.Source.{label_of, size_of, first_fault, line_words}
-use Rattle.rsp_text.specs.Means.{line, place_of_line, labelled, labels_before, all_labels, fault_of_line, words_of_line, fault_at, or_fault, fault_before, and_words, words_before, unless, means_lines}
+use Rattle.rsp_text.specs.SourceLine.{label_of, line_size, first_fault, line_words}
+use Rattle.rsp_text.specs.Means.{line_at, place_of_line, labelled, labels_before, all_labels, fault_of_line, words_of_line, fault_at, or_fault, fault_before, and_words, words_before, unless, means_lines}
 use Rattle.rsp_operands.specs.Labels.{SamePlaces}
 use Rattle.rsp_asm.specs.Answer.{HidesNoFault}
 use Rattle.rsp_asm.proofs.Same.{first_same, same_behind, new_label}
@@ -17,10 +17,10 @@ module _ (ls : List (List ℕ)) (n : ℕ) (l : List ℕ) (more : List (List ℕ)
   inside : n < length ls
   inside = omega (arith, ap length rest, length-drop n ls)
 
-  next : line ls n ∷ drop (suc n) ls ≡ l ∷ more
+  next : line_at ls n ∷ drop (suc n) ls ≡ l ∷ more
   next = sym (drop-cons ls n [] inside) ∙ rest
 
-  line_is : line ls n ≡ l
+  line_is : line_at ls n ≡ l
   line_is = let all = next in cc
 
   drop_next : drop (suc n) ls ≡ more
@@ -65,7 +65,7 @@ module _ (origin number : ℕ) (ls : List (List ℕ)) (l : List ℕ) (more : Lis
   clean_more : first_fault labels place l ≡ None → fault_before origin ls (suc number) ≡ None
   clean_more e = with_line ∙ ap (or_fault None (suc number)) e
 
-  pub done_more : (labels' : Labels) (place' : ℕ) → first_fault labels place l ≡ None → SamePlaces labels' (labelled (label_of l) place ++ labels) → place' ≡ place + 4 * size_of l → Done origin (number + 1) ls more labels' place'
+  pub done_more : (labels' : Labels) (place' : ℕ) → first_fault labels place l ≡ None → SamePlaces labels' (labelled (label_of l) place ++ labels) → place' ≡ place + 4 * line_size l → Done origin (number + 1) ls more labels' place'
   done_more labels' place' e labels_is at =
       let here = line_is ls number l more d.rest in
       rw (add-one) (record {
@@ -75,7 +75,7 @@ module _ (origin number : ℕ) (ls : List (List ℕ)) (l : List ℕ) (more : Lis
         labels_are =
             subst (λ t. SamePlaces labels' (labels_before origin ls number ++ t)) (ap (labelled (label_of l)) d.place_is ∙ ap (λ x. labelled (label_of x) (place_of_line origin ls number)) (sym here))
             (same_behind (label_of l) place labels' labels (labels_before origin ls number) (new_label (labels_before origin ls number) place l (sym (first_same labels (labels_before origin ls number) d.labels_are place l) ∙ e)) labels_is d.labels_are);
-        place_is = at ∙ ap (λ p. p + 4 * size_of l) d.place_is ∙ ap (λ x. place_of_line origin ls number + 4 * size_of x) (sym here);
+        place_is = at ∙ ap (λ p. p + 4 * line_size l) d.place_is ∙ ap (λ x. place_of_line origin ls number + 4 * line_size x) (sym here);
       })
 
   pub done_fault : (kind : AsmFaultKind) → first_fault labels place l ≡ Some kind → fault_before origin ls (length ls) ≡ Some (fault_at (number + 1) kind)
@@ -90,7 +90,7 @@ module _ (origin number : ℕ) (ls : List (List ℕ)) (l : List ℕ) (more : Lis
       record {
         positive = omega arith;
         inside = omega arith;
-        labelled = ap (λ n. is_some (label_of (line ls n))) (let same : number + 1 - 1 ≡ number = omega arith in same) ∙ ap (λ x. is_some (label_of x)) (line_is ls number l more d.rest) ∙ has;
+        labelled = ap (λ n. is_some (label_of (line_at ls n))) (let same : number + 1 - 1 ≡ number = omega arith in same) ∙ ap (λ x. is_some (label_of x)) (line_is ls number l more d.rest) ∙ has;
         clean = rw (add-one) (clean_more e);
       }
 
@@ -120,10 +120,10 @@ pub record Written (origin number : ℕ) (ls left : List (List ℕ)) (labels : L
   pub words_are : words_before labels origin ls number ≡ Ok words
 
 module _ (origin number : ℕ) (ls : List (List ℕ)) (l : List ℕ) (more : List (List ℕ)) (labels : Labels) (count : ℕ) (words : List ℕ) (d : Written origin number ls (l ∷ more) labels count words) where
-  size_is : place_of_line origin ls (suc number) ≡ origin + 4 * count + 4 * size_of l
-  size_is = ap (λ x. place_of_line origin ls number + 4 * size_of x) (line_is ls number l more d.rest) ∙ ap (λ p. p + 4 * size_of l) (sym d.place_is)
+  size_is : place_of_line origin ls (suc number) ≡ origin + 4 * count + 4 * line_size l
+  size_is = ap (λ x. place_of_line origin ls number + 4 * line_size x) (line_is ls number l more d.rest) ∙ ap (λ p. p + 4 * line_size l) (sym d.place_is)
 
-  pub written_room : origin + 4 * count + 4 * size_of l ≤ place_of_line origin ls (length ls)
+  pub written_room : origin + 4 * count + 4 * line_size l ≤ place_of_line origin ls (length ls)
   written_room =
       let lt = inside ls number l more d.rest in
       let grows = place_grows origin ls (length ls - suc number) (suc number) (length ls) (omega (arith, lt)) in
@@ -136,7 +136,7 @@ module _ (origin number : ℕ) (ls : List (List ℕ)) (l : List ℕ) (more : Lis
       ∙ ap (λ x. and_words (Ok words) (suc number) (line_words labels (place_of_line origin ls number) x)) (line_is ls number l more d.rest)
       ∙ ap (λ p. and_words (Ok words) (suc number) (line_words labels p l)) (sym (at ∙ d.place_is))
 
-  pub written_more : (place count' : ℕ) (vs words' : List ℕ) → place ≡ origin + 4 * count → line_words labels place l ≡ Ok vs → count' ≡ count + size_of l → words' ≡ words ++ vs → Written origin (number + 1) ls more labels count' words'
+  pub written_more : (place count' : ℕ) (vs words' : List ℕ) → place ≡ origin + 4 * count → line_words labels place l ≡ Ok vs → count' ≡ count + line_size l → words' ≡ words ++ vs → Written origin (number + 1) ls more labels count' words'
   written_more place count' vs words' at e count_is words_is =
       let size = size_is in
       rw (add-one) (record {

@@ -5,7 +5,7 @@ use Rattle.rsp_decode.specs.Table.{Operand, scalar, shift_amount, signed, unsign
 use Rattle.rsp_text.specs.declared.fault.AsmFaultKind.{AsmFaultKind}
 use Rattle.rsp_text.specs.declared.slot.Slot.{Slot}
 use Rattle.rsp_text.specs.declared.slot.Slot.TheVariants.{Half, Amount, Jump, Branch, Scaled, Word}
-use Rattle.rsp_text.specs.declared.text.Stop.TheVariants.{Parenthesis, Bracket}
+use Rattle.rsp_text.specs.declared.text.Boundary.TheVariants.{Parenthesis, Bracket}
 use Rattle.rsp_text.specs.Cuts.{cut}
 use Rattle.rsp_text.specs.Names.{scalar_named, vector_named, sp_named, control_named, element_named}
 use Rattle.rsp_text.specs.Numbers.{Expression, expression_of}

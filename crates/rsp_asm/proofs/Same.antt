@@ -11,8 +11,8 @@ use Rattle.rsp_text.specs.declared.fault.AsmFaultKind.TheVariants.{LabelTwice}
 use Rattle.rsp_text.specs.declared.slot.Slot.{Slot}
 use Rattle.rsp_text.specs.Numbers.{Expression}
 use Rattle.rsp_text.specs.Statement.{Labels, find_label, label_place, evaluate, field_of, then_registers, fields_with, fields_of, Reading, append, all_fields, Statement, nothing, numbers, instruction, one_word, statement_of}
-use Rattle.rsp_text.specs.Source.{Parts, parts_of, is_twice, statement_fault, parts_fault, first_fault, label_in, label_of, statement_words, parts_words, line_words}
-use Rattle.rsp_text.specs.Means.{line, place_of_line, labelled, all_labels, words_of_line, fault_before, and_words, words_before, unless, means_lines}
+use Rattle.rsp_text.specs.SourceLine.{Parts, split_line, is_twice, statement_fault, parts_fault, first_fault, label_in, label_of, statement_words, parts_words, line_words}
+use Rattle.rsp_text.specs.Means.{line_at, place_of_line, labelled, all_labels, words_of_line, fault_before, and_words, words_before, unless, means_lines}
 use Rattle.rsp_operands.specs.Labels.{SamePlaces}
 
 -- ---- a label behind others
@@ -51,7 +51,7 @@ module _ (xs ys : Labels) (same : SamePlaces xs ys) where
 
   pub first_same : (place : ℕ) (line : List ℕ) → first_fault xs place line ≡ first_fault ys place line
   unfolding first_fault
-  first_same place line = go (parts_of line)
+  first_same place line = go (split_line line)
     where
       go : (o : Option Parts) → parts_fault xs place o ≡ parts_fault ys place o
       go None = refl
@@ -83,7 +83,7 @@ module _ (xs ys : Labels) (same : SamePlaces xs ys) where
 
   line_same : (place : ℕ) (line : List ℕ) → line_words xs place line ≡ line_words ys place line
   unfolding line_words
-  line_same place line = go (parts_of line)
+  line_same place line = go (split_line line)
     where
       go : (o : Option Parts) → parts_words xs place o ≡ parts_words ys place o
       go None = refl
@@ -93,12 +93,12 @@ module _ (xs ys : Labels) (same : SamePlaces xs ys) where
   words_same origin ls zero = refl
   words_same origin ls (suc n) =
       ap (λ o. and_words o (suc n) (words_of_line xs origin ls n)) (words_same origin ls n)
-      ∙ ap (and_words (words_before ys origin ls n) (suc n)) (line_same (place_of_line origin ls n) (line ls n))
+      ∙ ap (and_words (words_before ys origin ls n) (suc n)) (line_same (place_of_line origin ls n) (line_at ls n))
 
 -- a line without fault has a label that none of the labels is
 pub new_label : (labels : Labels) (place : ℕ) (line : List ℕ) → first_fault labels place line ≡ None → is_twice labels (label_of line) ≡ false
 unfolding first_fault label_of
-new_label labels place line e = go (parts_of line) e
+new_label labels place line e = go (split_line line) e
   where
     once : (b : Bool) (later : Option AsmFaultKind) → (if b then Some LabelTwice else later) ≡ None → b ≡ false
     once true later e = absurd cc

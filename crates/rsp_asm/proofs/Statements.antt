@@ -7,9 +7,9 @@ use Rattle.std.proofs.lemmas.List.{drop_at, append-nil}
 use Rattle.rsp_decode.specs.Table.{Row, places, Entry, entry_of}
 use Rattle.rsp_text.specs.declared.fault.AsmFaultKind.{AsmFaultKind}
 use Rattle.rsp_text.specs.declared.fault.AsmFaultKind.TheVariants.{OutOfRange, BadOperand}
-use Rattle.rsp_text.specs.declared.text.Stop.TheVariants.{Blank}
-use Rattle.rsp_text.specs.Cuts.{stops}
-use Rattle.rsp_text.specs.Source.{Parts, parts_of, size_if, size_in, size_of, statement_words, parts_words, line_words}
+use Rattle.rsp_text.specs.declared.text.Boundary.TheVariants.{Blank}
+use Rattle.rsp_text.specs.Cuts.{is_boundary}
+use Rattle.rsp_text.specs.SourceLine.{Parts, split_line, size_if, size_in, line_size, statement_words, parts_words, line_words}
 use Rattle.rsp_text.specs.Statement.{Labels, Reading, Statement, nothing, numbers, instruction, Form, no_operation, numbers_form, row_form, read_all, read_numbers, form_named, form_readings, with_operands, with_form, statement_of, operand_texts, append, all_fields, one_word}
 use Rattle.rsp_text.specs.Walks.{reading_fails, with_values}
 use Rattle.rsp_asm.specs.Statements.{checked, checked_readings, counted, row_words, row_size, word_with, single, Pushed, Puts}
@@ -17,13 +17,13 @@ use Rattle.rsp_asm.proofs.Readings.{numbers_length}
 use Rattle.rsp_asm.proofs.Steps.{Part, words_with}
 
 abbrev pub name_of : List ℕ → List ℕ
-name_of bs = before_first (stops Blank) bs
+name_of bs = before_first (is_boundary Blank) bs
 
 abbrev pub texts_after : List ℕ → List (List ℕ)
-texts_after bs = operand_texts (after_first (stops Blank) bs)
+texts_after bs = operand_texts (after_first (is_boundary Blank) bs)
 
 -- the statement of a text that isn't empty, by what stands for its name and its operands
-pub statement_is : (bs name operands : List ℕ) (o : Option Form) → (length bs == 0) ≡ false → name ≡ name_of bs → operands ≡ after_first (stops Blank) bs → form_named name (length (operand_texts operands)) ≡ o → statement_of bs ≡ with_form o (operand_texts operands)
+pub statement_is : (bs name operands : List ℕ) (o : Option Form) → (length bs == 0) ≡ false → name ≡ name_of bs → operands ≡ after_first (is_boundary Blank) bs → form_named name (length (operand_texts operands)) ≡ o → statement_of bs ≡ with_form o (operand_texts operands)
 statement_is bs name operands o some n t e =
     cond-false (length bs == 0) (Ok nothing) _ some
     ∙ ap (λ x. with_form (form_named x (length (texts_after bs))) (texts_after bs)) (sym n)
@@ -143,11 +143,11 @@ module _ (said : Result (List ℕ) AsmFaultKind) (count : ℕ) (old new : List �
   pub pushed_len : length new ≡ length old + count
   pushed_len = omega (arith, ap length p.kept, length-append old p.words, p.count_is)
 
-module _ (labels : Labels) (place : ℕ) (line : List ℕ) (p : Parts) (is : Some p ≡ parts_of line) where
+module _ (labels : Labels) (place : ℕ) (line : List ℕ) (p : Parts) (is : Some p ≡ split_line line) where
   pub line_said : line_words labels place line ≡ statement_words labels place (statement_of p.body)
   unfolding line_words
   line_said = ap (parts_words labels place) (sym is)
 
-  pub line_sized : size_of line ≡ size_if (statement_of p.body)
-  unfolding size_of
+  pub line_sized : line_size line ≡ size_if (statement_of p.body)
+  unfolding line_size
   line_sized = ap size_in (sym is)

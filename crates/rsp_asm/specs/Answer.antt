@@ -3,7 +3,7 @@ use Rattle.std.specs.Prelude.{◌≡◌, ◌⊎◌, ℕ, ◌-◌, ◌<◌, ◌�
 use Rattle.std.specs.Str.Lines.{lines}
 use Rattle.rsp_text.specs.declared.fault.AsmFault.{AsmFault}
 use Rattle.rsp_text.specs.declared.fault.AsmFaultKind.TheVariants.{OutOfMemory}
-use Rattle.rsp_text.specs.Source.{label_of}
+use Rattle.rsp_text.specs.SourceLine.{label_of}
 use Rattle.rsp_text.specs.Means.{fault_before, means}
 
 -- Memory ran out at a line, and that hides no fault of the text: the line has a label, and neither the line nor one before it
@@ -14,7 +14,7 @@ pub record HidesNoFault (place : ℕ) (ls : List (List ℕ)) (line : ℕ) : Type
   pub labelled : is_some (label_of (slice_index_or ls (line - 1) [])) ≡ true
   pub clean : fault_before place ls line ≡ None
 
--- the fault of want of memory, at a line where it hides no fault of the text
+-- the fault that there was no memory, at a line where it hides no fault of the text
 pub record IsShortOfMemory (origin : ℕ) (text : List ℕ) (fault : AsmFault) : Type 0 where
   pub kind : fault.kind ≡ OutOfMemory
   pub hides : HidesNoFault origin (lines text) fault.line

@@ -3,7 +3,7 @@ use Rattle.std.specs.Prelude.{ℕ, List, [], ◌∷◌, ◌++◌, ◌≡◌, Res
 use Rattle.std.specs.List.{list_all}
 use Rattle.std.specs.Str.Lines.{lines}
 use Rattle.rsp_text.specs.Chars.{is_plain}
-use Rattle.rsp_text.specs.Source.{text_of_lines}
+use Rattle.rsp_text.specs.SourceLine.{text_of_lines}
 use Rattle.rsp_text.specs.declared.fault.AsmFault.{AsmFault}
 use Rattle.rsp_text.specs.Means.{means_lines}
 

@@ -5,11 +5,11 @@ use Rattle.rsp_asm.specs.declared.block.BlockFault.{BlockFault}
 use Rattle.rsp_asm.specs.declared.block.BlockFault.TheVariants.{Text, OutOfMemory}
 use Rattle.rsp_asm.specs.Block.{OpenBlock, meaning}
 
--- want of memory at a line, which hides no fault of the text
+-- there was no memory at a line, and that hides no fault of the text
 abbrev pub hides_no_fault : OpenBlock → ℕ → Type 0
 hides_no_fault b line = HidesNoFault b.place b.lines line
 
--- the fault of its text, or want of memory that hides none
+-- the fault of its text, or that there was no memory, which hides none
 abbrev pub IsBlockFault : OpenBlock → BlockFault → Type 0
 IsBlockFault b (Text fault) = meaning b ≡ Err fault
 IsBlockFault b (OutOfMemory line) = hides_no_fault b line

@@ -2,8 +2,8 @@
 use Rattle.std.specs.Prelude.{◌≡◌, ℕ, ◌+◌, ◌*◌, ◌<◌, List, [], ◌∷◌, length, slice_index, slice_index_or, Some, Ok}
 use Rattle.rsp_decode.specs.Table.{Row, inst_of, canonical_of}
 use Rattle.rsp_text.specs.Statement.{Labels, Reading, Statement, nothing, numbers, instruction, statement_of, words_of, fields_of, all_fields}
-use Rattle.rsp_text.specs.Source.{Parts, parts_of}
-use Rattle.rsp_text.specs.Means.{line, place_of_line, all_labels, means_lines}
+use Rattle.rsp_text.specs.SourceLine.{Parts, split_line}
+use Rattle.rsp_text.specs.Means.{line_at, place_of_line, all_labels, means_lines}
 
 -- A row's statement with these operands gave these words: it is one word, which the table decodes to the instruction of the
 -- row with the values of the operands as its fields, and which is the canonical word of that.
@@ -35,7 +35,7 @@ pub record IsWordOfLine (labels : Labels) (origin : ℕ) (ls : List (List ℕ)) 
   pub inside : k < length ls
   pub place : origin + 4 * j ≡ place_of_line origin ls k + 4 * i
   pub parts : Parts
-  pub is_line : parts_of (line ls k) ≡ Some parts
+  pub is_line : split_line (line_at ls k) ≡ Some parts
   pub statement : Statement
   pub says : statement_of parts.body ≡ Ok statement
   pub meaning : IsWord labels (place_of_line origin ls k) statement i word

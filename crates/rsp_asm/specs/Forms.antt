@@ -1,5 +1,5 @@
--- The form of a statement, as the code has it. This is scaffolding of the proofs: what a statement means is in the
--- definitions of rsp_text.
+-- Scaffolding of the contracts: the form of a statement, as the code has it. What a statement means is in the definitions of
+-- rsp_text.
 use Rattle.rsp_decode.specs.Table.{Entry, entry_of, entry}
 use Rattle.rsp_text.specs.Statement as statement
 use Rattle.rsp_text.specs.Statement.{no_operation, numbers_form, row_form}

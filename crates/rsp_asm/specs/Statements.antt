@@ -5,7 +5,7 @@ use Rattle.std.specs.List.{list_any}
 use Rattle.rsp_decode.specs.Table.{Entry, Place, places}
 use Rattle.rsp_text.specs.declared.fault.AsmFaultKind.{AsmFaultKind}
 use Rattle.rsp_text.specs.declared.fault.AsmFaultKind.TheVariants.{BadOperand, OutOfRange}
-use Rattle.rsp_text.specs.Source.{has_bad_number}
+use Rattle.rsp_text.specs.SourceLine.{has_bad_number}
 use Rattle.rsp_text.specs.Statement.{Labels, Reading, Statement, all_fields, read_all, size}
 use Rattle.rsp_text.specs.Walks.{reading_fails, with_values}
 

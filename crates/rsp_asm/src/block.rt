@@ -5,7 +5,7 @@ ghost use Rattle.rsp_text.specs.Chars.{is_plain};
 ghost use Rattle.rsp_asm.specs.Block.{opened, with_line, meaning};
 ghost use Rattle.rsp_asm.specs.BlockFault.{IsBlockFault};
 
-use crate::source::assemble;
+use crate::two_passes::assemble;
 use crate::words::Words;
 use rsp_text::{AsmFault, AsmFaultKind};
 use std::alloc::{AllocError, Global};

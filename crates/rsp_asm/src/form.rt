@@ -2,21 +2,21 @@
 
 ghost use Rattle.std.specs.Prelude.{◌≡◌, ◌==◌, length, option_map};
 ghost use Rattle.std.specs.List.{before_first, after_first};
-ghost use Rattle.rsp_text.specs.Cuts.{stops};
-ghost use Rattle.rsp_text.specs.declared.text.Stop.TheVariants.{Blank};
+ghost use Rattle.rsp_text.specs.Cuts.{is_boundary};
+ghost use Rattle.rsp_text.specs.declared.text.Boundary.TheVariants.{Blank};
 ghost use Rattle.rsp_text.specs.Statement.{form_named, operand_texts};
 ghost use Rattle.rsp_asm.specs.Forms.{form, form_shape};
 
 use crate::operands::Operands;
 use rsp_decode::{Operand, TableRow};
-use rsp_text::{Stop, cut, find_row, is_same};
+use rsp_text::{Boundary, cut, find_row, is_same};
 
 /// The name of a statement, and the text of its operands.
 pub fn split(text: &[u8]) -> (&[u8], &[u8])
-    ensures name { result.0.now ≡ before_first (stops Blank) text.now }
-    ensures operands { result.1.now ≡ after_first (stops Blank) text.now }
+    ensures name { result.0.now ≡ before_first (is_boundary Blank) text.now }
+    ensures operands { result.1.now ≡ after_first (is_boundary Blank) text.now }
 {
-    match cut(text, Stop::Blank) {
+    match cut(text, Boundary::Blank) {
         Some(parts) => parts,
         None => (text, &[]),
     }

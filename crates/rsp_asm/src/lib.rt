@@ -12,10 +12,10 @@ mod numbers;
 mod operands;
 mod push;
 mod row;
-mod source;
+mod two_passes;
 mod words;
 
 pub use block::{Block, BlockFault};
 pub use rsp_text::{AsmFault, AsmFaultKind};
-pub use source::assemble;
+pub use two_passes::assemble;
 pub use words::Words;

@@ -2,14 +2,14 @@
 
 ghost use Rattle.std.specs.Prelude.{◌≡◌, ◌+◌, ◌*◌, ◌≤◌, None, Some, Ok, Err, option_map, IfOk, IfErr, OnOk, drop, ◌++◌};
 ghost use Rattle.arrayvec.specs.ArrayVec.{array_vec_len};
-ghost use Rattle.rsp_text.specs.Source.{code_of, parts_of, is_twice, first_fault, label_of, size_of, line_words};
-ghost use Rattle.rsp_asm.specs.Parts.{parts};
+ghost use Rattle.rsp_text.specs.SourceLine.{code_of, split_line, is_twice, first_fault, label_of, line_size, line_words};
+ghost use Rattle.rsp_asm.specs.Parts.{seen_parts};
 
 use crate::check::check_statement;
 use crate::push::push_statement;
 use crate::words::Words;
 use rsp_operands::Labels;
-use rsp_text::{AsmFaultKind, Stop, cut, is_label, is_line, skip_blanks, trim};
+use rsp_text::{AsmFaultKind, Boundary, cut, is_label, is_line, skip_blanks, trim};
 
 /// What the first pass finds in a line.
 #[derive(Clone, Copy)]
@@ -23,7 +23,7 @@ pub struct Line<'a> {
 fn code(line: &[u8]) -> &[u8]
     ensures { result.now ≡ code_of line.now }
 {
-    match cut(line, Stop::Comment) {
+    match cut(line, Boundary::Comment) {
         Some((front, _)) => trim(front),
         None => trim(line),
     }
@@ -36,14 +36,14 @@ struct Parts<'a> {
     body: &'a [u8],
 }
 
-fn parts_of(line: &[u8]) -> Option<Parts<'_>>
-    ensures { option_map parts result ≡ parts_of line.now }
+fn split_line(line: &[u8]) -> Option<Parts<'_>>
+    ensures { option_map seen_parts result ≡ split_line line.now }
 {
     if !is_line(line) {
         return None;
     }
     let text = code(line);
-    let Some((name, rest)) = cut(text, Stop::Colon) else {
+    let Some((name, rest)) = cut(text, Boundary::Colon) else {
         return Some(Parts {
             label: None,
             body: text,
@@ -71,7 +71,7 @@ fn is_twice(labels: &Labels<'_>, name: Option<&[u8]>) -> bool
 ///
 /// The first of these faults is refused: a line that is none, a label that one of the lines before has, a name or operands
 /// that can't be read, a number that is out of its range whatever the labels are, and words that stand past the end.
-#[tactic(auto, unfolding(rsp_text::specs::Source::first_fault, rsp_text::specs::Source::label_of, rsp_text::specs::Source::size_of))]
+#[tactic(auto, unfolding(rsp_text::specs::SourceLine::first_fault, rsp_text::specs::SourceLine::label_of, rsp_text::specs::SourceLine::line_size))]
 pub fn check_line<'a>(
     line: &'a [u8],
     place: u16,
@@ -80,11 +80,11 @@ pub fn check_line<'a>(
     requires { place ≤ 4096 }
     ensures fault { IfOk result (λ l. first_fault labels.now place line.now ≡ None) }
     ensures label { IfOk result (λ l. option_map (λ t. t.now) l.label ≡ label_of line.now) }
-    ensures size { IfOk result (λ l. l.size ≡ size_of line.now) }
+    ensures size { IfOk result (λ l. l.size ≡ line_size line.now) }
     ensures room { IfOk result (λ l. place + 4 * l.size ≤ 4096) }
     ensures err { IfErr result (λ kind. first_fault labels.now place line.now ≡ Some kind) }
 {
-    let Some(parts) = parts_of(line) else {
+    let Some(parts) = split_line(line) else {
         return Err(AsmFaultKind::BadLine);
     };
     if is_twice(labels, parts.label) {
@@ -102,7 +102,7 @@ pub fn check_line<'a>(
 
 /// Puts the words of a line behind those of the lines before it, or refuses the leftmost operand whose label is missing or
 /// whose value is out of its range.
-#[tactic(auto, unfolding(rsp_text::specs::Source::line_words, rsp_text::specs::Source::size_of))]
+#[tactic(auto, unfolding(rsp_text::specs::SourceLine::line_words, rsp_text::specs::SourceLine::line_size))]
 pub fn push_words(
     line: &[u8],
     place: u16,
@@ -110,13 +110,13 @@ pub fn push_words(
     words: &mut Words,
 ) -> Result<(), AsmFaultKind>
     requires place { place ≤ 4096 }
-    requires room { array_vec_len words.old + size_of line.now ≤ 1024 }
+    requires room { array_vec_len words.old + line_size line.now ≤ 1024 }
     ensures ok { OnOk result (line_words labels.now place line.now ≡ Ok (drop (array_vec_len words.old) words.new.items)) }
     ensures kept { OnOk result (words.new.items ≡ words.old.items ++ drop (array_vec_len words.old) words.new.items) }
-    ensures len { OnOk result (array_vec_len words.new ≡ array_vec_len words.old + size_of line.now) }
+    ensures len { OnOk result (array_vec_len words.new ≡ array_vec_len words.old + line_size line.now) }
     ensures err { IfErr result (λ kind. line_words labels.now place line.now ≡ Err kind) }
 {
-    let Some(parts) = parts_of(line) else {
+    let Some(parts) = split_line(line) else {
         return Err(AsmFaultKind::BadLine);
     };
     push_statement(parts.body, place, labels, words)

@@ -2,7 +2,7 @@
 
 ghost use Rattle.std.specs.Prelude.{◌≡◌, ℕ, ◌+◌, ◌≤◌};
 ghost use Rattle.arrayvec.specs.ArrayVec.{array_vec_len};
-ghost use Rattle.rsp_text.specs.Source.{size_if, statement_words};
+ghost use Rattle.rsp_text.specs.SourceLine.{size_if, statement_words};
 ghost use Rattle.rsp_text.specs.Statement.{operand_texts, form_readings, with_operands, numbers_form};
 ghost use Rattle.rsp_asm.specs.Statements.{checked, Puts};
 

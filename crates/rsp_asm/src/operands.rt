@@ -3,7 +3,7 @@
 ghost use Rattle.std.specs.Prelude.{◌≡◌, ◌+◌, ◌≤◌, [], ◌∷◌, length, MatchOption};
 ghost use Rattle.rsp_text.specs.Statement.{operand_texts};
 
-use rsp_text::{Stop, cut, trim};
+use rsp_text::{Boundary, cut, trim};
 use std::marker::Model;
 
 /// The operands that are left of a statement. Contracts see their texts.
@@ -40,7 +40,7 @@ impl<'a> Operands<'a> {
         let Some(text) = self.rest else {
             return None;
         };
-        let Some((front, rest)) = cut(text, Stop::Comma) else {
+        let Some((front, rest)) = cut(text, Boundary::Comma) else {
             self.rest = None;
             return Some(trim(text));
         };

@@ -4,7 +4,7 @@ ghost use Rattle.std.specs.Prelude.{◌≡◌, ℕ, ◌+◌, ◌≤◌, true};
 ghost use Rattle.std.specs.List.{list_all};
 ghost use Rattle.arrayvec.specs.ArrayVec.{array_vec_len};
 ghost use Rattle.rsp_decode.specs.Table.{entry, is_row_operand};
-ghost use Rattle.rsp_text.specs.Source.{size_if, statement_words};
+ghost use Rattle.rsp_text.specs.SourceLine.{size_if, statement_words};
 ghost use Rattle.rsp_text.specs.Statement.{Labels, statement_of, operand_texts, form_readings, with_operands, no_operation};
 ghost use Rattle.rsp_asm.specs.Statements.{Puts, row_size, row_words};
 

@@ -3,7 +3,7 @@
 ghost use Rattle.std.specs.Prelude.{◌≡◌, ℕ, ◌<◌, ◌≤◌, List, length, Ok};
 ghost use Rattle.std.specs.List.{All};
 ghost use Rattle.rsp_text.specs.Means.{means, means_lines};
-ghost use Rattle.rsp_text.specs.Source.{text_of_lines};
+ghost use Rattle.rsp_text.specs.SourceLine.{text_of_lines};
 ghost use Rattle.rsp_text.specs.Spell.{listing};
 ghost use Rattle.rsp_bench.specs.Laws.{LooksAndRunsComeOut, LooksChangeNothing};
 ghost use Rattle.rsp_bench.specs.Refusals.{RefusedCommandsChangeNothing, RefusedLinesChangeNothing};

@@ -5,11 +5,11 @@ use Rattle.std.specs.List.{list_all, after_first, slice_split}
 use Rattle.std.proofs.lemmas.Bool.{and_parts, and_from, cond-true, cond-false, ne_eqb, le-leb, not-true}
 use Rattle.std.proofs.lemmas.Bool.Decides.{nat_tests}
 use Rattle.std.proofs.lemmas.List.{append_assoc, append-nil, length-append, reverse-append, reverse-reverse}
-use Rattle.rsp_text.specs.declared.text.Stop.TheVariants.{Blank, Colon, Comma, Comment}
+use Rattle.rsp_text.specs.declared.text.Boundary.TheVariants.{Blank, Colon, Comma, Comment}
 use Rattle.rsp_text.specs.Chars.{is_blank, is_plain, skip_blanks, trim}
-use Rattle.rsp_text.specs.Cuts.{stops, cut}
+use Rattle.rsp_text.specs.Cuts.{is_boundary, cut}
 use Rattle.rsp_text.specs.Chars.{is_line}
-use Rattle.rsp_text.specs.Source.{front_of, code_of, labelled_parts, parts_of}
+use Rattle.rsp_text.specs.SourceLine.{front_of, code_of, labelled_parts, split_line}
 use Rattle.rsp_text.specs.Statement.{nothing, statement_of, statement_with, operand_texts}
 use Rattle.rsp_text.specs.Spell.{more_operands, behind_name}
 use Rattle.rsp_text.proofs.Cuts.{no, cut_none, before_stop, after_stop}
@@ -21,21 +21,21 @@ use Rattle.rsp_dis.proofs.Pieces.{is_piece, Piece, piece_from, Pieces, all_appen
 
 -- a byte of a line without a label or a comment
 abbrev of_line : ℕ → Bool
-of_line c = is_plain c && not (stops Colon c || stops Comment c)
+of_line c = is_plain c && not (is_boundary Colon c || is_boundary Comment c)
 
 quiet_of_line : (c : ℕ) → is_quiet c ≡ true → of_line c ≡ true
 quiet_of_line c e = grind (arith, nat_tests)
 
-quiet_no_blank : (c : ℕ) → is_quiet c ≡ true → not (stops Blank c) ≡ true
+quiet_no_blank : (c : ℕ) → is_quiet c ≡ true → not (is_boundary Blank c) ≡ true
 quiet_no_blank c e = grind (arith, nat_tests)
 
-quiet_no_comma : (c : ℕ) → is_quiet c ≡ true → not (stops Comma c) ≡ true
+quiet_no_comma : (c : ℕ) → is_quiet c ≡ true → not (is_boundary Comma c) ≡ true
 quiet_no_comma c e = grind (arith, nat_tests)
 
-line_no_comment : (c : ℕ) → of_line c ≡ true → not (stops Comment c) ≡ true
+line_no_comment : (c : ℕ) → of_line c ≡ true → not (is_boundary Comment c) ≡ true
 line_no_comment c e = grind (arith, nat_tests)
 
-line_no_colon : (c : ℕ) → of_line c ≡ true → not (stops Colon c) ≡ true
+line_no_colon : (c : ℕ) → of_line c ≡ true → not (is_boundary Colon c) ≡ true
 line_no_colon c e = grind (arith, nat_tests)
 
 line_plain : (c : ℕ) → of_line c ≡ true → is_plain c ≡ true
@@ -82,14 +82,14 @@ trim_piece (c ∷ cs) p = trim_ends c cs (and_parts (is_quiet c) (list_all is_qu
 
 -- ---- operands between commas
 
-no_comma : (bs : List ℕ) → list_all is_quiet bs ≡ true → no (stops Comma) bs ≡ true
-no_comma bs e = weaker is_quiet (λ c. not (stops Comma c)) quiet_no_comma bs e
+no_comma : (bs : List ℕ) → list_all is_quiet bs ≡ true → no (is_boundary Comma) bs ≡ true
+no_comma bs e = weaker is_quiet (λ c. not (is_boundary Comma c)) quiet_no_comma bs e
 
-split_pieces : (t : List ℕ) (ts : List (List ℕ)) → no (stops Comma) t ≡ true → Pieces ts → slice_split (stops Comma) (t ++ more_operands ts) ≡ t ∷ map (λ u. 32 ∷ u) ts
-split_pieces t [] plain ps = ap (slice_split (stops Comma)) (append-nil t) ∙ split_one (stops Comma) t plain
+split_pieces : (t : List ℕ) (ts : List (List ℕ)) → no (is_boundary Comma) t ≡ true → Pieces ts → slice_split (is_boundary Comma) (t ++ more_operands ts) ≡ t ∷ map (λ u. 32 ∷ u) ts
+split_pieces t [] plain ps = ap (slice_split (is_boundary Comma)) (append-nil t) ∙ split_one (is_boundary Comma) t plain
 split_pieces t (u ∷ us) plain ps =
     let both = and_parts (is_piece u) (list_all is_piece us) ps in
-    split_cons (stops Comma) t (32 ∷ (u ++ more_operands us)) 44 plain refl
+    split_cons (is_boundary Comma) t (32 ∷ (u ++ more_operands us)) 44 plain refl
     ∙ ap (λ x. t ∷ x) (split_pieces (32 ∷ u) us (no_comma u (piece_from u both.0).all) both.1)
 
 trim_pieces : (ts : List (List ℕ)) → Pieces ts → map trim (map (λ u. 32 ∷ u) ts) ≡ ts
@@ -111,8 +111,8 @@ texts_back t ts ps =
 
 -- ---- the line
 
-name_no_blank : (name : List ℕ) → Piece name → no (stops Blank) name ≡ true
-name_no_blank name p = weaker is_quiet (λ c. not (stops Blank c)) quiet_no_blank name p.all
+name_no_blank : (name : List ℕ) → Piece name → no (is_boundary Blank) name ≡ true
+name_no_blank name p = weaker is_quiet (λ c. not (is_boundary Blank c)) quiet_no_blank name p.all
 
 -- the statement of such a line
 pub statement_back : (name : List ℕ) (ts : List (List ℕ)) → Piece name → Pieces ts → statement_of (name ++ behind_name ts) ≡ statement_with name ts
@@ -122,7 +122,7 @@ statement_back name [] p ps =
     let uncut = sym (cut_none Blank name plain) in
     ap statement_of (append-nil name)
     ∙ cond-false (length name == 0) (Ok nothing) _ (ne_eqb _ 0 (λ e. omega arith))
-    ∙ ap (λ n. statement_with n (operand_texts (after_first (stops Blank) name))) (sym (no_blank_before name uncut))
+    ∙ ap (λ n. statement_with n (operand_texts (after_first (is_boundary Blank) name))) (sym (no_blank_before name uncut))
     ∙ ap (λ a. statement_with name (operand_texts a)) (sym (no_blank_after name uncut))
 statement_back name (t ∷ ts) p ps =
     let plain = name_no_blank name p in
@@ -130,8 +130,8 @@ statement_back name (t ∷ ts) p ps =
     let long = length-append name (behind_name (t ∷ ts)) in
     let line = name ++ behind_name (t ∷ ts) in
     cond-false (length line == 0) (Ok nothing) _ (ne_eqb _ 0 (λ e. omega arith))
-    ∙ ap (λ n. statement_with n (operand_texts (after_first (stops Blank) line))) (before_stop (stops Blank) name (t ++ more_operands ts) 32 plain refl)
-    ∙ ap (λ a. statement_with name (operand_texts a)) (after_stop (stops Blank) name (t ++ more_operands ts) 32 plain refl)
+    ∙ ap (λ n. statement_with n (operand_texts (after_first (is_boundary Blank) line))) (before_stop (is_boundary Blank) name (t ++ more_operands ts) 32 plain refl)
+    ∙ ap (λ a. statement_with name (operand_texts a)) (after_stop (is_boundary Blank) name (t ++ more_operands ts) 32 plain refl)
     ∙ ap (statement_with name) (texts_back t ts ps)
 
 more_of_line : (ts : List (List ℕ)) → Pieces ts → list_all of_line (more_operands ts) ≡ true
@@ -179,7 +179,7 @@ line_bytes name ts p ps = all_append of_line name (behind_name ts) (weaker is_qu
 pub line_is_plain : (name : List ℕ) (ts : List (List ℕ)) → Piece name → Pieces ts → list_all is_plain (name ++ behind_name ts) ≡ true
 line_is_plain name ts p ps = weaker of_line is_plain line_plain (name ++ behind_name ts) (line_bytes name ts p ps)
 
-pub parts_back : (name : List ℕ) (ts : List (List ℕ)) → Piece name → Pieces ts → length ts ≤ 3 → parts_of (name ++ behind_name ts) ≡ Some (record { label = None; body = name ++ behind_name ts })
+pub parts_back : (name : List ℕ) (ts : List (List ℕ)) → Piece name → Pieces ts → length ts ≤ 3 → split_line (name ++ behind_name ts) ≡ Some (record { label = None; body = name ++ behind_name ts })
 parts_back name ts p ps few =
     let line = name ++ behind_name ts in
     let bytes = line_bytes name ts p ps in
@@ -188,8 +188,8 @@ parts_back name ts p ps few =
     let b : length name ≤ 20 = p.short in
     let good : is_line line ≡ true = and_from (nat_le (length line) 256) (list_all is_plain line) (le-leb _ _ (omega arith)) (line_is_plain name ts p ps) in
     let code : code_of line ≡ line =
-    ap (λ o. trim (front_of o line)) (cut_none Comment line (weaker of_line (λ c. not (stops Comment c)) line_no_comment line bytes))
+    ap (λ o. trim (front_of o line)) (cut_none Comment line (weaker of_line (λ c. not (is_boundary Comment c)) line_no_comment line bytes))
     ∙ trim_line name (behind_name ts) p (line_ends name ts p ps) in
     cond-true (is_line line) (labelled_parts (cut Colon (code_of line)) (code_of line)) None good
     ∙ ap (λ t. labelled_parts (cut Colon t) t) code
-    ∙ ap (λ o. labelled_parts o line) (cut_none Colon line (weaker of_line (λ c. not (stops Colon c)) line_no_colon line bytes))
+    ∙ ap (λ o. labelled_parts o line) (cut_none Colon line (weaker of_line (λ c. not (is_boundary Colon c)) line_no_colon line bytes))

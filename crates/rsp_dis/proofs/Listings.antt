@@ -6,8 +6,8 @@ use Rattle.std.proofs.Math.Seq.{take-suc, take-length}
 use Rattle.std.proofs.lemmas.Bool.{and_from}
 use Rattle.std.proofs.lemmas.List.{append-nil}
 use Rattle.rsp_text.specs.Chars.{is_plain}
-use Rattle.rsp_text.specs.Source.{first_fault, line_words, text_of_lines}
-use Rattle.rsp_text.specs.Means.{line, place_of_line, labelled, labels_before, fault_of_line, words_of_line, or_fault, fault_before, and_words, words_before, unless, means_lines, means}
+use Rattle.rsp_text.specs.SourceLine.{first_fault, line_words, text_of_lines}
+use Rattle.rsp_text.specs.Means.{line_at, place_of_line, labelled, labels_before, fault_of_line, words_of_line, or_fault, fault_before, and_words, words_before, unless, means_lines, means}
 use Rattle.rsp_text.specs.Spell.{spell, listing}
 use Rattle.rsp_text.proofs.TextLines.{lines_back}
 use Rattle.rsp_dis.proofs.Words.{Gives, spelled_gives}
@@ -19,7 +19,7 @@ length_listing : (place : ℕ) (ws : List ℕ) → length (listing place ws) ≡
 length_listing place [] = refl
 length_listing place (w ∷ ws) = let more = length_listing (place + 4) ws in omega (arith, more)
 
-line_of : (place : ℕ) (ws : List ℕ) (k : ℕ) → k < length ws → line (listing place ws) k ≡ spell (get_or ws k 0) (place + 4 * k)
+line_of : (place : ℕ) (ws : List ℕ) (k : ℕ) → k < length ws → line_at (listing place ws) k ≡ spell (get_or ws k 0) (place + 4 * k)
 line_of place [] k lt = absurd (omega arith)
 line_of place (w ∷ ws) zero lt = ap (spell w) (omega arith)
 line_of place (w ∷ ws) (suc k) lt = line_of (place + 4) ws k (omega arith) ∙ ap (spell (get_or ws k 0)) (omega arith)
@@ -28,9 +28,9 @@ module _ (ws : List ℕ) (few : length ws ≤ 1024) (h : AreWords ws) where
   abbrev ls : List (List ℕ)
   ls = listing 0 ws
 
-  at : (k : ℕ) → k < length ws → Gives (line ls k) (4 * k) (get_or ws k 0)
+  at : (k : ℕ) → k < length ws → Gives (line_at ls k) (4 * k) (get_or ws k 0)
   at k lt =
-      let same : line ls k ≡ spell (get_or ws k 0) (4 * k) = line_of 0 ws k lt ∙ ap (spell (get_or ws k 0)) (omega arith) in
+      let same : line_at ls k ≡ spell (get_or ws k 0) (4 * k) = line_of 0 ws k lt ∙ ap (spell (get_or ws k 0)) (omega arith) in
       subst (λ l. Gives l (4 * k) (get_or ws k 0)) (sym same) (spelled_gives (get_or ws k 0) (4 * k) (omega arith) (h k 0 lt) (omega arith))
 
   place_is : (k : ℕ) → k ≤ length ws → place_of_line 0 ls k ≡ 4 * k
@@ -51,8 +51,8 @@ module _ (ws : List ℕ) (few : length ws ≤ 1024) (h : AreWords ws) where
   no_fault (suc k) le =
       let g = at k (omega arith) in
       ap (λ o. or_fault o (suc k) (fault_of_line 0 ls k)) (no_fault k (omega arith))
-      ∙ ap (λ t. or_fault None (suc k) (first_fault t (place_of_line 0 ls k) (line ls k))) (no_labels k (omega arith))
-      ∙ ap (λ p. or_fault None (suc k) (first_fault [] p (line ls k))) (place_is k (omega arith))
+      ∙ ap (λ t. or_fault None (suc k) (first_fault t (place_of_line 0 ls k) (line_at ls k))) (no_labels k (omega arith))
+      ∙ ap (λ p. or_fault None (suc k) (first_fault [] p (line_at ls k))) (place_is k (omega arith))
       ∙ ap (or_fault None (suc k)) g.no_fault
 
   words_are : (k : ℕ) → k ≤ length ws → words_before [] 0 ls k ≡ Ok (take k ws)
@@ -60,7 +60,7 @@ module _ (ws : List ℕ) (few : length ws ≤ 1024) (h : AreWords ws) where
   words_are (suc k) le =
       let g = at k (omega arith) in
       ap (λ o. and_words o (suc k) (words_of_line [] 0 ls k)) (words_are k (omega arith))
-      ∙ ap (λ p. and_words (Ok (take k ws)) (suc k) (line_words [] p (line ls k))) (place_is k (omega arith))
+      ∙ ap (λ p. and_words (Ok (take k ws)) (suc k) (line_words [] p (line_at ls k))) (place_is k (omega arith))
       ∙ ap (and_words (Ok (take k ws)) (suc k)) g.gives
       ∙ ap Ok (sym (take-suc ws k 0 (omega arith)))
 

@@ -11,7 +11,7 @@ use Rattle.std.proofs.lemmas.Nat.{mod_below}
 use Rattle.rsp_decode.specs.Table.{Operand, scalar, shift_amount, signed, unsigned, jump_target, branch_target, scalar_memory, vector_memory, sp_register, control_register, vector, vector_byte, vector_half, vector_element, vector_lane, value_at, whole, capped, is_scale, is_row_operand}
 use Rattle.rsp_text.specs.declared.slot.Slot.{Slot}
 use Rattle.rsp_text.specs.declared.slot.Slot.TheVariants.{Half, Amount, Jump, Branch, Scaled}
-use Rattle.rsp_text.specs.declared.text.Stop.TheVariants.{Parenthesis}
+use Rattle.rsp_text.specs.declared.text.Boundary.TheVariants.{Parenthesis}
 use Rattle.rsp_text.specs.Cuts.{cut}
 use Rattle.rsp_text.specs.Numbers.{constant, expression_of}
 use Rattle.rsp_text.specs.Statement.{read, asks, field, offset_of, base_of, memory, memory_operand, zero_expression}

@@ -15,11 +15,11 @@ use Rattle.std.proofs.Math.Nat.{pow-suc}
 use Rattle.std.proofs.lemmas.Int.{ints}
 use Rattle.std.proofs.lemmas.Nat.{mod_below, div_below}
 use Rattle.rsp_text.specs.declared.slot.Slot.{Slot}
-use Rattle.rsp_text.specs.declared.text.Stop.TheVariants.{Plus, Minus}
+use Rattle.rsp_text.specs.declared.text.Boundary.TheVariants.{Plus, Minus}
 use Rattle.rsp_text.specs.Chars.{is_name_start, is_name_byte}
 use Rattle.rsp_text.specs.Cuts.{cut}
-use Rattle.rsp_text.specs.Numbers.{is_numeral, numeral, unsigned_of, number_of, is_label, constant, sides, number_or, expression_of}
-use Rattle.rsp_text.specs.Statement.{asks, field, or_out_of_range, then_registers, fields_of, number_fails, half, branch, amount, jump, scaled, word}
+use Rattle.rsp_text.specs.Numbers.{is_numeral, numeral, unsigned_of, signed_of, is_label, constant, sides, number_or, expression_of}
+use Rattle.rsp_text.specs.Statement.{asks, field, or_out_of_range, then_registers, fields_of, number_fails, half, branch, amount, jump, scaled_offset, word}
 use Rattle.rsp_text.specs.Spell.{hex, small, signed_half, signed_scaled, target}
 use Rattle.rsp_dis.specs.Quiet.{is_quiet}
 use Rattle.rsp_dis.proofs.Finite.{below, Said}
@@ -53,10 +53,10 @@ pub record IsNumber (z : ℤ) (bs : List ℕ) : Type 0 where
   pub piece : is_piece bs ≡ true
   pub no_parenthesis : list_all (λ c. not (c == 40)) bs ≡ true
 
-number_expression : (bs : List ℕ) (z : ℤ) → is_name_start (get_or bs 0 0) ≡ false → number_of bs ≡ Some z → expression_of bs ≡ Some (constant z)
+number_expression : (bs : List ℕ) (z : ℤ) → is_name_start (get_or bs 0 0) ≡ false → signed_of bs ≡ Some z → expression_of bs ≡ Some (constant z)
 number_expression bs z start reads =
     let other = sides false (cut Plus bs) (sides true (cut Minus bs) None) in
-    cond-false (is_label bs) _ (number_or (number_of bs) other) (ap (λ b. b && (list_all is_name_byte bs && nat_le (length bs) 32)) start)
+    cond-false (is_label bs) _ (number_or (signed_of bs) other) (ap (λ b. b && (list_all is_name_byte bs && nat_le (length bs) 32)) start)
     ∙ ap (λ o. number_or o other) reads
 
 -- ---- signed decimal
@@ -100,7 +100,7 @@ no_start (c ∷ cs) h =
     let t : not (is_name_start c) ≡ true = below (λ k. not (is_name_start k)) 58 refl c (omega arith) in
     not-true (is_name_start c) t
 
-number_read : (n : ℕ) → n < 2 ^ 64 → number_of (decimal n) ≡ Some (pos n)
+number_read : (n : ℕ) → n < 2 ^ 64 → signed_of (decimal n) ≡ Some (pos n)
 number_read n lt =
     cond-false (get_or (decimal n) 0 0 == 45) (option_map (λ m. neg_ℤ (pos m)) (unsigned_of (drop 1 (decimal n)))) (option_map pos (unsigned_of (decimal n))) (not_minus (decimal n) (digits_decimal own n lt))
     ∙ ap (option_map pos) (decimal_read n lt)
@@ -157,7 +157,7 @@ hex_pass t e (suc k) n =
 pub hex_number : (k n : ℕ) → nat_lt 0 (length (hex k n)) ≡ true → length (hex k n) ≤ 18 → n < 16 ^ k → IsNumber (pos n) (codes "0x" ++ hex k n)
 hex_number k n some short lt =
     let is_hex : is_numeral 16 (hex k n) ≡ true = and_from _ _ some (hex_pass (λ c. nat_lt (digit_value c) 16) refl k n) in
-    let read : number_of (codes "0x" ++ hex k n) ≡ Some (pos n) = ap (option_map pos) (cond-true (is_numeral 16 (hex k n)) (Some (digits_value 16 (hex k n))) None is_hex ∙ ap Some (hex_value k n lt)) in
+    let read : signed_of (codes "0x" ++ hex k n) ≡ Some (pos n) = ap (option_map pos) (cond-true (is_numeral 16 (hex k n)) (Some (digits_value 16 (hex k n))) None is_hex ∙ ap Some (hex_value k n lt)) in
     record {
       reads = number_expression (codes "0x" ++ hex k n) (pos n) refl read;
       piece = piece_of (codes "0x" ++ hex k n) (omega arith) (omega arith) (hex_pass is_quiet refl k n);
@@ -178,7 +178,7 @@ pos_of (Some (negsuc m)) n e = absurd cc
 
 pub small_number : (n : ℕ) → n < 32 → IsNumber (pos n) (small n)
 small_number n lt = record {
-  reads = number_expression (small n) (pos n) (not-true _ (below (λ k. not (is_name_start (get_or (small k) 0 0))) 32 refl n lt)) (pos_of _ n (below (λ k. is_pos_of (number_of (small k)) k) 32 refl n lt));
+  reads = number_expression (small n) (pos n) (not-true _ (below (λ k. not (is_name_start (get_or (small k) 0 0))) 32 refl n lt)) (pos_of _ n (below (λ k. is_pos_of (signed_of (small k)) k) 32 refl n lt));
   piece = below (λ k. is_piece (small k)) 32 refl n lt;
   no_parenthesis = below (λ k. list_all (λ c. not (c == 40)) (small k)) 32 refl n lt;
 }
@@ -210,7 +210,7 @@ pub branch_below : (place v t : ℕ) → place < 4096 → v < 65536 → target p
 branch_below place v t inside small e = grind (arith, nat_tests)
 
 abbrev pub ScaledBack : ℕ → ℕ → Type 0
-ScaledBack s v = (scaled s (signed_scaled s v) ≡ Some v) × (mag (signed_scaled s v) < 65536)
+ScaledBack s v = (scaled_offset s (signed_scaled s v) ≡ Some v) × (mag (signed_scaled s v) < 65536)
 
 pub by_1 : (v : ℕ) → v < 128 → ScaledBack 1 v
 by_1 v lt = (grind (arith, nat_tests), grind (arith, nat_tests))

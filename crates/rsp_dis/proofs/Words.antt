@@ -9,7 +9,7 @@ use Rattle.rsp_text.specs.declared.fault.AsmFaultKind.TheVariants.{OutOfRange, P
 use Rattle.rsp_text.specs.declared.slot.Slot.TheVariants.{Word}
 use Rattle.rsp_text.specs.Chars.{is_plain}
 use Rattle.rsp_text.specs.Numbers.{constant}
-use Rattle.rsp_text.specs.Source.{parts_of, label_in, label_of, size_if, size_in, size_of, has_bad_number, statement_fault, parts_fault, first_fault, statement_words, parts_words, line_words}
+use Rattle.rsp_text.specs.SourceLine.{split_line, label_in, label_of, size_if, size_in, line_size, has_bad_number, statement_fault, parts_fault, first_fault, statement_words, parts_words, line_words}
 use Rattle.rsp_text.specs.Statement.{Reading, asks, read_all, zero_expression, number_fails, append, all_fields, Statement, numbers, instruction, readings, size, one_word, words_of, statement_of, form_named, with_operands, with_form}
 use Rattle.rsp_text.specs.Spell.{hex, operand_fields, operand_text, reaches, row_text, plain_word, spell_row, spell}
 use Rattle.rsp_dis.proofs.Pieces.{is_piece, Piece, Pieces, piece_from}
@@ -21,7 +21,7 @@ use Rattle.rsp_dis.proofs.Lines.{line_is_plain, parts_back, statement_back}
 -- a line at a place that gives this one word
 pub record Gives (line : List ℕ) (place word : ℕ) : Type 0 where
   pub no_label : label_of line ≡ None
-  pub one_word : size_of line ≡ 1
+  pub one_word : line_size line ≡ 1
   pub no_fault : first_fault [] place line ≡ None
   pub gives : line_words [] place line ≡ Ok (word ∷ [])
   pub plain : list_all is_plain line ≡ true
@@ -29,13 +29,13 @@ pub record Gives (line : List ℕ) (place word : ℕ) : Type 0 where
 fails : ℕ → Reading → Bool
 fails place r = number_fails place r.value
 
-module _ (line : List ℕ) (place word : ℕ) (s : Statement) (parts : parts_of line ≡ Some (record { label = None; body = line })) (said : statement_of line ≡ Ok s) (one : size s ≡ 1) where
+module _ (line : List ℕ) (place word : ℕ) (s : Statement) (parts : split_line line ≡ Some (record { label = None; body = line })) (said : statement_of line ≡ Ok s) (one : size s ≡ 1) where
   unlabelled : label_of line ≡ None
   unfolding label_of
   unlabelled = ap label_in parts
 
-  sized : size_of line ≡ 1
-  unfolding size_of
+  sized : line_size line ≡ 1
+  unfolding line_size
   sized = ap size_in parts ∙ ap size_if said ∙ one
 
   faultless : list_any (λ (r : Reading). number_fails place r.value) (readings s) ≡ false → place + 4 ≤ 4096 → first_fault [] place line ≡ None

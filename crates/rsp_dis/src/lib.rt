@@ -1,7 +1,7 @@
 //! The disassembler: the canonical text of each word, which assembles back to it.
 //!
-//! [`text_of`] takes the name and the kinds of operand from the word's row in `rsp_decode`, which `rsp_text` searches, and the
-//! fields from the word. What it writes is the definition `spell` of `rsp_text/specs/Spell.antt`.
+//! [`text_of`] looks for the word's row in the instruction table, and writes the row's name and its operands. What it writes is
+//! the definition `spell` of `rsp_text/specs/Spell.antt`.
 #![tactic(auto)]
 
 pub mod laws;

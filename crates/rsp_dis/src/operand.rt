@@ -21,7 +21,7 @@ fn register(word: u32, low: u8) -> u8
     (word >> low & 31) as u8
 }
 
-fn half(word: u32) -> u16
+fn low_half(word: u32) -> u16
     ensures { result ≡ value_at word (whole 0 16) }
 {
     (word & 0xffff) as u16
@@ -36,7 +36,7 @@ fn half_element(word: u32) -> u8
 }
 
 /// The target of a branch, where it is in IMEM.
-fn target_of(place: u16, offset: u16) -> Option<u16>
+fn target(place: u16, offset: u16) -> Option<u16>
     requires { place < 4096 }
     ensures { result ≡ target place offset }
 {
@@ -64,7 +64,7 @@ pub fn is_reached(kind: Operand, word: u32, place: u16) -> bool
     ensures { result ≡ reaches word place kind }
 {
     match kind {
-        Operand::BranchTarget => target_of(place, half(word)).is_some(),
+        Operand::BranchTarget => target(place, low_half(word)).is_some(),
         _ => true,
     }
 }
@@ -105,7 +105,7 @@ fn push_target(line: &mut Line, place: u16, offset: u16)
     ensures bytes { line.new.bytes ≡ line.old.bytes ++ target_text (target place offset) }
     ensures len { array_string_len line.new ≤ array_string_len line.old + 5 }
 {
-    if let Some(t) = target_of(place, offset) {
+    if let Some(t) = target(place, offset) {
         line.push_str("0x");
         push_hex3(line, u32::from(t));
     }
@@ -122,18 +122,18 @@ pub fn push_operand(line: &mut Line, kind: Operand, word: u32, place: u16)
     match kind {
         Operand::Scalar(low) => push_scalar(line, register(word, low)),
         Operand::ShiftAmount => push_small(line, register(word, 6)),
-        Operand::Signed => push_signed(line, half(word)),
+        Operand::Signed => push_signed(line, low_half(word)),
         Operand::Unsigned => {
             line.push_str("0x");
-            push_hex4(line, u32::from(half(word)));
+            push_hex4(line, u32::from(low_half(word)));
         }
         Operand::JumpTarget => {
             line.push_str("0x");
             push_hex3(line, 4 * (word & 0x3ff));
         }
-        Operand::BranchTarget => push_target(line, place, half(word)),
+        Operand::BranchTarget => push_target(line, place, low_half(word)),
         Operand::ScalarMemory => {
-            push_signed(line, half(word));
+            push_signed(line, low_half(word));
             push_base(line, register(word, 21));
         }
         Operand::VectorMemory(scale) => {

@@ -6,7 +6,7 @@ use Rattle.rsp_text.specs.declared.fault.AsmFaultKind.{AsmFaultKind}
 use Rattle.rsp_text.specs.Statement.{Labels, Reading, read, fields_of}
 use Rattle.rsp_operands.specs.declared.fields.Fields.{Fields}
 use Rattle.rsp_operands.specs.Readings.{capped_reading}
-use Rattle.rsp_operands.specs.Fields.{fields, fields_in}
+use Rattle.rsp_operands.specs.Fields.{field_values, fields_in}
 use Rattle.rsp_operands.specs.Room.{FitWord}
 use Rattle.rsp_operands.proofs.Rooms.{HasRoom, read_room}
 
@@ -15,13 +15,13 @@ module _ (labels : Labels) (place : ℕ) where
   abbrev pub Found : Reading → Result Fields AsmFaultKind → Type 0
   Found seen x = (r : Reading) → seen ≡ capped_reading r → fields_in x ≡ fields_of labels place r
 
-  fit_from : (k : Operand) (o : Option Reading) (seen : Reading) (f : Fields) → HasRoom labels place k o → Some seen ≡ option_map capped_reading o → Found seen (Ok f) → FitWord k (fields f)
+  fit_from : (k : Operand) (o : Option Reading) (seen : Reading) (f : Fields) → HasRoom labels place k o → Some seen ≡ option_map capped_reading o → Found seen (Ok f) → FitWord k (field_values f)
   fit_from k None seen f room e found = absurd cc
   fit_from k (Some r) seen f room e found = at_ok (fields_of labels place r) room (found r cc)
     where
-      at_ok : (x : Result (List ℕ) AsmFaultKind) → IfOk x (FitWord k) → Ok (fields f) ≡ x → FitWord k (fields f)
-      at_ok (Ok vs) h e = let same : fields f ≡ vs = cc in subst (FitWord k) (sym same) h
+      at_ok : (x : Result (List ℕ) AsmFaultKind) → IfOk x (FitWord k) → Ok (field_values f) ≡ x → FitWord k (field_values f)
+      at_ok (Ok vs) h e = let same : field_values f ≡ vs = cc in subst (FitWord k) (sym same) h
       at_ok (Err kind) h e = absurd cc
 
-  pub fields_fit : (k : Operand) (bs : List ℕ) → is_row_operand k ≡ true → (seen : Reading) (f : Fields) → Some seen ≡ option_map capped_reading (read k bs) → Found seen (Ok f) → FitWord k (fields f)
+  pub fields_fit : (k : Operand) (bs : List ℕ) → is_row_operand k ≡ true → (seen : Reading) (f : Fields) → Some seen ≡ option_map capped_reading (read k bs) → Found seen (Ok f) → FitWord k (field_values f)
   fields_fit k bs fits seen f e found = fit_from k (read k bs) seen f (read_room labels place k bs fits) e found

@@ -7,9 +7,9 @@ abbrev pub optional : Option ℕ → List ℕ
 optional None = []
 optional (Some n) = n ∷ []
 
-abbrev pub fields : Fields → List ℕ
-fields f = f.first ∷ optional f.second
+abbrev pub field_values : Fields → List ℕ
+field_values f = f.first ∷ optional f.second
 
 abbrev pub fields_in : Result Fields AsmFaultKind → Result (List ℕ) AsmFaultKind
-fields_in (Ok f) = Ok (fields f)
+fields_in (Ok f) = Ok (field_values f)
 fields_in (Err kind) = Err kind

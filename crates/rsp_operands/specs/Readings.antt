@@ -1,5 +1,4 @@
--- What the values of the code say of an operand. This is scaffolding of the contracts: what its text says is in Statement of
--- rsp_text.
+-- Scaffolding of the contracts: what the values of the code say of an operand. What its text says is in Operands of rsp_text.
 use Rattle.std.specs.Prelude.{[], ◌∷◌, option_map}
 use Rattle.rsp_text.specs.Seen.{expression, capped_expression}
 use Rattle.rsp_text.specs.Statement as statement

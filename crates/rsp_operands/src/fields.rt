@@ -5,7 +5,7 @@ ghost use Rattle.rsp_decode.specs.Table.{places, with_fields, is_row_operand};
 ghost use Rattle.rsp_text.specs.Statement as statement;
 ghost use Rattle.rsp_text.specs.Statement.{fields_of};
 ghost use Rattle.rsp_operands.specs.Readings.{reading, capped_reading};
-ghost use Rattle.rsp_operands.specs.Fields.{fields, fields_in};
+ghost use Rattle.rsp_operands.specs.Fields.{field_values, fields_in};
 ghost use Rattle.rsp_operands.specs.Room.{FitWord};
 
 use crate::labels::Labels;
@@ -22,7 +22,7 @@ pub(crate) struct Fields {
 }
 
 fn one(first: u32) -> Fields
-    ensures { fields result ≡ first ∷ [] }
+    ensures { field_values result ≡ first ∷ [] }
 {
     Fields {
         first,
@@ -31,7 +31,7 @@ fn one(first: u32) -> Fields
 }
 
 fn two(first: u32, second: u32) -> Fields
-    ensures { fields result ≡ first ∷ second ∷ [] }
+    ensures { field_values result ≡ first ∷ second ∷ [] }
 {
     Fields {
         first,
@@ -96,8 +96,8 @@ fn second_bits(kind: Operand, value: u32) -> u32
 /// The word with the fields at their places too.
 pub(crate) fn put(kind: Operand, values: Fields, word: u32) -> u32
     requires room { is_row_operand kind ≡ true }
-    requires fit { FitWord kind (fields values) }
-    ensures { result ≡ with_fields word (places kind) (fields values) }
+    requires fit { FitWord kind (field_values values) }
+    ensures { result ≡ with_fields word (places kind) (field_values values) }
 {
     let with_first = word | values.first << first_low(kind);
     match values.second {

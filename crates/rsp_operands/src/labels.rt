@@ -41,7 +41,7 @@ impl<'a> Labels<'a> {
         self.places.get(name).copied()
     }
 
-    /// Adds a label, in the place of one of the same name. Where there is no memory for it, the labels stay as they were.
+    /// Adds a label, or gives the label of this name another place. Where there is no memory for it, the labels stay as they were.
     pub fn add(&mut self, name: &'a [u8], place: u16) -> Result<(), AllocError>
         ensures ok { OnOk result (SamePlaces self.new ((name.now, place) ∷ self.old)) }
         ensures err { OnErr result (self.new ≡ self.old) }

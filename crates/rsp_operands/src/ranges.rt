@@ -1,7 +1,7 @@
 // The ranges of numbers, and the field of a number that is in its range.
 
 ghost use Rattle.std.specs.Prelude.{◌≡◌, ◌==◌, ◌≤◌, ◌%◌, ◌/◌, Some, None, if◌then◌else◌};
-ghost use Rattle.rsp_text.specs.Statement.{half, word, amount, jump, branch, scaled};
+ghost use Rattle.rsp_text.specs.Statement.{half, word, amount, jump, branch, scaled_offset};
 
 /// The field of sixteen bits of a number.
 pub(crate) fn half(value: i64) -> Option<u32>
@@ -69,8 +69,8 @@ fn steps(scale: u8, distance: u64) -> Option<u64>
 }
 
 /// The field of an offset in a vector load or store of this scale.
-pub(crate) fn scaled(scale: u8, value: i64) -> Option<u32>
-    ensures { result ≡ scaled scale value }
+pub(crate) fn scaled_offset(scale: u8, value: i64) -> Option<u32>
+    ensures { result ≡ scaled_offset scale value }
 {
     let steps = steps(scale, value.unsigned_abs())?;
     match value {

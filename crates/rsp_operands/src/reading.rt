@@ -1,7 +1,7 @@
 // What the text of an operand says, by its kind.
 
 ghost use Rattle.std.specs.Prelude.{◌≡◌, [], Some, None, option_map};
-ghost use Rattle.rsp_text.specs.declared.text.Stop.TheVariants.{Bracket, Parenthesis};
+ghost use Rattle.rsp_text.specs.declared.text.Boundary.TheVariants.{Bracket, Parenthesis};
 ghost use Rattle.rsp_text.specs.Cuts.{cut};
 ghost use Rattle.rsp_text.specs.Names.{vector_named, element_named};
 ghost use Rattle.rsp_text.specs.Numbers.{expression_of};
@@ -11,7 +11,7 @@ ghost use Rattle.rsp_operands.specs.Readings.{reading, capped_reading};
 
 use rsp_decode::Operand;
 use rsp_text::{
-    Expression, Slot, Stop, control, cut, element, read_expression, scalar, small_number,
+    Boundary, Expression, Slot, control, cut, element, read_expression, scalar, small_number,
     sp_register, vector,
 };
 
@@ -33,7 +33,7 @@ fn base(text: &[u8]) -> Option<u8>
     }
 }
 
-fn byte(text: &[u8]) -> Option<u8>
+fn bracketed_byte(text: &[u8]) -> Option<u8>
     ensures { result ≡ bracketed byte_named text.now }
 {
     match text {
@@ -42,7 +42,7 @@ fn byte(text: &[u8]) -> Option<u8>
     }
 }
 
-fn half(text: &[u8]) -> Option<u8>
+fn bracketed_half(text: &[u8]) -> Option<u8>
     ensures { result ≡ bracketed half_named text.now }
 {
     let [number @ .., b']'] = text else {
@@ -56,7 +56,7 @@ fn half(text: &[u8]) -> Option<u8>
     }
 }
 
-fn computing_element(text: &[u8]) -> Option<u8>
+fn bracketed_element(text: &[u8]) -> Option<u8>
     ensures { result ≡ bracketed element_named text.now }
 {
     match text {
@@ -65,7 +65,7 @@ fn computing_element(text: &[u8]) -> Option<u8>
     }
 }
 
-fn lane(text: &[u8]) -> Option<u8>
+fn bracketed_lane(text: &[u8]) -> Option<u8>
     ensures { result ≡ bracketed lane_named text.now }
 {
     match text {
@@ -83,36 +83,36 @@ fn with_element(name: &[u8], element: Option<u8>) -> Option<Reading<'_>>
 fn vector_byte(text: &[u8]) -> Option<Reading<'_>>
     ensures { option_map reading result ≡ option_map capped_reading (bracket_of byte_named (Some 0) (cut Bracket text.now) text.now) }
 {
-    match cut(text, Stop::Bracket) {
+    match cut(text, Boundary::Bracket) {
         None => with_element(text, Some(0)),
-        Some((name, rest)) => with_element(name, byte(rest)),
+        Some((name, rest)) => with_element(name, bracketed_byte(rest)),
     }
 }
 
 fn vector_half(text: &[u8]) -> Option<Reading<'_>>
     ensures { option_map reading result ≡ option_map capped_reading (bracket_of half_named (Some 0) (cut Bracket text.now) text.now) }
 {
-    match cut(text, Stop::Bracket) {
+    match cut(text, Boundary::Bracket) {
         None => with_element(text, Some(0)),
-        Some((name, rest)) => with_element(name, half(rest)),
+        Some((name, rest)) => with_element(name, bracketed_half(rest)),
     }
 }
 
 fn vector_element(text: &[u8]) -> Option<Reading<'_>>
     ensures { option_map reading result ≡ option_map capped_reading (bracket_of element_named (Some 0) (cut Bracket text.now) text.now) }
 {
-    match cut(text, Stop::Bracket) {
+    match cut(text, Boundary::Bracket) {
         None => with_element(text, Some(0)),
-        Some((name, rest)) => with_element(name, computing_element(rest)),
+        Some((name, rest)) => with_element(name, bracketed_element(rest)),
     }
 }
 
 fn vector_lane(text: &[u8]) -> Option<Reading<'_>>
     ensures { option_map reading result ≡ option_map capped_reading (bracket_of lane_named None (cut Bracket text.now) text.now) }
 {
-    match cut(text, Stop::Bracket) {
+    match cut(text, Boundary::Bracket) {
         None => with_element(text, None),
-        Some((name, rest)) => with_element(name, lane(rest)),
+        Some((name, rest)) => with_element(name, bracketed_lane(rest)),
     }
 }
 
@@ -137,7 +137,7 @@ fn offset(text: &[u8]) -> Option<Expression<'_>>
 fn memory(slot: Slot, text: &[u8]) -> Option<Reading<'_>>
     ensures { option_map reading result ≡ option_map capped_reading (memory_operand slot (cut Parenthesis text.now)) }
 {
-    let (front, rest) = cut(text, Stop::Parenthesis)?;
+    let (front, rest) = cut(text, Boundary::Parenthesis)?;
     Some(Reading::Memory(slot, offset(front)?, base(rest)?))
 }
 

@@ -7,7 +7,7 @@ ghost use Rattle.rsp_text.specs.Seen.{expression, capped_expression};
 ghost use Rattle.rsp_text.specs.Statement.{field, evaluate, field_of, number_fails};
 
 use crate::labels::Labels;
-use crate::ranges::{amount, branch, half, jump, scaled, word};
+use crate::ranges::{amount, branch, half, jump, scaled_offset, word};
 use rsp_text::{AsmFaultKind, Expression, Slot};
 
 /// The field of a number that counts from an origin, for a statement at a place. A number too large for its sum is far
@@ -22,7 +22,7 @@ fn field(slot: Slot, place: u16, origin: u16, offset: i64) -> Option<u32>
         Slot::Amount => amount(value),
         Slot::Jump => jump(value),
         Slot::Branch => branch(place, value),
-        Slot::Scaled(scale) => scaled(scale, value),
+        Slot::Scaled(scale) => scaled_offset(scale, value),
         Slot::Word => word(value),
     }
 }

@@ -4,8 +4,8 @@ use Rattle.std.specs.Prelude.{Option, Some, None}
 use Rattle.std.specs.List.{list_all, before_first, after_first, list_any, position_or_len}
 use Rattle.std.proofs.lemmas.Bool.{and_parts, and_from, cond-true, cond-false, cases_Bool}
 use Rattle.std.proofs.lemmas.List.{take_at, drop_at, append_assoc, take-append-drop}
-use Rattle.rsp_text.specs.declared.text.Stop.{Stop}
-use Rattle.rsp_text.specs.Cuts.{stops, cut}
+use Rattle.rsp_text.specs.declared.text.Boundary.{Boundary}
+use Rattle.rsp_text.specs.Cuts.{is_boundary, cut}
 
 abbrev pub no : (ℕ → Bool) → List ℕ → Bool
 no p bs = list_all (λ c. not (p c)) bs
@@ -42,19 +42,19 @@ any_none p (x ∷ xs) a = let both = and_parts _ _ a in ap (λ t. t || list_any 
     not_false true e = sym e
     not_false false e = refl
 
-pub cut_none : (stop : Stop) (xs : List ℕ) → no (stops stop) xs ≡ true → cut stop xs ≡ None
-cut_none stop xs a = cond-false (list_any (stops stop) xs) _ None (any_none (stops stop) xs a)
+pub cut_none : (boundary : Boundary) (xs : List ℕ) → no (is_boundary boundary) xs ≡ true → cut boundary xs ≡ None
+cut_none boundary xs a = cond-false (list_any (is_boundary boundary) xs) _ None (any_none (is_boundary boundary) xs a)
 
-pub cut_between : (stop : Stop) (xs ys : List ℕ) (s : ℕ) → no (stops stop) xs ≡ true → stops stop s ≡ true → cut stop (xs ++ s ∷ ys) ≡ Some (xs, ys)
-cut_between stop xs ys s a b =
-    cond-true (list_any (stops stop) (xs ++ s ∷ ys)) _ None (any_at (stops stop) xs ys s b)
-    ∙ (λ i. Some (before_stop (stops stop) xs ys s a b i, after_stop (stops stop) xs ys s a b i))
+pub cut_between : (boundary : Boundary) (xs ys : List ℕ) (s : ℕ) → no (is_boundary boundary) xs ≡ true → is_boundary boundary s ≡ true → cut boundary (xs ++ s ∷ ys) ≡ Some (xs, ys)
+cut_between boundary xs ys s a b =
+    cond-true (list_any (is_boundary boundary) (xs ++ s ∷ ys)) _ None (any_at (is_boundary boundary) xs ys s b)
+    ∙ (λ i. Some (before_stop (is_boundary boundary) xs ys s a b i, after_stop (is_boundary boundary) xs ys s a b i))
 
 pub at_index : (xs : List ℕ) (i : ℕ) → i < length xs → take i xs ++ get_or xs i 0 ∷ drop (i + 1) xs ≡ xs
 at_index xs i lt = ap (λ t. take i xs ++ t) (rw (add-one) (sym (drop-cons xs i 0 lt))) ∙ take-append-drop i xs
 
-pub cut_here : (stop : Stop) (xs : List ℕ) (i : ℕ) → i < length xs → no (stops stop) (take i xs) ≡ true → stops stop (get_or xs i 0) ≡ true → cut stop xs ≡ Some (take i xs, drop (i + 1) xs)
-cut_here stop xs i lt a b = ap (cut stop) (sym (at_index xs i lt)) ∙ cut_between stop (take i xs) (drop (i + 1) xs) (get_or xs i 0) a b
+pub cut_here : (boundary : Boundary) (xs : List ℕ) (i : ℕ) → i < length xs → no (is_boundary boundary) (take i xs) ≡ true → is_boundary boundary (get_or xs i 0) ≡ true → cut boundary xs ≡ Some (take i xs, drop (i + 1) xs)
+cut_here boundary xs i lt a b = ap (cut boundary) (sym (at_index xs i lt)) ∙ cut_between boundary (take i xs) (drop (i + 1) xs) (get_or xs i 0) a b
 
 any_cases : (p : ℕ → Bool) (xs : List ℕ) → list_any p xs ≡ false → no p xs ≡ true
 any_cases p [] e = refl
@@ -88,18 +88,18 @@ abbrev halves : Option (List ℕ × List ℕ) → List ℕ × List ℕ
 halves None = ([], [])
 halves (Some p) = p
 
-pub cut_some : (stop : Stop) (bs front back : List ℕ) → Some (front, back) ≡ cut stop bs → IsCut (stops stop) bs front back
-cut_some stop bs front back e = elim (cases_Bool (list_any (stops stop) bs)) [
+pub cut_some : (boundary : Boundary) (bs front back : List ℕ) → Some (front, back) ≡ cut boundary bs → IsCut (is_boundary boundary) bs front back
+cut_some boundary bs front back e = elim (cases_Bool (list_any (is_boundary boundary) bs)) [
   | inl t ↦
-      let same : Some (front, back) ≡ Some (before_first (stops stop) bs, after_first (stops stop) bs) = e ∙ cond-true _ _ None t in
-      let a : before_first (stops stop) bs ≡ front = ap (λ o. (halves o).0) (sym same) in
-      let b : after_first (stops stop) bs ≡ back = ap (λ o. (halves o).1) (sym same) in
-      subst (λ f. IsCut (stops stop) bs f back) a (subst (λ k. IsCut (stops stop) bs (before_first (stops stop) bs) k) b (found_first (stops stop) bs t))
-  | inr f ↦ absurd (let bad : Some (front, back) ≡ None = e ∙ cond-false _ (Some (before_first (stops stop) bs, after_first (stops stop) bs)) None f in cc)
+      let same : Some (front, back) ≡ Some (before_first (is_boundary boundary) bs, after_first (is_boundary boundary) bs) = e ∙ cond-true _ _ None t in
+      let a : before_first (is_boundary boundary) bs ≡ front = ap (λ o. (halves o).0) (sym same) in
+      let b : after_first (is_boundary boundary) bs ≡ back = ap (λ o. (halves o).1) (sym same) in
+      subst (λ f. IsCut (is_boundary boundary) bs f back) a (subst (λ k. IsCut (is_boundary boundary) bs (before_first (is_boundary boundary) bs) k) b (found_first (is_boundary boundary) bs t))
+  | inr f ↦ absurd (let bad : Some (front, back) ≡ None = e ∙ cond-false _ (Some (before_first (is_boundary boundary) bs, after_first (is_boundary boundary) bs)) None f in cc)
 ]
 
-pub cut_nothing : (stop : Stop) (bs : List ℕ) → None ≡ cut stop bs → no (stops stop) bs ≡ true
-cut_nothing stop bs e = elim (cases_Bool (list_any (stops stop) bs)) [
-  | inl t ↦ absurd (let bad : None ≡ Some (before_first (stops stop) bs, after_first (stops stop) bs) = e ∙ cond-true _ _ None t in cc)
-  | inr f ↦ any_cases (stops stop) bs f
+pub cut_nothing : (boundary : Boundary) (bs : List ℕ) → None ≡ cut boundary bs → no (is_boundary boundary) bs ≡ true
+cut_nothing boundary bs e = elim (cases_Bool (list_any (is_boundary boundary) bs)) [
+  | inl t ↦ absurd (let bad : None ≡ Some (before_first (is_boundary boundary) bs, after_first (is_boundary boundary) bs) = e ∙ cond-true _ _ None t in cc)
+  | inr f ↦ any_cases (is_boundary boundary) bs f
 ]

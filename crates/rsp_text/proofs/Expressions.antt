@@ -2,10 +2,10 @@
 use Rattle.std.proofs.Common.{◌≡◌, refl, sym, ap, ◌∙◌, ℕ, List, Bool, true, false, pos}
 use Rattle.std.specs.Prelude.{Option, Some, None, ℤ, option_map}
 use Rattle.std.proofs.lemmas.Bool.{cond-false}
-use Rattle.rsp_text.specs.declared.text.Stop.TheVariants.{Plus, Minus}
+use Rattle.rsp_text.specs.declared.text.Boundary.TheVariants.{Plus, Minus}
 use Rattle.rsp_text.specs.Chars.{skip_blanks, trim}
 use Rattle.rsp_text.specs.Cuts.{cut}
-use Rattle.rsp_text.specs.Numbers.{Expression, constant, plus, signed_number, is_label, number_of, number_or, sides, label_and_number, expression_of}
+use Rattle.rsp_text.specs.Numbers.{Expression, constant, plus, signed_number, is_label, signed_of, number_or, sides, label_and_number, expression_of}
 use Rattle.rsp_text.specs.Seen.{capped, capped_ℤ}
 use Rattle.rsp_text.specs.Seen.{capped_expression}
 use Rattle.rsp_text.proofs.Numerals.{capped_neg}
@@ -29,21 +29,21 @@ no_number None other e = refl
 no_number (Some z) other e = absurd cc
 
 module _ (bs : List ℕ) (no_label : is_label bs ≡ false) where
-  pub is_number : (z : ℤ) → Some z ≡ option_map capped_ℤ (number_of bs) → Some (constant z) ≡ option_map capped_expression (expression_of bs)
+  pub is_number : (z : ℤ) → Some z ≡ option_map capped_ℤ (signed_of bs) → Some (constant z) ≡ option_map capped_expression (expression_of bs)
   is_number z e =
-      found_number (number_of bs) z (sides false (cut Plus bs) (sides true (cut Minus bs) None)) e
-      ∙ ap (option_map capped_expression) (sym (cond-false (is_label bs) (Some (plus bs (pos 0))) (number_or (number_of bs) (sides false (cut Plus bs) (sides true (cut Minus bs) None))) no_label))
+      found_number (signed_of bs) z (sides false (cut Plus bs) (sides true (cut Minus bs) None)) e
+      ∙ ap (option_map capped_expression) (sym (cond-false (is_label bs) (Some (plus bs (pos 0))) (number_or (signed_of bs) (sides false (cut Plus bs) (sides true (cut Minus bs) None))) no_label))
 
-  no_constant : None ≡ option_map capped_ℤ (number_of bs) → expression_of bs ≡ sides false (cut Plus bs) (sides true (cut Minus bs) None)
+  no_constant : None ≡ option_map capped_ℤ (signed_of bs) → expression_of bs ≡ sides false (cut Plus bs) (sides true (cut Minus bs) None)
   no_constant e =
-      cond-false (is_label bs) (Some (plus bs (pos 0))) (number_or (number_of bs) (sides false (cut Plus bs) (sides true (cut Minus bs) None))) no_label
-      ∙ no_number (number_of bs) _ e
+      cond-false (is_label bs) (Some (plus bs (pos 0))) (number_or (signed_of bs) (sides false (cut Plus bs) (sides true (cut Minus bs) None))) no_label
+      ∙ no_number (signed_of bs) _ e
 
-  pub is_sum : (name rest : List ℕ) → None ≡ option_map capped_ℤ (number_of bs) → Some (name, rest) ≡ cut Plus bs → expression_of bs ≡ label_and_number (trim name) false (skip_blanks rest)
+  pub is_sum : (name rest : List ℕ) → None ≡ option_map capped_ℤ (signed_of bs) → Some (name, rest) ≡ cut Plus bs → expression_of bs ≡ label_and_number (trim name) false (skip_blanks rest)
   is_sum name rest e at = no_constant e ∙ ap (λ o. sides false o (sides true (cut Minus bs) None)) (sym at)
 
-  pub is_difference : (name rest : List ℕ) → None ≡ option_map capped_ℤ (number_of bs) → None ≡ cut Plus bs → Some (name, rest) ≡ cut Minus bs → expression_of bs ≡ label_and_number (trim name) true (skip_blanks rest)
+  pub is_difference : (name rest : List ℕ) → None ≡ option_map capped_ℤ (signed_of bs) → None ≡ cut Plus bs → Some (name, rest) ≡ cut Minus bs → expression_of bs ≡ label_and_number (trim name) true (skip_blanks rest)
   is_difference name rest e none at = no_constant e ∙ ap (λ o. sides false o (sides true (cut Minus bs) None)) (sym none) ∙ ap (λ o. sides true o None) (sym at)
 
-  pub is_nothing : None ≡ option_map capped_ℤ (number_of bs) → None ≡ cut Plus bs → None ≡ cut Minus bs → expression_of bs ≡ None
+  pub is_nothing : None ≡ option_map capped_ℤ (signed_of bs) → None ≡ cut Plus bs → None ≡ cut Minus bs → expression_of bs ≡ None
   is_nothing e none at = no_constant e ∙ ap (λ o. sides false o (sides true (cut Minus bs) None)) (sym none) ∙ ap (λ o. sides true o None) (sym at)

@@ -4,8 +4,8 @@ use Rattle.std.specs.Prelude.{Bool, None}
 use Rattle.std.specs.List.{slice_split, onto_first, before_first, after_first, position_or_len}
 use Rattle.std.proofs.lemmas.Bool.{and_parts, cond-true, cond-false, not-true}
 use Rattle.std.proofs.lemmas.List.{take_all, drop_all}
-use Rattle.rsp_text.specs.declared.text.Stop.TheVariants.{Blank}
-use Rattle.rsp_text.specs.Cuts.{stops, cut}
+use Rattle.rsp_text.specs.declared.text.Boundary.TheVariants.{Blank}
+use Rattle.rsp_text.specs.Cuts.{is_boundary, cut}
 use Rattle.rsp_text.proofs.Cuts.{no, cut_nothing}
 
 pub split_cons : (p : ℕ → Bool) (xs ys : List ℕ) (s : ℕ) → no p xs ≡ true → p s ≡ true → slice_split p (xs ++ s ∷ ys) ≡ xs ∷ slice_split p ys
@@ -27,8 +27,8 @@ at_end p (x ∷ xs) a =
     let r = at_end p xs both.1 in
     cond-true (not (p x)) (1 + position_or_len p xs) 0 both.0 ∙ omega arith
 
-pub no_blank_before : (text : List ℕ) → None ≡ cut Blank text → text ≡ before_first (stops Blank) text
-no_blank_before text e = sym (take_all _ text (omega (arith, at_end (stops Blank) text (cut_nothing Blank text e))))
+pub no_blank_before : (text : List ℕ) → None ≡ cut Blank text → text ≡ before_first (is_boundary Blank) text
+no_blank_before text e = sym (take_all _ text (omega (arith, at_end (is_boundary Blank) text (cut_nothing Blank text e))))
 
-pub no_blank_after : (text : List ℕ) → None ≡ cut Blank text → [] ≡ after_first (stops Blank) text
-no_blank_after text e = sym (drop_all _ text (omega (arith, at_end (stops Blank) text (cut_nothing Blank text e))))
+pub no_blank_after : (text : List ℕ) → None ≡ cut Blank text → [] ≡ after_first (is_boundary Blank) text
+no_blank_after text e = sym (drop_all _ text (omega (arith, at_end (is_boundary Blank) text (cut_nothing Blank text e))))

@@ -10,7 +10,7 @@ use Rattle.std.proofs.lemmas.List.Concat.{flat_map-cons}
 use Rattle.std.proofs.lemmas.List.Folds.{list_all_at}
 use Rattle.std.proofs.lemmas.List.Splits.{length-slice_split}
 use Rattle.rsp_text.specs.Chars.{is_plain}
-use Rattle.rsp_text.specs.Source.{text_of_lines}
+use Rattle.rsp_text.specs.SourceLine.{text_of_lines}
 use Rattle.rsp_text.proofs.Cuts.{no}
 use Rattle.rsp_text.proofs.Splits.{split_cons, split_one}
 

@@ -7,7 +7,7 @@ pub mod Seen
 pub mod Operands
 pub mod Statement
 pub mod Walks
-pub mod Source
+pub mod SourceLine
 pub mod Means
 pub mod Rows
 pub mod Spell

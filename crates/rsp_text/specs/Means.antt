@@ -4,16 +4,16 @@ use Rattle.std.specs.Str.Lines.{lines}
 use Rattle.rsp_text.specs.declared.fault.AsmFault.{AsmFault}
 use Rattle.rsp_text.specs.declared.fault.AsmFaultKind.{AsmFaultKind}
 use Rattle.rsp_text.specs.Statement.{Labels}
-use Rattle.rsp_text.specs.Source.{label_of, size_of, first_fault, line_words}
+use Rattle.rsp_text.specs.SourceLine.{label_of, line_size, first_fault, line_words}
 
 -- line k
-abbrev pub line : List (List ℕ) → ℕ → List ℕ
-line ls k = slice_index_or ls k []
+abbrev pub line_at : List (List ℕ) → ℕ → List ℕ
+line_at ls k = slice_index_or ls k []
 
 -- the place of line k, behind the words of the lines before it
 abbrev pub place_of_line : ℕ → List (List ℕ) → ℕ → ℕ
 place_of_line origin ls zero = origin
-place_of_line origin ls (suc k) = place_of_line origin ls k + 4 * size_of (line ls k)
+place_of_line origin ls (suc k) = place_of_line origin ls k + 4 * line_size (line_at ls k)
 
 abbrev pub labelled : Option (List ℕ) → ℕ → Labels
 labelled None place = []
@@ -22,18 +22,18 @@ labelled (Some name) place = (name, place) ∷ []
 -- the labels of the lines before line k, each with the place of its line
 abbrev pub labels_before : ℕ → List (List ℕ) → ℕ → Labels
 labels_before origin ls zero = []
-labels_before origin ls (suc k) = labels_before origin ls k ++ labelled (label_of (line ls k)) (place_of_line origin ls k)
+labels_before origin ls (suc k) = labels_before origin ls k ++ labelled (label_of (line_at ls k)) (place_of_line origin ls k)
 
 abbrev pub all_labels : ℕ → List (List ℕ) → Labels
 all_labels origin ls = labels_before origin ls (length ls)
 
 -- the fault that the first pass finds in line k
 abbrev pub fault_of_line : ℕ → List (List ℕ) → ℕ → Option AsmFaultKind
-fault_of_line origin ls k = first_fault (labels_before origin ls k) (place_of_line origin ls k) (line ls k)
+fault_of_line origin ls k = first_fault (labels_before origin ls k) (place_of_line origin ls k) (line_at ls k)
 
 -- the words that the second pass gives line k, with these labels, or the fault that it finds there
 abbrev pub words_of_line : Labels → ℕ → List (List ℕ) → ℕ → Result (List ℕ) AsmFaultKind
-words_of_line labels origin ls k = line_words labels (place_of_line origin ls k) (line ls k)
+words_of_line labels origin ls k = line_words labels (place_of_line origin ls k) (line_at ls k)
 
 abbrev pub fault_at : ℕ → AsmFaultKind → AsmFault
 fault_at number kind = record { line = number; kind = kind }

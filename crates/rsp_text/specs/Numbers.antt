@@ -3,7 +3,7 @@ use Rattle.std.specs.Prelude.{ℕ, ◌==◌, nat_eq, nat_lt, nat_le, Bool, true,
 use Rattle.std.specs.List.{list_all, starts_with}
 use Rattle.std.specs.Char.{digit_value}
 use Rattle.std.specs.Str.Parse.{digits_value}
-use Rattle.rsp_text.specs.declared.text.Stop.TheVariants.{Plus, Minus}
+use Rattle.rsp_text.specs.declared.text.Boundary.TheVariants.{Plus, Minus}
 use Rattle.rsp_text.specs.Chars.{is_name_start, is_name_byte, skip_blanks, trim}
 use Rattle.rsp_text.specs.Cuts.{cut}
 
@@ -19,8 +19,8 @@ abbrev pub unsigned_of : List ℕ → Option ℕ
 unsigned_of bs = if starts_with nat_eq bs (codes "0x") then numeral 16 (drop 2 bs) else numeral 10 bs
 
 -- the same, or a minus before it
-abbrev pub number_of : List ℕ → Option ℤ
-number_of bs =
+abbrev pub signed_of : List ℕ → Option ℤ
+signed_of bs =
     if slice_index bs 0 == 45 then option_map (λ n. neg_ℤ (pos n)) (unsigned_of (drop 1 bs))
     else option_map pos (unsigned_of bs)
 
@@ -60,4 +60,4 @@ number_or None other = other
 abbrev pub expression_of : List ℕ → Option Expression
 expression_of bs =
     if is_label bs then Some (plus bs (pos 0))
-    else number_or (number_of bs) (sides false (cut Plus bs) (sides true (cut Minus bs) None))
+    else number_or (signed_of bs) (sides false (cut Plus bs) (sides true (cut Minus bs) None))

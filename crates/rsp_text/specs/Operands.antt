@@ -3,7 +3,7 @@ use Rattle.std.specs.Prelude.{ℕ, zero, suc, ◌+◌, ◌-◌, ◌*◌, ◌/◌
 use Rattle.std.specs.Char.{digit_char}
 use Rattle.std.specs.Fmt.{signed_decimal}
 use Rattle.rsp_decode.specs.Table.{Operand, scalar, shift_amount, signed, unsigned, jump_target, branch_target, scalar_memory, vector_memory, sp_register, control_register, vector, vector_byte, vector_half, vector_element, vector_lane}
-use Rattle.rsp_text.specs.declared.text.Stop.TheVariants.{Parenthesis, Bracket}
+use Rattle.rsp_text.specs.declared.text.Boundary.TheVariants.{Parenthesis, Bracket}
 use Rattle.rsp_text.specs.declared.slot.Slot.{Slot}
 use Rattle.rsp_text.specs.declared.slot.Slot.TheVariants.{Half, Amount, Jump, Branch, Scaled}
 use Rattle.rsp_text.specs.Cuts.{cut}

@@ -1,4 +1,4 @@
--- How the code searches the rows of the table. This is scaffolding of the proofs, for the contracts of private functions.
+-- Scaffolding of the contracts: how the code searches the rows of the table.
 use Rattle.std.specs.Prelude.{ℕ, Bool, List, ◌==◌, bit_and}
 use Rattle.std.specs.Str.{str_eq_ignore_ascii_case}
 use Rattle.rsp_decode.specs.Table.{Entry}

@@ -6,11 +6,11 @@ use Rattle.rsp_decode.specs.Table.{Operand, scalar, Row, row, selector, one, row
 use Rattle.rsp_decode.specs.declared.inst.Inst.TheVariants.{JumpLinkRegister}
 use Rattle.rsp_text.specs.declared.fault.AsmFaultKind.{AsmFaultKind}
 use Rattle.rsp_text.specs.declared.fault.AsmFaultKind.TheVariants.{UnknownName, BadOperand, OutOfRange, LabelMissing}
-use Rattle.rsp_text.specs.declared.text.Stop.TheVariants.{Blank, Comma}
+use Rattle.rsp_text.specs.declared.text.Boundary.TheVariants.{Blank, Comma}
 use Rattle.rsp_text.specs.declared.slot.Slot.{Slot}
 use Rattle.rsp_text.specs.declared.slot.Slot.TheVariants.{Half, Amount, Jump, Branch, Scaled, Word}
 use Rattle.rsp_text.specs.Chars.{trim}
-use Rattle.rsp_text.specs.Cuts.{stops}
+use Rattle.rsp_text.specs.Cuts.{is_boundary}
 use Rattle.rsp_text.specs.Numbers.{Expression, expression_of}
 pub use Rattle.rsp_text.specs.Operands.{Reading, one_register, pair, asks, base_of, zero_expression, offset_of, memory, bracketed, half_start, byte_named, half_named, lane_named, with_element, bracket_of, memory_operand, read}
 
@@ -50,9 +50,9 @@ jump (pos t) = if nat_lt t 4096 && t % 4 == 0 then Some (t / 4) else None
 jump (negsuc t) = None
 
 -- an offset of a vector load or store, a multiple of the scale from -64 to 63 times it, modulo 128
-abbrev pub scaled : ℕ → ℤ → Option ℕ
-scaled scale (pos n) = if n % scale == 0 && nat_lt (n / scale) 64 then Some (n / scale) else None
-scaled scale (negsuc n) = if suc n % scale == 0 && nat_le (suc n / scale) 64 then Some (128 - suc n / scale) else None
+abbrev pub scaled_offset : ℕ → ℤ → Option ℕ
+scaled_offset scale (pos n) = if n % scale == 0 && nat_lt (n / scale) 64 then Some (n / scale) else None
+scaled_offset scale (negsuc n) = if suc n % scale == 0 && nat_le (suc n / scale) 64 then Some (128 - suc n / scale) else None
 
 -- the field of a value at a place
 abbrev pub field : Slot → ℕ → ℤ → Option ℕ
@@ -60,7 +60,7 @@ field Half place z = half z
 field Amount place z = amount z
 field Jump place z = jump z
 field Branch place z = branch place z
-field (Scaled scale) place z = scaled scale z
+field (Scaled scale) place z = scaled_offset scale z
 field Word place z = word z
 
 -- where an expression counts from: 0, or its label
@@ -156,7 +156,7 @@ read_numbers (t ∷ ts) = option_and_then (λ e. option_map (λ rs. asks Word []
 
 -- the texts of the operands
 abbrev pub operand_texts : List ℕ → List (List ℕ)
-operand_texts bs = if length bs == 0 then [] else map trim (slice_split (stops Comma) bs)
+operand_texts bs = if length bs == 0 then [] else map trim (slice_split (is_boundary Comma) bs)
 
 -- a name of the table, or one of the two beside it
 pub data Form : Type 0 where
@@ -195,4 +195,4 @@ statement_with name ts = with_form (form_named name (length ts)) ts
 abbrev pub statement_of : List ℕ → Result Statement AsmFaultKind
 statement_of bs =
     if length bs == 0 then Ok nothing
-    else statement_with (before_first (stops Blank) bs) (operand_texts (after_first (stops Blank) bs))
+    else statement_with (before_first (is_boundary Blank) bs) (operand_texts (after_first (is_boundary Blank) bs))

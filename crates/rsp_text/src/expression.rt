@@ -9,7 +9,7 @@ ghost use Rattle.rsp_text.specs.Seen.{expression, capped_expression};
 use crate::blanks::{skip_blanks, trim};
 use crate::name_bytes::{is_name_byte, is_name_start};
 use crate::numbers::{number, signed, unsigned};
-use crate::text::{Stop, cut};
+use crate::text::{Boundary, cut};
 
 /// The value of an operand: a number, or the place of a label and a number that is added to it.
 #[derive(Clone, Copy)]
@@ -76,9 +76,9 @@ pub fn read_expression(text: &[u8]) -> Option<Expression<'_>>
     if let Some(offset) = number(text) {
         return Some(numbered(None, offset));
     }
-    if let Some((name, rest)) = cut(text, Stop::Plus) {
+    if let Some((name, rest)) = cut(text, Boundary::Plus) {
         return label_and_number(trim(name), false, skip_blanks(rest));
     }
-    let (name, rest) = cut(text, Stop::Minus)?;
+    let (name, rest) = cut(text, Boundary::Minus)?;
     label_and_number(trim(name), true, skip_blanks(rest))
 }

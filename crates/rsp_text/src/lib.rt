@@ -28,4 +28,4 @@ pub use numbers::{number, unsigned};
 pub use search::{len_before, len_before_blank};
 pub use slot::Slot;
 pub use table::{find_row, select_row};
-pub use text::{Stop, cut, is_same};
+pub use text::{Boundary, cut, is_same};

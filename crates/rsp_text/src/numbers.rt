@@ -1,7 +1,7 @@
 // Numbers of any length.
 
 ghost use Rattle.std.specs.Prelude.{◌≡◌, ◌≤◌, ◌^◌, pos, neg_ℤ, IfSome, option_map};
-ghost use Rattle.rsp_text.specs.Numbers.{numeral, signed_number, unsigned_of, number_of};
+ghost use Rattle.rsp_text.specs.Numbers.{numeral, signed_number, unsigned_of, signed_of};
 ghost use Rattle.rsp_text.specs.Seen.{capped, capped_ℤ, many};
 
 /// Beyond each range of an expression: a greater number counts as this one.
@@ -74,7 +74,7 @@ fn negated(digits: &[u8]) -> Option<i64>
 
 /// A number as [`unsigned`] reads it, or `-` and such a number.
 pub fn number(text: &[u8]) -> Option<i64>
-    ensures { result ≡ option_map capped_ℤ (number_of text.now) }
+    ensures { result ≡ option_map capped_ℤ (signed_of text.now) }
 {
     if let [b'-', digits @ ..] = text {
         return negated(digits);

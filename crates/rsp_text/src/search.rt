@@ -13,7 +13,7 @@ pub fn len_before(byte: u8, text: &[u8]) -> usize
     ensures within { result ≤ length text.now }
 {
     match memchr(byte, text) {
-        Some(place) => place,
+        Some(at) => at,
         None => text.len(),
     }
 }
@@ -25,7 +25,7 @@ pub fn len_before_blank(text: &[u8]) -> usize
     ensures within { result ≤ length text.now }
 {
     match memchr2(b' ', b'\t', text) {
-        Some(place) => place,
+        Some(at) => at,
         None => text.len(),
     }
 }

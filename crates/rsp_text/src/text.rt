@@ -6,9 +6,9 @@ ghost use Rattle.std.specs.Str.{str_eq_ignore_ascii_case};
 
 use crate::blanks::is_blank;
 
-/// Where a text is cut: at the first of these bytes.
+/// The bytes at which a text is cut: at the first of them.
 #[derive(Clone, Copy, PartialEq, Eq, Debug)]
-pub enum Stop {
+pub enum Boundary {
     /// A space or a tab.
     Blank,
     /// `:`
@@ -29,33 +29,33 @@ pub enum Stop {
     Minus,
 }
 
-impl Stop {
-    ghost use Rattle.rsp_text.specs.Cuts.{stops};
+impl Boundary {
+    ghost use Rattle.rsp_text.specs.Cuts.{is_boundary};
 
     /// Whether a text is cut at this byte.
     fn is_at(self, c: u8) -> bool
-        ensures { result ≡ stops self c }
+        ensures { result ≡ is_boundary self c }
     {
         match self {
-            Stop::Blank => is_blank(c),
-            Stop::Colon => c == b':',
-            Stop::Newline => c == b'\n',
-            Stop::Comma => c == b',',
-            Stop::Comment => c == b'#' || c == b';',
-            Stop::Bracket => c == b'[',
-            Stop::Parenthesis => c == b'(',
-            Stop::Plus => c == b'+',
-            Stop::Minus => c == b'-',
+            Boundary::Blank => is_blank(c),
+            Boundary::Colon => c == b':',
+            Boundary::Newline => c == b'\n',
+            Boundary::Comma => c == b',',
+            Boundary::Comment => c == b'#' || c == b';',
+            Boundary::Bracket => c == b'[',
+            Boundary::Parenthesis => c == b'(',
+            Boundary::Plus => c == b'+',
+            Boundary::Minus => c == b'-',
         }
     }
 }
 
 /// The part before the first such byte, and the part after it; None where there is none.
-pub fn cut(text: &[u8], stop: Stop) -> Option<(&[u8], &[u8])>
-    ensures { option_map (λ p. (p.0.now, p.1.now)) result ≡ cut stop text.now }
+pub fn cut(text: &[u8], boundary: Boundary) -> Option<(&[u8], &[u8])>
+    ensures { option_map (λ p. (p.0.now, p.1.now)) result ≡ cut boundary text.now }
 {
     for (at, c) in text.iter().enumerate() {
-        if stop.is_at(*c) {
+        if boundary.is_at(*c) {
             return Some((&text[..at], &text[at + 1..]));
         }
     }

@@ -1,19 +1,19 @@
 use rsp_decode::Operand;
 use rsp_script::LineFault;
 use rsp_text::{
-    AsmFaultKind, Stop, control, cut, element, find_row, is_label, is_same, number,
+    AsmFaultKind, Boundary, control, cut, element, find_row, is_label, is_same, number,
     read_expression, scalar, small_number, sp_register, unsigned, vector,
 };
 
 #[test]
 fn cuts_at_a_comment(rt: HostRuntime) {
-    let Some((name, rest)) = cut(b"j x # on", Stop::Comment) else {
+    let Some((name, rest)) = cut(b"j x # on", Boundary::Comment) else {
         assert!(rt; false);
         return;
     };
     assert!(rt; name == b"j x ".as_slice());
     assert!(rt; rest == b" on".as_slice());
-    assert!(rt; cut(b"nop", Stop::Colon).is_none());
+    assert!(rt; cut(b"nop", Boundary::Colon).is_none());
     assert!(rt; is_same(b"$Sp", b"$sP"));
 }
 

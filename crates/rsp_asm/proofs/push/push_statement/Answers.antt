@@ -2,7 +2,7 @@ use Rattle.std.proofs.Common.{◌≡◌, ◌∙◌, sym, ap, arith, length}
 use Rattle.std.specs.Prelude.{option_map, Some}
 use Rattle.std.specs.List.{list_all}
 use Rattle.rsp_decode.specs.Table.{Entry, entry, is_row_operand}
-use Rattle.rsp_text.specs.Source.{size_if, statement_words}
+use Rattle.rsp_text.specs.SourceLine.{size_if, statement_words}
 use Rattle.rsp_text.specs.Statement.{statement_of, operand_texts, form_named, with_form, numbers_form, row_form}
 use Rattle.rsp_asm.specs.Forms.{form}
 use Rattle.rsp_asm.specs.Statements.{row_words, row_size}

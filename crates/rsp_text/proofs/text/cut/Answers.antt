@@ -9,9 +9,9 @@ returns-then-is_at c =
     let text = c.args.text.now in
     let at = c.loop-at.at in
     ap (λ t. Some (take at text, t)) (take_all (length text - (at + 1)) (drop (at + 1) text) (omega (arith, length-drop (at + 1) text)))
-    ∙ sym (cut_here c.args.stop text at (omega arith) c.loop-at.invariant (cc))
+    ∙ sym (cut_here c.args.boundary text at (omega arith) c.loop-at.invariant (cc))
 
 pub returns : goal.returns
 returns c =
     let whole : take c.loop-at.at c.args.text.now ≡ c.args.text.now = take_all c.loop-at.at c.args.text.now (omega arith) in
-    sym (cut_none c.args.stop c.args.text.now (rw whole at c.loop-at.invariant))
+    sym (cut_none c.args.boundary c.args.text.now (rw whole at c.loop-at.invariant))

@@ -2,7 +2,7 @@ use Rattle.std.proofs.Common.{◌+◌, ◌≤◌, length}
 use Rattle.std.specs.Str.Lines.{lines}
 use Rattle.arrayvec.specs.ArrayVec.{array_vec_len}
 use Rattle.rsp_asm.proofs.Passes.{Written}
-use Rattle.rsp_asm.proofs.source.second_pass.Given as goal
+use Rattle.rsp_asm.proofs.two_passes.second_pass.Given as goal
 
 abbrev pub invariant-loop-line : goal.invariant-loop-line
 invariant-loop-line l =

@@ -10,7 +10,7 @@ ghost use Rattle.rsp_asm.specs.Answer.{IsFault};
 use crate::line::{check_line, push_words};
 use crate::words::Words;
 use rsp_operands::Labels;
-use rsp_text::{AsmFault, AsmFaultKind, Stop, cut, without_return};
+use rsp_text::{AsmFault, AsmFaultKind, Boundary, cut, without_return};
 use std::alloc::{AllocError, Global};
 
 /// The first line, and what follows it.
@@ -20,7 +20,7 @@ fn next_line(text: &[u8]) -> Option<(&[u8], &[u8])>
     if text.is_empty() {
         return None;
     }
-    match cut(text, Stop::Newline) {
+    match cut(text, Boundary::Newline) {
         Some((line, rest)) => Some((without_return(line), rest)),
         None => Some((text, &[])),
     }

@@ -4,7 +4,7 @@ use Rattle.std.specs.Str.Lines.{lines}
 use Rattle.rsp_text.specs.Means.{labels_before, labelled, place_of_line, fault_before}
 use Rattle.rsp_operands.specs.Labels.{SamePlaces}
 use Rattle.rsp_asm.proofs.Passes.{Done, done_more, done_fault, done_all, done_short, on_ok, on_err, fault_means}
-use Rattle.rsp_asm.proofs.source.first_pass.Goals as goal
+use Rattle.rsp_asm.proofs.two_passes.first_pass.Goals as goal
 
 pub returns-in-Err-clause-err : goal.returns-in-Err-clause-err
 returns-in-Err-clause-err c =

@@ -1,18 +1,18 @@
 use Rattle.std.proofs.Common.{sym, ap, ◌∙◌, ◌<◌, ◌∷◌, arith, length, length-append}
 use Rattle.std.specs.Str.Lines.{lines}
-use Rattle.rsp_text.specs.declared.text.Stop.TheVariants.{Newline}
+use Rattle.rsp_text.specs.declared.text.Boundary.TheVariants.{Newline}
 use Rattle.rsp_text.proofs.Cuts.{IsCut, cut_some, cut_nothing}
-use Rattle.rsp_text.specs.Cuts.{stops}
+use Rattle.rsp_text.specs.Cuts.{is_boundary}
 use Rattle.std.proofs.lemmas.Grind.{common_steps}
 use Rattle.rsp_text.proofs.TextLines.{first_line, last_line}
-use Rattle.rsp_asm.proofs.source.next_line.Goals as goal
+use Rattle.rsp_asm.proofs.two_passes.next_line.Goals as goal
 
 pub returns-in-Some : goal.returns-in-Some
 returns-in-Some c =
     let text = c.args.text.now in
     let line = c.in-Some.line.now in
     let rest = c.in-Some.rest.now in
-    let k : IsCut (stops Newline) text line rest = cut_some Newline text line rest c.in-Some.ensures in (
+    let k : IsCut (is_boundary Newline) text line rest = cut_some Newline text line rest c.in-Some.ensures in (
       ap lines k.whole ∙ first_line line rest k.stop k.plain k.stops_there ∙ ap (λ t. t ∷ lines rest) (sym c.without_return.ensures),
       omega (arith, ap length k.whole, length-append line (k.stop ∷ rest)),
     )

@@ -2,7 +2,7 @@ use Rattle.std.proofs.Common.{ap, subst, arith, ◌+◌, ◌*◌, ◌∷◌, Lis
 use Rattle.std.specs.Str.Lines.{lines}
 use Rattle.arrayvec.specs.ArrayVec.{array_vec_len}
 use Rattle.rsp_asm.proofs.Passes.{Written, written_more, written_fault, written_all, written_place, written_room}
-use Rattle.rsp_asm.proofs.source.second_pass.Goals as goal
+use Rattle.rsp_asm.proofs.two_passes.second_pass.Goals as goal
 
 pub overflow_add-place : goal.overflow_add-place
 overflow_add-place c =

@@ -1,7 +1,7 @@
 use Rattle.std.proofs.Common.{◌+◌, ◌≤◌, length}
 use Rattle.std.specs.Str.Lines.{lines}
 use Rattle.rsp_asm.proofs.Passes.{Done}
-use Rattle.rsp_asm.proofs.source.first_pass.Given as goal
+use Rattle.rsp_asm.proofs.two_passes.first_pass.Given as goal
 
 abbrev pub invariant-loop-line : goal.invariant-loop-line
 invariant-loop-line l =

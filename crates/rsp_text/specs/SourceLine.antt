@@ -3,7 +3,7 @@ use Rattle.std.specs.Prelude.{ℕ, ◌+◌, ◌*◌, nat_lt, Bool, false, List, 
 use Rattle.std.specs.List.{list_any}
 use Rattle.rsp_text.specs.declared.fault.AsmFaultKind.{AsmFaultKind}
 use Rattle.rsp_text.specs.declared.fault.AsmFaultKind.TheVariants.{BadLine, OutOfRange, LabelTwice, PastEnd}
-use Rattle.rsp_text.specs.declared.text.Stop.TheVariants.{Comment, Colon}
+use Rattle.rsp_text.specs.declared.text.Boundary.TheVariants.{Comment, Colon}
 use Rattle.rsp_text.specs.Chars.{is_line, skip_blanks, trim}
 use Rattle.rsp_text.specs.Cuts.{cut}
 use Rattle.rsp_text.specs.Numbers.{is_label}
@@ -31,15 +31,15 @@ abbrev pub labelled_parts : Option (List ℕ × List ℕ) → List ℕ → Optio
 labelled_parts None bs = Some (record { label = None; body = bs })
 labelled_parts (Some p) bs = if is_label p.0 then Some (record { label = Some p.0; body = skip_blanks p.1 }) else None
 
-abbrev pub parts_of : List ℕ → Option Parts
-parts_of bs = if is_line bs then labelled_parts (cut Colon (code_of bs)) (code_of bs) else None
+abbrev pub split_line : List ℕ → Option Parts
+split_line bs = if is_line bs then labelled_parts (cut Colon (code_of bs)) (code_of bs) else None
 
 abbrev pub label_in : Option Parts → Option (List ℕ)
 label_in None = None
 label_in (Some p) = p.label
 
 unfoldable pub label_of : List ℕ → Option (List ℕ)
-label_of line = label_in (parts_of line)
+label_of line = label_in (split_line line)
 
 abbrev pub size_if : Result Statement AsmFaultKind → ℕ
 size_if (Err kind) = 0
@@ -50,8 +50,8 @@ size_in None = 0
 size_in (Some p) = size_if (statement_of p.body)
 
 -- how many words a line gives
-unfoldable pub size_of : List ℕ → ℕ
-size_of line = size_in (parts_of line)
+unfoldable pub line_size : List ℕ → ℕ
+line_size line = size_in (split_line line)
 
 -- ---- the first pass
 
@@ -77,7 +77,7 @@ parts_fault labels place (Some p) =
 
 -- the fault that a line has behind lines with these labels
 unfoldable pub first_fault : Labels → ℕ → List ℕ → Option AsmFaultKind
-first_fault labels place line = parts_fault labels place (parts_of line)
+first_fault labels place line = parts_fault labels place (split_line line)
 
 -- ---- the second pass
 
@@ -91,4 +91,4 @@ parts_words labels place (Some p) = statement_words labels place (statement_of p
 
 -- the words of a line
 unfoldable pub line_words : Labels → ℕ → List ℕ → Result (List ℕ) AsmFaultKind
-line_words labels place line = parts_words labels place (parts_of line)
+line_words labels place line = parts_words labels place (split_line line)

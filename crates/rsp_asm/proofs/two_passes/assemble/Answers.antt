@@ -2,7 +2,7 @@ use Rattle.std.proofs.Common.{◌∙◌, sym, inl}
 use Rattle.std.specs.Str.Lines.{lines}
 use Rattle.std.proofs.lemmas.Result.{IfOk-weaker, IfErr-weaker}
 use Rattle.rsp_asm.proofs.Same.{means_same}
-use Rattle.rsp_asm.proofs.source.assemble.Goals as goal
+use Rattle.rsp_asm.proofs.two_passes.assemble.Goals as goal
 
 pub returns-clause-ok : goal.returns-clause-ok
 returns-clause-ok c =
