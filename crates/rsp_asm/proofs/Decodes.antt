@@ -5,9 +5,9 @@ use Rattle.std.specs.List.{list_all, before_first, after_first}
 use Rattle.std.specs.Str.{str_eq_ignore_ascii_case}
 use Rattle.std.proofs.lemmas.Bool.{and_parts, cases_Bool, cond-true, cond-false, eqb-true, eq-eqb}
 use Rattle.rsp_decode.specs.declared.inst.Inst.TheVariants.{JumpLinkRegister}
-use Rattle.rsp_decode.specs.Table.{Row, rows, row_of, row_places, fits, fields, word_from, inst_of, canonical_of, FitPlaces, is_row_operand}
+use Rattle.rsp_decode.specs.Table.{Row, rows, row_of, row_bit_fields, fits, fields, word_from, inst_of, canonical_of, FitBitFields, is_row_operand}
 use Rattle.rsp_decode.proofs.OneRow.{one_row}
-use Rattle.rsp_decode.proofs.Places.{apart_from, all_apart, under_others, fields_back, clear_from}
+use Rattle.rsp_decode.proofs.BitFields.{apart_from, all_apart, under_others, fields_back, clear_from}
 use Rattle.rsp_decode.proofs.RowsBack.{round_trip, word_of_is_canonical}
 use Rattle.rsp_text.specs.declared.fault.AsmFaultKind.{AsmFaultKind}
 use Rattle.rsp_text.specs.declared.text.Boundary.TheVariants.{Blank}
@@ -22,7 +22,7 @@ use Rattle.rsp_asm.proofs.Fits.{AllFit, all_fit}
 -- the value is under the mask, the places are apart from the mask and from each other, and the operands are of the fourteen kinds
 abbrev ready : Row → Bool
 ready r =
-    (bit_and r.value r.mask == r.value) && ((apart_from r.mask (row_places r) && all_apart (row_places r)) && list_all is_row_operand r.operands)
+    (bit_and r.value r.mask == r.value) && ((apart_from r.mask (row_bit_fields r) && all_apart (row_bit_fields r)) && list_all is_row_operand r.operands)
 
 rows_ready : list_all ready rows ≡ true
 rows_ready = refl
@@ -53,12 +53,12 @@ find_first t (x ∷ xs) (suc i) d lt e none =
     cond-false (t x) (Some x) (find t xs) (not_true (t x) (none 0 (omega arith)))
     ∙ find_first t xs i d (omega arith) e (λ j l. none (suc j) (omega arith))
 
-module _ (r : Row) (i : ℕ) (inside : i < length rows) (is : get_or rows i r ≡ r) (good : ready r ≡ true) (vs : List ℕ) (fit : FitPlaces (row_places r) vs) where
+module _ (r : Row) (i : ℕ) (inside : i < length rows) (is : get_or rows i r ≡ r) (good : ready r ≡ true) (vs : List ℕ) (fit : FitBitFields (row_bit_fields r) vs) where
   word_fits : fits (word_from r vs) r ≡ true
   word_fits =
       let tests = and_parts _ _ good in
       let apart = and_parts _ _ (and_parts _ _ tests.1).0 in
-      eq-eqb _ _ (under_others (row_places r) vs r.value r.mask fit apart.0 ∙ eqb-true _ _ tests.0)
+      eq-eqb _ _ (under_others (row_bit_fields r) vs r.value r.mask fit apart.0 ∙ eqb-true _ _ tests.0)
 
   word_row : row_of (word_from r vs) ≡ Some r
   unfolding row_of
@@ -70,7 +70,7 @@ module _ (r : Row) (i : ℕ) (inside : i < length rows) (is : get_or rows i r �
   word_fields =
       let tests = and_parts _ _ good in
       let apart = and_parts _ _ (and_parts _ _ tests.1).0 in
-      fields_back (row_places r) vs r.value fit apart.1 (clear_from r.mask r.value (row_places r) (eqb-true _ _ tests.0) apart.0)
+      fields_back (row_bit_fields r) vs r.value fit apart.1 (clear_from r.mask r.value (row_bit_fields r) (eqb-true _ _ tests.0) apart.0)
 
   word_meaning : inst_of (word_from r vs) ≡ Some (r.inst vs)
   unfolding inst_of
@@ -88,7 +88,7 @@ record Word (r : Row) (vs : List ℕ) : Type 0 where
 -- the rows that statements have: their operands are of the fourteen kinds, and the table decodes their words
 pub record Usable (r : Row) : Type 0 where
   pub kinds : list_all is_row_operand r.operands ≡ true
-  words : (vs : List ℕ) → FitPlaces (row_places r) vs → Word r vs
+  words : (vs : List ℕ) → FitBitFields (row_bit_fields r) vs → Word r vs
 
 named_usable : (name : List ℕ) (r : Row) → row_named name ≡ Some r → Usable r
 unfolding row_named
@@ -99,7 +99,7 @@ named_usable name r e =
       words = λ vs fit. record { meaning = word_meaning r k.0 k.1 k.2 k.3 vs fit; canonical = word_canonical r k.0 k.1 k.2 k.3 vs fit };
     }
 
-linking_words : (vs : List ℕ) → FitPlaces (row_places linking_row) vs → Word linking_row vs
+linking_words : (vs : List ℕ) → FitBitFields (row_bit_fields linking_row) vs → Word linking_row vs
 linking_words [] fit = absurd fit
 linking_words (s ∷ []) fit =
     record {
@@ -159,7 +159,7 @@ read_form (Some (row_form r)) ts row rs e = read_row r row ts rs e
 
 -- the words of a usable row's operands
 module _ (labels : Labels) (place : ℕ) (row : Row) (rs : List Reading) (words : List ℕ) (usable : Usable row) where
-  decoded : (f : Result (List ℕ) AsmFaultKind) → all_fields labels place rs ≡ f → IfOk f (FitPlaces (row_places row)) → one_word row f ≡ Ok words → Decodes labels place row rs words
+  decoded : (f : Result (List ℕ) AsmFaultKind) → all_fields labels place rs ≡ f → IfOk f (FitBitFields (row_bit_fields row)) → one_word row f ≡ Ok words → Decodes labels place row rs words
   decoded (Err kind) is fit e = absurd cc
   decoded (Ok vs) is fit e =
       let same : word_from row vs ∷ [] ≡ words = cc in

@@ -5,7 +5,7 @@ use Rattle.std.specs.List.{list_all}
 use Rattle.std.specs.Str.{str_eq_ignore_ascii_case}
 use Rattle.std.proofs.lemmas.Bool.{and_parts, or_cases, eqb-true}
 use Rattle.std.proofs.lemmas.Bool.Decides.{nat_tests}
-use Rattle.rsp_decode.specs.Table.{Operand, scalar, shift_amount, signed, unsigned, jump_target, branch_target, scalar_memory, vector_memory, sp_register, control_register, vector, vector_byte, vector_half, vector_element, vector_lane, Place, places, stepped, FitsPlace, FitPlaces, is_scale, is_row_operand}
+use Rattle.rsp_decode.specs.Table.{Operand, scalar, shift_amount, signed, unsigned, jump_target, branch_target, scalar_memory, vector_memory, sp_register, control_register, vector, vector_byte, vector_half, vector_element, vector_lane, BitField, bit_fields, stepped, FitsBitField, FitBitFields, is_scale, is_row_operand}
 use Rattle.rsp_text.specs.declared.fault.AsmFaultKind.{AsmFaultKind}
 use Rattle.rsp_text.specs.declared.slot.Slot.{Slot}
 use Rattle.rsp_text.specs.declared.slot.Slot.TheVariants.{Half, Amount, Jump, Branch, Scaled}
@@ -63,12 +63,12 @@ base_below bs = either (λ v. v < 32) (slice_index bs (length bs - 1) == 41) (sc
 bracketed_fits : (P : ℕ → Type 0) (look : List ℕ → Option ℕ) → ((bs : List ℕ) → IfSome (look bs) P) → (bs : List ℕ) → IfSome (bracketed look bs) P
 bracketed_fits P look all bs = either P (slice_index bs (length bs - 1) == 93) (look (take (length bs - 1) bs)) None (all (take (length bs - 1) bs)) tt
 
-half_of : (e : ℕ) → e < 16 → e % 8 ≡ 0 → FitsPlace (stepped 10 1 3) e
+half_of : (e : ℕ) → e < 16 → e % 8 ≡ 0 → FitsBitField (stepped 10 1 3) e
 half_of e lt h = (omega arith, omega arith)
 
-half_fits : (o : Option ℕ) → Below 16 o → IfSome (option_and_then half_start o) (FitsPlace (stepped 10 1 3))
+half_fits : (o : Option ℕ) → Below 16 o → IfSome (option_and_then half_start o) (FitsBitField (stepped 10 1 3))
 half_fits None b = tt
-half_fits (Some e) b = when (FitsPlace (stepped 10 1 3)) (e % 8 == 0) e (λ t. half_of e b (eqb-true (e % 8) 0 t))
+half_fits (Some e) b = when (FitsBitField (stepped 10 1 3)) (e % 8 == 0) e (λ t. half_of e b (eqb-true (e % 8) 0 t))
 
 -- ---- values
 
@@ -116,42 +116,42 @@ scaled_fits s e = elim (or_cases _ _ e) [
 module _ (labels : Labels) (place : ℕ) where
   -- the fields of what is read fit, where something is read and has fields
   abbrev pub Fits : Operand → Option Reading → Type 0
-  Fits k o = IfSome o (λ r. IfOk (fields_of labels place r) (FitPlaces (places k)))
+  Fits k o = IfSome o (λ r. IfOk (fields_of labels place r) (FitBitFields (bit_fields k)))
 
-  pair_fits : (k : Operand) (P : ℕ → Type 0) (v e : Option ℕ) → Below 32 v → IfSome e P → ((n m : ℕ) → n < 32 → P m → FitPlaces (places k) (n ∷ m ∷ [])) → Fits k (with_element v e)
+  pair_fits : (k : Operand) (P : ℕ → Type 0) (v e : Option ℕ) → Below 32 v → IfSome e P → ((n m : ℕ) → n < 32 → P m → FitBitFields (bit_fields k) (n ∷ m ∷ [])) → Fits k (with_element v e)
   pair_fits k P None e p q h = tt
   pair_fits k P (Some n) None p q h = tt
   pair_fits k P (Some n) (Some m) p q h = h n m p q
 
-  bracket_fits : (k : Operand) (P : ℕ → Type 0) (look : List ℕ → Option ℕ) (default : Option ℕ) (o : Option (List ℕ × List ℕ)) (bs : List ℕ) → ((bs : List ℕ) → IfSome (look bs) P) → IfSome default P → ((n m : ℕ) → n < 32 → P m → FitPlaces (places k) (n ∷ m ∷ [])) → Fits k (bracket_of look default o bs)
+  bracket_fits : (k : Operand) (P : ℕ → Type 0) (look : List ℕ → Option ℕ) (default : Option ℕ) (o : Option (List ℕ × List ℕ)) (bs : List ℕ) → ((bs : List ℕ) → IfSome (look bs) P) → IfSome default P → ((n m : ℕ) → n < 32 → P m → FitBitFields (bit_fields k) (n ∷ m ∷ [])) → Fits k (bracket_of look default o bs)
   bracket_fits k P look default None bs all some h = pair_fits k P (vector_named bs) default (vector_below bs) some h
   bracket_fits k P look default (Some p) bs all some h = pair_fits k P (vector_named p.0) (bracketed look p.1) (vector_below p.0) (bracketed_fits P look all p.1) h
 
-  valued : (k : Operand) (slot : Slot) (limit : ℕ) (ns : List ℕ) (e : Expression) → ((z : ℤ) → Below limit (field slot place z)) → ((v : ℕ) → v < limit → FitPlaces (places k) (v ∷ ns)) → IfOk (fields_of labels place (asks slot ns e)) (FitPlaces (places k))
+  valued : (k : Operand) (slot : Slot) (limit : ℕ) (ns : List ℕ) (e : Expression) → ((z : ℤ) → Below limit (field slot place z)) → ((v : ℕ) → v < limit → FitBitFields (bit_fields k) (v ∷ ns)) → IfOk (fields_of labels place (asks slot ns e)) (FitBitFields (bit_fields k))
   valued k slot limit ns e all h = go (evaluate labels e)
     where
-      ranged : (o : Option ℕ) → Below limit o → IfOk (then_registers ns (or_out_of_range o)) (FitPlaces (places k))
+      ranged : (o : Option ℕ) → Below limit o → IfOk (then_registers ns (or_out_of_range o)) (FitBitFields (bit_fields k))
       ranged None b = tt
       ranged (Some v) b = h v b
 
-      go : (o : Option ℤ) → IfOk (then_registers ns (field_of slot place o)) (FitPlaces (places k))
+      go : (o : Option ℤ) → IfOk (then_registers ns (field_of slot place o)) (FitBitFields (bit_fields k))
       go None = tt
       go (Some z) = ranged (field slot place z) (all z)
 
-  value_fits : (k : Operand) (slot : Slot) (limit : ℕ) (o : Option Expression) → ((z : ℤ) → Below limit (field slot place z)) → ((v : ℕ) → v < limit → FitPlaces (places k) (v ∷ [])) → Fits k (option_map (asks slot []) o)
+  value_fits : (k : Operand) (slot : Slot) (limit : ℕ) (o : Option Expression) → ((z : ℤ) → Below limit (field slot place z)) → ((v : ℕ) → v < limit → FitBitFields (bit_fields k) (v ∷ [])) → Fits k (option_map (asks slot []) o)
   value_fits k slot limit None all h = tt
   value_fits k slot limit (Some e) all h = valued k slot limit [] e all h
 
-  offset_fits : (k : Operand) (slot : Slot) (limit : ℕ) (o : Option Expression) (base : Option ℕ) → Below 32 base → ((z : ℤ) → Below limit (field slot place z)) → ((v n : ℕ) → v < limit → n < 32 → FitPlaces (places k) (v ∷ n ∷ [])) → Fits k (memory slot o base)
+  offset_fits : (k : Operand) (slot : Slot) (limit : ℕ) (o : Option Expression) (base : Option ℕ) → Below 32 base → ((z : ℤ) → Below limit (field slot place z)) → ((v n : ℕ) → v < limit → n < 32 → FitBitFields (bit_fields k) (v ∷ n ∷ [])) → Fits k (memory slot o base)
   offset_fits k slot limit None base b all h = tt
   offset_fits k slot limit (Some e) None b all h = tt
   offset_fits k slot limit (Some e) (Some n) b all h = valued k slot limit (n ∷ []) e all (λ v lt. h v n lt b)
 
-  memory_fits : (k : Operand) (slot : Slot) (limit : ℕ) (o : Option (List ℕ × List ℕ)) → ((z : ℤ) → Below limit (field slot place z)) → ((v n : ℕ) → v < limit → n < 32 → FitPlaces (places k) (v ∷ n ∷ [])) → Fits k (memory_operand slot o)
+  memory_fits : (k : Operand) (slot : Slot) (limit : ℕ) (o : Option (List ℕ × List ℕ)) → ((z : ℤ) → Below limit (field slot place z)) → ((v n : ℕ) → v < limit → n < 32 → FitBitFields (bit_fields k) (v ∷ n ∷ [])) → Fits k (memory_operand slot o)
   memory_fits k slot limit None all h = tt
   memory_fits k slot limit (Some p) all h = offset_fits k slot limit (offset_of p.0) (base_of p.1) (base_below p.1) all h
 
-  one_fits : (k : Operand) (limit : ℕ) (o : Option ℕ) → Below limit o → ((n : ℕ) → n < limit → FitPlaces (places k) (n ∷ [])) → Fits k (option_map one_register o)
+  one_fits : (k : Operand) (limit : ℕ) (o : Option ℕ) → Below limit o → ((n : ℕ) → n < limit → FitBitFields (bit_fields k) (n ∷ [])) → Fits k (option_map one_register o)
   one_fits k limit None b h = tt
   one_fits k limit (Some n) b h = h n b
 
@@ -170,7 +170,7 @@ module _ (labels : Labels) (place : ℕ) where
   read_fits (vector_byte low) bs ok =
       bracket_fits (vector_byte low) (λ m. m < 16) byte_named (Some 0) (cut Bracket bs) bs (λ b. number_below 16 b) (omega arith) (λ n m lt f. (lt, (f, tt)))
   read_fits vector_half bs ok =
-      bracket_fits vector_half (FitsPlace (stepped 10 1 3)) half_named (Some 0) (cut Bracket bs) bs (λ b. half_fits (small_number 16 b) (number_below 16 b)) (omega arith, omega arith) (λ n m lt f. (lt, (f, tt)))
+      bracket_fits vector_half (FitsBitField (stepped 10 1 3)) half_named (Some 0) (cut Bracket bs) bs (λ b. half_fits (small_number 16 b) (number_below 16 b)) (omega arith, omega arith) (λ n m lt f. (lt, (f, tt)))
   read_fits vector_element bs ok =
       bracket_fits vector_element (λ m. m < 16) element_named (Some 0) (cut Bracket bs) bs (λ b. look_up_below 16 element_names b refl) (omega arith) (λ n m lt f. (lt, (f, tt)))
   read_fits vector_lane bs ok =
@@ -178,24 +178,24 @@ module _ (labels : Labels) (place : ℕ) where
 
   -- ---- all operands of a row
 
-  both_fit : (ps qs : List Place) (vs ws : List ℕ) → FitPlaces ps vs → FitPlaces qs ws → FitPlaces (ps ++ qs) (vs ++ ws)
+  both_fit : (ps qs : List BitField) (vs ws : List ℕ) → FitBitFields ps vs → FitBitFields qs ws → FitBitFields (ps ++ qs) (vs ++ ws)
   both_fit [] qs [] ws a b = b
   both_fit [] qs (v ∷ vs) ws a b = absurd a
   both_fit (p ∷ ps) qs [] ws a b = absurd a
   both_fit (p ∷ ps) qs (v ∷ vs) ws a b = (a.0, both_fit ps qs vs ws a.1 b)
 
-  append_fits : (ps qs : List Place) (x y : Result (List ℕ) AsmFaultKind) → IfOk x (FitPlaces ps) → IfOk y (FitPlaces qs) → IfOk (append x y) (FitPlaces (ps ++ qs))
+  append_fits : (ps qs : List BitField) (x y : Result (List ℕ) AsmFaultKind) → IfOk x (FitBitFields ps) → IfOk y (FitBitFields qs) → IfOk (append x y) (FitBitFields (ps ++ qs))
   append_fits ps qs (Err kind) y a b = tt
   append_fits ps qs (Ok vs) (Err kind) a b = tt
   append_fits ps qs (Ok vs) (Ok ws) a b = both_fit ps qs vs ws a b
 
   abbrev pub AllFit : List Operand → Option (List Reading) → Type 0
-  AllFit ks o = IfSome o (λ rs. IfOk (all_fields labels place rs) (FitPlaces (flat_map places ks)))
+  AllFit ks o = IfSome o (λ rs. IfOk (all_fields labels place rs) (FitBitFields (flat_map bit_fields ks)))
 
   one_more : (k : Operand) (ks : List Operand) (o : Option Reading) (os : Option (List Reading)) → Fits k o → AllFit ks os → AllFit (k ∷ ks) (option_and_then (λ r. option_map (λ rs. r ∷ rs) os) o)
   one_more k ks None os a b = tt
   one_more k ks (Some r) None a b = tt
-  one_more k ks (Some r) (Some rs) a b = append_fits (places k) (flat_map places ks) (fields_of labels place r) (all_fields labels place rs) a b
+  one_more k ks (Some r) (Some rs) a b = append_fits (bit_fields k) (flat_map bit_fields ks) (fields_of labels place r) (all_fields labels place rs) a b
 
   pub all_fit : (ks : List Operand) (ts : List (List ℕ)) → list_all is_row_operand ks ≡ true → AllFit ks (read_all ks ts)
   all_fit [] [] ok = tt

@@ -1,7 +1,7 @@
 -- How many fields the operands of a statement have.
 use Rattle.std.proofs.Common.{◌≡◌, refl, sym, ap, ◌∙◌, ℕ, ◌+◌, List, [], ◌∷◌, ◌++◌, length, arith}
 use Rattle.std.specs.Prelude.{Option, Some, None, option_map, option_and_then, Result, Ok, Err}
-use Rattle.rsp_decode.specs.Table.{Operand, scalar, shift_amount, signed, unsigned, jump_target, branch_target, scalar_memory, vector_memory, sp_register, control_register, vector, vector_byte, vector_half, vector_element, vector_lane, Place, places, with_fields}
+use Rattle.rsp_decode.specs.Table.{Operand, scalar, shift_amount, signed, unsigned, jump_target, branch_target, scalar_memory, vector_memory, sp_register, control_register, vector, vector_byte, vector_half, vector_element, vector_lane, BitField, bit_fields, with_fields}
 use Rattle.rsp_text.specs.declared.fault.AsmFaultKind.{AsmFaultKind}
 use Rattle.rsp_text.specs.declared.slot.Slot.{Slot}
 use Rattle.rsp_text.specs.declared.slot.Slot.TheVariants.{Half, Amount, Jump, Branch, Scaled, Word}
@@ -50,7 +50,7 @@ bracket_span : (look : List ℕ → Option ℕ) (default : Option ℕ) (o : Opti
 bracket_span look default None bs r e = pair_span (vector_named bs) default r e
 bracket_span look default (Some p) bs r e = pair_span (vector_named p.0) (bracketed look p.1) r e
 
-pub read_span : (k : Operand) (t : List ℕ) (r : Reading) → read k t ≡ Some r → span r ≡ length (places k)
+pub read_span : (k : Operand) (t : List ℕ) (r : Reading) → read k t ≡ Some r → span r ≡ length (bit_fields k)
 read_span (scalar low) t r e = from_map one_register 1 (λ _. refl) r (scalar_named t) e
 read_span shift_amount t r e = from_map (asks Amount []) 1 (λ _. refl) r (expression_of t) e
 read_span signed t r e = from_map (asks Half []) 1 (λ _. refl) r (expression_of t) e
@@ -67,7 +67,7 @@ read_span vector_half t r e = bracket_span half_named (Some 0) (cut Bracket t) t
 read_span vector_element t r e = bracket_span element_named (Some 0) (cut Bracket t) t r e
 read_span vector_lane t r e = bracket_span lane_named None (cut Bracket t) t r e
 
-pub with_fields_append : (ps qs : List Place) (vs ws : List ℕ) (w : ℕ) → length vs ≡ length ps → with_fields w (ps ++ qs) (vs ++ ws) ≡ with_fields (with_fields w ps vs) qs ws
+pub with_fields_append : (ps qs : List BitField) (vs ws : List ℕ) (w : ℕ) → length vs ≡ length ps → with_fields w (ps ++ qs) (vs ++ ws) ≡ with_fields (with_fields w ps vs) qs ws
 with_fields_append [] qs [] ws w e = refl
 with_fields_append [] qs (v ∷ vs) ws w e = absurd (omega arith)
 with_fields_append (p ∷ ps) qs [] ws w e = absurd (omega arith)

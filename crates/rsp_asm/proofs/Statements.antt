@@ -4,7 +4,7 @@ use Rattle.std.specs.Prelude.{Option, Some, None, option_map, Result, Ok, Err, i
 use Rattle.std.specs.List.{list_any, before_first, after_first}
 use Rattle.std.proofs.lemmas.Bool.{cond-false}
 use Rattle.std.proofs.lemmas.List.{drop_at, append-nil}
-use Rattle.rsp_decode.specs.Table.{Row, places, Entry, entry_of}
+use Rattle.rsp_decode.specs.Table.{Row, bit_fields, Entry, entry_of}
 use Rattle.rsp_text.specs.declared.fault.AsmFaultKind.{AsmFaultKind}
 use Rattle.rsp_text.specs.declared.fault.AsmFaultKind.TheVariants.{OutOfRange, BadOperand}
 use Rattle.rsp_text.specs.declared.text.Boundary.TheVariants.{Blank}
@@ -109,11 +109,11 @@ module _ (labels : Labels) (place : ℕ) (ts : List (List ℕ)) (some : 0 < leng
 pub row_said : (labels : Labels) (place : ℕ) (row : Row) (e : Entry) (ts : List (List ℕ)) → entry_of row ≡ e → row_words labels place e ts ≡ statement_words labels place (with_operands (form_readings (row_form row) ts))
 row_said labels place row e ts same = sym (ap (λ (x : Entry). row_words labels place x ts) same) ∙ go (read_all row.operands ts)
   where
-    go : (o : Option (List Reading)) → single (word_with labels place (Ok row.value) (flat_map places row.operands) o) ≡ statement_words labels place (with_operands (option_map (instruction row) o))
+    go : (o : Option (List Reading)) → single (word_with labels place (Ok row.value) (flat_map bit_fields row.operands) o) ≡ statement_words labels place (with_operands (option_map (instruction row) o))
     go None = refl
     go (Some rs) = again (all_fields labels place rs)
       where
-        again : (f : Result (List ℕ) AsmFaultKind) → single (with_values row.value (flat_map places row.operands) f) ≡ one_word row f
+        again : (f : Result (List ℕ) AsmFaultKind) → single (with_values row.value (flat_map bit_fields row.operands) f) ≡ one_word row f
         again (Err kind) = refl
         again (Ok vs) = refl
 

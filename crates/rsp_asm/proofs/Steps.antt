@@ -5,7 +5,7 @@ use Rattle.std.specs.List.{list_any}
 use Rattle.std.specs.Option.{option_or}
 use Rattle.std.specs.Result.{result_err, result_unwrap_or}
 use Rattle.std.proofs.lemmas.List.{append_assoc}
-use Rattle.rsp_decode.specs.Table.{Operand, Place, places}
+use Rattle.rsp_decode.specs.Table.{Operand, BitField, bit_fields}
 use Rattle.rsp_text.specs.declared.fault.AsmFaultKind.{AsmFaultKind}
 use Rattle.rsp_text.specs.declared.fault.AsmFaultKind.TheVariants.{BadOperand, OutOfRange}
 use Rattle.rsp_text.specs.declared.slot.Slot.TheVariants.{Word}
@@ -42,12 +42,12 @@ module _ (place count : ℕ) (bad : Bool) where
 
 -- ---- the second pass
 
-put_one : (w : ℕ) (ps qs : List Place) (o more : Result (List ℕ) AsmFaultKind) → ((vs : List ℕ) → o ≡ Ok vs → length vs ≡ length ps) → and_then (with_values w ps o) (λ v. with_values v qs more) ≡ with_values w (ps ++ qs) (append o more)
+put_one : (w : ℕ) (ps qs : List BitField) (o more : Result (List ℕ) AsmFaultKind) → ((vs : List ℕ) → o ≡ Ok vs → length vs ≡ length ps) → and_then (with_values w ps o) (λ v. with_values v qs more) ≡ with_values w (ps ++ qs) (append o more)
 put_one w ps qs (Err kind) more fit = refl
 put_one w ps qs (Ok vs) (Err kind) fit = refl
 put_one w ps qs (Ok vs) (Ok ws) fit = ap Ok (sym (with_fields_append ps qs vs ws w (fit vs refl)))
 
-module _ (labels : Labels) (place v : ℕ) (ps qs : List Place) where
+module _ (labels : Labels) (place v : ℕ) (ps qs : List BitField) where
   word_next : (fault : Option AsmFaultKind) (o : Option Reading) (q : Option (List Reading)) (p : Result ℕ AsmFaultKind) → ((r : Reading) → o ≡ Some r → span r ≡ length ps) → Some p ≡ option_map (λ (r : Reading). with_values v ps (fields_of labels place r)) o → word_with labels place (and_then (so_far fault v) (λ x. p)) qs q ≡ word_with labels place (so_far fault v) (ps ++ qs) (before_others o q)
   word_next fault None q p fit e = absurd cc
   word_next fault (Some r) None p fit e = refl
@@ -73,15 +73,15 @@ module _ (kinds : List Operand) (i : ℕ) (lt : i < length kinds) where
   first_read d t ts = ap (λ ks. read_all ks (t ∷ ts)) (at_index kinds i d lt)
 
   pub first_put : (d : Operand) (t : List ℕ) (ts : List (List ℕ)) (labels : Labels) (place v : ℕ) (fault : Option AsmFaultKind) (p w : Result ℕ AsmFaultKind)
-      → Some p ≡ option_map (λ (r : Reading). with_values v (places (get_or kinds i d)) (fields_of labels place r)) (read (get_or kinds i d) t)
+      → Some p ≡ option_map (λ (r : Reading). with_values v (bit_fields (get_or kinds i d)) (fields_of labels place r)) (read (get_or kinds i d) t)
       → w ≡ and_then (so_far fault v) (λ x. p)
-      → word_with labels place w (flat_map places (drop (i + 1) kinds)) (read_all (drop (i + 1) kinds) ts) ≡ word_with labels place (so_far fault v) (flat_map places (drop i kinds)) (read_all (drop i kinds) (t ∷ ts))
+      → word_with labels place w (flat_map bit_fields (drop (i + 1) kinds)) (read_all (drop (i + 1) kinds) ts) ≡ word_with labels place (so_far fault v) (flat_map bit_fields (drop i kinds)) (read_all (drop i kinds) (t ∷ ts))
   first_put d t ts labels place v fault p w e is =
       let k = get_or kinds i d in
       let ks = drop (i + 1) kinds in
-      ap (λ x. word_with labels place x (flat_map places ks) (read_all ks ts)) is
-      ∙ word_next labels place v (places k) (flat_map places ks) fault (read k t) (read_all ks ts) p (read_span k t) e
-      ∙ sym (ap (λ (xs : List Operand). word_with labels place (so_far fault v) (flat_map places xs) (read_all xs (t ∷ ts))) (at_index kinds i d lt))
+      ap (λ x. word_with labels place x (flat_map bit_fields ks) (read_all ks ts)) is
+      ∙ word_next labels place v (bit_fields k) (flat_map bit_fields ks) fault (read k t) (read_all ks ts) p (read_span k t) e
+      ∙ sym (ap (λ (xs : List Operand). word_with labels place (so_far fault v) (flat_map bit_fields xs) (read_all xs (t ∷ ts))) (at_index kinds i d lt))
 
   -- an operand that can't be read leaves nothing to read
   pub first_unread : {A : Type 0} (f : Reading → A) (d : Operand) (t : List ℕ) (ts : List (List ℕ)) → None ≡ option_map f (read (get_or kinds i d) t) → None ≡ read_all (drop i kinds) (t ∷ ts)

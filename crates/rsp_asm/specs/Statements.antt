@@ -2,7 +2,7 @@
 -- definitions of rsp_text.
 use Rattle.std.specs.Prelude.{◌≡◌, ℕ, Bool, ◌||◌, List, [], ◌∷◌, ◌++◌, length, flat_map, Option, Some, None, Result, Ok, Err, MatchResult, if◌then◌else◌}
 use Rattle.std.specs.List.{list_any}
-use Rattle.rsp_decode.specs.Table.{Entry, Place, places}
+use Rattle.rsp_decode.specs.Table.{Entry, BitField, bit_fields}
 use Rattle.rsp_text.specs.declared.fault.AsmFaultKind.{AsmFaultKind}
 use Rattle.rsp_text.specs.declared.fault.AsmFaultKind.TheVariants.{BadOperand, OutOfRange}
 use Rattle.rsp_text.specs.SourceLine.{has_bad_number}
@@ -53,13 +53,13 @@ abbrev pub and_then : Result ℕ AsmFaultKind → (ℕ → Result ℕ AsmFaultKi
 and_then (Err kind) more = Err kind
 and_then (Ok w) more = more w
 
--- a word with the fields of these readings at these places, or the fault of the leftmost that has one
-abbrev pub word_with : Labels → ℕ → Result ℕ AsmFaultKind → List Place → Option (List Reading) → Result ℕ AsmFaultKind
+-- a word with the fields of these readings at these bit_fields, or the fault of the leftmost that has one
+abbrev pub word_with : Labels → ℕ → Result ℕ AsmFaultKind → List BitField → Option (List Reading) → Result ℕ AsmFaultKind
 word_with labels place w ps None = Err BadOperand
 word_with labels place w ps (Some rs) = and_then w (λ v. with_values v ps (all_fields labels place rs))
 
 abbrev pub row_word : Labels → ℕ → Entry → List (List ℕ) → Result ℕ AsmFaultKind
-row_word labels place e ts = word_with labels place (Ok e.value) (flat_map places e.operands) (read_all e.operands ts)
+row_word labels place e ts = word_with labels place (Ok e.value) (flat_map bit_fields e.operands) (read_all e.operands ts)
 
 abbrev pub row_words : Labels → ℕ → Entry → List (List ℕ) → Result (List ℕ) AsmFaultKind
 row_words labels place e ts = single (row_word labels place e ts)

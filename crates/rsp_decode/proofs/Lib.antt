@@ -1,4 +1,4 @@
-pub mod Places
+pub mod BitFields
 pub mod Keys
 pub mod OneRow
 pub mod RowsBack

@@ -47,26 +47,26 @@ use Rattle.rsp_rows.specs.declared.vector.VectorStoreRow.{VectorStoreRow}
 use Rattle.rsp_rows.specs.declared.vector.VectorStoreRow.TheVariants.{Sbv}
 use Rattle.rsp_rows.specs.declared.vector.Control.TheVariants.{Vco, Vcc, Vce}
 use Rattle.rsp_decode.specs.declared.inst.Inst.TheVariants.{BranchEqual, BranchSign, Break, Idle, Immediate, Jump, JumpLinkRegister, JumpRegister, Divide, Load, LoadUpper, MoveControl, MoveSp, MoveVector, Register, Shift, ShiftBy, Store, Multiply, Round, MpegMultiply, ReadAccumulator, VectorAdd, VectorSelect, VectorClip, VectorMerge, VectorLogic, VectorLoad, VectorStore}
-use Rattle.rsp_decode.specs.Table.{Row, rows, row_of, fits, fields, row_places, inst_of, canonical_of, word_from, word_of, parts, IsInstruction, FitPlaces, shift_row, shift_by_row, jump_register_row, jump_link_register_row, break_row, register_row, branch_sign_row, jump_row, branch_equal_row, immediate_row, load_upper_row, load_row, store_row, move_sp_row, move_vector_row, move_control_row, multiply_row, round_row, mpeg_row, read_accumulator_row, vector_add_row, vector_select_row, vector_clip_row, vector_merge_row, vector_logic_row, divide_row, idle_row, vector_load_row, vector_store_row}
+use Rattle.rsp_decode.specs.Table.{Row, rows, row_of, fits, fields, row_bit_fields, inst_of, canonical_of, word_from, word_of, parts, IsInstruction, FitBitFields, shift_row, shift_by_row, jump_register_row, jump_link_register_row, break_row, register_row, branch_sign_row, jump_row, branch_equal_row, immediate_row, load_upper_row, load_row, store_row, move_sp_row, move_vector_row, move_control_row, multiply_row, round_row, mpeg_row, read_accumulator_row, vector_add_row, vector_select_row, vector_clip_row, vector_merge_row, vector_logic_row, divide_row, idle_row, vector_load_row, vector_store_row}
 use Rattle.rsp_decode.proofs.Keys.{may_have, narrowed}
-use Rattle.rsp_decode.proofs.Places.{apart_from, all_apart, under_others, fields_back, clear_from}
+use Rattle.rsp_decode.proofs.BitFields.{apart_from, all_apart, under_others, fields_back, clear_from}
 
 -- the value is under the mask, and the places are apart from the mask and from each other
 abbrev sound : Row → Bool
-sound r = (bit_and r.value r.mask == r.value) && (apart_from r.mask (row_places r) && all_apart (row_places r))
+sound r = (bit_and r.value r.mask == r.value) && (apart_from r.mask (row_bit_fields r) && all_apart (row_bit_fields r))
 
 -- and no other row fits a word of the row
 record Good (r : Row) : Type 0 where
   is_sound : sound r ≡ true
   alone : filter (may_have r.mask r.value) rows ≡ r ∷ []
 
-module _ (r : Row) (good : Good r) (vs : List ℕ) (fit : FitPlaces (row_places r) vs) where
+module _ (r : Row) (good : Good r) (vs : List ℕ) (fit : FitBitFields (row_bit_fields r) vs) where
   word_row : row_of (word_from r vs) ≡ Some r
   unfolding row_of
   word_row =
       let tests = and_parts _ _ good.is_sound in
       let under : bit_and (word_from r vs) r.mask ≡ r.value =
-      under_others (row_places r) vs r.value r.mask fit (and_parts _ _ tests.1).0 ∙ eqb-true _ _ tests.0 in
+      under_others (row_bit_fields r) vs r.value r.mask fit (and_parts _ _ tests.1).0 ∙ eqb-true _ _ tests.0 in
       narrowed (word_from r vs) r.mask r.value rows under
       ∙ ap (find (fits (word_from r vs))) good.alone
       ∙ cond-true (fits (word_from r vs) r) (Some r) None (eq-eqb _ _ under)
@@ -75,7 +75,7 @@ module _ (r : Row) (good : Good r) (vs : List ℕ) (fit : FitPlaces (row_places 
   word_fields =
       let tests = and_parts _ _ good.is_sound in
       let places = and_parts _ _ tests.1 in
-      fields_back (row_places r) vs r.value fit places.1 (clear_from r.mask r.value (row_places r) (eqb-true _ _ tests.0) places.0)
+      fields_back (row_bit_fields r) vs r.value fit places.1 (clear_from r.mask r.value (row_bit_fields r) (eqb-true _ _ tests.0) places.0)
 
   word_inst : inst_of (word_from r vs) ≡ Some (r.inst vs)
   unfolding inst_of

@@ -12,8 +12,8 @@ use Rattle.rsp_rows.specs.declared.vector.VectorLoadRow.{VectorLoadRow}
 use Rattle.rsp_rows.specs.declared.vector.VectorLoadRow.TheVariants.{Lbv}
 use Rattle.rsp_rows.specs.declared.vector.VectorStoreRow.{VectorStoreRow}
 use Rattle.rsp_rows.specs.declared.vector.VectorStoreRow.TheVariants.{Sbv}
-use Rattle.rsp_decode.specs.Table.{shifts, shifts_by, registers, jumps, branches_equal, immediates, loads, stores, multiplies, rounds, mpegs, vector_adds, vector_selects, vector_clips, vector_logics, divides, idles, vector_loads, vector_stores, Row, rows, row_of, fits, fields, row_places, inst_of, canonical_of, meaning_of, word_from, word_of, parts, IsInstruction, FitPlaces, control_of, control_number, special_rows, regimm_rows, opcode_rows, cop0_rows, cop2_rows, computing_rows, lwc2_rows, swc2_rows, shift_row, shift_by_row, jump_register_row, jump_link_register_row, break_row, register_row, branch_sign_row, jump_row, branch_equal_row, immediate_row, load_upper_row, load_row, store_row, move_sp_row, move_vector_row, move_control_row, multiply_row, round_row, mpeg_row, read_accumulator_row, vector_add_row, vector_select_row, vector_clip_row, vector_merge_row, vector_logic_row, divide_row, idle_row, vector_load_row, vector_store_row}
-use Rattle.rsp_decode.proofs.Places.{fit_read}
+use Rattle.rsp_decode.specs.Table.{shifts, shifts_by, registers, jumps, branches_equal, immediates, loads, stores, multiplies, rounds, mpegs, vector_adds, vector_selects, vector_clips, vector_logics, divides, idles, vector_loads, vector_stores, Row, rows, row_of, fits, fields, row_bit_fields, inst_of, canonical_of, meaning_of, word_from, word_of, parts, IsInstruction, FitBitFields, control_of, control_number, special_rows, regimm_rows, opcode_rows, cop0_rows, cop2_rows, computing_rows, lwc2_rows, swc2_rows, shift_row, shift_by_row, jump_register_row, jump_link_register_row, break_row, register_row, branch_sign_row, jump_row, branch_equal_row, immediate_row, load_upper_row, load_row, store_row, move_sp_row, move_vector_row, move_control_row, multiply_row, round_row, mpeg_row, read_accumulator_row, vector_add_row, vector_select_row, vector_clip_row, vector_merge_row, vector_logic_row, divide_row, idle_row, vector_load_row, vector_store_row}
+use Rattle.rsp_decode.proofs.BitFields.{fit_read}
 
 -- a fact of each row of a list
 abbrev All_of : (Row → Type 0) → List Row → Type 0
@@ -141,7 +141,7 @@ decoded w i e = go (row_of w) refl e
     go (Some r) row e =
         let same : r.inst (fields r w) ≡ i = cc in
         let p : parts i ≡ (r, fields r w) = ap parts (sym same) ∙ found Kept (fits w) rows all_kept.each r row w in (
-          subst (λ (q : Row × List ℕ). FitPlaces (row_places q.0) q.1) (sym p) (fit_read w (row_places r)),
+          subst (λ (q : Row × List ℕ). FitBitFields (row_bit_fields q.0) q.1) (sym p) (fit_read w (row_bit_fields r)),
           ap (option_map (λ (s : Row). word_from s (fields s w))) row ∙ ap (λ (q : Row × List ℕ). Some (word_from q.0 q.1)) (sym p),
         )
 

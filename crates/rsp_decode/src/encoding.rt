@@ -1,7 +1,7 @@
 // Instructions to words.
 
 ghost use Rattle.std.specs.Prelude.{◌≡◌, ◌*◌, ◌^◌, ◌≤◌, flat_map};
-ghost use Rattle.rsp_decode.specs.Table.{word_of, inst_of, canonical_of, IsInstruction, control_number, with_fields, places, vector_operands, vector_values};
+ghost use Rattle.rsp_decode.specs.Table.{word_of, inst_of, canonical_of, IsInstruction, control_number, with_fields, bit_fields, vector_operands, vector_values};
 
 mod scalar;
 mod vector;
@@ -21,7 +21,7 @@ use vector::{
 };
 
 /// The canonical word of an instruction: the bits that select its row, its named fields at their
-/// places, and 0 in every other bit. It decodes to the instruction again.
+/// bit_fields, and 0 in every other bit. It decodes to the instruction again.
 ///
 /// The fields must be in the ranges of [`Inst`], as those of what [`decode`](crate::decode) gives
 /// are.
@@ -123,7 +123,7 @@ fn canonical_word(inst: &Inst) -> u32
 // A word with the fields of `$vD, $vS, $vT[e]` too.
 #[inline]
 fn with_vectors(word: u32, fields: VectorFields) -> u32
-    ensures { result ≡ with_fields word (flat_map places vector_operands) (vector_values fields) }
+    ensures { result ≡ with_fields word (flat_map bit_fields vector_operands) (vector_values fields) }
 {
     word | at(fields.vd, 6) | at(fields.vs, 11) | at(fields.vt, 16) | at(fields.element, 21)
 }

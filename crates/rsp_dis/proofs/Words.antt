@@ -4,7 +4,7 @@ use Rattle.std.specs.Prelude.{Option, Some, None, ◌==◌, nat_lt, map, flat_ma
 use Rattle.std.specs.List.{list_all, list_any}
 use Rattle.std.proofs.lemmas.Bool.{and_parts, cases_Bool, cond-true, cond-false, eqb-true, le-ltb, leb-true}
 use Rattle.std.proofs.lemmas.List.{map-append, length-map}
-use Rattle.rsp_decode.specs.Table.{Operand, Row, row_of, places, value_at, fields, word_from, is_row_operand}
+use Rattle.rsp_decode.specs.Table.{Operand, Row, row_of, bit_fields, value_at, fields, word_from, is_row_operand}
 use Rattle.rsp_text.specs.declared.fault.AsmFaultKind.TheVariants.{OutOfRange, PastEnd}
 use Rattle.rsp_text.specs.declared.slot.Slot.TheVariants.{Word}
 use Rattle.rsp_text.specs.Chars.{is_plain}
@@ -86,10 +86,10 @@ module _ (w place : ℕ) (aligned : place % 4 ≡ 0) (inside : place < 4096) whe
   all_values : List Operand → List ℕ
   all_values ks = flat_map (λ k. operand_fields k w) ks
 
-  values_are_fields : (ks : List Operand) → all_values ks ≡ map (value_at w) (flat_map places ks)
+  values_are_fields : (ks : List Operand) → all_values ks ≡ map (value_at w) (flat_map bit_fields ks)
   unfolding all_values
   values_are_fields [] = refl
-  values_are_fields (k ∷ ks) = ap (λ vs. operand_fields k w ++ vs) (values_are_fields ks) ∙ sym (map-append (value_at w) (places k) (flat_map places ks))
+  values_are_fields (k ∷ ks) = ap (λ vs. operand_fields k w ++ vs) (values_are_fields ks) ∙ sym (map-append (value_at w) (bit_fields k) (flat_map bit_fields ks))
 
   pieces_of : (ks : List Operand) → list_all is_row_operand ks ≡ true → list_all (reaches w place) ks ≡ true → Pieces (map (operand_text w place) ks)
   pieces_of [] good near = refl

@@ -1,6 +1,6 @@
 -- Scaffolding of the contracts: the room that the fields of an operand have in a word.
 use Rattle.std.specs.Prelude.{ℕ, ◌<◌, ◌≤◌, ◌^◌, List, [], ◌∷◌}
-use Rattle.rsp_decode.specs.Table.{Operand, places, with_fields}
+use Rattle.rsp_decode.specs.Table.{Operand, bit_fields, with_fields}
 
 -- none of these needs more than five bits
 abbrev pub Small : List ℕ → Type 0
@@ -10,4 +10,4 @@ Small (n ∷ ns) = (n ≤ 31) × Small ns
 -- the first of these fields of an operand stands inside the word at its place, and the others are small
 abbrev pub FitWord : Operand → List ℕ → Type 0
 FitWord k [] = Unit {0}
-FitWord k (v ∷ vs) = (with_fields 0 (places k) (v ∷ []) < 2 ^ 32) × Small vs
+FitWord k (v ∷ vs) = (with_fields 0 (bit_fields k) (v ∷ []) < 2 ^ 32) × Small vs

@@ -1,7 +1,7 @@
 // The fields of an operand, and where they stand in the word.
 
 ghost use Rattle.std.specs.Prelude.{◌≡◌, ◌≤◌, ◌*◌, ◌^◌, ◌∷◌, [], ℕ, true, bit_or};
-ghost use Rattle.rsp_decode.specs.Table.{places, with_fields, is_row_operand};
+ghost use Rattle.rsp_decode.specs.Table.{bit_fields, with_fields, is_row_operand};
 ghost use Rattle.rsp_text.specs.Statement as statement;
 ghost use Rattle.rsp_text.specs.Statement.{fields_of};
 ghost use Rattle.rsp_operands.specs.Readings.{reading, capped_reading};
@@ -63,7 +63,7 @@ pub(crate) fn reading_fields(
 fn first_low(kind: Operand) -> u8
     requires { is_row_operand kind ≡ true }
     ensures low { result ≤ 27 }
-    ensures place { (w v : ℕ) → with_fields w (places kind) (v ∷ []) ≡ bit_or w (v * 2 ^ result) }
+    ensures place { (w v : ℕ) → with_fields w (bit_fields kind) (v ∷ []) ≡ bit_or w (v * 2 ^ result) }
 {
     match kind {
         Operand::Scalar(low) | Operand::Vector(low) | Operand::VectorByte(low) => low,
@@ -79,7 +79,7 @@ fn first_low(kind: Operand) -> u8
 #[tactic(auto, using(crate::proofs::Words::or_none))]
 fn second_bits(kind: Operand, value: u32) -> u32
     requires { value ≤ 31 }
-    ensures { (w v : ℕ) → with_fields w (places kind) (v ∷ value ∷ []) ≡ bit_or (with_fields w (places kind) (v ∷ [])) result }
+    ensures { (w v : ℕ) → with_fields w (bit_fields kind) (v ∷ value ∷ []) ≡ bit_or (with_fields w (bit_fields kind) (v ∷ [])) result }
 {
     match kind {
         Operand::ScalarMemory | Operand::VectorMemory(_) | Operand::VectorElement => value << 21,
@@ -97,7 +97,7 @@ fn second_bits(kind: Operand, value: u32) -> u32
 pub(crate) fn put(kind: Operand, values: Fields, word: u32) -> u32
     requires room { is_row_operand kind ≡ true }
     requires fit { FitWord kind (field_values values) }
-    ensures { result ≡ with_fields word (places kind) (field_values values) }
+    ensures { result ≡ with_fields word (bit_fields kind) (field_values values) }
 {
     let with_first = word | values.first << first_low(kind);
     match values.second {

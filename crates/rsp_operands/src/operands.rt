@@ -1,7 +1,7 @@
 // An operand by its kind.
 
 ghost use Rattle.std.specs.Prelude.{◌≡◌, ◌≤◌, true, option_map};
-ghost use Rattle.rsp_decode.specs.Table.{places, is_row_operand};
+ghost use Rattle.rsp_decode.specs.Table.{bit_fields, is_row_operand};
 ghost use Rattle.rsp_text.specs.Statement as statement;
 ghost use Rattle.rsp_text.specs.Statement.{read, fields_of};
 ghost use Rattle.rsp_text.specs.Walks.{reading_fails, with_values};
@@ -39,7 +39,7 @@ pub fn put_operand(
 ) -> Option<Result<u32, AsmFaultKind>>
     requires inside { place ≤ 4096 }
     requires room { is_row_operand kind ≡ true }
-    ensures { result ≡ option_map (λ (r : statement.Reading). with_values word (places kind) (fields_of labels.now place r)) (read kind text.now) }
+    ensures { result ≡ option_map (λ (r : statement.Reading). with_values word (bit_fields kind) (fields_of labels.now place r)) (read kind text.now) }
 {
     let reading = read_operand(kind, text)?;
     match reading_fields(reading, place, labels) {

@@ -1,14 +1,14 @@
 -- The canonical spelling of a word at a place. How each kind of operand is spelled stands in Operands, beside how it is read.
 use Rattle.std.specs.Prelude.{ℕ, ◌+◌, ◌==◌, Bool, true, ◌&&◌, if◌then◌else◌, List, [], ◌∷◌, ◌++◌, map, Option, Some, None, is_some, codes}
 use Rattle.std.specs.List.{list_all}
-use Rattle.rsp_decode.specs.Table.{Operand, branch_target, Row, row_of, places, value_at, whole, fields, word_from}
+use Rattle.rsp_decode.specs.Table.{Operand, branch_target, Row, row_of, bit_fields, value_at, whole, fields, word_from}
 pub use Rattle.rsp_text.specs.Operands.{hex, small, signed_half, signed_scaled, ahead, back, target, scalar_name, vector_name, sp_name, control_name, byte_name, element_name, base_name, target_text, spell_operand}
 
 -- ---- operands
 
 -- the fields that an operand shows of a word
 abbrev pub operand_fields : Operand → ℕ → List ℕ
-operand_fields k w = map (value_at w) (places k)
+operand_fields k w = map (value_at w) (bit_fields k)
 
 abbrev pub operand_text : ℕ → ℕ → Operand → List ℕ
 operand_text w place k = spell_operand place k (operand_fields k w)

@@ -1,6 +1,6 @@
 -- Scaffolding of contracts: what the assembler's code says of the text of one operand. What a source text means doesn't need it.
 use Rattle.std.specs.Prelude.{ℕ, Bool, List, Option, Some, None, Result, Ok, Err}
-use Rattle.rsp_decode.specs.Table.{Place, with_fields}
+use Rattle.rsp_decode.specs.Table.{BitField, with_fields}
 use Rattle.rsp_text.specs.declared.fault.AsmFaultKind.{AsmFaultKind}
 use Rattle.rsp_text.specs.declared.fault.AsmFaultKind.TheVariants.{BadOperand}
 use Rattle.rsp_text.specs.declared.slot.Slot.TheVariants.{Word}
@@ -17,7 +17,7 @@ reading_fields labels place None = Err BadOperand
 reading_fields labels place (Some r) = fields_of labels place r
 
 -- a word with an operand's values at their places
-abbrev pub with_values : ℕ → List Place → Result (List ℕ) AsmFaultKind → Result ℕ AsmFaultKind
+abbrev pub with_values : ℕ → List BitField → Result (List ℕ) AsmFaultKind → Result ℕ AsmFaultKind
 with_values w ps (Err kind) = Err kind
 with_values w ps (Ok vs) = Ok (with_fields w ps vs)
 

@@ -2,7 +2,7 @@
 -- contracts of private functions: what a word means is in Words.antt.
 use Rattle.std.specs.Prelude.{ℕ, ◌+◌, ◌*◌, ◌%◌, ◌^◌, ◌==◌, ◌&&◌, not, List, find, Option, None, option_map, if◌then◌else◌}
 use Rattle.rsp_decode.specs.declared.inst.Inst.{Inst}
-use Rattle.rsp_decode.specs.Table.Places.{value_at, whole}
+use Rattle.rsp_decode.specs.Table.BitFields.{value_at, whole}
 use Rattle.rsp_decode.specs.Table.Rows.{Row, meaning_of}
 
 -- the first of these rows that has the value, at the fields of the word

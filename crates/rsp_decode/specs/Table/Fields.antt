@@ -4,7 +4,7 @@ use Rattle.rsp_rows.specs.declared.fields.RegisterFields.{RegisterFields}
 use Rattle.rsp_rows.specs.declared.fields.ScalarMemoryFields.{ScalarMemoryFields}
 use Rattle.rsp_rows.specs.declared.fields.VectorFields.{VectorFields}
 use Rattle.rsp_rows.specs.declared.fields.VectorMemoryFields.{VectorMemoryFields}
-use Rattle.rsp_decode.specs.Table.Places.{value_at, whole}
+use Rattle.rsp_decode.specs.Table.BitFields.{value_at, whole}
 
 -- $d, $s, $t
 abbrev pub register_fields : List ℕ → RegisterFields

@@ -1,27 +1,27 @@
 -- The kinds of operand in a row's text, which are the variants of one enum, and the fields that each shows. A number says
 -- where its register stands; of vector memory it is the scale of the offset.
 use Rattle.std.specs.Prelude.{ℕ, nat_le, ◌==◌, Bool, true, ◌||◌, List, [], ◌∷◌}
-use Rattle.rsp_decode.specs.Table.Places.{Place, whole, capped, stepped}
+use Rattle.rsp_decode.specs.Table.BitFields.{BitField, whole, capped, stepped}
 pub use Rattle.rsp_decode.specs.declared.rows.Operand.{Operand}
 pub use Rattle.rsp_decode.specs.declared.rows.Operand.TheVariants.{Scalar as scalar, ShiftAmount as shift_amount, Signed as signed, Unsigned as unsigned, JumpTarget as jump_target, BranchTarget as branch_target, ScalarMemory as scalar_memory, VectorMemory as vector_memory, SpRegister as sp_register, ControlRegister as control_register, Vector as vector, VectorByte as vector_byte, VectorHalf as vector_half, VectorElement as vector_element, VectorLane as vector_lane}
 
 -- the fields that an operand shows, in the order of its text
-abbrev pub places : Operand → List Place
-places (scalar low) = whole low 5 ∷ []
-places shift_amount = whole 6 5 ∷ []
-places signed = whole 0 16 ∷ []
-places unsigned = whole 0 16 ∷ []
-places jump_target = whole 0 10 ∷ []
-places branch_target = whole 0 16 ∷ []
-places scalar_memory = whole 0 16 ∷ whole 21 5 ∷ []
-places (vector_memory scale) = whole 0 7 ∷ whole 21 5 ∷ []
-places sp_register = whole 11 4 ∷ []
-places control_register = capped 11 2 2 ∷ []
-places (vector low) = whole low 5 ∷ []
-places (vector_byte low) = whole low 5 ∷ whole 7 4 ∷ []
-places vector_half = whole 16 5 ∷ stepped 10 1 3 ∷ []
-places vector_element = whole 16 5 ∷ whole 21 4 ∷ []
-places vector_lane = whole 6 5 ∷ whole 11 3 ∷ []
+abbrev pub bit_fields : Operand → List BitField
+bit_fields (scalar low) = whole low 5 ∷ []
+bit_fields shift_amount = whole 6 5 ∷ []
+bit_fields signed = whole 0 16 ∷ []
+bit_fields unsigned = whole 0 16 ∷ []
+bit_fields jump_target = whole 0 10 ∷ []
+bit_fields branch_target = whole 0 16 ∷ []
+bit_fields scalar_memory = whole 0 16 ∷ whole 21 5 ∷ []
+bit_fields (vector_memory scale) = whole 0 7 ∷ whole 21 5 ∷ []
+bit_fields sp_register = whole 11 4 ∷ []
+bit_fields control_register = capped 11 2 2 ∷ []
+bit_fields (vector low) = whole low 5 ∷ []
+bit_fields (vector_byte low) = whole low 5 ∷ whole 7 4 ∷ []
+bit_fields vector_half = whole 16 5 ∷ stepped 10 1 3 ∷ []
+bit_fields vector_element = whole 16 5 ∷ whole 21 4 ∷ []
+bit_fields vector_lane = whole 6 5 ∷ whole 11 3 ∷ []
 
 -- the operands of the rows that compute with two vectors: $vD, $vS, $vT[e]
 abbrev pub vector_operands : List Operand

@@ -1,8 +1,8 @@
 -- What a row of the instruction table is.
 use Rattle.std.specs.Prelude.{ℕ, ◌+◌, ◌*◌, ◌^◌, ◌==◌, Bool, List, map, flat_map, slice_index, bit_and}
 use Rattle.rsp_decode.specs.declared.inst.Inst.{Inst}
-use Rattle.rsp_decode.specs.Table.Places.{Place, value_at}
-use Rattle.rsp_decode.specs.Table.Operands.{Operand, places}
+use Rattle.rsp_decode.specs.Table.BitFields.{BitField, value_at}
+use Rattle.rsp_decode.specs.Table.Operands.{Operand, bit_fields}
 use Rattle.rsp_rows.specs.declared.fields.RegisterFields.{RegisterFields}
 use Rattle.rsp_rows.specs.declared.fields.ScalarMemoryFields.{ScalarMemoryFields}
 use Rattle.rsp_rows.specs.declared.fields.VectorFields.{VectorFields}
@@ -109,13 +109,13 @@ of_vector_memory f fields = f (vector_memory_fields fields)
 abbrev pub fits : ℕ → Row → Bool
 fits w r = bit_and w r.mask == r.value
 
--- the places of its named fields, in the order of its text
-abbrev pub row_places : Row → List Place
-row_places r = flat_map places r.operands
+-- the bit fields of its operands, in the order of its text
+abbrev pub row_bit_fields : Row → List BitField
+row_bit_fields r = flat_map bit_fields r.operands
 
 -- the named fields of a word, in the order of the row's text
 abbrev pub fields : Row → ℕ → List ℕ
-fields r w = map (value_at w) (row_places r)
+fields r w = map (value_at w) (row_bit_fields r)
 
 -- what a word that the row fits means
 abbrev pub meaning_of : Row → ℕ → Inst

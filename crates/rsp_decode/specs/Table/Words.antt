@@ -2,9 +2,9 @@
 use Rattle.std.specs.Prelude.{ℕ, List, [], ◌∷◌, ◌++◌, find, Option, option_map}
 use Rattle.rsp_decode.specs.declared.inst.Inst.{Inst}
 use Rattle.rsp_decode.specs.declared.inst.Inst.TheVariants.{BranchEqual, BranchSign, Break, Idle, Immediate, Jump, JumpLinkRegister, JumpRegister, Divide, Load, LoadUpper, MoveControl, MoveSp, MoveVector, Register, Shift, ShiftBy, Store, Multiply, Round, MpegMultiply, ReadAccumulator, VectorAdd, VectorSelect, VectorClip, VectorMerge, VectorLogic, VectorLoad, VectorStore}
-use Rattle.rsp_decode.specs.Table.Places.{with_fields, FitPlaces}
+use Rattle.rsp_decode.specs.Table.BitFields.{with_fields, FitBitFields}
 use Rattle.rsp_decode.specs.Table.Fields.{register_values, shift_by_values, scalar_memory_values, vector_values, vector_memory_values}
-use Rattle.rsp_decode.specs.Table.Rows.{Row, fits, fields, row_places, meaning_of}
+use Rattle.rsp_decode.specs.Table.Rows.{Row, fits, fields, row_bit_fields, meaning_of}
 use Rattle.rsp_decode.specs.Table.ScalarRows.{shift_row, shift_by_row, jump_register_row, jump_link_register_row, break_row, register_row, branch_sign_row, jump_row, branch_equal_row, immediate_row, load_upper_row, load_row, store_row, move_sp_row, special_rows, regimm_rows, opcode_rows, cop0_rows}
 use Rattle.rsp_decode.specs.Table.VectorRows.{control_number, move_vector_row, move_control_row, multiply_row, round_row, mpeg_row, read_accumulator_row, vector_add_row, vector_select_row, vector_clip_row, vector_merge_row, vector_logic_row, divide_row, idle_row, vector_load_row, vector_store_row, cop2_rows, computing_rows, lwc2_rows, swc2_rows}
 
@@ -22,7 +22,7 @@ inst_of w = option_map (λ (r : Row). meaning_of r w) (row_of w)
 
 -- the word of a row with these fields, and 0 in each bit that neither selects nor is named
 abbrev pub word_from : Row → List ℕ → ℕ
-word_from r values = with_fields r.value (row_places r) values
+word_from r values = with_fields r.value (row_bit_fields r) values
 
 -- the word with 0 in each bit that its row neither selects by nor names, or None for a reserved one
 unfoldable pub canonical_of : ℕ → Option ℕ
@@ -62,7 +62,7 @@ parts (VectorStore r fields) = (vector_store_row r, vector_memory_values fields)
 
 -- an instruction that some word means
 abbrev pub IsInstruction : Inst → Type 0
-IsInstruction i = FitPlaces (row_places (parts i).0) (parts i).1
+IsInstruction i = FitBitFields (row_bit_fields (parts i).0) (parts i).1
 
 -- its canonical word
 abbrev pub word_of : Inst → ℕ

@@ -1,6 +1,6 @@
 use Rattle.std.proofs.Common.{ap, ◌∙◌}
 use Rattle.std.specs.Prelude.{Ok, Err}
-use Rattle.rsp_decode.specs.Table.{places}
+use Rattle.rsp_decode.specs.Table.{bit_fields}
 use Rattle.rsp_text.specs.Statement as statement
 use Rattle.rsp_text.specs.Statement.{read, fields_of}
 use Rattle.rsp_text.specs.Walks.{with_values}
@@ -16,13 +16,13 @@ put-requires-clause-fit c =
 pub returns-in-Ok : goal.returns-in-Ok
 returns-in-Ok c =
     found_alike (reading c.in_ok-reading.reading) capped_reading
-    (λ (r : statement.Reading). with_values c.args.word (places c.args.kind) (fields_of c.args.labels.now c.args.place r))
+    (λ (r : statement.Reading). with_values c.args.word (bit_fields c.args.kind) (fields_of c.args.labels.now c.args.place r))
     (read c.args.kind c.args.text.now) (Ok c.put.result) c.in_ok-reading.ensures
-    (λ r h. ap Ok c.put.ensures ∙ ap (with_values c.args.word (places c.args.kind)) (c.in-Ok.ensures r h))
+    (λ r h. ap Ok c.put.ensures ∙ ap (with_values c.args.word (bit_fields c.args.kind)) (c.in-Ok.ensures r h))
 
 pub returns-in-Err : goal.returns-in-Err
 returns-in-Err c =
     found_alike (reading c.in_ok-reading.reading) capped_reading
-    (λ (r : statement.Reading). with_values c.args.word (places c.args.kind) (fields_of c.args.labels.now c.args.place r))
+    (λ (r : statement.Reading). with_values c.args.word (bit_fields c.args.kind) (fields_of c.args.labels.now c.args.place r))
     (read c.args.kind c.args.text.now) (Err c.in-Err.fault) c.in_ok-reading.ensures
-    (λ r h. ap (with_values c.args.word (places c.args.kind)) (c.in-Err.ensures r h))
+    (λ r h. ap (with_values c.args.word (bit_fields c.args.kind)) (c.in-Err.ensures r h))
