@@ -23,7 +23,7 @@ use Rattle.rsp_acc.specs.Parts.{clamp_of}
 use Rattle.rsp_acc.specs.declared.parts.Clamp.{Clamp}
 use Rattle.rsp_acc.specs.declared.parts.Clamp.TheVariants.{Signed, Unsigned, LowKind}
 use Rattle.rsp_divide.specs.Rows.{lane_written, divider_after}
-use Rattle.rsp_divide.specs.Quotients.{reciprocal_of, reciprocal_bits, nine_bits, zeros, line_size}
+use Rattle.rsp_divide.specs.Quotients.{reciprocal_of, reciprocal_bits, nine_bits, zeros, size_of}
 use Rattle.rsp_divide.specs.Entries.{reciprocal_entry}
 use Rattle.std.proofs.Math.Nat.{div-le_self}
 use Rattle.rsp_multiply.specs.Rows.{unsigned_by_signed, signed_times_65536}
@@ -163,11 +163,11 @@ minus_is n h = (omega (arith, ints), omega (arith, ints))
 quotient_range : (x : ℤ) → Is32 (reciprocal_of x)
 quotient_range x =
     let above = pos (reciprocal_bits (unsigned_abs x)) in
-    let below = negsuc 0 -ℤ pos (reciprocal_bits (line_size x)) in
+    let below = negsuc 0 -ℤ pos (reciprocal_bits (size_of x)) in
     let signed = if int_lt x (pos 0) then below else above in
     one_is (int_eq x (pos 0)) (pos 2147483647) (if int_eq x (negsuc 32767) then negsuc 65535 else signed) (pos_is 2147483647 (omega arith))
     (one_is (int_eq x (negsuc 32767)) (negsuc 65535) signed (neg_is 65535 (omega arith))
-    (one_is (int_lt x (pos 0)) below above (minus_is (reciprocal_bits (line_size x)) (bits_small (line_size x))) (pos_is (reciprocal_bits (unsigned_abs x)) (bits_small (unsigned_abs x)))))
+    (one_is (int_lt x (pos 0)) below above (minus_is (reciprocal_bits (size_of x)) (bits_small (size_of x))) (pos_is (reciprocal_bits (unsigned_abs x)) (bits_small (unsigned_abs x)))))
 
 s32_range : (n : ℕ) → n < 2 ^ 32 → (negsuc (2 ^ 31 - 1) ≤ℤ s32 n) × (s32 n <ℤ pos (2 ^ 31))
 s32_range n h = elim (cases_lt n (2 ^ 31)) [
