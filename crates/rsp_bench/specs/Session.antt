@@ -180,13 +180,13 @@ NeedsNoMemory End s = s.block ≡ None
 NeedsNoMemory _ s = Unit {0}
 
 -- no memory for the words of a block, at a line where that hides no fault of the text
-abbrev pub HidesNoFault : OpenBlock → Type 0
-HidesNoFault b = (line : ℕ) × hides_no_fault b line
+abbrev pub HidesNoBlockFault : OpenBlock → Type 0
+HidesNoBlockFault b = (line : ℕ) × hides_no_fault b line
 
 -- the same, where a command ends a block
-abbrev pub EndHidesNoFault : Command → SessionState → Type 0
-EndHidesNoFault End s = IfSome s.block HidesNoFault
-EndHidesNoFault _ s = Unit {0}
+abbrev pub EndHidesNoBlockFault : Command → SessionState → Type 0
+EndHidesNoBlockFault End s = IfSome s.block HidesNoBlockFault
+EndHidesNoBlockFault _ s = Unit {0}
 
 -- whether a block is open
 abbrev pub in_block : SessionState → Bool

@@ -3,7 +3,7 @@ ghost use Rattle.std.specs.List.{list_all};
 ghost use Rattle.rsp_script.specs.Command.{IsCommand};
 ghost use Rattle.rsp_text.specs.Chars.{is_plain};
 ghost use Rattle.rsp_asm.specs.Block.{with_line, meaning};
-ghost use Rattle.rsp_bench.specs.Session.{NeedsNoMemory, HidesNoFault, EndHidesNoFault, answer_of, plain_answer, block_answer, with_block, end_answer, line_answer, first_session, closing, in_block};
+ghost use Rattle.rsp_bench.specs.Session.{NeedsNoMemory, HidesNoBlockFault, EndHidesNoBlockFault, answer_of, plain_answer, block_answer, with_block, end_answer, line_answer, first_session, closing, in_block};
 ghost use Rattle.rsp_bench.specs.Replies.{line_fault_text};
 
 use crate::replies::{tell_asm_fault, tell_line_fault, tell_ok, tell_words};
@@ -118,7 +118,7 @@ impl Session {
         ensures reply { OnOk result (IfSome self.old.block (λ b. reply.new ≡ (end_answer b (meaning b) self.old).reply)) }
         ensures next { OnOk result (IfSome self.old.block (λ b. self.new ≡ (end_answer b (meaning b) self.old).next)) }
         ensures err { OnErr result (self.new ≡ self.old) }
-        ensures hides { OnErr result (IfSome self.old.block HidesNoFault) }
+        ensures hides { OnErr result (IfSome self.old.block HidesNoBlockFault) }
     {
         let Some(block) = &self.block else {
             unreachable!();
@@ -145,7 +145,7 @@ impl Session {
         ensures reply { IfOk result (λ reply. reply ≡ (answer_of command.now self.old).reply) }
         ensures next { OnOk result (self.new ≡ (answer_of command.now self.old).next) }
         ensures err { OnErr result (self.new ≡ self.old) }
-        ensures hides { OnErr result (EndHidesNoFault command.now self.old) }
+        ensures hides { OnErr result (EndHidesNoBlockFault command.now self.old) }
     {
         let mut reply = Reply::new();
         self.exec_to(alloc, command, &mut reply)?;
@@ -166,7 +166,7 @@ impl Session {
         ensures reply { OnOk result (reply.new ≡ (answer_of command.now self.old).reply) }
         ensures next { OnOk result (self.new ≡ (answer_of command.now self.old).next) }
         ensures err { OnErr result (self.new ≡ self.old) }
-        ensures hides { OnErr result (EndHidesNoFault command.now self.old) }
+        ensures hides { OnErr result (EndHidesNoBlockFault command.now self.old) }
     {
         match (command, self.in_block()) {
             (command, false) => self.answer_plain(alloc, command, reply),

@@ -109,7 +109,7 @@ fn a_script_has_a_limit(rt: HostRuntime) -> Result<(), Fail> {
 }
 
 #[test]
-fn want_of_memory_ends_a_run(rt: HostRuntime) -> Result<(), Fail> {
+fn no_memory_ends_a_run(rt: HostRuntime) -> Result<(), Fail> {
     assert!(rt;
         ends_with(
             &rt,
