@@ -1,5 +1,5 @@
 -- One bit of a word that masks and shifts made, and words that have no bit but those of flags.
-use Rattle.std.proofs.Common.{◌≡◌, ◌≢◌, ℕ, suc, ◌+◌, ◌-◌, ◌/◌, ◌%◌, ◌^◌, ◌<◌, Bool, true, false, not, ◌||◌, ◌&&◌, List, map, length, nat_eq, min, max, bit_and, bit_or, w32, sym, ap, ◌∙◌, refl, arith}
+use Rattle.std.proofs.Common.{◌≡◌, ℕ, suc, ◌+◌, ◌-◌, ◌/◌, ◌%◌, ◌^◌, ◌<◌, Bool, true, false, not, ◌||◌, ◌&&◌, List, map, length, nat_eq, min, max, bit_and, bit_or, w32, sym, ap, ◌∙◌, refl, arith}
 use Rattle.std.specs.Prelude.{bit_xor, if◌then◌else◌}
 use Rattle.std.specs.Int.{bit_at}
 use Rattle.std.specs.List.{range_with_len}
@@ -103,6 +103,15 @@ pub bits_broken : (f k : ℕ) → has_bit (bit_or (bit_or f 5) (bit_and (f / 16)
 bits_broken f k =
     bit-or (bit_or f 5) (bit_and (f / 16) 8) k ∙ rw (bit-or_mask f 5 k, bit-and (f / 16) 8 k, bit-shr 4 f k) (joined (bit_set 5 k) (bit_set 8 k) (has_bit f k) (has_bit f (4 + k)))
 
+pub or_twice : (a b : Bool) → (a || b) ≡ ((a || b) || b)
+or_twice true b = refl
+or_twice false true = refl
+or_twice false false = refl
+
+pub or_unheld : (a b held : Bool) → held ≡ (a || b) → held ≡ false → (a || b) ≡ a
+or_unheld true b held e h = refl
+or_unheld false b held e h = sym e ∙ h
+
 pub or_none : (b : Bool) → (b || false) ≡ b
 or_none true = refl
 or_none false = refl
@@ -192,20 +201,6 @@ any_of false false = refl
 
 pub is_held : (f : ℕ) → not (nat_eq (bit_and f 33) 0) ≡ (has_bit f 0 || has_bit f 5)
 is_held f = ap (λ x. not (nat_eq x 0)) (more_bits f 0 32 _ refl (one_flag f 5)) ∙ any_of (has_bit f 0) (has_bit f 5)
-
-stays_set : (b : Bool) (n : ℕ) → n ≡ flag b 32 → n ≢ 0 → b ≡ true
-stays_set true n e h = refl
-stays_set false n e h = absurd (h e)
-
-stays_clear : (b : Bool) (n : ℕ) → n ≡ flag b 32 → n ≡ 0 → b ≡ false
-stays_clear true n e h = absurd (omega arith)
-stays_clear false n e h = refl
-
-pub is_single_step : (f : ℕ) → bit_and f 32 ≢ 0 → has_bit f 5 ≡ true
-is_single_step f h = stays_set (has_bit f 5) (bit_and f 32) (one_flag f 5) h
-
-pub isnt_single_step : (f : ℕ) → bit_and f 32 ≡ 0 → has_bit f 5 ≡ false
-isnt_single_step f h = stays_clear (has_bit f 5) (bit_and f 32) (one_flag f 5) h
 
 within_mask : (mask x m : ℕ) → bit_and m mask ≡ m → IsWithin mask (bit_and x m)
 within_mask mask x m h = within_right mask x m (record { kept = h })

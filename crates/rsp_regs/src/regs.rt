@@ -289,9 +289,8 @@ impl SpRegs {
     pub fn on_step(&mut self)
         ensures { self.new ≡ after_step self.old }
     {
-        if self.flags & 1 << SINGLE_STEP != 0 {
-            self.flags |= 1 << HALTED;
-            self.is_held = true;
+        if self.is_held {
+            self.flags |= self.flags >> SINGLE_STEP & 1 << HALTED;
         }
     }
 
