@@ -62,7 +62,7 @@ fn window(memory: &SpMem, a: u32) -> Bytes16
 }
 
 /// Loads `n` bytes of a register from byte `i` on, as far as there are; all of them lie in the sixteen from `a` on.
-#[inline]
+#[inline(always)]
 fn load_bytes(vt: u8, i: usize, n: usize, a: u32, memory: &SpMem, file: &mut VFile)
     requires register { vt < 32 }
     requires first { i < 32 }
@@ -75,7 +75,7 @@ fn load_bytes(vt: u8, i: usize, n: usize, a: u32, memory: &SpMem, file: &mut VFi
 }
 
 /// LQV of a whole line: loads a register. It is what microcode does most.
-#[inline]
+#[inline(always)]
 fn load_line(vt: u8, a: u32, memory: &SpMem, file: &mut VFile)
     requires { vt < 32 }
     ensures { file.new ≡ after_load memory.now file.old (for_each 16 (λ k. to_byte vt (0 + k) (a + k))) }
