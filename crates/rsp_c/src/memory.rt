@@ -22,6 +22,7 @@ fn bytes_of<A: Acc>(machine: &Machine<A>, bank: Bank, a: u32, n: usize) -> &[u8]
 {
     machine.dmem().ranges();
     machine.imem().ranges();
+    machine.rdram().ranges();
     match bank {
         Bank::Dmem => machine.dmem().run(a, n),
         Bank::Imem => machine.imem().run(a, n),
