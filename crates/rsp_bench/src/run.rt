@@ -56,35 +56,35 @@ pub fn run_bench<R: Source, W: Sink>(
     // What each other end leaves written.
     ensures left_read { result ≡ BenchEnd.ReadFault →
         EndedLinesWritten (record {
-            answered = line_answer;
-            closing = closing;
-            session = first_session image;
-            script = R.rest source.old;
-            unread = R.rest source.new;
-            before = W.written sink.old;
-            written = W.written sink.new;
+          answered = line_answer;
+          closing = closing;
+          session = first_session image;
+          script = R.rest source.old;
+          unread = R.rest source.new;
+          before = W.written sink.old;
+          written = W.written sink.new;
         }) }
     ensures left_long { IfSome (R.rest source.old) (λ script. result ≡ BenchEnd.ScriptTooLong →
         W.written sink.new ≡ append_known (W.written sink.old) (replies line_answer (ended_lines (take SCRIPT_LIMIT script)) (first_session image))) }
     ensures left_write { result ≡ BenchEnd.WriteFault →
         FrontWritten (record {
-            answered = line_answer;
-            closing = closing;
-            session = first_session image;
-            script = R.rest source.old;
-            unread = R.rest source.new;
-            before = W.written sink.old;
-            written = W.written sink.new;
+          answered = line_answer;
+          closing = closing;
+          session = first_session image;
+          script = R.rest source.old;
+          unread = R.rest source.new;
+          before = W.written sink.old;
+          written = W.written sink.new;
         }) }
     ensures left_memory { result ≡ BenchEnd.OutOfMemory →
         FrontWritten (record {
-            answered = line_answer;
-            closing = closing;
-            session = first_session image;
-            script = R.rest source.old;
-            unread = R.rest source.new;
-            before = W.written sink.old;
-            written = W.written sink.new;
+          answered = line_answer;
+          closing = closing;
+          session = first_session image;
+          script = R.rest source.old;
+          unread = R.rest source.new;
+          before = W.written sink.old;
+          written = W.written sink.new;
         }) }
 {
     let Ok(mut session) = Session::try_new(alloc, image) else {

@@ -62,35 +62,35 @@ pub fn answer_script<S: Answering, R: Source, W: Sink>(
     // What a fault leaves written.
     ensures left_read { IsErrOf result RunFault.ReadFault →
         EndedLinesWritten (record {
-            answered = S.answered;
-            closing = S.closing;
-            session = session.old;
-            script = R.rest source.old;
-            unread = R.rest source.new;
-            before = W.written sink.old;
-            written = W.written sink.new;
+          answered = S.answered;
+          closing = S.closing;
+          session = session.old;
+          script = R.rest source.old;
+          unread = R.rest source.new;
+          before = W.written sink.old;
+          written = W.written sink.new;
         }) }
     ensures left_long { IfSome (R.rest source.old) (λ script. IsErrOf result RunFault.ScriptTooLong →
         W.written sink.new ≡ append_known (W.written sink.old) (replies S.answered (ended_lines (take SCRIPT_LIMIT script)) session.old)) }
     ensures left_write { IsErrOf result RunFault.WriteFault →
         FrontWritten (record {
-            answered = S.answered;
-            closing = S.closing;
-            session = session.old;
-            script = R.rest source.old;
-            unread = R.rest source.new;
-            before = W.written sink.old;
-            written = W.written sink.new;
+          answered = S.answered;
+          closing = S.closing;
+          session = session.old;
+          script = R.rest source.old;
+          unread = R.rest source.new;
+          before = W.written sink.old;
+          written = W.written sink.new;
         }) }
     ensures left_memory { IsErrOf result RunFault.OutOfMemory →
         FrontWritten (record {
-            answered = S.answered;
-            closing = S.closing;
-            session = session.old;
-            script = R.rest source.old;
-            unread = R.rest source.new;
-            before = W.written sink.old;
-            written = W.written sink.new;
+          answered = S.answered;
+          closing = S.closing;
+          session = session.old;
+          script = R.rest source.old;
+          unread = R.rest source.new;
+          before = W.written sink.old;
+          written = W.written sink.new;
         }) }
 {
     let mut line = LineSoFar::new();
