@@ -20,8 +20,8 @@ use vector::{
     vector_store_value,
 };
 
-/// The canonical word of an instruction: the bits that select its row, its named fields at their
-/// bit_fields, and 0 in every other bit. It decodes to the instruction again.
+/// The canonical word of an instruction: the bits that select its row, its named fields in their bit
+/// fields, and 0 in every other bit. It decodes to the instruction again.
 ///
 /// The fields must be in the ranges of [`Inst`], as those of what [`decode`](crate::decode) gives
 /// are.

@@ -1,5 +1,6 @@
 //! What a text is made of: blanks, the bytes of names, and lines.
-//! And the text of instructions: where it is cut, how numbers, expressions and names are read, and the rows of the
+//!
+//! The text of instructions: where it is cut, how numbers, expressions and names are read, and the rows of the
 //! instruction table by name and by word.
 //!
 //! The definitions in `specs` say what a source text means: its words, or the fault of the lowest line that has one. Beside
