@@ -1,5 +1,5 @@
 -- How a step of a machine that isn't halted ends.
-use Rattle.std.proofs.Common.{◌≡◌, ℕ, Bool, true, false, not, refl, sym, ap, ◌∙◌, Option, Some, None}
+use Rattle.std.proofs.Common.{◌≡◌, ℕ, Bool, true, false, not, ◌||◌, refl, sym, ap, ◌∙◌, Option, Some, None}
 use Rattle.std.specs.Prelude.{if◌then◌else◌, option_map, unwrap_or}
 use Rattle.rsp_decode.specs.declared.inst.Inst.{Inst}
 use Rattle.rsp_decode.specs.declared.inst.Inst.TheVariants.{Break, MoveSp, MoveVector, MoveControl}
@@ -76,6 +76,18 @@ free s t h same e = sym (ap (λ p. record t { sp = p }) (halts_none t.sp (ap (λ
 
 pub clear_as : (s t : State) → s.sp.single_step ≡ false → t.sp ≡ s.sp → t.sp.single_step ≡ false
 clear_as s t h e = ap (λ (p : Sp). p.single_step) e ∙ h
+
+-- and a machine that goes on behind an instruction isn't in single step
+clear_by : (h single : Bool) → (h || single) ≡ false → single ≡ false
+clear_by false single e = e
+clear_by true single e = cc
+
+clear_after : (p : Sp) → (after_step p).halted ≡ false → (after_step p).single_step ≡ false
+unfolding after_step
+clear_after p h = clear_by p.halted p.single_step h
+
+pub clear_behind : (s t : State) → t ≡ singled s → t.sp.halted ≡ false → t.sp.single_step ≡ false
+clear_behind s t e h = ap (λ (x : State). x.sp.single_step) e ∙ clear_after s.sp (sym (ap (λ (x : State). x.sp.halted) e) ∙ h)
 
 pub ended : (v t : State) (p : Sp) → v ≡ t → p ≡ after_step v.sp → record v { sp = p } ≡ singled t
 ended v t p e f = ap (λ (q : Sp). record v { sp = q }) f ∙ ap singled e

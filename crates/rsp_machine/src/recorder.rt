@@ -23,17 +23,29 @@ pub struct Recorded {
 }
 
 impl<A: Acc> Machine<A> {
+    /// Whether single step is set, which it isn't in a loop of steps.
+    #[inline(always)]
+    fn steps_singly<const APART: bool>(&self) -> bool
+        requires { APART ≡ false → self.now.sp.single_step ≡ false }
+        ensures { result ≡ self.now.sp.single_step }
+    {
+        APART && self.sp.single_step()
+    }
+
     /// One step of a machine that isn't halted, as [`Machine::step`] makes it, with what it changes saved in a record. Where it
     /// isn't Done the record stays. A step that is Done changes DMEM only where [`Record::may_store`] says so of the record. A
-    /// loop of steps and the steps `APART` from it have a copy of the decoder each, so that each copy has one caller.
+    /// loop of steps and the steps `APART` from it have a copy of the decoder each, so that each copy has one caller. The loop
+    /// wants single step clear, and a machine that isn't halted behind its step is clear of it again.
     #[inline(always)]
     pub fn record_step<const APART: bool>(&mut self, saved: &mut Record) -> Recorded
-        requires { self.old.sp.halted ≡ false }
+        requires goes { self.old.sp.halted ≡ false }
+        requires free { APART ≡ false → self.old.sp.single_step ≡ false }
         ensures answer { result.end ≡ (step_of self.old).0 }
         ensures state { self.new ≡ (step_of self.old).1 }
         ensures saved { saved.new ≡ record_after self.old saved.old }
         ensures which { result.is_back ≡ can_undo self.old }
         ensures halted { result.halted ≡ self.new.sp.halted }
+        ensures free { result.end ≡ StepEnd.Done → result.halted ≡ false → self.new.sp.single_step ≡ false }
         ensures back { can_undo self.old ≡ true → undone saved.new self.new ≡ self.old }
         ensures memory { result.end ≡ StepEnd.Done → may_store saved.new ≡ false → self.new.dmem ≡ self.old.dmem }
     {
@@ -46,7 +58,7 @@ impl<A: Acc> Machine<A> {
                 halted: false,
             };
         };
-        if reaches_sp || self.sp.single_step() {
+        if reaches_sp || self.steps_singly::<APART>() {
             self.end_instruction();
             return Recorded {
                 end: StepEnd::Done,

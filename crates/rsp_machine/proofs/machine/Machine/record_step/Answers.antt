@@ -4,29 +4,29 @@ use Rattle.rsp_machine.specs.State.{State}
 use Rattle.rsp_machine.specs.Saved.{is_back}
 use Rattle.rsp_machine.proofs.Flagging.{AreFlags}
 use Rattle.rsp_machine.proofs.Saving.{done_marked}
-use Rattle.rsp_machine.proofs.Ending.{stays, free, step_reserved, step_done, record_running, undo_reserved, undo_free, back, memory, halted_as}
+use Rattle.rsp_machine.proofs.Ending.{stays, free, clear_as, clear_behind, step_reserved, step_done, record_running, undo_reserved, undo_free, back, memory, halted_as}
 use Rattle.rsp_machine.proofs.machine.Machine.record_step.Goals as goal
 
 -- a reserved word
 pub returns-in_default-clause-answer : goal.returns-in_default-clause-answer
 returns-in_default-clause-answer g c =
     let word = c.fetch-word.ensures in
-    ap (λ x. x.0) (sym (step_reserved c.fetch-word.result c.args.self.now c.execute.new.self c.requires word c.in_default.ensures.answer c.execute.ensures.state))
+    ap (λ x. x.0) (sym (step_reserved c.fetch-word.result c.args.self.now c.execute.new.self c.requires.goes word c.in_default.ensures.answer c.execute.ensures.state))
 
 pub returns-in_default-clause-state : goal.returns-in_default-clause-state
 returns-in_default-clause-state g c =
     let word = c.fetch-word.ensures in
-    ap (λ x. x.1) (sym (step_reserved c.fetch-word.result c.args.self.now c.execute.new.self c.requires word c.in_default.ensures.answer c.execute.ensures.state))
+    ap (λ x. x.1) (sym (step_reserved c.fetch-word.result c.args.self.now c.execute.new.self c.requires.goes word c.in_default.ensures.answer c.execute.ensures.state))
 
 pub returns-in_default-clause-saved : goal.returns-in_default-clause-saved
 returns-in_default-clause-saved g c =
     let word = c.fetch-word.ensures in
-    c.execute.ensures.saver ∙ sym (record_running c.fetch-word.result c.args.self.now c.args.saved.now c.requires word)
+    c.execute.ensures.saver ∙ sym (record_running c.fetch-word.result c.args.self.now c.args.saved.now c.requires.goes word)
 
 pub returns-in_default-clause-which : goal.returns-in_default-clause-which
 returns-in_default-clause-which g c =
     let word = c.fetch-word.ensures in
-    sym (undo_reserved c.fetch-word.result c.args.self.now c.requires word c.in_default.ensures.answer)
+    sym (undo_reserved c.fetch-word.result c.args.self.now c.requires.goes word c.in_default.ensures.answer)
 
 pub returns-in_default-clause-back : goal.returns-in_default-clause-back
 returns-in_default-clause-back g c =
@@ -34,21 +34,30 @@ returns-in_default-clause-back g c =
     back c.args.self.now c.execute.new.self c.args.saved.now c.execute.new.saver flags (returns-in_default-clause-saved g c) (returns-in_default-clause-state g c)
 
 -- an instruction that may have reached the SP registers, or a single step
+pub steps_singly-requires : goal.steps_singly-requires
+steps_singly-requires g c loop =
+    let s = c.args.self.now in let t = c.execute.new.self in
+    clear_as s t (c.requires.free loop) (stays (inst_of c.fetch-word.result) s t c.if-reaches_sp.false c.in-Some.ensures.answer c.execute.ensures.state)
+
+pub returns-then-reaches_sp-clause-free : goal.returns-then-reaches_sp-clause-free
+returns-then-reaches_sp-clause-free g c done goes =
+    clear_behind c.execute.new.self c.end_instruction.new.self c.end_instruction.ensures (ap (λ (x : State). x.sp.halted) (sym c.self-then-reaches_sp.view_is) ∙ sym c.halted.ensures ∙ goes)
+
 pub returns-then-reaches_sp-clause-answer : goal.returns-then-reaches_sp-clause-answer
 returns-then-reaches_sp-clause-answer g c =
     let word = c.fetch-word.ensures in
-    ap (λ x. x.0) (sym (step_done c.fetch-word.result c.args.self.now c.execute.new.self c.in-Some.reaches_sp c.requires word c.in-Some.ensures.answer c.execute.ensures.state))
+    ap (λ x. x.0) (sym (step_done c.fetch-word.result c.args.self.now c.execute.new.self c.in-Some.reaches_sp c.requires.goes word c.in-Some.ensures.answer c.execute.ensures.state))
 
 pub returns-then-reaches_sp-clause-state : goal.returns-then-reaches_sp-clause-state
 returns-then-reaches_sp-clause-state g c =
     let word = c.fetch-word.ensures in
     c.end_instruction.ensures
-    ∙ ap (λ x. x.1) (sym (step_done c.fetch-word.result c.args.self.now c.execute.new.self c.in-Some.reaches_sp c.requires word c.in-Some.ensures.answer c.execute.ensures.state))
+    ∙ ap (λ x. x.1) (sym (step_done c.fetch-word.result c.args.self.now c.execute.new.self c.in-Some.reaches_sp c.requires.goes word c.in-Some.ensures.answer c.execute.ensures.state))
 
 pub returns-then-reaches_sp-clause-saved : goal.returns-then-reaches_sp-clause-saved
 returns-then-reaches_sp-clause-saved g c =
     let word = c.fetch-word.ensures in
-    c.execute.ensures.saver ∙ sym (record_running c.fetch-word.result c.args.self.now c.args.saved.now c.requires word)
+    c.execute.ensures.saver ∙ sym (record_running c.fetch-word.result c.args.self.now c.args.saved.now c.requires.goes word)
 
 pub returns-then-reaches_sp-clause-which : goal.returns-then-reaches_sp-clause-which
 returns-then-reaches_sp-clause-which g c =
@@ -70,31 +79,31 @@ returns-then-reaches_sp-clause-memory g c end =
 pub returns-clause-answer : goal.returns-clause-answer
 returns-clause-answer g c =
     let word = c.fetch-word.ensures in
-    ap (λ x. x.0) (sym (step_done c.fetch-word.result c.args.self.now c.execute.new.self c.in-Some.reaches_sp c.requires word c.in-Some.ensures.answer c.execute.ensures.state))
+    ap (λ x. x.0) (sym (step_done c.fetch-word.result c.args.self.now c.execute.new.self c.in-Some.reaches_sp c.requires.goes word c.in-Some.ensures.answer c.execute.ensures.state))
 
 pub returns-clause-state : goal.returns-clause-state
 returns-clause-state g c =
     let s = c.args.self.now in let t = c.execute.new.self in let w = c.fetch-word.result in
     let word = c.fetch-word.ensures in
-    let single = ap (λ (x : State). x.sp.single_step) (sym c.self-2.view_is) ∙ sym c.if-single_step.ensures in
+    let single = sym c.steps_singly.ensures ∙ c.if-steps_singly.false in
     let same = stays (inst_of w) s t c.if-reaches_sp.false c.in-Some.ensures.answer c.execute.ensures.state in
-    free s t c.requires same single
-    ∙ ap (λ x. x.1) (sym (step_done w s t c.in-Some.reaches_sp c.requires word c.in-Some.ensures.answer c.execute.ensures.state))
+    free s t c.requires.goes same single
+    ∙ ap (λ x. x.1) (sym (step_done w s t c.in-Some.reaches_sp c.requires.goes word c.in-Some.ensures.answer c.execute.ensures.state))
 
 pub returns-clause-saved : goal.returns-clause-saved
 returns-clause-saved g c =
     let word = c.fetch-word.ensures in
-    c.execute.ensures.saver ∙ sym (record_running c.fetch-word.result c.args.self.now c.args.saved.now c.requires word)
+    c.execute.ensures.saver ∙ sym (record_running c.fetch-word.result c.args.self.now c.args.saved.now c.requires.goes word)
 
 pub returns-clause-which : goal.returns-clause-which
 returns-clause-which g c =
     let word = c.fetch-word.ensures in
-    sym (undo_free c.fetch-word.result c.args.self.now c.requires word c.if-reaches_sp.false c.in-Some.ensures.answer)
+    sym (undo_free c.fetch-word.result c.args.self.now c.requires.goes word c.if-reaches_sp.false c.in-Some.ensures.answer)
 
 pub returns-clause-halted : goal.returns-clause-halted
 returns-clause-halted g c =
     let s = c.args.self.now in let t = c.execute.new.self in
-    halted_as s t c.requires (stays (inst_of c.fetch-word.result) s t c.if-reaches_sp.false c.in-Some.ensures.answer c.execute.ensures.state)
+    halted_as s t c.requires.goes (stays (inst_of c.fetch-word.result) s t c.if-reaches_sp.false c.in-Some.ensures.answer c.execute.ensures.state)
 
 pub returns-clause-back : goal.returns-clause-back
 returns-clause-back g c =
@@ -104,3 +113,6 @@ returns-clause-back g c =
 pub returns-clause-memory : goal.returns-clause-memory
 returns-clause-memory g c end =
     memory c.args.self.now c.execute.new.self c.args.saved.now c.execute.new.saver (returns-clause-saved g c) (returns-clause-state g c) (sym (returns-clause-answer g c))
+
+pub returns-clause-free : goal.returns-clause-free
+returns-clause-free g c done goes = sym c.steps_singly.ensures ∙ c.if-steps_singly.false
