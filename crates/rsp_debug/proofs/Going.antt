@@ -158,6 +158,10 @@ unsought true x y m one far done some =
 pub all-made : (p y : Standing) → y.far ≡ 0 → (y.later == 0) ≡ true → steps_between p y ≡ steps_left p
 all-made p y far last = let none : y.later ≡ 0 = grind (arith, nat_tests) in omega arith
 
+-- or some are left
+pub some-left : (n : ℕ) → (n == 0) ≡ false → 0 < n
+some-left n more = grind (arith, nat_tests)
+
 -- why a run stops that looks round, and finds a reason or has made all its steps
 pub stop-come : (b : List Bool) (snapshots : List (Option Snapshot)) (n depth : ℕ) (s : State) (before : List State) (k : ℕ) (t : State) (past : List State) (o : Option Reason)
     → IsCome b (watches_of snapshots) n depth s before k t past → hit_of b (watches_of snapshots) k (steps_of (k - 1) s) (steps_of k s) ≡ o → (o ≡ None → k ≡ n)

@@ -1,6 +1,6 @@
 // The records of the last steps, which lead back.
 
-ghost use Rattle.std.specs.Prelude.{◌≡◌, ◌==◌, ◌<◌, ◌≤◌, ℕ, [], true, Some, None, length, drop, slice_index_or, unwrap_or, IfOk};
+ghost use Rattle.std.specs.Prelude.{◌≡◌, ◌==◌, ◌<◌, ◌≤◌, ℕ, [], true, false, Some, None, length, drop, slice_index_or, unwrap_or, IfOk};
 ghost use Rattle.rsp_machine.specs.Step.{step_of};
 ghost use Rattle.rsp_debug.specs.Stops.{reason_at};
 ghost use Rattle.rsp_debug.specs.Calls.{IsAfter};
@@ -13,7 +13,7 @@ ghost use Rattle.rsp_debug.specs.declared.stop.Reason.TheVariants as why;
 use crate::breaks::Breaks;
 use crate::snapshot::Snapshot;
 use crate::span::Span;
-use crate::steps::make_steps;
+use crate::steps::{Sought, hit, make_steps};
 use crate::stop::Reason;
 use circular_buffer::HeapCircularBuffer;
 use rsp_acc::Acc;
@@ -153,8 +153,8 @@ impl Ring {
     }
 
     /// Lends its slots to the steps of a run, at most `n` of them, and settles where the records stand then. Tells how many
-    /// steps were made, and the watch or the breakpoint that the last has come to.
-    #[inline(never)]
+    /// steps were made, and the watch or the breakpoint that the last has come to. A machine in single step makes a step
+    /// apart, and goes on only where that has cleared single step: the loop of the others doesn't ask for it.
     pub fn run<A: Acc>(
         &mut self,
         machine: &mut Machine<A>,
@@ -172,6 +172,19 @@ impl Ring {
     {
         if n == 0 || machine.sp_regs().halted() {
             return (0, None);
+        }
+        if machine.sp_regs().single_step() {
+            match self.step(machine) {
+                StepEnd::Done => {}
+                StepEnd::Halted => return (0, None),
+                StepEnd::Reserved { word: _ } => return (0, None),
+            }
+            let sought = Sought::of(breaks, snapshots);
+            if let Some(found) = hit(machine, breaks, snapshots, sought, true) {
+                return (1, Some(found));
+            }
+            let (more, found) = self.run(machine, breaks, snapshots, n - 1);
+            return (more + 1, found);
         }
         let mut span = Span::of(self.first, self.count, self.depth, n as usize);
         let slots = self.slots.make_contiguous();

@@ -217,7 +217,9 @@ impl Span {
         requires span { IsStanding self.old slots.old }
         requires far { 0 < self.old.far }
         requires goes { machine.old.sp.halted ≡ false }
+        requires free { machine.old.sp.single_step ≡ false }
         ensures state { machine.new ≡ (step_of machine.old).1 }
+        ensures free { IsGoing machine.old machine.new → machine.new.sp.single_step ≡ false }
         ensures stuck { result ≡ Made.Stuck → is_some (stuck_of machine.new) ≡ true }
         ensures goes { result ≡ Made.Goes → (0 < self.new.far) × IsGoing machine.old machine.new }
         ensures pauses { (stored : Bool) → result ≡ Made.Pauses stored → (self.new.far ≡ 0) × IsGoing machine.old machine.new }

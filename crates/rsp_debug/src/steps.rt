@@ -29,14 +29,14 @@ pub fn dmem_bytes<A: Acc>(machine: &Machine<A>) -> &[u8]
 
 /// What a run looks for in its pauses.
 #[derive(Clone, Copy, Drop)]
-struct Sought {
+pub struct Sought {
     any: bool,
     watches: bool,
     breaks: bool,
 }
 
 impl Sought {
-    fn of(breaks: &Breaks, snapshots: &[Option<Snapshot>]) -> Sought
+    pub fn of(breaks: &Breaks, snapshots: &[Option<Snapshot>]) -> Sought
         ensures watches { result.watches ≡ false → length snapshots.now ≡ 0 }
         ensures breaks { result.breaks ≡ false → break_count breaks.now ≡ 0 }
         ensures none { result.any ≡ false → (length snapshots.now ≡ 0) × (break_count breaks.now ≡ 0) }
@@ -55,7 +55,7 @@ impl Sought {
 /// looked up only where there are breakpoints.
 #[inline(always)]
 #[tactic(auto, using(crate::proofs::Hits::hits))]
-fn hit<A: Acc>(
+pub fn hit<A: Acc>(
     machine: &Machine<A>,
     breaks: &Breaks,
     snapshots: &[Option<Snapshot>],
@@ -88,6 +88,7 @@ pub fn make_steps<A: Acc>(
 ) -> Option<Reason>
     requires same { differs snapshots.now machine.old.dmem ≡ None }
     requires goes { machine.old.sp.halted ≡ false }
+    requires free { machine.old.sp.single_step ≡ false }
     requires span { IsStanding span.old slots.old }
     requires pauses { span.old.far ≡ 0 }
     requires later { 0 < span.old.later }
@@ -101,18 +102,18 @@ pub fn make_steps<A: Acc>(
     ensures last { stuck_of machine.new ≡ None → reason_at breaks.now (watches_of snapshots.now) (steps_left span.old) machine.old (steps_between span.old span.new) ≡ Some (unwrap_or result why.Limit) }
 {
     let sought = Sought::of(breaks, snapshots);
-    span.set_out(slots.len(), sought.any);
-    'steps: loop {
-        match span.step(slots, machine, sought.watches) {
-            Made::Stuck => return None,
-            Made::Goes => {}
-            Made::Pauses { stored } => {
-                let found = hit(machine, breaks, snapshots, sought, stored);
-                if found.is_some() || span.is_last() {
-                    return found;
-                }
-                span.set_out(slots.len(), sought.any);
+    'stretches: loop {
+        span.set_out(slots.len(), sought.any);
+        let stored = 'stretch: loop {
+            match span.step(slots, machine, sought.watches) {
+                Made::Stuck => return None,
+                Made::Goes => {}
+                Made::Pauses { stored } => break 'stretch stored,
             }
+        };
+        let found = hit(machine, breaks, snapshots, sought, stored);
+        if found.is_some() || span.is_last() {
+            return found;
         }
     }
 }

@@ -8,8 +8,8 @@ use Rattle.rsp_debug.specs.Span.{steps_left, steps_between}
 use Rattle.rsp_debug.specs.Snapshots.{watches_of}
 use Rattle.rsp_debug.specs.Runs.{hit_in}
 use Rattle.rsp_debug.specs.declared.span.Made.TheVariants.{Pauses}
-use Rattle.rsp_debug.proofs.Going.{come-none, come-on, come-as, count-on, unsought, all-made, hit-now, stop-come}
-use Rattle.rsp_debug.proofs.Reasons.{nothing-differs, unhit}
+use Rattle.rsp_debug.proofs.Going.{come-none, come-on, come-as, count-on, unsought, all-made, some-left, hit-now, stop-come}
+use Rattle.rsp_debug.proofs.Reasons.{hit_of, nothing-differs, unhit}
 use Rattle.rsp_debug.proofs.Afters.{never, no-some}
 use Rattle.rsp_debug.proofs.Watched.{still-same, differs-empty}
 use Rattle.rsp_debug.proofs.Hits.{unbroken-hit}
@@ -17,46 +17,67 @@ use Rattle.rsp_debug.proofs.Turns.{turned}
 use Rattle.rsp_debug.proofs.steps.make_steps.Goals.{then-is_some-via-then-is_some, then-is_some-via-else-is_some+then-is_last}
 use Rattle.rsp_debug.proofs.steps.make_steps.Goals as goal
 
-pub steps-init : goal.steps-init
-steps-init g c =
-    let s = c.args.machine.now in let p = c.args.span.now in let o = c.set_out.new.self in let e = c.set_out.ensures in
+pub stretches-init : goal.stretches-init
+stretches-init g c =
+    let s = c.args.machine.now in let p = c.args.span.now in
     let w = watches_of c.args.snapshots.now in
-    let none : steps_between p o ≡ 0 = omega (arith, e.left) in
+    let none : steps_between p p ≡ 0 = omega arith in
     record {
-      come = come-none c.args.breaks.now w (steps_left p) p.depth s (states_before s (from_slot p.first p.count c.args.slots.now)) _ (steps_between p o)
-          none (ap (states_before s) (turned c.args.slots.now _ p.first o.first p.count o.count refl e.first e.count));
+      come = come-none c.args.breaks.now w (steps_left p) p.depth s (states_before s (from_slot p.first p.count c.args.slots.now)) _ (steps_between p p) none refl;
       same = c.requires.same;
-      quiet = unhit c.args.breaks.now w (steps_between p o) (steps_of (steps_between p o - 1) s) (steps_of (steps_between p o) s) (omega (arith, none));
+      quiet = unhit c.args.breaks.now w (steps_between p p) (steps_of (steps_between p p - 1) s) (steps_of (steps_between p p) s) (omega (arith, none));
       goes = c.requires.goes;
-      left = omega (arith, e.left);
+      free = c.requires.free;
+      left = omega arith;
+      far = c.requires.pauses;
+      later = c.requires.later;
+      depth = refl;
+      len = refl;
+      span = c.requires.span;
+    }
+
+pub stretch-init : goal.stretch-init
+stretch-init g c =
+    let l = c.stretches in let i = l.invariant in let o = c.set_out.new.self in let e = c.set_out.ensures in
+    let b = c.args.breaks.now in let w = watches_of c.args.snapshots.now in let p = c.args.span.now in let s = c.args.machine.now in
+    let count : steps_between p o ≡ steps_between p l.span = omega (arith, e.left) in
+    record {
+      come = come-as b w (steps_left p) p.depth s (states_before s (from_slot p.first p.count c.args.slots.now)) (steps_between p l.span) (steps_between p o) l.machine _ _
+          i.come count (ap (states_before l.machine) (turned l.slots _ l.span.first o.first l.span.count o.count refl e.first e.count));
+      same = i.same;
+      quiet = ap (λ k. hit_of b w k (steps_of (k - 1) s) (steps_of k s)) count ∙ i.quiet;
+      goes = i.goes;
+      free = i.free;
+      left = omega (arith, i.left, e.left);
+      less = omega arith;
       far = e.far.0;
       one = e.one;
-      depth = e.depth;
-      len = refl;
-      span = (e.far.1, e.within, c.requires.span.2, omega (arith, e.count, e.depth, c.requires.span.3), omega (arith, e.depth, c.requires.span.4));
+      depth = e.depth ∙ i.depth;
+      len = i.len;
+      span = (e.far.1, e.within, i.span.2, omega (arith, e.count, e.depth, i.span.3), omega (arith, e.depth, i.span.4));
     }
 
 pub returns-in-Stuck-clause-after : goal.returns-in-Stuck-clause-after
 returns-in-Stuck-clause-after g c =
-    let l = c.steps in let i = l.invariant in let y = c.step.new in let e = c.step.ensures in
+    let l = c.stretch in let i = l.invariant in let y = c.step.new in let e = c.step.ensures in
     (come-on _ _ c.args.span.now l.span y.self c.args.machine.now l.machine y.machine c.args.slots.now l.slots y.slots
     i.come i.quiet i.left i.far i.depth e.state e.past e.far e.later).after
 
 pub returns-in-Stuck-clause-past : goal.returns-in-Stuck-clause-past
 returns-in-Stuck-clause-past g c =
-    let l = c.steps in let i = l.invariant in let y = c.step.new in let e = c.step.ensures in
+    let l = c.stretch in let i = l.invariant in let y = c.step.new in let e = c.step.ensures in
     (come-on _ _ c.args.span.now l.span y.self c.args.machine.now l.machine y.machine c.args.slots.now l.slots y.slots
     i.come i.quiet i.left i.far i.depth e.state e.past e.far e.later).kept
 
 pub returns-in-Stuck-clause-first : goal.returns-in-Stuck-clause-first
 returns-in-Stuck-clause-first g c =
-    let l = c.steps in let i = l.invariant in let y = c.step.new in let e = c.step.ensures in
+    let l = c.stretch in let i = l.invariant in let y = c.step.new in let e = c.step.ensures in
     (come-on _ _ c.args.span.now l.span y.self c.args.machine.now l.machine y.machine c.args.slots.now l.slots y.slots
     i.come i.quiet i.left i.far i.depth e.state e.past e.far e.later).first
 
-pub steps-preserved-in-Goes : goal.steps-preserved-in-Goes
-steps-preserved-in-Goes g c =
-    let l = c.steps in let i = l.invariant in let y = c.step.new in let e = c.step.ensures in
+pub stretch-preserved : goal.stretch-preserved
+stretch-preserved g c =
+    let l = c.stretch in let i = l.invariant in let y = c.step.new in let e = c.step.ensures in
     let b = c.args.breaks.now in let d = c.args.snapshots.now in let p = c.args.span.now in let s = c.args.machine.now in let t = y.machine in
     let going = e.goes c.in-Goes.is in
     let any = unsought c.of-sought.result.any l.span y.self l.machine i.one e.far going.1.0 going.0 in
@@ -69,7 +90,9 @@ steps-preserved-in-Goes g c =
       quiet = hit-now b d s l.machine t (steps_between p l.span) (steps_between p y.self) None i.come.after e.state going.1.0 i.same
           (count-on p l.span y.self (done_steps (step_of l.machine).0) i.left e.far e.later) (unbroken-hit b d t same none.1);
       goes = going.1.1;
+      free = e.free going.1;
       left = omega (arith, i.left, e.far, e.later);
+      less = omega (arith, i.less, e.far, e.later);
       far = going.0;
       one = λ sought. absurd (false≢true (sym any ∙ sought));
       depth = e.depth ∙ i.depth;
@@ -79,30 +102,30 @@ steps-preserved-in-Goes g c =
 
 pub hit-found-requires-clause-same : goal.hit-found-requires-clause-same
 hit-found-requires-clause-same g c none =
-    still-same c.of-sought.result.watches c.args.snapshots.now c.steps.machine.dmem c.step.new.machine.dmem c.of-sought.ensures.watches
-    (c.step.ensures.memory (c.in-Pauses.is ∙ ap Pauses none)) c.steps.invariant.same
+    still-same c.of-sought.result.watches c.args.snapshots.now c.stretch.machine.dmem c.step.new.machine.dmem c.of-sought.ensures.watches
+    (c.step.ensures.memory (c.in-Pauses.is ∙ ap Pauses none)) c.stretch.invariant.same
 
 pub returns-then-is_some-clause-after : goal.returns-then-is_some-clause-after
 returns-then-is_some-clause-after g c =
-    let l = c.steps in let i = l.invariant in let y = c.step.new in let e = c.step.ensures in
+    let l = c.stretch in let i = l.invariant in let y = c.step.new in let e = c.step.ensures in
     (come-on _ _ c.args.span.now l.span y.self c.args.machine.now l.machine y.machine c.args.slots.now l.slots y.slots
     i.come i.quiet i.left i.far i.depth e.state e.past e.far e.later).after
 
 pub returns-then-is_some-clause-past : goal.returns-then-is_some-clause-past
 returns-then-is_some-clause-past g c =
-    let l = c.steps in let i = l.invariant in let y = c.step.new in let e = c.step.ensures in
+    let l = c.stretch in let i = l.invariant in let y = c.step.new in let e = c.step.ensures in
     (come-on _ _ c.args.span.now l.span y.self c.args.machine.now l.machine y.machine c.args.slots.now l.slots y.slots
     i.come i.quiet i.left i.far i.depth e.state e.past e.far e.later).kept
 
 pub returns-then-is_some-clause-first : goal.returns-then-is_some-clause-first
 returns-then-is_some-clause-first g c =
-    let l = c.steps in let i = l.invariant in let y = c.step.new in let e = c.step.ensures in
+    let l = c.stretch in let i = l.invariant in let y = c.step.new in let e = c.step.ensures in
     (come-on _ _ c.args.span.now l.span y.self c.args.machine.now l.machine y.machine c.args.slots.now l.slots y.slots
     i.come i.quiet i.left i.far i.depth e.state e.past e.far e.later).first
 
 pub returns-then-is_some-clause-last : goal.returns-then-is_some-clause-last
 returns-then-is_some-clause-last g c free =
-    let l = c.steps in let i = l.invariant in let y = c.step.new in let e = c.step.ensures in
+    let l = c.stretch in let i = l.invariant in let y = c.step.new in let e = c.step.ensures in
     let b = c.args.breaks.now in let d = c.args.snapshots.now in let p = c.args.span.now in let s = c.args.machine.now in let t = y.machine in
     let pauses = e.pauses c.in-Pauses.stored c.in-Pauses.is in
     stop-come b d (steps_left p) p.depth s (states_before s (from_slot p.first p.count c.args.slots.now)) (steps_between p y.self) t _ c.hit-found.result
@@ -116,27 +139,31 @@ returns-then-is_some-clause-last g c free =
     ])
     free
 
-pub steps-preserved : goal.steps-preserved
-steps-preserved g c =
-    let l = c.steps in let i = l.invariant in let y = c.step.new in let e = c.step.ensures in
+pub stretches-preserved : goal.stretches-preserved
+stretches-preserved g c =
+    let l = c.stretch in let i = l.invariant in let y = c.step.new in let e = c.step.ensures in
     let b = c.args.breaks.now in let d = c.args.snapshots.now in let p = c.args.span.now in let s = c.args.machine.now in let t = y.machine in
     let pauses = e.pauses c.in-Pauses.stored c.in-Pauses.is in
-    let z = c.set_out-in-Pauses.new.self in let o = c.set_out-in-Pauses.ensures in
     let none = no-some c.hit-found.result (sym c.is_some.ensures ∙ c.if-is_some.false) in
-    let count : steps_between p z ≡ steps_between p y.self = omega (arith, o.left) in
     record {
-      come = come-as b (watches_of d) (steps_left p) p.depth s (states_before s (from_slot p.first p.count c.args.slots.now)) (steps_between p y.self) (steps_between p z) t _ _
-          (come-on _ _ c.args.span.now l.span y.self c.args.machine.now l.machine y.machine c.args.slots.now l.slots y.slots
-          i.come i.quiet i.left i.far i.depth e.state e.past e.far e.later)
-          count (ap (states_before t) (turned y.slots _ y.self.first z.first y.self.count z.count refl o.first o.count));
+      come = come-on _ _ c.args.span.now l.span y.self c.args.machine.now l.machine y.machine c.args.slots.now l.slots y.slots
+          i.come i.quiet i.left i.far i.depth e.state e.past e.far e.later;
       same = nothing-differs b d t (sym {b = hit_in b d t} c.hit-found.ensures ∙ none);
-      quiet = hit-now b d s l.machine t (steps_between p l.span) (steps_between p z) c.hit-found.result i.come.after e.state pauses.1.0 i.same
-          (count ∙ count-on p l.span y.self (done_steps (step_of l.machine).0) i.left e.far e.later) c.hit-found.ensures ∙ none;
+      quiet = hit-now b d s l.machine t (steps_between p l.span) (steps_between p y.self) c.hit-found.result i.come.after e.state pauses.1.0 i.same
+          (count-on p l.span y.self (done_steps (step_of l.machine).0) i.left e.far e.later) c.hit-found.ensures ∙ none;
       goes = pauses.1.1;
-      left = omega (arith, i.left, e.far, e.later, o.left);
-      far = o.far.0;
-      one = o.one;
-      depth = o.depth ∙ e.depth ∙ i.depth;
+      free = e.free pauses.1;
+      left = omega (arith, i.left, e.far, e.later);
+      far = pauses.0;
+      later = some-left y.self.later (sym c.is_last.ensures ∙ c.if-is_last.false);
+      depth = e.depth ∙ i.depth;
       len = e.len ∙ i.len;
-      span = (o.far.1, o.within, e.span.2, omega (arith, o.count, o.depth, e.span.3), omega (arith, o.depth, e.span.4));
+      span = e.span;
     }
+
+pub stretches-smaller : goal.stretches-smaller
+stretches-smaller g c =
+    let l = c.stretch in let e = c.step.ensures in
+    let pauses = e.pauses c.in-Pauses.stored c.in-Pauses.is in
+    let done : done_steps (step_of l.machine).0 ≡ 1 = ap done_steps pauses.1.0 in
+    omega (arith, l.invariant.less, e.far, e.later, c.set_out.ensures.left, done)
