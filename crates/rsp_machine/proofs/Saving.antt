@@ -30,7 +30,7 @@ use Rattle.rsp_machine.specs.Vector.{multiplies, rounds, multiplies_mpeg, reads_
 use Rattle.rsp_machine.specs.Step.{computes, loads, stores, jumps, break_instruction, moves_sp, worked, executed, singled, step_by, step_of}
 use Rattle.rsp_machine.specs.Host.{register_written}
 use Rattle.rsp_machine.specs.declared.step.StepEnd.TheVariants.{Done, Halted, Reserved}
-use Rattle.rsp_machine.specs.Saved.{Saved, change_saved, values_saved, restored, change_of, vd_in, vd_at, undone, starts_dma, is_length, sign_change, jump_change, told_of, may_store, group_at, with_group, is_back_by, can_undo, record_after, is_back}
+use Rattle.rsp_machine.specs.Saved.{Saved, change_saved, values_saved, restored, change_of, register_of, register_by, undone, starts_dma, is_length, sign_change, jump_change, told_of, may_store, group_at, with_group, is_back_by, can_undo, record_after, is_back}
 use Rattle.rsp_machine.specs.Changes.{saved_of, saved_by}
 use Rattle.rsp_machine.specs.declared.change.Change.TheVariants as of
 use Rattle.rsp_machine.proofs.Undoing.{register-back, vector-back, store-back}
@@ -53,11 +53,21 @@ vectors_same s v h e = same_state s _ v _ _ _ _ _ _ h refl e refl refl refl refl
 memory_same : (s : State) (m : List ℕ) → s.sp.halted ≡ false → m ≡ s.dmem → record s { dmem = m; sp = record s.sp { halted = false } } ≡ s
 memory_same s m h e = same_state s _ _ _ _ _ m _ _ h refl refl refl refl refl e refl refl
 
+-- the word at pc tells which register a record leaves out, in any state, since a step leaves IMEM
+abbrev Tells : ℕ → State → Type 0
+Tells n s = (t : State) → register_by (inst_of (word_at s.imem s.pc)) t ≡ n
+
+told : {i : Inst} (s : State) → inst_of (word_at s.imem s.pc) ≡ Some i → (t : State) → register_by (inst_of (word_at s.imem s.pc)) t ≡ register_of (change_of i t)
+told s o t = ap (λ j. register_by j t) o
+
+told-back : (file : List ℕ) (n m v : ℕ) → m ≡ n → with_register (with_register file n v) m (register file n) ≡ file
+told-back file n m v w = rw w (register-back file n v)
+
 -- a row that changes a scalar register
-register_saved : (n v p : ℕ) (s : State) (r : Saved) → s.sp.halted ≡ false
+register_saved : (n v p : ℕ) (s : State) (r : Saved) → Tells n s → s.sp.halted ≡ false
     → undone (change_saved (of.Register n) s r) (singled (record s { pc = s.npc; npc = p; registers = with_register s.registers n v })) ≡ s
 unfolding undone change_saved values_saved restored after_step
-register_saved n v p s r h = registers_same s _ h (register-back s.registers n v)
+register_saved n v p s r w h = registers_same s _ h (told-back s.registers n _ v (w _))
 
 -- a row that changes the places alone
 places_saved : (p : ℕ) (s : State) (r : Saved) → s.sp.halted ≡ false
@@ -80,39 +90,39 @@ vector_saved n v s r h = vectors_same s _ h (vector-back s.vectors n v)
 computed-back : (file : List (List ℕ)) (n vd : ℕ) (v : List ℕ) → vd ≡ n → with_vector (with_vector file n v) vd (vector file n) ≡ file
 computed-back file n vd v w = rw w (vector-back file n v)
 
-product_saved : (n : ℕ) (v : List ℕ) (x : List ℤ) (s : State) (r : Saved) → vd_at s.pc s ≡ n → s.sp.halted ≡ false
+product_saved : (n : ℕ) (v : List ℕ) (x : List ℤ) (s : State) (r : Saved) → Tells n s → s.sp.halted ≡ false
     → undone (change_saved (of.Product n) s r) (singled (advanced (record s { vectors = with_vector s.vectors n v; accumulators = x }))) ≡ s
 unfolding undone change_saved values_saved restored after_step
-product_saved n v x s r w h = vectors_same s _ h (computed-back s.vectors n (vd_at s.pc s) v w)
+product_saved n v x s r w h = vectors_same s _ h (computed-back s.vectors n _ v (w _))
 
 -- where some flags are written back, the others are those before
 flags_same : (s : State) (v : List (List ℕ)) (f : Flags) → s.sp.halted ≡ false → v ≡ s.vectors → f ≡ s.flags → record s { vectors = v; flags = f; sp = record s.sp { halted = false } } ≡ s
 flags_same s v f h e k = same_state s _ v _ f _ _ _ _ h refl e refl k refl refl refl refl
 
-sum_saved : (n : ℕ) (v : List ℕ) (x : List ℤ) (f : Flags) (s : State) (r : Saved) → vd_at s.pc s ≡ n → s.sp.halted ≡ false → record f { carry = s.flags.carry; differ = s.flags.differ } ≡ s.flags
+sum_saved : (n : ℕ) (v : List ℕ) (x : List ℤ) (f : Flags) (s : State) (r : Saved) → Tells n s → s.sp.halted ≡ false → record f { carry = s.flags.carry; differ = s.flags.differ } ≡ s.flags
     → undone (change_saved (of.Sum n) s r) (singled (advanced (record s { vectors = with_vector s.vectors n v; accumulators = x; flags = f }))) ≡ s
 unfolding undone change_saved values_saved restored after_step
-sum_saved n v x f s r w h e = flags_same s _ _ h (computed-back s.vectors n (vd_at s.pc s) v w) e
+sum_saved n v x f s r w h e = flags_same s _ _ h (computed-back s.vectors n _ v (w _)) e
 
-choice_saved : (n : ℕ) (v : List ℕ) (x : List ℤ) (f : Flags) (s : State) (r : Saved) → vd_at s.pc s ≡ n → s.sp.halted ≡ false → record s.flags { extra = f.extra } ≡ s.flags
+choice_saved : (n : ℕ) (v : List ℕ) (x : List ℤ) (f : Flags) (s : State) (r : Saved) → Tells n s → s.sp.halted ≡ false → record s.flags { extra = f.extra } ≡ s.flags
     → undone (change_saved (of.Choice n) s r) (singled (advanced (record s { vectors = with_vector s.vectors n v; accumulators = x; flags = f }))) ≡ s
 unfolding undone change_saved values_saved restored after_step
-choice_saved n v x f s r w h e = flags_same s _ _ h (computed-back s.vectors n (vd_at s.pc s) v w) e
+choice_saved n v x f s r w h e = flags_same s _ _ h (computed-back s.vectors n _ v (w _)) e
 
-clip_saved : (n : ℕ) (v : List ℕ) (x : List ℤ) (f : Flags) (s : State) (r : Saved) → vd_at s.pc s ≡ n → s.sp.halted ≡ false
+clip_saved : (n : ℕ) (v : List ℕ) (x : List ℤ) (f : Flags) (s : State) (r : Saved) → Tells n s → s.sp.halted ≡ false
     → undone (change_saved (of.Clip n) s r) (singled (advanced (record s { vectors = with_vector s.vectors n v; accumulators = x; flags = f }))) ≡ s
 unfolding undone change_saved values_saved restored after_step
-clip_saved n v x f s r w h = vectors_same s _ h (computed-back s.vectors n (vd_at s.pc s) v w)
+clip_saved n v x f s r w h = vectors_same s _ h (computed-back s.vectors n _ v (w _))
 
-logic_saved : (n : ℕ) (v : List ℕ) (x : List ℤ) (f : Flags) (s : State) (r : Saved) → vd_at s.pc s ≡ n → s.sp.halted ≡ false → f ≡ s.flags
+logic_saved : (n : ℕ) (v : List ℕ) (x : List ℤ) (f : Flags) (s : State) (r : Saved) → Tells n s → s.sp.halted ≡ false → f ≡ s.flags
     → undone (change_saved (of.Product n) s r) (singled (advanced (record s { vectors = with_vector s.vectors n v; accumulators = x; flags = f }))) ≡ s
 unfolding undone change_saved values_saved restored after_step
-logic_saved n v x f s r w h e = flags_same s _ _ h (computed-back s.vectors n (vd_at s.pc s) v w) e
+logic_saved n v x f s r w h e = flags_same s _ _ h (computed-back s.vectors n _ v (w _)) e
 
-divide_saved : (n : ℕ) (v : List ℕ) (x : List ℤ) (d : Divider) (s : State) (r : Saved) → vd_at s.pc s ≡ n → s.sp.halted ≡ false
+divide_saved : (n : ℕ) (v : List ℕ) (x : List ℤ) (d : Divider) (s : State) (r : Saved) → Tells n s → s.sp.halted ≡ false
     → undone (change_saved (of.Divide n) s r) (singled (advanced (record s { vectors = with_vector s.vectors n v; accumulators = x; divider = d }))) ≡ s
 unfolding undone change_saved values_saved restored after_step
-divide_saved n v x d s r w h = vectors_same s _ h (computed-back s.vectors n (vd_at s.pc s) v w)
+divide_saved n v x d s r w h = vectors_same s _ h (computed-back s.vectors n _ v (w _))
 
 flags_saved : (f : Flags) (s : State) (r : Saved) → s.sp.halted ≡ false
     → undone (change_saved of.Flags s r) (singled (advanced (record s { flags = f }))) ≡ s
@@ -165,63 +175,63 @@ load_saved : (group : Bool) (vt : ℕ) (v : List (List ℕ)) (s : State) (r : Sa
 load_saved true vt v s r h e = group_saved (vt - vt % 8) v s r h e
 load_saved false vt v s r h e = file_saved vt v s r h e
 
-sign_saved : (row : SignRow) (rs offset p : ℕ) (s : State) (r : Saved) → s.sp.halted ≡ false
+sign_saved : (row : SignRow) (rs offset p : ℕ) (s : State) (r : Saved) → inst_of (word_at s.imem s.pc) ≡ Some (BranchSign row rs offset) → s.sp.halted ≡ false
     → undone (change_saved (sign_change row) s r) (singled (record s { pc = s.npc; npc = p; registers = linked (BranchSign row rs offset) s.registers s.npc })) ≡ s
-unfolding undone change_saved values_saved restored after_step
-sign_saved Bltz rs offset p s r h = registers_same s _ h refl
-sign_saved Bgez rs offset p s r h = registers_same s _ h refl
-sign_saved Bltzal rs offset p s r h = registers_same s _ h (register-back s.registers 31 _)
-sign_saved Bgezal rs offset p s r h = registers_same s _ h (register-back s.registers 31 _)
-sign_saved Blez rs offset p s r h = registers_same s _ h refl
-sign_saved Bgtz rs offset p s r h = registers_same s _ h refl
+unfolding undone change_saved values_saved restored change_of after_step
+sign_saved Bltz rs offset p s r o h = registers_same s _ h refl
+sign_saved Bgez rs offset p s r o h = registers_same s _ h refl
+sign_saved Bltzal rs offset p s r o h = register_saved 31 _ p s r (told s o) h
+sign_saved Bgezal rs offset p s r o h = register_saved 31 _ p s r (told s o) h
+sign_saved Blez rs offset p s r o h = registers_same s _ h refl
+sign_saved Bgtz rs offset p s r o h = registers_same s _ h refl
 
-jump_saved : (row : JumpRow) (target p : ℕ) (s : State) (r : Saved) → s.sp.halted ≡ false
+jump_saved : (row : JumpRow) (target p : ℕ) (s : State) (r : Saved) → inst_of (word_at s.imem s.pc) ≡ Some (Jump row target) → s.sp.halted ≡ false
     → undone (change_saved (jump_change row) s r) (singled (record s { pc = s.npc; npc = p; registers = linked (Jump row target) s.registers s.npc })) ≡ s
-unfolding undone change_saved values_saved restored after_step
-jump_saved J target p s r h = registers_same s _ h refl
-jump_saved Jal target p s r h = registers_same s _ h (register-back s.registers 31 _)
+unfolding undone change_saved values_saved restored change_of after_step
+jump_saved J target p s r o h = registers_same s _ h refl
+jump_saved Jal target p s r o h = register_saved 31 _ p s r (told s o) h
 
-vector_move_saved : (row : MoveRow) (rt n e : ℕ) (s : State) (r : Saved) → s.sp.halted ≡ false
+vector_move_saved : (row : MoveRow) (rt n e : ℕ) (s : State) (r : Saved) → inst_of (word_at s.imem s.pc) ≡ Some (MoveVector row rt n e) → s.sp.halted ≡ false
     → undone (saved_of (MoveVector row rt n e) s r) (singled (executed (MoveVector row rt n e) s)) ≡ s
 unfolding change_of executed worked moves_vector moved_file
-vector_move_saved From rt n e s r h = register_saved rt _ (going_on s.npc) s r h
-vector_move_saved To rt n e s r h = vector_saved n _ s r h
+vector_move_saved From rt n e s r o h = register_saved rt _ (going_on s.npc) s r (told s o) h
+vector_move_saved To rt n e s r o h = vector_saved n _ s r h
 
-control_move_saved : (row : MoveRow) (rt : ℕ) (control : Control) (s : State) (r : Saved) → s.sp.halted ≡ false
+control_move_saved : (row : MoveRow) (rt : ℕ) (control : Control) (s : State) (r : Saved) → inst_of (word_at s.imem s.pc) ≡ Some (MoveControl row rt control) → s.sp.halted ≡ false
     → undone (saved_of (MoveControl row rt control) s r) (singled (executed (MoveControl row rt control) s)) ≡ s
 unfolding change_of executed worked moves_control
-control_move_saved From rt control s r h = register_saved rt _ (going_on s.npc) s r h
-control_move_saved To rt control s r h = flags_saved _ s r h
+control_move_saved From rt control s r o h = register_saved rt _ (going_on s.npc) s r (told s o) h
+control_move_saved To rt control s r o h = flags_saved _ s r h
 
 -- any instruction that starts no DMA
 saved_back : (i : Inst) (s : State) (r : Saved) → starts_dma i ≡ false → s.sp.halted ≡ false → AreFlags s.flags → inst_of (word_at s.imem s.pc) ≡ Some i → undone (saved_of i s r) (singled (executed i s)) ≡ s
 unfolding change_of executed worked computes loads stores jumps break_instruction multiplies rounds multiplies_mpeg reads_accumulator ruled divides loads_vector stores_vector loaded_file stored_memory
-saved_back (Shift row rd rt amount) s r e h k o = register_saved rd _ (going_on s.npc) s r h
-saved_back (ShiftBy row f) s r e h k o = register_saved f.rd _ (going_on s.npc) s r h
-saved_back (Register row f) s r e h k o = register_saved f.rd _ (going_on s.npc) s r h
-saved_back (Immediate row rt rs imm) s r e h k o = register_saved rt _ (going_on s.npc) s r h
-saved_back (LoadUpper rt imm) s r e h k o = register_saved rt _ (going_on s.npc) s r h
-saved_back (Load row f) s r e h k o = register_saved f.rt _ (going_on s.npc) s r h
+saved_back (Shift row rd rt amount) s r e h k o = register_saved rd _ (going_on s.npc) s r (told s o) h
+saved_back (ShiftBy row f) s r e h k o = register_saved f.rd _ (going_on s.npc) s r (told s o) h
+saved_back (Register row f) s r e h k o = register_saved f.rd _ (going_on s.npc) s r (told s o) h
+saved_back (Immediate row rt rs imm) s r e h k o = register_saved rt _ (going_on s.npc) s r (told s o) h
+saved_back (LoadUpper rt imm) s r e h k o = register_saved rt _ (going_on s.npc) s r (told s o) h
+saved_back (Load row f) s r e h k o = register_saved f.rt _ (going_on s.npc) s r (told s o) h
 saved_back (Store row f) s r e h k o = bytes_saved (address s.registers f.base f.offset) _ s r h (store-back row s.dmem (address s.registers f.base f.offset) (register s.registers f.rt))
 saved_back (JumpRegister rs) s r e h k o = places_saved _ s r h
-saved_back (JumpLinkRegister rd rs) s r e h k o = register_saved rd _ _ s r h
-saved_back (BranchSign row rs offset) s r e h k o = sign_saved row rs offset _ s r h
+saved_back (JumpLinkRegister rd rs) s r e h k o = register_saved rd _ _ s r (told s o) h
+saved_back (BranchSign row rs offset) s r e h k o = sign_saved row rs offset _ s r o h
 saved_back (BranchEqual row rs rt offset) s r e h k o = places_saved _ s r h
-saved_back (Jump row target) s r e h k o = jump_saved row target _ s r h
+saved_back (Jump row target) s r e h k o = jump_saved row target _ s r o h
 saved_back Break s r e h k o = sp_saved 0 0 _ s r h
 saved_back (MoveSp row rt n) s r e h k o = move_saved row rt n s r e h
-saved_back (MoveVector row rt n element) s r e h k o = vector_move_saved row rt n element s r h
-saved_back (MoveControl row rt control) s r e h k o = control_move_saved row rt control s r h
-saved_back (Multiply row f) s r e h k o = product_saved f.vd _ _ s r (ap vd_in o) h
-saved_back (Round row f) s r e h k o = product_saved f.vd _ _ s r (ap vd_in o) h
-saved_back (MpegMultiply row f) s r e h k o = product_saved f.vd _ _ s r (ap vd_in o) h
+saved_back (MoveVector row rt n element) s r e h k o = vector_move_saved row rt n element s r o h
+saved_back (MoveControl row rt control) s r e h k o = control_move_saved row rt control s r o h
+saved_back (Multiply row f) s r e h k o = product_saved f.vd _ _ s r (told s o) h
+saved_back (Round row f) s r e h k o = product_saved f.vd _ _ s r (told s o) h
+saved_back (MpegMultiply row f) s r e h k o = product_saved f.vd _ _ s r (told s o) h
 saved_back (ReadAccumulator f) s r e h k o = vector_saved f.vd _ s r h
-saved_back (VectorAdd row f) s r e h k o = sum_saved f.vd _ _ _ s r (ap vd_in o) h (sum-back row _ _ s.flags k)
-saved_back (VectorSelect row f) s r e h k o = choice_saved f.vd _ _ _ s r (ap vd_in o) h (choice-back row _ _ s.flags k)
-saved_back (VectorClip row f) s r e h k o = clip_saved f.vd _ _ _ s r (ap vd_in o) h
-saved_back (VectorMerge f) s r e h k o = sum_saved f.vd _ _ _ s r (ap vd_in o) h (merge-back _ _ s.flags k)
-saved_back (VectorLogic row f) s r e h k o = logic_saved f.vd _ _ _ s r (ap vd_in o) h (logic-back row _ _ s.flags k)
-saved_back (Divide row vd lane vt n) s r e h k o = divide_saved vd _ _ _ s r (ap vd_in o) h
+saved_back (VectorAdd row f) s r e h k o = sum_saved f.vd _ _ _ s r (told s o) h (sum-back row _ _ s.flags k)
+saved_back (VectorSelect row f) s r e h k o = choice_saved f.vd _ _ _ s r (told s o) h (choice-back row _ _ s.flags k)
+saved_back (VectorClip row f) s r e h k o = clip_saved f.vd _ _ _ s r (told s o) h
+saved_back (VectorMerge f) s r e h k o = sum_saved f.vd _ _ _ s r (told s o) h (merge-back _ _ s.flags k)
+saved_back (VectorLogic row f) s r e h k o = logic_saved f.vd _ _ _ s r (told s o) h (logic-back row _ _ s.flags k)
+saved_back (Divide row vd lane vt n) s r e h k o = divide_saved vd _ _ _ s r (told s o) h
 saved_back (Idle row) s r e h k o = places_saved _ s r h
 saved_back (VectorLoad row f) s r e h k o =
     load_saved (writes_group row) f.vt _ s r h (loaded-back row s.dmem s.vectors f.vt f.element (transfer_address (VectorLoad row f) (register s.registers f.base)))

@@ -85,8 +85,9 @@ values_saved of.Flags s r = record r { flags = s.flags }
 values_saved (of.Sp n) s r = record r { word = register s.registers n; sp = s.sp }
 values_saved _ s r = r
 
--- a change as a record has it: the register that a computing row writes isn't saved, since the row's word in IMEM tells it
+-- a change as a record has it, without the register that the row's word in IMEM tells; and the register that is left out
 abbrev pub nameless : Change → Change
+nameless (of.Register n) = of.Register 0
 nameless (of.Product n) = of.Product 0
 nameless (of.Sum n) = of.Sum 0
 nameless (of.Choice n) = of.Choice 0
@@ -94,29 +95,18 @@ nameless (of.Clip n) = of.Clip 0
 nameless (of.Divide n) = of.Divide 0
 nameless change = change
 
+abbrev pub register_of : Change → ℕ
+register_of (of.Register n) = n
+register_of (of.Product n) = n
+register_of (of.Sum n) = n
+register_of (of.Choice n) = n
+register_of (of.Clip n) = n
+register_of (of.Divide n) = n
+register_of _ = 0
+
 -- a record after it was told of a change
 unfoldable pub change_saved : Change → State → Saved → Saved
 change_saved change s r = values_saved change s (record r { pc = s.pc; change = nameless change })
-
--- the register vd of a computing row; the row that stands at a place
-abbrev pub vd_of : Inst → ℕ
-vd_of (Multiply row f) = f.vd
-vd_of (Round row f) = f.vd
-vd_of (MpegMultiply row f) = f.vd
-vd_of (VectorAdd row f) = f.vd
-vd_of (VectorSelect row f) = f.vd
-vd_of (VectorClip row f) = f.vd
-vd_of (VectorMerge f) = f.vd
-vd_of (VectorLogic row f) = f.vd
-vd_of (Divide row vd lane vt e) = vd
-vd_of _ = 0
-
-abbrev pub vd_in : Option Inst → ℕ
-vd_in None = 0
-vd_in (Some i) = vd_of i
-
-abbrev pub vd_at : ℕ → State → ℕ
-vd_at pc s = vd_in (inst_of (word_at s.imem pc))
 
 -- what a jump or a branch changes: the register that it links
 abbrev pub sign_change : SignRow → Change
@@ -181,6 +171,14 @@ change_of (VectorLoad row f) s = loaded_change row f.vt
 change_of (VectorStore row f) s =
     of.Bytes (window_of row (transfer_address (VectorStore row f) (register s.registers f.base)))
 
+-- the register that is left out of the change of the row at a place
+abbrev pub register_by : Option Inst → State → ℕ
+register_by None s = 0
+register_by (Some i) s = register_of (change_of i s)
+
+abbrev pub register_at : ℕ → State → ℕ
+register_at pc s = register_by (inst_of (word_at s.imem pc)) s
+
 -- A saver after a step: it is told what the instruction changes, where there is one.
 abbrev pub told_by : {K : Type 0} → (Change → State → K → K) → Option Inst → State → K → K
 told_by saves None s k = k
@@ -222,11 +220,11 @@ may_store r = changes_memory r.change
 
 -- the vector register of a computing row and the accumulators, written back
 abbrev pub with_product : Saved → State → State
-with_product r s = record s { vectors = with_vector s.vectors (vd_at r.pc s) r.vector; accumulators = r.accumulators }
+with_product r s = record s { vectors = with_vector s.vectors (register_at r.pc s) r.vector; accumulators = r.accumulators }
 
 -- what was changed, written back
 unfoldable pub restored : Change → Saved → State → State
-restored (of.Register n) r s = record s { registers = with_register s.registers n r.word }
+restored (of.Register n) r s = record s { registers = with_register s.registers (register_at r.pc s) r.word }
 restored (of.Bytes a) r s = record s { dmem = with_bytes s.dmem a r.bytes }
 restored (of.Vector n) r s = record s { vectors = with_vector s.vectors n r.vector }
 restored (of.Group n) r s = record s { vectors = with_group s.vectors n r.vectors }

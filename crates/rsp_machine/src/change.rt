@@ -2,8 +2,9 @@
 
 ghost use Rattle.std.specs.Prelude.{◌≡◌, ◌<◌};
 ghost use Rattle.rsp_decode.specs.Table.{IsInstruction};
-ghost use Rattle.rsp_machine.specs.Saved.{sign_change, jump_change, loaded_change, vector_move_change, control_move_change, sp_move_change, nameless, vd_of};
+ghost use Rattle.rsp_machine.specs.Saved.{sign_change, jump_change, loaded_change, vector_move_change, control_move_change, sp_move_change, nameless, register_of, change_of};
 ghost use Rattle.rsp_machine.specs.Changes.{IsChange, reaches_sp};
+ghost use Rattle.rsp_machine.specs.State.{State};
 
 use rsp_decode::{Inst, JumpRow, MoveRow, SignRow, VectorLoadRow};
 
@@ -40,7 +41,7 @@ pub(crate) enum Change {
 }
 
 impl Change {
-    /// The change as a record has it, without the register that a computing row writes: its word, in IMEM, names that.
+    /// The change as a record has it, without the register that [`register_of`] finds again by the row's word in IMEM.
     #[inline(always)]
     pub(crate) fn nameless(self) -> Change
         requires { IsChange self }
@@ -48,6 +49,7 @@ impl Change {
         ensures change { IsChange result }
     {
         match self {
+            Change::Register(_) => Change::Register(0),
             Change::Product(_) => Change::Product(0),
             Change::Sum(_) => Change::Sum(0),
             Change::Choice(_) => Change::Choice(0),
@@ -66,13 +68,31 @@ impl Change {
     }
 }
 
-/// The register that a computing row writes; 0 for any other row.
-pub(crate) fn vd_of(inst: &Inst) -> u8
+/// The number, below 32, of the register that [`Change::nameless`] leaves out of what a row changes; 0 where it leaves out
+/// none.
+#[tactic(auto, unfolding(crate::specs::Saved::change_of))]
+pub(crate) fn register_of(inst: &Inst) -> u8
     requires { IsInstruction inst.now }
-    ensures value { result ≡ vd_of inst.now }
+    ensures value { (s : State) → result ≡ register_of (change_of inst.now s) }
     ensures bound { result < 32 }
 {
     match *inst {
+        Inst::Shift { rd, .. } | Inst::JumpLinkRegister { rd, .. } => rd,
+        Inst::ShiftBy { fields, .. } | Inst::Register { fields, .. } => fields.rd,
+        Inst::Immediate { rt, .. } | Inst::LoadUpper { rt, .. } => rt,
+        Inst::MoveVector { row, rt, .. } | Inst::MoveControl { row, rt, .. } => match row {
+            MoveRow::From => rt,
+            MoveRow::To => 0,
+        },
+        Inst::Load { fields, .. } => fields.rt,
+        Inst::BranchSign {
+            row: SignRow::Bltzal | SignRow::Bgezal,
+            ..
+        }
+        | Inst::Jump {
+            row: JumpRow::Jal,
+            ..
+        } => 31,
         Inst::Multiply { fields, .. }
         | Inst::Round { fields, .. }
         | Inst::MpegMultiply { fields, .. }

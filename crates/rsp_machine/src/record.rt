@@ -2,15 +2,15 @@
 
 ghost use Rattle.std.specs.Prelude.{◌≡◌, ◌<◌, ◌≤◌, ◌%◌};
 ghost use Rattle.rsp_decode.specs.declared.inst.Inst.{Inst};
-ghost use Rattle.rsp_scalar.specs.Registers.{register};
+ghost use Rattle.rsp_scalar.specs.Registers.{register, with_register};
 ghost use Rattle.rsp_scalar.specs.Rows.{address};
 ghost use Rattle.rsp_loadstore.specs.File.{vector};
 ghost use Rattle.rsp_loadstore.specs.Addresses.{transfer_address};
 ghost use Rattle.rsp_loadstore.specs.Reach.{window_of};
 ghost use Rattle.rsp_machine.specs.declared.change.Change.TheVariants as change;
-ghost use Rattle.rsp_machine.specs.Saved.{blank, is_back, may_store, group_at, with_group, vd_at, with_product, with_vco, undone};
+ghost use Rattle.rsp_machine.specs.Saved.{blank, is_back, may_store, group_at, with_group, register_at, with_product, with_vco, undone};
 
-use crate::change::{Change, vd_of};
+use crate::change::{Change, register_of};
 use crate::machine::Machine;
 use crate::place::Place;
 use crate::visits::Saver;
@@ -218,7 +218,7 @@ impl<A: Acc> Machine<A> {
     {
         match saved.change {
             Change::Places => (),
-            Change::Register(n) => self.regs.set(n as u8, saved.word),
+            Change::Register(_) => self.put_register(saved),
             Change::Bytes(a) => self.dmem.set_bytes(a, &saved.bytes),
             Change::Vector(n) => self.vregs.set_reg(n as u8, saved.vector),
             Change::Group(n) => self.put_group(n as u8, &saved.vectors),
@@ -248,11 +248,19 @@ impl<A: Acc> Machine<A> {
         self.take_back(saved.pc);
     }
 
+    /// Writes back a scalar register.
+    fn put_register(&mut self, saved: &Record)
+        ensures { self.new ≡ record self.old { registers = with_register self.old.registers (register_at saved.now.pc self.old) saved.now.word } }
+    {
+        let n = self.register_at(saved.pc);
+        self.regs.set(n, saved.word);
+    }
+
     /// Writes back the vector register of a computing row and the accumulators.
     fn put_product(&mut self, saved: &Record)
         ensures { self.new ≡ with_product saved.now self.old }
     {
-        let vd = self.vd_at(saved.pc);
+        let vd = self.register_at(saved.pc);
         self.vregs.set_reg(vd, saved.vector);
         self.acc.replace(&saved.accumulators);
     }
@@ -266,13 +274,13 @@ impl<A: Acc> Machine<A> {
         self.flags.differ = saved.flags.differ;
     }
 
-    /// The register that the computing row at a place writes; 0 where no such row stands there.
-    fn vd_at(&self, place: Place) -> u8
-        ensures value { result ≡ vd_at place self.now }
+    /// The number of the register that a record leaves out of what the row at a place changes; 0 where it leaves out none.
+    fn register_at(&self, place: Place) -> u8
+        ensures value { result ≡ register_at place self.now }
         ensures bound { result < 32 }
     {
         match decode(self.imem.aligned_word(place.get())) {
-            Some(inst) => vd_of(&inst),
+            Some(inst) => register_of(&inst),
             None => 0,
         }
     }
