@@ -4,3 +4,4 @@ pub mod Clamps
 pub mod Fill
 pub mod Range
 pub mod Rejoined
+pub mod Lows

@@ -7,7 +7,7 @@ use Rattle.rsp_numbers.specs.Numbers.{number, IsNumber, AreNumbers, join, high, 
 use Rattle.rsp_acc.specs.Planes.{joined}
 use Rattle.rsp_acc.proofs.Fill.{with_low_is}
 
-low_below : (z : ℤ) → low z < 65536
+pub low_below : (z : ℤ) → low z < 65536
 unfolding low
 low_below (pos n) = omega arith
 low_below (negsuc n) = omega arith
@@ -15,7 +15,7 @@ low_below (negsuc n) = omega arith
 rest_again : (z : ℤ) → (z -ℤ pos (modulo z 65536)) +ℤ pos (modulo z 65536) ≡ z
 rest_again z = omega (arith, ints)
 
-parts_again : (z : ℤ) → IsNumber z → join (high z) (middle z) (low z) ≡ z
+pub parts_again : (z : ℤ) → IsNumber z → join (high z) (middle z) (low z) ≡ z
 unfolding low
 parts_again z h = with_low_is z (low z) h (low_below z) ∙ rest_again z
 

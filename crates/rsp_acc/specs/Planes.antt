@@ -28,3 +28,7 @@ middle_plane xs = map middle xs
 
 abbrev pub low_plane : List ℤ → List ℕ
 low_plane xs = map low xs
+
+-- the low sixteen bits of each of eight accumulators
+abbrev pub low_lanes : List ℤ → List ℕ
+low_lanes xs = each_lane (λ i. low (number xs i))

@@ -1,7 +1,7 @@
 ghost use Rattle.std.specs.Prelude.{◌≡◌, pos};
 ghost use Rattle.rsp_lanes.specs.Lanes.{each_lane, IsVector};
 ghost use Rattle.rsp_numbers.specs.Numbers.{AreNumbers};
-ghost use Rattle.rsp_acc.specs.Planes.{joined, wrapped_sums};
+ghost use Rattle.rsp_acc.specs.Planes.{joined, wrapped_sums, low_lanes, with_low};
 
 use crate::{Acc, Part};
 use rsp_lanes::{Mask8, VReg, u16x8};
@@ -89,6 +89,22 @@ impl Addends {
             VReg::from_simd(self.middle),
             VReg::from_simd(self.low),
         )
+    }
+
+    /// The low sixteen bits of each number.
+    #[inline(always)]
+    pub fn low(&self) -> VReg
+        ensures { result ≡ low_lanes self.now }
+    {
+        VReg::from_simd(self.low)
+    }
+
+    /// Writes the low sixteen bits of each number. The high and middle ones are kept.
+    #[inline(always)]
+    pub fn set_low(&mut self, low: &VReg)
+        ensures { self.new ≡ with_low self.old low.now }
+    {
+        self.low = low.to_simd();
     }
 
     /// The sums with the other numbers, modulo 2^48, as signed numbers.

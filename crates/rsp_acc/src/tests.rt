@@ -60,3 +60,12 @@ fn whole_numbers_meet_the_worked_sums(rt: HostRuntime) {
 fn planes_meet_the_worked_sums(rt: HostRuntime) {
     worked_sums::<PlaneAcc>(&rt);
 }
+
+#[test]
+fn writes_low_parts_alone(rt: HostRuntime) {
+    let mut numbers = addends(0xbffd, 0x0003, 0x0000);
+    numbers.set_low(&VReg::splat(0x1234));
+    assert_eq!(rt; numbers.low(), VReg::splat(0x1234));
+    let (high, middle, low) = numbers.planes();
+    assert_eq!(rt; [high, middle, low], splats(0xbffd, 0x0003, 0x1234));
+}
