@@ -15,8 +15,7 @@ use Rattle.rsp_machine.specs.declared.step.StepEnd.{StepEnd}
 use Rattle.rsp_machine.specs.Transfers.{starts_dma_in, starts_dma_at}
 use Rattle.rsp_machine.specs.declared.change.Change.TheVariants as of
 use Rattle.rsp_machine.specs.Saved.{Saved, change_of, change_saved, told_by, told_of, record_after, starts_dma, is_length, is_back_by, can_undo, may_store, undone}
-use Rattle.rsp_machine.specs.Changes.{reaches_sp}
-use Rattle.rsp_machine.proofs.Flagging.{AreFlags}
+use Rattle.rsp_machine.specs.Changes.{reaches_sp, IsRanged}
 use Rattle.rsp_machine.proofs.Saving.{record_back, memory_stays}
 
 -- whether an instruction, where there is one, reaches the SP registers; and the state after it
@@ -186,8 +185,8 @@ pub undo_reserved : (w : ℕ) (s : State) → s.sp.halted ≡ false → w ≡ wo
 unfolding can_undo
 undo_reserved w s h e r = rw (← e) (undo_running s.sp.halted (inst_of w) h ∙ no_way (inst_of w) s (sym r))
 
-pub back : (s t : State) (r q : Saved) → AreFlags s.flags → q ≡ record_after s r → t ≡ (step_of s).1 → can_undo s ≡ true → undone q t ≡ s
-back s t r q flags same there u = rw (same, there) (record_back s r flags u)
+pub back : (s t : State) (r q : Saved) → IsRanged s → q ≡ record_after s r → t ≡ (step_of s).1 → can_undo s ≡ true → undone q t ≡ s
+back s t r q ranged same there u = rw (same, there) (record_back s r ranged u)
 
 pub memory : (s t : State) (r q : Saved) → q ≡ record_after s r → t ≡ (step_of s).1 → (step_of s).0 ≡ Done → may_store q ≡ false → t.dmem ≡ s.dmem
 memory s t r q same there e none = ap (λ (x : State). x.dmem) there ∙ memory_stays s r e (ap may_store (sym same) ∙ none)

@@ -17,6 +17,7 @@ use Rattle.rsp_scalar.specs.Rows.{address}
 use Rattle.rsp_scalar.specs.Flow.{linked, going_on}
 use Rattle.rsp_rows.specs.declared.vector.Control.{Control}
 use Rattle.rsp_decode.specs.Table.{inst_of}
+use Rattle.rsp_acc.specs.Planes.{with_low}
 use Rattle.rsp_loadstore.specs.File.{vector, with_vector}
 use Rattle.rsp_loadstore.specs.Addresses.{transfer_address}
 use Rattle.rsp_loadstore.specs.Loads.{loaded_file}
@@ -31,11 +32,12 @@ use Rattle.rsp_machine.specs.Step.{computes, loads, stores, jumps, break_instruc
 use Rattle.rsp_machine.specs.Host.{register_written}
 use Rattle.rsp_machine.specs.declared.step.StepEnd.TheVariants.{Done, Halted, Reserved}
 use Rattle.rsp_machine.specs.Saved.{Saved, change_saved, values_saved, restored, change_of, register_of, register_by, undone, starts_dma, is_length, sign_change, jump_change, told_of, may_store, group_at, with_group, is_back_by, can_undo, record_after, is_back}
-use Rattle.rsp_machine.specs.Changes.{saved_of, saved_by}
+use Rattle.rsp_machine.specs.Changes.{saved_of, saved_by, IsRanged}
 use Rattle.rsp_machine.specs.declared.change.Change.TheVariants as of
 use Rattle.rsp_machine.proofs.Undoing.{register-back, vector-back, store-back}
 use Rattle.rsp_machine.proofs.Loading.{loaded-back, put_back}
-use Rattle.rsp_machine.proofs.Flagging.{AreFlags, sum-back, merge-back, choice-back, logic-back}
+use Rattle.rsp_machine.proofs.Flagging.{sum-back, merge-back, choice-back, logic-back}
+use Rattle.rsp_machine.proofs.Lows.{LeadsBack, add_low, select_low, merge_low, clip_low, logic_low, rule-back, divide-back}
 
 -- the state with its parts given back
 same_state : (s : State) (r : List ℕ) (v : List (List ℕ)) (x : List ℤ) (f : Flags) (d : Divider) (m i q : List ℕ) → s.sp.halted ≡ false
@@ -95,34 +97,37 @@ product_saved : (n : ℕ) (v : List ℕ) (x : List ℤ) (s : State) (r : Saved) 
 unfolding undone change_saved values_saved restored after_step
 product_saved n v x s r w h = vectors_same s _ h (computed-back s.vectors n _ v (w _))
 
--- where some flags are written back, the others are those before
-flags_same : (s : State) (v : List (List ℕ)) (f : Flags) → s.sp.halted ≡ false → v ≡ s.vectors → f ≡ s.flags → record s { vectors = v; flags = f; sp = record s.sp { halted = false } } ≡ s
-flags_same s v f h e k = same_state s _ v _ f _ _ _ _ h refl e refl k refl refl refl refl
+-- where the low accumulators and some flags are written back, the others are those before
+lanes_same : (s : State) (v : List (List ℕ)) (x : List ℤ) (f : Flags) → s.sp.halted ≡ false → v ≡ s.vectors → x ≡ s.accumulators → f ≡ s.flags
+    → record s { vectors = v; accumulators = x; flags = f; sp = record s.sp { halted = false } } ≡ s
+lanes_same s v x f h e b k = same_state s _ v x f _ _ _ _ h refl e b k refl refl refl refl
 
-sum_saved : (n : ℕ) (v : List ℕ) (x : List ℤ) (f : Flags) (s : State) (r : Saved) → Tells n s → s.sp.halted ≡ false → record f { carry = s.flags.carry; differ = s.flags.differ } ≡ s.flags
-    → undone (change_saved (of.Sum n) s r) (singled (advanced (record s { vectors = with_vector s.vectors n v; accumulators = x; flags = f }))) ≡ s
+sum_saved : (n : ℕ) (v l : List ℕ) (f : Flags) (s : State) (r : Saved) → Tells n s → s.sp.halted ≡ false → LeadsBack s r.accumulators l
+    → record f { carry = s.flags.carry; differ = s.flags.differ } ≡ s.flags
+    → undone (change_saved (of.Sum n) s r) (singled (advanced (record s { vectors = with_vector s.vectors n v; accumulators = with_low s.accumulators l; flags = f }))) ≡ s
 unfolding undone change_saved values_saved restored after_step
-sum_saved n v x f s r w h e = flags_same s _ _ h (computed-back s.vectors n _ v (w _)) e
+sum_saved n v l f s r w h b e = lanes_same s _ _ _ h (computed-back s.vectors n _ v (w _)) b e
 
-choice_saved : (n : ℕ) (v : List ℕ) (x : List ℤ) (f : Flags) (s : State) (r : Saved) → Tells n s → s.sp.halted ≡ false → record s.flags { extra = f.extra } ≡ s.flags
-    → undone (change_saved (of.Choice n) s r) (singled (advanced (record s { vectors = with_vector s.vectors n v; accumulators = x; flags = f }))) ≡ s
+choice_saved : (n : ℕ) (v l : List ℕ) (f : Flags) (s : State) (r : Saved) → Tells n s → s.sp.halted ≡ false → LeadsBack s r.accumulators l
+    → record s.flags { extra = f.extra } ≡ s.flags
+    → undone (change_saved (of.Choice n) s r) (singled (advanced (record s { vectors = with_vector s.vectors n v; accumulators = with_low s.accumulators l; flags = f }))) ≡ s
 unfolding undone change_saved values_saved restored after_step
-choice_saved n v x f s r w h e = flags_same s _ _ h (computed-back s.vectors n _ v (w _)) e
+choice_saved n v l f s r w h b e = lanes_same s _ _ _ h (computed-back s.vectors n _ v (w _)) b e
 
-clip_saved : (n : ℕ) (v : List ℕ) (x : List ℤ) (f : Flags) (s : State) (r : Saved) → Tells n s → s.sp.halted ≡ false
-    → undone (change_saved (of.Clip n) s r) (singled (advanced (record s { vectors = with_vector s.vectors n v; accumulators = x; flags = f }))) ≡ s
+clip_saved : (n : ℕ) (v l : List ℕ) (f : Flags) (s : State) (r : Saved) → Tells n s → s.sp.halted ≡ false → LeadsBack s r.accumulators l
+    → undone (change_saved (of.Clip n) s r) (singled (advanced (record s { vectors = with_vector s.vectors n v; accumulators = with_low s.accumulators l; flags = f }))) ≡ s
 unfolding undone change_saved values_saved restored after_step
-clip_saved n v x f s r w h = vectors_same s _ h (computed-back s.vectors n _ v (w _))
+clip_saved n v l f s r w h b = lanes_same s _ _ _ h (computed-back s.vectors n _ v (w _)) b refl
 
-logic_saved : (n : ℕ) (v : List ℕ) (x : List ℤ) (f : Flags) (s : State) (r : Saved) → Tells n s → s.sp.halted ≡ false → f ≡ s.flags
-    → undone (change_saved (of.Product n) s r) (singled (advanced (record s { vectors = with_vector s.vectors n v; accumulators = x; flags = f }))) ≡ s
+logic_saved : (n : ℕ) (v l : List ℕ) (f : Flags) (s : State) (r : Saved) → Tells n s → s.sp.halted ≡ false → LeadsBack s r.accumulators l → f ≡ s.flags
+    → undone (change_saved (of.Low n) s r) (singled (advanced (record s { vectors = with_vector s.vectors n v; accumulators = with_low s.accumulators l; flags = f }))) ≡ s
 unfolding undone change_saved values_saved restored after_step
-logic_saved n v x f s r w h e = flags_same s _ _ h (computed-back s.vectors n _ v (w _)) e
+logic_saved n v l f s r w h b e = lanes_same s _ _ _ h (computed-back s.vectors n _ v (w _)) b e
 
-divide_saved : (n : ℕ) (v : List ℕ) (x : List ℤ) (d : Divider) (s : State) (r : Saved) → Tells n s → s.sp.halted ≡ false
-    → undone (change_saved (of.Divide n) s r) (singled (advanced (record s { vectors = with_vector s.vectors n v; accumulators = x; divider = d }))) ≡ s
+divide_saved : (n : ℕ) (v l : List ℕ) (d : Divider) (s : State) (r : Saved) → Tells n s → s.sp.halted ≡ false → LeadsBack s r.accumulators l
+    → undone (change_saved (of.Divide n) s r) (singled (advanced (record s { vectors = with_vector s.vectors n v; accumulators = with_low s.accumulators l; divider = d }))) ≡ s
 unfolding undone change_saved values_saved restored after_step
-divide_saved n v x d s r w h = vectors_same s _ h (computed-back s.vectors n _ v (w _))
+divide_saved n v l d s r w h b = lanes_same s _ _ _ h (computed-back s.vectors n _ v (w _)) b refl
 
 flags_saved : (f : Flags) (s : State) (r : Saved) → s.sp.halted ≡ false
     → undone (change_saved of.Flags s r) (singled (advanced (record s { flags = f }))) ≡ s
@@ -204,7 +209,7 @@ control_move_saved From rt control s r o h = register_saved rt _ (going_on s.npc
 control_move_saved To rt control s r o h = flags_saved _ s r h
 
 -- any instruction that starts no DMA
-saved_back : (i : Inst) (s : State) (r : Saved) → starts_dma i ≡ false → s.sp.halted ≡ false → AreFlags s.flags → inst_of (word_at s.imem s.pc) ≡ Some i → undone (saved_of i s r) (singled (executed i s)) ≡ s
+saved_back : (i : Inst) (s : State) (r : Saved) → starts_dma i ≡ false → s.sp.halted ≡ false → IsRanged s → inst_of (word_at s.imem s.pc) ≡ Some i → undone (saved_of i s r) (singled (executed i s)) ≡ s
 unfolding change_of executed worked computes loads stores jumps break_instruction multiplies rounds multiplies_mpeg reads_accumulator ruled divides loads_vector stores_vector loaded_file stored_memory
 saved_back (Shift row rd rt amount) s r e h k o = register_saved rd _ (going_on s.npc) s r (told s o) h
 saved_back (ShiftBy row f) s r e h k o = register_saved f.rd _ (going_on s.npc) s r (told s o) h
@@ -226,12 +231,12 @@ saved_back (Multiply row f) s r e h k o = product_saved f.vd _ _ s r (told s o) 
 saved_back (Round row f) s r e h k o = product_saved f.vd _ _ s r (told s o) h
 saved_back (MpegMultiply row f) s r e h k o = product_saved f.vd _ _ s r (told s o) h
 saved_back (ReadAccumulator f) s r e h k o = vector_saved f.vd _ s r h
-saved_back (VectorAdd row f) s r e h k o = sum_saved f.vd _ _ _ s r (told s o) h (sum-back row _ _ s.flags k)
-saved_back (VectorSelect row f) s r e h k o = choice_saved f.vd _ _ _ s r (told s o) h (choice-back row _ _ s.flags k)
-saved_back (VectorClip row f) s r e h k o = clip_saved f.vd _ _ _ s r (told s o) h
-saved_back (VectorMerge f) s r e h k o = sum_saved f.vd _ _ _ s r (told s o) h (merge-back _ _ s.flags k)
-saved_back (VectorLogic row f) s r e h k o = logic_saved f.vd _ _ _ s r (told s o) h (logic-back row _ _ s.flags k)
-saved_back (Divide row vd lane vt n) s r e h k o = divide_saved vd _ _ _ s r (told s o) h
+saved_back (VectorAdd row f) s r e h k o = sum_saved f.vd _ _ _ s r (told s o) h (rule-back _ (add_low row) s r.accumulators f.vs f.vt f.element k) (sum-back row _ _ s.flags k.flags)
+saved_back (VectorSelect row f) s r e h k o = choice_saved f.vd _ _ _ s r (told s o) h (rule-back _ (select_low row) s r.accumulators f.vs f.vt f.element k) (choice-back row _ _ s.flags k.flags)
+saved_back (VectorClip row f) s r e h k o = clip_saved f.vd _ _ _ s r (told s o) h (rule-back _ (clip_low row) s r.accumulators f.vs f.vt f.element k)
+saved_back (VectorMerge f) s r e h k o = sum_saved f.vd _ _ _ s r (told s o) h (rule-back _ merge_low s r.accumulators f.vs f.vt f.element k) (merge-back _ _ s.flags k.flags)
+saved_back (VectorLogic row f) s r e h k o = logic_saved f.vd _ _ _ s r (told s o) h (rule-back _ (logic_low row) s r.accumulators f.vs f.vt f.element k) (logic-back row _ _ s.flags k.flags)
+saved_back (Divide row vd lane vt n) s r e h k o = divide_saved vd _ _ _ s r (told s o) h (divide-back s r.accumulators vt n k)
 saved_back (Idle row) s r e h k o = places_saved _ s r h
 saved_back (VectorLoad row f) s r e h k o =
     load_saved (writes_group row) f.vt _ s r h (loaded-back row s.dmem s.vectors f.vt f.element (transfer_address (VectorLoad row f) (register s.registers f.base)))
@@ -244,16 +249,16 @@ not_true : (b : Bool) → not b ≡ true → b ≡ false
 not_true false e = refl
 not_true true e = cc
 
-word_back : (o : Option Inst) (word : ℕ) (s : State) (r : Saved) → inst_of (word_at s.imem s.pc) ≡ o → s.sp.halted ≡ false → AreFlags s.flags → is_back_by o ≡ true → undone (saved_by o s r) (step_by o word s).1 ≡ s
+word_back : (o : Option Inst) (word : ℕ) (s : State) (r : Saved) → inst_of (word_at s.imem s.pc) ≡ o → s.sp.halted ≡ false → IsRanged s → is_back_by o ≡ true → undone (saved_by o s r) (step_by o word s).1 ≡ s
 word_back None word s r w h k e = cc
 word_back (Some i) word s r w h k e = saved_back i s r (not_true (starts_dma i) e) h k w
 
-either_back : (b : Bool) (o : Option Inst) (word : ℕ) (s : State) (r : Saved) → inst_of (word_at s.imem s.pc) ≡ o → s.sp.halted ≡ b → AreFlags s.flags → (if b then false else is_back_by o) ≡ true
+either_back : (b : Bool) (o : Option Inst) (word : ℕ) (s : State) (r : Saved) → inst_of (word_at s.imem s.pc) ≡ o → s.sp.halted ≡ b → IsRanged s → (if b then false else is_back_by o) ≡ true
     → undone (if b then r else saved_by o s r) (if b then (Halted, s) else step_by o word s).1 ≡ s
 either_back true o word s r w h k e = cc
 either_back false o word s r w h k e = word_back o word s r w h k e
 
-pub record_back : (s : State) (r : Saved) → AreFlags s.flags → can_undo s ≡ true → undone (record_after s r) (step_of s).1 ≡ s
+pub record_back : (s : State) (r : Saved) → IsRanged s → can_undo s ≡ true → undone (record_after s r) (step_of s).1 ≡ s
 unfolding can_undo record_after told_of step_of
 record_back s r k e = either_back s.sp.halted (inst_of (word_at s.imem s.pc)) (word_at s.imem s.pc) s r refl refl k e
 

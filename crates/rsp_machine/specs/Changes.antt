@@ -1,6 +1,9 @@
 -- Scaffolding of proofs: what the code asks of a change. Saved has the meaning.
-use Rattle.std.specs.Prelude.{ℕ, ◌+◌, ◌<◌, Bool, true, false, Option}
+use Rattle.std.specs.Prelude.{ℕ, ◌+◌, ◌<◌, ◌≡◌, Bool, true, false, Option}
 use Rattle.rsp_decode.specs.declared.inst.Inst.{Inst}
+use Rattle.rsp_numbers.specs.Numbers.{AreNumbers}
+use Rattle.rsp_lanes.specs.Flags.{flags_at, all_flags}
+use Rattle.rsp_loadstore.specs.File.{IsFile}
 use Rattle.rsp_machine.specs.State.{State}
 use Rattle.rsp_machine.specs.Saved.{Saved, change_of, change_saved, told_by}
 use Rattle.rsp_machine.specs.declared.change.Change.{Change}
@@ -12,6 +15,7 @@ last_register (of.Register n) = n
 last_register (of.Vector n) = n
 last_register (of.Group n) = n + 7
 last_register (of.Product n) = n
+last_register (of.Low n) = n
 last_register (of.Sum n) = n
 last_register (of.Choice n) = n
 last_register (of.Clip n) = n
@@ -21,6 +25,12 @@ last_register _ = 0
 
 abbrev pub IsChange : Change → Type 0
 IsChange change = last_register change < 32
+
+-- the ranges of the vector unit: what a record leads back to depends on them
+pub record IsRanged (s : State) : Type 0 where
+  pub vectors : IsFile s.vectors
+  pub accumulators : AreNumbers s.accumulators
+  pub flags : s.flags ≡ all_flags (flags_at s.flags)
 
 -- whether an instruction with a change may have read or written the SP registers; any other leaves them
 abbrev pub reaches_sp : Change → Bool

@@ -13,6 +13,7 @@ use Rattle.rsp_decode.specs.Table.{inst_of}
 use Rattle.rsp_lanes.specs.Lanes.{each_lane}
 use Rattle.rsp_lanes.specs.declared.flags.Flags.{Flags}
 use Rattle.rsp_lanes.specs.Flags.{no_flags}
+use Rattle.rsp_acc.specs.Planes.{with_low, low_lanes}
 use Rattle.rsp_divide.specs.declared.divider.Divider.{Divider}
 use Rattle.rsp_divide.specs.Dividers.{no_divider}
 use Rattle.rsp_memory.specs.Memory.{word_at, bytes_at, with_bytes}
@@ -34,7 +35,7 @@ pub record Saved : Type 0 where
   pub bytes : List ℕ
   pub vector : List ℕ
   pub vectors : List (List ℕ)
-  pub accumulators : List ℤ
+  pub accumulators : List ℤ  -- of a row that writes the low accumulators alone, their low sixteen bits
   pub flags : Flags
   pub divider : Divider
   pub sp : Sp
@@ -70,6 +71,10 @@ with_vco old f = record f { carry = old.carry; differ = old.differ }
 abbrev pub with_vco_and_vcc : Flags → Flags → Flags
 with_vco_and_vcc old f = record (with_vco old f) { compare = old.compare; clip = old.clip }
 
+-- accumulators whose low sixteen bits are those of `old`
+abbrev pub with_low_of : List ℤ → List ℤ → List ℤ
+with_low_of old xs = with_low xs (low_lanes old)
+
 -- a record after it has saved the values that a change will write over
 unfoldable pub values_saved : Change → State → Saved → Saved
 values_saved (of.Register n) s r = record r { word = register s.registers n }
@@ -77,10 +82,11 @@ values_saved (of.Bytes a) s r = record r { bytes = bytes_at s.dmem a 16 }
 values_saved (of.Vector n) s r = record r { vector = vector s.vectors n }
 values_saved (of.Group n) s r = record r { vectors = group_at s.vectors n }
 values_saved (of.Product n) s r = record r { vector = vector s.vectors n; accumulators = s.accumulators }
-values_saved (of.Sum n) s r = record r { vector = vector s.vectors n; accumulators = s.accumulators; flags = with_vco s.flags r.flags }
-values_saved (of.Choice n) s r = record r { vector = vector s.vectors n; accumulators = s.accumulators; flags = with_vco_and_vcc s.flags r.flags }
-values_saved (of.Clip n) s r = record r { vector = vector s.vectors n; accumulators = s.accumulators; flags = s.flags }
-values_saved (of.Divide n) s r = record r { vector = vector s.vectors n; accumulators = s.accumulators; divider = s.divider }
+values_saved (of.Low n) s r = record r { vector = vector s.vectors n; accumulators = with_low_of s.accumulators r.accumulators }
+values_saved (of.Sum n) s r = record r { vector = vector s.vectors n; accumulators = with_low_of s.accumulators r.accumulators; flags = with_vco s.flags r.flags }
+values_saved (of.Choice n) s r = record r { vector = vector s.vectors n; accumulators = with_low_of s.accumulators r.accumulators; flags = with_vco_and_vcc s.flags r.flags }
+values_saved (of.Clip n) s r = record r { vector = vector s.vectors n; accumulators = with_low_of s.accumulators r.accumulators; flags = s.flags }
+values_saved (of.Divide n) s r = record r { vector = vector s.vectors n; accumulators = with_low_of s.accumulators r.accumulators; divider = s.divider }
 values_saved of.Flags s r = record r { flags = s.flags }
 values_saved (of.Sp n) s r = record r { word = register s.registers n; sp = s.sp }
 values_saved _ s r = r
@@ -89,6 +95,7 @@ values_saved _ s r = r
 abbrev pub nameless : Change → Change
 nameless (of.Register n) = of.Register 0
 nameless (of.Product n) = of.Product 0
+nameless (of.Low n) = of.Low 0
 nameless (of.Sum n) = of.Sum 0
 nameless (of.Choice n) = of.Choice 0
 nameless (of.Clip n) = of.Clip 0
@@ -98,6 +105,7 @@ nameless change = change
 abbrev pub register_of : Change → ℕ
 register_of (of.Register n) = n
 register_of (of.Product n) = n
+register_of (of.Low n) = n
 register_of (of.Sum n) = n
 register_of (of.Choice n) = n
 register_of (of.Clip n) = n
@@ -164,7 +172,7 @@ change_of (VectorAdd row f) s = of.Sum f.vd
 change_of (VectorSelect row f) s = of.Choice f.vd
 change_of (VectorClip row f) s = of.Clip f.vd
 change_of (VectorMerge f) s = of.Sum f.vd
-change_of (VectorLogic row f) s = of.Product f.vd
+change_of (VectorLogic row f) s = of.Low f.vd
 change_of (Divide row vd lane vt e) s = of.Divide vd
 change_of (Idle row) s = of.Places
 change_of (VectorLoad row f) s = loaded_change row f.vt
@@ -222,6 +230,10 @@ may_store r = changes_memory r.change
 abbrev pub with_product : Saved → State → State
 with_product r s = record s { vectors = with_vector s.vectors (register_at r.pc s) r.vector; accumulators = r.accumulators }
 
+-- and with the low accumulators alone; the row left the others
+abbrev pub with_low_part : Saved → State → State
+with_low_part r s = record s { vectors = with_vector s.vectors (register_at r.pc s) r.vector; accumulators = with_low_of r.accumulators s.accumulators }
+
 -- what was changed, written back
 unfoldable pub restored : Change → Saved → State → State
 restored (of.Register n) r s = record s { registers = with_register s.registers (register_at r.pc s) r.word }
@@ -229,10 +241,11 @@ restored (of.Bytes a) r s = record s { dmem = with_bytes s.dmem a r.bytes }
 restored (of.Vector n) r s = record s { vectors = with_vector s.vectors n r.vector }
 restored (of.Group n) r s = record s { vectors = with_group s.vectors n r.vectors }
 restored (of.Product n) r s = with_product r s
-restored (of.Sum n) r s = record (with_product r s) { flags = with_vco r.flags s.flags }
-restored (of.Choice n) r s = record (with_product r s) { flags = with_vco_and_vcc r.flags s.flags }
-restored (of.Clip n) r s = record (with_product r s) { flags = r.flags }
-restored (of.Divide n) r s = record (with_product r s) { divider = r.divider }
+restored (of.Low n) r s = with_low_part r s
+restored (of.Sum n) r s = record (with_low_part r s) { flags = with_vco r.flags s.flags }
+restored (of.Choice n) r s = record (with_low_part r s) { flags = with_vco_and_vcc r.flags s.flags }
+restored (of.Clip n) r s = record (with_low_part r s) { flags = r.flags }
+restored (of.Divide n) r s = record (with_low_part r s) { divider = r.divider }
 restored of.Flags r s = record s { flags = r.flags }
 restored (of.Sp n) r s = record s { registers = with_register s.registers n r.word; sp = r.sp }
 restored _ r s = s

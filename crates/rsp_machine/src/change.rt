@@ -24,13 +24,15 @@ pub(crate) enum Change {
     Group(u32),
     /// A vector register and the accumulators.
     Product(u32),
-    /// A vector register, the accumulators, and the flags of VCO.
+    /// A vector register and the low accumulators.
+    Low(u32),
+    /// A vector register, the low accumulators, and the flags of VCO.
     Sum(u32),
-    /// A vector register, the accumulators, and the flags of VCO and VCC.
+    /// A vector register, the low accumulators, and the flags of VCO and VCC.
     Choice(u32),
-    /// A vector register, the accumulators and all flags.
+    /// A vector register, the low accumulators and all flags.
     Clip(u32),
-    /// A vector register, the accumulators and the divider.
+    /// A vector register, the low accumulators and the divider.
     Divide(u32),
     /// The flags.
     Flags,
@@ -51,6 +53,7 @@ impl Change {
         match self {
             Change::Register(_) => Change::Register(0),
             Change::Product(_) => Change::Product(0),
+            Change::Low(_) => Change::Low(0),
             Change::Sum(_) => Change::Sum(0),
             Change::Choice(_) => Change::Choice(0),
             Change::Clip(_) => Change::Clip(0),

@@ -1,5 +1,6 @@
 ghost use Rattle.std.specs.Prelude.{◌≡◌, ◌<◌, ◌%◌};
 ghost use Rattle.rsp_machine.specs.State.{IsState, start_of};
+ghost use Rattle.rsp_machine.specs.Changes.{IsRanged};
 ghost use Rattle.rsp_scalar.specs.Registers.{register};
 ghost use Rattle.rsp_loadstore.specs.File.{vector};
 
@@ -93,6 +94,16 @@ impl<A: Acc> Machine<A> {
         self.imem.byte_ranges();
         self.rdram.byte_ranges();
         self.sp.ranges();
+    }
+
+    /// Changes nothing. It says that the vector registers, the accumulators and the flags lie in their ranges.
+    #[inline(always)]
+    pub(crate) fn vector_ranges(&self)
+        ensures { IsRanged self.now }
+    {
+        self.vregs.ranges();
+        self.acc.ranges();
+        self.flags.ranges();
     }
 
     /// The place in IMEM of the next instruction, a multiple of 4 below 4096.

@@ -4,17 +4,17 @@ ghost use Rattle.std.specs.Prelude.{◌≡◌, ◌<◌, ◌≤◌, ◌%◌};
 ghost use Rattle.rsp_decode.specs.declared.inst.Inst.{Inst};
 ghost use Rattle.rsp_scalar.specs.Registers.{register, with_register};
 ghost use Rattle.rsp_scalar.specs.Rows.{address};
-ghost use Rattle.rsp_loadstore.specs.File.{vector};
+ghost use Rattle.rsp_loadstore.specs.File.{vector, with_vector};
 ghost use Rattle.rsp_loadstore.specs.Addresses.{transfer_address};
 ghost use Rattle.rsp_loadstore.specs.Reach.{window_of};
 ghost use Rattle.rsp_machine.specs.declared.change.Change.TheVariants as change;
-ghost use Rattle.rsp_machine.specs.Saved.{blank, is_back, may_store, group_at, with_group, register_at, with_product, with_vco, undone};
+ghost use Rattle.rsp_machine.specs.Saved.{blank, is_back, may_store, group_at, with_group, register_at, with_low_of, with_product, with_low_part, with_vco, undone};
 
 use crate::change::{Change, register_of};
 use crate::machine::Machine;
 use crate::place::Place;
 use crate::visits::Saver;
-use rsp_acc::{Acc, Addends};
+use rsp_acc::{Acc, Addends, Part};
 use rsp_decode::{Inst, ScalarMemoryFields, VectorMemoryFields, VectorStoreRow, decode};
 use rsp_divide::Divider;
 use rsp_lanes::{Flags, VReg};
@@ -108,6 +108,16 @@ impl Record {
         self.accumulators = Addends::of(&machine.acc);
     }
 
+    /// Saves vector register `n` and the low accumulators.
+    #[inline(always)]
+    fn save_low<A: Acc>(&mut self, machine: &Machine<A>, n: u32)
+        requires { n < 32 }
+        ensures { self.new ≡ record self.old { vector = vector machine.now.vectors n; accumulators = with_low_of machine.now.accumulators self.old.accumulators } }
+    {
+        self.vector = machine.vregs.reg(n as u8);
+        self.accumulators.set_low(&machine.acc.part(Part::Low));
+    }
+
     /// Saves the flags of VCO.
     #[inline(always)]
     fn save_vco(&mut self, flags: &Flags)
@@ -158,22 +168,23 @@ impl Saver for Record {
             Change::Vector(n) => self.vector = machine.vregs.reg(n as u8),
             Change::Group(n) => self.save_group(&machine.vregs, n),
             Change::Product(n) => self.save_product(machine, n),
+            Change::Low(n) => self.save_low(machine, n),
             Change::Sum(n) => {
-                self.save_product(machine, n);
+                self.save_low(machine, n);
                 self.save_vco(&machine.flags);
             }
             Change::Choice(n) => {
-                self.save_product(machine, n);
+                self.save_low(machine, n);
                 self.save_vco(&machine.flags);
                 self.flags.compare = machine.flags.compare;
                 self.flags.clip = machine.flags.clip;
             }
             Change::Clip(n) => {
-                self.save_product(machine, n);
+                self.save_low(machine, n);
                 self.flags = machine.flags;
             }
             Change::Divide(n) => {
-                self.save_product(machine, n);
+                self.save_low(machine, n);
                 self.divider = machine.divider;
             }
             Change::Flags => self.flags = machine.flags,
@@ -223,6 +234,7 @@ impl<A: Acc> Machine<A> {
             Change::Vector(n) => self.vregs.set_reg(n as u8, saved.vector),
             Change::Group(n) => self.put_group(n as u8, &saved.vectors),
             Change::Product(_) => self.put_product(saved),
+            Change::Low(_) => self.put_low(saved),
             Change::Sum(_) => self.put_sum(saved),
             Change::Choice(_) => {
                 self.put_sum(saved);
@@ -230,11 +242,11 @@ impl<A: Acc> Machine<A> {
                 self.flags.clip = saved.flags.clip;
             }
             Change::Clip(_) => {
-                self.put_product(saved);
+                self.put_low(saved);
                 self.flags = saved.flags;
             }
             Change::Divide(_) => {
-                self.put_product(saved);
+                self.put_low(saved);
                 self.divider = saved.divider;
             }
             Change::Flags => self.flags = saved.flags,
@@ -256,20 +268,35 @@ impl<A: Acc> Machine<A> {
         self.regs.set(n, saved.word);
     }
 
+    /// Writes back the vector register of a computing row.
+    fn put_vector(&mut self, saved: &Record)
+        ensures { self.new ≡ record self.old { vectors = with_vector self.old.vectors (register_at saved.now.pc self.old) saved.now.vector } }
+    {
+        let vd = self.register_at(saved.pc);
+        self.vregs.set_reg(vd, saved.vector);
+    }
+
     /// Writes back the vector register of a computing row and the accumulators.
     fn put_product(&mut self, saved: &Record)
         ensures { self.new ≡ with_product saved.now self.old }
     {
-        let vd = self.register_at(saved.pc);
-        self.vregs.set_reg(vd, saved.vector);
+        self.put_vector(saved);
         self.acc.replace(&saved.accumulators);
     }
 
-    /// Writes back a vector register, the accumulators and the flags of VCO.
-    fn put_sum(&mut self, saved: &Record)
-        ensures { self.new ≡ record (with_product saved.now self.old) { flags = with_vco saved.now.flags self.old.flags } }
+    /// Writes back the vector register of a computing row and the low accumulators.
+    fn put_low(&mut self, saved: &Record)
+        ensures { self.new ≡ with_low_part saved.now self.old }
     {
-        self.put_product(saved);
+        self.put_vector(saved);
+        self.acc.set_low(&saved.accumulators.low());
+    }
+
+    /// Writes back a vector register, the low accumulators and the flags of VCO.
+    fn put_sum(&mut self, saved: &Record)
+        ensures { self.new ≡ record (with_low_part saved.now self.old) { flags = with_vco saved.now.flags self.old.flags } }
+    {
+        self.put_low(saved);
         self.flags.carry = saved.flags.carry;
         self.flags.differ = saved.flags.differ;
     }

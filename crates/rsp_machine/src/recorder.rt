@@ -49,7 +49,7 @@ impl<A: Acc> Machine<A> {
         ensures back { can_undo self.old ≡ true → undone saved.new self.new ≡ self.old }
         ensures memory { result.end ≡ StepEnd.Done → may_store saved.new ≡ false → self.new.dmem ≡ self.old.dmem }
     {
-        self.flags.ranges();
+        self.vector_ranges();
         let word = self.fetch();
         let Some(reaches_sp) = self.execute::<Record, APART>(word, saved) else {
             return Recorded {

@@ -251,7 +251,7 @@ impl<'a, A: Acc, K: Saver, const APART: bool> Visitor for Executor<'a, A, K, APA
 
     #[inline(always)]
     fn vector_logic(&mut self, row: VectorLogicRow, fields: VectorFields) {
-        self.save(Change::Product(u32::from(fields.vd)));
+        self.save(Change::Low(u32::from(fields.vd)));
         self.machine.compute_lanes(row, fields);
     }
 

@@ -1,8 +1,7 @@
-use Rattle.std.proofs.Common.{◌∙◌, ap, sym, subst}
+use Rattle.std.proofs.Common.{◌∙◌, ap, sym}
 use Rattle.rsp_decode.specs.Table.{inst_of}
 use Rattle.rsp_machine.specs.State.{State}
 use Rattle.rsp_machine.specs.Saved.{is_back}
-use Rattle.rsp_machine.proofs.Flagging.{AreFlags}
 use Rattle.rsp_machine.proofs.Saving.{done_marked}
 use Rattle.rsp_machine.proofs.Ending.{stays, free, clear_as, clear_behind, step_reserved, step_done, record_running, undo_reserved, undo_free, back, memory, halted_as}
 use Rattle.rsp_machine.proofs.machine.Machine.record_step.Goals as goal
@@ -30,8 +29,7 @@ returns-in_default-clause-which g c =
 
 pub returns-in_default-clause-back : goal.returns-in_default-clause-back
 returns-in_default-clause-back g c =
-    let flags = subst (λ (x : State). AreFlags x.flags) c.self.view_is c.ranges-2.ensures in
-    back c.args.self.now c.execute.new.self c.args.saved.now c.execute.new.saver flags (returns-in_default-clause-saved g c) (returns-in_default-clause-state g c)
+    back c.args.self.now c.execute.new.self c.args.saved.now c.execute.new.saver c.vector_ranges.ensures (returns-in_default-clause-saved g c) (returns-in_default-clause-state g c)
 
 -- an instruction that may have reached the SP registers, or a single step
 pub steps_singly-requires : goal.steps_singly-requires
@@ -41,7 +39,7 @@ steps_singly-requires g c loop =
 
 pub returns-then-reaches_sp-clause-free : goal.returns-then-reaches_sp-clause-free
 returns-then-reaches_sp-clause-free g c done goes =
-    clear_behind c.execute.new.self c.end_instruction.new.self c.end_instruction.ensures (ap (λ (x : State). x.sp.halted) (sym c.self-then-reaches_sp.view_is) ∙ sym c.halted.ensures ∙ goes)
+    clear_behind c.execute.new.self c.end_instruction.new.self c.end_instruction.ensures (ap (λ (x : State). x.sp.halted) (sym c.self.view_is) ∙ sym c.halted.ensures ∙ goes)
 
 pub returns-then-reaches_sp-clause-answer : goal.returns-then-reaches_sp-clause-answer
 returns-then-reaches_sp-clause-answer g c =
@@ -67,8 +65,7 @@ returns-then-reaches_sp-clause-which g c =
 
 pub returns-then-reaches_sp-clause-back : goal.returns-then-reaches_sp-clause-back
 returns-then-reaches_sp-clause-back g c =
-    let flags = subst (λ (x : State). AreFlags x.flags) c.self.view_is c.ranges-2.ensures in
-    back c.args.self.now c.end_instruction.new.self c.args.saved.now c.execute.new.saver flags (returns-then-reaches_sp-clause-saved g c) (returns-then-reaches_sp-clause-state g c)
+    back c.args.self.now c.end_instruction.new.self c.args.saved.now c.execute.new.saver c.vector_ranges.ensures (returns-then-reaches_sp-clause-saved g c) (returns-then-reaches_sp-clause-state g c)
 
 pub returns-then-reaches_sp-clause-memory : goal.returns-then-reaches_sp-clause-memory
 returns-then-reaches_sp-clause-memory g c end =
@@ -107,8 +104,7 @@ returns-clause-halted g c =
 
 pub returns-clause-back : goal.returns-clause-back
 returns-clause-back g c =
-    let flags = subst (λ (x : State). AreFlags x.flags) c.self.view_is c.ranges-2.ensures in
-    back c.args.self.now c.execute.new.self c.args.saved.now c.execute.new.saver flags (returns-clause-saved g c) (returns-clause-state g c)
+    back c.args.self.now c.execute.new.self c.args.saved.now c.execute.new.saver c.vector_ranges.ensures (returns-clause-saved g c) (returns-clause-state g c)
 
 pub returns-clause-memory : goal.returns-clause-memory
 returns-clause-memory g c end =
