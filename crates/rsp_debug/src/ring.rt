@@ -173,25 +173,25 @@ impl Ring {
         if n == 0 || machine.sp_regs().halted() {
             return (0, None);
         }
-        if machine.sp_regs().single_step() {
-            match self.step(machine) {
-                StepEnd::Done => {}
-                StepEnd::Halted => return (0, None),
-                StepEnd::Reserved { word: _ } => return (0, None),
-            }
-            let sought = Sought::of(breaks, snapshots);
-            if let Some(found) = hit(machine, breaks, snapshots, sought, true) {
-                return (1, Some(found));
-            }
-            let (more, found) = self.run(machine, breaks, snapshots, n - 1);
-            return (more + 1, found);
+        if !machine.sp_regs().single_step() {
+            let mut span = Span::of(self.first, self.count, self.depth, n as usize);
+            let slots = self.slots.make_contiguous();
+            let found = make_steps(machine, slots, &mut span, breaks, snapshots);
+            self.first = span.first(self.slots.len());
+            self.count = span.count();
+            return (n - span.left() as u32, found);
         }
-        let mut span = Span::of(self.first, self.count, self.depth, n as usize);
-        let slots = self.slots.make_contiguous();
-        let found = make_steps(machine, slots, &mut span, breaks, snapshots);
-        self.first = span.first(self.slots.len());
-        self.count = span.count();
-        (n - span.left() as u32, found)
+        match self.step(machine) {
+            StepEnd::Done => {}
+            StepEnd::Halted => return (0, None),
+            StepEnd::Reserved { word: _ } => return (0, None),
+        }
+        let sought = Sought::of(breaks, snapshots);
+        if let Some(found) = hit(machine, breaks, snapshots, sought, true) {
+            return (1, Some(found));
+        }
+        let (more, found) = self.run(machine, breaks, snapshots, n - 1);
+        (more + 1, found)
     }
 
     /// Goes back by the newest record, which leaves.

@@ -97,8 +97,8 @@ returns-in-Some-clause-last g t c free =
     (hit-first c.args.breaks.now c.args.snapshots.now s u c.hit.result there c.requires c.hit.ensures ∙ c.in-Some.is) free
 
 -- or the run goes on behind it
-pub returns-then-single_step-clause-after : goal.returns-then-single_step-clause-after
-returns-then-single_step-clause-after g t c =
+pub returns-clause-after : goal.returns-clause-after
+returns-clause-after g t c =
     let s = c.args.machine.now in let u = c.step.new.machine in let there = c.step.ensures.state in
     let before = states_before s c.args.self.now.newest in let past = states_before u c.step.new.self.newest in
     let b = c.args.breaks.now in let w = watches_of c.args.snapshots.now in let some : 0 < c.args.n = omega (arith, c.if-n-eq0.false) in
@@ -106,14 +106,14 @@ returns-then-single_step-clause-after g t c =
     (come-first b w c.args.n c.args.self.now.depth 1 s u before past some there c.step.ensures.past (ap done_steps (sym c.step.ensures.answer ∙ c.in-Done.is))).after
     c.run-more.ensures.after
 
-pub returns-then-single_step-clause-past : goal.returns-then-single_step-clause-past
-returns-then-single_step-clause-past g t c =
+pub returns-clause-past : goal.returns-clause-past
+returns-clause-past g t c =
     let s = c.args.machine.now in let u = c.step.new.machine in
     past-cut c.run-more.result.0 c.args.self.now.depth c.step.new.self.depth s u (states_before s c.args.self.now.newest) (states_before u c.step.new.self.newest)
     (states_before c.run-more.new.machine c.run-more.new.self.newest) c.step.ensures.state c.step.ensures.past c.step.ensures.depth c.run-more.ensures.past
 
-pub returns-then-single_step-clause-first : goal.returns-then-single_step-clause-first
-returns-then-single_step-clause-first g t c =
+pub returns-clause-first : goal.returns-clause-first
+returns-clause-first g t c =
     let s = c.args.machine.now in let u = c.step.new.machine in let there = c.step.ensures.state in
     let before = states_before s c.args.self.now.newest in let past = states_before u c.step.new.self.newest in
     let b = c.args.breaks.now in let w = watches_of c.args.snapshots.now in let some : 0 < c.args.n = omega (arith, c.if-n-eq0.false) in
@@ -122,8 +122,8 @@ returns-then-single_step-clause-first g t c =
     (come-first b w c.args.n c.args.self.now.depth 1 s u before past some there c.step.ensures.past (ap done_steps (sym c.step.ensures.answer ∙ c.in-Done.is)))
     c.run-more.ensures.first
 
-pub returns-then-single_step-clause-last : goal.returns-then-single_step-clause-last
-returns-then-single_step-clause-last g t c free =
+pub returns-clause-last : goal.returns-clause-last
+returns-clause-last g t c free =
     let s = c.args.machine.now in let u = c.step.new.machine in let there = c.step.ensures.state in
     reason-cut c.args.breaks.now (watches_of c.args.snapshots.now) c.args.n s u c.run-more.result.0 there (omega (arith, c.if-n-eq0.false))
     (hit-first c.args.breaks.now c.args.snapshots.now s u c.hit.result there c.requires c.hit.ensures ∙ c.in_default.is)
