@@ -4,7 +4,6 @@ pub mod ByteLanes
 pub mod Carry
 pub mod Kit
 pub mod Limits
-pub mod OneLane
 pub mod Masks
 pub mod Merged
 pub mod Places

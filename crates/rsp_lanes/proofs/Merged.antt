@@ -3,11 +3,40 @@ use Rattle.std.proofs.Common.{◌≡◌, ℕ, ◌+◌, ◌*◌, ◌/◌, ◌%◌
 use Rattle.std.specs.Simd.Lanes.{zip2, sel_l, top, number_l}
 use Rattle.std.proofs.lemmas.Bool.{cases_eq}
 use Rattle.std.proofs.lemmas.List.{length-map, get_or-map}
-use Rattle.std.proofs.lemmas.Simd.{length-zip2, get_or-zip2, get_or-replicate}
+use Rattle.std.proofs.lemmas.Simd.{length-zip2, get_or-zip2, get_or-replicate, length-sel_l, get_or-sel_l}
 use Rattle.rsp_lanes.specs.Lanes.{each_lane, mark, IsVector}
-use Rattle.rsp_lanes.proofs.Kit.{lane_of}
-use Rattle.rsp_lanes.proofs.ByteLanes.{bytes_of, lanes_of, low_byte, high_byte, length-digits}
-use Rattle.rsp_lanes.proofs.OneLane.{lanes_chosen}
+use Rattle.rsp_lanes.proofs.Kit.{lane_of, each_same}
+use Rattle.rsp_lanes.proofs.ByteLanes.{bytes_of, lanes_of, lanes_are, low_byte, high_byte, digit_below, length-digits}
+use Rattle.rsp_lanes.proofs.ByteOrder.{one_below}
+
+-- the lane whose two bytes are chosen together
+chosen_lane : (b : Bool) (x y : ℕ) → cond b (x % 256) (y % 256) + 256 * cond b (x / 256) (y / 256) ≡ cond b x y
+chosen_lane true x y = omega arith
+chosen_lane false x y = omega arith
+
+-- lanes of which both bytes are chosen alike
+lanes_chosen : (p : ℕ → Bool) (there : List Bool) (v w : List ℕ) → IsVector v → IsVector w → length there ≡ 16 → ((k : ℕ) → k < 16 → get_or there k false ≡ p (k / 2))
+    → lanes_of (sel_l there (bytes_of w) (bytes_of v)) ≡ each_lane (λ l. cond (p l) (get_or w l 0) (get_or v l 0))
+lanes_chosen p there v w h k long at =
+    lanes_are bytes (length-sel_l there (bytes_of w) (bytes_of v) (long ∙ sym (all w)) (long ∙ sym (all v)) ∙ long)
+    (λ j m. rw (byte j m) (one_below (p (j / 2)) _ _ 256 (digit_below 16 _ j) (digit_below 16 _ j)))
+    ∙ each_same _ _ lane
+  where
+    bytes : List ℕ
+    bytes = sel_l there (bytes_of w) (bytes_of v)
+
+    all : (v : List ℕ) → length (bytes_of v) ≡ 16
+    all v = length-digits 256 16 (number_l 65536 v)
+
+    byte : (j : ℕ) → j < 16 → get_or bytes j 0 ≡ cond (p (j / 2)) (get_or (bytes_of w) j 0) (get_or (bytes_of v) j 0)
+    byte j m = get_or-sel_l there (bytes_of w) (bytes_of v) j 0 (omega (arith, long)) (omega (arith, all w)) (omega (arith, all v)) ∙ rw (at j m) refl
+
+    lane : (j : ℕ) → j < 8 → get_or bytes (2 * j) 0 + 256 * get_or bytes (2 * j + 1) 0 ≡ cond (p j) (get_or w j 0) (get_or v j 0)
+    lane j m =
+        let e : 2 * j / 2 ≡ j = omega arith in
+        let f : (2 * j + 1) / 2 ≡ j = omega arith in
+        rw (byte (2 * j) (omega arith), byte (2 * j + 1) (omega arith), e, f, low_byte w k j m, high_byte w k j m, low_byte v h j m, high_byte v h j m)
+        (chosen_lane (p j) (get_or w j 0) (get_or v j 0))
 
 low_tested : (b : Bool) → top 7 (cond (leb 128 (mark b % 256)) 255 0) ≡ b
 low_tested true = refl

@@ -1,4 +1,4 @@
-ghost use Rattle.std.specs.Prelude.{◌≡◌, ◌<◌, ◌+◌, ◌*◌, ◌%◌, ℕ, slice_index, slice_set};
+ghost use Rattle.std.specs.Prelude.{◌≡◌, ◌<◌, ◌+◌, ◌*◌, ◌%◌, ℕ, slice_index};
 ghost use Rattle.rsp_lanes.specs.Lanes.{each_lane, selected, source_lane};
 
 use crate::VReg;
@@ -54,13 +54,6 @@ pub fn select(v: &VReg, e: usize) -> VReg
     VReg::from_simd(u16x8::from_le_bytes(bytes.swizzle_dyn(sources(e))))
 }
 
-/// Two bytes of ones twice, with fourteen zeros before, between and behind them. The sixteen bytes that begin 2 i before byte
-/// 30 have their ones at the place of lane i, modulo 8.
-static ONE_LANE: [u8; 46] = [
-    0, 0, 0, 0, 0, 0, 0, 0, 0, 0, 0, 0, 0, 0, 255, 255, 0, 0, 0, 0, 0, 0, 0, 0, 0, 0, 0, 0, 0, 0,
-    255, 255, 0, 0, 0, 0, 0, 0, 0, 0, 0, 0, 0, 0, 0, 0,
-];
-
 impl VReg {
     /// Its lanes 0, 2, 4 and 6, twice.
     #[inline(always)]
@@ -68,18 +61,5 @@ impl VReg {
         ensures { result ≡ each_lane (λ i. slice_index self.now (2 * i % 8)) }
     {
         VReg::from_simd(self.to_simd().swizzle([0, 2, 4, 6, 0, 2, 4, 6]))
-    }
-
-    /// The register in which lane `i`, modulo 8, is another's. Each byte is chosen by the top bit of a byte of the table, which
-    /// is one instruction.
-    #[inline(always)]
-    pub fn with_lane_of(&self, other: &VReg, i: usize) -> VReg
-        requires { i < 16 }
-        ensures { result ≡ slice_set self.now (i % 8) (slice_index other.now (i % 8)) }
-    {
-        let ones = u8x16::from_slice(&ONE_LANE[30 - 2 * i..46 - 2 * i]);
-        let there = ones.simd_ge(u8x16::splat(128));
-        let bytes = there.select(other.to_simd().to_le_bytes(), self.to_simd().to_le_bytes());
-        VReg::from_simd(u16x8::from_le_bytes(bytes))
     }
 }

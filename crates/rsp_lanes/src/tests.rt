@@ -65,22 +65,6 @@ fn selects_by_element(rt: HostRuntime) {
 }
 
 #[test]
-fn takes_one_lane_of_another(rt: HostRuntime) {
-    let v = VReg::from_array([10, 11, 12, 13, 14, 15, 16, 17]);
-    let other = VReg::from_array([
-        0x2021, 0x2223, 0x2425, 0x2627, 0x2829, 0x2a2b, 0x2c2d, 0x2e2f,
-    ]);
-    assert_eq!(rt;
-        v.with_lane_of(&other, 0).to_array(),
-        [0x2021, 11, 12, 13, 14, 15, 16, 17]
-    );
-    assert_eq!(rt;
-        v.with_lane_of(&other, 13).to_array(),
-        [10, 11, 12, 13, 14, 0x2a2b, 16, 17]
-    );
-}
-
-#[test]
 fn compares_and_adds(rt: HostRuntime) {
     let v = VReg::from_array(LANES);
     assert_eq!(rt; v.is_negative().bits(), 0b1110_0000);

@@ -1,14 +1,10 @@
 -- Lanes that eight registers get one after the other, from any of the eight on.
-use Rattle.std.proofs.Common.{◌≡◌, ◌≢◌, ℕ, zero, suc, ◌+◌, ◌-◌, ◌%◌, ◌<◌, ◌≤◌, List, [], ◌++◌, set, get_or, length, nat_lt, nat_eq, if◌then◌else◌, true, false, map, refl, sym, ap, ◌∙◌, arith, inl, inr}
+use Rattle.std.proofs.Common.{◌≡◌, ◌≢◌, ℕ, zero, suc, ◌+◌, ◌-◌, ◌%◌, ◌<◌, ◌≤◌, List, [], ◌++◌, set, get_or, map, refl, sym, ap, ◌∙◌, arith}
 use Rattle.std.specs.List.{range_with_len, fold}
 use Rattle.std.proofs.lemmas.List.{set_comm, get_or-set_other}
 use Rattle.std.proofs.lemmas.List.Sums.{fold-append}
-use Rattle.rsp_lanes.specs.Lanes.{each_lane}
-use Rattle.rsp_lanes.proofs.Kit.{below_eight, eta, each_same}
-use Rattle.std.proofs.lemmas.Bool.{cases_eq}
-use Rattle.std.proofs.lemmas.Bool.Decides.{nat_tests}
+use Rattle.rsp_lanes.proofs.Kit.{below_eight}
 use Rattle.rsp_loadstore.proofs.Pairs.{fold_more}
-use Rattle.rsp_loadstore.proofs.Placed.{set_each}
 use Rattle.rsp_loadstore.specs.File.{vector, with_vector}
 use Rattle.rsp_loadstore.specs.Diagonal.{with_diagonal_lane, with_diagonal}
 
@@ -66,37 +62,3 @@ unfolding with_diagonal
 diagonal_more lanes first half file n = fold_more (with_diagonal_lane lanes first half) file n
 
 pub ruleset diagonals = (diagonal_none, diagonal_more)
-
--- of each of eight registers one lane; of the registers from n on the first register's stands there
-abbrev pub taken : List (List ℕ) → ℕ → ℕ → ℕ → List ℕ
-taken file first half n = each_lane (λ i. get_or (vector file (first + (if nat_lt ((half + i) % 8) n then (half + i) % 8 else 0))) i 0)
-
-pub taken_one : (file : List (List ℕ)) (first half : ℕ) → length (vector file first) ≡ 8 → vector file first ≡ taken file first half 1
-taken_one file first half h = eta 0 (vector file first) h ∙ each_same _ _ (λ i l. ap (λ n. get_or (vector file n) i 0) (grind (arith, nat_tests)))
-
-pub taken_more : (file : List (List ℕ)) (first half n : ℕ) → half < 8 → n < 8
-    → set (taken file first half n) ((n + 8 - half) % 8) (get_or (vector file (first + n)) ((n + 8 - half) % 8) 0) ≡ taken file first half (n + 1)
-taken_more file first half n h l =
-    set_each (λ i. get_or (vector file (first + (if nat_lt ((half + i) % 8) n then (half + i) % 8 else 0))) i 0) j (get_or (vector file (first + n)) j 0) (omega arith)
-    ∙ each_same _ _ lane
-  where
-    j : ℕ
-    j = (n + 8 - half) % 8
-
-    lane : (i : ℕ) → i < 8 → (if nat_eq i j then get_or (vector file (first + n)) j 0 else get_or (vector file (first + (if nat_lt ((half + i) % 8) n then (half + i) % 8 else 0))) i 0)
-        ≡ get_or (vector file (first + (if nat_lt ((half + i) % 8) (n + 1) then (half + i) % 8 else 0))) i 0
-    lane i m = elim (cases_eq i j) [
-      | inl e ↦
-          let q : (half + i) % 8 ≡ n = omega (arith, e) in
-          let t : nat_eq i j ≡ true = grind (arith, nat_tests, e) in
-          let u : nat_lt n (n + 1) ≡ true = grind (arith, nat_tests) in
-          rw (t, q, u, ← e) refl
-      | inr d ↦
-          let q : (half + i) % 8 ≢ n = λ e. d (omega arith) in
-          let t : nat_eq i j ≡ false = grind (arith, nat_tests, d) in
-          let u : nat_lt ((half + i) % 8) (n + 1) ≡ nat_lt ((half + i) % 8) n = grind (arith, nat_tests, q) in
-          rw (t, u) refl
-    ]
-
-pub taken_all : (file : List (List ℕ)) (first half : ℕ) → taken file first half 8 ≡ each_lane (λ i. get_or (vector file (first + (half + i) % 8)) i 0)
-taken_all file first half = each_same _ _ (λ i l. ap (λ n. get_or (vector file (first + n)) i 0) (grind (arith, nat_tests)))

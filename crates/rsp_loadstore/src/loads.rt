@@ -1,4 +1,5 @@
-ghost use Rattle.std.specs.Prelude.{◌≡◌, ◌<◌, ◌≤◌, ◌+◌, ◌-◌, min};
+ghost use Rattle.std.specs.Prelude.{◌≡◌, ◌<◌, ◌≤◌, ◌+◌, ◌-◌, ◌%◌, min, slice_index};
+ghost use Rattle.rsp_lanes.specs.Bytes.{of_bytes};
 ghost use Rattle.rsp_memory.specs.Memory.{bytes_at};
 ghost use Rattle.rsp_decode.specs.Table.{IsInstruction};
 ghost use Rattle.rsp_rows.specs.declared.vector.VectorLoadRow.TheVariants.{Lhv, Lfv, Ltv};
@@ -133,22 +134,45 @@ fn load_transposed(vt: u8, e: usize, a: u32, memory: &SpMem, file: &mut VFile)
     requires element { e < 16 }
     ensures { file.new ≡ after_load memory.now file.old (load_pairs Ltv vt e a) }
 {
-    let first = (e as u32 + a / 8 % 2 * 8) as u8;
-    let lanes = VReg::from_turned(window(memory, a - a % 8), first);
-    set_diagonal((vt - vt % 8) as usize, e / 2, lanes, file);
+    let start = (e as u32 + a / 8 % 2 * 8) as u8;
+    let bytes = window(memory, a - a % 8);
+    set_diagonal((vt - vt % 8) as usize, e / 2, bytes, start, file);
 }
 
 /// Writes one lane of each of the eight registers from `first` on: lane 0 of the register `half` behind it, lane 1 of the
-/// next, and so on, modulo 8. It calls nothing, so that it saves no registers.
+/// next, and so on, modulo 8. The bytes of the lanes are those from `start` on, modulo 16. Each arm knows `half`, so that its
+/// code is eight writes at fixed distances. It calls nothing, so that it saves no registers.
 #[inline(never)]
+fn set_diagonal(first: usize, half: usize, bytes: Bytes16, start: u8, file: &mut VFile)
+    requires registers { first ≤ 24 }
+    requires half { half < 8 }
+    ensures { file.new ≡ with_diagonal (of_bytes (λ k. slice_index bytes ((start + k) % 16))) first half file.old 8 }
+{
+    let lanes = VReg::from_turned(bytes, start);
+    match half {
+        0 => set_diagonal_lanes(first, 0, lanes, file),
+        1 => set_diagonal_lanes(first, 1, lanes, file),
+        2 => set_diagonal_lanes(first, 2, lanes, file),
+        3 => set_diagonal_lanes(first, 3, lanes, file),
+        4 => set_diagonal_lanes(first, 4, lanes, file),
+        5 => set_diagonal_lanes(first, 5, lanes, file),
+        6 => set_diagonal_lanes(first, 6, lanes, file),
+        _ => set_diagonal_lanes(first, 7, lanes, file),
+    }
+}
+
+/// The same for one `half`, which LLVM has to know.
+#[inline(always)]
 #[tactic(auto, using(crate::proofs::Diagonal::diagonals))]
-fn set_diagonal(first: usize, half: usize, lanes: VReg, file: &mut VFile)
+fn set_diagonal_lanes(first: usize, half: usize, lanes: VReg, file: &mut VFile)
     requires registers { first ≤ 24 }
     requires half { half < 8 }
     ensures { file.new ≡ with_diagonal lanes first half file.old 8 }
 {
     for l in 0..8 {
-        let v = file.at(first + l);
-        file.put(first + l, v.with_lane_of(&lanes, l + 8 - half));
+        let i = (l + 8 - half) % 8;
+        let mut v = file.at(first + l);
+        v.set_lane(i, lanes.lane(i));
+        file.put(first + l, v);
     }
 }

@@ -132,17 +132,41 @@ fn store_transposed(vt: u8, e: usize, a: u32, file: &VFile, memory: &mut SpMem)
 }
 
 /// Of each of the eight registers from `first` on one lane: lane 0 of the register `half` behind it, lane 1 of the next,
-/// and so on, modulo 8.
+/// and so on, modulo 8. Each arm knows `half`, so that its code is eight reads at fixed distances.
 #[inline(always)]
 fn diagonal(first: usize, half: usize, file: &VFile) -> VReg
     requires registers { first ≤ 24 }
     requires half { half < 8 }
     ensures { result ≡ each_lane (λ i. slice_index (vector file.now (first + (half + i) % 8)) i) }
 {
-    file.ranges();
-    let mut lanes = file.at(first);
-    for l in 1..8 {
-        lanes = lanes.with_lane_of(&file.at(first + l), l + 8 - half);
+    match half {
+        0 => diagonal_lanes(first, 0, file),
+        1 => diagonal_lanes(first, 1, file),
+        2 => diagonal_lanes(first, 2, file),
+        3 => diagonal_lanes(first, 3, file),
+        4 => diagonal_lanes(first, 4, file),
+        5 => diagonal_lanes(first, 5, file),
+        6 => diagonal_lanes(first, 6, file),
+        _ => diagonal_lanes(first, 7, file),
     }
-    lanes
+}
+
+/// The same for one `half`, which LLVM has to know.
+#[inline(always)]
+#[tactic(auto, unfolding(rsp_lanes::specs::Lanes::each_lane))]
+fn diagonal_lanes(first: usize, half: usize, file: &VFile) -> VReg
+    requires registers { first ≤ 24 }
+    requires half { half < 8 }
+    ensures { result ≡ each_lane (λ i. slice_index (vector file.now (first + (half + i) % 8)) i) }
+{
+    VReg::from_array([
+        file.at(first + half).lane(0),
+        file.at(first + (half + 1) % 8).lane(1),
+        file.at(first + (half + 2) % 8).lane(2),
+        file.at(first + (half + 3) % 8).lane(3),
+        file.at(first + (half + 4) % 8).lane(4),
+        file.at(first + (half + 5) % 8).lane(5),
+        file.at(first + (half + 6) % 8).lane(6),
+        file.at(first + (half + 7) % 8).lane(7),
+    ])
 }

@@ -6,5 +6,5 @@ use Rattle.rsp_loadstore.proofs.loads.load_transposed.Goals as goal
 pub returns : goal.returns
 unfolding load_pairs
 returns c =
-    c.set_diagonal.ensures ∙ rw (c.from_turned-lanes.ensures)
-    (transposed_loaded c.args.memory.now c.args.file.now c.args.vt c.args.e c.args.a c.window.result c.requires.element c.window.ensures)
+    c.set_diagonal.ensures
+    ∙ transposed_loaded c.args.memory.now c.args.file.now c.args.vt c.args.e c.args.a c.window-bytes.result c.requires.element c.window-bytes.ensures
