@@ -83,14 +83,13 @@ unfolding undone change_saved values_saved restored after_step
 bytes_saved a m s r h e = memory_same s _ h e
 
 -- a row that changes a vector register, and perhaps more
-vector_saved : (n : ℕ) (v : List ℕ) (s : State) (r : Saved) → s.sp.halted ≡ false
-    → undone (change_saved (of.Vector n) s r) (singled (advanced (record s { vectors = with_vector s.vectors n v }))) ≡ s
-unfolding undone change_saved values_saved restored after_step
-vector_saved n v s r h = vectors_same s _ h (vector-back s.vectors n v)
-
--- a computing row's register
 computed-back : (file : List (List ℕ)) (n vd : ℕ) (v : List ℕ) → vd ≡ n → with_vector (with_vector file n v) vd (vector file n) ≡ file
 computed-back file n vd v w = rw w (vector-back file n v)
+
+vector_saved : (n : ℕ) (v : List ℕ) (s : State) (r : Saved) → Tells n s → s.sp.halted ≡ false
+    → undone (change_saved (of.Vector n) s r) (singled (advanced (record s { vectors = with_vector s.vectors n v }))) ≡ s
+unfolding undone change_saved values_saved restored after_step
+vector_saved n v s r w h = vectors_same s _ h (computed-back s.vectors n _ v (w _))
 
 product_saved : (n : ℕ) (v : List ℕ) (x : List ℤ) (s : State) (r : Saved) → Tells n s → s.sp.halted ≡ false
     → undone (change_saved (of.Product n) s r) (singled (advanced (record s { vectors = with_vector s.vectors n v; accumulators = x }))) ≡ s
@@ -140,17 +139,21 @@ sp_saved : (n v : ℕ) (p : Sp) (s : State) (r : Saved) → s.sp.halted ≡ fals
 unfolding undone change_saved values_saved restored after_step
 sp_saved n v p s r h = registers_same s _ h (register-back s.registers n v)
 
--- a vector load, and a move to an SP register that starts no DMA
-file_saved : (n : ℕ) (v : List (List ℕ)) (s : State) (r : Saved) → s.sp.halted ≡ false → with_vector v n (vector s.vectors n) ≡ s.vectors
+-- a vector load: of a file that is given back at n, where the word tells n
+loaded-as : (old file : List (List ℕ)) (n m : ℕ) → m ≡ n → with_vector file n (vector old n) ≡ old → with_vector file m (vector old n) ≡ old
+loaded-as old file n m w e = rw w e
+
+file_saved : (n : ℕ) (v : List (List ℕ)) (s : State) (r : Saved) → Tells n s → s.sp.halted ≡ false → with_vector v n (vector s.vectors n) ≡ s.vectors
     → undone (change_saved (of.Vector n) s r) (singled (advanced (record s { vectors = v }))) ≡ s
 unfolding undone change_saved values_saved restored after_step
-file_saved n v s r h e = vectors_same s _ h e
+file_saved n v s r w h e = vectors_same s _ h (loaded-as s.vectors v n _ (w _) e)
 
 group_saved : (n : ℕ) (v : List (List ℕ)) (s : State) (r : Saved) → s.sp.halted ≡ false → with_group v n (group_at s.vectors n) ≡ s.vectors
     → undone (change_saved (of.Group n) s r) (singled (advanced (record s { vectors = v }))) ≡ s
 unfolding undone change_saved values_saved restored after_step
 group_saved n v s r h e = vectors_same s _ h e
 
+-- a move to an SP register that starts no DMA
 written_saved : (p : Sp) (s : State) (r : Saved) → s.sp.halted ≡ false
     → undone (change_saved (of.Sp 0) s r) (singled (advanced (record s { sp = p }))) ≡ s
 unfolding undone change_saved values_saved restored after_step
@@ -175,10 +178,16 @@ move_saved To rt n s r e h =
     let P : Bool → Type 0 = λ b. undone (change_saved (if b then of.Dma else of.Sp 0) s r) (singled (register_written n v (advanced s))) ≡ s in
     subst P (sym e) (ap (λ t. undone (change_saved (of.Sp 0) s r) (singled t)) (no_dma n v (advanced s) e) ∙ written_saved (written n v s.sp) s r h)
 
-load_saved : (group : Bool) (vt : ℕ) (v : List (List ℕ)) (s : State) (r : Saved) → s.sp.halted ≡ false → put_back group vt s.vectors v ≡ s.vectors
+-- of a vector load the word tells the register, but of LTV, of whose group the record has the number
+load_told : (group : Bool) (vt : ℕ) (s : State)
+    → ((t : State) → register_by (inst_of (word_at s.imem s.pc)) t ≡ register_of (if group then of.Group (vt - vt % 8) else of.Vector vt)) → Tells (if group then 0 else vt) s
+load_told true vt s w = w
+load_told false vt s w = w
+
+load_saved : (group : Bool) (vt : ℕ) (v : List (List ℕ)) (s : State) (r : Saved) → Tells (if group then 0 else vt) s → s.sp.halted ≡ false → put_back group vt s.vectors v ≡ s.vectors
     → undone (change_saved (if group then of.Group (vt - vt % 8) else of.Vector vt) s r) (singled (advanced (record s { vectors = v }))) ≡ s
-load_saved true vt v s r h e = group_saved (vt - vt % 8) v s r h e
-load_saved false vt v s r h e = file_saved vt v s r h e
+load_saved true vt v s r w h e = group_saved (vt - vt % 8) v s r h e
+load_saved false vt v s r w h e = file_saved vt v s r w h e
 
 sign_saved : (row : SignRow) (rs offset p : ℕ) (s : State) (r : Saved) → inst_of (word_at s.imem s.pc) ≡ Some (BranchSign row rs offset) → s.sp.halted ≡ false
     → undone (change_saved (sign_change row) s r) (singled (record s { pc = s.npc; npc = p; registers = linked (BranchSign row rs offset) s.registers s.npc })) ≡ s
@@ -200,7 +209,7 @@ vector_move_saved : (row : MoveRow) (rt n e : ℕ) (s : State) (r : Saved) → i
     → undone (saved_of (MoveVector row rt n e) s r) (singled (executed (MoveVector row rt n e) s)) ≡ s
 unfolding change_of executed worked moves_vector moved_file
 vector_move_saved From rt n e s r o h = register_saved rt _ (going_on s.npc) s r (told s o) h
-vector_move_saved To rt n e s r o h = vector_saved n _ s r h
+vector_move_saved To rt n e s r o h = vector_saved n _ s r (told s o) h
 
 control_move_saved : (row : MoveRow) (rt : ℕ) (control : Control) (s : State) (r : Saved) → inst_of (word_at s.imem s.pc) ≡ Some (MoveControl row rt control) → s.sp.halted ≡ false
     → undone (saved_of (MoveControl row rt control) s r) (singled (executed (MoveControl row rt control) s)) ≡ s
@@ -230,7 +239,7 @@ saved_back (MoveControl row rt control) s r e h k o = control_move_saved row rt 
 saved_back (Multiply row f) s r e h k o = product_saved f.vd _ _ s r (told s o) h
 saved_back (Round row f) s r e h k o = product_saved f.vd _ _ s r (told s o) h
 saved_back (MpegMultiply row f) s r e h k o = product_saved f.vd _ _ s r (told s o) h
-saved_back (ReadAccumulator f) s r e h k o = vector_saved f.vd _ s r h
+saved_back (ReadAccumulator f) s r e h k o = vector_saved f.vd _ s r (told s o) h
 saved_back (VectorAdd row f) s r e h k o = sum_saved f.vd _ _ _ s r (told s o) h (rule-back _ (add_low row) s r.accumulators f.vs f.vt f.element k) (sum-back row _ _ s.flags k.flags)
 saved_back (VectorSelect row f) s r e h k o = choice_saved f.vd _ _ _ s r (told s o) h (rule-back _ (select_low row) s r.accumulators f.vs f.vt f.element k) (choice-back row _ _ s.flags k.flags)
 saved_back (VectorClip row f) s r e h k o = clip_saved f.vd _ _ _ s r (told s o) h (rule-back _ (clip_low row) s r.accumulators f.vs f.vt f.element k)
@@ -239,7 +248,7 @@ saved_back (VectorLogic row f) s r e h k o = logic_saved f.vd _ _ _ s r (told s 
 saved_back (Divide row vd lane vt n) s r e h k o = divide_saved vd _ _ _ s r (told s o) h (divide-back s r.accumulators vt n k)
 saved_back (Idle row) s r e h k o = places_saved _ s r h
 saved_back (VectorLoad row f) s r e h k o =
-    load_saved (writes_group row) f.vt _ s r h (loaded-back row s.dmem s.vectors f.vt f.element (transfer_address (VectorLoad row f) (register s.registers f.base)))
+    load_saved (writes_group row) f.vt _ s r (load_told (writes_group row) f.vt s (told s o)) h (loaded-back row s.dmem s.vectors f.vt f.element (transfer_address (VectorLoad row f) (register s.registers f.base)))
 saved_back (VectorStore row f) s r e h k o =
     let a : ℕ = transfer_address (VectorStore row f) (register s.registers f.base) in
     bytes_saved (window_of row a) _ s r h (stored-back row f.vt f.element a s.vectors s.dmem)

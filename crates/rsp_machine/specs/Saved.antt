@@ -94,6 +94,7 @@ values_saved _ s r = r
 -- a change as a record has it, without the register that the row's word in IMEM tells; and the register that is left out
 abbrev pub nameless : Change → Change
 nameless (of.Register n) = of.Register 0
+nameless (of.Vector n) = of.Vector 0
 nameless (of.Product n) = of.Product 0
 nameless (of.Low n) = of.Low 0
 nameless (of.Sum n) = of.Sum 0
@@ -104,6 +105,7 @@ nameless change = change
 
 abbrev pub register_of : Change → ℕ
 register_of (of.Register n) = n
+register_of (of.Vector n) = n
 register_of (of.Product n) = n
 register_of (of.Low n) = n
 register_of (of.Sum n) = n
@@ -238,7 +240,7 @@ with_low_part r s = record s { vectors = with_vector s.vectors (register_at r.pc
 unfoldable pub restored : Change → Saved → State → State
 restored (of.Register n) r s = record s { registers = with_register s.registers (register_at r.pc s) r.word }
 restored (of.Bytes a) r s = record s { dmem = with_bytes s.dmem a r.bytes }
-restored (of.Vector n) r s = record s { vectors = with_vector s.vectors n r.vector }
+restored (of.Vector n) r s = record s { vectors = with_vector s.vectors (register_at r.pc s) r.vector }
 restored (of.Group n) r s = record s { vectors = with_group s.vectors n r.vectors }
 restored (of.Product n) r s = with_product r s
 restored (of.Low n) r s = with_low_part r s

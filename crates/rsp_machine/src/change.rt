@@ -52,6 +52,7 @@ impl Change {
     {
         match self {
             Change::Register(_) => Change::Register(0),
+            Change::Vector(_) => Change::Vector(0),
             Change::Product(_) => Change::Product(0),
             Change::Low(_) => Change::Low(0),
             Change::Sum(_) => Change::Sum(0),
@@ -59,6 +60,30 @@ impl Change {
             Change::Clip(_) => Change::Clip(0),
             Change::Divide(_) => Change::Divide(0),
             change => change,
+        }
+    }
+
+    /// The number, below 32, of the register that [`Change::nameless`] leaves out; 0 where it leaves out none.
+    fn register(self) -> u8
+        requires { IsChange self }
+        ensures value { result ≡ register_of self }
+        ensures bound { result < 32 }
+    {
+        match self {
+            Change::Register(n)
+            | Change::Vector(n)
+            | Change::Product(n)
+            | Change::Low(n)
+            | Change::Sum(n)
+            | Change::Choice(n)
+            | Change::Clip(n)
+            | Change::Divide(n) => n as u8,
+            Change::Places
+            | Change::Bytes(_)
+            | Change::Group(_)
+            | Change::Flags
+            | Change::Sp(_)
+            | Change::Dma => 0,
         }
     }
 
@@ -83,20 +108,19 @@ pub(crate) fn register_of(inst: &Inst) -> u8
         Inst::Shift { rd, .. } | Inst::JumpLinkRegister { rd, .. } => rd,
         Inst::ShiftBy { fields, .. } | Inst::Register { fields, .. } => fields.rd,
         Inst::Immediate { rt, .. } | Inst::LoadUpper { rt, .. } => rt,
-        Inst::MoveVector { row, rt, .. } | Inst::MoveControl { row, rt, .. } => match row {
-            MoveRow::From => rt,
-            MoveRow::To => 0,
-        },
         Inst::Load { fields, .. } => fields.rt,
-        Inst::BranchSign {
-            row: SignRow::Bltzal | SignRow::Bgezal,
+        Inst::BranchSign { row, .. } => sign_change(row).register(),
+        Inst::Jump { row, .. } => jump_change(row).register(),
+        Inst::MoveVector {
+            row,
+            rt,
+            vector,
             ..
-        }
-        | Inst::Jump {
-            row: JumpRow::Jal,
-            ..
-        } => 31,
-        Inst::Multiply { fields, .. }
+        } => vector_move_change(row, rt, vector).register(),
+        Inst::MoveControl { row, rt, .. } => control_move_change(row, rt).register(),
+        Inst::VectorLoad { row, fields } => loaded_change(row, fields.vt).register(),
+        Inst::ReadAccumulator { fields }
+        | Inst::Multiply { fields, .. }
         | Inst::Round { fields, .. }
         | Inst::MpegMultiply { fields, .. }
         | Inst::VectorAdd { fields, .. }

@@ -231,7 +231,7 @@ impl<A: Acc> Machine<A> {
             Change::Places => (),
             Change::Register(_) => self.put_register(saved),
             Change::Bytes(a) => self.dmem.set_bytes(a, &saved.bytes),
-            Change::Vector(n) => self.vregs.set_reg(n as u8, saved.vector),
+            Change::Vector(_) => self.put_vector(saved),
             Change::Group(n) => self.put_group(n as u8, &saved.vectors),
             Change::Product(_) => self.put_product(saved),
             Change::Low(_) => self.put_low(saved),
@@ -268,12 +268,12 @@ impl<A: Acc> Machine<A> {
         self.regs.set(n, saved.word);
     }
 
-    /// Writes back the vector register of a computing row.
+    /// Writes back a vector register.
     fn put_vector(&mut self, saved: &Record)
         ensures { self.new ≡ record self.old { vectors = with_vector self.old.vectors (register_at saved.now.pc self.old) saved.now.vector } }
     {
-        let vd = self.register_at(saved.pc);
-        self.vregs.set_reg(vd, saved.vector);
+        let number = self.register_at(saved.pc);
+        self.vregs.set_reg(number, saved.vector);
     }
 
     /// Writes back the vector register of a computing row and the accumulators.
