@@ -9,7 +9,7 @@ ghost use Rattle.rsp_machine.specs.State.{State};
 use rsp_decode::{Inst, JumpRow, MoveRow, SignRow, VectorLoadRow};
 
 /// What an instruction changes of a machine besides pc and npc, with the register or the address that it names. Register
-/// numbers are words here, since a step stores one: the lower half of a word costs two instructions more.
+/// numbers are words here: a step that stores one would take two instructions more for the lower half of a word.
 #[derive(Clone, Copy)]
 pub(crate) enum Change {
     /// Nothing else.
