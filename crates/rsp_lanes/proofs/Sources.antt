@@ -6,7 +6,7 @@ use Rattle.rsp_lanes.specs.declared.shuffle.TheConstants.{SOURCES}
 
 -- byte i of the entry of e
 abbrev pub source : ℕ → ℕ → ℕ
-source e i = get_or (get_or SOURCES e []) i 0
+source e i = get_or (get_or SOURCES.entries e []) i 0
 
 -- whether a test passes at each element and each number below n
 abbrev passes : (ℕ → ℕ → Bool) → ℕ → Bool
