@@ -1,4 +1,4 @@
-ghost use Rattle.std.specs.Prelude.{◌≡◌, ◌<◌, ◌≤◌, ◌+◌, ◌-◌, ◌%◌, min, slice_index};
+ghost use Rattle.std.specs.Prelude.{◌≡◌, ◌<◌, ◌≤◌, ◌+◌, ◌-◌, ◌*◌, ◌/◌, ◌%◌, min, slice_index};
 ghost use Rattle.rsp_lanes.specs.Bytes.{of_bytes};
 ghost use Rattle.rsp_memory.specs.Memory.{bytes_at};
 ghost use Rattle.rsp_decode.specs.Table.{IsInstruction};
@@ -134,22 +134,37 @@ fn load_transposed(vt: u8, e: usize, a: u32, memory: &SpMem, file: &mut VFile)
     requires element { e < 16 }
     ensures { file.new ≡ after_load memory.now file.old (load_pairs Ltv vt e a) }
 {
-    let start = (e as u32 + a / 8 % 2 * 8) as u8;
-    let bytes = window(memory, a - a % 8);
-    set_diagonal((vt - vt % 8) as usize, e / 2, bytes, start, file);
+    match memory.whole_window(a - a % 8) {
+        Some(bytes) => set_diagonal(vt, e, bytes, a, file),
+        None => load_transposed_wrapped(vt, e, a, memory, file),
+    }
 }
 
-/// Writes one lane of each of the eight registers from `first` on: lane 0 of the register `half` behind it, lane 1 of the
-/// next, and so on, modulo 8. The bytes of the lanes are those from `start` on, modulo 16. Each arm knows `half`, so that its
-/// code is eight writes at fixed distances. It calls nothing, so that it saves no registers.
+/// The same where some of the bytes wrap.
+#[cold]
 #[inline(never)]
-fn set_diagonal(first: usize, half: usize, bytes: Bytes16, start: u8, file: &mut VFile)
-    requires registers { first ≤ 24 }
-    requires half { half < 8 }
-    ensures { file.new ≡ with_diagonal (of_bytes (λ k. slice_index bytes ((start + k) % 16))) first half file.old 8 }
+fn load_transposed_wrapped(vt: u8, e: usize, a: u32, memory: &SpMem, file: &mut VFile)
+    requires register { vt < 32 }
+    requires element { e < 16 }
+    ensures { file.new ≡ after_load memory.now file.old (load_pairs Ltv vt e a) }
 {
-    let lanes = VReg::from_turned(bytes, start);
-    match half {
+    set_diagonal(vt, e, &memory.window(a - a % 8), a, file);
+}
+
+/// Writes one lane of each of the eight registers of a group: lane 0 of the register `e / 2` behind the first, lane 1 of the
+/// next, and so on, modulo 8. The bytes of the lanes are those of a block from `e` on, or from 8 behind it in the upper half of
+/// a line. Each arm knows the first lane's register, so that its code is eight writes at fixed distances. It calls nothing, so
+/// that it saves no registers, and reads the bytes where they stand.
+#[inline(never)]
+fn set_diagonal(vt: u8, e: usize, bytes: &[u8; 16], a: u32, file: &mut VFile)
+    requires register { vt < 32 }
+    requires element { e < 16 }
+    ensures { file.new ≡ with_diagonal (of_bytes (λ k. slice_index bytes.now ((e + a / 8 % 2 * 8 + k) % 16))) (vt - vt % 8) (e / 2) file.old 8 }
+{
+    let first = (vt - vt % 8) as usize;
+    let start = (e as u32 + a / 8 % 2 * 8) as u8;
+    let lanes = VReg::from_turned(Bytes16::from_array(*bytes), start);
+    match e / 2 % 8 {
         0 => set_diagonal_lanes(first, 0, lanes, file),
         1 => set_diagonal_lanes(first, 1, lanes, file),
         2 => set_diagonal_lanes(first, 2, lanes, file),
