@@ -5,18 +5,21 @@ use crate::mask::Mask8;
 
 /// The five flags of each lane. Lane i of `carry` is bit i of VCO and of `differ` its bit i + 8; lane i of
 /// `compare` is bit i of VCC and of `clip` its bit i + 8; lane i of `extra` is bit i of VCE.
+///
+/// Most rows clear `carry` and `differ` together. They stand apart, since two neighbours would be cleared as one run of bytes,
+/// whose address takes an instruction of its own.
 #[derive(Clone, Copy, PartialEq, Drop)]
 pub struct Flags {
     /// A sum passed 65535, or a difference fell below 0: bits 0 to 7 of VCO. VCH sets it where the signs differ.
     pub carry: Mask8,
-    /// Not equal: a difference isn't 0. Bits 8 to 15 of VCO.
-    pub differ: Mask8,
     /// The answer of a comparison: bits 0 to 7 of VCC.
     pub compare: Mask8,
-    /// The answer of a clip's comparison with its upper limit: bits 8 to 15 of VCC.
-    pub clip: Mask8,
+    /// Not equal: a difference isn't 0. Bits 8 to 15 of VCO.
+    pub differ: Mask8,
     /// The sum of a clip was -1: VCE.
     pub extra: Mask8,
+    /// The answer of a clip's comparison with its upper limit: bits 8 to 15 of VCC.
+    pub clip: Mask8,
 }
 
 impl Flags {
@@ -64,6 +67,24 @@ impl Flags {
         ensures { self.new ≡ all_flags (λ i. vco_cleared (flags_at self.old i)) }
     {
         self.set_vco(Mask8::splat(false), Mask8::splat(false));
+    }
+
+    /// Takes VCO from other flags; VCC and VCE stay.
+    #[inline(always)]
+    pub fn take_vco(&mut self, other: &Flags)
+        ensures { self.new ≡ record self.old { carry = other.now.carry; differ = other.now.differ } }
+    {
+        self.carry = other.carry.read();
+        self.differ = other.differ.read();
+    }
+
+    /// Takes VCC from other flags; VCO and VCE stay.
+    #[inline(always)]
+    pub fn take_vcc(&mut self, other: &Flags)
+        ensures { self.new ≡ record self.old { compare = other.now.compare; clip = other.now.clip } }
+    {
+        self.compare = other.compare.read();
+        self.clip = other.clip.read();
     }
 
     /// Writes VCC, the answers of comparisons and of clips; VCO and VCE stay.

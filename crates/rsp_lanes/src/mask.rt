@@ -52,6 +52,14 @@ impl Mask8 {
         self.lanes.simd_ge(u16x8::splat(0x8000))
     }
 
+    /// The same mask. It goes through a register, where a copy of the whole struct would be one from address to address.
+    #[inline(always)]
+    pub(crate) fn read(&self) -> Self
+        ensures { result ≡ self.now }
+    {
+        Mask8 { lanes: self.lanes }
+    }
+
     /// Changes nothing. It says that they are eight lanes.
     #[inline(always)]
     pub fn ranges(self)

@@ -118,15 +118,6 @@ impl Record {
         self.accumulators.set_low(&machine.acc.part(Part::Low));
     }
 
-    /// Saves the flags of VCO.
-    #[inline(always)]
-    fn save_vco(&mut self, flags: &Flags)
-        ensures { self.new ≡ record self.old { flags = record self.old.flags { carry = flags.now.carry; differ = flags.now.differ } } }
-    {
-        self.flags.carry = flags.carry;
-        self.flags.differ = flags.differ;
-    }
-
     /// Saves the eight vector registers from `n` on.
     #[cold]
     fn save_group(&mut self, file: &VFile, n: u32)
@@ -171,13 +162,12 @@ impl Saver for Record {
             Change::Low(n) => self.save_low(machine, n),
             Change::Sum(n) => {
                 self.save_low(machine, n);
-                self.save_vco(&machine.flags);
+                self.flags.take_vco(&machine.flags);
             }
             Change::Choice(n) => {
                 self.save_low(machine, n);
-                self.save_vco(&machine.flags);
-                self.flags.compare = machine.flags.compare;
-                self.flags.clip = machine.flags.clip;
+                self.flags.take_vco(&machine.flags);
+                self.flags.take_vcc(&machine.flags);
             }
             Change::Clip(n) => {
                 self.save_low(machine, n);
@@ -238,8 +228,7 @@ impl<A: Acc> Machine<A> {
             Change::Sum(_) => self.put_sum(saved),
             Change::Choice(_) => {
                 self.put_sum(saved);
-                self.flags.compare = saved.flags.compare;
-                self.flags.clip = saved.flags.clip;
+                self.flags.take_vcc(&saved.flags);
             }
             Change::Clip(_) => {
                 self.put_low(saved);
@@ -297,8 +286,7 @@ impl<A: Acc> Machine<A> {
         ensures { self.new ≡ record (with_low_part saved.now self.old) { flags = with_vco saved.now.flags self.old.flags } }
     {
         self.put_low(saved);
-        self.flags.carry = saved.flags.carry;
-        self.flags.differ = saved.flags.differ;
+        self.flags.take_vco(&saved.flags);
     }
 
     /// The number of the register that a record leaves out of what the row at a place changes; 0 where it leaves out none.
