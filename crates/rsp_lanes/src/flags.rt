@@ -69,6 +69,16 @@ impl Flags {
         self.set_vco(Mask8::splat(false), Mask8::splat(false));
     }
 
+    /// Becomes the other flags, as an assignment would, but mask by mask.
+    #[inline(always)]
+    pub fn take(&mut self, other: &Flags)
+        ensures { self.new ≡ other.now }
+    {
+        self.take_vco(other);
+        self.take_vcc(other);
+        self.extra = other.extra.read();
+    }
+
     /// Takes VCO from other flags; VCC and VCE stay.
     #[inline(always)]
     pub fn take_vco(&mut self, other: &Flags)

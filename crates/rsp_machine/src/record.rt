@@ -171,7 +171,7 @@ impl Saver for Record {
             }
             Change::Clip(n) => {
                 self.save_low(machine, n);
-                self.flags = machine.flags;
+                self.flags.take(&machine.flags);
             }
             Change::Divide(n) => {
                 self.save_low(machine, n);
