@@ -6,8 +6,8 @@ use crate::mask::Mask8;
 /// The five flags of each lane. Lane i of `carry` is bit i of VCO and of `differ` its bit i + 8; lane i of
 /// `compare` is bit i of VCC and of `clip` its bit i + 8; lane i of `extra` is bit i of VCE.
 ///
-/// Most rows clear `carry` and `differ` together. They stand apart, since two neighbours would be cleared as one run of bytes,
-/// whose address takes an instruction of its own.
+/// Most rows that write VCO clear both of its masks. They stand apart, since two neighbours would be cleared as one run of
+/// bytes, whose address takes an instruction of its own.
 #[derive(Clone, Copy, PartialEq, Drop)]
 pub struct Flags {
     /// A sum passed 65535, or a difference fell below 0: bits 0 to 7 of VCO. VCH sets it where the signs differ.
