@@ -8,7 +8,7 @@ use Rattle.rsp_decode.specs.declared.inst.Inst.{Inst}
 use Rattle.rsp_decode.specs.Table.{inst_of}
 use Rattle.rsp_machine.specs.State.{State}
 use Rattle.rsp_machine.specs.Step.{step_of, step_by}
-use Rattle.rsp_machine.specs.Laws.{steps_of}
+use Rattle.rsp_machine.specs.Laws.{steps_of, done_steps}
 use Rattle.rsp_machine.specs.declared.step.StepEnd.{StepEnd}
 use Rattle.rsp_machine.specs.declared.step.StepEnd.TheVariants as end
 use Rattle.rsp_debug.specs.declared.stop.Watch.{Watch}
@@ -17,7 +17,7 @@ use Rattle.rsp_debug.specs.declared.stop.Reason.{Reason}
 use Rattle.rsp_debug.specs.declared.stop.Reason.TheVariants.{Reserved, Halted, Watched, Break, Limit}
 use Rattle.rsp_debug.specs.Stops.{first_of, when, is_reserved, is_break, changed, reason_in, reason_at, least, run_steps, stop_of, IsStop}
 use Rattle.rsp_debug.specs.Runs.{stuck_of}
-use Rattle.rsp_debug.specs.Calls.{IsAfter, Going, StepCall, RunCall, is_count, done_steps, call_steps, called, all_steps, all_called}
+use Rattle.rsp_debug.specs.Calls.{IsAfter, Going, StepCall, RunCall, is_count, call_steps, called, all_steps, all_called}
 use Rattle.rsp_debug.proofs.Reasons.{stuck_by, stuck_is, step-halted-same, step-reserved-same, steps-none, steps-more, two_none, is_stop, reason-stuck}
 
 -- steps after steps

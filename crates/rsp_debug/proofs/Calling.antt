@@ -4,13 +4,13 @@ use Rattle.std.specs.Prelude.{slice_index_or, if◌then◌else◌}
 use Rattle.std.proofs.lemmas.Bool.Decides.{nat_tests}
 use Rattle.rsp_machine.specs.State.{State}
 use Rattle.rsp_machine.specs.Step.{step_of}
-use Rattle.rsp_machine.specs.Laws.{steps_of}
+use Rattle.rsp_machine.specs.Laws.{steps_of, done_steps}
 use Rattle.rsp_machine.specs.Transfers.{starts_dma_at}
 use Rattle.rsp_machine.specs.declared.step.StepEnd.{StepEnd}
 use Rattle.rsp_machine.specs.declared.step.StepEnd.TheVariants.{Done, Halted, Reserved}
 use Rattle.rsp_debug.specs.Past.{past_by, past_after}
 use Rattle.rsp_debug.specs.Debugging.{Debugging, debugging_of, stepped, steps_made, gone_back}
-use Rattle.rsp_debug.specs.Calls.{Going, StepCall, RunCall, made_steps, done_steps, call_steps, called, Call, GoOn, GoBack, Tally, went, is_accepted, after_call, after_calls, Undoes}
+use Rattle.rsp_debug.specs.Calls.{Going, StepCall, RunCall, made_steps, call_steps, called, Call, GoOn, GoBack, Tally, went, is_accepted, after_call, after_calls, Undoes}
 use Rattle.rsp_debug.proofs.Reasons.{step-halted-same, step-reserved-same}
 use Rattle.rsp_debug.proofs.Afters.{after-call}
 use Rattle.rsp_debug.proofs.Going.{made-state}

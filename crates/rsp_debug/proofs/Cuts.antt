@@ -4,7 +4,7 @@ use Rattle.std.specs.Prelude.{option_map, nat_lt, nat_eq, if◌then◌else◌, �
 use Rattle.std.proofs.lemmas.Grind.{common_steps}
 use Rattle.rsp_machine.specs.State.{State}
 use Rattle.rsp_machine.specs.Step.{step_of}
-use Rattle.rsp_machine.specs.Laws.{steps_of}
+use Rattle.rsp_machine.specs.Laws.{steps_of, done_steps}
 use Rattle.rsp_debug.specs.declared.stop.Watch.{Watch}
 use Rattle.rsp_debug.specs.declared.stop.Reason.{Reason}
 use Rattle.rsp_debug.specs.declared.stop.Reason.TheVariants.{Reserved, Halted, Watched, Break, Limit}
@@ -13,7 +13,7 @@ use Rattle.rsp_debug.specs.Past.{past_after}
 use Rattle.rsp_debug.specs.Ring.{past_of}
 use Rattle.rsp_debug.specs.declared.snapshot.Snapshot.{Snapshot}
 use Rattle.rsp_debug.specs.Snapshots.{differs, watches_of}
-use Rattle.rsp_debug.specs.Calls.{IsAfter, done_steps}
+use Rattle.rsp_debug.specs.Calls.{IsAfter}
 use Rattle.rsp_debug.specs.Runs.{stuck_of, hit_in}
 use Rattle.rsp_debug.proofs.Reasons.{hit_of, next-hit, unhit, reason-hit}
 use Rattle.rsp_debug.proofs.Afters.{after-then, at-end}

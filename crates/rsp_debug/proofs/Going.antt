@@ -4,7 +4,7 @@ use Rattle.std.specs.Prelude.{unwrap_or, ◌==◌}
 use Rattle.std.proofs.lemmas.Bool.Decides.{nat_tests}
 use Rattle.rsp_machine.specs.State.{State}
 use Rattle.rsp_machine.specs.Step.{step_of}
-use Rattle.rsp_machine.specs.Laws.{steps_of}
+use Rattle.rsp_machine.specs.Laws.{steps_of, done_steps}
 use Rattle.rsp_machine.specs.declared.step.StepEnd.{StepEnd}
 use Rattle.rsp_machine.specs.declared.step.StepEnd.TheVariants as end
 use Rattle.rsp_debug.specs.Past.{past_by, past_after}
@@ -15,7 +15,7 @@ use Rattle.rsp_debug.specs.declared.stop.Reason.{Reason}
 use Rattle.rsp_debug.specs.declared.stop.Reason.TheVariants.{Limit}
 use Rattle.rsp_debug.specs.declared.snapshot.Snapshot.{Snapshot}
 use Rattle.rsp_debug.specs.Snapshots.{differs, watches_of}
-use Rattle.rsp_debug.specs.Calls.{IsAfter, done_steps}
+use Rattle.rsp_debug.specs.Calls.{IsAfter}
 use Rattle.rsp_debug.specs.Stops.{reason_at}
 use Rattle.rsp_machine.specs.Saved.{Saved}
 use Rattle.rsp_machine.specs.Transfers.{starts_dma_at}

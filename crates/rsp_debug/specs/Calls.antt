@@ -2,7 +2,7 @@
 use Rattle.std.specs.Prelude.{◌≡◌, ◌<◌, ◌≤◌, ◌+◌, ◌-◌, ℕ, List, [], ◌∷◌, length, Bool, ◌&&◌, nat_le, Option, if◌then◌else◌}
 use Rattle.rsp_machine.specs.State.{State}
 use Rattle.rsp_machine.specs.Step.{step_of}
-use Rattle.rsp_machine.specs.Laws.{steps_of}
+use Rattle.rsp_machine.specs.Laws.{steps_of, done_steps}
 use Rattle.rsp_machine.specs.declared.step.StepEnd.{StepEnd}
 use Rattle.rsp_machine.specs.declared.step.StepEnd.TheVariants.{Done, Halted, Reserved}
 use Rattle.rsp_debug.specs.declared.stop.Watch.{Watch}
@@ -22,11 +22,6 @@ pub data Going : Type 0 where
 -- whether a run or a way back may be asked for so many steps
 abbrev pub is_count : ℕ → Bool
 is_count n = nat_le 1 n && nat_le n 1000000
-
-abbrev pub done_steps : StepEnd → ℕ
-done_steps Done = 1
-done_steps Halted = 0
-done_steps (Reserved word) = 0
 
 -- how many steps a run makes; none where it is refused
 abbrev pub made_steps : List Bool → List (Option Watch) → ℕ → State → ℕ

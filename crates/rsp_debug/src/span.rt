@@ -6,14 +6,15 @@
 
 ghost use Rattle.std.specs.Prelude.{◌≡◌, ◌+◌, ◌-◌, ◌^◌, ◌==◌, if◌then◌else◌, ◌<◌, ◌≤◌, Bool, true, false, length, min, is_some};
 ghost use Rattle.rsp_machine.specs.Step.{step_of};
-ghost use Rattle.rsp_debug.specs.Calls.{done_steps};
+ghost use Rattle.rsp_machine.specs.Places.{at_places};
+ghost use Rattle.rsp_machine.specs.Laws.{done_steps};
 ghost use Rattle.rsp_debug.specs.Past.{past_after};
 ghost use Rattle.rsp_debug.specs.Ring.{from_slot, states_before};
 ghost use Rattle.rsp_debug.specs.Span.{steps_left, IsStanding};
 ghost use Rattle.rsp_debug.specs.Runs.{stuck_of, IsGoing};
 
 use rsp_acc::Acc;
-use rsp_machine::{Machine, Record, StepEnd};
+use rsp_machine::{Machine, Places, Record, StepEnd};
 use std::marker::Model;
 
 /// How many records stood when the newest was in the slot `base`. Each step since then has put one before it.
@@ -203,36 +204,37 @@ impl Span {
         self.counted = Counted::none(self.first);
     }
 
-    /// One step of a machine that isn't halted, whose record is written into the next slot. So the states that lead back are
-    /// those before, with the one that the step left as the newest. In a pause it tells whether the step may have changed
-    /// DMEM, where there are watches.
+    /// One step of a machine that isn't halted and stands at these places, whose record is written into the next slot. So the
+    /// states that lead back are those before, with the one that the step left as the newest. In a pause it tells whether the
+    /// step may have changed DMEM, where there are watches.
     #[inline(always)]
     #[tactic(auto, using(crate::proofs::Pasts::pasts))]
     pub fn step<A: Acc>(
         &mut self,
         slots: &mut [Record],
         machine: &mut Machine<A>,
+        places: &mut Places,
         watches: bool,
     ) -> Made
         requires span { IsStanding self.old slots.old }
         requires far { 0 < self.old.far }
         requires goes { machine.old.sp.halted ≡ false }
         requires free { machine.old.sp.single_step ≡ false }
-        ensures state { machine.new ≡ (step_of machine.old).1 }
-        ensures free { IsGoing machine.old machine.new → machine.new.sp.single_step ≡ false }
-        ensures stuck { result ≡ Made.Stuck → is_some (stuck_of machine.new) ≡ true }
-        ensures goes { result ≡ Made.Goes → (0 < self.new.far) × IsGoing machine.old machine.new }
-        ensures pauses { (stored : Bool) → result ≡ Made.Pauses stored → (self.new.far ≡ 0) × IsGoing machine.old machine.new }
+        ensures state { at_places places.new machine.new ≡ (step_of (at_places places.old machine.old)).1 }
+        ensures free { IsGoing (at_places places.old machine.old) (at_places places.new machine.new) → machine.new.sp.single_step ≡ false }
+        ensures stuck { result ≡ Made.Stuck → is_some (stuck_of (at_places places.new machine.new)) ≡ true }
+        ensures goes { result ≡ Made.Goes → (0 < self.new.far) × IsGoing (at_places places.old machine.old) (at_places places.new machine.new) }
+        ensures pauses { (stored : Bool) → result ≡ Made.Pauses stored → (self.new.far ≡ 0) × IsGoing (at_places places.old machine.old) (at_places places.new machine.new) }
         ensures memory { result ≡ Made.Pauses false → watches ≡ true → machine.new.dmem ≡ machine.old.dmem }
-        ensures past { states_before machine.new (from_slot self.new.first self.new.count slots.new) ≡ past_after self.old.depth machine.old (states_before machine.old (from_slot self.old.first self.old.count slots.old)) }
-        ensures far { self.new.far + done_steps (step_of machine.old).0 ≡ self.old.far }
+        ensures past { states_before (at_places places.new machine.new) (from_slot self.new.first self.new.count slots.new) ≡ past_after self.old.depth (at_places places.old machine.old) (states_before (at_places places.old machine.old) (from_slot self.old.first self.old.count slots.old)) }
+        ensures far { self.new.far + done_steps (step_of (at_places places.old machine.old)).0 ≡ self.old.far }
         ensures later { self.new.later ≡ self.old.later }
         ensures depth { self.new.depth ≡ self.old.depth }
         ensures len { length slots.new ≡ length slots.old }
         ensures span { IsStanding self.new slots.new }
     {
         let slot = &mut slots[self.next()];
-        let made = machine.record_step::<false>(slot);
+        let made = machine.record_step_at::<false>(places, slot);
         match made.end {
             StepEnd::Done => {}
             StepEnd::Halted => return Made::Stuck,

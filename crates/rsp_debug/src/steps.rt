@@ -104,13 +104,18 @@ pub fn make_steps<A: Acc>(
     let sought = Sought::of(breaks, snapshots);
     'stretches: loop {
         span.set_out(slots.len(), sought.any);
+        let mut places = machine.places();
         let stored = 'stretch: loop {
-            match span.step(slots, machine, sought.watches) {
-                Made::Stuck => return None,
+            match span.step(slots, machine, &mut places, sought.watches) {
+                Made::Stuck => {
+                    machine.put_places(places);
+                    return None;
+                }
                 Made::Goes => {}
                 Made::Pauses { stored } => break 'stretch stored,
             }
         };
+        machine.put_places(places);
         let found = hit(machine, breaks, snapshots, sought, stored);
         if found.is_some() || span.is_last() {
             return found;

@@ -5,4 +5,6 @@ pub mod Flagging
 pub mod Lows
 pub mod Saving
 pub mod Ending
+pub mod Elsewhere
+pub mod Making
 pub mod Whole

@@ -6,5 +6,7 @@ pub mod Step
 pub mod Laws
 pub mod Saved
 pub mod Changes
+pub mod Places
+pub mod Making
 pub mod Registers
 pub mod Transfers

@@ -20,6 +20,7 @@ mod visits;
 
 pub use host::{RangeFault, TaskFault};
 pub use machine::Machine;
+pub use place::Places;
 pub use record::Record;
 pub use recorder::Recorded;
 pub use registers::{AllRegisters, RegistersFault};

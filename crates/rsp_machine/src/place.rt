@@ -3,10 +3,11 @@ ghost use Rattle.rsp_scalar.specs.Flow.{going_on};
 
 use std::marker::Model;
 
-/// A place in IMEM from which an instruction can be fetched: a multiple of 4 below 4096.
+/// A place in IMEM from which an instruction can be fetched: a multiple of 4 below 4096. It is kept as an index, since a fetch
+/// takes one.
 #[derive(Clone, Copy, Drop)]
 pub(crate) struct Place {
-    address: u16,
+    address: usize,
 }
 
 impl Model for Place {
@@ -30,12 +31,24 @@ impl Place {
         requires whole { address % 4 ≡ 0 }
         ensures { result ≡ address }
     {
-        Place { address }
+        Place {
+            address: usize::from(address),
+        }
     }
 
     /// Its address.
     #[inline(always)]
     pub(crate) fn get(self) -> u16
+        ensures value { result ≡ self }
+        ensures below { result < 4096 }
+        ensures whole { result % 4 ≡ 0 }
+    {
+        self.address as u16
+    }
+
+    /// The same as an index into IMEM.
+    #[inline(always)]
+    pub(crate) fn index(self) -> usize
         ensures value { result ≡ self }
         ensures below { result < 4096 }
         ensures whole { result % 4 ≡ 0 }
@@ -48,6 +61,39 @@ impl Place {
     pub(crate) fn next(self) -> Place
         ensures { result ≡ going_on self }
     {
-        Place::new((self.address + 4) % 4096)
+        Place {
+            address: (self.address + 4) % 4096,
+        }
+    }
+}
+
+/// The places of the next two instructions, pc and npc. A loop of steps keeps them apart from its machine, so that they can
+/// stand in registers of the processor.
+#[derive(Clone, Copy, Drop)]
+pub struct Places {
+    pub(crate) pc: Place,
+    pub(crate) npc: Place,
+}
+
+impl Model for Places {
+    ghost use Rattle.rsp_machine.specs.Places.{Places};
+
+    ghost Value = { Places };
+
+    ghost view = { λ p. record { pc = p.pc; npc = p.npc } };
+
+    ghost inverse = { λ p. record { pc = p.pc; npc = p.npc } };
+}
+
+impl Places {
+    /// The places behind an instruction that is no jump.
+    #[inline(always)]
+    pub(crate) fn next(self) -> Places
+        ensures { result ≡ record { pc = self.npc; npc = going_on self.npc } }
+    {
+        Places {
+            pc: self.npc,
+            npc: self.npc.next(),
+        }
     }
 }

@@ -12,7 +12,7 @@ ghost use Rattle.rsp_machine.specs.Saved.{blank, is_back, may_store, group_at, w
 
 use crate::change::{Change, register_of};
 use crate::machine::Machine;
-use crate::place::Place;
+use crate::place::{Place, Places};
 use crate::visits::Saver;
 use rsp_acc::{Acc, Addends, Part};
 use rsp_decode::{Inst, ScalarMemoryFields, VectorMemoryFields, VectorStoreRow, decode};
@@ -146,8 +146,8 @@ impl Saver for Record {
 
     #[inline(always)]
     #[tactic(auto, unfolding(crate::specs::Saved::change_saved, crate::specs::Saved::values_saved))]
-    fn save<A: Acc>(&mut self, machine: &Machine<A>, from: Place, change: Change) {
-        self.pc = from;
+    fn save<A: Acc>(&mut self, machine: &Machine<A>, before: Places, change: Change) {
+        self.pc = before.pc;
         self.change = change.nameless();
         match change {
             Change::Places | Change::Dma => (),
@@ -246,7 +246,8 @@ impl<A: Acc> Machine<A> {
             Change::Dma => return,
         }
         self.sp.resume();
-        self.take_back(saved.pc);
+        self.npc = self.pc;
+        self.pc = saved.pc;
     }
 
     /// Writes back a scalar register.
@@ -294,7 +295,7 @@ impl<A: Acc> Machine<A> {
         ensures value { result ≡ register_at place self.now }
         ensures bound { result < 32 }
     {
-        match decode(self.imem.aligned_word(place.get())) {
+        match decode(self.imem.aligned_word(place.index())) {
             Some(inst) => register_of(&inst),
             None => 0,
         }

@@ -1,14 +1,17 @@
-ghost use Rattle.std.specs.Prelude.{◌≡◌, ◌<◌, ◌%◌, option_map, unwrap_or};
+ghost use Rattle.std.specs.Prelude.{◌≡◌, ◌<◌, ◌≤◌, ◌||◌, false, option_map, unwrap_or};
 ghost use Rattle.rsp_decode.specs.Table.{IsInstruction, inst_of};
 ghost use Rattle.rsp_rows.specs.declared.scalar.MoveRow.TheVariants as row;
-ghost use Rattle.rsp_machine.specs.Step.{computes, loads, stores, jumps, break_instruction, moves_sp, executed, singled, step_of};
-ghost use Rattle.rsp_machine.specs.State.{advanced, taken_back};
+ghost use Rattle.rsp_machine.specs.Step.{computes, loads, stores, break_instruction, moves_sp, executed, singled, step_of};
+ghost use Rattle.rsp_machine.specs.Places.{at_places, places_of};
+ghost use Rattle.rsp_machine.specs.Laws.{steps_of, done_steps, done_of};
+ghost use Rattle.rsp_machine.specs.Making.{IsMade};
+ghost use Rattle.rsp_scalar.specs.Flow.{following, linked};
 ghost use Rattle.rsp_memory.specs.Memory.{word_at};
 ghost use Rattle.rsp_machine.specs.Saved.{change_of, told_by};
 ghost use Rattle.rsp_machine.specs.Changes.{reaches_sp};
 
 use crate::machine::Machine;
-use crate::place::Place;
+use crate::place::{Place, Places};
 use crate::visits::{Executor, NoRecord, Saver};
 use rsp_acc::Acc;
 use rsp_decode::{Inst, MoveRow, visit};
@@ -29,39 +32,40 @@ pub enum StepEnd {
 }
 
 impl<A: Acc> Machine<A> {
+    /// Where it stands.
+    #[inline(always)]
+    pub fn places(&self) -> Places
+        ensures { result ≡ places_of self.now }
+    {
+        Places {
+            pc: self.pc,
+            npc: self.npc,
+        }
+    }
+
+    /// Goes on from other places, such as those that a loop of steps kept apart.
+    #[inline(always)]
+    pub fn put_places(&mut self, places: Places)
+        ensures { self.new ≡ at_places places self.old }
+    {
+        self.pc = places.pc;
+        self.npc = places.npc;
+    }
+
+    /// The word of IMEM that a machine executes next which stands at these places.
+    #[inline(always)]
+    pub(crate) fn word_at(&self, places: Places) -> u32
+        ensures { result ≡ word_at self.now.imem places.pc }
+    {
+        self.imem.aligned_word(places.pc.index())
+    }
+
     /// The word of IMEM at pc.
     #[inline(always)]
     pub(crate) fn fetch(&self) -> u32
         ensures { result ≡ word_at self.now.imem self.now.pc }
     {
-        self.imem.aligned_word(self.pc.get())
-    }
-
-    /// Goes on to the next place, as each instruction does before its work.
-    #[inline(always)]
-    fn advance(&mut self)
-        ensures { self.new ≡ advanced self.old }
-    {
-        self.pc = self.npc;
-        self.npc = self.npc.next();
-    }
-
-    /// Takes the machine back to the place that it went on from.
-    #[inline(always)]
-    pub(crate) fn take_back(&mut self, from: Place)
-        ensures { self.new ≡ taken_back from self.old }
-    {
-        self.npc = self.pc;
-        self.pc = from;
-    }
-
-    /// Takes it back from a reserved word. Put inline, it would have each step keep the old npc in a register.
-    #[cold]
-    #[inline(never)]
-    fn refuse(&mut self, from: Place)
-        ensures { self.new ≡ taken_back from self.old }
-    {
-        self.take_back(from);
+        self.word_at(self.places())
     }
 
     /// A scalar row that computes.
@@ -94,14 +98,15 @@ impl<A: Acc> Machine<A> {
         store(inst, &self.regs, &mut self.dmem);
     }
 
-    /// A jump or a branch: the instruction behind it, which is at pc now, is executed before its target.
+    /// A jump or a branch of a machine that has gone on to these places and keeps its own: the instruction behind it, which is
+    /// at their pc, is executed before its target.
     #[inline(always)]
-    #[tactic(auto, unfolding(crate::specs::Step::jumps))]
-    pub(crate) fn go_to(&mut self, inst: &Inst)
+    pub(crate) fn go_to(&mut self, inst: &Inst, places: &mut Places)
         requires { IsInstruction inst.now }
-        ensures { self.new ≡ jumps inst.now self.old }
+        ensures places { places.new ≡ record places.old { npc = following inst.now self.old.registers places.old.pc } }
+        ensures link { self.new ≡ record self.old { registers = linked inst.now self.old.registers places.old.pc } }
     {
-        self.npc = Place::new(jump(inst, &mut self.regs, self.pc.get()));
+        places.npc = Place::new(jump(inst, &mut self.regs, places.pc.get()));
     }
 
     /// BREAK.
@@ -147,9 +152,37 @@ impl<A: Acc> Machine<A> {
     }
 
     /// Executes a word, of whose changes a saver is told, and answers whether they may have reached the SP registers. None for
-    /// a reserved word, which changes nothing.
+    /// a reserved word, which changes nothing. The machine stands at these places, and what it has of its own doesn't count.
     #[inline(always)]
     #[tactic(auto, unfolding(crate::specs::Step::executed))]
+    pub(crate) fn execute_at<K: Saver, const APART: bool>(
+        &mut self,
+        places: &mut Places,
+        word: u32,
+        saver: &mut K,
+    ) -> Option<bool>
+        ensures answer { result ≡ option_map (λ i. reaches_sp (change_of i (at_places places.old self.old))) (inst_of word) }
+        ensures state { at_places places.new self.new ≡ unwrap_or (option_map (λ i. executed i (at_places places.old self.old)) (inst_of word)) (at_places places.old self.old) }
+        ensures saver { saver.new ≡ told_by K.saves (inst_of word) (at_places places.old self.old) saver.old }
+    {
+        let before = *places;
+        let behind = before.next();
+        let mut executor: Executor<A, K, APART> = Executor {
+            machine: self,
+            saver,
+            before,
+            places: behind,
+            reaches_sp: false,
+        };
+        if !visit(word, &mut executor) {
+            return None;
+        }
+        *places = executor.places();
+        Some(executor.reaches_sp)
+    }
+
+    /// Executes a word as [`Machine::execute_at`] does, at the places that the machine has.
+    #[inline(always)]
     pub(crate) fn execute<K: Saver, const APART: bool>(
         &mut self,
         word: u32,
@@ -159,19 +192,10 @@ impl<A: Acc> Machine<A> {
         ensures state { self.new ≡ unwrap_or (option_map (λ i. executed i self.old) (inst_of word)) self.old }
         ensures saver { saver.new ≡ told_by K.saves (inst_of word) self.old saver.old }
     {
-        let from = self.pc;
-        self.advance();
-        let mut executor: Executor<A, K, APART> = Executor {
-            machine: self,
-            saver,
-            from,
-            reaches_sp: false,
-        };
-        if !visit(word, &mut executor) {
-            self.refuse(from);
-            return None;
-        }
-        Some(executor.reaches_sp)
+        let mut places = self.places();
+        let reaches_sp = self.execute_at::<K, APART>(&mut places, word, saver);
+        self.put_places(places);
+        reaches_sp
     }
 
     /// The end of an instruction: halted, where single step is set.
@@ -232,5 +256,72 @@ impl<A: Acc> Machine<A> {
             self.sp.on_step();
         }
         StepEnd::Done
+    }
+
+    /// Makes steps where the machine is neither halted nor in single step, up to `n` and as long as it can go on so. Tells
+    /// how many; none only where the next step isn't Done. In this loop the places stand in registers of the processor, and
+    /// whether the machine is halted is asked only behind an instruction that reaches the SP registers.
+    #[inline(always)]
+    fn steps_free(&mut self, n: u64) -> u64
+        requires some { 0 < n }
+        requires free { (self.old.sp.halted || self.old.sp.single_step) ≡ false }
+        ensures within { result ≤ n }
+        ensures made { IsMade result self.old self.new }
+        ensures stuck { result ≡ 0 → done_steps (step_of self.old).0 ≡ 0 }
+    {
+        let mut places = self.places();
+        let mut left = n;
+        while left > 0 {
+            let word = self.word_at(places);
+            let Some(reaches_sp) = self.execute_at::<NoRecord, false>(
+                &mut places,
+                word,
+                &mut NoRecord,
+            ) else {
+                break;
+            };
+            left -= 1;
+            if reaches_sp {
+                self.sp.on_step();
+                break;
+            }
+        }
+        self.put_places(places);
+        n - left
+    }
+
+    /// Makes some steps, up to `n`. Tells how many; none only where the next step isn't Done.
+    #[inline(always)]
+    fn some_steps(&mut self, n: u64) -> u64
+        requires { 0 < n }
+        ensures within { result ≤ n }
+        ensures made { IsMade result self.old self.new }
+        ensures stuck { result ≡ 0 → done_steps (step_of self.old).0 ≡ 0 }
+    {
+        if !self.sp.is_held() {
+            return self.steps_free(n);
+        }
+        match self.step_held() {
+            StepEnd::Done => 1,
+            StepEnd::Halted | StepEnd::Reserved { .. } => 0,
+        }
+    }
+
+    /// Makes up to `n` steps, as [`Machine::step`] makes them, as long as they are Done. Tells how many were; fewer than `n`
+    /// where the machine is halted, or the word at pc is reserved, as a further step would answer. It is the fastest way to
+    /// make many steps that nothing has to look at.
+    pub fn steps(&mut self, n: u64) -> u64
+        ensures state { self.new ≡ steps_of n self.old }
+        ensures done { result ≡ done_of n self.old }
+    {
+        let mut left = n;
+        while left > 0 {
+            let made = self.some_steps(left);
+            if made == 0 {
+                break;
+            }
+            left -= made;
+        }
+        n - left
     }
 }

@@ -1,7 +1,8 @@
 // A machine takes the instructions of the table, one call for each group of rows.
 
 ghost use Rattle.std.specs.Prelude.{◌≡◌};
-ghost use Rattle.rsp_machine.specs.State.{State, taken_back};
+ghost use Rattle.rsp_machine.specs.State.{State};
+ghost use Rattle.rsp_machine.specs.Places.{at_places};
 ghost use Rattle.rsp_machine.specs.Changes.{IsChange, reaches_sp};
 ghost use Rattle.rsp_machine.specs.declared.change.Change.{Change};
 
@@ -10,7 +11,7 @@ use crate::change::{
     vector_move_change,
 };
 use crate::machine::Machine;
-use crate::place::Place;
+use crate::place::Places;
 use rsp_acc::Acc;
 use rsp_compare::MergeOp;
 use rsp_decode::{
@@ -25,10 +26,10 @@ pub(crate) trait Saver {
     /// What it is after it was told.
     ghost saves: { Change → State → Self → Self };
 
-    /// Saves what it wants of the values before the change, of a machine that has gone on from a place.
-    fn save<A: Acc>(&mut self, machine: &Machine<A>, from: Place, change: Change)
+    /// Saves what it wants of the values before the change, of a machine that stands at these places.
+    fn save<A: Acc>(&mut self, machine: &Machine<A>, before: Places, change: Change)
         requires { IsChange change }
-        ensures { self.new ≡ saves change (taken_back from machine.now) self.old };
+        ensures { self.new ≡ saves change (at_places before machine.now) self.old };
 }
 
 /// A saver that saves nothing, for a step that writes no record.
@@ -39,7 +40,7 @@ impl Saver for NoRecord {
     ghost saves = { λ p s k. k };
 
     #[inline(always)]
-    fn save<A: Acc>(&mut self, _machine: &Machine<A>, _from: Place, _change: Change) {}
+    fn save<A: Acc>(&mut self, _machine: &Machine<A>, _before: Places, _change: Change) {}
 }
 
 /// A machine as the table's instructions reach it, and the saver that is told of them. It stands apart from the machine so
@@ -50,8 +51,10 @@ impl Saver for NoRecord {
 pub(crate) struct Executor<'a, A: Acc, K: Saver, const APART: bool> {
     pub(crate) machine: &'a mut Machine<A>,
     pub(crate) saver: &'a mut K,
-    /// The place of the instruction. The machine has gone on from it.
-    pub(crate) from: Place,
+    /// The places before the instruction. What `machine` has of places doesn't count.
+    pub(crate) before: Places,
+    /// The places behind it.
+    pub(crate) places: Places,
     /// Whether the instruction may have read or written the SP registers.
     pub(crate) reaches_sp: bool,
 }
@@ -61,26 +64,36 @@ impl<'a, A: Acc, K: Saver, const APART: bool> Executor<'a, A, K, APART> {
     #[inline(always)]
     fn save(&mut self, change: Change)
         requires { IsChange change }
-        ensures { self.new ≡ record self.old { saver = record self.old.saver { now = K.saves change (taken_back self.old.from self.old.machine.now) self.old.saver.now }; reaches_sp = reaches_sp change } }
+        ensures { self.new ≡ record self.old { saver = record self.old.saver { now = K.saves change (at_places self.old.before self.old.machine.now) self.old.saver.now }; reaches_sp = reaches_sp change } }
     {
-        self.saver.save(self.machine, self.from, change);
+        self.saver.save(self.machine, self.before, change);
         self.reaches_sp = change.reaches_sp();
+    }
+
+    /// The places behind the instruction.
+    #[inline(always)]
+    pub(crate) fn places(&self) -> Places
+        ensures { result ≡ self.now.places }
+    {
+        self.places
     }
 }
 
-#[tactic(auto, unfolding(crate::specs::Step::worked, crate::specs::Saved::change_of))]
+#[tactic(auto, unfolding(crate::specs::Step::worked, crate::specs::Step::computes, crate::specs::Step::loads, crate::specs::Step::stores, crate::specs::Step::jumps, crate::specs::Step::break_instruction, crate::specs::Vector::multiplies, crate::specs::Vector::rounds, crate::specs::Vector::multiplies_mpeg, crate::specs::Vector::reads_accumulator, crate::specs::Vector::ruled, crate::specs::Vector::divides, crate::specs::Vector::loads_vector, crate::specs::Vector::stores_vector, crate::specs::Saved::change_of))]
 impl<'a, A: Acc, K: Saver, const APART: bool> Visitor for Executor<'a, A, K, APART> {
-    ghost use Rattle.rsp_machine.specs.State.{taken_back};
+    ghost use Rattle.rsp_machine.specs.Places.{at_places, places_of};
     ghost use Rattle.rsp_machine.specs.Step.{worked};
     ghost use Rattle.rsp_machine.specs.Saved.{change_of};
     ghost use Rattle.rsp_machine.specs.Changes.{reaches_sp};
 
     ghost after = { λ i e.
-        let before = taken_back e.from e.machine.now in
+        let before = at_places e.before e.machine.now in
+        let behind = worked i (at_places e.places e.machine.now) in
         record {
-          machine = record e.machine { now = worked i e.machine.now };
+          machine = record e.machine { now = at_places (places_of e.machine.now) behind };
           saver = record e.saver { now = K.saves (change_of i before) before e.saver.now };
-          from = e.from;
+          before = e.before;
+          places = places_of behind;
           reaches_sp = reaches_sp (change_of i before);
         } };
 
@@ -104,13 +117,15 @@ impl<'a, A: Acc, K: Saver, const APART: bool> Visitor for Executor<'a, A, K, APA
     #[inline(always)]
     fn jump_register(&mut self, rs: u8) {
         self.save(Change::Places);
-        self.machine.go_to(&Inst::JumpRegister { rs });
+        self.machine
+            .go_to(&Inst::JumpRegister { rs }, &mut self.places);
     }
 
     #[inline(always)]
     fn jump_link_register(&mut self, rd: u8, rs: u8) {
         self.save(Change::Register(u32::from(rd)));
-        self.machine.go_to(&Inst::JumpLinkRegister { rd, rs });
+        self.machine
+            .go_to(&Inst::JumpLinkRegister { rd, rs }, &mut self.places);
     }
 
     #[inline(always)]
@@ -128,24 +143,29 @@ impl<'a, A: Acc, K: Saver, const APART: bool> Visitor for Executor<'a, A, K, APA
     #[inline(always)]
     fn branch_sign(&mut self, row: SignRow, rs: u8, offset: u16) {
         self.save(sign_change(row));
-        self.machine.go_to(&Inst::BranchSign { row, rs, offset });
+        self.machine
+            .go_to(&Inst::BranchSign { row, rs, offset }, &mut self.places);
     }
 
     #[inline(always)]
     fn branch_equal(&mut self, row: EqualRow, rs: u8, rt: u8, offset: u16) {
         self.save(Change::Places);
-        self.machine.go_to(&Inst::BranchEqual {
-            row,
-            rs,
-            rt,
-            offset,
-        });
+        self.machine.go_to(
+            &Inst::BranchEqual {
+                row,
+                rs,
+                rt,
+                offset,
+            },
+            &mut self.places,
+        );
     }
 
     #[inline(always)]
     fn jump(&mut self, row: JumpRow, target: u16) {
         self.save(jump_change(row));
-        self.machine.go_to(&Inst::Jump { row, target });
+        self.machine
+            .go_to(&Inst::Jump { row, target }, &mut self.places);
     }
 
     #[inline(always)]

@@ -108,17 +108,16 @@ impl SpMem {
     /// The 32 bits at a place, a multiple of 4 below 4096, from which no word wraps.
     #[inline(always)]
     #[tactic(auto, unfolding(crate::specs::Memory::word_at, crate::specs::Memory::byte_at))]
-    pub fn aligned_word(&self, place: u16) -> u32
+    pub fn aligned_word(&self, place: usize) -> u32
         requires below { place < 4096 }
         requires whole { place % 4 ≡ 0 }
         ensures { result ≡ word_at self.now place }
     {
-        let at = usize::from(place);
         BigEndian::read_u32(&[
-            self.bytes[at],
-            self.bytes[at + 1],
-            self.bytes[at + 2],
-            self.bytes[at + 3],
+            self.bytes[place],
+            self.bytes[place + 1],
+            self.bytes[place + 2],
+            self.bytes[place + 3],
         ])
     }
 

@@ -1,4 +1,5 @@
 use Rattle.std.proofs.Common.{◌≡◌, ◌<◌, ◌≤◌, ◌-◌, None, false, true, length}
+use Rattle.rsp_machine.specs.Places.{at_places}
 use Rattle.rsp_machine.specs.Laws.{steps_of}
 use Rattle.rsp_debug.specs.Ring.{states_before, from_slot}
 use Rattle.rsp_debug.specs.Span.{steps_left, steps_between, IsStanding}
@@ -35,8 +36,9 @@ invariant-stretch g l =
     let p = l.fn.span in
     let w = watches_of l.snapshots in
     let k = steps_between p l.span in
+    let m = at_places l.places l.machine in
     record {
-      come : IsCome l.breaks w (steps_left p) p.depth s (states_before s (from_slot p.first p.count l.fn.slots)) k l.machine (states_before l.machine (from_slot l.span.first l.span.count l.slots));
+      come : IsCome l.breaks w (steps_left p) p.depth s (states_before s (from_slot p.first p.count l.fn.slots)) k m (states_before m (from_slot l.span.first l.span.count l.slots));
       same : differs l.snapshots l.machine.dmem ≡ None;
       quiet : hit_of l.breaks w k (steps_of (k - 1) s) (steps_of k s) ≡ None;
       goes : l.machine.sp.halted ≡ false;

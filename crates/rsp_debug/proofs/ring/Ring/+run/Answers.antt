@@ -1,8 +1,8 @@
 use Rattle.std.proofs.Common.{◌≡◌, ◌<◌, ◌∙◌, ap, sym, arith, Some}
 use Rattle.rsp_regs.specs.Sp.{Sp}
+use Rattle.rsp_machine.specs.Laws.{done_steps}
 use Rattle.rsp_debug.specs.Snapshots.{watches_of}
 use Rattle.rsp_debug.specs.Ring.{states_before}
-use Rattle.rsp_debug.specs.Calls.{done_steps}
 use Rattle.rsp_debug.specs.Runs.{stuck_of}
 use Rattle.rsp_debug.specs.Stops.{reason_at}
 use Rattle.rsp_debug.specs.declared.stop.Reason.TheVariants.{Limit}

@@ -1,0 +1,66 @@
+-- Moves neither ask nor tell where the machine stands: from elsewhere they do the same, and stay there.
+use Rattle.std.proofs.Common.{◌≡◌, refl, ℕ, Bool, true, false}
+use Rattle.std.specs.Prelude.{if◌then◌else◌, ◌%◌, ◌==◌}
+use Rattle.rsp_decode.specs.declared.inst.Inst.{Inst}
+use Rattle.rsp_rows.specs.declared.scalar.MoveRow.{MoveRow}
+use Rattle.rsp_rows.specs.declared.scalar.MoveRow.TheVariants.{From, To}
+use Rattle.rsp_scalar.specs.Registers.{register}
+use Rattle.rsp_regs.specs.Sp.{Sp, written}
+use Rattle.rsp_machine.specs.State.{State}
+use Rattle.rsp_machine.specs.Changes.{IsRanged}
+use Rattle.rsp_machine.specs.Places.{Places, at_places, places_of}
+use Rattle.rsp_machine.specs.Host.{register_written, moved_in, moved_out}
+use Rattle.rsp_machine.specs.Vector.{moves_vector, moves_control}
+use Rattle.rsp_machine.specs.Step.{moves_sp}
+
+pub vector_elsewhere : (row : MoveRow) (i : Inst) (rt : ℕ) (p : Places) (s : State) → moves_vector row i rt (at_places p s) ≡ at_places p (moves_vector row i rt s)
+unfolding moves_vector
+vector_elsewhere From i rt p s = refl
+vector_elsewhere To i rt p s = refl
+
+pub vector_stays : (row : MoveRow) (i : Inst) (rt : ℕ) (s : State) → at_places (places_of s) (moves_vector row i rt s) ≡ moves_vector row i rt s
+unfolding moves_vector
+vector_stays From i rt s = refl
+vector_stays To i rt s = refl
+
+pub control_elsewhere : (row : MoveRow) (i : Inst) (rt : ℕ) (p : Places) (s : State) → moves_control row i rt (at_places p s) ≡ at_places p (moves_control row i rt s)
+unfolding moves_control
+control_elsewhere From i rt p s = refl
+control_elsewhere To i rt p s = refl
+
+pub control_stays : (row : MoveRow) (i : Inst) (rt : ℕ) (s : State) → at_places (places_of s) (moves_control row i rt s) ≡ moves_control row i rt s
+unfolding moves_control
+control_stays From i rt s = refl
+control_stays To i rt s = refl
+
+written_elsewhere : (a b : Bool) (v : ℕ) (sp : Sp) (p : Places) (s : State)
+    → record (if a then moved_in v (at_places p s) else if b then moved_out v (at_places p s) else at_places p s) { sp = sp }
+    ≡ at_places p (record (if a then moved_in v s else if b then moved_out v s else s) { sp = sp })
+written_elsewhere true b v sp p s = refl
+written_elsewhere false true v sp p s = refl
+written_elsewhere false false v sp p s = refl
+
+pub sp_elsewhere : (row : MoveRow) (rt n : ℕ) (p : Places) (s : State) → moves_sp row rt n (at_places p s) ≡ at_places p (moves_sp row rt n s)
+unfolding moves_sp
+sp_elsewhere From rt n p s = refl
+sp_elsewhere To rt n p s =
+    let v = register s.registers rt in
+    written_elsewhere (n % 16 == 2) (n % 16 == 3) v (written n v s.sp) p s
+
+written_stays : (a b : Bool) (v : ℕ) (sp : Sp) (s : State)
+    → at_places (places_of s) (record (if a then moved_in v s else if b then moved_out v s else s) { sp = sp })
+    ≡ record (if a then moved_in v s else if b then moved_out v s else s) { sp = sp }
+written_stays true b v sp s = refl
+written_stays false true v sp s = refl
+written_stays false false v sp s = refl
+
+pub sp_stays : (row : MoveRow) (rt n : ℕ) (s : State) → at_places (places_of s) (moves_sp row rt n s) ≡ moves_sp row rt n s
+unfolding moves_sp
+sp_stays From rt n s = refl
+sp_stays To rt n s =
+    let v = register s.registers rt in
+    written_stays (n % 16 == 2) (n % 16 == 3) v (written n v s.sp) s
+
+-- nor do the ranges of the vector unit tell
+pub ranged-at : (p : Places) (s : State) → IsRanged s → IsRanged (at_places p s)
+ranged-at p s r = record { vectors = r.vectors; accumulators = r.accumulators; flags = r.flags }

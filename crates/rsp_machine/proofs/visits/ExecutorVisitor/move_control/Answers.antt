@@ -1,0 +1,15 @@
+use Rattle.std.proofs.Common.{rules, ◌≡◌}
+use Rattle.rsp_decode.specs.declared.inst.Inst.TheVariants.{MoveControl}
+use Rattle.rsp_machine.specs.State.{State}
+use Rattle.rsp_machine.specs.Places.{at_places, places_of}
+use Rattle.rsp_machine.specs.Step.{worked}
+use Rattle.rsp_machine.specs.Saved.{change_of}
+use Rattle.rsp_machine.proofs.Elsewhere.{control_elsewhere, control_stays}
+use Rattle.rsp_machine.proofs.visits.ExecutorVisitor.move_control.Goals as goal
+
+pub returns : goal.returns
+unfolding worked change_of
+returns g c =
+    let e = c.args.self.now in let m = e.machine.now in
+    let i = MoveControl c.args.row c.args.rt c.args.control in
+    rw (control_elsewhere c.args.row i c.args.rt e.places m, control_stays c.args.row i c.args.rt m) (search rules)
