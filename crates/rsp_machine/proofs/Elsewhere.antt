@@ -9,7 +9,7 @@ use Rattle.rsp_regs.specs.Sp.{Sp, written}
 use Rattle.rsp_machine.specs.State.{State}
 use Rattle.rsp_machine.specs.Changes.{IsRanged}
 use Rattle.rsp_machine.specs.Places.{Places, at_places, places_of}
-use Rattle.rsp_machine.specs.Host.{register_written, moved_in, moved_out}
+use Rattle.rsp_machine.specs.Host.{moved_in, moved_out}
 use Rattle.rsp_machine.specs.Vector.{moves_vector, moves_control}
 use Rattle.rsp_machine.specs.Step.{moves_sp}
 

@@ -1,14 +1,12 @@
 -- Steps that are made one by one.
-use Rattle.std.proofs.Common.{◌≡◌, ◌⊎◌, inl, inr, ℕ, zero, suc, ◌+◌, ◌-◌, ◌<◌, ◌≤◌, Bool, true, false, ◌||◌, refl, sym, ap, ◌∙◌, arith, Option, Some, None}
-use Rattle.std.specs.Prelude.{if◌then◌else◌, option_map, unwrap_or}
+use Rattle.std.proofs.Common.{◌≡◌, ◌⊎◌, inl, inr, ℕ, zero, suc, ◌+◌, ◌-◌, ◌≤◌, Bool, true, false, ◌||◌, refl, sym, ap, ◌∙◌, arith, Option, Some, None}
+use Rattle.std.specs.Prelude.{if◌then◌else◌}
 use Rattle.rsp_decode.specs.declared.inst.Inst.{Inst}
 use Rattle.rsp_decode.specs.Table.{inst_of}
 use Rattle.rsp_memory.specs.Memory.{word_at}
 use Rattle.rsp_machine.specs.State.{State}
-use Rattle.rsp_machine.specs.Places.{Places, at_places, places_of}
-use Rattle.rsp_machine.specs.Saved.{change_of}
-use Rattle.rsp_machine.specs.Changes.{reaches_sp}
-use Rattle.rsp_machine.specs.Step.{executed, singled, step_by, step_of}
+use Rattle.rsp_machine.specs.Places.{Places, at_places}
+use Rattle.rsp_machine.specs.Step.{singled, step_by, step_of}
 use Rattle.rsp_machine.specs.Laws.{steps_of, done_steps, done_of}
 use Rattle.rsp_machine.specs.Making.{IsMade}
 use Rattle.rsp_machine.specs.declared.step.StepEnd.{StepEnd}

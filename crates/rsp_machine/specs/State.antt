@@ -71,7 +71,3 @@ start_of image = record {
 -- where pc and npc have gone on: pc becomes npc, and npc the place after it
 abbrev pub advanced : State → State
 advanced s = record s { pc = s.npc; npc = going_on s.npc }
-
--- and back again to a place
-abbrev pub taken_back : ℕ → State → State
-taken_back pc s = record s { pc = pc; npc = s.pc }

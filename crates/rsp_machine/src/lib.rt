@@ -15,6 +15,7 @@ mod record;
 mod recorder;
 mod registers;
 mod step;
+mod steps;
 mod vector;
 mod visits;
 

@@ -1,10 +1,8 @@
-ghost use Rattle.std.specs.Prelude.{◌≡◌, ◌<◌, ◌≤◌, ◌||◌, false, option_map, unwrap_or};
+ghost use Rattle.std.specs.Prelude.{◌≡◌, ◌<◌, option_map, unwrap_or};
 ghost use Rattle.rsp_decode.specs.Table.{IsInstruction, inst_of};
 ghost use Rattle.rsp_rows.specs.declared.scalar.MoveRow.TheVariants as row;
 ghost use Rattle.rsp_machine.specs.Step.{computes, loads, stores, break_instruction, moves_sp, executed, singled, step_of};
 ghost use Rattle.rsp_machine.specs.Places.{at_places, places_of};
-ghost use Rattle.rsp_machine.specs.Laws.{steps_of, done_steps, done_of};
-ghost use Rattle.rsp_machine.specs.Making.{IsMade};
 ghost use Rattle.rsp_scalar.specs.Flow.{following, linked};
 ghost use Rattle.rsp_memory.specs.Memory.{word_at};
 ghost use Rattle.rsp_machine.specs.Saved.{change_of, told_by};
@@ -218,7 +216,7 @@ impl<A: Acc> Machine<A> {
             return StepEnd::Halted;
         }
         let word = self.fetch();
-        let Some(_) = self.execute::<NoRecord, true>(word, &mut NoRecord) else {
+        let Some(_) = self.execute::<NoRecord<false>, true>(word, &mut NoRecord) else {
             return StepEnd::Reserved { word };
         };
         self.end_instruction();
@@ -228,7 +226,7 @@ impl<A: Acc> Machine<A> {
     /// A step where the machine is halted, or single step is set.
     #[cold]
     #[inline(never)]
-    fn step_held(&mut self) -> StepEnd
+    pub(crate) fn step_held(&mut self) -> StepEnd
         ensures answer { result ≡ (step_of self.old).0 }
         ensures state { self.new ≡ (step_of self.old).1 }
     {
@@ -248,7 +246,7 @@ impl<A: Acc> Machine<A> {
             return self.step_held();
         }
         let word = self.fetch();
-        let Some(reaches_sp) = self.execute::<NoRecord, false>(word, &mut NoRecord) else {
+        let Some(reaches_sp) = self.execute::<NoRecord<true>, false>(word, &mut NoRecord) else {
             return StepEnd::Reserved { word };
         };
         // Single step was clear, and only an instruction that reaches it can have set it.
@@ -256,72 +254,5 @@ impl<A: Acc> Machine<A> {
             self.sp.on_step();
         }
         StepEnd::Done
-    }
-
-    /// Makes steps where the machine is neither halted nor in single step, up to `n` and as long as it can go on so. Tells
-    /// how many; none only where the next step isn't Done. In this loop the places stand in registers of the processor, and
-    /// whether the machine is halted is asked only behind an instruction that reaches the SP registers.
-    #[inline(always)]
-    fn steps_free(&mut self, n: u64) -> u64
-        requires some { 0 < n }
-        requires free { (self.old.sp.halted || self.old.sp.single_step) ≡ false }
-        ensures within { result ≤ n }
-        ensures made { IsMade result self.old self.new }
-        ensures stuck { result ≡ 0 → done_steps (step_of self.old).0 ≡ 0 }
-    {
-        let mut places = self.places();
-        let mut left = n;
-        while left > 0 {
-            let word = self.word_at(places);
-            let Some(reaches_sp) = self.execute_at::<NoRecord, false>(
-                &mut places,
-                word,
-                &mut NoRecord,
-            ) else {
-                break;
-            };
-            left -= 1;
-            if reaches_sp {
-                self.sp.on_step();
-                break;
-            }
-        }
-        self.put_places(places);
-        n - left
-    }
-
-    /// Makes some steps, up to `n`. Tells how many; none only where the next step isn't Done.
-    #[inline(always)]
-    fn some_steps(&mut self, n: u64) -> u64
-        requires { 0 < n }
-        ensures within { result ≤ n }
-        ensures made { IsMade result self.old self.new }
-        ensures stuck { result ≡ 0 → done_steps (step_of self.old).0 ≡ 0 }
-    {
-        if !self.sp.is_held() {
-            return self.steps_free(n);
-        }
-        match self.step_held() {
-            StepEnd::Done => 1,
-            StepEnd::Halted | StepEnd::Reserved { .. } => 0,
-        }
-    }
-
-    /// Makes up to `n` steps, as [`Machine::step`] makes them, as long as they are Done. Tells how many were; fewer than `n`
-    /// where the machine is halted, or the word at pc is reserved, as a further step would answer. It is the fastest way to
-    /// make many steps that nothing has to look at.
-    pub fn steps(&mut self, n: u64) -> u64
-        ensures state { self.new ≡ steps_of n self.old }
-        ensures done { result ≡ done_of n self.old }
-    {
-        let mut left = n;
-        while left > 0 {
-            let made = self.some_steps(left);
-            if made == 0 {
-                break;
-            }
-            left -= made;
-        }
-        n - left
     }
 }

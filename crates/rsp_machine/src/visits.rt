@@ -32,11 +32,12 @@ pub(crate) trait Saver {
         ensures { self.new ≡ saves change (at_places before machine.now) self.old };
 }
 
-/// A saver that saves nothing, for a step that writes no record.
+/// A saver that saves nothing, for a step that writes no record. [`Machine::step`], of which a caller makes a `LOOP`, has a kind
+/// of its own, and so its own copy of the decoder beside that of [`Machine::steps`].
 #[derive(Clone, Copy, Drop)]
-pub(crate) struct NoRecord;
+pub(crate) struct NoRecord<const LOOP: bool>;
 
-impl Saver for NoRecord {
+impl<const LOOP: bool> Saver for NoRecord<LOOP> {
     ghost saves = { λ p s k. k };
 
     #[inline(always)]

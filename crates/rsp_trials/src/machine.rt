@@ -113,6 +113,38 @@ fn executes_three_words(rt: HostRuntime) -> Result<(), AllocError> {
 }
 
 #[test]
+fn makes_steps_at_once(rt: HostRuntime) -> Result<(), AllocError> {
+    let up = 0x2421_0001; // addiu $1, $1, 1
+    for (status, place, words, n, made, pc, npc, count, halted) in [
+        // addiu; j 0; addiu
+        (0, 0, [up, 0x0800_0000, up], 7, 7, 4, 8, 5, false),
+        // ends at a jump: its delay slot is next
+        (0, 0, [up, 0x0800_0000, up], 2, 2, 8, 0, 1, false),
+        // nop; nop; addiu, behind the end of IMEM
+        (0, 0xff8, [0, 0, up], 3, 3, 4, 8, 1, false),
+        // addiu; break; addiu
+        (0, 0, [up, 0x0000_000d, up], 10, 2, 8, 0xc, 1, true),
+        // addiu; addiu; a reserved word
+        (0, 0, [up, up, 0xffff_ffff], 10, 2, 8, 0xc, 2, false),
+        // ori $3, $0, 0x40; mtc0 $3, $4, which sets single step; addiu
+        (0, 0, [0x3403_0040, 0x4083_2000, up], 10, 2, 8, 0xc, 0, true),
+        // in single step; halted
+        (0x40, 0, [up; 3], 10, 1, 4, 8, 1, true),
+        (0x02, 0, [up; 3], 10, 0, 0, 4, 0, true),
+        (0, 0, [up; 3], 0, 0, 0, 4, 0, false),
+    ] {
+        let mut machine: Machine<PlaneAcc> = start(&rt, rt.alloc())?;
+        program(&mut machine, place, &words);
+        machine.write_reg(4, status);
+        assert_eq!(rt; machine.steps(n), made);
+        assert_eq!(rt; (machine.pc(), machine.npc()), (pc, npc));
+        assert_eq!(rt; machine.reg(1), count);
+        assert_eq!(rt; machine.sp_regs().halted(), halted);
+    }
+    Ok(())
+}
+
+#[test]
 fn starts_a_task_or_refuses(rt: HostRuntime) -> Result<(), AllocError> {
     let mut machine: Machine<PlaneAcc> = start(&rt, rt.alloc())?;
     let _ = machine.load_bytes(Bank::Rdram, 8, &[0, 0, 0, 0x40, 0, 0, 0, 8]);

@@ -111,7 +111,7 @@ pub hit-found-requires-clause-same : goal.hit-found-requires-clause-same
 hit-found-requires-clause-same g c none =
     ap (λ (x : State). differs c.args.snapshots.now x.dmem) c.put_places-in-stretches.ensures
     ∙ still-same c.of-sought.result.watches c.args.snapshots.now c.stretch.machine.dmem c.step.new.machine.dmem c.of-sought.ensures.watches
-        (c.step.ensures.memory (c.in-Pauses.is ∙ ap Pauses none)) c.stretch.invariant.same
+    (c.step.ensures.memory (c.in-Pauses.is ∙ ap Pauses none)) c.stretch.invariant.same
 
 pub returns-then-is_some-clause-after : goal.returns-then-is_some-clause-after
 returns-then-is_some-clause-after g c =
@@ -138,7 +138,7 @@ pub returns-then-is_some-clause-last : goal.returns-then-is_some-clause-last
 returns-then-is_some-clause-last g c free =
     let l = c.stretch in let i = l.invariant in let y = c.step.new in let e = c.step.ensures in
     let t = c.put_places-in-stretches.new.self in let same = c.put_places-in-stretches.ensures in
-    let b = c.args.breaks.now in let d = c.args.snapshots.now in let p = c.args.span.now in let s = c.args.machine.now in let m = at_places l.places l.machine in 
+    let b = c.args.breaks.now in let d = c.args.snapshots.now in let p = c.args.span.now in let s = c.args.machine.now in let m = at_places l.places l.machine in
     let pauses = e.pauses c.in-Pauses.stored c.in-Pauses.is in
     stop-come b d (steps_left p) p.depth s (states_before s (from_slot p.first p.count c.args.slots.now)) (steps_between p y.self) t _ c.hit-found.result
     (come-on _ _ c.args.span.now l.span y.self c.args.machine.now (at_places l.places l.machine) t c.args.slots.now l.slots y.slots
@@ -155,7 +155,7 @@ pub stretches-preserved : goal.stretches-preserved
 stretches-preserved g c =
     let l = c.stretch in let i = l.invariant in let y = c.step.new in let e = c.step.ensures in
     let t = c.put_places-in-stretches.new.self in let same = c.put_places-in-stretches.ensures in
-    let b = c.args.breaks.now in let d = c.args.snapshots.now in let p = c.args.span.now in let s = c.args.machine.now in let m = at_places l.places l.machine in 
+    let b = c.args.breaks.now in let d = c.args.snapshots.now in let p = c.args.span.now in let s = c.args.machine.now in let m = at_places l.places l.machine in
     let pauses = e.pauses c.in-Pauses.stored c.in-Pauses.is in
     let none = no-some c.hit-found.result (sym c.is_some.ensures ∙ c.if-is_some.false) in
     record {

@@ -1,4 +1,4 @@
-use Rattle.std.proofs.Common.{◌≡◌, arith}
+use Rattle.std.proofs.Common.{arith}
 use Rattle.rsp_machine.proofs.Making.{made-one, not-done, made-stuck}
 use Rattle.rsp_machine.proofs.machine.Machine.some_steps.Goals as goal
 

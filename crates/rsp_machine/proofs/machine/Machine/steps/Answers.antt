@@ -1,5 +1,4 @@
-use Rattle.std.proofs.Common.{◌≡◌, ◌∙◌, ◌-◌, ◌≤◌, ap, refl, sym, arith}
-use Rattle.rsp_machine.specs.Laws.{steps_of, done_of}
+use Rattle.std.proofs.Common.{◌∙◌, ◌-◌, refl, arith}
 use Rattle.rsp_machine.proofs.Making.{made-none, made-then, all-state, all-done, stuck-state, stuck-done, made-start}
 use Rattle.rsp_machine.proofs.machine.Machine.steps.Goals.{else-loop-left-test, then-loop-left-test+then-made-eq0}
 use Rattle.rsp_machine.proofs.machine.Machine.steps.Goals as goal

@@ -1,4 +1,4 @@
-use Rattle.std.proofs.Common.{◌≡◌, ◌≤◌, ◌-◌}
+use Rattle.std.proofs.Common.{◌≤◌, ◌-◌}
 use Rattle.rsp_machine.specs.Making.{IsMade}
 use Rattle.rsp_machine.proofs.machine.Machine.steps.Given as goal
 

@@ -1,4 +1,4 @@
-use Rattle.std.proofs.Common.{◌≡◌, ◌∙◌, ◌-◌, ◌||◌, ap, sym, arith}
+use Rattle.std.proofs.Common.{◌∙◌, ◌-◌, ◌||◌, ap, sym, arith}
 use Rattle.rsp_regs.specs.Sp.{Sp}
 use Rattle.rsp_machine.specs.Places.{at_places}
 use Rattle.rsp_machine.specs.State.{State}

@@ -1,7 +1,5 @@
-use Rattle.std.proofs.Common.{rules, ◌≡◌}
+use Rattle.std.proofs.Common.{rules}
 use Rattle.rsp_decode.specs.declared.inst.Inst.TheVariants.{MoveControl}
-use Rattle.rsp_machine.specs.State.{State}
-use Rattle.rsp_machine.specs.Places.{at_places, places_of}
 use Rattle.rsp_machine.specs.Step.{worked}
 use Rattle.rsp_machine.specs.Saved.{change_of}
 use Rattle.rsp_machine.proofs.Elsewhere.{control_elsewhere, control_stays}

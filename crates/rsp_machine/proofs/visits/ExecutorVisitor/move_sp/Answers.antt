@@ -1,6 +1,4 @@
-use Rattle.std.proofs.Common.{rules, ◌≡◌}
-use Rattle.rsp_machine.specs.State.{State}
-use Rattle.rsp_machine.specs.Places.{at_places, places_of}
+use Rattle.std.proofs.Common.{rules}
 use Rattle.rsp_machine.specs.Step.{worked}
 use Rattle.rsp_machine.specs.Saved.{change_of}
 use Rattle.rsp_machine.proofs.Elsewhere.{sp_elsewhere, sp_stays}
