@@ -148,7 +148,7 @@ impl Ring {
             self.count = 0;
             return made.end;
         }
-        self.count = self.count.saturating_add(1).min(self.depth);
+        self.count = (self.count + 1).min(self.depth);
         made.end
     }
 

@@ -30,7 +30,7 @@ pub enum StepEnd {
 }
 
 impl<A: Acc> Machine<A> {
-    /// Where it stands.
+    /// The places at which it stands: for a loop of steps, which keeps them apart.
     #[inline(always)]
     pub fn places(&self) -> Places
         ensures { result ≡ places_of self.now }
@@ -41,7 +41,7 @@ impl<A: Acc> Machine<A> {
         }
     }
 
-    /// Goes on from other places, such as those that a loop of steps kept apart.
+    /// Stands at these places, which a loop of steps has kept apart.
     #[inline(always)]
     pub fn put_places(&mut self, places: Places)
         ensures { self.new ≡ at_places places self.old }
@@ -163,12 +163,12 @@ impl<A: Acc> Machine<A> {
         ensures state { at_places places.new self.new ≡ unwrap_or (option_map (λ i. executed i (at_places places.old self.old)) (inst_of word)) (at_places places.old self.old) }
         ensures saver { saver.new ≡ told_by K.saves (inst_of word) (at_places places.old self.old) saver.old }
     {
-        let before = *places;
-        let behind = before.next();
+        let from = places.pc;
+        let behind = places.next();
         let mut executor: Executor<A, K, APART> = Executor {
             machine: self,
             saver,
-            before,
+            from,
             places: behind,
             reaches_sp: false,
         };
@@ -236,7 +236,7 @@ impl<A: Acc> Machine<A> {
     /// One step: Halted where the machine is halted, else Reserved where the word of IMEM at pc is, and
     /// in both cases nothing changes. Else the instruction there is executed, by the instruction table;
     /// then, where single step is set in the state that it made, the machine is halted. The answer is
-    /// Done.
+    /// Done. Many steps that nothing has to look at are faster by [`Machine::steps`].
     #[inline(always)]
     pub fn step(&mut self) -> StepEnd
         ensures answer { result ≡ (step_of self.old).0 }

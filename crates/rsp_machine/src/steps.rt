@@ -37,7 +37,9 @@ impl<A: Acc> Machine<A> {
             left -= 1;
             if reaches_sp {
                 self.sp.on_step();
-                break;
+                if self.sp.is_held() {
+                    break;
+                }
             }
         }
         self.put_places(places);
@@ -61,9 +63,8 @@ impl<A: Acc> Machine<A> {
         }
     }
 
-    /// Makes up to `n` steps, as [`Machine::step`] makes them, as long as they are Done. Tells how many were; fewer than `n`
-    /// where the machine is halted, or the word at pc is reserved, as a further step would answer. It is the fastest way to
-    /// make many steps that nothing has to look at.
+    /// Makes up to `n` steps, as [`Machine::step`] makes them, as long as they are Done. Tells how many were: fewer than `n`
+    /// where the machine is halted then, or the word at pc is reserved, as a further step would answer.
     pub fn steps(&mut self, n: u64) -> u64
         ensures state { self.new ≡ steps_of n self.old }
         ensures done { result ≡ done_of n self.old }

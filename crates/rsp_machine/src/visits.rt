@@ -11,7 +11,7 @@ use crate::change::{
     vector_move_change,
 };
 use crate::machine::Machine;
-use crate::place::Places;
+use crate::place::{Place, Places};
 use rsp_acc::Acc;
 use rsp_compare::MergeOp;
 use rsp_decode::{
@@ -52,9 +52,9 @@ impl<const LOOP: bool> Saver for NoRecord<LOOP> {
 pub(crate) struct Executor<'a, A: Acc, K: Saver, const APART: bool> {
     pub(crate) machine: &'a mut Machine<A>,
     pub(crate) saver: &'a mut K,
-    /// The places before the instruction. What `machine` has of places doesn't count.
-    pub(crate) before: Places,
-    /// The places behind it.
+    /// The place of the instruction.
+    pub(crate) from: Place,
+    /// The places behind it. What `machine` has of places doesn't count.
     pub(crate) places: Places,
     /// Whether the instruction may have read or written the SP registers.
     pub(crate) reaches_sp: bool,
@@ -65,9 +65,13 @@ impl<'a, A: Acc, K: Saver, const APART: bool> Executor<'a, A, K, APART> {
     #[inline(always)]
     fn save(&mut self, change: Change)
         requires { IsChange change }
-        ensures { self.new ≡ record self.old { saver = record self.old.saver { now = K.saves change (at_places self.old.before self.old.machine.now) self.old.saver.now }; reaches_sp = reaches_sp change } }
+        ensures { self.new ≡ record self.old { saver = record self.old.saver { now = K.saves change (at_places (record { pc = self.old.from; npc = self.old.places.pc }) self.old.machine.now) self.old.saver.now }; reaches_sp = reaches_sp change } }
     {
-        self.saver.save(self.machine, self.before, change);
+        let before = Places {
+            pc: self.from,
+            npc: self.places.pc,
+        };
+        self.saver.save(self.machine, before, change);
         self.reaches_sp = change.reaches_sp();
     }
 
@@ -88,12 +92,12 @@ impl<'a, A: Acc, K: Saver, const APART: bool> Visitor for Executor<'a, A, K, APA
     ghost use Rattle.rsp_machine.specs.Changes.{reaches_sp};
 
     ghost after = { λ i e.
-        let before = at_places e.before e.machine.now in
+        let before = at_places (record { pc = e.from; npc = e.places.pc }) e.machine.now in
         let behind = worked i (at_places e.places e.machine.now) in
         record {
           machine = record e.machine { now = at_places (places_of e.machine.now) behind };
           saver = record e.saver { now = K.saves (change_of i before) before e.saver.now };
-          before = e.before;
+          from = e.from;
           places = places_of behind;
           reaches_sp = reaches_sp (change_of i before);
         } };
