@@ -13,7 +13,7 @@ ghost use Rattle.rsp_debug.specs.declared.stop.Reason.TheVariants as why;
 use crate::breaks::Breaks;
 use crate::snapshot::Snapshot;
 use crate::span::Span;
-use crate::steps::{Sought, hit, make_steps};
+use crate::steps::{hit, make_steps};
 use crate::stop::Reason;
 use circular_buffer::HeapCircularBuffer;
 use rsp_acc::Acc;
@@ -186,8 +186,7 @@ impl Ring {
             StepEnd::Halted => return (0, None),
             StepEnd::Reserved { word: _ } => return (0, None),
         }
-        let sought = Sought::of(breaks, snapshots);
-        if let Some(found) = hit(machine, breaks, snapshots, sought, true) {
+        if let Some(found) = hit(machine, breaks, snapshots) {
             return (1, Some(found));
         }
         let (more, found) = self.run(machine, breaks, snapshots, n - 1);

@@ -1,6 +1,7 @@
 // The steps of a run, in one loop into which the machine's step is put. `Span` says what makes it fast.
 
 ghost use Rattle.std.specs.Prelude.{◌≡◌, ◌<◌, ◌≤◌, ℕ, Some, None, length, unwrap_or, true, false};
+ghost use Rattle.rsp_machine.specs.Places.{at_places};
 ghost use Rattle.rsp_debug.specs.Stops.{reason_at};
 ghost use Rattle.rsp_debug.specs.Breaks.{break_count};
 ghost use Rattle.rsp_debug.specs.Calls.{IsAfter};
@@ -15,7 +16,7 @@ use crate::snapshot::{Snapshot, differs};
 use crate::span::{Made, Span};
 use crate::stop::Reason;
 use rsp_acc::Acc;
-use rsp_machine::{Machine, Record};
+use rsp_machine::{Machine, Places, Record};
 
 /// The bytes of DMEM.
 pub fn dmem_bytes<A: Acc>(machine: &Machine<A>) -> &[u8]
@@ -51,12 +52,13 @@ impl Sought {
     }
 }
 
-/// The watch or the breakpoint that a step has come to. Bytes are compared only where the step may have stored, and places
-/// looked up only where there are breakpoints.
+/// The watch or the breakpoint that a step has come to, of a machine that stands at these places. Bytes are compared only
+/// where the step may have stored, and places looked up only where there are breakpoints.
 #[inline(always)]
 #[tactic(auto, using(crate::proofs::Hits::hits))]
-pub fn hit<A: Acc>(
+fn hit_at<A: Acc>(
     machine: &Machine<A>,
+    places: Places,
     breaks: &Breaks,
     snapshots: &[Option<Snapshot>],
     sought: Sought,
@@ -64,15 +66,27 @@ pub fn hit<A: Acc>(
 ) -> Option<Reason>
     requires free { sought.breaks ≡ false → break_count breaks.now ≡ 0 }
     requires same { stored ≡ false → differs snapshots.now machine.now.dmem ≡ None }
-    ensures { result ≡ hit_in breaks.now snapshots.now machine.now }
+    ensures { result ≡ hit_in breaks.now snapshots.now (at_places places machine.now) }
 {
     if stored && let Some(k) = differs(snapshots, dmem_bytes(machine)) {
         return Some(Reason::Watched(k));
     }
-    if sought.breaks && breaks.contains(machine.pc()) {
+    if sought.breaks && breaks.contains(places.pc()) {
         return Some(Reason::Break);
     }
     None
+}
+
+/// The same where the machine stands, behind a step that may have stored.
+pub fn hit<A: Acc>(
+    machine: &Machine<A>,
+    breaks: &Breaks,
+    snapshots: &[Option<Snapshot>],
+) -> Option<Reason>
+    ensures { result ≡ hit_in breaks.now snapshots.now machine.now }
+{
+    let sought = Sought::of(breaks, snapshots);
+    hit_at(machine, machine.places(), breaks, snapshots, sought, true)
 }
 
 /// Makes steps as long as they answer Done, as many as the span has left, up to one that comes to a breakpoint or a watch.
@@ -102,9 +116,9 @@ pub fn make_steps<A: Acc>(
     ensures last { stuck_of machine.new ≡ None → reason_at breaks.now (watches_of snapshots.now) (steps_left span.old) machine.old (steps_between span.old span.new) ≡ Some (unwrap_or result why.Limit) }
 {
     let sought = Sought::of(breaks, snapshots);
+    let mut places = machine.places();
     'stretches: loop {
         span.set_out(slots.len(), sought.any);
-        let mut places = machine.places();
         let stored = 'stretch: loop {
             match span.step(slots, machine, &mut places, sought.watches) {
                 Made::Stuck => {
@@ -115,9 +129,9 @@ pub fn make_steps<A: Acc>(
                 Made::Pauses { stored } => break 'stretch stored,
             }
         };
-        machine.put_places(places);
-        let found = hit(machine, breaks, snapshots, sought, stored);
+        let found = hit_at(machine, places, breaks, snapshots, sought, stored);
         if found.is_some() || span.is_last() {
+            machine.put_places(places);
             return found;
         }
     }

@@ -86,6 +86,16 @@ impl Model for Places {
 }
 
 impl Places {
+    /// The place of the next instruction, a multiple of 4 below 4096.
+    #[inline(always)]
+    pub fn pc(self) -> u16
+        ensures value { result ≡ self.pc }
+        ensures below { result < 4096 }
+        ensures whole { result % 4 ≡ 0 }
+    {
+        self.pc.get()
+    }
+
     /// The places behind an instruction that is no jump.
     #[inline(always)]
     pub(crate) fn next(self) -> Places

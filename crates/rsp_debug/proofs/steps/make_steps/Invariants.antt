@@ -15,8 +15,9 @@ invariant-stretches g l =
     let p = l.fn.span in
     let w = watches_of l.snapshots in
     let k = steps_between p l.span in
+    let m = at_places l.places l.machine in
     record {
-      come : IsCome l.breaks w (steps_left p) p.depth s (states_before s (from_slot p.first p.count l.fn.slots)) k l.machine (states_before l.machine (from_slot l.span.first l.span.count l.slots));
+      come : IsCome l.breaks w (steps_left p) p.depth s (states_before s (from_slot p.first p.count l.fn.slots)) k m (states_before m (from_slot l.span.first l.span.count l.slots));
       same : differs l.snapshots l.machine.dmem ≡ None;
       quiet : hit_of l.breaks w k (steps_of (k - 1) s) (steps_of k s) ≡ None;
       goes : l.machine.sp.halted ≡ false;
