@@ -61,7 +61,7 @@ ruled rule f s =
       accumulators = with_low s.accumulators (lows_of rule a b s.flags);
     }
 
--- a divide row, which writes one lane of vd; vt is as it same_places before, so that it may be vd
+-- a divide row, which writes one lane of vd; vt is as it stood before, so that it may be vd
 unfoldable pub divides : DivideRow → ℕ → ℕ → ℕ → ℕ → State → State
 divides row vd lane vt e s =
     let source = vector s.vectors vt in
