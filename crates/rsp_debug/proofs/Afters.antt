@@ -11,6 +11,7 @@ use Rattle.rsp_machine.specs.Step.{step_of, step_by}
 use Rattle.rsp_machine.specs.Laws.{steps_of, done_steps}
 use Rattle.rsp_machine.specs.declared.step.StepEnd.{StepEnd}
 use Rattle.rsp_machine.specs.declared.step.StepEnd.TheVariants as end
+use Rattle.rsp_machine.proofs.Making.{steps-add}
 use Rattle.rsp_debug.specs.declared.stop.Watch.{Watch}
 use Rattle.rsp_debug.specs.declared.stop.Stop.{Stop}
 use Rattle.rsp_debug.specs.declared.stop.Reason.{Reason}
@@ -19,14 +20,6 @@ use Rattle.rsp_debug.specs.Stops.{first_of, when, is_reserved, is_break, changed
 use Rattle.rsp_debug.specs.Runs.{stuck_of}
 use Rattle.rsp_debug.specs.Calls.{IsAfter, Going, StepCall, RunCall, is_count, call_steps, called, all_steps, all_called}
 use Rattle.rsp_debug.proofs.Reasons.{stuck_by, stuck_is, step-halted-same, step-reserved-same, steps-none, steps-more, two_none, is_stop, reason-stuck}
-
--- steps after steps
-pub steps-add : (m n : ℕ) (s : State) → steps_of (m + n) s ≡ steps_of n (steps_of m s)
-unfolding steps_of
-steps-add m zero s = ap (λ i. steps_of i s) (let e : m + 0 ≡ m = omega arith in e)
-steps-add m (suc n) s =
-    ap (λ i. steps_of i s) (let e : m + suc n ≡ suc (m + n) = omega arith in e)
-    ∙ ap (λ (x : State). (step_of x).1) (steps-add m n s)
 
 pub after-none : (s : State) → IsAfter 0 s s
 after-none s = record { done = λ k h. absurd (omega arith); reached = sym (steps-none s) }

@@ -30,12 +30,12 @@ made-more k j s t u m e i = rw (i) (record {
 })
 
 -- steps after steps
-steps_add : (m n : ℕ) (s : State) → steps_of (m + n) s ≡ steps_of n (steps_of m s)
+pub steps-add : (m n : ℕ) (s : State) → steps_of (m + n) s ≡ steps_of n (steps_of m s)
 unfolding steps_of
-steps_add m zero s = ap (λ i. steps_of i s) (let e : m + 0 ≡ m = omega arith in e)
-steps_add m (suc n) s =
+steps-add m zero s = ap (λ i. steps_of i s) (let e : m + 0 ≡ m = omega arith in e)
+steps-add m (suc n) s =
     ap (λ i. steps_of i s) (let e : m + suc n ≡ suc (m + n) = omega arith in e)
-    ∙ ap (λ (x : State). (step_of x).1) (steps_add m n s)
+    ∙ ap (λ (x : State). (step_of x).1) (steps-add m n s)
 
 done_add : (m n : ℕ) (s : State) → done_of (m + n) s ≡ done_of m s + done_of n (steps_of m s)
 unfolding done_of
@@ -45,12 +45,12 @@ done_add m zero s =
     ap (λ i. done_of i s) e ∙ f
 done_add m (suc n) s =
     let more : done_of (m + suc n) s ≡ done_of (suc (m + n)) s = ap (λ i. done_of i s) (let e : m + suc n ≡ suc (m + n) = omega arith in e) in
-    let here = ap (λ (x : State). done_steps (step_of x).0) (steps_add m n s) in
+    let here = ap (λ (x : State). done_steps (step_of x).0) (steps-add m n s) in
     more ∙ omega (arith, done_add m n s, here)
 
 pub made-then : (m n k : ℕ) (s t u : State) → IsMade m s t → IsMade n t u → k ≡ m + n → IsMade k s u
 made-then m n k s t u a b e = rw (e) (record {
-  state = b.state ∙ ap (λ (x : State). steps_of n x) a.state ∙ sym (steps_add m n s);
+  state = b.state ∙ ap (λ (x : State). steps_of n x) a.state ∙ sym (steps-add m n s);
   done =
       let here = ap (λ (x : State). done_of n x) (sym a.state) in
       omega (arith, done_add m n s, a.done, b.done, here);
@@ -89,7 +89,7 @@ stuck_done (suc n) s e =
 pub stuck-state : (k n : ℕ) (s t : State) → IsMade k s t → k ≤ n → done_steps (step_of t).0 ≡ 0 → t ≡ steps_of n s
 stuck-state k n s t m h e =
     let rest : n ≡ k + (n - k) = omega (arith, h) in
-    sym (ap (λ i. steps_of i s) rest ∙ steps_add k (n - k) s ∙ ap (λ (x : State). steps_of (n - k) x) (sym m.state) ∙ stuck_steps (n - k) t e)
+    sym (ap (λ i. steps_of i s) rest ∙ steps-add k (n - k) s ∙ ap (λ (x : State). steps_of (n - k) x) (sym m.state) ∙ stuck_steps (n - k) t e)
 
 pub stuck-done : (k n : ℕ) (s t : State) → IsMade k s t → k ≤ n → done_steps (step_of t).0 ≡ 0 → k ≡ done_of n s
 stuck-done k n s t m h e =
