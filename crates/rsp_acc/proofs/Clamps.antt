@@ -1,11 +1,9 @@
 -- The clamps, decided from the high and middle planes.
-use Rattle.std.proofs.Common.{◌≡◌, ℕ, ◌+◌, ◌-◌, ◌*◌, ◌^◌, ◌<◌, ◌≤◌, ℤ, pos, negsuc, ◌+ℤ◌, ◌*ℤ◌, arith, ap, sym, nat_lt, nat_eq, Bool, cond, subst}
-use Rattle.std.proofs.lemmas.Int.{ints}
+use Rattle.std.proofs.Common.{◌≡◌, ℕ, ◌+◌, ◌-◌, ◌*◌, ◌^◌, ◌<◌, ◌≤◌, ℤ, pos, negsuc, arith, ap, sym, nat_lt, nat_eq, Bool, cond, subst}
 use Rattle.std.proofs.lemmas.Bool.Decides.{nat_tests}
-use Rattle.rsp_numbers.specs.Numbers.{join, clamp16, s16, sixteen_bits, floor_div}
+use Rattle.rsp_numbers.specs.Numbers.{join, clamp16, sixteen_bits, floor_div}
 use Rattle.rsp_acc.specs.Parts.{clamp_of, clamp_by}
 use Rattle.rsp_acc.specs.declared.parts.Clamp.TheVariants.{Signed, Unsigned, LowKind}
-use Rattle.rsp_numbers.proofs.Signed.{s16_small, s16_large}
 use Rattle.rsp_numbers.proofs.Join.{by_sign, low_join, joined_number}
 
 -- whether the planes are those of a number from -32768 to 32767
@@ -32,11 +30,11 @@ by_upper : (P : ℤ → Type 0) (h m l : ℕ) → h < 65536 → m < 65536 → l 
     → (h < 32768 → P (pos (h * 65536 + m))) → (32768 ≤ h → P (negsuc (2 ^ 32 - 1 - (h * 65536 + m)))) → P (floor_div (join h m l) 65536)
 by_upper P h m l a b c p q = by_sign (λ x. P (floor_div x 65536)) h m l a b c (λ n. subst P (sym (upper_pos h m l c)) (p n)) (λ n. subst P (sym (upper_negsuc h m l a b c)) (q n))
 
-pub clamp_signed : (h m l : ℕ) → h < 65536 → m < 65536 → l < 65536 → sixteen_bits (clamp16 (s16 h *ℤ pos 65536 +ℤ pos m)) ≡ clamp_of Signed (join h m l)
+pub clamp_signed : (h m l : ℕ) → h < 65536 → m < 65536 → l < 65536 → cond (fits h m) m (cond (nat_lt 32767 h) 32768 32767) ≡ clamp_of Signed (join h m l)
 unfolding clamp_of
-clamp_signed h m l a b c = by_upper (λ x. sixteen_bits (clamp16 (s16 h *ℤ pos 65536 +ℤ pos m)) ≡ sixteen_bits (clamp16 x)) h m l a b c
-    (λ n. ap (λ x. sixteen_bits (clamp16 x)) (rw (s16_small h n) (omega (arith, ints))))
-    (λ n. ap (λ x. sixteen_bits (clamp16 x)) (rw (s16_large h n a) (omega (arith, ints))))
+clamp_signed h m l a b c = by_upper (λ x. cond (fits h m) m (cond (nat_lt 32767 h) 32768 32767) ≡ sixteen_bits (clamp16 x)) h m l a b c
+    (λ n. rw (clamp16_pos (h * 65536 + m)) (grind (arith, nat_tests)))
+    (λ n. rw (clamp16_negsuc (2 ^ 32 - 1 - (h * 65536 + m))) (grind (arith, nat_tests)))
 
 pub clamp_unsigned : (h m l : ℕ) → h < 65536 → m < 65536 → l < 65536 → cond (nat_lt 32767 h) 0 (cond (fits h m) m 65535) ≡ clamp_of Unsigned (join h m l)
 unfolding clamp_of

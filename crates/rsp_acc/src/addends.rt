@@ -80,7 +80,7 @@ impl Addends {
 
     /// The high, middle and low sixteen bits of each number.
     #[inline(always)]
-    pub fn planes(&self) -> (VReg, VReg, VReg)
+    pub(crate) fn planes(&self) -> (VReg, VReg, VReg)
         ensures joined { self.now ≡ joined result.0 result.1 result.2 }
         ensures vectors { IsVector result.0 × IsVector result.1 × IsVector result.2 }
     {
@@ -109,7 +109,7 @@ impl Addends {
 
     /// The sums with the other numbers, modulo 2^48, as signed numbers.
     #[inline(always)]
-    pub fn plus(&self, other: &Addends) -> Addends
+    pub(crate) fn plus(&self, other: &Addends) -> Addends
         ensures { result ≡ wrapped_sums self.now other.now }
     {
         let (a_high, a_middle, a_low) = self.planes();

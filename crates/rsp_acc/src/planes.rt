@@ -100,8 +100,7 @@ impl Acc for PlaneAcc {
         }
     }
 
-    /// Signed: high and middle plane joined, as numbers of 32 bits, are limited. Unsigned and low:
-    /// the high plane tells the sign, and both together whether the upper 32 bits are the sign
+    /// The high plane tells the sign, and both together whether the upper 32 bits are the sign
     /// extension of the middle ones.
     #[inline(always)]
     fn clamp(&self, clamp: Clamp) -> VReg {
@@ -113,7 +112,12 @@ impl Acc for PlaneAcc {
         let extension = middle.is_negative().merge(&ones, &zeros);
         let fits = high.is_equal(&extension);
         match clamp {
-            Clamp::Signed => high.clamped_with(&middle),
+            Clamp::Signed => {
+                let least = VReg::splat(0x8000);
+                let most = VReg::splat(0x7fff);
+                let ends = is_negative.merge(&least, &most);
+                fits.merge(&middle, &ends)
+            }
             Clamp::Unsigned => {
                 let inside = fits.merge(&middle, &ones);
                 is_negative.merge(&zeros, &inside)

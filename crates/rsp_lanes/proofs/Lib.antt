@@ -5,7 +5,6 @@ pub mod Carry
 pub mod Kit
 pub mod Limits
 pub mod Masks
-pub mod Merged
 pub mod Places
 pub mod Wide
 pub mod Products

@@ -1,5 +1,5 @@
 -- Lanes as signed numbers of 32 bits, the greater and the lesser of two, and their sums.
-use Rattle.std.proofs.Common.{◌≡◌, ◌∙◌, ℕ, zero, suc, ◌+◌, ◌-◌, ◌*◌, ◌%◌, ◌^◌, ◌<◌, ◌≤◌, ℤ, pos, negsuc, ◌+ℤ◌, ◌*ℤ◌, to_z, of_z, w16, w32, Bool, true, false, List, map, replicate, get_or, cond, arith, refl, ap, inl, inr}
+use Rattle.std.proofs.Common.{◌≡◌, ◌∙◌, ℕ, zero, suc, ◌+◌, ◌-◌, ◌%◌, ◌^◌, ◌<◌, ◌≤◌, ℤ, pos, negsuc, ◌+ℤ◌, to_z, of_z, w16, w32, Bool, true, false, List, map, get_or, cond, arith, refl, ap, inl, inr}
 use Rattle.std.specs.Prelude.{◌≤ℤ◌, ◌<ℤ◌}
 use lib.Signed.{lt_z}
 use Rattle.std.specs.Simd.Lanes.{top, zip2}
@@ -10,7 +10,7 @@ use Rattle.std.proofs.lemmas.Bool.Decides.{nat_tests}
 use Rattle.std.proofs.Math.Facts.{of_z-to_z, Fits-of_lt}
 use Rattle.rsp_numbers.specs.Numbers.{clamp16}
 use Rattle.rsp_lanes.specs.Lanes.{each_lane, bit, IsVector}
-use Rattle.rsp_lanes.proofs.Kit.{eta, each_same}
+use Rattle.rsp_lanes.proofs.Kit.{each_same}
 use Rattle.rsp_lanes.proofs.ByteLanes.{bytes_of, lanes_of, lanes_again}
 use Rattle.rsp_lanes.proofs.Limits.{AreMade}
 use Rattle.rsp_lanes.proofs.Products.{InRange, again_32, high_vector, reading}
@@ -161,25 +161,3 @@ clamped x y z false r s e = omega (arith, ints, clamps, e, r.least, r.most, s.le
 pub carried : (a b n : ℕ) (c : Bool) → a < 65536 → b < 65536 → n < 65536 → to_z w16 n ≡ int_min (int_min (to_z w16 a) (to_z w16 b)) (pos 32766)
     → clamp16 (int_max (to_z w16 a) (to_z w16 b) +ℤ to_z w16 ((n + (65536 - cond c 65535 0)) % 65536)) ≡ clamp16 (to_z w16 a +ℤ to_z w16 b +ℤ pos (bit c))
 carried a b n c h k l e = clamped _ _ _ c (reading a h) (reading b k) (with_carry n c l (omega (arith, ints, clamps, e)) ∙ ap (λ z. z +ℤ pos (bit c)) e)
-
--- the number of 32 bits with an upper and a lower half
-joined_is : (h m : ℕ) → h < 65536 → m < 65536 → to_z w32 ((of_z w32 (to_z w16 h) * 65536 % 2 ^ 32 + m) % 2 ^ 32) ≡ to_z w16 h *ℤ pos 65536 +ℤ pos m
-joined_is h m u v = elim (cases_lt h 32768) [
-  | inl n ↦
-      let e : to_z w16 h ≡ pos h = omega (arith, ints) in
-      let f : (h * 65536 % 2 ^ 32 + m) % 2 ^ 32 ≡ h * 65536 + m = omega arith in
-      rw (e, f) (omega (arith, ints))
-  | inr n ↦
-      let e : to_z w16 h ≡ negsuc (65535 - h) = rw (le-ltb h 32768 n) (ap negsuc (omega arith)) in
-      let f : ((2 ^ 32 - suc (65535 - h)) * 65536 % 2 ^ 32 + m) % 2 ^ 32 ≡ 2 ^ 32 - suc (2 ^ 32 - 1 - (h * 65536 + m)) = omega arith in
-      let g : negsuc (65535 - h) *ℤ pos 65536 +ℤ pos m ≡ negsuc (2 ^ 32 - 1 - (h * 65536 + m)) = omega (arith, ints) in
-      rw (e, f, g) (again_32 (negsuc (2 ^ 32 - 1 - (h * 65536 + m))) (omega (arith, ints)) (omega (arith, ints)))
-]
-
-pub halves_joined : (a b : List ℕ) (xs : List ℤ) (ys : List ℕ) → IsVector a → IsVector b → xs ≡ each_lane (λ i. to_z w16 (get_or a i 0)) → ys ≡ b
-    → AreMade (map (to_z w32) (zip2 (λ a b. (a + b) % 2 ^ 32) (zip2 (λ a b. a * b % 2 ^ 32) (map (of_z w32) xs) (replicate 8 65536)) (map (λ n. n) ys))) (λ i. to_z w16 (get_or a i 0) *ℤ pos 65536 +ℤ pos (get_or b i 0))
-unfolding each_lane
-halves_joined a b xs ys u v d e = record {
-  is = rw (d, e ∙ eta 0 b v.0) (each_same (λ i. to_z w32 ((of_z w32 (to_z w16 (get_or a i 0)) * 65536 % 2 ^ 32 + get_or b i 0) % 2 ^ 32)) (λ i. to_z w16 (get_or a i 0) *ℤ pos 65536 +ℤ pos (get_or b i 0)) (λ i h. joined_is _ _ (u.1 i) (v.1 i)));
-  range = λ i h. let r = reading _ (u.1 i) in let n = v.1 i in (omega (arith, ints, r.least), omega (arith, ints, r.most, n));
-}

@@ -1,5 +1,5 @@
 -- Registers and masks of eight lanes, as lists.
-use Rattle.std.specs.Prelude.{ℕ, ℤ, pos, negsuc, ◌+◌, ◌-◌, ◌*◌, ◌/◌, ◌%◌, ◌<◌, ◌==◌, slice_set, nat_lt, nat_eq, if◌then◌else◌, ◌≡◌, Bool, true, false, cond, List, [], ◌∷◌, length, slice_index, map}
+use Rattle.std.specs.Prelude.{ℕ, ℤ, pos, negsuc, ◌+◌, ◌-◌, ◌*◌, ◌/◌, ◌%◌, ◌<◌, ◌==◌, slice_set, nat_lt, if◌then◌else◌, ◌≡◌, Bool, true, false, cond, List, [], ◌∷◌, length, slice_index, map}
 use Rattle.std.specs.Int.{is_negative}
 
 -- the list of eight whose member i is `f i`
@@ -21,18 +21,6 @@ truths m = map is_negative m
 -- eight lanes, each all ones or 0
 abbrev pub IsMask : List ℤ → Type 0
 IsMask m = (length m ≡ 8) × (map mask_lane (truths m) ≡ m)
-
--- a lane of a mask as a number of sixteen bits: all ones or 0
-abbrev pub mark : Bool → ℕ
-mark b = cond b 65535 0
-
--- such lanes as truth values
-abbrev pub marks : List ℕ → List Bool
-marks v = map (λ n. nat_eq n 65535) v
-
--- eight such lanes
-abbrev pub IsMarks : List ℕ → Type 0
-IsMarks v = (length v ≡ 8) × (map mark (marks v) ≡ v)
 
 -- 1 where it is set, else 0
 abbrev pub bit : Bool → ℕ

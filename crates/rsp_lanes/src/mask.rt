@@ -7,25 +7,24 @@ use crate::VReg;
 use std::marker::Model;
 use std::simd::prelude::*;
 
-/// Eight truth values, one for each lane: numbers of sixteen bits, all ones or 0. A mask of `std::simd` that is kept in memory
-/// would be tested again at each read.
+/// Eight truth values, one for each lane, as one lane mask.
 #[derive(Clone, Copy, PartialEq, Drop)]
 pub struct Mask8 {
-    lanes: u16x8,
+    lanes: mask16x8,
 }
 
 impl Model for Mask8 {
     ghost use Rattle.std.specs.Prelude.{List, Bool, map};
-    ghost use Rattle.rsp_lanes.specs.Lanes.{IsMarks, marks, mark};
+    ghost use Rattle.rsp_lanes.specs.Lanes.{IsMask, truths, mask_lane};
     ghost use Rattle.std.proofs.Common.{ap};
 
     ghost Value = { List Bool };
 
-    ghost view = { λ m. marks m.lanes };
+    ghost view = { λ m. truths m.lanes };
 
-    ghost invariant = { λ m. IsMarks m.lanes };
+    ghost invariant = { λ m. IsMask m.lanes };
 
-    ghost inverse = { λ l. record { lanes = map mark l } };
+    ghost inverse = { λ l. record { lanes = map mask_lane l } };
 
     ghost inverse_ok = { λ a h. ap (λ l. record { lanes = l }) h.1 };
 }
@@ -37,9 +36,7 @@ impl Mask8 {
         requires { IsMask lanes }
         ensures { result ≡ truths lanes }
     {
-        Mask8 {
-            lanes: lanes.select(u16x8::splat(0xffff), u16x8::splat(0)),
-        }
+        Mask8 { lanes }
     }
 
     /// Its lanes: all ones where it is set, else 0. The mask has eight.
@@ -49,7 +46,7 @@ impl Mask8 {
         ensures mask { IsMask result }
         ensures eight { length self ≡ 8 }
     {
-        self.lanes.simd_ge(u16x8::splat(0x8000))
+        self.lanes
     }
 
     /// The same mask. It goes through a register, where a copy of the whole struct would be one from address to address.
@@ -78,23 +75,12 @@ impl Mask8 {
         }
     }
 
-    /// The lanes of `a` where it is set, and those of `b` elsewhere. Each byte is chosen by a top bit, which is one instruction.
+    /// The lanes of `a` where it is set, and those of `b` elsewhere.
     #[inline(always)]
     pub fn merge(self, a: &VReg, b: &VReg) -> VReg
         ensures { result ≡ each_lane (λ i. cond (slice_index_or self i false) (slice_index a.now i) (slice_index b.now i)) }
     {
-        let ones = self.ones().to_simd().to_le_bytes();
-        let there = ones.simd_ge(u8x16::splat(128));
-        let bytes = there.select(a.to_simd().to_le_bytes(), b.to_simd().to_le_bytes());
-        VReg::from_simd(u16x8::from_le_bytes(bytes))
-    }
-
-    /// All ones where it is set, and 0 elsewhere.
-    #[inline(always)]
-    pub fn ones(self) -> VReg
-        ensures { result ≡ each_lane (λ i. cond (slice_index_or self i false) 65535 0) }
-    {
-        VReg::from_simd(self.lanes)
+        VReg::from_simd(self.lanes.select(a.to_simd(), b.to_simd()))
     }
 
     /// Set where one or both are.
@@ -120,7 +106,9 @@ impl Mask8 {
     pub fn splat(value: bool) -> Self
         ensures { result ≡ each_lane (λ _. value) }
     {
-        Mask8::from_simd(mask16x8::splat(value))
+        Mask8 {
+            lanes: mask16x8::splat(value),
+        }
     }
 
     /// Set where just one is.
@@ -139,7 +127,7 @@ impl Mask8 {
         ensures value { result ≡ mask_l self }
         ensures bound { result < 256 }
     {
-        self.to_simd().to_bitmask()
+        self.lanes.to_bitmask()
     }
 
     /// Lane `i` is set where bit `i` of the number is 1. Bits 8 to 15 are dropped.
@@ -157,14 +145,13 @@ mod tests {
     use super::*;
 
     #[test]
-    fn holds_one_vector(rt: HostRuntime) {
+    fn holds_one_mask(rt: HostRuntime) {
         let m = Mask8 {
-            lanes: u16x8::splat(0xffff),
+            lanes: mask16x8::splat(true),
         };
         let Mask8 { lanes: taken } = m;
-        let again: u16x8 = taken;
-        assert_eq!(rt; again.to_array(), [0xffff; 8]);
+        let again: mask16x8 = taken;
+        assert!(rt; again.all());
         assert_eq!(rt; m.bits(), 255);
-        assert!(rt; m.to_simd().all());
     }
 }

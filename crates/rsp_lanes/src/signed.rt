@@ -70,19 +70,10 @@ impl VReg {
         other.ranges();
         let lesser = lesser(self, other);
         lesser.ranges();
-        let carried = lesser.subtract(&carry.ones());
+        let minus_carry = carry.merge(&VReg::splat(0xffff), &VReg::new());
+        let carried = lesser.subtract(&minus_carry);
         carried.ranges();
         limited(greater(self, other) + wide(&carried))
-    }
-
-    /// The signed numbers of 32 bits with these lanes as their upper halves, limited to -32768..=32767.
-    #[inline(always)]
-    pub fn clamped_with(&self, lower: &VReg) -> VReg
-        ensures { result ≡ each_lane (λ i. sixteen_bits (clamp16 (s16 (slice_index self.now i) *ℤ pos 65536 +ℤ pos (slice_index lower.now i)))) }
-    {
-        self.ranges();
-        lower.ranges();
-        limited(wide(self) * i32x8::splat(65536) + lower.to_simd().cast::<i32>())
     }
 
     /// The high half of the products of the lanes as signed numbers. LLVM makes one instruction of the body.

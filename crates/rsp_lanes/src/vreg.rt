@@ -4,6 +4,7 @@ ghost use Rattle.rsp_lanes.specs.Lanes.{each_lane, bit, IsVector, register_byte,
 ghost use Rattle.rsp_numbers.specs.Numbers.{s16, complement, negated};
 
 use crate::Mask8;
+use byteorder::{BigEndian, ByteOrder};
 use std::marker::Model;
 use std::simd::prelude::*;
 
@@ -65,18 +66,19 @@ impl VReg {
 
     /// The register with these bytes: byte 0 is the high byte of lane 0, byte 15 the low byte of lane 7.
     #[inline(always)]
+    #[tactic(auto, unfolding(crate::specs::Lanes::each_lane))]
     pub fn from_bytes(bytes: [u8; 16]) -> Self
         ensures { result ≡ each_lane (λ i. slice_index bytes (2 * i) * 256 + slice_index bytes (2 * i + 1)) }
     {
         VReg::from_array([
-            u16::from_be_bytes([bytes[0], bytes[1]]),
-            u16::from_be_bytes([bytes[2], bytes[3]]),
-            u16::from_be_bytes([bytes[4], bytes[5]]),
-            u16::from_be_bytes([bytes[6], bytes[7]]),
-            u16::from_be_bytes([bytes[8], bytes[9]]),
-            u16::from_be_bytes([bytes[10], bytes[11]]),
-            u16::from_be_bytes([bytes[12], bytes[13]]),
-            u16::from_be_bytes([bytes[14], bytes[15]]),
+            BigEndian::read_u16(&[bytes[0], bytes[1]]),
+            BigEndian::read_u16(&[bytes[2], bytes[3]]),
+            BigEndian::read_u16(&[bytes[4], bytes[5]]),
+            BigEndian::read_u16(&[bytes[6], bytes[7]]),
+            BigEndian::read_u16(&[bytes[8], bytes[9]]),
+            BigEndian::read_u16(&[bytes[10], bytes[11]]),
+            BigEndian::read_u16(&[bytes[12], bytes[13]]),
+            BigEndian::read_u16(&[bytes[14], bytes[15]]),
         ])
     }
 
@@ -132,7 +134,9 @@ impl VReg {
         requires { i < 16 }
         ensures { result ≡ register_byte self.now i }
     {
-        let [high, low] = self.lane(i / 2).to_be_bytes();
+        let mut bytes = [0; 2];
+        BigEndian::write_u16(&mut bytes, self.lane(i / 2));
+        let [high, low] = bytes;
         if i % 2 == 0 { high } else { low }
     }
 
@@ -143,13 +147,15 @@ impl VReg {
         requires { i < 16 }
         ensures { self.new ≡ with_register_byte self.old i value }
     {
-        let [high, low] = self.lane(i / 2).to_be_bytes();
+        let mut bytes = [0; 2];
+        BigEndian::write_u16(&mut bytes, self.lane(i / 2));
+        let [high, low] = bytes;
         let bytes = if i % 2 == 0 {
             [value, low]
         } else {
             [high, value]
         };
-        self.set_lane(i / 2, u16::from_be_bytes(bytes));
+        self.set_lane(i / 2, BigEndian::read_u16(&bytes));
     }
 
     /// The sums, modulo 65536.
@@ -252,7 +258,7 @@ impl VReg {
         self.ranges();
         other.ranges();
         let plain = self.add(other);
-        let sum = plain.subtract(&carry.ones());
+        let sum = plain.add(&carry.merge(&VReg::splat(1), &VReg::new()));
         (sum, plain.is_below(self).or(sum.is_below(&plain)))
     }
 

@@ -1,6 +1,7 @@
 ghost use Rattle.std.specs.Prelude.{◌≡◌, ◌<◌};
 ghost use Rattle.rsp_loadstore.specs.File.{IsFile, vector, with_vector, empty_file, bits_14_to_7};
 
+use byteorder::{BigEndian, ByteOrder};
 use rsp_lanes::VReg;
 use std::marker::Model;
 
@@ -111,7 +112,7 @@ impl VFile {
         ensures { result ≡ bits_14_to_7 (vector self.now n) i }
     {
         let v = self.reg(n);
-        let bits = u16::from_be_bytes([v.byte(i), v.byte((i + 1) % 16)]);
+        let bits = BigEndian::read_u16(&[v.byte(i), v.byte((i + 1) % 16)]);
         (bits / 128 % 256) as u8
     }
 }

@@ -6,6 +6,7 @@ ghost use Rattle.rsp_loadstore.specs.File.{vector, with_vector};
 ghost use Rattle.rsp_loadstore.specs.Moves.{moved_file, moved_value, with_register_half};
 
 use crate::VFile;
+use byteorder::{BigEndian, ByteOrder};
 use rsp_decode::{Inst, MoveRow};
 use rsp_lanes::Bytes16;
 
@@ -33,7 +34,7 @@ pub fn move_from(inst: &Inst, file: &VFile) -> u32
         } => {
             let e = element as usize;
             let v = file.reg(vector);
-            extended(u16::from_be_bytes([v.byte(e), v.byte((e + 1) % 16)]))
+            extended(BigEndian::read_u16(&[v.byte(e), v.byte((e + 1) % 16)]))
         }
         _ => 0,
     }
@@ -66,8 +67,7 @@ fn set_half(n: u8, e: u8, value: u32, file: &mut VFile)
 {
     file.ranges();
     let v = file.reg(n);
-    let high = (value / 256 % 256) as u8;
-    let low = (value % 256) as u8;
-    let half = Bytes16::from_array([high, low, 0, 0, 0, 0, 0, 0, 0, 0, 0, 0, 0, 0, 0, 0]);
-    file.set_reg(n, v.with_bytes(half, e, 2));
+    let mut half = [0; 16];
+    BigEndian::write_u16(&mut half, (value % 65536) as u16);
+    file.set_reg(n, v.with_bytes(Bytes16::from_array(half), e, 2));
 }

@@ -5,8 +5,8 @@ use Rattle.rsp_lanes.proofs.vreg.VReg.add_carrying.Goals as goal
 
 pub returns-clause-sum : goal.returns-clause-sum
 returns-clause-sum c =
-    c.subtract-sum.ensures ∙ each_same _ _ (λ i h.
-    rw (lane_of 0 _ _ c.add-plain.ensures i h, lane_of 0 _ _ c.ones.ensures i h)
+    c.add-sum.ensures ∙ each_same _ _ (λ i h.
+    rw (lane_of 0 _ _ c.add-plain.ensures i h, lane_of 0 _ _ c.merge.ensures i h, lane_of 0 _ _ c.splat.ensures i h, lane_of 0 _ _ c.new.ensures i h)
     (carry_sum _ _ (get_or c.args.carry i false)))
 
 pub returns-clause-carry : goal.returns-clause-carry
@@ -15,8 +15,10 @@ returns-clause-carry c =
     rw (
       lane_of false _ _ c.is_below.ensures i h,
       lane_of false _ _ c.is_below-2.ensures i h,
-      lane_of 0 _ _ c.subtract-sum.ensures i h,
+      lane_of 0 _ _ c.add-sum.ensures i h,
       lane_of 0 _ _ c.add-plain.ensures i h,
-      lane_of 0 _ _ c.ones.ensures i h,
+      lane_of 0 _ _ c.merge.ensures i h,
+      lane_of 0 _ _ c.splat.ensures i h,
+      lane_of 0 _ _ c.new.ensures i h,
     )
     (carry_out _ _ (get_or c.args.carry i false) (c.ranges-2.ensures.1 i) (c.ranges-3.ensures.1 i)))

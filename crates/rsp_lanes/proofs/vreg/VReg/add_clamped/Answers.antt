@@ -18,6 +18,8 @@ returns c =
     rw (
       lane_of (pos 0) _ _ more.is i h,
       lane_of 0 _ _ c.subtract-carried.ensures i h,
-      lane_of 0 _ _ c.ones.ensures i h,
+      lane_of 0 _ _ c.merge-minus_carry.ensures i h,
+      lane_of 0 _ _ c.splat.ensures i h,
+      lane_of 0 _ _ c.new.ensures i h,
     )
     (ap sixteen_bits (carried _ _ _ (get_or c.args.carry i false) (c.ranges-2.ensures.1 i) (c.ranges-3.ensures.1 i) (c.ranges-4.ensures.1 i) (c.lesser-lesser.ensures i h))))

@@ -1,11 +1,11 @@
 use Rattle.std.proofs.Common.{◌≡◌, ◌∙◌, ℕ, List, length, get_or, nat_eq}
 use Rattle.std.specs.Simd.Lanes.{zip2}
-use Rattle.rsp_lanes.specs.Lanes.{each_lane, mark}
+use Rattle.rsp_lanes.specs.Lanes.{each_lane}
 use Rattle.rsp_lanes.proofs.Kit.{zip2_each}
-use Rattle.rsp_lanes.proofs.Masks.{made_mask, made_truths}
+use Rattle.rsp_lanes.proofs.Masks.{made_mask, made_truths, bits_lane}
 use Rattle.rsp_lanes.proofs.vreg.VReg.is_equal.Goals as goal
 
-tests : (a b : List ℕ) → length a ≡ 8 → length b ≡ 8 → zip2 (λ x y. mark (nat_eq x y)) a b ≡ each_lane (λ i. mark (nat_eq (get_or a i 0) (get_or b i 0)))
+tests : (a b : List ℕ) → length a ≡ 8 → length b ≡ 8 → zip2 (λ x y. bits_lane (nat_eq x y)) a b ≡ each_lane (λ i. bits_lane (nat_eq (get_or a i 0) (get_or b i 0)))
 tests a b m n = zip2_each _ 0 0 a b m n
 
 pub from_simd-requires : goal.from_simd-requires
