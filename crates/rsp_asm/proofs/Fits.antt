@@ -5,7 +5,7 @@ use Rattle.std.specs.List.{list_all}
 use Rattle.std.specs.Str.{str_eq_ignore_ascii_case}
 use Rattle.std.proofs.lemmas.Bool.{and_parts, or_cases, eqb-true}
 use Rattle.std.proofs.lemmas.Bool.Decides.{nat_tests}
-use Rattle.rsp_decode.specs.Table.{Operand, scalar, shift_amount, signed, unsigned, jump_target, branch_target, scalar_memory, vector_memory, sp_register, control_register, vector, vector_byte, vector_half, vector_element, vector_lane, BitField, bit_fields, stepped, FitsBitField, FitBitFields, is_scale, is_row_operand}
+use Rattle.rsp_decode.specs.Table.{Operand, ByteElements, all_bytes, half_bytes, byte_bits, scalar, shift_amount, signed, unsigned, jump_target, branch_target, scalar_memory, vector_memory, sp_register, control_register, vector, vector_byte, vector_element, vector_lane, BitField, bit_fields, stepped, FitsBitField, FitBitFields, is_scale, is_row_operand}
 use Rattle.rsp_text.specs.declared.fault.AsmFaultKind.{AsmFaultKind}
 use Rattle.rsp_text.specs.declared.slot.Slot.{Slot}
 use Rattle.rsp_text.specs.declared.slot.Slot.TheVariants.{Half, Amount, Jump, Branch, Scaled}
@@ -13,7 +13,7 @@ use Rattle.rsp_text.specs.declared.text.Boundary.TheVariants.{Parenthesis, Brack
 use Rattle.rsp_text.specs.Cuts.{cut}
 use Rattle.rsp_text.specs.Names.{look_up, below, small_number, is_decimal, scalar_names, scalar_named, vector_named, sp_named, control_names, control_named, element_names, element_named}
 use Rattle.rsp_text.specs.Numbers.{Expression, expression_of}
-use Rattle.rsp_text.specs.Statement.{Labels, Reading, one_register, asks, base_of, offset_of, memory, bracketed, half_start, byte_named, half_named, lane_named, with_element, bracket_of, memory_operand, read, field, half, amount, jump, branch, scaled_offset, evaluate, or_out_of_range, field_of, then_registers, fields_of, append, all_fields, read_all}
+use Rattle.rsp_text.specs.Statement.{Labels, Reading, one_register, asks, base_of, offset_of, memory, bracketed, half_start, byte_named, lane_named, with_element, bracket_of, memory_operand, read, field, half, amount, jump, branch, scaled_offset, evaluate, or_out_of_range, field_of, then_registers, fields_of, append, all_fields, read_all}
 
 -- ---- names
 
@@ -69,6 +69,14 @@ half_of e lt h = (omega arith, omega arith)
 half_fits : (o : Option ℕ) → Below 16 o → IfSome (option_and_then half_start o) (FitsBitField (stepped 10 1 3))
 half_fits None b = tt
 half_fits (Some e) b = when (FitsBitField (stepped 10 1 3)) (e % 8 == 0) e (λ t. half_of e b (eqb-true (e % 8) 0 t))
+
+byte_fits : (elements : ByteElements) (bs : List ℕ) → IfSome (byte_named elements bs) (FitsBitField (byte_bits elements))
+byte_fits all_bytes bs = number_below 16 bs
+byte_fits half_bytes bs = half_fits (small_number 16 bs) (number_below 16 bs)
+
+zero_fits : (elements : ByteElements) → FitsBitField (byte_bits elements) 0
+zero_fits all_bytes = omega arith
+zero_fits half_bytes = (omega arith, omega arith)
 
 -- ---- values
 
@@ -167,10 +175,8 @@ module _ (labels : Labels) (place : ℕ) where
   read_fits sp_register bs ok = one_fits sp_register 16 (sp_named bs) (sp_below bs) (λ n lt. (lt, tt))
   read_fits control_register bs ok = one_fits control_register 3 (control_named bs) (look_up_below 3 control_names bs refl) (λ n lt. ((omega arith, omega arith), tt))
   read_fits (vector low) bs ok = one_fits (vector low) 32 (vector_named bs) (vector_below bs) (λ n lt. (lt, tt))
-  read_fits (vector_byte low) bs ok =
-      bracket_fits (vector_byte low) (λ m. m < 16) byte_named (Some 0) (cut Bracket bs) bs (λ b. number_below 16 b) (omega arith) (λ n m lt f. (lt, (f, tt)))
-  read_fits vector_half bs ok =
-      bracket_fits vector_half (FitsBitField (stepped 10 1 3)) half_named (Some 0) (cut Bracket bs) bs (λ b. half_fits (small_number 16 b) (number_below 16 b)) (omega arith, omega arith) (λ n m lt f. (lt, (f, tt)))
+  read_fits (vector_byte low elements) bs ok =
+      bracket_fits (vector_byte low elements) (FitsBitField (byte_bits elements)) (byte_named elements) (Some 0) (cut Bracket bs) bs (byte_fits elements) (zero_fits elements) (λ n m lt f. (lt, (f, tt)))
   read_fits vector_element bs ok =
       bracket_fits vector_element (λ m. m < 16) element_named (Some 0) (cut Bracket bs) bs (λ b. look_up_below 16 element_names b refl) (omega arith) (λ n m lt f. (lt, (f, tt)))
   read_fits vector_lane bs ok =

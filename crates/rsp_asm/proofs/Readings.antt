@@ -1,7 +1,7 @@
 -- How many fields the operands of a statement have.
 use Rattle.std.proofs.Common.{◌≡◌, refl, sym, ap, ◌∙◌, ℕ, ◌+◌, List, [], ◌∷◌, ◌++◌, length, arith}
 use Rattle.std.specs.Prelude.{Option, Some, None, option_map, option_and_then, Result, Ok, Err}
-use Rattle.rsp_decode.specs.Table.{Operand, scalar, shift_amount, signed, unsigned, jump_target, branch_target, scalar_memory, vector_memory, sp_register, control_register, vector, vector_byte, vector_half, vector_element, vector_lane, BitField, bit_fields, with_fields}
+use Rattle.rsp_decode.specs.Table.{Operand, scalar, shift_amount, signed, unsigned, jump_target, branch_target, scalar_memory, vector_memory, sp_register, control_register, vector, vector_byte, vector_element, vector_lane, BitField, bit_fields, with_fields}
 use Rattle.rsp_text.specs.declared.fault.AsmFaultKind.{AsmFaultKind}
 use Rattle.rsp_text.specs.declared.slot.Slot.{Slot}
 use Rattle.rsp_text.specs.declared.slot.Slot.TheVariants.{Half, Amount, Jump, Branch, Scaled, Word}
@@ -9,7 +9,7 @@ use Rattle.rsp_text.specs.declared.text.Boundary.TheVariants.{Parenthesis, Brack
 use Rattle.rsp_text.specs.Cuts.{cut}
 use Rattle.rsp_text.specs.Names.{scalar_named, vector_named, sp_named, control_named, element_named}
 use Rattle.rsp_text.specs.Numbers.{Expression, expression_of}
-use Rattle.rsp_text.specs.Statement.{Labels, Reading, one_register, pair, asks, memory, memory_operand, with_element, bracket_of, bracketed, byte_named, half_named, lane_named, offset_of, base_of, read, read_numbers, fields_with, field_of, evaluate, then_registers}
+use Rattle.rsp_text.specs.Statement.{Labels, Reading, one_register, pair, asks, memory, memory_operand, with_element, bracket_of, bracketed, byte_named, lane_named, offset_of, base_of, read, read_numbers, fields_with, field_of, evaluate, then_registers}
 
 -- how many fields a reading has
 abbrev pub value_span : Option (Slot × Expression) → ℕ
@@ -62,8 +62,7 @@ read_span (vector_memory scale) t r e = memory_span (Scaled scale) (cut Parenthe
 read_span sp_register t r e = from_map one_register 1 (λ _. refl) r (sp_named t) e
 read_span control_register t r e = from_map one_register 1 (λ _. refl) r (control_named t) e
 read_span (vector low) t r e = from_map one_register 1 (λ _. refl) r (vector_named t) e
-read_span (vector_byte low) t r e = bracket_span byte_named (Some 0) (cut Bracket t) t r e
-read_span vector_half t r e = bracket_span half_named (Some 0) (cut Bracket t) t r e
+read_span (vector_byte low elements) t r e = bracket_span (byte_named elements) (Some 0) (cut Bracket t) t r e
 read_span vector_element t r e = bracket_span element_named (Some 0) (cut Bracket t) t r e
 read_span vector_lane t r e = bracket_span lane_named None (cut Bracket t) t r e
 

@@ -8,7 +8,7 @@ use Rattle.std.proofs.lemmas.Bool.{and_parts, eqb-true, or_cases, cond-false, ne
 use Rattle.std.proofs.lemmas.List.{length-append}
 use Rattle.std.proofs.lemmas.Fmt.{length_signed_le}
 use Rattle.std.proofs.lemmas.Nat.{mod_below}
-use Rattle.rsp_decode.specs.Table.{Operand, scalar, shift_amount, signed, unsigned, jump_target, branch_target, scalar_memory, vector_memory, sp_register, control_register, vector, vector_byte, vector_half, vector_element, vector_lane, value_at, whole, capped, is_scale, is_row_operand}
+use Rattle.rsp_decode.specs.Table.{Operand, all_bytes, half_bytes, scalar, shift_amount, signed, unsigned, jump_target, branch_target, scalar_memory, vector_memory, sp_register, control_register, vector, vector_byte, vector_element, vector_lane, value_at, whole, capped, is_scale, is_row_operand}
 use Rattle.rsp_text.specs.declared.slot.Slot.{Slot}
 use Rattle.rsp_text.specs.declared.slot.Slot.TheVariants.{Half, Amount, Jump, Branch, Scaled}
 use Rattle.rsp_text.specs.declared.text.Boundary.TheVariants.{Parenthesis}
@@ -37,7 +37,7 @@ abbrev names_two : Operand → ℕ → ℕ → Bool
 names_two k n e = says (read k (spell_operand 0 k (n ∷ e ∷ []))) (n ∷ e ∷ []) && is_piece (spell_operand 0 k (n ∷ e ∷ []))
 
 abbrev names_half : ℕ → ℕ → Bool
-names_half n b = names_two vector_half n (b * 8)
+names_half n b = names_two (vector_byte 0 half_bytes) n (b * 8)
 
 spelled : (place : ℕ) (k : Operand) (vs : List ℕ) → (says (read k (spell_operand place k vs)) vs && is_piece (spell_operand place k vs)) ≡ true → IsSpelled place k vs
 spelled place k vs e =
@@ -175,8 +175,8 @@ kind_spelled place w aligned inside (vector_memory s) e near =
 kind_spelled place w aligned inside sp_register e near = spelled place sp_register _ (below (names_one sp_register) 16 refl (value_at w (whole 11 4)) (four_bits w 11))
 kind_spelled place w aligned inside control_register e near = spelled place control_register _ (below (names_one control_register) 3 refl (value_at w (capped 11 2 2)) (control_below w))
 kind_spelled place w aligned inside (vector low) e near = spelled place (vector low) _ (below (names_one (vector 0)) 32 refl (value_at w (whole low 5)) (five_bits w low))
-kind_spelled place w aligned inside (vector_byte low) e near = spelled place (vector_byte low) _ (below_both (names_two (vector_byte 0)) 32 16 refl (value_at w (whole low 5)) (value_at w (whole 7 4)) (five_bits w low) (four_bits w 7))
-kind_spelled place w aligned inside vector_half e near = spelled place vector_half _ (below_both names_half 32 2 refl (value_at w (whole 16 5)) (w / 2 ^ 10 % 2) (five_bits w 16) (mod_below (w / 2 ^ 10) 2 (lit< tt)))
+kind_spelled place w aligned inside (vector_byte low all_bytes) e near = spelled place (vector_byte low all_bytes) _ (below_both (names_two (vector_byte 0 all_bytes)) 32 16 refl (value_at w (whole low 5)) (value_at w (whole 7 4)) (five_bits w low) (four_bits w 7))
+kind_spelled place w aligned inside (vector_byte low half_bytes) e near = spelled place (vector_byte low half_bytes) _ (below_both names_half 32 2 refl (value_at w (whole low 5)) (w / 2 ^ 10 % 2) (five_bits w low) (mod_below (w / 2 ^ 10) 2 (lit< tt)))
 kind_spelled place w aligned inside vector_element e near = spelled place vector_element _ (below_both (names_two vector_element) 32 16 refl (value_at w (whole 16 5)) (value_at w (whole 21 4)) (five_bits w 16) (four_bits w 21))
 kind_spelled place w aligned inside vector_lane e near = spelled place vector_lane _ (below_both (names_two vector_lane) 32 8 refl (value_at w (whole 6 5)) (value_at w (whole 11 3)) (five_bits w 6) (three_bits w))
 

@@ -2,7 +2,7 @@
 
 ghost use Rattle.std.specs.Prelude.{◌≡◌, ◌<◌, ◌≤◌, ◌+◌, ◌*◌, ◌++◌, [], ◌∷◌, true};
 ghost use Rattle.arrayvec.specs.ArrayString.{array_string_len};
-ghost use Rattle.rsp_decode.specs.Table.{value_at, whole, stepped, is_row_operand};
+ghost use Rattle.rsp_decode.specs.Table.{value_at, whole, byte_bits, is_row_operand};
 ghost use Rattle.rsp_text.specs.Spell.{target, reaches, operand_text, scalar_name, vector_name, sp_name, target_text};
 
 use crate::line::Line;
@@ -10,7 +10,7 @@ use crate::numbers::{
     control_text, push_base, push_byte, push_element, push_hex3, push_hex4, push_scaled,
     push_signed, push_small,
 };
-use rsp_decode::Operand;
+use rsp_decode::{ByteElements, Operand};
 
 /// The five bits from `low` on.
 fn register(word: u32, low: u8) -> u8
@@ -27,12 +27,15 @@ fn low_half(word: u32) -> u16
     (word & 0xffff) as u16
 }
 
-/// The byte of a vector register that one of its halves begins with.
-fn half_element(word: u32) -> u8
-    ensures value { result ≡ value_at word (stepped 10 1 3) }
+/// The byte of a vector register, one of those that the instruction takes.
+fn byte_element(word: u32, elements: ByteElements) -> u8
+    ensures value { result ≡ value_at word (byte_bits elements) }
     ensures below { result < 16 }
 {
-    (word >> 10 & 1) as u8 * 8
+    match elements {
+        ByteElements::All => (word >> 7 & 15) as u8,
+        ByteElements::Halves => (word >> 10 & 1) as u8 * 8,
+    }
 }
 
 /// The target of a branch, where it is in IMEM.
@@ -143,13 +146,9 @@ pub fn push_operand(line: &mut Line, kind: Operand, word: u32, place: u16)
         Operand::SpRegister => push_sp(line, (word >> 11 & 15) as u8),
         Operand::ControlRegister => line.push_str(control_text((word >> 11 & 3) as u8)),
         Operand::Vector(low) => push_vector(line, register(word, low)),
-        Operand::VectorByte(low) => {
+        Operand::VectorByte(low, elements) => {
             push_vector(line, register(word, low));
-            push_byte(line, (word >> 7 & 15) as u8);
-        }
-        Operand::VectorHalf => {
-            push_vector(line, register(word, 16));
-            push_byte(line, half_element(word));
+            push_byte(line, byte_element(word, elements));
         }
         Operand::VectorElement => {
             push_vector(line, register(word, 16));

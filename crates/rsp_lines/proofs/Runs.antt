@@ -8,7 +8,7 @@ use Rattle.std.specs.Io.KnownBytes.{append_known, prepend_known, IsAtEnd}
 use Rattle.std.specs.Str.Lines.{lines}
 use Rattle.rsp_lines.specs.declared.run.TheConstants.{SCRIPT_LIMIT}
 use Rattle.rsp_lines.specs.Pieces.{PieceAnswered}
-use Rattle.rsp_lines.specs.Left.{WritesFront, TakesAtMost, EndedLinesWritten, FrontWritten}
+use Rattle.rsp_lines.specs.Left.{WritesFront, TakesAtMost, Takes, EndedLinesWritten, FrontWritten}
 use Rattle.rsp_lines.specs.Lines.{ended_lines, ended_after, open_after, last_line, kept}
 use Rattle.rsp_lines.specs.Replies.{Answer, LongLinesAlike, replies, final, out_of}
 use Rattle.rsp_lines.proofs.Alike.{Alike, alike-last}
@@ -113,6 +113,11 @@ module _ {S : Type 0} (answered : List ℕ → S → Answer S) (closing : S → 
     h.told ∙ ap (prepend_known h.taken) e ∙ prepend_known-append _ h.taken piece,
     omega (arith, h.count, length-append h.taken piece),
   )
+
+  -- the byte past the limit was taken
+  pub progress-past : {r u w x : Option (List ℕ)} {l : List ℕ} {s t : S} {total : ℕ} → Progress answered r u w x l s t total
+      → total ≡ SCRIPT_LIMIT + 1 → Takes (SCRIPT_LIMIT + 1) r u
+  progress-past h all = (h.taken, h.told, h.count ∙ all)
 
   -- a script that goes on past the limit
   pub progress-long : {r u w x : Option (List ℕ)} {l : List ℕ} {s t : S} {total : ℕ} (P : Type 0) → Progress answered r u w x l s t total

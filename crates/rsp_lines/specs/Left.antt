@@ -16,6 +16,10 @@ pub record WritesFront (old new : Option (List ℕ)) (bytes : List ℕ) : Type 0
 abbrev pub TakesAtMost : ℕ → Option (List ℕ) → Option (List ℕ) → Type 0
 TakesAtMost n rest unread = (taken : List ℕ) × (rest ≡ prepend_known taken unread) × (length taken ≤ n)
 
+-- just n bytes were taken from a source
+abbrev pub Takes : ℕ → Option (List ℕ) → Option (List ℕ) → Type 0
+Takes n rest unread = (taken : List ℕ) × (rest ≡ prepend_known taken unread) × (length taken ≡ n)
+
 -- A run of a script: what a line comes to, what is written at the end, what answers the first line; the script before the run, and what of
 -- it is left; what was written before the run, and what is written now.
 pub record ScriptRun (S : Type 0) : Type 0 where

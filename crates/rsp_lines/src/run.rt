@@ -2,7 +2,7 @@ ghost use Rattle.std.specs.Prelude.{◌≡◌, ℕ, ◌+◌, ◌-◌, ◌<◌, �
 ghost use Rattle.std.specs.Io.KnownBytes.{append_known};
 ghost use Rattle.std.specs.Str.Lines.{lines};
 ghost use Rattle.rsp_lines.specs.Faults.{failed_reads, failed_writes};
-ghost use Rattle.rsp_lines.specs.Left.{TakesAtMost, EndedLinesWritten, FrontWritten};
+ghost use Rattle.rsp_lines.specs.Left.{TakesAtMost, Takes, EndedLinesWritten, FrontWritten};
 ghost use Rattle.rsp_lines.specs.Lines.{ended_lines};
 ghost use Rattle.rsp_lines.specs.Replies.{replies, final, out_of};
 
@@ -57,6 +57,7 @@ pub fn answer_script<S: Answering, R: Source, W: Sink>(
     ensures reads { R.fault_count source.new ≡ R.fault_count source.old + failed_reads result }
     ensures writes { W.fault_count sink.new ≡ W.fault_count sink.old + failed_writes result }
     ensures long { IfSome (R.rest source.old) (λ script. IsErrOf result RunFault.ScriptTooLong → SCRIPT_LIMIT < length script) }
+    ensures past { IsErrOf result RunFault.ScriptTooLong → Takes (SCRIPT_LIMIT + 1) (R.rest source.old) (R.rest source.new) }
     ensures few { TakesAtMost (SCRIPT_LIMIT + 1) (R.rest source.old) (R.rest source.new) }
 
     // What a fault leaves written.

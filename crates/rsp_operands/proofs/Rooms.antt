@@ -7,7 +7,7 @@ use Rattle.std.proofs.Math.Nat.{pow-le-pow_right}
 use Rattle.std.proofs.lemmas.Nat.{mul-le}
 use Rattle.std.proofs.lemmas.Bool.{cases_Bool, and_parts}
 use Rattle.std.proofs.lemmas.Bool.Decides.{nat_tests}
-use Rattle.rsp_decode.specs.Table.{Operand, scalar, shift_amount, signed, unsigned, jump_target, branch_target, scalar_memory, vector_memory, sp_register, control_register, vector, vector_byte, vector_half, vector_element, vector_lane, is_row_operand}
+use Rattle.rsp_decode.specs.Table.{Operand, ByteElements, all_bytes, half_bytes, scalar, shift_amount, signed, unsigned, jump_target, branch_target, scalar_memory, vector_memory, sp_register, control_register, vector, vector_byte, vector_element, vector_lane, is_row_operand}
 use Rattle.rsp_text.specs.declared.fault.AsmFaultKind.{AsmFaultKind}
 use Rattle.rsp_text.specs.declared.slot.Slot.{Slot}
 use Rattle.rsp_text.specs.declared.slot.Slot.TheVariants.{Half, Amount, Jump, Branch, Scaled, Word}
@@ -15,7 +15,7 @@ use Rattle.rsp_text.specs.declared.text.Boundary.TheVariants.{Parenthesis, Brack
 use Rattle.rsp_text.specs.Cuts.{cut}
 use Rattle.rsp_text.specs.Names.{look_up, below, small_number, is_decimal, scalar_names, scalar_named, vector_named, sp_named, control_names, control_named, element_names, element_named}
 use Rattle.rsp_text.specs.Numbers.{Expression, expression_of}
-use Rattle.rsp_text.specs.Statement.{Labels, Reading, one_register, asks, base_of, offset_of, memory, bracketed, half_start, byte_named, half_named, lane_named, with_element, bracket_of, memory_operand, read, field, evaluate, or_out_of_range, field_of, then_registers, fields_of}
+use Rattle.rsp_text.specs.Statement.{Labels, Reading, one_register, asks, base_of, offset_of, memory, bracketed, half_start, byte_named, lane_named, with_element, bracket_of, memory_operand, read, field, evaluate, or_out_of_range, field_of, then_registers, fields_of}
 use Rattle.rsp_operands.specs.Room.{FitWord}
 
 -- ---- names
@@ -65,6 +65,10 @@ base_most bs = either_most 31 (slice_index bs (length bs - 1) == 41) (scalar_nam
 half_most : (o : Option ℕ) → Most 31 o → Most 31 (option_and_then half_start o)
 half_most None m = tt
 half_most (Some e) m = either_most 31 (e % 8 == 0) (Some e) None m tt
+
+byte_most : (elements : ByteElements) (bs : List ℕ) → Most 31 (byte_named elements bs)
+byte_most all_bytes bs = number_most 16 bs (omega arith)
+byte_most half_bytes bs = half_most (small_number 16 bs) (number_most 16 bs (omega arith))
 
 bracketed_most : (look : List ℕ → Option ℕ) → ((bs : List ℕ) → Most 31 (look bs)) → (bs : List ℕ) → Most 31 (bracketed look bs)
 bracketed_most look all bs = either_most 31 (slice_index bs (length bs - 1) == 93) (look (take (length bs - 1) bs)) None (all (take (length bs - 1) bs)) tt
@@ -160,10 +164,8 @@ module _ (labels : Labels) (place : ℕ) where
   read_room sp_register bs fits = one_room sp_register (sp_named bs) (sp_most bs) (λ n le. (omega arith, tt))
   read_room control_register bs fits = one_room control_register (control_named bs) (look_up_most control_names bs refl) (λ n le. (omega arith, tt))
   read_room (vector low) bs fits = one_room (vector low) (vector_named bs) (vector_most bs) (λ n le. (first_room n low le fits, tt))
-  read_room (vector_byte low) bs fits =
-      bracket_room (vector_byte low) byte_named (Some 0) (cut Bracket bs) bs (λ b. number_most 16 b (omega arith)) (omega arith) (λ n le. (first_room n low le fits, tt))
-  read_room vector_half bs fits =
-      bracket_room vector_half half_named (Some 0) (cut Bracket bs) bs (λ b. half_most (small_number 16 b) (number_most 16 b (omega arith))) (omega arith) (λ n le. (omega arith, tt))
+  read_room (vector_byte low elements) bs fits =
+      bracket_room (vector_byte low elements) (byte_named elements) (Some 0) (cut Bracket bs) bs (byte_most elements) (omega arith) (λ n le. (first_room n low le fits, tt))
   read_room vector_element bs fits =
       bracket_room vector_element element_named (Some 0) (cut Bracket bs) bs (λ b. look_up_most element_names b refl) (omega arith) (λ n le. (omega arith, tt))
   read_room vector_lane bs fits =

@@ -11,7 +11,7 @@ ghost use Rattle.rsp_operands.specs.Room.{FitWord};
 use crate::labels::Labels;
 use crate::reading::Reading;
 use crate::values::expression_field;
-use rsp_decode::Operand;
+use rsp_decode::{ByteElements, Operand};
 use rsp_text::AsmFaultKind;
 
 /// The values of an operand's fields, in the order of its text.
@@ -66,12 +66,12 @@ fn first_low(kind: Operand) -> u8
     ensures place { (w v : ℕ) → with_fields w (bit_fields kind) (v ∷ []) ≡ bit_or w (v * 2 ^ result) }
 {
     match kind {
-        Operand::Scalar(low) | Operand::Vector(low) | Operand::VectorByte(low) => low,
+        Operand::Scalar(low) | Operand::Vector(low) | Operand::VectorByte(low, _) => low,
         Operand::ShiftAmount | Operand::VectorLane => 6,
         Operand::Signed | Operand::Unsigned | Operand::JumpTarget | Operand::BranchTarget => 0,
         Operand::ScalarMemory | Operand::VectorMemory(_) => 0,
         Operand::SpRegister | Operand::ControlRegister => 11,
-        Operand::VectorElement | Operand::VectorHalf => 16,
+        Operand::VectorElement => 16,
     }
 }
 
@@ -84,8 +84,8 @@ fn second_bits(kind: Operand, value: u32) -> u32
     match kind {
         Operand::ScalarMemory | Operand::VectorMemory(_) | Operand::VectorElement => value << 21,
         Operand::VectorLane => value << 11,
-        Operand::VectorByte(_) => value << 7,
-        Operand::VectorHalf => value / 8 << 10,
+        Operand::VectorByte(_, ByteElements::All) => value << 7,
+        Operand::VectorByte(_, ByteElements::Halves) => value / 8 << 10,
         Operand::Scalar(_) | Operand::Vector(_) | Operand::SpRegister | Operand::ControlRegister =>
             0,
         Operand::ShiftAmount | Operand::Signed | Operand::Unsigned => 0,

@@ -6,10 +6,10 @@ ghost use Rattle.rsp_text.specs.Cuts.{cut};
 ghost use Rattle.rsp_text.specs.Names.{vector_named, element_named};
 ghost use Rattle.rsp_text.specs.Numbers.{expression_of};
 ghost use Rattle.rsp_text.specs.Seen.{expression, capped_expression};
-ghost use Rattle.rsp_text.specs.Statement.{base_of, offset_of, bracketed, byte_named, half_named, lane_named, with_element, bracket_of, memory_operand, asks, read};
+ghost use Rattle.rsp_text.specs.Statement.{base_of, offset_of, bracketed, byte_named, lane_named, with_element, bracket_of, memory_operand, asks, read};
 ghost use Rattle.rsp_operands.specs.Readings.{reading, capped_reading};
 
-use rsp_decode::Operand;
+use rsp_decode::{ByteElements, Operand};
 use rsp_text::{
     Boundary, Expression, Slot, control, cut, element, read_expression, scalar, small_number,
     sp_register, vector,
@@ -33,26 +33,16 @@ fn base(text: &[u8]) -> Option<u8>
     }
 }
 
-fn bracketed_byte(text: &[u8]) -> Option<u8>
-    ensures { result ≡ bracketed byte_named text.now }
-{
-    match text {
-        [number @ .., b']'] => small_number(number, 16),
-        _ => None,
-    }
-}
-
-fn bracketed_half(text: &[u8]) -> Option<u8>
-    ensures { result ≡ bracketed half_named text.now }
+fn bracketed_byte(elements: ByteElements, text: &[u8]) -> Option<u8>
+    ensures { result ≡ bracketed (byte_named elements) text.now }
 {
     let [number @ .., b']'] = text else {
         return None;
     };
     let byte = small_number(number, 16)?;
-    if byte.is_multiple_of(8) {
-        Some(byte)
-    } else {
-        None
+    match elements {
+        ByteElements::Halves if !byte.is_multiple_of(8) => None,
+        _ => Some(byte),
     }
 }
 
@@ -80,21 +70,12 @@ fn with_element(name: &[u8], element: Option<u8>) -> Option<Reading<'_>>
     Some(Reading::Pair(vector(name)?, element?))
 }
 
-fn vector_byte(text: &[u8]) -> Option<Reading<'_>>
-    ensures { option_map reading result ≡ option_map capped_reading (bracket_of byte_named (Some 0) (cut Bracket text.now) text.now) }
+fn vector_byte(elements: ByteElements, text: &[u8]) -> Option<Reading<'_>>
+    ensures { option_map reading result ≡ option_map capped_reading (bracket_of (byte_named elements) (Some 0) (cut Bracket text.now) text.now) }
 {
     match cut(text, Boundary::Bracket) {
         None => with_element(text, Some(0)),
-        Some((name, rest)) => with_element(name, bracketed_byte(rest)),
-    }
-}
-
-fn vector_half(text: &[u8]) -> Option<Reading<'_>>
-    ensures { option_map reading result ≡ option_map capped_reading (bracket_of half_named (Some 0) (cut Bracket text.now) text.now) }
-{
-    match cut(text, Boundary::Bracket) {
-        None => with_element(text, Some(0)),
-        Some((name, rest)) => with_element(name, bracketed_half(rest)),
+        Some((name, rest)) => with_element(name, bracketed_byte(elements, rest)),
     }
 }
 
@@ -156,8 +137,7 @@ pub(crate) fn read_operand(kind: Operand, text: &[u8]) -> Option<Reading<'_>>
         Operand::SpRegister => Some(Reading::Register(sp_register(text)?)),
         Operand::ControlRegister => Some(Reading::Register(control(text)?)),
         Operand::Vector(_) => Some(Reading::Register(vector(text)?)),
-        Operand::VectorByte(_) => vector_byte(text),
-        Operand::VectorHalf => vector_half(text),
+        Operand::VectorByte(_, elements) => vector_byte(elements, text),
         Operand::VectorElement => vector_element(text),
         Operand::VectorLane => vector_lane(text),
     }

@@ -2,7 +2,7 @@
 use Rattle.std.specs.Prelude.{ℕ, zero, suc, ◌+◌, ◌-◌, ◌*◌, ◌/◌, ◌%◌, ◌==◌, nat_lt, nat_le, if◌then◌else◌, List, [], ◌∷◌, ◌++◌, length, take, slice_index, Option, Some, None, option_map, option_and_then, codes, ℤ, pos, negsuc}
 use Rattle.std.specs.Char.{digit_char}
 use Rattle.std.specs.Fmt.{signed_decimal}
-use Rattle.rsp_decode.specs.Table.{Operand, scalar, shift_amount, signed, unsigned, jump_target, branch_target, scalar_memory, vector_memory, sp_register, control_register, vector, vector_byte, vector_half, vector_element, vector_lane}
+use Rattle.rsp_decode.specs.Table.{Operand, ByteElements, all_bytes, half_bytes, scalar, shift_amount, signed, unsigned, jump_target, branch_target, scalar_memory, vector_memory, sp_register, control_register, vector, vector_byte, vector_element, vector_lane}
 use Rattle.rsp_text.specs.declared.text.Boundary.TheVariants.{Parenthesis, Bracket}
 use Rattle.rsp_text.specs.declared.slot.Slot.{Slot}
 use Rattle.rsp_text.specs.declared.slot.Slot.TheVariants.{Half, Amount, Jump, Branch, Scaled}
@@ -44,16 +44,14 @@ memory slot e base = option_and_then (λ x. option_map (λ b. asks slot (b ∷ [
 abbrev pub bracketed : (List ℕ → Option ℕ) → List ℕ → Option ℕ
 bracketed look bs = if slice_index bs (length bs - 1) == 93 then look (take (length bs - 1) bs) else None
 
--- a byte of a register
-abbrev pub byte_named : List ℕ → Option ℕ
-byte_named bs = small_number 16 bs
-
 -- a byte that one of the halves of a register begins with
 abbrev pub half_start : ℕ → Option ℕ
 half_start e = if e % 8 == 0 then Some e else None
 
-abbrev pub half_named : List ℕ → Option ℕ
-half_named bs = option_and_then half_start (small_number 16 bs)
+-- a byte of a register, one of those that the instruction takes
+abbrev pub byte_named : ByteElements → List ℕ → Option ℕ
+byte_named all_bytes bs = small_number 16 bs
+byte_named half_bytes bs = option_and_then half_start (small_number 16 bs)
 
 abbrev pub lane_named : List ℕ → Option ℕ
 lane_named bs = small_number 8 bs
@@ -199,14 +197,9 @@ kind (vector low) = record {
   reading = λ bs. option_map one_register (vector_named bs);
   spelling = λ place vs. vector_name (slice_index vs 0);
 }
--- $v3[5] or $v3, spelled $v3[5] and $v3[0]
-kind (vector_byte low) = record {
-  reading = λ bs. bracket_of byte_named (Some 0) (cut Bracket bs) bs;
-  spelling = λ place vs. vector_name (slice_index vs 0) ++ byte_name (slice_index vs 1);
-}
--- $v3[8] or $v3, spelled $v3[8] and $v3[0]; [0] and [8] alone
-kind vector_half = record {
-  reading = λ bs. bracket_of half_named (Some 0) (cut Bracket bs) bs;
+-- $v3[8] or $v3, spelled $v3[8] and $v3[0]
+kind (vector_byte low elements) = record {
+  reading = λ bs. bracket_of (byte_named elements) (Some 0) (cut Bracket bs) bs;
   spelling = λ place vs. vector_name (slice_index vs 0) ++ byte_name (slice_index vs 1);
 }
 -- $v3[2h] or $v3, spelled so

@@ -12,7 +12,7 @@ use Rattle.rsp_text.specs.declared.slot.Slot.TheVariants.{Half, Amount, Jump, Br
 use Rattle.rsp_text.specs.Chars.{trim}
 use Rattle.rsp_text.specs.Cuts.{is_boundary}
 use Rattle.rsp_text.specs.Numbers.{Expression, expression_of}
-pub use Rattle.rsp_text.specs.Operands.{Reading, one_register, pair, asks, base_of, zero_expression, offset_of, memory, bracketed, half_start, byte_named, half_named, lane_named, with_element, bracket_of, memory_operand, read}
+pub use Rattle.rsp_text.specs.Operands.{Reading, one_register, pair, asks, base_of, zero_expression, offset_of, memory, bracketed, half_start, byte_named, lane_named, with_element, bracket_of, memory_operand, read}
 
 -- ---- values
 

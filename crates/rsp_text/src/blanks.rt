@@ -5,7 +5,7 @@ ghost use Rattle.rsp_text.specs.Chars.{is_blank, skip_blanks, trim};
 
 /// A space or a tab.
 #[inline]
-pub fn is_blank(c: u8) -> bool
+pub(crate) fn is_blank(c: u8) -> bool
     ensures { result ≡ is_blank c }
 {
     c == b' ' || c == b'\t'

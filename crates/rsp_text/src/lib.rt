@@ -19,14 +19,15 @@ mod slot;
 mod table;
 mod text;
 
-pub use blanks::{is_blank, skip_blanks, trim};
+pub use blanks::{skip_blanks, trim};
 pub use expression::{Expression, is_label, read_expression};
 pub use fault::{AsmFault, AsmFaultKind};
-pub use lines::{MAX_LINE_LEN, is_line, is_plain, is_text, without_return};
-pub use name_bytes::{is_name_byte, is_name_start};
+pub use lines::{MAX_LINE_LEN, is_line, is_text, without_return};
 pub use names::{control, element, scalar, small_number, sp_register, vector};
-pub use numbers::{number, unsigned};
 pub use search::{len_before, len_before_blank};
 pub use slot::Slot;
 pub use table::{find_row, select_row};
 pub use text::{Boundary, cut, is_same};
+
+#[cfg(test)]
+mod tests;

@@ -10,7 +10,7 @@ pub const MAX_LINE_LEN: usize = 256;
 
 /// What may stand in a line: a tab, or 20 to 7e hexadecimal.
 #[inline]
-pub fn is_plain(c: u8) -> bool
+pub(crate) fn is_plain(c: u8) -> bool
     ensures { result ≡ is_plain c }
 {
     c == b'\t' || matches!(c, b' '..=b'~')

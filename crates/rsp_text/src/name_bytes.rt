@@ -5,7 +5,7 @@ ghost use Rattle.rsp_text.specs.Chars.{is_name_byte, is_name_start};
 
 /// What a name may begin with: a letter, or `_`.
 #[inline]
-pub fn is_name_start(c: u8) -> bool
+pub(crate) fn is_name_start(c: u8) -> bool
     ensures { result ≡ is_name_start c }
 {
     matches!(c, b'A'..=b'Z' | b'a'..=b'z' | b'_')
@@ -13,7 +13,7 @@ pub fn is_name_start(c: u8) -> bool
 
 /// What may stand in a name: a letter, a digit, or `_`.
 #[inline]
-pub fn is_name_byte(c: u8) -> bool
+pub(crate) fn is_name_byte(c: u8) -> bool
     ensures { result ≡ is_name_byte c }
 {
     is_name_start(c) || matches!(c, b'0'..=b'9')

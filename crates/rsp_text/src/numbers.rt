@@ -27,7 +27,7 @@ fn numeral(text: &[u8], radix: u32) -> Option<u64>
 
 /// A number without a sign, of any length: decimal digits, or `0x` and hexadecimal ones. A number above 2^40 counts as
 /// that. None of another text.
-pub fn unsigned(text: &[u8]) -> Option<u64>
+pub(crate) fn unsigned(text: &[u8]) -> Option<u64>
     ensures value { result ≡ option_map capped (unsigned_of text.now) }
     ensures below { IfSome result (λ n. n ≤ many) }
 {
@@ -73,7 +73,7 @@ fn negated(digits: &[u8]) -> Option<i64>
 }
 
 /// A number as [`unsigned`] reads it, or `-` and such a number.
-pub fn number(text: &[u8]) -> Option<i64>
+pub(crate) fn number(text: &[u8]) -> Option<i64>
     ensures { result ≡ option_map capped_ℤ (signed_of text.now) }
 {
     if let [b'-', digits @ ..] = text {

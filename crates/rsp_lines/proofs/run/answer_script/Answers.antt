@@ -1,7 +1,7 @@
 use Rattle.std.proofs.Common.{◌≡◌, ◌-◌, [], arith, length-take, IsErrOf, Err}
 use Rattle.rsp_lines.specs.declared.run.RunFault.TheVariants.{ScriptTooLong}
 use Rattle.std.specs.Io.KnownBytes.{prepend_known, IsAtEnd}
-use Rattle.rsp_lines.proofs.Runs.{if_some, read_cut, progress-more, progress-ended, progress-front, progress-few, progress-long, progress-end, progress-end_front}
+use Rattle.rsp_lines.proofs.Runs.{if_some, read_cut, progress-more, progress-ended, progress-front, progress-few, progress-past, progress-long, progress-end, progress-end_front}
 use Rattle.rsp_lines.proofs.run.answer_script.Goals as goal
 
 -- a read failed
@@ -90,3 +90,8 @@ pub returns-clause-left_long : goal.returns-clause-left_long
 returns-clause-left_long g c =
     progress-long g.S.Answering.answered g.S.Answering.closing g.met.S.Answering.alike (IsErrOf (Err ScriptTooLong) ScriptTooLong)
     c.loop-total.invariant.progress (omega arith)
+
+-- the byte past the limit was read
+pub returns-clause-past : goal.returns-clause-past
+returns-clause-past g c =
+    λ _. progress-past g.S.Answering.answered g.S.Answering.closing g.met.S.Answering.alike c.loop-total.invariant.progress (omega (arith, c.loop-total.invariant.few))
