@@ -5,7 +5,7 @@ use Rattle.rsp_machine.specs.State.{State}
 use Rattle.rsp_machine.specs.Laws.{steps_of}
 use Rattle.rsp_debug.specs.Stops.{is_break, is_reserved, when, first_of, reason_at, least, run_steps, stop_of, IsStop}
 use Rattle.rsp_debug.specs.Snapshots.{snapshot_of, watches_of}
-use Rattle.rsp_debug.specs.Ring.{past_of}
+use Rattle.rsp_debug.specs.History.{past_of}
 use Rattle.rsp_debug.specs.Debugging.{Debugging, steps_made, ran}
 use Rattle.rsp_debug.proofs.Going.{made-is}
 use Rattle.rsp_debug.specs.declared.stop.Watch.{Watch}
@@ -38,9 +38,6 @@ stop-is b w n s t stop is =
     ap (λ pc. made stop.reason stop.steps pc) (is.place ∙ ap (λ (x : State). x.pc) is.reached)
     ∙ ap (λ o. made (unwrap_or o Limit) stop.steps (steps_of stop.steps s).pc) (sym is.reason)
     ∙ ap (λ k. made (unwrap_or (reason_at b w n s k) Limit) k (steps_of k s).pc) (sym (steps-are b w n s t stop is))
-
-pub state-is : (b : List Bool) (w : List (Option Watch)) (n : ℕ) (s t : State) (stop : Stop) → IsStop b w n s t stop → t ≡ steps_of (run_steps b w n s) s
-state-is b w n s t stop is = is.reached ∙ ap (λ k. steps_of k s) (sym (steps-are b w n s t stop is))
 
 -- where there are no watches, none changes
 unwatched_reason : (b : List Bool) (w : List (Option Watch)) (n k : ℕ) (s : State) → All IsNone w → reason_at b [] n s k ≡ reason_at b w n s k

@@ -8,6 +8,5 @@ pub mod Afters
 pub mod Going
 pub mod Ends
 pub mod Calling
-pub mod Cuts
 pub mod Hosts
 pub mod Looking

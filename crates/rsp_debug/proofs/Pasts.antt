@@ -1,19 +1,21 @@
 -- Records stand for states.
-use Rattle.std.proofs.Common.{◌≡◌, ℕ, zero, suc, ◌+◌, ◌-◌, ◌<◌, ◌≤◌, Bool, true, false, not, List, [], ◌∷◌, length, take, drop, refl, sym, ◌∙◌, ap, arith, add-one, get_or, set, min, Option, Some, None}
-use Rattle.std.specs.Prelude.{slice_get, slice_index_or}
+use Rattle.std.proofs.Common.{◌≡◌, ℕ, zero, suc, ◌+◌, ◌-◌, ◌<◌, ◌≤◌, inl, inr, min, Bool, true, false, not, List, [], ◌∷◌, ◌++◌, length, take, drop, refl, sym, ◌∙◌, ap, arith, add-one, Option, Some, None}
+use Rattle.std.specs.Prelude.{reverse, slice_get, slice_index_or}
 use Rattle.std.proofs.lemmas.Option.{none-some}
 use Rattle.std.proofs.Math.Seq.{drop-cons}
-use Rattle.std.proofs.lemmas.List.{drop-drop, length-drop}
+use Rattle.std.proofs.lemmas.List.{drop-drop, length-drop, take_more, take_all, take-take, reverse-append}
 use Rattle.rsp_machine.specs.State.{State}
 use Rattle.rsp_machine.specs.Step.{step_of}
-use Rattle.rsp_machine.specs.Saved.{Saved, undone, can_undo, record_after}
+use Rattle.rsp_machine.specs.Laws.{steps_of, done_of}
+use Rattle.rsp_machine.specs.Saved.{Saved, blank, record_at, is_back, undone}
 use Rattle.rsp_machine.specs.declared.step.StepEnd.TheVariants.{Done, Halted, Reserved}
-use Rattle.rsp_machine.proofs.Saving.{halted_stays, reserved_stays}
-use Rattle.rsp_machine.proofs.Ending.{step_halted, undo-done}
+use Rattle.rsp_machine.specs.declared.step.StepEnd.{StepEnd}
 use Rattle.rsp_machine.specs.Transfers.{starts_dma_at}
-use Rattle.rsp_debug.specs.Ring.{next_slot, previous_slot, from_slot, states_before}
+use Rattle.rsp_debug.specs.History.{backwards, before_slot, states_before, past_of}
 use Rattle.rsp_debug.specs.Past.{past_by, past_after}
-use Rattle.rsp_debug.proofs.Turns.{grown, pushed, popped, first_is, same_member}
+use Rattle.std.proofs.lemmas.Bool.{cases_lt}
+use Rattle.rsp_machine.proofs.Recording.{done-each}
+use Rattle.rsp_debug.proofs.Turns.{pushed, length-before}
 
 pub states_before-take : (s : State) (n : ℕ) (rs : List Saved) → states_before s (take n rs) ≡ take n (states_before s rs)
 states_before-take s zero rs = refl
@@ -24,79 +26,111 @@ pub length-states_before : (s : State) (rs : List Saved) → length (states_befo
 length-states_before s [] = refl
 length-states_before s (r ∷ rs) = ap suc (length-states_before (undone r s) rs)
 
--- a step that is Done can be undone unless it starts a DMA
-not_of : (dma b : Bool) → not dma ≡ b → dma ≡ not b
-not_of true b e = ap not e
-not_of false b e = ap not e
+-- the past after steps that started no DMA, by their records
+take_once : {X : Type 0} (n : ℕ) (x : X) (l : List X) → take n (x ∷ l) ≡ take n (x ∷ take n l)
+take_once zero x l = refl
+take_once (suc n) x l = ap (λ r. x ∷ r) (sym (take-take n (suc n) l (omega arith)))
 
-no-dma : (s : State) (b : Bool) → (step_of s).0 ≡ Done → can_undo s ≡ b → starts_dma_at s ≡ not b
-no-dma s b d u = not_of (starts_dma_at s) b (sym (undo-done s d) ∙ u)
-
--- a step that can be undone, by the record x of it
-led : (s t : State) (rs : List Saved) (n : ℕ) (x : Saved) → (step_of s).0 ≡ Done → can_undo s ≡ true → undone x t ≡ s
-    → states_before t (take n (x ∷ rs)) ≡ past_after n s (states_before s rs)
+past_plain : (n : ℕ) (s : State) (past : List State) → (step_of s).0 ≡ Done → starts_dma_at s ≡ false → past_after n s past ≡ take n (s ∷ past)
 unfolding past_after
-led s t rs n x d u e =
-    states_before-take t n (x ∷ rs)
-    ∙ ap (λ z. take n (z ∷ states_before z rs)) e
-    ∙ sym (ap (λ b. past_by Done b n s (states_before s rs)) (no-dma s true d u))
-    ∙ sym (ap (λ b. past_by b (starts_dma_at s) n s (states_before s rs)) d)
+past_plain n s past d none = ap (λ b. past_by (step_of s).0 b n s past) none ∙ ap (λ e. past_by e false n s past) d
 
-pub past_done : (s t : State) (xs : List Saved) (i count n : ℕ) (x : Saved) → 0 < i → i ≤ length xs → n ≤ length xs
-    → (step_of s).0 ≡ Done → can_undo s ≡ true → undone x t ≡ s
-    → states_before t (from_slot (i - 1) (min (count + 1) n) (set xs (i - 1) x))
-    ≡ past_after n s (states_before s (from_slot i count xs))
-past_done s t xs i count n x h l c d u e = ap (states_before t) (grown xs i count n x h l c) ∙ led s t (from_slot i count xs) n x d u e
-
--- a step that started a DMA
-pub past_gone : (s : State) (past : List State) (n : ℕ) → (step_of s).0 ≡ Done → can_undo s ≡ false → [] ≡ past_after n s past
+past_gone : (n : ℕ) (s : State) (past : List State) → (step_of s).0 ≡ Done → starts_dma_at s ≡ true → past_after n s past ≡ []
 unfolding past_after
-past_gone s past n d u =
-    sym (ap (λ b. past_by Done b n s past) (no-dma s false d u)) ∙ sym (ap (λ b. past_by b (starts_dma_at s) n s past) d)
+past_gone n s past d dma = ap (λ b. past_by (step_of s).0 b n s past) dma ∙ ap (λ e. past_by e true n s past) d
 
--- a step that isn't Done
-pub past_halted : (s : State) (xs : List Saved) (p i n count : ℕ) (x : Saved) → x ≡ get_or xs p x → (step_of s).0 ≡ Halted
-    → states_before (step_of s).1 (from_slot i count (set xs p (record_after s x))) ≡ past_after n s (states_before s (from_slot i count xs))
-unfolding past_after
-past_halted s xs p i n count x e d =
-    let k = halted_stays s x d in
-    rw (k.0, k.1, same_member xs p x e, d) refl
+next_reversed : (ys : List Saved) (k : ℕ) → k < length ys → reverse (take (suc k) ys) ≡ record_at ys k ∷ reverse (take k ys)
+next_reversed ys k h = ap (λ i. reverse (take i ys)) (sym (add-one k)) ∙ ap reverse (take_more ys k blank h) ∙ reverse-append (take k ys) (record_at ys k ∷ [])
 
-pub past_reserved : (s : State) (xs : List Saved) (p i n count w : ℕ) (x : Saved) → x ≡ get_or xs p x → (step_of s).0 ≡ Reserved w
-    → states_before (step_of s).1 (from_slot i count (set xs p (record_after s x))) ≡ past_after n s (states_before s (from_slot i count xs))
-unfolding past_after
-past_reserved s xs p i n count w x e d =
-    let k = reserved_stays s x w d in
-    rw (k.0, k.1, same_member xs p x e, d) refl
+pub past-made : (k n : ℕ) (s : State) (ys rs : List Saved) → length rs ≤ n → k ≤ length ys → ((i : ℕ) → i < k → (step_of (steps_of i s)).0 ≡ Done)
+    → ((i : ℕ) → i < k → starts_dma_at (steps_of i s) ≡ false) → ((i : ℕ) → i < k → undone (record_at ys i) (steps_of (i + 1) s) ≡ steps_of i s)
+    → states_before (steps_of k s) (take n (reverse (take k ys) ++ rs)) ≡ past_of k n s (states_before s rs)
+unfolding steps_of past_of
+past-made zero n s ys rs few inside done none back = ap (states_before s) (take_all n rs few)
+past-made (suc k) n s ys rs few inside done none back =
+    let t : State = steps_of (suc k) s in let m : State = steps_of k s in let l = reverse (take k ys) ++ rs in let y = record_at ys k in
+    let here : undone y t ≡ m = ap (λ i. undone y (steps_of i s)) (sym (add-one k)) ∙ back k (omega arith) in
+    ap (λ r. states_before t (take n (r ++ rs))) (next_reversed ys k (omega (arith, inside)))
+    ∙ states_before-take t n (y ∷ l)
+    ∙ ap (λ (x : State). take n (x ∷ states_before x l)) here
+    ∙ take_once n m (states_before m l)
+    ∙ ap (λ p. take n (m ∷ p)) (sym (states_before-take m n l))
+    ∙ ap (λ p. take n (m ∷ p)) (past-made k n s ys rs few (omega (arith, inside)) (λ i h. done i (omega (arith, h))) (λ i h. none i (omega (arith, h))) (λ i h. back i (omega (arith, h))))
+    ∙ sym (past_plain n m (past_of k n s (states_before s rs)) (done k (omega arith)) (none k (omega arith)))
 
-pub ruleset pasts = (past_done, past_gone, past_halted, past_reserved)
+-- and where the last one started a DMA
+pub past-cleared : (k n : ℕ) (s : State) (past : List State) → 0 < k → (step_of (steps_of (k - 1) s)).0 ≡ Done → starts_dma_at (steps_of (k - 1) s) ≡ true → [] ≡ past_of k n s past
+unfolding past_of
+past-cleared zero n s past some done dma = absurd (omega (arith, some))
+past-cleared (suc k) n s past some done dma =
+    let one : suc k - 1 ≡ k = omega arith in
+    sym (past_gone n (steps_of k s) (past_of k n s past) (ap (λ i. (step_of (steps_of i s)).0) (sym one) ∙ done) (ap (λ i. starts_dma_at (steps_of i s)) (sym one) ∙ dma))
 
--- the same by the places of a ring
-pub past_one : (s t : State) (xs : List Saved) (i p count more n : ℕ) (x : Saved) → i < length xs → n ≤ length xs → p ≡ previous_slot (length xs) i
-    → more ≡ min (count + 1) n → (step_of s).0 ≡ Done → can_undo s ≡ true → undone x t ≡ s
-    → states_before t (from_slot p more (set xs p x)) ≡ past_after n s (states_before s (from_slot i count xs))
-past_one s t xs i p count more n x h c there up d u e =
-    ap (λ q. states_before t (from_slot q more (set xs q x))) there
-    ∙ ap (λ k. states_before t (from_slot (previous_slot (length xs) i) k (set xs (previous_slot (length xs) i) x))) up
-    ∙ ap (states_before t) (pushed xs i count n x h c)
-    ∙ led s t (from_slot i count xs) n x d u e
+-- A stretch has made k steps from s to t. Its records are ys, which were the m entries of xs from a on.
+pub record IsStretch (a m k count : ℕ) (s t : State) (xs ys : List Saved) : Type 0 where
+  pub room : a + m ≤ length xs
+  pub held : count ≤ length xs
+  pub len : length ys ≡ m
+  pub few : k ≤ m
+  pub rest : drop k ys ≡ drop k (take m (drop a xs))
+  pub done : done_of k s ≡ k
+  pub there : t ≡ steps_of k s
+  pub before : (i : ℕ) → i + 1 < k → starts_dma_at (steps_of i s) ≡ false
+  pub which : (i : ℕ) → i < k → is_back (record_at ys i).change ≡ not (starts_dma_at (steps_of i s))
+  pub back : (i : ℕ) → i < k → starts_dma_at (steps_of i s) ≡ false → undone (record_at ys i) (steps_of (i + 1) s) ≡ steps_of i s
 
-pub leads_back : (b : Bool) → not b ≡ false → b ≡ true
-leads_back true e = refl
-leads_back false e = cc
+dma_is : (b d : Bool) → b ≡ not d → d ≡ not b
+dma_is b true e = sym (ap not e)
+dma_is b false e = sym (ap not e)
 
--- a step of a halted machine
-pub halted_answer : (s : State) → s.sp.halted ≡ true → Halted ≡ (step_of s).0
-halted_answer s h = ap (λ r. r.0) (sym (step_halted s h))
+module _ (a m k count more : ℕ) (s t : State) (xs ys zs : List Saved) (h : IsStretch a m k count s t xs ys) where
+  last_dma : (b : Bool) → 0 < k → b ≡ is_back (record_at ys (k - 1)).change → starts_dma_at (steps_of (k - 1) s) ≡ not b
+  last_dma b some e = dma_is b _ (e ∙ h.which (k - 1) (omega (arith, some)))
 
-pub halted_state : (s : State) → s.sp.halted ≡ true → s ≡ (step_of s).1
-halted_state s h = ap (λ r. r.1) (sym (step_halted s h))
+  pub stretch-kept : zs ≡ take a xs ++ (ys ++ drop (a + m) xs) → more ≡ min (count + k) (length xs) → (0 < k → true ≡ is_back (record_at ys (k - 1)).change)
+      → states_before t (before_slot (a + k) more zs) ≡ past_of k (length xs) s (states_before s (before_slot a count xs))
+  stretch-kept written up leads =
+      let within : k ≤ length ys = omega (arith, h.len, h.few) in
+      let few : length (before_slot a count xs) ≤ length xs = omega (arith, length-before a count xs h.held, h.held) in
+      ap (λ (x : State). states_before x (before_slot (a + k) more zs)) h.there
+      ∙ ap (λ l. states_before (steps_of k s) (take more (backwards (a + k) l))) written
+      ∙ ap (λ i. states_before (steps_of k s) (take i (backwards (a + k) (take a xs ++ (ys ++ drop (a + m) xs))))) up
+      ∙ ap (states_before (steps_of k s)) (pushed a m k count xs ys h.room h.len h.few h.rest)
+      ∙ past-made k (length xs) s ys (before_slot a count xs) few within (λ i l. done-each k s h.done i l) none (λ i l. h.back i l (none i l))
+    where
+      none : (i : ℕ) → i < k → starts_dma_at (steps_of i s) ≡ false
+      none i l = elim (cases_lt (i + 1) k) [
+        | inl early ↦ h.before i early
+        | inr late ↦
+            let last : k - 1 ≡ i = omega (arith, l, late) in
+            ap (λ j. starts_dma_at (steps_of j s)) (sym last) ∙ last_dma true (omega (arith, l)) (leads (omega (arith, l)))
+      ]
 
-pub halted_past : (s : State) (past : List State) (n : ℕ) → s.sp.halted ≡ true → past ≡ past_after n s past
-unfolding past_after
-halted_past s past n h = sym (ap (λ r. past_by r.0 (starts_dma_at s) n s past) (step_halted s h))
+  pub stretch-cleared : more ≡ 0 → 0 < k → false ≡ is_back (record_at ys (k - 1)).change
+      → states_before t (before_slot (a + k) more zs) ≡ past_of k (length xs) s (states_before s (before_slot a count xs))
+  stretch-cleared zeroed some leads =
+      ap (λ i. states_before t (before_slot (a + k) i zs)) zeroed
+      ∙ past-cleared k (length xs) s (states_before s (before_slot a count xs)) some (done-each k s h.done (k - 1) (omega (arith, some))) (last_dma false some leads)
 
-pub ruleset singles = (past_gone, halted_answer, halted_state, halted_past)
+-- what the ring is that such a stretch leaves
+pub written-items : (a m j : ℕ) (xs ls ys zs : List Saved) → ls ≡ xs → j ≡ m → zs ≡ take a ls ++ (ys ++ drop j (drop a ls)) → zs ≡ take a xs ++ (ys ++ drop (a + m) xs)
+written-items a m j xs ls ys zs same e is =
+    is ∙ ap (λ l. take a l ++ (ys ++ drop j (drop a l))) same ∙ ap (λ i. take a xs ++ (ys ++ drop i (drop a xs))) e ∙ ap (λ l. take a xs ++ (ys ++ l)) (drop-drop m a xs)
+
+-- if no record is kept
+past_none : (k : ℕ) (s : State) (past : List State) → past ≡ [] → past_of k 0 s past ≡ []
+unfolding past_of past_after
+past_none zero s past e = e
+past_none (suc k) s past e = ap (past_after 0 (steps_of k s)) (past_none k s past e) ∙ none_by (step_of (steps_of k s)).0 (starts_dma_at (steps_of k s)) (steps_of k s)
+  where
+    none_by : (e : StepEnd) (b : Bool) (s : State) → past_by e b 0 s [] ≡ []
+    none_by Done true s = refl
+    none_by Done false s = refl
+    none_by Halted b s = refl
+    none_by (Reserved w) b s = refl
+
+pub past-unkept : (k n : ℕ) (s t : State) (rs : List Saved) → n ≡ 0 → rs ≡ [] → states_before t rs ≡ past_of k n s (states_before s rs)
+past-unkept k n s t rs z e = rw (z, e) (sym (past_none k s [] refl))
 
 -- back by one
 first_here : (s : State) (rs : List Saved) (r : Saved) → slice_get rs 0 ≡ Some r → undone r s ≡ slice_index_or (states_before s rs) 0 s
@@ -111,14 +145,11 @@ rest_here s (x ∷ rs) r e =
     let same : x ≡ r = cc in
     rw (← same) refl
 
-pub back_here : (s : State) (xs : List Saved) (i count : ℕ) (r : Saved) → i < length xs → 0 < count → slice_get xs i ≡ Some r
-    → undone r s ≡ slice_index_or (states_before s (from_slot i count xs)) 0 s
-back_here s xs i count r h c e = first_here s (from_slot i count xs) r (first_is xs i count r h c e)
+pub back_here : (s : State) (rs : List Saved) (r : Saved) → Some r ≡ slice_get rs 0 → undone r s ≡ slice_index_or (states_before s rs) 0 s
+back_here s rs r e = first_here s rs r (sym e)
 
-pub back_rest : (s : State) (xs : List Saved) (i count : ℕ) (r : Saved) → i < length xs → 0 < count → count ≤ length xs → slice_get xs i ≡ Some r
-    → states_before (undone r s) (from_slot (next_slot (length xs) i) (count - 1) xs) ≡ drop 1 (states_before s (from_slot i count xs))
-back_rest s xs i count r h c l e =
-    ap (states_before (undone r s)) (popped xs i count r h l) ∙ rest_here s (from_slot i count xs) r (first_is xs i count r h c e)
+pub back_rest : (s : State) (rs : List Saved) (r : Saved) → Some r ≡ slice_get rs 0 → states_before (undone r s) (drop 1 rs) ≡ drop 1 (states_before s rs)
+back_rest s rs r e = rest_here s rs r (sym e)
 
 pub ruleset backs = (back_here, back_rest)
 

@@ -1,6 +1,6 @@
 -- Which reason holds, by what a step answers.
-use Rattle.std.proofs.Common.{◌≡◌, ◌≢◌, ℕ, zero, suc, ◌+◌, ◌-◌, ◌<◌, ◌≤◌, List, [], ◌∷◌, refl, ap, sym, ◌∙◌, subst, arith, Bool, true, false, cond, Option, Some, None, below_more, add-one}
-use Rattle.std.specs.Prelude.{is_none, is_some, take, length, nat_lt, nat_eq, ◌==◌, option_map, ◌&&◌, not}
+use Rattle.std.proofs.Common.{◌≡◌, ℕ, ◌+◌, ◌-◌, ◌<◌, ◌≤◌, List, [], ◌∷◌, refl, ap, sym, ◌∙◌, subst, arith, Bool, true, false, cond, Option, Some, None, add-one}
+use Rattle.std.specs.Prelude.{is_none, take, length, nat_lt, nat_eq, ◌==◌, option_map, ◌&&◌, not}
 use Rattle.std.proofs.lemmas.Grind.{common_steps}
 use Rattle.rsp_memory.specs.Memory.{word_at}
 use Rattle.std.proofs.lemmas.List.{take_all}
@@ -56,9 +56,6 @@ answer_reserved true i w v s e = cc
 answer_reserved false None w v s e = (refl, refl)
 answer_reserved false (Some i) w v s e = cc
 
-inst_at : State → Option Inst
-inst_at s = inst_of (word_at s.imem s.pc)
-
 pub step-done : (s : State) → (step_of s).0 ≡ end.Done → stuck_of s ≡ None
 unfolding step_of
 step-done s e = stuck_is s.sp.halted _ ∙ answer_done s.sp.halted (inst_of (word_at s.imem s.pc)) (word_at s.imem s.pc) s e
@@ -78,18 +75,6 @@ step-reserved s w e = stuck_is s.sp.halted _ ∙ (answer_reserved s.sp.halted (i
 pub step-reserved-same : (s : State) (w : ℕ) → (step_of s).0 ≡ end.Reserved w → (step_of s).1 ≡ s
 unfolding step_of
 step-reserved-same s w e = (answer_reserved s.sp.halted (inst_of (word_at s.imem s.pc)) (word_at s.imem s.pc) w s e).1
-
-pub halted-stuck : (s : State) → s.sp.halted ≡ true → is_some (stuck_of s) ≡ true
-halted-stuck s e =
-    let i = inst_of (word_at s.imem s.pc) in
-    ap is_some (stuck_is s.sp.halted i) ∙ ap (λ halted. is_some (stuck_by halted i)) e
-
--- behind a step that isn't Done the machine can't go on
-pub stuck-halted : (s t : State) → t ≡ (step_of s).1 → (step_of s).0 ≡ end.Halted → is_some (stuck_of t) ≡ true
-stuck-halted s t there e = ap (λ (x : State). is_some (stuck_of x)) (there ∙ step-halted-same s e) ∙ ap is_some (step-halted s e)
-
-pub stuck-reserved : (s t : State) (w : ℕ) → t ≡ (step_of s).1 → (step_of s).0 ≡ end.Reserved w → is_some (stuck_of t) ≡ true
-stuck-reserved s t w there e = ap (λ (x : State). is_some (stuck_of x)) (there ∙ step-reserved-same s w e) ∙ ap is_some (step-reserved s w e)
 
 -- the five reasons, from the first two, the next two and the last
 two_more : (a b c d e : Option Reason) → first_of (a ∷ b ∷ []) ≡ None → first_of (a ∷ b ∷ c ∷ d ∷ e ∷ []) ≡ first_of (c ∷ d ∷ e ∷ [])
@@ -165,15 +150,6 @@ is_stop b w n s t k m r stop same count within reached first reason =
     let exact : stop ≡ record { reason = r; steps = k; pc = t.pc } = same ∙ ap (λ x. let made : Stop = record { reason = r; steps = x; pc = t.pc } in made) count in
     subst (λ (x : Stop). IsStop b w n s t x) (sym exact) (record { within = within; reached = reached; reason = reason; first = first; place = refl })
 
--- one step further in a run
-pub next-reached : (s m t : State) (k : ℕ) → m ≡ steps_of k s → t ≡ (step_of m).1 → t ≡ steps_of (k + 1) s
-next-reached s m t k here there = there ∙ ap (λ (x : State). (step_of x).1) here ∙ sym (steps-more k s)
-
-pub next-first : (b : List Bool) (w : List (Option Watch)) (n : ℕ) (s m : State) (k : ℕ)
-    → m ≡ steps_of k s → (step_of m).0 ≡ end.Done → hit_of b w k (steps_of (k - 1) s) (steps_of k s) ≡ None → k < n
-    → ((j : ℕ) → j < k → reason_at b w n s j ≡ None) → (j : ℕ) → j < k + 1 → reason_at b w n s j ≡ None
-next-first b w n s m k here done quiet h first = below_more _ _ first (reason-none b w n s m k here (step-done m done) quiet h)
-
 -- the watch or the breakpoint, by the watch that changed
 abbrev hit_by : List Bool → Option ℕ → State → Option Reason
 hit_by b o s = first_of (option_map Watched o ∷ when (is_break b s.pc) Break ∷ [])
@@ -203,13 +179,6 @@ hit_nothing (Some k) d e = cc
 pub nothing-differs : (b : List Bool) (snapshots : List (Option Snapshot)) (t : State) → hit_in b snapshots t ≡ None → differs snapshots t.dmem ≡ None
 nothing-differs b snapshots t e = hit_nothing (differs snapshots t.dmem) (when (is_break b t.pc) Break) e
 
--- before the first step nothing is hit
-pub unhit : (b : List Bool) (w : List (Option Watch)) (k : ℕ) (before s : State) → k < 1 → hit_of b w k before s ≡ None
-unhit b w zero before s h = refl
-unhit b w (suc k) before s h = absurd (omega arith)
-
 -- a DMEM that is read whole
 pub whole : (m : List ℕ) (n : ℕ) → length m ≡ n → take n m ≡ m
 whole m n e = take_all n m (omega (arith, e))
-
-pub ruleset stops = (step-done, step-halted, step-halted-same, step-reserved, step-reserved-same, reason-stuck, reason-none, reason-limit, steps-none, steps-more, below_more)

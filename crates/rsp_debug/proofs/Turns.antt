@@ -1,126 +1,159 @@
--- A ring that turns by one place.
-use Rattle.std.proofs.Common.{◌≡◌, ℕ, zero, suc, ◌+◌, ◌-◌, ◌<◌, ◌≤◌, ◌==◌, Bool, true, false, List, [], ◌∷◌, ◌++◌, length, take, drop, refl, sym, ◌∙◌, ap, arith, add-one, get_or, set, append_assoc, min, inl, inr, Some}
-use Rattle.std.specs.Prelude.{if◌then◌else◌, slice_get}
+-- A ring whose members are in the order of steps.
+use Rattle.std.proofs.Common.{◌≡◌, ℕ, zero, suc, ◌+◌, ◌-◌, ◌<◌, ◌≤◌, ◌==◌, Bool, true, false, List, [], ◌∷◌, ◌++◌, length, take, drop, refl, sym, ◌∙◌, ap, arith, add-one, get_or, append_assoc, min, inl, inr}
+use Rattle.std.specs.Prelude.{reverse, slice_get}
 use Rattle.std.proofs.Math.Seq.{drop-cons}
-use Rattle.std.proofs.lemmas.Option.{get_or_from_slice_get}
-use Rattle.std.proofs.lemmas.List.{drop-set, take-set, take_more, take_all, drop_all, take-append-le, take-take, length-take, length-drop, length-append, length-set, set-get_or, append-nil}
+use Rattle.std.proofs.lemmas.Option.{slice_get-get_or}
+use Rattle.std.proofs.lemmas.List.{take_more, take_all, drop_all, take-append-le, take-take, drop-drop, take-append-drop, length-take, length-drop, length-append, length-reverse, reverse-append, append-nil}
 use Rattle.std.proofs.lemmas.Bool.{cases_lt}
 use Rattle.std.proofs.lemmas.Bool.Decides.{nat_tests}
-use Rattle.rsp_debug.specs.Ring.{next_slot, previous_slot, rotated, from_slot}
+use Rattle.rsp_debug.specs.History.{previous_slot, backwards, before_slot}
 
-next_of_previous : (n i : ℕ) → i < n → next_slot n (previous_slot n i) ≡ i
-next_of_previous n i h = grind (arith, nat_tests)
+previous_below : (n i : ℕ) → i ≤ n → 0 < n → previous_slot n i < n
+previous_below n i h some = grind (arith, nat_tests)
 
-previous_below : (n i : ℕ) → i < n → previous_slot n i < n
-previous_below n i h = grind (arith, nat_tests)
+previous_next : (n i : ℕ) → (i == 0) ≡ false → previous_slot n i + 1 ≡ i
+previous_next n i e = grind (arith, nat_tests)
+
+previous_last : (n i : ℕ) → (i == 0) ≡ true → 0 < n → previous_slot n i + 1 ≡ n
+previous_last n i e some = grind (arith, nat_tests)
 
 module _ {X : Type 0} where
-  -- the others than the member at a place, from there on
-  abbrev rest : ℕ → List X → List X
-  rest i xs = drop (i + 1) xs ++ take i xs
+  take_beyond : (ps qs : List X) (m n : ℕ) → m ≡ length ps + n → take m (ps ++ qs) ≡ ps ++ take n qs
+  take_beyond [] qs m n e = ap (λ i. take i qs) (let same : m ≡ n = omega (arith, e) in same)
+  take_beyond (p ∷ ps) qs zero n e = absurd (omega (arith, e))
+  take_beyond (p ∷ ps) qs (suc m) n e = ap (λ l. p ∷ l) (take_beyond ps qs m n (omega (arith, e)))
 
-  length-rest : (i : ℕ) (xs : List X) → i < length xs → length (rest i xs) + 1 ≡ length xs
-  length-rest i xs h = omega (arith, length-append (drop (i + 1) xs) (take i xs), length-drop (i + 1) xs, length-take i xs)
+  drop_beyond : (ps qs : List X) (m n : ℕ) → m ≡ length ps + n → drop m (ps ++ qs) ≡ drop n qs
+  drop_beyond [] qs m n e = ap (λ i. drop i qs) (let same : m ≡ n = omega (arith, e) in same)
+  drop_beyond (p ∷ ps) qs zero n e = absurd (omega (arith, e))
+  drop_beyond (p ∷ ps) qs (suc m) n e = drop_beyond ps qs m n (omega (arith, e))
 
-  here : (i : ℕ) (xs : List X) (d : X) → i < length xs → rotated i xs ≡ get_or xs i d ∷ rest i xs
-  here i xs d h = rw (drop-cons xs i d h, add-one) refl
+  drop_within : (ps qs : List X) (n : ℕ) → n ≤ length ps → drop n (ps ++ qs) ≡ drop n ps ++ qs
+  drop_within ps qs zero h = refl
+  drop_within [] qs (suc n) h = absurd (omega (arith, h))
+  drop_within (p ∷ ps) qs (suc n) h = drop_within ps qs n (omega (arith, h))
 
-  there_by : (b : Bool) (i : ℕ) (xs : List X) (d : X) → (i + 1 == length xs) ≡ b → i < length xs
-      → rotated (if b then 0 else i + 1) xs ≡ rest i xs ++ get_or xs i d ∷ []
-  there_by true i xs d e h =
-      let k : i + 1 ≡ length xs = grind (arith, nat_tests) in
-      append-nil xs ∙ sym (take_all (i + 1) xs (omega arith)) ∙ take_more xs i d h ∙ rw (drop_all (i + 1) xs (omega arith)) refl
-  there_by false i xs d e h =
-      ap (λ l. drop (i + 1) xs ++ l) (take_more xs i d h) ∙ sym (append_assoc (drop (i + 1) xs) (take i xs) (get_or xs i d ∷ []))
-
-  there : (i : ℕ) (xs : List X) (d : X) → i < length xs → rotated (next_slot (length xs) i) xs ≡ rest i xs ++ get_or xs i d ∷ []
-  there i xs d h = there_by (i + 1 == length xs) i xs d refl h
-
-  written : (i : ℕ) (xs : List X) (x : X) → i < length xs → rotated i (set xs i x) ≡ x ∷ rest i xs
-  written i xs x h = rw (drop-set xs i x h, take-set xs i x) refl
-
-  cut : (n count : ℕ) (xs : List X) (x : X) → n ≤ length xs → take (min count n) xs ≡ take n (take count (xs ++ x ∷ []))
-  cut n count xs x e = elim (cases_lt count n) [
+  cut : (n count : ℕ) (xs cs : List X) → n ≤ length xs → take (min count n) xs ≡ take n (take count (xs ++ cs))
+  cut n count xs cs e = elim (cases_lt count n) [
     | inl h ↦
-        let m : min count n ≡ count = omega arith in
-        ap (λ k. take k xs) m ∙ sym (take-append-le count xs (x ∷ []) (omega arith)) ∙ sym (take_all n (take count (xs ++ x ∷ [])) (omega (arith, length-take count (xs ++ x ∷ []))))
+        let m : min count n ≡ count = omega (arith, h) in
+        ap (λ k. take k xs) m ∙ sym (take-append-le count xs cs (omega (arith, h, e))) ∙ sym (take_all n (take count (xs ++ cs)) (omega (arith, h, length-take count (xs ++ cs))))
     | inr h ↦
-        let m : min count n ≡ n = omega arith in
-        ap (λ k. take k xs) m ∙ sym (take-append-le n xs (x ∷ []) e) ∙ sym (take-take n count (xs ++ x ∷ []) h)
+        let m : min count n ≡ n = omega (arith, h) in
+        ap (λ k. take k xs) m ∙ sym (take-append-le n xs cs e) ∙ sym (take-take n count (xs ++ cs) h)
   ]
 
-  -- a member that is written before the first, where n may stand
-  pub pushed : (xs : List X) (i count n : ℕ) (x : X) → i < length xs → n ≤ length xs
-      → from_slot (previous_slot (length xs) i) (min (count + 1) n) (set xs (previous_slot (length xs) i) x) ≡ take n (x ∷ from_slot i count xs)
-  pushed xs i count zero x h c =
-      let m : min (count + 1) 0 ≡ 0 = omega arith in
-      ap (λ k. take k (rotated (previous_slot (length xs) i) (set xs (previous_slot (length xs) i) x))) m
-  pushed xs i count (suc n) x h c =
-      let p : ℕ = previous_slot (length xs) i in
-      let l : p < length xs = previous_below (length xs) i h in
-      let e : rotated p (set xs p x) ≡ x ∷ rest p xs = written p xs x l in
-      let f : rotated i xs ≡ rest p xs ++ get_or xs p x ∷ [] = rw (next_of_previous (length xs) i h) at (there p xs x l) in
-      let r = length-rest p xs l in
-      let o : X = get_or xs p x in
-      let m : min (count + 1) (suc n) ≡ suc (min count n) = omega arith in
-      ap (take (min (count + 1) (suc n))) e
-      ∙ ap (λ k. take k (x ∷ rest p xs)) m
-      ∙ ap (λ l. x ∷ l) (cut n count (rest p xs) o (omega arith))
-      ∙ sym (ap (λ l. take (suc n) (x ∷ take count l)) f)
+  -- k members that are written from an entry on, of m that may be
+  written_take : (a m k : ℕ) (xs ys : List X) → a + m ≤ length xs → length ys ≡ m → k ≤ m → take (a + k) (take a xs ++ (ys ++ drop (a + m) xs)) ≡ take a xs ++ take k ys
+  written_take a m k xs ys room len few =
+      take_beyond (take a xs) (ys ++ drop (a + m) xs) (a + k) k (omega (arith, length-take a xs, room))
+      ∙ ap (λ l. take a xs ++ l) (take-append-le k ys (drop (a + m) xs) (omega (arith, len, few)))
 
-  -- place 0 by the number of places
-  round : (xs : List X) (i count : ℕ) → i ≡ length xs → from_slot i count xs ≡ from_slot 0 count xs
-  round xs i count e =
-      ap (λ l. take count (l ++ take i xs)) (drop_all i xs (omega arith)) ∙ ap (take count) (take_all i xs (omega arith) ∙ sym (append-nil xs))
+  written_drop : (a m k : ℕ) (xs ys : List X) → a + m ≤ length xs → length ys ≡ m → k ≤ m → drop k ys ≡ drop k (take m (drop a xs)) → drop (a + k) (take a xs ++ (ys ++ drop (a + m) xs)) ≡ drop (a + k) xs
+  written_drop a m k xs ys room len few same =
+      let old = take m (drop a xs) in
+      drop_beyond (take a xs) (ys ++ drop (a + m) xs) (a + k) k (omega (arith, length-take a xs, room))
+      ∙ drop_within ys (drop (a + m) xs) k (omega (arith, len, few))
+      ∙ ap (λ l. l ++ drop (a + m) xs) same
+      ∙ ap (λ l. drop k old ++ l) (sym (drop-drop m a xs))
+      ∙ sym (drop_within old (drop m (drop a xs)) k (omega (arith, length-take m (drop a xs), length-drop a xs, room, few)))
+      ∙ ap (drop k) (take-append-drop m (drop a xs))
+      ∙ drop-drop k a xs
 
-  before_by : (b : Bool) (xs : List X) (i count n : ℕ) (x : X) → (i == length xs) ≡ b → 0 < i → i ≤ length xs → n ≤ length xs
-      → from_slot (i - 1) (min (count + 1) n) (set xs (i - 1) x) ≡ take n (x ∷ from_slot i count xs)
-  before_by true xs i count n x e h c d =
-      let k : i ≡ length xs = grind (arith, nat_tests) in
-      let p : previous_slot (length xs) 0 ≡ i - 1 = grind (arith, nat_tests) in
-      ap (λ j. from_slot j (min (count + 1) n) (set xs j x)) (sym p)
-      ∙ pushed xs 0 count n x (omega arith) d
-      ∙ ap (λ l. take n (x ∷ l)) (sym (round xs i count k))
-  before_by false xs i count n x e h c d =
-      let l : i < length xs = grind (arith, nat_tests) in
-      let p : previous_slot (length xs) i ≡ i - 1 = grind (arith, nat_tests) in
-      ap (λ j. from_slot j (min (count + 1) n) (set xs j x)) (sym p) ∙ pushed xs i count n x l d
+  pushed_by : (a k count : ℕ) (xs ys zs : List X) → a + k ≤ length xs → k ≤ length ys → take (a + k) zs ≡ take a xs ++ take k ys → drop (a + k) zs ≡ drop (a + k) xs
+      → before_slot (a + k) (min (count + k) (length xs)) zs ≡ take (length xs) (reverse (take k ys) ++ before_slot a count xs)
+  pushed_by a k count xs ys zs room some front back =
+      let n = length xs in
+      let made = reverse (take k ys) in let near = reverse (take a xs) in let far = reverse (drop (a + k) xs) in let gone = reverse (take k (drop a xs)) in
+      let long : length made ≡ k = omega (arith, length-reverse (take k ys), length-take k ys, some) in
+      let rest : n - k ≤ length (near ++ far) = omega (arith, length-append near far, length-reverse (take a xs), length-take a xs, length-reverse (drop (a + k) xs), length-drop (a + k) xs, room) in
+      let behind : reverse (drop a xs) ≡ far ++ gone =
+      ap reverse (sym (take-append-drop k (drop a xs)))
+      ∙ reverse-append (take k (drop a xs)) (drop k (drop a xs))
+      ∙ ap (λ l. reverse l ++ gone) (drop-drop k a xs) in
+      let all : backwards (a + k) zs ≡ made ++ (near ++ far) =
+      ap (λ l. reverse l ++ reverse (drop (a + k) zs)) front
+      ∙ ap (λ l. reverse (take a xs ++ take k ys) ++ reverse l) back
+      ∙ ap (λ l. l ++ far) (reverse-append (take a xs) (take k ys))
+      ∙ append_assoc made near far in
+      let before : backwards a xs ≡ (near ++ far) ++ gone = ap (λ l. near ++ l) behind ∙ sym (append_assoc near far gone) in
+      ap (take (min (count + k) n)) all
+      ∙ take_beyond made (near ++ far) (min (count + k) n) (min count (n - k)) (omega (arith, long, room))
+      ∙ ap (λ l. made ++ l) (cut (n - k) count (near ++ far) gone rest)
+      ∙ ap (λ l. made ++ take (n - k) (take count l)) (sym before)
+      ∙ sym (take_beyond made (take count (backwards a xs)) n (n - k) (omega (arith, long, room)))
 
-  -- the same by the places 1 to n
-  pub grown : (xs : List X) (i count n : ℕ) (x : X) → 0 < i → i ≤ length xs → n ≤ length xs
-      → from_slot (i - 1) (min (count + 1) n) (set xs (i - 1) x) ≡ take n (x ∷ from_slot i count xs)
-  grown xs i count n x h c d = before_by (i == length xs) xs i count n x refl h c d
+  pub pushed : (a m k count : ℕ) (xs ys : List X) → a + m ≤ length xs → length ys ≡ m → k ≤ m → drop k ys ≡ drop k (take m (drop a xs))
+      → before_slot (a + k) (min (count + k) (length xs)) (take a xs ++ (ys ++ drop (a + m) xs)) ≡ take (length xs) (reverse (take k ys) ++ before_slot a count xs)
+  pushed a m k count xs ys room len few same =
+      pushed_by a k count xs ys (take a xs ++ (ys ++ drop (a + m) xs)) (omega (arith, room, few)) (omega (arith, len, few)) (written_take a m k xs ys room len few) (written_drop a m k xs ys room len few same)
 
-  -- place 0 by its other name
-  turned_by : (b : Bool) (xs : List X) (i count : ℕ) → (i == 0) ≡ b → from_slot (if b then length xs else i) count xs ≡ from_slot i count xs
-  turned_by true xs i count e =
+  pub length-put : (a m : ℕ) (xs ys : List X) → a + m ≤ length xs → length ys ≡ m → length (take a xs ++ (ys ++ drop (a + m) xs)) ≡ length xs
+  length-put a m xs ys room len = omega (arith, length-append (take a xs) (ys ++ drop (a + m) xs), length-append ys (drop (a + m) xs), length-take a xs, length-drop (a + m) xs, room, len)
+
+  -- the end by its other name
+  pub turned : (xs : List X) (i : ℕ) → i ≡ length xs → backwards 0 xs ≡ backwards i xs
+  turned xs i e =
+      sym (append-nil (reverse xs))
+      ∙ ap (λ l. reverse l ++ []) (sym (take_all i xs (omega (arith, e))))
+      ∙ ap (λ l. reverse (take i xs) ++ reverse l) (sym (drop_all i xs (omega (arith, e))))
+
+  -- the nearest member, and the others
+  abbrev others : ℕ → List X → List X
+  others p xs = reverse (take p xs) ++ reverse (drop (p + 1) xs)
+
+  nearest : (xs : List X) (p : ℕ) (d : X) → p < length xs → backwards (p + 1) xs ≡ get_or xs p d ∷ others p xs
+  nearest xs p d h = ap (λ l. reverse l ++ reverse (drop (p + 1) xs)) (take_more xs p d h) ∙ ap (λ l. l ++ reverse (drop (p + 1) xs)) (reverse-append (take p xs) (get_or xs p d ∷ []))
+
+  farthest : (xs : List X) (p : ℕ) (d : X) → p < length xs → backwards p xs ≡ others p xs ++ get_or xs p d ∷ []
+  farthest xs p d h =
+      ap (λ l. reverse (take p xs) ++ reverse l) (drop-cons xs p d h)
+      ∙ ap (λ i. reverse (take p xs) ++ reverse (get_or xs p d ∷ drop i xs)) (sym (add-one p))
+      ∙ ap (λ l. reverse (take p xs) ++ l) (reverse-append (get_or xs p d ∷ []) (drop (p + 1) xs))
+      ∙ sym (append_assoc (reverse (take p xs)) (reverse (drop (p + 1) xs)) (get_or xs p d ∷ []))
+
+  behind_by : (b : Bool) (xs : List X) (i : ℕ) → (i == 0) ≡ b → i ≤ length xs → 0 < length xs → backwards i xs ≡ backwards (previous_slot (length xs) i + 1) xs
+  behind_by true xs i e h some =
       let z : i ≡ 0 = grind (arith, nat_tests) in
-      round xs (length xs) count refl ∙ ap (λ j. from_slot j count xs) (sym z)
-  turned_by false xs i count e = refl
+      ap (λ j. backwards j xs) z ∙ turned xs (length xs) refl ∙ ap (λ j. backwards j xs) (sym (previous_last (length xs) i e some))
+  behind_by false xs i e h some = ap (λ j. backwards j xs) (sym (previous_next (length xs) i e))
 
-  pub turned : (xs : List X) (n i j count more : ℕ) → n ≡ length xs → j ≡ (if i == 0 then n else i) → more ≡ count → from_slot j more xs ≡ from_slot i count xs
-  turned xs n i j count more e there same =
-      ap (λ k. from_slot k more xs) (there ∙ ap (λ l. if i == 0 then l else i) e) ∙ turned_by (i == 0) xs i more refl ∙ ap (λ k. from_slot i k xs) same
+  length-others : (xs : List X) (p : ℕ) → p < length xs → length (others p xs) + 1 ≡ length xs
+  length-others xs p h = omega (arith, length-append (reverse (take p xs)) (reverse (drop (p + 1) xs)), length-reverse (take p xs), length-reverse (drop (p + 1) xs), length-take p xs, length-drop (p + 1) xs, h)
 
-  -- the first member goes
-  pub popped : (xs : List X) (i count : ℕ) (d : X) → i < length xs → count ≤ length xs → from_slot (next_slot (length xs) i) (count - 1) xs ≡ drop 1 (from_slot i count xs)
-  popped xs i zero d h c = refl
-  popped xs i (suc k) d h c =
-      let r = length-rest i xs h in
-      let e : suc k - 1 ≡ k = omega arith in
-      ap (λ n. take n (rotated (next_slot (length xs) i) xs)) e
-      ∙ ap (take k) (there i xs d h)
-      ∙ take-append-le k (rest i xs) (get_or xs i d ∷ []) (omega arith)
-      ∙ sym (ap (λ l. drop 1 (take (suc k) l)) (here i xs d h))
+  -- the newest goes
+  popped_at : (xs : List X) (i count : ℕ) (d : X) → i ≤ length xs → 0 < count → count ≤ length xs
+      → (before_slot (previous_slot (length xs) i) (count - 1) xs ≡ drop 1 (before_slot i count xs)) × (slice_get xs (previous_slot (length xs) i) ≡ slice_get (before_slot i count xs) 0)
+  popped_at xs i zero d h c l = absurd (omega (arith, c))
+  popped_at xs i (suc k) d h c l =
+      let p = previous_slot (length xs) i in
+      let below = previous_below (length xs) i h (omega (arith, l)) in
+      let here : before_slot i (suc k) xs ≡ get_or xs p d ∷ take k (others p xs) = ap (take (suc k)) (behind_by (i == 0) xs i refl h (omega (arith, l)) ∙ nearest xs p d below) in
+      let one : suc k - 1 ≡ k = omega arith in (
+        ap (take (suc k - 1)) (farthest xs p d below)
+            ∙ ap (λ j. take j (others p xs ++ get_or xs p d ∷ [])) one
+            ∙ take-append-le k (others p xs) (get_or xs p d ∷ []) (omega (arith, length-others xs p below, l))
+            ∙ sym (ap (drop 1) here),
+        slice_get-get_or xs p d below ∙ sym (ap (λ l. slice_get l 0) here),
+      )
 
-  pub first_is : (xs : List X) (i count : ℕ) (x : X) → i < length xs → 0 < count → slice_get xs i ≡ Some x → slice_get (from_slot i count xs) 0 ≡ Some x
-  first_is xs i zero x h c e = absurd (omega arith)
-  first_is xs i (suc k) x h c e =
-      ap (λ l. slice_get (take (suc k) l) 0) (here i xs x h) ∙ ap Some (get_or_from_slice_get xs i x x e)
+  popped_by : (xs ys : List X) (i count : ℕ) → ys ≡ xs → i ≤ length xs → 0 < count → count ≤ length xs
+      → (before_slot (previous_slot (length xs) i) (count - 1) xs ≡ drop 1 (before_slot i count xs)) × (slice_get xs (previous_slot (length xs) i) ≡ slice_get (before_slot i count xs) 0)
+  popped_by xs [] i count e h c l = let none : 0 ≡ length xs = ap length e in absurd (omega (arith, c, l, none))
+  popped_by xs (y ∷ ys) i count e h c l = popped_at xs i count y h c l
 
-  -- a member that is written over by itself
-  pub same_member : (xs : List X) (i : ℕ) (x : X) → x ≡ get_or xs i x → set xs i x ≡ xs
-  same_member xs i x e = ap (set xs i) e ∙ set-get_or xs i x
+  pub popped : (xs : List X) (i count : ℕ) → i ≤ length xs → 0 < count → count ≤ length xs → before_slot (previous_slot (length xs) i) (count - 1) xs ≡ drop 1 (before_slot i count xs)
+  popped xs i count h c l = (popped_by xs xs i count refl h c l).0
 
-  pub length-written : (xs : List X) (i : ℕ) (x : X) → length (set xs i x) ≡ length xs
-  length-written xs i x = length-set xs i x
+  pub first_is : (xs : List X) (i count : ℕ) → i ≤ length xs → 0 < count → count ≤ length xs → slice_get xs (previous_slot (length xs) i) ≡ slice_get (before_slot i count xs) 0
+  first_is xs i count h c l = (popped_by xs xs i count refl h c l).1
+
+  -- there are so many
+  pub length-before : (i count : ℕ) (xs : List X) → count ≤ length xs → length (before_slot i count xs) ≡ count
+  length-before i count xs l =
+      omega (arith, length-take count (backwards i xs), length-append (reverse (take i xs)) (reverse (drop i xs)), length-reverse (take i xs), length-reverse (drop i xs), length-take i xs, length-drop i xs, l)
+
+  pub previous-within : (i : ℕ) (xs : List X) → i ≤ length xs → 0 < length xs → previous_slot (length xs) i ≤ length xs
+  previous-within i xs h some = omega (arith, previous_below (length xs) i h some)
+
+  pub ruleset turns = (popped, first_is, length-before, previous-within)

@@ -129,9 +129,3 @@ pub short-dropped : (watches : List (Option Watch)) (k : ℕ) → All IsShort wa
 short-dropped watches k h = All-set IsShort watches k None tt h
 
 pub ruleset shorts = (short-written, short-dropped)
-
--- a step that may store nothing, or no watch
-pub still-same : (asks : Bool) (snapshots : List (Option Snapshot)) (old new : List ℕ) → (asks ≡ false → length snapshots ≡ 0) → (asks ≡ true → new ≡ old)
-    → differs snapshots old ≡ None → differs snapshots new ≡ None
-still-same false snapshots old new none same e = differs-empty snapshots new (none refl)
-still-same true snapshots old new none same e = ap (differs snapshots) (same refl) ∙ e

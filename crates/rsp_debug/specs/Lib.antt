@@ -7,7 +7,6 @@ pub mod Debugging
 pub mod Looks
 pub mod Calls
 pub mod Bits
-pub mod Ring
-pub mod Span
+pub mod History
 pub mod Snapshots
 pub mod Runs

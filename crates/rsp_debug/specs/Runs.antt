@@ -1,8 +1,6 @@
 -- Scaffolding of proofs: what the loop of a run asks. Stops has the meaning.
-use Rattle.std.specs.Prelude.{◌≡◌, false, List, [], ◌∷◌, Bool, Option, option_map}
+use Rattle.std.specs.Prelude.{List, [], ◌∷◌, Bool, Option, option_map}
 use Rattle.rsp_machine.specs.State.{State}
-use Rattle.rsp_machine.specs.Step.{step_of}
-use Rattle.rsp_machine.specs.declared.step.StepEnd.TheVariants.{Done}
 use Rattle.rsp_debug.specs.declared.snapshot.Snapshot.{Snapshot}
 use Rattle.rsp_debug.specs.declared.stop.Reason.{Reason}
 use Rattle.rsp_debug.specs.declared.stop.Reason.TheVariants.{Reserved, Halted, Watched, Break}
@@ -16,7 +14,3 @@ stuck_of s = first_of (when (is_reserved s) Reserved ∷ when s.sp.halted Halted
 -- the watch or the breakpoint that a step has come to
 abbrev pub hit_in : List Bool → List (Option Snapshot) → State → Option Reason
 hit_in breaks snapshots s = first_of (option_map Watched (differs snapshots s.dmem) ∷ when (is_break breaks s.pc) Break ∷ [])
-
--- a step was Done and its machine can be asked for another
-abbrev pub IsGoing : State → State → Type 0
-IsGoing s t = ((step_of s).0 ≡ Done) × (t.sp.halted ≡ false)

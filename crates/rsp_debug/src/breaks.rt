@@ -1,4 +1,4 @@
-ghost use Rattle.std.specs.Prelude.{◌≡◌, ◌<◌, ◌==◌, Some, None, MatchResult, OnOk, OnErr, IsOk, IsTrue, ◌↔◌};
+ghost use Rattle.std.specs.Prelude.{◌≡◌, ◌<◌, ◌≤◌, ◌==◌, Some, None, MatchResult, OnOk, OnErr, IsOk, IsTrue, ◌↔◌};
 ghost use Rattle.rsp_debug.specs.Stops.{is_break};
 ghost use Rattle.rsp_debug.specs.Breaks.{no_breaks, break_count, with_break, without_break, break_fault};
 
@@ -25,7 +25,7 @@ pub struct Breaks {
 }
 
 impl Model for Breaks {
-    ghost use Rattle.std.specs.Prelude.{List, Bool, ◌≡◌};
+    ghost use Rattle.std.specs.Prelude.{List, Bool, ◌≡◌, ◌≤◌};
     ghost use Rattle.rsp_debug.specs.Breaks.{break_count};
     ghost use Rattle.rsp_debug.specs.Bits.{breaks_of};
 
@@ -33,7 +33,7 @@ impl Model for Breaks {
 
     ghost view = { λ b. breaks_of b.bits };
 
-    ghost invariant = { λ b. b.count ≡ break_count (breaks_of b.bits) };
+    ghost invariant = { λ b. (b.count ≡ break_count (breaks_of b.bits)) × (b.count ≤ 16) };
 }
 
 impl Breaks {
@@ -46,6 +46,13 @@ impl Breaks {
             bits: [0; 16],
             count: 0,
         }
+    }
+
+    /// Changes nothing. It says that at most sixteen places have a breakpoint.
+    pub fn ranges(&self)
+        ensures { break_count self.now ≤ 16 }
+    {
+        let _ = &self.bits;
     }
 
     /// Whether no place has a breakpoint.

@@ -3,13 +3,13 @@ ghost use Rattle.rsp_machine.specs.Step.{step_of};
 ghost use Rattle.rsp_machine.specs.Laws.{steps_of};
 ghost use Rattle.rsp_machine.specs.State.{IsState};
 ghost use Rattle.rsp_debug.specs.Stops.{is_break};
-ghost use Rattle.rsp_debug.specs.Breaks.{break_fault};
+ghost use Rattle.rsp_debug.specs.Breaks.{break_count, break_fault};
 ghost use Rattle.rsp_debug.specs.Watches.{number_for, has_watch};
 ghost use Rattle.rsp_debug.specs.Debugging.{debugging_of, stepped, stop_in, ran, broken_at, unbroken_at, watching, unwatching, gone_back};
 
 use crate::breaks::{BreakFault, Breaks, NoBreak};
-use crate::ring::Ring;
-use crate::runs::run;
+use crate::history::History;
+use crate::run::run;
 use crate::stop::Stop;
 use crate::watches::{NoWatch, WatchFault, Watches};
 use rsp_acc::Acc;
@@ -42,11 +42,11 @@ pub struct Debugger<A: Acc> {
     pub(crate) machine: Machine<A>,
     pub(crate) breaks: Breaks,
     pub(crate) watches: Watches,
-    pub(crate) past: Ring,
+    pub(crate) history: History,
 }
 
 impl<A: Acc> Model for Debugger<A> {
-    ghost use Rattle.rsp_debug.specs.Ring.{states_before};
+    ghost use Rattle.rsp_debug.specs.History.{states_before};
     ghost use Rattle.rsp_debug.specs.Debugging.{Debugging};
 
     ghost Value = { Debugging };
@@ -55,8 +55,8 @@ impl<A: Acc> Model for Debugger<A> {
       state = d.machine;
       breaks = d.breaks;
       watches = d.watches;
-      past = states_before d.machine d.past.newest;
-      depth = d.past.depth;
+      past = states_before d.machine d.history.newest;
+      depth = d.history.depth;
     } };
 }
 
@@ -72,26 +72,28 @@ impl<A: Acc> Debugger<A> {
         ensures ok { IfOk result (λ d. d ≡ debugging_of depth machine) }
         ensures err { IfErr result (λ e. e.0 ≡ machine) }
     {
-        match Ring::try_new(alloc, depth) {
-            Ok(past) => Ok(Debugger {
+        match History::try_new(alloc, depth) {
+            Ok(history) => Ok(Debugger {
                 machine,
                 breaks: Breaks::new(),
                 watches: Watches::new(),
-                past,
+                history,
             }),
             Err(fault) => Err((machine, fault)),
         }
     }
 
-    /// Changes nothing. It says that the machine's state lies in its ranges, and that the past has at most as many states as
-    /// are kept, which a caller's proof may need.
+    /// Changes nothing. It says that the machine's state lies in its ranges, that at most sixteen places have a breakpoint, and
+    /// that the past has at most as many states as are kept, which a caller's proof may need.
     #[tactic(auto, using(crate::proofs::Pasts::more))]
     pub fn ranges(&self)
         ensures state { IsState self.now.state }
+        ensures breaks { break_count self.now.breaks ≤ 16 }
         ensures past { length self.now.past ≤ self.now.depth }
     {
         self.machine.ranges();
-        let _ = self.past.len();
+        self.breaks.ranges();
+        let _ = self.history.len();
     }
 
     /// One step of the machine, as [`Machine::step`] makes it.
@@ -99,7 +101,10 @@ impl<A: Acc> Debugger<A> {
         ensures answer { result ≡ (step_of self.old.state).0 }
         ensures next { self.new ≡ stepped self.old }
     {
-        self.past.step(&mut self.machine)
+        if self.history.stretch(&mut self.machine, 1).steps == 0 {
+            return self.machine.step();
+        }
+        StepEnd::Done
     }
 
     /// Gives a place of IMEM, a multiple of 4 below 4096, a breakpoint: a run stops when it comes there. BreakTwice where it
@@ -161,7 +166,7 @@ impl<A: Acc> Debugger<A> {
         }
         Ok(run(
             &mut self.machine,
-            &mut self.past,
+            &mut self.history,
             &self.breaks,
             &self.watches,
             n,
@@ -180,11 +185,11 @@ impl<A: Acc> Debugger<A> {
         if n == 0 || n > 1_000_000 {
             return Err(BackFault::Count);
         }
-        if self.past.len() < n as usize {
+        if self.history.len() < n as usize {
             return Err(BackFault::ShortHistory);
         }
         for _ in 0..n {
-            self.past.undo(&mut self.machine);
+            self.history.undo(&mut self.machine);
         }
         Ok(())
     }

@@ -20,7 +20,7 @@ impl<A: Acc> Debugger<A> {
         ensures next { self.new ≡ read_from n self.old }
     {
         if n % 16 == 7 {
-            self.past.clear();
+            self.history.clear();
         }
         self.machine.read_reg(n)
     }
@@ -29,7 +29,7 @@ impl<A: Acc> Debugger<A> {
     pub fn write_reg(&mut self, n: u32, value: u32)
         ensures { self.new ≡ brought_to (register_written n value self.old.state) self.old }
     {
-        self.past.clear();
+        self.history.clear();
         self.machine.write_reg(n, value);
     }
 
@@ -40,7 +40,7 @@ impl<A: Acc> Debugger<A> {
         requires whole { pc % 4 ≡ 0 }
         ensures { self.new ≡ brought_to (with_pc pc self.old.state) self.old }
     {
-        self.past.clear();
+        self.history.clear();
         self.machine.set_pc(pc);
     }
 
@@ -59,7 +59,7 @@ impl<A: Acc> Debugger<A> {
         ensures err { OnErr result (self.new ≡ self.old) }
     {
         self.machine.set_all_registers(given)?;
-        self.past.clear();
+        self.history.clear();
         Ok(())
     }
 
@@ -71,7 +71,7 @@ impl<A: Acc> Debugger<A> {
         ensures err { OnErr result (self.new ≡ self.old) }
     {
         self.machine.load_bytes(bank, a, bytes)?;
-        self.past.clear();
+        self.history.clear();
         Ok(())
     }
 
@@ -84,7 +84,7 @@ impl<A: Acc> Debugger<A> {
         ensures err { OnErr result (self.new ≡ self.old) }
     {
         self.machine.start_task(a)?;
-        self.past.clear();
+        self.history.clear();
         Ok(())
     }
 }
@@ -98,7 +98,7 @@ impl<A: Acc> Debugger<A> {
             machine,
             breaks: _,
             watches: _,
-            past: _,
+            history: _,
         } = self;
         machine.into_rdram()
     }

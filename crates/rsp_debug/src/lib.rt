@@ -2,15 +2,15 @@
 #![tactic(auto)]
 
 mod breaks;
+mod copy;
 mod debugger;
+mod history;
 mod host;
 pub mod laws;
 mod looks;
-mod ring;
-mod runs;
+mod run;
 mod snapshot;
-mod span;
-mod steps;
+mod sp;
 mod stop;
 mod watches;
 

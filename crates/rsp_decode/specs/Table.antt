@@ -9,7 +9,7 @@ pub mod Words
 pub mod Choices
 pub mod Entries
 pub use BitFields.{BitField, value_at, at_bit_field, FitsBitField, with_fields, FitBitFields, whole, capped, stepped}
-pub use Operands.{Operand, bit_fields, is_scale, is_row_operand, scalar, shift_amount, signed, unsigned, jump_target, branch_target, scalar_memory, vector_memory, sp_register, control_register, vector, vector_byte, vector_half, vector_element, vector_lane, vector_operands}
+pub use Operands.{Operand, ByteElements, all_bytes, half_bytes, byte_bits, bit_fields, is_scale, is_row_operand, scalar, shift_amount, signed, unsigned, jump_target, branch_target, scalar_memory, vector_memory, sp_register, control_register, vector, vector_byte, vector_element, vector_lane, vector_operands}
 pub use Fields.{register_fields, register_values, shift_by_fields, shift_by_values, scalar_memory_fields, scalar_memory_values, vector_fields, vector_values, vector_memory_fields, vector_memory_values, vector_memory_in, IsVectorFields}
 pub use Rows.{Selector, selector, opcode, special, regimm, cop0, cop2, computing, lwc2, lwc2_half, swc2, swc2_half, Row, row, none, one, two, three, four, of_registers, of_shift_by, of_scalar_memory, of_vectors, of_vector_memory, fits, row_bit_fields, fields, meaning_of}
 pub use ScalarRows.{shift_selector, shift_row, shift_by_selector, shift_by_row, jump_register_row, jump_link_register_row, break_row, register_selector, register_row, branch_sign_selector, branch_sign_row, jump_selector, jump_row, branch_equal_selector, branch_equal_row, immediate_selector, immediate_operand, immediate_row, load_upper_row, load_selector, load_row, store_selector, store_row, move_sp_selector, move_sp_row, shifts, shifts_by, registers, jumps, branches_equal, immediates, loads, stores, special_rows, regimm_rows, opcode_rows, cop0_rows}

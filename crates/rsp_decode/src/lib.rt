@@ -19,7 +19,7 @@ mod visitor;
 pub use decoding::{decode, is_canonical, visit};
 pub use encoding::encode;
 pub use inst::Inst;
-pub use rows::{Operand, TableRow, table};
+pub use rows::{ByteElements, Operand, TableRow, table};
 pub use rsp_rows::{
     Control, DivideRow, EqualRow, IdleRow, ImmediateRow, JumpRow, LoadRow, MoveRow, MpegRow,
     MultiplyRow, RegisterFields, RegisterRow, RoundRow, ScalarMemoryFields, ShiftByRow, ShiftRow,

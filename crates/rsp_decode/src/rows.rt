@@ -1,7 +1,16 @@
 // The rows of the instruction table, as the code has them.
 
-ghost use Rattle.std.specs.Prelude.{◌≡◌, map};
+ghost use Rattle.std.specs.Prelude.{◌≡◌, map, false};
 ghost use Rattle.rsp_decode.specs.Table.{rows, entry, entry_of};
+
+/// The byte elements that an instruction takes.
+#[derive(Clone, Copy, PartialEq, Eq, Debug)]
+pub enum ByteElements {
+    /// All sixteen.
+    All,
+    /// 0 and 8, with which the halves of a register begin.
+    Halves,
+}
 
 /// The kind of an operand. A number is the lowest bit of its register in the word; of vector memory it is the scale of
 /// the offset.
@@ -29,10 +38,8 @@ pub enum Operand {
     ControlRegister,
     /// A vector register.
     Vector(u8),
-    /// A vector register and a byte of it.
-    VectorByte(u8),
-    /// A vector register and the byte that one of its halves begins with, 0 or 8.
-    VectorHalf,
+    /// A vector register and a byte of it, one of those that the instruction takes.
+    VectorByte(u8, ByteElements),
     /// A vector register and the element of a computing row.
     VectorElement,
     /// A vector register and a lane of it.
@@ -96,7 +103,10 @@ const MEMORY: &[Operand] = &[Operand::Scalar(16), Operand::ScalarMemory];
 
 const MOVE_SP: &[Operand] = &[Operand::Scalar(16), Operand::SpRegister];
 
-const MOVE_VECTOR: &[Operand] = &[Operand::Scalar(16), Operand::VectorByte(11)];
+const MOVE_VECTOR: &[Operand] = &[
+    Operand::Scalar(16),
+    Operand::VectorByte(11, ByteElements::All),
+];
 
 const MOVE_CONTROL: &[Operand] = &[Operand::Scalar(16), Operand::ControlRegister];
 
@@ -108,17 +118,35 @@ const VECTORS: &[Operand] = &[
 
 const LANE: &[Operand] = &[Operand::VectorLane, Operand::VectorElement];
 
-const VECTOR_MEMORY_1: &[Operand] = &[Operand::VectorByte(16), Operand::VectorMemory(1)];
+const VECTOR_MEMORY_1: &[Operand] = &[
+    Operand::VectorByte(16, ByteElements::All),
+    Operand::VectorMemory(1),
+];
 
-const VECTOR_MEMORY_2: &[Operand] = &[Operand::VectorByte(16), Operand::VectorMemory(2)];
+const VECTOR_MEMORY_2: &[Operand] = &[
+    Operand::VectorByte(16, ByteElements::All),
+    Operand::VectorMemory(2),
+];
 
-const VECTOR_MEMORY_4: &[Operand] = &[Operand::VectorByte(16), Operand::VectorMemory(4)];
+const VECTOR_MEMORY_4: &[Operand] = &[
+    Operand::VectorByte(16, ByteElements::All),
+    Operand::VectorMemory(4),
+];
 
-const VECTOR_MEMORY_8: &[Operand] = &[Operand::VectorByte(16), Operand::VectorMemory(8)];
+const VECTOR_MEMORY_8: &[Operand] = &[
+    Operand::VectorByte(16, ByteElements::All),
+    Operand::VectorMemory(8),
+];
 
-const VECTOR_MEMORY_16: &[Operand] = &[Operand::VectorByte(16), Operand::VectorMemory(16)];
+const VECTOR_MEMORY_16: &[Operand] = &[
+    Operand::VectorByte(16, ByteElements::All),
+    Operand::VectorMemory(16),
+];
 
-const VECTOR_MEMORY_HALF: &[Operand] = &[Operand::VectorHalf, Operand::VectorMemory(16)];
+const VECTOR_MEMORY_HALF: &[Operand] = &[
+    Operand::VectorByte(16, ByteElements::Halves),
+    Operand::VectorMemory(16),
+];
 
 /// The bits that select a row of opcode 0, by its function.
 const SPECIAL: u32 = 0xfc00_003f;
@@ -362,7 +390,7 @@ macro_rules! arms {
     }) => {
         match $key {
             $($n $(if $half($word))? => $call($word, $($row,)? $visitor),)*
-            $($($reserved => false,)* _ => unreachable!(),)?
+            $($($reserved => crate::rows::reserved(),)* _ => unreachable!(),)?
             $(_ => $otherwise,)?
         }
     };
@@ -380,6 +408,15 @@ macro_rules! arms {
 
 pub(crate) use arms;
 pub(crate) use instruction_table;
+
+/// The answer for a reserved word. It stands apart as what seldom comes, so that the arms of rows don't.
+#[cold]
+#[inline(never)]
+pub(crate) fn reserved() -> bool
+    ensures { result ≡ false }
+{
+    false
+}
 
 /// The rows, in the order of the instruction table.
 static ROWS: &[TableRow] = instruction_table!(all_rows());

@@ -2,11 +2,13 @@
 use Rattle.std.proofs.Common.{◌≡◌, refl, ℕ, Bool, true, false}
 use Rattle.std.specs.Prelude.{if◌then◌else◌, ◌%◌, ◌==◌}
 use Rattle.rsp_decode.specs.declared.inst.Inst.{Inst}
+use Rattle.rsp_decode.specs.declared.inst.Inst.TheVariants.{Break}
 use Rattle.rsp_rows.specs.declared.scalar.MoveRow.{MoveRow}
 use Rattle.rsp_rows.specs.declared.scalar.MoveRow.TheVariants.{From, To}
 use Rattle.rsp_scalar.specs.Registers.{register}
 use Rattle.rsp_regs.specs.Sp.{Sp, written}
 use Rattle.rsp_machine.specs.State.{State}
+use Rattle.rsp_machine.specs.Saved.{change_of}
 use Rattle.rsp_machine.specs.Changes.{IsRanged}
 use Rattle.rsp_machine.specs.Places.{Places, at_places, places_of}
 use Rattle.rsp_machine.specs.Host.{moved_in, moved_out}
@@ -60,6 +62,12 @@ sp_stays From rt n s = refl
 sp_stays To rt n s =
     let v = register s.registers rt in
     written_stays (n % 16 == 2) (n % 16 == 3) v (written n v s.sp) s
+
+-- nor does what an instruction changes depend on the places
+pub change_elsewhere : (i : Inst) (p : Places) (s : State) → change_of i s ≡ change_of i (at_places p s)
+unfolding change_of
+change_elsewhere Break p s = refl
+change_elsewhere _ p s = refl
 
 -- nor do the ranges of the vector unit tell
 pub ranged-at : (p : Places) (s : State) → IsRanged s → IsRanged (at_places p s)

@@ -11,10 +11,9 @@ use Rattle.rsp_machine.specs.State.{State}
 use Rattle.rsp_machine.specs.Vector.{multiplies, rounds, multiplies_mpeg, reads_accumulator, ruled, divides, loads_vector, stores_vector, moves_vector, moves_control}
 use Rattle.rsp_machine.specs.Step.{computes, loads, stores, jumps, worked, executed, singled, step_by, step_of}
 use Rattle.rsp_machine.specs.declared.step.StepEnd.TheVariants.{Done, Halted, Reserved}
-use Rattle.rsp_machine.specs.declared.step.StepEnd.{StepEnd}
 use Rattle.rsp_machine.specs.Transfers.{starts_dma_in, starts_dma_at}
 use Rattle.rsp_machine.specs.declared.change.Change.TheVariants as of
-use Rattle.rsp_machine.specs.Saved.{Saved, change_of, change_saved, told_by, told_of, record_after, starts_dma, is_length, is_back_by, can_undo, may_store, undone}
+use Rattle.rsp_machine.specs.Saved.{Saved, change_of, record_after, starts_dma, is_length, is_back_by, can_undo, may_store, undone}
 use Rattle.rsp_machine.specs.Changes.{reaches_sp, IsRanged}
 use Rattle.rsp_machine.proofs.Saving.{record_back, memory_stays}
 
@@ -111,31 +110,6 @@ pub undo-done : (s : State) → (step_of s).0 ≡ Done → can_undo s ≡ not (s
 unfolding can_undo step_of starts_dma_at
 undo-done s e = undo_by s.sp.halted (inst_of (word_at s.imem s.pc)) (word_at s.imem s.pc) s e
 
-steps_by : (b : Bool) (o : Option Inst) (w : ℕ) (s : State) → (if b then false else is_back_by o) ≡ true
-    → (if b then (Halted, s) else step_by o w s).0 ≡ Done
-steps_by true o w s e = cc
-steps_by false None w s e = cc
-steps_by false (Some i) w s e = refl
-
-undo_steps : (s : State) → can_undo s ≡ true → (step_of s).0 ≡ Done
-unfolding can_undo step_of
-undo_steps s e = steps_by s.sp.halted (inst_of (word_at s.imem s.pc)) (word_at s.imem s.pc) s e
-
-none_of : (dma : Bool) → not dma ≡ true → dma ≡ false
-none_of true e = cc
-none_of false e = refl
-
--- so a record that is given where a step can be undone is given exactly there
-pub undo-is : (s : State) (end : StepEnd) (A : Type 0) → end ≡ (step_of s).0 → (A → can_undo s ≡ true) × (can_undo s ≡ true → A)
-    → (A → (end ≡ Done) × (starts_dma_at s ≡ false)) × ((end ≡ Done) × (starts_dma_at s ≡ false) → A)
-undo-is s end A e h = (
-  λ a. (e ∙ undo_steps s (h.0 a), none_of (starts_dma_at s) (sym (undo-done s (undo_steps s (h.0 a))) ∙ h.0 a)),
-  λ p. h.1 (undo-done s (sym e ∙ p.0) ∙ ap not p.1),
-)
-
-pub no-record-halted : (dma : Bool) → (false ≡ true → (Halted ≡ Done) × (dma ≡ false)) × ((Halted ≡ Done) × (dma ≡ false) → false ≡ true)
-no-record-halted dma = (λ e. cc, λ p. let h : Halted ≡ Done = p.0 in cc)
-
 -- a step of a machine that isn't halted
 running : (b : Bool) (o : Option Inst) (w : ℕ) (s : State) → b ≡ false → (if b then (Halted, s) else step_by o w s) ≡ step_by o w s
 running true o w s h = cc
@@ -159,15 +133,6 @@ pub step_done : (w : ℕ) (s t : State) (b : Bool) → s.sp.halted ≡ false →
 unfolding step_of
 step_done w s t b h e r there = rw (← e) (running s.sp.halted (inst_of w) w s h ∙ done (inst_of w) w s t b (sym r) there)
 
--- and its record
-told_running : (b : Bool) (o : Option Inst) (s : State) (r : Saved) → b ≡ false → (if b then r else told_by change_saved o s r) ≡ told_by change_saved o s r
-told_running true o s r h = cc
-told_running false o s r h = refl
-
-pub record_running : (w : ℕ) (s : State) (r : Saved) → s.sp.halted ≡ false → w ≡ word_at s.imem s.pc → record_after s r ≡ told_by change_saved (inst_of w) s r
-unfolding record_after told_of
-record_running w s r h e = rw (← e) (told_running s.sp.halted (inst_of w) s r h)
-
 -- and whether it leads back
 undo_running : (b : Bool) (o : Option Inst) → b ≡ false → (if b then false else is_back_by o) ≡ is_back_by o
 undo_running true o h = cc
@@ -176,14 +141,6 @@ undo_running false o h = refl
 pub undo_free : {b : Bool} (w : ℕ) (s : State) → s.sp.halted ≡ false → w ≡ word_at s.imem s.pc → b ≡ false → Some b ≡ reached s (inst_of w) → can_undo s ≡ true
 unfolding can_undo
 undo_free w s h e f r = rw (← e) (undo_running s.sp.halted (inst_of w) h ∙ leads_back (inst_of w) s (sym r ∙ ap Some f))
-
-no_way : (o : Option Inst) (s : State) → reached s o ≡ None → is_back_by o ≡ false
-no_way None s h = refl
-no_way (Some i) s h = cc
-
-pub undo_reserved : (w : ℕ) (s : State) → s.sp.halted ≡ false → w ≡ word_at s.imem s.pc → None ≡ reached s (inst_of w) → can_undo s ≡ false
-unfolding can_undo
-undo_reserved w s h e r = rw (← e) (undo_running s.sp.halted (inst_of w) h ∙ no_way (inst_of w) s (sym r))
 
 pub back : (s t : State) (r q : Saved) → IsRanged s → q ≡ record_after s r → t ≡ (step_of s).1 → can_undo s ≡ true → undone q t ≡ s
 back s t r q ranged same there u = rw (same, there) (record_back s r ranged u)

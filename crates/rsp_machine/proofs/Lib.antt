@@ -7,4 +7,6 @@ pub mod Saving
 pub mod Ending
 pub mod Elsewhere
 pub mod Making
+pub mod Recording
 pub mod Whole
+pub mod Copying

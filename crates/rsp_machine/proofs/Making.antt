@@ -1,6 +1,8 @@
 -- Steps that are made one by one.
-use Rattle.std.proofs.Common.{◌≡◌, ◌⊎◌, inl, inr, ℕ, zero, suc, ◌+◌, ◌-◌, ◌≤◌, Bool, true, false, ◌||◌, refl, sym, ap, ◌∙◌, arith, Option, Some, None}
-use Rattle.std.specs.Prelude.{if◌then◌else◌}
+use Rattle.std.proofs.Common.{◌≡◌, ◌≢◌, inl, inr, ℕ, zero, suc, ◌+◌, ◌-◌, ◌<◌, ◌≤◌, Bool, true, false, List, [], ◌∷◌, length, set, get_or, refl, sym, ap, subst, ◌∙◌, arith, Option, Some, None}
+use Rattle.std.specs.Prelude.{if◌then◌else◌, slice_get, option_map}
+use Rattle.std.proofs.lemmas.Bool.{cases_lt}
+use Rattle.std.proofs.lemmas.List.{length-set, set-get_or}
 use Rattle.rsp_decode.specs.declared.inst.Inst.{Inst}
 use Rattle.rsp_decode.specs.Table.{inst_of}
 use Rattle.rsp_memory.specs.Memory.{word_at}
@@ -8,11 +10,13 @@ use Rattle.rsp_machine.specs.State.{State}
 use Rattle.rsp_machine.specs.Places.{Places, at_places}
 use Rattle.rsp_machine.specs.Step.{singled, step_by, step_of}
 use Rattle.rsp_machine.specs.Laws.{steps_of, done_steps, done_of}
-use Rattle.rsp_machine.specs.Making.{IsMade}
+use Rattle.rsp_machine.specs.Saved.{told_by, told_of}
+use Rattle.rsp_machine.specs.Changes.{IsRanged}
+use Rattle.rsp_machine.specs.Making.{IsMade, IsEach, IsTold, GoesOn, AreTold, IsEnd}
+use Rattle.rsp_machine.specs.declared.change.Change.{Change}
 use Rattle.rsp_machine.specs.declared.step.StepEnd.{StepEnd}
 use Rattle.rsp_machine.specs.declared.step.StepEnd.TheVariants.{Done, Halted, Reserved}
-use Rattle.rsp_machine.proofs.Saving.{neither}
-use Rattle.rsp_machine.proofs.Ending.{reached, after, stays, free, clear_as, step_reserved, step_done}
+use Rattle.rsp_machine.proofs.Ending.{reached, after, stays, free, clear_as, step_halted, step_reserved, step_done}
 
 -- no step, and one more
 pub made-none : (k : ℕ) (s t : State) → k ≡ 0 → t ≡ s → IsMade k s t
@@ -48,20 +52,12 @@ done_add m (suc n) s =
     let here = ap (λ (x : State). done_steps (step_of x).0) (steps-add m n s) in
     more ∙ omega (arith, done_add m n s, here)
 
-pub made-then : (m n k : ℕ) (s t u : State) → IsMade m s t → IsMade n t u → k ≡ m + n → IsMade k s u
-made-then m n k s t u a b e = rw (e) (record {
-  state = b.state ∙ ap (λ (x : State). steps_of n x) a.state ∙ sym (steps-add m n s);
-  done =
-      let here = ap (λ (x : State). done_of n x) (sym a.state) in
-      omega (arith, done_add m n s, a.done, b.done, here);
-})
-
 -- what is known of all steps where all are Done
-pub all-state : (k n : ℕ) (s t : State) → IsMade k s t → k ≡ n → t ≡ steps_of n s
-all-state k n s t m e = m.state ∙ ap (λ i. steps_of i s) e
+all_state : (k n : ℕ) (s t : State) → IsMade k s t → k ≡ n → t ≡ steps_of n s
+all_state k n s t m e = m.state ∙ ap (λ i. steps_of i s) e
 
-pub all-done : (k n : ℕ) (s t : State) → IsMade k s t → k ≡ n → k ≡ done_of n s
-all-done k n s t m e = sym m.done ∙ ap (λ i. done_of i s) e
+all_done : (k n : ℕ) (s t : State) → IsMade k s t → k ≡ n → k ≡ done_of n s
+all_done k n s t m e = sym m.done ∙ ap (λ i. done_of i s) e
 
 -- a step that isn't Done changes nothing, and no later one is
 unchanged_by : (b : Bool) (o : Option Inst) (w : ℕ) (s : State) → done_steps (if b then (Halted, s) else step_by o w s).0 ≡ 0 → (if b then (Halted, s) else step_by o w s).1 ≡ s
@@ -86,36 +82,35 @@ stuck_done (suc n) s e =
     omega (arith, stuck_done n s e, here, e)
 
 -- and where one isn't
-pub stuck-state : (k n : ℕ) (s t : State) → IsMade k s t → k ≤ n → done_steps (step_of t).0 ≡ 0 → t ≡ steps_of n s
-stuck-state k n s t m h e =
+stuck_state : (k n : ℕ) (s t : State) → IsMade k s t → k ≤ n → done_steps (step_of t).0 ≡ 0 → t ≡ steps_of n s
+stuck_state k n s t m h e =
     let rest : n ≡ k + (n - k) = omega (arith, h) in
     sym (ap (λ i. steps_of i s) rest ∙ steps-add k (n - k) s ∙ ap (λ (x : State). steps_of (n - k) x) (sym m.state) ∙ stuck_steps (n - k) t e)
 
-pub stuck-done : (k n : ℕ) (s t : State) → IsMade k s t → k ≤ n → done_steps (step_of t).0 ≡ 0 → k ≡ done_of n s
-stuck-done k n s t m h e =
+stuck_done_all : (k n : ℕ) (s t : State) → IsMade k s t → k ≤ n → done_steps (step_of t).0 ≡ 0 → k ≡ done_of n s
+stuck_done_all k n s t m h e =
     let rest : done_of n s ≡ done_of (k + (n - k)) s = ap (λ i. done_of i s) (let r : n ≡ k + (n - k) = omega (arith, h) in r) in
     let there = ap (λ (x : State). done_of (n - k) x) (sym m.state) in
     omega (arith, rest, done_add k (n - k) s, there, stuck_done (n - k) t e, m.done)
 
--- What execute_at answers and leaves, of a machine s that isn't held.
+-- What execute answers and leaves, of a machine s that isn't halted.
 pub record IsExecuted (w : ℕ) (s t : State) (r : Option Bool) : Type 0 where
-  pub free : (s.sp.halted || s.sp.single_step) ≡ false
+  pub goes : s.sp.halted ≡ false
   pub word : w ≡ word_at s.imem s.pc
   pub answer : r ≡ reached s (inst_of w)
   pub state : t ≡ after s (inst_of w)
 
 pub executed-done : (w : ℕ) (s t : State) (r : Option Bool) (b : Bool) → IsExecuted w s t r → r ≡ Some b → step_of s ≡ (Done, singled t)
-executed-done w s t r b h is = step_done w s t b (neither s.sp.halted s.sp.single_step h.free).0 h.word (sym is ∙ h.answer) h.state
+executed-done w s t r b h is = step_done w s t b h.goes h.word (sym is ∙ h.answer) h.state
 
 -- of which the SP registers know nothing
 pub executed-sp : (w : ℕ) (s t : State) (r : Option Bool) (b : Bool) → IsExecuted w s t r → r ≡ Some b → b ≡ false → t.sp ≡ s.sp
 executed-sp w s t r b h is none = stays (inst_of w) s t none (sym is ∙ h.answer) h.state
 
-pub executed-free : (w : ℕ) (s t : State) (r : Option Bool) (b : Bool) → IsExecuted w s t r → r ≡ Some b → b ≡ false → step_of s ≡ (Done, t)
-executed-free w s t r b h is none =
-    let held = neither s.sp.halted s.sp.single_step h.free in
+pub executed-free : (w : ℕ) (s t : State) (r : Option Bool) (b : Bool) → IsExecuted w s t r → r ≡ Some b → b ≡ false → s.sp.single_step ≡ false → step_of s ≡ (Done, t)
+executed-free w s t r b h is none clear =
     let same = executed-sp w s t r b h is none in
-    executed-done w s t r b h is ∙ ap (λ (x : State). (Done, x)) (sym (free s t held.0 same (clear_as s t held.1 same)))
+    executed-done w s t r b h is ∙ ap (λ (x : State). (Done, x)) (sym (free s t h.goes same (clear_as s t clear same)))
 
 -- a reserved word, which changes nothing
 unreached : (o : Option Inst) (s : State) → None ≡ reached s o → after s o ≡ s
@@ -126,7 +121,7 @@ pub executed-none : (w : ℕ) (s t : State) (r : Option Bool) → IsExecuted w s
 executed-none w s t r h is =
     let answer = sym is ∙ h.answer in (
       h.state ∙ unreached (inst_of w) s answer,
-      step_reserved w s t (neither s.sp.halted s.sp.single_step h.free).0 h.word answer h.state,
+      step_reserved w s t h.goes h.word answer h.state,
     )
 
 -- the same places, and the same start
@@ -136,21 +131,145 @@ same_places p q v w e f = rw (e, f) refl
 pub made-as : (k j : ℕ) (s t u : State) → IsMade k s t → j ≡ k → u ≡ t → IsMade j s u
 made-as k j s t u m i e = rw (i, e) m
 
-pub made-start : (k : ℕ) (s t : State) → IsMade k s t → k ≡ 0 → t ≡ s
+-- one step, by how many were made
+done_few : (e : StepEnd) → done_steps e ≤ 1
+done_few Done = omega arith
+done_few Halted = omega arith
+done_few (Reserved w) = omega arith
+
+was_done : (e : StepEnd) → done_steps e ≡ 1 → Done ≡ e
+was_done Done d = refl
+was_done Halted d = absurd (omega (arith, d))
+was_done (Reserved w) d = absurd (omega (arith, d))
+
+pub one-done : (k : ℕ) (s : State) → k ≡ done_of 1 s → k ≡ 1 → Done ≡ (step_of s).0
+unfolding steps_of done_of
+one-done k s d e = was_done (step_of s).0 (omega (arith, d, e))
+
+pub one-state : (s t : State) → t ≡ steps_of 1 s → t ≡ (step_of s).1
 unfolding steps_of
-made-start zero s t m e = m.state
-made-start (suc k) s t m e = absurd (omega (arith, e))
+one-state s t e = e
 
--- one step, by what it answered
-pair_of : {A B : Type 0} (x : A × B) (a : A) (b : B) → a ≡ x.0 → b ≡ x.1 → x ≡ (a, b)
-pair_of x a b e f = rw (e, f) refl
+pub one-none : (k : ℕ) (s : State) → k ≡ done_of 1 s → k ≢ 1 → done_steps (step_of s).0 ≡ 0
+unfolding steps_of done_of
+one-none k s d other = omega (arith, d, other, done_few (step_of s).0)
 
-pub made-one : (s u : State) (end : StepEnd) → end ≡ (step_of s).0 → u ≡ (step_of s).1 → end ≡ Done → IsMade 1 s u
-made-one s u end answer state done = made-more 0 1 s s u (made-none 0 s s refl refl) (pair_of (step_of s) Done u (sym done ∙ answer) state) refl
+pub one-halted : (s t : State) → t ≡ (step_of s).1 → done_steps (step_of s).0 ≡ 0 → t.sp.halted ≡ true → Halted ≡ (step_of s).0
+one-halted s t e none h =
+    ap (λ r. r.0) (sym (step_halted s (sym (ap (λ (x : State). x.sp.halted) (e ∙ unchanged s none)) ∙ h)))
 
-pub not-done : (s : State) (end : StepEnd) → end ≡ (step_of s).0 → (end ≡ Halted) ⊎ ((w : ℕ) × (end ≡ Reserved w)) → done_steps (step_of s).0 ≡ 0
-not-done s end answer (inl h) = ap done_steps (sym answer ∙ h)
-not-done s end answer (inr r) = ap done_steps (sym answer ∙ r.1)
+reserved_by : (b : Bool) (o : Option Inst) (w : ℕ) (s : State) → b ≡ false → done_steps (if b then (Halted, s) else step_by o w s).0 ≡ 0
+    → Reserved w ≡ (if b then (Halted, s) else step_by o w s).0
+reserved_by true o w s h e = cc
+reserved_by false None w s h e = refl
+reserved_by false (Some i) w s h e = absurd (omega (arith, e))
 
-pub made-stuck : (s u : State) → u ≡ (step_of s).1 → done_steps (step_of s).0 ≡ 0 → IsMade 0 s u
-made-stuck s u state none = made-none 0 s u refl (state ∙ unchanged s none)
+reserved_here : (s : State) → s.sp.halted ≡ false → done_steps (step_of s).0 ≡ 0 → Reserved (word_at s.imem s.pc) ≡ (step_of s).0
+unfolding step_of
+reserved_here s h e = reserved_by s.sp.halted (inst_of (word_at s.imem s.pc)) (word_at s.imem s.pc) s h e
+
+pub one-reserved : (w : ℕ) (s t : State) → t ≡ (step_of s).1 → done_steps (step_of s).0 ≡ 0 → t.sp.halted ≡ false → w ≡ word_at t.imem t.pc → Reserved w ≡ (step_of s).0
+one-reserved w s t e none h is =
+    let same = e ∙ unchanged s none in
+    ap Reserved (is ∙ ap (λ (x : State). word_at x.imem x.pc) same) ∙ reserved_here s (sym (ap (λ (x : State). x.sp.halted) same) ∙ h) none
+
+-- as many steps as were made, where there are no more
+pub ends-state : (k n : ℕ) (s t : State) → IsMade k s t → k ≤ n → (k < n → done_steps (step_of t).0 ≡ 0) → t ≡ steps_of n s
+ends-state k n s t m within stuck = elim (cases_lt k n) [
+  | inl less ↦ stuck_state k n s t m within (stuck less)
+  | inr all ↦ all_state k n s t m (omega (arith, within, all))
+]
+
+pub ends-done : (k n : ℕ) (s t : State) → IsMade k s t → k ≤ n → (k < n → done_steps (step_of t).0 ≡ 0) → k ≡ done_of n s
+ends-done k n s t m within stuck = elim (cases_lt k n) [
+  | inl less ↦ stuck_done_all k n s t m within (stuck less)
+  | inr all ↦ all_done k n s t m (omega (arith, within, all))
+]
+
+-- where steps go on behind all that is told
+some_goes : {K : Type 0} (o : Option K) → option_map (λ (k : K). true) o ≡ Some false → ⊥
+some_goes None e = cc
+some_goes (Some k) e = cc
+
+pub ends-stuck : {K : Type 0} (k : ℕ) (t : State) (o : Option K) → IsEnd (λ (x : K). true) k t o → done_steps (step_of t).0 ≡ 0
+ends-stuck k t o (inl stuck) = stuck
+ends-stuck k t o (inr last) = absurd (some_goes o last.1)
+
+-- what stands in a slot that is written, and in the others
+slice_get-set_same : {X : Type 0} (xs : List X) (i : ℕ) (x : X) → i < length xs → slice_get (set xs i x) i ≡ Some x
+slice_get-set_same [] i x h = absurd (omega (arith, h))
+slice_get-set_same (y ∷ ys) zero x h = refl
+slice_get-set_same (y ∷ ys) (suc i) x h = slice_get-set_same ys i x (omega (arith, h))
+
+slice_get-set_other : {X : Type 0} (xs : List X) (i j : ℕ) (x : X) → i ≢ j → slice_get (set xs j x) i ≡ slice_get xs i
+slice_get-set_other [] i j x h = refl
+slice_get-set_other (y ∷ ys) zero zero x h = absurd (h refl)
+slice_get-set_other (y ∷ ys) (suc i) zero x h = refl
+slice_get-set_other (y ∷ ys) zero (suc j) x h = refl
+slice_get-set_other (y ∷ ys) (suc i) (suc j) x h = slice_get-set_other ys i j x (λ e. h (ap suc e))
+
+-- what a step tells: of an instruction, and nothing of a reserved word
+told_running : {K : Type 0} (saves : Change → State → K → K) (b : Bool) (o : Option Inst) (s : State) (k : K) → b ≡ false → told_by saves o s k ≡ (if b then k else told_by saves o s k)
+told_running saves true o s k h = cc
+told_running saves false o s k h = refl
+
+pub told-running : {K : Type 0} (saves : Change → State → K → K) (w : ℕ) (s : State) (k x : K) → s.sp.halted ≡ false → w ≡ word_at s.imem s.pc → x ≡ told_by saves (inst_of w) s k → x ≡ told_of saves s k
+unfolding told_of
+told-running saves w s k x goes word e = e ∙ ap (λ v. told_by saves (inst_of v) s k) word ∙ told_running saves s.sp.halted (inst_of (word_at s.imem s.pc)) s k goes
+
+told_nothing : {K : Type 0} (saves : Change → State → K → K) (o : Option Inst) (s : State) (k : K) → None ≡ reached s o → told_by saves o s k ≡ k
+told_nothing saves None s k h = refl
+told_nothing saves (Some i) s k h = cc
+
+pub told-reserved : {K : Type 0} (saves : Change → State → K → K) (w : ℕ) (s : State) (xs : List K) (j : ℕ) (d x : K) → None ≡ reached s (inst_of w) → x ≡ told_by saves (inst_of w) s (get_or xs j d) → set xs j x ≡ xs
+told-reserved saves w s xs j d x none e = ap (set xs j) (e ∙ told_nothing saves (inst_of w) s (get_or xs j d) none) ∙ set-get_or xs j d
+
+-- whether steps go on behind the one that was told of last
+pub goes-here : {K : Type 0} (goes : K → Bool) (slot : ℕ → ℕ) (k n j : ℕ) (xs : List K) (x : K) (b : Bool) → n ≡ k → j ≡ slot k → j < length xs → goes x ≡ b → option_map goes (slice_get (set xs j x) (slot n)) ≡ Some b
+goes-here goes slot k n j xs x b e at inside g = rw (e, ← at) (ap (option_map goes) (slice_get-set_same xs j x inside) ∙ ap Some g)
+
+module _ {K : Type 0} (saves : Change → State → K → K) (goes : K → Bool) (slot : ℕ → ℕ) where
+  pub told-none : (s : State) (old : List K) → AreTold saves goes slot 0 0 s old old
+  told-none s old = record { told = λ each i h. absurd (omega (arith, h)); on = λ each i h. absurd (omega (arith, h)); rest = λ j h. refl; len = refl }
+
+  kept : (k j : ℕ) (xs : List K) (x : K) → IsEach slot → j ≡ slot k → (i : ℕ) → i < k → slice_get (set xs j x) (slot i) ≡ slice_get xs (slot i)
+  kept k j xs x each at i l = slice_get-set_other xs (slot i) j x (λ e. let same : i ≡ k = each i k (e ∙ at) in absurd (omega (arith, l, same)))
+
+  -- one step more, which was told in the next slot
+  pub told-more : (k j : ℕ) (s t : State) (old new : List K) (x before : K) → AreTold saves goes slot k k s old new → t ≡ steps_of k s → j ≡ slot k → j < length new
+      → x ≡ told_of saves t before → IsRanged t → AreTold saves goes slot (k + 1) k s old (set new j x)
+  told-more k j s t old new x before a there at inside told ranged =
+      let here : IsTold saves (steps_of k s) (slice_get (set new j x) (slot k)) = record {
+        before = before;
+        told = ap (slice_get (set new j x)) (sym at) ∙ slice_get-set_same new j x inside ∙ ap Some (told ∙ ap (λ (y : State). told_of saves y before) there);
+        ranged = subst (λ (y : State). IsRanged y) there ranged;
+      } in
+      record {
+        told = λ each i h. elim (cases_lt i k) [
+          | inl l ↦ subst (λ (o : Option K). IsTold saves (steps_of i s) o) (sym (kept k j new x each at i l)) (a.told each i l)
+          | inr r ↦
+              let last : k ≡ i = omega (arith, r, h) in
+              subst (λ (m : ℕ). IsTold saves (steps_of m s) (slice_get (set new j x) (slot m))) last here
+        ];
+        on = λ each i h. subst (λ (o : Option K). GoesOn goes (steps_of i s) o) (sym (kept k j new x each at i h)) (a.on each i h);
+        rest = λ i other. slice_get-set_other new i j x (λ e. other k (omega arith) (sym at ∙ sym e)) ∙ a.rest i (λ m l. other m (omega (arith, l)));
+        len = length-set new j x ∙ a.len;
+      }
+
+  -- behind which steps go on
+  pub told-on : (k : ℕ) (s t : State) (old new : List K) → AreTold saves goes slot (k + 1) k s old new → t ≡ steps_of k s → GoesOn goes t (slice_get new (slot k)) → AreTold saves goes slot (k + 1) (k + 1) s old new
+  told-on k s t old new a there on = record {
+    told = a.told;
+    on = λ each i h. elim (cases_lt i k) [
+      | inl l ↦ a.on each i l
+      | inr r ↦
+          let last : k ≡ i = omega (arith, r, h) in
+          subst (λ (m : ℕ). GoesOn goes (steps_of m s) (slice_get new (slot m))) last (subst (λ (y : State). GoesOn goes y (slice_get new (slot k))) there on)
+    ];
+    rest = a.rest;
+    len = a.len;
+  }
+
+  -- the same, by numbers and slots that are equal
+  pub told-as : (k j n m : ℕ) (s : State) (old new now : List K) → AreTold saves goes slot k n s old new → j ≡ k → m ≤ n → now ≡ new → AreTold saves goes slot j m s old now
+  told-as k j n m s old new now a same fewer slots = rw (same, slots) (record { told = a.told; on = λ each i h. a.on each i (omega (arith, h, fewer)); rest = a.rest; len = a.len })

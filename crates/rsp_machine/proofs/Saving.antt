@@ -30,7 +30,7 @@ use Rattle.rsp_machine.specs.State.{State, advanced}
 use Rattle.rsp_machine.specs.Vector.{multiplies, rounds, multiplies_mpeg, reads_accumulator, ruled, divides, loads_vector, stores_vector, moves_vector, moves_control}
 use Rattle.rsp_machine.specs.Step.{computes, loads, stores, jumps, break_instruction, moves_sp, worked, executed, singled, step_by, step_of}
 use Rattle.rsp_machine.specs.Host.{register_written}
-use Rattle.rsp_machine.specs.declared.step.StepEnd.TheVariants.{Done, Halted, Reserved}
+use Rattle.rsp_machine.specs.declared.step.StepEnd.TheVariants.{Done, Halted}
 use Rattle.rsp_machine.specs.Saved.{Saved, change_saved, values_saved, restored, change_of, register_of, register_by, undone, starts_dma, is_length, sign_change, jump_change, told_of, may_store, group_at, with_group, is_back_by, can_undo, record_after, is_back}
 use Rattle.rsp_machine.specs.Changes.{saved_of, saved_by, IsRanged}
 use Rattle.rsp_machine.specs.declared.change.Change.TheVariants as of
@@ -331,34 +331,16 @@ saved_marked (Idle row) s r = refl
 saved_marked (VectorLoad row f) s r = load_marked (writes_group row) f.vt s r
 saved_marked (VectorStore row f) s r = refl
 
--- after a step that is Done the mark in the record tells; after another one there is no way back
+-- after a step that is Done the mark in the record tells
 done_by : (b : Bool) (o : Option Inst) (word : ℕ) (s : State) (r : Saved) → (if b then (Halted, s) else step_by o word s).0 ≡ Done
     → (if b then false else is_back_by o) ≡ is_back (if b then r else saved_by o s r).change
 done_by true o word s r e = cc
 done_by false None word s r e = cc
 done_by false (Some i) word s r e = sym (saved_marked i s r)
 
-halted_by : (b : Bool) (o : Option Inst) (word : ℕ) (s : State) → (if b then (Halted, s) else step_by o word s).0 ≡ Halted → (if b then false else is_back_by o) ≡ false
-halted_by true o word s e = refl
-halted_by false None word s e = refl
-halted_by false (Some i) word s e = cc
-
-reserved_by : (b : Bool) (o : Option Inst) (word w : ℕ) (s : State) → (if b then (Halted, s) else step_by o word s).0 ≡ Reserved w → (if b then false else is_back_by o) ≡ false
-reserved_by true o word w s e = refl
-reserved_by false None word w s e = refl
-reserved_by false (Some i) word w s e = cc
-
 pub done_marked : (s : State) (r : Saved) → (step_of s).0 ≡ Done → can_undo s ≡ is_back (record_after s r).change
 unfolding can_undo record_after told_of step_of
 done_marked s r e = done_by s.sp.halted (inst_of (word_at s.imem s.pc)) (word_at s.imem s.pc) s r e
-
-pub halted_marked : (s : State) → (step_of s).0 ≡ Halted → can_undo s ≡ false
-unfolding can_undo step_of
-halted_marked s e = halted_by s.sp.halted (inst_of (word_at s.imem s.pc)) (word_at s.imem s.pc) s e
-
-pub reserved_marked : (s : State) (w : ℕ) → (step_of s).0 ≡ Reserved w → can_undo s ≡ false
-unfolding can_undo step_of
-reserved_marked s w e = reserved_by s.sp.halted (inst_of (word_at s.imem s.pc)) (word_at s.imem s.pc) w s e
 
 -- a step whose record says that it stored nothing leaves DMEM
 written_stays : (b : Bool) (v n : ℕ) (s : State) (r : Saved) → is_length n ≡ b → may_store (change_saved (if b then of.Dma else of.Sp 0) s r) ≡ false
@@ -411,26 +393,3 @@ stays_by false (Some i) word s r e h = saved_stays i s r h
 pub memory_stays : (s : State) (r : Saved) → (step_of s).0 ≡ Done → may_store (record_after s r) ≡ false → (step_of s).1.dmem ≡ s.dmem
 unfolding record_after told_of step_of
 memory_stays s r e h = stays_by s.sp.halted (inst_of (word_at s.imem s.pc)) (word_at s.imem s.pc) s r e h
-
-pub ruleset recording = (record_back, done_marked, halted_marked, reserved_marked, memory_stays)
-
--- a step that isn't Done leaves all as it is
-halted_stays_by : (b : Bool) (o : Option Inst) (word : ℕ) (s : State) (r : Saved) → (if b then (Halted, s) else step_by o word s).0 ≡ Halted
-    → ((if b then (Halted, s) else step_by o word s).1 ≡ s) × ((if b then r else saved_by o s r) ≡ r)
-halted_stays_by true o word s r e = (refl, refl)
-halted_stays_by false None word s r e = (refl, refl)
-halted_stays_by false (Some i) word s r e = cc
-
-reserved_stays_by : (b : Bool) (o : Option Inst) (word w : ℕ) (s : State) (r : Saved) → (if b then (Halted, s) else step_by o word s).0 ≡ Reserved w
-    → ((if b then (Halted, s) else step_by o word s).1 ≡ s) × ((if b then r else saved_by o s r) ≡ r)
-reserved_stays_by true o word w s r e = (refl, refl)
-reserved_stays_by false None word w s r e = (refl, refl)
-reserved_stays_by false (Some i) word w s r e = cc
-
-pub halted_stays : (s : State) (r : Saved) → (step_of s).0 ≡ Halted → ((step_of s).1 ≡ s) × (record_after s r ≡ r)
-unfolding record_after told_of step_of
-halted_stays s r e = halted_stays_by s.sp.halted (inst_of (word_at s.imem s.pc)) (word_at s.imem s.pc) s r e
-
-pub reserved_stays : (s : State) (r : Saved) (w : ℕ) → (step_of s).0 ≡ Reserved w → ((step_of s).1 ≡ s) × (record_after s r ≡ r)
-unfolding record_after told_of step_of
-reserved_stays s r w e = reserved_stays_by s.sp.halted (inst_of (word_at s.imem s.pc)) (word_at s.imem s.pc) w s r e

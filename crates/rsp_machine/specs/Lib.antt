@@ -10,3 +10,4 @@ pub mod Places
 pub mod Making
 pub mod Registers
 pub mod Transfers
+pub mod Pass

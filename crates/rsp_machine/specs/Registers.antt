@@ -5,6 +5,7 @@ use Rattle.rsp_numbers.specs.Numbers.{number, high, middle, low}
 use Rattle.rsp_acc.specs.Planes.{joined}
 use Rattle.rsp_regs.specs.Parts.{parts_of, sp_of}
 use Rattle.rsp_regs.specs.Sp.{AreKept}
+use Rattle.rsp_regs.specs.declared.parts.SpParts.{SpParts}
 use Rattle.rsp_machine.specs.State.{State, IsPlace}
 use Rattle.rsp_machine.specs.declared.registers.AllRegisters.{AllRegisters}
 use Rattle.rsp_machine.specs.declared.registers.RegistersFault.{RegistersFault}
@@ -49,12 +50,17 @@ pub record AreRegisters (r : AllRegisters) : Type 0 where
 abbrev pub is_whole : ℕ → ℕ → ℕ → Bool
 is_whole step limit n = nat_lt n limit && (n % step == 0)
 
+-- why SP registers aren't those of a machine: the first reason that holds
+abbrev pub sp_fault : SpParts → Option RegistersFault
+sp_fault p =
+    if not (is_whole 8 8192 p.memory) then Some MemoryAddress
+    else if not (is_whole 8 16777216 p.dram) then Some DramAddress
+    else if not (is_whole 8 4096 p.skip) then Some Skip
+    else None
+
 -- why registers aren't those of a machine: the first reason that holds
 abbrev pub registers_fault : AllRegisters → Option RegistersFault
 registers_fault r =
     if not (is_whole 4 4096 r.pc && is_whole 4 4096 r.npc) then Some Place
     else if not (slice_index r.registers 0 == 0) then Some RegisterZero
-    else if not (is_whole 8 8192 r.sp.memory) then Some MemoryAddress
-    else if not (is_whole 8 16777216 r.sp.dram) then Some DramAddress
-    else if not (is_whole 8 4096 r.sp.skip) then Some Skip
-    else None
+    else sp_fault r.sp

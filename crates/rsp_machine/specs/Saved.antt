@@ -1,5 +1,5 @@
 -- What a record saves of the state before a step, and how it leads back: for the debugger. What an instruction does is in Step.
-use Rattle.std.specs.Prelude.{ℕ, ℤ, pos, ◌+◌, ◌-◌, ◌%◌, ◌==◌, ◌||◌, Bool, true, false, not, if◌then◌else◌, List, [], ◌∷◌, Option, Some, None, replicate}
+use Rattle.std.specs.Prelude.{ℕ, ℤ, pos, ◌+◌, ◌-◌, ◌%◌, ◌==◌, ◌||◌, Bool, true, false, not, if◌then◌else◌, List, [], ◌∷◌, Option, Some, None, replicate, slice_index_or}
 use Rattle.rsp_decode.specs.declared.inst.Inst.{Inst}
 use Rattle.rsp_decode.specs.declared.inst.Inst.TheVariants.{Shift, ShiftBy, JumpRegister, JumpLinkRegister, Break, Register, BranchSign, BranchEqual, Jump, Immediate, LoadUpper, Load, Store, MoveSp, MoveVector, MoveControl, Multiply, Round, MpegMultiply, ReadAccumulator, VectorAdd, VectorSelect, VectorClip, VectorMerge, VectorLogic, Divide, Idle, VectorLoad, VectorStore}
 use Rattle.rsp_rows.specs.declared.scalar.MoveRow.{MoveRow}
@@ -255,6 +255,10 @@ restored _ r s = s
 -- A machine that steps isn't halted, and its npc is pc after the step.
 abbrev pub before : ℕ → ℕ → State → State
 before pc npc s = record s { pc = pc; npc = npc; sp = record s.sp { halted = false } }
+
+-- the record of step i of some
+abbrev pub record_at : List Saved → ℕ → Saved
+record_at records i = slice_index_or records i blank
 
 -- the state before the step, where a way leads back; else nothing changes
 unfoldable pub undone : Saved → State → State

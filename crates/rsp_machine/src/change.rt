@@ -2,11 +2,12 @@
 
 ghost use Rattle.std.specs.Prelude.{◌≡◌, ◌<◌};
 ghost use Rattle.rsp_decode.specs.Table.{IsInstruction};
-ghost use Rattle.rsp_machine.specs.Saved.{sign_change, jump_change, loaded_change, vector_move_change, control_move_change, sp_move_change, nameless, register_of, change_of};
+ghost use Rattle.rsp_machine.specs.Saved.{nameless, register_of, change_of};
 ghost use Rattle.rsp_machine.specs.Changes.{IsChange, reaches_sp};
-ghost use Rattle.rsp_machine.specs.State.{State};
 
-use rsp_decode::{Inst, JumpRow, MoveRow, SignRow, VectorLoadRow};
+use crate::machine::Machine;
+use rsp_acc::Acc;
+use rsp_decode::{Inst, JumpRow, MoveRow, SignRow, VectorLoadRow, VectorStoreRow};
 
 /// What an instruction changes of a machine besides pc and npc, with the register or the address that it names. Register
 /// numbers are words here: a step that stores one would take two instructions more for the lower half of a word.
@@ -43,7 +44,7 @@ pub(crate) enum Change {
 }
 
 impl Change {
-    /// The change as a record has it, without the register that [`register_of`] finds again by the row's word in IMEM.
+    /// The change as a record has it, without the register that [`change_of`] finds again by the row's word in IMEM.
     #[inline(always)]
     pub(crate) fn nameless(self) -> Change
         requires { IsChange self }
@@ -64,7 +65,7 @@ impl Change {
     }
 
     /// The number, below 32, of the register that [`Change::nameless`] leaves out; 0 where it leaves out none.
-    fn register(self) -> u8
+    pub(crate) fn register(self) -> u8
         requires { IsChange self }
         ensures value { result ≡ register_of self }
         ensures bound { result < 32 }
@@ -96,122 +97,82 @@ impl Change {
     }
 }
 
-/// The number, below 32, of the register that [`Change::nameless`] leaves out of what a row changes; 0 where it leaves out
-/// none.
+/// What an instruction changes of a machine.
+#[inline(always)]
 #[tactic(auto, unfolding(crate::specs::Saved::change_of))]
-pub(crate) fn register_of(inst: &Inst) -> u8
+pub(crate) fn change_of<A: Acc>(inst: &Inst, machine: &Machine<A>) -> Change
     requires { IsInstruction inst.now }
-    ensures value { (s : State) → result ≡ register_of (change_of inst.now s) }
-    ensures bound { result < 32 }
+    ensures value { result ≡ change_of inst.now machine.now }
+    ensures change { IsChange result }
 {
     match *inst {
-        Inst::Shift { rd, .. } | Inst::JumpLinkRegister { rd, .. } => rd,
-        Inst::ShiftBy { fields, .. } | Inst::Register { fields, .. } => fields.rd,
-        Inst::Immediate { rt, .. } | Inst::LoadUpper { rt, .. } => rt,
-        Inst::Load { fields, .. } => fields.rt,
-        Inst::BranchSign { row, .. } => sign_change(row).register(),
-        Inst::Jump { row, .. } => jump_change(row).register(),
+        Inst::Shift { rd, .. } | Inst::JumpLinkRegister { rd, .. } => {
+            Change::Register(u32::from(rd))
+        }
+        Inst::ShiftBy { fields, .. } | Inst::Register { fields, .. } => {
+            Change::Register(u32::from(fields.rd))
+        }
+        Inst::Immediate { rt, .. } | Inst::LoadUpper { rt, .. } => Change::Register(u32::from(rt)),
+        Inst::Load { fields, .. } => Change::Register(u32::from(fields.rt)),
+        Inst::Store { fields, .. } => Change::Bytes(rsp_scalar::address(
+            &machine.regs,
+            fields.base,
+            fields.offset,
+        )),
+        Inst::JumpRegister { .. } | Inst::BranchEqual { .. } | Inst::Idle { .. } => Change::Places,
+        Inst::BranchSign { row, .. } => match row {
+            SignRow::Bltzal | SignRow::Bgezal => Change::Register(31),
+            SignRow::Bltz | SignRow::Bgez | SignRow::Blez | SignRow::Bgtz => Change::Places,
+        },
+        Inst::Jump { row, .. } => match row {
+            JumpRow::Jal => Change::Register(31),
+            JumpRow::J => Change::Places,
+        },
+        Inst::Break => Change::Sp(0),
+        Inst::MoveSp { row, rt, register } => match row {
+            MoveRow::From => Change::Sp(u32::from(rt)),
+            MoveRow::To => {
+                if register % 16 == 2 || register % 16 == 3 {
+                    Change::Dma
+                } else {
+                    Change::Sp(0)
+                }
+            }
+        },
         Inst::MoveVector {
             row,
             rt,
             vector,
             ..
-        } => vector_move_change(row, rt, vector).register(),
-        Inst::MoveControl { row, rt, .. } => control_move_change(row, rt).register(),
-        Inst::VectorLoad { row, fields } => loaded_change(row, fields.vt).register(),
-        Inst::ReadAccumulator { fields }
-        | Inst::Multiply { fields, .. }
+        } => match row {
+            MoveRow::From => Change::Register(u32::from(rt)),
+            MoveRow::To => Change::Vector(u32::from(vector)),
+        },
+        Inst::MoveControl { row, rt, .. } => match row {
+            MoveRow::From => Change::Register(u32::from(rt)),
+            MoveRow::To => Change::Flags,
+        },
+        Inst::Multiply { fields, .. }
         | Inst::Round { fields, .. }
-        | Inst::MpegMultiply { fields, .. }
-        | Inst::VectorAdd { fields, .. }
-        | Inst::VectorSelect { fields, .. }
-        | Inst::VectorClip { fields, .. }
-        | Inst::VectorMerge { fields }
-        | Inst::VectorLogic { fields, .. } => fields.vd,
-        Inst::Divide { vd, .. } => vd,
-        _ => 0,
-    }
-}
-
-/// What a branch on a register's sign changes.
-#[inline(always)]
-pub(crate) fn sign_change(row: SignRow) -> Change
-    ensures value { result ≡ sign_change row }
-    ensures change { IsChange result }
-{
-    match row {
-        SignRow::Bltzal | SignRow::Bgezal => Change::Register(31),
-        SignRow::Bltz | SignRow::Bgez | SignRow::Blez | SignRow::Bgtz => Change::Places,
-    }
-}
-
-/// What a jump changes.
-#[inline(always)]
-pub(crate) fn jump_change(row: JumpRow) -> Change
-    ensures value { result ≡ jump_change row }
-    ensures change { IsChange result }
-{
-    match row {
-        JumpRow::Jal => Change::Register(31),
-        JumpRow::J => Change::Places,
-    }
-}
-
-/// What a vector load into `vt` changes: LTV writes the eight registers of its group.
-#[inline(always)]
-pub(crate) fn loaded_change(row: VectorLoadRow, vt: u8) -> Change
-    requires { vt < 32 }
-    ensures value { result ≡ loaded_change row vt }
-    ensures change { IsChange result }
-{
-    match row {
-        VectorLoadRow::Ltv => Change::Group(u32::from(vt - vt % 8)),
-        _ => Change::Vector(u32::from(vt)),
-    }
-}
-
-/// What a move between scalar register `rt` and a vector register changes.
-#[inline(always)]
-pub(crate) fn vector_move_change(row: MoveRow, rt: u8, vector: u8) -> Change
-    requires rt { rt < 32 }
-    requires vector { vector < 32 }
-    ensures value { result ≡ vector_move_change row rt vector }
-    ensures change { IsChange result }
-{
-    match row {
-        MoveRow::From => Change::Register(u32::from(rt)),
-        MoveRow::To => Change::Vector(u32::from(vector)),
-    }
-}
-
-/// What a move between scalar register `rt` and a control register changes.
-#[inline(always)]
-pub(crate) fn control_move_change(row: MoveRow, rt: u8) -> Change
-    requires { rt < 32 }
-    ensures value { result ≡ control_move_change row rt }
-    ensures change { IsChange result }
-{
-    match row {
-        MoveRow::From => Change::Register(u32::from(rt)),
-        MoveRow::To => Change::Flags,
-    }
-}
-
-/// What a move between scalar register `rt` and an SP register changes: that to a length register starts a DMA.
-#[inline(always)]
-pub(crate) fn sp_move_change(row: MoveRow, rt: u8, register: u8) -> Change
-    requires { rt < 32 }
-    ensures value { result ≡ sp_move_change row rt register }
-    ensures change { IsChange result }
-{
-    match row {
-        MoveRow::From => Change::Sp(u32::from(rt)),
-        MoveRow::To => {
-            if register % 16 == 2 || register % 16 == 3 {
-                Change::Dma
-            } else {
-                Change::Sp(0)
-            }
+        | Inst::MpegMultiply { fields, .. } => Change::Product(u32::from(fields.vd)),
+        Inst::ReadAccumulator { fields } => Change::Vector(u32::from(fields.vd)),
+        Inst::VectorAdd { fields, .. } | Inst::VectorMerge { fields } => {
+            Change::Sum(u32::from(fields.vd))
+        }
+        Inst::VectorSelect { fields, .. } => Change::Choice(u32::from(fields.vd)),
+        Inst::VectorClip { fields, .. } => Change::Clip(u32::from(fields.vd)),
+        Inst::VectorLogic { fields, .. } => Change::Low(u32::from(fields.vd)),
+        Inst::Divide { vd, .. } => Change::Divide(u32::from(vd)),
+        Inst::VectorLoad { row, fields } => match row {
+            VectorLoadRow::Ltv => Change::Group(u32::from(fields.vt - fields.vt % 8)),
+            _ => Change::Vector(u32::from(fields.vt)),
+        },
+        Inst::VectorStore { row, fields } => {
+            let a = rsp_loadstore::address(inst, machine.regs.get(fields.base));
+            Change::Bytes(match row {
+                VectorStoreRow::Srv => a - a % 16,
+                _ => a - a % 8,
+            })
         }
     }
 }

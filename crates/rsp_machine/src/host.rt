@@ -4,6 +4,7 @@ ghost use Rattle.rsp_regs.specs.Sp.{peeked};
 
 use crate::machine::Machine;
 use crate::place::Place;
+use byteorder::{BigEndian, ByteOrder};
 use rsp_acc::Acc;
 use rsp_memory::{Bank, Rdram};
 use rsp_regs::Transfer;
@@ -30,7 +31,7 @@ fn image_word(rdram: &Rdram, a: u32) -> u32
     requires { a + 4 ≤ 16777216 }
     ensures { result ≡ image_word rdram.now a }
 {
-    u32::from_be_bytes([
+    BigEndian::read_u32(&[
         rdram.byte(a),
         rdram.byte(a + 1),
         rdram.byte(a + 2),

@@ -6,23 +6,24 @@
 #![tactic(auto)]
 
 mod change;
+mod copy;
+mod execute;
 mod host;
 mod lanes;
 pub mod laws;
 mod machine;
+mod pass;
 mod place;
 mod record;
-mod recorder;
 mod registers;
+mod saver;
+mod sp;
 mod step;
-mod steps;
 mod vector;
-mod visits;
 
 pub use host::{RangeFault, TaskFault};
 pub use machine::Machine;
-pub use place::Places;
+pub use pass::PassFault;
 pub use record::Record;
-pub use recorder::Recorded;
 pub use registers::{AllRegisters, RegistersFault};
 pub use step::StepEnd;

@@ -70,7 +70,7 @@ impl Place {
 /// The places of the next two instructions, pc and npc. A loop of steps keeps them apart from its machine, so that they can
 /// stand in registers of the processor.
 #[derive(Clone, Copy, Drop)]
-pub struct Places {
+pub(crate) struct Places {
     pub(crate) pc: Place,
     pub(crate) npc: Place,
 }
@@ -86,16 +86,6 @@ impl Model for Places {
 }
 
 impl Places {
-    /// The place of the next instruction, a multiple of 4 below 4096.
-    #[inline(always)]
-    pub fn pc(self) -> u16
-        ensures value { result ≡ self.pc }
-        ensures below { result < 4096 }
-        ensures whole { result % 4 ≡ 0 }
-    {
-        self.pc.get()
-    }
-
     /// The places behind an instruction that is no jump.
     #[inline(always)]
     pub(crate) fn next(self) -> Places

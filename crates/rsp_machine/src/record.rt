@@ -1,21 +1,16 @@
 // What one step saves, and how it leads back.
 
-ghost use Rattle.std.specs.Prelude.{◌≡◌, ◌<◌, ◌≤◌, ◌%◌};
-ghost use Rattle.rsp_decode.specs.declared.inst.Inst.{Inst};
-ghost use Rattle.rsp_scalar.specs.Registers.{register, with_register};
-ghost use Rattle.rsp_scalar.specs.Rows.{address};
+ghost use Rattle.std.specs.Prelude.{◌≡◌, ◌<◌, ◌≤◌};
+ghost use Rattle.rsp_scalar.specs.Registers.{with_register};
 ghost use Rattle.rsp_loadstore.specs.File.{vector, with_vector};
-ghost use Rattle.rsp_loadstore.specs.Addresses.{transfer_address};
-ghost use Rattle.rsp_loadstore.specs.Reach.{window_of};
-ghost use Rattle.rsp_machine.specs.declared.change.Change.TheVariants as change;
 ghost use Rattle.rsp_machine.specs.Saved.{blank, is_back, may_store, group_at, with_group, register_at, with_low_of, with_product, with_low_part, with_vco, undone};
 
-use crate::change::{Change, register_of};
+use crate::change::{Change, change_of};
 use crate::machine::Machine;
 use crate::place::{Place, Places};
-use crate::visits::Saver;
+use crate::saver::Saver;
 use rsp_acc::{Acc, Addends, Part};
-use rsp_decode::{Inst, ScalarMemoryFields, VectorMemoryFields, VectorStoreRow, decode};
+use rsp_decode::decode;
 use rsp_divide::Divider;
 use rsp_lanes::{Flags, VReg};
 use rsp_loadstore::VFile;
@@ -82,9 +77,9 @@ impl Record {
         }
     }
 
-    /// Whether a way leads back.
+    /// Whether [`Machine::undo`] of it leads back: not from a step that started a DMA.
     #[inline(always)]
-    pub(crate) fn is_back(&self) -> bool
+    pub fn leads_back(&self) -> bool
         ensures { result ≡ is_back self.now.change }
     {
         !matches!(self.change, Change::Dma)
@@ -99,7 +94,7 @@ impl Record {
     }
 
     /// Saves vector register `n` and the accumulators.
-    #[inline(always)]
+    #[inline]
     fn save_product<A: Acc>(&mut self, machine: &Machine<A>, n: u32)
         requires { n < 32 }
         ensures { self.new ≡ record self.old { vector = vector machine.now.vectors n; accumulators = machine.now.accumulators } }
@@ -109,7 +104,7 @@ impl Record {
     }
 
     /// Saves vector register `n` and the low accumulators.
-    #[inline(always)]
+    #[inline]
     fn save_low<A: Acc>(&mut self, machine: &Machine<A>, n: u32)
         requires { n < 32 }
         ensures { self.new ≡ record self.old { vector = vector machine.now.vectors n; accumulators = with_low_of machine.now.accumulators self.old.accumulators } }
@@ -140,9 +135,23 @@ impl Record {
 }
 
 impl Saver for Record {
-    ghost use Rattle.rsp_machine.specs.Saved.{change_saved};
+    ghost use Rattle.rsp_machine.specs.Saved.{change_saved, is_back};
 
     ghost saves = { change_saved };
+
+    ghost slot = { λ n. n };
+
+    ghost goes_on = { λ r. is_back r.change };
+
+    #[inline(always)]
+    fn slot(n: u64) -> usize {
+        n as usize
+    }
+
+    #[inline(always)]
+    fn goes_on(&self) -> bool {
+        self.leads_back()
+    }
 
     #[inline(always)]
     #[tactic(auto, unfolding(crate::specs::Saved::change_saved, crate::specs::Saved::values_saved))]
@@ -187,31 +196,8 @@ impl Saver for Record {
 }
 
 impl<A: Acc> Machine<A> {
-    /// The bytes of DMEM that a scalar store writes among.
-    #[inline(always)]
-    pub(crate) fn stored_change(&self, fields: ScalarMemoryFields) -> Change
-        requires { fields.base < 32 }
-        ensures { result ≡ change.Bytes (address self.now.registers fields.base fields.offset) }
-    {
-        Change::Bytes(rsp_scalar::address(&self.regs, fields.base, fields.offset))
-    }
-
-    /// The bytes of DMEM that a vector store writes among.
-    #[inline(always)]
-    pub(crate) fn window_change(&self, row: VectorStoreRow, fields: VectorMemoryFields) -> Change
-        requires { fields.base < 32 }
-        ensures { result ≡ change.Bytes (window_of row (transfer_address (Inst.VectorStore row fields) (register self.now.registers fields.base))) }
-    {
-        let inst = Inst::VectorStore { row, fields };
-        let a = rsp_loadstore::address(&inst, self.regs.get(fields.base));
-        Change::Bytes(match row {
-            VectorStoreRow::Srv => a - a % 16,
-            _ => a - a % 8,
-        })
-    }
-
     /// Undoes a step: writes back what the step changed, and goes back to its place. On the state after the step this
-    /// gives the whole state before it. A blank, and what [`Machine::record_step`] leaves of a step that starts a DMA,
+    /// gives the whole state before it. A blank, and what [`Machine::steps_recorded`] leaves of a step that starts a DMA,
     /// change nothing.
     #[tactic(auto, unfolding(crate::specs::Saved::undone, crate::specs::Saved::restored))]
     pub fn undo(&mut self, saved: &Record)
@@ -296,7 +282,7 @@ impl<A: Acc> Machine<A> {
         ensures bound { result < 32 }
     {
         match decode(self.imem.aligned_word(place.index())) {
-            Some(inst) => register_of(&inst),
+            Some(inst) => change_of(&inst, self).register(),
             None => 0,
         }
     }

@@ -5,6 +5,7 @@ ghost use Rattle.rsp_machine.specs.Registers.{AreRegisters, registers_of, with_r
 
 use crate::machine::Machine;
 use crate::place::Place;
+use crate::sp::sp_fault;
 use rsp_acc::{Acc, Addends, Part};
 use rsp_divide::Divider;
 use rsp_lanes::{Flags, VReg};
@@ -69,20 +70,13 @@ fn fault_of(given: &AllRegisters) -> Option<RegistersFault>
     if given.registers[0] != 0 {
         return Some(RegistersFault::RegisterZero);
     }
-    if given.sp.memory >= 0x2000 || given.sp.memory % 8 != 0 {
-        return Some(RegistersFault::MemoryAddress);
-    }
-    if given.sp.dram >= 0x100_0000 || given.sp.dram % 8 != 0 {
-        return Some(RegistersFault::DramAddress);
-    }
-    if given.sp.skip >= 0x1000 || given.sp.skip % 8 != 0 {
-        return Some(RegistersFault::Skip);
-    }
-    None
+    sp_fault(&given.sp)
 }
 
 impl<A: Acc> Machine<A> {
-    /// All registers. Changes nothing: the semaphore isn't taken.
+    /// All registers. Changes nothing: the semaphore isn't taken. Put inline, since a caller mostly moves them on, and a kilobyte is
+    /// then copied once.
+    #[inline(always)]
     #[tactic(auto, unfolding(crate::specs::Registers::registers_of))]
     pub fn all_registers(&self) -> AllRegisters
         ensures { result ≡ registers_of self.now }
@@ -117,7 +111,7 @@ impl<A: Acc> Machine<A> {
 
     /// Writes all registers.
     #[tactic(auto, unfolding(crate::specs::Registers::with_registers))]
-    fn put_registers(&mut self, given: &AllRegisters)
+    pub(crate) fn put_registers(&mut self, given: &AllRegisters)
         requires { AreRegisters given.now }
         ensures { self.new ≡ with_registers given.now self.old }
     {

@@ -27,7 +27,7 @@ impl<A: Acc> Machine<A> {
     }
 
     /// A row of the twelve multiplies.
-    #[inline(always)]
+    #[inline]
     #[tactic(auto, unfolding(crate::specs::Vector::multiplies))]
     pub(crate) fn multiply_lanes(&mut self, row: MultiplyRow, fields: VectorFields)
         requires { IsVectorFields fields }
@@ -40,7 +40,7 @@ impl<A: Acc> Machine<A> {
     }
 
     /// Rounds the accumulators by their sign.
-    #[inline(always)]
+    #[inline]
     #[tactic(auto, unfolding(crate::specs::Vector::rounds))]
     pub(crate) fn round_lanes(&mut self, row: RoundRow, fields: VectorFields)
         requires { IsVectorFields fields }
@@ -53,7 +53,7 @@ impl<A: Acc> Machine<A> {
     }
 
     /// An MPEG multiply.
-    #[inline(always)]
+    #[inline]
     #[tactic(auto, unfolding(crate::specs::Vector::multiplies_mpeg))]
     pub(crate) fn multiply_mpeg(&mut self, row: MpegRow, fields: VectorFields)
         requires { IsVectorFields fields }
@@ -90,7 +90,7 @@ impl<A: Acc> Machine<A> {
     }
 
     /// A divide row, which writes one lane.
-    #[inline(always)]
+    #[inline]
     #[tactic(auto, unfolding(crate::specs::Vector::divides))]
     pub(crate) fn divide(&mut self, row: DivideRow, vd: u8, lane: u8, vt: u8, element: u8)
         requires { IsInstruction (Inst.Divide row vd lane vt element) }
@@ -111,7 +111,7 @@ impl<A: Acc> Machine<A> {
     }
 
     /// A vector load.
-    #[inline(always)]
+    #[inline]
     #[tactic(auto, unfolding(crate::specs::Vector::loads_vector))]
     pub(crate) fn load_register(&mut self, row: VectorLoadRow, fields: VectorMemoryFields)
         requires { IsInstruction (Inst.VectorLoad row fields) }
@@ -123,7 +123,7 @@ impl<A: Acc> Machine<A> {
     }
 
     /// A vector store.
-    #[inline(always)]
+    #[inline]
     #[tactic(auto, unfolding(crate::specs::Vector::stores_vector))]
     pub(crate) fn store_register(&mut self, row: VectorStoreRow, fields: VectorMemoryFields)
         requires { IsInstruction (Inst.VectorStore row fields) }

@@ -1,13 +1,14 @@
 -- Bytes written one by one are a run written at once.
-use Rattle.std.proofs.Common.{◌≡◌, ℕ, zero, suc, ◌+◌, ◌-◌, ◌%◌, ◌<◌, ◌≤◌, List, [], ◌∷◌, ◌++◌, length, take, drop, get_or, set, refl, sym, ◌∙◌, ap, arith, add-zero, min, inl, inr, Option, None, Some, MatchOption, Bor}
+use Rattle.std.proofs.Common.{◌≡◌, ℕ, zero, suc, ◌+◌, ◌-◌, ◌%◌, ◌<◌, ◌≤◌, ◌^◌, List, [], ◌∷◌, ◌++◌, length, take, drop, get_or, set, refl, sym, ◌∙◌, ap, arith, add-zero, min, inl, inr, Option, None, Some, MatchOption, Bor}
 use Rattle.std.proofs.lemmas.List.{set_past, length-set, length-take, length-drop, take-append-drop, drop_all, take_all, take_more, take_min, drop_more}
 use Rattle.std.proofs.lemmas.List.Edits.{sets, sets-eq}
 use Rattle.std.specs.Array.{IsFirstChunk}
 use Rattle.std.specs.Prelude.{slice_set}
+use Rattle.byteorder.specs.Endian.{big_bytes}
 use Rattle.std.proofs.lemmas.Bool.{cases_lt}
 use Rattle.rsp_memory.specs.Runs.{write_all}
 use Rattle.rsp_memory.specs.Splices.{spliced}
-use Rattle.rsp_memory.specs.Memory.{byte_at, bytes_at, with_byte, with_bytes}
+use Rattle.rsp_memory.specs.Memory.{byte_at, bytes_at, with_byte, with_bytes, with_word}
 use Rattle.rsp_memory.specs.Image.{with_image_byte, with_image_bytes}
 
 -- two runs, one behind the other
@@ -73,6 +74,17 @@ with_bytes-ring m a b (x ∷ bs) e = rw e (with_bytes-ring (slice_set m (b % 409
 pub with_bytes-inside : (m r : List ℕ) (a : ℕ) (bs : List ℕ) → length m ≡ 4096 → length bs ≤ 4096 - a % 4096
     → r ≡ spliced m (a % 4096) bs → r ≡ with_bytes m a bs
 with_bytes-inside m r a bs n h e = e ∙ sym (with_bytes-spliced m (a % 4096) bs (omega arith) n) ∙ with_bytes-ring m (a % 4096) a bs (omega arith)
+
+-- the four bytes of a word that doesn't wrap are written at once
+with_word-bytes : (m : List ℕ) (a w : ℕ) → w < 2 ^ 32 → with_bytes m a (big_bytes 4 w) ≡ with_word m a w
+unfolding with_word
+with_word-bytes m a w h = grind arith
+
+pub word_inside : (m r bs : List ℕ) (a w : ℕ) → length m ≡ 4096 → a % 4096 ≤ 4092 → w < 2 ^ 32 → bs ≡ big_bytes 4 w
+    → r ≡ spliced m (a % 4096) bs → r ≡ with_word m a w
+word_inside m r bs a w n h k e f =
+    let l : length bs ≤ 4096 - a % 4096 = omega (arith, ap length e) in
+    with_bytes-inside m r a bs n l f ∙ ap (with_bytes m a) e ∙ with_word-bytes m a w k
 
 -- the bytes from an address on, where they don't wrap
 bytes_at-from : (m : List ℕ) (a at n : ℕ) → a % 4096 ≡ at → at + n ≤ 4096 → length m ≡ 4096 → bytes_at m a n ≡ take n (drop at m)

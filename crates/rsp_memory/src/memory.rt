@@ -81,7 +81,9 @@ impl SpMem {
     pub fn set_half(&mut self, a: u32, h: u16)
         ensures { self.new ≡ with_half self.old a h }
     {
-        let [high, low] = h.to_be_bytes();
+        let mut bytes = [0; 2];
+        BigEndian::write_u16(&mut bytes, h);
+        let [high, low] = bytes;
         self.set_byte(a, high);
         self.set_byte(a.wrapping_add(1), low);
     }
@@ -137,17 +139,14 @@ impl SpMem {
 
     /// Writes 32 bits.
     #[inline(always)]
-    #[tactic(auto, unfolding(crate::specs::Memory::with_word, crate::specs::Memory::with_byte))]
     pub fn set_word(&mut self, a: u32, w: u32)
         ensures { self.new ≡ with_word self.old a w }
     {
         let at = (a % 4096) as usize;
         if at <= 4092 {
-            let [first, second, third, fourth] = w.to_be_bytes();
-            self.bytes[at] = first;
-            self.bytes[at + 1] = second;
-            self.bytes[at + 2] = third;
-            self.bytes[at + 3] = fourth;
+            let mut bytes = [0; 4];
+            BigEndian::write_u32(&mut bytes, w);
+            splice(&mut self.bytes, at, &bytes);
         } else {
             self.set_wrapping_word(a, w);
         }
@@ -159,7 +158,9 @@ impl SpMem {
     fn set_wrapping_word(&mut self, a: u32, w: u32)
         ensures { self.new ≡ with_word self.old a w }
     {
-        let [first, second, third, fourth] = w.to_be_bytes();
+        let mut bytes = [0; 4];
+        BigEndian::write_u32(&mut bytes, w);
+        let [first, second, third, fourth] = bytes;
         self.set_byte(a, first);
         self.set_byte(a.wrapping_add(1), second);
         self.set_byte(a.wrapping_add(2), third);

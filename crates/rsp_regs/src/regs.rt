@@ -1,30 +1,12 @@
-ghost use Rattle.std.specs.Prelude.{◌≡◌, ◌%◌, ◌==◌, ◌||◌, ◌<◌, ◌^◌, ℕ, if◌then◌else◌, slice_index, length, false};
+ghost use Rattle.std.specs.Prelude.{◌≡◌, ◌%◌, ◌==◌, ◌||◌, ◌<◌, ◌^◌, ℕ, if◌then◌else◌, slice_index, false};
 ghost use Rattle.rsp_regs.specs.Dma.{IsTransfer, AreWhole};
-ghost use Rattle.rsp_regs.specs.Flags.{has_bit, word_of};
 ghost use Rattle.rsp_regs.specs.Parts.{parts_of, sp_of};
 ghost use Rattle.rsp_regs.specs.Sp.{AreKept, IsSp, start, status, peeked, after_read, status_written, transfer, after_dma, written, dmem_from_rdram, imem_from_rdram, rdram_from_bank, after_break, after_step, after_task};
 
-use crate::bits::{bit_set, flag};
+use crate::bits::{bit_set, flag, paired};
 use crate::{SpParts, Transfer};
 use rsp_memory::{Rdram, SpMem};
 use std::marker::Model;
-
-// The places of the flags in the word that keeps them. Each stands at the bit that clears it in a write of
-// SP_STATUS, so that a write sets and clears all of them at once.
-const HALTED: u32 = 0;
-
-const BROKE: u32 = 2;
-
-const INTERRUPT: u32 = 3;
-
-const SINGLE_STEP: u32 = 5;
-
-const INTBREAK: u32 = 7;
-/// The place of signal 0. Each next signal stands two places on.
-const SIGNALS: u32 = 9;
-
-/// The places of all flags but broke: those that the next bit of a write sets.
-const PAIRED: u32 = 0xaa_aaa9;
 
 /// The registers of the signal processor, with its interrupt flag.
 ///
@@ -36,19 +18,21 @@ pub struct SpRegs {
     memory: u32,
     dram: u32,
     skip: u32,
-    /// Halted, broke, the interrupt flag, single step, intbreak and the signals.
-    flags: u32,
+    halted: bool,
+    broke: bool,
+    single_step: bool,
     /// Halted or single step, kept so that a step tests one value.
     is_held: bool,
+    intbreak: bool,
+    signals: [bool; 8],
+    interrupt: bool,
     semaphore: bool,
     dpc: [u32; 8],
 }
 
 impl Model for SpRegs {
     ghost use Rattle.std.specs.Prelude.{◌≡◌, ◌||◌};
-    ghost use Rattle.std.proofs.Common.{ap};
     ghost use Rattle.rsp_regs.specs.Sp.{Sp, AreKept};
-    ghost use Rattle.rsp_regs.specs.Flags.{has_bit, signals_of, AreFlags, word_of, both_again};
 
     ghost Value = { Sp };
 
@@ -56,29 +40,32 @@ impl Model for SpRegs {
       memory = s.memory;
       dram = s.dram;
       skip = s.skip;
-      halted = has_bit s.flags 0;
-      broke = has_bit s.flags 2;
-      single_step = has_bit s.flags 5;
-      intbreak = has_bit s.flags 7;
-      signals = signals_of s.flags;
-      interrupt = has_bit s.flags 3;
+      halted = s.halted;
+      broke = s.broke;
+      single_step = s.single_step;
+      intbreak = s.intbreak;
+      signals = s.signals;
+      interrupt = s.interrupt;
       semaphore = s.semaphore;
       dpc = s.dpc;
     } };
 
-    ghost invariant = { λ s. AreKept s.memory s.dram s.skip × (AreFlags s.flags × (s.is_held ≡ (has_bit s.flags 0 || has_bit s.flags 5))) };
+    ghost invariant = { λ s. AreKept s.memory s.dram s.skip × (s.is_held ≡ (s.halted || s.single_step)) };
 
     ghost inverse = { λ s. record {
       memory = s.memory;
       dram = s.dram;
       skip = s.skip;
-      flags = word_of s.halted s.broke s.interrupt s.single_step s.intbreak s.signals;
+      halted = s.halted;
+      broke = s.broke;
+      single_step = s.single_step;
       is_held = s.halted || s.single_step;
+      intbreak = s.intbreak;
+      signals = s.signals;
+      interrupt = s.interrupt;
       semaphore = s.semaphore;
       dpc = s.dpc;
     } };
-
-    ghost inverse_ok = { λ s h. ap (λ p. record { memory = s.memory; dram = s.dram; skip = s.skip; flags = p.0; is_held = p.1; semaphore = s.semaphore; dpc = s.dpc }) (both_again s.flags s.is_held h.1.0 h.1.1) };
 }
 
 /// Changes nothing. It says that words are below 2^32.
@@ -89,35 +76,8 @@ fn below(words: [u32; 8])
     let _ = words;
 }
 
-/// Whether halted or single step is set in a word of flags.
-#[inline(always)]
-fn is_held_word(flags: u32) -> bool
-    ensures { result ≡ (has_bit flags 0 || has_bit flags 5) }
-{
-    flags & (1 << HALTED | 1 << SINGLE_STEP) != 0
-}
-
-/// The word of the flags that parts have.
-fn flags_word(parts: &SpParts) -> u32
-    ensures word { result ≡ word_of parts.now.halted parts.now.broke parts.now.interrupt parts.now.single_step parts.now.intbreak parts.now.signals }
-    ensures eight { length parts.now.signals ≡ 8 }
-{
-    let [a, b, c, d, e, f, g, h] = parts.signals;
-    let last = flag(e, 1 << (SIGNALS + 8))
-        | (flag(f, 1 << (SIGNALS + 10))
-            | (flag(g, 1 << (SIGNALS + 12)) | flag(h, 1 << (SIGNALS + 14))));
-    let signals = flag(a, 1 << SIGNALS)
-        | (flag(b, 1 << (SIGNALS + 2))
-            | (flag(c, 1 << (SIGNALS + 4)) | (flag(d, 1 << (SIGNALS + 6)) | last)));
-    let stepping = flag(parts.single_step, 1 << SINGLE_STEP)
-        | (flag(parts.intbreak, 1 << INTBREAK) | signals);
-    flag(parts.halted, 1 << HALTED)
-        | (flag(parts.broke, 1 << BROKE) | (flag(parts.interrupt, 1 << INTERRUPT) | stepping))
-}
-
 impl SpRegs {
     /// The registers at the start: all 0.
-    #[tactic(auto, unfolding(crate::specs::Flags::has_bit))]
     pub fn new() -> SpRegs
         ensures { result ≡ start }
     {
@@ -125,8 +85,13 @@ impl SpRegs {
             memory: 0,
             dram: 0,
             skip: 0,
-            flags: 0,
+            halted: false,
+            broke: false,
+            single_step: false,
             is_held: false,
+            intbreak: false,
+            signals: [false; 8],
+            interrupt: false,
             semaphore: false,
             dpc: [0; 8],
         }
@@ -141,7 +106,6 @@ impl SpRegs {
     }
 
     /// All registers as plain parts. Changes nothing: the semaphore isn't taken.
-    #[tactic(auto, unfolding(crate::specs::Flags::has_bit))]
     pub fn parts(&self) -> SpParts
         ensures { result ≡ parts_of self.now }
     {
@@ -149,21 +113,12 @@ impl SpRegs {
             memory: self.memory,
             dram: self.dram,
             skip: self.skip,
-            halted: bit_set(self.flags, HALTED),
-            broke: bit_set(self.flags, BROKE),
-            single_step: bit_set(self.flags, SINGLE_STEP),
-            intbreak: bit_set(self.flags, INTBREAK),
-            signals: [
-                bit_set(self.flags, SIGNALS),
-                bit_set(self.flags, SIGNALS + 2),
-                bit_set(self.flags, SIGNALS + 4),
-                bit_set(self.flags, SIGNALS + 6),
-                bit_set(self.flags, SIGNALS + 8),
-                bit_set(self.flags, SIGNALS + 10),
-                bit_set(self.flags, SIGNALS + 12),
-                bit_set(self.flags, SIGNALS + 14),
-            ],
-            interrupt: bit_set(self.flags, INTERRUPT),
+            halted: self.halted,
+            broke: self.broke,
+            single_step: self.single_step,
+            intbreak: self.intbreak,
+            signals: self.signals,
+            interrupt: self.interrupt,
             semaphore: self.semaphore,
             dpc: self.dpc,
         }
@@ -174,13 +129,17 @@ impl SpRegs {
         requires { AreKept parts.now.memory parts.now.dram parts.now.skip }
         ensures { result ≡ sp_of parts.now }
     {
-        let flags = flags_word(parts);
         SpRegs {
             memory: parts.memory,
             dram: parts.dram,
             skip: parts.skip,
-            flags,
-            is_held: is_held_word(flags),
+            halted: parts.halted,
+            broke: parts.broke,
+            single_step: parts.single_step,
+            is_held: parts.halted || parts.single_step,
+            intbreak: parts.intbreak,
+            signals: parts.signals,
+            interrupt: parts.interrupt,
             semaphore: parts.semaphore,
             dpc: parts.dpc,
         }
@@ -188,20 +147,18 @@ impl SpRegs {
 
     /// Whether the processor is halted.
     #[inline]
-    #[tactic(auto, unfolding(crate::specs::Flags::has_bit))]
     pub fn halted(&self) -> bool
         ensures { result ≡ self.now.halted }
     {
-        bit_set(self.flags, HALTED)
+        self.halted
     }
 
     /// Whether single step is set.
     #[inline]
-    #[tactic(auto, unfolding(crate::specs::Flags::has_bit))]
     pub fn single_step(&self) -> bool
         ensures { result ≡ self.now.single_step }
     {
-        bit_set(self.flags, SINGLE_STEP)
+        self.single_step
     }
 
     /// Whether the processor is halted, or will be after one instruction.
@@ -214,24 +171,30 @@ impl SpRegs {
 
     /// The interrupt flag.
     #[inline]
-    #[tactic(auto, unfolding(crate::specs::Flags::has_bit))]
     pub fn interrupt(&self) -> bool
         ensures { result ≡ self.now.interrupt }
     {
-        bit_set(self.flags, INTERRUPT)
+        self.interrupt
     }
 
     /// SP_STATUS as it reads: bit 0 halted, 1 broke, 5 single step, 6 intbreak, 7 to 14 the signals.
+    #[tactic(auto, unfolding(crate::specs::Sp::status))]
     fn status(&self) -> u32
         ensures { result ≡ status self.now }
     {
-        let in_place = self.flags & 0x21;
-        let one_lower = self.flags >> 1 & 0x42;
-        // the signals, which stand at every other bit, move together by twos, fours and eights
-        let twos = (self.flags >> 2 | self.flags >> 3) & 0x19_9980;
-        let fours = (twos | twos >> 2) & 0x7_8780;
-        let signals = (fours | fours >> 4) & 0x7f80;
-        in_place | one_lower | signals
+        let [a, b, c, d, e, f, g, h] = self.signals;
+        flag(self.halted, 1)
+            + flag(self.broke, 2)
+            + flag(self.single_step, 32)
+            + flag(self.intbreak, 64)
+            + (flag(a, 128)
+                + flag(b, 256)
+                + flag(c, 512)
+                + flag(d, 1024)
+                + flag(e, 2048)
+                + flag(f, 4096)
+                + flag(g, 8192)
+                + flag(h, 16384))
     }
 
     /// The word that a read of register `n` would give. Changes nothing.
@@ -267,12 +230,14 @@ impl SpRegs {
 
     /// What BREAK sets: halted and broke, and the interrupt flag where intbreak is set.
     #[inline]
+    #[tactic(auto, unfolding(crate::specs::Sp::after_break))]
     pub fn on_break(&mut self)
         ensures { self.new ≡ after_break self.old }
     {
-        let interrupt = self.flags >> (INTBREAK - INTERRUPT) & 1 << INTERRUPT;
-        self.flags = self.flags | (1 << HALTED | 1 << BROKE) | interrupt;
+        self.halted = true;
         self.is_held = true;
+        self.broke = true;
+        self.interrupt = self.interrupt || self.intbreak;
     }
 
     /// Clears halted. All else stays.
@@ -280,41 +245,58 @@ impl SpRegs {
     pub fn resume(&mut self)
         ensures { self.new ≡ record self.old { halted = false } }
     {
-        self.flags &= !(1 << HALTED);
-        self.is_held = is_held_word(self.flags);
+        self.halted = false;
+        self.is_held = self.single_step;
     }
 
     /// What the end of an instruction sets: halted, where single step is set.
     #[inline(always)]
+    #[tactic(auto, unfolding(crate::specs::Sp::after_step))]
     pub fn on_step(&mut self)
         ensures { self.new ≡ after_step self.old }
     {
-        if self.is_held {
-            self.flags |= self.flags >> SINGLE_STEP & 1 << HALTED;
+        if self.single_step {
+            self.halted = true;
         }
     }
 
     /// What the start of a task sets and clears: intbreak is set; halted, broke and the signals 0, 1
     /// and 2 are cleared.
+    #[tactic(auto, unfolding(crate::specs::Sp::after_task))]
     pub fn on_task(&mut self)
         ensures { self.new ≡ after_task self.old }
     {
-        let signals = 1 << SIGNALS | 1 << (SIGNALS + 2) | 1 << (SIGNALS + 4);
-        let cleared = 1 << HALTED | 1 << BROKE | signals;
-        self.flags = self.flags & !cleared | 1 << INTBREAK;
-        self.is_held = is_held_word(self.flags);
+        self.resume();
+        self.broke = false;
+        self.intbreak = true;
+        self.signals[0] = false;
+        self.signals[1] = false;
+        self.signals[2] = false;
     }
 
     /// A write of SP_STATUS: twelve pairs of a bit that clears and one that sets, and a lone bit that
     /// clears broke. Of a pair, both bits or neither change nothing.
+    #[tactic(auto, unfolding(crate::specs::Sp::status_written))]
     fn write_status(&mut self, value: u32)
         ensures { self.new ≡ status_written value self.old }
     {
-        let set = value >> 1;
-        let changed = (value ^ set) & PAIRED;
-        let flags = self.flags & !changed | set & changed;
-        self.flags = flags & !(value & 1 << BROKE);
-        self.is_held = is_held_word(self.flags);
+        self.halted = paired(value, 0, self.halted);
+        self.broke = self.broke && !bit_set(value, 2);
+        self.interrupt = paired(value, 3, self.interrupt);
+        self.single_step = paired(value, 5, self.single_step);
+        self.is_held = self.halted || self.single_step;
+        self.intbreak = paired(value, 7, self.intbreak);
+        let [a, b, c, d, e, f, g, h] = self.signals;
+        self.signals = [
+            paired(value, 9, a),
+            paired(value, 11, b),
+            paired(value, 13, c),
+            paired(value, 15, d),
+            paired(value, 17, e),
+            paired(value, 19, f),
+            paired(value, 21, g),
+            paired(value, 23, h),
+        ];
     }
 
     /// What a word written to a length register asks for.

@@ -27,7 +27,7 @@ use Rattle.rsp_rows.specs.declared.vector.VectorLoadRow.{VectorLoadRow}
 use Rattle.rsp_rows.specs.declared.vector.VectorLoadRow.TheVariants.{Lbv, Lsv, Llv, Ldv, Lqv, Lrv, Lpv, Luv, Lhv, Lfv, Ltv}
 use Rattle.rsp_rows.specs.declared.vector.VectorStoreRow.{VectorStoreRow}
 use Rattle.rsp_rows.specs.declared.vector.VectorStoreRow.TheVariants.{Sbv, Ssv, Slv, Sdv, Sqv, Srv, Spv, Suv, Shv, Sfv, Swv, Stv}
-use Rattle.rsp_decode.specs.Table.Operands.{Operand, scalar, control_register, vector_byte, vector_half, vector_element, vector_lane, vector_memory, vector_operands}
+use Rattle.rsp_decode.specs.Table.Operands.{Operand, scalar, control_register, vector_byte, all_bytes, half_bytes, vector_element, vector_lane, vector_memory, vector_operands}
 use Rattle.rsp_decode.specs.Table.Rows.{Row, row, Selector, cop2, computing, lwc2, lwc2_half, swc2, swc2_half, none, two, three, four, of_vectors, of_vector_memory}
 
 -- the control register of a number, where 3 is read as 2
@@ -47,7 +47,7 @@ move_vector_selector To = cop2 4 (codes "mtc2")
 
 -- mfc2 $t, $vN[e]
 abbrev pub move_vector_row : MoveRow → Row
-move_vector_row r = row (move_vector_selector r) (scalar 16 ∷ vector_byte 11 ∷ []) (three (MoveVector r))
+move_vector_row r = row (move_vector_selector r) (scalar 16 ∷ vector_byte 11 all_bytes ∷ []) (three (MoveVector r))
 
 -- what selects the moves from and to the control registers
 abbrev pub move_control_selector : MoveRow → Selector
@@ -202,8 +202,8 @@ vector_load_scale Ltv = 16
 
 -- the register, and the byte of it at which the transfer begins
 abbrev pub vector_load_operand : VectorLoadRow → Operand
-vector_load_operand Lfv = vector_half
-vector_load_operand _ = vector_byte 16
+vector_load_operand Lfv = vector_byte 16 half_bytes
+vector_load_operand _ = vector_byte 16 all_bytes
 
 -- lqv $vT[e], offset($base)
 abbrev pub vector_load_row : VectorLoadRow → Row
@@ -241,8 +241,8 @@ vector_store_scale Stv = 16
 
 -- the register, and the byte of it at which the transfer begins
 abbrev pub vector_store_operand : VectorStoreRow → Operand
-vector_store_operand Sfv = vector_half
-vector_store_operand _ = vector_byte 16
+vector_store_operand Sfv = vector_byte 16 half_bytes
+vector_store_operand _ = vector_byte 16 all_bytes
 
 -- sqv $vT[e], offset($base)
 abbrev pub vector_store_row : VectorStoreRow → Row

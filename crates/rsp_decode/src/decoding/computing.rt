@@ -7,6 +7,7 @@ ghost use Rattle.rsp_decode.specs.Visit.{is_known, visited};
 ghost use Rattle.rsp_decode.specs.Table.{value_at, whole, pick, meaning_of, computing_rows, multiply_row, round_row, mpeg_row, read_accumulator_row, vector_add_row, vector_select_row, vector_clip_row, vector_merge_row, vector_logic_row, divide_row, idle_row};
 
 use crate::fields::{element, function, lane, vd, vector_fields, vt};
+use crate::inst::Inst;
 use crate::rows::{arms, instruction_table};
 use crate::visitor::Visitor;
 use rsp_rows::{
@@ -14,102 +15,133 @@ use rsp_rows::{
     VectorLogicRow, VectorSelectRow,
 };
 
-#[inline(always)]
+#[inline]
 fn multiply<V: Visitor>(word: u32, row: MultiplyRow, visitor: &mut V) -> bool
     ensures known { result ≡ true }
     ensures state { visitor.new ≡ V.after (meaning_of (multiply_row row) word) visitor.old }
 {
-    visitor.multiply(row, vector_fields(word));
+    visitor.take(Inst::Multiply {
+        row,
+        fields: vector_fields(word),
+    });
     true
 }
 
-#[inline(always)]
+#[inline]
 fn round<V: Visitor>(word: u32, row: RoundRow, visitor: &mut V) -> bool
     ensures known { result ≡ true }
     ensures state { visitor.new ≡ V.after (meaning_of (round_row row) word) visitor.old }
 {
-    visitor.round(row, vector_fields(word));
+    visitor.take(Inst::Round {
+        row,
+        fields: vector_fields(word),
+    });
     true
 }
 
-#[inline(always)]
+#[inline]
 fn mpeg_multiply<V: Visitor>(word: u32, row: MpegRow, visitor: &mut V) -> bool
     ensures known { result ≡ true }
     ensures state { visitor.new ≡ V.after (meaning_of (mpeg_row row) word) visitor.old }
 {
-    visitor.mpeg_multiply(row, vector_fields(word));
+    visitor.take(Inst::MpegMultiply {
+        row,
+        fields: vector_fields(word),
+    });
     true
 }
 
-#[inline(always)]
+#[inline]
 fn read_accumulator<V: Visitor>(word: u32, visitor: &mut V) -> bool
     ensures known { result ≡ true }
     ensures state { visitor.new ≡ V.after (meaning_of read_accumulator_row word) visitor.old }
 {
-    visitor.read_accumulator(vector_fields(word));
+    visitor.take(Inst::ReadAccumulator {
+        fields: vector_fields(word),
+    });
     true
 }
 
-#[inline(always)]
+#[inline]
 fn vector_add<V: Visitor>(word: u32, row: VectorAddRow, visitor: &mut V) -> bool
     ensures known { result ≡ true }
     ensures state { visitor.new ≡ V.after (meaning_of (vector_add_row row) word) visitor.old }
 {
-    visitor.vector_add(row, vector_fields(word));
+    visitor.take(Inst::VectorAdd {
+        row,
+        fields: vector_fields(word),
+    });
     true
 }
 
-#[inline(always)]
+#[inline]
 fn vector_select<V: Visitor>(word: u32, row: VectorSelectRow, visitor: &mut V) -> bool
     ensures known { result ≡ true }
     ensures state { visitor.new ≡ V.after (meaning_of (vector_select_row row) word) visitor.old }
 {
-    visitor.vector_select(row, vector_fields(word));
+    visitor.take(Inst::VectorSelect {
+        row,
+        fields: vector_fields(word),
+    });
     true
 }
 
-#[inline(always)]
+#[inline]
 fn vector_clip<V: Visitor>(word: u32, row: VectorClipRow, visitor: &mut V) -> bool
     ensures known { result ≡ true }
     ensures state { visitor.new ≡ V.after (meaning_of (vector_clip_row row) word) visitor.old }
 {
-    visitor.vector_clip(row, vector_fields(word));
+    visitor.take(Inst::VectorClip {
+        row,
+        fields: vector_fields(word),
+    });
     true
 }
 
-#[inline(always)]
+#[inline]
 fn vector_merge<V: Visitor>(word: u32, visitor: &mut V) -> bool
     ensures known { result ≡ true }
     ensures state { visitor.new ≡ V.after (meaning_of vector_merge_row word) visitor.old }
 {
-    visitor.vector_merge(vector_fields(word));
+    visitor.take(Inst::VectorMerge {
+        fields: vector_fields(word),
+    });
     true
 }
 
-#[inline(always)]
+#[inline]
 fn vector_logic<V: Visitor>(word: u32, row: VectorLogicRow, visitor: &mut V) -> bool
     ensures known { result ≡ true }
     ensures state { visitor.new ≡ V.after (meaning_of (vector_logic_row row) word) visitor.old }
 {
-    visitor.vector_logic(row, vector_fields(word));
+    visitor.take(Inst::VectorLogic {
+        row,
+        fields: vector_fields(word),
+    });
     true
 }
 
-#[inline(always)]
+#[inline]
 fn divide<V: Visitor>(word: u32, row: DivideRow, visitor: &mut V) -> bool
     ensures known { result ≡ true }
     ensures state { visitor.new ≡ V.after (meaning_of (divide_row row) word) visitor.old }
 {
-    visitor.divide(row, vd(word), lane(word), vt(word), element(word));
+    visitor.take(Inst::Divide {
+        row,
+        vd: vd(word),
+        lane: lane(word),
+        vt: vt(word),
+        element: element(word),
+    });
     true
 }
 
-#[inline(always)]
+#[inline]
 fn idle<V: Visitor>(word: u32, row: IdleRow, visitor: &mut V) -> bool
     ensures known { result ≡ true }
     ensures state { visitor.new ≡ V.after (meaning_of (idle_row row) word) visitor.old }
 {
-    visitor.idle(row);
+    visitor.take(Inst::Idle { row });
     true
 }
 

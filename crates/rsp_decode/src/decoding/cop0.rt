@@ -5,16 +5,21 @@ ghost use Rattle.rsp_decode.specs.Visit.{is_known, visited};
 ghost use Rattle.rsp_decode.specs.Table.{value_at, whole, pick, meaning_of, cop0_rows, move_sp_row};
 
 use crate::fields::{rs, rt, sp_register};
+use crate::inst::Inst;
 use crate::rows::{arms, instruction_table};
 use crate::visitor::Visitor;
 use rsp_rows::MoveRow;
 
-#[inline(always)]
+#[inline]
 fn move_sp<V: Visitor>(word: u32, row: MoveRow, visitor: &mut V) -> bool
     ensures known { result ≡ true }
     ensures state { visitor.new ≡ V.after (meaning_of (move_sp_row row) word) visitor.old }
 {
-    visitor.move_sp(row, rt(word), sp_register(word));
+    visitor.take(Inst::MoveSp {
+        row,
+        rt: rt(word),
+        register: sp_register(word),
+    });
     true
 }
 

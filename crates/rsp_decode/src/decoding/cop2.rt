@@ -6,25 +6,35 @@ ghost use Rattle.rsp_decode.specs.Visit.{is_known, visited};
 ghost use Rattle.rsp_decode.specs.Table.{value_at, whole, pick, meaning_of, cop2_rows, move_vector_row, move_control_row};
 
 use crate::fields::{byte_element, control, rd, rs, rt};
+use crate::inst::Inst;
 use crate::rows::{arms, instruction_table};
 use crate::visitor::Visitor;
 use rsp_rows::MoveRow;
 
-#[inline(always)]
+#[inline]
 fn move_vector<V: Visitor>(word: u32, row: MoveRow, visitor: &mut V) -> bool
     ensures known { result ≡ true }
     ensures state { visitor.new ≡ V.after (meaning_of (move_vector_row row) word) visitor.old }
 {
-    visitor.move_vector(row, rt(word), rd(word), byte_element(word));
+    visitor.take(Inst::MoveVector {
+        row,
+        rt: rt(word),
+        vector: rd(word),
+        element: byte_element(word),
+    });
     true
 }
 
-#[inline(always)]
+#[inline]
 fn move_control<V: Visitor>(word: u32, row: MoveRow, visitor: &mut V) -> bool
     ensures known { result ≡ true }
     ensures state { visitor.new ≡ V.after (meaning_of (move_control_row row) word) visitor.old }
 {
-    visitor.move_control(row, rt(word), control(word));
+    visitor.take(Inst::MoveControl {
+        row,
+        rt: rt(word),
+        control: control(word),
+    });
     true
 }
 

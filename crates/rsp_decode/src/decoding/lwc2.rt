@@ -7,17 +7,21 @@ ghost use Rattle.rsp_decode.specs.Visit.{is_known, visited};
 ghost use Rattle.rsp_decode.specs.Table.{IsInstruction, pick_by_operation, vector_memory_in, lwc2_rows};
 
 use crate::fields::{half, operation, vector_memory_fields};
+use crate::inst::Inst;
 use crate::rows::{arms, instruction_table};
 use crate::visitor::Visitor;
 use rsp_rows::VectorLoadRow;
 
-#[inline(always)]
+#[inline]
 fn vector_load<V: Visitor>(word: u32, row: VectorLoadRow, visitor: &mut V) -> bool
     requires { IsInstruction (Inst.VectorLoad row (vector_memory_in word)) }
     ensures known { result ≡ true }
     ensures state { visitor.new ≡ V.after (Inst.VectorLoad row (vector_memory_in word)) visitor.old }
 {
-    visitor.vector_load(row, vector_memory_fields(word));
+    visitor.take(Inst::VectorLoad {
+        row,
+        fields: vector_memory_fields(word),
+    });
     true
 }
 

@@ -7,61 +7,84 @@ ghost use Rattle.rsp_decode.specs.Table.{value_at, whole, pick, meaning_of, opco
 
 use crate::decoding::regimm::branch_sign;
 use crate::fields::{immediate, opcode, rs, rt, scalar_memory_fields, target};
+use crate::inst::Inst;
 use crate::rows::{arms, instruction_table};
 use crate::visitor::Visitor;
 use rsp_rows::{EqualRow, ImmediateRow, JumpRow, LoadRow, SignRow, StoreRow};
 
-#[inline(always)]
+#[inline]
 fn branch_equal<V: Visitor>(word: u32, row: EqualRow, visitor: &mut V) -> bool
     ensures known { result ≡ true }
     ensures state { visitor.new ≡ V.after (meaning_of (branch_equal_row row) word) visitor.old }
 {
-    visitor.branch_equal(row, rs(word), rt(word), immediate(word));
+    visitor.take(Inst::BranchEqual {
+        row,
+        rs: rs(word),
+        rt: rt(word),
+        offset: immediate(word),
+    });
     true
 }
 
-#[inline(always)]
+#[inline]
 fn jump<V: Visitor>(word: u32, row: JumpRow, visitor: &mut V) -> bool
     ensures known { result ≡ true }
     ensures state { visitor.new ≡ V.after (meaning_of (jump_row row) word) visitor.old }
 {
-    visitor.jump(row, target(word));
+    visitor.take(Inst::Jump {
+        row,
+        target: target(word),
+    });
     true
 }
 
-#[inline(always)]
+#[inline]
 fn with_immediate<V: Visitor>(word: u32, row: ImmediateRow, visitor: &mut V) -> bool
     ensures known { result ≡ true }
     ensures state { visitor.new ≡ V.after (Inst.Immediate row (value_at word (whole 16 5)) (value_at word (whole 21 5)) (value_at word (whole 0 16))) visitor.old }
 {
-    visitor.immediate(row, rt(word), rs(word), immediate(word));
+    visitor.take(Inst::Immediate {
+        row,
+        rt: rt(word),
+        rs: rs(word),
+        imm: immediate(word),
+    });
     true
 }
 
-#[inline(always)]
+#[inline]
 fn load_upper<V: Visitor>(word: u32, visitor: &mut V) -> bool
     ensures known { result ≡ true }
     ensures state { visitor.new ≡ V.after (meaning_of load_upper_row word) visitor.old }
 {
-    visitor.load_upper(rt(word), immediate(word));
+    visitor.take(Inst::LoadUpper {
+        rt: rt(word),
+        imm: immediate(word),
+    });
     true
 }
 
-#[inline(always)]
+#[inline]
 fn load<V: Visitor>(word: u32, row: LoadRow, visitor: &mut V) -> bool
     ensures known { result ≡ true }
     ensures state { visitor.new ≡ V.after (meaning_of (load_row row) word) visitor.old }
 {
-    visitor.load(row, scalar_memory_fields(word));
+    visitor.take(Inst::Load {
+        row,
+        fields: scalar_memory_fields(word),
+    });
     true
 }
 
-#[inline(always)]
+#[inline]
 fn store<V: Visitor>(word: u32, row: StoreRow, visitor: &mut V) -> bool
     ensures known { result ≡ true }
     ensures state { visitor.new ≡ V.after (meaning_of (store_row row) word) visitor.old }
 {
-    visitor.store(row, scalar_memory_fields(word));
+    visitor.take(Inst::Store {
+        row,
+        fields: scalar_memory_fields(word),
+    });
     true
 }
 

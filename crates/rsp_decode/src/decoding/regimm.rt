@@ -5,16 +5,21 @@ ghost use Rattle.rsp_decode.specs.Visit.{is_known, visited};
 ghost use Rattle.rsp_decode.specs.Table.{value_at, whole, pick, meaning_of, regimm_rows, branch_sign_row};
 
 use crate::fields::{immediate, rs, rt};
+use crate::inst::Inst;
 use crate::rows::{arms, instruction_table};
 use crate::visitor::Visitor;
 use rsp_rows::SignRow;
 
-#[inline(always)]
+#[inline]
 pub fn branch_sign<V: Visitor>(word: u32, row: SignRow, visitor: &mut V) -> bool
     ensures known { result ≡ true }
     ensures state { visitor.new ≡ V.after (meaning_of (branch_sign_row row) word) visitor.old }
 {
-    visitor.branch_sign(row, rs(word), immediate(word));
+    visitor.take(Inst::BranchSign {
+        row,
+        rs: rs(word),
+        offset: immediate(word),
+    });
     true
 }
 

@@ -5,61 +5,76 @@ ghost use Rattle.rsp_decode.specs.Visit.{is_known, visited};
 ghost use Rattle.rsp_decode.specs.Table.{value_at, whole, pick, meaning_of, special_rows, shift_row, shift_by_row, jump_register_row, jump_link_register_row, register_row, break_row};
 
 use crate::fields::{function, rd, register_fields, rs, rt, shift_amount};
+use crate::inst::Inst;
 use crate::rows::{arms, instruction_table};
 use crate::visitor::Visitor;
 use rsp_rows::{RegisterRow, ShiftByRow, ShiftRow};
 
-#[inline(always)]
+#[inline]
 fn shift<V: Visitor>(word: u32, row: ShiftRow, visitor: &mut V) -> bool
     ensures known { result ≡ true }
     ensures state { visitor.new ≡ V.after (meaning_of (shift_row row) word) visitor.old }
 {
-    visitor.shift(row, rd(word), rt(word), shift_amount(word));
+    visitor.take(Inst::Shift {
+        row,
+        rd: rd(word),
+        rt: rt(word),
+        amount: shift_amount(word),
+    });
     true
 }
 
-#[inline(always)]
+#[inline]
 fn shift_by<V: Visitor>(word: u32, row: ShiftByRow, visitor: &mut V) -> bool
     ensures known { result ≡ true }
     ensures state { visitor.new ≡ V.after (meaning_of (shift_by_row row) word) visitor.old }
 {
-    visitor.shift_by(row, register_fields(word));
+    visitor.take(Inst::ShiftBy {
+        row,
+        fields: register_fields(word),
+    });
     true
 }
 
-#[inline(always)]
+#[inline]
 fn jump_register<V: Visitor>(word: u32, visitor: &mut V) -> bool
     ensures known { result ≡ true }
     ensures state { visitor.new ≡ V.after (meaning_of jump_register_row word) visitor.old }
 {
-    visitor.jump_register(rs(word));
+    visitor.take(Inst::JumpRegister { rs: rs(word) });
     true
 }
 
-#[inline(always)]
+#[inline]
 fn jump_link_register<V: Visitor>(word: u32, visitor: &mut V) -> bool
     ensures known { result ≡ true }
     ensures state { visitor.new ≡ V.after (meaning_of jump_link_register_row word) visitor.old }
 {
-    visitor.jump_link_register(rd(word), rs(word));
+    visitor.take(Inst::JumpLinkRegister {
+        rd: rd(word),
+        rs: rs(word),
+    });
     true
 }
 
-#[inline(always)]
+#[inline]
 fn register<V: Visitor>(word: u32, row: RegisterRow, visitor: &mut V) -> bool
     ensures known { result ≡ true }
     ensures state { visitor.new ≡ V.after (meaning_of (register_row row) word) visitor.old }
 {
-    visitor.register(row, register_fields(word));
+    visitor.take(Inst::Register {
+        row,
+        fields: register_fields(word),
+    });
     true
 }
 
-#[inline(always)]
+#[inline]
 fn break_instruction<V: Visitor>(word: u32, visitor: &mut V) -> bool
     ensures known { result ≡ true }
     ensures state { visitor.new ≡ V.after (meaning_of break_row word) visitor.old }
 {
-    visitor.break_instruction();
+    visitor.take(Inst::Break);
     true
 }
 

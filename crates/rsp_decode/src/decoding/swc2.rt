@@ -7,17 +7,21 @@ ghost use Rattle.rsp_decode.specs.Visit.{is_known, visited};
 ghost use Rattle.rsp_decode.specs.Table.{IsInstruction, pick_by_operation, vector_memory_in, swc2_rows};
 
 use crate::fields::{half, operation, vector_memory_fields};
+use crate::inst::Inst;
 use crate::rows::{arms, instruction_table};
 use crate::visitor::Visitor;
 use rsp_rows::VectorStoreRow;
 
-#[inline(always)]
+#[inline]
 fn vector_store<V: Visitor>(word: u32, row: VectorStoreRow, visitor: &mut V) -> bool
     requires { IsInstruction (Inst.VectorStore row (vector_memory_in word)) }
     ensures known { result ≡ true }
     ensures state { visitor.new ≡ V.after (Inst.VectorStore row (vector_memory_in word)) visitor.old }
 {
-    visitor.vector_store(row, vector_memory_fields(word));
+    visitor.take(Inst::VectorStore {
+        row,
+        fields: vector_memory_fields(word),
+    });
     true
 }
 

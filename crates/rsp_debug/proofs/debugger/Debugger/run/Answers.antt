@@ -1,6 +1,6 @@
 use Rattle.std.proofs.Common.{◌∙◌, ap}
 use Rattle.rsp_machine.specs.Laws.{steps_of}
-use Rattle.rsp_debug.specs.Ring.{states_before}
+use Rattle.rsp_debug.specs.History.{states_before}
 use Rattle.rsp_debug.specs.Debugging.{Debugging, stop_in, ran}
 use Rattle.rsp_debug.proofs.Ends.{stop-is, ran-is}
 use Rattle.rsp_debug.proofs.debugger.Debugger.run.Goals as goal
@@ -14,5 +14,5 @@ returns-clause-reached g c = c.run.ensures.stop.reached ∙ ap (λ (d : Debuggin
 pub returns-clause-next : goal.returns-clause-next
 returns-clause-next g c =
     let i = c.self.inside in
-    let d : Debugging = record { state = i.machine; breaks = i.breaks; watches = i.watches; past = states_before i.machine i.past.newest; depth = i.past.depth } in
+    let d : Debugging = record { state = i.machine; breaks = i.breaks; watches = i.watches; past = states_before i.machine i.history.newest; depth = i.history.depth } in
     ran-is d c.args.n _ _ _ _ c.run.ensures.stop c.run.ensures.past c.run.ensures.depth ∙ ap (λ (x : Debugging). ran c.args.n x) c.self.view_is

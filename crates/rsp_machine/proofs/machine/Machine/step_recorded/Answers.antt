@@ -1,19 +1,50 @@
-use Rattle.std.proofs.Common.{rules, ◌∙◌, ap, sym}
-use Rattle.rsp_machine.specs.State.{State}
+use Rattle.std.proofs.Common.{◌≡◌, ◌∙◌, ◌<◌, ap, sym, subst, arith, Option}
+use Rattle.std.specs.Prelude.{IfSome}
+use Rattle.rsp_machine.specs.Saved.{Saved, undone}
 use Rattle.rsp_machine.specs.Transfers.{starts_dma_at}
-use Rattle.rsp_machine.proofs.Ending.{step_halted, undo-is, no-record-halted}
+use Rattle.rsp_machine.specs.State.{State}
+use Rattle.rsp_machine.specs.Step.{step_of}
+use Rattle.rsp_machine.proofs.Recording.{recorded-none, recorded-one, which-some, which-none, one-marked, one-back}
+use Rattle.rsp_machine.proofs.machine.Machine.step_recorded.Goals.{then-leads_back, else-leads_back}
 use Rattle.rsp_machine.proofs.machine.Machine.step_recorded.Goals as goal
 
-pub returns-then-halted-clause-answer : goal.returns-then-halted-clause-answer
-returns-then-halted-clause-answer g c =
-    ap (λ x. x.0) (sym (step_halted c.args.self.now (ap (λ (x : State). x.sp.halted) (sym c.self.view_is) ∙ sym c.if-halted.ensures)))
+pub returns-then-steps_recorded-eq0-clause-answer : goal.returns-then-steps_recorded-eq0-clause-answer
+returns-then-steps_recorded-eq0-clause-answer g c =
+    let none = recorded-none c.steps_recorded.result c.args.self.now c.steps_recorded.new.self c.if-steps_recorded-eq0.true c.steps_recorded.ensures.state in
+    c.step.ensures.answer ∙ ap (λ (x : State). (step_of x).0) none
 
-pub returns-then-halted-clause-state : goal.returns-then-halted-clause-state
-returns-then-halted-clause-state g c =
-    ap (λ x. x.1) (sym (step_halted c.args.self.now (ap (λ (x : State). x.sp.halted) (sym c.self.view_is) ∙ sym c.if-halted.ensures)))
+pub returns-then-steps_recorded-eq0-clause-state : goal.returns-then-steps_recorded-eq0-clause-state
+returns-then-steps_recorded-eq0-clause-state g c =
+    let none = recorded-none c.steps_recorded.result c.args.self.now c.steps_recorded.new.self c.if-steps_recorded-eq0.true c.steps_recorded.ensures.state in
+    c.step.ensures.state ∙ ap (λ (x : State). (step_of x).1) none
 
-pub returns-then-halted-clause-which : goal.returns-then-halted-clause-which
-returns-then-halted-clause-which g c = no-record-halted (starts_dma_at c.args.self.now)
+pub returns-clause-answer : goal.returns-clause-answer
+returns-clause-answer g c =
+    let e = c.steps_recorded.ensures in
+    (recorded-one c.steps_recorded.result c.args.self.now c.steps_recorded.new.self (omega (arith, e.within, c.if-steps_recorded-eq0.false)) e.done e.state).0
+
+pub returns-clause-state : goal.returns-clause-state
+returns-clause-state g c =
+    let e = c.steps_recorded.ensures in
+    (recorded-one c.steps_recorded.result c.args.self.now c.steps_recorded.new.self (omega (arith, e.within, c.if-steps_recorded-eq0.false)) e.done e.state).1
 
 pub returns-clause-which : goal.returns-clause-which
-returns-clause-which g c = undo-is c.args.self.now c.record_step-recorded.result.end _ c.record_step-recorded.ensures.answer (search rules)
+returns-clause-which g c =
+    let e = c.steps_recorded.ensures in let s = c.args.self.now in let rs = c.steps_recorded.new.records in let d = c.new-record.result in
+    let marked = one-marked s rs d c.new-record.ensures (e.which 0 (omega (arith, c.if-steps_recorded-eq0.false))) in
+    elim c.if-leads_back.branch [
+      | then-leads_back w ↦ which-some c.if-leads_back.record _ (starts_dma_at s) _ w.record-is marked (sym c.leads_back.ensures ∙ w.if-leads_back.true)
+      | else-leads_back w ↦ which-none c.if-leads_back.record (starts_dma_at s) _ w.record-is marked (sym c.leads_back.ensures ∙ w.if-leads_back.false)
+    ]
+
+pub returns-clause-back : goal.returns-clause-back
+returns-clause-back g c =
+    let e = c.steps_recorded.ensures in let s = c.args.self.now in let t = c.steps_recorded.new.self in let rs = c.steps_recorded.new.records in let d = c.new-record.result in
+    let some : 0 < c.steps_recorded.result = omega (arith, c.if-steps_recorded-eq0.false) in
+    let marked = one-marked s rs d c.new-record.ensures (e.which 0 some) in
+    elim c.if-leads_back.branch [
+      | then-leads_back w ↦
+          subst (λ (o : Option Saved). IfSome o (λ r. undone r t ≡ s)) (sym w.record-is)
+          (one-back c.steps_recorded.result s t rs d (omega (arith, e.within, some)) c.new-record.ensures e.state marked (sym c.leads_back.ensures ∙ w.if-leads_back.true) (e.back 0 some))
+      | else-leads_back w ↦ subst (λ (o : Option Saved). IfSome o (λ r. undone r t ≡ s)) (sym w.record-is) tt
+    ]

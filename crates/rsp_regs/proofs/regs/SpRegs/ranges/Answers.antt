@@ -1,6 +1,6 @@
-use Rattle.std.proofs.Common.{refl, subst}
+use Rattle.std.proofs.Common.{subst}
 use Rattle.rsp_regs.specs.Sp.{IsSp}
 use Rattle.rsp_regs.proofs.regs.SpRegs.ranges.Goals as goal
 
 pub returns : goal.returns
-returns c = subst IsSp c.self.view_is (record { kept = c.self.invariant.0; signals = refl; dpc = c.self.told; words = c.below.ensures })
+returns c = subst IsSp c.self.view_is (record { kept = c.self.invariant.0; signals = c.self.told.0; dpc = c.self.told.1; words = c.below.ensures })

@@ -1,0 +1,100 @@
+// The records of the last steps, which undo them.
+
+ghost use Rattle.std.specs.Prelude.{◌≡◌, ◌<◌, ◌≤◌, [], length, drop, slice_get, option_copied, IfOk};
+ghost use Rattle.rsp_debug.specs.History.{previous_slot};
+
+use circular_buffer::HeapCircularBuffer;
+use rsp_machine::Record;
+use std::alloc::{AllocError, Global};
+use std::marker::Model;
+
+/// The records of the last steps, in a ring whose entries are all taken at the start and written in place, in the order of the
+/// steps. Contracts see the records, the newest first, and how many there may be.
+#[derive(Drop)]
+pub struct History {
+    pub(crate) slots: HeapCircularBuffer<Record>,
+    /// The entry after the newest record. The older ones are before it, round the ring's start.
+    pub(crate) next: usize,
+    /// How many records there are.
+    pub(crate) count: usize,
+}
+
+impl Model for History {
+    ghost use Rattle.std.specs.Prelude.{length};
+    ghost use Rattle.rsp_debug.specs.History.{Records, before_slot, IsWithin};
+
+    ghost Value = { Records };
+
+    ghost view = { λ h. record {
+      newest = before_slot h.next h.count h.slots.items;
+      depth = length h.slots.items;
+    } };
+
+    ghost invariant = { λ h. IsWithin h.next h.count h.slots.items };
+}
+
+/// The entry before an entry of a ring.
+fn previous_slot(n: usize, i: usize) -> usize
+    requires { 0 < n }
+    ensures { result ≡ previous_slot n i }
+{
+    if i == 0 { n - 1 } else { i - 1 }
+}
+
+impl History {
+    /// A history without records, which keeps so many.
+    pub fn try_new(alloc: Global, depth: usize) -> Result<History, AllocError>
+        ensures { IfOk result (λ h. h ≡ record { newest = []; depth = depth }) }
+    {
+        let mut slots = HeapCircularBuffer::with_capacity(alloc, depth)?;
+        for _ in 0..depth {
+            let _ = slots.push_back(Record::new());
+        }
+        Ok(History {
+            slots,
+            next: 0,
+            count: 0,
+        })
+    }
+
+    /// How many records there may be.
+    pub fn depth(&self) -> usize
+        ensures { result ≡ self.now.depth }
+    {
+        self.slots.len()
+    }
+
+    /// How many records there are.
+    pub fn len(&self) -> usize
+        ensures len { result ≡ length self.now.newest }
+        ensures within { result ≤ self.now.depth }
+    {
+        self.count
+    }
+
+    /// Forgets all records.
+    pub fn clear(&mut self)
+        ensures { self.new ≡ record self.old { newest = [] } }
+    {
+        self.count = 0;
+    }
+
+    /// The newest record.
+    #[tactic(auto, using(crate::proofs::Turns::turns))]
+    pub fn newest(&self) -> Option<&Record>
+        requires { 0 < length self.now.newest }
+        ensures { option_copied result ≡ slice_get self.now.newest 0 }
+    {
+        self.slots.get(previous_slot(self.slots.len(), self.next))
+    }
+
+    /// Forgets the newest record.
+    #[tactic(auto, using(crate::proofs::Turns::turns))]
+    pub fn drop_newest(&mut self)
+        requires { 0 < length self.old.newest }
+        ensures { self.new ≡ record self.old { newest = drop 1 self.old.newest } }
+    {
+        self.next = previous_slot(self.slots.len(), self.next);
+        self.count -= 1;
+    }
+}

@@ -1,0 +1,156 @@
+-- What the records of made steps lead back to.
+use Rattle.std.proofs.Common.{◌≡◌, ◌⊎◌, inl, inr, ℕ, zero, suc, ◌+◌, ◌-◌, ◌<◌, ◌≤◌, Bool, true, false, not, List, [], ◌∷◌, length, drop, get_or, refl, sym, ap, ◌∙◌, arith, add-one, Option, Some, None}
+use Rattle.std.specs.Prelude.{slice_get, option_map, IsSome, is_some}
+use Rattle.std.proofs.lemmas.Bool.{cases_lt}
+use Rattle.std.proofs.lemmas.Option.{get_or_from_slice_get}
+use Rattle.rsp_machine.specs.State.{State}
+use Rattle.rsp_machine.specs.Step.{step_of}
+use Rattle.rsp_machine.specs.Laws.{steps_of, done_steps, done_of}
+use Rattle.rsp_machine.specs.Saved.{Saved, blank, change_saved, told_of, record_after, record_at, can_undo, is_back, may_store, undone}
+use Rattle.rsp_machine.specs.Transfers.{starts_dma_at}
+use Rattle.rsp_machine.specs.Making.{IsTold, GoesOn, AreTold, IsEnd}
+use Rattle.rsp_machine.specs.declared.step.StepEnd.{StepEnd}
+use Rattle.rsp_machine.specs.declared.step.StepEnd.TheVariants.{Done, Halted, Reserved}
+use Rattle.rsp_machine.proofs.Saving.{done_marked}
+use Rattle.rsp_machine.proofs.Ending.{undo-done, back, memory}
+
+-- the steps behind each other
+pub steps-more : (i : ℕ) (s : State) → steps_of (i + 1) s ≡ (step_of (steps_of i s)).1
+unfolding steps_of
+steps-more i s = rw add-one refl
+
+-- where all are Done, each is
+few : (e : StepEnd) → done_steps e ≤ 1
+few Done = omega arith
+few Halted = omega arith
+few (Reserved w) = omega arith
+
+was_done : (e : StepEnd) → done_steps e ≡ 1 → e ≡ Done
+was_done Done d = refl
+was_done Halted d = absurd (omega (arith, d))
+was_done (Reserved w) d = absurd (omega (arith, d))
+
+done_within : (n : ℕ) (s : State) → done_of n s ≤ n
+unfolding done_of
+done_within zero s = omega arith
+done_within (suc n) s = omega (arith, done_within n s, few (step_of (steps_of n s)).0)
+
+pub done-each : (k : ℕ) (s : State) → done_of k s ≡ k → (i : ℕ) → i < k → (step_of (steps_of i s)).0 ≡ Done
+unfolding done_of
+done-each zero s d i h = absurd (omega (arith, h))
+done-each (suc k) s d i h =
+    let bound = done_within k s in let one = few (step_of (steps_of k s)).0 in
+    elim (cases_lt i k) [
+      | inl l ↦ done-each k s (omega (arith, d, bound, one)) i l
+      | inr r ↦
+          let last : i ≡ k = omega (arith, r, h) in
+          ap (λ j. (step_of (steps_of j s)).0) last ∙ was_done (step_of (steps_of k s)).0 (omega (arith, d, bound, one))
+    ]
+
+-- the records of k steps from s; only the last may start a DMA
+abbrev pub AreRecorded : ℕ → State → List Saved → List Saved → Type 0
+AreRecorded k s old new = AreTold change_saved (λ r. is_back r.change) (λ n. n) k (k - 1) s old new
+
+record_is : (s : State) (rs : List Saved) (i : ℕ) (h : IsTold change_saved s (slice_get rs i)) → record_at rs i ≡ record_after s h.before
+unfolding record_after
+record_is s rs i h = get_or_from_slice_get rs i (told_of change_saved s h.before) blank h.told
+
+each : (i j : ℕ) → i ≡ j → i ≡ j
+each i j e = e
+
+not_back : (b d : Bool) → b ≡ not d → not b ≡ d
+not_back b true e = ap not e
+not_back b false e = ap not e
+
+module _ (k : ℕ) (s : State) (old new : List Saved) (a : AreRecorded k s old new) (done : done_of k s ≡ k) where
+  marked : (i : ℕ) → i < k → can_undo (steps_of i s) ≡ is_back (record_at new i).change
+  marked i h =
+      let told = a.told each i h in
+      done_marked (steps_of i s) told.before (done-each k s done i h) ∙ ap (λ r. is_back r.change) (sym (record_is (steps_of i s) new i told))
+
+  pub recorded-which : (i : ℕ) → i < k → is_back (record_at new i).change ≡ not (starts_dma_at (steps_of i s))
+  recorded-which i h = sym (marked i h) ∙ undo-done (steps_of i s) (done-each k s done i h)
+
+  pub recorded-back : (i : ℕ) → i < k → starts_dma_at (steps_of i s) ≡ false → undone (record_at new i) (steps_of (i + 1) s) ≡ steps_of i s
+  recorded-back i h none =
+      let told = a.told each i h in
+      back (steps_of i s) (steps_of (i + 1) s) told.before (record_at new i) told.ranged (record_is (steps_of i s) new i told) (steps-more i s)
+      (undo-done (steps_of i s) (done-each k s done i h) ∙ ap not none)
+
+  pub recorded-memory : (i : ℕ) → i < k → may_store (record_at new i) ≡ false → (steps_of (i + 1) s).dmem ≡ (steps_of i s).dmem
+  recorded-memory i h none =
+      let told = a.told each i h in
+      memory (steps_of i s) (steps_of (i + 1) s) told.before (record_at new i) (record_is (steps_of i s) new i told) (steps-more i s) (done-each k s done i h) none
+
+  -- steps go on only where no DMA started
+  marked_as : (i : ℕ) (b : Bool) → i < k → option_map (λ (r : Saved). is_back r.change) (slice_get new i) ≡ Some b → can_undo (steps_of i s) ≡ b
+  unfolding record_after
+  marked_as i b h goes =
+      let told = a.told each i h in
+      done_marked (steps_of i s) told.before (done-each k s done i h) ∙ some_is _ _ (sym (ap (option_map (λ (r : Saved). is_back r.change)) told.told) ∙ goes)
+    where
+      some_is : (x y : Bool) → Some x ≡ Some y → x ≡ y
+      some_is x y e = cc
+
+  goes_as : (i : ℕ) → i < k → GoesOn (λ (r : Saved). is_back r.change) (steps_of i s) (slice_get new i) → can_undo (steps_of i s) ≡ true
+  goes_as i h (inl e) = e
+  goes_as i h (inr e) = marked_as i true h e
+
+  transfer_as : (i : ℕ) (b : Bool) → i < k → can_undo (steps_of i s) ≡ b → starts_dma_at (steps_of i s) ≡ not b
+  transfer_as i b h e = sym (not_back b (starts_dma_at (steps_of i s)) (sym e ∙ undo-done (steps_of i s) (done-each k s done i h)))
+
+  pub recorded-before : (i : ℕ) → i + 1 < k → starts_dma_at (steps_of i s) ≡ false
+  recorded-before i h =
+      let inside : i < k = omega (arith, h) in
+      transfer_as i true inside (goes_as i inside (a.on each i (omega (arith, h))))
+
+  pub recorded-end : (t : State) → IsEnd (λ (r : Saved). is_back r.change) k t (slice_get new (k - 1)) → (done_steps (step_of t).0 ≡ 0) ⊎ ((0 < k) × (starts_dma_at (steps_of (k - 1) s) ≡ true))
+  recorded-end t (inl stuck) = inl stuck
+  recorded-end t (inr last) =
+      let some : 0 < k = last.0 in let inside : k - 1 < k = omega (arith, some) in
+      inr (some, transfer_as (k - 1) false inside (marked_as (k - 1) false inside last.1))
+
+-- the further records stay
+drop_as : {X : Type 0} (xs ys : List X) (n : ℕ) → length xs ≡ length ys → ((j : ℕ) → n ≤ j → slice_get xs j ≡ slice_get ys j) → drop n xs ≡ drop n ys
+drop_as [] [] n len same = refl
+drop_as [] (y ∷ ys) n len same = absurd (omega (arith, len))
+drop_as (x ∷ xs) [] n len same = absurd (omega (arith, len))
+drop_as (x ∷ xs) (y ∷ ys) zero len same =
+    let head : x ≡ y = some_is x y (same zero (omega arith)) in
+    let tail : drop 0 xs ≡ drop 0 ys = drop_as xs ys zero (omega (arith, len)) (λ j h. same (suc j) (omega arith)) in
+    ap (λ z. z ∷ xs) head ∙ ap (λ l. y ∷ l) tail
+  where
+    some_is : {X : Type 0} (x y : X) → Some x ≡ Some y → x ≡ y
+    some_is x y e = cc
+drop_as (x ∷ xs) (y ∷ ys) (suc n) len same = drop_as xs ys n (omega (arith, len)) (λ j h. same (suc j) (omega (arith, h)))
+
+pub recorded-rest : (k : ℕ) (s : State) (old new : List Saved) → AreRecorded k s old new → drop k new ≡ drop k old
+recorded-rest k s old new a = drop_as new old k a.len (λ j h. a.rest j (λ i l e. absurd (omega (arith, h, l, e))))
+
+-- one step
+pub recorded-none : (k : ℕ) (s t : State) → k ≡ 0 → t ≡ steps_of k s → t ≡ s
+unfolding steps_of
+recorded-none k s t e there = there ∙ ap (λ i. steps_of i s) e
+
+pub recorded-one : (k : ℕ) (s t : State) → k ≡ 1 → done_of k s ≡ k → t ≡ steps_of k s → (Done ≡ (step_of s).0) × (t ≡ (step_of s).1)
+unfolding steps_of
+recorded-one k s t e done there = (sym (done-each k s done 0 (omega (arith, e))), there ∙ ap (λ i. steps_of i s) e)
+
+-- and the record of it, where it leads back
+pub which-some : {X : Type 0} (o : Option X) (x : X) (dma b : Bool) → o ≡ Some x → b ≡ not dma → b ≡ true → (IsSome o → (Done ≡ Done) × (dma ≡ false)) × ((Done ≡ Done) × (dma ≡ false) → IsSome o)
+which-some o x dma b e m leads = (λ some. (refl, sym (not_back b dma m) ∙ ap not leads), λ p. ap is_some e)
+
+pub which-none : {X : Type 0} (o : Option X) (dma b : Bool) → o ≡ None → b ≡ not dma → b ≡ false → (IsSome o → (Done ≡ Done) × (dma ≡ false)) × ((Done ≡ Done) × (dma ≡ false) → IsSome o)
+which-none o dma b e m not_so =
+    let started : true ≡ dma = sym (ap not not_so) ∙ not_back b dma m in
+    (λ some. let no : false ≡ true = sym (ap is_some e) ∙ some in cc, λ p. let no : true ≡ false = started ∙ p.1 in cc)
+
+pub one-marked : (s : State) (rs : List Saved) (d : Saved) → d ≡ blank → is_back (record_at rs 0).change ≡ not (starts_dma_at (steps_of 0 s)) → is_back (get_or rs 0 d).change ≡ not (starts_dma_at s)
+unfolding steps_of
+one-marked s rs d e h = ap (λ (x : Saved). is_back (get_or rs 0 x).change) e ∙ h
+
+pub one-back : (k : ℕ) (s t : State) (rs : List Saved) (d : Saved) → k ≡ 1 → d ≡ blank → t ≡ steps_of k s → is_back (get_or rs 0 d).change ≡ not (starts_dma_at s) → is_back (get_or rs 0 d).change ≡ true
+    → (starts_dma_at (steps_of 0 s) ≡ false → undone (record_at rs 0) (steps_of (0 + 1) s) ≡ steps_of 0 s) → undone (get_or rs 0 d) t ≡ s
+unfolding steps_of
+one-back k s t rs d e b there m leads h =
+    ap (λ x. undone (get_or rs 0 x) t) b ∙ ap (undone (record_at rs 0)) (there ∙ ap (λ i. steps_of i s) e) ∙ h (sym (not_back _ (starts_dma_at s) m) ∙ ap not leads)

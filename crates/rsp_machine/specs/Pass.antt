@@ -1,0 +1,27 @@
+-- Going past a move of an SP register in place of executing it.
+use Rattle.std.specs.Prelude.{ℕ, Option, Some, Result, Ok, Err, if◌then◌else◌}
+use Rattle.rsp_decode.specs.declared.inst.Inst.{Inst}
+use Rattle.rsp_decode.specs.declared.inst.Inst.TheVariants.{MoveSp}
+use Rattle.rsp_rows.specs.declared.scalar.MoveRow.{MoveRow}
+use Rattle.rsp_rows.specs.declared.scalar.MoveRow.TheVariants.{From, To}
+use Rattle.rsp_decode.specs.Table.{inst_of}
+use Rattle.rsp_memory.specs.Memory.{word_at}
+use Rattle.rsp_scalar.specs.Registers.{with_register}
+use Rattle.rsp_machine.specs.State.{State, advanced}
+use Rattle.rsp_machine.specs.Step.{singled}
+use Rattle.rsp_machine.specs.declared.pass.PassFault.{PassFault}
+use Rattle.rsp_machine.specs.declared.pass.PassFault.TheVariants.{Halted, OtherWord}
+
+-- the state after a move that is gone past: register rt of an MFC0 becomes the value, and an MTC0 writes nothing
+abbrev pub passed : MoveRow → ℕ → ℕ → State → State
+passed From rt value s = singled (record (advanced s) { registers = with_register s.registers rt value })
+passed To rt value s = singled (advanced s)
+
+-- the same by the instruction at pc, which has to be such a move
+abbrev pub pass_by : Option Inst → ℕ → State → Result State PassFault
+pass_by (Some (MoveSp row rt n)) value s = Ok (passed row rt value s)
+pass_by _ value s = Err OtherWord
+
+-- what going past the word at pc comes to: a state, or why it can't be
+unfoldable pub pass_of : ℕ → State → Result State PassFault
+pass_of value s = if s.sp.halted then Err Halted else pass_by (inst_of (word_at s.imem s.pc)) value s

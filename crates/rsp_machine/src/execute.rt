@@ -1,0 +1,251 @@
+// What an instruction does.
+
+ghost use Rattle.std.specs.Prelude.{◌≡◌, ◌<◌, option_map, unwrap_or};
+ghost use Rattle.rsp_decode.specs.Table.{IsInstruction, inst_of};
+ghost use Rattle.rsp_rows.specs.declared.scalar.MoveRow.TheVariants as row;
+ghost use Rattle.rsp_scalar.specs.Flow.{following, linked};
+ghost use Rattle.rsp_machine.specs.Step.{computes, loads, stores, break_instruction, moves_sp, worked, executed};
+ghost use Rattle.rsp_machine.specs.Places.{at_places, places_of};
+ghost use Rattle.rsp_machine.specs.Saved.{change_of, told_by};
+ghost use Rattle.rsp_machine.specs.Changes.{IsChange, reaches_sp};
+
+use crate::change::{Change, change_of};
+use crate::machine::Machine;
+use crate::place::{Place, Places};
+use crate::saver::Saver;
+use rsp_acc::Acc;
+use rsp_compare::MergeOp;
+use rsp_decode::{Inst, MoveRow, Visitor, visit};
+use rsp_scalar::{alu, jump, load, store};
+
+/// A machine as the table's instructions reach it, and the saver that is told of them. It stands apart from the machine so
+/// that an embedder, who can step a machine, can't execute without fetch and without the halted test.
+#[derive(Drop)]
+struct Executor<'a, A: Acc, K: Saver> {
+    machine: &'a mut Machine<A>,
+    saver: &'a mut K,
+    /// The place of the instruction.
+    from: Place,
+    /// The places behind it. What `machine` has of places doesn't count.
+    places: Places,
+    /// Whether the instruction may have read or written the SP registers.
+    reaches_sp: bool,
+}
+
+impl<'a, A: Acc, K: Saver> Executor<'a, A, K> {
+    /// Tells the saver of a change, before it is made.
+    #[inline(always)]
+    fn save(&mut self, change: Change)
+        requires { IsChange change }
+        ensures { self.new ≡ record self.old { saver = record self.old.saver { now = K.saves change (at_places (record { pc = self.old.from; npc = self.old.places.pc }) self.old.machine.now) self.old.saver.now }; reaches_sp = reaches_sp change } }
+    {
+        let before = Places {
+            pc: self.from,
+            npc: self.places.pc,
+        };
+        self.saver.save(self.machine, before, change);
+        self.reaches_sp = change.reaches_sp();
+    }
+
+    /// The places behind the instruction.
+    #[inline(always)]
+    fn places(&self) -> Places
+        ensures { result ≡ self.now.places }
+    {
+        self.places
+    }
+}
+
+impl<A: Acc> Machine<A> {
+    /// A scalar row that computes.
+    #[inline(always)]
+    #[tactic(auto, unfolding(crate::specs::Step::computes))]
+    fn compute(&mut self, inst: &Inst)
+        requires { IsInstruction inst.now }
+        ensures { self.new ≡ computes inst.now self.old }
+    {
+        alu(inst, &mut self.regs);
+    }
+
+    /// A scalar load.
+    #[inline(always)]
+    #[tactic(auto, unfolding(crate::specs::Step::loads))]
+    fn load_scalar(&mut self, inst: &Inst)
+        requires { IsInstruction inst.now }
+        ensures { self.new ≡ loads inst.now self.old }
+    {
+        load(inst, &mut self.regs, &self.dmem);
+    }
+
+    /// A scalar store.
+    #[inline(always)]
+    #[tactic(auto, unfolding(crate::specs::Step::stores))]
+    fn store_scalar(&mut self, inst: &Inst)
+        requires { IsInstruction inst.now }
+        ensures { self.new ≡ stores inst.now self.old }
+    {
+        store(inst, &self.regs, &mut self.dmem);
+    }
+
+    /// A jump or a branch of a machine that has gone on to these places and keeps its own: the instruction behind it, which is
+    /// at their pc, is executed before its target.
+    #[inline(always)]
+    fn go_to(&mut self, inst: &Inst, places: &mut Places)
+        requires { IsInstruction inst.now }
+        ensures places { places.new ≡ record places.old { npc = following inst.now self.old.registers places.old.pc } }
+        ensures link { self.new ≡ record self.old { registers = linked inst.now self.old.registers places.old.pc } }
+    {
+        places.npc = Place::new(jump(inst, &mut self.regs, places.pc.get()));
+    }
+
+    /// BREAK.
+    #[inline(always)]
+    #[tactic(auto, unfolding(crate::specs::Step::break_instruction))]
+    fn break_instruction(&mut self)
+        ensures { self.new ≡ break_instruction self.old }
+    {
+        self.sp.on_break();
+    }
+
+    /// A move between scalar register `rt` and an SP register.
+    #[inline(always)]
+    fn move_sp_register(&mut self, row: MoveRow, rt: u8, register: u8)
+        requires { rt < 32 }
+        ensures { self.new ≡ moves_sp row rt register self.old }
+    {
+        match row {
+            MoveRow::From => self.move_from_sp(rt, register),
+            MoveRow::To => self.move_to_sp(rt, register),
+        }
+    }
+
+    /// A read of an SP register into scalar register `rt`. It stands apart from the write, which is long by its DMA.
+    #[tactic(auto, unfolding(crate::specs::Step::moves_sp))]
+    fn move_from_sp(&mut self, rt: u8, register: u8)
+        requires { rt < 32 }
+        ensures { self.new ≡ moves_sp row.From rt register self.old }
+    {
+        let value = self.sp.host_read(u32::from(register));
+        self.regs.set(rt, value);
+    }
+
+    /// A write of an SP register from scalar register `rt`.
+    #[inline(never)]
+    #[tactic(auto, unfolding(crate::specs::Step::moves_sp))]
+    fn move_to_sp(&mut self, rt: u8, register: u8)
+        requires { rt < 32 }
+        ensures { self.new ≡ moves_sp row.To rt register self.old }
+    {
+        let value = self.regs.get(rt);
+        self.write_reg(u32::from(register), value);
+    }
+
+    /// Does what an instruction does, for a machine that has gone on to these places and keeps its own, which don't count.
+    #[inline(always)]
+    #[tactic(auto, unfolding(crate::specs::Step::worked, crate::specs::Step::computes, crate::specs::Step::loads, crate::specs::Step::stores, crate::specs::Step::jumps, crate::specs::Step::break_instruction, crate::specs::Vector::multiplies, crate::specs::Vector::rounds, crate::specs::Vector::multiplies_mpeg, crate::specs::Vector::reads_accumulator, crate::specs::Vector::ruled, crate::specs::Vector::divides, crate::specs::Vector::loads_vector, crate::specs::Vector::stores_vector))]
+    fn work(&mut self, inst: &Inst, places: &mut Places)
+        requires { IsInstruction inst.now }
+        ensures state { self.new ≡ at_places (places_of self.old) (worked inst.now (at_places places.old self.old)) }
+        ensures places { places.new ≡ places_of (worked inst.now (at_places places.old self.old)) }
+    {
+        match *inst {
+            Inst::Shift { .. }
+            | Inst::ShiftBy { .. }
+            | Inst::Register { .. }
+            | Inst::Immediate { .. }
+            | Inst::LoadUpper { .. } => self.compute(inst),
+            Inst::Load { .. } => self.load_scalar(inst),
+            Inst::Store { .. } => self.store_scalar(inst),
+            Inst::JumpRegister { .. }
+            | Inst::JumpLinkRegister { .. }
+            | Inst::BranchSign { .. }
+            | Inst::BranchEqual { .. }
+            | Inst::Jump { .. } => self.go_to(inst, places),
+            Inst::Break => self.break_instruction(),
+            Inst::MoveSp { row, rt, register } => self.move_sp_register(row, rt, register),
+            // A call that isn't inlined is given a copy, so that the instruction itself never stands in memory.
+            Inst::MoveVector { row, rt, .. } => {
+                let copy = *inst;
+                self.move_lanes(&copy, row, rt);
+            }
+            Inst::MoveControl { row, rt, .. } => {
+                let copy = *inst;
+                self.move_flags(&copy, row, rt);
+            }
+            Inst::Multiply { row, fields } => self.multiply_lanes(row, fields),
+            Inst::Round { row, fields } => self.round_lanes(row, fields),
+            Inst::MpegMultiply { row, fields } => self.multiply_mpeg(row, fields),
+            Inst::ReadAccumulator { fields } => self.read_part(fields),
+            Inst::VectorAdd { row, fields } => self.compute_lanes(row, fields),
+            Inst::VectorSelect { row, fields } => self.compute_lanes(row, fields),
+            Inst::VectorClip { row, fields } => self.compute_lanes(row, fields),
+            Inst::VectorMerge { fields } => self.compute_lanes(MergeOp::Vmrg, fields),
+            Inst::VectorLogic { row, fields } => self.compute_lanes(row, fields),
+            Inst::Divide {
+                row,
+                vd,
+                lane,
+                vt,
+                element,
+            } => self.divide(row, vd, lane, vt, element),
+            Inst::Idle { .. } => (),
+            Inst::VectorLoad { row, fields } => self.load_register(row, fields),
+            Inst::VectorStore { row, fields } => self.store_register(row, fields),
+        }
+    }
+
+    /// Executes a word, of whose changes a saver is told, and answers whether they may have reached the SP registers. None for
+    /// a reserved word, which changes nothing. The machine stands at these places, and what it has of its own doesn't count.
+    #[inline(always)]
+    #[tactic(auto, unfolding(crate::specs::Step::executed))]
+    pub(crate) fn execute<K: Saver>(
+        &mut self,
+        places: &mut Places,
+        word: u32,
+        saver: &mut K,
+    ) -> Option<bool>
+        ensures answer { result ≡ option_map (λ i. reaches_sp (change_of i (at_places places.old self.old))) (inst_of word) }
+        ensures state { at_places places.new self.new ≡ unwrap_or (option_map (λ i. executed i (at_places places.old self.old)) (inst_of word)) (at_places places.old self.old) }
+        ensures saver { saver.new ≡ told_by K.saves (inst_of word) (at_places places.old self.old) saver.old }
+    {
+        let from = places.pc;
+        let behind = places.next();
+        let mut executor: Executor<A, K> = Executor {
+            machine: self,
+            saver,
+            from,
+            places: behind,
+            reaches_sp: false,
+        };
+        if !visit(word, &mut executor) {
+            return None;
+        }
+        *places = executor.places();
+        Some(executor.reaches_sp)
+    }
+}
+
+impl<'a, A: Acc, K: Saver> Visitor for Executor<'a, A, K> {
+    ghost use Rattle.rsp_machine.specs.Places.{at_places, places_of};
+    ghost use Rattle.rsp_machine.specs.Step.{worked};
+    ghost use Rattle.rsp_machine.specs.Saved.{change_of};
+    ghost use Rattle.rsp_machine.specs.Changes.{reaches_sp};
+
+    ghost after = { λ i e.
+        let before = at_places (record { pc = e.from; npc = e.places.pc }) e.machine.now in
+        let behind = worked i (at_places e.places e.machine.now) in
+        record {
+          machine = record e.machine { now = at_places (places_of e.machine.now) behind };
+          saver = record e.saver { now = K.saves (change_of i before) before e.saver.now };
+          from = e.from;
+          places = places_of behind;
+          reaches_sp = reaches_sp (change_of i before);
+        } };
+
+    #[inline(always)]
+    fn take(&mut self, inst: Inst) {
+        let change = change_of(&inst, self.machine);
+        self.save(change);
+        self.machine.work(&inst, &mut self.places);
+    }
+}

@@ -1,0 +1,43 @@
+// Going past a move of an SP register, for a host that owns these registers.
+
+ghost use Rattle.std.specs.Prelude.{◌≡◌, Ok, Err, IfErr, OnOk, OnErr};
+ghost use Rattle.rsp_machine.specs.Pass.{pass_of};
+ghost use Rattle.rsp_machine.specs.State.{advanced};
+
+use crate::machine::Machine;
+use rsp_acc::Acc;
+use rsp_decode::{Inst, MoveRow, decode};
+
+/// Why a machine can't go past the word at pc. Halted comes first.
+#[derive(Clone, Copy, Debug, PartialEq, Eq)]
+pub enum PassFault {
+    /// The machine is halted.
+    Halted,
+    /// The word at pc is neither an MFC0 nor an MTC0.
+    OtherWord,
+}
+
+impl<A: Acc> Machine<A> {
+    /// Goes past the MFC0 or MTC0 at pc, which does nothing but this: pc and npc go on, the register rt of an MFC0 becomes the value, and
+    /// single step halts as after any instruction. The other SP registers stay.
+    #[tactic(auto, unfolding(crate::specs::Pass::pass_of))]
+    pub fn pass(&mut self, value: u32) -> Result<(), PassFault>
+        ensures fault { IfErr result (λ f. pass_of value self.old ≡ Err f) }
+        ensures ok { OnOk result (pass_of value self.old ≡ Ok self.new) }
+        ensures err { OnErr result (self.new ≡ self.old) }
+    {
+        if self.sp.halted() {
+            return Err(PassFault::Halted);
+        }
+        let Some(Inst::MoveSp { row, rt, .. }) = decode(self.word_at(self.places())) else {
+            return Err(PassFault::OtherWord);
+        };
+        let places = self.places().next();
+        self.put_places(places);
+        if let MoveRow::From = row {
+            self.regs.set(rt, value);
+        }
+        self.sp.on_step();
+        Ok(())
+    }
+}

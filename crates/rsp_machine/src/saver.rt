@@ -1,0 +1,65 @@
+// What saves the values that the steps of a loop change.
+
+ghost use Rattle.std.specs.Prelude.{◌≡◌, ℕ, Bool};
+ghost use Rattle.rsp_machine.specs.State.{State};
+ghost use Rattle.rsp_machine.specs.Places.{at_places};
+ghost use Rattle.rsp_machine.specs.Changes.{IsChange};
+ghost use Rattle.rsp_machine.specs.declared.change.Change.{Change};
+
+use crate::change::Change;
+use crate::machine::Machine;
+use crate::place::Places;
+use rsp_acc::Acc;
+
+/// What gets each instruction's change, before the instruction is executed, and may save the values that it overwrites.
+pub(crate) trait Saver {
+    /// What it is after a change.
+    ghost saves: { Change → State → Self → Self };
+
+    /// Which saver gets step `n` of a loop.
+    ghost slot: { ℕ → ℕ };
+
+    /// Whether the loop goes on after the step whose change it got.
+    ghost goes_on: { Self → Bool };
+
+    /// Saves what it wants of the values before the change, of a machine with these program counters.
+    fn save<A: Acc>(&mut self, machine: &Machine<A>, before: Places, change: Change)
+        requires { IsChange change }
+        ensures { self.new ≡ saves change (at_places before machine.now) self.old };
+
+    /// Which saver gets step `n` of a loop.
+    fn slot(n: u64) -> usize
+        ensures { result ≡ slot n };
+
+    /// Whether the loop goes on after the step whose change it got. The loop asks only after an instruction that may have
+    /// reached the SP registers.
+    fn goes_on(&self) -> bool
+        ensures { result ≡ goes_on self.now };
+}
+
+/// Saves nothing. One gets all steps.
+#[derive(Clone, Copy, Drop)]
+pub(crate) struct NoRecord;
+
+impl Saver for NoRecord {
+    ghost use Rattle.std.specs.Prelude.{true};
+
+    ghost saves = { λ p s k. k };
+
+    ghost slot = { λ n. 0 };
+
+    ghost goes_on = { λ k. true };
+
+    #[inline(always)]
+    fn save<A: Acc>(&mut self, _machine: &Machine<A>, _before: Places, _change: Change) {}
+
+    #[inline(always)]
+    fn slot(_n: u64) -> usize {
+        0
+    }
+
+    #[inline(always)]
+    fn goes_on(&self) -> bool {
+        true
+    }
+}
