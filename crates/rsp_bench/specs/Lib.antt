@@ -7,3 +7,4 @@ pub mod Run
 pub mod Alike
 pub mod Laws
 pub mod Refusals
+pub mod WantOfMemory

@@ -1,6 +1,7 @@
 -- The texts that show parts of a state, a line each.
 use Rattle.std.specs.Prelude.{ℕ, ℤ, ◌+◌, ◌*◌, ◌/◌, List, [], ◌∷◌, ◌++◌, take, drop, length, codes, slice_index, if◌then◌else◌}
 use Rattle.std.specs.List.{flat_map}
+use Rattle.hex.specs.Hex.{encode_lower}
 use Rattle.rsp_scalar.specs.Registers.{register}
 use Rattle.rsp_loadstore.specs.File.{vector}
 use Rattle.rsp_loadstore.specs.Controls.{control_half}
@@ -38,7 +39,7 @@ sp_text sp =
 
 -- an address, and the bytes from there on
 unfoldable pub dump_line : ℕ → List ℕ → List ℕ
-dump_line a bytes = hex_text 6 a ++ codes ": " ++ flat_map (hex_text 2) bytes ++ 10 ∷ []
+dump_line a bytes = hex_text 6 a ++ codes ": " ++ encode_lower bytes ++ 10 ∷ []
 
 -- bytes from an address on, at most 16 in a line
 unfoldable pub dump_text : ℕ → List ℕ → List ℕ

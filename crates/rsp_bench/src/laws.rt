@@ -7,6 +7,7 @@ ghost use Rattle.rsp_text.specs.SourceLine.{text_of_lines};
 ghost use Rattle.rsp_text.specs.Spell.{listing};
 ghost use Rattle.rsp_bench.specs.Laws.{LooksAndRunsComeOut, LooksChangeNothing};
 ghost use Rattle.rsp_bench.specs.Refusals.{RefusedCommandsChangeNothing, RefusedLinesChangeNothing};
+ghost use Rattle.rsp_bench.specs.WantOfMemory.{NoReplyWantsMemory};
 
 /// Listings assemble back: for every list of at most 1024 words, the lines that spell them from place 0 on mean that list
 /// at origin 0. So does their text, where LF stands behind each line.
@@ -26,6 +27,12 @@ pub fn looks_change_nothing()
 pub fn refusals_change_nothing()
     ensures commands { RefusedCommandsChangeNothing }
     ensures lines { RefusedLinesChangeNothing }
+{}
+
+/// No reply is fault 17: what is written for a script is a reply to each line and the closing fault, and none of them tells want
+/// of memory. Where an assembly finds none, `exec` answers `AllocError`.
+pub fn no_reply_wants_memory()
+    ensures { (script image : List ℕ) → NoReplyWantsMemory script image }
 {}
 
 /// Looks and runs come out: for all lines before and behind, a line that looks can be taken out of a script, and a line `run`

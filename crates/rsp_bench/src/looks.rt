@@ -1,5 +1,5 @@
 ghost use Rattle.std.specs.Prelude.{◌≡◌, ℕ, ◌+◌, ◌-◌, ◌*◌, ◌/◌, ◌^◌, ◌<◌, ◌≤◌, [], ◌++◌, take, drop, length, slice_index};
-ghost use Rattle.std.specs.List.{flat_map};
+ghost use Rattle.hex.specs.Hex.{encode_lower};
 ghost use Rattle.rsp_regs.specs.Sp.{peeked};
 ghost use Rattle.rsp_lines.specs.Text.{each_text, hex_text};
 ghost use Rattle.rsp_bench.specs.Looks.{word_text, register_line, registers_text, sp_line, sp_text, dump_line, dump_text, listed_line, listing_text};
@@ -106,15 +106,18 @@ pub(crate) fn tell_sp_registers(reply: &mut Reply, sp: &SpRegs)
     reply.push_text(if sp.interrupt() { b"1\n" } else { b"0\n" });
 }
 
-#[tactic(auto, using(rsp_lines::proofs::Texts::parts))]
+/// At most 16 bytes, each as two hexadecimal digits.
+#[tactic(auto, using(crate::proofs::Digits::digits))]
 fn push_bytes(reply: &mut Reply, bytes: &[u8])
-    requires { length reply.old + 2 * length bytes.now ≤ REPLY_LIMIT }
-    ensures text { reply.new ≡ reply.old ++ flat_map (hex_text 2) bytes.now }
+    requires few { length bytes.now ≤ 16 }
+    requires room { length reply.old + 2 * length bytes.now ≤ REPLY_LIMIT }
+    ensures text { reply.new ≡ reply.old ++ encode_lower bytes.now }
     ensures len { length reply.new ≡ length reply.old + 2 * length bytes.now }
 {
-    for byte in bytes {
-        reply.push_hex(u32::from(*byte), 2);
-    }
+    let mut digits = [0; 32];
+    let text = &mut digits[..2 * bytes.len()];
+    let _ = hex::encode_to_slice(bytes, text);
+    reply.push_text(text);
 }
 
 #[tactic(auto, using(rsp_lines::proofs::Texts::parts), unfolding(crate::specs::Looks::dump_line))]

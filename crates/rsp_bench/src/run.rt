@@ -1,6 +1,6 @@
 ghost use Rattle.std.specs.Prelude.{◌≡◌, ℕ, ◌<◌, ◌≤◌, ◌+◌, ◌-◌, ◌^◌, List, length, take, IfSome};
 ghost use Rattle.std.specs.Io.KnownBytes.{append_known};
-ghost use Rattle.rsp_lines.specs.Left.{TakesAtMost, EndedLinesWritten, FrontWritten};
+ghost use Rattle.rsp_lines.specs.Left.{TakesAtMost, Takes, EndedLinesWritten, FrontWritten};
 ghost use Rattle.rsp_lines.specs.Lines.{ended_lines};
 ghost use Rattle.rsp_lines.specs.Replies.{replies};
 ghost use Rattle.rsp_bench.specs.Run.{out_of, session_of, failed_reads, failed_writes, IfFinished};
@@ -51,6 +51,7 @@ pub fn run_bench<R: Source, W: Sink>(
     ensures reads { R.fault_count source.new ≡ R.fault_count source.old + failed_reads result }
     ensures writes { W.fault_count sink.new ≡ W.fault_count sink.old + failed_writes result }
     ensures long { IfSome (R.rest source.old) (λ script. result ≡ BenchEnd.ScriptTooLong → SCRIPT_LIMIT < length script) }
+    ensures past { result ≡ BenchEnd.ScriptTooLong → Takes (SCRIPT_LIMIT + 1) (R.rest source.old) (R.rest source.new) }
     ensures few { TakesAtMost (SCRIPT_LIMIT + 1) (R.rest source.old) (R.rest source.new) }
 
     // What each other end leaves written.

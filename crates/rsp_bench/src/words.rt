@@ -5,6 +5,7 @@ ghost use Rattle.rsp_debug.specs.Debugging.{brought_to};
 ghost use Rattle.rsp_bench.specs.Words.{words_bytes};
 
 use arrayvec::ArrayVec;
+use byteorder::{BigEndian, ByteOrder};
 use rsp_acc::Acc;
 use rsp_debug::Debugger;
 use rsp_memory::Bank;
@@ -15,10 +16,9 @@ fn word_bytes(words: &[u32]) -> ArrayVec<u8, 4096>
     ensures bytes { result.items ≡ words_bytes words.now }
     ensures len { length result.items ≡ 4 * length words.now }
 {
-    let mut bytes = ArrayVec::new();
-    for word in words {
-        let _ = bytes.try_extend_from_slice(&word.to_be_bytes());
-    }
+    let mut bytes = ArrayVec::from([0; 4096]);
+    bytes.truncate(4 * words.len());
+    BigEndian::write_u32_into(words, bytes.as_mut_slice());
     bytes
 }
 

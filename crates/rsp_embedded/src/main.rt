@@ -2,6 +2,7 @@
 #![tactic(auto)]
 
 use anyhow::{Context, Result, bail};
+use byteorder::{BigEndian, ByteOrder};
 use rsp_acc::PlaneAcc;
 use rsp_asm::{Words, assemble};
 use rsp_debug::Debugger;
@@ -36,16 +37,12 @@ fn new_debugger(alloc: Global) -> Result<Debugger<PlaneAcc>> {
     Ok(debugger)
 }
 
-/// Writes words to IMEM from 0 on.
-fn load(debugger: &mut Debugger<PlaneAcc>, words: &Words) -> Result<()> {
-    for i in 0..words.len() {
-        let word = words[i].to_be_bytes();
-        if debugger
-            .load_bytes(Bank::Imem, 4 * i as u32, &word)
-            .is_err()
-        {
-            bail!("the words pass the end of IMEM");
-        }
+/// Writes words to IMEM from 0 on, the high byte of each first.
+fn load(alloc: Global, debugger: &mut Debugger<PlaneAcc>, words: &Words) -> Result<()> {
+    let mut bytes = vec![in alloc; 0; 4 * words.len()]?;
+    BigEndian::write_u32_into(words, &mut bytes);
+    if debugger.load_bytes(Bank::Imem, 0, &bytes).is_err() {
+        bail!("the words pass the end of IMEM");
     }
     Ok(())
 }
@@ -53,7 +50,7 @@ fn load(debugger: &mut Debugger<PlaneAcc>, words: &Words) -> Result<()> {
 fn main(rt: HostRuntime) -> Result<()> {
     let words = assemble(rt.alloc(), 0, TEXT).context("assembling")?;
     let mut debugger = new_debugger(rt.alloc())?;
-    load(&mut debugger, &words)?;
+    load(rt.alloc(), &mut debugger, &words)?;
     if debugger.add_break(LAST).is_err() {
         bail!("no room for a breakpoint");
     }

@@ -4,6 +4,7 @@ use crate::fault::Fault;
 use crate::origin::origin_of;
 use crate::program::file_fault;
 use crate::store::FileStore;
+use byteorder::{BigEndian, ByteOrder};
 use rsp_asm::{AsmFaultKind, Words, assemble};
 use std::alloc::{AllocError, Global};
 use std::io::Write;
@@ -54,9 +55,7 @@ fn assembled<'a>(alloc: Global, origin: u16, bytes: &[u8]) -> Result<Words, Faul
 
 /// The bytes of words, the high byte of each first.
 fn big_endian(alloc: Global, words: &[u32]) -> Result<Vec<u8>, AllocError> {
-    let mut bytes = Vec::new(alloc);
-    for word in words {
-        bytes.extend_from_slice(&word.to_be_bytes())?;
-    }
+    let mut bytes = vec![in alloc; 0; 4 * words.len()]?;
+    BigEndian::write_u32_into(words, &mut bytes);
     Ok(bytes)
 }

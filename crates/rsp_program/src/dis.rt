@@ -4,6 +4,7 @@ use crate::fault::Fault;
 use crate::origin::origin_of;
 use crate::program::file_fault;
 use crate::store::FileStore;
+use byteorder::{BigEndian, ByteOrder};
 use rsp_dis::text_of;
 use std::alloc::Global;
 use std::io::{self, Write};
@@ -32,7 +33,7 @@ pub fn disassemble_file<'a, F: FileStore, W: Write + Drop>(
         return Err(Fault::WordsSize);
     }
     for (index, bytes) in bytes.chunks_exact(4).enumerate() {
-        let word = u32::from_be_bytes([bytes[0], bytes[1], bytes[2], bytes[3]]);
+        let word = BigEndian::read_u32(bytes);
         print_word(&mut output, place_of(origin, index), word, with_places).map_err(
             |_| Fault::RunWrite,
         )?;

@@ -1,6 +1,7 @@
 //! Tests of the machine and of the crates below it, and of the texts of words, in one crate, so that those crates need no second proof for their tests. Among
 //! them are trials of the vector unit, which hold two machines against each other: one keeps its accumulators in planes, the other as whole numbers. That the
-//! two never differ, and that listings mean their words, is proved where the machine and the texts are; here the compiled program shows it.
+//! two never differ, and that listings mean their words, is proved where the machine and the texts are; here the compiled program shows it. One law is proved
+//! here, of the assembler and the disassembler together: [`assembled_listing`].
 #![tactic(auto)]
 
 #[cfg(test)]
@@ -15,6 +16,7 @@ mod debugger;
 mod decode;
 #[cfg(test)]
 mod divide;
+mod listings;
 #[cfg(test)]
 mod loadstore;
 #[cfg(test)]
@@ -45,3 +47,5 @@ mod trials;
 mod undo;
 #[cfg(test)]
 mod whole_states;
+
+pub use listings::assembled_listing;

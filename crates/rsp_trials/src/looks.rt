@@ -33,7 +33,24 @@ fn is_same_registers<A: Acc, B: Acc>(a: &Machine<A>, b: &Machine<B>) -> bool {
     same
 }
 
-/// Whether two machines show the same by all readers of the vector and the scalar unit.
+/// Whether all SP registers and the interrupt flag are equal.
+fn is_same_sp<A: Acc, B: Acc>(a: &Machine<A>, b: &Machine<B>) -> bool {
+    let mut same = a.sp_regs().interrupt() == b.sp_regs().interrupt();
+    for n in 0..16 {
+        same = same && a.sp_regs().peek(n) == b.sp_regs().peek(n);
+    }
+    same
+}
+
+/// Whether all bytes of DMEM, of IMEM and of the image are equal.
+fn is_same_memories<A: Acc, B: Acc>(a: &Machine<A>, b: &Machine<B>) -> bool {
+    let (length, other_length) = (a.rdram().len(), b.rdram().len());
+    a.dmem().run(0, 4096) == b.dmem().run(0, 4096)
+        && a.imem().run(0, 4096) == b.imem().run(0, 4096)
+        && a.rdram().run(0, length) == b.rdram().run(0, other_length)
+}
+
+/// Whether two machines show the same by all readers.
 pub fn is_same<A: Acc, B: Acc>(a: &Machine<A>, b: &Machine<B>) -> bool {
     a.pc() == b.pc()
         && a.npc() == b.npc()
@@ -41,4 +58,6 @@ pub fn is_same<A: Acc, B: Acc>(a: &Machine<A>, b: &Machine<B>) -> bool {
         && flags(a) == flags(b)
         && *a.divider() == *b.divider()
         && is_same_registers(a, b)
+        && is_same_sp(a, b)
+        && is_same_memories(a, b)
 }

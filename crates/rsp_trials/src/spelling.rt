@@ -1,9 +1,9 @@
 // The texts of words, and the words of texts, in the compiled program.
 
+use crate::assembled_listing;
 use crate::random::Random;
-use rsp_asm::assemble;
 use rsp_dis::text_of;
-use std::alloc::Global;
+use std::alloc::{AllocError, Global};
 use std::test::Fail;
 
 /// A word of each row at its place, whose operands all differ, and its text.
@@ -181,26 +181,18 @@ fn words_have_these_texts(rt: HostRuntime) {
     }
 }
 
-/// Lists these words from place 0 on, and assembles the listing.
-fn is_read_back(alloc: Global, words: &[u32]) -> Result<bool, Fail> {
-    let mut text = String::new(alloc);
-    let mut place: u16 = 0;
-    for word in words {
-        text.push_str(text_of(*word, place % 4096).as_str())?;
-        text.push('\n')?;
-        place = place.wrapping_add(4);
-    }
-    let assembled = assemble(alloc, 0, &text);
-    Ok(assembled.is_ok_and(|again| again.as_slice() == words))
+/// Whether the listing of these words is read as the same words.
+fn is_read_back(alloc: Global, words: &[u32; 1024]) -> Result<bool, AllocError> {
+    Ok(assembled_listing(alloc, words)?.as_slice() == words.as_slice())
 }
 
 #[test]
 fn listings_are_read_back(rt: HostRuntime) -> Result<(), Fail> {
     let mut random = Random::new(0x0123_4567_89ab_cdef);
     for _ in 0..16 {
-        let mut words = Vec::new(rt.alloc());
-        for _ in 0..1024 {
-            words.push(random.bits())?;
+        let mut words = [0; 1024];
+        for i in 0..1024 {
+            words[i] = random.bits();
         }
         assert!(rt; is_read_back(rt.alloc(), &words)?);
     }
@@ -212,9 +204,9 @@ fn listings_are_read_back(rt: HostRuntime) -> Result<(), Fail> {
 fn all_low_halves_are_read_back(rt: HostRuntime) -> Result<(), Fail> {
     for high in [0x1022, 0x4ba3, 0xc8a4] {
         for block in 0..64 {
-            let mut words = Vec::new(rt.alloc());
-            for low in 0..1024 {
-                words.push(high << 16 | block << 10 | low)?;
+            let mut words = [0; 1024];
+            for low in 0..1024u32 {
+                words[low as usize] = high << 16 | block << 10 | low;
             }
             assert!(rt; is_read_back(rt.alloc(), &words)?);
         }

@@ -114,6 +114,20 @@ fn a_run_that_breaks_off_saves_nothing(rt: HostRuntime) -> Result<(), Fail> {
     Ok(())
 }
 
+/// The first script up to its third line. The reply to each line is there before the next read.
+#[test]
+fn a_read_fails_after_two_lines(rt: HostRuntime) -> Result<(), Fail> {
+    let mut files = FakeFiles::new(rt.alloc(), b"");
+    let lines = b"load imem 0 34021234ac0200000000000d\nstep\n";
+    let mut script = FakeReader::new(lines, Behind::Fault);
+    let mut output = Vec::new(rt.alloc());
+    let end = told(&rt, "rsp run", &mut files, &mut script, &mut output)?;
+    assert_eq!(rt; end.status, Status::Faulted);
+    assert_eq!(rt; end.errors.as_str(), "rsp: fault 40 ReadFault\n");
+    assert!(rt; output.as_slice() == b"ok\nstep Done pc 004\n".as_slice());
+    Ok(())
+}
+
 #[test]
 fn an_image_may_not_be_saved(rt: HostRuntime) -> Result<(), Fail> {
     for (fault, message) in [
@@ -149,6 +163,25 @@ fn a_text_is_assembled(rt: HostRuntime) -> Result<(), Fail> {
         (files.limit, files.written, script.reads),
         (1_048_577, 1, 0)
     );
+    Ok(())
+}
+
+/// A loop of three instructions and a `break`, its words by hand.
+#[test]
+fn a_loop_is_assembled(rt: HostRuntime) -> Result<(), Fail> {
+    let text = b"loop: addiu $1, $1, 1\nbne $1, $2, loop\nnop\nbreak\n";
+    let mut files = FakeFiles::new(rt.alloc(), text);
+    let mut script = FakeReader::new(b"", Behind::End);
+    let mut output = Vec::new(rt.alloc());
+    let line = "rsp asm image words";
+    let end = told(&rt, line, &mut files, &mut script, &mut output)?;
+    assert_eq!(rt; end.status, Status::Done);
+    assert!(rt; output.as_slice() == b"ok 4 words\n".as_slice());
+    let words = [
+        0x24, 0x21, 0x00, 0x01, 0x14, 0x22, 0xff, 0xfe, 0x00, 0x00, 0x00, 0x00, 0x00, 0x00, 0x00,
+        0x0d,
+    ];
+    assert!(rt; files.saved.as_slice() == words.as_slice());
     Ok(())
 }
 

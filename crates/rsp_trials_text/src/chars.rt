@@ -1,15 +1,4 @@
-use rsp_text::{
-    is_blank, is_line, is_name_byte, is_name_start, is_plain, is_text, skip_blanks, trim,
-    without_return,
-};
-
-#[test]
-fn tells_bytes_apart(rt: HostRuntime) {
-    assert!(rt; is_blank(b' ') && is_blank(b'\t') && !is_blank(b'\n'));
-    assert!(rt; is_plain(b'\t') && is_plain(b'~') && !is_plain(0x7f));
-    assert!(rt; is_name_start(b'_') && !is_name_start(b'7'));
-    assert!(rt; is_name_byte(b'7') && !is_name_byte(b'-'));
-}
+use rsp_text::{is_line, is_text, skip_blanks, trim, without_return};
 
 #[test]
 fn takes_blanks_away(rt: HostRuntime) {

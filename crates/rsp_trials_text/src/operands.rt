@@ -1,6 +1,6 @@
 // Operands of single rows, with their words worked by hand.
 
-use rsp_decode::Operand;
+use rsp_decode::{ByteElements, Operand};
 use rsp_operands::{Labels, is_number_out_of_range, is_out_of_range, number_word, put_operand};
 use rsp_text::AsmFaultKind;
 use std::alloc::{AllocError, Global};
@@ -74,7 +74,7 @@ const STATEMENTS: [(u32, &[(Operand, &str)], u32); 13] = [
         0x4800_0000,
         &[
             (Operand::Scalar(16), "$1"),
-            (Operand::VectorByte(11), "$v2[4]"),
+            (Operand::VectorByte(11, ByteElements::All), "$v2[4]"),
         ],
         0x4801_1200,
     ),
@@ -110,7 +110,7 @@ const STATEMENTS: [(u32, &[(Operand, &str)], u32); 13] = [
     (
         0xe800_1800,
         &[
-            (Operand::VectorByte(16), "$v4[8]"),
+            (Operand::VectorByte(16, ByteElements::All), "$v4[8]"),
             (Operand::VectorMemory(8), "-8($2)"),
         ],
         0xe844_1c7f,
@@ -119,7 +119,7 @@ const STATEMENTS: [(u32, &[(Operand, &str)], u32); 13] = [
     (
         0xc800_4800,
         &[
-            (Operand::VectorHalf, "$v1[8]"),
+            (Operand::VectorByte(16, ByteElements::Halves), "$v1[8]"),
             (Operand::VectorMemory(16), "-1024($0)"),
         ],
         0xc801_4c40,
@@ -139,7 +139,7 @@ const OTHERS: [(Operand, &str); 14] = [
     (Operand::SpRegister, "$c16"),
     (Operand::ControlRegister, "$v0"),
     (Operand::Vector(6), "$v01"),
-    (Operand::VectorHalf, "$v1[4]"),
+    (Operand::VectorByte(16, ByteElements::Halves), "$v1[4]"),
     (Operand::VectorElement, "$v3[8]"),
     (Operand::VectorLane, "$v1"),
 ];

@@ -1,8 +1,8 @@
-use rsp_decode::Operand;
+use rsp_decode::{ByteElements, Operand};
 use rsp_script::LineFault;
 use rsp_text::{
-    AsmFaultKind, Boundary, control, cut, element, find_row, is_label, is_same, number,
-    read_expression, scalar, small_number, sp_register, unsigned, vector,
+    AsmFaultKind, Boundary, control, cut, element, find_row, is_label, is_same, read_expression,
+    scalar, small_number, sp_register, vector,
 };
 
 #[test]
@@ -15,25 +15,6 @@ fn cuts_at_a_comment(rt: HostRuntime) {
     assert!(rt; rest == b" on".as_slice());
     assert!(rt; cut(b"nop", Boundary::Colon).is_none());
     assert!(rt; is_same(b"$Sp", b"$sP"));
-}
-
-#[test]
-fn reads_numbers_of_any_length(rt: HostRuntime) {
-    for (text, want) in [
-        (b"0xfF".as_slice(), Some(255)),
-        (b"0XFF", None),
-        (b"0x", None),
-    ] {
-        assert!(rt; unsigned(text) == want, "{text:?}");
-    }
-    let long = b"-99999999999999999999999999".as_slice();
-    for (text, want) in [
-        (b"-010".as_slice(), Some(-10)),
-        (b"+5", None),
-        (long, Some(-(1 << 40))),
-    ] {
-        assert!(rt; number(text) == want, "{text:?}");
-    }
 }
 
 #[test]
@@ -80,7 +61,14 @@ fn finds_rows(rt: HostRuntime) {
         return;
     };
     assert_eq!(rt; row.value, 0xc800_2000);
-    assert!(rt; row.operands == [Operand::VectorByte(16), Operand::VectorMemory(16)].as_slice());
+    assert!(rt;
+        row.operands
+            == [
+                Operand::VectorByte(16, ByteElements::All),
+                Operand::VectorMemory(16)
+            ]
+            .as_slice()
+    );
     assert!(rt; find_row(b"nop").is_none());
     assert!(rt; find_row(b"vmulx").is_none());
 }

@@ -1,6 +1,7 @@
 use super::fakes::{Behind, FakeFiles, FakeReader};
 use super::told;
 use rsp_program::{FileFault, Status};
+use std::alloc::{AllocError, Global};
 use std::test::Fail;
 
 #[test]
@@ -20,6 +21,37 @@ fn words_are_listed(rt: HostRuntime) -> Result<(), Fail> {
         assert!(rt; output.as_slice() == lines.as_bytes());
         assert_eq!(rt; (files.limit, files.written, script.reads), (4097, 0, 0));
     }
+    Ok(())
+}
+
+/// 4,096 bytes that look random: xorshift over 32 bits.
+fn random_bytes(alloc: Global) -> Result<Vec<u8>, AllocError> {
+    let mut bytes = Vec::new(alloc);
+    let mut state: u32 = 0x2545_f491;
+    for _ in 0..4096 {
+        state ^= state << 13;
+        state ^= state >> 17;
+        state ^= state << 5;
+        bytes.push((state % 256) as u8)?;
+    }
+    Ok(bytes)
+}
+
+#[test]
+fn any_words_are_listed_and_assembled_back(rt: HostRuntime) -> Result<(), Fail> {
+    let words = random_bytes(rt.alloc())?;
+    let mut files = FakeFiles::new(rt.alloc(), &words);
+    let mut script = FakeReader::new(b"", Behind::End);
+    let mut listing = Vec::new(rt.alloc());
+    let end = told(&rt, "rsp dis image", &mut files, &mut script, &mut listing)?;
+    assert_eq!(rt; end.status, Status::Done);
+    let mut files = FakeFiles::new(rt.alloc(), &listing);
+    let mut output = Vec::new(rt.alloc());
+    let line = "rsp asm image words";
+    let end = told(&rt, line, &mut files, &mut script, &mut output)?;
+    assert_eq!(rt; end.status, Status::Done);
+    assert!(rt; output.as_slice() == b"ok 1024 words\n".as_slice());
+    assert!(rt; files.saved.as_slice() == words.as_slice());
     Ok(())
 }
 
