@@ -1,5 +1,5 @@
 -- Sums of products.
-use Rattle.std.proofs.Common.{◌≡◌, ◌≢◌, ℕ, List, [], ◌∷◌, length, map, refl, ap, sym, ◌∙◌, arith, true, not, nat_eq, ◌<◌, All, ℤ}
+use Rattle.std.proofs.Common.{◌≡◌, ◌≢◌, ℕ, List, [], ◌∷◌, length, map, refl, ap, ◌∙◌, arith, true, not, nat_eq, ◌<◌, All, ℤ}
 use Rattle.std.proofs.lemmas.Bool.{not-true, ltb-true}
 use Rattle.std.specs.List.{list_all}
 use Rattle.std.proofs.lemmas.Bool.{and_parts}
@@ -18,8 +18,8 @@ use Rattle.rsp_numbers.specs.Numbers.{s48}
 use Rattle.rsp_lanes.specs.Lanes.{each_lane}
 use Rattle.std.proofs.lemmas.List.Elements.{All-nil, All-cons}
 use Rattle.rsp_loadstore.specs.File.{IsFile}
-use Rattle.rsp_microcode.specs.Reads.{Write}
-use Rattle.rsp_microcode.specs.Multiplies.{Term, instruction, step_in, reads_other, independent, written, multiplied, adds, has_fields, is_sum, summed, SumsOfMultiplies}
+use Rattle.rsp_microcode.specs.Reads.{after_writes}
+use Rattle.rsp_microcode.specs.Multiplies.{Term, instruction, step_in, reads_other, independent, writes, multiplied, adds, has_fields, is_sum, summed, SumsOfMultiplies}
 
 -- a register that was written, and another one
 pub read_same : (file : List (List ℕ)) (n : ℕ) (v : List ℕ) → n < length file → vector (with_vector file n v) n ≡ v
@@ -49,7 +49,7 @@ with_steps ms s steps = record s {
   pc = place_after ms s.pc;
   npc = place_after ms s.npc;
   accumulators = after steps s.accumulators;
-  vectors = written ms (results steps s.accumulators) s.vectors;
+  vectors = after_writes with_vector (writes ms (results steps s.accumulators)) s.vectors;
 }
 
 pub run : (ms : List Term) (s : State) → independent ms ≡ true → s.npc ≡ going_on s.pc → ran_through (map instruction ms) s ≡ multiplied ms s
@@ -64,7 +64,7 @@ run (m ∷ ms) s h e =
       pc = place_after ms n;
       npc = place_after (m ∷ ms) s.npc;
       accumulators = after (map (step_in s.vectors) (m ∷ ms)) s.accumulators;
-      vectors = written (m ∷ ms) (results (map (step_in s.vectors) (m ∷ ms)) s.accumulators) s.vectors;
+      vectors = after_writes with_vector (writes (m ∷ ms) (results (map (step_in s.vectors) (m ∷ ms)) s.accumulators)) s.vectors;
     } in u) e
 
 pub all_straight : (ms : List Term) → all_go_on (map instruction ms) ≡ true
@@ -97,7 +97,7 @@ with_results ms s xs rs = record s {
   pc = place_after ms s.pc;
   npc = place_after ms s.npc;
   accumulators = xs;
-  vectors = written ms rs s.vectors;
+  vectors = after_writes with_vector (writes ms rs) s.vectors;
 }
 
 sums_of_run : SumsOfProducts → (ms : List Term) (s : State) → IsFile s.vectors → is_sum ms ≡ true → multiplied ms s ≡ summed ms s
@@ -112,18 +112,3 @@ sums_of_run law (m ∷ ms) s is h =
 
 pub sums : SumsOfProducts → SumsOfMultiplies
 sums law ms s is next h k = run ms s h next ∙ sums_of_run law ms s is k
-
--- what stays as it was
-abbrev pub elsewhere : List Term → State → List ℤ → List (List ℕ) → State
-elsewhere ms s xs file = record s { pc = place_after ms s.pc; npc = place_after ms s.npc; accumulators = xs; vectors = file }
-
-pub changed : (ms : List Term) (s t : State) → t ≡ summed ms s → t ≡ elsewhere ms s t.accumulators t.vectors
-changed ms s t e =
-    e ∙ ap (λ xs. elsewhere ms s xs (summed ms s).vectors) (sym (ap (λ (x : State). x.accumulators) e))
-    ∙ ap (elsewhere ms s t.accumulators) (sym (ap (λ (x : State). x.vectors) e))
-
--- the results as writes of registers
-abbrev pub writes : List Term → List (List ℕ) → List (Write (List ℕ))
-writes [] rs = []
-writes (m ∷ ms) [] = []
-writes (m ∷ ms) (r ∷ rs) = (m.fields.vd, r) ∷ writes ms rs

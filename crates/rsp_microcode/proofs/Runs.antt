@@ -11,28 +11,30 @@ use Rattle.rsp_scalar.specs.Flow.{going_on}
 use Rattle.rsp_regs.specs.Sp.{Sp, after_step}
 use Rattle.rsp_machine.specs.State.{State}
 use Rattle.rsp_machine.specs.Vector.{multiplies, rounds, multiplies_mpeg, reads_accumulator, ruled, divides, loads_vector, stores_vector, moves_vector, moves_control}
-use Rattle.rsp_machine.specs.Step.{step_of, step_by, singled, executed, worked, computes, loads, stores, jumps}
+use Rattle.rsp_machine.specs.Step.{step_of, step_by, singled, executed, worked, computes, loads, stores, jumps, moves_sp}
 use Rattle.rsp_machine.specs.Laws.{steps_of}
 use Rattle.rsp_machine.specs.declared.step.StepEnd.{StepEnd}
 use Rattle.rsp_machine.specs.declared.step.StepEnd.TheVariants.{Done, Halted}
-use Rattle.rsp_microcode.specs.Runs.{goes_on, branches, all_go_on, Stand, IsAt, ran_through, StepsOver, StraightRuns, BranchRuns, RoundsRun}
+use Rattle.rsp_microcode.proofs.SpReads.{reads_leave}
+use Rattle.rsp_microcode.specs.Runs.{goes_on, branches, all_go_on, Stand, IsAt, ran_through, StepsOver, StraightRuns, BranchRuns}
 
 -- what a row that goes on leaves
-record Goes (s t : State) : Type 0 where
-  pc : t.pc ≡ s.npc
-  npc : t.npc ≡ going_on s.npc
-  imem : t.imem ≡ s.imem
-  sp : t.sp ≡ s.sp
+pub record Goes (s t : State) : Type 0 where
+  pub pc : t.pc ≡ s.npc
+  pub npc : t.npc ≡ going_on s.npc
+  pub imem : t.imem ≡ s.imem
+  pub sp : t.sp ≡ s.sp
 
-gone : (i : Inst) (s : State) → goes_on i ≡ true → Goes s (executed i s)
-unfolding executed worked computes loads stores multiplies rounds multiplies_mpeg reads_accumulator ruled divides loads_vector stores_vector moves_vector moves_control
+pub gone : (i : Inst) (s : State) → goes_on i ≡ true → Goes s (executed i s)
+unfolding executed worked computes loads stores moves_sp multiplies rounds multiplies_mpeg reads_accumulator ruled divides loads_vector stores_vector moves_vector moves_control
 gone (JumpRegister rs) s h = cc
 gone (JumpLinkRegister rd rs) s h = cc
 gone Break s h = cc
 gone (BranchSign row rs offset) s h = cc
 gone (BranchEqual row rs rt offset) s h = cc
 gone (Jump row target) s h = cc
-gone (MoveSp row rt n) s h = cc
+gone (MoveSp From rt n) s h = record { pc = refl; npc = refl; imem = refl; sp = reads_leave n s.sp h }
+gone (MoveSp To rt n) s h = cc
 gone (MoveVector From rt n element) s h = record { pc = refl; npc = refl; imem = refl; sp = refl }
 gone (MoveVector To rt n element) s h = record { pc = refl; npc = refl; imem = refl; sp = refl }
 gone (MoveControl From rt control) s h = record { pc = refl; npc = refl; imem = refl; sp = refl }
@@ -67,12 +69,12 @@ steps-plus (suc a) b s = let e : suc a + b ≡ suc (a + b) = omega arith in ap (
 pub step_is : (i : Inst) (s : State) → s.sp.halted ≡ false → s.sp.single_step ≡ false → inst_of (word_at s.imem s.pc) ≡ Some i → goes_on i ≡ true → step_of s ≡ (Done, executed i s)
 step_is i s h n m g = over i s h m (ap (λ (p : Sp). p.single_step) (gone i s g).sp ∙ n)
 
-steps-first : (n : ℕ) (s : State) → steps_of (suc n) s ≡ steps_of n (step_of s).1
+pub steps-first : (n : ℕ) (s : State) → steps_of (suc n) s ≡ steps_of n (step_of s).1
 unfolding steps_of
 steps-first zero s = refl
 steps-first (suc n) s = ap (λ (x : State). (step_of x).1) (steps-first n s)
 
-still : (ws : List ℕ) (a b : ℕ) (m n : List ℕ) → a ≡ b → m ≡ n → Stand ws a m → Stand ws b n
+pub still : (ws : List ℕ) (a b : ℕ) (m n : List ℕ) → a ≡ b → m ≡ n → Stand ws a m → Stand ws b n
 still ws a b m n p q h = rw (← p, ← q) h
 
 -- the words behind a row that goes on are at pc after it
@@ -149,9 +151,6 @@ rounds_kept size (suc k) Holds s base more =
     let e : k + 1 ≡ suc k = omega arith in
     let last : Holds (k + 1) (steps_of size (steps_of (k * size) s)) = more k _ (omega arith) (rounds_kept size k Holds s base (λ j t h. more j t (omega arith))) in
     subst (λ n. Holds n (steps_of (suc k * size) s)) e (subst (Holds (k + 1)) (sym all) last)
-
-pub all_rounds : RoundsRun
-all_rounds size n states each = rounds_kept size n (λ k t. t ≡ states k) (states 0) refl (λ k t h e. ap (steps_of size) e ∙ each k h)
 
 -- runs, one behind the other
 pub ran_on : (a b : List Inst) (s : State) → ran_through (a ++ b) s ≡ ran_through b (ran_through a s)

@@ -1,13 +1,13 @@
 -- Two buffers of vectors added to a third, in a loop.
-use Rattle.std.specs.Prelude.{ℕ, ◌≡◌, ◌⊎◌, ◌+◌, ◌*◌, ◌%◌, ◌<◌, ◌≤◌, ◌++◌, false, List, codes}
-use Rattle.rsp_memory.specs.Memory.{byte_at}
+use Rattle.std.specs.Prelude.{ℕ, ◌≡◌, ◌+◌, ◌*◌, ◌<◌, ◌++◌, false, List, [], ◌∷◌, codes}
 use Rattle.rsp_lanes.specs.Lanes.{each_lane}
 use Rattle.rsp_scalar.specs.Registers.{register}
-use Rattle.rsp_loadstore.specs.File.{vector}
 use Rattle.rsp_machine.specs.State.{State, IsState}
 use Rattle.rsp_machine.specs.Laws.{steps_of}
 use Rattle.rsp_microcode.specs.Runs.{IsAt, place_after}
-use Rattle.rsp_microcode.specs.Lanes.{lanes_at, IsOutside}
+use Rattle.rsp_microcode.specs.Lanes.{lanes_at}
+use Rattle.rsp_microcode.specs.Kept.{registers_but, vectors_but}
+use Rattle.rsp_microcode.specs.Buffers.{IsBuffer, SparesBuffer, IsFilled}
 use Rattle.rsp_microcode.specs.OneAdd.{limited_sums}
 use Rattle.rsp_microcode.specs.Text.{line}
 
@@ -24,15 +24,6 @@ text =
     ++ line (codes "bne $4, $0, loop")
     ++ line (codes "addiu $3, $3, 16")
 
--- a buffer of n vectors at an aligned address in DMEM
-pub record IsBuffer (a n : ℕ) : Type 0 where
-  pub aligned : a % 16 ≡ 0
-  pub inside : a + 16 * n ≤ 4096
-
--- the sums overwrite no vector that is still to be added: they begin where that buffer begins, or before, or behind its end
-abbrev pub SparesBuffer : ℕ → ℕ → ℕ → Type 0
-SparesBuffer sums buffer n = (sums ≤ buffer) ⊎ (buffer + 16 * n ≤ sums)
-
 -- what the loop is entered with
 pub record IsEntered (s : State) (first second sums n : ℕ) : Type 0 where
   pub count : 0 < n
@@ -45,18 +36,14 @@ pub record IsEntered (s : State) (first second sums n : ℕ) : Type 0 where
 
 -- what all rounds from s to t do
 pub record AddsBuffers (words : List ℕ) (s t : State) (first second sums n : ℕ) : Type 0 where
-  -- each vector of the sums
-  pub added : (k : ℕ) → k < n → lanes_at t.dmem (sums + 16 * k) ≡ limited_sums (lanes_at s.dmem (first + 16 * k)) (lanes_at s.dmem (second + 16 * k))
-  -- no other byte of DMEM changed
-  pub outside : (x : ℕ) → IsOutside sums (16 * n) x → byte_at t.dmem x ≡ byte_at s.dmem x
-  -- pc stands behind the words, and nothing else changed but scalar registers 1 to 4, vector registers 1 to 3, flags and accumulators
-  pub scalars : (i : ℕ) → 4 < i → register t.registers i ≡ register s.registers i
-  pub vectors : (i : ℕ) → 3 < i → vector t.vectors i ≡ vector s.vectors i
+  -- each vector of the sums, and no other byte of DMEM changed
+  pub filled : IsFilled (λ k. limited_sums (lanes_at s.dmem (first + 16 * k)) (lanes_at s.dmem (second + 16 * k))) s.dmem t.dmem sums n
+  -- pc is after the words, and nothing else changed but scalar registers 1 to 4, vector registers 1 to 3, flags and accumulators
   pub others : t ≡ record s {
     pc = place_after words s.pc;
     npc = place_after words s.npc;
-    registers = t.registers;
-    vectors = t.vectors;
+    registers = registers_but (1 ∷ 2 ∷ 3 ∷ 4 ∷ []) s.registers t.registers;
+    vectors = vectors_but (1 ∷ 2 ∷ 3 ∷ []) s.vectors t.vectors;
     accumulators = t.accumulators;
     flags = t.flags;
     dmem = t.dmem;

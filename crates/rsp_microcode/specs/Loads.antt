@@ -16,6 +16,9 @@ pub record WholeLoad : Type 0 where
   pub offset : ℕ
   pub base : ℕ
 
+abbrev pub load : ℕ → ℕ → ℕ → WholeLoad
+load vt offset base = record { vt = vt; offset = offset; base = base }
+
 abbrev pub load_of : WholeLoad → Inst
 load_of l = lqv l.vt l.offset l.base
 

@@ -13,6 +13,7 @@ use Rattle.rsp_lanes.specs.Lanes.{each_lane}
 use Rattle.rsp_scalar.specs.Flow.{going_on}
 use Rattle.rsp_machine.specs.State.{State}
 use Rattle.rsp_microcode.specs.Runs.{ran_through, place_after}
+use Rattle.rsp_microcode.specs.Reads.{Write, after_writes}
 
 -- a multiply instruction: a term of a sum
 pub record Term : Type 0 where
@@ -38,11 +39,11 @@ abbrev pub independent : List Term → Bool
 independent [] = true
 independent (m ∷ ms) = list_all (reads_other m.fields.vd) ms && independent ms
 
--- the registers after the results were written
-abbrev pub written : List Term → List (List ℕ) → List (List ℕ) → List (List ℕ)
-written [] rs file = file
-written (m ∷ ms) [] file = file
-written (m ∷ ms) (r ∷ rs) file = written ms rs (with_vector file m.fields.vd r)
+-- the results as writes of registers
+abbrev pub writes : List Term → List (List ℕ) → List (Write (List ℕ))
+writes [] rs = []
+writes (m ∷ ms) [] = []
+writes (m ∷ ms) (r ∷ rs) = (m.fields.vd, r) ∷ writes ms rs
 
 -- the state after them
 abbrev pub multiplied : List Term → State → State
@@ -50,7 +51,7 @@ multiplied ms s = record s {
   pc = place_after ms s.pc;
   npc = place_after ms s.npc;
   accumulators = after (map (step_in s.vectors) ms) s.accumulators;
-  vectors = written ms (results (map (step_in s.vectors) ms) s.accumulators) s.vectors;
+  vectors = after_writes with_vector (writes ms (results (map (step_in s.vectors) ms) s.accumulators)) s.vectors;
 }
 
 -- the first replaces the accumulators, the others add to them, and their fields are those of a word
@@ -64,13 +65,17 @@ abbrev pub is_sum : List Term → Bool
 is_sum [] = false
 is_sum (m ∷ ms) = (not (adds m) && list_all adds ms) && list_all has_fields (m ∷ ms)
 
--- the state after such a sum
+-- what such a sum writes: for each multiply in order the clamp of the sum so far
+abbrev pub sum_writes : List Term → List (List ℕ) → List (Write (List ℕ))
+sum_writes ms file = writes ms (clamped_sums (map (step_in file) ms) (λ _. pos 0))
+
+-- the state after it
 abbrev pub summed : List Term → State → State
 summed ms s = record s {
   pc = place_after ms s.pc;
   npc = place_after ms s.npc;
   accumulators = each_lane (λ i. s48 (sum_of (map (step_in s.vectors) ms) i));
-  vectors = written ms (clamped_sums (map (step_in s.vectors) ms) (λ _. pos 0)) s.vectors;
+  vectors = after_writes with_vector (sum_writes ms s.vectors) s.vectors;
 }
 
 -- A run through a sum of products, of which none reads what another wrote: each accumulator is the sum of all the addends,

@@ -1,12 +1,13 @@
 -- The reciprocal of a fixed-point number: from the table, and better by one step of Newton's method.
-use Rattle.std.specs.Prelude.{ℕ, ℤ, pos, ◌≡◌, ◌-ℤ◌, ◌*ℤ◌, ◌++◌, List, codes, slice_index}
+use Rattle.std.specs.Prelude.{ℕ, ℤ, pos, ◌≡◌, ◌-ℤ◌, ◌*ℤ◌, ◌++◌, List, [], ◌∷◌, codes, slice_index}
 use Rattle.rsp_divide.specs.Quotients.{reciprocal_of}
 use Rattle.rsp_lanes.specs.Lanes.{each_lane}
 use Rattle.rsp_loadstore.specs.File.{vector}
 use Rattle.rsp_machine.specs.State.{State, IsState}
 use Rattle.rsp_machine.specs.Laws.{steps_of}
-use Rattle.rsp_microcode.specs.Runs.{IsAt}
-use Rattle.rsp_microcode.specs.FixedProduct.{fixed, limited, fixed_product}
+use Rattle.rsp_microcode.specs.Runs.{IsAt, place_after}
+use Rattle.rsp_microcode.specs.Kept.{vectors_but}
+use Rattle.rsp_microcode.specs.Fixed.{fixed, limited, fixed_product}
 use Rattle.rsp_microcode.specs.Text.{line}
 
 -- lane 0 of $v1 and $v2 holds the number, lanes 0 to 2 of $v8 hold 2, 1 and -2, and 0 is in $v0; the result is lane 0 of $v11 and $v12
@@ -41,9 +42,18 @@ pub record HasConstants (v : List ℕ) : Type 0 where
   pub one : slice_index v 1 ≡ 1
   pub minus_two : slice_index v 2 ≡ 65534
 
--- from each state that is about to execute the words: the step from the table's reciprocal, exactly
+-- what the seventeen steps from s to t do with the number x: the step from the table's reciprocal, exactly, and nothing else
+pub record Improves (words : List ℕ) (s t : State) (x : ℤ) : Type 0 where
+  pub reciprocal : fixed (vector t.vectors 11) (vector t.vectors 12) 0 ≡ improved x (reciprocal_of x)
+  pub others : t ≡ record s {
+    pc = place_after words s.pc;
+    npc = place_after words s.npc;
+    vectors = vectors_but (3 ∷ 4 ∷ 5 ∷ 6 ∷ 9 ∷ 10 ∷ 11 ∷ 12 ∷ []) s.vectors t.vectors;
+    accumulators = t.accumulators;
+    divider = t.divider;
+  }
+
+-- from each state that is about to execute the words
 abbrev pub ImprovesReciprocal : List ℕ → Type 0
 ImprovesReciprocal words = (s : State) → IsState s → IsAt words s → vector s.vectors 0 ≡ each_lane (λ _. 0) → HasConstants (vector s.vectors 8)
-    → (x : ℤ) → x ≡ fixed (vector s.vectors 1) (vector s.vectors 2) 0
-    → (t : State) → t ≡ steps_of 17 s
-    → fixed (vector t.vectors 11) (vector t.vectors 12) 0 ≡ improved x (reciprocal_of x)
+    → Improves words s (steps_of 17 s) (fixed (vector s.vectors 1) (vector s.vectors 2) 0)

@@ -1,7 +1,8 @@
--- Runs of microcode: what stands at pc, straight code, code that ends with a branch and its slot, and rounds of a loop.
-use Rattle.std.specs.Prelude.{ℕ, ◌≡◌, ◌<◌, ◌+◌, ◌*◌, Bool, true, false, ◌&&◌, List, [], ◌∷◌, ◌++◌, length, map, Some}
+-- Runs of microcode: what stands at pc, straight code, code that ends with a branch and its slot.
+use Rattle.std.specs.Prelude.{ℕ, ◌≡◌, ◌%◌, ◌==◌, Bool, true, false, not, ◌&&◌, List, [], ◌∷◌, ◌++◌, length, map, Some}
 use Rattle.rsp_decode.specs.declared.inst.Inst.{Inst}
 use Rattle.rsp_decode.specs.declared.inst.Inst.TheVariants.{JumpRegister, JumpLinkRegister, Break, BranchSign, BranchEqual, Jump, MoveSp}
+use Rattle.rsp_rows.specs.declared.scalar.MoveRow.TheVariants.{From, To}
 use Rattle.rsp_decode.specs.Table.{inst_of}
 use Rattle.rsp_memory.specs.Memory.{word_at}
 use Rattle.rsp_scalar.specs.Flow.{going_on}
@@ -15,7 +16,8 @@ abbrev pub StepsOver : Type 0
 StepsOver = (i : Inst) (s : State) → s.sp.halted ≡ false → inst_of (word_at s.imem s.pc) ≡ Some i → (executed i s).sp.single_step ≡ false
     → step_of s ≡ (Done, executed i s)
 
--- whether a row leaves pc, npc and the SP registers to the step: all but jumps, branches, BREAK and moves of SP registers
+-- Whether a row leaves pc, npc and the SP registers to the step: all but jumps, branches, BREAK, moves to SP registers, and the move
+-- from number 7, which takes the semaphore.
 abbrev pub goes_on : Inst → Bool
 goes_on (JumpRegister rs) = false
 goes_on (JumpLinkRegister rd rs) = false
@@ -23,7 +25,8 @@ goes_on Break = false
 goes_on (BranchSign row rs offset) = false
 goes_on (BranchEqual row rs rt offset) = false
 goes_on (Jump row target) = false
-goes_on (MoveSp row rt n) = false
+goes_on (MoveSp From rt n) = not (n % 16 == 7)
+goes_on (MoveSp To rt n) = false
 goes_on _ = true
 
 abbrev pub all_go_on : List Inst → Bool
@@ -74,9 +77,3 @@ BranchRuns = (words : List ℕ) (front : List Inst) (branch slot : Inst) (s : St
     → map inst_of words ≡ map Some (front ++ branch ∷ slot ∷ []) → all_go_on front ≡ true → branches branch ≡ true → goes_on slot ≡ true
     → IsAt words s
     → steps_of (length words) s ≡ executed slot (executed branch (ran_through front s))
-
--- A loop of n rounds of so many steps each: where each comes from one of these states to the next, all of them come from the
--- first to the last.
-abbrev pub RoundsRun : Type 0
-RoundsRun = (size n : ℕ) (states : ℕ → State) → ((k : ℕ) → k < n → steps_of size (states k) ≡ states (k + 1))
-    → steps_of (n * size) (states 0) ≡ states n

@@ -1,5 +1,5 @@
 -- Matrices of 4 by 4 fixed-point numbers times vectors of four whole numbers, two at once.
-use Rattle.std.specs.Prelude.{ℕ, ℤ, ◌≡◌, ◌+◌, ◌-◌, ◌*◌, ◌%◌, ◌<◌, ◌+ℤ◌, ◌*ℤ◌, ◌++◌, List, codes, slice_index}
+use Rattle.std.specs.Prelude.{ℕ, ℤ, ◌≡◌, ◌+◌, ◌-◌, ◌*◌, ◌%◌, ◌<◌, ◌+ℤ◌, ◌*ℤ◌, ◌++◌, List, [], ◌∷◌, codes, slice_index}
 use Rattle.rsp_numbers.specs.Numbers.{s16, s48}
 use Rattle.rsp_memory.specs.Memory.{byte_at}
 use Rattle.rsp_lanes.specs.Lanes.{each_lane}
@@ -9,7 +9,8 @@ use Rattle.rsp_machine.specs.State.{State, IsState}
 use Rattle.rsp_machine.specs.Laws.{steps_of}
 use Rattle.rsp_microcode.specs.Runs.{IsAt, place_after}
 use Rattle.rsp_microcode.specs.Lanes.{lanes_at, IsOutside}
-use Rattle.rsp_microcode.specs.FixedProduct.{fixed, limited}
+use Rattle.rsp_microcode.specs.Kept.{vectors_but}
+use Rattle.rsp_microcode.specs.Fixed.{fixed, limited}
 use Rattle.rsp_microcode.specs.Text.{line}
 
 -- $1 has the address of the matrices, $2 that of the vectors, $3 that of the result; 0 is in $v0
@@ -37,17 +38,17 @@ text =
     ++ line (codes "sqv $v11[0], 16($3)")
 
 -- Number (i, k) of the matrices at an address: lanes 0 to 3 are the rows of the first matrix, lanes 4 to 7 those of the second.
--- The high parts of the columns 0 to 3 stand first, 16 bytes each, and the low parts behind them.
+-- The high parts of the columns 0 to 3 stand first, 16 bytes each, and the low parts after them.
 abbrev pub matrix_at : List ℕ → ℕ → ℕ → ℕ → ℤ
-matrix_at memory a i k = fixed (lanes_at memory (a + 16 * k)) (lanes_at memory (a + 64 + 16 * k)) i
+matrix_at memory a i k = fixed (lanes_at memory (a + 16 * k)) (lanes_at memory (a + 16 * (4 + k))) i
 
 -- Coordinate k of the vector that lane i belongs to: the first vector stands in lanes 0 to 3, the second in lanes 4 to 7.
 abbrev pub coordinate_at : List ℕ → ℕ → ℕ → ℕ → ℤ
 coordinate_at memory a i k = s16 (slice_index (lanes_at memory a) (i - i % 4 + k))
 
 -- Row i of a matrix times its vector: the sum of the four products, as the accumulator keeps it (modulo 2^48, with its sign),
--- limited to 32 signed bits. Nothing is rounded, since the coordinates are whole numbers. The sum wraps only where it reaches
--- 2^47, which is 2^31 as a number: 65536 times the limit.
+-- clamped to 32 signed bits. Nothing is rounded, since the coordinates are whole numbers. The sum wraps only where it reaches
+-- 2^47, which is 2^31 as a number: 65536 times the bound.
 abbrev pub transformed : List ℕ → ℕ → ℕ → ℕ → ℤ
 transformed memory matrix vector i =
     limited (s48 (((matrix_at memory matrix i 0 *ℤ coordinate_at memory vector i 0
@@ -63,16 +64,13 @@ AreAligned s = (register s.registers 1 % 16 ≡ 0) × (register s.registers 2 % 
 pub record Transforms (words : List ℕ) (s t : State) (matrix vectors result : ℕ) : Type 0 where
   -- the eight numbers at the result: high parts first, then the low ones
   pub product : (i : ℕ) → i < 8 → fixed (lanes_at t.dmem result) (lanes_at t.dmem (result + 16)) i ≡ transformed s.dmem matrix vectors i
-  -- no other byte of DMEM changed
+  -- no other byte of DMEM changed, nor anything else but vector registers 1 to 11, the accumulators, pc and npc
   pub outside : (x : ℕ) → IsOutside result 32 x → byte_at t.dmem x ≡ byte_at s.dmem x
-  -- the vector registers from 12 on are as they were
-  pub registers : (n : ℕ) → 11 < n → vector t.vectors n ≡ vector s.vectors n
-  -- nor did anything else change, but the accumulators, pc and npc
   pub others : t ≡ record s {
     pc = place_after words s.pc;
     npc = place_after words s.npc;
+    vectors = vectors_but (1 ∷ 2 ∷ 3 ∷ 4 ∷ 5 ∷ 6 ∷ 7 ∷ 8 ∷ 9 ∷ 10 ∷ 11 ∷ []) s.vectors t.vectors;
     accumulators = t.accumulators;
-    vectors = t.vectors;
     dmem = t.dmem;
   }
 

@@ -1,11 +1,21 @@
 //! What the theorems about microcode are proved with: laws of any words and any state. Each is the
 //! contract of a function that does nothing; a function that calls it may use it in its proof.
 
+ghost use Rattle.rsp_microcode.specs.Blocks.{BothStand, FirstBlock, NextBlock, StepsAfter};
+ghost use Rattle.rsp_microcode.specs.Calls.{CallRuns, RoutineRuns};
+ghost use Rattle.rsp_microcode.specs.Buffers.{FilledNone, FilledOne, FilledSpares};
+ghost use Rattle.rsp_microcode.specs.Fixed.{FixedParts, FixedProduct, FixedRange, FixedSum, FixedTimes};
+ghost use Rattle.rsp_microcode.specs.Frames.{Frame, ScalarsAbove, ScalarsSpared, VectorsAbove, VectorsSpared};
+ghost use Rattle.rsp_microcode.specs.Kept.{KeptBut};
+ghost use Rattle.rsp_microcode.specs.Pieces.{PiecesRun, RunsOfPieces};
 ghost use Rattle.rsp_microcode.specs.Lanes.{LoadsLanes, StoresLanes};
 ghost use Rattle.rsp_microcode.specs.Loads.{RunsOfLoads};
 ghost use Rattle.rsp_microcode.specs.Multiplies.{SumsOfMultiplies};
+ghost use Rattle.rsp_microcode.specs.Ranges.{RangesKept};
 ghost use Rattle.rsp_microcode.specs.Reads.{ByteReads, LaneReads, LanesReads, OthersRead, ScalarReads, VectorReads, WordReads};
-ghost use Rattle.rsp_microcode.specs.Runs.{BranchRuns, RoundsRun, StepsOver, StraightRuns};
+ghost use Rattle.rsp_microcode.specs.Reciprocals.{Reciprocals};
+ghost use Rattle.rsp_microcode.specs.Runs.{BranchRuns, StepsOver, StraightRuns};
+ghost use Rattle.rsp_microcode.specs.Transfers.{FetchRuns, SendRuns};
 
 use rsp_multiply::laws::l4;
 
@@ -23,11 +33,6 @@ pub fn straight_runs()
 /// Straight microcode that ends with a branch or a jump, taken or not, and the row in its delay slot.
 pub fn branch_runs()
     ensures { BranchRuns }
-{}
-
-/// Loops: where each of n rounds comes from one state to the next, all of them come to the last.
-pub fn rounds_run()
-    ensures { RoundsRun }
 {}
 
 /// LQV from an aligned address loads the eight lanes that stand there.
@@ -52,6 +57,20 @@ pub fn sums_of_multiplies()
 {
     l4();
 }
+
+/// Fixed-point numbers: by their halves, in their range, as the two clamps of a sum, as the product of two of them, and times a whole number.
+pub fn fixed_numbers()
+    ensures parts { FixedParts }
+    ensures range { FixedRange }
+    ensures sum { FixedSum }
+    ensures product { FixedProduct }
+    ensures times { FixedTimes }
+{}
+
+/// Reciprocals: what VRCPH, VRCPL and VRCPH leave is the table's reciprocal, as a fixed-point number.
+pub fn reciprocals()
+    ensures { Reciprocals }
+{}
 
 /// A vector register after writes holds what was last written to it.
 pub fn vector_reads()
@@ -87,3 +106,60 @@ pub fn lanes_reads()
 pub fn others_read()
     ensures { OthersRead }
 {}
+
+/// Straight microcode, with branches: all that none of its rows may change is as it was.
+pub fn frames()
+    ensures kept { Frame }
+    ensures scalars { ScalarsSpared }
+    ensures above { ScalarsAbove }
+    ensures vectors { VectorsSpared }
+    ensures vectors_above { VectorsAbove }
+{}
+
+/// Blocks of words, one after the other.
+pub fn blocks()
+    ensures steps { StepsAfter }
+    ensures stand { BothStand }
+    ensures first { FirstBlock }
+    ensures next { NextBlock }
+{}
+
+/// Transfers: three moves to SP registers take a row of bytes from RDRAM to DMEM, or to RDRAM, and change nothing else.
+pub fn transfers()
+    ensures fetch { FetchRuns }
+    ensures send { SendRuns }
+{}
+
+/// Calls: what `jal` with its slot leaves, and what a routine that ends with `jr $31` does.
+pub fn calls()
+    ensures call { CallRuns }
+    ensures routine { RoutineRuns }
+{
+    l4();
+}
+
+/// A buffer that a loop fills: nothing at the start, one vector more by each store, and a buffer that it spares.
+pub fn buffers()
+    ensures none { FilledNone }
+    ensures one { FilledOne }
+    ensures spares { FilledSpares }
+{}
+
+/// The registers after instructions are those before them, but for the ones that they write.
+pub fn registers_kept()
+    ensures { KeptBut }
+{}
+
+/// From a state in its ranges, instructions come to a state in its ranges.
+pub fn ranges_kept()
+    ensures { RangesKept }
+{}
+
+/// Straight microcode by pieces: whole loads, sums of multiplies, whole stores, and any other instructions that go on. The
+/// state after them computes; steps over their words come to it, keep the ranges, and leave all else as it was.
+pub fn runs_of_pieces()
+    ensures pieces { RunsOfPieces }
+    ensures steps { PiecesRun }
+{
+    l4();
+}

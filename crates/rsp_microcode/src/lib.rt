@@ -5,7 +5,10 @@
 #![tactic(auto)]
 
 mod adding;
+mod fetching;
 pub mod laws;
+mod mixing;
+mod mixing_all;
 mod newton;
 mod one_add;
 mod product;
@@ -13,6 +16,9 @@ mod running;
 mod transforming;
 
 pub use adding::add_buffers;
+pub use fetching::fetch_row;
+pub use mixing::mix_lanes;
+pub use mixing_all::mix_buffers;
 pub use newton::improve_reciprocal;
 pub use one_add::add_lanes;
 pub use product::multiply_fixed;

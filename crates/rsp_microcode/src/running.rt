@@ -4,13 +4,14 @@ ghost use Rattle.std.specs.Prelude.{ℕ, ◌≡◌, ◌<◌, IfOk, IsOk};
 ghost use Rattle.rsp_lanes.specs.Lanes.{each_lane};
 ghost use Rattle.rsp_loadstore.specs.File.{vector};
 ghost use Rattle.rsp_machine.specs.Laws.{steps_of};
-ghost use Rattle.rsp_microcode.specs.FixedProduct.{fixed, fixed_product, words};
+ghost use Rattle.rsp_microcode.specs.Fixed.{fixed, fixed_product};
+ghost use Rattle.rsp_microcode.specs.FixedProduct.{words};
 ghost use Rattle.rsp_microcode.specs.Runs.{IsAt};
 
-use crate::laws;
 use rsp_acc::Acc;
 use rsp_machine::{Machine, RangeFault};
 use rsp_memory::{Bank, Rdram};
+use rsp_multiply::laws::l4;
 
 /// Takes five steps over the words of [`crate::multiply_fixed`].
 #[tactic(auto, unfolding(rsp_machine::specs::Laws::steps_of))]
@@ -25,8 +26,7 @@ pub fn multiply<A: Acc>(machine: &mut Machine<A>)
     for _ in 0..5u64 {
         let _ = machine.step();
     }
-    laws::straight_runs();
-    laws::sums_of_multiplies();
+    l4();
 }
 
 /// The words' bytes.

@@ -1,0 +1,141 @@
+-- Straight microcode by pieces.
+use Rattle.std.proofs.Common.{◌≡◌, ℕ, List, [], ◌∷◌, ◌++◌, length, map, Some, arith, true, refl, ap, sym, subst, ◌∙◌}
+use Rattle.std.proofs.lemmas.Bool.{and_parts, ltb-true}
+use Rattle.rsp_decode.specs.declared.inst.Inst.{Inst}
+use Rattle.rsp_decode.specs.Table.Words.{inst_of}
+use Rattle.std.proofs.lemmas.List.{length-map}
+use Rattle.rsp_scalar.specs.Registers.{register}
+use Rattle.rsp_loadstore.specs.File.{vector}
+use Rattle.rsp_multiply.specs.Laws.{SumsOfProducts}
+use Rattle.rsp_scalar.specs.Flow.{going_on}
+use Rattle.rsp_machine.specs.State.{State, IsState}
+use Rattle.rsp_machine.specs.Step.{executed}
+use Rattle.rsp_machine.specs.Laws.{steps_of}
+use Rattle.rsp_microcode.specs.Runs.{goes_on, all_go_on, ran_through, place_after}
+use Rattle.rsp_microcode.specs.Frames.{of_rows, with_parts, all_stay}
+use Rattle.rsp_microcode.specs.Ranges.{fits_word, all_fit}
+use Rattle.rsp_microcode.specs.Lanes.{sqv}
+use Rattle.rsp_microcode.specs.Loads.{WholeLoad, load_of}
+use Rattle.rsp_microcode.specs.Multiplies.{Term, instruction}
+use Rattle.rsp_microcode.specs.Kept.{Spares}
+use Rattle.rsp_microcode.specs.Pieces.{Piece, takes, sums, puts, rows, code_of, pieces_fit, RunsOfPieces, PiecesRun}
+use Rattle.rsp_microcode.proofs.Runs.{gone, ran_on, straight}
+use Rattle.rsp_microcode.proofs.Frames.{framed, scalars_spared, vectors_spared}
+use Rattle.rsp_microcode.proofs.Ranges.{ranges}
+use Rattle.rsp_microcode.proofs.Kept.{changed_is}
+use Rattle.rsp_microcode.proofs.Bytes.{has_bytes}
+use Rattle.rsp_microcode.proofs.Lanes.{stores_lanes}
+use Rattle.rsp_microcode.proofs.LoadRuns.{loads_run}
+use Rattle.rsp_microcode.proofs.Multiplies.{sums as sums_run}
+
+-- straight code leaves pc where it goes on to
+pub places_run : (is : List Inst) (s : State) → all_go_on is ≡ true → s.npc ≡ going_on s.pc
+    → ((ran_through is s).pc ≡ place_after is s.pc) × ((ran_through is s).npc ≡ going_on (place_after is s.pc))
+places_run [] s h n = (refl, n)
+places_run (i ∷ is) s h n =
+    let parts = and_parts (goes_on i) (all_go_on is) h in
+    let g = gone i s parts.0 in
+    let more = places_run is (executed i s) parts.1 (g.npc ∙ ap going_on (sym g.pc)) in
+    let e : (executed i s).pc ≡ going_on s.pc = g.pc ∙ n in
+    (more.0 ∙ ap (place_after is) e, more.1 ∙ ap (λ p. going_on (place_after is p)) e)
+
+-- it stays, and so do pieces
+pub stay_all : (is : List Inst) → all_go_on is ≡ true → all_stay is ≡ true
+stay_all [] h = refl
+stay_all (i ∷ is) h = let parts = and_parts (goes_on i) (all_go_on is) h in rw (parts.0, stay_all is parts.1) refl
+
+abbrev IsStraight : List Inst → Type 0
+IsStraight is = (all_go_on is ≡ true) × (all_fit is ≡ true)
+
+both_straight : (a b : List Inst) → IsStraight a → IsStraight b → IsStraight (a ++ b)
+both_straight [] b h k = k
+both_straight (i ∷ is) b h k =
+    let g = and_parts (goes_on i) (all_go_on is) h.0 in
+    let f = and_parts (fits_word i) (all_fit is) h.1 in
+    let more = both_straight is b (g.1, f.1) k in
+    (rw (g.0, more.0) refl, rw (f.0, more.1) refl)
+
+loads_straight : (ls : List WholeLoad) → IsStraight (map load_of ls)
+loads_straight [] = (refl, refl)
+loads_straight (l ∷ ls) = loads_straight ls
+
+sums_straight : (ms : List Term) → IsStraight (map instruction ms)
+sums_straight [] = (refl, refl)
+sums_straight (m ∷ ms) = sums_straight ms
+
+pub pieces_straight : (ps : List Piece) → pieces_fit ps ≡ true → IsStraight (code_of ps)
+pieces_straight [] h = (refl, refl)
+pieces_straight (takes ls ∷ ps) h = let parts = and_parts _ _ h in both_straight (map load_of ls) _ (loads_straight ls) (pieces_straight ps parts.1)
+pieces_straight (sums ms ∷ ps) h = let parts = and_parts _ _ h in both_straight (map instruction ms) _ (sums_straight ms) (pieces_straight ps parts.1)
+pieces_straight (puts vt offset base ∷ ps) h = let parts = and_parts _ _ h in pieces_straight ps parts.1
+pieces_straight (rows is ∷ ps) h = let parts = and_parts _ _ h in both_straight is _ (and_parts _ _ parts.0) (pieces_straight ps parts.1)
+
+-- what a straight run to a known state hands on
+handed_on : (is : List Inst) (s t : State) → IsStraight is → ran_through is s ≡ t → IsState s → s.npc ≡ going_on s.pc → IsState t × (t.npc ≡ going_on t.pc)
+handed_on is s t h e ok next =
+    let p = places_run is s h.0 next in
+    subst (λ (x : State). IsState x × (x.npc ≡ going_on x.pc)) e (ranges is s (stay_all is h.0) h.1 ok, p.1 ∙ ap going_on (sym p.0))
+
+pub pieces : SumsOfProducts → RunsOfPieces
+pieces law [] s ok next h a = (refl, ok)
+pieces law (takes ls ∷ ps) s ok next h a =
+    let parts = and_parts _ _ h in
+    let one = (loads_run ls s ok.vectors (has_bytes s.dmem ok.dmem) next parts.0 a.0).0 in
+    let more = handed_on (map load_of ls) s _ (loads_straight ls) one ok next in
+    let rest = pieces law ps _ more.0 more.1 parts.1 a.1 in
+    (ran_on (map load_of ls) (code_of ps) s ∙ ap (ran_through (code_of ps)) one ∙ rest.0, rest.1)
+pieces law (sums ms ∷ ps) s ok next h a =
+    let parts = and_parts _ _ h in
+    let test = and_parts _ _ parts.0 in
+    let one = sums_run law ms s ok.vectors next test.0 test.1 in
+    let more = handed_on (map instruction ms) s _ (sums_straight ms) one ok next in
+    let rest = pieces law ps _ more.0 more.1 parts.1 a in
+    (ran_on (map instruction ms) (code_of ps) s ∙ ap (ran_through (code_of ps)) one ∙ rest.0, rest.1)
+pieces law (puts vt offset base ∷ ps) s ok next h a =
+    let parts = and_parts _ _ h in
+    let field = and_parts _ _ parts.0 in
+    let one = stores_lanes vt offset base s (ok.vectors.registers vt (ltb-true _ _ field.0)).0 (ltb-true _ _ field.1) a.0 in
+    let more = handed_on (sqv vt offset base ∷ []) s _ (refl, refl) one ok next in
+    let rest = pieces law ps _ more.0 more.1 parts.1 a.1 in
+    (ap (ran_through (code_of ps)) one ∙ rest.0, rest.1)
+pieces law (rows is ∷ ps) s ok next h a =
+    let parts = and_parts _ _ h in
+    let more = handed_on is s _ (and_parts _ _ parts.0) refl ok next in
+    let rest = pieces law ps _ more.0 more.1 parts.1 a in
+    (ran_on is (code_of ps) s ∙ rest.0, rest.1)
+
+-- as many places go on as there are words
+same_places : {X Y : Type 0} (xs : List X) (ys : List Y) (p : ℕ) → length xs ≡ length ys → place_after xs p ≡ place_after ys p
+same_places [] [] p e = refl
+same_places [] (y ∷ ys) p e = absurd (omega arith)
+same_places (x ∷ xs) [] p e = absurd (omega arith)
+same_places (x ∷ xs) (y ∷ ys) p e = same_places xs ys (going_on p) (omega arith)
+
+pub placed : {X : Type 0} (xs : List X) (p : ℕ) → place_after xs (going_on p) ≡ going_on (place_after xs p)
+placed [] p = refl
+placed (x ∷ xs) p = placed xs (going_on p)
+
+pub pieces_run : SumsOfProducts → PiecesRun
+pieces_run law words ps decoded fits s ok at aligned =
+    let code = code_of ps in
+    let t = steps_of (length words) s in
+    let h = pieces_straight ps fits in
+    let stay = stay_all code h.0 in
+    let ran : t ≡ ran_through code s = straight words code s decoded h.0 at in
+    let long : length words ≡ length code = sym (length-map words inst_of) ∙ ap length decoded ∙ length-map code Some in
+    let places = places_run code s h.0 at.next in
+    let pc : t.pc ≡ place_after words s.pc = ap (λ (x : State). x.pc) ran ∙ places.0 ∙ sym (same_places words code s.pc long) in
+    let npc : t.npc ≡ place_after words s.npc =
+    ap (λ (x : State). x.npc) ran ∙ places.1 ∙ sym (ap going_on (same_places words code s.pc long)) ∙ sym (placed words s.pc) ∙ ap (place_after words) (sym at.next) in
+    let frame : t ≡ with_parts (of_rows code) s t = subst (λ (x : State). x ≡ with_parts (of_rows code) s x) (sym ran) (framed code s stay) in
+    let kept : IsState t = subst IsState (sym ran) (ranges code s stay h.1 ok) in
+    let spares : Spares code s t = record {
+      scalars = λ i spare. ap (λ (x : State). register x.registers i) ran ∙ scalars_spared code i s stay spare;
+      vectors = λ i spare. ap (λ (x : State). vector x.vectors i) ran ∙ vectors_spared code i s stay spare;
+    } in
+    record {
+      ran = ran ∙ (pieces law ps s ok at.next fits aligned).0;
+      ranges = kept;
+      spares = spares;
+      others = changed_is _ _ code s t ok kept spares pc npc frame;
+    }

@@ -1,0 +1,226 @@
+-- The ranges of a state, instruction by instruction.
+use Rattle.std.proofs.Common.{◌≡◌, ℕ, ◌+◌, ◌*◌, ◌/◌, ◌%◌, ◌<◌, ℤ, pos, ◌+ℤ◌, ◌*ℤ◌, negsuc, List, [], ◌∷◌, Bool, true, false, not, arith, nat_lt, nat_eq}
+use Rattle.std.specs.Prelude.{if◌then◌else◌, slice_index, ◌==◌}
+use Rattle.std.proofs.lemmas.Nat.{mod_below}
+use Rattle.std.proofs.lemmas.Int.{ints}
+use Rattle.std.proofs.lemmas.Bool.{and_parts, ltb-true}
+use Rattle.rsp_decode.specs.declared.inst.Inst.{Inst}
+use Rattle.rsp_decode.specs.declared.inst.Inst.TheVariants.{Shift, ShiftBy, JumpRegister, JumpLinkRegister, Break, Register, BranchSign, BranchEqual, Jump, Immediate, LoadUpper, Load, Store, MoveSp, MoveVector, MoveControl, Multiply, Round, MpegMultiply, ReadAccumulator, VectorAdd, VectorSelect, VectorClip, VectorMerge, VectorLogic, Divide, Idle, VectorLoad, VectorStore}
+use Rattle.rsp_rows.specs.declared.fields.VectorFields.{VectorFields}
+use Rattle.rsp_rows.specs.declared.vector.MultiplyRow.{MultiplyRow}
+use Rattle.rsp_rows.specs.declared.vector.RoundRow.{RoundRow}
+use Rattle.rsp_rows.specs.declared.vector.MpegRow.{MpegRow}
+use Rattle.rsp_rows.specs.declared.vector.DivideRow.{DivideRow}
+use Rattle.rsp_rows.specs.declared.vector.Control.{Control}
+use Rattle.rsp_divide.specs.declared.divider.Divider.{Divider}
+use Rattle.rsp_rows.specs.declared.scalar.MoveRow.TheVariants.{From, To}
+use Rattle.rsp_rows.specs.declared.scalar.JumpRow.TheVariants.{J, Jal}
+use Rattle.rsp_rows.specs.declared.scalar.SignRow.TheVariants.{Bltz, Bgez, Bltzal, Bgezal, Blez, Bgtz}
+use Rattle.rsp_rows.specs.declared.vector.Control.TheVariants.{Vco, Vcc, Vce}
+use Rattle.rsp_numbers.specs.Numbers.{AreNumbers, number, s16, modulo, sixteen_bits, high, middle, low}
+use Rattle.rsp_memory.specs.Memory.{IsMemory}
+use Rattle.rsp_lanes.specs.Lanes.{selected, IsVector}
+use Rattle.rsp_lanes.specs.Flags.{flags_at}
+use Rattle.rsp_lanes.specs.Outcome.{Rule, results_of, flags_after}
+use Rattle.rsp_lanes.specs.declared.flags.Flags.{Flags}
+use Rattle.rsp_lanes.proofs.Kit.{length_each}
+use Rattle.rsp_lanes.proofs.Products.{high_vector}
+use Rattle.rsp_multiply.specs.Rows.{accumulators_after, clamped_by, sar_of, sar_lane}
+use Rattle.rsp_multiply.specs.Mpeg.{accumulators_rounded, clamped_signed, accumulators_mpeg, halved_mpeg}
+use Rattle.rsp_divide.specs.Rows.{lane_written, divider_after}
+use Rattle.rsp_acc.specs.declared.parts.Clamp.TheVariants.{Signed}
+use Rattle.rsp_scalar.specs.Registers.{IsRegisters, with_register}
+use Rattle.rsp_scalar.specs.Rows.{branch_target}
+use Rattle.rsp_scalar.specs.Flow.{going_on}
+use Rattle.rsp_loadstore.specs.File.{IsFile, vector}
+use Rattle.rsp_loadstore.specs.Loads.{loaded_file}
+use Rattle.rsp_loadstore.specs.Stores.{stored_memory}
+use Rattle.rsp_loadstore.specs.Moves.{moved_file, moved_value, with_register_half}
+use Rattle.rsp_loadstore.specs.Controls.{controlled_flags, control_value, with_control}
+use Rattle.rsp_machine.specs.State.{State, IsState, IsPlace, AreFlags, advanced}
+use Rattle.rsp_machine.specs.Vector.{multiplies, rounds, multiplies_mpeg, reads_accumulator, ruled, divides, loads_vector, stores_vector, moves_vector, moves_control}
+use Rattle.rsp_machine.specs.Step.{executed, worked, computes, loads, stores, jumps, moves_sp}
+use Rattle.rsp_microcode.specs.Frames.{stays}
+use Rattle.rsp_microcode.specs.Ranges.{fits_word, RangesKept}
+use Rattle.rsp_microcode.proofs.SpReads.{reads_leave, goes, peeked_small}
+use Rattle.rsp_microcode.proofs.RangesOfParts.{register_written, file_written, vector_small, vector_set, byte_written, load_kept, store_kept, are_numbers, low_numbers, wraps, clamp_small, sixteen_small, modulo_small, either_small}
+use Rattle.rsp_microcode.proofs.RangesOfResults.{shift_small, shift_by_small, register_small, immediate_small, load_small, stored_small, control_small, IsSmall, add_small, select_small, merge_small, clip_small, logic_small, selected_small, division_small, round_fits, mpeg_fits}
+
+-- places
+pub next_place : (p : ℕ) → p % 4 ≡ 0 → IsPlace (going_on p)
+next_place p e = (omega arith, omega arith)
+
+-- a state with one part written over
+advance : (s : State) → IsState s → IsState (advanced s)
+advance s is = record { pc = is.npc; npc = next_place s.npc is.npc.1; registers = is.registers; vectors = is.vectors; accumulators = is.accumulators; flags = is.flags; divider = is.divider; dmem = is.dmem; imem = is.imem; rdram = is.rdram; sp = is.sp }
+
+pub registers_kept : (s : State) (r : List ℕ) → IsRegisters r → IsState s → IsState (record s { registers = r })
+registers_kept s r h is = record { pc = is.pc; npc = is.npc; registers = h; vectors = is.vectors; accumulators = is.accumulators; flags = is.flags; divider = is.divider; dmem = is.dmem; imem = is.imem; rdram = is.rdram; sp = is.sp }
+
+pub dmem_kept : (s : State) (m : List ℕ) → IsMemory m → IsState s → IsState (record s { dmem = m })
+dmem_kept s m h is = record { pc = is.pc; npc = is.npc; registers = is.registers; vectors = is.vectors; accumulators = is.accumulators; flags = is.flags; divider = is.divider; dmem = h; imem = is.imem; rdram = is.rdram; sp = is.sp }
+
+vectors_kept : (s : State) (v : List (List ℕ)) → IsFile v → IsState s → IsState (record s { vectors = v })
+vectors_kept s v h is = record { pc = is.pc; npc = is.npc; registers = is.registers; vectors = h; accumulators = is.accumulators; flags = is.flags; divider = is.divider; dmem = is.dmem; imem = is.imem; rdram = is.rdram; sp = is.sp }
+
+accumulators_kept : (s : State) (x : List ℤ) → AreNumbers x → IsState s → IsState (record s { accumulators = x })
+accumulators_kept s x h is = record { pc = is.pc; npc = is.npc; registers = is.registers; vectors = is.vectors; accumulators = h; flags = is.flags; divider = is.divider; dmem = is.dmem; imem = is.imem; rdram = is.rdram; sp = is.sp }
+
+flags_kept : (s : State) (f : Flags) → AreFlags f → IsState s → IsState (record s { flags = f })
+flags_kept s f h is = record { pc = is.pc; npc = is.npc; registers = is.registers; vectors = is.vectors; accumulators = is.accumulators; flags = h; divider = is.divider; dmem = is.dmem; imem = is.imem; rdram = is.rdram; sp = is.sp }
+
+npc_kept : (s : State) (n : ℕ) → IsPlace n → IsState s → IsState (record s { npc = n })
+npc_kept s n h is = record { pc = is.pc; npc = h; registers = is.registers; vectors = is.vectors; accumulators = is.accumulators; flags = is.flags; divider = is.divider; dmem = is.dmem; imem = is.imem; rdram = is.rdram; sp = is.sp }
+
+divider_kept : (s : State) (d : Divider) → (d.input < 65536) × (d.output < 65536) → IsState s → IsState (record s { divider = d })
+divider_kept s d h is = record { pc = is.pc; npc = is.npc; registers = is.registers; vectors = is.vectors; accumulators = is.accumulators; flags = is.flags; divider = h; dmem = is.dmem; imem = is.imem; rdram = is.rdram; sp = is.sp }
+
+-- instructions with a rule for one lane
+rule_kept : (rule : Rule) (f : VectorFields) (s : State) → IsSmall rule → IsState s → IsState (ruled rule f s)
+unfolding ruled results_of flags_after
+rule_kept rule f s small is =
+    let a = vector s.vectors f.vs in
+    let b = selected (vector s.vectors f.vt) f.element in
+    let va = λ (i : ℕ). vector_small s.vectors f.vs i is.vectors in
+    let vb = λ (i : ℕ). selected_small (vector s.vectors f.vt) f.element i (λ j. vector_small s.vectors f.vt j is.vectors) in
+    vectors_kept _ _ (file_written s.vectors f.vd _ (λ l. high_vector _ (λ i. small _ _ (flags_at s.flags i) (va i) (vb i))) is.vectors)
+    (flags_kept _ _ (record { carry = length_each _; differ = length_each _; compare = length_each _; clip = length_each _; extra = length_each _ })
+    (accumulators_kept s _ (low_numbers s.accumulators _) is))
+
+divide_kept : (row : DivideRow) (vd lane vt e : ℕ) (s : State) → IsState s → IsState (divides row vd lane vt e s)
+unfolding divides lane_written divider_after
+divide_kept row vd lane vt e s is =
+    let v = λ (i : ℕ). vector_small s.vectors vt i is.vectors in
+    let d = division_small row s.divider (slice_index (vector s.vectors vt) (e % 8)) (slice_index (selected (vector s.vectors vt) e) lane)
+    is.divider.0 is.divider.1 (v (e % 8)) (selected_small (vector s.vectors vt) e lane v) in
+    vectors_kept _ _ (file_written s.vectors vd _ (λ l. vector_set _ lane _ d.0 (is.vectors.registers vd l)) is.vectors)
+    (divider_kept _ _ d.1 (accumulators_kept s _ (low_numbers s.accumulators _) is))
+
+multiply_kept : (row : MultiplyRow) (f : VectorFields) (s : State) → IsState s → IsState (multiplies row f s)
+unfolding multiplies accumulators_after clamped_by
+multiply_kept row f s is =
+    vectors_kept _ _ (file_written s.vectors f.vd _ (λ l. high_vector _ (λ i. clamp_small _ _)) is.vectors) (accumulators_kept s _ (are_numbers _ (λ i. wraps _)) is)
+
+round_kept : (row : RoundRow) (f : VectorFields) (s : State) → IsState s → IsState (rounds row f s)
+unfolding rounds accumulators_rounded clamped_signed
+round_kept row f s is =
+    vectors_kept _ _ (file_written s.vectors f.vd _ (λ l. high_vector _ (λ i. clamp_small Signed _)) is.vectors)
+    (accumulators_kept s _ (are_numbers _ (λ i. round_fits row (f.vs % 2 == 1) (number s.accumulators i) (slice_index (selected (vector s.vectors f.vt) f.element) i) (is.accumulators.1 i))) is)
+
+half_small : (p : ℤ) → sixteen_bits p / 16 * 16 < 65536
+half_small p = omega (arith, sixteen_small p)
+
+mpeg_kept : (row : MpegRow) (f : VectorFields) (s : State) → IsState s → IsState (multiplies_mpeg row f s)
+unfolding multiplies_mpeg accumulators_mpeg halved_mpeg
+mpeg_kept row f s is =
+    let v = λ (i : ℕ). vector_small s.vectors f.vt i is.vectors in
+    vectors_kept _ _ (file_written s.vectors f.vd _ (λ l. high_vector _ (λ i. half_small _)) is.vectors)
+    (accumulators_kept s _ (are_numbers _ (λ i. mpeg_fits row (number s.accumulators i) _ _ (is.accumulators.1 i) (vector_small s.vectors f.vs i is.vectors) (selected_small _ f.element i v))) is)
+
+sar_small : (e : ℕ) (x : ℤ) → sar_lane e x < 65536
+unfolding high middle low
+sar_small e x =
+    either_small (nat_eq e 8) _ _ 65536 (sixteen_small _)
+    (either_small (nat_eq e 9) _ _ 65536 (sixteen_small _) (either_small (nat_eq e 10) _ _ 65536 (sixteen_small x) (omega arith)))
+
+read_kept : (f : VectorFields) (s : State) → IsState s → IsState (reads_accumulator f s)
+unfolding reads_accumulator sar_of
+read_kept f s is = vectors_kept s _ (file_written s.vectors f.vd _ (λ l. high_vector _ (λ i. sar_small f.element _)) is.vectors) is
+
+half_written : (v : List ℕ) (e n : ℕ) → IsVector v → IsVector (with_register_half v e n)
+unfolding with_register_half
+half_written v e n is =
+    let one = byte_written v e (n / 256 % 256) (mod_below _ 256 (omega arith)) is in
+    go (nat_lt e 15) _ _ (byte_written _ (e + 1) (n % 256) (mod_below _ 256 (omega arith)) one) one
+  where
+    go : (b : Bool) (x y : List ℕ) → IsVector x → IsVector y → IsVector (if b then x else y)
+    go true x y h k = h
+    go false x y h k = k
+
+-- jumps and branches
+wrapped_place : (z k : ℤ) → z ≡ pos 4 *ℤ k → IsPlace (modulo z 4096)
+wrapped_place (pos n) (pos m) e = (omega (arith, ints), omega (arith, ints))
+wrapped_place (pos n) (negsuc m) e = absurd (omega (arith, ints))
+wrapped_place (negsuc n) (pos m) e = absurd (omega (arith, ints))
+wrapped_place (negsuc n) (negsuc m) e = (omega (arith, ints), omega (arith, ints))
+
+fourfold : (p : ℕ) (z : ℤ) → p % 4 ≡ 0 → pos p +ℤ pos 4 *ℤ z ≡ pos 4 *ℤ (pos (p / 4) +ℤ z)
+fourfold p z h = omega (arith, ints)
+
+target_place : (npc offset : ℕ) → npc % 4 ≡ 0 → IsPlace (branch_target npc offset)
+target_place npc offset h = wrapped_place _ (pos (npc / 4) +ℤ s16 offset) (fourfold npc (s16 offset) h)
+
+either_place : (b : Bool) (x y : ℕ) → IsPlace x → IsPlace y → IsPlace (if b then x else y)
+either_place true x y h k = h
+either_place false x y h k = k
+
+branch_place : (b : Bool) (s : State) (offset : ℕ) → IsState s → IsPlace (if b then branch_target s.pc offset else going_on s.pc)
+branch_place b s offset is = either_place b _ _ (target_place s.pc offset is.pc.1) (next_place s.pc is.pc.1)
+
+register_place : (n : ℕ) → IsPlace (n / 4 % 1024 * 4)
+register_place n = (omega arith, omega arith)
+
+jump_place : (target : ℕ) → IsPlace (target * 4 % 4096)
+jump_place target = (omega arith, omega arith)
+
+linked_kept : (n : ℕ) (s : State) (p : ℕ) → IsPlace p → IsState s → IsState (record s { npc = p; registers = with_register s.registers n (going_on s.pc) })
+linked_kept n s p h is =
+    let t : State = record s { npc = p } in
+    registers_kept t _ (register_written s.registers n (going_on s.pc) (let q = next_place s.pc is.pc.1 in omega (arith, q.0)) is.registers) (npc_kept s p h is)
+
+marked : (c : Control) (v : ℕ) (f : Flags) → AreFlags f → AreFlags (with_control c v f)
+marked Vco v f is = record { carry = length_each _; differ = length_each _; compare = is.compare; clip = is.clip; extra = is.extra }
+marked Vcc v f is = record { carry = is.carry; differ = is.differ; compare = length_each _; clip = length_each _; extra = is.extra }
+marked Vce v f is = record { carry = is.carry; differ = is.differ; compare = is.compare; clip = is.clip; extra = length_each _ }
+
+-- an instruction on a state whose places have gone on
+pub kept : (i : Inst) (s : State) → stays i ≡ true → fits_word i ≡ true → IsState s → IsState (worked i s)
+unfolding worked computes loads stores jumps moves_sp loads_vector stores_vector moves_vector moves_control loaded_file stored_memory moved_file moved_value controlled_flags control_value
+kept (Shift row rd rt amount) s h f is = registers_kept s _ (register_written _ rd _ (shift_small row _ amount (is.registers.words rt)) is.registers) is
+kept (ShiftBy row f) s h g is = registers_kept s _ (register_written _ f.rd _ (shift_by_small row _ _ (is.registers.words f.rt)) is.registers) is
+kept (Register row f) s h g is = registers_kept s _ (register_written _ f.rd _ (register_small row _ _ (is.registers.words f.rs) (is.registers.words f.rt)) is.registers) is
+kept (Immediate row rt rs imm) s h f is = registers_kept s _ (register_written _ rt _ (immediate_small row _ imm (is.registers.words rs) (ltb-true imm 65536 f)) is.registers) is
+kept (LoadUpper rt imm) s h f is = let l : imm < 65536 = ltb-true imm 65536 f in registers_kept s _ (register_written _ rt _ (omega arith) is.registers) is
+kept (Load row f) s h g is = registers_kept s _ (register_written _ f.rt _ (load_small row s.dmem _ is.dmem) is.registers) is
+kept (Store row f) s h g is = dmem_kept s _ (stored_small row s.dmem _ _ (is.registers.words f.rt) is.dmem) is
+kept (JumpRegister rs) s h f is = npc_kept s _ (register_place _) is
+kept (JumpLinkRegister rd rs) s h f is = linked_kept rd s _ (register_place _) is
+kept Break s h f is = cc
+kept (BranchSign Bltz rs offset) s h f is = npc_kept s _ (branch_place _ s offset is) is
+kept (BranchSign Bgez rs offset) s h f is = npc_kept s _ (branch_place _ s offset is) is
+kept (BranchSign Bltzal rs offset) s h f is = linked_kept 31 s _ (branch_place _ s offset is) is
+kept (BranchSign Bgezal rs offset) s h f is = linked_kept 31 s _ (branch_place _ s offset is) is
+kept (BranchSign Blez rs offset) s h f is = npc_kept s _ (branch_place _ s offset is) is
+kept (BranchSign Bgtz rs offset) s h f is = npc_kept s _ (branch_place _ s offset is) is
+kept (BranchEqual row rs rt offset) s h f is = npc_kept s _ (branch_place _ s offset is) is
+kept (Jump J target) s h f is = npc_kept s _ (jump_place target) is
+kept (Jump Jal target) s h f is = linked_kept 31 s _ (jump_place target) is
+kept (MoveSp From rt n) s h f is =
+    let e = reads_leave n s.sp (goes (not (n % 16 == 7)) h) in
+    rw e (registers_kept s _ (register_written _ rt _ (peeked_small n s.sp is.sp) is.registers) is)
+kept (MoveSp To rt n) s h f is = cc
+kept (MoveVector From rt n element) s h f is = registers_kept s _ (register_written _ rt _ (modulo_small _) is.registers) is
+kept (MoveVector To rt n element) s h f is = vectors_kept s _ (file_written s.vectors n _ (λ l. half_written _ element _ (is.vectors.registers n l)) is.vectors) is
+kept (MoveControl From rt c) s h f is = registers_kept s _ (register_written _ rt _ (control_small c s.flags is.flags) is.registers) is
+kept (MoveControl To rt c) s h f is = flags_kept s _ (marked c _ s.flags is.flags) is
+kept (Multiply row f) s h g is = multiply_kept row f s is
+kept (Round row f) s h g is = round_kept row f s is
+kept (MpegMultiply row f) s h g is = mpeg_kept row f s is
+kept (ReadAccumulator f) s h g is = read_kept f s is
+kept (VectorAdd row f) s h g is = rule_kept _ f s (add_small row) is
+kept (VectorSelect row f) s h g is = rule_kept _ f s (select_small row) is
+kept (VectorClip row f) s h g is = rule_kept _ f s (clip_small row) is
+kept (VectorMerge f) s h g is = rule_kept _ f s merge_small is
+kept (VectorLogic row f) s h g is = rule_kept _ f s (logic_small row) is
+kept (Divide row vd lane vt e) s h f is = divide_kept row vd lane vt e s is
+kept (Idle row) s h f is = is
+kept (VectorLoad row f) s h g is = vectors_kept s _ (load_kept row s.dmem f.vt f.element _ s.vectors is.dmem is.vectors) is
+kept (VectorStore row f) s h g is = dmem_kept s _ (store_kept s.vectors _ s.dmem is.vectors is.dmem) is
+
+pub ranges : RangesKept
+unfolding executed
+ranges [] s h f is = is
+ranges (i ∷ is) s h f ok =
+    let a = and_parts _ _ h in
+    let b = and_parts _ _ f in
+    ranges is _ a.1 b.1 (kept i (advanced s) a.0 b.0 (advance s ok))

@@ -1,0 +1,14 @@
+use Rattle.rsp_microcode.proofs.Blocks.{steps_after, both_stand, first_block, next_block}
+use Rattle.rsp_microcode.proofs.laws.blocks.Goals as goal
+
+pub returns-clause-steps : goal.returns-clause-steps
+returns-clause-steps c = steps_after
+
+pub returns-clause-stand : goal.returns-clause-stand
+returns-clause-stand c = both_stand
+
+pub returns-clause-first : goal.returns-clause-first
+returns-clause-first c = first_block
+
+pub returns-clause-next : goal.returns-clause-next
+returns-clause-next c = next_block

@@ -1,0 +1,18 @@
+use Rattle.rsp_microcode.proofs.Fixed.{fixed_parts, fixed_range, fixed_sum, fixed_times}
+use Rattle.rsp_microcode.proofs.FixedProducts.{fixed_product}
+use Rattle.rsp_microcode.proofs.laws.fixed_numbers.Goals as goal
+
+pub returns-clause-parts : goal.returns-clause-parts
+returns-clause-parts c = fixed_parts
+
+pub returns-clause-range : goal.returns-clause-range
+returns-clause-range c = fixed_range
+
+pub returns-clause-sum : goal.returns-clause-sum
+returns-clause-sum c = fixed_sum
+
+pub returns-clause-product : goal.returns-clause-product
+returns-clause-product c = fixed_product
+
+pub returns-clause-times : goal.returns-clause-times
+returns-clause-times c = fixed_times
