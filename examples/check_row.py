@@ -18,7 +18,7 @@ class Bench:
         self.ends = subprocess.Popen([program, "run"], stdin=subprocess.PIPE, stdout=subprocess.PIPE, text=True, bufsize=1)
 
     def lines_of(self, command):
-        """How many lines a command answers with, where it isn't refused."""
+        """How many lines a command replies with, if it isn't refused."""
         words = command.split()
         if words[0] == "mem":
             return (int(words[3], 0) + 15) // 16

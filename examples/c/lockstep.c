@@ -1,10 +1,10 @@
-/* Lock step: an emulator of a few scalar rows beside the proved machine, from one state on. The first difference is told with the text of its
+/* Lock step: an emulator of a few scalar instructions beside the proved machine, from one state on. The first difference is reported with the text of its
  * instruction. The emulator has a fault that is planted: its SRA shifts zeros in. See docs/EMBEDDING.md. */
 #include "rsp.h"
 #include <stdio.h>
 #include <string.h>
 
-/* What stands here for your emulator. */
+/* In place of your emulator. */
 typedef struct emulator {
     uint32_t r[32];
     uint16_t pc, npc;
@@ -56,25 +56,29 @@ static int differs(const emulator *e, const rsp_scalars *now, const rsp_line *li
     return 1;
 }
 
-/* Steps both from one state on, up to a difference or a halt. */
-static int lockstep(rsp *m, emulator *e, const rsp_state *state)
+/* Steps both from one state on, that of `start`, up to a difference or a halt. */
+static uint32_t lockstep(rsp *start, emulator *e, const rsp_state *state)
 {
+    rsp copy = RSP_NONE, *m = &copy;
     rsp_scalars now;
     rsp_line line;
     int steps = 0;
-    if (rsp_set(m, state) != RSP_OK) return 1;
+    uint32_t status = rsp_copy(m, start);
+    if (status != RSP_OK) return status;
     memcpy(e->r, state->words, sizeof e->r);
     e->pc = state->pc, e->npc = state->npc;
     for (;;) {
         rsp_text(e->imem[e->pc / 4], e->pc, &line);
-        if (rsp_step(m) != RSP_OK) break;
+        status = rsp_step(m);
+        if (status != RSP_OK) break;
         emulate(e);
         steps++;
         rsp_regs(m, &now);
-        if (differs(e, &now, &line, steps)) return 0;
+        if (differs(e, &now, &line, steps)) break;
     }
-    printf("no difference in %d steps\n", steps);
-    return 0;
+    if (status != RSP_OK) printf("no difference in %d steps, then %s\n", steps, rsp_status_name(status));
+    rsp_free(m);
+    return RSP_OK;
 }
 
 int main(void)
@@ -90,6 +94,7 @@ int main(void)
     static uint32_t imem[1024];
     rsp m = RSP_NONE;
     rsp_assembled out;
+    uint32_t field;
     emulator e = { { 0 }, 0, 0, imem, 1 };
 
     if (rsp_new(&m, image, sizeof image, 0) != RSP_OK) return 1;
@@ -98,9 +103,14 @@ int main(void)
     if (rsp_get(&m, &state) != RSP_OK) return 1;
     state.words[1] = 0xffffffc0u; /* -64 */
     state.words[2] = 4;
-    if (lockstep(&m, &e, &state)) return 1;
+    if (rsp_set(&m, &state) != RSP_OK) {
+        rsp_state_fault(&state, &field);
+        fprintf(stderr, "no machine has this state: field %u\n", (unsigned)field);
+        return 1;
+    }
+    if (lockstep(&m, &e, &state) != RSP_OK) return 1;
     e.has_fault = 0;
-    if (lockstep(&m, &e, &state)) return 1;
+    if (lockstep(&m, &e, &state) != RSP_OK) return 1;
     rsp_free(&m);
     return 0;
 }

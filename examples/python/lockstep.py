@@ -1,6 +1,8 @@
-"""Lock step: an emulator of a few scalar rows beside the proved machine, from one state on. The first difference is told with the text of its
+"""Lock step: an emulator of a few scalar instructions beside the proved machine, from one state on. The first difference is reported with the text of its
 instruction. The emulator has a fault that is planted: its SRA shifts zeros in. See docs/EMBEDDING.md.
 """
+
+import sys
 
 import rsp
 
@@ -16,7 +18,7 @@ BELOW = 1 << 32
 
 
 class Emulator:
-    """What stands here for your emulator: NOP, SRA, ADDU, ADDIU, BNE, and BREAK, which does nothing here."""
+    """In place of your emulator: NOP, SRA, ADDU, ADDIU, BNE, and BREAK, which does nothing here."""
 
     def __init__(self, imem, state, has_fault):
         self.imem, self.has_fault = imem, has_fault
@@ -39,31 +41,26 @@ class Emulator:
         self.r[0] = 0
         self.pc, self.npc = place, following
 
-
-def difference(emulator, now):
-    """The first part in which they differ, if there is one."""
-    for n, (mine, right) in enumerate(zip(emulator.r, now.words)):
-        if mine != right:
-            return f"${n} is {right:08x} on the machine and {mine:08x} in the emulator"
-    if (emulator.pc, emulator.npc) != (now.pc, now.npc):
-        return f"pc, npc are {now.pc:03x}, {now.npc:03x} on the machine and {emulator.pc:03x}, {emulator.npc:03x} in the emulator"
-    return None
+    def regs(self):
+        return rsp.Scalars(words=self.r, pc=self.pc, npc=self.npc)
 
 
-def lockstep(machine, emulator, state):
-    """Steps both from one state on, up to a difference or a halt."""
-    machine.set(state)
+def lockstep(start, emulator):
+    """Steps both from one state on, that of `start`, up to a difference or a halt."""
+    machine = start.copy()
     steps = 0
     while True:
         place = emulator.pc
-        if machine.step() != rsp.Status.OK:
-            print(f"no difference in {steps} steps")
+        status = machine.step()
+        if status != rsp.Status.OK:
+            print(f"no difference in {steps} steps, then {status.name}")
             return
         emulator.step()
         steps += 1
-        found = difference(emulator, machine.regs())
+        found = machine.regs().diff(emulator.regs())
         if found:
-            print(f"step {steps}, {place:03x}: {rsp.text(emulator.imem[place // 4], place)}\n  {found}")
+            print(f"step {steps}, {place:03x}: {rsp.text(emulator.imem[place // 4], place)}")
+            print(f"  {found[0].told('on the machine', 'in the emulator')}")
             return
 
 
@@ -75,8 +72,11 @@ def main():
         state = machine.get()
         state.words[1] = -64 % BELOW
         state.words[2] = 4
+        if fault := rsp.state_fault(state):
+            sys.exit(f"no machine has this state: {fault}")
+        machine.set(state)
         for has_fault in (True, False):
-            lockstep(machine, Emulator(imem, state, has_fault), state)
+            lockstep(machine, Emulator(imem, state, has_fault))
 
 
 main()

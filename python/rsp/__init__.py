@@ -1,4 +1,4 @@
-"""The Nintendo 64's Reality Signal Processor, as a machine that is proved to follow its instruction table.
+"""The Nintendo 64's Reality Signal Processor (RSP): emulator, debugger, assembler and disassembler, proved to follow the instruction table.
 
     import rsp
 
@@ -7,20 +7,43 @@
         stop = machine.run(100)
         print(stop.reason.name, hex(machine.reg(2)))
 
-A machine stays in the thread that made it. docs/EMBEDDING.md says more.
+A machine may go from thread to thread, as long as one call at a time uses it. docs/EMBEDDING.md says more.
 """
 
 import ctypes
 import enum
 import os
 from ctypes import POINTER, Structure, byref, c_char, c_char_p, c_size_t, c_uint8, c_uint16, c_uint32, c_void_p
-from typing import Any, Iterable, List, NamedTuple, Optional, TypeVar
+from typing import Any, Iterable, List, NamedTuple, Optional, Sequence, Tuple, TypeVar
+
+from . import arrays as _arrays
+from . import words as _in_words
+from .shown import Difference, Part
+from .state import Accumulators, Divider, Flags, Scalars, SpWords, State, unset
+from .words import FAULTS
+
+__version__ = "1.0.0"
+__all__ = [
+    "DMEM", "FAULTS", "IMEM", "RDRAM", "VERSION", "Accumulators", "AssemblyError", "Bank", "Difference", "Divider", "Flags", "Line", "Part",
+    "Reason", "Rsp", "RspError", "Scalars", "SpWords", "State", "Status", "Stop", "assemble", "state_fault",
+    "text",
+]  # fmt: skip
 
 _S = TypeVar("_S", bound=Structure)
 
 
+def __getattr__(name: str) -> Any:
+    """STATE, a numpy dtype with the layout of a State."""
+    if name != "STATE":
+        raise AttributeError(f"module rsp has no {name}")
+    try:
+        return _arrays.state_type()
+    except ImportError as fault:
+        raise AttributeError(str(fault)) from None
+
+
 class Status(enum.IntEnum):
-    """What a call answers."""
+    """What a call returns. The numbers are not those of faults: docs/FAULTS.md has both."""
 
     OK = 0
     NO_MACHINE = 1
@@ -60,35 +83,52 @@ class Reason(enum.IntEnum):
 
 DMEM, IMEM, RDRAM = Bank.DMEM, Bank.IMEM, Bank.RDRAM
 
+# The fields of a state that have values which no machine can have, by their numbers; sp[n] has 16 + n.
+_FIELDS = {1: "words[0]", 2: "divider.loaded", 3: "pc", 4: "npc", 5: "interrupt", **{16 + n: f"sp[{n}]" for n in range(8)}}
+
 
 class RspError(Exception):
-    """A call was refused, and has changed nothing."""
+    """A call was refused, and has changed nothing. `status` says why by its number, and the message in words."""
 
     def __init__(self, status: Status, what: str = "") -> None:
-        super().__init__(f"{status.name}{what}")
+        super().__init__(what or status.name)
         self.status = status
+
+    def __reduce__(self) -> Tuple[Any, ...]:
+        return RspError, (self.status, str(self))
 
 
 class AssemblyError(RspError):
-    """A text means nothing. `line` counts from 1, and `fault` is a number as docs/ASSEMBLY.md has them, or 33 where the text isn't UTF-8."""
+    """A text has a fault. `line` counts from 1, `source` is that line, and `fault` is a number from 10 to 16, in FAULTS with its name."""
 
-    def __init__(self, line: int, fault: int) -> None:
-        super().__init__(Status.NO_MEANING, f": fault {fault}, line {line}")
+    def __init__(self, line: int, fault: int, source: str = "") -> None:
+        super().__init__(Status.NO_MEANING, f"assemble: fault {fault} {FAULTS.get(fault, 'unknown')} line {line}: {source}")
         self.line = line
         self.fault = fault
+        self.source = source
+
+    def __reduce__(self) -> Tuple[Any, ...]:
+        return AssemblyError, (self.line, self.fault, self.source)
 
 
-class Stop(NamedTuple):
-    """Where a run stopped. `watch` is a watch's number where it stopped at one."""
-
+class _StopParts(NamedTuple):
     reason: Reason
     steps: int
     pc: int
     watch: Optional[int]
 
 
+class Stop(_StopParts):
+    """Where a run stopped: `reason`, `steps`, `pc`, and `watch`, the number of the watch at which it stopped, else None.
+
+    `word`, which is no item of the tuple, is the reserved word at which it stopped, else None.
+    """
+
+    word: Optional[int] = None
+
+
 class Line(NamedTuple):
-    """A word of IMEM with its text."""
+    """A word of IMEM with its address `place` and its disassembly."""
 
     place: int
     word: int
@@ -100,7 +140,7 @@ class _Handle(Structure):
 
 
 class _Stop(Structure):
-    _fields_ = [("reason", c_uint32), ("steps", c_uint32), ("watch", c_size_t), ("pc", c_uint16)]
+    _fields_ = [("reason", c_uint32), ("steps", c_uint32), ("watch", c_size_t), ("pc", c_uint16), ("word", c_uint32)]
 
 
 class _Assembled(Structure):
@@ -115,83 +155,26 @@ class _Lanes(Structure):
     _fields_ = [("lanes", c_uint16 * 8)]
 
 
-class _Plain(Structure):
-    """A structure of numbers, equal to another where all of them are."""
-
-    def __eq__(self, other: object) -> bool:
-        return type(self) is type(other) and self._parts() == other._parts()  # type: ignore[attr-defined]
-
-    __hash__ = None  # type: ignore[assignment]
-
-    def _parts(self) -> dict:
-        return {name: _plain_of(getattr(self, name)) for name, *_ in self._fields_}
-
-    def __repr__(self) -> str:
-        return f"{type(self).__name__}({', '.join(f'{name}={value}' for name, value in self._parts().items())})"
-
-
-def _plain_of(value: Any) -> Any:
-    """A number or a structure as it is, or a list of what an array has."""
-    return [_plain_of(it) for it in value] if isinstance(value, ctypes.Array) else value
-
-
-class Scalars(_Plain):
-    """The places pc and npc, and the 32 scalar registers, `words`."""
-
-    _fields_ = [("words", c_uint32 * 32), ("pc", c_uint16), ("npc", c_uint16)]
-
-
-class Accumulators(_Plain):
-    """Bits 47 to 32, 31 to 16 and 15 to 0 of the eight accumulators."""
-
-    _fields_ = [("high", c_uint16 * 8), ("middle", c_uint16 * 8), ("low", c_uint16 * 8)]
-
-
-class Flags(_Plain):
-    """Flags, bit i for lane i. VCO is `carry` and then `differ`, VCC `compare` and then `clip`, VCE `extra`."""
-
-    _fields_ = [("carry", c_uint8), ("differ", c_uint8), ("compare", c_uint8), ("clip", c_uint8), ("extra", c_uint8)]
-
-
-class Divider(_Plain):
-    """What the divide rows keep: DIV_IN, DIV_OUT, and 1 where DIV_IN is loaded."""
-
-    _fields_ = [("input", c_uint16), ("output", c_uint16), ("loaded", c_uint16)]
-
-
-class State(_Plain):
-    """All registers: scalars `words`, `vectors[n][lane]`, .., and `sp`, the sixteen SP registers as they read."""
-
-    _fields_ = [
-        ("words", c_uint32 * 32),
-        ("vectors", (c_uint16 * 8) * 32),
-        ("accumulators", Accumulators),
-        ("flags", Flags),
-        ("divider", Divider),
-        ("pc", c_uint16),
-        ("npc", c_uint16),
-        ("sp", c_uint32 * 16),
-        ("interrupt", c_uint32),
-    ]
-
-
 def _library() -> str:
-    """The library in the package, or, in the repository, the one that c/build has made."""
+    """The library in the package; else that of the release archive; else the one that c/build has made."""
     here = os.path.dirname(os.path.abspath(__file__))
-    found = os.path.join(here, "librsp.so")
-    return found if os.path.exists(found) else os.path.join(here, "..", "..", "c", "librsp.so")
+    top = os.path.join(here, "..", "..")
+    places = [os.path.join(it, "librsp.so") for it in (here, os.path.join(top, "lib"), os.path.join(top, "c"))]
+    return next(filter(os.path.exists, places), places[-1])
 
 
 _lib = ctypes.CDLL(_library())
 _M, _U, _Z, _B, _W = POINTER(_Handle), c_uint32, c_size_t, c_char_p, POINTER(c_uint32)
 _CALLS = {
-    "rsp_version": [], "rsp_new": [_M, _B, _Z, _U], "rsp_get": [_M, POINTER(State)], "rsp_set": [_M, POINTER(State)],
-    "rsp_load": [_M, _U, _U, _B, _Z], "rsp_load_words": [_M, _U, _U, _W, _Z], "rsp_memory": [_M, _U, _U, c_void_p, _Z],
-    "rsp_task": [_M, _U], "rsp_set_pc": [_M, _U], "rsp_step": [_M], "rsp_run": [_M, _U, POINTER(_Stop)], "rsp_back": [_M, _U],
+    "rsp_version": [], "rsp_new": [_M, _B, _Z, _U], "rsp_copy": [_M, _M], "rsp_get": [_M, POINTER(State)], "rsp_set": [_M, POINTER(State)],
+    "rsp_state_fault": [POINTER(State), _W], "rsp_load": [_M, _U, _U, _B, _Z], "rsp_load_words": [_M, _U, _U, _W, _Z],
+    "rsp_memory": [_M, _U, _U, c_void_p, _Z], "rsp_memory_words": [_M, _U, _U, _W, _Z], "rsp_task": [_M, _U], "rsp_set_pc": [_M, _U],
+    "rsp_step": [_M], "rsp_run": [_M, _U, POINTER(_Stop)], "rsp_back": [_M, _U], "rsp_pass": [_M, _U],
     "rsp_add_break": [_M, _U], "rsp_drop_break": [_M, _U], "rsp_add_watch": [_M, _U, _U, POINTER(_Z)], "rsp_drop_watch": [_M, _U],
     "rsp_reg": [_M, _U, _W], "rsp_regs": [_M, POINTER(Scalars)], "rsp_vreg": [_M, _U, POINTER(_Lanes)],
     "rsp_acc": [_M, POINTER(Accumulators)], "rsp_flags": [_M, POINTER(Flags)], "rsp_divider": [_M, POINTER(Divider)],
     "rsp_read": [_M, _U, _W], "rsp_peek": [_M, _U, _W], "rsp_write": [_M, _U, _U],
+    "rsp_sp": [_M, POINTER(SpWords)], "rsp_set_sp": [_M, POINTER(SpWords)],
     "rsp_assemble": [_U, _B, _Z, _W, _Z, POINTER(_Assembled)], "rsp_text": [_U, _U, POINTER(_Line)],
     "rsp_listing": [_M, _U, POINTER(_Line), _Z],
 }  # fmt: skip
@@ -204,53 +187,95 @@ if _lib.rsp_version() != VERSION:
     raise ImportError(f"librsp.so has version {_lib.rsp_version()} of the interface, and this module is for {VERSION}")
 
 
-def _ok(status: int) -> None:
+def _ok(status: int, name: str = "", numbers: Sequence[int] = ()) -> None:
     if status != Status.OK:
-        raise RspError(Status(status))
+        raise RspError(Status(status), _in_words.refusal(status, name, numbers) if name else "")
 
 
-def _u32(*numbers: int) -> None:
-    """Refuses what doesn't fit, which ctypes would cut."""
+def _numbers(name: str, *given: Any) -> Tuple[int, ...]:
+    """The arguments of a call. It refuses what doesn't fit, which ctypes would cut."""
+    numbers = _in_words.integers(name, given)
     for number in numbers:
         if not 0 <= number < 1 << 32:
-            raise RspError(Status.OUT_OF_RANGE)
+            raise RspError(Status.OUT_OF_RANGE, _in_words.refusal(Status.OUT_OF_RANGE, name, numbers))
+    return numbers
 
 
-def _words(words: Iterable[int]) -> Any:
-    numbers = list(words)
-    _u32(*numbers)
+def _words(call: str, words: Iterable[int]) -> Any:
+    numbers = _in_words.words_of(call, "words", words)
+    for n, number in enumerate(numbers):
+        if not 0 <= number < 1 << 32:
+            raise RspError(Status.OUT_OF_RANGE, f"{call}: words[{n}] is {number}, not 0 to 4294967295")
+    if len(numbers) > 1024:
+        raise RspError(Status.OUT_OF_RANGE, f"{call}: words has {len(numbers)} items, not at most 1024")
     return (c_uint32 * len(numbers))(*numbers)
 
 
 def assemble(text: str, origin: int = 0) -> List[int]:
-    """The words of a source whose first stands at `origin`. AssemblyError where it means nothing."""
-    _u32(origin)
+    """The words of a text, at most 1024, the first one for the address `origin`, a multiple of 4 up to 4096.
+
+    AssemblyError if the text has a fault.
+    """
+    (origin,) = _numbers("assemble", origin)
+    if not isinstance(text, str):
+        raise TypeError(f"assemble: text is of type {type(text).__name__}, not str")
     raw, words, out = text.encode(), (c_uint32 * 1024)(), _Assembled()
     status = _lib.rsp_assemble(origin, raw, len(raw), words, 1024, byref(out))
     if status == Status.NO_MEANING:
-        raise AssemblyError(out.line, out.fault)
-    _ok(status)
+        raise AssemblyError(out.line, out.fault, text.split("\n")[out.line - 1].strip())
+    _ok(status, "assemble", [origin])
     return list(words[: out.count])
 
 
 def text(word: int, place: int = 0) -> str:
-    """The canonical text of a word that stands at a place."""
-    _u32(word, place)
+    """The disassembly of a word below 2**32 for the address `place`, a multiple of 4 below 4096."""
+    word, place = _numbers("text", word, place)
     out = _Line()
-    _ok(_lib.rsp_text(word, place, byref(out)))
-    return out.text.decode()
+    _ok(_lib.rsp_text(word, place, byref(out)), "text", [word, place])
+    found: bytes = out.text
+    return found.decode()
+
+
+def state_fault(state: State) -> Optional[str]:
+    """The first field for which `Rsp.set` refuses a state, else None."""
+    if not isinstance(state, State):
+        raise TypeError(f"state_fault: state is of type {type(state).__name__}, not rsp.State")
+    out = c_uint32()
+    _ok(_lib.rsp_state_fault(byref(state), byref(out)))
+    return _FIELDS[out.value] if out.value else None
 
 
 class Rsp:
-    """A machine with a copy of an image of the RDRAM and a past of `depth` states. Where a call is refused, RspError tells its status."""
+    """A machine with a copy of an image of RDRAM and a history of `depth` states, at most 4096.
+
+    The image has 64 to 8388608 bytes, a multiple of 8. A refused call raises RspError with its status, and an argument of a wrong type
+    TypeError; neither changes anything.
+    """
 
     def __init__(self, image: bytes = bytes(64), depth: int = 0) -> None:
+        data = _in_words.bytes_of("Rsp", "image", image)
+        (depth,) = _numbers("Rsp", depth)
         self._handle = _Handle()
-        _u32(depth)
-        _ok(_lib.rsp_new(byref(self._handle), bytes(image), len(image), depth))
+        status = _lib.rsp_new(byref(self._handle), data, len(data), depth)
+        if status == Status.OUT_OF_RANGE and (len(data) % 8 or not 64 <= len(data) <= 1 << 23):
+            raise RspError(Status(status), f"Rsp: image has {len(data)} bytes, not a multiple of 8 from 64 to 8388608")
+        _ok(status, "Rsp", [depth])
+
+    def copy(self) -> "Rsp":
+        """A second machine in the same state, memories included, with as long a history, which is empty, and without breakpoints and watches."""
+        made = Rsp.__new__(Rsp)
+        made._handle = _Handle()
+        _ok(_lib.rsp_copy(byref(made._handle), byref(self._handle)), "copy")
+        return made
+
+    def __copy__(self) -> "Rsp":
+        return self.copy()
+
+    def __deepcopy__(self, memo: Any) -> "Rsp":
+        return self.copy()
 
     def close(self) -> None:
-        """Frees the machine. Any later call answers NO_MACHINE."""
+        """Frees the machine. Any later call is refused with NO_MACHINE."""
         _lib.rsp_free(byref(self._handle))
 
     def __enter__(self) -> "Rsp":
@@ -260,125 +285,182 @@ class Rsp:
         self.close()
 
     def __del__(self) -> None:
-        if _lib is not None:
+        if _lib is not None and "_handle" in self.__dict__:
             self.close()
 
-    def _call(self, name: str, *numbers: int) -> None:
-        _u32(*numbers)
-        _ok(getattr(_lib, name)(byref(self._handle), *numbers))
+    def _call(self, name: str, *given: int) -> None:
+        numbers = _numbers(name, *given)
+        _ok(getattr(_lib, name)(byref(self._handle), *numbers), name, numbers)
 
-    def _look(self, name: str, out: _S, *numbers: int) -> _S:
-        _u32(*numbers)
-        _ok(getattr(_lib, name)(byref(self._handle), *numbers, byref(out)))
+    def _look(self, name: str, out: _S, *given: int) -> _S:
+        numbers = _numbers(name, *given)
+        _ok(getattr(_lib, name)(byref(self._handle), *numbers, byref(out)), name, numbers)
         return out
 
-    def _word(self, name: str, *numbers: int) -> int:
-        _u32(*numbers)
-        out = c_uint32()
-        _ok(getattr(_lib, name)(byref(self._handle), *numbers, byref(out)))
+    def _word(self, name: str, *given: int) -> int:
+        numbers, out = _numbers(name, *given), c_uint32()
+        _ok(getattr(_lib, name)(byref(self._handle), *numbers, byref(out)), name, numbers)
         return out.value
 
     def get(self) -> State:
         """All registers."""
-        return self._look("rsp_get", State())
+        return self._look("rsp_get", unset(State))
 
     def set(self, state: State) -> None:
-        """Sets all registers. The memories stay, and the past is empty."""
-        _ok(_lib.rsp_set(byref(self._handle), byref(state)))
+        """Sets all registers, and empties the history. The memories stay. OUT_OF_RANGE for a state that no machine can have."""
+        if not isinstance(state, State):
+            raise TypeError(f"set: state is of type {type(state).__name__}, not rsp.State")
+        status = _lib.rsp_set(byref(self._handle), byref(state))
+        if status == Status.OUT_OF_RANGE:
+            raise RspError(Status(status), f"set: {_in_words.state_fault(state_fault(state) or '', state)}")
+        _ok(status, "set")
 
     def load(self, bank: int, address: int, data: bytes) -> None:
-        _u32(bank, address)
-        _ok(_lib.rsp_load(byref(self._handle), bank, address, bytes(data), len(data)))
+        """Writes the bytes of a buffer to a memory, and empties the history. A buffer of words goes in as its bytes are in this computer."""
+        bank, address = _numbers("load", bank, address)
+        raw = _in_words.bytes_of("load", "data", data)
+        _ok(_lib.rsp_load(byref(self._handle), bank, address, raw, len(raw)), "load", [bank, address])
 
     def load_words(self, bank: int, address: int, words: Iterable[int]) -> None:
-        """Writes at most 1024 words, the highest byte of each first."""
-        _u32(bank, address)
-        array = _words(words)
-        _ok(_lib.rsp_load_words(byref(self._handle), bank, address, array, len(array)))
+        """Writes at most 1024 words below 2**32, the high byte of each first, and empties the history."""
+        bank, address = _numbers("load_words", bank, address)
+        array = _words("load_words", words)
+        _ok(_lib.rsp_load_words(byref(self._handle), bank, address, array, len(array)), "load_words", [bank, address])
 
     def memory(self, bank: int, address: int, length: int) -> bytes:
-        _u32(bank, address, length)
+        """A copy of `length` bytes of a memory: DMEM and IMEM have 4096, RDRAM as many as the image."""
+        numbers = bank, address, length = _numbers("memory", bank, address, length)
         if length > 1 << 23:
-            raise RspError(Status.OUT_OF_RANGE)
+            raise RspError(Status.OUT_OF_RANGE, _in_words.refusal(Status.OUT_OF_RANGE, "memory", numbers))
         out = (c_uint8 * length)()
-        _ok(_lib.rsp_memory(byref(self._handle), bank, address, out, length))
+        _ok(_lib.rsp_memory(byref(self._handle), bank, address, out, length), "memory", numbers)
         return bytes(out)
 
+    def memory_array(self, bank: int, address: int, length: int, dtype: Any = "u1") -> Any:
+        """A copy of `length` bytes of a memory as a numpy array; a change of it doesn't change the memory.
+
+        Its items are bytes, or of another dtype: the memories have the high byte first, so words are ">u4" and lanes ">u2". `load` takes
+        such an array back. It needs numpy.
+        """
+        return _arrays.copied(self.memory(bank, address, length), dtype)
+
+    def memory_words(self, bank: int, address: int, count: int) -> List[int]:
+        """`count` words of a memory, the high byte of each first."""
+        numbers = bank, address, count = _numbers("memory_words", bank, address, count)
+        if count > 1 << 21:
+            raise RspError(Status.OUT_OF_RANGE, _in_words.refusal(Status.OUT_OF_RANGE, "memory_words", numbers))
+        out = (c_uint32 * count)()
+        _ok(_lib.rsp_memory_words(byref(self._handle), bank, address, out, count), "memory_words", numbers)
+        return list(out)
+
     def start_task(self, address: int) -> None:
-        """Starts the task whose structure of 64 bytes stands at an address of the RDRAM."""
+        """Starts the task whose structure of 64 bytes is at an address of RDRAM, a multiple of 8, and empties the history."""
         self._call("rsp_task", address)
 
     def set_pc(self, pc: int) -> None:
+        """Goes on at an address of IMEM, a multiple of 4 below 4096, and empties the history."""
         self._call("rsp_set_pc", pc)
 
     def step(self) -> Status:
-        """Makes one step. OK, or HALTED or RESERVED where the machine can't."""
+        """Executes one instruction. OK, or HALTED or RESERVED if the machine can't."""
         status = Status(_lib.rsp_step(byref(self._handle)))
         if status in (Status.OK, Status.HALTED, Status.RESERVED):
             return status
-        raise RspError(status)
+        raise RspError(status, _in_words.refusal(status, "step"))
 
     def run(self, steps: int) -> Stop:
         """Makes 1 to 1000000 steps, up to the first reason to stop."""
         out = self._look("rsp_run", _Stop(), steps)
         reason = Reason(out.reason)
-        return Stop(reason, out.steps, out.pc, out.watch if reason == Reason.WATCH else None)
+        stop = Stop(reason, out.steps, out.pc, out.watch if reason == Reason.WATCH else None)
+        stop.word = out.word if reason == Reason.RESERVED else None
+        return stop
 
     def back(self, states: int) -> None:
+        """Undoes 1 to 1000000 steps. SHORT_HISTORY if the history holds fewer."""
         self._call("rsp_back", states)
 
+    def pass_move(self, value: int = 0) -> Status:
+        """Goes past the MFC0 or MTC0 at pc without its meaning: register rt of an MFC0 becomes the value. It empties the history.
+
+        OK, or HALTED if the machine is halted. Of any other word it is refused.
+        """
+        (value,) = _numbers("pass_move", value)
+        status = Status(_lib.rsp_pass(byref(self._handle), value))
+        if status in (Status.OK, Status.HALTED):
+            return status
+        raise RspError(status, _in_words.refusal(status, "pass_move", [value]))
+
     def add_break(self, place: int) -> None:
+        """Sets a breakpoint at an address of IMEM, a multiple of 4 below 4096; at most sixteen."""
         self._call("rsp_add_break", place)
 
     def drop_break(self, place: int) -> None:
+        """Removes the breakpoint at an address."""
         self._call("rsp_drop_break", place)
 
     def add_watch(self, address: int, length: int) -> int:
-        """Watches bytes of DMEM, and answers the watch's number."""
-        _u32(address, length)
+        """Watches 1 to 64 bytes of DMEM, and returns the watch's number, 0 to 7."""
+        numbers = address, length = _numbers("add_watch", address, length)
         out = c_size_t()
-        _ok(_lib.rsp_add_watch(byref(self._handle), address, length, byref(out)))
+        _ok(_lib.rsp_add_watch(byref(self._handle), address, length, byref(out)), "add_watch", numbers)
         return out.value
 
     def drop_watch(self, number: int) -> None:
+        """Removes a watch."""
         self._call("rsp_drop_watch", number)
 
     def reg(self, number: int) -> int:
+        """Scalar register `number`, 0 to 31."""
         return self._word("rsp_reg", number)
 
     def regs(self) -> Scalars:
-        return self._look("rsp_regs", Scalars())
+        """pc, npc and the scalar registers."""
+        return self._look("rsp_regs", unset(Scalars))
 
     def vreg(self, number: int) -> List[int]:
-        """The lanes of a vector register."""
+        """The eight lanes of vector register `number`, 0 to 31."""
         return list(self._look("rsp_vreg", _Lanes(), number).lanes)
 
     def acc(self) -> Accumulators:
-        return self._look("rsp_acc", Accumulators())
+        """The accumulators."""
+        return self._look("rsp_acc", unset(Accumulators))
 
     def flags(self) -> Flags:
-        return self._look("rsp_flags", Flags())
+        """The flags."""
+        return self._look("rsp_flags", unset(Flags))
 
     def divider(self) -> Divider:
-        return self._look("rsp_divider", Divider())
+        """DIV_IN, DIV_OUT, and whether DIV_IN is loaded."""
+        return self._look("rsp_divider", unset(Divider))
 
     def read(self, number: int) -> int:
-        """Reads an SP register, as the CPU does: a read of the semaphore takes it."""
+        """Reads SP register `number`, modulo 16, as the CPU does: a read of the semaphore, 7, takes it and empties the history."""
         return self._word("rsp_read", number)
 
     def peek(self, number: int) -> int:
-        """The word that a read of an SP register would give."""
+        """The word that a read of SP register `number`, modulo 16, would give."""
         return self._word("rsp_peek", number)
 
     def write(self, number: int, value: int) -> None:
-        """Writes an SP register, as the CPU does, with the DMA that it asks for."""
+        """Writes SP register `number`, modulo 16, as the CPU does, with its DMA, and empties the history."""
         self._call("rsp_write", number, value)
 
+    def sp(self) -> SpWords:
+        """All SP registers, with the interrupt flag."""
+        return self._look("rsp_sp", unset(SpWords))
+
+    def set_sp(self, given: SpWords) -> None:
+        """Sets all SP registers and the interrupt flag, without a DMA, and empties the history."""
+        if not isinstance(given, SpWords):
+            raise TypeError(f"set_sp: given is of type {type(given).__name__}, not rsp.SpWords")
+        _ok(_lib.rsp_set_sp(byref(self._handle), byref(given)), "set_sp")
+
     def listing(self, place: int, count: int) -> List[Line]:
-        """The words of IMEM from a place on, each with its text."""
-        _u32(place, count)
+        """At most 1024 words of IMEM from the address `place` on, a multiple of 4, each with its disassembly."""
+        numbers = place, count = _numbers("listing", place, count)
         if count > 1024:
-            raise RspError(Status.OUT_OF_RANGE)
+            raise RspError(Status.OUT_OF_RANGE, _in_words.refusal(Status.OUT_OF_RANGE, "listing", numbers))
         lines = (_Line * count)()
-        _ok(_lib.rsp_listing(byref(self._handle), place, lines, count))
+        _ok(_lib.rsp_listing(byref(self._handle), place, lines, count), "listing", numbers)
         return [Line(it.place, it.word, it.text.decode()) for it in lines]

@@ -1,7 +1,7 @@
-//! Lock step: an emulator of a few scalar rows beside the proved machine, from one state on. The first difference is told with the text of its
+//! Lock step: an emulator of a few scalar instructions beside the proved machine, from one state on. The first difference is reported with the text of its
 //! instruction. The emulator has a fault that is planted: its SRA shifts zeros in. See docs/EMBEDDING.md.
 
-use rsp::{assemble, text, Bank, Machine, Refused, Scalars, State, StepEnd};
+use rsp::{assemble, text, Bank, Machine, Refused, Scalars, StepEnd};
 
 const PROGRAM: &str = "
 loop: sra $3, $1, 2
@@ -12,7 +12,7 @@ loop: sra $3, $1, 2
       break
 ";
 
-/// What stands here for your emulator: NOP, SRA, ADDU, ADDIU, BNE, and BREAK, which does nothing here.
+/// In place of your emulator: NOP, SRA, ADDU, ADDIU, BNE, and BREAK, which does nothing here.
 struct Emulator<'a> {
     r: [u32; 32],
     pc: u16,
@@ -38,38 +38,27 @@ impl Emulator<'_> {
         self.r[0] = 0;
         (self.pc, self.npc) = (place, next);
     }
-}
 
-/// The first part in which they differ, if there is one.
-fn difference(emulator: &Emulator, now: &Scalars) -> Option<String> {
-    for n in 0..32 {
-        let (mine, right) = (emulator.r[n], now.words[n]);
-        if mine != right {
-            return Some(format!("${n} is {right:08x} on the machine and {mine:08x} in the emulator"));
-        }
+    fn regs(&self) -> Scalars {
+        Scalars { words: self.r, pc: self.pc, npc: self.npc }
     }
-    let (mine, right) = ((emulator.pc, emulator.npc), (now.pc, now.npc));
-    (mine != right).then(|| {
-        format!(
-            "pc, npc are {:03x}, {:03x} on the machine and {:03x}, {:03x} in the emulator",
-            right.0, right.1, mine.0, mine.1
-        )
-    })
 }
 
-/// Steps both from one state on, up to a difference or a halt.
-fn lockstep(machine: &mut Machine, emulator: &mut Emulator, state: &State) -> Result<(), Refused> {
-    machine.set(state)?;
+/// Steps both from one state on, that of `start`, up to a difference or a halt.
+fn lockstep(start: &Machine, emulator: &mut Emulator) -> Result<(), Refused> {
+    let mut machine = start.copy()?;
     for steps in 1.. {
         let place = emulator.pc;
-        if machine.step()? != StepEnd::Done {
-            println!("no difference in {} steps", steps - 1);
+        let end = machine.step()?;
+        if end != StepEnd::Done {
+            println!("no difference in {} steps, then {end}", steps - 1);
             break;
         }
         emulator.step();
-        if let Some(found) = difference(emulator, &machine.regs()?) {
+        if let Some(found) = machine.regs()?.diff(&emulator.regs()).first() {
             let word = emulator.imem[usize::from(place / 4)];
-            println!("step {steps}, {place:03x}: {}\n  {found}", text(word, place.into())?);
+            println!("step {steps}, {place:03x}: {}", text(word, place.into())?);
+            println!("  {}", found.told("on the machine", "in the emulator"));
             break;
         }
     }
@@ -83,9 +72,13 @@ fn main() -> Result<(), Refused> {
     let mut state = machine.get()?;
     state.words[1] = -64i32 as u32;
     state.words[2] = 4;
+    if let Some(field) = state.fault() {
+        eprintln!("no machine has this state: {field}");
+    }
+    machine.set(&state)?;
     for has_fault in [true, false] {
         let (r, pc, npc) = (state.words, state.pc, state.npc);
-        lockstep(&mut machine, &mut Emulator { r, pc, npc, imem: &imem, has_fault }, &state)?;
+        lockstep(&machine, &mut Emulator { r, pc, npc, imem: &imem, has_fault })?;
     }
     Ok(())
 }

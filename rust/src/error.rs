@@ -1,46 +1,94 @@
 //! Why a call was refused.
 
+use crate::{raw, Fault};
 use std::error::Error;
 use std::fmt;
+
+/// The version of the interface for which this crate is.
+pub const VERSION: u32 = 1;
 
 /// Why a call was refused. It has changed nothing.
 #[derive(Clone, Copy, Debug, PartialEq, Eq)]
 pub enum Refused {
-    /// There is no memory.
+    /// An allocation failed.
     NoMemory,
     /// A number, a length or a count is out of its range.
     OutOfRange,
-    /// A source text means nothing: the number of its line, from 1, and of its fault, as docs/ASSEMBLY.md has them.
-    NoMeaning { line: usize, fault: u32 },
-    /// A task's structure stands at no multiple of 8, or passes the image's end.
+    /// A text has a fault.
+    NoMeaning {
+        /// The number of the line, from 1.
+        line: usize,
+        /// The number of a [`Fault`], which is the source of this error.
+        fault: u32,
+    },
+    /// The address of a task isn't a multiple of 8, or its structure passes the image's end.
     TaskPlace,
     /// The size of a task's boot code isn't 1 to 4096.
     TaskSize,
-    /// Sixteen places have a breakpoint.
+    /// Sixteen addresses have a breakpoint.
     BreakFull,
-    /// The place has a breakpoint.
+    /// The address has a breakpoint.
     BreakTwice,
-    /// The place has no breakpoint.
+    /// The address has no breakpoint.
     NoBreak,
-    /// Eight watches stand.
+    /// There are eight watches.
     WatchFull,
-    /// The number stands for no watch.
+    /// The number has no watch.
     NoWatch,
-    /// The past holds fewer states.
+    /// The history holds fewer states.
     ShortHistory,
-    /// A status that this crate doesn't know: the library is of another version.
+    /// The library has this version of the interface, and the crate is for [`VERSION`].
+    Version(u32),
+    /// A status that this crate doesn't know.
     Unknown(u32),
 }
 
 impl fmt::Display for Refused {
     fn fmt(&self, f: &mut fmt::Formatter<'_>) -> fmt::Result {
-        write!(f, "{self:?}")
+        f.write_str(match self {
+            Refused::NoMemory => "an allocation failed",
+            Refused::OutOfRange => "a number, a length or a count is out of its range",
+            Refused::NoMeaning { line, fault } => return told(f, *line, *fault),
+            Refused::TaskPlace => "the task's address isn't a multiple of 8, or its structure passes the image's end",
+            Refused::TaskSize => "the size of the task's boot code isn't 1 to 4096",
+            Refused::BreakFull => "sixteen addresses have a breakpoint",
+            Refused::BreakTwice => "the address has a breakpoint",
+            Refused::NoBreak => "the address has no breakpoint",
+            Refused::WatchFull => "there are eight watches",
+            Refused::NoWatch => "no watch has this number",
+            Refused::ShortHistory => "the history holds fewer states",
+            Refused::Version(found) => return write!(f, "the interface of the library has version {found}, not {VERSION}"),
+            Refused::Unknown(status) => return write!(f, "the library returned the unknown status {status}"),
+        })
     }
 }
 
-impl Error for Refused {}
+/// The fault of a text in the words of the bench: `fault 11 UnknownName line 2`.
+fn told(f: &mut fmt::Formatter<'_>, line: usize, fault: u32) -> fmt::Result {
+    write!(f, "fault {fault} ")?;
+    Fault::of(fault).map_or(Ok(()), |it| write!(f, "{it:?} "))?;
+    write!(f, "line {line}")
+}
 
-/// What a status says.
+impl Error for Refused {
+    fn source(&self) -> Option<&(dyn Error + 'static)> {
+        match self {
+            Refused::NoMeaning { fault, .. } => Fault::of(*fault).map(|it| it as &dyn Error),
+            _ => None,
+        }
+    }
+}
+
+/// Refuses a library of another version, before it is used.
+pub(crate) fn right_version() -> Result<(), Refused> {
+    // SAFETY: it takes nothing.
+    match unsafe { raw::rsp_version() } {
+        VERSION => Ok(()),
+        other => Err(Refused::Version(other)),
+    }
+}
+
+/// The result that a status means.
 pub(crate) fn done(status: u32) -> Result<(), Refused> {
     Err(match status {
         0 => return Ok(()),

@@ -1,6 +1,6 @@
-//! The Nintendo 64's Reality Signal Processor, as a machine that is proved to follow its instruction table.
+//! The Nintendo 64's Reality Signal Processor (RSP): emulator, debugger, assembler and disassembler, proved to follow the instruction table.
 //!
-//! A [`Machine`] stays in the thread that made it. Each call that is refused says why, and has changed nothing.
+//! A [`Machine`] may go to another thread. A refused call returns why, and has changed nothing.
 //!
 //! ```
 //! use rsp::{assemble, Bank, Machine, Reason};
@@ -12,13 +12,22 @@
 //! # Ok::<(), rsp::Refused>(())
 //! ```
 
+#![warn(missing_docs)]
+
+mod difference;
 mod error;
+mod faults;
 mod machine;
+mod numbers;
 mod raw;
 mod shapes;
+mod shown;
 mod texts;
 
-pub use error::Refused;
+pub use difference::{Part, Place};
+pub use error::{Refused, VERSION};
+pub use faults::Fault;
 pub use machine::Machine;
-pub use shapes::{Accumulators, Bank, DivideState, FlagBits, Line, Reason, Scalars, State, StepEnd, Stop};
+pub use numbers::NoSuchNumber;
+pub use shapes::{Accumulators, Bank, DivideState, Field, FlagBits, Line, Reason, Scalars, SpWords, State, StepEnd, Stop};
 pub use texts::{assemble, text, version};

@@ -1,28 +1,44 @@
 //! A machine.
 
-use crate::error::done;
+use crate::error::{done, right_version};
 use crate::raw;
-use crate::shapes::{Accumulators, Bank, DivideState, FlagBits, Line, Reason, Scalars, State, StepEnd, Stop};
+use crate::shapes::{Accumulators, Bank, DivideState, FlagBits, Line, Reason, Scalars, SpWords, State, StepEnd, Stop};
 use crate::texts::{seen, NO_LINE};
 use crate::Refused;
 use std::cell::UnsafeCell;
 use std::ptr;
 
-/// A machine with a copy of an image of the RDRAM, breakpoints, watches and a past.
+/// A machine with a copy of an image of RDRAM, breakpoints, watches and a history.
 ///
-/// It is neither `Send` nor `Sync`: it stays in the thread that made it.
+/// It is `Send`, and not `Sync`: one thread at a time uses it.
 // SAFETY of all calls below: the handle is RSP_NONE or as the last call left it, since nothing else writes it; it isn't copied; as it isn't
 // `Sync`, one call at a time has it; and each pointer is of a borrow with its own length.
 pub struct Machine {
     handle: UnsafeCell<raw::Handle>,
 }
 
+// SAFETY: a machine is memory of malloc that its handle alone leads to, and no call keeps anything of a thread.
+unsafe impl Send for Machine {}
+
 impl Machine {
-    /// A machine with this image (64 to 8388608 bytes, a multiple of 8) and a past of `depth` states, at most 4096.
+    /// A machine with this image (64 to 8388608 bytes, a multiple of 8) and a history of `depth` states, at most 4096.
     pub fn new(image: &[u8], depth: u32) -> Result<Machine, Refused> {
-        let machine = Machine { handle: UnsafeCell::new(raw::Handle { at: ptr::null_mut() }) };
+        right_version()?;
+        let machine = Machine::none();
         done(unsafe { raw::rsp_new(machine.at(), image.as_ptr(), image.len(), depth) })?;
         Ok(machine)
+    }
+
+    /// A second machine in the same state, memories included, with as long a history, which is empty, and without breakpoints and watches.
+    pub fn copy(&self) -> Result<Machine, Refused> {
+        let machine = Machine::none();
+        done(unsafe { raw::rsp_copy(machine.at(), self.at()) })?;
+        Ok(machine)
+    }
+
+    /// A handle that holds no machine.
+    fn none() -> Machine {
+        Machine { handle: UnsafeCell::new(raw::Handle { at: ptr::null_mut() }) }
     }
 
     fn at(&self) -> *mut raw::Handle {
@@ -32,41 +48,51 @@ impl Machine {
     /// All registers.
     pub fn get(&self) -> Result<State, Refused> {
         let mut out = State::default();
-        done(unsafe { raw::rsp_get(self.at(), &mut out) })?;
+        self.get_into(&mut out)?;
         Ok(out)
     }
 
-    /// Sets all registers. The memories stay, and the past is empty.
+    /// All registers, into a state that is there.
+    pub fn get_into(&self, out: &mut State) -> Result<(), Refused> {
+        done(unsafe { raw::rsp_get(self.at(), out) })
+    }
+
+    /// Sets all registers, and empties the history. The memories stay.
     pub fn set(&mut self, state: &State) -> Result<(), Refused> {
         done(unsafe { raw::rsp_set(self.at(), state) })
     }
 
-    /// Writes bytes to a bank from an address on.
+    /// Writes bytes to a memory from an address on, and empties the history.
     pub fn load(&mut self, bank: Bank, address: u32, bytes: &[u8]) -> Result<(), Refused> {
         done(unsafe { raw::rsp_load(self.at(), bank as u32, address, bytes.as_ptr(), bytes.len()) })
     }
 
-    /// Writes at most 1024 words to a bank from an address on, the highest byte of each first.
+    /// Writes at most 1024 words to a memory from an address on, the high byte of each first, and empties the history.
     pub fn load_words(&mut self, bank: Bank, address: u32, words: &[u32]) -> Result<(), Refused> {
         done(unsafe { raw::rsp_load_words(self.at(), bank as u32, address, words.as_ptr(), words.len()) })
     }
 
-    /// Reads bytes of a bank from an address on, as many as the buffer has.
+    /// Reads bytes of a memory from an address on, as many as the buffer has.
     pub fn memory(&self, bank: Bank, address: u32, bytes: &mut [u8]) -> Result<(), Refused> {
         done(unsafe { raw::rsp_memory(self.at(), bank as u32, address, bytes.as_mut_ptr(), bytes.len()) })
     }
 
-    /// Starts the task whose structure of 64 bytes stands at an address of the RDRAM.
+    /// Reads words of a memory from an address on, the high byte of each first, as many as the buffer has.
+    pub fn memory_words(&self, bank: Bank, address: u32, words: &mut [u32]) -> Result<(), Refused> {
+        done(unsafe { raw::rsp_memory_words(self.at(), bank as u32, address, words.as_mut_ptr(), words.len()) })
+    }
+
+    /// Starts the task whose structure of 64 bytes is at an address of RDRAM, and empties the history.
     pub fn start_task(&mut self, address: u32) -> Result<(), Refused> {
         done(unsafe { raw::rsp_task(self.at(), address) })
     }
 
-    /// Goes on at a place of IMEM, a multiple of 4 below 4096.
+    /// Goes on at an address of IMEM, a multiple of 4 below 4096, and empties the history.
     pub fn set_pc(&mut self, pc: u32) -> Result<(), Refused> {
         done(unsafe { raw::rsp_set_pc(self.at(), pc) })
     }
 
-    /// Makes one step.
+    /// Executes one instruction.
     pub fn step(&mut self) -> Result<StepEnd, Refused> {
         match unsafe { raw::rsp_step(self.at()) } {
             0 => Ok(StepEnd::Done),
@@ -87,32 +113,43 @@ impl Machine {
             3 => Reason::Break,
             _ => Reason::Limit,
         };
-        Ok(Stop { reason, steps: out.steps, pc: out.pc })
+        let word = (reason == Reason::Reserved).then_some(out.word);
+        Ok(Stop { reason, steps: out.steps, pc: out.pc, word })
     }
 
-    /// Goes back 1 to 1000000 states of the past.
+    /// Undoes 1 to 1000000 steps.
     pub fn back(&mut self, states: u32) -> Result<(), Refused> {
         done(unsafe { raw::rsp_back(self.at(), states) })
     }
 
-    /// Gives a place of IMEM a breakpoint; at most sixteen have one.
+    /// Goes past the MFC0 or MTC0 at pc without its meaning: register rt of an MFC0 becomes the value. It empties the history. It is refused
+    /// if another word is at pc, and so never ends as Reserved.
+    pub fn pass(&mut self, value: u32) -> Result<StepEnd, Refused> {
+        match unsafe { raw::rsp_pass(self.at(), value) } {
+            0 => Ok(StepEnd::Done),
+            4 => Ok(StepEnd::Halted),
+            other => Err(done(other).unwrap_err()),
+        }
+    }
+
+    /// Sets a breakpoint at an address of IMEM; at most sixteen.
     pub fn add_break(&mut self, place: u32) -> Result<(), Refused> {
         done(unsafe { raw::rsp_add_break(self.at(), place) })
     }
 
-    /// Takes a place's breakpoint away.
+    /// Removes the breakpoint at an address.
     pub fn drop_break(&mut self, place: u32) -> Result<(), Refused> {
         done(unsafe { raw::rsp_drop_break(self.at(), place) })
     }
 
-    /// Watches 1 to 64 bytes of DMEM, and answers the watch's number. At most eight stand.
+    /// Watches 1 to 64 bytes of DMEM, and returns the watch's number. At most eight watches.
     pub fn add_watch(&mut self, address: u32, len: u32) -> Result<usize, Refused> {
         let mut number = 0;
         done(unsafe { raw::rsp_add_watch(self.at(), address, len, &mut number) })?;
         Ok(number)
     }
 
-    /// Drops a watch.
+    /// Removes a watch.
     pub fn drop_watch(&mut self, number: u32) -> Result<(), Refused> {
         done(unsafe { raw::rsp_drop_watch(self.at(), number) })
     }
@@ -124,7 +161,7 @@ impl Machine {
         Ok(out)
     }
 
-    /// The scalar registers and the places.
+    /// The scalar registers, pc and npc.
     pub fn regs(&self) -> Result<Scalars, Refused> {
         let mut out = Scalars::default();
         done(unsafe { raw::rsp_regs(self.at(), &mut out) })?;
@@ -152,14 +189,14 @@ impl Machine {
         Ok(out)
     }
 
-    /// What the divide rows keep.
+    /// What the divide instructions keep.
     pub fn divider(&self) -> Result<DivideState, Refused> {
         let mut out = DivideState::default();
         done(unsafe { raw::rsp_divider(self.at(), &mut out) })?;
         Ok(out)
     }
 
-    /// Reads SP register `n`, modulo 16, as the CPU does: a read of the semaphore, 7, takes it and empties the past.
+    /// Reads SP register `n`, modulo 16, as the CPU does: a read of the semaphore, 7, takes it and empties the history.
     pub fn read(&mut self, n: u32) -> Result<u32, Refused> {
         let mut out = 0;
         done(unsafe { raw::rsp_read(self.at(), n, &mut out) })?;
@@ -173,12 +210,24 @@ impl Machine {
         Ok(out)
     }
 
-    /// Writes SP register `n`, modulo 16, as the CPU does, with the DMA that it asks for.
+    /// Writes SP register `n`, modulo 16, as the CPU does, with its DMA, and empties the history.
     pub fn write(&mut self, n: u32, value: u32) -> Result<(), Refused> {
         done(unsafe { raw::rsp_write(self.at(), n, value) })
     }
 
-    /// The words of IMEM from a place on, each with its text.
+    /// All SP registers, with the interrupt flag.
+    pub fn sp(&self) -> Result<SpWords, Refused> {
+        let mut out = SpWords::default();
+        done(unsafe { raw::rsp_sp(self.at(), &mut out) })?;
+        Ok(out)
+    }
+
+    /// Sets all SP registers and the interrupt flag, without a DMA, and empties the history.
+    pub fn set_sp(&mut self, given: &SpWords) -> Result<(), Refused> {
+        done(unsafe { raw::rsp_set_sp(self.at(), given) })
+    }
+
+    /// The words of IMEM from the address `place` on, each with its disassembly.
     pub fn listing(&self, place: u32, count: usize) -> Result<Vec<Line>, Refused> {
         if count > 1024 {
             return Err(Refused::OutOfRange);

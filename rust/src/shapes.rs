@@ -1,11 +1,17 @@
 //! Plain parts of a machine.
 
-/// The scalar registers, and the places of the next instruction and of the one after it.
+use crate::raw;
+use std::fmt;
+
+/// The scalar registers, and the addresses of the next instruction and of the one after it.
 #[repr(C)]
 #[derive(Clone, Copy, Debug, Default, PartialEq, Eq)]
 pub struct Scalars {
+    /// The scalar registers; number 0 is 0.
     pub words: [u32; 32],
+    /// The address of the next instruction, a multiple of 4 below 4096.
     pub pc: u16,
+    /// The address of the one after it.
     pub npc: u16,
 }
 
@@ -13,28 +19,39 @@ pub struct Scalars {
 #[repr(C)]
 #[derive(Clone, Copy, Debug, Default, PartialEq, Eq)]
 pub struct Accumulators {
+    /// Bits 47 to 32.
     pub high: [u16; 8],
+    /// Bits 31 to 16.
     pub middle: [u16; 8],
+    /// Bits 15 to 0.
     pub low: [u16; 8],
 }
 
-/// Flags, bit i for lane i. VCO is `carry` in its bits 0 to 7 and `differ` in 8 to 15, VCC `compare` and `clip`, VCE `extra`.
+/// Flags, bit i for lane i.
 #[repr(C)]
 #[derive(Clone, Copy, Debug, Default, PartialEq, Eq)]
 pub struct FlagBits {
+    /// Bits 0 to 7 of VCO.
     pub carry: u8,
+    /// Bits 8 to 15 of VCO, not-equal.
     pub differ: u8,
+    /// Bits 0 to 7 of VCC.
     pub compare: u8,
+    /// Bits 8 to 15 of VCC.
     pub clip: u8,
+    /// VCE.
     pub extra: u8,
 }
 
-/// What the divide rows keep: DIV_IN, DIV_OUT, and 1 where DIV_IN is loaded (else 0).
+/// What the divide instructions keep.
 #[repr(C)]
 #[derive(Clone, Copy, Debug, Default, PartialEq, Eq)]
 pub struct DivideState {
+    /// DIV_IN.
     pub input: u16,
+    /// DIV_OUT.
     pub output: u16,
+    /// 1 if DIV_IN is loaded, else 0.
     pub loaded: u16,
 }
 
@@ -42,64 +59,163 @@ pub struct DivideState {
 #[repr(C)]
 #[derive(Clone, Copy, Debug, Default, PartialEq, Eq)]
 pub struct State {
-    /// The scalar registers, of which number 0 is 0.
+    /// The scalar registers; number 0 is 0.
     pub words: [u32; 32],
     /// The vector registers, lane 0 first.
     pub vectors: [[u16; 8]; 32],
+    /// The accumulators.
     pub accumulators: Accumulators,
+    /// The flags VCO, VCC and VCE.
     pub flags: FlagBits,
+    /// What the divide instructions keep.
     pub divider: DivideState,
-    /// The place of the next instruction, a multiple of 4 below 4096.
+    /// The address of the next instruction, a multiple of 4 below 4096.
     pub pc: u16,
-    /// The place of the one after it.
+    /// The address of the one after it.
     pub npc: u16,
-    /// The SP registers 0 to 7 and the DPC's, as they read.
+    /// The SP registers 0 to 7 and the DPC's, as `peek` gives them.
     pub sp: [u32; 16],
-    /// 1 where the interrupt flag is set, and else 0.
+    /// 1 if the interrupt flag is set, else 0.
     pub interrupt: u32,
+}
+
+/// The SP registers.
+#[repr(C)]
+#[derive(Clone, Copy, Debug, Default, PartialEq, Eq)]
+pub struct SpWords {
+    /// Registers 0 to 7 and the DPC's, as `peek` gives them.
+    pub words: [u32; 16],
+    /// 1 if the interrupt flag is set, else 0.
+    pub interrupt: u32,
+}
+
+/// A field of a [`State`] with a value that no machine can have.
+#[derive(Clone, Copy, Debug, PartialEq, Eq)]
+pub enum Field {
+    /// `words[0]` isn't 0.
+    Zero,
+    /// `divider.loaded` isn't 0 or 1.
+    Loaded,
+    /// `pc` isn't a multiple of 4 below 4096.
+    Pc,
+    /// Nor is `npc`.
+    Npc,
+    /// `interrupt` isn't 0 or 1.
+    Interrupt,
+    /// `sp[n]` can't be read from that register.
+    Sp(u32),
+}
+
+impl fmt::Display for Field {
+    fn fmt(&self, f: &mut fmt::Formatter<'_>) -> fmt::Result {
+        f.write_str(match self {
+            Field::Zero => "words[0]",
+            Field::Loaded => "divider.loaded",
+            Field::Pc => "pc",
+            Field::Npc => "npc",
+            Field::Interrupt => "interrupt",
+            Field::Sp(n) => return write!(f, "sp[{n}]"),
+        })
+    }
+}
+
+impl State {
+    /// The first field for which [`Machine::set`](crate::Machine::set) refuses a state.
+    pub fn fault(&self) -> Option<Field> {
+        let mut out = 0;
+        // SAFETY: both pointers are of borrows.
+        unsafe { raw::rsp_state_fault(self, &mut out) };
+        match out {
+            0 => None,
+            1 => Some(Field::Zero),
+            2 => Some(Field::Loaded),
+            3 => Some(Field::Pc),
+            4 => Some(Field::Npc),
+            5 => Some(Field::Interrupt),
+            more => Some(Field::Sp(more - 16)),
+        }
+    }
 }
 
 /// One of the three memories.
 #[derive(Clone, Copy, Debug, PartialEq, Eq)]
 pub enum Bank {
+    /// 4096 bytes of data.
     Dmem = 0,
+    /// 4096 bytes of instructions.
     Imem = 1,
+    /// The image.
     Rdram = 2,
 }
 
 /// How a step ended.
 #[derive(Clone, Copy, Debug, PartialEq, Eq)]
 pub enum StepEnd {
+    /// One instruction was executed.
     Done,
+    /// The machine is halted.
     Halted,
+    /// The word at pc is reserved.
     Reserved,
+}
+
+impl fmt::Display for StepEnd {
+    fn fmt(&self, f: &mut fmt::Formatter<'_>) -> fmt::Result {
+        f.write_str(match self {
+            StepEnd::Done => "OK",
+            StepEnd::Halted => "HALTED",
+            StepEnd::Reserved => "RESERVED",
+        })
+    }
 }
 
 /// Why a run stopped.
 #[derive(Clone, Copy, Debug, PartialEq, Eq)]
 pub enum Reason {
+    /// The word at pc is reserved.
     Reserved,
+    /// The machine is halted.
     Halt,
-    /// At the watch of this number.
+    /// The last step changed a byte of the watch of this number.
     Watch(usize),
+    /// The last step came to a breakpoint.
     Break,
+    /// All steps are made.
     Limit,
 }
 
 /// Where a run stopped.
 #[derive(Clone, Copy, Debug, PartialEq, Eq)]
 pub struct Stop {
+    /// Why.
     pub reason: Reason,
     /// How many steps were made.
     pub steps: u32,
-    /// The place of the next instruction.
+    /// The address of the next instruction.
     pub pc: u16,
+    /// The word at pc, if it is reserved and the run stopped there.
+    pub word: Option<u32>,
 }
 
-/// A word of IMEM with its text.
+impl fmt::Display for Reason {
+    fn fmt(&self, f: &mut fmt::Formatter<'_>) -> fmt::Result {
+        f.write_str(match self {
+            Reason::Reserved => "RESERVED",
+            Reason::Halt => "HALT",
+            Reason::Watch(_) => "WATCH",
+            Reason::Break => "BREAK",
+            Reason::Limit => "LIMIT",
+        })
+    }
+}
+
+/// A word of IMEM.
 #[derive(Clone, Debug, PartialEq, Eq)]
 pub struct Line {
+    /// Its address.
     pub place: u16,
+    /// The word.
     pub word: u32,
+    /// Its disassembly.
     pub text: String,
 }

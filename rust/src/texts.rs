@@ -1,29 +1,21 @@
-//! Texts: from a source to words, and from words to their text.
+//! Assembling and disassembling.
 
-use crate::error::done;
+use crate::error::{done, right_version};
 use crate::raw;
 use crate::shapes::Line;
 use crate::Refused;
 
 const NO_MEANING: u32 = 6;
 
-pub(crate) const NO_LINE: raw::Line = raw::Line {
-    word: 0,
-    place: 0,
-    len: 0,
-    text: [0; 68],
-};
+pub(crate) const NO_LINE: raw::Line = raw::Line { word: 0, place: 0, len: 0, text: [0; 68] };
 
 pub(crate) fn seen(line: &raw::Line) -> Line {
-    Line {
-        place: line.place,
-        word: line.word,
-        text: String::from_utf8_lossy(&line.text[..usize::from(line.len)]).into_owned(),
-    }
+    Line { place: line.place, word: line.word, text: String::from_utf8_lossy(&line.text[..usize::from(line.len)]).into_owned() }
 }
 
-/// The words of a source whose first stands at `origin`, a multiple of 4 up to 4096.
+/// The words of a text, the first one for the address `origin`, a multiple of 4 up to 4096.
 pub fn assemble(text: &str, origin: u32) -> Result<Vec<u32>, Refused> {
+    right_version()?;
     let mut words = vec![0; 1024];
     let mut out = raw::Assembled::default();
     // SAFETY: each pointer is of a borrow, with its own length.
@@ -36,15 +28,16 @@ pub fn assemble(text: &str, origin: u32) -> Result<Vec<u32>, Refused> {
     Ok(words)
 }
 
-/// The canonical text of a word that stands at a place, a multiple of 4 below 4096.
+/// The disassembly of a word for the address `place`, a multiple of 4 below 4096.
 pub fn text(word: u32, place: u32) -> Result<String, Refused> {
+    right_version()?;
     let mut line = NO_LINE;
     // SAFETY: the pointer is of a borrow.
     done(unsafe { raw::rsp_text(word, place, &mut line) })?;
     Ok(seen(&line).text)
 }
 
-/// The version of the library's interface.
+/// The version of the library's interface. A library of another one than [`VERSION`](crate::VERSION) is refused.
 pub fn version() -> u32 {
     // SAFETY: it takes nothing.
     unsafe { raw::rsp_version() }

@@ -1,6 +1,7 @@
 //! The calls in their ranges and out of them.
 
-use rsp::{assemble, text, version, Bank, Machine, Reason, Refused, State, StepEnd};
+use rsp::{assemble, text, version, Bank, Field, Machine, Reason, Refused, State, StepEnd};
+use std::thread;
 
 fn loaded(source: &str, depth: u32) -> Machine {
     let mut machine = Machine::new(&[0; 4096], depth).unwrap();
@@ -18,6 +19,70 @@ fn a_life() {
     for _ in 0..100 {
         Machine::new(&vec![0; 1 << 20], 4096).unwrap();
     }
+}
+
+#[test]
+fn copies() {
+    let mut machine = loaded("addiu $1, $1, 1\naddiu $1, $1, 1\naddiu $1, $1, 1\nbreak\n", 2);
+    machine.load(Bank::Rdram, 4088, b"RDRAMend").unwrap();
+    machine.step().unwrap();
+    machine.add_break(8).unwrap();
+    let mut other = machine.copy().unwrap();
+    assert_eq!(other.get(), machine.get());
+    let mut bytes = [0; 8];
+    other.memory(Bank::Rdram, 4088, &mut bytes).unwrap();
+    assert_eq!(&bytes, b"RDRAMend");
+    assert_eq!(other.back(1), Err(Refused::ShortHistory));
+    assert_eq!(other.drop_break(8), Err(Refused::NoBreak));
+    assert_eq!(other.run(9).unwrap().reason, Reason::Halt);
+    assert_eq!((other.reg(1), machine.reg(1)), (Ok(3), Ok(1)));
+    assert_eq!(other.back(3), Err(Refused::ShortHistory));
+    assert_eq!(other.back(2), Ok(()));
+    drop(machine);
+    assert_eq!(other.reg(1), Ok(2));
+}
+
+#[test]
+fn a_machine_in_three_threads() {
+    let made = thread::spawn(|| loaded("loop: addiu $1, $1, 1\nbne $1, $2, loop\nnop\n", 9)).join().unwrap();
+    let run = thread::spawn(move || {
+        let mut machine = made;
+        machine.run(300).unwrap();
+        machine
+    });
+    let machine = run.join().unwrap();
+    assert_eq!(thread::spawn(move || machine.reg(1)).join().unwrap(), Ok(100));
+}
+
+#[test]
+fn passes_and_sp_registers() {
+    let mut machine = loaded("mfc0 $3, $c7\nmtc0 $3, $c2\nnop\n", 0);
+    assert_eq!(machine.pass(0xfedc_ba98), Ok(StepEnd::Done));
+    assert_eq!((machine.reg(3), machine.peek(7)), (Ok(0xfedc_ba98), Ok(0)));
+    assert_eq!(machine.pass(0), Ok(StepEnd::Done));
+    assert_eq!((machine.reg(3), machine.peek(2), machine.regs().unwrap().pc), (Ok(0xfedc_ba98), Ok(0xff8), 8));
+    assert_eq!(machine.pass(0), Err(Refused::OutOfRange));
+    machine.write(4, 2).unwrap();
+    assert_eq!(machine.pass(0), Ok(StepEnd::Halted));
+    let mut given = machine.sp().unwrap();
+    assert_eq!((given.words[4], given.words[2], given.interrupt), (1, 0xff8, 0));
+    (given.words[0], given.words[4], given.words[7], given.words[15], given.interrupt) = (0x1ff8, 0x50e2, 1, 5, 1);
+    machine.set_sp(&given).unwrap();
+    assert_eq!(machine.sp(), Ok(given));
+    for (n, word) in [4, 1, 0, 0, 4, 1, 1, 2].into_iter().enumerate() {
+        let mut bad = given;
+        bad.words[n] = word;
+        assert_eq!(machine.set_sp(&bad), Err(Refused::OutOfRange));
+    }
+    assert_eq!(machine.sp(), Ok(given));
+}
+
+#[test]
+fn names() {
+    assert_eq!(Refused::ShortHistory.to_string(), "the history holds fewer states");
+    assert_eq!(assemble("nop\nfoo\n", 0).unwrap_err().to_string(), "fault 11 UnknownName line 2");
+    assert_eq!(Reason::Watch(3).to_string(), "WATCH");
+    assert_eq!(Field::Sp(3).to_string(), "sp[3]");
 }
 
 #[test]
@@ -43,8 +108,14 @@ fn runs_and_stops() {
     assert_eq!(machine.run(100).unwrap().reason, Reason::Halt);
     assert_eq!(machine.step(), Ok(StepEnd::Halted));
     machine.write(4, 1).unwrap();
-    machine.load_words(Bank::Imem, 24, &[0xffff_ffff]).unwrap();
+    machine.load_words(Bank::Imem, 24, &[0xffff_fffe]).unwrap();
     assert_eq!(machine.step(), Ok(StepEnd::Reserved));
+    let stop = machine.run(5).unwrap();
+    assert_eq!((stop.reason, stop.word), (Reason::Reserved, Some(0xffff_fffe)));
+    machine.write(4, 2).unwrap();
+    let stop = machine.run(5).unwrap();
+    assert_eq!((stop.reason, stop.word), (Reason::Halt, None));
+    machine.write(4, 1).unwrap();
     assert_eq!(machine.start_task(4), Err(Refused::TaskPlace));
     assert_eq!(machine.start_task(0), Err(Refused::TaskSize));
 }
@@ -59,6 +130,16 @@ fn states_and_memories() {
     (state.words[31], state.vectors[31][7], state.accumulators.low[7], state.sp[15]) = (1, 2, 3, 4);
     machine.set(&state).unwrap();
     assert_eq!(machine.get(), Ok(state));
+    assert_eq!(state.fault(), None);
+    let faulty = |change: fn(&mut State)| {
+        let mut bad = state;
+        change(&mut bad);
+        bad.fault()
+    };
+    assert_eq!(faulty(|bad| (bad.npc, bad.sp[3]) = (4094, 1)), Some(Field::Npc));
+    assert_eq!(faulty(|bad| bad.sp[3] = 1), Some(Field::Sp(3)));
+    assert_eq!(faulty(|bad| bad.words[0] = 1), Some(Field::Zero));
+    assert_eq!(faulty(|bad| bad.divider.loaded = 2), Some(Field::Loaded));
     assert_eq!(machine.reg(31), Ok(1));
     assert_eq!(machine.reg(32), Err(Refused::OutOfRange));
     assert_eq!(machine.vreg(31).unwrap()[7], 2);
@@ -74,6 +155,13 @@ fn states_and_memories() {
     assert_eq!((bytes[0], bytes[2998], bytes[2999]), (7, 7, 0));
     assert_eq!(machine.memory(Bank::Rdram, 1097, &mut bytes), Err(Refused::OutOfRange));
     assert_eq!(machine.load(Bank::Dmem, u32::MAX, &[]), Err(Refused::OutOfRange));
+    let mut words = [0; 2];
+    machine.load_words(Bank::Dmem, 8, &[0x0102_0304, 0x0506_0708]).unwrap();
+    machine.memory_words(Bank::Dmem, 9, &mut words).unwrap();
+    assert_eq!(words, [0x0203_0405, 0x0607_0800]);
+    assert_eq!(machine.memory_words(Bank::Rdram, 4089, &mut words), Err(Refused::OutOfRange));
+    assert_eq!(machine.memory_words(Bank::Dmem, 4096, &mut []), Ok(()));
+    assert_eq!(words, [0x0203_0405, 0x0607_0800]);
     assert_eq!(machine.set_pc(4096), Err(Refused::OutOfRange));
     assert_eq!(machine.set_pc(4), Ok(()));
 }

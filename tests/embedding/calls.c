@@ -40,7 +40,10 @@ static void without_machine(void)
     rsp_flag_bits flags;
     rsp_divide_state divider;
     rsp_line line;
+    rsp_sp_words sp;
+    rsp to = RSP_NONE;
     int i;
+    memset(&sp, 0, sizeof sp);
     SEE(rsp_new(&freed, image, 64, 0) == RSP_OK);
     rsp_free(&freed);
     rsp_free(&freed);
@@ -76,6 +79,12 @@ static void without_machine(void)
         SEE(rsp_peek(m, 7, &word) == RSP_NO_MACHINE);
         SEE(rsp_write(m, 0, 8) == RSP_NO_MACHINE);
         SEE(rsp_listing(m, 0, &line, 1) == RSP_NO_MACHINE);
+        SEE(rsp_memory_words(m, 0, 0, &word, 1) == RSP_NO_MACHINE);
+        SEE(rsp_memory_words(m, 9, ANY, &word, SIZE_MAX) == RSP_NO_MACHINE);
+        SEE(rsp_sp(m, &sp) == RSP_NO_MACHINE);
+        SEE(rsp_set_sp(m, &sp) == RSP_NO_MACHINE);
+        SEE(rsp_pass(m, 1) == RSP_NO_MACHINE);
+        SEE(rsp_copy(&to, m) == RSP_NO_MACHINE && to.at == NULL);
         SEE(m->at == NULL);
     }
 }
@@ -101,11 +110,42 @@ static void lives(void)
     SEE(m.at == NULL);
 }
 
+static void copies(void)
+{
+    rsp m = RSP_NONE, to = RSP_NONE;
+    rsp_stop stop;
+    uint32_t word = 0;
+    uint8_t bytes[8];
+    size_t number;
+    SEE(rsp_new(&m, image, 4096, 3) == RSP_OK);
+    load(&m, "addiu $1, $1, 1\naddiu $1, $1, 1\naddiu $1, $1, 1\naddiu $1, $1, 1\naddiu $1, $1, 1\nbreak\n");
+    SEE(rsp_load(&m, RSP_DMEM, 4088, (const uint8_t *)"DMEM-end", 8) == RSP_OK);
+    SEE(rsp_load(&m, RSP_RDRAM, 4088, (const uint8_t *)"RDRAMend", 8) == RSP_OK);
+    SEE(rsp_step(&m) == RSP_OK && rsp_add_break(&m, 12) == RSP_OK && rsp_add_watch(&m, 0, 4, &number) == RSP_OK);
+    SEE(rsp_new(&to, image, 64, 0) == RSP_OK && rsp_copy(&to, &m) == RSP_OK); /* what it held is freed */
+    SEE(rsp_get(&m, &state) == RSP_OK && rsp_get(&to, &other) == RSP_OK && !memcmp(state.words, other.words, sizeof state.words));
+    SEE(other.pc == 4 && other.npc == 8 && other.words[1] == 1);
+    SEE(rsp_memory(&to, RSP_DMEM, 4088, bytes, 8) == RSP_OK && !memcmp(bytes, "DMEM-end", 8));
+    SEE(rsp_memory(&to, RSP_RDRAM, 4088, bytes, 8) == RSP_OK && !memcmp(bytes, "RDRAMend", 8));
+    SEE(rsp_memory_words(&to, RSP_IMEM, 20, &word, 1) == RSP_OK && word == 0x0d);
+    SEE(rsp_back(&to, 1) == RSP_SHORT_HISTORY); /* its history is empty, and as long */
+    SEE(rsp_drop_watch(&to, 0) == RSP_NO_WATCH && rsp_drop_break(&to, 12) == RSP_NO_BREAK);
+    SEE(rsp_run(&to, 100, &stop) == RSP_OK && stop.reason == RSP_AT_HALT && stop.steps == 5);
+    SEE(rsp_back(&to, 4) == RSP_SHORT_HISTORY && rsp_back(&to, 3) == RSP_OK);
+    SEE(rsp_load(&to, RSP_RDRAM, 4088, (const uint8_t *)"another.", 8) == RSP_OK);
+    SEE(rsp_memory(&m, RSP_RDRAM, 4088, bytes, 8) == RSP_OK && !memcmp(bytes, "RDRAMend", 8)); /* its own memory */
+    SEE(rsp_run(&m, 100, &stop) == RSP_OK && stop.reason == RSP_AT_BREAK && stop.pc == 12); /* the first keeps its own */
+    SEE(rsp_back(&m, 3) == RSP_OK && rsp_reg(&m, 1, &word) == RSP_OK && word == 0);
+    rsp_free(&m);
+    SEE(rsp_copy(&to, &m) == RSP_NO_MACHINE && rsp_reg(&to, 1, &word) == RSP_OK && word == 3);
+    rsp_free(&to);
+}
+
 static void memories(void)
 {
     rsp m = RSP_NONE;
     static uint8_t bytes[4096], found[4096];
-    static uint32_t words[1025];
+    static uint32_t words[1025], got[1025];
     uint32_t bank;
     size_t i;
     for (i = 0; i < 4096; i++) bytes[i] = (uint8_t)(i * 7 + i / 256);
@@ -131,9 +171,29 @@ static void memories(void)
         SEE(rsp_load_words(&m, bank, 8, words, 2) == RSP_OK);
         SEE(rsp_memory(&m, bank, 7, found, 10) == RSP_OK && found[0] == bytes[7] && found[9] == bytes[16]);
         SEE(!memcmp(found + 1, "\1\2\3\4\1\2\3\5", 8));
+        SEE(rsp_memory_words(&m, bank, 8, got, 2) == RSP_OK && got[0] == 0x01020304u && got[1] == 0x01020305u);
+        SEE(rsp_memory_words(&m, bank, 9, got, 1) == RSP_OK && got[0] == 0x02030401u);
         SEE(rsp_load_words(&m, bank, 0, words, 1024) == RSP_OK);
         SEE(rsp_memory(&m, bank, 4092, found, 4) == RSP_OK && !memcmp(found, "\1\2\7\3", 4));
+        SEE(rsp_memory_words(&m, bank, 0, got, 1024) == RSP_OK && !memcmp(got, words, 4096));
+        for (i = 0; i < 1024; i += 31) {
+            SEE(rsp_load_words(&m, bank, 0, got, 1024) == RSP_OK && rsp_load_words(&m, bank, (uint32_t)(4 * i), words + 1, 1024 - i) == RSP_OK);
+            SEE(rsp_memory_words(&m, bank, 0, got, 1024) == RSP_OK);
+            SEE(!memcmp(got, words, 4 * i) && !memcmp(got + i, words + 1, 4096 - 4 * i));
+            memcpy(got, words, 4096);
+        }
+        got[0] = 0xa5;
+        SEE(rsp_load_words(&m, bank, 4096, words, 0) == RSP_OK && rsp_memory_words(&m, bank, 4096, got, 0) == RSP_OK);
+        SEE(rsp_load_words(&m, bank, 4097, words, 0) == RSP_OUT_OF_RANGE && rsp_memory_words(&m, bank, 4097, got, 0) == RSP_OUT_OF_RANGE);
+        SEE(rsp_memory_words(&m, bank, 0, got, 1025) == RSP_OUT_OF_RANGE && rsp_memory_words(&m, bank, 4093, got, 1) == RSP_OUT_OF_RANGE);
+        SEE(rsp_memory_words(&m, bank, ANY, got, 1) == RSP_OUT_OF_RANGE && rsp_load_words(&m, bank, ANY, words, 1) == RSP_OUT_OF_RANGE);
+        SEE(rsp_memory_words(&m, bank, 0, got, SIZE_MAX) == RSP_OUT_OF_RANGE);
+        SEE(rsp_load_words(&m, bank, 0, words, SIZE_MAX) == RSP_OUT_OF_RANGE);
+        SEE(rsp_memory_words(&m, bank, 0, got, SIZE_MAX / 4 + 1) == RSP_OUT_OF_RANGE); /* four times it is 0 again */
+        SEE(rsp_memory(&m, bank, 0, found, SIZE_MAX) == RSP_OUT_OF_RANGE && rsp_load(&m, bank, 0, bytes, SIZE_MAX) == RSP_OUT_OF_RANGE);
+        SEE(got[0] == 0xa5);
     }
+    SEE(rsp_memory_words(&m, 3, 0, got, 1) == RSP_OUT_OF_RANGE);
     SEE(rsp_load(&m, 3, 0, bytes, 1) == RSP_OUT_OF_RANGE);
     SEE(rsp_load_words(&m, ANY, 0, words, 1) == RSP_OUT_OF_RANGE);
     SEE(rsp_memory(&m, 3, 0, found, 1) == RSP_OUT_OF_RANGE);
@@ -197,7 +257,10 @@ static void steps(void)
     word = 0xffffffffu;
     SEE(rsp_load_words(&m, RSP_IMEM, 24, &word, 1) == RSP_OK);
     SEE(rsp_step(&m) == RSP_RESERVED);
-    SEE(rsp_run(&m, 5, &stop) == RSP_OK && stop.reason == RSP_AT_RESERVED && stop.steps == 0 && stop.pc == 24);
+    SEE(rsp_run(&m, 5, &stop) == RSP_OK && stop.reason == RSP_AT_RESERVED && stop.steps == 0 && stop.pc == 24 && stop.word == 0xffffffffu);
+    SEE(rsp_write(&m, 4, 2) == RSP_OK); /* halted goes before reserved */
+    SEE(rsp_run(&m, 5, &stop) == RSP_OK && stop.reason == RSP_AT_HALT && stop.steps == 0 && stop.word == 0);
+    SEE(rsp_write(&m, 4, 1) == RSP_OK);
     SEE(rsp_set_pc(&m, 2) == RSP_OUT_OF_RANGE);
     SEE(rsp_set_pc(&m, 4096) == RSP_OUT_OF_RANGE);
     SEE(rsp_set_pc(&m, 65536) == RSP_OUT_OF_RANGE);
@@ -251,6 +314,66 @@ static void sp_registers(void)
     rsp_free(&m);
 }
 
+#define REFUSED_SP(change) do { rsp_sp_words bad = sp; change; SEE(rsp_set_sp(&m, &bad) == RSP_OUT_OF_RANGE); } while (0)
+
+static void sp_at_once(void)
+{
+    rsp m = RSP_NONE;
+    rsp_sp_words sp, got;
+    uint32_t word = 0;
+    uint32_t n;
+    SEE(rsp_new(&m, image, 64, 4) == RSP_OK);
+    SEE(rsp_step(&m) == RSP_OK && rsp_sp(&m, &sp) == RSP_OK && sp.words[2] == 0xff8 && sp.words[3] == 0xff8 && sp.interrupt == 0);
+    SEE(rsp_back(&m, 1) == RSP_OK && rsp_step(&m) == RSP_OK); /* a look keeps the history */
+    sp.words[0] = 0x1ff8, sp.words[1] = 0xfffff8, sp.words[2] = sp.words[3] = 0x038u << 20 | 0xff8, sp.words[4] = 0x50e2, sp.words[7] = 1;
+    for (n = 8; n < 16; n++) sp.words[n] = 0xd0000000u + n;
+    sp.interrupt = 1;
+    SEE(rsp_set_sp(&m, &sp) == RSP_OK && rsp_back(&m, 1) == RSP_SHORT_HISTORY);
+    memset(&got, 0, sizeof got);
+    SEE(rsp_sp(&m, &got) == RSP_OK && !memcmp(&got, &sp, sizeof sp));
+    for (n = 0; n < 16; n++) SEE(rsp_peek(&m, n, &word) == RSP_OK && word == sp.words[n]);
+    SEE(rsp_get(&m, &state) == RSP_OK && !memcmp(state.sp, sp.words, sizeof state.sp) && state.interrupt == 1 && state.pc == 4);
+    REFUSED_SP(bad.words[0] = 4);
+    REFUSED_SP(bad.words[0] = 0x2000);
+    REFUSED_SP(bad.words[1] = 0x1000000);
+    REFUSED_SP(bad.words[1] = 1);
+    REFUSED_SP(bad.words[2] = 0);
+    REFUSED_SP(bad.words[3] = 0xff8);
+    REFUSED_SP(bad.words[2] = bad.words[3] = 0x001u << 20 | 0xff8);
+    REFUSED_SP(bad.words[4] = 4);
+    REFUSED_SP(bad.words[4] = 0x8000);
+    REFUSED_SP(bad.words[5] = 1);
+    REFUSED_SP(bad.words[6] = 1);
+    REFUSED_SP(bad.words[7] = 2);
+    REFUSED_SP(bad.interrupt = 2);
+    memset(&got, 0, sizeof got);
+    SEE(rsp_sp(&m, &got) == RSP_OK && !memcmp(&got, &sp, sizeof sp));
+    rsp_free(&m);
+}
+
+static void passes(void)
+{
+    rsp m = RSP_NONE;
+    rsp_scalars scalars;
+    uint32_t word = 0;
+    SEE(rsp_new(&m, image, 64, 4) == RSP_OK);
+    load(&m, "nop\nmfc0 $3, $c7\nmtc0 $3, $c2\nmfc0 $0, $c4\nnop\nbreak\n");
+    SEE(rsp_pass(&m, 9) == RSP_OUT_OF_RANGE && rsp_step(&m) == RSP_OK);
+    SEE(rsp_pass(&m, 0xfedcba98u) == RSP_OK); /* takes no semaphore */
+    SEE(rsp_regs(&m, &scalars) == RSP_OK && scalars.pc == 8 && scalars.npc == 12 && scalars.words[3] == 0xfedcba98u);
+    SEE(rsp_peek(&m, 7, &word) == RSP_OK && word == 0);
+    SEE(rsp_back(&m, 1) == RSP_SHORT_HISTORY);
+    SEE(rsp_pass(&m, 1) == RSP_OK); /* no DMA, and no register is written */
+    SEE(rsp_regs(&m, &scalars) == RSP_OK && scalars.pc == 12 && scalars.words[3] == 0xfedcba98u && scalars.words[1] == 0);
+    SEE(rsp_peek(&m, 2, &word) == RSP_OK && word == 0xff8);
+    SEE(rsp_write(&m, 4, 0x40) == RSP_OK); /* sets single step */
+    SEE(rsp_pass(&m, 5) == RSP_OK && rsp_reg(&m, 0, &word) == RSP_OK && word == 0);
+    SEE(rsp_peek(&m, 4, &word) == RSP_OK && word == 0x21); /* it has halted */
+    SEE(rsp_pass(&m, 5) == RSP_HALTED && rsp_regs(&m, &scalars) == RSP_OK && scalars.pc == 16);
+    SEE(rsp_set_pc(&m, 4) == RSP_OK && rsp_pass(&m, 5) == RSP_HALTED);
+    rsp_free(&m);
+}
+
 static void tasks(void)
 {
     rsp m = RSP_NONE;
@@ -300,7 +423,13 @@ static int is_same(const rsp_state *a, const rsp_state *b)
         && !memcmp(a->sp, b->sp, sizeof a->sp) && a->interrupt == b->interrupt;
 }
 
-#define REFUSED(change) do { rsp_state bad = state; change; SEE(rsp_set(&m, &bad) == RSP_OUT_OF_RANGE); } while (0)
+#define REFUSED(change, field) do { \
+    rsp_state bad = state; \
+    uint32_t told = 99; \
+    change; \
+    SEE(rsp_set(&m, &bad) == RSP_OUT_OF_RANGE); \
+    SEE(rsp_state_fault(&bad, &told) == RSP_OK && told == (field)); \
+} while (0)
 
 static void states(void)
 {
@@ -325,24 +454,26 @@ static void states(void)
     SEE(rsp_peek(&m, 4, &word) == RSP_OK && word == 0x50e2);
     SEE(rsp_memory(&m, RSP_DMEM, 8, bytes, 4) == RSP_OK && bytes[3] == 4);
 
-    REFUSED(bad.words[0] = 1);
-    REFUSED(bad.pc = 2);
-    REFUSED(bad.pc = 4096);
-    REFUSED(bad.npc = 0xffff);
-    REFUSED(bad.divider.loaded = 2);
-    REFUSED(bad.interrupt = 2);
-    REFUSED(bad.sp[0] = 4);
-    REFUSED(bad.sp[0] = 0x2000);
-    REFUSED(bad.sp[1] = 0x1000000);
-    REFUSED(bad.sp[1] = 1);
-    REFUSED(bad.sp[2] = 0);
-    REFUSED(bad.sp[3] = 0xff8);
-    REFUSED(bad.sp[2] = bad.sp[3] = 0x001u << 20 | 0xff8);
-    REFUSED(bad.sp[4] = 4);
-    REFUSED(bad.sp[4] = 0x8000);
-    REFUSED(bad.sp[5] = 1);
-    REFUSED(bad.sp[6] = 1);
-    REFUSED(bad.sp[7] = 2);
+    SEE(rsp_state_fault(&state, &word) == RSP_OK && word == RSP_FIELD_NONE);
+    REFUSED(bad.words[0] = 1, RSP_FIELD_ZERO);
+    REFUSED(bad.pc = 2, RSP_FIELD_PC);
+    REFUSED(bad.pc = 4096, RSP_FIELD_PC);
+    REFUSED(bad.npc = 0xffff, RSP_FIELD_NPC);
+    REFUSED(bad.divider.loaded = 2, RSP_FIELD_LOADED);
+    REFUSED(bad.interrupt = 2, RSP_FIELD_INTERRUPT);
+    REFUSED(bad.sp[0] = 4, RSP_FIELD_SP);
+    REFUSED(bad.sp[0] = 0x2000, RSP_FIELD_SP);
+    REFUSED(bad.sp[1] = 0x1000000, RSP_FIELD_SP + 1);
+    REFUSED(bad.sp[1] = 1, RSP_FIELD_SP + 1);
+    REFUSED(bad.sp[2] = 0, RSP_FIELD_SP + 2);
+    REFUSED(bad.sp[3] = 0xff8, RSP_FIELD_SP + 3);
+    REFUSED(bad.sp[2] = bad.sp[3] = 0x001u << 20 | 0xff8, RSP_FIELD_SP + 2);
+    REFUSED(bad.sp[4] = 4, RSP_FIELD_SP + 4);
+    REFUSED(bad.sp[4] = 0x8000, RSP_FIELD_SP + 4);
+    REFUSED(bad.sp[5] = 1, RSP_FIELD_SP + 5);
+    REFUSED(bad.sp[6] = 1, RSP_FIELD_SP + 6);
+    REFUSED(bad.sp[7] = 2, RSP_FIELD_SP + 7);
+    REFUSED(bad.sp[7] = bad.words[0] = 2, RSP_FIELD_ZERO); /* the first of two */
     memset(&other, 0xee, sizeof other);
     SEE(rsp_get(&m, &other) == RSP_OK && is_same(&state, &other));
     rsp_free(&m);
@@ -394,10 +525,13 @@ int main(void)
 {
     without_machine();
     lives();
+    copies();
     memories();
     steps();
     looks();
     sp_registers();
+    sp_at_once();
+    passes();
     tasks();
     states();
     texts();

@@ -1,6 +1,7 @@
 """Each call of the module rsp, in its range and out of it. The last line is `N passed, M failed`."""
 
 import sys
+import threading
 
 import rsp
 
@@ -36,12 +37,46 @@ def lives():
         refused(out, rsp.Rsp, bytes(64), depth)
     with rsp.Rsp() as machine:
         see("a new machine", machine.regs().npc == 4)
-    for call in (machine.get, machine.step, machine.regs, machine.acc, machine.flags, machine.divider):
+    plain = (machine.get, machine.step, machine.regs, machine.acc, machine.flags, machine.divider)
+    for call in (*plain, machine.sp, machine.copy, machine.pass_move):
         refused(rsp.Status.NO_MACHINE, call)
     for call in (machine.reg, machine.vreg, machine.read, machine.peek, machine.run, machine.back, machine.add_break, machine.set_pc):
         refused(rsp.Status.NO_MACHINE, call, 4)
     refused(rsp.Status.NO_MACHINE, machine.memory, rsp.DMEM, 0, 4)
+    refused(rsp.Status.NO_MACHINE, machine.memory_words, rsp.DMEM, 0, 4)
+    refused(rsp.Status.NO_MACHINE, machine.set_sp, rsp.SpWords())
     machine.close()
+
+
+def copies():
+    machine = loaded("addiu $1, $1, 1\naddiu $1, $1, 1\naddiu $1, $1, 1\nbreak\n", 2)
+    machine.load(rsp.RDRAM, 4088, b"RDRAMend")
+    machine.step()
+    machine.add_break(8)
+    other = machine.copy()
+    see("a copy", other.get() == machine.get() and other.memory(rsp.RDRAM, 4088, 8) == b"RDRAMend")
+    refused(rsp.Status.SHORT_HISTORY, other.back, 1)
+    refused(rsp.Status.NO_BREAK, other.drop_break, 8)
+    see("it runs alone", other.run(9) == (rsp.Reason.HALT, 3, 16, None) and (other.reg(1), machine.reg(1)) == (3, 1))
+    refused(rsp.Status.SHORT_HISTORY, other.back, 3)
+    other.back(2)
+    machine.close()
+    see("and stays alone", other.reg(1) == 2)
+
+
+def threads():
+    held, found = [], []
+    for work in (
+        lambda: held.append(loaded("loop: addiu $1, $1, 1\nbne $1, $2, loop\nnop\n", 9)),
+        lambda: held[0].run(300),
+        lambda: found.append(held[0].reg(1)),
+        lambda: held[0].close(),
+    ):
+        thread = threading.Thread(target=work)
+        thread.start()
+        thread.join()
+    see("a machine in four threads", found == [100])
+    refused(rsp.Status.NO_MACHINE, held[0].reg, 1)
 
 
 def runs():
@@ -64,14 +99,45 @@ def runs():
     refused(rsp.Status.NO_WATCH, machine.drop_watch, 0)
     see("a halt", machine.run(100).reason is rsp.Reason.HALT and machine.step() is rsp.Status.HALTED)
     machine.write(4, 1)
-    machine.load_words(rsp.IMEM, 24, [0xFFFFFFFF])
+    machine.load_words(rsp.IMEM, 24, [0xFFFFFFFE])
     see("a reserved word", machine.step() is rsp.Status.RESERVED)
+    stop = machine.run(5)
+    see("its word", stop == (rsp.Reason.RESERVED, 0, 24, None) and stop.word == 0xFFFFFFFE)
+    machine.write(4, 2)
+    stop = machine.run(5)
+    see("halted goes before reserved", stop.reason is rsp.Reason.HALT and stop.word is None)
+    machine.write(4, 1)
     refused(rsp.Status.TASK_PLACE, machine.start_task, 4)
     refused(rsp.Status.TASK_SIZE, machine.start_task, 0)
     for number in (-1, 32, 1 << 32):
         refused(rsp.Status.OUT_OF_RANGE, machine.reg, number)
         refused(rsp.Status.OUT_OF_RANGE, machine.vreg, number)
     refused(rsp.Status.OUT_OF_RANGE, machine.write, 0, -1)
+
+
+def passes():
+    machine = loaded("mfc0 $3, $c7\nmtc0 $3, $c2\nnop\n")
+    see("past an mfc0", machine.pass_move(0xFEDCBA98) is rsp.Status.OK and (machine.reg(3), machine.peek(7)) == (0xFEDCBA98, 0))
+    see("past an mtc0", machine.pass_move() is rsp.Status.OK and (machine.reg(3), machine.peek(2)) == (0xFEDCBA98, 0xFF8))
+    see("and on", machine.regs().pc == 8)
+    refused(rsp.Status.OUT_OF_RANGE, machine.pass_move)
+    refused(rsp.Status.OUT_OF_RANGE, machine.pass_move, 1 << 32)
+    machine.write(4, 2)
+    see("none that is halted", machine.pass_move() is rsp.Status.HALTED)
+
+
+def sp_registers():
+    machine = rsp.Rsp()
+    given = machine.sp()
+    see("the first SP registers", list(given.words) == [machine.peek(n) for n in range(16)] and given.interrupt == 0)
+    given.words[0], given.words[4], given.words[7], given.words[15], given.interrupt = 0x1FF8, 0x50E2, 1, 5, 1
+    machine.set_sp(given)
+    see("they come back", machine.sp() == given and (machine.peek(4), machine.get().interrupt) == (0x50E2, 1))
+    for n, word in enumerate((4, 1, 0, 0, 4, 1, 1, 2)):
+        bad = machine.sp()
+        bad.words[n] = word
+        refused(rsp.Status.OUT_OF_RANGE, machine.set_sp, bad)
+    see("a refused word changes nothing", machine.sp() == given)
 
 
 def states():
@@ -85,10 +151,15 @@ def states():
     see("a state comes back", machine.get() == state)
     see("its parts", (machine.reg(31), machine.vreg(31)[7], machine.acc().high[7], machine.peek(15)) == (1, 2, 3, 4))
     see("and the rest", (machine.divider().loaded, machine.flags().extra, machine.read(31)) == (1, 0x80, 4))
+    see("a state without a fault", rsp.state_fault(state) is None)
+    state.npc, state.sp[3] = 4094, 1
+    see("the first fault", rsp.state_fault(state) == "npc")
+    state.npc = 4
+    see("the second one", rsp.state_fault(state) == "sp[3]")
     state.words[0] = 1
+    see("a third one", rsp.state_fault(state) == "words[0]")
     refused(rsp.Status.OUT_OF_RANGE, machine.set, state)
     see("a refused state changes nothing", machine.get() != state and machine.get().words[31] == 1)
-    see("a state is told", "interrupt=1" in repr(state) and "extra=128" in repr(state))
 
 
 def memories():
@@ -98,6 +169,10 @@ def memories():
     see("bytes", machine.memory(rsp.DMEM, 9, 5) == b"\0\1\0\2\0")
     machine.load_words(rsp.DMEM, 4092, [0x01020304])
     see("a word", machine.memory(rsp.DMEM, 4092, 4) == b"\1\2\3\4")
+    see("words out", machine.memory_words(rsp.DMEM, 4091, 1) == [0x00010203] and machine.memory_words(rsp.DMEM, 4088, 2) == [0, 0x01020304])
+    see("no words", machine.memory_words(rsp.DMEM, 4096, 0) == [])
+    for words in ((3, 0, 1), (rsp.DMEM, 4093, 1), (rsp.RDRAM, 0, 17), (rsp.RDRAM, -1, 1), (rsp.RDRAM, 0, -1), (rsp.RDRAM, 0, 1 << 31)):
+        refused(rsp.Status.OUT_OF_RANGE, machine.memory_words, *words)
     see("no bytes", machine.memory(rsp.DMEM, 4096, 0) == b"")
     out = rsp.Status.OUT_OF_RANGE
     for words in ((3, 0, 1), (rsp.DMEM, 4096, 1), (rsp.RDRAM, 0, 65), (rsp.RDRAM, -1, 1), (rsp.RDRAM, 0, -1), (rsp.RDRAM, 0, 1 << 31)):
@@ -117,7 +192,8 @@ def texts():
     try:
         rsp.assemble("nop\nfoo\n")
     except rsp.AssemblyError as fault:
-        see("a fault", (fault.line, fault.fault, fault.status) == (2, 11, rsp.Status.NO_MEANING) and "NO_MEANING" in str(fault))
+        see("a fault", (fault.line, fault.fault, fault.status) == (2, 11, rsp.Status.NO_MEANING))
+        see("its words", str(fault) == "assemble: fault 11 UnknownName line 2: foo")
     refused(rsp.Status.OUT_OF_RANGE, rsp.assemble, "nop", 2)
     refused(rsp.Status.OUT_OF_RANGE, rsp.assemble, "nop", -4)
     see("a text", rsp.text(0x4A631050, 4) == "vadd $v1, $v2, $v3[1q]")
@@ -129,7 +205,7 @@ def texts():
     refused(rsp.Status.OUT_OF_RANGE, machine.listing, 0, 1 << 31)
 
 
-for part in (lives, runs, states, memories, texts):
+for part in (lives, copies, threads, runs, passes, sp_registers, states, memories, texts):
     part()
 print(f"{COUNTS[0]} passed, {COUNTS[1]} failed")
 sys.exit(COUNTS[1] > 0)

@@ -44,6 +44,24 @@ def statuses(source):
     return {name: int(value) for name, value in re.findall(r"pub const (\w+): u32 = (\d+);", (source / "status.rt").read_text())}
 
 
+def faults(source):
+    """The names of the faults of a text with their numbers."""
+    found = re.findall(r"AsmFaultKind::(\w+) => (\d+),", (source / "status.rt").read_text())
+    not_text = re.search(r"const NOT_TEXT: u32 = (\d+);", (source / "texts.rt").read_text())[1]
+    return {name: int(value) for name, value in [*found, ("NotText", not_text)]}
+
+
+def reasons(source):
+    """The numbers of the reasons of a stop, by the names that the debugger has for them."""
+    found = re.findall(r"Reason::(\w+)(?:\(k\))? => \((\d+),", (source / "seen.rt").read_text())
+    return {name: int(value) for name, value in found}
+
+
+def fields(source):
+    """The names of the fields of a state that can have a fault, with their numbers."""
+    return {name: int(value) for name, value in re.findall(r"^const (\w+): u32 = (\d+);", (source / "fault.rt").read_text(), re.M)}
+
+
 def structs(source):
     """Each repr(C) struct as ctypes lays it out, which does so by C's rules."""
     made = {}

@@ -1,31 +1,53 @@
-/* speed HOW DEPTH N TEXT: assembles a text, and makes N calls: HOW is run, step, regs (a step and all scalars) or reg (a look at one register). Under
- * `valgrind --tool=callgrind` the difference of two N, divided by the difference of the N, is what one costs in host instructions. */
+/* speed HOW DEPTH N TEXT: assembles a text, and makes N calls: HOW is run, step, regs (a step and all scalars), reg (one register), get, set,
+ * sp, set_sp, fault, copy, pass (which goes back to 0 each time), or load or words (rsp_load_words or rsp_memory_words) with how many words,
+ * as load1. Under `valgrind --tool=callgrind` the difference of two N, divided by the difference of the N, is what one costs in host
+ * instructions. */
 #include "rsp.h"
 #include <stdlib.h>
 #include <string.h>
 
+static rsp m = RSP_NONE, copy = RSP_NONE;
+static uint32_t words[1024];
+static rsp_scalars scalars;
+static rsp_state state;
+static rsp_sp_words sp;
+
+static uint32_t call(const char *how, size_t count)
+{
+    uint32_t word;
+    switch (how[0] * 256 + how[1]) {
+    case 's' * 256 + 't': return rsp_step(&m);
+    case 'r' * 256 + 'e': return how[3] == 's' ? rsp_step(&m) | rsp_regs(&m, &scalars) : rsp_reg(&m, 5, &word);
+    case 'g' * 256 + 'e': return rsp_get(&m, &state);
+    case 's' * 256 + 'e': return how[3] == '_' ? rsp_set_sp(&m, &sp) : rsp_set(&m, &state);
+    case 's' * 256 + 'p': return rsp_sp(&m, &sp);
+    case 'f' * 256 + 'a': return rsp_state_fault(&state, &word);
+    case 'c' * 256 + 'o': return rsp_copy(&copy, &m);
+    case 'p' * 256 + 'a': return rsp_pass(&m, 7) | rsp_set_pc(&m, 0);
+    case 'l' * 256 + 'o': return rsp_load_words(&m, RSP_DMEM, 0, words, count);
+    case 'w' * 256 + 'o': return rsp_memory_words(&m, RSP_DMEM, 0, words, count);
+    }
+    return 1;
+}
+
 int main(int argc, char **argv)
 {
     static const uint8_t image[64] = { 0 };
-    rsp m = RSP_NONE;
-    uint32_t words[1024], word, status = 0;
+    uint32_t status = 0;
     rsp_assembled out;
-    rsp_scalars scalars;
     rsp_stop stop;
-    int steps, looks;
+    size_t count;
     long i, n;
     if (argc != 5) return 2;
     n = atol(argv[3]);
     if (rsp_new(&m, image, sizeof image, (uint32_t)atol(argv[2])) != RSP_OK) return 2;
     if (rsp_assemble(0, (const uint8_t *)argv[4], strlen(argv[4]), words, 1024, &out) != RSP_OK) return 2;
     if (rsp_load_words(&m, RSP_IMEM, 0, words, out.count) != RSP_OK) return 2;
-    looks = !strcmp(argv[1], "regs");
-    steps = looks || !strcmp(argv[1], "step");
+    if (rsp_get(&m, &state) != RSP_OK || rsp_sp(&m, &sp) != RSP_OK) return 2;
+    count = strtoul(argv[1] + strcspn(argv[1], "0123456789"), NULL, 10);
     if (!strcmp(argv[1], "run")) status = rsp_run(&m, (uint32_t)n, &stop);
-    else for (i = 0; i < n; i++) {
-        status |= steps ? rsp_step(&m) : rsp_reg(&m, 5, &word);
-        if (looks) status |= rsp_regs(&m, &scalars);
-    }
+    else for (i = 0; i < n; i++) status |= call(argv[1], count);
     rsp_free(&m);
+    rsp_free(&copy);
     return (int)status;
 }

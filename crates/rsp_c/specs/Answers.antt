@@ -4,6 +4,8 @@ use Rattle.rsp_machine.specs.declared.step.StepEnd.{StepEnd}
 use Rattle.rsp_machine.specs.declared.step.StepEnd.TheVariants as end
 use Rattle.rsp_machine.specs.declared.host.TaskFault.{TaskFault}
 use Rattle.rsp_machine.specs.declared.host.TaskFault.TheVariants as task
+use Rattle.rsp_machine.specs.declared.pass.PassFault.{PassFault}
+use Rattle.rsp_machine.specs.declared.pass.PassFault.TheVariants as passing
 use Rattle.rsp_memory.specs.declared.bank.Bank.{Bank}
 use Rattle.rsp_memory.specs.declared.bank.Bank.TheVariants as bank
 use Rattle.rsp_debug.specs.declared.breaks.BreakFault.{BreakFault}
@@ -22,6 +24,15 @@ abbrev pub step_status : StepEnd → ℕ
 step_status end.Done = 0
 step_status end.Halted = 4
 step_status (end.Reserved word) = 5
+
+-- going past the word at pc: it is none of those that can be gone past, or the machine is halted
+abbrev pub pass_fault_status : PassFault → ℕ
+pass_fault_status passing.Halted = 4
+pass_fault_status passing.OtherWord = 3
+
+abbrev pub pass_status : {X : Type 0} → Result X PassFault → ℕ
+pass_status (Ok x) = 0
+pass_status (Err f) = pass_fault_status f
 
 -- the bank of a number
 abbrev pub bank_of : ℕ → Option Bank

@@ -1,5 +1,6 @@
 pub mod Answers
 pub mod Bytes
+pub mod Faults
 pub mod Holding
 pub mod Seen
 pub mod States

@@ -38,8 +38,23 @@ reason_watch (why.Watched k) = k
 reason_watch why.Break = 0
 reason_watch why.Limit = 0
 
-abbrev pub seen_stop : Stop → RspStop
-seen_stop s = record { reason = reason_number s.reason; steps = s.steps; watch = reason_watch s.reason; pc = s.pc }
+-- the word of a reason, which is at pc in IMEM, and 0 where it is another
+abbrev pub reason_word : Reason → ℕ → List ℕ → ℕ
+reason_word why.Reserved pc imem = word_at imem pc
+reason_word why.Halted pc imem = 0
+reason_word (why.Watched k) pc imem = 0
+reason_word why.Break pc imem = 0
+reason_word why.Limit pc imem = 0
+
+-- a stop of a machine with this IMEM
+abbrev pub seen_stop : Stop → List ℕ → RspStop
+seen_stop s imem = record {
+  reason = reason_number s.reason;
+  steps = s.steps;
+  watch = reason_watch s.reason;
+  pc = s.pc;
+  word = reason_word s.reason s.pc imem;
+}
 
 -- a flag as a number
 abbrev pub bit : Bool → ℕ

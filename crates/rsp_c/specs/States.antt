@@ -4,6 +4,7 @@ use Rattle.rsp_loadstore.specs.Controls.{marks}
 use Rattle.rsp_regs.specs.Sp.{Sp, peeked}
 use Rattle.rsp_regs.specs.declared.parts.SpParts.{SpParts}
 use Rattle.rsp_machine.specs.declared.registers.AllRegisters.{AllRegisters}
+use Rattle.rsp_c.specs.declared.shapes.RspSpWords.{RspSpWords}
 use Rattle.rsp_c.specs.declared.shapes.RspState.{RspState}
 use Rattle.rsp_c.specs.Seen.{bit, seen_flags, seen_divider}
 
@@ -60,6 +61,13 @@ sp_parts w interrupt =
           slice_index w 8 ∷ slice_index w 9 ∷ slice_index w 10 ∷ slice_index w 11
           ∷ slice_index w 12 ∷ slice_index w 13 ∷ slice_index w 14 ∷ slice_index w 15 ∷ [];
     }
+
+-- the SP registers as C sees them, and those that C gives; None where they aren't such as registers read
+abbrev pub seen_sp : Sp → RspSpWords
+seen_sp s = record { words = sp_words s; interrupt = bit s.interrupt }
+
+abbrev pub sp_in : RspSpWords → Option SpParts
+sp_in g = if are_sp_words g.words && nat_le g.interrupt 1 then Some (sp_parts g.words g.interrupt) else None
 
 -- the registers that C gives; None where its words, marks or flags aren't such as registers read
 abbrev pub registers_in : RspState → Option AllRegisters

@@ -18,6 +18,9 @@ impl Model for Handle {
     ghost also_owns = { λ h. holding h.alloc h.at h.session };
 }
 
+// It leads to a block that it alone owns, and a session is bound to no thread.
+unsafe impl Send for Handle {}
+
 impl Handle {
     pub fn none(alloc: Global) -> Handle
         ensures { result.session ≡ None }

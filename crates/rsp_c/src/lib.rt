@@ -4,10 +4,12 @@
 //! and single looks, memories, SP registers, and texts.
 #![tactic(auto)]
 
+mod fault;
 mod handle;
 mod life;
 mod looks;
 mod memory;
+mod memory_words;
 mod parts;
 mod registers;
 mod seen;
@@ -22,4 +24,3 @@ mod tasks;
 #[cfg(test)]
 mod tests;
 mod texts;
-mod words;

@@ -1,13 +1,13 @@
 // A machine's life.
 
-ghost use Rattle.std.specs.Prelude.{◌≡◌, ◌<◌, ◌≤◌, ◌⊎◌, Some, None, length};
+ghost use Rattle.std.specs.Prelude.{◌≡◌, ◌<◌, ◌≤◌, ◌⊎◌, Some, None, IfSome, IfNone, length};
 ghost use Rattle.rsp_machine.specs.State.{start_of};
 ghost use Rattle.rsp_memory.specs.Image.{IsImageLength};
 ghost use Rattle.rsp_debug.specs.Debugging.{debugging_of};
 
 use crate::handle::Handle;
 use crate::session::Session;
-use crate::status::{NO_MEMORY, OK, OUT_OF_RANGE};
+use crate::status::{NO_MACHINE, NO_MEMORY, OK, OUT_OF_RANGE};
 use rsp_debug::Debugger;
 use rsp_machine::Machine;
 use rsp_memory::Rdram;
@@ -49,6 +49,33 @@ pub extern "C" fn rsp_new(handle: &mut Handle, alloc: Global, image: &[u8], dept
         Err(_) => NO_MEMORY,
         Ok(session) => {
             handle.put(session);
+            OK
+        }
+    }
+}
+
+/// Makes a second machine in the same state, memories included, with as long a history, which is empty, and without breakpoints and watches.
+/// `to` holds it in the place of what it held.
+#[unsafe(no_mangle)]
+pub extern "C" fn rsp_copy(to: &mut Handle, alloc: Global, from: &mut Handle) -> u32
+    ensures none { IfNone from.old.session (result ≡ NO_MACHINE) }
+    ensures ok { result ≡ OK → IfSome from.old.session (λ d. to.new.session ≡ Some (debugging_of d.depth d.state)) }
+    ensures answer { IfSome from.old.session (λ d. (result ≡ OK) ⊎ (result ≡ NO_MEMORY)) }
+    ensures kept { from.new.session ≡ from.old.session }
+    ensures same { (result ≡ OK → ⊥) → to.new.session ≡ to.old.session }
+{
+    let Some(session) = from.take(alloc) else {
+        return NO_MACHINE;
+    };
+    let copy = session.debugger.try_copy(alloc);
+    from.put(session);
+    let Ok(debugger) = copy else {
+        return NO_MEMORY;
+    };
+    match Box::new(alloc, Session { debugger }) {
+        Err(_) => NO_MEMORY,
+        Ok(session) => {
+            to.put(session);
             OK
         }
     }

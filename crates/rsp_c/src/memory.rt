@@ -1,21 +1,20 @@
-// The memories: bytes in, bytes out, and words in.
+// The memories: bytes in and bytes out.
 
-ghost use Rattle.std.specs.Prelude.{◌≡◌, ◌+◌, ◌*◌, ◌≤◌, ◌↔◌, ◌⊎◌, IfSome, IfNone, length, take, drop, option_map, IsTrue, IsSomeAnd};
+ghost use Rattle.std.specs.Prelude.{◌≡◌, ◌↔◌, ◌⊎◌, IfSome, IfNone, length, take, drop, option_map, IsTrue, IsSomeAnd};
 ghost use Rattle.rsp_machine.specs.Host.{with_bank_bytes, is_inside};
 ghost use Rattle.rsp_debug.specs.Debugging.{brought_to};
 ghost use Rattle.rsp_c.specs.Answers.{bank_of};
-ghost use Rattle.rsp_c.specs.Bytes.{bank_bytes, words_bytes};
+ghost use Rattle.rsp_c.specs.Bytes.{bank_bytes};
 
 use crate::handle::Handle;
 use crate::status::{NO_MACHINE, OK, OUT_OF_RANGE, bank_of};
-use crate::words::word_bytes;
 use rsp_acc::Acc;
 use rsp_machine::Machine;
 use rsp_memory::Bank;
 use std::alloc::Global;
 
 /// The bytes of a bank from an address on, `n` of them, which all stand in it.
-fn bytes_of<A: Acc>(machine: &Machine<A>, bank: Bank, a: u32, n: usize) -> &[u8]
+pub fn bytes_of<A: Acc>(machine: &Machine<A>, bank: Bank, a: u32, n: usize) -> &[u8]
     requires { IsTrue (is_inside bank a n machine.now) }
     ensures bytes { result.now ≡ take n (drop a (bank_bytes bank machine.now)) }
     ensures len { length result.now ≡ n }
@@ -53,43 +52,6 @@ pub extern "C" fn rsp_load(
                 return OUT_OF_RANGE;
             };
             let loaded = session.debugger.load_bytes(bank, address, bytes);
-            handle.put(session);
-            match loaded {
-                Err(_) => OUT_OF_RANGE,
-                Ok(()) => OK,
-            }
-        }
-    }
-}
-
-/// Writes at most 1024 words to a bank from an address on, the highest byte of each first, and empties the past.
-#[unsafe(no_mangle)]
-pub extern "C" fn rsp_load_words(
-    handle: &mut Handle,
-    alloc: Global,
-    number: u32,
-    address: u32,
-    words: &[u32],
-) -> u32
-    ensures none { IfNone handle.old.session (result ≡ NO_MACHINE) }
-    ensures inside { IfSome handle.old.session (λ d. (result ≡ OK) ↔ ((length words.now ≤ 1024) × IsSomeAnd (bank_of number) (λ b. IsTrue (is_inside b address (4 * length words.now) d.state)))) }
-    ensures answer { IfSome handle.old.session (λ d. (result ≡ OK) ⊎ (result ≡ OUT_OF_RANGE)) }
-    ensures next { result ≡ OK → IfSome (bank_of number) (λ b. handle.new.session ≡ option_map (λ d. brought_to (with_bank_bytes b address (words_bytes words.now) d.state) d) handle.old.session) }
-    ensures same { (result ≡ OK → ⊥) → handle.new.session ≡ handle.old.session }
-{
-    match handle.take(alloc) {
-        None => NO_MACHINE,
-        Some(mut session) => {
-            let Some(bank) = bank_of(number) else {
-                handle.put(session);
-                return OUT_OF_RANGE;
-            };
-            if words.len() > 1024 {
-                handle.put(session);
-                return OUT_OF_RANGE;
-            }
-            let bytes = word_bytes(words);
-            let loaded = session.debugger.load_bytes(bank, address, bytes.as_slice());
             handle.put(session);
             match loaded {
                 Err(_) => OUT_OF_RANGE,

@@ -1,10 +1,10 @@
 // All registers in the shape that crosses to C, and back.
 
 ghost use Rattle.std.specs.Prelude.{◌≡◌, Some, None};
-ghost use Rattle.rsp_c.specs.States.{seen_state, sp_words, are_sp_words, sp_parts, registers_in};
+ghost use Rattle.rsp_c.specs.States.{seen_state, seen_sp, sp_words, are_sp_words, sp_parts, sp_in, registers_in};
 
 use crate::seen::{seen_divider, seen_flags};
-use crate::shapes::{RspAccumulators, RspState};
+use crate::shapes::{RspAccumulators, RspSpWords, RspState};
 use rsp_divide::Divider;
 use rsp_lanes::{Flags, Mask8};
 use rsp_machine::AllRegisters;
@@ -34,6 +34,16 @@ fn sp_words(sp: &SpRegs) -> [u32; 16]
     ]
 }
 
+/// The SP registers as C sees them.
+pub fn seen_sp(sp: &SpRegs) -> RspSpWords
+    ensures { result ≡ seen_sp sp.now }
+{
+    RspSpWords {
+        words: sp_words(sp),
+        interrupt: if sp.interrupt() { 1 } else { 0 },
+    }
+}
+
 /// All registers as C sees them.
 pub fn seen_state(all: &AllRegisters, sp: &SpRegs) -> RspState
     ensures { result ≡ seen_state all.now sp.now }
@@ -43,6 +53,8 @@ pub fn seen_state(all: &AllRegisters, sp: &SpRegs) -> RspState
     let high = all.accumulators_high;
     let middle = all.accumulators_middle;
     let low = all.accumulators_low;
+    let sp_words = seen_sp(sp);
+    let sp = sp_words.words;
     RspState {
         words,
         vectors,
@@ -51,8 +63,8 @@ pub fn seen_state(all: &AllRegisters, sp: &SpRegs) -> RspState
         divider: seen_divider(&all.divider),
         pc: all.pc,
         npc: all.npc,
-        sp: sp_words(sp),
-        interrupt: if sp.interrupt() { 1 } else { 0 },
+        sp,
+        interrupt: sp_words.interrupt,
     }
 }
 
@@ -99,6 +111,16 @@ fn sp_parts(words: &[u32; 16], interrupt: u32) -> SpParts
             words[8], words[9], words[10], words[11], words[12], words[13], words[14], words[15],
         ],
     }
+}
+
+/// The SP registers that C gives, if the words and the interrupt flag are such as they read. Their ranges aren't tested here.
+pub fn sp_in(given: &RspSpWords) -> Option<SpParts>
+    ensures { result ≡ sp_in given.now }
+{
+    if !are_sp_words(&given.words) || given.interrupt > 1 {
+        return None;
+    }
+    Some(sp_parts(&given.words, given.interrupt))
 }
 
 /// The registers that C gives, where words, marks and the interrupt flag are such as they read. Their ranges aren't tested here.

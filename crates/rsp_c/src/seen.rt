@@ -8,6 +8,7 @@ use rsp_acc::Acc;
 use rsp_debug::{Debugger, Reason, Stop};
 use rsp_divide::Divider;
 use rsp_lanes::Flags;
+use rsp_memory::SpMem;
 
 /// The accumulators.
 pub fn seen_accumulators<A: Acc>(debugger: &Debugger<A>) -> RspAccumulators
@@ -44,21 +45,22 @@ pub fn seen_divider(divider: &Divider) -> RspDivideState
     }
 }
 
-/// A stop.
-pub fn seen_stop(stop: Stop) -> RspStop
-    ensures { result ≡ seen_stop stop }
+/// A stop of a machine with this IMEM.
+pub fn seen_stop(stop: Stop, imem: &SpMem) -> RspStop
+    ensures { result ≡ seen_stop stop imem.now }
 {
-    let (reason, watch) = match stop.reason {
-        Reason::Reserved => (0, 0),
-        Reason::Halted => (1, 0),
-        Reason::Watched(k) => (2, k),
-        Reason::Break => (3, 0),
-        Reason::Limit => (4, 0),
+    let (reason, watch, word) = match stop.reason {
+        Reason::Reserved => (0, 0, imem.word(u32::from(stop.pc))),
+        Reason::Halted => (1, 0, 0),
+        Reason::Watched(k) => (2, k, 0),
+        Reason::Break => (3, 0, 0),
+        Reason::Limit => (4, 0, 0),
     };
     RspStop {
         reason,
         steps: stop.steps,
         watch,
         pc: stop.pc,
+        word,
     }
 }

@@ -12,6 +12,8 @@ pub struct RspStop {
     pub watch: usize,
     /// The place of the next instruction.
     pub pc: u16,
+    /// The word at pc, if that is reserved and the run stopped there, and else 0.
+    pub word: u32,
 }
 
 /// The places and the scalar registers.
@@ -95,6 +97,16 @@ pub struct RspState {
     /// The sixteen SP registers as they read: eight, and then those of the DPC.
     pub sp: [u32; 16],
     /// 1 where the interrupt flag is set, and else 0.
+    pub interrupt: u32,
+}
+
+/// The SP registers.
+#[repr(C)]
+#[derive(Clone, Copy, Drop)]
+pub struct RspSpWords {
+    /// The sixteen as they read: eight, and then those of the DPC.
+    pub words: [u32; 16],
+    /// 1 if the interrupt flag is set, else 0.
     pub interrupt: u32,
 }
 

@@ -1,12 +1,17 @@
 // SP registers, as the CPU reads and writes them. Their numbers are taken modulo 16.
 
-ghost use Rattle.std.specs.Prelude.{◌≡◌, IfSome, IfNone, option_map};
+ghost use Rattle.std.specs.Prelude.{◌≡◌, ◌↔◌, ◌⊎◌, None, IfSome, IfNone, IsSomeAnd, option_map};
 ghost use Rattle.rsp_machine.specs.Host.{register_written};
+ghost use Rattle.rsp_machine.specs.Registers.{sp_fault};
+ghost use Rattle.rsp_regs.specs.Parts.{sp_of};
 ghost use Rattle.rsp_regs.specs.Sp.{peeked};
 ghost use Rattle.rsp_debug.specs.Debugging.{brought_to, read_from};
+ghost use Rattle.rsp_c.specs.States.{seen_sp, sp_in};
 
 use crate::handle::Handle;
-use crate::status::{NO_MACHINE, OK};
+use crate::registers::{seen_sp, sp_in};
+use crate::shapes::RspSpWords;
+use crate::status::{NO_MACHINE, OK, OUT_OF_RANGE};
 use std::alloc::Global;
 
 /// Reads an SP register. A read of the semaphore, register 7, takes it and empties the past.
@@ -58,6 +63,51 @@ pub extern "C" fn rsp_write(handle: &mut Handle, alloc: Global, n: u32, value: u
             session.debugger.write_reg(n, value);
             handle.put(session);
             OK
+        }
+    }
+}
+
+/// All SP registers, as a look at each gives them, with the interrupt flag. Nothing changes.
+#[unsafe(no_mangle)]
+pub extern "C" fn rsp_sp(handle: &mut Handle, alloc: Global, out: &mut RspSpWords) -> u32
+    ensures none { IfNone handle.old.session (result ≡ NO_MACHINE) }
+    ensures ok { IfSome handle.old.session (λ d. result ≡ OK) }
+    ensures value { IfSome handle.old.session (λ d. out.new ≡ seen_sp d.state.sp) }
+    ensures same { handle.new.session ≡ handle.old.session }
+{
+    match handle.take(alloc) {
+        None => NO_MACHINE,
+        Some(session) => {
+            *out = seen_sp(session.debugger.sp_regs());
+            handle.put(session);
+            OK
+        }
+    }
+}
+
+/// Sets all SP registers and the interrupt flag, without a DMA, and empties the history. All else stays. OUT_OF_RANGE if they can't be
+/// those of a machine.
+#[unsafe(no_mangle)]
+pub extern "C" fn rsp_set_sp(handle: &mut Handle, alloc: Global, given: &RspSpWords) -> u32
+    ensures none { IfNone handle.old.session (result ≡ NO_MACHINE) }
+    ensures range { IfSome handle.old.session (λ d. (result ≡ OK) ↔ IsSomeAnd (sp_in given.now) (λ p. sp_fault p ≡ None)) }
+    ensures answer { IfSome handle.old.session (λ d. (result ≡ OK) ⊎ (result ≡ OUT_OF_RANGE)) }
+    ensures next { result ≡ OK → IfSome (sp_in given.now) (λ p. handle.new.session ≡ option_map (λ d. brought_to (record d.state { sp = sp_of p }) d) handle.old.session) }
+    ensures same { (result ≡ OK → ⊥) → handle.new.session ≡ handle.old.session }
+{
+    match handle.take(alloc) {
+        None => NO_MACHINE,
+        Some(mut session) => {
+            let Some(parts) = sp_in(given) else {
+                handle.put(session);
+                return OUT_OF_RANGE;
+            };
+            let set = session.debugger.set_sp_parts(&parts);
+            handle.put(session);
+            match set {
+                Err(_) => OUT_OF_RANGE,
+                Ok(()) => OK,
+            }
         }
     }
 }

@@ -1,11 +1,11 @@
 // What a call answers.
 
 ghost use Rattle.std.specs.Prelude.{◌≡◌, ◌<◌, ◌%◌, IsTrue, Some, Err};
-ghost use Rattle.rsp_c.specs.Answers.{step_status, bank_of, is_place, task_status, fault_status, watch_status, fault_number};
+ghost use Rattle.rsp_c.specs.Answers.{step_status, pass_fault_status, bank_of, is_place, task_status, fault_status, watch_status, fault_number};
 
 use rsp_asm::AsmFaultKind;
 use rsp_debug::{BreakFault, WatchFault};
-use rsp_machine::{StepEnd, TaskFault};
+use rsp_machine::{PassFault, StepEnd, TaskFault};
 use rsp_memory::Bank;
 
 /// It did what it was asked.
@@ -49,6 +49,16 @@ pub fn status_of_step(end: StepEnd) -> u32
         StepEnd::Done => OK,
         StepEnd::Halted => HALTED,
         StepEnd::Reserved { word: _ } => RESERVED,
+    }
+}
+
+/// What going past a word answers where it can't be.
+pub fn status_of_pass(fault: PassFault) -> u32
+    ensures { result ≡ pass_fault_status fault }
+{
+    match fault {
+        PassFault::Halted => HALTED,
+        PassFault::OtherWord => OUT_OF_RANGE,
     }
 }
 

@@ -1,15 +1,16 @@
 // Steps, runs and the way back.
 
-ghost use Rattle.std.specs.Prelude.{◌≡◌, ◌<◌, ◌≤◌, ◌↔◌, ◌⊎◌, IfSome, IfNone, length, option_map};
+ghost use Rattle.std.specs.Prelude.{◌≡◌, ◌<◌, ◌≤◌, ◌↔◌, ◌⊎◌, Some, IfSome, IfNone, IfOk, length, option_map};
 ghost use Rattle.rsp_machine.specs.Step.{step_of};
-ghost use Rattle.rsp_debug.specs.Debugging.{stepped, ran, stop_in, gone_back};
-ghost use Rattle.rsp_c.specs.Answers.{step_status};
+ghost use Rattle.rsp_machine.specs.Pass.{pass_of};
+ghost use Rattle.rsp_debug.specs.Debugging.{stepped, ran, stop_in, gone_back, brought_to};
+ghost use Rattle.rsp_c.specs.Answers.{step_status, pass_status};
 ghost use Rattle.rsp_c.specs.Seen.{seen_stop};
 
 use crate::handle::Handle;
 use crate::seen::seen_stop;
 use crate::shapes::RspStop;
-use crate::status::{NO_MACHINE, OK, OUT_OF_RANGE, SHORT_HISTORY, status_of_step};
+use crate::status::{NO_MACHINE, OK, OUT_OF_RANGE, SHORT_HISTORY, status_of_pass, status_of_step};
 use rsp_debug::BackFault;
 use std::alloc::Global;
 
@@ -30,12 +31,12 @@ pub extern "C" fn rsp_step(handle: &mut Handle, alloc: Global) -> u32
     }
 }
 
-/// Makes steps up to a breakpoint, a watch, a halt, a reserved word, or `n` of them, 1 to 1000000, and says where it stopped.
+/// Makes steps up to a breakpoint, a watch, a halt, a reserved word, or `n` of them, 1 to 1000000, and reports where it stopped.
 #[unsafe(no_mangle)]
 pub extern "C" fn rsp_run(handle: &mut Handle, alloc: Global, n: u32, out: &mut RspStop) -> u32
     ensures none { IfNone handle.old.session (result ≡ NO_MACHINE) }
     ensures count { IfSome handle.old.session (λ d. (result ≡ OK) ↔ ((1 ≤ n) × (n ≤ 1000000))) }
-    ensures stop { result ≡ OK → IfSome handle.old.session (λ d. out.new ≡ seen_stop (stop_in n d)) }
+    ensures stop { result ≡ OK → IfSome handle.old.session (λ d. out.new ≡ seen_stop (stop_in n d) (ran n d).state.imem) }
     ensures next { result ≡ OK → handle.new.session ≡ option_map (ran n) handle.old.session }
     ensures same { (result ≡ OK → ⊥) → handle.new.session ≡ handle.old.session }
     ensures answer { IfSome handle.old.session (λ d. (result ≡ OK) ⊎ (result ≡ OUT_OF_RANGE)) }
@@ -43,14 +44,34 @@ pub extern "C" fn rsp_run(handle: &mut Handle, alloc: Global, n: u32, out: &mut 
     match handle.take(alloc) {
         None => NO_MACHINE,
         Some(mut session) => {
-            let stop = session.debugger.run(n);
+            let Ok(stop) = session.debugger.run(n) else {
+                handle.put(session);
+                return OUT_OF_RANGE;
+            };
+            *out = seen_stop(stop, session.debugger.machine().imem());
             handle.put(session);
-            match stop {
-                Err(_) => OUT_OF_RANGE,
-                Ok(stop) => {
-                    *out = seen_stop(stop);
-                    OK
-                }
+            OK
+        }
+    }
+}
+
+/// Goes past the MFC0 or MTC0 at pc without its meaning, and empties the history: pc and npc go on, and the register of an MFC0 becomes
+/// the value. HALTED if the machine is halted, OUT_OF_RANGE if another word is at pc.
+#[unsafe(no_mangle)]
+pub extern "C" fn rsp_pass(handle: &mut Handle, alloc: Global, value: u32) -> u32
+    ensures none { IfNone handle.old.session (result ≡ NO_MACHINE) }
+    ensures answer { IfSome handle.old.session (λ d. result ≡ pass_status (pass_of value d.state)) }
+    ensures next { IfSome handle.old.session (λ d. IfOk (pass_of value d.state) (λ s. handle.new.session ≡ Some (brought_to s d))) }
+    ensures same { (result ≡ OK → ⊥) → handle.new.session ≡ handle.old.session }
+{
+    match handle.take(alloc) {
+        None => NO_MACHINE,
+        Some(mut session) => {
+            let passed = session.debugger.pass(value);
+            handle.put(session);
+            match passed {
+                Ok(()) => OK,
+                Err(fault) => status_of_pass(fault),
             }
         }
     }

@@ -3,7 +3,8 @@
 use crate::handle::Handle;
 use crate::life::{rsp_free, rsp_new};
 use crate::looks::rsp_reg;
-use crate::memory::{rsp_load_words, rsp_memory};
+use crate::memory::rsp_memory;
+use crate::memory_words::rsp_load_words;
 use crate::shapes::{
     RspAccumulators, RspAssembled, RspDivideState, RspFlagBits, RspLine, RspState, RspStop,
 };
@@ -43,6 +44,7 @@ fn a_program_is_assembled_loaded_and_run(rt: HostRuntime) -> Result<(), Fail> {
         steps: 9,
         watch: 9,
         pc: 9,
+        word: 9,
     };
     assert_eq!(rt; rsp_run(&mut handle, alloc, 10, &mut stop), 0);
     assert_eq!(rt; stop.reason, 1);
