@@ -1,4 +1,4 @@
-"""Drives `rsp run` over pipes: sets a state of the machine by microcode, and looks at it.
+"""Drives `rsp run` over pipes: sets a state of the machine by microcode, and reads it.
 
 A state is a dict of texts, all in hexadecimal, as in the vectors:
   pc npc          three digits
@@ -19,13 +19,13 @@ from table import uses_memory
 LONGEST_SCRIPT = 1000000
 ALL_CLEAR = sum(1 << bit for bit in (0, 2, 3, 5, 7, *range(9, 24, 2)))  # of SP_STATUS: halted, broke, the interrupt, ..
 
-# RDRAM holds what every case begins with: the setting program, its data, and zeros. A case's own bytes stand at WINDOW.
+# RDRAM holds what every case begins with: the setting program, its data, and zeros. A case's own bytes are at WINDOW.
 PROGRAM, DATA, ZEROS, WINDOW = 0x0000, 0x1000, 0x2000, 0x10000
 WINDOW_LENGTH = 512
 
-# The data of the setting program, by their places in DMEM.
+# The data of the setting program, by their addresses in DMEM.
 VECTORS, HIGH, MIDDLE, LOW, ONES, DIVISOR, CONTROLS, SCALARS = 0x000, 0x200, 0x210, 0x220, 0x230, 0x240, 0x250, 0x280
-LOADING = 12  # the place of the word that loads the divider, where it is to be loaded
+LOADING = 12  # the address of the word that loads the divider, if it is to be loaded
 
 
 def setting_program():
@@ -33,7 +33,7 @@ def setting_program():
     yield f"lqv $v1[0], {DIVISOR}($0)"
     yield "vrcph $v2[0], $v1[0]    # the number's high half"
     yield "vrcpl $v2[0], $v1[1]    # and its low half: `out` is the high half of the reciprocal, and nothing is loaded"
-    yield "nop                     # here `in` is loaded, where it is to be"
+    yield "nop                     # here `in` is loaded, if it is to be"
     yield from accumulator_program("$v1", "$v3", "$0", "$0", HIGH, ONES)
     for number, control in enumerate(("$vco", "$vcc", "$vce")):
         yield f"lhu $1, {CONTROLS + 2 * number}($0)"
@@ -46,7 +46,7 @@ def setting_program():
 
 def accumulator_program(value, ones, base, ones_base, place, ones_place):
     """Sets the accumulators to three vectors at `place`: the high part plus the top bit of the middle one, the middle
-    one, and the low one. A high part can't be set by one row: high * 65536 is added as high * (7fff + 7fff + 2), which `ones` holds beside the 1.
+    one, and the low one. A high part can't be set by one instruction: high * 65536 is added as high * (7fff + 7fff + 2), which `ones` holds beside the 1.
     """
     yield f"lqv {ones}[0], {ones_place}({ones_base})"
     yield f"lqv {value}[0], {place}({base})"
@@ -124,7 +124,7 @@ class Script:
 
     def __init__(self):
         self.lines = []
-        self.looks = []  # (what the reply is, its number of lines); where nothing is wanted of it None
+        self.looks = []  # (what the reply is, its number of lines); None if nothing is wanted of it
         self.size = 0  # in bytes
 
     def say(self, line, replies=1, wanted=None):
@@ -153,7 +153,7 @@ class Script:
             self.say(f"mem {bank} {at} {count}", (count + 15) // 16, wanted)
 
     def append(self, other, number):
-        """Appends the script of a case, whose wanted replies are then told by the case's number."""
+        """Appends the script of a case, whose wanted replies are then named by the case's number."""
         self.lines += other.lines
         self.looks += [(wanted and (number, *wanted), count) for wanted, count in other.looks]
         self.size += other.size
@@ -161,6 +161,18 @@ class Script:
 
 class RspError(Exception):
     pass
+
+
+def refusal_of(program):
+    """Why a program doesn't serve as `rsp`, or None. It is given a script of one line."""
+    try:
+        ended = subprocess.run([program, "run"], input=b"pc 0\n", stdout=subprocess.PIPE, stderr=subprocess.PIPE)
+    except OSError as fault:
+        return f"{program} can't be started: {fault.strerror}"
+    if ended.stdout == b"ok\n":
+        return None
+    told = ended.stderr.decode(errors="replace").strip().split("\n")[0]
+    return f"{program} doesn't run scripts as rsp does: {told or f'it answers `pc 0` by {ended.stdout[:40]}'}"
 
 
 def run_script(program, script):
@@ -219,7 +231,7 @@ def set_state(script, state, word):
 
 
 def set_place(script, state):
-    """Sets pc and npc. Where npc isn't the next place, a jump before pc is stepped over, and its word is cleared."""
+    """Sets pc and npc. If npc isn't pc + 4, a jump before pc is stepped over, and its word is cleared."""
     pc, npc = int(state["pc"], 16), int(state["npc"], 16)
     if npc == (pc + 4) % 4096:
         script.say(f"pc {pc}")
@@ -257,7 +269,7 @@ def look(script, banks, wanted):
 
 
 def read_look(state, kind, lines):
-    """Puts the reply to one command of a look into a state. Memories become lists of texts, one for each reply line."""
+    """Puts the reply to one command that shows something into a state. Memories become lists of texts, one for each reply line."""
     if kind == "regs":
         _, state["pc"], _, state["npc"] = lines[0].split()
         for number, words in enumerate(lines[1:]):
@@ -296,7 +308,7 @@ def sparse(old, new, start=0):
 
 
 def differences(old, new):
-    """What two looks differ in, as a state that names only what `new` has otherwise."""
+    """What two states differ in, as a state that names only what `new` has otherwise."""
     found = {}
     for key, value in new.items():
         if isinstance(value, list):
@@ -309,14 +321,14 @@ def differences(old, new):
 
 
 def banks_of(row):
-    """The memories that the look at a row's case shows: those that it could change."""
+    """The memories that a case's instruction could change."""
     if row.name == "mtc0":
         return ("dmem", "imem", "rdram")
     return ("dmem",) if uses_memory(row) else ()
 
 
 def observe(program, cases):
-    """Runs cases, each (row, word, state before), one step each. Yields for each the word's text, the look before and the look after.
+    """Runs cases, each (row, word, state before), one step each. Yields for each the word's text, the state before and the state after.
 
     Cases go into scripts that are as long as a script may be, so few runs of the program are made.
     """

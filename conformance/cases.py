@@ -1,9 +1,12 @@
-"""The cases of each row: a word, and the state before it, on edge values and on random ones.
+"""The cases of each instruction: a word, and the state before it, on edge values and on random ones.
 
 The same row, seed and number give the same case, on every version of Python.
 """
 
-from table import MPEG, SCALE, FORMS, ignored_bits, word_of
+from aims import TRIES, aim, near
+from outcomes import possible, selected
+from table import MPEG, SCALE, FORMS, destination, ignored_bits, word_of
+from whole import DIVIDENDS, zeros
 
 WORDS = (0, 1, 2, 3, 0x7F, 0x80, 0xFF, 0x7FFF, 0x8000, 0xFFFF, 0x10000, 0x7FFFFFFF, 0x80000000, 0x80000001, 0xFFFF8000, 0xFFFFFFFE,
          0xFFFFFFFF)  # fmt: skip
@@ -12,7 +15,7 @@ LANES = (0, 1, 2, 3, 0x1F, 0x20, 0x7F, 0x80, 0xFF, 0x100, 0x3FFF, 0x4000, 0x5555
 HALVES = (0, 1, 2, 0x1F, 0x7F, 0x80, 0x7FFF, 0x8000, 0x8001, 0xFFFE, 0xFFFF)
 PARTS = (0, 1, 0x1F, 0x20, 0x7FFF, 0x8000, 0xFFDF, 0xFFFF)
 FLAGS = (0x0000, 0xFFFF, 0x00FF, 0xFF00, 0x0F0F, 0xF0F0, 0x3333)
-# Two lanes that each row meets: products and sums at their limits.
+# Two lanes that each instruction meets: products and sums at their limits.
 EXTREMES = ((0x8000, 0x8000), (0x8000, 0x7FFF), (0x7FFF, 0x7FFF), (0xFFFF, 0x8000), (0x8000, 0xFFFF), (0x7FFF, 0x8000), (0xFFFF, 0xFFFF),
             (0x0000, 0x8000), (0x0001, 0x8000), (0x8000, 0x0001))  # fmt: skip
 # What is divided first, before random numbers: each edge of the divider's rules.
@@ -75,7 +78,7 @@ class Random:
 
 
 class Case:
-    """A row's fields, its word, the state before it (what differs from the default), and what has to be looked at behind it."""
+    """An instruction's fields, its word, the state before it (what differs from the default), and what has to be compared after it."""
 
     def __init__(self, name, row, fields, before, word=None):
         self.name, self.row, self.fields, self.before = name, row, fields, before
@@ -87,23 +90,12 @@ def text_of_lanes(lanes):
     return "".join(f"{lane:04x}" for lane in lanes)
 
 
-def selected(element, lane):
-    """The lane that an element of a computing row takes for a lane."""
-    if element < 2:
-        return lane
-    if element < 4:
-        return lane // 2 * 2 + element - 2
-    if element < 8:
-        return lane // 4 * 4 + element - 4
-    return element - 8
-
-
 def relate(random, vs, vt, element):
-    """Makes lanes of vs that stand close to a limit of the comparisons with the selected lane: equal, opposite, and next to these."""
+    """Makes lanes of vs that are close to a limit of the comparisons with the selected lane: equal, opposite, and next to these."""
     for lane in range(8):
         b = vt[selected(element, lane)]
         if random.one_in(2):
-            vs[lane] = random.pick((b, b, -b, -b, ~b, b + 1, b - 1, -b + 1, -b - 2, b ^ 0x8000)) % 65536
+            vs[lane] = near(random, b)
 
 
 def flags(random):
@@ -115,7 +107,7 @@ def flags(random):
 
 
 def vector_state(random):
-    """Accumulators and flags of their own, which no row that keeps them may lose."""
+    """Accumulators and flags of their own, which no instruction that keeps them may lose."""
     state = {f"a{lane}": f"{random.accumulator():012x}" for lane in range(8)}
     state.update(flags(random))
     return state
@@ -137,39 +129,58 @@ def divider(random, number):
     return state
 
 
+def element_of(row, number):
+    """The element of a case: every other case takes each lane for itself, the others have all the rest in turn. VSAR has three that read a part."""
+    if row.name == "vsar":
+        return 8 + number // 2 % 3 if number % 2 == 0 else number // 2 % 16
+    return number // 2 % 2 if number % 2 == 0 else 2 + number // 2 % 14
+
+
 def make_vector(row, random, number, window):
-    fields = {"e": number % 16}
+    fields = {"e": element_of(row, number)}
     fields["vs"], fields["vt"], fields["vd"] = random.some(3, 32)
     if random.one_in(5):
-        fields[random.pick(("vs", "vd"))] = fields["vt"]
+        fields[random.pick(("vs", "vd")) if number % 2 else "vd"] = fields["vt"]
     vs, vt = random.lanes(), random.lanes()
-    if not row.name.startswith("vm") and not random.one_in(3):
-        relate(random, vs, vt, fields["e"])
-    if number % 2 == 0:
+    before = vector_state(random)
+    if number % 2 == 0 and row.name != "vsar" and possible(row.name):
+        aim(row.name, random, number // 2, fields, vs, vt, before, LANES, EXTREMES)
+    else:
+        if not row.name.startswith("vm") and not random.one_in(3):
+            relate(random, vs, vt, fields["e"])
         lane = random.below(8)
         vs[lane], vt[selected(fields["e"], lane)] = EXTREMES[number // 2 % len(EXTREMES)]
-    before = vector_state(random)
     if random.one_in(4):
         before.update(divider(random, number))
     before[f"v{fields['vs']}"] = text_of_lanes(vs)
     before[f"v{fields['vt']}"] = text_of_lanes(vt)
-    if row.name == "vsar" and number % 4:
-        fields["e"] = 8 + number % 3  # the three elements that read a part
     return fields, before
 
 
+def dividend(random, number, is_long):
+    """A number to divide: by eights of cases one of each branch of the divider's rule, with leading zeros even and odd in turn, then any."""
+    branch = number // 8 % (len(DIVIDENDS) + 1)
+    for _ in range(TRIES):
+        x = random.pick(DIVISORS) if random.one_in(2) else (divisor(random) ^ 1 << 31) - (1 << 31)
+        x = x if is_long else (x % 65536 ^ 0x8000) - 0x8000
+        if branch == len(DIVIDENDS) or DIVIDENDS[branch].when(x) and (branch < 2 or zeros(x) % 2 == (number + branch) % 2):
+            break
+    return x
+
+
 def make_lane(row, random, number, window):
-    fields = {"e": number % 16, "de": (number * 3 + number // 8) % 8}
+    fields = {"e": (number * 3 + number // 8) % 16, "de": number % 8}
     fields["vt"], fields["vd"] = random.some(2, 32)
     if random.one_in(5):
         fields["vd"] = fields["vt"]
     before = vector_state(random)
-    before.update(divider(random, number))
+    before.update(divider(random, 1 if number // 8 % 6 == 4 else number + number // 8 + 1))
+    is_long = row.name[-1] == "l" and before["loaded"] == "1"
+    whole = dividend(random, number, is_long)
+    if is_long:
+        before["in"] = f"{whole >> 16 & 0xFFFF:04x}"
     vt = random.lanes()
-    whole = DIVISORS[number // 2] % 2**32 if number // 2 < len(DIVISORS) else divisor(random)
     vt[fields["e"] % 8] = whole % 65536
-    if number % 2 and row.name[-1] == "l":
-        before["in"] = f"{whole >> 16:04x}"
     before[f"v{fields['vd']}"] = text_of_lanes(random.lanes())
     before[f"v{fields['vt']}"] = text_of_lanes(vt)
     return fields, before
@@ -228,7 +239,7 @@ def make_upper(row, random, number, window):
 
 
 def places(random):
-    """pc and npc: any, and now and then a delay slot, whose npc isn't the next place."""
+    """pc and npc: any, and now and then a delay slot, whose npc isn't pc + 4."""
     pc = random.pick(PLACES) if random.one_in(3) else 4 * random.below(1024)
     npc = 4 * random.below(1024) if random.one_in(4) else (pc + 4) % 4096
     return {"pc": f"{pc:03x}", "npc": f"{npc:03x}"}
@@ -286,7 +297,7 @@ def make_to_sp(row, random, number, window):
     before = sp_state(random)
     value = random.mixed(WORDS, 32)
     if fields["c"] in (2, 3):
-        # A DMA of few bytes, within the part of RDRAM that is looked at, on rows that lie apart.
+        # A DMA of few bytes, within the part of RDRAM that is compared, on rows that lie apart.
         value = random.below(9) << 23 | random.below(4) << 12 | random.below(25)
         before["c0"] = f"{random.pick((0, 0x1000)) | (random.pick((0xFF0, 0xFF8, 8 * random.below(512)))):08x}"
         before["c1"] = f"{0x10000 + 8 * random.below(16):08x}"
@@ -310,7 +321,7 @@ def memory_at(address, text):
 
 
 def address_in(random, number, window):
-    """An address in the middle of a window of 48 bytes, each place of a line in its turn: the last one where DMEM ends first (number 3)."""
+    """An address in the middle of a window of 48 bytes, each byte of a quadword in its turn: the last one where DMEM ends first (number 3)."""
     return (window + 16 + (number * 7 + number // 16 + 10) % 16) % 4096
 
 
@@ -339,8 +350,8 @@ def make_vector_memory(row, random, number, window):
     if letter == "f":
         fields["e"] = 8 * (number % 2)
     address = address_in(random, number, window)
-    if letter == "t" and number % 4 == 0:
-        fields["e"], address = fields["e"] & ~1, address & ~15
+    if letter == "t" and number // 16 % 2:
+        fields["e"], address = fields["e"] & ~1, address & ~15  # what isn't a choice
     offset = ((fields["off"] ^ 64) - 64) * SCALE[letter]
     before = {"dmem": memory_at(window, random.bytes(WINDOW_LENGTH))}
     before[f"r{fields['base']}"] = f"{base_of(random, address, offset):08x}"
@@ -349,6 +360,8 @@ def make_vector_memory(row, random, number, window):
         before[f"v{register}"] = random.bytes(16)
     return fields, before
 
+
+SMALL = {"vector": 32, "lane": 40, "ltv": 32, "stv": 32}  # the cases that an instruction has in the small set, by its name or form; of others 20
 
 MAKERS = {
     "shift": make_shift,
@@ -375,6 +388,10 @@ MAKERS = {
     "vector load": make_vector_memory,
     "vector store": make_vector_memory,
 }
+
+
+def small_count(row):
+    return SMALL.get(row.name, SMALL.get(row.form, 20))
 
 
 def base_address(case):
@@ -406,11 +423,13 @@ def choice_of(row, case):
 
 
 def make_case(row, seed, number, window=None):
-    """The case of a row with this seed and number. Where a window is named, its memory stands there."""
+    """The case of an instruction with this seed and number. If a window is named, its memory is there."""
     random = Random(seed, row.name, number)
     if window is None:
         window = WRAPPING if number % 4 == 3 else 16 * Random(seed, row.name, number, "window").below(250)
     fields, before = MAKERS[row.form](row, random, number, window)
+    if destination(row) and number % 5 == 1:
+        fields[destination(row)] = 0
     before.pop("r0", None)  # it is always 0
     word = word_of(row, {name: fields[name] for name in FORMS[row.form]})
     if number % 10 == 9:

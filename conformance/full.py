@@ -1,22 +1,22 @@
-"""Form 3: the cases of form 1 with whole states of numbers, a JSON array for each row, as the runners of other processors' tests read them."""
+"""Form 3: the cases of form 1 with whole states of numbers, a JSON array for each instruction, as the runners of other processors' tests read them."""
 
 import json
 
 import bench
 
-IMEM = 4096  # where the bytes of IMEM stand in `ram`; those of DMEM stand before them
+IMEM = 4096  # the address of the bytes of IMEM in `ram`; those of DMEM are before them
 NUMBERS = {"pc": "pc", "npc": "npc", "vco": "vco", "vcc": "vcc", "vce": "vce", "div_in": "in", "div_out": "out",
            "div_loaded": "loaded", "interrupt": "interrupt"}  # fmt: skip
 LISTS = {"r": ("r", 32), "acc": ("a", 8), "sp": ("c", 16)}
 
 
 def bytes_of(pieces):
-    """The bytes that stand in pieces {address: bytes}, by their addresses."""
+    """The bytes of pieces {address: bytes}, by their addresses."""
     return {int(at, 16) + i: byte for at, text in pieces.items() for i, byte in enumerate(bytes.fromhex(text))}
 
 
 def memories(entry):
-    """What stands in `ram` and in RDRAM before and after a case. Each address that one names the other names too; all else is 0."""
+    """The bytes of `ram` and of RDRAM before and after a case. Each address that one names the other names too; all else is 0."""
     before, after = entry["before"], entry["after"]
     code = {entry["before"].get("pc", "000"): entry["word"]}
     named = [
@@ -54,5 +54,5 @@ def case_of(entry):
 
 
 def full_text(entries):
-    """The file of a row, a case a line."""
+    """The file of an instruction, a case a line."""
     return "[\n" + ",\n".join(json.dumps(case_of(entry), separators=(",", ":")) for entry in entries) + "\n]\n"

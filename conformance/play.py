@@ -28,7 +28,7 @@ def play(program, entries):
 
 
 def run_images(script, imem, dmem):
-    """Runs a program from its images (or from the IMEM that stands) to its end, and looks at DMEM."""
+    """Runs a program from its images (or from the IMEM as it is) to its end, and reads DMEM."""
     if imem is not None:
         script.copy(bench.ZEROS, "imem")
         script.load("imem", 0, imem.rstrip(b"\0").hex() or "00")
@@ -56,7 +56,7 @@ def played(program, script, count):
 
 
 def row_files(program, row, seed, count):
-    """The files of a row: {name: content}."""
+    """The files of an instruction: {name: content}."""
     made = list(programs_of(row, seed, count))
     files, entries = {}, []
     for number, (one, found) in enumerate(zip(made, play(program, made)), 1):
@@ -72,7 +72,7 @@ def row_files(program, row, seed, count):
 
 
 def short(value):
-    """JSON without blanks."""
+    """JSON without whitespace."""
     return json.dumps(value, separators=(",", ":"))
 
 
@@ -120,7 +120,7 @@ def named(case, what, byte, length, expected, got, at):
 
 
 def run_manifest(program, manifest, folder):
-    """Runs the programs of a manifest as they stand in a folder, and yields the complaints of each.
+    """Runs the programs of a manifest in a folder, and yields the complaints of each.
 
     Each begins with other registers than it had when it was made, so that one that expects something of them is found.
     """

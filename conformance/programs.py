@@ -1,4 +1,4 @@
-"""Form 2: whole programs for machines that can only run microcode. Each holds many cases of one row, and stores what they left.
+"""Form 2: whole programs for machines that can only run microcode. Each holds many cases of one instruction, and stores what they left.
 
 This file writes their text and their data; play.py runs them.
 """
@@ -9,7 +9,7 @@ from cases import WINDOW_LENGTH, WRAPPING, Random, make_case
 from table import uses_memory, word_of
 
 MEMORY = 4096
-ONES = 16  # where a program has the numbers that its accumulators are set with
+ONES = 16  # the address of the numbers that a program sets its accumulators with
 FIRST_FREE, END_OF_FREE = 32, WRAPPING  # bytes 0 to 15 and those from WRAPPING on are the window of a case that wraps
 LAST_WORD = 1016  # a case that would pass it goes to the next program
 
@@ -19,7 +19,7 @@ STATUS_SIGNALS = 0x7F80
 
 
 class Full(Exception):
-    """A case that has no place in a program any more."""
+    """A case for which a program has no room."""
 
 
 class Program:
@@ -40,7 +40,7 @@ class Program:
         self.places += sum(1 for line in lines if not line.endswith(":"))
 
     def take(self, length, alignment):
-        """The place of so many bytes of DMEM."""
+        """The address of so many bytes of DMEM."""
         at = (self.free + alignment - 1) // alignment * alignment
         if at + length > END_OF_FREE:
             raise Full
@@ -48,13 +48,13 @@ class Program:
         return at
 
     def put(self, text, alignment=4):
-        """Puts bytes into the data, and answers where."""
+        """Puts bytes into the data, and returns their address."""
         at = self.take(len(text) // 2, alignment)
         self.data[at : at + len(text) // 2] = bytes.fromhex(text)
         return at
 
     def window(self, wrapping):
-        """The place of the memory of a case that loads or stores. One case of a program has the one that wraps."""
+        """The address of the memory of a case that loads or stores. One case of a program has the one that wraps."""
         if not wrapping or self.wrapped:
             return self.take(WINDOW_LENGTH, 16)
         self.wrapped = True
@@ -83,7 +83,7 @@ class Program:
         self.cases.append(entry)
 
     def copy(self):
-        """What a case that finds no place any more has to leave as it was."""
+        """What a case that finds no room has to leave as it was."""
         return self.free, self.wrapped, len(self.lines), self.places, bytes(self.data), dict(self.layouts)
 
     def go_back(self, kept):
@@ -93,7 +93,7 @@ class Program:
 
 
 class Saved:
-    """What a case leaves in DMEM: fields behind one another from a place on."""
+    """What a case leaves in DMEM: fields one after the other from an address on."""
 
     def __init__(self, program, vectors, halves, words):
         self.program = program
@@ -102,7 +102,7 @@ class Saved:
         self.start = self.at = program.take(length, 16 if vectors else 4)
 
     def field(self, what, length):
-        """The place of the next field."""
+        """The address of the next field."""
         at = self.at
         self.fields.append([what, at - self.start, length])
         self.at += length
@@ -120,7 +120,7 @@ class Saved:
 
 
 def set_up(program, case):
-    """Sets what a case names: divider, accumulators and flags where it names them, then its registers."""
+    """Sets what a case names: divider, accumulators and flags if it names them, then its registers."""
     before = {**bench.DEFAULT, **case.before}
     if "divided" in case.before:
         loaded = before["in"] if before["loaded"] == "1" else "0000"
@@ -148,7 +148,7 @@ def set_scalars(program, case):
 
 
 def add_computing(program, case):
-    """A case of a row that computes on the vector unit: its result, the accumulators, the flags, and of a divide row the divider."""
+    """A case of a computing instruction: its result, the accumulators, the flags, and of a divide instruction the divider."""
     set_up(program, case)
     program.test(case, case.word)
     has_result = case.row.form != "nothing"
@@ -273,7 +273,7 @@ def add_jump(program, case):
 
 
 def add_sp(program, case):
-    """MFC0 and MTC0 of the registers that don't start anything: the places of a DMA, the signals, the semaphore."""
+    """MFC0 and MTC0 of the registers that don't start anything: the addresses of a DMA, the signals, the semaphore."""
     number = int(case.name[-3:])
     random = Random("sp", case.name)
     c = (0, 1, 4, 7)[number % 4]
@@ -301,7 +301,7 @@ def add_sp(program, case):
 
 
 def add_break(program, case):
-    """BREAK ends its program: what stands behind it isn't executed. In the second program it stands in a delay slot."""
+    """BREAK ends its program: what follows it isn't executed. In the second program it is in a delay slot."""
     number = int(case.name[-3:])
     saved = Saved(program, 0, 0, 2)
     program.emit("addiu $2, $0, 1", "addiu $3, $0, 2")
@@ -354,7 +354,7 @@ def add_case(program, row, seed, number):
 
 
 def programs_of(row, seed, count):
-    """The programs that hold the cases of a row."""
+    """The programs that hold the cases of an instruction."""
     program = Program()
     for number in range(min(count, 2) if row.form == "break" else count):
         if row.form == "break" and program.cases:

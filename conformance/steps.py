@@ -1,4 +1,4 @@
-"""Form 1: cases of one instruction each, as lines of JSON, a file for each row."""
+"""Form 1: cases of one instruction each, as lines of JSON, a file for each instruction."""
 
 import json
 
@@ -7,7 +7,7 @@ from cases import make_case
 
 
 def checked_before(case, look):
-    """The state before a case as it was looked at, which has to be the one that was to be set."""
+    """The state before a case as the machine shows it, which has to be the one that was to be set."""
     before = dict(case.before)
     if "divided" in before:
         before["out"] = look["out"]
@@ -18,7 +18,7 @@ def checked_before(case, look):
 
 
 def entry_of(case, found):
-    """A case as it stands in a file."""
+    """A case as a file has it."""
     before = checked_before(case, found["before"])
     after = bench.differences(found["before"], found["after"])
     _, word, text = found["text"].split(" ", 2)
@@ -31,7 +31,7 @@ def entry_of(case, found):
 
 
 def row_text(program, row, seed, count):
-    """The file of a row. An RspError where the machine doesn't know the row."""
+    """The file of an instruction. An RspError if the machine doesn't know it."""
     cases = [make_case(row, seed, number) for number in range(count)]
     found = bench.observe(program, [(row, case.word, {**bench.DEFAULT, **case.before}) for case in cases])
     lines = []
@@ -47,7 +47,7 @@ def read_row(text):
 
 
 def complaints(entry, look):
-    """How a machine's look after a case differs from what the case says: a list of texts that name what differs."""
+    """How a machine's state after a case differs from what the case says: a list of texts that name what differs."""
     before = {**bench.DEFAULT, **entry["before"]}
     expected = {**before, **{key: value for key, value in entry["after"].items() if not isinstance(value, dict)}}
     found = []
@@ -87,7 +87,7 @@ def named(entry, key, expected, got):
 
 
 def memory_complaints(entry, bank, lines):
-    """The bytes of a memory that aren't as a case says. `lines` are those of the look, from the window on for RDRAM."""
+    """The bytes of a memory that aren't as a case says. `lines` are the replies of `mem`, from the window on for RDRAM."""
     start = bench.WINDOW if bank == "rdram" else 0
     expected = bytearray(sum(len(line) // 2 for line in lines))
     pieces = [*entry["before"].get(bank, {}).items(), *entry["after"].get(bank, {}).items()]
@@ -105,7 +105,7 @@ def memory_complaints(entry, bank, lines):
 
 
 def run_entries(program, entries, rows):
-    """Runs cases as they stand in files, and yields the complaints of each."""
+    """Runs cases as files have them, and yields the complaints of each."""
     states = [
         (row, int(entry["word"], 16), {**bench.DEFAULT, **entry["before"]}) for entry, row in zip(entries, rows)
     ]

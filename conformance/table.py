@@ -1,14 +1,14 @@
-"""The rows of the instruction table: what selects each, and where its fields stand.
+"""The instruction table: what selects each instruction, and which bits its fields are.
 
-docs/INSTRUCTIONS.md says the same in words. Here it serves to make words, so that each row can be given cases.
+docs/INSTRUCTIONS.md says the same in words. Here it serves to make words, so that each instruction can be given cases.
 """
 
 from collections import namedtuple
 
-# name: lower case, as in assembly text. form: what the row's fields are. mask, value: the bits that select it.
+# name: lower case, as in assembly text. form: what the instruction's fields are. mask, value: the bits that select it.
 Row = namedtuple("Row", "name form mask value")
 
-# The fields of a form: the place of each one's lowest bit, and how many bits it has.
+# The fields of a form: the number of each one's lowest bit, and how many bits it has.
 FORMS = {
     "shift": {"t": (16, 5), "d": (11, 5), "sa": (6, 5)},
     "three": {"s": (21, 5), "t": (16, 5), "d": (11, 5)},
@@ -105,7 +105,7 @@ ROWS = {row.name: row for row in all_rows()}
 
 
 def word_of(row, fields):
-    """The canonical word of a row with these fields, each taken modulo its width."""
+    """The canonical word of an instruction with these fields, each taken modulo its width."""
     word = row.value
     for name, (low, width) in FORMS[row.form].items():
         word |= (fields[name] & (1 << width) - 1) << low
@@ -113,13 +113,24 @@ def word_of(row, fields):
 
 
 def ignored_bits(row):
-    """The bits that neither select the row nor stand in one of its fields."""
+    """The bits that neither select the instruction nor belong to one of its fields."""
     known = row.mask
     for low, width in FORMS[row.form].values():
         known |= ((1 << width) - 1) << low
     return ~known & 0xFFFFFFFF
 
 
+def destination(row):
+    """The field that names the scalar register which an instruction writes, or None."""
+    if row.form in ("shift", "three", "link register"):
+        return "d"
+    return "t" if row.form in ("immediate", "upper", "load", "from sp", "from vector", "from control") else None
+
+
+def fields_of(row, word):
+    return {name: word >> low & (1 << width) - 1 for name, (low, width) in FORMS[row.form].items()}
+
+
 def uses_memory(row):
-    """Whether a row loads or stores."""
+    """Whether an instruction loads or stores."""
     return row.form in ("load", "store", "vector load", "vector store")

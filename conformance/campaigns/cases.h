@@ -1,0 +1,37 @@
+/* A shared object of cases: an emulator that conformance/campaign checks, a batch of cases a call. library.c is one, and a pattern for others. */
+#ifndef CASES_H
+#define CASES_H
+#include "rsp.h"
+#include <string.h>
+
+/* A case: all registers, and the word at their pc. The memories before it are those of cases_open. */
+typedef struct rsp_case { rsp_state state; uint32_t word; } rsp_case;
+
+/* What it leaves. `status` is that of rsp_step, or UNSHOWN. `changed` is the digest of the memories, 0 if no byte has changed. */
+typedef struct rsp_end { rsp_state state; uint32_t status; uint64_t changed; } rsp_end;
+#define UNSHOWN 0xFFFFFFFEu /* the emulator can't be given this case */
+
+/* The memories in one array: DMEM, IMEM, and an RDRAM that ends after these bytes. */
+enum { DMEM = 0, IMEM = 4096, RDRAM = 8192, RDRAM_LENGTH = 16384, MEMORIES = RDRAM + RDRAM_LENGTH };
+
+void *cases_open(const char *what, const uint8_t *memories); /* NULL if it can't. `what` is "" but for plugins */
+void cases_close(void *at);
+int cases_run(void *at, const rsp_case *in, rsp_end *out, size_t n); /* 0, or 1 + the number of a case whose state no machine can have */
+void cases_seen(void *at, rsp_end *seen); /* optional: clears the bits of an end that the emulator can't show */
+/* For programs: a state and memories, steps from there up to a status other than RSP_OK, and the memories then. */
+int cases_begin(void *at, const rsp_state *state, const uint8_t *memories);
+void cases_go(void *at, uint32_t steps, rsp_end *out); /* `changed` is since cases_begin */
+void cases_look(void *at, uint8_t *memories);
+
+static inline uint64_t digest(const uint8_t *before, const uint8_t *after, size_t n) /* of (address, byte) for each byte that has changed */
+{
+    uint64_t sum = 0;
+    for (size_t at = 0; at < n; at += 1024) if (memcmp(before + at, after + at, 1024) != 0) for (size_t i = at; i < at + 1024; i++) if (before[i] != after[i]) {
+        uint64_t x = (i << 8 | after[i]) * 0xBF58476D1CE4E5B9u + 0x9E3779B97F4A7C15u;
+        x = (x ^ x >> 27) * 0x94D049BB133111EBu;
+        sum += x ^ x >> 31;
+    }
+    return sum;
+}
+static inline int is_dma(uint32_t word) { return (word & 0xFFE07000) == 0x40801000; } /* MTC0 of a length: it can reach the RDRAM */
+#endif

@@ -1,0 +1,44 @@
+/* The library with a planted fault. FAULT=1: lane 5 of VADD is one too small if two largest numbers and a carry are added. FAULT=2: VXOR changes
+ * a bit if the instruction before it was LQV. FAULT=3: it dies after a batch that has a case of the word WORD. */
+#include "rsp.h"
+static uint32_t faulty_step(rsp *m);
+#define rsp_step faulty_step
+#define cases_run library_run
+#include "library.c"
+#undef rsp_step
+#undef cases_run
+#ifndef WORD
+#define WORD 0
+#endif
+
+int cases_run(void *at, const rsp_case *in, rsp_end *out, size_t n)
+{
+    int refused = library_run(at, in, out, n);
+    for (size_t i = 0; i < n; i++) if (FAULT == 3 && in[i].word == WORD) abort();
+    return refused;
+}
+
+static int is_faulty(const rsp_state *s, uint32_t word)
+{
+    static uint32_t last;
+    uint32_t before = last;
+    last = word;
+    if (FAULT == 2) return (word & 0xFE00003F) == 0x4A00002C && (before & 0xFC00F800) == 0xC8002000;
+    return (word & 0xFE00003F) == 0x4A000010 && (word >> 21 & 15) < 2 && s->vectors[word >> 11 & 31][5] == 0x7FFF
+        && s->vectors[word >> 16 & 31][5] == 0x7FFF && s->flags.carry & 32;
+}
+
+static uint32_t faulty_step(rsp *m)
+{
+    rsp_state s;
+    uint8_t w[4];
+    rsp_get(m, &s);
+    rsp_memory(m, RSP_IMEM, s.pc, w, 4);
+    uint32_t word = (uint32_t)w[0] << 24 | w[1] << 16 | w[2] << 8 | w[3], faulty = is_faulty(&s, word), status = rsp_step(m);
+    if (!faulty || status != RSP_OK) return status;
+    rsp_get(m, &s);
+    if (FAULT == 2) s.vectors[word >> 6 & 31][0] ^= 1;
+    else s.vectors[word >> 6 & 31][5]--;
+    rsp_set(m, &s);
+    return RSP_OK;
+}

@@ -1,0 +1,52 @@
+/* A plugin of mupen64plus that is the library: one whose registers nobody knows. FAULT=1: VXOR changes a bit of its result. */
+#include "plugin.h"
+#undef RDRAM
+
+static plugin_info info;
+static rsp machine;
+static uint8_t bytes[1 << 23];
+
+int PluginStartup(void *core, void *context, void (*told)(void *, int, const char *)) { (void)core; (void)context; (void)told; return 0; }
+void InitiateRSP(plugin_info given, unsigned *cycles) { (void)cycles; info = given; }
+
+static void carry(int into) /* the memories, into the machine or out of it; of the RDRAM only what microcode.c's DMA reads */
+{
+    static const uint32_t banks[] = { RSP_RDRAM, RSP_DMEM, RSP_IMEM }, from[] = { 0x400000, 0, 0 };
+    for (int i = 0; i < 3; i++) {
+        void *memory = (char *)info.memories[i] + from[i];
+        if (into) { swap(bytes, memory, 4096); rsp_load(&machine, banks[i], from[i], bytes, 4096); }
+        else { rsp_memory(&machine, banks[i], from[i], bytes, 4096); swap(memory, bytes, 4096); }
+    }
+}
+
+static void spoil(uint32_t word)
+{
+    rsp_state s;
+    if ((word & 0xFE00003F) != 0x4A00002C) return;
+    rsp_get(&machine, &s);
+    s.vectors[word >> 6 & 31][0] ^= FAULT;
+    rsp_set(&machine, &s);
+}
+
+unsigned DoRspCycles(unsigned cycles)
+{
+    rsp_state s = { .npc = 4, .sp = { [2] = 0xFF8, [3] = 0xFF8 } };
+    rsp_stop stop;
+    if (!machine.at) rsp_new(&machine, bytes, sizeof bytes, 0);
+    carry(1);
+    rsp_set(&machine, &s);
+    for (;;) {
+        rsp_scalars at;
+        uint8_t w[4];
+        rsp_regs(&machine, &at);
+        rsp_memory(&machine, RSP_IMEM, at.pc, w, 4);
+        rsp_run(&machine, 1, &stop);
+        if (stop.steps == 0) break;
+        spoil((uint32_t)w[0] << 24 | w[1] << 16 | w[2] << 8 | w[3]);
+    }
+    carry(0);
+    return cycles;
+}
+
+void *cases_open(const char *what, const uint8_t *memories) { (void)what; (void)memories; return NULL; }
+int cases_run(void *at, const rsp_case *in, rsp_end *out, size_t n) { (void)at; (void)in; (void)out; (void)n; return 1; }
