@@ -17,7 +17,7 @@ CALL = ctypes.CFUNCTYPE(None)
 
 
 class Info(ctypes.Structure):
-    """What the library is told: where the memories and registers are, and what it may call."""
+    """What the library is given: its memories and registers, and what it may call."""
 
     _fields_ = (
         [(name, ctypes.c_void_p) for name in MEMORIES]
