@@ -9,8 +9,8 @@ use Rattle.rsp_lanes.specs.Flags.{LaneFlags}
 use Rattle.rsp_lanes.specs.Outcome.{Outcome, plain}
 use Rattle.rsp_compare.specs.ClipParts.{sum_or_difference}
 use Rattle.rsp_compare.specs.Clips.{signs_differ, compare_flags, vch, vch_signs_differ, vch_signs_agree, vcl, vcr, vcr_signs_differ, vcr_signs_agree, clip_rule}
-use Rattle.rsp_rows.specs.declared.vector.VectorClipRow.{VectorClipRow}
-use Rattle.rsp_rows.specs.declared.vector.VectorClipRow.TheVariants.{Vcl, Vch, Vcr}
+use Rattle.rsp_compare.specs.declared.clips.ClipOp.{ClipOp}
+use Rattle.rsp_compare.specs.declared.clips.ClipOp.TheVariants.{Vcl, Vch, Vcr}
 use Rattle.rsp_compare.proofs.ClipSigns.{IsSigned, below_zero, is_negative, is_zero, is_minus_one, sum_or_difference_signed}
 
 -- tests of a signed number
@@ -123,7 +123,7 @@ vcr_low : (t : Bool) (a b : ℕ) → (cond t (vcr_signs_differ a b) (vcr_signs_a
 vcr_low true a b = refl
 vcr_low false a b = refl
 
-pub low_is : (op : VectorClipRow) (a b : ℕ) (f : LaneFlags) → (clip_rule op a b f).result ≡ (clip_rule op a b f).low
+pub low_is : (op : ClipOp) (a b : ℕ) (f : LaneFlags) → (clip_rule op a b f).result ≡ (clip_rule op a b f).low
 low_is Vcl a b f = vcl_low a b f.carry f.differ f.compare f.clip f.extra f refl
 low_is Vch a b f = vch_low (signs_differ a b) a b
 low_is Vcr a b f = vcr_low (signs_differ a b) a b

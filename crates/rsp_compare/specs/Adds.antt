@@ -6,8 +6,8 @@ use Rattle.rsp_lanes.specs.Lanes.{bit}
 use Rattle.rsp_numbers.specs.Numbers.{s16, sixteen_bits, negated, clamp16}
 use Rattle.rsp_lanes.specs.Flags.{LaneFlags, vco_cleared}
 use Rattle.rsp_lanes.specs.Outcome.{Outcome, Rule, plain}
-use Rattle.rsp_rows.specs.declared.vector.VectorAddRow.{VectorAddRow}
-use Rattle.rsp_rows.specs.declared.vector.VectorAddRow.TheVariants.{Vadd, Vsub, Vabs, Vaddc, Vsubc}
+use Rattle.rsp_compare.specs.declared.adds.AddOp.{AddOp}
+use Rattle.rsp_compare.specs.declared.adds.AddOp.TheVariants.{Vadd, Vsub, Vabs, Vaddc, Vsubc}
 
 -- n is the low accumulator, n clamped the result; VCO is cleared
 abbrev pub clamped : ℤ → LaneFlags → Outcome
@@ -38,7 +38,7 @@ vaddc a b f = plain ((a + b) % 65536) (record f { carry = nat_lt 65535 (a + b); 
 abbrev pub vsubc : Rule
 vsubc a b f = plain (sixteen_bits (pos a -ℤ pos b)) (record f { carry = nat_lt a b; differ = not (nat_eq a b) })
 
-abbrev pub add_rule : VectorAddRow → Rule
+abbrev pub add_rule : AddOp → Rule
 add_rule Vadd = vadd
 add_rule Vsub = vsub
 add_rule Vabs = vabs

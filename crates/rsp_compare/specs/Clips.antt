@@ -1,13 +1,13 @@
 -- The clip rows, each by its rule for one lane. a and b are the lanes of the operands: as they stand they are the unsigned
 -- readings, from 0 to 65535, and s16 gives the signed ones.
-use Rattle.std.specs.Prelude.{ℕ, ℤ, pos, negsuc, ◌+◌, ◌%◌, ◌+ℤ◌, ◌-ℤ◌, Bool, true, false, not, ◌&&◌, ◌||◌, int_lt, int_le, nat_lt, nat_le, nat_eq, if◌then◌else◌}
+use Rattle.std.specs.Prelude.{ℕ, pos, negsuc, ◌+◌, ◌%◌, ◌+ℤ◌, ◌-ℤ◌, Bool, true, false, not, ◌&&◌, ◌||◌, int_lt, int_le, nat_lt, nat_le, nat_eq, if◌then◌else◌}
 use Rattle.std.specs.Ordering.{int_eq}
 use Rattle.rsp_lanes.specs.Lanes.{bool_xor}
 use Rattle.rsp_numbers.specs.Numbers.{s16, complement, negated}
 use Rattle.rsp_lanes.specs.Flags.{LaneFlags}
 use Rattle.rsp_lanes.specs.Outcome.{Outcome, Rule, plain}
-use Rattle.rsp_rows.specs.declared.vector.VectorClipRow.{VectorClipRow}
-use Rattle.rsp_rows.specs.declared.vector.VectorClipRow.TheVariants.{Vcl, Vch, Vcr}
+use Rattle.rsp_compare.specs.declared.clips.ClipOp.{ClipOp}
+use Rattle.rsp_compare.specs.declared.clips.ClipOp.TheVariants.{Vcl, Vch, Vcr}
 
 -- whether just one of the signed readings is negative
 abbrev pub signs_differ : ℕ → ℕ → Bool
@@ -81,7 +81,7 @@ abbrev pub vcr : Rule
 vcr a b f = if signs_differ a b then vcr_signs_differ a b else vcr_signs_agree a b
 
 -- the rule of each row
-abbrev pub clip_rule : VectorClipRow → Rule
+abbrev pub clip_rule : ClipOp → Rule
 clip_rule Vcl = vcl
 clip_rule Vch = vch
 clip_rule Vcr = vcr

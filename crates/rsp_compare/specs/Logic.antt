@@ -3,10 +3,10 @@ use Rattle.std.specs.Prelude.{ℕ}
 use Rattle.std.specs.Int.Bits.{bit_and, bit_or, bit_xor}
 use Rattle.rsp_numbers.specs.Numbers.{complement}
 use Rattle.rsp_lanes.specs.Outcome.{Rule, plain}
-use Rattle.rsp_rows.specs.declared.vector.VectorLogicRow.{VectorLogicRow}
-use Rattle.rsp_rows.specs.declared.vector.VectorLogicRow.TheVariants.{Vand, Vnand, Vor, Vnor, Vxor, Vnxor}
+use Rattle.rsp_compare.specs.declared.logic.LogicOp.{LogicOp}
+use Rattle.rsp_compare.specs.declared.logic.LogicOp.TheVariants.{Vand, Vnand, Vor, Vnor, Vxor, Vnxor}
 
-abbrev pub bits_of : VectorLogicRow → ℕ → ℕ → ℕ
+abbrev pub bits_of : LogicOp → ℕ → ℕ → ℕ
 bits_of Vand a b = bit_and a b
 bits_of Vnand a b = complement (bit_and a b)
 bits_of Vor a b = bit_or a b
@@ -15,5 +15,5 @@ bits_of Vxor a b = bit_xor a b
 bits_of Vnxor a b = complement (bit_xor a b)
 
 -- all flags are kept
-abbrev pub logic_rule : VectorLogicRow → Rule
+abbrev pub logic_rule : LogicOp → Rule
 logic_rule op a b f = plain (bits_of op a b) f

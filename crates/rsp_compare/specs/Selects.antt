@@ -4,8 +4,8 @@ use Rattle.std.specs.Ordering.{int_eq}
 use Rattle.rsp_numbers.specs.Numbers.{s16}
 use Rattle.rsp_lanes.specs.Flags.{LaneFlags, vco_cleared}
 use Rattle.rsp_lanes.specs.Outcome.{Rule, plain}
-use Rattle.rsp_rows.specs.declared.vector.VectorSelectRow.{VectorSelectRow}
-use Rattle.rsp_rows.specs.declared.vector.VectorSelectRow.TheVariants.{Vlt, Veq, Vne, Vge}
+use Rattle.rsp_compare.specs.declared.selects.SelectOp.{SelectOp}
+use Rattle.rsp_compare.specs.declared.selects.SelectOp.TheVariants.{Vlt, Veq, Vne, Vge}
 use Rattle.rsp_compare.specs.declared.selects.MergeOp.{MergeOp}
 use Rattle.rsp_compare.specs.declared.selects.MergeOp.TheVariants.{Vmrg}
 
@@ -22,14 +22,14 @@ vne a b f = not (int_eq (s16 a) (s16 b)) || f.differ
 abbrev pub vge : ℕ → ℕ → LaneFlags → Bool
 vge a b f = int_lt (s16 b) (s16 a) || (int_eq (s16 a) (s16 b) && not (f.carry && f.differ))
 
-abbrev pub holds : VectorSelectRow → ℕ → ℕ → LaneFlags → Bool
+abbrev pub holds : SelectOp → ℕ → ℕ → LaneFlags → Bool
 holds Vlt = vlt
 holds Veq = veq
 holds Vne = vne
 holds Vge = vge
 
 -- a where it holds, else b; compare is the answer, clip and VCO are cleared
-abbrev pub select_rule : VectorSelectRow → Rule
+abbrev pub select_rule : SelectOp → Rule
 select_rule op a b f =
     plain (if holds op a b f then a else b)
     (record f { carry = false; differ = false; compare = holds op a b f; clip = false })

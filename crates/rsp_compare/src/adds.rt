@@ -7,12 +7,26 @@ ghost use Rattle.rsp_compare.specs.Adds.{vadd, vsub, vabs, vaddc, vsubc, add_rul
 
 use rsp_acc::Acc;
 use rsp_lanes::{Flags, Mask8, VReg};
-use rsp_rows::VectorAddRow;
+
+/// Sums and differences, lane by lane.
+#[derive(Clone, Copy)]
+pub enum AddOp {
+    /// `vadd`: the sum with carry, clamped.
+    Vadd,
+    /// `vsub`: the difference with borrow, clamped.
+    Vsub,
+    /// `vabs`: the second, negated if the first is negative, and 0 if it is 0.
+    Vabs,
+    /// `vaddc`: the sum modulo 2^16; sets carry.
+    Vaddc,
+    /// `vsubc`: the difference modulo 2^16; sets carry and not-equal.
+    Vsubc,
+}
 
 /// Does an add row: gives the results, writes them to the low sixteen bits of the accumulators (for VADD and VSUB the
 /// number before the clamp) and writes VCO. VABS writes no flag; VCC and VCE always stay.
 #[inline]
-pub fn add_op<A: Acc>(op: VectorAddRow, a: &VReg, b: &VReg, flags: &mut Flags, acc: &mut A) -> VReg
+pub fn add_op<A: Acc>(op: AddOp, a: &VReg, b: &VReg, flags: &mut Flags, acc: &mut A) -> VReg
     ensures value { result ≡ results_of (add_rule op) a.now b.now flags.old }
     ensures flags { flags.new ≡ flags_after (add_rule op) a.now b.now flags.old }
     ensures accumulator { A.numbers acc.new ≡ with_low (A.numbers acc.old) (lows_of (add_rule op) a.now b.now flags.old) }
@@ -24,17 +38,17 @@ pub fn add_op<A: Acc>(op: VectorAddRow, a: &VReg, b: &VReg, flags: &mut Flags, a
 
 /// The results, and the low sixteen bits of the accumulators.
 #[inline(always)]
-fn sums(op: VectorAddRow, a: &VReg, b: &VReg, flags: &mut Flags) -> (VReg, VReg)
+fn sums(op: AddOp, a: &VReg, b: &VReg, flags: &mut Flags) -> (VReg, VReg)
     ensures value { result.0 ≡ results_of (add_rule op) a.now b.now flags.old }
     ensures low { result.1 ≡ lows_of (add_rule op) a.now b.now flags.old }
     ensures flags { flags.new ≡ flags_after (add_rule op) a.now b.now flags.old }
 {
     match op {
-        VectorAddRow::Vadd => add(a, b, flags),
-        VectorAddRow::Vsub => subtract(a, b, flags),
-        VectorAddRow::Vabs => absolute(a, b, flags),
-        VectorAddRow::Vaddc => add_carried(a, b, flags),
-        VectorAddRow::Vsubc => subtract_borrowed(a, b, flags),
+        AddOp::Vadd => add(a, b, flags),
+        AddOp::Vsub => subtract(a, b, flags),
+        AddOp::Vabs => absolute(a, b, flags),
+        AddOp::Vaddc => add_carried(a, b, flags),
+        AddOp::Vsubc => subtract_borrowed(a, b, flags),
     }
 }
 

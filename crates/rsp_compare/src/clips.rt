@@ -6,7 +6,17 @@ ghost use Rattle.rsp_compare.specs.Clips.{vcl, vch, vcr, clip_rule};
 use crate::clip_parts::{choose, exchanged, signs_differ, sum_or_difference};
 use rsp_acc::Acc;
 use rsp_lanes::{Flags, Mask8, VReg};
-use rsp_rows::VectorClipRow;
+
+/// Clips of a register by another, lane by lane.
+#[derive(Clone, Copy)]
+pub enum ClipOp {
+    /// `vcl`: the low half, by the flags that `vch` left.
+    Vcl,
+    /// `vch`: the high half, or a clip alone.
+    Vch,
+    /// `vcr`: a clip in one's complement.
+    Vcr,
+}
 
 /// Where carry is set the limit is -b and `compare` tells whether it is taken; elsewhere b and `clip`. Only carry
 /// alone makes a new `compare`, and only neither of carry and not-equal a new `clip`.
@@ -89,14 +99,14 @@ fn vcr(a: &VReg, b: &VReg, flags: &mut Flags) -> VReg
 }
 
 #[inline(always)]
-fn clip(op: VectorClipRow, a: &VReg, b: &VReg, flags: &mut Flags) -> VReg
+fn clip(op: ClipOp, a: &VReg, b: &VReg, flags: &mut Flags) -> VReg
     ensures value { result ≡ results_of (clip_rule op) a.now b.now flags.old }
     ensures flags { flags.new ≡ flags_after (clip_rule op) a.now b.now flags.old }
 {
     match op {
-        VectorClipRow::Vcl => vcl(a, b, flags),
-        VectorClipRow::Vch => vch(a, b, flags),
-        VectorClipRow::Vcr => vcr(a, b, flags),
+        ClipOp::Vcl => vcl(a, b, flags),
+        ClipOp::Vch => vch(a, b, flags),
+        ClipOp::Vcr => vcr(a, b, flags),
     }
 }
 
@@ -107,13 +117,7 @@ fn clip(op: VectorClipRow, a: &VReg, b: &VReg, flags: &mut Flags) -> VReg
 /// the low sixteen bits of the accumulators, whose other bits stay. VCL reads the flags that VCH left and is its second
 /// half on numbers of 32 bits. Nothing is refused.
 #[inline]
-pub fn clip_op<A: Acc>(
-    op: VectorClipRow,
-    a: &VReg,
-    b: &VReg,
-    flags: &mut Flags,
-    acc: &mut A,
-) -> VReg
+pub fn clip_op<A: Acc>(op: ClipOp, a: &VReg, b: &VReg, flags: &mut Flags, acc: &mut A) -> VReg
     ensures value { result ≡ results_of (clip_rule op) a.now b.now flags.old }
     ensures flags { flags.new ≡ flags_after (clip_rule op) a.now b.now flags.old }
     ensures accumulator { A.numbers acc.new ≡ with_low (A.numbers acc.old) (lows_of (clip_rule op) a.now b.now flags.old) }

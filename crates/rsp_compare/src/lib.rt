@@ -1,9 +1,8 @@
-//! The add, compare, clip, merge and logic rows of the vector unit, over every accumulator.
+//! The add, compare, clip, merge and logic instructions of the vector unit, over every accumulator.
 //!
-//! Each public call takes a row, the two operands (the second is what the row's element selects), the flags and
-//! the accumulators, and gives the register that is written. What it does stands in three clauses, by the row's
-//! rule for one lane: the results, the flags after the row, and the accumulators, of which a row here writes the
-//! low sixteen bits alone.
+//! Each public call takes an operation, the two operands (the second is what the instruction's element selects), the flags
+//! and the accumulators, and returns the register that is written. Three clauses say what it does, by the operation's rule
+//! for one lane: the results, the flags after it, and the accumulators, whose low sixteen bits alone are written.
 #![tactic(auto)]
 
 mod adds;
@@ -12,9 +11,8 @@ mod clips;
 mod logic;
 mod selects;
 
-pub use adds::add_op;
-pub use clips::clip_op;
-pub use logic::logic_op;
+pub use adds::{AddOp, add_op};
+pub use clips::{ClipOp, clip_op};
+pub use logic::{LogicOp, logic_op};
 pub use rsp_lanes::Flags;
-pub use rsp_rows::{VectorAddRow, VectorClipRow, VectorLogicRow, VectorSelectRow};
-pub use selects::{MergeOp, merge_op, select_op};
+pub use selects::{MergeOp, SelectOp, merge_op, select_op};

@@ -6,17 +6,27 @@ ghost use Rattle.rsp_compare.specs.Logic.{bits_of, logic_rule};
 
 use rsp_acc::Acc;
 use rsp_lanes::{Flags, VReg};
-use rsp_rows::VectorLogicRow;
+
+/// Logic of two registers, bit by bit.
+#[derive(Clone, Copy)]
+pub enum LogicOp {
+    /// `vand`: the bits set in both.
+    Vand,
+    /// `vnand`: the bits not set in both.
+    Vnand,
+    /// `vor`: the bits set in either.
+    Vor,
+    /// `vnor`: the bits set in neither.
+    Vnor,
+    /// `vxor`: the bits that differ.
+    Vxor,
+    /// `vnxor`: the bits that agree.
+    Vnxor,
+}
 
 /// Does a logic row: gives the results and writes them to the low sixteen bits of the accumulators. All flags stay.
 #[inline]
-pub fn logic_op<A: Acc>(
-    op: VectorLogicRow,
-    a: &VReg,
-    b: &VReg,
-    flags: &mut Flags,
-    acc: &mut A,
-) -> VReg
+pub fn logic_op<A: Acc>(op: LogicOp, a: &VReg, b: &VReg, flags: &mut Flags, acc: &mut A) -> VReg
     ensures value { result ≡ results_of (logic_rule op) a.now b.now flags.old }
     ensures flags { flags.new ≡ flags_after (logic_rule op) a.now b.now flags.old }
     ensures accumulator { A.numbers acc.new ≡ with_low (A.numbers acc.old) (lows_of (logic_rule op) a.now b.now flags.old) }
@@ -28,15 +38,15 @@ pub fn logic_op<A: Acc>(
 }
 
 #[inline(always)]
-fn bits(op: VectorLogicRow, a: &VReg, b: &VReg) -> VReg
+fn bits(op: LogicOp, a: &VReg, b: &VReg) -> VReg
     ensures { result ≡ each_lane (λ i. bits_of op (slice_index a.now i) (slice_index b.now i)) }
 {
     match op {
-        VectorLogicRow::Vand => a.and(b),
-        VectorLogicRow::Vnand => a.and(b).not(),
-        VectorLogicRow::Vor => a.or(b),
-        VectorLogicRow::Vnor => a.or(b).not(),
-        VectorLogicRow::Vxor => a.xor(b),
-        VectorLogicRow::Vnxor => a.xor(b).not(),
+        LogicOp::Vand => a.and(b),
+        LogicOp::Vnand => a.and(b).not(),
+        LogicOp::Vor => a.or(b),
+        LogicOp::Vnor => a.or(b).not(),
+        LogicOp::Vxor => a.xor(b),
+        LogicOp::Vnxor => a.xor(b).not(),
     }
 }

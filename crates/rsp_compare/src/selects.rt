@@ -7,7 +7,19 @@ ghost use Rattle.rsp_compare.specs.Selects.{vlt, veq, vne, vge, holds, select_ru
 
 use rsp_acc::Acc;
 use rsp_lanes::{Flags, Mask8, VReg};
-use rsp_rows::VectorSelectRow;
+
+/// Comparisons that select a lane of one of two registers.
+#[derive(Clone, Copy)]
+pub enum SelectOp {
+    /// `vlt`: the first if it is less.
+    Vlt,
+    /// `veq`: if they are equal.
+    Veq,
+    /// `vne`: if they differ.
+    Vne,
+    /// `vge`: the first if it is not less.
+    Vge,
+}
 
 /// A merge row.
 #[derive(Clone, Copy, PartialEq, Eq, Debug, Drop)]
@@ -19,13 +31,7 @@ pub enum MergeOp {
 /// Does a compare row: gives a where the comparison holds, else b, and writes that to the low sixteen bits of the accumulators.
 /// The answer goes to compare; clip and VCO are cleared, VCE stays.
 #[inline]
-pub fn select_op<A: Acc>(
-    op: VectorSelectRow,
-    a: &VReg,
-    b: &VReg,
-    flags: &mut Flags,
-    acc: &mut A,
-) -> VReg
+pub fn select_op<A: Acc>(op: SelectOp, a: &VReg, b: &VReg, flags: &mut Flags, acc: &mut A) -> VReg
     ensures value { result ≡ results_of (select_rule op) a.now b.now flags.old }
     ensures flags { flags.new ≡ flags_after (select_rule op) a.now b.now flags.old }
     ensures accumulator { A.numbers acc.new ≡ with_low (A.numbers acc.old) (lows_of (select_rule op) a.now b.now flags.old) }
@@ -56,14 +62,14 @@ pub fn merge_op<A: Acc>(op: MergeOp, a: &VReg, b: &VReg, flags: &mut Flags, acc:
 
 /// Where the comparison holds.
 #[inline(always)]
-fn taken(op: VectorSelectRow, a: &VReg, b: &VReg, flags: &Flags) -> Mask8
+fn taken(op: SelectOp, a: &VReg, b: &VReg, flags: &Flags) -> Mask8
     ensures { result ≡ each_lane (λ i. holds op (slice_index a.now i) (slice_index b.now i) (flags_at flags.now i)) }
 {
     match op {
-        VectorSelectRow::Vlt => is_below(a, b, flags),
-        VectorSelectRow::Veq => is_equal(a, b, flags),
-        VectorSelectRow::Vne => is_different(a, b, flags),
-        VectorSelectRow::Vge => is_at_least(a, b, flags),
+        SelectOp::Vlt => is_below(a, b, flags),
+        SelectOp::Veq => is_equal(a, b, flags),
+        SelectOp::Vne => is_different(a, b, flags),
+        SelectOp::Vge => is_at_least(a, b, flags),
     }
 }
 

@@ -3,15 +3,15 @@ use Rattle.std.proofs.Common.{◌≡◌, refl, sym, ap, subst, ◌∙◌, ℕ, z
 use Rattle.std.specs.Prelude.{find, map, Some, None, option_map, IfSome}
 use Rattle.std.proofs.lemmas.Bool.{cond-true, cond-false, cases_Bool}
 use Rattle.rsp_decode.specs.declared.inst.Inst.{Inst}
-use Rattle.rsp_rows.specs.declared.scalar.SignRow.TheVariants.{Bltz, Bgez, Bltzal, Bgezal, Blez, Bgtz}
-use Rattle.rsp_rows.specs.declared.scalar.ImmediateRow.{ImmediateRow}
-use Rattle.rsp_rows.specs.declared.scalar.ImmediateRow.TheVariants.{Addi}
-use Rattle.rsp_rows.specs.declared.scalar.MoveRow.{MoveRow}
-use Rattle.rsp_rows.specs.declared.scalar.MoveRow.TheVariants.{From, To}
-use Rattle.rsp_rows.specs.declared.vector.VectorLoadRow.{VectorLoadRow}
-use Rattle.rsp_rows.specs.declared.vector.VectorLoadRow.TheVariants.{Lbv}
-use Rattle.rsp_rows.specs.declared.vector.VectorStoreRow.{VectorStoreRow}
-use Rattle.rsp_rows.specs.declared.vector.VectorStoreRow.TheVariants.{Sbv}
+use Rattle.rsp_decode.specs.declared.scalar.SignRow.TheVariants.{Bltz, Bgez, Bltzal, Bgezal, Blez, Bgtz}
+use Rattle.rsp_decode.specs.declared.scalar.ImmediateRow.{ImmediateRow}
+use Rattle.rsp_decode.specs.declared.scalar.ImmediateRow.TheVariants.{Addi}
+use Rattle.rsp_decode.specs.declared.scalar.MoveRow.{MoveRow}
+use Rattle.rsp_decode.specs.declared.scalar.MoveRow.TheVariants.{From, To}
+use Rattle.rsp_decode.specs.declared.vector.VectorLoadRow.{VectorLoadRow}
+use Rattle.rsp_decode.specs.declared.vector.VectorLoadRow.TheVariants.{Lbv}
+use Rattle.rsp_decode.specs.declared.vector.VectorStoreRow.{VectorStoreRow}
+use Rattle.rsp_decode.specs.declared.vector.VectorStoreRow.TheVariants.{Sbv}
 use Rattle.rsp_decode.specs.Table.{shifts, shifts_by, registers, jumps, branches_equal, immediates, loads, stores, multiplies, rounds, mpegs, vector_adds, vector_selects, vector_clips, vector_logics, divides, idles, vector_loads, vector_stores, Row, rows, row_of, fits, fields, row_bit_fields, inst_of, canonical_of, meaning_of, word_from, word_of, parts, IsInstruction, FitBitFields, control_of, control_number, special_rows, regimm_rows, opcode_rows, cop0_rows, cop2_rows, computing_rows, lwc2_rows, swc2_rows, shift_row, shift_by_row, jump_register_row, jump_link_register_row, break_row, register_row, branch_sign_row, jump_row, branch_equal_row, immediate_row, load_upper_row, load_row, store_row, move_sp_row, move_vector_row, move_control_row, multiply_row, round_row, mpeg_row, read_accumulator_row, vector_add_row, vector_select_row, vector_clip_row, vector_merge_row, vector_logic_row, divide_row, idle_row, vector_load_row, vector_store_row}
 use Rattle.rsp_decode.proofs.BitFields.{fit_read}
 

@@ -13,8 +13,8 @@ mod regimm;
 mod special;
 mod swc2;
 
+use crate::bit_fields;
 use crate::encoding::encode;
-use crate::fields;
 use crate::inst::Inst;
 use crate::kept::Kept;
 use crate::visitor::Visitor;
@@ -55,7 +55,7 @@ pub fn visit<V: Visitor>(word: u32, visitor: &mut V) -> bool
     ensures known { result ≡ is_known (inst_of word) }
     ensures state { visitor.new ≡ visited V.after (inst_of word) visitor.old }
 {
-    match fields::opcode(word) {
+    match bit_fields::opcode(word) {
         0 => visit_special(word, visitor),
         1 => visit_regimm(word, visitor),
         16 => visit_cop0(word, visitor),

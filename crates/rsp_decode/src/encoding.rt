@@ -6,8 +6,9 @@ ghost use Rattle.rsp_decode.specs.Table.{word_of, inst_of, canonical_of, IsInstr
 mod scalar;
 mod vector;
 
+use crate::fields::VectorFields;
 use crate::inst::Inst;
-use rsp_rows::{Control, VectorFields};
+use crate::vector::Control;
 use scalar::{
     BREAK, JUMP_LINK_REGISTER, JUMP_REGISTER, LOAD_UPPER, branch_equal_value, branch_sign_value,
     immediate_value, jump_value, load_value, move_sp_value, register_value, shift_by_value,

@@ -1,10 +1,13 @@
 // What a word of the instruction table means: a variant for each group of rows.
 
-use rsp_rows::{
-    Control, DivideRow, EqualRow, IdleRow, ImmediateRow, JumpRow, LoadRow, MoveRow, MpegRow,
-    MultiplyRow, RegisterFields, RegisterRow, RoundRow, ScalarMemoryFields, ShiftByRow, ShiftRow,
-    SignRow, StoreRow, VectorAddRow, VectorClipRow, VectorFields, VectorLoadRow, VectorLogicRow,
-    VectorMemoryFields, VectorSelectRow, VectorStoreRow,
+use crate::fields::{RegisterFields, ScalarMemoryFields, VectorFields, VectorMemoryFields};
+use crate::scalar::{
+    EqualRow, ImmediateRow, JumpRow, LoadRow, MoveRow, RegisterRow, ShiftByRow, ShiftRow, SignRow,
+    StoreRow,
+};
+use crate::vector::{
+    Control, DivideRow, IdleRow, MpegRow, MultiplyRow, RoundRow, VectorAddRow, VectorClipRow,
+    VectorLoadRow, VectorLogicRow, VectorSelectRow, VectorStoreRow,
 };
 
 /// An instruction: its row of the instruction table, and the fields that the row's text shows. Rows

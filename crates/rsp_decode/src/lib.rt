@@ -7,6 +7,7 @@
 //! instructions. [`laws`] says that no word fits two.
 #![tactic(auto)]
 
+mod bit_fields;
 mod decoding;
 mod encoding;
 mod fields;
@@ -14,16 +15,21 @@ mod inst;
 mod kept;
 pub mod laws;
 mod rows;
+mod scalar;
+mod vector;
 mod visitor;
 
 pub use decoding::{decode, is_canonical, visit};
 pub use encoding::encode;
+pub use fields::{RegisterFields, ScalarMemoryFields, VectorFields, VectorMemoryFields};
 pub use inst::Inst;
 pub use rows::{ByteElements, Operand, TableRow, table};
-pub use rsp_rows::{
-    Control, DivideRow, EqualRow, IdleRow, ImmediateRow, JumpRow, LoadRow, MoveRow, MpegRow,
-    MultiplyRow, RegisterFields, RegisterRow, RoundRow, ScalarMemoryFields, ShiftByRow, ShiftRow,
-    SignRow, StoreRow, VectorAddRow, VectorClipRow, VectorFields, VectorLoadRow, VectorLogicRow,
-    VectorMemoryFields, VectorSelectRow, VectorStoreRow,
+pub use scalar::{
+    EqualRow, ImmediateRow, JumpRow, LoadRow, MoveRow, RegisterRow, ShiftByRow, ShiftRow, SignRow,
+    StoreRow,
+};
+pub use vector::{
+    Control, DivideRow, IdleRow, MpegRow, MultiplyRow, RoundRow, VectorAddRow, VectorClipRow,
+    VectorLoadRow, VectorLogicRow, VectorSelectRow, VectorStoreRow,
 };
 pub use visitor::Visitor;

@@ -5,11 +5,11 @@ use Rattle.rsp_numbers.specs.Numbers.{s16}
 use Rattle.rsp_divide.specs.Dividers.{Division, divided, half_taken, lane_only, operand}
 use Rattle.rsp_divide.specs.Quotients.{reciprocal_of, inverse_root_of}
 use Rattle.rsp_divide.specs.declared.divider.Divider.{Divider}
-use Rattle.rsp_rows.specs.declared.vector.DivideRow.{DivideRow}
-use Rattle.rsp_rows.specs.declared.vector.DivideRow.TheVariants.{Vrcp, Vrcpl, Vrcph, Vmov, Vrsq, Vrsql, Vrsqh}
+use Rattle.rsp_divide.specs.declared.op.DivideOp.{DivideOp}
+use Rattle.rsp_divide.specs.declared.op.DivideOp.TheVariants.{Vrcp, Vrcpl, Vrcph, Vmov, Vrsq, Vrsql, Vrsqh}
 
 -- what a row does, by the divider, the source (lane e mod 8 of vt), and the lane, which is lane de of the selected vt
-abbrev pub division : DivideRow → Divider → ℕ → ℕ → Division
+abbrev pub division : DivideOp → Divider → ℕ → ℕ → Division
 division Vrcp d source lane = divided d (reciprocal_of (s16 source))
 division Vrcpl d source lane = divided d (reciprocal_of (operand d source))
 division Vrcph d source lane = half_taken d source
@@ -19,13 +19,13 @@ division Vrsql d source lane = divided d (inverse_root_of (operand d source))
 division Vrsqh d source lane = half_taken d source
 
 -- the row with the element e and the lane de
-abbrev pub division_at : DivideRow → ℕ → ℕ → List ℕ → Divider → Division
+abbrev pub division_at : DivideOp → ℕ → ℕ → List ℕ → Divider → Division
 division_at op e de vt d = division op d (slice_index vt (e % 8)) (slice_index (selected vt e) de)
 
 -- the register vd after the row, which writes lane de alone
-unfoldable pub lane_written : DivideRow → ℕ → ℕ → List ℕ → Divider → List ℕ → List ℕ
+unfoldable pub lane_written : DivideOp → ℕ → ℕ → List ℕ → Divider → List ℕ → List ℕ
 lane_written op e de vt d vd = slice_set vd de (division_at op e de vt d).lane
 
 -- the divider after the row
-unfoldable pub divider_after : DivideRow → ℕ → ℕ → List ℕ → Divider → Divider
+unfoldable pub divider_after : DivideOp → ℕ → ℕ → List ℕ → Divider → Divider
 divider_after op e de vt d = (division_at op e de vt d).divider

@@ -5,12 +5,13 @@
 mod divider;
 mod entries;
 pub mod laws;
+mod op;
 mod quotients;
 mod rows;
 mod tables;
 
 pub use divider::Divider;
 pub use entries::{rcp_entry, rsq_entry};
+pub use op::DivideOp;
 pub use quotients::{reciprocal, root};
 pub use rows::divide_op;
-pub use rsp_rows::DivideRow;

@@ -5,10 +5,10 @@ ghost use Rattle.rsp_divide.specs.Rows.{division, lane_written, divider_after};
 
 use crate::Divider;
 use crate::divider::signed;
+use crate::op::DivideOp;
 use crate::quotients::{reciprocal, root};
 use rsp_acc::Acc;
 use rsp_lanes::{VReg, select};
-use rsp_rows::DivideRow;
 
 /// Executes a divide row with the element `e`, below 16, on lane `de`, below 8, of `vd`.
 ///
@@ -17,7 +17,7 @@ use rsp_rows::DivideRow;
 #[inline(always)]
 #[tactic(auto, unfolding(crate::specs::Rows::lane_written, crate::specs::Rows::divider_after))]
 pub fn divide_op<A: Acc>(
-    op: DivideRow,
+    op: DivideOp,
     e: usize,
     de: usize,
     vt: &VReg,
@@ -39,16 +39,16 @@ pub fn divide_op<A: Acc>(
 
 /// What the row writes into its lane, by the source and the selected lane.
 #[inline(always)]
-fn division(op: DivideRow, divider: &mut Divider, source: u16, selected: u16) -> u16
+fn division(op: DivideOp, divider: &mut Divider, source: u16, selected: u16) -> u16
     ensures lane { result ≡ (division op divider.old source selected).lane }
     ensures divider { divider.new ≡ (division op divider.old source selected).divider }
 {
     match op {
-        DivideRow::Vrcp => divider.divided(reciprocal(signed(source))),
-        DivideRow::Vrcpl => divider.divided(reciprocal(divider.operand(source))),
-        DivideRow::Vrcph | DivideRow::Vrsqh => divider.load(source),
-        DivideRow::Vmov => selected,
-        DivideRow::Vrsq => divider.divided(root(signed(source))),
-        DivideRow::Vrsql => divider.divided(root(divider.operand(source))),
+        DivideOp::Vrcp => divider.divided(reciprocal(signed(source))),
+        DivideOp::Vrcpl => divider.divided(reciprocal(divider.operand(source))),
+        DivideOp::Vrcph | DivideOp::Vrsqh => divider.load(source),
+        DivideOp::Vmov => selected,
+        DivideOp::Vrsq => divider.divided(root(signed(source))),
+        DivideOp::Vrsql => divider.divided(root(divider.operand(source))),
     }
 }

@@ -5,10 +5,10 @@ use Rattle.std.specs.List.{range_with_len}
 use Rattle.std.proofs.lemmas.List.{length-set}
 use Rattle.rsp_memory.specs.Memory.{bytes_at, with_bytes}
 use Rattle.rsp_memory.proofs.PutBack.{IsElsewhere, places, bytes-back, length-with_byte, with_byte-elsewhere, elsewhere-at}
-use Rattle.rsp_rows.specs.declared.vector.VectorLoadRow.{VectorLoadRow}
-use Rattle.rsp_rows.specs.declared.vector.VectorLoadRow.TheVariants.{Lbv, Lsv, Llv, Ldv, Lqv, Lrv, Lpv, Luv, Lhv, Lfv, Ltv}
-use Rattle.rsp_rows.specs.declared.vector.VectorStoreRow.{VectorStoreRow}
-use Rattle.rsp_rows.specs.declared.vector.VectorStoreRow.TheVariants.{Sbv, Ssv, Slv, Sdv, Sqv, Srv, Spv, Suv, Shv, Sfv, Swv, Stv}
+use Rattle.rsp_decode.specs.declared.vector.VectorLoadRow.{VectorLoadRow}
+use Rattle.rsp_decode.specs.declared.vector.VectorLoadRow.TheVariants.{Lbv, Lsv, Llv, Ldv, Lqv, Lrv, Lpv, Luv, Lhv, Lfv, Ltv}
+use Rattle.rsp_decode.specs.declared.vector.VectorStoreRow.{VectorStoreRow}
+use Rattle.rsp_decode.specs.declared.vector.VectorStoreRow.TheVariants.{Sbv, Ssv, Slv, Sdv, Sqv, Srv, Spv, Suv, Shv, Sfv, Swv, Stv}
 use Rattle.rsp_loadstore.specs.File.{with_vector}
 use Rattle.rsp_loadstore.specs.Pairs.{for_each, group}
 use Rattle.rsp_loadstore.specs.Loads.{Load, to_byte, to_lane, loaded, after_load, load_pairs}

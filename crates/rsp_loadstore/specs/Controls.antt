@@ -7,9 +7,9 @@ use Rattle.rsp_lanes.specs.Lanes.{each_lane}
 use Rattle.rsp_lanes.specs.declared.flags.Flags.{Flags}
 use Rattle.rsp_decode.specs.declared.inst.Inst.{Inst}
 use Rattle.rsp_decode.specs.declared.inst.Inst.TheVariants.{MoveControl}
-use Rattle.rsp_rows.specs.declared.scalar.MoveRow.TheVariants.{From, To}
-use Rattle.rsp_rows.specs.declared.vector.Control.{Control}
-use Rattle.rsp_rows.specs.declared.vector.Control.TheVariants.{Vco, Vcc, Vce}
+use Rattle.rsp_decode.specs.declared.scalar.MoveRow.TheVariants.{From, To}
+use Rattle.rsp_decode.specs.declared.vector.Control.{Control}
+use Rattle.rsp_decode.specs.declared.vector.Control.TheVariants.{Vco, Vcc, Vce}
 
 -- the sixteen bits of VCO or of VCC: eight flags in bits 0 to 7, and eight in bits 8 to 15
 abbrev pub control_half : List Bool → List Bool → ℕ

@@ -5,7 +5,7 @@ use Rattle.rsp_numbers.specs.Numbers.{extended}
 use Rattle.rsp_lanes.specs.Lanes.{register_byte, with_register_byte}
 use Rattle.rsp_decode.specs.declared.inst.Inst.{Inst}
 use Rattle.rsp_decode.specs.declared.inst.Inst.TheVariants.{MoveVector}
-use Rattle.rsp_rows.specs.declared.scalar.MoveRow.TheVariants.{From, To}
+use Rattle.rsp_decode.specs.declared.scalar.MoveRow.TheVariants.{From, To}
 use Rattle.rsp_loadstore.specs.File.{vector, with_vector}
 
 -- the sixteen bits at bytes e and e + 1, modulo 16

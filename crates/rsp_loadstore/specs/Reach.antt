@@ -1,9 +1,9 @@
 -- Scaffolding of proofs: where a row's pairs reach, for whoever takes a step back.
 use Rattle.std.specs.Prelude.{ℕ, Bool, true, false}
-use Rattle.rsp_rows.specs.declared.vector.VectorLoadRow.{VectorLoadRow}
-use Rattle.rsp_rows.specs.declared.vector.VectorLoadRow.TheVariants.{Ltv}
-use Rattle.rsp_rows.specs.declared.vector.VectorStoreRow.{VectorStoreRow}
-use Rattle.rsp_rows.specs.declared.vector.VectorStoreRow.TheVariants.{Srv}
+use Rattle.rsp_decode.specs.declared.vector.VectorLoadRow.{VectorLoadRow}
+use Rattle.rsp_decode.specs.declared.vector.VectorLoadRow.TheVariants.{Ltv}
+use Rattle.rsp_decode.specs.declared.vector.VectorStoreRow.{VectorStoreRow}
+use Rattle.rsp_decode.specs.declared.vector.VectorStoreRow.TheVariants.{Srv}
 use Rattle.rsp_loadstore.specs.Pairs.{line, block}
 
 -- whether a row writes the eight registers of a group, and not one alone

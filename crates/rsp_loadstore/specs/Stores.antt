@@ -5,8 +5,8 @@ use Rattle.rsp_memory.specs.Memory.{with_byte}
 use Rattle.rsp_lanes.specs.Lanes.{register_byte}
 use Rattle.rsp_decode.specs.declared.inst.Inst.{Inst}
 use Rattle.rsp_decode.specs.declared.inst.Inst.TheVariants.{VectorStore}
-use Rattle.rsp_rows.specs.declared.vector.VectorStoreRow.{VectorStoreRow}
-use Rattle.rsp_rows.specs.declared.vector.VectorStoreRow.TheVariants.{Sbv, Ssv, Slv, Sdv, Sqv, Srv, Spv, Suv, Shv, Sfv, Swv, Stv}
+use Rattle.rsp_decode.specs.declared.vector.VectorStoreRow.{VectorStoreRow}
+use Rattle.rsp_decode.specs.declared.vector.VectorStoreRow.TheVariants.{Sbv, Ssv, Slv, Sdv, Sqv, Srv, Spv, Suv, Shv, Sfv, Swv, Stv}
 use Rattle.rsp_loadstore.specs.Pairs.{for_each, line, place, group, even, behind}
 use Rattle.rsp_loadstore.specs.File.{vector, bits_14_to_7}
 

@@ -2,7 +2,7 @@ ghost use Rattle.std.specs.Prelude.{◌≡◌, ◌<◌, ◌≤◌, ◌+◌, ◌-
 ghost use Rattle.rsp_lanes.specs.Bytes.{of_bytes};
 ghost use Rattle.rsp_memory.specs.Memory.{bytes_at};
 ghost use Rattle.rsp_decode.specs.Table.{IsInstruction};
-ghost use Rattle.rsp_rows.specs.declared.vector.VectorLoadRow.TheVariants.{Lhv, Lfv, Ltv};
+ghost use Rattle.rsp_decode.specs.declared.vector.VectorLoadRow.TheVariants.{Lhv, Lfv, Ltv};
 ghost use Rattle.rsp_loadstore.specs.Loads.{to_byte, to_lane, after_load, load_pairs, loaded_file, IsLoadElement};
 ghost use Rattle.rsp_loadstore.specs.Diagonal.{with_diagonal};
 ghost use Rattle.rsp_loadstore.specs.Pairs.{for_each, place};

@@ -2,7 +2,7 @@ ghost use Rattle.std.specs.Prelude.{◌≡◌, ◌<◌, ◌≤◌, ◌+◌, ◌%
 ghost use Rattle.rsp_lanes.specs.Lanes.{each_lane};
 ghost use Rattle.rsp_loadstore.specs.File.{vector};
 ghost use Rattle.rsp_decode.specs.Table.{IsInstruction};
-ghost use Rattle.rsp_rows.specs.declared.vector.VectorStoreRow.TheVariants.{Spv, Suv, Shv, Sfv, Swv, Stv};
+ghost use Rattle.rsp_decode.specs.declared.vector.VectorStoreRow.TheVariants.{Spv, Suv, Shv, Sfv, Swv, Stv};
 ghost use Rattle.rsp_loadstore.specs.Stores.{from_byte, after_store, store_pairs, stored_memory, IsStoreElement};
 ghost use Rattle.rsp_loadstore.specs.Pairs.{for_each};
 

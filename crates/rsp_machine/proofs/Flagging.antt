@@ -5,13 +5,13 @@ use Rattle.rsp_lanes.proofs.Kit.{each_same}
 use Rattle.rsp_lanes.specs.declared.flags.Flags.{Flags}
 use Rattle.rsp_lanes.specs.Flags.{LaneFlags, flags_at, all_flags}
 use Rattle.rsp_lanes.specs.Outcome.{Outcome, Rule, flags_after}
-use Rattle.rsp_rows.specs.declared.vector.VectorAddRow.{VectorAddRow}
-use Rattle.rsp_rows.specs.declared.vector.VectorAddRow.TheVariants.{Vabs}
+use Rattle.rsp_compare.specs.declared.adds.AddOp.{AddOp}
+use Rattle.rsp_compare.specs.declared.adds.AddOp.TheVariants.{Vabs}
 use Rattle.rsp_compare.specs.Adds.{add_rule}
-use Rattle.rsp_rows.specs.declared.vector.VectorSelectRow.{VectorSelectRow}
+use Rattle.rsp_compare.specs.declared.selects.SelectOp.{SelectOp}
 use Rattle.rsp_compare.specs.declared.selects.MergeOp.TheVariants.{Vmrg}
 use Rattle.rsp_compare.specs.Selects.{select_rule, merge_rule}
-use Rattle.rsp_rows.specs.declared.vector.VectorLogicRow.{VectorLogicRow}
+use Rattle.rsp_compare.specs.declared.logic.LogicOp.{LogicOp}
 use Rattle.rsp_compare.specs.Logic.{logic_rule}
 
 -- flags of eight lanes each
@@ -35,13 +35,13 @@ either false x y f p q = q
 vabs_leaves : (a b : ℕ) (f : LaneFlags) → (add_rule Vabs a b f).flags ≡ f
 vabs_leaves a b f = either _ _ _ f refl refl
 
-add_extra : (op : VectorAddRow) → LeavesExtra (add_rule op)
+add_extra : (op : AddOp) → LeavesExtra (add_rule op)
 add_extra op = elim op as (λ o. LeavesExtra (add_rule o)) [ Vabs ↦ λ a b f. ap (λ g. g.extra) (vabs_leaves a b f) | _ ↦ λ a b f. refl ]
 
-add_compare : (op : VectorAddRow) → LeavesCompare (add_rule op)
+add_compare : (op : AddOp) → LeavesCompare (add_rule op)
 add_compare op = elim op as (λ o. LeavesCompare (add_rule o)) [ Vabs ↦ λ a b f. ap (λ g. g.compare) (vabs_leaves a b f) | _ ↦ λ a b f. refl ]
 
-add_clip : (op : VectorAddRow) → LeavesClip (add_rule op)
+add_clip : (op : AddOp) → LeavesClip (add_rule op)
 add_clip op = elim op as (λ o. LeavesClip (add_rule o)) [ Vabs ↦ λ a b f. ap (λ g. g.clip) (vabs_leaves a b f) | _ ↦ λ a b f. refl ]
 
 module _ (rule : Rule) (a b : List ℕ) (f : Flags) (e : AreFlags f) where
@@ -64,15 +64,15 @@ sums f g p q r = rw (p, q, r) refl
 choices : (f g : Flags) → g.extra ≡ f.extra → record f { extra = g.extra } ≡ f
 choices f g r = rw r refl
 
-pub sum-back : (op : VectorAddRow) (a b : List ℕ) (f : Flags) → AreFlags f → record (flags_after (add_rule op) a b f) { carry = f.carry; differ = f.differ } ≡ f
+pub sum-back : (op : AddOp) (a b : List ℕ) (f : Flags) → AreFlags f → record (flags_after (add_rule op) a b f) { carry = f.carry; differ = f.differ } ≡ f
 sum-back op a b f e = sums f (flags_after (add_rule op) a b f) (compare_same _ a b f e (add_compare op)) (clip_same _ a b f e (add_clip op)) (extra_same _ a b f e (add_extra op))
 
 pub merge-back : (a b : List ℕ) (f : Flags) → AreFlags f → record (flags_after (merge_rule Vmrg) a b f) { carry = f.carry; differ = f.differ } ≡ f
 merge-back a b f e = sums f (flags_after (merge_rule Vmrg) a b f) (compare_same _ a b f e (λ a b f. refl)) (clip_same _ a b f e (λ a b f. refl)) (extra_same _ a b f e (λ a b f. refl))
 
-pub choice-back : (op : VectorSelectRow) (a b : List ℕ) (f : Flags) → AreFlags f → record f { extra = (flags_after (select_rule op) a b f).extra } ≡ f
+pub choice-back : (op : SelectOp) (a b : List ℕ) (f : Flags) → AreFlags f → record f { extra = (flags_after (select_rule op) a b f).extra } ≡ f
 choice-back op a b f e = choices f (flags_after (select_rule op) a b f) (extra_same _ a b f e (λ a b f. refl))
 
-pub logic-back : (op : VectorLogicRow) (a b : List ℕ) (f : Flags) → AreFlags f → flags_after (logic_rule op) a b f ≡ f
+pub logic-back : (op : LogicOp) (a b : List ℕ) (f : Flags) → AreFlags f → flags_after (logic_rule op) a b f ≡ f
 unfolding flags_after
 logic-back op a b f e = sym e

@@ -14,17 +14,17 @@ use Rattle.rsp_numbers.specs.Numbers.{low, s16, sixteen_bits, complement, negate
 use Rattle.rsp_acc.specs.Planes.{with_low}
 use Rattle.rsp_acc.proofs.Rejoined.{low_below}
 use Rattle.rsp_acc.proofs.Lows.{lows_back}
-use Rattle.rsp_rows.specs.declared.vector.VectorAddRow.{VectorAddRow}
-use Rattle.rsp_rows.specs.declared.vector.VectorAddRow.TheVariants.{Vadd, Vsub, Vabs, Vaddc, Vsubc}
+use Rattle.rsp_compare.specs.declared.adds.AddOp.{AddOp}
+use Rattle.rsp_compare.specs.declared.adds.AddOp.TheVariants.{Vadd, Vsub, Vabs, Vaddc, Vsubc}
 use Rattle.rsp_compare.specs.Adds.{add_rule}
-use Rattle.rsp_rows.specs.declared.vector.VectorSelectRow.{VectorSelectRow}
+use Rattle.rsp_compare.specs.declared.selects.SelectOp.{SelectOp}
 use Rattle.rsp_compare.specs.declared.selects.MergeOp.TheVariants.{Vmrg}
 use Rattle.rsp_compare.specs.Selects.{holds, select_rule, merge_rule}
-use Rattle.rsp_rows.specs.declared.vector.VectorClipRow.{VectorClipRow}
-use Rattle.rsp_rows.specs.declared.vector.VectorClipRow.TheVariants.{Vcl, Vch, Vcr}
+use Rattle.rsp_compare.specs.declared.clips.ClipOp.{ClipOp}
+use Rattle.rsp_compare.specs.declared.clips.ClipOp.TheVariants.{Vcl, Vch, Vcr}
 use Rattle.rsp_compare.specs.Clips.{signs_differ, vcl_compare, clip_rule}
-use Rattle.rsp_rows.specs.declared.vector.VectorLogicRow.{VectorLogicRow}
-use Rattle.rsp_rows.specs.declared.vector.VectorLogicRow.TheVariants.{Vand, Vnand, Vor, Vnor, Vxor, Vnxor}
+use Rattle.rsp_compare.specs.declared.logic.LogicOp.{LogicOp}
+use Rattle.rsp_compare.specs.declared.logic.LogicOp.TheVariants.{Vand, Vnand, Vor, Vnor, Vxor, Vnxor}
 use Rattle.rsp_compare.specs.Logic.{logic_rule}
 use Rattle.rsp_loadstore.specs.File.{vector, IsFile}
 use Rattle.rsp_machine.specs.State.{State}
@@ -63,7 +63,7 @@ either_whole : (c : Bool) (m n : ℕ) (f : LaneFlags) → m < 65536 → n < 6553
 either_whole c m n f h k = whole _ f (one_below c m n h k)
 
 -- the rules of the rows
-pub add_low : (op : VectorAddRow) → IsLow (add_rule op)
+pub add_low : (op : AddOp) → IsLow (add_rule op)
 add_low Vadd a b f h k = record { low = bits_below _ }
 add_low Vsub a b f h k = record { low = bits_below _ }
 add_low Vabs a b f h k =
@@ -72,13 +72,13 @@ add_low Vabs a b f h k =
 add_low Vaddc a b f h k = record { low = mod_below (a + b) 65536 (lit< tt) }
 add_low Vsubc a b f h k = record { low = bits_below _ }
 
-pub select_low : (op : VectorSelectRow) → IsLow (select_rule op)
+pub select_low : (op : SelectOp) → IsLow (select_rule op)
 select_low op a b f h k = either_whole (holds op a b f) a b _ h k
 
 pub merge_low : IsLow (merge_rule Vmrg)
 merge_low a b f h k = either_whole f.compare a b _ h k
 
-pub clip_low : (op : VectorClipRow) → IsLow (clip_rule op)
+pub clip_low : (op : ClipOp) → IsLow (clip_rule op)
 clip_low Vcl a b f h k =
     let limit : negated b < 65536 = negated_below b in
     either (f.carry && f.differ) _ _ (either_whole f.compare _ a _ limit h)
@@ -91,7 +91,7 @@ clip_low Vcr a b f h k =
     either (signs_differ a b) _ _ (either_whole (int_le (s16 a +ℤ s16 b +ℤ pos 1) (pos 0)) _ a _ (complement_below b) h)
     (either_whole (int_le (pos 0) (s16 a -ℤ s16 b)) b a _ k h)
 
-pub logic_low : (op : VectorLogicRow) → IsLow (logic_rule op)
+pub logic_low : (op : LogicOp) → IsLow (logic_rule op)
 logic_low Vand a b f h k = whole _ f (and_lt 16 a b h k)
 logic_low Vnand a b f h k = whole _ f (complement_below _)
 logic_low Vor a b f h k = whole _ f (or_lt 16 a b h k)

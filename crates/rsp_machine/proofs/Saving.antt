@@ -3,19 +3,19 @@ use Rattle.std.proofs.Common.{◌≡◌, ℕ, ℤ, ◌-◌, ◌%◌, ◌==◌, �
 use Rattle.std.specs.Prelude.{if◌then◌else◌}
 use Rattle.rsp_decode.specs.declared.inst.Inst.{Inst}
 use Rattle.rsp_decode.specs.declared.inst.Inst.TheVariants.{Shift, ShiftBy, JumpRegister, JumpLinkRegister, Break, Register, BranchSign, BranchEqual, Jump, Immediate, LoadUpper, Load, Store, MoveSp, MoveVector, MoveControl, Multiply, Round, MpegMultiply, ReadAccumulator, VectorAdd, VectorSelect, VectorClip, VectorMerge, VectorLogic, Divide, Idle, VectorLoad, VectorStore}
-use Rattle.rsp_rows.specs.declared.scalar.MoveRow.{MoveRow}
-use Rattle.rsp_rows.specs.declared.scalar.MoveRow.TheVariants.{From, To}
-use Rattle.rsp_rows.specs.declared.scalar.SignRow.{SignRow}
-use Rattle.rsp_rows.specs.declared.scalar.SignRow.TheVariants.{Bltz, Bgez, Bltzal, Bgezal, Blez, Bgtz}
-use Rattle.rsp_rows.specs.declared.scalar.JumpRow.{JumpRow}
-use Rattle.rsp_rows.specs.declared.scalar.JumpRow.TheVariants.{J, Jal}
+use Rattle.rsp_decode.specs.declared.scalar.MoveRow.{MoveRow}
+use Rattle.rsp_decode.specs.declared.scalar.MoveRow.TheVariants.{From, To}
+use Rattle.rsp_decode.specs.declared.scalar.SignRow.{SignRow}
+use Rattle.rsp_decode.specs.declared.scalar.SignRow.TheVariants.{Bltz, Bgez, Bltzal, Bgezal, Blez, Bgtz}
+use Rattle.rsp_decode.specs.declared.scalar.JumpRow.{JumpRow}
+use Rattle.rsp_decode.specs.declared.scalar.JumpRow.TheVariants.{J, Jal}
 use Rattle.rsp_lanes.specs.declared.flags.Flags.{Flags}
 use Rattle.rsp_divide.specs.declared.divider.Divider.{Divider}
 use Rattle.rsp_memory.specs.Memory.{word_at, bytes_at, with_bytes}
 use Rattle.rsp_scalar.specs.Registers.{register, with_register}
 use Rattle.rsp_scalar.specs.Rows.{address}
 use Rattle.rsp_scalar.specs.Flow.{linked, going_on}
-use Rattle.rsp_rows.specs.declared.vector.Control.{Control}
+use Rattle.rsp_decode.specs.declared.vector.Control.{Control}
 use Rattle.rsp_decode.specs.Table.{inst_of}
 use Rattle.rsp_acc.specs.Planes.{with_low}
 use Rattle.rsp_loadstore.specs.File.{vector, with_vector}
@@ -27,6 +27,7 @@ use Rattle.rsp_loadstore.specs.Moves.{moved_file}
 use Rattle.rsp_loadstore.proofs.Reach.{stored-back}
 use Rattle.rsp_regs.specs.Sp.{Sp, after_step, after_read, written}
 use Rattle.rsp_machine.specs.State.{State, advanced}
+use Rattle.rsp_machine.specs.Operations.{add_op, select_op, clip_op, logic_op}
 use Rattle.rsp_machine.specs.Vector.{multiplies, rounds, multiplies_mpeg, reads_accumulator, ruled, divides, loads_vector, stores_vector, moves_vector, moves_control}
 use Rattle.rsp_machine.specs.Step.{computes, loads, stores, jumps, break_instruction, moves_sp, worked, executed, singled, step_by, step_of}
 use Rattle.rsp_machine.specs.Host.{register_written}
@@ -240,11 +241,11 @@ saved_back (Multiply row f) s r e h k o = product_saved f.vd _ _ s r (told s o) 
 saved_back (Round row f) s r e h k o = product_saved f.vd _ _ s r (told s o) h
 saved_back (MpegMultiply row f) s r e h k o = product_saved f.vd _ _ s r (told s o) h
 saved_back (ReadAccumulator f) s r e h k o = vector_saved f.vd _ s r (told s o) h
-saved_back (VectorAdd row f) s r e h k o = sum_saved f.vd _ _ _ s r (told s o) h (rule-back _ (add_low row) s r.accumulators f.vs f.vt f.element k) (sum-back row _ _ s.flags k.flags)
-saved_back (VectorSelect row f) s r e h k o = choice_saved f.vd _ _ _ s r (told s o) h (rule-back _ (select_low row) s r.accumulators f.vs f.vt f.element k) (choice-back row _ _ s.flags k.flags)
-saved_back (VectorClip row f) s r e h k o = clip_saved f.vd _ _ _ s r (told s o) h (rule-back _ (clip_low row) s r.accumulators f.vs f.vt f.element k)
+saved_back (VectorAdd row f) s r e h k o = sum_saved f.vd _ _ _ s r (told s o) h (rule-back _ (add_low (add_op row)) s r.accumulators f.vs f.vt f.element k) (sum-back (add_op row) _ _ s.flags k.flags)
+saved_back (VectorSelect row f) s r e h k o = choice_saved f.vd _ _ _ s r (told s o) h (rule-back _ (select_low (select_op row)) s r.accumulators f.vs f.vt f.element k) (choice-back (select_op row) _ _ s.flags k.flags)
+saved_back (VectorClip row f) s r e h k o = clip_saved f.vd _ _ _ s r (told s o) h (rule-back _ (clip_low (clip_op row)) s r.accumulators f.vs f.vt f.element k)
 saved_back (VectorMerge f) s r e h k o = sum_saved f.vd _ _ _ s r (told s o) h (rule-back _ merge_low s r.accumulators f.vs f.vt f.element k) (merge-back _ _ s.flags k.flags)
-saved_back (VectorLogic row f) s r e h k o = logic_saved f.vd _ _ _ s r (told s o) h (rule-back _ (logic_low row) s r.accumulators f.vs f.vt f.element k) (logic-back row _ _ s.flags k.flags)
+saved_back (VectorLogic row f) s r e h k o = logic_saved f.vd _ _ _ s r (told s o) h (rule-back _ (logic_low (logic_op row)) s r.accumulators f.vs f.vt f.element k) (logic-back (logic_op row) _ _ s.flags k.flags)
 saved_back (Divide row vd lane vt n) s r e h k o = divide_saved vd _ _ _ s r (told s o) h (divide-back s r.accumulators vt n k)
 saved_back (Idle row) s r e h k o = places_saved _ s r h
 saved_back (VectorLoad row f) s r e h k o =

@@ -6,8 +6,8 @@ use Rattle.rsp_memory.specs.Memory.{with_byte, with_half, with_word, bytes_at, w
 use Rattle.rsp_memory.proofs.PutBack.{bytes-back, length-with_byte, with_byte-elsewhere, elsewhere-at}
 use Rattle.rsp_scalar.specs.Registers.{register, with_register}
 use Rattle.rsp_scalar.specs.Rows.{store_result}
-use Rattle.rsp_rows.specs.declared.scalar.StoreRow.{StoreRow}
-use Rattle.rsp_rows.specs.declared.scalar.StoreRow.TheVariants.{Sb, Sh, Sw}
+use Rattle.rsp_decode.specs.declared.scalar.StoreRow.{StoreRow}
+use Rattle.rsp_decode.specs.declared.scalar.StoreRow.TheVariants.{Sb, Sh, Sw}
 use Rattle.rsp_loadstore.specs.File.{vector, with_vector}
 
 -- a scalar or a vector register

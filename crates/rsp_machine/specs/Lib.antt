@@ -1,5 +1,6 @@
 -- The machine: its state, one step, and what the host does with it.
 pub mod State
+pub mod Operations
 pub mod Vector
 pub mod Host
 pub mod Step

@@ -2,13 +2,13 @@
 use Rattle.std.specs.Prelude.{ℕ, ℤ, pos, ◌+◌, ◌-◌, ◌%◌, ◌==◌, ◌||◌, Bool, true, false, not, if◌then◌else◌, List, [], ◌∷◌, Option, Some, None, replicate, slice_index_or}
 use Rattle.rsp_decode.specs.declared.inst.Inst.{Inst}
 use Rattle.rsp_decode.specs.declared.inst.Inst.TheVariants.{Shift, ShiftBy, JumpRegister, JumpLinkRegister, Break, Register, BranchSign, BranchEqual, Jump, Immediate, LoadUpper, Load, Store, MoveSp, MoveVector, MoveControl, Multiply, Round, MpegMultiply, ReadAccumulator, VectorAdd, VectorSelect, VectorClip, VectorMerge, VectorLogic, Divide, Idle, VectorLoad, VectorStore}
-use Rattle.rsp_rows.specs.declared.scalar.MoveRow.{MoveRow}
-use Rattle.rsp_rows.specs.declared.scalar.MoveRow.TheVariants.{From, To}
-use Rattle.rsp_rows.specs.declared.scalar.SignRow.{SignRow}
-use Rattle.rsp_rows.specs.declared.scalar.SignRow.TheVariants.{Bltzal, Bgezal}
-use Rattle.rsp_rows.specs.declared.scalar.JumpRow.{JumpRow}
-use Rattle.rsp_rows.specs.declared.scalar.JumpRow.TheVariants.{Jal}
-use Rattle.rsp_rows.specs.declared.vector.VectorLoadRow.{VectorLoadRow}
+use Rattle.rsp_decode.specs.declared.scalar.MoveRow.{MoveRow}
+use Rattle.rsp_decode.specs.declared.scalar.MoveRow.TheVariants.{From, To}
+use Rattle.rsp_decode.specs.declared.scalar.SignRow.{SignRow}
+use Rattle.rsp_decode.specs.declared.scalar.SignRow.TheVariants.{Bltzal, Bgezal}
+use Rattle.rsp_decode.specs.declared.scalar.JumpRow.{JumpRow}
+use Rattle.rsp_decode.specs.declared.scalar.JumpRow.TheVariants.{Jal}
+use Rattle.rsp_decode.specs.declared.vector.VectorLoadRow.{VectorLoadRow}
 use Rattle.rsp_decode.specs.Table.{inst_of}
 use Rattle.rsp_lanes.specs.Lanes.{each_lane}
 use Rattle.rsp_lanes.specs.declared.flags.Flags.{Flags}

@@ -3,8 +3,8 @@
 use Rattle.std.specs.Prelude.{ℕ, Option, Some, None, if◌then◌else◌}
 use Rattle.rsp_decode.specs.declared.inst.Inst.{Inst}
 use Rattle.rsp_decode.specs.declared.inst.Inst.TheVariants.{Shift, ShiftBy, JumpRegister, JumpLinkRegister, Break, Register, BranchSign, BranchEqual, Jump, Immediate, LoadUpper, Load, Store, MoveSp, MoveVector, MoveControl, Multiply, Round, MpegMultiply, ReadAccumulator, VectorAdd, VectorSelect, VectorClip, VectorMerge, VectorLogic, Divide, Idle, VectorLoad, VectorStore}
-use Rattle.rsp_rows.specs.declared.scalar.MoveRow.{MoveRow}
-use Rattle.rsp_rows.specs.declared.scalar.MoveRow.TheVariants.{From, To}
+use Rattle.rsp_decode.specs.declared.scalar.MoveRow.{MoveRow}
+use Rattle.rsp_decode.specs.declared.scalar.MoveRow.TheVariants.{From, To}
 use Rattle.rsp_decode.specs.Table.{inst_of}
 use Rattle.rsp_memory.specs.Memory.{word_at}
 use Rattle.rsp_scalar.specs.Registers.{register, with_register}
@@ -17,6 +17,7 @@ use Rattle.rsp_compare.specs.Logic.{logic_rule}
 use Rattle.rsp_compare.specs.declared.selects.MergeOp.TheVariants.{Vmrg}
 use Rattle.rsp_compare.specs.Clips.{clip_rule}
 use Rattle.rsp_machine.specs.State.{State, advanced}
+use Rattle.rsp_machine.specs.Operations.{add_op, select_op, clip_op, logic_op}
 use Rattle.rsp_machine.specs.Vector.{multiplies, rounds, multiplies_mpeg, reads_accumulator, ruled, divides, loads_vector, stores_vector, moves_vector, moves_control}
 use Rattle.rsp_machine.specs.Host.{register_read, register_written}
 use Rattle.rsp_machine.specs.declared.step.StepEnd.{StepEnd}
@@ -72,11 +73,11 @@ worked (Multiply row f) s = multiplies row f s
 worked (Round row f) s = rounds row f s
 worked (MpegMultiply row f) s = multiplies_mpeg row f s
 worked (ReadAccumulator f) s = reads_accumulator f s
-worked (VectorAdd row f) s = ruled (add_rule row) f s
-worked (VectorSelect row f) s = ruled (select_rule row) f s
-worked (VectorClip row f) s = ruled (clip_rule row) f s
+worked (VectorAdd row f) s = ruled (add_rule (add_op row)) f s
+worked (VectorSelect row f) s = ruled (select_rule (select_op row)) f s
+worked (VectorClip row f) s = ruled (clip_rule (clip_op row)) f s
 worked (VectorMerge f) s = ruled (merge_rule Vmrg) f s
-worked (VectorLogic row f) s = ruled (logic_rule row) f s
+worked (VectorLogic row f) s = ruled (logic_rule (logic_op row)) f s
 worked (Divide row vd lane vt e) s = divides row vd lane vt e s
 worked (Idle row) s = s
 worked (VectorLoad row f) s = loads_vector row f s

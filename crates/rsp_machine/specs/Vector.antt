@@ -2,16 +2,16 @@
 use Rattle.std.specs.Prelude.{ℕ, ◌%◌, ◌==◌}
 use Rattle.rsp_decode.specs.declared.inst.Inst.{Inst}
 use Rattle.rsp_decode.specs.declared.inst.Inst.TheVariants.{VectorLoad, VectorStore}
-use Rattle.rsp_rows.specs.declared.scalar.MoveRow.{MoveRow}
-use Rattle.rsp_rows.specs.declared.scalar.MoveRow.TheVariants.{From, To}
-use Rattle.rsp_rows.specs.declared.vector.MultiplyRow.{MultiplyRow}
-use Rattle.rsp_rows.specs.declared.vector.RoundRow.{RoundRow}
-use Rattle.rsp_rows.specs.declared.vector.MpegRow.{MpegRow}
-use Rattle.rsp_rows.specs.declared.vector.DivideRow.{DivideRow}
-use Rattle.rsp_rows.specs.declared.vector.VectorLoadRow.{VectorLoadRow}
-use Rattle.rsp_rows.specs.declared.vector.VectorStoreRow.{VectorStoreRow}
-use Rattle.rsp_rows.specs.declared.fields.VectorFields.{VectorFields}
-use Rattle.rsp_rows.specs.declared.fields.VectorMemoryFields.{VectorMemoryFields}
+use Rattle.rsp_decode.specs.declared.scalar.MoveRow.{MoveRow}
+use Rattle.rsp_decode.specs.declared.scalar.MoveRow.TheVariants.{From, To}
+use Rattle.rsp_decode.specs.declared.vector.MultiplyRow.{MultiplyRow}
+use Rattle.rsp_decode.specs.declared.vector.RoundRow.{RoundRow}
+use Rattle.rsp_decode.specs.declared.vector.MpegRow.{MpegRow}
+use Rattle.rsp_decode.specs.declared.vector.DivideRow.{DivideRow}
+use Rattle.rsp_decode.specs.declared.vector.VectorLoadRow.{VectorLoadRow}
+use Rattle.rsp_decode.specs.declared.vector.VectorStoreRow.{VectorStoreRow}
+use Rattle.rsp_decode.specs.declared.fields.VectorFields.{VectorFields}
+use Rattle.rsp_decode.specs.declared.fields.VectorMemoryFields.{VectorMemoryFields}
 use Rattle.rsp_lanes.specs.Lanes.{selected}
 use Rattle.rsp_lanes.specs.Outcome.{Rule, results_of, lows_of, flags_after}
 use Rattle.rsp_acc.specs.Planes.{with_low}
@@ -26,24 +26,25 @@ use Rattle.rsp_loadstore.specs.Stores.{stored_memory}
 use Rattle.rsp_loadstore.specs.Moves.{moved_file, moved_value}
 use Rattle.rsp_loadstore.specs.Controls.{controlled_flags, control_value}
 use Rattle.rsp_machine.specs.State.{State}
+use Rattle.rsp_machine.specs.Operations.{multiply_op, round_op, mpeg_op, divide_op}
 
 -- a multiply of vs and the selected vt: the accumulators after it, and in vd their clamp
 unfoldable pub multiplies : MultiplyRow → VectorFields → State → State
 multiplies row f s =
-    let after = accumulators_after row (vector s.vectors f.vs) (selected (vector s.vectors f.vt) f.element) s.accumulators in
-    record s { accumulators = after; vectors = with_vector s.vectors f.vd (clamped_by row after) }
+    let after = accumulators_after (multiply_op row) (vector s.vectors f.vs) (selected (vector s.vectors f.vt) f.element) s.accumulators in
+    record s { accumulators = after; vectors = with_vector s.vectors f.vd (clamped_by (multiply_op row) after) }
 
 -- a rounding of the accumulators by the selected vt, of which 65536 times as much counts where the number vs is odd: the
 -- accumulators after it, and in vd their signed clamp
 unfoldable pub rounds : RoundRow → VectorFields → State → State
 rounds row f s =
-    let after = accumulators_rounded row (f.vs % 2 == 1) (selected (vector s.vectors f.vt) f.element) s.accumulators in
+    let after = accumulators_rounded (round_op row) (f.vs % 2 == 1) (selected (vector s.vectors f.vt) f.element) s.accumulators in
     record s { accumulators = after; vectors = with_vector s.vectors f.vd (clamped_signed after) }
 
 -- an MPEG multiply of vs and the selected vt: the accumulators after it, and in vd their halves
 unfoldable pub multiplies_mpeg : MpegRow → VectorFields → State → State
 multiplies_mpeg row f s =
-    let after = accumulators_mpeg row (vector s.vectors f.vs) (selected (vector s.vectors f.vt) f.element) s.accumulators in
+    let after = accumulators_mpeg (mpeg_op row) (vector s.vectors f.vs) (selected (vector s.vectors f.vt) f.element) s.accumulators in
     record s { accumulators = after; vectors = with_vector s.vectors f.vd (halved_mpeg after) }
 
 -- VSAR: sixteen bits of each accumulator into vd, as the element selects them
@@ -66,8 +67,8 @@ unfoldable pub divides : DivideRow → ℕ → ℕ → ℕ → ℕ → State →
 divides row vd lane vt e s =
     let source = vector s.vectors vt in
     record s {
-      vectors = with_vector s.vectors vd (lane_written row e lane source s.divider (vector s.vectors vd));
-      divider = divider_after row e lane source s.divider;
+      vectors = with_vector s.vectors vd (lane_written (divide_op row) e lane source s.divider (vector s.vectors vd));
+      divider = divider_after (divide_op row) e lane source s.divider;
       accumulators = with_low s.accumulators (selected source e);
     }
 

@@ -2,7 +2,7 @@
 
 ghost use Rattle.std.specs.Prelude.{◌≡◌, ◌<◌, option_map, unwrap_or};
 ghost use Rattle.rsp_decode.specs.Table.{IsInstruction, inst_of};
-ghost use Rattle.rsp_rows.specs.declared.scalar.MoveRow.TheVariants as row;
+ghost use Rattle.rsp_decode.specs.declared.scalar.MoveRow.TheVariants as row;
 ghost use Rattle.rsp_scalar.specs.Flow.{following, linked};
 ghost use Rattle.rsp_machine.specs.Step.{computes, loads, stores, break_instruction, moves_sp, worked, executed};
 ghost use Rattle.rsp_machine.specs.Places.{at_places, places_of};
@@ -11,6 +11,7 @@ ghost use Rattle.rsp_machine.specs.Changes.{IsChange, reaches_sp};
 
 use crate::change::{Change, change_of};
 use crate::machine::Machine;
+use crate::operation;
 use crate::place::{Place, Places};
 use crate::saver::Saver;
 use rsp_acc::Acc;
@@ -176,11 +177,17 @@ impl<A: Acc> Machine<A> {
             Inst::Round { row, fields } => self.round_lanes(row, fields),
             Inst::MpegMultiply { row, fields } => self.multiply_mpeg(row, fields),
             Inst::ReadAccumulator { fields } => self.read_part(fields),
-            Inst::VectorAdd { row, fields } => self.compute_lanes(row, fields),
-            Inst::VectorSelect { row, fields } => self.compute_lanes(row, fields),
-            Inst::VectorClip { row, fields } => self.compute_lanes(row, fields),
+            Inst::VectorAdd { row, fields } => self.compute_lanes(operation::add_op(row), fields),
+            Inst::VectorSelect { row, fields } => self.compute_lanes(
+                operation::select_op(row),
+                fields,
+            ),
+            Inst::VectorClip { row, fields } => self.compute_lanes(operation::clip_op(row), fields),
             Inst::VectorMerge { fields } => self.compute_lanes(MergeOp::Vmrg, fields),
-            Inst::VectorLogic { row, fields } => self.compute_lanes(row, fields),
+            Inst::VectorLogic { row, fields } => self.compute_lanes(
+                operation::logic_op(row),
+                fields,
+            ),
             Inst::Divide {
                 row,
                 vd,

@@ -5,8 +5,7 @@ ghost use Rattle.rsp_lanes.specs.Outcome.{Rule, results_of, lows_of, flags_after
 ghost use Rattle.rsp_acc.specs.Planes.{with_low};
 
 use rsp_acc::Acc;
-use rsp_compare::MergeOp;
-use rsp_decode::{VectorAddRow, VectorClipRow, VectorLogicRow, VectorSelectRow};
+use rsp_compare::{AddOp, ClipOp, LogicOp, MergeOp, SelectOp};
 use rsp_lanes::{Flags, VReg};
 
 /// An operation that does its rule for one lane on every lane.
@@ -21,7 +20,7 @@ pub(crate) trait LaneOp {
         ensures accumulator { A.numbers acc.new ≡ with_low (A.numbers acc.old) (lows_of (rule self) a.now b.now flags.old) };
 }
 
-impl LaneOp for VectorAddRow {
+impl LaneOp for AddOp {
     ghost use Rattle.rsp_compare.specs.Adds.{add_rule};
 
     ghost rule = { add_rule };
@@ -32,7 +31,7 @@ impl LaneOp for VectorAddRow {
     }
 }
 
-impl LaneOp for VectorSelectRow {
+impl LaneOp for SelectOp {
     ghost use Rattle.rsp_compare.specs.Selects.{select_rule};
 
     ghost rule = { select_rule };
@@ -43,7 +42,7 @@ impl LaneOp for VectorSelectRow {
     }
 }
 
-impl LaneOp for VectorClipRow {
+impl LaneOp for ClipOp {
     ghost use Rattle.rsp_compare.specs.Clips.{clip_rule};
 
     ghost rule = { clip_rule };
@@ -65,7 +64,7 @@ impl LaneOp for MergeOp {
     }
 }
 
-impl LaneOp for VectorLogicRow {
+impl LaneOp for LogicOp {
     ghost use Rattle.rsp_compare.specs.Logic.{logic_rule};
 
     ghost rule = { logic_rule };

@@ -12,6 +12,7 @@ mod host;
 mod lanes;
 pub mod laws;
 mod machine;
+mod operation;
 mod pass;
 mod place;
 mod record;

@@ -7,6 +7,7 @@ ghost use Rattle.rsp_machine.specs.Vector.{multiplies, rounds, multiplies_mpeg, 
 
 use crate::lanes::LaneOp;
 use crate::machine::Machine;
+use crate::operation;
 use rsp_acc::Acc;
 use rsp_decode::{
     DivideRow, Inst, MoveRow, MpegRow, MultiplyRow, RoundRow, VectorFields, VectorLoadRow,
@@ -35,7 +36,7 @@ impl<A: Acc> Machine<A> {
     {
         let a = self.vregs.reg(fields.vs);
         let b = self.selected(fields);
-        let result = rsp_multiply::multiply(row, &a, &b, &mut self.acc);
+        let result = rsp_multiply::multiply(operation::multiply_op(row), &a, &b, &mut self.acc);
         self.vregs.set_reg(fields.vd, result);
     }
 
@@ -48,7 +49,7 @@ impl<A: Acc> Machine<A> {
     {
         let b = self.selected(fields);
         let odd = fields.vs % 2 == 1;
-        let result = rsp_multiply::round_op(row, odd, &b, &mut self.acc);
+        let result = rsp_multiply::round_op(operation::round_op(row), odd, &b, &mut self.acc);
         self.vregs.set_reg(fields.vd, result);
     }
 
@@ -61,7 +62,7 @@ impl<A: Acc> Machine<A> {
     {
         let a = self.vregs.reg(fields.vs);
         let b = self.selected(fields);
-        let result = rsp_multiply::mpeg_op(row, &a, &b, &mut self.acc);
+        let result = rsp_multiply::mpeg_op(operation::mpeg_op(row), &a, &b, &mut self.acc);
         self.vregs.set_reg(fields.vd, result);
     }
 
@@ -99,7 +100,7 @@ impl<A: Acc> Machine<A> {
         let source = self.vregs.reg(vt);
         let mut register = self.vregs.reg(vd);
         rsp_divide::divide_op(
-            row,
+            operation::divide_op(row),
             usize::from(element),
             usize::from(lane),
             &source,

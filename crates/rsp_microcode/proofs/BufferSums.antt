@@ -3,9 +3,9 @@ use Rattle.std.proofs.Common.{◌≡◌, ℕ, ◌+◌, ◌*◌, ◌%◌, ◌^◌
 use Rattle.std.specs.Prelude.{nat_lt, ◌==◌}
 use Rattle.std.proofs.lemmas.Bool.{cases_lt, lt-ltb, le-ltb, eq-eqb, ne_eqb}
 use Rattle.rsp_decode.specs.declared.inst.Inst.TheVariants.{VectorAdd, Immediate, BranchEqual}
-use Rattle.rsp_rows.specs.declared.vector.VectorAddRow.TheVariants.{Vadd}
-use Rattle.rsp_rows.specs.declared.scalar.ImmediateRow.TheVariants.{Addiu}
-use Rattle.rsp_rows.specs.declared.scalar.EqualRow.TheVariants.{Bne}
+use Rattle.rsp_decode.specs.declared.vector.VectorAddRow.TheVariants.{Vadd}
+use Rattle.rsp_decode.specs.declared.scalar.ImmediateRow.TheVariants.{Addiu}
+use Rattle.rsp_decode.specs.declared.scalar.EqualRow.TheVariants.{Bne}
 use Rattle.rsp_decode.specs.Table.Words.{inst_of, row_of}
 use Rattle.rsp_lanes.specs.Lanes.{each_lane}
 use Rattle.rsp_lanes.specs.Outcome.{flags_after}

@@ -4,7 +4,7 @@ use Rattle.std.proofs.lemmas.Bool.{and_parts}
 use Rattle.std.proofs.lemmas.List.{length-map}
 use Rattle.rsp_decode.specs.declared.inst.Inst.{Inst}
 use Rattle.rsp_decode.specs.declared.inst.Inst.TheVariants.{JumpRegister, Jump}
-use Rattle.rsp_rows.specs.declared.scalar.JumpRow.TheVariants.{Jal}
+use Rattle.rsp_decode.specs.declared.scalar.JumpRow.TheVariants.{Jal}
 use Rattle.rsp_decode.specs.Table.Words.{inst_of}
 use Rattle.rsp_multiply.specs.Laws.{SumsOfProducts}
 use Rattle.rsp_scalar.specs.Registers.{register, with_register}

@@ -1,9 +1,9 @@
 -- A row of bytes from RDRAM.
 use Rattle.std.proofs.Common.{◌≡◌, ℕ, ◌+◌, List, [], ◌∷◌, ◌++◌, length, map, Some, refl, ap, sym, subst, ◌∙◌, arith}
 use Rattle.rsp_decode.specs.declared.inst.Inst.TheVariants.{MoveSp, Shift, BranchEqual}
-use Rattle.rsp_rows.specs.declared.scalar.EqualRow.TheVariants.{Bne}
-use Rattle.rsp_rows.specs.declared.scalar.MoveRow.TheVariants.{From}
-use Rattle.rsp_rows.specs.declared.scalar.ShiftRow.TheVariants.{Sll}
+use Rattle.rsp_decode.specs.declared.scalar.EqualRow.TheVariants.{Bne}
+use Rattle.rsp_decode.specs.declared.scalar.MoveRow.TheVariants.{From}
+use Rattle.rsp_decode.specs.declared.scalar.ShiftRow.TheVariants.{Sll}
 use Rattle.rsp_decode.specs.Table.Words.{inst_of, row_of}
 use Rattle.rsp_memory.specs.Memory.{byte_at}
 use Rattle.rsp_multiply.specs.Laws.{SumsOfProducts}

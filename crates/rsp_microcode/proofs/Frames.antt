@@ -5,10 +5,10 @@ use Rattle.std.proofs.lemmas.Bool.{and_parts, ltb-true, leb-true, le-leb, cases_
 use Rattle.std.proofs.lemmas.Bool.Decides.{nat_tests}
 use Rattle.rsp_decode.specs.declared.inst.Inst.{Inst}
 use Rattle.rsp_decode.specs.declared.inst.Inst.TheVariants.{Break, MoveSp, Shift, ShiftBy, Register, Immediate, LoadUpper, Load, JumpLinkRegister, BranchSign, Jump, MoveVector, MoveControl, Multiply, Round, MpegMultiply, ReadAccumulator, VectorAdd, VectorSelect, VectorClip, VectorMerge, VectorLogic, Divide, VectorLoad}
-use Rattle.rsp_rows.specs.declared.vector.VectorLoadRow.TheVariants.{Lbv, Lsv, Llv, Ldv, Lqv, Lrv, Lpv, Luv, Lhv, Lfv, Ltv}
-use Rattle.rsp_rows.specs.declared.scalar.MoveRow.TheVariants.{From, To}
-use Rattle.rsp_rows.specs.declared.scalar.JumpRow.TheVariants.{J, Jal}
-use Rattle.rsp_rows.specs.declared.scalar.SignRow.TheVariants.{Bltz, Bgez, Bltzal, Bgezal, Blez, Bgtz}
+use Rattle.rsp_decode.specs.declared.vector.VectorLoadRow.TheVariants.{Lbv, Lsv, Llv, Ldv, Lqv, Lrv, Lpv, Luv, Lhv, Lfv, Ltv}
+use Rattle.rsp_decode.specs.declared.scalar.MoveRow.TheVariants.{From, To}
+use Rattle.rsp_decode.specs.declared.scalar.JumpRow.TheVariants.{J, Jal}
+use Rattle.rsp_decode.specs.declared.scalar.SignRow.TheVariants.{Bltz, Bgez, Bltzal, Bgezal, Blez, Bgtz}
 use Rattle.std.proofs.lemmas.List.{get_or-set_other}
 use Rattle.rsp_scalar.specs.Registers.{register, with_register}
 use Rattle.rsp_loadstore.specs.File.{vector, with_vector}

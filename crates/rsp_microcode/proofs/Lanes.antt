@@ -3,8 +3,8 @@ use Rattle.std.proofs.Common.{◌≡◌, ℕ, ◌+◌, ◌-◌, ◌*◌, ◌/◌
 use Rattle.std.specs.Prelude.{if◌then◌else◌, ◌&&◌}
 use Rattle.std.proofs.lemmas.Bool.Decides.{nat_tests}
 use Rattle.rsp_memory.specs.Memory.{byte_at, bytes_at, half_at, with_bytes, with_byte, with_half}
-use Rattle.rsp_rows.specs.declared.vector.VectorLoadRow.TheVariants.{Lqv}
-use Rattle.rsp_rows.specs.declared.vector.VectorStoreRow.TheVariants.{Sqv}
+use Rattle.rsp_decode.specs.declared.vector.VectorLoadRow.TheVariants.{Lqv}
+use Rattle.rsp_decode.specs.declared.vector.VectorStoreRow.TheVariants.{Sqv}
 use Rattle.rsp_lanes.specs.Lanes.{register_byte}
 use Rattle.rsp_lanes.specs.Bytes.{each_byte, of_bytes, with_register_bytes}
 use Rattle.rsp_lanes.proofs.Kit.{each_same, eight}

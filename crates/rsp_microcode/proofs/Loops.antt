@@ -8,7 +8,7 @@ use Rattle.std.proofs.lemmas.Bool.Decides.{nat_tests}
 use Rattle.rsp_numbers.specs.Numbers.{s16}
 use Rattle.rsp_decode.specs.declared.inst.Inst.{Inst}
 use Rattle.rsp_decode.specs.declared.inst.Inst.TheVariants.{BranchSign, BranchEqual}
-use Rattle.rsp_rows.specs.declared.scalar.SignRow.TheVariants.{Bltz, Bgez, Blez, Bgtz}
+use Rattle.rsp_decode.specs.declared.scalar.SignRow.TheVariants.{Bltz, Bgez, Blez, Bgtz}
 use Rattle.rsp_decode.specs.Table.Words.{inst_of}
 use Rattle.rsp_multiply.proofs.Signs.{s16_large}
 use Rattle.rsp_multiply.specs.Laws.{SumsOfProducts}

@@ -5,9 +5,9 @@ use Rattle.std.proofs.lemmas.Bool.{cases_lt, lt-ltb, le-ltb}
 use Rattle.rsp_numbers.specs.Numbers.{s32}
 use Rattle.rsp_numbers.proofs.Signed.{s32_small}
 use Rattle.rsp_decode.specs.declared.inst.Inst.TheVariants.{Immediate, BranchSign}
-use Rattle.rsp_rows.specs.declared.vector.MultiplyRow.TheVariants.{Vmulf, Vmacf}
-use Rattle.rsp_rows.specs.declared.scalar.ImmediateRow.TheVariants.{Addiu}
-use Rattle.rsp_rows.specs.declared.scalar.SignRow.TheVariants.{Bgtz}
+use Rattle.rsp_decode.specs.declared.vector.MultiplyRow.TheVariants.{Vmulf, Vmacf}
+use Rattle.rsp_decode.specs.declared.scalar.ImmediateRow.TheVariants.{Addiu}
+use Rattle.rsp_decode.specs.declared.scalar.SignRow.TheVariants.{Bgtz}
 use Rattle.rsp_decode.specs.Table.Words.{inst_of, row_of}
 use Rattle.rsp_multiply.specs.Laws.{SumsOfProducts}
 use Rattle.rsp_scalar.specs.Registers.{register}

@@ -5,7 +5,7 @@ use Rattle.std.proofs.lemmas.Int.{ints}
 use Rattle.rsp_numbers.specs.Numbers.{s48}
 use Rattle.rsp_numbers.proofs.Wrap.{s48_is}
 use Rattle.rsp_decode.specs.Table.Words.{inst_of, row_of}
-use Rattle.rsp_rows.specs.declared.vector.MultiplyRow.TheVariants.{Vmudl, Vmudh, Vmadm, Vmadn, Vmadh}
+use Rattle.rsp_decode.specs.declared.vector.MultiplyRow.TheVariants.{Vmudl, Vmudh, Vmadm, Vmadn, Vmadh}
 use Rattle.rsp_lanes.specs.Lanes.{each_lane, selected, IsVector}
 use Rattle.rsp_lanes.proofs.Kit.{lane_of}
 use Rattle.rsp_multiply.specs.Laws.{SumsOfProducts}

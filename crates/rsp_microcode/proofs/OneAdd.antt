@@ -4,7 +4,7 @@ use Rattle.std.proofs.Math.IntN.{+ℤ_idr}
 use Rattle.rsp_numbers.specs.Numbers.{sixteen_bits, clamp16}
 use Rattle.rsp_decode.specs.declared.inst.Inst.{Inst}
 use Rattle.rsp_decode.specs.declared.inst.Inst.TheVariants.{VectorAdd}
-use Rattle.rsp_rows.specs.declared.vector.VectorAddRow.TheVariants.{Vadd}
+use Rattle.rsp_decode.specs.declared.vector.VectorAddRow.TheVariants.{Vadd}
 use Rattle.rsp_decode.specs.Table.Words.{inst_of, row_of}
 use Rattle.rsp_lanes.specs.Lanes.{each_lane, selected}
 use Rattle.rsp_lanes.proofs.Kit.{lane_of, each_same}

@@ -2,7 +2,7 @@
 use Rattle.std.proofs.Common.{◌≡◌, ℕ, List, [], ◌∷◌, map, Some, get_or, false, refl, ap, sym, ◌∙◌, arith}
 use Rattle.rsp_decode.specs.declared.inst.Inst.{Inst}
 use Rattle.rsp_decode.specs.declared.inst.Inst.TheVariants.{VectorAdd}
-use Rattle.rsp_rows.specs.declared.vector.VectorAddRow.TheVariants.{Vsub}
+use Rattle.rsp_decode.specs.declared.vector.VectorAddRow.TheVariants.{Vsub}
 use Rattle.rsp_decode.specs.Table.Words.{inst_of, row_of}
 use Rattle.rsp_memory.specs.Memory.{word_at, byte_at}
 use Rattle.rsp_lanes.specs.Lanes.{each_lane}

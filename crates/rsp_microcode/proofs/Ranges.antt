@@ -6,17 +6,17 @@ use Rattle.std.proofs.lemmas.Int.{ints}
 use Rattle.std.proofs.lemmas.Bool.{and_parts, ltb-true}
 use Rattle.rsp_decode.specs.declared.inst.Inst.{Inst}
 use Rattle.rsp_decode.specs.declared.inst.Inst.TheVariants.{Shift, ShiftBy, JumpRegister, JumpLinkRegister, Break, Register, BranchSign, BranchEqual, Jump, Immediate, LoadUpper, Load, Store, MoveSp, MoveVector, MoveControl, Multiply, Round, MpegMultiply, ReadAccumulator, VectorAdd, VectorSelect, VectorClip, VectorMerge, VectorLogic, Divide, Idle, VectorLoad, VectorStore}
-use Rattle.rsp_rows.specs.declared.fields.VectorFields.{VectorFields}
-use Rattle.rsp_rows.specs.declared.vector.MultiplyRow.{MultiplyRow}
-use Rattle.rsp_rows.specs.declared.vector.RoundRow.{RoundRow}
-use Rattle.rsp_rows.specs.declared.vector.MpegRow.{MpegRow}
-use Rattle.rsp_rows.specs.declared.vector.DivideRow.{DivideRow}
-use Rattle.rsp_rows.specs.declared.vector.Control.{Control}
+use Rattle.rsp_decode.specs.declared.fields.VectorFields.{VectorFields}
+use Rattle.rsp_decode.specs.declared.vector.MultiplyRow.{MultiplyRow}
+use Rattle.rsp_decode.specs.declared.vector.RoundRow.{RoundRow}
+use Rattle.rsp_decode.specs.declared.vector.MpegRow.{MpegRow}
+use Rattle.rsp_decode.specs.declared.vector.DivideRow.{DivideRow}
+use Rattle.rsp_decode.specs.declared.vector.Control.{Control}
 use Rattle.rsp_divide.specs.declared.divider.Divider.{Divider}
-use Rattle.rsp_rows.specs.declared.scalar.MoveRow.TheVariants.{From, To}
-use Rattle.rsp_rows.specs.declared.scalar.JumpRow.TheVariants.{J, Jal}
-use Rattle.rsp_rows.specs.declared.scalar.SignRow.TheVariants.{Bltz, Bgez, Bltzal, Bgezal, Blez, Bgtz}
-use Rattle.rsp_rows.specs.declared.vector.Control.TheVariants.{Vco, Vcc, Vce}
+use Rattle.rsp_decode.specs.declared.scalar.MoveRow.TheVariants.{From, To}
+use Rattle.rsp_decode.specs.declared.scalar.JumpRow.TheVariants.{J, Jal}
+use Rattle.rsp_decode.specs.declared.scalar.SignRow.TheVariants.{Bltz, Bgez, Bltzal, Bgezal, Blez, Bgtz}
+use Rattle.rsp_decode.specs.declared.vector.Control.TheVariants.{Vco, Vcc, Vce}
 use Rattle.rsp_numbers.specs.Numbers.{AreNumbers, number, s16, modulo, sixteen_bits, high, middle, low}
 use Rattle.rsp_memory.specs.Memory.{IsMemory}
 use Rattle.rsp_lanes.specs.Lanes.{selected, IsVector}
@@ -38,6 +38,7 @@ use Rattle.rsp_loadstore.specs.Stores.{stored_memory}
 use Rattle.rsp_loadstore.specs.Moves.{moved_file, moved_value, with_register_half}
 use Rattle.rsp_loadstore.specs.Controls.{controlled_flags, control_value, with_control}
 use Rattle.rsp_machine.specs.State.{State, IsState, IsPlace, AreFlags, advanced}
+use Rattle.rsp_machine.specs.Operations.{round_op, mpeg_op, add_op, select_op, clip_op, logic_op, divide_op}
 use Rattle.rsp_machine.specs.Vector.{multiplies, rounds, multiplies_mpeg, reads_accumulator, ruled, divides, loads_vector, stores_vector, moves_vector, moves_control}
 use Rattle.rsp_machine.specs.Step.{executed, worked, computes, loads, stores, jumps, moves_sp}
 use Rattle.rsp_microcode.specs.Frames.{stays}
@@ -91,7 +92,7 @@ divide_kept : (row : DivideRow) (vd lane vt e : ℕ) (s : State) → IsState s �
 unfolding divides lane_written divider_after
 divide_kept row vd lane vt e s is =
     let v = λ (i : ℕ). vector_small s.vectors vt i is.vectors in
-    let d = division_small row s.divider (slice_index (vector s.vectors vt) (e % 8)) (slice_index (selected (vector s.vectors vt) e) lane)
+    let d = division_small (divide_op row) s.divider (slice_index (vector s.vectors vt) (e % 8)) (slice_index (selected (vector s.vectors vt) e) lane)
     is.divider.0 is.divider.1 (v (e % 8)) (selected_small (vector s.vectors vt) e lane v) in
     vectors_kept _ _ (file_written s.vectors vd _ (λ l. vector_set _ lane _ d.0 (is.vectors.registers vd l)) is.vectors)
     (divider_kept _ _ d.1 (accumulators_kept s _ (low_numbers s.accumulators _) is))
@@ -105,7 +106,7 @@ round_kept : (row : RoundRow) (f : VectorFields) (s : State) → IsState s → I
 unfolding rounds accumulators_rounded clamped_signed
 round_kept row f s is =
     vectors_kept _ _ (file_written s.vectors f.vd _ (λ l. high_vector _ (λ i. clamp_small Signed _)) is.vectors)
-    (accumulators_kept s _ (are_numbers _ (λ i. round_fits row (f.vs % 2 == 1) (number s.accumulators i) (slice_index (selected (vector s.vectors f.vt) f.element) i) (is.accumulators.1 i))) is)
+    (accumulators_kept s _ (are_numbers _ (λ i. round_fits (round_op row) (f.vs % 2 == 1) (number s.accumulators i) (slice_index (selected (vector s.vectors f.vt) f.element) i) (is.accumulators.1 i))) is)
 
 half_small : (p : ℤ) → sixteen_bits p / 16 * 16 < 65536
 half_small p = omega (arith, sixteen_small p)
@@ -115,7 +116,7 @@ unfolding multiplies_mpeg accumulators_mpeg halved_mpeg
 mpeg_kept row f s is =
     let v = λ (i : ℕ). vector_small s.vectors f.vt i is.vectors in
     vectors_kept _ _ (file_written s.vectors f.vd _ (λ l. high_vector _ (λ i. half_small _)) is.vectors)
-    (accumulators_kept s _ (are_numbers _ (λ i. mpeg_fits row (number s.accumulators i) _ _ (is.accumulators.1 i) (vector_small s.vectors f.vs i is.vectors) (selected_small _ f.element i v))) is)
+    (accumulators_kept s _ (are_numbers _ (λ i. mpeg_fits (mpeg_op row) (number s.accumulators i) _ _ (is.accumulators.1 i) (vector_small s.vectors f.vs i is.vectors) (selected_small _ f.element i v))) is)
 
 sar_small : (e : ℕ) (x : ℤ) → sar_lane e x < 65536
 unfolding high middle low
@@ -207,11 +208,11 @@ kept (Multiply row f) s h g is = multiply_kept row f s is
 kept (Round row f) s h g is = round_kept row f s is
 kept (MpegMultiply row f) s h g is = mpeg_kept row f s is
 kept (ReadAccumulator f) s h g is = read_kept f s is
-kept (VectorAdd row f) s h g is = rule_kept _ f s (add_small row) is
-kept (VectorSelect row f) s h g is = rule_kept _ f s (select_small row) is
-kept (VectorClip row f) s h g is = rule_kept _ f s (clip_small row) is
+kept (VectorAdd row f) s h g is = rule_kept _ f s (add_small (add_op row)) is
+kept (VectorSelect row f) s h g is = rule_kept _ f s (select_small (select_op row)) is
+kept (VectorClip row f) s h g is = rule_kept _ f s (clip_small (clip_op row)) is
 kept (VectorMerge f) s h g is = rule_kept _ f s merge_small is
-kept (VectorLogic row f) s h g is = rule_kept _ f s (logic_small row) is
+kept (VectorLogic row f) s h g is = rule_kept _ f s (logic_small (logic_op row)) is
 kept (Divide row vd lane vt e) s h f is = divide_kept row vd lane vt e s is
 kept (Idle row) s h f is = is
 kept (VectorLoad row f) s h g is = vectors_kept s _ (load_kept row s.dmem f.vt f.element _ s.vectors is.dmem is.vectors) is

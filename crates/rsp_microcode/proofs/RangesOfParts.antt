@@ -19,8 +19,8 @@ use Rattle.rsp_scalar.specs.Registers.{IsRegisters, with_register}
 use Rattle.rsp_loadstore.specs.File.{IsFile, vector, with_vector, bits_14_to_7}
 use Rattle.rsp_loadstore.specs.Pairs.{for_each, block, place, group}
 use Rattle.rsp_loadstore.specs.Loads.{Load, to_byte, to_lane, loaded, after_load, load_pairs}
-use Rattle.rsp_rows.specs.declared.vector.VectorLoadRow.{VectorLoadRow}
-use Rattle.rsp_rows.specs.declared.vector.VectorLoadRow.TheVariants.{Lbv, Lsv, Llv, Ldv, Lqv, Lrv, Lpv, Luv, Lhv, Lfv, Ltv}
+use Rattle.rsp_decode.specs.declared.vector.VectorLoadRow.{VectorLoadRow}
+use Rattle.rsp_decode.specs.declared.vector.VectorLoadRow.TheVariants.{Lbv, Lsv, Llv, Ldv, Lqv, Lrv, Lpv, Luv, Lhv, Lfv, Ltv}
 use Rattle.std.proofs.Math.Nat.{mul-le-mul}
 use Rattle.rsp_loadstore.specs.Stores.{Store, from_byte, from_bits_14_to_7, stored, after_store}
 

@@ -8,32 +8,32 @@ use Rattle.std.proofs.lemmas.Bool.{cases_lt, lt-ltb, le-ltb}
 use Rattle.std.proofs.lemmas.Nat.{or_lt, xor_lt, mod_below}
 use Rattle.std.proofs.lemmas.Simd.{mask_l-lt}
 use Rattle.std.proofs.Math.Nat.{div-le_self}
-use Rattle.rsp_rows.specs.declared.scalar.ShiftRow.{ShiftRow}
-use Rattle.rsp_rows.specs.declared.scalar.ShiftRow.TheVariants.{Sll, Srl, Sra}
-use Rattle.rsp_rows.specs.declared.scalar.ShiftByRow.{ShiftByRow}
-use Rattle.rsp_rows.specs.declared.scalar.ShiftByRow.TheVariants.{Sllv, Srlv, Srav}
-use Rattle.rsp_rows.specs.declared.scalar.RegisterRow.{RegisterRow}
-use Rattle.rsp_rows.specs.declared.scalar.RegisterRow.TheVariants.{Add, Addu, Sub, Subu, And, Or, Xor, Nor, Slt, Sltu}
-use Rattle.rsp_rows.specs.declared.scalar.ImmediateRow.{ImmediateRow}
-use Rattle.rsp_rows.specs.declared.scalar.ImmediateRow.TheVariants.{Addi, Addiu, Slti, Sltiu, Andi, Ori, Xori}
-use Rattle.rsp_rows.specs.declared.scalar.LoadRow.{LoadRow}
-use Rattle.rsp_rows.specs.declared.scalar.LoadRow.TheVariants.{Lb, Lh, Lw, Lbu, Lhu, Lwu}
-use Rattle.rsp_rows.specs.declared.scalar.StoreRow.{StoreRow}
-use Rattle.rsp_rows.specs.declared.scalar.StoreRow.TheVariants.{Sb, Sh, Sw}
-use Rattle.rsp_rows.specs.declared.vector.Control.{Control}
-use Rattle.rsp_rows.specs.declared.vector.Control.TheVariants.{Vco, Vcc, Vce}
-use Rattle.rsp_rows.specs.declared.vector.RoundRow.{RoundRow}
-use Rattle.rsp_rows.specs.declared.vector.MpegRow.{MpegRow}
-use Rattle.rsp_rows.specs.declared.vector.MpegRow.TheVariants.{Vmulq, Vmacq}
-use Rattle.rsp_rows.specs.declared.vector.VectorAddRow.{VectorAddRow}
-use Rattle.rsp_rows.specs.declared.vector.VectorAddRow.TheVariants.{Vadd, Vsub, Vabs, Vaddc, Vsubc}
-use Rattle.rsp_rows.specs.declared.vector.VectorSelectRow.{VectorSelectRow}
-use Rattle.rsp_rows.specs.declared.vector.VectorClipRow.{VectorClipRow}
-use Rattle.rsp_rows.specs.declared.vector.VectorClipRow.TheVariants.{Vcl, Vch, Vcr}
-use Rattle.rsp_rows.specs.declared.vector.VectorLogicRow.{VectorLogicRow}
-use Rattle.rsp_rows.specs.declared.vector.VectorLogicRow.TheVariants.{Vand, Vnand, Vor, Vnor, Vxor, Vnxor}
-use Rattle.rsp_rows.specs.declared.vector.DivideRow.{DivideRow}
-use Rattle.rsp_rows.specs.declared.vector.DivideRow.TheVariants.{Vrcp, Vrcpl, Vrcph, Vmov, Vrsq, Vrsql, Vrsqh}
+use Rattle.rsp_decode.specs.declared.scalar.ShiftRow.{ShiftRow}
+use Rattle.rsp_decode.specs.declared.scalar.ShiftRow.TheVariants.{Sll, Srl, Sra}
+use Rattle.rsp_decode.specs.declared.scalar.ShiftByRow.{ShiftByRow}
+use Rattle.rsp_decode.specs.declared.scalar.ShiftByRow.TheVariants.{Sllv, Srlv, Srav}
+use Rattle.rsp_decode.specs.declared.scalar.RegisterRow.{RegisterRow}
+use Rattle.rsp_decode.specs.declared.scalar.RegisterRow.TheVariants.{Add, Addu, Sub, Subu, And, Or, Xor, Nor, Slt, Sltu}
+use Rattle.rsp_decode.specs.declared.scalar.ImmediateRow.{ImmediateRow}
+use Rattle.rsp_decode.specs.declared.scalar.ImmediateRow.TheVariants.{Addi, Addiu, Slti, Sltiu, Andi, Ori, Xori}
+use Rattle.rsp_decode.specs.declared.scalar.LoadRow.{LoadRow}
+use Rattle.rsp_decode.specs.declared.scalar.LoadRow.TheVariants.{Lb, Lh, Lw, Lbu, Lhu, Lwu}
+use Rattle.rsp_decode.specs.declared.scalar.StoreRow.{StoreRow}
+use Rattle.rsp_decode.specs.declared.scalar.StoreRow.TheVariants.{Sb, Sh, Sw}
+use Rattle.rsp_decode.specs.declared.vector.Control.{Control}
+use Rattle.rsp_decode.specs.declared.vector.Control.TheVariants.{Vco, Vcc, Vce}
+use Rattle.rsp_multiply.specs.declared.op.RoundOp.{RoundOp}
+use Rattle.rsp_multiply.specs.declared.op.MpegOp.{MpegOp}
+use Rattle.rsp_multiply.specs.declared.op.MpegOp.TheVariants.{Vmulq, Vmacq}
+use Rattle.rsp_compare.specs.declared.adds.AddOp.{AddOp}
+use Rattle.rsp_compare.specs.declared.adds.AddOp.TheVariants.{Vadd, Vsub, Vabs, Vaddc, Vsubc}
+use Rattle.rsp_compare.specs.declared.selects.SelectOp.{SelectOp}
+use Rattle.rsp_compare.specs.declared.clips.ClipOp.{ClipOp}
+use Rattle.rsp_compare.specs.declared.clips.ClipOp.TheVariants.{Vcl, Vch, Vcr}
+use Rattle.rsp_compare.specs.declared.logic.LogicOp.{LogicOp}
+use Rattle.rsp_compare.specs.declared.logic.LogicOp.TheVariants.{Vand, Vnand, Vor, Vnor, Vxor, Vnxor}
+use Rattle.rsp_divide.specs.declared.op.DivideOp.{DivideOp}
+use Rattle.rsp_divide.specs.declared.op.DivideOp.TheVariants.{Vrcp, Vrcpl, Vrcph, Vmov, Vrsq, Vrsql, Vrsqh}
 use Rattle.rsp_numbers.specs.Numbers.{IsNumber, s16, complement, negated, floor_div, low}
 use Rattle.rsp_memory.specs.Memory.{IsMemory, half_at, word_at, with_half, with_word}
 use Rattle.rsp_lanes.specs.Lanes.{selected, source_lane}
@@ -143,7 +143,7 @@ outcome_small false x y h k = k
 one_small : (c : Bool) (m n : ℕ) → m < 65536 → n < 65536 → (if c then m else n) < 65536
 one_small c m n h k = either_small c m n 65536 h k
 
-pub add_small : (op : VectorAddRow) → IsSmall (add_rule op)
+pub add_small : (op : AddOp) → IsSmall (add_rule op)
 add_small Vadd a b f h k = sixteen_small _
 add_small Vsub a b f h k = sixteen_small _
 add_small Vabs a b f h k =
@@ -152,13 +152,13 @@ add_small Vabs a b f h k =
 add_small Vaddc a b f h k = mod_below (a + b) 65536 (lit< tt)
 add_small Vsubc a b f h k = sixteen_small _
 
-pub select_small : (op : VectorSelectRow) → IsSmall (select_rule op)
+pub select_small : (op : SelectOp) → IsSmall (select_rule op)
 select_small op a b f h k = one_small (holds op a b f) a b h k
 
 pub merge_small : IsSmall (merge_rule Vmrg)
 merge_small a b f h k = one_small f.compare a b h k
 
-pub clip_small : (op : VectorClipRow) → IsSmall (clip_rule op)
+pub clip_small : (op : ClipOp) → IsSmall (clip_rule op)
 clip_small Vcl a b f h k =
     let limit : negated b < 65536 = negated_small b in
     outcome_small (f.carry && f.differ) _ _ (one_small f.compare _ a limit h)
@@ -171,7 +171,7 @@ clip_small Vcr a b f h k =
     outcome_small (signs_differ a b) _ _ (one_small (int_le (s16 a +ℤ s16 b +ℤ pos 1) (pos 0)) _ a (complement_small b) h)
     (one_small (int_le (pos 0) (s16 a -ℤ s16 b)) b a k h)
 
-pub logic_small : (op : VectorLogicRow) → IsSmall (logic_rule op)
+pub logic_small : (op : LogicOp) → IsSmall (logic_rule op)
 logic_small Vand a b f h k = and_lt 16 a b h k
 logic_small Vnand a b f h k = complement_small _
 logic_small Vor a b f h k = or_lt 16 a b h k
@@ -183,7 +183,7 @@ pub selected_small : (v : List ℕ) (e i : ℕ) → ((i : ℕ) → slice_index v
 selected_small v e i h = (high_vector _ (λ j. h (source_lane e j))).1 i
 
 -- divide instructions
-pub division_small : (op : DivideRow) (d : Divider) (source lane : ℕ) → d.input < 65536 → d.output < 65536 → source < 65536 → lane < 65536
+pub division_small : (op : DivideOp) (d : Divider) (source lane : ℕ) → d.input < 65536 → d.output < 65536 → source < 65536 → lane < 65536
     → ((division op d source lane).lane < 65536) × (((division op d source lane).divider.input < 65536) × ((division op d source lane).divider.output < 65536))
 division_small Vrcp d source lane i o s l = (sixteen_small _, (i, sixteen_small _))
 division_small Vrcpl d source lane i o s l = (sixteen_small _, (i, sixteen_small _))
@@ -198,7 +198,7 @@ one_number : (c : Bool) (x y : ℤ) → IsNumber x → IsNumber y → IsNumber (
 one_number true x y h k = h
 one_number false x y h k = k
 
-pub round_fits : (op : RoundRow) (odd : Bool) (x : ℤ) (b : ℕ) → IsNumber x → IsNumber (rounded_by op odd x b)
+pub round_fits : (op : RoundOp) (odd : Bool) (x : ℤ) (b : ℕ) → IsNumber x → IsNumber (rounded_by op odd x b)
 round_fits op odd x b h = one_number (rounding_adds op x) _ x (wraps _) h
 
 abbrev Is32 : ℤ → Type 0
@@ -226,7 +226,7 @@ stepped false (pos n) h = elim (cases_lt n 32) [
 ]
 stepped false (negsuc n) h = (omega (arith, ints, h.0, h.1), omega (arith, ints, h.0, h.1))
 
-pub mpeg_fits : (op : MpegRow) (x : ℤ) (a b : ℕ) → IsNumber x → a < 65536 → b < 65536 → IsNumber (mpeg_accumulated op x a b)
+pub mpeg_fits : (op : MpegOp) (x : ℤ) (a b : ℕ) → IsNumber x → a < 65536 → b < 65536 → IsNumber (mpeg_accumulated op x a b)
 unfolding low
 mpeg_fits Vmulq x a b h i j = let p = (signed a b i j).1 in times_alone _ (product_fits (int_lt (s16 a *ℤ s16 b) (pos 0)) _ p.low p.high)
 mpeg_fits Vmacq x a b h i j = times_65536 _ _ (stepped (has_bit_5 (floor_div x 65536)) _ (divided_fits x h)) (sixteen_small x)

@@ -8,7 +8,7 @@ use Rattle.std.proofs.Math.Nat.{div-le_self}
 use Rattle.rsp_numbers.specs.Numbers.{s32, sixteen_bits, upper_bits}
 use Rattle.rsp_numbers.proofs.Signed.{s32_small, s32_large}
 use Rattle.rsp_decode.specs.declared.inst.Inst.TheVariants.{Divide}
-use Rattle.rsp_rows.specs.declared.vector.DivideRow.TheVariants.{Vrcph, Vrcpl}
+use Rattle.rsp_decode.specs.declared.vector.DivideRow.TheVariants.{Vrcph, Vrcpl}
 use Rattle.rsp_divide.specs.Rows.{lane_written, divider_after}
 use Rattle.rsp_divide.specs.Quotients.{reciprocal_of, reciprocal_bits, nine_bits, zeros, size_of}
 use Rattle.rsp_divide.specs.Entries.{reciprocal_entry}

@@ -4,7 +4,7 @@ use Rattle.std.specs.Prelude.{if◌then◌else◌}
 use Rattle.std.proofs.lemmas.Bool.{and_parts}
 use Rattle.rsp_decode.specs.declared.inst.Inst.{Inst}
 use Rattle.rsp_decode.specs.declared.inst.Inst.TheVariants.{Break, MoveSp, MoveVector, MoveControl, JumpRegister, JumpLinkRegister, BranchSign, BranchEqual, Jump}
-use Rattle.rsp_rows.specs.declared.scalar.MoveRow.TheVariants.{From, To}
+use Rattle.rsp_decode.specs.declared.scalar.MoveRow.TheVariants.{From, To}
 use Rattle.rsp_decode.specs.Table.{inst_of}
 use Rattle.rsp_memory.specs.Memory.{word_at}
 use Rattle.rsp_scalar.specs.Flow.{going_on}

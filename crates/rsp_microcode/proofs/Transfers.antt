@@ -6,7 +6,7 @@ use Rattle.std.proofs.lemmas.List.{get_or-set_same, get_or-set_other}
 use Rattle.rsp_numbers.specs.Numbers.{bit_set}
 use Rattle.rsp_decode.specs.declared.inst.Inst.{Inst}
 use Rattle.rsp_decode.specs.declared.inst.Inst.TheVariants.{MoveSp}
-use Rattle.rsp_rows.specs.declared.scalar.MoveRow.TheVariants.{To}
+use Rattle.rsp_decode.specs.declared.scalar.MoveRow.TheVariants.{To}
 use Rattle.rsp_decode.specs.Table.Words.{inst_of}
 use Rattle.rsp_memory.specs.Memory.{IsMemory, byte_at}
 use Rattle.rsp_memory.specs.Image.{IsImage, image_byte, with_image_byte}

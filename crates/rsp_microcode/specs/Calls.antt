@@ -2,7 +2,7 @@
 use Rattle.std.specs.Prelude.{ℕ, ◌≡◌, ◌*◌, ◌/◌, ◌%◌, ◌&&◌, Bool, true, List, [], ◌∷◌, ◌++◌, length, map, Some}
 use Rattle.rsp_decode.specs.declared.inst.Inst.{Inst}
 use Rattle.rsp_decode.specs.declared.inst.Inst.TheVariants.{JumpRegister, Jump}
-use Rattle.rsp_rows.specs.declared.scalar.JumpRow.TheVariants.{Jal}
+use Rattle.rsp_decode.specs.declared.scalar.JumpRow.TheVariants.{Jal}
 use Rattle.rsp_decode.specs.Table.{inst_of}
 use Rattle.rsp_scalar.specs.Registers.{register}
 use Rattle.rsp_scalar.specs.Flow.{going_on}

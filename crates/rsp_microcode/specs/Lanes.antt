@@ -2,8 +2,8 @@
 use Rattle.std.specs.Prelude.{ℕ, ◌≡◌, ◌<◌, ◌≤◌, ◌+◌, ◌-◌, ◌*◌, ◌%◌, List, [], ◌∷◌, length}
 use Rattle.rsp_decode.specs.declared.inst.Inst.{Inst}
 use Rattle.rsp_decode.specs.declared.inst.Inst.TheVariants.{VectorLoad, VectorStore}
-use Rattle.rsp_rows.specs.declared.vector.VectorLoadRow.TheVariants.{Lqv}
-use Rattle.rsp_rows.specs.declared.vector.VectorStoreRow.TheVariants.{Sqv}
+use Rattle.rsp_decode.specs.declared.vector.VectorLoadRow.TheVariants.{Lqv}
+use Rattle.rsp_decode.specs.declared.vector.VectorStoreRow.TheVariants.{Sqv}
 use Rattle.rsp_memory.specs.Memory.{byte_at, half_at, with_half}
 use Rattle.rsp_lanes.specs.Lanes.{each_lane}
 use Rattle.rsp_scalar.specs.Registers.{register}

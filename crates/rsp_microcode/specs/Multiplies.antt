@@ -3,14 +3,15 @@ use Rattle.std.specs.Prelude.{ℕ, pos, ◌≡◌, Bool, true, false, not, ◌&&
 use Rattle.std.specs.List.{list_all}
 use Rattle.rsp_decode.specs.declared.inst.Inst.{Inst}
 use Rattle.rsp_decode.specs.declared.inst.Inst.TheVariants.{Multiply}
-use Rattle.rsp_rows.specs.declared.vector.MultiplyRow.{MultiplyRow}
-use Rattle.rsp_rows.specs.declared.fields.VectorFields.{VectorFields}
+use Rattle.rsp_decode.specs.declared.vector.MultiplyRow.{MultiplyRow}
+use Rattle.rsp_decode.specs.declared.fields.VectorFields.{VectorFields}
 use Rattle.rsp_loadstore.specs.File.{IsFile, vector, with_vector}
 use Rattle.rsp_multiply.specs.Laws.{Step, after, results, sum_of, clamped_sums}
 use Rattle.rsp_multiply.specs.Rows.{row}
 use Rattle.rsp_numbers.specs.Numbers.{s48}
 use Rattle.rsp_lanes.specs.Lanes.{each_lane}
 use Rattle.rsp_scalar.specs.Flow.{going_on}
+use Rattle.rsp_machine.specs.Operations.{multiply_op}
 use Rattle.rsp_machine.specs.State.{State}
 use Rattle.rsp_microcode.specs.Runs.{ran_through, place_after}
 use Rattle.rsp_microcode.specs.Reads.{Write, after_writes}
@@ -29,7 +30,7 @@ instruction m = Multiply m.name m.fields
 
 -- the row on the registers that it reads in these registers
 abbrev pub step_in : List (List ℕ) → Term → Step
-step_in file m = record { op = m.name; vs = vector file m.fields.vs; vt = vector file m.fields.vt; element = m.fields.element }
+step_in file m = record { op = multiply_op m.name; vs = vector file m.fields.vs; vt = vector file m.fields.vt; element = m.fields.element }
 
 abbrev pub reads_other : ℕ → Term → Bool
 reads_other vd m = not (nat_eq vd m.fields.vs) && not (nat_eq vd m.fields.vt)

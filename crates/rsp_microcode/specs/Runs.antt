@@ -2,7 +2,7 @@
 use Rattle.std.specs.Prelude.{ℕ, ◌≡◌, ◌%◌, ◌==◌, Bool, true, false, not, ◌&&◌, List, [], ◌∷◌, ◌++◌, length, map, Some}
 use Rattle.rsp_decode.specs.declared.inst.Inst.{Inst}
 use Rattle.rsp_decode.specs.declared.inst.Inst.TheVariants.{JumpRegister, JumpLinkRegister, Break, BranchSign, BranchEqual, Jump, MoveSp}
-use Rattle.rsp_rows.specs.declared.scalar.MoveRow.TheVariants.{From, To}
+use Rattle.rsp_decode.specs.declared.scalar.MoveRow.TheVariants.{From, To}
 use Rattle.rsp_decode.specs.Table.{inst_of}
 use Rattle.rsp_memory.specs.Memory.{word_at}
 use Rattle.rsp_scalar.specs.Flow.{going_on}

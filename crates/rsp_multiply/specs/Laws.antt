@@ -3,12 +3,12 @@ use Rattle.std.specs.Prelude.{ℕ, ℤ, pos, ◌+ℤ◌, ◌<◌, ◌≡◌, tru
 use Rattle.rsp_lanes.specs.Lanes.{each_lane, IsVector, selected}
 use Rattle.rsp_numbers.specs.Numbers.{s48}
 use Rattle.rsp_acc.specs.Parts.{clamp_of}
-use Rattle.rsp_rows.specs.declared.vector.MultiplyRow.{MultiplyRow}
+use Rattle.rsp_multiply.specs.declared.op.MultiplyOp.{MultiplyOp}
 use Rattle.rsp_multiply.specs.Rows.{row, accumulators_after, clamped_by}
 
 -- a multiply instruction: its row, the lanes of its registers vs and vt, and its element
 pub record Step : Type 0 where
-  pub op : MultiplyRow
+  pub op : MultiplyOp
   pub vs : List ℕ
   pub vt : List ℕ
   pub element : ℕ

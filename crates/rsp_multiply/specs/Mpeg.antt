@@ -4,13 +4,13 @@ use Rattle.rsp_lanes.specs.Lanes.{each_lane}
 use Rattle.rsp_numbers.specs.Numbers.{s16, s48, number, low, floor_div, modulo, sixteen_bits, clamp16}
 use Rattle.rsp_acc.specs.Parts.{clamp_of}
 use Rattle.rsp_acc.specs.declared.parts.Clamp.TheVariants.{Signed}
-use Rattle.rsp_rows.specs.declared.vector.RoundRow.{RoundRow}
-use Rattle.rsp_rows.specs.declared.vector.RoundRow.TheVariants.{Vrndp, Vrndn}
-use Rattle.rsp_rows.specs.declared.vector.MpegRow.{MpegRow}
-use Rattle.rsp_rows.specs.declared.vector.MpegRow.TheVariants.{Vmulq, Vmacq}
+use Rattle.rsp_multiply.specs.declared.op.RoundOp.{RoundOp}
+use Rattle.rsp_multiply.specs.declared.op.RoundOp.TheVariants.{Vrndp, Vrndn}
+use Rattle.rsp_multiply.specs.declared.op.MpegOp.{MpegOp}
+use Rattle.rsp_multiply.specs.declared.op.MpegOp.TheVariants.{Vmulq, Vmacq}
 
 -- whether a rounding row adds to the accumulator x: VRNDP where x is 0 or more, VRNDN where x is negative
-abbrev pub rounding_adds : RoundRow → ℤ → Bool
+abbrev pub rounding_adds : RoundOp → ℤ → Bool
 rounding_adds Vrndp x = not (int_lt x (pos 0))
 rounding_adds Vrndn x = int_lt x (pos 0)
 
@@ -19,7 +19,7 @@ abbrev pub rounding : Bool → ℕ → ℤ
 rounding odd b = if odd then s16 b *ℤ pos 65536 else s16 b
 
 -- the accumulator x after a rounding row on the lane b
-abbrev pub rounded_by : RoundRow → Bool → ℤ → ℕ → ℤ
+abbrev pub rounded_by : RoundOp → Bool → ℤ → ℕ → ℤ
 rounded_by op odd x b = if rounding_adds op x then s48 (x +ℤ rounding odd b) else x
 
 -- the product of the lanes as signed numbers, and 31 more where it is negative
@@ -43,7 +43,7 @@ vmacq_step p =
 
 -- the accumulator x after an MPEG multiply of the lanes a and b: a number p times 65536, and below it
 -- 0, or for VMACQ the low sixteen bits that were there. VMACQ takes p from the accumulator
-abbrev pub mpeg_accumulated : MpegRow → ℤ → ℕ → ℕ → ℤ
+abbrev pub mpeg_accumulated : MpegOp → ℤ → ℕ → ℕ → ℤ
 mpeg_accumulated Vmulq x a b = mpeg_product a b *ℤ pos 65536
 mpeg_accumulated Vmacq x a b = let p = floor_div x 65536 in (p +ℤ vmacq_step p) *ℤ pos 65536 +ℤ pos (low x)
 
@@ -53,7 +53,7 @@ abbrev pub mpeg_half : ℤ → ℕ
 mpeg_half p = sixteen_bits (clamp16 (floor_div p 2)) / 16 * 16
 
 -- the eight accumulators after a rounding row on the register b, from the eight before it
-unfoldable pub accumulators_rounded : RoundRow → Bool → List ℕ → List ℤ → List ℤ
+unfoldable pub accumulators_rounded : RoundOp → Bool → List ℕ → List ℤ → List ℤ
 accumulators_rounded op odd b xs = each_lane (λ i. rounded_by op odd (number xs i) (slice_index b i))
 
 -- the result of a rounding row, from the eight accumulators after it: their signed clamps
@@ -61,7 +61,7 @@ unfoldable pub clamped_signed : List ℤ → List ℕ
 clamped_signed xs = each_lane (λ i. clamp_of Signed (number xs i))
 
 -- the eight accumulators after an MPEG multiply of the registers a and b, from the eight before it
-unfoldable pub accumulators_mpeg : MpegRow → List ℕ → List ℕ → List ℤ → List ℤ
+unfoldable pub accumulators_mpeg : MpegOp → List ℕ → List ℕ → List ℤ → List ℤ
 accumulators_mpeg op a b xs = each_lane (λ i. mpeg_accumulated op (number xs i) (slice_index a i) (slice_index b i))
 
 -- the result of an MPEG multiply, from the eight accumulators after it: p is such a one without its

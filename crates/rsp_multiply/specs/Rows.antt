@@ -5,8 +5,8 @@ use Rattle.rsp_numbers.specs.Numbers.{s16, s48, number, high, middle, low}
 use Rattle.rsp_acc.specs.Parts.{clamp_of}
 use Rattle.rsp_acc.specs.declared.parts.Clamp.{Clamp}
 use Rattle.rsp_acc.specs.declared.parts.Clamp.TheVariants.{Signed, Unsigned, LowKind}
-use Rattle.rsp_rows.specs.declared.vector.MultiplyRow.{MultiplyRow}
-use Rattle.rsp_rows.specs.declared.vector.MultiplyRow.TheVariants.{Vmulf, Vmulu, Vmudl, Vmudm, Vmudn, Vmudh, Vmacf, Vmacu, Vmadl, Vmadm, Vmadn, Vmadh}
+use Rattle.rsp_multiply.specs.declared.op.MultiplyOp.{MultiplyOp}
+use Rattle.rsp_multiply.specs.declared.op.MultiplyOp.TheVariants.{Vmulf, Vmulu, Vmudl, Vmudm, Vmudn, Vmudh, Vmacf, Vmacu, Vmadl, Vmadm, Vmadn, Vmadh}
 
 -- a multiply row: what it makes of a lane a of vs and a lane b of the selected vt, whether that is
 -- added to the accumulator or replaces it, and how the result is taken from the accumulator
@@ -40,7 +40,7 @@ abbrev pub signed_times_65536 : ℕ → ℕ → ℤ
 signed_times_65536 a b = (s16 a *ℤ s16 b) *ℤ pos 65536
 
 -- the table of the twelve rows
-abbrev pub row : MultiplyRow → Row
+abbrev pub row : MultiplyOp → Row
 row Vmulf = record { addend = rounded; adds = false; clamp = Signed }
 row Vmulu = record { addend = rounded; adds = false; clamp = Unsigned }
 row Vmudl = record { addend = unsigned_over_65536; adds = false; clamp = LowKind }
@@ -55,7 +55,7 @@ row Vmadn = record { addend = unsigned_by_signed; adds = true; clamp = LowKind }
 row Vmadh = record { addend = signed_times_65536; adds = true; clamp = Signed }
 
 -- the accumulator x after a row on the lanes a and b
-abbrev pub accumulated : MultiplyRow → ℤ → ℕ → ℕ → ℤ
+abbrev pub accumulated : MultiplyOp → ℤ → ℕ → ℕ → ℤ
 accumulated op x a b = s48 (if (row op).adds then x +ℤ (row op).addend a b else (row op).addend a b)
 
 -- the sixteen bits of the accumulator x that VSAR reads: the high ones for e 8, the middle ones for
@@ -64,11 +64,11 @@ abbrev pub sar_lane : ℕ → ℤ → ℕ
 sar_lane e x = if nat_eq e 8 then high x else if nat_eq e 9 then middle x else if nat_eq e 10 then low x else 0
 
 -- the eight accumulators after a row on the registers a and b, from the eight before it
-unfoldable pub accumulators_after : MultiplyRow → List ℕ → List ℕ → List ℤ → List ℤ
+unfoldable pub accumulators_after : MultiplyOp → List ℕ → List ℕ → List ℤ → List ℤ
 accumulators_after op a b xs = each_lane (λ i. accumulated op (number xs i) (slice_index a i) (slice_index b i))
 
 -- the result of a row, from the eight accumulators after it
-unfoldable pub clamped_by : MultiplyRow → List ℤ → List ℕ
+unfoldable pub clamped_by : MultiplyOp → List ℤ → List ℕ
 clamped_by op xs = each_lane (λ i. clamp_of (row op).clamp (number xs i))
 
 -- the result of VSAR, from the eight accumulators

@@ -4,9 +4,10 @@
 
 pub mod laws;
 mod mpeg;
+mod op;
 mod products;
 mod rows;
 
 pub use mpeg::{mpeg_op, round_op};
+pub use op::{MpegOp, MultiplyOp, RoundOp};
 pub use rows::{multiply, sar};
-pub use rsp_rows::{MpegRow, MultiplyRow, RoundRow};

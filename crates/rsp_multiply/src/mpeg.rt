@@ -6,10 +6,10 @@ ghost use Rattle.rsp_lanes.specs.Lanes.{each_lane};
 ghost use Rattle.rsp_numbers.specs.Numbers.{s16, number, floor_div, sixteen_bits};
 ghost use Rattle.rsp_multiply.specs.Mpeg.{rounding_adds, rounding, vmacq_step, accumulators_rounded, clamped_signed, accumulators_mpeg, halved_mpeg};
 
+use crate::op::{MpegOp, RoundOp};
 use crate::products::signed_times_65536;
 use rsp_acc::{Acc, Addends, Clamp, Part};
 use rsp_lanes::{Mask8, VReg};
-use rsp_rows::{MpegRow, RoundRow};
 
 /// The lanes as signed numbers.
 #[inline(always)]
@@ -53,13 +53,13 @@ fn negative<A: Acc>(acc: &A) -> Mask8
 
 /// Where the row adds to the accumulator.
 #[inline(always)]
-fn places<A: Acc>(op: RoundRow, acc: &A) -> Mask8
+fn places<A: Acc>(op: RoundOp, acc: &A) -> Mask8
     ensures { result ≡ each_lane (λ i. rounding_adds op (number (A.numbers acc.now) i)) }
 {
     let negative = negative(acc);
     match op {
-        RoundRow::Vrndp => negative.not(),
-        RoundRow::Vrndn => negative,
+        RoundOp::Vrndp => negative.not(),
+        RoundOp::Vrndn => negative,
     }
 }
 
@@ -67,7 +67,7 @@ fn places<A: Acc>(op: RoundRow, acc: &A) -> Mask8
 /// accumulators that are 0 or more, VRNDN to the negative ones, as numbers of 48 bits, what b holds as signed numbers,
 /// times 65536 for an odd vs. The result is the signed clamp of all eight.
 #[inline(always)]
-pub fn round_op<A: Acc>(op: RoundRow, odd: bool, b: &VReg, acc: &mut A) -> VReg
+pub fn round_op<A: Acc>(op: RoundOp, odd: bool, b: &VReg, acc: &mut A) -> VReg
     ensures accumulators { A.numbers acc.new ≡ accumulators_rounded op odd b.now (A.numbers acc.old) }
     ensures value { result ≡ clamped_signed (A.numbers acc.new) }
 {
@@ -129,14 +129,14 @@ fn halved<A: Acc>(acc: &A) -> VReg
 /// without its low sixteen bits, which are kept, and goes 32 toward 0 where its bit 5 is clear and it isn't 0 to 31. The
 /// result is half of p, rounded down, limited to 16 bits, with its low four bits cleared.
 #[inline(always)]
-pub fn mpeg_op<A: Acc>(op: MpegRow, a: &VReg, b: &VReg, acc: &mut A) -> VReg
+pub fn mpeg_op<A: Acc>(op: MpegOp, a: &VReg, b: &VReg, acc: &mut A) -> VReg
     ensures accumulators { A.numbers acc.new ≡ accumulators_mpeg op a.now b.now (A.numbers acc.old) }
     ensures value { result ≡ halved_mpeg (A.numbers acc.new) }
 {
     acc.ranges();
     match op {
-        MpegRow::Vmulq => multiply_rounded(a, b, acc),
-        MpegRow::Vmacq => acc.add(&shifted(&steps(acc))),
+        MpegOp::Vmulq => multiply_rounded(a, b, acc),
+        MpegOp::Vmacq => acc.add(&shifted(&steps(acc))),
     }
     halved(acc)
 }
@@ -144,7 +144,7 @@ pub fn mpeg_op<A: Acc>(op: MpegRow, a: &VReg, b: &VReg, acc: &mut A) -> VReg
 /// Products, and 31 more where they are negative, times 65536.
 #[inline(always)]
 fn multiply_rounded<A: Acc>(a: &VReg, b: &VReg, acc: &mut A)
-    ensures { A.numbers acc.new ≡ accumulators_mpeg MpegRow.Vmulq a.now b.now (A.numbers acc.old) }
+    ensures { A.numbers acc.new ≡ accumulators_mpeg MpegOp.Vmulq a.now b.now (A.numbers acc.old) }
 {
     a.ranges();
     b.ranges();

@@ -2,52 +2,52 @@ ghost use Rattle.std.specs.Prelude.{◌≡◌, slice_index};
 ghost use Rattle.rsp_lanes.specs.Lanes.{each_lane};
 ghost use Rattle.rsp_multiply.specs.Rows.{row, accumulators_after, clamped_by, sar_of};
 
+use crate::op::MultiplyOp;
 use crate::products::{
     fraction, rounded, signed_by_unsigned, signed_times_65536, unsigned_over_65536,
 };
 use rsp_acc::{Acc, Addends, Clamp, Part};
 use rsp_lanes::VReg;
-use rsp_rows::MultiplyRow;
 
 /// What the row makes of the lanes of a and b.
 #[inline(always)]
-fn addends(op: MultiplyRow, a: &VReg, b: &VReg) -> Addends
+fn addends(op: MultiplyOp, a: &VReg, b: &VReg) -> Addends
     ensures { result ≡ each_lane (λ i. (row op).addend (slice_index a.now i) (slice_index b.now i)) }
 {
     match op {
-        MultiplyRow::Vmulf | MultiplyRow::Vmulu => rounded(a, b),
-        MultiplyRow::Vmacf | MultiplyRow::Vmacu => fraction(a, b),
-        MultiplyRow::Vmudl | MultiplyRow::Vmadl => unsigned_over_65536(a, b),
-        MultiplyRow::Vmudm | MultiplyRow::Vmadm => signed_by_unsigned(a, b),
-        MultiplyRow::Vmudn | MultiplyRow::Vmadn => signed_by_unsigned(b, a),
-        MultiplyRow::Vmudh | MultiplyRow::Vmadh => signed_times_65536(a, b),
+        MultiplyOp::Vmulf | MultiplyOp::Vmulu => rounded(a, b),
+        MultiplyOp::Vmacf | MultiplyOp::Vmacu => fraction(a, b),
+        MultiplyOp::Vmudl | MultiplyOp::Vmadl => unsigned_over_65536(a, b),
+        MultiplyOp::Vmudm | MultiplyOp::Vmadm => signed_by_unsigned(a, b),
+        MultiplyOp::Vmudn | MultiplyOp::Vmadn => signed_by_unsigned(b, a),
+        MultiplyOp::Vmudh | MultiplyOp::Vmadh => signed_times_65536(a, b),
     }
 }
 
 /// Whether the row adds to the accumulators, or replaces them.
 #[inline(always)]
-fn adds(op: MultiplyRow) -> bool
+fn adds(op: MultiplyOp) -> bool
     ensures { result ≡ (row op).adds }
 {
     match op {
-        MultiplyRow::Vmacf
-        | MultiplyRow::Vmacu
-        | MultiplyRow::Vmadl
-        | MultiplyRow::Vmadm
-        | MultiplyRow::Vmadn
-        | MultiplyRow::Vmadh => true,
+        MultiplyOp::Vmacf
+        | MultiplyOp::Vmacu
+        | MultiplyOp::Vmadl
+        | MultiplyOp::Vmadm
+        | MultiplyOp::Vmadn
+        | MultiplyOp::Vmadh => true,
         _ => false,
     }
 }
 
 /// How the row takes its result from the accumulators.
 #[inline(always)]
-fn clamp(op: MultiplyRow) -> Clamp
+fn clamp(op: MultiplyOp) -> Clamp
     ensures { result ≡ (row op).clamp }
 {
     match op {
-        MultiplyRow::Vmulu | MultiplyRow::Vmacu => Clamp::Unsigned,
-        MultiplyRow::Vmudl | MultiplyRow::Vmudn | MultiplyRow::Vmadl | MultiplyRow::Vmadn => {
+        MultiplyOp::Vmulu | MultiplyOp::Vmacu => Clamp::Unsigned,
+        MultiplyOp::Vmudl | MultiplyOp::Vmudn | MultiplyOp::Vmadl | MultiplyOp::Vmadn => {
             Clamp::LowKind
         }
         _ => Clamp::Signed,
@@ -58,7 +58,7 @@ fn clamp(op: MultiplyRow) -> Clamp
 /// the row's addends, or their sums with them, as numbers of 48 bits, and the result is the row's
 /// clamp of the new accumulators.
 #[inline(always)]
-pub fn multiply<A: Acc>(op: MultiplyRow, a: &VReg, b: &VReg, acc: &mut A) -> VReg
+pub fn multiply<A: Acc>(op: MultiplyOp, a: &VReg, b: &VReg, acc: &mut A) -> VReg
     ensures accumulators { A.numbers acc.new ≡ accumulators_after op a.now b.now (A.numbers acc.old) }
     ensures value { result ≡ clamped_by op (A.numbers acc.new) }
 {

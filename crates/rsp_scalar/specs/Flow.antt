@@ -3,8 +3,8 @@
 use Rattle.std.specs.Prelude.{ℕ, ◌+◌, ◌%◌, if◌then◌else◌, List}
 use Rattle.rsp_decode.specs.declared.inst.Inst.{Inst}
 use Rattle.rsp_decode.specs.declared.inst.Inst.TheVariants.{JumpLinkRegister, BranchSign, Jump}
-use Rattle.rsp_rows.specs.declared.scalar.SignRow.TheVariants.{Bltzal, Bgezal}
-use Rattle.rsp_rows.specs.declared.scalar.JumpRow.TheVariants.{Jal}
+use Rattle.rsp_decode.specs.declared.scalar.SignRow.TheVariants.{Bltzal, Bgezal}
+use Rattle.rsp_decode.specs.declared.scalar.JumpRow.TheVariants.{Jal}
 use Rattle.rsp_scalar.specs.Registers.{with_register}
 use Rattle.rsp_scalar.specs.Rows.{is_taken, target_of}
 

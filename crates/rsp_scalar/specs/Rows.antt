@@ -3,22 +3,22 @@ use Rattle.std.specs.Prelude.{ℕ, ℤ, pos, ◌+◌, ◌-◌, ◌*◌, ◌/◌,
 use Rattle.std.specs.Int.{w8, w16}
 use Rattle.rsp_decode.specs.declared.inst.Inst.{Inst}
 use Rattle.rsp_decode.specs.declared.inst.Inst.TheVariants.{Shift, ShiftBy, JumpRegister, JumpLinkRegister, Register, BranchSign, BranchEqual, Jump, Immediate, LoadUpper, Load, Store}
-use Rattle.rsp_rows.specs.declared.scalar.ShiftRow.{ShiftRow}
-use Rattle.rsp_rows.specs.declared.scalar.ShiftRow.TheVariants.{Sll, Srl, Sra}
-use Rattle.rsp_rows.specs.declared.scalar.ShiftByRow.{ShiftByRow}
-use Rattle.rsp_rows.specs.declared.scalar.ShiftByRow.TheVariants.{Sllv, Srlv, Srav}
-use Rattle.rsp_rows.specs.declared.scalar.RegisterRow.{RegisterRow}
-use Rattle.rsp_rows.specs.declared.scalar.RegisterRow.TheVariants.{Add, Addu, Sub, Subu, And, Or, Xor, Nor, Slt, Sltu}
-use Rattle.rsp_rows.specs.declared.scalar.ImmediateRow.{ImmediateRow}
-use Rattle.rsp_rows.specs.declared.scalar.ImmediateRow.TheVariants.{Addi, Addiu, Slti, Sltiu, Andi, Ori, Xori}
-use Rattle.rsp_rows.specs.declared.scalar.SignRow.{SignRow}
-use Rattle.rsp_rows.specs.declared.scalar.SignRow.TheVariants.{Bltz, Bgez, Bltzal, Bgezal, Blez, Bgtz}
-use Rattle.rsp_rows.specs.declared.scalar.EqualRow.{EqualRow}
-use Rattle.rsp_rows.specs.declared.scalar.EqualRow.TheVariants.{Beq, Bne}
-use Rattle.rsp_rows.specs.declared.scalar.LoadRow.{LoadRow}
-use Rattle.rsp_rows.specs.declared.scalar.LoadRow.TheVariants.{Lb, Lh, Lw, Lbu, Lhu, Lwu}
-use Rattle.rsp_rows.specs.declared.scalar.StoreRow.{StoreRow}
-use Rattle.rsp_rows.specs.declared.scalar.StoreRow.TheVariants.{Sb, Sh, Sw}
+use Rattle.rsp_decode.specs.declared.scalar.ShiftRow.{ShiftRow}
+use Rattle.rsp_decode.specs.declared.scalar.ShiftRow.TheVariants.{Sll, Srl, Sra}
+use Rattle.rsp_decode.specs.declared.scalar.ShiftByRow.{ShiftByRow}
+use Rattle.rsp_decode.specs.declared.scalar.ShiftByRow.TheVariants.{Sllv, Srlv, Srav}
+use Rattle.rsp_decode.specs.declared.scalar.RegisterRow.{RegisterRow}
+use Rattle.rsp_decode.specs.declared.scalar.RegisterRow.TheVariants.{Add, Addu, Sub, Subu, And, Or, Xor, Nor, Slt, Sltu}
+use Rattle.rsp_decode.specs.declared.scalar.ImmediateRow.{ImmediateRow}
+use Rattle.rsp_decode.specs.declared.scalar.ImmediateRow.TheVariants.{Addi, Addiu, Slti, Sltiu, Andi, Ori, Xori}
+use Rattle.rsp_decode.specs.declared.scalar.SignRow.{SignRow}
+use Rattle.rsp_decode.specs.declared.scalar.SignRow.TheVariants.{Bltz, Bgez, Bltzal, Bgezal, Blez, Bgtz}
+use Rattle.rsp_decode.specs.declared.scalar.EqualRow.{EqualRow}
+use Rattle.rsp_decode.specs.declared.scalar.EqualRow.TheVariants.{Beq, Bne}
+use Rattle.rsp_decode.specs.declared.scalar.LoadRow.{LoadRow}
+use Rattle.rsp_decode.specs.declared.scalar.LoadRow.TheVariants.{Lb, Lh, Lw, Lbu, Lhu, Lwu}
+use Rattle.rsp_decode.specs.declared.scalar.StoreRow.{StoreRow}
+use Rattle.rsp_decode.specs.declared.scalar.StoreRow.TheVariants.{Sb, Sh, Sw}
 use Rattle.rsp_memory.specs.Memory.{byte_at, half_at, word_at, with_byte, with_half, with_word}
 use Rattle.rsp_numbers.specs.Numbers.{s16, s32, modulo, floor_div, extended}
 use Rattle.rsp_scalar.specs.Registers.{register, with_register}

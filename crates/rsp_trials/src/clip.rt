@@ -1,5 +1,5 @@
 use rsp_acc::{Acc, Part, PlainAcc, PlaneAcc};
-use rsp_compare::{VectorClipRow, clip_op};
+use rsp_compare::{ClipOp, clip_op};
 use rsp_lanes::{Flags, Mask8, VReg};
 
 /// The flags that are set in every lane: carry, not-equal, compare, clip and extra.
@@ -15,7 +15,7 @@ fn flags(carry: bool, differ: bool, compare: bool, clip: bool, extra: bool) -> F
 
 /// Whether eight like lanes give the result `want`, in the low accumulators too, and those flags.
 fn gives<A: Acc>(
-    op: VectorClipRow,
+    op: ClipOp,
     operands: (u16, u16),
     before: &Flags,
     want: u16,
@@ -39,13 +39,7 @@ fn gives<A: Acc>(
         && flags.extra == after.extra
 }
 
-fn both_give(
-    op: VectorClipRow,
-    operands: (u16, u16),
-    before: &Flags,
-    want: u16,
-    after: &Flags,
-) -> bool {
+fn both_give(op: ClipOp, operands: (u16, u16), before: &Flags, want: u16, after: &Flags) -> bool {
     gives::<PlaneAcc>(op, operands, before, want, after)
         && gives::<PlainAcc>(op, operands, before, want, after)
 }
@@ -53,9 +47,9 @@ fn both_give(
 #[test]
 fn high_halves(rt: HostRuntime) {
     let after = flags(true, false, true, true, true);
-    assert!(rt; both_give(VectorClipRow::Vch, (4, 0xfffb), &Flags::new(), 5, &after));
+    assert!(rt; both_give(ClipOp::Vch, (4, 0xfffb), &Flags::new(), 5, &after));
     let after = flags(true, false, true, true, false);
-    assert!(rt; both_give(VectorClipRow::Vch, (5, 0xfffb), &Flags::new(), 5, &after));
+    assert!(rt; both_give(ClipOp::Vch, (5, 0xfffb), &Flags::new(), 5, &after));
 }
 
 #[test]
@@ -63,33 +57,17 @@ fn low_halves_with_carry_alone(rt: HostRuntime) {
     let carry = flags(true, false, false, false, false);
     let carry_and_extra = flags(true, false, false, false, true);
     let compare = flags(false, false, true, false, false);
-    assert!(rt;
-        both_give(
-            VectorClipRow::Vcl,
-            (3, 4),
-            &carry_and_extra,
-            0xfffc,
-            &compare
-        )
-    );
-    assert!(rt; both_give(VectorClipRow::Vcl, (3, 4), &carry, 3, &Flags::new()));
-    assert!(rt;
-        both_give(
-            VectorClipRow::Vcl,
-            (1, 0xffff),
-            &carry_and_extra,
-            1,
-            &compare
-        )
-    );
-    assert!(rt; both_give(VectorClipRow::Vcl, (1, 0xffff), &carry, 1, &Flags::new()));
+    assert!(rt; both_give(ClipOp::Vcl, (3, 4), &carry_and_extra, 0xfffc, &compare));
+    assert!(rt; both_give(ClipOp::Vcl, (3, 4), &carry, 3, &Flags::new()));
+    assert!(rt; both_give(ClipOp::Vcl, (1, 0xffff), &carry_and_extra, 1, &compare));
+    assert!(rt; both_give(ClipOp::Vcl, (1, 0xffff), &carry, 1, &Flags::new()));
 }
 
 #[test]
 fn complements(rt: HostRuntime) {
     let before = flags(true, true, false, false, true);
     let after = flags(false, false, true, true, false);
-    assert!(rt; both_give(VectorClipRow::Vcr, (4, 0xfffb), &before, 4, &after));
+    assert!(rt; both_give(ClipOp::Vcr, (4, 0xfffb), &before, 4, &after));
     let after = flags(false, false, false, true, false);
-    assert!(rt; both_give(VectorClipRow::Vcr, (5, 0xfffb), &before, 5, &after));
+    assert!(rt; both_give(ClipOp::Vcr, (5, 0xfffb), &before, 5, &after));
 }

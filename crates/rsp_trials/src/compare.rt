@@ -1,7 +1,6 @@
 use rsp_acc::{Acc, Part, PlainAcc, PlaneAcc};
 use rsp_compare::{
-    Flags, MergeOp, VectorAddRow, VectorLogicRow, VectorSelectRow, add_op, logic_op, merge_op,
-    select_op,
+    AddOp, Flags, LogicOp, MergeOp, SelectOp, add_op, logic_op, merge_op, select_op,
 };
 use rsp_lanes::VReg;
 use std::process::Abort;
@@ -16,7 +15,7 @@ fn worked_sums<A: Acc>(rt: &impl Abort) {
     let mut acc = A::zero();
 
     let sum = add_op(
-        VectorAddRow::Vaddc,
+        AddOp::Vaddc,
         &VReg::splat(0xffff),
         &VReg::splat(1),
         &mut flags,
@@ -25,7 +24,7 @@ fn worked_sums<A: Acc>(rt: &impl Abort) {
     assert_eq!(rt; sum, VReg::splat(0));
     assert_eq!(rt; vco(&flags), (255, 0));
     let sum = add_op(
-        VectorAddRow::Vadd,
+        AddOp::Vadd,
         &VReg::splat(0x7fff),
         &VReg::splat(0),
         &mut flags,
@@ -35,7 +34,7 @@ fn worked_sums<A: Acc>(rt: &impl Abort) {
     assert_eq!(rt; acc.part(Part::Low), VReg::splat(0x8000));
     assert_eq!(rt; vco(&flags), (0, 0));
     let signed = add_op(
-        VectorAddRow::Vabs,
+        AddOp::Vabs,
         &VReg::splat(0xffff),
         &VReg::splat(0x8000),
         &mut flags,
@@ -45,7 +44,7 @@ fn worked_sums<A: Acc>(rt: &impl Abort) {
     assert_eq!(rt; acc.part(Part::Low), VReg::splat(0x8000));
 
     let difference = add_op(
-        VectorAddRow::Vsubc,
+        AddOp::Vsubc,
         &VReg::splat(3),
         &VReg::splat(5),
         &mut flags,
@@ -54,7 +53,7 @@ fn worked_sums<A: Acc>(rt: &impl Abort) {
     assert_eq!(rt; difference, VReg::splat(0xfffe));
     assert_eq!(rt; vco(&flags), (255, 255));
     let difference = add_op(
-        VectorAddRow::Vsub,
+        AddOp::Vsub,
         &VReg::splat(0x8000),
         &VReg::splat(0),
         &mut flags,
@@ -73,10 +72,10 @@ fn worked_comparisons<A: Acc>(rt: &impl Abort) {
     let b = VReg::from_array([5, 1, 0xffff, 0x7fff, 0x8000, 0, 6, 4]);
 
     for (op, answer) in [
-        (VectorSelectRow::Vlt, 0b0100_1010),
-        (VectorSelectRow::Veq, 0b0010_0001),
-        (VectorSelectRow::Vne, 0b1101_1110),
-        (VectorSelectRow::Vge, 0b1011_0101),
+        (SelectOp::Vlt, 0b0100_1010),
+        (SelectOp::Veq, 0b0010_0001),
+        (SelectOp::Vne, 0b1101_1110),
+        (SelectOp::Vge, 0b1011_0101),
     ] {
         let _ = select_op(op, &a, &b, &mut flags, &mut acc);
         assert_eq!(rt; flags.compare.bits(), answer);
@@ -84,13 +83,13 @@ fn worked_comparisons<A: Acc>(rt: &impl Abort) {
 
     // Three below five leaves both of VCO set: equal lanes are then below, and no longer at least.
     let _ = add_op(
-        VectorAddRow::Vsubc,
+        AddOp::Vsubc,
         &VReg::splat(3),
         &VReg::splat(5),
         &mut flags,
         &mut acc,
     );
-    let lower = select_op(VectorSelectRow::Vlt, &a, &b, &mut flags, &mut acc);
+    let lower = select_op(SelectOp::Vlt, &a, &b, &mut flags, &mut acc);
     assert_eq!(rt;
         lower.to_array(),
         [5, 0xffff, 0xffff, 0x8000, 0x8000, 0, 5, 4]
@@ -114,12 +113,12 @@ fn worked_bits<A: Acc>(rt: &impl Abort) {
     let mut flags = Flags::new();
     let mut acc = A::zero();
     for (op, bits) in [
-        (VectorLogicRow::Vand, 0x0c30),
-        (VectorLogicRow::Vnand, 0xf3cf),
-        (VectorLogicRow::Vor, 0x3ffc),
-        (VectorLogicRow::Vnor, 0xc003),
-        (VectorLogicRow::Vxor, 0x33cc),
-        (VectorLogicRow::Vnxor, 0xcc33),
+        (LogicOp::Vand, 0x0c30),
+        (LogicOp::Vnand, 0xf3cf),
+        (LogicOp::Vor, 0x3ffc),
+        (LogicOp::Vnor, 0xc003),
+        (LogicOp::Vxor, 0x33cc),
+        (LogicOp::Vnxor, 0xcc33),
     ] {
         let result = logic_op(
             op,

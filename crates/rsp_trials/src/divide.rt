@@ -1,7 +1,7 @@
 ghost use Rattle.std.specs.Prelude.{◌<◌};
 
 use rsp_acc::{Acc, Part, PlainAcc, PlaneAcc};
-use rsp_divide::{DivideRow, Divider, divide_op, rcp_entry, reciprocal, root, rsq_entry};
+use rsp_divide::{DivideOp, Divider, divide_op, rcp_entry, reciprocal, root, rsq_entry};
 use rsp_lanes::VReg;
 use std::process::Abort;
 
@@ -38,7 +38,7 @@ fn quotients_of_signed_numbers(rt: HostRuntime) {
 
 /// A register of sevens and the low accumulators, after a row.
 fn after_row<A: Acc + Drop>(
-    op: DivideRow,
+    op: DivideOp,
     e: usize,
     de: usize,
     vt: &VReg,
@@ -55,8 +55,8 @@ fn after_row<A: Acc + Drop>(
 
 fn divides_short_operands<A: Acc + Drop>(rt: &impl Abort) {
     for (op, table) in [
-        (DivideRow::Vrcp, &RECIPROCALS[..]),
-        (DivideRow::Vrsq, &ROOTS[..]),
+        (DivideOp::Vrcp, &RECIPROCALS[..]),
+        (DivideOp::Vrsq, &ROOTS[..]),
     ] {
         let function = op as u32;
         for (x, quotient) in table.iter() {
@@ -81,16 +81,16 @@ fn divides_short_operands<A: Acc + Drop>(rt: &impl Abort) {
 fn divides_long_operands<A: Acc + Drop>(rt: &impl Abort) {
     let vt = VReg::from_array([1, 0, 3, 0, 0, 0, 0, 9]);
     let mut divider = Divider::new();
-    let (vd, low) = after_row::<A>(DivideRow::Vrcph, 8, 2, &vt, &mut divider);
+    let (vd, low) = after_row::<A>(DivideOp::Vrcph, 8, 2, &vt, &mut divider);
     assert_eq!(rt; vd, VReg::from_array([7, 7, 0, 7, 7, 7, 7, 7]));
     assert_eq!(rt; low, VReg::splat(1));
     assert_eq!(rt; (divider.input, divider.loaded), (1, true));
-    let (vd, low) = after_row::<A>(DivideRow::Vrcpl, 9, 3, &vt, &mut divider);
+    let (vd, low) = after_row::<A>(DivideOp::Vrcpl, 9, 3, &vt, &mut divider);
     assert_eq!(rt; vd.lane(3), 0x7fff);
     assert_eq!(rt; low, VReg::splat(0));
     assert_eq!(rt; (divider.output, divider.loaded), (0, false));
     divider.input = 0x1234;
-    let (vd, low) = after_row::<A>(DivideRow::Vrcpl, 2, 4, &vt, &mut divider);
+    let (vd, low) = after_row::<A>(DivideOp::Vrcpl, 2, 4, &vt, &mut divider);
     assert_eq!(rt; vd.lane(4), 0xa000);
     assert_eq!(rt; low, VReg::from_array([1, 1, 3, 3, 0, 0, 0, 0]));
     assert_eq!(rt;

@@ -4,7 +4,7 @@ use crate::trials::machine_of;
 use rsp_acc::{Acc, Addends, Part, PlainAcc, PlaneAcc};
 use rsp_lanes::VReg;
 use rsp_machine::{Machine, StepEnd};
-use rsp_multiply::{MpegRow, RoundRow, mpeg_op, round_op};
+use rsp_multiply::{MpegOp, RoundOp, mpeg_op, round_op};
 use std::alloc::AllocError;
 use std::process::Abort;
 
@@ -25,10 +25,10 @@ fn are_all<A: Acc>(acc: &A, parts: [u16; 3]) -> bool {
 }
 
 /// A rounding: its row, whether vs is odd, the accumulator before it, b, the accumulator after it, the result.
-const ROUNDINGS: [(RoundRow, bool, [u16; 3], u16, [u16; 3], u16); 10] = [
-    (RoundRow::Vrndp, true, [0, 0, 0], 1, [0, 1, 0], 1),
+const ROUNDINGS: [(RoundOp, bool, [u16; 3], u16, [u16; 3], u16); 10] = [
+    (RoundOp::Vrndp, true, [0, 0, 0], 1, [0, 1, 0], 1),
     (
-        RoundRow::Vrndp,
+        RoundOp::Vrndp,
         true,
         [0xffff, 0xffff, 0],
         1,
@@ -36,7 +36,7 @@ const ROUNDINGS: [(RoundRow, bool, [u16; 3], u16, [u16; 3], u16); 10] = [
         0xffff,
     ),
     (
-        RoundRow::Vrndn,
+        RoundOp::Vrndn,
         false,
         [0xffff, 0xffff, 0],
         1,
@@ -44,11 +44,11 @@ const ROUNDINGS: [(RoundRow, bool, [u16; 3], u16, [u16; 3], u16); 10] = [
         0xffff,
     ),
     // An accumulator of 0 or more stays under VRNDN.
-    (RoundRow::Vrndn, true, [0, 0, 0], 1, [0, 0, 0], 0),
-    (RoundRow::Vrndn, false, [0, 5, 0], 1, [0, 5, 0], 5),
+    (RoundOp::Vrndn, true, [0, 0, 0], 1, [0, 0, 0], 0),
+    (RoundOp::Vrndn, false, [0, 5, 0], 1, [0, 5, 0], 5),
     // A negative lane, alone and 65536 times as much.
     (
-        RoundRow::Vrndp,
+        RoundOp::Vrndp,
         false,
         [0, 0, 0],
         0xffff,
@@ -56,7 +56,7 @@ const ROUNDINGS: [(RoundRow, bool, [u16; 3], u16, [u16; 3], u16); 10] = [
         0xffff,
     ),
     (
-        RoundRow::Vrndp,
+        RoundOp::Vrndp,
         true,
         [0, 0, 7],
         0xfffe,
@@ -64,7 +64,7 @@ const ROUNDINGS: [(RoundRow, bool, [u16; 3], u16, [u16; 3], u16); 10] = [
         0xfffe,
     ),
     (
-        RoundRow::Vrndn,
+        RoundOp::Vrndn,
         true,
         [0xffff, 0xffff, 0xffff],
         0x8000,
@@ -73,7 +73,7 @@ const ROUNDINGS: [(RoundRow, bool, [u16; 3], u16, [u16; 3], u16); 10] = [
     ),
     // Sums wrap at 48 bits.
     (
-        RoundRow::Vrndp,
+        RoundOp::Vrndp,
         false,
         [0x7fff, 0xffff, 0xffff],
         1,
@@ -81,7 +81,7 @@ const ROUNDINGS: [(RoundRow, bool, [u16; 3], u16, [u16; 3], u16); 10] = [
         0x8000,
     ),
     (
-        RoundRow::Vrndn,
+        RoundOp::Vrndn,
         false,
         [0x8000, 0, 0],
         0xffff,
@@ -91,9 +91,9 @@ const ROUNDINGS: [(RoundRow, bool, [u16; 3], u16, [u16; 3], u16); 10] = [
 ];
 
 /// An MPEG multiply: its row, the accumulator before it, a, b, the accumulator after it, the result.
-const MULTIPLIES: [(MpegRow, [u16; 3], u16, u16, [u16; 3], u16); 15] = [
+const MULTIPLIES: [(MpegOp, [u16; 3], u16, u16, [u16; 3], u16); 15] = [
     (
-        MpegRow::Vmulq,
+        MpegOp::Vmulq,
         [1, 2, 3],
         0x0010,
         0x0010,
@@ -101,7 +101,7 @@ const MULTIPLIES: [(MpegRow, [u16; 3], u16, u16, [u16; 3], u16); 15] = [
         0x0080,
     ),
     (
-        MpegRow::Vmulq,
+        MpegOp::Vmulq,
         [1, 2, 3],
         0xfff0,
         0x0010,
@@ -109,7 +109,7 @@ const MULTIPLIES: [(MpegRow, [u16; 3], u16, u16, [u16; 3], u16); 15] = [
         0xff80,
     ),
     (
-        MpegRow::Vmulq,
+        MpegOp::Vmulq,
         [1, 2, 3],
         0x7fff,
         0x7fff,
@@ -117,7 +117,7 @@ const MULTIPLIES: [(MpegRow, [u16; 3], u16, u16, [u16; 3], u16); 15] = [
         0x7ff0,
     ),
     (
-        MpegRow::Vmulq,
+        MpegOp::Vmulq,
         [0, 0, 0],
         0x8000,
         0x8000,
@@ -125,7 +125,7 @@ const MULTIPLIES: [(MpegRow, [u16; 3], u16, u16, [u16; 3], u16); 15] = [
         0x7ff0,
     ),
     (
-        MpegRow::Vmulq,
+        MpegOp::Vmulq,
         [0, 0, 0],
         0x8000,
         0x7fff,
@@ -133,7 +133,7 @@ const MULTIPLIES: [(MpegRow, [u16; 3], u16, u16, [u16; 3], u16); 15] = [
         0x8000,
     ),
     (
-        MpegRow::Vmulq,
+        MpegOp::Vmulq,
         [0x8000, 0, 0],
         0xffff,
         0x0001,
@@ -141,16 +141,16 @@ const MULTIPLIES: [(MpegRow, [u16; 3], u16, u16, [u16; 3], u16); 15] = [
         0,
     ),
     (
-        MpegRow::Vmacq,
+        MpegOp::Vmacq,
         [0, 0x0100, 0x1234],
         9,
         9,
         [0, 0x00e0, 0x1234],
         0x0070,
     ),
-    (MpegRow::Vmacq, [0, 0x0120, 0], 9, 9, [0, 0x0120, 0], 0x0090),
+    (MpegOp::Vmacq, [0, 0x0120, 0], 9, 9, [0, 0x0120, 0], 0x0090),
     (
-        MpegRow::Vmacq,
+        MpegOp::Vmacq,
         [0xffff, 0xff1f, 0],
         9,
         9,
@@ -158,11 +158,11 @@ const MULTIPLIES: [(MpegRow, [u16; 3], u16, u16, [u16; 3], u16); 15] = [
         0xff90,
     ),
     // From 0 to 31 nothing is added, and from 64 on 32 is taken away.
-    (MpegRow::Vmacq, [0, 31, 5], 9, 9, [0, 31, 5], 0),
-    (MpegRow::Vmacq, [0, 64, 0xffff], 9, 9, [0, 32, 0xffff], 16),
+    (MpegOp::Vmacq, [0, 31, 5], 9, 9, [0, 31, 5], 0),
+    (MpegOp::Vmacq, [0, 64, 0xffff], 9, 9, [0, 32, 0xffff], 16),
     // Bit 5 of a negative number is that of its two's complement.
     (
-        MpegRow::Vmacq,
+        MpegOp::Vmacq,
         [0xffff, 0xffff, 1],
         9,
         9,
@@ -170,7 +170,7 @@ const MULTIPLIES: [(MpegRow, [u16; 3], u16, u16, [u16; 3], u16); 15] = [
         0xfff0,
     ),
     (
-        MpegRow::Vmacq,
+        MpegOp::Vmacq,
         [0xffff, 0xffdf, 1],
         9,
         9,
@@ -178,7 +178,7 @@ const MULTIPLIES: [(MpegRow, [u16; 3], u16, u16, [u16; 3], u16); 15] = [
         0xfff0,
     ),
     (
-        MpegRow::Vmacq,
+        MpegOp::Vmacq,
         [0x7fff, 0xffff, 1],
         9,
         9,
@@ -186,7 +186,7 @@ const MULTIPLIES: [(MpegRow, [u16; 3], u16, u16, [u16; 3], u16); 15] = [
         0x7ff0,
     ),
     (
-        MpegRow::Vmacq,
+        MpegOp::Vmacq,
         [0x8000, 0, 1],
         9,
         9,

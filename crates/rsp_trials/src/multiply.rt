@@ -1,6 +1,6 @@
 use rsp_acc::{Acc, PlainAcc, PlaneAcc};
 use rsp_lanes::VReg;
-use rsp_multiply::{MultiplyRow, multiply, sar};
+use rsp_multiply::{MultiplyOp, multiply, sar};
 use std::process::Abort;
 
 /// Each row with its lanes a and b, the accumulator after it and its result. Every list begins with
@@ -9,7 +9,7 @@ fn worked_rows<A: Acc>(rt: &impl Abort) {
     let mut acc = A::zero();
     for (op, a, b, high, middle, low, result) in [
         (
-            MultiplyRow::Vmulf,
+            MultiplyOp::Vmulf,
             0x8000,
             0x8000,
             0x0000,
@@ -18,7 +18,7 @@ fn worked_rows<A: Acc>(rt: &impl Abort) {
             0x7fff,
         ),
         (
-            MultiplyRow::Vmulu,
+            MultiplyOp::Vmulu,
             0x8000,
             0x8000,
             0x0000,
@@ -27,7 +27,7 @@ fn worked_rows<A: Acc>(rt: &impl Abort) {
             0xffff,
         ),
         (
-            MultiplyRow::Vmudh,
+            MultiplyOp::Vmudh,
             0x7fff,
             0x7fff,
             0x3fff,
@@ -36,7 +36,7 @@ fn worked_rows<A: Acc>(rt: &impl Abort) {
             0x7fff,
         ),
         (
-            MultiplyRow::Vmadh,
+            MultiplyOp::Vmadh,
             0x7fff,
             0x7fff,
             0x7ffe,
@@ -45,7 +45,7 @@ fn worked_rows<A: Acc>(rt: &impl Abort) {
             0x7fff,
         ),
         (
-            MultiplyRow::Vmadh,
+            MultiplyOp::Vmadh,
             0x7fff,
             0x7fff,
             0xbffd,
@@ -54,7 +54,7 @@ fn worked_rows<A: Acc>(rt: &impl Abort) {
             0x8000,
         ),
         (
-            MultiplyRow::Vmudn,
+            MultiplyOp::Vmudn,
             0xffff,
             0x0001,
             0x0000,
@@ -63,7 +63,7 @@ fn worked_rows<A: Acc>(rt: &impl Abort) {
             0xffff,
         ),
         (
-            MultiplyRow::Vmadl,
+            MultiplyOp::Vmadl,
             0xffff,
             0xffff,
             0x0000,
@@ -72,7 +72,7 @@ fn worked_rows<A: Acc>(rt: &impl Abort) {
             0xfffd,
         ),
         (
-            MultiplyRow::Vmudh,
+            MultiplyOp::Vmudh,
             0x0100,
             0x0100,
             0x0001,
@@ -81,7 +81,7 @@ fn worked_rows<A: Acc>(rt: &impl Abort) {
             0x7fff,
         ),
         (
-            MultiplyRow::Vmacu,
+            MultiplyOp::Vmacu,
             0x0000,
             0x0000,
             0x0001,
@@ -90,7 +90,7 @@ fn worked_rows<A: Acc>(rt: &impl Abort) {
             0xffff,
         ),
         (
-            MultiplyRow::Vmudh,
+            MultiplyOp::Vmudh,
             0xffff,
             0x0001,
             0xffff,
@@ -99,7 +99,7 @@ fn worked_rows<A: Acc>(rt: &impl Abort) {
             0xffff,
         ),
         (
-            MultiplyRow::Vmacu,
+            MultiplyOp::Vmacu,
             0x0000,
             0x0000,
             0xffff,

@@ -1,9 +1,9 @@
 -- Fields that travel together: from their list in the order of a row's text, and back.
 use Rattle.std.specs.Prelude.{ℕ, ◌<◌, List, [], ◌∷◌, slice_index}
-use Rattle.rsp_rows.specs.declared.fields.RegisterFields.{RegisterFields}
-use Rattle.rsp_rows.specs.declared.fields.ScalarMemoryFields.{ScalarMemoryFields}
-use Rattle.rsp_rows.specs.declared.fields.VectorFields.{VectorFields}
-use Rattle.rsp_rows.specs.declared.fields.VectorMemoryFields.{VectorMemoryFields}
+use Rattle.rsp_decode.specs.declared.fields.RegisterFields.{RegisterFields}
+use Rattle.rsp_decode.specs.declared.fields.ScalarMemoryFields.{ScalarMemoryFields}
+use Rattle.rsp_decode.specs.declared.fields.VectorFields.{VectorFields}
+use Rattle.rsp_decode.specs.declared.fields.VectorMemoryFields.{VectorMemoryFields}
 use Rattle.rsp_decode.specs.Table.BitFields.{value_at, whole}
 
 -- $d, $s, $t

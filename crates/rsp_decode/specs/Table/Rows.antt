@@ -3,10 +3,10 @@ use Rattle.std.specs.Prelude.{ℕ, ◌+◌, ◌*◌, ◌^◌, ◌==◌, Bool, Li
 use Rattle.rsp_decode.specs.declared.inst.Inst.{Inst}
 use Rattle.rsp_decode.specs.Table.BitFields.{BitField, value_at}
 use Rattle.rsp_decode.specs.Table.Operands.{Operand, bit_fields}
-use Rattle.rsp_rows.specs.declared.fields.RegisterFields.{RegisterFields}
-use Rattle.rsp_rows.specs.declared.fields.ScalarMemoryFields.{ScalarMemoryFields}
-use Rattle.rsp_rows.specs.declared.fields.VectorFields.{VectorFields}
-use Rattle.rsp_rows.specs.declared.fields.VectorMemoryFields.{VectorMemoryFields}
+use Rattle.rsp_decode.specs.declared.fields.RegisterFields.{RegisterFields}
+use Rattle.rsp_decode.specs.declared.fields.ScalarMemoryFields.{ScalarMemoryFields}
+use Rattle.rsp_decode.specs.declared.fields.VectorFields.{VectorFields}
+use Rattle.rsp_decode.specs.declared.fields.VectorMemoryFields.{VectorMemoryFields}
 use Rattle.rsp_decode.specs.Table.Fields.{register_fields, shift_by_fields, scalar_memory_fields, vector_fields, vector_memory_fields}
 
 -- what selects a row, and its name

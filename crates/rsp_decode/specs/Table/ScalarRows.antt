@@ -1,26 +1,26 @@
 -- The rows of the scalar unit: above each, the text of the first of its group.
 use Rattle.std.specs.Prelude.{List, [], ◌∷◌, ◌++◌, map, codes}
 use Rattle.rsp_decode.specs.declared.inst.Inst.TheVariants.{Shift, ShiftBy, JumpRegister, JumpLinkRegister, Break, Register, BranchSign, BranchEqual, Jump, Immediate, LoadUpper, Load, Store, MoveSp}
-use Rattle.rsp_rows.specs.declared.scalar.ShiftRow.{ShiftRow}
-use Rattle.rsp_rows.specs.declared.scalar.ShiftRow.TheVariants.{Sll, Srl, Sra}
-use Rattle.rsp_rows.specs.declared.scalar.ShiftByRow.{ShiftByRow}
-use Rattle.rsp_rows.specs.declared.scalar.ShiftByRow.TheVariants.{Sllv, Srlv, Srav}
-use Rattle.rsp_rows.specs.declared.scalar.RegisterRow.{RegisterRow}
-use Rattle.rsp_rows.specs.declared.scalar.RegisterRow.TheVariants.{Add, Addu, Sub, Subu, And, Or, Xor, Nor, Slt, Sltu}
-use Rattle.rsp_rows.specs.declared.scalar.SignRow.{SignRow}
-use Rattle.rsp_rows.specs.declared.scalar.SignRow.TheVariants.{Bltz, Bgez, Bltzal, Bgezal, Blez, Bgtz}
-use Rattle.rsp_rows.specs.declared.scalar.JumpRow.{JumpRow}
-use Rattle.rsp_rows.specs.declared.scalar.JumpRow.TheVariants.{J, Jal}
-use Rattle.rsp_rows.specs.declared.scalar.EqualRow.{EqualRow}
-use Rattle.rsp_rows.specs.declared.scalar.EqualRow.TheVariants.{Beq, Bne}
-use Rattle.rsp_rows.specs.declared.scalar.ImmediateRow.{ImmediateRow}
-use Rattle.rsp_rows.specs.declared.scalar.ImmediateRow.TheVariants.{Addi, Addiu, Slti, Sltiu, Andi, Ori, Xori}
-use Rattle.rsp_rows.specs.declared.scalar.LoadRow.{LoadRow}
-use Rattle.rsp_rows.specs.declared.scalar.LoadRow.TheVariants.{Lb, Lh, Lw, Lbu, Lhu, Lwu}
-use Rattle.rsp_rows.specs.declared.scalar.StoreRow.{StoreRow}
-use Rattle.rsp_rows.specs.declared.scalar.StoreRow.TheVariants.{Sb, Sh, Sw}
-use Rattle.rsp_rows.specs.declared.scalar.MoveRow.{MoveRow}
-use Rattle.rsp_rows.specs.declared.scalar.MoveRow.TheVariants.{From, To}
+use Rattle.rsp_decode.specs.declared.scalar.ShiftRow.{ShiftRow}
+use Rattle.rsp_decode.specs.declared.scalar.ShiftRow.TheVariants.{Sll, Srl, Sra}
+use Rattle.rsp_decode.specs.declared.scalar.ShiftByRow.{ShiftByRow}
+use Rattle.rsp_decode.specs.declared.scalar.ShiftByRow.TheVariants.{Sllv, Srlv, Srav}
+use Rattle.rsp_decode.specs.declared.scalar.RegisterRow.{RegisterRow}
+use Rattle.rsp_decode.specs.declared.scalar.RegisterRow.TheVariants.{Add, Addu, Sub, Subu, And, Or, Xor, Nor, Slt, Sltu}
+use Rattle.rsp_decode.specs.declared.scalar.SignRow.{SignRow}
+use Rattle.rsp_decode.specs.declared.scalar.SignRow.TheVariants.{Bltz, Bgez, Bltzal, Bgezal, Blez, Bgtz}
+use Rattle.rsp_decode.specs.declared.scalar.JumpRow.{JumpRow}
+use Rattle.rsp_decode.specs.declared.scalar.JumpRow.TheVariants.{J, Jal}
+use Rattle.rsp_decode.specs.declared.scalar.EqualRow.{EqualRow}
+use Rattle.rsp_decode.specs.declared.scalar.EqualRow.TheVariants.{Beq, Bne}
+use Rattle.rsp_decode.specs.declared.scalar.ImmediateRow.{ImmediateRow}
+use Rattle.rsp_decode.specs.declared.scalar.ImmediateRow.TheVariants.{Addi, Addiu, Slti, Sltiu, Andi, Ori, Xori}
+use Rattle.rsp_decode.specs.declared.scalar.LoadRow.{LoadRow}
+use Rattle.rsp_decode.specs.declared.scalar.LoadRow.TheVariants.{Lb, Lh, Lw, Lbu, Lhu, Lwu}
+use Rattle.rsp_decode.specs.declared.scalar.StoreRow.{StoreRow}
+use Rattle.rsp_decode.specs.declared.scalar.StoreRow.TheVariants.{Sb, Sh, Sw}
+use Rattle.rsp_decode.specs.declared.scalar.MoveRow.{MoveRow}
+use Rattle.rsp_decode.specs.declared.scalar.MoveRow.TheVariants.{From, To}
 use Rattle.rsp_decode.specs.Table.Operands.{Operand, scalar, shift_amount, signed, unsigned, jump_target, branch_target, scalar_memory, sp_register}
 use Rattle.rsp_decode.specs.Table.Rows.{Row, row, Selector, opcode, special, regimm, cop0, none, one, two, three, of_registers, of_shift_by, of_scalar_memory}
 

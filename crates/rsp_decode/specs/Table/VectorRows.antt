@@ -1,32 +1,32 @@
 -- The rows of the vector unit: above each, the text of the first of its group.
 use Rattle.std.specs.Prelude.{ℕ, ◌==◌, List, [], ◌∷◌, ◌++◌, map, codes, if◌then◌else◌}
 use Rattle.rsp_decode.specs.declared.inst.Inst.TheVariants.{MoveVector, MoveControl, Multiply, Round, MpegMultiply, ReadAccumulator, VectorAdd, VectorSelect, VectorClip, VectorMerge, VectorLogic, Divide, Idle, VectorLoad, VectorStore}
-use Rattle.rsp_rows.specs.declared.scalar.MoveRow.{MoveRow}
-use Rattle.rsp_rows.specs.declared.scalar.MoveRow.TheVariants.{From, To}
-use Rattle.rsp_rows.specs.declared.vector.Control.{Control}
-use Rattle.rsp_rows.specs.declared.vector.Control.TheVariants.{Vco, Vcc, Vce}
-use Rattle.rsp_rows.specs.declared.vector.MultiplyRow.{MultiplyRow}
-use Rattle.rsp_rows.specs.declared.vector.MultiplyRow.TheVariants.{Vmulf, Vmulu, Vmudl, Vmudm, Vmudn, Vmudh, Vmacf, Vmacu, Vmadl, Vmadm, Vmadn, Vmadh}
-use Rattle.rsp_rows.specs.declared.vector.RoundRow.{RoundRow}
-use Rattle.rsp_rows.specs.declared.vector.RoundRow.TheVariants.{Vrndp, Vrndn}
-use Rattle.rsp_rows.specs.declared.vector.MpegRow.{MpegRow}
-use Rattle.rsp_rows.specs.declared.vector.MpegRow.TheVariants.{Vmulq, Vmacq}
-use Rattle.rsp_rows.specs.declared.vector.VectorAddRow.{VectorAddRow}
-use Rattle.rsp_rows.specs.declared.vector.VectorAddRow.TheVariants.{Vadd, Vsub, Vabs, Vaddc, Vsubc}
-use Rattle.rsp_rows.specs.declared.vector.VectorSelectRow.{VectorSelectRow}
-use Rattle.rsp_rows.specs.declared.vector.VectorSelectRow.TheVariants.{Vlt, Veq, Vne, Vge}
-use Rattle.rsp_rows.specs.declared.vector.VectorClipRow.{VectorClipRow}
-use Rattle.rsp_rows.specs.declared.vector.VectorClipRow.TheVariants.{Vcl, Vch, Vcr}
-use Rattle.rsp_rows.specs.declared.vector.VectorLogicRow.{VectorLogicRow}
-use Rattle.rsp_rows.specs.declared.vector.VectorLogicRow.TheVariants.{Vand, Vnand, Vor, Vnor, Vxor, Vnxor}
-use Rattle.rsp_rows.specs.declared.vector.DivideRow.{DivideRow}
-use Rattle.rsp_rows.specs.declared.vector.DivideRow.TheVariants.{Vrcp, Vrcpl, Vrcph, Vmov, Vrsq, Vrsql, Vrsqh}
-use Rattle.rsp_rows.specs.declared.vector.IdleRow.{IdleRow}
-use Rattle.rsp_rows.specs.declared.vector.IdleRow.TheVariants.{Vnop, Vnull}
-use Rattle.rsp_rows.specs.declared.vector.VectorLoadRow.{VectorLoadRow}
-use Rattle.rsp_rows.specs.declared.vector.VectorLoadRow.TheVariants.{Lbv, Lsv, Llv, Ldv, Lqv, Lrv, Lpv, Luv, Lhv, Lfv, Ltv}
-use Rattle.rsp_rows.specs.declared.vector.VectorStoreRow.{VectorStoreRow}
-use Rattle.rsp_rows.specs.declared.vector.VectorStoreRow.TheVariants.{Sbv, Ssv, Slv, Sdv, Sqv, Srv, Spv, Suv, Shv, Sfv, Swv, Stv}
+use Rattle.rsp_decode.specs.declared.scalar.MoveRow.{MoveRow}
+use Rattle.rsp_decode.specs.declared.scalar.MoveRow.TheVariants.{From, To}
+use Rattle.rsp_decode.specs.declared.vector.Control.{Control}
+use Rattle.rsp_decode.specs.declared.vector.Control.TheVariants.{Vco, Vcc, Vce}
+use Rattle.rsp_decode.specs.declared.vector.MultiplyRow.{MultiplyRow}
+use Rattle.rsp_decode.specs.declared.vector.MultiplyRow.TheVariants.{Vmulf, Vmulu, Vmudl, Vmudm, Vmudn, Vmudh, Vmacf, Vmacu, Vmadl, Vmadm, Vmadn, Vmadh}
+use Rattle.rsp_decode.specs.declared.vector.RoundRow.{RoundRow}
+use Rattle.rsp_decode.specs.declared.vector.RoundRow.TheVariants.{Vrndp, Vrndn}
+use Rattle.rsp_decode.specs.declared.vector.MpegRow.{MpegRow}
+use Rattle.rsp_decode.specs.declared.vector.MpegRow.TheVariants.{Vmulq, Vmacq}
+use Rattle.rsp_decode.specs.declared.vector.VectorAddRow.{VectorAddRow}
+use Rattle.rsp_decode.specs.declared.vector.VectorAddRow.TheVariants.{Vadd, Vsub, Vabs, Vaddc, Vsubc}
+use Rattle.rsp_decode.specs.declared.vector.VectorSelectRow.{VectorSelectRow}
+use Rattle.rsp_decode.specs.declared.vector.VectorSelectRow.TheVariants.{Vlt, Veq, Vne, Vge}
+use Rattle.rsp_decode.specs.declared.vector.VectorClipRow.{VectorClipRow}
+use Rattle.rsp_decode.specs.declared.vector.VectorClipRow.TheVariants.{Vcl, Vch, Vcr}
+use Rattle.rsp_decode.specs.declared.vector.VectorLogicRow.{VectorLogicRow}
+use Rattle.rsp_decode.specs.declared.vector.VectorLogicRow.TheVariants.{Vand, Vnand, Vor, Vnor, Vxor, Vnxor}
+use Rattle.rsp_decode.specs.declared.vector.DivideRow.{DivideRow}
+use Rattle.rsp_decode.specs.declared.vector.DivideRow.TheVariants.{Vrcp, Vrcpl, Vrcph, Vmov, Vrsq, Vrsql, Vrsqh}
+use Rattle.rsp_decode.specs.declared.vector.IdleRow.{IdleRow}
+use Rattle.rsp_decode.specs.declared.vector.IdleRow.TheVariants.{Vnop, Vnull}
+use Rattle.rsp_decode.specs.declared.vector.VectorLoadRow.{VectorLoadRow}
+use Rattle.rsp_decode.specs.declared.vector.VectorLoadRow.TheVariants.{Lbv, Lsv, Llv, Ldv, Lqv, Lrv, Lpv, Luv, Lhv, Lfv, Ltv}
+use Rattle.rsp_decode.specs.declared.vector.VectorStoreRow.{VectorStoreRow}
+use Rattle.rsp_decode.specs.declared.vector.VectorStoreRow.TheVariants.{Sbv, Ssv, Slv, Sdv, Sqv, Srv, Spv, Suv, Shv, Sfv, Swv, Stv}
 use Rattle.rsp_decode.specs.Table.Operands.{Operand, scalar, control_register, vector_byte, all_bytes, half_bytes, vector_element, vector_lane, vector_memory, vector_operands}
 use Rattle.rsp_decode.specs.Table.Rows.{Row, row, Selector, cop2, computing, lwc2, lwc2_half, swc2, swc2_half, none, two, three, four, of_vectors, of_vector_memory}
 

@@ -6,14 +6,14 @@ ghost use Rattle.std.specs.Prelude.{true, false, ◌≡◌, ◌↔◌, ◌*◌, 
 ghost use Rattle.rsp_decode.specs.Visit.{is_known, visited};
 ghost use Rattle.rsp_decode.specs.Table.{value_at, whole, pick, meaning_of, computing_rows, multiply_row, round_row, mpeg_row, read_accumulator_row, vector_add_row, vector_select_row, vector_clip_row, vector_merge_row, vector_logic_row, divide_row, idle_row};
 
-use crate::fields::{element, function, lane, vd, vector_fields, vt};
+use crate::bit_fields::{element, function, lane, vd, vector_fields, vt};
 use crate::inst::Inst;
 use crate::rows::{arms, instruction_table};
-use crate::visitor::Visitor;
-use rsp_rows::{
+use crate::vector::{
     DivideRow, IdleRow, MpegRow, MultiplyRow, RoundRow, VectorAddRow, VectorClipRow,
     VectorLogicRow, VectorSelectRow,
 };
+use crate::visitor::Visitor;
 
 #[inline]
 fn multiply<V: Visitor>(word: u32, row: MultiplyRow, visitor: &mut V) -> bool

@@ -4,11 +4,11 @@ ghost use Rattle.std.specs.Prelude.{true, ◌≡◌, ◌*◌, ◌+◌, ◌^◌};
 ghost use Rattle.rsp_decode.specs.Visit.{is_known, visited};
 ghost use Rattle.rsp_decode.specs.Table.{value_at, whole, pick, meaning_of, cop0_rows, move_sp_row};
 
-use crate::fields::{rs, rt, sp_register};
+use crate::bit_fields::{rs, rt, sp_register};
 use crate::inst::Inst;
 use crate::rows::{arms, instruction_table};
+use crate::scalar::MoveRow;
 use crate::visitor::Visitor;
-use rsp_rows::MoveRow;
 
 #[inline]
 fn move_sp<V: Visitor>(word: u32, row: MoveRow, visitor: &mut V) -> bool

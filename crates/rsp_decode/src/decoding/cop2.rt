@@ -5,11 +5,11 @@ ghost use Rattle.std.specs.Prelude.{true, ◌≡◌, ◌*◌, ◌+◌, ◌^◌};
 ghost use Rattle.rsp_decode.specs.Visit.{is_known, visited};
 ghost use Rattle.rsp_decode.specs.Table.{value_at, whole, pick, meaning_of, cop2_rows, move_vector_row, move_control_row};
 
-use crate::fields::{byte_element, control, rd, rs, rt};
+use crate::bit_fields::{byte_element, control, rd, rs, rt};
 use crate::inst::Inst;
 use crate::rows::{arms, instruction_table};
+use crate::scalar::MoveRow;
 use crate::visitor::Visitor;
-use rsp_rows::MoveRow;
 
 #[inline]
 fn move_vector<V: Visitor>(word: u32, row: MoveRow, visitor: &mut V) -> bool

@@ -6,11 +6,11 @@ ghost use Rattle.rsp_decode.specs.declared.inst.Inst.{Inst};
 ghost use Rattle.rsp_decode.specs.Visit.{is_known, visited};
 ghost use Rattle.rsp_decode.specs.Table.{IsInstruction, pick_by_operation, vector_memory_in, lwc2_rows};
 
-use crate::fields::{half, operation, vector_memory_fields};
+use crate::bit_fields::{half, operation, vector_memory_fields};
 use crate::inst::Inst;
 use crate::rows::{arms, instruction_table};
+use crate::vector::VectorLoadRow;
 use crate::visitor::Visitor;
-use rsp_rows::VectorLoadRow;
 
 #[inline]
 fn vector_load<V: Visitor>(word: u32, row: VectorLoadRow, visitor: &mut V) -> bool

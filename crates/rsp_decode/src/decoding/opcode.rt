@@ -5,12 +5,12 @@ ghost use Rattle.rsp_decode.specs.declared.inst.Inst.{Inst};
 ghost use Rattle.rsp_decode.specs.Visit.{is_known, visited};
 ghost use Rattle.rsp_decode.specs.Table.{value_at, whole, pick, meaning_of, opcode_rows, branch_equal_row, jump_row, load_upper_row, load_row, store_row};
 
+use crate::bit_fields::{immediate, opcode, rs, rt, scalar_memory_fields, target};
 use crate::decoding::regimm::branch_sign;
-use crate::fields::{immediate, opcode, rs, rt, scalar_memory_fields, target};
 use crate::inst::Inst;
 use crate::rows::{arms, instruction_table};
+use crate::scalar::{EqualRow, ImmediateRow, JumpRow, LoadRow, SignRow, StoreRow};
 use crate::visitor::Visitor;
-use rsp_rows::{EqualRow, ImmediateRow, JumpRow, LoadRow, SignRow, StoreRow};
 
 #[inline]
 fn branch_equal<V: Visitor>(word: u32, row: EqualRow, visitor: &mut V) -> bool

@@ -4,11 +4,11 @@ ghost use Rattle.std.specs.Prelude.{true, ◌≡◌, ◌*◌, ◌+◌, ◌^◌};
 ghost use Rattle.rsp_decode.specs.Visit.{is_known, visited};
 ghost use Rattle.rsp_decode.specs.Table.{value_at, whole, pick, meaning_of, regimm_rows, branch_sign_row};
 
-use crate::fields::{immediate, rs, rt};
+use crate::bit_fields::{immediate, rs, rt};
 use crate::inst::Inst;
 use crate::rows::{arms, instruction_table};
+use crate::scalar::SignRow;
 use crate::visitor::Visitor;
-use rsp_rows::SignRow;
 
 #[inline]
 pub fn branch_sign<V: Visitor>(word: u32, row: SignRow, visitor: &mut V) -> bool

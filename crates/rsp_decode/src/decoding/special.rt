@@ -4,11 +4,11 @@ ghost use Rattle.std.specs.Prelude.{true, ◌≡◌};
 ghost use Rattle.rsp_decode.specs.Visit.{is_known, visited};
 ghost use Rattle.rsp_decode.specs.Table.{value_at, whole, pick, meaning_of, special_rows, shift_row, shift_by_row, jump_register_row, jump_link_register_row, register_row, break_row};
 
-use crate::fields::{function, rd, register_fields, rs, rt, shift_amount};
+use crate::bit_fields::{function, rd, register_fields, rs, rt, shift_amount};
 use crate::inst::Inst;
 use crate::rows::{arms, instruction_table};
+use crate::scalar::{RegisterRow, ShiftByRow, ShiftRow};
 use crate::visitor::Visitor;
-use rsp_rows::{RegisterRow, ShiftByRow, ShiftRow};
 
 #[inline]
 fn shift<V: Visitor>(word: u32, row: ShiftRow, visitor: &mut V) -> bool

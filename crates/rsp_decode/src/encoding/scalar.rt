@@ -3,7 +3,7 @@
 ghost use Rattle.std.specs.Prelude.{◌≡◌};
 ghost use Rattle.rsp_decode.specs.Table.{shift_selector, shift_by_selector, register_selector, branch_sign_selector, jump_selector, branch_equal_selector, immediate_selector, load_selector, store_selector, move_sp_selector};
 
-use rsp_rows::{
+use crate::scalar::{
     EqualRow, ImmediateRow, JumpRow, LoadRow, MoveRow, RegisterRow, ShiftByRow, ShiftRow, SignRow,
     StoreRow,
 };

@@ -3,9 +3,10 @@
 ghost use Rattle.std.specs.Prelude.{◌≡◌};
 ghost use Rattle.rsp_decode.specs.Table.{move_vector_selector, move_control_selector, multiply_selector, round_selector, mpeg_selector, vector_add_selector, vector_select_selector, vector_clip_selector, vector_logic_selector, divide_selector, idle_selector, vector_load_selector, vector_store_selector};
 
-use rsp_rows::{
-    DivideRow, IdleRow, MoveRow, MpegRow, MultiplyRow, RoundRow, VectorAddRow, VectorClipRow,
-    VectorLoadRow, VectorLogicRow, VectorSelectRow, VectorStoreRow,
+use crate::scalar::MoveRow;
+use crate::vector::{
+    DivideRow, IdleRow, MpegRow, MultiplyRow, RoundRow, VectorAddRow, VectorClipRow, VectorLoadRow,
+    VectorLogicRow, VectorSelectRow, VectorStoreRow,
 };
 
 const COP2: u32 = 18 << 26;

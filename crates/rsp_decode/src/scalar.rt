@@ -1,4 +1,5 @@
-// The rows of the scalar unit, a group each. The number of a row is its code in the field or opcode that its group goes by.
+// The instructions of the scalar unit, an enum for each group. The number of an instruction is its code in the field or opcode that
+// its group goes by.
 
 /// Shifts by an amount that stands in the word.
 #[derive(Clone, Copy)]

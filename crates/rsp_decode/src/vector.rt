@@ -1,4 +1,4 @@
-// The rows of the vector unit, a group each. The number of a row is its function or its operation.
+// The instructions of the vector unit, an enum for each group. The number of an instruction is its function or its operation.
 
 /// The control registers of the vector unit.
 #[derive(Clone, Copy)]
