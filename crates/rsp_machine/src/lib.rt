@@ -19,6 +19,7 @@ mod registers;
 mod saver;
 mod sp;
 mod step;
+mod until;
 mod vector;
 
 pub use host::{RangeFault, TaskFault};
@@ -27,3 +28,4 @@ pub use pass::PassFault;
 pub use record::Record;
 pub use registers::{AllRegisters, RegistersFault};
 pub use step::StepEnd;
+pub use until::{Never, Until};
