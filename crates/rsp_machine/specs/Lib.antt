@@ -12,3 +12,4 @@ pub mod Making
 pub mod Registers
 pub mod Transfers
 pub mod Pass
+pub mod Until
