@@ -1,6 +1,6 @@
 """Runs a program on z64, the low-level RSP of mupen64plus. It is a library (Debian and Ubuntu: apt-get install mupen64plus-rsp-z64).
 
-As a program of its own, tests/z64.py: it takes IMEM and DMEM from its standard input, 8192 bytes, and writes DMEM after BREAK to its standard output.
+As a program of its own, tests/lib/z64.py: it takes IMEM and DMEM from its standard input, 8192 bytes, and writes DMEM after BREAK to its standard output.
 """
 
 import ctypes
