@@ -13,12 +13,8 @@ mod computing;
 #[cfg(test)]
 mod debugger;
 #[cfg(test)]
-mod decode;
-#[cfg(test)]
 mod divide;
 mod listings;
-#[cfg(test)]
-mod loadstore;
 #[cfg(test)]
 mod looks;
 #[cfg(test)]
@@ -33,10 +29,6 @@ mod multiply;
 mod random;
 #[cfg(test)]
 mod refusals;
-#[cfg(test)]
-mod regs;
-#[cfg(test)]
-mod scalar;
 #[cfg(test)]
 mod shown;
 #[cfg(test)]

@@ -2,8 +2,8 @@ ghost use Rattle.std.specs.Prelude.{◌≡◌, IfOk, replicate};
 ghost use Rattle.rsp_machine.specs.State.{start_of};
 
 use rsp_acc::{Acc, Part, PlainAcc, PlaneAcc};
+use rsp_machine::Machine;
 use rsp_machine::laws::same_steps;
-use rsp_machine::{Machine, RangeFault, StepEnd, TaskFault};
 use rsp_memory::{Bank, Rdram};
 use std::alloc::{AllocError, Global};
 use std::process::Abort;
@@ -27,89 +27,6 @@ fn program<A: Acc>(machine: &mut Machine<A>, place: u16, words: &[u32]) {
         at = at.wrapping_add(4);
     }
     machine.set_pc(start);
-}
-
-/// Does four steps: the places after the first three, and the answer of the last.
-fn four_steps<A: Acc>(machine: &mut Machine<A>) -> ([u16; 3], StepEnd) {
-    let mut places = [0; 3];
-    for i in 0..3 {
-        let _ = machine.step();
-        places[i] = machine.pc();
-    }
-    (places, machine.step())
-}
-
-/// Registers 1, 2, 3 and 31, SP_STATUS, and the word at FC8 hex of DMEM.
-fn shown<A: Acc>(machine: &Machine<A>) -> [u32; 6] {
-    [
-        machine.reg(1),
-        machine.reg(2),
-        machine.reg(3),
-        machine.reg(31),
-        machine.sp_regs().peek(4),
-        machine.dmem().word(0xfc8),
-    ]
-}
-
-#[test]
-fn executes_three_words(rt: HostRuntime) -> Result<(), AllocError> {
-    let (done, halted) = (StepEnd::Done, StepEnd::Halted);
-    for (place, words, places, end, want) in [
-        // ori $2, $0, 0x1234; sw $2, 0xfc8($0); break
-        (
-            0,
-            [0x3402_1234, 0xac02_0fc8, 0x0000_000d],
-            [4, 8, 0xc],
-            halted,
-            [0, 0x1234, 0, 0, 3, 0x1234],
-        ),
-        // sltiu $1, $0, -1; lui $2, 0x8000; sra $3, $2, 31
-        (
-            0,
-            [0x2c01_ffff, 0x3c02_8000, 0x0002_1fc3],
-            [4, 8, 0xc],
-            done,
-            [1, 0x8000_0000, 0xffff_ffff, 0, 0, 0],
-        ),
-        // j 0x010; j 0x020
-        (
-            0,
-            [0x0800_0004, 0x0800_0008, 0],
-            [4, 0x10, 0x20],
-            done,
-            [0; 6],
-        ),
-        // addiu $31, $0, 5; jal 0x100; nop
-        (
-            0xff4,
-            [0x241f_0005, 0x0c00_0040, 0],
-            [0xff8, 0xffc, 0x100],
-            done,
-            [0; 6],
-        ),
-        // lui $31, 0x8000; bltzal $31, 0x010; nop
-        (
-            0xffc,
-            [0x3c1f_8000, 0x07f0_0003, 0],
-            [0, 4, 0x10],
-            done,
-            [0, 0, 0, 8, 0, 0],
-        ),
-        // ori $1, $0, 0x40; mtc0 $1, $c4, which sets single step
-        (
-            0,
-            [0x3401_0040, 0x4081_2000, 0],
-            [4, 8, 8],
-            halted,
-            [0x40, 0, 0, 0, 0x21, 0],
-        ),
-    ] {
-        let mut machine: Machine<PlaneAcc> = start(&rt, rt.alloc())?;
-        program(&mut machine, place, &words);
-        assert_eq!(rt; four_steps(&mut machine), (places, end), "at {place}");
-        assert_eq!(rt; shown(&machine), want, "at {place}");
-    }
-    Ok(())
 }
 
 #[test]
@@ -141,69 +58,6 @@ fn makes_steps_at_once(rt: HostRuntime) -> Result<(), AllocError> {
         assert_eq!(rt; machine.reg(1), count);
         assert_eq!(rt; machine.sp_regs().halted(), halted);
     }
-    Ok(())
-}
-
-#[test]
-fn starts_a_task_or_refuses(rt: HostRuntime) -> Result<(), AllocError> {
-    let mut machine: Machine<PlaneAcc> = start(&rt, rt.alloc())?;
-    let _ = machine.load_bytes(Bank::Rdram, 8, &[0, 0, 0, 0x40, 0, 0, 0, 8]);
-    let _ = machine.load_bytes(Bank::Rdram, 0x40, &[0x34, 1, 0, 7, 0, 0, 0, 0xd]);
-    machine.set_pc(0x20);
-    for (place, fault) in [
-        (4, TaskFault::TaskPlace),
-        (0x48, TaskFault::TaskPlace),
-        (0x40, TaskFault::TaskSize),
-    ] {
-        assert_eq!(rt; machine.start_task(place), Err(fault), "at {place}");
-        assert_eq!(rt;
-            (machine.pc(), machine.npc(), machine.imem().word(0)),
-            (0x20, 0x24, 0)
-        );
-    }
-    assert_eq!(rt; machine.start_task(0), Ok(()));
-    assert_eq!(rt; four_steps(&mut machine), ([4, 8, 8], StepEnd::Halted));
-    assert_eq!(rt; shown(&machine), [7, 0, 0, 0, 0x43, 0x40]);
-    Ok(())
-}
-
-#[test]
-fn refuses_and_keeps(rt: HostRuntime) -> Result<(), AllocError> {
-    let mut machine: Machine<PlaneAcc> = start(&rt, rt.alloc())?;
-    for (bank, place, bytes, answer) in [
-        (Bank::Dmem, 4095, [1, 2].as_slice(), Err(RangeFault)),
-        (Bank::Dmem, 4096, [].as_slice(), Ok(())),
-        (Bank::Rdram, 127, [7, 8].as_slice(), Err(RangeFault)),
-        (Bank::Rdram, 127, [7].as_slice(), Ok(())),
-    ] {
-        assert_eq!(rt;
-            machine.load_bytes(bank, place, bytes),
-            answer,
-            "at {place}"
-        );
-    }
-    program(&mut machine, 0, &[0x4a00_001f]);
-    let word = 0x4a00_001f;
-    assert_eq!(rt;
-        four_steps(&mut machine),
-        ([0; 3], StepEnd::Reserved { word })
-    );
-    assert_eq!(rt; (machine.dmem().byte(4095), machine.dmem().byte(0)), (0, 0));
-    assert_eq!(rt; machine.rdram().len(), 128);
-    assert_eq!(rt; machine.into_rdram().byte(127), 7);
-    Ok(())
-}
-
-#[test]
-fn host_reaches_the_registers(rt: HostRuntime) -> Result<(), AllocError> {
-    let mut machine: Machine<PlaneAcc> = start(&rt, rt.alloc())?;
-    assert_eq!(rt; (machine.read_reg(7), machine.read_reg(7)), (0, 1));
-    // Intbreak, and a break.
-    machine.write_reg(4, 0x100);
-    program(&mut machine, 0, &[0x0000_000d]);
-    assert_eq!(rt; four_steps(&mut machine), ([4; 3], StepEnd::Halted));
-    assert_eq!(rt; machine.read_reg(4), 0x43);
-    assert!(rt; machine.sp_regs().interrupt());
     Ok(())
 }
 
@@ -258,7 +112,7 @@ fn moves_and_computes<A: Acc>(rt: &impl Abort, machine: &mut Machine<A>) {
         ),
     ] {
         program(machine, 0, &words);
-        let _ = four_steps(machine);
+        let _ = machine.steps(4);
         assert_eq!(rt; vectors_shown(machine), want);
     }
 }

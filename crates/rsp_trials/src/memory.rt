@@ -1,18 +1,5 @@
-use rsp_memory::{Rdram, SpMem};
+use rsp_memory::Rdram;
 use std::alloc::AllocError;
-
-#[test]
-fn words_wrap_byte_by_byte(rt: HostRuntime) {
-    let mut memory = SpMem::new();
-    memory.set_half(0xffe, 0x1122);
-    memory.set_byte(0x1000, 0x33);
-    memory.set_byte(1, 0x44);
-    assert_eq!(rt; memory.word(0xffe), 0x1122_3344);
-    assert_eq!(rt; memory.half(0xfff), 0x2233);
-    memory.set_word(0xfff, 0x5566_7788);
-    assert_eq!(rt; memory.byte(0xfff), 0x55);
-    assert_eq!(rt; memory.word(0), 0x6677_8800);
-}
 
 #[test]
 fn images_have_whole_sizes(rt: HostRuntime) -> Result<(), AllocError> {

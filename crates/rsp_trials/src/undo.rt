@@ -1,7 +1,8 @@
-use crate::computing::{computing_word, control_words, register_load};
+use crate::computing::{control_words, register_load};
 use crate::random::Random;
 use crate::shown::{Shown, code_of};
 use rsp_acc::{Acc, PlainAcc, PlaneAcc};
+use rsp_decode::table;
 use rsp_machine::{Machine, Record, StepEnd};
 use rsp_memory::{Bank, Rdram};
 use std::alloc::{AllocError, Global};
@@ -13,92 +14,14 @@ const PROGRAMS: u32 = 1000;
 /// How many steps of a program are recorded at most.
 const STEPS: u32 = 12;
 
-/// Rows that don't compute on vectors: the bits that select the row, and those that may be anything.
-static ROWS: [(u32, u32); 65] = [
-    // sll to srav, jr, jalr
-    (0x0000_0000, 0x001f_ffc0),
-    (0x0000_0002, 0x001f_ffc0),
-    (0x0000_0003, 0x001f_ffc0),
-    (0x0000_0004, 0x03ff_f800),
-    (0x0000_0006, 0x03ff_f800),
-    (0x0000_0007, 0x03ff_f800),
-    (0x0000_0008, 0x03e0_0000),
-    (0x0000_0009, 0x03e0_f800),
-    // add to sltu
-    (0x0000_0020, 0x03ff_f800),
-    (0x0000_0022, 0x03ff_f800),
-    (0x0000_0024, 0x03ff_f800),
-    (0x0000_0025, 0x03ff_f800),
-    (0x0000_0026, 0x03ff_f800),
-    (0x0000_0027, 0x03ff_f800),
-    (0x0000_002a, 0x03ff_f800),
-    (0x0000_002b, 0x03ff_f800),
-    // bltz, bgez, bltzal, bgezal
-    (0x0400_0000, 0x03e0_ffff),
-    (0x0401_0000, 0x03e0_ffff),
-    (0x0410_0000, 0x03e0_ffff),
-    (0x0411_0000, 0x03e0_ffff),
-    // j, jal, beq, bne, blez, bgtz
-    (0x0800_0000, 0x03ff_ffff),
-    (0x0c00_0000, 0x03ff_ffff),
-    (0x1000_0000, 0x03ff_ffff),
-    (0x1400_0000, 0x03ff_ffff),
-    (0x1800_0000, 0x03e0_ffff),
-    (0x1c00_0000, 0x03e0_ffff),
-    // addiu, slti, andi, xori, lui
-    (0x2400_0000, 0x03ff_ffff),
-    (0x2800_0000, 0x03ff_ffff),
-    (0x3000_0000, 0x03ff_ffff),
-    (0x3800_0000, 0x03ff_ffff),
-    (0x3c00_0000, 0x03ff_ffff),
-    // lb, lh, lw, lbu, lhu, lwu, sb, sh, sw
-    (0x8000_0000, 0x03ff_ffff),
-    (0x8400_0000, 0x03ff_ffff),
-    (0x8c00_0000, 0x03ff_ffff),
-    (0x9000_0000, 0x03ff_ffff),
-    (0x9400_0000, 0x03ff_ffff),
-    (0x9c00_0000, 0x03ff_ffff),
-    (0xa000_0000, 0x03ff_ffff),
-    (0xa400_0000, 0x03ff_ffff),
-    (0xac00_0000, 0x03ff_ffff),
-    // mfc0, mtc0, mfc2, cfc2, mtc2, ctc2
-    (0x4000_0000, 0x001f_7800),
-    (0x4080_0000, 0x001f_7800),
-    (0x4800_0000, 0x001f_ff80),
-    (0x4840_0000, 0x001f_f800),
-    (0x4880_0000, 0x001f_ff80),
-    (0x48c0_0000, 0x001f_f800),
-    // lbv to lqv by twos, lrv to lhv, lfv of element 0, ltv
-    (0xc800_0000, 0x03ff_0fff),
-    (0xc800_1000, 0x03ff_0fff),
-    (0xc800_2000, 0x03ff_07ff),
-    (0xc800_2800, 0x03ff_07ff),
-    (0xc800_3000, 0x03ff_0fff),
-    (0xc800_4000, 0x03ff_07ff),
-    (0xc800_4800, 0x03ff_007f),
-    (0xc800_5800, 0x03ff_07ff),
-    // sbv to sdv by twos, sqv to shv, sfv of element 0, swv, stv
-    (0xe800_0000, 0x03ff_0fff),
-    (0xe800_1000, 0x03ff_0fff),
-    (0xe800_2000, 0x03ff_07ff),
-    (0xe800_2800, 0x03ff_07ff),
-    (0xe800_3000, 0x03ff_07ff),
-    (0xe800_3800, 0x03ff_07ff),
-    (0xe800_4000, 0x03ff_07ff),
-    (0xe800_4800, 0x03ff_007f),
-    (0xe800_5000, 0x03ff_07ff),
-    (0xe800_5800, 0x03ff_07ff),
-    // break
-    (0x0000_000d, 0x0000_0000),
-];
-
-/// A word of any row, with fields that look random.
+/// A word of any instruction, with fields that look random.
 fn any_word(random: &mut Random) -> u32 {
-    if random.below(3) == 0 {
-        return computing_word(random);
+    let rows = table();
+    let bits = random.bits();
+    match rows.get(random.bits() as usize % rows.len().max(1)) {
+        Some(row) => row.value | bits & !row.mask,
+        None => 0,
     }
-    let (row, free) = ROWS[random.below(65) as usize];
-    row | random.bits() & free
 }
 
 /// The words that load all registers from DMEM and set all flags.

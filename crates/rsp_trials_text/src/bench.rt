@@ -43,16 +43,6 @@ fn steps_through_three_words(rt: HostRuntime) -> Result<(), Fail> {
 }
 
 #[test]
-fn refuses_and_goes_on(rt: HostRuntime) -> Result<(), Fail> {
-    let script =
-        b"load imem 0 0d0\nload rom 0 00\nload dmem 4095 0102\nmem dmem 0 0\nfoo\nstep now\ntask 4\nread 7\nsp # looks\nread 7\nstep\r";
-    let replies =
-        b"fault 31 BadNumber\nfault 30 BadCommand\nfault 6 RangeFault\nfault 31 BadNumber\nfault 30 BadCommand\nfault 30 BadCommand\nfault 4 TaskPlace\nc7 00000000\nc0 00000000\nc1 00000000\nc2 00000ff8\nc3 00000ff8\nc4 00000000\nc5 00000000\nc6 00000000\nc7 00000001\nc8 00000000\nc9 00000000\nc10 00000000\nc11 00000000\nc12 00000000\nc13 00000000\nc14 00000000\nc15 00000000\ninterrupt 0\nc7 00000001\nfault 33 NotText\n";
-    assert!(rt; gives(&rt, 64, script, replies)?);
-    Ok(())
-}
-
-#[test]
 fn hands_back_the_image(rt: HostRuntime) -> Result<(), Fail> {
     let mut session = first_session(&rt)?;
     assert!(rt; !session.in_block());

@@ -1,5 +1,5 @@
-//! Tests of the crates that read and write text, from words of source text to whole scripts, in one crate, so that those crates need no second
-//! proof for their tests.
+//! Tests of texts and scripts that only a test inside can make, in a crate of their own: with memory there and refused, over readers and writers that fail,
+//! and on sessions. What texts mean and what scripts are answered is shown by scripts.
 #![tactic(auto)]
 
 #[cfg(test)]
@@ -7,20 +7,8 @@ mod asm;
 #[cfg(test)]
 mod bench;
 #[cfg(test)]
-mod block;
-#[cfg(test)]
-mod chars;
-#[cfg(test)]
 mod ends;
 #[cfg(test)]
 mod fakes;
 #[cfg(test)]
-mod lines;
-#[cfg(test)]
-mod operands;
-#[cfg(test)]
 mod refusals;
-#[cfg(test)]
-mod script;
-#[cfg(test)]
-mod text;
