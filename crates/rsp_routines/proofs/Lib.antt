@@ -1,0 +1,9 @@
+pub mod Multiplying
+pub mod Transforms
+pub mod NewtonStep
+pub mod Bytes
+pub mod Saving
+pub mod Tailed
+pub mod Copies
+pub mod Fills
+pub mod MixesSound

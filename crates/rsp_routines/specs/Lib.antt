@@ -1,0 +1,8 @@
+-- Routines of microcode, and what each does.
+pub mod FixedProduct
+pub mod Transform
+pub mod Newton
+pub mod Areas
+pub mod Copying
+pub mod Filling
+pub mod SoundMixing

@@ -1,0 +1,21 @@
+//! Routines of microcode to paste, each with a theorem about what it does for all inputs.
+//!
+//! A routine is a function that returns its words. Its contract says which text they are assembled from, and
+//! what steps over them do, from every state that meets the premises.
+#![tactic(auto)]
+
+mod copying;
+mod filling;
+mod newton;
+mod product;
+mod running;
+mod sound_mixing;
+mod transforming;
+
+pub use copying::copy_bytes;
+pub use filling::fill_bytes;
+pub use newton::improve_reciprocal;
+pub use product::multiply_fixed;
+pub use running::{multiply, ready};
+pub use sound_mixing::mix_sound;
+pub use transforming::transform;
