@@ -7,3 +7,6 @@ pub mod Tailed
 pub mod Copies
 pub mod Fills
 pub mod MixesSound
+pub mod Unaligned
+pub mod FiltersSound
+pub mod ResamplesSound

@@ -85,7 +85,7 @@ elsewhere m v a x h =
     let size = bytes_put v a in
     bytes_elsewhere (take (reach a) (each_byte (λ k. register_byte v ((0 + k) % 16)))) m a x (λ k l. h k (omega arith))
 
-saved_byte : (v m : List ℕ) (a k : ℕ) → IsVector v → HasBytes m → k < reach a → register_byte (saved v m a) k ≡ byte_at m (a + k)
+pub saved_byte : (v m : List ℕ) (a k : ℕ) → IsVector v → HasBytes m → k < reach a → register_byte (saved v m a) k ≡ byte_at m (a + k)
 saved_byte v m a k is small h = byte_of_bytes _ k bytes (omega arith) ∙ here
   where
     f : ℕ → ℕ

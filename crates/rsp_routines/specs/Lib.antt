@@ -6,3 +6,5 @@ pub mod Areas
 pub mod Copying
 pub mod Filling
 pub mod SoundMixing
+pub mod FourTaps
+pub mod Resampling

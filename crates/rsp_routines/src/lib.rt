@@ -6,16 +6,20 @@
 
 mod copying;
 mod filling;
+mod four_taps;
 mod newton;
 mod product;
+mod resampling;
 mod running;
 mod sound_mixing;
 mod transforming;
 
 pub use copying::copy_bytes;
 pub use filling::fill_bytes;
+pub use four_taps::filter_sound;
 pub use newton::improve_reciprocal;
 pub use product::multiply_fixed;
+pub use resampling::resample;
 pub use running::{multiply, ready};
 pub use sound_mixing::mix_sound;
 pub use transforming::transform;
