@@ -10,3 +10,4 @@ pub mod MixesSound
 pub mod Unaligned
 pub mod FiltersSound
 pub mod ResamplesSound
+pub mod DotsNumbers

@@ -8,3 +8,4 @@ pub mod Filling
 pub mod SoundMixing
 pub mod FourTaps
 pub mod Resampling
+pub mod DotProduct

@@ -5,6 +5,7 @@
 #![tactic(auto)]
 
 mod copying;
+mod dots;
 mod filling;
 mod four_taps;
 mod newton;
@@ -15,6 +16,7 @@ mod sound_mixing;
 mod transforming;
 
 pub use copying::copy_bytes;
+pub use dots::dot_product;
 pub use filling::fill_bytes;
 pub use four_taps::filter_sound;
 pub use newton::improve_reciprocal;
