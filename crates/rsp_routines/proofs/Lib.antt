@@ -11,3 +11,4 @@ pub mod Unaligned
 pub mod FiltersSound
 pub mod ResamplesSound
 pub mod DotsNumbers
+pub mod ClipsNumbers

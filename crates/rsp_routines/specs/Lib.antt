@@ -9,3 +9,4 @@ pub mod SoundMixing
 pub mod FourTaps
 pub mod Resampling
 pub mod DotProduct
+pub mod ClipCodes

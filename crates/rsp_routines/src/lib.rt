@@ -4,6 +4,7 @@
 //! what steps over them do, from every state that meets the premises.
 #![tactic(auto)]
 
+mod clipping;
 mod copying;
 mod dots;
 mod filling;
@@ -15,6 +16,7 @@ mod running;
 mod sound_mixing;
 mod transforming;
 
+pub use clipping::clip_codes;
 pub use copying::copy_bytes;
 pub use dots::dot_product;
 pub use filling::fill_bytes;
