@@ -33,6 +33,8 @@ pub enum Asked<'a> {
         out: &'a str,
         /// The place of the first word, as it was written; 0 where none was.
         at: Option<&'a str>,
+        /// Whether each word is listed, with its address and its source line.
+        with_listing: bool,
     },
     /// Printing the texts of the words of a file.
     Disassemble {
@@ -88,7 +90,15 @@ fn command<'a>(alloc: Global) -> Result<Command<'a>, Error> {
         .about("Assembles a text, and writes its words with the high byte first")
         .arg(file_argument(alloc, "SRC", "The source text"))?
         .arg(file_argument(alloc, "OUT", "Where the words are written"))?
-        .arg(place_option(alloc))?;
+        .arg(place_option(alloc))?
+        .arg(
+            Arg::new(alloc, "listing")
+                .long("listing")
+                .action(ArgAction::SetTrue)
+                .help(
+                    "Prints the labels, and the address, the word and the source line of each word",
+                ),
+        )?;
     let dis = Command::new(alloc, "dis")
         .about("Prints the words of a file, the high byte first, as assembly text")
         .arg(file_argument(alloc, "FILE", "The words, at most 1024"))?
@@ -122,6 +132,7 @@ fn asked_in<'a>(matches: &ArgMatches<'a>) -> Option<Asked<'a>> {
             source: given.get_str("SRC")?,
             out: given.get_str("OUT")?,
             at: given.get_str("at"),
+            with_listing: given.get_flag("listing"),
         }),
         "dis" => Some(Asked::Disassemble {
             words: given.get_str("FILE")?,

@@ -16,6 +16,7 @@ mod two_passes;
 mod words;
 
 pub use block::{Block, BlockFault};
+pub use line::{Line, read_line};
 pub use rsp_text::{AsmFault, AsmFaultKind};
 pub use two_passes::assemble;
 pub use words::Words;

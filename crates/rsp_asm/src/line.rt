@@ -1,6 +1,6 @@
 // A line of the source.
 
-ghost use Rattle.std.specs.Prelude.{◌≡◌, ◌+◌, ◌*◌, ◌≤◌, None, Some, Ok, Err, option_map, IfOk, IfErr, OnOk, drop, ◌++◌};
+ghost use Rattle.std.specs.Prelude.{◌≡◌, ◌+◌, ◌*◌, ◌≤◌, [], None, Some, Ok, Err, option_map, IfOk, IfErr, OnOk, drop, ◌++◌};
 ghost use Rattle.arrayvec.specs.ArrayVec.{array_vec_len};
 ghost use Rattle.rsp_text.specs.SourceLine.{code_of, split_line, is_twice, first_fault, label_of, line_size, line_words};
 ghost use Rattle.rsp_asm.specs.Parts.{seen_parts};
@@ -10,6 +10,7 @@ use crate::push::push_statement;
 use crate::words::Words;
 use rsp_operands::Labels;
 use rsp_text::{AsmFaultKind, Boundary, cut, is_label, is_line, skip_blanks, trim};
+use std::alloc::Global;
 
 /// What the first pass finds in a line.
 #[derive(Clone, Copy)]
@@ -98,6 +99,23 @@ pub fn check_line<'a>(
         label: parts.label,
         size: size as u16,
     })
+}
+
+/// What a line at an address of IMEM gives: its label, and how many words. For the lines of a text that
+/// [`assemble`](crate::assemble) accepts, one after the other from the address of its first word on, these are the labels and
+/// the words of the text. It takes no memory.
+///
+/// Refused is the first of these faults: a line that is none, a name or operands that can't be read, a number that is out of
+/// its range whatever the labels are, and words past the end.
+pub fn read_line<'a>(alloc: Global, line: &'a [u8], place: u16) -> Result<Line<'a>, AsmFaultKind>
+    requires { place ≤ 4096 }
+    ensures fault { IfOk result (λ l. first_fault [] place line.now ≡ None) }
+    ensures label { IfOk result (λ l. option_map (λ t. t.now) l.label ≡ label_of line.now) }
+    ensures size { IfOk result (λ l. l.size ≡ line_size line.now) }
+    ensures room { IfOk result (λ l. place + 4 * l.size ≤ 4096) }
+    ensures err { IfErr result (λ kind. first_fault [] place line.now ≡ Some kind) }
+{
+    check_line(line, place, &Labels::new(alloc))
 }
 
 /// Puts the words of a line behind those of the lines before it, or refuses the leftmost operand whose label is missing or

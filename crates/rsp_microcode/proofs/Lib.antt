@@ -6,11 +6,8 @@ pub mod LoadRuns
 pub mod Multiplies
 pub mod OneAdd
 pub mod OneDiffers
-pub mod Multiplying
 pub mod Mixes
-pub mod Transforms
 pub mod BufferSums
-pub mod NewtonStep
 pub mod Frames
 pub mod Listings
 pub mod Pieces
@@ -21,6 +18,7 @@ pub mod Ranges
 pub mod Buffers
 pub mod Calls
 pub mod Blocks
+pub mod Joins
 pub mod Kept
 pub mod Fixed
 pub mod FixedProducts

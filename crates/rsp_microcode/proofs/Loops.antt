@@ -169,5 +169,6 @@ loops law l decoded test s is at n some Holds start each =
       holds = end.holds;
       ranges = end.ranges;
       spares = end.spares;
+      frame = end.frame;
       others = changed_is _ _ (loop_code l) s t is end.ranges end.spares pc npc end.frame;
     }

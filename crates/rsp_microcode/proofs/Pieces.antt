@@ -137,5 +137,6 @@ pieces_run law words ps decoded fits s ok at aligned =
       ran = ran ∙ (pieces law ps s ok at.next fits aligned).0;
       ranges = kept;
       spares = spares;
+      frame = frame;
       others = changed_is _ _ code s t ok kept spares pc npc frame;
     }

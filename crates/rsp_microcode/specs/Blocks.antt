@@ -1,9 +1,12 @@
 -- Blocks of words, one after the other.
-use Rattle.std.specs.Prelude.{ℕ, ◌≡◌, ◌<◌, ◌+◌, List, ◌++◌}
+use Rattle.std.specs.Prelude.{ℕ, ◌≡◌, ◌<◌, ◌+◌, true, List, ◌++◌}
+use Rattle.rsp_decode.specs.declared.inst.Inst.{Inst}
 use Rattle.rsp_scalar.specs.Flow.{going_on}
-use Rattle.rsp_machine.specs.State.{State}
+use Rattle.rsp_machine.specs.State.{State, IsState}
 use Rattle.rsp_machine.specs.Laws.{steps_of}
 use Rattle.rsp_microcode.specs.Runs.{IsAt, Stand, place_after}
+use Rattle.rsp_microcode.specs.Frames.{of_rows, with_parts}
+use Rattle.rsp_microcode.specs.Kept.{write_only, Spares, changed}
 
 -- steps, and more steps
 abbrev pub StepsAfter : Type 0
@@ -26,3 +29,25 @@ abbrev pub RoundsOfSteps : Type 1
 RoundsOfSteps = (n : ℕ) (Holds : ℕ → State → Type 0) (s : State) → Holds 0 s
     → ((k : ℕ) (t : State) → k < n → Holds k t → (m : ℕ) × Holds (k + 1) (steps_of m t))
     → (m : ℕ) × Holds n (steps_of m s)
+
+-- What steps over a block lead from s to t: pc is after its words, the registers that its code doesn't write are as they were,
+-- and so are all parts that it can't change. Straight code and loops are such blocks.
+pub record Ran (words : List ℕ) (code : List Inst) (s t : State) : Type 0 where
+  pub ranges : IsState t
+  pub pc : t.pc ≡ place_after words s.pc
+  pub npc : t.npc ≡ going_on t.pc
+  pub spares : Spares code s t
+  pub frame : t ≡ with_parts (of_rows code) s t
+
+-- one block after another is a block
+abbrev pub BlocksJoin : Type 0
+BlocksJoin = (a b : List ℕ) (c d : List Inst) (s t u : State) → Ran a c s t → Ran b d t u → Ran (a ++ b) (c ++ d) s u
+
+-- and after the first the machine is about to execute the second
+abbrev pub RanAt : Type 0
+RanAt = (a b : List ℕ) (code : List Inst) (s t : State) → IsAt (a ++ b) s → Ran a code s t → IsAt b t
+
+-- all else is as it was
+abbrev pub RanOthers : Type 0
+RanOthers = (words : List ℕ) (code : List Inst) (s t : State) → IsState s → s.npc ≡ going_on s.pc → Ran words code s t
+    → (ns ms : List ℕ) → write_only ns ms code ≡ true → t ≡ changed words code ns ms s t

@@ -7,10 +7,7 @@ pub mod Multiplies
 pub mod Text
 pub mod OneAdd
 pub mod Mixing
-pub mod FixedProduct
-pub mod Transform
 pub mod BufferSum
-pub mod Newton
 pub mod Frames
 pub mod Pieces
 pub mod Loops

@@ -9,6 +9,7 @@ use Rattle.rsp_machine.specs.State.{State, IsState}
 use Rattle.rsp_machine.specs.Step.{executed}
 use Rattle.rsp_machine.specs.Laws.{steps_of}
 use Rattle.rsp_microcode.specs.Runs.{IsAt, goes_on}
+use Rattle.rsp_microcode.specs.Frames.{of_rows, with_parts}
 use Rattle.rsp_microcode.specs.Kept.{write_only, Spares, changed}
 use Rattle.rsp_microcode.specs.Ranges.{fits_word}
 use Rattle.rsp_microcode.specs.Pieces.{Piece, code_of, pieces_fit, after_pieces, AreAligned}
@@ -50,6 +51,7 @@ pub record AfterLoop (l : Loop) (n : ℕ) (Holds : ℕ → State → Type 0) (s 
   pub holds : Holds n t
   pub ranges : IsState t
   pub spares : Spares (loop_code l) s t
+  pub frame : t ≡ with_parts (of_rows (loop_code l)) s t
   pub others : (ns ms : List ℕ) → write_only ns ms (loop_code l) ≡ true → t ≡ changed l.words (loop_code l) ns ms s t
 
 abbrev pub LoopRuns : Type 1

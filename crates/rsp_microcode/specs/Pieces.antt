@@ -9,6 +9,7 @@ use Rattle.rsp_loadstore.specs.File.{vector, with_vector}
 use Rattle.rsp_machine.specs.State.{State, IsState}
 use Rattle.rsp_machine.specs.Laws.{steps_of}
 use Rattle.rsp_microcode.specs.Runs.{IsAt, all_go_on, ran_through, place_after}
+use Rattle.rsp_microcode.specs.Frames.{of_rows, with_parts}
 use Rattle.rsp_microcode.specs.Kept.{write_only, Spares, changed}
 use Rattle.rsp_microcode.specs.Ranges.{all_fit}
 use Rattle.rsp_microcode.specs.Lanes.{sqv, with_lanes, lanes_address}
@@ -69,6 +70,7 @@ pub record AfterPieces (words : List ℕ) (ps : List Piece) (s t : State) : Type
   pub ran : t ≡ after_pieces ps s
   pub ranges : IsState t
   pub spares : Spares (code_of ps) s t
+  pub frame : t ≡ with_parts (of_rows (code_of ps)) s t
   pub others : (ns ms : List ℕ) → write_only ns ms (code_of ps) ≡ true → t ≡ changed words (code_of ps) ns ms s t
 
 abbrev pub PiecesRun : Type 0

@@ -1,7 +1,7 @@
 //! What the theorems about microcode are proved with: laws of any words and any state. Each is the
 //! contract of a function that does nothing; a function that calls it may use it in its proof.
 
-ghost use Rattle.rsp_microcode.specs.Blocks.{BothStand, FirstBlock, NextBlock, StepsAfter};
+ghost use Rattle.rsp_microcode.specs.Blocks.{BlocksJoin, BothStand, FirstBlock, NextBlock, RanAt, RanOthers, StepsAfter};
 ghost use Rattle.rsp_microcode.specs.Calls.{CallRuns, RoutineRuns};
 ghost use Rattle.rsp_microcode.specs.Buffers.{FilledNone, FilledOne, FilledSpares};
 ghost use Rattle.rsp_microcode.specs.Fixed.{FixedParts, FixedProduct, FixedRange, FixedSum, FixedTimes};
@@ -116,12 +116,15 @@ pub fn frames()
     ensures vectors_above { VectorsAbove }
 {}
 
-/// Blocks of words, one after the other.
+/// Blocks of words, one after the other: where they are, and what two of them leave, as one block.
 pub fn blocks()
     ensures steps { StepsAfter }
     ensures stand { BothStand }
     ensures first { FirstBlock }
     ensures next { NextBlock }
+    ensures join { BlocksJoin }
+    ensures at { RanAt }
+    ensures others { RanOthers }
 {}
 
 /// Transfers: three moves to SP registers take a row of bytes from RDRAM to DMEM, or to RDRAM, and change nothing else.

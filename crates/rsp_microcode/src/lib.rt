@@ -9,18 +9,10 @@ mod fetching;
 pub mod laws;
 mod mixing;
 mod mixing_all;
-mod newton;
 mod one_add;
-mod product;
-mod running;
-mod transforming;
 
 pub use adding::add_buffers;
 pub use fetching::fetch_row;
 pub use mixing::mix_lanes;
 pub use mixing_all::mix_buffers;
-pub use newton::improve_reciprocal;
 pub use one_add::add_lanes;
-pub use product::multiply_fixed;
-pub use running::{multiply, ready};
-pub use transforming::transform;

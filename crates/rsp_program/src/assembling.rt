@@ -1,6 +1,7 @@
 ghost use Rattle.std.specs.Prelude.{◌≤◌};
 
 use crate::fault::Fault;
+use crate::listing::print_listing;
 use crate::origin::origin_of;
 use crate::program::file_fault;
 use crate::store::FileStore;
@@ -17,36 +18,48 @@ const SOURCE_LIMIT: usize = 1_048_576;
 const SOURCE_READ_LIMIT: u64 = 1_048_577;
 
 /// Assembles a file, its first word at a place of IMEM, writes its words to another, with the high byte first, and says how many
-/// there are.
+/// there are. After that may come a listing.
 pub fn assemble_file<'a, F: FileStore, W: Write + Drop>(
     alloc: Global,
     files: &mut F,
     source: &'a str,
     out: &'a str,
     at: Option<&'a str>,
+    with_listing: bool,
     mut output: W,
 ) -> Result<(), Fault<'a>> {
     let origin = origin_of(at)?;
     let bytes = files
         .read(alloc, source, SOURCE_READ_LIMIT)
         .map_err(|fault| file_fault(fault, Fault::CannotRead(source)))?;
-    let words = assembled(alloc, origin, bytes.as_slice())?;
+    let text = text_in(bytes.as_slice())?;
+    let words = assembled(alloc, origin, text)?;
     let bytes = big_endian(alloc, words.as_slice()).map_err(|_| Fault::OutOfMemory)?;
     files
         .write(out, bytes.as_slice())
         .map_err(|fault| file_fault(fault, Fault::CannotWrite(out)))?;
     let count = words.len();
-    writeln!(output, "ok {count} words").map_err(|_| Fault::RunWrite)
+    writeln!(output, "ok {count} words").map_err(|_| Fault::RunWrite)?;
+    if with_listing {
+        print_listing(alloc, origin, text, words.as_slice(), &mut output).map_err(
+            |_| Fault::RunWrite,
+        )?;
+    }
+    Ok(())
 }
 
-/// The words of a source text. That it is too long comes before that it isn't UTF-8.
-fn assembled<'a>(alloc: Global, origin: u16, bytes: &[u8]) -> Result<Words, Fault<'a>>
-    requires { origin ≤ 4092 }
-{
+/// The text of a file. That it is too long comes before that it isn't UTF-8.
+fn text_in<'a>(bytes: &[u8]) -> Result<&str, Fault<'a>> {
     if bytes.len() > SOURCE_LIMIT {
         return Err(Fault::ScriptTooLong);
     }
-    let text = str::from_utf8(bytes).map_err(|_| Fault::NotText)?;
+    str::from_utf8(bytes).map_err(|_| Fault::NotText)
+}
+
+/// The words of a source text.
+fn assembled<'a>(alloc: Global, origin: u16, text: &str) -> Result<Words, Fault<'a>>
+    requires { origin ≤ 4092 }
+{
     assemble(alloc, origin, text).map_err(|fault| match fault.kind {
         AsmFaultKind::OutOfMemory => Fault::OutOfMemory,
         _ => Fault::Source(fault),

@@ -42,8 +42,7 @@ pub fn disassemble_file<'a, F: FileStore, W: Write + Drop>(
 }
 
 /// The place of a word in IMEM, by the place of the first one and by how many stand before it.
-fn place_of(origin: u16, index: usize) -> u16
-    requires { origin ≤ 4092 }
+pub(crate) fn place_of(origin: u16, index: usize) -> u16
     ensures { result < 4096 }
 {
     ((usize::from(origin) + index % 1024 * 4) % 4096) as u16

@@ -5,6 +5,7 @@
 mod assembling;
 mod dis;
 mod fault;
+mod listing;
 mod origin;
 mod program;
 mod status;

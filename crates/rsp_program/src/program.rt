@@ -33,9 +33,12 @@ pub fn work<F: FileStore, R: Read + Drop, W: Write + Drop, E: Write>(
     };
     let done = match asked {
         Asked::Run(named) => run(alloc, &named, files, input, output),
-        Asked::Assemble { source, out, at } => {
-            assemble_file(alloc, files, source, out, at, output)
-        }
+        Asked::Assemble {
+            source,
+            out,
+            at,
+            with_listing,
+        } => assemble_file(alloc, files, source, out, at, with_listing, output),
         Asked::Disassemble {
             words,
             at,

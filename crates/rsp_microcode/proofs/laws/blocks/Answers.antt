@@ -1,4 +1,5 @@
 use Rattle.rsp_microcode.proofs.Blocks.{steps_after, both_stand, first_block, next_block}
+use Rattle.rsp_microcode.proofs.Joins.{blocks_join, ran_at, ran_others}
 use Rattle.rsp_microcode.proofs.laws.blocks.Goals as goal
 
 pub returns-clause-steps : goal.returns-clause-steps
@@ -12,3 +13,12 @@ returns-clause-first c = first_block
 
 pub returns-clause-next : goal.returns-clause-next
 returns-clause-next c = next_block
+
+pub returns-clause-join : goal.returns-clause-join
+returns-clause-join c = blocks_join
+
+pub returns-clause-at : goal.returns-clause-at
+returns-clause-at c = ran_at
+
+pub returns-clause-others : goal.returns-clause-others
+returns-clause-others c = ran_others

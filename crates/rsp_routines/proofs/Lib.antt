@@ -1,0 +1,14 @@
+pub mod Multiplying
+pub mod Transforms
+pub mod NewtonStep
+pub mod Bytes
+pub mod Saving
+pub mod Tailed
+pub mod Copies
+pub mod Fills
+pub mod MixesSound
+pub mod Unaligned
+pub mod FiltersSound
+pub mod ResamplesSound
+pub mod DotsNumbers
+pub mod ClipsNumbers

@@ -1,0 +1,12 @@
+-- Routines of microcode, and what each does.
+pub mod FixedProduct
+pub mod Transform
+pub mod Newton
+pub mod Areas
+pub mod Copying
+pub mod Filling
+pub mod SoundMixing
+pub mod FourTaps
+pub mod Resampling
+pub mod DotProduct
+pub mod ClipCodes

@@ -1,0 +1,31 @@
+// Clip codes.
+
+ghost use Rattle.rsp_microcode.specs.Text.{Assembles};
+ghost use Rattle.rsp_routines.specs.ClipCodes.{text, ClipsAll};
+
+use rsp_multiply::laws::l4;
+
+const WORDS: [u32; 3] = [
+    0x4a030965, // vch $v5, $v1, $v3
+    0x4a0411a4, // vcl $v6, $v2, $v4
+    0x48410800, // cfc2 $1, $vcc
+];
+
+// The theorem by itself, so that it refuses other words and not the text alone.
+fn holds()
+    ensures { ClipsAll WORDS }
+{
+    l4();
+}
+
+/// The words of microcode that compares eight numbers of 32 bits, high halves in `$v1` and low ones in `$v2`,
+/// with -w and w, 0 or more, in `$v3` and `$v4`: bit i of `$1` says whether the number of lane i is negative and
+/// at most -w, bit 8 + i whether it isn't and is at least w. Nothing else changes but `$v5`, `$v6`, the flags,
+/// the accumulators, pc and npc.
+pub fn clip_codes() -> [u32; 3]
+    ensures text { Assembles text result }
+    ensures theorem { ClipsAll result }
+{
+    holds();
+    WORDS
+}

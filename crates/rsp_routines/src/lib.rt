@@ -1,0 +1,29 @@
+//! Routines of microcode to paste, each with a theorem about what it does for all inputs.
+//!
+//! A routine is a function that returns its words. Its contract says which text they are assembled from, and
+//! what steps over them do, from every state that meets the premises.
+#![tactic(auto)]
+
+mod clipping;
+mod copying;
+mod dots;
+mod filling;
+mod four_taps;
+mod newton;
+mod product;
+mod resampling;
+mod running;
+mod sound_mixing;
+mod transforming;
+
+pub use clipping::clip_codes;
+pub use copying::copy_bytes;
+pub use dots::dot_product;
+pub use filling::fill_bytes;
+pub use four_taps::filter_sound;
+pub use newton::improve_reciprocal;
+pub use product::multiply_fixed;
+pub use resampling::resample;
+pub use running::{multiply, ready};
+pub use sound_mixing::mix_sound;
+pub use transforming::transform;
