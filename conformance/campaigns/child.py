@@ -6,6 +6,7 @@ import mmap
 import os
 import signal
 import sys
+import time
 
 import numpy as np
 import rsp
@@ -111,8 +112,10 @@ def main(words, options, descriptor, parent):
         results = check_programs(words[0], *words[2:], options["instructions"], options["steps"])
     else:
         results = check_cases(*words, np.frombuffer(mmap.mmap(descriptor, SHARED), END), options["whole"])
+    used = 0
     try:
         for result in results:
-            print(json.dumps(result), file=answers, flush=True)
+            before, used = used, time.process_time()
+            print(json.dumps({**result, "processor": used - before}), file=answers, flush=True)
     except CampaignFault as fault:
         sys.exit(str(fault))

@@ -61,8 +61,8 @@ def texts_of(state):
     """A state as bench.py has it."""
     numbers = json_of(state)
     found = {key: numbers[name] for name, key in full.NUMBERS.items()}
-    found |= {f"{letter}{n}": value for name, (letter, _) in full.LISTS.items() for n, value in enumerate(numbers[name])}
-    found |= {f"v{n}": int("".join(f"{lane:04x}" for lane in lanes), 16) for n, lanes in enumerate(numbers["v"])}
+    found.update({f"{letter}{n}": value for name, (letter, _) in full.LISTS.items() for n, value in enumerate(numbers[name])})
+    found.update({f"v{n}": int("".join(f"{lane:04x}" for lane in lanes), 16) for n, lanes in enumerate(numbers["v"])})
     return {key: f"{value:0{len(bench.DEFAULT[key])}x}" for key, value in found.items()}
 
 

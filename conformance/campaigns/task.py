@@ -31,7 +31,7 @@ KEEP = {"MALLOC_TRIM_THRESHOLD_": str(1 << 28), "MALLOC_MMAP_THRESHOLD_": str(1 
 FAULTS, SEARCH_SECONDS, BEGIN_SECONDS = 8, 60, 60
 START = "import json, sys; sys.path.insert(0, sys.argv[1]); from campaigns.child import main; main(*json.loads(sys.argv[2]))"
 # What a result adds up.
-NOTHING = {"count": 0, "unshown": 0, "differ": 0, "choices": 0, "parts": {}, "shown": [], "faults": [], "programs": []}
+NOTHING = {"count": 0, "unshown": 0, "differ": 0, "choices": 0, "parts": {}, "shown": [], "faults": [], "programs": [], "processor": 0}
 
 
 def add(total, result):
@@ -51,7 +51,7 @@ class Child:
         self.ends["status"] = UNDONE
         words = [sys.executable, "-c", START, str(TOP / "conformance"), json.dumps([words, options, self.file.fileno(), os.getpid()])]
         self.process = subprocess.Popen(words, stdout=subprocess.PIPE, stderr=self.errors, pass_fds=[self.file.fileno()], start_new_session=True,
-                                        env=os.environ | KEEP)  # fmt: skip
+                                        env={**os.environ, **KEEP})  # fmt: skip
         threading.Thread(target=self.read, daemon=True).start()
 
     def read(self):
@@ -121,7 +121,7 @@ def run_that_fails(spec, name, seed, number, first, options):
 def check(spec, name, seed, start, count, options):
     """Has a task done. What it returns is what the task's file holds."""
     result = {"instruction": name, "seed": seed, "start": start, "size": count, "unseen": [], **NOTHING}
-    began, used, ranges = time.time(), sum(os.times()[:4]), [(start, start + count)]
+    began, ranges = time.time(), [(start, start + count)]
     while ranges and "given up" not in result:
         first, end = ranges.pop(0)
         at = first
@@ -136,7 +136,7 @@ def check(spec, name, seed, start, count, options):
             faulty = number if cause is None or cause < at else cause
             ranges[:0] = [it for it in ((at, faulty), (faulty + 1, end)) if it[0] < it[1]]
     result["shown"] = sorted(result["shown"], key=lambda it: int(re.match(r"\w+-\w+-(\d+)", it)[1]))[:SHOWN]
-    return {**result, "hashes": hashes(spec), "seconds": time.time() - began, "processor": sum(os.times()[:4]) - used}
+    return {**result, "hashes": hashes(spec), "seconds": time.time() - began}
 
 
 def fault(result, task, number, first, child, options):
