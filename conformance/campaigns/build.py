@@ -8,43 +8,42 @@ from pathlib import Path
 import bench
 import rsp
 
-from . import TOP
+from . import TOP, CampaignFault
 
 HERE = Path(__file__).resolve().parent
-
-
-class CampaignFault(Exception):
-    """Why a campaign, or an emulator, can't begin or go on, as a sentence."""
+LIBRARY = [TOP / "c" / "rsp.h", TOP / "c" / "librsp.a"]
 
 
 def hash_of(paths, more=""):
     """One hash of files and a text."""
-    if missing := [path for path in paths if not Path(path).is_file()]:
-        raise CampaignFault(f"there is no {missing[0]}: run c/build first")
-    return hashlib.sha256(b"/".join([more.encode(), *(hashlib.sha256(Path(path).read_bytes()).digest() for path in paths)])).hexdigest()
+    try:
+        found = [hashlib.sha256(Path(path).read_bytes()).digest() for path in paths]
+    except FileNotFoundError as fault:
+        raise CampaignFault(f"there is no file {fault.filename}") from None
+    return hashlib.sha256(b"/".join([more.encode(), *found])).hexdigest()
 
 
 def sources():
     """All that decides what a campaign compares with: our sources, and the library."""
-    return [*sorted(HERE.glob("*.[chp]*")), *sorted(HERE.parent.glob("*.py")), TOP / "c" / "rsp.h", TOP / "c" / "librsp.a"]
+    return [*sorted(HERE.glob("*.[chp]*")), *sorted(HERE.parent.glob("*.py")), *LIBRARY]
 
 
 def built(name, flags=(), source=None):
     """The shared object that NAME.c gives."""
     source = Path(source or HERE / f"{name}.c")
-    key = hash_of([source, *sorted(HERE.glob("*.[ch]")), TOP / "c" / "rsp.h", TOP / "c" / "librsp.a"], " ".join(flags))
-    made = HERE / "out" / f"{name}-{key[:16]}.so"
-    if not made.exists():
-        waiting = made.with_name(f"{made.name}.{os.getpid()}")
-        words = ["cc", "-O2", "-march=x86-64-v2", "-shared", "-fPIC", f"-I{TOP / 'c'}", f"-I{HERE}", *flags, source, TOP / "c" / "librsp.a", "-ldl", "-o", waiting]
-        try:
-            made.parent.mkdir(exist_ok=True)
-            ended = subprocess.run(words, stderr=subprocess.PIPE, text=True)
-        except OSError as fault:
-            raise CampaignFault(f"{made.parent} or cc can't be used: {fault}") from None
-        if ended.returncode:
-            raise CampaignFault(f"cc can't make {name}: {ended.stderr.strip().splitlines()[0]}")
-        os.replace(waiting, made)
+    made = HERE / "out" / f"{name}-{hash_of([source, *sorted(HERE.glob('*.[ch]')), *LIBRARY], ' '.join(flags))[:16]}.so"
+    if made.exists():
+        return str(made)
+    waiting = made.with_name(f"{made.name}.{os.getpid()}")
+    words = ["cc", "-O2", "-march=x86-64-v2", "-shared", "-fPIC", f"-I{TOP / 'c'}", f"-I{HERE}", *flags, source, LIBRARY[1], "-ldl", "-o", waiting]
+    try:
+        made.parent.mkdir(exist_ok=True)
+        ended = subprocess.run(words, stderr=subprocess.PIPE, text=True)
+    except OSError as fault:
+        raise CampaignFault(f"{made.parent} or cc can't be used: {fault}") from None
+    if ended.returncode:
+        raise CampaignFault(f"cc can't make {name}: {ended.stderr.strip().splitlines()[0]}")
+    os.replace(waiting, made)
     return str(made)
 
 

@@ -15,7 +15,6 @@ typedef struct rsp_end { rsp_state state; uint32_t status; uint64_t changed; } r
 enum { DMEM = 0, IMEM = 4096, RDRAM = 8192, RDRAM_LENGTH = 16384, MEMORIES = RDRAM + RDRAM_LENGTH };
 
 void *cases_open(const char *what, const uint8_t *memories); /* NULL if it can't. `what` is "" but for plugins */
-void cases_close(void *at);
 int cases_run(void *at, const rsp_case *in, rsp_end *out, size_t n); /* 0, or 1 + the number of a case whose state no machine can have */
 void cases_seen(void *at, rsp_end *seen); /* optional: clears the bits of an end that the emulator can't show */
 /* For programs: a state and memories, steps from there up to a status other than RSP_OK, and the memories then. */

@@ -8,6 +8,7 @@
 
 import contextlib
 import ctypes
+import functools
 import importlib.util
 import json
 import os
@@ -15,7 +16,6 @@ import shlex
 import shutil
 import signal
 import subprocess
-import sys
 from pathlib import Path
 
 import numpy as np
@@ -24,41 +24,55 @@ from .build import CampaignFault, built, hash_of, microcode, sources
 from .generator import END, IMEM, MEMORIES, RDRAM, STATE
 
 PADDING = 693  # a byte of a state that is no register
+AT, COUNT = ctypes.c_void_p, ctypes.c_size_t
+CALLS = {"cases_open": [ctypes.c_char_p, AT], "cases_run": [AT, AT, AT, COUNT], "cases_seen": [AT, AT], "cases_begin": [AT, AT, AT],
+         "cases_go": [AT, ctypes.c_uint32, AT], "cases_look": [AT, AT], "cases_differ": [AT, AT, AT, AT, COUNT], "cases_digest": [AT, AT]}  # fmt: skip
+RESULTS = {"cases_open": AT, "cases_digest": ctypes.c_uint64}
+# A state as form 3 of the vectors has it, but for an accumulator, which is three numbers.
+FORM = np.dtype({
+    "names": ["r", "v", "acc", "vco", "vcc", "vce", "div_in", "div_out", "div_loaded", "pc", "npc", "sp", "interrupt"],
+    "formats": ["(32,)<u4", "(32,8)<u2", "(3,8)<u2", "<u2", "<u2", "u1", "<u2", "<u2", "<u2", "<u2", "<u2", "(16,)<u4", "<u4"],
+    "offsets": [0, 128, 640, 688, 690, 692, 694, 696, 698, 700, 702, 704, 768], "itemsize": STATE.itemsize})  # fmt: skip
+
 
 def hashes(spec):
     """What a result is of: the emulator's files (the object, the module, or those that a command names), and ours."""
     kind, _, rest = spec.partition(":")
     if kind == "python":
-        sys.path[:0] = [os.getcwd()] if os.getcwd() not in sys.path else []
-        module = importlib.util.find_spec(rest.split(":")[0])
-        found = [module and module.origin]
+        module = importlib.util.find_spec(rest.partition(":")[0])
+        found = [module.origin] if module and module.origin else []
+    elif kind == "plugin" or spec.endswith(".so"):
+        found = [rest or spec]
     else:
-        words = [rest] if kind == "plugin" else shlex.split(spec)
-        found = [word if Path(word).is_file() else shutil.which(word) for word in words]
-    return {"emulator": hash_of([path for path in found if path and Path(path).is_file()]), "library": hash_of(sources())}
+        found = filter(None, (word if Path(word).is_file() else shutil.which(word) for word in shlex.split(spec)))
+    return {"emulator": hash_of(found), "library": hash_of(sources())}
+
+
+def opened(path):
+    """A shared object whose calls have their types."""
+    lib = ctypes.CDLL(os.path.abspath(path))
+    for call, types in CALLS.items():
+        if hasattr(lib, call):
+            getattr(lib, call).argtypes, getattr(lib, call).restype = types, RESULTS.get(call, ctypes.c_int)
+    return lib
+
+
+@functools.lru_cache(1)
+def library():
+    """The proved library's."""
+    return opened(built("library"))
 
 
 class Object:
     """A shared object with the interface of cases.h."""
 
     def __init__(self, path, what=""):
-        self.lib, self.what, self.at = ctypes.CDLL(os.path.abspath(path)), what.encode(), None
-        pointer, number = ctypes.c_void_p, ctypes.c_size_t
-        self.lib.cases_open.restype, self.lib.cases_open.argtypes = pointer, [ctypes.c_char_p, pointer]
-        self.lib.cases_run.argtypes, self.lib.cases_close.argtypes = [pointer, pointer, pointer, number], [pointer]
+        self.lib, self.what = opened(path), what
 
     def open(self, memories):
-        self.at = self.lib.cases_open(self.what, memories.ctypes.data)
+        self.at = self.lib.cases_open(self.what.encode(), bytes(memories))
         if not self.at:
-            raise CampaignFault(f"{self.what.decode() or self.lib._name} can't be opened")
-
-    def seen(self):
-        """The bits of an end that are compared."""
-        seen = np.full(END.itemsize, 255, np.uint8)
-        if hasattr(self.lib, "cases_seen"):
-            self.lib.cases_seen(ctypes.c_void_p(self.at), ctypes.c_void_p(seen.ctypes.data))
-        seen[PADDING] = 0
-        return seen.view(END)
+            raise CampaignFault(f"{self.what or self.lib._name} can't be opened")
 
     def run(self, cases, ends):
         if refused := self.lib.cases_run(self.at, cases.ctypes.data, ends.ctypes.data, len(cases)):
@@ -67,17 +81,17 @@ class Object:
     def begin(self, state, memories):
         """Begins a program, which `go` makes steps of."""
         if not hasattr(self.lib, "cases_begin"):
-            raise CampaignFault(f"{self.what.decode() or self.lib._name} takes no programs")
-        self.lib.cases_begin(ctypes.c_void_p(self.at), state.tobytes(), bytes(memories))
+            raise CampaignFault(f"{self.what or self.lib._name} takes no programs")
+        self.lib.cases_begin(self.at, state.tobytes(), bytes(memories))
 
     def go(self, steps):
         end = np.zeros(1, END)
-        self.lib.cases_go(ctypes.c_void_p(self.at), ctypes.c_uint32(steps), ctypes.c_void_p(end.ctypes.data))
+        self.lib.cases_go(self.at, steps, end.ctypes.data)
         return end
 
     def look(self):
         memories = ctypes.create_string_buffer(MEMORIES)
-        self.lib.cases_look(ctypes.c_void_p(self.at), memories)
+        self.lib.cases_look(self.at, memories)
         return memories.raw
 
 
@@ -86,7 +100,7 @@ def patched(memories, changed):
     made = bytearray(memories)
     for address, byte in changed.items():
         made[address] = byte
-    return made
+    return bytes(made)
 
 
 def word_of(case):
@@ -94,45 +108,31 @@ def word_of(case):
     return dict(enumerate(int(case["word"]).to_bytes(4, "big"), IMEM + int(case["state"]["pc"])))
 
 
-def digest(before, after):
-    """`changed` of an end, as cases.h has it."""
-    before, after = np.frombuffer(before, np.uint8), np.frombuffer(after, np.uint8)
-    at = np.nonzero(before != after)[0]
-    x = (at.astype(np.uint64) << np.uint64(8) | after[at]) * np.uint64(0xBF58476D1CE4E5B9) + np.uint64(0x9E3779B97F4A7C15)
-    x = (x ^ x >> np.uint64(27)) * np.uint64(0x94D049BB133111EB)
-    return (x ^ x >> np.uint64(31)).sum(dtype=np.uint64)
-
-
-def end_of(state, status, before, after):
-    end = np.zeros(1, END)
-    end["state"] = state if isinstance(state, np.void) else np.frombuffer(state, STATE)
-    end["status"], end["changed"] = status, digest(before, after)
-    return end
-
-
 class Single:
     """An emulator that takes one case at a time: `step(case)` answers the state, the status, and the bytes that have changed."""
-
-    def seen(self):
-        return Object.seen(self)
 
     lib = None
 
     def run(self, cases, ends):
         for case, end in zip(cases, ends):
-            state, status, changed = self.step(case)
             before = patched(self.memories, word_of(case))
-            made = end_of(state, status, before, patched(before, changed))[0]
-            end["state"], end["changed"] = made["state"], made["changed"]
-            end["status"] = made["status"]  # last: it says that the case is done
+            state, status, changed = self.step(case)
+            self.fill(end, state, before, patched(before, changed))
+            end["status"] = status  # last: it says that the case is done
+
+    def fill(self, end, state, before, after):
+        end["state"] = np.frombuffer(bytes(state), STATE)[0]
+        end["changed"] = library().cases_digest(before, bytes(after))
 
     def begin(self, state, memories):
         self.before = self.after = bytes(memories)
         self.start(state, self.before)
 
     def go(self, steps):
-        state, status, self.after = self.steps(steps)
-        return end_of(state, status, self.before, self.after)
+        end = np.zeros(1, END)
+        state, end["status"], self.after = self.steps(steps)
+        self.fill(end[0], state, self.before, self.after)
+        return end
 
     def look(self):
         return bytes(self.after)
@@ -143,13 +143,12 @@ class Python(Single):
 
     def __init__(self, path):
         module, _, name = path.partition(":")
-        sys.path.insert(0, os.getcwd())
-        if not importlib.util.find_spec(module) or not name:
+        if not name or not importlib.util.find_spec(module):
             raise CampaignFault("there is no such module, or no class is named: python:MODULE:CLASS")
         self.kind = getattr(importlib.import_module(module), name)
 
     def open(self, memories):
-        self.memories = memories.tobytes()
+        self.memories = bytes(memories)
         emulator = self.kind(self.memories)
         self.start, self.steps = getattr(emulator, "begin", self.no_programs), getattr(emulator, "go", None)
         if hasattr(emulator, "ends"):
@@ -161,28 +160,21 @@ class Python(Single):
         raise CampaignFault(f"{self.kind.__name__} takes no programs: it has no `begin`")
 
 
-PAIRS = (("vco", "carry", "differ"), ("vcc", "compare", "clip"))
-NUMBERS = {"words": "r", "sp": "sp", "vectors": "v", "pc": "pc", "npc": "npc", "interrupt": "interrupt"}
-
-
 def json_of(state):
-    """The registers as form 3 of the vectors has them."""
-    made = {name: state[key].tolist() for key, name in NUMBERS.items()}
-    made["acc"] = [h << 32 | m << 16 | low for h, m, low in zip(*(state["accumulators"][part].tolist() for part in ("high", "middle", "low")))]
-    made.update({name: int(state["flags"][low]) | int(state["flags"][high]) << 8 for name, low, high in PAIRS}, vce=int(state["flags"]["extra"]))
-    return made | dict(zip(("div_in", "div_out", "div_loaded"), state["divider"].tolist()))
+    """The registers as form 3 has them."""
+    form = np.frombuffer(bytes(state), FORM)[0]
+    made = {name: form[name].tolist() for name in FORM.names}
+    return {**made, "acc": [high << 32 | middle << 16 | low for high, middle, low in zip(*made["acc"])]}
 
 
 def state_of(final):
-    """The registers of form 3 as a state."""
-    state = np.zeros(1, STATE)[0]
-    for key, name in NUMBERS.items():
-        state[key] = final[name]
-    for k, part in enumerate(("high", "middle", "low")):
-        state["accumulators"][part] = [value >> 32 - 16 * k & 0xFFFF for value in final["acc"]]
-    state["flags"] = *(final[name] >> shift & 255 for name, *_ in PAIRS for shift in (0, 8)), final["vce"]
-    state["divider"] = final["div_in"], final["div_out"], final["div_loaded"]
-    return state
+    """And back."""
+    form = np.zeros(1, FORM)
+    for name in FORM.names:
+        form[name] = [[value >> shift & 0xFFFF for value in final["acc"]] for shift in (32, 16, 0)] if name == "acc" else final[name]
+    if wrong := [name for name, value in json_of(form).items() if value != final[name]]:
+        raise ValueError(f"{wrong[0]} is out of its range")
+    return form
 
 
 class Command(Single):
@@ -198,24 +190,22 @@ class Command(Single):
         self.say({"memories": {bank: self.memories[low:high].hex() for bank, (low, high) in banks.items()}})
 
     def say(self, value):
-        self.process.stdin.write(json.dumps(value, separators=(",", ":")).encode() + b"\n")
-        self.process.stdin.flush()
+        with contextlib.suppress(BrokenPipeError):  # its end is noticed when it has to answer
+            self.process.stdin.write(json.dumps(value, separators=(",", ":")).encode() + b"\n")
+            self.process.stdin.flush()
 
     def ask(self, question):
         """The state, the status and the bytes that an answer names."""
-        with contextlib.suppress(BrokenPipeError):
-            self.say(question)
+        self.say(question)
         line = self.process.stdout.readline()
         if not line:
             raise CampaignFault(f"the command ended with status {self.process.wait()}")
         try:
             final = json.loads(line)["final"]
-            changed, state = dict([*final["ram"], *([RDRAM + at, byte] for at, byte in final["rdram"])]), state_of(final)
+            changed = dict([*final["ram"], *([RDRAM + at, byte] for at, byte in final["rdram"])])
             if not all(0 <= at < MEMORIES and 0 <= byte < 256 for at, byte in changed.items()):
                 raise ValueError("no byte of a memory")
-            if wrong := [key for key, value in json_of(state).items() if value != final[key]]:
-                raise ValueError(f"{wrong[0]} is out of its range")
-            return state, final.get("status", 0), changed
+            return state_of(final), final.get("status", 0), changed
         except (ValueError, KeyError, TypeError, IndexError, OverflowError) as fault:
             raise CampaignFault(f"the command answered {line[:60]!r}: {type(fault).__name__} {fault}") from None
 
@@ -236,14 +226,11 @@ def emulator_of(spec, memories):
     """The emulator, opened with memories."""
     kind, _, rest = spec.partition(":")
     if kind == "plugin":
-        if not Path(rest).is_file():
-            raise CampaignFault(f"there is no file {rest}")
         emulator = Object(built("z64"), os.path.abspath(rest))
-        try:
+        with contextlib.suppress(CampaignFault):
             emulator.open(memories)
             return emulator
-        except CampaignFault:  # another plugin, or another build of z64
-            emulator = Object(built("microcode", microcode()), os.path.abspath(rest))
+        emulator = Object(built("microcode", microcode()), os.path.abspath(rest))  # another plugin, or another build of z64
     else:
         emulator = Python(rest) if kind == "python" else Object(spec) if spec.endswith(".so") else Command(spec)
     emulator.open(memories)
@@ -256,10 +243,14 @@ class Sides:
     def __init__(self, spec, memories):
         self.library, self.emulator = Object(built("library")), emulator_of(spec, memories)
         self.library.open(memories)
-        self.both, self.seen = (self.library, self.emulator), self.emulator.seen()
+        self.both = self.library, self.emulator
+        self.seen = np.full(END.itemsize, 255, np.uint8)  # the bits of an end that are compared
+        if hasattr(self.emulator.lib, "cases_seen"):
+            self.emulator.lib.cases_seen(self.emulator.at, self.seen.ctypes.data)
+        self.seen[PADDING] = 0
 
     def differ(self, expected, ends):
         """Which ends differ in what is seen."""
-        out, library = np.zeros(len(ends), bool), self.library.lib
-        library.cases_differ(*(ctypes.c_void_p(it.ctypes.data) for it in (expected, ends, self.seen, out)), ctypes.c_size_t(len(ends)))
+        out = np.zeros(len(ends), bool)
+        self.library.lib.cases_differ(*(it.ctypes.data for it in (expected, ends, self.seen, out)), len(ends))
         return out

@@ -2,56 +2,37 @@
 #include "cases.h"
 #include <stdlib.h>
 
-typedef struct { rsp m; uint8_t before[MEMORIES], after[MEMORIES]; } side;
+typedef rsp machine;
+static const size_t start_of[] = { DMEM, IMEM, RDRAM, MEMORIES }; /* each bank's, by its number */
 
-static int load(side *s, size_t from, size_t to) /* the memories from `before`, between two ends of banks */
+static int set(rsp *m, const rsp_state *s) { return rsp_set(m, s) == RSP_OK; }
+static uint32_t step(rsp *m) { return rsp_step(m); }
+static void get(rsp *m, rsp_state *s) { rsp_get(m, s); }
+
+static void load(rsp *m, const uint8_t *memories, size_t from, size_t to)
 {
-    static const size_t ends[] = { DMEM, IMEM, RDRAM, MEMORIES };
-    uint32_t status = RSP_OK;
-    for (uint32_t bank = 0; bank < 3; bank++) if (ends[bank] >= from && ends[bank] < to)
-        status |= rsp_load(&s->m, bank, 0, s->before + ends[bank], ends[bank + 1] - ends[bank]);
-    return status == RSP_OK;
+    for (uint32_t bank = 0; bank < 3; bank++) {
+        size_t low = start_of[bank] > from ? start_of[bank] : from, high = start_of[bank + 1] < to ? start_of[bank + 1] : to;
+        if (low < high) rsp_load(m, bank, (uint32_t)(low - start_of[bank]), memories + low, high - low);
+    }
 }
 
-void cases_look(void *at, uint8_t *memories)
+static void look(rsp *m, uint8_t *memories, size_t to)
 {
-    side *s = at;
-    rsp_memory(&s->m, RSP_DMEM, 0, memories + DMEM, 4096);
-    rsp_memory(&s->m, RSP_IMEM, 0, memories + IMEM, 4096);
-    rsp_memory(&s->m, RSP_RDRAM, 0, memories + RDRAM, RDRAM_LENGTH);
+    for (uint32_t bank = 0; start_of[bank] < to; bank++)
+        rsp_memory(m, bank, 0, memories + start_of[bank], start_of[bank + 1] - start_of[bank]);
 }
 
-void cases_close(void *at) { side *s = at; rsp_free(&s->m); free(s); }
+#include "side.h"
 
 void *cases_open(const char *what, const uint8_t *memories)
 {
     side *s = calloc(1, sizeof *s);
     (void)what;
-    if (!s) return NULL;
+    if (!s || rsp_new(&s->m, memories + RDRAM, RDRAM_LENGTH, 0) != RSP_OK) return NULL;
     memcpy(s->before, memories, MEMORIES);
-    if (rsp_new(&s->m, memories + RDRAM, RDRAM_LENGTH, 0) == RSP_OK && load(s, DMEM, RDRAM)) return s;
-    cases_close(s);
-    return NULL;
-}
-
-static int one(side *s, const rsp_case *in, rsp_end *out)
-{
-    uint8_t *word = s->before + IMEM + in->state.pc, kept[4];
-    size_t reach = is_dma(in->word) ? MEMORIES : RDRAM;
-    if (rsp_set(&s->m, &in->state) != RSP_OK) return 0;
-    memcpy(kept, word, 4);
-    for (int i = 0; i < 4; i++) word[i] = in->word >> (24 - 8 * i);
-    rsp_load(&s->m, RSP_IMEM, in->state.pc, word, 4);
-    out->status = rsp_step(&s->m);
-    rsp_get(&s->m, &out->state);
-    rsp_memory(&s->m, RSP_DMEM, 0, s->after + DMEM, 4096);
-    rsp_memory(&s->m, RSP_IMEM, 0, s->after + IMEM, 4096);
-    if (reach > RDRAM) rsp_memory(&s->m, RSP_RDRAM, 0, s->after + RDRAM, RDRAM_LENGTH);
-    out->changed = digest(s->before, s->after, reach);
-    memcpy(word, kept, 4);
-    if (out->changed) load(s, DMEM, reach);
-    else rsp_load(&s->m, RSP_IMEM, in->state.pc, kept, 4);
-    return 1;
+    load(&s->m, memories, DMEM, RDRAM);
+    return s;
 }
 
 int cases_run(void *at, const rsp_case *in, rsp_end *out, size_t n)
@@ -60,23 +41,9 @@ int cases_run(void *at, const rsp_case *in, rsp_end *out, size_t n)
     return 0;
 }
 
-int cases_begin(void *at, const rsp_state *state, const uint8_t *memories)
-{
-    side *s = at;
-    memcpy(s->before, memories, MEMORIES);
-    return !load(s, DMEM, MEMORIES) || rsp_set(&s->m, state) != RSP_OK;
-}
+/* No part of the interface: the digest for emulators in other languages, and which of n ends differ in bits that are seen. An end is 98 words of 64 bits. */
+uint64_t cases_digest(const uint8_t *before, const uint8_t *after) { return digest(before, after, MEMORIES); }
 
-void cases_go(void *at, uint32_t steps, rsp_end *out)
-{
-    side *s = at;
-    for (out->status = RSP_OK; steps && out->status == RSP_OK; steps--) out->status = rsp_step(&s->m);
-    rsp_get(&s->m, &out->state);
-    cases_look(s, s->after);
-    out->changed = digest(s->before, s->after, MEMORIES);
-}
-
-/* No part of the interface: which of n ends differ in bits that are seen. An end is 98 words of 64 bits. */
 void cases_differ(const uint64_t *a, const uint64_t *b, const uint64_t *seen, uint8_t *out, size_t n)
 {
     for (size_t i = 0; i < n; i++, a += 98, b += 98) {

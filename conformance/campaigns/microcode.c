@@ -4,6 +4,7 @@
 #include "plugin.h"
 
 static const uint32_t setting[] = { SETTING }, saving[] = { SAVING }, BREAK = 0x0000000D;
+static uint8_t before[MEMORIES], after[MEMORIES];
 enum { SET = sizeof setting / 4, SAVE = sizeof saving / 4, COPY = 0x400000 };
 /* Where SETTING finds the registers in DMEM, and SAVING leaves them: as conformance/bench.py has it. */
 enum { VECTORS = 0, HIGH = 0x200, MIDDLE = 0x210, LOW = 0x220, ONES = 0x230, DIVISOR = 0x240, CONTROLS = 0x250, SCALARS = 0x280, DATA = 0x300 };
@@ -11,7 +12,7 @@ enum { VECTORS = 0, HIGH = 0x200, MIDDLE = 0x210, LOW = 0x220, ONES = 0x230, DIV
 void *cases_open(const char *what, const uint8_t *memories)
 {
     if (!host.run && !start(what)) return NULL;
-    memcpy(host.before, memories, MEMORIES);
+    memcpy(before, memories, MEMORIES);
     return &host;
 }
 
@@ -69,8 +70,8 @@ static void play(const rsp_case *in, const uint32_t *end, size_t length) /* SETT
     uint8_t data[DATA];
     uint32_t *imem = host.sp + 1024;
     set(data, &in->state);
-    fill(RDRAM);
-    swap(host.rdram + COPY / 4, host.before, DATA); /* SETTING ends with a DMA from there over its data */
+    swap(host.sp, before, RDRAM);
+    swap(host.rdram + COPY / 4, before, DATA); /* SETTING ends with a DMA from there over its data */
     swap(host.sp, data, DATA);
     memcpy(imem, setting, sizeof setting);
     if (in->state.divider.loaded) imem[3] = LOADING; /* instead of nop: vrcph $v2[0], $v1[2] */
@@ -87,11 +88,11 @@ static void one(const rsp_case *in, rsp_end *out)
     out->status = UNSHOWN;
     if (!shown(in)) return;
     play(in, &BREAK, 1);
-    swap(host.after, host.sp, 4096);
-    out->changed = digest(host.before, host.after, 4096);
+    swap(after, host.sp, 4096);
+    out->changed = digest(before, after, 4096);
     play(in, saving, SAVE);
-    swap(host.after, host.sp, DATA);
-    get(&out->state, host.after);
+    swap(after, host.sp, DATA);
+    get(&out->state, after);
     out->status = RSP_OK;
 }
 

@@ -5,20 +5,23 @@ import functools
 import numpy as np
 import rsp
 
-from .child import PROGRAM, SHOWN, first_difference, unseen
+from .child import PROGRAM, SHOWN, differences, in_brief, unseen
 from .emulators import Sides
-from .generator import EDGE, FIRST_EDGE, IMEM, INSTRUCTIONS, MEMORIES, Draw, cases_of, generator, name_of, registers
+from .generator import EDGE, FIRST_EDGE, IMEM, INSTRUCTIONS, MEMORIES, STATE, Draw, cases_of, generator, name_of, registers
 
 EVERY, LENGTH, WORDS = 100, 1024, 1024
 NEVER = ("break",)
 
 
 class Program:
-    """What a run begins with: a state that a script can set, and all memories."""
+    """What a run begins with: a state that a script can set, and all memories. Both are views of its bytes."""
 
-    def __init__(self, state, memories):
+    def __init__(self, state, memories, zeros=()):
         """A script can set neither DIV_OUT nor the lengths of a DMA, and DIV_IN only as a number that is loaded."""
-        self.state, self.memories = state.copy(), bytearray(memories)
+        self.raw = bytearray(state.tobytes() + bytes(memories))
+        for low, high in zeros:
+            self.raw[low:high] = bytes(high - low)
+        self.state, self.memories = np.frombuffer(self.raw, STATE, 1)[0], memoryview(self.raw)[STATE.itemsize :]
         self.state["divider"]["output"] = 0
         self.state["divider"]["input"] *= self.state["divider"]["loaded"]
         self.state["sp"][2:5] = 0xFF8, 0xFF8, self.state["sp"][4] & 0x7FC0
@@ -61,17 +64,17 @@ def program_of(names, seed, number):
     memories[IMEM : IMEM + 4096] = words.astype(">u4").view(np.uint8)
     state = registers(Draw(PROGRAM, seed, number, 1))["state"][0]
     state["pc"], state["npc"], state["vectors"] = 0, 4, edged(state["vectors"])
-    return Program(state, memories.tobytes())
+    return Program(state, memories)
 
 
 def compare(sides, program, steps, every):
-    """The number of steps after which they first differ, and the two ends then; else None."""
+    """The number of steps after which they first differ, and what differs then; else None."""
     for side in sides.both:
         side.begin(program.state, program.memories)
     for made in range(0, steps, every):
         ends = [side.go(min(every, steps - made)) for side in sides.both]
         if sides.differ(*ends)[0]:
-            return min(made + every, steps), *ends
+            return min(made + every, steps), ends
         if ends[0]["status"][0]:  # halted, or a reserved word
             return None
     return None
@@ -88,20 +91,20 @@ def check_programs(spec, seed, start, count, names, steps):
     from .shrink import cut_down
 
     sides, names, cut = Sides(spec, np.zeros(MEMORIES, np.uint8)), tuple(name for name in names if name not in NEVER), set()
-    compare(sides, program_of(names, seed, start), 0, 1)
+    compare(sides, program_of(names, seed, start), 0, 1)  # it may take no programs
     yield {"count": 0, "unseen": unseen(sides.seen)}
     for number in range(start, start + count):
-        program = program_of(names, seed, number)
+        program, name = program_of(names, seed, number), name_of(PROGRAM, seed, number)
         found = compare(sides, program, steps, EVERY)
         if not found:
             yield {"count": 1}
             continue
-        exact, expected, got = compare(sides, program, found[0], 1) or found
+        exact, ends = compare(sides, program, found[0], 1) or found
         before = after(sides, program, exact - 1)
-        name = before.text(int(before.state["pc"])).split()[0]
-        text = f"{name_of(PROGRAM, seed, number)}: step {exact}, {before.text(int(before.state['pc']))}: {first_difference(expected[0], got[0], sides.seen)}"
-        result = {"count": 1, "differ": 1, "parts": {name: 1}, "shown": [text]}
-        if name not in cut and len(cut) < SHOWN:
-            cut.add(name)
-            result["programs"] = [{"name": name_of(PROGRAM, seed, number), "shown": text, **cut_down(sides, program, exact)}]
+        text = before.text(int(before.state["pc"]))
+        shown, what = f"{name}: step {exact}, {text}: {in_brief(differences(*ends, sides.seen))}", text.split()[0]
+        result = {"count": 1, "differ": 1, "parts": {what: 1}, "shown": [shown]}
+        if what not in cut and len(cut) < SHOWN:
+            cut.add(what)
+            result["programs"] = [{"name": name, "shown": shown, **cut_down(sides, program, exact)}]
         yield result

@@ -1,87 +1,54 @@
 """Cuts a program that shows a difference down: to the latest beginning, the fewest words, and the fewest registers and bytes that aren't 0."""
 
 import bench
-import numpy as np
+import full
 
 from .child import BANKS, bytes_that_differ, differences
+from .emulators import json_of
 from .generator import DMEM, IMEM, MEMORIES, RDRAM, STATE
 from .programs import Program, after, compare
-
-# What can become 0: registers, lanes and flags (not pc, npc and the lengths of a DMA), and blocks of 64 bytes of memories.
-PARTS = [("state", low, low + size) for start, end, size in ((4, 128, 4), (128, 688, 2), (688, 693, 1), (694, 700, 2), (704, 712, 4), (720, 772, 4))
-         for low in range(start, end, size)] + [("memories", low, low + 64) for low in (*range(DMEM, IMEM, 64), *range(RDRAM, MEMORIES, 64))]  # fmt: skip
+from .search import fewest, minimal
 
 
-def minimal(items, fails):
-    """Delta debugging: items that still fail. None of them can be left out."""
-    if fails([]):
-        return []
-    size, smaller = len(items), True
-    while size > 1 or smaller:
-        size, at, smaller = max(1, size // 2), 0, False
-        while at < len(items):
-            rest = items[:at] + items[at + size :]
-            if fails(rest):
-                items, smaller = rest, True
-            else:
-                at += size
-    return items
+def parts_of(*ranges):
+    """Parts of a program's bytes: ranges of them, with the size of a part of each."""
+    return [(low, low + size) for start, end, size in ranges for low in range(start, end, size)]
 
 
-def latest_beginning(sides, program, steps, fails):
-    """The library's state the fewest steps before the difference from which it still shows, and how many those are."""
-    back = 1
-    while back < steps and not fails(after(sides, program, steps - back), back):
-        back *= 2
-    short, back = back // 2, min(back, steps)  # too few, and enough
-    while back - short > 1:
-        middle = (short + back) // 2
-        if fails(after(sides, program, steps - middle), middle):
-            back = middle
-        else:
-            short = middle
-    return after(sides, program, steps - back), back
+def in_memories(start, end, size):
+    return STATE.itemsize + start, STATE.itemsize + end, size
 
 
-def with_words(program, kept):
-    """A program with nop for all words but those at these places."""
-    made, kept = Program(program.state, program.memories), set(kept)
-    for pc in range(0, 4096, 4):
-        if pc not in kept:
-            made.memories[IMEM + pc : IMEM + pc + 4] = bytes(4)
-    return made
-
-
-def with_parts(program, kept):
-    """A program with 0 in all parts but these."""
-    made, kept = Program(program.state, program.memories), set(kept)
-    raw = bytearray(made.state.tobytes())
-    for part in PARTS:
-        if part not in kept:
-            where, low, end = part
-            (raw if where == "state" else made.memories)[low:end] = bytes(end - low)
-    made.state = np.frombuffer(raw, STATE)[0]
-    return made
+# What can become 0: words, then registers, lanes and flags (not pc, npc and the lengths of a DMA), and blocks of 64 bytes of memories.
+WORDS = parts_of(in_memories(IMEM, RDRAM, 4))
+OTHERS = parts_of((4, 128, 4), (128, 688, 2), (688, 693, 1), (694, 700, 2), (704, 712, 4), (720, 772, 4), in_memories(DMEM, IMEM, 64), in_memories(RDRAM, MEMORIES, 64))
 
 
 def cut_down(sides, program, steps):
     """What a result says of a program that first differs after so many steps."""
-    runs = 0
 
     def fails(candidate, most):
-        nonlocal runs
-        runs += 1
         return compare(sides, candidate, most, max(1, most // 16)) is not None
 
-    program, steps = latest_beginning(sides, program, steps, fails)
-    words = minimal([pc for pc in range(0, 4096, 4) if program.word(pc)], lambda kept: fails(with_words(program, kept), steps))
-    program = with_words(program, words)
-    parts = minimal(PARTS, lambda kept: fails(with_parts(program, kept), steps))
-    program = with_parts(program, parts)
-    steps, expected, got = compare(sides, program, steps, 1)
-    what = [*differences(expected[0], got[0], sides.seen), *bytes_that_differ(*(side.look() for side in sides.both))]
-    return {"steps": steps, "words": len(words), "parts": len(parts), "runs": runs, "differs": what[:8], "pc": int(program.state["pc"]),
+    most, whole = steps, program
+    steps = fewest(most, lambda back: fails(after(sides, whole, most - back), back)) or most
+    program = after(sides, whole, most - steps)
+    for parts in (WORDS, OTHERS):
+        program = smallest(program, parts, lambda candidate: fails(candidate, steps))
+    steps, ends = compare(sides, program, steps, 1)
+    words = [pc for pc in range(0, 4096, 4) if program.word(pc)]
+    return {"steps": steps, "differs": [*differences(*ends, sides.seen), *bytes_that_differ(sides)][:8], "pc": int(program.state["pc"]),
             "listing": [f"{pc:03x}: {program.text(pc)}" for pc in words], "source": source_of(program, words), "script": script_of(program, steps)}  # fmt: skip
+
+
+def smallest(program, parts, fails):
+    """A program with 0 in all of these parts that it doesn't need."""
+    parts = [(low, high) for low, high in parts if any(program.raw[low:high])]
+
+    def with_parts(kept):
+        return Program(program.state, program.memories, {*parts} - {*kept})
+
+    return with_parts(minimal(parts, lambda kept: fails(with_parts(kept))))
 
 
 def source_of(program, words):
@@ -92,13 +59,11 @@ def source_of(program, words):
 
 def texts_of(state):
     """A state as bench.py has it."""
-    flags, divider, parts = state["flags"], state["divider"], [state["accumulators"][part] for part in ("high", "middle", "low")]
-    texts = {key: f"{state[key]:03x}" for key in ("pc", "npc")} | {"interrupt": f"{state['interrupt']:x}"}
-    texts |= {f"r{n}": f"{it:08x}" for n, it in enumerate(state["words"])} | {f"c{n}": f"{it:08x}" for n, it in enumerate(state["sp"])}
-    texts |= {f"v{n}": "".join(f"{it:04x}" for it in lanes) for n, lanes in enumerate(state["vectors"])}
-    texts |= {f"a{i}": "".join(f"{part[i]:04x}" for part in parts) for i in range(8)}
-    texts |= {"vco": f"{flags['differ']:02x}{flags['carry']:02x}", "vcc": f"{flags['clip']:02x}{flags['compare']:02x}", "vce": f"{flags['extra']:02x}"}
-    return texts | {"in": f"{divider['input']:04x}", "out": f"{divider['output']:04x}", "loaded": f"{divider['loaded']:x}"}
+    numbers = json_of(state)
+    found = {key: numbers[name] for name, key in full.NUMBERS.items()}
+    found.update({f"{letter}{n}": value for name, (letter, _) in full.LISTS.items() for n, value in enumerate(numbers[name])})
+    found.update({f"v{n}": int("".join(f"{lane:04x}" for lane in lanes), 16) for n, lanes in enumerate(numbers["v"])})
+    return {key: f"{value:0{len(bench.DEFAULT[key])}x}" for key, value in found.items()}
 
 
 def script_of(program, steps):

@@ -5,6 +5,7 @@ is still UNDONE. If the case alone doesn't show the fault, a case before it has 
 and its first case is the faulty one. New children do the cases before and after the faulty one.
 """
 
+import itertools
 import json
 import mmap
 import os
@@ -16,10 +17,12 @@ import sys
 import tempfile
 import threading
 import time
+from collections import Counter
 
 import numpy as np
 
-from .child import BATCH, PROGRAM, SHARED, SHOWN, UNDONE
+from . import TOP
+from .child import BATCH, SHARED, SHOWN, UNDONE
 from .emulators import hashes
 from .generator import END, name_of
 
@@ -27,46 +30,65 @@ from .generator import END, name_of
 KEEP = {"MALLOC_TRIM_THRESHOLD_": str(1 << 28), "MALLOC_MMAP_THRESHOLD_": str(1 << 25), "OMP_NUM_THREADS": "1"}
 FAULTS, SEARCH_SECONDS, BEGIN_SECONDS = 8, 60, 60
 START = "import json, sys; sys.path.insert(0, sys.argv[1]); from campaigns.child import main; main(*json.loads(sys.argv[2]))"
-COUNTS = ("count", "unshown", "differ", "choices")
+# What a result adds up.
+NOTHING = {"count": 0, "unshown": 0, "differ": 0, "choices": 0, "parts": {}, "shown": [], "faults": [], "programs": [], "processor": 0}
+
+
+def add(total, result):
+    """Adds numbers, counts by names, and lists."""
+    for key in NOTHING.keys() & result.keys():
+        total[key] = dict(Counter(total[key]) + Counter(result[key])) if key == "parts" else total[key] + result[key]
 
 
 class Child:
-    """The results of a child, each within a time."""
+    """A child with a part of a task. Iterated, it gives the results of its batches; then `fault` says why some are missing."""
 
     def __init__(self, words, options):
-        self.limit, self.lines, self.begun = options["limit"], queue.SimpleQueue(), False
+        self.limit, self.lines, self.begun, self.fault = options["limit"], queue.SimpleQueue(), False, ""
         self.file, self.errors = tempfile.TemporaryFile(dir="/dev/shm" if os.path.isdir("/dev/shm") else None), tempfile.TemporaryFile()
         self.file.truncate(SHARED)
         self.ends = np.frombuffer(mmap.mmap(self.file.fileno(), SHARED), END)
         self.ends["status"] = UNDONE
-        words = json.dumps([words, options, self.file.fileno(), os.getpid()])
-        folder = os.path.dirname(os.path.dirname(os.path.abspath(__file__)))
-        self.process = subprocess.Popen([sys.executable, "-c", START, folder, words], stdout=subprocess.PIPE, stderr=self.errors,
-                                        pass_fds=[self.file.fileno()], start_new_session=True, env=os.environ | KEEP)  # fmt: skip
+        words = [sys.executable, "-c", START, str(TOP / "conformance"), json.dumps([words, options, self.file.fileno(), os.getpid()])]
+        self.process = subprocess.Popen(words, stdout=subprocess.PIPE, stderr=self.errors, pass_fds=[self.file.fileno()], start_new_session=True,
+                                        env={**os.environ, **KEEP})  # fmt: skip
         threading.Thread(target=self.read, daemon=True).start()
 
     def read(self):
-        for line in self.process.stdout:
+        for line in itertools.chain(self.process.stdout, [b""]):
             self.lines.put(line)
-        self.lines.put(b"")
 
-    def result(self):
-        """The next result; or a text, why there is none. The limit is for a case: whoever makes one within it goes on."""
-        made, line = -1, None
-        while line is None:
+    def made(self):
+        """How many cases of the last batch are done."""
+        return int((self.ends["status"] != UNDONE).sum())
+
+    def __iter__(self):
+        """The limit is for a case: who makes one within it goes on."""
+        made = -1
+        while not self.fault:
             try:
                 line = self.lines.get(timeout=self.limit if self.begun else max(self.limit, BEGIN_SECONDS))
             except queue.Empty:
-                if made == (made := int((self.ends["status"] != UNDONE).sum())):
-                    return f"no answer within {self.limit:g} seconds"
-        if line:
-            self.begun = True
-            return json.loads(line)
+                if made == (made := self.made()):
+                    self.fault = f"no answer within {self.limit:g} seconds"
+                continue
+            if not line:
+                self.fault = self.end()
+                return
+            self.begun, made = True, -1
+            yield json.loads(line)
+
+    def end(self):
+        """Why it ended before its time: its last words, a signal or a status."""
+        status = self.process.wait()
         self.errors.seek(0)
-        last, status = self.errors.read().decode(errors="replace").strip().split("\n")[-1], self.process.wait()
+        last = self.errors.read().decode(errors="replace").strip().split("\n")[-1]
         return last if status == 1 and last else f"ended by {signal.Signals(-status).name}" if status < 0 else f"ended with status {status}"
 
-    def stop(self):
+    def __enter__(self):
+        return self
+
+    def __exit__(self, *_):
         if self.process.poll() is None:
             os.killpg(self.process.pid, signal.SIGKILL)
         self.process.wait()
@@ -76,11 +98,8 @@ class Child:
 
 def fails(words, options):
     """Whether cases show a fault in a child of their own."""
-    child, left = Child(words, options), words[-1]
-    while left and not isinstance(batch := child.result(), str):
-        left -= batch["count"]
-    child.stop()
-    return left > 0
+    with Child(words, options) as child:
+        return sum(batch["count"] for batch in child) < words[-1]
 
 
 def run_that_fails(spec, name, seed, number, first, options):
@@ -100,48 +119,35 @@ def run_that_fails(spec, name, seed, number, first, options):
 
 
 def check(spec, name, seed, start, count, options):
-    """Has a task done. What it answers is what the task's file holds."""
-    result = {"instruction": name, "seed": seed, "start": start, "size": count, **dict.fromkeys(COUNTS, 0), "parts": {}, "shown": [], "faults": [], "programs": [], "unseen": []}
-    began, used, ranges = time.time(), sum(os.times()[:4]), [(start, count)]
+    """Has a task done. What it returns is what the task's file holds."""
+    result = {"instruction": name, "seed": seed, "start": start, "size": count, "unseen": [], **NOTHING}
+    began, ranges = time.time(), [(start, start + count)]
     while ranges and "given up" not in result:
-        at, left = first, _ = ranges.pop(0)
-        child = Child((spec, name, seed, at, left), options)
-        while left and not isinstance(batch := child.result(), str):
-            add(result, batch)
-            at, left = at + batch["count"], left - batch["count"]
-        begun, made = child.begun, int((child.ends["status"] != UNDONE).sum())
-        child.stop()
-        if left:
-            number = at + min(made, BATCH - 1, left - 1)  # a spoilt emulator may end after the last case of a batch
-            cause = fault(result, spec, number, first, batch, begun, options)
+        first, end = ranges.pop(0)
+        at = first
+        with Child((spec, name, seed, first, end - first), options) as child:
+            for batch in child:
+                add(result, batch)
+                at += batch["count"]
+                result["unseen"] = batch.get("unseen", result["unseen"])
+        if at < end:
+            number = at + min(child.made(), BATCH - 1, end - at - 1)  # a spoilt emulator may end after the last case of a batch
+            cause = fault(result, (spec, name, seed), number, first, child, options)
             faulty = number if cause is None or cause < at else cause
-            ranges[:0] = [it for it in ((at, faulty - at), (faulty + 1, at + left - faulty - 1)) if it[1] > 0]
+            ranges[:0] = [it for it in ((at, faulty), (faulty + 1, end)) if it[0] < it[1]]
     result["shown"] = sorted(result["shown"], key=lambda it: int(re.match(r"\w+-\w+-(\d+)", it)[1]))[:SHOWN]
-    return {**result, "hashes": hashes(spec), "seconds": time.time() - began, "processor": sum(os.times()[:4]) - used}
+    return {**result, "hashes": hashes(spec), "seconds": time.time() - began}
 
 
-def add(result, batch):
-    for key in COUNTS:
-        result[key] += batch.get(key, 0)
-    for part, count in batch.get("parts", {}).items():
-        result["parts"][part] = result["parts"].get(part, 0) + count
-    for key in ("shown", "programs"):
-        result[key] += batch.get(key, [])
-    result["unseen"] = batch.get("unseen", result["unseen"])
-
-
-def fault(result, spec, number, first, why, begun, options):
+def fault(result, task, number, first, child, options):
     """Adds a fault, which shows at the case `number`, as one that differs. Returns the case that causes it, or None if nothing shows it again."""
-    if not begun or len(result["faults"]) >= FAULTS:
-        result["given up"] = why
+    if not child.begun or len(result["faults"]) >= FAULTS:
+        result["given up"] = child.fault
         return None
-    name, seed = result["instruction"], result["seed"]
-    cause = run_that_fails(spec, name, seed, number, first, options)
+    why, cause = child.fault, run_that_fails(*task, number, first, options)
     if cause is None:
         why += "; no run of cases before it was found that shows it again"
     elif cause < number:
-        why += f"; the shortest run that shows it begins with {name_of(name, seed, cause)}"
-    result["shown"].append(f"{name_of(name, seed, number)}: {why}")
-    result["faults"].append([number, cause, why])
-    result["differ"], result["count"] = result["differ"] + 1, result["count"] + 1
+        why += f"; the shortest run that shows it begins with {name_of(*task[1:], cause)}"
+    add(result, {"count": 1, "differ": 1, "shown": [f"{name_of(*task[1:], number)}: {why}"], "faults": [[number, cause, why]]})
     return cause

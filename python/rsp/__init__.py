@@ -18,15 +18,16 @@ from typing import Any, Iterable, List, NamedTuple, Optional, Sequence, Tuple, T
 
 from . import arrays as _arrays
 from . import words as _in_words
+from .compare import Emulator, FirstDifference, first_difference
 from .shown import Difference, Part
 from .state import Accumulators, Divider, Flags, Scalars, SpWords, State, unset
 from .words import FAULTS
 
 __version__ = "1.0.0"
 __all__ = [
-    "DMEM", "FAULTS", "IMEM", "RDRAM", "VERSION", "Accumulators", "AssemblyError", "Bank", "Difference", "Divider", "Flags", "Line", "Part",
-    "Reason", "Rsp", "RspError", "Scalars", "SpWords", "State", "Status", "Stop", "assemble", "state_fault",
-    "text",
+    "DMEM", "FAULTS", "IMEM", "RDRAM", "VERSION", "Accumulators", "AssemblyError", "Bank", "Difference", "Divider", "Emulator", "FirstDifference", "Flags",
+    "Line", "Part", "Reason", "Rsp", "RspError", "Scalars", "SpWords", "State", "Status", "Stop", "assemble", "first_difference",
+    "state_fault", "text",
 ]  # fmt: skip
 
 _S = TypeVar("_S", bound=Structure)
@@ -248,7 +249,7 @@ def state_fault(state: State) -> Optional[str]:
 class Rsp:
     """A machine with a copy of an image of RDRAM and a history of `depth` states, at most 4096.
 
-    The image has 64 to 8388608 bytes, a multiple of 8. A refused call raises RspError with its status, and an argument of a wrong type
+    The image has 64 to 8388608 bytes, a multiple of 8: `image_length`. A refused call raises RspError with its status, and an argument of a wrong type
     TypeError; neither changes anything.
     """
 
@@ -260,12 +261,14 @@ class Rsp:
         if status == Status.OUT_OF_RANGE and (len(data) % 8 or not 64 <= len(data) <= 1 << 23):
             raise RspError(Status(status), f"Rsp: image has {len(data)} bytes, not a multiple of 8 from 64 to 8388608")
         _ok(status, "Rsp", [depth])
+        self.image_length = len(data)
 
     def copy(self) -> "Rsp":
         """A second machine in the same state, memories included, with as long a history, which is empty, and without breakpoints and watches."""
         made = Rsp.__new__(Rsp)
         made._handle = _Handle()
         _ok(_lib.rsp_copy(byref(made._handle), byref(self._handle)), "copy")
+        made.image_length = self.image_length
         return made
 
     def __copy__(self) -> "Rsp":

@@ -51,6 +51,7 @@ ARGUMENTS: Dict[str, Dict[str, Range]] = {
     "assemble": {"origin": Range(range(0, 4097, 4), "a multiple of 4 up to 4096")},
     "text": {"word": WORD, "place": PLACE},
     "listing": {"place": PLACE, "count": Range(range(1025), "0 to 1024")},
+    "first_difference": {"every": COUNT, "limit": WORD},
 }
 
 # What is wrong if each number is in its range.

@@ -14,6 +14,7 @@
 
 #![warn(missing_docs)]
 
+mod compare;
 mod difference;
 mod error;
 mod faults;
@@ -24,6 +25,7 @@ mod shapes;
 mod shown;
 mod texts;
 
+pub use compare::{first_difference, Emulator, FirstDifference, Quadword};
 pub use difference::{Part, Place};
 pub use error::{Refused, VERSION};
 pub use faults::Fault;

@@ -15,6 +15,7 @@ use std::ptr;
 // `Sync`, one call at a time has it; and each pointer is of a borrow with its own length.
 pub struct Machine {
     handle: UnsafeCell<raw::Handle>,
+    image_length: usize,
 }
 
 // SAFETY: a machine is memory of malloc that its handle alone leads to, and no call keeps anything of a thread.
@@ -24,21 +25,26 @@ impl Machine {
     /// A machine with this image (64 to 8388608 bytes, a multiple of 8) and a history of `depth` states, at most 4096.
     pub fn new(image: &[u8], depth: u32) -> Result<Machine, Refused> {
         right_version()?;
-        let machine = Machine::none();
+        let machine = Machine::none(image.len());
         done(unsafe { raw::rsp_new(machine.at(), image.as_ptr(), image.len(), depth) })?;
         Ok(machine)
     }
 
     /// A second machine in the same state, memories included, with as long a history, which is empty, and without breakpoints and watches.
     pub fn copy(&self) -> Result<Machine, Refused> {
-        let machine = Machine::none();
+        let machine = Machine::none(self.image_length);
         done(unsafe { raw::rsp_copy(machine.at(), self.at()) })?;
         Ok(machine)
     }
 
     /// A handle that holds no machine.
-    fn none() -> Machine {
-        Machine { handle: UnsafeCell::new(raw::Handle { at: ptr::null_mut() }) }
+    fn none(image_length: usize) -> Machine {
+        Machine { handle: UnsafeCell::new(raw::Handle { at: ptr::null_mut() }), image_length }
+    }
+
+    /// The bytes of RDRAM.
+    pub fn image_length(&self) -> usize {
+        self.image_length
     }
 
     fn at(&self) -> *mut raw::Handle {

@@ -22,6 +22,8 @@ with rsp.Rsp(depth=3) as machine:
     stop: rsp.Stop = machine.run(4)
     found: rsp.Difference = machine.get().diff(state)
     reveal_type(machine.get().words[1])
+    first = rsp.first_difference(machine, rsp.Rsp())
+    number: int = first.step if first else 0
 """
 WRONG = TYPED.replace("state = rsp.State(pc=4)", "state = rsp.State(pc=4)\nstate.pc = 'a'\nstate.words = 'ab'")
 
