@@ -5,6 +5,7 @@
 #include <stdarg.h>
 #include <stdio.h>
 
+__asm__(".symver dlsym, dlsym@GLIBC_2.2.5"); /* by the version that it had when it was in libdl, the plugin loads with an older glibc too */
 plugin_options options = { .wait_reads = 512, .check_folder = ".", .check_addresses = 1 };
 static m64p_message *message;
 static void *message_context;
