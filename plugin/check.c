@@ -29,13 +29,14 @@ static void keep_pages(uint32_t address, uint32_t len)
 
 const uint8_t *page_before(size_t page) { return (is_kept[page] ? kept : (uint8_t *)ours->memory[RSP_RDRAM]) + page * PAGE; }
 
-/* Loads the other plugin, if the user wants one. */
+/* Loads the other plugin, if the user wants one and it isn't there. The next ROM may have another RDRAM. */
 void check_open(rsp_unit *unit)
 {
     ours = unit;
+    other.rdram_size = unit->rdram_size;
     if (!*options.check_against || is_open) return;
     kept = kept ? kept : malloc(RDRAM_BYTES);
-    is_open = kept && open_other(options.check_against, unit->rdram_size);
+    is_open = kept && open_other(options.check_against);
     if (!is_open) return;
     unit->storing = keep_pages;
     if (!other.steps_by_count && !other.steps_by_flag) tell(M64_WARNING, "check: the other plugin makes no single steps: only differences at a task's end are found");

@@ -19,7 +19,7 @@ extern const char *const register_names[REGISTERS];
 const uint8_t *page_before(size_t page); /* a page of RDRAM as it was when the task began */
 
 /* pages.c: the other plugin's RDRAM, whose pages are filled at their first use. */
-uint8_t *make_pages(size_t size);
+uint8_t *make_pages(void);
 void close_pages(void);
 void stop_watching(void);
 void use_pages(uint32_t address, uint32_t len);
@@ -28,12 +28,12 @@ int pages_differ(const uint32_t *rdram, uint32_t *address);
 /* other.c: the other plugin, with memories and registers of its own. */
 typedef struct other_plugin {
     uint32_t *memory[3]; /* by rsp_bank */
-    size_t rdram_size;
+    size_t rdram_size;   /* that of the emulator */
     unsigned registers[REGISTERS];
     int is_z64, steps_by_count, steps_by_flag;
 } other_plugin;
 extern other_plugin other;
-int open_other(const char *path, size_t rdram_size);
+int open_other(const char *path);
 void begin_other(const task_start *start);
 void run_other(void);
 void step_other(uint32_t word);

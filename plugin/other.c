@@ -73,15 +73,14 @@ static int find_calls(const char *path)
 }
 
 /* Loads the plugin. Returns 0, with a message, if it is none. */
-int open_other(const char *path, size_t rdram_size)
+int open_other(const char *path)
 {
     void *extent[2] = { 0 };
     Dl_info at;
     if (!find_calls(path) || !dladdr(*(void **)&run, &at)) return 0;
     extent[0] = at.dli_fbase;
     dl_iterate_phdr(measure, extent);
-    other.rdram_size = rdram_size;
-    other.memory[RSP_RDRAM] = (uint32_t *)make_pages(rdram_size);
+    other.memory[RSP_RDRAM] = (uint32_t *)make_pages();
     other.memory[RSP_DMEM] = calloc(1, SP_SPACE);
     if (!other.memory[RSP_RDRAM] || !other.memory[RSP_DMEM]) return tell(M64_ERROR, "check: there is no memory for it"), 0;
     other.memory[RSP_IMEM] = other.memory[RSP_DMEM] + MEMORY_WORDS;

@@ -24,6 +24,7 @@ EXPORTED int PluginShutdown(void)
 {
     if (!is_started) return M64_NOT_INIT;
     is_started = is_initiated = 0;
+    rsp_free(&unit.machine);
     tell_by(NULL, NULL);
     return M64_SUCCESS;
 }
