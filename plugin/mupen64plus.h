@@ -6,7 +6,7 @@
 /* Errors, levels of messages, and the kind of a plugin. */
 enum m64p_error { M64_SUCCESS = 0, M64_NOT_INIT = 1, M64_ALREADY_INIT = 2, M64_INCOMPATIBLE = 3 };
 enum m64p_level { M64_ERROR = 1, M64_WARNING = 2, M64_INFO = 3 };
-enum { M64_PLUGIN_RSP = 1, M64_API = 0x020000, M64_ROM_GET_SETTINGS = 4 };
+enum { M64_PLUGIN_RSP = 1, M64_API = 0x020000, M64_ROM_GET_SETTINGS = 4, M64_FLOAT = 2 };
 
 typedef void m64p_message(void *context, int level, const char *text);
 
@@ -21,6 +21,9 @@ typedef struct m64p_rsp_info {
 /* The calls of the emulator. */
 typedef void m64p_get_versions(int *config, int *debug, int *video, int *more);
 typedef int m64p_open_section(const char *name, void **section);
+typedef int m64p_save_section(const char *name);
+typedef int m64p_get(void *section, const char *name, int type, void *value, int size);
+typedef int m64p_default_float(void *section, const char *name, float value, const char *help);
 typedef int m64p_default_int(void *section, const char *name, int value, const char *help);
 typedef int m64p_default_text(void *section, const char *name, const char *value, const char *help);
 typedef int m64p_get_int(void *section, const char *name);

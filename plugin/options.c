@@ -30,6 +30,9 @@ void tell(int level, const char *format, ...)
 static struct core_calls {
     m64p_get_versions *versions;
     m64p_open_section *open;
+    m64p_save_section *save;
+    m64p_get *get;
+    m64p_default_float *default_float;
     m64p_default_int *default_int, *default_bool;
     m64p_default_text *default_text;
     m64p_get_int *get_int, *get_bool;
@@ -42,6 +45,7 @@ static int find_calls(void *core)
 {
     static const struct { const char *name; void *call; } calls[] = {
         { "CoreGetAPIVersions", &core_calls.versions }, { "ConfigOpenSection", &core_calls.open },
+        { "ConfigSaveSection", &core_calls.save }, { "ConfigGetParameter", &core_calls.get }, { "ConfigSetDefaultFloat", &core_calls.default_float },
         { "ConfigSetDefaultInt", &core_calls.default_int }, { "ConfigSetDefaultBool", &core_calls.default_bool },
         { "ConfigSetDefaultString", &core_calls.default_text }, { "ConfigGetParamInt", &core_calls.get_int },
         { "ConfigGetParamBool", &core_calls.get_bool }, { "ConfigGetParamString", &core_calls.get_text },
@@ -69,8 +73,12 @@ static void read_text(char *to, size_t size, void *section, const char *name, co
     snprintf(to, size, "%s", core_calls.get_text(section, name));
 }
 
+/* Reads the section. If the user has none yet, it is written with the defaults, so that he finds them. */
 static void read_section(void *section)
 {
+    float version;
+    int is_new = core_calls.get(section, "Version", M64_FLOAT, &version, sizeof version) != M64_SUCCESS;
+    core_calls.default_float(section, "Version", 1, "Version of this section's options");
     options.graphics_by_plugin = read_bool(section, "DisplayListToGraphicsPlugin", 0, "Send display lists to the graphics plugin instead of executing them");
     options.audio_by_plugin = read_bool(section, "AudioListToAudioPlugin", 0, "Send audio lists to the audio plugin instead of executing them");
     core_calls.default_int(section, "WaitReads", 512, "Reads of SP_STATUS or the semaphore after which a task waits for the CPU");
@@ -78,6 +86,7 @@ static void read_section(void *section)
     read_text(options.check_against, sizeof options.check_against, section, "CheckAgainst", "", "File of another RSP plugin to be checked task by task; empty for none");
     read_text(options.check_folder, sizeof options.check_folder, section, "CheckFolder", ".", "Folder for the reports of differences");
     options.check_addresses = read_bool(section, "CheckAddresses", 1, "Whether SP_MEM_ADDR and SP_DRAM_ADDR are compared");
+    if (is_new) core_calls.save("Rsp-Proved");
 }
 
 /* The bytes of RDRAM that the open ROM has. */

@@ -50,6 +50,13 @@ static const char *value_of(const char *name)
 
 void CoreGetAPIVersions(int *config, int *debug, int *video, int *more) { (void)debug; (void)video; (void)more; *config = (int)version; }
 int ConfigOpenSection(const char *name, void **section) { *section = (void *)name; return 0; }
+int ConfigSaveSection(const char *name) { return printf("saved %s\n", name), 0; }
+int ConfigGetParameter(void *section, const char *name, int type, void *value, int size) /* there is one of each option that was chosen */
+{
+    (void)section; (void)type; (void)value; (void)size;
+    return *value_of(name) ? 0 : 1;
+}
+int ConfigSetDefaultFloat(void *section, const char *name, float value, const char *help) { (void)section; (void)name; (void)value; (void)help; return 0; }
 int ConfigSetDefaultString(void *section, const char *name, const char *value, const char *help)
 {
     (void)section; (void)help;
