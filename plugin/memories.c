@@ -5,8 +5,8 @@
 
 enum { BLOCK = 64 }; /* words that are compared at once */
 
-/* Words of the host into bytes in order, or bytes in order into words of the host. */
-void turn(void *to, const void *from, size_t words)
+/* Words of the host into bytes in the console's order, or back. */
+void swap_bytes(void *to, const void *from, size_t words)
 {
     uint32_t *out = to;
     const uint32_t *in = from;
@@ -36,7 +36,7 @@ void carry_in(rsp_unit *unit, uint32_t bank)
     span it = differing(copy->words, unit->memory[bank]);
     if (!it.len) return;
     memcpy(copy->words + it.first, unit->memory[bank] + it.first, 4 * it.len);
-    turn(copy->bytes + 4 * it.first, copy->words + it.first, it.len);
+    swap_bytes(copy->bytes + 4 * it.first, copy->words + it.first, it.len);
     rsp_load(&unit->machine, bank, 4 * it.first, copy->bytes + 4 * it.first, 4 * it.len);
 }
 
@@ -49,7 +49,7 @@ void carry_out(rsp_unit *unit, uint32_t bank)
     span it = differing(copy->bytes, bytes);
     if (!it.len) return;
     memcpy(copy->bytes + 4 * it.first, bytes + 4 * it.first, 4 * it.len);
-    turn(copy->words + it.first, copy->bytes + 4 * it.first, it.len);
+    swap_bytes(copy->words + it.first, copy->bytes + 4 * it.first, it.len);
     memcpy(unit->memory[bank] + it.first, copy->words + it.first, 4 * it.len);
 }
 
@@ -78,7 +78,7 @@ void rows_in(rsp_unit *unit, dma_rows rows)
         uint8_t bytes[4 * MEMORY_WORDS];
         span it = inside(unit, address, rows.len);
         if (!it.len) continue;
-        turn(bytes, unit->memory[RSP_RDRAM] + it.first / 4, it.len / 4);
+        swap_bytes(bytes, unit->memory[RSP_RDRAM] + it.first / 4, it.len / 4);
         rsp_load(&unit->machine, RSP_RDRAM, it.first, bytes, it.len);
     }
 }
@@ -93,6 +93,6 @@ void rows_out(rsp_unit *unit, dma_rows rows)
         if (!it.len) continue;
         if (unit->storing) unit->storing(it.first, it.len);
         rsp_memory(&unit->machine, RSP_RDRAM, it.first, bytes, it.len);
-        turn(unit->memory[RSP_RDRAM] + it.first / 4, bytes, it.len / 4);
+        swap_bytes(unit->memory[RSP_RDRAM] + it.first / 4, bytes, it.len / 4);
     }
 }

@@ -190,11 +190,13 @@ static void see_interrupt(u32 number)
     SP(SP_STATUS) = CLEAR_SIGNAL_2;
 }
 
-/* A display list of eight commands that do nothing goes to the RDP; BREAK interrupts. */
+/* Eight commands go to the RDP, which fill 320 by 240 pixels from RDRAM 200000 on with red; BREAK interrupts. */
 static void test_list(void)
 {
+    static const u32 commands[16] = { 0x27000000, 0, 0x2d000000, 0x005003c0, 0x3f10013f, 0x00200000, 0x2f300000, 0, 0x37000000, 0xf801f801,
+        0x364fc3bc, 0, 0x27000000, 0, 0x29000000, 0 };
     u32 i;
-    for (i = 0; i < 64; i += 8) RDRAM(0x123000 + i) = 0x29000000, RDRAM(0x123004 + i) = 0;
+    for (i = 0; i < 16; i++) RDRAM(0x123000 + 4 * i) = commands[i];
     LOAD(list);
     DMEM(0xfc0) = 1;
     DMEM(0xff0) = 0x123000;
