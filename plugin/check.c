@@ -29,18 +29,46 @@ static void keep_pages(uint32_t address, uint32_t len)
 
 const uint8_t *page_before(size_t page) { return (is_kept[page] ? kept : (uint8_t *)ours->memory[RSP_RDRAM]) + page * PAGE; }
 
+/* The lists that the task gave to the RDP, and what the graphics plugin made of the DPC's registers: the other plugin sees the same. */
+enum { LISTS_MOST = 1024 };
+static unsigned dpc_after[LISTS_MOST][8];
+static uint32_t n_lists;
+static void (*give_list)(void);
+
+static void record_list(void)
+{
+    give_list();
+    if (n_lists == LISTS_MOST) return;
+    for (int n = 0; n < 8; n++) dpc_after[n_lists][n] = *ours->sp[DPC_START + n];
+    n_lists++;
+}
+
+void replay_list(uint32_t number, unsigned *dpc)
+{
+    if (number < n_lists) memcpy(dpc, dpc_after[number], sizeof dpc_after[number]);
+}
+
+static void tell_other(void)
+{
+    if (!other.steps_by_count && !other.steps_by_flag) tell(M64_WARNING, "check: the other plugin makes no single steps: only differences at a task's end are found");
+    tell(M64_INFO, "check: each task also runs on %s%s", options.check_against, other.is_z64 ? ", a z64 whose registers are known" : "");
+}
+
 /* Loads the other plugin, if the user wants one and it isn't there. The next ROM may have another RDRAM. */
 void check_open(rsp_unit *unit)
 {
     ours = unit;
     other.rdram_size = unit->rdram_size;
-    if (!*options.check_against || is_open) return;
+    if (!*options.check_against) return;
     kept = kept ? kept : malloc(RDRAM_BYTES);
-    is_open = kept && open_other(options.check_against);
+    if (!is_open) {
+        is_open = kept && open_other(options.check_against);
+        if (is_open) tell_other();
+    }
     if (!is_open) return;
     unit->storing = keep_pages;
-    if (!other.steps_by_count && !other.steps_by_flag) tell(M64_WARNING, "check: the other plugin makes no single steps: only differences at a task's end are found");
-    tell(M64_INFO, "check: each task also runs on %s%s", options.check_against, other.is_z64 ? ", a z64 whose registers are known" : "");
+    give_list = unit->list;
+    unit->list = record_list;
 }
 
 static void take_registers(uint32_t *to)
@@ -55,6 +83,7 @@ void check_begin(void)
 {
     if (!is_open) return;
     start.task++;
+    n_lists = 0;
     rsp_get(&ours->machine, &start.state);
     memcpy(start.memory[RSP_DMEM], ours->memory[RSP_DMEM], sizeof start.memory[0]);
     memcpy(start.memory[RSP_IMEM], ours->memory[RSP_IMEM], sizeof start.memory[0]);

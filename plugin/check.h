@@ -17,6 +17,7 @@ typedef struct task_start {
 /* check.c */
 extern const char *const register_names[REGISTERS];
 const uint8_t *page_before(size_t page); /* a page of RDRAM as it was when the task began */
+void replay_list(uint32_t number, unsigned *dpc); /* what a list of the task made of the eight DPC registers */
 
 /* pages.c: the other plugin's RDRAM, whose pages are filled at their first use. */
 uint8_t *make_pages(void);

@@ -13,7 +13,9 @@ static unsigned registers[REGISTERS];
 static uint32_t memories[2][MEMORY_WORDS];
 static difference found;
 
-static void nothing(void) {}
+static uint32_t n_lists;
+
+static void take_list(void) { replay_list(n_lists++, registers + DPC_START); }
 
 static int make_unit(size_t rdram_size)
 {
@@ -24,7 +26,7 @@ static int make_unit(size_t rdram_size)
     mine.pc = registers + REGISTER_PC;
     mine.interrupts = registers + REGISTER_INTERRUPTS;
     mine.rdram_size = rdram_size;
-    mine.list = nothing;
+    mine.list = take_list;
     mine.storing = use_pages;
     return 1;
 }

@@ -13,7 +13,10 @@ enum { SP_SPACE = 1 << 20 }; /* more than there is: a plugin's DMA may run past 
 static void (*initiate)(m64p_rsp_info, unsigned *);
 static unsigned (*run)(unsigned);
 
+static uint32_t n_lists; /* of this task */
+
 static void nothing(void) {}
+static void take_list(void) { replay_list(n_lists++, other.registers + DPC_START); }
 
 static void initiate_other(void)
 {
@@ -21,7 +24,7 @@ static void initiate_other(void)
     unsigned *r = other.registers;
     m64p_rsp_info info = { (void *)other.memory[RSP_RDRAM], (void *)other.memory[RSP_DMEM], (void *)other.memory[RSP_IMEM], r + REGISTER_INTERRUPTS, r, r + 1,
         r + 2, r + 3, r + 4, r + 5, r + 6, r + REGISTER_PC, r + 7, r + 8, r + 9, r + 10, r + 11, r + 12, r + 13, r + 14, r + 15,
-        nothing, nothing, nothing, nothing, nothing };
+        nothing, nothing, nothing, take_list, nothing };
     initiate(info, &cycles);
 }
 
@@ -95,6 +98,7 @@ int open_other(const char *path)
 void begin_other(const task_start *start)
 {
     close_pages();
+    n_lists = 0;
     memcpy(other.memory[RSP_DMEM], start->memory[RSP_DMEM], 4 * MEMORY_WORDS);
     memcpy(other.memory[RSP_IMEM], start->memory[RSP_IMEM], 4 * MEMORY_WORDS);
     memcpy(other.registers, start->registers, sizeof other.registers);

@@ -2,6 +2,7 @@
  *   version HEX                  the version of the configuration interface that it has
  *   option NAME VALUE            a value of the user's configuration
  *   small                        the list of ROMs says that this one runs without the expansion pack
+ *   rdp                          a list moves DPC_START and DPC_CURRENT to its end, as graphics plugins do
  *   start, shutdown, initiate, close     the plugin's calls
  *   about                        what PluginGetVersion says
  *   cycles N                     DoRspCycles; `cycles! N` calls it in a thread of its own
@@ -34,7 +35,8 @@ static int n_chosen;
 static void check_interrupts(void) { called[0]++; }
 static void display_list(void) { called[1]++; }
 static void audio_list(void) { called[2]++; }
-static void rdp_list(void) { called[3]++; }
+static int has_rdp;
+static void rdp_list(void) { called[3]++; if (has_rdp) registers[10] = registers[12] = registers[11]; }
 static void message(void *context, int level, const char *text) { (void)context; printf("message %d %s\n", level, text); fflush(stdout); }
 
 /* The emulator's side of the interface. A value is the user's, if there is one, and else the plugin's default. */
@@ -196,6 +198,7 @@ static void obey(char (*w)[256], char *rest)
     if (!strcmp(w[0], "version")) version = (unsigned)strtoul(w[1], NULL, 16);
     else if (!strcmp(w[0], "option")) choose(w[1], w[2]);
     else if (!strcmp(w[0], "small")) is_small = 1;
+    else if (!strcmp(w[0], "rdp")) has_rdp = 1;
     else if (!strcmp(w[0], "start")) printf("start %d\n", plugin.startup(dlopen(NULL, RTLD_NOW), NULL, message));
     else if (!strcmp(w[0], "start-alone")) printf("start %d\n", plugin.startup(NULL, NULL, message));
     else if (!strcmp(w[0], "shutdown")) printf("shutdown %d\n", plugin.shutdown());
