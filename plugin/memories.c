@@ -1,0 +1,98 @@
+/* Memories between the machine and the emulator. The machine has bytes in the console's order, the emulator words in the order of the host. DMEM and
+ * IMEM are compared with the plugin's own copy of what the machine has, and only what differs is carried. Of RDRAM only the rows of a DMA are carried. */
+#include "plugin.h"
+#include <string.h>
+
+enum { BLOCK = 64 }; /* words that are compared at once */
+
+/* Words of the host into bytes in the console's order, or back. */
+void swap_bytes(void *to, const void *from, size_t words)
+{
+    uint32_t *out = to;
+    const uint32_t *in = from;
+    for (size_t i = 0; i < words; i++) out[i] = __builtin_bswap32(in[i]);
+}
+
+/* A part of a memory. */
+typedef struct span {
+    uint32_t first, len;
+} span;
+
+/* The words from the first block that differs to the last one; none if the memories are equal. */
+static span differing(const void *a, const void *b)
+{
+    const uint32_t *x = a, *y = b;
+    uint32_t first = 0, end = MEMORY_WORDS;
+    if (!memcmp(x, y, 4 * MEMORY_WORDS)) return (span){ 0, 0 };
+    while (!memcmp(x + first, y + first, 4 * BLOCK)) first += BLOCK;
+    while (!memcmp(x + end - BLOCK, y + end - BLOCK, 4 * BLOCK)) end -= BLOCK;
+    return (span){ first, end - first };
+}
+
+/* Gives the machine what the emulator has changed in DMEM or IMEM. */
+void carry_in(rsp_unit *unit, uint32_t bank)
+{
+    memory_copy *copy = &unit->copy[bank];
+    span it = differing(copy->words, unit->memory[bank]);
+    if (!it.len) return;
+    memcpy(copy->words + it.first, unit->memory[bank] + it.first, 4 * it.len);
+    swap_bytes(copy->bytes + 4 * it.first, copy->words + it.first, it.len);
+    rsp_load(&unit->machine, bank, 4 * it.first, copy->bytes + 4 * it.first, 4 * it.len);
+}
+
+/* Gives the emulator what the machine has changed in DMEM or IMEM. */
+void carry_out(rsp_unit *unit, uint32_t bank)
+{
+    memory_copy *copy = &unit->copy[bank];
+    uint8_t bytes[4 * MEMORY_WORDS];
+    rsp_memory(&unit->machine, bank, 0, bytes, sizeof bytes);
+    span it = differing(copy->bytes, bytes);
+    if (!it.len) return;
+    memcpy(copy->bytes + 4 * it.first, bytes + 4 * it.first, 4 * it.len);
+    swap_bytes(copy->words + it.first, copy->bytes + 4 * it.first, it.len);
+    memcpy(unit->memory[bank] + it.first, copy->words + it.first, 4 * it.len);
+}
+
+/* The rows of the DMA that a length word starts at an address of RDRAM: docs/MACHINE.md. Rows without a skip between them are one. */
+dma_rows rows_of(uint32_t address, uint32_t length_word)
+{
+    uint32_t len = (length_word & 0xff8) + 8, count = (length_word >> 12 & 0xff) + 1, skip = length_word >> 20 & 0xff8;
+    if (!skip && count * len <= 4 * MEMORY_WORDS) len *= count, count = 1;
+    return (dma_rows){ address, len, len + skip, count };
+}
+
+/* The part of a row that is in RDRAM. Addresses wrap at 16 MB, so a row that begins past the end of RDRAM may come round to its begin. */
+static span inside(const rsp_unit *unit, uint32_t address, uint32_t len)
+{
+    uint32_t size = (uint32_t)unit->rdram_size, wrap = 1 << 24;
+    if (address + len > wrap) return (span){ 0, address + len - wrap };
+    if (address >= size) return (span){ 0, 0 };
+    return (span){ address, address + len > size ? size - address : len };
+}
+
+/* Brings the machine's RDRAM up to date where a DMA reads it. */
+void rows_in(rsp_unit *unit, dma_rows rows)
+{
+    uint32_t address = rows.address;
+    for (uint32_t row = 0; row < rows.count; row++, address = (address + rows.stride) & 0xffffff) {
+        uint8_t bytes[4 * MEMORY_WORDS];
+        span it = inside(unit, address, rows.len);
+        if (!it.len) continue;
+        swap_bytes(bytes, unit->memory[RSP_RDRAM] + it.first / 4, it.len / 4);
+        rsp_load(&unit->machine, RSP_RDRAM, it.first, bytes, it.len);
+    }
+}
+
+/* Gives the emulator the bytes of RDRAM that a DMA wrote. */
+void rows_out(rsp_unit *unit, dma_rows rows)
+{
+    uint32_t address = rows.address;
+    for (uint32_t row = 0; row < rows.count; row++, address = (address + rows.stride) & 0xffffff) {
+        uint8_t bytes[4 * MEMORY_WORDS];
+        span it = inside(unit, address, rows.len);
+        if (!it.len) continue;
+        if (unit->storing) unit->storing(it.first, it.len);
+        rsp_memory(&unit->machine, RSP_RDRAM, it.first, bytes, it.len);
+        swap_bytes(unit->memory[RSP_RDRAM] + it.first / 4, bytes, it.len / 4);
+    }
+}

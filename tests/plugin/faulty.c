@@ -1,0 +1,55 @@
+/* The plugin with a planted fault, linked with -Wl,--wrap=rsp_step,--wrap=rsp_run_until_move,--wrap=rows_out.
+ * FAULT 1: VMUDM sets the lowest bit of lane 5. FAULT 2: a DMA to RDRAM writes eight bytes more. */
+#include "plugin.h"
+#include "until_move.h"
+
+uint32_t __real_rsp_step(rsp *m);
+uint32_t __real_rsp_run_until_move(rsp *m, uint32_t n, uint32_t reads, uint32_t writes, rsp_move *out);
+uint32_t __wrap_rsp_step(rsp *m);
+uint32_t __wrap_rsp_run_until_move(rsp *m, uint32_t n, uint32_t reads, uint32_t writes, rsp_move *out);
+
+static uint32_t next_word(rsp *m)
+{
+    rsp_scalars now;
+    uint32_t word = 0;
+    if (rsp_regs(m, &now) == RSP_OK) rsp_memory_words(m, RSP_IMEM, now.pc, &word, 1);
+    return word;
+}
+
+/* What is wrong after a word. It is the same if it is done twice. */
+static void spoil(rsp *m, uint32_t word)
+{
+    rsp_state s;
+    if (FAULT != 1 || (word & 0xfe00003f) != 0x4a000005) return;
+    rsp_get(m, &s);
+    s.vectors[word >> 6 & 31][5] |= 1;
+    rsp_set(m, &s);
+}
+
+/* For a plugin whose DMA goes past its end. */
+void __real_rows_out(rsp_unit *unit, dma_rows rows);
+void __wrap_rows_out(rsp_unit *unit, dma_rows rows)
+{
+    rows.len += FAULT == 2 ? 8 : 0;
+    __real_rows_out(unit, rows);
+}
+
+uint32_t __wrap_rsp_step(rsp *m)
+{
+    uint32_t word = next_word(m), status = __real_rsp_step(m);
+    if (status == RSP_OK) spoil(m, word);
+    return status;
+}
+
+uint32_t __wrap_rsp_run_until_move(rsp *m, uint32_t n, uint32_t reads, uint32_t writes, rsp_move *out)
+{
+    uint32_t steps = 0, status;
+    do {
+        uint32_t word = next_word(m);
+        status = __real_rsp_run_until_move(m, 1, reads, writes, out);
+        if (out->stop.steps) spoil(m, word);
+        steps += out->stop.steps;
+    } while (out->stop.reason == RSP_AT_LIMIT && steps < n);
+    out->stop.steps = steps;
+    return status;
+}
