@@ -7,6 +7,7 @@
 
 mod change;
 mod copy;
+mod effect;
 mod execute;
 mod host;
 mod lanes;
@@ -21,6 +22,7 @@ mod sp;
 mod step;
 mod vector;
 
+pub use effect::Effect;
 pub use host::{RangeFault, TaskFault};
 pub use machine::Machine;
 pub use pass::PassFault;
