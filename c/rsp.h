@@ -4,15 +4,17 @@
  *
  * Preconditions, which no call can check:
  *   - A handle is RSP_NONE before its first call, and after that as the last call left it. Never copy a handle that holds a machine,
- *     and never write its field.
+ *     and never write its field. What it points to is the library's: nobody else reads, writes or frees it.
  *   - One call at a time uses a handle. Between two calls it may go to another thread, handed over as any data is, by a mutex or a join:
  *     nothing in a machine is bound to a thread.
- *   - No pointer is null, not even that of an empty buffer. A buffer has as many elements as are said.
- *   - No two pointers of one call overlap.
- *   - malloc, realloc and free are of one allocator, and no call comes from a signal handler.
+ *   - No pointer is null, not even that of an empty buffer. A buffer has as many elements as are said, and its type's alignment.
+ *   - No two pointers of one call overlap, and nobody writes a buffer while a call reads it.
+ *   - malloc, realloc and free are of one allocator, and align as the platform's do, to 16 bytes. No call comes from a signal handler, nor
+ *     from the child that a process with more than one thread forked.
+ *   - A call has RSP_STACK bytes of stack.
  *
- * Postconditions of every call: it returns, for any numbers, with a status. If that isn't RSP_OK, no machine has changed, and `*out` is
- * unspecified unless stated otherwise. Every call with a handle but rsp_new and rsp_free returns RSP_NO_MACHINE if the handle holds no
+ * Postconditions of every call: it returns, for any numbers, with a status. If that isn't RSP_OK, no machine has changed; `*out` and a
+ * buffer that the call fills are unspecified unless stated otherwise. Every call with a handle but rsp_new and rsp_free returns RSP_NO_MACHINE if the handle holds no
  * machine, and rsp_copy if `from` holds none; below this status isn't listed again, nor is RSP_OK. */
 #ifndef RSP_H
 #define RSP_H
@@ -28,6 +30,9 @@ typedef struct rsp {
     void *at;
 } rsp;
 #define RSP_NONE { 0 }
+
+/* How many bytes of stack a call needs at most. Measured, not proved. */
+#define RSP_STACK 131072
 
 enum rsp_status {
     RSP_OK = 0,            /* done; of a step: one instruction was executed */
@@ -93,6 +98,7 @@ typedef struct rsp_state {
     uint16_t vectors[32][8];  /* vector registers, lane 0 first */
     rsp_accumulators accumulators;
     rsp_flag_bits flags;
+    uint8_t zero;             /* rsp_get writes 0, and rsp_set doesn't read it: the states that two calls of rsp_get gave are compared by memcmp */
     rsp_divide_state divider;
     uint16_t pc, npc;         /* multiples of 4 below 4096 */
     uint32_t sp[16];          /* SP registers 0 to 7 and the DPC's 0 to 7, as rsp_peek gives them */
@@ -117,9 +123,9 @@ enum rsp_field {
 };
 
 typedef struct rsp_assembled {
-    size_t count;   /* how many words there are */
-    size_t line;    /* of a fault: the number of its line, from 1; else 0 */
-    uint32_t fault; /* of a fault: its number, 10 to 16 (docs/FAULTS.md), or 33 if the text isn't UTF-8; else 0 */
+    size_t count;   /* how many words there are; of a fault 0 */
+    size_t line;    /* of a fault: the number of its line, from 1; else 0, also if the text isn't UTF-8 */
+    uint32_t fault; /* of a fault: its number, 10 to 17 (docs/FAULTS.md), or 33 if the text isn't UTF-8; else 0 */
 } rsp_assembled;
 
 /* A word with its disassembly. */
@@ -127,7 +133,7 @@ typedef struct rsp_line {
     uint32_t word;
     uint16_t place; /* its address in IMEM */
     uint16_t len;   /* how many bytes the text has, at most 64 */
-    char text[68];  /* the text, then zeros */
+    char text[68];  /* the text, then zeros, at least four */
 } rsp_line;
 
 /* The version of this interface. It is raised if a call, a struct or a number changes its meaning. rsp_version returns the library's. */
@@ -137,7 +143,8 @@ uint32_t rsp_version(void);
 /* Creating and freeing.
  * rsp_new makes a machine with a copy of an image of RDRAM (64 to 8388608 bytes, a multiple of 8) and a history of `depth` states, at most
  * 4096. All else is 0, but npc, which is 4. It takes all memory: no later call on the handle takes any. What the handle held before is
- * freed; if rsp_new doesn't return RSP_OK, the handle holds it still. Returns RSP_OUT_OF_RANGE, RSP_NO_MEMORY.
+ * freed; if rsp_new doesn't return RSP_OK, the handle holds it still. Returns RSP_OUT_OF_RANGE for any other length or depth, and then has
+ * read nothing of the image; else RSP_NO_MEMORY.
  * rsp_copy makes in `to` a second machine in the state of that in `from`, memories included, with as long a history, which is empty, and
  * without breakpoints and watches. What `to` held before is freed; if rsp_copy doesn't return RSP_OK, `to` holds it still. `from` stays.
  * Returns RSP_NO_MEMORY.
@@ -148,8 +155,9 @@ void rsp_free(rsp *m);
 
 /* Whole states: all registers. The memories stay.
  * rsp_get changes nothing.
- * rsp_set empties the history. Returns RSP_OUT_OF_RANGE for a state that no machine can have: register 0 isn't 0, pc or npc isn't a multiple
- * of 4 below 4096, a word of an SP register could not be read from it, `loaded` or `interrupt` isn't 0 or 1.
+ * rsp_set empties the history. It takes what rsp_get gives, and rsp_get then gives it back. Returns RSP_OUT_OF_RANGE for a state that no
+ * machine can have: register 0 isn't 0, pc or npc isn't a multiple of 4 below 4096, a word of an SP register could not be read from it,
+ * `loaded` or `interrupt` isn't 0 or 1.
  * rsp_state_fault gives the first rsp_field that rsp_set refuses a state for, and RSP_FIELD_NONE if rsp_set takes it. */
 uint32_t rsp_get(rsp *m, rsp_state *out);
 uint32_t rsp_set(rsp *m, const rsp_state *state);
@@ -187,8 +195,8 @@ uint32_t rsp_pass(rsp *m, uint32_t value);
  * rsp_drop_break returns RSP_OUT_OF_RANGE, RSP_NO_BREAK.
  * rsp_add_watch gives the lowest free number. Returns RSP_OUT_OF_RANGE, then RSP_WATCH_FULL.
  * rsp_drop_watch returns RSP_NO_WATCH. */
-uint32_t rsp_add_break(rsp *m, uint32_t place);
-uint32_t rsp_drop_break(rsp *m, uint32_t place);
+uint32_t rsp_add_break(rsp *m, uint32_t address);
+uint32_t rsp_drop_break(rsp *m, uint32_t address);
 uint32_t rsp_add_watch(rsp *m, uint32_t address, uint32_t len, size_t *number);
 uint32_t rsp_drop_watch(rsp *m, uint32_t number);
 
@@ -215,13 +223,17 @@ uint32_t rsp_set_sp(rsp *m, const rsp_sp_words *given);
 
 /* Texts.
  * rsp_assemble gives the words of a text in UTF-8, at most 1024; the first one is for the address `origin`, a multiple of 4 up to 4096. What
- * follows them in `words` stays, and all of it if the call is refused. Returns RSP_OUT_OF_RANGE, RSP_NO_MEANING, RSP_NO_ROOM (more words than
- * `capacity`), RSP_NO_MEMORY.
+ * follows them in `words` stays, and all of it if the call is refused. Returns
+ *   - RSP_OUT_OF_RANGE for another origin;
+ *   - RSP_NO_MEANING: `out` has the fault and its line;
+ *   - RSP_NO_ROOM if there are more words than `capacity`: `out` has their count, so a capacity of 0 asks for it;
+ *   - RSP_NO_MEMORY: `out` has fault 17 and the line whose label had no memory. No line up to it has a fault, but perhaps an operand that
+ *     needs the labels of all lines.
  * rsp_text disassembles a word for an address of IMEM, a multiple of 4 below 4096. Returns RSP_OUT_OF_RANGE.
  * rsp_listing disassembles `len` words of IMEM from an address on. Returns RSP_OUT_OF_RANGE if they pass its end; then `lines` is as it was. */
 uint32_t rsp_assemble(uint32_t origin, const uint8_t *text, size_t len, uint32_t *words, size_t capacity, rsp_assembled *out);
-uint32_t rsp_text(uint32_t word, uint32_t place, rsp_line *out);
-uint32_t rsp_listing(rsp *m, uint32_t place, rsp_line *lines, size_t len);
+uint32_t rsp_text(uint32_t word, uint32_t address, rsp_line *out);
+uint32_t rsp_listing(rsp *m, uint32_t address, rsp_line *lines, size_t len);
 
 /* Names for messages, of a status, of the fault of an assembly (docs/FAULTS.md), and of the reason of a stop. Of any other number it is
  * "unknown". */

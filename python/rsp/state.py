@@ -20,7 +20,7 @@ class Plain(Structure):
 
     def __init_subclass__(cls, **words: Any) -> None:
         super().__init_subclass__(**words)
-        cls._kinds = dict(cls.__dict__.get("_fields_", ()))
+        cls._kinds = {name: kind for name, kind in cls.__dict__.get("_fields_", ()) if name != "zero"}
 
     def __init__(self, *values: Any, **fields: Any) -> None:
         super().__init__()
@@ -38,7 +38,7 @@ class Plain(Structure):
     def __eq__(self, other: object) -> bool:
         if type(other) is not type(self):
             return NotImplemented
-        # Bytes between fields have no meaning, so states whose bytes differ may be equal still.
+        # The byte `zero` of a state has no meaning, so states whose bytes differ may be equal still.
         return bytes(self) == bytes(other) or all(getattr(self, it) == getattr(other, it) for it in self._kinds)  # type: ignore[call-overload]
 
     __hash__ = None  # type: ignore[assignment]
@@ -156,6 +156,7 @@ class State(Plain):
         ("vectors", Vectors),
         ("accumulators", Accumulators),
         ("flags", Flags),
+        ("zero", c_uint8),
         ("divider", Divider),
         ("pc", c_uint16),
         ("npc", c_uint16),

@@ -67,6 +67,8 @@ pub struct State {
     pub accumulators: Accumulators,
     /// The flags VCO, VCC and VCE.
     pub flags: FlagBits,
+    /// 0 in each state of a machine; [`Machine::set`](crate::Machine::set) doesn't read it.
+    pub zero: u8,
     /// What the divide instructions keep.
     pub divider: DivideState,
     /// The address of the next instruction, a multiple of 4 below 4096.

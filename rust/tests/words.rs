@@ -1,6 +1,6 @@
 //! What users read: states, lines and refusals as text, and enums from numbers.
 
-use rsp::{assemble, Bank, Fault, FlagBits, Machine, Refused, Scalars, State};
+use rsp::{assemble, Bank, Fault, Machine, Refused, Scalars, State};
 use std::error::Error;
 use std::mem::size_of;
 use std::ptr::{addr_of, addr_of_mut};
@@ -65,12 +65,12 @@ fn differences() {
     assert_eq!(here.diff(&there)[0].told("on the machine", "in the emulator"), "pc is 004 on the machine and 000 in the emulator");
 }
 
-/// Each byte of a state is in a part, but for the one between the flags and the divider.
+/// Each byte of a state is in a part, but for `zero`.
 #[test]
 fn every_part() {
     let state = State::default();
-    let between = addr_of!(state.flags) as usize - addr_of!(state) as usize + size_of::<FlagBits>();
-    for n in (0..size_of::<State>()).filter(|n| *n != between) {
+    let zero = addr_of!(state.zero) as usize - addr_of!(state) as usize;
+    for n in (0..size_of::<State>()).filter(|n| *n != zero) {
         let mut other = State::default();
         // SAFETY: any bytes are a state.
         unsafe { *addr_of_mut!(other).cast::<u8>().add(n) = 1 };

@@ -97,6 +97,8 @@ static void lives(void)
     size_t i;
     SEE(rsp_version() == RSP_VERSION);
     for (i = 0; i < sizeof wrong / sizeof *wrong; i++) SEE(rsp_new(&m, image, wrong[i], 0) == RSP_OUT_OF_RANGE);
+    SEE(rsp_new(&m, image, 8388616, 0) == RSP_OUT_OF_RANGE && rsp_new(&m, image, SIZE_MAX, 0) == RSP_OUT_OF_RANGE);
+    SEE(rsp_new(&m, image, SIZE_MAX - 7, 0) == RSP_OUT_OF_RANGE && rsp_new(&m, image, SIZE_MAX / 2 + 65, 4096) == RSP_OUT_OF_RANGE);
     SEE(rsp_new(&m, image, 64, 4097) == RSP_OUT_OF_RANGE);
     SEE(rsp_new(&m, image, 64, ANY) == RSP_OUT_OF_RANGE);
     SEE(m.at == NULL);
@@ -417,10 +419,7 @@ static void fill(rsp_state *s)
 
 static int is_same(const rsp_state *a, const rsp_state *b)
 {
-    return !memcmp(a->words, b->words, sizeof a->words) && !memcmp(a->vectors, b->vectors, sizeof a->vectors)
-        && !memcmp(&a->accumulators, &b->accumulators, sizeof a->accumulators) && !memcmp(&a->flags, &b->flags, sizeof a->flags)
-        && !memcmp(&a->divider, &b->divider, sizeof a->divider) && a->pc == b->pc && a->npc == b->npc
-        && !memcmp(a->sp, b->sp, sizeof a->sp) && a->interrupt == b->interrupt;
+    return !memcmp(a, b, sizeof *a);
 }
 
 #define REFUSED(change, field) do { \
@@ -444,7 +443,10 @@ static void states(void)
     SEE(rsp_load(&m, RSP_DMEM, 8, bytes, 4) == RSP_OK);
     SEE(rsp_step(&m) == RSP_OK);
     fill(&state);
+    state.zero = 0x77; /* it isn't read */
+    SEE(rsp_state_fault(&state, &word) == RSP_OK && word == RSP_FIELD_NONE);
     SEE(rsp_set(&m, &state) == RSP_OK);
+    state.zero = 0;
     SEE(rsp_back(&m, 1) == RSP_SHORT_HISTORY);
     memset(&other, 0xee, sizeof other);
     SEE(rsp_get(&m, &other) == RSP_OK && is_same(&state, &other));
@@ -489,6 +491,8 @@ static void texts(void)
     const char *good = "nop\nvadd $v1, $v2, $v3[1q]\nbreak\n";
     const uint8_t *text = (const uint8_t *)good;
     SEE(rsp_assemble(0, text, strlen(good), words, 2, &out) == RSP_NO_ROOM && words[0] == 9);
+    memset(&out, 0xee, sizeof out);
+    SEE(rsp_assemble(0, text, strlen(good), words, 0, &out) == RSP_NO_ROOM && out.count == 3 && out.line == 0 && out.fault == 0);
     SEE(rsp_assemble(2, text, strlen(good), words, 4, &out) == RSP_OUT_OF_RANGE && words[0] == 9);
     SEE(rsp_assemble(4100, text, strlen(good), words, 4, &out) == RSP_OUT_OF_RANGE);
     SEE(rsp_assemble(4096, text, 0, words, 4, &out) == RSP_OK && out.count == 0);
@@ -502,7 +506,7 @@ static void texts(void)
     SEE(rsp_text(words[1], 4, &line) == RSP_OK && !strcmp(line.text, "vadd $v1, $v2, $v3[1q]") && line.len == 22);
     SEE(line.text[67] == 0 && line.word == words[1] && line.place == 4);
     SEE(rsp_text(0x1000ffffu, 0, &line) == RSP_OK && !strcmp(line.text, "beq $0, $0, 0x000"));
-    SEE(rsp_text(0xffffffffu, 0, &line) == RSP_OK && !strcmp(line.text, ".word 0xffffffff"));
+    SEE(rsp_text(0xffffffffu, 0, &line) == RSP_OK && !strcmp(line.text, ".word 0xffffffff") && line.len == 16);
     SEE(rsp_text(0, 4096, &line) == RSP_OUT_OF_RANGE);
     SEE(rsp_text(0, 6, &line) == RSP_OUT_OF_RANGE);
     SEE(rsp_new(&m, image, 64, 0) == RSP_OK);
@@ -535,6 +539,8 @@ int main(void)
     tasks();
     states();
     texts();
+#ifndef QUIET
     printf("%d passed, %d failed\n", passed, failed);
+#endif
     return failed != 0;
 }

@@ -1,20 +1,47 @@
-/* rsp_new, rsp_copy and rsp_assemble while the K-th call of malloc or realloc fails, for each K: linked with -Wl,--wrap=malloc,--wrap=realloc. A handle keeps what
- * it held. */
+/* What the calls of rsp.h take of memory: linked with -Wl,--wrap=malloc,--wrap=realloc,--wrap=free.
+ *   - rsp_new, rsp_copy and rsp_assemble while the K-th call of malloc or realloc fails, for each K. A handle keeps what it held.
+ *   - No other call takes memory, accepted or refused.
+ *   - All that was taken is freed: also by calls.c, whose main is all_calls here. */
 #include "rsp.h"
 #include <stdio.h>
 #include <stdlib.h>
 #include <string.h>
 
-static long left = -1;
+static long left = -1, taken, held;
+static int passed, failed;
 void *__real_malloc(size_t n);
 void *__wrap_malloc(size_t n);
 void *__real_realloc(void *p, size_t n);
 void *__wrap_realloc(void *p, size_t n);
-void *__wrap_malloc(size_t n) { return left >= 0 && left-- == 0 ? NULL : __real_malloc(n); }
-void *__wrap_realloc(void *p, size_t n) { return left >= 0 && left-- == 0 ? NULL : __real_realloc(p, n); }
+void __real_free(void *p);
+void __wrap_free(void *p);
+int all_calls(void);
+
+static int fails(void) { return left >= 0 && left-- == 0; }
+
+void *__wrap_malloc(size_t n)
+{
+    void *p = fails() ? NULL : __real_malloc(n);
+    taken++;
+    held += p != NULL;
+    return p;
+}
+
+void *__wrap_realloc(void *p, size_t n)
+{
+    void *q = fails() ? NULL : __real_realloc(p, n);
+    taken++;
+    held += p == NULL && q != NULL;
+    return q;
+}
+
+void __wrap_free(void *p)
+{
+    held -= p != NULL;
+    __real_free(p);
+}
 
 static uint8_t image[64];
-static int passed, failed;
 
 static void see(const char *what, long k, int is_right)
 {
@@ -23,47 +50,136 @@ static void see(const char *what, long k, int is_right)
     if (!is_right) printf("FAIL %s, if allocation %ld fails\n", what, k);
 }
 
+static void failing_new(rsp *m)
+{
+    uint32_t word, status = RSP_NO_MEMORY;
+    long k, refused = 0;
+    for (k = 0; k < 100; k++) {
+        left = k;
+        status = rsp_new(m, image, 64, 100);
+        left = -1;
+        if (status == RSP_OK) break;
+        refused++;
+        see("rsp_new", k, status == RSP_NO_MEMORY && rsp_peek(m, 8, &word) == RSP_OK && word == 77);
+    }
+    see("rsp_new takes memory", k, refused >= 3 && status == RSP_OK && rsp_peek(m, 8, &word) == RSP_OK && word == 0);
+}
+
+static void failing_copy(rsp *m, rsp *from)
+{
+    uint32_t word, status = RSP_NO_MEMORY;
+    long k, refused = 0;
+    for (k = 0; k < 100; k++) {
+        left = k;
+        status = rsp_copy(m, from);
+        left = -1;
+        if (status == RSP_OK) break;
+        refused++;
+        see("rsp_copy", k, status == RSP_NO_MEMORY && rsp_peek(m, 8, &word) == RSP_OK && word == 0);
+        see("rsp_copy leaves the first", k, rsp_back(from, 1) == RSP_OK && rsp_step(from) == RSP_OK);
+    }
+    see("rsp_copy takes memory", k, refused >= 3 && status == RSP_OK && rsp_peek(m, 8, &word) == RSP_OK && word == 88);
+}
+
+/* An assembly without memory for a label reports the label's line, and no fault that stands before it is hidden by that. */
+static void failing_assemble(void)
+{
+    static const char labels[] = "a: nop\nb: nop\nc: j a\nnop\n", fault[] = "foo\na: nop\n";
+    rsp_assembled out;
+    uint32_t words[8], status = RSP_NO_MEMORY;
+    long k;
+    for (k = 0; k < 100; k++) {
+        left = k;
+        status = rsp_assemble(0, (const uint8_t *)labels, strlen(labels), words, 8, &out);
+        left = -1;
+        if (status == RSP_OK) break;
+        see("rsp_assemble", k, status == RSP_NO_MEMORY && out.count == 0 && out.fault == 17 && out.line >= 1 && out.line <= 3);
+        if (k == 0) see("the first label", k, out.line == 1);
+    }
+    see("rsp_assemble takes memory", k, k > 0 && status == RSP_OK && out.count == 4);
+    left = 0;
+    status = rsp_assemble(0, (const uint8_t *)fault, strlen(fault), words, 8, &out);
+    left = -1;
+    see("an earlier fault", 0, status == RSP_NO_MEANING && out.line == 1 && out.fault == 11);
+}
+
+/* That a call takes no memory. */
+#define NONE(call) do { \
+    long before = taken; \
+    (void)(call); \
+    see(#call, -1, taken == before); \
+} while (0)
+
+static void other_calls(rsp *m)
+{
+    static rsp_line lines[1024];
+    static uint8_t bytes[4096];
+    static uint32_t words[1024];
+    static rsp_state state;
+    rsp_stop stop;
+    rsp_scalars scalars;
+    rsp_lanes lanes;
+    rsp_accumulators accumulators;
+    rsp_flag_bits flags;
+    rsp_divide_state divider;
+    rsp_sp_words sp;
+    size_t number;
+    uint32_t word, k;
+    NONE(rsp_version());
+    NONE(rsp_get(m, &state));
+    NONE(rsp_set(m, &state));
+    NONE(rsp_state_fault(&state, &word));
+    for (k = 0; k < 4; k++) {
+        NONE(rsp_load(m, k, 0, bytes, 64));
+        NONE(rsp_load_words(m, k, 0, words, 16));
+        NONE(rsp_load_words(m, k, 0, words, 1024));
+        NONE(rsp_memory(m, k, 0, bytes, 4096));
+        NONE(rsp_memory_words(m, k, 0, words, 1024));
+    }
+    NONE(rsp_task(m, 0));
+    NONE(rsp_set_pc(m, 0));
+    NONE(rsp_step(m));
+    NONE(rsp_run(m, 1000000, &stop));
+    NONE(rsp_run(m, 0, &stop));
+    NONE(rsp_back(m, 50));
+    NONE(rsp_pass(m, 1));
+    for (k = 0; k < 17; k++) NONE(rsp_add_break(m, 4 * k));
+    for (k = 0; k < 9; k++) NONE(rsp_add_watch(m, k, 64, &number));
+    NONE(rsp_run(m, 1000, &stop));
+    NONE(rsp_drop_break(m, 0));
+    NONE(rsp_drop_watch(m, 0));
+    NONE(rsp_reg(m, 1, &word));
+    NONE(rsp_regs(m, &scalars));
+    NONE(rsp_vreg(m, 1, &lanes));
+    NONE(rsp_acc(m, &accumulators));
+    NONE(rsp_flags(m, &flags));
+    NONE(rsp_divider(m, &divider));
+    for (k = 0; k < 16; k++) {
+        NONE(rsp_read(m, k, &word));
+        NONE(rsp_peek(m, k, &word));
+        NONE(rsp_write(m, k, k == 4 ? 1 : 8));
+    }
+    NONE(rsp_sp(m, &sp));
+    NONE(rsp_set_sp(m, &sp));
+    NONE(rsp_text(0x4a631050u, 0, lines));
+    NONE(rsp_listing(m, 0, lines, 1024));
+}
+
 int main(void)
 {
-    const char *text = "a: nop\nb: nop\nc: j a\nnop\n";
     rsp m = RSP_NONE, from = RSP_NONE;
-    rsp_assembled out;
-    uint32_t words[8], word, status;
-    long k, refused = 0;
     see("the first machine", -1, rsp_new(&m, image, 64, 0) == RSP_OK && rsp_write(&m, 8, 77) == RSP_OK);
-    for (k = 0; k < 100; k++) {
-        left = k;
-        status = rsp_new(&m, image, 64, 100);
-        left = -1;
-        if (status == RSP_OK) break;
-        refused++;
-        see("rsp_new", k, status == RSP_NO_MEMORY && rsp_peek(&m, 8, &word) == RSP_OK && word == 77);
-    }
-    see("rsp_new takes memory", k, refused >= 3 && status == RSP_OK && rsp_peek(&m, 8, &word) == RSP_OK && word == 0);
+    failing_new(&m);
     see("the machine to copy", -1, rsp_new(&from, image, 64, 100) == RSP_OK && rsp_write(&from, 8, 88) == RSP_OK && rsp_step(&from) == RSP_OK);
-    for (k = 0, refused = 0; k < 100; k++) {
-        left = k;
-        status = rsp_copy(&m, &from);
-        left = -1;
-        if (status == RSP_OK) break;
-        refused++;
-        see("rsp_copy", k, status == RSP_NO_MEMORY && rsp_peek(&m, 8, &word) == RSP_OK && word == 0);
-        see("rsp_copy leaves the first", k, rsp_back(&from, 1) == RSP_OK && rsp_step(&from) == RSP_OK);
-    }
-    see("rsp_copy takes memory", k, refused >= 3 && status == RSP_OK && rsp_peek(&m, 8, &word) == RSP_OK && word == 88);
-    left = 0;
-    see("a step takes none", 0, rsp_step(&m) == RSP_OK);
-    left = -1;
-    for (k = 0; k < 100; k++) {
-        left = k;
-        status = rsp_assemble(0, (const uint8_t *)text, strlen(text), words, 8, &out);
-        left = -1;
-        if (status == RSP_OK) break;
-        see("rsp_assemble", k, status == RSP_NO_MEMORY && out.fault == 17);
-    }
-    see("rsp_assemble", k, k > 0 && status == RSP_OK && out.count == 4);
+    failing_copy(&m, &from);
+    failing_assemble();
+    other_calls(&m);
+    see("two machines are held", -1, held > 0);
     rsp_free(&m);
     rsp_free(&from);
+    see("all that was taken is freed", -1, held == 0);
+    see("calls.c", -1, all_calls() == 0 && taken > 0);
+    see("all that calls.c took is freed", -1, held == 0);
     printf("%d passed, %d failed\n", passed, failed);
     return failed != 0;
 }

@@ -39,9 +39,29 @@ def declared(header):
         yield name, result, "|".join(types)
 
 
+def declared_in_rust(text):
+    """The same of a block of Rust's `extern`."""
+    numbers = {"u8": "uint8_t", "u32": "uint32_t", "usize": "size_t", "Handle": "rsp"}
+
+    def as_c(given):
+        pointer, kind = re.fullmatch(r"(\*const |\*mut )?(\w+)", given).groups()
+        name = numbers.get(kind) or c_name(f"Rsp{kind}")
+        return {None: name, "*const ": f"const {name} *", "*mut ": f"{name} *"}[pointer]
+
+    for name, given, result in re.findall(r"pub fn (rsp_\w+)\((.*?)\)(?: -> (\w+))?;", text):
+        types = [as_c(it.split(":", 1)[1].strip()) for it in given.split(",") if it]
+        yield name, AS_C[result], "|".join(types) or "void"
+
+
 def statuses(source):
     """The names of the statuses with their numbers."""
     return {name: int(value) for name, value in re.findall(r"pub const (\w+): u32 = (\d+);", (source / "status.rt").read_text())}
+
+
+def banks(source):
+    """The names of the memories with their numbers."""
+    found = re.findall(r"(\d+) => Some\(Bank::(\w+)\),", (source / "status.rt").read_text())
+    return {name.upper(): int(value) for value, name in found}
 
 
 def faults(source):
@@ -62,18 +82,24 @@ def fields(source):
     return {name: int(value) for name, value in re.findall(r"^const (\w+): u32 = (\d+);", (source / "fault.rt").read_text(), re.M)}
 
 
-def structs(source):
-    """Each repr(C) struct as ctypes lays it out, which does so by C's rules."""
-    made = {}
+def structs_of(text, known=()):
+    """Each repr(C) struct of a text but the handle, as ctypes lays it out, which does so by C's rules. Fields may be of known structs."""
+    made = dict(known)
 
     def typed(text):
         array = re.fullmatch(r"\[(.+); (\d+)\]", text)
         return typed(array[1]) * int(array[2]) if array else NUMBERS.get(text) or made[text]
 
-    for name, body in re.findall(r"#\[repr\(C\)\].*?pub struct (\w+) \{(.*?)\n\}", (source / "shapes.rt").read_text(), re.S):
-        fields = [(field, typed(kind)) for field, kind in re.findall(r"pub (\w+): (.+),", body)]
-        made[name] = type(name, (ctypes.Structure,), {"_fields_": fields})
+    for name, body in re.findall(r"#\[repr\(C\)\]\n(?:#\[[^\n]*\n)*pub struct (\w+) \{(.*?)\n\}", text, re.S):
+        if name != "Handle":
+            fields = [(field, typed(kind)) for field, kind in re.findall(r"pub (\w+): (.+),", body)]
+            made[name] = type(name, (ctypes.Structure,), {"_fields_": fields})
     return made
+
+
+def structs(source):
+    """The structs of rsp_c."""
+    return structs_of((source / "shapes.rt").read_text())
 
 
 def layout(struct):

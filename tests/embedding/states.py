@@ -70,9 +70,12 @@ def equality():
     one, other = rsp.State(), rsp.State()
     see("equal", one == other and not one != other and one != 3)
     gap = bytearray(bytes(one))
-    gap[rsp.State.flags.offset + rsp.State.flags.size] = 0xA5
-    see("bytes between fields don't count", rsp.State.from_buffer_copy(gap) == one)
-    for n in (n for n in range(len(gap)) if n != rsp.State.flags.offset + rsp.State.flags.size):
+    gap[rsp.State.zero.offset] = 0xA5
+    see("the byte `zero` doesn't count", rsp.State.from_buffer_copy(gap) == one)
+    machine = rsp.Rsp()
+    machine.set(rsp.State.from_buffer_copy(gap))
+    see("and is 0 in a machine's state", bytes(machine.get()) == bytes(one))
+    for n in (n for n in range(len(gap)) if n != rsp.State.zero.offset):
         raw = bytearray(bytes(one))
         raw[n] ^= 1
         see(f"byte {n} counts", rsp.State.from_buffer_copy(raw) != one and len(one.diff(rsp.State.from_buffer_copy(raw))) == 1)

@@ -1,39 +1,28 @@
--- A state has a field with a fault exactly if its registers are refused.
-use Rattle.std.proofs.Common.{◌≡◌, ℕ, ◌+◌, ◌*◌, ◌/◌, ◌%◌, Bool, true, false, Option, Some, None, refl, ◌∙◌, arith, ◌↔◌}
-use Rattle.std.specs.Prelude.{if◌then◌else◌, not, ◌&&◌, ◌==◌, nat_le, slice_index, IsSomeAnd}
+-- A state without a faulty field has registers that a machine can have.
+use Rattle.std.proofs.Common.{◌≡◌, ◌≤◌, ℕ, ◌+◌, ◌*◌, ◌/◌, ◌%◌, Bool, true, false, Option, Some, None, refl, arith, IsTrue}
+use Rattle.std.specs.Prelude.{if◌then◌else◌, not, ◌&&◌, ◌==◌, nat_le, slice_index, is_none, List}
 use Rattle.rsp_machine.specs.declared.registers.RegistersFault.{RegistersFault}
 use Rattle.rsp_machine.specs.declared.registers.RegistersFault.TheVariants.{Place, RegisterZero, MemoryAddress, DramAddress, Skip}
-use Rattle.rsp_machine.specs.Registers.{is_whole, registers_fault}
+use Rattle.rsp_machine.specs.Registers.{is_whole, registers_fault, sp_fault}
 use Rattle.rsp_c.specs.declared.shapes.RspState.{RspState}
-use Rattle.rsp_c.specs.States.{registers_in}
-use Rattle.rsp_c.specs.Faults.{sp_field, state_fault}
+use Rattle.rsp_c.specs.declared.shapes.RspSpWords.{RspSpWords}
+use Rattle.rsp_c.specs.States.{registers_in, sp_in, sp_parts}
+use Rattle.rsp_c.specs.Faults.{sp_word_fault, sp_field, are_sp, state_fault}
 
--- What both test: register 0, the mark of DIV_IN, pc, npc, the interrupt flag; of the SP registers the first two, the low bits and the skip of the
--- third, and the others to the eighth.
-record AreRight (z l p n i m r w k b s d e f : Bool) : Type 0 where
-  zero : z ≡ true
-  loaded : l ≡ true
-  pc : p ≡ true
-  npc : n ≡ true
-  interrupt : i ≡ true
-  memory : m ≡ true
-  dram : r ≡ true
-  low : w ≡ true
-  skip : k ≡ true
-  both : b ≡ true
-  status : s ≡ true
-  full : d ≡ true
-  busy : e ≡ true
-  semaphore : f ≡ true
+-- what is tested of SP registers: the first two; the low bits and the skip of the third; the others to the eighth
+pub record AreRightWords (m r w k b s d e f : Bool) : Type 0 where
+  pub memory : m ≡ true
+  pub dram : r ≡ true
+  pub low : w ≡ true
+  pub skip : k ≡ true
+  pub both : b ≡ true
+  pub status : s ≡ true
+  pub full : d ≡ true
+  pub busy : e ≡ true
+  pub semaphore : f ≡ true
 
-abbrev told : (z l p n i m r w k b s d e f : Bool) → ℕ
-told z l p n i m r w k b s d e f =
-    if not z then 1
-    else if not l then 2
-    else if not p then 3
-    else if not n then 4
-    else if not i then 5
-    else sp_field (
+abbrev pub first_fault : (m r w k b s d e f : Bool) → Option ℕ
+first_fault m r w k b s d e f =
     if not m then Some 0
     else if not r then Some 1
     else if not (w && k) then Some 2
@@ -42,84 +31,86 @@ told z l p n i m r w k b s d e f =
     else if not d then Some 5
     else if not e then Some 6
     else if not f then Some 7
-    else None)
-
-abbrev refusal : (z p n m r k : Bool) → Option RegistersFault
-refusal z p n m r k =
-    if not (p && n) then Some Place
-    else if not z then Some RegisterZero
-    else if not m then Some MemoryAddress
-    else if not r then Some DramAddress
-    else if not k then Some Skip
     else None
 
-abbrev taken : {X : Type 0} → X → (l i w b s d e f : Bool) → Option X
-taken x l i w b s d e f = if (w && b && s && d && e && f) && l && i then Some x else None
+right_words : (m r w k b s d e f : Bool) → first_fault m r w k b s d e f ≡ None → AreRightWords m r w k b s d e f
+right_words false r w k b s d e f h = cc
+right_words true false w k b s d e f h = cc
+right_words true true false k b s d e f h = cc
+right_words true true true false b s d e f h = cc
+right_words true true true true false s d e f h = cc
+right_words true true true true true false d e f h = cc
+right_words true true true true true true false e f h = cc
+right_words true true true true true true true false f h = cc
+right_words true true true true true true true true false h = cc
+right_words true true true true true true true true true h =
+    record { memory = refl; dram = refl; low = refl; skip = refl; both = refl; status = refl; full = refl; busy = refl; semaphore = refl }
 
-none-told : (z l p n i m r w k b s d e f : Bool) → told z l p n i m r w k b s d e f ≡ 0 → AreRight z l p n i m r w k b s d e f
-none-told false l p n i m r w k b s d e f h = absurd (omega (arith, h))
-none-told true false p n i m r w k b s d e f h = absurd (omega (arith, h))
-none-told true true false n i m r w k b s d e f h = absurd (omega (arith, h))
-none-told true true true false i m r w k b s d e f h = absurd (omega (arith, h))
-none-told true true true true false m r w k b s d e f h = absurd (omega (arith, h))
-none-told true true true true true false r w k b s d e f h = absurd (omega (arith, h))
-none-told true true true true true true false w k b s d e f h = absurd (omega (arith, h))
-none-told true true true true true true true false k b s d e f h = absurd (omega (arith, h))
-none-told true true true true true true true true false b s d e f h = absurd (omega (arith, h))
-none-told true true true true true true true true true false s d e f h = absurd (omega (arith, h))
-none-told true true true true true true true true true true false d e f h = absurd (omega (arith, h))
-none-told true true true true true true true true true true true false e f h = absurd (omega (arith, h))
-none-told true true true true true true true true true true true true false f h = absurd (omega (arith, h))
-none-told true true true true true true true true true true true true true false h = absurd (omega (arith, h))
-none-told true true true true true true true true true true true true true true h =
-    record { zero = refl; loaded = refl; pc = refl; npc = refl; interrupt = refl; memory = refl; dram = refl; low = refl; skip = refl; both = refl; status = refl; full = refl; busy = refl; semaphore = refl }
+-- the tests of sixteen words
+abbrev pub IsRightWords : List ℕ → Type 0
+IsRightWords w = AreRightWords
+    (is_whole 8 8192 (slice_index w 0))
+    (is_whole 8 16777216 (slice_index w 1))
+    (slice_index w 2 % 1048576 == 4088)
+    (is_whole 8 4096 (slice_index w 2 / 1048576))
+    (slice_index w 3 == slice_index w 2)
+    (slice_index w 4 == slice_index w 4 % 4 + slice_index w 4 / 32 % 1024 * 32)
+    (slice_index w 5 == 0)
+    (slice_index w 6 == 0)
+    (nat_le (slice_index w 7) 1)
 
-told-none : (z l p n i m r w k b s d e f : Bool) → AreRight z l p n i m r w k b s d e f → told z l p n i m r w k b s d e f ≡ 0
-told-none z l p n i m r w k b s d e f h =
-    rw (h.zero, h.loaded, h.pc, h.npc, h.interrupt, h.memory, h.dram, h.low, h.skip, h.both, h.status, h.full, h.busy, h.semaphore) refl
+pub words-right : (w : List ℕ) → sp_word_fault w ≡ None → IsRightWords w
+words-right w h = right_words _ _ _ _ _ _ _ _ _ h
 
-none-refused : {X : Type 0} (x : X) (why : X → Option RegistersFault) (z l p n i m r w k b s d e f : Bool) → why x ≡ refusal z p n m r k
-    → IsSomeAnd (taken x l i w b s d e f) (λ y. why y ≡ None) → AreRight z l p n i m r w k b s d e f
-none-refused x why z l p n i m r false k b s d e f q h = absurd h
-none-refused x why z l p n i m r true k false s d e f q h = absurd h
-none-refused x why z l p n i m r true k true false d e f q h = absurd h
-none-refused x why z l p n i m r true k true true false e f q h = absurd h
-none-refused x why z l p n i m r true k true true true false f q h = absurd h
-none-refused x why z l p n i m r true k true true true true false q h = absurd h
-none-refused x why z false p n i m r true k true true true true true q h = absurd h
-none-refused x why z true p n false m r true k true true true true true q h = absurd h
-none-refused x why z true false n true m r true k true true true true true q h = cc
-none-refused x why z true true false true m r true k true true true true true q h = cc
-none-refused x why false true true true true m r true k true true true true true q h = cc
-none-refused x why true true true true true false r true k true true true true true q h = cc
-none-refused x why true true true true true true false true k true true true true true q h = cc
-none-refused x why true true true true true true true true false true true true true true q h = cc
-none-refused x why true true true true true true true true true true true true true true q h =
-    record { zero = refl; loaded = refl; pc = refl; npc = refl; interrupt = refl; memory = refl; dram = refl; low = refl; skip = refl; both = refl; status = refl; full = refl; busy = refl; semaphore = refl }
+unfaulted : (m r k : Bool) → m ≡ true → r ≡ true → k ≡ true
+    → (if not m then Some MemoryAddress else if not r then Some DramAddress else if not k then Some Skip else None) ≡ None
+unfaulted m r k f g h = rw (f, g, h) refl
 
-refused-none : {X : Type 0} (x : X) (why : X → Option RegistersFault) (z l p n i m r w k b s d e f : Bool) → why x ≡ refusal z p n m r k
-    → AreRight z l p n i m r w k b s d e f → IsSomeAnd (taken x l i w b s d e f) (λ y. why y ≡ None)
-refused-none x why z l p n i m r w k b s d e f q h =
-    rw (h.loaded, h.interrupt, h.low, h.both, h.status, h.full, h.busy, h.semaphore)
-    (q ∙ rw (h.zero, h.pc, h.npc, h.memory, h.dram, h.skip) refl)
+words-unfaulted : (w : List ℕ) (interrupt : ℕ) → sp_word_fault w ≡ None → sp_fault (sp_parts w interrupt) ≡ None
+words-unfaulted w interrupt h = let is = words-right w h in unfaulted _ _ _ is.memory is.dram is.skip
 
-pub fault-agrees : (g : RspState) → (state_fault g ≡ 0) ↔ IsSomeAnd (registers_in g) (λ r. registers_fault r ≡ None)
-fault-agrees g =
-    let w = g.sp in
-    let z : Bool = slice_index g.words 0 == 0 in
-    let l : Bool = nat_le g.divider.loaded 1 in
-    let p : Bool = is_whole 4 4096 g.pc in
-    let n : Bool = is_whole 4 4096 g.npc in
-    let i : Bool = nat_le g.interrupt 1 in
-    let m : Bool = is_whole 8 8192 (slice_index w 0) in
-    let r : Bool = is_whole 8 16777216 (slice_index w 1) in
-    let a : Bool = slice_index w 2 % 1048576 == 4088 in
-    let k : Bool = is_whole 8 4096 (slice_index w 2 / 1048576) in
-    let b : Bool = slice_index w 3 == slice_index w 2 in
-    let s : Bool = slice_index w 4 == slice_index w 4 % 4 + slice_index w 4 / 32 % 1024 * 32 in
-    let d : Bool = slice_index w 5 == 0 in
-    let e : Bool = slice_index w 6 == 0 in
-    let f : Bool = nat_le (slice_index w 7) 1 in (
-      λ h. refused-none _ registers_fault z l p n i m r a k b s d e f refl (none-told z l p n i m r a k b s d e f h),
-      λ h. told-none z l p n i m r a k b s d e f (none-refused _ registers_fault z l p n i m r a k b s d e f refl h),
-    )
+sp_field-none : (o : Option ℕ) → sp_field o ≡ 0 → o ≡ None
+sp_field-none None h = refl
+sp_field-none (Some n) h = absurd (omega (arith, h))
+
+-- what is tested before the SP registers: register 0, the mark of DIV_IN, pc, npc, the interrupt flag
+pub record AreRight (z l p n i : Bool) (o : Option ℕ) : Type 0 where
+  pub zero : z ≡ true
+  pub loaded : l ≡ true
+  pub pc : p ≡ true
+  pub npc : n ≡ true
+  pub interrupt : i ≡ true
+  pub sp : o ≡ None
+
+abbrev pub first_field : (z l p n i : Bool) → Option ℕ → ℕ
+first_field z l p n i o = if not z then 1 else if not l then 2 else if not p then 3 else if not n then 4 else if not i then 5 else sp_field o
+
+right : (z l p n i : Bool) (o : Option ℕ) → first_field z l p n i o ≡ 0 → AreRight z l p n i o
+right false l p n i o h = absurd (omega (arith, h))
+right true false p n i o h = absurd (omega (arith, h))
+right true true false n i o h = absurd (omega (arith, h))
+right true true true false i o h = absurd (omega (arith, h))
+right true true true true false o h = absurd (omega (arith, h))
+right true true true true true o h = record { zero = refl; loaded = refl; pc = refl; npc = refl; interrupt = refl; sp = sp_field-none o h }
+
+unfaulted_all : (p n z : Bool) (o : Option RegistersFault) → p ≡ true → n ≡ true → z ≡ true → o ≡ None
+    → (if not (p && n) then Some Place else if not z then Some RegisterZero else o) ≡ None
+unfaulted_all p n z o f g h i = rw (f, g, h, i) refl
+
+pub state-right : (g : RspState) → state_fault g ≡ 0
+    → AreRight (slice_index g.words 0 == 0) (nat_le g.divider.loaded 1) (is_whole 4 4096 g.pc) (is_whole 4 4096 g.npc) (nat_le g.interrupt 1) (sp_word_fault g.sp)
+state-right g h = right _ _ _ _ _ _ h
+
+pub state-unfaulted : (g : RspState) → state_fault g ≡ 0 → registers_fault (registers_in g) ≡ None
+state-unfaulted g h =
+    let is = state-right g h in
+    unfaulted_all _ _ _ (sp_fault (sp_parts g.sp g.interrupt)) is.pc is.npc is.zero (words-unfaulted g.sp g.interrupt is.sp)
+
+are_none : (o : Option ℕ) (i : Bool) → IsTrue (is_none o && i) → o ≡ None
+are_none None i h = refl
+are_none (Some n) i h = cc
+
+pub sp-unfaulted : (g : RspSpWords) → IsTrue (are_sp g) → sp_fault (sp_in g) ≡ None
+sp-unfaulted g h = words-unfaulted g.words g.interrupt (are_none (sp_word_fault g.words) (nat_le g.interrupt 1) h)
+
+pub ruleset fields = (state-unfaulted, sp-unfaulted)

@@ -1,5 +1,6 @@
 pub mod AsBox
 pub mod Fields
 pub mod Holding
+pub mod Again
 pub mod Lines
 pub mod Words

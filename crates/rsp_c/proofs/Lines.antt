@@ -1,12 +1,13 @@
 -- Lines of words with their texts.
-use Rattle.std.proofs.Common.{◌≡◌, ℕ, ◌+◌, ◌*◌, ◌<◌, ◌≤◌, List, [], ◌∷◌, ◌++◌, length, take, map, ap, sym, ◌∙◌, arith}
+use Rattle.std.proofs.Common.{◌≡◌, ℕ, ◌+◌, ◌*◌, ◌<◌, ◌≤◌, List, [], ◌∷◌, ◌++◌, length, take, map, ap, sym, subst, ◌∙◌, arith}
 use Rattle.std.specs.Prelude.{slice_set}
-use Rattle.std.specs.List.{range_with_len}
+use Rattle.std.specs.List.{All, range_with_len}
 use Rattle.std.proofs.lemmas.List.{take_more_set, take_all}
+use Rattle.std.proofs.lemmas.List.Elements.{All-push}
 use Rattle.std.proofs.lemmas.List.FromFn.{map-range_with_len_more}
 use Rattle.rsp_memory.specs.Memory.{word_at}
 use Rattle.rsp_c.specs.declared.shapes.RspLine.{RspLine}
-use Rattle.rsp_c.specs.Seen.{seen_line, seen_lines}
+use Rattle.rsp_c.specs.Seen.{seen_line, seen_lines, IsEnded}
 
 -- no lines
 pub lines-none : (imem : List ℕ) (place n : ℕ) (lines : List RspLine) → n ≡ 0 → take n lines ≡ seen_lines imem place n
@@ -23,9 +24,18 @@ lines-more imem place i lines line h e same =
     ∙ ap (λ x. map (λ i. seen_line (word_at imem (place + 4 * i)) (place + 4 * i)) (range_with_len 0 i) ++ x ∷ []) same
     ∙ sym (map-range_with_len_more (λ i. seen_line (word_at imem (place + 4 * i)) (place + 4 * i)) 0 i i (omega arith))
 
+-- one text more that ends in a zero
+pub ended-more : (i : ℕ) (lines : List RspLine) (line : RspLine) → i < length lines → All IsEnded (take i lines) → IsEnded line
+    → All IsEnded (take (i + 1) (slice_set lines i line))
+ended-more i lines line h all one =
+    subst (λ xs. All IsEnded xs) (sym (take_more_set lines i line h)) (All-push IsEnded (take i lines) line all one)
+
+pub ended-all : (k : ℕ) (lines : List RspLine) → All IsEnded (take k lines) → length lines ≤ k → All IsEnded lines
+ended-all k lines all h = subst (λ xs. All IsEnded xs) (take_all k lines h) all
+
 -- all of them
 pub lines-all : (imem : List ℕ) (place n k : ℕ) (lines : List RspLine) → length lines ≡ n → n ≤ k → take k lines ≡ seen_lines imem place k → k ≤ n → lines ≡ seen_lines imem place n
 lines-all imem place n k lines e h all b =
     sym (take_all k lines (omega (arith, e, h))) ∙ all ∙ ap (λ j. seen_lines imem place j) (omega (arith, h, b))
 
-pub ruleset listing = (lines-all)
+pub ruleset listing = (lines-all, ended-all)

@@ -1,4 +1,4 @@
--- What the calls answer.
+-- What the calls return.
 use Rattle.std.specs.Prelude.{ℕ, ◌%◌, ◌==◌, ◌&&◌, nat_lt, Bool, List, Option, None, Some, Result, Ok, Err, if◌then◌else◌}
 use Rattle.rsp_machine.specs.declared.step.StepEnd.{StepEnd}
 use Rattle.rsp_machine.specs.declared.step.StepEnd.TheVariants as end
@@ -25,7 +25,7 @@ step_status end.Done = 0
 step_status end.Halted = 4
 step_status (end.Reserved word) = 5
 
--- going past the word at pc: it is none of those that can be gone past, or the machine is halted
+-- passing the word at pc: it is no transfer, or the machine is halted
 abbrev pub pass_fault_status : PassFault → ℕ
 pass_fault_status passing.Halted = 4
 pass_fault_status passing.OtherWord = 3
@@ -38,11 +38,11 @@ pass_status (Err f) = pass_fault_status f
 abbrev pub bank_of : ℕ → Option Bank
 bank_of n = if n == 0 then Some bank.Dmem else if n == 1 then Some bank.Imem else if n == 2 then Some bank.Rdram else None
 
--- whether a word of IMEM stands there that an instruction can be fetched from
+-- whether it is the address of a word of IMEM
 abbrev pub is_place : ℕ → Bool
 is_place n = nat_lt n 4096 && n % 4 == 0
 
--- a new place
+-- a new pc
 abbrev pub place_status : ℕ → ℕ
 place_status place = if is_place place then 0 else 3
 

@@ -1,6 +1,7 @@
 -- Which field of a state no machine can have.
-use Rattle.std.specs.Prelude.{ℕ, ◌+◌, ◌*◌, ◌/◌, ◌%◌, ◌==◌, ◌&&◌, not, nat_le, List, slice_index, Option, Some, None, if◌then◌else◌}
+use Rattle.std.specs.Prelude.{ℕ, ◌+◌, ◌*◌, ◌/◌, ◌%◌, ◌==◌, ◌&&◌, not, nat_le, Bool, List, slice_index, Option, Some, None, is_none, if◌then◌else◌}
 use Rattle.rsp_machine.specs.Registers.{is_whole}
+use Rattle.rsp_c.specs.declared.shapes.RspSpWords.{RspSpWords}
 use Rattle.rsp_c.specs.declared.shapes.RspState.{RspState}
 
 -- the first SP register from which its word can't be read
@@ -16,6 +17,10 @@ sp_word_fault w =
     else if not (slice_index w 6 == 0) then Some 6
     else if not (nat_le (slice_index w 7) 1) then Some 7
     else None
+
+-- whether SP registers and an interrupt flag can be those of a machine
+abbrev pub are_sp : RspSpWords → Bool
+are_sp g = is_none (sp_word_fault g.words) && nat_le g.interrupt 1
 
 -- the number of an SP register among the fields of a state; of none it is 0
 abbrev pub sp_field : Option ℕ → ℕ

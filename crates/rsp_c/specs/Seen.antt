@@ -1,5 +1,5 @@
 -- Parts of the machine as C sees them.
-use Rattle.std.specs.Prelude.{ℕ, ◌+◌, ◌-◌, ◌*◌, ℤ, List, ◌++◌, length, map, replicate, Bool, if◌then◌else◌}
+use Rattle.std.specs.Prelude.{ℕ, ◌+◌, ◌-◌, ◌*◌, ◌≡◌, ◌≤◌, ℤ, List, ◌++◌, length, map, replicate, slice_index, Bool, if◌then◌else◌}
 use Rattle.std.specs.List.{range_with_len}
 use Rattle.std.specs.Simd.Lanes.{mask_l}
 use Rattle.rsp_numbers.specs.Numbers.{number}
@@ -30,7 +30,7 @@ reason_number (why.Watched k) = 2
 reason_number why.Break = 3
 reason_number why.Limit = 4
 
--- the watch of a reason, and 0 where it is another
+-- the watch of a reason; of another reason 0
 abbrev pub reason_watch : Reason → ℕ
 reason_watch why.Reserved = 0
 reason_watch why.Halted = 0
@@ -38,7 +38,7 @@ reason_watch (why.Watched k) = k
 reason_watch why.Break = 0
 reason_watch why.Limit = 0
 
--- the word of a reason, which is at pc in IMEM, and 0 where it is another
+-- the word of a reason, which is at pc in IMEM; of another reason 0
 abbrev pub reason_word : Reason → ℕ → List ℕ → ℕ
 reason_word why.Reserved pc imem = word_at imem pc
 reason_word why.Halted pc imem = 0
@@ -75,7 +75,7 @@ seen_flags f = record { carry = mask_l f.carry; differ = mask_l f.differ; compar
 abbrev pub seen_divider : Divider → RspDivideState
 seen_divider d = record { input = d.input; output = d.output; loaded = bit d.loaded }
 
--- a word that stands at a place, with its canonical text, behind which there are zeros
+-- the word at an address, with its disassembly and zeros after it
 abbrev pub seen_line : ℕ → ℕ → RspLine
 seen_line word place = record {
   word = word;
@@ -84,16 +84,23 @@ seen_line word place = record {
   text = spell word place ++ replicate (68 - length (spell word place)) 0;
 }
 
--- the n words of IMEM from a place on
+-- a text has at most 64 bytes, and a zero after it
+abbrev pub IsEnded : RspLine → Type 0
+IsEnded l = (l.len ≤ 64) × (slice_index l.text l.len ≡ 0)
+
+-- the n words of IMEM from an address on
 unfoldable pub seen_lines : List ℕ → ℕ → ℕ → List RspLine
 seen_lines imem place n = map (λ i. seen_line (word_at imem (place + 4 * i)) (place + 4 * i)) (range_with_len 0 n)
 
--- what an assembly tells: how many words there are, a fault of the text, and that the bytes are no text
-abbrev pub told_words : ℕ → RspAssembled
-told_words n = record { count = n; line = 0; fault = 0 }
+-- the report on an assembly: how many words there are; a fault of the text; no memory for the label of a line; bytes that are no UTF-8
+abbrev pub assembled_words : ℕ → RspAssembled
+assembled_words n = record { count = n; line = 0; fault = 0 }
 
-abbrev pub told_fault : AsmFault → RspAssembled
-told_fault f = record { count = 0; line = f.line; fault = fault_number f.kind }
+abbrev pub assembled_fault : AsmFault → RspAssembled
+assembled_fault f = record { count = 0; line = f.line; fault = fault_number f.kind }
 
-abbrev pub told_no_text : RspAssembled
-told_no_text = record { count = 0; line = 0; fault = 33 }
+abbrev pub assembled_no_memory : ℕ → RspAssembled
+assembled_no_memory line = record { count = 0; line = line; fault = 17 }
+
+abbrev pub assembled_no_text : RspAssembled
+assembled_no_text = record { count = 0; line = 0; fault = 33 }

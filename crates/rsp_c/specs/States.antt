@@ -1,5 +1,5 @@
 -- All registers as C sees them, and back.
-use Rattle.std.specs.Prelude.{ℕ, ◌+◌, ◌*◌, ◌/◌, ◌%◌, ◌==◌, ◌&&◌, nat_le, List, [], ◌∷◌, slice_index, Bool, Option, Some, None, if◌then◌else◌}
+use Rattle.std.specs.Prelude.{ℕ, ◌/◌, ◌%◌, ◌==◌, List, [], ◌∷◌, slice_index, Bool}
 use Rattle.rsp_loadstore.specs.Controls.{marks}
 use Rattle.rsp_regs.specs.Sp.{Sp, peeked}
 use Rattle.rsp_regs.specs.declared.parts.SpParts.{SpParts}
@@ -21,20 +21,13 @@ seen_state r s = record {
   vectors = r.vectors;
   accumulators = record { high = r.accumulators_high; middle = r.accumulators_middle; low = r.accumulators_low };
   flags = seen_flags r.flags;
+  zero = 0;
   divider = seen_divider r.divider;
   pc = r.pc;
   npc = r.npc;
   sp = sp_words s;
   interrupt = bit s.interrupt;
 }
-
--- Whether sixteen words are such as SP registers read: 2 and 3 the same, with FF8 hex below the skip; of SP_STATUS bits 0, 1 and 5 to 14
--- alone; 5 and 6 are 0, and the semaphore is 0 or 1. The ranges of the addresses and of the skip are those of a machine's registers.
-abbrev pub are_sp_words : List ℕ → Bool
-are_sp_words w =
-    slice_index w 2 % 1048576 == 4088 && slice_index w 3 == slice_index w 2
-    && slice_index w 4 == slice_index w 4 % 4 + slice_index w 4 / 32 % 1024 * 32
-    && slice_index w 5 == 0 && slice_index w 6 == 0 && nat_le (slice_index w 7) 1
 
 -- whether a bit is set, by its weight
 abbrev pub is_set : ℕ → ℕ → Bool
@@ -62,27 +55,24 @@ sp_parts w interrupt =
           ∷ slice_index w 12 ∷ slice_index w 13 ∷ slice_index w 14 ∷ slice_index w 15 ∷ [];
     }
 
--- the SP registers as C sees them, and those that C gives; None where they aren't such as registers read
+-- the SP registers as C sees them, and those that C gives
 abbrev pub seen_sp : Sp → RspSpWords
 seen_sp s = record { words = sp_words s; interrupt = bit s.interrupt }
 
-abbrev pub sp_in : RspSpWords → Option SpParts
-sp_in g = if are_sp_words g.words && nat_le g.interrupt 1 then Some (sp_parts g.words g.interrupt) else None
+abbrev pub sp_in : RspSpWords → SpParts
+sp_in g = sp_parts g.words g.interrupt
 
--- the registers that C gives; None where its words, marks or flags aren't such as registers read
-abbrev pub registers_in : RspState → Option AllRegisters
-registers_in g =
-    if are_sp_words g.sp && nat_le g.divider.loaded 1 && nat_le g.interrupt 1 then
-    Some (record {
-      pc = g.pc;
-      npc = g.npc;
-      registers = g.words;
-      vectors = g.vectors;
-      accumulators_high = g.accumulators.high;
-      accumulators_middle = g.accumulators.middle;
-      accumulators_low = g.accumulators.low;
-      flags = record { carry = marks g.flags.carry; differ = marks g.flags.differ; compare = marks g.flags.compare; clip = marks g.flags.clip; extra = marks g.flags.extra };
-      divider = record { input = g.divider.input; output = g.divider.output; loaded = g.divider.loaded == 1 };
-      sp = sp_parts g.sp g.interrupt;
-    })
-    else None
+-- the registers that C gives
+abbrev pub registers_in : RspState → AllRegisters
+registers_in g = record {
+  pc = g.pc;
+  npc = g.npc;
+  registers = g.words;
+  vectors = g.vectors;
+  accumulators_high = g.accumulators.high;
+  accumulators_middle = g.accumulators.middle;
+  accumulators_low = g.accumulators.low;
+  flags = record { carry = marks g.flags.carry; differ = marks g.flags.differ; compare = marks g.flags.compare; clip = marks g.flags.clip; extra = marks g.flags.extra };
+  divider = record { input = g.divider.input; output = g.divider.output; loaded = g.divider.loaded == 1 };
+  sp = sp_parts g.sp g.interrupt;
+}

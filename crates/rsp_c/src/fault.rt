@@ -1,11 +1,10 @@
 // Which field of a state no machine can have.
 
-ghost use Rattle.std.specs.Prelude.{◌≡◌, ◌<◌, ◌↔◌, None, IsSomeAnd};
-ghost use Rattle.rsp_machine.specs.Registers.{is_whole, registers_fault};
-ghost use Rattle.rsp_c.specs.Faults.{sp_word_fault, state_fault};
-ghost use Rattle.rsp_c.specs.States.{registers_in};
+ghost use Rattle.std.specs.Prelude.{◌≡◌, ◌<◌};
+ghost use Rattle.rsp_machine.specs.Registers.{is_whole};
+ghost use Rattle.rsp_c.specs.Faults.{sp_word_fault, are_sp, state_fault};
 
-use crate::shapes::RspState;
+use crate::shapes::{RspSpWords, RspState};
 use crate::status::OK;
 
 /// Register 0 isn't 0.
@@ -55,8 +54,15 @@ fn sp_word_fault(words: &[u32; 16]) -> Option<u32>
     }
 }
 
+/// Whether SP registers and an interrupt flag can be those of a machine.
+pub fn are_sp(given: &RspSpWords) -> bool
+    ensures { result ≡ are_sp given.now }
+{
+    sp_word_fault(&given.words).is_none() && given.interrupt <= 1
+}
+
 /// The number of the first field that no machine can have, and 0 if a machine can have them all.
-fn state_fault(state: &RspState) -> u32
+pub fn state_fault(state: &RspState) -> u32
     ensures { result ≡ state_fault state.now }
 {
     if state.words[0] != 0 {
@@ -82,7 +88,6 @@ fn state_fault(state: &RspState) -> u32
 pub extern "C" fn rsp_state_fault(state: &RspState, out: &mut u32) -> u32
     ensures ok { result ≡ OK }
     ensures value { out.new ≡ state_fault state.now }
-    ensures agrees { (out.new ≡ 0) ↔ IsSomeAnd (registers_in state.now) (λ r. registers_fault r ≡ None) }
 {
     *out = state_fault(state);
     OK

@@ -76,7 +76,7 @@ impl Handle {
         }
     }
 
-    /// Holds a session, in the place of what it held.
+    /// Holds a session. What it held is freed.
     pub fn put(&mut self, session: Box<Session, Global>)
         ensures { self.new.session ≡ Some session.value }
     {

@@ -1,11 +1,12 @@
-//! The machine behind an interface in C: a handle that C keeps, and calls that answer a status for any arguments.
+//! The library for C: a handle that C keeps, and calls that return a status for any arguments.
 //!
-//! `c/rsp.h` is the header, and says what the caller owes. The calls stand by topic: a machine's life, its steps and its stops, whole states
-//! and single looks, memories, SP registers, and texts.
+//! `c/rsp.h` is the header, and states the preconditions. The modules are by topic: a machine's life, its steps and its stops, whole states
+//! and parts of them, memories, SP registers, and texts.
 #![tactic(auto)]
 
 mod fault;
 mod handle;
+pub mod laws;
 mod life;
 mod looks;
 mod memory;

@@ -1,6 +1,6 @@
 // A machine's life.
 
-ghost use Rattle.std.specs.Prelude.{◌≡◌, ◌<◌, ◌≤◌, ◌⊎◌, Some, None, IfSome, IfNone, length};
+ghost use Rattle.std.specs.Prelude.{◌≡◌, ◌<◌, ◌↔◌, ◌⊎◌, IsTrue, Some, None, IfSome, IfNone, length};
 ghost use Rattle.rsp_machine.specs.State.{start_of};
 ghost use Rattle.rsp_memory.specs.Image.{IsImageLength};
 ghost use Rattle.rsp_debug.specs.Debugging.{debugging_of};
@@ -24,23 +24,30 @@ pub extern "C" fn rsp_version() -> u32
     VERSION
 }
 
-/// Makes a machine with an image of the RDRAM, which is copied, and a past of `depth` states, at most 4096, and holds it in the
-/// place of what the handle held.
+/// Whether an image can have this length: a multiple of 8 from 64 to 8388608.
+fn is_image_length(n: usize) -> bool
+    ensures { IsTrue result ↔ IsImageLength n }
+{
+    n >= 64 && n <= 0x80_0000 && n % 8 == 0
+}
+
+/// Makes a machine with a copy of an image of the RDRAM, 64 to 8388608 bytes and a multiple of 8, and a history of `depth` states, at most
+/// 4096. What the handle held is freed. OUT_OF_RANGE for another length or depth, before anything is copied.
 #[unsafe(no_mangle)]
 pub extern "C" fn rsp_new(handle: &mut Handle, alloc: Global, image: &[u8], depth: u32) -> u32
     ensures ok { result ≡ OK → handle.new.session ≡ Some (debugging_of depth (start_of image.now)) }
-    ensures range { result ≡ OK → (depth ≤ 4096) × IsImageLength (length image.now) }
-    ensures answer { (result ≡ OK) ⊎ (result ≡ NO_MEMORY) ⊎ ((result ≡ OUT_OF_RANGE) × ((4096 < depth) ⊎ ¬ (IsImageLength (length image.now)))) }
+    ensures range { (result ≡ OUT_OF_RANGE) ↔ ((4096 < depth) ⊎ ¬ (IsImageLength (length image.now))) }
+    ensures answer { (result ≡ OK) ⊎ (result ≡ NO_MEMORY) ⊎ (result ≡ OUT_OF_RANGE) }
     ensures same { (result ≡ OK → ⊥) → handle.new.session ≡ handle.old.session }
 {
-    if depth > 4096 {
+    if depth > 4096 || !is_image_length(image.len()) {
         return OUT_OF_RANGE;
     }
     let Ok(bytes) = Vec::from_slice(alloc, image) else {
         return NO_MEMORY;
     };
     let Ok(rdram) = Rdram::from_bytes(bytes) else {
-        return OUT_OF_RANGE;
+        unreachable!()
     };
     let Ok(debugger) = Debugger::try_new(alloc, Machine::new(rdram), depth as usize) else {
         return NO_MEMORY;
@@ -54,8 +61,8 @@ pub extern "C" fn rsp_new(handle: &mut Handle, alloc: Global, image: &[u8], dept
     }
 }
 
-/// Makes a second machine in the same state, memories included, with as long a history, which is empty, and without breakpoints and watches.
-/// `to` holds it in the place of what it held.
+/// Makes in `to` a second machine in the same state, memories included, with as long a history, which is empty, and without breakpoints and
+/// watches. What `to` held is freed.
 #[unsafe(no_mangle)]
 pub extern "C" fn rsp_copy(to: &mut Handle, alloc: Global, from: &mut Handle) -> u32
     ensures none { IfNone from.old.session (result ≡ NO_MACHINE) }

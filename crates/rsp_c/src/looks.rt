@@ -1,4 +1,4 @@
-// Looks at single parts of the machine. They change nothing.
+// Parts of the machine. These calls change nothing.
 
 ghost use Rattle.std.specs.Prelude.{◌≡◌, ℕ, ◌<◌, ◌↔◌, ◌⊎◌, IfSome, IfNone, slice_index};
 ghost use Rattle.rsp_scalar.specs.Registers.{register};
@@ -34,7 +34,7 @@ pub extern "C" fn rsp_reg(handle: &mut Handle, alloc: Global, n: u32, out: &mut 
     }
 }
 
-/// The places and the scalar registers.
+/// pc, npc and the scalar registers.
 #[unsafe(no_mangle)]
 pub extern "C" fn rsp_regs(handle: &mut Handle, alloc: Global, out: &mut RspScalars) -> u32
     ensures none { IfNone handle.old.session (result ≡ NO_MACHINE) }
@@ -121,7 +121,7 @@ pub extern "C" fn rsp_flags(handle: &mut Handle, alloc: Global, out: &mut RspFla
     }
 }
 
-/// What the divide rows keep from one to the next.
+/// What the divide instructions keep from one to the next.
 #[unsafe(no_mangle)]
 pub extern "C" fn rsp_divider(handle: &mut Handle, alloc: Global, out: &mut RspDivideState) -> u32
     ensures none { IfNone handle.old.session (result ≡ NO_MACHINE) }

@@ -13,7 +13,7 @@ use rsp_machine::Machine;
 use rsp_memory::Bank;
 use std::alloc::Global;
 
-/// The bytes of a bank from an address on, `n` of them, which all stand in it.
+/// The bytes of a bank from an address on, `n` of them, which are all inside.
 pub fn bytes_of<A: Acc>(machine: &Machine<A>, bank: Bank, a: u32, n: usize) -> &[u8]
     requires { IsTrue (is_inside bank a n machine.now) }
     ensures bytes { result.now ≡ take n (drop a (bank_bytes bank machine.now)) }
@@ -29,7 +29,7 @@ pub fn bytes_of<A: Acc>(machine: &Machine<A>, bank: Bank, a: u32, n: usize) -> &
     }
 }
 
-/// Writes bytes to a bank from an address on, and empties the past.
+/// Writes bytes to a bank from an address on, and empties the history.
 #[unsafe(no_mangle)]
 pub extern "C" fn rsp_load(
     handle: &mut Handle,

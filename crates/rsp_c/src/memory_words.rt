@@ -1,10 +1,11 @@
 // Words in the memories, the highest byte of each first.
 
-ghost use Rattle.std.specs.Prelude.{◌≡◌, ◌+◌, ◌*◌, ◌<◌, ◌≤◌, ◌↔◌, ◌⊎◌, ℕ, IfSome, IfNone, length, option_map, slice_index, IsTrue, IsSomeAnd};
+ghost use Rattle.std.specs.Prelude.{◌≡◌, ◌+◌, ◌*◌, ◌≤◌, ◌↔◌, ◌⊎◌, IfSome, IfNone, length, take, drop, option_map, IsTrue, IsSomeAnd};
 ghost use Rattle.rsp_machine.specs.Host.{with_bank_bytes, is_inside};
 ghost use Rattle.rsp_debug.specs.Debugging.{brought_to};
 ghost use Rattle.rsp_c.specs.Answers.{bank_of};
-ghost use Rattle.rsp_c.specs.Bytes.{bank_bytes, words_bytes, word_in};
+ghost use Rattle.rsp_c.specs.Bytes.{bank_bytes, words_bytes};
+ghost use Rattle.byteorder.specs.Endian.{IsRead, big_number};
 
 use crate::handle::Handle;
 use crate::memory::bytes_of;
@@ -61,7 +62,7 @@ fn put_words(debugger: &mut Debugger<PlaneAcc>, bank: Bank, address: u32, words:
 /// Reads words of a bank from an address on.
 fn read_words(machine: &Machine<PlaneAcc>, bank: Bank, address: u32, words: &mut [u32])
     requires { IsTrue (is_inside bank address (4 * length words.old) machine.now) }
-    ensures { (i : ℕ) → i < length words.old → slice_index words.new i ≡ word_in (bank_bytes bank machine.now) (address + 4 * i) }
+    ensures { IsRead big_number 4 (take (4 * length words.old) (drop address (bank_bytes bank machine.now))) words.new }
 {
     BigEndian::read_u32_into(bytes_of(machine, bank, address, 4 * words.len()), words);
 }
@@ -113,7 +114,7 @@ pub extern "C" fn rsp_memory_words(
     ensures none { IfNone handle.old.session (result ≡ NO_MACHINE) }
     ensures inside { IfSome handle.old.session (λ d. (result ≡ OK) ↔ IsSomeAnd (bank_of number) (λ b. IsTrue (is_inside b address (4 * length words.old) d.state))) }
     ensures answer { IfSome handle.old.session (λ d. (result ≡ OK) ⊎ (result ≡ OUT_OF_RANGE)) }
-    ensures value { result ≡ OK → IfSome handle.old.session (λ d. IfSome (bank_of number) (λ b. (i : ℕ) → i < length words.old → slice_index words.new i ≡ word_in (bank_bytes b d.state) (address + 4 * i))) }
+    ensures value { result ≡ OK → IfSome handle.old.session (λ d. IfSome (bank_of number) (λ b. IsRead big_number 4 (take (4 * length words.old) (drop address (bank_bytes b d.state))) words.new)) }
     ensures refused { (result ≡ OK → ⊥) → words.new ≡ words.old }
     ensures same { handle.new.session ≡ handle.old.session }
 {

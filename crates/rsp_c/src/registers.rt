@@ -1,7 +1,7 @@
 // All registers in the shape that crosses to C, and back.
 
-ghost use Rattle.std.specs.Prelude.{◌≡◌, Some, None};
-ghost use Rattle.rsp_c.specs.States.{seen_state, seen_sp, sp_words, are_sp_words, sp_parts, sp_in, registers_in};
+ghost use Rattle.std.specs.Prelude.{◌≡◌};
+ghost use Rattle.rsp_c.specs.States.{seen_state, seen_sp, sp_words, sp_parts, sp_in, registers_in};
 
 use crate::seen::{seen_divider, seen_flags};
 use crate::shapes::{RspAccumulators, RspSpWords, RspState};
@@ -60,26 +60,13 @@ pub fn seen_state(all: &AllRegisters, sp: &SpRegs) -> RspState
         vectors,
         accumulators: RspAccumulators { high, middle, low },
         flags: seen_flags(&all.flags),
+        zero: 0,
         divider: seen_divider(&all.divider),
         pc: all.pc,
         npc: all.npc,
         sp,
         interrupt: sp_words.interrupt,
     }
-}
-
-/// Whether words are such as SP registers read: both lengths the same, with FF8 hex below the skip; no bit in the status, in 5 and 6 and in
-/// the semaphore that isn't kept.
-fn are_sp_words(words: &[u32; 16]) -> bool
-    ensures { result ≡ are_sp_words words.now }
-{
-    let status = words[4];
-    words[2] % 0x10_0000 == 0xff8
-        && words[3] == words[2]
-        && status == status % 4 + status / 32 % 1024 * 32
-        && words[5] == 0
-        && words[6] == 0
-        && words[7] <= 1
 }
 
 /// The SP registers that read these words.
@@ -113,29 +100,23 @@ fn sp_parts(words: &[u32; 16], interrupt: u32) -> SpParts
     }
 }
 
-/// The SP registers that C gives, if the words and the interrupt flag are such as they read. Their ranges aren't tested here.
-pub fn sp_in(given: &RspSpWords) -> Option<SpParts>
+/// The SP registers that C gives. Their ranges aren't tested here.
+pub fn sp_in(given: &RspSpWords) -> SpParts
     ensures { result ≡ sp_in given.now }
 {
-    if !are_sp_words(&given.words) || given.interrupt > 1 {
-        return None;
-    }
-    Some(sp_parts(&given.words, given.interrupt))
+    sp_parts(&given.words, given.interrupt)
 }
 
-/// The registers that C gives, where words, marks and the interrupt flag are such as they read. Their ranges aren't tested here.
-pub fn registers_in(state: &RspState) -> Option<AllRegisters>
+/// The registers that C gives. Their ranges aren't tested here.
+pub fn registers_in(state: &RspState) -> AllRegisters
     ensures { result ≡ registers_in state.now }
 {
-    if !are_sp_words(&state.sp) || state.divider.loaded > 1 || state.interrupt > 1 {
-        return None;
-    }
     let registers = state.words;
     let vectors = state.vectors;
     let accumulators_high = state.accumulators.high;
     let accumulators_middle = state.accumulators.middle;
     let accumulators_low = state.accumulators.low;
-    Some(AllRegisters {
+    AllRegisters {
         pc: state.pc,
         npc: state.npc,
         registers,
@@ -156,5 +137,5 @@ pub fn registers_in(state: &RspState) -> Option<AllRegisters>
             loaded: state.divider.loaded == 1,
         },
         sp: sp_parts(&state.sp, state.interrupt),
-    })
+    }
 }

@@ -34,7 +34,7 @@ pub fn seen_flags(flags: &Flags) -> RspFlagBits
     }
 }
 
-/// What the divide rows keep.
+/// What the divide instructions keep.
 pub fn seen_divider(divider: &Divider) -> RspDivideState
     ensures { result ≡ seen_divider divider.now }
 {

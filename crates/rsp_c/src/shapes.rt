@@ -1,30 +1,30 @@
-// What crosses to C behind a pointer.
+// What crosses to C by a pointer.
 
 /// Where a run stopped.
 #[repr(C)]
 #[derive(Clone, Copy, Drop)]
 pub struct RspStop {
-    /// 0 at a reserved word, 1 halted, 2 at a watch, 3 at a breakpoint, 4 where all steps are made.
+    /// 0 at a reserved word, 1 halted, 2 at a watch, 3 at a breakpoint, 4 if all steps are made.
     pub reason: u32,
     /// How many steps it made.
     pub steps: u32,
-    /// The watch's number, if it stopped at one, and else 0.
+    /// The watch's number, if it stopped at one; else 0.
     pub watch: usize,
-    /// The place of the next instruction.
+    /// The address of the next instruction.
     pub pc: u16,
-    /// The word at pc, if that is reserved and the run stopped there, and else 0.
+    /// The word at pc, if it is reserved and the run stopped there; else 0.
     pub word: u32,
 }
 
-/// The places and the scalar registers.
+/// pc, npc and the scalar registers.
 #[repr(C)]
 #[derive(Clone, Copy, Drop)]
 pub struct RspScalars {
     /// The 32 scalar registers.
     pub words: [u32; 32],
-    /// The place of the next instruction.
+    /// The address of the next instruction.
     pub pc: u16,
-    /// The place of the one after it.
+    /// The address of the one after it.
     pub npc: u16,
 }
 
@@ -64,7 +64,7 @@ pub struct RspFlagBits {
     pub extra: u8,
 }
 
-/// What the divide rows keep from one to the next.
+/// What the divide instructions keep from one to the next.
 #[repr(C)]
 #[derive(Clone, Copy, Drop)]
 pub struct RspDivideState {
@@ -72,7 +72,7 @@ pub struct RspDivideState {
     pub input: u16,
     /// DIV_OUT.
     pub output: u16,
-    /// 1 where DIV_IN is loaded, and else 0.
+    /// 1 if DIV_IN is loaded, else 0.
     pub loaded: u16,
 }
 
@@ -88,15 +88,17 @@ pub struct RspState {
     pub accumulators: RspAccumulators,
     /// The flags.
     pub flags: RspFlagBits,
-    /// What the divide rows keep.
+    /// Always 0; nothing reads it.
+    pub zero: u8,
+    /// What the divide instructions keep.
     pub divider: RspDivideState,
-    /// The place of the next instruction.
+    /// The address of the next instruction.
     pub pc: u16,
-    /// The place of the one after it.
+    /// The address of the one after it.
     pub npc: u16,
     /// The sixteen SP registers as they read: eight, and then those of the DPC.
     pub sp: [u32; 16],
-    /// 1 where the interrupt flag is set, and else 0.
+    /// 1 if the interrupt flag is set, else 0.
     pub interrupt: u32,
 }
 
@@ -116,22 +118,22 @@ pub struct RspSpWords {
 pub struct RspAssembled {
     /// How many words there are.
     pub count: usize,
-    /// The number of the line that has a fault, from 1, and else 0.
+    /// The number of the line that has a fault, from 1; else 0.
     pub line: usize,
-    /// The number of the fault, 10 to 17, or 33 where the text isn't UTF-8, and else 0.
+    /// The number of the fault, 10 to 17, or 33 if the text isn't UTF-8; else 0.
     pub fault: u32,
 }
 
-/// A word with its text.
+/// A word with its disassembly.
 #[repr(C)]
 #[derive(Clone, Copy, Drop)]
 pub struct RspLine {
     /// The word.
     pub word: u32,
-    /// Its place in IMEM.
+    /// Its address in IMEM.
     pub place: u16,
     /// How many bytes its text has, at most 64.
     pub len: u16,
-    /// Its canonical text, and zeros behind it.
+    /// The text, and zeros after it.
     pub text: [u8; 68],
 }

@@ -1,20 +1,21 @@
 // SP registers, as the CPU reads and writes them. Their numbers are taken modulo 16.
 
-ghost use Rattle.std.specs.Prelude.{◌≡◌, ◌↔◌, ◌⊎◌, None, IfSome, IfNone, IsSomeAnd, option_map};
+ghost use Rattle.std.specs.Prelude.{◌≡◌, ◌↔◌, ◌⊎◌, IfSome, IfNone, IsTrue, option_map};
 ghost use Rattle.rsp_machine.specs.Host.{register_written};
-ghost use Rattle.rsp_machine.specs.Registers.{sp_fault};
 ghost use Rattle.rsp_regs.specs.Parts.{sp_of};
 ghost use Rattle.rsp_regs.specs.Sp.{peeked};
 ghost use Rattle.rsp_debug.specs.Debugging.{brought_to, read_from};
+ghost use Rattle.rsp_c.specs.Faults.{are_sp};
 ghost use Rattle.rsp_c.specs.States.{seen_sp, sp_in};
 
+use crate::fault::are_sp;
 use crate::handle::Handle;
 use crate::registers::{seen_sp, sp_in};
 use crate::shapes::RspSpWords;
 use crate::status::{NO_MACHINE, OK, OUT_OF_RANGE};
 use std::alloc::Global;
 
-/// Reads an SP register. A read of the semaphore, register 7, takes it and empties the past.
+/// Reads an SP register. A read of the semaphore, register 7, takes it and empties the history.
 #[unsafe(no_mangle)]
 pub extern "C" fn rsp_read(handle: &mut Handle, alloc: Global, n: u32, out: &mut u32) -> u32
     ensures none { IfNone handle.old.session (result ≡ NO_MACHINE) }
@@ -32,7 +33,7 @@ pub extern "C" fn rsp_read(handle: &mut Handle, alloc: Global, n: u32, out: &mut
     }
 }
 
-/// Looks at an SP register: the word that a read would give. Nothing changes.
+/// The word that a read of an SP register would give. Nothing changes.
 #[unsafe(no_mangle)]
 pub extern "C" fn rsp_peek(handle: &mut Handle, alloc: Global, n: u32, out: &mut u32) -> u32
     ensures none { IfNone handle.old.session (result ≡ NO_MACHINE) }
@@ -50,7 +51,7 @@ pub extern "C" fn rsp_peek(handle: &mut Handle, alloc: Global, n: u32, out: &mut
     }
 }
 
-/// Writes an SP register, and empties the past. A write of a length register, 2 or 3, does its DMA.
+/// Writes an SP register, and empties the history. A write of a length register, 2 or 3, does its DMA.
 #[unsafe(no_mangle)]
 pub extern "C" fn rsp_write(handle: &mut Handle, alloc: Global, n: u32, value: u32) -> u32
     ensures none { IfNone handle.old.session (result ≡ NO_MACHINE) }
@@ -67,7 +68,7 @@ pub extern "C" fn rsp_write(handle: &mut Handle, alloc: Global, n: u32, value: u
     }
 }
 
-/// All SP registers, as a look at each gives them, with the interrupt flag. Nothing changes.
+/// All SP registers, each as `rsp_peek` gives it, with the interrupt flag. Nothing changes.
 #[unsafe(no_mangle)]
 pub extern "C" fn rsp_sp(handle: &mut Handle, alloc: Global, out: &mut RspSpWords) -> u32
     ensures none { IfNone handle.old.session (result ≡ NO_MACHINE) }
@@ -88,26 +89,27 @@ pub extern "C" fn rsp_sp(handle: &mut Handle, alloc: Global, out: &mut RspSpWord
 /// Sets all SP registers and the interrupt flag, without a DMA, and empties the history. All else stays. OUT_OF_RANGE if they can't be
 /// those of a machine.
 #[unsafe(no_mangle)]
+#[tactic(auto, using(crate::proofs::Fields::fields))]
 pub extern "C" fn rsp_set_sp(handle: &mut Handle, alloc: Global, given: &RspSpWords) -> u32
     ensures none { IfNone handle.old.session (result ≡ NO_MACHINE) }
-    ensures range { IfSome handle.old.session (λ d. (result ≡ OK) ↔ IsSomeAnd (sp_in given.now) (λ p. sp_fault p ≡ None)) }
+    ensures range { IfSome handle.old.session (λ d. (result ≡ OK) ↔ IsTrue (are_sp given.now)) }
     ensures answer { IfSome handle.old.session (λ d. (result ≡ OK) ⊎ (result ≡ OUT_OF_RANGE)) }
-    ensures next { result ≡ OK → IfSome (sp_in given.now) (λ p. handle.new.session ≡ option_map (λ d. brought_to (record d.state { sp = sp_of p }) d) handle.old.session) }
+    ensures next { result ≡ OK → handle.new.session ≡ option_map (λ d. brought_to (record d.state { sp = sp_of (sp_in given.now) }) d) handle.old.session }
     ensures same { (result ≡ OK → ⊥) → handle.new.session ≡ handle.old.session }
 {
     match handle.take(alloc) {
         None => NO_MACHINE,
         Some(mut session) => {
-            let Some(parts) = sp_in(given) else {
+            if !are_sp(given) {
                 handle.put(session);
                 return OUT_OF_RANGE;
-            };
-            let set = session.debugger.set_sp_parts(&parts);
-            handle.put(session);
-            match set {
-                Err(_) => OUT_OF_RANGE,
-                Ok(()) => OK,
             }
+            let parts = sp_in(given);
+            let Ok(()) = session.debugger.set_sp_parts(&parts) else {
+                unreachable!()
+            };
+            handle.put(session);
+            OK
         }
     }
 }

@@ -1,10 +1,12 @@
 // Whole states: all registers at once.
 
-ghost use Rattle.std.specs.Prelude.{◌≡◌, ◌↔◌, ◌⊎◌, Some, None, IfSome, IfNone, IsSomeAnd, option_map};
-ghost use Rattle.rsp_machine.specs.Registers.{registers_of, with_registers, registers_fault};
+ghost use Rattle.std.specs.Prelude.{◌≡◌, ◌↔◌, ◌⊎◌, IfSome, IfNone, option_map};
+ghost use Rattle.rsp_machine.specs.Registers.{registers_of, with_registers};
 ghost use Rattle.rsp_debug.specs.Debugging.{brought_to};
+ghost use Rattle.rsp_c.specs.Faults.{state_fault};
 ghost use Rattle.rsp_c.specs.States.{seen_state, registers_in};
 
+use crate::fault::state_fault;
 use crate::handle::Handle;
 use crate::registers::{registers_in, seen_state};
 use crate::shapes::RspState;
@@ -32,28 +34,29 @@ pub extern "C" fn rsp_get(handle: &mut Handle, alloc: Global, out: &mut RspState
     }
 }
 
-/// Sets all registers; the memories stay, and the past is empty. OUT_OF_RANGE where they can't be those of a machine.
+/// Sets all registers, and empties the history; the memories stay. OUT_OF_RANGE exactly if `rsp_state_fault` gives a field.
 #[unsafe(no_mangle)]
+#[tactic(auto, using(crate::proofs::Fields::fields))]
 pub extern "C" fn rsp_set(handle: &mut Handle, alloc: Global, state: &RspState) -> u32
     ensures none { IfNone handle.old.session (result ≡ NO_MACHINE) }
-    ensures range { IfSome handle.old.session (λ d. (result ≡ OK) ↔ IsSomeAnd (registers_in state.now) (λ r. registers_fault r ≡ None)) }
+    ensures range { IfSome handle.old.session (λ d. (result ≡ OK) ↔ (state_fault state.now ≡ 0)) }
     ensures answer { IfSome handle.old.session (λ d. (result ≡ OK) ⊎ (result ≡ OUT_OF_RANGE)) }
-    ensures next { result ≡ OK → IfSome (registers_in state.now) (λ r. handle.new.session ≡ option_map (λ d. brought_to (with_registers r d.state) d) handle.old.session) }
+    ensures next { result ≡ OK → handle.new.session ≡ option_map (λ d. brought_to (with_registers (registers_in state.now) d.state) d) handle.old.session }
     ensures same { (result ≡ OK → ⊥) → handle.new.session ≡ handle.old.session }
 {
     match handle.take(alloc) {
         None => NO_MACHINE,
         Some(mut session) => {
-            let Some(registers) = registers_in(state) else {
+            if state_fault(state) != 0 {
                 handle.put(session);
                 return OUT_OF_RANGE;
-            };
-            let set = session.debugger.set_all_registers(&registers);
-            handle.put(session);
-            match set {
-                Err(_) => OUT_OF_RANGE,
-                Ok(()) => OK,
             }
+            let registers = registers_in(state);
+            let Ok(()) = session.debugger.set_all_registers(&registers) else {
+                unreachable!()
+            };
+            handle.put(session);
+            OK
         }
     }
 }

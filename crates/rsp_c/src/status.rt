@@ -1,4 +1,4 @@
-// What a call answers.
+// What a call returns.
 
 ghost use Rattle.std.specs.Prelude.{◌≡◌, ◌<◌, ◌%◌, IsTrue, Some, Err};
 ghost use Rattle.rsp_c.specs.Answers.{step_status, pass_fault_status, bank_of, is_place, task_status, fault_status, watch_status, fault_number};
@@ -12,7 +12,7 @@ use rsp_memory::Bank;
 pub const OK: u32 = 0;
 /// The handle holds no machine.
 pub const NO_MACHINE: u32 = 1;
-/// There is no memory.
+/// An allocation failed.
 pub const NO_MEMORY: u32 = 2;
 /// An argument is out of its range.
 pub const OUT_OF_RANGE: u32 = 3;
@@ -20,28 +20,28 @@ pub const OUT_OF_RANGE: u32 = 3;
 pub const HALTED: u32 = 4;
 /// The word at pc is reserved.
 pub const RESERVED: u32 = 5;
-/// A text means nothing.
+/// A text has a fault.
 pub const NO_MEANING: u32 = 6;
-/// A task's structure stands at a wrong place.
+/// A task's structure is at a wrong address.
 pub const TASK_PLACE: u32 = 7;
 /// A task's boot code has a wrong size.
 pub const TASK_SIZE: u32 = 8;
-/// Sixteen places have a breakpoint.
+/// Sixteen addresses have a breakpoint.
 pub const BREAK_FULL: u32 = 9;
-/// The place has a breakpoint.
+/// The address has a breakpoint.
 pub const BREAK_TWICE: u32 = 10;
-/// The place has no breakpoint.
+/// The address has no breakpoint.
 pub const NO_BREAK: u32 = 11;
-/// Eight numbers stand for watches.
+/// There are eight watches.
 pub const WATCH_FULL: u32 = 12;
-/// The number stands for no watch.
+/// The number has no watch.
 pub const NO_WATCH: u32 = 13;
-/// The past holds fewer states.
+/// The history holds fewer states.
 pub const SHORT_HISTORY: u32 = 14;
 /// A buffer is too short for what there is.
 pub const NO_ROOM: u32 = 15;
 
-/// What a step answers.
+/// The status of a step.
 pub fn status_of_step(end: StepEnd) -> u32
     ensures { result ≡ step_status end }
 {
@@ -52,7 +52,7 @@ pub fn status_of_step(end: StepEnd) -> u32
     }
 }
 
-/// What going past a word answers where it can't be.
+/// The status of a word that can't be passed.
 pub fn status_of_pass(fault: PassFault) -> u32
     ensures { result ≡ pass_fault_status fault }
 {
@@ -62,7 +62,7 @@ pub fn status_of_pass(fault: PassFault) -> u32
     }
 }
 
-/// What a task's start answers where it can't be.
+/// The status of a task that can't start.
 pub fn status_of_task(fault: TaskFault) -> u32
     ensures { result ≡ task_status (Some fault) }
 {
@@ -72,7 +72,7 @@ pub fn status_of_task(fault: TaskFault) -> u32
     }
 }
 
-/// What a new breakpoint answers where it can't be.
+/// The status of a breakpoint that can't be added.
 pub fn status_of_break(fault: BreakFault) -> u32
     ensures { result ≡ fault_status (Some fault) }
 {
@@ -82,7 +82,7 @@ pub fn status_of_break(fault: BreakFault) -> u32
     }
 }
 
-/// What a new watch answers where it can't be.
+/// The status of a watch that can't be added.
 pub fn status_of_watch(fault: WatchFault) -> u32
     ensures { result ≡ watch_status (Err fault) }
 {
@@ -104,7 +104,7 @@ pub fn bank_of(number: u32) -> Option<Bank>
     }
 }
 
-/// Whether a number is a place of IMEM, a multiple of 4 below 4096.
+/// Whether a number is an address of a word of IMEM, a multiple of 4 below 4096.
 pub fn is_place(number: u32) -> bool
     ensures value { result ≡ is_place number }
     ensures below { IsTrue result → number < 4096 }

@@ -1,4 +1,4 @@
-// Steps, runs and the way back.
+// Steps, runs and steps back.
 
 ghost use Rattle.std.specs.Prelude.{◌≡◌, ◌<◌, ◌≤◌, ◌↔◌, ◌⊎◌, Some, IfSome, IfNone, IfOk, length, option_map};
 ghost use Rattle.rsp_machine.specs.Step.{step_of};
@@ -14,7 +14,7 @@ use crate::status::{NO_MACHINE, OK, OUT_OF_RANGE, SHORT_HISTORY, status_of_pass,
 use rsp_debug::BackFault;
 use std::alloc::Global;
 
-/// Makes one step. HALTED or RESERVED where the machine can't, and then nothing changes.
+/// Makes one step. HALTED or RESERVED if the machine can't, and then nothing changes.
 #[unsafe(no_mangle)]
 pub extern "C" fn rsp_step(handle: &mut Handle, alloc: Global) -> u32
     ensures none { IfNone handle.old.session (result ≡ NO_MACHINE) }
@@ -77,7 +77,7 @@ pub extern "C" fn rsp_pass(handle: &mut Handle, alloc: Global, value: u32) -> u3
     }
 }
 
-/// Goes back `n` states, 1 to 1000000. SHORT_HISTORY where the past holds fewer.
+/// Undoes `n` steps, 1 to 1000000. SHORT_HISTORY if the history holds fewer.
 #[unsafe(no_mangle)]
 pub extern "C" fn rsp_back(handle: &mut Handle, alloc: Global, n: u32) -> u32
     ensures none { IfNone handle.old.session (result ≡ NO_MACHINE) }

@@ -13,8 +13,8 @@ use crate::status::{
 };
 use std::alloc::Global;
 
-/// Gives a place of IMEM, a multiple of 4 below 4096, a breakpoint. BREAK_TWICE where it has one, BREAK_FULL where sixteen places
-/// have one.
+/// Sets a breakpoint at an address of IMEM, a multiple of 4 below 4096. BREAK_TWICE if it has one, else BREAK_FULL if sixteen addresses have
+/// one.
 #[unsafe(no_mangle)]
 pub extern "C" fn rsp_add_break(handle: &mut Handle, alloc: Global, place: u32) -> u32
     ensures none { IfNone handle.old.session (result ≡ NO_MACHINE) }
@@ -39,7 +39,7 @@ pub extern "C" fn rsp_add_break(handle: &mut Handle, alloc: Global, place: u32) 
     }
 }
 
-/// Takes the breakpoint of a place of IMEM away. NO_BREAK where it has none.
+/// Removes the breakpoint of an address of IMEM. NO_BREAK if it has none.
 #[unsafe(no_mangle)]
 pub extern "C" fn rsp_drop_break(handle: &mut Handle, alloc: Global, place: u32) -> u32
     ensures none { IfNone handle.old.session (result ≡ NO_MACHINE) }
@@ -64,8 +64,8 @@ pub extern "C" fn rsp_drop_break(handle: &mut Handle, alloc: Global, place: u32)
     }
 }
 
-/// Watches `len` bytes of DMEM from an address on, 1 to 64 of them, and tells the watch's number, the lowest that is free. WATCH_FULL
-/// where eight watches stand.
+/// Watches `len` bytes of DMEM from an address on, 1 to 64 of them, and gives the watch's number, the lowest that is free. WATCH_FULL if
+/// there are eight watches.
 #[unsafe(no_mangle)]
 pub extern "C" fn rsp_add_watch(
     handle: &mut Handle,
@@ -96,7 +96,7 @@ pub extern "C" fn rsp_add_watch(
     }
 }
 
-/// Drops the watch of a number. NO_WATCH where there is none.
+/// Removes the watch of a number. NO_WATCH if there is none.
 #[unsafe(no_mangle)]
 pub extern "C" fn rsp_drop_watch(handle: &mut Handle, alloc: Global, number: u32) -> u32
     ensures none { IfNone handle.old.session (result ≡ NO_MACHINE) }

@@ -1,4 +1,4 @@
-// Where the machine goes on: at a task, or at a place.
+// Where the machine goes on: at a task, or at an address.
 
 ghost use Rattle.std.specs.Prelude.{◌≡◌, IfSome, IfNone, option_map, if◌then◌else◌};
 ghost use Rattle.rsp_machine.specs.Host.{task_fault, tasked, with_pc};
@@ -9,8 +9,8 @@ use crate::handle::Handle;
 use crate::status::{NO_MACHINE, OK, OUT_OF_RANGE, is_place, status_of_task};
 use std::alloc::Global;
 
-/// Starts the task whose structure of 64 bytes stands at an address of the RDRAM, and empties the past. TASK_PLACE or TASK_SIZE where
-/// it can't start.
+/// Starts the task whose structure of 64 bytes is at an address of the RDRAM, and empties the history. TASK_PLACE or TASK_SIZE if it can't
+/// start.
 #[unsafe(no_mangle)]
 pub extern "C" fn rsp_task(handle: &mut Handle, alloc: Global, address: u32) -> u32
     ensures none { IfNone handle.old.session (result ≡ NO_MACHINE) }
@@ -31,7 +31,7 @@ pub extern "C" fn rsp_task(handle: &mut Handle, alloc: Global, address: u32) -> 
     }
 }
 
-/// Goes on at a place of IMEM, a multiple of 4 below 4096, and empties the past.
+/// Goes on at an address of IMEM, a multiple of 4 below 4096, and empties the history.
 #[unsafe(no_mangle)]
 pub extern "C" fn rsp_set_pc(handle: &mut Handle, alloc: Global, pc: u32) -> u32
     ensures none { IfNone handle.old.session (result ≡ NO_MACHINE) }

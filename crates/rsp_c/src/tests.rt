@@ -91,6 +91,7 @@ fn new_state() -> RspState {
             clip: 8,
             extra: 0x90,
         },
+        zero: 0x77,
         divider: RspDivideState {
             input: 3,
             output: 4,
@@ -114,6 +115,7 @@ fn a_state_goes_in_and_comes_out(rt: HostRuntime) -> Result<(), Fail> {
     assert_eq!(rt; rsp_set(&mut handle, alloc, &state), 0);
     let mut found = new_state();
     found.pc = 0;
+    found.zero = 0xee;
     found.sp[4] = 0;
     assert_eq!(rt; rsp_get(&mut handle, alloc, &mut found), 0);
     assert_eq!(rt; found.pc, 8);
@@ -122,6 +124,7 @@ fn a_state_goes_in_and_comes_out(rt: HostRuntime) -> Result<(), Fail> {
     assert_eq!(rt; found.vectors[31][7], 7);
     assert_eq!(rt; found.accumulators.high[7], 0x8000);
     assert_eq!(rt; found.flags.extra, 0x90);
+    assert_eq!(rt; found.zero, 0);
     assert_eq!(rt; found.divider.loaded, 1);
     assert_eq!(rt; found.sp[0], 0x1ff8);
     assert_eq!(rt; found.sp[2], 0x0380_0ff8);

@@ -1,10 +1,12 @@
-// Texts: from a source to words, and from words to their text.
+// Texts: from a source to words, and from words to their disassembly.
 
-ghost use Rattle.std.specs.Prelude.{◌≡◌, ◌+◌, ◌-◌, ◌*◌, ◌++◌, ◌<◌, ◌≤◌, ◌%◌, ◌↔◌, ◌⊎◌, Ok, IfSome, IfNone, MatchResult, length, take, drop, replicate};
+ghost use Rattle.std.specs.Prelude.{◌≡◌, ◌+◌, ◌-◌, ◌*◌, ◌++◌, ◌<◌, ◌≤◌, ◌%◌, ◌↔◌, ◌⊎◌, All, Ok, IfSome, IfNone, MatchResult, length, take, drop, replicate};
 ghost use Rattle.std.specs.Str.{IsUtf8};
+ghost use Rattle.std.specs.Str.Lines.{lines};
 ghost use Rattle.rsp_text.specs.Means.{means};
+ghost use Rattle.rsp_asm.specs.Answer.{HidesNoFault};
 ghost use Rattle.rsp_c.specs.Answers.{fault_number, place_status};
-ghost use Rattle.rsp_c.specs.Seen.{seen_line, seen_lines, told_words, told_fault, told_no_text};
+ghost use Rattle.rsp_c.specs.Seen.{seen_line, seen_lines, IsEnded, assembled_words, assembled_fault, assembled_no_memory, assembled_no_text};
 
 use crate::handle::Handle;
 use crate::shapes::{RspAssembled, RspLine};
@@ -20,8 +22,10 @@ use std::str;
 /// The number of the fault of a text that isn't UTF-8.
 const NOT_TEXT: u32 = 33;
 
-/// The words of a text of UTF-8 whose first word stands at `origin`, a multiple of 4 up to 4096. They are at most 1024. NO_MEANING
-/// where the text has a fault, which `out` then tells; NO_ROOM where there are more words than the buffer has.
+/// The words of a text in UTF-8, at most 1024; the first one is for the address `origin`, a multiple of 4 up to 4096. NO_MEANING if the
+/// text has a fault, which `out` then has. NO_ROOM if there are more words than the buffer has: `out` then has their count. NO_MEMORY if an
+/// allocation failed: `out` then has fault 17 and the line of the label that had no memory, and no line up to that one has a fault that is
+/// found without the other lines' labels.
 #[unsafe(no_mangle)]
 pub extern "C" fn rsp_assemble(
     alloc: Global,
@@ -34,10 +38,13 @@ pub extern "C" fn rsp_assemble(
     ensures words { result ≡ OK → means text.now origin ≡ Ok (take out.new.count words.new) }
     ensures rest { result ≡ OK → drop out.new.count words.new ≡ drop out.new.count words.old }
     ensures count { result ≡ OK → out.new.count ≤ length words.new }
-    ensures told { result ≡ OK → out.new ≡ told_words out.new.count }
-    ensures fault { result ≡ NO_MEANING → IsUtf8 text.now → MatchResult (means text.now origin) (λ _. ⊥) (λ f. out.new ≡ told_fault f) }
-    ensures no_text { ¬ (IsUtf8 text.now) → (result ≡ OUT_OF_RANGE) ⊎ ((result ≡ NO_MEANING) × (out.new ≡ told_no_text)) }
+    ensures told { result ≡ OK → out.new ≡ assembled_words out.new.count }
+    ensures fault { result ≡ NO_MEANING → IsUtf8 text.now → MatchResult (means text.now origin) (λ _. ⊥) (λ f. out.new ≡ assembled_fault f) }
+    ensures no_text { ¬ (IsUtf8 text.now) → (result ≡ OUT_OF_RANGE) ⊎ ((result ≡ NO_MEANING) × (out.new ≡ assembled_no_text)) }
     ensures room { result ≡ NO_ROOM → MatchResult (means text.now origin) (λ found. length words.old < length found) (λ _. ⊥) }
+    ensures needed { result ≡ NO_ROOM → MatchResult (means text.now origin) (λ found. out.new ≡ assembled_words (length found)) (λ _. ⊥) }
+    ensures memory { result ≡ NO_MEMORY → out.new ≡ assembled_no_memory out.new.line }
+    ensures hides { result ≡ NO_MEMORY → HidesNoFault origin (lines text.now) out.new.line }
     ensures refused { (result ≡ OK → ⊥) → words.new ≡ words.old }
     ensures answer { (result ≡ OK) ⊎ (result ≡ NO_MEMORY) ⊎ (result ≡ OUT_OF_RANGE) ⊎ (result ≡ NO_MEANING) ⊎ (result ≡ NO_ROOM) }
 {
@@ -66,21 +73,21 @@ pub extern "C" fn rsp_assemble(
         }
         Ok(found) => {
             let count = found.len();
-            if count > words.len() {
-                return NO_ROOM;
-            }
-            words[..count].copy_from_slice(found.as_slice());
             *out = RspAssembled {
                 count,
                 line: 0,
                 fault: 0,
             };
+            if count > words.len() {
+                return NO_ROOM;
+            }
+            words[..count].copy_from_slice(found.as_slice());
             OK
         }
     }
 }
 
-/// At most 64 bytes, and zeros behind them.
+/// At most 64 bytes, and zeros after them.
 fn padded(bytes: &[u8]) -> [u8; 68]
     requires { length bytes.now ≤ 64 }
     ensures { result ≡ bytes.now ++ replicate (68 - length bytes.now) 0 }
@@ -90,10 +97,11 @@ fn padded(bytes: &[u8]) -> [u8; 68]
     text
 }
 
-/// A word with its canonical text, as it stands at a place of IMEM.
+/// A word of IMEM with its disassembly.
 fn line_of(word: u32, place: u16) -> RspLine
     requires { place < 4096 }
-    ensures { result ≡ seen_line word place }
+    ensures value { result ≡ seen_line word place }
+    ensures ended { IsEnded result }
 {
     let line = text_of(word, place);
     let bytes = line.as_str().as_bytes();
@@ -106,11 +114,12 @@ fn line_of(word: u32, place: u16) -> RspLine
     }
 }
 
-/// The canonical text of a word that stands at a place of IMEM, a multiple of 4 below 4096.
+/// Disassembles a word for an address of IMEM, a multiple of 4 below 4096. The text has at most 64 bytes, and a zero after it.
 #[unsafe(no_mangle)]
 pub extern "C" fn rsp_text(word: u32, place: u32, out: &mut RspLine) -> u32
     ensures answer { result ≡ place_status place }
     ensures value { result ≡ OK → out.new ≡ seen_line word place }
+    ensures ended { result ≡ OK → IsEnded out.new }
 {
     if !is_place(place) {
         return OUT_OF_RANGE;
@@ -119,11 +128,12 @@ pub extern "C" fn rsp_text(word: u32, place: u32, out: &mut RspLine) -> u32
     OK
 }
 
-/// The words of IMEM from a place on, with their texts.
+/// The words of IMEM from an address on, with their disassembly.
 #[tactic(auto, using(crate::proofs::Lines::listing))]
 fn fill_lines(imem: &SpMem, place: u16, lines: &mut [RspLine])
     requires { place + 4 * length lines.old ≤ 4096 }
-    ensures { lines.new ≡ seen_lines imem.now place (length lines.old) }
+    ensures value { lines.new ≡ seen_lines imem.now place (length lines.old) }
+    ensures ended { All IsEnded lines.new }
 {
     for i in 0..lines.len() {
         let at = place + 4 * i as u16;
@@ -131,8 +141,8 @@ fn fill_lines(imem: &SpMem, place: u16, lines: &mut [RspLine])
     }
 }
 
-/// The words of IMEM from a place on, a multiple of 4 below 4096, as many as there are lines for them, each with its canonical text.
-/// OUT_OF_RANGE where they pass the end of IMEM.
+/// Disassembles the words of IMEM from an address on, a multiple of 4 below 4096, as many as there are lines for them. Each text has at most
+/// 64 bytes, and a zero after it. OUT_OF_RANGE if the words pass the end of IMEM.
 #[unsafe(no_mangle)]
 pub extern "C" fn rsp_listing(
     handle: &mut Handle,
@@ -144,6 +154,7 @@ pub extern "C" fn rsp_listing(
     ensures range { IfSome handle.old.session (λ d. (result ≡ OK) ↔ ((place % 4 ≡ 0) × (place < 4096) × (place + 4 * length lines.old ≤ 4096))) }
     ensures answer { IfSome handle.old.session (λ d. (result ≡ OK) ⊎ (result ≡ OUT_OF_RANGE)) }
     ensures value { result ≡ OK → IfSome handle.old.session (λ d. lines.new ≡ seen_lines d.state.imem place (length lines.old)) }
+    ensures ended { result ≡ OK → All IsEnded lines.new }
     ensures refused { (result ≡ OK → ⊥) → lines.new ≡ lines.old }
     ensures same { handle.new.session ≡ handle.old.session }
 {

@@ -1,19 +1,16 @@
 -- The registers of a state, set in that state.
-use Rattle.std.proofs.Common.{◌≡◌, ◌<◌, ◌%◌, ℕ, Bool, true, refl, ap, arith, Option, Some, None, MatchResult, IsOk, Result, Ok, Err}
+use Rattle.std.proofs.Common.{◌≡◌, ◌<◌, ◌%◌, ℕ, Bool, true, refl, ap, arith, Some, None}
 use Rattle.std.specs.Prelude.{if◌then◌else◌, not, ◌&&◌, ◌==◌, slice_index}
 use Rattle.std.proofs.lemmas.Bool.Decides.{nat_tests}
 use Rattle.rsp_numbers.specs.Numbers.{AreNumbers}
 use Rattle.rsp_acc.proofs.Rejoined.{parts_joined}
 use Rattle.rsp_machine.specs.State.{State, IsState}
-use Rattle.rsp_machine.specs.declared.registers.RegistersFault.{RegistersFault}
 use Rattle.rsp_machine.specs.declared.registers.RegistersFault.TheVariants.{Place, RegisterZero, MemoryAddress, DramAddress, Skip}
-use Rattle.rsp_machine.specs.Registers.{registers_of, with_registers, registers_fault, is_whole}
+use Rattle.rsp_machine.specs.Registers.{registers_of, with_registers, registers_fault, is_whole, SetAsRead}
 
 pub with-registers-of : (s : State) → AreNumbers s.accumulators → with_registers (registers_of s) s ≡ s
 unfolding with_registers registers_of
 with-registers-of s h = ap (λ xs. record s { accumulators = xs }) (parts_joined s.accumulators h)
-
-pub ruleset wholes = (with-registers-of)
 
 -- they have no fault
 whole_is : (step limit n : ℕ) → n < limit → n % step ≡ 0 → is_whole step limit n ≡ true
@@ -47,11 +44,7 @@ fits s h = no_fault
     (whole_is 8 16777216 s.sp.dram h.sp.kept.dram.0 h.sp.kept.dram.1)
     (whole_is 8 4096 s.sp.skip h.sp.kept.skip.0 h.sp.kept.skip.1)
 
-accepted : {X : Type 0} (r : Result X RegistersFault) (o : Option RegistersFault) → o ≡ None
-    → MatchResult r (λ _. o ≡ None) (λ f. o ≡ Some f) → IsOk r
-accepted (Ok x) o e h = refl
-accepted (Err f) o e h = cc
+pub set-as-read : SetAsRead
+set-as-read s h = (fits s h, with-registers-of s h.accumulators)
 
-pub accepted-as-read : {X : Type 0} (s : State) (r : Result X RegistersFault) → IsState s
-    → MatchResult r (λ _. registers_fault (registers_of s) ≡ None) (λ f. registers_fault (registers_of s) ≡ Some f) → IsOk r
-accepted-as-read s r h m = accepted r (registers_fault (registers_of s)) (fits s h) m
+pub ruleset wholes = (set-as-read)

@@ -10,6 +10,7 @@ pub mod Changes
 pub mod Places
 pub mod Making
 pub mod Registers
+pub mod Effects
 pub mod Transfers
 pub mod Pass
 pub mod Until

@@ -6,7 +6,7 @@ use Rattle.rsp_acc.specs.Planes.{joined}
 use Rattle.rsp_regs.specs.Parts.{parts_of, sp_of}
 use Rattle.rsp_regs.specs.Sp.{AreKept}
 use Rattle.rsp_regs.specs.declared.parts.SpParts.{SpParts}
-use Rattle.rsp_machine.specs.State.{State, IsPlace}
+use Rattle.rsp_machine.specs.State.{State, IsPlace, IsState}
 use Rattle.rsp_machine.specs.declared.registers.AllRegisters.{AllRegisters}
 use Rattle.rsp_machine.specs.declared.registers.RegistersFault.{RegistersFault}
 use Rattle.rsp_machine.specs.declared.registers.RegistersFault.TheVariants.{Place, RegisterZero, MemoryAddress, DramAddress, Skip}
@@ -64,3 +64,7 @@ registers_fault r =
     if not (is_whole 4 4096 r.pc && is_whole 4 4096 r.npc) then Some Place
     else if not (slice_index r.registers 0 == 0) then Some RegisterZero
     else sp_fault r.sp
+
+-- The registers of a machine's state have no fault, and set again in it they leave it.
+abbrev pub SetAsRead : Type 0
+SetAsRead = (s : State) → IsState s → (registers_fault (registers_of s) ≡ None) × (with_registers (registers_of s) s ≡ s)

@@ -7,6 +7,7 @@
 
 mod change;
 mod copy;
+mod effect;
 mod execute;
 mod host;
 mod lanes;
@@ -23,6 +24,7 @@ mod step;
 mod until;
 mod vector;
 
+pub use effect::Effect;
 pub use host::{RangeFault, TaskFault};
 pub use machine::Machine;
 pub use pass::PassFault;

@@ -1,0 +1,34 @@
+-- What C gets it can set, and what it sets it gets.
+use Rattle.std.specs.Prelude.{◌≡◌, ◌<◌, ℕ, List, length, slice_index}
+use Rattle.rsp_machine.specs.State.{State, IsState}
+use Rattle.rsp_machine.specs.Registers.{registers_of, with_registers}
+use Rattle.rsp_c.specs.declared.shapes.RspState.{RspState}
+use Rattle.rsp_c.specs.States.{seen_state, registers_in}
+use Rattle.rsp_c.specs.Faults.{state_fault}
+
+-- The registers of a machine, as rsp_get gives them, have no fault, and set again in it they leave it.
+abbrev pub SetAsGot : Type 0
+SetAsGot = (s : State) → IsState s
+    → (state_fault (seen_state (registers_of s) s.sp) ≡ 0)
+    × (with_registers (registers_in (seen_state (registers_of s) s.sp)) s ≡ s)
+
+-- eight numbers of sixteen bits
+abbrev pub AreHalves : List ℕ → Type 0
+AreHalves xs = (length xs ≡ 8) × ((i : ℕ) → slice_index xs i < 65536)
+
+-- the ranges of a state's numbers, which their types in C give
+pub record IsRspState (g : RspState) : Type 0 where
+  pub high : AreHalves g.accumulators.high
+  pub middle : AreHalves g.accumulators.middle
+  pub low : AreHalves g.accumulators.low
+  pub carry : g.flags.carry < 256
+  pub differ : g.flags.differ < 256
+  pub compare : g.flags.compare < 256
+  pub clip : g.flags.clip < 256
+  pub extra : g.flags.extra < 256
+  pub sp : length g.sp ≡ 16
+
+-- A state without a fault, set in a machine, is what rsp_get then gives, with 0 for `zero`.
+abbrev pub GotAsSet : Type 0
+GotAsSet = (g : RspState) (s : State) → IsRspState g → state_fault g ≡ 0
+    → seen_state (registers_of (with_registers (registers_in g) s)) (with_registers (registers_in g) s).sp ≡ record g { zero = 0 }

@@ -1,0 +1,13 @@
+//! Laws over the definitions alone.
+
+ghost use Rattle.rsp_c.specs.Laws.{SetAsGot, GotAsSet};
+
+/// What `rsp_get` gives, `rsp_set` takes, and the machine stays as it is.
+pub fn set_as_got()
+    ensures { SetAsGot }
+{}
+
+/// What `rsp_set` takes, `rsp_get` then gives, with 0 for `zero`.
+pub fn got_as_set()
+    ensures { GotAsSet }
+{}

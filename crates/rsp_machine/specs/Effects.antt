@@ -1,0 +1,49 @@
+-- Which registers an instruction writes, and where it stores: for a trace.
+use Rattle.std.specs.Prelude.{ℕ, ◌%◌, ◌==◌, Option, Some, None, if◌then◌else◌}
+use Rattle.rsp_decode.specs.declared.inst.Inst.{Inst}
+use Rattle.rsp_decode.specs.declared.inst.Inst.TheVariants.{Store, VectorStore}
+use Rattle.rsp_decode.specs.Table.{inst_of}
+use Rattle.rsp_memory.specs.Memory.{word_at}
+use Rattle.rsp_scalar.specs.Registers.{register}
+use Rattle.rsp_scalar.specs.Rows.{address}
+use Rattle.rsp_loadstore.specs.Addresses.{transfer_address}
+use Rattle.rsp_machine.specs.State.{State}
+use Rattle.rsp_machine.specs.Saved.{change_of}
+use Rattle.rsp_machine.specs.declared.change.Change.{Change}
+use Rattle.rsp_machine.specs.declared.change.Change.TheVariants as of
+use Rattle.rsp_machine.specs.declared.effect.Effect.{Effect}
+
+-- the scalar register that is written; register 0 never is
+abbrev pub unless_zero : ℕ → Option ℕ
+unless_zero n = if n == 0 then None else Some n
+
+abbrev pub scalar_of : Change → Option ℕ
+scalar_of (of.Register n) = unless_zero n
+scalar_of (of.Sp n) = unless_zero n
+scalar_of _ = None
+
+-- the vector register that is written, of a group the first
+abbrev pub vector_of : Change → Option ℕ
+vector_of (of.Vector n) = Some n
+vector_of (of.Group n) = Some n
+vector_of (of.Product n) = Some n
+vector_of (of.Low n) = Some n
+vector_of (of.Sum n) = Some n
+vector_of (of.Choice n) = Some n
+vector_of (of.Clip n) = Some n
+vector_of (of.Divide n) = Some n
+vector_of _ = None
+
+-- the address in DMEM of a store
+abbrev pub stored_at : Inst → State → Option ℕ
+stored_at (Store row f) s = Some (address s.registers f.base f.offset % 4096)
+stored_at (VectorStore row f) s = Some (transfer_address (VectorStore row f) (register s.registers f.base) % 4096)
+stored_at _ s = None
+
+abbrev pub effect_by : Option Inst → State → Effect
+effect_by None s = record { scalar = None; vector = None; address = None }
+effect_by (Some i) s = record { scalar = scalar_of (change_of i s); vector = vector_of (change_of i s); address = stored_at i s }
+
+-- which registers the word at pc writes, and where it stores
+unfoldable pub effect_of : State → Effect
+effect_of s = effect_by (inst_of (word_at s.imem s.pc)) s

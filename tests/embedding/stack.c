@@ -1,0 +1,131 @@
+/* How many bytes of stack each call of rsp.h uses. A thread gets a stack that is filled with one byte; after the call, the lowest byte that
+ * has changed shows how far it went. A thread that makes no call is the measure that is taken off. The last line is `N passed, M failed`;
+ * with an argument each call is printed. */
+#define _POSIX_C_SOURCE 200809L
+#include "rsp.h"
+#include <pthread.h>
+#include <stdio.h>
+#include <stdlib.h>
+#include <string.h>
+
+enum { SIZE = 1 << 20, FILL = 0xa5 };
+
+static rsp m = RSP_NONE, copy = RSP_NONE;
+static uint8_t *stack, bytes[4096], image[8192];
+static uint32_t words[1024], word;
+static char text[65536];
+static rsp_state state;
+static rsp_sp_words sp;
+static rsp_line lines[1024];
+static rsp_stop stop;
+static rsp_scalars scalars;
+static rsp_lanes lanes;
+static rsp_accumulators accumulators;
+static rsp_flag_bits flags;
+static rsp_divide_state divider;
+static rsp_assembled assembled;
+static size_t number;
+
+static void nothing(void) { }
+static void version(void) { word = rsp_version(); }
+static void make(void) { word = rsp_new(&m, image, sizeof image, 4096); }
+static void copied(void) { word = rsp_copy(&copy, &m); }
+static void freed(void) { rsp_free(&copy); }
+static void get(void) { word = rsp_get(&m, &state); }
+static void set(void) { word = rsp_set(&m, &state); }
+static void fault(void) { rsp_state_fault(&state, &word); }
+static void load(void) { word = rsp_load(&m, RSP_DMEM, 0, bytes, 4096); }
+static void memory(void) { word = rsp_memory(&m, RSP_DMEM, 0, bytes, 4096); }
+static void load_words(void) { word = rsp_load_words(&m, RSP_IMEM, 0, words, 1024); }
+static void memory_words(void) { word = rsp_memory_words(&m, RSP_IMEM, 0, words, 1024); }
+static void task(void) { word = rsp_task(&m, 0); }
+static void set_pc(void) { word = rsp_set_pc(&m, 0); }
+static void step(void) { word = rsp_step(&m); }
+static void back(void) { word = rsp_back(&m, 1); }
+static void pass(void) { word = rsp_pass(&m, 1); }
+static void run(void) { word = rsp_run(&m, 100000, &stop); }
+static void add_break(void) { word = rsp_add_break(&m, 4092); }
+static void add_watch(void) { word = rsp_add_watch(&m, 4032, 64, &number); }
+static void drop_break(void) { word = rsp_drop_break(&m, 4092); }
+static void drop_watch(void) { word = rsp_drop_watch(&m, 0); }
+static void reg(void) { rsp_reg(&m, 1, &word); }
+static void regs(void) { word = rsp_regs(&m, &scalars); }
+static void vreg(void) { word = rsp_vreg(&m, 1, &lanes); }
+static void acc(void) { word = rsp_acc(&m, &accumulators); }
+static void flag(void) { word = rsp_flags(&m, &flags); }
+static void divide(void) { word = rsp_divider(&m, &divider); }
+static void peek(void) { rsp_peek(&m, 4, &word); }
+static void taken(void) { rsp_read(&m, 4, &word); }
+static void transfer(void) { word = rsp_write(&m, 2, 0xfffff); }
+static void sp_words(void) { word = rsp_sp(&m, &sp); }
+static void set_sp(void) { word = rsp_set_sp(&m, &sp); }
+static void assemble(void) { word = rsp_assemble(0, (const uint8_t *)text, strlen(text), words, 1024, &assembled); }
+static void disassemble(void) { word = rsp_text(0x4a631050u, 0, lines); }
+static void listing(void) { word = rsp_listing(&m, 0, lines, 1024); }
+
+/* In an order in which they follow one another: `assemble` fills `words`, and the steps run what it made. */
+static const struct {
+    const char *name;
+    void (*made)(void);
+} calls[] = {
+    { "nothing", nothing }, { "rsp_version", version }, { "rsp_new", make }, { "rsp_assemble", assemble }, { "rsp_load_words", load_words },
+    { "rsp_load", load }, { "rsp_memory", memory }, { "rsp_memory_words", memory_words }, { "rsp_step", step }, { "rsp_run", run },
+    { "rsp_back", back }, { "rsp_add_watch", add_watch }, { "rsp_add_break", add_break }, { "rsp_run with both", run },
+    { "rsp_drop_break", drop_break }, { "rsp_drop_watch", drop_watch }, { "rsp_copy", copied }, { "rsp_free", freed }, { "rsp_get", get },
+    { "rsp_set", set }, { "rsp_state_fault", fault }, { "rsp_set_pc", set_pc }, { "rsp_pass", pass }, { "rsp_reg", reg }, { "rsp_regs", regs },
+    { "rsp_vreg", vreg }, { "rsp_acc", acc }, { "rsp_flags", flag }, { "rsp_divider", divide }, { "rsp_peek", peek }, { "rsp_read", taken },
+    { "rsp_write", transfer }, { "rsp_sp", sp_words }, { "rsp_set_sp", set_sp }, { "rsp_text", disassemble }, { "rsp_listing", listing },
+    { "rsp_task", task }
+};
+
+static void *in_thread(void *given)
+{
+    calls[*(size_t *)given].made();
+    return NULL;
+}
+
+/* How many bytes of the stack the call has changed. */
+static size_t used(size_t n)
+{
+    pthread_attr_t attr;
+    pthread_t thread;
+    size_t low = 0;
+    memset(stack, FILL, SIZE);
+    if (pthread_attr_init(&attr) || pthread_attr_setstack(&attr, stack, SIZE) || pthread_create(&thread, &attr, in_thread, &n)) exit(2);
+    pthread_join(thread, NULL);
+    while (low < SIZE && stack[low] == FILL) low++;
+    return SIZE - low;
+}
+
+/* A text of 1024 words with labels and the most expensive operands. */
+static void fill_text(void)
+{
+    size_t n, len = 0;
+    for (n = 0; n < 340; n++) {
+        len += (size_t)sprintf(text + len, "label_%u: lqv $v1[0], 16($0)\nvmudh $v2, $v1, $v1[1q]\n", (unsigned)n);
+        len += (size_t)sprintf(text + len, "beq $0, $0, label_%u\n", (unsigned)(n ? n - 1 : 0));
+    }
+}
+
+int main(int argc, char **argv)
+{
+    size_t n, most = 0, none = 0;
+    int failed = 0;
+    (void)argv;
+    image[64 + 0x08 + 2] = 1, image[0x0c + 3] = 8;
+    if (posix_memalign((void **)&stack, 4096, SIZE)) return 2;
+    fill_text();
+    for (n = 0; n < sizeof calls / sizeof *calls; n++) {
+        size_t bytes_used = used(n);
+        if (n == 0) none = bytes_used;
+        if (argc > 1) printf("%-20s %6zu, status %u\n", calls[n].name, bytes_used - none, (unsigned)word);
+        if (bytes_used - none > most) most = bytes_used - none;
+        if (bytes_used - none > RSP_STACK / 2) {
+            failed++;
+            printf("FAIL %s uses %zu bytes of stack, more than half of RSP_STACK\n", calls[n].name, bytes_used - none);
+        }
+    }
+    if (most < 512) failed++, printf("FAIL no call was seen to use stack\n");
+    printf("%d passed, %d failed\n", (int)(n - (size_t)failed), failed);
+    return failed != 0;
+}
