@@ -8,6 +8,7 @@ use crate::memory_words::rsp_load_words;
 use crate::shapes::{
     RspAccumulators, RspAssembled, RspDivideState, RspFlagBits, RspLine, RspState, RspStop,
 };
+use crate::session::Session;
 use crate::state::{rsp_get, rsp_set};
 use crate::steps::{rsp_run, rsp_step};
 use crate::texts::{rsp_assemble, rsp_text};
@@ -138,5 +139,14 @@ fn a_state_goes_in_and_comes_out(rt: HostRuntime) -> Result<(), Fail> {
     state.words[0] = 1;
     assert_eq!(rt; rsp_set(&mut handle, alloc, &state), 3);
     rsp_free(&mut handle, alloc);
+    Ok(())
+}
+
+/// Takes what may go to another thread.
+fn take_sendable<T: Send>(_value: &Option<T>) {}
+
+#[test]
+fn a_session_may_go_to_another_thread(_rt: HostRuntime) -> Result<(), Fail> {
+    take_sendable::<Session>(&None);
     Ok(())
 }
