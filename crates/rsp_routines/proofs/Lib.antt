@@ -12,3 +12,6 @@ pub mod FiltersSound
 pub mod ResamplesSound
 pub mod DotsNumbers
 pub mod ClipsNumbers
+pub mod Tails
+pub mod DotSums
+pub mod DotsBuffers
