@@ -20,7 +20,7 @@ over_plus p q = omega (arith, ints)
 pub over_same : (p q : ℕ → ℤ) → ((i : ℕ) → i < 8 → p i ≡ q i) → over p ≡ over q
 over_same p q e = rw (e 0 (omega arith), e 1 (omega arith), e 2 (omega arith), e 3 (omega arith), e 4 (omega arith), e 5 (omega arith), e 6 (omega arith), e 7 (omega arith)) refl
 
--- sums d of numbers p, of which the last h or eight stand in lanes
+-- d adds up numbers p: the last h of them, or eight, are in lanes
 tail_sums : (p d : ℕ → ℤ) (j : ℕ) → ((i : ℕ) → d (j + (i + 1)) ≡ d (j + i) +ℤ p (j + i)) → (h : ℕ) → h < 8
     → over (λ i. if nat_le (8 - h) i then p (j + (i + h - 8)) else pos 0) +ℤ d j ≡ d (j + h)
 tail_sums p d j recur = below_eight (λ h. over (λ i. if nat_le (8 - h) i then p (j + (i + h - 8)) else pos 0) +ℤ d j ≡ d (j + h))

@@ -47,7 +47,8 @@ use Rattle.rsp_microcode.proofs.Loops.{loops}
 use Rattle.rsp_microcode.proofs.Blocks.{steps_after, first_block}
 use Rattle.rsp_microcode.proofs.Joins.{blocks_join, ran_at, ran_others, pieces_ran, loop_ran}
 use Rattle.rsp_routines.specs.DotBuffers.{IsDot, DotsAll, DotsBuffers}
-use Rattle.rsp_routines.proofs.Tails.{lrv, ended_at, zeros, tail_at, right_loads}
+use Rattle.rsp_routines.proofs.RightLoads.{lrv, ended_at, right_loads}
+use Rattle.rsp_routines.proofs.Tails.{zeros, tail_at}
 use Rattle.rsp_routines.proofs.DotSums.{over, lane_product, vector_of, part, all_parts}
 
 -- the start: the ends of the buffers, zeros, and the tails
@@ -64,7 +65,7 @@ abbrev none : List Term
 none = term Vmudh 3 0 0 0 ∷ []
 
 abbrev ends : List Inst
-ends = lrv 1 5 ∷ lrv 2 6 ∷ []
+ends = lrv 1 0 5 ∷ lrv 2 0 6 ∷ []
 
 abbrev before : List Piece
 before = rows scalars ∷ rows cleared ∷ sums none ∷ rows ends ∷ []
@@ -196,18 +197,18 @@ started law s is at clear a1 a2 =
     let z = tail_of y 2 6 in
     let y1 : State = record y { pc = y.npc; npc = going_on y.npc; vectors = with_vector y.vectors 1 x } in
     let two : vector y1.vectors 2 ≡ vector y.vectors 2 = vector_reads ((1, x) ∷ []) y.vectors 2 f.count refl in
-    let made = end.ran ∙ ap (executed (lrv 2 6)) (right_loads 1 5 y f.count (ap length f.one ∙ length_each _) (omega arith) (omega arith))
-    ∙ right_loads 2 6 y1 (length-with_vector y.vectors 1 x ∙ f.count) (ap length two ∙ ap length f.two ∙ length_each _) (omega arith) (omega arith) in
+    let made = end.ran ∙ ap (executed (lrv 2 0 6)) (right_loads 1 0 5 y f.count (ap length f.one ∙ length_each _) (omega arith) (omega arith) (omega arith))
+    ∙ right_loads 2 0 6 y1 (length-with_vector y.vectors 1 x ∙ f.count) (ap length two ∙ ap length f.two ∙ length_each _) (omega arith) (omega arith) (omega arith) in
     record {
       ran = pieces_ran before_words before s _ at.next end;
-      left = ap (λ (t : State). vector t.vectors 1) made ∙ vector_reads ((1, x) ∷ (2, _) ∷ []) y.vectors 1 f.count refl ∙ ap (λ v. ended_at v y.dmem (register y.registers 5)) f.one ∙ ap (λ m. tail_at m (register y.registers 5)) f.memory ∙ ap (tail_at s.dmem) e5;
-      right = ap (λ (t : State). vector t.vectors 2) made ∙ vector_reads ((1, x) ∷ (2, _) ∷ []) y.vectors 2 f.count refl ∙ ap (λ v. ended_at v y.dmem (register y.registers 6)) (two ∙ f.two) ∙ ap (λ m. tail_at m (register y.registers 6)) f.memory ∙ ap (tail_at s.dmem) e6;
+      left = ap (λ (t : State). vector t.vectors 1) made ∙ vector_reads ((1, x) ∷ (2, _) ∷ []) y.vectors 1 f.count refl ∙ ap (λ v. ended_at v y.dmem (register y.registers 5 + 16 * 0)) f.one ∙ ap (λ m. tail_at m (register y.registers 5 + 16 * 0)) f.memory ∙ ap (tail_at s.dmem) (omega arith);
+      right = ap (λ (t : State). vector t.vectors 2) made ∙ vector_reads ((1, x) ∷ (2, _) ∷ []) y.vectors 2 f.count refl ∙ ap (λ v. ended_at v y.dmem (register y.registers 6 + 16 * 0)) (two ∙ f.two) ∙ ap (λ m. tail_at m (register y.registers 6 + 16 * 0)) f.memory ∙ ap (tail_at s.dmem) (omega arith);
       memory = ap (λ (t : State). t.dmem) made ∙ f.memory;
       sums = ap (λ (t : State). t.accumulators) made ∙ f.sums;
     }
   where
     tail_of : (y : State) (n base : ℕ) → List ℕ
-    tail_of y n base = ended_at (vector y.vectors n) y.dmem (register y.registers base)
+    tail_of y n base = ended_at (vector y.vectors n) y.dmem (register y.registers base + 16 * 0)
 
 -- a round
 counted : (t : State) → length t.registers ≡ 32 →

@@ -7,6 +7,8 @@ pub mod Tailed
 pub mod Copies
 pub mod Fills
 pub mod MixesSound
+pub mod Products
+pub mod RightLoads
 pub mod Unaligned
 pub mod FiltersSound
 pub mod ResamplesSound

@@ -1,54 +1,15 @@
 -- LRV into a register of zeros: the numbers of two bytes after the last multiple of 16.
-use Rattle.std.proofs.Common.{◌≡◌, ℕ, ◌+◌, ◌-◌, ◌*◌, ◌/◌, ◌%◌, ◌^◌, ◌<◌, ◌≤◌, ◌&&◌, Bool, true, false, min, List, length, get_or, nat_le, nat_lt, ap, sym, ◌∙◌, refl, arith, inl, inr}
+use Rattle.std.proofs.Common.{◌≡◌, ℕ, ◌+◌, ◌-◌, ◌*◌, ◌/◌, ◌%◌, ◌<◌, ◌≤◌, ◌&&◌, Bool, true, false, List, get_or, nat_le, nat_lt, ◌∙◌, refl, arith, inl, inr}
 use Rattle.std.specs.Prelude.{if◌then◌else◌, ◌==◌}
 use Rattle.std.proofs.lemmas.Bool.{cases_lt, le-leb, lt-leb}
 use Rattle.std.proofs.lemmas.Bool.Decides.{nat_tests}
 use Rattle.rsp_memory.specs.Memory.{half_at, byte_at, bytes_at}
-use Rattle.rsp_decode.specs.declared.inst.Inst.{Inst}
-use Rattle.rsp_decode.specs.declared.inst.Inst.TheVariants.{VectorLoad}
-use Rattle.rsp_rows.specs.declared.vector.VectorLoadRow.TheVariants.{Lrv}
 use Rattle.rsp_lanes.specs.Lanes.{each_lane, register_byte}
-use Rattle.rsp_lanes.specs.Bytes.{of_bytes, with_register_bytes}
+use Rattle.rsp_lanes.specs.Bytes.{of_bytes}
 use Rattle.rsp_lanes.proofs.Kit.{lane_of}
-use Rattle.rsp_scalar.specs.Registers.{register}
-use Rattle.rsp_scalar.specs.Flow.{going_on}
-use Rattle.rsp_loadstore.specs.File.{vector, with_vector}
-use Rattle.rsp_loadstore.specs.Addresses.{transfer_address}
-use Rattle.rsp_loadstore.specs.Pairs.{for_each, line}
-use Rattle.rsp_loadstore.specs.Loads.{to_byte, after_load, load_pairs, loaded_file}
-use Rattle.rsp_loadstore.proofs.Placed.{placed_loaded, window_byte}
-use Rattle.rsp_machine.specs.State.{State}
-use Rattle.rsp_machine.specs.Step.{executed, worked}
-use Rattle.rsp_machine.specs.Vector.{loads_vector}
-
-abbrev pub lrv : ℕ → ℕ → Inst
-lrv vt base = VectorLoad Lrv (record { vt = vt; element = 0; offset = 0; base = base })
-
--- the register v after LRV from e
-abbrev pub ended_at : List ℕ → List ℕ → ℕ → List ℕ
-ended_at v m e = with_register_bytes v (bytes_at m (line e) 16) (16 - e % 16 + 0) (e % 16 - 0)
-
-address : (vt base value : ℕ) → value < 2 ^ 32 → transfer_address (lrv vt base) value ≡ value
-unfolding transfer_address
-address vt base value h = omega arith
-
-load_is : (m : List ℕ) (file : List (List ℕ)) (vt e : ℕ) → vt < length file → length (vector file vt) ≡ 8
-    → after_load m file (load_pairs Lrv vt 0 e) ≡ with_vector file vt (ended_at (vector file vt) m e)
-unfolding load_pairs
-load_is m file vt e h l =
-    let n : e % 16 - 0 ≡ min (e % 16 - 0) (16 - (16 - e % 16 + 0)) = omega arith in
-    ap (λ n. after_load m file (for_each n (λ k. to_byte vt (16 - e % 16 + 0 + k) (line e + k)))) n
-    ∙ sym (placed_loaded m file vt (16 - e % 16 + 0) (e % 16 - 0) (line e) h l (omega arith))
-
-pub right_loads : (vt base : ℕ) (s : State) → length s.vectors ≡ 32 → length (vector s.vectors vt) ≡ 8 → vt < 32 → register s.registers base < 2 ^ 32
-    → executed (lrv vt base) s ≡ record s { pc = s.npc; npc = going_on s.npc; vectors = with_vector s.vectors vt (ended_at (vector s.vectors vt) s.dmem (register s.registers base)) }
-unfolding executed worked loads_vector loaded_file
-right_loads vt base s count eight h small =
-    let b = register s.registers base in
-    ap (λ v. let t : State = record s { pc = s.npc; npc = going_on s.npc; vectors = v } in t) (
-    ap (λ a. after_load s.dmem s.vectors (load_pairs Lrv vt 0 a)) (address vt base b small)
-    ∙ load_is s.dmem s.vectors vt b (omega arith) eight
-    )
+use Rattle.rsp_loadstore.specs.Pairs.{line}
+use Rattle.rsp_loadstore.proofs.Placed.{window_byte}
+use Rattle.rsp_routines.proofs.RightLoads.{ended_at}
 
 -- the tail of a buffer that ends at e
 abbrev pub zeros : List ℕ
