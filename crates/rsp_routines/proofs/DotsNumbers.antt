@@ -1,6 +1,5 @@
 -- The dot product of two vectors of eight numbers.
-use Rattle.std.proofs.Common.{◌≡◌, ℕ, ◌+◌, ◌-◌, ◌*◌, ◌^◌, ◌<◌, ℤ, pos, negsuc, ◌+ℤ◌, ◌*ℤ◌, List, [], ◌∷◌, length, get_or, map, Some, refl, ap, sym, subst, ◌∙◌, arith, inl, inr}
-use Rattle.std.specs.Prelude.{◌≤ℤ◌}
+use Rattle.std.proofs.Common.{◌≡◌, ℕ, ◌+◌, ◌*◌, ◌^◌, ◌<◌, ℤ, pos, ◌+ℤ◌, ◌*ℤ◌, List, [], ◌∷◌, length, get_or, map, Some, refl, ap, sym, subst, ◌∙◌, arith, inl, inr}
 use Rattle.std.proofs.Math.IntN.{+ℤ_idl}
 use Rattle.std.proofs.lemmas.Int.{ints}
 use Rattle.std.proofs.lemmas.Bool.{cases_lt}
@@ -17,7 +16,6 @@ use Rattle.rsp_lanes.proofs.Products.{high_vector}
 use Rattle.rsp_acc.proofs.Rejoined.{parts_again}
 use Rattle.rsp_multiply.specs.Laws.{SumsOfProducts}
 use Rattle.rsp_multiply.specs.Rows.{signed_by_unsigned, signed_times_65536, sar_of}
-use Rattle.rsp_multiply.proofs.Signs.{signed}
 use Rattle.rsp_loadstore.specs.File.{vector, with_vector}
 use Rattle.rsp_machine.specs.State.{State, IsState}
 use Rattle.rsp_machine.specs.Step.{executed, worked}
@@ -30,6 +28,7 @@ use Rattle.rsp_microcode.proofs.Registers.{vector_reads, length-with_vector}
 use Rattle.rsp_microcode.proofs.RangesOfParts.{sixteen_small, wraps}
 use Rattle.rsp_microcode.proofs.Fixed.{itself, fixed_parts, fixed_sum}
 use Rattle.rsp_microcode.proofs.Pieces.{pieces_run}
+use Rattle.rsp_routines.proofs.Products.{IsBelow, below}
 use Rattle.rsp_routines.specs.DotProduct.{product, DotsNumbers}
 
 abbrev words : List ℕ
@@ -64,13 +63,6 @@ unfolding inst_of row_of
 decoded = refl
 
 -- a product, by the high and the middle sixteen bits of its accumulator
-record IsBelow (z : ℤ) : Type 0 where
-  low : negsuc (2 ^ 30 - 1) ≤ℤ z
-  high : z ≤ℤ pos (2 ^ 30)
-
-below : (a b : ℕ) → a < 65536 → b < 65536 → IsBelow (s16 a *ℤ s16 b)
-below a b h k = let p = (signed a b h k).1 in record { low = p.low; high = p.high }
-
 signed_is : (n i j : ℕ) (p : ℤ) → n < 2 ^ 32 → IsBelow p → pos n +ℤ pos (i * 2 ^ 32) ≡ p +ℤ pos (j * 2 ^ 32) → s32 n ≡ p
 signed_is n i j p h b e =
     let b0 = b.low in

@@ -1,8 +1,8 @@
 -- A filter of four coefficients.
-use Rattle.std.proofs.Common.{◌≡◌, ℕ, ◌+◌, ◌-◌, ◌*◌, ◌/◌, ◌%◌, ◌^◌, ◌<◌, ℤ, pos, negsuc, ◌+ℤ◌, ◌*ℤ◌, List, [], ◌∷◌, length, get_or, map, take, Some, refl, ap, sym, subst, ◌∙◌, arith, inl, inr}
-use Rattle.std.specs.Prelude.{int_lt, ◌≤ℤ◌}
+use Rattle.std.proofs.Common.{◌≡◌, ℕ, ◌+◌, ◌*◌, ◌/◌, ◌%◌, ◌^◌, ◌<◌, ℤ, pos, ◌+ℤ◌, ◌*ℤ◌, List, [], ◌∷◌, length, get_or, map, take, Some, refl, ap, sym, subst, ◌∙◌, arith, inl, inr}
+use Rattle.std.specs.Prelude.{int_lt}
 use Rattle.std.proofs.lemmas.Int.{ints}
-use Rattle.rsp_numbers.specs.Numbers.{s16, s32, s48, sixteen_bits, clamp16, floor_div}
+use Rattle.rsp_numbers.specs.Numbers.{s32, s48, sixteen_bits, clamp16, floor_div}
 use Rattle.rsp_numbers.proofs.Wrap.{s48_is}
 use Rattle.rsp_decode.specs.declared.inst.Inst.{Inst}
 use Rattle.rsp_decode.specs.declared.inst.Inst.TheVariants.{Immediate, BranchSign}
@@ -17,7 +17,6 @@ use Rattle.rsp_acc.specs.Parts.{clamp_of}
 use Rattle.rsp_acc.specs.declared.parts.Clamp.TheVariants.{Signed}
 use Rattle.rsp_multiply.specs.Laws.{SumsOfProducts}
 use Rattle.rsp_multiply.specs.Rows.{rounded, fraction}
-use Rattle.rsp_multiply.proofs.Signs.{signed}
 use Rattle.rsp_scalar.specs.Registers.{register}
 use Rattle.rsp_scalar.specs.Flow.{going_on}
 use Rattle.rsp_loadstore.specs.File.{IsFile, vector, with_vector}
@@ -38,10 +37,12 @@ use Rattle.rsp_microcode.proofs.LoadRuns.{file_written}
 use Rattle.rsp_microcode.proofs.Bytes.{has_bytes, lanes_are, same_lanes}
 use Rattle.rsp_microcode.proofs.Buffers.{filled_none, filled_one}
 use Rattle.rsp_microcode.proofs.Joins.{ran_others}
+use Rattle.rsp_routines.proofs.Products.{IsBelow, below}
 use Rattle.rsp_routines.specs.Areas.{vectors_for}
 use Rattle.rsp_routines.specs.FourTaps.{filtered, IsFilter, Filters, FiltersSound}
 use Rattle.rsp_routines.proofs.Bytes.{lane_half}
-use Rattle.rsp_routines.proofs.Unaligned.{lrv, whole_loads}
+use Rattle.rsp_routines.proofs.RightLoads.{lrv}
+use Rattle.rsp_routines.proofs.Unaligned.{whole_loads}
 use Rattle.rsp_routines.proofs.Tailed.{tailed_words, tailed, more, buffer_of}
 
 abbrev loads : List WholeLoad
@@ -52,7 +53,7 @@ abbrev addresses : List Inst
 addresses = Immediate Addiu 6 1 2 ∷ Immediate Addiu 7 1 4 ∷ Immediate Addiu 8 1 6 ∷ []
 
 abbrev others : List Inst
-others = lqv 2 0 6 ∷ lrv 2 6 ∷ lqv 3 0 7 ∷ lrv 3 7 ∷ lqv 4 0 8 ∷ lrv 4 8 ∷ []
+others = lqv 2 0 6 ∷ lrv 2 1 6 ∷ lqv 3 0 7 ∷ lrv 3 1 7 ∷ lqv 4 0 8 ∷ lrv 4 1 8 ∷ []
 
 abbrev counts : List Inst
 counts = Immediate Addiu 4 4 0xfff0 ∷ Immediate Addiu 1 1 16 ∷ []
@@ -79,13 +80,6 @@ abbrev so_far : List ℕ → List ℕ → List ℕ → List ℕ → List ℕ →
 so_far w x y z c i =
     (((pos 0 +ℤ rounded (get_or w i 0) (get_or (selected c 8) i 0)) +ℤ fraction (get_or x i 0) (get_or (selected c 9) i 0))
     +ℤ fraction (get_or y i 0) (get_or (selected c 10) i 0)) +ℤ fraction (get_or z i 0) (get_or (selected c 11) i 0)
-
-record IsBelow (z : ℤ) : Type 0 where
-  low : negsuc (2 ^ 30 - 1) ≤ℤ z
-  high : z ≤ℤ pos (2 ^ 30)
-
-below : (a b : ℕ) → a < 65536 → b < 65536 → IsBelow (s16 a *ℤ s16 b)
-below a b h k = let p = (signed a b h k).1 in record { low = p.low; high = p.high }
 
 in_range : (p q r s : ℤ) → IsBelow p → IsBelow q → IsBelow r → IsBelow s
     → s48 ((((pos 0 +ℤ (pos 2 *ℤ p +ℤ pos 32768)) +ℤ pos 2 *ℤ q) +ℤ pos 2 *ℤ r) +ℤ pos 2 *ℤ s) ≡ (((pos 2 *ℤ p +ℤ pos 32768) +ℤ pos 2 *ℤ q) +ℤ pos 2 *ℤ r) +ℤ pos 2 *ℤ s
@@ -132,8 +126,8 @@ three_loads w is bytes a6 a7 a8 =
     let is3 : IsFile f3 = file_written f2 3 (at 7) (omega arith) (lanes_are w.dmem _ bytes) is2 in
     let w2 : State = record w { pc = going_on w.npc; npc = going_on (going_on w.npc); vectors = f2 } in
     let w3 : State = record w2 { pc = going_on w2.npc; npc = going_on (going_on w2.npc); vectors = f3 } in
-    ap (λ (x : State). executed (lrv 4 8) (executed (lqv 4 0 8) (executed (lrv 3 7) (executed (lqv 3 0 7) x)))) (whole_loads 2 6 w is bytes (omega arith) a6)
-    ∙ ap (λ (x : State). executed (lrv 4 8) (executed (lqv 4 0 8) x)) (whole_loads 3 7 w2 is2 bytes (omega arith) a7)
+    ap (λ (x : State). executed (lrv 4 1 8) (executed (lqv 4 0 8) (executed (lrv 3 1 7) (executed (lqv 3 0 7) x)))) (whole_loads 2 6 w is bytes (omega arith) a6)
+    ∙ ap (λ (x : State). executed (lrv 4 1 8) (executed (lqv 4 0 8) x)) (whole_loads 3 7 w2 is2 bytes (omega arith) a7)
     ∙ whole_loads 4 8 w3 is3 bytes (omega arith) a8
 
 -- vector k of the samples from the one j later on, of the filtered ones, and what holds after k rounds

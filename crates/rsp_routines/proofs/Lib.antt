@@ -7,8 +7,13 @@ pub mod Tailed
 pub mod Copies
 pub mod Fills
 pub mod MixesSound
+pub mod Products
+pub mod RightLoads
 pub mod Unaligned
 pub mod FiltersSound
 pub mod ResamplesSound
 pub mod DotsNumbers
 pub mod ClipsNumbers
+pub mod Tails
+pub mod DotSums
+pub mod DotsBuffers

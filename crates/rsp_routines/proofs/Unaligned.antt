@@ -1,60 +1,29 @@
 -- LQV and LRV together: eight lanes at any address.
-use Rattle.std.proofs.Common.{◌≡◌, ℕ, ◌+◌, ◌-◌, ◌*◌, ◌%◌, ◌^◌, ◌<◌, ◌&&◌, min, List, length, get_or, nat_le, nat_lt, ap, sym, ◌∙◌, refl, arith, inl, inr}
+use Rattle.std.proofs.Common.{◌≡◌, ℕ, ◌+◌, ◌-◌, ◌*◌, ◌%◌, ◌^◌, ◌<◌, ◌&&◌, List, length, get_or, nat_le, nat_lt, ap, ◌∙◌, refl, arith, inl, inr}
 use Rattle.std.specs.Prelude.{if◌then◌else◌}
 use Rattle.std.proofs.lemmas.Bool.{cases_lt}
 use Rattle.std.proofs.lemmas.Bool.Decides.{nat_tests}
 use Rattle.std.proofs.lemmas.List.{set-set}
 use Rattle.rsp_memory.specs.Memory.{half_at, byte_at, bytes_at}
-use Rattle.rsp_decode.specs.declared.inst.Inst.{Inst}
-use Rattle.rsp_decode.specs.declared.inst.Inst.TheVariants.{VectorLoad}
-use Rattle.rsp_decode.specs.declared.vector.VectorLoadRow.TheVariants.{Lrv}
 use Rattle.rsp_lanes.specs.Lanes.{register_byte, IsVector}
-use Rattle.rsp_lanes.specs.Bytes.{of_bytes, with_register_bytes}
+use Rattle.rsp_lanes.specs.Bytes.{of_bytes}
 use Rattle.rsp_lanes.proofs.Kit.{each_same, length_each}
 use Rattle.rsp_scalar.specs.Registers.{register}
 use Rattle.rsp_scalar.specs.Flow.{going_on}
 use Rattle.rsp_loadstore.specs.File.{IsFile, vector, with_vector}
-use Rattle.rsp_loadstore.specs.Addresses.{transfer_address}
-use Rattle.rsp_loadstore.specs.Pairs.{for_each, line}
-use Rattle.rsp_loadstore.specs.Loads.{to_byte, after_load, load_pairs, loaded_file}
-use Rattle.rsp_loadstore.proofs.Placed.{placed_loaded, window_byte}
+use Rattle.rsp_loadstore.specs.Pairs.{line}
+use Rattle.rsp_loadstore.proofs.Placed.{window_byte}
 use Rattle.rsp_machine.specs.State.{State}
-use Rattle.rsp_machine.specs.Step.{executed, worked}
-use Rattle.rsp_machine.specs.Vector.{loads_vector}
+use Rattle.rsp_machine.specs.Step.{executed}
 use Rattle.rsp_microcode.specs.Lanes.{lqv, lanes_at, HasBytes}
 use Rattle.rsp_microcode.proofs.Registers.{length-with_vector}
 use Rattle.rsp_microcode.proofs.Multiplies.{read_same}
+use Rattle.rsp_routines.proofs.RightLoads.{lrv, ended_at, right_loads}
 use Rattle.rsp_routines.proofs.Saving.{reach, saved, saves, saved_byte}
-
--- LQV and then LRV sixteen bytes further: the eight lanes at any address
-abbrev pub lrv : ℕ → ℕ → Inst
-lrv vt base = VectorLoad Lrv (record { vt = vt; element = 0; offset = 1; base = base })
 
 -- the register v after LRV from a + 16
 abbrev completed : List ℕ → List ℕ → ℕ → List ℕ
-completed v m a = with_register_bytes v (bytes_at m (line (a + 16)) 16) (16 - (a + 16) % 16 + 0) ((a + 16) % 16 - 0)
-
-rest_address : (vt base value : ℕ) → value + 16 < 2 ^ 32 → transfer_address (lrv vt base) value ≡ value + 16
-unfolding transfer_address
-rest_address vt base value h = omega arith
-
-rest_is : (m : List ℕ) (file : List (List ℕ)) (vt a : ℕ) → vt < length file → length (vector file vt) ≡ 8
-    → after_load m file (load_pairs Lrv vt 0 (a + 16)) ≡ with_vector file vt (completed (vector file vt) m a)
-unfolding load_pairs
-rest_is m file vt a h l =
-    let n : (a + 16) % 16 - 0 ≡ min ((a + 16) % 16 - 0) (16 - (16 - (a + 16) % 16 + 0)) = omega arith in
-    ap (λ n. after_load m file (for_each n (λ k. to_byte vt (16 - (a + 16) % 16 + 0 + k) (line (a + 16) + k)))) n
-    ∙ sym (placed_loaded m file vt (16 - (a + 16) % 16 + 0) ((a + 16) % 16 - 0) (line (a + 16)) h l (omega arith))
-
-rest_loads : (vt base : ℕ) (s : State) → length s.vectors ≡ 32 → length (vector s.vectors vt) ≡ 8 → vt < 32 → register s.registers base + 16 < 2 ^ 32
-    → executed (lrv vt base) s ≡ record s { pc = s.npc; npc = going_on s.npc; vectors = with_vector s.vectors vt (completed (vector s.vectors vt) s.dmem (register s.registers base)) }
-unfolding executed worked loads_vector loaded_file
-rest_loads vt base s count eight h small =
-    let b = register s.registers base in
-    ap (λ v. let t : State = record s { pc = s.npc; npc = going_on s.npc; vectors = v } in t) (
-    ap (λ a. after_load s.dmem s.vectors (load_pairs Lrv vt 0 a)) (rest_address vt base b small)
-    ∙ rest_is s.dmem s.vectors vt b (omega arith) eight
-    )
+completed v m a = ended_at v m (a + 16)
 
 lanes_whole : (f : ℕ → ℕ) (m : List ℕ) (a : ℕ) → ((k : ℕ) → k < 16 → f k ≡ byte_at m (a + k)) → of_bytes f ≡ lanes_at m a
 unfolding of_bytes lanes_at half_at
@@ -90,7 +59,7 @@ unfolding with_vector
 written_twice file n v w = set-set file n v w
 
 pub whole_loads : (vt base : ℕ) (s : State) → IsFile s.vectors → HasBytes s.dmem → vt < 32 → register s.registers base + 16 < 2 ^ 32
-    → executed (lrv vt base) (executed (lqv vt 0 base) s)
+    → executed (lrv vt 1 base) (executed (lqv vt 0 base) s)
     ≡ record s { pc = going_on s.npc; npc = going_on (going_on s.npc); vectors = with_vector s.vectors vt (lanes_at s.dmem (register s.registers base)) }
 whole_loads vt base s is small h low =
     let b = register s.registers base in
@@ -99,8 +68,8 @@ whole_loads vt base s is small h low =
     let t : State = record s { pc = s.npc; npc = going_on s.npc; vectors = with_vector s.vectors vt w } in
     let count : length (with_vector s.vectors vt w) ≡ 32 = length-with_vector s.vectors vt w ∙ is.count in
     let same : vector (with_vector s.vectors vt w) vt ≡ w = read_same s.vectors vt w (omega (arith, is.count)) in
-    ap (executed (lrv vt base)) (saves vt base s is h (omega arith))
-    ∙ rest_loads vt base t count (ap length same ∙ length_of_bytes _) h low
+    ap (executed (lrv vt 1 base)) (saves vt base s is h (omega arith))
+    ∙ right_loads vt 1 base t count (ap length same ∙ length_of_bytes _) h (omega arith) low
     ∙ ap (λ f. let u : State = record s { pc = going_on s.npc; npc = going_on (going_on s.npc); vectors = f } in u) (
     written_twice s.vectors vt w _ ∙ ap (with_vector s.vectors vt) (ap (λ x. completed x s.dmem b) same ∙ both_loads v s.dmem b (is.registers vt h) small)
     )

@@ -10,3 +10,4 @@ pub mod FourTaps
 pub mod Resampling
 pub mod DotProduct
 pub mod ClipCodes
+pub mod DotBuffers

@@ -4,6 +4,7 @@
 //! what steps over them do, from every state that meets the premises.
 #![tactic(auto)]
 
+mod buffer_dots;
 mod clipping;
 mod copying;
 mod dots;
@@ -16,6 +17,7 @@ mod running;
 mod sound_mixing;
 mod transforming;
 
+pub use buffer_dots::dot_buffers;
 pub use clipping::clip_codes;
 pub use copying::copy_bytes;
 pub use dots::dot_product;
