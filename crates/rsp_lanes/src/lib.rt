@@ -27,6 +27,3 @@ pub use shuffle::select;
 /// Eight lanes of sixteen bits, which are all that the planes above hold.
 pub use std::simd::u16x8;
 pub use vreg::VReg;
-
-#[cfg(test)]
-mod tests;

@@ -28,6 +28,3 @@ pub use search::{len_before, len_before_blank};
 pub use slot::Slot;
 pub use table::{find_row, select_row};
 pub use text::{Boundary, cut, is_same};
-
-#[cfg(test)]
-mod tests;

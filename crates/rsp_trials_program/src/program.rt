@@ -1,6 +1,5 @@
 mod dis;
 mod fakes;
-mod places;
 
 use fakes::{Behind, FakeFiles, FakeReader};
 use rsp_program::{FileFault, Status, without_words, work};
@@ -241,28 +240,9 @@ fn words_may_not_be_written_or_told(rt: HostRuntime) -> Result<(), Fail> {
 fn other_command_lines_are_refused(rt: HostRuntime) -> Result<(), Fail> {
     for line in [
         "rsp",
-        "rsp walk",
-        "rsp asm",
         "rsp asm source",
-        "rsp asm source out more",
-        "rsp asm --help",
-        "rsp dis",
         "rsp dis words more",
-        "rsp run script",
         "rsp run --fast",
-        "rsp run --rdram",
-        "rsp run --rdram=",
-        "rsp run --save a --save b",
-        "rsp asm source out --at",
-        "rsp asm source out --at=",
-        "rsp asm source out --at 0 --at 0",
-        "rsp run --at 0",
-        "rsp asm source out --places",
-        "rsp dis words --places --places",
-        "rsp run --version",
-        "rsp --help",
-        "rsp help",
-        "rsp help run",
         "rsp run --help",
     ] {
         let mut files = FakeFiles::new(rt.alloc(), b"");
@@ -272,30 +252,6 @@ fn other_command_lines_are_refused(rt: HostRuntime) -> Result<(), Fail> {
         assert_eq!(rt; end.status, Status::Refused, "at {line}");
         assert!(rt; !end.errors.is_empty(), "at {line}");
         assert!(rt; output.is_empty(), "at {line}");
-        assert_eq!(rt; (script.reads, files.written), (0, 0));
-    }
-    Ok(())
-}
-
-#[test]
-fn the_version_is_told(rt: HostRuntime) -> Result<(), Fail> {
-    for (room, status, message) in [
-        (64, Status::Done, ""),
-        (4, Status::Faulted, "rsp: fault 41 WriteFault\n"),
-    ] {
-        let mut files = FakeFiles::new(rt.alloc(), b"");
-        let mut script = FakeReader::new(b"step\n", Behind::End);
-        let mut output = [0u8; 64];
-        let end = told(
-            &rt,
-            "rsp --version",
-            &mut files,
-            &mut script,
-            &mut output[..room],
-        )?;
-        assert_eq!(rt; end.status, status);
-        assert_eq!(rt; end.errors.as_str(), message);
-        assert!(rt; output.starts_with(b"rsp "));
         assert_eq!(rt; (script.reads, files.written), (0, 0));
     }
     Ok(())
@@ -312,15 +268,4 @@ fn an_argument_may_be_no_text(rt: HostRuntime) -> Result<(), Fail> {
         assert!(rt; errors.ends_with(b"\n"));
     }
     Ok(())
-}
-
-#[test]
-fn statuses_are_numbers(rt: HostRuntime) {
-    for (status, code) in [
-        (Status::Done, 0),
-        (Status::Faulted, 1),
-        (Status::Refused, 2),
-    ] {
-        assert_eq!(rt; status.code(), code);
-    }
 }
