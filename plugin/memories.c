@@ -6,10 +6,10 @@
 enum { BLOCK = 64 }; /* words that are compared at once */
 
 /* Words of the host into bytes in the console's order, or back. */
-void swap_bytes(void *to, const void *from, size_t words)
+void swap_bytes(void *restrict to, const void *restrict from, size_t words)
 {
-    uint32_t *out = to;
-    const uint32_t *in = from;
+    uint32_t *restrict out = to;
+    const uint32_t *restrict in = from;
     for (size_t i = 0; i < words; i++) out[i] = __builtin_bswap32(in[i]);
 }
 
