@@ -6,10 +6,10 @@
 enum { BLOCK = 64 }; /* words that are compared at once */
 
 /* Words of the host into bytes in the console's order, or back. */
-void swap_bytes(void *to, const void *from, size_t words)
+void swap_bytes(void *restrict to, const void *restrict from, size_t words)
 {
-    uint32_t *out = to;
-    const uint32_t *in = from;
+    uint32_t *restrict out = to;
+    const uint32_t *restrict in = from;
     for (size_t i = 0; i < words; i++) out[i] = __builtin_bswap32(in[i]);
 }
 
@@ -61,13 +61,15 @@ dma_rows rows_of(uint32_t address, uint32_t length_word)
     return (dma_rows){ address, len, len + skip, count };
 }
 
-/* The part of a row that is in RDRAM. Addresses wrap at 16 MB, so a row that begins past the end of RDRAM may come round to its begin. */
-static span inside(const rsp_unit *unit, uint32_t address, uint32_t len)
+/* The part of a row that is in an RDRAM of this size. Addresses wrap at 16 MB, so a row that begins past the end of RDRAM may come round to its begin.
+ * Returns the length. */
+uint32_t row_inside(size_t rdram_size, uint32_t address, uint32_t len, uint32_t *from)
 {
-    uint32_t size = (uint32_t)unit->rdram_size, wrap = 1 << 24;
-    if (address + len > wrap) return (span){ 0, address + len - wrap };
-    if (address >= size) return (span){ 0, 0 };
-    return (span){ address, address + len > size ? size - address : len };
+    uint32_t size = (uint32_t)rdram_size, wrap = 1 << 24;
+    *from = address + len > wrap ? 0 : address;
+    if (address + len > wrap) return address + len - wrap;
+    if (address >= size) return 0;
+    return address + len > size ? size - address : len;
 }
 
 /* Brings the machine's RDRAM up to date where a DMA reads it. */
@@ -76,10 +78,10 @@ void rows_in(rsp_unit *unit, dma_rows rows)
     uint32_t address = rows.address;
     for (uint32_t row = 0; row < rows.count; row++, address = (address + rows.stride) & 0xffffff) {
         uint8_t bytes[4 * MEMORY_WORDS];
-        span it = inside(unit, address, rows.len);
-        if (!it.len) continue;
-        swap_bytes(bytes, unit->memory[RSP_RDRAM] + it.first / 4, it.len / 4);
-        rsp_load(&unit->machine, RSP_RDRAM, it.first, bytes, it.len);
+        uint32_t from, len = row_inside(unit->rdram_size, address, rows.len, &from);
+        if (!len) continue;
+        swap_bytes(bytes, unit->memory[RSP_RDRAM] + from / 4, len / 4);
+        rsp_load(&unit->machine, RSP_RDRAM, from, bytes, len);
     }
 }
 
@@ -89,10 +91,10 @@ void rows_out(rsp_unit *unit, dma_rows rows)
     uint32_t address = rows.address;
     for (uint32_t row = 0; row < rows.count; row++, address = (address + rows.stride) & 0xffffff) {
         uint8_t bytes[4 * MEMORY_WORDS];
-        span it = inside(unit, address, rows.len);
-        if (!it.len) continue;
-        if (unit->storing) unit->storing(it.first, it.len);
-        rsp_memory(&unit->machine, RSP_RDRAM, it.first, bytes, it.len);
-        swap_bytes(unit->memory[RSP_RDRAM] + it.first / 4, bytes, it.len / 4);
+        uint32_t from, len = row_inside(unit->rdram_size, address, rows.len, &from);
+        if (!len) continue;
+        if (unit->storing) unit->storing(from, len);
+        rsp_memory(&unit->machine, RSP_RDRAM, from, bytes, len);
+        swap_bytes(unit->memory[RSP_RDRAM] + from / 4, bytes, len / 4);
     }
 }

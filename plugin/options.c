@@ -73,7 +73,8 @@ static void read_text(char *to, size_t size, void *section, const char *name, co
     snprintf(to, size, "%s", core_calls.get_text(section, name));
 }
 
-/* Reads the section. If the user has none yet, it is written with the defaults, so that he finds them. */
+/* Reads the section. If the user has none yet, it is written with the defaults, so that he finds them; not in check mode, which no later run should begin
+ * in unasked. */
 static void read_section(void *section)
 {
     float version;
@@ -86,7 +87,7 @@ static void read_section(void *section)
     read_text(options.check_against, sizeof options.check_against, section, "CheckAgainst", "", "File of another RSP plugin to be checked task by task; empty for none");
     read_text(options.check_folder, sizeof options.check_folder, section, "CheckFolder", ".", "Folder for the reports of differences");
     options.check_addresses = read_bool(section, "CheckAddresses", 1, "Whether SP_MEM_ADDR and SP_DRAM_ADDR are compared");
-    if (is_new) core_calls.save("Rsp-Proved");
+    if (is_new && !*options.check_against) core_calls.save("Rsp-Proved");
 }
 
 /* The bytes of RDRAM that the open ROM has. */

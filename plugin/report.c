@@ -91,11 +91,14 @@ static void write_pc(FILE *out, const rsp_state *s, const uint32_t *imem)
     write_loads(out, "imem", before, imem + before / 4, 1);
 }
 
-/* The bytes of RDRAM that a DMA will read. */
+/* The bytes of RDRAM that a DMA will read. Bytes past the end of RDRAM read 0. */
 static void write_rows(FILE *out, const difference *it)
 {
     uint32_t address = it->rows.address;
-    for (uint32_t row = 0; row < it->rows.count; row++, address += it->rows.stride) write_loads(out, "rdram", address, it->rdram + address / 4, it->rows.len / 4);
+    for (uint32_t row = 0; row < it->rows.count; row++, address = (address + it->rows.stride) & 0xffffff) {
+        uint32_t from, len = row_inside(other.rdram_size, address, it->rows.len, &from);
+        if (len) write_loads(out, "rdram", from, it->rdram + from / 4, len / 4);
+    }
 }
 
 /* The quadwords of DMEM that differ, from the first one to the last, at most SHOWN bytes. */
