@@ -40,6 +40,11 @@ static void emulate(emulator *e)
     e->pc = place, e->npc = next;
 }
 
+static int is_equal(const emulator *e, const rsp_scalars *now)
+{
+    return memcmp(e->r, now->words, sizeof e->r) == 0 && e->pc == now->pc && e->npc == now->npc;
+}
+
 /* Tells the first part in which they differ, and answers whether there is one. */
 static int differs(const emulator *e, const rsp_scalars *now, const rsp_line *line, int steps)
 {
@@ -50,33 +55,76 @@ static int differs(const emulator *e, const rsp_scalars *now, const rsp_line *li
         printf("  $%d is %08x on the machine and %08x in the emulator\n", n, now->words[n], e->r[n]);
         return 1;
     }
-    if (e->pc == now->pc && e->npc == now->npc) return 0;
+    if (is_equal(e, now)) return 0;
     printf("step %d, %03x: %s\n", steps, line->place, line->text);
     printf("  pc, npc are %03x, %03x on the machine and %03x, %03x in the emulator\n", now->pc, now->npc, e->pc, e->npc);
     return 1;
 }
 
-/* Steps both from one state on, that of `start`, up to a difference or a halt. */
-static uint32_t lockstep(rsp *start, emulator *e, const rsp_state *state)
+/* Makes at most n steps, and ends before one that starts a DMA: an MTC0 of SP_RD_LEN or SP_WR_LEN. Returns how many it made. */
+static uint32_t run_before_dma(rsp *m, uint32_t n)
 {
-    rsp copy = RSP_NONE, *m = &copy;
+    rsp_scalars at;
+    uint32_t made, word;
+    for (made = 0; made < n; made++) {
+        rsp_regs(m, &at);
+        rsp_memory_words(m, RSP_IMEM, at.pc, &word, 1);
+        if ((word & 0xffe07000u) == 0x40801000u || rsp_step(m) != RSP_OK) break;
+    }
+    return made;
+}
+
+/* Steps both, after `steps` steps, at most n times, up to a difference: returns 1 at one, 0 if there is none, -1 if the machine can't go on. */
+static int step_both(rsp *m, emulator *e, int steps, uint32_t n)
+{
     rsp_scalars now;
     rsp_line line;
-    int steps = 0;
-    uint32_t status = rsp_copy(m, start);
+    uint32_t status;
+    while (n--) {
+        rsp_text(e->imem[e->pc / 4], e->pc, &line);
+        status = rsp_step(m);
+        if (status != RSP_OK) {
+            printf("no difference in %d steps, then %s\n", steps, rsp_status_name(status));
+            return -1;
+        }
+        emulate(e);
+        rsp_regs(m, &now);
+        if (differs(e, &now, &line, ++steps)) return 1;
+    }
+    return 0;
+}
+
+/* Runs both from one state on, that of `start`, up to a difference or a halt: in stretches of EVERY steps that end before a DMA. If they differ
+ * after one, both go back to its beginning, and are stepped. */
+static uint32_t lockstep(rsp *start, emulator *e, const rsp_state *state)
+{
+    enum { EVERY = 64 };
+    rsp copy = RSP_NONE, *m = &copy;
+    rsp_state before;
+    rsp_scalars now;
+    emulator mine;
+    uint32_t made, k, status = rsp_copy(m, start);
+    int steps = 0, found = 0;
     if (status != RSP_OK) return status;
     memcpy(e->r, state->words, sizeof e->r);
     e->pc = state->pc, e->npc = state->npc;
-    for (;;) {
-        rsp_text(e->imem[e->pc / 4], e->pc, &line);
-        status = rsp_step(m);
-        if (status != RSP_OK) break;
-        emulate(e);
-        steps++;
+    while (!found) {
+        rsp_get(m, &before);
+        mine = *e;
+        made = run_before_dma(m, EVERY);
+        for (k = 0; k < made; k++) emulate(e);
         rsp_regs(m, &now);
-        if (differs(e, &now, &line, steps)) break;
+        if (made == 0) {
+            found = step_both(m, e, steps++, 1);
+        } else if (is_equal(e, &now)) {
+            steps += (int)made;
+        } else {
+            rsp_set(m, &before); /* and the memories by rsp_load, if the emulator has any */
+            *e = mine;
+            found = step_both(m, e, steps, made);
+            steps += (int)made;
+        }
     }
-    if (status != RSP_OK) printf("no difference in %d steps, then %s\n", steps, rsp_status_name(status));
     rsp_free(m);
     return RSP_OK;
 }

@@ -25,10 +25,11 @@ from .words import FAULTS
 
 __version__ = "1.0.0"
 __all__ = [
-    "DMEM", "FAULTS", "IMEM", "RDRAM", "VERSION", "Accumulators", "AssemblyError", "Bank", "Difference", "Divider", "Emulator", "FirstDifference", "Flags",
-    "Line", "Part", "Reason", "Rsp", "RspError", "Scalars", "SpWords", "State", "Status", "Stop", "assemble", "first_difference",
-    "state_fault", "text",
+    "DMEM", "FAULTS", "IMEM", "RDRAM", "VERSION", "Accumulators", "AssemblyError", "Bank", "Difference", "Divider", "Flags", "Line", "Part",
+    "Reason", "Rsp", "RspError", "Scalars", "SpWords", "State", "Status", "Stop", "assemble", "state_fault",
+    "text",
 ]  # fmt: skip
+__all__ += ["Emulator", "FirstDifference", "first_difference"]
 
 _S = TypeVar("_S", bound=Structure)
 

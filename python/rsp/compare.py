@@ -75,8 +75,8 @@ def _seen(side: Emulator, rdram: int = 0) -> _Seen:
 
 
 def _put(side: Emulator, seen: _Seen) -> None:
-    """Brings a side to what was seen."""
-    side.set(seen.state)
+    """Brings a side to what was seen. The state that it is given is its own: it may keep and change it."""
+    side.set(State.from_buffer_copy(seen.state))
     for bank, data in enumerate(seen.memories):
         side.load(bank, 0, data)
 

@@ -42,7 +42,7 @@ def test_files(package):
     ours = TOP / "python" / "rsp"
     installed, wanted = ({it.name for it in folder.iterdir()} - {"__pycache__", "librsp.so"} for folder in (package, ours))
     see(f"all files are installed: {installed ^ wanted}", installed == wanted)
-    for path in (*package.glob("*.py*"), TOP / "python" / "wheels.py", TOP / "examples" / "python" / "lockstep.py"):
+    for path in (*package.glob("*.py*"), TOP / "python" / "wheels.py", *(TOP / "examples" / "python").glob("*.py")):
         tree = ast.parse(path.read_text(), feature_version=(3, 8))
         see(f"{path.name} has a docstring", ast.get_docstring(tree))
         if "rsp" in path.parts and path.suffix == ".py":

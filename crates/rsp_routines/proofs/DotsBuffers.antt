@@ -11,7 +11,7 @@ use Rattle.rsp_decode.specs.declared.inst.Inst.TheVariants.{Register, Immediate,
 use Rattle.rsp_decode.specs.declared.scalar.RegisterRow.TheVariants.{Addu}
 use Rattle.rsp_decode.specs.declared.scalar.ImmediateRow.TheVariants.{Addiu}
 use Rattle.rsp_decode.specs.declared.scalar.SignRow.TheVariants.{Bgez}
-use Rattle.rsp_decode.specs.declared.vector.VectorLogicRow.TheVariants.{Vand}
+use Rattle.rsp_compare.specs.declared.logic.LogicOp.TheVariants.{Vand}
 use Rattle.rsp_decode.specs.declared.vector.MultiplyRow.TheVariants.{Vmudh, Vmudm, Vmadm, Vmadh}
 use Rattle.rsp_decode.specs.Table.Words.{inst_of, row_of}
 use Rattle.rsp_lanes.specs.Lanes.{each_lane, selected, IsVector}

@@ -9,7 +9,7 @@ use Rattle.rsp_numbers.proofs.Wrap.{s48_is}
 use Rattle.rsp_decode.specs.declared.inst.Inst.{Inst}
 use Rattle.rsp_decode.specs.declared.inst.Inst.TheVariants.{VectorLogic}
 use Rattle.rsp_decode.specs.declared.vector.MultiplyRow.TheVariants.{Vmudm, Vmadm}
-use Rattle.rsp_decode.specs.declared.vector.VectorLogicRow.TheVariants.{Vnor}
+use Rattle.rsp_compare.specs.declared.logic.LogicOp.TheVariants.{Vnor}
 use Rattle.rsp_decode.specs.Table.Words.{inst_of, row_of}
 use Rattle.rsp_lanes.specs.Lanes.{each_lane, selected, IsVector}
 use Rattle.rsp_lanes.specs.Outcome.{results_of, flags_after}
