@@ -11,6 +11,7 @@ use Rattle.rsp_decode.specs.declared.inst.Inst.TheVariants.{Register, Immediate,
 use Rattle.rsp_decode.specs.declared.scalar.RegisterRow.TheVariants.{Addu}
 use Rattle.rsp_decode.specs.declared.scalar.ImmediateRow.TheVariants.{Addiu}
 use Rattle.rsp_decode.specs.declared.scalar.SignRow.TheVariants.{Bgez}
+use Rattle.rsp_decode.specs.declared.vector.VectorLogicRow.TheVariants as row
 use Rattle.rsp_compare.specs.declared.logic.LogicOp.TheVariants.{Vand}
 use Rattle.rsp_decode.specs.declared.vector.MultiplyRow.TheVariants.{Vmudh, Vmudm, Vmadm, Vmadh}
 use Rattle.rsp_decode.specs.Table.Words.{inst_of, row_of}
@@ -59,7 +60,7 @@ abbrev scalars : List Inst
 scalars = Register Addu (record { rd = 5; rs = 1; rt = 4 }) ∷ Register Addu (record { rd = 6; rs = 2; rt = 4 }) ∷ []
 
 abbrev cleared : List Inst
-cleared = VectorLogic Vand (record { vd = 1; vs = 0; vt = 0; element = 0 }) ∷ VectorLogic Vand (record { vd = 2; vs = 0; vt = 0; element = 0 }) ∷ []
+cleared = VectorLogic row.Vand (record { vd = 1; vs = 0; vt = 0; element = 0 }) ∷ VectorLogic row.Vand (record { vd = 2; vs = 0; vt = 0; element = 0 }) ∷ []
 
 abbrev none : List Term
 none = term Vmudh 3 0 0 0 ∷ []

@@ -9,6 +9,7 @@ use Rattle.rsp_numbers.proofs.Wrap.{s48_is}
 use Rattle.rsp_decode.specs.declared.inst.Inst.{Inst}
 use Rattle.rsp_decode.specs.declared.inst.Inst.TheVariants.{VectorLogic}
 use Rattle.rsp_decode.specs.declared.vector.MultiplyRow.TheVariants.{Vmudm, Vmadm}
+use Rattle.rsp_decode.specs.declared.vector.VectorLogicRow.TheVariants as row
 use Rattle.rsp_compare.specs.declared.logic.LogicOp.TheVariants.{Vnor}
 use Rattle.rsp_decode.specs.Table.Words.{inst_of, row_of}
 use Rattle.rsp_lanes.specs.Lanes.{each_lane, selected, IsVector}
@@ -40,7 +41,7 @@ abbrev words : List ℕ
 words = 0x4a0019ab ∷ 0x4a060905 ∷ 0x4b05090d ∷ 0x4a03110d ∷ []
 
 abbrev inverting : Inst
-inverting = VectorLogic Vnor (record { vd = 6; vs = 3; vt = 0; element = 0 })
+inverting = VectorLogic row.Vnor (record { vd = 6; vs = 3; vt = 0; element = 0 })
 
 abbrev terms : List Term
 terms = term Vmudm 4 1 6 0 ∷ term Vmadm 4 1 5 8 ∷ term Vmadm 4 2 3 0 ∷ []
