@@ -1,9 +1,20 @@
 -- Where runs end.
-use Rattle.std.proofs.Common.{◌≡◌, ℕ, zero, suc, ◌-◌, ◌<◌, ◌≤◌, List, [], ◌∷◌, refl, ap, sym, subst, ◌∙◌, arith, Bool, true, false, cond, Option, None}
-use Rattle.std.specs.Prelude.{All, IsNone, is_some, unwrap_or, nat_lt, option_map, map, ◌&&◌, ◌==◌}
+use Rattle.std.proofs.Common.{◌≡◌, ℕ, zero, suc, ◌-◌, ◌<◌, ◌≤◌, List, [], ◌∷◌, refl, ap, sym, subst, ◌∙◌, arith, Bool, true, false, cond, Option, Some, None}
+use Rattle.std.specs.Prelude.{not, All, IsNone, is_some, unwrap_or, nat_lt, option_map, map, ◌&&◌, ◌==◌}
 use Rattle.rsp_machine.specs.State.{State}
 use Rattle.rsp_machine.specs.Laws.{steps_of}
 use Rattle.rsp_debug.specs.Stops.{is_break, is_reserved, when, first_of, reason_at, least, run_steps, stop_of, IsStop}
+use Rattle.std.specs.Int.{bit_at}
+use Rattle.std.proofs.lemmas.Nat.Bits.{bit_at-zero}
+use Rattle.rsp_memory.specs.Memory.{word_at}
+use Rattle.rsp_decode.specs.declared.inst.Inst.{Inst}
+use Rattle.rsp_decode.specs.declared.inst.Inst.TheVariants.{MoveSp}
+use Rattle.rsp_machine.specs.Pass.{is_write}
+use Rattle.rsp_decode.specs.Table.{inst_of}
+use Rattle.rsp_debug.specs.declared.moves.Moves.{Moves}
+use Rattle.rsp_debug.specs.declared.moves.MoveEnd.{MoveEnd}
+use Rattle.rsp_debug.specs.declared.moves.MoveEnd.TheVariants as end
+use Rattle.rsp_debug.specs.Moves.{no_moves, is_asked, is_at_move, is_limit, steps_to_move, move_by, end_by, move_end_of, end_steps}
 use Rattle.rsp_debug.specs.Snapshots.{snapshot_of, watches_of}
 use Rattle.rsp_debug.specs.History.{past_of}
 use Rattle.rsp_debug.specs.Debugging.{Debugging, steps_made, ran}
@@ -61,6 +72,52 @@ pub snapshots-stop : (b : List Bool) (w : List (Option Watch)) (n : ℕ) (s t : 
 snapshots-stop b w n s t stop dmem is = subst (λ (x : List (Option Watch)). IsStop b x n s t stop) (watches-of w dmem) is
 
 pub ruleset frees = (unwatched-stop)
+
+-- if no move is asked for, none comes
+zero_bit : (b : Bool) (r : ℕ) → (bit_at (cond b 0 0) r == 1) ≡ false
+zero_bit true r = ap (λ x. x == 1) (bit_at-zero r)
+zero_bit false r = ap (λ x. x == 1) (bit_at-zero r)
+
+pub never-asked : (o : Option Inst) → is_asked no_moves o ≡ false
+never-asked None = refl
+never-asked (Some (MoveSp row rt r)) = zero_bit (is_write row) r
+never-asked (Some _) = refl
+
+least-none : (test : ℕ → Bool) (n : ℕ) → ((k : ℕ) → test k ≡ false) → least test n ≡ n
+least-none test zero none = refl
+least-none test (suc n) none =
+    ap (λ b. cond b zero (suc (least (λ i. test (suc i)) n))) (none zero) ∙ ap suc (least-none (λ i. test (suc i)) n (λ k. none (suc k)))
+
+not_next : (halted asked : Bool) → asked ≡ false → not halted && asked ≡ false
+not_next true asked e = refl
+not_next false asked e = e
+
+pub unmoved-stop : (b : List Bool) (w : List (Option Watch)) (moves : Moves) (n : ℕ) (s t : State) (stop : Stop) → moves ≡ no_moves → IsStop b w (steps_to_move moves n s) s t stop → IsStop b w n s t stop
+unfolding steps_to_move
+unmoved-stop b w moves n s t stop none given =
+    let is = subst (λ (x : Moves). IsStop b w (steps_to_move x n s) s t stop) none given in
+    subst (λ (x : ℕ). IsStop b w x s t stop)
+    (least-none (λ k. is_at_move no_moves (steps_of k s)) n (λ k. let x = steps_of k s in not_next x.sp.halted _ (never-asked (inst_of (word_at x.imem x.pc))))) is
+
+-- the end of a run that also ends before moves is the one that the definition gives
+pub move-end-is : (b : List Bool) (w : List (Option Watch)) (moves : Moves) (n : ℕ) (s t : State) (stop : Stop) (r : MoveEnd) → IsStop b w (steps_to_move moves n s) s t stop → r ≡ end_by moves stop t
+    → r ≡ move_end_of b w moves n s
+unfolding move_end_of
+move-end-is b w moves n s t stop r is e =
+    e ∙ ap (λ (x : State). end_by moves stop x) is.reached ∙ ap (λ (x : Stop). end_by moves x (steps_of x.steps s)) (stop-is b w (steps_to_move moves n s) s t stop is)
+
+move_steps : (o : Option Inst) (stop : Stop) (s : State) → end_steps (move_by o stop s) ≡ stop.steps
+move_steps None stop s = refl
+move_steps (Some (MoveSp row rt r)) stop s = refl
+move_steps (Some _) stop s = refl
+
+steps_by : (b : Bool) (o : Option Inst) (stop : Stop) (s : State) → end_steps (cond b (move_by o stop s) (end.Stop stop)) ≡ stop.steps
+steps_by true o stop s = move_steps o stop s
+steps_by false o stop s = refl
+
+pub move-end-steps : (moves : Moves) (stop : Stop) (t : State) (r : MoveEnd) → r ≡ end_by moves stop t → end_steps r ≡ stop.steps
+move-end-steps moves stop t r e =
+    ap end_steps e ∙ steps_by (is_limit stop.reason && is_at_move moves t) (inst_of (word_at t.imem t.pc)) stop t
 
 -- a debugger after a run
 pub ran-is : (d : Debugging) (n : ℕ) (t : State) (past : List State) (depth : ℕ) (stop : Stop) → IsStop d.breaks d.watches n d.state t stop

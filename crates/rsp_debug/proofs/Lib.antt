@@ -10,3 +10,4 @@ pub mod Ends
 pub mod Calling
 pub mod Hosts
 pub mod Looking
+pub mod Coming

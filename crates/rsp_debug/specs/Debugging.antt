@@ -6,6 +6,9 @@ use Rattle.rsp_machine.specs.Host.{register_read}
 use Rattle.rsp_debug.specs.declared.stop.Watch.{Watch}
 use Rattle.rsp_debug.specs.declared.stop.Stop.{Stop}
 use Rattle.rsp_debug.specs.Stops.{run_steps, stop_of}
+use Rattle.rsp_debug.specs.declared.moves.Moves.{Moves}
+use Rattle.rsp_debug.specs.declared.moves.MoveEnd.{MoveEnd}
+use Rattle.rsp_debug.specs.Moves.{steps_to_move, move_end_of}
 use Rattle.rsp_debug.specs.Past.{past_after}
 use Rattle.rsp_debug.specs.Breaks.{no_breaks, with_break, without_break}
 use Rattle.rsp_debug.specs.Watches.{no_watches, with_watch, without_watch}
@@ -39,6 +42,14 @@ stop_in n d = stop_of d.breaks d.watches n d.state
 -- after such a run, which fills the past as its steps do
 abbrev pub ran : ℕ → Debugging → Debugging
 ran n d = steps_made (run_steps d.breaks d.watches n d.state) d
+
+-- where a run of at most n steps ends that also ends before moves
+abbrev pub move_end_in : ℕ → Moves → Debugging → MoveEnd
+move_end_in n moves d = move_end_of d.breaks d.watches moves n d.state
+
+-- after such a run
+abbrev pub ran_to_move : ℕ → Moves → Debugging → Debugging
+ran_to_move n moves d = ran (steps_to_move moves n d.state) d
 
 -- with one breakpoint more, or less
 abbrev pub broken_at : ℕ → Debugging → Debugging

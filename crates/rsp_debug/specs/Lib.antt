@@ -10,3 +10,4 @@ pub mod Bits
 pub mod History
 pub mod Snapshots
 pub mod Runs
+pub mod Moves

@@ -1,9 +1,12 @@
 -- Scaffolding of proofs: what the loop of a run asks. Stops has the meaning.
-use Rattle.std.specs.Prelude.{List, [], ◌∷◌, Bool, Option, option_map}
+use Rattle.std.specs.Prelude.{◌≡◌, ◌⊎◌, ℕ, List, [], ◌∷◌, length, Bool, false, Option, option_map}
+use Rattle.rsp_decode.specs.Table.{inst_of}
 use Rattle.rsp_machine.specs.State.{State}
 use Rattle.rsp_debug.specs.declared.snapshot.Snapshot.{Snapshot}
 use Rattle.rsp_debug.specs.declared.stop.Reason.{Reason}
-use Rattle.rsp_debug.specs.declared.stop.Reason.TheVariants.{Reserved, Halted, Watched, Break}
+use Rattle.rsp_debug.specs.declared.stop.Reason.TheVariants.{Reserved, Halted, Watched, Break, Limit}
+use Rattle.rsp_debug.specs.declared.moves.Moves.{Moves}
+use Rattle.rsp_debug.specs.Moves.{is_asked, is_at_move}
 use Rattle.rsp_debug.specs.Stops.{is_reserved, is_break, when, first_of}
 use Rattle.rsp_debug.specs.Snapshots.{differs}
 
@@ -14,3 +17,13 @@ stuck_of s = first_of (when (is_reserved s) Reserved ∷ when s.sp.halted Halted
 -- the watch or the breakpoint that a step has come to
 abbrev pub hit_in : List Bool → List (Option Snapshot) → State → Option Reason
 hit_in breaks snapshots s = first_of (option_map Watched (differs snapshots s.dmem) ∷ when (is_break breaks s.pc) Break ∷ [])
+
+-- and the limit that a move is
+abbrev pub found_in : List Bool → List (Option Snapshot) → Moves → State → Option Reason
+found_in breaks snapshots moves s = first_of (hit_in breaks snapshots s ∷ when (is_at_move moves s) Limit ∷ [])
+
+-- A test ends steps wherever something may be found: where it doesn't, pc has no breakpoint, the word is no move that is sought, and
+-- the step before left DMEM, or there are no watches.
+abbrev pub Asks : (ℕ → ℕ → Bool → Bool) → List Bool → List (Option Snapshot) → Moves → Type 0
+Asks ends breaks snapshots moves = (pc word : ℕ) (stored : Bool) → ends pc word stored ≡ false
+    → (is_break breaks pc ≡ false) × (is_asked moves (inst_of word) ≡ false) × ((stored ≡ false) ⊎ (length snapshots ≡ 0))

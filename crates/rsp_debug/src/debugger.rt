@@ -3,17 +3,19 @@ ghost use Rattle.rsp_machine.specs.Step.{step_of};
 ghost use Rattle.rsp_machine.specs.Laws.{steps_of};
 ghost use Rattle.rsp_machine.specs.State.{IsState};
 ghost use Rattle.rsp_debug.specs.Stops.{is_break};
+ghost use Rattle.rsp_debug.specs.Moves.{end_steps};
 ghost use Rattle.rsp_debug.specs.Breaks.{break_count, break_fault};
 ghost use Rattle.rsp_debug.specs.Watches.{number_for, has_watch};
-ghost use Rattle.rsp_debug.specs.Debugging.{debugging_of, stepped, stop_in, ran, broken_at, unbroken_at, watching, unwatching, gone_back};
+ghost use Rattle.rsp_debug.specs.Debugging.{debugging_of, stepped, stop_in, move_end_in, ran, ran_to_move, broken_at, unbroken_at, watching, unwatching, gone_back};
 
 use crate::breaks::{BreakFault, Breaks, NoBreak};
 use crate::history::History;
-use crate::run::run;
+use crate::moves::{MoveEnd, Moves};
+use crate::run::{run, run_to_move};
 use crate::stop::Stop;
 use crate::watches::{NoWatch, WatchFault, Watches};
 use rsp_acc::Acc;
-use rsp_machine::{Machine, StepEnd};
+use rsp_machine::{Machine, Never, StepEnd};
 use std::alloc::{AllocError, Global};
 use std::marker::Model;
 
@@ -101,7 +103,7 @@ impl<A: Acc> Debugger<A> {
         ensures answer { result ≡ (step_of self.old.state).0 }
         ensures next { self.new ≡ stepped self.old }
     {
-        if self.history.stretch(&mut self.machine, 1).steps == 0 {
+        if self.history.stretch(&mut self.machine, 1, &Never) == 0 {
             return self.machine.step();
         }
         StepEnd::Done
@@ -171,6 +173,32 @@ impl<A: Acc> Debugger<A> {
             &self.watches,
             n,
         ))
+    }
+
+    /// Runs as [`Debugger::run`] does, and also ends before an MFC0 or MTC0 of an SP register that `moves` names, which isn't
+    /// executed, also before the first step. The reasons, in their order: the word at pc is reserved and the machine isn't halted;
+    /// it is halted; the last step changed a byte of a watch; it came to a breakpoint; such a move is next; `n` steps are made.
+    /// CountFault unless `n` is 1 to 1000000.
+    #[tactic(auto, using(crate::proofs::Ends::ends))]
+    pub fn run_until_move(&mut self, n: u32, moves: Moves) -> Result<MoveEnd, CountFault>
+        ensures count { IsOk result ↔ ((1 ≤ n) × (n ≤ 1000000)) }
+        ensures end { IfOk result (λ end. end ≡ move_end_in n moves self.old) }
+        ensures reached { IfOk result (λ end. self.new.state ≡ steps_of (end_steps end) self.old.state) }
+        ensures next { OnOk result (self.new ≡ ran_to_move n moves self.old) }
+        ensures err { OnErr result (self.new ≡ self.old) }
+    {
+        if n == 0 || n > 1_000_000 {
+            return Err(CountFault);
+        }
+        let stop = run_to_move(
+            &mut self.machine,
+            &mut self.history,
+            &self.breaks,
+            &self.watches,
+            moves,
+            n,
+        );
+        Ok(moves.end(stop, &self.machine))
     }
 
     /// Goes back `n` states of the past, which leave it. Breakpoints and watches stay. Count unless `n` is 1 to 1000000, else

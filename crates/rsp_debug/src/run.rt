@@ -1,40 +1,27 @@
 // Steps of a machine in stretches. Between two of them a run tests whether there is a reason to stop.
 
-ghost use Rattle.std.specs.Prelude.{◌≡◌, ◌<◌, ◌≤◌, ◌-◌, true, false, None, length, drop, slice_index_or, unwrap_or};
+ghost use Rattle.std.specs.Prelude.{◌≡◌, ◌<◌, ◌≤◌, ◌+◌, ◌-◌, ℕ, true, false, None, length, drop, slice_index_or, unwrap_or};
 ghost use Rattle.rsp_machine.specs.Step.{step_of};
-ghost use Rattle.rsp_machine.specs.Laws.{done_steps};
-ghost use Rattle.rsp_machine.specs.Saved.{record_at, is_back, may_store};
+ghost use Rattle.rsp_machine.specs.Laws.{steps_of, done_steps};
+ghost use Rattle.rsp_machine.specs.Saved.{record_at, is_back};
+ghost use Rattle.rsp_machine.specs.Until.{ends_after};
 ghost use Rattle.rsp_debug.specs.Calls.{IsAfter};
-ghost use Rattle.rsp_debug.specs.Stops.{IsStop};
+ghost use Rattle.rsp_debug.specs.Stops.{IsStop, when};
+ghost use Rattle.rsp_debug.specs.Moves.{is_at_move, steps_to_move};
 ghost use Rattle.rsp_debug.specs.Snapshots.{differs, watches_of};
 ghost use Rattle.rsp_debug.specs.History.{states_before, past_of};
-ghost use Rattle.rsp_debug.specs.Runs.{stuck_of, hit_in};
+ghost use Rattle.rsp_debug.specs.Runs.{stuck_of, found_in, Asks};
+ghost use Rattle.rsp_debug.specs.declared.stop.Reason.TheVariants.{Limit};
 
 use crate::breaks::Breaks;
 use crate::history::History;
+use crate::moves::Moves;
 use crate::snapshot::{Snapshot, differs};
 use crate::stop::{Reason, Stop};
 use crate::watches::Watches;
 use rsp_acc::Acc;
 use rsp_decode::decode;
-use rsp_machine::{Machine, Record};
-
-/// What a stretch of steps came to.
-#[derive(Clone, Copy, Drop)]
-pub struct Stretch {
-    /// How many steps it made.
-    pub steps: u32,
-    /// Whether they may have changed DMEM.
-    pub stored: bool,
-}
-
-/// Whether so many steps, which wrote the first of these records, may have changed DMEM. It is known of one step alone.
-fn may_have_stored(records: &[Record], made: usize) -> bool
-    requires { made ≤ length records.now }
-    ensures { result ≡ false → (made ≡ 1) × (may_store (record_at records.now 0) ≡ false) }
-{
-    made != 1 || records[0].may_store()
-}
+use rsp_machine::{Machine, Never, Record, Until};
 
 /// Whether all of them can be undone: only the last may have started a DMA.
 fn leads_back(records: &[Record], made: usize) -> bool
@@ -46,39 +33,33 @@ fn leads_back(records: &[Record], made: usize) -> bool
 }
 
 impl History {
-    /// Makes up to `n` steps of a machine, at least one if it can make one, and keeps their records if it keeps any. It ends at
-    /// the ring's end, and after a step that starts a DMA.
-    pub fn stretch<A: Acc>(&mut self, machine: &mut Machine<A>, n: u32) -> Stretch
+    /// Makes up to `n` steps of a machine, at least one if it can make one, keeps their records if it keeps any, and returns how
+    /// many. `until` may end them, and is asked before each step but the first. They end at the ring's end too, and after a step
+    /// that starts a DMA.
+    pub fn stretch<A: Acc, U: Until>(&mut self, machine: &mut Machine<A>, n: u32, until: &U) -> u32
         requires { 0 < n }
-        ensures within { result.steps ≤ n }
-        ensures after { IsAfter result.steps machine.old machine.new }
-        ensures stuck { result.steps ≡ 0 → done_steps (step_of machine.new).0 ≡ 0 }
-        ensures memory { result.stored ≡ false → machine.new.dmem ≡ machine.old.dmem }
-        ensures past { states_before machine.new self.new.newest ≡ past_of result.steps self.old.depth machine.old (states_before machine.old self.old.newest) }
+        ensures within { result ≤ n }
+        ensures after { IsAfter result machine.old machine.new }
+        ensures stuck { result ≡ 0 → done_steps (step_of machine.new).0 ≡ 0 }
+        ensures asked { (i : ℕ) → i + 1 < result → ends_after (U.ends until.now) (steps_of i machine.old) ≡ false }
+        ensures past { states_before machine.new self.new.newest ≡ past_of result self.old.depth machine.old (states_before machine.old self.old.newest) }
         ensures depth { self.new.depth ≡ self.old.depth }
     {
         let depth = self.slots.len();
         if depth == 0 {
-            return Stretch {
-                steps: machine.steps(u64::from(n)) as u32,
-                stored: true,
-            };
+            return machine.steps_until(u64::from(n), until) as u32;
         }
         let first = if self.next == depth { 0 } else { self.next };
         let room = (n as usize).min(depth - first);
         let lent = &mut self.slots.make_contiguous()[first..first + room];
-        let made = machine.steps_recorded(lent);
-        let stored = may_have_stored(lent, made);
+        let made = machine.steps_recorded_until(lent, until);
         self.count = if leads_back(lent, made) {
             (self.count + made).min(depth)
         } else {
             0
         };
         self.next = first + made;
-        Stretch {
-            steps: made as u32,
-            stored,
-        }
+        made as u32
     }
 
     /// Undoes the last step of a machine, by the newest record, which goes.
@@ -107,24 +88,55 @@ fn dmem_bytes<A: Acc>(machine: &Machine<A>) -> &[u8]
     dmem.run(0, 4096)
 }
 
-/// The watch or the breakpoint that a machine has come to. Bytes are compared only if a step may have `stored`.
-#[tactic(auto, using(crate::proofs::Hits::hits))]
-fn hit<A: Acc>(
-    machine: &Machine<A>,
-    breaks: &Breaks,
-    snapshots: &[Option<Snapshot>],
-    stored: bool,
-) -> Option<Reason>
-    requires { stored ≡ false → differs snapshots.now machine.now.dmem ≡ None }
-    ensures { result ≡ hit_in breaks.now snapshots.now machine.now }
-{
-    if stored && let Some(k) = differs(snapshots, dmem_bytes(machine)) {
-        return Some(Reason::Watched(k));
+/// What a run looks for after each step.
+#[derive(Drop)]
+struct Sought<'a> {
+    breaks: &'a Breaks,
+    /// The watches, with their bytes as they were when the run began.
+    snapshots: &'a [Option<Snapshot>],
+    moves: Moves,
+}
+
+impl<'a> Sought<'a> {
+    /// The reason to stop that a step has come to. A move is the limit of a run that ends before it.
+    #[tactic(auto, using(crate::proofs::Hits::hits))]
+    fn found<A: Acc>(&self, machine: &Machine<A>) -> Option<Reason>
+        ensures { result ≡ found_in self.now.breaks.now self.now.snapshots.now self.now.moves machine.now }
+    {
+        if let Some(k) = differs(self.snapshots, dmem_bytes(machine)) {
+            return Some(Reason::Watched(k));
+        }
+        if self.breaks.contains(machine.pc()) {
+            return Some(Reason::Break);
+        }
+        self.limit(machine)
     }
-    if breaks.contains(machine.pc()) {
-        return Some(Reason::Break);
+
+    /// The limit, where a move is next.
+    fn limit<A: Acc>(&self, machine: &Machine<A>) -> Option<Reason>
+        ensures { result ≡ when (is_at_move self.now.moves machine.now) Limit }
+    {
+        if self.moves.are_next(machine) {
+            return Some(Reason::Limit);
+        }
+        None
     }
-    None
+}
+
+impl<'a> Until for Sought<'a> {
+    ghost use Rattle.std.specs.Prelude.{◌||◌, ◌&&◌, ◌==◌, not, length};
+    ghost use Rattle.rsp_decode.specs.Table.{inst_of};
+    ghost use Rattle.rsp_debug.specs.Stops.{is_break};
+    ghost use Rattle.rsp_debug.specs.Moves.{is_asked};
+
+    ghost ends = { λ s pc word stored. is_break s.breaks.now pc || (stored && not (length s.snapshots.now == 0)) || is_asked s.moves (inst_of word) };
+
+    #[inline(always)]
+    fn ends(&self, pc: u16, word: u32, stored: bool) -> bool {
+        self.breaks.contains(pc)
+            || (stored && !self.snapshots.is_empty())
+            || self.moves.has_word(word)
+    }
 }
 
 /// Why a machine can't go on.
@@ -151,35 +163,64 @@ fn stopped_here<A: Acc>(machine: &Machine<A>, otherwise: Reason, steps: u32) -> 
     }
 }
 
-/// Runs to breakpoints, and to watches that are given by their snapshots. If there are any, each step is a stretch.
-fn run_to<A: Acc>(
+/// Runs to what is sought, at most to a move. `until` ends a stretch of steps wherever that may be found.
+fn run_to<A: Acc, U: Until>(
     machine: &mut Machine<A>,
     history: &mut History,
-    breaks: &Breaks,
-    snapshots: &[Option<Snapshot>],
+    sought: &Sought,
+    until: &U,
     n: u32,
 ) -> Stop
-    requires { differs snapshots.now machine.old.dmem ≡ None }
-    ensures stop { IsStop breaks.now (watches_of snapshots.now) n machine.old machine.new result }
+    requires same { differs sought.now.snapshots.now machine.old.dmem ≡ None }
+    requires asks { Asks (U.ends until.now) sought.now.breaks.now sought.now.snapshots.now sought.now.moves }
+    ensures stop { IsStop sought.now.breaks.now (watches_of sought.now.snapshots.now) (steps_to_move sought.now.moves n machine.old) machine.old machine.new result }
     ensures past { states_before machine.new history.new.newest ≡ past_of result.steps history.old.depth machine.old (states_before machine.old history.old.newest) }
     ensures depth { history.new.depth ≡ history.old.depth }
 {
-    let looks = !breaks.is_empty() || !snapshots.is_empty();
     let mut left = n;
-    let mut found = None;
+    let mut found = sought.limit(machine);
     while left > 0 && found.is_none() {
-        let stretch = history.stretch(machine, if looks { 1 } else { left });
-        if stretch.steps == 0 {
+        let steps = history.stretch(machine, left, until);
+        if steps == 0 {
             break;
         }
-        left -= stretch.steps;
-        found = hit(machine, breaks, snapshots, stretch.stored);
+        left -= steps;
+        found = sought.found(machine);
     }
     stopped_here(machine, found.unwrap_or(Reason::Limit), n - left)
 }
 
+/// Runs to breakpoints, watches and moves.
+fn run_looking<A: Acc>(
+    machine: &mut Machine<A>,
+    history: &mut History,
+    breaks: &Breaks,
+    watches: &Watches,
+    moves: Moves,
+    n: u32,
+) -> Stop
+    ensures stop { IsStop breaks.now watches.now (steps_to_move moves n machine.old) machine.old machine.new result }
+    ensures past { states_before machine.new history.new.newest ≡ past_of result.steps history.old.depth machine.old (states_before machine.old history.old.newest) }
+    ensures depth { history.new.depth ≡ history.old.depth }
+{
+    if watches.is_empty() {
+        let sought = Sought {
+            breaks,
+            snapshots: &[],
+            moves,
+        };
+        return run_to(machine, history, &sought, &sought, n);
+    }
+    let snapshots = watches.snapshots(dmem_bytes(machine));
+    let sought = Sought {
+        breaks,
+        snapshots: &snapshots,
+        moves,
+    };
+    run_to(machine, history, &sought, &sought, n)
+}
+
 /// Runs to the least number of steps after which there is a reason to stop.
-#[tactic(auto, using(crate::proofs::Ends::frees))]
 pub fn run<A: Acc>(
     machine: &mut Machine<A>,
     history: &mut History,
@@ -191,9 +232,38 @@ pub fn run<A: Acc>(
     ensures past { states_before machine.new history.new.newest ≡ past_of result.steps history.old.depth machine.old (states_before machine.old history.old.newest) }
     ensures depth { history.new.depth ≡ history.old.depth }
 {
-    if watches.is_empty() {
-        return run_to(machine, history, breaks, &[], n);
+    let moves = Moves::none();
+    if !breaks.is_empty() || !watches.is_empty() {
+        return run_looking(machine, history, breaks, watches, moves, n);
     }
-    let snapshots = watches.snapshots(dmem_bytes(machine));
-    run_to(machine, history, breaks, &snapshots, n)
+    let sought = Sought {
+        breaks,
+        snapshots: &[],
+        moves,
+    };
+    run_to(machine, history, &sought, &Never, n)
+}
+
+/// The same, but no further than to a move.
+pub fn run_to_move<A: Acc>(
+    machine: &mut Machine<A>,
+    history: &mut History,
+    breaks: &Breaks,
+    watches: &Watches,
+    moves: Moves,
+    n: u32,
+) -> Stop
+    ensures stop { IsStop breaks.now watches.now (steps_to_move moves n machine.old) machine.old machine.new result }
+    ensures past { states_before machine.new history.new.newest ≡ past_of result.steps history.old.depth machine.old (states_before machine.old history.old.newest) }
+    ensures depth { history.new.depth ≡ history.old.depth }
+{
+    if !breaks.is_empty() || !watches.is_empty() {
+        return run_looking(machine, history, breaks, watches, moves, n);
+    }
+    let sought = Sought {
+        breaks,
+        snapshots: &[],
+        moves,
+    };
+    run_to(machine, history, &sought, &moves, n)
 }

@@ -14,12 +14,14 @@ use Rattle.rsp_machine.specs.declared.step.StepEnd.TheVariants.{Done, Halted, Re
 use Rattle.rsp_machine.specs.Transfers.{starts_dma_in, starts_dma_at}
 use Rattle.rsp_machine.specs.declared.change.Change.TheVariants as of
 use Rattle.rsp_machine.specs.Saved.{Saved, change_of, record_after, starts_dma, is_length, is_back_by, can_undo, may_store, undone}
-use Rattle.rsp_machine.specs.Changes.{reaches_sp, IsRanged}
+use Rattle.rsp_machine.specs.Changes.{reaches_sp, reach_of, IsRanged}
+use Rattle.rsp_machine.specs.Until.{may_store_by, may_store_at}
+use Rattle.rsp_machine.specs.declared.change.Reach.{Reach}
 use Rattle.rsp_machine.proofs.Saving.{record_back, memory_stays}
 
--- whether an instruction, where there is one, reaches the SP registers; and the state after it
-abbrev pub reached : State → Option Inst → Option Bool
-reached s o = option_map (λ i. reaches_sp (change_of i s)) o
+-- what an instruction, where there is one, may have reached; and the state after it
+abbrev pub reached : State → Option Inst → Option Reach
+reached s o = option_map (λ i. reach_of (change_of i s)) o
 
 abbrev pub after : State → Option Inst → State
 after s o = unwrap_or (option_map (λ i. executed i s) o) s
@@ -40,9 +42,8 @@ leaves (MoveControl From rt control) s h = refl
 leaves (MoveControl To rt control) s h = refl
 leaves _ s h = refl
 
-not_reached : (b : Bool) → Some b ≡ Some false → b ≡ false
-not_reached false h = refl
-not_reached true h = cc
+not_reached : (d e : Reach) → Some d ≡ Some e → e.sp ≡ false → d.sp ≡ false
+not_reached d e h none = let same : d ≡ e = cc in ap (λ (x : Reach). x.sp) same ∙ none
 
 no_transfer : (i : Inst) (s : State) → reaches_sp (change_of i s) ≡ false → starts_dma i ≡ false
 unfolding change_of
@@ -50,19 +51,25 @@ no_transfer (MoveSp From rt n) s h = refl
 no_transfer (MoveSp To rt n) s h = dma_reaches (is_length n) (starts_dma (MoveSp To rt n) ≡ false) h
 no_transfer _ s h = refl
 
-stays_by : (o : Option Inst) (s t : State) → reached s o ≡ Some false → t ≡ after s o → t.sp ≡ s.sp
-stays_by None s t h e = cc
-stays_by (Some i) s t h e = ap (λ (x : State). x.sp) e ∙ leaves i s (not_reached (reaches_sp (change_of i s)) h)
-
-pub stays : {b : Bool} (o : Option Inst) (s t : State) → b ≡ false → Some b ≡ reached s o → t ≡ after s o → t.sp ≡ s.sp
-stays o s t h r e = stays_by o s t (sym r ∙ ap Some h) e
+pub stays : (o : Option Inst) (s t : State) (e : Reach) → e.sp ≡ false → Some e ≡ reached s o → t ≡ after s o → t.sp ≡ s.sp
+stays None s t e none h there = cc
+stays (Some i) s t e none h there = ap (λ (x : State). x.sp) there ∙ leaves i s (not_reached (reach_of (change_of i s)) e (sym h) none)
 
 pub halted_as : (s t : State) → s.sp.halted ≡ false → t.sp ≡ s.sp → false ≡ t.sp.halted
 halted_as s t h e = sym (ap (λ (p : Sp). p.halted) e ∙ h)
 
-leads_back : (o : Option Inst) (s : State) → reached s o ≡ Some false → is_back_by o ≡ true
-leads_back None s h = cc
-leads_back (Some i) s h = ap not (no_transfer i s (not_reached (reaches_sp (change_of i s)) h))
+leads_back : (o : Option Inst) (s : State) (e : Reach) → e.sp ≡ false → Some e ≡ reached s o → is_back_by o ≡ true
+leads_back None s e none h = cc
+leads_back (Some i) s e none h = ap not (no_transfer i s (not_reached (reach_of (change_of i s)) e (sym h) none))
+
+-- and whether it may have stored
+stored_by : (o : Option Inst) (s : State) (e : Reach) → Some e ≡ reached s o → e.dmem ≡ may_store_by o s
+stored_by None s e h = cc
+stored_by (Some i) s e h = let same : e ≡ reach_of (change_of i s) = cc in ap (λ (x : Reach). x.dmem) same
+
+pub stored-as : (w : ℕ) (s : State) (e : Reach) → w ≡ word_at s.imem s.pc → Some e ≡ reached s (inst_of w) → e.dmem ≡ may_store_at s
+unfolding may_store_at
+stored-as w s e is h = stored_by (inst_of w) s e h ∙ ap (λ v. may_store_by (inst_of v) s) is
 
 -- single step halts nothing where it is clear
 halts_none : (p : Sp) → p.halted ≡ false → p.single_step ≡ false → after_step p ≡ p
@@ -119,28 +126,28 @@ reserved : (o : Option Inst) (w : ℕ) (s t : State) → reached s o ≡ None �
 reserved None w s t h e = ap (λ (x : State). (Reserved w, x)) (sym e)
 reserved (Some i) w s t h e = cc
 
-done : (o : Option Inst) (w : ℕ) (s t : State) (b : Bool) → reached s o ≡ Some b → t ≡ after s o → step_by o w s ≡ (Done, singled t)
-done None w s t b h e = cc
-done (Some i) w s t b h e = ap (λ (x : State). (Done, singled x)) (sym e)
+done : (o : Option Inst) (w : ℕ) (s t : State) (e : Reach) → reached s o ≡ Some e → t ≡ after s o → step_by o w s ≡ (Done, singled t)
+done None w s t e h there = cc
+done (Some i) w s t e h there = ap (λ (x : State). (Done, singled x)) (sym there)
 
 pub step_reserved : (w : ℕ) (s t : State) → s.sp.halted ≡ false → w ≡ word_at s.imem s.pc → None ≡ reached s (inst_of w) → t ≡ after s (inst_of w)
     → step_of s ≡ (Reserved w, t)
 unfolding step_of
 step_reserved w s t h e r there = rw (← e) (running s.sp.halted (inst_of w) w s h ∙ reserved (inst_of w) w s t (sym r) there)
 
-pub step_done : (w : ℕ) (s t : State) (b : Bool) → s.sp.halted ≡ false → w ≡ word_at s.imem s.pc → Some b ≡ reached s (inst_of w) → t ≡ after s (inst_of w)
+pub step_done : (w : ℕ) (s t : State) (e : Reach) → s.sp.halted ≡ false → w ≡ word_at s.imem s.pc → Some e ≡ reached s (inst_of w) → t ≡ after s (inst_of w)
     → step_of s ≡ (Done, singled t)
 unfolding step_of
-step_done w s t b h e r there = rw (← e) (running s.sp.halted (inst_of w) w s h ∙ done (inst_of w) w s t b (sym r) there)
+step_done w s t e h is r there = rw (← is) (running s.sp.halted (inst_of w) w s h ∙ done (inst_of w) w s t e (sym r) there)
 
 -- and whether it leads back
 undo_running : (b : Bool) (o : Option Inst) → b ≡ false → (if b then false else is_back_by o) ≡ is_back_by o
 undo_running true o h = cc
 undo_running false o h = refl
 
-pub undo_free : {b : Bool} (w : ℕ) (s : State) → s.sp.halted ≡ false → w ≡ word_at s.imem s.pc → b ≡ false → Some b ≡ reached s (inst_of w) → can_undo s ≡ true
+pub undo_free : (w : ℕ) (s : State) (e : Reach) → s.sp.halted ≡ false → w ≡ word_at s.imem s.pc → e.sp ≡ false → Some e ≡ reached s (inst_of w) → can_undo s ≡ true
 unfolding can_undo
-undo_free w s h e f r = rw (← e) (undo_running s.sp.halted (inst_of w) h ∙ leads_back (inst_of w) s (sym r ∙ ap Some f))
+undo_free w s e h is none r = rw (← is) (undo_running s.sp.halted (inst_of w) h ∙ leads_back (inst_of w) s e none r)
 
 pub back : (s t : State) (r q : Saved) → IsRanged s → q ≡ record_after s r → t ≡ (step_of s).1 → can_undo s ≡ true → undone q t ≡ s
 back s t r q ranged same there u = rw (same, there) (record_back s r ranged u)

@@ -1,6 +1,6 @@
 -- Steps that are made one by one.
 use Rattle.std.proofs.Common.{◌≡◌, ◌≢◌, inl, inr, ℕ, zero, suc, ◌+◌, ◌-◌, ◌<◌, ◌≤◌, Bool, true, false, List, [], ◌∷◌, length, set, get_or, refl, sym, ap, subst, ◌∙◌, arith, Option, Some, None}
-use Rattle.std.specs.Prelude.{if◌then◌else◌, slice_get, option_map}
+use Rattle.std.specs.Prelude.{if◌then◌else◌, not, ◌||◌, ◌&&◌, ◌⊎◌, slice_get, option_map}
 use Rattle.std.proofs.lemmas.Bool.{cases_lt}
 use Rattle.std.proofs.lemmas.List.{length-set, set-get_or}
 use Rattle.rsp_decode.specs.declared.inst.Inst.{Inst}
@@ -16,7 +16,9 @@ use Rattle.rsp_machine.specs.Making.{IsMade, IsEach, IsTold, GoesOn, AreTold, Is
 use Rattle.rsp_machine.specs.declared.change.Change.{Change}
 use Rattle.rsp_machine.specs.declared.step.StepEnd.{StepEnd}
 use Rattle.rsp_machine.specs.declared.step.StepEnd.TheVariants.{Done, Halted, Reserved}
-use Rattle.rsp_machine.proofs.Ending.{reached, after, stays, free, clear_as, step_halted, step_reserved, step_done}
+use Rattle.rsp_machine.specs.Until.{may_store_at, ends_after}
+use Rattle.rsp_machine.specs.declared.change.Reach.{Reach}
+use Rattle.rsp_machine.proofs.Ending.{reached, after, stays, free, clear_as, clear_behind, halted_as, stored-as, step_halted, step_reserved, step_done}
 
 -- no step, and one more
 pub made-none : (k : ℕ) (s t : State) → k ≡ 0 → t ≡ s → IsMade k s t
@@ -94,30 +96,96 @@ stuck_done_all k n s t m h e =
     omega (arith, rest, done_add k (n - k) s, there, stuck_done (n - k) t e, m.done)
 
 -- What execute answers and leaves, of a machine s that isn't halted.
-pub record IsExecuted (w : ℕ) (s t : State) (r : Option Bool) : Type 0 where
+pub record IsExecuted (w : ℕ) (s t : State) (r : Option Reach) : Type 0 where
   pub goes : s.sp.halted ≡ false
   pub word : w ≡ word_at s.imem s.pc
   pub answer : r ≡ reached s (inst_of w)
   pub state : t ≡ after s (inst_of w)
 
-pub executed-done : (w : ℕ) (s t : State) (r : Option Bool) (b : Bool) → IsExecuted w s t r → r ≡ Some b → step_of s ≡ (Done, singled t)
-executed-done w s t r b h is = step_done w s t b h.goes h.word (sym is ∙ h.answer) h.state
+pub executed-as : (w : ℕ) (p q : Places) (l v : State) (r : Option Reach) → l.sp.halted ≡ false → w ≡ word_at l.imem p.pc → r ≡ reached (at_places p l) (inst_of w)
+    → at_places q v ≡ after (at_places p l) (inst_of w) → IsExecuted w (at_places p l) (at_places q v) r
+executed-as w p q l v r goes word answer state = record { goes = goes; word = word; answer = answer; state = state }
 
--- of which the SP registers know nothing
-pub executed-sp : (w : ℕ) (s t : State) (r : Option Bool) (b : Bool) → IsExecuted w s t r → r ≡ Some b → b ≡ false → t.sp ≡ s.sp
-executed-sp w s t r b h is none = stays (inst_of w) s t none (sym is ∙ h.answer) h.state
+-- and in which state the step then ends
+pub record IsTurn (w : ℕ) (s t u : State) (r : Option Reach) (e : Reach) (single : Bool) : Type 0 where
+  pub executed : IsExecuted w s t r
+  pub some : r ≡ Some e
+  pub clear : single ≡ false → s.sp.single_step ≡ false
+  pub ended : u ≡ (if e.sp || single then singled t else t)
 
-pub executed-free : (w : ℕ) (s t : State) (r : Option Bool) (b : Bool) → IsExecuted w s t r → r ≡ Some b → b ≡ false → s.sp.single_step ≡ false → step_of s ≡ (Done, t)
-executed-free w s t r b h is none clear =
-    let same = executed-sp w s t r b h is none in
-    executed-done w s t r b h is ∙ ap (λ (x : State). (Done, x)) (sym (free s t h.goes same (clear_as s t clear same)))
+ended_at : (b : Bool) (p : Places) (s t : State) → s ≡ (if b then singled t else t) → at_places p s ≡ (if b then singled (at_places p t) else at_places p t)
+ended_at true p s t e = ap (at_places p) e
+ended_at false p s t e = ap (at_places p) e
+
+pub turn-of : (w : ℕ) (p q : Places) (l v m : State) (r : Option Reach) (e : Reach) (single : Bool) → l.sp.halted ≡ false → w ≡ word_at l.imem p.pc → r ≡ reached (at_places p l) (inst_of w)
+    → at_places q v ≡ after (at_places p l) (inst_of w) → r ≡ Some e → (single ≡ false → l.sp.single_step ≡ false) → m ≡ (if e.sp || single then singled v else v)
+    → IsTurn w (at_places p l) (at_places q v) (at_places q m) r e single
+turn-of w p q l v m r e single goes word answer state some clear ended = record {
+  executed = record { goes = goes; word = word; answer = answer; state = state };
+  some = some;
+  clear = clear;
+  ended = ended_at (e.sp || single) q m v ended;
+}
+
+ended_by : (a b : Bool) (t u : State) → u ≡ (if a || b then singled t else t) → ((a ≡ false) × (b ≡ false) → t ≡ singled t) → singled t ≡ u
+ended_by true b t u e same = sym e
+ended_by false true t u e same = sym e
+ended_by false false t u e same = sym (same (refl, refl)) ∙ sym e
+
+-- whether the loop goes on after it, by whether the machine is halted then and what the saver says
+pub goes-by : (a b halted goes r : Bool) → r ≡ (not (a || b) || not halted && goes) → r ≡ true → ((a ≡ false) × (b ≡ false)) ⊎ ((halted ≡ false) × (goes ≡ true))
+goes-by true b true goes r e t = cc
+goes-by true b false goes r e t = inr (refl, sym e ∙ t)
+goes-by false true true goes r e t = cc
+goes-by false true false goes r e t = inr (refl, sym e ∙ t)
+goes-by false false halted goes r e t = inl (refl, refl)
+
+pub stops-by : (a b halted goes r : Bool) → r ≡ (not (a || b) || not halted && goes) → r ≡ false → (halted ≡ true) ⊎ (goes ≡ false)
+stops-by true b true goes r e f = inl refl
+stops-by true b false goes r e f = inr (sym e ∙ f)
+stops-by false true true goes r e f = inl refl
+stops-by false true false goes r e f = inr (sym e ∙ f)
+stops-by false false halted goes r e f = cc
+
+module _ (w : ℕ) (s t u : State) (r : Option Reach) (e : Reach) (single : Bool) (h : IsTurn w s t u r e single) where
+  turn_answer : Some e ≡ reached s (inst_of w)
+  turn_answer = sym h.some ∙ h.executed.answer
+
+  -- an instruction that doesn't reach the SP registers leaves them, and single step halts nothing where it is clear
+  turn_free : (e.sp ≡ false) × (single ≡ false) → t ≡ singled t
+  turn_free none =
+      let same = stays (inst_of w) s t e none.0 turn_answer h.executed.state in
+      free s t h.executed.goes same (clear_as s t (h.clear none.1) same)
+
+  turn_ended : singled t ≡ u
+  turn_ended = ended_by e.sp single t u h.ended turn_free
+
+  turn_same : (e.sp ≡ false) × (single ≡ false) → u.sp ≡ s.sp
+  turn_same none = ap (λ (x : State). x.sp) (sym turn_ended ∙ sym (turn_free none)) ∙ stays (inst_of w) s t e none.0 turn_answer h.executed.state
+
+  pub turn-done : step_of s ≡ (Done, u)
+  turn-done = step_done w s t e h.executed.goes h.executed.word turn_answer h.executed.state ∙ ap (λ (x : State). (Done, x)) turn_ended
+
+  pub turn-running : ((e.sp ≡ false) × (single ≡ false)) ⊎ (u.sp.halted ≡ false) → u.sp.halted ≡ false
+  turn-running (inl none) = sym (halted_as s u h.executed.goes (turn_same none))
+  turn-running (inr running) = running
+
+  pub turn-clear : u.sp.halted ≡ false → u.sp.single_step ≡ false
+  turn-clear running = clear_behind t u (sym turn_ended) running
+
+  pub turn-ends : (ends : ℕ → ℕ → Bool → Bool) (v : ℕ) → v ≡ word_at u.imem u.pc → ends_after ends s ≡ ends u.pc v e.dmem
+  unfolding ends_after
+  turn-ends ends v is =
+      ap (λ (x : State). ends x.pc (word_at x.imem x.pc) (may_store_at s)) (ap (λ x. x.1) turn-done)
+      ∙ ap (λ n. ends u.pc n (may_store_at s)) (sym is)
+      ∙ ap (ends u.pc v) (sym (stored-as w s e h.executed.word turn_answer))
 
 -- a reserved word, which changes nothing
 unreached : (o : Option Inst) (s : State) → None ≡ reached s o → after s o ≡ s
 unreached None s h = refl
 unreached (Some i) s h = cc
 
-pub executed-none : (w : ℕ) (s t : State) (r : Option Bool) → IsExecuted w s t r → r ≡ None → (t ≡ s) × (step_of s ≡ (Reserved w, t))
+pub executed-none : (w : ℕ) (s t : State) (r : Option Reach) → IsExecuted w s t r → r ≡ None → (t ≡ s) × (step_of s ≡ (Reserved w, t))
 executed-none w s t r h is =
     let answer = sym is ∙ h.answer in (
       h.state ∙ unreached (inst_of w) s answer,
@@ -191,9 +259,17 @@ some_goes : {K : Type 0} (o : Option K) → option_map (λ (k : K). true) o ≡ 
 some_goes None e = cc
 some_goes (Some k) e = cc
 
-pub ends-stuck : {K : Type 0} (k : ℕ) (t : State) (o : Option K) → IsEnd (λ (x : K). true) k t o → done_steps (step_of t).0 ≡ 0
-ends-stuck k t o (inl stuck) = stuck
-ends-stuck k t o (inr last) = absurd (some_goes o last.1)
+pub ends-freely : {K : Type 0} (k : ℕ) (s t : State) (ends : ℕ → ℕ → Bool → Bool) (o : Option K) → IsEnd (λ (x : K). true) ends k s t o
+    → (done_steps (step_of t).0 ≡ 0) ⊎ ((0 < k) × (ends_after ends (steps_of (k - 1) s) ≡ true))
+ends-freely k s t ends o (inl stuck) = inl stuck
+ends-freely k s t ends o (inr (some, inl last)) = absurd (some_goes o last)
+ends-freely k s t ends o (inr (some, inr ended)) = inr (some, ended)
+
+pub ends-stuck : {K : Type 0} (k : ℕ) (s t : State) (o : Option K) → IsEnd (λ (x : K). true) (λ pc word stored. false) k s t o → done_steps (step_of t).0 ≡ 0
+unfolding ends_after
+ends-stuck k s t o (inl stuck) = stuck
+ends-stuck k s t o (inr (some, inl last)) = absurd (some_goes o last)
+ends-stuck k s t o (inr (some, inr ended)) = cc
 
 -- what stands in a slot that is written, and in the others
 slice_get-set_same : {X : Type 0} (xs : List X) (i : ℕ) (x : X) → i < length xs → slice_get (set xs i x) i ≡ Some x
@@ -213,7 +289,7 @@ told_running : {K : Type 0} (saves : Change → State → K → K) (b : Bool) (o
 told_running saves true o s k h = cc
 told_running saves false o s k h = refl
 
-pub told-running : {K : Type 0} (saves : Change → State → K → K) (w : ℕ) (s : State) (k x : K) → s.sp.halted ≡ false → w ≡ word_at s.imem s.pc → x ≡ told_by saves (inst_of w) s k → x ≡ told_of saves s k
+told-running : {K : Type 0} (saves : Change → State → K → K) (w : ℕ) (s : State) (k x : K) → s.sp.halted ≡ false → w ≡ word_at s.imem s.pc → x ≡ told_by saves (inst_of w) s k → x ≡ told_of saves s k
 unfolding told_of
 told-running saves w s k x goes word e = e ∙ ap (λ v. told_by saves (inst_of v) s k) word ∙ told_running saves s.sp.halted (inst_of (word_at s.imem s.pc)) s k goes
 
@@ -236,7 +312,7 @@ module _ {K : Type 0} (saves : Change → State → K → K) (goes : K → Bool)
   kept k j xs x each at i l = slice_get-set_other xs (slot i) j x (λ e. let same : i ≡ k = each i k (e ∙ at) in absurd (omega (arith, l, same)))
 
   -- one step more, which was told in the next slot
-  pub told-more : (k j : ℕ) (s t : State) (old new : List K) (x before : K) → AreTold saves goes slot k k s old new → t ≡ steps_of k s → j ≡ slot k → j < length new
+  told-more : (k j : ℕ) (s t : State) (old new : List K) (x before : K) → AreTold saves goes slot k k s old new → t ≡ steps_of k s → j ≡ slot k → j < length new
       → x ≡ told_of saves t before → IsRanged t → AreTold saves goes slot (k + 1) k s old (set new j x)
   told-more k j s t old new x before a there at inside told ranged =
       let here : IsTold saves (steps_of k s) (slice_get (set new j x) (slot k)) = record {
@@ -255,6 +331,12 @@ module _ {K : Type 0} (saves : Change → State → K → K) (goes : K → Bool)
         rest = λ i other. slice_get-set_other new i j x (λ e. other k (omega arith) (sym at ∙ sym e)) ∙ a.rest i (λ m l. other m (omega (arith, l)));
         len = length-set new j x ∙ a.len;
       }
+
+  -- by a turn
+  pub turn-told : (w k j : ℕ) (o s t : State) (r : Option Reach) (old new : List K) (x before : K) → IsExecuted w s t r → IsMade k o s → AreTold saves goes slot k k o old new → j ≡ slot k → j < length new
+      → x ≡ told_by saves (inst_of w) s before → IsRanged s → AreTold saves goes slot (k + 1) k o old (set new j x)
+  turn-told w k j o s t r old new x before h run a at inside told ranged =
+      told-more k j o s old new x before a run.state at inside (told-running saves w s before x h.goes h.word told) ranged
 
   -- behind which steps go on
   pub told-on : (k : ℕ) (s t : State) (old new : List K) → AreTold saves goes slot (k + 1) k s old new → t ≡ steps_of k s → GoesOn goes t (slice_get new (slot k)) → AreTold saves goes slot (k + 1) (k + 1) s old new

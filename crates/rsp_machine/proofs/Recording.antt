@@ -8,6 +8,7 @@ use Rattle.rsp_machine.specs.Step.{step_of}
 use Rattle.rsp_machine.specs.Laws.{steps_of, done_steps, done_of}
 use Rattle.rsp_machine.specs.Saved.{Saved, blank, change_saved, told_of, record_after, record_at, can_undo, is_back, may_store, undone}
 use Rattle.rsp_machine.specs.Transfers.{starts_dma_at}
+use Rattle.rsp_machine.specs.Until.{ends_after}
 use Rattle.rsp_machine.specs.Making.{IsTold, GoesOn, AreTold, IsEnd}
 use Rattle.rsp_machine.specs.declared.step.StepEnd.{StepEnd}
 use Rattle.rsp_machine.specs.declared.step.StepEnd.TheVariants.{Done, Halted, Reserved}
@@ -104,11 +105,18 @@ module _ (k : ℕ) (s : State) (old new : List Saved) (a : AreRecorded k s old n
       let inside : i < k = omega (arith, h) in
       transfer_as i true inside (goes_as i inside (a.on each i (omega (arith, h))))
 
-  pub recorded-end : (t : State) → IsEnd (λ (r : Saved). is_back r.change) k t (slice_get new (k - 1)) → (done_steps (step_of t).0 ≡ 0) ⊎ ((0 < k) × (starts_dma_at (steps_of (k - 1) s) ≡ true))
-  recorded-end t (inl stuck) = inl stuck
-  recorded-end t (inr last) =
-      let some : 0 < k = last.0 in let inside : k - 1 < k = omega (arith, some) in
-      inr (some, transfer_as (k - 1) false inside (marked_as (k - 1) false inside last.1))
+  pub recorded-end : (ends : ℕ → ℕ → Bool → Bool) (t : State) → IsEnd (λ (r : Saved). is_back r.change) ends k s t (slice_get new (k - 1))
+      → (done_steps (step_of t).0 ≡ 0) ⊎ ((0 < k) × ((starts_dma_at (steps_of (k - 1) s) ≡ true) ⊎ (ends_after ends (steps_of (k - 1) s) ≡ true)))
+  recorded-end ends t (inl stuck) = inl stuck
+  recorded-end ends t (inr (some, inr ended)) = inr (some, inr ended)
+  recorded-end ends t (inr (some, inl last)) =
+      let inside : k - 1 < k = omega (arith, some) in
+      inr (some, inl (transfer_as (k - 1) false inside (marked_as (k - 1) false inside last)))
+
+pub recorded-never : {D : Type 0} (s : State) → D ⊎ (ends_after (λ pc word stored. false) s ≡ true) → D
+unfolding ends_after
+recorded-never s (inl d) = d
+recorded-never s (inr ended) = cc
 
 -- the further records stay
 drop_as : {X : Type 0} (xs ys : List X) (n : ℕ) → length xs ≡ length ys → ((j : ℕ) → n ≤ j → slice_get xs j ≡ slice_get ys j) → drop n xs ≡ drop n ys

@@ -31,8 +31,10 @@ use Rattle.rsp_machine.specs.Vector.{multiplies, rounds, multiplies_mpeg, reads_
 use Rattle.rsp_machine.specs.Step.{computes, loads, stores, jumps, break_instruction, moves_sp, worked, executed, singled, step_by, step_of}
 use Rattle.rsp_machine.specs.Host.{register_written}
 use Rattle.rsp_machine.specs.declared.step.StepEnd.TheVariants.{Done, Halted}
-use Rattle.rsp_machine.specs.Saved.{Saved, change_saved, values_saved, restored, change_of, register_of, register_by, undone, starts_dma, is_length, sign_change, jump_change, told_of, may_store, group_at, with_group, is_back_by, can_undo, record_after, is_back}
+use Rattle.rsp_machine.specs.Saved.{Saved, change_saved, values_saved, restored, change_of, register_of, register_by, undone, starts_dma, is_length, sign_change, jump_change, told_of, may_store, group_at, with_group, is_back_by, can_undo, record_after, is_back, changes_memory}
 use Rattle.rsp_machine.specs.Changes.{saved_of, saved_by, IsRanged}
+use Rattle.rsp_machine.specs.Until.{may_store_by, may_store_at}
+use Rattle.rsp_machine.specs.declared.change.Change.{Change}
 use Rattle.rsp_machine.specs.declared.change.Change.TheVariants as of
 use Rattle.rsp_machine.proofs.Undoing.{register-back, vector-back, store-back}
 use Rattle.rsp_machine.proofs.Loading.{loaded-back, put_back}
@@ -342,54 +344,44 @@ pub done_marked : (s : State) (r : Saved) → (step_of s).0 ≡ Done → can_und
 unfolding can_undo record_after told_of step_of
 done_marked s r e = done_by s.sp.halted (inst_of (word_at s.imem s.pc)) (word_at s.imem s.pc) s r e
 
--- a step whose record says that it stored nothing leaves DMEM
-written_stays : (b : Bool) (v n : ℕ) (s : State) (r : Saved) → is_length n ≡ b → may_store (change_saved (if b then of.Dma else of.Sp 0) s r) ≡ false
-    → (register_written n v (advanced s)).dmem ≡ s.dmem
+-- a step that doesn't change DMEM leaves it
+written_stays : (b : Bool) (v n : ℕ) (s : State) → is_length n ≡ b → changes_memory (if b then of.Dma else of.Sp 0) ≡ false → (register_written n v (advanced s)).dmem ≡ s.dmem
+written_stays true v n s e h = cc
+written_stays false v n s e h = ap (λ t. t.dmem) (no_dma n v (advanced s) e)
+
+dmem_stays : (i : Inst) (s : State) → changes_memory (change_of i s) ≡ false → (executed i s).dmem ≡ s.dmem
+unfolding change_of executed worked computes loads stores jumps break_instruction moves_sp multiplies rounds multiplies_mpeg reads_accumulator ruled divides loads_vector stores_vector moves_vector moves_control
+dmem_stays (Store row f) s h = cc
+dmem_stays (VectorStore row f) s h = cc
+dmem_stays (MoveSp From rt n) s h = refl
+dmem_stays (MoveSp To rt n) s h = written_stays (is_length n) (register s.registers rt) n s refl h
+dmem_stays (MoveVector From rt n element) s h = refl
+dmem_stays (MoveVector To rt n element) s h = refl
+dmem_stays (MoveControl From rt control) s h = refl
+dmem_stays (MoveControl To rt control) s h = refl
+dmem_stays _ s h = refl
+
+stays_by : (b : Bool) (o : Option Inst) (word : ℕ) (s : State) → (if b then (Halted, s) else step_by o word s).0 ≡ Done → may_store_by o s ≡ false → (if b then (Halted, s) else step_by o word s).1.dmem ≡ s.dmem
+stays_by true o word s e h = cc
+stays_by false None word s e h = cc
+stays_by false (Some i) word s e h = dmem_stays i s h
+
+pub memory-kept : (s : State) → (step_of s).0 ≡ Done → may_store_at s ≡ false → (step_of s).1.dmem ≡ s.dmem
+unfolding may_store_at step_of
+memory-kept s e h = stays_by s.sp.halted (inst_of (word_at s.imem s.pc)) (word_at s.imem s.pc) s e h
+
+-- its record says so
+memory_saved : (change : Change) (s : State) (r : Saved) → may_store (change_saved change s r) ≡ changes_memory change
 unfolding change_saved values_saved
-written_stays true v n s r e h = cc
-written_stays false v n s r e h = ap (λ t. t.dmem) (no_dma n v (advanced s) e)
+memory_saved of.Places s r = refl
+memory_saved _ s r = refl
 
-saved_stays : (i : Inst) (s : State) (r : Saved) → may_store (saved_of i s r) ≡ false → (executed i s).dmem ≡ s.dmem
-unfolding change_of executed worked computes loads stores jumps break_instruction moves_sp multiplies rounds multiplies_mpeg reads_accumulator ruled divides loads_vector stores_vector moves_vector moves_control change_saved values_saved
-saved_stays (Shift row rd rt amount) s r h = refl
-saved_stays (ShiftBy row f) s r h = refl
-saved_stays (Register row f) s r h = refl
-saved_stays (Immediate row rt rs imm) s r h = refl
-saved_stays (LoadUpper rt imm) s r h = refl
-saved_stays (Load row f) s r h = refl
-saved_stays (Store row f) s r h = cc
-saved_stays (JumpRegister rs) s r h = refl
-saved_stays (JumpLinkRegister rd rs) s r h = refl
-saved_stays (BranchSign row rs offset) s r h = refl
-saved_stays (BranchEqual row rs rt offset) s r h = refl
-saved_stays (Jump row target) s r h = refl
-saved_stays Break s r h = refl
-saved_stays (MoveSp From rt n) s r h = refl
-saved_stays (MoveSp To rt n) s r h = written_stays (is_length n) (register s.registers rt) n s r refl h
-saved_stays (MoveVector From rt n element) s r h = refl
-saved_stays (MoveVector To rt n element) s r h = refl
-saved_stays (MoveControl From rt control) s r h = refl
-saved_stays (MoveControl To rt control) s r h = refl
-saved_stays (Multiply row f) s r h = refl
-saved_stays (Round row f) s r h = refl
-saved_stays (MpegMultiply row f) s r h = refl
-saved_stays (ReadAccumulator f) s r h = refl
-saved_stays (VectorAdd row f) s r h = refl
-saved_stays (VectorSelect row f) s r h = refl
-saved_stays (VectorClip row f) s r h = refl
-saved_stays (VectorMerge f) s r h = refl
-saved_stays (VectorLogic row f) s r h = refl
-saved_stays (Divide row vd lane vt n) s r h = refl
-saved_stays (Idle row) s r h = refl
-saved_stays (VectorLoad row f) s r h = refl
-saved_stays (VectorStore row f) s r h = cc
-
-stays_by : (b : Bool) (o : Option Inst) (word : ℕ) (s : State) (r : Saved) → (if b then (Halted, s) else step_by o word s).0 ≡ Done
-    → may_store (if b then r else saved_by o s r) ≡ false → (if b then (Halted, s) else step_by o word s).1.dmem ≡ s.dmem
-stays_by true o word s r e h = cc
-stays_by false None word s r e h = cc
-stays_by false (Some i) word s r e h = saved_stays i s r h
+memory_marked : (b : Bool) (o : Option Inst) (word : ℕ) (s : State) (r : Saved) → (if b then (Halted, s) else step_by o word s).0 ≡ Done → may_store (if b then r else saved_by o s r) ≡ may_store_by o s
+memory_marked true o word s r e = cc
+memory_marked false None word s r e = cc
+memory_marked false (Some i) word s r e = memory_saved (change_of i s) s r
 
 pub memory_stays : (s : State) (r : Saved) → (step_of s).0 ≡ Done → may_store (record_after s r) ≡ false → (step_of s).1.dmem ≡ s.dmem
-unfolding record_after told_of step_of
-memory_stays s r e h = stays_by s.sp.halted (inst_of (word_at s.imem s.pc)) (word_at s.imem s.pc) s r e h
+unfolding record_after told_of may_store_at step_of
+memory_stays s r e h =
+    memory-kept s e (sym (memory_marked s.sp.halted (inst_of (word_at s.imem s.pc)) (word_at s.imem s.pc) s r e) ∙ h)

@@ -5,8 +5,9 @@ use Rattle.rsp_numbers.specs.Numbers.{AreNumbers}
 use Rattle.rsp_lanes.specs.Flags.{flags_at, all_flags}
 use Rattle.rsp_loadstore.specs.File.{IsFile}
 use Rattle.rsp_machine.specs.State.{State}
-use Rattle.rsp_machine.specs.Saved.{Saved, change_of, change_saved, told_by}
+use Rattle.rsp_machine.specs.Saved.{Saved, change_of, change_saved, changes_memory, told_by}
 use Rattle.rsp_machine.specs.declared.change.Change.{Change}
+use Rattle.rsp_machine.specs.declared.change.Reach.{Reach}
 use Rattle.rsp_machine.specs.declared.change.Change.TheVariants as of
 
 -- the last register that a change names
@@ -37,6 +38,10 @@ abbrev pub reaches_sp : Change → Bool
 reaches_sp (of.Sp n) = true
 reaches_sp of.Dma = true
 reaches_sp _ = false
+
+-- what an instruction with a change may have reached
+abbrev pub reach_of : Change → Reach
+reach_of change = record { sp = reaches_sp change; dmem = changes_memory change }
 
 -- a record after it was told of an instruction
 abbrev pub saved_of : Inst → State → Saved → Saved

@@ -12,3 +12,4 @@ pub mod Registers
 pub mod Effects
 pub mod Transfers
 pub mod Pass
+pub mod Until

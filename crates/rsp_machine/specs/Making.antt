@@ -1,10 +1,11 @@
 -- Scaffolding: what a loop of steps knows of those that it has made.
-use Rattle.std.specs.Prelude.{ℕ, ◌≡◌, ◌≢◌, ◌<◌, ◌⊎◌, Bool, true, false, List, length, slice_get, Option, Some, option_map}
+use Rattle.std.specs.Prelude.{ℕ, ◌≡◌, ◌≢◌, ◌<◌, ◌-◌, ◌⊎◌, Bool, true, false, List, length, slice_get, Option, Some, option_map}
 use Rattle.rsp_machine.specs.State.{State}
 use Rattle.rsp_machine.specs.Step.{step_of}
 use Rattle.rsp_machine.specs.Laws.{steps_of, done_steps, done_of}
 use Rattle.rsp_machine.specs.Saved.{told_of, can_undo}
 use Rattle.rsp_machine.specs.Changes.{IsRanged}
+use Rattle.rsp_machine.specs.Until.{ends_after}
 use Rattle.rsp_machine.specs.declared.change.Change.{Change}
 
 -- k steps lead from s to t, and all are Done
@@ -33,6 +34,6 @@ pub record AreTold {K : Type 0} (saves : Change → State → K → K) (goes : K
   pub rest : (j : ℕ) → ((i : ℕ) → i < k → slot i ≢ j) → slice_get new j ≡ slice_get old j
   pub len : length new ≡ length old
 
--- why k steps that lead to t aren't more: the next isn't Done, or steps don't go on after the last, whose saver is o
-abbrev pub IsEnd : {K : Type 0} → (K → Bool) → ℕ → State → Option K → Type 0
-IsEnd goes k t o = (done_steps (step_of t).0 ≡ 0) ⊎ ((0 < k) × (option_map goes o ≡ Some false))
+-- why k steps from s that lead to t aren't more: the next isn't Done, or steps don't go on after the last, whose saver is o, or a test ends them
+abbrev pub IsEnd : {K : Type 0} → (K → Bool) → (ℕ → ℕ → Bool → Bool) → ℕ → State → State → Option K → Type 0
+IsEnd goes ends k s t o = (done_steps (step_of t).0 ≡ 0) ⊎ ((0 < k) × ((option_map goes o ≡ Some false) ⊎ (ends_after ends (steps_of (k - 1) s) ≡ true)))

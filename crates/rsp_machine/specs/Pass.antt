@@ -1,5 +1,5 @@
 -- Going past a move of an SP register in place of executing it.
-use Rattle.std.specs.Prelude.{ℕ, Option, Some, Result, Ok, Err, if◌then◌else◌}
+use Rattle.std.specs.Prelude.{ℕ, Bool, true, false, Option, Some, Result, Ok, Err, if◌then◌else◌}
 use Rattle.rsp_decode.specs.declared.inst.Inst.{Inst}
 use Rattle.rsp_decode.specs.declared.inst.Inst.TheVariants.{MoveSp}
 use Rattle.rsp_rows.specs.declared.scalar.MoveRow.{MoveRow}
@@ -11,6 +11,11 @@ use Rattle.rsp_machine.specs.State.{State, advanced}
 use Rattle.rsp_machine.specs.Step.{singled}
 use Rattle.rsp_machine.specs.declared.pass.PassFault.{PassFault}
 use Rattle.rsp_machine.specs.declared.pass.PassFault.TheVariants.{Halted, OtherWord}
+
+-- whether a move writes its SP register
+abbrev pub is_write : MoveRow → Bool
+is_write From = false
+is_write To = true
 
 -- the state after a move that is gone past: register rt of an MFC0 becomes the value, and an MTC0 writes nothing
 abbrev pub passed : MoveRow → ℕ → ℕ → State → State

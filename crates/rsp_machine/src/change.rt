@@ -3,7 +3,7 @@
 ghost use Rattle.std.specs.Prelude.{◌≡◌, ◌<◌};
 ghost use Rattle.rsp_decode.specs.Table.{IsInstruction};
 ghost use Rattle.rsp_machine.specs.Saved.{nameless, register_of, change_of};
-ghost use Rattle.rsp_machine.specs.Changes.{IsChange, reaches_sp};
+ghost use Rattle.rsp_machine.specs.Changes.{IsChange, reach_of};
 
 use crate::machine::Machine;
 use rsp_acc::Acc;
@@ -41,6 +41,15 @@ pub(crate) enum Change {
     Sp(u32),
     /// What a DMA changes, which isn't saved: no way leads back.
     Dma,
+}
+
+/// What an instruction may have reached, besides its registers.
+#[derive(Clone, Copy, Drop)]
+pub(crate) struct Reach {
+    /// Whether it may have read or written the SP registers.
+    pub(crate) sp: bool,
+    /// Whether it may have written DMEM.
+    pub(crate) dmem: bool,
 }
 
 impl Change {
@@ -88,12 +97,15 @@ impl Change {
         }
     }
 
-    /// Whether an instruction with this change may read or write the SP registers.
+    /// What an instruction with this change may reach.
     #[inline(always)]
-    pub(crate) fn reaches_sp(self) -> bool
-        ensures { result ≡ reaches_sp self }
+    pub(crate) fn reach(self) -> Reach
+        ensures { result ≡ reach_of self }
     {
-        matches!(self, Change::Sp(_) | Change::Dma)
+        Reach {
+            sp: matches!(self, Change::Sp(_) | Change::Dma),
+            dmem: matches!(self, Change::Bytes(_) | Change::Dma),
+        }
     }
 }
 

@@ -7,9 +7,9 @@ ghost use Rattle.rsp_scalar.specs.Flow.{following, linked};
 ghost use Rattle.rsp_machine.specs.Step.{computes, loads, stores, break_instruction, moves_sp, worked, executed};
 ghost use Rattle.rsp_machine.specs.Places.{at_places, places_of};
 ghost use Rattle.rsp_machine.specs.Saved.{change_of, told_by};
-ghost use Rattle.rsp_machine.specs.Changes.{IsChange, reaches_sp};
+ghost use Rattle.rsp_machine.specs.Changes.{IsChange, reach_of};
 
-use crate::change::{Change, change_of};
+use crate::change::{Change, Reach, change_of};
 use crate::machine::Machine;
 use crate::place::{Place, Places};
 use crate::saver::Saver;
@@ -28,8 +28,8 @@ struct Executor<'a, A: Acc, K: Saver> {
     from: Place,
     /// The places behind it. What `machine` has of places doesn't count.
     places: Places,
-    /// Whether the instruction may have read or written the SP registers.
-    reaches_sp: bool,
+    /// What the instruction may have reached.
+    reach: Reach,
 }
 
 impl<'a, A: Acc, K: Saver> Executor<'a, A, K> {
@@ -37,14 +37,14 @@ impl<'a, A: Acc, K: Saver> Executor<'a, A, K> {
     #[inline(always)]
     fn save(&mut self, change: Change)
         requires { IsChange change }
-        ensures { self.new ≡ record self.old { saver = record self.old.saver { now = K.saves change (at_places (record { pc = self.old.from; npc = self.old.places.pc }) self.old.machine.now) self.old.saver.now }; reaches_sp = reaches_sp change } }
+        ensures { self.new ≡ record self.old { saver = record self.old.saver { now = K.saves change (at_places (record { pc = self.old.from; npc = self.old.places.pc }) self.old.machine.now) self.old.saver.now }; reach = reach_of change } }
     {
         let before = Places {
             pc: self.from,
             npc: self.places.pc,
         };
         self.saver.save(self.machine, before, change);
-        self.reaches_sp = change.reaches_sp();
+        self.reach = change.reach();
     }
 
     /// The places behind the instruction.
@@ -194,7 +194,7 @@ impl<A: Acc> Machine<A> {
         }
     }
 
-    /// Executes a word, of whose changes a saver is told, and answers whether they may have reached the SP registers. None for
+    /// Executes a word, of whose changes a saver is told, and answers what the instruction may have reached. None for
     /// a reserved word, which changes nothing. The machine stands at these places, and what it has of its own doesn't count.
     #[inline(always)]
     #[tactic(auto, unfolding(crate::specs::Step::executed))]
@@ -203,8 +203,8 @@ impl<A: Acc> Machine<A> {
         places: &mut Places,
         word: u32,
         saver: &mut K,
-    ) -> Option<bool>
-        ensures answer { result ≡ option_map (λ i. reaches_sp (change_of i (at_places places.old self.old))) (inst_of word) }
+    ) -> Option<Reach>
+        ensures answer { result ≡ option_map (λ i. reach_of (change_of i (at_places places.old self.old))) (inst_of word) }
         ensures state { at_places places.new self.new ≡ unwrap_or (option_map (λ i. executed i (at_places places.old self.old)) (inst_of word)) (at_places places.old self.old) }
         ensures saver { saver.new ≡ told_by K.saves (inst_of word) (at_places places.old self.old) saver.old }
     {
@@ -215,13 +215,16 @@ impl<A: Acc> Machine<A> {
             saver,
             from,
             places: behind,
-            reaches_sp: false,
+            reach: Reach {
+                sp: false,
+                dmem: false,
+            },
         };
         if !visit(word, &mut executor) {
             return None;
         }
         *places = executor.places();
-        Some(executor.reaches_sp)
+        Some(executor.reach)
     }
 }
 
@@ -229,7 +232,7 @@ impl<'a, A: Acc, K: Saver> Visitor for Executor<'a, A, K> {
     ghost use Rattle.rsp_machine.specs.Places.{at_places, places_of};
     ghost use Rattle.rsp_machine.specs.Step.{worked};
     ghost use Rattle.rsp_machine.specs.Saved.{change_of};
-    ghost use Rattle.rsp_machine.specs.Changes.{reaches_sp};
+    ghost use Rattle.rsp_machine.specs.Changes.{reach_of};
 
     ghost after = { λ i e.
         let before = at_places (record { pc = e.from; npc = e.places.pc }) e.machine.now in
@@ -239,7 +242,7 @@ impl<'a, A: Acc, K: Saver> Visitor for Executor<'a, A, K> {
           saver = record e.saver { now = K.saves (change_of i before) before e.saver.now };
           from = e.from;
           places = places_of behind;
-          reaches_sp = reaches_sp (change_of i before);
+          reach = reach_of (change_of i before);
         } };
 
     #[inline(always)]

@@ -20,6 +20,7 @@ mod registers;
 mod saver;
 mod sp;
 mod step;
+mod until;
 mod vector;
 
 pub use effect::Effect;
@@ -29,3 +30,4 @@ pub use pass::PassFault;
 pub use record::Record;
 pub use registers::{AllRegisters, RegistersFault};
 pub use step::StepEnd;
+pub use until::{Never, Until};

@@ -1,19 +1,22 @@
 // Steps, in one loop.
 
-ghost use Rattle.std.specs.Prelude.{◌≡◌, ◌↔◌, ◌⊎◌, ◌<◌, ◌≤◌, ◌+◌, ◌-◌, ℕ, true, false, not, length, drop, slice_get, IsSome, IfSome};
+ghost use Rattle.std.specs.Prelude.{◌≡◌, ◌↔◌, ◌⊎◌, ◌<◌, ◌≤◌, ◌+◌, ◌-◌, ◌||◌, ◌&&◌, ℕ, true, false, not, if◌then◌else◌, length, drop, slice_get, IsSome, IfSome};
 ghost use Rattle.rsp_memory.specs.Memory.{word_at};
-ghost use Rattle.rsp_machine.specs.Step.{step_of};
+ghost use Rattle.rsp_machine.specs.Step.{singled, step_of};
 ghost use Rattle.rsp_machine.specs.Places.{at_places, places_of};
 ghost use Rattle.rsp_machine.specs.Transfers.{starts_dma_at};
 ghost use Rattle.rsp_machine.specs.Saved.{is_back, may_store, record_at, undone};
 ghost use Rattle.rsp_machine.specs.Laws.{steps_of, done_steps, done_of};
+ghost use Rattle.rsp_machine.specs.Until.{ends_after};
 ghost use Rattle.rsp_machine.specs.Making.{IsMade, AreTold, IsEnd};
 ghost use Rattle.rsp_machine.specs.declared.step.StepEnd.TheVariants.{Done};
 
+use crate::change::Reach;
 use crate::machine::Machine;
 use crate::place::Places;
 use crate::record::Record;
 use crate::saver::{NoRecord, Saver};
+use crate::until::{Never, Until};
 use rsp_acc::Acc;
 use std::slice;
 
@@ -60,36 +63,51 @@ impl<A: Acc> Machine<A> {
         self.imem.aligned_word(places.pc.index())
     }
 
-    /// Makes up to `n` steps, as long as they are Done and the savers go on, and returns how many. Meanwhile pc and npc are in
-    /// registers of the host, and the loop tests for a halt only after an instruction that reaches the SP registers, or in
-    /// single step.
+    /// Ends a step: in single step it halts. Answers whether the loop goes on. That is tested only after an instruction that may
+    /// have reached the SP registers, or if `single`, which is false only where single step is clear.
+    #[inline(always)]
+    fn end_step<K: Saver>(&mut self, reach: Reach, single: bool, saver: &K) -> bool
+        ensures state { self.new ≡ (if reach.sp || single then singled self.old else self.old) }
+        ensures goes { result ≡ (not (reach.sp || single) || not self.new.sp.halted && K.goes_on saver.now) }
+    {
+        if !(reach.sp || single) {
+            return true;
+        }
+        self.sp.on_step();
+        !self.sp.halted() && saver.goes_on()
+    }
+
+    /// Makes up to `n` steps, as long as they are Done, the savers go on, and `until` doesn't end them, and returns how many.
+    /// Meanwhile pc and npc are in registers of the host. `until` is asked at the end of a turn, so not before the first step.
     #[inline(never)]
-    fn go<K: Saver>(&mut self, n: u64, slots: &mut [K]) -> u64
+    fn go<K: Saver, U: Until>(&mut self, n: u64, slots: &mut [K], until: &U) -> u64
         requires slots { (i : ℕ) → i < n → K.slot i < length slots.old }
         ensures within { result ≤ n }
         ensures made { IsMade result self.old self.new }
         ensures told { AreTold K.saves K.goes_on K.slot result (result - 1) self.old slots.old slots.new }
-        ensures ends { result < n → IsEnd K.goes_on result self.new (slice_get slots.new (K.slot (result - 1))) }
+        ensures asked { (i : ℕ) → i + 1 < result → ends_after (U.ends until.now) (steps_of i self.old) ≡ false }
+        ensures ends { result < n → IsEnd K.goes_on (U.ends until.now) result self.old self.new (slice_get slots.new (K.slot (result - 1))) }
     {
         if self.sp.halted() {
             return 0;
         }
         let single = self.sp.single_step();
         let mut places = self.places();
+        let mut word = self.word_at(places);
         let mut made = 0;
         while made < n {
             self.vector_ranges();
             let slot = &mut slots[K::slot(made)];
-            let word = self.word_at(places);
-            let Some(reaches_sp) = self.execute::<K>(&mut places, word, slot) else {
+            let Some(reach) = self.execute::<K>(&mut places, word, slot) else {
                 break;
             };
             made += 1;
-            if reaches_sp || single {
-                self.sp.on_step();
-                if self.sp.halted() || !slot.goes_on() {
-                    break;
-                }
+            if !self.end_step(reach, single, slot) {
+                break;
+            }
+            word = self.word_at(places);
+            if until.ends(places.pc.get(), word, reach.dmem) {
+                break;
             }
         }
         self.put_places(places);
@@ -121,7 +139,7 @@ impl<A: Acc> Machine<A> {
         ensures state { self.new ≡ steps_of n self.old }
         ensures done { result ≡ done_of n self.old }
     {
-        self.go::<NoRecord>(n, &mut [NoRecord])
+        self.go(n, &mut [NoRecord], &Never)
     }
 
     /// One step, with the record that undoes it beside its answer: None exactly if the answer isn't Done or a DMA
@@ -160,6 +178,36 @@ impl<A: Acc> Machine<A> {
         ensures rest { drop result records.new ≡ drop result records.old }
         ensures len { length records.new ≡ length records.old }
     {
-        self.go::<Record>(records.len() as u64, records) as usize
+        self.steps_recorded_until(records, &Never)
+    }
+
+    /// Makes up to `n` steps, as [`Machine::step`] makes them, as long as they are Done and `until` doesn't end them. It is asked
+    /// before each step but the first. Returns how many steps were made: fewer than `n` if a further step wouldn't be Done, or
+    /// if `until` ends them there.
+    pub fn steps_until<U: Until>(&mut self, n: u64, until: &U) -> u64
+        ensures within { result ≤ n }
+        ensures done { done_of result self.old ≡ result }
+        ensures state { self.new ≡ steps_of result self.old }
+        ensures ends { result < n → (done_steps (step_of self.new).0 ≡ 0) ⊎ ((0 < result) × (ends_after (U.ends until.now) (steps_of (result - 1) self.old) ≡ true)) }
+        ensures asked { (i : ℕ) → i + 1 < result → ends_after (U.ends until.now) (steps_of i self.old) ≡ false }
+    {
+        self.go(n, &mut [NoRecord], until)
+    }
+
+    /// [`Machine::steps_recorded`] that `until` may end too. It is asked before each step but the first.
+    pub fn steps_recorded_until<U: Until>(&mut self, records: &mut [Record], until: &U) -> usize
+        ensures within { result ≤ length records.old }
+        ensures done { done_of result self.old ≡ result }
+        ensures state { self.new ≡ steps_of result self.old }
+        ensures ends { result < length records.old → (done_steps (step_of self.new).0 ≡ 0) ⊎ ((0 < result) × ((starts_dma_at (steps_of (result - 1) self.old) ≡ true) ⊎ (ends_after (U.ends until.now) (steps_of (result - 1) self.old) ≡ true))) }
+        ensures asked { (i : ℕ) → i + 1 < result → ends_after (U.ends until.now) (steps_of i self.old) ≡ false }
+        ensures before { (i : ℕ) → i + 1 < result → starts_dma_at (steps_of i self.old) ≡ false }
+        ensures which { (i : ℕ) → i < result → is_back (record_at records.new i).change ≡ not (starts_dma_at (steps_of i self.old)) }
+        ensures back { (i : ℕ) → i < result → starts_dma_at (steps_of i self.old) ≡ false → undone (record_at records.new i) (steps_of (i + 1) self.old) ≡ steps_of i self.old }
+        ensures memory { (i : ℕ) → i < result → may_store (record_at records.new i) ≡ false → (steps_of (i + 1) self.old).dmem ≡ (steps_of i self.old).dmem }
+        ensures rest { drop result records.new ≡ drop result records.old }
+        ensures len { length records.new ≡ length records.old }
+    {
+        self.go(records.len() as u64, records, until) as usize
     }
 }

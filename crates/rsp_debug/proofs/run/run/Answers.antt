@@ -1,25 +1,14 @@
-use Rattle.std.proofs.Common.{◌∙◌, ap, refl, subst, map, List, Option}
-use Rattle.rsp_debug.specs.declared.snapshot.Snapshot.{Snapshot}
-use Rattle.rsp_debug.specs.Snapshots.{differs, snapshot_of, watches_of}
-use Rattle.rsp_debug.specs.Stops.{IsStop}
-use Rattle.rsp_debug.proofs.Ends.{unwatched-stop, snapshots-stop}
-use Rattle.rsp_debug.proofs.Watched.{differs-empty, differs-fresh}
+use Rattle.std.proofs.Common.{refl}
+use Rattle.rsp_debug.proofs.Ends.{unwatched-stop, unmoved-stop}
+use Rattle.rsp_debug.proofs.Watched.{differs-empty}
 use Rattle.rsp_debug.proofs.run.run.Goals as goal
 
-pub run_to-requires : goal.run_to-requires
-run_to-requires g c = differs-empty _ _ refl
+pub run_to-requires-clause-same : goal.run_to-requires-clause-same
+run_to-requires-clause-same g c = differs-empty _ _ refl
 
-pub returns-then-is_empty-clause-stop : goal.returns-then-is_empty-clause-stop
-returns-then-is_empty-clause-stop g c =
-    unwatched-stop c.args.breaks.now c.args.watches.now c.args.n c.args.machine.now c.run_to.new.machine c.run_to.result c.run_to.ensures.stop (c.is_empty.ensures.0 c.if-is_empty.true)
-
-pub run_to-requires-2 : goal.run_to-requires-2
-run_to-requires-2 g c =
-    ap (λ (snapshots : List (Option Snapshot)). differs snapshots c.args.machine.now.dmem) c.snapshots-snapshots.ensures
-    ∙ ap (λ d. differs (map (snapshot_of d) c.args.watches.now) c.args.machine.now.dmem) c.dmem_bytes.ensures.value
-    ∙ differs-fresh c.args.watches.now c.args.machine.now.dmem
+pub returns-then-not-is_empty-clause-stop : goal.returns-then-not-is_empty-clause-stop
+returns-then-not-is_empty-clause-stop g c = unmoved-stop _ _ _ _ _ _ _ c.none-moves.ensures c.run_looking.ensures.stop
 
 pub returns-clause-stop : goal.returns-clause-stop
 returns-clause-stop g c =
-    snapshots-stop c.args.breaks.now c.args.watches.now c.args.n c.args.machine.now c.run_to-2.new.machine c.run_to-2.result c.dmem_bytes.result.now
-    (subst (λ (snapshots : List (Option Snapshot)). IsStop c.args.breaks.now (watches_of snapshots) c.args.n c.args.machine.now c.run_to-2.new.machine c.run_to-2.result) c.snapshots-snapshots.ensures c.run_to-2.ensures.stop)
+    unmoved-stop _ _ _ _ _ _ _ c.none-moves.ensures (unwatched-stop _ _ _ _ _ _ c.run_to.ensures.stop (c.is_empty-else-not-is_empty.ensures.0 c.if-not-is_empty-2.false))

@@ -3,7 +3,7 @@ use Rattle.std.specs.List.{refill}
 use Rattle.std.proofs.lemmas.List.{length-take, length-drop}
 use Rattle.rsp_debug.specs.History.{Records, backwards, before_slot, past_of, states_before}
 use Rattle.rsp_debug.proofs.Turns.{turned, length-put}
-use Rattle.rsp_debug.proofs.Afters.{steps-after, steps-within, steps-stuck, made-after, one-memory}
+use Rattle.rsp_debug.proofs.Afters.{made-after}
 use Rattle.rsp_debug.proofs.Pasts.{past-unkept, IsStretch, stretch-kept, stretch-cleared, written-items}
 use Rattle.rsp_debug.proofs.history.History.stretch.Goals.{then-self-depth, else-self-depth, then-leads_back, else-leads_back}
 use Rattle.rsp_debug.proofs.history.History.stretch.Goals as goal
@@ -12,39 +12,25 @@ some_made : (k : ℕ) (b : Bool) → b ≡ false → (k ≡ 0 → b ≡ true) �
 some_made zero b e none = let no : false ≡ true = sym e ∙ none refl in cc
 some_made (suc k) b e none = omega arith
 
-pub overflow_cast-result : goal.overflow_cast-result
-overflow_cast-result g c = omega (arith, steps-within c.steps.result c.from.result c.args.machine.now c.steps.ensures.done, c.from.ensures, c.ranges.n.fits)
-
-pub returns-then-depth-eq0-clause-within : goal.returns-then-depth-eq0-clause-within
-returns-then-depth-eq0-clause-within g c = omega (arith, steps-within c.steps.result c.from.result c.args.machine.now c.steps.ensures.done, c.from.ensures)
-
 pub returns-then-depth-eq0-clause-after : goal.returns-then-depth-eq0-clause-after
-returns-then-depth-eq0-clause-after g c = steps-after c.steps.result c.from.result c.args.machine.now c.steps.new.self c.steps.ensures.done c.steps.ensures.state
-
-pub returns-then-depth-eq0-clause-stuck : goal.returns-then-depth-eq0-clause-stuck
-returns-then-depth-eq0-clause-stuck g c none = steps-stuck c.steps.result c.from.result c.args.machine.now c.steps.new.self (omega (arith, c.requires, c.from.ensures)) c.steps.ensures.done c.steps.ensures.state none
+returns-then-depth-eq0-clause-after g c = made-after c.steps_until.result c.args.machine.now c.steps_until.new.self c.steps_until.ensures.done c.steps_until.ensures.state
 
 pub returns-clause-after : goal.returns-clause-after
 returns-clause-after g c =
-    made-after c.steps_recorded-made.result c.args.machine.now c.steps_recorded-made.new.self c.steps_recorded-made.ensures.done c.steps_recorded-made.ensures.state
-
-pub returns-clause-memory : goal.returns-clause-memory
-returns-clause-memory g c none =
-    let e = c.steps_recorded-made.ensures in let asked = c.may_have_stored-stored.ensures none in
-    one-memory c.steps_recorded-made.result c.args.machine.now c.steps_recorded-made.new.self asked.0 e.state (e.memory 0 (omega (arith, asked.0)) asked.1)
+    made-after c.steps_recorded_until-made.result c.args.machine.now c.steps_recorded_until-made.new.self c.steps_recorded_until-made.ensures.done c.steps_recorded_until-made.ensures.state
 
 pub returns-then-depth-eq0-clause-past : goal.returns-then-depth-eq0-clause-past
 returns-then-depth-eq0-clause-past g c =
     let i = c.self.inside in
     let none : length i.slots.items ≡ 0 = sym c.len-depth.ensures.len ∙ c.if-depth-eq0.true in
     let empty : before_slot i.next i.count i.slots.items ≡ [] = ap (λ n. before_slot i.next n i.slots.items) (let z : i.count ≡ 0 = omega (arith, none, c.self.invariant.1) in z) in
-    past-unkept c.steps.result c.args.self.now.depth c.args.machine.now c.steps.new.self c.args.self.now.newest
+    past-unkept c.steps_until.result c.args.self.now.depth c.args.machine.now c.steps_until.new.self c.args.self.now.newest
     (ap (λ (r : Records). r.depth) (sym c.self.view_is) ∙ none) (ap (λ (r : Records). r.newest) (sym c.self.view_is) ∙ empty)
 
 pub returns-clause-past : goal.returns-clause-past
 returns-clause-past g c =
     let i = c.self.inside in let xs = i.slots.items in let ls = c.make_contiguous.result.now in let a = c.if-self-depth.first in let m = c.min-room.result in
-    let e = c.steps_recorded-made.ensures in let k = c.steps_recorded-made.result in let ys = c.steps_recorded-made.new.records in let s = c.args.machine.now in let t = c.steps_recorded-made.new.self in
+    let e = c.steps_recorded_until-made.ensures in let k = c.steps_recorded_until-made.result in let ys = c.steps_recorded_until-made.new.records in let s = c.args.machine.now in let t = c.steps_recorded_until-made.new.self in
     let depth = c.len-depth.ensures.len in let same = c.make_contiguous.ensures.value in
     let below : a ≤ length xs = elim c.if-self-depth.branch [
       | then-self-depth w ↦ omega (arith, w.first-is)

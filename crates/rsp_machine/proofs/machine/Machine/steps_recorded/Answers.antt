@@ -1,22 +1,9 @@
-use Rattle.rsp_machine.proofs.Recording.{recorded-which, recorded-back, recorded-memory, recorded-before, recorded-end, recorded-rest}
+use Rattle.std.proofs.Common.{inl, inr}
+use Rattle.rsp_machine.proofs.Recording.{recorded-never}
 use Rattle.rsp_machine.proofs.machine.Machine.steps_recorded.Goals as goal
 
 pub returns-clause-ends : goal.returns-clause-ends
-returns-clause-ends g c less =
-    let e = c.go.ensures in
-    recorded-end c.go.result c.args.self.now c.args.records.now c.go.new.slots e.told e.made.done c.go.new.self (e.ends less)
-
-pub returns-clause-before : goal.returns-clause-before
-returns-clause-before g c = recorded-before c.go.result c.args.self.now c.args.records.now c.go.new.slots c.go.ensures.told c.go.ensures.made.done
-
-pub returns-clause-which : goal.returns-clause-which
-returns-clause-which g c = recorded-which c.go.result c.args.self.now c.args.records.now c.go.new.slots c.go.ensures.told c.go.ensures.made.done
-
-pub returns-clause-back : goal.returns-clause-back
-returns-clause-back g c = recorded-back c.go.result c.args.self.now c.args.records.now c.go.new.slots c.go.ensures.told c.go.ensures.made.done
-
-pub returns-clause-memory : goal.returns-clause-memory
-returns-clause-memory g c = recorded-memory c.go.result c.args.self.now c.args.records.now c.go.new.slots c.go.ensures.told c.go.ensures.made.done
-
-pub returns-clause-rest : goal.returns-clause-rest
-returns-clause-rest g c = recorded-rest c.go.result c.args.self.now c.args.records.now c.go.new.slots c.go.ensures.told
+returns-clause-ends g c less = elim (c.steps_recorded_until.ensures.ends less) [
+  | inl stuck ↦ inl stuck
+  | inr last ↦ inr (last.0, recorded-never _ last.1)
+]

@@ -1,0 +1,137 @@
+// Moves between the scalar registers and the SP registers, before which a run can end.
+
+ghost use Rattle.std.specs.Prelude.{◌≡◌, Some};
+ghost use Rattle.rsp_decode.specs.Table.{IsInstruction, inst_of};
+ghost use Rattle.rsp_debug.specs.Moves.{no_moves, is_asked, is_at_move, end_by};
+
+use crate::stop::{Reason, Stop};
+use rsp_acc::Acc;
+use rsp_decode::{Inst, MoveRow, Visitor, decode, visit};
+use rsp_machine::{Machine, Until};
+
+/// The moves before which a run ends. Bit r of `reads` stands for each MFC0 from SP register r, bit r of `writes` for each MTC0
+/// to it.
+#[derive(Clone, Copy, Debug, PartialEq, Eq, Drop)]
+pub struct Moves {
+    /// The SP registers that are read.
+    pub reads: u16,
+    /// The SP registers that are written.
+    pub writes: u16,
+}
+
+/// Where a run ends that also ends before moves.
+#[derive(Clone, Copy, Debug, PartialEq, Eq, Drop)]
+pub enum MoveEnd {
+    /// At a stop, as [`crate::Debugger::run`] does.
+    Stop(Stop),
+    /// Before a move, which isn't executed.
+    Move {
+        /// How many steps the run made.
+        steps: u32,
+        /// The address of the move.
+        pc: u16,
+        /// The number of its SP register, 0 to 15.
+        register: u8,
+        /// Whether it writes the SP register: it is an MTC0.
+        writes: bool,
+        /// The value of its scalar register.
+        value: u32,
+    },
+}
+
+/// Asks an instruction whether it is one of the moves.
+#[derive(Drop)]
+struct Asking {
+    moves: Moves,
+    asked: bool,
+}
+
+impl Visitor for Asking {
+    ghost use Rattle.std.specs.Prelude.{Some};
+    ghost use Rattle.rsp_debug.specs.Moves.{is_asked};
+
+    ghost after = { λ i a. record { moves = a.moves; asked = is_asked a.moves (Some i) } };
+
+    #[inline(always)]
+    fn take(&mut self, inst: Inst) {
+        self.asked = self.moves.has(&inst);
+    }
+}
+
+impl Moves {
+    /// No move.
+    pub(crate) fn none() -> Moves
+        ensures { result ≡ no_moves }
+    {
+        Moves {
+            reads: 0,
+            writes: 0,
+        }
+    }
+
+    /// Whether an instruction is one of them.
+    #[inline(always)]
+    fn has(self, inst: &Inst) -> bool
+        requires { IsInstruction inst.now }
+        ensures { result ≡ is_asked self (Some inst.now) }
+    {
+        match *inst {
+            Inst::MoveSp { row, register, .. } => match row {
+                MoveRow::From => self.reads >> register & 1 == 1,
+                MoveRow::To => self.writes >> register & 1 == 1,
+            },
+            _ => false,
+        }
+    }
+
+    /// Whether a word is.
+    #[inline(always)]
+    pub(crate) fn has_word(self, word: u32) -> bool
+        ensures { result ≡ is_asked self (inst_of word) }
+    {
+        let mut asking = Asking {
+            moves: self,
+            asked: false,
+        };
+        visit(word, &mut asking);
+        asking.asked
+    }
+
+    /// Whether a machine that isn't halted executes one of them next.
+    pub(crate) fn are_next<A: Acc>(self, machine: &Machine<A>) -> bool
+        ensures { result ≡ is_at_move self machine.now }
+    {
+        !machine.sp_regs().halted() && self.has_word(machine.imem().word(u32::from(machine.pc())))
+    }
+
+    /// The end of a run that made no more steps than to the first of the moves.
+    pub(crate) fn end<A: Acc>(self, stop: Stop, machine: &Machine<A>) -> MoveEnd
+        ensures { result ≡ end_by self stop machine.now }
+    {
+        if !matches!(stop.reason, Reason::Limit) || !self.are_next(machine) {
+            return MoveEnd::Stop(stop);
+        }
+        match decode(machine.imem().word(u32::from(machine.pc()))) {
+            Some(Inst::MoveSp { row, rt, register }) => MoveEnd::Move {
+                steps: stop.steps,
+                pc: stop.pc,
+                register,
+                writes: matches!(row, MoveRow::To),
+                value: machine.reg(rt),
+            },
+            _ => MoveEnd::Stop(stop),
+        }
+    }
+}
+
+impl Until for Moves {
+    ghost use Rattle.rsp_decode.specs.Table.{inst_of};
+    ghost use Rattle.rsp_debug.specs.Moves.{is_asked};
+
+    ghost ends = { λ m pc word stored. is_asked m (inst_of word) };
+
+    #[inline(always)]
+    fn ends(&self, _pc: u16, word: u32, _stored: bool) -> bool {
+        self.has_word(word)
+    }
+}
