@@ -11,3 +11,4 @@ pub mod Calling
 pub mod Hosts
 pub mod Looking
 pub mod Coming
+pub mod Traces

@@ -79,7 +79,7 @@ impl History {
 }
 
 /// The bytes of DMEM.
-fn dmem_bytes<A: Acc>(machine: &Machine<A>) -> &[u8]
+pub(crate) fn dmem_bytes<A: Acc>(machine: &Machine<A>) -> &[u8]
     ensures value { result.now ≡ machine.now.dmem }
     ensures len { length result.now ≡ 4096 }
 {
@@ -90,17 +90,17 @@ fn dmem_bytes<A: Acc>(machine: &Machine<A>) -> &[u8]
 
 /// What a run looks for after each step.
 #[derive(Drop)]
-struct Sought<'a> {
-    breaks: &'a Breaks,
+pub(crate) struct Sought<'a> {
+    pub(crate) breaks: &'a Breaks,
     /// The watches, with their bytes as they were when the run began.
-    snapshots: &'a [Option<Snapshot>],
-    moves: Moves,
+    pub(crate) snapshots: &'a [Option<Snapshot>],
+    pub(crate) moves: Moves,
 }
 
 impl<'a> Sought<'a> {
     /// The reason to stop that a step has come to. A move is the limit of a run that ends before it.
     #[tactic(auto, using(crate::proofs::Hits::hits))]
-    fn found<A: Acc>(&self, machine: &Machine<A>) -> Option<Reason>
+    pub(crate) fn found<A: Acc>(&self, machine: &Machine<A>) -> Option<Reason>
         ensures { result ≡ found_in self.now.breaks.now self.now.snapshots.now self.now.moves machine.now }
     {
         if let Some(k) = differs(self.snapshots, dmem_bytes(machine)) {
@@ -113,7 +113,7 @@ impl<'a> Sought<'a> {
     }
 
     /// The limit, where a move is next.
-    fn limit<A: Acc>(&self, machine: &Machine<A>) -> Option<Reason>
+    pub(crate) fn limit<A: Acc>(&self, machine: &Machine<A>) -> Option<Reason>
         ensures { result ≡ when (is_at_move self.now.moves machine.now) Limit }
     {
         if self.moves.are_next(machine) {
@@ -153,7 +153,7 @@ fn stuck<A: Acc>(machine: &Machine<A>) -> Option<Reason>
 }
 
 /// A stop at the machine's pc: it can't go on, or there is another reason.
-fn stopped_here<A: Acc>(machine: &Machine<A>, otherwise: Reason, steps: u32) -> Stop
+pub(crate) fn stopped_here<A: Acc>(machine: &Machine<A>, otherwise: Reason, steps: u32) -> Stop
     ensures { result ≡ record { reason = unwrap_or (stuck_of machine.now) otherwise; steps = steps; pc = machine.now.pc } }
 {
     Stop {
