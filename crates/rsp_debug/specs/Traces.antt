@@ -1,5 +1,5 @@
 -- What a run writes into a trace.
-use Rattle.std.specs.Prelude.{ℕ, ◌+◌, List, map, replicate, Option, Some, None, is_some, unwrap_or, if◌then◌else◌}
+use Rattle.std.specs.Prelude.{ℕ, ◌+◌, List, map, replicate, nat_lt, if◌then◌else◌}
 use Rattle.std.specs.List.{range_with_len}
 use Rattle.std.specs.Simd.Lanes.{mask_l}
 use Rattle.rsp_memory.specs.Memory.{word_at}
@@ -12,24 +12,23 @@ use Rattle.rsp_machine.specs.Effects.{effect_of}
 use Rattle.rsp_machine.specs.declared.effect.Effect.{Effect}
 use Rattle.rsp_debug.specs.declared.traced.Traced.{Traced}
 
--- the lanes of a vector register; 0 without one
-abbrev pub lanes_in : Option ℕ → List (List ℕ) → List ℕ
-lanes_in None file = replicate 8 0
-lanes_in (Some n) file = vector file n
+-- the lanes of a vector register below 32; else 0
+abbrev pub lanes_in : ℕ → List (List ℕ) → List ℕ
+lanes_in n file = if nat_lt n 32 then vector file n else replicate 8 0
 
 -- the entry of a step of a word at an address, with an effect, which ended in the state t
 abbrev pub traced_by : ℕ → ℕ → Effect → State → Traced
 traced_by pc word effect t = record {
   word = word;
-  value = register t.registers (unwrap_or effect.scalar 0);
+  value = register t.registers effect.scalar;
   pc = pc;
-  address = unwrap_or effect.address 0;
+  address = effect.address;
   vco = control_half t.flags.carry t.flags.differ;
   vcc = control_half t.flags.compare t.flags.clip;
   vce = mask_l t.flags.extra;
-  scalar = unwrap_or effect.scalar 0;
-  vector = unwrap_or effect.vector 32;
-  stored = if is_some effect.address then 1 else 0;
+  scalar = effect.scalar;
+  vector = effect.vector;
+  stored = if effect.stored then 1 else 0;
   lanes = lanes_in effect.vector t.vectors;
 }
 

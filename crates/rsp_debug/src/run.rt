@@ -10,7 +10,7 @@ ghost use Rattle.rsp_debug.specs.Stops.{IsStop, when};
 ghost use Rattle.rsp_debug.specs.Moves.{is_at_move, steps_to_move};
 ghost use Rattle.rsp_debug.specs.Snapshots.{differs, watches_of};
 ghost use Rattle.rsp_debug.specs.History.{states_before, past_of};
-ghost use Rattle.rsp_debug.specs.Runs.{stuck_of, found_in, Asks};
+ghost use Rattle.rsp_debug.specs.Runs.{stuck_of, hit_in, found_in, Asks};
 ghost use Rattle.rsp_debug.specs.declared.stop.Reason.TheVariants.{Limit};
 
 use crate::breaks::Breaks;
@@ -98,10 +98,11 @@ pub(crate) struct Sought<'a> {
 }
 
 impl<'a> Sought<'a> {
-    /// The reason to stop that a step has come to. A move is the limit of a run that ends before it.
+    /// The watch or the breakpoint that a step has come to.
+    #[inline(always)]
     #[tactic(auto, using(crate::proofs::Hits::hits))]
-    pub(crate) fn found<A: Acc>(&self, machine: &Machine<A>) -> Option<Reason>
-        ensures { result ≡ found_in self.now.breaks.now self.now.snapshots.now self.now.moves machine.now }
+    pub(crate) fn hit<A: Acc>(&self, machine: &Machine<A>) -> Option<Reason>
+        ensures { result ≡ hit_in self.now.breaks.now self.now.snapshots.now machine.now }
     {
         if let Some(k) = differs(self.snapshots, dmem_bytes(machine)) {
             return Some(Reason::Watched(k));
@@ -109,11 +110,21 @@ impl<'a> Sought<'a> {
         if self.breaks.contains(machine.pc()) {
             return Some(Reason::Break);
         }
-        self.limit(machine)
+        None
+    }
+
+    /// The reason to stop that a step has come to. A move is the limit of a run that ends before it.
+    fn found<A: Acc>(&self, machine: &Machine<A>) -> Option<Reason>
+        ensures { result ≡ found_in self.now.breaks.now self.now.snapshots.now self.now.moves machine.now }
+    {
+        match self.hit(machine) {
+            Some(reason) => Some(reason),
+            None => self.limit(machine),
+        }
     }
 
     /// The limit, where a move is next.
-    pub(crate) fn limit<A: Acc>(&self, machine: &Machine<A>) -> Option<Reason>
+    fn limit<A: Acc>(&self, machine: &Machine<A>) -> Option<Reason>
         ensures { result ≡ when (is_at_move self.now.moves machine.now) Limit }
     {
         if self.moves.are_next(machine) {

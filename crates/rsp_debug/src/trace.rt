@@ -5,7 +5,7 @@ ghost use Rattle.rsp_debug.specs.Stops.{IsStop};
 ghost use Rattle.rsp_debug.specs.Snapshots.{differs, watches_of};
 ghost use Rattle.rsp_debug.specs.History.{states_before, past_of};
 ghost use Rattle.rsp_debug.specs.Debugging.{stop_in, ran};
-ghost use Rattle.rsp_debug.specs.Moves.{steps_to_move};
+ghost use Rattle.rsp_debug.specs.Moves.{no_moves};
 ghost use Rattle.rsp_debug.specs.Runs.{Asks};
 ghost use Rattle.rsp_debug.specs.Traces.{trace_of};
 
@@ -20,7 +20,7 @@ use crate::watches::Watches;
 use rsp_acc::Acc;
 use rsp_machine::{Machine, Until};
 
-/// Runs to what is sought, at most to a move, and writes an entry for each step.
+/// Runs to breakpoints and watches, and writes an entry for each step. `until` is as in other runs, and ends no step.
 fn trace_to<A: Acc, U: Until>(
     machine: &mut Machine<A>,
     history: &mut History,
@@ -30,8 +30,9 @@ fn trace_to<A: Acc, U: Until>(
 ) -> Stop
     requires same { differs sought.now.snapshots.now machine.old.dmem ≡ None }
     requires asks { Asks (U.ends until.now) sought.now.breaks.now sought.now.snapshots.now sought.now.moves }
+    requires unmoved { sought.now.moves ≡ no_moves }
     requires few { length out.old ≤ 1000000 }
-    ensures stop { IsStop sought.now.breaks.now (watches_of sought.now.snapshots.now) (steps_to_move sought.now.moves (length out.old) machine.old) machine.old machine.new result }
+    ensures stop { IsStop sought.now.breaks.now (watches_of sought.now.snapshots.now) (length out.old) machine.old machine.new result }
     ensures past { states_before machine.new history.new.newest ≡ past_of result.steps history.old.depth machine.old (states_before machine.old history.old.newest) }
     ensures depth { history.new.depth ≡ history.old.depth }
     ensures entries { take result.steps out.new ≡ trace_of result.steps machine.old }
@@ -39,7 +40,7 @@ fn trace_to<A: Acc, U: Until>(
 {
     let n = out.len();
     let mut made = 0;
-    let mut found = sought.limit(machine);
+    let mut found = None;
     while made < n && found.is_none() {
         let pc = machine.pc();
         let word = machine.imem().aligned_word(usize::from(pc));
@@ -49,7 +50,7 @@ fn trace_to<A: Acc, U: Until>(
         }
         out[made] = entry_of(pc, word, effect, machine);
         made += 1;
-        found = sought.found(machine);
+        found = sought.hit(machine);
     }
     stopped_here(machine, found.unwrap_or(Reason::Limit), made as u32)
 }

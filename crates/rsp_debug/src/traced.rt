@@ -1,7 +1,7 @@
 // An entry of a trace.
 
-ghost use Rattle.std.specs.Prelude.{◌≡◌, ◌<◌, IfSome};
-ghost use Rattle.std.specs.Simd.Lanes.{mask_l};
+ghost use Rattle.std.specs.Prelude.{◌≡◌};
+ghost use Rattle.rsp_scalar.specs.Registers.{register};
 ghost use Rattle.rsp_loadstore.specs.Controls.{control_half};
 ghost use Rattle.rsp_debug.specs.Traces.{lanes_in, traced_by};
 
@@ -45,38 +45,43 @@ fn control_half(low: &Mask8, high: &Mask8) -> u16
     low.bits() as u16 + high.bits() as u16 * 256
 }
 
-/// The lanes of a vector register; 0 without one.
+/// The value of scalar register `n`.
 #[inline(always)]
-fn lanes_in<A: Acc>(vector: Option<u8>, machine: &Machine<A>) -> [u16; 8]
-    requires { IfSome vector (λ n. n < 32) }
-    ensures { result ≡ lanes_in vector machine.now.vectors }
+fn register_of<A: Acc>(n: u8, machine: &Machine<A>) -> u32
+    ensures { result ≡ register machine.now.registers n }
 {
-    match vector {
-        None => [0; 8],
-        Some(n) => machine.vreg(n).to_array(),
+    machine.ranges();
+    if n < 32 { machine.reg(n) } else { 0 }
+}
+
+/// The lanes of vector register `n`, if that is below 32, else 0.
+#[inline(always)]
+fn lanes_in<A: Acc>(n: u8, machine: &Machine<A>) -> [u16; 8]
+    ensures { result ≡ lanes_in n machine.now.vectors }
+{
+    if n < 32 {
+        return machine.vreg(n).to_array();
     }
+    [0; 8]
 }
 
 /// The entry of a step of the word at an address, with this effect, which ended in this machine.
 #[inline(always)]
 pub fn entry_of<A: Acc>(pc: u16, word: u32, effect: Effect, machine: &Machine<A>) -> Traced
-    requires scalar { IfSome effect.scalar (λ n. n < 32) }
-    requires vector { IfSome effect.vector (λ n. n < 32) }
     ensures { result ≡ traced_by pc word effect machine.now }
 {
-    let scalar = effect.scalar.unwrap_or(0);
     let flags = machine.flags();
     Traced {
         word,
-        value: machine.reg(scalar),
+        value: register_of(effect.scalar, machine),
         pc,
-        address: effect.address.unwrap_or(0),
+        address: effect.address,
         vco: control_half(&flags.carry, &flags.differ),
         vcc: control_half(&flags.compare, &flags.clip),
         vce: flags.extra.bits() as u8,
-        scalar,
-        vector: effect.vector.unwrap_or(32),
-        stored: u8::from(effect.address.is_some()),
+        scalar: effect.scalar,
+        vector: effect.vector,
+        stored: if effect.stored { 1 } else { 0 },
         lanes: lanes_in(effect.vector, machine),
     }
 }

@@ -12,6 +12,7 @@ use Rattle.rsp_debug.specs.declared.stop.Stop.{Stop}
 use Rattle.rsp_debug.proofs.Afters.{never}
 use Rattle.rsp_debug.proofs.Going.{past-none, stuck-is, no-one, some-one, after-zero, past-then, states-as}
 use Rattle.rsp_debug.proofs.Coming.{come-none, come-more, stop-come}
+use Rattle.rsp_debug.proofs.Ends.{unmoved-stop, unmoved-start, unmoved-found}
 use Rattle.rsp_debug.proofs.Traces.{trace-none, trace-more, rest-more, entry-is}
 use Rattle.rsp_debug.proofs.trace.trace_to.Goals.{then-loop-made-test+else-is_none, else-loop-made-test, then-loop-made-test+then-is_none+then-stretch-eq0}
 use Rattle.rsp_debug.proofs.trace.trace_to.Goals as goal
@@ -23,7 +24,7 @@ loop-made-init g c =
     record {
       count = refl;
       within = omega arith;
-      come = come-none x.breaks.now x.snapshots.now x.moves (length c.args.out.now) s 0 _ refl c.requires.same c.limit-found.ensures;
+      come = come-none x.breaks.now x.snapshots.now x.moves (length c.args.out.now) s 0 _ refl c.requires.same (unmoved-start x.moves s c.requires.unmoved);
       past = sym (past-none depth s past);
       depth = refl;
       entries = trace-none s c.args.out.now;
@@ -40,14 +41,15 @@ loop-made-preserved g c =
     record {
       count = i.count;
       within = omega (arith, c.loop-made-test.true);
-      come = come-more x.breaks.now x.snapshots.now x.moves n s (g.U.Until.ends c.args.until.now) k j (k + 1) l.machine t l.found c.found-found.result c.requires.asks
-          i.come (no-one l.found c.is_none.result c.is_none.ensures c.if-is_none.true) e.after e.asked count (omega (arith, c.loop-made-test.true)) (omega (arith, one)) c.found-found.ensures;
+      come = come-more x.breaks.now x.snapshots.now x.moves n s (g.U.Until.ends c.args.until.now) k j (k + 1) l.machine t l.found c.hit-found.result c.requires.asks
+          i.come (no-one l.found c.is_none.result c.is_none.ensures c.if-is_none.true) e.after e.asked count (omega (arith, c.loop-made-test.true)) (omega (arith, one))
+          (unmoved-found x.breaks.now x.snapshots.now x.moves t c.hit-found.result c.requires.unmoved c.hit-found.ensures);
       past = past-then k j (k + 1) c.args.history.now.depth l.history.depth s l.machine _ _ _ e.past i.depth i.past i.come.after.reached count;
       depth = e.depth ∙ i.depth;
       entries = trace-more k s l.out c.entry_of.result (omega (arith, c.loop-made-test.true, l.auto.out)) i.entries
           (entry-is k j c.pc-pc.result c.aligned_word-word.result c.effect-effect.result s l.machine t c.entry_of.result c.entry_of.ensures c.pc-pc.ensures.value
           (c.aligned_word-word.ensures ∙ ap (λ d. word_at d c.from.result) c.imem.ensures ∙ ap (λ a. word_at l.machine.imem a) (c.from.ensures ∙ c.pc-pc.ensures.value))
-          c.effect-effect.ensures.value i.come.after.reached e.after.reached one);
+          c.effect-effect.ensures i.come.after.reached e.after.reached one);
       rest = rest-more k l.out c.args.out.now c.entry_of.result i.rest;
     }
 
@@ -70,7 +72,7 @@ returns-clause-stop g c =
     let stop : IsStop x.breaks.now (watches_of x.snapshots.now) (steps_to_move x.moves n s) s l.machine c.stopped_here.result =
     stop-come x.breaks.now x.snapshots.now x.moves n s k l.machine l.found i.come all _ c.stopped_here.result
     (c.stopped_here.ensures ∙ ap (λ (y : State). let made : Stop = record { reason = unwrap_or (stuck_of y) c.unwrap_or.result; steps = k; pc = y.pc } in made) same) c.unwrap_or.ensures in
-    subst (λ (y : State). IsStop x.breaks.now (watches_of x.snapshots.now) (steps_to_move x.moves n s) s y c.stopped_here.result) (sym same) stop
+    subst (λ (y : State). IsStop x.breaks.now (watches_of x.snapshots.now) n s y c.stopped_here.result) (sym same) (unmoved-stop _ _ _ _ _ _ _ c.requires.unmoved stop)
 
 pub returns-clause-past : goal.returns-clause-past
 returns-clause-past g c =
