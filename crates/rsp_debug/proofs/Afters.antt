@@ -166,51 +166,9 @@ after-more k s m t h e there = subst (λ (x : State). IsAfter (k + 1) s x) (sym 
 pub after-same : (k : ℕ) (s m t : State) → IsAfter k s m → t ≡ m → IsAfter k s t
 after-same k s m t h there = subst (λ (x : State). IsAfter k s x) (sym there) h
 
--- steps that are made as long as they are Done
-steps_by : (k : ℕ) (s m : State) (e : StepEnd) → (step_of m).0 ≡ e → IsAfter k s m → IsAfter (k + done_steps e) s (step_of m).1
-steps_by k s m end.Done is h = after-more k s m (step_of m).1 h is refl
-steps_by k s m end.Halted is h = at-end k (k + 0) s (step_of m).1 (after-same k s m (step_of m).1 h (step-halted-same m is)) (omega arith)
-steps_by k s m (end.Reserved w) is h = at-end k (k + 0) s (step_of m).1 (after-same k s m (step_of m).1 h (step-reserved-same m w is)) (omega arith)
-
-steps_after : (n : ℕ) (s : State) → IsAfter (done_of n s) s (steps_of n s)
-unfolding steps_of done_of
-steps_after zero s = after-none s
-steps_after (suc n) s = steps_by (done_of n s) s (steps_of n s) (step_of (steps_of n s)).0 refl (steps_after n s)
-
-pub steps-after : (k n : ℕ) (s t : State) → k ≡ done_of n s → t ≡ steps_of n s → IsAfter k s t
-steps-after k n s t count there = after-same k s (steps_of n s) t (at-end (done_of n s) k s (steps_of n s) (steps_after n s) (sym count)) there
-
-few : (e : StepEnd) → done_steps e ≤ 1
-few end.Done = omega arith
-few end.Halted = omega arith
-few (end.Reserved w) = omega arith
-
-done_within : (n : ℕ) (s : State) → done_of n s ≤ n
-unfolding done_of
-done_within zero s = omega arith
-done_within (suc n) s = omega (arith, done_within n s, few (step_of (steps_of n s)).0)
-
-pub steps-within : (k n : ℕ) (s : State) → k ≡ done_of n s → k ≤ n
-steps-within k n s count = omega (arith, count, done_within n s)
-
-first_stuck : (n : ℕ) (s : State) → done_of (suc n) s ≡ 0 → done_steps (step_of s).0 ≡ 0
-unfolding steps_of done_of
-first_stuck zero s e = omega (arith, e)
-first_stuck (suc n) s e = first_stuck n s (omega (arith, e))
-
-pub steps-stuck : (k n : ℕ) (s t : State) → 0 < n → k ≡ done_of n s → t ≡ steps_of n s → k ≡ 0 → done_steps (step_of t).0 ≡ 0
-steps-stuck k zero s t some count there none = absurd (omega (arith, some))
-steps-stuck k (suc n) s t some count there none =
-    let still : t ≡ s = (at-end k 0 s t (steps-after k (suc n) s t count there) none).reached ∙ steps-none s in
-    ap (λ (x : State). done_steps (step_of x).0) still ∙ first_stuck n s (sym count ∙ none)
-
--- and those with their records
+-- steps that all are Done
 pub made-after : (k : ℕ) (s t : State) → done_of k s ≡ k → t ≡ steps_of k s → IsAfter k s t
 made-after k s t done there = record { done = done-each k s done; reached = there }
-
-pub one-memory : (k : ℕ) (s t : State) → k ≡ 1 → t ≡ steps_of k s → (steps_of (0 + 1) s).dmem ≡ (steps_of 0 s).dmem → t.dmem ≡ s.dmem
-unfolding steps_of
-one-memory k s t one there same = ap (λ (x : State). x.dmem) (there ∙ ap (λ i. steps_of i s) one) ∙ same
 
 pub ruleset afters = (after-calls, stop-first)
 

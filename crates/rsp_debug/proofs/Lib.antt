@@ -12,3 +12,4 @@ pub mod Hosts
 pub mod Looking
 pub mod Coming
 pub mod Traces
+pub mod Moving

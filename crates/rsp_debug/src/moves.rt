@@ -1,12 +1,12 @@
 // Moves between the scalar registers and the SP registers, before which a run can end.
 
-ghost use Rattle.std.specs.Prelude.{◌≡◌, Some};
-ghost use Rattle.rsp_decode.specs.Table.{IsInstruction, inst_of};
+ghost use Rattle.std.specs.Prelude.{◌≡◌};
+ghost use Rattle.rsp_decode.specs.Table.{inst_of};
 ghost use Rattle.rsp_debug.specs.Moves.{no_moves, is_asked, is_at_move, end_by};
 
 use crate::stop::{Reason, Stop};
 use rsp_acc::Acc;
-use rsp_decode::{Inst, MoveRow, Visitor, decode, visit};
+use rsp_decode::{Inst, MoveRow, decode};
 use rsp_machine::{Machine, Until};
 
 /// The moves before which a run ends. Bit r of `reads` stands for each MFC0 from SP register r, bit r of `writes` for each MTC0
@@ -39,25 +39,6 @@ pub enum MoveEnd {
     },
 }
 
-/// Asks an instruction whether it is one of the moves.
-#[derive(Drop)]
-struct Asking {
-    moves: Moves,
-    asked: bool,
-}
-
-impl Visitor for Asking {
-    ghost use Rattle.std.specs.Prelude.{Some};
-    ghost use Rattle.rsp_debug.specs.Moves.{is_asked};
-
-    ghost after = { λ i a. record { moves = a.moves; asked = is_asked a.moves (Some i) } };
-
-    #[inline(always)]
-    fn take(&mut self, inst: Inst) {
-        self.asked = self.moves.has(&inst);
-    }
-}
-
 impl Moves {
     /// No move.
     pub(crate) fn none() -> Moves
@@ -69,14 +50,13 @@ impl Moves {
         }
     }
 
-    /// Whether an instruction is one of them.
-    #[inline(always)]
-    fn has(self, inst: &Inst) -> bool
-        requires { IsInstruction inst.now }
-        ensures { result ≡ is_asked self (Some inst.now) }
+    /// Whether a word is one of them, by its instruction.
+    #[inline(never)]
+    fn has_move(self, word: u32) -> bool
+        ensures { result ≡ is_asked self (inst_of word) }
     {
-        match *inst {
-            Inst::MoveSp { row, register, .. } => match row {
+        match decode(word) {
+            Some(Inst::MoveSp { row, register, .. }) => match row {
                 MoveRow::From => self.reads >> register & 1 == 1,
                 MoveRow::To => self.writes >> register & 1 == 1,
             },
@@ -84,17 +64,13 @@ impl Moves {
         }
     }
 
-    /// Whether a word is.
+    /// Whether a word is one of them. Most words are outside of the range of MFC0 and MTC0.
     #[inline(always)]
+    #[tactic(auto, using(crate::proofs::Moving::moving))]
     pub(crate) fn has_word(self, word: u32) -> bool
         ensures { result ≡ is_asked self (inst_of word) }
     {
-        let mut asking = Asking {
-            moves: self,
-            asked: false,
-        };
-        visit(word, &mut asking);
-        asking.asked
+        0x4000_0000 <= word && word < 0x40a0_0000 && self.has_move(word)
     }
 
     /// Whether a machine that isn't halted executes one of them next.

@@ -13,17 +13,22 @@ use crate::change::{Change, Reach, change_of};
 use crate::machine::Machine;
 use crate::place::{Place, Places};
 use crate::saver::Saver;
+use crate::until::Until;
 use rsp_acc::Acc;
 use rsp_compare::MergeOp;
 use rsp_decode::{Inst, MoveRow, Visitor, visit};
 use rsp_scalar::{alu, jump, load, store};
+use std::marker::PhantomData;
 
 /// A machine as the table's instructions reach it, and the saver that is told of them. It stands apart from the machine so
 /// that an embedder, who can step a machine, can't execute without fetch and without the halted test.
 #[derive(Drop)]
-struct Executor<'a, A: Acc, K: Saver> {
+struct Executor<'a, A: Acc, K: Saver, U: Until> {
     machine: &'a mut Machine<A>,
     saver: &'a mut K,
+    /// What may end the loop, which isn't asked here. By this type each loop has the decoder's functions for itself, so LLVM
+    /// inlines them.
+    until: PhantomData<U>,
     /// The place of the instruction.
     from: Place,
     /// The places behind it. What `machine` has of places doesn't count.
@@ -32,7 +37,7 @@ struct Executor<'a, A: Acc, K: Saver> {
     reach: Reach,
 }
 
-impl<'a, A: Acc, K: Saver> Executor<'a, A, K> {
+impl<'a, A: Acc, K: Saver, U: Until> Executor<'a, A, K, U> {
     /// Tells the saver of a change, before it is made.
     #[inline(always)]
     fn save(&mut self, change: Change)
@@ -198,7 +203,7 @@ impl<A: Acc> Machine<A> {
     /// a reserved word, which changes nothing. The machine stands at these places, and what it has of its own doesn't count.
     #[inline(always)]
     #[tactic(auto, unfolding(crate::specs::Step::executed))]
-    pub(crate) fn execute<K: Saver>(
+    pub(crate) fn execute<K: Saver, U: Until>(
         &mut self,
         places: &mut Places,
         word: u32,
@@ -210,9 +215,10 @@ impl<A: Acc> Machine<A> {
     {
         let from = places.pc;
         let behind = places.next();
-        let mut executor: Executor<A, K> = Executor {
+        let mut executor: Executor<A, K, U> = Executor {
             machine: self,
             saver,
+            until: PhantomData,
             from,
             places: behind,
             reach: Reach {
@@ -228,7 +234,7 @@ impl<A: Acc> Machine<A> {
     }
 }
 
-impl<'a, A: Acc, K: Saver> Visitor for Executor<'a, A, K> {
+impl<'a, A: Acc, K: Saver, U: Until> Visitor for Executor<'a, A, K, U> {
     ghost use Rattle.rsp_machine.specs.Places.{at_places, places_of};
     ghost use Rattle.rsp_machine.specs.Step.{worked};
     ghost use Rattle.rsp_machine.specs.Saved.{change_of};
@@ -240,6 +246,7 @@ impl<'a, A: Acc, K: Saver> Visitor for Executor<'a, A, K> {
         record {
           machine = record e.machine { now = at_places (places_of e.machine.now) behind };
           saver = record e.saver { now = K.saves (change_of i before) before e.saver.now };
+          until = e.until;
           from = e.from;
           places = places_of behind;
           reach = reach_of (change_of i before);

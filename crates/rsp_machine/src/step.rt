@@ -98,7 +98,7 @@ impl<A: Acc> Machine<A> {
         while made < n {
             self.vector_ranges();
             let slot = &mut slots[K::slot(made)];
-            let Some(reach) = self.execute::<K>(&mut places, word, slot) else {
+            let Some(reach) = self.execute::<K, U>(&mut places, word, slot) else {
                 break;
             };
             made += 1;
