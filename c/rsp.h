@@ -57,8 +57,8 @@ enum rsp_status {
 enum rsp_bank { RSP_DMEM = 0, RSP_IMEM = 1, RSP_RDRAM = 2 };
 
 /* Why a run stopped, the first that holds: the machine isn't halted and the word at pc is reserved; it is halted, whatever the word is; the
- * last step changed a byte of a watch, or came to a breakpoint; all steps are made. */
-enum rsp_reason { RSP_AT_RESERVED = 0, RSP_AT_HALT = 1, RSP_AT_WATCH = 2, RSP_AT_BREAK = 3, RSP_AT_LIMIT = 4 };
+ * last step changed a byte of a watch, or came to a breakpoint; of rsp_run_until_move, such a move is next; all steps are made. */
+enum rsp_reason { RSP_AT_RESERVED = 0, RSP_AT_HALT = 1, RSP_AT_WATCH = 2, RSP_AT_BREAK = 3, RSP_AT_LIMIT = 4, RSP_AT_MOVE = 5 };
 
 typedef struct rsp_stop {
     uint32_t reason; /* an rsp_reason */
@@ -67,6 +67,29 @@ typedef struct rsp_stop {
     uint16_t pc;     /* the address of the next instruction */
     uint32_t word;   /* at a reserved word the word, else 0 */
 } rsp_stop;
+
+/* Where rsp_run_until_move stopped. Unless it is before a move, all but `stop` is 0. */
+typedef struct rsp_move {
+    rsp_stop stop;   /* before a move its reason is RSP_AT_MOVE */
+    uint32_t word;   /* the move: MFC0 or MTC0 */
+    uint32_t number; /* the number of its SP register, 0 to 15 */
+    uint32_t writes; /* 1 of MTC0, 0 of MFC0 */
+    uint32_t value;  /* what its scalar register rt holds: what an MTC0 would write */
+} rsp_move;
+
+/* An entry of a trace: what a step did. The struct has no padding: equal entries are equal for memcmp. */
+typedef struct rsp_traced {
+    uint32_t word;     /* the word that was executed */
+    uint32_t value;    /* what the scalar register holds after the step; without one 0 */
+    uint16_t pc;       /* the address of the word */
+    uint16_t address;  /* of a store its address in DMEM, below 4096; else 0 */
+    uint16_t vco, vcc; /* after the step */
+    uint8_t vce;       /* after the step */
+    uint8_t scalar;    /* the number of the scalar register that the step wrote, 1 to 31; 0 if none */
+    uint8_t vector;    /* the number of the vector register that the step wrote, of LTV the first of its group; 32 if none */
+    uint8_t stored;    /* 1 of a store, else 0 */
+    uint16_t lanes[8]; /* what the vector register holds after the step; without one 0 */
+} rsp_traced;
 
 typedef struct rsp_scalars {
     uint32_t words[32];
@@ -181,12 +204,19 @@ uint32_t rsp_set_pc(rsp *m, uint32_t pc);
  * rsp_step executes one instruction. Returns RSP_HALTED, RSP_RESERVED.
  * An instruction that is executed adds a state to the history; one that starts a DMA empties it.
  * rsp_run makes at most n steps, up to the first reason to stop. Returns RSP_OUT_OF_RANGE unless n is 1 to 1000000.
+ * rsp_run_until_move is rsp_run, and also stops before an MFC0 whose SP register has its bit in `reads`, or an MTC0 whose register has it in
+ * `writes`: bit r for register r. It stops there before the first step too. Returns RSP_OUT_OF_RANGE unless n is 1 to 1000000 and both are
+ * below 65536.
+ * rsp_trace is rsp_run of `n` steps, and writes an entry for each; the other entries stay. Returns RSP_OUT_OF_RANGE unless n is 1 to
+ * 1000000, and then `out` is as it was.
  * rsp_back undoes n steps. Returns RSP_OUT_OF_RANGE unless n is 1 to 1000000; else RSP_SHORT_HISTORY.
  * rsp_pass goes past the MFC0 or MTC0 at pc, for a caller that owns the SP registers: pc and npc go on, register rt of an MFC0 becomes
  * `value`, single step halts as after any instruction, and nothing else is done. It empties the history. Returns RSP_HALTED; else
  * RSP_OUT_OF_RANGE if another word is at pc. */
 uint32_t rsp_step(rsp *m);
 uint32_t rsp_run(rsp *m, uint32_t n, rsp_stop *out);
+uint32_t rsp_run_until_move(rsp *m, uint32_t n, uint32_t reads, uint32_t writes, rsp_move *out);
+uint32_t rsp_trace(rsp *m, rsp_traced *out, size_t n, rsp_stop *stop);
 uint32_t rsp_back(rsp *m, uint32_t n);
 uint32_t rsp_pass(rsp *m, uint32_t value);
 
@@ -257,7 +287,7 @@ static inline const char *rsp_fault_name(uint32_t fault)
 
 static inline const char *rsp_reason_name(uint32_t reason)
 {
-    static const char *const names[] = { "RESERVED", "HALT", "WATCH", "BREAK", "LIMIT" };
+    static const char *const names[] = { "RESERVED", "HALT", "WATCH", "BREAK", "LIMIT", "MOVE" };
     return reason < sizeof names / sizeof *names ? names[reason] : "unknown";
 }
 

@@ -20,13 +20,13 @@ from . import arrays as _arrays
 from . import words as _in_words
 from .compare import Emulator, FirstDifference, first_difference
 from .shown import Difference, Part
-from .state import Accumulators, Divider, Flags, Scalars, SpWords, State, unset
+from .state import Accumulators, Divider, Flags, Scalars, SpWords, State, Traced, unset
 from .words import FAULTS
 
 __version__ = "1.0.0"
 __all__ = [
-    "DMEM", "FAULTS", "IMEM", "RDRAM", "VERSION", "Accumulators", "AssemblyError", "Bank", "Difference", "Divider", "Flags", "Line", "Part",
-    "Reason", "Rsp", "RspError", "Scalars", "SpWords", "State", "Status", "Stop", "assemble", "state_fault",
+    "DMEM", "FAULTS", "IMEM", "RDRAM", "VERSION", "Accumulators", "AssemblyError", "Bank", "Difference", "Divider", "Flags", "Line", "Move", "Part",
+    "Reason", "Rsp", "RspError", "Scalars", "SpWords", "State", "Status", "Stop", "Traced", "assemble", "state_fault",
     "text",
 ]  # fmt: skip
 __all__ += ["Emulator", "FirstDifference", "first_difference"]
@@ -81,6 +81,7 @@ class Reason(enum.IntEnum):
     WATCH = 2
     BREAK = 3
     LIMIT = 4
+    MOVE = 5
 
 
 DMEM, IMEM, RDRAM = Bank.DMEM, Bank.IMEM, Bank.RDRAM
@@ -113,6 +114,15 @@ class AssemblyError(RspError):
         return AssemblyError, (self.line, self.fault, self.source)
 
 
+class Move(NamedTuple):
+    """A move of SP register `number`: its `word`, whether it `writes` (MTC0), and the `value` of its scalar register."""
+
+    word: int
+    number: int
+    writes: bool
+    value: int
+
+
 class _StopParts(NamedTuple):
     reason: Reason
     steps: int
@@ -123,10 +133,12 @@ class _StopParts(NamedTuple):
 class Stop(_StopParts):
     """Where a run stopped: `reason`, `steps`, `pc`, and `watch`, the number of the watch at which it stopped, else None.
 
-    `word`, which is no item of the tuple, is the reserved word at which it stopped, else None.
+    `word`, which is no item of the tuple, is the reserved word at which it stopped, else None; `move` the move before which
+    `run_until_move` did.
     """
 
     word: Optional[int] = None
+    move: Optional[Move] = None
 
 
 class Line(NamedTuple):
@@ -143,6 +155,10 @@ class _Handle(Structure):
 
 class _Stop(Structure):
     _fields_ = [("reason", c_uint32), ("steps", c_uint32), ("watch", c_size_t), ("pc", c_uint16), ("word", c_uint32)]
+
+
+class _Move(Structure):
+    _fields_ = [("stop", _Stop), ("word", c_uint32), ("number", c_uint32), ("writes", c_uint32), ("value", c_uint32)]
 
 
 class _Assembled(Structure):
@@ -172,6 +188,7 @@ _CALLS = {
     "rsp_state_fault": [POINTER(State), _W], "rsp_load": [_M, _U, _U, _B, _Z], "rsp_load_words": [_M, _U, _U, _W, _Z],
     "rsp_memory": [_M, _U, _U, c_void_p, _Z], "rsp_memory_words": [_M, _U, _U, _W, _Z], "rsp_task": [_M, _U], "rsp_set_pc": [_M, _U],
     "rsp_step": [_M], "rsp_run": [_M, _U, POINTER(_Stop)], "rsp_back": [_M, _U], "rsp_pass": [_M, _U],
+    "rsp_run_until_move": [_M, _U, _U, _U, POINTER(_Move)], "rsp_trace": [_M, POINTER(Traced), _Z, POINTER(_Stop)],
     "rsp_add_break": [_M, _U], "rsp_drop_break": [_M, _U], "rsp_add_watch": [_M, _U, _U, POINTER(_Z)], "rsp_drop_watch": [_M, _U],
     "rsp_reg": [_M, _U, _W], "rsp_regs": [_M, POINTER(Scalars)], "rsp_vreg": [_M, _U, POINTER(_Lanes)],
     "rsp_acc": [_M, POINTER(Accumulators)], "rsp_flags": [_M, POINTER(Flags)], "rsp_divider": [_M, POINTER(Divider)],
@@ -201,6 +218,13 @@ def _numbers(name: str, *given: Any) -> Tuple[int, ...]:
         if not 0 <= number < 1 << 32:
             raise RspError(Status.OUT_OF_RANGE, _in_words.refusal(Status.OUT_OF_RANGE, name, numbers))
     return numbers
+
+
+def _stop(out: Any) -> Stop:
+    reason = Reason(out.reason)
+    stop = Stop(reason, out.steps, out.pc, out.watch if reason == Reason.WATCH else None)
+    stop.word = out.word if reason == Reason.RESERVED else None
+    return stop
 
 
 def _words(call: str, words: Iterable[int]) -> Any:
@@ -374,11 +398,26 @@ class Rsp:
 
     def run(self, steps: int) -> Stop:
         """Makes 1 to 1000000 steps, up to the first reason to stop."""
-        out = self._look("rsp_run", _Stop(), steps)
-        reason = Reason(out.reason)
-        stop = Stop(reason, out.steps, out.pc, out.watch if reason == Reason.WATCH else None)
-        stop.word = out.word if reason == Reason.RESERVED else None
+        return _stop(self._look("rsp_run", _Stop(), steps))
+
+    def run_until_move(self, steps: int, reads: int, writes: int) -> Stop:
+        """As `run`, and also stops before an MFC0 whose SP register has its bit in `reads`, or an MTC0 whose register has it in `writes`.
+
+        It stops there before the first step too, with Reason.MOVE. `pass_move` goes past it, and `step` executes it.
+        """
+        out = self._look("rsp_run_until_move", _Move(), steps, reads, writes)
+        stop = _stop(out.stop)
+        stop.move = Move(out.word, out.number, bool(out.writes), out.value) if stop.reason == Reason.MOVE else None
         return stop
+
+    def trace(self, steps: int) -> Tuple[Stop, List[Traced]]:
+        """As `run`, with an entry for each step that it made."""
+        (steps,) = _numbers("trace", steps)
+        if steps > 1000000:
+            raise RspError(Status.OUT_OF_RANGE, _in_words.refusal(Status.OUT_OF_RANGE, "trace", [steps]))
+        out, stop = (Traced * steps)(), _Stop()
+        _ok(_lib.rsp_trace(byref(self._handle), out, steps, byref(stop)), "trace", [steps])
+        return _stop(stop), out[: stop.steps]
 
     def back(self, states: int) -> None:
         """Undoes 1 to 1000000 steps. SHORT_HISTORY if the history holds fewer."""

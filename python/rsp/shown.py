@@ -99,6 +99,30 @@ def flag_parts(flags: Any) -> Named:
     yield "vce", flags.extra, 2
 
 
+def traced_parts(entry: Any) -> Named:
+    """Those of an entry of a trace."""
+    yield "pc", entry.pc, 3
+    yield "word", entry.word, 8
+    yield "scalar register", entry.scalar, 2
+    yield "value", entry.value, 8
+    yield "vector register", entry.vector, 2
+    for lane, value in enumerate(entry.lanes):
+        yield f"lane {lane}", value, 4
+    yield "vco", entry.vco, 4
+    yield "vcc", entry.vcc, 4
+    yield "vce", entry.vce, 2
+    yield "stored", entry.stored, 1
+    yield "address", entry.address, 3
+
+
+def traced(entry: Any) -> str:
+    """A step of a trace in a line: what was executed, and what it wrote."""
+    scalar = f" ${entry.scalar} {entry.value:08x}" if entry.scalar else ""
+    vector = f" $v{entry.vector} " + " ".join(f"{it:04x}" for it in entry.lanes) if entry.vector < 32 else ""
+    store = f" stored {entry.address:03x}" if entry.stored else ""
+    return f"{entry.pc:03x} {entry.word:08x}{scalar}{vector}{store} vco {entry.vco:04x} vcc {entry.vcc:04x} vce {entry.vce:02x}"
+
+
 def divider_parts(divider: Any) -> Named:
     """Those of what the divide instructions keep, by the names of the bench's `flags`."""
     yield "in", divider.input, 4

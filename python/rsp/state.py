@@ -143,6 +143,47 @@ class SpWords(Plain):
         return "\n".join(f"{name} {value:0{digits}x}" for name, value, digits in self._parts())
 
 
+class Traced(Plain):
+    """An entry of a trace: the `word` at `pc` that a step executed, and what it wrote.
+
+    `scalar` is the number of the scalar register, 0 if it wrote none, and `value` what that holds after the step; `vector` is the number of
+    the vector register (of LTV the first of its group), 32 if it wrote none, and `lanes` what that holds. `vco`, `vcc` and `vce` are the
+    flags after the step. A store has `stored` 1 and its `address` in DMEM. What there isn't is 0.
+    """
+
+    _fields_ = [
+        ("word", c_uint32),
+        ("value", c_uint32),
+        ("pc", c_uint16),
+        ("address", c_uint16),
+        ("vco", c_uint16),
+        ("vcc", c_uint16),
+        ("vce", c_uint8),
+        ("scalar", c_uint8),
+        ("vector", c_uint8),
+        ("stored", c_uint8),
+        ("lanes", Lanes),
+    ]
+    if TYPE_CHECKING:
+        word: int
+        value: int
+        pc: int
+        address: int
+        vco: int
+        vcc: int
+        vce: int
+        scalar: int
+        vector: int
+        stored: int
+        lanes: typed.NumbersField
+
+    def _parts(self) -> shown.Named:
+        return shown.traced_parts(self)
+
+    def __str__(self) -> str:
+        return shown.traced(self)
+
+
 class State(Plain):
     """All registers. `State()` is that of a new machine, and keywords set fields in it; npc is 4 after pc if it isn't given.
 

@@ -23,6 +23,7 @@ class Range(NamedTuple):
 WORD = Range(range(BELOW), "0 to 4294967295")
 PLACE = Range(range(0, 4096, 4), "a multiple of 4 below 4096")
 COUNT = Range(range(1, 1000001), "1 to 1000000")
+MASK = Range(range(65536), "0 to 65535")
 REGISTER = Range(range(32), "0 to 31")
 BANKS = "DMEM", "IMEM", "RDRAM"
 BANK = Range(range(3), "rsp.DMEM, rsp.IMEM or rsp.RDRAM")
@@ -37,6 +38,8 @@ ARGUMENTS: Dict[str, Dict[str, Range]] = {
     "start_task": {"address": WORD},
     "set_pc": {"pc": PLACE},
     "run": {"steps": COUNT},
+    "run_until_move": {"steps": COUNT, "reads": MASK, "writes": MASK},
+    "trace": {"steps": COUNT},
     "back": {"states": COUNT},
     "pass_move": {"value": WORD},
     "add_break": {"place": PLACE},

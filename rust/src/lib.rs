@@ -31,5 +31,5 @@ pub use error::{Refused, VERSION};
 pub use faults::Fault;
 pub use machine::Machine;
 pub use numbers::NoSuchNumber;
-pub use shapes::{Accumulators, Bank, DivideState, Field, FlagBits, Line, Reason, Scalars, SpWords, State, StepEnd, Stop};
+pub use shapes::{Accumulators, Bank, DivideState, Field, FlagBits, Line, MoveEnd, Reason, Scalars, SpWords, State, StepEnd, Stop, Traced};
 pub use texts::{assemble, text, version};

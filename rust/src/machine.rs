@@ -2,7 +2,7 @@
 
 use crate::error::{done, right_version};
 use crate::raw;
-use crate::shapes::{Accumulators, Bank, DivideState, FlagBits, Line, Reason, Scalars, SpWords, State, StepEnd, Stop};
+use crate::shapes::{Accumulators, Bank, DivideState, FlagBits, Line, MoveEnd, Reason, Scalars, SpWords, State, StepEnd, Stop, Traced};
 use crate::texts::{seen, NO_LINE};
 use crate::Refused;
 use std::cell::UnsafeCell;
@@ -112,15 +112,26 @@ impl Machine {
     pub fn run(&mut self, steps: u32) -> Result<Stop, Refused> {
         let mut out = raw::Stop::default();
         done(unsafe { raw::rsp_run(self.at(), steps, &mut out) })?;
-        let reason = match out.reason {
-            0 => Reason::Reserved,
-            1 => Reason::Halt,
-            2 => Reason::Watch(out.watch),
-            3 => Reason::Break,
-            _ => Reason::Limit,
-        };
-        let word = (reason == Reason::Reserved).then_some(out.word);
-        Ok(Stop { reason, steps: out.steps, pc: out.pc, word })
+        Ok(seen_stop(&out))
+    }
+
+    /// As [`run`](Machine::run), and also stops before an MFC0 whose SP register has its bit in `reads`, or an MTC0 whose register has it in
+    /// `writes`, also before the first step. [`pass`](Machine::pass) goes past it, and [`step`](Machine::step) executes it.
+    pub fn run_until_move(&mut self, steps: u32, reads: u16, writes: u16) -> Result<MoveEnd, Refused> {
+        let mut out = raw::Move::default();
+        done(unsafe { raw::rsp_run_until_move(self.at(), steps, reads.into(), writes.into(), &mut out) })?;
+        if out.stop.reason != AT_MOVE {
+            return Ok(MoveEnd::Stop(seen_stop(&out.stop)));
+        }
+        let (steps, pc) = (out.stop.steps, out.stop.pc);
+        Ok(MoveEnd::Move { steps, pc, word: out.word, number: out.number, writes: out.writes == 1, value: out.value })
+    }
+
+    /// As [`run`](Machine::run) of as many steps as there are entries, 1 to 1000000, and writes the entry of each; the others stay.
+    pub fn trace(&mut self, entries: &mut [Traced]) -> Result<Stop, Refused> {
+        let mut out = raw::Stop::default();
+        done(unsafe { raw::rsp_trace(self.at(), entries.as_mut_ptr(), entries.len(), &mut out) })?;
+        Ok(seen_stop(&out))
     }
 
     /// Undoes 1 to 1000000 steps.
@@ -242,6 +253,21 @@ impl Machine {
         done(unsafe { raw::rsp_listing(self.at(), place, lines.as_mut_ptr(), lines.len()) })?;
         Ok(lines.iter().map(seen).collect())
     }
+}
+
+/// The reason of a run that stopped before a move.
+const AT_MOVE: u32 = 5;
+
+fn seen_stop(out: &raw::Stop) -> Stop {
+    let reason = match out.reason {
+        0 => Reason::Reserved,
+        1 => Reason::Halt,
+        2 => Reason::Watch(out.watch),
+        3 => Reason::Break,
+        _ => Reason::Limit,
+    };
+    let word = (reason == Reason::Reserved).then_some(out.word);
+    Stop { reason, steps: out.steps, pc: out.pc, word }
 }
 
 impl Drop for Machine {

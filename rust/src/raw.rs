@@ -1,6 +1,6 @@
 //! What c/rsp.h declares.
 
-use crate::shapes::{Accumulators, DivideState, FlagBits, Scalars, SpWords, State};
+use crate::shapes::{Accumulators, DivideState, FlagBits, Scalars, SpWords, State, Traced};
 
 #[repr(C)]
 pub struct Handle {
@@ -15,6 +15,16 @@ pub struct Stop {
     pub watch: usize,
     pub pc: u16,
     pub word: u32,
+}
+
+#[repr(C)]
+#[derive(Default)]
+pub struct Move {
+    pub stop: Stop,
+    pub word: u32,
+    pub number: u32,
+    pub writes: u32,
+    pub value: u32,
 }
 
 #[repr(C)]
@@ -56,6 +66,8 @@ extern "C" {
     pub fn rsp_set_pc(m: *mut Handle, pc: u32) -> u32;
     pub fn rsp_step(m: *mut Handle) -> u32;
     pub fn rsp_run(m: *mut Handle, n: u32, out: *mut Stop) -> u32;
+    pub fn rsp_run_until_move(m: *mut Handle, n: u32, reads: u32, writes: u32, out: *mut Move) -> u32;
+    pub fn rsp_trace(m: *mut Handle, out: *mut Traced, n: usize, stop: *mut Stop) -> u32;
     pub fn rsp_back(m: *mut Handle, n: u32) -> u32;
     pub fn rsp_pass(m: *mut Handle, value: u32) -> u32;
     pub fn rsp_add_break(m: *mut Handle, place: u32) -> u32;

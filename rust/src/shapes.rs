@@ -91,6 +91,34 @@ pub struct SpWords {
     pub interrupt: u32,
 }
 
+/// An entry of a trace: what a step did. Its bytes have no gaps.
+#[repr(C)]
+#[derive(Clone, Copy, Debug, Default, PartialEq, Eq)]
+pub struct Traced {
+    /// The word that was executed.
+    pub word: u32,
+    /// What the scalar register holds after the step; without one 0.
+    pub value: u32,
+    /// The address of the word.
+    pub pc: u16,
+    /// Of a store its address in DMEM, below 4096; else 0.
+    pub address: u16,
+    /// VCO after the step.
+    pub vco: u16,
+    /// VCC after the step.
+    pub vcc: u16,
+    /// VCE after the step.
+    pub vce: u8,
+    /// The number of the scalar register that the step wrote, 1 to 31; 0 if none.
+    pub scalar: u8,
+    /// The number of the vector register that the step wrote, of LTV the first of its group; 32 if none.
+    pub vector: u8,
+    /// 1 of a store, else 0.
+    pub stored: u8,
+    /// What the vector register holds after the step; without one 0.
+    pub lanes: [u16; 8],
+}
+
 /// A field of a [`State`] with a value that no machine can have.
 #[derive(Clone, Copy, Debug, PartialEq, Eq)]
 pub enum Field {
@@ -197,6 +225,28 @@ pub struct Stop {
     pub pc: u16,
     /// The word at pc, if it is reserved and the run stopped there.
     pub word: Option<u32>,
+}
+
+/// Where a run stopped that also stops before moves of SP registers.
+#[derive(Clone, Copy, Debug, PartialEq, Eq)]
+pub enum MoveEnd {
+    /// For another reason.
+    Stop(Stop),
+    /// Before a move.
+    Move {
+        /// How many steps were made.
+        steps: u32,
+        /// The address of the move.
+        pc: u16,
+        /// The move.
+        word: u32,
+        /// The number of its SP register, 0 to 15.
+        number: u32,
+        /// Whether it writes that register: MTC0.
+        writes: bool,
+        /// What its scalar register holds.
+        value: u32,
+    },
 }
 
 impl fmt::Display for Reason {

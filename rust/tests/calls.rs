@@ -1,6 +1,6 @@
 //! The calls in their ranges and out of them.
 
-use rsp::{assemble, text, version, Bank, Field, Machine, Reason, Refused, State, StepEnd};
+use rsp::{assemble, text, version, Bank, Field, Machine, MoveEnd, Reason, Refused, State, StepEnd, Stop, Traced};
 use std::thread;
 
 fn loaded(source: &str, depth: u32) -> Machine {
@@ -75,6 +75,35 @@ fn passes_and_sp_registers() {
         assert_eq!(machine.set_sp(&bad), Err(Refused::OutOfRange));
     }
     assert_eq!(machine.sp(), Ok(given));
+}
+
+#[test]
+fn moves() {
+    let mut machine = loaded("ori $4, $0, 0x1238\nmfc0 $3, $c7\nmtc0 $4, $c2\nbreak\n", 4);
+    assert_eq!(machine.run_until_move(0, 0, 0), Err(Refused::OutOfRange));
+    assert_eq!(machine.run_until_move(1_000_001, 0, 0), Err(Refused::OutOfRange));
+    let read = MoveEnd::Move { steps: 1, pc: 4, word: 0x4003_3800, number: 7, writes: false, value: 0 };
+    assert_eq!(machine.run_until_move(100, 1 << 7, 1 << 2), Ok(read));
+    assert_eq!(machine.pass(5), Ok(StepEnd::Done));
+    let write = MoveEnd::Move { steps: 0, pc: 8, word: 0x4084_1000, number: 2, writes: true, value: 0x1238 };
+    assert_eq!(machine.run_until_move(100, 0, 0xffff), Ok(write));
+    let halt = MoveEnd::Stop(Stop { reason: Reason::Halt, steps: 2, pc: 16, word: None });
+    assert_eq!((machine.run_until_move(100, 0xffff, 0), machine.reg(3)), (Ok(halt), Ok(5)));
+}
+
+#[test]
+fn traces() {
+    let mut machine = loaded("ori $1, $0, 0x8001\nsw $1, 0x1044($0)\nmtc2 $1, $v1[2]\nvaddc $v2, $v1, $v1\nbreak\n", 4);
+    assert_eq!(machine.trace(&mut []), Err(Refused::OutOfRange));
+    let mut entries = [Traced { stored: 9, ..Traced::default() }; 6];
+    assert_eq!(machine.trace(&mut entries), Ok(Stop { reason: Reason::Halt, steps: 5, pc: 20, word: None }));
+    let scalar = Traced { word: 0x3401_8001, scalar: 1, value: 0x8001, vector: 32, ..Traced::default() };
+    assert_eq!(entries[0], scalar);
+    assert_eq!((entries[1].pc, entries[1].stored, entries[1].address, entries[1].scalar), (4, 1, 0x44, 0));
+    assert_eq!((entries[3].vector, entries[3].lanes[1], entries[3].vco), (2, 2, 2));
+    assert_eq!(entries[5].stored, 9);
+    machine.back(4).unwrap();
+    assert_eq!(machine.regs().unwrap().pc, 4);
 }
 
 #[test]

@@ -41,6 +41,8 @@ static void without_machine(void)
     rsp_divide_state divider;
     rsp_line line;
     rsp_sp_words sp;
+    rsp_move move;
+    rsp_traced traced;
     rsp to = RSP_NONE;
     int i;
     memset(&sp, 0, sizeof sp);
@@ -64,6 +66,10 @@ static void without_machine(void)
         SEE(rsp_step(m) == RSP_NO_MACHINE);
         SEE(rsp_run(m, 1, &stop) == RSP_NO_MACHINE);
         SEE(rsp_run(m, 0, &stop) == RSP_NO_MACHINE);
+        SEE(rsp_run_until_move(m, 1, 0, 0, &move) == RSP_NO_MACHINE);
+        SEE(rsp_run_until_move(m, 0, ANY, ANY, &move) == RSP_NO_MACHINE);
+        SEE(rsp_trace(m, &traced, 1, &stop) == RSP_NO_MACHINE);
+        SEE(rsp_trace(m, &traced, 0, &stop) == RSP_NO_MACHINE);
         SEE(rsp_back(m, 1) == RSP_NO_MACHINE);
         SEE(rsp_add_break(m, 0) == RSP_NO_MACHINE);
         SEE(rsp_drop_break(m, 0) == RSP_NO_MACHINE);
@@ -376,6 +382,80 @@ static void passes(void)
     rsp_free(&m);
 }
 
+static void moves(void)
+{
+    rsp m = RSP_NONE;
+    rsp_move at;
+    uint32_t word = 0;
+    SEE(rsp_new(&m, image, 64, 8) == RSP_OK);
+    load(&m, "ori $4, $0, 0x1238\nmfc0 $3, $c7\nmtc0 $4, $c2\nmfc0 $5, $c2\nnop\nbreak\n");
+    SEE(rsp_run_until_move(&m, 0, 0, 0, &at) == RSP_OUT_OF_RANGE && rsp_run_until_move(&m, 1000001, 0, 0, &at) == RSP_OUT_OF_RANGE);
+    SEE(rsp_run_until_move(&m, 1, 65536, 0, &at) == RSP_OUT_OF_RANGE && rsp_run_until_move(&m, 1, 0, 65536, &at) == RSP_OUT_OF_RANGE);
+    SEE(rsp_run_until_move(&m, 1, ANY, 0, &at) == RSP_OUT_OF_RANGE && rsp_run_until_move(&m, 1, 0, ANY, &at) == RSP_OUT_OF_RANGE);
+    SEE(rsp_run_until_move(&m, 100, 1 << 7, 1 << 2, &at) == RSP_OK && at.stop.reason == RSP_AT_MOVE && at.stop.steps == 1 && at.stop.pc == 4);
+    SEE(at.word == 0x40033800u && at.number == 7 && at.writes == 0 && at.value == 0 && at.stop.word == 0 && at.stop.watch == 0);
+    SEE(rsp_run_until_move(&m, 1, 1 << 7, 0, &at) == RSP_OK && at.stop.reason == RSP_AT_MOVE && at.stop.steps == 0); /* before the first step */
+    SEE(rsp_peek(&m, 7, &word) == RSP_OK && word == 0);
+    SEE(rsp_add_break(&m, 8) == RSP_OK && rsp_run_until_move(&m, 100, 0, 1 << 2, &at) == RSP_OK); /* a breakpoint comes first */
+    SEE(at.stop.reason == RSP_AT_BREAK && at.stop.steps == 1 && at.stop.pc == 8 && at.word == 0 && at.number == 0 && at.value == 0);
+    SEE(rsp_drop_break(&m, 8) == RSP_OK && rsp_run_until_move(&m, 100, 1 << 2, 1 << 2, &at) == RSP_OK);
+    SEE(at.stop.reason == RSP_AT_MOVE && at.stop.steps == 0 && at.word == 0x40841000u && at.number == 2 && at.writes == 1 && at.value == 0x1238);
+    SEE(rsp_back(&m, 2) == RSP_OK && rsp_run_until_move(&m, 2, 0, 1 << 2, &at) == RSP_OK && at.stop.reason == RSP_AT_MOVE); /* it comes before the limit */
+    SEE(rsp_write(&m, 4, 2) == RSP_OK && rsp_run_until_move(&m, 5, ANY >> 16, ANY >> 16, &at) == RSP_OK && at.stop.reason == RSP_AT_HALT);
+    SEE(rsp_write(&m, 4, 1) == RSP_OK && rsp_run_until_move(&m, 1, ANY >> 16, 0, &at) == RSP_OK && at.stop.reason == RSP_AT_MOVE);
+    SEE(at.stop.steps == 1 && at.word == 0x40051000u && at.number == 2 && at.writes == 0); /* MTC0 isn't asked for, MFC0 is */
+    SEE(rsp_run_until_move(&m, 100, 0, ANY >> 16, &at) == RSP_OK && at.stop.reason == RSP_AT_HALT && at.stop.steps == 3);
+    word = 0xffffffffu;
+    SEE(rsp_load_words(&m, RSP_IMEM, 0, &word, 1) == RSP_OK && rsp_set_pc(&m, 0) == RSP_OK && rsp_write(&m, 4, 1) == RSP_OK);
+    SEE(rsp_run_until_move(&m, 1, 1, 1, &at) == RSP_OK && at.stop.reason == RSP_AT_RESERVED && at.stop.word == word && at.word == 0);
+    rsp_free(&m);
+}
+
+static int is_entry(const rsp_traced *t, uint16_t pc, uint8_t scalar, uint32_t value, uint8_t vector)
+{
+    return t->pc == pc && t->scalar == scalar && t->value == value && t->vector == vector;
+}
+
+static void traces(void)
+{
+    rsp m = RSP_NONE, steps = RSP_NONE;
+    static rsp_traced t[16], blank;
+    rsp_stop stop;
+    uint32_t words[16];
+    size_t number;
+    int i;
+    memset(&blank, 0xee, sizeof blank);
+    memset(t, 0xee, sizeof t);
+    SEE(rsp_new(&m, image, 64, 4) == RSP_OK);
+    load(&m, "ori $1, $0, 0x8001\nsw $1, 0x1044($0)\nmtc2 $1, $v1[2]\nvaddc $v2, $v1, $v1\nsqv $v2[0], 32($0)\nltv $v9[0], 0($0)\n"
+             "addu $0, $1, $1\nmtc0 $1, $c8\nmfc0 $3, $c8\njal end\nctc2 $1, $vcc\nend: break\n");
+    SEE(rsp_memory_words(&m, RSP_IMEM, 0, words, 12) == RSP_OK && rsp_copy(&steps, &m) == RSP_OK);
+    SEE(rsp_trace(&m, t, 0, &stop) == RSP_OUT_OF_RANGE && rsp_trace(&m, t, 1000001, &stop) == RSP_OUT_OF_RANGE);
+    SEE(rsp_trace(&m, t, SIZE_MAX, &stop) == RSP_OUT_OF_RANGE && !memcmp(t, &blank, sizeof blank));
+    SEE(rsp_trace(&m, t, 16, &stop) == RSP_OK && stop.reason == RSP_AT_HALT && stop.steps == 12 && stop.pc == 0x30);
+    for (i = 0; i < 12; i++) SEE(t[i].word == words[i] && (t[i].stored || t[i].address == 0));
+    for (i = 12; i < 16; i++) SEE(!memcmp(&t[i], &blank, sizeof blank));
+    SEE(is_entry(&t[0], 0, 1, 0x8001, 32) && !t[0].stored && t[0].lanes[0] == 0 && t[0].vco == 0 && t[0].vcc == 0 && t[0].vce == 0);
+    SEE(is_entry(&t[1], 4, 0, 0, 32) && t[1].stored == 1 && t[1].address == 0x44);
+    SEE(is_entry(&t[2], 8, 0, 0, 1) && t[2].lanes[0] == 0 && t[2].lanes[1] == 0x8001 && t[2].lanes[7] == 0);
+    SEE(is_entry(&t[3], 12, 0, 0, 2) && t[3].lanes[1] == 2 && t[3].vco == 2 && t[2].vco == 0); /* 8001 + 8001 carries in lane 1 */
+    SEE(is_entry(&t[4], 16, 0, 0, 32) && t[4].stored == 1 && t[4].address == 32 && t[4].vco == 2);
+    SEE(is_entry(&t[5], 20, 0, 0, 8)); /* the first of the group of $v9 */
+    SEE(is_entry(&t[6], 24, 0, 0, 32) && is_entry(&t[7], 28, 0, 0, 32) && is_entry(&t[8], 32, 3, 0x8001, 32));
+    SEE(is_entry(&t[9], 36, 31, 0x2c, 32) && is_entry(&t[10], 40, 0, 0, 32) && t[10].vcc == 0x8001 && is_entry(&t[11], 44, 0, 0, 32));
+    for (i = 0; i < 12; i++) SEE(rsp_step(&steps) == RSP_OK);
+    SEE(rsp_get(&m, &state) == RSP_OK && rsp_get(&steps, &other) == RSP_OK && !memcmp(&state, &other, sizeof state));
+    SEE(rsp_back(&m, 5) == RSP_SHORT_HISTORY && rsp_back(&m, 4) == RSP_OK && rsp_back(&steps, 4) == RSP_OK);
+    SEE(rsp_get(&m, &state) == RSP_OK && rsp_get(&steps, &other) == RSP_OK && !memcmp(&state, &other, sizeof state));
+    SEE(rsp_set_pc(&m, 0) == RSP_OK && rsp_add_break(&m, 12) == RSP_OK && rsp_add_watch(&m, 0x47, 1, &number) == RSP_OK);
+    SEE(rsp_load(&m, RSP_DMEM, 0x47, (const uint8_t *)"", 1) == RSP_OK && rsp_trace(&m, t, 16, &stop) == RSP_OK);
+    SEE(stop.reason == RSP_AT_WATCH && stop.steps == 2 && stop.watch == number && is_entry(&t[1], 4, 0, 0, 32));
+    SEE(rsp_trace(&m, t, 16, &stop) == RSP_OK && stop.reason == RSP_AT_BREAK && stop.steps == 1 && t[0].pc == 8);
+    SEE(rsp_trace(&m, t, 1, &stop) == RSP_OK && stop.reason == RSP_AT_LIMIT && stop.steps == 1 && t[0].pc == 12);
+    rsp_free(&m);
+    rsp_free(&steps);
+}
+
 static void tasks(void)
 {
     rsp m = RSP_NONE;
@@ -536,6 +616,8 @@ int main(void)
     sp_registers();
     sp_at_once();
     passes();
+    moves();
+    traces();
     tasks();
     states();
     texts();

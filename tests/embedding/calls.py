@@ -126,6 +126,39 @@ def passes():
     see("none that is halted", machine.pass_move() is rsp.Status.HALTED)
 
 
+def moves():
+    machine = loaded("ori $4, $0, 0x1238\nmfc0 $3, $c7\nmtc0 $4, $c2\nbreak\n", 4)
+    for given in ((0, 0, 0), (1000001, 0, 0), (1, 65536, 0), (1, 0, -1)):
+        refused(rsp.Status.OUT_OF_RANGE, machine.run_until_move, *given)
+    stop = machine.run_until_move(100, 1 << 7, 1 << 2)
+    see("before an mfc0", (stop, stop.move) == ((rsp.Reason.MOVE, 1, 4, None), (0x40033800, 7, False, 0)) and stop.word is None)
+    see("it isn't passed", machine.run_until_move(100, 1 << 7, 0).steps == 0 and machine.pass_move(5) is rsp.Status.OK)
+    stop = machine.run_until_move(100, 0, 0xFFFF)
+    see("before an mtc0", (stop.reason, stop.steps, stop.move) == (rsp.Reason.MOVE, 0, rsp.Move(0x40841000, 2, True, 0x1238)))
+    stop = machine.run_until_move(100, 0xFFFF, 0)
+    see("to the halt", (stop.reason, stop.steps, stop.move) == (rsp.Reason.HALT, 2, None) and machine.reg(3) == 5)
+    machine.close()
+    refused(rsp.Status.NO_MACHINE, machine.run_until_move, 1, 0, 0)
+
+
+def traces():
+    machine = loaded("ori $1, $0, 0x8001\nsw $1, 0x1044($0)\nmtc2 $1, $v1[2]\nvaddc $v2, $v1, $v1\nbreak\n", 4)
+    for count in (0, 1000001, -1, 1 << 40):
+        refused(rsp.Status.OUT_OF_RANGE, machine.trace, count)
+    stop, entries = machine.trace(8)
+    see("a stop", stop == (rsp.Reason.HALT, 5, 20, None) and len(entries) == 5)
+    see("a scalar register", (entries[0].pc, entries[0].word, entries[0].scalar, entries[0].value) == (0, 0x34018001, 1, 0x8001))
+    see("a store", (entries[1].stored, entries[1].address, entries[1].scalar, entries[1].vector) == (1, 0x44, 0, 32))
+    see("a vector register", (entries[3].vector, entries[3].lanes[1], entries[3].vco) == (2, 2, 2))
+    line = "00c 4a010894 $v2 0000 0002 0000 0000 0000 0000 0000 0000 vco 0002 vcc 0000 vce 00"
+    see(f"a line {entries[3]}", str(entries[3]) == line and str(entries[0]) == "000 34018001 $1 00008001 vco 0000 vcc 0000 vce 00")
+    see("a difference", [it.name for it in entries[2].diff(entries[2])] == [] and "vco" in [it.name for it in entries[3].diff(entries[2])])
+    machine.back(4)
+    see("it can be undone", machine.regs().pc == 4)
+    machine.close()
+    refused(rsp.Status.NO_MACHINE, machine.trace, 1)
+
+
 def sp_registers():
     machine = rsp.Rsp()
     given = machine.sp()
@@ -205,7 +238,7 @@ def texts():
     refused(rsp.Status.OUT_OF_RANGE, machine.listing, 0, 1 << 31)
 
 
-for part in (lives, copies, threads, runs, passes, sp_registers, states, memories, texts):
+for part in (lives, copies, threads, runs, passes, moves, traces, sp_registers, states, memories, texts):
     part()
 print(f"{COUNTS[0]} passed, {COUNTS[1]} failed")
 sys.exit(COUNTS[1] > 0)

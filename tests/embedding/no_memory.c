@@ -116,6 +116,8 @@ static void other_calls(rsp *m)
     static uint8_t bytes[4096];
     static uint32_t words[1024];
     static rsp_state state;
+    static rsp_traced entries[64];
+    rsp_move move;
     rsp_stop stop;
     rsp_scalars scalars;
     rsp_lanes lanes;
@@ -141,6 +143,8 @@ static void other_calls(rsp *m)
     NONE(rsp_step(m));
     NONE(rsp_run(m, 1000000, &stop));
     NONE(rsp_run(m, 0, &stop));
+    NONE(rsp_run_until_move(m, 1000, 0xffff, 0xffff, &move));
+    NONE(rsp_trace(m, entries, 64, &stop));
     NONE(rsp_back(m, 50));
     NONE(rsp_pass(m, 1));
     for (k = 0; k < 17; k++) NONE(rsp_add_break(m, 4 * k));

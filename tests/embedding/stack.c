@@ -25,6 +25,8 @@ static rsp_flag_bits flags;
 static rsp_divide_state divider;
 static rsp_assembled assembled;
 static size_t number;
+static rsp_move move;
+static rsp_traced entries[256];
 
 static void nothing(void) { }
 static void version(void) { word = rsp_version(); }
@@ -44,6 +46,8 @@ static void step(void) { word = rsp_step(&m); }
 static void back(void) { word = rsp_back(&m, 1); }
 static void pass(void) { word = rsp_pass(&m, 1); }
 static void run(void) { word = rsp_run(&m, 100000, &stop); }
+static void run_until_move(void) { word = rsp_run_until_move(&m, 100000, 1, 0, &move); }
+static void traced(void) { word = rsp_trace(&m, entries, 256, &stop); }
 static void add_break(void) { word = rsp_add_break(&m, 4092); }
 static void add_watch(void) { word = rsp_add_watch(&m, 4032, 64, &number); }
 static void drop_break(void) { word = rsp_drop_break(&m, 4092); }
@@ -70,6 +74,7 @@ static const struct {
 } calls[] = {
     { "nothing", nothing }, { "rsp_version", version }, { "rsp_new", make }, { "rsp_assemble", assemble }, { "rsp_load_words", load_words },
     { "rsp_load", load }, { "rsp_memory", memory }, { "rsp_memory_words", memory_words }, { "rsp_step", step }, { "rsp_run", run },
+    { "rsp_run_until_move", run_until_move }, { "rsp_trace", traced },
     { "rsp_back", back }, { "rsp_add_watch", add_watch }, { "rsp_add_break", add_break }, { "rsp_run with both", run },
     { "rsp_drop_break", drop_break }, { "rsp_drop_watch", drop_watch }, { "rsp_copy", copied }, { "rsp_free", freed }, { "rsp_get", get },
     { "rsp_set", set }, { "rsp_state_fault", fault }, { "rsp_set_pc", set_pc }, { "rsp_pass", pass }, { "rsp_reg", reg }, { "rsp_regs", regs },

@@ -13,6 +13,7 @@ use Rattle.rsp_debug.specs.declared.breaks.BreakFault.TheVariants as breaking
 use Rattle.rsp_debug.specs.declared.watches.WatchFault.{WatchFault}
 use Rattle.rsp_debug.specs.declared.watches.WatchFault.TheVariants as watching
 use Rattle.rsp_debug.specs.declared.stop.Watch.{Watch}
+use Rattle.rsp_debug.specs.declared.moves.Moves.{Moves}
 use Rattle.rsp_debug.specs.Breaks.{break_fault}
 use Rattle.rsp_debug.specs.Stops.{is_break}
 use Rattle.rsp_debug.specs.Watches.{has_watch}
@@ -33,6 +34,10 @@ pass_fault_status passing.OtherWord = 3
 abbrev pub pass_status : {X : Type 0} → Result X PassFault → ℕ
 pass_status (Ok x) = 0
 pass_status (Err f) = pass_fault_status f
+
+-- the moves of two masks
+abbrev pub moves_in : ℕ → ℕ → Moves
+moves_in reads writes = record { reads = reads; writes = writes }
 
 -- the bank of a number
 abbrev pub bank_of : ℕ → Option Bank

@@ -13,7 +13,10 @@ use Rattle.rsp_text.specs.Spell.{spell}
 use Rattle.rsp_debug.specs.declared.stop.Reason.{Reason}
 use Rattle.rsp_debug.specs.declared.stop.Reason.TheVariants as why
 use Rattle.rsp_debug.specs.declared.stop.Stop.{Stop}
+use Rattle.rsp_debug.specs.declared.moves.MoveEnd.{MoveEnd}
+use Rattle.rsp_debug.specs.declared.moves.MoveEnd.TheVariants as end
 use Rattle.rsp_c.specs.declared.shapes.RspStop.{RspStop}
+use Rattle.rsp_c.specs.declared.shapes.RspMove.{RspMove}
 use Rattle.rsp_c.specs.declared.shapes.RspAccumulators.{RspAccumulators}
 use Rattle.rsp_c.specs.declared.shapes.RspFlagBits.{RspFlagBits}
 use Rattle.rsp_c.specs.declared.shapes.RspDivideState.{RspDivideState}
@@ -46,6 +49,10 @@ reason_word (why.Watched k) pc imem = 0
 reason_word why.Break pc imem = 0
 reason_word why.Limit pc imem = 0
 
+-- a flag as a number
+abbrev pub bit : Bool → ℕ
+bit b = if b then 1 else 0
+
 -- a stop of a machine with this IMEM
 abbrev pub seen_stop : Stop → List ℕ → RspStop
 seen_stop s imem = record {
@@ -56,9 +63,16 @@ seen_stop s imem = record {
   word = reason_word s.reason s.pc imem;
 }
 
--- a flag as a number
-abbrev pub bit : Bool → ℕ
-bit b = if b then 1 else 0
+-- where a run stopped that also ends before moves, of a machine with this IMEM; before a move the reason is 5
+abbrev pub seen_move : MoveEnd → List ℕ → RspMove
+seen_move (end.Stop stop) imem = record { stop = seen_stop stop imem; word = 0; number = 0; writes = 0; value = 0 }
+seen_move (end.Move steps pc r writes value) imem = record {
+  stop = record { reason = 5; steps = steps; watch = 0; pc = pc; word = 0 };
+  word = word_at imem pc;
+  number = r;
+  writes = bit writes;
+  value = value;
+}
 
 -- the high, the middle and the low 16 bits of each accumulator
 abbrev pub seen_accumulators : List ℤ → RspAccumulators

@@ -25,3 +25,5 @@ mod tasks;
 #[cfg(test)]
 mod tests;
 mod texts;
+mod trace;
+mod until;

@@ -1,11 +1,11 @@
 // Parts of the machine in the shapes that cross to C.
 
 ghost use Rattle.std.specs.Prelude.{◌≡◌};
-ghost use Rattle.rsp_c.specs.Seen.{seen_accumulators, seen_flags, seen_divider, seen_stop};
+ghost use Rattle.rsp_c.specs.Seen.{seen_accumulators, seen_flags, seen_divider, seen_stop, seen_move};
 
-use crate::shapes::{RspAccumulators, RspDivideState, RspFlagBits, RspStop};
+use crate::shapes::{RspAccumulators, RspDivideState, RspFlagBits, RspMove, RspStop};
 use rsp_acc::Acc;
-use rsp_debug::{Debugger, Reason, Stop};
+use rsp_debug::{Debugger, MoveEnd, Reason, Stop};
 use rsp_divide::Divider;
 use rsp_lanes::Flags;
 use rsp_memory::SpMem;
@@ -62,5 +62,42 @@ pub fn seen_stop(stop: Stop, imem: &SpMem) -> RspStop
         watch,
         pc: stop.pc,
         word,
+    }
+}
+
+/// The reason of a run that ends before a move.
+const AT_MOVE: u32 = 5;
+
+/// The end of a run that also ends before moves, of a machine with this IMEM.
+pub fn seen_move(end: MoveEnd, imem: &SpMem) -> RspMove
+    ensures { result ≡ seen_move end imem.now }
+{
+    match end {
+        MoveEnd::Stop(stop) => RspMove {
+            stop: seen_stop(stop, imem),
+            word: 0,
+            number: 0,
+            writes: 0,
+            value: 0,
+        },
+        MoveEnd::Move {
+            steps,
+            pc,
+            register,
+            writes,
+            value,
+        } => RspMove {
+            stop: RspStop {
+                reason: AT_MOVE,
+                steps,
+                watch: 0,
+                pc,
+                word: 0,
+            },
+            word: imem.word(u32::from(pc)),
+            number: u32::from(register),
+            writes: if writes { 1 } else { 0 },
+            value,
+        },
     }
 }

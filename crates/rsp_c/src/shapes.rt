@@ -16,6 +16,22 @@ pub struct RspStop {
     pub word: u32,
 }
 
+/// Where a run stopped that also ends before moves of SP registers.
+#[repr(C)]
+#[derive(Clone, Copy, Drop)]
+pub struct RspMove {
+    /// Where it stopped; its reason is 5 before a move.
+    pub stop: RspStop,
+    /// Before a move its word, else 0.
+    pub word: u32,
+    /// Before a move the number of its SP register, else 0.
+    pub number: u32,
+    /// 1 before an MTC0, else 0.
+    pub writes: u32,
+    /// Before a move the value of its scalar register, else 0.
+    pub value: u32,
+}
+
 /// pc, npc and the scalar registers.
 #[repr(C)]
 #[derive(Clone, Copy, Drop)]

@@ -11,4 +11,5 @@ pub mod Calling
 pub mod Hosts
 pub mod Looking
 pub mod Coming
+pub mod Traces
 pub mod Moving

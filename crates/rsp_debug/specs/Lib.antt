@@ -11,3 +11,4 @@ pub mod History
 pub mod Snapshots
 pub mod Runs
 pub mod Moves
+pub mod Traces

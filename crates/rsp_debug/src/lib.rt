@@ -13,6 +13,8 @@ mod run;
 mod snapshot;
 mod sp;
 mod stop;
+mod trace;
+mod traced;
 mod watches;
 
 pub use breaks::{BreakFault, NoBreak};
@@ -20,4 +22,5 @@ pub use debugger::{BackFault, CountFault, Debugger};
 pub use looks::{Listed, Places};
 pub use moves::{MoveEnd, Moves};
 pub use stop::{Reason, Stop, Watch};
+pub use traced::Traced;
 pub use watches::{NoWatch, WatchFault};

@@ -10,7 +10,7 @@ ghost use Rattle.rsp_debug.specs.Stops.{IsStop, when};
 ghost use Rattle.rsp_debug.specs.Moves.{is_at_move, steps_to_move};
 ghost use Rattle.rsp_debug.specs.Snapshots.{differs, watches_of};
 ghost use Rattle.rsp_debug.specs.History.{states_before, past_of};
-ghost use Rattle.rsp_debug.specs.Runs.{stuck_of, found_in, Asks};
+ghost use Rattle.rsp_debug.specs.Runs.{stuck_of, hit_in, found_in, Asks};
 ghost use Rattle.rsp_debug.specs.declared.stop.Reason.TheVariants.{Limit};
 
 use crate::breaks::Breaks;
@@ -79,7 +79,7 @@ impl History {
 }
 
 /// The bytes of DMEM.
-fn dmem_bytes<A: Acc>(machine: &Machine<A>) -> &[u8]
+pub(crate) fn dmem_bytes<A: Acc>(machine: &Machine<A>) -> &[u8]
     ensures value { result.now ≡ machine.now.dmem }
     ensures len { length result.now ≡ 4096 }
 {
@@ -90,18 +90,19 @@ fn dmem_bytes<A: Acc>(machine: &Machine<A>) -> &[u8]
 
 /// What a run looks for after each step.
 #[derive(Drop)]
-struct Sought<'a> {
-    breaks: &'a Breaks,
+pub(crate) struct Sought<'a> {
+    pub(crate) breaks: &'a Breaks,
     /// The watches, with their bytes as they were when the run began.
-    snapshots: &'a [Option<Snapshot>],
-    moves: Moves,
+    pub(crate) snapshots: &'a [Option<Snapshot>],
+    pub(crate) moves: Moves,
 }
 
 impl<'a> Sought<'a> {
-    /// The reason to stop that a step has come to. A move is the limit of a run that ends before it.
+    /// The watch or the breakpoint that a step has come to.
+    #[inline(always)]
     #[tactic(auto, using(crate::proofs::Hits::hits))]
-    fn found<A: Acc>(&self, machine: &Machine<A>) -> Option<Reason>
-        ensures { result ≡ found_in self.now.breaks.now self.now.snapshots.now self.now.moves machine.now }
+    pub(crate) fn hit<A: Acc>(&self, machine: &Machine<A>) -> Option<Reason>
+        ensures { result ≡ hit_in self.now.breaks.now self.now.snapshots.now machine.now }
     {
         if let Some(k) = differs(self.snapshots, dmem_bytes(machine)) {
             return Some(Reason::Watched(k));
@@ -109,7 +110,17 @@ impl<'a> Sought<'a> {
         if self.breaks.contains(machine.pc()) {
             return Some(Reason::Break);
         }
-        self.limit(machine)
+        None
+    }
+
+    /// The reason to stop that a step has come to. A move is the limit of a run that ends before it.
+    fn found<A: Acc>(&self, machine: &Machine<A>) -> Option<Reason>
+        ensures { result ≡ found_in self.now.breaks.now self.now.snapshots.now self.now.moves machine.now }
+    {
+        match self.hit(machine) {
+            Some(reason) => Some(reason),
+            None => self.limit(machine),
+        }
     }
 
     /// The limit, where a move is next.
@@ -153,7 +164,7 @@ fn stuck<A: Acc>(machine: &Machine<A>) -> Option<Reason>
 }
 
 /// A stop at the machine's pc: it can't go on, or there is another reason.
-fn stopped_here<A: Acc>(machine: &Machine<A>, otherwise: Reason, steps: u32) -> Stop
+pub(crate) fn stopped_here<A: Acc>(machine: &Machine<A>, otherwise: Reason, steps: u32) -> Stop
     ensures { result ≡ record { reason = unwrap_or (stuck_of machine.now) otherwise; steps = steps; pc = machine.now.pc } }
 {
     Stop {

@@ -1,5 +1,5 @@
 -- Which registers an instruction writes, and where it stores: for a trace.
-use Rattle.std.specs.Prelude.{ℕ, ◌%◌, ◌==◌, Option, Some, None, if◌then◌else◌}
+use Rattle.std.specs.Prelude.{ℕ, ◌%◌, false, Option, Some, None, is_some, unwrap_or}
 use Rattle.rsp_decode.specs.declared.inst.Inst.{Inst}
 use Rattle.rsp_decode.specs.declared.inst.Inst.TheVariants.{Store, VectorStore}
 use Rattle.rsp_decode.specs.Table.{inst_of}
@@ -13,26 +13,23 @@ use Rattle.rsp_machine.specs.declared.change.Change.{Change}
 use Rattle.rsp_machine.specs.declared.change.Change.TheVariants as of
 use Rattle.rsp_machine.specs.declared.effect.Effect.{Effect}
 
--- the scalar register that is written; register 0 never is
-abbrev pub unless_zero : ℕ → Option ℕ
-unless_zero n = if n == 0 then None else Some n
+-- the number of the scalar register that is written; 0 if none is, as register 0 never is
+abbrev pub scalar_of : Change → ℕ
+scalar_of (of.Register n) = n
+scalar_of (of.Sp n) = n
+scalar_of _ = 0
 
-abbrev pub scalar_of : Change → Option ℕ
-scalar_of (of.Register n) = unless_zero n
-scalar_of (of.Sp n) = unless_zero n
-scalar_of _ = None
-
--- the vector register that is written, of a group the first
-abbrev pub vector_of : Change → Option ℕ
-vector_of (of.Vector n) = Some n
-vector_of (of.Group n) = Some n
-vector_of (of.Product n) = Some n
-vector_of (of.Low n) = Some n
-vector_of (of.Sum n) = Some n
-vector_of (of.Choice n) = Some n
-vector_of (of.Clip n) = Some n
-vector_of (of.Divide n) = Some n
-vector_of _ = None
+-- the number of the vector register that is written, of a group the first; 32 if none is
+abbrev pub vector_of : Change → ℕ
+vector_of (of.Vector n) = n
+vector_of (of.Group n) = n
+vector_of (of.Product n) = n
+vector_of (of.Low n) = n
+vector_of (of.Sum n) = n
+vector_of (of.Choice n) = n
+vector_of (of.Clip n) = n
+vector_of (of.Divide n) = n
+vector_of _ = 32
 
 -- the address in DMEM of a store
 abbrev pub stored_at : Inst → State → Option ℕ
@@ -40,9 +37,17 @@ stored_at (Store row f) s = Some (address s.registers f.base f.offset % 4096)
 stored_at (VectorStore row f) s = Some (transfer_address (VectorStore row f) (register s.registers f.base) % 4096)
 stored_at _ s = None
 
+abbrev pub no_effect : Effect
+no_effect = record { scalar = 0; vector = 32; address = 0; stored = false }
+
 abbrev pub effect_by : Option Inst → State → Effect
-effect_by None s = record { scalar = None; vector = None; address = None }
-effect_by (Some i) s = record { scalar = scalar_of (change_of i s); vector = vector_of (change_of i s); address = stored_at i s }
+effect_by None s = no_effect
+effect_by (Some i) s = record {
+  scalar = scalar_of (change_of i s);
+  vector = vector_of (change_of i s);
+  address = unwrap_or (stored_at i s) 0;
+  stored = is_some (stored_at i s);
+}
 
 -- which registers the word at pc writes, and where it stores
 unfoldable pub effect_of : State → Effect

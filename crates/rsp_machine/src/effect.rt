@@ -3,43 +3,43 @@
 ghost use Rattle.std.specs.Prelude.{◌≡◌, ◌<◌, IfSome};
 ghost use Rattle.rsp_decode.specs.Table.{IsInstruction};
 ghost use Rattle.rsp_machine.specs.Changes.{IsChange};
-ghost use Rattle.rsp_machine.specs.Effects.{scalar_of, vector_of, stored_at, effect_of};
+ghost use Rattle.rsp_machine.specs.Effects.{scalar_of, vector_of, stored_at, no_effect, effect_of};
 
 use crate::change::{Change, change_of};
 use crate::machine::Machine;
 use rsp_acc::Acc;
-use rsp_decode::{Inst, decode};
+use rsp_decode::{Inst, Visitor, visit};
 
 /// Which registers the word at pc writes when it is executed, and where it stores.
 #[derive(Clone, Copy, Debug, PartialEq, Eq, Drop)]
 pub struct Effect {
-    /// The number of the scalar register, 1 to 31: register 0 is never written.
-    pub scalar: Option<u8>,
-    /// The number of the vector register; of LTV it is the first of eight.
-    pub vector: Option<u8>,
-    /// Of a store its address in DMEM, below 4096.
-    pub address: Option<u16>,
+    /// The number of the scalar register, 1 to 31; 0 if it writes none, as register 0 is never written.
+    pub scalar: u8,
+    /// The number of the vector register, of LTV the first of eight; 32 if it writes none.
+    pub vector: u8,
+    /// Of a store its address in DMEM, below 4096; else 0.
+    pub address: u16,
+    /// Whether it is a store.
+    pub stored: bool,
 }
 
 /// The scalar register that a change writes.
 #[inline(always)]
-fn scalar_of(change: Change) -> Option<u8>
+fn scalar_of(change: Change) -> u8
     requires { IsChange change }
-    ensures value { result ≡ scalar_of change }
-    ensures below { IfSome result (λ n. n < 32) }
+    ensures { result ≡ scalar_of change }
 {
     match change {
-        Change::Register(n) | Change::Sp(n) if n != 0 => Some(n as u8),
-        _ => None,
+        Change::Register(n) | Change::Sp(n) => n as u8,
+        _ => 0,
     }
 }
 
 /// The vector register that a change writes, of a group the first.
 #[inline(always)]
-fn vector_of(change: Change) -> Option<u8>
+fn vector_of(change: Change) -> u8
     requires { IsChange change }
-    ensures value { result ≡ vector_of change }
-    ensures below { IfSome result (λ n. n < 32) }
+    ensures { result ≡ vector_of change }
 {
     match change {
         Change::Vector(n)
@@ -49,8 +49,8 @@ fn vector_of(change: Change) -> Option<u8>
         | Change::Sum(n)
         | Change::Choice(n)
         | Change::Clip(n)
-        | Change::Divide(n) => Some(n as u8),
-        _ => None,
+        | Change::Divide(n) => n as u8,
+        _ => 32,
     }
 }
 
@@ -58,8 +58,7 @@ fn vector_of(change: Change) -> Option<u8>
 #[inline(always)]
 fn stored_at<A: Acc>(inst: &Inst, machine: &Machine<A>) -> Option<u16>
     requires { IsInstruction inst.now }
-    ensures value { result ≡ stored_at inst.now machine.now }
-    ensures below { IfSome result (λ a. a < 4096) }
+    ensures { result ≡ stored_at inst.now machine.now }
 {
     let address = match *inst {
         Inst::Store { fields, .. } => {
@@ -73,27 +72,48 @@ fn stored_at<A: Acc>(inst: &Inst, machine: &Machine<A>) -> Option<u16>
     Some((address % 4096) as u16)
 }
 
-impl<A: Acc> Machine<A> {
-    /// Which registers the word at pc writes when it is executed, and where it stores. A reserved word does neither.
-    #[inline]
-    #[tactic(auto, unfolding(crate::specs::Effects::effect_of))]
-    pub fn effect(&self) -> Effect
-        ensures value { result ≡ effect_of self.now }
-        ensures scalar { IfSome result.scalar (λ n. n < 32) }
-        ensures vector { IfSome result.vector (λ n. n < 32) }
-    {
-        let Some(inst) = decode(self.word_at(self.places())) else {
-            return Effect {
-                scalar: None,
-                vector: None,
-                address: None,
-            };
-        };
-        let change = change_of(&inst, self);
-        Effect {
+/// Names what an instruction writes.
+#[derive(Drop)]
+struct Naming<'a, A: Acc> {
+    machine: &'a Machine<A>,
+    effect: Effect,
+}
+
+impl<'a, A: Acc> Visitor for Naming<'a, A> {
+    ghost use Rattle.std.specs.Prelude.{Some};
+    ghost use Rattle.rsp_machine.specs.Effects.{effect_by};
+
+    ghost after = { λ i n. record { machine = n.machine; effect = effect_by (Some i) n.machine.now } };
+
+    #[inline(always)]
+    fn take(&mut self, inst: Inst) {
+        let change = change_of(&inst, self.machine);
+        let address = stored_at(&inst, self.machine);
+        self.effect = Effect {
             scalar: scalar_of(change),
             vector: vector_of(change),
-            address: stored_at(&inst, self),
-        }
+            address: address.unwrap_or(0),
+            stored: address.is_some(),
+        };
+    }
+}
+
+impl<A: Acc> Machine<A> {
+    /// Which registers the word at pc writes when it is executed, and where it stores. A reserved word does neither.
+    #[tactic(auto, unfolding(crate::specs::Effects::effect_of))]
+    pub fn effect(&self) -> Effect
+        ensures { result ≡ effect_of self.now }
+    {
+        let mut naming = Naming {
+            machine: self,
+            effect: Effect {
+                scalar: 0,
+                vector: 32,
+                address: 0,
+                stored: false,
+            },
+        };
+        visit(self.word_at(self.places()), &mut naming);
+        naming.effect
     }
 }

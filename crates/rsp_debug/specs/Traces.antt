@@ -1,0 +1,41 @@
+-- What a run writes into a trace.
+use Rattle.std.specs.Prelude.{ℕ, ◌+◌, List, map, replicate, nat_lt, if◌then◌else◌}
+use Rattle.std.specs.List.{range_with_len}
+use Rattle.std.specs.Simd.Lanes.{mask_l}
+use Rattle.rsp_memory.specs.Memory.{word_at}
+use Rattle.rsp_scalar.specs.Registers.{register}
+use Rattle.rsp_loadstore.specs.File.{vector}
+use Rattle.rsp_loadstore.specs.Controls.{control_half}
+use Rattle.rsp_machine.specs.State.{State}
+use Rattle.rsp_machine.specs.Laws.{steps_of}
+use Rattle.rsp_machine.specs.Effects.{effect_of}
+use Rattle.rsp_machine.specs.declared.effect.Effect.{Effect}
+use Rattle.rsp_debug.specs.declared.traced.Traced.{Traced}
+
+-- the lanes of a vector register below 32; else 0
+abbrev pub lanes_in : ℕ → List (List ℕ) → List ℕ
+lanes_in n file = if nat_lt n 32 then vector file n else replicate 8 0
+
+-- the entry of a step of a word at an address, with an effect, which ended in the state t
+abbrev pub traced_by : ℕ → ℕ → Effect → State → Traced
+traced_by pc word effect t = record {
+  word = word;
+  value = register t.registers effect.scalar;
+  pc = pc;
+  address = effect.address;
+  vco = control_half t.flags.carry t.flags.differ;
+  vcc = control_half t.flags.compare t.flags.clip;
+  vce = mask_l t.flags.extra;
+  scalar = effect.scalar;
+  vector = effect.vector;
+  stored = if effect.stored then 1 else 0;
+  lanes = lanes_in effect.vector t.vectors;
+}
+
+-- the entry of a step from s to t
+abbrev pub traced : State → State → Traced
+traced s t = traced_by s.pc (word_at s.imem s.pc) (effect_of s) t
+
+-- the entries of the first n steps from s
+unfoldable pub trace_of : ℕ → State → List Traced
+trace_of n s = map (λ i. traced (steps_of i s) (steps_of (i + 1) s)) (range_with_len 0 n)
