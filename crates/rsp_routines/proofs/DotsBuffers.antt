@@ -14,6 +14,7 @@ use Rattle.rsp_decode.specs.declared.scalar.SignRow.TheVariants.{Bgez}
 use Rattle.rsp_decode.specs.declared.vector.VectorLogicRow.TheVariants as row
 use Rattle.rsp_compare.specs.declared.logic.LogicOp.TheVariants.{Vand}
 use Rattle.rsp_decode.specs.declared.vector.MultiplyRow.TheVariants.{Vmudh, Vmudm, Vmadm, Vmadh}
+use Rattle.rsp_multiply.specs.declared.op.MultiplyOp.TheVariants as op
 use Rattle.rsp_decode.specs.Table.Words.{inst_of, row_of}
 use Rattle.rsp_lanes.specs.Lanes.{each_lane, selected, IsVector}
 use Rattle.rsp_lanes.specs.Outcome.{results_of}
@@ -226,7 +227,7 @@ counted t n =
 made : (t : State) → IsState t →
     let x = round_of loop t in
     (vector x.vectors 1 ≡ lanes_at t.dmem (register t.registers 1 + 16 * 0)) × (vector x.vectors 2 ≡ lanes_at t.dmem (register t.registers 2 + 16 * 0))
-    × (x.accumulators ≡ accumulators_after Vmadh (vector t.vectors 1) (selected (vector t.vectors 2) 0) t.accumulators) × (x.dmem ≡ t.dmem)
+    × (x.accumulators ≡ accumulators_after op.Vmadh (vector t.vectors 1) (selected (vector t.vectors 2) 0) t.accumulators) × (x.dmem ≡ t.dmem)
 unfolding executed worked computes jumps multiplies
 made t is =
     let writes : List ℕ → List (Write (List ℕ)) = λ c. (3, c) ∷ (1, lanes_at t.dmem (register t.registers 1 + 16 * 0)) ∷ (2, lanes_at t.dmem (register t.registers 2 + 16 * 0)) ∷ [] in
@@ -236,7 +237,7 @@ wrapped : (p t : ℤ) → s48 (s48 (p *ℤ pos 65536) +ℤ t *ℤ pos 65536) ≡
 wrapped p t = let d = s48_differs (p *ℤ pos 65536) in s48_same _ _ d.1 d.0 (omega (arith, ints, d.2))
 
 added : (a b : List ℕ) (xs : List ℤ) (p : ℕ → ℤ) → xs ≡ each_lane (λ i. s48 (p i *ℤ pos 65536))
-    → accumulators_after Vmadh a (selected b 0) xs ≡ each_lane (λ i. s48 ((p i +ℤ lane_product a b i) *ℤ pos 65536))
+    → accumulators_after op.Vmadh a (selected b 0) xs ≡ each_lane (λ i. s48 ((p i +ℤ lane_product a b i) *ℤ pos 65536))
 unfolding accumulators_after
 added a b xs p e = each_same _ _ (λ i h. rw (lane_of (pos 0) (λ i. s48 (p i *ℤ pos 65536)) xs e i h, itself b i h) (wrapped (p i) (lane_product a b i)))
 
@@ -283,8 +284,8 @@ one_round s u entered k t h is spares holds =
         memory = m.3 ∙ holds.memory;
         left = m.0 ∙ at (register t.registers 1) (a + 16 * k) (omega arith);
         right = m.1 ∙ at (register t.registers 2) (b + 16 * k) (omega arith);
-        sums = m.2 ∙ ap (λ v. accumulators_after Vmadh v (selected (vector t.vectors 2) 0) t.accumulators) holds.left
-            ∙ ap (λ v. accumulators_after Vmadh (vector_of s.dmem a n k) (selected v 0) t.accumulators) holds.right
+        sums = m.2 ∙ ap (λ v. accumulators_after op.Vmadh v (selected (vector t.vectors 2) 0) t.accumulators) holds.left
+            ∙ ap (λ v. accumulators_after op.Vmadh (vector_of s.dmem a n k) (selected v 0) t.accumulators) holds.right
             ∙ added (vector_of s.dmem a n k) (vector_of s.dmem b n k) t.accumulators (part s.dmem a b n k) holds.sums;
       }),
     )
