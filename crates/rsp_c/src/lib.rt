@@ -21,6 +21,4 @@ mod status;
 mod steps;
 mod stops;
 mod tasks;
-#[cfg(test)]
-mod tests;
 mod texts;
