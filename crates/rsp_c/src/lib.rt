@@ -22,8 +22,6 @@ mod status;
 mod steps;
 mod stops;
 mod tasks;
-#[cfg(test)]
-mod tests;
 mod texts;
 mod trace;
 mod until;
