@@ -25,6 +25,7 @@ from . import TOP
 from .child import BATCH, SHARED, SHOWN, UNDONE
 from .emulators import hashes
 from .generator import END, name_of
+from .search import fewest
 
 # Arrays stay in the heap from batch to batch. A worker of Dask has the first of these at 65536, which gives memory back all the time.
 KEEP = {"MALLOC_TRIM_THRESHOLD_": str(1 << 28), "MALLOC_MMAP_THRESHOLD_": str(1 << 25), "OMP_NUM_THREADS": "1"}
@@ -104,18 +105,8 @@ def fails(words, options):
 
 def run_that_fails(spec, name, seed, number, first, options):
     """The first number of the shortest run of cases up to `number` that shows its fault; or None."""
-    until, back, short = time.time() + SEARCH_SECONDS, 0, 0
-    while not fails((spec, name, seed, number - back, back + 1), options):
-        if number - back <= first or time.time() > until:
-            return None
-        short, back = back + 1, min(2 * back + 1, number - first)
-    while short < back and time.time() < until:
-        middle = (short + back) // 2
-        if fails((spec, name, seed, number - middle, middle + 1), options):
-            back = middle
-        else:
-            short = middle + 1
-    return number - back
+    count = fewest(number - first + 1, lambda count: fails((spec, name, seed, number - count + 1, count), options), time.time() + SEARCH_SECONDS)
+    return count and number - count + 1
 
 
 def check(spec, name, seed, start, count, options):

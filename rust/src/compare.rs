@@ -193,8 +193,7 @@ pub fn first_difference(
     let rdram = machine.image_length();
     let seen = Seen::of_machine(machine, rdram)?;
     put(emulator, &seen);
-    let line = next_line(machine, &seen.state)?;
-    if let Some(found) = seen.difference(&Seen::of_emulator(emulator, rdram), 0, line, seen.state) {
+    if let Some(found) = seen.difference(&Seen::of_emulator(emulator, rdram), 0, next_line(machine, &seen.state)?, seen.state) {
         return Ok(Some(found));
     }
     let (mut steps, mut before) = (0, Seen::of_machine(machine, 0)?);
