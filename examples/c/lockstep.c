@@ -64,14 +64,8 @@ static int differs(const emulator *e, const rsp_scalars *now, const rsp_line *li
 /* Makes at most n steps, and ends before one that starts a DMA: an MTC0 of SP_RD_LEN or SP_WR_LEN. Returns how many it made. */
 static uint32_t run_before_dma(rsp *m, uint32_t n)
 {
-    rsp_scalars at;
-    uint32_t made, word;
-    for (made = 0; made < n; made++) {
-        rsp_regs(m, &at);
-        rsp_memory_words(m, RSP_IMEM, at.pc, &word, 1);
-        if ((word & 0xffe07000u) == 0x40801000u || rsp_step(m) != RSP_OK) break;
-    }
-    return made;
+    rsp_move end;
+    return rsp_run_until_move(m, n, 0, 1 << 2 | 1 << 3, &end) == RSP_OK ? end.stop.steps : 0;
 }
 
 /* Steps both, after `steps` steps, at most n times, up to a difference: returns 1 at one, 0 if there is none, -1 if the machine can't go on. */

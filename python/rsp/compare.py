@@ -11,7 +11,7 @@ if TYPE_CHECKING:
     from . import Rsp
 
 NAMES = "DMEM", "IMEM", "RDRAM"
-IMEM, LENGTHS = 1, (2, 3)  # a write of SP_RD_LEN or SP_WR_LEN starts a DMA
+LENGTHS = 1 << 2 | 1 << 3  # a write of SP_RD_LEN or SP_WR_LEN starts a DMA
 QUADWORD = 16
 
 
@@ -94,16 +94,6 @@ def _parts(mine: _Seen, its: _Seen) -> Difference:
     return Difference([*mine.state.diff(its.state), *_quadwords(mine.memories, its.memories)])
 
 
-def _run_before_dma(machine: "Rsp", steps: int) -> int:
-    """Makes at most so many steps, and ends before one that starts a DMA. Returns how many it made."""
-    for made in range(steps):
-        (word,) = machine.memory_words(IMEM, machine.regs().pc, 1)
-        starts_dma = word & 0xFFE00000 == 0x40800000 and (word >> 11 & 15) in LENGTHS
-        if starts_dma or machine.step() != 0:
-            return made
-    return steps
-
-
 def _step(machine: "Rsp", emulator: Emulator, number: int, rdram: int = 0) -> Tuple[bool, Optional[FirstDifference]]:
     """One step of both: whether the machine makes it, and the difference after it."""
     before = machine.get()
@@ -148,7 +138,7 @@ def first_difference(machine: "Rsp", emulator: Emulator, every: int = 64, limit:
     if seen != its:
         return FirstDifference(0, *machine.listing(seen.state.pc, 1)[0], seen.state, _parts(seen, its))
     while steps < limit:
-        made = _run_before_dma(machine, min(every, limit - steps))
+        made = machine.run_until_move(min(every, limit - steps), 0, LENGTHS).steps
         if made:
             emulator.run(made)
             before, its = seen, _seen(emulator)

@@ -1,6 +1,6 @@
 //! The first step after which an emulator differs from the machine.
 
-use crate::{Bank, Line, Machine, Part, Refused, State, StepEnd};
+use crate::{Bank, Line, Machine, MoveEnd, Part, Refused, State, StepEnd};
 use std::fmt::{Display, Formatter};
 use std::ops::RangeInclusive;
 
@@ -163,16 +163,15 @@ fn narrowed(
     Ok(stretch)
 }
 
+/// A write of SP_RD_LEN or SP_WR_LEN starts a DMA.
+const LENGTHS: u16 = 1 << 2 | 1 << 3;
+
 /// Makes at most so many steps, and ends before one that starts a DMA. Returns how many it made.
 fn run_before_dma(machine: &mut Machine, steps: u32) -> Result<u32, Refused> {
-    for made in 0..steps {
-        let mut word = [0];
-        machine.memory_words(Bank::Imem, machine.regs()?.pc.into(), &mut word)?;
-        if word[0] & 0xffe0_7000 == 0x4080_1000 || machine.step()? != StepEnd::Done {
-            return Ok(made);
-        }
-    }
-    Ok(steps)
+    Ok(match machine.run_until_move(steps, 0, LENGTHS)? {
+        MoveEnd::Stop(stop) => stop.steps,
+        MoveEnd::Move { steps, .. } => steps,
+    })
 }
 
 /// The first step after which an emulator differs from the machine, or none in `limit` steps, or up to a halt or a reserved word.

@@ -174,8 +174,7 @@ def wrong():
 
 
 def measure():
-    """On a loop without DMA. A run up to a DMA is then a run."""
-    rsp.compare._run_before_dma = lambda machine, steps: machine.run(steps).steps
+    """On a loop without DMA."""
     machine, emulator = rsp.Rsp(IMAGE), rsp.Rsp(IMAGE)
     machine.load_words(rsp.IMEM, 0, rsp.assemble(LOOP))
     for every, steps in ((10000, 4000000), (64, 640000)):
