@@ -1,6 +1,6 @@
 -- What C gets it can set, and what it sets it gets.
-use Rattle.std.proofs.Common.{◌≡◌, ◌<◌, ◌≤◌, ℕ, zero, suc, ◌+◌, ◌*◌, ◌/◌, ◌%◌, ◌^◌, Bool, true, false, cond, List, [], ◌∷◌, length, take, drop, ◌++◌, get_or, pos, refl, ap, sym, ◌∙◌, arith, Option, Some, None}
-use Rattle.std.specs.Prelude.{if◌then◌else◌, ◌==◌, ◌&&◌, nat_le, slice_index, not}
+use Rattle.std.proofs.Common.{◌≡◌, ◌<◌, ◌≤◌, ℕ, zero, suc, ◌+◌, ◌*◌, ◌/◌, ◌%◌, Bool, true, false, cond, List, [], ◌∷◌, length, take, drop, ◌++◌, get_or, pos, refl, ap, sym, ◌∙◌, arith, Option, None}
+use Rattle.std.specs.Prelude.{◌==◌, nat_le, slice_index}
 use Rattle.std.specs.Simd.Lanes.{mask_l}
 use Rattle.std.proofs.lemmas.Simd.{bit_mask_l}
 use Rattle.std.proofs.lemmas.List.{length-take-le, length-drop, get_or-take, get_or-drop, take-append-drop}
@@ -13,15 +13,14 @@ use Rattle.rsp_numbers.proofs.Join.{high_join, middle_join, low_join}
 use Rattle.rsp_loadstore.specs.Controls.{marks}
 use Rattle.rsp_regs.specs.Sp.{Sp, IsSp, peeked, status, flag, signal}
 use Rattle.rsp_regs.specs.Parts.{sp_of, parts_of}
-use Rattle.rsp_regs.specs.declared.parts.SpParts.{SpParts}
 use Rattle.rsp_machine.specs.State.{State, IsState}
 use Rattle.rsp_machine.specs.Registers.{is_whole, registers_of, with_registers}
 use Rattle.rsp_machine.proofs.Whole.{with-registers-of}
 use Rattle.rsp_c.specs.Seen.{bit}
-use Rattle.rsp_c.specs.States.{sp_words, sp_parts, is_set, seen_state, registers_in}
+use Rattle.rsp_c.specs.States.{sp_words, sp_parts, seen_state, registers_in}
 use Rattle.rsp_c.specs.Faults.{sp_word_fault, state_fault}
 use Rattle.rsp_c.specs.Laws.{SetAsGot, AreHalves, GotAsSet}
-use Rattle.rsp_c.proofs.Fields.{first_fault, first_field, IsRightWords, words-right, state-right}
+use Rattle.rsp_c.proofs.Fields.{first_fault, first_field, words-right, state-right}
 
 -- a flag as a number, and back
 bit-small : (b : Bool) → bit b ≤ 1

@@ -1,6 +1,4 @@
 -- A handle leads to a block that it alone owns, and the session there is bound to no thread.
-use Prim.Native.Nat.{ℕ}
-use mathlib.Core.List.{◌∷◌}
 use mir.Raw.{raw as bare}
 use base.Shift.{Keyless}
 use denote.Memory.{lone}
