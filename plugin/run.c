@@ -1,7 +1,6 @@
 /* A task. The machine makes each step, each DMA included. It stops before the moves to and from SP registers that concern the emulator, since
  * memory has to be carried before or after them. */
 #include "plugin.h"
-#include "until_move.h"
 #include <stdlib.h>
 
 /* Before an MTC0 of these: a DMA begins, or the RDP gets a list. Before an MFC0 of these: the task may be waiting for the CPU. */

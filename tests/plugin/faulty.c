@@ -2,7 +2,6 @@
  * FAULT 1: VMUDM sets the lowest bit of lane 5. FAULT 2: a DMA to RDRAM writes eight bytes more. FAULT 3: it
  * writes nothing. */
 #include "plugin.h"
-#include "until_move.h"
 
 uint32_t __real_rsp_step(rsp *m);
 uint32_t __real_rsp_run_until_move(rsp *m, uint32_t n, uint32_t reads, uint32_t writes, rsp_move *out);
