@@ -36,7 +36,12 @@ static void check_interrupts(void) { called[0]++; }
 static void display_list(void) { called[1]++; }
 static void audio_list(void) { called[2]++; }
 static int has_rdp;
-static void rdp_list(void) { called[3]++; if (has_rdp) registers[10] = registers[12] = registers[11]; }
+static void rdp_list(void) /* shows the first word of the list */
+{
+    printf("list %08x\n", (registers[13] & 1 ? sp : rdram)[registers[10] / 4 & 0x1fffff]);
+    called[3]++;
+    if (has_rdp) registers[10] = registers[12] = registers[11];
+}
 static void message(void *context, int level, const char *text) { (void)context; printf("message %d %s\n", level, text); fflush(stdout); }
 
 /* The emulator's side of the interface. A value is the user's, if there is one, and else the plugin's default. */

@@ -1,5 +1,6 @@
 /* The plugin with a planted fault, linked with -Wl,--wrap=rsp_step,--wrap=rsp_run_until_move,--wrap=rows_out.
- * FAULT 1: VMUDM sets the lowest bit of lane 5. FAULT 2: a DMA to RDRAM writes eight bytes more. */
+ * FAULT 1: VMUDM sets the lowest bit of lane 5. FAULT 2: a DMA to RDRAM writes eight bytes more. FAULT 3: it
+ * writes nothing. */
 #include "plugin.h"
 
 uint32_t __real_rsp_step(rsp *m);
@@ -25,12 +26,12 @@ static void spoil(rsp *m, uint32_t word)
     rsp_set(m, &s);
 }
 
-/* For a plugin whose DMA goes past its end. */
+/* For a plugin with another DMA. */
 void __real_rows_out(rsp_unit *unit, dma_rows rows);
 void __wrap_rows_out(rsp_unit *unit, dma_rows rows)
 {
     rows.len += FAULT == 2 ? 8 : 0;
-    __real_rows_out(unit, rows);
+    if (FAULT != 3) __real_rows_out(unit, rows);
 }
 
 uint32_t __wrap_rsp_step(rsp *m)
