@@ -1,8 +1,8 @@
 # copy: bytes of DMEM to another place in DMEM.
 #
 # In       $1 the address of the bytes, $3 that of the copy, $4 their number
-# Needs    both addresses multiples of 16 below 4096; the number below 4096, and no byte past the end of DMEM;
-#          the copy begins where the bytes begin, or before them, or after their end
+# Needs    both addresses multiples of 16 below 4096; the number below 4096, and each address plus the number at most 4096;
+#          the copy begins where the bytes begin, or before them, or at their end or later
 # Out      the copy
 # Changes  $1, $3, $4, $5, $v1, $v30
 # Cost     3 instructions, and 6 for each 16 bytes begun, at least once

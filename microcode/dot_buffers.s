@@ -1,7 +1,7 @@
 # dot_buffers: the dot product of two buffers of numbers of two bytes.
 #
 # In       $1 and $2 the addresses, $4 how many bytes each buffer has; $v0 all 0, $v31 all 1
-# Needs    both addresses multiples of 16 below 4096; an even number below 4096, and no byte past the end of DMEM
+# Needs    both addresses multiples of 16 below 4096; an even number below 4096, and each address plus it at most 4096
 # Out      the high half of the sum in each lane of $v5, the low half in each lane of $v6
 # Changes  $1, $2, $4, $5, $6, $v1 to $v6, the flags, the accumulators
 # Cost     34 instructions, and 7 for each whole 16 bytes

@@ -1,7 +1,7 @@
 # fill: bytes of DMEM with the sixteen bytes of a vector register, over and over.
 #
 # In       $3 the address, $4 the number of bytes, $v1 the sixteen bytes
-# Needs    the address a multiple of 16 below 4096; the number below 4096, and no byte past the end of DMEM
+# Needs    the address a multiple of 16 below 4096; the number below 4096, and the address plus it at most 4096
 # Out      the bytes
 # Changes  $3, $4, $5, $v30
 # Cost     3 instructions, and 4 for each 16 bytes begun, at least once

@@ -1,9 +1,10 @@
 # mix: a sound, at a volume, into another.
 #
 # In       $1 the address of the first sound, $2 of the second, $3 of the mix, $4 the number of bytes, two for a sample;
-#          $v3 lane 0 the volume of the first as a fraction of 32768, lane 1 that of the second as a whole number
-# Needs    all addresses multiples of 16 below 4096; the number below 4096, and no byte past the end of DMEM;
-#          the mix begins where a sound begins, or before it, or after its end
+#          $v3 lane 0 the volume of the first as a fraction of 32768, lane 1 that of the second as a whole number;
+#          samples and volumes are signed
+# Needs    all addresses multiples of 16 below 4096; the number below 4096, and each address plus the number at most 4096;
+#          for each sound: the mix begins where the sound begins, or before it, or at its end or later
 # Out      the mix
 # Changes  $1 to $5, $v1, $v2, $v4, $v30, the accumulators
 # Cost     3 instructions, and 10 for each 8 samples begun, at least once
