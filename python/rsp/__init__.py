@@ -148,6 +148,9 @@ class Line(NamedTuple):
     word: int
     text: str
 
+    def __str__(self) -> str:
+        return f"{self.place:03x} {self.word:08x} {self.text}"
+
 
 class _Handle(Structure):
     _fields_ = [("at", c_void_p)]

@@ -19,16 +19,19 @@ class Emulator(Protocol):
     """What `first_difference` calls of an emulator. A machine has all of it, so a second machine can be the emulator."""
 
     def run(self, steps: int) -> Any:
-        """Makes this many steps. The machine has made them, so none meets a halt or a reserved word."""
+        """Makes this many steps. The machine has made as many, so it isn't halted before any, and no word is reserved.
+
+        BREAK is a step: it sets bits 0 and 1 of SP_STATUS, `sp[4]`.
+        """
 
     def get(self) -> State:
-        """All registers."""
+        """All registers; those that the emulator doesn't have as `set` gave them. The state is neither kept nor changed."""
 
     def set(self, state: State) -> Any:
         """Sets all registers."""
 
     def memory(self, bank: int, address: int, length: int) -> bytes:
-        """`length` bytes of DMEM (0), IMEM (1) or RDRAM (2)."""
+        """`length` bytes of DMEM (0), IMEM (1) or RDRAM (2), which have 4096, 4096 and the machine's `image_length`."""
 
     def load(self, bank: int, address: int, data: bytes) -> Any:
         """Writes bytes to a memory."""
@@ -38,7 +41,8 @@ class FirstDifference(NamedTuple):
     """A step after which they differ: its number, from 1; its instruction, by its address `place`, `word` and `text`; and the state `before` it.
 
     `parts` has what differs after it, the machine's value first: registers, then quadwords of memories, such as `DMEM 3f0`. Step 0 says that
-    they differ before the first step: the emulator hasn't kept what `set` and `load` gave it.
+    they differ before the first step: the emulator hasn't kept what `set` and `load` gave it. If `steps` isn't 1, that many steps up to `step`
+    differ together, the first of them at `place`, and none does alone: the emulator has a state that `get` and `set` don't carry.
     """
 
     step: int
@@ -47,8 +51,11 @@ class FirstDifference(NamedTuple):
     text: str
     before: State
     parts: Difference
+    steps: int = 1
 
     def _head(self) -> str:
+        if self.steps != 1:
+            return f"steps {self.step - self.steps + 1} to {self.step}, from {self.place:03x} on: no step alone differs, so get and set leave something out"
         return f"step {self.step}, {self.place:03x}: {self.text}"
 
     def __str__(self) -> str:
@@ -106,7 +113,7 @@ def _step(machine: "Rsp", emulator: Emulator, number: int, rdram: int = 0) -> Tu
 
 
 def _narrowed(machine: "Rsp", emulator: Emulator, before: _Seen, steps: range, parts: Difference) -> FirstDifference:
-    """The step of a stretch after which they differ. If single steps don't show it, the whole stretch, with its last number."""
+    """The step of a stretch after which they differ, or the whole stretch if no step alone shows it."""
     for side in machine, emulator:
         _put(side, before)
     (line,) = machine.listing(before.state.pc, 1)
@@ -114,16 +121,18 @@ def _narrowed(machine: "Rsp", emulator: Emulator, before: _Seen, steps: range, p
         _, found = _step(machine, emulator, number)
         if found:
             return found
-    return FirstDifference(steps[-1], *line, before.state, parts)
+    return FirstDifference(steps[-1], *line, before.state, parts, len(steps))
 
 
 def first_difference(machine: "Rsp", emulator: Emulator, every: int = 64, limit: int = 1000000) -> Optional[FirstDifference]:
     """The first step after which an emulator differs from the machine; None if there is none in `limit` steps, or up to a halt or a reserved word.
 
+    After None, `machine.step()` says which: it answers HALTED or RESERVED unless the limit ended it. Breakpoints and watches don't end it.
+
     The emulator is first given the machine's registers and memories. Then both run in stretches of at most `every` steps, 1 to 1000000, that
     end before a DMA. After each, all registers, DMEM and IMEM are compared, and after a DMA RDRAM too. If they differ, both go back to
     the last comparison and are stepped; they stay after the step that differs, and the machine's history is empty. ValueError if `every` or
-    `limit` isn't in its range, or the emulator's memory has a wrong length.
+    `limit`, 0 to 4294967295, isn't in its range, or the emulator's memory has a wrong length.
     """
     every, limit = _in_words.integers("first_difference", (every, limit))
     if not 1 <= every <= 1000000 or limit < 0:

@@ -6,13 +6,14 @@ use std::ops::RangeInclusive;
 
 /// What [`first_difference`] calls of an emulator.
 pub trait Emulator {
-    /// Makes this many steps. The machine has made them, so none meets a halt or a reserved word.
+    /// Makes this many steps. The machine has made as many, so it isn't halted before any, and no word is reserved. BREAK is a step: it sets
+    /// bits 0 and 1 of SP_STATUS, `sp[4]`.
     fn run(&mut self, steps: u32);
-    /// All registers.
+    /// All registers; those that the emulator doesn't have as `set` gave them.
     fn get(&self) -> State;
     /// Sets all registers.
     fn set(&mut self, state: &State);
-    /// Reads a memory from its beginning, as many bytes as the buffer has.
+    /// Reads a memory from its beginning, as many bytes as the buffer has: 4096 of DMEM and of IMEM, the machine's `image_length` of RDRAM.
     fn memory(&self, bank: Bank, bytes: &mut [u8]);
     /// Writes a memory from its beginning.
     fn load(&mut self, bank: Bank, bytes: &[u8]);
@@ -38,6 +39,9 @@ pub struct FirstDifference {
     pub step: u64,
     /// Its instruction.
     pub line: Line,
+    /// 1. If no step alone differs, the number of steps up to `step` that differ together; `line` is the first of them. The emulator then has
+    /// a state that `get` and `set` don't carry.
+    pub steps: u64,
     /// The machine's registers before it.
     pub before: State,
     /// The registers that differ after it.
@@ -49,7 +53,17 @@ pub struct FirstDifference {
 /// A line for the step, and one for each part that differs: `$3 is fffffff0 on the machine and 3ffffff0 in the emulator`.
 impl Display for FirstDifference {
     fn fmt(&self, f: &mut Formatter<'_>) -> std::fmt::Result {
-        write!(f, "step {}, {:03x}: {}", self.step, self.line.place, self.line.text)?;
+        match self.steps {
+            1 => write!(f, "step {}, {:03x}: {}", self.step, self.line.place, self.line.text)?,
+            steps => {
+                let (first, place) = (self.step - steps + 1, self.line.place);
+                write!(
+                    f,
+                    "steps {first} to {}, from {place:03x} on: no step alone differs, so get and set leave something out",
+                    self.step
+                )?;
+            }
+        }
         for part in &self.registers {
             write!(f, "\n  {}", part.told("on the machine", "in the emulator"))?;
         }
@@ -101,7 +115,8 @@ impl Seen {
 
     /// The difference after a step, if there is one.
     fn difference(&self, other: &Seen, step: u64, line: Line, before: State) -> Option<FirstDifference> {
-        let found = || FirstDifference { step, line, before, registers: self.state.diff(&other.state), memories: self.quadwords(other) };
+        let found =
+            || FirstDifference { step, line, steps: 1, before, registers: self.state.diff(&other.state), memories: self.quadwords(other) };
         (self != other).then(found)
     }
 }
@@ -142,7 +157,7 @@ fn next_line(machine: &Machine, state: &State) -> Result<Line, Refused> {
     Ok(machine.listing(state.pc.into(), 1)?.swap_remove(0))
 }
 
-/// The step of a stretch after which they differ; the stretch, as one step with its last number, if single steps don't show it.
+/// The step of a stretch after which they differ, or the whole stretch if no step alone shows it.
 fn narrowed(
     machine: &mut Machine,
     emulator: &mut impl Emulator,
@@ -155,12 +170,12 @@ fn narrowed(
         machine.load(bank, 0, bytes)?;
     }
     put(emulator, before);
-    for number in steps {
+    for number in steps.clone() {
         if let Both::Differ(found) = step(machine, emulator, number, 0)? {
             return Ok(found);
         }
     }
-    Ok(stretch)
+    Ok(FirstDifference { steps: steps.end() - steps.start() + 1, ..stretch })
 }
 
 /// A write of SP_RD_LEN or SP_WR_LEN starts a DMA.
@@ -174,7 +189,8 @@ fn run_before_dma(machine: &mut Machine, steps: u32) -> Result<u32, Refused> {
     })
 }
 
-/// The first step after which an emulator differs from the machine, or none in `limit` steps, or up to a halt or a reserved word.
+/// The first step after which an emulator differs from the machine, or none in `limit` steps, or up to a halt or a reserved word. After none,
+/// [`Machine::step`] says which. Breakpoints and watches don't end it.
 ///
 /// The emulator is first given the machine's registers and memories. Then both run in stretches of at most `every` steps, 1 to 1000000, that
 /// end before a DMA. After each, all registers, DMEM and IMEM are compared, and after a DMA RDRAM too. If they differ, both go back to the

@@ -55,7 +55,7 @@ pub struct DivideState {
     pub loaded: u16,
 }
 
-/// All registers.
+/// All registers. The default is 0 in all of them, and no machine's: begin with [`crate::Machine::get`].
 #[repr(C)]
 #[derive(Clone, Copy, Debug, Default, PartialEq, Eq)]
 pub struct State {

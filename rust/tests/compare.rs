@@ -180,5 +180,7 @@ impl Emulator for Whole {
 fn a_stretch_is_named_if_single_steps_dont_show_it() {
     let (mut machine, emulator) = pair(0, 99, lane);
     let found = first_difference(&mut machine, &mut Whole(emulator), 3, 1000).unwrap().unwrap();
-    assert_eq!((found.step, found.line.place, found.before), (3, 0, alone(0)));
+    assert_eq!((found.step, found.steps, found.line.place, found.before), (3, 3, 0, alone(0)));
+    let said = "steps 1 to 3, from 000 on: no step alone differs, so get and set leave something out\n";
+    assert!(found.to_string().starts_with(said), "{found}");
 }

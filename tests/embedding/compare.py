@@ -141,7 +141,9 @@ def beginnings():
     see("repr and HTML", repr(found) == "<rsp.FirstDifference: step 0, 000: ori $1, $0, 0x0007>" and "<code>00000005</code>" in found._repr_html_(), repr(found))
     machine, _ = machines()
     found = rsp.first_difference(machine, Whole(IMAGE), 3)
-    see("a stretch that single steps don't show", found and (found.step, found.place, found.before) == (3, 0, alone(0)), found)
+    see("a stretch that single steps don't show", found and (found.step, found.steps, found.place, found.before) == (3, 3, 0, alone(0)), found)
+    see("its text", str(found).startswith("steps 1 to 3, from 000 on: no step alone differs, so get and set leave something out\n  "), found)
+    see("a line of a listing", str(machine.listing(0, 1)[0]) == "000 34010007 ori $1, $0, 0x0007")
 
 
 class Short(rsp.Rsp):
