@@ -14,7 +14,7 @@ import ctypes
 import enum
 import os
 from ctypes import POINTER, Structure, byref, c_char, c_char_p, c_size_t, c_uint8, c_uint16, c_uint32, c_void_p
-from typing import Any, Iterable, List, NamedTuple, Optional, Sequence, Tuple, TypeVar
+from typing import Any, Iterable, Iterator, List, NamedTuple, Optional, Sequence, Tuple, TypeVar
 
 from . import arrays as _arrays
 from . import words as _in_words
@@ -421,6 +421,14 @@ class Rsp:
         out, stop = (Traced * steps)(), _Stop()
         _ok(_lib.rsp_trace(byref(self._handle), out, steps, byref(stop)), "trace", [steps])
         return _stop(stop), out[: stop.steps]
+
+    def iter_trace(self, limit: int = 1000000) -> "Iterator[Traced]":
+        """The entries of a trace one by one, up to a stop or `limit` steps. The machine makes up to 1024 steps ahead of them."""
+        (limit,) = _numbers("iter_trace", limit)
+        while limit:
+            stop, entries = self.trace(min(limit, 1024))
+            yield from entries
+            limit = limit - len(entries) if stop.reason == Reason.LIMIT else 0
 
     def back(self, states: int) -> None:
         """Undoes 1 to 1000000 steps. SHORT_HISTORY if the history holds fewer."""

@@ -134,6 +134,19 @@ impl Machine {
         Ok(seen_stop(&out))
     }
 
+    /// The entries of a trace one by one, up to a stop or `limit` steps. The machine makes up to 1024 steps ahead of them.
+    pub fn trace_iter(&mut self, limit: u64) -> impl Iterator<Item = Traced> + '_ {
+        let mut left = limit;
+        let some = std::iter::from_fn(move || {
+            let mut entries = vec![Traced::default(); left.min(1024) as usize];
+            let stop = self.trace(&mut entries).ok()?;
+            entries.truncate(stop.steps as usize);
+            left = if stop.reason == Reason::Limit { left - entries.len() as u64 } else { 0 };
+            Some(entries)
+        });
+        some.flatten()
+    }
+
     /// Undoes 1 to 1000000 steps.
     pub fn back(&mut self, states: u32) -> Result<(), Refused> {
         done(unsafe { raw::rsp_back(self.at(), states) })

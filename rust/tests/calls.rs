@@ -104,6 +104,10 @@ fn traces() {
     assert_eq!(entries[5].stored, 9);
     machine.back(4).unwrap();
     assert_eq!(machine.regs().unwrap().pc, 4);
+    let mut turning = loaded("loop: j loop\naddiu $1, $1, 1\n", 0);
+    let last = turning.trace_iter(3000).enumerate().last().unwrap();
+    assert_eq!((last.0, last.1.pc, last.1.value, turning.reg(1)), (2999, 4, 1500, Ok(1500)));
+    assert_eq!(loaded("nop\nbreak\n", 0).trace_iter(10).map(|it| it.pc).collect::<Vec<_>>(), [0, 4]);
 }
 
 #[test]

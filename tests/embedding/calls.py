@@ -157,6 +157,12 @@ def traces():
     see("it can be undone", machine.regs().pc == 4)
     machine.close()
     refused(rsp.Status.NO_MACHINE, machine.trace, 1)
+    with loaded("loop: j loop\naddiu $1, $1, 1\n", 0) as machine:
+        entries = list(machine.iter_trace(3000))
+        see("entries one by one", len(entries) == 3000 and (entries[2999].pc, entries[2999].value, machine.reg(1)) == (4, 1500, 1500))
+    with loaded("nop\nbreak\n", 0) as machine:
+        see("up to a stop", [it.pc for it in machine.iter_trace()] == [0, 4] and [*machine.iter_trace()] == [])
+    refused(rsp.Status.NO_MACHINE, list, machine.iter_trace())
 
 
 def sp_registers():
