@@ -38,6 +38,7 @@ pub extern "C" fn rsp_run(handle: &mut Handle, alloc: Global, n: u32, out: &mut 
     ensures count { IfSome handle.old.session (λ d. (result ≡ OK) ↔ ((1 ≤ n) × (n ≤ 1000000))) }
     ensures stop { result ≡ OK → IfSome handle.old.session (λ d. out.new ≡ seen_stop (stop_in n d) (ran n d).state.imem) }
     ensures next { result ≡ OK → handle.new.session ≡ option_map (ran n) handle.old.session }
+    ensures refused { (result ≡ OK → ⊥) → out.new ≡ out.old }
     ensures same { (result ≡ OK → ⊥) → handle.new.session ≡ handle.old.session }
     ensures answer { IfSome handle.old.session (λ d. (result ≡ OK) ⊎ (result ≡ OUT_OF_RANGE)) }
 {

@@ -29,6 +29,7 @@ pub extern "C" fn rsp_trace(
     ensures entries { result ≡ OK → IfSome handle.old.session (λ d. take stop.new.steps out.new ≡ trace_of stop.new.steps d.state) }
     ensures rest { result ≡ OK → drop stop.new.steps out.new ≡ drop stop.new.steps out.old }
     ensures refused { (result ≡ OK → ⊥) → out.new ≡ out.old }
+    ensures unstopped { (result ≡ OK → ⊥) → stop.new ≡ stop.old }
     ensures same { (result ≡ OK → ⊥) → handle.new.session ≡ handle.old.session }
 {
     match handle.take(alloc) {

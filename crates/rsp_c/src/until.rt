@@ -29,6 +29,7 @@ pub extern "C" fn rsp_run_until_move(
     ensures answer { IfSome handle.old.session (λ d. (result ≡ OK) ⊎ (result ≡ OUT_OF_RANGE)) }
     ensures end { result ≡ OK → IfSome handle.old.session (λ d. out.new ≡ seen_move (move_end_in n (moves_in reads writes) d) (ran_to_move n (moves_in reads writes) d).state.imem) }
     ensures next { result ≡ OK → handle.new.session ≡ option_map (ran_to_move n (moves_in reads writes)) handle.old.session }
+    ensures refused { (result ≡ OK → ⊥) → out.new ≡ out.old }
     ensures same { (result ≡ OK → ⊥) → handle.new.session ≡ handle.old.session }
 {
     match handle.take(alloc) {

@@ -9,8 +9,7 @@ use rsp_acc::Acc;
 use rsp_decode::{Inst, MoveRow, decode};
 use rsp_machine::{Machine, Until};
 
-/// The moves before which a run ends. Bit r of `reads` stands for each MFC0 from SP register r, bit r of `writes` for each MTC0
-/// to it.
+/// A run ends before these moves: bit r of `reads` names each MFC0 from SP register r, bit r of `writes` each MTC0 to it.
 #[derive(Clone, Copy, Debug, PartialEq, Eq, Drop)]
 pub struct Moves {
     /// The SP registers that are read.

@@ -409,7 +409,7 @@ macro_rules! arms {
 pub(crate) use arms;
 pub(crate) use instruction_table;
 
-/// The answer for a reserved word. It stands apart as what seldom comes, so that the arms of rows don't.
+/// The answer for a reserved word. It is a function of its own since it is rare: so the compiler keeps the other arms inlined.
 #[cold]
 #[inline(never)]
 pub(crate) fn reserved() -> bool

@@ -6,8 +6,8 @@ ghost use Rattle.rsp_decode.specs.Table.{IsInstruction};
 
 use crate::inst::Inst;
 
-/// What takes the instruction of a word from [`crate::visit`], which is inlined there with the variant known: so a word is taken
-/// apart and carried out by one match, and no `Inst` stands in memory between.
+/// What takes the instruction of a word from [`crate::visit`]. It is inlined there with the variant known, so one match decodes
+/// and executes a word, and no `Inst` is in memory between.
 pub trait Visitor {
     /// What it is after an instruction.
     ghost after: { Inst → Self → Self };

@@ -254,7 +254,7 @@ ends-done k n s t m within stuck = elim (cases_lt k n) [
   | inr all ↦ all_done k n s t m (omega (arith, within, all))
 ]
 
--- where steps go on behind all that is told
+-- if steps go on whatever was saved, no saver ends them
 some_goes : {K : Type 0} (o : Option K) → option_map (λ (k : K). true) o ≡ Some false → ⊥
 some_goes None e = cc
 some_goes (Some k) e = cc
@@ -271,7 +271,7 @@ ends-stuck k s t o (inl stuck) = stuck
 ends-stuck k s t o (inr (some, inl last)) = absurd (some_goes o last)
 ends-stuck k s t o (inr (some, inr ended)) = cc
 
--- what stands in a slot that is written, and in the others
+-- what is in an entry that is written, and in the others
 slice_get-set_same : {X : Type 0} (xs : List X) (i : ℕ) (x : X) → i < length xs → slice_get (set xs i x) i ≡ Some x
 slice_get-set_same [] i x h = absurd (omega (arith, h))
 slice_get-set_same (y ∷ ys) zero x h = refl
@@ -300,7 +300,7 @@ told_nothing saves (Some i) s k h = cc
 pub told-reserved : {K : Type 0} (saves : Change → State → K → K) (w : ℕ) (s : State) (xs : List K) (j : ℕ) (d x : K) → None ≡ reached s (inst_of w) → x ≡ told_by saves (inst_of w) s (get_or xs j d) → set xs j x ≡ xs
 told-reserved saves w s xs j d x none e = ap (set xs j) (e ∙ told_nothing saves (inst_of w) s (get_or xs j d) none) ∙ set-get_or xs j d
 
--- whether steps go on behind the one that was told of last
+-- whether steps go on after the one that was saved last
 pub goes-here : {K : Type 0} (goes : K → Bool) (slot : ℕ → ℕ) (k n j : ℕ) (xs : List K) (x : K) (b : Bool) → n ≡ k → j ≡ slot k → j < length xs → goes x ≡ b → option_map goes (slice_get (set xs j x) (slot n)) ≡ Some b
 goes-here goes slot k n j xs x b e at inside g = rw (e, ← at) (ap (option_map goes) (slice_get-set_same xs j x inside) ∙ ap Some g)
 

@@ -1,4 +1,4 @@
--- What the records of made steps lead back to.
+-- Which states the records of steps undo to.
 use Rattle.std.proofs.Common.{◌≡◌, ◌⊎◌, inl, inr, ℕ, zero, suc, ◌+◌, ◌-◌, ◌<◌, ◌≤◌, Bool, true, false, not, List, [], ◌∷◌, length, drop, get_or, refl, sym, ap, ◌∙◌, arith, add-one, Option, Some, None}
 use Rattle.std.specs.Prelude.{slice_get, option_map, IsSome, is_some}
 use Rattle.std.proofs.lemmas.Bool.{cases_lt}
