@@ -78,7 +78,7 @@ product_rounded (negsuc n) least most =
     let e : negsuc n *ℤ pos 65536 ≡ negsuc (n * 65536 + 65535) = omega (arith, ints) in
     rw e (s48_is _ _ 0 0 (omega (arith, ints)) (omega (arith, ints)) (omega (arith, ints)))
 
--- the clamp of a half that stands 65536 times as large in an accumulator
+-- the clamp of a half that is 65536 times as large in an accumulator
 pub half_clamped : (p : ℤ) → clamp_of Signed (floor_div p 2 *ℤ pos 65536) / 16 * 16 ≡ mpeg_half p
 unfolding clamp_of
 half_clamped p = rw (shifted_back (floor_div p 2)) refl

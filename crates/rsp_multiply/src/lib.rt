@@ -1,5 +1,7 @@
-//! The vector unit's twelve multiplies, VSAR and the four rows for MPEG coefficients, over any implementation of the
-//! accumulators.
+//! The vector unit's twelve multiplies, VSAR, and the four instructions for MPEG coefficients, over any implementation
+//! of the accumulators.
+//!
+//! docs/INSTRUCTIONS.md, "Multiplies" and "MPEG coefficients", has the rules.
 #![tactic(auto)]
 
 pub mod laws;
