@@ -1,5 +1,7 @@
-//! The divide rows: reciprocals, inverse square roots and moves of one lane, and the divider that carries a 32-bit
-//! operand and its quotient from one row to the next.
+//! The divide instructions: reciprocals and inverse square roots of one lane, and VMOV. The divider carries halves of
+//! 32-bit operands and quotients from one instruction to the next.
+//!
+//! docs/INSTRUCTIONS.md, "Divide instructions", has the rules.
 #![tactic(auto)]
 
 mod divider;
