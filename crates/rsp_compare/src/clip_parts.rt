@@ -6,7 +6,7 @@ ghost use Rattle.rsp_compare.specs.ClipParts.{sum_or_difference};
 
 use rsp_lanes::{Mask8, VReg};
 
-/// The lanes in which just one of both is negative.
+/// The lanes that are negative in just one of both.
 #[inline(always)]
 pub(crate) fn signs_differ(a: &VReg, b: &VReg) -> Mask8
     ensures { result ≡ each_lane (λ i. signs_differ (slice_index a.now i) (slice_index b.now i)) }

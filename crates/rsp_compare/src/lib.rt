@@ -3,7 +3,7 @@
 //!
 //! Each public call takes an operation, the register vs, the selected vt, the flags and the accumulators, and returns
 //! the register that is written to vd. It refuses nothing. Three clauses state its effect by the operation's rule for
-//! one lane: the results, the flags after it, and the accumulators, of which only the low sixteen bits are written.
+//! one lane: the results, the flags after it, and the accumulators: only their low sixteen bits are written.
 //! docs/INSTRUCTIONS.md has the rules.
 #![tactic(auto)]
 

@@ -65,7 +65,7 @@ pub fn merge_op<A: Acc>(op: MergeOp, a: &VReg, b: &VReg, flags: &mut Flags, acc:
     result
 }
 
-/// The lanes in which the comparison holds.
+/// The lanes for which the comparison holds.
 #[inline(always)]
 fn taken(op: SelectOp, a: &VReg, b: &VReg, flags: &Flags) -> Mask8
     ensures { result ≡ each_lane (λ i. holds op (slice_index a.now i) (slice_index b.now i) (flags_at flags.now i)) }
@@ -78,7 +78,7 @@ fn taken(op: SelectOp, a: &VReg, b: &VReg, flags: &Flags) -> Mask8
     }
 }
 
-/// The lanes in which VLT holds.
+/// The lanes for which VLT holds.
 #[inline(always)]
 fn is_below(a: &VReg, b: &VReg, flags: &Flags) -> Mask8
     ensures { result ≡ each_lane (λ i. vlt (slice_index a.now i) (slice_index b.now i) (flags_at flags.now i)) }
@@ -89,7 +89,7 @@ fn is_below(a: &VReg, b: &VReg, flags: &Flags) -> Mask8
     a.is_below_signed(b).or(a.is_equal(b).and(both))
 }
 
-/// The lanes in which VEQ holds.
+/// The lanes for which VEQ holds.
 #[inline(always)]
 fn is_equal(a: &VReg, b: &VReg, flags: &Flags) -> Mask8
     ensures { result ≡ each_lane (λ i. veq (slice_index a.now i) (slice_index b.now i) (flags_at flags.now i)) }
@@ -99,7 +99,7 @@ fn is_equal(a: &VReg, b: &VReg, flags: &Flags) -> Mask8
     a.is_equal(b).and(flags.differ.not())
 }
 
-/// The lanes in which VNE holds.
+/// The lanes for which VNE holds.
 #[inline(always)]
 fn is_different(a: &VReg, b: &VReg, flags: &Flags) -> Mask8
     ensures { result ≡ each_lane (λ i. vne (slice_index a.now i) (slice_index b.now i) (flags_at flags.now i)) }
@@ -109,7 +109,7 @@ fn is_different(a: &VReg, b: &VReg, flags: &Flags) -> Mask8
     a.is_equal(b).not().or(flags.differ)
 }
 
-/// The lanes in which VGE holds.
+/// The lanes for which VGE holds.
 #[inline(always)]
 fn is_at_least(a: &VReg, b: &VReg, flags: &Flags) -> Mask8
     ensures { result ≡ each_lane (λ i. vge (slice_index a.now i) (slice_index b.now i) (flags_at flags.now i)) }

@@ -88,7 +88,7 @@ lesser_lanes a b u v =
 pub greater_is : (a b : ℕ) → a < 65536 → b < 65536 → greater a b ≡ int_max (to_z w16 a) (to_z w16 b)
 greater_is a b h k = rw (again_is a h, again_is b k) (taken _ b a k h ∙ most (to_z w16 a) (to_z w16 b))
 
--- the number of which n is the bits, modulo 2^32
+-- the number that has the bits n, modulo 2^32
 modulo_32 : (n : ℕ) (z : ℤ) → negsuc (2 ^ 31 - 1) ≤ℤ z → z <ℤ pos (2 ^ 31) → pos n ≡ z +ℤ pos (2 ^ 32) → to_z w32 (n % 2 ^ 32) ≡ z
 modulo_32 n (pos m) l h e =
     let f : n ≡ m + 2 ^ 32 = omega (arith, ints, e) in

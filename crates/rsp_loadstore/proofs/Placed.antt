@@ -185,7 +185,7 @@ line_loaded m file vt a h l = ap (with_vector file vt) (each_same _ _ (λ i k. r
         let d : k - 0 ≡ k = omega arith in
         rw (e, s, t, d) refl
 
--- a register of which n lanes from one on are given
+-- a register with n given lanes from one on
 abbrev from_given : (ℕ → ℕ) → List ℕ → ℕ → ℕ → List ℕ
 from_given value v half n = each_lane (λ i. if nat_le half i && nat_lt i (half + n) then value (i - half) else get_or v i 0)
 
@@ -241,7 +241,7 @@ fourths_loaded m file vt e a h l half =
           ≡ (if nat_le 4 i && nat_lt i 8 then value (i - 4) else get_or (vector file vt) i 0)) refl refl refl refl refl refl refl refl i k)
     ]
 
--- a register of which the first n lanes are given
+-- a register whose first n lanes are given
 abbrev first_given : (ℕ → ℕ) → List ℕ → ℕ → List ℕ
 first_given value v n = each_lane (λ j. if nat_lt j n then value j else get_or v j 0)
 

@@ -25,8 +25,11 @@ loaded memory file (to_lane r i f a) = with_vector file r (slice_set (vector fil
 unfoldable pub after_load : List ℕ → List (List ℕ) → List Load → List (List ℕ)
 after_load memory file ps = fold (loaded memory) file ps
 
--- The pairs of each load, by its register vt, its element e and its address a. x - y is 0 if y is greater than x. The
--- second argument of `place` counts modulo 16, so 16 - e is -e there.
+-- The pairs of each load, by its register vt, its element e and its address a. LBV, LSV, LLV and LDV load 1, 2, 4 and 8
+-- bytes, LQV those from a to the end of a's quadword, LRV those of the quadword before a, and none goes past register
+-- byte 15. LPV and LUV load a lane from each byte, LHV from every second, LFV four lanes from every fourth. LTV loads a
+-- lane of each of the eight registers of a group.
+-- x - y is 0 if y is greater than x. The second argument of `place` counts modulo 16, so 16 - e is -e there.
 unfoldable pub load_pairs : VectorLoadRow → ℕ → ℕ → ℕ → List Load
 load_pairs Lbv vt e a = for_each (min 1 (16 - e)) (λ k. to_byte vt (e + k) (a + k))
 load_pairs Lsv vt e a = for_each (min 2 (16 - e)) (λ k. to_byte vt (e + k) (a + k))

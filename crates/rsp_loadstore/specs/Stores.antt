@@ -39,8 +39,11 @@ packed vt j a = if nat_lt j 8 then high_byte vt j a else shifted vt (j % 8) a
 abbrev pub unsigned_packed : ℕ → ℕ → ℕ → Store
 unsigned_packed vt j a = if nat_lt j 8 then shifted vt j a else high_byte vt (j % 8) a
 
--- The pairs of each store, by its register vt, its element e and its address a. The numbers of register bytes, and the
--- second argument of `place`, count modulo 16.
+-- The pairs of each store, by its register vt, its element e and its address a. SBV, SSV, SLV and SDV store 1, 2, 4 and
+-- 8 bytes, SQV as many as fit from a to the end of a's quadword, SRV as many as there are in the quadword before a. SPV
+-- and SUV pack lanes into bytes one after the other, SHV into every second byte, SFV four lanes into every fourth. SWV
+-- stores all bytes, rotated, and STV a lane of each of the eight registers of a group.
+-- The numbers of register bytes, and the second argument of `place`, count modulo 16.
 unfoldable pub store_pairs : VectorStoreRow → ℕ → ℕ → ℕ → List Store
 store_pairs Sbv vt e a = for_each 1 (λ k. from_byte vt ((e + k) % 16) (a + k))
 store_pairs Ssv vt e a = for_each 2 (λ k. from_byte vt ((e + k) % 16) (a + k))

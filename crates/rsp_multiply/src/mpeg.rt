@@ -51,7 +51,7 @@ fn negative<A: Acc>(acc: &A) -> Mask8
     acc.part(Part::High).is_negative()
 }
 
-/// The lanes in which VRNDP or VRNDN adds to the accumulator.
+/// The lanes whose accumulator VRNDP or VRNDN adds to.
 #[inline(always)]
 fn rounding_lanes<A: Acc>(op: RoundOp, acc: &A) -> Mask8
     ensures { result ≡ each_lane (λ i. rounding_adds op (number (A.numbers acc.now) i)) }

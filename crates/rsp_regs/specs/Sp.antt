@@ -99,14 +99,14 @@ after_dma t s = record s {
   skip = t.skip;
 }
 
--- whether register n is SP_RD_LEN, a write of which copies from the RDRAM, or SP_WR_LEN, a write of which copies to it
+-- whether register n is SP_RD_LEN, whose write copies from the RDRAM, or SP_WR_LEN, whose write copies to it
 abbrev pub is_rd_len : ℕ → Bool
 is_rd_len n = n % 16 == 2
 
 abbrev pub is_wr_len : ℕ → Bool
 is_wr_len n = n % 16 == 3
 
--- whether register n is a length register, a write of which does a DMA
+-- whether register n is a length register, whose write does a DMA
 abbrev pub is_length_register : ℕ → Bool
 is_length_register n = is_rd_len n || is_wr_len n
 
