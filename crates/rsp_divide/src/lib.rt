@@ -5,15 +5,15 @@
 #![tactic(auto)]
 
 mod divider;
+mod divides;
 mod entries;
 pub mod laws;
 mod op;
 mod quotients;
-mod rows;
 mod tables;
 
 pub use divider::Divider;
+pub use divides::divide_op;
 pub use entries::{rcp_entry, rsq_entry};
 pub use op::DivideOp;
 pub use quotients::{reciprocal, root};
-pub use rows::divide_op;

@@ -6,10 +6,10 @@
 
 pub mod laws;
 mod mpeg;
+mod multiplies;
 mod op;
 mod products;
-mod rows;
 
 pub use mpeg::{mpeg_op, round_op};
+pub use multiplies::{multiply, sar};
 pub use op::{MpegOp, MultiplyOp, RoundOp};
-pub use rows::{multiply, sar};

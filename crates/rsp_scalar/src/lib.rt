@@ -4,12 +4,12 @@
 //! has the rules.
 #![tactic(auto)]
 
+mod computing;
 mod flow;
 mod memory;
 mod registers;
-mod rows;
 
+pub use computing::alu;
 pub use flow::{jump, taken, target};
 pub use memory::{address, load, store};
 pub use registers::Regs;
-pub use rows::alu;
