@@ -23,7 +23,7 @@ numbers_set xs i v h n all k =
       | inr ne ↦ rw (get_or-set_other xs i k v (pos 0) ne) (all k)
     ]
 
--- a list of eight that was written member by member
+-- a list of eight that is written member by member
 pub filled : {X : Type 0} (f : ℕ → X) (d : X) (xs : List X) (i : ℕ) → length xs ≡ 8 → (i < 8 → ⊥) → ((k : ℕ) → k < i → get_or xs k d ≡ f k) → xs ≡ each_lane f
 filled f d xs i n stop all = eta d xs n ∙ each_same _ _ (λ k h. all k (omega (arith, stop)))
 

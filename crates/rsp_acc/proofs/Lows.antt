@@ -1,4 +1,4 @@
--- Low parts that are written over, and written back.
+-- Low parts of accumulators, replaced and restored.
 use Rattle.std.proofs.Common.{◌≡◌, ◌<◌, ℕ, ℤ, List, arith, refl, sym, ap, ◌∙◌, pos, negsuc}
 use Rattle.std.specs.Prelude.{slice_index}
 use Rattle.rsp_lanes.proofs.Kit.{eta, each_same, lane_of}
@@ -25,7 +25,7 @@ written_again z l h k =
     rw (high_join (high z) (middle z) l (high_below z) (middle_below z) k, middle_join (high z) (middle z) l (high_below z) (middle_below z) k)
     (parts_again z h)
 
--- low parts that were written are read back
+-- low parts that were written are read
 lows_of_written : (xs ys : List ℤ) → low_lanes (with_low ys (low_lanes xs)) ≡ low_lanes xs
 unfolding with_low
 lows_of_written xs ys = each_same _ _ (λ i k. rw (
@@ -33,7 +33,7 @@ lows_of_written xs ys = each_same _ _ (λ i k. rw (
   lane_of 0 (λ n. low (number xs n)) _ refl i k,
 ) (low_of_written (number ys i) (low (number xs i)) (low_below (number xs i))))
 
--- and lead back to accumulators whose low parts were written over
+-- writing the old low parts restores accumulators whose low parts were replaced
 lows_again : (xs : List ℤ) (l : List ℕ) → AreNumbers xs → ((i : ℕ) → i < 8 → slice_index l i < 65536) → with_low (with_low xs l) (low_lanes xs) ≡ xs
 unfolding with_low
 lows_again xs l h k =
@@ -43,7 +43,7 @@ lows_again xs l h k =
     ) (written_again (number xs i) (slice_index l i) (h.1 i) (k i n)))
     ∙ sym (eta (pos 0) xs h.0)
 
--- what was saved of the low parts alone, among others' upper ones, leads back
+-- saved low parts, with upper parts of other accumulators, restore the low parts
 pub lows_back : (xs ys : List ℤ) (l : List ℕ) → AreNumbers xs → ((i : ℕ) → i < 8 → slice_index l i < 65536)
     → with_low (with_low xs l) (low_lanes (with_low ys (low_lanes xs))) ≡ xs
 lows_back xs ys l h k = ap (with_low (with_low xs l)) (lows_of_written xs ys) ∙ lows_again xs l h k

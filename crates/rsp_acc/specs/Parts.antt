@@ -1,4 +1,4 @@
--- What is read of an accumulator: sixteen of its bits, or a clamp.
+-- What is read of an accumulator: one third of its bits, or a clamp.
 use Rattle.std.specs.Prelude.{ℕ, ℤ, pos, negsuc, int_lt, if◌then◌else◌}
 use Rattle.rsp_numbers.specs.Numbers.{floor_div, sixteen_bits, clamp16, high, middle, low}
 use Rattle.rsp_acc.specs.declared.parts.Part.{Part}
@@ -6,16 +6,16 @@ use Rattle.rsp_acc.specs.declared.parts.Part.TheVariants.{High, Middle, Low}
 use Rattle.rsp_acc.specs.declared.parts.Clamp.{Clamp}
 use Rattle.rsp_acc.specs.declared.parts.Clamp.TheVariants.{Signed, Unsigned, LowKind}
 
--- sixteen bits of an accumulator
+-- the high, middle or low sixteen bits of an accumulator
 abbrev pub part_of : Part → ℤ → ℕ
 part_of High x = high x
 part_of Middle x = middle x
 part_of Low x = low x
 
--- a clamp, by h = floor(accumulator / 65536) and by l, the accumulator modulo 65536.
--- Signed: h limited to -32768 .. 32767, as sixteen bits.
--- Unsigned: 0 for a negative h, 65535 for an h above 32767, else h.
--- LowKind: 0 for an h below -32768, 65535 for an h above 32767, else l.
+-- a clamp, by h = floor(accumulator / 65536) and by l = accumulator modulo 65536
+-- Signed: h clamped to -32768 .. 32767, as sixteen bits
+-- Unsigned: 0 for h below 0, 65535 for h above 32767, else h
+-- LowKind: 0 for h below -32768, 65535 for h above 32767, else l
 abbrev pub clamp_by : Clamp → ℤ → ℕ → ℕ
 clamp_by Signed h l = sixteen_bits (clamp16 h)
 clamp_by Unsigned h l = if int_lt h (pos 0) then 0 else if int_lt (pos 32767) h then 65535 else sixteen_bits h

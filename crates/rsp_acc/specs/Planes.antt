@@ -1,21 +1,21 @@
--- Eight accumulators by their parts, and what is done to all eight at once.
+-- Eight accumulators by their high, middle and low sixteen bits, and operations on all eight.
 use Rattle.std.specs.Prelude.{ℕ, ℤ, ◌+ℤ◌, List, slice_index, map}
 use Rattle.rsp_lanes.specs.Lanes.{each_lane}
 use Rattle.rsp_numbers.specs.Numbers.{s48, number, join, high, middle, low}
 
--- the accumulators whose high, middle and low sixteen bits are these
+-- the accumulators with these high, middle and low sixteen bits
 abbrev pub joined : List ℕ → List ℕ → List ℕ → List ℤ
 joined h m l = each_lane (λ i. join (slice_index h i) (slice_index m i) (slice_index l i))
 
--- the sums of two lists of eight numbers, each as a number of 48 bits
+-- the sums of two lists of eight numbers, each modulo 2^48 as a signed value
 abbrev pub wrapped_sums : List ℤ → List ℤ → List ℤ
 wrapped_sums xs ys = each_lane (λ i. s48 (number xs i +ℤ number ys i))
 
--- an accumulator whose low sixteen bits are written over, the high and middle ones kept
+-- an accumulator with its low sixteen bits replaced; the high and middle ones are kept
 abbrev pub low_written : ℤ → ℕ → ℤ
 low_written x l = join (high x) (middle x) l
 
--- the same of all eight
+-- the same for all eight
 unfoldable pub with_low : List ℤ → List ℕ → List ℤ
 with_low xs l = each_lane (λ i. low_written (number xs i) (slice_index l i))
 

@@ -1,4 +1,4 @@
--- Scaffolding of proofs: the planes of joined accumulators are what they were joined from.
+-- Scaffolding of proofs: the planes of joined accumulators are those that they were joined from.
 use Rattle.std.proofs.Common.{◌≡◌, ℕ, List, map, sym, ◌∙◌}
 use Rattle.rsp_lanes.specs.Lanes.{IsVector}
 use Rattle.rsp_lanes.proofs.Kit.{eta, map_of_each, each_same}

@@ -7,28 +7,27 @@ ghost use Rattle.rsp_acc.specs.Planes.{wrapped_sums, with_low};
 use crate::{Addends, Clamp, Part};
 use rsp_lanes::VReg;
 
-/// The vector unit's eight accumulators: signed numbers of 48 bits, one for each lane.
+/// The vector unit's eight accumulators: a signed number of 48 bits for each lane.
 ///
-/// Two implementations keep them in two ways, `PlainAcc` as eight whole numbers and `PlaneAcc` as
-/// three vectors of sixteen bits. What a caller sees is the list `numbers` alone, so it cannot tell
-/// them apart.
+/// `PlainAcc` keeps them as whole numbers, `PlaneAcc` as three vectors of sixteen bits. A caller sees only the list
+/// `numbers`, so both implementations give the same answers.
 pub trait Acc: Drop {
-    /// The eight accumulators, each from -2^47 to 2^47 - 1.
+    /// The accumulators, lane 0 first, each from -2^47 to 2^47 - 1.
     ghost numbers: { Self → List ℤ };
 
     /// Eight zeros.
     fn zero() -> Self
         ensures { numbers result ≡ each_lane (λ _. pos 0) };
 
-    /// Changes nothing. It says that they are eight numbers from -2^47 to 2^47 - 1.
+    /// Does nothing. Its contract gives the prover a fact: there are eight numbers from -2^47 to 2^47 - 1.
     fn ranges(&self)
         ensures { AreNumbers (numbers self.now) };
 
-    /// Each accumulator becomes its addend.
+    /// Replaces each accumulator by its addend.
     fn replace(&mut self, addends: &Addends)
         ensures { numbers self.new ≡ addends.now };
 
-    /// Adds to each accumulator its addend, modulo 2^48, as a signed number.
+    /// Adds its addend to each accumulator: the sum modulo 2^48, as a signed value.
     fn add(&mut self, addends: &Addends)
         ensures { numbers self.new ≡ wrapped_sums (numbers self.old) addends.now };
 
@@ -36,11 +35,11 @@ pub trait Acc: Drop {
     fn set_low(&mut self, low: &VReg)
         ensures { numbers self.new ≡ with_low (numbers self.old) low.now };
 
-    /// Sixteen bits of each accumulator.
+    /// The high, middle or low sixteen bits of each accumulator.
     fn part(&self, part: Part) -> VReg
         ensures { result ≡ each_lane (λ i. part_of part (number (numbers self.now) i)) };
 
-    /// Each accumulator brought to sixteen bits.
+    /// Each accumulator clamped to sixteen bits.
     fn clamp(&self, clamp: Clamp) -> VReg
         ensures { result ≡ each_lane (λ i. clamp_of clamp (number (numbers self.now) i)) };
 }

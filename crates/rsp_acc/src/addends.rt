@@ -7,8 +7,8 @@ use crate::{Acc, Part};
 use rsp_lanes::{Mask8, VReg, u16x8};
 use std::marker::Model;
 
-/// What is written or added to eight accumulators: eight numbers from -2^47 to 2^47 - 1, kept as
-/// three planes of sixteen bits.
+/// What is written or added to the eight accumulators: eight numbers from -2^47 to 2^47 - 1, as three planes of sixteen
+/// bits. Contracts see the list of numbers, lane 0 first.
 #[derive(Clone, Copy, Debug, Drop)]
 pub struct Addends {
     high: u16x8,
@@ -45,7 +45,7 @@ impl Addends {
         Addends::from_planes(&zeros, &zeros, &zeros)
     }
 
-    /// The numbers whose high, middle and low sixteen bits, lane by lane, are these.
+    /// The numbers with these high, middle and low sixteen bits, lane by lane.
     #[inline(always)]
     pub fn from_planes(high: &VReg, middle: &VReg, low: &VReg) -> Self
         ensures { result ≡ joined high.now middle.now low.now }
@@ -57,8 +57,8 @@ impl Addends {
         }
     }
 
-    /// The numbers of eight accumulators, whatever these are kept in. Written back by [`Acc::replace`] they
-    /// give the accumulators again.
+    /// The numbers of eight accumulators, whatever the implementation. [`Acc::replace`] with them restores the
+    /// accumulators.
     #[inline(always)]
     pub fn of<A: Acc>(acc: &A) -> Self
         ensures { result ≡ A.numbers acc.now }
@@ -70,7 +70,7 @@ impl Addends {
         Addends::from_planes(&high, &middle, &low)
     }
 
-    /// Changes nothing. It says that they are eight numbers from -2^47 to 2^47 - 1.
+    /// Does nothing. Its contract gives the prover a fact: there are eight numbers from -2^47 to 2^47 - 1.
     #[inline(always)]
     pub fn ranges(&self)
         ensures { AreNumbers self.now }
@@ -107,7 +107,7 @@ impl Addends {
         self.low = low.to_simd();
     }
 
-    /// The sums with the other numbers, modulo 2^48, as signed numbers.
+    /// The sums with other numbers, each modulo 2^48 as a signed value.
     #[inline(always)]
     pub(crate) fn plus(&self, other: &Addends) -> Addends
         ensures { result ≡ wrapped_sums self.now other.now }

@@ -1,4 +1,4 @@
-/// Which sixteen bits of a 48-bit accumulator are read.
+/// One third of a 48-bit accumulator.
 #[derive(Clone, Copy, PartialEq, Eq, Debug, Drop)]
 pub enum Part {
     /// Bits 47 to 32.
@@ -9,14 +9,13 @@ pub enum Part {
     Low,
 }
 
-/// How a 48-bit accumulator is brought to sixteen bits, by h, the accumulator divided by 65536
-/// and rounded down (the clamps of the instruction table's multiplies).
+/// A clamp of a 48-bit accumulator to sixteen bits, by h: the accumulator divided by 65536, rounded down.
 #[derive(Clone, Copy, PartialEq, Eq, Debug, Drop)]
 pub enum Clamp {
-    /// h limited to -32768..=32767, as sixteen bits.
+    /// h clamped to -32768..=32767, as sixteen bits.
     Signed,
-    /// 0 for a negative h, 65535 for an h above 32767, else h.
+    /// 0 for h below 0, 65535 for h above 32767, else h.
     Unsigned,
-    /// 0 for an h below -32768, 65535 for an h above 32767, else the low sixteen bits.
+    /// The low clamp: 0 for h below -32768, 65535 for h above 32767, else the accumulator's low sixteen bits.
     LowKind,
 }

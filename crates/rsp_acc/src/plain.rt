@@ -7,8 +7,7 @@ use crate::{Acc, Addends, Clamp, Part};
 use rsp_lanes::VReg;
 use std::marker::Model;
 
-/// The eight accumulators as whole numbers from -2^47 to 2^47 - 1: the plain reading of the
-/// instruction table.
+/// The accumulators as eight whole numbers from -2^47 to 2^47 - 1, as the rules state them.
 #[derive(Clone, Copy, PartialEq, Eq, Debug, Drop)]
 pub struct PlainAcc {
     numbers: [i64; 8],
@@ -81,7 +80,7 @@ impl Acc for PlainAcc {
     }
 }
 
-/// The number from -2^47 to 2^47 - 1 that differs from `n` by a multiple of 2^48.
+/// The signed value of `n` modulo 2^48: from -2^47 to 2^47 - 1.
 fn wrap48(n: i64) -> i64
     requires { (negsuc (2 ^ 48 - 1) ≤ℤ n) × (n <ℤ pos (2 ^ 48)) }
     ensures value { result ≡ s48 n }
@@ -90,7 +89,7 @@ fn wrap48(n: i64) -> i64
     (n + (1 << 47)).rem_euclid(1 << 48) - (1 << 47)
 }
 
-/// Number `i` of the addends.
+/// The addend of lane `i`.
 fn addend(addends: &Addends, i: usize) -> i64
     requires { i < 8 }
     ensures value { result ≡ number addends.now i }
@@ -113,7 +112,7 @@ fn join(high: u16, middle: u16, low: u16) -> i64
     }
 }
 
-/// A number with its low sixteen bits written over.
+/// A number with its low sixteen bits replaced.
 fn with_low(number: i64, low: u16) -> i64
     requires { IsNumber number }
     ensures value { result ≡ low_written number low }
@@ -129,7 +128,7 @@ fn low16(n: i64) -> u16
     n.rem_euclid(65536) as u16
 }
 
-/// Sixteen bits of a number.
+/// The high, middle or low sixteen bits of a number.
 fn part_of(part: Part, number: i64) -> u16
     requires { IsNumber number }
     ensures { result ≡ part_of part number }
@@ -141,7 +140,7 @@ fn part_of(part: Part, number: i64) -> u16
     }
 }
 
-/// A number brought to sixteen bits.
+/// A number clamped to sixteen bits.
 fn clamp_of(clamp: Clamp, number: i64) -> u16
     requires { IsNumber number }
     ensures { result ≡ clamp_of clamp number }
@@ -149,7 +148,7 @@ fn clamp_of(clamp: Clamp, number: i64) -> u16
     clamped(clamp, number.div_euclid(65536), low16(number))
 }
 
-/// The clamp, by the number without its low sixteen bits and by these.
+/// The clamp, by the number divided by 65536 and by its low sixteen bits.
 fn clamped(clamp: Clamp, upper: i64, low: u16) -> u16
     ensures { result ≡ clamp_by clamp upper low }
 {

@@ -5,8 +5,8 @@ use crate::{Acc, Addends, Clamp, Part};
 use rsp_lanes::{VReg, u16x8};
 use std::marker::Model;
 
-/// The eight accumulators as three planes of sixteen bits: lane i of `high`, `middle` and `low`
-/// are the bits 47 to 32, 31 to 16 and 15 to 0 of accumulator i.
+/// The accumulators as three planes: lane i of `high`, `middle` and `low` is bits 47 to 32, 31 to 16 and 15 to 0 of
+/// accumulator i.
 #[derive(Clone, Copy, Debug, Drop)]
 pub struct PlaneAcc {
     high: u16x8,
@@ -32,7 +32,7 @@ impl Model for PlaneAcc {
 }
 
 impl PlaneAcc {
-    /// The high, middle and low sixteen bits of each accumulator, in that order.
+    /// The high, middle and low sixteen bits of each accumulator, in this order.
     #[inline(always)]
     pub fn planes(&self) -> [VReg; 3]
         ensures { self.now ≡ joined (slice_index_or result 0 []) (slice_index_or result 1 []) (slice_index_or result 2 []) }
@@ -43,7 +43,7 @@ impl PlaneAcc {
         [high, middle, low]
     }
 
-    /// The accumulators as numbers to add to.
+    /// The accumulators as addends.
     #[inline(always)]
     fn as_addends(&self) -> Addends
         ensures { result ≡ self.now }
@@ -100,8 +100,8 @@ impl Acc for PlaneAcc {
         }
     }
 
-    /// The high plane tells the sign, and both together whether the upper 32 bits are the sign
-    /// extension of the middle ones.
+    /// An accumulator fits if its high plane is the sign extension of its middle one. If it doesn't, the high plane's
+    /// sign says at which end it is clamped.
     #[inline(always)]
     fn clamp(&self, clamp: Clamp) -> VReg {
         let high = VReg::from_simd(self.high);

@@ -1,4 +1,4 @@
--- From each lane to the whole row.
+-- From each lane to the whole instruction.
 use Rattle.std.proofs.Common.{◌≡◌, ◌∙◌, ℕ, ◌<◌, List, length, Bool, false, ap, refl, slice_index, slice_index_or}
 use Rattle.rsp_lanes.specs.Lanes.{each_lane}
 use Rattle.rsp_lanes.proofs.Kit.{eta, each_same}

@@ -1,4 +1,4 @@
--- The clip rows for one lane: what the code computes, from a and b, whether the signs differ, and n.
+-- The clip instructions for one lane: what the code computes, from a and b, whether the signs differ, and n.
 use Rattle.std.proofs.Common.{◌≡◌, ℕ, ◌+◌, ◌%◌, ◌<◌, ℤ, pos, negsuc, ◌+ℤ◌, ◌-ℤ◌, Bool, true, false, cond, not, ◌&&◌, ◌||◌, nat_lt, nat_eq, nat_le, arith, refl}
 use Rattle.std.specs.Prelude.{int_lt, int_le}
 use Rattle.std.specs.Ordering.{int_eq}
@@ -78,7 +78,7 @@ pub vcr_is : (a b : ℕ) (f : LaneFlags) → a < 65536 → b < 65536
     → vcr_code (signs_differ a b) (sixteen_bits (sum_or_difference a b)) a b ≡ vcr a b f
 vcr_is a b f h k = vcr_cases (signs_differ a b) _ _ a b (sum_or_difference_signed a b h k) refl refl
 
--- VCL, from the sum with no carry and from where it passes 65535
+-- VCL, from the sum without carry, and from whether it passes 65535
 fits : (n : ℕ) → not (nat_le 65536 n) ≡ nat_lt n 65536
 fits n = grind (arith, nat_tests)
 
@@ -108,7 +108,7 @@ vcl_cases a b false false c l e = rw (up_to a b) refl
 pub vcl_is : (a b : ℕ) (f : LaneFlags) (n : ℕ) → n ≡ a + b → vcl_code n a b f ≡ vcl a b f
 vcl_is a b f n e = rw e (vcl_cases a b f.carry f.differ f.compare f.clip f.extra)
 
--- each row writes its result to the low sixteen bits of the accumulator
+-- each instruction writes its result to the low sixteen bits of the accumulator
 vcl_low : (a b : ℕ) (p q c l e : Bool) (f : LaneFlags) → f ≡ record { carry = p; differ = q; compare = c; clip = l; extra = e } → (vcl a b f).result ≡ (vcl a b f).low
 vcl_low a b true true c l e f is = rw is refl
 vcl_low a b true false c l e f is = rw is refl

@@ -1,4 +1,4 @@
--- Signed numbers of sixteen bits, by the tests of their unsigned readings.
+-- Signed values of sixteen bits, by tests of the unsigned ones.
 use Rattle.std.proofs.Common.{◌≡◌, ℕ, ◌+◌, ◌-◌, ◌*◌, ◌%◌, ◌/◌, ◌<◌, ◌≤◌, ℤ, pos, negsuc, ◌+ℤ◌, ◌-ℤ◌, Bool, true, false, cond, nat_lt, nat_eq, arith, refl, ap, sym, inl, inr}
 use Rattle.std.specs.Prelude.{int_lt, ◌≤ℤ◌, ◌<ℤ◌}
 use Rattle.std.specs.Ordering.{int_eq}
@@ -16,7 +16,7 @@ small a h = omega (arith, ints)
 large : (a : ℕ) → 32768 ≤ a → s16 a ≡ negsuc (65535 - a)
 large a h = rw (le-ltb a 32768 h) (ap negsuc (omega arith))
 
--- the two signs
+-- the two signs of a lane
 by_sign : (P : Bool → ℤ → Type 0) (a : ℕ) → (a < 32768 → P false (pos a)) → (32768 ≤ a → P true (negsuc (65535 - a))) → P (nat_lt 32767 a) (s16 a)
 by_sign P a p q = elim (cases_lt a 32768) [
   | inl n ↦ rw (le-ltb 32767 a (omega arith), small a n) (p n)
@@ -52,7 +52,7 @@ modulo_is : (z : ℤ) (n i j : ℕ) → n < 65536 → z +ℤ pos (65536 * i) ≡
 modulo_is (pos m) n i j h e = omega (arith, ints)
 modulo_is (negsuc m) n i j h e = omega (arith, ints)
 
--- what holds of the sum where the signs differ, and elsewhere of the difference
+-- what holds of the sum if the signs differ, and else of the difference
 by_signs : (P : Bool → ℤ → Type 0) (a b : ℕ) → a < 65536 → b < 65536
     → (a < 32768 → 32768 ≤ b → P true (pos a +ℤ negsuc (65535 - b)))
     → (32768 ≤ a → b < 32768 → P true (negsuc (65535 - a) +ℤ pos b))
@@ -82,6 +82,6 @@ sum_or_difference_is a b h k = by_signs (λ t z. cond t ((a + b) % 65536) ((a + 
     (λ m n. sym (modulo_is _ _ 1 ((a + (65536 - b)) / 65536) (omega arith) (omega (arith, ints))))
 
 -- the difference to -b or b is the sum or the difference
-pub to_limit : (t : Bool) (a b : ℕ) → a < 65536 → b < 65536 → (a + (65536 - cond t (negated b) b)) % 65536 ≡ cond t ((a + b) % 65536) ((a + (65536 - b)) % 65536)
-to_limit true a b h k = omega arith
-to_limit false a b h k = refl
+pub to_bound : (t : Bool) (a b : ℕ) → a < 65536 → b < 65536 → (a + (65536 - cond t (negated b) b)) % 65536 ≡ cond t ((a + b) % 65536) ((a + (65536 - b)) % 65536)
+to_bound true a b h k = omega arith
+to_bound false a b h k = refl

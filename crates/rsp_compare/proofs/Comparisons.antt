@@ -1,4 +1,4 @@
--- Tests of signed readings, by tests of the unsigned ones.
+-- Tests of signed values, by tests of the unsigned ones.
 use Rattle.std.proofs.Common.{◌≡◌, ℕ, ◌-◌, ◌<◌, ◌≤◌, ℤ, pos, negsuc, Bool, true, false, nat_lt, nat_eq, arith, refl, inl, inr}
 use Rattle.std.specs.Prelude.{int_lt}
 use Rattle.std.specs.Ordering.{int_eq}

@@ -1,4 +1,4 @@
--- Lemmas on the rows.
+-- Lemmas on the instructions.
 mod ClipLanes
 mod ClipSigns
 mod ClipRows

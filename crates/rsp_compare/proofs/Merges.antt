@@ -1,4 +1,4 @@
--- The merge row is one.
+-- There is one merge instruction.
 use Rattle.std.proofs.Common.{◌≡◌, refl}
 use Rattle.rsp_compare.specs.declared.selects.MergeOp.{MergeOp}
 use Rattle.rsp_compare.specs.declared.selects.MergeOp.TheVariants.{Vmrg}

@@ -1,4 +1,4 @@
--- Sums and differences of signed readings, by numbers that are 32768 too great.
+-- Sums and differences of signed values, by numbers that are 32768 too great.
 use Rattle.std.proofs.Common.{◌≡◌, ℕ, suc, ◌+◌, ◌-◌, ◌%◌, ◌<◌, ◌≤◌, ℤ, pos, negsuc, ◌+ℤ◌, Bool, true, false, cond, not, ◌&&◌, nat_lt, nat_eq, arith, refl, sym, ◌∙◌, inl, inr}
 use Rattle.std.specs.Prelude.{◌-ℤ◌}
 use Rattle.std.proofs.lemmas.Int.{ints}
@@ -11,7 +11,7 @@ use Rattle.rsp_lanes.specs.Outcome.{Outcome, plain}
 use Rattle.rsp_compare.specs.Adds.{vabs}
 use Rattle.rsp_compare.proofs.Comparisons.{by_sign, below_zero, is_zero, is_least}
 
--- the signed reading and the number that is 32768 too great
+-- the signed value and the number that is 32768 too great
 biased : (a : ℕ) → a < 65536 → s16 a +ℤ pos 32768 ≡ pos ((a + 32768) % 65536)
 biased a h = by_sign (λ t z. z +ℤ pos 32768 ≡ pos ((a + 32768) % 65536)) a h (λ n. omega (arith, ints)) (λ n. omega (arith, ints))
 
@@ -32,7 +32,7 @@ sum_bits a b c h k =
     let e : (a + b + bit c) % 65536 ≡ ((a + 32768) % 65536 + (b + 32768) % 65536 + bit c) % 65536 = omega arith in
     e ∙ sym (sixteen_bits_of _ _ (sum_is a b c h k) (sum_small a b c))
 
--- a difference less a carry is the sum with the complement and with 1 where the carry is clear
+-- a difference less a carry is the sum with the complement, and 1 more if the carry is clear
 of_complement : (b : ℕ) → b < 65536 → s16 (complement b) +ℤ s16 b +ℤ pos 1 ≡ pos 0
 of_complement b h = omega (arith, ints, biased b h, biased (complement b) (omega arith))
 

@@ -1,5 +1,5 @@
--- The add rows, each by its rule for one lane. a and b are the lanes of the operands: as they stand they are the unsigned
--- readings, from 0 to 65535, and s16 gives the signed ones. A flag that a rule doesn't name is kept.
+-- The add instructions, each by its rule for one lane. a is a lane of vs and b a lane of the selected vt, as unsigned
+-- values; s16 gives the signed ones. A flag that a rule doesn't name is kept.
 use Rattle.std.specs.Prelude.{ℕ, ℤ, pos, negsuc, ◌+◌, ◌%◌, ◌+ℤ◌, ◌-ℤ◌, false, not, ◌&&◌, int_lt, nat_lt, nat_eq, if◌then◌else◌}
 use Rattle.std.specs.Ordering.{int_eq}
 use Rattle.rsp_lanes.specs.Lanes.{bit}
@@ -19,14 +19,14 @@ vadd a b f = clamped (s16 a +ℤ s16 b +ℤ pos (bit f.carry)) f
 abbrev pub vsub : Rule
 vsub a b f = clamped (s16 a -ℤ s16 b -ℤ pos (bit f.carry)) f
 
--- -b for a negative a, 0 for 0, b for a positive one
+-- -b if a is negative, 0 if a is 0, b if a is positive
 abbrev pub with_sign_of : ℕ → ℕ → ℕ
 with_sign_of a b =
     if int_lt (s16 a) (pos 0) then negated b
     else if int_eq (s16 a) (pos 0) then 0
     else b
 
--- 32768, which is -b for b = -32768, is above the signed numbers: it is the low accumulator, 32767 the result
+-- -b isn't a signed value of 16 bits if b is -32768: the low accumulator is 32768, and the result 32767
 abbrev pub vabs : Rule
 vabs a b f =
     if int_lt (s16 a) (pos 0) && int_eq (s16 b) (negsuc 32767) then record { result = 32767; low = 32768; flags = f }

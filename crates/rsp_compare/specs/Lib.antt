@@ -1,4 +1,4 @@
--- The add, compare, clip, merge and logic rows, each by its rule for one lane.
+-- The add, compare, clip, merge and logic instructions, each by its rule for one lane.
 pub mod Adds
 pub mod Clips
 pub mod ClipParts

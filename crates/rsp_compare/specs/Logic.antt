@@ -1,4 +1,4 @@
--- The logic rows, each by its rule for one lane.
+-- The logic instructions, each by its rule for one lane.
 use Rattle.std.specs.Prelude.{ℕ}
 use Rattle.std.specs.Int.Bits.{bit_and, bit_or, bit_xor}
 use Rattle.rsp_numbers.specs.Numbers.{complement}

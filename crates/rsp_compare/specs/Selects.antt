@@ -1,4 +1,4 @@
--- The compare and merge rows, each by its rule for one lane. A flag that a rule doesn't name is kept.
+-- The compare and merge instructions, each by its rule for one lane. A flag that a rule doesn't name is kept.
 use Rattle.std.specs.Prelude.{ℕ, Bool, false, not, ◌&&◌, ◌||◌, int_lt, if◌then◌else◌}
 use Rattle.std.specs.Ordering.{int_eq}
 use Rattle.rsp_numbers.specs.Numbers.{s16}
@@ -9,7 +9,7 @@ use Rattle.rsp_compare.specs.declared.selects.SelectOp.TheVariants.{Vlt, Veq, Vn
 use Rattle.rsp_compare.specs.declared.selects.MergeOp.{MergeOp}
 use Rattle.rsp_compare.specs.declared.selects.MergeOp.TheVariants.{Vmrg}
 
--- whether the comparison holds
+-- whether the comparison of the signed values holds
 abbrev pub vlt : ℕ → ℕ → LaneFlags → Bool
 vlt a b f = int_lt (s16 a) (s16 b) || (int_eq (s16 a) (s16 b) && (f.carry && f.differ))
 
@@ -28,13 +28,13 @@ holds Veq = veq
 holds Vne = vne
 holds Vge = vge
 
--- a where it holds, else b; compare is the answer, clip and VCO are cleared
+-- a if the comparison holds, else b; compare is the answer, clip and VCO are cleared
 abbrev pub select_rule : SelectOp → Rule
 select_rule op a b f =
     plain (if holds op a b f then a else b)
     (record f { carry = false; differ = false; compare = holds op a b f; clip = false })
 
--- a where compare is set, else b; VCO is cleared
+-- a if compare is set, else b; VCO is cleared
 abbrev pub vmrg : Rule
 vmrg a b f = plain (if f.compare then a else b) (vco_cleared f)
 

@@ -15,7 +15,7 @@ pub enum AddOp {
     Vadd,
     /// `vsub`: the difference with borrow, clamped.
     Vsub,
-    /// `vabs`: the second, negated if the first is negative, and 0 if it is 0.
+    /// `vabs`: the second operand, negated if the first is negative, 0 if the first is 0.
     Vabs,
     /// `vaddc`: the sum modulo 2^16; sets carry.
     Vaddc,
@@ -23,8 +23,11 @@ pub enum AddOp {
     Vsubc,
 }
 
-/// Does an add row: gives the results, writes them to the low sixteen bits of the accumulators (for VADD and VSUB the
-/// number before the clamp) and writes VCO. VABS writes no flag; VCC and VCE always stay.
+/// Executes an add instruction: `a` is the register vs, `b` the selected vt.
+///
+/// The results are also written to the low sixteen bits of the accumulators; VADD and VSUB write the number before the
+/// clamp there, and VABS 8000 hex if it clamps to 7FFF hex. VADD and VSUB clear VCO, VADDC and VSUBC write it, VABS
+/// keeps it. VCC and VCE are kept.
 #[inline]
 pub fn add_op<A: Acc>(op: AddOp, a: &VReg, b: &VReg, flags: &mut Flags, acc: &mut A) -> VReg
     ensures value { result ≡ results_of (add_rule op) a.now b.now flags.old }
@@ -52,7 +55,7 @@ fn sums(op: AddOp, a: &VReg, b: &VReg, flags: &mut Flags) -> (VReg, VReg)
     }
 }
 
-/// The signed sums with the carries, clamped, and modulo 65536.
+/// The sums of the lanes as signed values and the carries: clamped, and modulo 65536.
 #[inline(always)]
 fn clamped_sums(a: &VReg, b: &VReg, carry: Mask8) -> (VReg, VReg)
     ensures value { result.0 ≡ each_lane (λ i. sixteen_bits (clamp16 (s16 (slice_index a.now i) +ℤ s16 (slice_index b.now i) +ℤ pos (bit (slice_index_or carry i false))))) }
@@ -64,6 +67,7 @@ fn clamped_sums(a: &VReg, b: &VReg, carry: Mask8) -> (VReg, VReg)
     (a.add_clamped(b, carry), sum)
 }
 
+/// VADD: clears VCO.
 #[inline(always)]
 fn add(a: &VReg, b: &VReg, flags: &mut Flags) -> (VReg, VReg)
     ensures value { result.0 ≡ results_of vadd a.now b.now flags.old }
@@ -75,7 +79,7 @@ fn add(a: &VReg, b: &VReg, flags: &mut Flags) -> (VReg, VReg)
     sums
 }
 
-/// The difference less the carry is the sum with the complement and with 1 where the carry is clear.
+/// VSUB: clears VCO. a - b - carry is a + the complement of b, and 1 more if the carry is clear.
 #[inline(always)]
 fn subtract(a: &VReg, b: &VReg, flags: &mut Flags) -> (VReg, VReg)
     ensures value { result.0 ≡ results_of vsub a.now b.now flags.old }
@@ -88,6 +92,7 @@ fn subtract(a: &VReg, b: &VReg, flags: &mut Flags) -> (VReg, VReg)
     sums
 }
 
+/// VABS: 8000 hex has no negative of 16 bits, so the result is 7FFF hex there.
 #[inline(always)]
 fn absolute(a: &VReg, b: &VReg, flags: &mut Flags) -> (VReg, VReg)
     ensures value { result.0 ≡ results_of vabs a.now b.now flags.old }
@@ -104,6 +109,7 @@ fn absolute(a: &VReg, b: &VReg, flags: &mut Flags) -> (VReg, VReg)
     (passes.merge(&VReg::splat(0x7fff), &low), low)
 }
 
+/// VADDC: writes the carries to VCO.
 #[inline(always)]
 fn add_carried(a: &VReg, b: &VReg, flags: &mut Flags) -> (VReg, VReg)
     ensures value { result.0 ≡ results_of vaddc a.now b.now flags.old }
@@ -116,6 +122,7 @@ fn add_carried(a: &VReg, b: &VReg, flags: &mut Flags) -> (VReg, VReg)
     (sum, sum)
 }
 
+/// VSUBC: writes the borrows, and which lanes differ, to VCO.
 #[inline(always)]
 fn subtract_borrowed(a: &VReg, b: &VReg, flags: &mut Flags) -> (VReg, VReg)
     ensures value { result.0 ≡ results_of vsubc a.now b.now flags.old }

@@ -6,7 +6,7 @@ ghost use Rattle.rsp_compare.specs.ClipParts.{sum_or_difference};
 
 use rsp_lanes::{Mask8, VReg};
 
-/// Where just one of the two is negative.
+/// The lanes that are negative in just one of both.
 #[inline(always)]
 pub(crate) fn signs_differ(a: &VReg, b: &VReg) -> Mask8
     ensures { result ≡ each_lane (λ i. signs_differ (slice_index a.now i) (slice_index b.now i)) }
@@ -14,8 +14,8 @@ pub(crate) fn signs_differ(a: &VReg, b: &VReg) -> Mask8
     a.is_negative().xor(b.is_negative())
 }
 
-/// The sum where the signs differ, and the difference where they agree, as the difference to -b or b. Neither leaves the
-/// signed numbers of sixteen bits, so no bit is lost.
+/// The sum in lanes whose signs differ, else the difference: a - (-b) or a - b. Both fit into 16 bits as signed values,
+/// so no bit is lost.
 #[inline(always)]
 pub(crate) fn sum_or_difference(a: &VReg, b: &VReg) -> VReg
     ensures { result ≡ each_lane (λ i. sixteen_bits (sum_or_difference (slice_index a.now i) (slice_index b.now i))) }
@@ -25,7 +25,7 @@ pub(crate) fn sum_or_difference(a: &VReg, b: &VReg) -> VReg
     a.subtract(&signs_differ(a, b).merge(&b.negate(), b))
 }
 
-/// `a` where `at` is set, and `b` elsewhere.
+/// Lane i of `a` if lane i of `at` is set, else lane i of `b`.
 #[inline(always)]
 pub(crate) fn choose(at: Mask8, a: Mask8, b: Mask8) -> Mask8
     ensures { result ≡ each_lane (λ i. cond (slice_index_or at i false) (slice_index_or a i false) (slice_index_or b i false)) }
@@ -33,7 +33,7 @@ pub(crate) fn choose(at: Mask8, a: Mask8, b: Mask8) -> Mask8
     at.and(a).or(at.not().and(b))
 }
 
-/// `a` and `b`, exchanged where `at` is set.
+/// `a` and `b`, exchanged in the lanes that are set in `at`.
 #[inline(always)]
 pub(crate) fn exchanged(at: Mask8, a: Mask8, b: Mask8) -> (Mask8, Mask8)
     ensures first { result.0 ≡ each_lane (λ i. cond (slice_index_or at i false) (slice_index_or b i false) (slice_index_or a i false)) }

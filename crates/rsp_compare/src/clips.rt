@@ -7,19 +7,19 @@ use crate::clip_parts::{choose, exchanged, signs_differ, sum_or_difference};
 use rsp_acc::Acc;
 use rsp_lanes::{Flags, Mask8, VReg};
 
-/// Clips of a register by another, lane by lane.
+/// Clips of a register by another, lane by lane: to the range from -b to b.
 #[derive(Clone, Copy)]
 pub enum ClipOp {
-    /// `vcl`: the low half, by the flags that `vch` left.
+    /// `vcl`: the low halves of 32-bit numbers, by the flags that `vch` left.
     Vcl,
-    /// `vch`: the high half, or a clip alone.
+    /// `vch`: the high halves of 32-bit numbers, or numbers of 16 bits.
     Vch,
-    /// `vcr`: a clip in one's complement.
+    /// `vcr`: in one's complement, from the complement of b to b.
     Vcr,
 }
 
-/// Where carry is set the limit is -b and `compare` tells whether it is taken; elsewhere b and `clip`. Only carry
-/// alone makes a new `compare`, and only neither of carry and not-equal a new `clip`.
+/// VCL: if carry is set the bound is -b, and `compare` says whether it is the result; else the bound is b, and `clip` says
+/// it. `compare` is new if carry alone is set, and `clip` if neither carry nor not-equal is.
 #[inline(always)]
 fn vcl(a: &VReg, b: &VReg, flags: &mut Flags) -> VReg
     ensures value { result ≡ results_of vcl a.now b.now flags.old }
@@ -34,8 +34,8 @@ fn vcl(a: &VReg, b: &VReg, flags: &mut Flags) -> VReg
     let compare = choose(carry_alone, is_small, flags.compare);
     let neither = flags.carry.or(flags.differ).not();
     let clip = choose(neither, a.is_below(b).not(), flags.clip);
-    let limit = flags.carry.merge(&b.negate(), b);
-    let result = choose(flags.carry, compare, clip).merge(&limit, a);
+    let bound = flags.carry.merge(&b.negate(), b);
+    let result = choose(flags.carry, compare, clip).merge(&bound, a);
     *flags = Flags {
         carry: clear,
         differ: clear,
@@ -46,7 +46,8 @@ fn vcl(a: &VReg, b: &VReg, flags: &mut Flags) -> VReg
     result
 }
 
-/// Where the signs differ the limit is -b, which `compare` takes; elsewhere b, which `clip` takes.
+/// VCH: if the signs differ the bound is -b, and `compare` says whether it is the result; else the bound is b, and `clip`
+/// says it.
 #[inline(always)]
 fn vch(a: &VReg, b: &VReg, flags: &mut Flags) -> VReg
     ensures value { result ≡ results_of vch a.now b.now flags.old }
@@ -61,8 +62,8 @@ fn vch(a: &VReg, b: &VReg, flags: &mut Flags) -> VReg
     let extra = apart.and(number.is_equal(&VReg::splat(0xffff)));
     let taken = is_zero.or(is_negative.xor(apart).not());
     let (compare, clip) = exchanged(apart, b.is_negative(), taken);
-    let limit = apart.merge(&b.negate(), b);
-    let result = taken.merge(&limit, a);
+    let bound = apart.merge(&b.negate(), b);
+    let result = taken.merge(&bound, a);
     *flags = Flags {
         carry: apart,
         differ: is_zero.or(extra).not(),
@@ -73,7 +74,7 @@ fn vch(a: &VReg, b: &VReg, flags: &mut Flags) -> VReg
     result
 }
 
-/// As [`vch`] with the complement of b, which is -b - 1: so the sum has to be below 0.
+/// VCR: as [`vch`], but with the complement of b, which is -b - 1, in place of -b: it is the result if the sum is below 0.
 #[inline(always)]
 fn vcr(a: &VReg, b: &VReg, flags: &mut Flags) -> VReg
     ensures value { result ≡ results_of vcr a.now b.now flags.old }
@@ -85,8 +86,8 @@ fn vcr(a: &VReg, b: &VReg, flags: &mut Flags) -> VReg
     let is_negative = sum_or_difference(a, b).is_negative();
     let taken = is_negative.xor(apart).not();
     let (compare, clip) = exchanged(apart, b.is_negative(), taken);
-    let limit = apart.merge(&b.not(), b);
-    let result = taken.merge(&limit, a);
+    let bound = apart.merge(&b.not(), b);
+    let result = taken.merge(&bound, a);
     let clear = Mask8::splat(false);
     *flags = Flags {
         carry: clear,
@@ -98,6 +99,7 @@ fn vcr(a: &VReg, b: &VReg, flags: &mut Flags) -> VReg
     result
 }
 
+/// The results of a clip, and the flags after it.
 #[inline(always)]
 fn clip(op: ClipOp, a: &VReg, b: &VReg, flags: &mut Flags) -> VReg
     ensures value { result ≡ results_of (clip_rule op) a.now b.now flags.old }
@@ -110,12 +112,10 @@ fn clip(op: ClipOp, a: &VReg, b: &VReg, flags: &mut Flags) -> VReg
     }
 }
 
-/// One of the three clip rows of the instruction table, on eight lanes: `a` is vs, and `b` is vt after its element is
-/// selected.
+/// Executes VCL, VCH or VCR: `a` is the register vs, `b` the selected vt.
 ///
-/// A lane of the result is that of `a`, or the limit that `b` sets where `a` passes it. The result is also written to
-/// the low sixteen bits of the accumulators, whose other bits stay. VCL reads the flags that VCH left and is its second
-/// half on numbers of 32 bits. Nothing is refused.
+/// A lane of the result is that of `a`, or the bound that `b` sets if `a` passes it. The result is also written to the
+/// low sixteen bits of the accumulators. VCL reads the flags that VCH left: the two together clip numbers of 32 bits.
 #[inline]
 pub fn clip_op<A: Acc>(op: ClipOp, a: &VReg, b: &VReg, flags: &mut Flags, acc: &mut A) -> VReg
     ensures value { result ≡ results_of (clip_rule op) a.now b.now flags.old }

@@ -1,8 +1,10 @@
-//! The add, compare, clip, merge and logic instructions of the vector unit, over every accumulator.
+//! The add, compare, clip, merge and logic instructions of the vector unit, over any implementation of the
+//! accumulators.
 //!
-//! Each public call takes an operation, the two operands (the second is what the instruction's element selects), the flags
-//! and the accumulators, and returns the register that is written. Three clauses say what it does, by the operation's rule
-//! for one lane: the results, the flags after it, and the accumulators, whose low sixteen bits alone are written.
+//! Each public call takes an operation, the register vs, the selected vt, the flags and the accumulators, and returns
+//! the register that is written to vd. It refuses nothing. Three clauses state its effect by the operation's rule for
+//! one lane: the results, the flags after it, and the accumulators: only their low sixteen bits are written.
+//! docs/INSTRUCTIONS.md has the rules.
 #![tactic(auto)]
 
 mod adds;

@@ -7,7 +7,7 @@ ghost use Rattle.rsp_compare.specs.Logic.{bits_of, logic_rule};
 use rsp_acc::Acc;
 use rsp_lanes::{Flags, VReg};
 
-/// Logic of two registers, bit by bit.
+/// Bitwise logic of two registers.
 #[derive(Clone, Copy)]
 pub enum LogicOp {
     /// `vand`: the bits set in both.
@@ -24,7 +24,9 @@ pub enum LogicOp {
     Vnxor,
 }
 
-/// Does a logic row: gives the results and writes them to the low sixteen bits of the accumulators. All flags stay.
+/// Executes a logic instruction: `a` is the register vs, `b` the selected vt.
+///
+/// The results are also written to the low sixteen bits of the accumulators. All flags are kept.
 #[inline]
 pub fn logic_op<A: Acc>(op: LogicOp, a: &VReg, b: &VReg, flags: &mut Flags, acc: &mut A) -> VReg
     ensures value { result ≡ results_of (logic_rule op) a.now b.now flags.old }
@@ -37,6 +39,7 @@ pub fn logic_op<A: Acc>(op: LogicOp, a: &VReg, b: &VReg, flags: &mut Flags, acc:
     result
 }
 
+/// The results.
 #[inline(always)]
 fn bits(op: LogicOp, a: &VReg, b: &VReg) -> VReg
     ensures { result ≡ each_lane (λ i. bits_of op (slice_index a.now i) (slice_index b.now i)) }

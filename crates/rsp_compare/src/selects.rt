@@ -8,28 +8,31 @@ ghost use Rattle.rsp_compare.specs.Selects.{vlt, veq, vne, vge, holds, select_ru
 use rsp_acc::Acc;
 use rsp_lanes::{Flags, Mask8, VReg};
 
-/// Comparisons that select a lane of one of two registers.
+/// Comparisons of lanes as signed values. The result is the lane of the first operand if the comparison holds, else
+/// that of the second.
 #[derive(Clone, Copy)]
 pub enum SelectOp {
-    /// `vlt`: the first if it is less.
+    /// `vlt`: the first is less; or both are equal, and carry and not-equal are set.
     Vlt,
-    /// `veq`: if they are equal.
+    /// `veq`: both are equal, and not-equal is clear.
     Veq,
-    /// `vne`: if they differ.
+    /// `vne`: they differ, or not-equal is set.
     Vne,
-    /// `vge`: the first if it is not less.
+    /// `vge`: the first is greater; or both are equal, and carry or not-equal is clear.
     Vge,
 }
 
-/// A merge row.
+/// The merge instruction.
 #[derive(Clone, Copy, PartialEq, Eq, Debug, Drop)]
 pub enum MergeOp {
-    /// By the compare flags as they stand.
+    /// `vmrg`: the lane of the first operand if compare is set, else that of the second.
     Vmrg,
 }
 
-/// Does a compare row: gives a where the comparison holds, else b, and writes that to the low sixteen bits of the accumulators.
-/// The answer goes to compare; clip and VCO are cleared, VCE stays.
+/// Executes a comparison: `a` is the register vs, `b` the selected vt.
+///
+/// The result is the lane of a if the comparison holds, else that of b; it is also written to the low sixteen bits of
+/// the accumulators. Compare becomes the answer, clip and VCO are cleared, VCE is kept.
 #[inline]
 pub fn select_op<A: Acc>(op: SelectOp, a: &VReg, b: &VReg, flags: &mut Flags, acc: &mut A) -> VReg
     ensures value { result ≡ results_of (select_rule op) a.now b.now flags.old }
@@ -44,8 +47,10 @@ pub fn select_op<A: Acc>(op: SelectOp, a: &VReg, b: &VReg, flags: &mut Flags, ac
     result
 }
 
-/// Does the merge row: gives a where compare is set, else b, and writes that to the low sixteen bits of the accumulators. VCO
-/// is cleared; VCC and VCE stay.
+/// Executes VMRG: `a` is the register vs, `b` the selected vt.
+///
+/// The result is the lane of a if compare is set, else that of b; it is also written to the low sixteen bits of the
+/// accumulators. VCO is cleared, VCC and VCE are kept.
 #[inline]
 pub fn merge_op<A: Acc>(op: MergeOp, a: &VReg, b: &VReg, flags: &mut Flags, acc: &mut A) -> VReg
     ensures value { result ≡ results_of (merge_rule op) a.now b.now flags.old }
@@ -60,7 +65,7 @@ pub fn merge_op<A: Acc>(op: MergeOp, a: &VReg, b: &VReg, flags: &mut Flags, acc:
     result
 }
 
-/// Where the comparison holds.
+/// The lanes for which the comparison holds.
 #[inline(always)]
 fn taken(op: SelectOp, a: &VReg, b: &VReg, flags: &Flags) -> Mask8
     ensures { result ≡ each_lane (λ i. holds op (slice_index a.now i) (slice_index b.now i) (flags_at flags.now i)) }
@@ -73,6 +78,7 @@ fn taken(op: SelectOp, a: &VReg, b: &VReg, flags: &Flags) -> Mask8
     }
 }
 
+/// The lanes for which VLT holds.
 #[inline(always)]
 fn is_below(a: &VReg, b: &VReg, flags: &Flags) -> Mask8
     ensures { result ≡ each_lane (λ i. vlt (slice_index a.now i) (slice_index b.now i) (flags_at flags.now i)) }
@@ -83,6 +89,7 @@ fn is_below(a: &VReg, b: &VReg, flags: &Flags) -> Mask8
     a.is_below_signed(b).or(a.is_equal(b).and(both))
 }
 
+/// The lanes for which VEQ holds.
 #[inline(always)]
 fn is_equal(a: &VReg, b: &VReg, flags: &Flags) -> Mask8
     ensures { result ≡ each_lane (λ i. veq (slice_index a.now i) (slice_index b.now i) (flags_at flags.now i)) }
@@ -92,6 +99,7 @@ fn is_equal(a: &VReg, b: &VReg, flags: &Flags) -> Mask8
     a.is_equal(b).and(flags.differ.not())
 }
 
+/// The lanes for which VNE holds.
 #[inline(always)]
 fn is_different(a: &VReg, b: &VReg, flags: &Flags) -> Mask8
     ensures { result ≡ each_lane (λ i. vne (slice_index a.now i) (slice_index b.now i) (flags_at flags.now i)) }
@@ -101,6 +109,7 @@ fn is_different(a: &VReg, b: &VReg, flags: &Flags) -> Mask8
     a.is_equal(b).not().or(flags.differ)
 }
 
+/// The lanes for which VGE holds.
 #[inline(always)]
 fn is_at_least(a: &VReg, b: &VReg, flags: &Flags) -> Mask8
     ensures { result ≡ each_lane (λ i. vge (slice_index a.now i) (slice_index b.now i) (flags_at flags.now i)) }

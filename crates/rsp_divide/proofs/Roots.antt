@@ -1,4 +1,4 @@
--- The roots: the greatest one is the one of the inequality, and both tables are tested entry by entry.
+-- The roots: the greatest number is the root of the inequality, and both tables are tested entry by entry.
 use Rattle.std.proofs.Common.{◌≡◌, ℕ, zero, suc, ◌+◌, ◌*◌, ◌/◌, ◌%◌, ◌^◌, ◌<◌, ◌≤◌, inl, inr, Bool, true, false, ◌&&◌, cond, refl, sym, ◌∙◌, ap, subst, arith, nat_lt, nat_le, nat_eq, get_or}
 use Rattle.std.proofs.lemmas.Bool.{cases_lt, cases_eq, lt-ltb, le-ltb, ltb-true, ltb-false, leb-true, eqb-true, and_parts, cond-true, cond-false, cases_Bool, agree_below_at}
 use Rattle.std.proofs.lemmas.Nat.{mul-le}
@@ -91,7 +91,7 @@ abbrev is_root_entry : ℕ → ℕ → Bool
 is_root_entry i e =
     nat_lt e 65536 && (nat_lt (radicand i * ((131072 + 2 * e) * (131072 + 2 * e))) (2 ^ 44) && nat_le (2 ^ 44) (radicand i * ((131074 + 2 * e) * (131074 + 2 * e))))
 
--- e is the entry where b or b + 1 is the root
+-- e is the entry if b or b + 1 is the root
 entry_by : (i b c e : ℕ) → b < 2 ^ 18 → c ≡ b + 1 → b / 2 % 65536 ≡ e → radicand i * (b * b) < 2 ^ 44 → 2 ^ 44 ≤ radicand i * (c * c) → root_entry i ≡ e
 entry_by i b c e small one half below above =
     let P : ℕ → Type 0 = λ c. 2 ^ 44 ≤ radicand i * (c * c) in

@@ -1,4 +1,4 @@
--- The divide rows.
+-- The divide instructions and VMOV.
 pub mod Dividers
 pub mod Entries
 pub mod Quotients

@@ -1,4 +1,4 @@
--- The reciprocal and the root of a signed number of 32 bits.
+-- The reciprocal and the inverse square root of a signed number of 32 bits.
 use Rattle.std.specs.Prelude.{ℕ, ℤ, pos, negsuc, ◌+◌, ◌-◌, ◌*◌, ◌/◌, ◌%◌, ◌^◌, ◌-ℤ◌, int_lt, unsigned_abs, if◌then◌else◌}
 use Rattle.std.specs.Int.{leading_zeros, w32}
 use Rattle.std.specs.Ordering.{int_eq}
@@ -8,7 +8,7 @@ use Rattle.rsp_divide.specs.Entries.{reciprocal_entry, root_entry}
 abbrev pub zeros : ℕ → ℕ
 zeros y = leading_zeros w32 y
 
--- the nine bits below the leading one; zeros follow where y has fewer
+-- the nine bits below the leading one; zeros follow if y has fewer
 abbrev pub nine_bits : ℕ → ℕ
 nine_bits y = y * 2 ^ zeros y / 2 ^ 22 % 512
 
@@ -16,7 +16,7 @@ nine_bits y = y * 2 ^ zeros y / 2 ^ 22 % 512
 abbrev pub root_index : ℕ → ℕ
 root_index y = nine_bits y / 2 * 2 + zeros y % 2
 
--- an entry with its highest bit, shifted right by m
+-- an entry with its leading one, shifted right by m
 abbrev pub scaled : ℕ → ℕ → ℕ
 scaled entry m = (65536 + entry) * 2 ^ 14 / 2 ^ m
 
@@ -28,12 +28,12 @@ reciprocal_bits y = scaled (reciprocal_entry (nine_bits y)) (31 - zeros y)
 unfoldable pub root_bits : ℕ → ℕ
 root_bits y = scaled (root_entry (root_index y)) ((31 - zeros y) / 2)
 
--- the size of a negative number, which is one less where the number is below -32768
+-- the magnitude of a negative number; it counts one less below -32768
 abbrev pub size_of : ℤ → ℕ
 size_of x = if int_lt x (negsuc 32767) then unsigned_abs x - 1 else unsigned_abs x
 
--- the quotient of a signed number: special ones of 0 and of -32768; of a positive number what `bits` gives; of another negative
--- one the complement of what it gives for the size
+-- the quotient of a signed number: 7FFFFFFF hex for 0, FFFF0000 hex for -32768, `bits` of a positive number; for
+-- another negative number the complement of `bits` of its magnitude
 abbrev pub quotient_of : (ℕ → ℕ) → ℤ → ℤ
 quotient_of bits x =
     if int_eq x (pos 0) then pos 2147483647

@@ -1,4 +1,4 @@
--- The divide rows: what each writes into vd, into the divider and into the accumulators.
+-- The divide instructions and VMOV: what each writes to vd, to the divider and to the accumulators.
 use Rattle.std.specs.Prelude.{ℕ, ◌%◌, List, slice_set, slice_index}
 use Rattle.rsp_lanes.specs.Lanes.{selected}
 use Rattle.rsp_numbers.specs.Numbers.{s16}
@@ -8,7 +8,7 @@ use Rattle.rsp_divide.specs.declared.divider.Divider.{Divider}
 use Rattle.rsp_divide.specs.declared.op.DivideOp.{DivideOp}
 use Rattle.rsp_divide.specs.declared.op.DivideOp.TheVariants.{Vrcp, Vrcpl, Vrcph, Vmov, Vrsq, Vrsql, Vrsqh}
 
--- what a row does, by the divider, the source (lane e mod 8 of vt), and the lane, which is lane de of the selected vt
+-- what an instruction does, from the divider, the source (lane e mod 8 of vt), and lane de of the selected vt
 abbrev pub division : DivideOp → Divider → ℕ → ℕ → Division
 division Vrcp d source lane = divided d (reciprocal_of (s16 source))
 division Vrcpl d source lane = divided d (reciprocal_of (operand d source))
@@ -18,14 +18,14 @@ division Vrsq d source lane = divided d (inverse_root_of (s16 source))
 division Vrsql d source lane = divided d (inverse_root_of (operand d source))
 division Vrsqh d source lane = half_taken d source
 
--- the row with the element e and the lane de
+-- the instruction with element e and lane de
 abbrev pub division_at : DivideOp → ℕ → ℕ → List ℕ → Divider → Division
 division_at op e de vt d = division op d (slice_index vt (e % 8)) (slice_index (selected vt e) de)
 
--- the register vd after the row, which writes lane de alone
+-- the register vd after it: lane de alone is written
 unfoldable pub lane_written : DivideOp → ℕ → ℕ → List ℕ → Divider → List ℕ → List ℕ
 lane_written op e de vt d vd = slice_set vd de (division_at op e de vt d).lane
 
--- the divider after the row
+-- the divider after it
 unfoldable pub divider_after : DivideOp → ℕ → ℕ → List ℕ → Divider → Divider
 divider_after op e de vt d = (division_at op e de vt d).divider

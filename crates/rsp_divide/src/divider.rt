@@ -2,19 +2,19 @@ ghost use Rattle.std.specs.Prelude.{◌≡◌};
 ghost use Rattle.rsp_divide.specs.Dividers.{no_divider, divided, half_taken, operand};
 ghost use Rattle.rsp_numbers.specs.Numbers.{s16};
 
-/// What the divide rows keep from one to the next.
+/// What the divide instructions keep from one to the next.
 #[derive(Clone, Copy, PartialEq, Eq, Debug, Drop)]
 pub struct Divider {
-    /// DIV_IN: the high half of an operand, as VRCPH and VRSQH leave it.
+    /// DIV_IN: the high half of an operand, written by VRCPH and VRSQH.
     pub input: u16,
     /// DIV_OUT: the high half of the last quotient.
     pub output: u16,
-    /// The loaded mark: whether the next VRCPL or VRSQL takes `input` as the high half of its operand.
+    /// The loaded flag: whether the next VRCPL or VRSQL takes `input` as the high half of its operand.
     pub loaded: bool,
 }
 
 impl Divider {
-    /// A divider of zeros with the mark clear, as at the start.
+    /// The divider at the start: zeros, and the loaded flag clear.
     #[inline]
     pub fn new() -> Self
         ensures { result ≡ no_divider }
@@ -26,7 +26,7 @@ impl Divider {
         }
     }
 
-    /// The operand of VRCPL and VRSQL: 32 bits where the high half was loaded, else 16.
+    /// The operand of VRCPL and VRSQL: 32 bits if the loaded flag is set, else the source alone.
     #[inline]
     pub(crate) fn operand(&self, source: u16) -> i32
         ensures { result ≡ operand self.now source }
@@ -38,7 +38,7 @@ impl Divider {
         }
     }
 
-    /// Keeps the high half of a quotient, clears the mark, and gives the low half.
+    /// Writes the high half of a quotient to DIV_OUT, clears the loaded flag, and returns the low half.
     #[inline]
     pub(crate) fn divided(&mut self, quotient: i32) -> u16
         ensures lane { result ≡ (divided self.old quotient).lane }
@@ -50,7 +50,7 @@ impl Divider {
         (bits % 0x1_0000) as u16
     }
 
-    /// Keeps the high half of an operand, sets the mark, and gives the high half of the last quotient.
+    /// Writes the source to DIV_IN, sets the loaded flag, and returns DIV_OUT.
     #[inline]
     pub(crate) fn load(&mut self, source: u16) -> u16
         ensures lane { result ≡ (half_taken self.old source).lane }
@@ -62,7 +62,7 @@ impl Divider {
     }
 }
 
-/// The operand of VRCP and VRSQ: a lane as a signed number.
+/// The operand of VRCP and VRSQ: a lane as a signed value.
 #[inline]
 pub(crate) fn signed(source: u16) -> i32
     ensures { result ≡ s16 source }

@@ -3,8 +3,8 @@ ghost use Rattle.rsp_divide.specs.Entries.{reciprocal_entry, root_entry, IsRootE
 
 use crate::tables::{RECIPROCALS, ROOTS};
 
-/// Entry `i` of the reciprocal table, for `i` below 512: `(2^34 / (512 + i) + 1) / 256` modulo 65536, but FFFF hex for
-/// `i` = 0.
+/// Entry `i`, below 512, of the reciprocal table: `(2^34 / (512 + i) + 1) / 256` modulo 65536, but FFFF hex for `i` =
+/// 0.
 #[inline]
 pub fn rcp_entry(i: usize) -> u16
     requires { i < 512 }
@@ -13,8 +13,8 @@ pub fn rcp_entry(i: usize) -> u16
     RECIPROCALS[i]
 }
 
-/// Entry `i` of the root table, for `i` below 512: half of the greatest number whose square, times the radicand of `i`,
-/// is below 2^44, modulo 65536. The radicand is `512 + i` for an even `i`, and `(512 + i) / 2` for an odd one.
+/// Entry `i`, below 512, of the root table: `b / 2` modulo 65536. b is the greatest number for which `a * b * b` is
+/// below 2^44; the radicand a is `512 + i` for an even `i`, and `(512 + i) / 2` for an odd one.
 #[inline]
 pub fn rsq_entry(i: usize) -> u16
     requires { i < 512 }

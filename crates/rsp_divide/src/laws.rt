@@ -1,14 +1,14 @@
-//! The laws of the root table.
+//! Laws of the root table: contracts of functions that do nothing.
 ghost use Rattle.rsp_divide.specs.Entries.{RootsExist, EntriesHalveRoots};
 
-/// One root entry: for each index below 512 there is a number whose square, times the radicand, is below 2^44 while the
-/// next number's is not, and it is the only one.
+/// One root for each index: for each index below 512 there is exactly one number whose square, times the radicand, is
+/// below 2^44 while the next number's isn't.
 pub fn l2()
     ensures { RootsExist }
 {}
 
-/// Root entries by the inequality: each entry of the table, which is defined by a search for the greatest number that passes,
-/// is half of that only number, modulo 65536.
+/// Each entry of the root table is half of that number, modulo 65536. The table is defined by a search for the greatest
+/// number that passes.
 pub fn root_entries()
     ensures { EntriesHalveRoots }
 {}

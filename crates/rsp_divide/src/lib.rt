@@ -1,17 +1,19 @@
-//! The divide rows: reciprocals, inverse square roots and moves of one lane, and the divider that carries a 32-bit
-//! operand and its quotient from one row to the next.
+//! The divide instructions: reciprocals and inverse square roots of one lane, and VMOV. The divider carries halves of
+//! 32-bit operands and quotients from one instruction to the next.
+//!
+//! docs/INSTRUCTIONS.md, "Divide instructions", has the rules.
 #![tactic(auto)]
 
 mod divider;
+mod divides;
 mod entries;
 pub mod laws;
 mod op;
 mod quotients;
-mod rows;
 mod tables;
 
 pub use divider::Divider;
+pub use divides::divide_op;
 pub use entries::{rcp_entry, rsq_entry};
 pub use op::DivideOp;
 pub use quotients::{reciprocal, root};
-pub use rows::divide_op;

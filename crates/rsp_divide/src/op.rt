@@ -1,20 +1,20 @@
-// The operations of this crate, named as the instructions that they are of.
+// The operations of this crate, each named as its instruction.
 
-/// What writes one lane: the divider, and a move.
+/// Instructions that write one lane: the divides, and VMOV.
 #[derive(Clone, Copy)]
 pub enum DivideOp {
-    /// `vrcp`: the reciprocal of a 16-bit number.
+    /// `vrcp`: the low half of the reciprocal of a 16-bit number.
     Vrcp,
-    /// `vrcpl`: the reciprocal of a number whose high half came before.
+    /// `vrcpl`: the low half of the reciprocal of a 32-bit number, whose high half VRCPH loaded.
     Vrcpl,
-    /// `vrcph`: gives the high half of the last answer and takes a high half.
+    /// `vrcph`: the high half of the last quotient; it also loads the high half of an operand.
     Vrcph,
     /// `vmov`: copies a lane.
     Vmov,
-    /// `vrsq`: the inverse square root of a 16-bit number.
+    /// `vrsq`: the low half of the inverse square root of a 16-bit number.
     Vrsq,
-    /// `vrsql`: the inverse square root of a number whose high half came before.
+    /// `vrsql`: the low half of the inverse square root of a 32-bit number, whose high half VRSQH loaded.
     Vrsql,
-    /// `vrsqh`: as `vrcph`.
+    /// `vrsqh`: the same as `vrcph`.
     Vrsqh,
 }

@@ -3,7 +3,7 @@ ghost use Rattle.rsp_divide.specs.Quotients.{nine_bits, scaled, reciprocal_bits,
 
 use crate::entries::{rcp_entry, rsq_entry};
 
-/// The nine bits below the leading one.
+/// The nine bits below the leading one. Zeros follow if `y` has fewer.
 fn nine_bits(y: u32) -> usize
     requires { 0 < y }
     ensures value { result ≡ nine_bits y }
@@ -12,7 +12,7 @@ fn nine_bits(y: u32) -> usize
     (((y as u64) << 9 >> (31 - y.leading_zeros())) & 511) as usize
 }
 
-/// An entry with its highest bit, shifted to its place.
+/// An entry with its leading one, `(65536 + entry) * 2^14`, shifted right.
 fn scaled(entry: u16, shift: u32) -> u32
     requires { shift < 32 }
     ensures value { result ≡ scaled entry shift }
@@ -21,6 +21,7 @@ fn scaled(entry: u16, shift: u32) -> u32
     (0x1_0000 + entry as u32) << 14 >> shift
 }
 
+/// The reciprocal of a positive number.
 #[tactic(auto, unfolding(crate::specs::Quotients::reciprocal_bits))]
 fn reciprocal_bits(y: u32) -> u32
     requires { 0 < y }
@@ -30,6 +31,7 @@ fn reciprocal_bits(y: u32) -> u32
     scaled(rcp_entry(nine_bits(y)), 31 - y.leading_zeros())
 }
 
+/// The inverse square root of a positive number.
 #[tactic(auto, unfolding(crate::specs::Quotients::root_bits))]
 fn root_bits(y: u32) -> u32
     requires { 0 < y }
@@ -41,8 +43,10 @@ fn root_bits(y: u32) -> u32
     scaled(rsq_entry(index), (31 - zeros) / 2)
 }
 
-/// The reciprocal of a signed number, from the reciprocal table. Of 0 it is the greatest number, and of -32768 it is
-/// -65536; of another negative number it is the complement of that of its size, where below -32768 the size is one less.
+/// The reciprocal of a signed number, by the reciprocal table.
+///
+/// For 0 it is 7FFFFFFF hex, the greatest number, and for -32768 FFFF0000 hex. For another negative number it is the
+/// complement of the reciprocal of its magnitude, which counts one less below -32768.
 pub fn reciprocal(x: i32) -> i32
     ensures { result ≡ reciprocal_of x }
 {
@@ -55,7 +59,7 @@ pub fn reciprocal(x: i32) -> i32
     }
 }
 
-/// The inverse square root of a signed number, from the root table, by the same cases as `reciprocal`.
+/// The inverse square root of a signed number, by the root table, with the same cases as [`reciprocal`].
 pub fn root(x: i32) -> i32
     ensures { result ≡ inverse_root_of x }
 {

@@ -1,4 +1,5 @@
-//! The machine in a program of one's own: a text is assembled and loaded, run to a breakpoint, looked at, and gone back in.
+//! An example: the machine in a program of your own. It assembles a text, loads it, runs to a breakpoint, inspects two
+//! registers, and steps back.
 #![tactic(auto)]
 
 use anyhow::{Context, Result, bail};
@@ -23,10 +24,10 @@ loop:
     break
 ";
 
-/// The place of the `break`.
+/// The address of the `break`.
 const LAST: u16 = 0x01c;
 
-/// A debugger of a new machine with an image of 64 zeros, which keeps the last 100 states.
+/// A debugger of a new machine, with an image of 64 zeros and a history of 100 states.
 fn new_debugger(alloc: Global) -> Result<Debugger<PlaneAcc>> {
     let Ok(rdram) = Rdram::from_bytes(vec![in alloc; 0; 64]?) else {
         bail!("no image has this length");
@@ -37,7 +38,7 @@ fn new_debugger(alloc: Global) -> Result<Debugger<PlaneAcc>> {
     Ok(debugger)
 }
 
-/// Writes words to IMEM from 0 on, the high byte of each first.
+/// Writes words to IMEM from address 0 on, big-endian.
 fn load(alloc: Global, debugger: &mut Debugger<PlaneAcc>, words: &Words) -> Result<()> {
     let mut bytes = vec![in alloc; 0; 4 * words.len()]?;
     BigEndian::write_u32_into(words, &mut bytes);

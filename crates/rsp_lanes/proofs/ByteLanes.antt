@@ -46,7 +46,7 @@ lanes_are bs n h = eta 0 (lanes_of bs) (length-digits 65536 8 (number_l 256 bs))
     ∙ two (chunk (2 * i) 2 bs) (length-chunk (2 * i) 2 bs (omega (arith, n)))
     ∙ rw (get_or-chunk (2 * i) 2 bs 0 0 (omega arith), get_or-chunk (2 * i) 2 bs 1 0 (omega arith)) (ap (λ k. get_or bs k 0 + 256 * get_or bs (2 * i + 1) 0) (omega arith)))
 
--- the lanes that are made of two bytes each of a vector, where these are the low and the high byte of lane s i
+-- the lanes that are made of two bytes each of a vector, if these are the low and the high byte of lane s i
 pub lanes_selected : (v js : List ℕ) (s : ℕ → ℕ) → IsVector v → length js ≡ 16 → ((i : ℕ) → i < 16 → get_or js i 0 < 16)
     → ((i : ℕ) → i < 8 → s i < 8) → ((i : ℕ) → i < 8 → get_or js (2 * i) 0 ≡ 2 * s i) → ((i : ℕ) → i < 8 → get_or js (2 * i + 1) 0 ≡ 2 * s i + 1)
     → lanes_of (swz_l w8 16 (bytes_of v) 0 js) ≡ each_lane (λ i. get_or v (s i) 0)

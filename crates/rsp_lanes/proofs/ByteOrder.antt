@@ -9,7 +9,7 @@ use Rattle.rsp_lanes.specs.Lanes.{each_lane, IsVector, register_byte}
 use Rattle.rsp_lanes.specs.Bytes.{each_byte, of_bytes, with_register_bytes, packed_byte}
 use Rattle.rsp_lanes.proofs.Kit.{eta, below_eight, zip2_each}
 
--- the byte that stands at a place of the lanes, which have their low bytes first
+-- the byte at a position of the lanes, which have their low bytes first
 abbrev pub order : List ℕ
 order = 1 ∷ 0 ∷ 3 ∷ 2 ∷ 5 ∷ 4 ∷ 7 ∷ 6 ∷ 9 ∷ 8 ∷ 11 ∷ 10 ∷ 13 ∷ 12 ∷ 15 ∷ 14 ∷ []
 
@@ -88,7 +88,7 @@ swapped_same f g e =
       e 15 (omega arith),
     ) refl
 
--- what the swizzle by distances brings to a byte, where the distance is below n
+-- the byte that the swizzle by distances selects, if the distance is below n
 abbrev moved : List ℕ → ℕ → ℕ → ℕ → ℕ → ℕ
 moved source k i n old = cond (top 7 (cond (ltb ((k + (256 - i)) % 256) n) 255 0)) (cond (leb 128 ((k + (256 - i)) % 256)) 0 (get_or source (0 + (k + (256 - i)) % 256) 0)) old
 
@@ -117,7 +117,7 @@ moved_is source k i n old h l m = elim (cases_lt k i) [
       ]
 ]
 
--- the distances of all places
+-- the distances of all positions
 abbrev pub distances : ℕ → List ℕ
 distances i = zip2 (λ a b. (a + (256 - b)) % 256) order (replicate 16 i)
 
@@ -178,7 +178,7 @@ each_byte_same f g e =
       e 15 (omega arith),
     ) refl
 
--- bytes one behind the other
+-- consecutive bytes
 pub turned : (f : ℕ → ℕ) (bytes : List ℕ) (start : ℕ) → bytes ≡ each_byte f → each_byte (λ k. get_or bytes ((start + k) % 16) 0) ≡ each_byte (λ k. f ((start + k) % 16))
 turned f bytes start e = each_byte_same _ _ (λ k h. ap (λ bs. get_or bs ((start + k) % 16) 0) e ∙ byte_of f ((start + k) % 16) (omega arith))
 

@@ -14,7 +14,7 @@ same a b c d e p q r s t i j k l m = rw (i, j, k, l, m) refl
 pub whole : (f : Flags) → length f.carry ≡ 8 → length f.differ ≡ 8 → length f.compare ≡ 8 → length f.clip ≡ 8 → length f.extra ≡ 8 → f ≡ all_flags (flags_at f)
 whole f a b c d e = same _ _ _ _ _ _ _ _ _ _ (eta false f.carry a) (eta false f.differ b) (eta false f.compare c) (eta false f.clip d) (eta false f.extra e)
 
--- those whose VCO, and whose VCC, is written
+-- flags with VCO, and with VCC, written
 pub whole_vco : (f : Flags) (carry differ : List Bool) → length carry ≡ 8 → length differ ≡ 8 → f ≡ all_flags (flags_at f)
     → (record f { carry = carry; differ = differ }) ≡ all_flags (λ i. record (flags_at f i) { carry = get_or carry i false; differ = get_or differ i false })
 whole_vco f x y a b e = same _ _ _ _ _ _ _ _ _ _ (eta false x a) (eta false y b) (ap (λ g. g.compare) e) (ap (λ g. g.clip) e) (ap (λ g. g.extra) e)

@@ -3,7 +3,7 @@ pub mod ByteOrder
 pub mod ByteLanes
 pub mod Carry
 pub mod Kit
-pub mod Limits
+pub mod Saturation
 pub mod Masks
 pub mod Places
 pub mod Wide

@@ -86,6 +86,6 @@ bits-xor false false = refl
 pub length-truths : (m : List ℤ) → IsMask m → length (truths m) ≡ 8
 length-truths m h = length-map m _ ∙ h.0
 
--- a number with the bit k alone is not 0 just where that bit is set
+-- a number with bit k alone isn't 0 exactly if that bit is set
 pub bit_test : (n k : ℕ) → not (nat_eq (bit_and n (2 ^ k)) 0) ≡ bit_set n k
 bit_test n k = rw (and_pow n k) (grind (arith, nat_tests, bit_at-lt, pow_pos))

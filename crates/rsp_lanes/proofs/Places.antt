@@ -1,4 +1,4 @@
--- The tables of places, and the bytes that stand at sixteen of them.
+-- The byte tables, and sixteen of their members.
 use Rattle.std.proofs.Common.{◌≡◌, ℕ, ◌+◌, ◌-◌, ◌*◌, ◌/◌, ◌%◌, ◌<◌, List, length, map, take, drop, get_or, true, nat_eq, nat_lt, false, leb, ltb, ◌||◌, inl, inr, ltb→lt, subst, T, suc, refl, sym, ap, ◌∙◌, arith, w8}
 use Rattle.std.specs.Simd.Lanes.{chunk, number_l, digits_l}
 use Rattle.std.proofs.lemmas.Simd.{swz_l, length-swz_l, get_or-swz_l_below, SwzOk, SwzOk-from_below, SwzOk-from_Each1, Each1-from_get_or, length-chunk, get_or-chunk}
@@ -37,7 +37,7 @@ places_from start = each_byte_same _ _ (λ k h. place_at (start % 16 + k) (omega
 pub ordered_from : (start : ℕ) → each_byte (λ k. get_or ORDERED_PLACES (start % 16 + k) 0) ≡ each_byte (λ k. swapped ((start + k) % 16))
 ordered_from start = each_byte_same _ _ (λ k h. ordered_at (start % 16 + k) (omega arith) ∙ ap swapped (omega arith))
 
--- sixteen members that were cut out of a list
+-- sixteen members of a slice
 pub cut_out : (xs : List ℕ) (first n : ℕ) → first + 16 < suc (length xs) → n ≡ 16 → chunk 0 16 (take n (drop first xs)) ≡ each_byte (λ k. get_or xs (first + k) 0)
 cut_out xs first n h e =
     let l : length (chunk 0 16 (take n (drop first xs))) ≡ 16 = length-chunk 0 16 _ (omega (arith, length-take n (drop first xs), length-drop first xs)) in
@@ -66,7 +66,7 @@ module _ (js : List ℕ) (f : ℕ → ℕ) (e : js ≡ each_byte f) (h : (k : �
       ∙ ap (λ j. get_or bytes j 0) (omega (arith, place_is k l))
       ∙ sym (byte_of (λ k. get_or bytes (f k) 0) k l))
 
--- a register's bytes, found in its lanes
+-- a byte of a register, by its lanes
 pub register_places : (v js : List ℕ) (start : ℕ) → IsVector v → js ≡ each_byte (λ k. get_or ORDERED_PLACES (start % 16 + k) 0)
     → swz_l w8 16 (digits_l 256 16 (number_l 65536 v)) 0 js ≡ each_byte (λ k. register_byte v ((start + k) % 16))
 register_places v js start h e =
@@ -77,7 +77,7 @@ register_places v js start h e =
     ∙ byte_of (λ p. register_byte v (swapped p)) (swapped ((start + k) % 16)) (swapped_below ((start + k) % 16) at)
     ∙ ap (register_byte v) (swapped_twice ((start + k) % 16) at))
 
--- how far the bytes at all places are behind a byte
+-- how far the bytes at all positions are after a byte
 abbrev pub far_behind : ℕ → List ℕ
 far_behind i = each_byte (λ p. (byte_at_place p + (256 - i)) % 256)
 
@@ -134,7 +134,7 @@ each_distance i = refl
 pub far_behind_distances : (i : ℕ) → far_behind i ≡ distances i
 far_behind_distances i = each_byte_same _ _ (λ p h. ap (λ b. (b + (256 - i)) % 256) (sym (swapped_at p h))) ∙ each_distance i
 
--- the low byte of each lane, times 128, of bytes that stand from a place on
+-- the low byte of each lane, times 128, of rotated bytes
 pub every_second : (source bytes : List ℕ) (start : ℕ) → bytes ≡ each_byte (λ k. get_or source ((start + k) % 16) 0) → ((k : ℕ) → get_or source k 0 < 256)
     → map (λ x. x * 256 % 65536 / 2) (lanes_of bytes) ≡ each_lane (λ i. get_or source ((start + 2 * i) % 16) 0 * 128)
 every_second source bytes start e below =

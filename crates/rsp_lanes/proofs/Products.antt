@@ -14,7 +14,7 @@ use Rattle.std.proofs.lemmas.List.{get_or_past}
 use Rattle.rsp_lanes.proofs.Kit.{each_same, lane_of, length_each}
 use Rattle.rsp_lanes.proofs.ByteLanes.{bytes_of, lanes_of, lanes_again}
 
--- a signed reading, with its range
+-- a signed value, with its range
 pub record InRange (z : ℤ) : Type 0 where
   pub least : negsuc 32767 ≤ℤ z
   pub most : z <ℤ pos 32768
@@ -68,7 +68,7 @@ fits_16 : (z : ℤ) → InRange z → SFits w16 z
 fits_16 (pos n) r = record { sfits = omega (arith, ints, r.most) }
 fits_16 (negsuc n) r = record { sfits = omega (arith, ints, r.least) }
 
--- a signed lane as it stands after the cast to 32 bits
+-- a signed lane after the cast to 32 bits
 abbrev pub wide : ℕ → ℤ
 wide a = to_z w32 (of_z w32 (to_z w16 (of_z w16 (to_z w16 a))))
 

@@ -1,4 +1,4 @@
--- What holds of each lane holds of the whole.
+-- What holds of each lane holds of the instruction.
 use Rattle.std.proofs.Common.{◌≡◌, ℕ, ◌<◌, List, ◌∙◌}
 use Rattle.rsp_lanes.specs.Lanes.{each_lane}
 use Rattle.rsp_lanes.proofs.Kit.{each_same}

@@ -1,4 +1,4 @@
--- Signed readings of sixteen bits, by numbers that are 32768 too great.
+-- Signed values of sixteen bits, by numbers that are 32768 too great.
 use Rattle.std.proofs.Common.{◌≡◌, ℕ, ◌+◌, ◌-◌, ◌%◌, ◌<◌, ◌≤◌, pos, negsuc, nat_lt, arith, ap, inl, inr}
 use Rattle.std.specs.Prelude.{int_lt}
 use Rattle.std.specs.Int.{cast_signed, w16}

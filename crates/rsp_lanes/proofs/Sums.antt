@@ -12,10 +12,10 @@ use Rattle.rsp_numbers.specs.Numbers.{clamp16}
 use Rattle.rsp_lanes.specs.Lanes.{each_lane, bit, IsVector}
 use Rattle.rsp_lanes.proofs.Kit.{each_same}
 use Rattle.rsp_lanes.proofs.ByteLanes.{bytes_of, lanes_of, lanes_again}
-use Rattle.rsp_lanes.proofs.Limits.{AreMade}
+use Rattle.rsp_lanes.proofs.Saturation.{AreMade}
 use Rattle.rsp_lanes.proofs.Products.{InRange, again_32, high_vector, reading}
 
--- sixteen bits as a signed number of 32
+-- sixteen bits as a signed value, in 32 bits
 abbrev pub widened : ℕ → ℤ
 widened n = to_z w32 (of_z w32 (to_z w16 n))
 
@@ -24,14 +24,14 @@ widened_is n h =
     let r = reading n h in
     again_32 (to_z w16 n) (omega (arith, ints, r.least)) (omega (arith, ints, r.most))
 
--- the bits of a lane that was read as a number
+-- the bits of a lane that is read as a signed value
 abbrev again : ℕ → ℕ
 again n = of_z w16 (to_z w16 n)
 
 again_is : (n : ℕ) → n < 65536 → again n ≡ n
 again_is n h = of_z-to_z {w = w16} (Fits-of_lt h)
 
--- where the first of two lanes is below the other
+-- if the first of two lanes is below the other
 abbrev is_below : ℕ → ℕ → Bool
 is_below a b = top 15 (cond (lt_z (to_z w16 a) (to_z w16 b)) 65535 0)
 
@@ -88,7 +88,7 @@ lesser_lanes a b u v =
 pub greater_is : (a b : ℕ) → a < 65536 → b < 65536 → greater a b ≡ int_max (to_z w16 a) (to_z w16 b)
 greater_is a b h k = rw (again_is a h, again_is b k) (taken _ b a k h ∙ most (to_z w16 a) (to_z w16 b))
 
--- the number of which n is the bits, modulo 2^32
+-- the number that has the bits n, modulo 2^32
 modulo_32 : (n : ℕ) (z : ℤ) → negsuc (2 ^ 31 - 1) ≤ℤ z → z <ℤ pos (2 ^ 31) → pos n ≡ z +ℤ pos (2 ^ 32) → to_z w32 (n % 2 ^ 32) ≡ z
 modulo_32 n (pos m) l h e =
     let f : n ≡ m + 2 ^ 32 = omega (arith, ints, e) in
@@ -100,7 +100,7 @@ modulo_32 n (negsuc m) l h e =
     let g : n % 2 ^ 32 ≡ 2 ^ 32 - suc m = omega arith in
     rw g (again_32 (negsuc m) l h)
 
--- sums of two numbers of sixteen bits, in 32
+-- sums of two 16-bit numbers, in 32 bits
 sum_is : (x y : ℤ) → InRange x → InRange y → to_z w32 ((of_z w32 x + of_z w32 y) % 2 ^ 32) ≡ x +ℤ y
 sum_is (pos x) (pos y) r s = omega (arith, ints, r.most, s.most)
 sum_is (pos x) (negsuc y) r s = modulo_32 (x + (2 ^ 32 - suc y)) _ (omega (arith, ints, s.least)) (omega (arith, ints, r.most)) (omega (arith, ints, s.least))
@@ -157,7 +157,7 @@ unfolding clamp16
 clamped x y z true r s e = omega (arith, ints, clamps, e, r.least, r.most, s.least, s.most)
 clamped x y z false r s e = omega (arith, ints, clamps, e, r.least, r.most, s.least, s.most)
 
--- to add the carry to the lesser is to add it to the sum
+-- adding the carry to the lesser is adding it to the sum
 pub carried : (a b n : ℕ) (c : Bool) → a < 65536 → b < 65536 → n < 65536 → to_z w16 n ≡ int_min (int_min (to_z w16 a) (to_z w16 b)) (pos 32766)
     → clamp16 (int_max (to_z w16 a) (to_z w16 b) +ℤ to_z w16 ((n + (65536 - cond c 65535 0)) % 65536)) ≡ clamp16 (to_z w16 a +ℤ to_z w16 b +ℤ pos (bit c))
 carried a b n c h k l e = clamped _ _ _ c (reading a h) (reading b k) (with_carry n c l (omega (arith, ints, clamps, e)) ∙ ap (λ z. z +ℤ pos (bit c)) e)

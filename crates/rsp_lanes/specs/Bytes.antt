@@ -2,7 +2,7 @@
 use Rattle.std.specs.Prelude.{ℕ, ◌≡◌, ◌<◌, ◌+◌, ◌-◌, ◌*◌, ◌/◌, ◌%◌, ◌&&◌, nat_le, nat_lt, if◌then◌else◌, List, [], ◌∷◌, length, slice_index}
 use Rattle.rsp_lanes.specs.Lanes.{each_lane, register_byte}
 
--- sixteen bytes
+-- sixteen numbers below 256
 abbrev pub IsBytes : List ℕ → Type 0
 IsBytes v = (length v ≡ 16) × ((i : ℕ) → slice_index v i < 256)
 
@@ -15,11 +15,11 @@ each_byte f =
 unfoldable pub of_bytes : (ℕ → ℕ) → List ℕ
 of_bytes f = each_lane (λ i. f (2 * i) * 256 + f (2 * i + 1))
 
--- the register in which the n bytes from byte i on, as far as there are, are the first n of a list
+-- the register v with the first n bytes of a list written over its bytes from byte i on, as far as there are
 abbrev pub with_register_bytes : List ℕ → List ℕ → ℕ → ℕ → List ℕ
 with_register_bytes v source i n =
     of_bytes (λ k. if nat_le i k && nat_lt k (i + n) then slice_index source (k - i) else register_byte v k)
 
--- the high byte of lane j for j below 8, else bits 14 to 7 of lane j - 8
+-- for j below 8 the high byte of lane j, else bits 14 to 7 of lane j - 8
 abbrev pub packed_byte : List ℕ → ℕ → ℕ
 packed_byte v j = if nat_lt j 8 then slice_index v j / 256 else slice_index v (j - 8) / 128 % 256

@@ -1,9 +1,9 @@
--- The flags of the vector unit: those of one lane, and those of all eight.
+-- The flags of the vector unit: of one lane, and of all eight.
 use Rattle.std.specs.Prelude.{ℕ, Bool, false, slice_index_or}
 use Rattle.rsp_lanes.specs.Lanes.{each_lane}
 use Rattle.rsp_lanes.specs.declared.flags.Flags.{Flags}
 
--- The flags of one lane. Carry and not-equal (`differ`) are in VCO, compare and clip in VCC, and extra is in VCE.
+-- The flags of one lane. Carry and not-equal (`differ`) are in VCO, compare and clip in VCC, extra in VCE.
 pub record LaneFlags : Type 0 where
   pub carry : Bool
   pub differ : Bool
@@ -11,7 +11,7 @@ pub record LaneFlags : Type 0 where
   pub clip : Bool
   pub extra : Bool
 
--- those of lane i
+-- the flags of lane i
 abbrev pub flags_at : Flags → ℕ → LaneFlags
 flags_at f i = record {
   carry = slice_index_or f.carry i false;
@@ -31,7 +31,7 @@ all_flags f = record {
   extra = each_lane (λ i. (f i).extra);
 }
 
--- all clear
+-- all flags clear
 abbrev pub no_flags : Flags
 no_flags = record {
   carry = each_lane (λ _. false);
@@ -41,6 +41,6 @@ no_flags = record {
   extra = each_lane (λ _. false);
 }
 
--- a lane's flags with carry and not-equal clear
+-- a lane's flags with VCO, which is carry and not-equal, cleared
 abbrev pub vco_cleared : LaneFlags → LaneFlags
 vco_cleared f = record f { carry = false; differ = false }

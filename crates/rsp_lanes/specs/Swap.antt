@@ -1,6 +1,6 @@
--- Scaffolding of the code: where the bytes of a register stand in the processor's memory.
+-- Scaffolding of the code: the order of a register's bytes in a vector of the host.
 use Rattle.std.specs.Prelude.{ℕ, ◌+◌, ◌-◌, ◌*◌, ◌%◌}
 
--- the byte of a register that stands at a place of its lanes, low byte first
+-- the register's byte at position p of a vector, which has the low byte of each lane first
 abbrev pub byte_at_place : ℕ → ℕ
 byte_at_place p = p + 1 - 2 * (p % 2)

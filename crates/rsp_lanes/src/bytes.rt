@@ -1,3 +1,5 @@
+//! A register as sixteen bytes: what vector loads and stores select, rotate and merge. Byte 0 is the high byte of lane
+//! 0, but a vector of the host has the low byte of each lane first.
 ghost use Rattle.std.specs.Prelude.{◌≡◌, ◌+◌, ◌-◌, ◌*◌, ◌%◌, ◌<◌, ◌≤◌, slice_index};
 ghost use Rattle.rsp_lanes.specs.Lanes.{each_lane, register_byte};
 ghost use Rattle.rsp_lanes.specs.Bytes.{each_byte, of_bytes, packed_byte, with_register_bytes};
@@ -6,33 +8,33 @@ ghost use Rattle.rsp_lanes.specs.Swap.{byte_at_place};
 use crate::{Bytes16, VReg};
 use std::simd::prelude::*;
 
-/// The byte of a register that stands at each place of its lanes, low byte first.
+/// The register's byte at each position of a vector of lanes.
 const ORDER: [u8; 16] = [1, 0, 3, 2, 5, 4, 7, 6, 9, 8, 11, 10, 13, 12, 15, 14];
 
-/// Sixteen places and then again the first fifteen: the sixteen from any of them on, modulo 16, stand side by side.
+/// The numbers 0 to 15, and 0 to 14 again: the sixteen from index `i` on are the numbers rotated by `i`.
 static PLACES: [u8; 31] = [
     0, 1, 2, 3, 4, 5, 6, 7, 8, 9, 10, 11, 12, 13, 14, 15, 0, 1, 2, 3, 4, 5, 6, 7, 8, 9, 10, 11, 12,
     13, 14,
 ];
 
-/// For each of these the byte that ORDER has there.
+/// What `ORDER` has at each of `PLACES`.
 static ORDERED_PLACES: [u8; 31] = [
     1, 0, 3, 2, 5, 4, 7, 6, 9, 8, 11, 10, 13, 12, 15, 14, 1, 0, 3, 2, 5, 4, 7, 6, 9, 8, 11, 10, 13,
     12, 15,
 ];
 
-/// The numbers from 15 down, modulo 256. From place `i` on they say how far each byte of a register is behind byte `i`, the
-/// last byte first.
+/// The numbers from 15 down, modulo 256. The sixteen from index `i` on are the distances from byte `i` of a register to
+/// its bytes 15 down to 0.
 static DISTANCES: [u8; 47] = [
     15, 14, 13, 12, 11, 10, 9, 8, 7, 6, 5, 4, 3, 2, 1, 0, 255, 254, 253, 252, 251, 250, 249, 248,
     247, 246, 245, 244, 243, 242, 241, 240, 239, 238, 237, 236, 235, 234, 233, 232, 231, 230, 229,
     228, 227, 226, 225,
 ];
 
-/// The byte of a register, numbered from the last on, that stands at each place of its lanes, low byte first.
+/// The same as `ORDER`, but bytes are counted from the last one.
 const FROM_LAST: [u8; 16] = [14, 15, 12, 13, 10, 11, 8, 9, 6, 7, 4, 5, 2, 3, 0, 1];
 
-/// How far the byte at each place of a register's lanes is behind byte `i`, modulo 256.
+/// For each position of a vector of lanes: how far its byte is after byte `i` of the register, modulo 256.
 #[inline(always)]
 fn distances(i: u8) -> u8x16
     requires { i < 32 }
@@ -42,7 +44,7 @@ fn distances(i: u8) -> u8x16
     u8x16::from_slice(&DISTANCES[first..first + 16]).swizzle_dyn(u8x16::from_array(FROM_LAST))
 }
 
-/// Sixteen members of a list of places, from `start` modulo 16 on.
+/// Sixteen consecutive members of a table, from `start` modulo 16 on.
 #[inline(always)]
 fn sixteen(places: &[u8; 31], start: u8) -> u8x16
     ensures { result ≡ each_byte (λ k. slice_index places.now (start % 16 + k)) }
@@ -51,7 +53,7 @@ fn sixteen(places: &[u8; 31], start: u8) -> u8x16
     u8x16::from_slice(&places[first..first + 16])
 }
 
-/// The bytes of a list from `start` on, modulo 16.
+/// The bytes rotated: byte k is byte `start + k` modulo 16.
 #[inline(always)]
 fn turned(bytes: u8x16, start: u8) -> u8x16
     ensures { result ≡ each_byte (λ k. slice_index bytes ((start + k) % 16)) }
@@ -60,8 +62,10 @@ fn turned(bytes: u8x16, start: u8) -> u8x16
 }
 
 impl VReg {
-    /// The register in which the `n` bytes from byte `i` on are the first `n` of `source`; what would be byte 16 and on
-    /// is dropped.
+    /// The register with the first `n` bytes of `source` written over its bytes from byte `i` on. What would be byte 16
+    /// or above is dropped.
+    ///
+    /// Requires `i` below 32 and `n` at most 16.
     #[inline(always)]
     pub fn with_bytes(&self, source: Bytes16, i: u8, n: u8) -> VReg
         requires first { i < 32 }
@@ -74,7 +78,7 @@ impl VReg {
         VReg::from_simd(u16x8::from_le_bytes(chosen.select(moved, self.to_simd().to_le_bytes())))
     }
 
-    /// Its bytes from byte `i` on, modulo 16.
+    /// The register's bytes, from byte `i` modulo 16 on, and after byte 15 from byte 0 on.
     #[inline(always)]
     pub fn bytes_from(&self, i: u8) -> [u8; 16]
         ensures { result ≡ each_byte (λ k. register_byte self.now ((i + k) % 16)) }
@@ -83,7 +87,8 @@ impl VReg {
         bytes.swizzle_dyn(sixteen(&ORDERED_PLACES, i)).to_array()
     }
 
-    /// The high bytes of its lanes and then bits 14 to 7 of each, from the one at `i` on, modulo 16.
+    /// The high bytes of lanes 0 to 7, and then bits 14 to 7 of lanes 0 to 7: these sixteen from number `i` modulo 16
+    /// on, and after the last from the first on.
     #[inline(always)]
     pub fn packed_from(&self, i: u8) -> [u8; 16]
         ensures { result ≡ each_byte (λ k. packed_byte self.now ((i + k) % 16)) }
@@ -94,7 +99,9 @@ impl VReg {
         turned(high, i).to_array()
     }
 
-    /// The register whose lanes are eight bytes of `source`, from `start` on, modulo 16, each times `factor`.
+    /// The register whose lane k is byte `start + k` modulo 16 of `source`, times `factor`.
+    ///
+    /// Requires a factor of at most 256.
     #[inline(always)]
     pub fn from_packed(source: Bytes16, start: u8, factor: u16) -> VReg
         requires { factor ≤ 256 }
@@ -104,7 +111,7 @@ impl VReg {
         VReg::from_simd(bytes.extract::<0, 8>().cast::<u16>() * u16x8::splat(factor))
     }
 
-    /// The register whose lanes are every second byte of `source`, from `start` on, modulo 16, each times 128.
+    /// The register whose lane k is byte `start + 2 k` modulo 16 of `source`, times 128.
     #[inline(always)]
     pub fn from_halves(source: Bytes16, start: u8) -> VReg
         ensures { result ≡ each_lane (λ i. slice_index source ((start + 2 * i) % 16) * 128) }
@@ -113,7 +120,7 @@ impl VReg {
         VReg::from_simd(pairs << u16x8::splat(8) >> u16x8::splat(1))
     }
 
-    /// The register whose bytes are those of `source` from `start` on, modulo 16.
+    /// The register whose byte k is byte `start + k` modulo 16 of `source`.
     #[inline(always)]
     pub fn from_turned(source: Bytes16, start: u8) -> VReg
         ensures { result ≡ of_bytes (λ k. slice_index source ((start + k) % 16)) }

@@ -4,7 +4,7 @@ ghost use Rattle.rsp_lanes.specs.Bytes.{IsBytes};
 use std::marker::Model;
 use std::simd::prelude::*;
 
-/// Sixteen bytes in one vector.
+/// Sixteen bytes in one vector. Contracts see the list of them, each below 256.
 #[derive(Clone, Copy, Drop)]
 pub struct Bytes16 {
     bytes: u8x16,
@@ -24,7 +24,7 @@ impl Model for Bytes16 {
 }
 
 impl Bytes16 {
-    /// These bytes.
+    /// The vector of these bytes.
     #[inline(always)]
     pub fn from_array(bytes: [u8; 16]) -> Self
         ensures { result ≡ bytes }
@@ -34,7 +34,7 @@ impl Bytes16 {
         }
     }
 
-    /// The bytes: sixteen, each below 256.
+    /// The sixteen bytes, each below 256.
     #[inline(always)]
     pub(crate) fn to_simd(self) -> u8x16
         ensures value { result ≡ self }

@@ -3,27 +3,30 @@ ghost use Rattle.rsp_lanes.specs.Flags.{no_flags, flags_at, all_flags, vco_clear
 
 use crate::mask::Mask8;
 
-/// The five flags of each lane. Lane i of `carry` is bit i of VCO and of `differ` its bit i + 8; lane i of
-/// `compare` is bit i of VCC and of `clip` its bit i + 8; lane i of `extra` is bit i of VCE.
+/// The five flags of each lane, as five masks, whose lane 0 is the lowest bit. VCO is `carry` in bits 0 to 7 and
+/// `differ`, not-equal, in bits 8 to 15; VCC is `compare` in bits 0 to 7 and `clip` in bits 8 to 15; VCE is `extra`.
 ///
-/// Most rows that write VCO clear both of its masks. They stand apart, since two neighbours would be cleared as one run of
-/// bytes, whose address takes an instruction of its own.
+/// Most instructions that write VCO clear both of its masks. These aren't neighbours here, because the compiler clears
+/// neighbours as one run of bytes, and then needs an instruction for its address.
 #[derive(Clone, Copy, PartialEq, Drop)]
 pub struct Flags {
-    /// A sum passed 65535, or a difference fell below 0: bits 0 to 7 of VCO. VCH sets it where the signs differ.
+    /// Bits 0 to 7 of VCO: VADDC's sum passes 65535, VSUBC's difference is below 0, or the signs of VCH's operands
+    /// differ.
     pub carry: Mask8,
-    /// The answer of a comparison: bits 0 to 7 of VCC.
+    /// Bits 0 to 7 of VCC: the answer of VLT, VEQ, VNE or VGE; after a clip, of the comparison with its lower bound,
+    /// -b.
     pub compare: Mask8,
-    /// Not equal: a difference isn't 0. Bits 8 to 15 of VCO.
+    /// Bits 8 to 15 of VCO, not-equal: VSUBC's difference isn't 0; or VCH's sum or difference isn't 0, and extra is
+    /// clear.
     pub differ: Mask8,
-    /// The sum of a clip was -1: VCE.
+    /// VCE: VCH's sum is -1.
     pub extra: Mask8,
-    /// The answer of a clip's comparison with its upper limit: bits 8 to 15 of VCC.
+    /// Bits 8 to 15 of VCC: after a clip, the answer of the comparison with its upper bound, b.
     pub clip: Mask8,
 }
 
 impl Flags {
-    /// Flags that are all clear, as at the start.
+    /// All flags clear, as at the start.
     #[inline]
     pub fn new() -> Self
         ensures { result ≡ no_flags }
@@ -37,7 +40,7 @@ impl Flags {
         }
     }
 
-    /// Changes nothing. It says that the flags are those of their eight lanes.
+    /// Does nothing. Its contract gives the prover a fact: the flags are those of their eight lanes.
     #[inline(always)]
     pub fn ranges(&self)
         ensures { self.now ≡ all_flags (flags_at self.now) }
@@ -49,7 +52,7 @@ impl Flags {
         self.extra.ranges();
     }
 
-    /// Writes VCO, the carries and the not-equal flags; VCC and VCE stay.
+    /// Writes VCO, the carry and not-equal flags. VCC and VCE are kept.
     #[inline(always)]
     pub fn set_vco(&mut self, carry: Mask8, differ: Mask8)
         ensures { self.new ≡ all_flags (λ i. record (flags_at self.old i) { carry = slice_index_or carry i false; differ = slice_index_or differ i false }) }
@@ -61,7 +64,7 @@ impl Flags {
         self.differ = differ;
     }
 
-    /// Clears VCO; VCC and VCE stay.
+    /// Clears VCO. VCC and VCE are kept.
     #[inline(always)]
     pub fn clear_vco(&mut self)
         ensures { self.new ≡ all_flags (λ i. vco_cleared (flags_at self.old i)) }
@@ -69,7 +72,8 @@ impl Flags {
         self.set_vco(Mask8::splat(false), Mask8::splat(false));
     }
 
-    /// Becomes the other flags, as an assignment would, but mask by mask.
+    /// Copies the other flags mask by mask, each through a vector register. An assignment would copy from memory to
+    /// memory.
     #[inline(always)]
     pub fn take(&mut self, other: &Flags)
         ensures { self.new ≡ other.now }
@@ -79,7 +83,7 @@ impl Flags {
         self.extra = other.extra.read();
     }
 
-    /// Takes VCO from other flags; VCC and VCE stay.
+    /// Copies VCO from other flags. VCC and VCE are kept.
     #[inline(always)]
     pub fn take_vco(&mut self, other: &Flags)
         ensures { self.new ≡ record self.old { carry = other.now.carry; differ = other.now.differ } }
@@ -88,7 +92,7 @@ impl Flags {
         self.differ = other.differ.read();
     }
 
-    /// Takes VCC from other flags; VCO and VCE stay.
+    /// Copies VCC from other flags. VCO and VCE are kept.
     #[inline(always)]
     pub fn take_vcc(&mut self, other: &Flags)
         ensures { self.new ≡ record self.old { compare = other.now.compare; clip = other.now.clip } }
@@ -97,7 +101,7 @@ impl Flags {
         self.clip = other.clip.read();
     }
 
-    /// Writes VCC, the answers of comparisons and of clips; VCO and VCE stay.
+    /// Writes VCC, the compare and clip flags. VCO and VCE are kept.
     #[inline(always)]
     pub fn set_vcc(&mut self, compare: Mask8, clip: Mask8)
         ensures { self.new ≡ all_flags (λ i. record (flags_at self.old i) { compare = slice_index_or compare i false; clip = slice_index_or clip i false }) }

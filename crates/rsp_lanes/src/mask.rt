@@ -7,7 +7,7 @@ use crate::VReg;
 use std::marker::Model;
 use std::simd::prelude::*;
 
-/// Eight truth values, one for each lane, as one lane mask.
+/// Eight truth values, one for each lane, as one lane mask. Contracts see the list of them, lane 0 first.
 #[derive(Clone, Copy, PartialEq, Drop)]
 pub struct Mask8 {
     lanes: mask16x8,
@@ -30,7 +30,9 @@ impl Model for Mask8 {
 }
 
 impl Mask8 {
-    /// The mask with these lanes, which are all ones where it is set, else 0, as a comparison gives them.
+    /// The mask of these lanes.
+    ///
+    /// Requires that each lane is all ones (set) or 0 (clear), as a comparison returns them.
     #[inline(always)]
     pub fn from_simd(lanes: mask16x8) -> Self
         requires { IsMask lanes }
@@ -39,7 +41,7 @@ impl Mask8 {
         Mask8 { lanes }
     }
 
-    /// Its lanes: all ones where it is set, else 0. The mask has eight.
+    /// The eight lanes, each all ones if it is set, else 0.
     #[inline(always)]
     pub fn to_simd(self) -> mask16x8
         ensures value { truths result ≡ self }
@@ -49,7 +51,7 @@ impl Mask8 {
         self.lanes
     }
 
-    /// The same mask. It goes through a register, where a copy of the whole struct would be one from address to address.
+    /// A copy of the mask through a vector register. A copy of the struct would go from memory to memory.
     #[inline(always)]
     pub(crate) fn read(&self) -> Self
         ensures { result ≡ self.now }
@@ -57,7 +59,7 @@ impl Mask8 {
         Mask8 { lanes: self.lanes }
     }
 
-    /// Changes nothing. It says that they are eight lanes.
+    /// Does nothing. Its contract gives the prover a fact: there are eight lanes.
     #[inline(always)]
     pub fn ranges(self)
         ensures { length self ≡ 8 }
@@ -65,7 +67,7 @@ impl Mask8 {
         let _ = &self.lanes;
     }
 
-    /// Set where both are.
+    /// The lanes that are set in both.
     #[inline(always)]
     pub fn and(self, other: Self) -> Self
         ensures { result ≡ each_lane (λ i. slice_index_or self i false && slice_index_or other i false) }
@@ -75,7 +77,7 @@ impl Mask8 {
         }
     }
 
-    /// The lanes of `a` where it is set, and those of `b` elsewhere.
+    /// Lane i of `a` if lane i is set, else lane i of `b`.
     #[inline(always)]
     pub fn merge(self, a: &VReg, b: &VReg) -> VReg
         ensures { result ≡ each_lane (λ i. cond (slice_index_or self i false) (slice_index a.now i) (slice_index b.now i)) }
@@ -83,7 +85,7 @@ impl Mask8 {
         VReg::from_simd(self.lanes.select(a.to_simd(), b.to_simd()))
     }
 
-    /// Set where one or both are.
+    /// The lanes that are set in one or both.
     #[inline(always)]
     pub fn or(self, other: Self) -> Self
         ensures { result ≡ each_lane (λ i. slice_index_or self i false || slice_index_or other i false) }
@@ -93,7 +95,7 @@ impl Mask8 {
         }
     }
 
-    /// Set where it is clear.
+    /// The lanes that are clear.
     #[inline(always)]
     pub fn not(self) -> Self
         ensures { result ≡ each_lane (λ i. not (slice_index_or self i false)) }
@@ -101,7 +103,7 @@ impl Mask8 {
         Mask8 { lanes: !self.lanes }
     }
 
-    /// Set nowhere, or everywhere.
+    /// All lanes set, or all clear.
     #[inline(always)]
     pub fn splat(value: bool) -> Self
         ensures { result ≡ each_lane (λ _. value) }
@@ -111,7 +113,7 @@ impl Mask8 {
         }
     }
 
-    /// Set where just one is.
+    /// The lanes that are set in just one.
     #[inline(always)]
     pub fn xor(self, other: Self) -> Self
         ensures { result ≡ each_lane (λ i. bool_xor (slice_index_or self i false) (slice_index_or other i false)) }
@@ -121,7 +123,7 @@ impl Mask8 {
         }
     }
 
-    /// The number, from 0 to 255, whose bit `i` is 1 where lane `i` is set.
+    /// The number from 0 to 255 whose bit `i` is 1 if lane `i` is set.
     #[inline(always)]
     pub fn bits(self) -> u64
         ensures value { result ≡ mask_l self }
@@ -130,7 +132,7 @@ impl Mask8 {
         self.lanes.to_bitmask()
     }
 
-    /// Lane `i` is set where bit `i` of the number is 1. Bits 8 to 15 are dropped.
+    /// The mask whose lane `i` is set if bit `i` of the number is 1. Bits 8 to 15 are ignored.
     #[inline(always)]
     pub fn from_bits(bits: u16) -> Self
         ensures { result ≡ each_lane (λ i. bit_set bits i) }

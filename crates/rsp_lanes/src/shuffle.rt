@@ -4,15 +4,15 @@ ghost use Rattle.rsp_lanes.specs.Lanes.{each_lane, selected, source_lane};
 use crate::VReg;
 use std::simd::prelude::*;
 
-/// A table of sixteen bytes for each element. It begins at a multiple of 16, as a `u128` does, so that a swizzle takes an entry
-/// where it stands.
+/// Sixteen bytes for each element. The table is aligned to 16 bytes, as a `u128` is, so a swizzle reads an entry in
+/// place.
 struct ByElement {
     _aligned: [u128; 0],
     entries: [[u8; 16]; 16],
 }
 
-/// For each element the bytes of a register that its operand is made of, two for each lane. The low byte of lane i has
-/// number 2 i here, its high byte 2 i + 1.
+/// For each element, the bytes of a register that make up the operand: two for each lane. Byte 2 i is the low byte of
+/// lane i, byte 2 i + 1 its high byte.
 static SOURCES: ByElement = ByElement {
     _aligned: [],
     entries: [
@@ -41,7 +41,7 @@ static SOURCES: ByElement = ByElement {
     ],
 };
 
-/// The entry of an element, from 0 to 15.
+/// The table's entry of element `e`, below 16.
 #[inline(always)]
 fn sources(e: usize) -> u8x16
     requires { e < 16 }
@@ -52,9 +52,10 @@ fn sources(e: usize) -> u8x16
     u8x16::from_array(SOURCES.entries[e])
 }
 
-/// The operand that an element, from 0 to 15, makes of a register: for 0 and 1 the register; for 2 and 3 the first, the
-/// second of each pair of lanes, twice; for 4 to 7 the first to the fourth of each four lanes, four times; for 8 to 15
-/// lane 0 to lane 7, eight times.
+/// The operand that element `e` selects from a register.
+///
+/// Elements 0 and 1 select the register; 2 and 3 the first and the second lane of each pair, for both; 4 to 7 the first
+/// to the fourth lane of each four, for all four; 8 to 15 lane 0 to lane 7, for all eight. Requires `e` below 16.
 #[inline(always)]
 pub fn select(v: &VReg, e: usize) -> VReg
     requires { e < 16 }
@@ -65,7 +66,7 @@ pub fn select(v: &VReg, e: usize) -> VReg
 }
 
 impl VReg {
-    /// Its lanes 0, 2, 4 and 6, twice.
+    /// Lanes 0, 2, 4 and 6, and the same again.
     #[inline(always)]
     pub fn even_lanes(&self) -> VReg
         ensures { result ≡ each_lane (λ i. slice_index self.now (2 * i % 8)) }

@@ -1,4 +1,4 @@
-//! Lanes as signed numbers.
+//! Lanes as signed values.
 
 ghost use Rattle.std.specs.Prelude.{ℕ, ◌≡◌, ◌<◌, ◌^◌, ◌-◌, ◌*ℤ◌, ◌+ℤ◌, ◌≤ℤ◌, ◌<ℤ◌, pos, negsuc, cond, nat_lt, slice_index, slice_index_or, false};
 ghost use Rattle.std.specs.Int.{int_min, int_max};
@@ -8,7 +8,7 @@ ghost use Rattle.rsp_numbers.specs.Numbers.{s16, upper_bits, sixteen_bits, clamp
 use crate::{Mask8, VReg};
 use std::simd::prelude::*;
 
-/// The same bits as signed numbers.
+/// The lanes as signed values, in 16 bits.
 #[inline(always)]
 fn signed(v: &VReg) -> i16x8
     ensures { result ≡ each_lane (λ i. s16 (slice_index v.now i)) }
@@ -16,7 +16,7 @@ fn signed(v: &VReg) -> i16x8
     i16x8::from_le_bytes(v.to_simd().to_le_bytes())
 }
 
-/// The lanes as signed numbers of 32 bits.
+/// The lanes as signed values, in 32 bits.
 #[inline(always)]
 fn wide(v: &VReg) -> i32x8
     ensures { result ≡ each_lane (λ i. s16 (slice_index v.now i)) }
@@ -25,7 +25,7 @@ fn wide(v: &VReg) -> i32x8
     signed(v).cast::<i32>()
 }
 
-/// The lesser lanes as signed numbers, or 32766 where both are 32767.
+/// The lesser of both lanes as signed values and of 32766.
 #[inline(always)]
 fn lesser(a: &VReg, b: &VReg) -> VReg
     ensures { (i : ℕ) → i < 8 → s16 (slice_index result i) ≡ int_min (int_min (s16 (slice_index a.now i)) (s16 (slice_index b.now i))) (pos 32766) }
@@ -36,7 +36,7 @@ fn lesser(a: &VReg, b: &VReg) -> VReg
     VReg::from_simd(u16x8::from_le_bytes(lesser.to_le_bytes()))
 }
 
-/// The greater lanes, as signed numbers of 32 bits.
+/// The greater of both lanes as signed values, in 32 bits.
 #[inline(always)]
 fn greater(a: &VReg, b: &VReg) -> i32x8
     ensures { result ≡ each_lane (λ i. int_max (s16 (slice_index a.now i)) (s16 (slice_index b.now i))) }
@@ -46,22 +46,25 @@ fn greater(a: &VReg, b: &VReg) -> i32x8
     signed(a).simd_max(signed(b)).cast::<i32>()
 }
 
-/// The numbers, limited to those of sixteen bits. Where they are sums of two lanes, LLVM makes one instruction of both.
+/// The numbers clamped to -32768..=32767. If they are sums of two lanes, LLVM compiles sum and clamp to one
+/// instruction.
 #[inline(always)]
-fn limited(numbers: i32x8) -> VReg
+fn saturated(numbers: i32x8) -> VReg
     requires lanes { numbers ≡ each_lane (number numbers) }
     requires range { (i : ℕ) → i < 8 → (negsuc (2 ^ 31 - 1) ≤ℤ number numbers i) × (number numbers i <ℤ pos (2 ^ 31)) }
     ensures { result ≡ each_lane (λ i. sixteen_bits (clamp16 (number numbers i))) }
 {
-    let limited = numbers
+    let saturated = numbers
         .simd_max(i32x8::splat(-32768))
         .simd_min(i32x8::splat(32767));
-    VReg::from_simd(u16x8::from_le_bytes(limited.cast::<i16>().to_le_bytes()))
+    VReg::from_simd(u16x8::from_le_bytes(saturated.cast::<i16>().to_le_bytes()))
 }
 
 impl VReg {
-    /// The sums of the lanes as signed numbers, with a carry that comes in, limited to -32768..=32767. The carry is added to the
-    /// lesser lane: that is 32767 only where both lanes are, and there 32766 with a carry or without gives the same limit.
+    /// The sums of the lanes as signed values and a carry, clamped to -32768..=32767.
+    ///
+    /// The carry is added to the lesser lane, after that is clamped to 32766: so no carry overflows. A lesser lane of
+    /// 32767 means that both are 32767, and then the clamped sum is 32767 in any case.
     #[inline(always)]
     pub fn add_clamped(&self, other: &VReg, carry: Mask8) -> VReg
         ensures { result ≡ each_lane (λ i. sixteen_bits (clamp16 (s16 (slice_index self.now i) +ℤ s16 (slice_index other.now i) +ℤ pos (bit (slice_index_or carry i false))))) }
@@ -73,10 +76,10 @@ impl VReg {
         let minus_carry = carry.merge(&VReg::splat(0xffff), &VReg::new());
         let carried = lesser.subtract(&minus_carry);
         carried.ranges();
-        limited(greater(self, other) + wide(&carried))
+        saturated(greater(self, other) + wide(&carried))
     }
 
-    /// The high half of the products of the lanes as signed numbers. LLVM makes one instruction of the body.
+    /// The high halves of the products of the lanes as signed values. LLVM compiles the body to one instruction.
     #[inline(always)]
     pub fn signed_product_high(&self, other: &VReg) -> VReg
         ensures { result ≡ each_lane (λ i. upper_bits (s16 (slice_index self.now i) *ℤ s16 (slice_index other.now i))) }
@@ -90,7 +93,7 @@ impl VReg {
         VReg::from_simd(u16x8::from_le_bytes(high.to_le_bytes()))
     }
 
-    /// All ones where the lane is negative as a signed number, else 0.
+    /// All ones in each lane that is negative as a signed value, else 0.
     #[inline(always)]
     pub fn sign(&self) -> VReg
         ensures { result ≡ each_lane (λ i. cond (nat_lt 32767 (slice_index self.now i)) 65535 0) }

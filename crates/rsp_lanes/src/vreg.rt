@@ -8,7 +8,8 @@ use byteorder::{BigEndian, ByteOrder};
 use std::marker::Model;
 use std::simd::prelude::*;
 
-/// A vector register: eight lanes, each a number from 0 to 65535, in one vector. Lane 0 is the first.
+/// A vector register: eight 16-bit lanes in one vector. Contracts see the list of them, each from 0 to 65535, lane 0
+/// first.
 #[derive(Clone, Copy, PartialEq, Eq, Debug, Drop)]
 pub struct VReg {
     lanes: u16x8,
@@ -28,7 +29,7 @@ impl Model for VReg {
 }
 
 impl VReg {
-    /// Eight zeros.
+    /// A register of zeros.
     #[inline(always)]
     pub fn new() -> Self
         ensures { result ≡ each_lane (λ _. 0) }
@@ -36,7 +37,7 @@ impl VReg {
         VReg::splat(0)
     }
 
-    /// Eight copies of a number.
+    /// A register with the same number in all lanes.
     #[inline(always)]
     pub fn splat(value: u16) -> Self
         ensures { result ≡ each_lane (λ _. value) }
@@ -64,7 +65,7 @@ impl VReg {
         }
     }
 
-    /// The register with these bytes: byte 0 is the high byte of lane 0, byte 15 the low byte of lane 7.
+    /// The register with these bytes. Byte 0 is the high byte of lane 0, byte 15 the low byte of lane 7.
     #[inline(always)]
     #[tactic(auto, unfolding(crate::specs::Lanes::each_lane))]
     pub fn from_bytes(bytes: [u8; 16]) -> Self
@@ -82,7 +83,7 @@ impl VReg {
         ])
     }
 
-    /// Its lanes, lane 0 first.
+    /// The lanes, lane 0 first.
     #[inline(always)]
     pub fn to_array(&self) -> [u16; 8]
         ensures { result ≡ self.now }
@@ -90,7 +91,7 @@ impl VReg {
         self.lanes.to_array()
     }
 
-    /// Its lanes: eight, each below 65536.
+    /// The eight lanes, each below 65536.
     #[inline(always)]
     pub fn to_simd(&self) -> u16x8
         ensures value { result ≡ self.now }
@@ -99,7 +100,7 @@ impl VReg {
         self.lanes
     }
 
-    /// Changes nothing. It says that they are eight lanes, each below 65536.
+    /// Does nothing. Its contract gives the prover a fact: there are eight lanes, each below 65536.
     #[inline(always)]
     pub fn ranges(&self)
         ensures { IsVector self.now }
@@ -116,7 +117,7 @@ impl VReg {
         self.lanes[i]
     }
 
-    /// Writes lane `i`, from 0 to 7; the others stay.
+    /// Writes lane `i`, from 0 to 7. The others are kept.
     #[inline(always)]
     pub fn set_lane(&mut self, i: usize, value: u16)
         requires { i < 8 }
@@ -140,7 +141,7 @@ impl VReg {
         if i % 2 == 0 { high } else { low }
     }
 
-    /// Writes byte `i`, from 0 to 15; the others stay.
+    /// Writes byte `i`, from 0 to 15. The others are kept.
     #[inline(always)]
     #[tactic(auto, unfolding(crate::specs::Lanes::with_register_byte))]
     pub fn set_byte(&mut self, i: usize, value: u8)
@@ -158,7 +159,7 @@ impl VReg {
         self.set_lane(i / 2, BigEndian::read_u16(&bytes));
     }
 
-    /// The sums, modulo 65536.
+    /// The sums of the lanes, modulo 65536.
     #[inline(always)]
     pub fn add(&self, other: &VReg) -> VReg
         ensures { result ≡ each_lane (λ i. (slice_index self.now i + slice_index other.now i) % 65536) }
@@ -166,7 +167,7 @@ impl VReg {
         VReg::from_simd(self.lanes + other.lanes)
     }
 
-    /// The differences, modulo 65536.
+    /// The differences of the lanes, modulo 65536.
     #[inline(always)]
     pub fn subtract(&self, other: &VReg) -> VReg
         ensures { result ≡ each_lane (λ i. (slice_index self.now i + (65536 - slice_index other.now i)) % 65536) }
@@ -174,7 +175,7 @@ impl VReg {
         VReg::from_simd(self.lanes - other.lanes)
     }
 
-    /// The lanes, bit by bit: set where both are.
+    /// Bitwise and.
     #[inline(always)]
     pub fn and(&self, other: &VReg) -> VReg
         ensures { result ≡ each_lane (λ i. bit_and (slice_index self.now i) (slice_index other.now i)) }
@@ -182,7 +183,7 @@ impl VReg {
         VReg::from_simd(self.lanes & other.lanes)
     }
 
-    /// The lanes, bit by bit: set where one or both are.
+    /// Bitwise or.
     #[inline(always)]
     pub fn or(&self, other: &VReg) -> VReg
         ensures { result ≡ each_lane (λ i. bit_or (slice_index self.now i) (slice_index other.now i)) }
@@ -190,7 +191,7 @@ impl VReg {
         VReg::from_simd(self.lanes | other.lanes)
     }
 
-    /// The lanes, bit by bit: set where just one is.
+    /// Bitwise exclusive or.
     #[inline(always)]
     pub fn xor(&self, other: &VReg) -> VReg
         ensures { result ≡ each_lane (λ i. bit_xor (slice_index self.now i) (slice_index other.now i)) }
@@ -198,7 +199,7 @@ impl VReg {
         VReg::from_simd(self.lanes ^ other.lanes)
     }
 
-    /// The complements of the lanes: each bit is set where it was clear.
+    /// Bitwise not.
     #[inline(always)]
     pub fn not(&self) -> VReg
         ensures { result ≡ each_lane (λ i. complement (slice_index self.now i)) }
@@ -206,7 +207,7 @@ impl VReg {
         VReg::from_simd(!self.lanes)
     }
 
-    /// The lanes with their signs changed, modulo 65536: 8000 hex stays.
+    /// The lanes negated, modulo 65536: 8000 hex is its own negative.
     #[inline(always)]
     pub fn negate(&self) -> VReg
         ensures { result ≡ each_lane (λ i. negated (slice_index self.now i)) }
@@ -214,7 +215,7 @@ impl VReg {
         VReg::new().subtract(self)
     }
 
-    /// Where the lane is 0.
+    /// The lanes that are 0.
     #[inline(always)]
     pub fn is_zero(&self) -> Mask8
         ensures { result ≡ each_lane (λ i. nat_eq (slice_index self.now i) 0) }
@@ -222,7 +223,7 @@ impl VReg {
         self.is_equal(&VReg::new())
     }
 
-    /// Where the lane is below the other's, both as they stand.
+    /// The lanes that are below the other's, as unsigned values.
     #[inline(always)]
     pub fn is_below(&self, other: &VReg) -> Mask8
         ensures { result ≡ each_lane (λ i. nat_lt (slice_index self.now i) (slice_index other.now i)) }
@@ -230,7 +231,7 @@ impl VReg {
         Mask8::from_simd(self.lanes.simd_lt(other.lanes))
     }
 
-    /// Where the lane is below the other's, both as signed numbers.
+    /// The lanes that are below the other's, as signed values.
     #[inline(always)]
     pub fn is_below_signed(&self, other: &VReg) -> Mask8
         ensures { result ≡ each_lane (λ i. int_lt (s16 (slice_index self.now i)) (s16 (slice_index other.now i))) }
@@ -241,7 +242,7 @@ impl VReg {
         self.add(&half).is_below(&other.add(&half))
     }
 
-    /// Where the lanes are the same.
+    /// The lanes that are equal to the other's.
     #[inline(always)]
     pub fn is_equal(&self, other: &VReg) -> Mask8
         ensures { result ≡ each_lane (λ i. nat_eq (slice_index self.now i) (slice_index other.now i)) }
@@ -249,7 +250,7 @@ impl VReg {
         Mask8::from_simd(self.lanes.simd_eq(other.lanes))
     }
 
-    /// The sums with a carry that comes in, modulo 65536, and the carries that go out.
+    /// The sums of the lanes and a carry, modulo 65536, and the carries out of them.
     #[inline(always)]
     pub fn add_carrying(&self, other: &VReg, carry: Mask8) -> (VReg, Mask8)
         ensures sum { result.0 ≡ each_lane (λ i. (slice_index self.now i + slice_index other.now i + bit (slice_index_or carry i false)) % 65536) }
@@ -262,7 +263,7 @@ impl VReg {
         (sum, plain.is_below(self).or(sum.is_below(&plain)))
     }
 
-    /// Where the lane is negative as a signed number: its top bit is set.
+    /// The lanes that are negative as signed values: their top bit is set.
     #[inline(always)]
     pub fn is_negative(&self) -> Mask8
         ensures { result ≡ each_lane (λ i. nat_lt 32767 (slice_index self.now i)) }
@@ -270,7 +271,7 @@ impl VReg {
         VReg::splat(0x7fff).is_below(self)
     }
 
-    /// The high and the low half of the products of the lanes as unsigned numbers.
+    /// The high and the low halves of the products of the lanes as unsigned values.
     #[inline(always)]
     pub fn product(&self, other: &VReg) -> (VReg, VReg)
         ensures high { result.0 ≡ each_lane (λ i. slice_index self.now i * slice_index other.now i / 65536) }

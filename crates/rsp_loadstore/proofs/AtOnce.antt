@@ -73,7 +73,7 @@ pub packed_stored : (file : List (List ℕ)) (m : List ℕ) (vt e a n : ℕ) →
 packed_stored file m vt e a n h = stored_at_once file m (λ k. packed vt ((e + k) % 16) (a + k)) (λ k. packed_byte (vector file vt) ((e + k) % 16)) a n h
     (λ m k. packed_pair file m vt ((e + k) % 16) (a + k) (omega arith))
 
--- the two cases are exchanged where the numbers begin eight later
+-- the two cases are exchanged if the numbers begin eight later
 unsigned_pair : (file : List (List ℕ)) (m : List ℕ) (vt j a : ℕ) → j < 16 → stored file m (unsigned_packed vt j a) ≡ with_byte m a (packed_byte (vector file vt) ((j + 8) % 16))
 unfolding stored
 unsigned_pair file m vt j a h = elim (cases_lt j 8) [
@@ -97,7 +97,7 @@ unsigned_stored file m vt e a n h = stored_at_once file m (λ k. unsigned_packed
     let q : ((e + k) % 16 + 8) % 16 ≡ (e + 8 + k) % 16 = omega arith in
     unsigned_pair file m vt ((e + k) % 16) (a + k) (omega arith) ∙ ap (λ j. with_byte m (a + k) (packed_byte (vector file vt) j)) q)
 
--- bits 14 to 7 of the pairs of bytes from byte e on, which are a register's lanes once it is turned
+-- bits 14 to 7 of the pairs of bytes from byte e on, which are a register's lanes after it is rotated
 bits_of : (v : List ℕ) (e j : ℕ) → j < 8
     → get_or (each_byte (λ k. packed_byte (each_lane (λ i. get_or (each_byte (λ k. register_byte v ((e + k) % 16))) (2 * i) 0 * 256 + get_or (each_byte (λ k. register_byte v ((e + k) % 16))) (2 * i + 1) 0)) ((8 + k) % 16))) j 0
     ≡ bits_14_to_7 v ((e + 2 * j) % 16)

@@ -1,4 +1,4 @@
--- Lanes that eight registers get one after the other, from any of the eight on.
+-- Lanes that eight registers take one after the other, from any of the eight on.
 use Rattle.std.proofs.Common.{◌≡◌, ◌≢◌, ℕ, zero, suc, ◌+◌, ◌-◌, ◌%◌, ◌<◌, ◌≤◌, List, [], ◌++◌, set, get_or, map, refl, sym, ap, ◌∙◌, arith}
 use Rattle.std.specs.List.{range_with_len, fold}
 use Rattle.std.proofs.lemmas.List.{set_comm, get_or-set_other}

@@ -9,7 +9,7 @@ use Rattle.rsp_loadstore.specs.Pairs.{for_each}
 use Rattle.rsp_loadstore.specs.Loads.{Load, loaded, after_load}
 use Rattle.rsp_loadstore.specs.Stores.{Store, stored, after_store}
 
--- a fold over what f makes of the numbers below i
+-- a fold over f of the numbers below i
 pub fold_map_more : {A B : Type 0} (step : B → A → B) (s : B) (f : ℕ → A) (i : ℕ)
     → fold step s (map f (range_with_len 0 (i + 1))) ≡ step (fold step s (map f (range_with_len 0 i))) (f i)
 fold_map_more step s f i = ap (fold step s) (map-range_with_len_more f 0 i i (omega arith)) ∙ fold_push step s (map f (range_with_len 0 i)) (f i)

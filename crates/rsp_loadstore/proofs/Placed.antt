@@ -1,4 +1,4 @@
--- Bytes that are loaded one by one are placed in the register at once.
+-- Bytes that are loaded one by one are written to the register at once.
 use Rattle.std.proofs.Common.{◌≡◌, ◌≢◌, ℕ, zero, suc, ◌+◌, ◌-◌, ◌*◌, ◌/◌, ◌%◌, ◌<◌, ◌≤◌, ◌&&◌, min, ◌^◌, ◌⊎◌, cond, List, [], true, false, if◌then◌else◌, nat_le, nat_lt, nat_eq, length, get_or, set, refl, sym, ap, ◌∙◌, arith, inl, inr}
 use Rattle.std.proofs.lemmas.Bool.{cases_eq, cases_lt}
 use Rattle.std.proofs.lemmas.Bool.Decides.{nat_tests}
@@ -14,7 +14,7 @@ use Rattle.rsp_loadstore.specs.Moves.{with_register_half}
 use Rattle.rsp_loadstore.specs.Pairs.{for_each, block, place}
 use Rattle.rsp_loadstore.proofs.Pairs.{load_none, load_more}
 
--- a register that was written is read and written again
+-- a register that is written, read and written again
 same_register : (file : List (List ℕ)) (n : ℕ) → with_vector file n (vector file n) ≡ file
 unfolding with_vector vector
 same_register file n = set-get_or file n []
@@ -24,7 +24,7 @@ register_again : (file : List (List ℕ)) (n : ℕ) (v w : List ℕ) → n < len
 unfolding with_vector vector
 register_again file n v w h = (get_or-set_same file n v [] h, set-set file n v w)
 
--- where each pair changes one register alone, the register's states tell what becomes of the file
+-- if each pair changes one register alone, the states of the register give those of the file
 pub one_register : (m : List ℕ) (file : List (List ℕ)) (vt n : ℕ) (f : ℕ → Load) (step : List ℕ → ℕ → List ℕ) (states : ℕ → List ℕ)
     → vt < length file
     → ((file : List (List ℕ)) (k : ℕ) → loaded m file (f k) ≡ with_vector file vt (step (vector file vt) k))
@@ -43,7 +43,7 @@ pub set_each : (f : ℕ → ℕ) (j y : ℕ) → j < 8 → set (each_lane f) j y
 unfolding each_lane
 set_each f j y = below_eight (λ j. set (each_lane f) j y ≡ each_lane (λ l. if nat_eq l j then y else f l)) refl refl refl refl refl refl refl refl j
 
--- a byte of a register that was made byte by byte; below it any number may stand, since only its lane's low byte is read
+-- a byte of a register that is made byte by byte; the byte before it is any, since only its lane's low byte is read
 high_written : (f g : ℕ → ℕ) (j b : ℕ) → j < 8 → ((k : ℕ) → k ≢ 2 * j → g k ≡ f k) → g (2 * j) ≡ b → f (2 * j + 1) < 256
     → with_register_byte (of_bytes f) (2 * j) b ≡ of_bytes g
 unfolding with_register_byte of_bytes
@@ -89,7 +89,7 @@ window_byte m a zero k h = absurd (omega arith)
 window_byte m a (suc n) zero h = ap (byte_at m) (omega arith)
 window_byte m a (suc n) (suc k) h = window_byte m (a + 1) n k (omega arith) ∙ ap (byte_at m) (omega arith)
 
--- byte k of a register in which n bytes from byte i on are placed
+-- byte k of a register into which n bytes are written from byte i on
 abbrev placed_byte : List ℕ → List ℕ → ℕ → ℕ → ℕ → ℕ
 placed_byte v source i n k = if nat_le i k && nat_lt k (i + n) then get_or source (k - i) 0 else register_byte v k
 
@@ -109,7 +109,7 @@ placed_none : (v source : List ℕ) (i : ℕ) → length v ≡ 8 → with_regist
 unfolding of_bytes
 placed_none v source i h = each_same _ _ (λ l k. rw (none_byte v source i (2 * l), none_byte v source i (2 * l + 1)) (both_bytes v l)) ∙ sym (eta 0 v h)
 
--- the low byte of a lane that the next byte is placed in, or one behind, is still the register's
+-- the low byte of the lane that the next byte, or the one after it, goes to is still the register's
 kept_byte : (v source : List ℕ) (i n j : ℕ) → i + n ≤ 2 * j + 1 → placed_byte v source i n (2 * j + 1) < 256
 unfolding register_byte
 kept_byte v source i n j h =
@@ -129,7 +129,7 @@ placed_more v source i n h =
         let e : i + n - i ≡ n = omega arith in
         grind (arith, nat_tests)
 
--- of more bytes than there is room for the first are placed
+-- of more bytes than fit the first are written
 placed_room : (v source : List ℕ) (i n : ℕ) → with_register_bytes v source i n ≡ with_register_bytes v source i (min n (16 - i))
 unfolding of_bytes
 placed_room v source i n = each_same _ _ (λ l h. rw (room (2 * l) (omega arith), room (2 * l + 1) (omega arith)) refl)
@@ -137,7 +137,7 @@ placed_room v source i n = each_same _ _ (λ l h. rw (room (2 * l) (omega arith)
     room : (k : ℕ) → k < 16 → placed_byte v source i n k ≡ placed_byte v source i (min n (16 - i)) k
     room k h = grind (arith, nat_tests)
 
--- of two bytes the second where there is room
+-- of two bytes the second, if it fits
 two_placed : (v source : List ℕ) (i : ℕ) → length v ≡ 8 → i < 16
     → with_register_bytes v source i 2
     ≡ (if nat_lt i 15 then with_register_byte (with_register_byte v i (get_or source 0 0)) (i + 1) (get_or source 1 0) else with_register_byte v i (get_or source 0 0))
@@ -171,7 +171,7 @@ placed_loaded m file vt i n a h l k =
     h (λ _ _. refl) (placed_none v w i l)
     (λ k lt. placed_more v w i k (omega arith) ∙ ap (with_register_byte (with_register_bytes v w i k) (i + k)) (window_byte m a 16 k (omega arith))))
 
--- a whole line
+-- a whole quadword
 pub line_loaded : (m : List ℕ) (file : List (List ℕ)) (vt a : ℕ) → vt < length file → length (vector file vt) ≡ 8
     → with_vector file vt (of_bytes (λ k. get_or (bytes_at m a 16) ((0 + k) % 16) 0)) ≡ after_load m file (for_each 16 (λ k. to_byte vt (0 + k) (a + k)))
 unfolding of_bytes
@@ -185,7 +185,7 @@ line_loaded m file vt a h l = ap (with_vector file vt) (each_same _ _ (λ i k. r
         let d : k - 0 ≡ k = omega arith in
         rw (e, s, t, d) refl
 
--- a register of which n lanes from one on are given
+-- a register with n given lanes from one on
 abbrev from_given : (ℕ → ℕ) → List ℕ → ℕ → ℕ → List ℕ
 from_given value v half n = each_lane (λ i. if nat_le half i && nat_lt i (half + n) then value (i - half) else get_or v i 0)
 
@@ -241,7 +241,7 @@ fourths_loaded m file vt e a h l half =
           ≡ (if nat_le 4 i && nat_lt i 8 then value (i - 4) else get_or (vector file vt) i 0)) refl refl refl refl refl refl refl refl i k)
     ]
 
--- a register of which the first n lanes are given
+-- a register whose first n lanes are given
 abbrev first_given : (ℕ → ℕ) → List ℕ → ℕ → List ℕ
 first_given value v n = each_lane (λ j. if nat_lt j n then value j else get_or v j 0)
 

@@ -1,4 +1,4 @@
--- The ranges of the vector registers at the start, and after a write.
+-- The ranges of the vector registers at the start and after a write.
 use Rattle.std.proofs.Common.{◌≡◌, ◌<◌, ℕ, zero, suc, List, [], length, replicate, slice_index, arith, refl, sym, subst, ◌∙◌, inl, inr}
 use Rattle.std.proofs.Math.ListN.{set}
 use Rattle.std.proofs.lemmas.List.{get_or-replicate, length-set, get_or-set_same, get_or-set_other}

@@ -1,4 +1,5 @@
--- What the pairs of a row reach: those of a store the sixteen bytes of its window, and those of a load its register or its group.
+-- What the pairs of an instruction reach: those of a store the sixteen bytes of its window, those of a load its
+-- register or its group.
 use Rattle.std.proofs.Common.{◌≡◌, ◌≢◌, ℕ, zero, suc, ◌+◌, ◌-◌, ◌%◌, ◌<◌, ◌≤◌, Bool, true, false, List, [], ◌∷◌, map, length, refl, ◌∙◌, arith, get_or, get_or-set_other, min}
 use Rattle.std.specs.Prelude.{if◌then◌else◌, nat_lt}
 use Rattle.std.specs.List.{range_with_len}
@@ -43,7 +44,7 @@ address_packed vt j a = elim (nat_lt j 8) as (λ b. address_of (if b then high_b
 address_unsigned : (vt j a : ℕ) → address_of (unsigned_packed vt j a) ≡ a
 address_unsigned vt j a = elim (nat_lt j 8) as (λ b. address_of (if b then shifted vt j a else high_byte vt (j % 8) a) ≡ a) [ true ↦ refl | false ↦ refl ]
 
--- each pair of a row is inside of the row's window
+-- each pair of a store is inside its window
 stores_inside : (row : VectorStoreRow) (vt e a : ℕ) → Each (IsInside (window_of row a)) (store_pairs row vt e a)
 unfolding store_pairs
 stores_inside Sbv vt e a = each_for_each (IsInside (window_of Sbv a)) 1 _ (λ k h. (omega arith, omega arith))
@@ -87,7 +88,7 @@ after_store-elsewhere file m (p ∷ ps) w r inside there =
     let at : r ≢ (w + (address_of p - w)) % 4096 = elsewhere-at r w 16 (address_of p - w) there (omega (arith, inside.0.1)) in
     after_store-elsewhere file (stored file m p) ps w r inside.1 there ∙ stored-elsewhere file m p r (rw e at at)
 
--- a store undone: the sixteen bytes of its window, as they were, are written back
+-- a store undone: the old sixteen bytes of its window are written back
 pub stored-back : (row : VectorStoreRow) (vt e a : ℕ) (file : List (List ℕ)) (m : List ℕ)
     → with_bytes (after_store file m (store_pairs row vt e a)) (window_of row a) (bytes_at m (window_of row a) 16) ≡ m
 stored-back row vt e a file m =
@@ -108,7 +109,7 @@ count_of eight = if eight then 8 else 1
 abbrev IsAmong : ℕ → ℕ → Load → Type 0
 IsAmong first n p = (first ≤ register_of p) × (register_of p < first + n)
 
--- each pair of a row is among the row's registers
+-- each pair of a load is among its registers
 loads_among : (row : VectorLoadRow) (vt e a : ℕ) → Each (IsAmong (first_of (writes_group row) vt) (count_of (writes_group row))) (load_pairs row vt e a)
 unfolding load_pairs
 loads_among Lbv vt e a = each_for_each (IsAmong vt 1) (min 1 (16 - e)) _ (λ k h. (omega arith, omega arith))
@@ -147,7 +148,7 @@ after_load-elsewhere m file (p ∷ ps) first n r among there =
     let at : r ≢ first + (register_of p - first) = there (register_of p - first) (omega (arith, among.0.0, among.0.1)) in
     after_load-elsewhere m (loaded m file p) ps first n r among.1 there ∙ loaded-elsewhere m file p r (rw e at at)
 
--- a load leaves all registers but its own, and as many as there were
+-- a load keeps all registers but its own, and their number
 pub length-load : (row : VectorLoadRow) (m : List ℕ) (file : List (List ℕ)) (vt e a : ℕ) → length (after_load m file (load_pairs row vt e a)) ≡ length file
 length-load row m file vt e a = length-after_load m file (load_pairs row vt e a)
 

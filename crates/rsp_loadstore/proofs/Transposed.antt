@@ -19,7 +19,7 @@ use Rattle.rsp_loadstore.proofs.Diagonal.{diagonal_by_lanes}
 abbrev pub pair_of : ℕ → ℕ → ℕ → ℕ → Load
 pair_of vt e a k = to_byte (group vt + (e / 2 + k / 2) % 8) k (block a + (k + e + a / 8 % 2 * 8) % 16)
 
--- two bytes make a lane; where there is no such lane nothing is written
+-- two bytes make a lane; if there is no such lane nothing is written
 byte_pair : (v : List ℕ) (j b c : ℕ) → with_register_byte (with_register_byte v (2 * j) b) (2 * j + 1) c ≡ set v j (b * 256 + c)
 unfolding with_register_byte
 byte_pair v j b c =
@@ -33,7 +33,7 @@ byte_pair v j b c =
       | inr h ↦ set_past v j _ h ∙ sym (set_past v j _ h)
     ])
 
--- a register that is written by what it was written with; where there is no such register nothing is written
+-- a register that is written by what it was written with; if there is no such register nothing is written
 written_twice : (file : List (List ℕ)) (n : ℕ) (v : List ℕ) (f : List ℕ → List ℕ) → with_vector (with_vector file n v) n (f (vector (with_vector file n v) n)) ≡ with_vector file n (f v)
 unfolding with_vector vector
 written_twice file n v f = set-set file n v _ ∙ elim (cases_lt n (length file)) [
@@ -41,7 +41,7 @@ written_twice file n v f = set-set file n v _ ∙ elim (cases_lt n (length file)
   | inr h ↦ set_past file n _ h ∙ sym (set_past file n _ h)
 ]
 
--- the bytes of a window, turned
+-- the bytes of a window, rotated
 abbrev pub turned_bytes : List ℕ → ℕ → List ℕ
 turned_bytes window first = of_bytes (λ k. get_or window ((first + k) % 16) 0)
 

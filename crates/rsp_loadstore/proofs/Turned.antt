@@ -1,4 +1,4 @@
--- Sixteen bytes that are stored one by one, from a place in the middle on and then from the first on.
+-- Sixteen bytes that are stored one by one, from one in the middle on, and then from the first on.
 use Rattle.std.proofs.Common.{◌≡◌, ◌≢◌, ℕ, zero, suc, ◌+◌, ◌-◌, ◌/◌, ◌%◌, ◌<◌, List, [], ◌∷◌, ◌++◌, length, get_or, map, refl, sym, ap, ◌∙◌, arith, inl, inr}
 use Rattle.std.specs.List.{range_with_len}
 use Rattle.std.proofs.lemmas.List.FromFn.{length-map-range_with_len}
@@ -15,7 +15,7 @@ use Rattle.rsp_loadstore.specs.File.{vector}
 use Rattle.rsp_loadstore.specs.Stores.{Store, from_byte, stored, after_store}
 use Rattle.rsp_loadstore.specs.Pairs.{for_each, block, place, group, even, behind}
 
--- two runs that have no place in common can be exchanged
+-- two runs that have no address in common can be exchanged
 byte_past : (m : List ℕ) (p q b c : ℕ) → p % 4096 ≢ q % 4096 → with_byte (with_byte m p b) q c ≡ with_byte (with_byte m q c) p b
 unfolding with_byte
 byte_past m p q b c h = set_comm m (p % 4096) (q % 4096) b c h
@@ -35,7 +35,7 @@ runs_past m a b (x ∷ xs) ys h =
     runs_past (with_byte m a x) (a + 1) b xs ys (λ j k l n e. h (j + 1) k (omega arith) n (ap (λ n. n % 4096) (omega arith) ∙ e))
     ∙ ap (λ m. with_bytes m (a + 1) xs) (run_past m a x b ys (λ k l e. h 0 k (omega arith) l (ap (λ n. n % 4096) (omega arith) ∙ e)))
 
--- n pairs from i on, which store the bytes f i and on from b on
+-- n pairs from i on, which store the bytes from f i on at the addresses from b on
 pairs_stored : (file : List (List ℕ)) (m : List ℕ) (pair : ℕ → Store) (f : ℕ → ℕ) (b i n : ℕ)
     → ((m : List ℕ) (k : ℕ) → k < n → stored file m (pair (i + k)) ≡ with_byte m (b + k) (f (i + k)))
     → after_store file m (map pair (range_with_len i n)) ≡ with_bytes m b (map f (range_with_len i n))
@@ -69,7 +69,7 @@ turned_parts f s h = elim (cases_lt s 8) [
       rw (← e) (below_eight (λ s. map f (range_with_len (16 - (8 + s)) (8 + s)) ++ map f (range_with_len 0 (16 - (8 + s))) ≡ each_byte (λ p. f ((p + (16 - (8 + s))) % 16))) refl refl refl refl refl refl refl refl (s - 8) (omega arith))
 ]
 
--- sixteen pairs that store among sixteen places, from the place s on, modulo 16
+-- sixteen pairs that store to sixteen addresses, from number s on, modulo 16
 pub turned_stored : (file : List (List ℕ)) (m : List ℕ) (pair : ℕ → Store) (f : ℕ → ℕ) (block s : ℕ) → s < 16
     → ((m : List ℕ) (k : ℕ) → stored file m (pair k) ≡ with_byte m (block + (s + k) % 16) (f k))
     → with_bytes m block (each_byte (λ p. f ((p + (16 - s)) % 16))) ≡ after_store file m (for_each 16 pair)

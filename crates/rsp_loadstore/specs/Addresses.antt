@@ -5,7 +5,7 @@ use Rattle.rsp_decode.specs.Table.{vector_load_scale, vector_store_scale}
 use Rattle.rsp_decode.specs.declared.inst.Inst.{Inst}
 use Rattle.rsp_decode.specs.declared.inst.Inst.TheVariants.{VectorLoad, VectorStore}
 
--- the signed reading of the seven bits of an offset
+-- the seven bits of an offset as a signed value
 abbrev pub signed_offset : ℕ → ℤ
 signed_offset n = if nat_lt n 64 then pos n else pos n -ℤ pos 128
 
@@ -13,7 +13,7 @@ signed_offset n = if nat_lt n 64 then pos n else pos n -ℤ pos 128
 abbrev pub displaced : ℕ → ℕ → ℕ → ℕ
 displaced base offset scale = modulo (pos base +ℤ (signed_offset offset *ℤ pos scale)) (2 ^ 32)
 
--- the address, by the value of the base register; for another instruction that value
+-- the address, from the value of the base register; for another instruction that value
 unfoldable pub transfer_address : Inst → ℕ → ℕ
 transfer_address (VectorLoad row f) value = displaced value f.offset (vector_load_scale row)
 transfer_address (VectorStore row f) value = displaced value f.offset (vector_store_scale row)

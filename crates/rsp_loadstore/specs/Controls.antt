@@ -11,15 +11,15 @@ use Rattle.rsp_decode.specs.declared.scalar.MoveRow.TheVariants.{From, To}
 use Rattle.rsp_decode.specs.declared.vector.Control.{Control}
 use Rattle.rsp_decode.specs.declared.vector.Control.TheVariants.{Vco, Vcc, Vce}
 
--- the sixteen bits of VCO or of VCC: eight flags in bits 0 to 7, and eight in bits 8 to 15
+-- VCO or VCC as sixteen bits: eight flags in bits 0 to 7, and eight in bits 8 to 15
 abbrev pub control_half : List Bool → List Bool → ℕ
 control_half low high = mask_l low + mask_l high * 256
 
--- bits 0 to 7 of a number as the flags of lanes 0 to 7
+-- the flags of lanes 0 to 7 from bits 0 to 7 of a number
 abbrev pub marks : ℕ → List Bool
 marks n = each_lane (λ i. bit_set n i)
 
--- a control register as a number of 32 bits: bit 15 of VCO and VCC is repeated above, VCE has 0 there
+-- a control register in 32 bits: VCO and VCC are sign-extended, VCE is zero-extended
 abbrev pub control_word : Control → Flags → ℕ
 control_word Vco f = extended w16 (control_half f.carry f.differ)
 control_word Vcc f = extended w16 (control_half f.compare f.clip)
@@ -31,7 +31,7 @@ with_control Vco value f = record f { carry = marks (value % 256); differ = mark
 with_control Vcc value f = record f { compare = marks (value % 256); clip = marks (value / 256 % 256) }
 with_control Vce value f = record f { extra = marks (value % 256) }
 
--- what CFC2 reads; for another instruction 0
+-- what CFC2 reads; 0 for another instruction
 unfoldable pub control_value : Inst → Flags → ℕ
 control_value (MoveControl From rt control) f = control_word control f
 control_value _ f = 0

@@ -2,7 +2,7 @@
 use Rattle.std.specs.Prelude.{ℕ, ◌≡◌, ◌<◌, ◌+◌, ◌*◌, ◌/◌, ◌%◌, List, [], length, replicate, slice_index_or, slice_set}
 use Rattle.rsp_lanes.specs.Lanes.{each_lane, register_byte, IsVector}
 
--- the registers at the start
+-- the registers at the start: zeros
 unfoldable pub empty_file : List (List ℕ)
 empty_file = replicate 32 (each_lane (λ _. 0))
 
@@ -10,7 +10,7 @@ empty_file = replicate 32 (each_lane (λ _. 0))
 unfoldable pub vector : List (List ℕ) → ℕ → List ℕ
 vector file n = slice_index_or file n []
 
--- the registers' ranges
+-- the ranges of the registers: 32, each of eight lanes below 2^16
 pub record IsFile (file : List (List ℕ)) : Type 0 where
   pub count : length file ≡ 32
   pub registers : (n : ℕ) → n < 32 → IsVector (vector file n)

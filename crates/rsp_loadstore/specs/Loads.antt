@@ -1,4 +1,4 @@
--- Vector loads as lists of pairs: where a byte of memory goes, and the byte's address.
+-- Vector loads as lists of pairs: a byte or a lane of a register, and the address of the byte that it takes.
 use Rattle.std.specs.Prelude.{ℕ, ◌≡◌, ◌⊎◌, ◌+◌, ◌-◌, ◌*◌, ◌/◌, ◌%◌, min, List, slice_set}
 use Rattle.std.specs.List.{fold}
 use Rattle.rsp_memory.specs.Memory.{byte_at}
@@ -10,22 +10,26 @@ use Rattle.rsp_decode.specs.declared.vector.VectorLoadRow.TheVariants.{Lbv, Lsv,
 use Rattle.rsp_loadstore.specs.File.{vector, with_vector}
 use Rattle.rsp_loadstore.specs.Pairs.{for_each, line, block, place, group}
 
--- a byte of a register, or a lane, which gets the byte times a factor; and the address in memory, modulo 4096
+-- one pair: a byte of a register takes the byte at an address, or a lane takes that byte times a factor; the address is
+-- modulo 4096
 pub data Load : Type 0 where
   to_byte : (register byte address : ℕ) → Load
   to_lane : (register lane factor address : ℕ) → Load
 
--- the registers after one pair
+-- the registers after one pair is applied
 unfoldable pub loaded : List ℕ → List (List ℕ) → Load → List (List ℕ)
 loaded memory file (to_byte r i a) = with_vector file r (with_register_byte (vector file r) i (byte_at memory a))
 loaded memory file (to_lane r i f a) = with_vector file r (slice_set (vector file r) i (byte_at memory a * f))
 
--- the registers after the pairs were applied in order
+-- the registers after the pairs are applied in order
 unfoldable pub after_load : List ℕ → List (List ℕ) → List Load → List (List ℕ)
 after_load memory file ps = fold (loaded memory) file ps
 
--- The pairs of a row, by its register, its element and the address. A difference is 0 where the second number is the
--- greater. A place counts modulo 16, so that 16 - e stands there for -e.
+-- The pairs of each load, by its register vt, its element e and its address a. LBV, LSV, LLV and LDV load 1, 2, 4 and 8
+-- bytes, LQV those from a to the end of a's quadword, LRV those of the quadword before a, and none goes past register
+-- byte 15. LPV and LUV load a lane from each byte, LHV from every second, LFV four lanes from every fourth. LTV loads a
+-- lane of each of the eight registers of a group.
+-- x - y is 0 if y is greater than x. The second argument of `place` counts modulo 16, so 16 - e is -e there.
 unfoldable pub load_pairs : VectorLoadRow → ℕ → ℕ → ℕ → List Load
 load_pairs Lbv vt e a = for_each (min 1 (16 - e)) (λ k. to_byte vt (e + k) (a + k))
 load_pairs Lsv vt e a = for_each (min 2 (16 - e)) (λ k. to_byte vt (e + k) (a + k))

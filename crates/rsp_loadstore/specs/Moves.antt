@@ -12,13 +12,13 @@ use Rattle.rsp_loadstore.specs.File.{vector, with_vector}
 unfoldable pub register_half : List ℕ → ℕ → ℕ
 register_half v e = register_byte v e * 256 + register_byte v ((e + 1) % 16)
 
--- a register after a write of bits 15 to 8 of a number at byte e and, where e is below 15, bits 7 to 0 at byte e + 1
+-- a register after a write of a number: byte e takes bits 15 to 8 and, if e is below 15, byte e + 1 bits 7 to 0
 unfoldable pub with_register_half : List ℕ → ℕ → ℕ → List ℕ
 with_register_half v e value =
     let first = with_register_byte v e (value / 256 % 256) in
     if nat_lt e 15 then with_register_byte first (e + 1) (value % 256) else first
 
--- what MFC2 reads; for another instruction 0
+-- what MFC2 reads; 0 for another instruction
 unfoldable pub moved_value : Inst → List (List ℕ) → ℕ
 moved_value (MoveVector From rt n element) file = extended w16 (register_half (vector file n) element)
 moved_value _ file = 0

@@ -10,37 +10,40 @@ use Rattle.rsp_decode.specs.declared.vector.VectorStoreRow.TheVariants.{Sbv, Ssv
 use Rattle.rsp_loadstore.specs.Pairs.{for_each, line, place, group, even, behind}
 use Rattle.rsp_loadstore.specs.File.{vector, bits_14_to_7}
 
--- a byte of a register, or bits 14 to 7 of the sixteen bits at a byte and the next, modulo 16; and the address in memory,
--- modulo 4096
+-- one pair: a byte of a register, or bits 14 to 7 of the sixteen bits at a byte and the next, modulo 16, goes to an
+-- address; the address is modulo 4096
 pub data Store : Type 0 where
   from_byte : (register byte address : ℕ) → Store
   from_bits_14_to_7 : (register byte address : ℕ) → Store
 
--- the memory after one pair
+-- the memory after one pair is applied
 unfoldable pub stored : List (List ℕ) → List ℕ → Store → List ℕ
 stored file memory (from_byte r i a) = with_byte memory a (register_byte (vector file r) i)
 stored file memory (from_bits_14_to_7 r i a) = with_byte memory a (bits_14_to_7 (vector file r) i)
 
--- the memory after the pairs were applied in order
+-- the memory after the pairs are applied in order
 unfoldable pub after_store : List (List ℕ) → List ℕ → List Store → List ℕ
 after_store file memory ps = fold (stored file) memory ps
 
--- the high byte of a lane, and the lane shifted right by 7, of which the low 8 bits are stored
+-- the high byte of a lane, and bits 14 to 7 of a lane
 abbrev pub high_byte : ℕ → ℕ → ℕ → Store
 high_byte vt lane a = from_byte vt (2 * lane) a
 
 abbrev pub shifted : ℕ → ℕ → ℕ → Store
 shifted vt lane a = from_bits_14_to_7 vt (2 * lane) a
 
--- of SPV: for j below 8 the high byte of lane j, else lane j mod 8 shifted right by 7; of SUV the two cases exchanged
+-- SPV: for j below 8 the high byte of lane j, else bits 14 to 7 of lane j - 8; SUV exchanges the two cases
 abbrev pub packed : ℕ → ℕ → ℕ → Store
 packed vt j a = if nat_lt j 8 then high_byte vt j a else shifted vt (j % 8) a
 
 abbrev pub unsigned_packed : ℕ → ℕ → ℕ → Store
 unsigned_packed vt j a = if nat_lt j 8 then shifted vt j a else high_byte vt (j % 8) a
 
--- The pairs of a row, by its register, its element and the address. Register bytes and places count modulo 16, so that 16 is
--- added before a number is taken away.
+-- The pairs of each store, by its register vt, its element e and its address a. SBV, SSV, SLV and SDV store 1, 2, 4 and
+-- 8 bytes, SQV as many as fit from a to the end of a's quadword, SRV as many as there are in the quadword before a. SPV
+-- and SUV pack lanes into bytes one after the other, SHV into every second byte, SFV four lanes into every fourth. SWV
+-- stores all bytes, rotated, and STV a lane of each of the eight registers of a group.
+-- The numbers of register bytes, and the second argument of `place`, count modulo 16.
 unfoldable pub store_pairs : VectorStoreRow → ℕ → ℕ → ℕ → List Store
 store_pairs Sbv vt e a = for_each 1 (λ k. from_byte vt ((e + k) % 16) (a + k))
 store_pairs Ssv vt e a = for_each 2 (λ k. from_byte vt ((e + k) % 16) (a + k))

@@ -4,8 +4,8 @@ ghost use Rattle.rsp_loadstore.specs.Addresses.{signed_offset, displaced, transf
 
 use rsp_decode::{Inst, VectorLoadRow, VectorStoreRow};
 
-/// The address of a vector load or store, modulo 2^32: the base register's value plus the signed seven-bit offset times
-/// the row's scale of the instruction table. For an instruction of another group it is `base`.
+/// The address of a vector load or store, modulo 2^32: `base`, the value of the base register, plus the signed
+/// seven-bit offset times the instruction's scale. For an instruction of another group it is `base`.
 #[inline(always)]
 #[tactic(auto, unfolding(crate::specs::Addresses::transfer_address))]
 pub fn address(inst: &Inst, base: u32) -> u32
@@ -18,7 +18,7 @@ pub fn address(inst: &Inst, base: u32) -> u32
     }
 }
 
-/// The signed reading of the seven bits of an offset. An offset that was decoded is below 128, so that nothing is tested.
+/// The seven bits of an offset as a signed value. A decoded offset is below 128, so the compiler drops the test.
 #[inline(always)]
 fn signed_offset(offset: u8) -> i64
     ensures value { result ≡ signed_offset offset }
@@ -40,6 +40,7 @@ fn displaced(base: u32, offset: u8, scale: u8) -> u32
     (base as i64 + signed_offset(offset) * scale as i64).rem_euclid(1 << 32) as u32
 }
 
+/// What the offset of a load is counted in, in bytes.
 #[inline(always)]
 fn load_scale(row: VectorLoadRow) -> u8
     ensures { result ≡ vector_load_scale row }
@@ -53,6 +54,7 @@ fn load_scale(row: VectorLoadRow) -> u8
     }
 }
 
+/// What the offset of a store is counted in, in bytes.
 #[inline(always)]
 fn store_scale(row: VectorStoreRow) -> u8
     ensures { result ≡ vector_store_scale row }

@@ -2,18 +2,18 @@ ghost use Rattle.std.specs.Prelude.{◌≡◌};
 ghost use Rattle.rsp_decode.specs.Table.{IsInstruction};
 ghost use Rattle.rsp_loadstore.specs.Controls.{control_half, control_value, controlled_flags};
 
-use crate::moves::extended;
 use rsp_decode::{Control, Inst, MoveRow};
 use rsp_lanes::{Flags, Mask8};
+use rsp_numbers::sign_extend;
 
-/// The sixteen bits of VCO or of VCC: eight marks in bits 7 to 0, and eight in bits 15 to 8.
+/// VCO or VCC as sixteen bits: eight flags in bits 7 to 0, and eight in bits 15 to 8.
 fn control_half(low: Mask8, high: Mask8) -> u16
     ensures { result ≡ control_half low high }
 {
     (low.bits() + high.bits() * 256) as u16
 }
 
-/// What CFC2 reads: VCO or VCC with their sign, or VCE without. For another instruction it is 0.
+/// What CFC2 reads: VCO or VCC sign-extended, or VCE zero-extended. For another instruction it is 0.
 #[tactic(auto, unfolding(crate::specs::Controls::control_value))]
 pub fn control_from(inst: &Inst, flags: &Flags) -> u32
     requires { IsInstruction inst.now }
@@ -25,16 +25,15 @@ pub fn control_from(inst: &Inst, flags: &Flags) -> u32
             control,
             ..
         } => match control {
-            Control::Vco => extended(control_half(flags.carry, flags.differ)),
-            Control::Vcc => extended(control_half(flags.compare, flags.clip)),
+            Control::Vco => sign_extend(control_half(flags.carry, flags.differ)),
+            Control::Vcc => sign_extend(control_half(flags.compare, flags.clip)),
             Control::Vce => flags.extra.bits() as u32,
         },
         _ => 0,
     }
 }
 
-/// Executes CTC2: VCO and VCC take the low sixteen bits of `value`, VCE the low eight. Another instruction changes
-/// nothing.
+/// Executes CTC2: VCO and VCC take bits 15 to 0 of `value`, VCE bits 7 to 0. Another instruction changes nothing.
 #[tactic(auto, unfolding(crate::specs::Controls::controlled_flags))]
 pub fn control_to(inst: &Inst, value: u32, flags: &mut Flags)
     requires { IsInstruction inst.now }

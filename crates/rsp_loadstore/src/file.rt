@@ -5,7 +5,7 @@ use byteorder::{BigEndian, ByteOrder};
 use rsp_lanes::VReg;
 use std::marker::Model;
 
-/// The 32 vector registers, which contracts see as a list of 32 lists of eight lanes.
+/// The 32 vector registers. Contracts see a list of 32 lists of eight lanes, lane 0 first.
 #[derive(Drop)]
 pub struct VFile {
     registers: [VReg; 32],
@@ -23,7 +23,7 @@ impl Model for VFile {
 }
 
 impl VFile {
-    /// Registers whose lanes are all 0.
+    /// Registers of zeros, as at the start.
     #[tactic(auto, unfolding(crate::specs::File::empty_file))]
     pub fn new() -> VFile
         ensures { result ≡ empty_file }
@@ -56,7 +56,7 @@ impl VFile {
         lanes
     }
 
-    /// Changes nothing. It says that they are 32 registers, each of eight numbers below 2^16.
+    /// Does nothing. Its contract gives the prover a fact: there are 32 registers, each of eight lanes below 2^16.
     #[inline(always)]
     pub fn ranges(&self)
         ensures { IsFile self.now }
@@ -73,7 +73,7 @@ impl VFile {
         self.at(n as usize)
     }
 
-    /// Register `n`, below 32, by an index. Of indexes LLVM sees that registers one behind the other stand at fixed distances.
+    /// Register `n`, below 32, by an index. From an index LLVM sees that consecutive registers are at fixed distances.
     #[inline(always)]
     #[tactic(auto, using(std::proofs::lemmas::List::get_or_default), unfolding(crate::specs::File::vector))]
     pub(crate) fn at(&self, n: usize) -> VReg
@@ -83,7 +83,7 @@ impl VFile {
         self.registers[n]
     }
 
-    /// Writes register `n`, below 32; the others stay.
+    /// Writes register `n`, below 32. The others are kept.
     #[inline(always)]
     pub fn set_reg(&mut self, n: u8, v: VReg)
         requires { n < 32 }
@@ -92,7 +92,7 @@ impl VFile {
         self.put(n as usize, v);
     }
 
-    /// Writes register `n`, below 32, by an index; the others stay.
+    /// Writes register `n`, below 32, by an index. The others are kept.
     #[inline(always)]
     #[tactic(auto, unfolding(crate::specs::File::with_vector))]
     pub(crate) fn put(&mut self, n: usize, v: VReg)
@@ -103,7 +103,7 @@ impl VFile {
         self.registers[n] = v;
     }
 
-    /// Bits 14 to 7 of the sixteen bits at byte `i` and the next, modulo 16.
+    /// Bits 14 to 7 of the sixteen bits at bytes `i` and `i + 1` modulo 16 of register `n`.
     #[inline(always)]
     #[tactic(auto, unfolding(crate::specs::File::bits_14_to_7))]
     pub(crate) fn bits_14_to_7(&self, n: u8, i: usize) -> u8

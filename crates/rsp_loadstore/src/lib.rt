@@ -1,7 +1,10 @@
-//! The vector register file, vector loads and stores, and the moves between scalar registers and the vector unit.
+//! The vector registers, vector loads and stores, and the moves between scalar registers and the vector unit.
 //!
-//! A load or store is a list of pairs, applied in order: a byte or a lane of a register, and an address in memory.
-//! Each call takes the whole instruction, and one of another group changes nothing.
+//! A load or store is defined by a list of pairs, applied in order: a byte or a lane of a register, and an address in
+//! DMEM. The code does it by vectors.
+//!
+//! Each call takes any instruction; one of another group changes nothing. docs/INSTRUCTIONS.md, "Vector loads and
+//! stores", has the rules.
 #![tactic(auto)]
 
 mod addressing;

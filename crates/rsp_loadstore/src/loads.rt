@@ -12,8 +12,8 @@ use rsp_decode::{Inst, VectorLoadRow};
 use rsp_lanes::{Bytes16, Mask8, VReg};
 use rsp_memory::SpMem;
 
-/// Executes a vector load at the address `a`, the one that `address` gives; LTV writes parts of eight registers.
-/// An instruction of another group changes nothing.
+/// Executes a vector load at address `a`, which [`address`](crate::address) returns. LTV writes two bytes of each of
+/// eight registers. An instruction of another group changes nothing.
 #[inline(always)]
 #[tactic(auto, unfolding(crate::specs::Loads::loaded_file))]
 pub fn load(inst: &Inst, a: u32, memory: &SpMem, file: &mut VFile)
@@ -25,6 +25,7 @@ pub fn load(inst: &Inst, a: u32, memory: &SpMem, file: &mut VFile)
     }
 }
 
+/// A load into register `vt`, or its group, with element `e`, at address `a`.
 #[inline(always)]
 #[tactic(auto, unfolding(crate::specs::Loads::load_pairs))]
 fn load_row(row: VectorLoadRow, vt: u8, e: usize, a: u32, memory: &SpMem, file: &mut VFile)
@@ -33,15 +34,15 @@ fn load_row(row: VectorLoadRow, vt: u8, e: usize, a: u32, memory: &SpMem, file: 
     requires half { IsLoadElement row e }
     ensures { file.new ≡ after_load memory.now file.old (load_pairs row vt e a) }
 {
-    let place = (a % 16) as usize;
+    let misalignment = (a % 16) as usize;
     match row {
         VectorLoadRow::Lbv => load_bytes(vt, e, 1, a, memory, file),
         VectorLoadRow::Lsv => load_bytes(vt, e, 2, a, memory, file),
         VectorLoadRow::Llv => load_bytes(vt, e, 4, a, memory, file),
         VectorLoadRow::Ldv => load_bytes(vt, e, 8, a, memory, file),
-        VectorLoadRow::Lqv if place == 0 && e == 0 => load_line(vt, a, memory, file),
-        VectorLoadRow::Lqv => load_bytes(vt, e, 16 - place, a, memory, file),
-        VectorLoadRow::Lrv => load_bytes(vt, 16 - place + e, 16, a - a % 16, memory, file),
+        VectorLoadRow::Lqv if misalignment == 0 && e == 0 => load_quadword(vt, a, memory, file),
+        VectorLoadRow::Lqv => load_bytes(vt, e, 16 - misalignment, a, memory, file),
+        VectorLoadRow::Lrv => load_bytes(vt, 16 - misalignment + e, 16, a - a % 16, memory, file),
         VectorLoadRow::Lpv => load_packed(vt, 256, e, a, memory, file),
         VectorLoadRow::Luv => load_packed(vt, 128, e, a, memory, file),
         VectorLoadRow::Lhv => load_halves(vt, e, a, memory, file),
@@ -50,8 +51,8 @@ fn load_row(row: VectorLoadRow, vt: u8, e: usize, a: u32, memory: &SpMem, file: 
     }
 }
 
-/// The sixteen bytes from an address on. Each arm makes the vector, so that it is read where the bytes stand: an array that
-/// either arm gave would be copied first.
+/// The sixteen bytes from address `a` on. Each arm makes the vector, so the bytes are read in place. An array that
+/// either arm returned would be copied first.
 #[inline(always)]
 fn window(memory: &SpMem, a: u32) -> Bytes16
     ensures { result ≡ bytes_at memory.now a 16 }
@@ -62,7 +63,7 @@ fn window(memory: &SpMem, a: u32) -> Bytes16
     }
 }
 
-/// Loads `n` bytes of a register from byte `i` on, as far as there are; all of them lie in the sixteen from `a` on.
+/// Loads `n` bytes from address `a` on into a register, from byte `i` on; what would be byte 16 or above is dropped.
 #[inline(always)]
 fn load_bytes(vt: u8, i: usize, n: usize, a: u32, memory: &SpMem, file: &mut VFile)
     requires register { vt < 32 }
@@ -75,9 +76,9 @@ fn load_bytes(vt: u8, i: usize, n: usize, a: u32, memory: &SpMem, file: &mut VFi
     file.set_reg(vt, v.with_bytes(window(memory, a), i as u8, n as u8));
 }
 
-/// LQV of a whole line: loads a register. It is what microcode does most.
+/// LQV of a whole quadword, the load that microcode uses most: it has no byte to keep.
 #[inline(always)]
-fn load_line(vt: u8, a: u32, memory: &SpMem, file: &mut VFile)
+fn load_quadword(vt: u8, a: u32, memory: &SpMem, file: &mut VFile)
     requires { vt < 32 }
     ensures { file.new ≡ after_load memory.now file.old (for_each 16 (λ k. to_byte vt (0 + k) (a + k))) }
 {
@@ -85,7 +86,7 @@ fn load_line(vt: u8, a: u32, memory: &SpMem, file: &mut VFile)
     file.set_reg(vt, VReg::from_turned(window(memory, a), 0));
 }
 
-/// LPV and LUV: loads the eight lanes of a register, with the bytes of a block, times a factor.
+/// LPV and LUV: the eight lanes of a register become bytes of the sixteen from a's doubleword on, times a factor.
 #[inline]
 fn load_packed(vt: u8, factor: u16, e: usize, a: u32, memory: &SpMem, file: &mut VFile)
     requires register { vt < 32 }
@@ -99,7 +100,7 @@ fn load_packed(vt: u8, factor: u16, e: usize, a: u32, memory: &SpMem, file: &mut
     file.set_reg(vt, VReg::from_packed(bytes, start, factor));
 }
 
-/// LHV: loads the eight lanes of a register, with every second byte of a block, times 128.
+/// LHV: the eight lanes of a register become every second byte of the sixteen from a's doubleword on, times 128.
 #[inline]
 fn load_halves(vt: u8, e: usize, a: u32, memory: &SpMem, file: &mut VFile)
     requires register { vt < 32 }
@@ -112,7 +113,7 @@ fn load_halves(vt: u8, e: usize, a: u32, memory: &SpMem, file: &mut VFile)
     file.set_reg(vt, VReg::from_halves(bytes, start));
 }
 
-/// LFV: loads four lanes of a register, with every fourth byte of a block, times 128.
+/// LFV: four lanes of a register become every fourth byte of the sixteen from a's doubleword on, times 128.
 #[inline]
 fn load_fourths(vt: u8, e: usize, a: u32, memory: &SpMem, file: &mut VFile)
     requires register { vt < 32 }
@@ -122,12 +123,12 @@ fn load_fourths(vt: u8, e: usize, a: u32, memory: &SpMem, file: &mut VFile)
     file.ranges();
     let bytes = window(memory, a - a % 8);
     let fourths = VReg::from_halves(bytes, (a % 8) as u8).even_lanes();
-    let places = Mask8::from_bits(15 << e / 2);
+    let taken = Mask8::from_bits(15 << e / 2);
     let v = file.reg(vt);
-    file.set_reg(vt, places.merge(&fourths, &v));
+    file.set_reg(vt, taken.merge(&fourths, &v));
 }
 
-/// LTV: loads two bytes of each of eight registers, a lane of each.
+/// LTV: one lane of each of eight registers becomes two bytes of the sixteen from a's doubleword on.
 #[inline]
 fn load_transposed(vt: u8, e: usize, a: u32, memory: &SpMem, file: &mut VFile)
     requires register { vt < 32 }
@@ -140,7 +141,7 @@ fn load_transposed(vt: u8, e: usize, a: u32, memory: &SpMem, file: &mut VFile)
     }
 }
 
-/// The same where some of the bytes wrap.
+/// LTV if some of these bytes wrap in DMEM.
 #[cold]
 #[inline(never)]
 fn load_transposed_wrapped(vt: u8, e: usize, a: u32, memory: &SpMem, file: &mut VFile)
@@ -151,10 +152,12 @@ fn load_transposed_wrapped(vt: u8, e: usize, a: u32, memory: &SpMem, file: &mut 
     set_diagonal(vt, e, &memory.window(a - a % 8), a, file);
 }
 
-/// Writes one lane of each of the eight registers of a group: lane 0 of the register `e / 2` behind the first, lane 1 of the
-/// next, and so on, modulo 8. The bytes of the lanes are those of a block from `e` on, or from 8 behind it in the upper half of
-/// a line. Each arm knows the first lane's register, so that its code is eight writes at fixed distances. It calls nothing, so
-/// that it saves no registers, and reads the bytes where they stand.
+/// Writes one lane of each of the eight registers of a group: lane 0 of register `e / 2` of the group, lane 1 of the
+/// next, and so on, modulo 8. The bytes of the lanes are those of `bytes` from number `e` on, modulo 16; from `e + 8`
+/// on if `a` is in the upper doubleword of a quadword.
+///
+/// Each arm knows the first lane's register, so its code is eight writes at fixed distances. The function isn't inlined
+/// and calls nothing, so it saves no registers, and reads the bytes in place.
 #[inline(never)]
 fn set_diagonal(vt: u8, e: usize, bytes: &[u8; 16], a: u32, file: &mut VFile)
     requires register { vt < 32 }

@@ -1,7 +1,5 @@
 ghost use Rattle.std.specs.Prelude.{◌≡◌, ◌<◌};
 ghost use Rattle.rsp_decode.specs.Table.{IsInstruction};
-ghost use Rattle.std.specs.Int.{w16};
-ghost use Rattle.rsp_numbers.specs.Numbers.{extended};
 ghost use Rattle.rsp_loadstore.specs.File.{vector, with_vector};
 ghost use Rattle.rsp_loadstore.specs.Moves.{moved_file, moved_value, with_register_half};
 
@@ -9,17 +7,10 @@ use crate::VFile;
 use byteorder::{BigEndian, ByteOrder};
 use rsp_decode::{Inst, MoveRow};
 use rsp_lanes::Bytes16;
+use rsp_numbers::sign_extend;
 
-/// Sixteen bits as a signed number, modulo 2^32.
-#[inline]
-pub(crate) fn extended(n: u16) -> u32
-    ensures { result ≡ extended w16 n }
-{
-    (n.cast_signed() as i32).cast_unsigned()
-}
-
-/// What MFC2 reads: the sixteen bits at a byte of a vector register and the next, modulo 16, with their sign.
-/// For another instruction it is 0.
+/// What MFC2 reads: the sixteen bits at bytes `element` and `element + 1` modulo 16 of a vector register,
+/// sign-extended. For another instruction it is 0.
 #[tactic(auto, unfolding(crate::specs::Moves::moved_value, crate::specs::Moves::register_half))]
 pub fn move_from(inst: &Inst, file: &VFile) -> u32
     requires { IsInstruction inst.now }
@@ -34,14 +25,14 @@ pub fn move_from(inst: &Inst, file: &VFile) -> u32
         } => {
             let e = element as usize;
             let v = file.reg(vector);
-            extended(BigEndian::read_u16(&[v.byte(e), v.byte((e + 1) % 16)]))
+            sign_extend(BigEndian::read_u16(&[v.byte(e), v.byte((e + 1) % 16)]))
         }
         _ => 0,
     }
 }
 
-/// Executes MTC2: the low sixteen bits of `value` are written at a byte of a vector register and the next; what would be
-/// byte 16 is dropped. Another instruction changes nothing.
+/// Executes MTC2: byte `element` of a vector register takes bits 15 to 8 of `value`, and the next byte bits 7 to 0.
+/// What would be byte 16 is dropped. Another instruction changes nothing.
 #[tactic(auto, unfolding(crate::specs::Moves::moved_file))]
 pub fn move_to(inst: &Inst, value: u32, file: &mut VFile)
     requires { IsInstruction inst.now }
@@ -58,7 +49,7 @@ pub fn move_to(inst: &Inst, value: u32, file: &mut VFile)
     }
 }
 
-/// Writes the low sixteen bits of `value` at byte `e` of a register and the next.
+/// Writes the low sixteen bits of `value` to bytes `e` and `e + 1` of register `n`. What would be byte 16 is dropped.
 #[inline(always)]
 fn set_half(n: u8, e: u8, value: u32, file: &mut VFile)
     requires register { n < 32 }

@@ -11,8 +11,8 @@ use rsp_decode::{Inst, VectorStoreRow};
 use rsp_lanes::VReg;
 use rsp_memory::SpMem;
 
-/// Executes a vector store at the address `a`, the one that `address` gives; STV stores parts of eight registers.
-/// An instruction of another group changes nothing.
+/// Executes a vector store at address `a`, which [`address`](crate::address) returns. STV stores two bytes of each of
+/// eight registers. An instruction of another group changes nothing.
 #[inline(always)]
 #[tactic(auto, unfolding(crate::specs::Stores::stored_memory))]
 pub fn store(inst: &Inst, a: u32, file: &VFile, memory: &mut SpMem)
@@ -24,6 +24,7 @@ pub fn store(inst: &Inst, a: u32, file: &VFile, memory: &mut SpMem)
     }
 }
 
+/// A store of register `vt`, or its group, with element `e`, at address `a`.
 #[inline(always)]
 #[tactic(auto, unfolding(crate::specs::Stores::store_pairs))]
 fn store_row(row: VectorStoreRow, vt: u8, e: usize, a: u32, file: &VFile, memory: &mut SpMem)
@@ -32,15 +33,22 @@ fn store_row(row: VectorStoreRow, vt: u8, e: usize, a: u32, file: &VFile, memory
     requires half { IsStoreElement row e }
     ensures { memory.new ≡ after_store file.now memory.old (store_pairs row vt e a) }
 {
-    let place = (a % 16) as usize;
+    let misalignment = (a % 16) as usize;
     match row {
         VectorStoreRow::Sbv => store_run(vt, e, 1, a, file, memory),
         VectorStoreRow::Ssv => store_run(vt, e, 2, a, file, memory),
         VectorStoreRow::Slv => store_run(vt, e, 4, a, file, memory),
         VectorStoreRow::Sdv => store_run(vt, e, 8, a, file, memory),
-        VectorStoreRow::Sqv if place == 0 => store_run(vt, e, 16, a, file, memory),
-        VectorStoreRow::Sqv => store_run(vt, e, 16 - place, a, file, memory),
-        VectorStoreRow::Srv => store_run(vt, e + (16 - place), place, a - a % 16, file, memory),
+        VectorStoreRow::Sqv if misalignment == 0 => store_run(vt, e, 16, a, file, memory),
+        VectorStoreRow::Sqv => store_run(vt, e, 16 - misalignment, a, file, memory),
+        VectorStoreRow::Srv => store_run(
+            vt,
+            e + (16 - misalignment),
+            misalignment,
+            a - a % 16,
+            file,
+            memory,
+        ),
         VectorStoreRow::Spv => store_packed(vt, e, a, file, memory),
         VectorStoreRow::Suv => store_unsigned_packed(vt, e, a, file, memory),
         VectorStoreRow::Shv => store_halves(vt, e, a, file, memory),
@@ -50,7 +58,7 @@ fn store_row(row: VectorStoreRow, vt: u8, e: usize, a: u32, file: &VFile, memory
     }
 }
 
-/// Stores `n` bytes of a register from byte `i` on, modulo 16.
+/// Stores `n` bytes of a register from address `a` on: its bytes from byte `i` on, modulo 16.
 #[inline(always)]
 fn store_run(vt: u8, i: usize, n: usize, a: u32, file: &VFile, memory: &mut SpMem)
     requires register { vt < 32 }
@@ -61,7 +69,8 @@ fn store_run(vt: u8, i: usize, n: usize, a: u32, file: &VFile, memory: &mut SpMe
     memory.set_bytes(a, &file.reg(vt).bytes_from(i as u8)[..n]);
 }
 
-/// SPV: stores eight bytes, each of a lane: for a number below 8 its high byte, else its bits 14 to 7.
+/// SPV: stores eight bytes, with consecutive numbers from `e` on, modulo 16. Number j below 8 is the high byte of lane
+/// j, another one bits 14 to 7 of lane j - 8.
 #[inline(always)]
 fn store_packed(vt: u8, e: usize, a: u32, file: &VFile, memory: &mut SpMem)
     requires register { vt < 32 }
@@ -71,7 +80,7 @@ fn store_packed(vt: u8, e: usize, a: u32, file: &VFile, memory: &mut SpMem)
     memory.set_bytes(a, &file.reg(vt).packed_from(e as u8)[..8]);
 }
 
-/// SUV: stores eight bytes, each of a lane: for a number below 8 its bits 14 to 7, else its high byte.
+/// SUV: the same as SPV, with the two cases exchanged.
 #[inline(always)]
 fn store_unsigned_packed(vt: u8, e: usize, a: u32, file: &VFile, memory: &mut SpMem)
     requires register { vt < 32 }
@@ -81,7 +90,7 @@ fn store_unsigned_packed(vt: u8, e: usize, a: u32, file: &VFile, memory: &mut Sp
     memory.set_bytes(a, &file.reg(vt).packed_from(e as u8 + 8)[..8]);
 }
 
-/// SHV: stores bits 14 to 7 of eight pairs of bytes, two places apart in a block.
+/// SHV: stores bits 14 to 7 of eight pairs of bytes, to every second of the sixteen addresses from a's doubleword on.
 #[tactic(auto, using(crate::proofs::Pairs::stores), unfolding(crate::specs::Stores::store_pairs))]
 fn store_halves(vt: u8, e: usize, a: u32, file: &VFile, memory: &mut SpMem)
     requires register { vt < 32 }
@@ -96,7 +105,7 @@ fn store_halves(vt: u8, e: usize, a: u32, file: &VFile, memory: &mut SpMem)
     }
 }
 
-/// SFV: stores bits 14 to 7 of four lanes, four places apart in a block.
+/// SFV: stores bits 14 to 7 of four lanes, to every fourth of the sixteen addresses from a's doubleword on.
 #[tactic(auto, using(crate::proofs::Pairs::stores), unfolding(crate::specs::Stores::stored, crate::specs::Stores::store_pairs))]
 fn store_fourths(vt: u8, e: usize, a: u32, file: &VFile, memory: &mut SpMem)
     requires register { vt < 32 }
@@ -110,7 +119,7 @@ fn store_fourths(vt: u8, e: usize, a: u32, file: &VFile, memory: &mut SpMem)
     }
 }
 
-/// SWV: stores the sixteen bytes of a register in a block.
+/// SWV: stores the sixteen bytes of a register, rotated, from a's doubleword on.
 #[inline(always)]
 fn store_rotated(vt: u8, e: usize, a: u32, file: &VFile, memory: &mut SpMem)
     requires register { vt < 32 }
@@ -121,7 +130,7 @@ fn store_rotated(vt: u8, e: usize, a: u32, file: &VFile, memory: &mut SpMem)
     memory.set_bytes(a - a % 8, &file.reg(vt).bytes_from(first));
 }
 
-/// STV: stores two bytes of each of eight registers in a block.
+/// STV: stores one lane of each of eight registers, rotated, from a's doubleword on.
 fn store_transposed(vt: u8, e: usize, a: u32, file: &VFile, memory: &mut SpMem)
     requires register { vt < 32 }
     requires element { e < 16 }
@@ -131,8 +140,8 @@ fn store_transposed(vt: u8, e: usize, a: u32, file: &VFile, memory: &mut SpMem)
     memory.set_bytes(a - a % 8, &lanes.bytes_from(16 - (a % 8) as u8));
 }
 
-/// Of each of the eight registers from `first` on one lane: lane 0 of the register `half` behind it, lane 1 of the next,
-/// and so on, modulo 8. Each arm knows `half`, so that its code is eight reads at fixed distances.
+/// One lane of each of the eight registers from `first` on: lane 0 of number `half` of them, lane 1 of the next, and so
+/// on, modulo 8. Each arm knows `half`, so its code is eight reads at fixed distances.
 #[inline(always)]
 fn diagonal(first: usize, half: usize, file: &VFile) -> VReg
     requires registers { first ≤ 24 }

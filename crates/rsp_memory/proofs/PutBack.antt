@@ -1,11 +1,11 @@
--- Writing back what stood in a list before gives the list back.
+-- Writing back what a list held before restores the list.
 use Rattle.std.proofs.Common.{◌≡◌, ◌≢◌, ℕ, zero, suc, ◌+◌, ◌%◌, ◌<◌, add-zero, inl, inr, List, [], ◌∷◌, length, refl, sym, ◌∙◌, arith, get_or, set, get_or-set_same, get_or-set_other}
 use Rattle.std.proofs.lemmas.List.{ext_get_or, length-set}
 use Rattle.std.proofs.Math.ListN.{get_or-eq_default}
 use Rattle.std.proofs.lemmas.Bool.{cases_lt}
 use Rattle.rsp_memory.specs.Memory.{byte_at, with_byte, with_bytes, bytes_at}
 
--- the numbers of some places, written back in order
+-- the numbers at some indices, written back in order
 abbrev pub put_back : List ℕ → List ℕ → List ℕ → List ℕ
 put_back m [] n = n
 put_back m (p ∷ ps) n = put_back m ps (set n p (get_or m p 0))
@@ -25,14 +25,14 @@ same_there : (m n : List ℕ) (p q : ℕ) (ps : List ℕ) → length n ≡ lengt
     → IsElsewhere q ps → get_or (set n p (get_or m p 0)) q 0 ≡ get_or m q 0
 same_there m n p q ps e h there = grind (arith, same_here m n p e, get_or-set_other n p q (get_or m p 0) 0, λ (ne : q ≢ p). h q (ne, there))
 
--- a list that differs from m in these places alone becomes m
+-- a list that differs from m at these indices alone becomes m
 pub back_is : (m : List ℕ) (ps : List ℕ) (n : List ℕ) → length n ≡ length m
     → ((r : ℕ) → IsElsewhere r ps → get_or n r 0 ≡ get_or m r 0) → put_back m ps n ≡ m
 back_is m [] n e h = ext_get_or 0 n m e (λ i lt. h i tt)
 back_is m (p ∷ ps) n e h =
     back_is m ps (set n p (get_or m p 0)) (length-set n p (get_or m p 0) ∙ e) (λ q there. same_there m n p q ps e h there)
 
--- the places of the n bytes from an address on
+-- the indices of the n bytes from an address on
 abbrev pub places : ℕ → ℕ → List ℕ
 places a zero = []
 places a (suc n) = a % 4096 ∷ places (a + 1) n
@@ -42,12 +42,12 @@ unfolding byte_at with_byte
 with_bytes-put_back m n a zero = refl
 with_bytes-put_back m n a (suc k) = with_bytes-put_back m (set n (a % 4096) (get_or m (a % 4096) 0)) (a + 1) k
 
--- a memory that differs from m in k bytes from an address on becomes m once m's bytes are written there
+-- a memory that differs from m in k bytes from an address on becomes m after m's bytes are written there
 pub bytes-back : (m n : List ℕ) (a k : ℕ) → length n ≡ length m
     → ((r : ℕ) → IsElsewhere r (places a k) → get_or n r 0 ≡ get_or m r 0) → with_bytes n a (bytes_at m a k) ≡ m
 bytes-back m n a k e h = with_bytes-put_back m n a k ∙ back_is m (places a k) n e h
 
--- a byte that is written changes no other place, and no length
+-- a byte that is written changes no other index, and no length
 pub length-with_byte : (m : List ℕ) (a b : ℕ) → length (with_byte m a b) ≡ length m
 unfolding with_byte
 length-with_byte m a b = length-set m (a % 4096) b
@@ -56,7 +56,7 @@ pub with_byte-elsewhere : (m : List ℕ) (a b r : ℕ) → r ≢ a % 4096 → ge
 unfolding with_byte
 with_byte-elsewhere m a b r h = get_or-set_other m (a % 4096) r b 0 h
 
--- a place outside of the n bytes from an address on is none of them
+-- an index outside of the n bytes from an address on is none of theirs
 pub elsewhere-at : (r a n j : ℕ) → IsElsewhere r (places a n) → j < n → r ≢ (a + j) % 4096
 elsewhere-at r a zero j there h = absurd (omega arith)
 elsewhere-at r a (suc n) zero there h = rw add-zero there.0

@@ -1,4 +1,4 @@
--- Bytes written one by one are a run written at once.
+-- Consecutive bytes that are written one by one are written at once.
 use Rattle.std.proofs.Common.{◌≡◌, ℕ, zero, suc, ◌+◌, ◌-◌, ◌%◌, ◌<◌, ◌≤◌, ◌^◌, List, [], ◌∷◌, ◌++◌, length, take, drop, get_or, set, refl, sym, ◌∙◌, ap, arith, add-zero, min, inl, inr, Option, None, Some, MatchOption, Bor}
 use Rattle.std.proofs.lemmas.List.{set_past, length-set, length-take, length-drop, take-append-drop, drop_all, take_all, take_more, take_min, drop_more}
 use Rattle.std.proofs.lemmas.List.Edits.{sets, sets-eq}
@@ -11,7 +11,7 @@ use Rattle.rsp_memory.specs.Splices.{spliced}
 use Rattle.rsp_memory.specs.Memory.{byte_at, bytes_at, with_byte, with_bytes, with_word}
 use Rattle.rsp_memory.specs.Image.{with_image_byte, with_image_bytes}
 
--- two runs, one behind the other
+-- two runs, one after the other
 pub write_all-append : {X : Type 0} (write : X → ℕ → ℕ → X) (m : X) (a : ℕ) (xs ys : List ℕ)
     → write_all write m a (xs ++ ys) ≡ write_all write (write_all write m a xs) (a + length xs) ys
 write_all-append write m a [] ys = rw add-zero refl
@@ -19,7 +19,7 @@ write_all-append write m a (x ∷ xs) ys =
     let e : a + 1 + length xs ≡ a + suc (length xs) = omega arith in
     write_all-append write (write m a x) (a + 1) xs ys ∙ ap (λ n. write_all write (write_all write (write m a x) (a + 1) xs) n ys) e
 
--- where each state writes the next number that `read` gives, n states on are a run of those numbers
+-- if each state writes the next number that `read` gives, n states on are a run of those numbers
 run_written : {X : Type 0} (write : X → ℕ → ℕ → X) (read : ℕ → ℕ) (states : ℕ → X) (to from i n : ℕ) (source : List ℕ)
     → ((k : ℕ) → states (k + 1) ≡ write (states k) (to + k) (read (from + k)))
     → ((k : ℕ) → k < n → read (from + i + k) ≡ get_or source k 0)
@@ -52,7 +52,7 @@ run_turn write read states to from i n source run now then step reads e f g =
     run_written write read states to from i (length run) source step (λ j l. reads j (omega arith)) (omega arith) in
     cc
 
--- bytes that don't wrap are a run of the list
+-- bytes that don't wrap are a part of the list
 with_bytes-sets : (m : List ℕ) (a : ℕ) (bs : List ℕ) → a + length bs ≤ 4096 → with_bytes m a bs ≡ sets m a bs
 unfolding with_byte
 with_bytes-sets m a [] h = refl
@@ -86,7 +86,7 @@ word_inside m r bs a w n h k e f =
     let l : length bs ≤ 4096 - a % 4096 = omega (arith, ap length e) in
     with_bytes-inside m r a bs n l f ∙ ap (with_bytes m a) e ∙ with_word-bytes m a w k
 
--- the bytes from an address on, where they don't wrap
+-- the bytes from an address on, if they don't wrap
 bytes_at-from : (m : List ℕ) (a at n : ℕ) → a % 4096 ≡ at → at + n ≤ 4096 → length m ≡ 4096 → bytes_at m a n ≡ take n (drop at m)
 unfolding byte_at
 bytes_at-from m a at zero e h l = refl
@@ -108,7 +108,7 @@ window_whole m tail a None l t h = omega (arith, h, ap length t, length-take (40
 window_whole m tail a (Some y) l t h =
     (omega (arith, h.enough, ap length t, length-take (4096 - a % 4096) (drop (a % 4096) m), length-drop (a % 4096) m), bytes_at-inside m tail y.now a 16 l t h.enough h.same)
 
--- what is behind the wrap is written from 0 on
+-- what wraps is written from 0 on
 with_bytes-wrap : (m : List ℕ) (a : ℕ) (bs : List ℕ) (n : ℕ) → n ≡ min (length bs) (4096 - a % 4096)
     → with_bytes m a bs ≡ with_bytes (with_bytes m (a % 4096) (take n bs)) 0 (drop n bs)
 with_bytes-wrap m a bs n e =
@@ -123,7 +123,7 @@ with_bytes-wrap m a bs n e =
       | inr h ↦ rw (drop_all n bs h) refl
     ]
 
--- a run into the ring is at most two pieces
+-- a run of bytes in a memory is at most two parts of its list
 pub two_pieces : (m w r : List ℕ) (a n : ℕ) (bs front back : List ℕ) → length m ≡ 4096 → length w ≡ length m → length bs ≤ 4096
     → n ≡ min (length bs) (4096 - a % 4096) → front ≡ take n bs → back ≡ drop n bs
     → w ≡ spliced m (a % 4096) front → r ≡ spliced w 0 back → r ≡ with_bytes m a bs
@@ -133,7 +133,7 @@ two_pieces m w r a n bs front back lm lw lb e f g p q =
     let z : with_bytes m a bs ≡ with_bytes (with_bytes m (a % 4096) (take n bs)) 0 (drop n bs) = with_bytes-wrap m a bs n e in
     cc
 
--- the same of an image, in which what is past the end is dropped
+-- the same of an image, which drops what is after its end
 with_image_bytes-sets : (m : List ℕ) (a at : ℕ) (bs : List ℕ) → a % 16777216 ≡ at → at + length bs ≤ 16777216 → with_image_bytes m a bs ≡ sets m at bs
 unfolding with_image_byte
 with_image_bytes-sets m a at [] e h = refl

@@ -1,4 +1,4 @@
--- An address that a sum of 32 bits made.
+-- An address that is a sum of 32 bits.
 use Rattle.std.proofs.Common.{◌≡◌, ℕ, ◌%◌, List, ap, arith}
 use Rattle.std.specs.Prelude.{slice_index, slice_set}
 use Rattle.rsp_memory.specs.Memory.{byte_at, with_byte}

@@ -1,10 +1,10 @@
-/// One of the three memories that the host reaches.
+/// A memory that the host can load and inspect.
 #[derive(Clone, Copy, Debug, PartialEq, Eq)]
 pub enum Bank {
-    /// The data memory of the signal processor, 4096 bytes.
+    /// DMEM, the data memory: 4096 bytes.
     Dmem,
-    /// Its instruction memory, 4096 bytes.
+    /// IMEM, the instruction memory: 4096 bytes.
     Imem,
-    /// The image of the RDRAM, as long as it was made.
+    /// The RDRAM image: 64 to 8,388,608 bytes, a multiple of 8.
     Rdram,
 }

@@ -4,10 +4,10 @@ ghost use Rattle.rsp_memory.specs.Image.{IsImage, IsImageLength, image_byte, wit
 use crate::splice::splice;
 use std::marker::Model;
 
-/// The image of the RDRAM, the memory of the console.
+/// The RDRAM image: the console's main memory, which the RSP reaches by DMA alone.
 ///
-/// Contracts see it as the list of its bytes, a multiple of 8 from 64 to 8,388,608 of them. An
-/// address is taken modulo 2^24; a byte past the image's end reads 0, and a write there is dropped.
+/// Contracts see the list of its bytes: a multiple of 8 of them, from 64 to 8,388,608. An address is taken modulo 2^24.
+/// A byte after the image's end reads 0, and a write there is dropped.
 #[derive(Drop)]
 pub struct Rdram {
     bytes: Vec<u8>,
@@ -21,16 +21,17 @@ impl Model for Rdram {
     ghost invariant = { λ r. IsImageLength (length r.bytes.items) };
 }
 
-/// Fault 7, SizeFault: an image can't have this length. It hands the bytes back.
+/// Fault 7, SizeFault: no image has this length. It returns the bytes to the caller.
 #[derive(Drop)]
 pub struct SizeFault {
-    /// The bytes that were refused.
+    /// The bytes, unchanged.
     pub bytes: Vec<u8>,
 }
 
 impl Rdram {
-    /// An image of these bytes, in place. SizeFault, unless their number is a multiple of 8 from 64
-    /// to 8,388,608.
+    /// The image of these bytes, without a copy.
+    ///
+    /// SizeFault, unless their number is a multiple of 8 from 64 to 8,388,608.
     pub fn from_bytes(bytes: Vec<u8>) -> Result<Rdram, SizeFault>
         ensures ok { IfOk result (λ r. r ≡ bytes.items) }
         ensures fault { IfErr result (λ f. f.bytes ≡ bytes) }
@@ -44,7 +45,7 @@ impl Rdram {
         }
     }
 
-    /// Changes nothing. It says that their number is a multiple of 8 from 64 to 8,388,608.
+    /// Does nothing. Its contract gives the prover a fact: the number of bytes is a multiple of 8 from 64 to 8,388,608.
     #[inline(always)]
     pub fn ranges(&self)
         ensures { IsImageLength (length self.now) }
@@ -52,18 +53,19 @@ impl Rdram {
         let _ = &self.bytes;
     }
 
-    /// Changes nothing. It says that they are numbers below 256, as many as an image can have.
+    /// Does nothing. Its contract gives the prover a fact: there are as many bytes as an image can have, each below
+    /// 256.
     #[inline(always)]
     pub fn byte_ranges(&self)
         ensures { IsImage self.now }
     {
-        // A number that was read is known to be in its type's range. An optimised build drops the loop.
+        // The prover knows the range of a number that is read. An optimised build drops the loop.
         for i in 0..self.len() {
             let _byte = self.bytes[i];
         }
     }
 
-    /// The byte at an address.
+    /// The byte at address `a` modulo 2^24; 0 after the image's end.
     #[inline]
     #[tactic(auto, unfolding(crate::specs::Image::image_byte))]
     pub fn byte(&self, a: u32) -> u8
@@ -75,7 +77,7 @@ impl Rdram {
             .unwrap_or(0)
     }
 
-    /// Writes one byte.
+    /// Writes one byte at address `a` modulo 2^24. After the image's end it writes nothing.
     #[inline]
     #[tactic(auto, unfolding(crate::specs::Image::with_image_byte))]
     pub fn set_byte(&mut self, a: u32, b: u8)
@@ -87,8 +89,7 @@ impl Rdram {
         }
     }
 
-    /// The bytes from an address on, at most `n` of them, as far as they go in the image: none
-    /// past its end.
+    /// At most `n` bytes, from address `a` modulo 2^24 to the image's end; none if `a` is after it.
     pub fn run(&self, a: u32, n: usize) -> &[u8]
         ensures { result.now ≡ take n (drop (a % 16777216) self.now) }
     {
@@ -96,7 +97,9 @@ impl Rdram {
         &self.bytes[at..at + n.min(self.len() - at)]
     }
 
-    /// Writes bytes, one after the other from an address on, of which none wraps past 2^24.
+    /// Writes consecutive bytes from address `a` modulo 2^24 on, and drops those after the image's end.
+    ///
+    /// Requires that no byte passes 2^24.
     pub fn set_bytes(&mut self, a: u32, bytes: &[u8])
         requires { a % 16777216 + length bytes.now ≤ 16777216 }
         ensures { self.new ≡ with_image_bytes self.old a bytes.now }
@@ -115,7 +118,7 @@ impl Rdram {
         self.bytes.len()
     }
 
-    /// Gives the bytes back.
+    /// Returns the bytes.
     pub fn into_bytes(self) -> Vec<u8>
         ensures { result.items ≡ self }
     {

@@ -1,5 +1,7 @@
-//! The memories of the signal processor: [`SpMem`], 4096 bytes of DMEM or IMEM in a ring, and
-//! [`Rdram`], the image of the console's memory that a DMA reads and writes.
+//! The memories of the RSP. [`SpMem`] is DMEM or IMEM, 4096 bytes whose addresses wrap; [`Rdram`] is the image of the
+//! console's main memory, which a DMA reads and writes.
+//!
+//! docs/MACHINE.md has the rules.
 #![tactic(auto)]
 
 mod bank;

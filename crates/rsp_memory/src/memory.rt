@@ -5,11 +5,10 @@ use crate::splice::splice;
 use byteorder::{BigEndian, ByteOrder};
 use std::marker::Model;
 
-/// A memory of the signal processor (DMEM or IMEM): 4096 bytes in a ring.
+/// DMEM or IMEM: 4096 bytes, whose addresses wrap from the last byte to the first.
 ///
-/// Contracts see it as the list of its bytes. An address is taken modulo 4096, byte by byte, so an
-/// access may stand at any address and wraps past the last byte to the first. Halves and words
-/// are big-endian.
+/// Contracts see the list of its bytes. The address of each byte is taken modulo 4096, so an access needs no alignment.
+/// Halfwords and words are big-endian.
 #[derive(Drop)]
 pub struct SpMem {
     bytes: [u8; 4096],
@@ -22,14 +21,14 @@ impl Model for SpMem {
 }
 
 impl SpMem {
-    /// 4096 zero bytes.
+    /// A memory of zeros.
     pub fn new() -> SpMem
         ensures { result ≡ empty_memory }
     {
         SpMem { bytes: [0; 4096] }
     }
 
-    /// Changes nothing. It says that they are 4096 bytes.
+    /// Does nothing. Its contract gives the prover a fact: there are 4096 bytes.
     #[inline(always)]
     pub fn ranges(&self)
         ensures { length self.now ≡ 4096 }
@@ -37,18 +36,18 @@ impl SpMem {
         let _ = &self.bytes;
     }
 
-    /// Changes nothing. It says that they are 4096 numbers below 256.
+    /// Does nothing. Its contract gives the prover a fact: there are 4096 bytes, each below 256.
     #[inline(always)]
     pub fn byte_ranges(&self)
         ensures { IsMemory self.now }
     {
-        // A number that was read is known to be in its type's range. An optimised build drops the loop.
+        // The prover knows the range of a number that is read. An optimised build drops the loop.
         for i in 0..4096 {
             let _byte = self.bytes[i];
         }
     }
 
-    /// The byte at an address.
+    /// The byte at address `a`.
     #[inline]
     #[tactic(auto, unfolding(crate::specs::Memory::byte_at))]
     pub fn byte(&self, a: u32) -> u8
@@ -57,7 +56,7 @@ impl SpMem {
         self.bytes[(a % 4096) as usize]
     }
 
-    /// Writes one byte.
+    /// Writes one byte at address `a`.
     #[inline]
     #[tactic(auto, unfolding(crate::specs::Memory::with_byte))]
     pub fn set_byte(&mut self, a: u32, b: u8)
@@ -66,7 +65,7 @@ impl SpMem {
         self.bytes[(a % 4096) as usize] = b;
     }
 
-    /// The 16 bits from an address on.
+    /// The halfword at address `a`.
     #[inline]
     #[tactic(auto, using(crate::proofs::Wraps::wrapped), unfolding(crate::specs::Memory::half_at))]
     pub fn half(&self, a: u32) -> u16
@@ -75,7 +74,7 @@ impl SpMem {
         BigEndian::read_u16(&[self.byte(a), self.byte(a.wrapping_add(1))])
     }
 
-    /// Writes 16 bits.
+    /// Writes a halfword at address `a`.
     #[inline]
     #[tactic(auto, using(crate::proofs::Wraps::wrapped), unfolding(crate::specs::Memory::with_half))]
     pub fn set_half(&mut self, a: u32, h: u16)
@@ -88,7 +87,7 @@ impl SpMem {
         self.set_byte(a.wrapping_add(1), low);
     }
 
-    /// The 32 bits from an address on.
+    /// The word at address `a`.
     #[inline]
     #[tactic(auto, unfolding(crate::specs::Memory::word_at, crate::specs::Memory::byte_at))]
     pub fn word(&self, a: u32) -> u32
@@ -107,7 +106,7 @@ impl SpMem {
         }
     }
 
-    /// The 32 bits at a place, a multiple of 4 below 4096, from which no word wraps.
+    /// The word at the address `place`, a multiple of 4 below 4096: none of its bytes wraps.
     #[inline(always)]
     #[tactic(auto, unfolding(crate::specs::Memory::word_at, crate::specs::Memory::byte_at))]
     pub fn aligned_word(&self, place: usize) -> u32
@@ -123,7 +122,7 @@ impl SpMem {
         ])
     }
 
-    /// The 32 bits from an address on, of which some may wrap.
+    /// The word at address `a`, byte by byte, since some of its bytes wrap.
     #[cold]
     #[tactic(auto, using(crate::proofs::Wraps::wrapped), unfolding(crate::specs::Memory::word_at))]
     fn wrapping_word(&self, a: u32) -> u32
@@ -137,7 +136,7 @@ impl SpMem {
         ])
     }
 
-    /// Writes 32 bits.
+    /// Writes a word at address `a`.
     #[inline(always)]
     pub fn set_word(&mut self, a: u32, w: u32)
         ensures { self.new ≡ with_word self.old a w }
@@ -152,7 +151,7 @@ impl SpMem {
         }
     }
 
-    /// Writes 32 bits, of which some may wrap.
+    /// Writes a word at address `a`, byte by byte, since some of its bytes wrap.
     #[cold]
     #[tactic(auto, using(crate::proofs::Wraps::wrapped), unfolding(crate::specs::Memory::with_word))]
     fn set_wrapping_word(&mut self, a: u32, w: u32)
@@ -167,8 +166,8 @@ impl SpMem {
         self.set_byte(a.wrapping_add(3), fourth);
     }
 
-    /// The sixteen bytes from an address on, as many as any one load reads or store writes, where they stand: None where some of
-    /// them wrap.
+    /// The sixteen bytes from address `a` on, in place; None if some of them wrap. No vector load or store reaches
+    /// more.
     #[inline(always)]
     pub fn whole_window(&self, a: u32) -> Option<&[u8; 16]>
         ensures { MatchOption result (4080 < a % 4096) (λ bytes. (a % 4096 ≤ 4080) × (bytes.now ≡ bytes_at self.now a 16)) }
@@ -176,8 +175,10 @@ impl SpMem {
         self.bytes[(a % 4096) as usize..].first_chunk::<16>()
     }
 
-    /// The sixteen bytes from an address on, of which some may wrap. It is for where [`SpMem::whole_window`] gives none: put inline, its
-    /// single bytes would break up the window's one read of sixteen.
+    /// The sixteen bytes from address `a` on, byte by byte, since some of them wrap: for a caller that got None from
+    /// [`SpMem::whole_window`].
+    ///
+    /// It isn't inlined, since its single bytes would break up the one read of sixteen bytes beside it.
     #[cold]
     #[inline(never)]
     #[tactic(auto, using(crate::proofs::Wraps::wrapped))]
@@ -204,8 +205,7 @@ impl SpMem {
         ]
     }
 
-    /// The bytes from an address on, at most `n` of them, as far as they go without a wrap: at
-    /// least one, unless `n` is 0.
+    /// At most `n` bytes from address `a` on, up to the first that wraps: at least one, unless `n` is 0.
     pub fn run(&self, a: u32, n: usize) -> &[u8]
         ensures { result.now ≡ take n (drop (a % 4096) self.now) }
     {
@@ -213,7 +213,7 @@ impl SpMem {
         &self.bytes[at..at + n.min(4096 - at)]
     }
 
-    /// Writes at most 4096 bytes, one after the other from an address on.
+    /// Writes consecutive bytes, at most 4096, from address `a` on.
     #[inline(always)]
     pub fn set_bytes(&mut self, a: u32, bytes: &[u8])
         requires { length bytes.now ≤ 4096 }
@@ -227,7 +227,7 @@ impl SpMem {
         }
     }
 
-    /// Writes at most 4096 bytes, of which some may wrap.
+    /// Writes consecutive bytes, at most 4096, from address `a` on. Some of them wrap.
     #[cold]
     #[inline(never)]
     fn set_wrapping_bytes(&mut self, a: u32, bytes: &[u8])

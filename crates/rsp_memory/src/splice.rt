@@ -1,7 +1,7 @@
 ghost use Rattle.std.specs.Prelude.{◌≡◌, ◌≤◌, ◌+◌, length};
 ghost use Rattle.rsp_memory.specs.Splices.{spliced};
 
-/// Writes bytes over those from the place `at` on.
+/// Overwrites the bytes of a list from index `at` on.
 #[inline(always)]
 pub(crate) fn splice(list: &mut [u8], at: usize, bytes: &[u8])
     requires { at + length bytes.now ≤ length list.old }

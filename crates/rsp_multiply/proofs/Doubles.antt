@@ -48,7 +48,7 @@ rounded_middle h l = (doubled_high h l + cond (nat_lt 32767 (doubled_low l)) 1 0
 rounded_number : (h l : ℕ) → h < 65536 → l < 65536 → rounded_middle h l * 65536 + (doubled_low l + 32768) % 65536 ≡ (2 * (h * 65536 + l) + 32768) % 2 ^ 32
 rounded_number h l a b = rw (carry l b, carry (doubled_low l) (omega arith)) (omega arith)
 
--- the planes of twice z and 32768, where m and l are the middle and the low one
+-- the planes of twice z and 32768; m and l are the middle and the low one
 rounded_planes : (z : ℤ) (m l : ℕ) → negsuc (2 ^ 30 - 1) ≤ℤ z → z ≤ℤ pos (2 ^ 30) → m < 65536 → l < 65536
     → m * 65536 + l ≡ (2 * (upper_bits z * 65536 + sixteen_bits z) + 32768) % 2 ^ 32
     → join (doubled_sign (upper_bits z) m) m l ≡ pos 2 *ℤ z +ℤ pos 32768

@@ -70,7 +70,7 @@ shifted_back (negsuc n) =
 pub cut : (n : ℕ) → n < 65536 → bit_and n 65520 ≡ n / 16 * 16
 cut n h = and_high_mask 16 4 (omega arith) n h
 
--- a product, and 31 more where it is negative
+-- a product, and 31 more if it is negative
 pub product_rounded : (p : ℤ) → negsuc (2 ^ 30 - 1) ≤ℤ p → p ≤ℤ pos (2 ^ 30)
     → s48 (p *ℤ pos 65536 +ℤ s16 (cond (int_lt (p *ℤ pos 65536) (pos 0)) 31 0) *ℤ pos 65536) ≡ (if int_lt p (pos 0) then p +ℤ pos 31 else p) *ℤ pos 65536
 product_rounded (pos n) least most = rw (le-ltb n 0 (omega arith), le-ltb (n * 65536) 0 (omega arith)) (s48_is _ _ 0 0 (omega (arith, ints)) (omega (arith, ints)) (omega (arith, ints)))
@@ -78,7 +78,7 @@ product_rounded (negsuc n) least most =
     let e : negsuc n *ℤ pos 65536 ≡ negsuc (n * 65536 + 65535) = omega (arith, ints) in
     rw e (s48_is _ _ 0 0 (omega (arith, ints)) (omega (arith, ints)) (omega (arith, ints)))
 
--- the clamp of a half that stands 65536 times as large in an accumulator
+-- the clamp of a half that is 65536 times as large in an accumulator
 pub half_clamped : (p : ℤ) → clamp_of Signed (floor_div p 2 *ℤ pos 65536) / 16 * 16 ≡ mpeg_half p
 unfolding clamp_of
 half_clamped p = rw (shifted_back (floor_div p 2)) refl

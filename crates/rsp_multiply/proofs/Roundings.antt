@@ -1,4 +1,4 @@
--- What the MPEG rows add, and the sign of an accumulator.
+-- What the instructions for MPEG coefficients add, and the sign of an accumulator.
 use Rattle.std.proofs.Common.{◌≡◌, ◌∙◌, ℕ, ◌-◌, ◌/◌, ◌%◌, ◌^◌, ◌<◌, ℤ, pos, negsuc, ◌+ℤ◌, ◌*ℤ◌, Bool, true, false, cond, nat_lt, arith, refl, ap, sym}
 use Rattle.std.specs.Prelude.{int_lt, if◌then◌else◌}
 use Rattle.std.proofs.lemmas.Int.{ints}
@@ -30,8 +30,8 @@ negative_high (negsuc n) h =
     let b : n < 2 ^ 47 = omega (arith, ints, h.0) in
     lt-ltb 32767 (65535 - n / 2 ^ 32 % 65536) (omega arith)
 
--- a lane that is 0 where a row doesn't round adds nothing there
-pub rounded_lane : (places odd : Bool) (x : ℤ) (b : ℕ) → IsNumber x → s48 (x +ℤ rounding odd (cond places b 0)) ≡ (if places then s48 (x +ℤ rounding odd b) else x)
+-- a lane that is 0 because nothing is rounded there adds nothing
+pub rounded_lane : (adds odd : Bool) (x : ℤ) (b : ℕ) → IsNumber x → s48 (x +ℤ rounding odd (cond adds b 0)) ≡ (if adds then s48 (x +ℤ rounding odd b) else x)
 rounded_lane true odd x b h = refl
 rounded_lane false true x b h = s48_is _ _ 0 0 (omega (arith, ints)) h.0 h.1
 rounded_lane false false x b h = s48_is _ _ 0 0 (omega (arith, ints)) h.0 h.1

@@ -38,7 +38,7 @@ mixed a b h k = by_s16 (λ k z. Mixed a b k (z *ℤ pos b)) a b h
     let r = ap (λ m. m * b) e in
     record { relation = omega (arith, ints, r); low = omega (arith, ints); high = omega (arith, ints); small = k })
 
--- two signed numbers: k is what the unsigned product has too many, and m is 1 where both are negative
+-- two signed numbers: k is what the unsigned product has too many, and m is 1 if both are negative
 pub record Signed (a b k j m : ℕ) (z : ℤ) : Type 0 where
   pub relation : z +ℤ pos (65536 * (k + j)) ≡ pos (a * b + m * 2 ^ 32)
   pub low : negsuc (2 ^ 30 - 1) ≤ℤ z

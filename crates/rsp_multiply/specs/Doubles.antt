@@ -1,8 +1,8 @@
--- Scaffolding of the code: a number of 32 bits by its halves, doubled.
+-- Scaffolding of the code: twice a number of 32 bits, by its halves.
 use Rattle.std.specs.Prelude.{ℕ, pos, ◌+◌, ◌%◌, nat_lt, int_lt, if◌then◌else◌}
 use Rattle.rsp_numbers.specs.Numbers.{s16}
 
--- the halves of twice the number with the high half h and the low half l, modulo 2^32
+-- the halves of twice the number with high half h and low half l, modulo 2^32
 abbrev pub doubled_high : ℕ → ℕ → ℕ
 doubled_high h l = ((h + h) % 65536 + (if nat_lt 32767 l then 1 else 0)) % 65536
 

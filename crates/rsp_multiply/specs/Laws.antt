@@ -1,4 +1,4 @@
--- A replacing row, and accumulating rows after it.
+-- A multiply that replaces the accumulators, and multiplies after it that add to them.
 use Rattle.std.specs.Prelude.{ℕ, ℤ, pos, ◌+ℤ◌, ◌<◌, ◌≡◌, true, false, List, [], ◌∷◌, slice_index, All}
 use Rattle.rsp_lanes.specs.Lanes.{each_lane, IsVector, selected}
 use Rattle.rsp_numbers.specs.Numbers.{s48}
@@ -6,7 +6,7 @@ use Rattle.rsp_acc.specs.Parts.{clamp_of}
 use Rattle.rsp_multiply.specs.declared.op.MultiplyOp.{MultiplyOp}
 use Rattle.rsp_multiply.specs.Rows.{row, accumulators_after, clamped_by}
 
--- a multiply instruction: its row, the lanes of its registers vs and vt, and its element
+-- a multiply instruction: its operation, the lanes of its registers vs and vt, and its element
 pub record Step : Type 0 where
   pub op : MultiplyOp
   pub vs : List ℕ
@@ -21,11 +21,11 @@ IsStep s = IsVector s.vs × IsVector s.vt × (s.element < 16)
 abbrev pub operand : Step → List ℕ
 operand s = selected s.vt s.element
 
--- what the instruction makes of the operands' lanes i
+-- what the instruction makes of lane i of its operands
 abbrev pub addend_of : Step → ℕ → ℤ
 addend_of s i = (row s.op).addend (slice_index s.vs i) (slice_index (operand s) i)
 
--- the eight accumulators after the instructions, from those before them
+-- the accumulators after the instructions, from those before
 abbrev pub after : List Step → List ℤ → List ℤ
 after [] xs = xs
 after (s ∷ ss) xs = after ss (accumulators_after s.op s.vs (operand s) xs)
@@ -35,19 +35,19 @@ abbrev pub results : List Step → List ℤ → List (List ℕ)
 results [] xs = []
 results (s ∷ ss) xs = clamped_by s.op (accumulators_after s.op s.vs (operand s) xs) ∷ results ss (accumulators_after s.op s.vs (operand s) xs)
 
--- the sum of all the addends of lane i, as a whole number that never wraps
+-- the sum of the addends of lane i, as a whole number that never wraps
 abbrev pub sum_of : List Step → ℕ → ℤ
 sum_of [] i = pos 0
 sum_of (s ∷ ss) i = addend_of s i +ℤ sum_of ss i
 
--- for each instruction in order its clamp of s48 of the sum so far, where `sum i` is the sum of lane i before them
+-- for each instruction in order, its clamp of s48 of the sum so far; `sum i` is the sum of lane i before them
 abbrev pub clamped_sums : List Step → (ℕ → ℤ) → List (List ℕ)
 clamped_sums [] sum = []
 clamped_sums (s ∷ ss) sum =
     each_lane (λ i. clamp_of (row s.op).clamp (s48 (sum i +ℤ addend_of s i))) ∷ clamped_sums ss (λ i. sum i +ℤ addend_of s i)
 
--- after a replacing instruction and any accumulating ones each accumulator is s48 of the sum of all the
--- addends, and each result is its row's clamp of s48 of the sum so far
+-- each accumulator is s48 of the sum of all addends, and each result is its instruction's clamp of s48 of the sum so
+-- far
 abbrev pub SumsOfProducts : Type 0
 SumsOfProducts =
     (first : Step) (more : List Step) (before : List ℤ)

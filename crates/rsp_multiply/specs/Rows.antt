@@ -1,4 +1,4 @@
--- The twelve multiplies, each by its addend, whether it adds to the accumulator, and its clamp.
+-- The twelve multiplies, each by its addend, whether it adds to the accumulator, and its clamp; and VSAR.
 use Rattle.std.specs.Prelude.{ℕ, ℤ, pos, ◌*◌, ◌/◌, ◌+ℤ◌, ◌*ℤ◌, Bool, true, false, List, slice_index, nat_eq, if◌then◌else◌}
 use Rattle.rsp_lanes.specs.Lanes.{each_lane}
 use Rattle.rsp_numbers.specs.Numbers.{s16, s48, number, high, middle, low}
@@ -8,38 +8,38 @@ use Rattle.rsp_acc.specs.declared.parts.Clamp.TheVariants.{Signed, Unsigned, Low
 use Rattle.rsp_multiply.specs.declared.op.MultiplyOp.{MultiplyOp}
 use Rattle.rsp_multiply.specs.declared.op.MultiplyOp.TheVariants.{Vmulf, Vmulu, Vmudl, Vmudm, Vmudn, Vmudh, Vmacf, Vmacu, Vmadl, Vmadm, Vmadn, Vmadh}
 
--- a multiply row: what it makes of a lane a of vs and a lane b of the selected vt, whether that is
--- added to the accumulator or replaces it, and how the result is taken from the accumulator
+-- the rule of a multiply: its addend, from a lane a of vs and a lane b of the selected vt; whether that is added to the
+-- accumulator or replaces it; and the clamp of the accumulator that is the result
 pub record Row : Type 0 where
   pub addend : ℕ → ℕ → ℤ
   pub adds : Bool
   pub clamp : Clamp
 
--- twice the product of the lanes as signed numbers
+-- twice the product of the lanes as signed values
 abbrev pub fraction : ℕ → ℕ → ℤ
 fraction a b = pos 2 *ℤ (s16 a *ℤ s16 b)
 
--- the same and one half of 65536
+-- the same plus 32768
 abbrev pub rounded : ℕ → ℕ → ℤ
 rounded a b = fraction a b +ℤ pos 32768
 
--- the product of the lanes as unsigned numbers, divided by 65536 and rounded down
+-- the product of the lanes as unsigned values, divided by 65536 and rounded down
 abbrev pub unsigned_over_65536 : ℕ → ℕ → ℤ
 unsigned_over_65536 a b = pos (a * b / 65536)
 
--- a as a signed number by b as an unsigned one
+-- the product of a as a signed value and b as an unsigned one
 abbrev pub signed_by_unsigned : ℕ → ℕ → ℤ
 signed_by_unsigned a b = s16 a *ℤ pos b
 
--- a as an unsigned number by b as a signed one
+-- the product of a as an unsigned value and b as a signed one
 abbrev pub unsigned_by_signed : ℕ → ℕ → ℤ
 unsigned_by_signed a b = pos a *ℤ s16 b
 
--- the product of the lanes as signed numbers, times 65536
+-- the product of the lanes as signed values, times 65536
 abbrev pub signed_times_65536 : ℕ → ℕ → ℤ
 signed_times_65536 a b = (s16 a *ℤ s16 b) *ℤ pos 65536
 
--- the table of the twelve rows
+-- the rule of each multiply
 abbrev pub row : MultiplyOp → Row
 row Vmulf = record { addend = rounded; adds = false; clamp = Signed }
 row Vmulu = record { addend = rounded; adds = false; clamp = Unsigned }
@@ -54,20 +54,20 @@ row Vmadm = record { addend = signed_by_unsigned; adds = true; clamp = Signed }
 row Vmadn = record { addend = unsigned_by_signed; adds = true; clamp = LowKind }
 row Vmadh = record { addend = signed_times_65536; adds = true; clamp = Signed }
 
--- the accumulator x after a row on the lanes a and b
+-- the accumulator x after a multiply of the lanes a and b
 abbrev pub accumulated : MultiplyOp → ℤ → ℕ → ℕ → ℤ
 accumulated op x a b = s48 (if (row op).adds then x +ℤ (row op).addend a b else (row op).addend a b)
 
--- the sixteen bits of the accumulator x that VSAR reads: the high ones for e 8, the middle ones for
--- e 9, the low ones for e 10, and 0 for any other e
+-- VSAR's result: the high sixteen bits of the accumulator x for e 8, the middle ones for e 9, the low ones for e 10,
+-- else 0
 abbrev pub sar_lane : ℕ → ℤ → ℕ
 sar_lane e x = if nat_eq e 8 then high x else if nat_eq e 9 then middle x else if nat_eq e 10 then low x else 0
 
--- the eight accumulators after a row on the registers a and b, from the eight before it
+-- the eight accumulators after a multiply of the registers a and b, from those before
 unfoldable pub accumulators_after : MultiplyOp → List ℕ → List ℕ → List ℤ → List ℤ
 accumulators_after op a b xs = each_lane (λ i. accumulated op (number xs i) (slice_index a i) (slice_index b i))
 
--- the result of a row, from the eight accumulators after it
+-- the result of a multiply, from the accumulators after it
 unfoldable pub clamped_by : MultiplyOp → List ℤ → List ℕ
 clamped_by op xs = each_lane (λ i. clamp_of (row op).clamp (number xs i))
 

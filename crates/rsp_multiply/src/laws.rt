@@ -1,10 +1,10 @@
-//! A law about the multiply rows alone: the contract of a function that does nothing.
+//! A law of the multiplies: the contract of a function that does nothing.
 
 ghost use Rattle.rsp_multiply.specs.Laws.{SumsOfProducts};
 
-/// Sums of products: after a multiply that replaces the accumulators, followed by any list of
-/// multiplies that add to them, with any registers and elements, each accumulator is the sum of
-/// all the addends as a number of 48 bits, and each result is its row's clamp of the sum so far.
+/// Sums of products. After a multiply that replaces the accumulators, and any list of multiplies that add to them, each
+/// accumulator is the sum of all addends, modulo 2^48 as a signed value. The result of each instruction is its clamp of
+/// the sum so far. The registers and elements are any.
 pub fn l4()
     ensures { SumsOfProducts }
 {}

@@ -1,13 +1,15 @@
-//! The vector unit's twelve multiplies, VSAR and the four rows for MPEG coefficients, over any implementation of the
-//! accumulators.
+//! The vector unit's twelve multiplies, VSAR, and the four instructions for MPEG coefficients, over any implementation
+//! of the accumulators.
+//!
+//! docs/INSTRUCTIONS.md, "Multiplies" and "MPEG coefficients", has the rules.
 #![tactic(auto)]
 
 pub mod laws;
 mod mpeg;
+mod multiplies;
 mod op;
 mod products;
-mod rows;
 
 pub use mpeg::{mpeg_op, round_op};
+pub use multiplies::{multiply, sar};
 pub use op::{MpegOp, MultiplyOp, RoundOp};
-pub use rows::{multiply, sar};

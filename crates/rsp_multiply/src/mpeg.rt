@@ -1,5 +1,5 @@
-//! The rows for MPEG coefficients. What a lane adds is put together as a register of sixteen bits first, 0 where
-//! the row adds nothing, so one addition serves all eight.
+//! The instructions for MPEG coefficients. The addends of all lanes are put into a register first, 0 for a lane that
+//! adds nothing, so one addition serves all eight.
 
 ghost use Rattle.std.specs.Prelude.{◌≡◌, ◌*ℤ◌, pos, slice_index, int_lt};
 ghost use Rattle.rsp_lanes.specs.Lanes.{each_lane};
@@ -11,7 +11,7 @@ use crate::products::signed_times_65536;
 use rsp_acc::{Acc, Addends, Clamp, Part};
 use rsp_lanes::{Mask8, VReg};
 
-/// The lanes as signed numbers.
+/// The lanes as signed values.
 #[inline(always)]
 fn signed(lanes: &VReg) -> Addends
     ensures { result ≡ each_lane (λ i. s16 (slice_index lanes.now i)) }
@@ -23,7 +23,7 @@ fn signed(lanes: &VReg) -> Addends
     Addends::from_planes(&sign, &sign, lanes)
 }
 
-/// The lanes as signed numbers, times 65536.
+/// The lanes as signed values, times 65536.
 #[inline(always)]
 fn shifted(lanes: &VReg) -> Addends
     ensures { result ≡ each_lane (λ i. s16 (slice_index lanes.now i) *ℤ pos 65536) }
@@ -34,7 +34,7 @@ fn shifted(lanes: &VReg) -> Addends
     Addends::from_planes(&sign, lanes, &zeros)
 }
 
-/// What a rounding row adds, from the lanes of the selected vt.
+/// What VRNDP and VRNDN add, from the lanes of the selected vt.
 #[inline(always)]
 fn rounding(odd: bool, lanes: &VReg) -> Addends
     ensures { result ≡ each_lane (λ i. rounding odd (slice_index lanes.now i)) }
@@ -42,7 +42,7 @@ fn rounding(odd: bool, lanes: &VReg) -> Addends
     if odd { shifted(lanes) } else { signed(lanes) }
 }
 
-/// Where the accumulator is negative.
+/// The lanes whose accumulator is negative.
 #[inline(always)]
 fn negative<A: Acc>(acc: &A) -> Mask8
     ensures { result ≡ each_lane (λ i. int_lt (number (A.numbers acc.now) i) (pos 0)) }
@@ -51,9 +51,9 @@ fn negative<A: Acc>(acc: &A) -> Mask8
     acc.part(Part::High).is_negative()
 }
 
-/// Where the row adds to the accumulator.
+/// The lanes whose accumulator VRNDP or VRNDN adds to.
 #[inline(always)]
-fn places<A: Acc>(op: RoundOp, acc: &A) -> Mask8
+fn rounding_lanes<A: Acc>(op: RoundOp, acc: &A) -> Mask8
     ensures { result ≡ each_lane (λ i. rounding_adds op (number (A.numbers acc.now) i)) }
 {
     let negative = negative(acc);
@@ -63,21 +63,23 @@ fn places<A: Acc>(op: RoundOp, acc: &A) -> Mask8
     }
 }
 
-/// A row that rounds: b is the selected vt, and `odd` tells whether the number of vs is odd. VRNDP adds to the
-/// accumulators that are 0 or more, VRNDN to the negative ones, as numbers of 48 bits, what b holds as signed numbers,
-/// times 65536 for an odd vs. The result is the signed clamp of all eight.
+/// VRNDP or VRNDN: `b` is the selected vt, and `odd` is true if the number of vs is odd.
+///
+/// VRNDP adds to the accumulators that are 0 or more, VRNDN to the negative ones. What is added is the lane of b as a
+/// signed value, times 65536 if `odd`; the sum is taken modulo 2^48, as a signed value. The result is the signed clamp
+/// of all eight accumulators after it.
 #[inline(always)]
 pub fn round_op<A: Acc>(op: RoundOp, odd: bool, b: &VReg, acc: &mut A) -> VReg
     ensures accumulators { A.numbers acc.new ≡ accumulators_rounded op odd b.now (A.numbers acc.old) }
     ensures value { result ≡ clamped_signed (A.numbers acc.new) }
 {
     acc.ranges();
-    let lanes = places(op, acc).merge(b, &VReg::new());
+    let lanes = rounding_lanes(op, acc).merge(b, &VReg::new());
     acc.add(&rounding(odd, &lanes));
     acc.clamp(Clamp::Signed)
 }
 
-/// The steps of VMACQ, as sixteen bits.
+/// What VMACQ adds to the accumulators' bits 47 to 16: 32, 0 or -32, as sixteen bits.
 #[inline(always)]
 fn steps<A: Acc>(acc: &A) -> VReg
     ensures { result ≡ each_lane (λ i. sixteen_bits (vmacq_step (floor_div (number (A.numbers acc.now) i) 65536))) }
@@ -94,8 +96,10 @@ fn steps<A: Acc>(acc: &A) -> VReg
     is_small.merge(&zeros, &is_clear.merge(&step, &zeros))
 }
 
-/// The accumulators without their low sixteen bits, halved and rounded down, times 65536: a product with 8000 hex is a
-/// shift by one place to the right, and what falls out below is its low half.
+/// The accumulators' bits 47 to 16, halved and rounded down, times 65536.
+///
+/// A product with 8000 hex is a shift to the right by one bit. Its low half holds the bit that is shifted out, for the
+/// plane below.
 #[inline(always)]
 fn halves<A: Acc>(acc: &A) -> Addends
     ensures { result ≡ each_lane (λ i. floor_div (floor_div (number (A.numbers acc.now) i) 65536) 2 *ℤ pos 65536) }
@@ -111,8 +115,7 @@ fn halves<A: Acc>(acc: &A) -> Addends
     Addends::from_planes(&upper, &lower.add(&carried), &zeros)
 }
 
-/// The result of an MPEG multiply, from the accumulators after it. What is clamped are other accumulators, which hold
-/// the halves.
+/// The result of VMULQ or VMACQ, from the accumulators after it: the halves are clamped as accumulators of their own.
 #[inline(always)]
 fn halved<A: Acc>(acc: &A) -> VReg
     ensures { result ≡ halved_mpeg (A.numbers acc.now) }
@@ -124,10 +127,13 @@ fn halved<A: Acc>(acc: &A) -> VReg
     clamped.and(&VReg::splat(0xfff0))
 }
 
-/// One of the two MPEG multiplies: a is the register vs, b the selected vt. With VMULQ the accumulators become p times
-/// 65536, where p is the signed product of the lanes, and 31 more where that is negative. With VMACQ p is the accumulator
-/// without its low sixteen bits, which are kept, and goes 32 toward 0 where its bit 5 is clear and it isn't 0 to 31. The
-/// result is half of p, rounded down, limited to 16 bits, with its low four bits cleared.
+/// VMULQ or VMACQ: `a` is the register vs, `b` the selected vt.
+///
+/// VMULQ: p is the product of the lanes as signed values, plus 31 if that is negative; the accumulator becomes p times
+/// 65536. VMACQ: p is bits 47 to 16 of the accumulator as a signed value; if its bit 5 is clear, 32 is added to a negative p, and
+/// subtracted from a p of 32 or more; the accumulator's low sixteen bits are kept.
+///
+/// The result is half of p, rounded down, clamped to 16 bits, with its low four bits cleared.
 #[inline(always)]
 pub fn mpeg_op<A: Acc>(op: MpegOp, a: &VReg, b: &VReg, acc: &mut A) -> VReg
     ensures accumulators { A.numbers acc.new ≡ accumulators_mpeg op a.now b.now (A.numbers acc.old) }
@@ -141,7 +147,7 @@ pub fn mpeg_op<A: Acc>(op: MpegOp, a: &VReg, b: &VReg, acc: &mut A) -> VReg
     halved(acc)
 }
 
-/// Products, and 31 more where they are negative, times 65536.
+/// VMULQ's accumulators: the products, plus 31 if they are negative, times 65536.
 #[inline(always)]
 fn multiply_rounded<A: Acc>(a: &VReg, b: &VReg, acc: &mut A)
     ensures { A.numbers acc.new ≡ accumulators_mpeg MpegOp.Vmulq a.now b.now (A.numbers acc.old) }

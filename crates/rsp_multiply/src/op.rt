@@ -1,40 +1,42 @@
-// The operations of this crate, named as the instructions that they are of.
+// The operations of this crate, each named as its instruction.
 
-/// The twelve multiplies, lane by lane, into the accumulator.
+/// The twelve multiplies, lane by lane. The first six replace the accumulator, the last six add to it; the result is a
+/// clamp of the accumulator. sa and sb are the lanes of vs and of the selected vt as signed values, ua and ub as
+/// unsigned ones.
 #[derive(Clone, Copy)]
 pub enum MultiplyOp {
-    /// `vmulf`: signed fractions, rounded.
+    /// `vmulf`: 2 sa sb + 32768, a rounded fraction; signed clamp.
     Vmulf,
-    /// `vmulu`: the same, the result unsigned.
+    /// `vmulu`: 2 sa sb + 32768; unsigned clamp.
     Vmulu,
-    /// `vmudl`: the upper half of an unsigned product.
+    /// `vmudl`: ua ub / 65536, rounded down; low clamp.
     Vmudl,
-    /// `vmudm`: signed by unsigned.
+    /// `vmudm`: sa ub; signed clamp.
     Vmudm,
-    /// `vmudn`: unsigned by signed.
+    /// `vmudn`: ua sb; low clamp.
     Vmudn,
-    /// `vmudh`: signed, 16 bits up.
+    /// `vmudh`: 65536 sa sb; signed clamp.
     Vmudh,
-    /// `vmacf`: adds signed fractions.
+    /// `vmacf`: adds 2 sa sb; signed clamp.
     Vmacf,
-    /// `vmacu`: the same, the result unsigned.
+    /// `vmacu`: adds 2 sa sb; unsigned clamp.
     Vmacu,
-    /// `vmadl`: adds the upper half of an unsigned product.
+    /// `vmadl`: adds ua ub / 65536, rounded down; low clamp.
     Vmadl,
-    /// `vmadm`: adds signed by unsigned.
+    /// `vmadm`: adds sa ub; signed clamp.
     Vmadm,
-    /// `vmadn`: adds unsigned by signed.
+    /// `vmadn`: adds ua sb; low clamp.
     Vmadn,
-    /// `vmadh`: adds signed, 16 bits up.
+    /// `vmadh`: adds 65536 sa sb; signed clamp.
     Vmadh,
 }
 
-/// Roundings of the accumulator by its sign.
+/// Instructions that add to the accumulators of one sign, to round them.
 #[derive(Clone, Copy)]
 pub enum RoundOp {
-    /// `vrndp`: if it is 0 or more.
+    /// `vrndp`: to those that are 0 or more.
     Vrndp,
-    /// `vrndn`: if it is negative.
+    /// `vrndn`: to the negative ones.
     Vrndn,
 }
 
@@ -43,6 +45,6 @@ pub enum RoundOp {
 pub enum MpegOp {
     /// `vmulq`: a signed product, rounded toward 0.
     Vmulq,
-    /// `vmacq`: a step of the accumulator toward an odd multiple of 32.
+    /// `vmacq`: adds 32 to, or subtracts it from, bits 47 to 16 of the accumulator, toward 0.
     Vmacq,
 }

@@ -1,4 +1,4 @@
-//! Products of lanes, by their halves of sixteen bits.
+//! Products of lanes as addends, from their halves of sixteen bits.
 
 ghost use Rattle.std.specs.Prelude.{◌≡◌, ◌*ℤ◌, pos, slice_index, nat_lt, if◌then◌else◌};
 ghost use Rattle.rsp_lanes.specs.Lanes.{each_lane};
@@ -9,7 +9,7 @@ ghost use Rattle.rsp_multiply.specs.Rows.{rounded, unsigned_over_65536, signed_b
 use rsp_acc::Addends;
 use rsp_lanes::VReg;
 
-/// The high and the low half of the products of the lanes as signed numbers.
+/// The high and the low halves of the products of the lanes as signed values.
 #[inline(always)]
 pub(crate) fn signed_product(a: &VReg, b: &VReg) -> (VReg, VReg)
     ensures high { result.0 ≡ each_lane (λ i. upper_bits (s16 (slice_index a.now i) *ℤ s16 (slice_index b.now i))) }
@@ -22,8 +22,7 @@ pub(crate) fn signed_product(a: &VReg, b: &VReg) -> (VReg, VReg)
     (high, low)
 }
 
-/// The high and the low half of the products of a's lanes as signed numbers and b's as unsigned
-/// ones.
+/// The high and the low halves of the products of a's lanes as signed values and b's as unsigned ones.
 #[inline(always)]
 pub(crate) fn mixed_product(a: &VReg, b: &VReg) -> (VReg, VReg)
     ensures high { result.0 ≡ each_lane (λ i. upper_bits (s16 (slice_index a.now i) *ℤ pos (slice_index b.now i))) }
@@ -36,7 +35,7 @@ pub(crate) fn mixed_product(a: &VReg, b: &VReg) -> (VReg, VReg)
     (high, low)
 }
 
-/// 1 where the top bit of the lane is set, else 0: what a doubled lane carries to the lane above it.
+/// 1 for each lane whose top bit is set, else 0: the carry out of the doubled lane.
 #[inline(always)]
 fn top_bit(lanes: &VReg) -> VReg
     ensures { result ≡ each_lane (λ i. if nat_lt 32767 (slice_index lanes.now i) then 1 else 0) }
@@ -61,9 +60,11 @@ fn doubled(high: &VReg, low: &VReg) -> (VReg, VReg)
     (high.add(high).add(&top_bit(low)), low.add(low))
 }
 
-/// All ones where twice a product is negative, or twice a product and one half of 65536, else 0: by the high half of the product and
-/// the middle plane of what is asked. That plane is right but where 31 bits aren't enough, and there the number is positive.
-/// The sign of `high` would be as good, but LLVM takes that from products of 32 bits, which cost more.
+/// The high plane of twice a product, or of twice a product plus 32768: all ones if that is negative, else 0. `high` is
+/// the high half of the product, `middle` the middle plane of the addend.
+///
+/// The sign of `middle` is right, unless the addend doesn't fit into 32 bits; then the addend is positive, and `high`
+/// is above 3FFE hex. The sign of `high` would do too, but LLVM takes it from products of 32 bits.
 #[inline(always)]
 fn doubled_sign(high: &VReg, middle: &VReg) -> VReg
     ensures { result ≡ each_lane (λ i. doubled_sign (slice_index high.now i) (slice_index middle.now i)) }
@@ -72,7 +73,7 @@ fn doubled_sign(high: &VReg, middle: &VReg) -> VReg
     is_large.merge(&VReg::new(), &middle.sign())
 }
 
-/// Twice the signed products.
+/// Twice the products of the lanes as signed values.
 #[inline(always)]
 pub(crate) fn fraction(a: &VReg, b: &VReg) -> Addends
     ensures { result ≡ each_lane (λ i. fraction (slice_index a.now i) (slice_index b.now i)) }
@@ -84,7 +85,7 @@ pub(crate) fn fraction(a: &VReg, b: &VReg) -> Addends
     Addends::from_planes(&doubled_sign(&high, &middle), &middle, &low)
 }
 
-/// Twice the signed products and one half of 65536.
+/// Twice the products of the lanes as signed values, plus 32768.
 #[inline(always)]
 pub(crate) fn rounded(a: &VReg, b: &VReg) -> Addends
     ensures { result ≡ each_lane (λ i. rounded (slice_index a.now i) (slice_index b.now i)) }
@@ -98,7 +99,7 @@ pub(crate) fn rounded(a: &VReg, b: &VReg) -> Addends
     Addends::from_planes(&sign, &middle, &low.add(&VReg::splat(0x8000)))
 }
 
-/// The unsigned products divided by 65536, rounded down.
+/// The products of the lanes as unsigned values, divided by 65536 and rounded down.
 #[inline(always)]
 pub(crate) fn unsigned_over_65536(a: &VReg, b: &VReg) -> Addends
     ensures { result ≡ each_lane (λ i. unsigned_over_65536 (slice_index a.now i) (slice_index b.now i)) }
@@ -110,7 +111,7 @@ pub(crate) fn unsigned_over_65536(a: &VReg, b: &VReg) -> Addends
     Addends::from_planes(&zeros, &zeros, &high)
 }
 
-/// The products of a's lanes as signed numbers and b's as unsigned ones.
+/// The products of a's lanes as signed values and b's as unsigned ones.
 #[inline(always)]
 pub(crate) fn signed_by_unsigned(a: &VReg, b: &VReg) -> Addends
     ensures { result ≡ each_lane (λ i. signed_by_unsigned (slice_index a.now i) (slice_index b.now i)) }
@@ -121,7 +122,7 @@ pub(crate) fn signed_by_unsigned(a: &VReg, b: &VReg) -> Addends
     from_halves(&high, &low)
 }
 
-/// The signed products times 65536.
+/// The products of the lanes as signed values, times 65536.
 #[inline(always)]
 pub(crate) fn signed_times_65536(a: &VReg, b: &VReg) -> Addends
     ensures { result ≡ each_lane (λ i. signed_times_65536 (slice_index a.now i) (slice_index b.now i)) }

@@ -1,4 +1,4 @@
--- The signed readings of sixteen and of 32 bits, by the sign.
+-- The signed values of sixteen and of 32 bits, by the sign.
 use Rattle.std.proofs.Common.{◌≡◌, ℕ, ◌-◌, ◌^◌, ◌<◌, ◌≤◌, pos, negsuc, arith, ap}
 use Rattle.std.proofs.lemmas.Int.{ints}
 use Rattle.std.proofs.lemmas.Bool.{le-ltb}

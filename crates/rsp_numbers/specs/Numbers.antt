@@ -1,4 +1,4 @@
--- Whole numbers, their signed readings of 16, 32 and 48 bits, and the parts of an accumulator.
+-- Signed values of 16, 32 and 48 bits, and the high, middle and low parts of an accumulator.
 use Rattle.std.specs.Prelude.{ℕ, ℤ, pos, negsuc, ◌+◌, ◌*◌, ◌/◌, ◌%◌, ◌^◌, ◌==◌, Bool, ◌+ℤ◌, ◌-ℤ◌, unsigned_abs, List, slice_index_or, length, ◌-◌, ◌≡◌, ◌≤ℤ◌, ◌<ℤ◌}
 use Rattle.std.specs.Int.{int_rem_euclid, int_div_euclid, int_min, int_max, Width, cast_signed, w16, w32}
 
@@ -18,43 +18,45 @@ sixteen_bits z = modulo z 65536
 abbrev pub upper_bits : ℤ → ℕ
 upper_bits z = sixteen_bits (floor_div z 65536)
 
--- the sixteen bits of n, each inverted
+-- the sixteen bits of n, each inverted: n is below 2^16
 abbrev pub complement : ℕ → ℕ
 complement n = 65535 - n
 
--- the sixteen bits of -n
+-- the sixteen bits of -n: n is at most 2^16
 abbrev pub negated : ℕ → ℕ
 negated n = (65536 - n) % 65536
 
--- the number from -2^47 to 2^47 - 1 that differs from z by a multiple of 2^48
+-- the signed value of 48 bits: the number from -2^47 to 2^47 - 1 that differs from z by a multiple of 2^48
 unfoldable pub s48 : ℤ → ℤ
 s48 z = pos (modulo (z +ℤ pos (2 ^ 47)) (2 ^ 48)) -ℤ pos (2 ^ 47)
 
--- sixteen bits, a number below 2^16, as a signed number: the one from -2^15 to 2^15 - 1 that differs from n by a multiple of 2^16
+-- the signed value of sixteen bits, n below 2^16: the number from -2^15 to 2^15 - 1 that differs from n by a multiple
+-- of 2^16
 abbrev pub s16 : ℕ → ℤ
 s16 n = cast_signed w16 n
 
--- 32 bits, a number below 2^32, as a signed number: the one from -2^31 to 2^31 - 1 that differs from n by a multiple of 2^32
+-- the signed value of 32 bits, n below 2^32: the number from -2^31 to 2^31 - 1 that differs from n by a multiple of
+-- 2^32
 abbrev pub s32 : ℕ → ℤ
 s32 n = cast_signed w32 n
 
--- w bits as a signed number, modulo 2^32
+-- w bits, n below 2^w, sign-extended to 32 bits: the signed value modulo 2^32
 abbrev pub extended : Width → ℕ → ℕ
 extended w n = modulo (cast_signed w n) (2 ^ 32)
 
--- z limited to -32768 .. 32767
+-- z clamped to -32768 .. 32767
 unfoldable pub clamp16 : ℤ → ℤ
 clamp16 z = int_max (negsuc 32767) (int_min (pos 32767) z)
 
--- the high sixteen bits of an accumulator x: floor(x / 2^32) modulo 2^16
+-- the high sixteen bits of an accumulator x, bits 47 to 32: floor(x / 2^32) modulo 2^16
 unfoldable pub high : ℤ → ℕ
 high x = sixteen_bits (floor_div x (2 ^ 32))
 
--- the middle sixteen bits: floor(x / 2^16) modulo 2^16
+-- the middle sixteen bits, 31 to 16: floor(x / 2^16) modulo 2^16
 unfoldable pub middle : ℤ → ℕ
 middle x = sixteen_bits (floor_div x (2 ^ 16))
 
--- the low sixteen bits: x modulo 2^16
+-- the low sixteen bits, 15 to 0: x modulo 2^16
 unfoldable pub low : ℤ → ℕ
 low x = sixteen_bits x
 
@@ -66,7 +68,7 @@ join h m l = s48 (pos (h * 2 ^ 32 + m * 2 ^ 16 + l))
 abbrev pub bit_set : ℕ → ℕ → Bool
 bit_set n i = n / 2 ^ i % 2 == 1
 
--- number i of a list, 0 past its end
+-- number i of a list; 0 after its end
 abbrev pub number : List ℤ → ℕ → ℤ
 number xs i = slice_index_or xs i (pos 0)
 

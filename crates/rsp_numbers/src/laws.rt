@@ -1,14 +1,14 @@
-//! Facts about the definitions alone: each is the contract of a function that does nothing.
+//! Laws of the definitions. Each is the contract of a function that does nothing.
 
 ghost use Rattle.rsp_numbers.specs.Laws.{PartsOfJoin, Readings};
 
-/// Each signed reading, of 16, 32 and 48 bits, lies in its range and differs from what it reads by a
-/// multiple of 2^16, 2^32 or 2^48; and it is the only number that does.
+/// `s16`, `s32` and `s48` give signed values. Each lies in its range, differs from its argument by a multiple of 2^16,
+/// 2^32 or 2^48, and is the only number that does both.
 pub fn signed_readings()
     ensures { Readings }
 {}
 
-/// The high, middle and low parts of a joined number are what it was joined from.
+/// The high, middle and low sixteen bits of a joined accumulator are those that it was joined from.
 pub fn parts_of_join()
     ensures { PartsOfJoin }
 {}

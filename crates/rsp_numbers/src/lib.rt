@@ -1,9 +1,11 @@
-//! The numbers that the machine computes with, in the contracts: the low bits of a number, its
-//! signed readings of 16, 32 and 48 bits, the high, middle and low parts of an accumulator, and
-//! the clamp to 16 bits.
+//! Numbers of 16, 32 and 48 bits: signed values, the high, middle and low parts of an accumulator, and the clamp to 16
+//! bits.
 //!
-//! The definitions stand in `specs/Numbers.antt`; no code is behind them. `laws` proves what
-//! they are known by.
+//! The definitions are in `specs/Numbers.antt`, for the contracts of all crates; `laws` proves what characterizes them.
+//! Of code there is only [`sign_extend`], which scalar instructions and moves share.
 #![tactic(auto)]
 
 pub mod laws;
+mod sign;
+
+pub use sign::sign_extend;

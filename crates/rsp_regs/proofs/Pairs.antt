@@ -10,7 +10,7 @@ use Rattle.rsp_memory.proofs.Runs.{run_turn}
 use Rattle.rsp_regs.specs.declared.transfer.Transfer.{Transfer}
 use Rattle.rsp_regs.specs.Dma.{row_pairs, row, first_rows, one_in, one_out, copied_in, copied_out}
 
--- a fold over what f makes of the numbers below i + 1
+-- a fold over f of the numbers below i + 1
 fold_map_more : {A B : Type 0} (step : B → A → B) (s : B) (f : ℕ → A) (i : ℕ)
     → fold step s (map f (range_with_len 0 (i + 1))) ≡ step (fold step s (map f (range_with_len 0 i))) (f i)
 fold_map_more step s f i = ap (fold step s) (map-range_with_len_more f 0 i i (omega arith)) ∙ fold_push step s (map f (range_with_len 0 i)) (f i)
@@ -72,7 +72,7 @@ row_out-turn bank image sp dram i n run now then s =
     (row_out-more bank image sp dram)
     (λ k l. byte_at-at bank (sp + i + k) ((sp + i) % 4096) k (omega (arith, length-drop ((sp + i) % 4096) bank)))
 
--- past the image's end the bytes are 0
+-- after the image's end the bytes are 0
 pub past_end : (image : List ℕ) (a n : ℕ) (run : List ℕ) → run ≡ take n (drop (a % 16777216) image) → 0 < n → length run ≡ 0 → image_byte image a ≡ 0
 unfolding image_byte
 past_end image a n run e h z = get_or_past image (a % 16777216) 0 (omega (arith, ap length e, length-take n (drop (a % 16777216) image), length-drop (a % 16777216) image))

@@ -5,7 +5,7 @@ use Rattle.rsp_memory.specs.Memory.{byte_at, with_byte}
 use Rattle.rsp_memory.specs.Image.{image_byte, with_image_byte}
 use Rattle.rsp_regs.specs.declared.transfer.Transfer.{Transfer}
 
--- the ranges of what a written word asks for
+-- the ranges of a DMA's parts
 pub record IsTransfer (t : Transfer) : Type 0 where
   pub sp : t.sp < 4096
   pub dram : t.dram < 16777216
@@ -13,14 +13,14 @@ pub record IsTransfer (t : Transfer) : Type 0 where
   pub count : t.count < 256
   pub skip : t.skip < 4096
 
--- and that all of it is whole: multiples of 8, as the registers ask for it
+-- addresses, length and skip are multiples of 8
 pub record AreWhole (t : Transfer) : Type 0 where
   pub sp : t.sp % 8 ≡ 0
   pub dram : t.dram % 8 ≡ 0
   pub length : t.length % 8 ≡ 0
   pub skip : t.skip % 8 ≡ 0
 
--- the pairs of one row, in order: addresses in a bank are taken modulo 4096, those in the RDRAM modulo 2^24
+-- the pairs of one row, in order: addresses in a bank count modulo 4096, those in the RDRAM modulo 2^24
 unfoldable pub row_pairs : ℕ → ℕ → ℕ → List (ℕ × ℕ)
 row_pairs sp dram length = map (λ i. (sp + i, dram + i)) (range_with_len 0 length)
 
@@ -34,14 +34,14 @@ first_rows t n = flat_map (row t) (range_with_len 0 n)
 abbrev pub pairs : Transfer → List (ℕ × ℕ)
 pairs t = first_rows t (t.count + 1)
 
--- one pair, into a bank and out of it
+-- one pair is copied, into a bank, and out of it
 abbrev pub one_in : List ℕ → List ℕ → ℕ × ℕ → List ℕ
 one_in image bank p = with_byte bank p.0 (image_byte image p.1)
 
 abbrev pub one_out : List ℕ → List ℕ → ℕ × ℕ → List ℕ
 one_out bank image p = with_image_byte image p.1 (byte_at bank p.0)
 
--- a bank, and the image, after the pairs were applied in order, so that a later pair wins
+-- a bank, and the image, after the pairs are copied in order: a later pair wins
 unfoldable pub copied_in : List ℕ → List ℕ → List (ℕ × ℕ) → List ℕ
 copied_in image bank ps = fold (one_in image) bank ps
 

@@ -1,8 +1,8 @@
--- The registers as plain parts.
+-- The SP registers as plain data.
 use Rattle.rsp_regs.specs.Sp.{Sp}
 use Rattle.rsp_regs.specs.declared.parts.SpParts.{SpParts}
 
--- the registers of parts
+-- the registers with these values
 abbrev pub sp_of : SpParts → Sp
 sp_of p = record {
   memory = p.memory;
@@ -18,7 +18,7 @@ sp_of p = record {
   dpc = p.dpc;
 }
 
--- the parts of registers
+-- the values of the registers
 abbrev pub parts_of : Sp → SpParts
 parts_of s = record {
   memory = s.memory;

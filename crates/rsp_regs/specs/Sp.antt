@@ -1,13 +1,13 @@
--- The registers of the signal processor, as the register table has them.
+-- The SP registers: what a read returns, and what a write, a DMA and instructions change.
 use Rattle.std.specs.Prelude.{ℕ, ◌+◌, ◌*◌, ◌/◌, ◌%◌, ◌^◌, ◌<◌, ◌≡◌, Bool, true, false, ◌||◌, List, ◌∷◌, length, map, replicate, slice_index, slice_index_or, slice_set, nat_lt, if◌then◌else◌, ◌-◌, ◌==◌}
 use Rattle.std.specs.List.{range_with_len, sum_by}
 use Rattle.rsp_numbers.specs.Numbers.{bit_set}
 use Rattle.rsp_regs.specs.declared.transfer.Transfer.{Transfer}
 use Rattle.rsp_regs.specs.Dma.{pairs, copied_in, copied_out}
 
--- the registers, with the interrupt flag, which is in none of their words
+-- the registers, and the interrupt flag, which is in none of their words
 pub record Sp : Type 0 where
-  pub memory : ℕ  -- SP_MEM_ADDR: an address of 12 bits, and bit 12 where the bank is IMEM
+  pub memory : ℕ  -- SP_MEM_ADDR: an address of 12 bits, and bit 12, which is set if the bank is IMEM
   pub dram : ℕ  -- SP_DRAM_ADDR, of 24 bits
   pub skip : ℕ  -- the skip of the last DMA
   pub halted : Bool
@@ -19,7 +19,7 @@ pub record Sp : Type 0 where
   pub semaphore : Bool
   pub dpc : List ℕ  -- the eight DPC registers, which keep what is written
 
--- the start: all 0
+-- the start: zeros
 abbrev pub start : Sp
 start = record {
   memory = 0;
@@ -35,7 +35,7 @@ start = record {
   dpc = replicate 8 0;
 }
 
--- what a flag adds to a word: the weight of its bit where it is set
+-- a flag's bit: its weight if the flag is set, else 0
 abbrev pub flag : Bool → ℕ → ℕ
 flag b weight = if b then weight else 0
 
@@ -43,33 +43,33 @@ flag b weight = if b then weight else 0
 abbrev pub signal : List Bool → ℕ → Bool
 signal signals n = slice_index_or signals n false
 
--- SP_STATUS as it reads: bit 0 halted, 1 broke, 5 single step, 6 intbreak, 7 to 14 the signals
+-- SP_STATUS, as a read returns it: bit 0 halted, 1 broke, 5 single step, 6 intbreak, 7 to 14 the signals
 unfoldable pub status : Sp → ℕ
 status s =
     flag s.halted 1 + flag s.broke 2 + flag s.single_step 32 + flag s.intbreak 64
     + sum_by (λ n. flag (signal s.signals n) (2 ^ (7 + n))) (range_with_len 0 8)
 
--- both length registers as they read: the kept skip in bits 31 to 20, and FF8 hex
+-- both length registers, as a read returns them: the last DMA's skip in bits 31 to 20, and FF8 hex
 abbrev pub length_word : Sp → ℕ
 length_word s = s.skip * 1048576 + 4088
 
--- the sixteen registers as they read, in the order of their numbers
+-- the sixteen registers, as reads return them, in the order of their numbers
 abbrev pub words : Sp → List ℕ
 words s = s.memory ∷ s.dram ∷ length_word s ∷ length_word s ∷ status s ∷ 0 ∷ 0 ∷ flag s.semaphore 1 ∷ s.dpc
 
--- what a read of register n gives; numbers are taken modulo 16
+-- what a read of register n returns; numbers are taken modulo 16
 unfoldable pub peeked : ℕ → Sp → ℕ
 peeked n s = slice_index (words s) (n % 16)
 
--- the registers after a read of register n: that of the semaphore sets it
+-- the registers after a read of register n: a read of the semaphore takes it
 unfoldable pub after_read : ℕ → Sp → Sp
 after_read n s = if n % 16 == 7 then record s { semaphore = true } else s
 
--- a flag after a write of v: bit n clears it, and bit n + 1 sets it; both, or neither, change nothing
+-- a flag after a write of v: bit n clears it, and bit n + 1 sets it; both or neither keep it
 abbrev pub paired : ℕ → ℕ → Bool → Bool
 paired v n old = if bit_set v n then (if bit_set v (n + 1) then old else false) else (if bit_set v (n + 1) then true else old)
 
--- the registers after a write of SP_STATUS: twelve pairs (clear, set), and bit 2, which clears broke alone
+-- the registers after a write of SP_STATUS: twelve pairs (clear, set), and bit 2, which clears broke
 unfoldable pub status_written : ℕ → Sp → Sp
 status_written v s = record s {
   halted = paired v 0 s.halted;
@@ -80,8 +80,8 @@ status_written v s = record s {
   signals = map (λ n. paired v (9 + 2 * n) (signal s.signals n)) (range_with_len 0 8);
 }
 
--- what a word written to a length register asks for: the length in bits 11 to 0, with its low three bits set, plus 1;
--- the count in bits 19 to 12; the skip in bits 31 to 20, with its low three bits taken as 0
+-- the DMA of a word v that is written to a length register: the length is bits 11 to 0 with the low three bits set,
+-- plus 1; the count is bits 19 to 12; the skip is bits 31 to 20 with the low three bits clear
 unfoldable pub transfer : ℕ → Sp → Transfer
 transfer v s = record {
   sp = s.memory % 4096;
@@ -99,31 +99,42 @@ after_dma t s = record s {
   skip = t.skip;
 }
 
--- The registers after a write of v to register n. 0 keeps bits 12 to 3 of v, and 1 bits 23 to 3. 2 and 3 start a DMA, 4 is
--- SP_STATUS, and 7 is cleared whatever v is. 5 and 6 keep nothing, and the DPC registers, 8 to 15, all of v.
+-- whether register n is SP_RD_LEN, whose write copies from the RDRAM, or SP_WR_LEN, whose write copies to it
+abbrev pub is_rd_len : ℕ → Bool
+is_rd_len n = n % 16 == 2
+
+abbrev pub is_wr_len : ℕ → Bool
+is_wr_len n = n % 16 == 3
+
+-- whether register n is a length register, whose write does a DMA
+abbrev pub is_length_register : ℕ → Bool
+is_length_register n = is_rd_len n || is_wr_len n
+
+-- The registers after a write of v to register n. 0 keeps bits 12 to 3 of v, 1 bits 23 to 3. 2 and 3 do a DMA. 4 is
+-- SP_STATUS. 5 and 6 keep nothing. 7 is cleared, whatever v is. 8 to 15, the DPC registers, keep all of v.
 unfoldable pub written : ℕ → ℕ → Sp → Sp
 written n v s =
     let k = n % 16 in
     if k == 0 then record s { memory = v % 8192 / 8 * 8 }
     else if k == 1 then record s { dram = v % 16777216 / 8 * 8 }
-    else if k == 2 || k == 3 then after_dma (transfer v s) s
+    else if is_length_register n then after_dma (transfer v s) s
     else if k == 4 then status_written v s
     else if k == 7 then record s { semaphore = false }
     else if nat_lt k 8 then s
     else record s { dpc = slice_set s.dpc (k - 8) v }
 
--- the bank is IMEM where bit 12 of SP_MEM_ADDR is set
+-- whether the bank is IMEM: bit 12 of SP_MEM_ADDR
 abbrev pub is_imem : Sp → Bool
 is_imem s = bit_set s.memory 12
 
--- DMEM and IMEM after the DMA that v asks for from the RDRAM: it goes into the bank that SP_MEM_ADDR names
+-- DMEM, and IMEM, after the DMA of v from the RDRAM, which goes into the bank of SP_MEM_ADDR
 unfoldable pub dmem_from_rdram : ℕ → Sp → List ℕ → List ℕ → List ℕ
 dmem_from_rdram v s image dmem = if is_imem s then dmem else copied_in image dmem (pairs (transfer v s))
 
 unfoldable pub imem_from_rdram : ℕ → Sp → List ℕ → List ℕ → List ℕ
 imem_from_rdram v s image imem = if is_imem s then copied_in image imem (pairs (transfer v s)) else imem
 
--- the RDRAM after the DMA that v asks for from that bank
+-- the RDRAM after the DMA of v from that bank
 unfoldable pub rdram_from_bank : ℕ → Sp → List ℕ → List ℕ → List ℕ → List ℕ
 rdram_from_bank v s dmem imem image = copied_out (if is_imem s then imem else dmem) image (pairs (transfer v s))
 
@@ -131,11 +142,11 @@ rdram_from_bank v s dmem imem image = copied_out (if is_imem s then imem else dm
 unfoldable pub after_break : Sp → Sp
 after_break s = record s { halted = true; broke = true; interrupt = s.interrupt || s.intbreak }
 
--- the registers after an instruction: single step halts
+-- the registers after an instruction: single step sets halted
 unfoldable pub after_step : Sp → Sp
 after_step s = record s { halted = s.halted || s.single_step }
 
--- the registers after a task's start: signals 0, 1 and 2 are cleared
+-- the registers after the start of a task: signals 0, 1 and 2 are cleared
 unfoldable pub after_task : Sp → Sp
 after_task s = record s {
   halted = false;
@@ -144,13 +155,14 @@ after_task s = record s {
   signals = slice_set (slice_set (slice_set s.signals 0 false) 1 false) 2 false;
 }
 
--- the ranges of the two addresses and of the skip: SP_MEM_ADDR keeps bits 12 to 3, SP_DRAM_ADDR bits 23 to 3, the skip bits 11 to 3
+-- the ranges of SP_MEM_ADDR, which keeps bits 12 to 3, of SP_DRAM_ADDR, which keeps bits 23 to 3, and of the skip, bits
+-- 11 to 3
 pub record AreKept (m d k : ℕ) : Type 0 where
   pub memory : (m < 8192) × (m % 8 ≡ 0)
   pub dram : (d < 16777216) × (d % 8 ≡ 0)
   pub skip : (k < 4096) × (k % 8 ≡ 0)
 
--- the registers' ranges
+-- the ranges of the registers
 pub record IsSp (s : Sp) : Type 0 where
   pub kept : AreKept s.memory s.dram s.skip
   pub signals : length s.signals ≡ 8

@@ -1,8 +1,8 @@
 ghost use Rattle.std.specs.Prelude.{◌≡◌, ◌≤◌, ◌<◌};
 ghost use Rattle.rsp_numbers.specs.Numbers.{bit_set};
-ghost use Rattle.rsp_regs.specs.Sp.{flag, paired};
+ghost use Rattle.rsp_regs.specs.Sp.{flag, is_length_register, paired};
 
-/// The weight of a flag that is set, else 0.
+/// The weight of a flag's bit if the flag is set, else 0.
 #[inline]
 pub(crate) fn flag(value: bool, weight: u32) -> u32
     ensures value { result ≡ flag value weight }
@@ -20,7 +20,7 @@ pub(crate) fn bit_set(value: u32, n: u32) -> bool
     value >> n & 1 == 1
 }
 
-/// A flag after a write of a word: bit `n` clears it, and the next bit sets it; both, or neither, change nothing.
+/// A flag after a write of a word: bit `n` clears it, and bit `n + 1` sets it. Both or neither keep it.
 #[inline]
 pub(crate) fn paired(value: u32, n: u32, old: bool) -> bool
     requires { n < 31 }
@@ -31,4 +31,13 @@ pub(crate) fn paired(value: u32, n: u32, old: bool) -> bool
         (false, true) => true,
         _ => old,
     }
+}
+
+/// Whether SP register `n` is a length register, SP_RD_LEN or SP_WR_LEN. Its number is taken modulo 16. A write of it
+/// does a DMA.
+#[inline(always)]
+pub fn is_length_register(n: u32) -> bool
+    ensures { result ≡ is_length_register n }
+{
+    n % 16 == 2 || n % 16 == 3
 }

@@ -1,5 +1,6 @@
-//! The registers of the signal processor, [`SpRegs`], and the DMA that a write of a length
-//! register does.
+//! The SP registers, [`SpRegs`], and the DMA that a write of a length register does.
+//!
+//! docs/MACHINE.md has the rules.
 #![tactic(auto)]
 
 mod bits;
@@ -7,6 +8,7 @@ mod parts;
 mod regs;
 mod transfer;
 
+pub use bits::is_length_register;
 pub use parts::SpParts;
 pub use regs::SpRegs;
 pub use transfer::Transfer;

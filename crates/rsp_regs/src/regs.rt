@@ -1,18 +1,17 @@
 ghost use Rattle.std.specs.Prelude.{◌≡◌, ◌%◌, ◌==◌, ◌||◌, ◌<◌, ◌^◌, ℕ, if◌then◌else◌, slice_index, false};
 ghost use Rattle.rsp_regs.specs.Dma.{IsTransfer, AreWhole};
 ghost use Rattle.rsp_regs.specs.Parts.{parts_of, sp_of};
-ghost use Rattle.rsp_regs.specs.Sp.{AreKept, IsSp, start, status, peeked, after_read, status_written, transfer, after_dma, written, dmem_from_rdram, imem_from_rdram, rdram_from_bank, after_break, after_step, after_task};
+ghost use Rattle.rsp_regs.specs.Sp.{AreKept, IsSp, start, status, peeked, after_read, status_written, transfer, after_dma, is_rd_len, is_wr_len, written, dmem_from_rdram, imem_from_rdram, rdram_from_bank, after_break, after_step, after_task};
 
 use crate::bits::{bit_set, flag, paired};
 use crate::{SpParts, Transfer};
 use rsp_memory::{Rdram, SpMem};
 use std::marker::Model;
 
-/// The registers of the signal processor, with its interrupt flag.
+/// The SP registers, with the interrupt flag, which is in none of them.
 ///
-/// A register's number is taken modulo 16, as the register table has it: 0 SP_MEM_ADDR,
-/// 1 SP_DRAM_ADDR, 2 SP_RD_LEN, 3 SP_WR_LEN, 4 SP_STATUS, 5 SP_DMA_FULL, 6 SP_DMA_BUSY,
-/// 7 SP_SEMAPHORE, 8 to 15 the DPC registers. The interrupt flag is in none of them.
+/// A register's number is taken modulo 16: 0 SP_MEM_ADDR, 1 SP_DRAM_ADDR, 2 SP_RD_LEN, 3 SP_WR_LEN, 4 SP_STATUS, 5
+/// SP_DMA_FULL, 6 SP_DMA_BUSY, 7 SP_SEMAPHORE, 8 to 15 the DPC registers.
 #[derive(Clone, Copy, Drop)]
 pub struct SpRegs {
     memory: u32,
@@ -21,7 +20,7 @@ pub struct SpRegs {
     halted: bool,
     broke: bool,
     single_step: bool,
-    /// Halted or single step, kept so that a step tests one value.
+    /// Halted or single step: one value to test for each step.
     is_held: bool,
     intbreak: bool,
     signals: [bool; 8],
@@ -68,7 +67,7 @@ impl Model for SpRegs {
     } };
 }
 
-/// Changes nothing. It says that words are below 2^32.
+/// Does nothing. Its contract gives the prover a fact: the words are below 2^32.
 #[inline(always)]
 fn below(words: [u32; 8])
     ensures { (i : ℕ) → slice_index words i < 2 ^ 32 }
@@ -77,7 +76,7 @@ fn below(words: [u32; 8])
 }
 
 impl SpRegs {
-    /// The registers at the start: all 0.
+    /// The registers at the start: zeros.
     pub fn new() -> SpRegs
         ensures { result ≡ start }
     {
@@ -97,7 +96,7 @@ impl SpRegs {
         }
     }
 
-    /// Changes nothing. It says that they lie in their ranges.
+    /// Does nothing. Its contract gives the prover a fact: the registers are in their ranges.
     #[inline(always)]
     pub fn ranges(&self)
         ensures { IsSp self.now }
@@ -105,7 +104,7 @@ impl SpRegs {
         below(self.dpc);
     }
 
-    /// All registers as plain parts. Changes nothing: the semaphore isn't taken.
+    /// All registers as plain data. The semaphore isn't taken.
     pub fn parts(&self) -> SpParts
         ensures { result ≡ parts_of self.now }
     {
@@ -124,7 +123,7 @@ impl SpRegs {
         }
     }
 
-    /// The registers of plain parts, of which none is wider than its register.
+    /// The registers with these values. Requires that each fits into its register.
     pub fn from_parts(parts: &SpParts) -> SpRegs
         requires { AreKept parts.now.memory parts.now.dram parts.now.skip }
         ensures { result ≡ sp_of parts.now }
@@ -145,7 +144,7 @@ impl SpRegs {
         }
     }
 
-    /// Whether the processor is halted.
+    /// Whether the RSP is halted.
     #[inline]
     pub fn halted(&self) -> bool
         ensures { result ≡ self.now.halted }
@@ -161,7 +160,7 @@ impl SpRegs {
         self.single_step
     }
 
-    /// Whether the processor is halted, or will be after one instruction.
+    /// Whether the RSP is halted, or will be after one instruction.
     #[inline(always)]
     pub fn is_held(&self) -> bool
         ensures { result ≡ (self.now.halted || self.now.single_step) }
@@ -177,7 +176,7 @@ impl SpRegs {
         self.interrupt
     }
 
-    /// SP_STATUS as it reads: bit 0 halted, 1 broke, 5 single step, 6 intbreak, 7 to 14 the signals.
+    /// SP_STATUS, as a read returns it: bit 0 halted, 1 broke, 5 single step, 6 intbreak, 7 to 14 the signals.
     #[tactic(auto, unfolding(crate::specs::Sp::status))]
     fn status(&self) -> u32
         ensures { result ≡ status self.now }
@@ -197,7 +196,7 @@ impl SpRegs {
                 + flag(h, 16384))
     }
 
-    /// The word that a read of register `n` would give. Changes nothing.
+    /// The word that a read of register `n` would return. The semaphore isn't taken.
     #[inline]
     #[tactic(auto, unfolding(crate::specs::Sp::peeked))]
     pub fn peek(&self, n: u32) -> u32
@@ -214,7 +213,7 @@ impl SpRegs {
         }
     }
 
-    /// Reads register `n`. A read of the semaphore then sets it.
+    /// Reads register `n`. A read of the semaphore takes it.
     #[inline]
     #[tactic(auto, unfolding(crate::specs::Sp::after_read))]
     pub fn host_read(&mut self, n: u32) -> u32
@@ -228,7 +227,7 @@ impl SpRegs {
         value
     }
 
-    /// What BREAK sets: halted and broke, and the interrupt flag where intbreak is set.
+    /// The effect of BREAK: sets halted and broke, and the interrupt flag if intbreak is set.
     #[inline]
     #[tactic(auto, unfolding(crate::specs::Sp::after_break))]
     pub fn on_break(&mut self)
@@ -240,7 +239,7 @@ impl SpRegs {
         self.interrupt = self.interrupt || self.intbreak;
     }
 
-    /// Clears halted. All else stays.
+    /// Clears halted. All else is kept.
     #[inline(always)]
     pub fn resume(&mut self)
         ensures { self.new ≡ record self.old { halted = false } }
@@ -249,7 +248,7 @@ impl SpRegs {
         self.is_held = self.single_step;
     }
 
-    /// What the end of an instruction sets: halted, where single step is set.
+    /// The end of an instruction: sets halted if single step is set.
     #[inline(always)]
     #[tactic(auto, unfolding(crate::specs::Sp::after_step))]
     pub fn on_step(&mut self)
@@ -260,8 +259,7 @@ impl SpRegs {
         }
     }
 
-    /// What the start of a task sets and clears: intbreak is set; halted, broke and the signals 0, 1
-    /// and 2 are cleared.
+    /// The start of a task: sets intbreak, and clears halted, broke and the signals 0, 1 and 2.
     #[tactic(auto, unfolding(crate::specs::Sp::after_task))]
     pub fn on_task(&mut self)
         ensures { self.new ≡ after_task self.old }
@@ -274,8 +272,8 @@ impl SpRegs {
         self.signals[2] = false;
     }
 
-    /// A write of SP_STATUS: twelve pairs of a bit that clears and one that sets, and a lone bit that
-    /// clears broke. Of a pair, both bits or neither change nothing.
+    /// A write of SP_STATUS: twelve pairs of a bit that clears a flag and one that sets it, and a single bit that
+    /// clears broke. Both bits of a pair, or neither, keep the flag.
     #[tactic(auto, unfolding(crate::specs::Sp::status_written))]
     fn write_status(&mut self, value: u32)
         ensures { self.new ≡ status_written value self.old }
@@ -299,7 +297,7 @@ impl SpRegs {
         ];
     }
 
-    /// What a word written to a length register asks for.
+    /// The DMA that a word describes when it is written to a length register.
     #[tactic(auto, unfolding(crate::specs::Sp::transfer))]
     fn transfer(&self, value: u32) -> Transfer
         ensures value { result ≡ transfer value self.now }
@@ -315,7 +313,7 @@ impl SpRegs {
         }
     }
 
-    /// Moves the registers on past what a DMA has moved. After the last row there is no skip.
+    /// Advances the address registers by a DMA. There is no skip after the last row.
     #[tactic(auto, unfolding(crate::specs::Sp::after_dma))]
     fn advance(&mut self, t: &Transfer)
         requires ranges { IsTransfer t.now }
@@ -328,8 +326,7 @@ impl SpRegs {
         self.skip = t.skip;
     }
 
-    /// The DMA from the RDRAM into the bank of SP_MEM_ADDR, as `value` asks for it when it is written
-    /// to SP_RD_LEN.
+    /// The DMA from the RDRAM into the bank of SP_MEM_ADDR that a write of `value` to SP_RD_LEN does.
     #[tactic(auto, unfolding(crate::specs::Sp::dmem_from_rdram, crate::specs::Sp::imem_from_rdram))]
     pub fn dma_in(&mut self, value: u32, dmem: &mut SpMem, imem: &mut SpMem, rdram: &mut Rdram)
         ensures registers { self.new ≡ after_dma (transfer value self.old) self.old }
@@ -346,8 +343,7 @@ impl SpRegs {
         self.advance(&t);
     }
 
-    /// The DMA from the bank of SP_MEM_ADDR to the RDRAM, as `value` asks for it when it is written to
-    /// SP_WR_LEN.
+    /// The DMA from the bank of SP_MEM_ADDR into the RDRAM that a write of `value` to SP_WR_LEN does.
     #[tactic(auto, unfolding(crate::specs::Sp::rdram_from_bank))]
     pub fn dma_out(&mut self, value: u32, dmem: &mut SpMem, imem: &mut SpMem, rdram: &mut Rdram)
         ensures registers { self.new ≡ after_dma (transfer value self.old) self.old }
@@ -364,7 +360,7 @@ impl SpRegs {
         self.advance(&t);
     }
 
-    /// Writes register `n`, and does the DMA that a write of a length register asks for.
+    /// Writes register `n`. A write of a length register does its DMA.
     #[tactic(auto, unfolding(crate::specs::Sp::written))]
     pub fn host_write(
         &mut self,
@@ -375,9 +371,9 @@ impl SpRegs {
         rdram: &mut Rdram,
     )
         ensures registers { self.new ≡ written n value self.old }
-        ensures dmem { dmem.new ≡ if n % 16 == 2 then dmem_from_rdram value self.old rdram.old dmem.old else dmem.old }
-        ensures imem { imem.new ≡ if n % 16 == 2 then imem_from_rdram value self.old rdram.old imem.old else imem.old }
-        ensures rdram { rdram.new ≡ if n % 16 == 3 then rdram_from_bank value self.old dmem.old imem.old rdram.old else rdram.old }
+        ensures dmem { dmem.new ≡ if is_rd_len n then dmem_from_rdram value self.old rdram.old dmem.old else dmem.old }
+        ensures imem { imem.new ≡ if is_rd_len n then imem_from_rdram value self.old rdram.old imem.old else imem.old }
+        ensures rdram { rdram.new ≡ if is_wr_len n then rdram_from_bank value self.old dmem.old imem.old rdram.old else rdram.old }
     {
         match n % 16 {
             0 => self.memory = value % 0x2000 / 8 * 8,

@@ -3,8 +3,8 @@ ghost use Rattle.rsp_regs.specs.Dma.{IsTransfer, row_pairs, pairs, copied_in, co
 
 use rsp_memory::{Rdram, SpMem};
 
-/// What a DMA moves: `count + 1` rows of `length` bytes each, from `sp` on in a bank without a gap,
-/// and from `dram` on in the RDRAM with `skip` bytes between two rows.
+/// A DMA: `count + 1` rows of `length` bytes each. In the bank they are consecutive from `sp` on; in the RDRAM they
+/// begin at `dram`, with `skip` bytes between two rows.
 #[derive(Clone, Copy)]
 pub struct Transfer {
     /// The first address in the bank, below 4096.
@@ -47,7 +47,7 @@ impl Transfer {
     }
 }
 
-/// Copies a row by runs of bytes; those past the image's end are 0.
+/// Copies a row in pieces that don't wrap in the RDRAM. Bytes after the image's end are 0.
 #[tactic(auto, using(crate::proofs::Pairs::copies))]
 fn copy_row_in(sp: u32, dram: u32, length: u32, rdram: &Rdram, bank: &mut SpMem)
     requires sp { sp + length < 2 ^ 32 }
@@ -69,7 +69,7 @@ fn copy_row_in(sp: u32, dram: u32, length: u32, rdram: &Rdram, bank: &mut SpMem)
     }
 }
 
-/// Copies a row by runs of bytes, each as far as neither memory wraps.
+/// Copies a row in pieces that wrap in neither memory.
 #[tactic(auto, using(crate::proofs::Pairs::copies))]
 fn copy_row_out(sp: u32, dram: u32, length: u32, bank: &SpMem, rdram: &mut Rdram)
     requires sp { sp + length < 2 ^ 32 }

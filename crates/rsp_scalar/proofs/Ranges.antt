@@ -1,4 +1,4 @@
--- The ranges of the registers at the start.
+-- The registers at the start are in their ranges.
 use Rattle.std.proofs.Common.{◌<◌, ◌^◌, ℕ, zero, suc, replicate, slice_index, arith, refl}
 use Rattle.rsp_scalar.specs.Registers.{IsRegisters, empty_registers}
 

@@ -1,4 +1,4 @@
--- The scalar rows of the instruction table.
+-- The scalar instructions.
 pub mod Registers
 pub mod Rows
 pub mod Flow

@@ -1,4 +1,4 @@
--- The scalar registers: 32 numbers below 2^32, of which number 0 stays 0.
+-- The scalar registers: 32 numbers below 2^32; register 0 is always 0.
 use Rattle.std.specs.Prelude.{ℕ, ◌==◌, ◌≡◌, ◌<◌, ◌^◌, if◌then◌else◌, List, length, replicate, slice_index, slice_set}
 
 -- the registers' ranges
@@ -7,7 +7,7 @@ pub record IsRegisters (r : List ℕ) : Type 0 where
   pub words : (i : ℕ) → slice_index r i < 2 ^ 32
   pub zero : slice_index r 0 ≡ 0
 
--- the registers at the start
+-- the registers at the start: zeros
 abbrev pub empty_registers : List ℕ
 empty_registers = replicate 32 0
 
@@ -15,6 +15,6 @@ empty_registers = replicate 32 0
 abbrev pub register : List ℕ → ℕ → ℕ
 register r n = slice_index r n
 
--- the registers after a write of register n; one of register 0 is dropped
+-- the registers after a write of register n; a write of register 0 is dropped
 abbrev pub with_register : List ℕ → ℕ → ℕ → List ℕ
 with_register r n v = if n == 0 then r else slice_set r n v

@@ -1,4 +1,4 @@
--- The scalar rows of the instruction table, on numbers modulo 2^32.
+-- The scalar instructions, on numbers modulo 2^32.
 use Rattle.std.specs.Prelude.{ℕ, ℤ, pos, ◌+◌, ◌-◌, ◌*◌, ◌/◌, ◌%◌, ◌^◌, ◌==◌, ◌+ℤ◌, ◌*ℤ◌, Bool, true, false, not, nat_lt, int_lt, if◌then◌else◌, bit_and, bit_or, bit_xor, List}
 use Rattle.std.specs.Int.{w8, w16}
 use Rattle.rsp_decode.specs.declared.inst.Inst.{Inst}
@@ -23,18 +23,18 @@ use Rattle.rsp_memory.specs.Memory.{byte_at, half_at, word_at, with_byte, with_h
 use Rattle.rsp_numbers.specs.Numbers.{s16, s32, modulo, floor_div, extended}
 use Rattle.rsp_scalar.specs.Registers.{register, with_register}
 
--- 1 where a comparison holds, else 0
+-- 1 if a comparison holds, else 0
 abbrev pub truth : Bool → ℕ
 truth b = if b then 1 else 0
 
--- t shifted by k to the left, and to the right
+-- t shifted by k bits to the left, and to the right
 abbrev pub shifted_left : ℕ → ℕ → ℕ
 shifted_left t k = t * 2 ^ k % 2 ^ 32
 
 abbrev pub shifted_right : ℕ → ℕ → ℕ
 shifted_right t k = t / 2 ^ k
 
--- t shifted by k to the right with its sign: the quotient of the signed reading, rounded down
+-- t shifted by k bits to the right, the sign coming in: the signed value divided by 2^k, rounded down
 abbrev pub shifted_signed : ℕ → ℕ → ℕ
 shifted_signed t k = modulo (floor_div (s32 t) (2 ^ k)) (2 ^ 32)
 
@@ -49,7 +49,7 @@ shift_by_result Sllv t s = shifted_left t (s % 32)
 shift_by_result Srlv t s = shifted_right t (s % 32)
 shift_by_result Srav t s = shifted_signed t (s % 32)
 
--- rows of two registers, s and t; ADD and SUB never trap
+-- instructions on two registers, s and t; ADD and SUB never trap
 abbrev pub register_result : RegisterRow → ℕ → ℕ → ℕ
 register_result Add s t = (s + t) % 2 ^ 32
 register_result Addu s t = (s + t) % 2 ^ 32
@@ -62,7 +62,7 @@ register_result Nor s t = 2 ^ 32 - 1 - bit_or s t
 register_result Slt s t = truth (int_lt (s32 s) (s32 t))
 register_result Sltu s t = truth (nat_lt s t)
 
--- rows of a register and sixteen bits; ADDI never traps
+-- instructions on a register s and an immediate of sixteen bits; ADDI never traps
 abbrev pub immediate_result : ImmediateRow → ℕ → ℕ → ℕ
 immediate_result Addi s imm = (s + extended w16 imm) % 2 ^ 32
 immediate_result Addiu s imm = (s + extended w16 imm) % 2 ^ 32
@@ -72,7 +72,7 @@ immediate_result Andi s imm = bit_and s imm
 immediate_result Ori s imm = bit_or s imm
 immediate_result Xori s imm = bit_xor s imm
 
--- the registers after a row that computes; other rows change none
+-- the registers after an instruction that computes; others change none
 abbrev pub computed : Inst → List ℕ → List ℕ
 computed (Shift row rd rt amount) r = with_register r rd (shift_result row (register r rt) amount)
 computed (ShiftBy row f) r = with_register r f.rd (shift_by_result row (register r f.rt) (register r f.rs))
@@ -81,11 +81,11 @@ computed (Immediate row rt rs imm) r = with_register r rt (immediate_result row 
 computed (LoadUpper rt imm) r = with_register r rt (imm * 65536)
 computed _ r = r
 
--- the address of a load or store, modulo 2^32; the memory takes each byte's modulo 4096
+-- the address of a load or store, modulo 2^32; DMEM takes the address of each byte modulo 4096
 abbrev pub address : List ℕ → ℕ → ℕ → ℕ
 address r base offset = (register r base + extended w16 offset) % 2 ^ 32
 
--- what a load reads at an address: 1, 2 or 4 bytes, signed or unsigned
+-- what a load reads at an address: 1, 2 or 4 bytes, sign-extended or zero-extended
 abbrev pub load_result : LoadRow → List ℕ → ℕ → ℕ
 load_result Lb memory a = extended w8 (byte_at memory a)
 load_result Lh memory a = extended w16 (half_at memory a)
@@ -94,7 +94,7 @@ load_result Lbu memory a = byte_at memory a
 load_result Lhu memory a = half_at memory a
 load_result Lwu memory a = word_at memory a
 
--- the registers after a load; other rows change none
+-- the registers after a load; other instructions change none
 abbrev pub scalar_loaded : Inst → List ℕ → List ℕ → List ℕ
 scalar_loaded (Load row f) r memory = with_register r f.rt (load_result row memory (address r f.base f.offset))
 scalar_loaded _ r memory = r
@@ -105,12 +105,12 @@ store_result Sb memory a t = with_byte memory a (t % 2 ^ 8)
 store_result Sh memory a t = with_half memory a (t % 2 ^ 16)
 store_result Sw memory a t = with_word memory a t
 
--- the memory after a store; other rows leave it
+-- the memory after a store; other instructions leave it
 abbrev pub scalar_stored : Inst → List ℕ → List ℕ → List ℕ
 scalar_stored (Store row f) r memory = store_result row memory (address r f.base f.offset) (register r f.rt)
 scalar_stored _ r memory = memory
 
--- the tests of the branches
+-- the tests of the branches; s is a signed value if there is one register
 abbrev pub sign_test : SignRow → ℤ → Bool
 sign_test Bltz s = int_lt s (pos 0)
 sign_test Bgez s = not (int_lt s (pos 0))
@@ -123,7 +123,7 @@ abbrev pub equal_test : EqualRow → ℕ → ℕ → Bool
 equal_test Beq s t = s == t
 equal_test Bne s t = not (s == t)
 
--- whether a branch is taken; a jump always is, and another row never
+-- whether a branch is taken; a jump always is, any other instruction never
 abbrev pub is_taken : Inst → List ℕ → Bool
 is_taken (JumpRegister rs) r = true
 is_taken (JumpLinkRegister rd rs) r = true
@@ -132,11 +132,11 @@ is_taken (BranchEqual row rs rt offset) r = equal_test row (register r rs) (regi
 is_taken (Jump row target) r = true
 is_taken _ r = false
 
--- npc + 4 * offset, modulo 4096: npc is the place of the delay slot
+-- npc + 4 * offset, modulo 4096: npc is the address of the delay slot, and the offset a signed value
 abbrev pub branch_target : ℕ → ℕ → ℕ
 branch_target npc offset = modulo (pos npc +ℤ (pos 4 *ℤ s16 offset)) 4096
 
--- where a taken branch or jump goes; another row goes on
+-- the target of a branch or jump; for another instruction the address after npc
 abbrev pub target_of : Inst → List ℕ → ℕ → ℕ
 target_of (JumpRegister rs) r npc = register r rs / 4 % 1024 * 4
 target_of (JumpLinkRegister rd rs) r npc = register r rs / 4 % 1024 * 4

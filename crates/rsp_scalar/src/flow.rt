@@ -30,7 +30,7 @@ fn equal_holds(row: EqualRow, s: u32, t: u32) -> bool
     }
 }
 
-/// Whether a branch is taken; true for a jump, and false for any other row.
+/// Whether a branch is taken. True for a jump, false for any other instruction.
 #[inline(always)]
 pub fn taken(inst: &Inst, regs: &Regs) -> bool
     requires { IsInstruction inst.now }
@@ -44,7 +44,7 @@ pub fn taken(inst: &Inst, regs: &Regs) -> bool
     }
 }
 
-/// The place after `npc`, modulo 4096.
+/// The address after `npc`, modulo 4096.
 #[inline(always)]
 fn going_on(npc: u16) -> u16
     ensures value { result ≡ going_on npc }
@@ -54,20 +54,20 @@ fn going_on(npc: u16) -> u16
     ((npc as u32 + 4) % 4096) as u16
 }
 
-/// The place at a distance in words from `npc`, modulo 4096.
+/// The address `offset` words after `npc`, modulo 4096. The offset is a signed value.
 #[inline(always)]
 fn branch_target(npc: u16, offset: u16) -> u16
     ensures value { result ≡ branch_target npc offset }
     ensures place { result < 4096 }
     ensures whole { npc % 4 ≡ 0 → result % 4 ≡ 0 }
 {
-    // Four times 2^16 is a multiple of 4096, so the offset's sign makes no difference.
+    // 4 times 2^16 is a multiple of 4096, so the offset's sign makes no difference.
     ((npc as u32 + 4 * offset as u32) % 4096) as u16
 }
 
-/// Where a branch or a jump goes when it is taken, by the `npc` at its execution (the place of its
-/// delay slot). Another row goes on: `npc + 4` modulo 4096. From a multiple of 4 it goes to a multiple
-/// of 4.
+/// The target of a branch or jump; for any other instruction `npc + 4` modulo 4096.
+///
+/// `npc` is the address of the delay slot, from which a branch counts. If it is a multiple of 4, the target is one.
 #[inline(always)]
 pub fn target(inst: &Inst, regs: &Regs, npc: u16) -> u16
     requires { IsInstruction inst.now }
@@ -87,7 +87,7 @@ pub fn target(inst: &Inst, regs: &Regs, npc: u16) -> u16
     }
 }
 
-/// Where the instruction after the next one stands.
+/// The next `npc`: the target of a taken branch or a jump, else the address after `npc`.
 #[inline(always)]
 fn following(inst: &Inst, regs: &Regs, npc: u16) -> u16
     requires { IsInstruction inst.now }
@@ -102,7 +102,7 @@ fn following(inst: &Inst, regs: &Regs, npc: u16) -> u16
     }
 }
 
-/// Writes the link of a row that has one, taken or not.
+/// Writes the link of an instruction that has one, whether the branch is taken or not.
 #[inline(always)]
 fn link(inst: &Inst, regs: &mut Regs, npc: u16)
     requires { IsInstruction inst.now }
@@ -122,9 +122,10 @@ fn link(inst: &Inst, regs: &mut Regs, npc: u16)
     }
 }
 
-/// Executes a branch or a jump: answers the next `npc`, then writes the link, so that the sources
-/// are read before. For any other row it answers `npc + 4` modulo 4096 and changes nothing. Where `npc`
-/// is a multiple of 4 the answer is one.
+/// Executes a branch or jump: returns the next `npc`, and then writes the link. So all sources are read first.
+///
+/// For any other instruction it returns `npc + 4` modulo 4096 and changes nothing. If `npc` is a multiple of 4, the
+/// result is one.
 #[inline(always)]
 pub fn jump(inst: &Inst, regs: &mut Regs, npc: u16) -> u16
     requires { IsInstruction inst.now }

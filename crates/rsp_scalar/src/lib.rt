@@ -1,14 +1,15 @@
-//! The scalar unit: its registers, [`Regs`], and what the scalar rows of the instruction table do to
-//! them, to the data memory and to the places of the next instructions. Each call takes any
-//! instruction, and changes nothing for a row that isn't its own.
+//! The scalar unit: its registers, [`Regs`], and what scalar instructions do to them, to DMEM and to npc.
+//!
+//! Each call takes any instruction; one of another group changes nothing. docs/INSTRUCTIONS.md, "Scalar instructions",
+//! has the rules.
 #![tactic(auto)]
 
+mod computing;
 mod flow;
 mod memory;
 mod registers;
-mod rows;
 
+pub use computing::alu;
 pub use flow::{jump, taken, target};
 pub use memory::{address, load, store};
 pub use registers::Regs;
-pub use rows::alu;

@@ -3,34 +3,34 @@ ghost use Rattle.rsp_decode.specs.Table.{IsInstruction};
 ghost use Rattle.rsp_scalar.specs.Rows.{address, load_result, store_result, scalar_loaded, scalar_stored};
 
 use crate::Regs;
-use crate::rows::extended;
 use rsp_decode::{Inst, LoadRow, StoreRow};
 use rsp_memory::SpMem;
+use rsp_numbers::sign_extend;
 
-/// The address of a load or store.
+/// The address of a load or store, modulo 2^32: register `base`, below 32, plus the sign-extended offset.
 #[inline(always)]
 pub fn address(regs: &Regs, base: u8, offset: u16) -> u32
     requires { base < 32 }
     ensures { result ≡ address regs.now base offset }
 {
-    regs.get(base).wrapping_add(extended(offset))
+    regs.get(base).wrapping_add(sign_extend(offset))
 }
 
-/// What a load reads at an address.
+/// What a load reads at address `a`.
 #[inline(always)]
 fn loaded(row: LoadRow, memory: &SpMem, a: u32) -> u32
     ensures { result ≡ load_result row memory.now a }
 {
     match row {
         LoadRow::Lb => (memory.byte(a).cast_signed() as i32).cast_unsigned(),
-        LoadRow::Lh => extended(memory.half(a)),
+        LoadRow::Lh => sign_extend(memory.half(a)),
         LoadRow::Lw | LoadRow::Lwu => memory.word(a),
         LoadRow::Lbu => u32::from(memory.byte(a)),
         LoadRow::Lhu => u32::from(memory.half(a)),
     }
 }
 
-/// Stores the low bytes of `t` at an address.
+/// Writes the low 1, 2 or 4 bytes of `t` at address `a`.
 #[inline(always)]
 fn write(row: StoreRow, memory: &mut SpMem, a: u32, t: u32)
     ensures { memory.new ≡ store_result row memory.old a t }
@@ -42,8 +42,8 @@ fn write(row: StoreRow, memory: &mut SpMem, a: u32, t: u32)
     }
 }
 
-/// Executes a scalar load of the instruction table, which reads 1, 2 or 4 bytes of DMEM, wrapping
-/// byte by byte, into a register. Any other row changes nothing.
+/// Executes a scalar load: reads 1, 2 or 4 bytes of DMEM into a register. The address of each byte is taken modulo
+/// 4096. Any other instruction changes nothing.
 #[inline(always)]
 pub fn load(inst: &Inst, regs: &mut Regs, memory: &SpMem)
     requires { IsInstruction inst.now }
@@ -55,8 +55,8 @@ pub fn load(inst: &Inst, regs: &mut Regs, memory: &SpMem)
     }
 }
 
-/// Executes a scalar store of the instruction table, which writes the low 1, 2 or 4 bytes of a
-/// register to DMEM, wrapping byte by byte. Any other row changes nothing.
+/// Executes a scalar store: writes the low 1, 2 or 4 bytes of a register to DMEM. The address of each byte is taken
+/// modulo 4096. Any other instruction changes nothing.
 #[inline(always)]
 pub fn store(inst: &Inst, regs: &Regs, memory: &mut SpMem)
     requires { IsInstruction inst.now }

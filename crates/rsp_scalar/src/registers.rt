@@ -3,9 +3,9 @@ ghost use Rattle.rsp_scalar.specs.Registers.{IsRegisters, empty_registers, regis
 
 use std::marker::Model;
 
-/// The 32 scalar registers of 32 bits, of which number 0 stays 0.
+/// The 32 scalar registers of 32 bits. Register 0 is always 0.
 ///
-/// Contracts see them as a list of 32 numbers.
+/// Contracts see the list of 32 numbers.
 #[derive(Clone, Copy, PartialEq, Eq, Debug, Drop)]
 pub struct Regs {
     words: [u32; 32],
@@ -25,14 +25,14 @@ impl Model for Regs {
 }
 
 impl Regs {
-    /// Thirty-two zeros.
+    /// Registers of zeros, as at the start.
     pub fn new() -> Self
         ensures { result ≡ empty_registers }
     {
         Regs { words: [0; 32] }
     }
 
-    /// The registers with these words, of which number 0 is 0.
+    /// The registers with these words. Requires that register 0 is 0.
     pub fn from_words(words: [u32; 32]) -> Self
         requires { slice_index words 0 ≡ 0 }
         ensures { result ≡ words }
@@ -40,14 +40,14 @@ impl Regs {
         Regs { words }
     }
 
-    /// All 32 words.
+    /// All 32 registers.
     pub fn words(&self) -> [u32; 32]
         ensures { result ≡ self.now }
     {
         self.words
     }
 
-    /// Changes nothing. It says that they are 32 numbers below 2^32, of which number 0 is 0.
+    /// Does nothing. Its contract gives the prover a fact: there are 32 numbers below 2^32, and register 0 is 0.
     #[inline(always)]
     pub fn ranges(&self)
         ensures { IsRegisters self.now }
@@ -71,7 +71,7 @@ impl Regs {
         ensures { self.new ≡ with_register self.old n value }
     {
         self.words[n as usize] = value;
-        // A store costs less than a test of `n`.
+        // Without a test of `n`: one more store is faster.
         self.words[0] = 0;
     }
 }

@@ -14,7 +14,7 @@ returns c =
     (length_of _ _ c.choose-compare.ensures) (length_of _ _ c.choose-clip.ensures) clear
     (λ i h. simp (
       lane_of 0 _ _ c.merge-result.ensures i h,
-      lane_of 0 _ _ c.merge-limit.ensures i h,
+      lane_of 0 _ _ c.merge-bound.ensures i h,
       lane_of 0 _ _ c.negate.ensures i h,
       lane_of false _ _ c.choose.ensures i h,
       lane_of false _ _ c.choose-compare.ensures i h,

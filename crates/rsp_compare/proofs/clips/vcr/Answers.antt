@@ -14,7 +14,7 @@ returns c =
     (length_of _ _ c.exchanged-compare.ensures.first) (length_of _ _ c.exchanged-compare.ensures.second) clear
     (λ i h. simp (
       lane_of 0 _ _ c.merge-result.ensures i h,
-      lane_of 0 _ _ c.merge-limit.ensures i h,
+      lane_of 0 _ _ c.merge-bound.ensures i h,
       lane_of 0 _ _ c.not.ensures i h,
       lane_of false _ _ c.exchanged-compare.ensures.first i h,
       lane_of false _ _ c.exchanged-compare.ensures.second i h,

@@ -10,5 +10,5 @@ unfolding load_pairs
 returns c =
     c.set_reg.ensures
     ∙ ap (with_vector c.args.file.now c.args.vt) (c.merge.ensures ∙ each_same _ _ (λ i h.
-    rw (lane_of false _ _ c.from_bits-places.ensures i h, lane_of 0 _ _ c.even_lanes-fourths.ensures i h, lane_of 0 _ _ c.from_halves.ensures (2 * i % 8) (omega arith), c.window-bytes.ensures, c.reg-v.ensures) refl))
+    rw (lane_of false _ _ c.from_bits-taken.ensures i h, lane_of 0 _ _ c.even_lanes-fourths.ensures i h, lane_of 0 _ _ c.from_halves.ensures (2 * i % 8) (omega arith), c.window-bytes.ensures, c.reg-v.ensures) refl))
     ∙ fourths_loaded c.args.memory.now c.args.file.now c.args.vt c.args.e c.args.a (omega (arith, c.ranges-2.ensures.count, c.requires.register)) (c.ranges-2.ensures.registers c.args.vt c.requires.register).0 c.requires.element

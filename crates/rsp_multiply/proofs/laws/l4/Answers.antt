@@ -13,7 +13,7 @@ use Rattle.rsp_multiply.proofs.laws.l4.Goals as goal
 s48_sum : (x n : ℤ) → s48 (s48 x +ℤ n) ≡ s48 (x +ℤ n)
 s48_sum x n = let d = s48_differs x in s48_same _ _ d.1 d.0 (omega (arith, ints, d.2))
 
--- the eight accumulators that stand for these sums
+-- the accumulators of these sums
 abbrev wrapped : (ℕ → ℤ) → List ℤ
 wrapped sum = each_lane (λ i. s48 (sum i))
 
@@ -28,7 +28,7 @@ added : (s : Step) (sum : ℕ → ℤ) → (row s.op).adds ≡ true → accumula
 unfolding accumulators_after
 added s sum e = each_same _ _ (λ i h. rw (e, lane_of (pos 0) (λ i. s48 (sum i)) (wrapped sum) refl i h) (s48_sum (sum i) (addend_of s i)))
 
--- the accumulators after rows that add, from a sum so far
+-- the accumulators after instructions that add, from a sum so far
 sums : (sum : ℕ → ℤ) (ss : List Step) → All Adds ss → after ss (wrapped sum) ≡ wrapped (λ i. sum i +ℤ sum_of ss i)
 sums sum [] h = each_same _ _ (λ i k. ap s48 (omega (arith, ints)))
 sums sum (s ∷ ss) h =

@@ -10,7 +10,7 @@ returns-clause-accumulators g c = c.add.ensures ∙ each_same _ _ (λ i h.
     rw (
       lane_of (pos 0) _ _ c.rounding.ensures i h,
       lane_of 0 _ _ c.merge-lanes.ensures i h,
-      lane_of false _ _ c.places.ensures i h,
+      lane_of false _ _ c.rounding_lanes.ensures i h,
       lane_of 0 _ _ c.new.ensures i h,
     ) (rounded_lane _ c.args.odd _ _ (c.ranges-2.ensures.1 i)))
 

@@ -1,20 +1,20 @@
 use Rattle.std.proofs.Common.{◌∙◌, pos, get_or, false, ap}
 use Rattle.rsp_numbers.specs.Numbers.{sixteen_bits}
 use Rattle.rsp_lanes.proofs.Kit.{lane_of, each_same}
-use Rattle.rsp_lanes.proofs.Limits.{made_lanes, made_range}
+use Rattle.rsp_lanes.proofs.Saturation.{made_lanes, made_range}
 use Rattle.rsp_lanes.proofs.Sums.{greater_more, carried}
 use Rattle.rsp_lanes.proofs.vreg.VReg.add_clamped.Goals as goal
 
-pub limited-requires-clause-lanes : goal.limited-requires-clause-lanes
-limited-requires-clause-lanes c = made_lanes (greater_more _ _ _ _ _ c.ranges-2.ensures c.ranges-3.ensures c.ranges-5.ensures c.greater.ensures c.wide.ensures)
+pub saturated-requires-clause-lanes : goal.saturated-requires-clause-lanes
+saturated-requires-clause-lanes c = made_lanes (greater_more _ _ _ _ _ c.ranges-2.ensures c.ranges-3.ensures c.ranges-5.ensures c.greater.ensures c.wide.ensures)
 
-pub limited-requires-clause-range : goal.limited-requires-clause-range
-limited-requires-clause-range c = made_range (greater_more _ _ _ _ _ c.ranges-2.ensures c.ranges-3.ensures c.ranges-5.ensures c.greater.ensures c.wide.ensures)
+pub saturated-requires-clause-range : goal.saturated-requires-clause-range
+saturated-requires-clause-range c = made_range (greater_more _ _ _ _ _ c.ranges-2.ensures c.ranges-3.ensures c.ranges-5.ensures c.greater.ensures c.wide.ensures)
 
 pub returns : goal.returns
 returns c =
     let more = greater_more _ _ _ _ _ c.ranges-2.ensures c.ranges-3.ensures c.ranges-5.ensures c.greater.ensures c.wide.ensures in
-    c.limited.ensures ∙ each_same _ _ (λ i h.
+    c.saturated.ensures ∙ each_same _ _ (λ i h.
     rw (
       lane_of (pos 0) _ _ more.is i h,
       lane_of 0 _ _ c.subtract-carried.ensures i h,

@@ -2,7 +2,7 @@ use Rattle.std.proofs.Common.{◌≡◌, ◌∙◌, ◌≢◌, ℕ, ℤ, arith}
 use Rattle.std.proofs.lemmas.Bool.Decides.{nat_tests}
 use Rattle.rsp_lanes.proofs.Kit.{each_same}
 use Rattle.rsp_multiply.specs.Rows.{sar_of, sar_lane}
-use Rattle.rsp_multiply.proofs.rows.sar.Goals as goal
+use Rattle.rsp_multiply.proofs.multiplies.sar.Goals as goal
 
 other : (e : ℕ) (x : ℤ) → e ≢ 8 → e ≢ 9 → e ≢ 10 → 0 ≡ sar_lane e x
 other e x a b c = grind (arith, nat_tests)

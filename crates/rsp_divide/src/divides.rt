@@ -10,10 +10,10 @@ use crate::quotients::{reciprocal, root};
 use rsp_acc::Acc;
 use rsp_lanes::{VReg, select};
 
-/// Executes a divide row with the element `e`, below 16, on lane `de`, below 8, of `vd`.
+/// Executes a divide instruction or VMOV: writes lane `de` of `vd`, and the divider.
 ///
-/// The source is lane `e` mod 8 of `vt`, which is the register as it stood before the row. The row writes lane `de` of
-/// `vd`, and the lanes of `vt` that `e` selects into the low sixteen bits of the accumulators.
+/// The source is lane `e` modulo 8 of `vt`, the register as it was before the instruction. The lanes of `vt` that
+/// element `e` selects are written to the low sixteen bits of the accumulators. Requires `e` below 16 and `de` below 8.
 #[inline(always)]
 #[tactic(auto, unfolding(crate::specs::Rows::lane_written, crate::specs::Rows::divider_after))]
 pub fn divide_op<A: Acc>(
@@ -37,7 +37,7 @@ pub fn divide_op<A: Acc>(
     acc.set_low(&selected);
 }
 
-/// What the row writes into its lane, by the source and the selected lane.
+/// What the instruction writes to its lane, from the source and the selected lane. It also updates the divider.
 #[inline(always)]
 fn division(op: DivideOp, divider: &mut Divider, source: u16, selected: u16) -> u16
     ensures lane { result ≡ (division op divider.old source selected).lane }

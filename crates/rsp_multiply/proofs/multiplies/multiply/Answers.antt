@@ -2,8 +2,8 @@ use Rattle.std.proofs.Common.{◌≡◌, ◌∙◌, refl, rules, true, false, sy
 use Rattle.rsp_lanes.proofs.Kit.{lane_of, each_same}
 use Rattle.rsp_multiply.specs.Rows.{row, accumulators_after, clamped_by}
 use Rattle.rsp_multiply.proofs.Fits.{addend_again}
-use Rattle.rsp_multiply.proofs.rows.multiply.Goals as goal
-use Rattle.rsp_multiply.proofs.rows.multiply.Goals.{then-adds, else-adds}
+use Rattle.rsp_multiply.proofs.multiplies.multiply.Goals as goal
+use Rattle.rsp_multiply.proofs.multiplies.multiply.Goals.{then-adds, else-adds}
 
 pub returns-clause-accumulators : goal.returns-clause-accumulators
 unfolding accumulators_after

@@ -1,6 +1,6 @@
 use Rattle.std.proofs.Common.{◌∙◌, arith}
 use Rattle.rsp_loadstore.proofs.Placed.{line_loaded}
-use Rattle.rsp_loadstore.proofs.loads.load_line.Goals as goal
+use Rattle.rsp_loadstore.proofs.loads.load_quadword.Goals as goal
 
 pub returns : goal.returns
 returns c =

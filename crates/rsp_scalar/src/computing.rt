@@ -1,21 +1,12 @@
 ghost use Rattle.std.specs.Prelude.{◌≡◌, ◌<◌};
-ghost use Rattle.std.specs.Int.{w16};
 ghost use Rattle.rsp_decode.specs.Table.{IsInstruction};
-ghost use Rattle.rsp_numbers.specs.Numbers.{extended};
 ghost use Rattle.rsp_scalar.specs.Rows.{shift_result, shift_by_result, shifted_signed, register_result, immediate_result, computed};
 
 use crate::Regs;
 use rsp_decode::{ImmediateRow, Inst, RegisterRow, ShiftByRow, ShiftRow};
+use rsp_numbers::sign_extend;
 
-/// Sixteen bits as a signed number, modulo 2^32.
-#[inline(always)]
-pub(crate) fn extended(imm: u16) -> u32
-    ensures { result ≡ extended w16 imm }
-{
-    (imm.cast_signed() as i32).cast_unsigned()
-}
-
-/// A shift to the right that repeats the sign.
+/// A shift to the right that repeats the sign bit.
 #[inline(always)]
 fn shifted_signed(t: u32, amount: u32) -> u32
     requires { amount < 32 }
@@ -24,7 +15,7 @@ fn shifted_signed(t: u32, amount: u32) -> u32
     (t.cast_signed() >> amount).cast_unsigned()
 }
 
-/// What a shift by a constant gives.
+/// A shift by a constant.
 #[inline(always)]
 fn shift(row: ShiftRow, t: u32, amount: u8) -> u32
     requires { amount < 32 }
@@ -37,7 +28,7 @@ fn shift(row: ShiftRow, t: u32, amount: u8) -> u32
     }
 }
 
-/// What a shift by a register gives: by its low five bits.
+/// A shift by the low five bits of a register.
 #[inline(always)]
 fn shift_by(row: ShiftByRow, t: u32, s: u32) -> u32
     ensures { result ≡ shift_by_result row t s }
@@ -49,7 +40,7 @@ fn shift_by(row: ShiftByRow, t: u32, s: u32) -> u32
     }
 }
 
-/// What a row of two registers gives.
+/// An instruction on two registers.
 #[inline(always)]
 fn register(row: RegisterRow, s: u32, t: u32) -> u32
     ensures { result ≡ register_result row s t }
@@ -66,24 +57,23 @@ fn register(row: RegisterRow, s: u32, t: u32) -> u32
     }
 }
 
-/// What a row of a register and a constant gives.
+/// An instruction on a register and an immediate of sixteen bits.
 #[inline(always)]
 fn immediate(row: ImmediateRow, s: u32, imm: u16) -> u32
     ensures { result ≡ immediate_result row s imm }
 {
     match row {
-        ImmediateRow::Addi | ImmediateRow::Addiu => s.wrapping_add(extended(imm)),
+        ImmediateRow::Addi | ImmediateRow::Addiu => s.wrapping_add(sign_extend(imm)),
         ImmediateRow::Slti => u32::from(s.cast_signed() < imm.cast_signed() as i32),
-        ImmediateRow::Sltiu => u32::from(s < extended(imm)),
+        ImmediateRow::Sltiu => u32::from(s < sign_extend(imm)),
         ImmediateRow::Andi => s & imm as u32,
         ImmediateRow::Ori => s | imm as u32,
         ImmediateRow::Xori => s ^ imm as u32,
     }
 }
 
-/// Executes a row of the scalar part of the instruction table that computes: the shifts, sums,
-/// differences, bitwise rows, comparisons and LUI, on registers modulo 2^32. Any other row changes
-/// nothing.
+/// Executes a scalar instruction that computes: shifts, sums, differences, bitwise logic, comparisons and LUI, modulo
+/// 2^32. Any other instruction changes nothing.
 #[inline(always)]
 pub fn alu(inst: &Inst, regs: &mut Regs)
     requires { IsInstruction inst.now }

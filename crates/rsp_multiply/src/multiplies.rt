@@ -9,7 +9,7 @@ use crate::products::{
 use rsp_acc::{Acc, Addends, Clamp, Part};
 use rsp_lanes::VReg;
 
-/// What the row makes of the lanes of a and b.
+/// The addends of a multiply, from the lanes of a and b.
 #[inline(always)]
 fn addends(op: MultiplyOp, a: &VReg, b: &VReg) -> Addends
     ensures { result ≡ each_lane (λ i. (row op).addend (slice_index a.now i) (slice_index b.now i)) }
@@ -24,7 +24,7 @@ fn addends(op: MultiplyOp, a: &VReg, b: &VReg) -> Addends
     }
 }
 
-/// Whether the row adds to the accumulators, or replaces them.
+/// Whether a multiply adds to the accumulators; else it replaces them.
 #[inline(always)]
 fn adds(op: MultiplyOp) -> bool
     ensures { result ≡ (row op).adds }
@@ -40,7 +40,7 @@ fn adds(op: MultiplyOp) -> bool
     }
 }
 
-/// How the row takes its result from the accumulators.
+/// How a multiply clamps the accumulators to its result.
 #[inline(always)]
 fn clamp(op: MultiplyOp) -> Clamp
     ensures { result ≡ (row op).clamp }
@@ -54,9 +54,10 @@ fn clamp(op: MultiplyOp) -> Clamp
     }
 }
 
-/// One of the twelve multiplies: a is the register vs, b the selected vt. The accumulators become
-/// the row's addends, or their sums with them, as numbers of 48 bits, and the result is the row's
-/// clamp of the new accumulators.
+/// One of the twelve multiplies: `a` is the register vs, `b` the selected vt.
+///
+/// The accumulators become the multiply's addends, or their sums with them, modulo 2^48 as signed values. The result is
+/// the multiply's clamp of the accumulators after it.
 #[inline(always)]
 pub fn multiply<A: Acc>(op: MultiplyOp, a: &VReg, b: &VReg, acc: &mut A) -> VReg
     ensures accumulators { A.numbers acc.new ≡ accumulators_after op a.now b.now (A.numbers acc.old) }
@@ -73,8 +74,8 @@ pub fn multiply<A: Acc>(op: MultiplyOp, a: &VReg, b: &VReg, acc: &mut A) -> VReg
     acc.clamp(clamp(op))
 }
 
-/// VSAR: the high, middle or low sixteen bits of the accumulators for an element e of 8, 9 or 10,
-/// and zeros for any other. The accumulators are kept.
+/// VSAR: the high, middle or low sixteen bits of the accumulators for element `e` 8, 9 or 10, zeros for any other. The
+/// accumulators are kept.
 #[inline(always)]
 pub fn sar<A: Acc>(e: usize, acc: &A) -> VReg
     ensures { result ≡ sar_of e (A.numbers acc.now) }
