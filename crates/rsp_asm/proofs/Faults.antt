@@ -85,9 +85,9 @@ value_fine : (o : Option ℕ) → FineResult (or_out_of_range o)
 value_fine None = refl
 value_fine (Some v) = tt
 
-field_fine : (slot : Slot) (address : ℕ) (o : Option ℤ) → FineResult (field_of slot address o)
-field_fine slot address None = refl
-field_fine slot address (Some z) = value_fine (field slot address z)
+field_fine : (range : Slot) (address : ℕ) (o : Option ℤ) → FineResult (field_of range address o)
+field_fine range address None = refl
+field_fine range address (Some z) = value_fine (field range address z)
 
 registers_fine : (ns : List ℕ) (r : Result ℕ AsmFaultKind) → FineResult r → FineResult (then_registers ns r)
 registers_fine ns (Ok v) h = tt

@@ -135,29 +135,29 @@ module _ (labels : Labels) (address : ℕ) where
   bracket_fits k P look default None bs all some h = pair_fits k P (vector_named bs) default (vector_below bs) some h
   bracket_fits k P look default (Some p) bs all some h = pair_fits k P (vector_named p.0) (bracketed look p.1) (vector_below p.0) (bracketed_fits P look all p.1) h
 
-  valued : (k : Operand) (slot : Slot) (limit : ℕ) (ns : List ℕ) (e : Expression) → ((z : ℤ) → Below limit (field slot address z)) → ((v : ℕ) → v < limit → FitBitFields (bit_fields k) (v ∷ ns)) → IfOk (fields_of labels address (asks slot ns e)) (FitBitFields (bit_fields k))
-  valued k slot limit ns e all h = go (evaluate labels e)
+  valued : (k : Operand) (range : Slot) (limit : ℕ) (ns : List ℕ) (e : Expression) → ((z : ℤ) → Below limit (field range address z)) → ((v : ℕ) → v < limit → FitBitFields (bit_fields k) (v ∷ ns)) → IfOk (fields_of labels address (asks range ns e)) (FitBitFields (bit_fields k))
+  valued k range limit ns e all h = go (evaluate labels e)
     where
       ranged : (o : Option ℕ) → Below limit o → IfOk (then_registers ns (or_out_of_range o)) (FitBitFields (bit_fields k))
       ranged None b = tt
       ranged (Some v) b = h v b
 
-      go : (o : Option ℤ) → IfOk (then_registers ns (field_of slot address o)) (FitBitFields (bit_fields k))
+      go : (o : Option ℤ) → IfOk (then_registers ns (field_of range address o)) (FitBitFields (bit_fields k))
       go None = tt
-      go (Some z) = ranged (field slot address z) (all z)
+      go (Some z) = ranged (field range address z) (all z)
 
-  value_fits : (k : Operand) (slot : Slot) (limit : ℕ) (o : Option Expression) → ((z : ℤ) → Below limit (field slot address z)) → ((v : ℕ) → v < limit → FitBitFields (bit_fields k) (v ∷ [])) → Fits k (option_map (asks slot []) o)
-  value_fits k slot limit None all h = tt
-  value_fits k slot limit (Some e) all h = valued k slot limit [] e all h
+  value_fits : (k : Operand) (range : Slot) (limit : ℕ) (o : Option Expression) → ((z : ℤ) → Below limit (field range address z)) → ((v : ℕ) → v < limit → FitBitFields (bit_fields k) (v ∷ [])) → Fits k (option_map (asks range []) o)
+  value_fits k range limit None all h = tt
+  value_fits k range limit (Some e) all h = valued k range limit [] e all h
 
-  offset_fits : (k : Operand) (slot : Slot) (limit : ℕ) (o : Option Expression) (base : Option ℕ) → Below 32 base → ((z : ℤ) → Below limit (field slot address z)) → ((v n : ℕ) → v < limit → n < 32 → FitBitFields (bit_fields k) (v ∷ n ∷ [])) → Fits k (memory slot o base)
-  offset_fits k slot limit None base b all h = tt
-  offset_fits k slot limit (Some e) None b all h = tt
-  offset_fits k slot limit (Some e) (Some n) b all h = valued k slot limit (n ∷ []) e all (λ v lt. h v n lt b)
+  offset_fits : (k : Operand) (range : Slot) (limit : ℕ) (o : Option Expression) (base : Option ℕ) → Below 32 base → ((z : ℤ) → Below limit (field range address z)) → ((v n : ℕ) → v < limit → n < 32 → FitBitFields (bit_fields k) (v ∷ n ∷ [])) → Fits k (memory range o base)
+  offset_fits k range limit None base b all h = tt
+  offset_fits k range limit (Some e) None b all h = tt
+  offset_fits k range limit (Some e) (Some n) b all h = valued k range limit (n ∷ []) e all (λ v lt. h v n lt b)
 
-  memory_fits : (k : Operand) (slot : Slot) (limit : ℕ) (o : Option (List ℕ × List ℕ)) → ((z : ℤ) → Below limit (field slot address z)) → ((v n : ℕ) → v < limit → n < 32 → FitBitFields (bit_fields k) (v ∷ n ∷ [])) → Fits k (memory_operand slot o)
-  memory_fits k slot limit None all h = tt
-  memory_fits k slot limit (Some p) all h = offset_fits k slot limit (offset_of p.0) (base_of p.1) (base_below p.1) all h
+  memory_fits : (k : Operand) (range : Slot) (limit : ℕ) (o : Option (List ℕ × List ℕ)) → ((z : ℤ) → Below limit (field range address z)) → ((v n : ℕ) → v < limit → n < 32 → FitBitFields (bit_fields k) (v ∷ n ∷ [])) → Fits k (memory_operand range o)
+  memory_fits k range limit None all h = tt
+  memory_fits k range limit (Some p) all h = offset_fits k range limit (offset_of p.0) (base_of p.1) (base_below p.1) all h
 
   one_fits : (k : Operand) (limit : ℕ) (o : Option ℕ) → Below limit o → ((n : ℕ) → n < limit → FitBitFields (bit_fields k) (n ∷ [])) → Fits k (option_map one_register o)
   one_fits k limit None b h = tt

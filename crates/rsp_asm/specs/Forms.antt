@@ -11,7 +11,7 @@ use Rattle.rsp_asm.specs.declared.statement.Form.{Form}
 use Rattle.rsp_asm.specs.declared.statement.Form.TheVariants.{NoOperation, Numbers, Row}
 use Rattle.rsp_asm.specs.declared.statement.Statement.{Statement}
 
--- a form, with all of its row but the instruction
+-- a form, with all that the code has of an instruction's row
 pub data Shape : Type 0 where
   nothing_shape : Shape
   numbers_shape : Shape
@@ -31,7 +31,7 @@ form_shape (row_form row) = row_shape (entry_of row)
 abbrev pub with_texts : meaning.Form → List ℕ → Result meaning.Statement AsmFaultKind
 with_texts form operands = with_operands (form_readings form (operand_texts operands))
 
--- what is said is the statement of the row with this entry
+-- the statement is that of an instruction with this entry
 pub record SaysRow (e : Entry) (operands : List ℕ) (said : Result meaning.Statement AsmFaultKind) : Type 0 where
   pub row : table.Row
   pub same : entry_of row ≡ e

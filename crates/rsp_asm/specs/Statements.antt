@@ -52,7 +52,7 @@ abbrev pub and_then : Result ℕ AsmFaultKind → (ℕ → Result ℕ AsmFaultKi
 and_then (Err kind) more = Err kind
 and_then (Ok w) more = more w
 
--- a word with the fields of these readings in these bit fields, or the fault of the leftmost that has one
+-- a word with the fields of these operands in these bit fields, or the fault of the leftmost that has one
 abbrev pub word_with : Labels → ℕ → Result ℕ AsmFaultKind → List BitField → Option (List Reading) → Result ℕ AsmFaultKind
 word_with labels address w ps None = Err BadOperand
 word_with labels address w ps (Some rs) = and_then w (λ v. with_values v ps (all_fields labels address rs))

@@ -10,7 +10,7 @@ pub fn words_decode()
 {}
 
 /// The words of an accepted block are those of its lines: each is the number of an operand of `.word` (`nop` is `.word 0`), or the
-/// one word of an instruction, of which [`words_decode`] says the rest. A line may use the labels of all lines. The words follow
+/// one word of an instruction, as [`words_decode`] has it. A line may use the labels of all lines. The words follow
 /// each other from the origin on, line by line, and none is left out.
 pub fn blocks_decode()
     ensures { BlocksDecode }

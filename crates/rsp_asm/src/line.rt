@@ -22,11 +22,11 @@ pub struct Line<'a> {
 }
 
 /// A line without its comment, and without blanks at both ends.
-fn code(line: &[u8]) -> &[u8]
+fn without_comment(line: &[u8]) -> &[u8]
     ensures { result.now ≡ code_of line.now }
 {
     match cut(line, Boundary::Comment) {
-        Some((front, _)) => trim(front),
+        Some((prefix, _)) => trim(prefix),
         None => trim(line),
     }
 }
@@ -45,7 +45,7 @@ fn split_line(line: &[u8]) -> Option<Parts<'_>>
     if !is_line(line) {
         return None;
     }
-    let text = code(line);
+    let text = without_comment(line);
     let Some((name, rest)) = cut(text, Boundary::Colon) else {
         return Some(Parts {
             label: None,

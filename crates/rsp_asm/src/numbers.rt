@@ -12,7 +12,7 @@ use crate::words::Words;
 use rsp_operands::{Labels, is_number_out_of_range, number_word};
 use rsp_text::AsmFaultKind;
 
-/// How many operands `.word` has, each of which gives a word.
+/// How many operands `.word` has. Each gives a word.
 ///
 /// Refused are no operands, or one that can't be read, as BadOperand, and then a number without a label that no word holds, as
 /// OutOfRange.

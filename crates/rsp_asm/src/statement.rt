@@ -1,4 +1,4 @@
-// Reading a statement: its name, and the text of its operands. Both passes begin with it.
+// The name of a statement, and the text of its operands. Both passes begin here.
 
 ghost use Rattle.std.specs.Prelude.{◌≡◌, ◌==◌, length, option_map, Err, IfOk, IfErr};
 ghost use Rattle.std.specs.List.{before_first, after_first};

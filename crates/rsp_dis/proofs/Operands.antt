@@ -46,8 +46,8 @@ spelled address k vs e =
 
 -- ---- numbers
 
-number_spelled : (slot : Slot) (address : ℕ) (z : ℤ) (v : ℕ) (bs : List ℕ) → IsNumber z bs → field slot address z ≡ Some v → Said address (option_map (asks slot []) (expression_of bs)) (v ∷ [])
-number_spelled slot address z v bs num found = subst (λ x. Said address x (v ∷ [])) (sym (ap (option_map (asks slot [])) num.reads)) (number_said slot address [] z v found)
+number_spelled : (range : Slot) (address : ℕ) (z : ℤ) (v : ℕ) (bs : List ℕ) → IsNumber z bs → field range address z ≡ Some v → Said address (option_map (asks range []) (expression_of bs)) (v ∷ [])
+number_spelled range address z v bs num found = subst (λ x. Said address x (v ∷ [])) (sym (ap (option_map (asks range [])) num.reads)) (number_said range address [] z v found)
 
 is_base : Option ℕ → ℕ → Bool
 is_base None n = false
@@ -67,13 +67,13 @@ offset_read z bs num =
     let some : 0 < length bs = (piece_from bs num.piece).some in
     cond-false (length bs == 0) (Some zero_expression) (expression_of bs) (ne_eqb (length bs) 0 (λ e. omega arith)) ∙ num.reads
 
-memory_said : (slot : Slot) (address : ℕ) (z : ℤ) (v n : ℕ) (bs : List ℕ) → IsNumber z bs → field slot address z ≡ Some v → n < 32 → Said address (memory_operand slot (cut Parenthesis (bs ++ base_name n))) (v ∷ n ∷ [])
-memory_said slot address z v n bs num found lt =
-    let is : memory_operand slot (cut Parenthesis (bs ++ base_name n)) ≡ Some (asks slot (n ∷ []) (constant z)) =
-    ap (memory_operand slot) (cut_between Parenthesis bs (scalar_name n ++ 41 ∷ []) 40 num.no_parenthesis refl)
-    ∙ ap (λ o. memory slot o (base_of (scalar_name n ++ 41 ∷ []))) (offset_read z bs num)
-    ∙ ap (memory slot (Some (constant z))) (base_back n lt) in
-    subst (λ x. Said address x (v ∷ n ∷ [])) (sym is) (number_said slot address (n ∷ []) z v found)
+memory_said : (range : Slot) (address : ℕ) (z : ℤ) (v n : ℕ) (bs : List ℕ) → IsNumber z bs → field range address z ≡ Some v → n < 32 → Said address (memory_operand range (cut Parenthesis (bs ++ base_name n))) (v ∷ n ∷ [])
+memory_said range address z v n bs num found lt =
+    let is : memory_operand range (cut Parenthesis (bs ++ base_name n)) ≡ Some (asks range (n ∷ []) (constant z)) =
+    ap (memory_operand range) (cut_between Parenthesis bs (scalar_name n ++ 41 ∷ []) 40 num.no_parenthesis refl)
+    ∙ ap (λ o. memory range o (base_of (scalar_name n ++ 41 ∷ []))) (offset_read z bs num)
+    ∙ ap (memory range (Some (constant z))) (base_back n lt) in
+    subst (λ x. Said address x (v ∷ n ∷ [])) (sym is) (number_said range address (n ∷ []) z v found)
 
 memory_piece : (z : ℤ) (n : ℕ) → mag z < 65536 → IsNumber z (signed_decimal z) → n < 32 → is_piece (signed_decimal z ++ base_name n) ≡ true
 memory_piece z n few num lt =

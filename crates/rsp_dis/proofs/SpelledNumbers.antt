@@ -32,18 +32,18 @@ zero_plus (pos n) = ap pos (omega arith)
 zero_plus (negsuc n) = omega (arith, ints)
 
 -- what asks for a number that is in its range
-pub number_fields : (slot : Slot) (address : ℕ) (registers : List ℕ) (z : ℤ) (v : ℕ) → field slot address z ≡ Some v → fields_of [] address (asks slot registers (constant z)) ≡ Ok (v ∷ registers)
-number_fields slot address registers z v found = ap (λ x. then_registers registers (or_out_of_range (field slot address x))) (zero_plus z) ∙ ap (λ o. then_registers registers (or_out_of_range o)) found
+pub number_fields : (range : Slot) (address : ℕ) (registers : List ℕ) (z : ℤ) (v : ℕ) → field range address z ≡ Some v → fields_of [] address (asks range registers (constant z)) ≡ Ok (v ∷ registers)
+number_fields range address registers z v found = ap (λ x. then_registers registers (or_out_of_range (field range address x))) (zero_plus z) ∙ ap (λ o. then_registers registers (or_out_of_range o)) found
 
-pub number_fits : (slot : Slot) (address : ℕ) (z : ℤ) (v : ℕ) → field slot address z ≡ Some v → number_fails address (Some (slot, constant z)) ≡ false
-number_fits slot address z v found = ap is_none found
+pub number_fits : (range : Slot) (address : ℕ) (z : ℤ) (v : ℕ) → field range address z ≡ Some v → number_fails address (Some (range, constant z)) ≡ false
+number_fits range address z v found = ap is_none found
 
-pub number_said : (slot : Slot) (address : ℕ) (registers : List ℕ) (z : ℤ) (v : ℕ) → field slot address z ≡ Some v → Said address (Some (asks slot registers (constant z))) (v ∷ registers)
-number_said slot address registers z v found = record {
-  reading = asks slot registers (constant z);
+pub number_said : (range : Slot) (address : ℕ) (registers : List ℕ) (z : ℤ) (v : ℕ) → field range address z ≡ Some v → Said address (Some (asks range registers (constant z))) (v ∷ registers)
+number_said range address registers z v found = record {
+  reading = asks range registers (constant z);
   is = refl;
-  fields = number_fields slot address registers z v found;
-  fits = number_fits slot address z v found;
+  fields = number_fields range address registers z v found;
+  fits = number_fits range address z v found;
 }
 
 -- ---- expressions

@@ -1,4 +1,4 @@
--- Scaffolding of the contracts: what the disassembler needs of each instruction, so that its text fits in 64 bytes. The name has
+-- Scaffolding of the contracts: what the disassembler needs of each instruction for its text to fit in 64 bytes. The name has
 -- at most six bytes, and there are at most three operands, of the kinds of the instruction table.
 use Rattle.std.specs.Prelude.{nat_le, Bool, ◌&&◌, length}
 use Rattle.std.specs.List.{list_all}

@@ -44,9 +44,9 @@ fn target(address: u16, offset: u16) -> Option<u16>
     requires { address < 4096 }
     ensures { result ≡ target address offset }
 {
-    let slot = u32::from(address) + 4;
+    let delay_slot = u32::from(address) + 4;
     if offset < 32768 {
-        let target = slot + 4 * u32::from(offset);
+        let target = delay_slot + 4 * u32::from(offset);
         if target < 4096 {
             Some(target as u16)
         } else {
@@ -54,8 +54,8 @@ fn target(address: u16, offset: u16) -> Option<u16>
         }
     } else {
         let distance = 4 * (65536 - u32::from(offset));
-        if distance <= slot {
-            Some((slot - distance) as u16)
+        if distance <= delay_slot {
+            Some((delay_slot - distance) as u16)
         } else {
             None
         }

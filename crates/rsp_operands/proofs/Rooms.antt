@@ -87,7 +87,7 @@ when : (most : ℕ) (b : Bool) (v : ℕ) → (b ≡ true → v ≤ most) → Mos
 when most true v h = h refl
 when most false v h = tt
 
-field_most : (slot : Slot) (address : ℕ) (z : ℤ) → Most (most_of slot) (field slot address z)
+field_most : (range : Slot) (address : ℕ) (z : ℤ) → Most (most_of range) (field range address z)
 field_most Half address (pos n) = when 65535 (nat_lt n 65536) n (λ t. grind (arith, nat_tests))
 field_most Half address (negsuc n) = when 65535 (nat_lt n 32768) (65535 - n) (λ t. omega arith)
 field_most Amount address (pos n) = when 31 (nat_lt n 32) n (λ t. grind (arith, nat_tests))
@@ -101,11 +101,11 @@ field_most (Scaled scale) address (negsuc n) = when 128 (suc n % scale == 0 && n
 field_most Word address (pos n) = when 4294967295 (nat_lt n 4294967296) n (λ t. grind (arith, nat_tests))
 field_most Word address (negsuc n) = when 4294967295 (nat_lt n 2147483648) (4294967295 - n) (λ t. omega arith)
 
-field_of_most : (slot : Slot) (address : ℕ) (z : Option ℤ) → IfOk (field_of slot address z) (λ v. v ≤ most_of slot)
-field_of_most slot address None = tt
-field_of_most slot address (Some z) = ranged (field slot address z) (field_most slot address z)
+field_of_most : (range : Slot) (address : ℕ) (z : Option ℤ) → IfOk (field_of range address z) (λ v. v ≤ most_of range)
+field_of_most range address None = tt
+field_of_most range address (Some z) = ranged (field range address z) (field_most range address z)
   where
-    ranged : (o : Option ℕ) → Most (most_of slot) o → IfOk (or_out_of_range o) (λ v. v ≤ most_of slot)
+    ranged : (o : Option ℕ) → Most (most_of range) o → IfOk (or_out_of_range o) (λ v. v ≤ most_of range)
     ranged None m = tt
     ranged (Some v) m = m
 
@@ -135,18 +135,18 @@ module _ (labels : Labels) (address : ℕ) where
   with_registers k ns most (Err kind) m h = tt
   with_registers k ns most (Ok v) m h = h v m
 
-  value_room : (k : Operand) (slot : Slot) (o : Option Expression) → ((v : ℕ) → v ≤ most_of slot → FitWord k (v ∷ [])) → HasRoom k (option_map (asks slot []) o)
-  value_room k slot None h = tt
-  value_room k slot (Some e) h = with_registers k [] (most_of slot) (field_of slot address (evaluate labels e)) (field_of_most slot address (evaluate labels e)) h
+  value_room : (k : Operand) (range : Slot) (o : Option Expression) → ((v : ℕ) → v ≤ most_of range → FitWord k (v ∷ [])) → HasRoom k (option_map (asks range []) o)
+  value_room k range None h = tt
+  value_room k range (Some e) h = with_registers k [] (most_of range) (field_of range address (evaluate labels e)) (field_of_most range address (evaluate labels e)) h
 
-  offset_room : (k : Operand) (slot : Slot) (o : Option Expression) (base : Option ℕ) → Most 31 base → ((v : ℕ) → v ≤ most_of slot → FitWord k (v ∷ [])) → HasRoom k (memory slot o base)
-  offset_room k slot None base m h = tt
-  offset_room k slot (Some e) None m h = tt
-  offset_room k slot (Some e) (Some b) m h = with_registers k (b ∷ []) (most_of slot) (field_of slot address (evaluate labels e)) (field_of_most slot address (evaluate labels e)) (λ v le. ((h v le).0, (m, tt)))
+  offset_room : (k : Operand) (range : Slot) (o : Option Expression) (base : Option ℕ) → Most 31 base → ((v : ℕ) → v ≤ most_of range → FitWord k (v ∷ [])) → HasRoom k (memory range o base)
+  offset_room k range None base m h = tt
+  offset_room k range (Some e) None m h = tt
+  offset_room k range (Some e) (Some b) m h = with_registers k (b ∷ []) (most_of range) (field_of range address (evaluate labels e)) (field_of_most range address (evaluate labels e)) (λ v le. ((h v le).0, (m, tt)))
 
-  memory_room : (k : Operand) (slot : Slot) (o : Option (List ℕ × List ℕ)) → ((v : ℕ) → v ≤ most_of slot → FitWord k (v ∷ [])) → HasRoom k (memory_operand slot o)
-  memory_room k slot None h = tt
-  memory_room k slot (Some p) h = offset_room k slot (offset_of p.0) (base_of p.1) (base_most p.1) h
+  memory_room : (k : Operand) (range : Slot) (o : Option (List ℕ × List ℕ)) → ((v : ℕ) → v ≤ most_of range → FitWord k (v ∷ [])) → HasRoom k (memory_operand range o)
+  memory_room k range None h = tt
+  memory_room k range (Some p) h = offset_room k range (offset_of p.0) (base_of p.1) (base_most p.1) h
 
   one_room : (k : Operand) (o : Option ℕ) → Most 31 o → ((n : ℕ) → n ≤ 31 → FitWord k (n ∷ [])) → HasRoom k (option_map one_register o)
   one_room k None m h = tt

@@ -9,8 +9,8 @@ use Rattle.rsp_operands.specs.declared.reading.Reading.TheVariants.{Register, Pa
 abbrev pub reading : Reading → statement.Reading
 reading (Register n) = one_register n
 reading (Pair n e) = pair n e
-reading (Value slot e) = asks slot [] (expression e)
-reading (Memory slot e b) = asks slot (b ∷ []) (expression e)
+reading (Value range e) = asks range [] (expression e)
+reading (Memory range e b) = asks range (b ∷ []) (expression e)
 
 -- the meaning of an operand with its number clamped as the code does
 abbrev pub capped_reading : statement.Reading → statement.Reading

@@ -52,9 +52,9 @@ pub(crate) fn reading_fields(
     match said {
         Reading::Register(number) => Ok(one(u32::from(number))),
         Reading::Pair(number, element) => Ok(two(u32::from(number), u32::from(element))),
-        Reading::Value(slot, e) => Ok(one(expression_field(slot, e, address, labels)?)),
-        Reading::Memory(slot, e, base) => {
-            let offset = expression_field(slot, e, address, labels)?;
+        Reading::Value(range, e) => Ok(one(expression_field(range, e, address, labels)?)),
+        Reading::Memory(range, e, base) => {
+            let offset = expression_field(range, e, address, labels)?;
             Ok(two(offset, u32::from(base)))
         }
     }

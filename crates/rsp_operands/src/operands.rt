@@ -20,7 +20,9 @@ pub fn is_out_of_range(kind: Operand, text: &[u8], address: u16) -> Option<bool>
     ensures { result ≡ option_map (reading_fails address) (read kind text.now) }
 {
     match read_operand(kind, text)? {
-        Reading::Value(slot, e) | Reading::Memory(slot, e, _) => Some(is_beyond(slot, e, address)),
+        Reading::Value(range, e) | Reading::Memory(range, e, _) => Some(is_beyond(
+            range, e, address,
+        )),
         Reading::Register(_) | Reading::Pair(_, _) => Some(false),
     }
 }

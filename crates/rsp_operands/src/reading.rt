@@ -1,4 +1,4 @@
-// Reading the text of an operand, by its kind.
+// Operands as their texts give them, by their kinds.
 
 ghost use Rattle.std.specs.Prelude.{◌≡◌, [], Some, None, option_map};
 ghost use Rattle.rsp_text.specs.declared.text.Boundary.TheVariants.{Bracket, Parenthesis};
@@ -11,11 +11,11 @@ ghost use Rattle.rsp_operands.specs.Readings.{reading, capped_reading};
 
 use rsp_decode::{ByteElements, Operand};
 use rsp_text::{
-    Boundary, Expression, Slot, control, cut, element, read_expression, scalar, small_number,
-    sp_register, vector,
+    Boundary, Expression, Slot, cut, read_control, read_element, read_expression, read_scalar,
+    read_sp_register, read_vector, small_number,
 };
 
-/// What an operand means, before its label is looked up and its range is checked.
+/// What an operand means, before its label is searched for and its range is checked.
 #[derive(Clone, Copy)]
 pub(crate) enum Reading<'a> {
     /// A register.
@@ -33,7 +33,7 @@ fn base(text: &[u8]) -> Option<u8>
     ensures { result ≡ base_of text.now }
 {
     match text {
-        [name @ .., b')'] => scalar(name),
+        [name @ .., b')'] => read_scalar(name),
         _ => None,
     }
 }
@@ -57,7 +57,7 @@ fn bracketed_element(text: &[u8]) -> Option<u8>
     ensures { result ≡ bracketed element_named text.now }
 {
     match text {
-        [name @ .., b']'] => element(name),
+        [name @ .., b']'] => read_element(name),
         _ => None,
     }
 }
@@ -75,7 +75,7 @@ fn bracketed_lane(text: &[u8]) -> Option<u8>
 fn with_element(name: &[u8], element: Option<u8>) -> Option<Reading<'_>>
     ensures { option_map reading result ≡ option_map capped_reading (with_element (vector_named name.now) element) }
 {
-    Some(Reading::Pair(vector(name)?, element?))
+    Some(Reading::Pair(read_vector(name)?, element?))
 }
 
 /// A vector register with a byte of it, which is 0 without brackets.
@@ -108,10 +108,10 @@ fn vector_lane(text: &[u8]) -> Option<Reading<'_>>
     }
 }
 
-fn value(slot: Slot, text: &[u8]) -> Option<Reading<'_>>
-    ensures { option_map reading result ≡ option_map capped_reading (option_map (asks slot []) (expression_of text.now)) }
+fn value(range: Slot, text: &[u8]) -> Option<Reading<'_>>
+    ensures { option_map reading result ≡ option_map capped_reading (option_map (asks range []) (expression_of text.now)) }
 {
-    Some(Reading::Value(slot, read_expression(text)?))
+    Some(Reading::Value(range, read_expression(text)?))
 }
 
 /// The offset of a memory operand, by the text before its `(`: 0 if there is none.
@@ -127,11 +127,11 @@ fn offset(text: &[u8]) -> Option<Expression<'_>>
     read_expression(text)
 }
 
-fn memory(slot: Slot, text: &[u8]) -> Option<Reading<'_>>
-    ensures { option_map reading result ≡ option_map capped_reading (memory_operand slot (cut Parenthesis text.now)) }
+fn memory(range: Slot, text: &[u8]) -> Option<Reading<'_>>
+    ensures { option_map reading result ≡ option_map capped_reading (memory_operand range (cut Parenthesis text.now)) }
 {
-    let (front, rest) = cut(text, Boundary::Parenthesis)?;
-    Some(Reading::Memory(slot, offset(front)?, base(rest)?))
+    let (prefix, rest) = cut(text, Boundary::Parenthesis)?;
+    Some(Reading::Memory(range, offset(prefix)?, base(rest)?))
 }
 
 /// What the text of an operand means; None if it is no operand of this kind.
@@ -139,16 +139,16 @@ pub(crate) fn read_operand(kind: Operand, text: &[u8]) -> Option<Reading<'_>>
     ensures { option_map reading result ≡ option_map capped_reading (read kind text.now) }
 {
     match kind {
-        Operand::Scalar(_) => Some(Reading::Register(scalar(text)?)),
+        Operand::Scalar(_) => Some(Reading::Register(read_scalar(text)?)),
         Operand::ShiftAmount => value(Slot::Amount, text),
         Operand::Signed | Operand::Unsigned => value(Slot::Half, text),
         Operand::JumpTarget => value(Slot::Jump, text),
         Operand::BranchTarget => value(Slot::Branch, text),
         Operand::ScalarMemory => memory(Slot::Half, text),
         Operand::VectorMemory(scale) => memory(Slot::Scaled(scale), text),
-        Operand::SpRegister => Some(Reading::Register(sp_register(text)?)),
-        Operand::ControlRegister => Some(Reading::Register(control(text)?)),
-        Operand::Vector(_) => Some(Reading::Register(vector(text)?)),
+        Operand::SpRegister => Some(Reading::Register(read_sp_register(text)?)),
+        Operand::ControlRegister => Some(Reading::Register(read_control(text)?)),
+        Operand::Vector(_) => Some(Reading::Register(read_vector(text)?)),
         Operand::VectorByte(_, elements) => vector_byte(elements, text),
         Operand::VectorElement => vector_element(text),
         Operand::VectorLane => vector_lane(text),

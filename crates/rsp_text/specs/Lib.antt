@@ -1,4 +1,5 @@
--- The syntax of the assembler: what a source text means, and how a word is disassembled. Begin with Means and Spell.
+-- The syntax of the assembler: what a source text means, and how a word is disassembled. Begin with
+-- `rsp_text/specs/Means.antt` and `rsp_text/specs/Spell.antt`.
 pub mod Chars
 pub mod Cuts
 pub mod Numbers

@@ -48,7 +48,7 @@ or_fault (Some fault) number found = Some fault
 or_fault None number None = None
 or_fault None number (Some kind) = Some (fault_at number kind)
 
--- the fault of the lowest line before line k in which the first pass finds one
+-- the fault that the first pass finds in the lines before line k: that of the lowest line that has one
 abbrev pub fault_before : ℕ → List (List ℕ) → ℕ → Option AsmFault
 fault_before origin ls zero = None
 fault_before origin ls (suc k) = or_fault (fault_before origin ls k) (suc k) (fault_of_line origin ls k)
@@ -59,7 +59,7 @@ and_words (Err fault) number found = Err fault
 and_words (Ok words) number (Err kind) = Err (fault_at number kind)
 and_words (Ok words) number (Ok more) = Ok (words ++ more)
 
--- the words of the lines before line k, or the fault of the lowest of them in which the second pass finds one
+-- the words of the lines before line k, or the fault that the second pass finds in the lowest of them that has one
 abbrev pub words_before : Labels → ℕ → List (List ℕ) → ℕ → Result (List ℕ) AsmFault
 words_before labels origin ls zero = Ok []
 words_before labels origin ls (suc k) = and_words (words_before labels origin ls k) (suc k) (words_of_line labels origin ls k)

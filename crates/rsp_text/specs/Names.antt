@@ -13,7 +13,7 @@ is_decimal c = nat_le 48 c && nat_le c 57
 abbrev pub below : ℕ → ℕ → Option ℕ
 below limit n = if nat_lt n limit then Some n else None
 
--- a decimal number below a limit: one digit, or two without a leading zero
+-- a decimal number below this one: one digit, or two without a leading zero
 abbrev pub small_number : ℕ → List ℕ → Option ℕ
 small_number limit bs =
     if length bs == 1 && is_decimal (slice_index bs 0) then below limit (slice_index bs 0 - 48)

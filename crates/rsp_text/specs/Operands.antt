@@ -25,7 +25,7 @@ abbrev pub pair : ℕ → ℕ → Reading
 pair n e = record { value = None; registers = n ∷ e ∷ [] }
 
 abbrev pub asks : Slot → List ℕ → Expression → Reading
-asks slot registers e = record { value = Some (slot, e); registers = registers }
+asks range registers e = record { value = Some (range, e); registers = registers }
 
 -- a scalar register, by the text after an opening parenthesis; it ends with the closing one
 abbrev pub base_of : List ℕ → Option ℕ
@@ -38,7 +38,7 @@ abbrev pub offset_of : List ℕ → Option Expression
 offset_of bs = if length bs == 0 then Some zero_expression else expression_of bs
 
 abbrev pub memory : Slot → Option Expression → Option ℕ → Option Reading
-memory slot e base = option_and_then (λ x. option_map (λ b. asks slot (b ∷ []) x) base) e
+memory range e base = option_and_then (λ x. option_map (λ b. asks range (b ∷ []) x) base) e
 
 -- what is found for the text before a closing bracket, with which it ends
 abbrev pub bracketed : (List ℕ → Option ℕ) → List ℕ → Option ℕ
@@ -65,8 +65,8 @@ bracket_of look default None bs = with_element (vector_named bs) default
 bracket_of look default (Some p) bs = with_element (vector_named p.0) (bracketed look p.1)
 
 abbrev pub memory_operand : Slot → Option (List ℕ × List ℕ) → Option Reading
-memory_operand slot None = None
-memory_operand slot (Some p) = memory slot (offset_of p.0) (base_of p.1)
+memory_operand range None = None
+memory_operand range (Some p) = memory range (offset_of p.0) (base_of p.1)
 
 -- ---- how numbers are written
 

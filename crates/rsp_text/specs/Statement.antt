@@ -78,8 +78,8 @@ or_out_of_range None = Err OutOfRange
 or_out_of_range (Some v) = Ok v
 
 abbrev pub field_of : Slot → ℕ → Option ℤ → Result ℕ AsmFaultKind
-field_of slot address None = Err LabelMissing
-field_of slot address (Some z) = or_out_of_range (field slot address z)
+field_of range address None = Err LabelMissing
+field_of range address (Some z) = or_out_of_range (field range address z)
 
 abbrev pub then_registers : List ℕ → Result ℕ AsmFaultKind → Result (List ℕ) AsmFaultKind
 then_registers ns (Ok v) = Ok (v ∷ ns)

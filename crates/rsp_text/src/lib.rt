@@ -2,8 +2,9 @@
 //!
 //! The functions here read one piece of a text each. Assembler, disassembler and the readers of scripts share them.
 //!
-//! The definitions in `specs` are the whole syntax. `Means` says which words a source text assembles to, or at which line it
-//! is refused and why; `Spell` says how a word is disassembled. No function of this crate does either as a whole.
+//! The definitions in `specs` are the whole syntax. Which words a source text assembles to, or at which line it is refused and
+//! why, is in `rsp_text/specs/Means.antt`; how a word is disassembled in `rsp_text/specs/Spell.antt`. No function of this crate
+//! does either as a whole.
 #![tactic(auto)]
 
 mod blanks;
@@ -24,7 +25,9 @@ pub use expression::{Expression, is_label, read_expression};
 pub use fault::{AsmFault, AsmFaultKind};
 pub use hex::hex_digit;
 pub use lines::{MAX_LINE_LEN, is_line, is_text, without_return};
-pub use names::{control, element, scalar, small_number, sp_register, vector};
+pub use names::{
+    read_control, read_element, read_scalar, read_sp_register, read_vector, small_number,
+};
 pub use numbers::read_unsigned;
 pub use search::{len_before, len_before_blank};
 pub use slot::Slot;

@@ -65,7 +65,7 @@ pub fn small_number(text: &[u8], limit: u8) -> Option<u8>
 }
 
 /// The number of a scalar register, 0 to 31: of `$0` to `$31`, or of a name such as `$sp` or `$zero`. None of another text.
-pub fn scalar(text: &[u8]) -> Option<u8>
+pub fn read_scalar(text: &[u8]) -> Option<u8>
     ensures { result ≡ scalar_named text.now }
 {
     if let [b'$', digits @ ..] = text
@@ -77,7 +77,7 @@ pub fn scalar(text: &[u8]) -> Option<u8>
 }
 
 /// The number of a vector register, 0 to 31: of `$v0` to `$v31`. None of another text.
-pub fn vector(text: &[u8]) -> Option<u8>
+pub fn read_vector(text: &[u8]) -> Option<u8>
     ensures { result ≡ vector_named text.now }
 {
     match text {
@@ -87,7 +87,7 @@ pub fn vector(text: &[u8]) -> Option<u8>
 }
 
 /// The number of an SP register, 0 to 15: of `$c0` to `$c15`. None of another text.
-pub fn sp_register(text: &[u8]) -> Option<u8>
+pub fn read_sp_register(text: &[u8]) -> Option<u8>
     ensures { result ≡ sp_named text.now }
 {
     match text {
@@ -99,7 +99,7 @@ pub fn sp_register(text: &[u8]) -> Option<u8>
 static CONTROLS: [(&str, u8); 3] = [("$vco", 0), ("$vcc", 1), ("$vce", 2)];
 
 /// The number of a control register of the vector unit: 0 of `$vco`, 1 of `$vcc`, 2 of `$vce`. None of another text.
-pub fn control(text: &[u8]) -> Option<u8>
+pub fn read_control(text: &[u8]) -> Option<u8>
     ensures { result ≡ control_named text.now }
 {
     look_up(&CONTROLS, text)
@@ -126,7 +126,7 @@ static ELEMENTS: [(&str, u8); 15] = [
 
 /// The code of a computing instruction's element, 1 to 15, by the text between the brackets: `v`, `0q`, `1q`, `0h` to `3h`, or
 /// a lane `0` to `7`. None of another text.
-pub fn element(text: &[u8]) -> Option<u8>
+pub fn read_element(text: &[u8]) -> Option<u8>
     ensures { result ≡ element_named text.now }
 {
     look_up(&ELEMENTS, text)

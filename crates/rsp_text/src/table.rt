@@ -8,7 +8,7 @@ ghost use Rattle.rsp_text.specs.Statement.{row_named};
 use crate::text::is_same;
 use rsp_decode::{TableRow, table};
 
-/// The first row with this name, in either case.
+/// The first instruction of the rows with this name, in either case.
 fn find_in(rows: &'static [TableRow], name: &[u8]) -> Option<TableRow>
     ensures { option_map entry result ≡ find (has_name name.now) (map entry rows.now) }
 {
@@ -27,7 +27,7 @@ pub fn find_row(name: &[u8]) -> Option<TableRow>
     find_in(table(), name)
 }
 
-/// The first row whose fixed bits are those of the word.
+/// The first instruction of the rows whose fixed bits are those of the word.
 fn select_in(rows: &'static [TableRow], word: u32) -> Option<TableRow>
     ensures { option_map entry result ≡ find (is_selected word) (map entry rows.now) }
 {
