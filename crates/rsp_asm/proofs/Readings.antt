@@ -19,9 +19,9 @@ value_span (Some v) = 1
 abbrev pub span : Reading → ℕ
 span r = value_span r.value + length r.registers
 
-pub fields_span : (labels : Labels) (place : ℕ) (ns : List ℕ) (v : Option (Slot × Expression)) (vs : List ℕ) → fields_with labels place ns v ≡ Ok vs → length vs ≡ value_span v + length ns
-fields_span labels place ns None vs e = let same : ns ≡ vs = cc in omega (arith, ap length same)
-fields_span labels place ns (Some v) vs e = go (field_of v.0 place (evaluate labels v.1)) e
+pub fields_span : (labels : Labels) (address : ℕ) (ns : List ℕ) (v : Option (Slot × Expression)) (vs : List ℕ) → fields_with labels address ns v ≡ Ok vs → length vs ≡ value_span v + length ns
+fields_span labels address ns None vs e = let same : ns ≡ vs = cc in omega (arith, ap length same)
+fields_span labels address ns (Some v) vs e = go (field_of v.0 address (evaluate labels v.1)) e
   where
     go : (o : Result ℕ AsmFaultKind) → then_registers ns o ≡ Ok vs → length vs ≡ 1 + length ns
     go (Ok x) e = let same : x ∷ ns ≡ vs = cc in omega (arith, ap length same)
@@ -32,14 +32,14 @@ module _ {A : Type 0} (f : A → Reading) (n : ℕ) (each : (a : A) → span (f 
   from_map None e = absurd cc
   from_map (Some a) e = let same : f a ≡ r = cc in sym (ap span same) ∙ each a
 
-memory_span : (slot : Slot) (o : Option (List ℕ × List ℕ)) (r : Reading) → memory_operand slot o ≡ Some r → span r ≡ 2
-memory_span slot None r e = absurd cc
-memory_span slot (Some p) r e = go (offset_of p.0) (base_of p.1) e
+memory_span : (range : Slot) (o : Option (List ℕ × List ℕ)) (r : Reading) → memory_operand range o ≡ Some r → span r ≡ 2
+memory_span range None r e = absurd cc
+memory_span range (Some p) r e = go (offset_of p.0) (base_of p.1) e
   where
-    go : (x : Option Expression) (b : Option ℕ) → memory slot x b ≡ Some r → span r ≡ 2
+    go : (x : Option Expression) (b : Option ℕ) → memory range x b ≡ Some r → span r ≡ 2
     go None b e = absurd cc
     go (Some x) None e = absurd cc
-    go (Some x) (Some b) e = let same : asks slot (b ∷ []) x ≡ r = cc in sym (ap span same)
+    go (Some x) (Some b) e = let same : asks range (b ∷ []) x ≡ r = cc in sym (ap span same)
 
 pair_span : (v e : Option ℕ) (r : Reading) → with_element v e ≡ Some r → span r ≡ 2
 pair_span None e r h = absurd cc

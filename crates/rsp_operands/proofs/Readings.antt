@@ -7,17 +7,17 @@ use Rattle.rsp_text.specs.Statement.{asks, memory}
 use Rattle.rsp_text.specs.Seen.{capped_expression}
 use Rattle.rsp_operands.specs.Readings.{capped_reading}
 
-pub found_value : (slot : Slot) (ns : List ℕ) (o : Option Expression) (e : Expression) → Some e ≡ option_map capped_expression o → Some (asks slot ns e) ≡ option_map capped_reading (option_map (asks slot ns) o)
-found_value slot ns None e h = absurd cc
-found_value slot ns (Some x) e h = let same : e ≡ capped_expression x = cc in ap (λ y. Some (asks slot ns y)) same
+pub found_value : (range : Slot) (ns : List ℕ) (o : Option Expression) (e : Expression) → Some e ≡ option_map capped_expression o → Some (asks range ns e) ≡ option_map capped_reading (option_map (asks range ns) o)
+found_value range ns None e h = absurd cc
+found_value range ns (Some x) e h = let same : e ≡ capped_expression x = cc in ap (λ y. Some (asks range ns y)) same
 
-pub found_memory : (slot : Slot) (o : Option Expression) (e : Expression) (b : ℕ) (base : Option ℕ) → Some e ≡ option_map capped_expression o → Some b ≡ base → Some (asks slot (b ∷ []) e) ≡ option_map capped_reading (memory slot o base)
-found_memory slot None e b base h k = absurd cc
-found_memory slot (Some x) e b base h k = let same : e ≡ capped_expression x = cc in ap (λ y. Some (asks slot (b ∷ []) y)) same ∙ ap (λ t. option_map capped_reading (memory slot (Some x) t)) k
+pub found_memory : (range : Slot) (o : Option Expression) (e : Expression) (b : ℕ) (base : Option ℕ) → Some e ≡ option_map capped_expression o → Some b ≡ base → Some (asks range (b ∷ []) e) ≡ option_map capped_reading (memory range o base)
+found_memory range None e b base h k = absurd cc
+found_memory range (Some x) e b base h k = let same : e ≡ capped_expression x = cc in ap (λ y. Some (asks range (b ∷ []) y)) same ∙ ap (λ t. option_map capped_reading (memory range (Some x) t)) k
 
-pub lost_base : (slot : Slot) (o : Option Expression) → memory slot o None ≡ None
-lost_base slot None = refl
-lost_base slot (Some e) = refl
+pub lost_base : (range : Slot) (o : Option Expression) → memory range o None ≡ None
+lost_base range None = refl
+lost_base range (Some e) = refl
 
 -- What some code found of a value that it saw, where it found that of each text's meaning that it may have seen, is what is
 -- found of the text's meaning itself.

@@ -1,4 +1,5 @@
--- What a text is made of, what assembly text means, and how a word is spelled.
+-- The syntax of the assembler: what a source text means, and how a word is disassembled. Begin with
+-- `rsp_text/specs/Means.antt` and `rsp_text/specs/Spell.antt`.
 pub mod Chars
 pub mod Cuts
 pub mod Numbers

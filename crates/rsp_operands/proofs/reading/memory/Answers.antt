@@ -8,14 +8,14 @@ use Rattle.rsp_operands.proofs.reading.memory.Goals as goal
 
 pub returns-in_err-base : goal.returns-in_err-base
 returns-in_err-base c =
-    let slot = c.args.slot in
+    let range = c.args.range in
     ap (option_map reading) c.from_residual-in_err-base.ensures
-    ∙ ap (option_map capped_reading) (sym (lost_base slot (offset_of c.in_ok-front.front.now)))
-    ∙ ap (λ b. option_map capped_reading (memory slot (offset_of c.in_ok-front.front.now) b)) c.in_err-base.ensures
-    ∙ ap (λ o. option_map capped_reading (memory_operand slot o)) c.in_ok-front.ensures
+    ∙ ap (option_map capped_reading) (sym (lost_base range (offset_of c.in_ok-prefix.prefix.now)))
+    ∙ ap (λ b. option_map capped_reading (memory range (offset_of c.in_ok-prefix.prefix.now) b)) c.in_err-base.ensures
+    ∙ ap (λ o. option_map capped_reading (memory_operand range o)) c.in_ok-prefix.ensures
 
 pub returns : goal.returns
 returns c =
-    let slot = c.args.slot in
-    found_memory slot (offset_of c.in_ok-front.front.now) (expression c.in_ok-offset.field-0) c.in_ok-base.field-0 (base_of c.in_ok-front.rest.now) c.in_ok-offset.ensures c.in_ok-base.ensures
-    ∙ ap (λ o. option_map capped_reading (memory_operand slot o)) c.in_ok-front.ensures
+    let range = c.args.range in
+    found_memory range (offset_of c.in_ok-prefix.prefix.now) (expression c.in_ok-offset.field-0) c.in_ok-base.field-0 (base_of c.in_ok-prefix.rest.now) c.in_ok-offset.ensures c.in_ok-base.ensures
+    ∙ ap (λ o. option_map capped_reading (memory_operand range o)) c.in_ok-prefix.ensures

@@ -5,4 +5,4 @@ use Rattle.rsp_operands.proofs.Readings.{found_value}
 use Rattle.rsp_operands.proofs.reading.value.Goals as goal
 
 pub returns : goal.returns
-returns c = found_value c.args.slot [] (expression_of c.args.text.now) (expression c.in_ok-read_expression.field-0) c.in_ok-read_expression.ensures
+returns c = found_value c.args.range [] (expression_of c.args.text.now) (expression c.in_ok-read_expression.field-0) c.in_ok-read_expression.ensures
