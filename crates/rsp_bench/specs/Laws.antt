@@ -1,11 +1,9 @@
 -- What stays the same where lines of a script are exchanged for others.
-use Rattle.std.specs.Prelude.{◌≡◌, ◌⊎◌, ℕ, List, [], ◌∷◌, ◌++◌, Bool, true, false, Option, Some, None, replicate, codes}
+use Rattle.std.specs.Prelude.{◌≡◌, ◌⊎◌, ℕ, List, [], ◌∷◌, ◌++◌, Bool, true, ◌||◌, None, replicate, codes}
 use Rattle.std.specs.List.{before_first}
+use Rattle.std.specs.Str.{bytes_eq}
 use Rattle.rsp_script.specs.Line.{is_hash}
 use Rattle.rsp_script.specs.Words.{words_in}
-use Rattle.rsp_script.specs.Names.{name_of}
-use Rattle.rsp_script.specs.declared.name.Name.{Name}
-use Rattle.rsp_script.specs.declared.name.Name.TheVariants as names
 use Rattle.rsp_debug.specs.declared.stop.Stop.{Stop}
 use Rattle.rsp_lines.specs.Replies.{replies, final}
 use Rattle.rsp_bench.specs.Replies.{stop_text}
@@ -14,27 +12,21 @@ use Rattle.rsp_bench.specs.Session.{SessionState, line_answer}
 -- ---- looks and runs
 
 -- the names of the commands that look; `read` isn't one, since it can take the semaphore
-abbrev pub is_look_name : Option Name → Bool
-is_look_name (Some names.Regs) = true
-is_look_name (Some names.Vregs) = true
-is_look_name (Some names.Acc) = true
-is_look_name (Some names.Flags) = true
-is_look_name (Some names.Sp) = true
-is_look_name (Some names.Mem) = true
-is_look_name (Some names.Dis) = true
-is_look_name _ = false
+abbrev pub is_look_name : List ℕ → Bool
+is_look_name name =
+    bytes_eq name (codes "regs") || bytes_eq name (codes "vregs") || bytes_eq name (codes "acc") || bytes_eq name (codes "flags")
+    || bytes_eq name (codes "sp") || bytes_eq name (codes "mem") || bytes_eq name (codes "dis")
 
-abbrev pub is_run_name : Option Name → Bool
-is_run_name (Some names.Run) = true
-is_run_name _ = false
+abbrev pub is_run_name : List ℕ → Bool
+is_run_name name = bytes_eq name (codes "run")
 
-abbrev pub first_name : List (List ℕ) → Option Name
-first_name [] = None
-first_name (name ∷ operands) = name_of name
+abbrev pub first_word : List (List ℕ) → List ℕ
+first_word [] = []
+first_word (word ∷ words) = word
 
--- the command's name that a line outside a block begins with, whatever the line is answered
-unfoldable pub name_on : List ℕ → Option Name
-name_on line = first_name (words_in (before_first is_hash line))
+-- the first word of a line outside a block, which names its command; no bytes where it has no words
+unfoldable pub name_on : List ℕ → List ℕ
+name_on line = first_word (words_in (before_first is_hash line))
 
 -- a line that looks, accepted or refused
 abbrev pub looks : List ℕ → Bool
