@@ -1,7 +1,9 @@
 -- How far a run came.
-use Rattle.std.specs.Prelude.{◌≡◌, ◌≤◌, ℕ, ◌⊎◌, List, ◌++◌, take, length, Option}
+use Rattle.std.specs.Prelude.{◌≡◌, ◌≤◌, ℕ, ◌⊎◌, List, ◌++◌, take, length, Option, IfSome, Result, Ok, Err}
 use Rattle.std.specs.Io.KnownBytes.{append_known, prepend_known, IsAtEnd}
 use Rattle.rsp_lines.specs.declared.run.TheConstants.{SCRIPT_LIMIT}
+use Rattle.rsp_lines.specs.declared.run.RunFault.{RunFault}
+use Rattle.rsp_lines.specs.declared.run.RunFault.TheVariants.{ReadFault, WriteFault, ScriptTooLong, OutOfMemory}
 use Rattle.rsp_lines.specs.Lines.{ended_lines}
 use Rattle.rsp_lines.specs.Replies.{Answer, replies, out_of}
 
@@ -46,3 +48,15 @@ pub record FrontWritten {S : Type 0} (r : ScriptRun S) : Type 0 where
   pub told : r.script ≡ prepend_known taken r.unread
   pub front : WritesFront r.before r.written (replies r.answered (ended_lines (take SCRIPT_LIMIT taken)) r.session)
       ⊎ (IsAtEnd r.unread × WritesFront r.before r.written (out_of r.answered r.closing taken r.session))
+
+-- the replies to the lines that ended within the limit of a script were written in full, and nothing else
+abbrev pub LimitWritten : {S : Type 0} → ScriptRun S → Type 0
+LimitWritten r = IfSome r.script (λ script. r.written ≡ append_known r.before (replies r.answered (ended_lines (take SCRIPT_LIMIT script)) r.session))
+
+-- what a run that ended early had written, by its fault
+abbrev pub LeavesWritten : {A S : Type 0} → Result A RunFault → ScriptRun S → Type 0
+LeavesWritten (Ok a) r = Unit {0}
+LeavesWritten (Err ReadFault) r = EndedLinesWritten r
+LeavesWritten (Err WriteFault) r = FrontWritten r
+LeavesWritten (Err ScriptTooLong) r = LimitWritten r
+LeavesWritten (Err OutOfMemory) r = FrontWritten r

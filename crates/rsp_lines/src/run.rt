@@ -1,10 +1,9 @@
-ghost use Rattle.std.specs.Prelude.{◌≡◌, ℕ, ◌+◌, ◌-◌, ◌<◌, ◌≤◌, ◌^◌, List, take, length, OnOk, IfSome, IsErrOf};
+ghost use Rattle.std.specs.Prelude.{◌≡◌, ℕ, ◌+◌, ◌-◌, ◌<◌, ◌≤◌, ◌^◌, List, length, OnOk, IfSome, IsErrOf};
 ghost use Rattle.std.specs.Io.KnownBytes.{append_known};
 ghost use Rattle.std.specs.Str.Lines.{lines};
 ghost use Rattle.rsp_lines.specs.Faults.{failed_reads, failed_writes};
-ghost use Rattle.rsp_lines.specs.Left.{TakesAtMost, Takes, EndedLinesWritten, FrontWritten};
-ghost use Rattle.rsp_lines.specs.Lines.{ended_lines};
-ghost use Rattle.rsp_lines.specs.Replies.{replies, final, out_of};
+ghost use Rattle.rsp_lines.specs.Left.{TakesAtMost, Takes, LeavesWritten};
+ghost use Rattle.rsp_lines.specs.Replies.{final, out_of};
 
 use crate::answer::{answer_end, answer_piece};
 use crate::answering::Answering;
@@ -60,39 +59,16 @@ pub fn answer_script<S: Answering, R: Source, W: Sink>(
     ensures past { IsErrOf result RunFault.ScriptTooLong → Takes (SCRIPT_LIMIT + 1) (R.rest source.old) (R.rest source.new) }
     ensures few { TakesAtMost (SCRIPT_LIMIT + 1) (R.rest source.old) (R.rest source.new) }
 
-    // What a fault leaves written.
-    ensures left_read { IsErrOf result RunFault.ReadFault →
-        EndedLinesWritten (record {
-          answered = S.answered;
-          closing = S.closing;
-          session = session.old;
-          script = R.rest source.old;
-          unread = R.rest source.new;
-          before = W.written sink.old;
-          written = W.written sink.new;
-        }) }
-    ensures left_long { IfSome (R.rest source.old) (λ script. IsErrOf result RunFault.ScriptTooLong →
-        W.written sink.new ≡ append_known (W.written sink.old) (replies S.answered (ended_lines (take SCRIPT_LIMIT script)) session.old)) }
-    ensures left_write { IsErrOf result RunFault.WriteFault →
-        FrontWritten (record {
-          answered = S.answered;
-          closing = S.closing;
-          session = session.old;
-          script = R.rest source.old;
-          unread = R.rest source.new;
-          before = W.written sink.old;
-          written = W.written sink.new;
-        }) }
-    ensures left_memory { IsErrOf result RunFault.OutOfMemory →
-        FrontWritten (record {
-          answered = S.answered;
-          closing = S.closing;
-          session = session.old;
-          script = R.rest source.old;
-          unread = R.rest source.new;
-          before = W.written sink.old;
-          written = W.written sink.new;
-        }) }
+    // What a run that ends early has written.
+    ensures left { LeavesWritten result (record {
+      answered = S.answered;
+      closing = S.closing;
+      session = session.old;
+      script = R.rest source.old;
+      unread = R.rest source.new;
+      before = W.written sink.old;
+      written = W.written sink.new;
+    }) }
 {
     let mut line = LineSoFar::new();
     let mut buffer = [0u8; PIECE_LENGTH];
