@@ -39,20 +39,20 @@ one_value : (x : Result ℕ AsmFaultKind) (vs : List ℕ) → then_registers [] 
 one_value (Ok v) vs e = let same : v ∷ [] ≡ vs = cc in (v, same)
 one_value (Err kind) vs e = absurd cc
 
-module _ (labels : Labels) (place : ℕ) where
+module _ (labels : Labels) (address : ℕ) where
   -- word i is the number of reading i
   abbrev Each : List Reading → List ℕ → Type 0
-  Each rs ws = (i : ℕ) (d : Reading) → i < length rs → fields_of labels place (get_or rs i d) ≡ Ok (get_or ws i 0 ∷ [])
+  Each rs ws = (i : ℕ) (d : Reading) → i < length rs → fields_of labels address (get_or rs i d) ≡ Ok (get_or ws i 0 ∷ [])
 
-  one_more : (r : Reading) (rs : List Reading) (v : ℕ) (ws : List ℕ) → fields_of labels place r ≡ Ok (v ∷ []) → Each rs ws → Each (r ∷ rs) (v ∷ ws)
+  one_more : (r : Reading) (rs : List Reading) (v : ℕ) (ws : List ℕ) → fields_of labels address r ≡ Ok (v ∷ []) → Each rs ws → Each (r ∷ rs) (v ∷ ws)
   one_more r rs v ws e each zero d lt = e
   one_more r rs v ws e each (suc i) d lt = each i d (omega arith)
 
-  numbers_each : (rs : List Reading) (ws : List ℕ) → AreNumbers rs → all_fields labels place rs ≡ Ok ws → (length ws ≡ length rs) × Each rs ws
+  numbers_each : (rs : List Reading) (ws : List ℕ) → AreNumbers rs → all_fields labels address rs ≡ Ok ws → (length ws ≡ length rs) × Each rs ws
   numbers_each [] ws h e = let none : [] ≡ ws = cc in (sym (ap length none), λ i d lt. absurd (omega arith))
   numbers_each (r ∷ rs) ws h e =
-      let p = append_ok (fields_of labels place r) (all_fields labels place rs) ws e in
-      let one = one_value (field_of Word place (evaluate labels h.0)) p.0 (ap (fields_of labels place) h.1 ∙ p.2) in
+      let p = append_ok (fields_of labels address r) (all_fields labels address rs) ws e in
+      let one = one_value (field_of Word address (evaluate labels h.0)) p.0 (ap (fields_of labels address) h.1 ∙ p.2) in
       let rest = numbers_each rs p.1 h.2 p.3 in
       let whole : one.0 ∷ p.1 ≡ ws = ap (λ t. t ++ p.1) one.1 ∙ p.4 in
       let count = rest.0 in (
@@ -92,49 +92,49 @@ number_statement text rs e = go (length text == 0) e
     go false e = number_form (form_named name (length ts)) ts rs e
 
 -- so many words, each of which is the statement's
-record AreWords (labels : Labels) (place : ℕ) (s : Statement) (ws : List ℕ) : Type 0 where
+record AreWords (labels : Labels) (address : ℕ) (s : Statement) (ws : List ℕ) : Type 0 where
   count : length ws ≡ size s
-  each : (i : ℕ) → i < length ws → IsWord labels place s i (get_or ws i 0)
+  each : (i : ℕ) → i < length ws → IsWord labels address s i (get_or ws i 0)
 
-module _ (labels : Labels) (place : ℕ) (text : List ℕ) (ws : List ℕ) where
-  row_words : (s : Statement) → length ws ≡ 1 → IsWord labels place s 0 (get_or ws 0 0) → size s ≡ 1 → AreWords labels place s ws
+module _ (labels : Labels) (address : ℕ) (text : List ℕ) (ws : List ℕ) where
+  row_words : (s : Statement) → length ws ≡ 1 → IsWord labels address s 0 (get_or ws 0 0) → size s ≡ 1 → AreWords labels address s ws
   row_words s one word sized = record {
     count = one ∙ sym sized;
-    each = λ i lt. let first : 0 ≡ i = omega (arith, one) in subst (λ n. IsWord labels place s n (get_or ws n 0)) first word;
+    each = λ i lt. let first : 0 ≡ i = omega (arith, one) in subst (λ n. IsWord labels address s n (get_or ws n 0)) first word;
   }
 
-  are_words : (s : Statement) → statement_of text ≡ Ok s → words_of labels place s ≡ Ok ws → AreWords labels place s ws
+  are_words : (s : Statement) → statement_of text ≡ Ok s → words_of labels address s ≡ Ok ws → AreWords labels address s ws
   are_words nothing said e =
       let none : [] ≡ ws = cc in
       let count : 0 ≡ length ws = ap length none in
       record { count = sym count; each = λ i lt. absurd (omega (arith, count)) }
   are_words (numbers rs) said e =
-      let p = numbers_each labels place rs ws (number_statement text rs said) e in
+      let p = numbers_each labels address rs ws (number_statement text rs said) e in
       let count = p.0 in
       record { count = count; each = λ i lt. let inside : i < length rs = omega (arith, count) in (inside, λ d. p.1 i d inside) }
   are_words (instruction row rs) said e =
-      let d = statements_decode labels place text row rs ws said e in
+      let d = statements_decode labels address text row rs ws said e in
       let whole : ws ≡ get_or ws 0 0 ∷ [] = d.one ∙ ap (λ t. get_or t 0 0 ∷ []) (sym d.one) in
-      row_words (instruction row rs) (ap length d.one) (refl, subst (Decodes labels place row rs) whole d) refl
+      row_words (instruction row rs) (ap length d.one) (refl, subst (Decodes labels address row rs) whole d) refl
 
 -- ---- the words of a line
 
-record LineWords (labels : Labels) (place : ℕ) (l : List ℕ) (ws : List ℕ) : Type 0 where
+record LineWords (labels : Labels) (address : ℕ) (l : List ℕ) (ws : List ℕ) : Type 0 where
   parts : Parts
   is_line : split_line l ≡ Some parts
   statement : Statement
   says : statement_of parts.body ≡ Ok statement
   count : length ws ≡ line_size l
-  each : (i : ℕ) → i < length ws → IsWord labels place statement i (get_or ws i 0)
+  each : (i : ℕ) → i < length ws → IsWord labels address statement i (get_or ws i 0)
 
-line_gives : (labels : Labels) (place : ℕ) (l : List ℕ) (ws : List ℕ) → line_words labels place l ≡ Ok ws → LineWords labels place l ws
+line_gives : (labels : Labels) (address : ℕ) (l : List ℕ) (ws : List ℕ) → line_words labels address l ≡ Ok ws → LineWords labels address l ws
 unfolding line_words line_size
-line_gives labels place l ws e = go (split_line l) refl e
+line_gives labels address l ws e = go (split_line l) refl e
   where
-    said : (p : Parts) → split_line l ≡ Some p → (r : Result Statement AsmFaultKind) → statement_of p.body ≡ r → statement_words labels place r ≡ Ok ws → LineWords labels place l ws
+    said : (p : Parts) → split_line l ≡ Some p → (r : Result Statement AsmFaultKind) → statement_of p.body ≡ r → statement_words labels address r ≡ Ok ws → LineWords labels address l ws
     said p is (Err kind) says e = absurd cc
     said p is (Ok s) says e =
-        let words = are_words labels place p.body ws s says e in
+        let words = are_words labels address p.body ws s says e in
         record {
           parts = p;
           is_line = is;
@@ -144,7 +144,7 @@ line_gives labels place l ws e = go (split_line l) refl e
           each = words.each;
         }
 
-    go : (o : Option Parts) → split_line l ≡ o → parts_words labels place o ≡ Ok ws → LineWords labels place l ws
+    go : (o : Option Parts) → split_line l ≡ o → parts_words labels address o ≡ Ok ws → LineWords labels address l ws
     go None is e = absurd cc
     go (Some p) is e = said p is (statement_of p.body) refl e
 
@@ -181,7 +181,7 @@ module _ (labels : Labels) (origin : ℕ) (ls : List (List ℕ)) where
               k = n;
               i = j - length p.0;
               inside = omega arith;
-              place = omega (arith, here, behind);
+              address = omega (arith, here, behind);
               parts = words.parts;
               is_line = words.is_line;
               statement = words.statement;

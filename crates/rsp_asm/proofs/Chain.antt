@@ -10,44 +10,44 @@ use Rattle.rsp_asm.specs.Statements.{checked}
 
 -- a line of this size behind those with a fault
 abbrev pub last_fault : ℕ → ℕ → Option AsmFaultKind
-last_fault place n = if nat_lt 4096 (place + 4 * n) then Some PastEnd else None
+last_fault address n = if nat_lt 4096 (address + 4 * n) then Some PastEnd else None
 
 -- the last two faults of a statement
 abbrev after : ℕ → ℕ → Bool → Option AsmFaultKind
-after place n bad = if bad then Some OutOfRange else last_fault place n
+after address n bad = if bad then Some OutOfRange else last_fault address n
 
 abbrev answer : ℕ → Bool → Result ℕ AsmFaultKind
 answer n bad = if bad then Err OutOfRange else Ok n
 
-of_bad : (place n : ℕ) (bad : Bool) (kind : AsmFaultKind) → Err kind ≡ answer n bad → after place n bad ≡ Some kind
-of_bad place n true kind e = let same : kind ≡ OutOfRange = cc in ap Some (sym same)
-of_bad place n false kind e = absurd cc
+of_bad : (address n : ℕ) (bad : Bool) (kind : AsmFaultKind) → Err kind ≡ answer n bad → after address n bad ≡ Some kind
+of_bad address n true kind e = let same : kind ≡ OutOfRange = cc in ap Some (sym same)
+of_bad address n false kind e = absurd cc
 
-of_good : (place n m : ℕ) (bad : Bool) → Ok m ≡ answer n bad → (after place n bad ≡ last_fault place m) × (m ≡ n)
-of_good place n m true e = absurd cc
-of_good place n m false e = let same : m ≡ n = cc in (ap (last_fault place) (sym same), same)
+of_good : (address n m : ℕ) (bad : Bool) → Ok m ≡ answer n bad → (after address n bad ≡ last_fault address m) × (m ≡ n)
+of_good address n m true e = absurd cc
+of_good address n m false e = let same : m ≡ n = cc in (ap (last_fault address) (sym same), same)
 
-of_fault : (place : ℕ) (r : Result Statement AsmFaultKind) (kind : AsmFaultKind) → Err kind ≡ checked place r → statement_fault place r ≡ Some kind
-of_fault place (Err k) kind e = let same : kind ≡ k = cc in ap Some (sym same)
-of_fault place (Ok s) kind e = of_bad place (size s) (has_bad_number place (Ok s)) kind e
+of_fault : (address : ℕ) (r : Result Statement AsmFaultKind) (kind : AsmFaultKind) → Err kind ≡ checked address r → statement_fault address r ≡ Some kind
+of_fault address (Err k) kind e = let same : kind ≡ k = cc in ap Some (sym same)
+of_fault address (Ok s) kind e = of_bad address (size s) (has_bad_number address (Ok s)) kind e
 
-of_size : (place m : ℕ) (r : Result Statement AsmFaultKind) → Ok m ≡ checked place r → (statement_fault place r ≡ last_fault place m) × (m ≡ size_if r)
-of_size place m (Err k) e = absurd cc
-of_size place m (Ok s) e = of_good place (size s) m (has_bad_number place (Ok s)) e
+of_size : (address m : ℕ) (r : Result Statement AsmFaultKind) → Ok m ≡ checked address r → (statement_fault address r ≡ last_fault address m) × (m ≡ size_if r)
+of_size address m (Err k) e = absurd cc
+of_size address m (Ok s) e = of_good address (size s) m (has_bad_number address (Ok s)) e
 
-module _ (labels : Labels) (place : ℕ) (line : List ℕ) (p : Parts) (is : Some p ≡ split_line line) (once : is_twice labels p.label ≡ false) where
-  as_statement : first_fault labels place line ≡ statement_fault place (statement_of p.body)
+module _ (labels : Labels) (address : ℕ) (line : List ℕ) (p : Parts) (is : Some p ≡ split_line line) (once : is_twice labels p.label ≡ false) where
+  as_statement : first_fault labels address line ≡ statement_fault address (statement_of p.body)
   unfolding first_fault
   as_statement =
-      ap (parts_fault labels place) (sym is)
-      ∙ cond-false (is_twice labels p.label) (Some LabelTwice) (statement_fault place (statement_of p.body)) once
+      ap (parts_fault labels address) (sym is)
+      ∙ cond-false (is_twice labels p.label) (Some LabelTwice) (statement_fault address (statement_of p.body)) once
 
-  pub line_fault : (kind : AsmFaultKind) → Err kind ≡ checked place (statement_of p.body) → first_fault labels place line ≡ Some kind
-  line_fault kind e = as_statement ∙ of_fault place (statement_of p.body) kind e
+  pub line_fault : (kind : AsmFaultKind) → Err kind ≡ checked address (statement_of p.body) → first_fault labels address line ≡ Some kind
+  line_fault kind e = as_statement ∙ of_fault address (statement_of p.body) kind e
 
-  pub line_last : (m : ℕ) → Ok m ≡ checked place (statement_of p.body) → first_fault labels place line ≡ last_fault place m
-  line_last m e = as_statement ∙ (of_size place m (statement_of p.body) e).0
+  pub line_last : (m : ℕ) → Ok m ≡ checked address (statement_of p.body) → first_fault labels address line ≡ last_fault address m
+  line_last m e = as_statement ∙ (of_size address m (statement_of p.body) e).0
 
-pub line_size_is : (place : ℕ) (line : List ℕ) (p : Parts) (m : ℕ) → Some p ≡ split_line line → Ok m ≡ checked place (statement_of p.body) → m ≡ line_size line
+pub line_size_is : (address : ℕ) (line : List ℕ) (p : Parts) (m : ℕ) → Some p ≡ split_line line → Ok m ≡ checked address (statement_of p.body) → m ≡ line_size line
 unfolding line_size
-line_size_is place line p m is e = (of_size place m (statement_of p.body) e).1 ∙ ap size_in is
+line_size_is address line p m is e = (of_size address m (statement_of p.body) e).1 ∙ ap size_in is

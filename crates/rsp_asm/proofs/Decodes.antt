@@ -158,20 +158,20 @@ read_form (Some numbers_form) (t ∷ ts) row rs e = absurd (no_numbers (read_num
 read_form (Some (row_form r)) ts row rs e = read_row r row ts rs e
 
 -- the words of a usable row's operands
-module _ (labels : Labels) (place : ℕ) (row : Row) (rs : List Reading) (words : List ℕ) (usable : Usable row) where
-  decoded : (f : Result (List ℕ) AsmFaultKind) → all_fields labels place rs ≡ f → IfOk f (FitBitFields (row_bit_fields row)) → one_word row f ≡ Ok words → Decodes labels place row rs words
+module _ (labels : Labels) (address : ℕ) (row : Row) (rs : List Reading) (words : List ℕ) (usable : Usable row) where
+  decoded : (f : Result (List ℕ) AsmFaultKind) → all_fields labels address rs ≡ f → IfOk f (FitBitFields (row_bit_fields row)) → one_word row f ≡ Ok words → Decodes labels address row rs words
   decoded (Err kind) is fit e = absurd cc
   decoded (Ok vs) is fit e =
       let same : word_from row vs ∷ [] ≡ words = cc in
       let w = usable.words vs fit in
       record { fields = vs; word = word_from row vs; values = is; one = sym same; meaning = w.meaning; canonical = w.canonical }
 
-  from_form : (ts : List (List ℕ)) → read_all row.operands ts ≡ Some rs → words_of labels place (instruction row rs) ≡ Ok words → Decodes labels place row rs words
+  from_form : (ts : List (List ℕ)) → read_all row.operands ts ≡ Some rs → words_of labels address (instruction row rs) ≡ Ok words → Decodes labels address row rs words
   from_form ts is e =
-      decoded (all_fields labels place rs) refl (subst (AllFit labels place row.operands) is (all_fit labels place row.operands ts usable.kinds)) e
+      decoded (all_fields labels address rs) refl (subst (AllFit labels address row.operands) is (all_fit labels address row.operands ts usable.kinds)) e
 
 pub statements_decode : StatementsDecode
-statements_decode labels place text row rs words said gives = go (length text == 0) said
+statements_decode labels address text row rs words said gives = go (length text == 0) said
   where
     name : List ℕ
     name = before_first (is_boundary Blank) text
@@ -179,8 +179,8 @@ statements_decode labels place text row rs words said gives = go (length text ==
     ts : List (List ℕ)
     ts = operand_texts (after_first (is_boundary Blank) text)
 
-    go : (b : Bool) → (if b then Ok nothing else with_form (form_named name (length ts)) ts) ≡ Ok (instruction row rs) → Decodes labels place row rs words
+    go : (b : Bool) → (if b then Ok nothing else with_form (form_named name (length ts)) ts) ≡ Ok (instruction row rs) → Decodes labels address row rs words
     go true e = absurd cc
     go false e =
         let found = read_form (form_named name (length ts)) ts row rs e in
-        from_form labels place row rs words (form_usable name (length ts) row found.form) ts found.operands gives
+        from_form labels address row rs words (form_usable name (length ts) row found.form) ts found.operands gives

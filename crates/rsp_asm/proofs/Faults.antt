@@ -54,19 +54,19 @@ statement_fine bs =
 
 -- ---- the first pass
 
-checked_fine : (place : ℕ) (r : Result Statement AsmFaultKind) → FineResult r → Fine (statement_fault place r)
-checked_fine place (Err kind) h = h
-checked_fine place (Ok s) h =
-    either (has_bad_number place (Ok s)) (Some OutOfRange) _ refl (either (nat_lt 4096 (place + 4 * size s)) (Some PastEnd) None refl tt)
+checked_fine : (address : ℕ) (r : Result Statement AsmFaultKind) → FineResult r → Fine (statement_fault address r)
+checked_fine address (Err kind) h = h
+checked_fine address (Ok s) h =
+    either (has_bad_number address (Ok s)) (Some OutOfRange) _ refl (either (nat_lt 4096 (address + 4 * size s)) (Some PastEnd) None refl tt)
 
-parts_fine : (labels : Labels) (place : ℕ) (o : Option Parts) → Fine (parts_fault labels place o)
-parts_fine labels place None = refl
-parts_fine labels place (Some p) =
-    either (is_twice labels p.label) (Some LabelTwice) _ refl (checked_fine place (statement_of p.body) (statement_fine p.body))
+parts_fine : (labels : Labels) (address : ℕ) (o : Option Parts) → Fine (parts_fault labels address o)
+parts_fine labels address None = refl
+parts_fine labels address (Some p) =
+    either (is_twice labels p.label) (Some LabelTwice) _ refl (checked_fine address (statement_of p.body) (statement_fine p.body))
 
-first_fine : (labels : Labels) (place : ℕ) (line : List ℕ) → Fine (first_fault labels place line)
+first_fine : (labels : Labels) (address : ℕ) (line : List ℕ) → Fine (first_fault labels address line)
 unfolding first_fault
-first_fine labels place line = parts_fine labels place (split_line line)
+first_fine labels address line = parts_fine labels address (split_line line)
 
 fault_fine : (origin : ℕ) (ls : List (List ℕ)) (n : ℕ) (f : AsmFault) → fault_before origin ls n ≡ Some f → of_text f.kind ≡ true
 fault_fine origin ls zero f e = absurd cc
@@ -85,45 +85,45 @@ value_fine : (o : Option ℕ) → FineResult (or_out_of_range o)
 value_fine None = refl
 value_fine (Some v) = tt
 
-field_fine : (slot : Slot) (place : ℕ) (o : Option ℤ) → FineResult (field_of slot place o)
-field_fine slot place None = refl
-field_fine slot place (Some z) = value_fine (field slot place z)
+field_fine : (slot : Slot) (address : ℕ) (o : Option ℤ) → FineResult (field_of slot address o)
+field_fine slot address None = refl
+field_fine slot address (Some z) = value_fine (field slot address z)
 
 registers_fine : (ns : List ℕ) (r : Result ℕ AsmFaultKind) → FineResult r → FineResult (then_registers ns r)
 registers_fine ns (Ok v) h = tt
 registers_fine ns (Err kind) h = h
 
-operand_fine : (labels : Labels) (place : ℕ) (ns : List ℕ) (o : Option (Slot × Expression)) → FineResult (fields_with labels place ns o)
-operand_fine labels place ns None = tt
-operand_fine labels place ns (Some v) = registers_fine ns (field_of v.0 place (evaluate labels v.1)) (field_fine v.0 place (evaluate labels v.1))
+operand_fine : (labels : Labels) (address : ℕ) (ns : List ℕ) (o : Option (Slot × Expression)) → FineResult (fields_with labels address ns o)
+operand_fine labels address ns None = tt
+operand_fine labels address ns (Some v) = registers_fine ns (field_of v.0 address (evaluate labels v.1)) (field_fine v.0 address (evaluate labels v.1))
 
 append_fine : (r later : Result (List ℕ) AsmFaultKind) → FineResult r → FineResult later → FineResult (append r later)
 append_fine (Err kind) later h k = h
 append_fine (Ok vs) (Err kind) h k = k
 append_fine (Ok vs) (Ok more) h k = tt
 
-fields_fine : (labels : Labels) (place : ℕ) (rs : List Reading) → FineResult (all_fields labels place rs)
-fields_fine labels place [] = tt
-fields_fine labels place (r ∷ rs) =
-    append_fine (fields_of labels place r) (all_fields labels place rs) (operand_fine labels place r.registers r.value) (fields_fine labels place rs)
+fields_fine : (labels : Labels) (address : ℕ) (rs : List Reading) → FineResult (all_fields labels address rs)
+fields_fine labels address [] = tt
+fields_fine labels address (r ∷ rs) =
+    append_fine (fields_of labels address r) (all_fields labels address rs) (operand_fine labels address r.registers r.value) (fields_fine labels address rs)
 
-words_fine : (labels : Labels) (place : ℕ) (r : Result Statement AsmFaultKind) → FineResult r → FineResult (statement_words labels place r)
-words_fine labels place (Err kind) h = h
-words_fine labels place (Ok nothing) h = tt
-words_fine labels place (Ok (numbers rs)) h = fields_fine labels place rs
-words_fine labels place (Ok (instruction row rs)) h = go (all_fields labels place rs) (fields_fine labels place rs)
+words_fine : (labels : Labels) (address : ℕ) (r : Result Statement AsmFaultKind) → FineResult r → FineResult (statement_words labels address r)
+words_fine labels address (Err kind) h = h
+words_fine labels address (Ok nothing) h = tt
+words_fine labels address (Ok (numbers rs)) h = fields_fine labels address rs
+words_fine labels address (Ok (instruction row rs)) h = go (all_fields labels address rs) (fields_fine labels address rs)
   where
     go : (f : Result (List ℕ) AsmFaultKind) → FineResult f → FineResult (one_word row f)
     go (Err kind) k = k
     go (Ok vs) k = tt
 
-line_fine : (labels : Labels) (place : ℕ) (o : Option Parts) → FineResult (parts_words labels place o)
-line_fine labels place None = refl
-line_fine labels place (Some p) = words_fine labels place (statement_of p.body) (statement_fine p.body)
+line_fine : (labels : Labels) (address : ℕ) (o : Option Parts) → FineResult (parts_words labels address o)
+line_fine labels address None = refl
+line_fine labels address (Some p) = words_fine labels address (statement_of p.body) (statement_fine p.body)
 
-second_fine : (labels : Labels) (place : ℕ) (line : List ℕ) → FineResult (line_words labels place line)
+second_fine : (labels : Labels) (address : ℕ) (line : List ℕ) → FineResult (line_words labels address line)
 unfolding line_words
-second_fine labels place line = line_fine labels place (split_line line)
+second_fine labels address line = line_fine labels address (split_line line)
 
 words_of_text : (labels : Labels) (origin : ℕ) (ls : List (List ℕ)) (n : ℕ) (f : AsmFault) → words_before labels origin ls n ≡ Err f → of_text f.kind ≡ true
 words_of_text labels origin ls zero f e = absurd cc

@@ -92,9 +92,9 @@ jump_below : (z : ℤ) → Below 1024 (jump z)
 jump_below (pos n) = when (λ v. v < 1024) (nat_lt n 4096 && n % 4 == 0) (n / 4) (λ t. let both = and_parts (nat_lt n 4096) (n % 4 == 0) t in let low : n < 4096 = grind (arith, nat_tests) in omega arith)
 jump_below (negsuc n) = tt
 
-branch_below : (place : ℕ) (z : ℤ) → Below 65536 (branch place z)
-branch_below place (pos n) = when (λ v. v < 65536) (nat_lt n 4096 && n % 4 == 0) ((n / 4 + 65535 - place / 4) % 65536) (λ t. omega arith)
-branch_below place (negsuc n) = tt
+branch_below : (address : ℕ) (z : ℤ) → Below 65536 (branch address z)
+branch_below address (pos n) = when (λ v. v < 65536) (nat_lt n 4096 && n % 4 == 0) ((n / 4 + 65535 - address / 4) % 65536) (λ t. omega arith)
+branch_below address (negsuc n) = tt
 
 abbrev ScaledFits : ℕ → Type 0
 ScaledFits s = (z : ℤ) → Below 128 (scaled_offset s z)
@@ -121,10 +121,10 @@ scaled_fits s e = elim (or_cases _ _ e) [
 
 -- ---- operands
 
-module _ (labels : Labels) (place : ℕ) where
+module _ (labels : Labels) (address : ℕ) where
   -- the fields of what is read fit, where something is read and has fields
   abbrev pub Fits : Operand → Option Reading → Type 0
-  Fits k o = IfSome o (λ r. IfOk (fields_of labels place r) (FitBitFields (bit_fields k)))
+  Fits k o = IfSome o (λ r. IfOk (fields_of labels address r) (FitBitFields (bit_fields k)))
 
   pair_fits : (k : Operand) (P : ℕ → Type 0) (v e : Option ℕ) → Below 32 v → IfSome e P → ((n m : ℕ) → n < 32 → P m → FitBitFields (bit_fields k) (n ∷ m ∷ [])) → Fits k (with_element v e)
   pair_fits k P None e p q h = tt
@@ -135,27 +135,27 @@ module _ (labels : Labels) (place : ℕ) where
   bracket_fits k P look default None bs all some h = pair_fits k P (vector_named bs) default (vector_below bs) some h
   bracket_fits k P look default (Some p) bs all some h = pair_fits k P (vector_named p.0) (bracketed look p.1) (vector_below p.0) (bracketed_fits P look all p.1) h
 
-  valued : (k : Operand) (slot : Slot) (limit : ℕ) (ns : List ℕ) (e : Expression) → ((z : ℤ) → Below limit (field slot place z)) → ((v : ℕ) → v < limit → FitBitFields (bit_fields k) (v ∷ ns)) → IfOk (fields_of labels place (asks slot ns e)) (FitBitFields (bit_fields k))
+  valued : (k : Operand) (slot : Slot) (limit : ℕ) (ns : List ℕ) (e : Expression) → ((z : ℤ) → Below limit (field slot address z)) → ((v : ℕ) → v < limit → FitBitFields (bit_fields k) (v ∷ ns)) → IfOk (fields_of labels address (asks slot ns e)) (FitBitFields (bit_fields k))
   valued k slot limit ns e all h = go (evaluate labels e)
     where
       ranged : (o : Option ℕ) → Below limit o → IfOk (then_registers ns (or_out_of_range o)) (FitBitFields (bit_fields k))
       ranged None b = tt
       ranged (Some v) b = h v b
 
-      go : (o : Option ℤ) → IfOk (then_registers ns (field_of slot place o)) (FitBitFields (bit_fields k))
+      go : (o : Option ℤ) → IfOk (then_registers ns (field_of slot address o)) (FitBitFields (bit_fields k))
       go None = tt
-      go (Some z) = ranged (field slot place z) (all z)
+      go (Some z) = ranged (field slot address z) (all z)
 
-  value_fits : (k : Operand) (slot : Slot) (limit : ℕ) (o : Option Expression) → ((z : ℤ) → Below limit (field slot place z)) → ((v : ℕ) → v < limit → FitBitFields (bit_fields k) (v ∷ [])) → Fits k (option_map (asks slot []) o)
+  value_fits : (k : Operand) (slot : Slot) (limit : ℕ) (o : Option Expression) → ((z : ℤ) → Below limit (field slot address z)) → ((v : ℕ) → v < limit → FitBitFields (bit_fields k) (v ∷ [])) → Fits k (option_map (asks slot []) o)
   value_fits k slot limit None all h = tt
   value_fits k slot limit (Some e) all h = valued k slot limit [] e all h
 
-  offset_fits : (k : Operand) (slot : Slot) (limit : ℕ) (o : Option Expression) (base : Option ℕ) → Below 32 base → ((z : ℤ) → Below limit (field slot place z)) → ((v n : ℕ) → v < limit → n < 32 → FitBitFields (bit_fields k) (v ∷ n ∷ [])) → Fits k (memory slot o base)
+  offset_fits : (k : Operand) (slot : Slot) (limit : ℕ) (o : Option Expression) (base : Option ℕ) → Below 32 base → ((z : ℤ) → Below limit (field slot address z)) → ((v n : ℕ) → v < limit → n < 32 → FitBitFields (bit_fields k) (v ∷ n ∷ [])) → Fits k (memory slot o base)
   offset_fits k slot limit None base b all h = tt
   offset_fits k slot limit (Some e) None b all h = tt
   offset_fits k slot limit (Some e) (Some n) b all h = valued k slot limit (n ∷ []) e all (λ v lt. h v n lt b)
 
-  memory_fits : (k : Operand) (slot : Slot) (limit : ℕ) (o : Option (List ℕ × List ℕ)) → ((z : ℤ) → Below limit (field slot place z)) → ((v n : ℕ) → v < limit → n < 32 → FitBitFields (bit_fields k) (v ∷ n ∷ [])) → Fits k (memory_operand slot o)
+  memory_fits : (k : Operand) (slot : Slot) (limit : ℕ) (o : Option (List ℕ × List ℕ)) → ((z : ℤ) → Below limit (field slot address z)) → ((v n : ℕ) → v < limit → n < 32 → FitBitFields (bit_fields k) (v ∷ n ∷ [])) → Fits k (memory_operand slot o)
   memory_fits k slot limit None all h = tt
   memory_fits k slot limit (Some p) all h = offset_fits k slot limit (offset_of p.0) (base_of p.1) (base_below p.1) all h
 
@@ -169,7 +169,7 @@ module _ (labels : Labels) (place : ℕ) where
   read_fits signed bs ok = value_fits signed Half 65536 (expression_of bs) half_below (λ v lt. (lt, tt))
   read_fits unsigned bs ok = value_fits unsigned Half 65536 (expression_of bs) half_below (λ v lt. (lt, tt))
   read_fits jump_target bs ok = value_fits jump_target Jump 1024 (expression_of bs) jump_below (λ v lt. (lt, tt))
-  read_fits branch_target bs ok = value_fits branch_target Branch 65536 (expression_of bs) (branch_below place) (λ v lt. (lt, tt))
+  read_fits branch_target bs ok = value_fits branch_target Branch 65536 (expression_of bs) (branch_below address) (λ v lt. (lt, tt))
   read_fits scalar_memory bs ok = memory_fits scalar_memory Half 65536 (cut Parenthesis bs) half_below (λ v n lt ln. (lt, (ln, tt)))
   read_fits (vector_memory scale) bs ok = memory_fits (vector_memory scale) (Scaled scale) 128 (cut Parenthesis bs) (scaled_fits scale ok) (λ v n lt ln. (lt, (ln, tt)))
   read_fits sp_register bs ok = one_fits sp_register 16 (sp_named bs) (sp_below bs) (λ n lt. (lt, tt))
@@ -196,12 +196,12 @@ module _ (labels : Labels) (place : ℕ) where
   append_fits ps qs (Ok vs) (Ok ws) a b = both_fit ps qs vs ws a b
 
   abbrev pub AllFit : List Operand → Option (List Reading) → Type 0
-  AllFit ks o = IfSome o (λ rs. IfOk (all_fields labels place rs) (FitBitFields (flat_map bit_fields ks)))
+  AllFit ks o = IfSome o (λ rs. IfOk (all_fields labels address rs) (FitBitFields (flat_map bit_fields ks)))
 
   one_more : (k : Operand) (ks : List Operand) (o : Option Reading) (os : Option (List Reading)) → Fits k o → AllFit ks os → AllFit (k ∷ ks) (option_and_then (λ r. option_map (λ rs. r ∷ rs) os) o)
   one_more k ks None os a b = tt
   one_more k ks (Some r) None a b = tt
-  one_more k ks (Some r) (Some rs) a b = append_fits (bit_fields k) (flat_map bit_fields ks) (fields_of labels place r) (all_fields labels place rs) a b
+  one_more k ks (Some r) (Some rs) a b = append_fits (bit_fields k) (flat_map bit_fields ks) (fields_of labels address r) (all_fields labels address rs) a b
 
   pub all_fit : (ks : List Operand) (ts : List (List ℕ)) → list_all is_row_operand ks ≡ true → AllFit ks (read_all ks ts)
   all_fit [] [] ok = tt

@@ -45,28 +45,28 @@ module _ (origin : ℕ) (ls : List (List ℕ)) where
   fault_means f e = ap (λ o. unless o (words_before (all_labels origin ls) origin ls (length ls))) e
 
 -- the first pass has done the first lines of a text, and these are left
-pub record Done (origin number : ℕ) (ls left : List (List ℕ)) (labels : Labels) (place : ℕ) : Type 0 where
+pub record Done (origin number : ℕ) (ls left : List (List ℕ)) (labels : Labels) (address : ℕ) : Type 0 where
   pub rest : drop number ls ≡ left
   pub few : number ≤ length ls
   pub clean : fault_before origin ls number ≡ None
   pub labels_are : SamePlaces labels (labels_before origin ls number)
-  pub place_is : place ≡ place_of_line origin ls number
+  pub place_is : address ≡ place_of_line origin ls number
 
-module _ (origin number : ℕ) (ls : List (List ℕ)) (l : List ℕ) (more : List (List ℕ)) (labels : Labels) (place : ℕ) (d : Done origin number ls (l ∷ more) labels place) where
-  found : fault_of_line origin ls number ≡ first_fault labels place l
+module _ (origin number : ℕ) (ls : List (List ℕ)) (l : List ℕ) (more : List (List ℕ)) (labels : Labels) (address : ℕ) (d : Done origin number ls (l ∷ more) labels address) where
+  found : fault_of_line origin ls number ≡ first_fault labels address l
   found =
       ap (first_fault (labels_before origin ls number) (place_of_line origin ls number)) (line_is ls number l more d.rest)
       ∙ ap (λ p. first_fault (labels_before origin ls number) p l) (sym d.place_is)
-      ∙ sym (first_same labels (labels_before origin ls number) d.labels_are place l)
+      ∙ sym (first_same labels (labels_before origin ls number) d.labels_are address l)
 
-  with_line : fault_before origin ls (suc number) ≡ or_fault None (suc number) (first_fault labels place l)
+  with_line : fault_before origin ls (suc number) ≡ or_fault None (suc number) (first_fault labels address l)
   with_line = ap (λ o. or_fault o (suc number) (fault_of_line origin ls number)) d.clean ∙ ap (or_fault None (suc number)) found
 
-  clean_more : first_fault labels place l ≡ None → fault_before origin ls (suc number) ≡ None
+  clean_more : first_fault labels address l ≡ None → fault_before origin ls (suc number) ≡ None
   clean_more e = with_line ∙ ap (or_fault None (suc number)) e
 
-  pub done_more : (labels' : Labels) (place' : ℕ) → first_fault labels place l ≡ None → SamePlaces labels' (labelled (label_of l) place ++ labels) → place' ≡ place + 4 * line_size l → Done origin (number + 1) ls more labels' place'
-  done_more labels' place' e labels_is at =
+  pub done_more : (labels' : Labels) (address' : ℕ) → first_fault labels address l ≡ None → SamePlaces labels' (labelled (label_of l) address ++ labels) → address' ≡ address + 4 * line_size l → Done origin (number + 1) ls more labels' address'
+  done_more labels' address' e labels_is at =
       let here = line_is ls number l more d.rest in
       rw (add-one) (record {
         rest = drop_next ls number l more d.rest;
@@ -74,17 +74,17 @@ module _ (origin number : ℕ) (ls : List (List ℕ)) (l : List ℕ) (more : Lis
         clean = clean_more e;
         labels_are =
             subst (λ t. SamePlaces labels' (labels_before origin ls number ++ t)) (ap (labelled (label_of l)) d.place_is ∙ ap (λ x. labelled (label_of x) (place_of_line origin ls number)) (sym here))
-            (same_behind (label_of l) place labels' labels (labels_before origin ls number) (new_label (labels_before origin ls number) place l (sym (first_same labels (labels_before origin ls number) d.labels_are place l) ∙ e)) labels_is d.labels_are);
+            (same_behind (label_of l) address labels' labels (labels_before origin ls number) (new_label (labels_before origin ls number) address l (sym (first_same labels (labels_before origin ls number) d.labels_are address l) ∙ e)) labels_is d.labels_are);
         place_is = at ∙ ap (λ p. p + 4 * line_size l) d.place_is ∙ ap (λ x. place_of_line origin ls number + 4 * line_size x) (sym here);
       })
 
-  pub done_fault : (kind : AsmFaultKind) → first_fault labels place l ≡ Some kind → fault_before origin ls (length ls) ≡ Some (fault_at (number + 1) kind)
+  pub done_fault : (kind : AsmFaultKind) → first_fault labels address l ≡ Some kind → fault_before origin ls (length ls) ≡ Some (fault_at (number + 1) kind)
   done_fault kind e =
       let lt = inside ls number l more d.rest in
       rw (add-one) (fault_stays origin ls (length ls - suc number) (suc number) (length ls) (fault_at (suc number) kind) (with_line ∙ ap (or_fault None (suc number)) e) (omega (arith, lt)))
 
   -- a line with a label, for which there was no memory
-  pub done_short : first_fault labels place l ≡ None → is_some (label_of l) ≡ true → HidesNoFault origin ls (number + 1)
+  pub done_short : first_fault labels address l ≡ None → is_some (label_of l) ≡ true → HidesNoFault origin ls (number + 1)
   done_short e has =
       let lt = inside ls number l more d.rest in
       record {
@@ -94,8 +94,8 @@ module _ (origin number : ℕ) (ls : List (List ℕ)) (l : List ℕ) (more : Lis
         clean = rw (add-one) (clean_more e);
       }
 
-pub done_all : (origin number : ℕ) (ls : List (List ℕ)) (labels : Labels) (place : ℕ) → Done origin number ls [] labels place → number ≡ length ls
-done_all origin number ls labels place d = omega (arith, all_done ls number d.rest, d.few)
+pub done_all : (origin number : ℕ) (ls : List (List ℕ)) (labels : Labels) (address : ℕ) → Done origin number ls [] labels address → number ≡ length ls
+done_all origin number ls labels address d = omega (arith, all_done ls number d.rest, d.few)
 
 pub on_ok : {T E : Type 0} (r : Result T E) (P : Type 0) → is_err r ≡ false → OnOk r P → P
 on_ok (Ok x) P e h = h
@@ -130,26 +130,26 @@ module _ (origin number : ℕ) (ls : List (List ℕ)) (l : List ℕ) (more : Lis
       let size = size_is in
       omega (arith, grows, size)
 
-  with_words : (place : ℕ) → place ≡ origin + 4 * count → words_before labels origin ls (suc number) ≡ and_words (Ok words) (suc number) (line_words labels place l)
-  with_words place at =
+  with_words : (address : ℕ) → address ≡ origin + 4 * count → words_before labels origin ls (suc number) ≡ and_words (Ok words) (suc number) (line_words labels address l)
+  with_words address at =
       ap (λ o. and_words o (suc number) (words_of_line labels origin ls number)) d.words_are
       ∙ ap (λ x. and_words (Ok words) (suc number) (line_words labels (place_of_line origin ls number) x)) (line_is ls number l more d.rest)
       ∙ ap (λ p. and_words (Ok words) (suc number) (line_words labels p l)) (sym (at ∙ d.place_is))
 
-  pub written_more : (place count' : ℕ) (vs words' : List ℕ) → place ≡ origin + 4 * count → line_words labels place l ≡ Ok vs → count' ≡ count + line_size l → words' ≡ words ++ vs → Written origin (number + 1) ls more labels count' words'
-  written_more place count' vs words' at e count_is words_is =
+  pub written_more : (address count' : ℕ) (vs words' : List ℕ) → address ≡ origin + 4 * count → line_words labels address l ≡ Ok vs → count' ≡ count + line_size l → words' ≡ words ++ vs → Written origin (number + 1) ls more labels count' words'
+  written_more address count' vs words' at e count_is words_is =
       let size = size_is in
       rw (add-one) (record {
         rest = drop_next ls number l more d.rest;
         few = inside ls number l more d.rest;
         place_is = omega (arith, size, count_is);
-        words_are = with_words place at ∙ ap (and_words (Ok words) (suc number)) e ∙ ap Ok (sym words_is);
+        words_are = with_words address at ∙ ap (and_words (Ok words) (suc number)) e ∙ ap Ok (sym words_is);
       })
 
-  pub written_fault : (place : ℕ) (kind : AsmFaultKind) → place ≡ origin + 4 * count → line_words labels place l ≡ Err kind → words_before labels origin ls (length ls) ≡ Err (fault_at (number + 1) kind)
-  written_fault place kind at e =
+  pub written_fault : (address : ℕ) (kind : AsmFaultKind) → address ≡ origin + 4 * count → line_words labels address l ≡ Err kind → words_before labels origin ls (length ls) ≡ Err (fault_at (number + 1) kind)
+  written_fault address kind at e =
       let lt = inside ls number l more d.rest in
-      rw (add-one) (words_stay labels origin ls (length ls - suc number) (suc number) (length ls) (fault_at (suc number) kind) (with_words place at ∙ ap (and_words (Ok words) (suc number)) e) (omega (arith, lt)))
+      rw (add-one) (words_stay labels origin ls (length ls - suc number) (suc number) (length ls) (fault_at (suc number) kind) (with_words address at ∙ ap (and_words (Ok words) (suc number)) e) (omega (arith, lt)))
 
 module _ (origin number : ℕ) (ls : List (List ℕ)) (labels : Labels) (count : ℕ) (words : List ℕ) (d : Written origin number ls [] labels count words) where
   whole : number ≡ length ls

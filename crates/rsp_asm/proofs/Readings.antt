@@ -19,9 +19,9 @@ value_span (Some v) = 1
 abbrev pub span : Reading → ℕ
 span r = value_span r.value + length r.registers
 
-pub fields_span : (labels : Labels) (place : ℕ) (ns : List ℕ) (v : Option (Slot × Expression)) (vs : List ℕ) → fields_with labels place ns v ≡ Ok vs → length vs ≡ value_span v + length ns
-fields_span labels place ns None vs e = let same : ns ≡ vs = cc in omega (arith, ap length same)
-fields_span labels place ns (Some v) vs e = go (field_of v.0 place (evaluate labels v.1)) e
+pub fields_span : (labels : Labels) (address : ℕ) (ns : List ℕ) (v : Option (Slot × Expression)) (vs : List ℕ) → fields_with labels address ns v ≡ Ok vs → length vs ≡ value_span v + length ns
+fields_span labels address ns None vs e = let same : ns ≡ vs = cc in omega (arith, ap length same)
+fields_span labels address ns (Some v) vs e = go (field_of v.0 address (evaluate labels v.1)) e
   where
     go : (o : Result ℕ AsmFaultKind) → then_registers ns o ≡ Ok vs → length vs ≡ 1 + length ns
     go (Ok x) e = let same : x ∷ ns ≡ vs = cc in omega (arith, ap length same)

@@ -1,4 +1,4 @@
--- Tables with the same place for each name give each line the same fault and the same words.
+-- Tables with the same address for each name give each line the same fault and the same words.
 use Rattle.std.proofs.Common.{◌≡◌, refl, sym, ap, ◌∙◌, ℕ, zero, suc, List, [], ◌∷◌, ◌++◌, length, Bool, true, false, inl, inr, arith}
 use Rattle.std.specs.Prelude.{Option, Some, None, is_some, Result, Ok, Err, if◌then◌else◌, pos, ◌+ℤ◌, option_map}
 use Rattle.std.specs.Str.{bytes_eq}
@@ -18,25 +18,25 @@ use Rattle.rsp_operands.specs.Labels.{SamePlaces}
 -- ---- a label behind others
 
 -- a label whose name no earlier one has is found as if it stood in front
-found_behind : (xs : Labels) (name : List ℕ) (place : ℕ) → find_label xs name ≡ None → (q : List ℕ) → find_label (xs ++ (name, place) ∷ []) q ≡ (if bytes_eq name q then Some place else find_label xs q)
-found_behind [] name place none q = refl
-found_behind (x ∷ xs) name place none q = elim (cases_Bool (bytes_eq x.0 name)) [
+found_behind : (xs : Labels) (name : List ℕ) (address : ℕ) → find_label xs name ≡ None → (q : List ℕ) → find_label (xs ++ (name, address) ∷ []) q ≡ (if bytes_eq name q then Some address else find_label xs q)
+found_behind [] name address none q = refl
+found_behind (x ∷ xs) name address none q = elim (cases_Bool (bytes_eq x.0 name)) [
   | inl t ↦ let same : Some x.1 ≡ None = sym (cond-true (bytes_eq x.0 name) (Some x.1) (find_label xs name) t) ∙ none in absurd cc
   | inr f ↦
-      ap (λ o. if bytes_eq x.0 q then Some x.1 else o) (found_behind xs name place (sym (cond-false (bytes_eq x.0 name) (Some x.1) (find_label xs name) f) ∙ none) q)
+      ap (λ o. if bytes_eq x.0 q then Some x.1 else o) (found_behind xs name address (sym (cond-false (bytes_eq x.0 name) (Some x.1) (find_label xs name) f) ∙ none) q)
       ∙ apart (bytes_eq x.0 q) (bytes_eq name q) (grind (arith, common_steps, bytes_eq-Decides x.0 name, bytes_eq-Decides x.0 q, bytes_eq-Decides name q))
 ]
   where
-    apart : (a b : Bool) → (a ≡ true → b ≡ false) → (if a then Some x.1 else (if b then Some place else find_label xs q)) ≡ (if b then Some place else (if a then Some x.1 else find_label xs q))
+    apart : (a b : Bool) → (a ≡ true → b ≡ false) → (if a then Some x.1 else (if b then Some address else find_label xs q)) ≡ (if b then Some address else (if a then Some x.1 else find_label xs q))
     apart true true h = let no : true ≡ false = h refl in absurd cc
     apart true false h = refl
     apart false b h = refl
 
 -- the label of a line, put before others that have the same places, is found as if it stood behind them
-pub same_behind : (o : Option (List ℕ)) (place : ℕ) (new old table : Labels) → is_twice table o ≡ false → SamePlaces new (labelled o place ++ old) → SamePlaces old table → SamePlaces new (table ++ labelled o place)
-same_behind None place new old table once h same q = h q ∙ same q ∙ ap (λ t. find_label t q) (sym (append-nil table))
-same_behind (Some name) place new old table once h same q =
-    h q ∙ ap (λ f. if bytes_eq name q then Some place else f) (same q) ∙ sym (found_behind table name place (none (find_label table name) once) q)
+pub same_behind : (o : Option (List ℕ)) (address : ℕ) (new old table : Labels) → is_twice table o ≡ false → SamePlaces new (labelled o address ++ old) → SamePlaces old table → SamePlaces new (table ++ labelled o address)
+same_behind None address new old table once h same q = h q ∙ same q ∙ ap (λ t. find_label t q) (sym (append-nil table))
+same_behind (Some name) address new old table once h same q =
+    h q ∙ ap (λ f. if bytes_eq name q then Some address else f) (same q) ∙ sym (found_behind table name address (none (find_label table name) once) q)
   where
     none : (o : Option ℕ) → is_some o ≡ false → o ≡ None
     none None e = refl
@@ -49,13 +49,13 @@ module _ (xs ys : Labels) (same : SamePlaces xs ys) where
   twice_same None = refl
   twice_same (Some name) = ap is_some (same name)
 
-  pub first_same : (place : ℕ) (line : List ℕ) → first_fault xs place line ≡ first_fault ys place line
+  pub first_same : (address : ℕ) (line : List ℕ) → first_fault xs address line ≡ first_fault ys address line
   unfolding first_fault
-  first_same place line = go (split_line line)
+  first_same address line = go (split_line line)
     where
-      go : (o : Option Parts) → parts_fault xs place o ≡ parts_fault ys place o
+      go : (o : Option Parts) → parts_fault xs address o ≡ parts_fault ys address o
       go None = refl
-      go (Some p) = ap (λ b. if b then Some LabelTwice else statement_fault place (statement_of p.body)) (twice_same p.label)
+      go (Some p) = ap (λ b. if b then Some LabelTwice else statement_fault address (statement_of p.body)) (twice_same p.label)
 
   -- ---- the second pass
 
@@ -66,28 +66,28 @@ module _ (xs ys : Labels) (same : SamePlaces xs ys) where
       go None = refl
       go (Some name) = same name
 
-  fields_same : (place : ℕ) (ns : List ℕ) (o : Option (Slot × Expression)) → fields_with xs place ns o ≡ fields_with ys place ns o
-  fields_same place ns None = refl
-  fields_same place ns (Some v) = ap (λ z. then_registers ns (field_of v.0 place z)) (value_same v.1)
+  fields_same : (address : ℕ) (ns : List ℕ) (o : Option (Slot × Expression)) → fields_with xs address ns o ≡ fields_with ys address ns o
+  fields_same address ns None = refl
+  fields_same address ns (Some v) = ap (λ z. then_registers ns (field_of v.0 address z)) (value_same v.1)
 
-  all_same : (place : ℕ) (rs : List Reading) → all_fields xs place rs ≡ all_fields ys place rs
-  all_same place [] = refl
-  all_same place (r ∷ rs) =
-      ap (λ f. append f (all_fields xs place rs)) (fields_same place r.registers r.value) ∙ ap (append (fields_of ys place r)) (all_same place rs)
+  all_same : (address : ℕ) (rs : List Reading) → all_fields xs address rs ≡ all_fields ys address rs
+  all_same address [] = refl
+  all_same address (r ∷ rs) =
+      ap (λ f. append f (all_fields xs address rs)) (fields_same address r.registers r.value) ∙ ap (append (fields_of ys address r)) (all_same address rs)
 
-  said_same : (place : ℕ) (s : Result Statement AsmFaultKind) → statement_words xs place s ≡ statement_words ys place s
-  said_same place (Err kind) = refl
-  said_same place (Ok nothing) = refl
-  said_same place (Ok (numbers rs)) = all_same place rs
-  said_same place (Ok (instruction row rs)) = ap (one_word row) (all_same place rs)
+  said_same : (address : ℕ) (s : Result Statement AsmFaultKind) → statement_words xs address s ≡ statement_words ys address s
+  said_same address (Err kind) = refl
+  said_same address (Ok nothing) = refl
+  said_same address (Ok (numbers rs)) = all_same address rs
+  said_same address (Ok (instruction row rs)) = ap (one_word row) (all_same address rs)
 
-  line_same : (place : ℕ) (line : List ℕ) → line_words xs place line ≡ line_words ys place line
+  line_same : (address : ℕ) (line : List ℕ) → line_words xs address line ≡ line_words ys address line
   unfolding line_words
-  line_same place line = go (split_line line)
+  line_same address line = go (split_line line)
     where
-      go : (o : Option Parts) → parts_words xs place o ≡ parts_words ys place o
+      go : (o : Option Parts) → parts_words xs address o ≡ parts_words ys address o
       go None = refl
-      go (Some p) = said_same place (statement_of p.body)
+      go (Some p) = said_same address (statement_of p.body)
 
   pub words_same : (origin : ℕ) (ls : List (List ℕ)) (n : ℕ) → words_before xs origin ls n ≡ words_before ys origin ls n
   words_same origin ls zero = refl
@@ -96,17 +96,17 @@ module _ (xs ys : Labels) (same : SamePlaces xs ys) where
       ∙ ap (and_words (words_before ys origin ls n) (suc n)) (line_same (place_of_line origin ls n) (line_at ls n))
 
 -- a line without fault has a label that none of the labels is
-pub new_label : (labels : Labels) (place : ℕ) (line : List ℕ) → first_fault labels place line ≡ None → is_twice labels (label_of line) ≡ false
+pub new_label : (labels : Labels) (address : ℕ) (line : List ℕ) → first_fault labels address line ≡ None → is_twice labels (label_of line) ≡ false
 unfolding first_fault label_of
-new_label labels place line e = go (split_line line) e
+new_label labels address line e = go (split_line line) e
   where
     once : (b : Bool) (later : Option AsmFaultKind) → (if b then Some LabelTwice else later) ≡ None → b ≡ false
     once true later e = absurd cc
     once false later e = refl
 
-    go : (o : Option Parts) → parts_fault labels place o ≡ None → is_twice labels (label_in o) ≡ false
+    go : (o : Option Parts) → parts_fault labels address o ≡ None → is_twice labels (label_in o) ≡ false
     go None e = absurd cc
-    go (Some p) e = once (is_twice labels p.label) (statement_fault place (statement_of p.body)) e
+    go (Some p) e = once (is_twice labels p.label) (statement_fault address (statement_of p.body)) e
 
 -- what the second pass says with such a table is what the lines mean, where the first pass finds no fault
 pub means_same : (origin : ℕ) (ls : List (List ℕ)) (labels : Labels) → fault_before origin ls (length ls) ≡ None → SamePlaces labels (all_labels origin ls) → words_before labels origin ls (length ls) ≡ means_lines ls origin

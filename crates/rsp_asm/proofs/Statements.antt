@@ -32,23 +32,23 @@ statement_is bs name operands o some n t e =
 
 -- ---- the first pass
 
-pub nothing_unread : (place : ℕ) (ts : List (List ℕ)) → 0 < length ts → Err BadOperand ≡ checked place (with_operands (form_readings no_operation ts))
-nothing_unread place [] lt = absurd (omega arith)
-nothing_unread place (t ∷ ts) lt = refl
+pub nothing_unread : (address : ℕ) (ts : List (List ℕ)) → 0 < length ts → Err BadOperand ≡ checked address (with_operands (form_readings no_operation ts))
+nothing_unread address [] lt = absurd (omega arith)
+nothing_unread address (t ∷ ts) lt = refl
 
-pub numbers_checked : (place : ℕ) (ts : List (List ℕ)) → 0 < length ts → checked_readings place false (length ts) (read_numbers ts) ≡ checked place (with_operands (form_readings numbers_form ts))
-numbers_checked place [] some = absurd (omega arith)
-numbers_checked place (t ∷ ts) some = go (read_numbers (t ∷ ts)) (numbers_length (t ∷ ts))
+pub numbers_checked : (address : ℕ) (ts : List (List ℕ)) → 0 < length ts → checked_readings address false (length ts) (read_numbers ts) ≡ checked address (with_operands (form_readings numbers_form ts))
+numbers_checked address [] some = absurd (omega arith)
+numbers_checked address (t ∷ ts) some = go (read_numbers (t ∷ ts)) (numbers_length (t ∷ ts))
   where
-    go : (o : Option (List Reading)) → ((rs : List Reading) → o ≡ Some rs → length rs ≡ length (t ∷ ts)) → checked_readings place false (length (t ∷ ts)) o ≡ checked place (with_operands (option_map numbers o))
+    go : (o : Option (List Reading)) → ((rs : List Reading) → o ≡ Some rs → length rs ≡ length (t ∷ ts)) → checked_readings address false (length (t ∷ ts)) o ≡ checked address (with_operands (option_map numbers o))
     go None many = refl
-    go (Some rs) many = ap (λ n. if list_any (reading_fails place) rs then Err OutOfRange else Ok n) (sym (many rs refl))
+    go (Some rs) many = ap (λ n. if list_any (reading_fails address) rs then Err OutOfRange else Ok n) (sym (many rs refl))
 
 -- ---- the second pass
 
-pub nothing_unsaid : (labels : Labels) (place : ℕ) (ts : List (List ℕ)) → 0 < length ts → statement_words labels place (with_operands (form_readings no_operation ts)) ≡ Err BadOperand
-nothing_unsaid labels place [] lt = absurd (omega arith)
-nothing_unsaid labels place (t ∷ ts) lt = refl
+pub nothing_unsaid : (labels : Labels) (address : ℕ) (ts : List (List ℕ)) → 0 < length ts → statement_words labels address (with_operands (form_readings no_operation ts)) ≡ Err BadOperand
+nothing_unsaid labels address [] lt = absurd (omega arith)
+nothing_unsaid labels address (t ∷ ts) lt = refl
 
 -- what .word gives of these texts
 abbrev pub listed : List (List ℕ) → Result Statement AsmFaultKind
@@ -58,44 +58,44 @@ append_to_none : (o : Result (List ℕ) AsmFaultKind) → append (Ok []) o ≡ o
 append_to_none (Err kind) = refl
 append_to_none (Ok vs) = refl
 
-pub numbers_said : (labels : Labels) (place : ℕ) (ts : List (List ℕ)) → 0 < length ts → words_with labels place (Ok []) (read_numbers ts) ≡ statement_words labels place (listed ts)
-numbers_said labels place [] some = absurd (omega arith)
-numbers_said labels place (t ∷ ts) some = go (read_numbers (t ∷ ts))
+pub numbers_said : (labels : Labels) (address : ℕ) (ts : List (List ℕ)) → 0 < length ts → words_with labels address (Ok []) (read_numbers ts) ≡ statement_words labels address (listed ts)
+numbers_said labels address [] some = absurd (omega arith)
+numbers_said labels address (t ∷ ts) some = go (read_numbers (t ∷ ts))
   where
-    go : (o : Option (List Reading)) → words_with labels place (Ok []) o ≡ statement_words labels place (with_operands (option_map numbers o))
+    go : (o : Option (List Reading)) → words_with labels address (Ok []) o ≡ statement_words labels address (with_operands (option_map numbers o))
     go None = refl
-    go (Some rs) = append_to_none (all_fields labels place rs)
+    go (Some rs) = append_to_none (all_fields labels address rs)
 
-module _ (labels : Labels) (place : ℕ) (ts : List (List ℕ)) (some : 0 < length ts) where
+module _ (labels : Labels) (address : ℕ) (ts : List (List ℕ)) (some : 0 < length ts) where
   -- numbers that give words are as many as their texts
-  numbers_sized : (words : List ℕ) → Ok words ≡ statement_words labels place (listed ts) → size_if (listed ts) ≡ length ts
+  numbers_sized : (words : List ℕ) → Ok words ≡ statement_words labels address (listed ts) → size_if (listed ts) ≡ length ts
   numbers_sized words e = go ts some e
     where
-      go : (ts : List (List ℕ)) → 0 < length ts → Ok words ≡ statement_words labels place (listed ts) → size_if (listed ts) ≡ length ts
+      go : (ts : List (List ℕ)) → 0 < length ts → Ok words ≡ statement_words labels address (listed ts) → size_if (listed ts) ≡ length ts
       go [] some e = absurd (omega arith)
       go (t ∷ ts) some e = again (read_numbers (t ∷ ts)) (numbers_length (t ∷ ts)) e
         where
-          again : (o : Option (List Reading)) → ((rs : List Reading) → o ≡ Some rs → length rs ≡ length (t ∷ ts)) → Ok words ≡ statement_words labels place (with_operands (option_map numbers o)) → size_if (with_operands (option_map numbers o)) ≡ length (t ∷ ts)
+          again : (o : Option (List Reading)) → ((rs : List Reading) → o ≡ Some rs → length rs ≡ length (t ∷ ts)) → Ok words ≡ statement_words labels address (with_operands (option_map numbers o)) → size_if (with_operands (option_map numbers o)) ≡ length (t ∷ ts)
           again None many e = absurd cc
           again (Some rs) many e = many rs refl
 
   -- numbers that have no room can't be read
-  pub numbers_full : (room : ℕ) → size_if (listed ts) ≤ room → room < length ts → statement_words labels place (listed ts) ≡ Err BadOperand
+  pub numbers_full : (room : ℕ) → size_if (listed ts) ≤ room → room < length ts → statement_words labels address (listed ts) ≡ Err BadOperand
   numbers_full room fits less = go ts some fits less
     where
-      go : (ts : List (List ℕ)) → 0 < length ts → size_if (listed ts) ≤ room → room < length ts → statement_words labels place (listed ts) ≡ Err BadOperand
+      go : (ts : List (List ℕ)) → 0 < length ts → size_if (listed ts) ≤ room → room < length ts → statement_words labels address (listed ts) ≡ Err BadOperand
       go [] some fits less = absurd (omega arith)
       go (t ∷ ts) some fits less = again (read_numbers (t ∷ ts)) (numbers_length (t ∷ ts)) fits
         where
-          again : (o : Option (List Reading)) → ((rs : List Reading) → o ≡ Some rs → length rs ≡ length (t ∷ ts)) → size_if (with_operands (option_map numbers o)) ≤ room → statement_words labels place (with_operands (option_map numbers o)) ≡ Err BadOperand
+          again : (o : Option (List Reading)) → ((rs : List Reading) → o ≡ Some rs → length rs ≡ length (t ∷ ts)) → size_if (with_operands (option_map numbers o)) ≤ room → statement_words labels address (with_operands (option_map numbers o)) ≡ Err BadOperand
           again None many fits = refl
           again (Some rs) many fits = let same = many rs refl in absurd (omega (arith, same))
 
   module _ (old new : List ℕ) where
     -- the numbers are put where none of them has a fault
-    pub all_put : Part labels old new None [] ts → Pushed (statement_words labels place (listed ts)) (size_if (listed ts)) old new
+    pub all_put : Part labels old new None [] ts → Pushed (statement_words labels address (listed ts)) (size_if (listed ts)) old new
     all_put p =
-        let same : Ok (p.words ++ []) ≡ statement_words labels place (listed ts) = p.said place ∙ numbers_said labels place ts some in
+        let same : Ok (p.words ++ []) ≡ statement_words labels address (listed ts) = p.said address ∙ numbers_said labels address ts some in
         record {
           words = p.words;
           said_words = sym same ∙ ap Ok (append-nil p.words);
@@ -103,15 +103,15 @@ module _ (labels : Labels) (place : ℕ) (ts : List (List ℕ)) (some : 0 < leng
           count_is = let count = p.count_is refl in let size = numbers_sized (p.words ++ []) same in omega (arith, count, size);
         }
 
-    pub none_put : (kind : AsmFaultKind) → Part labels old new (Some kind) [] ts → statement_words labels place (listed ts) ≡ Err kind
-    none_put kind p = sym (p.said place ∙ numbers_said labels place ts some)
+    pub none_put : (kind : AsmFaultKind) → Part labels old new (Some kind) [] ts → statement_words labels address (listed ts) ≡ Err kind
+    none_put kind p = sym (p.said address ∙ numbers_said labels address ts some)
 
-pub row_said : (labels : Labels) (place : ℕ) (row : Row) (e : Entry) (ts : List (List ℕ)) → entry_of row ≡ e → row_words labels place e ts ≡ statement_words labels place (with_operands (form_readings (row_form row) ts))
-row_said labels place row e ts same = sym (ap (λ (x : Entry). row_words labels place x ts) same) ∙ go (read_all row.operands ts)
+pub row_said : (labels : Labels) (address : ℕ) (row : Row) (e : Entry) (ts : List (List ℕ)) → entry_of row ≡ e → row_words labels address e ts ≡ statement_words labels address (with_operands (form_readings (row_form row) ts))
+row_said labels address row e ts same = sym (ap (λ (x : Entry). row_words labels address x ts) same) ∙ go (read_all row.operands ts)
   where
-    go : (o : Option (List Reading)) → single (word_with labels place (Ok row.value) (flat_map bit_fields row.operands) o) ≡ statement_words labels place (with_operands (option_map (instruction row) o))
+    go : (o : Option (List Reading)) → single (word_with labels address (Ok row.value) (flat_map bit_fields row.operands) o) ≡ statement_words labels address (with_operands (option_map (instruction row) o))
     go None = refl
-    go (Some rs) = again (all_fields labels place rs)
+    go (Some rs) = again (all_fields labels address rs)
       where
         again : (f : Result (List ℕ) AsmFaultKind) → single (with_values row.value (flat_map bit_fields row.operands) f) ≡ one_word row f
         again (Err kind) = refl
@@ -124,9 +124,17 @@ row_sized row e ts same = sym (ap (λ (x : Entry). row_size x ts) same) ∙ go (
     go None = refl
     go (Some rs) = refl
 
-pub puts_same : (said said' : Result (List ℕ) AsmFaultKind) (count count' : ℕ) (old new : List ℕ) (result : Result (Unit {0}) AsmFaultKind) → said ≡ said' → count ≡ count' → Puts said count old new result → Puts said' count' old new result
-puts_same said said' count count' old new result e f h =
-    subst (λ s. Puts s count' old new result) e (subst (λ n. Puts said n old new result) f h)
+module _ (labels : Labels) (address : ℕ) (old new : List ℕ) (result : Result (Unit {0}) AsmFaultKind) where
+  -- a call puts the words of a statement
+  abbrev pub PutsStatement : Result Statement AsmFaultKind → Type 0
+  PutsStatement said = Puts (statement_words labels address said) (size_if said) old new result
+
+  pub numbers_put : (said : Result Statement AsmFaultKind) (ts : List (List ℕ)) → said ≡ listed ts → PutsStatement (listed ts) → PutsStatement said
+  numbers_put said ts is h = subst PutsStatement (sym is) h
+
+  pub row_put : (said : Result Statement AsmFaultKind) (row : Row) (e : Entry) (ts : List (List ℕ)) → entry_of row ≡ e → said ≡ with_operands (form_readings (row_form row) ts) → Puts (row_words labels address e ts) (row_size e ts) old new result → PutsStatement said
+  row_put said row e ts same is h =
+      subst PutsStatement (sym is) (subst (λ s. Puts s (size_if (with_operands (form_readings (row_form row) ts))) old new result) (row_said labels address row e ts same) (subst (λ n. Puts (row_words labels address e ts) n old new result) (row_sized row e ts same) h))
 
 -- ---- the line of a statement
 
@@ -143,10 +151,10 @@ module _ (said : Result (List ℕ) AsmFaultKind) (count : ℕ) (old new : List �
   pub pushed_len : length new ≡ length old + count
   pushed_len = omega (arith, ap length p.kept, length-append old p.words, p.count_is)
 
-module _ (labels : Labels) (place : ℕ) (line : List ℕ) (p : Parts) (is : Some p ≡ split_line line) where
-  pub line_said : line_words labels place line ≡ statement_words labels place (statement_of p.body)
+module _ (labels : Labels) (address : ℕ) (line : List ℕ) (p : Parts) (is : Some p ≡ split_line line) where
+  pub line_said : line_words labels address line ≡ statement_words labels address (statement_of p.body)
   unfolding line_words
-  line_said = ap (parts_words labels place) (sym is)
+  line_said = ap (parts_words labels address) (sym is)
 
   pub line_sized : line_size line ≡ size_if (statement_of p.body)
   unfolding line_size

@@ -31,14 +31,14 @@ or_both : (a b c : Bool) → (a || b) || c ≡ a || (b || c)
 or_both true b c = refl
 or_both false b c = refl
 
-module _ (place count : ℕ) (bad : Bool) where
-  pub checked_next : (o : Option Reading) (q : Option (List Reading)) (b : Bool) → Some b ≡ option_map (reading_fails place) o → checked_readings place (bad || b) count q ≡ checked_readings place bad count (before_others o q)
+module _ (address count : ℕ) (bad : Bool) where
+  pub checked_next : (o : Option Reading) (q : Option (List Reading)) (b : Bool) → Some b ≡ option_map (reading_fails address) o → checked_readings address (bad || b) count q ≡ checked_readings address bad count (before_others o q)
   checked_next None q b e = absurd cc
   checked_next (Some r) None b e = refl
   checked_next (Some r) (Some rs) b e =
-      let same : b ≡ reading_fails place r = cc in
-      ap (λ t. if (bad || t) || list_any (reading_fails place) rs then Err OutOfRange else Ok count) same
-      ∙ ap (λ t. if t then Err OutOfRange else Ok count) (or_both bad (reading_fails place r) (list_any (reading_fails place) rs))
+      let same : b ≡ reading_fails address r = cc in
+      ap (λ t. if (bad || t) || list_any (reading_fails address) rs then Err OutOfRange else Ok count) same
+      ∙ ap (λ t. if t then Err OutOfRange else Ok count) (or_both bad (reading_fails address r) (list_any (reading_fails address) rs))
 
 -- ---- the second pass
 
@@ -47,15 +47,15 @@ put_one w ps qs (Err kind) more fit = refl
 put_one w ps qs (Ok vs) (Err kind) fit = refl
 put_one w ps qs (Ok vs) (Ok ws) fit = ap Ok (sym (with_fields_append ps qs vs ws w (fit vs refl)))
 
-module _ (labels : Labels) (place v : ℕ) (ps qs : List BitField) where
-  word_next : (fault : Option AsmFaultKind) (o : Option Reading) (q : Option (List Reading)) (p : Result ℕ AsmFaultKind) → ((r : Reading) → o ≡ Some r → span r ≡ length ps) → Some p ≡ option_map (λ (r : Reading). with_values v ps (fields_of labels place r)) o → word_with labels place (and_then (so_far fault v) (λ x. p)) qs q ≡ word_with labels place (so_far fault v) (ps ++ qs) (before_others o q)
+module _ (labels : Labels) (address v : ℕ) (ps qs : List BitField) where
+  word_next : (fault : Option AsmFaultKind) (o : Option Reading) (q : Option (List Reading)) (p : Result ℕ AsmFaultKind) → ((r : Reading) → o ≡ Some r → span r ≡ length ps) → Some p ≡ option_map (λ (r : Reading). with_values v ps (fields_of labels address r)) o → word_with labels address (and_then (so_far fault v) (λ x. p)) qs q ≡ word_with labels address (so_far fault v) (ps ++ qs) (before_others o q)
   word_next fault None q p fit e = absurd cc
   word_next fault (Some r) None p fit e = refl
   word_next (Some kind) (Some r) (Some rs) p fit e = refl
   word_next None (Some r) (Some rs) p fit e =
-      let same : p ≡ with_values v ps (fields_of labels place r) = cc in
-      ap (λ x. and_then x (λ y. with_values y qs (all_fields labels place rs))) same
-      ∙ put_one v ps qs (fields_of labels place r) (all_fields labels place rs) (λ vs h. fields_span labels place r.registers r.value vs h ∙ fit r refl)
+      let same : p ≡ with_values v ps (fields_of labels address r) = cc in
+      ap (λ x. and_then x (λ y. with_values y qs (all_fields labels address rs))) same
+      ∙ put_one v ps qs (fields_of labels address r) (all_fields labels address rs) (λ vs h. fields_span labels address r.registers r.value vs h ∙ fit r refl)
 
 pub word_kept : (fault : Option AsmFaultKind) (v : ℕ) (p : Result ℕ AsmFaultKind) → so_far (option_or fault (result_err p)) (result_unwrap_or p v) ≡ and_then (so_far fault v) (λ x. p)
 word_kept None v (Ok next) = refl
@@ -72,16 +72,16 @@ module _ (kinds : List Operand) (i : ℕ) (lt : i < length kinds) where
   pub first_read : (d : Operand) (t : List ℕ) (ts : List (List ℕ)) → read_all (drop i kinds) (t ∷ ts) ≡ before_others (read (get_or kinds i d) t) (read_all (drop (i + 1) kinds) ts)
   first_read d t ts = ap (λ ks. read_all ks (t ∷ ts)) (at_index kinds i d lt)
 
-  pub first_put : (d : Operand) (t : List ℕ) (ts : List (List ℕ)) (labels : Labels) (place v : ℕ) (fault : Option AsmFaultKind) (p w : Result ℕ AsmFaultKind)
-      → Some p ≡ option_map (λ (r : Reading). with_values v (bit_fields (get_or kinds i d)) (fields_of labels place r)) (read (get_or kinds i d) t)
+  pub first_put : (d : Operand) (t : List ℕ) (ts : List (List ℕ)) (labels : Labels) (address v : ℕ) (fault : Option AsmFaultKind) (p w : Result ℕ AsmFaultKind)
+      → Some p ≡ option_map (λ (r : Reading). with_values v (bit_fields (get_or kinds i d)) (fields_of labels address r)) (read (get_or kinds i d) t)
       → w ≡ and_then (so_far fault v) (λ x. p)
-      → word_with labels place w (flat_map bit_fields (drop (i + 1) kinds)) (read_all (drop (i + 1) kinds) ts) ≡ word_with labels place (so_far fault v) (flat_map bit_fields (drop i kinds)) (read_all (drop i kinds) (t ∷ ts))
-  first_put d t ts labels place v fault p w e is =
+      → word_with labels address w (flat_map bit_fields (drop (i + 1) kinds)) (read_all (drop (i + 1) kinds) ts) ≡ word_with labels address (so_far fault v) (flat_map bit_fields (drop i kinds)) (read_all (drop i kinds) (t ∷ ts))
+  first_put d t ts labels address v fault p w e is =
       let k = get_or kinds i d in
       let ks = drop (i + 1) kinds in
-      ap (λ x. word_with labels place x (flat_map bit_fields ks) (read_all ks ts)) is
-      ∙ word_next labels place v (bit_fields k) (flat_map bit_fields ks) fault (read k t) (read_all ks ts) p (read_span k t) e
-      ∙ sym (ap (λ (xs : List Operand). word_with labels place (so_far fault v) (flat_map bit_fields xs) (read_all xs (t ∷ ts))) (at_index kinds i d lt))
+      ap (λ x. word_with labels address x (flat_map bit_fields ks) (read_all ks ts)) is
+      ∙ word_next labels address v (bit_fields k) (flat_map bit_fields ks) fault (read k t) (read_all ks ts) p (read_span k t) e
+      ∙ sym (ap (λ (xs : List Operand). word_with labels address (so_far fault v) (flat_map bit_fields xs) (read_all xs (t ∷ ts))) (at_index kinds i d lt))
 
   -- an operand that can't be read leaves nothing to read
   pub first_unread : {A : Type 0} (f : Reading → A) (d : Operand) (t : List ℕ) (ts : List (List ℕ)) → None ≡ option_map f (read (get_or kinds i d) t) → None ≡ read_all (drop i kinds) (t ∷ ts)
@@ -107,19 +107,19 @@ numbers_unread f t ts e = go (expression_of t) e ∙ sym (numbers_first t ts)
     go None e = refl
     go (Some x) e = absurd cc
 
-pub word_fails_so : (place : ℕ) (o : Option Expression) → option_map word_fails o ≡ option_map (reading_fails place) (option_map (asks Word []) o)
-word_fails_so place None = refl
-word_fails_so place (Some e) = refl
+pub word_fails_so : (address : ℕ) (o : Option Expression) → option_map word_fails o ≡ option_map (reading_fails address) (option_map (asks Word []) o)
+word_fails_so address None = refl
+word_fails_so address (Some e) = refl
 
 -- words with those of these readings behind them, or the fault of the leftmost that has one
 abbrev pub words_with : Labels → ℕ → Result (List ℕ) AsmFaultKind → Option (List Reading) → Result (List ℕ) AsmFaultKind
-words_with labels place words None = Err BadOperand
-words_with labels place words (Some rs) = append words (all_fields labels place rs)
+words_with labels address words None = Err BadOperand
+words_with labels address words (Some rs) = append words (all_fields labels address rs)
 
-one_number : (labels : Labels) (place : ℕ) (e : Expression) → single (word_value labels e) ≡ fields_of labels place (asks Word [] e)
-one_number labels place e = go (evaluate labels e)
+one_number : (labels : Labels) (address : ℕ) (e : Expression) → single (word_value labels e) ≡ fields_of labels address (asks Word [] e)
+one_number labels address e = go (evaluate labels e)
   where
-    go : (o : Option ℤ) → single (field_of Word 0 o) ≡ then_registers [] (field_of Word place o)
+    go : (o : Option ℤ) → single (field_of Word 0 o) ≡ then_registers [] (field_of Word address o)
     go None = refl
     go (Some z) = again (word z)
       where
@@ -133,20 +133,20 @@ append_three (Ok vs) (Err kind) c = refl
 append_three (Ok vs) (Ok ws) (Err kind) = refl
 append_three (Ok vs) (Ok ws) (Ok us) = ap Ok (append_assoc vs ws us)
 
-numbers_next : (labels : Labels) (place : ℕ) (words : Result (List ℕ) AsmFaultKind) (o : Option Expression) (q : Option (List Reading)) (p : Result ℕ AsmFaultKind) → Some p ≡ option_map (word_value labels) o → words_with labels place (append words (single p)) q ≡ words_with labels place words (before_others (option_map (asks Word []) o) q)
-numbers_next labels place words None q p e = absurd cc
-numbers_next labels place words (Some x) None p e = refl
-numbers_next labels place words (Some x) (Some rs) p e =
+numbers_next : (labels : Labels) (address : ℕ) (words : Result (List ℕ) AsmFaultKind) (o : Option Expression) (q : Option (List Reading)) (p : Result ℕ AsmFaultKind) → Some p ≡ option_map (word_value labels) o → words_with labels address (append words (single p)) q ≡ words_with labels address words (before_others (option_map (asks Word []) o) q)
+numbers_next labels address words None q p e = absurd cc
+numbers_next labels address words (Some x) None p e = refl
+numbers_next labels address words (Some x) (Some rs) p e =
     let same : p ≡ word_value labels x = cc in
-    ap (λ y. append (append words (single y)) (all_fields labels place rs)) same
-    ∙ ap (λ y. append (append words y) (all_fields labels place rs)) (one_number labels place x)
-    ∙ append_three words (fields_of labels place (asks Word [] x)) (all_fields labels place rs)
+    ap (λ y. append (append words (single y)) (all_fields labels address rs)) same
+    ∙ ap (λ y. append (append words y) (all_fields labels address rs)) (one_number labels address x)
+    ∙ append_three words (fields_of labels address (asks Word [] x)) (all_fields labels address rs)
 
 -- Some of the numbers are put behind the words before them, or one of them has a fault, and these texts are left.
 pub record Part (labels : Labels) (old new : List ℕ) (fault : Option AsmFaultKind) (left ts : List (List ℕ)) : Type 0 where
   pub words : List ℕ
   pub kept : new ≡ old ++ words
-  pub said : (place : ℕ) → words_with labels place (so_far fault words) (read_numbers left) ≡ words_with labels place (Ok []) (read_numbers ts)
+  pub said : (address : ℕ) → words_with labels address (so_far fault words) (read_numbers left) ≡ words_with labels address (Ok []) (read_numbers ts)
   pub few : length words + length left ≤ length ts
   pub count_is : fault ≡ None → length words + length left ≡ length ts
 
@@ -163,12 +163,12 @@ still_none None kind e = absurd cc
 still_none (Some first) kind e = absurd cc
 
 module _ (labels : Labels) (old new : List ℕ) (fault : Option AsmFaultKind) (t : List ℕ) (left ts : List (List ℕ)) (p : Part labels old new fault (t ∷ left) ts) where
-  goes_on : (words : Result (List ℕ) AsmFaultKind) (found : Result ℕ AsmFaultKind) → Some found ≡ option_map (word_value labels) (expression_of t) → words ≡ append (so_far fault p.words) (single found) → (place : ℕ) → words_with labels place words (read_numbers left) ≡ words_with labels place (Ok []) (read_numbers ts)
-  goes_on words found e is place =
-      ap (λ ws. words_with labels place ws (read_numbers left)) is
-      ∙ numbers_next labels place (so_far fault p.words) (expression_of t) (read_numbers left) found e
-      ∙ ap (words_with labels place (so_far fault p.words)) (sym (numbers_first t left))
-      ∙ p.said place
+  goes_on : (words : Result (List ℕ) AsmFaultKind) (found : Result ℕ AsmFaultKind) → Some found ≡ option_map (word_value labels) (expression_of t) → words ≡ append (so_far fault p.words) (single found) → (address : ℕ) → words_with labels address words (read_numbers left) ≡ words_with labels address (Ok []) (read_numbers ts)
+  goes_on words found e is address =
+      ap (λ ws. words_with labels address ws (read_numbers left)) is
+      ∙ numbers_next labels address (so_far fault p.words) (expression_of t) (read_numbers left) found e
+      ∙ ap (words_with labels address (so_far fault p.words)) (sym (numbers_first t left))
+      ∙ p.said address
 
   pub part_more : (w : ℕ) (new' : List ℕ) → Some (Ok w) ≡ option_map (word_value labels) (expression_of t) → new' ≡ new ++ w ∷ [] → Part labels old new' fault left ts
   part_more w new' e is = record {
@@ -188,5 +188,5 @@ module _ (labels : Labels) (old new : List ℕ) (fault : Option AsmFaultKind) (t
     count_is = λ none. still_none fault kind none;
   }
 
-  pub part_unread : None ≡ option_map (word_value labels) (expression_of t) → (place : ℕ) → words_with labels place (Ok []) (read_numbers ts) ≡ Err BadOperand
-  part_unread e place = sym (p.said place) ∙ ap (words_with labels place (so_far fault p.words)) (sym (numbers_unread (word_value labels) t left e))
+  pub part_unread : None ≡ option_map (word_value labels) (expression_of t) → (address : ℕ) → words_with labels address (Ok []) (read_numbers ts) ≡ Err BadOperand
+  part_unread e address = sym (p.said address) ∙ ap (words_with labels address (so_far fault p.words)) (sym (numbers_unread (word_value labels) t left e))

@@ -1,4 +1,4 @@
--- What `assemble` may answer.
+-- The faults that `assemble` may return.
 use Rattle.std.specs.Prelude.{◌≡◌, ◌⊎◌, ℕ, ◌-◌, ◌<◌, ◌≤◌, List, [], length, slice_index_or, is_some, true, None, Err}
 use Rattle.std.specs.Str.Lines.{lines}
 use Rattle.rsp_text.specs.declared.fault.AsmFault.{AsmFault}
@@ -6,18 +6,19 @@ use Rattle.rsp_text.specs.declared.fault.AsmFaultKind.TheVariants.{OutOfMemory}
 use Rattle.rsp_text.specs.SourceLine.{label_of}
 use Rattle.rsp_text.specs.Means.{fault_before, means}
 
--- Memory ran out at a line, and that hides no fault of the text: the line has a label, and neither the line nor one before it
--- has a fault of the first pass.
-pub record HidesNoFault (place : ℕ) (ls : List (List ℕ)) (line : ℕ) : Type 0 where
+-- There was no memory for the label of a line, and that hides no fault of the text: the line has a label, and neither the line
+-- nor one before it has a fault of the first pass.
+pub record HidesNoFault (address : ℕ) (ls : List (List ℕ)) (line : ℕ) : Type 0 where
   pub positive : 0 < line
   pub inside : line ≤ length ls
   pub labelled : is_some (label_of (slice_index_or ls (line - 1) [])) ≡ true
-  pub clean : fault_before place ls line ≡ None
+  pub clean : fault_before address ls line ≡ None
 
--- the fault that there was no memory, at a line where it hides no fault of the text
+-- the fault OutOfMemory, at a line at which it hides no fault of the text
 pub record IsShortOfMemory (origin : ℕ) (text : List ℕ) (fault : AsmFault) : Type 0 where
   pub kind : fault.kind ≡ OutOfMemory
   pub hides : HidesNoFault origin (lines text) fault.line
 
+-- the fault of the text, or OutOfMemory
 abbrev pub IsFault : ℕ → List ℕ → AsmFault → Type 0
 IsFault origin text fault = (means text origin ≡ Err fault) ⊎ IsShortOfMemory origin text fault

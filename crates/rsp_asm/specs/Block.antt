@@ -1,4 +1,4 @@
--- An open block of source text.
+-- An open block of source text: the lines between `asm` and `end` of a script.
 use Rattle.std.specs.Prelude.{ℕ, List, [], ◌∷◌, ◌++◌, ◌≡◌, Result, true}
 use Rattle.std.specs.List.{list_all}
 use Rattle.std.specs.Str.Lines.{lines}
@@ -7,24 +7,24 @@ use Rattle.rsp_text.specs.SourceLine.{text_of_lines}
 use Rattle.rsp_text.specs.declared.fault.AsmFault.{AsmFault}
 use Rattle.rsp_text.specs.Means.{means_lines}
 
--- the place of its first word, and its lines
+-- the address of its first word, and its lines
 pub record OpenBlock : Type 0 where
   pub place : ℕ
   pub lines : List (List ℕ)
 
--- a block that was just opened
+-- a block without lines
 abbrev pub opened : ℕ → OpenBlock
 opened place = record { place = place; lines = [] }
 
--- a block with one line more
+-- a block with one more line at its end
 abbrev pub with_line : List ℕ → OpenBlock → OpenBlock
 with_line line b = record b { lines = b.lines ++ line ∷ [] }
 
--- what its lines mean
+-- what its lines mean: their words, or a fault
 unfoldable pub meaning : OpenBlock → Result (List ℕ) AsmFault
 meaning b = means_lines b.lines b.place
 
--- the text that keeps its lines: plain lines, each of which LF follows
+-- a text as a block keeps it: lines of tabs and printable bytes, with LF after each
 pub record IsText (text : List ℕ) : Type 0 where
   pub whole : text ≡ text_of_lines (lines text)
   pub plain : list_all (list_all is_plain) (lines text) ≡ true

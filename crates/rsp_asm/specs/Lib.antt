@@ -1,4 +1,4 @@
--- Assembly: from a source text to its words.
+-- The assembler: the faults that it returns, blocks, and the laws of its words. What a text means is in rsp_text.
 pub mod Parts
 pub mod Operands
 pub mod Statements

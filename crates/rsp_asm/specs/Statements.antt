@@ -1,5 +1,5 @@
--- Scaffolding of the proofs: what the two passes of the code say of a statement. What a statement means is in the
--- definitions of rsp_text.
+-- Scaffolding of the contracts: what the two passes of the code return for a statement. What a statement means is in Statement
+-- of rsp_text.
 use Rattle.std.specs.Prelude.{◌≡◌, ℕ, Bool, ◌||◌, List, [], ◌∷◌, ◌++◌, length, flat_map, Option, Some, None, Result, Ok, Err, MatchResult, if◌then◌else◌}
 use Rattle.std.specs.List.{list_any}
 use Rattle.rsp_decode.specs.Table.{Entry, BitField, bit_fields}
@@ -11,27 +11,26 @@ use Rattle.rsp_text.specs.Walks.{reading_fails, with_values}
 
 -- ---- the first pass
 
--- The first number, or the fault that readings have without labels. `bad` says that an operand before them is out of its
--- range.
+-- `count`, or the fault that operands have without labels. `bad` says that an operand before them is out of its range.
 abbrev pub checked_readings : ℕ → Bool → ℕ → Option (List Reading) → Result ℕ AsmFaultKind
-checked_readings place bad count None = Err BadOperand
-checked_readings place bad count (Some rs) = if bad || list_any (reading_fails place) rs then Err OutOfRange else Ok count
+checked_readings address bad count None = Err BadOperand
+checked_readings address bad count (Some rs) = if bad || list_any (reading_fails address) rs then Err OutOfRange else Ok count
 
 -- how many words a statement gives, or the fault that it has without labels
 abbrev pub checked : ℕ → Result Statement AsmFaultKind → Result ℕ AsmFaultKind
-checked place (Err kind) = Err kind
-checked place (Ok s) = if has_bad_number place (Ok s) then Err OutOfRange else Ok (size s)
+checked address (Err kind) = Err kind
+checked address (Ok s) = if has_bad_number address (Ok s) then Err OutOfRange else Ok (size s)
 
 -- ---- the second pass
 
--- words that were put behind others
+-- as many words as these were appended to the old ones
 pub record Pushed (said : Result (List ℕ) AsmFaultKind) (count : ℕ) (old new : List ℕ) : Type 0 where
   pub words : List ℕ
   pub said_words : said ≡ Ok words
   pub kept : new ≡ old ++ words
   pub count_is : length words ≡ count
 
--- a call that puts the words that are said, so many, or says why there are none
+-- a call appends the words that a statement gives, this many, or returns its fault
 abbrev pub Puts : Result (List ℕ) AsmFaultKind → ℕ → List ℕ → List ℕ → Result (Unit {0}) AsmFaultKind → Type 0
 Puts said count old new result = MatchResult result (λ u. Pushed said count old new) (λ kind. said ≡ Err kind)
 
@@ -40,12 +39,12 @@ abbrev pub single : Result ℕ AsmFaultKind → Result (List ℕ) AsmFaultKind
 single (Err kind) = Err kind
 single (Ok w) = Ok (w ∷ [])
 
--- so many where the operands can be read
+-- n if the operands can be read, else 0
 abbrev pub counted : ℕ → Option (List Reading) → ℕ
 counted n None = 0
 counted n (Some rs) = n
 
--- a row with these texts as operands
+-- how many words an instruction with these texts as operands gives
 abbrev pub row_size : Entry → List (List ℕ) → ℕ
 row_size e ts = counted 1 (read_all e.operands ts)
 
@@ -55,11 +54,12 @@ and_then (Ok w) more = more w
 
 -- a word with the fields of these readings in these bit fields, or the fault of the leftmost that has one
 abbrev pub word_with : Labels → ℕ → Result ℕ AsmFaultKind → List BitField → Option (List Reading) → Result ℕ AsmFaultKind
-word_with labels place w ps None = Err BadOperand
-word_with labels place w ps (Some rs) = and_then w (λ v. with_values v ps (all_fields labels place rs))
+word_with labels address w ps None = Err BadOperand
+word_with labels address w ps (Some rs) = and_then w (λ v. with_values v ps (all_fields labels address rs))
 
+-- the word of an instruction with these texts as operands
 abbrev pub row_word : Labels → ℕ → Entry → List (List ℕ) → Result ℕ AsmFaultKind
-row_word labels place e ts = word_with labels place (Ok e.value) (flat_map bit_fields e.operands) (read_all e.operands ts)
+row_word labels address e ts = word_with labels address (Ok e.value) (flat_map bit_fields e.operands) (read_all e.operands ts)
 
 abbrev pub row_words : Labels → ℕ → Entry → List (List ℕ) → Result (List ℕ) AsmFaultKind
-row_words labels place e ts = single (row_word labels place e ts)
+row_words labels address e ts = single (row_word labels address e ts)

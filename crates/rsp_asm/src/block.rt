@@ -11,8 +11,9 @@ use rsp_text::{AsmFault, AsmFaultKind};
 use std::alloc::{AllocError, Global};
 use std::marker::Model;
 
-/// A block of source text that is open: the place of its first word, and its lines so far. Contracts see it as a
-/// `OpenBlock`.
+/// An open block of source text: the address of its first word, and its lines so far. Contracts see it as an `OpenBlock`.
+///
+/// It is what a script has between `asm` and `end`. Lines are kept as text, and read when the block is assembled.
 #[derive(Drop)]
 pub struct Block {
     place: u16,
@@ -33,20 +34,19 @@ impl Model for Block {
     ghost invariant = { λ b. (b.place ≤ 4092) × IsText (string_bytes b.text) };
 }
 
-/// Why a block gives no words.
+/// Why a block can't be assembled.
 #[derive(Clone, Copy, PartialEq, Eq, Debug)]
 pub enum BlockFault {
-    /// Its text means a fault.
+    /// The fault of its text, with the number of the line in the block, from 1.
     Text(AsmFault),
-    /// There was no memory for a label. That hides no fault of the text: no line up to the label's has a fault of the first
-    /// pass.
+    /// There was no memory for a label. No line up to the label's has a fault that needs no label.
     OutOfMemory {
         /// The number of the label's line, from 1.
         line: usize,
     },
 }
 
-/// Appends a line and LF. Where there is no memory for both, nothing is appended.
+/// Appends a line and LF. If there is no memory for both, nothing is appended.
 fn push_line(text: &mut String, line: &str) -> Result<(), AllocError>
     ensures ok { OnOk result (string_bytes text.new ≡ string_bytes text.old ++ line.now ++ 10 ∷ []) }
     ensures err { OnErr result (string_bytes text.new ≡ string_bytes text.old) }
@@ -57,7 +57,7 @@ fn push_line(text: &mut String, line: &str) -> Result<(), AllocError>
 }
 
 impl Block {
-    /// A block without lines, whose first word is to stand at `place`, at most 4092. It takes no memory.
+    /// A block without lines, whose first word will be at `place`, a byte address in IMEM of at most 4092. It doesn't allocate.
     pub fn new(alloc: Global, place: u16) -> Block
         requires { place ≤ 4092 }
         ensures { result ≡ opened place }
@@ -68,7 +68,8 @@ impl Block {
         }
     }
 
-    /// Keeps a line, whose bytes are tabs or printed ones. Where there is no memory for it, the block stays as it was.
+    /// Appends a line, given without its ending: tabs and bytes 20 to 7e hexadecimal. If there is no memory for it, the block is
+    /// unchanged. A line of more than 256 bytes is accepted here, and refused as BadLine when the block is assembled.
     pub fn push(&mut self, line: &str) -> Result<(), AllocError>
         requires { list_all is_plain line.now ≡ true }
         ensures ok { OnOk result (self.new ≡ with_line line.now self.old) }
@@ -77,7 +78,7 @@ impl Block {
         push_line(&mut self.text, line)
     }
 
-    /// The place of the first word.
+    /// The address of the first word, at most 4092.
     pub fn place(&self) -> u16
         ensures value { result ≡ self.now.place }
         ensures range { result ≤ 4092 }
@@ -85,7 +86,7 @@ impl Block {
         self.place
     }
 
-    /// How many lines the block has so far.
+    /// How many lines the block has.
     pub fn line_count(&self) -> usize
         ensures value { result ≡ length self.now.lines }
         ensures range { result < 2 ^ 63 }
@@ -93,9 +94,8 @@ impl Block {
         self.text.as_str().lines().count()
     }
 
-    /// The words that the lines mean. The fault of the text is that of its lowest line that has one; it is
-    /// `BlockFault::OutOfMemory` only where there was no memory for a label, and no line up to that one has a fault of the first
-    /// pass.
+    /// Assembles the lines as [`assemble`](crate::assemble) does a text, from the block's address on. Memory is needed for labels
+    /// alone.
     #[tactic(auto, unfolding(crate::specs::Block::meaning))]
     pub fn assemble(&self, alloc: Global) -> Result<Words, BlockFault>
         ensures ok { IfOk result (λ words. meaning self.now ≡ Ok words.items) }

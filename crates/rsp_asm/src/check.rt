@@ -1,16 +1,17 @@
-// What the first pass says of a statement.
+// The first pass over a statement: how many words it gives, and each fault that needs no label.
 
 ghost use Rattle.std.specs.Prelude.{◌≡◌, ◌≤◌, ℕ};
 ghost use Rattle.rsp_text.specs.Statement.{statement_of, operand_texts, form_readings, with_operands, no_operation};
 ghost use Rattle.rsp_asm.specs.Statements.{checked};
 
-use crate::form::{Form, form_of, split};
 use crate::numbers::check_numbers;
 use crate::row::check_row;
+use crate::statement::{Form, Statement, read_statement};
 use rsp_text::AsmFaultKind;
 
+/// The one word of `nop`, which takes no operands.
 fn check_nothing(operands: &[u8]) -> Result<usize, AsmFaultKind>
-    ensures { (place : ℕ) → result ≡ checked place (with_operands (form_readings no_operation (operand_texts operands.now))) }
+    ensures { (address : ℕ) → result ≡ checked address (with_operands (form_readings no_operation (operand_texts operands.now))) }
 {
     if !operands.is_empty() {
         return Err(AsmFaultKind::BadOperand);
@@ -18,24 +19,21 @@ fn check_nothing(operands: &[u8]) -> Result<usize, AsmFaultKind>
     Ok(1)
 }
 
-/// How many words a statement gives.
+/// How many words a statement at `address` gives.
 ///
-/// Refused are, in this order: a name that no statement has, operands that can't be read or are too few or too many, and a
-/// number that is out of its range whatever the labels are.
-pub fn check_statement(text: &[u8], place: u16) -> Result<usize, AsmFaultKind>
-    requires { place ≤ 4096 }
-    ensures { result ≡ checked place (statement_of text.now) }
+/// Refused are, in this order: a name that no statement has as UnknownName, operands that can't be read or are too few or too
+/// many as BadOperand, and a number that is out of its range whatever the labels are as OutOfRange.
+pub fn check_statement(text: &[u8], address: u16) -> Result<usize, AsmFaultKind>
+    requires { address ≤ 4096 }
+    ensures { result ≡ checked address (statement_of text.now) }
 {
-    if text.is_empty() {
+    let statement = read_statement(text)?;
+    let Some(Statement { form, operands }) = statement else {
         return Ok(0);
-    }
-    let (name, operands) = split(text);
-    let Some(form) = form_of(name, operands) else {
-        return Err(AsmFaultKind::UnknownName);
     };
     match form {
         Form::NoOperation => check_nothing(operands),
         Form::Numbers => check_numbers(operands),
-        Form::Row(row) => check_row(row.operands, operands, place),
+        Form::Row(row) => check_row(row.operands, operands, address),
     }
 }

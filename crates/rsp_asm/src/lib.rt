@@ -1,17 +1,19 @@
-//! The assembler: the words of a source text, or the fault of the lowest line that has one.
+//! The assembler: from a source text to its words, or to the fault of the lowest line that has one.
 //!
-//! The first pass finds the place of each label, and each fault that needs no label. The second one writes the words.
+//! [`assemble`] makes two passes over the lines. The first finds the address of each label and each fault that needs no label,
+//! the second writes the words. Each pass reads a line anew, so labels and words alone are stored. The meaning of a text is the
+//! definition `means` of `rsp_text/specs/Means.antt`.
 #![tactic(auto)]
 
 mod block;
 mod check;
-mod form;
 pub mod laws;
 mod line;
 mod numbers;
 mod operands;
 mod push;
 mod row;
+mod statement;
 mod two_passes;
 mod words;
 

@@ -1,4 +1,4 @@
-// A line of the source.
+// A line of a source text, in both passes.
 
 ghost use Rattle.std.specs.Prelude.{◌≡◌, ◌+◌, ◌*◌, ◌≤◌, [], None, Some, Ok, Err, option_map, IfOk, IfErr, OnOk, drop, ◌++◌};
 ghost use Rattle.arrayvec.specs.ArrayVec.{array_vec_len};
@@ -12,15 +12,16 @@ use rsp_operands::Labels;
 use rsp_text::{AsmFaultKind, Boundary, cut, is_label, is_line, skip_blanks, trim};
 use std::alloc::Global;
 
-/// What the first pass finds in a line.
+/// The label of a line, and how many words it gives.
 #[derive(Clone, Copy)]
 pub struct Line<'a> {
-    /// Its label, where it has one.
+    /// The label's name, if the line has one.
     pub label: Option<&'a [u8]>,
-    /// How many words it gives.
+    /// How many words the line gives, at most 1024.
     pub size: u16,
 }
 
+/// A line without its comment, and without blanks at both ends.
 fn code(line: &[u8]) -> &[u8]
     ensures { result.now ≡ code_of line.now }
 {
@@ -30,13 +31,14 @@ fn code(line: &[u8]) -> &[u8]
     }
 }
 
-/// The label and the statement of a line.
+/// The label of a line, and the text of its statement.
 #[derive(Clone, Copy)]
 struct Parts<'a> {
     label: Option<&'a [u8]>,
     body: &'a [u8],
 }
 
+/// Cuts a line at its first colon. None if it is no line, or if what is before the colon is no label's name.
 fn split_line(line: &[u8]) -> Option<Parts<'_>>
     ensures { option_map seen_parts result ≡ split_line line.now }
 {
@@ -59,6 +61,7 @@ fn split_line(line: &[u8]) -> Option<Parts<'_>>
     })
 }
 
+/// Whether the line's label is already among the labels.
 fn is_twice(labels: &Labels<'_>, name: Option<&[u8]>) -> bool
     ensures { result ≡ is_twice labels.now (option_map (λ t. t.now) name.entry) }
 {
@@ -68,22 +71,22 @@ fn is_twice(labels: &Labels<'_>, name: Option<&[u8]>) -> bool
     }
 }
 
-/// What the first pass finds in a line at a place, behind lines with these labels.
+/// The first pass over a line at `address`, given the labels of the lines before it.
 ///
-/// The first of these faults is refused: a line that is none, a label that one of the lines before has, a name or operands
-/// that can't be read, a number that is out of its range whatever the labels are, and words that stand past the end.
+/// The first of these faults is returned: BadLine, LabelTwice, UnknownName, BadOperand, OutOfRange of a number without a label,
+/// and PastEnd if the last word would be at 4096 or higher.
 #[tactic(auto, unfolding(rsp_text::specs::SourceLine::first_fault, rsp_text::specs::SourceLine::label_of, rsp_text::specs::SourceLine::line_size))]
 pub fn check_line<'a>(
     line: &'a [u8],
-    place: u16,
+    address: u16,
     labels: &Labels<'_>,
 ) -> Result<Line<'a>, AsmFaultKind>
-    requires { place ≤ 4096 }
-    ensures fault { IfOk result (λ l. first_fault labels.now place line.now ≡ None) }
+    requires { address ≤ 4096 }
+    ensures fault { IfOk result (λ l. first_fault labels.now address line.now ≡ None) }
     ensures label { IfOk result (λ l. option_map (λ t. t.now) l.label ≡ label_of line.now) }
     ensures size { IfOk result (λ l. l.size ≡ line_size line.now) }
-    ensures room { IfOk result (λ l. place + 4 * l.size ≤ 4096) }
-    ensures err { IfErr result (λ kind. first_fault labels.now place line.now ≡ Some kind) }
+    ensures room { IfOk result (λ l. address + 4 * l.size ≤ 4096) }
+    ensures err { IfErr result (λ kind. first_fault labels.now address line.now ≡ Some kind) }
 {
     let Some(parts) = split_line(line) else {
         return Err(AsmFaultKind::BadLine);
@@ -91,8 +94,8 @@ pub fn check_line<'a>(
     if is_twice(labels, parts.label) {
         return Err(AsmFaultKind::LabelTwice);
     }
-    let size = check_statement(parts.body, place)?;
-    if size > usize::from(4096 - place) / 4 {
+    let size = check_statement(parts.body, address)?;
+    if size > usize::from(4096 - address) / 4 {
         return Err(AsmFaultKind::PastEnd);
     }
     Ok(Line {
@@ -101,41 +104,44 @@ pub fn check_line<'a>(
     })
 }
 
-/// What a line at an address of IMEM gives: its label, and how many words. For the lines of a text that
-/// [`assemble`](crate::assemble) accepts, one after the other from the address of its first word on, these are the labels and
-/// the words of the text. It takes no memory.
+/// The label of a line at `address`, a byte address in IMEM of at most 4096, and how many words it gives. It doesn't allocate.
 ///
-/// Refused is the first of these faults: a line that is none, a name or operands that can't be read, a number that is out of
-/// its range whatever the labels are, and words past the end.
-pub fn read_line<'a>(alloc: Global, line: &'a [u8], place: u16) -> Result<Line<'a>, AsmFaultKind>
-    requires { place ≤ 4096 }
-    ensures fault { IfOk result (λ l. first_fault [] place line.now ≡ None) }
+/// A listing goes over a text with it, beside the words that [`assemble`](crate::assemble) returned: each line is at the address
+/// of the line before it plus four bytes for each of its words.
+///
+/// The first of these faults is returned: BadLine, UnknownName, BadOperand, OutOfRange of a number without a label, and PastEnd
+/// if the last word would be at 4096 or higher.
+pub fn read_line<'a>(alloc: Global, line: &'a [u8], address: u16) -> Result<Line<'a>, AsmFaultKind>
+    requires { address ≤ 4096 }
+    ensures fault { IfOk result (λ l. first_fault [] address line.now ≡ None) }
     ensures label { IfOk result (λ l. option_map (λ t. t.now) l.label ≡ label_of line.now) }
     ensures size { IfOk result (λ l. l.size ≡ line_size line.now) }
-    ensures room { IfOk result (λ l. place + 4 * l.size ≤ 4096) }
-    ensures err { IfErr result (λ kind. first_fault [] place line.now ≡ Some kind) }
+    ensures room { IfOk result (λ l. address + 4 * l.size ≤ 4096) }
+    ensures err { IfErr result (λ kind. first_fault [] address line.now ≡ Some kind) }
 {
-    check_line(line, place, &Labels::new(alloc))
+    check_line(line, address, &Labels::new(alloc))
 }
 
-/// Puts the words of a line behind those of the lines before it, or refuses the leftmost operand whose label is missing or
-/// whose value is out of its range.
+/// The second pass over a line at `address`: appends its words to `words`, which must have room for them.
+///
+/// Refused is the leftmost operand whose label is missing, as LabelMissing, or whose value is out of its range, as OutOfRange;
+/// before that, what the first pass refuses in a line alone.
 #[tactic(auto, unfolding(rsp_text::specs::SourceLine::line_words, rsp_text::specs::SourceLine::line_size))]
 pub fn push_words(
     line: &[u8],
-    place: u16,
+    address: u16,
     labels: &Labels<'_>,
     words: &mut Words,
 ) -> Result<(), AsmFaultKind>
-    requires place { place ≤ 4096 }
+    requires address { address ≤ 4096 }
     requires room { array_vec_len words.old + line_size line.now ≤ 1024 }
-    ensures ok { OnOk result (line_words labels.now place line.now ≡ Ok (drop (array_vec_len words.old) words.new.items)) }
+    ensures ok { OnOk result (line_words labels.now address line.now ≡ Ok (drop (array_vec_len words.old) words.new.items)) }
     ensures kept { OnOk result (words.new.items ≡ words.old.items ++ drop (array_vec_len words.old) words.new.items) }
     ensures len { OnOk result (array_vec_len words.new ≡ array_vec_len words.old + line_size line.now) }
-    ensures err { IfErr result (λ kind. line_words labels.now place line.now ≡ Err kind) }
+    ensures err { IfErr result (λ kind. line_words labels.now address line.now ≡ Err kind) }
 {
     let Some(parts) = split_line(line) else {
         return Err(AsmFaultKind::BadLine);
     };
-    push_statement(parts.body, place, labels, words)
+    push_statement(parts.body, address, labels, words)
 }

@@ -1,4 +1,5 @@
-// The numbers of `.word`. Each pass reads a number once, so what is found in one is kept until all of them are read.
+// The operands of `.word`. One that can't be read is reported before one that is out of range, wherever they are. So a fault of
+// range is kept until all operands are read.
 
 ghost use Rattle.std.specs.Prelude.{◌≡◌, ℕ, ◌+◌, ◌≤◌};
 ghost use Rattle.arrayvec.specs.ArrayVec.{array_vec_len};
@@ -11,11 +12,12 @@ use crate::words::Words;
 use rsp_operands::{Labels, is_number_out_of_range, number_word};
 use rsp_text::AsmFaultKind;
 
-/// How many numbers there are.
+/// How many operands `.word` has, each of which gives a word.
 ///
-/// Refused are none at all, one that can't be read, and then one that no word has whatever the labels are.
+/// Refused are no operands, or one that can't be read, as BadOperand, and then a number without a label that no word holds, as
+/// OutOfRange.
 pub fn check_numbers(text: &[u8]) -> Result<usize, AsmFaultKind>
-    ensures { (place : ℕ) → result ≡ checked place (with_operands (form_readings numbers_form (operand_texts text.now))) }
+    ensures { (address : ℕ) → result ≡ checked address (with_operands (form_readings numbers_form (operand_texts text.now))) }
 {
     if text.is_empty() {
         return Err(AsmFaultKind::BadOperand);
@@ -36,12 +38,13 @@ pub fn check_numbers(text: &[u8]) -> Result<usize, AsmFaultKind>
     Ok(count)
 }
 
-/// Puts the numbers behind the words before them.
+/// Appends the words of the operands of `.word` to `words`, which must have room for them.
 ///
-/// Refused are none at all, one that can't be read, and then the leftmost whose label is missing or that no word has.
+/// Refused are no operands, or one that can't be read, as BadOperand, and then the leftmost operand whose label is missing, as
+/// LabelMissing, or whose value no word holds, as OutOfRange.
 pub fn push_numbers(text: &[u8], labels: &Labels<'_>, words: &mut Words) -> Result<(), AsmFaultKind>
     requires { array_vec_len words.old + size_if (with_operands (form_readings numbers_form (operand_texts text.now))) ≤ 1024 }
-    ensures { (place : ℕ) → Puts (statement_words labels.now place (with_operands (form_readings numbers_form (operand_texts text.now))))
+    ensures { (address : ℕ) → Puts (statement_words labels.now address (with_operands (form_readings numbers_form (operand_texts text.now))))
         (size_if (with_operands (form_readings numbers_form (operand_texts text.now)))) words.old.items words.new.items result }
 {
     if text.is_empty() {
@@ -54,7 +57,7 @@ pub fn push_numbers(text: &[u8], labels: &Labels<'_>, words: &mut Words) -> Resu
             None => return Err(AsmFaultKind::BadOperand),
             Some(Err(kind)) => fault = fault.or(Some(kind)),
             Some(Ok(word)) => {
-                // there is room for all numbers, where each of them can be read
+                // there is room if all operands can be read, so if there is none, a later one can't be
                 if words.try_push(word).is_err() {
                     return Err(AsmFaultKind::BadOperand);
                 }

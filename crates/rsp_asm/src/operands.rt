@@ -1,4 +1,4 @@
-// The operands of a statement, one after another.
+// The operands of a statement, taken one after another.
 
 ghost use Rattle.std.specs.Prelude.{◌≡◌, ◌+◌, ◌≤◌, [], ◌∷◌, length, MatchOption};
 ghost use Rattle.rsp_text.specs.Statement.{operand_texts};
@@ -6,7 +6,7 @@ ghost use Rattle.rsp_text.specs.Statement.{operand_texts};
 use rsp_text::{Boundary, cut, trim};
 use std::marker::Model;
 
-/// The operands that are left of a statement. Contracts see their texts.
+/// The operands of a statement that haven't been taken yet. Contracts see a list of their texts.
 #[derive(Drop)]
 pub struct Operands<'a> {
     rest: Option<&'a [u8]>,
@@ -22,7 +22,7 @@ impl<'a> Model for Operands<'a> {
 }
 
 impl<'a> Operands<'a> {
-    /// The operands that a text says.
+    /// The operands in the text after a statement's name: between commas, without blanks at their ends. An empty text has none.
     pub fn new(text: &'a [u8]) -> Operands<'a>
         ensures texts { result ≡ operand_texts text.now }
         ensures few { length result ≤ length text.now + 1 }
@@ -33,18 +33,18 @@ impl<'a> Operands<'a> {
         Operands { rest: Some(text) }
     }
 
-    /// Takes the next operand, if there is one.
+    /// Takes the next operand; None if none is left.
     pub fn next(&mut self) -> Option<&'a [u8]>
         ensures { MatchOption result (self.old ≡ []) (λ text. self.old ≡ text.now ∷ self.new) }
     {
         let Some(text) = self.rest else {
             return None;
         };
-        let Some((front, rest)) = cut(text, Boundary::Comma) else {
+        let Some((first, rest)) = cut(text, Boundary::Comma) else {
             self.rest = None;
             return Some(trim(text));
         };
         self.rest = Some(rest);
-        Some(trim(front))
+        Some(trim(first))
     }
 }

@@ -1,4 +1,4 @@
-// What the second pass writes of a statement.
+// The second pass over a statement: its words.
 
 ghost use Rattle.std.specs.Prelude.{◌≡◌, ℕ, ◌+◌, ◌≤◌, true};
 ghost use Rattle.std.specs.List.{list_all};
@@ -8,17 +8,18 @@ ghost use Rattle.rsp_text.specs.SourceLine.{size_if, statement_words};
 ghost use Rattle.rsp_text.specs.Statement.{Labels, statement_of, operand_texts, form_readings, with_operands, no_operation};
 ghost use Rattle.rsp_asm.specs.Statements.{Puts, row_size, row_words};
 
-use crate::form::{Form, form_of, split};
 use crate::numbers::push_numbers;
 use crate::row::row_word;
+use crate::statement::{Form, Statement, read_statement};
 use crate::words::Words;
 use rsp_decode::TableRow;
 use rsp_operands::Labels;
 use rsp_text::AsmFaultKind;
 
+/// Appends the one word of `nop`, which takes no operands.
 fn push_nothing(operands: &[u8], words: &mut Words) -> Result<(), AsmFaultKind>
     requires { array_vec_len words.old + size_if (with_operands (form_readings no_operation (operand_texts operands.now))) ≤ 1024 }
-    ensures { (labels : Labels) (place : ℕ) → Puts (statement_words labels place (with_operands (form_readings no_operation (operand_texts operands.now))))
+    ensures { (labels : Labels) (address : ℕ) → Puts (statement_words labels address (with_operands (form_readings no_operation (operand_texts operands.now))))
         (size_if (with_operands (form_readings no_operation (operand_texts operands.now)))) words.old.items words.new.items result }
 {
     if !operands.is_empty() {
@@ -28,47 +29,45 @@ fn push_nothing(operands: &[u8], words: &mut Words) -> Result<(), AsmFaultKind>
     Ok(())
 }
 
+/// Appends the one word of an instruction.
 fn push_row(
     row: TableRow,
     operands: &[u8],
-    place: u16,
+    address: u16,
     labels: &Labels<'_>,
     words: &mut Words,
 ) -> Result<(), AsmFaultKind>
-    requires place { place ≤ 4096 }
+    requires address { address ≤ 4096 }
     requires fit { list_all is_row_operand row.operands.now ≡ true }
     requires room { array_vec_len words.old + row_size (entry row) (operand_texts operands.now) ≤ 1024 }
-    ensures { Puts (row_words labels.now place (entry row) (operand_texts operands.now)) (row_size (entry row) (operand_texts operands.now)) words.old.items words.new.items result }
+    ensures { Puts (row_words labels.now address (entry row) (operand_texts operands.now)) (row_size (entry row) (operand_texts operands.now)) words.old.items words.new.items result }
 {
-    let word = row_word(row, operands, place, labels)?;
+    let word = row_word(row, operands, address, labels)?;
     words.push(word);
     Ok(())
 }
 
-/// Puts the words of a statement, for which there has to be room, behind the words before them.
+/// Appends the words of a statement at `address` to `words`, which must have room for them.
 ///
-/// Refused are a name or operands that can't be read, and then the leftmost operand whose label is missing or whose value is
-/// out of its range.
+/// Refused are a name that no statement has as UnknownName, operands that can't be read as BadOperand, and then the leftmost
+/// operand whose label is missing, as LabelMissing, or whose value is out of its range, as OutOfRange.
 pub fn push_statement(
     text: &[u8],
-    place: u16,
+    address: u16,
     labels: &Labels<'_>,
     words: &mut Words,
 ) -> Result<(), AsmFaultKind>
-    requires place { place ≤ 4096 }
+    requires address { address ≤ 4096 }
     requires room { array_vec_len words.old + size_if (statement_of text.now) ≤ 1024 }
-    ensures { Puts (statement_words labels.now place (statement_of text.now)) (size_if (statement_of text.now)) words.old.items words.new.items result }
+    ensures { Puts (statement_words labels.now address (statement_of text.now)) (size_if (statement_of text.now)) words.old.items words.new.items result }
 {
-    if text.is_empty() {
+    let statement = read_statement(text)?;
+    let Some(Statement { form, operands }) = statement else {
         return Ok(());
-    }
-    let (name, operands) = split(text);
-    let Some(form) = form_of(name, operands) else {
-        return Err(AsmFaultKind::UnknownName);
     };
     match form {
         Form::NoOperation => push_nothing(operands, words),
         Form::Numbers => push_numbers(operands, labels, words),
-        Form::Row(row) => push_row(row, operands, place, labels, words),
+        Form::Row(row) => push_row(row, operands, address, labels, words),
     }
 }

@@ -1,5 +1,5 @@
-// The operands of an instruction. Each pass reads an operand once, so what is found in one is kept until all of them are
-// read: one that can't be read is the fault that is told.
+// The operands of an instruction. One that can't be read is reported before one that is out of range, wherever they are. So a
+// fault of range is kept until all operands are read.
 
 ghost use Rattle.std.specs.Prelude.{◌≡◌, ◌≤◌, false, true};
 ghost use Rattle.std.specs.List.{list_all};
@@ -12,13 +12,13 @@ use rsp_decode::{Operand, TableRow};
 use rsp_operands::{Labels, is_out_of_range, put_operand};
 use rsp_text::AsmFaultKind;
 
-/// The one word that an instruction gives.
+/// How many words an instruction at `address` with operands of these kinds gives: one.
 ///
-/// Refused are operands that can't be read or are too few or too many, and then a number that is out of its range whatever
-/// the labels are.
-pub fn check_row(kinds: &[Operand], text: &[u8], place: u16) -> Result<usize, AsmFaultKind>
-    requires { place ≤ 4096 }
-    ensures { result ≡ checked_readings place false 1 (read_all kinds.now (operand_texts text.now)) }
+/// Refused are operands that can't be read, or too few or too many, as BadOperand, and then a number that is out of its range
+/// whatever the labels are, as OutOfRange.
+pub fn check_row(kinds: &[Operand], text: &[u8], address: u16) -> Result<usize, AsmFaultKind>
+    requires { address ≤ 4096 }
+    ensures { result ≡ checked_readings address false 1 (read_all kinds.now (operand_texts text.now)) }
 {
     let mut bad = false;
     let mut operands = Operands::new(text);
@@ -26,7 +26,7 @@ pub fn check_row(kinds: &[Operand], text: &[u8], place: u16) -> Result<usize, As
         let Some(operand) = operands.next() else {
             return Err(AsmFaultKind::BadOperand);
         };
-        let Some(beyond) = is_out_of_range(*kind, operand, place) else {
+        let Some(beyond) = is_out_of_range(*kind, operand, address) else {
             return Err(AsmFaultKind::BadOperand);
         };
         bad |= beyond;
@@ -40,19 +40,19 @@ pub fn check_row(kinds: &[Operand], text: &[u8], place: u16) -> Result<usize, As
     Ok(1)
 }
 
-/// The word of an instruction.
+/// The word of an instruction at `address`.
 ///
-/// Refused are operands that can't be read or are too few or too many, and then the leftmost whose label is missing or
-/// whose value is out of its range.
+/// Refused are operands that can't be read, or too few or too many, as BadOperand, and then the leftmost operand whose label is
+/// missing, as LabelMissing, or whose value is out of its range, as OutOfRange.
 pub fn row_word(
     row: TableRow,
     text: &[u8],
-    place: u16,
+    address: u16,
     labels: &Labels<'_>,
 ) -> Result<u32, AsmFaultKind>
-    requires place { place ≤ 4096 }
+    requires address { address ≤ 4096 }
     requires fit { list_all is_row_operand row.operands.now ≡ true }
-    ensures { result ≡ row_word labels.now place (entry row) (operand_texts text.now) }
+    ensures { result ≡ row_word labels.now address (entry row) (operand_texts text.now) }
 {
     let mut word = row.value;
     let mut fault = None;
@@ -61,7 +61,7 @@ pub fn row_word(
         let Some(operand) = operands.next() else {
             return Err(AsmFaultKind::BadOperand);
         };
-        let Some(put) = put_operand(*kind, operand, place, labels, word) else {
+        let Some(put) = put_operand(*kind, operand, address, labels, word) else {
             return Err(AsmFaultKind::BadOperand);
         };
         fault = fault.or(put.err());

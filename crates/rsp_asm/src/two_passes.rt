@@ -1,4 +1,4 @@
-// The two passes over a source.
+// The two passes over a source text.
 
 ghost use Rattle.std.specs.Prelude.{◌≡◌, ◌+◌, ◌*◌, ◌<◌, ◌≤◌, [], ◌∷◌, None, Ok, Err, length, ◌++◌, MatchOption, IfOk, IfErr, OnOk, OnErr, option_map, is_some, true};
 ghost use Rattle.arrayvec.specs.ArrayVec.{array_vec_len};
@@ -13,7 +13,7 @@ use rsp_operands::Labels;
 use rsp_text::{AsmFault, AsmFaultKind, Boundary, cut, without_return};
 use std::alloc::{AllocError, Global};
 
-/// The first line, and what follows it.
+/// The first line without its ending, and the text after it; None of an empty text. It ends with LF, or CR and LF.
 fn next_line(text: &[u8]) -> Option<(&[u8], &[u8])>
     ensures { MatchOption result (lines text.now ≡ []) (λ p. (lines text.now ≡ p.0.now ∷ lines p.1.now) × (length p.1.now < length text.now)) }
 {
@@ -26,17 +26,23 @@ fn next_line(text: &[u8]) -> Option<(&[u8], &[u8])>
     }
 }
 
-/// Adds a line's label, where it has one.
-fn note<'a>(labels: &mut Labels<'a>, name: Option<&'a [u8]>, place: u16) -> Result<(), AllocError>
-    ensures ok { OnOk result (SamePlaces labels.new (labelled (option_map (λ t. t.now) name.entry) place ++ labels.old)) }
+/// Adds the label of a line, if it has one. If there is no memory for it, the labels are unchanged.
+fn add_label<'a>(
+    labels: &mut Labels<'a>,
+    name: Option<&'a [u8]>,
+    address: u16,
+) -> Result<(), AllocError>
+    ensures ok { OnOk result (SamePlaces labels.new (labelled (option_map (λ t. t.now) name.entry) address ++ labels.old)) }
     ensures err { OnErr result (is_some (option_map (λ t. t.now) name.entry) ≡ true) }
 {
     if let Some(name) = name {
-        labels.add(name, place)?;
+        labels.add(name, address)?;
     }
     Ok(())
 }
 
+/// The labels of all lines, or the fault of the lowest line that has one without regard to labels; OutOfMemory at the line of a
+/// label for which there is no memory.
 fn first_pass<'a>(alloc: Global, origin: u16, text: &'a [u8]) -> Result<Labels<'a>, AsmFault>
     requires { origin ≤ 4096 }
     ensures clean { IfOk result (λ v. fault_before origin (lines text.now) (length (lines text.now)) ≡ None) }
@@ -45,27 +51,28 @@ fn first_pass<'a>(alloc: Global, origin: u16, text: &'a [u8]) -> Result<Labels<'
     ensures err { IfErr result (IsFault origin text.now) }
 {
     let mut labels = Labels::new(alloc);
-    let mut place = origin;
+    let mut address = origin;
     let mut number = 0;
     let mut rest = text;
     while let Some((line, more)) = next_line(rest) {
         number += 1;
-        let found = match check_line(line, place, &labels) {
+        let found = match check_line(line, address, &labels) {
             Ok(found) => found,
             Err(kind) => return Err(AsmFault { line: number, kind }),
         };
-        if note(&mut labels, found.label, place).is_err() {
+        if add_label(&mut labels, found.label, address).is_err() {
             return Err(AsmFault {
                 line: number,
                 kind: AsmFaultKind::OutOfMemory,
             });
         }
-        place += 4 * found.size;
+        address += 4 * found.size;
         rest = more;
     }
     Ok(labels)
 }
 
+/// The words of all lines, or the fault of the lowest line with an operand that has one.
 fn second_pass(origin: u16, text: &[u8], labels: &Labels<'_>) -> Result<Words, AsmFault>
     requires { place_of_line origin (lines text.now) (length (lines text.now)) ≤ 4096 }
     ensures ok { IfOk result (λ w. words_before labels.now origin (lines text.now) (length (lines text.now)) ≡ Ok w.items) }
@@ -77,8 +84,8 @@ fn second_pass(origin: u16, text: &[u8], labels: &Labels<'_>) -> Result<Words, A
     let mut rest = text;
     while let Some((line, more)) = next_line(rest) {
         number += 1;
-        let place = origin + 4 * words.len() as u16;
-        if let Err(kind) = push_words(line, place, labels, &mut words) {
+        let address = origin + 4 * words.len() as u16;
+        if let Err(kind) = push_words(line, address, labels, &mut words) {
             return Err(AsmFault { line: number, kind });
         }
         rest = more;
@@ -86,13 +93,15 @@ fn second_pass(origin: u16, text: &[u8], labels: &Labels<'_>) -> Result<Words, A
     Ok(words)
 }
 
-/// The words of a source text whose first word stands at a place.
+/// Assembles a source text whose first word is at `origin`, a byte address in IMEM of at most 4096. The result has at most 1024
+/// words, and they end at 4096 at the latest.
 ///
-/// Refused is the lowest line at which the first pass finds a fault: a line that is none, a label that an earlier line
-/// has, an unknown name, operands that can't be read, a number that is out of its range whatever the labels are, or a word
-/// past the end. Where no line has one, it is the lowest line at which the second pass finds a label missing or a value out
-/// of its range. The fault is OutOfMemory where there is no memory for a label, at its line, and no line up to that one has a
-/// fault of the first pass.
+/// If a line has a fault that needs no label, the lowest such line is refused: as BadLine, LabelTwice, UnknownName, BadOperand,
+/// OutOfRange of a number without a label, or PastEnd. Otherwise it is the lowest line with an operand whose label no line has,
+/// as LabelMissing, or whose value is out of its range, as OutOfRange.
+///
+/// Memory is needed for labels alone. If there is none, the fault is OutOfMemory at the label's line, and no line up to that one
+/// has a fault that needs no label.
 pub fn assemble(alloc: Global, origin: u16, text: &str) -> Result<Words, AsmFault>
     requires { origin ≤ 4096 }
     ensures ok { IfOk result (λ words. means text.now origin ≡ Ok words.items) }

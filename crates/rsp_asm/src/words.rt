@@ -1,6 +1,6 @@
-// The words of a source.
+// The words of a source text.
 
 use arrayvec::ArrayVec;
 
-/// The words of a source, at most 1024: as many as the instruction memory has.
+/// The words of a source text, at most 1024: as many as IMEM has.
 pub type Words = ArrayVec<u32, 1024>;

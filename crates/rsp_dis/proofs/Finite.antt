@@ -14,12 +14,12 @@ below t n e k lt = agree_below_at t (λ _. true) n k e lt
 pub below_both : (t : ℕ → ℕ → Bool) (n m : ℕ) → agree_below (λ i. agree_below (t i) (λ _. true) m) (λ _. true) n ≡ true → (i j : ℕ) → i < n → j < m → t i j ≡ true
 below_both t n m e i j li lj = below (t i) m (below (λ k. agree_below (t k) (λ _. true) m) n e i li) j lj
 
--- an operand that was read at a place, with these fields and no fault
-pub record Said (place : ℕ) (o : Option Reading) (vs : List ℕ) : Type 0 where
+-- an operand that was read at an address, with these fields and no fault
+pub record Said (address : ℕ) (o : Option Reading) (vs : List ℕ) : Type 0 where
   pub reading : Reading
   pub is : o ≡ Some reading
-  pub fields : fields_of [] place reading ≡ Ok vs
-  pub fits : number_fails place reading.value ≡ false
+  pub fields : fields_of [] address reading ≡ Ok vs
+  pub fits : number_fails address reading.value ≡ false
 
 -- the same for an operand without a number, as a test
 abbrev pub says : Option Reading → List ℕ → Bool
@@ -36,10 +36,10 @@ same_list (x ∷ xs) (y ∷ ys) e =
     let b = same_list xs ys both.1 in
     cc
 
-pub said_by : (place : ℕ) (o : Option Reading) (vs : List ℕ) → says o vs ≡ true → Said place o vs
-said_by place None vs e = absurd cc
-said_by place (Some r) vs e = go r.value r.registers e
+pub said_by : (address : ℕ) (o : Option Reading) (vs : List ℕ) → says o vs ≡ true → Said address o vs
+said_by address None vs e = absurd cc
+said_by address (Some r) vs e = go r.value r.registers e
   where
-    go : (v : Option (Slot × Expression)) (ns : List ℕ) → (is_none v && bytes_eq ns vs) ≡ true → Said place (Some (record { value = v; registers = ns })) vs
+    go : (v : Option (Slot × Expression)) (ns : List ℕ) → (is_none v && bytes_eq ns vs) ≡ true → Said address (Some (record { value = v; registers = ns })) vs
     go None ns e = record { reading = record { value = None; registers = ns }; is = refl; fields = ap Ok (same_list ns vs e); fits = refl }
     go (Some v) ns e = absurd cc

@@ -15,14 +15,14 @@ use Rattle.rsp_dis.proofs.Words.{Gives, spelled_gives}
 abbrev AreWords : List ℕ → Type 0
 AreWords ws = All (λ w. w < 4294967296) ws
 
-length_listing : (place : ℕ) (ws : List ℕ) → length (listing place ws) ≡ length ws
-length_listing place [] = refl
-length_listing place (w ∷ ws) = let more = length_listing (place + 4) ws in omega (arith, more)
+length_listing : (address : ℕ) (ws : List ℕ) → length (listing address ws) ≡ length ws
+length_listing address [] = refl
+length_listing address (w ∷ ws) = let more = length_listing (address + 4) ws in omega (arith, more)
 
-line_of : (place : ℕ) (ws : List ℕ) (k : ℕ) → k < length ws → line_at (listing place ws) k ≡ spell (get_or ws k 0) (place + 4 * k)
-line_of place [] k lt = absurd (omega arith)
-line_of place (w ∷ ws) zero lt = ap (spell w) (omega arith)
-line_of place (w ∷ ws) (suc k) lt = line_of (place + 4) ws k (omega arith) ∙ ap (spell (get_or ws k 0)) (omega arith)
+line_of : (address : ℕ) (ws : List ℕ) (k : ℕ) → k < length ws → line_at (listing address ws) k ≡ spell (get_or ws k 0) (address + 4 * k)
+line_of address [] k lt = absurd (omega arith)
+line_of address (w ∷ ws) zero lt = ap (spell w) (omega arith)
+line_of address (w ∷ ws) (suc k) lt = line_of (address + 4) ws k (omega arith) ∙ ap (spell (get_or ws k 0)) (omega arith)
 
 module _ (ws : List ℕ) (few : length ws ≤ 1024) (h : AreWords ws) where
   abbrev ls : List (List ℕ)
@@ -73,11 +73,11 @@ module _ (ws : List ℕ) (few : length ws ≤ 1024) (h : AreWords ws) where
       ∙ words_are n (omega arith)
       ∙ ap Ok (take-length ws)
 
-all_plain : (place : ℕ) (ws : List ℕ) → AreWords ws → place % 4 ≡ 0 → place + 4 * length ws ≤ 4096 → list_all (list_all is_plain) (listing place ws) ≡ true
-all_plain place [] h aligned room = refl
-all_plain place (w ∷ ws) h aligned room =
-    let g = let word : w < 4294967296 = h 0 w (omega arith) in spelled_gives w place aligned word (omega arith) in
-    and_from _ _ g.plain (all_plain (place + 4) ws (λ k d lt. h (suc k) d (omega arith)) (omega arith) (omega arith))
+all_plain : (address : ℕ) (ws : List ℕ) → AreWords ws → address % 4 ≡ 0 → address + 4 * length ws ≤ 4096 → list_all (list_all is_plain) (listing address ws) ≡ true
+all_plain address [] h aligned room = refl
+all_plain address (w ∷ ws) h aligned room =
+    let g = let word : w < 4294967296 = h 0 w (omega arith) in spelled_gives w address aligned word (omega arith) in
+    and_from _ _ g.plain (all_plain (address + 4) ws (λ k d lt. h (suc k) d (omega arith)) (omega arith) (omega arith))
 
 pub text_means : (ws : List ℕ) → length ws ≤ 1024 → AreWords ws → means (text_of_lines (listing 0 ws)) 0 ≡ Ok ws
 text_means ws few h = ap (λ ls. means_lines ls 0) (lines_back (listing 0 ws) (all_plain 0 ws h refl (omega arith))) ∙ listing_means ws few h

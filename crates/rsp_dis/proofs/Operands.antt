@@ -23,10 +23,10 @@ use Rattle.rsp_dis.proofs.Finite.{below, below_both, Said, says, said_by}
 use Rattle.rsp_dis.proofs.Pieces.{is_piece, piece_from, piece_of, all_append}
 use Rattle.rsp_dis.proofs.SpelledNumbers.{IsNumber, number_said, signed_number, hex_number, small_number, half_back, half_small, half_of, amount_of, jump_back, branch_back, branch_below, ScaledBack, by_1, by_2, by_4, by_8, by_16}
 
--- an operand whose spelling at a place is read as these fields
-pub record IsSpelled (place : ℕ) (k : Operand) (vs : List ℕ) : Type 0 where
-  pub said : Said place (read k (spell_operand place k vs)) vs
-  pub piece : is_piece (spell_operand place k vs) ≡ true
+-- an operand whose spelling at an address is read as these fields
+pub record IsSpelled (address : ℕ) (k : Operand) (vs : List ℕ) : Type 0 where
+  pub said : Said address (read k (spell_operand address k vs)) vs
+  pub piece : is_piece (spell_operand address k vs) ≡ true
 
 -- ---- operands without a number, by a test of each
 
@@ -39,15 +39,15 @@ names_two k n e = says (read k (spell_operand 0 k (n ∷ e ∷ []))) (n ∷ e �
 abbrev names_half : ℕ → ℕ → Bool
 names_half n b = names_two (vector_byte 0 half_bytes) n (b * 8)
 
-spelled : (place : ℕ) (k : Operand) (vs : List ℕ) → (says (read k (spell_operand place k vs)) vs && is_piece (spell_operand place k vs)) ≡ true → IsSpelled place k vs
-spelled place k vs e =
-    let both = and_parts (says (read k (spell_operand place k vs)) vs) (is_piece (spell_operand place k vs)) e in
-    record { said = said_by place _ vs both.0; piece = both.1 }
+spelled : (address : ℕ) (k : Operand) (vs : List ℕ) → (says (read k (spell_operand address k vs)) vs && is_piece (spell_operand address k vs)) ≡ true → IsSpelled address k vs
+spelled address k vs e =
+    let both = and_parts (says (read k (spell_operand address k vs)) vs) (is_piece (spell_operand address k vs)) e in
+    record { said = said_by address _ vs both.0; piece = both.1 }
 
 -- ---- numbers
 
-number_spelled : (slot : Slot) (place : ℕ) (z : ℤ) (v : ℕ) (bs : List ℕ) → IsNumber z bs → field slot place z ≡ Some v → Said place (option_map (asks slot []) (expression_of bs)) (v ∷ [])
-number_spelled slot place z v bs num found = subst (λ x. Said place x (v ∷ [])) (sym (ap (option_map (asks slot [])) num.reads)) (number_said slot place [] z v found)
+number_spelled : (slot : Slot) (address : ℕ) (z : ℤ) (v : ℕ) (bs : List ℕ) → IsNumber z bs → field slot address z ≡ Some v → Said address (option_map (asks slot []) (expression_of bs)) (v ∷ [])
+number_spelled slot address z v bs num found = subst (λ x. Said address x (v ∷ [])) (sym (ap (option_map (asks slot [])) num.reads)) (number_said slot address [] z v found)
 
 is_base : Option ℕ → ℕ → Bool
 is_base None n = false
@@ -67,13 +67,13 @@ offset_read z bs num =
     let some : 0 < length bs = (piece_from bs num.piece).some in
     cond-false (length bs == 0) (Some zero_expression) (expression_of bs) (ne_eqb (length bs) 0 (λ e. omega arith)) ∙ num.reads
 
-memory_said : (slot : Slot) (place : ℕ) (z : ℤ) (v n : ℕ) (bs : List ℕ) → IsNumber z bs → field slot place z ≡ Some v → n < 32 → Said place (memory_operand slot (cut Parenthesis (bs ++ base_name n))) (v ∷ n ∷ [])
-memory_said slot place z v n bs num found lt =
+memory_said : (slot : Slot) (address : ℕ) (z : ℤ) (v n : ℕ) (bs : List ℕ) → IsNumber z bs → field slot address z ≡ Some v → n < 32 → Said address (memory_operand slot (cut Parenthesis (bs ++ base_name n))) (v ∷ n ∷ [])
+memory_said slot address z v n bs num found lt =
     let is : memory_operand slot (cut Parenthesis (bs ++ base_name n)) ≡ Some (asks slot (n ∷ []) (constant z)) =
     ap (memory_operand slot) (cut_between Parenthesis bs (scalar_name n ++ 41 ∷ []) 40 num.no_parenthesis refl)
     ∙ ap (λ o. memory slot o (base_of (scalar_name n ++ 41 ∷ []))) (offset_read z bs num)
     ∙ ap (memory slot (Some (constant z))) (base_back n lt) in
-    subst (λ x. Said place x (v ∷ n ∷ [])) (sym is) (number_said slot place (n ∷ []) z v found)
+    subst (λ x. Said address x (v ∷ n ∷ [])) (sym is) (number_said slot address (n ∷ []) z v found)
 
 memory_piece : (z : ℤ) (n : ℕ) → mag z < 65536 → IsNumber z (signed_decimal z) → n < 32 → is_piece (signed_decimal z ++ base_name n) ≡ true
 memory_piece z n few num lt =
@@ -110,7 +110,7 @@ module _ (w : ℕ) where
   control_below = omega arith
 
 abbrev Spelled : ℕ → ℕ → Operand → Type 0
-Spelled place w k = IsSpelled place k (operand_fields k w)
+Spelled address w k = IsSpelled address k (operand_fields k w)
 
 scaled_back : (s v : ℕ) → is_scale s ≡ true → v < 128 → ScaledBack s v
 scaled_back s v e lt = elim (or_cases _ _ e) [
@@ -127,63 +127,63 @@ scaled_back s v e lt = elim (or_cases _ _ e) [
     at : (k : ℕ) → s ≡ k → ScaledBack k v → ScaledBack s v
     at k is h = subst (λ n. ScaledBack n v) (sym is) h
 
-target_spelled : (place w : ℕ) (o : Option ℕ) → place % 4 ≡ 0 → place < 4096 → target place (value_at w (whole 0 16)) ≡ o → is_some o ≡ true → (Said place (read branch_target (target_text o)) (value_at w (whole 0 16) ∷ [])) × (is_piece (target_text o) ≡ true)
-target_spelled place w None aligned inside is e = absurd cc
-target_spelled place w (Some t) aligned inside is e =
-    let num : IsNumber (pos t) (codes "0x" ++ hex 3 t) = hex_number 3 t refl (leb-true (length (hex 3 t)) 18 refl) (branch_below place (value_at w (whole 0 16)) t inside (sixteen w) is) in (
-      number_spelled Branch place (pos t) (value_at w (whole 0 16)) (codes "0x" ++ hex 3 t) num (branch_back place (value_at w (whole 0 16)) t aligned inside (sixteen w) is),
+target_spelled : (address w : ℕ) (o : Option ℕ) → address % 4 ≡ 0 → address < 4096 → target address (value_at w (whole 0 16)) ≡ o → is_some o ≡ true → (Said address (read branch_target (target_text o)) (value_at w (whole 0 16) ∷ [])) × (is_piece (target_text o) ≡ true)
+target_spelled address w None aligned inside is e = absurd cc
+target_spelled address w (Some t) aligned inside is e =
+    let num : IsNumber (pos t) (codes "0x" ++ hex 3 t) = hex_number 3 t refl (leb-true (length (hex 3 t)) 18 refl) (branch_below address (value_at w (whole 0 16)) t inside (sixteen w) is) in (
+      number_spelled Branch address (pos t) (value_at w (whole 0 16)) (codes "0x" ++ hex 3 t) num (branch_back address (value_at w (whole 0 16)) t aligned inside (sixteen w) is),
       num.piece,
     )
 
-pub kind_spelled : (place w : ℕ) → place % 4 ≡ 0 → place < 4096 → (k : Operand) → is_row_operand k ≡ true → reaches w place k ≡ true → IsSpelled place k (operand_fields k w)
-kind_spelled place w aligned inside (scalar low) e near = spelled place (scalar low) _ (below (names_one (scalar 0)) 32 refl (value_at w (whole low 5)) (five_bits w low))
-kind_spelled place w aligned inside shift_amount e near =
+pub kind_spelled : (address w : ℕ) → address % 4 ≡ 0 → address < 4096 → (k : Operand) → is_row_operand k ≡ true → reaches w address k ≡ true → IsSpelled address k (operand_fields k w)
+kind_spelled address w aligned inside (scalar low) e near = spelled address (scalar low) _ (below (names_one (scalar 0)) 32 refl (value_at w (whole low 5)) (five_bits w low))
+kind_spelled address w aligned inside shift_amount e near =
     let num = small_number (value_at w (whole 6 5)) (five_bits w 6) in
-    record { said = number_spelled Amount place (pos (value_at w (whole 6 5))) (value_at w (whole 6 5)) (small (value_at w (whole 6 5))) num (amount_of _ (five_bits w 6)); piece = num.piece }
-kind_spelled place w aligned inside signed e near =
+    record { said = number_spelled Amount address (pos (value_at w (whole 6 5))) (value_at w (whole 6 5)) (small (value_at w (whole 6 5))) num (amount_of _ (five_bits w 6)); piece = num.piece }
+kind_spelled address w aligned inside signed e near =
     let v = value_at w (whole 0 16) in
     let num = signed_number (signed_half v) (half_small v (sixteen w)) in
-    record { said = number_spelled Half place (signed_half v) v (signed_decimal (signed_half v)) num (half_back v (sixteen w)); piece = num.piece }
-kind_spelled place w aligned inside unsigned e near =
+    record { said = number_spelled Half address (signed_half v) v (signed_decimal (signed_half v)) num (half_back v (sixteen w)); piece = num.piece }
+kind_spelled address w aligned inside unsigned e near =
     let v = value_at w (whole 0 16) in
     let num = hex_number 4 v refl (leb-true (length (hex 4 v)) 18 refl) (sixteen w) in
-    record { said = number_spelled Half place (pos v) v (codes "0x" ++ hex 4 v) num (half_of v (sixteen w)); piece = num.piece }
-kind_spelled place w aligned inside jump_target e near =
+    record { said = number_spelled Half address (pos v) v (codes "0x" ++ hex 4 v) num (half_of v (sixteen w)); piece = num.piece }
+kind_spelled address w aligned inside jump_target e near =
     let v = value_at w (whole 0 10) in
     let few : v < 1024 = ten_bits w in
     let num = hex_number 3 (4 * v) refl (leb-true (length (hex 3 (4 * v))) 18 refl) (omega arith) in
-    record { said = number_spelled Jump place (pos (4 * v)) v (codes "0x" ++ hex 3 (4 * v)) num (jump_back v few); piece = num.piece }
-kind_spelled place w aligned inside branch_target e near =
-    let both = target_spelled place w (target place (value_at w (whole 0 16))) aligned inside refl near in
+    record { said = number_spelled Jump address (pos (4 * v)) v (codes "0x" ++ hex 3 (4 * v)) num (jump_back v few); piece = num.piece }
+kind_spelled address w aligned inside branch_target e near =
+    let both = target_spelled address w (target address (value_at w (whole 0 16))) aligned inside refl near in
     record { said = both.0; piece = both.1 }
-kind_spelled place w aligned inside scalar_memory e near =
+kind_spelled address w aligned inside scalar_memory e near =
     let v = value_at w (whole 0 16) in
     let few = half_small v (sixteen w) in
     let num = signed_number (signed_half v) few in
     record {
-      said = memory_said Half place (signed_half v) v (value_at w (whole 21 5)) (signed_decimal (signed_half v)) num (half_back v (sixteen w)) (five_bits w 21);
+      said = memory_said Half address (signed_half v) v (value_at w (whole 21 5)) (signed_decimal (signed_half v)) num (half_back v (sixteen w)) (five_bits w 21);
       piece = memory_piece (signed_half v) (value_at w (whole 21 5)) few num (five_bits w 21);
     }
-kind_spelled place w aligned inside (vector_memory s) e near =
+kind_spelled address w aligned inside (vector_memory s) e near =
     let v = value_at w (whole 0 7) in
     let facts = scaled_back s v e (seven_bits w) in
     let num = signed_number (signed_scaled s v) facts.1 in
     record {
-      said = memory_said (Scaled s) place (signed_scaled s v) v (value_at w (whole 21 5)) (signed_decimal (signed_scaled s v)) num facts.0 (five_bits w 21);
+      said = memory_said (Scaled s) address (signed_scaled s v) v (value_at w (whole 21 5)) (signed_decimal (signed_scaled s v)) num facts.0 (five_bits w 21);
       piece = memory_piece (signed_scaled s v) (value_at w (whole 21 5)) facts.1 num (five_bits w 21);
     }
-kind_spelled place w aligned inside sp_register e near = spelled place sp_register _ (below (names_one sp_register) 16 refl (value_at w (whole 11 4)) (four_bits w 11))
-kind_spelled place w aligned inside control_register e near = spelled place control_register _ (below (names_one control_register) 3 refl (value_at w (capped 11 2 2)) (control_below w))
-kind_spelled place w aligned inside (vector low) e near = spelled place (vector low) _ (below (names_one (vector 0)) 32 refl (value_at w (whole low 5)) (five_bits w low))
-kind_spelled place w aligned inside (vector_byte low all_bytes) e near = spelled place (vector_byte low all_bytes) _ (below_both (names_two (vector_byte 0 all_bytes)) 32 16 refl (value_at w (whole low 5)) (value_at w (whole 7 4)) (five_bits w low) (four_bits w 7))
-kind_spelled place w aligned inside (vector_byte low half_bytes) e near = spelled place (vector_byte low half_bytes) _ (below_both names_half 32 2 refl (value_at w (whole low 5)) (w / 2 ^ 10 % 2) (five_bits w low) (mod_below (w / 2 ^ 10) 2 (lit< tt)))
-kind_spelled place w aligned inside vector_element e near = spelled place vector_element _ (below_both (names_two vector_element) 32 16 refl (value_at w (whole 16 5)) (value_at w (whole 21 4)) (five_bits w 16) (four_bits w 21))
-kind_spelled place w aligned inside vector_lane e near = spelled place vector_lane _ (below_both (names_two vector_lane) 32 8 refl (value_at w (whole 6 5)) (value_at w (whole 11 3)) (five_bits w 6) (three_bits w))
+kind_spelled address w aligned inside sp_register e near = spelled address sp_register _ (below (names_one sp_register) 16 refl (value_at w (whole 11 4)) (four_bits w 11))
+kind_spelled address w aligned inside control_register e near = spelled address control_register _ (below (names_one control_register) 3 refl (value_at w (capped 11 2 2)) (control_below w))
+kind_spelled address w aligned inside (vector low) e near = spelled address (vector low) _ (below (names_one (vector 0)) 32 refl (value_at w (whole low 5)) (five_bits w low))
+kind_spelled address w aligned inside (vector_byte low all_bytes) e near = spelled address (vector_byte low all_bytes) _ (below_both (names_two (vector_byte 0 all_bytes)) 32 16 refl (value_at w (whole low 5)) (value_at w (whole 7 4)) (five_bits w low) (four_bits w 7))
+kind_spelled address w aligned inside (vector_byte low half_bytes) e near = spelled address (vector_byte low half_bytes) _ (below_both names_half 32 2 refl (value_at w (whole low 5)) (w / 2 ^ 10 % 2) (five_bits w low) (mod_below (w / 2 ^ 10) 2 (lit< tt)))
+kind_spelled address w aligned inside vector_element e near = spelled address vector_element _ (below_both (names_two vector_element) 32 16 refl (value_at w (whole 16 5)) (value_at w (whole 21 4)) (five_bits w 16) (four_bits w 21))
+kind_spelled address w aligned inside vector_lane e near = spelled address vector_lane _ (below_both (names_two vector_lane) 32 8 refl (value_at w (whole 6 5)) (value_at w (whole 11 3)) (five_bits w 6) (three_bits w))
 
 -- ---- both halves, for the law
 
-pub fields_back : (w place : ℕ) (k : Operand) → place < 4096 → place % 4 ≡ 0 → is_row_operand k ≡ true → reaches w place k ≡ true → reading_fields [] place (read k (operand_text w place k)) ≡ Ok (operand_fields k w)
-fields_back w place k inside aligned e near = let said = (kind_spelled place w aligned inside k e near).said in ap (reading_fields [] place) said.is ∙ said.fields
+pub fields_back : (w address : ℕ) (k : Operand) → address < 4096 → address % 4 ≡ 0 → is_row_operand k ≡ true → reaches w address k ≡ true → reading_fields [] address (read k (operand_text w address k)) ≡ Ok (operand_fields k w)
+fields_back w address k inside aligned e near = let said = (kind_spelled address w aligned inside k e near).said in ap (reading_fields [] address) said.is ∙ said.fields
 
-pub bytes_quiet : (w place : ℕ) (k : Operand) → place < 4096 → place % 4 ≡ 0 → is_row_operand k ≡ true → reaches w place k ≡ true → list_all is_quiet (operand_text w place k) ≡ true
-bytes_quiet w place k inside aligned e near = (piece_from (operand_text w place k) (kind_spelled place w aligned inside k e near).piece).all
+pub bytes_quiet : (w address : ℕ) (k : Operand) → address < 4096 → address % 4 ≡ 0 → is_row_operand k ≡ true → reaches w address k ≡ true → list_all is_quiet (operand_text w address k) ≡ true
+bytes_quiet w address k inside aligned e near = (piece_from (operand_text w address k) (kind_spelled address w aligned inside k e near).piece).all

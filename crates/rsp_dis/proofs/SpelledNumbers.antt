@@ -32,18 +32,18 @@ zero_plus (pos n) = ap pos (omega arith)
 zero_plus (negsuc n) = omega (arith, ints)
 
 -- what asks for a number that is in its range
-pub number_fields : (slot : Slot) (place : ℕ) (registers : List ℕ) (z : ℤ) (v : ℕ) → field slot place z ≡ Some v → fields_of [] place (asks slot registers (constant z)) ≡ Ok (v ∷ registers)
-number_fields slot place registers z v found = ap (λ x. then_registers registers (or_out_of_range (field slot place x))) (zero_plus z) ∙ ap (λ o. then_registers registers (or_out_of_range o)) found
+pub number_fields : (slot : Slot) (address : ℕ) (registers : List ℕ) (z : ℤ) (v : ℕ) → field slot address z ≡ Some v → fields_of [] address (asks slot registers (constant z)) ≡ Ok (v ∷ registers)
+number_fields slot address registers z v found = ap (λ x. then_registers registers (or_out_of_range (field slot address x))) (zero_plus z) ∙ ap (λ o. then_registers registers (or_out_of_range o)) found
 
-pub number_fits : (slot : Slot) (place : ℕ) (z : ℤ) (v : ℕ) → field slot place z ≡ Some v → number_fails place (Some (slot, constant z)) ≡ false
-number_fits slot place z v found = ap is_none found
+pub number_fits : (slot : Slot) (address : ℕ) (z : ℤ) (v : ℕ) → field slot address z ≡ Some v → number_fails address (Some (slot, constant z)) ≡ false
+number_fits slot address z v found = ap is_none found
 
-pub number_said : (slot : Slot) (place : ℕ) (registers : List ℕ) (z : ℤ) (v : ℕ) → field slot place z ≡ Some v → Said place (Some (asks slot registers (constant z))) (v ∷ registers)
-number_said slot place registers z v found = record {
+pub number_said : (slot : Slot) (address : ℕ) (registers : List ℕ) (z : ℤ) (v : ℕ) → field slot address z ≡ Some v → Said address (Some (asks slot registers (constant z))) (v ∷ registers)
+number_said slot address registers z v found = record {
   reading = asks slot registers (constant z);
   is = refl;
-  fields = number_fields slot place registers z v found;
-  fits = number_fits slot place z v found;
+  fields = number_fields slot address registers z v found;
+  fits = number_fits slot address z v found;
 }
 
 -- ---- expressions
@@ -203,11 +203,11 @@ amount_of v lt = cond-true (nat_lt v 32) (Some v) None (lt-ltb _ _ lt)
 pub jump_back : (v : ℕ) → v < 1024 → jump (pos (4 * v)) ≡ Some v
 jump_back v lt = grind (arith, nat_tests)
 
-pub branch_back : (place v t : ℕ) → place % 4 ≡ 0 → place < 4096 → v < 65536 → target place v ≡ Some t → branch place (pos t) ≡ Some v
-branch_back place v t aligned inside small e = grind (arith, nat_tests)
+pub branch_back : (address v t : ℕ) → address % 4 ≡ 0 → address < 4096 → v < 65536 → target address v ≡ Some t → branch address (pos t) ≡ Some v
+branch_back address v t aligned inside small e = grind (arith, nat_tests)
 
-pub branch_below : (place v t : ℕ) → place < 4096 → v < 65536 → target place v ≡ Some t → t < 4096
-branch_below place v t inside small e = grind (arith, nat_tests)
+pub branch_below : (address v t : ℕ) → address < 4096 → v < 65536 → target address v ≡ Some t → t < 4096
+branch_below address v t inside small e = grind (arith, nat_tests)
 
 abbrev pub ScaledBack : ℕ → ℕ → Type 0
 ScaledBack s v = (scaled_offset s (signed_scaled s v) ≡ Some v) × (mag (signed_scaled s v) < 65536)

@@ -1,3 +1,3 @@
--- Disassembly: the room that a text needs, and the bytes of an operand's spelling.
+-- Scaffolding of the disassembler: how long its texts are, and which bytes they have.
 pub mod Room
 pub mod Quiet

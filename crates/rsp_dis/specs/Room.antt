@@ -1,5 +1,5 @@
--- Scaffolding of the proofs. What the code needs of the rows of the table: the numbers of their operands, and that their
--- texts are short.
+-- Scaffolding of the contracts: what the disassembler needs of each instruction, so that its text fits in 64 bytes. The name has
+-- at most six bytes, and there are at most three operands, of the kinds of the instruction table.
 use Rattle.std.specs.Prelude.{nat_le, Bool, ◌&&◌, length}
 use Rattle.std.specs.List.{list_all}
 use Rattle.rsp_decode.specs.Table.{Entry, is_row_operand}

@@ -1,4 +1,4 @@
-//! What holds of names and operands alone: each law is the contract of a function that does nothing.
+//! Laws of names and operands. Each law is the contract of a function that does nothing.
 
 ghost use Rattle.std.specs.Prelude.{◌≡◌, ℕ, ◌<◌, ◌%◌, false, true, ◌||◌, [], length, slice_index_or, codes, Ok};
 ghost use Rattle.std.specs.List.{All, list_all};
@@ -9,7 +9,7 @@ ghost use Rattle.rsp_text.specs.Statement.{read};
 ghost use Rattle.rsp_text.specs.Walks.{reading_fields};
 ghost use Rattle.rsp_dis.specs.Quiet.{is_quiet};
 
-/// The rows of the instruction table have distinct names, in either case, and none is called `nop` or `.word`.
+/// Instructions have distinct names, in either case, and none is called `nop` or `.word`.
 pub fn names_are_distinct()
     ensures distinct { (i j : ℕ) (d : Row) → i < j → j < length rows →
         str_eq_ignore_ascii_case (slice_index_or rows j d).name (slice_index_or rows i d).name ≡ false }
@@ -17,11 +17,11 @@ pub fn names_are_distinct()
         (str_eq_ignore_ascii_case r.name (codes "nop") || str_eq_ignore_ascii_case r.name (codes ".word")) ≡ false) rows }
 {}
 
-/// Operands are read back: of each word, at each place in IMEM, the text of an operand of a row is read as the operand's
-/// fields in that word, where it isn't a branch out of IMEM. No byte of it is a blank, a comma, a colon or a comment sign.
+/// Operands are read back: for each word at each address in IMEM, the disassembly of an operand is read as the operand's fields in
+/// that word, unless it is a branch out of IMEM. No byte of it separates: none is a blank, a comma, a colon, `#` or `;`.
 pub fn operands_are_read_back()
-    ensures fields { (w place : ℕ) (k : Operand) → place < 4096 → place % 4 ≡ 0 → is_row_operand k ≡ true → reaches w place k ≡ true →
-        reading_fields [] place (read k (operand_text w place k)) ≡ Ok (operand_fields k w) }
-    ensures bytes { (w place : ℕ) (k : Operand) → place < 4096 → place % 4 ≡ 0 → is_row_operand k ≡ true → reaches w place k ≡ true →
-        list_all is_quiet (operand_text w place k) ≡ true }
+    ensures fields { (w address : ℕ) (k : Operand) → address < 4096 → address % 4 ≡ 0 → is_row_operand k ≡ true → reaches w address k ≡ true →
+        reading_fields [] address (read k (operand_text w address k)) ≡ Ok (operand_fields k w) }
+    ensures bytes { (w address : ℕ) (k : Operand) → address < 4096 → address % 4 ≡ 0 → is_row_operand k ≡ true → reaches w address k ≡ true →
+        list_all is_quiet (operand_text w address k) ≡ true }
 {}

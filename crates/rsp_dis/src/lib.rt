@@ -1,7 +1,7 @@
-//! The disassembler: the canonical text of each word, which assembles back to it.
+//! The disassembler: each word has one canonical text, and that assembles back to the word.
 //!
-//! [`text_of`] looks for the word's row in the instruction table, and writes the row's name and its operands. What it writes is
-//! the definition `spell` of `rsp_text/specs/Spell.antt`.
+//! [`text_of`] finds the word's instruction in the instruction table, and writes its name and its operands. What it writes is the
+//! definition `spell` of `rsp_text/specs/Spell.antt`.
 #![tactic(auto)]
 
 pub mod laws;

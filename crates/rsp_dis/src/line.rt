@@ -1,4 +1,4 @@
 use arrayvec::ArrayString;
 
-/// The text of a word: at most 64 bytes.
+/// The disassembly of a word: at most 64 bytes.
 pub type Line = ArrayString<64>;

@@ -1,4 +1,4 @@
-// The texts of numbers, elements and names.
+// Numbers, elements and names as the disassembler writes them. Each function appends to a line, which must have room.
 
 ghost use Rattle.std.specs.Prelude.{◌≡◌, ◌<◌, ◌≤◌, ◌+◌, ◌++◌, [], ◌∷◌, length, decimal, true};
 ghost use Rattle.std.specs.Char.{digit_char};
@@ -9,53 +9,41 @@ ghost use Rattle.rsp_decode.specs.Table.{is_scale};
 
 use crate::line::Line;
 use itoa::Buffer;
+use rsp_text::hex_digit;
 
-fn hex_digit(n: u32) -> &'static str
-    requires { n < 16 }
-    ensures { result.now ≡ digit_char n ∷ [] }
+/// Appends the hexadecimal digit of a number below 16.
+#[tactic(auto, using(std::proofs::lemmas::Str::encode_ascii))]
+fn push_digit(line: &mut Line, n: u32)
+    requires below { n < 16 }
+    requires room { array_string_len line.old + 1 ≤ 64 }
+    ensures bytes { line.new.bytes ≡ line.old.bytes ++ digit_char n ∷ [] }
+    ensures len { array_string_len line.new ≡ array_string_len line.old + 1 }
 {
-    match n {
-        0 => "0",
-        1 => "1",
-        2 => "2",
-        3 => "3",
-        4 => "4",
-        5 => "5",
-        6 => "6",
-        7 => "7",
-        8 => "8",
-        9 => "9",
-        10 => "a",
-        11 => "b",
-        12 => "c",
-        13 => "d",
-        14 => "e",
-        _ => "f",
-    }
+    line.push(char::from(hex_digit(n)));
 }
 
-/// The lowest three hexadecimal digits.
+/// Appends the lowest three hexadecimal digits of a number.
 pub fn push_hex3(line: &mut Line, n: u32)
     requires { array_string_len line.old + 3 ≤ 64 }
     ensures bytes { line.new.bytes ≡ line.old.bytes ++ hex 3 n }
     ensures len { array_string_len line.new ≡ array_string_len line.old + 3 }
 {
-    line.push_str(hex_digit(n / 16 / 16 % 16));
-    line.push_str(hex_digit(n / 16 % 16));
-    line.push_str(hex_digit(n % 16));
+    push_digit(line, n / 16 / 16 % 16);
+    push_digit(line, n / 16 % 16);
+    push_digit(line, n % 16);
 }
 
-/// The lowest four hexadecimal digits.
+/// Appends the lowest four hexadecimal digits of a number.
 pub fn push_hex4(line: &mut Line, n: u32)
     requires { array_string_len line.old + 4 ≤ 64 }
     ensures bytes { line.new.bytes ≡ line.old.bytes ++ hex 4 n }
     ensures len { array_string_len line.new ≡ array_string_len line.old + 4 }
 {
     push_hex3(line, n / 16);
-    line.push_str(hex_digit(n % 16));
+    push_digit(line, n % 16);
 }
 
-/// A number below 100.
+/// Appends a number below 100 in decimal, without a leading zero.
 pub fn push_small(line: &mut Line, n: u8)
     requires below { n < 100 }
     requires room { array_string_len line.old + 2 ≤ 64 }
@@ -63,11 +51,12 @@ pub fn push_small(line: &mut Line, n: u8)
     ensures len { array_string_len line.new ≤ array_string_len line.old + 2 }
 {
     if n >= 10 {
-        line.push_str(hex_digit(u32::from(n / 10)));
+        push_digit(line, u32::from(n / 10));
     }
-    line.push_str(hex_digit(u32::from(n % 10)));
+    push_digit(line, u32::from(n % 10));
 }
 
+/// Appends a number in decimal.
 fn push_decimal(line: &mut Line, n: u16)
     requires { array_string_len line.old + 5 ≤ 64 }
     ensures bytes { line.new.bytes ≡ line.old.bytes ++ decimal n }
@@ -77,7 +66,7 @@ fn push_decimal(line: &mut Line, n: u16)
     line.push_str(buffer.format(n));
 }
 
-/// 16 bits as a signed number.
+/// Appends 16 bits as a signed number in decimal.
 pub fn push_signed(line: &mut Line, n: u16)
     requires { array_string_len line.old + 6 ≤ 64 }
     ensures bytes { line.new.bytes ≡ line.old.bytes ++ signed_decimal (signed_half n) }
@@ -91,7 +80,7 @@ pub fn push_signed(line: &mut Line, n: u16)
     }
 }
 
-/// 7 bits as a signed number, times the scale.
+/// Appends the offset of a vector load or store: 7 bits as a signed number, times the instruction's scale.
 pub fn push_scaled(line: &mut Line, scale: u8, n: u8)
     requires scale { is_scale scale ≡ true }
     requires bits { n < 128 }
@@ -107,7 +96,7 @@ pub fn push_scaled(line: &mut Line, scale: u8, n: u8)
     }
 }
 
-/// A byte element or a lane.
+/// Appends the byte of a vector register, or a lane, in brackets.
 pub fn push_byte(line: &mut Line, e: u8)
     requires below { e < 100 }
     requires room { array_string_len line.old + 4 ≤ 64 }
@@ -119,6 +108,7 @@ pub fn push_byte(line: &mut Line, e: u8)
     line.push_str("]");
 }
 
+/// An element of a computing instruction by its code; element 0 has no text.
 fn element_text(e: u8) -> &'static str
     requires { e < 16 }
     ensures bytes { result.now ≡ element_name e }
@@ -144,7 +134,7 @@ fn element_text(e: u8) -> &'static str
     }
 }
 
-/// The element of a computing row.
+/// Appends the element of a computing instruction by its code.
 pub fn push_element(line: &mut Line, e: u8)
     requires below { e < 16 }
     requires room { array_string_len line.old + 4 ≤ 64 }
@@ -154,7 +144,7 @@ pub fn push_element(line: &mut Line, e: u8)
     line.push_str(element_text(e));
 }
 
-/// The base of a memory operand.
+/// Appends the base register of a memory operand, in parentheses.
 pub fn push_base(line: &mut Line, n: u8)
     requires below { n < 32 }
     requires room { array_string_len line.old + 5 ≤ 64 }
@@ -166,7 +156,7 @@ pub fn push_base(line: &mut Line, n: u8)
     line.push_str(")");
 }
 
-/// The name of a control register, where 3 is that of 2.
+/// The name of a control register. Number 3 is VCE as 2 is: the instructions take the low two bits alone.
 pub fn control_text(n: u8) -> &'static str
     ensures bytes { result.now ≡ control_name n }
     ensures len { length result.now ≤ 4 }

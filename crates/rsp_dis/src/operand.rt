@@ -1,9 +1,9 @@
-// Operands, by their kinds.
+// The operands of a word, by their kinds.
 
-ghost use Rattle.std.specs.Prelude.{◌≡◌, ◌<◌, ◌≤◌, ◌+◌, ◌*◌, ◌++◌, [], ◌∷◌, true};
+ghost use Rattle.std.specs.Prelude.{◌≡◌, ◌<◌, ◌≤◌, ◌+◌, ◌*◌, ◌++◌, [], ◌∷◌, true, codes};
 ghost use Rattle.arrayvec.specs.ArrayString.{array_string_len};
 ghost use Rattle.rsp_decode.specs.Table.{value_at, whole, byte_bits, is_row_operand};
-ghost use Rattle.rsp_text.specs.Spell.{target, reaches, operand_text, scalar_name, vector_name, sp_name, target_text};
+ghost use Rattle.rsp_text.specs.Spell.{hex, target, reaches, operand_text, scalar_name, vector_name, sp_name, target_text};
 
 use crate::line::Line;
 use crate::numbers::{
@@ -12,7 +12,7 @@ use crate::numbers::{
 };
 use rsp_decode::{ByteElements, Operand};
 
-/// The five bits from `low` on.
+/// A register's number: the five bits of the word from `low` on.
 fn register(word: u32, low: u8) -> u8
     requires { low ≤ 27 }
     ensures value { result ≡ value_at word (whole low 5) }
@@ -21,13 +21,14 @@ fn register(word: u32, low: u8) -> u8
     (word >> low & 31) as u8
 }
 
+/// The low 16 bits of the word.
 fn low_half(word: u32) -> u16
     ensures { result ≡ value_at word (whole 0 16) }
 {
     (word & 0xffff) as u16
 }
 
-/// The byte of a vector register, one of those that the instruction takes.
+/// The byte of a vector register. Some instructions take the first byte of a half alone, 0 or 8, and have one bit for it.
 fn byte_element(word: u32, elements: ByteElements) -> u8
     ensures value { result ≡ value_at word (byte_bits elements) }
     ensures below { result < 16 }
@@ -38,12 +39,12 @@ fn byte_element(word: u32, elements: ByteElements) -> u8
     }
 }
 
-/// The target of a branch, where it is in IMEM.
-fn target(place: u16, offset: u16) -> Option<u16>
-    requires { place < 4096 }
-    ensures { result ≡ target place offset }
+/// The target of a branch at `address`, if that is in IMEM: `offset` counts words from the delay slot, modulo 65536.
+fn target(address: u16, offset: u16) -> Option<u16>
+    requires { address < 4096 }
+    ensures { result ≡ target address offset }
 {
-    let slot = u32::from(place) + 4;
+    let slot = u32::from(address) + 4;
     if offset < 32768 {
         let target = slot + 4 * u32::from(offset);
         if target < 4096 {
@@ -61,17 +62,18 @@ fn target(place: u16, offset: u16) -> Option<u16>
     }
 }
 
-/// Whether an operand can be spelled: no branch out of IMEM.
-pub fn is_reached(kind: Operand, word: u32, place: u16) -> bool
-    requires { place < 4096 }
-    ensures { result ≡ reaches word place kind }
+/// Whether an operand has a text: it is no branch, or its target is in IMEM.
+pub fn is_reached(kind: Operand, word: u32, address: u16) -> bool
+    requires { address < 4096 }
+    ensures { result ≡ reaches word address kind }
 {
     match kind {
-        Operand::BranchTarget => target(place, low_half(word)).is_some(),
+        Operand::BranchTarget => target(address, low_half(word)).is_some(),
         _ => true,
     }
 }
 
+/// Appends a scalar register.
 fn push_scalar(line: &mut Line, n: u8)
     requires below { n < 32 }
     requires room { array_string_len line.old + 3 ≤ 64 }
@@ -82,6 +84,7 @@ fn push_scalar(line: &mut Line, n: u8)
     push_small(line, n);
 }
 
+/// Appends a vector register.
 fn push_vector(line: &mut Line, n: u8)
     requires below { n < 32 }
     requires room { array_string_len line.old + 4 ≤ 64 }
@@ -92,6 +95,7 @@ fn push_vector(line: &mut Line, n: u8)
     push_small(line, n);
 }
 
+/// Appends an SP register.
 fn push_sp(line: &mut Line, n: u8)
     requires below { n < 16 }
     requires room { array_string_len line.old + 4 ≤ 64 }
@@ -102,39 +106,53 @@ fn push_sp(line: &mut Line, n: u8)
     push_small(line, n);
 }
 
-fn push_target(line: &mut Line, place: u16, offset: u16)
-    requires place { place < 4096 }
+/// Appends 16 bits in hexadecimal.
+fn push_half(line: &mut Line, n: u16)
+    requires { array_string_len line.old + 6 ≤ 64 }
+    ensures bytes { line.new.bytes ≡ line.old.bytes ++ codes "0x" ++ hex 4 n }
+    ensures len { array_string_len line.new ≡ array_string_len line.old + 6 }
+{
+    line.push_str("0x");
+    push_hex4(line, u32::from(n));
+}
+
+/// Appends an address in IMEM.
+fn push_address(line: &mut Line, address: u32)
+    requires { array_string_len line.old + 5 ≤ 64 }
+    ensures bytes { line.new.bytes ≡ line.old.bytes ++ codes "0x" ++ hex 3 address }
+    ensures len { array_string_len line.new ≡ array_string_len line.old + 5 }
+{
+    line.push_str("0x");
+    push_hex3(line, address);
+}
+
+/// Appends the target of a branch at `address`; nothing if the target is outside IMEM.
+fn push_target(line: &mut Line, address: u16, offset: u16)
+    requires address { address < 4096 }
     requires room { array_string_len line.old + 5 ≤ 64 }
-    ensures bytes { line.new.bytes ≡ line.old.bytes ++ target_text (target place offset) }
+    ensures bytes { line.new.bytes ≡ line.old.bytes ++ target_text (target address offset) }
     ensures len { array_string_len line.new ≤ array_string_len line.old + 5 }
 {
-    if let Some(t) = target(place, offset) {
-        line.push_str("0x");
-        push_hex3(line, u32::from(t));
+    if let Some(t) = target(address, offset) {
+        push_address(line, u32::from(t));
     }
 }
 
-/// An operand's text.
-pub fn push_operand(line: &mut Line, kind: Operand, word: u32, place: u16)
+/// Appends an operand of a word at `address`, at most 11 bytes.
+pub fn push_operand(line: &mut Line, kind: Operand, word: u32, address: u16)
     requires kind { is_row_operand kind ≡ true }
-    requires place { place < 4096 }
+    requires address { address < 4096 }
     requires room { array_string_len line.old + 11 ≤ 64 }
-    ensures bytes { line.new.bytes ≡ line.old.bytes ++ operand_text word place kind }
+    ensures bytes { line.new.bytes ≡ line.old.bytes ++ operand_text word address kind }
     ensures len { array_string_len line.new ≤ array_string_len line.old + 11 }
 {
     match kind {
         Operand::Scalar(low) => push_scalar(line, register(word, low)),
         Operand::ShiftAmount => push_small(line, register(word, 6)),
         Operand::Signed => push_signed(line, low_half(word)),
-        Operand::Unsigned => {
-            line.push_str("0x");
-            push_hex4(line, u32::from(low_half(word)));
-        }
-        Operand::JumpTarget => {
-            line.push_str("0x");
-            push_hex3(line, 4 * (word & 0x3ff));
-        }
-        Operand::BranchTarget => push_target(line, place, low_half(word)),
+        Operand::Unsigned => push_half(line, low_half(word)),
+        Operand::JumpTarget => push_address(line, 4 * (word & 0x3ff)),
+        Operand::BranchTarget => push_target(line, address, low_half(word)),
         Operand::ScalarMemory => {
             push_signed(line, low_half(word));
             push_base(line, register(word, 21));

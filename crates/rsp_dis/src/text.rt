@@ -1,4 +1,4 @@
-// The text of a word.
+// The disassembly of a word.
 
 ghost use Rattle.std.specs.Prelude.{◌≡◌, ◌<◌, ◌≤◌, ◌+◌, ◌*◌, ◌++◌, true, map, length};
 ghost use Rattle.std.specs.List.{list_all};
@@ -13,59 +13,59 @@ use crate::operand::{is_reached, push_operand};
 use rsp_decode::{Operand, TableRow, is_canonical};
 use rsp_text::select_row;
 
-/// No operand is a branch out of IMEM.
-fn are_reached(kinds: &[Operand], word: u32, place: u16) -> bool
-    requires { place < 4096 }
-    ensures { result ≡ list_all (reaches word place) kinds.now }
+/// Whether each operand has a text: none is a branch out of IMEM.
+fn are_reached(kinds: &[Operand], word: u32, address: u16) -> bool
+    requires { address < 4096 }
+    ensures { result ≡ list_all (reaches word address) kinds.now }
 {
     for kind in kinds {
-        if !is_reached(*kind, word, place) {
+        if !is_reached(*kind, word, address) {
             return false;
         }
     }
     true
 }
 
-/// The operands behind the first, each behind a comma and a blank.
-fn push_more(line: &mut Line, kinds: &[Operand], word: u32, place: u16)
+/// Appends the operands after the first, each after a comma and a space.
+fn push_more(line: &mut Line, kinds: &[Operand], word: u32, address: u16)
     requires kinds { list_all is_row_operand kinds.now ≡ true }
-    requires place { place < 4096 }
+    requires address { address < 4096 }
     requires room { array_string_len line.old + 13 * length kinds.now ≤ 64 }
-    ensures { line.new.bytes ≡ line.old.bytes ++ more_operands (map (operand_text word place) kinds.now) }
+    ensures { line.new.bytes ≡ line.old.bytes ++ more_operands (map (operand_text word address) kinds.now) }
 {
     for kind in kinds {
         line.push_str(", ");
-        push_operand(line, *kind, word, place);
+        push_operand(line, *kind, word, address);
     }
 }
 
-/// The operands behind a name.
-fn push_operands(line: &mut Line, kinds: &[Operand], word: u32, place: u16)
+/// Appends the operands after a name.
+fn push_operands(line: &mut Line, kinds: &[Operand], word: u32, address: u16)
     requires kinds { list_all is_row_operand kinds.now ≡ true }
-    requires place { place < 4096 }
+    requires address { address < 4096 }
     requires room { array_string_len line.old + 13 * length kinds.now ≤ 64 }
-    ensures { line.new.bytes ≡ line.old.bytes ++ behind_name (map (operand_text word place) kinds.now) }
+    ensures { line.new.bytes ≡ line.old.bytes ++ behind_name (map (operand_text word address) kinds.now) }
 {
     if let [first, more @ ..] = kinds {
         line.push_str(" ");
-        push_operand(line, *first, word, place);
-        push_more(line, more, word, place);
+        push_operand(line, *first, word, address);
+        push_more(line, more, word, address);
     }
 }
 
-/// The text of a row's word.
-fn row_line(row: TableRow, word: u32, place: u16) -> Line
+/// A word as an instruction.
+fn row_line(row: TableRow, word: u32, address: u16) -> Line
     requires row { is_short (entry row) ≡ true }
-    requires place { place < 4096 }
-    ensures { result.bytes ≡ row.name.now ++ behind_name (map (operand_text word place) row.operands.now) }
+    requires address { address < 4096 }
+    ensures { result.bytes ≡ row.name.now ++ behind_name (map (operand_text word address) row.operands.now) }
 {
     let mut line = Line::new();
     line.push_str(row.name);
-    push_operands(&mut line, row.operands, word, place);
+    push_operands(&mut line, row.operands, word, address);
     line
 }
 
-/// The text of a word as a number.
+/// A word as a number.
 fn plain_line(word: u32) -> Line
     ensures { result.bytes ≡ plain_word word }
 {
@@ -76,12 +76,16 @@ fn plain_line(word: u32) -> Line
     line
 }
 
-/// The canonical text of a word that stands at a byte address in IMEM, a multiple of 4. The word 0 is `nop`. A reserved word is
-/// `.word 0x` and eight digits, as is one with a bit that its row neither selects by nor names, and a branch whose target lies
-/// outside IMEM without wrapping. Every other word is its row's name and operands, in lower case.
-pub fn text_of(word: u32, place: u16) -> Line
-    requires { place < 4096 }
-    ensures { result.bytes ≡ spell word place }
+/// The canonical disassembly of a word at `address`, a byte address in IMEM below 4096. Assembled at the same address, a multiple
+/// of 4, it gives the word back.
+///
+/// - The word 0 is `nop`.
+/// - `.word 0x` and eight digits is a reserved word, a word with an ignored bit set, or a branch whose target, without wrapping,
+///   is outside IMEM.
+/// - Every other word is its instruction's name and operands, in lower case.
+pub fn text_of(word: u32, address: u16) -> Line
+    requires { address < 4096 }
+    ensures { result.bytes ≡ spell word address }
 {
     if word == 0 {
         let mut line = Line::new();
@@ -89,8 +93,8 @@ pub fn text_of(word: u32, place: u16) -> Line
         return line;
     }
     match select_row(word) {
-        Some(row) if is_canonical(word) && are_reached(row.operands, word, place) => {
-            row_line(row, word, place)
+        Some(row) if is_canonical(word) && are_reached(row.operands, word, address) => {
+            row_line(row, word, address)
         }
         _ => plain_line(word),
     }

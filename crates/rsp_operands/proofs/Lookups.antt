@@ -23,8 +23,8 @@ found_in name (e ∷ es) =
     ∙ ap (λ o. if bytes_eq e.0.now name then Some e.1 else o) (found_in name es)
 
 -- a label that was put into a map is found before the others
-pub put_in : (name : List ℕ) (place : ℕ) (m n : BTreeMap (Bor (List ℕ)) ℕ) → UpdatesBy (λ x y. slice_cmp nat_cmp x.now y.now) (λ k. slice_cmp nat_cmp name k.now) m n (Some place) → SamePlaces (named_places n.entries) ((name, place) ∷ named_places m.entries)
-put_in name place m n h q =
+pub put_in : (name : List ℕ) (address : ℕ) (m n : BTreeMap (Bor (List ℕ)) ℕ) → UpdatesBy (λ x y. slice_cmp nat_cmp x.now y.now) (λ k. slice_cmp nat_cmp name k.now) m n (Some address) → SamePlaces (named_places n.entries) ((name, address) ∷ named_places m.entries)
+put_in name address m n h q =
     sym (found_in q n.entries)
-    ∙ btree_map_updates_str name m n (Some place) h q
-    ∙ ap (λ o. if bytes_eq name q then Some place else o) (found_in q m.entries)
+    ∙ btree_map_updates_str name m n (Some address) h q
+    ∙ ap (λ o. if bytes_eq name q then Some address else o) (found_in q m.entries)

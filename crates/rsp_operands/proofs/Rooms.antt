@@ -87,23 +87,23 @@ when : (most : ℕ) (b : Bool) (v : ℕ) → (b ≡ true → v ≤ most) → Mos
 when most true v h = h refl
 when most false v h = tt
 
-field_most : (slot : Slot) (place : ℕ) (z : ℤ) → Most (most_of slot) (field slot place z)
-field_most Half place (pos n) = when 65535 (nat_lt n 65536) n (λ t. grind (arith, nat_tests))
-field_most Half place (negsuc n) = when 65535 (nat_lt n 32768) (65535 - n) (λ t. omega arith)
-field_most Amount place (pos n) = when 31 (nat_lt n 32) n (λ t. grind (arith, nat_tests))
-field_most Amount place (negsuc n) = tt
-field_most Jump place (pos n) = when 1023 (nat_lt n 4096 && n % 4 == 0) (n / 4) (λ t. let both = and_parts (nat_lt n 4096) (n % 4 == 0) t in let low : n < 4096 = grind (arith, nat_tests) in omega arith)
-field_most Jump place (negsuc n) = tt
-field_most Branch place (pos n) = when 65535 (nat_lt n 4096 && n % 4 == 0) ((n / 4 + 65535 - place / 4) % 65536) (λ t. omega arith)
-field_most Branch place (negsuc n) = tt
-field_most (Scaled scale) place (pos n) = when 128 (n % scale == 0 && nat_lt (n / scale) 64) (n / scale) (λ t. let both = and_parts (n % scale == 0) (nat_lt (n / scale) 64) t in let low : n / scale < 64 = grind (arith, nat_tests) in omega arith)
-field_most (Scaled scale) place (negsuc n) = when 128 (suc n % scale == 0 && nat_le (suc n / scale) 64) (128 - suc n / scale) (λ t. omega arith)
-field_most Word place (pos n) = when 4294967295 (nat_lt n 4294967296) n (λ t. grind (arith, nat_tests))
-field_most Word place (negsuc n) = when 4294967295 (nat_lt n 2147483648) (4294967295 - n) (λ t. omega arith)
+field_most : (slot : Slot) (address : ℕ) (z : ℤ) → Most (most_of slot) (field slot address z)
+field_most Half address (pos n) = when 65535 (nat_lt n 65536) n (λ t. grind (arith, nat_tests))
+field_most Half address (negsuc n) = when 65535 (nat_lt n 32768) (65535 - n) (λ t. omega arith)
+field_most Amount address (pos n) = when 31 (nat_lt n 32) n (λ t. grind (arith, nat_tests))
+field_most Amount address (negsuc n) = tt
+field_most Jump address (pos n) = when 1023 (nat_lt n 4096 && n % 4 == 0) (n / 4) (λ t. let both = and_parts (nat_lt n 4096) (n % 4 == 0) t in let low : n < 4096 = grind (arith, nat_tests) in omega arith)
+field_most Jump address (negsuc n) = tt
+field_most Branch address (pos n) = when 65535 (nat_lt n 4096 && n % 4 == 0) ((n / 4 + 65535 - address / 4) % 65536) (λ t. omega arith)
+field_most Branch address (negsuc n) = tt
+field_most (Scaled scale) address (pos n) = when 128 (n % scale == 0 && nat_lt (n / scale) 64) (n / scale) (λ t. let both = and_parts (n % scale == 0) (nat_lt (n / scale) 64) t in let low : n / scale < 64 = grind (arith, nat_tests) in omega arith)
+field_most (Scaled scale) address (negsuc n) = when 128 (suc n % scale == 0 && nat_le (suc n / scale) 64) (128 - suc n / scale) (λ t. omega arith)
+field_most Word address (pos n) = when 4294967295 (nat_lt n 4294967296) n (λ t. grind (arith, nat_tests))
+field_most Word address (negsuc n) = when 4294967295 (nat_lt n 2147483648) (4294967295 - n) (λ t. omega arith)
 
-field_of_most : (slot : Slot) (place : ℕ) (z : Option ℤ) → IfOk (field_of slot place z) (λ v. v ≤ most_of slot)
-field_of_most slot place None = tt
-field_of_most slot place (Some z) = ranged (field slot place z) (field_most slot place z)
+field_of_most : (slot : Slot) (address : ℕ) (z : Option ℤ) → IfOk (field_of slot address z) (λ v. v ≤ most_of slot)
+field_of_most slot address None = tt
+field_of_most slot address (Some z) = ranged (field slot address z) (field_most slot address z)
   where
     ranged : (o : Option ℕ) → Most (most_of slot) o → IfOk (or_out_of_range o) (λ v. v ≤ most_of slot)
     ranged None m = tt
@@ -117,10 +117,10 @@ first_room v low small fits =
     let most : v * 2 ^ low ≤ 31 * 2 ^ 27 = mul-le v (2 ^ low) 31 (2 ^ 27) small (pow-le-pow_right (omega arith) inside) in
     omega arith
 
-module _ (labels : Labels) (place : ℕ) where
+module _ (labels : Labels) (address : ℕ) where
   -- the fields of what is read have room, where something is read and has fields
   abbrev pub HasRoom : Operand → Option Reading → Type 0
-  HasRoom k o = IfSome o (λ r. IfOk (fields_of labels place r) (FitWord k))
+  HasRoom k o = IfSome o (λ r. IfOk (fields_of labels address r) (FitWord k))
 
   pair_room : (k : Operand) (v e : Option ℕ) → Most 31 v → Most 31 e → ((n : ℕ) → n ≤ 31 → FitWord k (n ∷ [])) → HasRoom k (with_element v e)
   pair_room k None e p q h = tt
@@ -137,12 +137,12 @@ module _ (labels : Labels) (place : ℕ) where
 
   value_room : (k : Operand) (slot : Slot) (o : Option Expression) → ((v : ℕ) → v ≤ most_of slot → FitWord k (v ∷ [])) → HasRoom k (option_map (asks slot []) o)
   value_room k slot None h = tt
-  value_room k slot (Some e) h = with_registers k [] (most_of slot) (field_of slot place (evaluate labels e)) (field_of_most slot place (evaluate labels e)) h
+  value_room k slot (Some e) h = with_registers k [] (most_of slot) (field_of slot address (evaluate labels e)) (field_of_most slot address (evaluate labels e)) h
 
   offset_room : (k : Operand) (slot : Slot) (o : Option Expression) (base : Option ℕ) → Most 31 base → ((v : ℕ) → v ≤ most_of slot → FitWord k (v ∷ [])) → HasRoom k (memory slot o base)
   offset_room k slot None base m h = tt
   offset_room k slot (Some e) None m h = tt
-  offset_room k slot (Some e) (Some b) m h = with_registers k (b ∷ []) (most_of slot) (field_of slot place (evaluate labels e)) (field_of_most slot place (evaluate labels e)) (λ v le. ((h v le).0, (m, tt)))
+  offset_room k slot (Some e) (Some b) m h = with_registers k (b ∷ []) (most_of slot) (field_of slot address (evaluate labels e)) (field_of_most slot address (evaluate labels e)) (λ v le. ((h v le).0, (m, tt)))
 
   memory_room : (k : Operand) (slot : Slot) (o : Option (List ℕ × List ℕ)) → ((v : ℕ) → v ≤ most_of slot → FitWord k (v ∷ [])) → HasRoom k (memory_operand slot o)
   memory_room k slot None h = tt

@@ -1,4 +1,4 @@
--- Scaffolding of the contracts: the code's fields of an operand, in the order of its text.
+-- Scaffolding of the contracts: the fields of an operand in the code, in the order of its text.
 use Rattle.std.specs.Prelude.{ℕ, List, [], ◌∷◌, Option, Some, None, Result, Ok, Err}
 use Rattle.rsp_text.specs.declared.fault.AsmFaultKind.{AsmFaultKind}
 use Rattle.rsp_operands.specs.declared.fields.Fields.{Fields}

@@ -1,4 +1,4 @@
--- Operands and labels, as the assembler reads them.
+-- Scaffolding of the contracts: operands and labels as the code has them.
 pub mod Labels
 pub mod Readings
 pub mod Fields

@@ -1,13 +1,13 @@
--- Scaffolding of the contracts: the room that the fields of an operand have in a word.
+-- Scaffolding of the contracts: the fields of an operand fit in a word.
 use Rattle.std.specs.Prelude.{ℕ, ◌<◌, ◌≤◌, ◌^◌, List, [], ◌∷◌}
 use Rattle.rsp_decode.specs.Table.{Operand, bit_fields, with_fields}
 
--- none of these needs more than five bits
+-- each number has at most five bits
 abbrev pub Small : List ℕ → Type 0
 Small [] = Unit {0}
 Small (n ∷ ns) = (n ≤ 31) × Small ns
 
--- the first of these fields of an operand stands inside the word at its place, and the others are small
+-- the first of these fields of an operand is inside the word, and the others have at most five bits
 abbrev pub FitWord : Operand → List ℕ → Type 0
 FitWord k [] = Unit {0}
 FitWord k (v ∷ vs) = (with_fields 0 (bit_fields k) (v ∷ []) < 2 ^ 32) × Small vs

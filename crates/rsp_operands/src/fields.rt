@@ -1,4 +1,4 @@
-// The fields of an operand, and where they stand in the word.
+// The fields of an operand, and their bits in the word.
 
 ghost use Rattle.std.specs.Prelude.{◌≡◌, ◌≤◌, ◌*◌, ◌^◌, ◌∷◌, [], ℕ, true, bit_or};
 ghost use Rattle.rsp_decode.specs.Table.{bit_fields, with_fields, is_row_operand};
@@ -14,7 +14,7 @@ use crate::values::expression_field;
 use rsp_decode::{ByteElements, Operand};
 use rsp_text::AsmFaultKind;
 
-/// The values of an operand's fields, in the order of its text.
+/// The values of an operand's one or two fields, in the order of its text.
 #[derive(Clone, Copy)]
 pub(crate) struct Fields {
     first: u32,
@@ -39,21 +39,22 @@ fn two(first: u32, second: u32) -> Fields
     }
 }
 
-/// The fields of what an operand says, for a statement at a place, or why there are none.
+/// The fields of an operand that was read, for a statement at `address`. A label that no line has is refused as LabelMissing,
+/// and a value out of its range as OutOfRange.
 pub(crate) fn reading_fields(
     said: Reading<'_>,
-    place: u16,
+    address: u16,
     labels: &Labels<'_>,
 ) -> Result<Fields, AsmFaultKind>
-    requires { place ≤ 4096 }
-    ensures { (r : statement.Reading) → reading said.entry ≡ capped_reading r → fields_in result ≡ fields_of labels.now place r }
+    requires { address ≤ 4096 }
+    ensures { (r : statement.Reading) → reading said.entry ≡ capped_reading r → fields_in result ≡ fields_of labels.now address r }
 {
     match said {
         Reading::Register(number) => Ok(one(u32::from(number))),
         Reading::Pair(number, element) => Ok(two(u32::from(number), u32::from(element))),
-        Reading::Value(slot, e) => Ok(one(expression_field(slot, e, place, labels)?)),
+        Reading::Value(slot, e) => Ok(one(expression_field(slot, e, address, labels)?)),
         Reading::Memory(slot, e, base) => {
-            let offset = expression_field(slot, e, place, labels)?;
+            let offset = expression_field(slot, e, address, labels)?;
             Ok(two(offset, u32::from(base)))
         }
     }
@@ -63,7 +64,7 @@ pub(crate) fn reading_fields(
 fn first_low(kind: Operand) -> u8
     requires { is_row_operand kind ≡ true }
     ensures low { result ≤ 27 }
-    ensures place { (w v : ℕ) → with_fields w (bit_fields kind) (v ∷ []) ≡ bit_or w (v * 2 ^ result) }
+    ensures bits { (w v : ℕ) → with_fields w (bit_fields kind) (v ∷ []) ≡ bit_or w (v * 2 ^ result) }
 {
     match kind {
         Operand::Scalar(low) | Operand::Vector(low) | Operand::VectorByte(low, _) => low,
@@ -75,7 +76,7 @@ fn first_low(kind: Operand) -> u8
     }
 }
 
-/// The bits of an operand's second field, where it has one.
+/// The second field's value at its bits in the word; 0 of a kind with one field.
 #[tactic(auto, using(crate::proofs::Words::or_none))]
 fn second_bits(kind: Operand, value: u32) -> u32
     requires { value ≤ 31 }
@@ -93,7 +94,7 @@ fn second_bits(kind: Operand, value: u32) -> u32
     }
 }
 
-/// The word with the fields at their places too.
+/// The word with the fields set too.
 pub(crate) fn put(kind: Operand, values: Fields, word: u32) -> u32
     requires room { is_row_operand kind ≡ true }
     requires fit { FitWord kind (field_values values) }

@@ -1,4 +1,4 @@
-// The labels of a source, and their places.
+// The labels of a source text.
 
 ghost use Rattle.std.specs.Prelude.{◌≡◌, ◌∷◌, [], OnOk, OnErr};
 ghost use Rattle.rsp_text.specs.Statement.{find_label};
@@ -8,11 +8,13 @@ use std::alloc::{AllocError, Global};
 use std::collections::BTreeMap;
 use std::marker::Model;
 
-/// The labels of a source, with their places in instruction memory. A label is found in a time that grows with the logarithm
-/// of their number, whatever their names are. Contracts see them as a list of names and places.
+/// The labels of a source text, with their addresses in IMEM. Contracts see them as a list of names and addresses.
+///
+/// A map, not a list: a text may have thousands of labels, and each is searched for when its line and each operand with it is
+/// read. A hash map's time would depend on the names.
 #[derive(Drop)]
 pub struct Labels<'a> {
-    places: BTreeMap<&'a [u8], u16>,
+    addresses: BTreeMap<&'a [u8], u16>,
 }
 
 impl<'a> Model for Labels<'a> {
@@ -21,32 +23,32 @@ impl<'a> Model for Labels<'a> {
 
     ghost Value = { List (List ℕ × ℕ) };
 
-    ghost view = { λ l. named_places l.places.entries };
+    ghost view = { λ l. named_places l.addresses.entries };
 }
 
 impl<'a> Labels<'a> {
-    /// No labels. It takes no memory.
+    /// No labels. It doesn't allocate.
     pub fn new(alloc: Global) -> Labels<'a>
         ensures { result ≡ [] }
     {
         Labels {
-            places: BTreeMap::new(alloc),
+            addresses: BTreeMap::new(alloc),
         }
     }
 
-    /// The place of the label of this name; None where no label has it. Upper and lower case differ.
+    /// The address of the label with this name; None if there is none. Case counts.
     pub fn find(&self, name: &[u8]) -> Option<u16>
         ensures { result ≡ find_label self.now name.now }
     {
-        self.places.get(name).copied()
+        self.addresses.get(name).copied()
     }
 
-    /// Adds a label, or gives the label of this name another place. Where there is no memory for it, the labels stay as they were.
-    pub fn add(&mut self, name: &'a [u8], place: u16) -> Result<(), AllocError>
-        ensures ok { OnOk result (SamePlaces self.new ((name.now, place) ∷ self.old)) }
+    /// Adds a label, or changes the address of the label with this name. If there is no memory for it, the labels are unchanged.
+    pub fn add(&mut self, name: &'a [u8], address: u16) -> Result<(), AllocError>
+        ensures ok { OnOk result (SamePlaces self.new ((name.now, address) ∷ self.old)) }
         ensures err { OnErr result (self.new ≡ self.old) }
     {
-        self.places.insert(name, place)?;
+        self.addresses.insert(name, address)?;
         Ok(())
     }
 }

@@ -1,7 +1,7 @@
-//! Operands of a statement: what their text says, whether a number in it is in its range, and its fields in a word.
+//! Operands of a statement: what their text means, whether a number is in its range, and their fields in a word.
 //!
-//! Each pass of an assembler reads an operand once: the first asks whether a number is out of its range, the second puts the
-//! fields. So nothing has to be kept between the two.
+//! An assembler calls this crate in both of its passes: `is_out_of_range` in the first, when not all labels are known, and
+//! `put_operand` in the second. Each reads the operand's text anew, so nothing has to be stored between the passes.
 #![tactic(auto)]
 
 mod fields;

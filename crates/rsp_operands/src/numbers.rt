@@ -1,4 +1,4 @@
-// The numbers of `.word`.
+// The operands of `.word`.
 
 ghost use Rattle.std.specs.Prelude.{◌≡◌, option_map};
 ghost use Rattle.rsp_text.specs.Numbers.{expression_of};
@@ -8,8 +8,8 @@ use crate::labels::Labels;
 use crate::values::{expression_field, is_beyond};
 use rsp_text::{AsmFaultKind, Slot, read_expression};
 
-/// Whether a number names no label, and no word has it. It is None where the text is no number, no label, and no label with
-/// a number.
+/// Whether an operand of `.word` is out of range whatever the labels are: it names no label, and isn't from -2^31 to 2^32 - 1.
+/// None if the text is no expression.
 pub fn is_number_out_of_range(text: &[u8]) -> Option<bool>
     ensures { result ≡ option_map word_fails (expression_of text.now) }
 {
@@ -17,9 +17,9 @@ pub fn is_number_out_of_range(text: &[u8]) -> Option<bool>
     Some(is_beyond(Slot::Word, e, 0))
 }
 
-/// The word of a number. It is None where the text is no number, no label, and no label with a number.
+/// The word of an operand of `.word`, its value modulo 2^32. None if the text is no expression.
 ///
-/// A label that is not among the labels is refused as LabelMissing, and a value that no word has as OutOfRange.
+/// A label that isn't in `labels` is refused as LabelMissing, and a value below -2^31 or above 2^32 - 1 as OutOfRange.
 pub fn number_word(text: &[u8], labels: &Labels<'_>) -> Option<Result<u32, AsmFaultKind>>
     ensures { result ≡ option_map (word_value labels.now) (expression_of text.now) }
 {

@@ -1,4 +1,4 @@
-// An operand by its kind.
+// The operands of instructions.
 
 ghost use Rattle.std.specs.Prelude.{◌≡◌, ◌≤◌, true, option_map};
 ghost use Rattle.rsp_decode.specs.Table.{bit_fields, is_row_operand};
@@ -13,36 +13,36 @@ use crate::values::is_beyond;
 use rsp_decode::Operand;
 use rsp_text::AsmFaultKind;
 
-/// Whether an operand names no label, and its number is out of the range that it has in a statement at this place. It is
-/// None where the text is no operand of this kind.
-pub fn is_out_of_range(kind: Operand, text: &[u8], place: u16) -> Option<bool>
-    requires { place ≤ 4096 }
-    ensures { result ≡ option_map (reading_fails place) (read kind text.now) }
+/// Whether an operand is out of its range whatever the labels are: it names no label, and its number is out of the range that
+/// the kind has in a statement at `address`, at most 4096. None if the text is no operand of this kind.
+pub fn is_out_of_range(kind: Operand, text: &[u8], address: u16) -> Option<bool>
+    requires { address ≤ 4096 }
+    ensures { result ≡ option_map (reading_fails address) (read kind text.now) }
 {
     match read_operand(kind, text)? {
-        Reading::Value(slot, e) | Reading::Memory(slot, e, _) => Some(is_beyond(slot, e, place)),
+        Reading::Value(slot, e) | Reading::Memory(slot, e, _) => Some(is_beyond(slot, e, address)),
         Reading::Register(_) | Reading::Pair(_, _) => Some(false),
     }
 }
 
-/// The word with the fields of an operand too, for a statement at this place. It is None where the text is no operand of
+/// `word` with the fields of an operand set too, for a statement at `address`, at most 4096. None if the text is no operand of
 /// this kind.
 ///
-/// A label that is not among the labels is refused as LabelMissing, and a value out of its range as OutOfRange. The
-/// register of the kind must stand inside the word, as those of each row of the instruction table do.
+/// A label that isn't in `labels` is refused as LabelMissing, and a value out of its range as OutOfRange. The kind has to be one
+/// of those that the instruction table has; so its fields are inside the word.
 pub fn put_operand(
     kind: Operand,
     text: &[u8],
-    place: u16,
+    address: u16,
     labels: &Labels<'_>,
     word: u32,
 ) -> Option<Result<u32, AsmFaultKind>>
-    requires inside { place ≤ 4096 }
+    requires inside { address ≤ 4096 }
     requires room { is_row_operand kind ≡ true }
-    ensures { result ≡ option_map (λ (r : statement.Reading). with_values word (bit_fields kind) (fields_of labels.now place r)) (read kind text.now) }
+    ensures { result ≡ option_map (λ (r : statement.Reading). with_values word (bit_fields kind) (fields_of labels.now address r)) (read kind text.now) }
 {
     let reading = read_operand(kind, text)?;
-    match reading_fields(reading, place, labels) {
+    match reading_fields(reading, address, labels) {
         Ok(fields) => Some(Ok(put(kind, fields, word))),
         Err(fault) => Some(Err(fault)),
     }

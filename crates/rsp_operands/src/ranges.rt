@@ -1,9 +1,9 @@
-// The ranges of numbers, and the field of a number that is in its range.
+// The ranges of operands: the field of a value, or None if the value is out of range.
 
 ghost use Rattle.std.specs.Prelude.{◌≡◌, ◌==◌, ◌≤◌, ◌%◌, ◌/◌, Some, None, if◌then◌else◌};
 ghost use Rattle.rsp_text.specs.Statement.{half, word, amount, jump, branch, scaled_offset};
 
-/// The field of sixteen bits of a number.
+/// The field of a 16-bit immediate: -32768 to 65535, modulo 65536.
 pub(crate) fn half(value: i64) -> Option<u32>
     ensures { result ≡ half value }
 {
@@ -14,7 +14,7 @@ pub(crate) fn half(value: i64) -> Option<u32>
     }
 }
 
-/// The word of a number.
+/// The word of a number of `.word`: -2147483648 to 4294967295, modulo 2^32.
 pub(crate) fn word(value: i64) -> Option<u32>
     ensures { result ≡ word value }
 {
@@ -25,7 +25,7 @@ pub(crate) fn word(value: i64) -> Option<u32>
     }
 }
 
-/// The field of a shift amount.
+/// The field of a shift amount, 0 to 31.
 pub(crate) fn amount(value: i64) -> Option<u32>
     ensures { result ≡ amount value }
 {
@@ -35,7 +35,7 @@ pub(crate) fn amount(value: i64) -> Option<u32>
     }
 }
 
-/// The field of a jump to a target: its place in words.
+/// The field of a jump: its target, a multiple of 4 from 0 to 4092, in words.
 pub(crate) fn jump(target: i64) -> Option<u32>
     ensures { result ≡ jump target }
 {
@@ -45,18 +45,18 @@ pub(crate) fn jump(target: i64) -> Option<u32>
     Some(target as u32 / 4)
 }
 
-/// The field of a branch at a place to a target: the distance in words from the delay slot behind the branch, modulo
-/// 65536.
-pub(crate) fn branch(place: u16, target: i64) -> Option<u32>
-    requires { place ≤ 4096 }
-    ensures { result ≡ branch place target }
+/// The field of a branch at `address`: the distance in words from the delay slot after the branch to the target, modulo 65536.
+/// The target is a multiple of 4 from 0 to 4092.
+pub(crate) fn branch(address: u16, target: i64) -> Option<u32>
+    requires { address ≤ 4096 }
+    ensures { result ≡ branch address target }
 {
     let target = jump(target)?;
-    let delay_slot = u32::from(place) / 4 + 1;
+    let delay_slot = u32::from(address) / 4 + 1;
     Some((target + 65536 - delay_slot) % 65536)
 }
 
-/// How often a scale is in a distance, where it divides it. A scale of 0 divides the distance 0 alone.
+/// The distance divided by the scale; None if it is no multiple. A scale of 0 divides 0 alone, as in the definition.
 fn steps(scale: u8, distance: u64) -> Option<u64>
     ensures { result ≡ (if distance % scale == 0 then Some (distance / scale) else None) }
 {
@@ -68,7 +68,7 @@ fn steps(scale: u8, distance: u64) -> Option<u64>
     }
 }
 
-/// The field of an offset in a vector load or store of this scale.
+/// The field of an offset of a vector load or store: a multiple of its scale, -64 to 63 times it, modulo 128.
 pub(crate) fn scaled_offset(scale: u8, value: i64) -> Option<u32>
     ensures { result ≡ scaled_offset scale value }
 {

@@ -1,4 +1,4 @@
-// What the text of an operand says, by its kind.
+// Reading the text of an operand, by its kind.
 
 ghost use Rattle.std.specs.Prelude.{◌≡◌, [], Some, None, option_map};
 ghost use Rattle.rsp_text.specs.declared.text.Boundary.TheVariants.{Bracket, Parenthesis};
@@ -15,15 +15,20 @@ use rsp_text::{
     sp_register, vector,
 };
 
-/// What an operand says: registers and elements, or an expression with the range that it must be in.
+/// What an operand means, before its label is looked up and its range is checked.
 #[derive(Clone, Copy)]
 pub(crate) enum Reading<'a> {
+    /// A register.
     Register(u8),
+    /// A vector register, with an element, a byte or a lane.
     Pair(u8, u8),
+    /// A value with its range.
     Value(Slot, Expression<'a>),
+    /// An offset with its range, and a base register.
     Memory(Slot, Expression<'a>, u8),
 }
 
+/// The base register of a memory operand, by the text after its `(`.
 fn base(text: &[u8]) -> Option<u8>
     ensures { result ≡ base_of text.now }
 {
@@ -33,6 +38,7 @@ fn base(text: &[u8]) -> Option<u8>
     }
 }
 
+/// A byte of a vector register, by the text after `[`. Some instructions take the first byte of a half alone, 0 or 8.
 fn bracketed_byte(elements: ByteElements, text: &[u8]) -> Option<u8>
     ensures { result ≡ bracketed (byte_named elements) text.now }
 {
@@ -46,6 +52,7 @@ fn bracketed_byte(elements: ByteElements, text: &[u8]) -> Option<u8>
     }
 }
 
+/// The element of a computing instruction, by the text after `[`.
 fn bracketed_element(text: &[u8]) -> Option<u8>
     ensures { result ≡ bracketed element_named text.now }
 {
@@ -55,6 +62,7 @@ fn bracketed_element(text: &[u8]) -> Option<u8>
     }
 }
 
+/// A lane, by the text after `[`.
 fn bracketed_lane(text: &[u8]) -> Option<u8>
     ensures { result ≡ bracketed lane_named text.now }
 {
@@ -70,6 +78,7 @@ fn with_element(name: &[u8], element: Option<u8>) -> Option<Reading<'_>>
     Some(Reading::Pair(vector(name)?, element?))
 }
 
+/// A vector register with a byte of it, which is 0 without brackets.
 fn vector_byte(elements: ByteElements, text: &[u8]) -> Option<Reading<'_>>
     ensures { option_map reading result ≡ option_map capped_reading (bracket_of (byte_named elements) (Some 0) (cut Bracket text.now) text.now) }
 {
@@ -79,6 +88,7 @@ fn vector_byte(elements: ByteElements, text: &[u8]) -> Option<Reading<'_>>
     }
 }
 
+/// A vector register with the element of a computing instruction, which is 0 without brackets.
 fn vector_element(text: &[u8]) -> Option<Reading<'_>>
     ensures { option_map reading result ≡ option_map capped_reading (bracket_of element_named (Some 0) (cut Bracket text.now) text.now) }
 {
@@ -88,6 +98,7 @@ fn vector_element(text: &[u8]) -> Option<Reading<'_>>
     }
 }
 
+/// A vector register with a lane, which is required.
 fn vector_lane(text: &[u8]) -> Option<Reading<'_>>
     ensures { option_map reading result ≡ option_map capped_reading (bracket_of lane_named None (cut Bracket text.now) text.now) }
 {
@@ -103,6 +114,7 @@ fn value(slot: Slot, text: &[u8]) -> Option<Reading<'_>>
     Some(Reading::Value(slot, read_expression(text)?))
 }
 
+/// The offset of a memory operand, by the text before its `(`: 0 if there is none.
 fn offset(text: &[u8]) -> Option<Expression<'_>>
     ensures { option_map expression result ≡ option_map capped_expression (offset_of text.now) }
 {
@@ -122,7 +134,7 @@ fn memory(slot: Slot, text: &[u8]) -> Option<Reading<'_>>
     Some(Reading::Memory(slot, offset(front)?, base(rest)?))
 }
 
-/// What the text of an operand says; None where it is no operand of this kind.
+/// What the text of an operand means; None if it is no operand of this kind.
 pub(crate) fn read_operand(kind: Operand, text: &[u8]) -> Option<Reading<'_>>
     ensures { option_map reading result ≡ option_map capped_reading (read kind text.now) }
 {

@@ -3,6 +3,7 @@ pub mod Cuts
 pub mod Splits
 pub mod TextLines
 pub mod Numerals
+pub mod HexDigits
 pub mod Tables
 pub mod Rows
 pub mod Expressions

@@ -1,4 +1,4 @@
--- What a text is made of: blanks, the bytes of names, and lines.
+-- Bytes as numbers in ASCII: blanks, the bytes of names, and those of lines.
 use Rattle.std.specs.Prelude.{ℕ, ◌==◌, nat_le, Bool, ◌&&◌, ◌||◌, List, [], ◌∷◌, length, reverse, if◌then◌else◌}
 use Rattle.std.specs.List.{list_all}
 
@@ -17,19 +17,19 @@ is_name_start c = is_letter c || c == 95
 abbrev pub is_name_byte : ℕ → Bool
 is_name_byte c = is_name_start c || nat_le 48 c && nat_le c 57
 
--- a tab, or a printed byte
+-- a tab, or a printable byte, 20 to 7e hexadecimal
 abbrev pub is_plain : ℕ → Bool
 is_plain c = c == 9 || nat_le 32 c && nat_le c 126
 
--- at most 256 such bytes
+-- a line, without its line ending: at most 256 such bytes
 abbrev pub is_line : List ℕ → Bool
 is_line bs = nat_le (length bs) 256 && list_all is_plain bs
 
--- without the blanks in front
+-- without the blanks at the start
 abbrev pub skip_blanks : List ℕ → List ℕ
 skip_blanks [] = []
 skip_blanks (c ∷ cs) = if is_blank c then skip_blanks cs else c ∷ cs
 
--- without the blanks on either side
+-- without the blanks at both ends
 abbrev pub trim : List ℕ → List ℕ
 trim bs = reverse (skip_blanks (reverse (skip_blanks bs)))

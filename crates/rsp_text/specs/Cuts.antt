@@ -1,11 +1,11 @@
--- Where a text is cut.
+-- Cutting a text at its first separator.
 use Rattle.std.specs.Prelude.{ℕ, ◌==◌, Bool, ◌||◌, List, Option, Some, None, if◌then◌else◌}
 use Rattle.std.specs.List.{list_any, before_first, after_first}
 use Rattle.rsp_text.specs.Chars.{is_blank}
 use Rattle.rsp_text.specs.declared.text.Boundary.{Boundary}
 use Rattle.rsp_text.specs.declared.text.Boundary.TheVariants.{Blank, Colon, Comma, Comment, Bracket, Newline, Parenthesis, Plus, Minus}
 
--- the bytes at which a text is cut
+-- the bytes of each kind of separator
 abbrev pub is_boundary : Boundary → ℕ → Bool
 is_boundary Blank c = is_blank c
 is_boundary Colon c = c == 58
@@ -17,6 +17,6 @@ is_boundary Parenthesis c = c == 40
 is_boundary Plus c = c == 43
 is_boundary Minus c = c == 45
 
--- the first part and the rest, where there is such a byte
+-- the part before the first separator of a kind and the part after it, or None if the text has none
 abbrev pub cut : Boundary → List ℕ → Option (List ℕ × List ℕ)
 cut boundary bs = if list_any (is_boundary boundary) bs then Some (before_first (is_boundary boundary) bs, after_first (is_boundary boundary) bs) else None

@@ -1,4 +1,4 @@
--- The names of the faults of texts.
+-- The names of the assembler's faults.
 use Rattle.std.specs.Prelude.{ℕ, List, codes}
 use Rattle.rsp_text.specs.declared.fault.AsmFaultKind.{AsmFaultKind}
 use Rattle.rsp_text.specs.declared.fault.AsmFaultKind.TheVariants.{BadLine, UnknownName, BadOperand, OutOfRange, LabelTwice, LabelMissing, PastEnd, OutOfMemory}

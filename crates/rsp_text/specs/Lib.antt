@@ -1,4 +1,4 @@
--- What a text is made of, what assembly text means, and how a word is spelled.
+-- The syntax of the assembler: what a source text means, and how a word is disassembled. Begin with Means and Spell.
 pub mod Chars
 pub mod Cuts
 pub mod Numbers

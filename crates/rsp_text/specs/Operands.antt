@@ -1,4 +1,4 @@
--- The operands of statements: how the text of each kind is read, and beside it how its fields are spelled.
+-- The kinds of operands: what the text of each means, and beside it how its fields are disassembled. The table is at the end.
 use Rattle.std.specs.Prelude.{ℕ, zero, suc, ◌+◌, ◌-◌, ◌*◌, ◌/◌, ◌%◌, ◌==◌, nat_lt, nat_le, if◌then◌else◌, List, [], ◌∷◌, ◌++◌, length, take, slice_index, Option, Some, None, option_map, option_and_then, codes, ℤ, pos, negsuc}
 use Rattle.std.specs.Char.{digit_char}
 use Rattle.std.specs.Fmt.{signed_decimal}
@@ -10,10 +10,10 @@ use Rattle.rsp_text.specs.Cuts.{cut}
 use Rattle.rsp_text.specs.Numbers.{Expression, expression_of}
 use Rattle.rsp_text.specs.Names.{scalar_named, vector_named, sp_named, control_named, element_named, small_number}
 
--- ---- what an operand says
+-- ---- what an operand means
 
--- What an operand says: an expression with the range that it must be in, where there is one, and the numbers of registers
--- and elements behind it.
+-- What an operand means: an expression with the range that its value must be in, if there is one, and then the numbers of
+-- registers and elements.
 pub record Reading : Type 0 where
   pub value : Option (Slot × Expression)
   pub registers : List ℕ
@@ -27,7 +27,7 @@ pair n e = record { value = None; registers = n ∷ e ∷ [] }
 abbrev pub asks : Slot → List ℕ → Expression → Reading
 asks slot registers e = record { value = Some (slot, e); registers = registers }
 
--- the text between the first parenthesis and a closing one at the end
+-- a scalar register, by the text after an opening parenthesis; it ends with the closing one
 abbrev pub base_of : List ℕ → Option ℕ
 base_of bs = if slice_index bs (length bs - 1) == 41 then scalar_named (take (length bs - 1) bs) else None
 
@@ -40,15 +40,15 @@ offset_of bs = if length bs == 0 then Some zero_expression else expression_of bs
 abbrev pub memory : Slot → Option Expression → Option ℕ → Option Reading
 memory slot e base = option_and_then (λ x. option_map (λ b. asks slot (b ∷ []) x) base) e
 
--- what a look-up says of the text before a closing bracket at the end
+-- what is found for the text before a closing bracket, with which it ends
 abbrev pub bracketed : (List ℕ → Option ℕ) → List ℕ → Option ℕ
 bracketed look bs = if slice_index bs (length bs - 1) == 93 then look (take (length bs - 1) bs) else None
 
--- a byte that one of the halves of a register begins with
+-- the first byte of a half of a vector register: 0 or 8
 abbrev pub half_start : ℕ → Option ℕ
 half_start e = if e % 8 == 0 then Some e else None
 
--- a byte of a register, one of those that the instruction takes
+-- a byte of a vector register, one of those that the instruction takes
 abbrev pub byte_named : ByteElements → List ℕ → Option ℕ
 byte_named all_bytes bs = small_number 16 bs
 byte_named half_bytes bs = option_and_then half_start (small_number 16 bs)
@@ -59,7 +59,7 @@ lane_named bs = small_number 8 bs
 abbrev pub with_element : Option ℕ → Option ℕ → Option Reading
 with_element v e = option_and_then (λ n. option_map (pair n) e) v
 
--- a vector register, and what stands between brackets, where there are any
+-- a vector register and what is between brackets, or the default if there are none
 abbrev pub bracket_of : (List ℕ → Option ℕ) → Option ℕ → Option (List ℕ × List ℕ) → List ℕ → Option Reading
 bracket_of look default None bs = with_element (vector_named bs) default
 bracket_of look default (Some p) bs = with_element (vector_named p.0) (bracketed look p.1)
@@ -68,14 +68,14 @@ abbrev pub memory_operand : Slot → Option (List ℕ × List ℕ) → Option Re
 memory_operand slot None = None
 memory_operand slot (Some p) = memory slot (offset_of p.0) (base_of p.1)
 
--- ---- how numbers are spelled
+-- ---- how numbers are written
 
--- the lowest k hexadecimal digits of a number
+-- the lowest k hexadecimal digits of a number, the highest first, in lower case
 abbrev pub hex : ℕ → ℕ → List ℕ
 hex zero n = []
 hex (suc k) n = hex k (n / 16) ++ digit_char (n % 16) ∷ []
 
--- a number below 100
+-- a number below 100 in decimal, without a leading zero
 abbrev pub small : ℕ → List ℕ
 small n = if nat_lt n 10 then (48 + n) ∷ [] else (48 + n / 10) ∷ (48 + n % 10) ∷ []
 
@@ -87,18 +87,18 @@ signed_half n = if nat_lt n 32768 then pos n else negsuc (65535 - n)
 abbrev pub signed_scaled : ℕ → ℕ → ℤ
 signed_scaled scale v = if nat_lt v 64 then pos (v * scale) else negsuc ((128 - v) * scale - 1)
 
--- the place so many bytes ahead, and so many bytes back, where that is in IMEM
+-- the address n bytes ahead, and n bytes back, if that is in IMEM
 abbrev pub ahead : ℕ → ℕ → Option ℕ
-ahead place n = if nat_lt (place + n) 4096 then Some (place + n) else None
+ahead address n = if nat_lt (address + n) 4096 then Some (address + n) else None
 
 abbrev pub back : ℕ → ℕ → Option ℕ
-back place n = if nat_le n place then Some (place - n) else None
+back address n = if nat_le n address then Some (address - n) else None
 
--- the target of a branch at a place, where that is in IMEM: words are counted from the delay slot
+-- the target of a branch at an address, if that is in IMEM; v counts words from the delay slot, modulo 65536
 abbrev pub target : ℕ → ℕ → Option ℕ
-target place v = if nat_lt v 32768 then ahead (place + 4) (4 * v) else back (place + 4) (4 * (65536 - v))
+target address v = if nat_lt v 32768 then ahead (address + 4) (4 * v) else back (address + 4) (4 * (65536 - v))
 
--- ---- how names are spelled
+-- ---- how names are written
 
 abbrev pub scalar_name : ℕ → List ℕ
 scalar_name n = 36 ∷ small n
@@ -116,7 +116,7 @@ control_name n = if n == 0 then codes "$vco" else (if n == 1 then codes "$vcc" e
 abbrev pub byte_name : ℕ → List ℕ
 byte_name e = 91 ∷ (small e ++ 93 ∷ [])
 
--- the element of a computing row; 0 is shown as nothing
+-- the element of a computing instruction; element 0 has no text
 abbrev pub element_name : ℕ → List ℕ
 element_name e =
     if e == 0 then []
@@ -125,98 +125,98 @@ element_name e =
     else (if nat_lt e 8 then 91 ∷ (44 + e) ∷ codes "h]"
     else 91 ∷ (40 + e) ∷ 93 ∷ [])))
 
--- a base, behind an offset
+-- a base register, after an offset
 abbrev pub base_name : ℕ → List ℕ
 base_name n = 40 ∷ (scalar_name n ++ 41 ∷ [])
 
--- of no target it is nothing
+-- the target of a branch; a target outside IMEM has no text
 abbrev pub target_text : Option ℕ → List ℕ
 target_text None = []
 target_text (Some t) = codes "0x" ++ hex 3 t
 
 -- ---- the kinds
 
--- How the text of a kind of operand is read, and how its fields are spelled, for a word at a place.
+-- A kind of operand: what a text means, and the disassembly of the operand's fields, for a word at an address.
 pub record Kind : Type 0 where
   pub reading : List ℕ → Option Reading
   pub spelling : ℕ → List ℕ → List ℕ
 
 abbrev pub kind : Operand → Kind
--- $9 or $t1, spelled $9
+-- $9 or $t1, disassembled as $9
 kind (scalar low) = record {
   reading = λ bs. option_map one_register (scalar_named bs);
-  spelling = λ place vs. scalar_name (slice_index vs 0);
+  spelling = λ address vs. scalar_name (slice_index vs 0);
 }
 -- 31
 kind shift_amount = record {
   reading = λ bs. option_map (asks Amount []) (expression_of bs);
-  spelling = λ place vs. small (slice_index vs 0);
+  spelling = λ address vs. small (slice_index vs 0);
 }
--- -2 or x+4, spelled -2
+-- -2 or x+4, disassembled as -2
 kind signed = record {
   reading = λ bs. option_map (asks Half []) (expression_of bs);
-  spelling = λ place vs. signed_decimal (signed_half (slice_index vs 0));
+  spelling = λ address vs. signed_decimal (signed_half (slice_index vs 0));
 }
--- 255 or -1, spelled 0x00ff and 0xffff
+-- 255 or -1, disassembled as 0x00ff and 0xffff
 kind unsigned = record {
   reading = λ bs. option_map (asks Half []) (expression_of bs);
-  spelling = λ place vs. codes "0x" ++ hex 4 (slice_index vs 0);
+  spelling = λ address vs. codes "0x" ++ hex 4 (slice_index vs 0);
 }
--- loop or 16, spelled 0x010
+-- loop or 16, disassembled as 0x010
 kind jump_target = record {
   reading = λ bs. option_map (asks Jump []) (expression_of bs);
-  spelling = λ place vs. codes "0x" ++ hex 3 (4 * slice_index vs 0);
+  spelling = λ address vs. codes "0x" ++ hex 3 (4 * slice_index vs 0);
 }
--- the same; its field is the distance from the delay slot
+-- the same; its field is the distance from the delay slot in words
 kind branch_target = record {
   reading = λ bs. option_map (asks Branch []) (expression_of bs);
-  spelling = λ place vs. target_text (target place (slice_index vs 0));
+  spelling = λ address vs. target_text (target address (slice_index vs 0));
 }
--- ($sp) or -4($29), spelled 0($29) and -4($29)
+-- ($sp) or -4($29), disassembled as 0($29) and -4($29)
 kind scalar_memory = record {
   reading = λ bs. memory_operand Half (cut Parenthesis bs);
-  spelling = λ place vs. signed_decimal (signed_half (slice_index vs 0)) ++ base_name (slice_index vs 1);
+  spelling = λ address vs. signed_decimal (signed_half (slice_index vs 0)) ++ base_name (slice_index vs 1);
 }
 -- 16($4); its field is the offset in steps of the scale
 kind (vector_memory scale) = record {
   reading = λ bs. memory_operand (Scaled scale) (cut Parenthesis bs);
-  spelling = λ place vs. signed_decimal (signed_scaled scale (slice_index vs 0)) ++ base_name (slice_index vs 1);
+  spelling = λ address vs. signed_decimal (signed_scaled scale (slice_index vs 0)) ++ base_name (slice_index vs 1);
 }
 -- $c4
 kind sp_register = record {
   reading = λ bs. option_map one_register (sp_named bs);
-  spelling = λ place vs. sp_name (slice_index vs 0);
+  spelling = λ address vs. sp_name (slice_index vs 0);
 }
 -- $vcc
 kind control_register = record {
   reading = λ bs. option_map one_register (control_named bs);
-  spelling = λ place vs. control_name (slice_index vs 0);
+  spelling = λ address vs. control_name (slice_index vs 0);
 }
 -- $v3
 kind (vector low) = record {
   reading = λ bs. option_map one_register (vector_named bs);
-  spelling = λ place vs. vector_name (slice_index vs 0);
+  spelling = λ address vs. vector_name (slice_index vs 0);
 }
--- $v3[8] or $v3, spelled $v3[8] and $v3[0]
+-- $v3[8] or $v3, disassembled as $v3[8] and $v3[0]
 kind (vector_byte low elements) = record {
   reading = λ bs. bracket_of (byte_named elements) (Some 0) (cut Bracket bs) bs;
-  spelling = λ place vs. vector_name (slice_index vs 0) ++ byte_name (slice_index vs 1);
+  spelling = λ address vs. vector_name (slice_index vs 0) ++ byte_name (slice_index vs 1);
 }
--- $v3[2h] or $v3, spelled so
+-- $v3[2h] or $v3, disassembled so
 kind vector_element = record {
   reading = λ bs. bracket_of element_named (Some 0) (cut Bracket bs) bs;
-  spelling = λ place vs. vector_name (slice_index vs 0) ++ element_name (slice_index vs 1);
+  spelling = λ address vs. vector_name (slice_index vs 0) ++ element_name (slice_index vs 1);
 }
 -- $v3[7]
 kind vector_lane = record {
   reading = λ bs. bracket_of lane_named None (cut Bracket bs) bs;
-  spelling = λ place vs. vector_name (slice_index vs 0) ++ byte_name (slice_index vs 1);
+  spelling = λ address vs. vector_name (slice_index vs 0) ++ byte_name (slice_index vs 1);
 }
 
--- what the text of an operand says, by its kind
+-- what the text of an operand means, by its kind
 abbrev pub read : Operand → List ℕ → Option Reading
 read k bs = (kind k).reading bs
 
--- the spelling of an operand with these fields, for a word at a place
+-- the disassembly of an operand with these fields, for a word at an address
 abbrev pub spell_operand : ℕ → Operand → List ℕ → List ℕ
-spell_operand place k vs = (kind k).spelling place vs
+spell_operand address k vs = (kind k).spelling address vs

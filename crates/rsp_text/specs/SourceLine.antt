@@ -1,4 +1,4 @@
--- What a line means, where the labels and its place are known.
+-- What a line means, given its address and the labels.
 use Rattle.std.specs.Prelude.{ℕ, ◌+◌, ◌*◌, nat_lt, Bool, false, List, [], ◌∷◌, ◌++◌, flat_map, Option, Some, None, is_some, Result, Ok, Err, if◌then◌else◌}
 use Rattle.std.specs.List.{list_any}
 use Rattle.rsp_text.specs.declared.fault.AsmFaultKind.{AsmFaultKind}
@@ -9,21 +9,21 @@ use Rattle.rsp_text.specs.Cuts.{cut}
 use Rattle.rsp_text.specs.Numbers.{is_label}
 use Rattle.rsp_text.specs.Statement.{Labels, find_label, Reading, Statement, readings, statement_of, size, number_fails, words_of}
 
--- the text of some lines, each with LF behind it
+-- the text of some lines, with LF after each
 abbrev pub text_of_lines : List (List ℕ) → List ℕ
 text_of_lines ls = flat_map (λ l. l ++ 10 ∷ []) ls
 
--- a line: its label, and the text of its statement
+-- the parts of a line: its label, and the text of its statement
 pub record Parts : Type 0 where
   pub label : Option (List ℕ)
   pub body : List ℕ
 
--- the part before a cut, or the whole text
+-- the part before the separator, or the whole text if it isn't cut
 abbrev pub front_of : Option (List ℕ × List ℕ) → List ℕ → List ℕ
 front_of None bs = bs
 front_of (Some p) bs = p.0
 
--- without comment and outer blanks
+-- a line without its comment, and without blanks at both ends
 abbrev pub code_of : List ℕ → List ℕ
 code_of bs = trim (front_of (cut Comment bs) bs)
 
@@ -31,6 +31,7 @@ abbrev pub labelled_parts : Option (List ℕ × List ℕ) → List ℕ → Optio
 labelled_parts None bs = Some (record { label = None; body = bs })
 labelled_parts (Some p) bs = if is_label p.0 then Some (record { label = Some p.0; body = skip_blanks p.1 }) else None
 
+-- the parts of a line; None if it is no line, or has a colon without a label's name before it
 abbrev pub split_line : List ℕ → Option Parts
 split_line bs = if is_line bs then labelled_parts (cut Colon (code_of bs)) (code_of bs) else None
 
@@ -55,40 +56,41 @@ line_size line = size_in (split_line line)
 
 -- ---- the first pass
 
+-- a line before has the same label
 abbrev pub is_twice : Labels → Option (List ℕ) → Bool
 is_twice labels None = false
 is_twice labels (Some name) = is_some (find_label labels name)
 
--- a number of a statement is out of its range, whatever the labels are
+-- an operand without a label is out of its range, whatever the labels are
 abbrev pub has_bad_number : ℕ → Result Statement AsmFaultKind → Bool
-has_bad_number place (Err kind) = false
-has_bad_number place (Ok s) = list_any (λ (r : Reading). number_fails place r.value) (readings s)
+has_bad_number address (Err kind) = false
+has_bad_number address (Ok s) = list_any (λ (r : Reading). number_fails address r.value) (readings s)
 
 abbrev pub statement_fault : ℕ → Result Statement AsmFaultKind → Option AsmFaultKind
-statement_fault place (Err kind) = Some kind
-statement_fault place (Ok s) =
-    if has_bad_number place (Ok s) then Some OutOfRange
-    else (if nat_lt 4096 (place + 4 * size s) then Some PastEnd else None)
+statement_fault address (Err kind) = Some kind
+statement_fault address (Ok s) =
+    if has_bad_number address (Ok s) then Some OutOfRange
+    else (if nat_lt 4096 (address + 4 * size s) then Some PastEnd else None)
 
 abbrev pub parts_fault : Labels → ℕ → Option Parts → Option AsmFaultKind
-parts_fault labels place None = Some BadLine
-parts_fault labels place (Some p) =
-    if is_twice labels p.label then Some LabelTwice else statement_fault place (statement_of p.body)
+parts_fault labels address None = Some BadLine
+parts_fault labels address (Some p) =
+    if is_twice labels p.label then Some LabelTwice else statement_fault address (statement_of p.body)
 
--- the fault that a line has behind lines with these labels
+-- the fault that the first pass finds in a line, after lines with these labels
 unfoldable pub first_fault : Labels → ℕ → List ℕ → Option AsmFaultKind
-first_fault labels place line = parts_fault labels place (split_line line)
+first_fault labels address line = parts_fault labels address (split_line line)
 
 -- ---- the second pass
 
 abbrev pub statement_words : Labels → ℕ → Result Statement AsmFaultKind → Result (List ℕ) AsmFaultKind
-statement_words labels place (Err kind) = Err kind
-statement_words labels place (Ok s) = words_of labels place s
+statement_words labels address (Err kind) = Err kind
+statement_words labels address (Ok s) = words_of labels address s
 
 abbrev pub parts_words : Labels → ℕ → Option Parts → Result (List ℕ) AsmFaultKind
-parts_words labels place None = Err BadLine
-parts_words labels place (Some p) = statement_words labels place (statement_of p.body)
+parts_words labels address None = Err BadLine
+parts_words labels address (Some p) = statement_words labels address (statement_of p.body)
 
--- the words of a line
+-- the words of a line, or the fault that the second pass finds
 unfoldable pub line_words : Labels → ℕ → List ℕ → Result (List ℕ) AsmFaultKind
-line_words labels place line = parts_words labels place (split_line line)
+line_words labels address line = parts_words labels address (split_line line)

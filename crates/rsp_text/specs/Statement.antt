@@ -1,4 +1,4 @@
--- What a statement means, where the labels and its place are known.
+-- What a statement means, given its address and the labels. A statement is a line without label and comment.
 use Rattle.std.specs.Prelude.{ℕ, suc, ◌^◌, ◌+◌, ◌-◌, ◌*◌, ◌/◌, ◌%◌, ◌==◌, nat_le, nat_lt, Bool, false, ◌&&◌, List, [], ◌∷◌, ◌++◌, length, map, find, is_none, Option, Some, None, option_map, option_and_then, Result, Ok, Err, if◌then◌else◌, codes, ℤ, pos, negsuc, ◌+ℤ◌}
 use Rattle.std.specs.List.{before_first, after_first, slice_split}
 use Rattle.std.specs.Str.{bytes_eq, str_eq_ignore_ascii_case}
@@ -16,10 +16,11 @@ pub use Rattle.rsp_text.specs.Operands.{Reading, one_register, pair, asks, base_
 
 -- ---- values
 
+-- labels with their addresses
 abbrev pub Labels : Type 0
 Labels = List (List ℕ × ℕ)
 
--- the place of a label
+-- the address of a label; None if no line has it
 abbrev pub find_label : Labels → List ℕ → Option ℕ
 find_label [] name = None
 find_label (l ∷ ls) name = if bytes_eq l.0 name then Some l.1 else find_label ls name
@@ -34,10 +35,10 @@ abbrev pub word : ℤ → Option ℕ
 word (pos n) = if nat_lt n 4294967296 then Some n else None
 word (negsuc n) = if nat_lt n 2147483648 then Some (4294967295 - n) else None
 
--- the offset of a branch at a place to a target, a multiple of 4 from 0 to 4092
+-- the field of a branch at an address: its target is a multiple of 4 from 0 to 4092, counted in words from the delay slot
 abbrev pub branch : ℕ → ℤ → Option ℕ
-branch place (pos t) = if nat_lt t 4096 && t % 4 == 0 then Some ((t / 4 + 65535 - place / 4) % 65536) else None
-branch place (negsuc t) = None
+branch address (pos t) = if nat_lt t 4096 && t % 4 == 0 then Some ((t / 4 + 65535 - address / 4) % 65536) else None
+branch address (negsuc t) = None
 
 -- a shift amount, from 0 to 31
 abbrev pub amount : ℤ → Option ℕ
@@ -54,21 +55,21 @@ abbrev pub scaled_offset : ℕ → ℤ → Option ℕ
 scaled_offset scale (pos n) = if n % scale == 0 && nat_lt (n / scale) 64 then Some (n / scale) else None
 scaled_offset scale (negsuc n) = if suc n % scale == 0 && nat_le (suc n / scale) 64 then Some (128 - suc n / scale) else None
 
--- the field of a value at a place
+-- the field of a value, for a statement at an address; None if it is out of range
 abbrev pub field : Slot → ℕ → ℤ → Option ℕ
-field Half place z = half z
-field Amount place z = amount z
-field Jump place z = jump z
-field Branch place z = branch place z
-field (Scaled scale) place z = scaled_offset scale z
-field Word place z = word z
+field Half address z = half z
+field Amount address z = amount z
+field Jump address z = jump z
+field Branch address z = branch address z
+field (Scaled scale) address z = scaled_offset scale z
+field Word address z = word z
 
--- where an expression counts from: 0, or its label
+-- the number to which an expression adds its offset: 0, or the address of its label
 abbrev pub label_place : Labels → Option (List ℕ) → Option ℕ
 label_place labels None = Some 0
 label_place labels (Some name) = find_label labels name
 
--- the value of an expression, where its label is known
+-- the value of an expression; None if no line has its label
 abbrev pub evaluate : Labels → Expression → Option ℤ
 evaluate labels e = option_map (λ p. pos p +ℤ e.offset) (label_place labels e.label)
 
@@ -77,20 +78,20 @@ or_out_of_range None = Err OutOfRange
 or_out_of_range (Some v) = Ok v
 
 abbrev pub field_of : Slot → ℕ → Option ℤ → Result ℕ AsmFaultKind
-field_of slot place None = Err LabelMissing
-field_of slot place (Some z) = or_out_of_range (field slot place z)
+field_of slot address None = Err LabelMissing
+field_of slot address (Some z) = or_out_of_range (field slot address z)
 
 abbrev pub then_registers : List ℕ → Result ℕ AsmFaultKind → Result (List ℕ) AsmFaultKind
 then_registers ns (Ok v) = Ok (v ∷ ns)
 then_registers ns (Err kind) = Err kind
 
 abbrev pub fields_with : Labels → ℕ → List ℕ → Option (Slot × Expression) → Result (List ℕ) AsmFaultKind
-fields_with labels place ns None = Ok ns
-fields_with labels place ns (Some v) = then_registers ns (field_of v.0 place (evaluate labels v.1))
+fields_with labels address ns None = Ok ns
+fields_with labels address ns (Some v) = then_registers ns (field_of v.0 address (evaluate labels v.1))
 
--- the fields of an operand
+-- the fields of an operand, or why it has none
 abbrev pub fields_of : Labels → ℕ → Reading → Result (List ℕ) AsmFaultKind
-fields_of labels place r = fields_with labels place r.registers r.value
+fields_of labels address r = fields_with labels address r.registers r.value
 
 abbrev pub append : Result (List ℕ) AsmFaultKind → Result (List ℕ) AsmFaultKind → Result (List ℕ) AsmFaultKind
 append (Err kind) later = Err kind
@@ -99,16 +100,17 @@ append (Ok vs) (Ok more) = Ok (vs ++ more)
 
 -- the fields of all operands, or the fault of the leftmost that has one
 abbrev pub all_fields : Labels → ℕ → List Reading → Result (List ℕ) AsmFaultKind
-all_fields labels place [] = Ok []
-all_fields labels place (r ∷ rs) = append (fields_of labels place r) (all_fields labels place rs)
+all_fields labels address [] = Ok []
+all_fields labels address (r ∷ rs) = append (fields_of labels address r) (all_fields labels address rs)
 
--- an operand is out of its range whatever the labels are
+-- an operand without a label is out of its range, whatever the labels are
 abbrev pub number_fails : ℕ → Option (Slot × Expression) → Bool
-number_fails place None = false
-number_fails place (Some v) = is_none v.1.label && is_none (field v.0 place v.1.offset)
+number_fails address None = false
+number_fails address (Some v) = is_none v.1.label && is_none (field v.0 address v.1.offset)
 
 -- ---- statements
 
+-- nothing; the numbers of .word; an instruction with its operands
 pub data Statement : Type 0 where
   nothing : Statement
   numbers : List Reading → Statement
@@ -129,18 +131,19 @@ abbrev pub one_word : Row → Result (List ℕ) AsmFaultKind → Result (List �
 one_word row (Err kind) = Err kind
 one_word row (Ok vs) = Ok (word_from row vs ∷ [])
 
+-- the words of a statement, or the fault of its leftmost operand that has one
 abbrev pub words_of : Labels → ℕ → Statement → Result (List ℕ) AsmFaultKind
-words_of labels place nothing = Ok []
-words_of labels place (numbers rs) = all_fields labels place rs
-words_of labels place (instruction row rs) = one_word row (all_fields labels place rs)
+words_of labels address nothing = Ok []
+words_of labels address (numbers rs) = all_fields labels address rs
+words_of labels address (instruction row rs) = one_word row (all_fields labels address rs)
 
 -- ---- the text of a statement
 
--- the row of a name, in either case
+-- the instruction with this name, in either case
 unfoldable pub row_named : List ℕ → Option Row
 row_named name = find (λ (r : Row). str_eq_ignore_ascii_case name r.name) rows
 
--- jalr $s, which links in $31
+-- jalr with one operand, which links in $31
 abbrev pub linking_row : Row
 linking_row = row (selector 0xfc00f83f (9 + 31 * 2 ^ 11) (codes "jalr")) (scalar 21 ∷ []) (one (JumpLinkRegister 31))
 
@@ -154,17 +157,17 @@ abbrev pub read_numbers : List (List ℕ) → Option (List Reading)
 read_numbers [] = Some []
 read_numbers (t ∷ ts) = option_and_then (λ e. option_map (λ rs. asks Word [] e ∷ rs) (read_numbers ts)) (expression_of t)
 
--- the texts of the operands
+-- the texts of the operands, between commas, without blanks at their ends
 abbrev pub operand_texts : List ℕ → List (List ℕ)
 operand_texts bs = if length bs == 0 then [] else map trim (slice_split (is_boundary Comma) bs)
 
--- a name of the table, or one of the two beside it
+-- the name of a statement: nop, .word, or an instruction of the table
 pub data Form : Type 0 where
   no_operation : Form
   numbers_form : Form
   row_form : Row → Form
 
--- the form of a name that stands before so many operands
+-- the form of a name with so many operands; None if no statement has the name
 abbrev pub form_named : List ℕ → ℕ → Option Form
 form_named name count =
     if str_eq_ignore_ascii_case name (codes "nop") then Some no_operation
@@ -172,7 +175,7 @@ form_named name count =
     else (if str_eq_ignore_ascii_case name (codes "jalr") && count == 1 then Some (row_form linking_row)
     else option_map row_form (row_named name)))
 
--- nop is .word 0
+-- the statement of a form with these operands; None if it doesn't take them. nop is .word 0.
 abbrev pub form_readings : Form → List (List ℕ) → Option Statement
 form_readings no_operation [] = Some (numbers (asks Word [] zero_expression ∷ []))
 form_readings no_operation (t ∷ ts) = None
@@ -191,7 +194,7 @@ with_form (Some form) ts = with_operands (form_readings form ts)
 abbrev pub statement_with : List ℕ → List (List ℕ) → Result Statement AsmFaultKind
 statement_with name ts = with_form (form_named name (length ts)) ts
 
--- what the text of a statement says
+-- what the text of a statement says: a name up to the first blank, then operands
 abbrev pub statement_of : List ℕ → Result Statement AsmFaultKind
 statement_of bs =
     if length bs == 0 then Ok nothing

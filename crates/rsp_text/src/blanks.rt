@@ -1,4 +1,4 @@
-// Blanks, and a text without those at its ends.
+// Blanks: what the assembler takes for whitespace.
 
 ghost use Rattle.std.specs.Prelude.{◌≡◌, length, reverse, ◌≤◌};
 ghost use Rattle.rsp_text.specs.Chars.{is_blank, skip_blanks, trim};
@@ -11,7 +11,7 @@ pub(crate) fn is_blank(c: u8) -> bool
     c == b' ' || c == b'\t'
 }
 
-/// The text without the blanks in front.
+/// `text` without the blanks at its start.
 pub fn skip_blanks(text: &[u8]) -> &[u8]
     ensures value { result.now ≡ skip_blanks text.now }
     ensures len { length result.now ≤ length text.now }
@@ -26,7 +26,7 @@ pub fn skip_blanks(text: &[u8]) -> &[u8]
     text
 }
 
-/// The text without the blanks at its end.
+/// `text` without the blanks at its end.
 fn drop_last_blanks(text: &[u8]) -> &[u8]
     ensures value { result.now ≡ reverse (skip_blanks (reverse text.now)) }
     ensures len { length result.now ≤ length text.now }
@@ -41,7 +41,7 @@ fn drop_last_blanks(text: &[u8]) -> &[u8]
     text
 }
 
-/// The text without the blanks on either side.
+/// `text` without the blanks at both ends.
 pub fn trim(text: &[u8]) -> &[u8]
     ensures value { result.now ≡ trim text.now }
     ensures len { length result.now ≤ length text.now }

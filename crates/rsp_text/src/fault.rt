@@ -1,25 +1,25 @@
 use thiserror::Error;
 
-/// Why a text has no meaning.
+/// Why a source text is refused. The number is the fault's, as a script and the program print it.
 #[derive(Clone, Copy, PartialEq, Eq, Debug, Error)]
 #[error("{}", self.as_str())]
 pub enum AsmFaultKind {
-    /// 10: the line is longer than 256 bytes, has a byte that is neither printed nor a tab, or what stands before its
-    /// colon is no label name.
+    /// 10: the line has more than 256 bytes, or a byte that is neither a tab nor 20 to 7e hexadecimal, or the text before its
+    /// first colon is no label's name.
     BadLine,
-    /// 11: no statement has this name.
+    /// 11: no instruction has this name, nor is it `nop` or `.word`.
     UnknownName,
-    /// 12: the number or the form of the operands is another.
+    /// 12: there are too few or too many operands, or one that isn't of the kind that the statement has there.
     BadOperand,
-    /// 13: a value is out of its range.
+    /// 13: the value of an operand is out of its range.
     OutOfRange,
-    /// 14: a line before it has this label.
+    /// 14: an earlier line has the same label.
     LabelTwice,
-    /// 15: no line has this label.
+    /// 15: no line of the text has the label that an operand names.
     LabelMissing,
-    /// 16: a word would stand at 4096 or later.
+    /// 16: a word would be at address 4096 or higher, after the end of IMEM.
     PastEnd,
-    /// 17: there was no memory for the labels.
+    /// 17: there was no memory for the line's label. It is the one fault that isn't the text's.
     OutOfMemory,
 }
 
@@ -27,7 +27,7 @@ impl AsmFaultKind {
     ghost use Rattle.std.specs.Prelude.{◌≡◌, ◌≤◌, length};
     ghost use Rattle.rsp_text.specs.Faults.{kind_name};
 
-    /// The number and the name of the fault.
+    /// The fault's number, a space and its name, at most 15 bytes: `10 BadLine`.
     pub fn as_str(self) -> &'static str
         ensures text { result.now ≡ kind_name self }
         ensures short { length result.now ≤ 15 }
@@ -45,12 +45,12 @@ impl AsmFaultKind {
     }
 }
 
-/// A fault, and the number of its line, from 1.
+/// Why a source text is refused, and at which line.
 #[derive(Clone, Copy, PartialEq, Eq, Debug, Error)]
 #[error("fault {kind} line {line}")]
 pub struct AsmFault {
-    /// The number of the line.
+    /// The line's number, from 1.
     pub line: usize,
-    /// What is wrong with it.
+    /// What is wrong with the line.
     pub kind: AsmFaultKind,
 }

@@ -1,15 +1,15 @@
-//! What a text is made of: blanks, the bytes of names, and lines.
+//! The syntax of the assembler: lines, numbers, expressions, and the names of registers and instructions.
 //!
-//! The text of instructions: where it is cut, how numbers, expressions and names are read, and the rows of the
-//! instruction table by name and by word.
+//! The functions here read one piece of a text each. Assembler, disassembler and the readers of scripts share them.
 //!
-//! The definitions in `specs` say what a source text means: its words, or the fault of the lowest line that has one. Beside
-//! it, `Spell` says how a word is written.
+//! The definitions in `specs` are the whole syntax. `Means` says which words a source text assembles to, or at which line it
+//! is refused and why; `Spell` says how a word is disassembled. No function of this crate does either as a whole.
 #![tactic(auto)]
 
 mod blanks;
 mod expression;
 mod fault;
+mod hex;
 mod lines;
 mod name_bytes;
 mod names;
@@ -22,8 +22,10 @@ mod text;
 pub use blanks::{skip_blanks, trim};
 pub use expression::{Expression, is_label, read_expression};
 pub use fault::{AsmFault, AsmFaultKind};
+pub use hex::hex_digit;
 pub use lines::{MAX_LINE_LEN, is_line, is_text, without_return};
 pub use names::{control, element, scalar, small_number, sp_register, vector};
+pub use numbers::read_unsigned;
 pub use search::{len_before, len_before_blank};
 pub use slot::Slot;
 pub use table::{find_row, select_row};

@@ -1,14 +1,14 @@
-// The bytes of a line, and its end.
+// Lines: which bytes they may have, how many, and how they end.
 
 ghost use Rattle.std.specs.Prelude.{◌≡◌};
 ghost use Rattle.std.specs.List.{list_all};
 ghost use Rattle.std.specs.Str.Lines.{strip_carriage_return};
 ghost use Rattle.rsp_text.specs.Chars.{is_plain, is_line};
 
-/// The most bytes that a line has.
+/// The greatest length of a line in bytes, without its line ending.
 pub const MAX_LINE_LEN: usize = 256;
 
-/// What may stand in a line: a tab, or 20 to 7e hexadecimal.
+/// Whether a line may contain this byte: a tab, or printable ASCII, which is 20 to 7e hexadecimal.
 #[inline]
 pub(crate) fn is_plain(c: u8) -> bool
     ensures { result ≡ is_plain c }
@@ -16,7 +16,8 @@ pub(crate) fn is_plain(c: u8) -> bool
     c == b'\t' || matches!(c, b' '..=b'~')
 }
 
-/// Whether each byte may stand in a line. It looks at all of them, many at a time.
+/// Whether a line may contain each of the bytes: tabs and 20 to 7e hexadecimal. It doesn't stop at the first other byte, so
+/// that the loop has no branch and takes many bytes at a time.
 pub fn is_text(line: &[u8]) -> bool
     ensures { result ≡ list_all is_plain line.now }
 {
@@ -27,14 +28,14 @@ pub fn is_text(line: &[u8]) -> bool
     plain
 }
 
-/// Whether a line has at most 256 bytes, and each of them may stand in a line.
+/// Whether `line`, given without its line ending, has at most 256 bytes, all of them tabs and 20 to 7e hexadecimal.
 pub fn is_line(line: &[u8]) -> bool
     ensures { result ≡ is_line line.now }
 {
     line.len() <= MAX_LINE_LEN && is_text(line)
 }
 
-/// A line without the one carriage return at its end.
+/// `line` without the carriage return at its end, if there is one. Only the last is removed.
 pub fn without_return(line: &[u8]) -> &[u8]
     ensures { result.now ≡ strip_carriage_return line.now }
 {

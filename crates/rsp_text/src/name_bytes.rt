@@ -1,9 +1,9 @@
-// The bytes of names.
+// The bytes of a label's name.
 
 ghost use Rattle.std.specs.Prelude.{◌≡◌};
 ghost use Rattle.rsp_text.specs.Chars.{is_name_byte, is_name_start};
 
-/// What a name may begin with: a letter, or `_`.
+/// Whether a name may begin with this byte: a letter or `_`.
 #[inline]
 pub(crate) fn is_name_start(c: u8) -> bool
     ensures { result ≡ is_name_start c }
@@ -11,7 +11,7 @@ pub(crate) fn is_name_start(c: u8) -> bool
     matches!(c, b'A'..=b'Z' | b'a'..=b'z' | b'_')
 }
 
-/// What may stand in a name: a letter, a digit, or `_`.
+/// Whether a name may contain this byte: a letter, a digit or `_`.
 #[inline]
 pub(crate) fn is_name_byte(c: u8) -> bool
     ensures { result ≡ is_name_byte c }

@@ -1,10 +1,11 @@
-// The names of registers, elements and lanes.
+// Names of registers, and of elements of vector registers. Their letters may be in either case.
 
 ghost use Rattle.std.specs.Prelude.{◌≡◌, ◌≤◌, map};
 ghost use Rattle.rsp_text.specs.Names.{look_up, small_number, scalar_named, scalar_names, vector_named, sp_named, control_named, element_named};
 
 use crate::text::is_same;
 
+/// The names of scalar registers beside `$0` to `$31`.
 static SCALARS: [(&str, u8); 31] = [
     ("$zero", 0),
     ("$at", 1),
@@ -39,7 +40,7 @@ static SCALARS: [(&str, u8); 31] = [
     ("$ra", 31),
 ];
 
-/// The number beside the name, in either case.
+/// The number beside a name, whose letters may be in either case; None if the table hasn't the name.
 fn look_up(table: &[(&str, u8)], text: &[u8]) -> Option<u8>
     ensures { result ≡ look_up (map (λ e. (e.0.now, e.1)) table.now) text.now }
 {
@@ -51,7 +52,7 @@ fn look_up(table: &[(&str, u8)], text: &[u8]) -> Option<u8>
     None
 }
 
-/// A number below `limit`, of one digit, or of two of which the first is no 0.
+/// Reads a decimal number below `limit`, of one digit, or of two digits without a leading zero. None if the text is none.
 pub fn small_number(text: &[u8], limit: u8) -> Option<u8>
     ensures { result ≡ small_number limit text.now }
 {
@@ -63,7 +64,7 @@ pub fn small_number(text: &[u8], limit: u8) -> Option<u8>
     if number < limit { Some(number) } else { None }
 }
 
-/// The number of a scalar register: `$0` to `$31`, or a name as `$sp`.
+/// The number of a scalar register, 0 to 31: of `$0` to `$31`, or of a name such as `$sp` or `$zero`. None of another text.
 pub fn scalar(text: &[u8]) -> Option<u8>
     ensures { result ≡ scalar_named text.now }
 {
@@ -75,7 +76,7 @@ pub fn scalar(text: &[u8]) -> Option<u8>
     look_up(&SCALARS, text)
 }
 
-/// The number of a vector register, `$v0` to `$v31`.
+/// The number of a vector register, 0 to 31: of `$v0` to `$v31`. None of another text.
 pub fn vector(text: &[u8]) -> Option<u8>
     ensures { result ≡ vector_named text.now }
 {
@@ -85,7 +86,7 @@ pub fn vector(text: &[u8]) -> Option<u8>
     }
 }
 
-/// The number of an SP register, `$c0` to `$c15`.
+/// The number of an SP register, 0 to 15: of `$c0` to `$c15`. None of another text.
 pub fn sp_register(text: &[u8]) -> Option<u8>
     ensures { result ≡ sp_named text.now }
 {
@@ -97,13 +98,14 @@ pub fn sp_register(text: &[u8]) -> Option<u8>
 
 static CONTROLS: [(&str, u8); 3] = [("$vco", 0), ("$vcc", 1), ("$vce", 2)];
 
-/// The number of a control register of the vector unit: `$vco`, `$vcc` or `$vce`.
+/// The number of a control register of the vector unit: 0 of `$vco`, 1 of `$vcc`, 2 of `$vce`. None of another text.
 pub fn control(text: &[u8]) -> Option<u8>
     ensures { result ≡ control_named text.now }
 {
     look_up(&CONTROLS, text)
 }
 
+/// The elements of computing instructions with their codes; code 0 is the element of a register without brackets.
 static ELEMENTS: [(&str, u8); 15] = [
     ("v", 1),
     ("0q", 2),
@@ -122,7 +124,8 @@ static ELEMENTS: [(&str, u8); 15] = [
     ("7", 15),
 ];
 
-/// The element of a computing row, by what stands between the brackets.
+/// The code of a computing instruction's element, 1 to 15, by the text between the brackets: `v`, `0q`, `1q`, `0h` to `3h`, or
+/// a lane `0` to `7`. None of another text.
 pub fn element(text: &[u8]) -> Option<u8>
     ensures { result ≡ element_named text.now }
 {

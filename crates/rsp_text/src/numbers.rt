@@ -1,13 +1,14 @@
-// Numbers of any length.
+// Numbers, of any length.
 
 ghost use Rattle.std.specs.Prelude.{◌≡◌, ◌≤◌, ◌^◌, pos, neg_ℤ, IfSome, option_map};
 ghost use Rattle.rsp_text.specs.Numbers.{numeral, signed_number, unsigned_of, signed_of};
 ghost use Rattle.rsp_text.specs.Seen.{capped, capped_ℤ, many};
 
-/// Beyond each range of an expression: a greater number counts as this one.
+/// The greatest number that is kept. It is out of each operand's range, so a greater one may be replaced by it, and a number of
+/// any length can be read without overflow.
 const MANY: u64 = 1 << 40;
 
-/// The number that one or more digits write. None of another text.
+/// The number that one or more digits write in this radix, clamped to `MANY`. None of another text.
 fn numeral(text: &[u8], radix: u32) -> Option<u64>
     requires low { 2 ≤ radix }
     requires high { radix ≤ 16 }
@@ -25,9 +26,9 @@ fn numeral(text: &[u8], radix: u32) -> Option<u64>
     Some(value)
 }
 
-/// A number without a sign, of any length: decimal digits, or `0x` and hexadecimal ones. A number above 2^40 counts as
-/// that. None of another text.
-pub(crate) fn unsigned(text: &[u8]) -> Option<u64>
+/// Reads a number without a sign, of any length: decimal digits, or `0x` and hexadecimal digits in either case. A number above
+/// 2^40 is returned as 2^40. None if the text is no number; so of `0X10`, whose prefix is in upper case.
+pub fn read_unsigned(text: &[u8]) -> Option<u64>
     ensures value { result ≡ option_map capped (unsigned_of text.now) }
     ensures below { IfSome result (λ n. n ≤ many) }
 {
@@ -37,7 +38,7 @@ pub(crate) fn unsigned(text: &[u8]) -> Option<u64>
     }
 }
 
-/// The number itself.
+/// The number as a signed one.
 fn positive(n: u64) -> i64
     requires { n ≤ many }
     ensures { result ≡ pos n }
@@ -45,7 +46,7 @@ fn positive(n: u64) -> i64
     n as i64
 }
 
-/// The number below 0.
+/// The number with a minus.
 fn negative(n: u64) -> i64
     requires { n ≤ many }
     ensures { result ≡ neg_ℤ (pos n) }
@@ -53,7 +54,7 @@ fn negative(n: u64) -> i64
     -(n as i64)
 }
 
-/// The number with its sign.
+/// The number with a sign.
 pub(crate) fn signed(n: u64, is_negative: bool) -> i64
     requires { n ≤ many }
     ensures { result ≡ signed_number is_negative n }
@@ -65,19 +66,19 @@ pub(crate) fn signed(n: u64, is_negative: bool) -> i64
     }
 }
 
-/// The number below 0 that these digits write.
+/// The number that `-` and these digits write.
 fn negated(digits: &[u8]) -> Option<i64>
     ensures { result ≡ option_map capped_ℤ (option_map (λ n. neg_ℤ (pos n)) (unsigned_of digits.now)) }
 {
-    Some(negative(unsigned(digits)?))
+    Some(negative(read_unsigned(digits)?))
 }
 
-/// A number as [`unsigned`] reads it, or `-` and such a number.
+/// Reads a number as [`read_unsigned`] does, with an optional `-` before it.
 pub(crate) fn number(text: &[u8]) -> Option<i64>
     ensures { result ≡ option_map capped_ℤ (signed_of text.now) }
 {
     if let [b'-', digits @ ..] = text {
         return negated(digits);
     }
-    Some(positive(unsigned(text)?))
+    Some(positive(read_unsigned(text)?))
 }

@@ -1,4 +1,4 @@
-// Where a byte first stands in a text.
+// The index of the first byte of a kind.
 
 ghost use Rattle.std.specs.Prelude.{◌≡◌, ◌≤◌, ◌==◌, length};
 ghost use Rattle.std.specs.List.{position_or_len};
@@ -6,7 +6,7 @@ ghost use Rattle.rsp_text.specs.Chars.{is_blank};
 
 use memchr::{memchr, memchr2};
 
-/// How many bytes stand before the first that is this one.
+/// How many bytes are before the first `byte`: all of them if the text has none.
 #[tactic(auto, using(crate::proofs::Trims::first_places))]
 pub fn len_before(byte: u8, text: &[u8]) -> usize
     ensures value { result ≡ position_or_len (λ b. b == byte) text.now }
@@ -18,7 +18,7 @@ pub fn len_before(byte: u8, text: &[u8]) -> usize
     }
 }
 
-/// How many bytes stand before the first blank.
+/// How many bytes are before the first blank, a space or a tab: all of them if the text has none.
 #[tactic(auto, using(crate::proofs::Trims::first_places))]
 pub fn len_before_blank(text: &[u8]) -> usize
     ensures value { result ≡ position_or_len is_blank text.now }

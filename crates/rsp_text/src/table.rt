@@ -1,4 +1,4 @@
-// The rows of the instruction table, by name and by word.
+// Search of the instruction table, by name and by word.
 
 ghost use Rattle.std.specs.Prelude.{◌≡◌, map, find, option_map};
 ghost use Rattle.rsp_decode.specs.Table.{entry, entry_of, row_of};
@@ -8,6 +8,7 @@ ghost use Rattle.rsp_text.specs.Statement.{row_named};
 use crate::text::is_same;
 use rsp_decode::{TableRow, table};
 
+/// The first row with this name, in either case.
 fn find_in(rows: &'static [TableRow], name: &[u8]) -> Option<TableRow>
     ensures { option_map entry result ≡ find (has_name name.now) (map entry rows.now) }
 {
@@ -19,13 +20,14 @@ fn find_in(rows: &'static [TableRow], name: &[u8]) -> Option<TableRow>
     None
 }
 
-/// The row of a name, in either case.
+/// The instruction with this name, in either case; None if there is none.
 pub fn find_row(name: &[u8]) -> Option<TableRow>
     ensures { option_map entry result ≡ option_map entry_of (row_named name.now) }
 {
     find_in(table(), name)
 }
 
+/// The first row whose fixed bits are those of the word.
 fn select_in(rows: &'static [TableRow], word: u32) -> Option<TableRow>
     ensures { option_map entry result ≡ find (is_selected word) (map entry rows.now) }
 {
@@ -37,7 +39,7 @@ fn select_in(rows: &'static [TableRow], word: u32) -> Option<TableRow>
     None
 }
 
-/// The row that a word fits; None for a reserved word.
+/// The instruction of a word; None of a reserved word. The bits of the word that the instruction ignores may be set.
 pub fn select_row(word: u32) -> Option<TableRow>
     ensures { option_map entry result ≡ option_map entry_of (row_of word) }
 {

@@ -1,4 +1,4 @@
-// Where a text is cut.
+// Cutting a text in two, and comparing names.
 
 ghost use Rattle.std.specs.Prelude.{◌≡◌, option_map};
 ghost use Rattle.rsp_text.specs.Cuts.{cut};
@@ -6,22 +6,22 @@ ghost use Rattle.std.specs.Str.{str_eq_ignore_ascii_case};
 
 use crate::blanks::is_blank;
 
-/// The bytes at which a text is cut: at the first of them.
+/// The separators of the assembler's syntax.
 #[derive(Clone, Copy, PartialEq, Eq, Debug)]
 pub enum Boundary {
     /// A space or a tab.
     Blank,
-    /// `:`
+    /// `:` after a label.
     Colon,
-    /// The end of a line.
+    /// A line feed.
     Newline,
-    /// `,`
+    /// `,` between operands.
     Comma,
-    /// `#` or `;`
+    /// `#` or `;`, which begin a comment.
     Comment,
-    /// `[`
+    /// `[` before an element, a byte or a lane.
     Bracket,
-    /// `(`
+    /// `(` before a base register.
     Parenthesis,
     /// `+`
     Plus,
@@ -32,7 +32,7 @@ pub enum Boundary {
 impl Boundary {
     ghost use Rattle.rsp_text.specs.Cuts.{is_boundary};
 
-    /// Whether a text is cut at this byte.
+    /// Whether this byte is such a separator.
     fn is_at(self, c: u8) -> bool
         ensures { result ≡ is_boundary self c }
     {
@@ -50,7 +50,7 @@ impl Boundary {
     }
 }
 
-/// The part before the first such byte, and the part after it; None where there is none.
+/// Cuts a text at its first separator of this kind: the part before it, and the part after it. None if the text has none.
 pub fn cut(text: &[u8], boundary: Boundary) -> Option<(&[u8], &[u8])>
     ensures { option_map (λ p. (p.0.now, p.1.now)) result ≡ cut boundary text.now }
 {
@@ -62,7 +62,7 @@ pub fn cut(text: &[u8], boundary: Boundary) -> Option<(&[u8], &[u8])>
     None
 }
 
-/// Whether two names are the same, their letters in either case.
+/// Whether two names are equal, with ASCII letters in either case.
 pub fn is_same(a: &[u8], b: &[u8]) -> bool
     ensures { result ≡ str_eq_ignore_ascii_case a.now b.now }
 {

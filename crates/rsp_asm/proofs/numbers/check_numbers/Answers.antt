@@ -11,13 +11,13 @@ use Rattle.rsp_asm.proofs.Statements.{numbers_checked}
 use Rattle.rsp_asm.proofs.numbers.check_numbers.Goals as goal
 
 pub returns-in_default-is_number_out_of_range : goal.returns-in_default-is_number_out_of_range
-returns-in_default-is_number_out_of_range c place =
+returns-in_default-is_number_out_of_range c address =
     let ts = operand_texts c.args.text.now in
     let some = some_texts c.args.text.now (sym c.is_empty.ensures ∙ c.if-is_empty.false) in
-    ap (checked_readings place c.loop-operand.bad (length ts)) (numbers_unread word_fails c.in-Some.operand.now c.next.new.self c.in_default-is_number_out_of_range.ensures)
-    ∙ ap (λ (left : List (List ℕ)). checked_readings place c.loop-operand.bad (length ts) (read_numbers left)) (sym c.in-Some.ensures)
-    ∙ c.loop-operand.invariant.0 place
-    ∙ numbers_checked place ts some
+    ap (checked_readings address c.loop-operand.bad (length ts)) (numbers_unread word_fails c.in-Some.operand.now c.next.new.self c.in_default-is_number_out_of_range.ensures)
+    ∙ ap (λ (left : List (List ℕ)). checked_readings address c.loop-operand.bad (length ts) (read_numbers left)) (sym c.in-Some.ensures)
+    ∙ c.loop-operand.invariant.0 address
+    ∙ numbers_checked address ts some
 
 pub loop-operand-preserved : goal.loop-operand-preserved
 loop-operand-preserved c =
@@ -27,31 +27,31 @@ loop-operand-preserved c =
     let bad = c.loop-operand.bad in
     let taken = ap length c.in-Some.ensures in
     let count = c.loop-operand.invariant.1 in (
-      (λ (place : ℕ). checked_next place (length ts) bad (option_map (asks Word []) (expression_of t)) (read_numbers left) c.in-Some-is_number_out_of_range.beyond (c.in-Some-is_number_out_of_range.ensures ∙ word_fails_so place (expression_of t))
-          ∙ ap (checked_readings place bad (length ts)) (sym (numbers_first t left))
-          ∙ ap (λ (xs : List (List ℕ)). checked_readings place bad (length ts) (read_numbers xs)) (sym c.in-Some.ensures)
-          ∙ c.loop-operand.invariant.0 place),
+      (λ (address : ℕ). checked_next address (length ts) bad (option_map (asks Word []) (expression_of t)) (read_numbers left) c.in-Some-is_number_out_of_range.beyond (c.in-Some-is_number_out_of_range.ensures ∙ word_fails_so address (expression_of t))
+          ∙ ap (checked_readings address bad (length ts)) (sym (numbers_first t left))
+          ∙ ap (λ (xs : List (List ℕ)). checked_readings address bad (length ts) (read_numbers xs)) (sym c.in-Some.ensures)
+          ∙ c.loop-operand.invariant.0 address),
       omega (arith, taken, count),
       c.loop-operand.invariant.2,
     )
 
 pub returns-then-bad : goal.returns-then-bad
-returns-then-bad c place =
+returns-then-bad c address =
     let ts = operand_texts c.args.text.now in
     let some = some_texts c.args.text.now (sym c.is_empty.ensures ∙ c.if-is_empty.false) in
-    ap (λ b. checked_readings place b (length ts) (read_numbers [])) (sym c.if-bad.true)
-    ∙ ap (λ (left : List (List ℕ)). checked_readings place c.loop-operand.bad (length ts) (read_numbers left)) (sym c.in_default.ensures)
-    ∙ c.loop-operand.invariant.0 place
-    ∙ numbers_checked place ts some
+    ap (λ b. checked_readings address b (length ts) (read_numbers [])) (sym c.if-bad.true)
+    ∙ ap (λ (left : List (List ℕ)). checked_readings address c.loop-operand.bad (length ts) (read_numbers left)) (sym c.in_default.ensures)
+    ∙ c.loop-operand.invariant.0 address
+    ∙ numbers_checked address ts some
 
 pub returns : goal.returns
-returns c place =
+returns c address =
     let ts = operand_texts c.args.text.now in
     let some = some_texts c.args.text.now (sym c.is_empty.ensures ∙ c.if-is_empty.false) in
     let none = ap length c.in_default.ensures in
     let count = c.loop-operand.invariant.1 in
     ap Ok (omega (arith, none, count))
-    ∙ ap (λ b. checked_readings place b (length ts) (read_numbers [])) (sym c.if-bad.false)
-    ∙ ap (λ (left : List (List ℕ)). checked_readings place c.loop-operand.bad (length ts) (read_numbers left)) (sym c.in_default.ensures)
-    ∙ c.loop-operand.invariant.0 place
-    ∙ numbers_checked place ts some
+    ∙ ap (λ b. checked_readings address b (length ts) (read_numbers [])) (sym c.if-bad.false)
+    ∙ ap (λ (left : List (List ℕ)). checked_readings address c.loop-operand.bad (length ts) (read_numbers left)) (sym c.in_default.ensures)
+    ∙ c.loop-operand.invariant.0 address
+    ∙ numbers_checked address ts some

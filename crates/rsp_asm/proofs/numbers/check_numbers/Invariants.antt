@@ -6,7 +6,7 @@ use Rattle.rsp_asm.proofs.numbers.check_numbers.Given as goal
 abbrev pub invariant-loop-operand : goal.invariant-loop-operand
 invariant-loop-operand l =
     let ts = operand_texts l.text in
-    ((place : ℕ) → checked_readings place l.bad (length ts) (read_numbers l.operands) ≡ checked_readings place false (length ts) (read_numbers ts))
+    ((address : ℕ) → checked_readings address l.bad (length ts) (read_numbers l.operands) ≡ checked_readings address false (length ts) (read_numbers ts))
     × (l.count + length l.operands ≡ length ts) × (length ts ≤ length l.text + 1)
 
 abbrev pub decreases-loop-operand : goal.decreases-loop-operand

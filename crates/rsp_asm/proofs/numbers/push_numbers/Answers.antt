@@ -8,7 +8,7 @@ use Rattle.rsp_asm.proofs.Statements.{numbers_said, numbers_full, all_put, none_
 use Rattle.rsp_asm.proofs.numbers.push_numbers.Goals as goal
 
 pub returns-in-None : goal.returns-in-None
-returns-in-None c place =
+returns-in-None c address =
     let ts = operand_texts c.args.text.now in
     let labels = c.args.labels.now in
     let old = c.args.words.now.items in
@@ -16,7 +16,7 @@ returns-in-None c place =
     let fault = c.loop-operand.fault in
     let some = some_texts c.args.text.now (sym c.is_empty.ensures ∙ c.if-is_empty.false) in
     let part = subst (λ (left : List (List ℕ)). Part labels old new fault left ts) c.in-Some.ensures c.loop-operand.invariant in
-    sym (numbers_said labels place ts some) ∙ part_unread labels old new fault c.in-Some.operand.now c.next.new.self ts part c.in-None.ensures place
+    sym (numbers_said labels address ts some) ∙ part_unread labels old new fault c.in-Some.operand.now c.next.new.self ts part c.in-None.ensures address
 
 pub loop-operand-preserved-in-Some-Err : goal.loop-operand-preserved-in-Some-Err
 loop-operand-preserved-in-Some-Err c =
@@ -30,7 +30,7 @@ loop-operand-preserved-in-Some-Err c =
     (part_fault labels old new fault c.in-Some.operand.now c.next.new.self ts part c.in-Some-Err.kind (ap Some (sym c.in-Some-Err.field-0-is) ∙ c.in-Some-Err.ensures))
 
 pub returns-then-is_err : goal.returns-then-is_err
-returns-then-is_err c place =
+returns-then-is_err c address =
     let ts = operand_texts c.args.text.now in
     let labels = c.args.labels.now in
     let old = c.args.words.now.items in
@@ -41,7 +41,7 @@ returns-then-is_err c place =
     let kept = ap length part.kept in
     let full = on_err c.try_push.result _ (sym c.is_err.ensures.value ∙ c.if-is_err.true) c.try_push.ensures.full in
     let room = c.requires in
-    numbers_full labels place ts some (length part.words)
+    numbers_full labels address ts some (length part.words)
     (omega (arith, room, kept, full, length-append old part.words))
     (omega (arith, few, taken))
 
@@ -57,21 +57,21 @@ loop-operand-preserved c =
     (on_ok c.try_push.result _ (sym c.is_err.ensures.value ∙ c.if-is_err.false) c.try_push.ensures.ok)
 
 pub returns-in-None-fault : goal.returns-in-None-fault
-returns-in-None-fault c place =
+returns-in-None-fault c address =
     let ts = operand_texts c.args.text.now in
     let labels = c.args.labels.now in
     let old = c.args.words.now.items in
     let new = c.loop-operand.words.items in
     let some = some_texts c.args.text.now (sym c.is_empty.ensures ∙ c.if-is_empty.false) in
-    all_put labels place ts some old new
+    all_put labels address ts some old new
     (subst (λ f. Part labels old new f [] ts) c.in-None-fault.is (subst (λ (left : List (List ℕ)). Part labels old new c.loop-operand.fault left ts) c.in_default.ensures c.loop-operand.invariant))
 
 pub returns-in-Some-fault : goal.returns-in-Some-fault
-returns-in-Some-fault c place =
+returns-in-Some-fault c address =
     let ts = operand_texts c.args.text.now in
     let labels = c.args.labels.now in
     let old = c.args.words.now.items in
     let new = c.loop-operand.words.items in
     let some = some_texts c.args.text.now (sym c.is_empty.ensures ∙ c.if-is_empty.false) in
-    none_put labels place ts some old new c.in-Some-fault.kind
+    none_put labels address ts some old new c.in-Some-fault.kind
     (subst (λ f. Part labels old new f [] ts) c.in-Some-fault.is (subst (λ (left : List (List ℕ)). Part labels old new c.loop-operand.fault left ts) c.in_default.ensures c.loop-operand.invariant))

@@ -19,8 +19,8 @@ returns-in_default c =
     let i = c.loop-kind.kind-index in
     let labels = c.args.labels.now in
     let w = so_far c.loop-kind.fault c.loop-kind.word in
-    ap (word_with labels c.args.place w (flat_map bit_fields (drop i kinds))) (sym (too_few kinds i (omega arith) (Scalar 0)))
-    ∙ ap (λ (ts : List (List ℕ)). word_with labels c.args.place w (flat_map bit_fields (drop i kinds)) (read_all (drop i kinds) ts)) (sym c.in_default.ensures)
+    ap (word_with labels c.args.address w (flat_map bit_fields (drop i kinds))) (sym (too_few kinds i (omega arith) (Scalar 0)))
+    ∙ ap (λ (ts : List (List ℕ)). word_with labels c.args.address w (flat_map bit_fields (drop i kinds)) (read_all (drop i kinds) ts)) (sym c.in_default.ensures)
     ∙ c.loop-kind.invariant
 
 pub returns-in_default-put_operand : goal.returns-in_default-put_operand
@@ -29,9 +29,9 @@ returns-in_default-put_operand c =
     let i = c.loop-kind.kind-index in
     let labels = c.args.labels.now in
     let w = so_far c.loop-kind.fault c.loop-kind.word in
-    let put : statement.Reading → Result ℕ AsmFaultKind = λ (r : statement.Reading). with_values c.loop-kind.word (bit_fields (get_or kinds i (Scalar 0))) (fields_of labels c.args.place r) in
-    ap (word_with labels c.args.place w (flat_map bit_fields (drop i kinds))) (first_unread kinds i (omega arith) put _ c.in-Some.operand.now c.next.new.self c.in_default-put_operand.ensures)
-    ∙ ap (λ (ts : List (List ℕ)). word_with labels c.args.place w (flat_map bit_fields (drop i kinds)) (read_all (drop i kinds) ts)) (sym c.in-Some.ensures)
+    let put : statement.Reading → Result ℕ AsmFaultKind = λ (r : statement.Reading). with_values c.loop-kind.word (bit_fields (get_or kinds i (Scalar 0))) (fields_of labels c.args.address r) in
+    ap (word_with labels c.args.address w (flat_map bit_fields (drop i kinds))) (first_unread kinds i (omega arith) put _ c.in-Some.operand.now c.next.new.self c.in_default-put_operand.ensures)
+    ∙ ap (λ (ts : List (List ℕ)). word_with labels c.args.address w (flat_map bit_fields (drop i kinds)) (read_all (drop i kinds) ts)) (sym c.in-Some.ensures)
     ∙ c.loop-kind.invariant
 
 pub put_operand-requires-clause-room : goal.put_operand-requires-clause-room
@@ -46,6 +46,6 @@ loop-kind-preserved c =
     let word = c.loop-kind.word in
     let put = c.in-Some-put_operand.put in
     let next : so_far (option_or fault (result_err put)) (result_unwrap_or put word) ≡ and_then (so_far fault word) (λ x. put) = word_kept fault word put in
-    first_put kinds i (omega arith) _ c.in-Some.operand.now c.next.new.self labels c.args.place word fault put _ c.in-Some-put_operand.ensures (cc)
-    ∙ ap (λ (ts : List (List ℕ)). word_with labels c.args.place (so_far fault word) (flat_map bit_fields (drop i kinds)) (read_all (drop i kinds) ts)) (sym c.in-Some.ensures)
+    first_put kinds i (omega arith) _ c.in-Some.operand.now c.next.new.self labels c.args.address word fault put _ c.in-Some-put_operand.ensures (cc)
+    ∙ ap (λ (ts : List (List ℕ)). word_with labels c.args.address (so_far fault word) (flat_map bit_fields (drop i kinds)) (read_all (drop i kinds) ts)) (sym c.in-Some.ensures)
     ∙ c.loop-kind.invariant

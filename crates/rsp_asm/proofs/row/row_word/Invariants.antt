@@ -9,5 +9,5 @@ use Rattle.rsp_asm.proofs.row.row_word.Given as goal
 abbrev pub invariant-loop-kind : goal.invariant-loop-kind
 invariant-loop-kind l =
     let left = drop l.kind-index l.row.operands.now in
-    word_with l.labels l.place (so_far l.fault l.word) (flat_map bit_fields left) (read_all left l.operands)
-    ≡ row_word l.labels l.place (entry l.row) (operand_texts l.text)
+    word_with l.labels l.address (so_far l.fault l.word) (flat_map bit_fields left) (read_all left l.operands)
+    ≡ row_word l.labels l.address (entry l.row) (operand_texts l.text)

@@ -12,9 +12,9 @@ returns-in-Err-clause-err c =
     let line = c.in-Some.line.now in
     let more = lines c.in-Some.more.now in
     let table = c.loop-line.labels in
-    let done : Done c.args.origin c.loop-line.number ls (line ∷ more) table c.loop-line.place =
-    subst (λ (left : List (List ℕ)). Done c.args.origin c.loop-line.number ls left table c.loop-line.place) c.in-Some.ensures.0 c.loop-line.invariant.0 in
-    inl (fault_means c.args.origin ls _ (done_fault c.args.origin c.loop-line.number ls line more table c.loop-line.place done c.in-Err.kind c.in-Err.ensures.err))
+    let done : Done c.args.origin c.loop-line.number ls (line ∷ more) table c.loop-line.address =
+    subst (λ (left : List (List ℕ)). Done c.args.origin c.loop-line.number ls left table c.loop-line.address) c.in-Some.ensures.0 c.loop-line.invariant.0 in
+    inl (fault_means c.args.origin ls _ (done_fault c.args.origin c.loop-line.number ls line more table c.loop-line.address done c.in-Err.kind c.in-Err.ensures.err))
 
 pub loop-line-preserved : goal.loop-line-preserved
 loop-line-preserved c =
@@ -22,11 +22,11 @@ loop-line-preserved c =
     let line = c.in-Some.line.now in
     let more = lines c.in-Some.more.now in
     let table = c.loop-line.labels in
-    let done : Done c.args.origin c.loop-line.number ls (line ∷ more) table c.loop-line.place =
-    subst (λ (left : List (List ℕ)). Done c.args.origin c.loop-line.number ls left table c.loop-line.place) c.in-Some.ensures.0 c.loop-line.invariant.0 in
-    let noted = on_ok c.note.result _ (sym c.is_err.ensures.value ∙ c.if-is_err.false) c.note.ensures.ok in (
-      done_more c.args.origin c.loop-line.number ls line more table c.loop-line.place done c.note.new.labels (c.loop-line.place + 4 * c.in-Ok.found.size)
-          c.in-Ok.ensures.fault (subst (λ o. SamePlaces c.note.new.labels (labelled o c.loop-line.place ++ table)) c.in-Ok.ensures.label noted) (ap (λ n. c.loop-line.place + 4 * n) c.in-Ok.ensures.size),
+    let done : Done c.args.origin c.loop-line.number ls (line ∷ more) table c.loop-line.address =
+    subst (λ (left : List (List ℕ)). Done c.args.origin c.loop-line.number ls left table c.loop-line.address) c.in-Some.ensures.0 c.loop-line.invariant.0 in
+    let noted = on_ok c.add_label.result _ (sym c.is_err.ensures.value ∙ c.if-is_err.false) c.add_label.ensures.ok in (
+      done_more c.args.origin c.loop-line.number ls line more table c.loop-line.address done c.add_label.new.labels (c.loop-line.address + 4 * c.in-Ok.found.size)
+          c.in-Ok.ensures.fault (subst (λ o. SamePlaces c.add_label.new.labels (labelled o c.loop-line.address ++ table)) c.in-Ok.ensures.label noted) (ap (λ n. c.loop-line.address + 4 * n) c.in-Ok.ensures.size),
       c.in-Ok.ensures.room,
       omega (arith, c.in-Some.ensures.1),
     )
@@ -35,25 +35,25 @@ pub returns-clause-clean : goal.returns-clause-clean
 returns-clause-clean c =
     let ls = lines c.args.text.now in
     let table = c.loop-line.labels in
-    let done : Done c.args.origin c.loop-line.number ls [] table c.loop-line.place =
-    subst (λ (left : List (List ℕ)). Done c.args.origin c.loop-line.number ls left table c.loop-line.place) c.in_default.ensures c.loop-line.invariant.0 in
-    ap (fault_before c.args.origin ls) (sym (done_all c.args.origin c.loop-line.number ls table c.loop-line.place done)) ∙ done.clean
+    let done : Done c.args.origin c.loop-line.number ls [] table c.loop-line.address =
+    subst (λ (left : List (List ℕ)). Done c.args.origin c.loop-line.number ls left table c.loop-line.address) c.in_default.ensures c.loop-line.invariant.0 in
+    ap (fault_before c.args.origin ls) (sym (done_all c.args.origin c.loop-line.number ls table c.loop-line.address done)) ∙ done.clean
 
 pub returns-clause-labels : goal.returns-clause-labels
 returns-clause-labels c =
     let ls = lines c.args.text.now in
     let table = c.loop-line.labels in
-    let done : Done c.args.origin c.loop-line.number ls [] table c.loop-line.place =
-    subst (λ (left : List (List ℕ)). Done c.args.origin c.loop-line.number ls left table c.loop-line.place) c.in_default.ensures c.loop-line.invariant.0 in
-    subst (λ n. SamePlaces table (labels_before c.args.origin ls n)) (done_all c.args.origin c.loop-line.number ls table c.loop-line.place done) done.labels_are
+    let done : Done c.args.origin c.loop-line.number ls [] table c.loop-line.address =
+    subst (λ (left : List (List ℕ)). Done c.args.origin c.loop-line.number ls left table c.loop-line.address) c.in_default.ensures c.loop-line.invariant.0 in
+    subst (λ n. SamePlaces table (labels_before c.args.origin ls n)) (done_all c.args.origin c.loop-line.number ls table c.loop-line.address done) done.labels_are
 
 pub returns-clause-room : goal.returns-clause-room
 returns-clause-room c =
     let ls = lines c.args.text.now in
     let table = c.loop-line.labels in
-    let done : Done c.args.origin c.loop-line.number ls [] table c.loop-line.place =
-    subst (λ (left : List (List ℕ)). Done c.args.origin c.loop-line.number ls left table c.loop-line.place) c.in_default.ensures c.loop-line.invariant.0 in
-    let at : c.loop-line.place ≡ place_of_line c.args.origin ls (length ls) = done.place_is ∙ ap (place_of_line c.args.origin ls) (done_all c.args.origin c.loop-line.number ls table c.loop-line.place done) in
+    let done : Done c.args.origin c.loop-line.number ls [] table c.loop-line.address =
+    subst (λ (left : List (List ℕ)). Done c.args.origin c.loop-line.number ls left table c.loop-line.address) c.in_default.ensures c.loop-line.invariant.0 in
+    let at : c.loop-line.address ≡ place_of_line c.args.origin ls (length ls) = done.place_is ∙ ap (place_of_line c.args.origin ls) (done_all c.args.origin c.loop-line.number ls table c.loop-line.address done) in
     subst (λ p. p ≤ 4096) at c.loop-line.invariant.1
 
 pub returns-then-is_err-clause-err : goal.returns-then-is_err-clause-err
@@ -62,7 +62,7 @@ returns-then-is_err-clause-err c =
     let line = c.in-Some.line.now in
     let more = lines c.in-Some.more.now in
     let table = c.loop-line.labels in
-    let done : Done c.args.origin c.loop-line.number ls (line ∷ more) table c.loop-line.place =
-    subst (λ (left : List (List ℕ)). Done c.args.origin c.loop-line.number ls left table c.loop-line.place) c.in-Some.ensures.0 c.loop-line.invariant.0 in
-    let labelled = ap is_some (sym c.in-Ok.ensures.label) ∙ on_err c.note.result _ (sym c.is_err.ensures.value ∙ c.if-is_err.true) c.note.ensures.err in
-    inr (record { kind = refl; hides = done_short c.args.origin c.loop-line.number ls line more table c.loop-line.place done c.in-Ok.ensures.fault labelled })
+    let done : Done c.args.origin c.loop-line.number ls (line ∷ more) table c.loop-line.address =
+    subst (λ (left : List (List ℕ)). Done c.args.origin c.loop-line.number ls left table c.loop-line.address) c.in-Some.ensures.0 c.loop-line.invariant.0 in
+    let labelled = ap is_some (sym c.in-Ok.ensures.label) ∙ on_err c.add_label.result _ (sym c.is_err.ensures.value ∙ c.if-is_err.true) c.add_label.ensures.err in
+    inr (record { kind = refl; hides = done_short c.args.origin c.loop-line.number ls line more table c.loop-line.address done c.in-Ok.ensures.fault labelled })

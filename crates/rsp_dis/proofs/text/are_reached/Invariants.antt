@@ -5,4 +5,4 @@ use Rattle.rsp_dis.proofs.text.are_reached.Given as goal
 
 abbrev pub invariant-loop-kind : goal.invariant-loop-kind
 invariant-loop-kind l =
-    list_all (reaches l.word l.place) (drop l.kind-index l.kinds) ≡ list_all (reaches l.word l.place) l.kinds
+    list_all (reaches l.word l.address) (drop l.kind-index l.kinds) ≡ list_all (reaches l.word l.address) l.kinds

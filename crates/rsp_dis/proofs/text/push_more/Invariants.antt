@@ -8,7 +8,7 @@ use Rattle.rsp_dis.proofs.text.push_more.Given as goal
 
 abbrev pub invariant-loop-kind : goal.invariant-loop-kind
 invariant-loop-kind l = record {
-  bytes : l.line.bytes ++ more_operands (map (operand_text l.word l.place) (drop l.kind-index l.kinds)) ≡ l.initial.line.bytes ++ more_operands (map (operand_text l.word l.place) l.kinds);
+  bytes : l.line.bytes ++ more_operands (map (operand_text l.word l.address) (drop l.kind-index l.kinds)) ≡ l.initial.line.bytes ++ more_operands (map (operand_text l.word l.address) l.kinds);
   room : array_string_len l.line + 13 * length l.kinds ≤ 64 + 13 * l.kind-index;
   kinds : list_all is_row_operand (drop l.kind-index l.kinds) ≡ true;
 }

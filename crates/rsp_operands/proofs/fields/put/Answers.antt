@@ -10,12 +10,12 @@ second_bits-requires c = second_small c.args.kind c.args.values.first c.args.val
 pub returns-in-None : goal.returns-in-None
 returns-in-None c =
     let ps = bit_fields c.args.kind in
-    first_put ps c.args.word c.args.values.first c.first_low.result c.first_low.ensures.place c.requires.fit.0
+    first_put ps c.args.word c.args.values.first c.first_low.result c.first_low.ensures.bits c.requires.fit.0
     ∙ ap (λ o. with_fields c.args.word ps (c.args.values.first ∷ optional o)) (sym c.in-None.is)
 
 pub returns-in-Some : goal.returns-in-Some
 returns-in-Some c =
     let ps = bit_fields c.args.kind in
-    ap (λ w. bit_or w c.second_bits.result) (first_put ps c.args.word c.args.values.first c.first_low.result c.first_low.ensures.place c.requires.fit.0)
+    ap (λ w. bit_or w c.second_bits.result) (first_put ps c.args.word c.args.values.first c.first_low.result c.first_low.ensures.bits c.requires.fit.0)
     ∙ sym (c.second_bits.ensures c.args.word c.args.values.first)
     ∙ ap (λ o. with_fields c.args.word ps (c.args.values.first ∷ optional o)) (sym c.in-Some.is)

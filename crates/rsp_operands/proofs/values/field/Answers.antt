@@ -14,4 +14,4 @@ returns-in-Scaled c = λ z e.
     let low : base ≤ 65535 = omega arith in
     let value : ℤ = c.saturating_add-value.result in
     let fits : FitsSigned w64 value = search rules in
-    c.scaled_offset.ensures ∙ ap (scaled_offset scale) (to_z-of_z w64 value fits ∙ c.saturating_add-value.ensures ∙ ap (saturate_signed w64) (omega (arith, ints))) ∙ scaled_capped scale base z small low ∙ ap (λ s. field s c.args.place (pos base +ℤ z)) (sym c.in-Scaled.is)
+    c.scaled_offset.ensures ∙ ap (scaled_offset scale) (to_z-of_z w64 value fits ∙ c.saturating_add-value.ensures ∙ ap (saturate_signed w64) (omega (arith, ints))) ∙ scaled_capped scale base z small low ∙ ap (λ s. field s c.args.address (pos base +ℤ z)) (sym c.in-Scaled.is)

@@ -10,4 +10,4 @@ returns c =
     let z : ℤ = c.negative.result in
     let fits : FitsSigned w64 z = search rules in
     ap Some (to_z-of_z w64 z fits)
-    ∙ negated (unsigned_of c.args.digits.now) c.in_ok-unsigned.field-0 z c.in_ok-unsigned.ensures.value c.negative.ensures
+    ∙ negated (unsigned_of c.args.digits.now) c.in_ok-read_unsigned.field-0 z c.in_ok-read_unsigned.ensures.value c.negative.ensures

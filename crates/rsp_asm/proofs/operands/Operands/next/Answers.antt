@@ -17,5 +17,5 @@ pub returns : goal.returns
 returns c =
     let seen : Option (Bor (List ℕ)) → List (List ℕ) = λ (o : Option (Bor (List ℕ))). texts_in (option_map (λ (t : Bor (List ℕ)). t.now) o) in
     sym c.self.view_is ∙ ap seen c.in-Some.is
-    ∙ first_of_more c.in-Some.text.now c.in-Some-cut.front.now c.in-Some-cut.rest.now c.in-Some-cut.ensures
+    ∙ first_of_more c.in-Some.text.now c.in-Some-cut.first.now c.in-Some-cut.rest.now c.in-Some-cut.ensures
     ∙ ap (λ t. t ∷ map trim (slice_split (is_boundary Comma) c.in-Some-cut.rest.now)) (sym c.trim-2.ensures.value)

@@ -1,5 +1,5 @@
 use Rattle.rsp_text.proofs.Splits.{no_blank_before, no_blank_after}
-use Rattle.rsp_asm.proofs.form.split.Goals as goal
+use Rattle.rsp_asm.proofs.statement.split.Goals as goal
 
 pub returns-in-None-clause-name : goal.returns-in-None-clause-name
 returns-in-None-clause-name c = no_blank_before c.args.text.now c.in-None.ensures
