@@ -141,12 +141,9 @@ either false b P f g e = g e
 look_named_by : (name : List ℕ) (P : List ℕ → Type 0) → P (codes "regs") → P (codes "vregs") → P (codes "acc") → P (codes "flags") → P (codes "sp")
     → P (codes "mem") → P (codes "dis") → is_look_name name ≡ true → P name
 look_named_by name P regs vregs acc flags sp mem_ dis_ =
-    either _ _ (P name) (by_name name (codes "regs") P regs) (
-    either _ _ (P name) (by_name name (codes "vregs") P vregs) (
-    either _ _ (P name) (by_name name (codes "acc") P acc) (
-    either _ _ (P name) (by_name name (codes "flags") P flags) (
-    either _ _ (P name) (by_name name (codes "sp") P sp) (
-    either _ _ (P name) (by_name name (codes "mem") P mem_) (by_name name (codes "dis") P dis_))))))
+    either _ _ (P name) (either _ _ (P name) (either _ _ (P name) (either _ _ (P name) (either _ _ (P name) (either _ _ (P name)
+    (by_name name (codes "regs") P regs) (by_name name (codes "vregs") P vregs)) (by_name name (codes "acc") P acc))
+    (by_name name (codes "flags") P flags)) (by_name name (codes "sp") P sp)) (by_name name (codes "mem") P mem_)) (by_name name (codes "dis") P dis_)
 
 quiet_named : (name : List ℕ) (operands : List (List ℕ)) → is_look_name name ≡ true → is_quiet (command_named name operands) ≡ true
 unfolding command_named debug_named look_named
