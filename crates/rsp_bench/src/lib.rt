@@ -2,6 +2,7 @@
 #![tactic(auto)]
 
 mod commands;
+mod faults;
 pub mod laws;
 mod looks;
 mod replies;

@@ -57,7 +57,7 @@ fn push_register_lines(reply: &mut Reply, words: &[u32; 32])
 
 /// The places and the scalar registers.
 #[tactic(auto, using(rsp_lines::proofs::Texts::parts), unfolding(crate::specs::Looks::registers_text))]
-pub(crate) fn tell_registers<A: Acc>(reply: &mut Reply, debugger: &Debugger<A>)
+pub(crate) fn put_registers<A: Acc>(reply: &mut Reply, debugger: &Debugger<A>)
     requires { reply.old ≡ [] }
     ensures { reply.new ≡ registers_text debugger.now.state }
 {
@@ -97,7 +97,7 @@ fn push_sp_lines(reply: &mut Reply, sp: &SpRegs)
 
 /// The SP registers as they would read, and the interrupt flag.
 #[tactic(auto, using(rsp_lines::proofs::Texts::parts), unfolding(crate::specs::Looks::sp_text))]
-pub(crate) fn tell_sp_registers(reply: &mut Reply, sp: &SpRegs)
+pub(crate) fn put_sp_registers(reply: &mut Reply, sp: &SpRegs)
     requires { reply.old ≡ [] }
     ensures { reply.new ≡ sp_text sp.now }
 {
@@ -155,7 +155,7 @@ fn push_dump_row(reply: &mut Reply, a: u32, bytes: &[u8], k: usize)
 
 /// At most 256 bytes that stand at an address, 16 in a line.
 #[tactic(auto, using(rsp_lines::proofs::Texts::parts), unfolding(crate::specs::Looks::dump_text))]
-pub(crate) fn tell_dump(reply: &mut Reply, a: u32, bytes: &[u8])
+pub(crate) fn put_dump(reply: &mut Reply, a: u32, bytes: &[u8])
     requires place { a + length bytes.now < 2 ^ 31 }
     requires few { length bytes.now ≤ 256 }
     requires empty { reply.old ≡ [] }
@@ -181,7 +181,7 @@ fn push_listed_line(reply: &mut Reply, listed: &Listed)
 
 /// At most 64 words of IMEM, a line each.
 #[tactic(auto, using(rsp_lines::proofs::Texts::parts), unfolding(crate::specs::Looks::listing_text))]
-pub(crate) fn tell_listing(reply: &mut Reply, words: &[Listed])
+pub(crate) fn put_listing(reply: &mut Reply, words: &[Listed])
     requires few { length words.now ≤ 64 }
     requires empty { reply.old ≡ [] }
     ensures { reply.new ≡ listing_text words.now }

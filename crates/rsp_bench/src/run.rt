@@ -1,9 +1,8 @@
-ghost use Rattle.std.specs.Prelude.{◌≡◌, ℕ, ◌<◌, ◌≤◌, ◌+◌, ◌-◌, ◌^◌, List, length, take, IfSome};
+ghost use Rattle.std.specs.Prelude.{◌≡◌, ◌<◌, ◌≤◌, ◌+◌, ◌-◌, ◌^◌, length, IfSome};
 ghost use Rattle.std.specs.Io.KnownBytes.{append_known};
-ghost use Rattle.rsp_lines.specs.Left.{TakesAtMost, Takes, EndedLinesWritten, FrontWritten};
-ghost use Rattle.rsp_lines.specs.Lines.{ended_lines};
-ghost use Rattle.rsp_lines.specs.Replies.{replies};
-ghost use Rattle.rsp_bench.specs.Run.{out_of, session_of, failed_reads, failed_writes, IfFinished};
+ghost use Rattle.rsp_lines.specs.Faults.{failed_reads, failed_writes};
+ghost use Rattle.rsp_lines.specs.Left.{TakesAtMost, Takes, LeavesWritten};
+ghost use Rattle.rsp_bench.specs.Run.{out_of, session_of, outcome, IfFinished};
 ghost use Rattle.rsp_bench.specs.Session.{line_answer, closing, first_session};
 
 use crate::session::Session;
@@ -48,45 +47,22 @@ pub fn run_bench<R: Source, W: Sink>(
         × (session ≡ session_of script image))) }
 
     // Each other end has its cause, and a read or a write that failed is not tried again: a finished run had none.
-    ensures reads { R.fault_count source.new ≡ R.fault_count source.old + failed_reads result }
-    ensures writes { W.fault_count sink.new ≡ W.fault_count sink.old + failed_writes result }
+    ensures reads { R.fault_count source.new ≡ R.fault_count source.old + failed_reads (outcome result) }
+    ensures writes { W.fault_count sink.new ≡ W.fault_count sink.old + failed_writes (outcome result) }
     ensures long { IfSome (R.rest source.old) (λ script. result ≡ BenchEnd.ScriptTooLong → SCRIPT_LIMIT < length script) }
     ensures past { result ≡ BenchEnd.ScriptTooLong → Takes (SCRIPT_LIMIT + 1) (R.rest source.old) (R.rest source.new) }
     ensures few { TakesAtMost (SCRIPT_LIMIT + 1) (R.rest source.old) (R.rest source.new) }
 
-    // What each other end leaves written.
-    ensures left_read { result ≡ BenchEnd.ReadFault →
-        EndedLinesWritten (record {
-          answered = line_answer;
-          closing = closing;
-          session = first_session image;
-          script = R.rest source.old;
-          unread = R.rest source.new;
-          before = W.written sink.old;
-          written = W.written sink.new;
-        }) }
-    ensures left_long { IfSome (R.rest source.old) (λ script. result ≡ BenchEnd.ScriptTooLong →
-        W.written sink.new ≡ append_known (W.written sink.old) (replies line_answer (ended_lines (take SCRIPT_LIMIT script)) (first_session image))) }
-    ensures left_write { result ≡ BenchEnd.WriteFault →
-        FrontWritten (record {
-          answered = line_answer;
-          closing = closing;
-          session = first_session image;
-          script = R.rest source.old;
-          unread = R.rest source.new;
-          before = W.written sink.old;
-          written = W.written sink.new;
-        }) }
-    ensures left_memory { result ≡ BenchEnd.OutOfMemory →
-        FrontWritten (record {
-          answered = line_answer;
-          closing = closing;
-          session = first_session image;
-          script = R.rest source.old;
-          unread = R.rest source.new;
-          before = W.written sink.old;
-          written = W.written sink.new;
-        }) }
+    // What a run that ends early has written.
+    ensures left { LeavesWritten (outcome result) (record {
+      answered = line_answer;
+      closing = closing;
+      session = first_session image;
+      script = R.rest source.old;
+      unread = R.rest source.new;
+      before = W.written sink.old;
+      written = W.written sink.new;
+    }) }
 {
     let Ok(mut session) = Session::try_new(alloc, image) else {
         return BenchEnd::OutOfMemory;

@@ -6,7 +6,7 @@ ghost use Rattle.rsp_asm.specs.Block.{with_line, meaning};
 ghost use Rattle.rsp_bench.specs.Session.{NeedsNoMemory, HidesNoBlockFault, EndHidesNoBlockFault, answer_of, plain_answer, block_answer, with_block, end_answer, line_answer, first_session, closing, in_block};
 ghost use Rattle.rsp_bench.specs.Replies.{line_fault_text};
 
-use crate::replies::{tell_asm_fault, tell_line_fault, tell_ok, tell_words};
+use crate::replies::{put_asm_fault, put_fault, put_ok, put_words};
 use crate::words::load_words;
 use rsp_acc::PlaneAcc;
 use rsp_asm::{AsmFault, AsmFaultKind, Block, BlockFault};
@@ -85,16 +85,16 @@ impl Session {
             Command::Read { register } => self.read(*register, reply),
             Command::Write { register, value } => {
                 self.debugger.write_reg(u32::from(*register), *value);
-                tell_ok(reply);
+                put_ok(reply);
             }
             Command::SetPc { address } => {
                 self.debugger.set_pc(*address);
-                tell_ok(reply);
+                put_ok(reply);
             }
             Command::Task { address } => self.start(*address, reply),
             Command::Show(look) => self.show(look, reply),
             Command::Asm { address } => self.block = Some(Block::new(alloc, *address)),
-            Command::BlockLine(_) | Command::End => tell_line_fault(reply, LineFault::BadCommand),
+            Command::BlockLine(_) | Command::End => put_fault(reply, LineFault::BadCommand),
         }
     }
 
@@ -126,9 +126,9 @@ impl Session {
         match block.assemble(alloc) {
             Ok(words) => {
                 load_words(&mut self.debugger, block.place(), words.as_slice());
-                tell_words(reply, words.len());
+                put_words(reply, words.len());
             }
-            Err(BlockFault::Text(fault)) => tell_asm_fault(reply, fault),
+            Err(BlockFault::Text(fault)) => put_asm_fault(reply, fault),
             Err(BlockFault::OutOfMemory { .. }) => return Err(AllocError),
         }
         self.block = None;
@@ -172,7 +172,7 @@ impl Session {
             (command, false) => self.answer_plain(alloc, command, reply),
             (Command::BlockLine(line), true) => self.keep(line)?,
             (Command::End, true) => self.end(alloc, reply)?,
-            _ => tell_line_fault(reply, LineFault::BadCommand),
+            _ => put_fault(reply, LineFault::BadCommand),
         }
         Ok(())
     }
@@ -206,7 +206,7 @@ impl Session {
     {
         match &parse_line(line, self.in_block()) {
             Ok(command) => self.exec_to(alloc, command, reply)?,
-            Err(fault) => tell_line_fault(reply, *fault),
+            Err(fault) => put_fault(reply, *fault),
         }
         Ok(())
     }
@@ -252,7 +252,7 @@ impl Answering for Session {
                 line: block.line_count() + 1,
                 kind: AsmFaultKind::BadLine,
             };
-            tell_asm_fault(reply, fault);
+            put_asm_fault(reply, fault);
         }
     }
 

@@ -46,7 +46,7 @@ fn push_vector_line(reply: &mut Reply, n: u8, register: &VReg)
 
 /// The 32 vector registers.
 #[tactic(auto, using(rsp_lines::proofs::Texts::parts), unfolding(crate::specs::Looks::vectors_text))]
-pub(crate) fn tell_vector_registers<A: Acc>(reply: &mut Reply, debugger: &Debugger<A>)
+pub(crate) fn put_vector_registers<A: Acc>(reply: &mut Reply, debugger: &Debugger<A>)
     requires { reply.old ≡ [] }
     ensures { reply.new ≡ vectors_text debugger.now.state.vectors }
 {
@@ -86,7 +86,7 @@ fn push_accumulator_lines(reply: &mut Reply, high: &VReg, middle: &VReg, low: &V
 
 /// The eight accumulators.
 #[tactic(auto, using(rsp_lines::proofs::Texts::parts))]
-pub(crate) fn tell_accumulators<A: Acc>(reply: &mut Reply, debugger: &Debugger<A>)
+pub(crate) fn put_accumulators<A: Acc>(reply: &mut Reply, debugger: &Debugger<A>)
     requires { reply.old ≡ [] }
     ensures { reply.new ≡ accumulators_text debugger.now.state.accumulators }
 {
@@ -102,7 +102,7 @@ fn control_half(low: Mask8, high: Mask8) -> u32
 
 /// The control registers, and the divider.
 #[tactic(auto, using(rsp_lines::proofs::Texts::parts), unfolding(crate::specs::Looks::flags_text))]
-pub(crate) fn tell_flags(reply: &mut Reply, flags: &Flags, divider: &Divider)
+pub(crate) fn put_flags(reply: &mut Reply, flags: &Flags, divider: &Divider)
     requires { reply.old ≡ [] }
     ensures { reply.new ≡ flags_text flags.now divider.now }
 {
