@@ -1,4 +1,4 @@
--- What stays the same where lines of a script are exchanged for others.
+-- What stays the same if lines of a script are exchanged for others.
 use Rattle.std.specs.Prelude.{◌≡◌, ◌⊎◌, ℕ, List, [], ◌∷◌, ◌++◌, Bool, true, ◌||◌, None, replicate, codes}
 use Rattle.std.specs.List.{before_first}
 use Rattle.std.specs.Str.{bytes_eq}
@@ -36,7 +36,7 @@ looks line = is_look_name (name_on line)
 abbrev pub runs : List ℕ → Bool
 runs line = is_run_name (name_on line)
 
--- a reply to a line that runs: it tells that k steps were made, or it is a fault, and k is 0
+-- a reply to a line that runs: it gives k steps, or it is a fault, and k is 0
 abbrev pub TellsSteps : ℕ → List ℕ → Type 0
 TellsSteps k reply =
     ((stop : Stop) × (reply ≡ stop_text stop) × (k ≡ stop.steps))
@@ -44,8 +44,8 @@ TellsSteps k reply =
 
 -- ---- lines that are exchanged
 
--- Two scripts: the lines p, some lines and the lines q; and the same with others in place of those between. The replies to p
--- and to q are the same in both, and so is the session at the end.
+-- Two scripts: the lines p, some lines and the lines q; and the same with others between p and q. The replies to p and to q are
+-- the same in both, and so is the session at the end.
 pub record IsExchange (p lines others q : List (List ℕ)) (s : SessionState) : Type 0 where
   pub after : SessionState
   pub replies_with : replies line_answer (p ++ (lines ++ q)) s
@@ -55,7 +55,7 @@ pub record IsExchange (p lines others q : List (List ℕ)) (s : SessionState) : 
   pub session_with : final line_answer (p ++ (lines ++ q)) s ≡ final line_answer q after
   pub session_without : final line_answer (p ++ (others ++ q)) s ≡ final line_answer q after
 
--- a line is exchanged for as many lines `step` as its reply tells steps
+-- a line is exchanged for as many lines `step` as its reply gives steps
 pub record IsStepLines (p : List (List ℕ)) (line : List ℕ) (q : List (List ℕ)) (s : SessionState) : Type 0 where
   pub count : ℕ
   pub told : TellsSteps count (line_answer line (final line_answer p s)).reply
@@ -66,7 +66,7 @@ pub record LinesComeOut (p : List (List ℕ)) (line : List ℕ) (q : List (List 
   pub look : looks line ≡ true → IsExchange p (line ∷ []) [] q s
   pub run : runs line ≡ true → IsStepLines p line q s
 
--- for all lines before and behind, and every session at the start
+-- for all lines before and after, and every session at the start
 abbrev pub LooksAndRunsComeOut : Type 0
 LooksAndRunsComeOut = (p q : List (List ℕ)) (line : List ℕ) (s : SessionState)
     → (final line_answer p s).block ≡ None → LinesComeOut p line q s

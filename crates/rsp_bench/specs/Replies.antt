@@ -59,7 +59,7 @@ end_text Done = codes "Done"
 end_text Halted = codes "Halted"
 end_text (Reserved word) = codes "Reserved " ++ hex_text 8 word
 
--- what a step came to, and pc after it
+-- how a step ended, and pc after it
 abbrev pub step_text : StepEnd → ℕ → List ℕ
 step_text end pc = line_of (codes "step " ++ end_text end ++ codes " pc " ++ hex_text 3 pc)
 
@@ -75,14 +75,14 @@ abbrev pub stop_text : Stop → List ℕ
 stop_text stop =
     line_of (codes "stop " ++ reason_text stop.reason ++ codes " steps " ++ decimal stop.steps ++ codes " pc " ++ hex_text 3 stop.pc)
 
--- the number that a watch got
+-- the number of a new watch
 abbrev pub watch_text : ℕ → List ℕ
 watch_text k = line_of (codes "ok watch " ++ decimal k)
 
--- how many words a block gave
+-- how many words a block has
 abbrev pub words_text : ℕ → List ℕ
 words_text n = line_of (codes "ok " ++ decimal n ++ codes " words")
 
--- why a block gave no words
+-- why a block has no words, and the number of the line in the block
 abbrev pub asm_fault_text : AsmFault → List ℕ
 asm_fault_text fault = line_of (codes "fault " ++ kind_name fault.kind ++ codes " line " ++ decimal fault.line)

@@ -1,4 +1,4 @@
--- What the bench writes for a script.
+-- A run of a script: what is written, and how it ends.
 use Rattle.std.specs.Prelude.{ℕ, List, Result, Ok, Err}
 use Rattle.std.specs.Str.Lines.{lines}
 use Rattle.rsp_lines.specs.Replies.{final, out_of as written_of}
@@ -8,8 +8,8 @@ use Rattle.rsp_bench.specs.Session.{SessionState, line_answer, closing, first_se
 use Rattle.rsp_bench.specs.declared.run.BenchEnd.{BenchEnd}
 use Rattle.rsp_bench.specs.declared.run.BenchEnd.TheVariants.{Finished, ReadFault, WriteFault, ScriptTooLong, OutOfMemory}
 
--- all that is written for a script: the replies to its lines, each in the session that the lines before it left, and
--- the closing fault
+-- all that is written for a script: the replies to its lines, each in the session that the lines before it left, and what is
+-- written at its end
 abbrev pub out_of : List ℕ → List ℕ → List ℕ
 out_of script image = written_of line_answer closing script (first_session image)
 

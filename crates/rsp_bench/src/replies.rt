@@ -100,7 +100,7 @@ pub(crate) fn put_watch(reply: &mut Reply, number: usize)
     reply.push_text(b"\n");
 }
 
-/// How many words a block gave.
+/// How many words a block has.
 #[tactic(auto, using(rsp_lines::proofs::Texts::parts))]
 pub(crate) fn put_words(reply: &mut Reply, count: usize)
     requires { reply.old ≡ [] }
@@ -111,7 +111,7 @@ pub(crate) fn put_words(reply: &mut Reply, count: usize)
     reply.push_text(b" words\n");
 }
 
-/// Why a block gave no words, and the number of the line.
+/// Why a block has no words, and the number of the line in the block.
 #[tactic(auto, using(rsp_lines::proofs::Texts::parts))]
 pub(crate) fn put_asm_fault(reply: &mut Reply, fault: AsmFault)
     requires { reply.old ≡ [] }

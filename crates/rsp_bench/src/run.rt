@@ -10,26 +10,26 @@ use rsp_lines::{RunFault, SCRIPT_LIMIT, Sink, Source, answer_script};
 use rsp_memory::Rdram;
 use std::alloc::Global;
 
-/// How a run ended.
+/// How a run of a script ended. What it had written is a clause of [`run_bench`].
 #[derive(Drop)]
 pub enum BenchEnd {
-    /// The whole script is answered.
+    /// The whole script is answered. The session is the one that its lines left.
     Finished(Session),
-    /// 40: a read failed.
+    /// Fault 40: a read failed.
     ReadFault,
-    /// 41: a write failed, or took nothing of a piece that isn't empty.
+    /// Fault 41: a write failed, or took nothing of a piece that isn't empty.
     WriteFault,
-    /// 42: the script has more than 1,048,576 bytes.
+    /// Fault 42: the script has more than 1,048,576 bytes.
     ScriptTooLong,
-    /// 43: there was no memory.
+    /// Fault 43: there was no memory for the session, or for an open block.
     OutOfMemory,
 }
 
-/// Answers a script: reads it by pieces of at most 4096 bytes, carries out each line on a machine that begins with
-/// this image of the RDRAM, and writes the reply to each line before it asks for the next piece.
+/// Answers a script. It reads pieces of at most 4096 bytes, carries out each line on a machine that begins with this image of
+/// the RDRAM, and writes the reply to each line before it reads the next piece. A read or a write that fails ends the run.
 ///
-/// The headline: where the two ends tell their bytes, what a finished run wrote is what the definitions of the machine
-/// and of the commands give for the script and the image.
+/// The main theorem: if source and sink name their bytes, what a finished run wrote is what the definitions of the machine and of
+/// the commands give for the script and the image.
 #[tactic(auto, using(crate::proofs::Starts::starts))]
 pub fn run_bench<R: Source, W: Sink>(
     alloc: Global,
@@ -46,7 +46,7 @@ pub fn run_bench<R: Source, W: Sink>(
         (W.written sink.new ≡ append_known (W.written sink.old) (out_of script image))
         × (session ≡ session_of script image))) }
 
-    // Each other end has its cause, and a read or a write that failed is not tried again: a finished run had none.
+    // Each other end has its cause. A read or a write that failed is not tried again, so a finished run had none.
     ensures reads { R.fault_count source.new ≡ R.fault_count source.old + failed_reads (outcome result) }
     ensures writes { W.fault_count sink.new ≡ W.fault_count sink.old + failed_writes (outcome result) }
     ensures long { IfSome (R.rest source.old) (λ script. result ≡ BenchEnd.ScriptTooLong → SCRIPT_LIMIT < length script) }
