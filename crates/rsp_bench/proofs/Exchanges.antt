@@ -1,16 +1,15 @@
 -- Lines that can be exchanged.
-use Rattle.std.proofs.Common.{◌≡◌, inl, inr, ℕ, zero, suc, List, [], ◌∷◌, ◌++◌, replicate, refl, ap, sym, ◌∙◌, subst, append_assoc, Bool, true, false, cond, Option, Some, None, Result, Ok, Err}
+use Rattle.std.proofs.Common.{◌≡◌, inl, inr, ℕ, zero, suc, List, [], ◌∷◌, ◌++◌, replicate, refl, ap, sym, ◌∙◌, subst, append_assoc, Bool, true, false, ◌||◌, cond, Option, Some, None, Result, Ok, Err}
 use Rattle.std.specs.Prelude.{codes, nat_le, length, is_some, if◌then◌else◌}
 use Rattle.std.specs.List.{before_first, list_all}
+use Rattle.std.specs.Str.{bytes_eq}
+use Rattle.std.proofs.lemmas.Slice.Eq.{bytes_eq-Decides}
 use Rattle.rsp_text.specs.Chars.{is_plain}
 use Rattle.rsp_script.specs.Line.{is_hash}
 use Rattle.rsp_script.specs.Words.{words_in}
-use Rattle.rsp_script.specs.Names.{name_of}
 use Rattle.rsp_script.specs.Operand.{bank_of, ranged_of, address_of, place_of}
 use Rattle.rsp_script.specs.Line.{command_of, plain_command}
-use Rattle.rsp_script.specs.Command.{command_named, alone, mem, dis, with_both, with_operand, in_bank, one_number, command_of_words}
-use Rattle.rsp_script.specs.declared.name.Name.{Name}
-use Rattle.rsp_script.specs.declared.name.Name.TheVariants as names
+use Rattle.rsp_script.specs.Command.{command_named, debug_named, look_named, alone, mem, dis, with_both, with_operand, in_bank, one_number, command_of_words}
 use Rattle.rsp_script.specs.declared.command.Command.{Command}
 use Rattle.rsp_script.specs.declared.command.Command.TheVariants.{Step, Run, Show}
 use Rattle.rsp_script.specs.declared.command.Look.{Look}
@@ -25,7 +24,7 @@ use Rattle.rsp_debug.specs.Debugging.{Debugging, stepped, steps_made, stop_in, r
 use Rattle.rsp_lines.specs.Replies.{replies, final}
 use Rattle.rsp_bench.specs.Replies.{stop_text, count_text}
 use Rattle.rsp_bench.specs.Session.{SessionState, same, then_debugging, plain_answer, answer_in, answer_of, parsed_answer, in_block, line_answer, step_answer, run_answer}
-use Rattle.rsp_bench.specs.Laws.{is_look_name, is_run_name, first_name, name_on, looks, runs, TellsSteps, IsExchange, IsStepLines, LinesComeOut}
+use Rattle.rsp_bench.specs.Laws.{is_look_name, is_run_name, first_word, name_on, looks, runs, TellsSteps, IsExchange, IsStepLines, LinesComeOut}
 
 -- ---- lines after lines
 final-append : (p q : List (List ℕ)) (s : SessionState) → final line_answer (p ++ q) s ≡ final line_answer q (final line_answer p s)
@@ -130,20 +129,32 @@ quiet_dis (a ∷ []) = refl
 quiet_dis (a ∷ b ∷ []) = quiet_listing (place_of a) (ranged_of 1 64 b)
 quiet_dis (a ∷ b ∷ c ∷ more) = refl
 
-quiet_named : (name : Option Name) (operands : List (List ℕ)) → is_look_name name ≡ true → is_quiet (command_named name operands) ≡ true
-quiet_named (Some names.Regs) operands e = quiet_alone Regs operands
-quiet_named (Some names.Mem) operands e = quiet_mem operands
-quiet_named (Some names.Dis) operands e = quiet_dis operands
-quiet_named (Some names.Sp) operands e = quiet_alone Sp operands
-quiet_named (Some names.Vregs) operands e = quiet_alone Vregs operands
-quiet_named (Some names.Acc) operands e = quiet_alone Acc operands
-quiet_named (Some names.Flags) operands e = quiet_alone Flags operands
-quiet_named _ operands e = cc
+-- a text that equals another by its bytes is that text
+by_name : (name text : List ℕ) (P : List ℕ → Type 0) → P text → bytes_eq name text ≡ true → P name
+by_name name text P p e = subst P (sym ((bytes_eq-Decides name text).0 e)) p
 
-quiet_words : (words : List (List ℕ)) → is_look_name (first_name words) ≡ true → is_quiet (command_of_words words) ≡ true
+either : (a b : Bool) (P : Type 0) → (a ≡ true → P) → (b ≡ true → P) → (a || b) ≡ true → P
+either true b P f g e = f refl
+either false b P f g e = g e
+
+-- a name that looks is one of seven
+look_named_by : (name : List ℕ) (P : List ℕ → Type 0) → P (codes "regs") → P (codes "vregs") → P (codes "acc") → P (codes "flags") → P (codes "sp")
+    → P (codes "mem") → P (codes "dis") → is_look_name name ≡ true → P name
+look_named_by name P regs vregs acc flags sp mem_ dis_ =
+    either _ _ (P name) (either _ _ (P name) (either _ _ (P name) (either _ _ (P name) (either _ _ (P name) (either _ _ (P name)
+    (by_name name (codes "regs") P regs) (by_name name (codes "vregs") P vregs)) (by_name name (codes "acc") P acc))
+    (by_name name (codes "flags") P flags)) (by_name name (codes "sp") P sp)) (by_name name (codes "mem") P mem_)) (by_name name (codes "dis") P dis_)
+
+quiet_named : (name : List ℕ) (operands : List (List ℕ)) → is_look_name name ≡ true → is_quiet (command_named name operands) ≡ true
+unfolding command_named debug_named look_named
+quiet_named name operands =
+    look_named_by name (λ n. is_quiet (command_named n operands) ≡ true) (quiet_alone Regs operands) (quiet_alone Vregs operands)
+    (quiet_alone Acc operands) (quiet_alone Flags operands) (quiet_alone Sp operands) (quiet_mem operands) (quiet_dis operands)
+
+quiet_words : (words : List (List ℕ)) → is_look_name (first_word words) ≡ true → is_quiet (command_of_words words) ≡ true
 unfolding command_of_words
 quiet_words [] e = cc
-quiet_words (name ∷ operands) e = quiet_named (name_of name) operands e
+quiet_words (name ∷ operands) e = quiet_named name operands e
 
 quiet_refused : (short text : Bool) (r : Result Command LineFault) → is_quiet r ≡ true → is_quiet (cond short (cond text r (Err NotText)) (Err LineTooLong)) ≡ true
 quiet_refused true true r e = e
@@ -167,7 +178,7 @@ abbrev at : SessionState → Debugging → SessionState
 at s d = record s { debugging = d }
 
 step_command : plain_command (codes "step") ≡ Ok Step
-unfolding command_of_words name_of
+unfolding command_of_words command_named
 step_command = refl
 
 step_next : (s : SessionState) → s.block ≡ None → (line_answer (codes "step") s).next ≡ at s (stepped s.debugging)
@@ -245,14 +256,15 @@ running_operand : (n : Result ℕ LineFault) → is_running (with_operand (λ k.
 running_operand (Ok n) = refl
 running_operand (Err fault) = refl
 
-running_named : (name : Option Name) (operands : List (List ℕ)) → is_run_name name ≡ true → is_running (command_named name operands) ≡ true
-running_named (Some names.Run) operands e = running_operand (one_number 0 4294967295 operands)
-running_named _ operands e = cc
+running_named : (name : List ℕ) (operands : List (List ℕ)) → is_run_name name ≡ true → is_running (command_named name operands) ≡ true
+unfolding command_named debug_named
+running_named name operands =
+    by_name name (codes "run") (λ n. is_running (command_named n operands) ≡ true) (running_operand (one_number 0 4294967295 operands))
 
-running_words : (words : List (List ℕ)) → is_run_name (first_name words) ≡ true → is_running (command_of_words words) ≡ true
+running_words : (words : List (List ℕ)) → is_run_name (first_word words) ≡ true → is_running (command_of_words words) ≡ true
 unfolding command_of_words
 running_words [] e = cc
-running_words (name ∷ operands) e = running_named (name_of name) operands e
+running_words (name ∷ operands) e = running_named name operands e
 
 running_refused : (short text : Bool) (r : Result Command LineFault) → is_running r ≡ true → is_running (cond short (cond text r (Err NotText)) (Err LineTooLong)) ≡ true
 running_refused true true r e = e

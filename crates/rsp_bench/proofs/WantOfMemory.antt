@@ -1,6 +1,7 @@
 -- No reply is fault 17: by the first bytes of each, and since no text means that fault.
 use Rattle.std.proofs.Common.{◌≡◌, ◌∙◌, refl, sym, ap, subst, ℕ, zero, suc, ◌+◌, ◌*◌, ◌/◌, ◌%◌, ◌^◌, ◌<◌, List, [], ◌∷◌, ◌++◌, length, get_or, arith, Bool, true, false, ◌&&◌}
 use Rattle.std.specs.Prelude.{Option, Some, None, Result, Ok, Err, ◌==◌, nat_le, if◌then◌else◌, codes, decimal, take, drop}
+use Rattle.std.specs.Char.{digit_char}
 use Rattle.std.specs.List.{All, flat_map}
 use Rattle.std.specs.Str.Lines.{lines}
 use Rattle.std.proofs.lemmas.Bool.Decides.{nat_tests}
@@ -36,7 +37,7 @@ use Rattle.rsp_debug.specs.declared.watches.WatchFault.{WatchFault}
 use Rattle.rsp_debug.specs.declared.watches.WatchFault.TheVariants.{WatchRange, WatchFull}
 use Rattle.rsp_debug.specs.declared.debugger.BackFault.{BackFault}
 use Rattle.rsp_debug.specs.declared.debugger.BackFault.TheVariants.{Count, ShortHistory}
-use Rattle.rsp_lines.specs.Text.{hex_digit, hex_text, each_text, two_digits, short_decimal}
+use Rattle.rsp_lines.specs.Text.{hex_text, each_text, two_digits, short_decimal}
 use Rattle.rsp_lines.specs.Replies.{Answer, replies, final}
 use Rattle.rsp_bench.specs.Looks.{word_text, registers_text, sp_line, sp_text, dump_line, dump_text, listed_line, listing_text, vector_line, vectors_text, accumulator_line, accumulators_text, flags_text}
 use Rattle.rsp_bench.specs.Replies.{line_of, fault_line, line_fault_text, task_fault_text, break_fault_text, watch_fault_text, back_fault_text, asm_fault_text, range_text}
@@ -82,17 +83,16 @@ third_other (a ∷ b ∷ c ∷ text) h = rw h.1 (neither (a == 102) (b == 97))
 
 -- ---- what is looked at
 
-no_u : (n : ℕ) → (hex_digit (n % 16) == 117) ≡ false
-unfolding hex_digit
+no_u : (n : ℕ) → (digit_char (n % 16) == 117) ≡ false
 no_u n = grind (arith, nat_tests)
 
 dump_differs : (a : ℕ) (bytes : List ℕ) → Differs 2 (dump_line a bytes)
 unfolding dump_line hex_text
-dump_differs a bytes = (omega arith, no_u (a / 2 ^ 12))
+dump_differs a bytes = (omega arith, no_u (a / 16 / 16 / 16))
 
 listed_differs : (w : ListedWord) → Differs 2 (listed_line w)
 unfolding listed_line hex_text
-listed_differs w = (omega arith, no_u (w.place / 2 ^ 0))
+listed_differs w = (omega arith, no_u w.place)
 
 dump_other : (a : ℕ) (bytes : List ℕ) → IsOther (dump_text a bytes)
 unfolding dump_text each_text

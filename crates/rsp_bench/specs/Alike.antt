@@ -1,4 +1,4 @@
--- Scaffolding: a proof, which answering a script by pieces asks for, that lines of more than 256 bytes get the same answer.
+-- Scaffolding: the proof that lines of more than 256 bytes get the same answer, which reading a script in pieces requires.
 use Rattle.std.proofs.Common.{◌≡◌, ℕ, ◌<◌, List, length, Bool, true, false, ap, sym, ◌∙◌}
 use Rattle.rsp_lines.specs.Replies.{LongLinesAlike}
 use Rattle.rsp_script.specs.Line.{command_of}

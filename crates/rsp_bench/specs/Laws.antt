@@ -1,11 +1,9 @@
--- What stays the same where lines of a script are exchanged for others.
-use Rattle.std.specs.Prelude.{◌≡◌, ◌⊎◌, ℕ, List, [], ◌∷◌, ◌++◌, Bool, true, false, Option, Some, None, replicate, codes}
+-- What stays the same if lines of a script are exchanged for others.
+use Rattle.std.specs.Prelude.{◌≡◌, ◌⊎◌, ℕ, List, [], ◌∷◌, ◌++◌, Bool, true, ◌||◌, None, replicate, codes}
 use Rattle.std.specs.List.{before_first}
+use Rattle.std.specs.Str.{bytes_eq}
 use Rattle.rsp_script.specs.Line.{is_hash}
 use Rattle.rsp_script.specs.Words.{words_in}
-use Rattle.rsp_script.specs.Names.{name_of}
-use Rattle.rsp_script.specs.declared.name.Name.{Name}
-use Rattle.rsp_script.specs.declared.name.Name.TheVariants as names
 use Rattle.rsp_debug.specs.declared.stop.Stop.{Stop}
 use Rattle.rsp_lines.specs.Replies.{replies, final}
 use Rattle.rsp_bench.specs.Replies.{stop_text}
@@ -14,27 +12,21 @@ use Rattle.rsp_bench.specs.Session.{SessionState, line_answer}
 -- ---- looks and runs
 
 -- the names of the commands that look; `read` isn't one, since it can take the semaphore
-abbrev pub is_look_name : Option Name → Bool
-is_look_name (Some names.Regs) = true
-is_look_name (Some names.Vregs) = true
-is_look_name (Some names.Acc) = true
-is_look_name (Some names.Flags) = true
-is_look_name (Some names.Sp) = true
-is_look_name (Some names.Mem) = true
-is_look_name (Some names.Dis) = true
-is_look_name _ = false
+abbrev pub is_look_name : List ℕ → Bool
+is_look_name name =
+    bytes_eq name (codes "regs") || bytes_eq name (codes "vregs") || bytes_eq name (codes "acc") || bytes_eq name (codes "flags")
+    || bytes_eq name (codes "sp") || bytes_eq name (codes "mem") || bytes_eq name (codes "dis")
 
-abbrev pub is_run_name : Option Name → Bool
-is_run_name (Some names.Run) = true
-is_run_name _ = false
+abbrev pub is_run_name : List ℕ → Bool
+is_run_name name = bytes_eq name (codes "run")
 
-abbrev pub first_name : List (List ℕ) → Option Name
-first_name [] = None
-first_name (name ∷ operands) = name_of name
+abbrev pub first_word : List (List ℕ) → List ℕ
+first_word [] = []
+first_word (word ∷ words) = word
 
--- the command's name that a line outside a block begins with, whatever the line is answered
-unfoldable pub name_on : List ℕ → Option Name
-name_on line = first_name (words_in (before_first is_hash line))
+-- the first word of a line outside a block, which names its command; no bytes where it has no words
+unfoldable pub name_on : List ℕ → List ℕ
+name_on line = first_word (words_in (before_first is_hash line))
 
 -- a line that looks, accepted or refused
 abbrev pub looks : List ℕ → Bool
@@ -44,7 +36,7 @@ looks line = is_look_name (name_on line)
 abbrev pub runs : List ℕ → Bool
 runs line = is_run_name (name_on line)
 
--- a reply to a line that runs: it tells that k steps were made, or it is a fault, and k is 0
+-- a reply to a line that runs: it gives k steps, or it is a fault, and k is 0
 abbrev pub TellsSteps : ℕ → List ℕ → Type 0
 TellsSteps k reply =
     ((stop : Stop) × (reply ≡ stop_text stop) × (k ≡ stop.steps))
@@ -52,8 +44,8 @@ TellsSteps k reply =
 
 -- ---- lines that are exchanged
 
--- Two scripts: the lines p, some lines and the lines q; and the same with others in place of those between. The replies to p
--- and to q are the same in both, and so is the session at the end.
+-- Two scripts: the lines p, some lines and the lines q; and the same with others between p and q. The replies to p and to q are
+-- the same in both, and so is the session at the end.
 pub record IsExchange (p lines others q : List (List ℕ)) (s : SessionState) : Type 0 where
   pub after : SessionState
   pub replies_with : replies line_answer (p ++ (lines ++ q)) s
@@ -63,7 +55,7 @@ pub record IsExchange (p lines others q : List (List ℕ)) (s : SessionState) : 
   pub session_with : final line_answer (p ++ (lines ++ q)) s ≡ final line_answer q after
   pub session_without : final line_answer (p ++ (others ++ q)) s ≡ final line_answer q after
 
--- a line is exchanged for as many lines `step` as its reply tells steps
+-- a line is exchanged for as many lines `step` as its reply gives steps
 pub record IsStepLines (p : List (List ℕ)) (line : List ℕ) (q : List (List ℕ)) (s : SessionState) : Type 0 where
   pub count : ℕ
   pub told : TellsSteps count (line_answer line (final line_answer p s)).reply
@@ -74,7 +66,7 @@ pub record LinesComeOut (p : List (List ℕ)) (line : List ℕ) (q : List (List 
   pub look : looks line ≡ true → IsExchange p (line ∷ []) [] q s
   pub run : runs line ≡ true → IsStepLines p line q s
 
--- for all lines before and behind, and every session at the start
+-- for all lines before and after, and every session at the start
 abbrev pub LooksAndRunsComeOut : Type 0
 LooksAndRunsComeOut = (p q : List (List ℕ)) (line : List ℕ) (s : SessionState)
     → (final line_answer p s).block ≡ None → LinesComeOut p line q s

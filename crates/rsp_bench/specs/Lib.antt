@@ -1,5 +1,6 @@
--- The bench: what its commands come to.
+-- Scripts: what their commands do, and the replies.
 pub mod Looks
+pub mod Faults
 pub mod Replies
 pub mod Words
 pub mod Session

@@ -14,11 +14,11 @@ use Rattle.rsp_machine.specs.State.{State}
 use Rattle.rsp_debug.specs.Looks.{ListedWord}
 use Rattle.rsp_lines.specs.Text.{hex_text, two_digits, short_decimal, each_text}
 
--- a blank and a word
+-- a space and a word
 unfoldable pub word_text : ℕ → List ℕ
 word_text n = 32 ∷ hex_text 8 n
 
--- `rNN` and the words of four registers, of which `words` tells what each holds
+-- `rNN` and the words of four registers; `words` gives the word of each
 unfoldable pub register_line : (ℕ → ℕ) → ℕ → List ℕ
 register_line words k = codes "r" ++ two_digits (4 * k) ++ each_text (λ j. word_text (words (4 * k + j))) 4 ++ 10 ∷ []
 
@@ -32,20 +32,20 @@ registers_text s =
 unfoldable pub sp_line : ℕ → ℕ → List ℕ
 sp_line n value = codes "c" ++ short_decimal n ++ word_text value ++ 10 ∷ []
 
--- the sixteen SP registers as they would read, and the interrupt flag
+-- the sixteen SP registers, as reads would return them, and the interrupt flag
 unfoldable pub sp_text : Sp → List ℕ
 sp_text sp =
     each_text (λ n. sp_line n (peeked n sp)) 16 ++ codes "interrupt " ++ (if sp.interrupt then 49 else 48) ∷ 10 ∷ []
 
--- an address, and the bytes from there on
+-- an address, and the bytes there
 unfoldable pub dump_line : ℕ → List ℕ → List ℕ
 dump_line a bytes = hex_text 6 a ++ codes ": " ++ encode_lower bytes ++ 10 ∷ []
 
--- bytes from an address on, at most 16 in a line
+-- the bytes at an address, at most 16 in a line
 unfoldable pub dump_text : ℕ → List ℕ → List ℕ
 dump_text a bytes = each_text (λ k. dump_line (a + 16 * k) (take 16 (drop (16 * k) bytes))) ((length bytes + 15) / 16)
 
--- a place in IMEM, its word, and the word's canonical text
+-- an address in IMEM, its word, and the disassembly of the word
 unfoldable pub listed_line : ListedWord → List ℕ
 listed_line w = hex_text 3 w.place ++ word_text w.word ++ 32 ∷ w.text ++ 10 ∷ []
 
@@ -53,7 +53,7 @@ listed_line w = hex_text 3 w.place ++ word_text w.word ++ 32 ∷ w.text ++ 10 �
 unfoldable pub listing_text : List ListedWord → List ℕ
 listing_text words = flat_map listed_line words
 
--- a blank and sixteen bits
+-- a space and sixteen bits
 unfoldable pub half_text : ℕ → List ℕ
 half_text n = 32 ∷ hex_text 4 n
 

@@ -1,4 +1,4 @@
--- Refusals.
+-- Refused commands and lines.
 use Rattle.std.specs.Prelude.{◌≡◌, ℕ, List, take, Bool, true, None, Result, Ok, Err, codes}
 use Rattle.std.specs.Str.{bytes_eq}
 use Rattle.rsp_script.specs.declared.command.Command.{Command}
@@ -11,7 +11,7 @@ use Rattle.rsp_bench.specs.Session.{SessionState, answer_of, line_answer, in_blo
 abbrev pub is_refusal : List ℕ → Bool
 is_refusal reply = bytes_eq (take 6 reply) (codes "fault ")
 
--- the session after a refused command: as it was, but that a refused `end` leaves no block open
+-- the session after a refused command: as it was, except that a refused `end` leaves no block open
 abbrev pub kept_by : Command → SessionState → SessionState
 kept_by End s = record s { block = None }
 kept_by _ s = s

@@ -1,13 +1,15 @@
--- What the bench writes for a script.
-use Rattle.std.specs.Prelude.{ℕ, List}
+-- A run of a script: what is written, and how it ends.
+use Rattle.std.specs.Prelude.{ℕ, List, Result, Ok, Err}
 use Rattle.std.specs.Str.Lines.{lines}
 use Rattle.rsp_lines.specs.Replies.{final, out_of as written_of}
+use Rattle.rsp_lines.specs.declared.run.RunFault.{RunFault}
+use Rattle.rsp_lines.specs.declared.run.RunFault.TheVariants as faults
 use Rattle.rsp_bench.specs.Session.{SessionState, line_answer, closing, first_session}
 use Rattle.rsp_bench.specs.declared.run.BenchEnd.{BenchEnd}
 use Rattle.rsp_bench.specs.declared.run.BenchEnd.TheVariants.{Finished, ReadFault, WriteFault, ScriptTooLong, OutOfMemory}
 
--- all that is written for a script: the replies to its lines, each in the session that the lines before it left, and
--- the closing fault
+-- all that is written for a script: the replies to its lines, each in the session that the lines before it left, and what is
+-- written at its end
 abbrev pub out_of : List ℕ → List ℕ → List ℕ
 out_of script image = written_of line_answer closing script (first_session image)
 
@@ -15,17 +17,15 @@ out_of script image = written_of line_answer closing script (first_session image
 abbrev pub session_of : List ℕ → List ℕ → SessionState
 session_of script image = final line_answer (lines script) (first_session image)
 
--- the reads that failed in a run: the one that ended it, where one did
-abbrev pub failed_reads : BenchEnd → ℕ
-failed_reads ReadFault = 1
-failed_reads _ = 0
+-- how a run ended, as `answer_script` reports it: the session of a finished run, else the fault
+abbrev pub outcome : BenchEnd → Result SessionState RunFault
+outcome (Finished s) = Ok s
+outcome ReadFault = Err faults.ReadFault
+outcome WriteFault = Err faults.WriteFault
+outcome ScriptTooLong = Err faults.ScriptTooLong
+outcome OutOfMemory = Err faults.OutOfMemory
 
--- the writes that failed in a run, or took nothing of a piece that isn't empty: the one that ended it, where one did
-abbrev pub failed_writes : BenchEnd → ℕ
-failed_writes WriteFault = 1
-failed_writes _ = 0
-
--- p of the session, where the run finished
+-- p of the session, if the run finished
 abbrev pub IfFinished : BenchEnd → (SessionState → Type 0) → Type 0
 IfFinished (Finished s) p = p s
 IfFinished ReadFault p = Unit {0}

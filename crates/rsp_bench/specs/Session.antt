@@ -1,4 +1,4 @@
--- What commands and lines come to.
+-- The answers to commands and lines.
 use Rattle.std.specs.Prelude.{ℕ, ◌≡◌, ◌+◌, ◌*◌, not, nat_le, nat_lt, List, [], Bool, Option, Some, None, is_some, IfSome, Result, Ok, Err, if◌then◌else◌, length}
 use Rattle.rsp_script.specs.declared.command.Command.{Command}
 use Rattle.rsp_script.specs.declared.command.Command.TheVariants.{Nothing, Load, Step, Run, Break, Unbreak, Watch, Unwatch, Back, Read, Write, SetPc, Task, Show, Asm, BlockLine, End}
@@ -47,7 +47,7 @@ same text s = record { reply = text; next = s }
 abbrev pub then_debugging : List ℕ → Debugging → SessionState → Answer SessionState
 then_debugging text d s = record { reply = text; next = record s { debugging = d } }
 
--- a reply, and the state after the command, which goes on from there: there is no way back
+-- a reply, and the state after the command, which can't be undone: the history is emptied
 abbrev pub then_state : List ℕ → State → SessionState → Answer SessionState
 then_state text state s = then_debugging text (brought_to state s.debugging) s
 
@@ -96,7 +96,7 @@ unwatch_answer k s =
     if has_watch k s.debugging.watches then then_debugging ok_text (unwatching k s.debugging) s
     else same no_watch_text s
 
--- why n states of a past can't be gone back; the count comes first
+-- why n steps can't be undone; the count comes first
 abbrev pub back_fault : ℕ → List State → Option BackFault
 back_fault n past =
     if not (is_count n) then Some Count
@@ -131,7 +131,7 @@ look_text (Dis place n) state = dis_text place n state
 abbrev pub with_block : OpenBlock → SessionState → Answer SessionState
 with_block b s = record { reply = []; next = record s { block = Some b } }
 
--- what a command comes to where no block is open
+-- the answer to a command while no block is open
 abbrev pub plain_answer : Command → SessionState → Answer SessionState
 plain_answer Nothing s = same [] s
 plain_answer (Load bank a bytes) s = load_answer bank a bytes.items s
@@ -159,7 +159,7 @@ end_answer b (Ok words) s = record {
 }
 end_answer b (Err fault) s = record { reply = asm_fault_text fault; next = record s { block = None } }
 
--- what a command comes to while a block is open
+-- the answer to a command while a block is open
 abbrev pub block_answer : OpenBlock → Command → SessionState → Answer SessionState
 block_answer b (BlockLine line) s = with_block (with_line line b) s
 block_answer b End s = end_answer b (meaning b) s
@@ -169,7 +169,7 @@ abbrev pub answer_in : Option OpenBlock → Command → SessionState → Answer 
 answer_in None command s = plain_answer command s
 answer_in (Some b) command s = block_answer b command s
 
--- what a command comes to
+-- the answer to a command
 unfoldable pub answer_of : Command → SessionState → Answer SessionState
 answer_of command s = answer_in s.block command s
 
@@ -179,11 +179,11 @@ NeedsNoMemory (BlockLine line) s = s.block ≡ None
 NeedsNoMemory End s = s.block ≡ None
 NeedsNoMemory _ s = Unit {0}
 
--- no memory for the words of a block, at a line where that hides no fault of the text
+-- out of memory for the words of a block, at a line that hides no fault of the text
 abbrev pub HidesNoBlockFault : OpenBlock → Type 0
 HidesNoBlockFault b = (line : ℕ) × hides_no_fault b line
 
--- the same, where a command ends a block
+-- the same, if a command ends a block
 abbrev pub EndHidesNoBlockFault : Command → SessionState → Type 0
 EndHidesNoBlockFault End s = IfSome s.block HidesNoBlockFault
 EndHidesNoBlockFault _ s = Unit {0}
@@ -196,20 +196,20 @@ abbrev pub parsed_answer : Result Command LineFault → SessionState → Answer 
 parsed_answer (Ok command) s = answer_of command s
 parsed_answer (Err fault) s = same (line_fault_text fault) s
 
--- what a line comes to
+-- the answer to a line
 unfoldable pub line_answer : List ℕ → SessionState → Answer SessionState
 line_answer line s = parsed_answer (command_of line (in_block s)) s
 
--- a block that is still open has no line that ends it
+-- a block that is still open lacks the line that ends it
 abbrev pub closing_of : Option OpenBlock → List ℕ
 closing_of None = []
 closing_of (Some b) = asm_fault_text (fault_at (length b.lines + 1) BadLine)
 
--- the closing fault: what is written where the script ends in an open block
+-- what is written at the end of a script: a fault if a block is still open, else nothing
 abbrev pub closing : SessionState → List ℕ
 closing s = closing_of s.block
 
--- the session at the start: a machine with this image and all else as at its start, no breakpoint, no watch and no past,
--- of which 256 states are kept, and no open block
+-- the session at the start: a machine with this image and all else as at its start, no breakpoint, no watch, an empty history
+-- that keeps 256 states, and no open block
 abbrev pub first_session : List ℕ → SessionState
 first_session image = record { debugging = debugging_of 256 (start_of image); block = None }

@@ -1,4 +1,4 @@
--- No reply tells want of memory.
+-- No reply is fault 17, OutOfMemory.
 use Rattle.std.specs.Prelude.{◌≡◌, ℕ, List, [], ◌∷◌, take, Bool, false, codes}
 use Rattle.std.specs.List.{All, flat_map}
 use Rattle.std.specs.Str.{bytes_eq}

@@ -5,19 +5,17 @@ ghost use Rattle.rsp_debug.specs.Breaks.{break_fault};
 ghost use Rattle.rsp_debug.specs.Watches.{number_for};
 ghost use Rattle.rsp_bench.specs.Session.{load_answer, step_answer, read_answer, task_answer, run_answer, break_answer, unbreak_answer, watch_answer, unwatch_answer, back_fault, back_answer, memory_text, dis_text, look_text};
 
-use crate::looks::{push_sp_line, tell_dump, tell_listing, tell_registers, tell_sp_registers};
-use crate::replies::{
-    tell_back_fault, tell_break_fault, tell_count, tell_no_break, tell_no_watch, tell_ok,
-    tell_range, tell_step, tell_stop, tell_task_fault, tell_watch, tell_watch_fault,
-};
+use crate::looks::{push_sp_line, put_dump, put_listing, put_registers, put_sp_registers};
+use crate::replies::{put_fault, put_ok, put_step, put_stop, put_watch};
 use crate::session::Session;
-use crate::vector_looks::{tell_accumulators, tell_flags, tell_vector_registers};
+use crate::vector_looks::{put_accumulators, put_flags, put_vector_registers};
 use rsp_lines::Reply;
 use rsp_memory::Bank;
 use rsp_script::Look;
 
-/// What each command does where no block is open.
+/// What each command does if no block is open. Each call takes an empty reply, and writes the whole of the command's reply.
 impl Session {
+    /// `load`: RangeFault if a byte is outside the bank.
     #[tactic(auto, unfolding(crate::specs::Session::load_answer))]
     pub(crate) fn load(&mut self, bank: Bank, address: u32, bytes: &[u8], reply: &mut Reply)
         requires { reply.old ≡ [] }
@@ -25,11 +23,12 @@ impl Session {
         ensures next { self.new ≡ (load_answer bank address bytes.now self.old).next }
     {
         match self.debugger.load_bytes(bank, address, bytes) {
-            Ok(()) => tell_ok(reply),
-            Err(_) => tell_range(reply),
+            Ok(()) => put_ok(reply),
+            Err(fault) => put_fault(reply, fault),
         }
     }
 
+    /// `step`.
     #[tactic(auto, unfolding(crate::specs::Session::step_answer))]
     pub(crate) fn step(&mut self, reply: &mut Reply)
         requires { reply.old ≡ [] }
@@ -37,9 +36,10 @@ impl Session {
         ensures next { self.new ≡ (step_answer self.old).next }
     {
         let end = self.debugger.step();
-        tell_step(reply, end, self.debugger.machine().pc())
+        put_step(reply, end, self.debugger.machine().pc())
     }
 
+    /// `run`: Count if the limit is out of its range.
     #[tactic(auto, unfolding(crate::specs::Session::run_answer))]
     pub(crate) fn run(&mut self, limit: u32, reply: &mut Reply)
         requires { reply.old ≡ [] }
@@ -47,11 +47,12 @@ impl Session {
         ensures next { self.new ≡ (run_answer limit self.old).next }
     {
         match self.debugger.run(limit) {
-            Ok(stop) => tell_stop(reply, stop),
-            Err(_) => tell_count(reply),
+            Ok(stop) => put_stop(reply, stop),
+            Err(fault) => put_fault(reply, fault),
         }
     }
 
+    /// `break`: BreakTwice or BreakFull.
     pub(crate) fn add_break(&mut self, place: u16, reply: &mut Reply)
         requires below { place < 4096 }
         requires whole { place % 4 ≡ 0 }
@@ -60,11 +61,12 @@ impl Session {
         ensures next { self.new ≡ (break_answer (break_fault place self.old.debugging.breaks) place self.old).next }
     {
         match self.debugger.add_break(place) {
-            Ok(()) => tell_ok(reply),
-            Err(fault) => tell_break_fault(reply, fault),
+            Ok(()) => put_ok(reply),
+            Err(fault) => put_fault(reply, fault),
         }
     }
 
+    /// `unbreak`: NoBreak.
     pub(crate) fn drop_break(&mut self, place: u16, reply: &mut Reply)
         requires below { place < 4096 }
         requires whole { place % 4 ≡ 0 }
@@ -73,44 +75,48 @@ impl Session {
         ensures next { self.new ≡ (unbreak_answer place self.old).next }
     {
         match self.debugger.drop_break(place) {
-            Ok(()) => tell_ok(reply),
-            Err(_) => tell_no_break(reply),
+            Ok(()) => put_ok(reply),
+            Err(fault) => put_fault(reply, fault),
         }
     }
 
+    /// `watch`: WatchRange or WatchFull. The reply has the number of the watch.
     pub(crate) fn add_watch(&mut self, address: u32, len: u32, reply: &mut Reply)
         requires { reply.old ≡ [] }
         ensures reply { reply.new ≡ (watch_answer (number_for address len self.old.debugging.watches) address len self.old).reply }
         ensures next { self.new ≡ (watch_answer (number_for address len self.old.debugging.watches) address len self.old).next }
     {
         match self.debugger.add_watch(address, len) {
-            Ok(number) => tell_watch(reply, number),
-            Err(fault) => tell_watch_fault(reply, fault),
+            Ok(number) => put_watch(reply, number),
+            Err(fault) => put_fault(reply, fault),
         }
     }
 
+    /// `unwatch`: NoWatch.
     pub(crate) fn drop_watch(&mut self, number: u32, reply: &mut Reply)
         requires { reply.old ≡ [] }
         ensures reply { reply.new ≡ (unwatch_answer number self.old).reply }
         ensures next { self.new ≡ (unwatch_answer number self.old).next }
     {
         match self.debugger.drop_watch(number) {
-            Ok(()) => tell_ok(reply),
-            Err(_) => tell_no_watch(reply),
+            Ok(()) => put_ok(reply),
+            Err(fault) => put_fault(reply, fault),
         }
     }
 
+    /// `back`: Count or ShortHistory.
     pub(crate) fn back(&mut self, count: u32, reply: &mut Reply)
         requires { reply.old ≡ [] }
         ensures reply { reply.new ≡ (back_answer (back_fault count self.old.debugging.past) count self.old).reply }
         ensures next { self.new ≡ (back_answer (back_fault count self.old.debugging.past) count self.old).next }
     {
         match self.debugger.back(count) {
-            Ok(()) => tell_ok(reply),
-            Err(fault) => tell_back_fault(reply, fault),
+            Ok(()) => put_ok(reply),
+            Err(fault) => put_fault(reply, fault),
         }
     }
 
+    /// `read`: a read of register 7 takes the semaphore.
     pub(crate) fn read(&mut self, register: u8, reply: &mut Reply)
         requires register { register < 16 }
         requires empty { reply.old ≡ [] }
@@ -121,18 +127,19 @@ impl Session {
         push_sp_line(reply, register, value);
     }
 
+    /// `task`: TaskPlace or TaskSize.
     pub(crate) fn start(&mut self, address: u32, reply: &mut Reply)
         requires { reply.old ≡ [] }
         ensures reply { reply.new ≡ (task_answer (task_fault address self.old.debugging.state.rdram) address self.old).reply }
         ensures next { self.new ≡ (task_answer (task_fault address self.old.debugging.state.rdram) address self.old).next }
     {
         match self.debugger.start_task(address) {
-            Ok(()) => tell_ok(reply),
-            Err(fault) => tell_task_fault(reply, fault),
+            Ok(()) => put_ok(reply),
+            Err(fault) => put_fault(reply, fault),
         }
     }
 
-    /// A call of its own, so that other commands don't pay for its place of 256 bytes.
+    /// `mem`. It isn't inlined, since its local of 256 bytes would slow all other commands down.
     #[inline(never)]
     fn memory(&self, bank: Bank, address: u32, len: u32, reply: &mut Reply)
         requires address { address ≤ 16777215 }
@@ -142,12 +149,12 @@ impl Session {
         ensures { reply.new ≡ memory_text bank address len self.now.debugging.state }
     {
         match self.debugger.memory(bank, address, len as usize) {
-            Ok(bytes) => tell_dump(reply, address, bytes.as_slice()),
-            Err(_) => tell_range(reply),
+            Ok(bytes) => put_dump(reply, address, bytes.as_slice()),
+            Err(fault) => put_fault(reply, fault),
         }
     }
 
-    /// A call of its own, so that other commands don't pay for its place of 64 lines.
+    /// `dis`. It isn't inlined, since its local of 64 lines would slow all other commands down.
     #[inline(never)]
     fn disassembly(&self, place: u16, count: u32, reply: &mut Reply)
         requires below { place < 4096 }
@@ -158,26 +165,26 @@ impl Session {
         ensures { reply.new ≡ dis_text place count self.now.debugging.state }
     {
         match self.debugger.listing(place, count as u16) {
-            Ok(words) => tell_listing(reply, words.as_slice()),
-            Err(_) => tell_range(reply),
+            Ok(words) => put_listing(reply, words.as_slice()),
+            Err(fault) => put_fault(reply, fault),
         }
     }
 
-    /// What a look shows.
+    /// The commands that show a part of the session, and change nothing.
     pub(crate) fn show(&self, look: &Look, reply: &mut Reply)
         requires look { IsLook look.now }
         requires empty { reply.old ≡ [] }
         ensures { reply.new ≡ look_text look.now self.now.debugging.state }
     {
         match look {
-            Look::Regs => tell_registers(reply, &self.debugger),
-            Look::Vregs => tell_vector_registers(reply, &self.debugger),
-            Look::Acc => tell_accumulators(reply, &self.debugger),
+            Look::Regs => put_registers(reply, &self.debugger),
+            Look::Vregs => put_vector_registers(reply, &self.debugger),
+            Look::Acc => put_accumulators(reply, &self.debugger),
             Look::Flags => {
                 let (flags, divider) = self.debugger.flags();
-                tell_flags(reply, flags, divider)
+                put_flags(reply, flags, divider)
             }
-            Look::Sp => tell_sp_registers(reply, self.debugger.sp_regs()),
+            Look::Sp => put_sp_registers(reply, self.debugger.sp_regs()),
             Look::Mem { bank, address, len } => self.memory(*bank, *address, *len, reply),
             Look::Dis { address, count } => self.disassembly(*address, *count, reply),
         }

@@ -1,7 +1,12 @@
-//! The bench: scripts and their replies.
+//! Answering a script: commands to replies.
+//!
+//! [`run_bench`] answers a whole script over an image of the RDRAM. Its contract is the main theorem: the replies are those that
+//! the definitions of the machine and of the commands give. A [`Session`] answers one command at a time; [`laws`] has what
+//! holds of all sessions and scripts.
 #![tactic(auto)]
 
 mod commands;
+mod faults;
 pub mod laws;
 mod looks;
 mod replies;

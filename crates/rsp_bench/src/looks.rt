@@ -19,7 +19,7 @@ fn push_word(reply: &mut Reply, word: u32)
     reply.push_hex(word, 8);
 }
 
-/// Four registers from `first` on.
+/// Four registers, from `first` on.
 #[tactic(auto, using(rsp_lines::proofs::Texts::parts))]
 fn push_four(reply: &mut Reply, words: &[u32; 32], first: u8)
     requires registers { first + 4 ≤ 32 }
@@ -55,9 +55,9 @@ fn push_register_lines(reply: &mut Reply, words: &[u32; 32])
     }
 }
 
-/// The places and the scalar registers.
+/// `regs`: the program counters and the scalar registers.
 #[tactic(auto, using(rsp_lines::proofs::Texts::parts), unfolding(crate::specs::Looks::registers_text))]
-pub(crate) fn tell_registers<A: Acc>(reply: &mut Reply, debugger: &Debugger<A>)
+pub(crate) fn put_registers<A: Acc>(reply: &mut Reply, debugger: &Debugger<A>)
     requires { reply.old ≡ [] }
     ensures { reply.new ≡ registers_text debugger.now.state }
 {
@@ -70,7 +70,7 @@ pub(crate) fn tell_registers<A: Acc>(reply: &mut Reply, debugger: &Debugger<A>)
     push_register_lines(reply, &places.words);
 }
 
-/// One SP register: its number below 16, and its value.
+/// One SP register: its number, below 16, and its value.
 #[tactic(auto, using(rsp_lines::proofs::Texts::parts), unfolding(crate::specs::Looks::sp_line))]
 pub(crate) fn push_sp_line(reply: &mut Reply, n: u8, value: u32)
     requires register { n < 16 }
@@ -97,7 +97,7 @@ fn push_sp_lines(reply: &mut Reply, sp: &SpRegs)
 
 /// The SP registers as they would read, and the interrupt flag.
 #[tactic(auto, using(rsp_lines::proofs::Texts::parts), unfolding(crate::specs::Looks::sp_text))]
-pub(crate) fn tell_sp_registers(reply: &mut Reply, sp: &SpRegs)
+pub(crate) fn put_sp_registers(reply: &mut Reply, sp: &SpRegs)
     requires { reply.old ≡ [] }
     ensures { reply.new ≡ sp_text sp.now }
 {
@@ -133,7 +133,7 @@ fn push_dump_line(reply: &mut Reply, a: u32, bytes: &[u8])
     reply.push_text(b"\n");
 }
 
-/// At most 16 bytes in front.
+/// The first bytes, at most 16.
 fn first_line(bytes: &[u8]) -> &[u8]
     ensures value { result.now ≡ take 16 bytes.now }
     ensures few { length result.now ≤ 16 }
@@ -141,7 +141,7 @@ fn first_line(bytes: &[u8]) -> &[u8]
     &bytes[..bytes.len().min(16)]
 }
 
-/// Line `k` of the bytes that stand at an address.
+/// Line `k` of the bytes at an address.
 fn push_dump_row(reply: &mut Reply, a: u32, bytes: &[u8], k: usize)
     requires inside { 16 * k ≤ length bytes.now }
     requires place { a + length bytes.now < 2 ^ 31 }
@@ -153,9 +153,9 @@ fn push_dump_row(reply: &mut Reply, a: u32, bytes: &[u8], k: usize)
     push_dump_line(reply, a + start as u32, first_line(&bytes[start..]));
 }
 
-/// At most 256 bytes that stand at an address, 16 in a line.
+/// `mem`: at most 256 bytes at an address, 16 in a line.
 #[tactic(auto, using(rsp_lines::proofs::Texts::parts), unfolding(crate::specs::Looks::dump_text))]
-pub(crate) fn tell_dump(reply: &mut Reply, a: u32, bytes: &[u8])
+pub(crate) fn put_dump(reply: &mut Reply, a: u32, bytes: &[u8])
     requires place { a + length bytes.now < 2 ^ 31 }
     requires few { length bytes.now ≤ 256 }
     requires empty { reply.old ≡ [] }
@@ -179,9 +179,9 @@ fn push_listed_line(reply: &mut Reply, listed: &Listed)
     reply.push_text(b"\n");
 }
 
-/// At most 64 words of IMEM, a line each.
+/// `dis`: at most 64 words of IMEM with their disassembly, a line each.
 #[tactic(auto, using(rsp_lines::proofs::Texts::parts), unfolding(crate::specs::Looks::listing_text))]
-pub(crate) fn tell_listing(reply: &mut Reply, words: &[Listed])
+pub(crate) fn put_listing(reply: &mut Reply, words: &[Listed])
     requires few { length words.now ≤ 64 }
     requires empty { reply.old ≡ [] }
     ensures { reply.new ≡ listing_text words.now }

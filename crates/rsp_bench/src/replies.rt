@@ -1,108 +1,34 @@
 ghost use Rattle.std.specs.Prelude.{◌≡◌, ◌+◌, ◌≤◌, [], ◌++◌, length, decimal};
-ghost use Rattle.rsp_bench.specs.Replies.{ok_text, fault_line, range_text, line_fault_text, task_fault_text, break_fault_text, no_break_text, watch_fault_text, no_watch_text, back_fault_text, count_text, step_text, reason_text, stop_text, watch_text, words_text, asm_fault_text};
+ghost use Rattle.rsp_bench.specs.Replies.{ok_text, fault_line, step_text, reason_text, stop_text, watch_text, words_text, asm_fault_text};
 
+use crate::faults::NamedFault;
 use itoa::Buffer;
 use rsp_asm::AsmFault;
-use rsp_debug::{BackFault, BreakFault, Reason, Stop, WatchFault};
+use rsp_debug::{Reason, Stop};
 use rsp_lines::{REPLY_LIMIT, Reply};
-use rsp_machine::{StepEnd, TaskFault};
-use rsp_script::LineFault;
+use rsp_machine::StepEnd;
 
-/// The reply of a fault, by its number and its name.
+/// The reply that refuses a command: the number and the name of the fault.
 #[tactic(auto, using(rsp_lines::proofs::Texts::parts))]
-fn tell_fault(reply: &mut Reply, name: &str)
-    requires short { length name.now ≤ 32 }
-    requires empty { reply.old ≡ [] }
-    ensures { reply.new ≡ fault_line name.now }
+pub(crate) fn put_fault<F: NamedFault>(reply: &mut Reply, fault: F)
+    requires { reply.old ≡ [] }
+    ensures { reply.new ≡ fault_line (F.text fault) }
 {
     reply.push_text(b"fault ");
-    reply.push_text(name.as_bytes());
+    reply.push_text(fault.name().as_bytes());
     reply.push_text(b"\n");
 }
 
-pub(crate) fn tell_ok(reply: &mut Reply)
+/// The reply to a command that shows nothing.
+pub(crate) fn put_ok(reply: &mut Reply)
     requires { reply.old ≡ [] }
     ensures { reply.new ≡ ok_text }
 {
     reply.push_text(b"ok\n");
 }
 
-pub(crate) fn tell_range(reply: &mut Reply)
-    requires { reply.old ≡ [] }
-    ensures { reply.new ≡ range_text }
-{
-    tell_fault(reply, "6 RangeFault");
-}
-
-pub(crate) fn tell_line_fault(reply: &mut Reply, fault: LineFault)
-    requires { reply.old ≡ [] }
-    ensures { reply.new ≡ line_fault_text fault }
-{
-    tell_fault(reply, fault.as_str());
-}
-
-pub(crate) fn tell_task_fault(reply: &mut Reply, fault: TaskFault)
-    requires { reply.old ≡ [] }
-    ensures { reply.new ≡ task_fault_text fault }
-{
-    match fault {
-        TaskFault::TaskPlace => tell_fault(reply, "4 TaskPlace"),
-        TaskFault::TaskSize => tell_fault(reply, "5 TaskSize"),
-    }
-}
-
-pub(crate) fn tell_break_fault(reply: &mut Reply, fault: BreakFault)
-    requires { reply.old ≡ [] }
-    ensures { reply.new ≡ break_fault_text fault }
-{
-    match fault {
-        BreakFault::BreakFull => tell_fault(reply, "20 BreakFull"),
-        BreakFault::BreakTwice => tell_fault(reply, "21 BreakTwice"),
-    }
-}
-
-pub(crate) fn tell_no_break(reply: &mut Reply)
-    requires { reply.old ≡ [] }
-    ensures { reply.new ≡ no_break_text }
-{
-    tell_fault(reply, "22 NoBreak");
-}
-
-pub(crate) fn tell_watch_fault(reply: &mut Reply, fault: WatchFault)
-    requires { reply.old ≡ [] }
-    ensures { reply.new ≡ watch_fault_text fault }
-{
-    match fault {
-        WatchFault::WatchFull => tell_fault(reply, "23 WatchFull"),
-        WatchFault::WatchRange => tell_fault(reply, "25 WatchRange"),
-    }
-}
-
-pub(crate) fn tell_no_watch(reply: &mut Reply)
-    requires { reply.old ≡ [] }
-    ensures { reply.new ≡ no_watch_text }
-{
-    tell_fault(reply, "24 NoWatch");
-}
-
-pub(crate) fn tell_count(reply: &mut Reply)
-    requires { reply.old ≡ [] }
-    ensures { reply.new ≡ count_text }
-{
-    tell_fault(reply, "26 Count");
-}
-
-pub(crate) fn tell_back_fault(reply: &mut Reply, fault: BackFault)
-    requires { reply.old ≡ [] }
-    ensures { reply.new ≡ back_fault_text fault }
-{
-    match fault {
-        BackFault::Count => tell_count(reply),
-        BackFault::ShortHistory => tell_fault(reply, "27 ShortHistory"),
-    }
-}
-
-pub(crate) fn tell_step(reply: &mut Reply, end: StepEnd, pc: u16)
+/// How a step ended, and pc after it.
+pub(crate) fn put_step(reply: &mut Reply, end: StepEnd, pc: u16)
     requires { reply.old ≡ [] }
     ensures { reply.new ≡ step_text end pc }
 {
@@ -150,7 +76,7 @@ fn push_reason(reply: &mut Reply, reason: Reason)
 
 /// Why a run stopped, how many steps it made, and pc after it.
 #[tactic(auto, using(rsp_lines::proofs::Texts::parts))]
-pub(crate) fn tell_stop(reply: &mut Reply, stop: Stop)
+pub(crate) fn put_stop(reply: &mut Reply, stop: Stop)
     requires { reply.old ≡ [] }
     ensures { reply.new ≡ stop_text stop }
 {
@@ -165,7 +91,7 @@ pub(crate) fn tell_stop(reply: &mut Reply, stop: Stop)
 
 /// The number of a new watch.
 #[tactic(auto, using(rsp_lines::proofs::Texts::parts))]
-pub(crate) fn tell_watch(reply: &mut Reply, number: usize)
+pub(crate) fn put_watch(reply: &mut Reply, number: usize)
     requires { reply.old ≡ [] }
     ensures { reply.new ≡ watch_text number }
 {
@@ -174,9 +100,9 @@ pub(crate) fn tell_watch(reply: &mut Reply, number: usize)
     reply.push_text(b"\n");
 }
 
-/// How many words a block gave.
+/// How many words a block has.
 #[tactic(auto, using(rsp_lines::proofs::Texts::parts))]
-pub(crate) fn tell_words(reply: &mut Reply, count: usize)
+pub(crate) fn put_words(reply: &mut Reply, count: usize)
     requires { reply.old ≡ [] }
     ensures { reply.new ≡ words_text count }
 {
@@ -185,9 +111,9 @@ pub(crate) fn tell_words(reply: &mut Reply, count: usize)
     reply.push_text(b" words\n");
 }
 
-/// Why a block gave no words, and the number of the line.
+/// Why a block has no words, and the number of the line in the block.
 #[tactic(auto, using(rsp_lines::proofs::Texts::parts))]
-pub(crate) fn tell_asm_fault(reply: &mut Reply, fault: AsmFault)
+pub(crate) fn put_asm_fault(reply: &mut Reply, fault: AsmFault)
     requires { reply.old ≡ [] }
     ensures { reply.new ≡ asm_fault_text fault }
 {

@@ -1,9 +1,8 @@
-ghost use Rattle.std.specs.Prelude.{◌≡◌, ℕ, ◌<◌, ◌≤◌, ◌+◌, ◌-◌, ◌^◌, List, length, take, IfSome};
+ghost use Rattle.std.specs.Prelude.{◌≡◌, ◌<◌, ◌≤◌, ◌+◌, ◌-◌, ◌^◌, length, IfSome};
 ghost use Rattle.std.specs.Io.KnownBytes.{append_known};
-ghost use Rattle.rsp_lines.specs.Left.{TakesAtMost, Takes, EndedLinesWritten, FrontWritten};
-ghost use Rattle.rsp_lines.specs.Lines.{ended_lines};
-ghost use Rattle.rsp_lines.specs.Replies.{replies};
-ghost use Rattle.rsp_bench.specs.Run.{out_of, session_of, failed_reads, failed_writes, IfFinished};
+ghost use Rattle.rsp_lines.specs.Faults.{failed_reads, failed_writes};
+ghost use Rattle.rsp_lines.specs.Left.{TakesAtMost, Takes, LeavesWritten};
+ghost use Rattle.rsp_bench.specs.Run.{out_of, session_of, outcome, IfFinished};
 ghost use Rattle.rsp_bench.specs.Session.{line_answer, closing, first_session};
 
 use crate::session::Session;
@@ -11,26 +10,26 @@ use rsp_lines::{RunFault, SCRIPT_LIMIT, Sink, Source, answer_script};
 use rsp_memory::Rdram;
 use std::alloc::Global;
 
-/// How a run ended.
+/// How a run of a script ended. What it had written is a clause of [`run_bench`].
 #[derive(Drop)]
 pub enum BenchEnd {
-    /// The whole script is answered.
+    /// The whole script is answered. The session is the one that its lines left.
     Finished(Session),
-    /// 40: a read failed.
+    /// Fault 40: a read failed.
     ReadFault,
-    /// 41: a write failed, or took nothing of a piece that isn't empty.
+    /// Fault 41: a write failed, or took nothing of a piece that isn't empty.
     WriteFault,
-    /// 42: the script has more than 1,048,576 bytes.
+    /// Fault 42: the script has more than 1,048,576 bytes.
     ScriptTooLong,
-    /// 43: there was no memory.
+    /// Fault 43: there was no memory for the session, or for an open block.
     OutOfMemory,
 }
 
-/// Answers a script: reads it by pieces of at most 4096 bytes, carries out each line on a machine that begins with
-/// this image of the RDRAM, and writes the reply to each line before it asks for the next piece.
+/// Answers a script. It reads pieces of at most 4096 bytes, carries out each line on a machine that begins with this image of
+/// the RDRAM, and writes the reply to each line before it reads the next piece. A read or a write that fails ends the run.
 ///
-/// The headline: where the two ends tell their bytes, what a finished run wrote is what the definitions of the machine
-/// and of the commands give for the script and the image.
+/// The main theorem: if source and sink name their bytes, what a finished run wrote is what the definitions of the machine and of
+/// the commands give for the script and the image.
 #[tactic(auto, using(crate::proofs::Starts::starts))]
 pub fn run_bench<R: Source, W: Sink>(
     alloc: Global,
@@ -47,46 +46,23 @@ pub fn run_bench<R: Source, W: Sink>(
         (W.written sink.new ≡ append_known (W.written sink.old) (out_of script image))
         × (session ≡ session_of script image))) }
 
-    // Each other end has its cause, and a read or a write that failed is not tried again: a finished run had none.
-    ensures reads { R.fault_count source.new ≡ R.fault_count source.old + failed_reads result }
-    ensures writes { W.fault_count sink.new ≡ W.fault_count sink.old + failed_writes result }
+    // Each other end has its cause. A read or a write that failed is not tried again, so a finished run had none.
+    ensures reads { R.fault_count source.new ≡ R.fault_count source.old + failed_reads (outcome result) }
+    ensures writes { W.fault_count sink.new ≡ W.fault_count sink.old + failed_writes (outcome result) }
     ensures long { IfSome (R.rest source.old) (λ script. result ≡ BenchEnd.ScriptTooLong → SCRIPT_LIMIT < length script) }
     ensures past { result ≡ BenchEnd.ScriptTooLong → Takes (SCRIPT_LIMIT + 1) (R.rest source.old) (R.rest source.new) }
     ensures few { TakesAtMost (SCRIPT_LIMIT + 1) (R.rest source.old) (R.rest source.new) }
 
-    // What each other end leaves written.
-    ensures left_read { result ≡ BenchEnd.ReadFault →
-        EndedLinesWritten (record {
-          answered = line_answer;
-          closing = closing;
-          session = first_session image;
-          script = R.rest source.old;
-          unread = R.rest source.new;
-          before = W.written sink.old;
-          written = W.written sink.new;
-        }) }
-    ensures left_long { IfSome (R.rest source.old) (λ script. result ≡ BenchEnd.ScriptTooLong →
-        W.written sink.new ≡ append_known (W.written sink.old) (replies line_answer (ended_lines (take SCRIPT_LIMIT script)) (first_session image))) }
-    ensures left_write { result ≡ BenchEnd.WriteFault →
-        FrontWritten (record {
-          answered = line_answer;
-          closing = closing;
-          session = first_session image;
-          script = R.rest source.old;
-          unread = R.rest source.new;
-          before = W.written sink.old;
-          written = W.written sink.new;
-        }) }
-    ensures left_memory { result ≡ BenchEnd.OutOfMemory →
-        FrontWritten (record {
-          answered = line_answer;
-          closing = closing;
-          session = first_session image;
-          script = R.rest source.old;
-          unread = R.rest source.new;
-          before = W.written sink.old;
-          written = W.written sink.new;
-        }) }
+    // What a run that ends early has written.
+    ensures left { LeavesWritten (outcome result) (record {
+      answered = line_answer;
+      closing = closing;
+      session = first_session image;
+      script = R.rest source.old;
+      unread = R.rest source.new;
+      before = W.written sink.old;
+      written = W.written sink.new;
+    }) }
 {
     let Ok(mut session) = Session::try_new(alloc, image) else {
         return BenchEnd::OutOfMemory;

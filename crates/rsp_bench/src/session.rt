@@ -6,7 +6,7 @@ ghost use Rattle.rsp_asm.specs.Block.{with_line, meaning};
 ghost use Rattle.rsp_bench.specs.Session.{NeedsNoMemory, HidesNoBlockFault, EndHidesNoBlockFault, answer_of, plain_answer, block_answer, with_block, end_answer, line_answer, first_session, closing, in_block};
 ghost use Rattle.rsp_bench.specs.Replies.{line_fault_text};
 
-use crate::replies::{tell_asm_fault, tell_line_fault, tell_ok, tell_words};
+use crate::replies::{put_asm_fault, put_fault, put_ok, put_words};
 use crate::words::load_words;
 use rsp_acc::PlaneAcc;
 use rsp_asm::{AsmFault, AsmFaultKind, Block, BlockFault};
@@ -18,10 +18,11 @@ use rsp_script::{Command, LineFault, SourceLine, parse_line};
 use std::alloc::{AllocError, Global};
 use std::marker::Model;
 
-/// How many steps a session can go back.
-const PAST_DEPTH: usize = 256;
+/// How many steps a session can undo.
+const HISTORY_DEPTH: usize = 256;
 
-/// A machine under a debugger that answers the commands of a script, and the block of source text that is open.
+/// What answers the commands of a script: a machine in a debugger, and the block of source text that is open. Contracts see it
+/// as the record `SessionState`.
 #[derive(Drop)]
 pub struct Session {
     pub(crate) debugger: Debugger<PlaneAcc>,
@@ -37,14 +38,14 @@ impl Model for Session {
 }
 
 impl Session {
-    /// A session whose machine has this image of the RDRAM, and all else as at the start. All memory for the 256 steps that it
-    /// can go back is taken here. Where there is none, the image is handed back.
+    /// A session whose machine has this image of the RDRAM, and all else as at the start: no breakpoint, no watch, no history and
+    /// no open block. The memory for its history of 256 steps is taken here. If there is none, the image is handed back.
     #[tactic(auto, unfolding(rsp_machine::specs::State::start_of))]
     pub fn try_new(alloc: Global, image: Rdram) -> Result<Session, (Rdram, AllocError)>
         ensures ok { IfOk result (λ session. session ≡ first_session image) }
         ensures err { IfErr result (λ refused. refused.0 ≡ image) }
     {
-        match Debugger::try_new(alloc, Machine::new(image), PAST_DEPTH) {
+        match Debugger::try_new(alloc, Machine::new(image), HISTORY_DEPTH) {
             Ok(debugger) => Ok(Session {
                 debugger,
                 block: None,
@@ -60,7 +61,7 @@ impl Session {
         self.block.is_some()
     }
 
-    /// Does a command where no block is open.
+    /// Carries out a command while no block is open.
     fn answer_plain(&mut self, alloc: Global, command: &Command, reply: &mut Reply)
         requires command { IsCommand command.now }
         requires closed { self.old.block ≡ None }
@@ -85,20 +86,20 @@ impl Session {
             Command::Read { register } => self.read(*register, reply),
             Command::Write { register, value } => {
                 self.debugger.write_reg(u32::from(*register), *value);
-                tell_ok(reply);
+                put_ok(reply);
             }
             Command::SetPc { address } => {
                 self.debugger.set_pc(*address);
-                tell_ok(reply);
+                put_ok(reply);
             }
             Command::Task { address } => self.start(*address, reply),
             Command::Show(look) => self.show(look, reply),
             Command::Asm { address } => self.block = Some(Block::new(alloc, *address)),
-            Command::BlockLine(_) | Command::End => tell_line_fault(reply, LineFault::BadCommand),
+            Command::BlockLine(_) | Command::End => put_fault(reply, LineFault::BadCommand),
         }
     }
 
-    /// Keeps a line of the open block.
+    /// Appends a line to the open block. AllocError if there is no memory for it: then nothing changes.
     fn keep(&mut self, line: &SourceLine) -> Result<(), AllocError>
         requires open { IsSome self.old.block }
         requires text { list_all is_plain line.now ≡ true }
@@ -111,7 +112,8 @@ impl Session {
         Ok(())
     }
 
-    /// Closes the open block: its words go to IMEM, or its fault is told.
+    /// Closes the open block and assembles it: its words go to IMEM, or the reply is its fault. AllocError if there is no memory
+    /// for that: then nothing changes.
     fn end(&mut self, alloc: Global, reply: &mut Reply) -> Result<(), AllocError>
         requires open { IsSome self.old.block }
         requires empty { reply.old ≡ [] }
@@ -126,18 +128,20 @@ impl Session {
         match block.assemble(alloc) {
             Ok(words) => {
                 load_words(&mut self.debugger, block.place(), words.as_slice());
-                tell_words(reply, words.len());
+                put_words(reply, words.len());
             }
-            Err(BlockFault::Text(fault)) => tell_asm_fault(reply, fault),
+            Err(BlockFault::Text(fault)) => put_asm_fault(reply, fault),
             Err(BlockFault::OutOfMemory { .. }) => return Err(AllocError),
         }
         self.block = None;
         Ok(())
     }
 
-    /// Carries out a command that `parse_line` gave, and answers it. Only a line of an open block and its `end` may need
-    /// memory; where there is none, the session stays as it was, and the block stays open. At an `end` memory runs out at a
-    /// line with a label, and no line up to that one has a fault of the first pass: so no fault of the text is hidden.
+    /// Carries out a command, and returns its reply. The operands must be in the ranges that `parse_line` promises.
+    ///
+    /// AllocError if there is no memory: then the session stays as it was, and a block stays open. Only a line of an open block
+    /// and its `end` may need memory. AllocError hides no fault of the block's text: at an `end` it comes at a line with a label,
+    /// if no line up to that one has a fault of the first pass.
     #[tactic(auto, unfolding(crate::specs::Session::answer_of))]
     pub fn exec(&mut self, alloc: Global, command: &Command) -> Result<Reply, AllocError>
         requires { IsCommand command.now }
@@ -152,7 +156,7 @@ impl Session {
         Ok(reply)
     }
 
-    /// Carries out a command as `exec` does, and answers it in an empty reply.
+    /// Carries out a command as `exec` does, and writes its reply into an empty one.
     #[tactic(auto, unfolding(crate::specs::Session::answer_of))]
     fn exec_to(
         &mut self,
@@ -172,12 +176,12 @@ impl Session {
             (command, false) => self.answer_plain(alloc, command, reply),
             (Command::BlockLine(line), true) => self.keep(line)?,
             (Command::End, true) => self.end(alloc, reply)?,
-            _ => tell_line_fault(reply, LineFault::BadCommand),
+            _ => put_fault(reply, LineFault::BadCommand),
         }
         Ok(())
     }
 
-    /// Whether a line is answered with nothing, and changes nothing, for it has no bytes and no block is open.
+    /// Whether a line is empty outside a block, so that it has no reply and no effect.
     #[tactic(auto, using(crate::proofs::Blank::reply, crate::proofs::Blank::next))]
     fn says_nothing(&self, line: &[u8]) -> bool
         ensures reply { result ≡ true → (line_answer line.now self.now).reply ≡ [] }
@@ -190,8 +194,7 @@ impl Session {
         }
     }
 
-    /// Answers a line in a reply that says nothing so far. It is a call of its own, so that a line without bytes doesn't pay
-    /// for the places of a command.
+    /// Answers a line in an empty reply. It isn't inlined, since a command's locals would slow empty lines down.
     #[inline(never)]
     #[tactic(auto, unfolding(crate::specs::Session::line_answer))]
     fn answer_text(
@@ -206,12 +209,12 @@ impl Session {
     {
         match &parse_line(line, self.in_block()) {
             Ok(command) => self.exec_to(alloc, command, reply)?,
-            Err(fault) => tell_line_fault(reply, *fault),
+            Err(fault) => put_fault(reply, *fault),
         }
         Ok(())
     }
 
-    /// The closing fault: that of a block which is open at the end of the script, else nothing.
+    /// The reply at the end of a script: the fault BadLine if a block is still open, with the line after its last, else nothing.
     pub fn finish(&self) -> Reply
         ensures { result ≡ closing self.now }
     {
@@ -220,7 +223,7 @@ impl Session {
         reply
     }
 
-    /// The image of the RDRAM; the rest of the session is dropped.
+    /// The image of the RDRAM. The rest of the session is dropped.
     pub fn into_rdram(self) -> Rdram
         ensures { result ≡ self.debugging.state.rdram }
     {
@@ -252,7 +255,7 @@ impl Answering for Session {
                 line: block.line_count() + 1,
                 kind: AsmFaultKind::BadLine,
             };
-            tell_asm_fault(reply, fault);
+            put_asm_fault(reply, fault);
         }
     }
 

@@ -44,9 +44,9 @@ fn push_vector_line(reply: &mut Reply, n: u8, register: &VReg)
     reply.push_text(b"\n");
 }
 
-/// The 32 vector registers.
+/// `vregs`: the 32 vector registers.
 #[tactic(auto, using(rsp_lines::proofs::Texts::parts), unfolding(crate::specs::Looks::vectors_text))]
-pub(crate) fn tell_vector_registers<A: Acc>(reply: &mut Reply, debugger: &Debugger<A>)
+pub(crate) fn put_vector_registers<A: Acc>(reply: &mut Reply, debugger: &Debugger<A>)
     requires { reply.old ≡ [] }
     ensures { reply.new ≡ vectors_text debugger.now.state.vectors }
 {
@@ -55,7 +55,7 @@ pub(crate) fn tell_vector_registers<A: Acc>(reply: &mut Reply, debugger: &Debugg
     }
 }
 
-/// One accumulator, by its parts.
+/// One accumulator, by its three parts of 16 bits.
 #[tactic(auto, using(rsp_lines::proofs::Texts::parts), unfolding(crate::specs::Looks::accumulator_line))]
 fn push_accumulator_line(reply: &mut Reply, i: u8, high: u16, middle: u16, low: u16)
     requires lane { i < 8 }
@@ -72,7 +72,7 @@ fn push_accumulator_line(reply: &mut Reply, i: u8, high: u16, middle: u16, low: 
     reply.push_text(b"\n");
 }
 
-/// Eight accumulators, by their parts.
+/// Eight accumulators, by their three parts of 16 bits.
 #[tactic(auto, using(rsp_lines::proofs::Texts::parts))]
 fn push_accumulator_lines(reply: &mut Reply, high: &VReg, middle: &VReg, low: &VReg)
     requires { length reply.old + 136 ≤ REPLY_LIMIT }
@@ -84,9 +84,9 @@ fn push_accumulator_lines(reply: &mut Reply, high: &VReg, middle: &VReg, low: &V
     }
 }
 
-/// The eight accumulators.
+/// `acc`: the eight accumulators.
 #[tactic(auto, using(rsp_lines::proofs::Texts::parts))]
-pub(crate) fn tell_accumulators<A: Acc>(reply: &mut Reply, debugger: &Debugger<A>)
+pub(crate) fn put_accumulators<A: Acc>(reply: &mut Reply, debugger: &Debugger<A>)
     requires { reply.old ≡ [] }
     ensures { reply.new ≡ accumulators_text debugger.now.state.accumulators }
 {
@@ -100,9 +100,9 @@ fn control_half(low: Mask8, high: Mask8) -> u32
     (low.bits() + high.bits() * 256) as u32
 }
 
-/// The control registers, and the divider.
+/// `flags`: the control registers, and the divider.
 #[tactic(auto, using(rsp_lines::proofs::Texts::parts), unfolding(crate::specs::Looks::flags_text))]
-pub(crate) fn tell_flags(reply: &mut Reply, flags: &Flags, divider: &Divider)
+pub(crate) fn put_flags(reply: &mut Reply, flags: &Flags, divider: &Divider)
     requires { reply.old ≡ [] }
     ensures { reply.new ≡ flags_text flags.now divider.now }
 {

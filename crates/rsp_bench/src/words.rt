@@ -10,7 +10,7 @@ use rsp_acc::Acc;
 use rsp_debug::Debugger;
 use rsp_memory::Bank;
 
-/// The bytes of at most 1024 words, the highest of each first.
+/// The bytes of at most 1024 words, the highest byte of each first.
 fn word_bytes(words: &[u32]) -> ArrayVec<u8, 4096>
     requires { length words.now ≤ 1024 }
     ensures bytes { result.items ≡ words_bytes words.now }
@@ -22,7 +22,7 @@ fn word_bytes(words: &[u32]) -> ArrayVec<u8, 4096>
     bytes
 }
 
-/// Writes words to IMEM from a place on; they all stand there. That empties the past, also where there are none.
+/// Writes words to IMEM from an address on. They must fit into it. That empties the history, even if there are no words.
 pub(crate) fn load_words<A: Acc>(debugger: &mut Debugger<A>, place: u16, words: &[u32])
     requires { place + 4 * length words.now ≤ 4096 }
     ensures { debugger.new ≡ brought_to (with_bank_bytes Bank.Imem place (words_bytes words.now) debugger.old.state) debugger.old }

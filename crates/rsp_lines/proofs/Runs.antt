@@ -1,5 +1,5 @@
 -- How far a run came.
-use Rattle.std.proofs.Common.{◌≡◌, ◌≤◌, ◌<◌, ◌+◌, ◌-◌, ℕ, List, [], ◌++◌, min, Option, Some, None, IfSome, length, take, refl, sym, ◌∙◌, ap, inl, inr, arith, append_assoc, length-append, length-take, ◌⊎◌}
+use Rattle.std.proofs.Common.{◌≡◌, ◌≤◌, ◌<◌, ◌+◌, ◌-◌, ℕ, List, [], ◌++◌, min, Option, Some, None, IfSome, Err, length, take, refl, sym, ◌∙◌, ap, inl, inr, arith, append_assoc, length-append, length-take, ◌⊎◌}
 use Rattle.std.proofs.Math.Seq.{take-append-add}
 use Rattle.std.proofs.lemmas.List.{append-nil, take_all, take-append-le, take-take}
 use Rattle.std.proofs.lemmas.Bool.{cases_lt}
@@ -7,8 +7,11 @@ use Rattle.std.proofs.lemmas.Option.{none-some}
 use Rattle.std.specs.Io.KnownBytes.{append_known, prepend_known, IsAtEnd}
 use Rattle.std.specs.Str.Lines.{lines}
 use Rattle.rsp_lines.specs.declared.run.TheConstants.{SCRIPT_LIMIT}
+use Rattle.rsp_lines.specs.declared.run.RunFault.{RunFault}
+use Rattle.rsp_lines.specs.declared.run.RunFault.TheVariants.{ReadFault, WriteFault, ScriptTooLong, OutOfMemory}
+use Rattle.rsp_lines.specs.Faults.{IsAnswerFault}
 use Rattle.rsp_lines.specs.Pieces.{PieceAnswered}
-use Rattle.rsp_lines.specs.Left.{WritesFront, TakesAtMost, Takes, EndedLinesWritten, FrontWritten}
+use Rattle.rsp_lines.specs.Left.{WritesFront, TakesAtMost, Takes, ScriptRun, EndedLinesWritten, FrontWritten, LeavesWritten}
 use Rattle.rsp_lines.specs.Lines.{ended_lines, ended_after, open_after, last_line, kept}
 use Rattle.rsp_lines.specs.Replies.{Answer, LongLinesAlike, replies, final, out_of}
 use Rattle.rsp_lines.proofs.Alike.{Alike, alike-last}
@@ -21,6 +24,13 @@ use Rattle.rsp_lines.proofs.Replies.{replies-append, final-append}
 pub if_some : {A : Type 0} (o : Option A) (P : A → Type 0) → ((x : A) → o ≡ Some x → P x) → IfSome o P
 if_some None P f = tt
 if_some (Some x) P f = f x refl
+
+-- what answering a line or the end can fail by leaves the same written
+pub left_answer : {S : Type 0} (r : ScriptRun S) (fault : RunFault) → IsAnswerFault fault → FrontWritten r → LeavesWritten {A = Unit {0}} (Err fault) r
+left_answer r ReadFault cause front = absurd cause
+left_answer r WriteFault cause front = front
+left_answer r ScriptTooLong cause front = absurd cause
+left_answer r OutOfMemory cause front = front
 
 -- what a source gave that is at its end is all that it had
 told_all : (rest after : Option (List ℕ)) (taken script : List ℕ) → rest ≡ prepend_known taken after → IsAtEnd after → rest ≡ Some script → taken ≡ script
@@ -120,9 +130,9 @@ module _ {S : Type 0} (answered : List ℕ → S → Answer S) (closing : S → 
   progress-past h all = (h.taken, h.told, h.count ∙ all)
 
   -- a script that goes on past the limit
-  pub progress-long : {r u w x : Option (List ℕ)} {l : List ℕ} {s t : S} {total : ℕ} (P : Type 0) → Progress answered r u w x l s t total
-      → SCRIPT_LIMIT < total → IfSome r (λ script. P → x ≡ append_known w (replies answered (ended_lines (take SCRIPT_LIMIT script)) s))
-  progress-long {r = r} {u = u} {w = w} {s = s} P h long = if_some r _ (λ script e _.
+  pub progress-long : {r u w x : Option (List ℕ)} {l : List ℕ} {s t : S} {total : ℕ} → Progress answered r u w x l s t total
+      → SCRIPT_LIMIT < total → IfSome r (λ script. x ≡ append_known w (replies answered (ended_lines (take SCRIPT_LIMIT script)) s))
+  progress-long {r = r} {u = u} {w = w} {s = s} h long = if_some r _ (λ script e.
       let there : (more : List ℕ) × (h.taken ++ more ≡ script) = told_front r u h.taken script h.told e in
       let same : take SCRIPT_LIMIT h.taken ≡ take SCRIPT_LIMIT script =
       sym (take-append-le SCRIPT_LIMIT h.taken there.0 (omega (arith, h.count))) ∙ ap (take SCRIPT_LIMIT) there.1 in

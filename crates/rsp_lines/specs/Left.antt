@@ -1,11 +1,13 @@
--- How far a run came.
-use Rattle.std.specs.Prelude.{◌≡◌, ◌≤◌, ℕ, ◌⊎◌, List, ◌++◌, take, length, Option}
+-- What was read and written when a run ended early.
+use Rattle.std.specs.Prelude.{◌≡◌, ◌≤◌, ℕ, ◌⊎◌, List, ◌++◌, take, length, Option, IfSome, Result, Ok, Err}
 use Rattle.std.specs.Io.KnownBytes.{append_known, prepend_known, IsAtEnd}
 use Rattle.rsp_lines.specs.declared.run.TheConstants.{SCRIPT_LIMIT}
+use Rattle.rsp_lines.specs.declared.run.RunFault.{RunFault}
+use Rattle.rsp_lines.specs.declared.run.RunFault.TheVariants.{ReadFault, WriteFault, ScriptTooLong, OutOfMemory}
 use Rattle.rsp_lines.specs.Lines.{ended_lines}
 use Rattle.rsp_lines.specs.Replies.{Answer, replies, out_of}
 
--- a front of these bytes was written after the old ones, and nothing else
+-- a prefix of these bytes was written after the old ones, and nothing else
 pub record WritesFront (old new : Option (List ℕ)) (bytes : List ℕ) : Type 0 where
   pub front : List ℕ
   pub others : List ℕ
@@ -16,12 +18,12 @@ pub record WritesFront (old new : Option (List ℕ)) (bytes : List ℕ) : Type 0
 abbrev pub TakesAtMost : ℕ → Option (List ℕ) → Option (List ℕ) → Type 0
 TakesAtMost n rest unread = (taken : List ℕ) × (rest ≡ prepend_known taken unread) × (length taken ≤ n)
 
--- just n bytes were taken from a source
+-- exactly n bytes were taken from a source
 abbrev pub Takes : ℕ → Option (List ℕ) → Option (List ℕ) → Type 0
 Takes n rest unread = (taken : List ℕ) × (rest ≡ prepend_known taken unread) × (length taken ≡ n)
 
--- A run of a script: what a line comes to, what is written at the end, what answers the first line; the script before the run, and what of
--- it is left; what was written before the run, and what is written now.
+-- A run of a script: the answer to a line, what is written at the end, and what answers the first line; the bytes of the source
+-- before and after the run; the bytes of the sink before and after it.
 pub record ScriptRun (S : Type 0) : Type 0 where
   pub answered : List ℕ → S → Answer S
   pub closing : S → List ℕ
@@ -39,10 +41,22 @@ pub record EndedLinesWritten {S : Type 0} (r : ScriptRun S) : Type 0 where
   pub few : length taken ≤ SCRIPT_LIMIT
   pub written : r.written ≡ append_known r.before (replies r.answered (ended_lines taken) r.session)
 
--- a front was written of the replies to the lines that had ended in what was taken, as far as it is within the limit of a
--- script, or, where the end of input was met, of all that is written for it; and nothing else was written
+-- a prefix was written of the replies to the lines that had ended in what was taken, as far as it is within the limit of a
+-- script; or, if the end of input was met, a prefix of all that is written for it; and nothing else was written
 pub record FrontWritten {S : Type 0} (r : ScriptRun S) : Type 0 where
   pub taken : List ℕ
   pub told : r.script ≡ prepend_known taken r.unread
   pub front : WritesFront r.before r.written (replies r.answered (ended_lines (take SCRIPT_LIMIT taken)) r.session)
       ⊎ (IsAtEnd r.unread × WritesFront r.before r.written (out_of r.answered r.closing taken r.session))
+
+-- the replies to the lines that ended within the limit of a script were written in full, and nothing else
+abbrev pub LimitWritten : {S : Type 0} → ScriptRun S → Type 0
+LimitWritten r = IfSome r.script (λ script. r.written ≡ append_known r.before (replies r.answered (ended_lines (take SCRIPT_LIMIT script)) r.session))
+
+-- what a run that ended early had written, by its fault
+abbrev pub LeavesWritten : {A S : Type 0} → Result A RunFault → ScriptRun S → Type 0
+LeavesWritten (Ok a) r = Unit {0}
+LeavesWritten (Err ReadFault) r = EndedLinesWritten r
+LeavesWritten (Err WriteFault) r = FrontWritten r
+LeavesWritten (Err ScriptTooLong) r = LimitWritten r
+LeavesWritten (Err OutOfMemory) r = FrontWritten r

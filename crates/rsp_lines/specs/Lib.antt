@@ -1,4 +1,4 @@
--- Scripts that are answered in pieces.
+-- Reading a script in pieces, and writing the replies to its lines.
 pub mod Pieces
 pub mod Faults
 pub mod Left

@@ -26,11 +26,11 @@ abbrev pub open_after : List ℕ → List ℕ → List ℕ
 open_after line [] = line
 open_after line (b ∷ text) = if is_newline b then open_after [] text else open_after (line ++ b ∷ []) text
 
--- bytes that no newline ended are a line where there are any
+-- bytes that no newline ended are a line, if there are any
 abbrev pub last_line : List ℕ → List (List ℕ)
 last_line line = if length line == 0 then [] else line ∷ []
 
--- what is kept of a line: as much as tells that it has more than 256 bytes, even where the last one is a carriage return
+-- what is kept of a line: enough to see that it has more than 256 bytes, even if the last one is a carriage return
 unfoldable pub kept : List ℕ → List ℕ
 kept line = take 258 line
 

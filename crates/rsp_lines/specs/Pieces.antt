@@ -1,10 +1,10 @@
--- What answering a piece of a script does.
+-- One piece of a script.
 use Rattle.std.specs.Prelude.{◌≡◌, ℕ, List, Option}
 use Rattle.std.specs.Io.KnownBytes.{append_known}
 use Rattle.rsp_lines.specs.Lines.{ended_after, open_after, kept}
 use Rattle.rsp_lines.specs.Replies.{Answer, replies, final}
 
--- each line that ends in a piece was answered, the first of which began with `line`, and `after` stands for what no newline ended
+-- each line that ends in a piece was answered; the first of them began with `line`, and `after` is kept of what no newline ended
 pub record PieceAnswered {S : Type 0} (answered : List ℕ → S → Answer S) (old new : Option (List ℕ)) (line after : List ℕ) (s t : S) (piece : List ℕ) : Type 0 where
   pub written : new ≡ append_known old (replies answered (ended_after line piece) s)
   pub session : t ≡ final answered (ended_after line piece) s

@@ -2,7 +2,7 @@
 use Rattle.std.specs.Prelude.{◌≡◌, ℕ, ◌<◌, List, [], ◌∷◌, ◌++◌, length}
 use Rattle.std.specs.Str.Lines.{lines}
 
--- what a line comes to: its reply, and what answers the next line
+-- the answer to a line: its reply, and what answers the next line
 pub record Answer (S : Type 0) : Type 0 where
   pub reply : List ℕ
   pub next : S
@@ -16,11 +16,11 @@ abbrev pub replies : {S : Type 0} → (List ℕ → S → Answer S) → List (Li
 replies answered [] s = []
 replies answered (l ∷ ls) s = (answered l s).reply ++ replies answered ls (answered l s).next
 
--- what is there after lines
+-- what answers the line after these lines
 abbrev pub final : {S : Type 0} → (List ℕ → S → Answer S) → List (List ℕ) → S → S
 final answered [] s = s
 final answered (l ∷ ls) s = final answered ls (answered l s).next
 
--- all that is written for a script: the replies to its lines, and the closing fault
+-- all that is written for a script: the replies to its lines, and what is written at its end
 abbrev pub out_of : {S : Type 0} → (List ℕ → S → Answer S) → (S → List ℕ) → List ℕ → S → List ℕ
 out_of answered closing script s = replies answered (lines script) s ++ closing (final answered (lines script) s)

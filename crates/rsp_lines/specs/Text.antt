@@ -1,20 +1,16 @@
 -- Numbers as text, and texts of several parts.
-use Rattle.std.specs.Prelude.{ℕ, zero, suc, ◌+◌, ◌*◌, ◌/◌, ◌%◌, ◌^◌, List, [], ◌∷◌, ◌++◌, nat_lt, if◌then◌else◌}
-
--- a hexadecimal digit, in lower case
-unfoldable pub hex_digit : ℕ → ℕ
-hex_digit n = if nat_lt n 10 then 48 + n else 87 + n
+use Rattle.std.specs.Prelude.{ℕ, zero, suc, ◌+◌, ◌/◌, ◌%◌, List, [], ◌∷◌, ◌++◌, nat_lt, if◌then◌else◌}
+use Rattle.rsp_text.specs.Operands.{hex}
 
 -- the lowest k hexadecimal digits of n, the highest first
 unfoldable pub hex_text : ℕ → ℕ → List ℕ
-hex_text zero n = []
-hex_text (suc k) n = hex_digit (n / 2 ^ (4 * k) % 16) ∷ hex_text k n
+hex_text k n = hex k n
 
 -- the two decimal digits of a number below 100
 abbrev pub two_digits : ℕ → List ℕ
 two_digits n = (48 + n / 10) ∷ (48 + n % 10) ∷ []
 
--- the decimal digits of a number below 100, without a zero before them
+-- the decimal digits of a number below 100, without leading zeros
 abbrev pub short_decimal : ℕ → List ℕ
 short_decimal n = if nat_lt n 10 then (48 + n) ∷ [] else two_digits n
 

@@ -15,7 +15,7 @@ use crate::source::EndFault;
 use rsp_text::len_before;
 use std::alloc::Global;
 
-/// Writes the whole of some bytes. A write that fails, or takes nothing, is not tried again.
+/// Writes all bytes. A write that fails, or takes nothing, is not tried again.
 fn write_all<W: Sink>(sink: &mut W, bytes: &[u8]) -> Result<(), EndFault>
     requires { W.fault_count sink.old < 2 ^ 64 - 1 }
     ensures written { OnOk result (W.written sink.new ≡ append_known (W.written sink.old) bytes.now) }
@@ -58,7 +58,8 @@ fn answer_line<S: Answering, W: Sink>(
     Ok(())
 }
 
-/// Takes the next piece of a script, and answers each line that ends in it.
+/// Answers each line that ends in the next piece of a script. `line` is what the pieces before left of the first one, and then
+/// what this piece leaves.
 pub(crate) fn answer_piece<S: Answering, W: Sink>(
     alloc: Global,
     session: &mut S,
@@ -86,7 +87,7 @@ pub(crate) fn answer_piece<S: Answering, W: Sink>(
     }
 }
 
-/// Answers a line that no newline ended, where it has any bytes.
+/// Answers the line that no LF ended, if it has any bytes.
 #[tactic(auto, using(crate::proofs::Alike::last_lines))]
 fn answer_last<S: Answering, W: Sink>(
     alloc: Global,
@@ -109,7 +110,7 @@ fn answer_last<S: Answering, W: Sink>(
     Ok(())
 }
 
-/// Answers what no newline ended, and writes the closing fault.
+/// Answers the line that no LF ended, and writes what is written at the end of a script.
 pub(crate) fn answer_end<S: Answering, W: Sink>(
     alloc: Global,
     session: &mut S,

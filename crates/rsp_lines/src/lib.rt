@@ -1,13 +1,13 @@
-//! Scripts that are answered in pieces.
+//! Reading a script in pieces, and writing the replies to its lines.
 //!
-//! A script is cut into lines at its LF bytes; one CR directly before an LF is dropped, and bytes after the last LF are
-//! a line where there are any. `answer_script` reads it by pieces, answers each line once it has ended, and keeps
-//! little of a long one. Its contract says what was written in terms of the whole script, however it was cut, and what
-//! stands written where a run ends early. It is generic over what answers the lines.
+//! A script is cut into lines at its LF bytes. One CR directly before an LF is dropped, and bytes after the last LF are a line
+//! if there are any. [`answer_script`] reads pieces of at most 4096 bytes and answers each line when it has ended. Of a longer
+//! line it keeps 258 bytes. Its contract says what was written for the whole script, however the reads cut it, and what was
+//! written before a run that ended early. What answers a line is a trait, [`Answering`]: `rsp_bench` implements it.
 //!
-//! Where a script comes from and where its replies go are traits, [`Source`] and [`Sink`], whose contracts name the bytes that
-//! are left and the bytes that were written. An end in memory tells them; one over a reader or a writer of the standard
-//! library's tells nothing, and serves a program. A [`Reply`] is the text that answers a command, held in place.
+//! A script comes from a [`Source`] and the replies go to a [`Sink`]. Their contracts name the bytes that are left and the bytes
+//! that were written. [`MemSource`] and [`MemSink`] name them; [`FromRead`] and [`ToWrite`], over a reader and a writer of the
+//! standard library, name none. A [`Reply`] is the text of one reply.
 #![tactic(auto)]
 
 mod answer;

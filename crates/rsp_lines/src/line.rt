@@ -6,8 +6,8 @@ use arrayvec::ArrayVec;
 use rsp_text::without_return;
 use std::marker::Model;
 
-/// What a run keeps of a line that no newline has ended: its first 258 bytes, as which it is seen, and a mark that
-/// there were more.
+/// What a run keeps of a line that no LF has ended yet: its first 258 bytes, and a flag that there were more. Contracts see the
+/// bytes. 258 are enough: with an LF after them, and one CR dropped, they are still more than the 256 of the longest line.
 #[derive(Drop)]
 pub(crate) struct LineSoFar {
     bytes: ArrayVec<u8, 258>,
@@ -35,7 +35,7 @@ impl LineSoFar {
         }
     }
 
-    /// Goes on to the next line.
+    /// Empties the line, for the next one.
     pub(crate) fn clear(&mut self)
         ensures { self.new ≡ [] }
     {
@@ -43,7 +43,7 @@ impl LineSoFar {
         self.longer = false;
     }
 
-    /// Takes the line's next bytes.
+    /// Appends the line's next bytes.
     #[tactic(auto, using(crate::proofs::Kept::kept_bytes))]
     pub(crate) fn push(&mut self, bytes: &[u8])
         ensures { self.new ≡ kept (self.old ++ bytes.now) }
@@ -57,15 +57,15 @@ impl LineSoFar {
         }
     }
 
-    /// The line where the script ends here: itself or, where it is longer, another that is answered alike.
+    /// The line, if the script ends here: itself or, if it has more than 258 bytes, another that is answered alike.
     pub(crate) fn last(&self) -> &[u8]
         ensures { result.now ≡ self.now }
     {
         self.bytes.as_slice()
     }
 
-    /// The line where a newline follows: without the carriage return at its end or, where it is longer, another that
-    /// is answered alike.
+    /// The line, if an LF follows: without the CR at its end or, if it has more than 258 bytes, another that is answered
+    /// alike.
     #[tactic(auto, using(crate::proofs::Kept::kept_line))]
     pub(crate) fn ended(&self) -> &[u8]
         ensures { IsLike result.now (strip_carriage_return self.now) }

@@ -1,10 +1,9 @@
-ghost use Rattle.std.specs.Prelude.{◌≡◌, ℕ, ◌+◌, ◌-◌, ◌<◌, ◌≤◌, ◌^◌, List, take, length, OnOk, IfSome, IsErrOf};
+ghost use Rattle.std.specs.Prelude.{◌≡◌, ℕ, ◌+◌, ◌-◌, ◌<◌, ◌≤◌, ◌^◌, List, length, OnOk, IfSome, IsErrOf};
 ghost use Rattle.std.specs.Io.KnownBytes.{append_known};
 ghost use Rattle.std.specs.Str.Lines.{lines};
 ghost use Rattle.rsp_lines.specs.Faults.{failed_reads, failed_writes};
-ghost use Rattle.rsp_lines.specs.Left.{TakesAtMost, Takes, EndedLinesWritten, FrontWritten};
-ghost use Rattle.rsp_lines.specs.Lines.{ended_lines};
-ghost use Rattle.rsp_lines.specs.Replies.{replies, final, out_of};
+ghost use Rattle.rsp_lines.specs.Left.{TakesAtMost, Takes, LeavesWritten};
+ghost use Rattle.rsp_lines.specs.Replies.{final, out_of};
 
 use crate::answer::{answer_end, answer_piece};
 use crate::answering::Answering;
@@ -14,30 +13,30 @@ use crate::sink::Sink;
 use crate::source::Source;
 use std::alloc::Global;
 
-/// The most bytes that a script has.
+/// The most bytes of a script: 1 MiB.
 pub const SCRIPT_LIMIT: usize = 1_048_576;
 
-/// The most bytes that a run asks for at a time.
+/// The most bytes of one read.
 const PIECE_LENGTH: usize = 4096;
 
 /// Why a run ended early.
 #[derive(Clone, Copy, Debug, PartialEq, Eq)]
 pub enum RunFault {
-    /// A read failed. The lines that had ended were answered in full.
+    /// Fault 40: a read failed. The lines that had ended were answered in full.
     ReadFault,
-    /// A write failed, or took nothing of a piece that isn't empty.
+    /// Fault 41: a write failed, or took nothing of a piece that isn't empty.
     WriteFault,
-    /// The script goes on past `SCRIPT_LIMIT`. The lines that ended within it were answered in full.
+    /// Fault 42: the script has more than `SCRIPT_LIMIT` bytes. The lines that ended within the limit were answered in full.
     ScriptTooLong,
-    /// There was no memory to answer a line.
+    /// Fault 43: there was no memory to answer a line.
     OutOfMemory,
 }
 
-/// Reads a script by pieces of at most 4096 bytes, and writes the reply to each line that ends in a piece before it asks
-/// for the next. At the end it answers what no LF ended, and writes the closing fault, where there is one.
+/// Reads a script in pieces of at most 4096 bytes, and writes the reply to each line that ends in a piece before it reads the
+/// next. At the end it answers the line that no LF ended, and writes what is written at the end of a script.
 ///
-/// It ends early with the first read or write that fails, or when there is no memory to answer a line, or once it has read a
-/// byte more than `SCRIPT_LIMIT` and answered the lines that ended within the limit. It reads no further than that byte.
+/// It ends early with the first read or write that fails, if there is no memory to answer a line, or when it has read a byte
+/// more than `SCRIPT_LIMIT` and answered the lines that ended within the limit. It never reads more than that byte.
 pub fn answer_script<S: Answering, R: Source, W: Sink>(
     alloc: Global,
     session: &mut S,
@@ -60,39 +59,16 @@ pub fn answer_script<S: Answering, R: Source, W: Sink>(
     ensures past { IsErrOf result RunFault.ScriptTooLong → Takes (SCRIPT_LIMIT + 1) (R.rest source.old) (R.rest source.new) }
     ensures few { TakesAtMost (SCRIPT_LIMIT + 1) (R.rest source.old) (R.rest source.new) }
 
-    // What a fault leaves written.
-    ensures left_read { IsErrOf result RunFault.ReadFault →
-        EndedLinesWritten (record {
-          answered = S.answered;
-          closing = S.closing;
-          session = session.old;
-          script = R.rest source.old;
-          unread = R.rest source.new;
-          before = W.written sink.old;
-          written = W.written sink.new;
-        }) }
-    ensures left_long { IfSome (R.rest source.old) (λ script. IsErrOf result RunFault.ScriptTooLong →
-        W.written sink.new ≡ append_known (W.written sink.old) (replies S.answered (ended_lines (take SCRIPT_LIMIT script)) session.old)) }
-    ensures left_write { IsErrOf result RunFault.WriteFault →
-        FrontWritten (record {
-          answered = S.answered;
-          closing = S.closing;
-          session = session.old;
-          script = R.rest source.old;
-          unread = R.rest source.new;
-          before = W.written sink.old;
-          written = W.written sink.new;
-        }) }
-    ensures left_memory { IsErrOf result RunFault.OutOfMemory →
-        FrontWritten (record {
-          answered = S.answered;
-          closing = S.closing;
-          session = session.old;
-          script = R.rest source.old;
-          unread = R.rest source.new;
-          before = W.written sink.old;
-          written = W.written sink.new;
-        }) }
+    // What a run that ends early has written.
+    ensures left { LeavesWritten result (record {
+      answered = S.answered;
+      closing = S.closing;
+      session = session.old;
+      script = R.rest source.old;
+      unread = R.rest source.new;
+      before = W.written sink.old;
+      written = W.written sink.new;
+    }) }
 {
     let mut line = LineSoFar::new();
     let mut buffer = [0u8; PIECE_LENGTH];

@@ -7,16 +7,16 @@ use std::alloc::{AllocError, Global};
 use std::io::Write;
 use std::marker::Model;
 
-/// Where replies go.
+/// Where replies are written to.
 pub trait Sink {
-    /// The bytes that were written, where the sink tells them.
+    /// The bytes that were written, if the sink names them.
     ghost written: { Self → Option (List ℕ) };
 
     /// How many writes failed so far, or took nothing of a piece that isn't empty.
     ghost fault_count: { Self → ℕ };
 
-    /// Writes some bytes of the front of the piece, as many as it answers. A fault writes none. A fault is counted,
-    /// and so is the answer 0 to a piece that isn't empty.
+    /// Writes a prefix of the piece, and returns its length. EndFault if the write failed: then nothing was written. A fault
+    /// is counted, and so is the result 0 for a piece that isn't empty.
     fn write(&mut self, piece: &[u8]) -> Result<usize, EndFault>
         requires { fault_count self.old < 2 ^ 64 - 1 }
         ensures bound { IfOk result (λ n. n ≤ length piece.now) }
@@ -28,7 +28,7 @@ pub trait Sink {
         ensures { result ≡ fault_count self.now };
 }
 
-/// A sink in memory, with room for a number of bytes, which it tells. A write to a full sink takes nothing.
+/// A sink in memory with room for a fixed number of bytes. A write to a full sink takes nothing. It names its bytes.
 #[derive(Drop)]
 pub struct MemSink {
     buffer: Vec<u8>,
@@ -52,7 +52,7 @@ impl Model for MemSink {
 }
 
 impl MemSink {
-    /// An empty sink with room for `n` bytes, or that there is no memory for it.
+    /// An empty sink with room for `n` bytes. AllocError if there is no memory for it.
     pub fn new(alloc: Global, n: usize) -> Result<MemSink, AllocError>
         ensures { IfOk result (λ s. s ≡ record { bytes = []; room = n; failures = 0 }) }
     {
@@ -76,7 +76,7 @@ impl Sink for MemSink {
 
     ghost fault_count = { λ s. s.failures };
 
-    /// Takes what fits into the room that is left.
+    /// Takes as many bytes as there is room for.
     fn write(&mut self, piece: &[u8]) -> Result<usize, EndFault>
         requires { self.old.failures < 2 ^ 64 - 1 }
         ensures fits { result ≡ Ok (min (length piece.now) (self.old.room - length self.old.bytes)) }
@@ -99,7 +99,7 @@ impl Sink for MemSink {
     }
 }
 
-/// A writer of the standard library's. It tells no bytes, and counts the writes that failed or took nothing.
+/// A sink over a writer of the standard library. It names no bytes, and counts the writes that failed or took nothing.
 #[derive(Drop)]
 pub struct ToWrite<W> {
     writer: W,
@@ -134,7 +134,7 @@ impl<W: Write> Sink for ToWrite<W> {
 
     ghost fault_count = { λ s. s.failures };
 
-    /// Writes once to the writer, whatever the fault is.
+    /// Writes once to the writer, and never again after a fault.
     fn write(&mut self, piece: &[u8]) -> Result<usize, EndFault>
         requires { self.old.failures < 2 ^ 64 - 1 }
         ensures bound { IfOk result (λ n. n ≤ length piece.now) }

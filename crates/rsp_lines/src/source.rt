@@ -11,14 +11,14 @@ pub struct EndFault;
 
 /// Where a script comes from.
 pub trait Source {
-    /// The bytes that are left, where the source tells them.
+    /// The bytes that are left, if the source names them.
     ghost rest: { Self → Option (List ℕ) };
 
     /// How many reads failed so far.
     ghost fault_count: { Self → ℕ };
 
-    /// Moves some bytes, as many as it answers, from the front of what is left to the front of the buffer:
-    /// none only at the end, or where the buffer is empty. A fault moves none, and is counted.
+    /// Moves some of the next bytes to the start of the buffer, and returns how many. 0 only at the end, or if the buffer is
+    /// empty. EndFault if the read failed: then no byte was moved, and the fault is counted.
     fn read(&mut self, buf: &mut [u8]) -> Result<usize, EndFault>
         requires { fault_count self.old < 2 ^ 64 - 1 }
         ensures bound { IfOk result (λ n. n ≤ length buf.old) }
@@ -31,7 +31,7 @@ pub trait Source {
         ensures { result ≡ fault_count self.now };
 }
 
-/// A script in memory, which tells its bytes and never fails. It is seen as the bytes that are left.
+/// A script in memory. It names its bytes and never fails. Contracts see the bytes that are left.
 #[derive(Drop)]
 pub struct MemSource<'a> {
     bytes: &'a [u8],
@@ -59,7 +59,7 @@ impl Source for MemSource<'_> {
 
     ghost fault_count = { λ _. 0 };
 
-    /// Gives as many bytes as there are and fit.
+    /// Moves as many bytes as are left and fit.
     fn read(&mut self, buf: &mut [u8]) -> Result<usize, EndFault>
         ensures bound { IfOk result (λ n. n ≤ length buf.old) }
         ensures told { self.old ≡ given result buf.new ++ self.new }
@@ -78,7 +78,7 @@ impl Source for MemSource<'_> {
     }
 }
 
-/// A script from a reader of the standard library's. It tells no bytes, and counts the reads that failed.
+/// A source over a reader of the standard library. It names no bytes, and counts the reads that failed.
 #[derive(Drop)]
 pub struct FromRead<R> {
     reader: R,
@@ -97,7 +97,7 @@ impl<R> Model for FromRead<R> {
 }
 
 impl<R: Read> FromRead<R> {
-    /// A source of what the reader gives, with no failure so far.
+    /// A source of the reader's bytes, with no failure so far.
     pub fn new(reader: R) -> FromRead<R>
         ensures { result ≡ record { inner = reader; failures = 0 } }
     {
@@ -113,7 +113,7 @@ impl<R: Read> Source for FromRead<R> {
 
     ghost fault_count = { λ s. s.failures };
 
-    /// Reads once from the reader, whatever the fault is.
+    /// Reads once from the reader, and never again after a fault.
     fn read(&mut self, buf: &mut [u8]) -> Result<usize, EndFault>
         requires { self.old.failures < 2 ^ 64 - 1 }
         ensures bound { IfOk result (λ n. n ≤ length buf.old) }

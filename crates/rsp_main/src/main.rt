@@ -1,4 +1,4 @@
-//! The program `rsp`: does what its command line asks for, with the system's files, standard input, standard output and standard error.
+//! The program `rsp`: the work of `rsp_program`, with the system's arguments, files and standard streams.
 #![tactic(auto)]
 
 use rsp_program::{SystemFiles, without_words, work};

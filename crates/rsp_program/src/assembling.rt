@@ -11,14 +11,14 @@ use std::alloc::{AllocError, Global};
 use std::io::Write;
 use std::str;
 
-/// The most bytes that a source text has.
+/// The most bytes of a source text.
 const SOURCE_LIMIT: usize = 1_048_576;
 
-/// One byte more: who has read these knows that a file is too long.
+/// One byte more, since a file of which so many were read is too long.
 const SOURCE_READ_LIMIT: u64 = 1_048_577;
 
-/// Assembles a file, its first word at a place of IMEM, writes its words to another, with the high byte first, and says how many
-/// there are. After that may come a listing.
+/// Assembles the file `source`, its first word at the address `at` of IMEM, and writes the words to the file `out`, the high byte
+/// first. Then prints how many words there are and, if it is asked for, the listing. After a fault of the text no file is written.
 pub fn assemble_file<'a, F: FileStore, W: Write + Drop>(
     alloc: Global,
     files: &mut F,
@@ -48,7 +48,7 @@ pub fn assemble_file<'a, F: FileStore, W: Write + Drop>(
     Ok(())
 }
 
-/// The text of a file. That it is too long comes before that it isn't UTF-8.
+/// The text of a file. ScriptTooLong if it has too many bytes, else NotText if it isn't UTF-8.
 fn text_in<'a>(bytes: &[u8]) -> Result<&str, Fault<'a>> {
     if bytes.len() > SOURCE_LIMIT {
         return Err(Fault::ScriptTooLong);

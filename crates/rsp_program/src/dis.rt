@@ -9,14 +9,15 @@ use rsp_dis::text_of;
 use std::alloc::Global;
 use std::io::{self, Write};
 
-/// The bytes of IMEM: the most that a file of words has.
+/// The bytes of IMEM, and so the most bytes of a file of words.
 const WORDS_LIMIT: usize = 4096;
 
-/// One byte more: who has read these knows that a file is too long.
+/// One byte more, since a file of which so many were read is too long.
 const WORDS_READ_LIMIT: u64 = 4097;
 
-/// Prints the canonical text of each word of a file, whose high byte comes first, as it stands in IMEM from a place on; a
-/// line each. Before it may stand the place and the word.
+/// Prints the disassembly of the words of a file, a line each, for the words at the address `at` of IMEM and after it. The high
+/// byte of a word comes first in the file. With `with_places` a line begins with the address and the word. WordsSize if the file
+/// has no whole number of words, or more than fit from that address to the end of IMEM.
 pub fn disassemble_file<'a, F: FileStore, W: Write + Drop>(
     alloc: Global,
     files: &mut F,
@@ -41,7 +42,7 @@ pub fn disassemble_file<'a, F: FileStore, W: Write + Drop>(
     Ok(())
 }
 
-/// The place of a word in IMEM, by the place of the first one and by how many stand before it.
+/// The address in IMEM of the word `index` of a file whose first word is at `origin`.
 pub(crate) fn place_of(origin: u16, index: usize) -> u16
     ensures { result < 4096 }
 {

@@ -1,5 +1,5 @@
-//! The work of the program `rsp`: what its command line asks for, the files that it names, messages and statuses. All of it stands in [`work`], over
-//! fakes as over the system, so that tests need no program.
+//! The work of the program `rsp`: it does what the command line asks for, with files and streams, and reports messages and an exit
+//! status. [`work`] is generic over all files and streams, so that tests give it fakes and need no program.
 #![tactic(auto)]
 
 mod assembling;

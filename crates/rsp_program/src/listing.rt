@@ -6,8 +6,8 @@ use std::alloc::Global;
 use std::io::{self, Write};
 use std::str;
 
-/// Prints the lines of a text that was assembled: for each label its address and its name, and for each word its address, the
-/// word, and the line that gives it.
+/// Prints the listing of a text that was assembled: for each label its address and its name, and for each word its address, the
+/// word, and the source line of the word.
 pub(crate) fn print_listing<W: Write>(
     alloc: Global,
     origin: u16,

@@ -3,7 +3,8 @@ ghost use Rattle.std.specs.Prelude.{◌≤◌, IfOk};
 use crate::fault::Fault;
 use rsp_script::place;
 
-/// The place that `--at` names, which is read as the `ADDR` of a script's `asm` is; 0 without it.
+/// The address that `--at` gives: a multiple of 4 from 0 to 4092, read as the `ADDR` of a script's `asm`. Without `--at` it is 0.
+/// NoPlace for any other text.
 pub(crate) fn origin_of<'a>(at: Option<&'a str>) -> Result<u16, Fault<'a>>
     ensures { IfOk result (λ origin. origin ≤ 4092) }
 {

@@ -11,14 +11,14 @@ use rsp_memory::Rdram;
 use std::alloc::Global;
 use std::io::{self, Read, Write};
 
-/// The length of the image where no file is named.
+/// The length of the RDRAM if no file is named: 4 MB, as in a console without its expansion.
 const DEFAULT_LENGTH: usize = 4_194_304;
 
-/// One byte more than the longest image has: who has read these knows that a file is too long.
+/// One byte more than the longest image, since a file of which so many were read is too long.
 const IMAGE_READ_LIMIT: u64 = 8_388_609;
 
-/// Does what the words of the command line ask for, the first of which is the program's name. A fault, or why the
-/// words are refused, is told on `errors`.
+/// Does what the arguments ask for; the first of them is the program's name. `input` is the script of a run, `output` takes
+/// replies and listings. A fault, or why the arguments are refused, is written to `errors`.
 pub fn work<F: FileStore, R: Read + Drop, W: Write + Drop, E: Write>(
     alloc: Global,
     args: &[String],
@@ -51,7 +51,7 @@ pub fn work<F: FileStore, R: Read + Drop, W: Write + Drop, E: Write>(
     }
 }
 
-/// Answers words that ask for no work: by the version where they ask for it, and else by why they are refused.
+/// Answers arguments that ask for no work: prints the version if they ask for it, else why they are refused.
 fn answer_words<W: Write + Drop, E: Write>(error: &Error, mut output: W, errors: &mut E) -> Status {
     match error.kind() {
         ErrorKind::OutOfMemory => faulted(Fault::OutOfMemory, errors),
@@ -66,7 +66,7 @@ fn answer_words<W: Write + Drop, E: Write>(error: &Error, mut output: W, errors:
     }
 }
 
-/// Tells why there are no words of the command line.
+/// Reports why the arguments could not be read.
 pub fn without_words<E: Write>(error: &io::Error, errors: &mut E) -> Status {
     if error.kind() == io::ErrorKind::OutOfMemory {
         return faulted(Fault::OutOfMemory, errors);
@@ -75,8 +75,8 @@ pub fn without_words<E: Write>(error: &io::Error, errors: &mut E) -> Status {
     Status::Refused
 }
 
-/// Names a fault on a line of its own; one of the command line as other refusals of it are told. A line that can't be written
-/// changes nothing: the status still tells.
+/// Writes a fault to `errors`, on a line of its own; a fault of the command line in the form of the other refusals. If the line
+/// can't be written, the status still reports the fault.
 fn faulted<E: Write>(fault: Fault, errors: &mut E) -> Status {
     if let Fault::NoPlace(_) = fault {
         let _ = writeln!(
@@ -89,7 +89,7 @@ fn faulted<E: Write>(fault: Fault, errors: &mut E) -> Status {
     Status::Faulted
 }
 
-/// Answers the script, from an image that is read before the script is, and saves the image that a finished run leaves.
+/// Answers a script. The image of the RDRAM is read before the script, and saved after a run that finished.
 fn run<'a, F: FileStore, R: Read + Drop, W: Write + Drop>(
     alloc: Global,
     asked: &RunFiles<'a>,
@@ -105,7 +105,7 @@ fn run<'a, F: FileStore, R: Read + Drop, W: Write + Drop>(
     }
 }
 
-/// The image that a file holds, or else zeros.
+/// The image of the RDRAM: the bytes of the file, or zeros if none is named.
 fn read_image<'a, F: FileStore>(
     alloc: Global,
     files: &mut F,
@@ -120,7 +120,7 @@ fn read_image<'a, F: FileStore>(
     Rdram::from_bytes(bytes).map_err(|_| Fault::ImageSize)
 }
 
-/// Answers the script, and gives the image that it leaves.
+/// Answers a script, and returns the image that it leaves.
 fn answer<'a, R: Read + Drop, W: Write + Drop>(
     alloc: Global,
     image: Rdram,
@@ -148,7 +148,7 @@ fn save_image<'a, F: FileStore>(
         .map_err(|fault| file_fault(fault, Fault::CannotWrite(name)))
 }
 
-/// What a file's fault comes to, where the system's refusal is `refused`.
+/// The program's fault for a fault of a file; `refused` if the system refused it.
 pub(crate) fn file_fault<'a>(fault: FileFault, refused: Fault<'a>) -> Fault<'a> {
     match fault {
         FileFault::Refused => refused,

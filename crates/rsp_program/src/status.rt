@@ -1,9 +1,9 @@
-/// What the program's exit status tells.
+/// The exit status of the program.
 #[derive(Clone, Copy, Debug, PartialEq, Eq)]
 pub enum Status {
-    /// 0: all is done, or the version told. Faults in the replies to a script don't change that.
+    /// 0: all is done, or the version printed. A fault in a reply to a script doesn't change that.
     Done,
-    /// 1: a fault, which a line on standard error names.
+    /// 1: a fault. A line on standard error names it.
     Faulted,
     /// 2: the command line is refused, or asked for help.
     Refused,

@@ -3,7 +3,7 @@ use std::fs::{self, File};
 use std::io::{self, ErrorKind, Read};
 use std::rt::Files;
 
-/// Why a file wasn't read or written.
+/// Why a file wasn't read or written, as the messages distinguish it.
 #[derive(Clone, Copy, Debug, PartialEq, Eq)]
 pub enum FileFault {
     /// The system refused it.
@@ -14,10 +14,10 @@ pub enum FileFault {
 
 /// The files that the program reads and writes.
 pub trait FileStore {
-    /// The bytes of a file; of one that has more than `limit`, the first `limit`. No more are read.
+    /// The first bytes of a file, at most `limit`. No more are read.
     fn read(&mut self, alloc: Global, name: &str, limit: u64) -> Result<Vec<u8>, FileFault>;
 
-    /// Makes a file of these bytes, in the place of one that may be there.
+    /// Makes a file of these bytes. It replaces a file of that name.
     fn write(&mut self, name: &str, bytes: &[u8]) -> Result<(), FileFault>;
 }
 

@@ -1,12 +1,10 @@
 -- What the words of a line ask for.
-use Rattle.std.specs.Prelude.{ℕ, true, ◌≡◌, ◌<◌, ◌≤◌, ◌%◌, List, [], ◌∷◌, Option, Some, None, Result, Ok, Err, ok_or}
+use Rattle.std.specs.Prelude.{ℕ, true, ◌≡◌, ◌<◌, ◌≤◌, ◌%◌, List, [], ◌∷◌, Option, Some, None, Result, Ok, Err, ok_or, if◌then◌else◌, codes}
 use Rattle.arrayvec.specs.ArrayVec.{array_vec_len}
 use Rattle.std.specs.List.{list_all}
+use Rattle.std.specs.Str.{bytes_eq}
 use Rattle.rsp_text.specs.Chars.{is_plain}
-use Rattle.rsp_script.specs.Names.{name_of}
 use Rattle.rsp_script.specs.Operand.{bank_of, ranged_of, place_of, address_of, bytes_of}
-use Rattle.rsp_script.specs.declared.name.Name.{Name}
-use Rattle.rsp_script.specs.declared.name.Name.TheVariants as names
 use Rattle.rsp_memory.specs.declared.bank.Bank.{Bank}
 use Rattle.rsp_script.specs.declared.command.Command.{Command}
 use Rattle.rsp_script.specs.declared.command.Command.TheVariants.{Nothing, Load, Step, Run, Break, Unbreak, Watch, Unwatch, Back, Read, Write, SetPc, Task, Show, Asm, BlockLine}
@@ -31,7 +29,7 @@ abbrev pub alone : Command → List (List ℕ) → Result Command LineFault
 alone command [] = Ok command
 alone command (w ∷ ws) = Err BadCommand
 
--- what the only operand means
+-- the only operand, by its meaning
 abbrev pub only : (List ℕ → Option ℕ) → List (List ℕ) → Result ℕ LineFault
 only meaning [] = Err BadCommand
 only meaning (a ∷ []) = ok_or (meaning a) BadNumber
@@ -41,23 +39,23 @@ only meaning (a ∷ b ∷ more) = Err BadCommand
 unfoldable pub one_number : ℕ → ℕ → List (List ℕ) → Result ℕ LineFault
 one_number low high = only (ranged_of low high)
 
--- the only operand, a place of an instruction
+-- the only operand, the address of an instruction
 unfoldable pub one_place : List (List ℕ) → Result ℕ LineFault
 one_place = only place_of
 
--- a command of two words more
+-- a command of two operands
 abbrev pub two_words : (List ℕ → List ℕ → Result Command LineFault) → List (List ℕ) → Result Command LineFault
 two_words command [] = Err BadCommand
 two_words command (a ∷ []) = Err BadCommand
 two_words command (a ∷ b ∷ []) = command a b
 two_words command (a ∷ b ∷ c ∷ more) = Err BadCommand
 
--- a command of a bank and two words more
+-- a command of a bank and two more operands
 abbrev pub on_bank : (Bank → List ℕ → List ℕ → Result Command LineFault) → List (List ℕ) → Result Command LineFault
 on_bank command [] = Err BadCommand
 on_bank command (bank ∷ ws) = two_words (λ a b. in_bank (λ k. command k a b) (bank_of bank)) ws
 
--- a command of one number
+-- a command of one operand, which may be bad
 abbrev pub with_operand : (ℕ → Command) → Result ℕ LineFault → Result Command LineFault
 with_operand command (Ok n) = Ok (command n)
 with_operand command (Err fault) = Err fault
@@ -82,42 +80,55 @@ dis = two_words (λ address count. with_both (λ a n. Show (Dis a n)) (place_of 
 unfoldable pub watch : List (List ℕ) → Result Command LineFault
 watch = two_words (λ address len. with_both (λ a n. Watch a n) (ranged_of 0 4294967295 address) (ranged_of 0 4294967295 len))
 
--- the command of a name with its operands
-abbrev pub command_named : Option Name → List (List ℕ) → Result Command LineFault
-command_named None operands = Err BadCommand
-command_named (Some names.Load) operands = load operands
-command_named (Some names.Step) operands = alone Step operands
-command_named (Some names.Regs) operands = alone (Show Regs) operands
-command_named (Some names.Mem) operands = mem operands
-command_named (Some names.Read) operands = with_operand (λ n. Read n) (one_number 0 15 operands)
-command_named (Some names.Write) operands = write operands
-command_named (Some names.Pc) operands = with_operand (λ a. SetPc a) (one_place operands)
-command_named (Some names.Task) operands = with_operand (λ a. Task a) (one_number 0 16777215 operands)
-command_named (Some names.Sp) operands = alone (Show Sp) operands
-command_named (Some names.Vregs) operands = alone (Show Vregs) operands
-command_named (Some names.Acc) operands = alone (Show Acc) operands
-command_named (Some names.Flags) operands = alone (Show Flags) operands
-command_named (Some names.Asm) operands = with_operand (λ a. Asm a) (one_place operands)
-command_named (Some names.Dis) operands = dis operands
-command_named (Some names.Run) operands = with_operand (λ n. Run n) (one_number 0 4294967295 operands)
-command_named (Some names.Break) operands = with_operand (λ a. Break a) (one_place operands)
-command_named (Some names.Unbreak) operands = with_operand (λ a. Unbreak a) (one_place operands)
-command_named (Some names.Watch) operands = watch operands
-command_named (Some names.Unwatch) operands = with_operand (λ k. Unwatch k) (one_number 0 4294967295 operands)
-command_named (Some names.Back) operands = with_operand (λ n. Back n) (one_number 0 4294967295 operands)
+-- ---- the table of commands, by name
 
--- what the words of a line ask for
+-- the commands that show something
+unfoldable pub look_named : List ℕ → List (List ℕ) → Result Command LineFault
+look_named name operands =
+    if bytes_eq name (codes "regs") then alone (Show Regs) operands
+    else if bytes_eq name (codes "vregs") then alone (Show Vregs) operands
+    else if bytes_eq name (codes "acc") then alone (Show Acc) operands
+    else if bytes_eq name (codes "flags") then alone (Show Flags) operands
+    else if bytes_eq name (codes "sp") then alone (Show Sp) operands
+    else if bytes_eq name (codes "mem") then mem operands
+    else if bytes_eq name (codes "dis") then dis operands
+    else Err BadCommand
+
+-- the commands of the debugger, and those that show something
+unfoldable pub debug_named : List ℕ → List (List ℕ) → Result Command LineFault
+debug_named name operands =
+    if bytes_eq name (codes "run") then with_operand (λ n. Run n) (one_number 0 4294967295 operands)
+    else if bytes_eq name (codes "break") then with_operand (λ a. Break a) (one_place operands)
+    else if bytes_eq name (codes "unbreak") then with_operand (λ a. Unbreak a) (one_place operands)
+    else if bytes_eq name (codes "watch") then watch operands
+    else if bytes_eq name (codes "unwatch") then with_operand (λ k. Unwatch k) (one_number 0 4294967295 operands)
+    else if bytes_eq name (codes "back") then with_operand (λ n. Back n) (one_number 0 4294967295 operands)
+    else look_named name operands
+
+-- the command of a name, which is in lower case, with its operands
+unfoldable pub command_named : List ℕ → List (List ℕ) → Result Command LineFault
+command_named name operands =
+    if bytes_eq name (codes "load") then load operands
+    else if bytes_eq name (codes "step") then alone Step operands
+    else if bytes_eq name (codes "read") then with_operand (λ n. Read n) (one_number 0 15 operands)
+    else if bytes_eq name (codes "write") then write operands
+    else if bytes_eq name (codes "pc") then with_operand (λ a. SetPc a) (one_place operands)
+    else if bytes_eq name (codes "task") then with_operand (λ a. Task a) (one_number 0 16777215 operands)
+    else if bytes_eq name (codes "asm") then with_operand (λ a. Asm a) (one_place operands)
+    else debug_named name operands
+
+-- what the words of a line ask for: the first is the command's name
 unfoldable pub command_of_words : List (List ℕ) → Result Command LineFault
 command_of_words [] = Ok Nothing
-command_of_words (name ∷ operands) = command_named (name_of name) operands
+command_of_words (name ∷ operands) = command_named name operands
 
--- a look that a line can ask for: its operands are in their ranges
+-- what `parse_line` promises of a look: its operands are in their ranges
 abbrev pub IsLook : Look → Type 0
 IsLook (Mem bank address len) = (address ≤ 16777215) × (1 ≤ len) × (len ≤ 256)
 IsLook (Dis address count) = (address ≤ 4092) × (address % 4 ≡ 0) × (1 ≤ count) × (count ≤ 64)
 IsLook _ = Unit {0}
 
--- a command that a line can give: its operands are in their ranges
+-- what `parse_line` promises of a command: its operands are in their ranges
 abbrev pub IsCommand : Command → Type 0
 IsCommand (Load bank address bytes) = (address ≤ 16777215) × (0 < array_vec_len bytes)
 IsCommand (Read register) = register ≤ 15

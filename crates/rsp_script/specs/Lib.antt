@@ -1,7 +1,6 @@
 -- From a line of a script to its command.
 pub mod Number
 pub mod Words
-pub mod Names
 pub mod Operand
 pub mod Command
 pub mod Line

@@ -9,11 +9,11 @@ use Rattle.rsp_script.specs.declared.command.Command.TheVariants.{BlockLine, End
 use Rattle.rsp_script.specs.declared.fault.LineFault.{LineFault}
 use Rattle.rsp_script.specs.declared.fault.LineFault.TheVariants.{LineTooLong, NotText}
 
--- the sign before a comment
+-- `#` begins a comment
 abbrev pub is_hash : ℕ → Bool
 is_hash b = b == 35
 
--- what a line in a block says: a line that is too long or no text stands as `:`
+-- what a line in a block says: `:` takes the place of a line that is too long or no text
 unfoldable pub block_command : List ℕ → Command
 block_command line =
     if is_line line then (if is_end (words_in line) then End else BlockLine line)
@@ -26,6 +26,6 @@ plain_command line =
     (if list_all is_plain line then command_of_words (words_in (before_first is_hash line)) else Err NotText)
     else Err LineTooLong
 
--- what a line says, in a block or outside
+-- what a line of a script says, in a block or outside
 unfoldable pub command_of : List ℕ → Bool → Result Command LineFault
 command_of line in_block = if in_block then Ok (block_command line) else plain_command line

@@ -16,7 +16,7 @@ bank_of word =
     else if bytes_eq word (codes "rdram") then Some Rdram
     else None
 
--- a number, where it is from low to high
+-- a number, if it is from low to high
 abbrev pub in_range : ℕ → ℕ → Option ℕ → Option ℕ
 in_range low high None = None
 in_range low high (Some n) = if nat_le low n && nat_le n high then Some n else None
@@ -25,16 +25,16 @@ in_range low high (Some n) = if nat_le low n && nat_le n high then Some n else N
 unfoldable pub ranged_of : ℕ → ℕ → List ℕ → Option ℕ
 ranged_of low high word = in_range low high (number_of word)
 
--- a number, where it is a multiple of 4
+-- a number, if it is a multiple of 4
 abbrev pub aligned : Option ℕ → Option ℕ
 aligned None = None
 aligned (Some n) = if n % 4 == 0 then Some n else None
 
--- a word that is a place of an instruction: a multiple of 4 from 0 to 4092
+-- a word that is the address of an instruction: a multiple of 4 from 0 to 4092
 unfoldable pub place_of : List ℕ → Option ℕ
 place_of word = aligned (ranged_of 0 4092 word)
 
--- an address in a bank
+-- a word that is an address in a bank
 abbrev pub address_of : List ℕ → Option ℕ
 address_of word = ranged_of 0 16777215 word
 

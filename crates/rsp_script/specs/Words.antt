@@ -8,7 +8,7 @@ use Rattle.rsp_text.specs.Chars.{is_blank}
 abbrev pub is_word : List ℕ → Bool
 is_word part = nat_lt 0 (length part)
 
--- the words of a text: its parts between blanks that aren't empty
+-- the words of a text: its parts between spaces and tabs that aren't empty
 abbrev pub words_in : List ℕ → List (List ℕ)
 words_in text = filter is_word (slice_split is_blank text)
 

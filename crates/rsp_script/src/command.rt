@@ -2,88 +2,89 @@ use crate::SourceLine;
 use arrayvec::ArrayVec;
 use rsp_memory::Bank;
 
-/// What a command shows. A look changes nothing.
+/// A command that shows a part of the session. It changes nothing.
 #[derive(Drop, Debug)]
 pub enum Look {
-    /// pc, npc and the scalar registers.
+    /// `regs`: pc, npc and the 32 scalar registers.
     Regs,
-    /// The vector registers.
+    /// `vregs`: the 32 vector registers.
     Vregs,
-    /// The accumulators.
+    /// `acc`: the eight accumulators.
     Acc,
-    /// The flags and the divider.
+    /// `flags`: the three flag registers and the divider.
     Flags,
-    /// The registers of the register table, as they would read.
+    /// `sp`: the 16 SP registers, as reads would return them, and the interrupt flag.
     Sp,
-    /// 1 to 256 bytes.
+    /// `mem BANK ADDR LEN`: 1 to 256 bytes. The address is at most 16,777,215.
     Mem { bank: Bank, address: u32, len: u32 },
-    /// 1 to 64 words of IMEM with their texts, from a multiple of 4 from 0 to 4092 on.
+    /// `dis ADDR N`: 1 to 64 words of IMEM with their disassembly. The address is a multiple of 4 from 0 to 4092.
     Dis { address: u16, count: u32 },
 }
 
-/// What a line of a script asks for. Addresses are from 0 to 16,777,215.
+/// What a line of a script asks for. `parse_line` makes none with an operand out of the range given here; it checks no
+/// more: whether an address is inside its bank, and a count in its limits, is for whoever carries the command out.
 #[derive(Drop, Debug)]
 pub enum Command {
-    /// A line without words.
+    /// A line without words, or with a comment alone.
     Nothing,
-    /// Writes one or more bytes.
+    /// `load BANK ADDR HEX`: writes 1 to 128 bytes. The address is at most 16,777,215.
     Load {
         bank: Bank,
         address: u32,
         bytes: ArrayVec<u8, 128>,
     },
-    /// Executes one instruction.
+    /// `step`: executes one instruction.
     Step,
-    /// Executes instructions until there is a reason to stop, at most so many.
+    /// `run N`: executes instructions until there is a reason to stop, at most `limit`.
     Run {
         limit: u32,
     },
-    /// Gives an instruction's place, a multiple of 4 from 0 to 4092, a breakpoint.
+    /// `break ADDR`: sets a breakpoint at a multiple of 4 from 0 to 4092.
     Break {
         address: u16,
     },
-    /// Takes the breakpoint of a place, a multiple of 4 from 0 to 4092, away.
+    /// `unbreak ADDR`: removes the breakpoint at a multiple of 4 from 0 to 4092.
     Unbreak {
         address: u16,
     },
-    /// Watches bytes of DMEM.
+    /// `watch ADDR LEN`: watches bytes of DMEM.
     Watch {
         address: u32,
         len: u32,
     },
-    /// Drops the watch of a number.
+    /// `unwatch N`: removes the watch of a number.
     Unwatch {
         number: u32,
     },
-    /// Goes back by so many steps.
+    /// `back N`: undoes `count` steps.
     Back {
         count: u32,
     },
-    /// Reads a register of the register table, 0 to 15.
+    /// `read N`: reads SP register 0 to 15. That can change it: a read of register 7 takes the semaphore.
     Read {
         register: u8,
     },
-    /// Writes a register of the register table, 0 to 15.
+    /// `write N VALUE`: writes SP register 0 to 15.
     Write {
         register: u8,
         value: u32,
     },
-    /// Goes to a multiple of 4 from 0 to 4092.
+    /// `pc ADDR`: sets pc to a multiple of 4 from 0 to 4092.
     SetPc {
         address: u16,
     },
-    /// Starts the task whose structure stands at this address.
+    /// `task ADDR`: starts the task whose structure is at an address of the RDRAM, at most 16,777,215.
     Task {
         address: u32,
     },
-    /// Shows something.
+    /// Shows a part of the session.
     Show(Look),
-    /// Opens a block of source text, whose first word stands at a multiple of 4 from 0 to 4092.
+    /// `asm ADDR`: opens a block of source text. Its first word goes to a multiple of 4 from 0 to 4092.
     Asm {
         address: u16,
     },
-    /// A line of an open block of source text.
+    /// A line of the open block.
     BlockLine(SourceLine),
-    /// Closes a block.
+    /// `end`: closes the block and assembles it.
     End,
 }

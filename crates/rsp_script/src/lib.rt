@@ -1,12 +1,15 @@
-//! What the lines of a script ask for.
+//! Commands: what a line of a script asks the emulator to do.
+//!
+//! [`parse_line`] turns a line into a [`Command`], or into a [`LineFault`]. The table of all commands, by name, is in `parse.rt`.
+//! Nothing here knows a machine: `rsp_bench` carries the commands out.
 #![tactic(auto)]
 
 mod command;
 mod fault;
 mod line;
-mod name;
 mod number;
 mod operand;
+mod operands;
 mod parse;
 mod source_line;
 mod words;

@@ -10,7 +10,7 @@ use crate::words::Words;
 use crate::{Command, LineFault, SourceLine};
 use rsp_text::{MAX_LINE_LEN, is_line, is_text, len_before};
 
-/// Whether a line is `end` but for outer blanks.
+/// Whether a line is `end`, surrounded by any whitespace.
 fn is_end(line: &[u8]) -> bool
     requires { length line.now ≤ 256 }
     ensures { result ≡ is_end (words_in line.now) }
@@ -22,7 +22,7 @@ fn is_end(line: &[u8]) -> bool
     }
 }
 
-/// What a line in a block says. It is a call of its own, so that other lines don't pay for its places of 256 bytes.
+/// What a line in a block says. It isn't inlined, since its locals of 256 bytes would slow all other lines down.
 #[inline(never)]
 #[tactic(auto, unfolding(crate::specs::Line::block_command))]
 fn block_command(line: &[u8]) -> Result<Command, LineFault>
@@ -39,14 +39,15 @@ fn block_command(line: &[u8]) -> Result<Command, LineFault>
     }
 }
 
-/// What a line of a script says. The line comes without what ends it.
+/// The command of a line of a script, which comes without its line end. `in_block` is whether a block of source text is open.
 ///
-/// In a block it is a `BlockLine`, or `End` where it is `end` but for outer blanks. A line there of more than
-/// 256 bytes, or with a byte that is no text, stands as `:`.
+/// In a block every line is accepted: it is `End` if it is `end`, surrounded by any whitespace, else a `BlockLine`. A line of
+/// more than 256 bytes or with a byte that is no text becomes the line `:`, which no assembler accepts, so that the block's
+/// `end` reports the fault BadLine there.
 ///
-/// Outside a block the faults come in this order: `LineTooLong` for more than 256 bytes, `NotText` for a byte other
-/// than a tab and 20 to 7e hexadecimal, `BadCommand` for an unknown name, a wrong count of words or a wrong bank word,
-/// `BadNumber` for an operand out of its range. What follows a `#` is a comment.
+/// Outside a block what follows a `#` is a comment, and a line is refused with the first of these faults: `LineTooLong` for
+/// more than 256 bytes; `NotText` for a byte other than a tab and 20 to 7e hexadecimal; `BadCommand` for an unknown name, a
+/// wrong count of operands or a wrong bank; `BadNumber` for an operand that is no number, or out of its range.
 #[tactic(auto, unfolding(crate::specs::Line::command_of))]
 pub fn parse_line(line: &[u8], in_block: bool) -> Result<Command, LineFault>
     ensures value { result ≡ command_of line.now in_block }

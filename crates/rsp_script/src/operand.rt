@@ -6,7 +6,7 @@ use crate::number::number;
 use arrayvec::ArrayVec;
 use rsp_memory::Bank;
 
-/// The bank that a word names.
+/// The bank that a word names, in lower case. None for another word.
 #[tactic(auto, unfolding(crate::specs::Operand::bank_of))]
 pub fn bank(word: &[u8]) -> Option<Bank>
     ensures { result ≡ bank_of word.now }
@@ -22,7 +22,7 @@ pub fn bank(word: &[u8]) -> Option<Bank>
     }
 }
 
-/// A number from `low` to `high`.
+/// The number that a word is. None if it is no number, or not from `low` to `high`.
 #[tactic(auto, unfolding(crate::specs::Operand::ranged_of))]
 pub fn ranged(low: u32, high: u32, word: &[u8]) -> Option<u32>
     ensures value { result ≡ ranged_of low high word.now }
@@ -36,7 +36,8 @@ pub fn ranged(low: u32, high: u32, word: &[u8]) -> Option<u32>
     }
 }
 
-/// A place of an instruction: a multiple of 4 from 0 to 4092.
+/// The address of an instruction in IMEM: a number as scripts write it, which is a multiple of 4 from 0 to 4092. None for any
+/// other word.
 #[tactic(auto, unfolding(crate::specs::Operand::place_of))]
 pub fn place(word: &[u8]) -> Option<u16>
     ensures value { result ≡ place_of word.now }
@@ -46,7 +47,7 @@ pub fn place(word: &[u8]) -> Option<u16>
     if n % 4 == 0 { Some(n as u16) } else { None }
 }
 
-/// One or more bytes, each of two hexadecimal digits.
+/// One or more bytes, each of two hexadecimal digits in either case. None for any other word.
 #[tactic(auto, unfolding(crate::specs::Operand::bytes_of))]
 pub fn bytes(word: &[u8]) -> Option<ArrayVec<u8, 128>>
     requires { length word.now ≤ 256 }

@@ -1,79 +1,15 @@
-ghost use Rattle.std.specs.Prelude.{◌≡◌, ℕ, ◌≤◌, ◌%◌, List, length, Result, IfOk, Ok, Err, MatchResult};
-ghost use Rattle.rsp_script.specs.Command.{IsCommand, alone, one_number, one_place, two_words, on_bank, load, mem, write, dis, watch, command_of_words};
+// The table of commands: what each name takes, and what it makes of its operands.
 
-use crate::name::{Name, name_of};
-use crate::operand::{bank, bytes, place, ranged};
+ghost use Rattle.std.specs.Prelude.{◌≡◌, IfOk};
+ghost use Rattle.rsp_script.specs.Command.{IsCommand, load, mem, write, dis, watch, command_of_words, command_named, debug_named, look_named};
+
+use crate::operand::{bytes, place, ranged};
+use crate::operands::{alone, on_bank, one_number, one_place, two_words};
 use crate::words::Words;
 use crate::{Command, LineFault, Look};
-use rsp_memory::Bank;
 
+/// The last address of the 16 MB that an address of a script reaches.
 const LAST_ADDRESS: u32 = 16_777_215;
-
-/// That there are no operands.
-fn alone(mut words: Words) -> Result<(), LineFault>
-    ensures { (command : Command) → MatchResult result
-        (λ _. alone command words.entry ≡ Ok command)
-        (λ fault. alone command words.entry ≡ Err fault) }
-{
-    match words.next() {
-        None => Ok(()),
-        Some(_) => Err(LineFault::BadCommand),
-    }
-}
-
-/// The only operand, a number from `low` to `high`.
-#[tactic(auto, unfolding(crate::specs::Command::one_number))]
-fn one_number(low: u32, high: u32, mut words: Words) -> Result<u32, LineFault>
-    ensures value { result ≡ one_number low high words.entry }
-    ensures range { IfOk result (λ n. n ≤ high) }
-{
-    let (Some(word), None) = (words.next(), words.next()) else {
-        return Err(LineFault::BadCommand);
-    };
-    ranged(low, high, word).ok_or(LineFault::BadNumber)
-}
-
-/// The only operand, a place of an instruction.
-#[tactic(auto, unfolding(crate::specs::Command::one_place))]
-fn one_place(mut words: Words) -> Result<u16, LineFault>
-    ensures value { result ≡ one_place words.entry }
-    ensures range { IfOk result (λ n. (n ≤ 4092) × (n % 4 ≡ 0)) }
-{
-    let (Some(word), None) = (words.next(), words.next()) else {
-        return Err(LineFault::BadCommand);
-    };
-    place(word).ok_or(LineFault::BadNumber)
-}
-
-/// The two operands.
-fn two_words(mut words: Words) -> Result<(&[u8], &[u8]), LineFault>
-    ensures words { (command : List ℕ → List ℕ → Result Command LineFault) → MatchResult result
-        (λ w. two_words command words.entry ≡ command w.0.now w.1.now)
-        (λ fault. two_words command words.entry ≡ Err fault) }
-    ensures fits { IfOk result (λ w. length w.1.now ≤ 256) }
-{
-    match (words.next(), words.next(), words.next()) {
-        (Some(first), Some(second), None) => Ok((first, second)),
-        _ => Err(LineFault::BadCommand),
-    }
-}
-
-/// A bank, and the two operands behind it.
-fn on_bank(mut words: Words) -> Result<(Bank, &[u8], &[u8]), LineFault>
-    ensures words { (command : Bank → List ℕ → List ℕ → Result Command LineFault) → MatchResult result
-        (λ w. on_bank command words.entry ≡ command w.0 w.1.now w.2.now)
-        (λ fault. on_bank command words.entry ≡ Err fault) }
-    ensures fits { IfOk result (λ w. length w.2.now ≤ 256) }
-{
-    let Some(name) = words.next() else {
-        return Err(LineFault::BadCommand);
-    };
-    let (first, second) = two_words(words)?;
-    match bank(name) {
-        Some(bank) => Ok((bank, first, second)),
-        None => Err(LineFault::BadCommand),
-    }
-}
 
 /// `load BANK ADDR HEX`
 #[tactic(auto, unfolding(crate::specs::Command::load))]
@@ -147,74 +83,99 @@ fn parse_watch(words: Words) -> Result<Command, LineFault>
     }
 }
 
-/// What words say.
+/// The table's last part: the commands that show something.
+#[tactic(auto, unfolding(crate::specs::Command::look_named))]
+fn parse_look(name: &[u8], words: Words) -> Result<Command, LineFault>
+    ensures value { result ≡ look_named name.now words.entry }
+    ensures ranges { IfOk result IsCommand }
+{
+    if name == b"regs".as_slice() {
+        alone(Command::Show(Look::Regs), words)
+    } else if name == b"vregs".as_slice() {
+        alone(Command::Show(Look::Vregs), words)
+    } else if name == b"acc".as_slice() {
+        alone(Command::Show(Look::Acc), words)
+    } else if name == b"flags".as_slice() {
+        alone(Command::Show(Look::Flags), words)
+    } else if name == b"sp".as_slice() {
+        alone(Command::Show(Look::Sp), words)
+    } else if name == b"mem".as_slice() {
+        parse_mem(words)
+    } else if name == b"dis".as_slice() {
+        parse_dis(words)
+    } else {
+        Err(LineFault::BadCommand)
+    }
+}
+
+/// The table's second part: the commands of the debugger.
+#[tactic(auto, unfolding(crate::specs::Command::debug_named))]
+fn parse_debug(name: &[u8], words: Words) -> Result<Command, LineFault>
+    ensures value { result ≡ debug_named name.now words.entry }
+    ensures ranges { IfOk result IsCommand }
+{
+    if name == b"run".as_slice() {
+        let limit = one_number(0, u32::MAX, words)?;
+        Ok(Command::Run { limit })
+    } else if name == b"break".as_slice() {
+        let address = one_place(words)?;
+        Ok(Command::Break { address })
+    } else if name == b"unbreak".as_slice() {
+        let address = one_place(words)?;
+        Ok(Command::Unbreak { address })
+    } else if name == b"watch".as_slice() {
+        parse_watch(words)
+    } else if name == b"unwatch".as_slice() {
+        let number = one_number(0, u32::MAX, words)?;
+        Ok(Command::Unwatch { number })
+    } else if name == b"back".as_slice() {
+        let count = one_number(0, u32::MAX, words)?;
+        Ok(Command::Back { count })
+    } else {
+        parse_look(name, words)
+    }
+}
+
+/// The command of a name and its operands. The table's first part: the commands of the machine, and `asm`.
+#[tactic(auto, unfolding(crate::specs::Command::command_named))]
+fn parse_command(name: &[u8], words: Words) -> Result<Command, LineFault>
+    ensures value { result ≡ command_named name.now words.entry }
+    ensures ranges { IfOk result IsCommand }
+{
+    if name == b"load".as_slice() {
+        parse_load(words)
+    } else if name == b"step".as_slice() {
+        alone(Command::Step, words)
+    } else if name == b"read".as_slice() {
+        let register = one_number(0, 15, words)? as u8;
+        Ok(Command::Read { register })
+    } else if name == b"write".as_slice() {
+        parse_write(words)
+    } else if name == b"pc".as_slice() {
+        let address = one_place(words)?;
+        Ok(Command::SetPc { address })
+    } else if name == b"task".as_slice() {
+        let address = one_number(0, LAST_ADDRESS, words)?;
+        Ok(Command::Task { address })
+    } else if name == b"asm".as_slice() {
+        let address = one_place(words)?;
+        Ok(Command::Asm { address })
+    } else {
+        parse_debug(name, words)
+    }
+}
+
+/// The command of a line outside a block, by its words: `Nothing` of none, else the one that the first word names.
+///
+/// `BadCommand` for an unknown name, a wrong count of operands or a wrong bank; else `BadNumber` for an operand that is no
+/// number, or out of its range.
 #[tactic(auto, unfolding(crate::specs::Command::command_of_words))]
 pub fn parse_words(mut words: Words) -> Result<Command, LineFault>
     ensures value { result ≡ command_of_words words.entry }
     ensures ranges { IfOk result IsCommand }
 {
-    let Some(word) = words.next() else {
-        return Ok(Command::Nothing);
-    };
-    let Some(name) = name_of(word) else {
-        return Err(LineFault::BadCommand);
-    };
-    match name {
-        Name::Load => parse_load(words),
-        Name::Step => {
-            alone(words)?;
-            Ok(Command::Step)
-        }
-        Name::Regs => {
-            alone(words)?;
-            Ok(Command::Show(Look::Regs))
-        }
-        Name::Mem => parse_mem(words),
-        Name::Read => Ok(Command::Read {
-            register: one_number(0, 15, words)? as u8,
-        }),
-        Name::Write => parse_write(words),
-        Name::Pc => Ok(Command::SetPc {
-            address: one_place(words)?,
-        }),
-        Name::Task => Ok(Command::Task {
-            address: one_number(0, LAST_ADDRESS, words)?,
-        }),
-        Name::Sp => {
-            alone(words)?;
-            Ok(Command::Show(Look::Sp))
-        }
-        Name::Vregs => {
-            alone(words)?;
-            Ok(Command::Show(Look::Vregs))
-        }
-        Name::Acc => {
-            alone(words)?;
-            Ok(Command::Show(Look::Acc))
-        }
-        Name::Flags => {
-            alone(words)?;
-            Ok(Command::Show(Look::Flags))
-        }
-        Name::Asm => Ok(Command::Asm {
-            address: one_place(words)?,
-        }),
-        Name::Dis => parse_dis(words),
-        Name::Run => Ok(Command::Run {
-            limit: one_number(0, u32::MAX, words)?,
-        }),
-        Name::Break => Ok(Command::Break {
-            address: one_place(words)?,
-        }),
-        Name::Unbreak => Ok(Command::Unbreak {
-            address: one_place(words)?,
-        }),
-        Name::Watch => parse_watch(words),
-        Name::Unwatch => Ok(Command::Unwatch {
-            number: one_number(0, u32::MAX, words)?,
-        }),
-        Name::Back => Ok(Command::Back {
-            count: one_number(0, u32::MAX, words)?,
-        }),
+    match words.next() {
+        Some(name) => parse_command(name, words),
+        None => Ok(Command::Nothing),
     }
 }

@@ -6,7 +6,7 @@ use arrayvec::ArrayString;
 use std::marker::Model;
 use std::str;
 
-/// A line of source text, of at most 256 bytes, as a block keeps it. Contracts see its bytes.
+/// A line of source text in an open block: at most 256 bytes, each a tab or a printable byte of ASCII. Contracts see its bytes.
 #[derive(Drop, Debug)]
 pub struct SourceLine {
     text: ArrayString<256>,
@@ -19,7 +19,7 @@ impl Model for SourceLine {
 }
 
 impl SourceLine {
-    /// A line that is text.
+    /// The line of these bytes.
     #[tactic(auto, using(crate::proofs::Texts::text_is_utf8))]
     pub(crate) fn new(line: &[u8]) -> SourceLine
         requires fits { length line.now ≤ 256 }
@@ -34,7 +34,7 @@ impl SourceLine {
         SourceLine { text }
     }
 
-    /// The text of the line, without what ends it.
+    /// The text of the line, without its line end.
     pub fn as_str(&self) -> &str
         ensures value { result.now ≡ self.now }
         ensures fits { length result.now ≤ 256 }

@@ -4,7 +4,7 @@ ghost use Rattle.rsp_script.specs.Words.{words_in};
 use rsp_text::{len_before_blank, skip_blanks};
 use std::marker::Model;
 
-/// The words that are left of a line, which has at most 256 bytes.
+/// The words that are left of a line of at most 256 bytes: its parts between whitespace. Contracts see them as a list.
 #[derive(Drop)]
 pub struct Words<'a> {
     text: &'a [u8],

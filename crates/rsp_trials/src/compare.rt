@@ -42,7 +42,11 @@ fn worked_sums<A: Acc>(rt: &impl Abort) {
     );
     assert_eq!(rt; signed, VReg::splat(0x7fff));
     assert_eq!(rt; acc.part(Part::Low), VReg::splat(0x8000));
+}
 
+fn worked_differences<A: Acc>(rt: &impl Abort) {
+    let mut flags = Flags::new();
+    let mut acc = A::zero();
     let difference = add_op(
         AddOp::Vsubc,
         &VReg::splat(3),
@@ -80,8 +84,15 @@ fn worked_comparisons<A: Acc>(rt: &impl Abort) {
         let _ = select_op(op, &a, &b, &mut flags, &mut acc);
         assert_eq!(rt; flags.compare.bits(), answer);
     }
+}
 
-    // Three below five leaves both of VCO set: equal lanes are then below, and no longer at least.
+fn worked_selections<A: Acc>(rt: &impl Abort) {
+    let mut flags = Flags::new();
+    let mut acc = A::zero();
+    let a = VReg::from_array([5, 0xffff, 1, 0x8000, 0x7fff, 0, 5, 5]);
+    let b = VReg::from_array([5, 1, 0xffff, 0x7fff, 0x8000, 0, 6, 4]);
+
+    // Three below five leaves both of VCO set: equal lanes are then less, and not at least.
     let _ = add_op(
         AddOp::Vsubc,
         &VReg::splat(3),
@@ -135,13 +146,17 @@ fn worked_bits<A: Acc>(rt: &impl Abort) {
 #[test]
 fn rows_over_whole_numbers(rt: HostRuntime) {
     worked_sums::<PlainAcc>(&rt);
+    worked_differences::<PlainAcc>(&rt);
     worked_comparisons::<PlainAcc>(&rt);
+    worked_selections::<PlainAcc>(&rt);
     worked_bits::<PlainAcc>(&rt);
 }
 
 #[test]
 fn rows_over_planes(rt: HostRuntime) {
     worked_sums::<PlaneAcc>(&rt);
+    worked_differences::<PlaneAcc>(&rt);
     worked_comparisons::<PlaneAcc>(&rt);
+    worked_selections::<PlaneAcc>(&rt);
     worked_bits::<PlaneAcc>(&rt);
 }

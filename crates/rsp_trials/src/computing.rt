@@ -1,8 +1,8 @@
 use crate::random::Random;
 use rsp_decode::{decode, encode};
 
-/// The canonical word of a computing instruction, with fields that look random. In place of a reserved function it has that of
-/// VADD.
+/// The canonical word of a vector instruction that computes, with fields that look random. It has the function of VADD in place of
+/// a reserved one.
 pub fn computing_word(random: &mut Random) -> u32 {
     let word = 0x4a00_0000 | random.bits() & 0x01ff_ffff;
     match decode(word) {

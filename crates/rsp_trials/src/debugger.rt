@@ -7,18 +7,18 @@ use rsp_memory::{Bank, Rdram};
 use std::alloc::{AllocError, Global};
 use std::process::Abort;
 
-/// A call of a debugger, with the answer that it is to give.
+/// A call of a debugger, with the result that it must return.
 #[derive(Clone, Copy)]
 enum Call {
     Step(StepEnd),
     Run(u32, Result<Stop, CountFault>),
     Back(u32, Result<(), BackFault>),
-    /// pc, npc and scalar register 1, which are only looked at.
+    /// pc, npc and scalar register 1, which are only read.
     Look(u16, u16, u32),
 }
 
 impl Call {
-    /// Makes the call. Tells whether the answer is the one that is to come.
+    /// Makes the call. Returns whether the result is the expected one.
     fn is_answered(self, debugger: &mut Debugger<PlaneAcc>) -> bool {
         match self {
             Call::Step(answer) => debugger.step() == answer,

@@ -1,7 +1,9 @@
-//! Tests of the machine and of the crates below it, and of the texts of words, in one crate, so that those crates need no second proof for their tests. Among
-//! them are trials of the vector unit, which hold two machines against each other: one keeps its accumulators in planes, the other as whole numbers. That the
-//! two never differ, and that listings mean their words, is proved where the machine and the texts are; here the compiled program shows it. One law is proved
-//! here, of the assembler and the disassembler together: [`assembled_listing`].
+//! Tests of the machine and of the crates below it, and of disassembly.
+//!
+//! They are in one crate since a crate with tests is proved twice. Random programs compare two machines: one keeps its accumulators in
+//! planes of 16 bits, the other as whole numbers. That the two never differ, and that listings assemble to their words, is proved in
+//! the crates themselves; here the compiled program shows it. One law of the assembler and the disassembler together is proved here:
+//! [`assembled_listing`].
 #![tactic(auto)]
 
 #[cfg(test)]

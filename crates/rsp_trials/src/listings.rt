@@ -1,4 +1,4 @@
-// Listings, and the words that they are read as.
+// Listings, and the words that they assemble to.
 
 ghost use Rattle.std.specs.Prelude.{◌≡◌, ◌≤◌, length, IfOk};
 ghost use Rattle.std.specs.String.{string_bytes};
@@ -9,7 +9,7 @@ use rsp_asm::{AsmFaultKind, Words, assemble};
 use rsp_dis::text_of;
 use std::alloc::{AllocError, Global};
 
-/// The texts of words that stand in IMEM from 0 on, LF behind each.
+/// The disassembly of words in IMEM from 0 on, with an LF after each line.
 fn listing_of(alloc: Global, words: &[u32]) -> Result<String, AllocError>
     requires { length words.now ≤ 1024 }
     ensures { IfOk result (λ text. string_bytes text ≡ text_of_lines (listing 0 words.now)) }
@@ -22,8 +22,8 @@ fn listing_of(alloc: Global, words: &[u32]) -> Result<String, AllocError>
     Ok(text)
 }
 
-/// Lists at most 1,024 words and assembles the listing. That gives the words back, or there is no memory for the text or for
-/// the assembler.
+/// Disassembles at most 1,024 words and assembles the listing. The result is the same words. AllocError if there is no memory for
+/// the text or for the assembler.
 pub fn assembled_listing(alloc: Global, words: &[u32]) -> Result<Words, AllocError>
     requires { length words.now ≤ 1024 }
     ensures { IfOk result (λ again. again.items ≡ words.now) }

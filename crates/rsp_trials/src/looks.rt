@@ -50,7 +50,7 @@ fn is_same_memories<A: Acc, B: Acc>(a: &Machine<A>, b: &Machine<B>) -> bool {
         && a.rdram().run(0, length) == b.rdram().run(0, other_length)
 }
 
-/// Whether two machines show the same by all readers.
+/// Whether all readers of two machines return the same.
 pub fn is_same<A: Acc, B: Acc>(a: &Machine<A>, b: &Machine<B>) -> bool {
     a.pc() == b.pc()
         && a.npc() == b.npc()

@@ -18,7 +18,7 @@ fn start<A: Acc>(rt: &impl Abort, alloc: Global) -> Result<Machine<A>, AllocErro
     Ok(Machine::new(image.expect(rt, "128 bytes are an image")))
 }
 
-/// Puts words into IMEM from a place on, which may wrap, and goes on there.
+/// Writes words to IMEM from an address on, which may wrap, and sets pc to it.
 fn program<A: Acc>(machine: &mut Machine<A>, place: u16, words: &[u32]) {
     let start = place % 4096 / 4 * 4;
     let mut at = u32::from(start);
@@ -37,7 +37,7 @@ fn makes_steps_at_once(rt: HostRuntime) -> Result<(), AllocError> {
         (0, 0, [up, 0x0800_0000, up], 7, 7, 4, 8, 5, false),
         // ends at a jump: its delay slot is next
         (0, 0, [up, 0x0800_0000, up], 2, 2, 8, 0, 1, false),
-        // nop; nop; addiu, behind the end of IMEM
+        // nop; nop; addiu, after the end of IMEM
         (0, 0xff8, [0, 0, up], 3, 3, 4, 8, 1, false),
         // addiu; break; addiu
         (0, 0, [up, 0x0000_000d, up], 10, 2, 8, 0xc, 1, true),

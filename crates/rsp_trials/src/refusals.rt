@@ -1,5 +1,5 @@
-// Calls that ask for memory. `tests/refusals` runs these tests again and again, and each time another of their wishes for memory is refused: a test then
-// says on standard output what it was answered, and asks again.
+// Calls that allocate. `tests/refusals` runs these tests many times, and each time another allocation fails: a test then prints the
+// answer on standard output, and calls again.
 
 use rsp_acc::PlaneAcc;
 use rsp_debug::Debugger;
@@ -7,7 +7,7 @@ use rsp_machine::{Machine, StepEnd};
 use rsp_memory::{Bank, Rdram};
 use std::test::Fail;
 
-/// An image whose bytes are all 7. This is the test's own wish for memory: where it is refused, it is made again.
+/// An image whose bytes are all 7. This is an allocation of the test itself: if it fails, it is made again.
 fn image(rt: &HostRuntime) -> Result<Rdram, Fail> {
     let bytes = match vec![in rt.alloc(); 7; 64] {
         Ok(bytes) => bytes,

@@ -5,7 +5,7 @@ use rsp_lanes::VReg;
 use rsp_machine::Machine;
 use std::alloc::{AllocError, Global};
 
-/// What the readers of a machine show at one time, but for IMEM and the image, which no instruction changes without a DMA.
+/// What the readers of a machine show at one time, except IMEM and the image, which no instruction changes without a DMA.
 #[derive(Drop)]
 pub struct Shown {
     places: [u16; 2],
@@ -72,7 +72,7 @@ impl Shown {
         })
     }
 
-    /// Whether all is equal but the places.
+    /// Whether all is equal except the program counters.
     fn is_same_beside(&self, other: &Shown) -> bool {
         self.registers == other.registers
             && self.vectors == other.vectors
@@ -89,7 +89,7 @@ impl Shown {
         self.places == other.places && self.is_same_beside(other)
     }
 
-    /// Whether more than the places differs.
+    /// Whether more than the program counters differs.
     pub fn is_changed(&self, other: &Shown) -> bool {
         !self.is_same_beside(other)
     }

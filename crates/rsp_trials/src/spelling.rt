@@ -1,4 +1,4 @@
-// The texts of words, and the words of texts, in the compiled program.
+// Disassembly in the compiled program: a listing assembles to its words.
 
 use crate::assembled_listing;
 use crate::random::Random;
@@ -6,7 +6,7 @@ use rsp_dis::text_of;
 use std::alloc::{AllocError, Global};
 use std::test::Fail;
 
-/// Whether the listing of these words is read as the same words.
+/// Whether the listing of these words assembles to the same words.
 fn is_read_back(alloc: Global, words: &[u32; 1024]) -> Result<bool, AllocError> {
     Ok(assembled_listing(alloc, words)?.as_slice() == words.as_slice())
 }
@@ -24,7 +24,7 @@ fn listings_are_read_back(rt: HostRuntime) -> Result<(), Fail> {
     Ok(())
 }
 
-/// All low halves behind these high halves: a branch, computing rows and vector loads.
+/// All low halves after these high halves: a branch, vector instructions and vector loads.
 #[test]
 fn all_low_halves_are_read_back(rt: HostRuntime) -> Result<(), Fail> {
     for high in [0x1022, 0x4ba3, 0xc8a4] {

@@ -11,7 +11,7 @@ use std::process::Abort;
 /// How many lists are tried.
 const LISTS: u32 = 1000;
 
-/// How many computing words a list has.
+/// How many words of vector instructions a list has.
 const LENGTH: u32 = 64;
 
 /// A machine with these words in IMEM, and these lanes in DMEM, from 0 on.
@@ -44,7 +44,7 @@ pub fn machine_of<A: Acc>(
     Ok(machine)
 }
 
-/// Words that set all flags and load all vector registers, and then computing words.
+/// Words that set all flags and load all vector registers, and then words of vector instructions.
 fn list_of(alloc: Global, random: &mut Random) -> Result<Vec<u32>, AllocError> {
     let mut words = Vec::new(alloc);
     for n in 0..3 {
@@ -70,7 +70,7 @@ fn lanes_of(alloc: Global, random: &mut Random) -> Result<Vec<u16>, AllocError> 
     Ok(lanes)
 }
 
-/// Marks the middle sixteen bits of the first accumulator as seen.
+/// Marks the value of the middle sixteen bits of the first accumulator as seen.
 fn mark<A: Acc>(machine: &Machine<A>, seen: &mut [bool]) {
     let [_, middle, _] = accumulators(machine);
     if let Some(place) = seen.get_mut(usize::from(middle.lane(0))) {
@@ -78,7 +78,7 @@ fn mark<A: Acc>(machine: &Machine<A>, seen: &mut [bool]) {
     }
 }
 
-/// Runs both machines over a list, and holds their answers and accumulators against each other after each step.
+/// Runs both machines over a list, and compares their answers and accumulators after each step.
 fn run_both(
     rt: &impl Abort,
     planes: &mut Machine<PlaneAcc>,
@@ -94,7 +94,7 @@ fn run_both(
     }
 }
 
-/// Tries one list of words. Answers whether a machine with one lane changed comes to another end.
+/// Tries one list of words. Returns whether a machine with one lane changed ends in another state.
 fn try_list(
     rt: &impl Abort,
     alloc: Global,

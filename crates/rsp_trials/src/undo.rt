@@ -54,8 +54,8 @@ fn put_words<A: Acc>(rt: &impl Abort, machine: &mut Machine<A>, words: &[u32]) {
     }
 }
 
-/// A machine with random bytes in the first 512 places of DMEM, and all registers and flags loaded. It
-/// stands before the words that are given.
+/// A machine with random bytes in the first 512 bytes of DMEM, and all registers and flags loaded. Its pc is at the first of the
+/// given words.
 fn machine_of<A: Acc>(
     rt: &impl Abort,
     alloc: Global,
@@ -84,14 +84,14 @@ fn machine_of<A: Acc>(
     Ok(machine)
 }
 
-/// Steps that led to where a machine stands: what they changed, and what it showed before each.
+/// The steps of a machine: an undo record of each, and what the machine showed before it.
 #[derive(Drop)]
 struct Trail {
     records: Vec<Record>,
     shown: Vec<Shown>,
 }
 
-/// Makes steps until one isn't Done. A step that starts a DMA has no record, and the trail begins behind it.
+/// Makes steps until one isn't Done. A step that starts a DMA has no record, and the trail begins after it.
 fn walk<A: Acc>(alloc: Global, machine: &mut Machine<A>) -> Result<Trail, AllocError> {
     let mut trail = Trail {
         records: Vec::new(alloc),
@@ -132,7 +132,7 @@ fn go_back<A: Acc>(
     Ok(records.len())
 }
 
-/// A program of random words, of which as many steps as can be are undone.
+/// Runs a program of random words, and undoes as many steps as possible.
 fn try_program<A: Acc>(
     rt: &impl Abort,
     alloc: Global,
@@ -166,7 +166,7 @@ fn steps_are_undone(rt: HostRuntime) -> Result<(), AllocError> {
     Ok(())
 }
 
-/// Steps over the first word, and over the second with a record, which then leads back.
+/// Steps over the first word, and over the second with a record, which then undoes it.
 fn try_row<A: Acc>(
     rt: &impl Abort,
     alloc: Global,

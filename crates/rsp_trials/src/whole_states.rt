@@ -20,7 +20,7 @@ fn start<A: Acc>(rt: &impl Abort, alloc: Global) -> Result<Machine<A>, AllocErro
     Ok(machine)
 }
 
-/// Registers of which no two parts are the same. The machine stands in the delay slot of a jump from the end of IMEM to its start.
+/// Registers of which no two parts are the same. pc is the delay slot of a jump from the end of IMEM to its start.
 fn registers() -> AllRegisters {
     let mut registers = [0; 32];
     registers[1] = 0xffff_fffe;
@@ -64,7 +64,7 @@ fn registers() -> AllRegisters {
     }
 }
 
-/// Each part is read by its own reader, the memories stay, and a step goes on from there.
+/// Each part is read by its own reader, the memories stay as they were, and a step continues from there.
 fn stands<A: Acc>(rt: &impl Abort, machine: &mut Machine<A>) {
     let given = registers();
     assert!(rt; machine.set_all_registers(&given) == Ok(()));
@@ -112,7 +112,7 @@ fn sets_each_part(rt: HostRuntime) -> Result<(), AllocError> {
     Ok(())
 }
 
-/// Registers with something out of its range, and the fault that is told. Of two faults, the first.
+/// Registers with something out of its range, and the fault that is returned. Of two faults, the first.
 fn refused() -> [(AllRegisters, RegistersFault); 12] {
     let mut odd_pc = registers();
     odd_pc.pc = 2;

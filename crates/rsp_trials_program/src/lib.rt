@@ -1,5 +1,5 @@
-//! Tests of the work of the program `rsp`, over files and streams that are fakes, in a crate of their own, so that the work needs no second proof
-//! for them.
+//! Tests of the work of the program `rsp`, over fake files and streams. They are in a crate of their own since a crate with tests is
+//! proved twice.
 #![tactic(auto)]
 
 #[cfg(test)]

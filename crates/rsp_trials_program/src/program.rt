@@ -1,7 +1,7 @@
 mod dis;
 mod fakes;
 
-use fakes::{Behind, FakeFiles, FakeReader};
+use fakes::{AfterBytes, FakeFiles, FakeReader};
 use rsp_program::{FileFault, Status, without_words, work};
 use std::io::{self, ErrorKind, Write};
 use std::test::Fail;
@@ -13,8 +13,8 @@ struct Outcome {
     errors: String,
 }
 
-/// Does the work that a command line asks for, whose words are parted by blanks.
-fn told<W: Write + Drop>(
+/// Does the work that a command line asks for. Its arguments are separated by spaces.
+fn run_work<W: Write + Drop>(
     rt: &HostRuntime,
     line: &str,
     files: &mut FakeFiles,
@@ -35,10 +35,10 @@ fn told<W: Write + Drop>(
 fn a_finished_run_saves_its_image(rt: HostRuntime) -> Result<(), Fail> {
     let image = [0u8; 64];
     let mut files = FakeFiles::new(rt.alloc(), &image);
-    let mut script = FakeReader::new(b"load rdram 8 0102\nfoo\n", Behind::End);
+    let mut script = FakeReader::new(b"load rdram 8 0102\nfoo\n", AfterBytes::End);
     let mut output = Vec::new(rt.alloc());
     let line = "rsp run --rdram image --save=saved";
-    let end = told(&rt, line, &mut files, &mut script, &mut output)?;
+    let end = run_work(&rt, line, &mut files, &mut script, &mut output)?;
     assert_eq!(rt; end.status, Status::Done);
     assert_eq!(rt; end.errors.as_str(), "");
     assert!(rt; output.as_slice() == b"ok\nfault 30 BadCommand\n".as_slice());
@@ -54,9 +54,12 @@ fn a_finished_run_saves_its_image(rt: HostRuntime) -> Result<(), Fail> {
 #[test]
 fn the_image_is_zeros_where_no_file_is_named(rt: HostRuntime) -> Result<(), Fail> {
     let mut files = FakeFiles::new(rt.alloc(), b"");
-    let mut script = FakeReader::new(b"mem rdram 4194303 1\nmem rdram 4194303 2\n", Behind::End);
+    let mut script = FakeReader::new(
+        b"mem rdram 4194303 1\nmem rdram 4194303 2\n",
+        AfterBytes::End,
+    );
     let mut output = Vec::new(rt.alloc());
-    let end = told(&rt, "rsp run", &mut files, &mut script, &mut output)?;
+    let end = run_work(&rt, "rsp run", &mut files, &mut script, &mut output)?;
     assert_eq!(rt; end.status, Status::Done);
     assert!(rt; output.as_slice() == b"3fffff: 00\nfault 6 RangeFault\n".as_slice());
     assert_eq!(rt; files.written, 0);
@@ -76,10 +79,10 @@ fn the_image_is_read_before_the_script(rt: HostRuntime) -> Result<(), Fail> {
     ] {
         let mut files = FakeFiles::new(rt.alloc(), &[0; 60]);
         files.read_fault = fault;
-        let mut script = FakeReader::new(b"step\n", Behind::End);
+        let mut script = FakeReader::new(b"step\n", AfterBytes::End);
         let mut output = Vec::new(rt.alloc());
         let line = format!(in rt.alloc(); "rsp run --save saved --rdram {name}")?;
-        let end = told(&rt, &line, &mut files, &mut script, &mut output)?;
+        let end = run_work(&rt, &line, &mut files, &mut script, &mut output)?;
         assert_eq!(rt; end.status, Status::Faulted);
         assert_eq!(rt; end.errors.as_str(), message);
         assert!(rt; output.is_empty());
@@ -90,15 +93,15 @@ fn the_image_is_read_before_the_script(rt: HostRuntime) -> Result<(), Fail> {
 
 #[test]
 fn a_run_that_breaks_off_saves_nothing(rt: HostRuntime) -> Result<(), Fail> {
-    for (behind, room, message) in [
-        (Behind::Fault, 64, "rsp: fault 40 ReadFault\n"),
-        (Behind::End, 17, "rsp: fault 41 WriteFault\n"),
-        (Behind::Hashes, 64, "rsp: fault 42 ScriptTooLong\n"),
+    for (after, room, message) in [
+        (AfterBytes::Fault, 64, "rsp: fault 40 ReadFault\n"),
+        (AfterBytes::End, 17, "rsp: fault 41 WriteFault\n"),
+        (AfterBytes::Hashes, 64, "rsp: fault 42 ScriptTooLong\n"),
     ] {
         let mut files = FakeFiles::new(rt.alloc(), b"");
-        let mut script = FakeReader::new(b"step\nst", behind);
+        let mut script = FakeReader::new(b"step\nst", after);
         let mut output = [0u8; 64];
-        let end = told(
+        let end = run_work(
             &rt,
             "rsp run --save saved",
             &mut files,
@@ -118,9 +121,9 @@ fn a_run_that_breaks_off_saves_nothing(rt: HostRuntime) -> Result<(), Fail> {
 fn a_read_fails_after_two_lines(rt: HostRuntime) -> Result<(), Fail> {
     let mut files = FakeFiles::new(rt.alloc(), b"");
     let lines = b"load imem 0 34021234ac0200000000000d\nstep\n";
-    let mut script = FakeReader::new(lines, Behind::Fault);
+    let mut script = FakeReader::new(lines, AfterBytes::Fault);
     let mut output = Vec::new(rt.alloc());
-    let end = told(&rt, "rsp run", &mut files, &mut script, &mut output)?;
+    let end = run_work(&rt, "rsp run", &mut files, &mut script, &mut output)?;
     assert_eq!(rt; end.status, Status::Faulted);
     assert_eq!(rt; end.errors.as_str(), "rsp: fault 40 ReadFault\n");
     assert!(rt; output.as_slice() == b"ok\nstep Done pc 004\n".as_slice());
@@ -135,10 +138,10 @@ fn an_image_may_not_be_saved(rt: HostRuntime) -> Result<(), Fail> {
     ] {
         let mut files = FakeFiles::new(rt.alloc(), b"");
         files.write_fault = Some(fault);
-        let mut script = FakeReader::new(b"step", Behind::End);
+        let mut script = FakeReader::new(b"step", AfterBytes::End);
         let mut output = Vec::new(rt.alloc());
         let line = "rsp run --save saved";
-        let end = told(&rt, line, &mut files, &mut script, &mut output)?;
+        let end = run_work(&rt, line, &mut files, &mut script, &mut output)?;
         assert_eq!(rt; end.status, Status::Faulted);
         assert_eq!(rt; end.errors.as_str(), message);
         assert!(rt; output.as_slice() == b"step Done pc 004\n".as_slice());
@@ -149,10 +152,10 @@ fn an_image_may_not_be_saved(rt: HostRuntime) -> Result<(), Fail> {
 #[test]
 fn a_text_is_assembled(rt: HostRuntime) -> Result<(), Fail> {
     let mut files = FakeFiles::new(rt.alloc(), b"j x\r\nnop\nx: break");
-    let mut script = FakeReader::new(b"step\n", Behind::End);
+    let mut script = FakeReader::new(b"step\n", AfterBytes::End);
     let mut output = Vec::new(rt.alloc());
     let line = "rsp asm image words";
-    let end = told(&rt, line, &mut files, &mut script, &mut output)?;
+    let end = run_work(&rt, line, &mut files, &mut script, &mut output)?;
     assert_eq!(rt; end.status, Status::Done);
     assert_eq!(rt; end.errors.as_str(), "");
     assert!(rt; output.as_slice() == b"ok 3 words\n".as_slice());
@@ -170,10 +173,10 @@ fn a_text_is_assembled(rt: HostRuntime) -> Result<(), Fail> {
 fn a_loop_is_assembled(rt: HostRuntime) -> Result<(), Fail> {
     let text = b"loop: addiu $1, $1, 1\nbne $1, $2, loop\nnop\nbreak\n";
     let mut files = FakeFiles::new(rt.alloc(), text);
-    let mut script = FakeReader::new(b"", Behind::End);
+    let mut script = FakeReader::new(b"", AfterBytes::End);
     let mut output = Vec::new(rt.alloc());
     let line = "rsp asm image words";
-    let end = told(&rt, line, &mut files, &mut script, &mut output)?;
+    let end = run_work(&rt, line, &mut files, &mut script, &mut output)?;
     assert_eq!(rt; end.status, Status::Done);
     assert!(rt; output.as_slice() == b"ok 4 words\n".as_slice());
     let words = [
@@ -206,10 +209,10 @@ fn a_text_that_means_nothing_writes_nothing(rt: HostRuntime) -> Result<(), Fail>
     for (text, name, fault, message) in cases {
         let mut files = FakeFiles::new(rt.alloc(), text);
         files.read_fault = fault;
-        let mut script = FakeReader::new(b"", Behind::End);
+        let mut script = FakeReader::new(b"", AfterBytes::End);
         let mut output = Vec::new(rt.alloc());
         let line = format!(in rt.alloc(); "rsp asm {name} words")?;
-        let end = told(&rt, &line, &mut files, &mut script, &mut output)?;
+        let end = run_work(&rt, &line, &mut files, &mut script, &mut output)?;
         assert_eq!(rt; end.status, Status::Faulted);
         assert_eq!(rt; end.errors.as_str(), message);
         assert!(rt; output.is_empty());
@@ -219,17 +222,17 @@ fn a_text_that_means_nothing_writes_nothing(rt: HostRuntime) -> Result<(), Fail>
 }
 
 #[test]
-fn words_may_not_be_written_or_told(rt: HostRuntime) -> Result<(), Fail> {
+fn words_may_not_be_written_or_reported(rt: HostRuntime) -> Result<(), Fail> {
     for (fault, room, message) in [
         (Some(FileFault::Refused), 64, "rsp: cannot write words\n"),
         (None, 4, "rsp: fault 41 WriteFault\n"),
     ] {
         let mut files = FakeFiles::new(rt.alloc(), b"nop");
         files.write_fault = fault;
-        let mut script = FakeReader::new(b"", Behind::End);
+        let mut script = FakeReader::new(b"", AfterBytes::End);
         let mut output = [0u8; 64];
         let line = "rsp asm image words";
-        let end = told(&rt, line, &mut files, &mut script, &mut output[..room])?;
+        let end = run_work(&rt, line, &mut files, &mut script, &mut output[..room])?;
         assert_eq!(rt; end.status, Status::Faulted);
         assert_eq!(rt; end.errors.as_str(), message);
     }
@@ -246,9 +249,9 @@ fn other_command_lines_are_refused(rt: HostRuntime) -> Result<(), Fail> {
         "rsp run --help",
     ] {
         let mut files = FakeFiles::new(rt.alloc(), b"");
-        let mut script = FakeReader::new(b"step\n", Behind::End);
+        let mut script = FakeReader::new(b"step\n", AfterBytes::End);
         let mut output = Vec::new(rt.alloc());
-        let end = told(&rt, line, &mut files, &mut script, &mut output)?;
+        let end = run_work(&rt, line, &mut files, &mut script, &mut output)?;
         assert_eq!(rt; end.status, Status::Refused, "at {line}");
         assert!(rt; !end.errors.is_empty(), "at {line}");
         assert!(rt; output.is_empty(), "at {line}");

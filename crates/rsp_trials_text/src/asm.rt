@@ -1,4 +1,4 @@
-// Worked sources, with their words by hand. Memory is there, so none is answered by the want of it.
+// Sources, with their words by hand. Memory is there, so none ends with OutOfMemory.
 
 use rsp_asm::{AsmFault, AsmFaultKind, assemble};
 use std::test::Fail;

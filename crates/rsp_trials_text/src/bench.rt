@@ -17,7 +17,7 @@ fn first_session(rt: &HostRuntime) -> Result<Session, Fail> {
     Session::try_new(rt.alloc(), image).map_err(|_| Fail::new("there is no memory for a session"))
 }
 
-/// Runs a script over an image of zeros, and tells whether it finished with these replies.
+/// Runs a script over an image of zeros. Returns whether it finished with these replies.
 fn gives(rt: &HostRuntime, length: usize, script: &[u8], replies: &[u8]) -> Result<bool, Fail> {
     let image = zeros(rt, length)?;
     let mut source = MemSource::new(script);

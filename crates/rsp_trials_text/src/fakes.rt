@@ -1,10 +1,10 @@
-// Ends of a run that give or take little, fail, or never end.
+// Sources and sinks that move few bytes, fail, or never end.
 
 ghost use Rattle.std.specs.Prelude.{◌≡◌, ℕ, ◌+◌, Some, None};
 
 use rsp_lines::{EndFault, MemSink, MemSource, Sink, Source};
 
-/// A script that comes some bytes a read, and fails after a number of reads.
+/// A script of which each read moves a few bytes. It fails after a number of reads.
 #[derive(Drop)]
 pub(crate) struct CutSource<'a> {
     script: MemSource<'a>,
@@ -46,13 +46,13 @@ impl Source for CutSource<'_> {
     }
 }
 
-/// A sink that takes some bytes a write. After a number of writes it fails, or it takes nothing.
+/// A sink of which each write takes a few bytes. After a number of writes it fails, or it takes nothing.
 #[derive(Drop)]
 pub(crate) struct NarrowSink {
     replies: MemSink,
     step: usize,
     writes_left: u64,
-    /// Whether it takes nothing where it could fail.
+    /// Whether it then takes nothing, in place of a fault.
     pub(crate) takes_nothing: bool,
     failures: u64,
 }
@@ -105,12 +105,12 @@ impl Sink for NarrowSink {
     }
 }
 
-/// A reader that gives one byte again and again, some of them a read, and never ends.
+/// A source that repeats one byte without end, a few of them a read.
 #[derive(Drop)]
 pub(crate) struct Endless {
     pub(crate) byte: u8,
     pub(crate) step: usize,
-    /// How many bytes it gave.
+    /// How many bytes were read.
     pub(crate) given: usize,
 }
 

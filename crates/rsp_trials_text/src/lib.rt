@@ -1,5 +1,5 @@
-//! Tests of texts and scripts that only a test inside can make, in a crate of their own: with memory there and refused, over readers and writers that fail,
-//! and on sessions. What texts mean and what scripts are answered is shown by scripts.
+//! Tests of the assembler and of scripts that no script can make: allocations, reads and writes that fail, and calls of a session.
+//! The scripts of the repository test what texts mean and what commands reply.
 #![tactic(auto)]
 
 #[cfg(test)]

@@ -1,5 +1,5 @@
-use super::fakes::{Behind, FakeFiles, FakeReader};
-use super::told;
+use super::fakes::{AfterBytes, FakeFiles, FakeReader};
+use super::run_work;
 use rsp_program::{FileFault, Status};
 use std::alloc::{AllocError, Global};
 use std::test::Fail;
@@ -13,9 +13,9 @@ fn words_are_listed(rt: HostRuntime) -> Result<(), Fail> {
     let lines = ".word 0x1000fffe\nbeq $0, $0, 0x000\n.word 0x00200048\njr $1\nnop\n";
     for (words, lines) in [(words.as_slice(), lines), (&[], "")] {
         let mut files = FakeFiles::new(rt.alloc(), words);
-        let mut script = FakeReader::new(b"step\n", Behind::End);
+        let mut script = FakeReader::new(b"step\n", AfterBytes::End);
         let mut output = Vec::new(rt.alloc());
-        let end = told(&rt, "rsp dis image", &mut files, &mut script, &mut output)?;
+        let end = run_work(&rt, "rsp dis image", &mut files, &mut script, &mut output)?;
         assert_eq!(rt; end.status, Status::Done);
         assert_eq!(rt; end.errors.as_str(), "");
         assert!(rt; output.as_slice() == lines.as_bytes());
@@ -41,14 +41,14 @@ fn random_bytes(alloc: Global) -> Result<Vec<u8>, AllocError> {
 fn any_words_are_listed_and_assembled_back(rt: HostRuntime) -> Result<(), Fail> {
     let words = random_bytes(rt.alloc())?;
     let mut files = FakeFiles::new(rt.alloc(), &words);
-    let mut script = FakeReader::new(b"", Behind::End);
+    let mut script = FakeReader::new(b"", AfterBytes::End);
     let mut listing = Vec::new(rt.alloc());
-    let end = told(&rt, "rsp dis image", &mut files, &mut script, &mut listing)?;
+    let end = run_work(&rt, "rsp dis image", &mut files, &mut script, &mut listing)?;
     assert_eq!(rt; end.status, Status::Done);
     let mut files = FakeFiles::new(rt.alloc(), &listing);
     let mut output = Vec::new(rt.alloc());
     let line = "rsp asm image words";
-    let end = told(&rt, line, &mut files, &mut script, &mut output)?;
+    let end = run_work(&rt, line, &mut files, &mut script, &mut output)?;
     assert_eq!(rt; end.status, Status::Done);
     assert!(rt; output.as_slice() == b"ok 1024 words\n".as_slice());
     assert!(rt; files.saved.as_slice() == words.as_slice());
@@ -74,10 +74,10 @@ fn words_may_not_be_read_or_listed(rt: HostRuntime) -> Result<(), Fail> {
     ] {
         let mut files = FakeFiles::new(rt.alloc(), &zeros[..length]);
         files.read_fault = fault;
-        let mut script = FakeReader::new(b"", Behind::End);
+        let mut script = FakeReader::new(b"", AfterBytes::End);
         let mut output = [0u8; 4];
         let line = format!(in rt.alloc(); "rsp dis {name}")?;
-        let end = told(&rt, &line, &mut files, &mut script, output.as_mut_slice())?;
+        let end = run_work(&rt, &line, &mut files, &mut script, output.as_mut_slice())?;
         assert_eq!(rt; end.status, Status::Faulted);
         assert_eq!(rt; end.errors.as_str(), message);
     }

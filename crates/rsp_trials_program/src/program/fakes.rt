@@ -53,9 +53,9 @@ impl FileStore for FakeFiles<'_> {
     }
 }
 
-/// What comes behind the bytes of a reader.
+/// What a reader does after its bytes.
 #[derive(Clone, Copy, Debug, PartialEq, Eq)]
-pub(super) enum Behind {
+pub(super) enum AfterBytes {
     End,
     Fault,
     /// Bytes without end, and no newline among them.
@@ -66,15 +66,15 @@ pub(super) enum Behind {
 #[derive(Drop)]
 pub(super) struct FakeReader<'a> {
     bytes: &'a [u8],
-    behind: Behind,
+    after: AfterBytes,
     pub(super) reads: u64,
 }
 
 impl<'a> FakeReader<'a> {
-    pub(super) fn new(bytes: &'a [u8], behind: Behind) -> FakeReader<'a> {
+    pub(super) fn new(bytes: &'a [u8], after: AfterBytes) -> FakeReader<'a> {
         FakeReader {
             bytes,
-            behind,
+            after,
             reads: 0,
         }
     }
@@ -86,10 +86,10 @@ impl Read for FakeReader<'_> {
         if !self.bytes.is_empty() {
             return self.bytes.read(buf);
         }
-        match self.behind {
-            Behind::End => Ok(0),
-            Behind::Fault => Err(io::Error::from(ErrorKind::BrokenPipe)),
-            Behind::Hashes => {
+        match self.after {
+            AfterBytes::End => Ok(0),
+            AfterBytes::Fault => Err(io::Error::from(ErrorKind::BrokenPipe)),
+            AfterBytes::Hashes => {
                 buf.fill(b'#');
                 Ok(buf.len())
             }

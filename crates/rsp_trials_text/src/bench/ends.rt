@@ -1,4 +1,4 @@
-// Readers and writers that fail, that give or take little, and that never end.
+// Sources and sinks that fail, that move few bytes, and that never end.
 
 use super::zeros;
 use crate::fakes::{CutSource, Endless, NarrowSink};

@@ -1,13 +1,13 @@
-use Rattle.std.proofs.Common.{◌≡◌, ◌-◌, [], arith, length-take, IsErrOf, Err}
-use Rattle.rsp_lines.specs.declared.run.RunFault.TheVariants.{ScriptTooLong}
+use Rattle.std.proofs.Common.{◌≡◌, ◌-◌, [], arith, length-take}
 use Rattle.std.specs.Io.KnownBytes.{prepend_known, IsAtEnd}
-use Rattle.rsp_lines.proofs.Runs.{if_some, read_cut, progress-more, progress-ended, progress-front, progress-few, progress-past, progress-long, progress-end, progress-end_front}
+use Rattle.std.proofs.lemmas.Result.{err_from_is_err_and}
+use Rattle.rsp_lines.proofs.Runs.{if_some, left_answer, read_cut, progress-more, progress-ended, progress-front, progress-few, progress-past, progress-long, progress-end, progress-end_front}
 use Rattle.rsp_lines.proofs.run.answer_script.Goals as goal
 
 -- a read failed
-pub returns-in_default-clause-left_read : goal.returns-in_default-clause-left_read
-returns-in_default-clause-left_read g c =
-    λ _. progress-ended g.S.Answering.answered g.S.Answering.closing g.met.S.Answering.alike c.loop-total.invariant.progress c.in_default.ensures.told (omega arith)
+pub returns-in_default-clause-left : goal.returns-in_default-clause-left
+returns-in_default-clause-left g c =
+    progress-ended g.S.Answering.answered g.S.Answering.closing g.met.S.Answering.alike c.loop-total.invariant.progress c.in_default.ensures.told (omega arith)
 
 pub returns-in_default-clause-few : goal.returns-in_default-clause-few
 returns-in_default-clause-few g c =
@@ -19,21 +19,15 @@ returns-in_err-answer_end-clause-few g c =
     let told : g.R.Source.rest c.loop-total.source ≡ prepend_known [] (g.R.Source.rest c.read.new.self) = rw c.if-n-eq0.true at c.in-Ok.ensures.told in
     progress-few g.S.Answering.answered g.S.Answering.closing g.met.S.Answering.alike _ [] c.loop-total.invariant.progress told (omega arith)
 
-pub returns-in_err-answer_end-clause-left_write : goal.returns-in_err-answer_end-clause-left_write
-returns-in_err-answer_end-clause-left_write g c =
+pub returns-in_err-answer_end-clause-left : goal.returns-in_err-answer_end-clause-left
+returns-in_err-answer_end-clause-left g c =
     let told : g.R.Source.rest c.loop-total.source ≡ prepend_known [] (g.R.Source.rest c.read.new.self) = rw c.if-n-eq0.true at c.in-Ok.ensures.told in
     let ended : IsAtEnd (g.R.Source.rest c.read.new.self) = c.in-Ok.ensures.end c.if-n-eq0.true
     (omega (arith, c.read.auto.buf, length-take c.min-room.result c.loop-total.buffer)) in
-    λ _. progress-end_front g.S.Answering.answered g.S.Answering.closing g.met.S.Answering.alike c.loop-total.invariant.progress told ended (omega arith)
-    c.in_err-answer_end.ensures.front
-
-pub returns-in_err-answer_end-clause-left_memory : goal.returns-in_err-answer_end-clause-left_memory
-returns-in_err-answer_end-clause-left_memory g c =
-    let told : g.R.Source.rest c.loop-total.source ≡ prepend_known [] (g.R.Source.rest c.read.new.self) = rw c.if-n-eq0.true at c.in-Ok.ensures.told in
-    let ended : IsAtEnd (g.R.Source.rest c.read.new.self) = c.in-Ok.ensures.end c.if-n-eq0.true
-    (omega (arith, c.read.auto.buf, length-take c.min-room.result c.loop-total.buffer)) in
-    λ _. progress-end_front g.S.Answering.answered g.S.Answering.closing g.met.S.Answering.alike c.loop-total.invariant.progress told ended (omega arith)
-    c.in_err-answer_end.ensures.front
+    let p = err_from_is_err_and c.from_residual.result c.from_residual.ensures.1 in
+    rw (p.1, p.2) (left_answer _ _ c.in_err-answer_end.ensures.cause
+    (progress-end_front g.S.Answering.answered g.S.Answering.closing g.met.S.Answering.alike c.loop-total.invariant.progress told ended (omega arith)
+    c.in_err-answer_end.ensures.front))
 
 pub returns-then-n-eq0-clause-written : goal.returns-then-n-eq0-clause-written
 returns-then-n-eq0-clause-written g c =
@@ -62,17 +56,13 @@ returns-in_err-answer_piece-clause-few g c =
     progress-few g.S.Answering.answered g.S.Answering.closing g.met.S.Answering.alike _ _ c.loop-total.invariant.progress c.in-Ok.ensures.told
     (omega (arith, c.in-Ok.ensures.bound, length-take c.in-Ok.n c.read.new.buf, length-take c.min-room.result c.loop-total.buffer))
 
-pub returns-in_err-answer_piece-clause-left_write : goal.returns-in_err-answer_piece-clause-left_write
-returns-in_err-answer_piece-clause-left_write g c =
-    λ _. progress-front g.S.Answering.answered g.S.Answering.closing g.met.S.Answering.alike _ _ c.loop-total.invariant.progress c.in-Ok.ensures.told (omega arith)
+pub returns-in_err-answer_piece-clause-left : goal.returns-in_err-answer_piece-clause-left
+returns-in_err-answer_piece-clause-left g c =
+    let p = err_from_is_err_and c.from_residual-in_err-answer_piece.result c.from_residual-in_err-answer_piece.ensures.1 in
+    rw (p.1, p.2) (left_answer _ _ c.in_err-answer_piece.ensures.cause
+    (progress-front g.S.Answering.answered g.S.Answering.closing g.met.S.Answering.alike _ _ c.loop-total.invariant.progress c.in-Ok.ensures.told (omega arith)
     (read_cut c.read.new.buf _ c.in-Ok.n (1048576 - c.loop-total.total) c.min-within.result (omega (arith, c.in-Ok.ensures.bound, c.read.auto.buf)) c.min-within.ensures)
-    c.in_err-answer_piece.ensures.front
-
-pub returns-in_err-answer_piece-clause-left_memory : goal.returns-in_err-answer_piece-clause-left_memory
-returns-in_err-answer_piece-clause-left_memory g c =
-    λ _. progress-front g.S.Answering.answered g.S.Answering.closing g.met.S.Answering.alike _ _ c.loop-total.invariant.progress c.in-Ok.ensures.told (omega arith)
-    (read_cut c.read.new.buf _ c.in-Ok.n (1048576 - c.loop-total.total) c.min-within.result (omega (arith, c.in-Ok.ensures.bound, c.read.auto.buf)) c.min-within.ensures)
-    c.in_err-answer_piece.ensures.front
+    c.in_err-answer_piece.ensures.front))
 
 pub loop-total-preserved : goal.loop-total-preserved
 loop-total-preserved g c = record {
@@ -86,10 +76,9 @@ loop-total-preserved g c = record {
 }
 
 -- a script that goes on past the limit
-pub returns-clause-left_long : goal.returns-clause-left_long
-returns-clause-left_long g c =
-    progress-long g.S.Answering.answered g.S.Answering.closing g.met.S.Answering.alike (IsErrOf (Err ScriptTooLong) ScriptTooLong)
-    c.loop-total.invariant.progress (omega arith)
+pub returns-clause-left : goal.returns-clause-left
+returns-clause-left g c =
+    progress-long g.S.Answering.answered g.S.Answering.closing g.met.S.Answering.alike c.loop-total.invariant.progress (omega arith)
 
 -- the byte past the limit was read
 pub returns-clause-past : goal.returns-clause-past

@@ -1,6 +1,6 @@
 use Rattle.rsp_bench.specs.Looks.{accumulators_text}
 use Rattle.rsp_bench.proofs.Lanes.{accumulators_by_parts}
-use Rattle.rsp_bench.proofs.vector_looks.tell_accumulators.Goals as goal
+use Rattle.rsp_bench.proofs.vector_looks.put_accumulators.Goals as goal
 
 pub returns : goal.returns
 unfolding accumulators_text

@@ -1,7 +1,7 @@
 use Rattle.std.proofs.Common.{◌≡◌, ◌≤◌, ◌*◌, take, length}
 use Rattle.std.specs.List.{flat_map}
 use Rattle.rsp_bench.specs.Looks.{listed_line}
-use Rattle.rsp_bench.proofs.looks.tell_listing.Given as goal
+use Rattle.rsp_bench.proofs.looks.put_listing.Given as goal
 
 abbrev pub invariant-loop-listed : goal.invariant-loop-listed
 invariant-loop-listed l =

@@ -1,7 +1,7 @@
 use Rattle.std.proofs.Common.{◌≡◌, ◌≤◌, ◌+◌, ◌*◌, ◌++◌, take, drop, length}
 use Rattle.rsp_lines.specs.Text.{each_text}
 use Rattle.rsp_bench.specs.Looks.{dump_line}
-use Rattle.rsp_bench.proofs.looks.tell_dump.Given as goal
+use Rattle.rsp_bench.proofs.looks.put_dump.Given as goal
 
 abbrev pub invariant-loop-k : goal.invariant-loop-k
 invariant-loop-k l =

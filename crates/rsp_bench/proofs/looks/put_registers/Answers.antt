@@ -3,7 +3,7 @@ use Rattle.std.proofs.lemmas.Grind.{common_steps}
 use Rattle.rsp_lines.proofs.Texts.{parts}
 use Rattle.rsp_bench.specs.Looks.{registers_text}
 use Rattle.rsp_bench.proofs.Registers.{register_lines}
-use Rattle.rsp_bench.proofs.looks.tell_registers.Goals as goal
+use Rattle.rsp_bench.proofs.looks.put_registers.Goals as goal
 
 pub returns : goal.returns
 unfolding registers_text
