@@ -26,7 +26,7 @@ def memories_after(sides, case, memories):
         found = sides.first_difference(Program(case["state"].tobytes(), patched(memories, word_of(case))), 1, 1)
     except CampaignFault:
         return []
-    return in_words(it for it in found.parts if it.name[:-4].lower() in BANKS) if found else []
+    return in_words(it for it in found.parts if it.name.split()[0].lower() in BANKS) if found else []
 
 
 def check_cases(spec, name, seed, start, count, ends, whole=False):
@@ -57,21 +57,19 @@ def check_cases(spec, name, seed, start, count, ends, whole=False):
                "parts": parts_that_differ(expected[found], ends[found]), "shown": [shown(at + i, cases[i], expected[i], ends[i]) for i in first]}  # fmt: skip
 
 
-def results_of(task, options, ends):
-    spec, name, *numbers = task
-    if name == PROGRAM:
-        return check_programs(spec, *numbers, options["instructions"], options["steps"])
-    return check_cases(*task, ends, options["whole"])
-
-
 def main(parent, shared, answers):
     """The ends of the batch at hand are in memory that both share, so the parent knows which cases are done."""
     ctypes.CDLL(None).prctl(1, signal.SIGKILL)  # a worker that is killed leaves no child
     if os.getppid() != parent:
         sys.exit("the parent is gone")
-    connection, ends, used = Connection(answers), np.frombuffer(mmap.mmap(shared, 0), END), 0
+    connection, used = Connection(answers), 0
+    (spec, name, *numbers), options = connection.recv()
+    if name == PROGRAM:
+        results = check_programs(spec, *numbers, options["instructions"], options["steps"])
+    else:
+        results = check_cases(spec, name, *numbers, np.frombuffer(mmap.mmap(shared, 0), END), options["whole"])
     try:
-        for result in results_of(*connection.recv(), ends):
+        for result in results:
             before, used = used, time.process_time()
             connection.send({**result, "processor": used - before})
     except Exception as fault:  # of an emulator in Python, too

@@ -56,15 +56,14 @@ class Emulator:
 class Object(Emulator):
     """A shared object with the interface of cases.h."""
 
-    def __init__(self, path, what=""):
-        self.lib, self.what, self.memories = ctypes.CDLL(os.path.abspath(path)), what, bytearray(MEMORIES)
+    def __init__(self, path, memories, what=""):
+        self.lib, self.what, self.memories = ctypes.CDLL(os.path.abspath(path)), what or path, bytearray(memories)
         self.lib.cases_open.restype = ctypes.c_void_p
-
-    def open(self, memories):
-        self.at, self.seen = ctypes.c_void_p(self.lib.cases_open(self.what.encode(), bytes(memories))), Emulator.seen.copy()
+        self.at = ctypes.c_void_p(self.lib.cases_open(what.encode(), bytes(memories)))
         if not self.at:
-            raise CampaignFault(f"{self.what or self.lib._name} can't be opened")
+            raise CampaignFault(f"{self.what} can't be opened")
         if hasattr(self.lib, "cases_seen"):
+            self.seen = self.seen.copy()
             self.lib.cases_seen(self.at, self.seen.ctypes)
 
     def fill(self, cases, ends):
@@ -73,7 +72,7 @@ class Object(Emulator):
 
     def for_programs(self, compared):
         if not hasattr(self.lib, "cases_step"):
-            raise CampaignFault(f"{self.what or self.lib._name} takes no programs")
+            raise CampaignFault(f"{self.what} takes no programs")
         self.compared = compared
         return self
 
@@ -135,15 +134,12 @@ class Single(Emulator):
 class Python(Single):
     """A class of Python."""
 
-    def __init__(self, path):
+    def __init__(self, path, memories):
         module, _, name = path.partition(":")
-        if not name or not importlib.util.find_spec(module):
-            raise CampaignFault("there is no such module, or no class is named: python:MODULE:CLASS")
-        self.kind = getattr(importlib.import_module(module), name)
-
-    def open(self, memories):
+        if not name:
+            raise CampaignFault("no class is named: python:MODULE:CLASS")
         self.memories = bytes(memories)
-        self.machine = self.kind(self.memories)
+        self.machine = getattr(importlib.import_module(module), name)(self.memories)
 
     def fill(self, cases, ends):
         if hasattr(self.machine, "ends"):
@@ -156,7 +152,7 @@ class Python(Single):
 
     def for_programs(self, compared):
         if not hasattr(self.machine, "load"):
-            raise CampaignFault(f"{self.kind.__name__} takes no programs: it has no `load`")
+            raise CampaignFault(f"{type(self.machine).__name__} takes no programs: it has no `load`")
         return self.machine
 
 
@@ -179,12 +175,12 @@ def state_of(final):
 class Command(Single):
     """A command over lines of JSON."""
 
-    def __init__(self, command):
+    def __init__(self, command, memories):
         die = lambda: ctypes.CDLL(None).prctl(1, signal.SIGKILL)  # with the process that asks
-        self.process = subprocess.Popen(shlex.split(command), stdin=subprocess.PIPE, stdout=subprocess.PIPE, preexec_fn=die)
+        self.process, self.memories = subprocess.Popen(shlex.split(command), stdin=subprocess.PIPE, stdout=subprocess.PIPE, preexec_fn=die), bytes(memories)
+        self.say_memories()
 
-    def open(self, memories):
-        self.memories = bytes(memories)
+    def say_memories(self):
         self.say({"memories": {bank: self.memories[low:high].hex() for bank, (low, high) in BANKS.items()}})
 
     def say(self, value):
@@ -225,21 +221,18 @@ class Command(Single):
 
     def run(self, steps):
         if self.question:
-            self.open(self.memories)
+            self.say_memories()
         state, _, changed = self.ask({**self.question, "steps": steps})
         self.state, self.after, self.question = rsp.State.from_buffer_copy(state), patched(self.memories, changed), {}
 
 
 def emulator_of(spec, memories):
-    """The emulator, opened with memories."""
+    """The emulator, with memories. A plugin that isn't the build of z64 whose registers are known is seen by microcode."""
     kind, _, rest = spec.partition(":")
-    if kind == "plugin":
-        emulator = Object(built("z64"), os.path.abspath(rest))
-        with contextlib.suppress(CampaignFault):
-            emulator.open(memories)
-            return emulator
-        emulator = Object(built("microcode", microcode()), os.path.abspath(rest))  # another plugin, or another build of z64
-    else:
-        emulator = Python(rest) if kind == "python" else Object(spec) if spec.endswith(".so") else Command(spec)
-    emulator.open(memories)
-    return emulator
+    if kind == "python":
+        return Python(rest, memories)
+    if kind != "plugin":
+        return Object(spec, memories) if spec.endswith(".so") else Command(spec, memories)
+    with contextlib.suppress(CampaignFault):
+        return Object(built("z64"), memories, os.path.abspath(rest))
+    return Object(built("microcode", microcode()), memories, os.path.abspath(rest))

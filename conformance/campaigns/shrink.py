@@ -3,8 +3,9 @@
 import bench
 import full
 
+from . import generator
 from .emulators import json_of
-from .generator import BANKS, DMEM, IMEM, MEMORIES, RDRAM, STATE
+from .generator import BANKS, STATE
 from .search import fewest, minimal
 from .sides import Program, in_words
 
@@ -14,13 +15,10 @@ def parts_of(*ranges):
     return [(low, low + size) for start, end, size in ranges for low in range(start, end, size)]
 
 
-def in_memories(start, end, size):
-    return STATE.itemsize + start, STATE.itemsize + end, size
-
-
 # What can become 0: words, then registers, lanes and flags (not pc, npc and the lengths of a DMA), and blocks of 64 bytes of memories.
-WORDS = parts_of(in_memories(IMEM, RDRAM, 4))
-OTHERS = parts_of((4, 128, 4), (128, 688, 2), (688, 693, 1), (694, 700, 2), (704, 712, 4), (720, 772, 4), in_memories(DMEM, IMEM, 64), in_memories(RDRAM, MEMORIES, 64))
+DMEM, IMEM, RDRAM, END = (STATE.itemsize + at for at in (generator.DMEM, generator.IMEM, generator.RDRAM, generator.MEMORIES))
+WORDS = parts_of((IMEM, RDRAM, 4))
+OTHERS = parts_of((4, 128, 4), (128, 688, 2), (688, 693, 1), (694, 700, 2), (704, 712, 4), (720, 772, 4), (DMEM, IMEM, 64), (RDRAM, END, 64))
 
 
 def settable(program):

@@ -29,11 +29,10 @@ class Program:
 
 
 class Sides:
-    """Both, opened with the same memories."""
+    """Both, with the same memories."""
 
     def __init__(self, spec, memories):
-        self.library, self.emulator, self.machine = Object(built("library")), emulator_of(spec, memories), rsp.Rsp(bytes(MEMORIES - RDRAM))
-        self.library.open(memories)
+        self.library, self.emulator, self.machine = Object(built("library"), memories), emulator_of(spec, memories), rsp.Rsp(bytes(MEMORIES - RDRAM))
         hidden = ~self.emulator.seen
         self.unseen = [part for part, (low, high) in PARTS.items() if hidden[low:high].any()]
         hidden[PADDING] = 255
