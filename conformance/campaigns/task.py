@@ -125,4 +125,4 @@ def check(spec, name, seed, start, count, options):
         faulty = number if cause is None or cause < at else cause
         ranges[:0] = [it for it in ((at, faulty), (faulty + 1, end)) if it[0] < it[1]]
     result["shown"] = sorted(result["shown"], key=lambda it: int(re.match(r"\w+-\w+-(\d+)", it)[1]))[:SHOWN]
-    return {**result, "hashes": hashes(spec), "seconds": time.time() - began}
+    return {**result, "unseen": [*dict.fromkeys(result["unseen"])], "hashes": hashes(spec), "seconds": time.time() - began}
