@@ -81,8 +81,12 @@ def in_words(parts):
 def differences(expected, got):
     """All that differs between two ends, in words."""
     ours, theirs = (rsp.State.from_buffer_copy(end["state"].tobytes()) for end in (expected, got))
-    status = [f"status: expected {expected['status']}, got {got['status']}"] * bool(expected["status"] != got["status"])
-    return [*in_words(ours.diff(theirs)), *status, *["bytes of memories"] * bool(expected["changed"] != got["changed"])]
+    lines = in_words(ours.diff(theirs))
+    if expected["status"] != got["status"]:
+        lines.append(f"status: expected {expected['status']}, got {got['status']}")
+    if expected["changed"] != got["changed"]:
+        lines.append("bytes of memories")
+    return lines
 
 
 def in_brief(lines):
