@@ -3,7 +3,7 @@
 import bench
 import full
 
-from . import generator
+from . import CampaignFault, generator
 from .emulators import json_of
 from .generator import BANKS, STATE
 from .search import fewest, minimal
@@ -44,6 +44,8 @@ def cut_down(sides, program, steps):
     for parts in (WORDS, OTHERS):
         program = smallest(program, parts, lambda candidate: first_difference(candidate, most))
     found = first_difference(program, most)
+    if not found:
+        raise CampaignFault("cut down, the program doesn't show its difference again")
     words = [pc for pc in range(0, 4096, 4) if program.word(pc)]
     return {"steps": found.step, "differs": in_words(found.parts)[:8], "pc": program.state.pc, "listing": [f"{pc:03x}: {program.text(pc)}" for pc in words],
             "source": source_of(program, words), "script": script_of(program, found.step)}  # fmt: skip

@@ -39,7 +39,7 @@ class Sides:
         self.hidden = [(word, mask) for word, mask in enumerate(hidden.view("<u8")) if mask]
 
     def run(self, cases, expected, ends):
-        """Runs cases on both. An end has the library's bits where the emulator shows none."""
+        """Which ends differ after cases on both. An end of the emulator gets the library's bits where it shows none."""
         self.library.fill(cases, expected)
         self.emulator.fill(cases, ends)
         ours, theirs = (it.view("<u8").reshape(len(cases), -1) for it in (expected, ends))

@@ -52,6 +52,15 @@ class Machine(rsp.Rsp):
         return int(status)
 
 
+class Forgets(Machine):
+    """Loses a register."""
+
+    def get(self):
+        state = super().get()
+        state.words[5] = 0
+        return state
+
+
 class Few:
     """Answers one end too few."""
 
