@@ -1,10 +1,9 @@
 """Cuts a program that shows a difference down: to the latest beginning, the fewest words, and the fewest registers and bytes that aren't 0."""
 
 import bench
-import full
+from states import texts_of
 
 from . import CampaignFault, generator
-from .emulators import json_of
 from .generator import BANKS, STATE
 from .search import fewest, minimal
 from .sides import Program, in_words
@@ -68,15 +67,6 @@ def source_of(program, words):
     """The text of a program for `rsp asm --at`: from its first word that isn't nop to its last."""
     places = range(min(words, default=0), max(words, default=0) + 4, 4)
     return "".join([f"# rsp asm --at {places[0]}; it begins at {program.state.pc:#05x}\n", *(f"{program.text(pc)}\n" for pc in places)])
-
-
-def texts_of(state):
-    """A state as bench.py has it."""
-    numbers = json_of(state)
-    found = {key: numbers[name] for name, key in full.NUMBERS.items()}
-    found.update({f"{letter}{n}": value for name, (letter, _) in full.LISTS.items() for n, value in enumerate(numbers[name])})
-    found.update({f"v{n}": int("".join(f"{lane:04x}" for lane in lanes), 16) for n, lanes in enumerate(numbers["v"])})
-    return {key: f"{value:0{len(bench.DEFAULT[key])}x}" for key, value in found.items()}
 
 
 def script_of(program, steps):
