@@ -400,26 +400,31 @@ def base_address(case):
     return (base + ((case.fields["off"] ^ 64) - 64) * SCALE[case.row.name[1]]) % 4096
 
 
-def choice_of(row, case):
-    """What of a case these documents chose themselves, since nothing that is published settles it; else None."""
-    before, fields = case.before, case.fields
+def choices(row, fields, pc, npc, address):
+    """What of a case these documents chose themselves, since nothing that is published settles it, and whether it holds. All numbers may be arrays."""
     if row.name in MPEG:
-        return "MPEG row"
-    if row.name in ("ltv", "stv") and fields["e"] % 2:
-        return "odd element"
-    if row.name in ("ltv", "stv") and base_address(case) % 16:
-        return "address not a multiple of 16"
-    if row.form in ("from control", "to control") and fields["c"] == 3:
-        return "control register 3"
-    if row.form in ("from sp", "to sp") and fields["c"] >= 8:
-        return "DPC register as a stored word"
-    if "npc" in before and int(before["npc"], 16) != (int(before["pc"], 16) + 4) % 4096 and row.form != "break":
-        return "branch in a delay slot"
-    if (row.name in ("jal", "jalr") or row.name.endswith("zal")) and before.get("pc") in ("ff8", "ffc"):
-        return "link modulo 4096"
+        yield "MPEG row", True
+    if row.name in ("ltv", "stv"):
+        yield "odd element", fields["e"] % 2 == 1
+        yield "address not a multiple of 16", address % 16 != 0
+    if row.form in ("from control", "to control"):
+        yield "control register 3", fields["c"] == 3
+    if row.form in ("from sp", "to sp"):
+        yield "DPC register as a stored word", fields["c"] >= 8
+    if "branch" in row.form or "jump" in row.form or row.form == "link register":
+        yield "branch in a delay slot", npc != (pc + 4) % 4096
+    if row.name in ("jal", "jalr") or row.name.endswith("zal"):
+        yield "link modulo 4096", pc >= 0xFF8
     if row.form == "break":
-        return "pc after BREAK"
-    return None
+        yield "pc after BREAK", True
+
+
+def choice_of(row, case):
+    """The first that holds of a case, or None."""
+    pc = int(case.before.get("pc", "000"), 16)
+    npc = int(case.before["npc"], 16) if "npc" in case.before else (pc + 4) % 4096
+    address = base_address(case) if row.name in ("ltv", "stv") else None
+    return next((name for name, holds in choices(row, case.fields, pc, npc, address) if holds), None)
 
 
 def make_case(row, seed, number, window=None):

@@ -1,4 +1,4 @@
-"""Compiles this folder's C by `cc` when it is needed. A shared object is in out/, under the hash of all that it is made of."""
+"""Compiles this folder's C by `cc` when it is needed. A shared object is in out/, under the hash of all sources."""
 
 import hashlib
 import os
@@ -25,13 +25,13 @@ def hash_of(paths, more=""):
 
 def sources():
     """All that decides what a campaign compares with: our sources, and the library."""
-    return [*sorted(HERE.glob("*.[chp]*")), *sorted(HERE.parent.glob("*.py")), *LIBRARY]
+    return [*sorted(HERE.glob("*.[chp]*")), *sorted(HERE.parent.glob("*.py")), *sorted((TOP / "plugin").glob("*.[ch]")), *LIBRARY]
 
 
 def built(name, flags=(), source=None):
     """The shared object that NAME.c gives."""
-    source = Path(source or HERE / f"{name}.c")
-    made = HERE / "out" / f"{name}-{hash_of([source, *sorted(HERE.glob('*.[ch]')), *LIBRARY], ' '.join(flags))[:16]}.so"
+    source = source or HERE / f"{name}.c"
+    made = HERE / "out" / f"{name}-{hash_of([source, *sources()], ' '.join(flags))[:16]}.so"
     if made.exists():
         return str(made)
     waiting = made.with_name(f"{made.name}.{os.getpid()}")

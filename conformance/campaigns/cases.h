@@ -1,6 +1,5 @@
 /* A shared object of cases: an emulator that conformance/campaign checks, a batch of cases a call. library.c is one, and a pattern for others. */
-#ifndef CASES_H
-#define CASES_H
+#pragma once
 #include "rsp.h"
 #include <string.h>
 
@@ -17,10 +16,12 @@ enum { DMEM = 0, IMEM = 4096, RDRAM = 8192, RDRAM_LENGTH = 16384, MEMORIES = RDR
 void *cases_open(const char *what, const uint8_t *memories); /* NULL if it can't. `what` is "" but for plugins */
 int cases_run(void *at, const rsp_case *in, rsp_end *out, size_t n); /* 0, or 1 + the number of a case whose state no machine can have */
 void cases_seen(void *at, rsp_end *seen); /* optional: clears the bits of an end that the emulator can't show */
-/* For programs: a state and memories, steps from there up to a status other than RSP_OK, and the memories then. */
-int cases_begin(void *at, const rsp_state *state, const uint8_t *memories);
-void cases_go(void *at, uint32_t steps, rsp_end *out); /* `changed` is since cases_begin */
+/* For programs: all registers, all memories, and steps up to a status other than RSP_OK. */
+void cases_set(void *at, const rsp_state *state);
+void cases_get(void *at, rsp_state *state);
+void cases_load(void *at, const uint8_t *memories);
 void cases_look(void *at, uint8_t *memories);
+void cases_step(void *at, uint32_t steps);
 
 static inline uint64_t digest(const uint8_t *before, const uint8_t *after, size_t n) /* of (address, byte) for each byte that has changed */
 {
@@ -33,4 +34,3 @@ static inline uint64_t digest(const uint8_t *before, const uint8_t *after, size_
     return sum;
 }
 static inline int is_dma(uint32_t word) { return (word & 0xFFE07000) == 0x40801000; } /* MTC0 of a length: it can reach the RDRAM */
-#endif

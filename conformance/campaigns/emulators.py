@@ -2,7 +2,7 @@
   FILE.so              a shared object with the interface of cases.h
   plugin:FILE.so       a plugin of mupen64plus: z64 with all its registers, any other by what microcode leaves in memory
   python:MODULE:CLASS  a class; CLASS(memories) has `step(case)` -> (state, status, {address: byte}), or `ends(cases)` -> an array of END,
-                       and, for programs, `begin(state, memories)` and `go(steps)` -> (state, status, memories)
+                       and, for programs, what rsp.first_difference calls of an emulator
   anything else        a command that answers each line of JSON by one: docs/CAMPAIGN.md has them
 """
 
@@ -19,20 +19,15 @@ import subprocess
 from pathlib import Path
 
 import numpy as np
+import rsp
 
-from .build import CampaignFault, built, hash_of, microcode, sources
-from .generator import END, IMEM, MEMORIES, RDRAM, STATE
+from . import CampaignFault
+from .build import built, hash_of, microcode, sources
+from .generator import BANKS, END, IMEM, MEMORIES, RDRAM, STATE
 
-PADDING = 693  # a byte of a state that is no register
-AT, COUNT = ctypes.c_void_p, ctypes.c_size_t
-CALLS = {"cases_open": [ctypes.c_char_p, AT], "cases_run": [AT, AT, AT, COUNT], "cases_seen": [AT, AT], "cases_begin": [AT, AT, AT],
-         "cases_go": [AT, ctypes.c_uint32, AT], "cases_look": [AT, AT], "cases_differ": [AT, AT, AT, AT, COUNT], "cases_digest": [AT, AT]}  # fmt: skip
-RESULTS = {"cases_open": AT, "cases_digest": ctypes.c_uint64}
-# A state as form 3 of the vectors has it, but for an accumulator, which is three numbers.
-FORM = np.dtype({
-    "names": ["r", "v", "acc", "vco", "vcc", "vce", "div_in", "div_out", "div_loaded", "pc", "npc", "sp", "interrupt"],
-    "formats": ["(32,)<u4", "(32,8)<u2", "(3,8)<u2", "<u2", "<u2", "u1", "<u2", "<u2", "<u2", "<u2", "<u2", "(16,)<u4", "<u4"],
-    "offsets": [0, 128, 640, 688, 690, 692, 694, 696, 698, 700, 702, 704, 768], "itemsize": STATE.itemsize})  # fmt: skip
+# A state with the names of form 3 of the vectors. An accumulator is three numbers, and `zero` none.
+FORM = np.dtype([("r", "<u4", 32), ("v", "<u2", (32, 8)), ("acc", "<u2", (3, 8)), ("vco", "<u2"), ("vcc", "<u2"), ("vce", "u1"), ("zero", "u1"), ("div_in", "<u2"),
+                 ("div_out", "<u2"), ("div_loaded", "<u2"), ("pc", "<u2"), ("npc", "<u2"), ("sp", "<u4", 16), ("interrupt", "<u4")])  # fmt: skip
 
 
 def hashes(spec):
@@ -48,51 +43,60 @@ def hashes(spec):
     return {"emulator": hash_of(found), "library": hash_of(sources())}
 
 
-def opened(path):
-    """A shared object whose calls have their types."""
-    lib = ctypes.CDLL(os.path.abspath(path))
-    for call, types in CALLS.items():
-        if hasattr(lib, call):
-            getattr(lib, call).argtypes, getattr(lib, call).restype = types, RESULTS.get(call, ctypes.c_int)
-    return lib
+class Emulator:
+    """What has `fill(cases, ends)`. One that takes programs is an emulator for rsp.first_difference, too."""
+
+    seen = np.full(END.itemsize, 255, np.uint8)  # the bits of an end that it shows
+
+    def for_programs(self, compared):
+        """The emulator for rsp.first_difference, beside the machine that it is compared with."""
+        return self
 
 
-@functools.lru_cache(1)
-def library():
-    """The proved library's."""
-    return opened(built("library"))
-
-
-class Object:
+class Object(Emulator):
     """A shared object with the interface of cases.h."""
 
-    def __init__(self, path, what=""):
-        self.lib, self.what = opened(path), what
-
-    def open(self, memories):
-        self.at = self.lib.cases_open(self.what.encode(), bytes(memories))
+    def __init__(self, path, memories, what=""):
+        self.lib, self.what, self.memories = ctypes.CDLL(os.path.abspath(path)), what or path, bytearray(memories)
+        self.lib.cases_open.restype = ctypes.c_void_p
+        self.at = ctypes.c_void_p(self.lib.cases_open(what.encode(), bytes(memories)))
         if not self.at:
-            raise CampaignFault(f"{self.what or self.lib._name} can't be opened")
+            raise CampaignFault(f"{self.what} can't be opened")
+        if hasattr(self.lib, "cases_seen"):
+            self.seen = self.seen.copy()
+            self.lib.cases_seen(self.at, self.seen.ctypes)
 
-    def run(self, cases, ends):
-        if refused := self.lib.cases_run(self.at, cases.ctypes.data, ends.ctypes.data, len(cases)):
+    def fill(self, cases, ends):
+        if refused := self.lib.cases_run(self.at, cases.ctypes, ends.ctypes, ctypes.c_size_t(len(cases))):
             raise CampaignFault(f"case {refused - 1} of the batch is refused")
 
-    def begin(self, state, memories):
-        """Begins a program, which `go` makes steps of."""
-        if not hasattr(self.lib, "cases_begin"):
-            raise CampaignFault(f"{self.what or self.lib._name} takes no programs")
-        self.lib.cases_begin(self.at, state.tobytes(), bytes(memories))
+    def for_programs(self, compared):
+        if not hasattr(self.lib, "cases_step"):
+            raise CampaignFault(f"{self.what} takes no programs")
+        self.compared = compared
+        return self
 
-    def go(self, steps):
-        end = np.zeros(1, END)
-        self.lib.cases_go(self.at, steps, end.ctypes.data)
-        return end
+    def set(self, state):
+        self.lib.cases_set(self.at, bytes(state))
 
-    def look(self):
-        memories = ctypes.create_string_buffer(MEMORIES)
-        self.lib.cases_look(self.at, memories)
-        return memories.raw
+    def get(self):
+        """The bits that it doesn't show are those of the machine."""
+        found, seen, ours = ctypes.create_string_buffer(STATE.itemsize), self.seen[: STATE.itemsize], np.frombuffer(bytes(self.compared.get()), np.uint8)
+        self.lib.cases_get(self.at, found)
+        return rsp.State.from_buffer_copy(np.frombuffer(found, np.uint8) & seen | ours & ~seen)
+
+    def load(self, bank, address, data):
+        at = bank * IMEM + address
+        self.memories[at : at + len(data)] = data
+        self.lib.cases_load(self.at, bytes(self.memories))
+
+    def memory(self, bank, address, length):
+        found, at = ctypes.create_string_buffer(MEMORIES), bank * IMEM + address
+        self.lib.cases_look(self.at, found)
+        return found[at : at + length]
+
+    def run(self, steps):
+        self.lib.cases_step(self.at, steps)
 
 
 def patched(memories, changed):
@@ -108,86 +112,76 @@ def word_of(case):
     return dict(enumerate(int(case["word"]).to_bytes(4, "big"), IMEM + int(case["state"]["pc"])))
 
 
-class Single:
-    """An emulator that takes one case at a time: `step(case)` answers the state, the status, and the bytes that have changed."""
+@functools.lru_cache(1)
+def digest():
+    """That of cases.h."""
+    call = ctypes.CDLL(built("library")).cases_digest
+    call.restype = ctypes.c_uint64
+    return call
 
-    lib = None
 
-    def run(self, cases, ends):
+class Single(Emulator):
+    """An emulator that takes one case at a time: `step(case)` returns the state, the status, and the bytes that have changed."""
+
+    def fill(self, cases, ends):
         for case, end in zip(cases, ends):
             before = patched(self.memories, word_of(case))
             state, status, changed = self.step(case)
-            self.fill(end, state, before, patched(before, changed))
+            end["state"], end["changed"] = np.frombuffer(bytes(state), STATE)[0], digest()(before, patched(before, changed))
             end["status"] = status  # last: it says that the case is done
-
-    def fill(self, end, state, before, after):
-        end["state"] = np.frombuffer(bytes(state), STATE)[0]
-        end["changed"] = library().cases_digest(before, bytes(after))
-
-    def begin(self, state, memories):
-        self.before = self.after = bytes(memories)
-        self.start(state, self.before)
-
-    def go(self, steps):
-        end = np.zeros(1, END)
-        state, end["status"], self.after = self.steps(steps)
-        self.fill(end[0], state, self.before, self.after)
-        return end
-
-    def look(self):
-        return bytes(self.after)
 
 
 class Python(Single):
     """A class of Python."""
 
-    def __init__(self, path):
+    def __init__(self, path, memories):
         module, _, name = path.partition(":")
-        if not name or not importlib.util.find_spec(module):
-            raise CampaignFault("there is no such module, or no class is named: python:MODULE:CLASS")
-        self.kind = getattr(importlib.import_module(module), name)
-
-    def open(self, memories):
+        if not name:
+            raise CampaignFault("no class is named: python:MODULE:CLASS")
         self.memories = bytes(memories)
-        emulator = self.kind(self.memories)
-        self.start, self.steps = getattr(emulator, "begin", self.no_programs), getattr(emulator, "go", None)
-        if hasattr(emulator, "ends"):
-            self.run = lambda cases, ends: ends.__setitem__(slice(None), emulator.ends(cases))
-        else:
-            self.step = emulator.step
+        self.machine = getattr(importlib.import_module(module), name)(self.memories)
 
-    def no_programs(self, *_):
-        raise CampaignFault(f"{self.kind.__name__} takes no programs: it has no `begin`")
+    def fill(self, cases, ends):
+        if hasattr(self.machine, "ends"):
+            ends[:] = self.machine.ends(cases)
+        else:
+            super().fill(cases, ends)
+
+    def step(self, case):
+        return self.machine.step(case)
+
+    def for_programs(self, compared):
+        if not hasattr(self.machine, "load"):
+            raise CampaignFault(f"{type(self.machine).__name__} takes no programs: it has no `load`")
+        return self.machine
 
 
 def json_of(state):
     """The registers as form 3 has them."""
     form = np.frombuffer(bytes(state), FORM)[0]
-    made = {name: form[name].tolist() for name in FORM.names}
+    made = {name: form[name].tolist() for name in FORM.names if name != "zero"}
     return {**made, "acc": [high << 32 | middle << 16 | low for high, middle, low in zip(*made["acc"])]}
 
 
 def state_of(final):
     """And back."""
-    form = np.zeros(1, FORM)
-    for name in FORM.names:
-        form[name] = [[value >> shift & 0xFFFF for value in final["acc"]] for shift in (32, 16, 0)] if name == "acc" else final[name]
+    parts = {"acc": [[value >> shift & 0xFFFF for value in final["acc"]] for shift in (32, 16, 0)], "zero": 0}
+    form = np.array([tuple({**final, **parts}[name] for name in FORM.names)], FORM)
     if wrong := [name for name, value in json_of(form).items() if value != final[name]]:
         raise ValueError(f"{wrong[0]} is out of its range")
-    return form
+    return bytes(form)
 
 
 class Command(Single):
     """A command over lines of JSON."""
 
-    def __init__(self, command):
+    def __init__(self, command, memories):
         die = lambda: ctypes.CDLL(None).prctl(1, signal.SIGKILL)  # with the process that asks
-        self.process = subprocess.Popen(shlex.split(command), stdin=subprocess.PIPE, stdout=subprocess.PIPE, preexec_fn=die)
+        self.process, self.memories = subprocess.Popen(shlex.split(command), stdin=subprocess.PIPE, stdout=subprocess.PIPE, preexec_fn=die), bytes(memories)
+        self.say_memories()
 
-    def open(self, memories):
-        self.memories = bytes(memories)
-        banks = {"dmem": (0, IMEM), "imem": (IMEM, RDRAM), "rdram": (RDRAM, MEMORIES)}
-        self.say({"memories": {bank: self.memories[low:high].hex() for bank, (low, high) in banks.items()}})
+    def say_memories(self):
+        self.say({"memories": {bank: self.memories[low:high].hex() for bank, (low, high) in BANKS.items()}})
 
     def say(self, value):
         with contextlib.suppress(BrokenPipeError):  # its end is noticed when it has to answer
@@ -212,45 +206,33 @@ class Command(Single):
     def step(self, case):
         return self.ask({"initial": {**json_of(case["state"]), "ram": [*word_of(case).items()], "rdram": []}})
 
-    def start(self, state, memories):
-        self.open(memories)
-        self.first = {"initial": {**json_of(state), "ram": [], "rdram": []}}
+    def set(self, state):
+        self.state, self.question = state, {"initial": {**json_of(state), "ram": [], "rdram": []}}
 
-    def steps(self, steps):
-        state, status, changed = self.ask({**self.first, "steps": steps})
-        self.first = {}
-        return state, status, patched(self.before, changed)
+    def get(self):
+        return self.state
+
+    def load(self, bank, address, data):
+        at = bank * IMEM + address
+        self.memories = self.after = self.memories[:at] + data + self.memories[at + len(data) :]
+
+    def memory(self, bank, address, length):
+        return self.after[bank * IMEM + address :][:length]
+
+    def run(self, steps):
+        if self.question:
+            self.say_memories()
+        state, _, changed = self.ask({**self.question, "steps": steps})
+        self.state, self.after, self.question = rsp.State.from_buffer_copy(state), patched(self.memories, changed), {}
 
 
 def emulator_of(spec, memories):
-    """The emulator, opened with memories."""
+    """The emulator, with memories. A plugin that isn't the build of z64 whose registers are known is seen by microcode."""
     kind, _, rest = spec.partition(":")
-    if kind == "plugin":
-        emulator = Object(built("z64"), os.path.abspath(rest))
-        with contextlib.suppress(CampaignFault):
-            emulator.open(memories)
-            return emulator
-        emulator = Object(built("microcode", microcode()), os.path.abspath(rest))  # another plugin, or another build of z64
-    else:
-        emulator = Python(rest) if kind == "python" else Object(spec) if spec.endswith(".so") else Command(spec)
-    emulator.open(memories)
-    return emulator
-
-
-class Sides:
-    """The proved library and an emulator, opened with the same memories."""
-
-    def __init__(self, spec, memories):
-        self.library, self.emulator = Object(built("library")), emulator_of(spec, memories)
-        self.library.open(memories)
-        self.both = self.library, self.emulator
-        self.seen = np.full(END.itemsize, 255, np.uint8)  # the bits of an end that are compared
-        if hasattr(self.emulator.lib, "cases_seen"):
-            self.emulator.lib.cases_seen(self.emulator.at, self.seen.ctypes.data)
-        self.seen[PADDING] = 0
-
-    def differ(self, expected, ends):
-        """Which ends differ in what is seen."""
-        out = np.zeros(len(ends), bool)
-        self.library.lib.cases_differ(*(it.ctypes.data for it in (expected, ends, self.seen, out)), len(ends))
-        return out
+    if kind == "python":
+        return Python(rest, memories)
+    if kind != "plugin":
+        return Object(spec, memories) if spec.endswith(".so") else Command(spec, memories)
+    with contextlib.suppress(CampaignFault):
+        return Object(built("z64"), memories, os.path.abspath(rest))
+    return Object(built("microcode", microcode()), memories, os.path.abspath(rest))

@@ -10,13 +10,15 @@ import hashlib
 
 import numpy as np
 import rsp
-from cases import DIVISORS, EXTREMES, FLAGS, HALVES, LANES, PARTS, PLACES, SP_NUMBERS, WORDS as EDGES, selected
-from table import FORMS, MPEG, ROWS as INSTRUCTIONS, SCALE, ignored_bits
+from cases import DIVISORS, EXTREMES, FLAGS, HALVES, LANES, PARTS, PLACES, SP_NUMBERS, WORDS as EDGES, choices, selected
+from table import FORMS, ROWS as INSTRUCTIONS, SCALE, ignored_bits, word_of
 
 STATE = np.dtype(rsp.State)
 CASE = np.dtype([("state", STATE), ("word", "<u4")])
 END = np.dtype([("state", STATE), ("status", "<u4"), ("changed", "<u8")])
-DMEM, IMEM, RDRAM, MEMORIES = 0, 4096, 8192, 8192 + 16384
+DMEM, IMEM, RDRAM, MEMORIES = 0, 4096, 8192, 8192 + 16384  # the three memories in one array
+BANKS = {"dmem": (DMEM, IMEM), "imem": (IMEM, RDRAM), "rdram": (RDRAM, MEMORIES)}
+PROGRAM = "program"  # in place of an instruction, in a task of programs
 WORDS, POOL, REGISTERS = 28, 1024, 90
 # Where a case's words go: choices of lanes, of lanes close to others, of accumulators, and all else.
 LANE_CHOICES, NEAR_CHOICES, ACCUMULATOR_CHOICES, CHOICES = 0, 2, 3, 5
@@ -239,26 +241,10 @@ def cases_of(name, seed, start, count):
     cases = registers(d)
     MAKERS.get(row.form, scalar)(row, d, cases["state"], fields)
     cases["state"]["words"][:, 0] = 0
-    word = np.full(count, row.value, np.int64)
-    for field, (low, width) in FORMS[row.form].items():
-        word |= (fields[field] & (1 << width) - 1) << low
+    word = word_of(row, fields)
     cases["word"] = np.where(d.number % 10 == 9, word | d.any() & ignored_bits(row), word)
-    return cases, choices_of(row, cases["state"], fields)
-
-
-def choices_of(row, state, fields):
-    """The cases that conformance/README.md marks by `choice`."""
-    if row.name in MPEG or row.form == "break":
-        return np.ones(len(state), bool)
-    if row.name in ("ltv", "stv"):
-        return (fields["e"] % 2 == 1) | (fields["at"] % 16 != 0)
-    if "control" in row.form:
-        return fields["c"] == 3
-    if row.form in ("from sp", "to sp"):
-        return fields["c"] >= 8
-    if "branch" in row.form or "jump" in row.form or row.form == "link register":
-        return (state["npc"] != (state["pc"] + 4 & 0xFFC)) | ((state["pc"] >= 0xFF8) & (row.name[-1] in "lr"))
-    return np.zeros(len(state), bool)
+    found = choices(row, fields, cases["state"]["pc"], cases["state"]["npc"], fields.get("at"))
+    return cases, functools.reduce(np.logical_or, (holds for _, holds in found), np.zeros(count, bool))
 
 
 def name_of(what, seed, number):

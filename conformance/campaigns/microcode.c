@@ -1,19 +1,19 @@
 /* Any plugin of mupen64plus: nothing of it is known but the memories and SP registers, which are ours. A case becomes two programs of microcode:
  * SETTING, the word and BREAK, after which the memories are compared; and SETTING, the word and SAVING, which leaves the registers in DMEM.
- * emulators.py gives the words of both. Whatever can't be seen so is masked, and cases about it are UNSHOWN. */
-#include "plugin.h"
+ * build.py gives the words of both. Whatever can't be seen so is masked, and cases about it are UNSHOWN. */
+#include "host.h"
 
 static const uint32_t setting[] = { SETTING }, saving[] = { SAVING }, BREAK = 0x0000000D;
 static uint8_t before[MEMORIES], after[MEMORIES];
 enum { SET = sizeof setting / 4, SAVE = sizeof saving / 4, COPY = 0x400000 };
-/* Where SETTING finds the registers in DMEM, and SAVING leaves them: as conformance/bench.py has it. */
-enum { VECTORS = 0, HIGH = 0x200, MIDDLE = 0x210, LOW = 0x220, ONES = 0x230, DIVISOR = 0x240, CONTROLS = 0x250, SCALARS = 0x280, DATA = 0x300 };
+/* Where SETTING finds the registers in DMEM, and SAVING leaves them, counted in halves of words: as conformance/bench.py has it. */
+enum { VECTORS = 0, ACCUMULATORS = 0x100, ONES = 0x118, CONTROLS = 0x128, SCALARS = 0x140, HALVES = 0x180 };
 
 void *cases_open(const char *what, const uint8_t *memories)
 {
-    if (!host.run && !start(what)) return NULL;
+    if (!open_other(what)) return NULL;
     memcpy(before, memories, MEMORIES);
-    return &host;
+    return &other;
 }
 
 void cases_seen(void *at, rsp_end *seen) /* vectors, accumulators, flags, scalar registers, and which bytes changed */
@@ -22,7 +22,7 @@ void cases_seen(void *at, rsp_end *seen) /* vectors, accumulators, flags, scalar
     memset(&seen->state.divider, 0, sizeof seen->state - offsetof(rsp_state, divider));
 }
 
-static int shown(const rsp_case *in) /* not branches, jumps and BREAK, not SP registers, and not the two that read DIV_OUT */
+static int is_shown(const rsp_case *in) /* not branches, jumps and BREAK, not SP registers, and not the two that read DIV_OUT */
 {
     uint32_t word = in->word, opcode = word >> 26, function = word & 63;
     if ((opcode >= 1 && opcode <= 7) || opcode == 16) return 0;
@@ -30,70 +30,59 @@ static int shown(const rsp_case *in) /* not branches, jumps and BREAK, not SP re
     return !((word & 0xFE000000) == 0x4A000000 && (function == 0x32 || function == 0x36));
 }
 
-static void put(uint8_t *to, uint16_t half) { to[0] = half >> 8; to[1] = half; }
-static uint16_t half_at(const uint8_t *from) { return from[0] << 8 | from[1]; }
-
-static void set(uint8_t *data, const rsp_state *s) /* the data of SETTING */
+static void set(const rsp_state *s) /* puts the data of SETTING into DMEM */
 {
-    static const uint16_t ones[] = { 0x7FFF, 2, 1 };
-    memset(data, 0, DATA);
-    for (int i = 0; i < 256; i++) put(data + VECTORS + 2 * i, s->vectors[i / 8][i % 8]);
-    for (int l = 0; l < 8; l++) {
-        put(data + HIGH + 2 * l, s->accumulators.high[l] + (s->accumulators.middle[l] >> 15));
-        put(data + MIDDLE + 2 * l, s->accumulators.middle[l]);
-        put(data + LOW + 2 * l, s->accumulators.low[l]);
-    }
-    for (int i = 0; i < 3; i++) put(data + ONES + 2 * i, ones[i]);
-    put(data + DIVISOR + 2, 0xFFFF);
-    put(data + DIVISOR + 4, s->divider.input);
-    put(data + CONTROLS, s->flags.carry | s->flags.differ << 8);
-    put(data + CONTROLS + 2, s->flags.compare | s->flags.clip << 8);
-    put(data + CONTROLS + 4, s->flags.extra);
-    for (int n = 0; n < 32; n++) { put(data + SCALARS + 4 * n, s->words[n] >> 16); put(data + SCALARS + 4 * n + 2, s->words[n]); }
+    const rsp_flag_bits *f = &s->flags;
+    const uint16_t rest[] = { 0x7FFF, 2, 1, 0, 0, 0, 0, 0, 0, 0xFFFF, s->divider.input, 0, 0, 0, 0, 0, f->carry | f->differ << 8, f->compare | f->clip << 8, f->extra };
+    uint32_t *dmem = other.memory[RSP_DMEM];
+    uint16_t data[SCALARS] = { 0 };
+    memcpy(data + VECTORS, s->vectors, sizeof s->vectors);
+    memcpy(data + ACCUMULATORS, &s->accumulators, sizeof s->accumulators);
+    for (int l = 0; l < 8; l++) data[ACCUMULATORS + l] += s->accumulators.middle[l] >> 15;
+    memcpy(data + ONES, rest, sizeof rest);
+    for (int k = 0; k < SCALARS / 2; k++) dmem[k] = (uint32_t)data[2 * k] << 16 | data[2 * k + 1];
+    memcpy(dmem + SCALARS / 2, s->words, sizeof s->words);
 }
 
-static void get(rsp_state *s, const uint8_t *data)
+static void get(rsp_state *s) /* takes from DMEM what SAVING left */
 {
-    for (int i = 0; i < 256; i++) s->vectors[i / 8][i % 8] = half_at(data + VECTORS + 2 * i);
-    for (int l = 0; l < 8; l++) {
-        s->accumulators.high[l] = half_at(data + HIGH + 2 * l);
-        s->accumulators.middle[l] = half_at(data + MIDDLE + 2 * l);
-        s->accumulators.low[l] = half_at(data + LOW + 2 * l);
-    }
-    const uint8_t *f = data + CONTROLS;
-    s->flags = (rsp_flag_bits){ f[1], f[0], f[3], f[2], f[5] };
-    for (int n = 1; n < 32; n++) s->words[n] = (uint32_t)half_at(data + SCALARS + 4 * n) << 16 | half_at(data + SCALARS + 4 * n + 2);
+    const uint32_t *dmem = other.memory[RSP_DMEM];
+    uint16_t data[SCALARS], *control = data + CONTROLS;
+    for (int k = 0; k < SCALARS / 2; k++) { data[2 * k] = dmem[k] >> 16; data[2 * k + 1] = dmem[k]; }
+    memcpy(s->vectors, data + VECTORS, sizeof s->vectors);
+    memcpy(&s->accumulators, data + ACCUMULATORS, sizeof s->accumulators);
+    s->flags = (rsp_flag_bits){ control[0], control[0] >> 8, control[1], control[1] >> 8, control[2] };
+    memcpy(s->words + 1, dmem + SCALARS / 2 + 1, 31 * 4);
 }
 
 static void play(const rsp_case *in, const uint32_t *end, size_t length) /* SETTING, the word, and an end */
 {
-    uint8_t data[DATA];
-    uint32_t *imem = host.sp + 1024;
-    set(data, &in->state);
-    swap(host.sp, before, RDRAM);
-    swap(host.rdram + COPY / 4, before, DATA); /* SETTING ends with a DMA from there over its data */
-    swap(host.sp, data, DATA);
+    uint32_t *imem = other.memory[RSP_IMEM];
+    swap(other.memory[RSP_DMEM], before, RDRAM);
+    memcpy(other.memory[RSP_RDRAM] + COPY / 4, other.memory[RSP_DMEM], 2 * HALVES); /* SETTING ends with a DMA from there over its data */
+    set(&in->state);
     memcpy(imem, setting, sizeof setting);
     if (in->state.divider.loaded) imem[3] = LOADING; /* instead of nop: vrcph $v2[0], $v1[2] */
     imem[SET - 2] |= in->state.words[1] >> 16; /* lui $1; ori $1, $1 */
     imem[SET - 1] |= in->state.words[1] & 0xFFFF;
     imem[SET] = in->word;
     memcpy(imem + SET + 1, end, 4 * length);
-    memset(host.reg, 0, sizeof host.reg);
-    host.run(0x100000);
+    memset(other.registers, 0, sizeof other.registers);
+    run_other();
 }
 
-static void one(const rsp_case *in, rsp_end *out)
+int cases_run(void *at, const rsp_case *in, rsp_end *out, size_t n)
 {
-    out->status = UNSHOWN;
-    if (!shown(in)) return;
-    play(in, &BREAK, 1);
-    swap(after, host.sp, 4096);
-    out->changed = digest(before, after, 4096);
-    play(in, saving, SAVE);
-    swap(after, host.sp, DATA);
-    get(&out->state, after);
-    out->status = RSP_OK;
+    (void)at;
+    for (; n--; in++, out++) {
+        out->status = UNSHOWN;
+        if (!is_shown(in)) continue;
+        play(in, &BREAK, 1);
+        swap(after, other.memory[RSP_DMEM], 4096);
+        out->changed = digest(before, after, 4096);
+        play(in, saving, SAVE);
+        get(&out->state);
+        out->status = RSP_OK;
+    }
+    return 0;
 }
-
-int cases_run(void *at, const rsp_case *in, rsp_end *out, size_t n) { (void)at; for (size_t i = 0; i < n; i++) one(in + i, out + i); return 0; }

@@ -3,34 +3,13 @@
 import functools
 
 import numpy as np
-import rsp
 
-from .child import PROGRAM, SHOWN, differences, in_brief, unseen
-from .emulators import Sides
-from .generator import EDGE, FIRST_EDGE, IMEM, INSTRUCTIONS, MEMORIES, STATE, Draw, cases_of, generator, name_of, registers
+from .generator import EDGE, FIRST_EDGE, IMEM, INSTRUCTIONS, MEMORIES, PROGRAM, Draw, cases_of, generator, name_of, registers
+from .shrink import cut_down, settable
+from .sides import Program, Sides, in_brief, in_words
 
-EVERY, LENGTH, WORDS = 100, 1024, 1024
+EVERY, LENGTH, WORDS, SHOWN = 100, 1024, 1024, 5
 NEVER = ("break",)
-
-
-class Program:
-    """What a run begins with: a state that a script can set, and all memories. Both are views of its bytes."""
-
-    def __init__(self, state, memories, zeros=()):
-        """A script can set neither DIV_OUT nor the lengths of a DMA, and DIV_IN only as a number that is loaded."""
-        self.raw = bytearray(state.tobytes() + bytes(memories))
-        for low, high in zeros:
-            self.raw[low:high] = bytes(high - low)
-        self.state, self.memories = np.frombuffer(self.raw, STATE, 1)[0], memoryview(self.raw)[STATE.itemsize :]
-        self.state["divider"]["output"] = 0
-        self.state["divider"]["input"] *= self.state["divider"]["loaded"]
-        self.state["sp"][2:5] = 0xFF8, 0xFF8, self.state["sp"][4] & 0x7FC0
-
-    def word(self, pc):
-        return int.from_bytes(self.memories[IMEM + pc : IMEM + pc + 4], "big")
-
-    def text(self, pc):
-        return rsp.text(self.word(pc), pc)
 
 
 def edged(raw):
@@ -64,47 +43,23 @@ def program_of(names, seed, number):
     memories[IMEM : IMEM + 4096] = words.astype(">u4").view(np.uint8)
     state = registers(Draw(PROGRAM, seed, number, 1))["state"][0]
     state["pc"], state["npc"], state["vectors"] = 0, 4, edged(state["vectors"])
-    return Program(state, memories)
-
-
-def compare(sides, program, steps, every):
-    """The number of steps after which they first differ, and what differs then; else None."""
-    for side in sides.both:
-        side.begin(program.state, program.memories)
-    for made in range(0, steps, every):
-        ends = [side.go(min(every, steps - made)) for side in sides.both]
-        if sides.differ(*ends)[0]:
-            return min(made + every, steps), ends
-        if ends[0]["status"][0]:  # halted, or a reserved word
-            return None
-    return None
-
-
-def after(sides, program, steps):
-    """The library's state as a program of its own."""
-    sides.library.begin(program.state, program.memories)
-    return Program(sides.library.go(steps)["state"][0], sides.library.look())
+    return settable(Program(state.tobytes(), memories))
 
 
 def check_programs(spec, seed, start, count, names, steps):
     """Yields the result of each program. `parts` names the instruction after which it differs; the first of each is cut down."""
-    from .shrink import cut_down
-
     sides, names, cut = Sides(spec, np.zeros(MEMORIES, np.uint8)), tuple(name for name in names if name not in NEVER), set()
-    compare(sides, program_of(names, seed, start), 0, 1)  # it may take no programs
-    yield {"count": 0, "unseen": unseen(sides.seen)}
+    sides.first_difference(program_of(names, seed, start), 0, 1)  # it may take no programs
+    yield {"count": 0, "unseen": sides.unseen}
     for number in range(start, start + count):
         program, name = program_of(names, seed, number), name_of(PROGRAM, seed, number)
-        found = compare(sides, program, steps, EVERY)
+        found = sides.first_difference(program, steps, EVERY)
         if not found:
             yield {"count": 1}
             continue
-        exact, ends = compare(sides, program, found[0], 1) or found
-        before = after(sides, program, exact - 1)
-        text = before.text(int(before.state["pc"]))
-        shown, what = f"{name}: step {exact}, {text}: {in_brief(differences(*ends, sides.seen))}", text.split()[0]
+        shown, what = f"{name}: step {found.step}, {found.text}: {in_brief(in_words(found.parts))}", found.text.split()[0]
         result = {"count": 1, "differ": 1, "parts": {what: 1}, "shown": [shown]}
-        if what not in cut and len(cut) < SHOWN:
+        if found.step and what not in cut and len(cut) < SHOWN:
             cut.add(what)
-            result["programs"] = [{"name": name, "shown": shown, **cut_down(sides, program, exact)}]
+            result["programs"] = [{"name": name, "shown": shown, **cut_down(sides, program, found.step)}]
         yield result

@@ -36,7 +36,7 @@ def summary(results):
             line["given up"] = line["given up"] or f" (given up: {result['given up']})"
     for line in lines.values():
         line.update(first="".join(line.pop("shown")[:1]), faults=len(line["faults"]))
-        del line["programs"], line["processor"]
+        del line["programs"], line["unseen"], line["processor"]
     return lines
 
 

@@ -1,45 +1,53 @@
 /* The calls of cases.h over an emulator's own: a file defines these, and then includes this one. library.c is a pattern.
  *   typedef .. machine;
+ *   static int make(machine *m, const char *what);      0 if it can't
+ *   static int is_shown(const rsp_case *in);            0 of a case that it can't be given
  *   static int set(machine *m, const rsp_state *s);     all registers; 0 if they are such as no machine has
  *   static uint32_t step(machine *m);                   one instruction, and its status
  *   static void get(machine *m, rsp_state *s);
- *   static void load(machine *m, const uint8_t *memories, size_t from, size_t to);   these bytes of all memories
- *   static void look(machine *m, uint8_t *memories, size_t to);                      those up to `to` */
+ *   static void put(machine *m, uint32_t pc, uint32_t word);           a word of IMEM
+ *   static void load(machine *m, const uint8_t *memories, size_t to);  the memories up to `to`, which is RDRAM or MEMORIES
+ *   static void look(machine *m, uint8_t *memories, size_t to); */
+#include <stdlib.h>
 typedef struct side { machine m; uint8_t before[MEMORIES], after[MEMORIES]; } side;
+
+void *cases_open(const char *what, const uint8_t *memories)
+{
+    side *s = calloc(1, sizeof *s);
+    if (!s || !make(&s->m, what)) return NULL;
+    memcpy(s->before, memories, MEMORIES);
+    load(&s->m, memories, MEMORIES);
+    return s;
+}
 
 static int one(side *s, const rsp_case *in, rsp_end *out)
 {
-    size_t at = IMEM + in->state.pc, reach = is_dma(in->word) ? MEMORIES : RDRAM;
-    uint8_t kept[4];
+    uint32_t pc = in->state.pc, word = __builtin_bswap32(in->word), kept;
+    size_t reach = is_dma(in->word) ? MEMORIES : RDRAM;
     if (!set(&s->m, &in->state)) return 0;
-    memcpy(kept, s->before + at, 4);
-    for (int i = 0; i < 4; i++) s->before[at + i] = in->word >> (24 - 8 * i);
-    load(&s->m, s->before, at, at + 4);
+    put(&s->m, pc, in->word);
+    memcpy(&kept, s->before + IMEM + pc, 4);
+    memcpy(s->before + IMEM + pc, &word, 4);
     out->status = step(&s->m);
     get(&s->m, &out->state);
     look(&s->m, s->after, reach);
     out->changed = digest(s->before, s->after, reach);
-    memcpy(s->before + at, kept, 4);
-    if (out->changed || reach > RDRAM) load(&s->m, s->before, 0, reach);
-    else load(&s->m, s->before, at, at + 4);
+    memcpy(s->before + IMEM + pc, &kept, 4);
+    if (out->changed || reach > RDRAM) load(&s->m, s->before, reach);
+    else put(&s->m, pc, __builtin_bswap32(kept));
     return 1;
 }
 
-int cases_begin(void *at, const rsp_state *state, const uint8_t *memories)
+int cases_run(void *at, const rsp_case *in, rsp_end *out, size_t n)
 {
-    side *s = at;
-    memcpy(s->before, memories, MEMORIES);
-    load(&s->m, memories, 0, MEMORIES);
-    return !set(&s->m, state);
+    for (size_t i = 0; i < n; i++)
+        if (!is_shown(in + i)) out[i].status = UNSHOWN;
+        else if (!one(at, in + i, out + i)) return (int)i + 1;
+    return 0;
 }
 
-void cases_go(void *at, uint32_t steps, rsp_end *out)
-{
-    side *s = at;
-    for (out->status = RSP_OK; steps && out->status == RSP_OK; steps--) out->status = step(&s->m);
-    get(&s->m, &out->state);
-    look(&s->m, s->after, MEMORIES);
-    out->changed = digest(s->before, s->after, MEMORIES);
-}
-
+void cases_set(void *at, const rsp_state *state) { set(&((side *)at)->m, state); }
+void cases_get(void *at, rsp_state *state) { get(&((side *)at)->m, state); }
+void cases_load(void *at, const uint8_t *memories) { load(&((side *)at)->m, memories, MEMORIES); }
 void cases_look(void *at, uint8_t *memories) { look(&((side *)at)->m, memories, MEMORIES); }
+void cases_step(void *at, uint32_t steps) { while (steps-- && step(&((side *)at)->m) == RSP_OK) {} }

@@ -5,34 +5,32 @@ is still UNDONE. If the case alone doesn't show the fault, a case before it has 
 and its first case is the faulty one. New children do the cases before and after the faulty one.
 """
 
-import itertools
-import json
+import contextlib
 import mmap
 import os
-import queue
 import re
 import signal
 import subprocess
 import sys
-import tempfile
-import threading
 import time
 from collections import Counter
+from multiprocessing import Pipe
 
 import numpy as np
 
 from . import TOP
-from .child import BATCH, SHARED, SHOWN, UNDONE
+from .child import BATCH, UNDONE
 from .emulators import hashes
 from .generator import END, name_of
+from .programs import SHOWN
 from .search import fewest
 
 # Arrays stay in the heap from batch to batch. A worker of Dask has the first of these at 65536, which gives memory back all the time.
 KEEP = {"MALLOC_TRIM_THRESHOLD_": str(1 << 28), "MALLOC_MMAP_THRESHOLD_": str(1 << 25), "OMP_NUM_THREADS": "1"}
 FAULTS, SEARCH_SECONDS, BEGIN_SECONDS = 8, 60, 60
-START = "import json, sys; sys.path.insert(0, sys.argv[1]); from campaigns.child import main; main(*json.loads(sys.argv[2]))"
+START = "import sys; sys.path.insert(0, sys.argv[1]); from campaigns.child import main; main(*map(int, sys.argv[2:]))"
 # What a result adds up.
-NOTHING = {"count": 0, "unshown": 0, "differ": 0, "choices": 0, "parts": {}, "shown": [], "faults": [], "programs": [], "processor": 0}
+NOTHING = {"count": 0, "unshown": 0, "differ": 0, "choices": 0, "parts": {}, "shown": [], "faults": [], "programs": [], "unseen": [], "processor": 0}
 
 
 def add(total, result):
@@ -44,101 +42,87 @@ def add(total, result):
 class Child:
     """A child with a part of a task. Iterated, it gives the results of its batches; then `fault` says why some are missing."""
 
-    def __init__(self, words, options):
-        self.limit, self.lines, self.begun, self.fault = options["limit"], queue.SimpleQueue(), False, ""
-        self.file, self.errors = tempfile.TemporaryFile(dir="/dev/shm" if os.path.isdir("/dev/shm") else None), tempfile.TemporaryFile()
-        self.file.truncate(SHARED)
-        self.ends = np.frombuffer(mmap.mmap(self.file.fileno(), SHARED), END)
+    def __init__(self, task, options):
+        self.limit, self.is_begun, shared = options["limit"], False, os.memfd_create("ends")
+        os.truncate(shared, BATCH * END.itemsize)
+        self.ends = np.frombuffer(mmap.mmap(shared, 0), END)
         self.ends["status"] = UNDONE
-        words = [sys.executable, "-c", START, str(TOP / "conformance"), json.dumps([words, options, self.file.fileno(), os.getpid()])]
-        self.process = subprocess.Popen(words, stdout=subprocess.PIPE, stderr=self.errors, pass_fds=[self.file.fileno()], start_new_session=True,
-                                        env={**os.environ, **KEEP})  # fmt: skip
-        threading.Thread(target=self.read, daemon=True).start()
+        self.answers, theirs = Pipe()
+        numbers = os.getpid(), shared, theirs.fileno()
+        self.process = subprocess.Popen([sys.executable, "-c", START, TOP / "conformance", *map(str, numbers)], stdout=subprocess.DEVNULL, stderr=subprocess.DEVNULL,
+                                        pass_fds=numbers[1:], start_new_session=True, env={**os.environ, **KEEP})  # fmt: skip
+        os.close(shared)
+        theirs.close()
+        self.answers.send((task, options))
 
-    def read(self):
-        for line in itertools.chain(self.process.stdout, [b""]):
-            self.lines.put(line)
-
-    def made(self):
+    def done(self):
         """How many cases of the last batch are done."""
         return int((self.ends["status"] != UNDONE).sum())
 
+    def answer(self):
+        """The next result, or a fault. The limit is for a case: who makes one within it goes on."""
+        done, limit = -1, self.limit if self.is_begun else max(self.limit, BEGIN_SECONDS)
+        while not self.answers.poll(limit):
+            if done == (done := self.done()):
+                return {"fault": f"no answer within {limit:g} seconds"}
+        try:
+            return self.answers.recv()
+        except (EOFError, ConnectionResetError):
+            status = self.process.wait()
+            return {"fault": f"ended by {signal.Signals(-status).name}" if status < 0 else f"ended with status {status}"}
+
     def __iter__(self):
-        """The limit is for a case: who makes one within it goes on."""
-        made = -1
-        while not self.fault:
-            try:
-                line = self.lines.get(timeout=self.limit if self.begun else max(self.limit, BEGIN_SECONDS))
-            except queue.Empty:
-                if made == (made := self.made()):
-                    self.fault = f"no answer within {self.limit:g} seconds"
-                continue
-            if not line:
-                self.fault = self.end()
-                return
-            self.begun, made = True, -1
-            yield json.loads(line)
+        while "fault" not in (answer := self.answer()):
+            self.is_begun = True
+            yield answer
+        self.fault = answer["fault"]
 
-    def end(self):
-        """Why it ended before its time: its last words, a signal or a status."""
-        status = self.process.wait()
-        self.errors.seek(0)
-        last = self.errors.read().decode(errors="replace").strip().split("\n")[-1]
-        return last if status == 1 and last else f"ended by {signal.Signals(-status).name}" if status < 0 else f"ended with status {status}"
-
-    def __enter__(self):
-        return self
-
-    def __exit__(self, *_):
-        if self.process.poll() is None:
-            os.killpg(self.process.pid, signal.SIGKILL)
+    def close(self):
+        self.process.kill()
         self.process.wait()
-        self.file.close()
-        self.errors.close()
+        self.answers.close()
 
 
-def fails(words, options):
-    """Whether cases show a fault in a child of their own."""
-    with Child(words, options) as child:
-        return sum(batch["count"] for batch in child) < words[-1]
+def cause_of(task, number, first, options):
+    """The first number of the shortest run of cases, from `first` on, that shows the fault of case `number` again. None if no run does."""
 
+    def fails(count):
+        with contextlib.closing(Child((*task, number - count + 1, count), options)) as child:
+            return sum(batch["count"] for batch in child) < count
 
-def run_that_fails(spec, name, seed, number, first, options):
-    """The first number of the shortest run of cases up to `number` that shows its fault; or None."""
-    count = fewest(number - first + 1, lambda count: fails((spec, name, seed, number - count + 1, count), options), time.time() + SEARCH_SECONDS)
+    count = fewest(number - first + 1, fails, time.time() + SEARCH_SECONDS)
     return count and number - count + 1
 
 
-def check(spec, name, seed, start, count, options):
-    """Has a task done. What it returns is what the task's file holds."""
-    result = {"instruction": name, "seed": seed, "start": start, "size": count, "unseen": [], **NOTHING}
-    began, ranges = time.time(), [(start, start + count)]
-    while ranges and "given up" not in result:
-        first, end = ranges.pop(0)
-        at = first
-        with Child((spec, name, seed, first, end - first), options) as child:
-            for batch in child:
-                add(result, batch)
-                at += batch["count"]
-                result["unseen"] = batch.get("unseen", result["unseen"])
-        if at < end:
-            number = at + min(child.made(), BATCH - 1, end - at - 1)  # a spoilt emulator may end after the last case of a batch
-            cause = fault(result, (spec, name, seed), number, first, child, options)
-            faulty = number if cause is None or cause < at else cause
-            ranges[:0] = [it for it in ((at, faulty), (faulty + 1, end)) if it[0] < it[1]]
-    result["shown"] = sorted(result["shown"], key=lambda it: int(re.match(r"\w+-\w+-(\d+)", it)[1]))[:SHOWN]
-    return {**result, "hashes": hashes(spec), "seconds": time.time() - began}
-
-
-def fault(result, task, number, first, child, options):
-    """Adds a fault, which shows at the case `number`, as one that differs. Returns the case that causes it, or None if nothing shows it again."""
-    if not child.begun or len(result["faults"]) >= FAULTS:
-        result["given up"] = child.fault
-        return None
-    why, cause = child.fault, run_that_fails(*task, number, first, options)
+def fault_of(task, number, cause, why):
+    """The result of a case that shows a fault: it counts as a difference."""
     if cause is None:
         why += "; no run of cases before it was found that shows it again"
     elif cause < number:
         why += f"; the shortest run that shows it begins with {name_of(*task[1:], cause)}"
-    add(result, {"count": 1, "differ": 1, "shown": [f"{name_of(*task[1:], number)}: {why}"], "faults": [[number, cause, why]]})
-    return cause
+    return {"count": 1, "differ": 1, "shown": [f"{name_of(*task[1:], number)}: {why}"], "faults": [[number, cause, why]]}
+
+
+def check(spec, name, seed, start, count, options):
+    """Has a task done. What it returns is what the task's file holds."""
+    task, result = (spec, name, seed), {"instruction": name, "seed": seed, "start": start, "size": count, **NOTHING}
+    began, ranges = time.time(), [(start, start + count)]
+    while ranges:
+        first, end = ranges.pop(0)
+        at = first
+        with contextlib.closing(Child((*task, first, end - first), options)) as child:
+            for batch in child:
+                add(result, batch)
+                at += batch["count"]
+        if at == end:
+            continue
+        if not child.is_begun or len(result["faults"]) >= FAULTS:
+            result["given up"] = child.fault
+            break
+        number = at + min(child.done(), BATCH - 1, end - at - 1)  # a spoilt emulator may end after the last case of a batch
+        cause = cause_of(task, number, first, options)
+        add(result, fault_of(task, number, cause, child.fault))
+        faulty = number if cause is None or cause < at else cause
+        ranges[:0] = [it for it in ((at, faulty), (faulty + 1, end)) if it[0] < it[1]]
+    result["shown"] = sorted(result["shown"], key=lambda it: int(re.match(r"\w+-\w+-(\d+)", it)[1]))[:SHOWN]
+    return {**result, "unseen": [*dict.fromkeys(result["unseen"])], "hashes": hashes(spec), "seconds": time.time() - began}

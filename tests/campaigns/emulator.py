@@ -17,41 +17,48 @@ import rsp  # noqa: E402
 BANKS = {"dmem": (rsp.DMEM, 0, 4096), "imem": (rsp.IMEM, 4096, 4096), "rdram": (rsp.RDRAM, 8192, 16384)}
 
 
-class Machine:
-    """A machine with an image of 16384 bytes."""
+class Machine(rsp.Rsp):
+    """A machine with an image of 16384 bytes. All that programs need is its own."""
 
     def __init__(self, memories):
-        self.machine = rsp.Rsp(bytes(16384))
-        self.load(memories)
+        super().__init__(bytes(16384))
+        self.load_all(memories)
 
-    def load(self, memories):
+    def load_all(self, memories):
         self.before = bytes(memories)
         for bank, start, length in BANKS.values():
-            self.machine.load(bank, 0, self.before[start : start + length])
+            self.load(bank, 0, self.before[start : start + length])
 
     def memories(self):
-        return b"".join(self.machine.memory(bank, 0, length) for bank, _, length in BANKS.values())
+        return b"".join(self.memory(bank, 0, length) for bank, _, length in BANKS.values())
 
-    def step(self, case):
-        """One case, from the memories of the beginning."""
-        pc = int(case["state"]["pc"])
-        self.machine.set(rsp.State.from_buffer_copy(case["state"].tobytes()))
-        self.machine.load_words(rsp.IMEM, pc, [int(case["word"])])
+    def step(self, case=None):
+        """A case, from the memories of the beginning; without one, a step."""
+        if case is None:
+            return super().step()
+        self.set(rsp.State.from_buffer_copy(case["state"].tobytes()))
+        self.load_words(rsp.IMEM, int(case["state"]["pc"]), [int(case["word"])])
         before = self.memories()
-        status = self.machine.step()
-        after, state = self.memories(), self.machine.get()
-        self.load(self.before)
+        status = super().step()
+        after, state = self.memories(), self.get()
+        self.load_all(self.before)
         return state, int(status), {at: byte for at, byte in enumerate(after) if byte != before[at]}
 
-    def begin(self, state, memories):
-        self.load(memories)
-        self.machine.set(rsp.State.from_buffer_copy(state.tobytes()))
-
     def go(self, steps):
+        """Makes steps up to a halt or a reserved word, and returns the last status."""
         status = rsp.Status.OK
         while steps and status == rsp.Status.OK:
-            status, steps = self.machine.step(), steps - 1
-        return self.machine.get(), int(status), self.memories()
+            status, steps = super().step(), steps - 1
+        return int(status)
+
+
+class Forgets(Machine):
+    """Loses a register."""
+
+    def get(self):
+        state = super().get()
+        state.words[5] = 0
+        return state
 
 
 class Few:
@@ -99,13 +106,13 @@ def numbers_of(state):
 
 def answer(machine, question):
     if initial := question.get("initial"):
-        machine.load(machine.before)
-        machine.machine.set(state_of(initial))
+        machine.load_all(machine.before)
+        machine.set(state_of(initial))
         for at, byte in initial["ram"]:
-            machine.machine.load(at // 4096, at % 4096, bytes([byte]))
-    _, status, memories = machine.go(question.get("steps", 1))
-    changed = [(at, byte) for at, byte in enumerate(memories) if byte != machine.before[at]]
-    final = {**numbers_of(machine.machine.get()), "status": status}
+            machine.load(at // 4096, at % 4096, bytes([byte]))
+    status = machine.go(question.get("steps", 1))
+    changed = [(at, byte) for at, byte in enumerate(machine.memories()) if byte != machine.before[at]]
+    final = {**numbers_of(machine.get()), "status": status}
     return {"final": {**final, "ram": [it for it in changed if it[0] < 8192], "rdram": [(at - 8192, byte) for at, byte in changed if at >= 8192]}}
 
 

@@ -1,21 +1,22 @@
 /* A plugin of mupen64plus that is the library: one whose registers nobody knows. FAULT=1: VXOR changes a bit of its result. */
-#include "plugin.h"
-#undef RDRAM
+#include "cases.h"
+#include "../../plugin/mupen64plus.h"
 
-static plugin_info info;
+static m64p_rsp_info info;
 static rsp machine;
 static uint8_t bytes[1 << 23];
 
 int PluginStartup(void *core, void *context, void (*told)(void *, int, const char *)) { (void)core; (void)context; (void)told; return 0; }
-void InitiateRSP(plugin_info given, unsigned *cycles) { (void)cycles; info = given; }
+void InitiateRSP(m64p_rsp_info given, unsigned *cycles) { (void)cycles; info = given; }
 
 static void carry(int into) /* the memories, into the machine or out of it; of the RDRAM only what microcode.c's DMA reads */
 {
-    static const uint32_t banks[] = { RSP_RDRAM, RSP_DMEM, RSP_IMEM }, from[] = { 0x400000, 0, 0 };
+    const uint32_t banks[] = { RSP_RDRAM, RSP_DMEM, RSP_IMEM }, from[] = { 0x400000, 0, 0 };
+    void *memories[] = { info.RDRAM + from[0], info.DMEM, info.IMEM };
     for (int i = 0; i < 3; i++) {
-        void *memory = (char *)info.memories[i] + from[i];
-        if (into) { swap(bytes, memory, 4096); rsp_load(&machine, banks[i], from[i], bytes, 4096); }
-        else { rsp_memory(&machine, banks[i], from[i], bytes, 4096); swap(memory, bytes, 4096); }
+        uint32_t words[1024];
+        if (into) { memcpy(words, memories[i], 4096); rsp_load_words(&machine, banks[i], from[i], words, 1024); }
+        else { rsp_memory_words(&machine, banks[i], from[i], words, 1024); memcpy(memories[i], words, 4096); }
     }
 }
 
