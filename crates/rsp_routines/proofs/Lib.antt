@@ -1,10 +1,12 @@
 pub mod Multiplying
 pub mod Transforms
+pub mod NewtonBound
 pub mod NewtonStep
 pub mod Bytes
 pub mod Saving
 pub mod Tailed
 pub mod Copies
+pub mod Estimates
 pub mod Fills
 pub mod MixesSound
 pub mod Products
