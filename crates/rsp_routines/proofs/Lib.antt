@@ -2,6 +2,9 @@ pub mod Multiplying
 pub mod Transforms
 pub mod NewtonBound
 pub mod NewtonStep
+pub mod RootEstimates
+pub mod RootBound
+pub mod RootStep
 pub mod Bytes
 pub mod Saving
 pub mod Tailed

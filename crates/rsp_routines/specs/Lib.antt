@@ -2,6 +2,7 @@
 pub mod FixedProduct
 pub mod Transform
 pub mod Newton
+pub mod SquareRoot
 pub mod Areas
 pub mod Copying
 pub mod Filling
