@@ -22,3 +22,4 @@ pub mod ClipsNumbers
 pub mod Tails
 pub mod DotSums
 pub mod DotsBuffers
+pub mod BlockCopies

@@ -12,3 +12,4 @@ pub mod Resampling
 pub mod DotProduct
 pub mod ClipCodes
 pub mod DotBuffers
+pub mod BlockCopies

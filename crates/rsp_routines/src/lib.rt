@@ -4,6 +4,7 @@
 //! what steps over them do, from every state that meets the premises.
 #![tactic(auto)]
 
+mod blocks;
 mod buffer_dots;
 mod clipping;
 mod copying;
@@ -18,6 +19,7 @@ mod running;
 mod sound_mixing;
 mod transforming;
 
+pub use blocks::copy_blocks;
 pub use buffer_dots::dot_buffers;
 pub use clipping::clip_codes;
 pub use copying::copy_bytes;
