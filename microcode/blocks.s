@@ -6,10 +6,11 @@
 # Needs    one block at least, of 4096 bytes at most; the addresses and the number of bytes multiples of 8; the buffers' addresses
 #          below 1000 in hexadecimal; the blocks and what they go to inside RDRAM, and apart. On a chip, whose transfers take time,
 #          the buffers are apart too
-# Changes  $1, $2, $4, $5, $8, the buffers, the SP registers 0 to 3
+# Changes  $1, $2, $4, $5, $8, the buffers, the SP registers
 # Cost     15 instructions for each block, and 3
-# Theorem  Each byte of the blocks is at its place there, and no other byte of RDRAM changes, and none of DMEM outside of the
-#          buffers. A transfer is done at once. crates/rsp_routines/specs/BlockCopies.antt
+# Theorem  Byte i there is byte i of the blocks as they were, no other byte of RDRAM changes, and none of DMEM outside of the
+#          buffers. The machine goes on after the last instruction. A transfer is done at once.
+#          crates/rsp_routines/specs/BlockCopies.antt
 next:   mtc0  $5, $c0               # a block comes to a buffer,
         mtc0  $1, $c1
         mtc0  $3, $c2

@@ -405,5 +405,11 @@ copies law s is at from to size n a b blocks =
       bytes = λ i h. ap (λ m. image_byte m (to + i)) rdram ∙ end.bytes i h;
       outside = λ x h o. ap (λ m. image_byte m x) rdram ∙ end.outside x h o;
       memory = λ x h g. ap (λ m. byte_at m x) dmem ∙ end.memory x h g;
+      at = λ ws stand. let e = pc in let m = ap (λ (y : State). y.imem) frame in record {
+        goes = ap (λ (y : State). y.sp.halted) ran.frame ∙ end.goes_on;
+        runs = ap (λ (y : State). y.sp.single_step) ran.frame ∙ end.runs;
+        next = ran.npc;
+        stand = rw (e, m) stand;
+      };
       others = tidy s t _ _ _ frame pc npc registers;
     })

@@ -5,7 +5,7 @@ use Rattle.rsp_memory.specs.Image.{image_byte}
 use Rattle.rsp_scalar.specs.Registers.{register}
 use Rattle.rsp_machine.specs.State.{State, IsState}
 use Rattle.rsp_machine.specs.Laws.{steps_of}
-use Rattle.rsp_microcode.specs.Runs.{IsAt, place_after}
+use Rattle.rsp_microcode.specs.Runs.{IsAt, Stand, place_after}
 use Rattle.rsp_microcode.specs.Lanes.{IsOutside}
 use Rattle.rsp_microcode.specs.Kept.{registers_but}
 use Rattle.rsp_microcode.specs.Text.{line}
@@ -58,6 +58,8 @@ pub record CopiesBlocks (words : List ℕ) (s t : State) (from to size n a b : �
   pub bytes : (i : ℕ) → i < n * size → image_byte t.rdram (to + i) ≡ image_byte s.rdram (from + i)
   pub outside : (x : ℕ) → x < 16777216 → (x < to) ⊎ (to + n * size ≤ x) → image_byte t.rdram x ≡ image_byte s.rdram x
   pub memory : (x : ℕ) → IsOutside a size x → IsOutside b size x → byte_at t.dmem x ≡ byte_at s.dmem x
+  -- what is after the words is executed next
+  pub at : (ws : List ℕ) → Stand ws (place_after words s.pc) s.imem → IsAt ws t
   -- nothing else changed but scalar registers 1, 2, 4, 5 and 8, the SP registers, pc and npc
   pub others : t ≡ record s {
     pc = place_after words s.pc;
