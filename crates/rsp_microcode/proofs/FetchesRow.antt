@@ -56,6 +56,7 @@ one_round s k t h is spares holds =
     let e : k ≡ 0 = omega arith in
     (tt, rw (r.0, r.1, zero, e) refl, tt)
 
+-- three steps over the wait
 pub waits : SumsOfProducts → (s : State) → IsState s → IsAt wait.words s → AfterLoop wait 1 Nothing s (steps_of 3 s)
 waits law s is at = loops law wait decoded refl s is at 1 (omega arith) Nothing tt (one_round s)
 

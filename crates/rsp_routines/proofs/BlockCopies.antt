@@ -47,7 +47,7 @@ send = 0x40850000 ∷ 0x40820800 ∷ 0x40831800 ∷ []
 abbrev tail : List ℕ
 tail = 0x00260821 ∷ 0x00461021 ∷ 0x00e52823 ∷ 0x2508ffff ∷ 0x1500fff2 ∷ 0x00000000 ∷ []
 
--- a round
+-- a round: a block comes to a buffer, the routine waits for it, sends it, and takes the other buffer
 abbrev words : List ℕ
 words = fetch ++ (wait.words ++ (send ++ tail))
 
@@ -78,18 +78,18 @@ tail_decoded : map inst_of tail ≡ map Some tail_code
 unfolding inst_of row_of
 tail_decoded = refl
 
--- what writes registers
+-- the instructions of a round that write registers
 abbrev code : List Inst
 code = loop_code wait ++ tail_code
 
--- s, with the parts of t that blocks may change
+-- s, with the parts of t that a round may change
 abbrev kept : State → State → State
 kept s t = record s { pc = t.pc; npc = t.npc; registers = t.registers; dmem = t.dmem; rdram = t.rdram; sp = t.sp }
 
 then : (s t u : State) → t ≡ kept s t → u ≡ kept t u → u ≡ kept s u
 then s t u e f = f ∙ ap (λ (y : State). kept y u) e
 
--- the registers and places after the tail
+-- the registers after the tail, and those that its branch reads
 counted : (t : State) → length t.registers ≡ 32 →
     let r = t.registers in
     let q = (ran_through tail_code t).registers in
@@ -114,7 +114,7 @@ tail_frame t = put t (ran_through tail_code t) _ _ _ (framed tail_code t refl)
     put : (s t : State) (p q : ℕ) (r : List ℕ) → t ≡ record s { pc = p; npc = q; registers = r } → t ≡ kept s t
     put s t p q r e = subst (λ (y : State). y ≡ kept s y) (sym e) refl
 
--- the tail goes back where a round is left
+-- what the tail leads from u to x: it goes back to the round's start, at `place`, if a round is left
 record Tailed (u x : State) (place : ℕ) : Type 0 where
   ranges : IsState x
   next : x.npc ≡ going_on x.pc

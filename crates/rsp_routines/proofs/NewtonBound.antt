@@ -76,7 +76,7 @@ square_below x c d h k =
     let f : x * x ≤ 2 ^ 31 * x = mul-le x x (2 ^ 31) x h (omega arith) in
     omega arith
 
--- what the result a, times the number x, is near
+-- the result a, times the number x, is near 2^31
 record IsClose (x a : ℕ) : Type 0 where
   low : 2 ^ 31 ≤ a * x + 2 * x + 65536
   high : a * x ≤ 2 ^ 31 + 65536 + x
@@ -121,7 +121,7 @@ negative x q p r a small is rest low high =
           omega (arith, n.low)
     ]
 
--- a clamp takes nothing from that
+-- that holds of a clamped result too
 clamped_close : (x a c : ℕ) → 0 < x → 2147483647 ≤ c → IsClose x a → IsClose x (min a c)
 clamped_close x a c h k is = elim (cases_lt c a) [
   | inl more ↦

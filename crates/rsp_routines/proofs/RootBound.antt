@@ -13,7 +13,7 @@ use Rattle.rsp_routines.specs.SquareRoot.{improved_root, rooted, IsNearRoot}
 use Rattle.rsp_routines.proofs.NewtonBound.{doubled}
 use Rattle.rsp_routines.proofs.RootEstimates.{IsRootEstimate, root_estimated}
 
--- b (3n - b) b has its greatest value where b is 2n
+-- (3n - b) b b has its greatest value, 4n^3, at 2n
 cubic : (n b : ℕ) → 3 * (n * (b * b)) ≤ 4 * (n * (n * n)) + b * (b * b)
 cubic n b = let f : (n + b) * (2 * (2 * n * b)) ≤ (n + b) * (2 * n * (2 * n) + b * b) = mul-le-mul_left (n + b) (doubled (2 * n) b) in omega arith
 
@@ -62,8 +62,8 @@ near_cubic w a h low high =
     ] in
     omega arith
 
--- The step: q is near 2^31 / √x, t is x q, h the high half of t q, r what Newton's method takes t times, p that product, m the
--- result; each is rounded down.
+-- The step: q is near 2^31 over the root of x, t is x q / 2^16, h is t q / 2^32, r is 98304 less 2 h, p is t r / 2^16, and m, the
+-- result, is p / 128; each is rounded down.
 record IsStep (x q t h r p m : ℕ) : Type 0 where
   product_low : t * 65536 ≤ x * q
   product_high : x * q ≤ t * 65536 + 65535
@@ -115,7 +115,7 @@ upper x q t h r p m step is =
     let j = squared x q t r is in
     omega arith
 
--- p has 31 bits, as has t
+-- so no product is clamped
 inside : (x q t h r p m : ℕ) → x < 2 ^ 31 → IsStep x q t h r p m → IsStepRest x q t r → p < 2 ^ 31
 inside x q t h r p m small step is = elim (cases_lt p (2 ^ 31)) [
   | inl l ↦ l
@@ -127,7 +127,7 @@ inside x q t h r p m small step is = elim (cases_lt p (2 ^ 31)) [
       absurd (omega arith)
 ]
 
--- the square of g less 2^16
+-- what a bound of g r says of its square, if it is off by 2^16 r
 less_square : (g c r : ℕ) → g * r ≤ c + 65536 * r → (g * g) * (r * r) ≤ c * c + 131072 * (g * (r * r))
 less_square g c r h = elim (cases_lt g 65536) [
   | inl l ↦ let f : g * (g * (r * r)) ≤ 65536 * (g * (r * r)) = mul-le g (g * (r * r)) 65536 (g * (r * r)) (omega arith) (omega arith) in omega arith

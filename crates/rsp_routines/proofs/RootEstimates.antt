@@ -68,7 +68,7 @@ estimated x k p a s c m q positive e from to close low high small =
     let below : m * m * a * 2 ^ 28 ≤ x * ((q + 1) * (q + 1)) * 256 = let t : m * m * a * 2 ^ 28 * c ≤ x * ((q + 1) * (q + 1)) * 256 * c = omega arith in le_of_mul-le-mul_right t positive in
     record { low = omega (arith, close.low); high = omega (arith, close.high); small = small }
 
--- the radicand of an even and of an odd place
+-- the radicand of an even and of an odd index
 radicand_even : (h : ℕ) → radicand (h * 2 + 0) ≡ 512 + h * 2
 radicand_even h = grind (arith, nat_tests)
 
