@@ -9,13 +9,13 @@ use Rattle.rsp_memory.specs.Memory.{byte_at}
 use Rattle.rsp_multiply.specs.Laws.{SumsOfProducts}
 use Rattle.rsp_regs.specs.Sp.{Sp, peeked}
 use Rattle.rsp_scalar.specs.Registers.{register}
-use Rattle.rsp_machine.specs.State.{State}
+use Rattle.rsp_machine.specs.State.{State, IsState}
 use Rattle.rsp_machine.specs.Step.{executed, worked, moves_sp}
 use Rattle.rsp_machine.specs.Laws.{steps_of}
-use Rattle.rsp_microcode.specs.Runs.{place_after}
+use Rattle.rsp_microcode.specs.Runs.{IsAt, place_after}
 use Rattle.rsp_microcode.specs.Kept.{registers_but}
 use Rattle.rsp_microcode.specs.Pieces.{rows, after_pieces}
-use Rattle.rsp_microcode.specs.Loops.{Loop, loop_code, HandsOn}
+use Rattle.rsp_microcode.specs.Loops.{Loop, loop_code, HandsOn, AfterLoop}
 use Rattle.rsp_microcode.specs.Transfers.{fetch_code}
 use Rattle.rsp_microcode.specs.FetchRow.{FetchesRow, FetchesRows}
 use Rattle.rsp_microcode.proofs.Listings.{listed}
@@ -31,14 +31,14 @@ unfolding inst_of row_of
 moves_decoded = refl
 
 -- the wait, which is a loop of one round, since a transfer is done at once
-abbrev wait : Loop
+abbrev pub wait : Loop
 wait = record { words = 0x40043000 ∷ 0x1480fffe ∷ 0x00000000 ∷ []; pieces = rows (MoveSp From 4 6 ∷ []) ∷ []; branch = BranchEqual Bne 4 0 0xfffe; slot = Shift Sll 0 0 0 }
 
 decoded : map inst_of wait.words ≡ map Some (loop_code wait)
 unfolding inst_of row_of
 decoded = refl
 
-abbrev Nothing : ℕ → State → Type 0
+abbrev pub Nothing : ℕ → State → Type 0
 Nothing k t = Unit {0}
 
 -- register 6 reads 0, and so does scalar register 0
@@ -56,12 +56,16 @@ one_round s k t h is spares holds =
     let e : k ≡ 0 = omega arith in
     (tt, rw (r.0, r.1, zero, e) refl, tt)
 
+-- three steps over the wait
+pub waits : SumsOfProducts → (s : State) → IsState s → IsAt wait.words s → AfterLoop wait 1 Nothing s (steps_of 3 s)
+waits law s is at = loops law wait decoded refl s is at 1 (omega arith) Nothing tt (one_round s)
+
 pub fetches : SumsOfProducts → FetchesRows (moves ++ wait.words)
 fetches law s is at row =
     let r = s.registers in
     let first = fetch_runs moves 1 2 3 moves_decoded s is (first_block moves wait.words s at) row in
     let u = steps_of 3 s in
-    let end = loops law wait decoded refl u first.ranges (first.at wait.words (both_stand moves wait.words s.pc s.imem at.stand).1) 1 (omega arith) Nothing tt (one_round u) in
+    let end = waits law u first.ranges (first.at wait.words (both_stand moves wait.words s.pc s.imem at.stand).1) in
     let t = steps_of 3 u in
     let last = end.others (4 ∷ []) [] refl in
     let same = ap (λ (x : State). x.dmem) last in

@@ -35,7 +35,7 @@ rows_joined : (c d : List Inst) → of_rows (c ++ d) ≡ both (of_rows c) (of_ro
 rows_joined [] d = refl
 rows_joined (i ∷ is) d = ap (both (of_row i)) (rows_joined is d) ∙ sym (both_joined (of_row i) (of_rows is) (of_rows d))
 
-all_parts : (p : Inst → Bool) (a b : List Inst) → list_all p (a ++ b) ≡ true → (list_all p a ≡ true) × (list_all p b ≡ true)
+pub all_parts : (p : Inst → Bool) (a b : List Inst) → list_all p (a ++ b) ≡ true → (list_all p a ≡ true) × (list_all p b ≡ true)
 all_parts p [] b h = (refl, h)
 all_parts p (i ∷ is) b h =
     let parts = and_parts (p i) (list_all p (is ++ b)) h in

@@ -32,22 +32,22 @@ use Rattle.rsp_microcode.proofs.Kept.{changed_is}
 use Rattle.rsp_microcode.proofs.Pieces.{pieces, places_run, placed, pieces_straight}
 
 -- places
-place_is : {X : Type 0} (xs : List X) (p : ℕ) → p < 4096 → place_after xs p ≡ (p + 4 * length xs) % 4096
+pub place_is : {X : Type 0} (xs : List X) (p : ℕ) → p < 4096 → place_after xs p ≡ (p + 4 * length xs) % 4096
 place_is [] p h = omega arith
 place_is (x ∷ xs) p h = place_is xs (going_on p) (omega arith) ∙ omega arith
 
 -- the branch: it goes back to a place p from a slot n words behind it
-back_to : (p q n : ℕ) → p < 4096 → 0 < n → n < 1001 → q ≡ (p + 4 * n) % 4096 → branch_target q (65536 - n) ≡ p
+pub back_to : (p q n : ℕ) → p < 4096 → 0 < n → n < 1001 → q ≡ (p + 4 * n) % 4096 → branch_target q (65536 - n) ≡ p
 back_to p q n h z m e =
     let back : s16 (65536 - n) ≡ negsuc (n - 1) = s16_large (65536 - n) (n - 1) (omega arith) (omega arith) in
     let r = int_rem_euclid_is (pos q +ℤ (pos 4 *ℤ s16 (65536 - n))) (pos 4096) 4096 1 (q + (4096 - 4 * n)) (omega arith) refl (rw back (omega (arith, ints))) in
     ap unsigned_abs r ∙ omega arith
 
 -- the places after a branch that leads back, and its slot
-abbrev goes : Bool → ℕ → ℕ → ℕ
+abbrev pub goes : Bool → ℕ → ℕ → ℕ
 goes b q n = if b then branch_target q (65536 - n) else going_on q
 
-turned : (i : Inst) (n : ℕ) (s : State) → leads_back i n ≡ true → executed i s ≡ record s { pc = s.npc; npc = goes (is_taken i s.registers) s.npc n }
+pub turned : (i : Inst) (n : ℕ) (s : State) → leads_back i n ≡ true → executed i s ≡ record s { pc = s.npc; npc = goes (is_taken i s.registers) s.npc n }
 unfolding executed worked jumps
 turned (BranchEqual row rs rt offset) n s h = let e : offset ≡ 65536 - n = grind (arith, nat_tests) in rw e refl
 turned (BranchSign Bltz rs offset) n s h = let e : offset ≡ 65536 - n = grind (arith, nat_tests) in rw e refl

@@ -331,6 +331,7 @@ send_runs words memory image size decoded s ok at row inside =
     subst (λ (t : State). Sends words s t a d n) (sym run.0) (record {
       bytes = λ i h. ap (λ (y : State). image_byte y.rdram (d + i)) final ∙ byte_out (row_bytes n) a d i s.dmem s.rdram inside (omega arith) h;
       outside = λ y k h. ap (λ (z : State). image_byte z.rdram y) final ∙ outside_out (row_bytes n) a d y s.dmem s.rdram (omega arith) k h;
+      count = ap (λ (z : State). length z.rdram) final ∙ length_out (row_bytes n) a d s.dmem s.rdram;
       ranges = subst IsState (sym final) (rdram_kept _ _ (image_out (row_bytes n) a d s.dmem s.rdram ok.dmem ok.rdram) (row_kept a d n s row ok));
       at = λ ws stand. follows words ws s x run.1 stand;
       others = put s x _ _ _ _ _ _ final run.1.pc run.1.npc;

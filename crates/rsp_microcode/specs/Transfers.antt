@@ -42,6 +42,7 @@ pub record Fetches (words : List ℕ) (s t : State) (a image_address size : ℕ)
 pub record Sends (words : List ℕ) (s t : State) (a image_address size : ℕ) : Type 0 where
   pub bytes : (i : ℕ) → i < row_bytes size → image_byte t.rdram (image_address + i) ≡ byte_at s.dmem (a + i)
   pub outside : (x : ℕ) → x < 16777216 → (x < image_address) ⊎ (image_address + row_bytes size ≤ x) → image_byte t.rdram x ≡ image_byte s.rdram x
+  pub count : length t.rdram ≡ length s.rdram
   pub ranges : IsState t
   pub at : (ws : List ℕ) → Stand ws (place_after words s.pc) s.imem → IsAt ws t
   pub others : t ≡ record s { pc = place_after words s.pc; npc = place_after words s.npc; rdram = t.rdram; sp = t.sp }

@@ -13,7 +13,7 @@ ghost use Rattle.rsp_microcode.specs.Loads.{RunsOfLoads};
 ghost use Rattle.rsp_microcode.specs.Multiplies.{SumsOfMultiplies};
 ghost use Rattle.rsp_microcode.specs.Ranges.{RangesKept};
 ghost use Rattle.rsp_microcode.specs.Reads.{ByteReads, LaneReads, LanesReads, OthersRead, ScalarReads, VectorReads, WordReads};
-ghost use Rattle.rsp_microcode.specs.Reciprocals.{Reciprocals};
+ghost use Rattle.rsp_microcode.specs.Reciprocals.{Reciprocals, Roots};
 ghost use Rattle.rsp_microcode.specs.Runs.{BranchRuns, StepsOver, StraightRuns};
 ghost use Rattle.rsp_microcode.specs.Transfers.{FetchRuns, SendRuns};
 
@@ -70,6 +70,11 @@ pub fn fixed_numbers()
 /// Reciprocals: what VRCPH, VRCPL and VRCPH leave is the table's reciprocal, as a fixed-point number.
 pub fn reciprocals()
     ensures { Reciprocals }
+{}
+
+/// Inverse square roots: what VRSQH, VRSQL and VRSQH leave is the table's, as a fixed-point number.
+pub fn roots()
+    ensures { Roots }
 {}
 
 /// A vector register after writes holds what was last written to it.

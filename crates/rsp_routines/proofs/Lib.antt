@@ -1,10 +1,15 @@
 pub mod Multiplying
 pub mod Transforms
+pub mod NewtonBound
 pub mod NewtonStep
+pub mod RootEstimates
+pub mod RootBound
+pub mod RootStep
 pub mod Bytes
 pub mod Saving
 pub mod Tailed
 pub mod Copies
+pub mod Estimates
 pub mod Fills
 pub mod MixesSound
 pub mod Products
@@ -17,3 +22,4 @@ pub mod ClipsNumbers
 pub mod Tails
 pub mod DotSums
 pub mod DotsBuffers
+pub mod BlockCopies

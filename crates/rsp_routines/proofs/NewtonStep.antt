@@ -6,6 +6,7 @@ use Rattle.rsp_numbers.specs.Numbers.{s48}
 use Rattle.rsp_numbers.proofs.Wrap.{s48_is}
 use Rattle.rsp_decode.specs.Table.Words.{inst_of, row_of}
 use Rattle.rsp_decode.specs.declared.vector.MultiplyRow.TheVariants.{Vmudl, Vmudh, Vmadm, Vmadn, Vmadh}
+use Rattle.rsp_divide.specs.Quotients.{reciprocal_of}
 use Rattle.rsp_lanes.specs.Lanes.{each_lane, selected, IsVector}
 use Rattle.rsp_lanes.proofs.Kit.{lane_of}
 use Rattle.rsp_multiply.specs.Laws.{SumsOfProducts}
@@ -19,7 +20,8 @@ use Rattle.rsp_microcode.specs.Multiplies.{Term, term, summed, sum_writes}
 use Rattle.rsp_microcode.specs.Pieces.{Piece, sums, rows, code_of, after_pieces}
 use Rattle.rsp_microcode.specs.Fixed.{fixed, limited, fixed_product, plus_times}
 use Rattle.rsp_microcode.specs.Reciprocals.{reciprocal_code}
-use Rattle.rsp_routines.specs.Newton.{improved, HasConstants, ImprovesReciprocal}
+use Rattle.rsp_routines.specs.Newton.{improved, IsHalfReciprocal, HasConstants, ImprovesReciprocal}
+use Rattle.rsp_routines.proofs.NewtonBound.{near_reciprocal}
 use Rattle.rsp_microcode.proofs.Registers.{vector_reads}
 use Rattle.rsp_microcode.proofs.Frames.{vectors_spared}
 use Rattle.rsp_microcode.proofs.Pieces.{pieces, places_run, pieces_run}
@@ -105,8 +107,13 @@ improves law s is at zero const =
     let u1 : vector u.vectors 1 ≡ vector s.vectors 1 = kept 1 refl in
     let u2 : vector u.vectors 2 ≡ vector s.vectors 2 = kept 2 refl in
     let estimate = reciprocals 3 4 1 2 0 s is (omega arith) (omega arith) (omega arith) (omega arith) u refl in
+    let x = fixed (vector s.vectors 1) (vector s.vectors 2) 0 in
+    let range = fixed_range (vector s.vectors 1) (vector s.vectors 2) 0 (is.vectors.registers 1 (omega arith)) (is.vectors.registers 2 (omega arith)) in
+    let result : fixed (vector (steps_of 17 s).vectors 11) (vector (steps_of 17 s).vectors 12) 0 ≡ improved x (reciprocal_of x) =
+    from_estimate law u run.1 (places.1 ∙ ap going_on (sym places.0)) (kept 0 refl ∙ zero) (subst HasConstants (sym (kept 8 refl)) const) (steps_of 17 s) end.ran
+    ∙ rw (u1, u2) (ap (improved x) estimate) in
     record {
-      reciprocal = from_estimate law u run.1 (places.1 ∙ ap going_on (sym places.0)) (kept 0 refl ∙ zero) (subst HasConstants (sym (kept 8 refl)) const) (steps_of 17 s) end.ran
-          ∙ rw (u1, u2) (ap (improved (fixed (vector s.vectors 1) (vector s.vectors 2) 0)) estimate);
+      reciprocal = result;
+      bound = λ other. subst (IsHalfReciprocal x) (sym result) (near_reciprocal x range.0 range.1 other);
       others = end.others [] (3 ∷ 4 ∷ 5 ∷ 6 ∷ 9 ∷ 10 ∷ 11 ∷ 12 ∷ []) refl;
     }

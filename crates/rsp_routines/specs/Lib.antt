@@ -2,6 +2,7 @@
 pub mod FixedProduct
 pub mod Transform
 pub mod Newton
+pub mod SquareRoot
 pub mod Areas
 pub mod Copying
 pub mod Filling
@@ -11,3 +12,4 @@ pub mod Resampling
 pub mod DotProduct
 pub mod ClipCodes
 pub mod DotBuffers
+pub mod BlockCopies

@@ -1,5 +1,5 @@
 -- The reciprocal of a fixed-point number: from the table, and better by one step of Newton's method.
-use Rattle.std.specs.Prelude.{ℕ, ℤ, pos, ◌≡◌, ◌-ℤ◌, ◌*ℤ◌, ◌++◌, List, [], ◌∷◌, codes, slice_index}
+use Rattle.std.specs.Prelude.{ℕ, ℤ, pos, ◌≡◌, ◌≢◌, ◌≤◌, ◌+◌, ◌*◌, ◌-ℤ◌, ◌*ℤ◌, ◌++◌, List, [], ◌∷◌, codes, slice_index, unsigned_abs}
 use Rattle.rsp_divide.specs.Quotients.{reciprocal_of}
 use Rattle.rsp_lanes.specs.Lanes.{each_lane}
 use Rattle.rsp_loadstore.specs.File.{vector}
@@ -36,15 +36,21 @@ text =
 abbrev pub improved : ℤ → ℤ → ℤ
 improved x q = fixed_product q (limited (pos 131072 -ℤ pos 2 *ℤ fixed_product x q))
 
+-- How near r is to 2^31 / x, which is one half of 1 / x: r x differs from 2^31 by no more than 2^16 and twice the size of x.
+abbrev pub IsHalfReciprocal : ℤ → ℤ → Type 0
+IsHalfReciprocal x r = unsigned_abs (r *ℤ x -ℤ pos 2147483648) ≤ 65536 + 2 * unsigned_abs x
+
 -- the constants of the step
 pub record HasConstants (v : List ℕ) : Type 0 where
   pub two : slice_index v 0 ≡ 2
   pub one : slice_index v 1 ≡ 1
   pub minus_two : slice_index v 2 ≡ 65534
 
--- what the seventeen steps from s to t do with the number x: the step from the table's reciprocal, exactly, and nothing else
+-- what the seventeen steps from s to t do with the number x: the step from the table's reciprocal, exactly, how near that is, and
+-- nothing else
 pub record Improves (words : List ℕ) (s t : State) (x : ℤ) : Type 0 where
   pub reciprocal : fixed (vector t.vectors 11) (vector t.vectors 12) 0 ≡ improved x (reciprocal_of x)
+  pub bound : x ≢ pos 0 → IsHalfReciprocal x (fixed (vector t.vectors 11) (vector t.vectors 12) 0)
   pub others : t ≡ record s {
     pc = place_after words s.pc;
     npc = place_after words s.npc;

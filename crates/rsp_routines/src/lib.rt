@@ -4,6 +4,7 @@
 //! what steps over them do, from every state that meets the premises.
 #![tactic(auto)]
 
+mod blocks;
 mod buffer_dots;
 mod clipping;
 mod copying;
@@ -13,10 +14,12 @@ mod four_taps;
 mod newton;
 mod product;
 mod resampling;
+mod roots;
 mod running;
 mod sound_mixing;
 mod transforming;
 
+pub use blocks::copy_blocks;
 pub use buffer_dots::dot_buffers;
 pub use clipping::clip_codes;
 pub use copying::copy_bytes;
@@ -26,6 +29,7 @@ pub use four_taps::filter_sound;
 pub use newton::improve_reciprocal;
 pub use product::multiply_fixed;
 pub use resampling::resample;
+pub use roots::square_root;
 pub use running::{multiply, ready};
 pub use sound_mixing::mix_sound;
 pub use transforming::transform;
