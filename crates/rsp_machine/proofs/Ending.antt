@@ -13,20 +13,20 @@ use Rattle.rsp_machine.specs.Step.{computes, loads, stores, jumps, worked, execu
 use Rattle.rsp_machine.specs.declared.step.StepEnd.TheVariants.{Done, Halted, Reserved}
 use Rattle.rsp_machine.specs.Transfers.{starts_dma_in, starts_dma_at}
 use Rattle.rsp_machine.specs.declared.change.Change.TheVariants as of
-use Rattle.rsp_machine.specs.Saved.{Saved, change_of, record_after, starts_dma, is_length, is_back_by, can_undo, may_store, undone}
-use Rattle.rsp_machine.specs.Changes.{reaches_sp, reach_of, IsRanged}
+use Rattle.rsp_machine.specs.Saved.{change_of, is_length, is_back, changes_memory}
+use Rattle.rsp_machine.specs.Changes.{reaches_sp}
 use Rattle.rsp_machine.specs.Until.{may_store_by, may_store_at}
-use Rattle.rsp_machine.specs.declared.change.Reach.{Reach}
-use Rattle.rsp_machine.proofs.Saving.{record_back, memory_stays}
+use Rattle.rsp_machine.specs.declared.change.Change.{Change}
+use Rattle.rsp_machine.proofs.Saving.{dma_of}
 
--- what an instruction, where there is one, may have reached; and the state after it
-abbrev pub reached : State → Option Inst → Option Reach
-reached s o = option_map (λ i. reach_of (change_of i s)) o
+-- what an instruction changes, if there is one; and the state after it
+abbrev pub reached : State → Option Inst → Option Change
+reached s o = option_map (λ i. change_of i s) o
 
 abbrev pub after : State → Option Inst → State
 after s o = unwrap_or (option_map (λ i. executed i s) o) s
 
--- an instruction that doesn't reach the SP registers leaves them, and starts no DMA
+-- an instruction that doesn't reach the SP registers leaves them
 dma_reaches : (b : Bool) (X : Type 0) → reaches_sp (if b then of.Dma else of.Sp 0) ≡ false → X
 dma_reaches true X h = cc
 dma_reaches false X h = cc
@@ -42,32 +42,30 @@ leaves (MoveControl From rt control) s h = refl
 leaves (MoveControl To rt control) s h = refl
 leaves _ s h = refl
 
-not_reached : (d e : Reach) → Some d ≡ Some e → e.sp ≡ false → d.sp ≡ false
-not_reached d e h none = let same : d ≡ e = cc in ap (λ (x : Reach). x.sp) same ∙ none
+some_is : {X : Type 0} (x y : X) → Some x ≡ Some y → x ≡ y
+some_is x y e = cc
 
-no_transfer : (i : Inst) (s : State) → reaches_sp (change_of i s) ≡ false → starts_dma i ≡ false
-unfolding change_of
-no_transfer (MoveSp From rt n) s h = refl
-no_transfer (MoveSp To rt n) s h = dma_reaches (is_length n) (starts_dma (MoveSp To rt n) ≡ false) h
-no_transfer _ s h = refl
-
-pub stays : (o : Option Inst) (s t : State) (e : Reach) → e.sp ≡ false → Some e ≡ reached s o → t ≡ after s o → t.sp ≡ s.sp
+pub stays : (o : Option Inst) (s t : State) (e : Change) → reaches_sp e ≡ false → Some e ≡ reached s o → t ≡ after s o → t.sp ≡ s.sp
 stays None s t e none h there = cc
-stays (Some i) s t e none h there = ap (λ (x : State). x.sp) there ∙ leaves i s (not_reached (reach_of (change_of i s)) e (sym h) none)
+stays (Some i) s t e none h there = ap (λ (x : State). x.sp) there ∙ leaves i s (ap reaches_sp (sym (some_is _ _ h)) ∙ none)
 
 pub halted_as : (s t : State) → s.sp.halted ≡ false → t.sp ≡ s.sp → false ≡ t.sp.halted
 halted_as s t h e = sym (ap (λ (p : Sp). p.halted) e ∙ h)
 
-leads_back : (o : Option Inst) (s : State) (e : Reach) → e.sp ≡ false → Some e ≡ reached s o → is_back_by o ≡ true
-leads_back None s e none h = cc
-leads_back (Some i) s e none h = ap not (no_transfer i s (not_reached (reach_of (change_of i s)) e (sym h) none))
+-- the change says whether a DMA started, and whether the instruction may have stored
+dma_by : (o : Option Inst) (s : State) (e : Change) → Some e ≡ reached s o → is_back e ≡ not (starts_dma_in o)
+dma_by None s e h = cc
+dma_by (Some i) s e h = ap is_back (some_is _ _ h) ∙ dma_of i s
 
--- and whether it may have stored
-stored_by : (o : Option Inst) (s : State) (e : Reach) → Some e ≡ reached s o → e.dmem ≡ may_store_by o s
+pub dma-as : (w : ℕ) (s : State) (e : Change) → w ≡ word_at s.imem s.pc → Some e ≡ reached s (inst_of w) → is_back e ≡ not (starts_dma_at s)
+unfolding starts_dma_at
+dma-as w s e is h = dma_by (inst_of w) s e h ∙ ap (λ v. not (starts_dma_in (inst_of v))) is
+
+stored_by : (o : Option Inst) (s : State) (e : Change) → Some e ≡ reached s o → changes_memory e ≡ may_store_by o s
 stored_by None s e h = cc
-stored_by (Some i) s e h = let same : e ≡ reach_of (change_of i s) = cc in ap (λ (x : Reach). x.dmem) same
+stored_by (Some i) s e h = ap changes_memory (some_is _ _ h)
 
-pub stored-as : (w : ℕ) (s : State) (e : Reach) → w ≡ word_at s.imem s.pc → Some e ≡ reached s (inst_of w) → e.dmem ≡ may_store_at s
+pub stored-as : (w : ℕ) (s : State) (e : Change) → w ≡ word_at s.imem s.pc → Some e ≡ reached s (inst_of w) → changes_memory e ≡ may_store_at s
 unfolding may_store_at
 stored-as w s e is h = stored_by (inst_of w) s e h ∙ ap (λ v. may_store_by (inst_of v) s) is
 
@@ -106,17 +104,6 @@ pub step_halted : (s : State) → s.sp.halted ≡ true → step_of s ≡ (Halted
 unfolding step_of
 step_halted s h = halted_by s.sp.halted (inst_of (word_at s.imem s.pc)) (word_at s.imem s.pc) s h
 
--- a step can be undone exactly where it is Done and starts no DMA
-undo_by : (b : Bool) (o : Option Inst) (w : ℕ) (s : State) → (if b then (Halted, s) else step_by o w s).0 ≡ Done
-    → (if b then false else is_back_by o) ≡ not (starts_dma_in o)
-undo_by true o w s e = cc
-undo_by false None w s e = cc
-undo_by false (Some i) w s e = refl
-
-pub undo-done : (s : State) → (step_of s).0 ≡ Done → can_undo s ≡ not (starts_dma_at s)
-unfolding can_undo step_of starts_dma_at
-undo-done s e = undo_by s.sp.halted (inst_of (word_at s.imem s.pc)) (word_at s.imem s.pc) s e
-
 -- a step of a machine that isn't halted
 running : (b : Bool) (o : Option Inst) (w : ℕ) (s : State) → b ≡ false → (if b then (Halted, s) else step_by o w s) ≡ step_by o w s
 running true o w s h = cc
@@ -126,7 +113,7 @@ reserved : (o : Option Inst) (w : ℕ) (s t : State) → reached s o ≡ None �
 reserved None w s t h e = ap (λ (x : State). (Reserved w, x)) (sym e)
 reserved (Some i) w s t h e = cc
 
-done : (o : Option Inst) (w : ℕ) (s t : State) (e : Reach) → reached s o ≡ Some e → t ≡ after s o → step_by o w s ≡ (Done, singled t)
+done : (o : Option Inst) (w : ℕ) (s t : State) (e : Change) → reached s o ≡ Some e → t ≡ after s o → step_by o w s ≡ (Done, singled t)
 done None w s t e h there = cc
 done (Some i) w s t e h there = ap (λ (x : State). (Done, singled x)) (sym there)
 
@@ -135,22 +122,7 @@ pub step_reserved : (w : ℕ) (s t : State) → s.sp.halted ≡ false → w ≡ 
 unfolding step_of
 step_reserved w s t h e r there = rw (← e) (running s.sp.halted (inst_of w) w s h ∙ reserved (inst_of w) w s t (sym r) there)
 
-pub step_done : (w : ℕ) (s t : State) (e : Reach) → s.sp.halted ≡ false → w ≡ word_at s.imem s.pc → Some e ≡ reached s (inst_of w) → t ≡ after s (inst_of w)
+pub step_done : (w : ℕ) (s t : State) (e : Change) → s.sp.halted ≡ false → w ≡ word_at s.imem s.pc → Some e ≡ reached s (inst_of w) → t ≡ after s (inst_of w)
     → step_of s ≡ (Done, singled t)
 unfolding step_of
 step_done w s t e h is r there = rw (← is) (running s.sp.halted (inst_of w) w s h ∙ done (inst_of w) w s t e (sym r) there)
-
--- and whether it leads back
-undo_running : (b : Bool) (o : Option Inst) → b ≡ false → (if b then false else is_back_by o) ≡ is_back_by o
-undo_running true o h = cc
-undo_running false o h = refl
-
-pub undo_free : (w : ℕ) (s : State) (e : Reach) → s.sp.halted ≡ false → w ≡ word_at s.imem s.pc → e.sp ≡ false → Some e ≡ reached s (inst_of w) → can_undo s ≡ true
-unfolding can_undo
-undo_free w s e h is none r = rw (← is) (undo_running s.sp.halted (inst_of w) h ∙ leads_back (inst_of w) s e none r)
-
-pub back : (s t : State) (r q : Saved) → IsRanged s → q ≡ record_after s r → t ≡ (step_of s).1 → can_undo s ≡ true → undone q t ≡ s
-back s t r q ranged same there u = rw (same, there) (record_back s r ranged u)
-
-pub memory : (s t : State) (r q : Saved) → q ≡ record_after s r → t ≡ (step_of s).1 → (step_of s).0 ≡ Done → may_store q ≡ false → t.dmem ≡ s.dmem
-memory s t r q same there e none = ap (λ (x : State). x.dmem) there ∙ memory_stays s r e (ap may_store (sym same) ∙ none)

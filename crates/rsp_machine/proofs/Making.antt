@@ -1,6 +1,6 @@
 -- Steps that are made one by one.
 use Rattle.std.proofs.Common.{◌≡◌, ◌≢◌, inl, inr, ℕ, zero, suc, ◌+◌, ◌-◌, ◌<◌, ◌≤◌, Bool, true, false, List, [], ◌∷◌, length, set, get_or, refl, sym, ap, subst, ◌∙◌, arith, Option, Some, None}
-use Rattle.std.specs.Prelude.{if◌then◌else◌, not, ◌||◌, ◌&&◌, ◌⊎◌, slice_get, option_map}
+use Rattle.std.specs.Prelude.{if◌then◌else◌, not, ◌||◌, ◌&&◌, ◌⊎◌, slice_get}
 use Rattle.std.proofs.lemmas.Bool.{cases_lt}
 use Rattle.std.proofs.lemmas.List.{length-set, set-get_or}
 use Rattle.rsp_decode.specs.declared.inst.Inst.{Inst}
@@ -10,15 +10,16 @@ use Rattle.rsp_machine.specs.State.{State}
 use Rattle.rsp_machine.specs.Places.{Places, at_places}
 use Rattle.rsp_machine.specs.Step.{singled, step_by, step_of}
 use Rattle.rsp_machine.specs.Laws.{steps_of, done_steps, done_of}
-use Rattle.rsp_machine.specs.Saved.{told_by, told_of}
-use Rattle.rsp_machine.specs.Changes.{IsRanged}
-use Rattle.rsp_machine.specs.Making.{IsMade, IsEach, IsTold, GoesOn, AreTold, IsEnd}
+use Rattle.rsp_machine.specs.Saved.{told_by, told_of, is_back, changes_memory}
+use Rattle.rsp_machine.specs.Transfers.{starts_dma_at}
+use Rattle.rsp_machine.specs.Changes.{IsRanged, reaches_sp}
+use Rattle.rsp_machine.specs.Making.{IsMade, IsEach, IsTold, AreTold, IsEnd}
 use Rattle.rsp_machine.specs.declared.change.Change.{Change}
+use Rattle.rsp_machine.specs.declared.change.Change.TheVariants as of
 use Rattle.rsp_machine.specs.declared.step.StepEnd.{StepEnd}
 use Rattle.rsp_machine.specs.declared.step.StepEnd.TheVariants.{Done, Halted, Reserved}
 use Rattle.rsp_machine.specs.Until.{may_store_at, ends_after}
-use Rattle.rsp_machine.specs.declared.change.Reach.{Reach}
-use Rattle.rsp_machine.proofs.Ending.{reached, after, stays, free, clear_as, clear_behind, halted_as, stored-as, step_halted, step_reserved, step_done}
+use Rattle.rsp_machine.proofs.Ending.{reached, after, stays, free, clear_as, clear_behind, halted_as, stored-as, dma-as, step_halted, step_reserved, step_done}
 
 -- no step, and one more
 pub made-none : (k : ℕ) (s t : State) → k ≡ 0 → t ≡ s → IsMade k s t
@@ -95,36 +96,40 @@ stuck_done_all k n s t m h e =
     let there = ap (λ (x : State). done_of (n - k) x) (sym m.state) in
     omega (arith, rest, done_add k (n - k) s, there, stuck_done (n - k) t e, m.done)
 
+pub not_back : (b d : Bool) → b ≡ not d → not b ≡ d
+not_back b true e = ap not e
+not_back b false e = ap not e
+
 -- What execute answers and leaves, of a machine s that isn't halted.
-pub record IsExecuted (w : ℕ) (s t : State) (r : Option Reach) : Type 0 where
+pub record IsExecuted (w : ℕ) (s t : State) (r : Option Change) : Type 0 where
   pub goes : s.sp.halted ≡ false
   pub word : w ≡ word_at s.imem s.pc
   pub answer : r ≡ reached s (inst_of w)
   pub state : t ≡ after s (inst_of w)
 
-pub executed-as : (w : ℕ) (p q : Places) (l v : State) (r : Option Reach) → l.sp.halted ≡ false → w ≡ word_at l.imem p.pc → r ≡ reached (at_places p l) (inst_of w)
+pub executed-as : (w : ℕ) (p q : Places) (l v : State) (r : Option Change) → l.sp.halted ≡ false → w ≡ word_at l.imem p.pc → r ≡ reached (at_places p l) (inst_of w)
     → at_places q v ≡ after (at_places p l) (inst_of w) → IsExecuted w (at_places p l) (at_places q v) r
 executed-as w p q l v r goes word answer state = record { goes = goes; word = word; answer = answer; state = state }
 
 -- and in which state the step then ends
-pub record IsTurn (w : ℕ) (s t u : State) (r : Option Reach) (e : Reach) (single : Bool) : Type 0 where
+pub record IsTurn (w : ℕ) (s t u : State) (r : Option Change) (e : Change) (single : Bool) : Type 0 where
   pub executed : IsExecuted w s t r
   pub some : r ≡ Some e
   pub clear : single ≡ false → s.sp.single_step ≡ false
-  pub ended : u ≡ (if e.sp || single then singled t else t)
+  pub ended : u ≡ (if reaches_sp e || single then singled t else t)
 
 ended_at : (b : Bool) (p : Places) (s t : State) → s ≡ (if b then singled t else t) → at_places p s ≡ (if b then singled (at_places p t) else at_places p t)
 ended_at true p s t e = ap (at_places p) e
 ended_at false p s t e = ap (at_places p) e
 
-pub turn-of : (w : ℕ) (p q : Places) (l v m : State) (r : Option Reach) (e : Reach) (single : Bool) → l.sp.halted ≡ false → w ≡ word_at l.imem p.pc → r ≡ reached (at_places p l) (inst_of w)
-    → at_places q v ≡ after (at_places p l) (inst_of w) → r ≡ Some e → (single ≡ false → l.sp.single_step ≡ false) → m ≡ (if e.sp || single then singled v else v)
+pub turn-of : (w : ℕ) (p q : Places) (l v m : State) (r : Option Change) (e : Change) (single : Bool) → l.sp.halted ≡ false → w ≡ word_at l.imem p.pc → r ≡ reached (at_places p l) (inst_of w)
+    → at_places q v ≡ after (at_places p l) (inst_of w) → r ≡ Some e → (single ≡ false → l.sp.single_step ≡ false) → m ≡ (if reaches_sp e || single then singled v else v)
     → IsTurn w (at_places p l) (at_places q v) (at_places q m) r e single
 turn-of w p q l v m r e single goes word answer state some clear ended = record {
   executed = record { goes = goes; word = word; answer = answer; state = state };
   some = some;
   clear = clear;
-  ended = ended_at (e.sp || single) q m v ended;
+  ended = ended_at (reaches_sp e || single) q m v ended;
 }
 
 ended_by : (a b : Bool) (t u : State) → u ≡ (if a || b then singled t else t) → ((a ≡ false) × (b ≡ false) → t ≡ singled t) → singled t ≡ u
@@ -132,7 +137,7 @@ ended_by true b t u e same = sym e
 ended_by false true t u e same = sym e
 ended_by false false t u e same = sym (same (refl, refl)) ∙ sym e
 
--- whether the loop goes on after it, by whether the machine is halted then and what the saver says
+-- whether the loop goes on after it, by whether the machine is halted then, and whether a DMA ends the loop
 pub goes-by : (a b halted goes r : Bool) → r ≡ (not (a || b) || not halted && goes) → r ≡ true → ((a ≡ false) × (b ≡ false)) ⊎ ((halted ≡ false) × (goes ≡ true))
 goes-by true b true goes r e t = cc
 goes-by true b false goes r e t = inr (refl, sym e ∙ t)
@@ -147,33 +152,50 @@ stops-by false true true goes r e f = inl refl
 stops-by false true false goes r e f = inr (sym e ∙ f)
 stops-by false false halted goes r e f = cc
 
-module _ (w : ℕ) (s t u : State) (r : Option Reach) (e : Reach) (single : Bool) (h : IsTurn w s t u r e single) where
+back_free : (e : Change) → reaches_sp e ≡ false → is_back e ≡ true
+back_free of.Dma h = cc
+back_free _ h = refl
+
+pub no-dma : (e : Change) (single at_dma halted dma : Bool) → ((reaches_sp e ≡ false) × (single ≡ false)) ⊎ ((halted ≡ false) × ((not at_dma || is_back e) ≡ true))
+    → is_back e ≡ not dma → at_dma ≡ true → dma ≡ false
+no-dma e single true halted dma (inl none) is at = sym (not_back _ dma is) ∙ ap not (back_free e none.0)
+no-dma e single true halted dma (inr on) is at = sym (not_back _ dma is) ∙ ap not on.1
+no-dma e single false halted dma goes is at = cc
+
+pub a-dma : (e : Change) (at_dma dma : Bool) → (not at_dma || is_back e) ≡ false → is_back e ≡ not dma → (at_dma ≡ true) × (dma ≡ true)
+a-dma e true dma stops is = (refl, sym (not_back _ dma is) ∙ ap not stops)
+a-dma e false dma stops is = cc
+
+module _ (w : ℕ) (s t u : State) (r : Option Change) (e : Change) (single : Bool) (h : IsTurn w s t u r e single) where
   turn_answer : Some e ≡ reached s (inst_of w)
   turn_answer = sym h.some ∙ h.executed.answer
 
   -- an instruction that doesn't reach the SP registers leaves them, and single step halts nothing where it is clear
-  turn_free : (e.sp ≡ false) × (single ≡ false) → t ≡ singled t
+  turn_free : (reaches_sp e ≡ false) × (single ≡ false) → t ≡ singled t
   turn_free none =
       let same = stays (inst_of w) s t e none.0 turn_answer h.executed.state in
       free s t h.executed.goes same (clear_as s t (h.clear none.1) same)
 
   turn_ended : singled t ≡ u
-  turn_ended = ended_by e.sp single t u h.ended turn_free
+  turn_ended = ended_by (reaches_sp e) single t u h.ended turn_free
 
-  turn_same : (e.sp ≡ false) × (single ≡ false) → u.sp ≡ s.sp
+  turn_same : (reaches_sp e ≡ false) × (single ≡ false) → u.sp ≡ s.sp
   turn_same none = ap (λ (x : State). x.sp) (sym turn_ended ∙ sym (turn_free none)) ∙ stays (inst_of w) s t e none.0 turn_answer h.executed.state
 
   pub turn-done : step_of s ≡ (Done, u)
   turn-done = step_done w s t e h.executed.goes h.executed.word turn_answer h.executed.state ∙ ap (λ (x : State). (Done, x)) turn_ended
 
-  pub turn-running : ((e.sp ≡ false) × (single ≡ false)) ⊎ (u.sp.halted ≡ false) → u.sp.halted ≡ false
+  pub turn-running : ((reaches_sp e ≡ false) × (single ≡ false)) ⊎ (u.sp.halted ≡ false) → u.sp.halted ≡ false
   turn-running (inl none) = sym (halted_as s u h.executed.goes (turn_same none))
   turn-running (inr running) = running
 
   pub turn-clear : u.sp.halted ≡ false → u.sp.single_step ≡ false
   turn-clear running = clear_behind t u (sym turn_ended) running
 
-  pub turn-ends : (ends : ℕ → ℕ → Bool → Bool) (v : ℕ) → v ≡ word_at u.imem u.pc → ends_after ends s ≡ ends u.pc v e.dmem
+  pub turn-dma : is_back e ≡ not (starts_dma_at s)
+  turn-dma = dma-as w s e h.executed.word turn_answer
+
+  pub turn-ends : (ends : ℕ → ℕ → Bool → Bool) (v : ℕ) → v ≡ word_at u.imem u.pc → ends_after ends s ≡ ends u.pc v (changes_memory e)
   unfolding ends_after
   turn-ends ends v is =
       ap (λ (x : State). ends x.pc (word_at x.imem x.pc) (may_store_at s)) (ap (λ x. x.1) turn-done)
@@ -185,7 +207,7 @@ unreached : (o : Option Inst) (s : State) → None ≡ reached s o → after s o
 unreached None s h = refl
 unreached (Some i) s h = cc
 
-pub executed-none : (w : ℕ) (s t : State) (r : Option Reach) → IsExecuted w s t r → r ≡ None → (t ≡ s) × (step_of s ≡ (Reserved w, t))
+pub executed-none : (w : ℕ) (s t : State) (r : Option Change) → IsExecuted w s t r → r ≡ None → (t ≡ s) × (step_of s ≡ (Reserved w, t))
 executed-none w s t r h is =
     let answer = sym is ∙ h.answer in (
       h.state ∙ unreached (inst_of w) s answer,
@@ -200,12 +222,12 @@ pub made-as : (k j : ℕ) (s t u : State) → IsMade k s t → j ≡ k → u ≡
 made-as k j s t u m i e = rw (i, e) m
 
 -- one step, by how many were made
-done_few : (e : StepEnd) → done_steps e ≤ 1
+pub done_few : (e : StepEnd) → done_steps e ≤ 1
 done_few Done = omega arith
 done_few Halted = omega arith
 done_few (Reserved w) = omega arith
 
-was_done : (e : StepEnd) → done_steps e ≡ 1 → Done ≡ e
+pub was_done : (e : StepEnd) → done_steps e ≡ 1 → Done ≡ e
 was_done Done d = refl
 was_done Halted d = absurd (omega (arith, d))
 was_done (Reserved w) d = absurd (omega (arith, d))
@@ -254,22 +276,18 @@ ends-done k n s t m within stuck = elim (cases_lt k n) [
   | inr all ↦ all_done k n s t m (omega (arith, within, all))
 ]
 
--- if steps go on whatever was saved, no saver ends them
-some_goes : {K : Type 0} (o : Option K) → option_map (λ (k : K). true) o ≡ Some false → ⊥
-some_goes None e = cc
-some_goes (Some k) e = cc
-
-pub ends-freely : {K : Type 0} (k : ℕ) (s t : State) (ends : ℕ → ℕ → Bool → Bool) (o : Option K) → IsEnd (λ (x : K). true) ends k s t o
+-- steps that no DMA ends
+pub ends-freely : (k : ℕ) (s t : State) (ends : ℕ → ℕ → Bool → Bool) → IsEnd false ends k s t
     → (done_steps (step_of t).0 ≡ 0) ⊎ ((0 < k) × (ends_after ends (steps_of (k - 1) s) ≡ true))
-ends-freely k s t ends o (inl stuck) = inl stuck
-ends-freely k s t ends o (inr (some, inl last)) = absurd (some_goes o last)
-ends-freely k s t ends o (inr (some, inr ended)) = inr (some, ended)
+ends-freely k s t ends (inl stuck) = inl stuck
+ends-freely k s t ends (inr (some, inl last)) = absurd (let never : false ≡ true = last.0 in cc)
+ends-freely k s t ends (inr (some, inr ended)) = inr (some, ended)
 
-pub ends-stuck : {K : Type 0} (k : ℕ) (s t : State) (o : Option K) → IsEnd (λ (x : K). true) (λ pc word stored. false) k s t o → done_steps (step_of t).0 ≡ 0
+pub ends-stuck : (k : ℕ) (s t : State) → IsEnd false (λ pc word stored. false) k s t → done_steps (step_of t).0 ≡ 0
 unfolding ends_after
-ends-stuck k s t o (inl stuck) = stuck
-ends-stuck k s t o (inr (some, inl last)) = absurd (some_goes o last)
-ends-stuck k s t o (inr (some, inr ended)) = cc
+ends-stuck k s t (inl stuck) = stuck
+ends-stuck k s t (inr (some, inl last)) = absurd (let never : false ≡ true = last.0 in cc)
+ends-stuck k s t (inr (some, inr ended)) = cc
 
 -- what is in an entry that is written, and in the others
 slice_get-set_same : {X : Type 0} (xs : List X) (i : ℕ) (x : X) → i < length xs → slice_get (set xs i x) i ≡ Some x
@@ -300,20 +318,16 @@ told_nothing saves (Some i) s k h = cc
 pub told-reserved : {K : Type 0} (saves : Change → State → K → K) (w : ℕ) (s : State) (xs : List K) (j : ℕ) (d x : K) → None ≡ reached s (inst_of w) → x ≡ told_by saves (inst_of w) s (get_or xs j d) → set xs j x ≡ xs
 told-reserved saves w s xs j d x none e = ap (set xs j) (e ∙ told_nothing saves (inst_of w) s (get_or xs j d) none) ∙ set-get_or xs j d
 
--- whether steps go on after the one that was saved last
-pub goes-here : {K : Type 0} (goes : K → Bool) (slot : ℕ → ℕ) (k n j : ℕ) (xs : List K) (x : K) (b : Bool) → n ≡ k → j ≡ slot k → j < length xs → goes x ≡ b → option_map goes (slice_get (set xs j x) (slot n)) ≡ Some b
-goes-here goes slot k n j xs x b e at inside g = rw (e, ← at) (ap (option_map goes) (slice_get-set_same xs j x inside) ∙ ap Some g)
-
-module _ {K : Type 0} (saves : Change → State → K → K) (goes : K → Bool) (slot : ℕ → ℕ) where
-  pub told-none : (s : State) (old : List K) → AreTold saves goes slot 0 0 s old old
-  told-none s old = record { told = λ each i h. absurd (omega (arith, h)); on = λ each i h. absurd (omega (arith, h)); rest = λ j h. refl; len = refl }
+module _ {K : Type 0} (saves : Change → State → K → K) (slot : ℕ → ℕ) where
+  pub told-none : (s : State) (old : List K) → AreTold saves slot 0 s old old
+  told-none s old = record { told = λ each i h. absurd (omega (arith, h)); rest = λ j h. refl; len = refl }
 
   kept : (k j : ℕ) (xs : List K) (x : K) → IsEach slot → j ≡ slot k → (i : ℕ) → i < k → slice_get (set xs j x) (slot i) ≡ slice_get xs (slot i)
   kept k j xs x each at i l = slice_get-set_other xs (slot i) j x (λ e. let same : i ≡ k = each i k (e ∙ at) in absurd (omega (arith, l, same)))
 
   -- one step more, which was told in the next slot
-  told-more : (k j : ℕ) (s t : State) (old new : List K) (x before : K) → AreTold saves goes slot k k s old new → t ≡ steps_of k s → j ≡ slot k → j < length new
-      → x ≡ told_of saves t before → IsRanged t → AreTold saves goes slot (k + 1) k s old (set new j x)
+  told-more : (k j : ℕ) (s t : State) (old new : List K) (x before : K) → AreTold saves slot k s old new → t ≡ steps_of k s → j ≡ slot k → j < length new
+      → x ≡ told_of saves t before → IsRanged t → AreTold saves slot (k + 1) s old (set new j x)
   told-more k j s t old new x before a there at inside told ranged =
       let here : IsTold saves (steps_of k s) (slice_get (set new j x) (slot k)) = record {
         before = before;
@@ -327,31 +341,16 @@ module _ {K : Type 0} (saves : Change → State → K → K) (goes : K → Bool)
               let last : k ≡ i = omega (arith, r, h) in
               subst (λ (m : ℕ). IsTold saves (steps_of m s) (slice_get (set new j x) (slot m))) last here
         ];
-        on = λ each i h. subst (λ (o : Option K). GoesOn goes (steps_of i s) o) (sym (kept k j new x each at i h)) (a.on each i h);
         rest = λ i other. slice_get-set_other new i j x (λ e. other k (omega arith) (sym at ∙ sym e)) ∙ a.rest i (λ m l. other m (omega (arith, l)));
         len = length-set new j x ∙ a.len;
       }
 
   -- by a turn
-  pub turn-told : (w k j : ℕ) (o s t : State) (r : Option Reach) (old new : List K) (x before : K) → IsExecuted w s t r → IsMade k o s → AreTold saves goes slot k k o old new → j ≡ slot k → j < length new
-      → x ≡ told_by saves (inst_of w) s before → IsRanged s → AreTold saves goes slot (k + 1) k o old (set new j x)
+  pub turn-told : (w k j : ℕ) (o s t : State) (r : Option Change) (old new : List K) (x before : K) → IsExecuted w s t r → IsMade k o s → AreTold saves slot k o old new → j ≡ slot k → j < length new
+      → x ≡ told_by saves (inst_of w) s before → IsRanged s → AreTold saves slot (k + 1) o old (set new j x)
   turn-told w k j o s t r old new x before h run a at inside told ranged =
       told-more k j o s old new x before a run.state at inside (told-running saves w s before x h.goes h.word told) ranged
 
-  -- behind which steps go on
-  pub told-on : (k : ℕ) (s t : State) (old new : List K) → AreTold saves goes slot (k + 1) k s old new → t ≡ steps_of k s → GoesOn goes t (slice_get new (slot k)) → AreTold saves goes slot (k + 1) (k + 1) s old new
-  told-on k s t old new a there on = record {
-    told = a.told;
-    on = λ each i h. elim (cases_lt i k) [
-      | inl l ↦ a.on each i l
-      | inr r ↦
-          let last : k ≡ i = omega (arith, r, h) in
-          subst (λ (m : ℕ). GoesOn goes (steps_of m s) (slice_get new (slot m))) last (subst (λ (y : State). GoesOn goes y (slice_get new (slot k))) there on)
-    ];
-    rest = a.rest;
-    len = a.len;
-  }
-
-  -- the same, by numbers and slots that are equal
-  pub told-as : (k j n m : ℕ) (s : State) (old new now : List K) → AreTold saves goes slot k n s old new → j ≡ k → m ≤ n → now ≡ new → AreTold saves goes slot j m s old now
-  told-as k j n m s old new now a same fewer slots = rw (same, slots) (record { told = a.told; on = λ each i h. a.on each i (omega (arith, h, fewer)); rest = a.rest; len = a.len })
+  -- the same, by a number and slots that are equal
+  pub told-as : (k j : ℕ) (s : State) (old new now : List K) → AreTold saves slot k s old new → j ≡ k → now ≡ new → AreTold saves slot j s old now
+  told-as k j s old new now a same slots = rw (same, slots) a

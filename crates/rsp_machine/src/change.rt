@@ -2,8 +2,8 @@
 
 ghost use Rattle.std.specs.Prelude.{◌≡◌, ◌<◌};
 ghost use Rattle.rsp_decode.specs.Table.{IsInstruction};
-ghost use Rattle.rsp_machine.specs.Saved.{nameless, register_of, change_of};
-ghost use Rattle.rsp_machine.specs.Changes.{IsChange, reach_of};
+ghost use Rattle.rsp_machine.specs.Saved.{change_of, changes_memory, is_back};
+ghost use Rattle.rsp_machine.specs.Changes.{IsChange, reaches_sp};
 
 use crate::machine::Machine;
 use rsp_acc::Acc;
@@ -43,69 +43,29 @@ pub(crate) enum Change {
     Dma,
 }
 
-/// What an instruction may have reached, besides its registers.
-#[derive(Clone, Copy, Drop)]
-pub(crate) struct Reach {
-    /// Whether it may have read or written the SP registers.
-    pub(crate) sp: bool,
-    /// Whether it may have written DMEM.
-    pub(crate) dmem: bool,
-}
-
 impl Change {
-    /// The change as a record has it, without the register that [`change_of`] finds again by the row's word in IMEM.
+    /// Whether the instruction may have read or written the SP registers.
     #[inline(always)]
-    pub(crate) fn nameless(self) -> Change
-        requires { IsChange self }
-        ensures value { result ≡ nameless self }
-        ensures change { IsChange result }
+    pub(crate) fn reaches_sp(self) -> bool
+        ensures { result ≡ reaches_sp self }
     {
-        match self {
-            Change::Register(_) => Change::Register(0),
-            Change::Vector(_) => Change::Vector(0),
-            Change::Product(_) => Change::Product(0),
-            Change::Low(_) => Change::Low(0),
-            Change::Sum(_) => Change::Sum(0),
-            Change::Choice(_) => Change::Choice(0),
-            Change::Clip(_) => Change::Clip(0),
-            Change::Divide(_) => Change::Divide(0),
-            change => change,
-        }
+        matches!(self, Change::Sp(_) | Change::Dma)
     }
 
-    /// The number, below 32, of the register that [`Change::nameless`] leaves out; 0 where it leaves out none.
-    pub(crate) fn register(self) -> u8
-        requires { IsChange self }
-        ensures value { result ≡ register_of self }
-        ensures bound { result < 32 }
+    /// Whether the instruction may have written DMEM.
+    #[inline(always)]
+    pub(crate) fn stores(self) -> bool
+        ensures { result ≡ changes_memory self }
     {
-        match self {
-            Change::Register(n)
-            | Change::Vector(n)
-            | Change::Product(n)
-            | Change::Low(n)
-            | Change::Sum(n)
-            | Change::Choice(n)
-            | Change::Clip(n)
-            | Change::Divide(n) => n as u8,
-            Change::Places
-            | Change::Bytes(_)
-            | Change::Group(_)
-            | Change::Flags
-            | Change::Sp(_)
-            | Change::Dma => 0,
-        }
+        matches!(self, Change::Bytes(_) | Change::Dma)
     }
 
-    /// What an instruction with this change may reach.
+    /// Whether the instruction can be undone by its record.
     #[inline(always)]
-    pub(crate) fn reach(self) -> Reach
-        ensures { result ≡ reach_of self }
+    pub(crate) fn is_back(self) -> bool
+        ensures { result ≡ is_back self }
     {
-        Reach {
-            sp: matches!(self, Change::Sp(_) | Change::Dma),
-            dmem: matches!(self, Change::Bytes(_) | Change::Dma),
-        }
+        !matches!(self, Change::Dma)
     }
 }
 

@@ -7,16 +7,14 @@ ghost use Rattle.rsp_scalar.specs.Flow.{following, linked};
 ghost use Rattle.rsp_machine.specs.Step.{computes, loads, stores, break_instruction, moves_sp, worked, executed};
 ghost use Rattle.rsp_machine.specs.Places.{at_places, places_of};
 ghost use Rattle.rsp_machine.specs.Saved.{change_of, told_by};
-ghost use Rattle.rsp_machine.specs.Changes.{IsChange, reach_of};
+ghost use Rattle.rsp_machine.specs.Changes.{IsChange};
 
-use crate::change::{Change, Reach, change_of};
+use crate::change::{Change, change_of};
 use crate::machine::Machine;
-use crate::operation;
 use crate::place::{Place, Places};
 use crate::saver::Saver;
 use crate::until::Until;
 use rsp_acc::Acc;
-use rsp_compare::MergeOp;
 use rsp_decode::{Inst, MoveRow, Visitor, visit};
 use rsp_scalar::{alu, jump, load, store};
 use std::marker::PhantomData;
@@ -34,8 +32,8 @@ struct Executor<'a, A: Acc, K: Saver, U: Until> {
     from: Place,
     /// The places behind it. What `machine` has of places doesn't count.
     places: Places,
-    /// What the instruction may have reached.
-    reach: Reach,
+    /// What the instruction changes.
+    change: Change,
 }
 
 impl<'a, A: Acc, K: Saver, U: Until> Executor<'a, A, K, U> {
@@ -43,14 +41,14 @@ impl<'a, A: Acc, K: Saver, U: Until> Executor<'a, A, K, U> {
     #[inline(always)]
     fn save(&mut self, change: Change)
         requires { IsChange change }
-        ensures { self.new ≡ record self.old { saver = record self.old.saver { now = K.saves change (at_places (record { pc = self.old.from; npc = self.old.places.pc }) self.old.machine.now) self.old.saver.now }; reach = reach_of change } }
+        ensures { self.new ≡ record self.old { saver = record self.old.saver { now = K.saves change (at_places (record { pc = self.old.from; npc = self.old.places.pc }) self.old.machine.now) self.old.saver.now }; change = change } }
     {
         let before = Places {
             pc: self.from,
             npc: self.places.pc,
         };
         self.saver.save(self.machine, before, change);
-        self.reach = change.reach();
+        self.change = change;
     }
 
     /// The places behind the instruction.
@@ -182,17 +180,11 @@ impl<A: Acc> Machine<A> {
             Inst::Round { row, fields } => self.round_lanes(row, fields),
             Inst::MpegMultiply { row, fields } => self.multiply_mpeg(row, fields),
             Inst::ReadAccumulator { fields } => self.read_part(fields),
-            Inst::VectorAdd { row, fields } => self.compute_lanes(operation::add_op(row), fields),
-            Inst::VectorSelect { row, fields } => self.compute_lanes(
-                operation::select_op(row),
-                fields,
-            ),
-            Inst::VectorClip { row, fields } => self.compute_lanes(operation::clip_op(row), fields),
-            Inst::VectorMerge { fields } => self.compute_lanes(MergeOp::Vmrg, fields),
-            Inst::VectorLogic { row, fields } => self.compute_lanes(
-                operation::logic_op(row),
-                fields,
-            ),
+            Inst::VectorAdd { row, fields } => self.add_lanes(row, fields),
+            Inst::VectorSelect { row, fields } => self.select_lanes(row, fields),
+            Inst::VectorClip { row, fields } => self.clip_lanes(row, fields),
+            Inst::VectorMerge { fields } => self.merge_lanes(fields),
+            Inst::VectorLogic { row, fields } => self.logic_lanes(row, fields),
             Inst::Divide {
                 row,
                 vd,
@@ -206,7 +198,7 @@ impl<A: Acc> Machine<A> {
         }
     }
 
-    /// Executes a word, of whose changes a saver is told, and answers what the instruction may have reached. None for
+    /// Executes a word, whose change a saver gets first, and returns this change. None for
     /// a reserved word, which changes nothing. The machine stands at these places, and what it has of its own doesn't count.
     #[inline(always)]
     #[tactic(auto, unfolding(crate::specs::Step::executed))]
@@ -215,8 +207,8 @@ impl<A: Acc> Machine<A> {
         places: &mut Places,
         word: u32,
         saver: &mut K,
-    ) -> Option<Reach>
-        ensures answer { result ≡ option_map (λ i. reach_of (change_of i (at_places places.old self.old))) (inst_of word) }
+    ) -> Option<Change>
+        ensures answer { result ≡ option_map (λ i. change_of i (at_places places.old self.old)) (inst_of word) }
         ensures state { at_places places.new self.new ≡ unwrap_or (option_map (λ i. executed i (at_places places.old self.old)) (inst_of word)) (at_places places.old self.old) }
         ensures saver { saver.new ≡ told_by K.saves (inst_of word) (at_places places.old self.old) saver.old }
     {
@@ -228,16 +220,13 @@ impl<A: Acc> Machine<A> {
             until: PhantomData,
             from,
             places: behind,
-            reach: Reach {
-                sp: false,
-                dmem: false,
-            },
+            change: Change::Places,
         };
         if !visit(word, &mut executor) {
             return None;
         }
         *places = executor.places();
-        Some(executor.reach)
+        Some(executor.change)
     }
 }
 
@@ -245,7 +234,6 @@ impl<'a, A: Acc, K: Saver, U: Until> Visitor for Executor<'a, A, K, U> {
     ghost use Rattle.rsp_machine.specs.Places.{at_places, places_of};
     ghost use Rattle.rsp_machine.specs.Step.{worked};
     ghost use Rattle.rsp_machine.specs.Saved.{change_of};
-    ghost use Rattle.rsp_machine.specs.Changes.{reach_of};
 
     ghost after = { λ i e.
         let before = at_places (record { pc = e.from; npc = e.places.pc }) e.machine.now in
@@ -256,7 +244,7 @@ impl<'a, A: Acc, K: Saver, U: Until> Visitor for Executor<'a, A, K, U> {
           until = e.until;
           from = e.from;
           places = places_of behind;
-          reach = reach_of (change_of i before);
+          change = change_of i before;
         } };
 
     #[inline(always)]

@@ -1,11 +1,12 @@
 // All registers at once: what a machine holds but its memories.
 
 ghost use Rattle.std.specs.Prelude.{◌≡◌, Some, None, IfNone, OnOk, OnErr, MatchResult};
-ghost use Rattle.rsp_machine.specs.Registers.{AreRegisters, registers_of, with_registers, registers_fault};
+ghost use Rattle.rsp_machine.specs.Registers.{AreRegisters, registers_of, with_registers, registers_fault, sp_fault};
+ghost use Rattle.rsp_regs.specs.Parts.{sp_of};
+ghost use Rattle.rsp_regs.specs.Sp.{AreKept};
 
 use crate::machine::Machine;
 use crate::place::Place;
-use crate::sp::sp_fault;
 use rsp_acc::{Acc, Addends, Part};
 use rsp_divide::Divider;
 use rsp_lanes::{Flags, VReg};
@@ -73,6 +74,23 @@ fn fault_of(given: &AllRegisters) -> Option<RegistersFault>
     sp_fault(&given.sp)
 }
 
+/// Why SP registers can't be those of a machine.
+fn sp_fault(given: &SpParts) -> Option<RegistersFault>
+    ensures fault { result ≡ sp_fault given.now }
+    ensures none { IfNone result (AreKept given.now.memory given.now.dram given.now.skip) }
+{
+    if given.memory >= 0x2000 || given.memory % 8 != 0 {
+        return Some(RegistersFault::MemoryAddress);
+    }
+    if given.dram >= 0x100_0000 || given.dram % 8 != 0 {
+        return Some(RegistersFault::DramAddress);
+    }
+    if given.skip >= 0x1000 || given.skip % 8 != 0 {
+        return Some(RegistersFault::Skip);
+    }
+    None
+}
+
 impl<A: Acc> Machine<A> {
     /// All registers. Changes nothing: the semaphore isn't taken. Put inline, since a caller mostly moves them on, and a kilobyte is
     /// then copied once.
@@ -109,6 +127,19 @@ impl<A: Acc> Machine<A> {
         Ok(())
     }
 
+    /// Sets the SP registers, with the interrupt flag; all else stays. A fault of [`RegistersFault`] is answered, and then nothing
+    /// changes.
+    pub fn set_sp_parts(&mut self, given: &SpParts) -> Result<(), RegistersFault>
+        ensures fault { MatchResult result (λ _. sp_fault given.now ≡ None) (λ f. sp_fault given.now ≡ Some f) }
+        ensures ok { OnOk result (self.new ≡ record self.old { sp = sp_of given.now }) }
+        ensures err { OnErr result (self.new ≡ self.old) }
+    {
+        if let Some(fault) = sp_fault(given) {
+            return Err(fault);
+        }
+        self.sp = SpRegs::from_parts(given);
+        Ok(())
+    }
     /// Writes all registers.
     #[tactic(auto, unfolding(crate::specs::Registers::with_registers))]
     pub(crate) fn put_registers(&mut self, given: &AllRegisters)

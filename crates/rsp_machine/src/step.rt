@@ -1,6 +1,6 @@
 // Steps, in one loop.
 
-ghost use Rattle.std.specs.Prelude.{◌≡◌, ◌↔◌, ◌⊎◌, ◌<◌, ◌≤◌, ◌+◌, ◌-◌, ◌||◌, ◌&&◌, ℕ, true, false, not, if◌then◌else◌, length, drop, slice_get, IsSome, IfSome};
+ghost use Rattle.std.specs.Prelude.{◌≡◌, ◌↔◌, ◌⊎◌, ◌<◌, ◌≤◌, ◌+◌, ◌-◌, ◌||◌, ◌&&◌, ℕ, true, false, not, if◌then◌else◌, length, drop, IsSome, IfSome};
 ghost use Rattle.rsp_memory.specs.Memory.{word_at};
 ghost use Rattle.rsp_machine.specs.Step.{singled, step_of};
 ghost use Rattle.rsp_machine.specs.Places.{at_places, places_of};
@@ -9,9 +9,10 @@ ghost use Rattle.rsp_machine.specs.Saved.{is_back, may_store, record_at, undone}
 ghost use Rattle.rsp_machine.specs.Laws.{steps_of, done_steps, done_of};
 ghost use Rattle.rsp_machine.specs.Until.{ends_after};
 ghost use Rattle.rsp_machine.specs.Making.{IsMade, AreTold, IsEnd};
+ghost use Rattle.rsp_machine.specs.Changes.{reaches_sp};
 ghost use Rattle.rsp_machine.specs.declared.step.StepEnd.TheVariants.{Done};
 
-use crate::change::Reach;
+use crate::change::Change;
 use crate::machine::Machine;
 use crate::place::Places;
 use crate::record::Record;
@@ -66,15 +67,15 @@ impl<A: Acc> Machine<A> {
     /// Ends a step: in single step it halts. Answers whether the loop goes on. That is tested only after an instruction that may
     /// have reached the SP registers, or if `single`, which is false only where single step is clear.
     #[inline(always)]
-    fn end_step<K: Saver>(&mut self, reach: Reach, single: bool, saver: &K) -> bool
-        ensures state { self.new ≡ (if reach.sp || single then singled self.old else self.old) }
-        ensures goes { result ≡ (not (reach.sp || single) || not self.new.sp.halted && K.goes_on saver.now) }
+    fn end_step<K: Saver>(&mut self, change: Change, single: bool) -> bool
+        ensures state { self.new ≡ (if reaches_sp change || single then singled self.old else self.old) }
+        ensures goes { result ≡ (not (reaches_sp change || single) || not self.new.sp.halted && (not K.ends_at_dma || is_back change)) }
     {
-        if !(reach.sp || single) {
+        if !(change.reaches_sp() || single) {
             return true;
         }
         self.sp.on_step();
-        !self.sp.halted() && saver.goes_on()
+        !self.sp.halted() && (!K::ends_at_dma() || change.is_back())
     }
 
     /// Makes up to `n` steps, as long as they are Done, the savers go on, and `until` doesn't end them, and returns how many.
@@ -84,9 +85,10 @@ impl<A: Acc> Machine<A> {
         requires slots { (i : ℕ) → i < n → K.slot i < length slots.old }
         ensures within { result ≤ n }
         ensures made { IsMade result self.old self.new }
-        ensures told { AreTold K.saves K.goes_on K.slot result (result - 1) self.old slots.old slots.new }
+        ensures told { AreTold K.saves K.slot result self.old slots.old slots.new }
+        ensures before { (i : ℕ) → i + 1 < result → K.ends_at_dma ≡ true → starts_dma_at (steps_of i self.old) ≡ false }
         ensures asked { (i : ℕ) → i + 1 < result → ends_after (U.ends until.now) (steps_of i self.old) ≡ false }
-        ensures ends { result < n → IsEnd K.goes_on (U.ends until.now) result self.old self.new (slice_get slots.new (K.slot (result - 1))) }
+        ensures ends { result < n → IsEnd K.ends_at_dma (U.ends until.now) result self.old self.new }
     {
         if self.sp.halted() {
             return 0;
@@ -98,15 +100,15 @@ impl<A: Acc> Machine<A> {
         while made < n {
             self.vector_ranges();
             let slot = &mut slots[K::slot(made)];
-            let Some(reach) = self.execute::<K, U>(&mut places, word, slot) else {
+            let Some(change) = self.execute::<K, U>(&mut places, word, slot) else {
                 break;
             };
             made += 1;
-            if !self.end_step(reach, single, slot) {
+            if !self.end_step::<K>(change, single) {
                 break;
             }
             word = self.word_at(places);
-            if until.ends(places.pc.get(), word, reach.dmem) {
+            if until.ends(places.pc.get(), word, change.stores()) {
                 break;
             }
         }
