@@ -13,15 +13,16 @@ use Rattle.rsp_machine.specs.Step.{computes, loads, stores, jumps, worked, execu
 use Rattle.rsp_machine.specs.declared.step.StepEnd.TheVariants.{Done, Halted, Reserved}
 use Rattle.rsp_machine.specs.Transfers.{starts_dma_in, starts_dma_at}
 use Rattle.rsp_machine.specs.declared.change.Change.TheVariants as of
-use Rattle.rsp_machine.specs.Saved.{change_of, is_length, is_back, changes_memory}
-use Rattle.rsp_machine.specs.Changes.{reaches_sp}
+use Rattle.rsp_machine.specs.Saved.{change_of, starts_dma, is_length, is_back}
+use Rattle.rsp_machine.specs.Changes.{reaches_sp, reach_of}
 use Rattle.rsp_machine.specs.Until.{may_store_by, may_store_at}
 use Rattle.rsp_machine.specs.declared.change.Change.{Change}
+use Rattle.rsp_machine.specs.declared.change.Reach.{Reach}
 use Rattle.rsp_machine.proofs.Saving.{dma_of}
 
--- what an instruction changes, if there is one; and the state after it
-abbrev pub reached : State → Option Inst → Option Change
-reached s o = option_map (λ i. change_of i s) o
+-- what the loop asks of an instruction, if there is one; and the state after it
+abbrev pub reached : State → Option Inst → Option Reach
+reached s o = option_map (λ i. reach_of (change_of i s)) o
 
 abbrev pub after : State → Option Inst → State
 after s o = unwrap_or (option_map (λ i. executed i s) o) s
@@ -45,27 +46,41 @@ leaves _ s h = refl
 some_is : {X : Type 0} (x y : X) → Some x ≡ Some y → x ≡ y
 some_is x y e = cc
 
-pub stays : (o : Option Inst) (s t : State) (e : Change) → reaches_sp e ≡ false → Some e ≡ reached s o → t ≡ after s o → t.sp ≡ s.sp
+pub stays : (o : Option Inst) (s t : State) (e : Reach) → e.sp ≡ false → Some e ≡ reached s o → t ≡ after s o → t.sp ≡ s.sp
 stays None s t e none h there = cc
-stays (Some i) s t e none h there = ap (λ (x : State). x.sp) there ∙ leaves i s (ap reaches_sp (sym (some_is _ _ h)) ∙ none)
+stays (Some i) s t e none h there = ap (λ (x : State). x.sp) there ∙ leaves i s (ap (λ (x : Reach). x.sp) (sym (some_is _ _ h)) ∙ none)
 
 pub halted_as : (s t : State) → s.sp.halted ≡ false → t.sp ≡ s.sp → false ≡ t.sp.halted
 halted_as s t h e = sym (ap (λ (p : Sp). p.halted) e ∙ h)
 
--- the change says whether a DMA started, and whether the instruction may have stored
-dma_by : (o : Option Inst) (s : State) (e : Change) → Some e ≡ reached s o → is_back e ≡ not (starts_dma_in o)
+-- whether it starts a DMA, and whether it may have stored
+pub not_back : (b d : Bool) → b ≡ not d → not b ≡ d
+not_back b true e = ap not e
+not_back b false e = ap not e
+
+dma_by : (o : Option Inst) (s : State) (e : Reach) → Some e ≡ reached s o → e.dma ≡ starts_dma_in o
 dma_by None s e h = cc
-dma_by (Some i) s e h = ap is_back (some_is _ _ h) ∙ dma_of i s
+dma_by (Some i) s e h = ap (λ (x : Reach). x.dma) (some_is _ _ h) ∙ not_back (is_back (change_of i s)) (starts_dma i) (dma_of i s)
 
-pub dma-as : (w : ℕ) (s : State) (e : Change) → w ≡ word_at s.imem s.pc → Some e ≡ reached s (inst_of w) → is_back e ≡ not (starts_dma_at s)
+pub dma-as : (w : ℕ) (s : State) (e : Reach) → w ≡ word_at s.imem s.pc → Some e ≡ reached s (inst_of w) → e.dma ≡ starts_dma_at s
 unfolding starts_dma_at
-dma-as w s e is h = dma_by (inst_of w) s e h ∙ ap (λ v. not (starts_dma_in (inst_of v))) is
+dma-as w s e is h = dma_by (inst_of w) s e h ∙ ap (λ v. starts_dma_in (inst_of v)) is
 
-stored_by : (o : Option Inst) (s : State) (e : Change) → Some e ≡ reached s o → changes_memory e ≡ may_store_by o s
+no_dma : (c : Change) → reaches_sp c ≡ false → not (is_back c) ≡ false
+no_dma of.Dma h = cc
+no_dma _ h = refl
+
+pub dma-free : (o : Option Inst) (s : State) (e : Reach) → Some e ≡ reached s o → e.sp ≡ false → e.dma ≡ false
+dma-free None s e h none = cc
+dma-free (Some i) s e h none =
+    let same = some_is e (reach_of (change_of i s)) h in
+    ap (λ (x : Reach). x.dma) same ∙ no_dma (change_of i s) (ap (λ (x : Reach). x.sp) (sym same) ∙ none)
+
+stored_by : (o : Option Inst) (s : State) (e : Reach) → Some e ≡ reached s o → e.dmem ≡ may_store_by o s
 stored_by None s e h = cc
-stored_by (Some i) s e h = ap changes_memory (some_is _ _ h)
+stored_by (Some i) s e h = ap (λ (x : Reach). x.dmem) (some_is _ _ h)
 
-pub stored-as : (w : ℕ) (s : State) (e : Change) → w ≡ word_at s.imem s.pc → Some e ≡ reached s (inst_of w) → changes_memory e ≡ may_store_at s
+pub stored-as : (w : ℕ) (s : State) (e : Reach) → w ≡ word_at s.imem s.pc → Some e ≡ reached s (inst_of w) → e.dmem ≡ may_store_at s
 unfolding may_store_at
 stored-as w s e is h = stored_by (inst_of w) s e h ∙ ap (λ v. may_store_by (inst_of v) s) is
 
@@ -113,7 +128,7 @@ reserved : (o : Option Inst) (w : ℕ) (s t : State) → reached s o ≡ None �
 reserved None w s t h e = ap (λ (x : State). (Reserved w, x)) (sym e)
 reserved (Some i) w s t h e = cc
 
-done : (o : Option Inst) (w : ℕ) (s t : State) (e : Change) → reached s o ≡ Some e → t ≡ after s o → step_by o w s ≡ (Done, singled t)
+done : (o : Option Inst) (w : ℕ) (s t : State) (e : Reach) → reached s o ≡ Some e → t ≡ after s o → step_by o w s ≡ (Done, singled t)
 done None w s t e h there = cc
 done (Some i) w s t e h there = ap (λ (x : State). (Done, singled x)) (sym there)
 
@@ -122,7 +137,7 @@ pub step_reserved : (w : ℕ) (s t : State) → s.sp.halted ≡ false → w ≡ 
 unfolding step_of
 step_reserved w s t h e r there = rw (← e) (running s.sp.halted (inst_of w) w s h ∙ reserved (inst_of w) w s t (sym r) there)
 
-pub step_done : (w : ℕ) (s t : State) (e : Change) → s.sp.halted ≡ false → w ≡ word_at s.imem s.pc → Some e ≡ reached s (inst_of w) → t ≡ after s (inst_of w)
+pub step_done : (w : ℕ) (s t : State) (e : Reach) → s.sp.halted ≡ false → w ≡ word_at s.imem s.pc → Some e ≡ reached s (inst_of w) → t ≡ after s (inst_of w)
     → step_of s ≡ (Done, singled t)
 unfolding step_of
 step_done w s t e h is r there = rw (← is) (running s.sp.halted (inst_of w) w s h ∙ done (inst_of w) w s t e (sym r) there)

@@ -1,7 +1,7 @@
 -- Steps that are made one by one.
 use Rattle.std.proofs.Common.{◌≡◌, ◌≢◌, inl, inr, ℕ, zero, suc, ◌+◌, ◌-◌, ◌<◌, ◌≤◌, Bool, true, false, List, [], ◌∷◌, length, set, get_or, refl, sym, ap, subst, ◌∙◌, arith, Option, Some, None}
 use Rattle.std.specs.Prelude.{if◌then◌else◌, not, ◌||◌, ◌&&◌, ◌⊎◌, slice_get}
-use Rattle.std.proofs.lemmas.Bool.{cases_lt}
+use Rattle.std.proofs.lemmas.Bool.{cases_lt, not-true, not-false}
 use Rattle.std.proofs.lemmas.List.{length-set, set-get_or}
 use Rattle.rsp_decode.specs.declared.inst.Inst.{Inst}
 use Rattle.rsp_decode.specs.Table.{inst_of}
@@ -10,16 +10,16 @@ use Rattle.rsp_machine.specs.State.{State}
 use Rattle.rsp_machine.specs.Places.{Places, at_places}
 use Rattle.rsp_machine.specs.Step.{singled, step_by, step_of}
 use Rattle.rsp_machine.specs.Laws.{steps_of, done_steps, done_of}
-use Rattle.rsp_machine.specs.Saved.{told_by, told_of, is_back, changes_memory}
+use Rattle.rsp_machine.specs.Saved.{told_by, told_of}
 use Rattle.rsp_machine.specs.Transfers.{starts_dma_at}
-use Rattle.rsp_machine.specs.Changes.{IsRanged, reaches_sp}
+use Rattle.rsp_machine.specs.Changes.{IsRanged}
 use Rattle.rsp_machine.specs.Making.{IsMade, IsEach, IsTold, AreTold, IsEnd}
 use Rattle.rsp_machine.specs.declared.change.Change.{Change}
-use Rattle.rsp_machine.specs.declared.change.Change.TheVariants as of
+use Rattle.rsp_machine.specs.declared.change.Reach.{Reach}
 use Rattle.rsp_machine.specs.declared.step.StepEnd.{StepEnd}
 use Rattle.rsp_machine.specs.declared.step.StepEnd.TheVariants.{Done, Halted, Reserved}
 use Rattle.rsp_machine.specs.Until.{may_store_at, ends_after}
-use Rattle.rsp_machine.proofs.Ending.{reached, after, stays, free, clear_as, clear_behind, halted_as, stored-as, dma-as, step_halted, step_reserved, step_done}
+use Rattle.rsp_machine.proofs.Ending.{reached, after, stays, free, clear_as, clear_behind, halted_as, stored-as, dma-as, dma-free, step_halted, step_reserved, step_done}
 
 -- no step, and one more
 pub made-none : (k : ℕ) (s t : State) → k ≡ 0 → t ≡ s → IsMade k s t
@@ -96,40 +96,36 @@ stuck_done_all k n s t m h e =
     let there = ap (λ (x : State). done_of (n - k) x) (sym m.state) in
     omega (arith, rest, done_add k (n - k) s, there, stuck_done (n - k) t e, m.done)
 
-pub not_back : (b d : Bool) → b ≡ not d → not b ≡ d
-not_back b true e = ap not e
-not_back b false e = ap not e
-
 -- What execute answers and leaves, of a machine s that isn't halted.
-pub record IsExecuted (w : ℕ) (s t : State) (r : Option Change) : Type 0 where
+pub record IsExecuted (w : ℕ) (s t : State) (r : Option Reach) : Type 0 where
   pub goes : s.sp.halted ≡ false
   pub word : w ≡ word_at s.imem s.pc
   pub answer : r ≡ reached s (inst_of w)
   pub state : t ≡ after s (inst_of w)
 
-pub executed-as : (w : ℕ) (p q : Places) (l v : State) (r : Option Change) → l.sp.halted ≡ false → w ≡ word_at l.imem p.pc → r ≡ reached (at_places p l) (inst_of w)
+pub executed-as : (w : ℕ) (p q : Places) (l v : State) (r : Option Reach) → l.sp.halted ≡ false → w ≡ word_at l.imem p.pc → r ≡ reached (at_places p l) (inst_of w)
     → at_places q v ≡ after (at_places p l) (inst_of w) → IsExecuted w (at_places p l) (at_places q v) r
 executed-as w p q l v r goes word answer state = record { goes = goes; word = word; answer = answer; state = state }
 
 -- and in which state the step then ends
-pub record IsTurn (w : ℕ) (s t u : State) (r : Option Change) (e : Change) (single : Bool) : Type 0 where
+pub record IsTurn (w : ℕ) (s t u : State) (r : Option Reach) (e : Reach) (single : Bool) : Type 0 where
   pub executed : IsExecuted w s t r
   pub some : r ≡ Some e
   pub clear : single ≡ false → s.sp.single_step ≡ false
-  pub ended : u ≡ (if reaches_sp e || single then singled t else t)
+  pub ended : u ≡ (if e.sp || single then singled t else t)
 
 ended_at : (b : Bool) (p : Places) (s t : State) → s ≡ (if b then singled t else t) → at_places p s ≡ (if b then singled (at_places p t) else at_places p t)
 ended_at true p s t e = ap (at_places p) e
 ended_at false p s t e = ap (at_places p) e
 
-pub turn-of : (w : ℕ) (p q : Places) (l v m : State) (r : Option Change) (e : Change) (single : Bool) → l.sp.halted ≡ false → w ≡ word_at l.imem p.pc → r ≡ reached (at_places p l) (inst_of w)
-    → at_places q v ≡ after (at_places p l) (inst_of w) → r ≡ Some e → (single ≡ false → l.sp.single_step ≡ false) → m ≡ (if reaches_sp e || single then singled v else v)
+pub turn-of : (w : ℕ) (p q : Places) (l v m : State) (r : Option Reach) (e : Reach) (single : Bool) → l.sp.halted ≡ false → w ≡ word_at l.imem p.pc → r ≡ reached (at_places p l) (inst_of w)
+    → at_places q v ≡ after (at_places p l) (inst_of w) → r ≡ Some e → (single ≡ false → l.sp.single_step ≡ false) → m ≡ (if e.sp || single then singled v else v)
     → IsTurn w (at_places p l) (at_places q v) (at_places q m) r e single
 turn-of w p q l v m r e single goes word answer state some clear ended = record {
   executed = record { goes = goes; word = word; answer = answer; state = state };
   some = some;
   clear = clear;
-  ended = ended_at (reaches_sp e || single) q m v ended;
+  ended = ended_at (e.sp || single) q m v ended;
 }
 
 ended_by : (a b : Bool) (t u : State) → u ≡ (if a || b then singled t else t) → ((a ≡ false) × (b ≡ false) → t ≡ singled t) → singled t ≡ u
@@ -152,50 +148,46 @@ stops-by false true true goes r e f = inl refl
 stops-by false true false goes r e f = inr (sym e ∙ f)
 stops-by false false halted goes r e f = cc
 
-back_free : (e : Change) → reaches_sp e ≡ false → is_back e ≡ true
-back_free of.Dma h = cc
-back_free _ h = refl
-
-pub no-dma : (e : Change) (single at_dma halted dma : Bool) → ((reaches_sp e ≡ false) × (single ≡ false)) ⊎ ((halted ≡ false) × ((not at_dma || is_back e) ≡ true))
-    → is_back e ≡ not dma → at_dma ≡ true → dma ≡ false
-no-dma e single true halted dma (inl none) is at = sym (not_back _ dma is) ∙ ap not (back_free e none.0)
-no-dma e single true halted dma (inr on) is at = sym (not_back _ dma is) ∙ ap not on.1
-no-dma e single false halted dma goes is at = cc
-
-pub a-dma : (e : Change) (at_dma dma : Bool) → (not at_dma || is_back e) ≡ false → is_back e ≡ not dma → (at_dma ≡ true) × (dma ≡ true)
-a-dma e true dma stops is = (refl, sym (not_back _ dma is) ∙ ap not stops)
-a-dma e false dma stops is = cc
-
-module _ (w : ℕ) (s t u : State) (r : Option Change) (e : Change) (single : Bool) (h : IsTurn w s t u r e single) where
+module _ (w : ℕ) (s t u : State) (r : Option Reach) (e : Reach) (single : Bool) (h : IsTurn w s t u r e single) where
   turn_answer : Some e ≡ reached s (inst_of w)
   turn_answer = sym h.some ∙ h.executed.answer
 
   -- an instruction that doesn't reach the SP registers leaves them, and single step halts nothing where it is clear
-  turn_free : (reaches_sp e ≡ false) × (single ≡ false) → t ≡ singled t
+  turn_free : (e.sp ≡ false) × (single ≡ false) → t ≡ singled t
   turn_free none =
       let same = stays (inst_of w) s t e none.0 turn_answer h.executed.state in
       free s t h.executed.goes same (clear_as s t (h.clear none.1) same)
 
   turn_ended : singled t ≡ u
-  turn_ended = ended_by (reaches_sp e) single t u h.ended turn_free
+  turn_ended = ended_by e.sp single t u h.ended turn_free
 
-  turn_same : (reaches_sp e ≡ false) × (single ≡ false) → u.sp ≡ s.sp
+  turn_same : (e.sp ≡ false) × (single ≡ false) → u.sp ≡ s.sp
   turn_same none = ap (λ (x : State). x.sp) (sym turn_ended ∙ sym (turn_free none)) ∙ stays (inst_of w) s t e none.0 turn_answer h.executed.state
 
   pub turn-done : step_of s ≡ (Done, u)
   turn-done = step_done w s t e h.executed.goes h.executed.word turn_answer h.executed.state ∙ ap (λ (x : State). (Done, x)) turn_ended
 
-  pub turn-running : ((reaches_sp e ≡ false) × (single ≡ false)) ⊎ (u.sp.halted ≡ false) → u.sp.halted ≡ false
+  pub turn-running : ((e.sp ≡ false) × (single ≡ false)) ⊎ (u.sp.halted ≡ false) → u.sp.halted ≡ false
   turn-running (inl none) = sym (halted_as s u h.executed.goes (turn_same none))
   turn-running (inr running) = running
 
   pub turn-clear : u.sp.halted ≡ false → u.sp.single_step ≡ false
   turn-clear running = clear_behind t u (sym turn_ended) running
 
-  pub turn-dma : is_back e ≡ not (starts_dma_at s)
-  turn-dma = dma-as w s e h.executed.word turn_answer
+  turn_dma : e.dma ≡ starts_dma_at s
+  turn_dma = dma-as w s e h.executed.word turn_answer
 
-  pub turn-ends : (ends : ℕ → ℕ → Bool → Bool) (v : ℕ) → v ≡ word_at u.imem u.pc → ends_after ends s ≡ ends u.pc v (changes_memory e)
+  -- if DMAs end the loop, it goes on only after a step that starts none
+  pub turn-goes : (at_dma : Bool) → ((e.sp ≡ false) × (single ≡ false)) ⊎ ((u.sp.halted ≡ false) × (not (at_dma && e.dma) ≡ true)) → at_dma ≡ true → starts_dma_at s ≡ false
+  turn-goes true (inl none) at = sym turn_dma ∙ dma-free (inst_of w) s e turn_answer none.0
+  turn-goes true (inr on) at = sym turn_dma ∙ not-true e.dma on.1
+  turn-goes false goes at = cc
+
+  pub turn-stops : (at_dma : Bool) → not (at_dma && e.dma) ≡ false → (at_dma ≡ true) × (starts_dma_at s ≡ true)
+  turn-stops true stops = (refl, sym turn_dma ∙ not-false e.dma stops)
+  turn-stops false stops = cc
+
+  pub turn-ends : (ends : ℕ → ℕ → Bool → Bool) (v : ℕ) → v ≡ word_at u.imem u.pc → ends_after ends s ≡ ends u.pc v e.dmem
   unfolding ends_after
   turn-ends ends v is =
       ap (λ (x : State). ends x.pc (word_at x.imem x.pc) (may_store_at s)) (ap (λ x. x.1) turn-done)
@@ -207,7 +199,7 @@ unreached : (o : Option Inst) (s : State) → None ≡ reached s o → after s o
 unreached None s h = refl
 unreached (Some i) s h = cc
 
-pub executed-none : (w : ℕ) (s t : State) (r : Option Change) → IsExecuted w s t r → r ≡ None → (t ≡ s) × (step_of s ≡ (Reserved w, t))
+pub executed-none : (w : ℕ) (s t : State) (r : Option Reach) → IsExecuted w s t r → r ≡ None → (t ≡ s) × (step_of s ≡ (Reserved w, t))
 executed-none w s t r h is =
     let answer = sym is ∙ h.answer in (
       h.state ∙ unreached (inst_of w) s answer,
@@ -346,7 +338,7 @@ module _ {K : Type 0} (saves : Change → State → K → K) (slot : ℕ → ℕ
       }
 
   -- by a turn
-  pub turn-told : (w k j : ℕ) (o s t : State) (r : Option Change) (old new : List K) (x before : K) → IsExecuted w s t r → IsMade k o s → AreTold saves slot k o old new → j ≡ slot k → j < length new
+  pub turn-told : (w k j : ℕ) (o s t : State) (r : Option Reach) (old new : List K) (x before : K) → IsExecuted w s t r → IsMade k o s → AreTold saves slot k o old new → j ≡ slot k → j < length new
       → x ≡ told_by saves (inst_of w) s before → IsRanged s → AreTold saves slot (k + 1) o old (set new j x)
   turn-told w k j o s t r old new x before h run a at inside told ranged =
       told-more k j o s old new x before a run.state at inside (told-running saves w s before x h.goes h.word told) ranged

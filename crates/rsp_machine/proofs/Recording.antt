@@ -11,7 +11,8 @@ use Rattle.rsp_machine.specs.Transfers.{starts_dma_at}
 use Rattle.rsp_machine.specs.Until.{ends_after}
 use Rattle.rsp_machine.specs.Making.{IsTold, AreTold, IsEnd}
 use Rattle.rsp_machine.specs.declared.step.StepEnd.TheVariants.{Done}
-use Rattle.rsp_machine.proofs.Making.{done_few, was_done, not_back}
+use Rattle.rsp_machine.proofs.Ending.{not_back}
+use Rattle.rsp_machine.proofs.Making.{done_few, was_done}
 use Rattle.rsp_machine.proofs.Saving.{record-dma, record-back, record-memory}
 
 -- the steps behind each other

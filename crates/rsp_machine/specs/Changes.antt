@@ -1,10 +1,12 @@
 -- Scaffolding of proofs: what the code asks of a change. Saved has the meaning.
-use Rattle.std.specs.Prelude.{ℕ, ◌+◌, ◌<◌, ◌≡◌, Bool, true, false}
+use Rattle.std.specs.Prelude.{ℕ, ◌+◌, ◌<◌, ◌≡◌, Bool, true, false, not}
 use Rattle.rsp_numbers.specs.Numbers.{AreNumbers}
 use Rattle.rsp_lanes.specs.Flags.{flags_at, all_flags}
 use Rattle.rsp_loadstore.specs.File.{IsFile}
 use Rattle.rsp_machine.specs.State.{State}
+use Rattle.rsp_machine.specs.Saved.{changes_memory, is_back}
 use Rattle.rsp_machine.specs.declared.change.Change.{Change}
+use Rattle.rsp_machine.specs.declared.change.Reach.{Reach}
 use Rattle.rsp_machine.specs.declared.change.Change.TheVariants as of
 
 -- the last register that a change names
@@ -35,3 +37,7 @@ abbrev pub reaches_sp : Change → Bool
 reaches_sp (of.Sp n) = true
 reaches_sp of.Dma = true
 reaches_sp _ = false
+
+-- what the loop of steps asks of a change
+abbrev pub reach_of : Change → Reach
+reach_of change = record { sp = reaches_sp change; dmem = changes_memory change; dma = not (is_back change) }

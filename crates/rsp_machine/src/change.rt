@@ -3,7 +3,7 @@
 ghost use Rattle.std.specs.Prelude.{◌≡◌, ◌<◌};
 ghost use Rattle.rsp_decode.specs.Table.{IsInstruction};
 ghost use Rattle.rsp_machine.specs.Saved.{change_of, changes_memory, is_back};
-ghost use Rattle.rsp_machine.specs.Changes.{IsChange, reaches_sp};
+ghost use Rattle.rsp_machine.specs.Changes.{IsChange, reach_of};
 
 use crate::machine::Machine;
 use rsp_acc::Acc;
@@ -43,13 +43,29 @@ pub(crate) enum Change {
     Dma,
 }
 
-impl Change {
+/// What the loop of steps asks of an instruction. As plain truth values they are known in each arm of the decoder, where LLVM
+/// then drops the questions.
+#[derive(Clone, Copy, Drop)]
+pub(crate) struct Reach {
     /// Whether the instruction may have read or written the SP registers.
+    pub(crate) sp: bool,
+    /// Whether it may have written DMEM.
+    pub(crate) dmem: bool,
+    /// Whether it started a DMA.
+    pub(crate) dma: bool,
+}
+
+impl Change {
+    /// What the loop of steps asks of the change.
     #[inline(always)]
-    pub(crate) fn reaches_sp(self) -> bool
-        ensures { result ≡ reaches_sp self }
+    pub(crate) fn reach(self) -> Reach
+        ensures { result ≡ reach_of self }
     {
-        matches!(self, Change::Sp(_) | Change::Dma)
+        Reach {
+            sp: matches!(self, Change::Sp(_) | Change::Dma),
+            dmem: self.stores(),
+            dma: !self.is_back(),
+        }
     }
 
     /// Whether the instruction may have written DMEM.

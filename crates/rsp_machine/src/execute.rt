@@ -7,9 +7,9 @@ ghost use Rattle.rsp_scalar.specs.Flow.{following, linked};
 ghost use Rattle.rsp_machine.specs.Step.{computes, loads, stores, break_instruction, moves_sp, worked, executed};
 ghost use Rattle.rsp_machine.specs.Places.{at_places, places_of};
 ghost use Rattle.rsp_machine.specs.Saved.{change_of, told_by};
-ghost use Rattle.rsp_machine.specs.Changes.{IsChange};
+ghost use Rattle.rsp_machine.specs.Changes.{IsChange, reach_of};
 
-use crate::change::{Change, change_of};
+use crate::change::{Change, Reach, change_of};
 use crate::machine::Machine;
 use crate::place::{Place, Places};
 use crate::saver::Saver;
@@ -32,8 +32,8 @@ struct Executor<'a, A: Acc, K: Saver, U: Until> {
     from: Place,
     /// The places behind it. What `machine` has of places doesn't count.
     places: Places,
-    /// What the instruction changes.
-    change: Change,
+    /// What the loop asks of the instruction.
+    reach: Reach,
 }
 
 impl<'a, A: Acc, K: Saver, U: Until> Executor<'a, A, K, U> {
@@ -41,14 +41,14 @@ impl<'a, A: Acc, K: Saver, U: Until> Executor<'a, A, K, U> {
     #[inline(always)]
     fn save(&mut self, change: Change)
         requires { IsChange change }
-        ensures { self.new ≡ record self.old { saver = record self.old.saver { now = K.saves change (at_places (record { pc = self.old.from; npc = self.old.places.pc }) self.old.machine.now) self.old.saver.now }; change = change } }
+        ensures { self.new ≡ record self.old { saver = record self.old.saver { now = K.saves change (at_places (record { pc = self.old.from; npc = self.old.places.pc }) self.old.machine.now) self.old.saver.now }; reach = reach_of change } }
     {
         let before = Places {
             pc: self.from,
             npc: self.places.pc,
         };
         self.saver.save(self.machine, before, change);
-        self.change = change;
+        self.reach = change.reach();
     }
 
     /// The places behind the instruction.
@@ -198,7 +198,7 @@ impl<A: Acc> Machine<A> {
         }
     }
 
-    /// Executes a word, whose change a saver gets first, and returns this change. None for
+    /// Executes a word, whose change a saver gets first, and returns what the loop asks of it. None for
     /// a reserved word, which changes nothing. The machine stands at these places, and what it has of its own doesn't count.
     #[inline(always)]
     #[tactic(auto, unfolding(crate::specs::Step::executed))]
@@ -207,8 +207,8 @@ impl<A: Acc> Machine<A> {
         places: &mut Places,
         word: u32,
         saver: &mut K,
-    ) -> Option<Change>
-        ensures answer { result ≡ option_map (λ i. change_of i (at_places places.old self.old)) (inst_of word) }
+    ) -> Option<Reach>
+        ensures answer { result ≡ option_map (λ i. reach_of (change_of i (at_places places.old self.old))) (inst_of word) }
         ensures state { at_places places.new self.new ≡ unwrap_or (option_map (λ i. executed i (at_places places.old self.old)) (inst_of word)) (at_places places.old self.old) }
         ensures saver { saver.new ≡ told_by K.saves (inst_of word) (at_places places.old self.old) saver.old }
     {
@@ -220,13 +220,17 @@ impl<A: Acc> Machine<A> {
             until: PhantomData,
             from,
             places: behind,
-            change: Change::Places,
+            reach: Reach {
+                sp: false,
+                dmem: false,
+                dma: false,
+            },
         };
         if !visit(word, &mut executor) {
             return None;
         }
         *places = executor.places();
-        Some(executor.change)
+        Some(executor.reach)
     }
 }
 
@@ -234,6 +238,7 @@ impl<'a, A: Acc, K: Saver, U: Until> Visitor for Executor<'a, A, K, U> {
     ghost use Rattle.rsp_machine.specs.Places.{at_places, places_of};
     ghost use Rattle.rsp_machine.specs.Step.{worked};
     ghost use Rattle.rsp_machine.specs.Saved.{change_of};
+    ghost use Rattle.rsp_machine.specs.Changes.{reach_of};
 
     ghost after = { λ i e.
         let before = at_places (record { pc = e.from; npc = e.places.pc }) e.machine.now in
@@ -244,7 +249,7 @@ impl<'a, A: Acc, K: Saver, U: Until> Visitor for Executor<'a, A, K, U> {
           until = e.until;
           from = e.from;
           places = places_of behind;
-          change = change_of i before;
+          reach = reach_of (change_of i before);
         } };
 
     #[inline(always)]

@@ -9,10 +9,9 @@ ghost use Rattle.rsp_machine.specs.Saved.{is_back, may_store, record_at, undone}
 ghost use Rattle.rsp_machine.specs.Laws.{steps_of, done_steps, done_of};
 ghost use Rattle.rsp_machine.specs.Until.{ends_after};
 ghost use Rattle.rsp_machine.specs.Making.{IsMade, AreTold, IsEnd};
-ghost use Rattle.rsp_machine.specs.Changes.{reaches_sp};
 ghost use Rattle.rsp_machine.specs.declared.step.StepEnd.TheVariants.{Done};
 
-use crate::change::Change;
+use crate::change::Reach;
 use crate::machine::Machine;
 use crate::place::Places;
 use crate::record::Record;
@@ -67,15 +66,15 @@ impl<A: Acc> Machine<A> {
     /// Ends a step: in single step it halts. Answers whether the loop goes on. That is tested only after an instruction that may
     /// have reached the SP registers, or if `single`, which is false only where single step is clear.
     #[inline(always)]
-    fn end_step<K: Saver>(&mut self, change: Change, single: bool) -> bool
-        ensures state { self.new ≡ (if reaches_sp change || single then singled self.old else self.old) }
-        ensures goes { result ≡ (not (reaches_sp change || single) || not self.new.sp.halted && (not K.ends_at_dma || is_back change)) }
+    fn end_step<K: Saver>(&mut self, reach: Reach, single: bool) -> bool
+        ensures state { self.new ≡ (if reach.sp || single then singled self.old else self.old) }
+        ensures goes { result ≡ (not (reach.sp || single) || not self.new.sp.halted && not (K.ends_at_dma && reach.dma)) }
     {
-        if !(change.reaches_sp() || single) {
+        if !(reach.sp || single) {
             return true;
         }
         self.sp.on_step();
-        !self.sp.halted() && (!K::ends_at_dma() || change.is_back())
+        !self.sp.halted() && !(K::ends_at_dma() && reach.dma)
     }
 
     /// Makes up to `n` steps, as long as they are Done, the savers go on, and `until` doesn't end them, and returns how many.
@@ -100,15 +99,15 @@ impl<A: Acc> Machine<A> {
         while made < n {
             self.vector_ranges();
             let slot = &mut slots[K::slot(made)];
-            let Some(change) = self.execute::<K, U>(&mut places, word, slot) else {
+            let Some(reach) = self.execute::<K, U>(&mut places, word, slot) else {
                 break;
             };
             made += 1;
-            if !self.end_step::<K>(change, single) {
+            if !self.end_step::<K>(reach, single) {
                 break;
             }
             word = self.word_at(places);
-            if until.ends(places.pc.get(), word, change.stores()) {
+            if until.ends(places.pc.get(), word, reach.dmem) {
                 break;
             }
         }

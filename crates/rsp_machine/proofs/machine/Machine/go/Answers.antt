@@ -1,16 +1,14 @@
-use Rattle.std.proofs.Common.{◌≡◌, ◌∙◌, ◌||◌, not, ◌+◌, ◌-◌, ◌<◌, ℕ, false, length, get_or, ap, subst, refl, sym, inl, inr, arith}
+use Rattle.std.proofs.Common.{◌≡◌, ◌∙◌, ◌&&◌, not, ◌+◌, ◌-◌, ◌<◌, ℕ, false, length, get_or, ap, subst, refl, sym, inl, inr, arith}
 use Rattle.std.proofs.lemmas.Bool.{cases_lt}
 use Rattle.rsp_machine.specs.State.{State}
 use Rattle.rsp_machine.specs.Places.{Places, at_places}
 use Rattle.rsp_machine.specs.Laws.{steps_of, done_steps}
 use Rattle.rsp_machine.specs.Step.{step_of}
-use Rattle.rsp_machine.specs.Saved.{is_back, changes_memory}
-use Rattle.rsp_machine.specs.Changes.{reaches_sp}
 use Rattle.rsp_machine.specs.Transfers.{starts_dma_at}
 use Rattle.rsp_machine.specs.Until.{ends_after}
 use Rattle.rsp_machine.proofs.Elsewhere.{ranged-at}
 use Rattle.rsp_machine.proofs.Ending.{step_halted}
-use Rattle.rsp_machine.proofs.Making.{executed-as, turn-of, goes-by, stops-by, no-dma, a-dma, turn-done, turn-running, turn-clear, turn-dma, turn-ends, executed-none, made-none, made-more, made-as, same_places, told-none, turn-told, told-as, told-reserved}
+use Rattle.rsp_machine.proofs.Making.{executed-as, turn-of, goes-by, stops-by, turn-done, turn-running, turn-clear, turn-goes, turn-stops, turn-ends, executed-none, made-none, made-more, made-as, same_places, told-none, turn-told, told-as, told-reserved}
 use Rattle.rsp_machine.proofs.machine.Machine.go.Goals.{else-loop-made-test, then-loop-made-test+in_default, then-loop-made-test+in-Some+then-not-end_step, then-loop-made-test+in-Some+else-not-end_step+then-ends}
 use Rattle.rsp_machine.proofs.machine.Machine.go.Goals as goal
 
@@ -43,14 +41,14 @@ pub loop-made-preserved : goal.loop-made-preserved
 loop-made-preserved g c =
     let l = c.loop-made in let i = l.invariant in let o = c.args.self.now in let k = g.K.Saver in let single = c.single_step-single.result in let ends = g.U.Until.ends c.args.until.now in
     let s = at_places l.places l.self in let q = c.execute.new.places in let v = c.execute.new.self in let m = c.end_step.new.self in let t = at_places q v in let u = at_places q m in
-    let r = c.execute.result in let e = c.in-Some.change in let x = c.execute.new.saver in let next = c.word_at-word-in-loop-made in
+    let r = c.execute.result in let e = c.in-Some.reach in let x = c.execute.new.saver in let next = c.word_at-word-in-loop-made in
     let turn = turn-of l.word l.places q l.self v m r e single i.goes i.word c.execute.ensures.answer c.execute.ensures.state c.in-Some.is i.free c.end_step.ensures.state in
-    let goes = goes-by (reaches_sp e) single u.sp.halted (not k.ends_at_dma || is_back e) c.end_step.result c.end_step.ensures.goes c.if-not-end_step.false in
+    let goes = goes-by e.sp single u.sp.halted (not (k.ends_at_dma && e.dma)) c.end_step.result c.end_step.ensures.goes c.if-not-end_step.false in
     let running = turn-running l.word s t u r e single turn (elim goes [ inl none ↦ inl none | inr on ↦ inr on.0 ]) in
     let inside : c.slot.result < length l.slots = omega (arith, c.slot.ensures, c.requires.slots l.made c.loop-made-test.true, i.told.len) in
     let told = turn-told k.saves k.slot l.word l.made c.slot.result o s t r c.args.slots.now l.slots x (get_or l.slots c.slot.result c.index-slots-slot.result)
     turn.executed i.run i.told c.slot.ensures inside c.execute.ensures.saver (ranged-at l.places l.self c.vector_ranges.ensures) in
-    let passes = turn-ends l.word s t u r e single turn ends next.result next.ensures ∙ ap (λ (p : Places). ends p.pc next.result (changes_memory e)) (sym c.places.view_is) ∙ ap (λ pc. ends pc next.result (changes_memory e)) (sym c.get.ensures.value) ∙ ap (ends c.get.result next.result) (sym c.stores.ensures) ∙ sym c.ends.ensures ∙ c.if-ends.false in
+    let passes = turn-ends l.word s t u r e single turn ends next.result next.ensures ∙ ap (λ (p : Places). ends p.pc next.result e.dmem) (sym c.places.view_is) ∙ ap (λ pc. ends pc next.result e.dmem) (sym c.get.ensures.value) ∙ sym c.ends.ensures ∙ c.if-ends.false in
     record {
       within = omega (arith, c.loop-made-test.true);
       run = made-more l.made (l.made + 1) o s u i.run (turn-done l.word s t u r e single turn) (omega arith);
@@ -63,7 +61,7 @@ loop-made-preserved g c =
         | inr now ↦
             let last : l.made ≡ j = omega (arith, now, h) in
             subst (λ (n : ℕ). starts_dma_at (steps_of n o) ≡ false) last
-            (ap starts_dma_at (sym i.run.state) ∙ no-dma e single k.ends_at_dma u.sp.halted _ goes (turn-dma l.word s t u r e single turn) at_dma)
+            (ap starts_dma_at (sym i.run.state) ∙ turn-goes l.word s t u r e single turn k.ends_at_dma goes at_dma)
       ];
       asked = λ j h. elim (cases_lt j l.made) [
         | inl before ↦ i.asked j before
@@ -84,12 +82,12 @@ returns-clause-made g c =
           made-as l.made _ o s _ i.run w.made-is (c.put_places.ensures ∙ same_places _ q _ v w.places-is w.self-is ∙ (executed-none _ s (at_places q v) _ h w.in_default.is).0)
       | then-loop-made-test+in-Some+then-not-end_step w ↦
           let q = w.execute.new.places in let v = w.execute.new.self in let m = w.end_step.new.self in
-          let turn = turn-of l.word l.places q l.self v m _ w.in-Some.change single i.goes i.word w.execute.ensures.answer w.execute.ensures.state w.in-Some.is i.free w.end_step.ensures.state in
+          let turn = turn-of l.word l.places q l.self v m _ w.in-Some.reach single i.goes i.word w.execute.ensures.answer w.execute.ensures.state w.in-Some.is i.free w.end_step.ensures.state in
           let made = made-more l.made (l.made + 1) o s (at_places q m) i.run (turn-done l.word s _ _ _ _ single turn) (omega arith) in
           made-as (l.made + 1) _ o (at_places q m) _ made w.made-is (c.put_places.ensures ∙ same_places _ q _ m w.places-is w.self-is)
       | then-loop-made-test+in-Some+else-not-end_step+then-ends w ↦
           let q = w.execute.new.places in let v = w.execute.new.self in let m = w.end_step.new.self in
-          let turn = turn-of l.word l.places q l.self v m _ w.in-Some.change single i.goes i.word w.execute.ensures.answer w.execute.ensures.state w.in-Some.is i.free w.end_step.ensures.state in
+          let turn = turn-of l.word l.places q l.self v m _ w.in-Some.reach single i.goes i.word w.execute.ensures.answer w.execute.ensures.state w.in-Some.is i.free w.end_step.ensures.state in
           let made = made-more l.made (l.made + 1) o s (at_places q m) i.run (turn-done l.word s _ _ _ _ single turn) (omega arith) in
           made-as (l.made + 1) _ o (at_places q m) _ made w.made-is (c.put_places.ensures ∙ same_places _ q _ m w.places-is w.self-is)
     ]
@@ -130,25 +128,25 @@ returns-clause-ends g c less =
           let end = c.put_places.ensures ∙ same_places _ q _ v w.places-is w.self-is ∙ none.0 in
           inl (ap (λ (x : State). done_steps (step_of x).0) end ∙ ap (λ x. done_steps x.0) none.1)
       | then-loop-made-test+in-Some+then-not-end_step w ↦
-          let q = w.execute.new.places in let v = w.execute.new.self in let m = w.end_step.new.self in let e = w.in-Some.change in let single = c.single_step-single.result in
+          let q = w.execute.new.places in let v = w.execute.new.self in let m = w.end_step.new.self in let e = w.in-Some.reach in let single = c.single_step-single.result in
           let turn = turn-of l.word l.places q l.self v m _ e single i.goes i.word w.execute.ensures.answer w.execute.ensures.state w.in-Some.is i.free w.end_step.ensures.state in
           let last : made - 1 ≡ l.made = omega (arith, w.made-is) in
-          elim (stops-by (reaches_sp e) single m.sp.halted (not k.ends_at_dma || is_back e) w.end_step.result w.end_step.ensures.goes w.if-not-end_step.true) [
+          elim (stops-by e.sp single m.sp.halted (not (k.ends_at_dma && e.dma)) w.end_step.result w.end_step.ensures.goes w.if-not-end_step.true) [
             | inl halted ↦
                 let end = ap (λ (x : State). x.sp.halted) (c.put_places.ensures ∙ same_places _ q _ m w.places-is w.self-is) in
                 inl (ap (λ x. done_steps x.0) (step_halted c.put_places.new.self (end ∙ halted)))
             | inr stops ↦
-                let dma = a-dma e k.ends_at_dma _ stops (turn-dma l.word s _ _ _ e single turn) in
+                let dma = turn-stops l.word s _ _ _ e single turn k.ends_at_dma stops in
                 inr (omega (arith, w.made-is), inl (dma.0, ap (λ n. starts_dma_at (steps_of n o)) last ∙ ap starts_dma_at (sym i.run.state) ∙ dma.1))
           ]
       | then-loop-made-test+in-Some+else-not-end_step+then-ends w ↦
-          let q = w.execute.new.places in let v = w.execute.new.self in let m = w.end_step.new.self in let e = w.in-Some.change in let next = w.word_at-word-in-loop-made in
+          let q = w.execute.new.places in let v = w.execute.new.self in let m = w.end_step.new.self in let e = w.in-Some.reach in let next = w.word_at-word-in-loop-made in
           let single = c.single_step-single.result in let ends = g.U.Until.ends c.args.until.now in
           let turn = turn-of l.word l.places q l.self v m _ e single i.goes i.word w.execute.ensures.answer w.execute.ensures.state w.in-Some.is i.free w.end_step.ensures.state in
           let last : made - 1 ≡ l.made = omega (arith, w.made-is) in
           inr (
             omega (arith, w.made-is),
             inr (ap (λ n. ends_after ends (steps_of n o)) last ∙ ap (ends_after ends) (sym i.run.state)
-                ∙ turn-ends l.word s _ _ _ e single turn ends next.result next.ensures ∙ ap (λ (p : Places). ends p.pc next.result (changes_memory e)) (sym w.places.view_is) ∙ ap (λ pc. ends pc next.result (changes_memory e)) (sym w.get.ensures.value) ∙ ap (ends w.get.result next.result) (sym w.stores.ensures) ∙ sym w.ends.ensures ∙ w.if-ends.true),
+                ∙ turn-ends l.word s _ _ _ e single turn ends next.result next.ensures ∙ ap (λ (p : Places). ends p.pc next.result e.dmem) (sym w.places.view_is) ∙ ap (λ pc. ends pc next.result e.dmem) (sym w.get.ensures.value) ∙ sym w.ends.ensures ∙ w.if-ends.true),
           )
     ]
