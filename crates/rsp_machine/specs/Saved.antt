@@ -1,4 +1,4 @@
--- What a record saves of the state before a step, and how it leads back: for the debugger. What an instruction does is in Step.
+-- What a record saves of the state before a step, and how it undoes the step: for the debugger. What an instruction does is in Step.
 use Rattle.std.specs.Prelude.{ℕ, ℤ, pos, ◌+◌, ◌-◌, ◌%◌, ◌==◌, ◌||◌, Bool, true, false, if◌then◌else◌, List, [], ◌∷◌, Option, Some, None, replicate, slice_index_or}
 use Rattle.rsp_decode.specs.declared.inst.Inst.{Inst}
 use Rattle.rsp_decode.specs.declared.inst.Inst.TheVariants.{Shift, ShiftBy, JumpRegister, JumpLinkRegister, Break, Register, BranchSign, BranchEqual, Jump, Immediate, LoadUpper, Load, Store, MoveSp, MoveVector, MoveControl, Multiply, Round, MpegMultiply, ReadAccumulator, VectorAdd, VectorSelect, VectorClip, VectorMerge, VectorLogic, Divide, Idle, VectorLoad, VectorStore}
@@ -27,7 +27,7 @@ use Rattle.rsp_machine.specs.State.{State}
 use Rattle.rsp_machine.specs.declared.change.Change.{Change}
 use Rattle.rsp_machine.specs.declared.change.Change.TheVariants as of
 
--- What one step saved: values as they were before it. Which of them count is told by `change`.
+-- What one step saved: values as they were before it. `change` says which of them count.
 pub record Saved : Type 0 where
   pub pc : ℕ
   pub change : Change
@@ -35,7 +35,7 @@ pub record Saved : Type 0 where
   pub bytes : List ℕ
   pub vector : List ℕ
   pub vectors : List (List ℕ)
-  pub accumulators : List ℤ  -- of a row that writes the low accumulators alone, their low sixteen bits
+  pub accumulators : List ℤ  -- of an instruction that writes the low accumulators alone, their low sixteen bits
   pub flags : Flags
   pub divider : Divider
   pub sp : Sp
@@ -75,7 +75,7 @@ with_vco_and_vcc old f = record (with_vco old f) { compare = old.compare; clip =
 abbrev pub with_low_of : List ℤ → List ℤ → List ℤ
 with_low_of old xs = with_low xs (low_lanes old)
 
--- a record after it has saved the values that a change will write over
+-- a record after it has saved the values that a change overwrites
 unfoldable pub values_saved : Change → State → Saved → Saved
 values_saved (of.Register n) s r = record r { word = register s.registers n }
 values_saved (of.Bytes a) s r = record r { bytes = bytes_at s.dmem a 16 }
@@ -91,7 +91,7 @@ values_saved of.Flags s r = record r { flags = s.flags }
 values_saved (of.Sp n) s r = record r { word = register s.registers n; sp = s.sp }
 values_saved _ s r = r
 
--- a record after it was told of a change
+-- a record after a change
 unfoldable pub change_saved : Change → State → Saved → Saved
 change_saved change s r = values_saved change s (record r { pc = s.pc; change = change })
 
@@ -158,7 +158,7 @@ change_of (VectorLoad row f) s = loaded_change row f.vt
 change_of (VectorStore row f) s =
     of.Bytes (window_of row (transfer_address (VectorStore row f) (register s.registers f.base)))
 
--- A saver after a step: it is told what the instruction changes, where there is one.
+-- A saver after an instruction, if there is one, and after a step: it gets what the instruction changes.
 abbrev pub told_by : {K : Type 0} → (Change → State → K → K) → Option Inst → State → K → K
 told_by saves None s k = k
 told_by saves (Some i) s k = saves (change_of i s) s k
@@ -171,7 +171,7 @@ abbrev pub starts_dma : Inst → Bool
 starts_dma (MoveSp To rt n) = is_length n
 starts_dma _ = false
 
--- whether a record leads back
+-- whether a record undoes its step
 abbrev pub is_back : Change → Bool
 is_back of.Dma = false
 is_back _ = true
@@ -185,11 +185,11 @@ changes_memory _ = false
 abbrev pub may_store : Saved → Bool
 may_store r = changes_memory r.change
 
--- the vector register of a computing row and the accumulators, written back
+-- vector register n and the accumulators, written back
 abbrev pub with_product : ℕ → Saved → State → State
 with_product n r s = record s { vectors = with_vector s.vectors n r.vector; accumulators = r.accumulators }
 
--- and with the low accumulators alone; the row left the others
+-- and with the low accumulators alone; the instruction left the others
 abbrev pub with_low_part : ℕ → Saved → State → State
 with_low_part n r s = record s { vectors = with_vector s.vectors n r.vector; accumulators = with_low_of r.accumulators s.accumulators }
 
@@ -217,6 +217,6 @@ before pc npc s = record s { pc = pc; npc = npc; sp = record s.sp { halted = fal
 abbrev pub record_at : List Saved → ℕ → Saved
 record_at records i = slice_index_or records i blank
 
--- the state before the step, where a way leads back; else nothing changes
+-- the state before the step, if the record undoes it; else nothing changes
 unfoldable pub undone : Saved → State → State
 undone r s = if is_back r.change then before r.pc s.pc (restored r.change r s) else s

@@ -1,4 +1,4 @@
-// What a row changes of a machine.
+// What an instruction changes of a machine.
 
 ghost use Rattle.std.specs.Prelude.{◌≡◌, ◌<◌};
 ghost use Rattle.rsp_decode.specs.Table.{IsInstruction};
@@ -9,8 +9,8 @@ use crate::machine::Machine;
 use rsp_acc::Acc;
 use rsp_decode::{Inst, JumpRow, MoveRow, SignRow, VectorLoadRow, VectorStoreRow};
 
-/// What an instruction changes of a machine besides pc and npc, with the register or the address that it names. Register
-/// numbers are words here: a step that stores one would take two instructions more for the lower half of a word.
+/// What an instruction changes of a machine besides pc and npc, with the register or the address. A register number is a word
+/// here, which a step stores at once.
 #[derive(Clone, Copy)]
 pub(crate) enum Change {
     /// Nothing else.
@@ -39,7 +39,7 @@ pub(crate) enum Change {
     Flags,
     /// The SP registers, and a scalar register.
     Sp(u32),
-    /// What a DMA changes, which isn't saved: no way leads back.
+    /// A DMA. Its effect isn't saved, so the step can't be undone.
     Dma,
 }
 

@@ -1,4 +1,4 @@
-// What one step saves, and how it leads back.
+// What a step saves, and how it is undone.
 
 ghost use Rattle.std.specs.Prelude.{◌≡◌, ◌<◌, ◌≤◌};
 ghost use Rattle.rsp_loadstore.specs.File.{vector};
@@ -15,9 +15,8 @@ use rsp_loadstore::VFile;
 use rsp_regs::SpRegs;
 use std::marker::Model;
 
-/// What one step saved: the values that its instruction can change, as they were before. [`Machine::undo`] writes them
-/// back. A record can serve step after step. Each writes only the values that count for it, and the others stay as
-/// earlier steps left them, also in contracts.
+/// What a step saved: the values that its instruction overwrites. [`Machine::undo`] writes them back. A record can be used for step
+/// after step: each writes only the values that it needs, and the others stay as earlier steps left them, also in contracts.
 #[derive(Drop)]
 pub struct Record {
     pc: Place,
@@ -55,7 +54,7 @@ impl Model for Record {
 }
 
 impl Record {
-    /// A blank, which no step wrote: [`Machine::undo`] of it changes nothing.
+    /// The record of no step: [`Machine::undo`] of it changes nothing.
     #[tactic(auto, unfolding(crate::specs::Saved::blank))]
     pub fn new() -> Record
         ensures { result ≡ blank }
@@ -75,7 +74,7 @@ impl Record {
         }
     }
 
-    /// Whether [`Machine::undo`] of it leads back: not from a step that started a DMA.
+    /// Whether [`Machine::undo`] undoes the step: not if it started a DMA.
     #[inline(always)]
     pub fn leads_back(&self) -> bool
         ensures { result ≡ is_back self.now.change }
@@ -195,9 +194,8 @@ impl Saver for Record {
 }
 
 impl<A: Acc> Machine<A> {
-    /// Undoes a step: writes back what the step changed, and goes back to its place. On the state after the step this
-    /// gives the whole state before it. A blank, and what [`Machine::steps_recorded`] leaves of a step that starts a DMA,
-    /// change nothing.
+    /// Undoes a step: writes back what it changed, and goes back to its address. From the state after the step this restores the
+    /// whole state before it. The record of no step, and that of a step that starts a DMA, change nothing.
     #[tactic(auto, unfolding(crate::specs::Saved::undone, crate::specs::Saved::restored))]
     pub fn undo(&mut self, saved: &Record)
         ensures { self.new ≡ undone saved.now self.old }
@@ -235,7 +233,7 @@ impl<A: Acc> Machine<A> {
         self.pc = saved.pc;
     }
 
-    /// Writes back the vector register of a computing row and the accumulators.
+    /// Writes back vector register `n` and the accumulators.
     fn put_product(&mut self, saved: &Record, n: u32)
         requires { n < 32 }
         ensures { self.new ≡ with_product n saved.now self.old }
@@ -244,7 +242,7 @@ impl<A: Acc> Machine<A> {
         self.acc.replace(&saved.accumulators);
     }
 
-    /// Writes back the vector register of a computing row and the low accumulators.
+    /// Writes back vector register `n` and the low accumulators.
     fn put_low(&mut self, saved: &Record, n: u32)
         requires { n < 32 }
         ensures { self.new ≡ with_low_part n saved.now self.old }
@@ -253,7 +251,7 @@ impl<A: Acc> Machine<A> {
         self.acc.set_low(&saved.accumulators.low());
     }
 
-    /// Writes back a vector register, the low accumulators and the flags of VCO.
+    /// Writes back vector register `n`, the low accumulators and the flags of VCO.
     fn put_sum(&mut self, saved: &Record, n: u32)
         requires { n < 32 }
         ensures { self.new ≡ record (with_low_part n saved.now self.old) { flags = with_vco saved.now.flags self.old.flags } }

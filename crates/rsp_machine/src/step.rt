@@ -20,7 +20,7 @@ use crate::until::{Never, Until};
 use rsp_acc::Acc;
 use std::slice;
 
-/// What a step came to.
+/// How a step ended.
 #[derive(Clone, Copy, Debug, PartialEq, Eq)]
 pub enum StepEnd {
     /// Answer 1: one instruction was executed.
@@ -35,7 +35,7 @@ pub enum StepEnd {
 }
 
 impl<A: Acc> Machine<A> {
-    /// pc and npc, for the loop of steps, which keeps them apart.
+    /// pc and npc, which the loop of steps keeps apart.
     #[inline(always)]
     pub(crate) fn places(&self) -> Places
         ensures { result ≡ places_of self.now }
@@ -63,8 +63,8 @@ impl<A: Acc> Machine<A> {
         self.imem.aligned_word(places.pc.index())
     }
 
-    /// Ends a step: in single step it halts. Answers whether the loop goes on. That is tested only after an instruction that may
-    /// have reached the SP registers, or if `single`, which is false only where single step is clear.
+    /// Ends a step: in single step the machine halts. Returns whether the loop goes on. This is tested only after an instruction that
+    /// may have reached the SP registers, or if `single`, which is false only if single step is clear.
     #[inline(always)]
     fn end_step<K: Saver>(&mut self, reach: Reach, single: bool) -> bool
         ensures state { self.new ≡ (if reach.sp || single then singled self.old else self.old) }
@@ -115,10 +115,9 @@ impl<A: Acc> Machine<A> {
         made
     }
 
-    /// One step: Halted if the machine is halted, else Reserved if the word of IMEM at pc is, and in both
-    /// cases nothing changes. Else the instruction there is executed, by the instruction table; then, if
-    /// single step is set in the state that it made, the machine is halted. The answer is Done. Many
-    /// steps that nothing inspects are faster by [`Machine::steps`].
+    /// One step: Halted if the machine is halted, else Reserved if the word at pc is reserved, and in both cases nothing changes. Else
+    /// the word's instruction is executed; then, if single step is set, the machine is halted, and the answer is Done. Many steps
+    /// are faster by [`Machine::steps`].
     pub fn step(&mut self) -> StepEnd
         ensures answer { result ≡ (step_of self.old).0 }
         ensures state { self.new ≡ (step_of self.old).1 }
@@ -135,7 +134,7 @@ impl<A: Acc> Machine<A> {
     }
 
     /// Makes up to `n` steps, as [`Machine::step`] makes them, as long as they are Done. Returns how many were: fewer than `n` if
-    /// the machine is halted then, or the word at pc is reserved, as a further step would answer.
+    /// the machine is halted then, or the word at pc is reserved, as a further step would return.
     pub fn steps(&mut self, n: u64) -> u64
         ensures state { self.new ≡ steps_of n self.old }
         ensures done { result ≡ done_of n self.old }

@@ -34,7 +34,7 @@ impl<A: Acc> Machine<A> {
         select(&self.vregs.reg(fields.vt), usize::from(fields.element))
     }
 
-    /// A row of the twelve multiplies.
+    /// One of the twelve multiplies.
     #[inline]
     #[tactic(auto, unfolding(crate::specs::Vector::multiplies))]
     pub(crate) fn multiply_lanes(&mut self, row: MultiplyRow, fields: VectorFields)
@@ -173,7 +173,7 @@ impl<A: Acc> Machine<A> {
         self.vregs.set_reg(fields.vd, result);
     }
 
-    /// A divide row, which writes one lane.
+    /// A divide instruction, which writes one lane.
     #[inline]
     #[tactic(auto, unfolding(crate::specs::Vector::divides))]
     pub(crate) fn divide(&mut self, row: DivideRow, vd: u8, lane: u8, vt: u8, element: u8)
