@@ -70,9 +70,19 @@ impl<A: Acc> Machine<A> {
         ensures state { self.new ≡ (if reach.sp || single then singled self.old else self.old) }
         ensures goes { result ≡ (not (reach.sp || single) || not self.new.sp.halted && not (K.ends_at_dma && reach.dma)) }
     {
-        if !(reach.sp || single) {
-            return true;
+        // Apart, so that the other instructions need not carry whether they started a DMA.
+        if reach.sp {
+            return self.halt_or_go::<K>(reach);
         }
+        !single || self.halt_or_go::<K>(reach)
+    }
+
+    /// Halts a machine in single step. Returns whether the loop goes on: the machine isn't halted, and no DMA ends the loop.
+    #[inline(always)]
+    fn halt_or_go<K: Saver>(&mut self, reach: Reach) -> bool
+        ensures state { self.new ≡ singled self.old }
+        ensures goes { result ≡ (not self.new.sp.halted && not (K.ends_at_dma && reach.dma)) }
+    {
         self.sp.on_step();
         !self.sp.halted() && !(K::ends_at_dma() && reach.dma)
     }
