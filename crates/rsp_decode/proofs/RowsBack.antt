@@ -3,51 +3,30 @@ use Rattle.std.proofs.Common.{◌≡◌, refl, ap, ◌∙◌, ℕ, List, [], ◌
 use Rattle.std.specs.Prelude.{◌==◌, find, filter, Some, None, option_map}
 use Rattle.std.proofs.lemmas.Bool.{eqb-true, eq-eqb, and_parts, cond-true}
 use Rattle.rsp_decode.specs.declared.inst.Inst.{Inst}
-use Rattle.rsp_decode.specs.declared.scalar.ShiftRow.{ShiftRow}
 use Rattle.rsp_decode.specs.declared.scalar.ShiftRow.TheVariants.{Sll}
-use Rattle.rsp_decode.specs.declared.scalar.ShiftByRow.{ShiftByRow}
 use Rattle.rsp_decode.specs.declared.scalar.ShiftByRow.TheVariants.{Sllv}
-use Rattle.rsp_decode.specs.declared.scalar.RegisterRow.{RegisterRow}
 use Rattle.rsp_decode.specs.declared.scalar.RegisterRow.TheVariants.{Add}
-use Rattle.rsp_decode.specs.declared.scalar.SignRow.{SignRow}
 use Rattle.rsp_decode.specs.declared.scalar.SignRow.TheVariants.{Bltz}
-use Rattle.rsp_decode.specs.declared.scalar.JumpRow.{JumpRow}
 use Rattle.rsp_decode.specs.declared.scalar.JumpRow.TheVariants.{J}
-use Rattle.rsp_decode.specs.declared.scalar.EqualRow.{EqualRow}
 use Rattle.rsp_decode.specs.declared.scalar.EqualRow.TheVariants.{Beq}
-use Rattle.rsp_decode.specs.declared.scalar.ImmediateRow.{ImmediateRow}
 use Rattle.rsp_decode.specs.declared.scalar.ImmediateRow.TheVariants.{Addi}
-use Rattle.rsp_decode.specs.declared.scalar.LoadRow.{LoadRow}
 use Rattle.rsp_decode.specs.declared.scalar.LoadRow.TheVariants.{Lb}
-use Rattle.rsp_decode.specs.declared.scalar.StoreRow.{StoreRow}
 use Rattle.rsp_decode.specs.declared.scalar.StoreRow.TheVariants.{Sb}
-use Rattle.rsp_decode.specs.declared.scalar.MoveRow.{MoveRow}
 use Rattle.rsp_decode.specs.declared.scalar.MoveRow.TheVariants.{From}
-use Rattle.rsp_decode.specs.declared.vector.MultiplyRow.{MultiplyRow}
 use Rattle.rsp_decode.specs.declared.vector.MultiplyRow.TheVariants.{Vmulf}
-use Rattle.rsp_decode.specs.declared.vector.RoundRow.{RoundRow}
 use Rattle.rsp_decode.specs.declared.vector.RoundRow.TheVariants.{Vrndp}
-use Rattle.rsp_decode.specs.declared.vector.MpegRow.{MpegRow}
 use Rattle.rsp_decode.specs.declared.vector.MpegRow.TheVariants.{Vmulq}
-use Rattle.rsp_decode.specs.declared.vector.VectorAddRow.{VectorAddRow}
 use Rattle.rsp_decode.specs.declared.vector.VectorAddRow.TheVariants.{Vadd}
-use Rattle.rsp_decode.specs.declared.vector.VectorSelectRow.{VectorSelectRow}
 use Rattle.rsp_decode.specs.declared.vector.VectorSelectRow.TheVariants.{Vlt}
-use Rattle.rsp_decode.specs.declared.vector.VectorClipRow.{VectorClipRow}
 use Rattle.rsp_decode.specs.declared.vector.VectorClipRow.TheVariants.{Vcl}
-use Rattle.rsp_decode.specs.declared.vector.VectorLogicRow.{VectorLogicRow}
 use Rattle.rsp_decode.specs.declared.vector.VectorLogicRow.TheVariants.{Vand}
-use Rattle.rsp_decode.specs.declared.vector.DivideRow.{DivideRow}
 use Rattle.rsp_decode.specs.declared.vector.DivideRow.TheVariants.{Vrcp}
-use Rattle.rsp_decode.specs.declared.vector.IdleRow.{IdleRow}
 use Rattle.rsp_decode.specs.declared.vector.IdleRow.TheVariants.{Vnop}
-use Rattle.rsp_decode.specs.declared.vector.VectorLoadRow.{VectorLoadRow}
 use Rattle.rsp_decode.specs.declared.vector.VectorLoadRow.TheVariants.{Lbv}
-use Rattle.rsp_decode.specs.declared.vector.VectorStoreRow.{VectorStoreRow}
 use Rattle.rsp_decode.specs.declared.vector.VectorStoreRow.TheVariants.{Sbv}
 use Rattle.rsp_decode.specs.declared.vector.Control.TheVariants.{Vco, Vcc, Vce}
 use Rattle.rsp_decode.specs.declared.inst.Inst.TheVariants.{BranchEqual, BranchSign, Break, Idle, Immediate, Jump, JumpLinkRegister, JumpRegister, Divide, Load, LoadUpper, MoveControl, MoveSp, MoveVector, Register, Shift, ShiftBy, Store, Multiply, Round, MpegMultiply, ReadAccumulator, VectorAdd, VectorSelect, VectorClip, VectorMerge, VectorLogic, VectorLoad, VectorStore}
-use Rattle.rsp_decode.specs.Table.{Row, rows, row_of, fits, fields, row_bit_fields, inst_of, canonical_of, word_from, word_of, parts, IsInstruction, FitBitFields, shift_row, shift_by_row, jump_register_row, jump_link_register_row, break_row, register_row, branch_sign_row, jump_row, branch_equal_row, immediate_row, load_upper_row, load_row, store_row, move_sp_row, move_vector_row, move_control_row, multiply_row, round_row, mpeg_row, read_accumulator_row, vector_add_row, vector_select_row, vector_clip_row, vector_merge_row, vector_logic_row, divide_row, idle_row, vector_load_row, vector_store_row}
+use Rattle.rsp_decode.specs.Table.{Row, rows, row_of, fits, fields, row_bit_fields, inst_of, canonical_of, word_from, word_of, parts, IsInstruction, FitBitFields, shift_row, shift_by_row, register_row, branch_sign_row, jump_row, branch_equal_row, immediate_row, load_row, store_row, move_sp_row, move_vector_row, move_control_row, multiply_row, round_row, mpeg_row, vector_add_row, vector_select_row, vector_clip_row, vector_logic_row, divide_row, idle_row, vector_load_row, vector_store_row}
 use Rattle.rsp_decode.proofs.Keys.{may_have, narrowed}
 use Rattle.rsp_decode.proofs.BitFields.{apart_from, all_apart, under_others, fields_back, clear_from}
 
@@ -85,123 +64,37 @@ module _ (r : Row) (good : Good r) (vs : List ℕ) (fit : FitBitFields (row_bit_
   unfolding canonical_of
   word_canonical = ap (option_map (λ (s : Row). word_from s (fields s (word_from r vs)))) word_row ∙ ap (λ f. Some (word_from r f)) word_fields
 
-shift_good : (r : ShiftRow) → Good (shift_row r)
-shift_good r = elim r as (λ s. Good (shift_row s)) [ Sll ↦ record { is_sound = refl; alone = refl } | _ ↦ record { is_sound = refl; alone = refl } ]
-
-shift_by_good : (r : ShiftByRow) → Good (shift_by_row r)
-shift_by_good r = elim r as (λ s. Good (shift_by_row s)) [ Sllv ↦ record { is_sound = refl; alone = refl } | _ ↦ record { is_sound = refl; alone = refl } ]
-
-jump_register_good : Good jump_register_row
-jump_register_good = record { is_sound = refl; alone = refl }
-
-jump_link_register_good : Good jump_link_register_row
-jump_link_register_good = record { is_sound = refl; alone = refl }
-
-break_good : Good break_row
-break_good = record { is_sound = refl; alone = refl }
-
-register_good : (r : RegisterRow) → Good (register_row r)
-register_good r = elim r as (λ s. Good (register_row s)) [ Add ↦ record { is_sound = refl; alone = refl } | _ ↦ record { is_sound = refl; alone = refl } ]
-
-branch_sign_good : (r : SignRow) → Good (branch_sign_row r)
-branch_sign_good r = elim r as (λ s. Good (branch_sign_row s)) [ Bltz ↦ record { is_sound = refl; alone = refl } | _ ↦ record { is_sound = refl; alone = refl } ]
-
-jump_good : (r : JumpRow) → Good (jump_row r)
-jump_good r = elim r as (λ s. Good (jump_row s)) [ J ↦ record { is_sound = refl; alone = refl } | _ ↦ record { is_sound = refl; alone = refl } ]
-
-branch_equal_good : (r : EqualRow) → Good (branch_equal_row r)
-branch_equal_good r = elim r as (λ s. Good (branch_equal_row s)) [ Beq ↦ record { is_sound = refl; alone = refl } | _ ↦ record { is_sound = refl; alone = refl } ]
-
-immediate_good : (r : ImmediateRow) → Good (immediate_row r)
-immediate_good r = elim r as (λ s. Good (immediate_row s)) [ Addi ↦ record { is_sound = refl; alone = refl } | _ ↦ record { is_sound = refl; alone = refl } ]
-
-load_upper_good : Good load_upper_row
-load_upper_good = record { is_sound = refl; alone = refl }
-
-load_good : (r : LoadRow) → Good (load_row r)
-load_good r = elim r as (λ s. Good (load_row s)) [ Lb ↦ record { is_sound = refl; alone = refl } | _ ↦ record { is_sound = refl; alone = refl } ]
-
-store_good : (r : StoreRow) → Good (store_row r)
-store_good r = elim r as (λ s. Good (store_row s)) [ Sb ↦ record { is_sound = refl; alone = refl } | _ ↦ record { is_sound = refl; alone = refl } ]
-
-move_sp_good : (r : MoveRow) → Good (move_sp_row r)
-move_sp_good r = elim r as (λ s. Good (move_sp_row s)) [ From ↦ record { is_sound = refl; alone = refl } | _ ↦ record { is_sound = refl; alone = refl } ]
-
-move_vector_good : (r : MoveRow) → Good (move_vector_row r)
-move_vector_good r = elim r as (λ s. Good (move_vector_row s)) [ From ↦ record { is_sound = refl; alone = refl } | _ ↦ record { is_sound = refl; alone = refl } ]
-
-move_control_good : (r : MoveRow) → Good (move_control_row r)
-move_control_good r = elim r as (λ s. Good (move_control_row s)) [ From ↦ record { is_sound = refl; alone = refl } | _ ↦ record { is_sound = refl; alone = refl } ]
-
-multiply_good : (r : MultiplyRow) → Good (multiply_row r)
-multiply_good r = elim r as (λ s. Good (multiply_row s)) [ Vmulf ↦ record { is_sound = refl; alone = refl } | _ ↦ record { is_sound = refl; alone = refl } ]
-
-round_good : (r : RoundRow) → Good (round_row r)
-round_good r = elim r as (λ s. Good (round_row s)) [ Vrndp ↦ record { is_sound = refl; alone = refl } | _ ↦ record { is_sound = refl; alone = refl } ]
-
-mpeg_good : (r : MpegRow) → Good (mpeg_row r)
-mpeg_good r = elim r as (λ s. Good (mpeg_row s)) [ Vmulq ↦ record { is_sound = refl; alone = refl } | _ ↦ record { is_sound = refl; alone = refl } ]
-
-read_accumulator_good : Good read_accumulator_row
-read_accumulator_good = record { is_sound = refl; alone = refl }
-
-vector_add_good : (r : VectorAddRow) → Good (vector_add_row r)
-vector_add_good r = elim r as (λ s. Good (vector_add_row s)) [ Vadd ↦ record { is_sound = refl; alone = refl } | _ ↦ record { is_sound = refl; alone = refl } ]
-
-vector_select_good : (r : VectorSelectRow) → Good (vector_select_row r)
-vector_select_good r = elim r as (λ s. Good (vector_select_row s)) [ Vlt ↦ record { is_sound = refl; alone = refl } | _ ↦ record { is_sound = refl; alone = refl } ]
-
-vector_clip_good : (r : VectorClipRow) → Good (vector_clip_row r)
-vector_clip_good r = elim r as (λ s. Good (vector_clip_row s)) [ Vcl ↦ record { is_sound = refl; alone = refl } | _ ↦ record { is_sound = refl; alone = refl } ]
-
-vector_merge_good : Good vector_merge_row
-vector_merge_good = record { is_sound = refl; alone = refl }
-
-vector_logic_good : (r : VectorLogicRow) → Good (vector_logic_row r)
-vector_logic_good r = elim r as (λ s. Good (vector_logic_row s)) [ Vand ↦ record { is_sound = refl; alone = refl } | _ ↦ record { is_sound = refl; alone = refl } ]
-
-divide_good : (r : DivideRow) → Good (divide_row r)
-divide_good r = elim r as (λ s. Good (divide_row s)) [ Vrcp ↦ record { is_sound = refl; alone = refl } | _ ↦ record { is_sound = refl; alone = refl } ]
-
-idle_good : (r : IdleRow) → Good (idle_row r)
-idle_good r = elim r as (λ s. Good (idle_row s)) [ Vnop ↦ record { is_sound = refl; alone = refl } | _ ↦ record { is_sound = refl; alone = refl } ]
-
-vector_load_good : (r : VectorLoadRow) → Good (vector_load_row r)
-vector_load_good r = elim r as (λ s. Good (vector_load_row s)) [ Lbv ↦ record { is_sound = refl; alone = refl } | _ ↦ record { is_sound = refl; alone = refl } ]
-
-vector_store_good : (r : VectorStoreRow) → Good (vector_store_row r)
-vector_store_good r = elim r as (λ s. Good (vector_store_row s)) [ Sbv ↦ record { is_sound = refl; alone = refl } | _ ↦ record { is_sound = refl; alone = refl } ]
-
+-- each row of an instruction
 good_parts : (i : Inst) → Good (parts i).0
-good_parts (Shift r rd rt amount) = shift_good r
-good_parts (ShiftBy r fields) = shift_by_good r
-good_parts (JumpRegister rs) = jump_register_good
-good_parts (JumpLinkRegister rd rs) = jump_link_register_good
-good_parts Break = break_good
-good_parts (Register r fields) = register_good r
-good_parts (BranchSign r rs offset) = branch_sign_good r
-good_parts (Jump r target) = jump_good r
-good_parts (BranchEqual r rs rt offset) = branch_equal_good r
-good_parts (Immediate r rt rs imm) = immediate_good r
-good_parts (LoadUpper rt imm) = load_upper_good
-good_parts (Load r fields) = load_good r
-good_parts (Store r fields) = store_good r
-good_parts (MoveSp r rt register) = move_sp_good r
-good_parts (MoveVector r rt vector' element) = move_vector_good r
-good_parts (MoveControl r rt control) = move_control_good r
-good_parts (Multiply r fields) = multiply_good r
-good_parts (Round r fields) = round_good r
-good_parts (MpegMultiply r fields) = mpeg_good r
-good_parts (ReadAccumulator fields) = read_accumulator_good
-good_parts (VectorAdd r fields) = vector_add_good r
-good_parts (VectorSelect r fields) = vector_select_good r
-good_parts (VectorClip r fields) = vector_clip_good r
-good_parts (VectorMerge fields) = vector_merge_good
-good_parts (VectorLogic r fields) = vector_logic_good r
-good_parts (Divide r vd lane vt element) = divide_good r
-good_parts (Idle r) = idle_good r
-good_parts (VectorLoad r fields) = vector_load_good r
-good_parts (VectorStore r fields) = vector_store_good r
+good_parts (Shift r rd rt amount) = elim r as (λ s. Good (shift_row s)) [ Sll ↦ record { is_sound = refl; alone = refl } | _ ↦ record { is_sound = refl; alone = refl } ]
+good_parts (ShiftBy r fields) = elim r as (λ s. Good (shift_by_row s)) [ Sllv ↦ record { is_sound = refl; alone = refl } | _ ↦ record { is_sound = refl; alone = refl } ]
+good_parts (JumpRegister rs) = record { is_sound = refl; alone = refl }
+good_parts (JumpLinkRegister rd rs) = record { is_sound = refl; alone = refl }
+good_parts Break = record { is_sound = refl; alone = refl }
+good_parts (Register r fields) = elim r as (λ s. Good (register_row s)) [ Add ↦ record { is_sound = refl; alone = refl } | _ ↦ record { is_sound = refl; alone = refl } ]
+good_parts (BranchSign r rs offset) = elim r as (λ s. Good (branch_sign_row s)) [ Bltz ↦ record { is_sound = refl; alone = refl } | _ ↦ record { is_sound = refl; alone = refl } ]
+good_parts (Jump r target) = elim r as (λ s. Good (jump_row s)) [ J ↦ record { is_sound = refl; alone = refl } | _ ↦ record { is_sound = refl; alone = refl } ]
+good_parts (BranchEqual r rs rt offset) = elim r as (λ s. Good (branch_equal_row s)) [ Beq ↦ record { is_sound = refl; alone = refl } | _ ↦ record { is_sound = refl; alone = refl } ]
+good_parts (Immediate r rt rs imm) = elim r as (λ s. Good (immediate_row s)) [ Addi ↦ record { is_sound = refl; alone = refl } | _ ↦ record { is_sound = refl; alone = refl } ]
+good_parts (LoadUpper rt imm) = record { is_sound = refl; alone = refl }
+good_parts (Load r fields) = elim r as (λ s. Good (load_row s)) [ Lb ↦ record { is_sound = refl; alone = refl } | _ ↦ record { is_sound = refl; alone = refl } ]
+good_parts (Store r fields) = elim r as (λ s. Good (store_row s)) [ Sb ↦ record { is_sound = refl; alone = refl } | _ ↦ record { is_sound = refl; alone = refl } ]
+good_parts (MoveSp r rt register) = elim r as (λ s. Good (move_sp_row s)) [ From ↦ record { is_sound = refl; alone = refl } | _ ↦ record { is_sound = refl; alone = refl } ]
+good_parts (MoveVector r rt vector' element) = elim r as (λ s. Good (move_vector_row s)) [ From ↦ record { is_sound = refl; alone = refl } | _ ↦ record { is_sound = refl; alone = refl } ]
+good_parts (MoveControl r rt control) = elim r as (λ s. Good (move_control_row s)) [ From ↦ record { is_sound = refl; alone = refl } | _ ↦ record { is_sound = refl; alone = refl } ]
+good_parts (Multiply r fields) = elim r as (λ s. Good (multiply_row s)) [ Vmulf ↦ record { is_sound = refl; alone = refl } | _ ↦ record { is_sound = refl; alone = refl } ]
+good_parts (Round r fields) = elim r as (λ s. Good (round_row s)) [ Vrndp ↦ record { is_sound = refl; alone = refl } | _ ↦ record { is_sound = refl; alone = refl } ]
+good_parts (MpegMultiply r fields) = elim r as (λ s. Good (mpeg_row s)) [ Vmulq ↦ record { is_sound = refl; alone = refl } | _ ↦ record { is_sound = refl; alone = refl } ]
+good_parts (ReadAccumulator fields) = record { is_sound = refl; alone = refl }
+good_parts (VectorAdd r fields) = elim r as (λ s. Good (vector_add_row s)) [ Vadd ↦ record { is_sound = refl; alone = refl } | _ ↦ record { is_sound = refl; alone = refl } ]
+good_parts (VectorSelect r fields) = elim r as (λ s. Good (vector_select_row s)) [ Vlt ↦ record { is_sound = refl; alone = refl } | _ ↦ record { is_sound = refl; alone = refl } ]
+good_parts (VectorClip r fields) = elim r as (λ s. Good (vector_clip_row s)) [ Vcl ↦ record { is_sound = refl; alone = refl } | _ ↦ record { is_sound = refl; alone = refl } ]
+good_parts (VectorMerge fields) = record { is_sound = refl; alone = refl }
+good_parts (VectorLogic r fields) = elim r as (λ s. Good (vector_logic_row s)) [ Vand ↦ record { is_sound = refl; alone = refl } | _ ↦ record { is_sound = refl; alone = refl } ]
+good_parts (Divide r vd lane vt element) = elim r as (λ s. Good (divide_row s)) [ Vrcp ↦ record { is_sound = refl; alone = refl } | _ ↦ record { is_sound = refl; alone = refl } ]
+good_parts (Idle r) = elim r as (λ s. Good (idle_row s)) [ Vnop ↦ record { is_sound = refl; alone = refl } | _ ↦ record { is_sound = refl; alone = refl } ]
+good_parts (VectorLoad r fields) = elim r as (λ s. Good (vector_load_row s)) [ Lbv ↦ record { is_sound = refl; alone = refl } | _ ↦ record { is_sound = refl; alone = refl } ]
+good_parts (VectorStore r fields) = elim r as (λ s. Good (vector_store_row s)) [ Sbv ↦ record { is_sound = refl; alone = refl } | _ ↦ record { is_sound = refl; alone = refl } ]
 
 rebuilt : (i : Inst) → (parts i).0.inst (parts i).1 ≡ i
 rebuilt (MoveControl r rt Vco) = refl

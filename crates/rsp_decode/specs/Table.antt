@@ -1,4 +1,4 @@
--- The instruction table: what selects each row, its name, the operands of its text, and the instruction that it means.
+-- The instruction table: what selects each row, its name, its operands, and its instruction.
 pub mod BitFields
 pub mod Operands
 pub mod Fields

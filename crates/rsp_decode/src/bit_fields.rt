@@ -1,4 +1,4 @@
-// The bit fields of a word, each named for what the instructions that have it take it as.
+// The bit fields of a word, named for their use in an instruction.
 
 ghost use Rattle.std.specs.Prelude.{◌≡◌, ◌<◌, ◌==◌, ◌%◌};
 ghost use Rattle.rsp_decode.specs.Table.{value_at, whole, capped, control_of, vector_memory_in};
@@ -15,7 +15,7 @@ pub fn opcode(word: u32) -> u8
     (word >> 26) as u8
 }
 
-/// Bits 5 to 0, which select a row of opcode 0 and a computing one.
+/// Bits 5 to 0, which select an instruction of opcode 0, and a computing instruction of the vector unit.
 #[inline(always)]
 pub fn function(word: u32) -> u32
     ensures value { result ≡ value_at word (whole 0 6) }
@@ -42,7 +42,7 @@ pub fn rs(word: u32) -> u8
     (word >> 21 & 31) as u8
 }
 
-/// Bits 20 to 16: a scalar register, or what selects a row of opcode 1.
+/// Bits 20 to 16: a scalar register, or what selects an instruction of opcode 1.
 #[inline(always)]
 pub fn rt(word: u32) -> u8
     ensures { result ≡ value_at word (whole 16 5) }
@@ -66,7 +66,7 @@ pub fn shift_amount(word: u32) -> u8
     (word >> 6 & 31) as u8
 }
 
-/// Bits 15 to 0: an immediate, or an offset.
+/// Bits 15 to 0: an immediate or an offset, not sign-extended.
 #[inline(always)]
 pub fn immediate(word: u32) -> u16
     ensures { result ≡ value_at word (whole 0 16) }
@@ -74,7 +74,7 @@ pub fn immediate(word: u32) -> u16
     (word & 0xffff) as u16
 }
 
-/// Bits 9 to 0, all that counts of where a jump goes.
+/// Bits 9 to 0: the target of a jump in words, modulo the size of IMEM.
 #[inline(always)]
 pub fn target(word: u32) -> u16
     ensures { result ≡ value_at word (whole 0 10) }
@@ -90,7 +90,7 @@ pub fn sp_register(word: u32) -> u8
     (word >> 11 & 15) as u8
 }
 
-/// Bits 12 and 11: a control register.
+/// Bits 12 and 11: a control register; 3 is read as 2.
 #[inline(always)]
 pub fn control(word: u32) -> Control
     ensures { result ≡ control_of (value_at word (capped 11 2 2)) }
@@ -126,7 +126,7 @@ pub fn vt(word: u32) -> u8
     (word >> 16 & 31) as u8
 }
 
-/// Bits 24 to 21: which lanes of `vt` a computing row takes.
+/// Bits 24 to 21: the element of a computing instruction, which selects lanes of `vt`.
 #[inline(always)]
 pub fn element(word: u32) -> u8
     ensures { result ≡ value_at word (whole 21 4) }
@@ -134,7 +134,7 @@ pub fn element(word: u32) -> u8
     (word >> 21 & 15) as u8
 }
 
-/// Bits 13 to 11: the lane that a divide row writes.
+/// Bits 13 to 11: the lane that a divide instruction writes.
 #[inline(always)]
 pub fn lane(word: u32) -> u8
     ensures { result ≡ value_at word (whole 11 3) }

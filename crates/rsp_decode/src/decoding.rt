@@ -4,35 +4,22 @@ ghost use Rattle.std.specs.Prelude.{◌≡◌, ◌↔◌, IfSome, IsTrue};
 ghost use Rattle.rsp_decode.specs.Visit.{is_known, visited};
 ghost use Rattle.rsp_decode.specs.Table.{inst_of, canonical_of, word_of, IsInstruction};
 
-mod computing;
-mod cop0;
-mod cop2;
-mod lwc2;
-mod opcode;
-mod regimm;
-mod special;
-mod swc2;
+mod scalar;
+mod vector;
 
 use crate::bit_fields;
 use crate::encoding::encode;
 use crate::inst::Inst;
-use crate::kept::Kept;
-use crate::visitor::Visitor;
-use computing::visit_computing;
-use cop0::visit_cop0;
-use cop2::visit_cop2;
-use lwc2::visit_lwc2;
-use opcode::visit_opcode;
-use regimm::visit_regimm;
-use special::visit_special;
-use swc2::visit_swc2;
+use crate::visitor::{Kept, Visitor};
+use scalar::{visit_cop0, visit_opcode, visit_regimm, visit_special};
+use vector::{visit_computing, visit_cop2, visit_lwc2, visit_swc2};
 
-/// What a word means by the instruction table, at its named fields: None exactly for a reserved
-/// word, which no row fits. Bits that the row neither selects by nor names are ignored.
+/// The instruction of a word, by the instruction table: None exactly for a reserved word, which no row of the table fits.
+/// Bits that neither select the row nor belong to a named field are ignored.
 #[inline]
 pub fn decode(word: u32) -> Option<Inst>
     ensures value { result ≡ inst_of word }
-    // What it gives is within the ranges of `Inst`, and has the word's canonical form as its word.
+    // The fields are in the ranges of `Inst`, and `encode` gives the word's canonical form.
     ensures instruction { IfSome result IsInstruction }
     ensures canonical { IfSome result (λ i. canonical_of word ≡ Some (word_of i)) }
 {
@@ -48,8 +35,8 @@ fn meaning(word: u32) -> Option<Inst>
     kept.inst
 }
 
-/// Takes a word apart for a visitor, which gets the instruction that [`decode`] gives. Answers whether there
-/// is one: for a reserved word the answer is false, and the visitor stays as it is.
+/// Decodes a word and hands its instruction, that of [`decode`], to a visitor. Returns whether there is one: for a reserved
+/// word it returns false, and the visitor is unchanged.
 #[inline(always)]
 pub fn visit<V: Visitor>(word: u32, visitor: &mut V) -> bool
     ensures known { result ≡ is_known (inst_of word) }
@@ -72,8 +59,8 @@ pub fn visit<V: Visitor>(word: u32, visitor: &mut V) -> bool
     }
 }
 
-/// Whether a word is the canonical one of what it means: some row fits it, and each bit that the
-/// row neither selects by nor names is 0. False of a reserved word.
+/// Whether a word is the canonical one of its instruction: each bit that neither selects the row nor belongs to a named
+/// field is 0. False for a reserved word.
 #[inline]
 pub fn is_canonical(word: u32) -> bool
     ensures { IsTrue result ↔ (canonical_of word ≡ Some word) }

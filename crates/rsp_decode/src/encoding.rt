@@ -21,11 +21,10 @@ use vector::{
     vector_store_value,
 };
 
-/// The canonical word of an instruction: the bits that select its row, its named fields in their bit
-/// fields, and 0 in every other bit. It decodes to the instruction again.
+/// The canonical word of an instruction: the bits that select its row of the table, its fields in their bit fields, and 0 in
+/// every other bit. It decodes to the instruction again.
 ///
-/// The fields must be in the ranges of [`Inst`], as those of what [`decode`](crate::decode) gives
-/// are.
+/// Requires fields in the ranges of [`Inst`], as in each instruction from [`decode`](crate::decode).
 #[inline]
 pub fn encode(inst: &Inst) -> u32
     requires { IsInstruction inst.now }
@@ -121,7 +120,7 @@ fn canonical_word(inst: &Inst) -> u32
     }
 }
 
-// A word with the fields of `$vD, $vS, $vT[e]` too.
+// A word with the fields of `$vD, $vS, $vT[e]` added.
 #[inline]
 fn with_vectors(word: u32, fields: VectorFields) -> u32
     ensures { result ≡ with_fields word (flat_map bit_fields vector_operands) (vector_values fields) }
@@ -129,7 +128,7 @@ fn with_vectors(word: u32, fields: VectorFields) -> u32
     word | at(fields.vd, 6) | at(fields.vs, 11) | at(fields.vt, 16) | at(fields.element, 21)
 }
 
-// A field at its place.
+// A field whose lowest bit is bit `low` of a word.
 #[inline]
 fn at(field: u8, low: u32) -> u32
     requires { low ≤ 24 }

@@ -1,4 +1,4 @@
-// Fields that travel together: the operands of instructions that share the form of their text.
+// Fields that instructions with the same operands share.
 
 /// The fields of `$vD, $vS, $vT[e]`.
 #[derive(Clone, Copy)]
@@ -9,7 +9,7 @@ pub struct VectorFields {
     pub vs: u8,
     /// The second vector register that is read, below 32.
     pub vt: u8,
-    /// Which lanes of the second one are taken, below 16.
+    /// The element, which selects lanes of `vt`, below 16.
     pub element: u8,
 }
 
@@ -20,9 +20,9 @@ pub struct VectorMemoryFields {
     pub vt: u8,
     /// The byte of the register at which the transfer begins, below 16; 0 or 8 of `lfv` and `sfv`.
     pub element: u8,
-    /// The word's 7 bits, below 128, as yet without a sign. The row's scale multiplies them once the sign is taken.
+    /// The word's 7 bits, below 128, not sign-extended. The offset in bytes is their signed value times the instruction's scale.
     pub offset: u8,
-    /// The scalar register that the address is counted from, below 32.
+    /// The scalar register with the base address, below 32.
     pub base: u8,
 }
 
@@ -31,9 +31,9 @@ pub struct VectorMemoryFields {
 pub struct ScalarMemoryFields {
     /// The scalar register that is loaded or stored, below 32.
     pub rt: u8,
-    /// The word's 16 bits, as yet without a sign.
+    /// The word's 16 bits, not sign-extended: the offset in bytes is their signed value.
     pub offset: u16,
-    /// The scalar register that the address is counted from, below 32.
+    /// The scalar register with the base address, below 32.
     pub base: u8,
 }
 
@@ -42,8 +42,8 @@ pub struct ScalarMemoryFields {
 pub struct RegisterFields {
     /// The scalar register that is written, below 32.
     pub rd: u8,
-    /// The scalar register that bits 25 to 21 name, below 32.
+    /// The scalar register of bits 25 to 21, below 32.
     pub rs: u8,
-    /// The scalar register that bits 20 to 16 name, below 32.
+    /// The scalar register of bits 20 to 16, below 32.
     pub rt: u8,
 }

@@ -1,4 +1,4 @@
-// What a word of the instruction table means: a variant for each group of rows.
+// Instructions: a variant for each group.
 
 use crate::fields::{RegisterFields, ScalarMemoryFields, VectorFields, VectorMemoryFields};
 use crate::scalar::{
@@ -10,16 +10,15 @@ use crate::vector::{
     VectorLoadRow, VectorLogicRow, VectorSelectRow, VectorStoreRow,
 };
 
-/// An instruction: its row of the instruction table, and the fields that the row's text shows. Rows
-/// whose texts have the same operands share a struct of fields, which says the range of each.
+/// An instruction: which one of its group, and its operands. Groups with the same operands share a struct of fields, which has
+/// their ranges.
 ///
-/// Elsewhere `rd`, `rs`, `rt` are numbers of scalar registers and `vd`, `vt`, `vector` of vector
-/// registers, all below 32. `amount` is below 32, `register`, the number of an SP register, below
-/// 16, `lane` below 8 and `element` below 16. A jump's `target` is below 1024, in words. A branch's
-/// `offset` counts words from the delay slot on; like `imm` it is the 16 bits of the word, as yet
-/// without a sign.
+/// Otherwise `rd`, `rs`, `rt` are numbers of scalar registers and `vd`, `vt`, `vector` of vector registers, all below 32.
+/// `amount` is below 32, `register`, the number of an SP register, below 16, `lane` below 8 and `element` below 16. A jump's
+/// `target` is below 1024, in words. A branch's `offset` counts words from the delay slot; like `imm` it is the 16 bits of the
+/// word, not sign-extended.
 ///
-/// `IsInstruction` says these ranges: they are what some word decodes to.
+/// `IsInstruction` is these ranges: exactly such values are the instruction of some word.
 #[derive(Clone, Copy)]
 pub enum Inst {
     /// `sll $d, $t, amount`.
@@ -34,7 +33,7 @@ pub enum Inst {
         row: ShiftByRow,
         fields: RegisterFields,
     },
-    /// `jr $s`: jumps to the place in a register.
+    /// `jr $s`: jumps to the address in a register.
     JumpRegister {
         rs: u8,
     },
@@ -143,7 +142,7 @@ pub enum Inst {
         row: VectorClipRow,
         fields: VectorFields,
     },
-    /// `vmrg $vD, $vS, $vT[e]`: the lane of the first where compare is set, else of the second.
+    /// `vmrg $vD, $vS, $vT[e]`: the lane of `vs` if compare is set, else of `vt`.
     VectorMerge {
         fields: VectorFields,
     },

@@ -1,9 +1,9 @@
-//! What holds of the instruction table alone.
+//! Laws of the instruction table.
 
 ghost use Rattle.std.specs.Prelude.{ℕ, ◌<◌, IsTrue, length, slice_index_or};
 ghost use Rattle.rsp_decode.specs.Table.{Row, rows, fits};
 
-/// One row a word: no word fits two rows of the instruction table.
+/// No word fits two rows of the instruction table.
 pub fn l1()
     ensures { (w i j : ℕ) (d : Row) → i < j → j < length rows →
         IsTrue (fits w (slice_index_or rows i d)) → IsTrue (fits w (slice_index_or rows j d)) → ⊥ }

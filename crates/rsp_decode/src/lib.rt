@@ -1,10 +1,9 @@
-//! The instruction table of the RSP: words of 32 bits to instructions and back.
+//! The instruction table of the RSP: 32-bit words to instructions and back.
 //!
-//! [`decode`] gives what a word means, None for a reserved word; [`encode`] gives an instruction's
-//! canonical word; [`is_canonical`] tells whether a word is that of its own meaning. The table
-//! itself is `specs/Table`: a list of rows, each with the bits that select it, its name, the
-//! operands of its text, and the instruction that it means. [`table`] gives its rows but for the
-//! instructions. [`laws`] says that no word fits two.
+//! [`decode`] returns the instruction of a word, None for a reserved word. [`visit`] hands it to a visitor instead, which
+//! a loop over steps inlines. [`encode`] returns an instruction's canonical word, and [`is_canonical`] tests for one. The
+//! table itself is `specs/Table`: a list of rows, each with the bits that select it, its name, the operands of its text,
+//! and its instruction. [`table`] returns these rows without their instructions. [`laws`] says that no word fits two.
 #![tactic(auto)]
 
 mod bit_fields;
@@ -12,7 +11,6 @@ mod decoding;
 mod encoding;
 mod fields;
 mod inst;
-mod kept;
 pub mod laws;
 mod rows;
 mod scalar;

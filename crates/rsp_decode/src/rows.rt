@@ -3,26 +3,26 @@
 ghost use Rattle.std.specs.Prelude.{◌≡◌, map, false};
 ghost use Rattle.rsp_decode.specs.Table.{rows, entry, entry_of};
 
-/// The byte elements that an instruction takes.
+/// The byte elements that an operand can have.
 #[derive(Clone, Copy, PartialEq, Eq, Debug)]
 pub enum ByteElements {
     /// All sixteen.
     All,
-    /// 0 and 8, with which the halves of a register begin.
+    /// 0 and 8, the first bytes of the halves of a register.
     Halves,
 }
 
-/// The kind of an operand. A number is the lowest bit of its register in the word; of vector memory it is the scale of
-/// the offset.
+/// The kind of an operand. A number is the lowest bit of the register's field in the word; of vector memory it is the scale
+/// of the offset.
 #[derive(Clone, Copy, PartialEq, Eq, Debug)]
 pub enum Operand {
     /// A scalar register.
     Scalar(u8),
     /// A shift amount.
     ShiftAmount,
-    /// An immediate that is shown with its sign.
+    /// A signed immediate.
     Signed,
-    /// An immediate that is shown without one.
+    /// An unsigned immediate.
     Unsigned,
     /// The target of a jump.
     JumpTarget,
@@ -38,24 +38,24 @@ pub enum Operand {
     ControlRegister,
     /// A vector register.
     Vector(u8),
-    /// A vector register and a byte of it, one of those that the instruction takes.
+    /// A vector register and a byte of it.
     VectorByte(u8, ByteElements),
-    /// A vector register and the element of a computing row.
+    /// A vector register and an element, which selects lanes of it.
     VectorElement,
     /// A vector register and a lane of it.
     VectorLane,
 }
 
-/// A row: its name, what selects it, and its operands.
+/// A row of the instruction table: its name, what selects it, and its operands.
 #[derive(Clone, Copy)]
 pub struct TableRow {
     /// The name, in lower case.
     pub name: &'static str,
     /// The bits of a word that select the row.
     pub mask: u32,
-    /// What those bits are, and 0 elsewhere: the word whose named fields are 0.
+    /// These bits of its words, and 0 elsewhere: the word whose fields are 0.
     pub value: u32,
-    /// The kinds of its operands, in the order of its text.
+    /// The kinds of its operands, in their order in the text.
     pub operands: &'static [Operand],
 }
 
@@ -148,7 +148,7 @@ const VECTOR_MEMORY_HALF: &[Operand] = &[
     Operand::VectorMemory(16),
 ];
 
-/// The bits that select a row of opcode 0, by its function.
+/// The bits that select a row of opcode 0, with its function.
 const SPECIAL: u32 = 0xfc00_003f;
 
 /// Of opcode 1.
@@ -157,22 +157,23 @@ const REGIMM: u32 = 0xfc1f_0000;
 /// By the opcode alone.
 const OPCODE: u32 = 0xfc00_0000;
 
-/// Of the moves between registers, by rs.
+/// Of the moves between registers, with rs.
 const MOVE: u32 = 0xffe0_0000;
 
-/// Of the computing vector rows, by their function.
+/// Of the computing instructions of the vector unit, with the function.
 const COMPUTING: u32 = 0xfe00_003f;
 
-/// Of the vector loads and stores, by their operation.
+/// Of the vector loads and stores, with the operation.
 const VECTOR_MEMORY: u32 = 0xfc00_f800;
 
 /// Of those whose element is 0 or 8.
 const HALF_VECTOR_MEMORY: u32 = 0xfc00_fb80;
 
-/// The rows of the instruction table, by the match that decides between them. A line has the value that selects its row there, its
-/// name, its operands, and the decoder's call for it. `$then` is given all of them, behind what it is given by the caller.
+/// The rows of the instruction table, a section for each match of the decoder. A line has the value that the match compares, the
+/// row's name, its operands, and the decoder's call. The macro `$then` gets `$more` of the caller, then all sections.
 ///
-/// A match names its reserved values one by one, so that its jump needs no test of a range, or says what it is otherwise.
+/// A section lists its reserved values one by one, so that the jump of its match needs no test of a range, or has an arm
+/// `otherwise`.
 macro_rules! instruction_table {
     ($then:ident $more:tt) => {
         $then! { $more
@@ -364,7 +365,7 @@ macro_rules! value {
     (swc2 $n:literal) => { 58 << 26 | $n << 11 };
 }
 
-/// All lines as rows.
+/// The lines of all sections as rows.
 macro_rules! all_rows {
     (() $($section:ident {
         $($n:literal $($half:ident)? $name:literal $operands:ident $call:ident $(($row:path))?;)*
@@ -380,8 +381,8 @@ macro_rules! all_rows {
     };
 }
 
-/// One of the matches: `arms(NAME(KEY, WORD, VISITOR))` of the table is its match on the key. The first line whose guard holds is
-/// called.
+/// A match of the decoder: `arms(SECTION(KEY, WORD, VISITOR))` of the table compares KEY with the values of a section. It calls the
+/// first line whose guard holds, and returns whether there is one.
 macro_rules! arms {
     (@($key:expr, $word:ident, $visitor:ident) {
         $($n:literal $($half:ident)? $name:literal $operands:ident $call:ident $(($row:path))?;)*
@@ -389,7 +390,10 @@ macro_rules! arms {
         $(otherwise $otherwise:expr;)?
     }) => {
         match $key {
-            $($n $(if $half($word))? => $call($word, $($row,)? $visitor),)*
+            $($n $(if $half($word))? => {
+                $call($word, $($row,)? $visitor);
+                true
+            })*
             $($($reserved => crate::rows::reserved(),)* _ => unreachable!(),)?
             $(_ => $otherwise,)?
         }
@@ -409,7 +413,7 @@ macro_rules! arms {
 pub(crate) use arms;
 pub(crate) use instruction_table;
 
-/// The answer for a reserved word. It is a function of its own since it is rare: so the compiler keeps the other arms inlined.
+/// The arm of a reserved word. As a cold function it is rare to the compiler, which so keeps the other arms inlined.
 #[cold]
 #[inline(never)]
 pub(crate) fn reserved() -> bool
@@ -418,10 +422,9 @@ pub(crate) fn reserved() -> bool
     false
 }
 
-/// The rows, in the order of the instruction table.
 static ROWS: &[TableRow] = instruction_table!(all_rows());
 
-/// All rows of the instruction table.
+/// All rows of the instruction table, in its order.
 pub fn table() -> &'static [TableRow]
     ensures { map entry result.now ≡ map entry_of rows }
 {

@@ -1,7 +1,7 @@
-// The instructions of the scalar unit, an enum for each group. The number of an instruction is its code in the field or opcode that
-// its group goes by.
+// The instructions of the scalar unit, an enum for each group. The number of a variant is its value of the opcode, or of the field,
+// that selects it in its group.
 
-/// Shifts by an amount that stands in the word.
+/// Shifts by an amount in the word.
 #[derive(Clone, Copy)]
 pub enum ShiftRow {
     /// `sll`: to the left.
@@ -42,39 +42,39 @@ pub enum RegisterRow {
     Xor = 0x26,
     /// `nor`: the bits set in neither.
     Nor = 0x27,
-    /// `slt`: 1 where the first is less as a signed number, else 0.
+    /// `slt`: 1 if the first is less as a signed number, else 0.
     Slt = 0x2a,
-    /// `sltu`: 1 where the first is less as an unsigned number, else 0.
+    /// `sltu`: 1 if the first is less as an unsigned number, else 0.
     Sltu = 0x2b,
 }
 
 /// Branches on the sign of a register.
 #[derive(Clone, Copy)]
 pub enum SignRow {
-    /// `bltz`: taken below 0.
+    /// `bltz`: taken if it is below 0.
     Bltz,
-    /// `bgez`: taken from 0 on.
+    /// `bgez`: taken if it is 0 or more.
     Bgez,
-    /// `bltzal`: taken below 0; links, taken or not.
+    /// `bltzal`: as `bltz`; links, taken or not.
     Bltzal,
-    /// `bgezal`: taken from 0 on; links, taken or not.
+    /// `bgezal`: as `bgez`; links, taken or not.
     Bgezal,
-    /// `blez`: taken up to 0.
+    /// `blez`: taken if it is 0 or less.
     Blez,
-    /// `bgtz`: taken above 0.
+    /// `bgtz`: taken if it is above 0.
     Bgtz,
 }
 
 /// Branches on whether two registers are equal.
 #[derive(Clone, Copy)]
 pub enum EqualRow {
-    /// `beq`: taken where they are equal.
+    /// `beq`: taken if they are equal.
     Beq = 0x04,
-    /// `bne`: taken where they differ.
+    /// `bne`: taken if they differ.
     Bne = 0x05,
 }
 
-/// Jumps to a place that stands in the word.
+/// Jumps to an address in the word.
 #[derive(Clone, Copy)]
 pub enum JumpRow {
     /// `j`: jumps.
@@ -90,7 +90,7 @@ pub enum ImmediateRow {
     Addi = 0x08,
     /// `addiu`: as `addi`.
     Addiu = 0x09,
-    /// `slti`: 1 where the register is less than the signed immediate, else 0.
+    /// `slti`: 1 if the register is less than the signed immediate, else 0.
     Slti = 0x0a,
     /// `sltiu`: the same comparison, both taken as numbers modulo 2^32.
     Sltiu = 0x0b,
@@ -105,15 +105,15 @@ pub enum ImmediateRow {
 /// Loads of a scalar register from DMEM.
 #[derive(Clone, Copy)]
 pub enum LoadRow {
-    /// `lb`: a byte, its sign extended.
+    /// `lb`: a byte, sign-extended.
     Lb = 0x20,
-    /// `lh`: two bytes, their sign extended.
+    /// `lh`: two bytes, sign-extended.
     Lh = 0x21,
     /// `lw`: four bytes.
     Lw = 0x23,
-    /// `lbu`: a byte, zeros above.
+    /// `lbu`: a byte, zero-extended.
     Lbu = 0x24,
-    /// `lhu`: two bytes, zeros above.
+    /// `lhu`: two bytes, zero-extended.
     Lhu = 0x25,
     /// `lwu`: four bytes, as `lw`.
     Lwu = 0x27,

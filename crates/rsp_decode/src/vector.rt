@@ -1,4 +1,5 @@
-// The instructions of the vector unit, an enum for each group. The number of an instruction is its function or its operation.
+// The instructions of the vector unit, an enum for each group. The number of a variant is its function or its operation, which
+// selects it in its group.
 
 /// The control registers of the vector unit.
 #[derive(Clone, Copy)]
@@ -7,7 +8,7 @@ pub enum Control {
     Vco,
     /// `$vcc`, number 1: compare and clip, 16 bits.
     Vcc,
-    /// `$vce`, number 2, and what 3 is read as: extra, 8 bits.
+    /// `$vce`, number 2, and 3 is read as 2: extra, 8 bits.
     Vce,
 }
 
@@ -43,9 +44,9 @@ pub enum MultiplyRow {
 /// Roundings of the accumulator by its sign.
 #[derive(Clone, Copy)]
 pub enum RoundRow {
-    /// `vrndp`: where it is 0 or more.
+    /// `vrndp`: if it is 0 or more.
     Vrndp = 0x02,
-    /// `vrndn`: where it is negative.
+    /// `vrndn`: if it is negative.
     Vrndn = 0x0a,
 }
 
@@ -65,7 +66,7 @@ pub enum VectorAddRow {
     Vadd = 0x10,
     /// `vsub`: the difference with borrow, clamped.
     Vsub = 0x11,
-    /// `vabs`: the second, negated where the first is negative, and 0 where it is 0.
+    /// `vabs`: the second; negated if the first is negative, and 0 if the first is 0.
     Vabs = 0x13,
     /// `vaddc`: the sum modulo 2^16; sets carry.
     Vaddc = 0x14,
@@ -76,20 +77,20 @@ pub enum VectorAddRow {
 /// Comparisons of two vectors that select a lane of one of them.
 #[derive(Clone, Copy)]
 pub enum VectorSelectRow {
-    /// `vlt`: the first where it is less.
+    /// `vlt`: the first if it is less.
     Vlt = 0x20,
-    /// `veq`: where they are equal.
+    /// `veq`: if they are equal.
     Veq = 0x21,
-    /// `vne`: where they differ.
+    /// `vne`: if they differ.
     Vne = 0x22,
-    /// `vge`: the first where it is not less.
+    /// `vge`: the first if it is not less.
     Vge = 0x23,
 }
 
 /// Clips of a vector by another, lane by lane.
 #[derive(Clone, Copy)]
 pub enum VectorClipRow {
-    /// `vcl`: the low half, by the flags that `vch` left.
+    /// `vcl`: the low half, by the flags of a `vch`.
     Vcl = 0x24,
     /// `vch`: the high half, or a clip alone.
     Vch = 0x25,
@@ -114,26 +115,26 @@ pub enum VectorLogicRow {
     Vnxor = 0x2d,
 }
 
-/// Rows that write one lane: the divider, and a move.
+/// Instructions that write one lane: the divider, and a move.
 #[derive(Clone, Copy)]
 pub enum DivideRow {
     /// `vrcp`: the reciprocal of a 16-bit number.
     Vrcp = 0x30,
-    /// `vrcpl`: the reciprocal of a number whose high half came before.
+    /// `vrcpl`: the reciprocal of a 32-bit number, whose high half `vrcph` took.
     Vrcpl = 0x31,
-    /// `vrcph`: gives the high half of the last answer and takes a high half.
+    /// `vrcph`: returns the high half of the last result, and takes a high half.
     Vrcph = 0x32,
     /// `vmov`: copies a lane.
     Vmov = 0x33,
     /// `vrsq`: the inverse square root of a 16-bit number.
     Vrsq = 0x34,
-    /// `vrsql`: the inverse square root of a number whose high half came before.
+    /// `vrsql`: the inverse square root of a 32-bit number, whose high half `vrsqh` took.
     Vrsql = 0x35,
     /// `vrsqh`: as `vrcph`.
     Vrsqh = 0x36,
 }
 
-/// Rows of the vector unit that change nothing.
+/// Instructions of the vector unit that change nothing.
 #[derive(Clone, Copy)]
 pub enum IdleRow {
     /// `vnop`.
@@ -153,9 +154,9 @@ pub enum VectorLoadRow {
     Llv = 0x02,
     /// `ldv`: eight bytes.
     Ldv = 0x03,
-    /// `lqv`: from the address to the end of its line of 16.
+    /// `lqv`: from the address to the end of its quadword.
     Lqv = 0x04,
-    /// `lrv`: from the start of the line up to the address.
+    /// `lrv`: from the start of its quadword up to the address.
     Lrv = 0x05,
     /// `lpv`: eight bytes, each the high byte of a lane.
     Lpv = 0x06,
@@ -165,7 +166,7 @@ pub enum VectorLoadRow {
     Lhv = 0x08,
     /// `lfv`: every fourth byte, into four lanes; its element is 0 or 8.
     Lfv = 0x09,
-    /// `ltv`: a line, spread over a group of eight registers.
+    /// `ltv`: a quadword, spread over a group of eight registers.
     Ltv = 0x0b,
 }
 
@@ -180,20 +181,20 @@ pub enum VectorStoreRow {
     Slv = 0x02,
     /// `sdv`: eight bytes.
     Sdv = 0x03,
-    /// `sqv`: from the address to the end of its line of 16.
+    /// `sqv`: from the address to the end of its quadword.
     Sqv = 0x04,
-    /// `srv`: from the start of the line up to the address.
+    /// `srv`: from the start of its quadword up to the address.
     Srv = 0x05,
     /// `spv`: eight bytes, the high byte of a lane for each at element 0.
     Spv = 0x06,
     /// `suv`: eight bytes, bits 14 to 7 of a lane for each at element 0.
     Suv = 0x07,
-    /// `shv`: bits 14 to 7 of each lane, to every second place.
+    /// `shv`: bits 14 to 7 of each lane, to every second address.
     Shv = 0x08,
-    /// `sfv`: those of four lanes, to every fourth place; its element is 0 or 8.
+    /// `sfv`: those of four lanes, to every fourth address; its element is 0 or 8.
     Sfv = 0x09,
-    /// `swv`: all sixteen bytes, in a ring.
+    /// `swv`: all sixteen bytes; the address wraps in a quadword.
     Swv = 0x0a,
-    /// `stv`: a line, gathered from a group of eight registers.
+    /// `stv`: a quadword, gathered from a group of eight registers.
     Stv = 0x0b,
 }

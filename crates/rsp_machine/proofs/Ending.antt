@@ -13,20 +13,21 @@ use Rattle.rsp_machine.specs.Step.{computes, loads, stores, jumps, worked, execu
 use Rattle.rsp_machine.specs.declared.step.StepEnd.TheVariants.{Done, Halted, Reserved}
 use Rattle.rsp_machine.specs.Transfers.{starts_dma_in, starts_dma_at}
 use Rattle.rsp_machine.specs.declared.change.Change.TheVariants as of
-use Rattle.rsp_machine.specs.Saved.{Saved, change_of, record_after, starts_dma, is_length, is_back_by, can_undo, may_store, undone}
-use Rattle.rsp_machine.specs.Changes.{reaches_sp, reach_of, IsRanged}
+use Rattle.rsp_machine.specs.Saved.{change_of, starts_dma, is_length, is_back}
+use Rattle.rsp_machine.specs.Changes.{reaches_sp, reach_of}
 use Rattle.rsp_machine.specs.Until.{may_store_by, may_store_at}
+use Rattle.rsp_machine.specs.declared.change.Change.{Change}
 use Rattle.rsp_machine.specs.declared.change.Reach.{Reach}
-use Rattle.rsp_machine.proofs.Saving.{record_back, memory_stays}
+use Rattle.rsp_machine.proofs.Saving.{dma_of}
 
--- what an instruction, where there is one, may have reached; and the state after it
+-- what the loop asks of an instruction, if there is one; and the state after it
 abbrev pub reached : State → Option Inst → Option Reach
 reached s o = option_map (λ i. reach_of (change_of i s)) o
 
 abbrev pub after : State → Option Inst → State
 after s o = unwrap_or (option_map (λ i. executed i s) o) s
 
--- an instruction that doesn't reach the SP registers leaves them, and starts no DMA
+-- an instruction that doesn't reach the SP registers leaves them
 dma_reaches : (b : Bool) (X : Type 0) → reaches_sp (if b then of.Dma else of.Sp 0) ≡ false → X
 dma_reaches true X h = cc
 dma_reaches false X h = cc
@@ -42,30 +43,42 @@ leaves (MoveControl From rt control) s h = refl
 leaves (MoveControl To rt control) s h = refl
 leaves _ s h = refl
 
-not_reached : (d e : Reach) → Some d ≡ Some e → e.sp ≡ false → d.sp ≡ false
-not_reached d e h none = let same : d ≡ e = cc in ap (λ (x : Reach). x.sp) same ∙ none
-
-no_transfer : (i : Inst) (s : State) → reaches_sp (change_of i s) ≡ false → starts_dma i ≡ false
-unfolding change_of
-no_transfer (MoveSp From rt n) s h = refl
-no_transfer (MoveSp To rt n) s h = dma_reaches (is_length n) (starts_dma (MoveSp To rt n) ≡ false) h
-no_transfer _ s h = refl
+some_is : {X : Type 0} (x y : X) → Some x ≡ Some y → x ≡ y
+some_is x y e = cc
 
 pub stays : (o : Option Inst) (s t : State) (e : Reach) → e.sp ≡ false → Some e ≡ reached s o → t ≡ after s o → t.sp ≡ s.sp
 stays None s t e none h there = cc
-stays (Some i) s t e none h there = ap (λ (x : State). x.sp) there ∙ leaves i s (not_reached (reach_of (change_of i s)) e (sym h) none)
+stays (Some i) s t e none h there = ap (λ (x : State). x.sp) there ∙ leaves i s (ap (λ (x : Reach). x.sp) (sym (some_is _ _ h)) ∙ none)
 
 pub halted_as : (s t : State) → s.sp.halted ≡ false → t.sp ≡ s.sp → false ≡ t.sp.halted
 halted_as s t h e = sym (ap (λ (p : Sp). p.halted) e ∙ h)
 
-leads_back : (o : Option Inst) (s : State) (e : Reach) → e.sp ≡ false → Some e ≡ reached s o → is_back_by o ≡ true
-leads_back None s e none h = cc
-leads_back (Some i) s e none h = ap not (no_transfer i s (not_reached (reach_of (change_of i s)) e (sym h) none))
+-- whether it starts a DMA, and whether it may have stored
+pub not_back : (b d : Bool) → b ≡ not d → not b ≡ d
+not_back b true e = ap not e
+not_back b false e = ap not e
 
--- and whether it may have stored
+dma_by : (o : Option Inst) (s : State) (e : Reach) → Some e ≡ reached s o → e.dma ≡ starts_dma_in o
+dma_by None s e h = cc
+dma_by (Some i) s e h = ap (λ (x : Reach). x.dma) (some_is _ _ h) ∙ not_back (is_back (change_of i s)) (starts_dma i) (dma_of i s)
+
+pub dma-as : (w : ℕ) (s : State) (e : Reach) → w ≡ word_at s.imem s.pc → Some e ≡ reached s (inst_of w) → e.dma ≡ starts_dma_at s
+unfolding starts_dma_at
+dma-as w s e is h = dma_by (inst_of w) s e h ∙ ap (λ v. starts_dma_in (inst_of v)) is
+
+no_dma : (c : Change) → reaches_sp c ≡ false → not (is_back c) ≡ false
+no_dma of.Dma h = cc
+no_dma _ h = refl
+
+pub dma-free : (o : Option Inst) (s : State) (e : Reach) → Some e ≡ reached s o → e.sp ≡ false → e.dma ≡ false
+dma-free None s e h none = cc
+dma-free (Some i) s e h none =
+    let same = some_is e (reach_of (change_of i s)) h in
+    ap (λ (x : Reach). x.dma) same ∙ no_dma (change_of i s) (ap (λ (x : Reach). x.sp) (sym same) ∙ none)
+
 stored_by : (o : Option Inst) (s : State) (e : Reach) → Some e ≡ reached s o → e.dmem ≡ may_store_by o s
 stored_by None s e h = cc
-stored_by (Some i) s e h = let same : e ≡ reach_of (change_of i s) = cc in ap (λ (x : Reach). x.dmem) same
+stored_by (Some i) s e h = ap (λ (x : Reach). x.dmem) (some_is _ _ h)
 
 pub stored-as : (w : ℕ) (s : State) (e : Reach) → w ≡ word_at s.imem s.pc → Some e ≡ reached s (inst_of w) → e.dmem ≡ may_store_at s
 unfolding may_store_at
@@ -106,17 +119,6 @@ pub step_halted : (s : State) → s.sp.halted ≡ true → step_of s ≡ (Halted
 unfolding step_of
 step_halted s h = halted_by s.sp.halted (inst_of (word_at s.imem s.pc)) (word_at s.imem s.pc) s h
 
--- a step can be undone exactly where it is Done and starts no DMA
-undo_by : (b : Bool) (o : Option Inst) (w : ℕ) (s : State) → (if b then (Halted, s) else step_by o w s).0 ≡ Done
-    → (if b then false else is_back_by o) ≡ not (starts_dma_in o)
-undo_by true o w s e = cc
-undo_by false None w s e = cc
-undo_by false (Some i) w s e = refl
-
-pub undo-done : (s : State) → (step_of s).0 ≡ Done → can_undo s ≡ not (starts_dma_at s)
-unfolding can_undo step_of starts_dma_at
-undo-done s e = undo_by s.sp.halted (inst_of (word_at s.imem s.pc)) (word_at s.imem s.pc) s e
-
 -- a step of a machine that isn't halted
 running : (b : Bool) (o : Option Inst) (w : ℕ) (s : State) → b ≡ false → (if b then (Halted, s) else step_by o w s) ≡ step_by o w s
 running true o w s h = cc
@@ -139,18 +141,3 @@ pub step_done : (w : ℕ) (s t : State) (e : Reach) → s.sp.halted ≡ false �
     → step_of s ≡ (Done, singled t)
 unfolding step_of
 step_done w s t e h is r there = rw (← is) (running s.sp.halted (inst_of w) w s h ∙ done (inst_of w) w s t e (sym r) there)
-
--- and whether it leads back
-undo_running : (b : Bool) (o : Option Inst) → b ≡ false → (if b then false else is_back_by o) ≡ is_back_by o
-undo_running true o h = cc
-undo_running false o h = refl
-
-pub undo_free : (w : ℕ) (s : State) (e : Reach) → s.sp.halted ≡ false → w ≡ word_at s.imem s.pc → e.sp ≡ false → Some e ≡ reached s (inst_of w) → can_undo s ≡ true
-unfolding can_undo
-undo_free w s e h is none r = rw (← is) (undo_running s.sp.halted (inst_of w) h ∙ leads_back (inst_of w) s e none r)
-
-pub back : (s t : State) (r q : Saved) → IsRanged s → q ≡ record_after s r → t ≡ (step_of s).1 → can_undo s ≡ true → undone q t ≡ s
-back s t r q ranged same there u = rw (same, there) (record_back s r ranged u)
-
-pub memory : (s t : State) (r q : Saved) → q ≡ record_after s r → t ≡ (step_of s).1 → (step_of s).0 ≡ Done → may_store q ≡ false → t.dmem ≡ s.dmem
-memory s t r q same there e none = ap (λ (x : State). x.dmem) there ∙ memory_stays s r e (ap may_store (sym same) ∙ none)

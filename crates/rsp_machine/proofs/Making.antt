@@ -1,7 +1,7 @@
 -- Steps that are made one by one.
 use Rattle.std.proofs.Common.{◌≡◌, ◌≢◌, inl, inr, ℕ, zero, suc, ◌+◌, ◌-◌, ◌<◌, ◌≤◌, Bool, true, false, List, [], ◌∷◌, length, set, get_or, refl, sym, ap, subst, ◌∙◌, arith, Option, Some, None}
-use Rattle.std.specs.Prelude.{if◌then◌else◌, not, ◌||◌, ◌&&◌, ◌⊎◌, slice_get, option_map}
-use Rattle.std.proofs.lemmas.Bool.{cases_lt}
+use Rattle.std.specs.Prelude.{if◌then◌else◌, not, ◌||◌, ◌&&◌, ◌⊎◌, slice_get}
+use Rattle.std.proofs.lemmas.Bool.{cases_lt, not-true, not-false}
 use Rattle.std.proofs.lemmas.List.{length-set, set-get_or}
 use Rattle.rsp_decode.specs.declared.inst.Inst.{Inst}
 use Rattle.rsp_decode.specs.Table.{inst_of}
@@ -11,14 +11,15 @@ use Rattle.rsp_machine.specs.Places.{Places, at_places}
 use Rattle.rsp_machine.specs.Step.{singled, step_by, step_of}
 use Rattle.rsp_machine.specs.Laws.{steps_of, done_steps, done_of}
 use Rattle.rsp_machine.specs.Saved.{told_by, told_of}
+use Rattle.rsp_machine.specs.Transfers.{starts_dma_at}
 use Rattle.rsp_machine.specs.Changes.{IsRanged}
-use Rattle.rsp_machine.specs.Making.{IsMade, IsEach, IsTold, GoesOn, AreTold, IsEnd}
+use Rattle.rsp_machine.specs.Making.{IsMade, IsEach, IsTold, AreTold, IsEnd}
 use Rattle.rsp_machine.specs.declared.change.Change.{Change}
+use Rattle.rsp_machine.specs.declared.change.Reach.{Reach}
 use Rattle.rsp_machine.specs.declared.step.StepEnd.{StepEnd}
 use Rattle.rsp_machine.specs.declared.step.StepEnd.TheVariants.{Done, Halted, Reserved}
 use Rattle.rsp_machine.specs.Until.{may_store_at, ends_after}
-use Rattle.rsp_machine.specs.declared.change.Reach.{Reach}
-use Rattle.rsp_machine.proofs.Ending.{reached, after, stays, free, clear_as, clear_behind, halted_as, stored-as, step_halted, step_reserved, step_done}
+use Rattle.rsp_machine.proofs.Ending.{reached, after, stays, free, clear_as, clear_behind, halted_as, stored-as, dma-as, dma-free, step_halted, step_reserved, step_done}
 
 -- no step, and one more
 pub made-none : (k : ℕ) (s t : State) → k ≡ 0 → t ≡ s → IsMade k s t
@@ -132,7 +133,7 @@ ended_by true b t u e same = sym e
 ended_by false true t u e same = sym e
 ended_by false false t u e same = sym (same (refl, refl)) ∙ sym e
 
--- whether the loop goes on after it, by whether the machine is halted then and what the saver says
+-- whether the loop goes on after it, by whether the machine is halted then, and whether a DMA ends the loop
 pub goes-by : (a b halted goes r : Bool) → r ≡ (not (a || b) || not halted && goes) → r ≡ true → ((a ≡ false) × (b ≡ false)) ⊎ ((halted ≡ false) × (goes ≡ true))
 goes-by true b true goes r e t = cc
 goes-by true b false goes r e t = inr (refl, sym e ∙ t)
@@ -173,6 +174,19 @@ module _ (w : ℕ) (s t u : State) (r : Option Reach) (e : Reach) (single : Bool
   pub turn-clear : u.sp.halted ≡ false → u.sp.single_step ≡ false
   turn-clear running = clear_behind t u (sym turn_ended) running
 
+  turn_dma : e.dma ≡ starts_dma_at s
+  turn_dma = dma-as w s e h.executed.word turn_answer
+
+  -- if DMAs end the loop, it goes on only after a step that starts none
+  pub turn-goes : (at_dma : Bool) → ((e.sp ≡ false) × (single ≡ false)) ⊎ ((u.sp.halted ≡ false) × (not (at_dma && e.dma) ≡ true)) → at_dma ≡ true → starts_dma_at s ≡ false
+  turn-goes true (inl none) at = sym turn_dma ∙ dma-free (inst_of w) s e turn_answer none.0
+  turn-goes true (inr on) at = sym turn_dma ∙ not-true e.dma on.1
+  turn-goes false goes at = cc
+
+  pub turn-stops : (at_dma : Bool) → not (at_dma && e.dma) ≡ false → (at_dma ≡ true) × (starts_dma_at s ≡ true)
+  turn-stops true stops = (refl, sym turn_dma ∙ not-false e.dma stops)
+  turn-stops false stops = cc
+
   pub turn-ends : (ends : ℕ → ℕ → Bool → Bool) (v : ℕ) → v ≡ word_at u.imem u.pc → ends_after ends s ≡ ends u.pc v e.dmem
   unfolding ends_after
   turn-ends ends v is =
@@ -200,12 +214,12 @@ pub made-as : (k j : ℕ) (s t u : State) → IsMade k s t → j ≡ k → u ≡
 made-as k j s t u m i e = rw (i, e) m
 
 -- one step, by how many were made
-done_few : (e : StepEnd) → done_steps e ≤ 1
+pub done_few : (e : StepEnd) → done_steps e ≤ 1
 done_few Done = omega arith
 done_few Halted = omega arith
 done_few (Reserved w) = omega arith
 
-was_done : (e : StepEnd) → done_steps e ≡ 1 → Done ≡ e
+pub was_done : (e : StepEnd) → done_steps e ≡ 1 → Done ≡ e
 was_done Done d = refl
 was_done Halted d = absurd (omega (arith, d))
 was_done (Reserved w) d = absurd (omega (arith, d))
@@ -254,22 +268,18 @@ ends-done k n s t m within stuck = elim (cases_lt k n) [
   | inr all ↦ all_done k n s t m (omega (arith, within, all))
 ]
 
--- if steps go on whatever was saved, no saver ends them
-some_goes : {K : Type 0} (o : Option K) → option_map (λ (k : K). true) o ≡ Some false → ⊥
-some_goes None e = cc
-some_goes (Some k) e = cc
-
-pub ends-freely : {K : Type 0} (k : ℕ) (s t : State) (ends : ℕ → ℕ → Bool → Bool) (o : Option K) → IsEnd (λ (x : K). true) ends k s t o
+-- steps that no DMA ends
+pub ends-freely : (k : ℕ) (s t : State) (ends : ℕ → ℕ → Bool → Bool) → IsEnd false ends k s t
     → (done_steps (step_of t).0 ≡ 0) ⊎ ((0 < k) × (ends_after ends (steps_of (k - 1) s) ≡ true))
-ends-freely k s t ends o (inl stuck) = inl stuck
-ends-freely k s t ends o (inr (some, inl last)) = absurd (some_goes o last)
-ends-freely k s t ends o (inr (some, inr ended)) = inr (some, ended)
+ends-freely k s t ends (inl stuck) = inl stuck
+ends-freely k s t ends (inr (some, inl last)) = absurd (let never : false ≡ true = last.0 in cc)
+ends-freely k s t ends (inr (some, inr ended)) = inr (some, ended)
 
-pub ends-stuck : {K : Type 0} (k : ℕ) (s t : State) (o : Option K) → IsEnd (λ (x : K). true) (λ pc word stored. false) k s t o → done_steps (step_of t).0 ≡ 0
+pub ends-stuck : (k : ℕ) (s t : State) → IsEnd false (λ pc word stored. false) k s t → done_steps (step_of t).0 ≡ 0
 unfolding ends_after
-ends-stuck k s t o (inl stuck) = stuck
-ends-stuck k s t o (inr (some, inl last)) = absurd (some_goes o last)
-ends-stuck k s t o (inr (some, inr ended)) = cc
+ends-stuck k s t (inl stuck) = stuck
+ends-stuck k s t (inr (some, inl last)) = absurd (let never : false ≡ true = last.0 in cc)
+ends-stuck k s t (inr (some, inr ended)) = cc
 
 -- what is in an entry that is written, and in the others
 slice_get-set_same : {X : Type 0} (xs : List X) (i : ℕ) (x : X) → i < length xs → slice_get (set xs i x) i ≡ Some x
@@ -300,20 +310,16 @@ told_nothing saves (Some i) s k h = cc
 pub told-reserved : {K : Type 0} (saves : Change → State → K → K) (w : ℕ) (s : State) (xs : List K) (j : ℕ) (d x : K) → None ≡ reached s (inst_of w) → x ≡ told_by saves (inst_of w) s (get_or xs j d) → set xs j x ≡ xs
 told-reserved saves w s xs j d x none e = ap (set xs j) (e ∙ told_nothing saves (inst_of w) s (get_or xs j d) none) ∙ set-get_or xs j d
 
--- whether steps go on after the one that was saved last
-pub goes-here : {K : Type 0} (goes : K → Bool) (slot : ℕ → ℕ) (k n j : ℕ) (xs : List K) (x : K) (b : Bool) → n ≡ k → j ≡ slot k → j < length xs → goes x ≡ b → option_map goes (slice_get (set xs j x) (slot n)) ≡ Some b
-goes-here goes slot k n j xs x b e at inside g = rw (e, ← at) (ap (option_map goes) (slice_get-set_same xs j x inside) ∙ ap Some g)
-
-module _ {K : Type 0} (saves : Change → State → K → K) (goes : K → Bool) (slot : ℕ → ℕ) where
-  pub told-none : (s : State) (old : List K) → AreTold saves goes slot 0 0 s old old
-  told-none s old = record { told = λ each i h. absurd (omega (arith, h)); on = λ each i h. absurd (omega (arith, h)); rest = λ j h. refl; len = refl }
+module _ {K : Type 0} (saves : Change → State → K → K) (slot : ℕ → ℕ) where
+  pub told-none : (s : State) (old : List K) → AreTold saves slot 0 s old old
+  told-none s old = record { told = λ each i h. absurd (omega (arith, h)); rest = λ j h. refl; len = refl }
 
   kept : (k j : ℕ) (xs : List K) (x : K) → IsEach slot → j ≡ slot k → (i : ℕ) → i < k → slice_get (set xs j x) (slot i) ≡ slice_get xs (slot i)
   kept k j xs x each at i l = slice_get-set_other xs (slot i) j x (λ e. let same : i ≡ k = each i k (e ∙ at) in absurd (omega (arith, l, same)))
 
   -- one step more, which was told in the next slot
-  told-more : (k j : ℕ) (s t : State) (old new : List K) (x before : K) → AreTold saves goes slot k k s old new → t ≡ steps_of k s → j ≡ slot k → j < length new
-      → x ≡ told_of saves t before → IsRanged t → AreTold saves goes slot (k + 1) k s old (set new j x)
+  told-more : (k j : ℕ) (s t : State) (old new : List K) (x before : K) → AreTold saves slot k s old new → t ≡ steps_of k s → j ≡ slot k → j < length new
+      → x ≡ told_of saves t before → IsRanged t → AreTold saves slot (k + 1) s old (set new j x)
   told-more k j s t old new x before a there at inside told ranged =
       let here : IsTold saves (steps_of k s) (slice_get (set new j x) (slot k)) = record {
         before = before;
@@ -327,31 +333,16 @@ module _ {K : Type 0} (saves : Change → State → K → K) (goes : K → Bool)
               let last : k ≡ i = omega (arith, r, h) in
               subst (λ (m : ℕ). IsTold saves (steps_of m s) (slice_get (set new j x) (slot m))) last here
         ];
-        on = λ each i h. subst (λ (o : Option K). GoesOn goes (steps_of i s) o) (sym (kept k j new x each at i h)) (a.on each i h);
         rest = λ i other. slice_get-set_other new i j x (λ e. other k (omega arith) (sym at ∙ sym e)) ∙ a.rest i (λ m l. other m (omega (arith, l)));
         len = length-set new j x ∙ a.len;
       }
 
   -- by a turn
-  pub turn-told : (w k j : ℕ) (o s t : State) (r : Option Reach) (old new : List K) (x before : K) → IsExecuted w s t r → IsMade k o s → AreTold saves goes slot k k o old new → j ≡ slot k → j < length new
-      → x ≡ told_by saves (inst_of w) s before → IsRanged s → AreTold saves goes slot (k + 1) k o old (set new j x)
+  pub turn-told : (w k j : ℕ) (o s t : State) (r : Option Reach) (old new : List K) (x before : K) → IsExecuted w s t r → IsMade k o s → AreTold saves slot k o old new → j ≡ slot k → j < length new
+      → x ≡ told_by saves (inst_of w) s before → IsRanged s → AreTold saves slot (k + 1) o old (set new j x)
   turn-told w k j o s t r old new x before h run a at inside told ranged =
       told-more k j o s old new x before a run.state at inside (told-running saves w s before x h.goes h.word told) ranged
 
-  -- behind which steps go on
-  pub told-on : (k : ℕ) (s t : State) (old new : List K) → AreTold saves goes slot (k + 1) k s old new → t ≡ steps_of k s → GoesOn goes t (slice_get new (slot k)) → AreTold saves goes slot (k + 1) (k + 1) s old new
-  told-on k s t old new a there on = record {
-    told = a.told;
-    on = λ each i h. elim (cases_lt i k) [
-      | inl l ↦ a.on each i l
-      | inr r ↦
-          let last : k ≡ i = omega (arith, r, h) in
-          subst (λ (m : ℕ). GoesOn goes (steps_of m s) (slice_get new (slot m))) last (subst (λ (y : State). GoesOn goes y (slice_get new (slot k))) there on)
-    ];
-    rest = a.rest;
-    len = a.len;
-  }
-
-  -- the same, by numbers and slots that are equal
-  pub told-as : (k j n m : ℕ) (s : State) (old new now : List K) → AreTold saves goes slot k n s old new → j ≡ k → m ≤ n → now ≡ new → AreTold saves goes slot j m s old now
-  told-as k j n m s old new now a same fewer slots = rw (same, slots) (record { told = a.told; on = λ each i h. a.on each i (omega (arith, h, fewer)); rest = a.rest; len = a.len })
+  -- the same, by a number and slots that are equal
+  pub told-as : (k j : ℕ) (s : State) (old new now : List K) → AreTold saves slot k s old new → j ≡ k → now ≡ new → AreTold saves slot j s old now
+  told-as k j s old new now a same slots = rw (same, slots) a

@@ -1,19 +1,19 @@
 -- Which states the records of steps undo to.
 use Rattle.std.proofs.Common.{◌≡◌, ◌⊎◌, inl, inr, ℕ, zero, suc, ◌+◌, ◌-◌, ◌<◌, ◌≤◌, Bool, true, false, not, List, [], ◌∷◌, length, drop, get_or, refl, sym, ap, ◌∙◌, arith, add-one, Option, Some, None}
-use Rattle.std.specs.Prelude.{slice_get, option_map, IsSome, is_some}
+use Rattle.std.specs.Prelude.{slice_get, IsSome, is_some}
 use Rattle.std.proofs.lemmas.Bool.{cases_lt}
 use Rattle.std.proofs.lemmas.Option.{get_or_from_slice_get}
 use Rattle.rsp_machine.specs.State.{State}
 use Rattle.rsp_machine.specs.Step.{step_of}
 use Rattle.rsp_machine.specs.Laws.{steps_of, done_steps, done_of}
-use Rattle.rsp_machine.specs.Saved.{Saved, blank, change_saved, told_of, record_after, record_at, can_undo, is_back, may_store, undone}
+use Rattle.rsp_machine.specs.Saved.{Saved, blank, change_saved, told_of, record_at, is_back, may_store, undone}
 use Rattle.rsp_machine.specs.Transfers.{starts_dma_at}
 use Rattle.rsp_machine.specs.Until.{ends_after}
-use Rattle.rsp_machine.specs.Making.{IsTold, GoesOn, AreTold, IsEnd}
-use Rattle.rsp_machine.specs.declared.step.StepEnd.{StepEnd}
-use Rattle.rsp_machine.specs.declared.step.StepEnd.TheVariants.{Done, Halted, Reserved}
-use Rattle.rsp_machine.proofs.Saving.{done_marked}
-use Rattle.rsp_machine.proofs.Ending.{undo-done, back, memory}
+use Rattle.rsp_machine.specs.Making.{IsTold, AreTold, IsEnd}
+use Rattle.rsp_machine.specs.declared.step.StepEnd.TheVariants.{Done}
+use Rattle.rsp_machine.proofs.Ending.{not_back}
+use Rattle.rsp_machine.proofs.Making.{done_few, was_done}
+use Rattle.rsp_machine.proofs.Saving.{record-dma, record-back, record-memory}
 
 -- the steps behind each other
 pub steps-more : (i : ℕ) (s : State) → steps_of (i + 1) s ≡ (step_of (steps_of i s)).1
@@ -21,97 +21,55 @@ unfolding steps_of
 steps-more i s = rw add-one refl
 
 -- where all are Done, each is
-few : (e : StepEnd) → done_steps e ≤ 1
-few Done = omega arith
-few Halted = omega arith
-few (Reserved w) = omega arith
-
-was_done : (e : StepEnd) → done_steps e ≡ 1 → e ≡ Done
-was_done Done d = refl
-was_done Halted d = absurd (omega (arith, d))
-was_done (Reserved w) d = absurd (omega (arith, d))
-
 done_within : (n : ℕ) (s : State) → done_of n s ≤ n
 unfolding done_of
 done_within zero s = omega arith
-done_within (suc n) s = omega (arith, done_within n s, few (step_of (steps_of n s)).0)
+done_within (suc n) s = omega (arith, done_within n s, done_few (step_of (steps_of n s)).0)
 
 pub done-each : (k : ℕ) (s : State) → done_of k s ≡ k → (i : ℕ) → i < k → (step_of (steps_of i s)).0 ≡ Done
 unfolding done_of
 done-each zero s d i h = absurd (omega (arith, h))
 done-each (suc k) s d i h =
-    let bound = done_within k s in let one = few (step_of (steps_of k s)).0 in
+    let bound = done_within k s in let one = done_few (step_of (steps_of k s)).0 in
     elim (cases_lt i k) [
       | inl l ↦ done-each k s (omega (arith, d, bound, one)) i l
       | inr r ↦
           let last : i ≡ k = omega (arith, r, h) in
-          ap (λ j. (step_of (steps_of j s)).0) last ∙ was_done (step_of (steps_of k s)).0 (omega (arith, d, bound, one))
+          ap (λ j. (step_of (steps_of j s)).0) last ∙ sym (was_done (step_of (steps_of k s)).0 (omega (arith, d, bound, one)))
     ]
 
--- the records of k steps from s; only the last may start a DMA
+-- the records of k steps from s
 abbrev pub AreRecorded : ℕ → State → List Saved → List Saved → Type 0
-AreRecorded k s old new = AreTold change_saved (λ r. is_back r.change) (λ n. n) k (k - 1) s old new
+AreRecorded k s old new = AreTold change_saved (λ n. n) k s old new
 
-record_is : (s : State) (rs : List Saved) (i : ℕ) (h : IsTold change_saved s (slice_get rs i)) → record_at rs i ≡ record_after s h.before
-unfolding record_after
+record_is : (s : State) (rs : List Saved) (i : ℕ) (h : IsTold change_saved s (slice_get rs i)) → record_at rs i ≡ told_of change_saved s h.before
 record_is s rs i h = get_or_from_slice_get rs i (told_of change_saved s h.before) blank h.told
 
 each : (i j : ℕ) → i ≡ j → i ≡ j
 each i j e = e
 
-not_back : (b d : Bool) → b ≡ not d → not b ≡ d
-not_back b true e = ap not e
-not_back b false e = ap not e
-
 module _ (k : ℕ) (s : State) (old new : List Saved) (a : AreRecorded k s old new) (done : done_of k s ≡ k) where
-  marked : (i : ℕ) → i < k → can_undo (steps_of i s) ≡ is_back (record_at new i).change
-  marked i h =
-      let told = a.told each i h in
-      done_marked (steps_of i s) told.before (done-each k s done i h) ∙ ap (λ r. is_back r.change) (sym (record_is (steps_of i s) new i told))
-
   pub recorded-which : (i : ℕ) → i < k → is_back (record_at new i).change ≡ not (starts_dma_at (steps_of i s))
-  recorded-which i h = sym (marked i h) ∙ undo-done (steps_of i s) (done-each k s done i h)
+  recorded-which i h =
+      let told = a.told each i h in
+      ap (λ r. is_back r.change) (record_is (steps_of i s) new i told) ∙ record-dma (steps_of i s) told.before (done-each k s done i h)
 
   pub recorded-back : (i : ℕ) → i < k → starts_dma_at (steps_of i s) ≡ false → undone (record_at new i) (steps_of (i + 1) s) ≡ steps_of i s
   recorded-back i h none =
       let told = a.told each i h in
-      back (steps_of i s) (steps_of (i + 1) s) told.before (record_at new i) told.ranged (record_is (steps_of i s) new i told) (steps-more i s)
-      (undo-done (steps_of i s) (done-each k s done i h) ∙ ap not none)
+      rw (record_is (steps_of i s) new i told, steps-more i s) (record-back (steps_of i s) told.before told.ranged (done-each k s done i h) none)
 
   pub recorded-memory : (i : ℕ) → i < k → may_store (record_at new i) ≡ false → (steps_of (i + 1) s).dmem ≡ (steps_of i s).dmem
   recorded-memory i h none =
       let told = a.told each i h in
-      memory (steps_of i s) (steps_of (i + 1) s) told.before (record_at new i) (record_is (steps_of i s) new i told) (steps-more i s) (done-each k s done i h) none
+      ap (λ (x : State). x.dmem) (steps-more i s)
+      ∙ record-memory (steps_of i s) told.before (done-each k s done i h) (ap may_store (sym (record_is (steps_of i s) new i told)) ∙ none)
 
-  -- steps go on only where no DMA started
-  marked_as : (i : ℕ) (b : Bool) → i < k → option_map (λ (r : Saved). is_back r.change) (slice_get new i) ≡ Some b → can_undo (steps_of i s) ≡ b
-  unfolding record_after
-  marked_as i b h goes =
-      let told = a.told each i h in
-      done_marked (steps_of i s) told.before (done-each k s done i h) ∙ some_is _ _ (sym (ap (option_map (λ (r : Saved). is_back r.change)) told.told) ∙ goes)
-    where
-      some_is : (x y : Bool) → Some x ≡ Some y → x ≡ y
-      some_is x y e = cc
-
-  goes_as : (i : ℕ) → i < k → GoesOn (λ (r : Saved). is_back r.change) (steps_of i s) (slice_get new i) → can_undo (steps_of i s) ≡ true
-  goes_as i h (inl e) = e
-  goes_as i h (inr e) = marked_as i true h e
-
-  transfer_as : (i : ℕ) (b : Bool) → i < k → can_undo (steps_of i s) ≡ b → starts_dma_at (steps_of i s) ≡ not b
-  transfer_as i b h e = sym (not_back b (starts_dma_at (steps_of i s)) (sym e ∙ undo-done (steps_of i s) (done-each k s done i h)))
-
-  pub recorded-before : (i : ℕ) → i + 1 < k → starts_dma_at (steps_of i s) ≡ false
-  recorded-before i h =
-      let inside : i < k = omega (arith, h) in
-      transfer_as i true inside (goes_as i inside (a.on each i (omega (arith, h))))
-
-  pub recorded-end : (ends : ℕ → ℕ → Bool → Bool) (t : State) → IsEnd (λ (r : Saved). is_back r.change) ends k s t (slice_get new (k - 1))
-      → (done_steps (step_of t).0 ≡ 0) ⊎ ((0 < k) × ((starts_dma_at (steps_of (k - 1) s) ≡ true) ⊎ (ends_after ends (steps_of (k - 1) s) ≡ true)))
-  recorded-end ends t (inl stuck) = inl stuck
-  recorded-end ends t (inr (some, inr ended)) = inr (some, inr ended)
-  recorded-end ends t (inr (some, inl last)) =
-      let inside : k - 1 < k = omega (arith, some) in
-      inr (some, inl (transfer_as (k - 1) false inside (marked_as (k - 1) false inside last)))
+pub recorded-end : (k : ℕ) (s t : State) (ends : ℕ → ℕ → Bool → Bool) → IsEnd true ends k s t
+    → (done_steps (step_of t).0 ≡ 0) ⊎ ((0 < k) × ((starts_dma_at (steps_of (k - 1) s) ≡ true) ⊎ (ends_after ends (steps_of (k - 1) s) ≡ true)))
+recorded-end k s t ends (inl stuck) = inl stuck
+recorded-end k s t ends (inr (some, inl last)) = inr (some, inl last.1)
+recorded-end k s t ends (inr (some, inr ended)) = inr (some, inr ended)
 
 pub recorded-never : {D : Type 0} (s : State) → D ⊎ (ends_after (λ pc word stored. false) s ≡ true) → D
 unfolding ends_after

@@ -1,11 +1,10 @@
 -- Scaffolding of proofs: what the code asks of a change. Saved has the meaning.
-use Rattle.std.specs.Prelude.{ℕ, ◌+◌, ◌<◌, ◌≡◌, Bool, true, false, Option}
-use Rattle.rsp_decode.specs.declared.inst.Inst.{Inst}
+use Rattle.std.specs.Prelude.{ℕ, ◌+◌, ◌<◌, ◌≡◌, Bool, true, false, not}
 use Rattle.rsp_numbers.specs.Numbers.{AreNumbers}
 use Rattle.rsp_lanes.specs.Flags.{flags_at, all_flags}
 use Rattle.rsp_loadstore.specs.File.{IsFile}
 use Rattle.rsp_machine.specs.State.{State}
-use Rattle.rsp_machine.specs.Saved.{Saved, change_of, change_saved, changes_memory, told_by}
+use Rattle.rsp_machine.specs.Saved.{changes_memory, is_back}
 use Rattle.rsp_machine.specs.declared.change.Change.{Change}
 use Rattle.rsp_machine.specs.declared.change.Reach.{Reach}
 use Rattle.rsp_machine.specs.declared.change.Change.TheVariants as of
@@ -39,14 +38,6 @@ reaches_sp (of.Sp n) = true
 reaches_sp of.Dma = true
 reaches_sp _ = false
 
--- what an instruction with a change may have reached
+-- what the loop of steps asks of a change
 abbrev pub reach_of : Change → Reach
-reach_of change = record { sp = reaches_sp change; dmem = changes_memory change }
-
--- a record after it was told of an instruction
-abbrev pub saved_of : Inst → State → Saved → Saved
-saved_of i s r = change_saved (change_of i s) s r
-
--- and of that of a word, where there is one
-abbrev pub saved_by : Option Inst → State → Saved → Saved
-saved_by o s r = told_by change_saved o s r
+reach_of change = record { sp = reaches_sp change; dmem = changes_memory change; dma = not (is_back change) }

@@ -5,7 +5,7 @@ use Rattle.rsp_machine.specs.Step.{step_of}
 use Rattle.rsp_machine.specs.declared.step.StepEnd.{StepEnd}
 use Rattle.rsp_machine.specs.declared.step.StepEnd.TheVariants.{Done, Halted, Reserved}
 
--- the state after n steps, whatever they answer
+-- the state after n steps, whatever their answers
 unfoldable pub steps_of : ℕ → State → State
 steps_of zero s = s
 steps_of (suc n) s = (step_of (steps_of n s)).1
@@ -16,7 +16,7 @@ done_steps Done = 1
 done_steps Halted = 0
 done_steps (Reserved word) = 0
 
--- And of n steps. Behind one that isn't Done nothing changes, so that no later one is.
+-- And of n steps. After one that isn't Done nothing changes, so no later one is.
 unfoldable pub done_of : ℕ → State → ℕ
 done_of zero s = 0
 done_of (suc n) s = done_of n s + done_steps (step_of (steps_of n s)).0

@@ -1,4 +1,4 @@
--- Going past a move of an SP register in place of executing it.
+-- Passing over a move of an SP register in place of executing it.
 use Rattle.std.specs.Prelude.{ℕ, Bool, true, false, Option, Some, Result, Ok, Err, if◌then◌else◌}
 use Rattle.rsp_decode.specs.declared.inst.Inst.{Inst}
 use Rattle.rsp_decode.specs.declared.inst.Inst.TheVariants.{MoveSp}
@@ -17,7 +17,7 @@ abbrev pub is_write : MoveRow → Bool
 is_write From = false
 is_write To = true
 
--- the state after a move that is gone past: register rt of an MFC0 becomes the value, and an MTC0 writes nothing
+-- the state after such a move: register rt of an MFC0 becomes the value, and an MTC0 writes nothing
 abbrev pub passed : MoveRow → ℕ → ℕ → State → State
 passed From rt value s = singled (record (advanced s) { registers = with_register s.registers rt value })
 passed To rt value s = singled (advanced s)
@@ -27,6 +27,6 @@ abbrev pub pass_by : Option Inst → ℕ → State → Result State PassFault
 pass_by (Some (MoveSp row rt n)) value s = Ok (passed row rt value s)
 pass_by _ value s = Err OtherWord
 
--- what going past the word at pc comes to: a state, or why it can't be
+-- passing over the word at pc: the state after it, or why that is refused
 unfoldable pub pass_of : ℕ → State → Result State PassFault
 pass_of value s = if s.sp.halted then Err Halted else pass_by (inst_of (word_at s.imem s.pc)) value s

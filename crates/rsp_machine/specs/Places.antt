@@ -1,12 +1,12 @@
--- Where a machine stands, apart from the rest of it: a loop of steps keeps its places so, and puts them back where it ends.
+-- pc and npc apart from the rest of a machine: the loop of steps keeps them so, and writes them back at its end.
 use Rattle.std.specs.Prelude.{ℕ}
 use Rattle.rsp_machine.specs.State.{State}
 
 pub record Places : Type 0 where
-  pub pc : ℕ  -- the place in IMEM of the next instruction
+  pub pc : ℕ  -- the address in IMEM of the next instruction
   pub npc : ℕ  -- and of the one after it
 
--- the places of a state, and a state with others
+-- pc and npc of a state, and a state with others
 abbrev pub places_of : State → Places
 places_of s = record { pc = s.pc; npc = s.npc }
 

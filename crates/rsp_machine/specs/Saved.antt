@@ -1,5 +1,5 @@
--- What a record saves of the state before a step, and how it leads back: for the debugger. What an instruction does is in Step.
-use Rattle.std.specs.Prelude.{ℕ, ℤ, pos, ◌+◌, ◌-◌, ◌%◌, ◌==◌, ◌||◌, Bool, true, false, not, if◌then◌else◌, List, [], ◌∷◌, Option, Some, None, replicate, slice_index_or}
+-- What a record saves of the state before a step, and how it undoes the step: for the debugger. What an instruction does is in Step.
+use Rattle.std.specs.Prelude.{ℕ, ℤ, pos, ◌+◌, ◌-◌, ◌%◌, ◌==◌, ◌||◌, Bool, true, false, if◌then◌else◌, List, [], ◌∷◌, Option, Some, None, replicate, slice_index_or}
 use Rattle.rsp_decode.specs.declared.inst.Inst.{Inst}
 use Rattle.rsp_decode.specs.declared.inst.Inst.TheVariants.{Shift, ShiftBy, JumpRegister, JumpLinkRegister, Break, Register, BranchSign, BranchEqual, Jump, Immediate, LoadUpper, Load, Store, MoveSp, MoveVector, MoveControl, Multiply, Round, MpegMultiply, ReadAccumulator, VectorAdd, VectorSelect, VectorClip, VectorMerge, VectorLogic, Divide, Idle, VectorLoad, VectorStore}
 use Rattle.rsp_decode.specs.declared.scalar.MoveRow.{MoveRow}
@@ -27,7 +27,7 @@ use Rattle.rsp_machine.specs.State.{State}
 use Rattle.rsp_machine.specs.declared.change.Change.{Change}
 use Rattle.rsp_machine.specs.declared.change.Change.TheVariants as of
 
--- What one step saved: values as they were before it. Which of them count is told by `change`.
+-- What one step saved: values as they were before it. `change` says which of them count.
 pub record Saved : Type 0 where
   pub pc : ℕ
   pub change : Change
@@ -35,7 +35,7 @@ pub record Saved : Type 0 where
   pub bytes : List ℕ
   pub vector : List ℕ
   pub vectors : List (List ℕ)
-  pub accumulators : List ℤ  -- of a row that writes the low accumulators alone, their low sixteen bits
+  pub accumulators : List ℤ  -- of an instruction that writes the low accumulators alone, their low sixteen bits
   pub flags : Flags
   pub divider : Divider
   pub sp : Sp
@@ -75,7 +75,7 @@ with_vco_and_vcc old f = record (with_vco old f) { compare = old.compare; clip =
 abbrev pub with_low_of : List ℤ → List ℤ → List ℤ
 with_low_of old xs = with_low xs (low_lanes old)
 
--- a record after it has saved the values that a change will write over
+-- a record after it has saved the values that a change overwrites
 unfoldable pub values_saved : Change → State → Saved → Saved
 values_saved (of.Register n) s r = record r { word = register s.registers n }
 values_saved (of.Bytes a) s r = record r { bytes = bytes_at s.dmem a 16 }
@@ -91,32 +91,9 @@ values_saved of.Flags s r = record r { flags = s.flags }
 values_saved (of.Sp n) s r = record r { word = register s.registers n; sp = s.sp }
 values_saved _ s r = r
 
--- a change as a record has it, without the register that the row's word in IMEM tells; and the register that is left out
-abbrev pub nameless : Change → Change
-nameless (of.Register n) = of.Register 0
-nameless (of.Vector n) = of.Vector 0
-nameless (of.Product n) = of.Product 0
-nameless (of.Low n) = of.Low 0
-nameless (of.Sum n) = of.Sum 0
-nameless (of.Choice n) = of.Choice 0
-nameless (of.Clip n) = of.Clip 0
-nameless (of.Divide n) = of.Divide 0
-nameless change = change
-
-abbrev pub register_of : Change → ℕ
-register_of (of.Register n) = n
-register_of (of.Vector n) = n
-register_of (of.Product n) = n
-register_of (of.Low n) = n
-register_of (of.Sum n) = n
-register_of (of.Choice n) = n
-register_of (of.Clip n) = n
-register_of (of.Divide n) = n
-register_of _ = 0
-
--- a record after it was told of a change
+-- a record after a change
 unfoldable pub change_saved : Change → State → Saved → Saved
-change_saved change s r = values_saved change s (record r { pc = s.pc; change = nameless change })
+change_saved change s r = values_saved change s (record r { pc = s.pc; change = change })
 
 -- what a jump or a branch changes: the register that it links
 abbrev pub sign_change : SignRow → Change
@@ -181,15 +158,7 @@ change_of (VectorLoad row f) s = loaded_change row f.vt
 change_of (VectorStore row f) s =
     of.Bytes (window_of row (transfer_address (VectorStore row f) (register s.registers f.base)))
 
--- the register that is left out of the change of the row at a place
-abbrev pub register_by : Option Inst → State → ℕ
-register_by None s = 0
-register_by (Some i) s = register_of (change_of i s)
-
-abbrev pub register_at : ℕ → State → ℕ
-register_at pc s = register_by (inst_of (word_at s.imem pc)) s
-
--- A saver after a step: it is told what the instruction changes, where there is one.
+-- A saver after an instruction, if there is one, and after a step: it gets what the instruction changes.
 abbrev pub told_by : {K : Type 0} → (Change → State → K → K) → Option Inst → State → K → K
 told_by saves None s k = k
 told_by saves (Some i) s k = saves (change_of i s) s k
@@ -202,19 +171,7 @@ abbrev pub starts_dma : Inst → Bool
 starts_dma (MoveSp To rt n) = is_length n
 starts_dma _ = false
 
--- whether a step can be undone, by the instruction that it executes: it started no DMA
-abbrev pub is_back_by : Option Inst → Bool
-is_back_by None = false
-is_back_by (Some i) = not (starts_dma i)
-
--- a record after a step, and whether the step can be undone by it: it was done, and started no DMA
-unfoldable pub record_after : State → Saved → Saved
-record_after s r = told_of change_saved s r
-
-unfoldable pub can_undo : State → Bool
-can_undo s = if s.sp.halted then false else is_back_by (inst_of (word_at s.imem s.pc))
-
--- whether a record leads back
+-- whether a record undoes its step
 abbrev pub is_back : Change → Bool
 is_back of.Dma = false
 is_back _ = true
@@ -228,26 +185,26 @@ changes_memory _ = false
 abbrev pub may_store : Saved → Bool
 may_store r = changes_memory r.change
 
--- the vector register of a computing row and the accumulators, written back
-abbrev pub with_product : Saved → State → State
-with_product r s = record s { vectors = with_vector s.vectors (register_at r.pc s) r.vector; accumulators = r.accumulators }
+-- vector register n and the accumulators, written back
+abbrev pub with_product : ℕ → Saved → State → State
+with_product n r s = record s { vectors = with_vector s.vectors n r.vector; accumulators = r.accumulators }
 
--- and with the low accumulators alone; the row left the others
-abbrev pub with_low_part : Saved → State → State
-with_low_part r s = record s { vectors = with_vector s.vectors (register_at r.pc s) r.vector; accumulators = with_low_of r.accumulators s.accumulators }
+-- and with the low accumulators alone; the instruction left the others
+abbrev pub with_low_part : ℕ → Saved → State → State
+with_low_part n r s = record s { vectors = with_vector s.vectors n r.vector; accumulators = with_low_of r.accumulators s.accumulators }
 
 -- what was changed, written back
 unfoldable pub restored : Change → Saved → State → State
-restored (of.Register n) r s = record s { registers = with_register s.registers (register_at r.pc s) r.word }
+restored (of.Register n) r s = record s { registers = with_register s.registers n r.word }
 restored (of.Bytes a) r s = record s { dmem = with_bytes s.dmem a r.bytes }
-restored (of.Vector n) r s = record s { vectors = with_vector s.vectors (register_at r.pc s) r.vector }
+restored (of.Vector n) r s = record s { vectors = with_vector s.vectors n r.vector }
 restored (of.Group n) r s = record s { vectors = with_group s.vectors n r.vectors }
-restored (of.Product n) r s = with_product r s
-restored (of.Low n) r s = with_low_part r s
-restored (of.Sum n) r s = record (with_low_part r s) { flags = with_vco r.flags s.flags }
-restored (of.Choice n) r s = record (with_low_part r s) { flags = with_vco_and_vcc r.flags s.flags }
-restored (of.Clip n) r s = record (with_low_part r s) { flags = r.flags }
-restored (of.Divide n) r s = record (with_low_part r s) { divider = r.divider }
+restored (of.Product n) r s = with_product n r s
+restored (of.Low n) r s = with_low_part n r s
+restored (of.Sum n) r s = record (with_low_part n r s) { flags = with_vco r.flags s.flags }
+restored (of.Choice n) r s = record (with_low_part n r s) { flags = with_vco_and_vcc r.flags s.flags }
+restored (of.Clip n) r s = record (with_low_part n r s) { flags = r.flags }
+restored (of.Divide n) r s = record (with_low_part n r s) { divider = r.divider }
 restored of.Flags r s = record s { flags = r.flags }
 restored (of.Sp n) r s = record s { registers = with_register s.registers n r.word; sp = r.sp }
 restored _ r s = s
@@ -260,6 +217,6 @@ before pc npc s = record s { pc = pc; npc = npc; sp = record s.sp { halted = fal
 abbrev pub record_at : List Saved → ℕ → Saved
 record_at records i = slice_index_or records i blank
 
--- the state before the step, where a way leads back; else nothing changes
+-- the state before the step, if the record undoes it; else nothing changes
 unfoldable pub undone : Saved → State → State
 undone r s = if is_back r.change then before r.pc s.pc (restored r.change r s) else s

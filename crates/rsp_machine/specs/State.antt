@@ -14,19 +14,19 @@ use Rattle.rsp_scalar.specs.Flow.{going_on}
 use Rattle.rsp_regs.specs.Sp.{Sp, IsSp, start}
 
 pub record State : Type 0 where
-  pub pc : ℕ  -- the place in IMEM of the next instruction, below 4096
+  pub pc : ℕ  -- the address in IMEM of the next instruction, below 4096
   pub npc : ℕ  -- and of the one after it
   pub registers : List ℕ  -- 32 numbers below 2^32, of which number 0 is 0
   pub vectors : List (List ℕ)  -- 32 registers of eight numbers below 2^16
   pub accumulators : List ℤ  -- eight numbers from -2^47 to 2^47 - 1
   pub flags : Flags  -- five flags of each lane
-  pub divider : Divider  -- DIV_IN and DIV_OUT, below 2^16, and the mark that DIV_IN is loaded
+  pub divider : Divider  -- DIV_IN and DIV_OUT, below 2^16, and whether DIV_IN is loaded
   pub dmem : List ℕ  -- 4096 numbers below 2^8
   pub imem : List ℕ  -- 4096 numbers below 2^8
   pub rdram : List ℕ  -- as many numbers below 2^8 as the image has bytes
   pub sp : Sp  -- the SP registers, with the interrupt flag
 
--- where a word of IMEM stands that an instruction can be fetched from
+-- an address in IMEM that an instruction can be fetched from
 abbrev pub IsPlace : ℕ → Type 0
 IsPlace n = (n < 4096) × (n % 4 ≡ 0)
 
@@ -38,7 +38,7 @@ pub record AreFlags (f : Flags) : Type 0 where
   pub clip : length f.clip ≡ 8
   pub extra : length f.extra ≡ 8
 
--- The ranges of a state, in which that of every machine lies.
+-- The ranges of the state of every machine.
 pub record IsState (s : State) : Type 0 where
   pub pc : IsPlace s.pc
   pub npc : IsPlace s.npc
@@ -68,6 +68,6 @@ start_of image = record {
   sp = start;
 }
 
--- where pc and npc have gone on: pc becomes npc, and npc the place after it
+-- pc and npc advanced: pc becomes npc, and npc the next address
 abbrev pub advanced : State → State
 advanced s = record s { pc = s.npc; npc = going_on s.npc }

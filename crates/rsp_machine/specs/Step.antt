@@ -1,5 +1,5 @@
--- One step of the machine. An instruction first goes on: pc becomes npc, and npc the place after it. Then it does its work, and a jump or a
--- branch writes npc once more. So pc is the place of the delay slot while it works.
+-- One step of the machine. First pc and npc advance: pc becomes npc, and npc the next address. Then the instruction does its work, and a jump
+-- or a branch writes npc once more. So pc is the address of the delay slot while it works.
 use Rattle.std.specs.Prelude.{ℕ, Option, Some, None, if◌then◌else◌}
 use Rattle.rsp_decode.specs.declared.inst.Inst.{Inst}
 use Rattle.rsp_decode.specs.declared.inst.Inst.TheVariants.{Shift, ShiftBy, JumpRegister, JumpLinkRegister, Break, Register, BranchSign, BranchEqual, Jump, Immediate, LoadUpper, Load, Store, MoveSp, MoveVector, MoveControl, Multiply, Round, MpegMultiply, ReadAccumulator, VectorAdd, VectorSelect, VectorClip, VectorMerge, VectorLogic, Divide, Idle, VectorLoad, VectorStore}
@@ -23,7 +23,7 @@ use Rattle.rsp_machine.specs.Host.{register_read, register_written}
 use Rattle.rsp_machine.specs.declared.step.StepEnd.{StepEnd}
 use Rattle.rsp_machine.specs.declared.step.StepEnd.TheVariants.{Done, Halted, Reserved}
 
--- a scalar row that computes
+-- a scalar instruction that computes
 unfoldable pub computes : Inst → State → State
 computes i s = record s { registers = computed i s.registers }
 
@@ -35,12 +35,12 @@ loads i s = record s { registers = scalar_loaded i s.registers s.dmem }
 unfoldable pub stores : Inst → State → State
 stores i s = record s { dmem = scalar_stored i s.registers s.dmem }
 
--- A jump or a branch, taken or not; it reads its registers before it writes its link. The places have gone on by then, so s.pc is
--- the delay slot, from which a target is counted and behind which a link leads.
+-- A jump or a branch, taken or not; it reads its registers before it writes its link. pc and npc have advanced, so s.pc is the
+-- delay slot: a target is counted from it, and a link is the address after it.
 unfoldable pub jumps : Inst → State → State
 jumps i s = record s { npc = following i s.registers s.pc; registers = linked i s.registers s.pc }
 
--- a BREAK, which goes on to the next place like any row
+-- a BREAK, after which pc advances as after any instruction
 unfoldable pub break_instruction : State → State
 break_instruction s = record s { sp = after_break s.sp }
 
@@ -51,7 +51,7 @@ moves_sp From rt n s =
     record after { registers = with_register s.registers rt (peeked n s.sp) }
 moves_sp To rt n s = register_written n (register s.registers rt) s
 
--- what an instruction of the table does, once the places have gone on
+-- what an instruction does, pc and npc advanced
 unfoldable pub worked : Inst → State → State
 worked (Shift row rd rt amount) s = computes (Shift row rd rt amount) s
 worked (ShiftBy row f) s = computes (ShiftBy row f) s
@@ -87,17 +87,17 @@ worked (VectorStore row f) s = stores_vector row f s
 unfoldable pub executed : Inst → State → State
 executed i s = worked i (advanced s)
 
--- the state after a step: halted where single step is set in the state that the instruction made
+-- the state after a step: halted if single step is set in the state after the instruction
 abbrev pub singled : State → State
 singled s = record s { sp = after_step s.sp }
 
--- the answer and the state after a word that is an instruction, or reserved, where nothing changes
+-- the answer and the state after a word that is an instruction, or reserved; then nothing changes
 abbrev pub step_by : Option Inst → ℕ → State → StepEnd × State
 step_by None word s = (Reserved word, s)
 step_by (Some i) word s = (Done, singled (executed i s))
 
--- One step: Halted where halted is set, and nothing changes; Reserved where the word at pc is reserved, and nothing changes;
--- else the instruction is executed, and the answer is Done.
+-- One step: Halted if halted is set, and nothing changes; Reserved if the word at pc is reserved, and nothing changes; else the
+-- instruction is executed, and the answer is Done.
 unfoldable pub step_of : State → StepEnd × State
 step_of s =
     let word = word_at s.imem s.pc in

@@ -1,4 +1,4 @@
--- Where a run of steps ends of itself.
+-- Where a test ends a run of steps.
 use Rattle.std.specs.Prelude.{ℕ, Bool, false, Option, Some, None}
 use Rattle.rsp_decode.specs.declared.inst.Inst.{Inst}
 use Rattle.rsp_decode.specs.Table.{inst_of}
@@ -7,7 +7,7 @@ use Rattle.rsp_machine.specs.State.{State}
 use Rattle.rsp_machine.specs.Step.{step_of}
 use Rattle.rsp_machine.specs.Saved.{change_of, changes_memory}
 
--- whether an instruction, where there is one, may change DMEM: it stores there, or it starts a DMA
+-- whether an instruction, if there is one, may change DMEM: it stores there, or it starts a DMA
 abbrev pub may_store_by : Option Inst → State → Bool
 may_store_by None s = false
 may_store_by (Some i) s = changes_memory (change_of i s)

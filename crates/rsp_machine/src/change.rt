@@ -1,16 +1,16 @@
-// What a row changes of a machine.
+// What an instruction changes of a machine.
 
 ghost use Rattle.std.specs.Prelude.{◌≡◌, ◌<◌};
 ghost use Rattle.rsp_decode.specs.Table.{IsInstruction};
-ghost use Rattle.rsp_machine.specs.Saved.{nameless, register_of, change_of};
+ghost use Rattle.rsp_machine.specs.Saved.{change_of, changes_memory, is_back};
 ghost use Rattle.rsp_machine.specs.Changes.{IsChange, reach_of};
 
 use crate::machine::Machine;
 use rsp_acc::Acc;
 use rsp_decode::{Inst, JumpRow, MoveRow, SignRow, VectorLoadRow, VectorStoreRow};
 
-/// What an instruction changes of a machine besides pc and npc, with the register or the address that it names. Register
-/// numbers are words here: a step that stores one would take two instructions more for the lower half of a word.
+/// What an instruction changes of a machine besides pc and npc, with the register or the address. A register number is a word
+/// here, which a step stores at once.
 #[derive(Clone, Copy)]
 pub(crate) enum Change {
     /// Nothing else.
@@ -39,73 +39,49 @@ pub(crate) enum Change {
     Flags,
     /// The SP registers, and a scalar register.
     Sp(u32),
-    /// What a DMA changes, which isn't saved: no way leads back.
+    /// A DMA. Its effect isn't saved, so the step can't be undone.
     Dma,
 }
 
-/// What an instruction may have reached, besides its registers.
+/// What the loop of steps asks of an instruction. As plain truth values they are known in each arm of the decoder, where LLVM
+/// then drops the questions.
 #[derive(Clone, Copy, Drop)]
 pub(crate) struct Reach {
-    /// Whether it may have read or written the SP registers.
+    /// Whether the instruction may have read or written the SP registers.
     pub(crate) sp: bool,
     /// Whether it may have written DMEM.
     pub(crate) dmem: bool,
+    /// Whether it started a DMA.
+    pub(crate) dma: bool,
 }
 
 impl Change {
-    /// The change as a record has it, without the register that [`change_of`] finds again by the row's word in IMEM.
-    #[inline(always)]
-    pub(crate) fn nameless(self) -> Change
-        requires { IsChange self }
-        ensures value { result ≡ nameless self }
-        ensures change { IsChange result }
-    {
-        match self {
-            Change::Register(_) => Change::Register(0),
-            Change::Vector(_) => Change::Vector(0),
-            Change::Product(_) => Change::Product(0),
-            Change::Low(_) => Change::Low(0),
-            Change::Sum(_) => Change::Sum(0),
-            Change::Choice(_) => Change::Choice(0),
-            Change::Clip(_) => Change::Clip(0),
-            Change::Divide(_) => Change::Divide(0),
-            change => change,
-        }
-    }
-
-    /// The number, below 32, of the register that [`Change::nameless`] leaves out; 0 where it leaves out none.
-    pub(crate) fn register(self) -> u8
-        requires { IsChange self }
-        ensures value { result ≡ register_of self }
-        ensures bound { result < 32 }
-    {
-        match self {
-            Change::Register(n)
-            | Change::Vector(n)
-            | Change::Product(n)
-            | Change::Low(n)
-            | Change::Sum(n)
-            | Change::Choice(n)
-            | Change::Clip(n)
-            | Change::Divide(n) => n as u8,
-            Change::Places
-            | Change::Bytes(_)
-            | Change::Group(_)
-            | Change::Flags
-            | Change::Sp(_)
-            | Change::Dma => 0,
-        }
-    }
-
-    /// What an instruction with this change may reach.
+    /// What the loop of steps asks of the change.
     #[inline(always)]
     pub(crate) fn reach(self) -> Reach
         ensures { result ≡ reach_of self }
     {
         Reach {
             sp: matches!(self, Change::Sp(_) | Change::Dma),
-            dmem: matches!(self, Change::Bytes(_) | Change::Dma),
+            dmem: self.stores(),
+            dma: !self.is_back(),
         }
+    }
+
+    /// Whether the instruction may have written DMEM.
+    #[inline(always)]
+    pub(crate) fn stores(self) -> bool
+        ensures { result ≡ changes_memory self }
+    {
+        matches!(self, Change::Bytes(_) | Change::Dma)
+    }
+
+    /// Whether the instruction can be undone by its record.
+    #[inline(always)]
+    pub(crate) fn is_back(self) -> bool
+        ensures { result ≡ is_back self }
+    {
+        !matches!(self, Change::Dma)
     }
 }
 

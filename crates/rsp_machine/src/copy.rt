@@ -31,7 +31,7 @@ fn copied_memory(memory: &SpMem) -> SpMem
 }
 
 impl<A: Acc> Machine<A> {
-    /// A machine in the same state, with memories of its own. AllocError if there is no memory for its image.
+    /// A machine in the same state, with memories of its own. AllocError if out of memory for its image.
     pub fn try_copy(&self, alloc: Global) -> Result<Machine<A>, AllocError>
         ensures { IfOk result (λ machine. machine ≡ self.now) }
     {

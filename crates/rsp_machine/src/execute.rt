@@ -11,18 +11,16 @@ ghost use Rattle.rsp_machine.specs.Changes.{IsChange, reach_of};
 
 use crate::change::{Change, Reach, change_of};
 use crate::machine::Machine;
-use crate::operation;
 use crate::place::{Place, Places};
 use crate::saver::Saver;
 use crate::until::Until;
 use rsp_acc::Acc;
-use rsp_compare::MergeOp;
 use rsp_decode::{Inst, MoveRow, Visitor, visit};
 use rsp_scalar::{alu, jump, load, store};
 use std::marker::PhantomData;
 
-/// A machine as the table's instructions reach it, and the saver that is told of them. It stands apart from the machine so
-/// that an embedder, who can step a machine, can't execute without fetch and without the halted test.
+/// A machine as the visitor of its instructions, and the saver of what they overwrite. It is a type of its own: an embedder, who
+/// can step a machine, can't execute an instruction without fetch and without the test whether the machine is halted.
 #[derive(Drop)]
 struct Executor<'a, A: Acc, K: Saver, U: Until> {
     machine: &'a mut Machine<A>,
@@ -30,16 +28,16 @@ struct Executor<'a, A: Acc, K: Saver, U: Until> {
     /// What may end the loop, which isn't asked here. By this type each loop has the decoder's functions for itself, so LLVM
     /// inlines them.
     until: PhantomData<U>,
-    /// The place of the instruction.
+    /// The address of the instruction.
     from: Place,
-    /// The places behind it. What `machine` has of places doesn't count.
+    /// pc and npc after it. Those of `machine` aren't used.
     places: Places,
-    /// What the instruction may have reached.
+    /// What the loop asks of the instruction.
     reach: Reach,
 }
 
 impl<'a, A: Acc, K: Saver, U: Until> Executor<'a, A, K, U> {
-    /// Tells the saver of a change, before it is made.
+    /// Saves what a change will overwrite.
     #[inline(always)]
     fn save(&mut self, change: Change)
         requires { IsChange change }
@@ -53,7 +51,7 @@ impl<'a, A: Acc, K: Saver, U: Until> Executor<'a, A, K, U> {
         self.reach = change.reach();
     }
 
-    /// The places behind the instruction.
+    /// pc and npc after the instruction.
     #[inline(always)]
     fn places(&self) -> Places
         ensures { result ≡ self.now.places }
@@ -63,7 +61,7 @@ impl<'a, A: Acc, K: Saver, U: Until> Executor<'a, A, K, U> {
 }
 
 impl<A: Acc> Machine<A> {
-    /// A scalar row that computes.
+    /// A scalar instruction that computes.
     #[inline(always)]
     #[tactic(auto, unfolding(crate::specs::Step::computes))]
     fn compute(&mut self, inst: &Inst)
@@ -93,8 +91,8 @@ impl<A: Acc> Machine<A> {
         store(inst, &self.regs, &mut self.dmem);
     }
 
-    /// A jump or a branch of a machine that has gone on to these places and keeps its own: the instruction behind it, which is
-    /// at their pc, is executed before its target.
+    /// A jump or a branch. pc and npc have advanced in `places`, and the machine's own aren't used: the instruction at this pc, its
+    /// delay slot, is executed before its target.
     #[inline(always)]
     fn go_to(&mut self, inst: &Inst, places: &mut Places)
         requires { IsInstruction inst.now }
@@ -125,7 +123,7 @@ impl<A: Acc> Machine<A> {
         }
     }
 
-    /// A read of an SP register into scalar register `rt`. It stands apart from the write, which is long by its DMA.
+    /// A read of an SP register into scalar register `rt`. It is apart from the write, which is long by its DMA.
     #[tactic(auto, unfolding(crate::specs::Step::moves_sp))]
     fn move_from_sp(&mut self, rt: u8, register: u8)
         requires { rt < 32 }
@@ -146,7 +144,7 @@ impl<A: Acc> Machine<A> {
         self.write_reg(u32::from(register), value);
     }
 
-    /// Does what an instruction does, for a machine that has gone on to these places and keeps its own, which don't count.
+    /// Does what an instruction does. pc and npc have advanced in `places`, and the machine's own aren't used.
     #[inline(always)]
     #[tactic(auto, unfolding(crate::specs::Step::worked, crate::specs::Step::computes, crate::specs::Step::loads, crate::specs::Step::stores, crate::specs::Step::jumps, crate::specs::Step::break_instruction, crate::specs::Vector::multiplies, crate::specs::Vector::rounds, crate::specs::Vector::multiplies_mpeg, crate::specs::Vector::reads_accumulator, crate::specs::Vector::ruled, crate::specs::Vector::divides, crate::specs::Vector::loads_vector, crate::specs::Vector::stores_vector))]
     fn work(&mut self, inst: &Inst, places: &mut Places)
@@ -169,7 +167,7 @@ impl<A: Acc> Machine<A> {
             | Inst::Jump { .. } => self.go_to(inst, places),
             Inst::Break => self.break_instruction(),
             Inst::MoveSp { row, rt, register } => self.move_sp_register(row, rt, register),
-            // A call that isn't inlined is given a copy, so that the instruction itself never stands in memory.
+            // A call that isn't inlined gets a copy: so the instruction itself is never in memory.
             Inst::MoveVector { row, rt, .. } => {
                 let copy = *inst;
                 self.move_lanes(&copy, row, rt);
@@ -182,17 +180,11 @@ impl<A: Acc> Machine<A> {
             Inst::Round { row, fields } => self.round_lanes(row, fields),
             Inst::MpegMultiply { row, fields } => self.multiply_mpeg(row, fields),
             Inst::ReadAccumulator { fields } => self.read_part(fields),
-            Inst::VectorAdd { row, fields } => self.compute_lanes(operation::add_op(row), fields),
-            Inst::VectorSelect { row, fields } => self.compute_lanes(
-                operation::select_op(row),
-                fields,
-            ),
-            Inst::VectorClip { row, fields } => self.compute_lanes(operation::clip_op(row), fields),
-            Inst::VectorMerge { fields } => self.compute_lanes(MergeOp::Vmrg, fields),
-            Inst::VectorLogic { row, fields } => self.compute_lanes(
-                operation::logic_op(row),
-                fields,
-            ),
+            Inst::VectorAdd { row, fields } => self.add_lanes(row, fields),
+            Inst::VectorSelect { row, fields } => self.select_lanes(row, fields),
+            Inst::VectorClip { row, fields } => self.clip_lanes(row, fields),
+            Inst::VectorMerge { fields } => self.merge_lanes(fields),
+            Inst::VectorLogic { row, fields } => self.logic_lanes(row, fields),
             Inst::Divide {
                 row,
                 vd,
@@ -206,8 +198,8 @@ impl<A: Acc> Machine<A> {
         }
     }
 
-    /// Executes a word, of whose changes a saver is told, and answers what the instruction may have reached. None for
-    /// a reserved word, which changes nothing. The machine stands at these places, and what it has of its own doesn't count.
+    /// Executes the word at `places`, whose change a saver gets first, and returns what the loop asks of the change. None for a
+    /// reserved word, which changes nothing. The machine's own pc and npc aren't used.
     #[inline(always)]
     #[tactic(auto, unfolding(crate::specs::Step::executed))]
     pub(crate) fn execute<K: Saver, U: Until>(
@@ -231,6 +223,7 @@ impl<A: Acc> Machine<A> {
             reach: Reach {
                 sp: false,
                 dmem: false,
+                dma: false,
             },
         };
         if !visit(word, &mut executor) {

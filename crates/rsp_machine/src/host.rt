@@ -14,10 +14,10 @@ use thiserror::Error;
 #[derive(Clone, Copy, Debug, PartialEq, Eq)]
 pub struct RangeFault;
 
-/// Why a task can't start. The place comes first: a task that has both faults has TaskPlace.
+/// Why a task can't start. Of two faults TaskPlace is reported.
 #[derive(Clone, Copy, Debug, PartialEq, Eq, Error)]
 pub enum TaskFault {
-    /// Fault 4: its structure stands at no multiple of 8, or its 64 bytes pass the image's end.
+    /// Fault 4: the address of its structure isn't a multiple of 8, or its 64 bytes pass the image's end.
     #[error("TaskPlace")]
     TaskPlace,
     /// Fault 5: the size of its boot code, a whole word, isn't 1 to 4096.
@@ -40,8 +40,8 @@ fn image_word(rdram: &Rdram, a: u32) -> u32
 }
 
 impl<A: Acc> Machine<A> {
-    /// Reads an SP register, as the register table has it; its number `n` is taken modulo 16. A read
-    /// of the semaphore, register 7, then sets it; any other read changes nothing.
+    /// Reads an SP register, whose number is `n` modulo 16. A read of the semaphore, register 7, then sets it; any other read
+    /// changes nothing.
     pub fn read_reg(&mut self, n: u32) -> u32
         ensures value { result ≡ peeked n self.old.sp }
         ensures state { self.new ≡ register_read n self.old }
@@ -49,9 +49,8 @@ impl<A: Acc> Machine<A> {
         self.sp.host_read(n)
     }
 
-    /// Writes an SP register, as the register table has it; its number `n` is taken modulo 16. A write
-    /// of register 2 does a DMA from the RDRAM into the bank that register 0 names, one of register 3 a
-    /// DMA back, whether the machine is halted or not. The places pc and npc stay.
+    /// Writes an SP register, whose number is `n` modulo 16. A write of register 2 does a DMA from the RDRAM into the bank in
+    /// register 0, one of register 3 a DMA back, whether the machine is halted or not. pc and npc stay.
     pub fn write_reg(&mut self, n: u32, value: u32)
         ensures { self.new ≡ register_written n value self.old }
     {
@@ -59,8 +58,7 @@ impl<A: Acc> Machine<A> {
             .host_write(n, value, &mut self.dmem, &mut self.imem, &mut self.rdram);
     }
 
-    /// Goes on at a place in IMEM, a multiple of 4 below 4096: the next instruction is the one there, and
-    /// the one after it stands 4 further, modulo 4096. A halted machine stays halted.
+    /// Sets pc, a multiple of 4 below 4096, and npc to the next address, modulo 4096. A halted machine stays halted.
     pub fn set_pc(&mut self, pc: u16)
         requires below { pc < 4096 }
         requires whole { pc % 4 ≡ 0 }
@@ -70,8 +68,8 @@ impl<A: Acc> Machine<A> {
         self.npc = self.pc.next();
     }
 
-    /// Whether `n` bytes from an address on stand in a bank, which for DMEM and IMEM ends at 4096 and
-    /// for the RDRAM at the image's end. No bytes at all do, up to that end.
+    /// Whether `n` bytes from an address on are inside a bank. DMEM and IMEM end at 4096, the RDRAM at the image's end. 0 bytes are
+    /// inside up to this end.
     #[inline]
     pub fn is_inside(&self, bank: Bank, a: u32, n: usize) -> bool
         ensures value { result ≡ is_inside bank a n self.now }
@@ -85,8 +83,8 @@ impl<A: Acc> Machine<A> {
         n <= length && a as usize <= length - n
     }
 
-    /// Writes bytes to a bank from an address on. RangeFault, and nothing changes, where they pass the
-    /// bank's end, as [`Machine::is_inside`] tells.
+    /// Writes bytes to a bank from an address on. RangeFault if they aren't inside the bank ([`Machine::is_inside`]), and then
+    /// nothing changes.
     #[tactic(auto, unfolding(crate::specs::Host::with_bank_bytes))]
     pub fn load_bytes(&mut self, bank: Bank, a: u32, bytes: &[u8]) -> Result<(), RangeFault>
         ensures inside { IsOk result ↔ IsTrue (is_inside bank a (length bytes.now) self.old) }
@@ -104,13 +102,12 @@ impl<A: Acc> Machine<A> {
         Ok(())
     }
 
-    /// Starts the task whose structure of 64 bytes stands at an address of the RDRAM: copies the
-    /// structure to DMEM from FC0 hex on, and its boot code to IMEM from 0 on. Bytes of the boot code past
-    /// the image's end are 0. Then pc is 0, npc is 4, intbreak is set, and halted, broke and the signals 0,
-    /// 1 and 2 are cleared. All else stays.
+    /// Starts the task whose structure of 64 bytes is at an address of the RDRAM: copies the structure to DMEM from FC0 hex on,
+    /// and its boot code to IMEM from 0 on. Bytes of the boot code past the image's end are 0. Then pc is 0, npc is 4, intbreak
+    /// is set, and halted, broke and the signals 0, 1 and 2 are cleared. All else stays.
     ///
-    /// The word at 8 of the structure is the boot code's address, modulo 2^24, and that at 12 the number
-    /// of its bytes. Where a fault of [`TaskFault`] holds it is answered, and nothing changes.
+    /// The word at 8 of the structure is the boot code's address, modulo 2^24, and that at 12 the number of its bytes. A
+    /// [`TaskFault`] is returned, and then nothing changes.
     #[tactic(auto, unfolding(crate::specs::Host::tasked))]
     pub fn start_task(&mut self, a: u32) -> Result<(), TaskFault>
         ensures fault { MatchResult result (λ _. task_fault a self.old.rdram ≡ None) (λ f. task_fault a self.old.rdram ≡ Some f) }
@@ -134,7 +131,7 @@ impl<A: Acc> Machine<A> {
     }
 }
 
-/// A move of `length` bytes from a place in the RDRAM to a place in a bank.
+/// A copy of `length` bytes from an address in the RDRAM to one in a bank.
 fn one_run(place: u32, from: u32, length: u32) -> Transfer
     ensures { result ≡ one_run place from length }
 {

@@ -1,8 +1,7 @@
-//! The signal processor: its state, one step of it, and what the host does with it.
+//! The signal processor: its state, its steps, and what the host does with it.
 //!
-//! [`Machine`] is generic in how its accumulators are kept; contracts see it as the plain record
-//! `State`, so that two machines of one state can't be told apart. Each call is one equation between
-//! the states before and after it.
+//! [`Machine`] is generic in how its accumulators are kept. Contracts see it as the plain record `State`, so machines with equal
+//! states go on alike. Each call is one equation between the states before and after it.
 #![tactic(auto)]
 
 mod change;
@@ -10,7 +9,6 @@ mod copy;
 mod effect;
 mod execute;
 mod host;
-mod lanes;
 pub mod laws;
 mod machine;
 mod operation;
@@ -19,7 +17,6 @@ mod place;
 mod record;
 mod registers;
 mod saver;
-mod sp;
 mod step;
 mod until;
 mod vector;

@@ -14,9 +14,9 @@ use rsp_regs::SpRegs;
 use rsp_scalar::Regs;
 use std::marker::Model;
 
-/// The signal processor, over accumulators of the kind `A`: the places pc and npc, 32 scalar
-/// registers, 32 vector registers of eight lanes, eight accumulators, the flags, the divider, DMEM,
-/// IMEM, the image of the RDRAM and the SP registers. Contracts see all of them as a `State`.
+/// The signal processor, over accumulators of the kind `A`: pc and npc, 32 scalar registers, 32 vector registers of eight lanes,
+/// eight accumulators, the flags, the divider, DMEM, IMEM, the image of the RDRAM and the SP registers. Contracts see it as a
+/// `State`.
 #[derive(Drop)]
 pub struct Machine<A: Acc> {
     pub(crate) pc: Place,
@@ -73,7 +73,7 @@ impl<A: Acc> Machine<A> {
         }
     }
 
-    /// Changes nothing. It says that the state lies in its ranges, which a caller's proof may need.
+    /// Changes nothing. By its contract the state is in its ranges, which a caller's proof may need.
     #[inline(always)]
     pub fn ranges(&self)
         ensures { IsState self.now }
@@ -96,7 +96,7 @@ impl<A: Acc> Machine<A> {
         self.sp.ranges();
     }
 
-    /// Changes nothing. It says that the vector registers, the accumulators and the flags lie in their ranges.
+    /// Changes nothing. By its contract the vector registers, the accumulators and the flags are in their ranges.
     #[inline(always)]
     pub(crate) fn vector_ranges(&self)
         ensures { IsRanged self.now }
@@ -106,7 +106,7 @@ impl<A: Acc> Machine<A> {
         self.flags.ranges();
     }
 
-    /// The place in IMEM of the next instruction, a multiple of 4 below 4096.
+    /// The address in IMEM of the next instruction, a multiple of 4 below 4096.
     #[inline]
     pub fn pc(&self) -> u16
         ensures value { result ≡ self.now.pc }
@@ -116,7 +116,7 @@ impl<A: Acc> Machine<A> {
         self.pc.get()
     }
 
-    /// The place in IMEM of the instruction after the next, a multiple of 4 below 4096.
+    /// The address in IMEM of the instruction after the next, a multiple of 4 below 4096.
     #[inline]
     pub fn npc(&self) -> u16
         ensures value { result ≡ self.now.npc }
@@ -152,7 +152,7 @@ impl<A: Acc> Machine<A> {
         &self.flags
     }
 
-    /// What the divide rows keep from one to the next.
+    /// What the divide instructions keep from one to the next.
     #[inline]
     pub fn divider(&self) -> &Divider
         ensures { result.now ≡ self.now.divider }
@@ -160,7 +160,7 @@ impl<A: Acc> Machine<A> {
         &self.divider
     }
 
-    /// The SP registers, whose `peek` takes no semaphore, with the interrupt flag.
+    /// The SP registers, with the interrupt flag. Their `peek` doesn't set the semaphore.
     #[inline]
     pub fn sp_regs(&self) -> &SpRegs
         ensures { result.now ≡ self.now.sp }

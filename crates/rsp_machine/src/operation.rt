@@ -1,4 +1,4 @@
-// Instructions of the table as operations of their groups' crates, which don't know the table.
+// The operation, in its group's crate, of each vector instruction. These crates don't know the instruction table.
 
 ghost use Rattle.std.specs.Prelude.{◌≡◌};
 ghost use Rattle.rsp_machine.specs.Operations.{multiply_op, round_op, mpeg_op, add_op, select_op, clip_op, logic_op, divide_op};

@@ -1,4 +1,4 @@
-// Going past a move of an SP register, for a host that owns these registers.
+// Passing over a move of an SP register, for a host that owns these registers.
 
 ghost use Rattle.std.specs.Prelude.{◌≡◌, Ok, Err, IfErr, OnOk, OnErr};
 ghost use Rattle.rsp_machine.specs.Pass.{pass_of};
@@ -8,7 +8,7 @@ use crate::machine::Machine;
 use rsp_acc::Acc;
 use rsp_decode::{Inst, MoveRow, decode};
 
-/// Why a machine can't go past the word at pc. Halted comes first.
+/// Why a machine can't pass over the word at pc. Of both faults Halted is reported.
 #[derive(Clone, Copy, Debug, PartialEq, Eq)]
 pub enum PassFault {
     /// The machine is halted.
@@ -18,8 +18,8 @@ pub enum PassFault {
 }
 
 impl<A: Acc> Machine<A> {
-    /// Goes past the MFC0 or MTC0 at pc, which does nothing but this: pc and npc go on, the register rt of an MFC0 becomes the value, and
-    /// single step halts as after any instruction. The other SP registers stay.
+    /// Passes over the MFC0 or MTC0 at pc: pc and npc advance, register rt of an MFC0 becomes the value, and single step halts as
+    /// after any instruction. All else stays.
     #[tactic(auto, unfolding(crate::specs::Pass::pass_of))]
     pub fn pass(&mut self, value: u32) -> Result<(), PassFault>
         ensures fault { IfErr result (λ f. pass_of value self.old ≡ Err f) }

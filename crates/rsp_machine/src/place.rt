@@ -3,8 +3,7 @@ ghost use Rattle.rsp_scalar.specs.Flow.{going_on};
 
 use std::marker::Model;
 
-/// A place in IMEM from which an instruction can be fetched: a multiple of 4 below 4096. It is kept as an index, since a fetch
-/// takes one.
+/// The address of an instruction in IMEM: a multiple of 4 below 4096. It is kept as an index, as a fetch takes it.
 #[derive(Clone, Copy, Drop)]
 pub(crate) struct Place {
     address: usize,
@@ -24,7 +23,7 @@ impl Model for Place {
 }
 
 impl Place {
-    /// The place with an address.
+    /// The address with this number.
     #[inline(always)]
     pub(crate) fn new(address: u16) -> Place
         requires below { address < 4096 }
@@ -36,7 +35,7 @@ impl Place {
         }
     }
 
-    /// Its address.
+    /// Its number.
     #[inline(always)]
     pub(crate) fn get(self) -> u16
         ensures value { result ≡ self }
@@ -56,7 +55,7 @@ impl Place {
         self.address
     }
 
-    /// The place after it, where IMEM wraps.
+    /// The next address, modulo 4096.
     #[inline(always)]
     pub(crate) fn next(self) -> Place
         ensures { result ≡ going_on self }
@@ -67,8 +66,8 @@ impl Place {
     }
 }
 
-/// The places of the next two instructions, pc and npc. A loop of steps keeps them apart from its machine, so that they can
-/// stand in registers of the processor.
+/// pc and npc, the addresses of the next two instructions. The loop of steps keeps them apart from its machine, in registers of the
+/// host.
 #[derive(Clone, Copy, Drop)]
 pub(crate) struct Places {
     pub(crate) pc: Place,
@@ -86,7 +85,7 @@ impl Model for Places {
 }
 
 impl Places {
-    /// The places behind an instruction that is no jump.
+    /// pc and npc after an instruction that is no jump.
     #[inline(always)]
     pub(crate) fn next(self) -> Places
         ensures { result ≡ record { pc = self.npc; npc = going_on self.npc } }

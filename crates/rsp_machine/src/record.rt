@@ -1,25 +1,22 @@
-// What one step saves, and how it leads back.
+// What a step saves, and how it is undone.
 
 ghost use Rattle.std.specs.Prelude.{◌≡◌, ◌<◌, ◌≤◌};
-ghost use Rattle.rsp_scalar.specs.Registers.{with_register};
-ghost use Rattle.rsp_loadstore.specs.File.{vector, with_vector};
-ghost use Rattle.rsp_machine.specs.Saved.{blank, is_back, may_store, group_at, with_group, register_at, with_low_of, with_product, with_low_part, with_vco, undone};
+ghost use Rattle.rsp_loadstore.specs.File.{vector};
+ghost use Rattle.rsp_machine.specs.Saved.{blank, is_back, may_store, group_at, with_group, with_low_of, with_product, with_low_part, with_vco, undone};
 
-use crate::change::{Change, change_of};
+use crate::change::Change;
 use crate::machine::Machine;
 use crate::place::{Place, Places};
 use crate::saver::Saver;
 use rsp_acc::{Acc, Addends, Part};
-use rsp_decode::decode;
 use rsp_divide::Divider;
 use rsp_lanes::{Flags, VReg};
 use rsp_loadstore::VFile;
 use rsp_regs::SpRegs;
 use std::marker::Model;
 
-/// What one step saved: the values that its instruction can change, as they were before. [`Machine::undo`] writes them
-/// back. A record can serve step after step. Each writes only the values that count for it, and the others stay as
-/// earlier steps left them, also in contracts.
+/// What a step saved: the values that its instruction overwrites. [`Machine::undo`] writes them back. A record can be used for step
+/// after step: each writes only the values that it needs, and the others stay as earlier steps left them, also in contracts.
 #[derive(Drop)]
 pub struct Record {
     pc: Place,
@@ -57,7 +54,7 @@ impl Model for Record {
 }
 
 impl Record {
-    /// A blank, which no step wrote: [`Machine::undo`] of it changes nothing.
+    /// The record of no step: [`Machine::undo`] of it changes nothing.
     #[tactic(auto, unfolding(crate::specs::Saved::blank))]
     pub fn new() -> Record
         ensures { result ≡ blank }
@@ -77,12 +74,12 @@ impl Record {
         }
     }
 
-    /// Whether [`Machine::undo`] of it leads back: not from a step that started a DMA.
+    /// Whether [`Machine::undo`] undoes the step: not if it started a DMA.
     #[inline(always)]
     pub fn leads_back(&self) -> bool
         ensures { result ≡ is_back self.now.change }
     {
-        !matches!(self.change, Change::Dma)
+        self.change.is_back()
     }
 
     /// Whether the step that last wrote the record may have changed DMEM.
@@ -90,7 +87,7 @@ impl Record {
     pub fn may_store(&self) -> bool
         ensures { result ≡ may_store self.now }
     {
-        matches!(self.change, Change::Bytes(_) | Change::Dma)
+        self.change.stores()
     }
 
     /// Saves vector register `n` and the accumulators.
@@ -135,13 +132,14 @@ impl Record {
 }
 
 impl Saver for Record {
-    ghost use Rattle.rsp_machine.specs.Saved.{change_saved, is_back};
+    ghost use Rattle.std.specs.Prelude.{true};
+    ghost use Rattle.rsp_machine.specs.Saved.{change_saved};
 
     ghost saves = { change_saved };
 
     ghost slot = { λ n. n };
 
-    ghost goes_on = { λ r. is_back r.change };
+    ghost ends_at_dma = { true };
 
     #[inline(always)]
     fn slot(n: u64) -> usize {
@@ -149,15 +147,15 @@ impl Saver for Record {
     }
 
     #[inline(always)]
-    fn goes_on(&self) -> bool {
-        self.leads_back()
+    fn ends_at_dma() -> bool {
+        true
     }
 
     #[inline(always)]
     #[tactic(auto, unfolding(crate::specs::Saved::change_saved, crate::specs::Saved::values_saved))]
     fn save<A: Acc>(&mut self, machine: &Machine<A>, before: Places, change: Change) {
         self.pc = before.pc;
-        self.change = change.nameless();
+        self.change = change;
         match change {
             Change::Places | Change::Dma => (),
             Change::Register(n) => self.word = machine.regs.get(n as u8),
@@ -196,32 +194,31 @@ impl Saver for Record {
 }
 
 impl<A: Acc> Machine<A> {
-    /// Undoes a step: writes back what the step changed, and goes back to its place. On the state after the step this
-    /// gives the whole state before it. A blank, and what [`Machine::steps_recorded`] leaves of a step that starts a DMA,
-    /// change nothing.
+    /// Undoes a step: writes back what it changed, and goes back to its address. From the state after the step this restores the
+    /// whole state before it. The record of no step, and that of a step that starts a DMA, change nothing.
     #[tactic(auto, unfolding(crate::specs::Saved::undone, crate::specs::Saved::restored))]
     pub fn undo(&mut self, saved: &Record)
         ensures { self.new ≡ undone saved.now self.old }
     {
         match saved.change {
             Change::Places => (),
-            Change::Register(_) => self.put_register(saved),
+            Change::Register(n) => self.regs.set(n as u8, saved.word),
             Change::Bytes(a) => self.dmem.set_bytes(a, &saved.bytes),
-            Change::Vector(_) => self.put_vector(saved),
+            Change::Vector(n) => self.vregs.set_reg(n as u8, saved.vector),
             Change::Group(n) => self.put_group(n as u8, &saved.vectors),
-            Change::Product(_) => self.put_product(saved),
-            Change::Low(_) => self.put_low(saved),
-            Change::Sum(_) => self.put_sum(saved),
-            Change::Choice(_) => {
-                self.put_sum(saved);
+            Change::Product(n) => self.put_product(saved, n),
+            Change::Low(n) => self.put_low(saved, n),
+            Change::Sum(n) => self.put_sum(saved, n),
+            Change::Choice(n) => {
+                self.put_sum(saved, n);
                 self.flags.take_vcc(&saved.flags);
             }
-            Change::Clip(_) => {
-                self.put_low(saved);
+            Change::Clip(n) => {
+                self.put_low(saved, n);
                 self.flags = saved.flags;
             }
-            Change::Divide(_) => {
-                self.put_low(saved);
+            Change::Divide(n) => {
+                self.put_low(saved, n);
                 self.divider = saved.divider;
             }
             Change::Flags => self.flags = saved.flags,
@@ -236,55 +233,31 @@ impl<A: Acc> Machine<A> {
         self.pc = saved.pc;
     }
 
-    /// Writes back a scalar register.
-    fn put_register(&mut self, saved: &Record)
-        ensures { self.new ≡ record self.old { registers = with_register self.old.registers (register_at saved.now.pc self.old) saved.now.word } }
+    /// Writes back vector register `n` and the accumulators.
+    fn put_product(&mut self, saved: &Record, n: u32)
+        requires { n < 32 }
+        ensures { self.new ≡ with_product n saved.now self.old }
     {
-        let n = self.register_at(saved.pc);
-        self.regs.set(n, saved.word);
-    }
-
-    /// Writes back a vector register.
-    fn put_vector(&mut self, saved: &Record)
-        ensures { self.new ≡ record self.old { vectors = with_vector self.old.vectors (register_at saved.now.pc self.old) saved.now.vector } }
-    {
-        let number = self.register_at(saved.pc);
-        self.vregs.set_reg(number, saved.vector);
-    }
-
-    /// Writes back the vector register of a computing row and the accumulators.
-    fn put_product(&mut self, saved: &Record)
-        ensures { self.new ≡ with_product saved.now self.old }
-    {
-        self.put_vector(saved);
+        self.vregs.set_reg(n as u8, saved.vector);
         self.acc.replace(&saved.accumulators);
     }
 
-    /// Writes back the vector register of a computing row and the low accumulators.
-    fn put_low(&mut self, saved: &Record)
-        ensures { self.new ≡ with_low_part saved.now self.old }
+    /// Writes back vector register `n` and the low accumulators.
+    fn put_low(&mut self, saved: &Record, n: u32)
+        requires { n < 32 }
+        ensures { self.new ≡ with_low_part n saved.now self.old }
     {
-        self.put_vector(saved);
+        self.vregs.set_reg(n as u8, saved.vector);
         self.acc.set_low(&saved.accumulators.low());
     }
 
-    /// Writes back a vector register, the low accumulators and the flags of VCO.
-    fn put_sum(&mut self, saved: &Record)
-        ensures { self.new ≡ record (with_low_part saved.now self.old) { flags = with_vco saved.now.flags self.old.flags } }
+    /// Writes back vector register `n`, the low accumulators and the flags of VCO.
+    fn put_sum(&mut self, saved: &Record, n: u32)
+        requires { n < 32 }
+        ensures { self.new ≡ record (with_low_part n saved.now self.old) { flags = with_vco saved.now.flags self.old.flags } }
     {
-        self.put_low(saved);
+        self.put_low(saved, n);
         self.flags.take_vco(&saved.flags);
-    }
-
-    /// The number of the register that a record leaves out of what the row at a place changes; 0 where it leaves out none.
-    fn register_at(&self, place: Place) -> u8
-        ensures value { result ≡ register_at place self.now }
-        ensures bound { result < 32 }
-    {
-        match decode(self.imem.aligned_word(place.index())) {
-            Some(inst) => change_of(&inst, self).register(),
-            None => 0,
-        }
     }
 
     /// Writes eight vector registers, from `n` on.

@@ -1,11 +1,12 @@
 // All registers at once: what a machine holds but its memories.
 
 ghost use Rattle.std.specs.Prelude.{◌≡◌, Some, None, IfNone, OnOk, OnErr, MatchResult};
-ghost use Rattle.rsp_machine.specs.Registers.{AreRegisters, registers_of, with_registers, registers_fault};
+ghost use Rattle.rsp_machine.specs.Registers.{AreRegisters, registers_of, with_registers, registers_fault, sp_fault};
+ghost use Rattle.rsp_regs.specs.Parts.{sp_of};
+ghost use Rattle.rsp_regs.specs.Sp.{AreKept};
 
 use crate::machine::Machine;
 use crate::place::Place;
-use crate::sp::sp_fault;
 use rsp_acc::{Acc, Addends, Part};
 use rsp_divide::Divider;
 use rsp_lanes::{Flags, VReg};
@@ -14,12 +15,12 @@ use rsp_regs::{SpParts, SpRegs};
 use rsp_scalar::Regs;
 use thiserror::Error;
 
-/// All that a machine holds but its three memories, each as it stands: for a program that keeps or sets a whole state.
+/// All that a machine holds but its three memories: for a program that keeps or sets a whole state.
 #[derive(Clone, Copy, PartialEq, Drop)]
 pub struct AllRegisters {
-    /// The place of the next instruction, a multiple of 4 below 4096.
+    /// The address of the next instruction, a multiple of 4 below 4096.
     pub pc: u16,
-    /// The place of the one after it, a multiple of 4 below 4096.
+    /// The address of the one after it, a multiple of 4 below 4096.
     pub npc: u16,
     /// The 32 scalar registers, of which number 0 is 0.
     pub registers: [u32; 32],
@@ -33,16 +34,16 @@ pub struct AllRegisters {
     pub accumulators_low: [u16; 8],
     /// The flags of the eight lanes: carry, not-equal, compare, clip and extra.
     pub flags: Flags,
-    /// What the divide rows keep from one to the next.
+    /// What the divide instructions keep from one to the next.
     pub divider: Divider,
     /// The SP registers, with the interrupt flag.
     pub sp: SpParts,
 }
 
-/// Why registers can't be those of a machine. Of several reasons, the first in this order is told.
+/// Why registers can't be those of a machine. Of several faults the first in this order is reported.
 #[derive(Clone, Copy, Debug, PartialEq, Eq, Error)]
 pub enum RegistersFault {
-    /// A place, `pc` or `npc`, is no multiple of 4 below 4096.
+    /// `pc` or `npc` isn't a multiple of 4 below 4096.
     #[error("Place")]
     Place,
     /// Scalar register 0 isn't 0.
@@ -73,9 +74,26 @@ fn fault_of(given: &AllRegisters) -> Option<RegistersFault>
     sp_fault(&given.sp)
 }
 
+/// Why SP registers can't be those of a machine.
+fn sp_fault(given: &SpParts) -> Option<RegistersFault>
+    ensures fault { result ≡ sp_fault given.now }
+    ensures none { IfNone result (AreKept given.now.memory given.now.dram given.now.skip) }
+{
+    if given.memory >= 0x2000 || given.memory % 8 != 0 {
+        return Some(RegistersFault::MemoryAddress);
+    }
+    if given.dram >= 0x100_0000 || given.dram % 8 != 0 {
+        return Some(RegistersFault::DramAddress);
+    }
+    if given.skip >= 0x1000 || given.skip % 8 != 0 {
+        return Some(RegistersFault::Skip);
+    }
+    None
+}
+
 impl<A: Acc> Machine<A> {
-    /// All registers. Changes nothing: the semaphore isn't taken. Put inline, since a caller mostly moves them on, and a kilobyte is
-    /// then copied once.
+    /// All registers. Changes nothing: the semaphore isn't set. Inlined, since a caller mostly moves them on, and the kilobyte is then
+    /// copied once.
     #[inline(always)]
     #[tactic(auto, unfolding(crate::specs::Registers::registers_of))]
     pub fn all_registers(&self) -> AllRegisters
@@ -95,8 +113,7 @@ impl<A: Acc> Machine<A> {
         }
     }
 
-    /// Sets all registers; the three memories stay. Where a fault of [`RegistersFault`] holds it is answered, and nothing
-    /// changes.
+    /// Sets all registers; the three memories stay. A [`RegistersFault`] is returned, and then nothing changes.
     pub fn set_all_registers(&mut self, given: &AllRegisters) -> Result<(), RegistersFault>
         ensures fault { MatchResult result (λ _. registers_fault given.now ≡ None) (λ f. registers_fault given.now ≡ Some f) }
         ensures ok { OnOk result (self.new ≡ with_registers given.now self.old) }
@@ -109,6 +126,18 @@ impl<A: Acc> Machine<A> {
         Ok(())
     }
 
+    /// Sets the SP registers, with the interrupt flag; all else stays. A [`RegistersFault`] is returned, and then nothing changes.
+    pub fn set_sp_parts(&mut self, given: &SpParts) -> Result<(), RegistersFault>
+        ensures fault { MatchResult result (λ _. sp_fault given.now ≡ None) (λ f. sp_fault given.now ≡ Some f) }
+        ensures ok { OnOk result (self.new ≡ record self.old { sp = sp_of given.now }) }
+        ensures err { OnErr result (self.new ≡ self.old) }
+    {
+        if let Some(fault) = sp_fault(given) {
+            return Err(fault);
+        }
+        self.sp = SpRegs::from_parts(given);
+        Ok(())
+    }
     /// Writes all registers.
     #[tactic(auto, unfolding(crate::specs::Registers::with_registers))]
     pub(crate) fn put_registers(&mut self, given: &AllRegisters)

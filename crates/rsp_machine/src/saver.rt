@@ -19,8 +19,8 @@ pub(crate) trait Saver {
     /// Which saver gets step `n` of a loop.
     ghost slot: { ℕ → ℕ };
 
-    /// Whether the loop goes on after the step whose change it got.
-    ghost goes_on: { Self → Bool };
+    /// Whether a loop ends after a step that starts a DMA.
+    ghost ends_at_dma: { Bool };
 
     /// Saves what it wants of the values before the change, of a machine with these program counters.
     fn save<A: Acc>(&mut self, machine: &Machine<A>, before: Places, change: Change)
@@ -31,10 +31,9 @@ pub(crate) trait Saver {
     fn slot(n: u64) -> usize
         ensures { result ≡ slot n };
 
-    /// Whether the loop goes on after the step whose change it got. The loop asks only after an instruction that may have
-    /// reached the SP registers.
-    fn goes_on(&self) -> bool
-        ensures { result ≡ goes_on self.now };
+    /// Whether a loop ends after a step that starts a DMA.
+    fn ends_at_dma() -> bool
+        ensures { result ≡ ends_at_dma };
 }
 
 /// Saves nothing. One gets all steps.
@@ -42,13 +41,13 @@ pub(crate) trait Saver {
 pub(crate) struct NoRecord;
 
 impl Saver for NoRecord {
-    ghost use Rattle.std.specs.Prelude.{true};
+    ghost use Rattle.std.specs.Prelude.{false};
 
     ghost saves = { λ p s k. k };
 
     ghost slot = { λ n. 0 };
 
-    ghost goes_on = { λ k. true };
+    ghost ends_at_dma = { false };
 
     #[inline(always)]
     fn save<A: Acc>(&mut self, _machine: &Machine<A>, _before: Places, _change: Change) {}
@@ -59,7 +58,7 @@ impl Saver for NoRecord {
     }
 
     #[inline(always)]
-    fn goes_on(&self) -> bool {
-        true
+    fn ends_at_dma() -> bool {
+        false
     }
 }

@@ -1,6 +1,6 @@
 // Steps, in one loop.
 
-ghost use Rattle.std.specs.Prelude.{◌≡◌, ◌↔◌, ◌⊎◌, ◌<◌, ◌≤◌, ◌+◌, ◌-◌, ◌||◌, ◌&&◌, ℕ, true, false, not, if◌then◌else◌, length, drop, slice_get, IsSome, IfSome};
+ghost use Rattle.std.specs.Prelude.{◌≡◌, ◌↔◌, ◌⊎◌, ◌<◌, ◌≤◌, ◌+◌, ◌-◌, ◌||◌, ◌&&◌, ℕ, true, false, not, if◌then◌else◌, length, drop, IsSome, IfSome};
 ghost use Rattle.rsp_memory.specs.Memory.{word_at};
 ghost use Rattle.rsp_machine.specs.Step.{singled, step_of};
 ghost use Rattle.rsp_machine.specs.Places.{at_places, places_of};
@@ -20,7 +20,7 @@ use crate::until::{Never, Until};
 use rsp_acc::Acc;
 use std::slice;
 
-/// What a step came to.
+/// How a step ended.
 #[derive(Clone, Copy, Debug, PartialEq, Eq)]
 pub enum StepEnd {
     /// Answer 1: one instruction was executed.
@@ -35,7 +35,7 @@ pub enum StepEnd {
 }
 
 impl<A: Acc> Machine<A> {
-    /// pc and npc, for the loop of steps, which keeps them apart.
+    /// pc and npc, which the loop of steps keeps apart.
     #[inline(always)]
     pub(crate) fn places(&self) -> Places
         ensures { result ≡ places_of self.now }
@@ -63,18 +63,28 @@ impl<A: Acc> Machine<A> {
         self.imem.aligned_word(places.pc.index())
     }
 
-    /// Ends a step: in single step it halts. Answers whether the loop goes on. That is tested only after an instruction that may
-    /// have reached the SP registers, or if `single`, which is false only where single step is clear.
+    /// Ends a step: in single step the machine halts. Returns whether the loop goes on. This is tested only after an instruction that
+    /// may have reached the SP registers, or if `single`, which is false only if single step is clear.
     #[inline(always)]
-    fn end_step<K: Saver>(&mut self, reach: Reach, single: bool, saver: &K) -> bool
+    fn end_step<K: Saver>(&mut self, reach: Reach, single: bool) -> bool
         ensures state { self.new ≡ (if reach.sp || single then singled self.old else self.old) }
-        ensures goes { result ≡ (not (reach.sp || single) || not self.new.sp.halted && K.goes_on saver.now) }
+        ensures goes { result ≡ (not (reach.sp || single) || not self.new.sp.halted && not (K.ends_at_dma && reach.dma)) }
     {
-        if !(reach.sp || single) {
-            return true;
+        // Apart, so that the other instructions need not carry whether they started a DMA.
+        if reach.sp {
+            return self.halt_or_go::<K>(reach);
         }
+        !single || self.halt_or_go::<K>(reach)
+    }
+
+    /// Halts a machine in single step. Returns whether the loop goes on: the machine isn't halted, and no DMA ends the loop.
+    #[inline(always)]
+    fn halt_or_go<K: Saver>(&mut self, reach: Reach) -> bool
+        ensures state { self.new ≡ singled self.old }
+        ensures goes { result ≡ (not self.new.sp.halted && not (K.ends_at_dma && reach.dma)) }
+    {
         self.sp.on_step();
-        !self.sp.halted() && saver.goes_on()
+        !self.sp.halted() && !(K::ends_at_dma() && reach.dma)
     }
 
     /// Makes up to `n` steps, as long as they are Done, the savers go on, and `until` doesn't end them, and returns how many.
@@ -84,9 +94,10 @@ impl<A: Acc> Machine<A> {
         requires slots { (i : ℕ) → i < n → K.slot i < length slots.old }
         ensures within { result ≤ n }
         ensures made { IsMade result self.old self.new }
-        ensures told { AreTold K.saves K.goes_on K.slot result (result - 1) self.old slots.old slots.new }
+        ensures told { AreTold K.saves K.slot result self.old slots.old slots.new }
+        ensures before { (i : ℕ) → i + 1 < result → K.ends_at_dma ≡ true → starts_dma_at (steps_of i self.old) ≡ false }
         ensures asked { (i : ℕ) → i + 1 < result → ends_after (U.ends until.now) (steps_of i self.old) ≡ false }
-        ensures ends { result < n → IsEnd K.goes_on (U.ends until.now) result self.old self.new (slice_get slots.new (K.slot (result - 1))) }
+        ensures ends { result < n → IsEnd K.ends_at_dma (U.ends until.now) result self.old self.new }
     {
         if self.sp.halted() {
             return 0;
@@ -102,7 +113,7 @@ impl<A: Acc> Machine<A> {
                 break;
             };
             made += 1;
-            if !self.end_step(reach, single, slot) {
+            if !self.end_step::<K>(reach, single) {
                 break;
             }
             word = self.word_at(places);
@@ -114,10 +125,9 @@ impl<A: Acc> Machine<A> {
         made
     }
 
-    /// One step: Halted if the machine is halted, else Reserved if the word of IMEM at pc is, and in both
-    /// cases nothing changes. Else the instruction there is executed, by the instruction table; then, if
-    /// single step is set in the state that it made, the machine is halted. The answer is Done. Many
-    /// steps that nothing inspects are faster by [`Machine::steps`].
+    /// One step: Halted if the machine is halted, else Reserved if the word at pc is reserved, and in both cases nothing changes. Else
+    /// the word's instruction is executed; then, if single step is set, the machine is halted, and the answer is Done. Many steps
+    /// are faster by [`Machine::steps`].
     pub fn step(&mut self) -> StepEnd
         ensures answer { result ≡ (step_of self.old).0 }
         ensures state { self.new ≡ (step_of self.old).1 }
@@ -134,7 +144,7 @@ impl<A: Acc> Machine<A> {
     }
 
     /// Makes up to `n` steps, as [`Machine::step`] makes them, as long as they are Done. Returns how many were: fewer than `n` if
-    /// the machine is halted then, or the word at pc is reserved, as a further step would answer.
+    /// the machine is halted then, or the word at pc is reserved, as a further step would return.
     pub fn steps(&mut self, n: u64) -> u64
         ensures state { self.new ≡ steps_of n self.old }
         ensures done { result ≡ done_of n self.old }

@@ -1,8 +1,8 @@
-// Where a run of steps ends of itself.
+// Tests that end a run of steps.
 
 ghost use Rattle.std.specs.Prelude.{◌≡◌, ◌<◌, ◌%◌};
 
-/// Ends runs of steps. A run asks it between two of its steps.
+/// Ends runs of steps. A run calls it between two of its steps.
 pub trait Until {
     ghost use Rattle.std.specs.Prelude.{ℕ, Bool};
 

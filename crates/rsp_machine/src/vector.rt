@@ -3,15 +3,22 @@ ghost use Rattle.rsp_decode.specs.declared.inst.Inst.{Inst};
 ghost use Rattle.rsp_decode.specs.Table.{IsInstruction, IsVectorFields};
 ghost use Rattle.rsp_lanes.specs.Lanes.{selected};
 ghost use Rattle.rsp_loadstore.specs.File.{vector};
+ghost use Rattle.rsp_compare.specs.Adds.{add_rule};
+ghost use Rattle.rsp_compare.specs.Selects.{select_rule, merge_rule};
+ghost use Rattle.rsp_compare.specs.Clips.{clip_rule};
+ghost use Rattle.rsp_compare.specs.Logic.{logic_rule};
+ghost use Rattle.rsp_compare.specs.declared.selects.MergeOp.TheVariants.{Vmrg};
+ghost use Rattle.rsp_machine.specs.Operations.{add_op, select_op, clip_op, logic_op};
 ghost use Rattle.rsp_machine.specs.Vector.{multiplies, rounds, multiplies_mpeg, reads_accumulator, ruled, divides, loads_vector, stores_vector, moves_vector, moves_control};
 
-use crate::lanes::LaneOp;
 use crate::machine::Machine;
 use crate::operation;
 use rsp_acc::Acc;
+use rsp_compare::MergeOp;
 use rsp_decode::{
-    DivideRow, Inst, MoveRow, MpegRow, MultiplyRow, RoundRow, VectorFields, VectorLoadRow,
-    VectorMemoryFields, VectorStoreRow,
+    DivideRow, Inst, MoveRow, MpegRow, MultiplyRow, RoundRow, VectorAddRow, VectorClipRow,
+    VectorFields, VectorLoadRow, VectorLogicRow, VectorMemoryFields, VectorSelectRow,
+    VectorStoreRow,
 };
 use rsp_lanes::{VReg, select};
 use rsp_loadstore::{self, address, control_from, control_to, move_from, move_to};
@@ -27,7 +34,7 @@ impl<A: Acc> Machine<A> {
         select(&self.vregs.reg(fields.vt), usize::from(fields.element))
     }
 
-    /// A row of the twelve multiplies.
+    /// One of the twelve multiplies.
     #[inline]
     #[tactic(auto, unfolding(crate::specs::Vector::multiplies))]
     pub(crate) fn multiply_lanes(&mut self, row: MultiplyRow, fields: VectorFields)
@@ -77,20 +84,96 @@ impl<A: Acc> Machine<A> {
         self.vregs.set_reg(fields.vd, result);
     }
 
-    /// A row that has a rule for one lane: sums, comparisons, clips, merges and logic.
+    /// A sum or a difference.
     #[inline(always)]
     #[tactic(auto, unfolding(crate::specs::Vector::ruled))]
-    pub(crate) fn compute_lanes<O: LaneOp>(&mut self, op: O, fields: VectorFields)
+    pub(crate) fn add_lanes(&mut self, row: VectorAddRow, fields: VectorFields)
         requires { IsVectorFields fields }
-        ensures { self.new ≡ ruled (O.rule op) fields self.old }
+        ensures { self.new ≡ ruled (add_rule (add_op row)) fields self.old }
     {
         let a = self.vregs.reg(fields.vs);
         let b = self.selected(fields);
-        let result = op.apply(&a, &b, &mut self.flags, &mut self.acc);
+        let result = rsp_compare::add_op(
+            operation::add_op(row),
+            &a,
+            &b,
+            &mut self.flags,
+            &mut self.acc,
+        );
         self.vregs.set_reg(fields.vd, result);
     }
 
-    /// A divide row, which writes one lane.
+    /// A comparison.
+    #[inline(always)]
+    #[tactic(auto, unfolding(crate::specs::Vector::ruled))]
+    pub(crate) fn select_lanes(&mut self, row: VectorSelectRow, fields: VectorFields)
+        requires { IsVectorFields fields }
+        ensures { self.new ≡ ruled (select_rule (select_op row)) fields self.old }
+    {
+        let a = self.vregs.reg(fields.vs);
+        let b = self.selected(fields);
+        let result = rsp_compare::select_op(
+            operation::select_op(row),
+            &a,
+            &b,
+            &mut self.flags,
+            &mut self.acc,
+        );
+        self.vregs.set_reg(fields.vd, result);
+    }
+
+    /// A clip.
+    #[inline(always)]
+    #[tactic(auto, unfolding(crate::specs::Vector::ruled))]
+    pub(crate) fn clip_lanes(&mut self, row: VectorClipRow, fields: VectorFields)
+        requires { IsVectorFields fields }
+        ensures { self.new ≡ ruled (clip_rule (clip_op row)) fields self.old }
+    {
+        let a = self.vregs.reg(fields.vs);
+        let b = self.selected(fields);
+        let result = rsp_compare::clip_op(
+            operation::clip_op(row),
+            &a,
+            &b,
+            &mut self.flags,
+            &mut self.acc,
+        );
+        self.vregs.set_reg(fields.vd, result);
+    }
+
+    /// A merge by the compare flags.
+    #[inline(always)]
+    #[tactic(auto, unfolding(crate::specs::Vector::ruled))]
+    pub(crate) fn merge_lanes(&mut self, fields: VectorFields)
+        requires { IsVectorFields fields }
+        ensures { self.new ≡ ruled (merge_rule Vmrg) fields self.old }
+    {
+        let a = self.vregs.reg(fields.vs);
+        let b = self.selected(fields);
+        let result = rsp_compare::merge_op(MergeOp::Vmrg, &a, &b, &mut self.flags, &mut self.acc);
+        self.vregs.set_reg(fields.vd, result);
+    }
+
+    /// A logic instruction.
+    #[inline(always)]
+    #[tactic(auto, unfolding(crate::specs::Vector::ruled))]
+    pub(crate) fn logic_lanes(&mut self, row: VectorLogicRow, fields: VectorFields)
+        requires { IsVectorFields fields }
+        ensures { self.new ≡ ruled (logic_rule (logic_op row)) fields self.old }
+    {
+        let a = self.vregs.reg(fields.vs);
+        let b = self.selected(fields);
+        let result = rsp_compare::logic_op(
+            operation::logic_op(row),
+            &a,
+            &b,
+            &mut self.flags,
+            &mut self.acc,
+        );
+        self.vregs.set_reg(fields.vd, result);
+    }
+
+    /// A divide instruction, which writes one lane.
     #[inline]
     #[tactic(auto, unfolding(crate::specs::Vector::divides))]
     pub(crate) fn divide(&mut self, row: DivideRow, vd: u8, lane: u8, vt: u8, element: u8)

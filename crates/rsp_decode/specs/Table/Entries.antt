@@ -1,10 +1,10 @@
--- The rows as the code has them, for the contracts of its table: a row's meaning is in Words.antt.
+-- Rows as the code has them, for the contract of its table. The instruction of a row is in Words.antt.
 use Rattle.std.specs.Prelude.{ℕ, List}
 use Rattle.rsp_decode.specs.declared.rows.TableRow.{TableRow}
 use Rattle.rsp_decode.specs.Table.Operands.{Operand}
 use Rattle.rsp_decode.specs.Table.Rows.{Row}
 
--- a row without the instruction that it means
+-- a row without its instruction
 pub record Entry : Type 0 where
   pub name : List ℕ
   pub mask : ℕ
@@ -14,6 +14,6 @@ pub record Entry : Type 0 where
 abbrev pub entry_of : Row → Entry
 entry_of r = record { name = r.name; mask = r.mask; value = r.value; operands = r.operands }
 
--- what a row of the code says
+-- an entry of the code
 abbrev pub entry : TableRow → Entry
 entry r = record { name = r.name.now; mask = r.mask; value = r.value; operands = r.operands.now }

@@ -1,4 +1,4 @@
--- Fields that travel together: from their list in the order of a row's text, and back.
+-- Fields that instructions share: from their list, in the order of the operands, and back.
 use Rattle.std.specs.Prelude.{ℕ, ◌<◌, List, [], ◌∷◌, slice_index}
 use Rattle.rsp_decode.specs.declared.fields.RegisterFields.{RegisterFields}
 use Rattle.rsp_decode.specs.declared.fields.ScalarMemoryFields.{ScalarMemoryFields}
@@ -34,7 +34,7 @@ vector_fields values = record { vd = slice_index values 0; vs = slice_index valu
 abbrev pub vector_values : VectorFields → List ℕ
 vector_values f = f.vd ∷ f.vs ∷ f.vt ∷ f.element ∷ []
 
--- the ranges of these
+-- their ranges
 abbrev pub IsVectorFields : VectorFields → Type 0
 IsVectorFields f = (f.vd < 32) × (f.vs < 32) × (f.vt < 32) × (f.element < 16)
 
@@ -45,6 +45,6 @@ vector_memory_fields values = record { vt = slice_index values 0; element = slic
 abbrev pub vector_memory_values : VectorMemoryFields → List ℕ
 vector_memory_values f = f.vt ∷ f.element ∷ f.offset ∷ f.base ∷ []
 
--- these as they stand in a word, whatever element the row wants
+-- those of a word, with any element
 abbrev pub vector_memory_in : ℕ → VectorMemoryFields
 vector_memory_in w = record { vt = value_at w (whole 16 5); element = value_at w (whole 7 4); offset = value_at w (whole 0 7); base = value_at w (whole 21 5) }

@@ -1,5 +1,5 @@
--- The kinds of operand in a row's text, which are the variants of one enum, and the fields that each shows. A number says
--- where its register stands; of vector memory it is the scale of the offset.
+-- The kinds of operand, which are the variants of one enum, and the fields of each. A number is the lowest bit of the
+-- register's field; of vector memory it is the scale of the offset.
 use Rattle.std.specs.Prelude.{ℕ, nat_le, ◌==◌, Bool, true, ◌||◌, List, [], ◌∷◌}
 use Rattle.rsp_decode.specs.Table.BitFields.{BitField, whole, capped, stepped}
 pub use Rattle.rsp_decode.specs.declared.rows.ByteElements.{ByteElements}
@@ -12,7 +12,7 @@ abbrev pub byte_bits : ByteElements → BitField
 byte_bits all_bytes = whole 7 4
 byte_bits half_bytes = stepped 10 1 3
 
--- the fields that an operand shows, in the order of its text
+-- the fields of an operand, in the order of its text
 abbrev pub bit_fields : Operand → List BitField
 bit_fields (scalar low) = whole low 5 ∷ []
 bit_fields shift_amount = whole 6 5 ∷ []
@@ -29,7 +29,7 @@ bit_fields (vector_byte low elements) = whole low 5 ∷ byte_bits elements ∷ [
 bit_fields vector_element = whole 16 5 ∷ whole 21 4 ∷ []
 bit_fields vector_lane = whole 6 5 ∷ whole 11 3 ∷ []
 
--- the operands of the rows that compute with two vectors: $vD, $vS, $vT[e]
+-- the operands of an instruction that computes with two vectors: $vD, $vS, $vT[e]
 abbrev pub vector_operands : List Operand
 vector_operands = vector 6 ∷ vector 11 ∷ vector_element ∷ []
 
@@ -37,7 +37,7 @@ vector_operands = vector 6 ∷ vector 11 ∷ vector_element ∷ []
 abbrev pub is_scale : ℕ → Bool
 is_scale s = s == 1 || (s == 2 || (s == 4 || (s == 8 || s == 16)))
 
--- the numbers that the rows of the table give their operands: a register stands inside the word
+-- the numbers that operands have in the table: the field of a register is inside the word
 abbrev pub is_row_operand : Operand → Bool
 is_row_operand (scalar low) = nat_le low 27
 is_row_operand (vector low) = nat_le low 27

@@ -47,7 +47,7 @@ computing function = selector 0xfe00003f (18 * 2 ^ 26 + 2 ^ 25 + function)
 abbrev pub lwc2 : ℕ → List ℕ → Selector
 lwc2 operation = selector 0xfc00f800 (50 * 2 ^ 26 + operation * 2 ^ 11)
 
--- the same where the element is 0 or 8: bits 9 to 7 are 0
+-- the same if the element is 0 or 8: bits 9 to 7 are 0
 abbrev pub lwc2_half : ℕ → List ℕ → Selector
 lwc2_half operation = selector 0xfc00fb80 (50 * 2 ^ 26 + operation * 2 ^ 11)
 
@@ -55,12 +55,12 @@ lwc2_half operation = selector 0xfc00fb80 (50 * 2 ^ 26 + operation * 2 ^ 11)
 abbrev pub swc2 : ℕ → List ℕ → Selector
 swc2 operation = selector 0xfc00f800 (58 * 2 ^ 26 + operation * 2 ^ 11)
 
--- the same where the element is 0 or 8
+-- the same if the element is 0 or 8
 abbrev pub swc2_half : ℕ → List ℕ → Selector
 swc2_half operation = selector 0xfc00fb80 (58 * 2 ^ 26 + operation * 2 ^ 11)
 
--- A row: the bits of a word that select it and what they are, its name, its operands in the order of its text, and what it
--- means by the fields of those operands in that order.
+-- A row: the bits of a word that select it and their value, its name, its operands in the order of its text, and its
+-- instruction by the fields of these operands in that order.
 pub record Row : Type 0 where
   pub mask : ℕ
   pub value : ℕ
@@ -68,7 +68,7 @@ pub record Row : Type 0 where
   pub operands : List Operand
   pub inst : List ℕ → Inst
 
--- a row of a selector, the operands of its text, and what it means
+-- a row of a selector, its operands and its instruction
 abbrev pub row : Selector → List Operand → (List ℕ → Inst) → Row
 row s operands inst =
     record { mask = s.mask; value = s.value; name = s.name; operands = operands; inst = inst }
@@ -89,7 +89,7 @@ three f fields = f (slice_index fields 0) (slice_index fields 1) (slice_index fi
 abbrev pub four : (ℕ → ℕ → ℕ → ℕ → Inst) → List ℕ → Inst
 four f fields = f (slice_index fields 0) (slice_index fields 1) (slice_index fields 2) (slice_index fields 3)
 
--- an instruction of fields that travel together, in the order of the row's text
+-- an instruction of fields that it shares with others, by the list of these
 abbrev pub of_registers : (RegisterFields → Inst) → List ℕ → Inst
 of_registers f fields = f (register_fields fields)
 
@@ -105,7 +105,7 @@ of_vectors f fields = f (vector_fields fields)
 abbrev pub of_vector_memory : (VectorMemoryFields → Inst) → List ℕ → Inst
 of_vector_memory f fields = f (vector_memory_fields fields)
 
--- whether a row fits a word: the word has its value under its mask
+-- whether a row fits a word: under its mask the word is its value
 abbrev pub fits : ℕ → Row → Bool
 fits w r = bit_and w r.mask == r.value
 
@@ -113,10 +113,10 @@ fits w r = bit_and w r.mask == r.value
 abbrev pub row_bit_fields : Row → List BitField
 row_bit_fields r = flat_map bit_fields r.operands
 
--- the named fields of a word, in the order of the row's text
+-- the fields of a word, in the order of the row's text
 abbrev pub fields : Row → ℕ → List ℕ
 fields r w = map (value_at w) (row_bit_fields r)
 
--- what a word that the row fits means
+-- the instruction of a word that the row fits
 abbrev pub meaning_of : Row → ℕ → Inst
 meaning_of r w = r.inst (fields r w)

@@ -86,7 +86,7 @@ branch_sign_selector Bgtz = opcode 7 (codes "bgtz")
 abbrev pub branch_sign_row : SignRow → Row
 branch_sign_row r = row (branch_sign_selector r) (scalar 21 ∷ branch_target ∷ []) (two (BranchSign r))
 
--- what selects the jumps to a place in the word
+-- what selects the jumps to an address in the word
 abbrev pub jump_selector : JumpRow → Selector
 jump_selector J = opcode 2 (codes "j")
 jump_selector Jal = opcode 3 (codes "jal")
@@ -114,7 +114,7 @@ immediate_selector Andi = opcode 12 (codes "andi")
 immediate_selector Ori = opcode 13 (codes "ori")
 immediate_selector Xori = opcode 14 (codes "xori")
 
--- whether the immediate has a sign
+-- whether the immediate is signed
 abbrev pub immediate_operand : ImmediateRow → Operand
 immediate_operand Addi = signed
 immediate_operand Addiu = signed

@@ -34,7 +34,7 @@ use Rattle.rsp_decode.specs.Table.Rows.{Row, row, Selector, cop2, computing, lwc
 abbrev pub control_of : ℕ → Control
 control_of n = if n == 0 then Vco else (if n == 1 then Vcc else Vce)
 
--- its number, as encoded
+-- its number in a word
 abbrev pub control_number : Control → ℕ
 control_number Vco = 0
 control_number Vcc = 1
@@ -149,7 +149,7 @@ vector_logic_selector Vnxor = computing 0x2d (codes "vnxor")
 abbrev pub vector_logic_row : VectorLogicRow → Row
 vector_logic_row r = row (vector_logic_selector r) vector_operands (of_vectors (VectorLogic r))
 
--- what selects the divide rows, which write one lane
+-- what selects the divide instructions, which write one lane
 abbrev pub divide_selector : DivideRow → Selector
 divide_selector Vrcp = computing 0x30 (codes "vrcp")
 divide_selector Vrcpl = computing 0x31 (codes "vrcpl")
@@ -163,7 +163,7 @@ divide_selector Vrsqh = computing 0x36 (codes "vrsqh")
 abbrev pub divide_row : DivideRow → Row
 divide_row r = row (divide_selector r) (vector_lane ∷ vector_element ∷ []) (four (Divide r))
 
--- what selects the rows that change nothing
+-- what selects the instructions that change nothing
 abbrev pub idle_selector : IdleRow → Selector
 idle_selector Vnop = computing 0x37 (codes "vnop")
 idle_selector Vnull = computing 0x3f (codes "vnull")

@@ -16,15 +16,15 @@ rows = special_rows ++ regimm_rows ++ opcode_rows ++ cop0_rows ++ cop2_rows ++ c
 unfoldable pub row_of : ℕ → Option Row
 row_of w = find (fits w) rows
 
--- what a word means, or None for a reserved one
+-- the instruction of a word, or None for a reserved one
 unfoldable pub inst_of : ℕ → Option Inst
 inst_of w = option_map (λ (r : Row). meaning_of r w) (row_of w)
 
--- the word of a row with these fields, and 0 in each bit that neither selects nor is named
+-- the word of a row with these fields: the bits that select the row, the fields, and 0 elsewhere
 abbrev pub word_from : Row → List ℕ → ℕ
 word_from r values = with_fields r.value (row_bit_fields r) values
 
--- the word with 0 in each bit that its row neither selects by nor names, or None for a reserved one
+-- the word with 0 in each bit that neither selects its row nor is in a field, or None for a reserved one
 unfoldable pub canonical_of : ℕ → Option ℕ
 canonical_of w = option_map (λ (r : Row). word_from r (fields r w)) (row_of w)
 
@@ -60,7 +60,7 @@ parts (Idle r) = (idle_row r, [])
 parts (VectorLoad r fields) = (vector_load_row r, vector_memory_values fields)
 parts (VectorStore r fields) = (vector_store_row r, vector_memory_values fields)
 
--- an instruction that some word means
+-- the instruction of some word
 abbrev pub IsInstruction : Inst → Type 0
 IsInstruction i = FitBitFields (row_bit_fields (parts i).0) (parts i).1
 

@@ -1,4 +1,4 @@
-// The bits that select the rows of the scalar unit.
+// The bits that select each instruction of the scalar unit.
 
 ghost use Rattle.std.specs.Prelude.{◌≡◌};
 ghost use Rattle.rsp_decode.specs.Table.{shift_selector, shift_by_selector, register_selector, branch_sign_selector, jump_selector, branch_equal_selector, immediate_selector, load_selector, store_selector, move_sp_selector};

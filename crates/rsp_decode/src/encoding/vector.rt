@@ -1,4 +1,4 @@
-// The bits that select the rows of the vector unit.
+// The bits that select each instruction of the vector unit.
 
 ghost use Rattle.std.specs.Prelude.{◌≡◌};
 ghost use Rattle.rsp_decode.specs.Table.{move_vector_selector, move_control_selector, multiply_selector, round_selector, mpeg_selector, vector_add_selector, vector_select_selector, vector_clip_selector, vector_logic_selector, divide_selector, idle_selector, vector_load_selector, vector_store_selector};

@@ -1,7 +1,8 @@
-use Rattle.std.proofs.Common.{◌≡◌, ◌≤◌, ◌<◌, ◌-◌, ℕ, false}
+use Rattle.std.proofs.Common.{◌≡◌, ◌≤◌, ◌<◌, ◌-◌, ℕ, true, false}
 use Rattle.rsp_memory.specs.Memory.{word_at}
 use Rattle.rsp_machine.specs.Laws.{steps_of}
 use Rattle.rsp_machine.specs.Places.{at_places}
+use Rattle.rsp_machine.specs.Transfers.{starts_dma_at}
 use Rattle.rsp_machine.specs.Until.{ends_after}
 use Rattle.rsp_machine.specs.Making.{IsMade, AreTold}
 use Rattle.rsp_machine.proofs.machine.Machine.go.Given as goal
@@ -13,7 +14,8 @@ invariant-loop-made g l = record {
   goes : l.self.sp.halted ≡ false;
   free : l.single ≡ false → l.self.sp.single_step ≡ false;
   word : l.word ≡ word_at l.self.imem l.places.pc;
-  told : AreTold g.K.Saver.saves g.K.Saver.goes_on g.K.Saver.slot l.made l.made l.fn.self l.fn.slots l.slots;
+  told : AreTold g.K.Saver.saves g.K.Saver.slot l.made l.fn.self l.fn.slots l.slots;
+  before : (i : ℕ) → i < l.made → g.K.Saver.ends_at_dma ≡ true → starts_dma_at (steps_of i l.fn.self) ≡ false;
   asked : (i : ℕ) → i < l.made → ends_after (g.U.Until.ends l.until) (steps_of i l.fn.self) ≡ false;
 }
 

@@ -1,13 +1,13 @@
-use Rattle.rsp_machine.proofs.Recording.{recorded-which, recorded-back, recorded-memory, recorded-before, recorded-end, recorded-rest}
+use Rattle.std.proofs.Common.{refl}
+use Rattle.rsp_machine.proofs.Recording.{recorded-which, recorded-back, recorded-memory, recorded-end, recorded-rest}
 use Rattle.rsp_machine.proofs.machine.Machine.steps_recorded_until.Goals as goal
 
 pub returns-clause-ends : goal.returns-clause-ends
 returns-clause-ends g c less =
-    let e = c.go.ensures in
-    recorded-end c.go.result c.args.self.now c.args.records.now c.go.new.slots e.told e.made.done _ c.go.new.self (e.ends less)
+    recorded-end c.go.result c.args.self.now c.go.new.self _ (c.go.ensures.ends less)
 
 pub returns-clause-before : goal.returns-clause-before
-returns-clause-before g c = recorded-before c.go.result c.args.self.now c.args.records.now c.go.new.slots c.go.ensures.told c.go.ensures.made.done
+returns-clause-before g c i less = c.go.ensures.before i less refl
 
 pub returns-clause-which : goal.returns-clause-which
 returns-clause-which g c = recorded-which c.go.result c.args.self.now c.args.records.now c.go.new.slots c.go.ensures.told c.go.ensures.made.done

@@ -1,0 +1,193 @@
+// The scalar unit's instructions: those of opcode 0 by their function, of opcode 1 by rt, of opcode 16 by rs, and those that have
+// an opcode of their own. Reserved values have arms too, so that the jump needs no test of its range.
+
+ghost use Rattle.std.specs.Prelude.{◌≡◌, ◌*◌, ◌+◌, ◌^◌};
+ghost use Rattle.rsp_decode.specs.declared.inst.Inst.{Inst};
+ghost use Rattle.rsp_decode.specs.Visit.{is_known, visited};
+ghost use Rattle.rsp_decode.specs.Table.{value_at, whole, pick, meaning_of, special_rows, regimm_rows, opcode_rows, cop0_rows, shift_row, shift_by_row, jump_register_row, jump_link_register_row, register_row, break_row, branch_sign_row, branch_equal_row, jump_row, load_upper_row, load_row, store_row, move_sp_row};
+
+use crate::bit_fields::{
+    function, immediate, opcode, rd, register_fields, rs, rt, scalar_memory_fields, shift_amount,
+    sp_register, target,
+};
+use crate::inst::Inst;
+use crate::rows::{arms, instruction_table};
+use crate::scalar::{
+    EqualRow, ImmediateRow, JumpRow, LoadRow, MoveRow, RegisterRow, ShiftByRow, ShiftRow, SignRow,
+    StoreRow,
+};
+use crate::visitor::Visitor;
+
+#[inline]
+fn shift<V: Visitor>(word: u32, row: ShiftRow, visitor: &mut V)
+    ensures { visitor.new ≡ V.after (meaning_of (shift_row row) word) visitor.old }
+{
+    visitor.take(Inst::Shift {
+        row,
+        rd: rd(word),
+        rt: rt(word),
+        amount: shift_amount(word),
+    });
+}
+
+#[inline]
+fn shift_by<V: Visitor>(word: u32, row: ShiftByRow, visitor: &mut V)
+    ensures { visitor.new ≡ V.after (meaning_of (shift_by_row row) word) visitor.old }
+{
+    visitor.take(Inst::ShiftBy {
+        row,
+        fields: register_fields(word),
+    });
+}
+
+#[inline]
+fn jump_register<V: Visitor>(word: u32, visitor: &mut V)
+    ensures { visitor.new ≡ V.after (meaning_of jump_register_row word) visitor.old }
+{
+    visitor.take(Inst::JumpRegister { rs: rs(word) });
+}
+
+#[inline]
+fn jump_link_register<V: Visitor>(word: u32, visitor: &mut V)
+    ensures { visitor.new ≡ V.after (meaning_of jump_link_register_row word) visitor.old }
+{
+    visitor.take(Inst::JumpLinkRegister {
+        rd: rd(word),
+        rs: rs(word),
+    });
+}
+
+#[inline]
+fn register<V: Visitor>(word: u32, row: RegisterRow, visitor: &mut V)
+    ensures { visitor.new ≡ V.after (meaning_of (register_row row) word) visitor.old }
+{
+    visitor.take(Inst::Register {
+        row,
+        fields: register_fields(word),
+    });
+}
+
+#[inline]
+fn break_instruction<V: Visitor>(word: u32, visitor: &mut V)
+    ensures { visitor.new ≡ V.after (meaning_of break_row word) visitor.old }
+{
+    visitor.take(Inst::Break);
+}
+
+#[inline(always)]
+pub fn visit_special<V: Visitor>(word: u32, visitor: &mut V) -> bool
+    ensures known { result ≡ is_known (pick special_rows (value_at word (whole 0 6)) word) }
+    ensures state { visitor.new ≡ visited V.after (pick special_rows (value_at word (whole 0 6)) word) visitor.old }
+{
+    instruction_table!(arms(special(function(word), word, visitor)))
+}
+
+#[inline]
+fn branch_sign<V: Visitor>(word: u32, row: SignRow, visitor: &mut V)
+    ensures { visitor.new ≡ V.after (meaning_of (branch_sign_row row) word) visitor.old }
+{
+    visitor.take(Inst::BranchSign {
+        row,
+        rs: rs(word),
+        offset: immediate(word),
+    });
+}
+
+#[inline(always)]
+pub fn visit_regimm<V: Visitor>(word: u32, visitor: &mut V) -> bool
+    ensures known { result ≡ is_known (pick regimm_rows (2 ^ 26 + value_at word (whole 16 5) * 2 ^ 16) word) }
+    ensures state { visitor.new ≡ visited V.after (pick regimm_rows (2 ^ 26 + value_at word (whole 16 5) * 2 ^ 16) word) visitor.old }
+{
+    instruction_table!(arms(regimm(rt(word), word, visitor)))
+}
+
+#[inline]
+fn branch_equal<V: Visitor>(word: u32, row: EqualRow, visitor: &mut V)
+    ensures { visitor.new ≡ V.after (meaning_of (branch_equal_row row) word) visitor.old }
+{
+    visitor.take(Inst::BranchEqual {
+        row,
+        rs: rs(word),
+        rt: rt(word),
+        offset: immediate(word),
+    });
+}
+
+#[inline]
+fn jump<V: Visitor>(word: u32, row: JumpRow, visitor: &mut V)
+    ensures { visitor.new ≡ V.after (meaning_of (jump_row row) word) visitor.old }
+{
+    visitor.take(Inst::Jump {
+        row,
+        target: target(word),
+    });
+}
+
+#[inline]
+fn with_immediate<V: Visitor>(word: u32, row: ImmediateRow, visitor: &mut V)
+    ensures { visitor.new ≡ V.after (Inst.Immediate row (value_at word (whole 16 5)) (value_at word (whole 21 5)) (value_at word (whole 0 16))) visitor.old }
+{
+    visitor.take(Inst::Immediate {
+        row,
+        rt: rt(word),
+        rs: rs(word),
+        imm: immediate(word),
+    });
+}
+
+#[inline]
+fn load_upper<V: Visitor>(word: u32, visitor: &mut V)
+    ensures { visitor.new ≡ V.after (meaning_of load_upper_row word) visitor.old }
+{
+    visitor.take(Inst::LoadUpper {
+        rt: rt(word),
+        imm: immediate(word),
+    });
+}
+
+#[inline]
+fn load<V: Visitor>(word: u32, row: LoadRow, visitor: &mut V)
+    ensures { visitor.new ≡ V.after (meaning_of (load_row row) word) visitor.old }
+{
+    visitor.take(Inst::Load {
+        row,
+        fields: scalar_memory_fields(word),
+    });
+}
+
+#[inline]
+fn store<V: Visitor>(word: u32, row: StoreRow, visitor: &mut V)
+    ensures { visitor.new ≡ V.after (meaning_of (store_row row) word) visitor.old }
+{
+    visitor.take(Inst::Store {
+        row,
+        fields: scalar_memory_fields(word),
+    });
+}
+
+#[inline(always)]
+pub fn visit_opcode<V: Visitor>(word: u32, visitor: &mut V) -> bool
+    ensures known { result ≡ is_known (pick opcode_rows (value_at word (whole 26 6) * 2 ^ 26) word) }
+    ensures state { visitor.new ≡ visited V.after (pick opcode_rows (value_at word (whole 26 6) * 2 ^ 26) word) visitor.old }
+{
+    instruction_table!(arms(opcode(opcode(word), word, visitor)))
+}
+
+#[inline]
+fn move_sp<V: Visitor>(word: u32, row: MoveRow, visitor: &mut V)
+    ensures { visitor.new ≡ V.after (meaning_of (move_sp_row row) word) visitor.old }
+{
+    visitor.take(Inst::MoveSp {
+        row,
+        rt: rt(word),
+        register: sp_register(word),
+    });
+}
+
+#[inline(always)]
+pub fn visit_cop0<V: Visitor>(word: u32, visitor: &mut V) -> bool
+    ensures known { result ≡ is_known (pick cop0_rows (16 * 2 ^ 26 + value_at word (whole 21 5) * 2 ^ 21) word) }
+    ensures state { visitor.new ≡ visited V.after (pick cop0_rows (16 * 2 ^ 26 + value_at word (whole 21 5) * 2 ^ 21) word) visitor.old }
+{
+    instruction_table!(arms(cop0(rs(word), word, visitor)))
+}

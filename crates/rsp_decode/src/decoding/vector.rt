@@ -1,0 +1,229 @@
+// The vector unit's instructions: the moves of opcode 18 by rs, its computing instructions by their function, the loads of opcode 50
+// and the stores of opcode 58 by their operation. Reserved values have arms too, so that the jump needs no test of its range.
+
+ghost use Rattle.std.specs.Prelude.{true, false, ◌≡◌, ◌↔◌, ◌*◌, ◌+◌, ◌^◌, ◌<◌, ◌≤◌, IsTrue};
+ghost use Rattle.rsp_decode.specs.declared.inst.Inst.{Inst};
+ghost use Rattle.rsp_decode.specs.Visit.{is_known, visited};
+ghost use Rattle.rsp_decode.specs.Table.{IsInstruction, value_at, whole, pick, pick_by_operation, meaning_of, vector_memory_in, cop2_rows, computing_rows, lwc2_rows, swc2_rows, move_vector_row, move_control_row, multiply_row, round_row, mpeg_row, read_accumulator_row, vector_add_row, vector_select_row, vector_clip_row, vector_merge_row, vector_logic_row, divide_row, idle_row};
+
+use crate::bit_fields::{
+    byte_element, control, element, function, half, lane, operation, rd, rs, rt, vd, vector_fields,
+    vector_memory_fields, vt,
+};
+use crate::inst::Inst;
+use crate::rows::{arms, instruction_table};
+use crate::scalar::MoveRow;
+use crate::vector::{
+    DivideRow, IdleRow, MpegRow, MultiplyRow, RoundRow, VectorAddRow, VectorClipRow, VectorLoadRow,
+    VectorLogicRow, VectorSelectRow, VectorStoreRow,
+};
+use crate::visitor::Visitor;
+
+#[inline]
+fn move_vector<V: Visitor>(word: u32, row: MoveRow, visitor: &mut V)
+    ensures { visitor.new ≡ V.after (meaning_of (move_vector_row row) word) visitor.old }
+{
+    visitor.take(Inst::MoveVector {
+        row,
+        rt: rt(word),
+        vector: rd(word),
+        element: byte_element(word),
+    });
+}
+
+#[inline]
+fn move_control<V: Visitor>(word: u32, row: MoveRow, visitor: &mut V)
+    ensures { visitor.new ≡ V.after (meaning_of (move_control_row row) word) visitor.old }
+{
+    visitor.take(Inst::MoveControl {
+        row,
+        rt: rt(word),
+        control: control(word),
+    });
+}
+
+#[inline(always)]
+pub fn visit_cop2<V: Visitor>(word: u32, visitor: &mut V) -> bool
+    ensures known { result ≡ is_known (pick cop2_rows (18 * 2 ^ 26 + value_at word (whole 21 5) * 2 ^ 21) word) }
+    ensures state { visitor.new ≡ visited V.after (pick cop2_rows (18 * 2 ^ 26 + value_at word (whole 21 5) * 2 ^ 21) word) visitor.old }
+{
+    instruction_table!(arms(cop2(rs(word), word, visitor)))
+}
+
+#[inline]
+fn multiply<V: Visitor>(word: u32, row: MultiplyRow, visitor: &mut V)
+    ensures { visitor.new ≡ V.after (meaning_of (multiply_row row) word) visitor.old }
+{
+    visitor.take(Inst::Multiply {
+        row,
+        fields: vector_fields(word),
+    });
+}
+
+#[inline]
+fn round<V: Visitor>(word: u32, row: RoundRow, visitor: &mut V)
+    ensures { visitor.new ≡ V.after (meaning_of (round_row row) word) visitor.old }
+{
+    visitor.take(Inst::Round {
+        row,
+        fields: vector_fields(word),
+    });
+}
+
+#[inline]
+fn mpeg_multiply<V: Visitor>(word: u32, row: MpegRow, visitor: &mut V)
+    ensures { visitor.new ≡ V.after (meaning_of (mpeg_row row) word) visitor.old }
+{
+    visitor.take(Inst::MpegMultiply {
+        row,
+        fields: vector_fields(word),
+    });
+}
+
+#[inline]
+fn read_accumulator<V: Visitor>(word: u32, visitor: &mut V)
+    ensures { visitor.new ≡ V.after (meaning_of read_accumulator_row word) visitor.old }
+{
+    visitor.take(Inst::ReadAccumulator {
+        fields: vector_fields(word),
+    });
+}
+
+#[inline]
+fn vector_add<V: Visitor>(word: u32, row: VectorAddRow, visitor: &mut V)
+    ensures { visitor.new ≡ V.after (meaning_of (vector_add_row row) word) visitor.old }
+{
+    visitor.take(Inst::VectorAdd {
+        row,
+        fields: vector_fields(word),
+    });
+}
+
+#[inline]
+fn vector_select<V: Visitor>(word: u32, row: VectorSelectRow, visitor: &mut V)
+    ensures { visitor.new ≡ V.after (meaning_of (vector_select_row row) word) visitor.old }
+{
+    visitor.take(Inst::VectorSelect {
+        row,
+        fields: vector_fields(word),
+    });
+}
+
+#[inline]
+fn vector_clip<V: Visitor>(word: u32, row: VectorClipRow, visitor: &mut V)
+    ensures { visitor.new ≡ V.after (meaning_of (vector_clip_row row) word) visitor.old }
+{
+    visitor.take(Inst::VectorClip {
+        row,
+        fields: vector_fields(word),
+    });
+}
+
+#[inline]
+fn vector_merge<V: Visitor>(word: u32, visitor: &mut V)
+    ensures { visitor.new ≡ V.after (meaning_of vector_merge_row word) visitor.old }
+{
+    visitor.take(Inst::VectorMerge {
+        fields: vector_fields(word),
+    });
+}
+
+#[inline]
+fn vector_logic<V: Visitor>(word: u32, row: VectorLogicRow, visitor: &mut V)
+    ensures { visitor.new ≡ V.after (meaning_of (vector_logic_row row) word) visitor.old }
+{
+    visitor.take(Inst::VectorLogic {
+        row,
+        fields: vector_fields(word),
+    });
+}
+
+#[inline]
+fn divide<V: Visitor>(word: u32, row: DivideRow, visitor: &mut V)
+    ensures { visitor.new ≡ V.after (meaning_of (divide_row row) word) visitor.old }
+{
+    visitor.take(Inst::Divide {
+        row,
+        vd: vd(word),
+        lane: lane(word),
+        vt: vt(word),
+        element: element(word),
+    });
+}
+
+#[inline]
+fn idle<V: Visitor>(word: u32, row: IdleRow, visitor: &mut V)
+    ensures { visitor.new ≡ V.after (meaning_of (idle_row row) word) visitor.old }
+{
+    visitor.take(Inst::Idle { row });
+}
+
+/// The functions below 16, the multiplies and the roundings, of which none is reserved. Returns whether the function is one of
+/// these; for another one the visitor is unchanged.
+#[inline]
+fn visit_products<V: Visitor>(word: u32, visitor: &mut V) -> bool
+    ensures which { IsTrue result ↔ (value_at word (whole 0 6) < 16) }
+    ensures known { IsTrue result → is_known (pick computing_rows (18 * 2 ^ 26 + 2 ^ 25 + value_at word (whole 0 6)) word) ≡ true }
+    ensures state { IsTrue result → visitor.new ≡ visited V.after (pick computing_rows (18 * 2 ^ 26 + 2 ^ 25 + value_at word (whole 0 6)) word) visitor.old }
+    ensures others { result ≡ false → visitor.new ≡ visitor.old }
+{
+    instruction_table!(arms(products(function(word), word, visitor)))
+}
+
+/// The functions from 16 on.
+#[inline]
+fn visit_others<V: Visitor>(word: u32, visitor: &mut V) -> bool
+    requires { 16 ≤ value_at word (whole 0 6) }
+    ensures known { result ≡ is_known (pick computing_rows (18 * 2 ^ 26 + 2 ^ 25 + value_at word (whole 0 6)) word) }
+    ensures state { visitor.new ≡ visited V.after (pick computing_rows (18 * 2 ^ 26 + 2 ^ 25 + value_at word (whole 0 6)) word) visitor.old }
+{
+    instruction_table!(arms(others(function(word), word, visitor)))
+}
+
+/// The computing instructions. Two functions share them, so that each is small enough to be inlined into the loop over steps. There
+/// their jumps become one: both match the same value, and no other test is between them.
+#[inline(always)]
+pub fn visit_computing<V: Visitor>(word: u32, visitor: &mut V) -> bool
+    ensures known { result ≡ is_known (pick computing_rows (18 * 2 ^ 26 + 2 ^ 25 + value_at word (whole 0 6)) word) }
+    ensures state { visitor.new ≡ visited V.after (pick computing_rows (18 * 2 ^ 26 + 2 ^ 25 + value_at word (whole 0 6)) word) visitor.old }
+{
+    visit_products(word, visitor) || visit_others(word, visitor)
+}
+
+#[inline]
+fn vector_load<V: Visitor>(word: u32, row: VectorLoadRow, visitor: &mut V)
+    requires { IsInstruction (Inst.VectorLoad row (vector_memory_in word)) }
+    ensures { visitor.new ≡ V.after (Inst.VectorLoad row (vector_memory_in word)) visitor.old }
+{
+    visitor.take(Inst::VectorLoad {
+        row,
+        fields: vector_memory_fields(word),
+    });
+}
+
+#[inline(always)]
+pub fn visit_lwc2<V: Visitor>(word: u32, visitor: &mut V) -> bool
+    ensures known { result ≡ is_known (pick_by_operation lwc2_rows 50 word) }
+    ensures state { visitor.new ≡ visited V.after (pick_by_operation lwc2_rows 50 word) visitor.old }
+{
+    instruction_table!(arms(lwc2(operation(word), word, visitor)))
+}
+
+#[inline]
+fn vector_store<V: Visitor>(word: u32, row: VectorStoreRow, visitor: &mut V)
+    requires { IsInstruction (Inst.VectorStore row (vector_memory_in word)) }
+    ensures { visitor.new ≡ V.after (Inst.VectorStore row (vector_memory_in word)) visitor.old }
+{
+    visitor.take(Inst::VectorStore {
+        row,
+        fields: vector_memory_fields(word),
+    });
+}
+
+#[inline(always)]
+pub fn visit_swc2<V: Visitor>(word: u32, visitor: &mut V) -> bool
+    ensures known { result ≡ is_known (pick_by_operation swc2_rows 58 word) }
+    ensures state { visitor.new ≡ visited V.after (pick_by_operation swc2_rows 58 word) visitor.old }
+{
+    instruction_table!(arms(swc2(operation(word), word, visitor)))
+}
