@@ -1,5 +1,7 @@
 -- Scaffolding of proofs: what the loop of a run asks. Stops has the meaning.
-use Rattle.std.specs.Prelude.{◌≡◌, ◌⊎◌, ℕ, List, [], ◌∷◌, length, Bool, false, Option, option_map}
+use Rattle.std.specs.Prelude.{◌≡◌, ◌⊎◌, ℕ, List, [], ◌∷◌, length, Bool, false, Option, Some, None, option_map}
+use Rattle.rsp_decode.specs.declared.inst.Inst.{Inst}
+use Rattle.rsp_decode.specs.declared.inst.Inst.TheVariants.{MoveSp}
 use Rattle.rsp_decode.specs.Table.{inst_of}
 use Rattle.rsp_machine.specs.State.{State}
 use Rattle.rsp_debug.specs.declared.snapshot.Snapshot.{Snapshot}
@@ -9,6 +11,16 @@ use Rattle.rsp_debug.specs.declared.moves.Moves.{Moves}
 use Rattle.rsp_debug.specs.Moves.{is_asked, is_at_move}
 use Rattle.rsp_debug.specs.Stops.{is_reserved, is_break, when, first_of}
 use Rattle.rsp_debug.specs.Snapshots.{differs}
+
+-- the instruction, if it is an MFC0 or MTC0
+abbrev pub move_of : Option Inst → Option Inst
+move_of (Some (MoveSp row rt r)) = Some (MoveSp row rt r)
+move_of _ = None
+
+-- the snapshots of a run, which has none if there are no watches
+abbrev pub snapshots_in : Option (List (Option Snapshot)) → List (Option Snapshot)
+snapshots_in None = []
+snapshots_in (Some snapshots) = snapshots
 
 -- why a machine can't go on
 abbrev pub stuck_of : State → Option Reason

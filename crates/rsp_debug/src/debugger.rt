@@ -11,7 +11,7 @@ ghost use Rattle.rsp_debug.specs.Debugging.{debugging_of, stepped, stop_in, move
 use crate::breaks::{BreakFault, Breaks, NoBreak};
 use crate::history::History;
 use crate::moves::{MoveEnd, Moves};
-use crate::run::{run, run_to_move};
+use crate::run::run;
 use crate::stop::Stop;
 use crate::watches::{NoWatch, WatchFault, Watches};
 use rsp_acc::Acc;
@@ -171,6 +171,7 @@ impl<A: Acc> Debugger<A> {
             &mut self.history,
             &self.breaks,
             &self.watches,
+            Moves::none(),
             n,
         ))
     }
@@ -190,7 +191,7 @@ impl<A: Acc> Debugger<A> {
         if n == 0 || n > 1_000_000 {
             return Err(CountFault);
         }
-        let stop = run_to_move(
+        let stop = run(
             &mut self.machine,
             &mut self.history,
             &self.breaks,

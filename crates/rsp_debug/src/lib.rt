@@ -2,6 +2,7 @@
 #![tactic(auto)]
 
 mod breaks;
+mod conditions;
 mod copy;
 mod debugger;
 mod history;

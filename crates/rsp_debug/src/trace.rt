@@ -5,34 +5,31 @@ ghost use Rattle.rsp_debug.specs.Stops.{IsStop};
 ghost use Rattle.rsp_debug.specs.Snapshots.{differs, watches_of};
 ghost use Rattle.rsp_debug.specs.History.{states_before, past_of};
 ghost use Rattle.rsp_debug.specs.Debugging.{stop_in, ran};
-ghost use Rattle.rsp_debug.specs.Moves.{no_moves};
-ghost use Rattle.rsp_debug.specs.Runs.{Asks};
+ghost use Rattle.rsp_debug.specs.Moves.{no_moves, steps_to_move};
+ghost use Rattle.rsp_debug.specs.Runs.{snapshots_in};
 ghost use Rattle.rsp_debug.specs.Traces.{trace_of};
 
-use crate::breaks::Breaks;
+use crate::conditions::StopConditions;
 use crate::debugger::{CountFault, Debugger};
 use crate::history::History;
 use crate::moves::Moves;
-use crate::run::{Sought, dmem_bytes, stopped_here};
+use crate::run::stopped_here;
 use crate::stop::{Reason, Stop};
 use crate::traced::{Traced, entry_of};
-use crate::watches::Watches;
 use rsp_acc::Acc;
-use rsp_machine::{Machine, Until};
+use rsp_machine::{Machine, Never};
 
-/// Runs to breakpoints and watches, and writes an entry for each step. `until` is as in other runs, and ends no step.
-fn trace_to<A: Acc, U: Until>(
+/// Runs to breakpoints and watches, and writes an entry for each step.
+fn trace_to<A: Acc>(
     machine: &mut Machine<A>,
     history: &mut History,
-    sought: &Sought,
-    until: &U,
+    conditions: &StopConditions,
     out: &mut [Traced],
 ) -> Stop
-    requires same { differs sought.now.snapshots.now machine.old.dmem ≡ None }
-    requires asks { Asks (U.ends until.now) sought.now.breaks.now sought.now.snapshots.now sought.now.moves }
-    requires unmoved { sought.now.moves ≡ no_moves }
+    requires same { differs (snapshots_in conditions.now.snapshots) machine.old.dmem ≡ None }
+    requires unmoved { conditions.now.moves ≡ no_moves }
     requires few { length out.old ≤ 1000000 }
-    ensures stop { IsStop sought.now.breaks.now (watches_of sought.now.snapshots.now) (length out.old) machine.old machine.new result }
+    ensures stop { IsStop conditions.now.breaks.now (watches_of (snapshots_in conditions.now.snapshots)) (steps_to_move conditions.now.moves (length out.old) machine.old) machine.old machine.new result }
     ensures past { states_before machine.new history.new.newest ≡ past_of result.steps history.old.depth machine.old (states_before machine.old history.old.newest) }
     ensures depth { history.new.depth ≡ history.old.depth }
     ensures entries { take result.steps out.new ≡ trace_of result.steps machine.old }
@@ -45,47 +42,14 @@ fn trace_to<A: Acc, U: Until>(
         let pc = machine.pc();
         let word = machine.imem().aligned_word(usize::from(pc));
         let effect = machine.effect();
-        if history.stretch(machine, 1, until) == 0 {
+        if history.stretch(machine, 1, &Never) == 0 {
             break;
         }
         out[made] = entry_of(pc, word, effect, machine);
         made += 1;
-        found = sought.hit(machine);
+        found = conditions.hit(machine);
     }
     stopped_here(machine, found.unwrap_or(Reason::Limit), made as u32)
-}
-
-/// Runs to the least number of steps after which there is a reason to stop, and writes an entry for each step.
-fn trace<A: Acc>(
-    machine: &mut Machine<A>,
-    history: &mut History,
-    breaks: &Breaks,
-    watches: &Watches,
-    out: &mut [Traced],
-) -> Stop
-    requires { length out.old ≤ 1000000 }
-    ensures stop { IsStop breaks.now watches.now (length out.old) machine.old machine.new result }
-    ensures past { states_before machine.new history.new.newest ≡ past_of result.steps history.old.depth machine.old (states_before machine.old history.old.newest) }
-    ensures depth { history.new.depth ≡ history.old.depth }
-    ensures entries { take result.steps out.new ≡ trace_of result.steps machine.old }
-    ensures rest { drop result.steps out.new ≡ drop result.steps out.old }
-{
-    let moves = Moves::none();
-    if watches.is_empty() {
-        let sought = Sought {
-            breaks,
-            snapshots: &[],
-            moves,
-        };
-        return trace_to(machine, history, &sought, &sought, out);
-    }
-    let snapshots = watches.snapshots(dmem_bytes(machine));
-    let sought = Sought {
-        breaks,
-        snapshots: &snapshots,
-        moves,
-    };
-    trace_to(machine, history, &sought, &sought, out)
 }
 
 impl<A: Acc> Debugger<A> {
@@ -104,11 +68,12 @@ impl<A: Acc> Debugger<A> {
         if out.is_empty() || out.len() > 1_000_000 {
             return Err(CountFault);
         }
-        Ok(trace(
+        let conditions =
+            StopConditions::new(&self.machine, &self.breaks, &self.watches, Moves::none());
+        Ok(trace_to(
             &mut self.machine,
             &mut self.history,
-            &self.breaks,
-            &self.watches,
+            &conditions,
             out,
         ))
     }
