@@ -58,7 +58,7 @@ same_reason b v w n k s same =
     ap (λ o. first_of (when (is_reserved t) Reserved ∷ when t.sp.halted Halted ∷ cond (nat_lt 0 k) (option_map Watched o) None ∷ when (nat_lt 0 k && is_break b t.pc) Break ∷ when (k == n) Limit ∷ []))
     (same before.dmem t.dmem)
 
-same-stop : (b : List Bool) (v w : List (Option Watch)) (n : ℕ) (s t : State) (stop : Stop) → ((before dmem : List ℕ) → changed v before dmem ≡ changed w before dmem) → IsStop b v n s t stop → IsStop b w n s t stop
+pub same-stop : (b : List Bool) (v w : List (Option Watch)) (n : ℕ) (s t : State) (stop : Stop) → ((before dmem : List ℕ) → changed v before dmem ≡ changed w before dmem) → IsStop b v n s t stop → IsStop b w n s t stop
 same-stop b v w n s t stop same is = record {
   within = is.within;
   reached = is.reached;
@@ -66,13 +66,6 @@ same-stop b v w n s t stop same is = record {
   first = λ j h. sym (same_reason b v w n j s same) ∙ is.first j h;
   place = is.place;
 }
-
--- the stop of a run by its conditions, in the words of a debugger
-pub conditions-stop : (a b : List Bool) (v w : List (Option Watch)) (x y : Moves) (n : ℕ) (s t : State) (stop : Stop) → a ≡ b → ((before dmem : List ℕ) → changed v before dmem ≡ changed w before dmem) → x ≡ y
-    → IsStop a v (steps_to_move x n s) s t stop → IsStop b w (steps_to_move y n s) s t stop
-conditions-stop a b v w x y n s t stop breaks same moves is =
-    same-stop b v w (steps_to_move y n s) s t stop same
-    (subst (λ (m : Moves). IsStop b v (steps_to_move m n s) s t stop) moves (subst (λ (l : List Bool). IsStop l v (steps_to_move x n s) s t stop) breaks is))
 
 -- if no move is asked for, none comes
 zero_bit : (b : Bool) (r : ℕ) → (bit_at (cond b 0 0) r == 1) ≡ false

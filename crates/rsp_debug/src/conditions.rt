@@ -1,20 +1,18 @@
 // What ends a run between two of its steps.
 
-ghost use Rattle.std.specs.Prelude.{◌≡◌, ℕ, List, None, length};
-ghost use Rattle.rsp_debug.specs.Stops.{changed};
-ghost use Rattle.rsp_debug.specs.Snapshots.{differs, watches_of};
+ghost use Rattle.std.specs.Prelude.{◌≡◌, length};
+ghost use Rattle.rsp_debug.specs.Snapshots.{differs};
 ghost use Rattle.rsp_debug.specs.Runs.{snapshots_in, hit_in, found_in};
 
 use crate::breaks::Breaks;
 use crate::moves::Moves;
 use crate::snapshot::{Snapshot, differs};
 use crate::stop::Reason;
-use crate::watches::Watches;
 use rsp_acc::Acc;
 use rsp_machine::{Machine, Until};
 
 /// The bytes of DMEM.
-fn dmem_bytes<A: Acc>(machine: &Machine<A>) -> &[u8]
+pub(crate) fn dmem_bytes<A: Acc>(machine: &Machine<A>) -> &[u8]
     ensures value { result.now ≡ machine.now.dmem }
     ensures len { length result.now ≡ 4096 }
 {
@@ -28,43 +26,16 @@ fn dmem_bytes<A: Acc>(machine: &Machine<A>) -> &[u8]
 pub(crate) struct StopConditions<'a> {
     pub(crate) breaks: &'a Breaks,
     /// None if there is no watch.
-    pub(crate) snapshots: Option<[Option<Snapshot>; 8]>,
+    pub(crate) snapshots: &'a Option<[Option<Snapshot>; 8]>,
     pub(crate) moves: Moves,
 }
 
 impl<'a> StopConditions<'a> {
-    /// The conditions of a run that begins in a machine.
-    pub(crate) fn new<A: Acc>(
-        machine: &Machine<A>,
-        breaks: &'a Breaks,
-        watches: &Watches,
-        moves: Moves,
-    ) -> StopConditions<'a>
-        ensures breaks { result.breaks.now ≡ breaks.now }
-        ensures moves { result.moves ≡ moves }
-        ensures same { differs (snapshots_in result.snapshots) machine.now.dmem ≡ None }
-        ensures watches { (before dmem : List ℕ) → changed (watches_of (snapshots_in result.snapshots)) before dmem ≡ changed watches.now before dmem }
-    {
-        if watches.is_empty() {
-            return StopConditions {
-                breaks,
-                snapshots: None,
-                moves,
-            };
-        }
-        let snapshots = Some(watches.snapshots(dmem_bytes(machine)));
-        StopConditions {
-            breaks,
-            snapshots,
-            moves,
-        }
-    }
-
     /// The lowest number of a watch with a byte that isn't what it was.
     fn changed_watch<A: Acc>(&self, machine: &Machine<A>) -> Option<usize>
-        ensures { result ≡ differs (snapshots_in self.now.snapshots) machine.now.dmem }
+        ensures { result ≡ differs (snapshots_in self.now.snapshots.now) machine.now.dmem }
     {
-        match &self.snapshots {
+        match self.snapshots {
             None => None,
             Some(snapshots) => differs(snapshots, dmem_bytes(machine)),
         }
@@ -74,7 +45,7 @@ impl<'a> StopConditions<'a> {
     #[inline(always)]
     #[tactic(auto, using(crate::proofs::Hits::hits))]
     pub(crate) fn hit<A: Acc>(&self, machine: &Machine<A>) -> Option<Reason>
-        ensures { result ≡ hit_in self.now.breaks.now (snapshots_in self.now.snapshots) machine.now }
+        ensures { result ≡ hit_in self.now.breaks.now (snapshots_in self.now.snapshots.now) machine.now }
     {
         if let Some(k) = self.changed_watch(machine) {
             return Some(Reason::Watched(k));
@@ -87,7 +58,7 @@ impl<'a> StopConditions<'a> {
 
     /// The reason that ends a run after a step. Before a move it is the limit.
     pub(crate) fn found<A: Acc>(&self, machine: &Machine<A>) -> Option<Reason>
-        ensures { result ≡ found_in self.now.breaks.now (snapshots_in self.now.snapshots) self.now.moves machine.now }
+        ensures { result ≡ found_in self.now.breaks.now (snapshots_in self.now.snapshots.now) self.now.moves machine.now }
     {
         match self.hit(machine) {
             Some(reason) => Some(reason),
@@ -102,7 +73,7 @@ impl<'a> Until for StopConditions<'a> {
     ghost use Rattle.rsp_debug.specs.Stops.{is_break};
     ghost use Rattle.rsp_debug.specs.Moves.{is_asked};
 
-    ghost ends = { λ s pc word stored. is_break s.breaks.now pc || (stored && is_some s.snapshots) || is_asked s.moves (inst_of word) };
+    ghost ends = { λ s pc word stored. is_break s.breaks.now pc || (stored && is_some s.snapshots.now) || is_asked s.moves (inst_of word) };
 
     #[inline(always)]
     fn ends(&self, pc: u16, word: u32, stored: bool) -> bool {

@@ -99,10 +99,19 @@ impl Moves {
         self.reads == 0 && self.writes == 0
     }
 
-    /// Whether a word is one of them.
+    /// Whether a word is one of them. Most words are outside of the range of MFC0 and MTC0.
     #[inline(always)]
     #[tactic(auto, using(crate::proofs::Moving::moving))]
     pub(crate) fn has_word(self, word: u32) -> bool
+        ensures { result ≡ is_asked self (inst_of word) }
+    {
+        0x4000_0000 <= word && word < 0x40a0_0000 && self.has_move(word)
+    }
+
+    /// Whether a word is one of them, by its instruction.
+    #[inline(never)]
+    #[tactic(auto, using(crate::proofs::Moving::moving))]
+    fn has_move(self, word: u32) -> bool
         ensures { result ≡ is_asked self (inst_of word) }
     {
         match move_of(word) {

@@ -13,7 +13,7 @@ ghost use Rattle.rsp_debug.specs.History.{states_before, past_of};
 ghost use Rattle.rsp_debug.specs.Runs.{snapshots_in, stuck_of, Asks};
 
 use crate::breaks::Breaks;
-use crate::conditions::StopConditions;
+use crate::conditions::{StopConditions, dmem_bytes};
 use crate::history::History;
 use crate::moves::{Moves, is_reserved};
 use crate::stop::{Reason, Stop};
@@ -108,9 +108,9 @@ fn run_to<A: Acc, U: Until>(
     until: &U,
     n: u32,
 ) -> Stop
-    requires same { differs (snapshots_in conditions.now.snapshots) machine.old.dmem ≡ None }
-    requires asks { Asks (U.ends until.now) conditions.now.breaks.now (snapshots_in conditions.now.snapshots) conditions.now.moves }
-    ensures stop { IsStop conditions.now.breaks.now (watches_of (snapshots_in conditions.now.snapshots)) (steps_to_move conditions.now.moves n machine.old) machine.old machine.new result }
+    requires same { differs (snapshots_in conditions.now.snapshots.now) machine.old.dmem ≡ None }
+    requires asks { Asks (U.ends until.now) conditions.now.breaks.now (snapshots_in conditions.now.snapshots.now) conditions.now.moves }
+    ensures stop { IsStop conditions.now.breaks.now (watches_of (snapshots_in conditions.now.snapshots.now)) (steps_to_move conditions.now.moves n machine.old) machine.old machine.new result }
     ensures past { states_before machine.new history.new.newest ≡ past_of result.steps history.old.depth machine.old (states_before machine.old history.old.newest) }
     ensures depth { history.new.depth ≡ history.old.depth }
 {
@@ -140,8 +140,13 @@ pub fn run<A: Acc>(
     ensures past { states_before machine.new history.new.newest ≡ past_of result.steps history.old.depth machine.old (states_before machine.old history.old.newest) }
     ensures depth { history.new.depth ≡ history.old.depth }
 {
-    let conditions = StopConditions::new(machine, breaks, watches, moves);
-    if !breaks.is_empty() || conditions.snapshots.is_some() {
+    let snapshots = watches.snapshots(dmem_bytes(machine));
+    let conditions = StopConditions {
+        breaks,
+        snapshots: &snapshots,
+        moves,
+    };
+    if !breaks.is_empty() || snapshots.is_some() {
         return run_to(machine, history, &conditions, &conditions, n);
     }
     if moves.is_empty() {

@@ -9,7 +9,7 @@ ghost use Rattle.rsp_debug.specs.Moves.{no_moves, steps_to_move};
 ghost use Rattle.rsp_debug.specs.Runs.{snapshots_in};
 ghost use Rattle.rsp_debug.specs.Traces.{trace_of};
 
-use crate::conditions::StopConditions;
+use crate::conditions::{StopConditions, dmem_bytes};
 use crate::debugger::{CountFault, Debugger};
 use crate::history::History;
 use crate::moves::Moves;
@@ -26,10 +26,10 @@ fn trace_to<A: Acc>(
     conditions: &StopConditions,
     out: &mut [Traced],
 ) -> Stop
-    requires same { differs (snapshots_in conditions.now.snapshots) machine.old.dmem ≡ None }
+    requires same { differs (snapshots_in conditions.now.snapshots.now) machine.old.dmem ≡ None }
     requires unmoved { conditions.now.moves ≡ no_moves }
     requires few { length out.old ≤ 1000000 }
-    ensures stop { IsStop conditions.now.breaks.now (watches_of (snapshots_in conditions.now.snapshots)) (steps_to_move conditions.now.moves (length out.old) machine.old) machine.old machine.new result }
+    ensures stop { IsStop conditions.now.breaks.now (watches_of (snapshots_in conditions.now.snapshots.now)) (steps_to_move conditions.now.moves (length out.old) machine.old) machine.old machine.new result }
     ensures past { states_before machine.new history.new.newest ≡ past_of result.steps history.old.depth machine.old (states_before machine.old history.old.newest) }
     ensures depth { history.new.depth ≡ history.old.depth }
     ensures entries { take result.steps out.new ≡ trace_of result.steps machine.old }
@@ -68,8 +68,12 @@ impl<A: Acc> Debugger<A> {
         if out.is_empty() || out.len() > 1_000_000 {
             return Err(CountFault);
         }
-        let conditions =
-            StopConditions::new(&self.machine, &self.breaks, &self.watches, Moves::none());
+        let snapshots = self.watches.snapshots(dmem_bytes(&self.machine));
+        let conditions = StopConditions {
+            breaks: &self.breaks,
+            snapshots: &snapshots,
+            moves: Moves::none(),
+        };
         Ok(trace_to(
             &mut self.machine,
             &mut self.history,

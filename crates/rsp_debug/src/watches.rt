@@ -1,6 +1,8 @@
-ghost use Rattle.std.specs.Prelude.{◌≡◌, ◌≤◌, ◌<◌, IsTrue, IsNone, All, map, IfOk, IfSome, OnOk, OnErr, IsOk, ◌↔◌};
+ghost use Rattle.std.specs.Prelude.{◌≡◌, ◌≤◌, ◌<◌, ℕ, List, None, IsTrue, IsNone, All, map, IfOk, IfSome, OnOk, OnErr, IsOk, ◌↔◌};
+ghost use Rattle.rsp_debug.specs.Stops.{changed};
 ghost use Rattle.rsp_debug.specs.Watches.{no_watches, is_watchable, free_number, number_for, with_watch, has_watch, without_watch};
-ghost use Rattle.rsp_debug.specs.Snapshots.{snapshot_of};
+ghost use Rattle.rsp_debug.specs.Snapshots.{snapshot_of, differs, watches_of};
+ghost use Rattle.rsp_debug.specs.Runs.{snapshots_in};
 
 use crate::snapshot::{Snapshot, snapshot_of};
 use crate::stop::Watch;
@@ -61,8 +63,19 @@ impl Watches {
         self.numbers.iter().all(|watch| watch.is_none())
     }
 
+    /// The watches with their bytes, or None if there is no watch.
+    pub fn snapshots(&self, dmem: &[u8]) -> Option<[Option<Snapshot>; 8]>
+        ensures same { differs (snapshots_in result) dmem.now ≡ None }
+        ensures watches { (before after : List ℕ) → changed (watches_of (snapshots_in result)) before after ≡ changed self.now before after }
+    {
+        if self.is_empty() {
+            return None;
+        }
+        Some(self.all_snapshots(dmem))
+    }
+
     /// The watches with their bytes.
-    pub fn snapshots(&self, dmem: &[u8]) -> [Option<Snapshot>; 8]
+    fn all_snapshots(&self, dmem: &[u8]) -> [Option<Snapshot>; 8]
         ensures { result ≡ map (snapshot_of dmem.now) self.now }
     {
         let [a, b, c, d, e, f, g, h] = self.numbers;
