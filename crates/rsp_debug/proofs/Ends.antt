@@ -1,9 +1,9 @@
 -- Where runs end.
 use Rattle.std.proofs.Common.{◌≡◌, ℕ, zero, suc, ◌-◌, ◌<◌, ◌≤◌, List, [], ◌∷◌, refl, ap, sym, subst, ◌∙◌, arith, Bool, true, false, cond, Option, Some, None}
-use Rattle.std.specs.Prelude.{not, is_some, unwrap_or, nat_lt, option_map, ◌&&◌, ◌==◌}
+use Rattle.std.specs.Prelude.{not, All, IsNone, is_some, unwrap_or, nat_lt, option_map, map, ◌&&◌, ◌==◌}
 use Rattle.rsp_machine.specs.State.{State}
 use Rattle.rsp_machine.specs.Laws.{steps_of}
-use Rattle.rsp_debug.specs.Stops.{is_break, is_reserved, changed, when, first_of, reason_at, least, run_steps, stop_of, IsStop}
+use Rattle.rsp_debug.specs.Stops.{is_break, is_reserved, when, first_of, reason_at, least, run_steps, stop_of, IsStop}
 use Rattle.std.specs.Int.{bit_at}
 use Rattle.std.proofs.lemmas.Nat.Bits.{bit_at-zero}
 use Rattle.rsp_memory.specs.Memory.{word_at}
@@ -17,6 +17,7 @@ use Rattle.rsp_debug.specs.declared.moves.MoveEnd.TheVariants as end
 use Rattle.rsp_debug.specs.Moves.{no_moves, is_asked, is_at_move, is_limit, steps_to_move, move_by, end_by, move_end_of, end_steps}
 use Rattle.rsp_debug.specs.Runs.{hit_in, found_in}
 use Rattle.rsp_debug.specs.declared.snapshot.Snapshot.{Snapshot}
+use Rattle.rsp_debug.specs.Snapshots.{snapshot_of, watches_of}
 use Rattle.rsp_debug.specs.History.{past_of}
 use Rattle.rsp_debug.specs.Debugging.{Debugging, steps_made, ran}
 use Rattle.rsp_debug.proofs.Going.{made-is}
@@ -24,6 +25,7 @@ use Rattle.rsp_debug.specs.declared.stop.Watch.{Watch}
 use Rattle.rsp_debug.specs.declared.stop.Reason.{Reason}
 use Rattle.rsp_debug.specs.declared.stop.Reason.TheVariants.{Reserved, Halted, Watched, Break, Limit}
 use Rattle.rsp_debug.specs.declared.stop.Stop.{Stop}
+use Rattle.rsp_debug.proofs.Watched.{none-changed, changed-none, watches-of}
 
 -- the least number that passes
 pub least-is : (test : ℕ → Bool) (n k : ℕ) → k ≤ n → test k ≡ true → ((j : ℕ) → j < k → test j ≡ false) → least test n ≡ k
@@ -50,22 +52,26 @@ stop-is b w n s t stop is =
     ∙ ap (λ o. made (unwrap_or o Limit) stop.steps (steps_of stop.steps s).pc) (sym is.reason)
     ∙ ap (λ k. made (unwrap_or (reason_at b w n s k) Limit) k (steps_of k s).pc) (sym (steps-are b w n s t stop is))
 
--- lists of watches of which the same change give the same stop
-same_reason : (b : List Bool) (v w : List (Option Watch)) (n k : ℕ) (s : State) → ((before dmem : List ℕ) → changed v before dmem ≡ changed w before dmem) → reason_at b v n s k ≡ reason_at b w n s k
+-- where there are no watches, none changes
+unwatched_reason : (b : List Bool) (w : List (Option Watch)) (n k : ℕ) (s : State) → All IsNone w → reason_at b [] n s k ≡ reason_at b w n s k
 unfolding reason_at
-same_reason b v w n k s same =
+unwatched_reason b w n k s none =
     let before = steps_of (k - 1) s in let t = steps_of k s in
     ap (λ o. first_of (when (is_reserved t) Reserved ∷ when t.sp.halted Halted ∷ cond (nat_lt 0 k) (option_map Watched o) None ∷ when (nat_lt 0 k && is_break b t.pc) Break ∷ when (k == n) Limit ∷ []))
-    (same before.dmem t.dmem)
+    (none-changed before.dmem t.dmem ∙ sym (changed-none w before.dmem t.dmem none))
 
-pub same-stop : (b : List Bool) (v w : List (Option Watch)) (n : ℕ) (s t : State) (stop : Stop) → ((before dmem : List ℕ) → changed v before dmem ≡ changed w before dmem) → IsStop b v n s t stop → IsStop b w n s t stop
-same-stop b v w n s t stop same is = record {
+pub unwatched-stop : (b : List Bool) (w : List (Option Watch)) (n : ℕ) (s t : State) (stop : Stop) → IsStop b [] n s t stop → All IsNone w → IsStop b w n s t stop
+unwatched-stop b w n s t stop is none = record {
   within = is.within;
   reached = is.reached;
-  reason = sym (same_reason b v w n stop.steps s same) ∙ is.reason;
-  first = λ j h. sym (same_reason b v w n j s same) ∙ is.first j h;
+  reason = sym (unwatched_reason b w n stop.steps s none) ∙ is.reason;
+  first = λ j h. sym (unwatched_reason b w n j s none) ∙ is.first j h;
   place = is.place;
 }
+
+-- the watches are those of the snapshots
+pub snapshots-stop : (b : List Bool) (w : List (Option Watch)) (n : ℕ) (s t : State) (stop : Stop) (dmem : List ℕ) → IsStop b (watches_of (map (snapshot_of dmem) w)) n s t stop → IsStop b w n s t stop
+snapshots-stop b w n s t stop dmem is = subst (λ (x : List (Option Watch)). IsStop b x n s t stop) (watches-of w dmem) is
 
 -- if no move is asked for, none comes
 zero_bit : (b : Bool) (r : ℕ) → (bit_at (cond b 0 0) r == 1) ≡ false

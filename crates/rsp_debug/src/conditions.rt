@@ -1,8 +1,7 @@
 // What ends a run between two of its steps.
 
 ghost use Rattle.std.specs.Prelude.{◌≡◌, length};
-ghost use Rattle.rsp_debug.specs.Snapshots.{differs};
-ghost use Rattle.rsp_debug.specs.Runs.{snapshots_in, hit_in, found_in};
+ghost use Rattle.rsp_debug.specs.Runs.{hit_in, found_in};
 
 use crate::breaks::Breaks;
 use crate::moves::Moves;
@@ -25,29 +24,19 @@ pub(crate) fn dmem_bytes<A: Acc>(machine: &Machine<A>) -> &[u8]
 #[derive(Drop)]
 pub(crate) struct StopConditions<'a> {
     pub(crate) breaks: &'a Breaks,
-    /// None if there is no watch.
-    pub(crate) snapshots: &'a Option<[Option<Snapshot>; 8]>,
+    /// Empty if there is no watch.
+    pub(crate) snapshots: &'a [Option<Snapshot>],
     pub(crate) moves: Moves,
 }
 
 impl<'a> StopConditions<'a> {
-    /// The lowest number of a watch with a byte that isn't what it was.
-    fn changed_watch<A: Acc>(&self, machine: &Machine<A>) -> Option<usize>
-        ensures { result ≡ differs (snapshots_in self.now.snapshots.now) machine.now.dmem }
-    {
-        match self.snapshots {
-            None => None,
-            Some(snapshots) => differs(snapshots, dmem_bytes(machine)),
-        }
-    }
-
     /// The watch or the breakpoint that ends a run after a step.
     #[inline(always)]
     #[tactic(auto, using(crate::proofs::Hits::hits))]
     pub(crate) fn hit<A: Acc>(&self, machine: &Machine<A>) -> Option<Reason>
-        ensures { result ≡ hit_in self.now.breaks.now (snapshots_in self.now.snapshots.now) machine.now }
+        ensures { result ≡ hit_in self.now.breaks.now self.now.snapshots.now machine.now }
     {
-        if let Some(k) = self.changed_watch(machine) {
+        if let Some(k) = differs(self.snapshots, dmem_bytes(machine)) {
             return Some(Reason::Watched(k));
         }
         if self.breaks.contains(machine.pc()) {
@@ -58,7 +47,7 @@ impl<'a> StopConditions<'a> {
 
     /// The reason that ends a run after a step. Before a move it is the limit.
     pub(crate) fn found<A: Acc>(&self, machine: &Machine<A>) -> Option<Reason>
-        ensures { result ≡ found_in self.now.breaks.now (snapshots_in self.now.snapshots.now) self.now.moves machine.now }
+        ensures { result ≡ found_in self.now.breaks.now self.now.snapshots.now self.now.moves machine.now }
     {
         match self.hit(machine) {
             Some(reason) => Some(reason),
@@ -68,17 +57,17 @@ impl<'a> StopConditions<'a> {
 }
 
 impl<'a> Until for StopConditions<'a> {
-    ghost use Rattle.std.specs.Prelude.{◌||◌, ◌&&◌, is_some};
+    ghost use Rattle.std.specs.Prelude.{◌||◌, ◌&&◌, ◌==◌, not, length};
     ghost use Rattle.rsp_decode.specs.Table.{inst_of};
     ghost use Rattle.rsp_debug.specs.Stops.{is_break};
     ghost use Rattle.rsp_debug.specs.Moves.{is_asked};
 
-    ghost ends = { λ s pc word stored. is_break s.breaks.now pc || (stored && is_some s.snapshots.now) || is_asked s.moves (inst_of word) };
+    ghost ends = { λ s pc word stored. is_break s.breaks.now pc || (stored && not (length s.snapshots.now == 0)) || is_asked s.moves (inst_of word) };
 
     #[inline(always)]
     fn ends(&self, pc: u16, word: u32, stored: bool) -> bool {
         self.breaks.contains(pc)
-            || (stored && self.snapshots.is_some())
+            || (stored && !self.snapshots.is_empty())
             || self.moves.has_word(word)
     }
 }

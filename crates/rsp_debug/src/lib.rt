@@ -1,4 +1,4 @@
-//! The debugger: runs of a machine that stop at breakpoints and watches, looks at it, and steps back.
+//! The debugger: runs of a machine that stop at breakpoints and watches, queries of its state, and steps back.
 #![tactic(auto)]
 
 mod breaks;

@@ -1,4 +1,4 @@
-// Steps of a machine in stretches. Between two of them a run tests whether there is a reason to stop.
+// Runs, which make steps in stretches. After each stretch a run tests whether there is a reason to stop.
 
 ghost use Rattle.std.specs.Prelude.{◌≡◌, ◌<◌, ◌≤◌, ◌+◌, ◌-◌, ℕ, true, false, None, length, drop, slice_index_or, unwrap_or};
 ghost use Rattle.rsp_machine.specs.Step.{step_of};
@@ -10,7 +10,7 @@ ghost use Rattle.rsp_debug.specs.Stops.{IsStop};
 ghost use Rattle.rsp_debug.specs.Moves.{steps_to_move};
 ghost use Rattle.rsp_debug.specs.Snapshots.{differs, watches_of};
 ghost use Rattle.rsp_debug.specs.History.{states_before, past_of};
-ghost use Rattle.rsp_debug.specs.Runs.{snapshots_in, stuck_of, Asks};
+ghost use Rattle.rsp_debug.specs.Runs.{stuck_of, Asks};
 
 use crate::breaks::Breaks;
 use crate::conditions::{StopConditions, dmem_bytes};
@@ -21,7 +21,7 @@ use crate::watches::Watches;
 use rsp_acc::Acc;
 use rsp_machine::{Machine, Never, Record, Until};
 
-/// Whether all of them can be undone: only the last may have started a DMA.
+/// Whether the first `made` steps of some records can all be undone. Only the last of them may have started a DMA.
 fn leads_back(records: &[Record], made: usize) -> bool
     requires { made ≤ length records.now }
     ensures none { made ≡ 0 → result ≡ true }
@@ -76,7 +76,7 @@ impl History {
     }
 }
 
-/// Why a machine can't go on.
+/// Why a machine can't make a step, if it can't.
 fn stuck<A: Acc>(machine: &Machine<A>) -> Option<Reason>
     ensures { result ≡ stuck_of machine.now }
 {
@@ -108,9 +108,9 @@ fn run_to<A: Acc, U: Until>(
     until: &U,
     n: u32,
 ) -> Stop
-    requires same { differs (snapshots_in conditions.now.snapshots.now) machine.old.dmem ≡ None }
-    requires asks { Asks (U.ends until.now) conditions.now.breaks.now (snapshots_in conditions.now.snapshots.now) conditions.now.moves }
-    ensures stop { IsStop conditions.now.breaks.now (watches_of (snapshots_in conditions.now.snapshots.now)) (steps_to_move conditions.now.moves n machine.old) machine.old machine.new result }
+    requires same { differs conditions.now.snapshots.now machine.old.dmem ≡ None }
+    requires asks { Asks (U.ends until.now) conditions.now.breaks.now conditions.now.snapshots.now conditions.now.moves }
+    ensures stop { IsStop conditions.now.breaks.now (watches_of conditions.now.snapshots.now) (steps_to_move conditions.now.moves n machine.old) machine.old machine.new result }
     ensures past { states_before machine.new history.new.newest ≡ past_of result.steps history.old.depth machine.old (states_before machine.old history.old.newest) }
     ensures depth { history.new.depth ≡ history.old.depth }
 {
@@ -127,8 +127,9 @@ fn run_to<A: Acc, U: Until>(
     stopped_here(machine, found.unwrap_or(Reason::Limit), n - left)
 }
 
-/// Makes the least number of steps, at most `n`, after which there is a reason to stop or one of the moves is next.
-pub fn run<A: Acc>(
+/// [`run`] with watches.
+#[inline(never)]
+fn run_watching<A: Acc>(
     machine: &mut Machine<A>,
     history: &mut History,
     breaks: &Breaks,
@@ -146,7 +147,31 @@ pub fn run<A: Acc>(
         snapshots: &snapshots,
         moves,
     };
-    if !breaks.is_empty() || snapshots.is_some() {
+    run_to(machine, history, &conditions, &conditions, n)
+}
+
+/// Makes the least number of steps, at most `n`, after which there is a reason to stop or one of the moves is next.
+pub fn run<A: Acc>(
+    machine: &mut Machine<A>,
+    history: &mut History,
+    breaks: &Breaks,
+    watches: &Watches,
+    moves: Moves,
+    n: u32,
+) -> Stop
+    ensures stop { IsStop breaks.now watches.now (steps_to_move moves n machine.old) machine.old machine.new result }
+    ensures past { states_before machine.new history.new.newest ≡ past_of result.steps history.old.depth machine.old (states_before machine.old history.old.newest) }
+    ensures depth { history.new.depth ≡ history.old.depth }
+{
+    if !watches.is_empty() {
+        return run_watching(machine, history, breaks, watches, moves, n);
+    }
+    let conditions = StopConditions {
+        breaks,
+        snapshots: &[],
+        moves,
+    };
+    if !breaks.is_empty() {
         return run_to(machine, history, &conditions, &conditions, n);
     }
     if moves.is_empty() {

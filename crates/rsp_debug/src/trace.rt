@@ -5,10 +5,10 @@ ghost use Rattle.rsp_debug.specs.Stops.{IsStop};
 ghost use Rattle.rsp_debug.specs.Snapshots.{differs, watches_of};
 ghost use Rattle.rsp_debug.specs.History.{states_before, past_of};
 ghost use Rattle.rsp_debug.specs.Debugging.{stop_in, ran};
-ghost use Rattle.rsp_debug.specs.Moves.{no_moves, steps_to_move};
-ghost use Rattle.rsp_debug.specs.Runs.{snapshots_in};
+ghost use Rattle.rsp_debug.specs.Moves.{no_moves};
 ghost use Rattle.rsp_debug.specs.Traces.{trace_of};
 
+use crate::breaks::Breaks;
 use crate::conditions::{StopConditions, dmem_bytes};
 use crate::debugger::{CountFault, Debugger};
 use crate::history::History;
@@ -16,6 +16,7 @@ use crate::moves::Moves;
 use crate::run::stopped_here;
 use crate::stop::{Reason, Stop};
 use crate::traced::{Traced, entry_of};
+use crate::watches::Watches;
 use rsp_acc::Acc;
 use rsp_machine::{Machine, Never};
 
@@ -26,10 +27,10 @@ fn trace_to<A: Acc>(
     conditions: &StopConditions,
     out: &mut [Traced],
 ) -> Stop
-    requires same { differs (snapshots_in conditions.now.snapshots.now) machine.old.dmem ≡ None }
+    requires same { differs conditions.now.snapshots.now machine.old.dmem ≡ None }
     requires unmoved { conditions.now.moves ≡ no_moves }
     requires few { length out.old ≤ 1000000 }
-    ensures stop { IsStop conditions.now.breaks.now (watches_of (snapshots_in conditions.now.snapshots.now)) (steps_to_move conditions.now.moves (length out.old) machine.old) machine.old machine.new result }
+    ensures stop { IsStop conditions.now.breaks.now (watches_of conditions.now.snapshots.now) (length out.old) machine.old machine.new result }
     ensures past { states_before machine.new history.new.newest ≡ past_of result.steps history.old.depth machine.old (states_before machine.old history.old.newest) }
     ensures depth { history.new.depth ≡ history.old.depth }
     ensures entries { take result.steps out.new ≡ trace_of result.steps machine.old }
@@ -52,6 +53,39 @@ fn trace_to<A: Acc>(
     stopped_here(machine, found.unwrap_or(Reason::Limit), made as u32)
 }
 
+/// Makes the least number of steps after which there is a reason to stop, at most as many as there are entries, and writes an entry for each.
+fn trace<A: Acc>(
+    machine: &mut Machine<A>,
+    history: &mut History,
+    breaks: &Breaks,
+    watches: &Watches,
+    out: &mut [Traced],
+) -> Stop
+    requires { length out.old ≤ 1000000 }
+    ensures stop { IsStop breaks.now watches.now (length out.old) machine.old machine.new result }
+    ensures past { states_before machine.new history.new.newest ≡ past_of result.steps history.old.depth machine.old (states_before machine.old history.old.newest) }
+    ensures depth { history.new.depth ≡ history.old.depth }
+    ensures entries { take result.steps out.new ≡ trace_of result.steps machine.old }
+    ensures rest { drop result.steps out.new ≡ drop result.steps out.old }
+{
+    let moves = Moves::none();
+    if watches.is_empty() {
+        let conditions = StopConditions {
+            breaks,
+            snapshots: &[],
+            moves,
+        };
+        return trace_to(machine, history, &conditions, out);
+    }
+    let snapshots = watches.snapshots(dmem_bytes(machine));
+    let conditions = StopConditions {
+        breaks,
+        snapshots: &snapshots,
+        moves,
+    };
+    trace_to(machine, history, &conditions, out)
+}
+
 impl<A: Acc> Debugger<A> {
     /// As [`Debugger::run`] of as many steps as `out` has entries, and writes the entry of each step; the other entries stay. CountFault
     /// unless there are 1 to 1000000 entries.
@@ -68,16 +102,11 @@ impl<A: Acc> Debugger<A> {
         if out.is_empty() || out.len() > 1_000_000 {
             return Err(CountFault);
         }
-        let snapshots = self.watches.snapshots(dmem_bytes(&self.machine));
-        let conditions = StopConditions {
-            breaks: &self.breaks,
-            snapshots: &snapshots,
-            moves: Moves::none(),
-        };
-        Ok(trace_to(
+        Ok(trace(
             &mut self.machine,
             &mut self.history,
-            &conditions,
+            &self.breaks,
+            &self.watches,
             out,
         ))
     }

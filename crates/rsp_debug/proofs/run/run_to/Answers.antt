@@ -2,7 +2,7 @@ use Rattle.std.proofs.Common.{◌≡◌, ◌∙◌, ◌+◌, ◌-◌, ap, refl, 
 use Rattle.std.specs.Prelude.{is_some, unwrap_or}
 use Rattle.rsp_machine.specs.State.{State}
 use Rattle.rsp_debug.specs.History.{states_before, past_of}
-use Rattle.rsp_debug.specs.Runs.{snapshots_in, stuck_of}
+use Rattle.rsp_debug.specs.Runs.{stuck_of}
 use Rattle.rsp_debug.specs.Snapshots.{watches_of}
 use Rattle.rsp_debug.specs.Moves.{steps_to_move}
 use Rattle.rsp_debug.specs.Stops.{IsStop}
@@ -19,7 +19,7 @@ loop-left-init g c =
     let x = c.args.conditions.now in let none : c.args.n - c.args.n ≡ 0 = omega arith in
     record {
       within = omega arith;
-      come = come-none x.breaks.now (snapshots_in x.snapshots.now) x.moves c.args.n s (c.args.n - c.args.n) _ none c.requires.same c.limit-found.ensures;
+      come = come-none x.breaks.now x.snapshots.now x.moves c.args.n s (c.args.n - c.args.n) _ none c.requires.same c.limit-found.ensures;
       past = sym (ap (λ i. past_of i depth s past) none ∙ past-none depth s past);
       depth = refl;
     }
@@ -31,7 +31,7 @@ loop-left-preserved g c =
     let count : n - (l.left - j) ≡ n - l.left + j = omega (arith, i.within, e.within) in
     record {
       within = omega (arith, i.within);
-      come = come-more x.breaks.now (snapshots_in x.snapshots.now) x.moves n s (g.U.Until.ends c.args.until.now) (n - l.left) j (n - (l.left - j)) l.machine t l.found c.found-found.result c.requires.asks
+      come = come-more x.breaks.now x.snapshots.now x.moves n s (g.U.Until.ends c.args.until.now) (n - l.left) j (n - (l.left - j)) l.machine t l.found c.found-found.result c.requires.asks
           i.come (no-one l.found c.is_none.result c.is_none.ensures c.if-is_none.true) e.after e.asked count (omega arith) (omega (arith, c.if-steps-eq0.false)) c.found-found.ensures;
       past = past-then (n - l.left) j (n - (l.left - j)) c.args.history.now.depth l.history.depth s l.machine _ _ _ e.past i.depth i.past i.come.after.reached count;
       depth = e.depth ∙ i.depth;
@@ -53,10 +53,10 @@ returns-clause-stop g c =
           let still = after-zero w.stretch-steps.result l.machine w.stretch-steps.new.machine w.if-steps-eq0.true w.stretch-steps.ensures.after in
           never (stuck_of l.machine) (k ≡ n) (ap (λ (y : State). is_some (stuck_of y)) (sym still) ∙ stuck-is w.stretch-steps.new.machine (w.stretch-steps.ensures.stuck w.if-steps-eq0.true)) free
     ] in
-    let stop : IsStop x.breaks.now (watches_of (snapshots_in x.snapshots.now)) (steps_to_move x.moves n s) s l.machine c.stopped_here.result =
-    stop-come x.breaks.now (snapshots_in x.snapshots.now) x.moves n s k l.machine l.found i.come all _ c.stopped_here.result
+    let stop : IsStop x.breaks.now (watches_of x.snapshots.now) (steps_to_move x.moves n s) s l.machine c.stopped_here.result =
+    stop-come x.breaks.now x.snapshots.now x.moves n s k l.machine l.found i.come all _ c.stopped_here.result
     (c.stopped_here.ensures ∙ ap (λ (y : State). let made : Stop = record { reason = unwrap_or (stuck_of y) c.unwrap_or.result; steps = k; pc = y.pc } in made) same) c.unwrap_or.ensures in
-    subst (λ (y : State). IsStop x.breaks.now (watches_of (snapshots_in x.snapshots.now)) (steps_to_move x.moves n s) s y c.stopped_here.result) (sym same) stop
+    subst (λ (y : State). IsStop x.breaks.now (watches_of x.snapshots.now) (steps_to_move x.moves n s) s y c.stopped_here.result) (sym same) stop
 
 pub returns-clause-past : goal.returns-clause-past
 returns-clause-past g c =

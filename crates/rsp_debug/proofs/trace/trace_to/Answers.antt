@@ -3,7 +3,7 @@ use Rattle.std.specs.Prelude.{is_some, unwrap_or}
 use Rattle.rsp_memory.specs.Memory.{word_at}
 use Rattle.rsp_machine.specs.State.{State}
 use Rattle.rsp_debug.specs.History.{Records, states_before, past_of}
-use Rattle.rsp_debug.specs.Runs.{snapshots_in, stuck_of}
+use Rattle.rsp_debug.specs.Runs.{stuck_of}
 use Rattle.rsp_debug.specs.Snapshots.{watches_of}
 use Rattle.rsp_debug.specs.Moves.{steps_to_move}
 use Rattle.rsp_debug.specs.Stops.{IsStop}
@@ -12,7 +12,7 @@ use Rattle.rsp_debug.specs.declared.stop.Stop.{Stop}
 use Rattle.rsp_debug.proofs.Afters.{never}
 use Rattle.rsp_debug.proofs.Going.{past-none, stuck-is, no-one, some-one, after-zero, past-then, states-as}
 use Rattle.rsp_debug.proofs.Coming.{come-none, come-more, stop-come}
-use Rattle.rsp_debug.proofs.Ends.{unmoved-start, unmoved-found}
+use Rattle.rsp_debug.proofs.Ends.{unmoved-stop, unmoved-start, unmoved-found}
 use Rattle.rsp_debug.proofs.Traces.{trace-none, trace-more, rest-more, entry-is}
 use Rattle.rsp_debug.proofs.trace.trace_to.Goals.{then-loop-made-test+else-is_none, else-loop-made-test, then-loop-made-test+then-is_none+then-stretch-eq0}
 use Rattle.rsp_debug.proofs.trace.trace_to.Goals as goal
@@ -24,7 +24,7 @@ loop-made-init g c =
     record {
       count = refl;
       within = omega arith;
-      come = come-none x.breaks.now (snapshots_in x.snapshots.now) x.moves (length c.args.out.now) s 0 _ refl c.requires.same (unmoved-start x.moves s c.requires.unmoved);
+      come = come-none x.breaks.now x.snapshots.now x.moves (length c.args.out.now) s 0 _ refl c.requires.same (unmoved-start x.moves s c.requires.unmoved);
       past = sym (past-none depth s past);
       depth = refl;
       entries = trace-none s c.args.out.now;
@@ -41,9 +41,9 @@ loop-made-preserved g c =
     record {
       count = i.count;
       within = omega (arith, c.loop-made-test.true);
-      come = come-more x.breaks.now (snapshots_in x.snapshots.now) x.moves n s (λ pc word stored. true) k j (k + 1) l.machine t l.found c.hit-found.result (λ pc word stored no. cc)
+      come = come-more x.breaks.now x.snapshots.now x.moves n s (λ pc word stored. true) k j (k + 1) l.machine t l.found c.hit-found.result (λ pc word stored no. cc)
           i.come (no-one l.found c.is_none.result c.is_none.ensures c.if-is_none.true) e.after (λ q h. absurd (omega (arith, h, one))) count (omega (arith, c.loop-made-test.true)) (omega (arith, one))
-          (unmoved-found x.breaks.now (snapshots_in x.snapshots.now) x.moves t c.hit-found.result c.requires.unmoved c.hit-found.ensures);
+          (unmoved-found x.breaks.now x.snapshots.now x.moves t c.hit-found.result c.requires.unmoved c.hit-found.ensures);
       past = past-then k j (k + 1) c.args.history.now.depth l.history.depth s l.machine _ _ _ e.past i.depth i.past i.come.after.reached count;
       depth = e.depth ∙ i.depth;
       entries = trace-more k s l.out c.entry_of.result (omega (arith, c.loop-made-test.true, l.auto.out)) i.entries
@@ -69,10 +69,10 @@ returns-clause-stop g c =
           let still = after-zero w.stretch.result l.machine w.stretch.new.machine w.if-stretch-eq0.true w.stretch.ensures.after in
           never (stuck_of l.machine) (k ≡ n) (ap (λ (y : State). is_some (stuck_of y)) (sym still) ∙ stuck-is w.stretch.new.machine (w.stretch.ensures.stuck w.if-stretch-eq0.true)) free
     ] in
-    let stop : IsStop x.breaks.now (watches_of (snapshots_in x.snapshots.now)) (steps_to_move x.moves n s) s l.machine c.stopped_here.result =
-    stop-come x.breaks.now (snapshots_in x.snapshots.now) x.moves n s k l.machine l.found i.come all _ c.stopped_here.result
+    let stop : IsStop x.breaks.now (watches_of x.snapshots.now) (steps_to_move x.moves n s) s l.machine c.stopped_here.result =
+    stop-come x.breaks.now x.snapshots.now x.moves n s k l.machine l.found i.come all _ c.stopped_here.result
     (c.stopped_here.ensures ∙ ap (λ (y : State). let made : Stop = record { reason = unwrap_or (stuck_of y) c.unwrap_or.result; steps = k; pc = y.pc } in made) same) c.unwrap_or.ensures in
-    subst (λ (y : State). IsStop x.breaks.now (watches_of (snapshots_in x.snapshots.now)) (steps_to_move x.moves n s) s y c.stopped_here.result) (sym same) stop
+    subst (λ (y : State). IsStop x.breaks.now (watches_of x.snapshots.now) n s y c.stopped_here.result) (sym same) (unmoved-stop _ _ _ _ _ _ _ c.requires.unmoved stop)
 
 pub returns-clause-past : goal.returns-clause-past
 returns-clause-past g c =

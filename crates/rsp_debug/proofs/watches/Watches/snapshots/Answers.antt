@@ -1,22 +1,12 @@
-use Rattle.std.proofs.Common.{◌∙◌, refl, ap, sym, map, Option, List, []}
-use Rattle.rsp_debug.specs.declared.snapshot.Snapshot.{Snapshot}
-use Rattle.rsp_debug.specs.Snapshots.{differs, snapshot_of, watches_of}
-use Rattle.rsp_debug.specs.Stops.{changed}
-use Rattle.rsp_debug.proofs.Watched.{differs-empty, differs-fresh, watches-of, none-changed, changed-none}
+use Rattle.std.proofs.Common.{◌≡◌, ◌∙◌, length, ap, rules, None, map}
+use Rattle.rsp_debug.specs.Snapshots.{snapshot_of}
+use Rattle.rsp_debug.proofs.Watched.{eight-mapped}
 use Rattle.rsp_debug.proofs.watches.Watches.snapshots.Goals as goal
 
-pub returns-then-is_empty-clause-same : goal.returns-then-is_empty-clause-same
-returns-then-is_empty-clause-same c = differs-empty [] c.args.dmem.now refl
-
-pub returns-then-is_empty-clause-watches : goal.returns-then-is_empty-clause-watches
-returns-then-is_empty-clause-watches c = λ before dmem. none-changed before dmem ∙ sym (changed-none c.args.self.now before dmem (c.is_empty.ensures.0 c.if-is_empty.true))
-
-pub returns-clause-same : goal.returns-clause-same
-returns-clause-same c =
-    ap (λ (snapshots : List (Option Snapshot)). differs snapshots c.args.dmem.now) c.all_snapshots.ensures
-    ∙ differs-fresh c.args.self.now c.args.dmem.now
-
-pub returns-clause-watches : goal.returns-clause-watches
-returns-clause-watches c = λ before dmem.
-    ap (λ (snapshots : List (Option Snapshot)). changed (watches_of snapshots) before dmem) c.all_snapshots.ensures
-    ∙ ap (λ w. changed w before dmem) (watches-of c.args.self.now c.args.dmem.now)
+pub returns : goal.returns
+returns c =
+    let room : length c.self.inside.numbers ≡ 8 = search rules in
+    let all = eight-mapped (snapshot_of c.args.dmem.now) c.self.inside.numbers None room ∙ ap (map (snapshot_of c.args.dmem.now)) c.self.view_is in
+    let e1 = c.snapshot_of.ensures in let e2 = c.snapshot_of-2.ensures in let e3 = c.snapshot_of-3.ensures in let e4 = c.snapshot_of-4.ensures in
+    let e5 = c.snapshot_of-5.ensures in let e6 = c.snapshot_of-6.ensures in let e7 = c.snapshot_of-7.ensures in let e8 = c.snapshot_of-8.ensures in
+    rw (e1, e2, e3, e4, e5, e6, e7, e8) all
