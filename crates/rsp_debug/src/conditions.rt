@@ -46,6 +46,7 @@ impl<'a> StopConditions<'a> {
     }
 
     /// The reason that ends a run after a step. Before a move it is the limit.
+    #[inline(always)]
     pub(crate) fn found<A: Acc>(&self, machine: &Machine<A>) -> Option<Reason>
         ensures { result ≡ found_in self.now.breaks.now self.now.snapshots.now self.now.moves machine.now }
     {

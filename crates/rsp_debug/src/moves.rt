@@ -109,6 +109,7 @@ impl Moves {
     }
 
     /// Whether a word is one of them, by its instruction.
+    #[cold]
     #[inline(never)]
     #[tactic(auto, using(crate::proofs::Moving::moving))]
     fn has_move(self, word: u32) -> bool
@@ -127,7 +128,7 @@ impl Moves {
     pub(crate) fn are_next<A: Acc>(self, machine: &Machine<A>) -> bool
         ensures { result ≡ is_at_move self machine.now }
     {
-        !machine.sp_regs().halted() && self.has_word(machine.imem().word(u32::from(machine.pc())))
+        !machine.sp_regs().halted() && self.has_word(machine.imem().aligned_word(usize::from(machine.pc())))
     }
 
     /// The limit, if one of them is next.
@@ -148,7 +149,7 @@ impl Moves {
         if !matches!(stop.reason, Reason::Limit) || !self.are_next(machine) {
             return MoveEnd::Stop(stop);
         }
-        match move_of(machine.imem().word(u32::from(machine.pc()))) {
+        match move_of(machine.imem().aligned_word(usize::from(machine.pc()))) {
             Some(Inst::MoveSp { row, rt, register }) => MoveEnd::Move {
                 steps: stop.steps,
                 pc: stop.pc,

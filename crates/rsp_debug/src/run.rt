@@ -89,7 +89,8 @@ fn stuck<A: Acc>(machine: &Machine<A>) -> Option<Reason>
     None
 }
 
-/// A stop at the machine's pc: it can't go on, or there is another reason.
+/// A stop at the machine's pc: it can't make a step, or there is another reason.
+#[inline(always)]
 pub(crate) fn stopped_here<A: Acc>(machine: &Machine<A>, otherwise: Reason, steps: u32) -> Stop
     ensures { result ≡ record { reason = unwrap_or (stuck_of machine.now) otherwise; steps = steps; pc = machine.now.pc } }
 {
