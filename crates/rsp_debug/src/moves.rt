@@ -128,7 +128,9 @@ impl Moves {
     pub(crate) fn are_next<A: Acc>(self, machine: &Machine<A>) -> bool
         ensures { result ≡ is_at_move self machine.now }
     {
-        !machine.sp_regs().halted() && self.has_word(machine.imem().aligned_word(usize::from(machine.pc())))
+        !self.is_empty()
+            && !machine.sp_regs().halted()
+            && self.has_word(machine.imem().aligned_word(usize::from(machine.pc())))
     }
 
     /// The limit, if one of them is next.
