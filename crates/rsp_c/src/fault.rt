@@ -20,7 +20,7 @@ const INTERRUPT: u32 = 5;
 /// The number of `sp[0]`; those of the others follow.
 const SP: u32 = 16;
 
-/// Whether a number is a multiple of a step, below a limit.
+/// Whether a number is a multiple of `step`, below `limit`.
 fn is_whole(step: u32, limit: u32, number: u32) -> bool
     requires { 0 < step }
     ensures { result ≡ is_whole step limit number }

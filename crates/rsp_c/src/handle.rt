@@ -1,4 +1,5 @@
-// What C holds of a session: a pointer, or null.
+// What C holds of a machine: a pointer, or null.
+
 ghost use Rattle.std.specs.Prelude.{◌≡◌, Option, None, Some, MatchOption};
 ghost use Rattle.rsp_c.specs.Holding.{holding, Opened};
 
@@ -7,6 +8,7 @@ use crate::session::Session;
 use std::alloc::Global;
 use std::marker::Model;
 
+/// Owns a session, or nothing. In C it is `rsp`, a struct of one pointer.
 #[repr(C)]
 pub struct Handle {
     at: *mut u8,
@@ -18,10 +20,11 @@ impl Model for Handle {
     ghost also_owns = { λ h. holding h.alloc h.at h.session };
 }
 
-// It leads to a block that it alone owns, and a session is bound to no thread.
+// The pointer is to a block that the handle alone owns, and nothing in a session is bound to a thread.
 unsafe impl Send for Handle {}
 
 impl Handle {
+    /// A handle that owns nothing.
     pub fn none(alloc: Global) -> Handle
         ensures { result.session ≡ None }
     {
@@ -31,6 +34,7 @@ impl Handle {
         }
     }
 
+    /// The handle of a session.
     pub fn of(parts: Parts<Session, Global>) -> Handle
         ensures { result.session ≡ Some parts.value }
     {
@@ -41,6 +45,7 @@ impl Handle {
         }
     }
 
+    /// The session of the handle, if it owns one.
     pub fn into_parts(self) -> Option<Parts<Session, Global>>
         ensures { MatchOption result (self.session ≡ None) (λ p. self.session ≡ Some p.value) }
     {
@@ -64,7 +69,7 @@ impl Drop for Handle {
 }
 
 impl Handle {
-    /// The session, which the handle holds no more.
+    /// Takes the session out of the handle, if it owns one.
     pub fn take(&mut self, alloc: Global) -> Option<Box<Session, Global>>
         ensures was { MatchOption result (self.old.session ≡ None) (λ b. self.old.session ≡ Some b.value) }
         ensures now { self.new.session ≡ None }
@@ -76,7 +81,7 @@ impl Handle {
         }
     }
 
-    /// Holds a session. What it held is freed.
+    /// Puts a session into the handle. The one that it owned is freed.
     pub fn put(&mut self, session: Box<Session, Global>)
         ensures { self.new.session ≡ Some session.value }
     {

@@ -1,4 +1,4 @@
-// Parts of the machine. These calls change nothing.
+// Queries of the machine's state, which change nothing.
 
 ghost use Rattle.std.specs.Prelude.{◌≡◌, ℕ, ◌<◌, ◌↔◌, ◌⊎◌, IfSome, IfNone, slice_index};
 ghost use Rattle.rsp_scalar.specs.Registers.{register};
@@ -18,6 +18,7 @@ pub extern "C" fn rsp_reg(handle: &mut Handle, alloc: Global, n: u32, out: &mut 
     ensures range { IfSome handle.old.session (λ d. (result ≡ OK) ↔ (n < 32)) }
     ensures answer { IfSome handle.old.session (λ d. (result ≡ OK) ⊎ (result ≡ OUT_OF_RANGE)) }
     ensures value { result ≡ OK → IfSome handle.old.session (λ d. out.new ≡ register d.state.registers n) }
+    ensures refused { (result ≡ OK → ⊥) → out.new ≡ out.old }
     ensures same { handle.new.session ≡ handle.old.session }
 {
     match handle.take(alloc) {
@@ -42,6 +43,7 @@ pub extern "C" fn rsp_regs(handle: &mut Handle, alloc: Global, out: &mut RspScal
     ensures pc { IfSome handle.old.session (λ d. out.new.pc ≡ d.state.pc) }
     ensures npc { IfSome handle.old.session (λ d. out.new.npc ≡ d.state.npc) }
     ensures words { IfSome handle.old.session (λ d. (n : ℕ) → n < 32 → slice_index out.new.words n ≡ register d.state.registers n) }
+    ensures refused { (result ≡ OK → ⊥) → out.new ≡ out.old }
     ensures same { handle.new.session ≡ handle.old.session }
 {
     match handle.take(alloc) {
@@ -67,6 +69,7 @@ pub extern "C" fn rsp_vreg(handle: &mut Handle, alloc: Global, n: u32, out: &mut
     ensures range { IfSome handle.old.session (λ d. (result ≡ OK) ↔ (n < 32)) }
     ensures answer { IfSome handle.old.session (λ d. (result ≡ OK) ⊎ (result ≡ OUT_OF_RANGE)) }
     ensures value { result ≡ OK → IfSome handle.old.session (λ d. out.new.lanes ≡ vector d.state.vectors n) }
+    ensures refused { (result ≡ OK → ⊥) → out.new ≡ out.old }
     ensures same { handle.new.session ≡ handle.old.session }
 {
     match handle.take(alloc) {
@@ -91,6 +94,7 @@ pub extern "C" fn rsp_acc(handle: &mut Handle, alloc: Global, out: &mut RspAccum
     ensures none { IfNone handle.old.session (result ≡ NO_MACHINE) }
     ensures ok { IfSome handle.old.session (λ d. result ≡ OK) }
     ensures value { IfSome handle.old.session (λ d. out.new ≡ seen_accumulators d.state.accumulators) }
+    ensures refused { (result ≡ OK → ⊥) → out.new ≡ out.old }
     ensures same { handle.new.session ≡ handle.old.session }
 {
     match handle.take(alloc) {
@@ -109,6 +113,7 @@ pub extern "C" fn rsp_flags(handle: &mut Handle, alloc: Global, out: &mut RspFla
     ensures none { IfNone handle.old.session (result ≡ NO_MACHINE) }
     ensures ok { IfSome handle.old.session (λ d. result ≡ OK) }
     ensures value { IfSome handle.old.session (λ d. out.new ≡ seen_flags d.state.flags) }
+    ensures refused { (result ≡ OK → ⊥) → out.new ≡ out.old }
     ensures same { handle.new.session ≡ handle.old.session }
 {
     match handle.take(alloc) {
@@ -127,6 +132,7 @@ pub extern "C" fn rsp_divider(handle: &mut Handle, alloc: Global, out: &mut RspD
     ensures none { IfNone handle.old.session (result ≡ NO_MACHINE) }
     ensures ok { IfSome handle.old.session (λ d. result ≡ OK) }
     ensures value { IfSome handle.old.session (λ d. out.new ≡ seen_divider d.state.divider) }
+    ensures refused { (result ≡ OK → ⊥) → out.new ≡ out.old }
     ensures same { handle.new.session ≡ handle.old.session }
 {
     match handle.take(alloc) {

@@ -1,8 +1,10 @@
+// What a handle owns.
+
 use rsp_acc::PlaneAcc;
 use rsp_debug::Debugger;
 use std::marker::Model;
 
-/// What a handle leads to: a debugger with its machine. Contracts see it as the debugger.
+/// A debugger with its machine. Contracts see the debugger.
 #[derive(Drop)]
 pub struct Session {
     pub debugger: Debugger<PlaneAcc>,

@@ -1,4 +1,4 @@
-// What crosses to C by a pointer.
+// The structs of `c/rsp.h`.
 
 /// Where a run stopped.
 #[repr(C)]
@@ -96,7 +96,7 @@ pub struct RspDivideState {
 #[repr(C)]
 #[derive(Clone, Copy, Drop)]
 pub struct RspState {
-    /// The 32 scalar registers, of which number 0 is 0.
+    /// The 32 scalar registers, number 0 is 0.
     pub words: [u32; 32],
     /// The lanes of the 32 vector registers.
     pub vectors: [[u16; 8]; 32],

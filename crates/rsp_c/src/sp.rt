@@ -21,6 +21,7 @@ pub extern "C" fn rsp_read(handle: &mut Handle, alloc: Global, n: u32, out: &mut
     ensures none { IfNone handle.old.session (result ≡ NO_MACHINE) }
     ensures ok { IfSome handle.old.session (λ d. result ≡ OK) }
     ensures value { IfSome handle.old.session (λ d. out.new ≡ peeked n d.state.sp) }
+    ensures refused { (result ≡ OK → ⊥) → out.new ≡ out.old }
     ensures next { handle.new.session ≡ option_map (read_from n) handle.old.session }
 {
     match handle.take(alloc) {
@@ -39,6 +40,7 @@ pub extern "C" fn rsp_peek(handle: &mut Handle, alloc: Global, n: u32, out: &mut
     ensures none { IfNone handle.old.session (result ≡ NO_MACHINE) }
     ensures ok { IfSome handle.old.session (λ d. result ≡ OK) }
     ensures value { IfSome handle.old.session (λ d. out.new ≡ peeked n d.state.sp) }
+    ensures refused { (result ≡ OK → ⊥) → out.new ≡ out.old }
     ensures same { handle.new.session ≡ handle.old.session }
 {
     match handle.take(alloc) {
@@ -74,6 +76,7 @@ pub extern "C" fn rsp_sp(handle: &mut Handle, alloc: Global, out: &mut RspSpWord
     ensures none { IfNone handle.old.session (result ≡ NO_MACHINE) }
     ensures ok { IfSome handle.old.session (λ d. result ≡ OK) }
     ensures value { IfSome handle.old.session (λ d. out.new ≡ seen_sp d.state.sp) }
+    ensures refused { (result ≡ OK → ⊥) → out.new ≡ out.old }
     ensures same { handle.new.session ≡ handle.old.session }
 {
     match handle.take(alloc) {

@@ -19,6 +19,7 @@ pub extern "C" fn rsp_get(handle: &mut Handle, alloc: Global, out: &mut RspState
     ensures none { IfNone handle.old.session (result ≡ NO_MACHINE) }
     ensures ok { IfSome handle.old.session (λ d. result ≡ OK) }
     ensures value { IfSome handle.old.session (λ d. out.new ≡ seen_state (registers_of d.state) d.state.sp) }
+    ensures refused { (result ≡ OK → ⊥) → out.new ≡ out.old }
     ensures same { handle.new.session ≡ handle.old.session }
 {
     match handle.take(alloc) {

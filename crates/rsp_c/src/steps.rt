@@ -56,8 +56,8 @@ pub extern "C" fn rsp_run(handle: &mut Handle, alloc: Global, n: u32, out: &mut 
     }
 }
 
-/// Goes past the MFC0 or MTC0 at pc without its meaning, and empties the history: pc and npc go on, and the register of an MFC0 becomes
-/// the value. HALTED if the machine is halted, OUT_OF_RANGE if another word is at pc.
+/// Skips the MFC0 or MTC0 at pc, and empties the history: pc and npc advance, and the register of an MFC0 becomes the value. SP registers
+/// stay, but single step halts as after any instruction. HALTED if the machine is halted, OUT_OF_RANGE if another word is at pc.
 #[unsafe(no_mangle)]
 pub extern "C" fn rsp_pass(handle: &mut Handle, alloc: Global, value: u32) -> u32
     ensures none { IfNone handle.old.session (result ≡ NO_MACHINE) }

@@ -78,6 +78,7 @@ pub extern "C" fn rsp_add_watch(
     ensures answer { IfSome handle.old.session (λ d. result ≡ watch_status (number_for address len d.watches)) }
     ensures number { result ≡ OK → IfSome handle.old.session (λ d. number_for address len d.watches ≡ Ok number.new) }
     ensures next { result ≡ OK → handle.new.session ≡ option_map (watching number.new address len) handle.old.session }
+    ensures refused { (result ≡ OK → ⊥) → number.new ≡ number.old }
     ensures same { (result ≡ OK → ⊥) → handle.new.session ≡ handle.old.session }
 {
     match handle.take(alloc) {

@@ -46,6 +46,7 @@ pub extern "C" fn rsp_assemble(
     ensures memory { result ≡ NO_MEMORY → out.new ≡ assembled_no_memory out.new.line }
     ensures hides { result ≡ NO_MEMORY → HidesNoFault origin (lines text.now) out.new.line }
     ensures refused { (result ≡ OK → ⊥) → words.new ≡ words.old }
+    ensures unreported { result ≡ OUT_OF_RANGE → out.new ≡ out.old }
     ensures answer { (result ≡ OK) ⊎ (result ≡ NO_MEMORY) ⊎ (result ≡ OUT_OF_RANGE) ⊎ (result ≡ NO_MEANING) ⊎ (result ≡ NO_ROOM) }
 {
     if origin > 4096 || origin % 4 != 0 {
@@ -120,6 +121,7 @@ pub extern "C" fn rsp_text(word: u32, place: u32, out: &mut RspLine) -> u32
     ensures answer { result ≡ place_status place }
     ensures value { result ≡ OK → out.new ≡ seen_line word place }
     ensures ended { result ≡ OK → IsEnded out.new }
+    ensures refused { (result ≡ OK → ⊥) → out.new ≡ out.old }
 {
     if !is_place(place) {
         return OUT_OF_RANGE;

@@ -73,8 +73,6 @@ unwatched-stop b w n s t stop is none = record {
 pub snapshots-stop : (b : List Bool) (w : List (Option Watch)) (n : ℕ) (s t : State) (stop : Stop) (dmem : List ℕ) → IsStop b (watches_of (map (snapshot_of dmem) w)) n s t stop → IsStop b w n s t stop
 snapshots-stop b w n s t stop dmem is = subst (λ (x : List (Option Watch)). IsStop b x n s t stop) (watches-of w dmem) is
 
-pub ruleset frees = (unwatched-stop)
-
 -- if no move is asked for, none comes
 zero_bit : (b : Bool) (r : ℕ) → (bit_at (cond b 0 0) r == 1) ≡ false
 zero_bit true r = ap (λ x. x == 1) (bit_at-zero r)

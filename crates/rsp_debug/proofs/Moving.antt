@@ -1,14 +1,20 @@
 -- Which words are moves between the scalar registers and the SP registers.
-use Rattle.std.proofs.Common.{◌≡◌, ℕ, ◌<◌, ◌≤◌, ◌-◌, ◌*◌, ◌^◌, ◌/◌, ◌%◌, List, [], ◌∷◌, Bool, true, false, refl, sym, ap, ◌∙◌, arith, cond, bit_and, inl, inr, Option, Some, None}
-use Rattle.std.specs.Prelude.{◌==◌, ◌&&◌, ◌||◌, ◌⊎◌, not, find, option_map}
+use Rattle.std.proofs.Common.{◌≡◌, ℕ, subst, ◌<◌, ◌≤◌, ◌^◌, List, [], ◌∷◌, Bool, true, false, refl, sym, ap, ◌∙◌, arith, bit_and, inl, inr, Option, Some, None}
+use Rattle.std.specs.Prelude.{◌==◌, ◌&&◌, ◌||◌, ◌⊎◌, not, find, option_map, IfSome}
 use Rattle.std.specs.List.{list_all}
 use Rattle.std.proofs.lemmas.Nat.Bits.{and_high}
 use Rattle.std.proofs.lemmas.Bool.{and_parts, cases_Bool, cond-true, cond-false, eqb-true}
 use Rattle.rsp_decode.specs.declared.inst.Inst.{Inst}
 use Rattle.rsp_decode.specs.declared.inst.Inst.TheVariants.{MoveSp}
-use Rattle.rsp_decode.specs.Table.{Row, rows, row_of, fits, meaning_of, inst_of}
+use Rattle.rsp_decode.specs.Table.{Row, rows, row_of, fits, meaning_of, inst_of, IsInstruction}
+use Rattle.rsp_decode.specs.Visit.{visited}
+use Rattle.rsp_decode.proofs.RowsKept.{decoded_instruction}
+use Rattle.rsp_machine.specs.State.{State}
+use Rattle.rsp_debug.specs.declared.stop.Stop.{Stop}
 use Rattle.rsp_debug.specs.declared.moves.Moves.{Moves}
-use Rattle.rsp_debug.specs.Moves.{is_asked}
+use Rattle.rsp_debug.specs.declared.moves.KeptMove.{KeptMove}
+use Rattle.rsp_debug.specs.Moves.{is_asked, move_by}
+use Rattle.rsp_debug.specs.Runs.{move_of}
 
 abbrev is_move : Inst → Bool
 is_move (MoveSp row rt r) = true
@@ -70,4 +76,27 @@ below-moves moves w small h = sym (other-word moves w small (λ p. absurd (omega
 pub above-moves : (moves : Moves) (w : ℕ) → w < 2 ^ 32 → 0x40a00000 ≤ w → false ≡ is_asked moves (inst_of w)
 above-moves moves w small h = sym (other-word moves w small (λ p. absurd (omega (arith, h, p.1))))
 
-pub ruleset moving = (below-moves, above-moves)
+-- what is kept of a word
+pub asked-of : (moves : Moves) (o : Option Inst) → is_asked moves (move_of o) ≡ is_asked moves o
+asked-of moves None = refl
+asked-of moves (Some (MoveSp row rt r)) = refl
+asked-of moves (Some _) = refl
+
+pub move-by-of : (o : Option Inst) (stop : Stop) (s : State) → move_by (move_of o) stop s ≡ move_by o stop s
+move-by-of None stop s = refl
+move-by-of (Some (MoveSp row rt r)) stop s = refl
+move-by-of (Some _) stop s = refl
+
+pub kept-of : (o : Option Inst) (k : KeptMove) → k ≡ visited (λ i _. record { inst = move_of (Some i) }) o (record { inst = None }) → k.inst ≡ move_of o
+kept-of None k e = ap (λ (x : KeptMove). x.inst) e
+kept-of (Some i) k e = ap (λ (x : KeptMove). x.inst) e
+
+fits-move : (o : Option Inst) → IfSome o IsInstruction → IfSome (move_of o) IsInstruction
+fits-move None h = tt
+fits-move (Some (MoveSp row rt r)) h = h
+fits-move (Some _) h = tt
+
+pub fits-of : (w : ℕ) (m : Option Inst) → m ≡ move_of (inst_of w) → IfSome m IsInstruction
+fits-of w m e = let P : Option Inst → Type 0 = λ o. IfSome o IsInstruction in subst P (sym e) (fits-move (inst_of w) (decoded_instruction w (inst_of w) refl))
+
+pub ruleset moving = (below-moves, above-moves, asked-of, move-by-of)

@@ -4,11 +4,11 @@ use Rattle.rsp_debug.specs.Stops.{is_break}
 use Rattle.rsp_debug.specs.declared.breaks.BreakFault.{BreakFault}
 use Rattle.rsp_debug.specs.declared.breaks.BreakFault.TheVariants.{BreakTwice, BreakFull}
 
--- The places with a breakpoint, as the truth values of the 1024 places in their order. Of none:
+-- Breakpoints are a list of 1024 truth values, one for each word of IMEM in the order of addresses. Without breakpoints:
 unfoldable pub no_breaks : List Bool
 no_breaks = replicate 1024 false
 
--- how many places have one
+-- how many there are
 abbrev pub break_count : List Bool → ℕ
 break_count breaks = count_by (λ has. has) breaks
 
@@ -18,7 +18,7 @@ with_break place breaks = slice_set breaks (place / 4) true
 abbrev pub without_break : ℕ → List Bool → List Bool
 without_break place breaks = slice_set breaks (place / 4) false
 
--- why a place can't get a breakpoint
+-- why an address can't get a breakpoint
 abbrev pub break_fault : ℕ → List Bool → Option BreakFault
 break_fault place breaks =
     if is_break breaks place then Some BreakTwice

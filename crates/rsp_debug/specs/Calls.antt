@@ -1,4 +1,4 @@
--- What calls of a debugger come to, one after the other, and the laws of runs and of ways back.
+-- What calls of a debugger do, one after the other, and the laws of runs and of steps back.
 use Rattle.std.specs.Prelude.{◌≡◌, ◌<◌, ◌≤◌, ◌+◌, ◌-◌, ℕ, List, [], ◌∷◌, length, Bool, ◌&&◌, nat_le, Option, if◌then◌else◌}
 use Rattle.rsp_machine.specs.State.{State}
 use Rattle.rsp_machine.specs.Step.{step_of}
@@ -8,7 +8,7 @@ use Rattle.rsp_debug.specs.declared.stop.Watch.{Watch}
 use Rattle.rsp_debug.specs.Stops.{run_steps, stop_of, IsStop}
 use Rattle.rsp_debug.specs.Debugging.{Debugging, debugging_of, stepped, steps_made, gone_back}
 
--- n steps from a state all answer Done, and lead to another
+-- n steps from a state all return Done, and lead to another
 pub record IsAfter (n : ℕ) (s t : State) : Type 0 where
   pub done : (k : ℕ) → k < n → (step_of (steps_of k s)).0 ≡ Done
   pub reached : t ≡ steps_of n s
@@ -18,15 +18,15 @@ pub data Going : Type 0 where
   StepCall : Going
   RunCall : List Bool → List (Option Watch) → ℕ → Going
 
--- whether a run or a way back may be asked for so many steps
+-- whether a run or a step back takes this count
 abbrev pub is_count : ℕ → Bool
 is_count n = nat_le 1 n && nat_le n 1000000
 
--- how many steps a run makes; none where it is refused
+-- how many steps a run makes; none if it is refused
 abbrev pub made_steps : List Bool → List (Option Watch) → ℕ → State → ℕ
 made_steps breaks watches n s = if is_count n then run_steps breaks watches n s else 0
 
--- how many steps of such a call answer Done
+-- how many steps of such a call return Done
 unfoldable pub call_steps : Going → State → ℕ
 call_steps StepCall s = done_steps (step_of s).0
 call_steps (RunCall breaks watches n) s = made_steps breaks watches n s
@@ -36,7 +36,7 @@ unfoldable pub called : Going → State → State
 called StepCall s = (step_of s).1
 called (RunCall breaks watches n) s = steps_of (made_steps breaks watches n s) s
 
--- how many steps of a list of such calls answer Done in all
+-- how many steps of a list of such calls return Done in all
 abbrev pub all_steps : List Going → State → ℕ
 all_steps [] s = 0
 all_steps (call ∷ calls) s = call_steps call s + all_steps calls (called call s)
@@ -46,7 +46,7 @@ abbrev pub all_called : List Going → State → State
 all_called [] s = s
 all_called (call ∷ calls) s = all_called calls (called call s)
 
--- However steps and runs are cut, the state is that after as many plain steps as answered Done.
+-- However steps and runs are cut, the state is that after as many plain steps as returned Done.
 abbrev pub RunsAreSteps : Type 0
 RunsAreSteps = (calls : List Going) (s : State) → IsAfter (all_steps calls s) s (all_called calls s)
 
@@ -55,12 +55,12 @@ abbrev pub RunsStopFirst : Type 0
 RunsStopFirst = (breaks : List Bool) (watches : List (Option Watch)) (n : ℕ) (s : State)
     → IsStop breaks watches n s (steps_of (run_steps breaks watches n s) s) (stop_of breaks watches n s)
 
--- such a call, or a way back by n states
+-- such a call, or a step back by n states
 pub data Call : Type 0 where
   GoOn : Going → Call
   GoBack : ℕ → Call
 
--- a debugger, how many of its steps answered Done, and how many states its accepted ways back took
+-- a debugger, how many of its steps returned Done, and how many of them were undone
 pub record Tally : Type 0 where
   pub debugging : Debugging
   pub done : ℕ
@@ -71,7 +71,7 @@ unfoldable pub went : Going → Debugging → Debugging
 went StepCall d = stepped d
 went (RunCall breaks watches n) d = steps_made (made_steps breaks watches n d.state) d
 
--- whether a way back is accepted
+-- whether a step back is accepted
 abbrev pub is_accepted : ℕ → Debugging → Bool
 is_accepted n d = is_count n && nat_le n (length d.past)
 
@@ -83,7 +83,7 @@ abbrev pub after_calls : List Call → Tally → Tally
 after_calls [] t = t
 after_calls (call ∷ calls) t = after_calls calls (after_call call t)
 
--- From any state with an empty past, after any calls, the state is that after the steps that answered Done, less those taken back.
+-- From any state with an empty history, after any calls, the state is that after the steps that returned Done, less those undone.
 abbrev pub Undoes : Type 0
 Undoes = (s : State) (depth : ℕ) (calls : List Call)
     → let start : Tally = record { debugging = debugging_of depth s; done = 0; taken = 0 } in

@@ -1,4 +1,4 @@
--- What a debugger holds, and its calls.
+-- A debugger, and what its calls make of it.
 use Rattle.std.specs.Prelude.{ℕ, zero, suc, ◌-◌, ◌%◌, ◌==◌, List, [], drop, slice_index_or, Bool, Option, if◌then◌else◌}
 use Rattle.rsp_machine.specs.State.{State}
 use Rattle.rsp_machine.specs.Step.{step_of}
@@ -13,8 +13,8 @@ use Rattle.rsp_debug.specs.Past.{past_after}
 use Rattle.rsp_debug.specs.Breaks.{no_breaks, with_break, without_break}
 use Rattle.rsp_debug.specs.Watches.{no_watches, with_watch, without_watch}
 
--- The state of the machine; of each place whether it has a breakpoint; what the numbers 0 to 7 of watches stand for; the states
--- that lead back, the newest first; how many of them are kept.
+-- The state of the machine; for each word of IMEM whether it has a breakpoint; the watches of the numbers 0 to 7; the states of the
+-- history, the newest first; how many of them are kept at most.
 pub record Debugging : Type 0 where
   pub state : State
   pub breaks : List Bool
@@ -22,11 +22,11 @@ pub record Debugging : Type 0 where
   pub past : List State
   pub depth : ℕ
 
--- a machine without breakpoints and watches, and with an empty past
+-- a machine without breakpoints and watches, and with an empty history
 abbrev pub debugging_of : ℕ → State → Debugging
 debugging_of depth s = record { state = s; breaks = no_breaks; watches = no_watches; past = []; depth = depth }
 
--- after one step of the machine, whatever it answers
+-- after one step of the machine, whatever it returns
 abbrev pub stepped : Debugging → Debugging
 stepped d = record d { state = (step_of d.state).1; past = past_after d.depth d.state d.past }
 
@@ -39,7 +39,7 @@ steps_made (suc n) d = stepped (steps_made n d)
 abbrev pub stop_in : ℕ → Debugging → Stop
 stop_in n d = stop_of d.breaks d.watches n d.state
 
--- after such a run, which fills the past as its steps do
+-- after such a run, which fills the history as its steps do
 abbrev pub ran : ℕ → Debugging → Debugging
 ran n d = steps_made (run_steps d.breaks d.watches n d.state) d
 
@@ -65,14 +65,14 @@ watching k address len d = record d { watches = with_watch k address len d.watch
 abbrev pub unwatching : ℕ → Debugging → Debugging
 unwatching k d = record d { watches = without_watch k d.watches }
 
--- n states back, at least one: to state n of those that lead back, which leaves with the newer ones
+-- after n steps back, at least one: state n of the history, which leaves it with the newer ones
 abbrev pub gone_back : ℕ → Debugging → Debugging
 gone_back n d = record d { state = slice_index_or d.past (n - 1) d.state; past = drop n d.past }
 
--- with a state that the host brought it to: no step led there, and no way leads back from it
+-- with a state that the host set: no step led there, so the history is empty
 abbrev pub brought_to : State → Debugging → Debugging
 brought_to s d = record d { state = s; past = [] }
 
--- after a read of SP register n, modulo 16: that of the semaphore empties the past
+-- after a read of SP register n, modulo 16: that of the semaphore empties the history
 abbrev pub read_from : ℕ → Debugging → Debugging
 read_from n d = record d { state = register_read n d.state; past = if n % 16 == 7 then [] else d.past }

@@ -1,4 +1,4 @@
--- Runs, breakpoints, watches, looks, and steps back.
+-- Runs, breakpoints, watches, queries, and steps back.
 pub mod Past
 pub mod Stops
 pub mod Breaks

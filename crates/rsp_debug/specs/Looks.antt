@@ -1,4 +1,4 @@
--- What a look shows.
+-- What queries return.
 use Rattle.std.specs.Prelude.{ℕ, ◌+◌, ◌*◌, List, map}
 use Rattle.std.specs.List.{range_with_len}
 use Rattle.rsp_memory.specs.Memory.{byte_at, word_at}
@@ -18,7 +18,7 @@ bank_byte Rdram s a = image_byte s.rdram a
 unfoldable pub memory_of : Bank → State → ℕ → ℕ → List ℕ
 memory_of bank s a n = map (λ i. bank_byte bank s (a + i)) (range_with_len 0 n)
 
--- a place of IMEM, the word there, and its canonical text
+-- an address of IMEM, the word there, and its canonical text
 pub record ListedWord : Type 0 where
   pub place : ℕ
   pub word : ℕ
@@ -27,6 +27,6 @@ pub record ListedWord : Type 0 where
 abbrev pub listed_at : State → ℕ → ListedWord
 listed_at s place = record { place = place; word = word_at s.imem place; text = spell (word_at s.imem place) place }
 
--- the n words from a place of IMEM on
+-- the n words from an address of IMEM on
 unfoldable pub listing_of : State → ℕ → ℕ → List ListedWord
 listing_of s place n = map (λ i. listed_at s (place + 4 * i)) (range_with_len 0 n)

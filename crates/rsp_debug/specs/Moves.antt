@@ -22,7 +22,7 @@ use Rattle.rsp_debug.specs.Stops.{least, stop_of}
 abbrev pub no_moves : Moves
 no_moves = record { reads = 0; writes = 0 }
 
--- whether an instruction is asked for: an MFC0 from SP register r by bit r of `reads`, an MTC0 to it by bit r of `writes`
+-- whether an instruction is one of some moves: an MFC0 from SP register r by bit r of `reads`, an MTC0 to it by bit r of `writes`
 abbrev pub is_asked : Moves → Option Inst → Bool
 is_asked moves (Some (MoveSp row rt r)) = bit_at (if is_write row then moves.writes else moves.reads) r == 1
 is_asked moves _ = false
@@ -31,7 +31,7 @@ is_asked moves _ = false
 abbrev pub is_at_move : Moves → State → Bool
 is_at_move moves s = not s.sp.halted && is_asked moves (inst_of (word_at s.imem s.pc))
 
--- how many of n steps it takes to come to one; all, where none comes
+-- how many of n steps it takes until one is next; n if none comes
 unfoldable pub steps_to_move : Moves → ℕ → State → ℕ
 steps_to_move moves n s = least (λ k. is_at_move moves (steps_of k s)) n
 

@@ -1,4 +1,4 @@
--- The states that lead back.
+-- The states of the history, which steps back reach.
 use Rattle.std.specs.Prelude.{ℕ, List, [], ◌∷◌, take, Bool, true, false}
 use Rattle.rsp_machine.specs.State.{State}
 use Rattle.rsp_machine.specs.Step.{step_of}
@@ -6,8 +6,8 @@ use Rattle.rsp_machine.specs.Transfers.{starts_dma_at}
 use Rattle.rsp_machine.specs.declared.step.StepEnd.{StepEnd}
 use Rattle.rsp_machine.specs.declared.step.StepEnd.TheVariants.{Done, Halted, Reserved}
 
--- The past after a step from s, by what it answers and whether it starts a DMA: a step that is Done puts s in front, a DMA empties
--- the past, and a step that isn't Done leaves it.
+-- The history after a step from s, by what the step returns and whether it starts a DMA: a step that is Done adds s as the newest,
+-- a DMA empties the history, and a step that isn't Done leaves it.
 abbrev pub past_by : StepEnd → Bool → ℕ → State → List State → List State
 past_by Done false depth s past = take depth (s ∷ past)
 past_by Done true depth s past = []

@@ -9,7 +9,7 @@ abbrev pub IsShort : Option Watch → Type 0
 IsShort None = Unit {0}
 IsShort (Some w) = w.len ≤ 64
 
--- what a number stands for, with its bytes
+-- the watch of a number, if it has one, with its bytes
 abbrev pub snapshot_of : List ℕ → Option Watch → Option Snapshot
 snapshot_of dmem None = None
 snapshot_of dmem (Some w) = Some (record { watch = w; bytes = record { items = watched w dmem } })
@@ -19,7 +19,7 @@ abbrev pub is_other : List ℕ → Option Snapshot → Bool
 is_other dmem None = false
 is_other dmem (Some h) = not (bytes_eq h.bytes.items (watched h.watch dmem))
 
--- the lowest number of a watch of which a byte isn't what it was
+-- the lowest number of a watch with a byte that isn't what it was
 unfoldable pub differs : List (Option Snapshot) → List ℕ → Option ℕ
 differs snapshots dmem = position (is_other dmem) snapshots
 

@@ -18,19 +18,19 @@ abbrev pub is_changed : List ℕ → List ℕ → Option Watch → Bool
 is_changed before dmem None = false
 is_changed before dmem (Some w) = not (bytes_eq (watched w before) (watched w dmem))
 
--- the lowest number of a watch of which a byte isn't what it was
+-- the lowest number of a watch with a byte that isn't what it was
 unfoldable pub changed : List (Option Watch) → List ℕ → List ℕ → Option ℕ
 changed watches before dmem = position (is_changed before dmem) watches
 
--- whether a place of IMEM has a breakpoint: `breaks` has a truth value for each of the 1024 places
+-- whether an address of IMEM has a breakpoint: `breaks` has a truth value for each of the 1024 words
 abbrev pub is_break : List Bool → ℕ → Bool
 is_break breaks place = slice_index_or breaks (place / 4) false
 
--- whether a machine isn't halted and stands at a reserved word
+-- whether a machine isn't halted and the word at pc is reserved
 abbrev pub is_reserved : State → Bool
 is_reserved s = not s.sp.halted && is_none (inst_of (word_at s.imem s.pc))
 
--- a reason, where it holds
+-- a reason, if it holds
 abbrev pub when : Bool → Reason → Option Reason
 when holds reason = if holds then Some reason else None
 

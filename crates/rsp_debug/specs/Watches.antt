@@ -4,15 +4,15 @@ use Rattle.rsp_debug.specs.declared.stop.Watch.{Watch}
 use Rattle.rsp_debug.specs.declared.watches.WatchFault.{WatchFault}
 use Rattle.rsp_debug.specs.declared.watches.WatchFault.TheVariants.{WatchRange, WatchFull}
 
--- The watches as the list of what the numbers 0 to 7 stand for. Of none:
+-- Watches are a list with the watch of each number from 0 to 7. Without watches:
 abbrev pub no_watches : List (Option Watch)
 no_watches = replicate 8 None
 
--- whether a watch is 1 to 64 bytes that stand in DMEM
+-- whether a watch is 1 to 64 bytes inside DMEM
 abbrev pub is_watchable : ℕ → ℕ → Bool
 is_watchable address len = nat_le 1 len && nat_le len 64 && nat_le (address + len) 4096
 
--- the lowest number that stands for no watch
+-- the lowest number that has no watch
 abbrev pub free_number : List (Option Watch) → Option ℕ
 free_number watches = position is_none watches
 

@@ -1,23 +1,26 @@
+// The breakpoints of a debugger.
+
 ghost use Rattle.std.specs.Prelude.{◌≡◌, ◌<◌, ◌≤◌, ◌==◌, Some, None, MatchResult, OnOk, OnErr, IsOk, IsTrue, ◌↔◌};
 ghost use Rattle.rsp_debug.specs.Stops.{is_break};
 ghost use Rattle.rsp_debug.specs.Breaks.{no_breaks, break_count, with_break, without_break, break_fault};
 
 use std::marker::Model;
 
-/// Why a place can't get a breakpoint.
+/// Why an address can't get a breakpoint.
 #[derive(Clone, Copy, Debug, PartialEq, Eq, Drop)]
 pub enum BreakFault {
-    /// Fault 21: it has one.
+    /// Fault 21: the address has one.
     BreakTwice,
-    /// Fault 20: sixteen places have one.
+    /// Fault 20: sixteen addresses have one.
     BreakFull,
 }
 
-/// Fault 22: a place has no breakpoint.
+/// Fault 22: the address has no breakpoint.
 #[derive(Clone, Copy, Debug, PartialEq, Eq, Drop)]
 pub struct NoBreak;
 
-/// The places of IMEM that have a breakpoint. Contracts see them as 1024 truth values, one for each place.
+/// The addresses of IMEM that have a breakpoint. Contracts see a list of 1024 truth values, one for each word of IMEM in the order
+/// of addresses.
 #[derive(Drop)]
 pub struct Breaks {
     bits: [u64; 16],
@@ -37,7 +40,7 @@ impl Model for Breaks {
 }
 
 impl Breaks {
-    /// No place has a breakpoint.
+    /// No breakpoints.
     #[tactic(auto, using(crate::proofs::Tables::tables))]
     pub fn new() -> Breaks
         ensures { result ≡ no_breaks }
@@ -48,21 +51,21 @@ impl Breaks {
         }
     }
 
-    /// Changes nothing. It says that at most sixteen places have a breakpoint.
+    /// Changes nothing. Its contract says that there are at most sixteen breakpoints.
     pub fn ranges(&self)
         ensures { break_count self.now ≤ 16 }
     {
         let _ = &self.bits;
     }
 
-    /// Whether no place has a breakpoint.
+    /// Whether there is no breakpoint.
     pub fn is_empty(&self) -> bool
         ensures { result ≡ (break_count self.now == 0) }
     {
         self.count == 0
     }
 
-    /// Whether a place has a breakpoint.
+    /// Whether the word at an address below 4096 has a breakpoint. The two lowest bits of the address don't count.
     #[inline]
     #[tactic(auto, using(crate::proofs::Tables::tables))]
     pub fn contains(&self, place: u16) -> bool
@@ -73,7 +76,7 @@ impl Breaks {
         (self.bits[(at / 64) as usize] >> (at % 64)) & 1 == 1
     }
 
-    /// Gives a place a breakpoint.
+    /// Adds a breakpoint at an address. BreakTwice if it has one, else BreakFull if there are sixteen.
     #[tactic(auto, using(crate::proofs::Tables::tables))]
     pub fn add(&mut self, place: u16) -> Result<(), BreakFault>
         requires { place < 4096 }
@@ -93,7 +96,7 @@ impl Breaks {
         Ok(())
     }
 
-    /// Takes a place's breakpoint away, where it has one.
+    /// Removes the breakpoint of an address. NoBreak if it has none.
     #[tactic(auto, using(crate::proofs::Tables::tables))]
     pub fn remove(&mut self, place: u16) -> Result<(), NoBreak>
         requires { place < 4096 }

@@ -1,3 +1,5 @@
+// A machine that can be stopped and stepped back.
+
 ghost use Rattle.std.specs.Prelude.{◌≡◌, ◌<◌, ◌≤◌, ◌%◌, ◌⊎◌, ◌↔◌, Some, None, length, OnOk, OnErr, IfOk, IfErr, IsOk, IsErrOf, IsTrue, MatchResult};
 ghost use Rattle.rsp_machine.specs.Step.{step_of};
 ghost use Rattle.rsp_machine.specs.Laws.{steps_of};
@@ -11,7 +13,7 @@ ghost use Rattle.rsp_debug.specs.Debugging.{debugging_of, stepped, stop_in, move
 use crate::breaks::{BreakFault, Breaks, NoBreak};
 use crate::history::History;
 use crate::moves::{MoveEnd, Moves};
-use crate::run::{run, run_to_move};
+use crate::run::run;
 use crate::stop::Stop;
 use crate::watches::{NoWatch, WatchFault, Watches};
 use rsp_acc::Acc;
@@ -23,22 +25,22 @@ use std::marker::Model;
 #[derive(Clone, Copy, Debug, PartialEq, Eq, Drop)]
 pub struct CountFault;
 
-/// Why there is no way back. The count comes first.
+/// Why steps can't be undone. Count comes first.
 #[derive(Clone, Copy, Debug, PartialEq, Eq, Drop)]
 pub enum BackFault {
     /// Fault 26: the count isn't 1 to 1000000.
     Count,
-    /// Fault 27: the past holds fewer states.
+    /// Fault 27: the history has fewer states.
     ShortHistory,
 }
 
-/// A machine with breakpoints, watches and a past. Contracts see it as the record `Debugging`: the machine's state, of each of
-/// the 1024 places whether it has a breakpoint, what the numbers 0 to 7 of watches stand for, the states that lead back,
-/// the newest first, and how many of them are kept.
+/// A machine with breakpoints, watches and a history. Contracts see the record `Debugging`: the machine's state; for each of the
+/// 1024 words of IMEM whether it has a breakpoint; the watches of the numbers 0 to 7; `past`, the states of the history, the newest
+/// first; and how many of them are kept at most.
 ///
-/// The past is empty at the start. A step that answers Done puts the state before it in front, and the oldest state leaves where
-/// there were as many as are kept. A step that starts a DMA, a read of the semaphore, and each load, task, new place and write
-/// of an SP register that isn't refused empty it.
+/// The history is empty at the start. A step that returns Done adds the state before it, and drops the oldest state if there were as
+/// many as are kept. A step that starts a DMA empties it. So do a read of the semaphore, and each accepted load, task, new pc, and
+/// write of an SP register or of all registers.
 #[derive(Drop)]
 pub struct Debugger<A: Acc> {
     pub(crate) machine: Machine<A>,
@@ -63,8 +65,8 @@ impl<A: Acc> Model for Debugger<A> {
 }
 
 impl<A: Acc> Debugger<A> {
-    /// A debugger of a machine, without breakpoints and watches, whose past is empty and keeps `depth` states, at most
-    /// 4096. All its memory is taken here. Where there is none, the machine is handed back.
+    /// A debugger of a machine, without breakpoints and watches, with an empty history of at most `depth` states. `depth` is 0 to
+    /// 4096. All memory is allocated here; if that fails, the machine is returned with the fault.
     pub fn try_new(
         alloc: Global,
         machine: Machine<A>,
@@ -85,8 +87,8 @@ impl<A: Acc> Debugger<A> {
         }
     }
 
-    /// Changes nothing. It says that the machine's state lies in its ranges, that at most sixteen places have a breakpoint, and
-    /// that the past has at most as many states as are kept, which a caller's proof may need.
+    /// Changes nothing. Its contract says what a caller's proof may need: the machine's state is in its ranges, there are at most
+    /// sixteen breakpoints, and the history has at most as many states as are kept.
     #[tactic(auto, using(crate::proofs::Pasts::more))]
     pub fn ranges(&self)
         ensures state { IsState self.now.state }
@@ -98,7 +100,7 @@ impl<A: Acc> Debugger<A> {
         let _ = self.history.len();
     }
 
-    /// One step of the machine, as [`Machine::step`] makes it.
+    /// Makes one step, as [`Machine::step`] does.
     pub fn step(&mut self) -> StepEnd
         ensures answer { result ≡ (step_of self.old.state).0 }
         ensures next { self.new ≡ stepped self.old }
@@ -109,8 +111,8 @@ impl<A: Acc> Debugger<A> {
         StepEnd::Done
     }
 
-    /// Gives a place of IMEM, a multiple of 4 below 4096, a breakpoint: a run stops when it comes there. BreakTwice where it
-    /// has one, else BreakFull where sixteen places have one.
+    /// Adds a breakpoint at an address of IMEM, a multiple of 4 below 4096: a run stops when a step leads there. BreakTwice if the
+    /// address has one, else BreakFull if sixteen addresses have one.
     pub fn add_break(&mut self, place: u16) -> Result<(), BreakFault>
         requires below { place < 4096 }
         requires whole { place % 4 ≡ 0 }
@@ -121,7 +123,7 @@ impl<A: Acc> Debugger<A> {
         self.breaks.add(place)
     }
 
-    /// Takes the breakpoint of a place, a multiple of 4 below 4096, away. NoBreak where it has none.
+    /// Removes the breakpoint of an address of IMEM, a multiple of 4 below 4096. NoBreak if it has none.
     pub fn drop_break(&mut self, place: u16) -> Result<(), NoBreak>
         requires below { place < 4096 }
         requires whole { place % 4 ≡ 0 }
@@ -132,9 +134,9 @@ impl<A: Acc> Debugger<A> {
         self.breaks.remove(place)
     }
 
-    /// Watches `len` bytes of DMEM from an address on, and answers the watch's number, the lowest that is free: a run stops after a
-    /// step that changes one of them. WatchRange where they aren't 1 to 64 bytes that stand in DMEM, else WatchFull where
-    /// eight watches stand.
+    /// Watches `len` bytes of DMEM from an address on, and returns the watch's number, the lowest that is free: a run stops after a
+    /// step that changes one of them. WatchRange unless they are 1 to 64 bytes inside DMEM, else WatchFull if there are eight
+    /// watches.
     pub fn add_watch(&mut self, address: u32, len: u32) -> Result<usize, WatchFault>
         ensures answer { result ≡ number_for address len self.old.watches }
         ensures ok { IfOk result (λ k. self.new ≡ watching k address len self.old) }
@@ -143,7 +145,7 @@ impl<A: Acc> Debugger<A> {
         self.watches.add(address, len)
     }
 
-    /// Drops the watch of a number. NoWatch where there is none.
+    /// Removes the watch of a number. NoWatch if there is none.
     pub fn drop_watch(&mut self, k: u32) -> Result<(), NoWatch>
         ensures had { IsOk result ↔ IsTrue (has_watch k self.old.watches) }
         ensures ok { OnOk result (self.new ≡ unwatching k self.old) }
@@ -152,9 +154,9 @@ impl<A: Acc> Debugger<A> {
         self.watches.remove(k)
     }
 
-    /// Makes as many steps as it takes until there is a reason to stop, and at most `n`. The reasons, in their order: the word
-    /// at pc is reserved and the machine isn't halted; it is halted; the last step changed a byte of a watch, of which the
-    /// lowest number is told; the last step came to a breakpoint; `n` steps are made. CountFault unless `n` is 1 to 1000000.
+    /// Makes steps until there is a reason to stop, at most `n`. The reasons, in their order: the word at pc is reserved and the
+    /// machine isn't halted; it is halted; the last step changed a byte of a watch (the stop has the lowest number of such a watch);
+    /// the last step led to a breakpoint; `n` steps are made. CountFault unless `n` is 1 to 1000000.
     #[tactic(auto, using(crate::proofs::Ends::ends))]
     pub fn run(&mut self, n: u32) -> Result<Stop, CountFault>
         ensures count { IsOk result ↔ ((1 ≤ n) × (n ≤ 1000000)) }
@@ -171,13 +173,14 @@ impl<A: Acc> Debugger<A> {
             &mut self.history,
             &self.breaks,
             &self.watches,
+            Moves::none(),
             n,
         ))
     }
 
     /// Runs as [`Debugger::run`] does, and also ends before an MFC0 or MTC0 of an SP register that `moves` names, which isn't
     /// executed, also before the first step. The reasons, in their order: the word at pc is reserved and the machine isn't halted;
-    /// it is halted; the last step changed a byte of a watch; it came to a breakpoint; such a move is next; `n` steps are made.
+    /// it is halted; the last step changed a byte of a watch; it led to a breakpoint; such a move is next; `n` steps are made.
     /// CountFault unless `n` is 1 to 1000000.
     #[tactic(auto, using(crate::proofs::Ends::ends))]
     pub fn run_until_move(&mut self, n: u32, moves: Moves) -> Result<MoveEnd, CountFault>
@@ -190,7 +193,7 @@ impl<A: Acc> Debugger<A> {
         if n == 0 || n > 1_000_000 {
             return Err(CountFault);
         }
-        let stop = run_to_move(
+        let stop = run(
             &mut self.machine,
             &mut self.history,
             &self.breaks,
@@ -201,8 +204,8 @@ impl<A: Acc> Debugger<A> {
         Ok(moves.end(stop, &self.machine))
     }
 
-    /// Goes back `n` states of the past, which leave it. Breakpoints and watches stay. Count unless `n` is 1 to 1000000, else
-    /// ShortHistory where the past holds fewer states.
+    /// Undoes the last `n` steps, whose states leave the history. Breakpoints and watches stay. Count unless `n` is 1 to 1000000,
+    /// else ShortHistory if the history has fewer states.
     #[tactic(auto, using(crate::proofs::Pasts::more))]
     pub fn back(&mut self, n: u32) -> Result<(), BackFault>
         ensures ok { OnOk result (self.new ≡ gone_back n self.old) }

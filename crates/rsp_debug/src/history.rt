@@ -8,7 +8,7 @@ use rsp_machine::Record;
 use std::alloc::{AllocError, Global};
 use std::marker::Model;
 
-/// The records of the last steps, in a ring whose entries are all taken at the start and written in place, in the order of the
+/// The records of the last steps, in a ring. Its entries are all allocated at the start, and written in place in the order of the
 /// steps. Contracts see the records, the newest first, and how many there may be.
 #[derive(Drop)]
 pub struct History {
@@ -42,7 +42,7 @@ fn previous_slot(n: usize, i: usize) -> usize
 }
 
 impl History {
-    /// A history without records, which keeps so many.
+    /// A history without records, with room for `depth` of them.
     pub fn try_new(alloc: Global, depth: usize) -> Result<History, AllocError>
         ensures { IfOk result (λ h. h ≡ record { newest = []; depth = depth }) }
     {
@@ -72,14 +72,14 @@ impl History {
         self.count
     }
 
-    /// Forgets all records.
+    /// Drops all records.
     pub fn clear(&mut self)
         ensures { self.new ≡ record self.old { newest = [] } }
     {
         self.count = 0;
     }
 
-    /// The newest record.
+    /// The newest record, of which there must be one; Some always.
     #[tactic(auto, using(crate::proofs::Turns::turns))]
     pub fn newest(&self) -> Option<&Record>
         requires { 0 < length self.now.newest }
@@ -88,7 +88,7 @@ impl History {
         self.slots.get(previous_slot(self.slots.len(), self.next))
     }
 
-    /// Forgets the newest record.
+    /// Drops the newest record, of which there must be one.
     #[tactic(auto, using(crate::proofs::Turns::turns))]
     pub fn drop_newest(&mut self)
         requires { 0 < length self.old.newest }

@@ -1,4 +1,4 @@
-// What the host does with the machine of a debugger.
+// What the host, the N64's CPU, does with the machine of a debugger.
 
 ghost use Rattle.std.specs.Prelude.{◌≡◌, ◌<◌, ◌%◌, ◌↔◌, Some, None, length, OnOk, OnErr, IsOk, IsTrue, MatchResult};
 ghost use Rattle.rsp_regs.specs.Sp.{peeked};
@@ -13,7 +13,7 @@ use rsp_memory::{Bank, Rdram};
 
 impl<A: Acc> Debugger<A> {
     /// Reads an SP register, as [`rsp_machine::Machine::read_reg`] does; its number `n` is taken modulo 16. A read of the
-    /// semaphore, register 7, empties the past, whatever it held; no other read does.
+    /// semaphore, register 7, empties the history; no other read does.
     #[tactic(auto, using(crate::proofs::Hosts::hosts))]
     pub fn read_reg(&mut self, n: u32) -> u32
         ensures value { result ≡ peeked n self.old.state.sp }
@@ -25,7 +25,7 @@ impl<A: Acc> Debugger<A> {
         self.machine.read_reg(n)
     }
 
-    /// Writes an SP register, as [`rsp_machine::Machine::write_reg`] does, and empties the past.
+    /// Writes an SP register, as [`rsp_machine::Machine::write_reg`] does, and empties the history.
     pub fn write_reg(&mut self, n: u32, value: u32)
         ensures { self.new ≡ brought_to (register_written n value self.old.state) self.old }
     {
@@ -33,8 +33,8 @@ impl<A: Acc> Debugger<A> {
         self.machine.write_reg(n, value);
     }
 
-    /// Goes on at a place in IMEM, a multiple of 4 below 4096, as [`rsp_machine::Machine::set_pc`] does, and empties the
-    /// past.
+    /// Sets pc to an address of IMEM, a multiple of 4 below 4096, as [`rsp_machine::Machine::set_pc`] does, and empties the
+    /// history.
     pub fn set_pc(&mut self, pc: u16)
         requires below { pc < 4096 }
         requires whole { pc % 4 ≡ 0 }
@@ -44,15 +44,15 @@ impl<A: Acc> Debugger<A> {
         self.machine.set_pc(pc);
     }
 
-    /// All registers, as [`rsp_machine::Machine::all_registers`] gives them. Changes nothing.
+    /// All registers, as [`rsp_machine::Machine::all_registers`] returns them. Changes nothing.
     pub fn all_registers(&self) -> AllRegisters
         ensures { result ≡ registers_of self.now.state }
     {
         self.machine.all_registers()
     }
 
-    /// Sets all registers, as [`rsp_machine::Machine::set_all_registers`] does, and empties the past. Where a fault of
-    /// [`RegistersFault`] holds it is answered, and nothing changes.
+    /// Sets all registers, as [`rsp_machine::Machine::set_all_registers`] does, and empties the history. Returns the
+    /// [`RegistersFault`] of registers that no machine can have, and then nothing changes.
     pub fn set_all_registers(&mut self, given: &AllRegisters) -> Result<(), RegistersFault>
         ensures fault { MatchResult result (λ _. registers_fault given.now ≡ None) (λ f. registers_fault given.now ≡ Some f) }
         ensures ok { OnOk result (self.new ≡ brought_to (with_registers given.now self.old.state) self.old) }
@@ -63,8 +63,8 @@ impl<A: Acc> Debugger<A> {
         Ok(())
     }
 
-    /// Writes bytes to a bank from an address on, as [`rsp_machine::Machine::load_bytes`] does, and empties the past, also
-    /// where there are no bytes. RangeFault, and nothing changes, where they pass the bank's end.
+    /// Writes bytes to a bank from an address on, as [`rsp_machine::Machine::load_bytes`] does, and empties the history, also
+    /// if there are no bytes. RangeFault, and nothing changes, if they pass the bank's end.
     pub fn load_bytes(&mut self, bank: Bank, a: u32, bytes: &[u8]) -> Result<(), RangeFault>
         ensures inside { IsOk result ↔ IsTrue (is_inside bank a (length bytes.now) self.old.state) }
         ensures ok { OnOk result (self.new ≡ brought_to (with_bank_bytes bank a bytes.now self.old.state) self.old) }
@@ -75,8 +75,8 @@ impl<A: Acc> Debugger<A> {
         Ok(())
     }
 
-    /// Starts the task whose structure of 64 bytes stands at an address of the RDRAM, as
-    /// [`rsp_machine::Machine::start_task`] does, and empties the past. TaskPlace or TaskSize, and nothing changes, where
+    /// Starts the task whose structure of 64 bytes is at an address of the RDRAM, as
+    /// [`rsp_machine::Machine::start_task`] does, and empties the history. TaskPlace or TaskSize, and nothing changes, if
     /// it can't start.
     pub fn start_task(&mut self, a: u32) -> Result<(), TaskFault>
         ensures fault { MatchResult result (λ _. task_fault a self.old.state.rdram ≡ None) (λ f. task_fault a self.old.state.rdram ≡ Some f) }

@@ -1,7 +1,8 @@
-//! The debugger: runs of a machine that stop at breakpoints and watches, looks at it, and steps back.
+//! The debugger: runs of a machine that stop at breakpoints and watches, queries of its state, and steps back.
 #![tactic(auto)]
 
 mod breaks;
+mod conditions;
 mod copy;
 mod debugger;
 mod history;

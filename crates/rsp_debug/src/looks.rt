@@ -1,4 +1,4 @@
-// Looks, which change nothing.
+// Queries of the machine's state, which change nothing.
 
 ghost use Rattle.std.specs.Prelude.{◌≡◌, ◌<◌, ◌≤◌, ◌+◌, ◌*◌, ◌%◌, ◌↔◌, ℕ, length, slice_index, IsOk, IfOk, IsTrue};
 ghost use Rattle.rsp_acc.specs.Parts.{part_of};
@@ -22,21 +22,21 @@ use rsp_memory::Bank;
 use rsp_regs::SpRegs;
 use std::marker::Model;
 
-/// The places and the scalar registers of a machine.
+/// pc, npc and the scalar registers of a machine.
 #[derive(Clone, Copy, Debug, PartialEq, Eq, Drop)]
 pub struct Places {
-    /// The place of the next instruction.
+    /// The address of the next instruction.
     pub pc: u16,
-    /// The place of the one after it.
+    /// The address of the one after it.
     pub npc: u16,
     /// The 32 scalar registers.
     pub words: [u32; 32],
 }
 
-/// A word of IMEM. Contracts see its text as the bytes.
+/// A word of IMEM with its disassembly. Contracts see the bytes of the text.
 #[derive(Drop, Default)]
 pub struct Listed {
-    /// Its place.
+    /// Its address.
     pub place: u16,
     /// The word.
     pub word: u32,
@@ -90,7 +90,7 @@ fn bank_bytes<A: Acc>(machine: &Machine<A>, bank: Bank, a: u32, n: usize) -> Arr
     bytes
 }
 
-/// The word at a place of IMEM, with its text.
+/// The word at an address of IMEM, with its text.
 fn read_word<A: Acc>(machine: &Machine<A>, place: u16) -> Listed
     requires { place < 4096 }
     ensures { result ≡ listed_at machine.now place }
@@ -103,7 +103,7 @@ fn read_word<A: Acc>(machine: &Machine<A>, place: u16) -> Listed
     }
 }
 
-/// `n` words of IMEM from a place on.
+/// `n` words of IMEM from an address on.
 #[tactic(auto, using(crate::proofs::Looking::words))]
 fn listed_words<A: Acc>(machine: &Machine<A>, place: u16, n: u16) -> ArrayVec<Listed, 64>
     requires few { n ≤ 64 }
@@ -119,7 +119,7 @@ fn listed_words<A: Acc>(machine: &Machine<A>, place: u16, n: u16) -> ArrayVec<Li
 }
 
 impl<A: Acc> Debugger<A> {
-    /// The machine, to be looked at.
+    /// The machine.
     #[inline]
     pub fn machine(&self) -> &Machine<A>
         ensures { result.now ≡ self.now.state }
@@ -162,7 +162,7 @@ impl<A: Acc> Debugger<A> {
         )
     }
 
-    /// The flags of the eight lanes, and what the divide rows keep from one to the next.
+    /// The flags of the eight lanes, and what the divide instructions keep from one to the next.
     pub fn flags(&self) -> (&Flags, &Divider)
         ensures flags { result.0.now ≡ self.now.state.flags }
         ensures divider { result.1.now ≡ self.now.state.divider }
@@ -177,7 +177,7 @@ impl<A: Acc> Debugger<A> {
         self.machine.sp_regs()
     }
 
-    /// `len` bytes of a bank from an address on, 1 to 256 of them. RangeFault where they pass the bank's end.
+    /// `len` bytes of a bank from an address on, 1 to 256 of them. RangeFault if they pass the bank's end.
     pub fn memory(&self, bank: Bank, a: u32, len: usize) -> Result<ArrayVec<u8, 256>, RangeFault>
         requires some { 1 ≤ len }
         requires few { len ≤ 256 }
@@ -191,8 +191,8 @@ impl<A: Acc> Debugger<A> {
         Ok(bank_bytes(&self.machine, bank, a, len))
     }
 
-    /// `n` words of IMEM from a place on, a multiple of 4 below 4096, 1 to 64 of them, each with its canonical text.
-    /// RangeFault where they pass the end of IMEM. The words are read at each call.
+    /// `n` words of IMEM from an address on, a multiple of 4 below 4096, 1 to 64 of them, each with its canonical text.
+    /// RangeFault if they pass the end of IMEM. The words are read at each call.
     pub fn listing(&self, place: u16, n: u16) -> Result<ArrayVec<Listed, 64>, RangeFault>
         requires below { place < 4096 }
         requires whole { place % 4 ≡ 0 }

@@ -1,4 +1,4 @@
-// Steps of a machine in stretches. Between two of them a run tests whether there is a reason to stop.
+// Runs, which make steps in stretches. After each stretch a run tests whether there is a reason to stop.
 
 ghost use Rattle.std.specs.Prelude.{◌≡◌, ◌<◌, ◌≤◌, ◌+◌, ◌-◌, ℕ, true, false, None, length, drop, slice_index_or, unwrap_or};
 ghost use Rattle.rsp_machine.specs.Step.{step_of};
@@ -6,24 +6,22 @@ ghost use Rattle.rsp_machine.specs.Laws.{steps_of, done_steps};
 ghost use Rattle.rsp_machine.specs.Saved.{record_at, is_back};
 ghost use Rattle.rsp_machine.specs.Until.{ends_after};
 ghost use Rattle.rsp_debug.specs.Calls.{IsAfter};
-ghost use Rattle.rsp_debug.specs.Stops.{IsStop, when};
-ghost use Rattle.rsp_debug.specs.Moves.{is_at_move, steps_to_move};
+ghost use Rattle.rsp_debug.specs.Stops.{IsStop};
+ghost use Rattle.rsp_debug.specs.Moves.{steps_to_move};
 ghost use Rattle.rsp_debug.specs.Snapshots.{differs, watches_of};
 ghost use Rattle.rsp_debug.specs.History.{states_before, past_of};
-ghost use Rattle.rsp_debug.specs.Runs.{stuck_of, hit_in, found_in, Asks};
-ghost use Rattle.rsp_debug.specs.declared.stop.Reason.TheVariants.{Limit};
+ghost use Rattle.rsp_debug.specs.Runs.{stuck_of, Asks};
 
 use crate::breaks::Breaks;
+use crate::conditions::{StopConditions, dmem_bytes};
 use crate::history::History;
-use crate::moves::Moves;
-use crate::snapshot::{Snapshot, differs};
+use crate::moves::{Moves, is_reserved};
 use crate::stop::{Reason, Stop};
 use crate::watches::Watches;
 use rsp_acc::Acc;
-use rsp_decode::decode;
 use rsp_machine::{Machine, Never, Record, Until};
 
-/// Whether all of them can be undone: only the last may have started a DMA.
+/// Whether the first `made` steps of some records can all be undone. Only the last of them may have started a DMA.
 fn leads_back(records: &[Record], made: usize) -> bool
     requires { made ≤ length records.now }
     ensures none { made ≡ 0 → result ≡ true }
@@ -78,92 +76,21 @@ impl History {
     }
 }
 
-/// The bytes of DMEM.
-pub(crate) fn dmem_bytes<A: Acc>(machine: &Machine<A>) -> &[u8]
-    ensures value { result.now ≡ machine.now.dmem }
-    ensures len { length result.now ≡ 4096 }
-{
-    let dmem = machine.dmem();
-    dmem.ranges();
-    dmem.run(0, 4096)
-}
-
-/// What a run looks for after each step.
-#[derive(Drop)]
-pub(crate) struct Sought<'a> {
-    pub(crate) breaks: &'a Breaks,
-    /// The watches, with their bytes as they were when the run began.
-    pub(crate) snapshots: &'a [Option<Snapshot>],
-    pub(crate) moves: Moves,
-}
-
-impl<'a> Sought<'a> {
-    /// The watch or the breakpoint that a step has come to.
-    #[inline(always)]
-    #[tactic(auto, using(crate::proofs::Hits::hits))]
-    pub(crate) fn hit<A: Acc>(&self, machine: &Machine<A>) -> Option<Reason>
-        ensures { result ≡ hit_in self.now.breaks.now self.now.snapshots.now machine.now }
-    {
-        if let Some(k) = differs(self.snapshots, dmem_bytes(machine)) {
-            return Some(Reason::Watched(k));
-        }
-        if self.breaks.contains(machine.pc()) {
-            return Some(Reason::Break);
-        }
-        None
-    }
-
-    /// The reason to stop that a step has come to. A move is the limit of a run that ends before it.
-    fn found<A: Acc>(&self, machine: &Machine<A>) -> Option<Reason>
-        ensures { result ≡ found_in self.now.breaks.now self.now.snapshots.now self.now.moves machine.now }
-    {
-        match self.hit(machine) {
-            Some(reason) => Some(reason),
-            None => self.limit(machine),
-        }
-    }
-
-    /// The limit, where a move is next.
-    fn limit<A: Acc>(&self, machine: &Machine<A>) -> Option<Reason>
-        ensures { result ≡ when (is_at_move self.now.moves machine.now) Limit }
-    {
-        if self.moves.are_next(machine) {
-            return Some(Reason::Limit);
-        }
-        None
-    }
-}
-
-impl<'a> Until for Sought<'a> {
-    ghost use Rattle.std.specs.Prelude.{◌||◌, ◌&&◌, ◌==◌, not, length};
-    ghost use Rattle.rsp_decode.specs.Table.{inst_of};
-    ghost use Rattle.rsp_debug.specs.Stops.{is_break};
-    ghost use Rattle.rsp_debug.specs.Moves.{is_asked};
-
-    ghost ends = { λ s pc word stored. is_break s.breaks.now pc || (stored && not (length s.snapshots.now == 0)) || is_asked s.moves (inst_of word) };
-
-    #[inline(always)]
-    fn ends(&self, pc: u16, word: u32, stored: bool) -> bool {
-        self.breaks.contains(pc)
-            || (stored && !self.snapshots.is_empty())
-            || self.moves.has_word(word)
-    }
-}
-
-/// Why a machine can't go on.
+/// Why a machine can't make a step, if it can't.
 fn stuck<A: Acc>(machine: &Machine<A>) -> Option<Reason>
     ensures { result ≡ stuck_of machine.now }
 {
     if machine.sp_regs().halted() {
         return Some(Reason::Halted);
     }
-    if decode(machine.imem().word(u32::from(machine.pc()))).is_none() {
+    if is_reserved(machine.imem().aligned_word(usize::from(machine.pc()))) {
         return Some(Reason::Reserved);
     }
     None
 }
 
-/// A stop at the machine's pc: it can't go on, or there is another reason.
+/// A stop at the machine's pc: it can't make a step, or there is another reason.
+#[inline(always)]
 pub(crate) fn stopped_here<A: Acc>(machine: &Machine<A>, otherwise: Reason, steps: u32) -> Stop
     ensures { result ≡ record { reason = unwrap_or (stuck_of machine.now) otherwise; steps = steps; pc = machine.now.pc } }
 {
@@ -174,35 +101,36 @@ pub(crate) fn stopped_here<A: Acc>(machine: &Machine<A>, otherwise: Reason, step
     }
 }
 
-/// Runs to what is sought, at most to a move. `until` ends a stretch of steps wherever that may be found.
+/// Runs until one of the conditions holds. `until` ends a stretch of steps wherever one may hold.
 fn run_to<A: Acc, U: Until>(
     machine: &mut Machine<A>,
     history: &mut History,
-    sought: &Sought,
+    conditions: &StopConditions,
     until: &U,
     n: u32,
 ) -> Stop
-    requires same { differs sought.now.snapshots.now machine.old.dmem ≡ None }
-    requires asks { Asks (U.ends until.now) sought.now.breaks.now sought.now.snapshots.now sought.now.moves }
-    ensures stop { IsStop sought.now.breaks.now (watches_of sought.now.snapshots.now) (steps_to_move sought.now.moves n machine.old) machine.old machine.new result }
+    requires same { differs conditions.now.snapshots.now machine.old.dmem ≡ None }
+    requires asks { Asks (U.ends until.now) conditions.now.breaks.now conditions.now.snapshots.now conditions.now.moves }
+    ensures stop { IsStop conditions.now.breaks.now (watches_of conditions.now.snapshots.now) (steps_to_move conditions.now.moves n machine.old) machine.old machine.new result }
     ensures past { states_before machine.new history.new.newest ≡ past_of result.steps history.old.depth machine.old (states_before machine.old history.old.newest) }
     ensures depth { history.new.depth ≡ history.old.depth }
 {
     let mut left = n;
-    let mut found = sought.limit(machine);
+    let mut found = conditions.moves.limit(machine);
     while left > 0 && found.is_none() {
         let steps = history.stretch(machine, left, until);
         if steps == 0 {
             break;
         }
         left -= steps;
-        found = sought.found(machine);
+        found = conditions.found(machine);
     }
     stopped_here(machine, found.unwrap_or(Reason::Limit), n - left)
 }
 
-/// Runs to breakpoints, watches and moves.
-fn run_looking<A: Acc>(
+/// [`run`] with watches.
+#[inline(never)]
+fn run_watching<A: Acc>(
     machine: &mut Machine<A>,
     history: &mut History,
     breaks: &Breaks,
@@ -214,53 +142,21 @@ fn run_looking<A: Acc>(
     ensures past { states_before machine.new history.new.newest ≡ past_of result.steps history.old.depth machine.old (states_before machine.old history.old.newest) }
     ensures depth { history.new.depth ≡ history.old.depth }
 {
-    if watches.is_empty() {
-        let sought = Sought {
-            breaks,
-            snapshots: &[],
-            moves,
-        };
-        return run_to(machine, history, &sought, &sought, n);
-    }
     let snapshots = watches.snapshots(dmem_bytes(machine));
-    let sought = Sought {
+    let conditions = StopConditions {
         breaks,
         snapshots: &snapshots,
         moves,
     };
-    run_to(machine, history, &sought, &sought, n)
+    run_to(machine, history, &conditions, &conditions, n)
 }
 
-/// Runs to the least number of steps after which there is a reason to stop.
+/// Makes the least number of steps, at most `n`, after which there is a reason to stop or one of the moves is next.
 pub fn run<A: Acc>(
     machine: &mut Machine<A>,
     history: &mut History,
     breaks: &Breaks,
     watches: &Watches,
-    n: u32,
-) -> Stop
-    ensures stop { IsStop breaks.now watches.now n machine.old machine.new result }
-    ensures past { states_before machine.new history.new.newest ≡ past_of result.steps history.old.depth machine.old (states_before machine.old history.old.newest) }
-    ensures depth { history.new.depth ≡ history.old.depth }
-{
-    let moves = Moves::none();
-    if !breaks.is_empty() || !watches.is_empty() {
-        return run_looking(machine, history, breaks, watches, moves, n);
-    }
-    let sought = Sought {
-        breaks,
-        snapshots: &[],
-        moves,
-    };
-    run_to(machine, history, &sought, &Never, n)
-}
-
-/// The same, but no further than to a move.
-pub fn run_to_move<A: Acc>(
-    machine: &mut Machine<A>,
-    history: &mut History,
-    breaks: &Breaks,
-    watches: &Watches,
     moves: Moves,
     n: u32,
 ) -> Stop
@@ -268,13 +164,19 @@ pub fn run_to_move<A: Acc>(
     ensures past { states_before machine.new history.new.newest ≡ past_of result.steps history.old.depth machine.old (states_before machine.old history.old.newest) }
     ensures depth { history.new.depth ≡ history.old.depth }
 {
-    if !breaks.is_empty() || !watches.is_empty() {
-        return run_looking(machine, history, breaks, watches, moves, n);
+    if !watches.is_empty() {
+        return run_watching(machine, history, breaks, watches, moves, n);
     }
-    let sought = Sought {
+    let conditions = StopConditions {
         breaks,
         snapshots: &[],
         moves,
     };
-    run_to(machine, history, &sought, &moves, n)
+    if !breaks.is_empty() {
+        return run_to(machine, history, &conditions, &conditions, n);
+    }
+    if moves.is_empty() {
+        return run_to(machine, history, &conditions, &Never, n);
+    }
+    run_to(machine, history, &conditions, &moves, n)
 }

@@ -23,7 +23,7 @@ fn watched<'a>(watch: &Watch, dmem: &'a [u8]) -> &'a [u8]
     &rest[..(watch.len as usize).min(rest.len())]
 }
 
-/// What a number stands for, with its bytes.
+/// The watch of a number, if it has one, with its bytes.
 pub fn snapshot_of(watch: Option<Watch>, dmem: &[u8]) -> Option<Snapshot>
     requires { IsShort watch }
     ensures { result ≡ snapshot_of dmem.now watch }
@@ -45,7 +45,7 @@ fn is_other(snapshot: &Option<Snapshot>, dmem: &[u8]) -> bool
     }
 }
 
-/// The lowest number of a watch of which a byte isn't what it was.
+/// The lowest number of a watch with a byte that isn't what it was.
 #[tactic(auto, unfolding(crate::specs::Snapshots::differs))]
 pub fn differs(snapshots: &[Option<Snapshot>], dmem: &[u8]) -> Option<usize>
     ensures { result ≡ differs snapshots.now dmem.now }

@@ -1,9 +1,11 @@
+// Where and why a run stops.
+
 /// Some bytes of DMEM that a run watches.
 #[derive(Clone, Copy, Debug, PartialEq, Eq, Drop)]
 pub struct Watch {
-    /// The address of the first.
+    /// The address of the first, below 4096.
     pub address: u16,
-    /// How many they are.
+    /// How many they are, 1 to 64.
     pub len: u8,
 }
 
@@ -16,7 +18,7 @@ pub enum Reason {
     Halted,
     /// The last step changed a byte of the watch with this number.
     Watched(usize),
-    /// The place pc has a breakpoint.
+    /// The last step led to an address that has a breakpoint.
     Break,
     /// All steps that the run may make are made.
     Limit,
@@ -29,6 +31,6 @@ pub struct Stop {
     pub reason: Reason,
     /// How many steps it made.
     pub steps: u32,
-    /// The place of the next instruction.
+    /// The address of the next instruction.
     pub pc: u16,
 }

@@ -6,33 +6,31 @@ ghost use Rattle.rsp_debug.specs.Snapshots.{differs, watches_of};
 ghost use Rattle.rsp_debug.specs.History.{states_before, past_of};
 ghost use Rattle.rsp_debug.specs.Debugging.{stop_in, ran};
 ghost use Rattle.rsp_debug.specs.Moves.{no_moves};
-ghost use Rattle.rsp_debug.specs.Runs.{Asks};
 ghost use Rattle.rsp_debug.specs.Traces.{trace_of};
 
 use crate::breaks::Breaks;
+use crate::conditions::{StopConditions, dmem_bytes};
 use crate::debugger::{CountFault, Debugger};
 use crate::history::History;
 use crate::moves::Moves;
-use crate::run::{Sought, dmem_bytes, stopped_here};
+use crate::run::stopped_here;
 use crate::stop::{Reason, Stop};
 use crate::traced::{Traced, entry_of};
 use crate::watches::Watches;
 use rsp_acc::Acc;
-use rsp_machine::{Machine, Until};
+use rsp_machine::{Machine, Never};
 
-/// Runs to breakpoints and watches, and writes an entry for each step. `until` is as in other runs, and ends no step.
-fn trace_to<A: Acc, U: Until>(
+/// Runs to breakpoints and watches, and writes an entry for each step.
+fn trace_to<A: Acc>(
     machine: &mut Machine<A>,
     history: &mut History,
-    sought: &Sought,
-    until: &U,
+    conditions: &StopConditions,
     out: &mut [Traced],
 ) -> Stop
-    requires same { differs sought.now.snapshots.now machine.old.dmem ≡ None }
-    requires asks { Asks (U.ends until.now) sought.now.breaks.now sought.now.snapshots.now sought.now.moves }
-    requires unmoved { sought.now.moves ≡ no_moves }
+    requires same { differs conditions.now.snapshots.now machine.old.dmem ≡ None }
+    requires unmoved { conditions.now.moves ≡ no_moves }
     requires few { length out.old ≤ 1000000 }
-    ensures stop { IsStop sought.now.breaks.now (watches_of sought.now.snapshots.now) (length out.old) machine.old machine.new result }
+    ensures stop { IsStop conditions.now.breaks.now (watches_of conditions.now.snapshots.now) (length out.old) machine.old machine.new result }
     ensures past { states_before machine.new history.new.newest ≡ past_of result.steps history.old.depth machine.old (states_before machine.old history.old.newest) }
     ensures depth { history.new.depth ≡ history.old.depth }
     ensures entries { take result.steps out.new ≡ trace_of result.steps machine.old }
@@ -45,17 +43,17 @@ fn trace_to<A: Acc, U: Until>(
         let pc = machine.pc();
         let word = machine.imem().aligned_word(usize::from(pc));
         let effect = machine.effect();
-        if history.stretch(machine, 1, until) == 0 {
+        if history.stretch(machine, 1, &Never) == 0 {
             break;
         }
         out[made] = entry_of(pc, word, effect, machine);
         made += 1;
-        found = sought.hit(machine);
+        found = conditions.hit(machine);
     }
     stopped_here(machine, found.unwrap_or(Reason::Limit), made as u32)
 }
 
-/// Runs to the least number of steps after which there is a reason to stop, and writes an entry for each step.
+/// Makes the least number of steps after which there is a reason to stop, at most as many as there are entries, and writes an entry for each.
 fn trace<A: Acc>(
     machine: &mut Machine<A>,
     history: &mut History,
@@ -72,20 +70,20 @@ fn trace<A: Acc>(
 {
     let moves = Moves::none();
     if watches.is_empty() {
-        let sought = Sought {
+        let conditions = StopConditions {
             breaks,
             snapshots: &[],
             moves,
         };
-        return trace_to(machine, history, &sought, &sought, out);
+        return trace_to(machine, history, &conditions, out);
     }
     let snapshots = watches.snapshots(dmem_bytes(machine));
-    let sought = Sought {
+    let conditions = StopConditions {
         breaks,
         snapshots: &snapshots,
         moves,
     };
-    trace_to(machine, history, &sought, &sought, out)
+    trace_to(machine, history, &conditions, out)
 }
 
 impl<A: Acc> Debugger<A> {

@@ -1,3 +1,5 @@
+// The watches of a debugger.
+
 ghost use Rattle.std.specs.Prelude.{◌≡◌, ◌≤◌, ◌<◌, IsTrue, IsNone, All, map, IfOk, IfSome, OnOk, OnErr, IsOk, ◌↔◌};
 ghost use Rattle.rsp_debug.specs.Watches.{no_watches, is_watchable, free_number, number_for, with_watch, has_watch, without_watch};
 ghost use Rattle.rsp_debug.specs.Snapshots.{snapshot_of};
@@ -9,17 +11,17 @@ use std::marker::Model;
 /// Why there is no further watch.
 #[derive(Clone, Copy, Debug, PartialEq, Eq, Drop)]
 pub enum WatchFault {
-    /// Fault 25: it isn't 1 to 64 bytes, or they don't stand in DMEM.
+    /// Fault 25: it isn't 1 to 64 bytes inside DMEM.
     WatchRange,
-    /// Fault 23: eight numbers stand for watches.
+    /// Fault 23: there are eight watches.
     WatchFull,
 }
 
-/// Fault 24: a number stands for no watch.
+/// Fault 24: the number has no watch.
 #[derive(Clone, Copy, Debug, PartialEq, Eq, Drop)]
 pub struct NoWatch;
 
-/// What the watches' numbers, 0 to 7, stand for.
+/// The watches of the numbers 0 to 7.
 #[derive(Drop)]
 pub struct Watches {
     numbers: [Option<Watch>; 8],
@@ -37,7 +39,7 @@ impl Model for Watches {
     ghost invariant = { λ w. All IsShort w.numbers };
 }
 
-/// Whether a watch is 1 to 64 bytes that stand in DMEM.
+/// Whether a watch is 1 to 64 bytes inside DMEM.
 fn is_watchable(address: u32, len: u32) -> bool
     ensures value { result ≡ is_watchable address len }
     ensures short { IsTrue result → len ≤ 64 }
@@ -78,7 +80,7 @@ impl Watches {
         ]
     }
 
-    /// The lowest number that stands for no watch.
+    /// The lowest number that has no watch.
     fn free_number(&self) -> Option<usize>
         ensures value { result ≡ free_number self.now }
         ensures below { IfSome result (λ k. k < 8) }
@@ -107,7 +109,7 @@ impl Watches {
         }
     }
 
-    /// Whether a number stands for a watch.
+    /// Whether a number has a watch.
     #[tactic(auto, using(crate::proofs::Watched::numbers))]
     fn has(&self, k: u32) -> bool
         ensures value { result ≡ has_watch k self.now }
@@ -119,7 +121,7 @@ impl Watches {
         }
     }
 
-    /// Drops the watch of a number, where it stands for one.
+    /// Removes the watch of a number. NoWatch if there is none.
     pub fn remove(&mut self, k: u32) -> Result<(), NoWatch>
         ensures had { IsOk result ↔ IsTrue (has_watch k self.old) }
         ensures ok { OnOk result (self.new ≡ without_watch k self.old) }

@@ -16,7 +16,7 @@ use Rattle.rsp_debug.proofs.run.run_to.Goals as goal
 pub loop-left-init : goal.loop-left-init
 loop-left-init g c =
     let s = c.args.machine.now in let past = states_before s c.args.history.now.newest in let depth = c.args.history.now.depth in
-    let x = c.args.sought.now in let none : c.args.n - c.args.n ≡ 0 = omega arith in
+    let x = c.args.conditions.now in let none : c.args.n - c.args.n ≡ 0 = omega arith in
     record {
       within = omega arith;
       come = come-none x.breaks.now x.snapshots.now x.moves c.args.n s (c.args.n - c.args.n) _ none c.requires.same c.limit-found.ensures;
@@ -26,7 +26,7 @@ loop-left-init g c =
 
 pub loop-left-preserved : goal.loop-left-preserved
 loop-left-preserved g c =
-    let n = c.args.n in let s = c.args.machine.now in let x = c.args.sought.now in
+    let n = c.args.n in let s = c.args.machine.now in let x = c.args.conditions.now in
     let l = c.loop-left in let i = l.invariant in let e = c.stretch-steps.ensures in let j = c.stretch-steps.result in let t = c.stretch-steps.new.machine in
     let count : n - (l.left - j) ≡ n - l.left + j = omega (arith, i.within, e.within) in
     record {
@@ -39,7 +39,7 @@ loop-left-preserved g c =
 
 pub returns-clause-stop : goal.returns-clause-stop
 returns-clause-stop g c =
-    let n = c.args.n in let s = c.args.machine.now in let x = c.args.sought.now in
+    let n = c.args.n in let s = c.args.machine.now in let x = c.args.conditions.now in
     let l = c.loop-left in let i = l.invariant in let t = c.loop-left-test.machine in let k = n - l.left in
     let same : t ≡ l.machine = elim c.loop-left-test.branch [
       | then-loop-left-test+else-is_none w ↦ w.machine-is

@@ -6,7 +6,7 @@ use Rattle.rsp_debug.proofs.run.run_to.Given as goal
 abbrev pub invariant-loop-left : goal.invariant-loop-left
 invariant-loop-left g l = record {
   within : l.left ≤ l.n;
-  come : IsCome l.sought.breaks.now l.sought.snapshots.now l.sought.moves l.n l.fn.machine (l.n - l.left) l.machine l.found;
+  come : IsCome l.conditions.breaks.now l.conditions.snapshots.now l.conditions.moves l.n l.fn.machine (l.n - l.left) l.machine l.found;
   past : states_before l.machine l.history.newest ≡ past_of (l.n - l.left) l.fn.history.depth l.fn.machine (states_before l.fn.machine l.fn.history.newest);
   depth : l.history.depth ≡ l.fn.history.depth;
 }

@@ -1,4 +1,4 @@
-use Rattle.std.proofs.Common.{◌≡◌, ◌∙◌, ◌+◌, ap, refl, sym, subst, arith, None, length, take, drop}
+use Rattle.std.proofs.Common.{◌≡◌, ◌∙◌, ◌+◌, ap, refl, sym, subst, arith, true, None, length, take, drop}
 use Rattle.std.specs.Prelude.{is_some, unwrap_or}
 use Rattle.rsp_memory.specs.Memory.{word_at}
 use Rattle.rsp_machine.specs.State.{State}
@@ -20,7 +20,7 @@ use Rattle.rsp_debug.proofs.trace.trace_to.Goals as goal
 pub loop-made-init : goal.loop-made-init
 loop-made-init g c =
     let s = c.args.machine.now in let past = states_before s c.args.history.now.newest in let depth = c.args.history.now.depth in
-    let x = c.args.sought.now in
+    let x = c.args.conditions.now in
     record {
       count = refl;
       within = omega arith;
@@ -33,7 +33,7 @@ loop-made-init g c =
 
 pub loop-made-preserved : goal.loop-made-preserved
 loop-made-preserved g c =
-    let n = length c.args.out.now in let s = c.args.machine.now in let x = c.args.sought.now in
+    let n = length c.args.out.now in let s = c.args.machine.now in let x = c.args.conditions.now in
     let l = c.loop-made in let i = l.invariant in let e = c.stretch.ensures in let j = c.stretch.result in let t = c.stretch.new.machine in
     let k = l.made in
     let one : j ≡ 1 = omega (arith, e.within, c.if-stretch-eq0.false) in
@@ -41,8 +41,8 @@ loop-made-preserved g c =
     record {
       count = i.count;
       within = omega (arith, c.loop-made-test.true);
-      come = come-more x.breaks.now x.snapshots.now x.moves n s (g.U.Until.ends c.args.until.now) k j (k + 1) l.machine t l.found c.hit-found.result c.requires.asks
-          i.come (no-one l.found c.is_none.result c.is_none.ensures c.if-is_none.true) e.after e.asked count (omega (arith, c.loop-made-test.true)) (omega (arith, one))
+      come = come-more x.breaks.now x.snapshots.now x.moves n s (λ pc word stored. true) k j (k + 1) l.machine t l.found c.hit-found.result (λ pc word stored no. cc)
+          i.come (no-one l.found c.is_none.result c.is_none.ensures c.if-is_none.true) e.after (λ q h. absurd (omega (arith, h, one))) count (omega (arith, c.loop-made-test.true)) (omega (arith, one))
           (unmoved-found x.breaks.now x.snapshots.now x.moves t c.hit-found.result c.requires.unmoved c.hit-found.ensures);
       past = past-then k j (k + 1) c.args.history.now.depth l.history.depth s l.machine _ _ _ e.past i.depth i.past i.come.after.reached count;
       depth = e.depth ∙ i.depth;
@@ -55,7 +55,7 @@ loop-made-preserved g c =
 
 pub returns-clause-stop : goal.returns-clause-stop
 returns-clause-stop g c =
-    let n = length c.args.out.now in let s = c.args.machine.now in let x = c.args.sought.now in
+    let n = length c.args.out.now in let s = c.args.machine.now in let x = c.args.conditions.now in
     let l = c.loop-made in let i = l.invariant in let t = c.loop-made-test.machine in let k = l.made in
     let same : t ≡ l.machine = elim c.loop-made-test.branch [
       | then-loop-made-test+else-is_none w ↦ w.machine-is

@@ -8,7 +8,7 @@ abbrev pub invariant-loop-made : goal.invariant-loop-made
 invariant-loop-made g l = record {
   count : l.n ≡ length l.fn.out;
   within : l.made ≤ l.n;
-  come : IsCome l.sought.breaks.now l.sought.snapshots.now l.sought.moves l.n l.fn.machine l.made l.machine l.found;
+  come : IsCome l.conditions.breaks.now l.conditions.snapshots.now l.conditions.moves l.n l.fn.machine l.made l.machine l.found;
   past : states_before l.machine l.history.newest ≡ past_of l.made l.fn.history.depth l.fn.machine (states_before l.fn.machine l.fn.history.newest);
   depth : l.history.depth ≡ l.fn.history.depth;
   entries : take l.made l.out ≡ trace_of l.made l.fn.machine;

@@ -1,0 +1,74 @@
+// What ends a run between two of its steps.
+
+ghost use Rattle.std.specs.Prelude.{◌≡◌, length};
+ghost use Rattle.rsp_debug.specs.Runs.{hit_in, found_in};
+
+use crate::breaks::Breaks;
+use crate::moves::Moves;
+use crate::snapshot::{Snapshot, differs};
+use crate::stop::Reason;
+use rsp_acc::Acc;
+use rsp_machine::{Machine, Until};
+
+/// The bytes of DMEM.
+pub(crate) fn dmem_bytes<A: Acc>(machine: &Machine<A>) -> &[u8]
+    ensures value { result.now ≡ machine.now.dmem }
+    ensures len { length result.now ≡ 4096 }
+{
+    let dmem = machine.dmem();
+    dmem.ranges();
+    dmem.run(0, 4096)
+}
+
+/// The breakpoints, watches and moves that can end a run, with the watched bytes as they were when the run began.
+#[derive(Drop)]
+pub(crate) struct StopConditions<'a> {
+    pub(crate) breaks: &'a Breaks,
+    /// Empty if there is no watch.
+    pub(crate) snapshots: &'a [Option<Snapshot>],
+    pub(crate) moves: Moves,
+}
+
+impl<'a> StopConditions<'a> {
+    /// The watch or the breakpoint that ends a run after a step.
+    #[inline(always)]
+    #[tactic(auto, using(crate::proofs::Hits::hits))]
+    pub(crate) fn hit<A: Acc>(&self, machine: &Machine<A>) -> Option<Reason>
+        ensures { result ≡ hit_in self.now.breaks.now self.now.snapshots.now machine.now }
+    {
+        if let Some(k) = differs(self.snapshots, dmem_bytes(machine)) {
+            return Some(Reason::Watched(k));
+        }
+        if self.breaks.contains(machine.pc()) {
+            return Some(Reason::Break);
+        }
+        None
+    }
+
+    /// The reason that ends a run after a step. Before a move it is the limit.
+    #[inline(always)]
+    pub(crate) fn found<A: Acc>(&self, machine: &Machine<A>) -> Option<Reason>
+        ensures { result ≡ found_in self.now.breaks.now self.now.snapshots.now self.now.moves machine.now }
+    {
+        match self.hit(machine) {
+            Some(reason) => Some(reason),
+            None => self.moves.limit(machine),
+        }
+    }
+}
+
+impl<'a> Until for StopConditions<'a> {
+    ghost use Rattle.std.specs.Prelude.{◌||◌, ◌&&◌, ◌==◌, not, length};
+    ghost use Rattle.rsp_decode.specs.Table.{inst_of};
+    ghost use Rattle.rsp_debug.specs.Stops.{is_break};
+    ghost use Rattle.rsp_debug.specs.Moves.{is_asked};
+
+    ghost ends = { λ s pc word stored. is_break s.breaks.now pc || (stored && not (length s.snapshots.now == 0)) || is_asked s.moves (inst_of word) };
+
+    #[inline(always)]
+    fn ends(&self, pc: u16, word: u32, stored: bool) -> bool {
+        self.breaks.contains(pc)
+            || (stored && !self.snapshots.is_empty())
+            || self.moves.has_word(word)
+    }
+}
