@@ -10,8 +10,8 @@ PROJECT = (TOP / "python/pyproject.toml").read_text()
 
 
 def version():
-    """The version and its day, which have their one place in rsp_arguments."""
-    source = (TOP / "crates/rsp_arguments/src/lib.rt").read_text()
+    """The version and its day, which have their one place in rsp_cli_args."""
+    source = (TOP / "crates/rsp_cli_args/src/lib.rt").read_text()
     return re.search(r'const VERSION: &str = "([\d.]+) \(([\d-]+)\)"', source).groups()
 
 

@@ -12,12 +12,12 @@ abbrev pub wrapped_sums : List ℤ → List ℤ → List ℤ
 wrapped_sums xs ys = each_lane (λ i. s48 (number xs i +ℤ number ys i))
 
 -- an accumulator with its low sixteen bits replaced; the high and middle ones are kept
-abbrev pub low_written : ℤ → ℕ → ℤ
-low_written x l = join (high x) (middle x) l
+abbrev pub with_low_bits : ℤ → ℕ → ℤ
+with_low_bits x l = join (high x) (middle x) l
 
 -- the same for all eight
 unfoldable pub with_low : List ℤ → List ℕ → List ℤ
-with_low xs l = each_lane (λ i. low_written (number xs i) (slice_index l i))
+with_low xs l = each_lane (λ i. with_low_bits (number xs i) (slice_index l i))
 
 -- the high, the middle and the low sixteen bits of each
 abbrev pub high_plane : List ℤ → List ℕ

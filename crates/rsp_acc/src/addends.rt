@@ -22,7 +22,7 @@ impl Model for Addends {
     ghost use Rattle.rsp_numbers.specs.Numbers.{AreNumbers};
     ghost use Rattle.rsp_acc.specs.Planes.{joined, high_plane, middle_plane, low_plane};
     ghost use Rattle.rsp_numbers.specs.Numbers.{AreNumbers};
-    ghost use Rattle.rsp_acc.specs.PlanesAgain.{high_joined, middle_joined, low_joined};
+    ghost use Rattle.rsp_acc.specs.PlanesOfJoined.{high_joined, middle_joined, low_joined};
 
     ghost Value = { List ℤ };
 

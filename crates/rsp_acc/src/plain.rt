@@ -1,7 +1,7 @@
 ghost use Rattle.std.specs.Prelude.{◌≡◌, ◌<◌, ◌<ℤ◌, ◌≤ℤ◌, pos, negsuc, ◌^◌, ◌-◌};
 ghost use Rattle.rsp_numbers.specs.Numbers.{s48, number, IsNumber, join, sixteen_bits};
 ghost use Rattle.rsp_acc.specs.Parts.{part_of, clamp_of, clamp_by};
-ghost use Rattle.rsp_acc.specs.Planes.{low_written};
+ghost use Rattle.rsp_acc.specs.Planes.{with_low_bits};
 
 use crate::{Acc, Addends, Clamp, Part};
 use rsp_lanes::VReg;
@@ -115,7 +115,7 @@ fn join(high: u16, middle: u16, low: u16) -> i64
 /// A number with its low sixteen bits replaced.
 fn with_low(number: i64, low: u16) -> i64
     requires { IsNumber number }
-    ensures value { result ≡ low_written number low }
+    ensures value { result ≡ with_low_bits number low }
     ensures number { IsNumber result }
 {
     number - number.rem_euclid(65536) + low as i64

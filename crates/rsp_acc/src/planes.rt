@@ -18,7 +18,7 @@ impl Model for PlaneAcc {
     ghost use Rattle.std.specs.Prelude.{List, ℤ};
     ghost use Rattle.rsp_lanes.specs.Lanes.{IsVector};
     ghost use Rattle.rsp_acc.specs.Planes.{joined, high_plane, middle_plane, low_plane};
-    ghost use Rattle.rsp_acc.specs.PlanesAgain.{high_joined, middle_joined, low_joined};
+    ghost use Rattle.rsp_acc.specs.PlanesOfJoined.{high_joined, middle_joined, low_joined};
 
     ghost Value = { List ℤ };
 

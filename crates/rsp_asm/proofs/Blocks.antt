@@ -4,27 +4,27 @@ use Rattle.std.specs.Prelude.{◌==◌, Option, Some, None, Result, Ok, Err, opt
 use Rattle.std.specs.List.{before_first, after_first}
 use Rattle.std.proofs.lemmas.Bool.{cases_lt}
 use Rattle.std.proofs.lemmas.List.{get_or_append_left, get_or-append_right}
-use Rattle.rsp_text.specs.declared.fault.AsmFault.{AsmFault}
-use Rattle.rsp_text.specs.declared.fault.AsmFaultKind.{AsmFaultKind}
-use Rattle.rsp_text.specs.declared.slot.Slot.TheVariants.{Word}
-use Rattle.rsp_text.specs.declared.text.Boundary.TheVariants.{Blank}
-use Rattle.rsp_text.specs.Cuts.{is_boundary}
-use Rattle.rsp_text.specs.Numbers.{Expression}
-use Rattle.rsp_text.specs.Statement.{Labels, Reading, asks, zero_expression, Statement, nothing, numbers, instruction, Form, no_operation, numbers_form, row_form, form_named, read_all, read_numbers, with_operands, with_form, operand_texts, statement_of, size, evaluate, field_of, then_registers, fields_of, append, all_fields, words_of}
-use Rattle.rsp_text.specs.SourceLine.{Parts, split_line, size_if, size_in, line_size, statement_words, parts_words, line_words}
-use Rattle.rsp_text.specs.Means.{line_at, place_of_line, all_labels, words_of_line, fault_before, and_words, words_before, unless}
+use Rattle.rsp_syntax.specs.declared.fault.AsmFault.{AsmFault}
+use Rattle.rsp_syntax.specs.declared.fault.AsmFaultKind.{AsmFaultKind}
+use Rattle.rsp_syntax.specs.declared.operand_range.OperandRange.TheVariants.{Word}
+use Rattle.rsp_syntax.specs.declared.text.Boundary.TheVariants.{Blank}
+use Rattle.rsp_syntax.specs.Cuts.{is_boundary}
+use Rattle.rsp_syntax.specs.Numbers.{Expression}
+use Rattle.rsp_syntax.specs.Statement.{Labels, OperandValue, ranged_value, zero_expression, Statement, nothing, numbers, instruction, Form, no_operation, numbers_form, row_form, form_named, read_all, read_numbers, with_operands, with_form, operand_texts, statement_of, size, evaluate, field_of, then_registers, fields_of, append, all_fields, words_of}
+use Rattle.rsp_syntax.specs.SourceLine.{LineParts, split_line, statement_size, parts_size, line_size, statement_words, parts_words, line_words}
+use Rattle.rsp_syntax.specs.SourceText.{line_at, address_of_line, all_labels, words_of_line, fault_before, and_words, words_before, unless}
 use Rattle.rsp_asm.specs.Decoding.{Decodes, IsWord, IsWordOfLine, BlocksDecode}
-use Rattle.rsp_asm.proofs.Readings.{numbers_parts}
+use Rattle.rsp_asm.proofs.OperandValues.{numbers_parts}
 use Rattle.rsp_asm.proofs.Decodes.{statements_decode}
 
 -- ---- the numbers of .word
 
 -- each of these readings is a number
-abbrev AreNumbers : List Reading → Type 0
+abbrev AreNumbers : List OperandValue → Type 0
 AreNumbers [] = Unit {0}
-AreNumbers (r ∷ rs) = (e : Expression) × (asks Word [] e ≡ r) × AreNumbers rs
+AreNumbers (r ∷ rs) = (e : Expression) × (ranged_value Word [] e ≡ r) × AreNumbers rs
 
-are_numbers : (ts : List (List ℕ)) (rs : List Reading) → read_numbers ts ≡ Some rs → AreNumbers rs
+are_numbers : (ts : List (List ℕ)) (rs : List OperandValue) → read_numbers ts ≡ Some rs → AreNumbers rs
 are_numbers [] rs e = let none : [] ≡ rs = cc in subst AreNumbers none tt
 are_numbers (t ∷ ts) rs e =
     let p = numbers_parts t ts rs e in
@@ -41,14 +41,14 @@ one_value (Err kind) vs e = absurd cc
 
 module _ (labels : Labels) (address : ℕ) where
   -- word i is the number of reading i
-  abbrev Each : List Reading → List ℕ → Type 0
-  Each rs ws = (i : ℕ) (d : Reading) → i < length rs → fields_of labels address (get_or rs i d) ≡ Ok (get_or ws i 0 ∷ [])
+  abbrev Each : List OperandValue → List ℕ → Type 0
+  Each rs ws = (i : ℕ) (d : OperandValue) → i < length rs → fields_of labels address (get_or rs i d) ≡ Ok (get_or ws i 0 ∷ [])
 
-  one_more : (r : Reading) (rs : List Reading) (v : ℕ) (ws : List ℕ) → fields_of labels address r ≡ Ok (v ∷ []) → Each rs ws → Each (r ∷ rs) (v ∷ ws)
+  one_more : (r : OperandValue) (rs : List OperandValue) (v : ℕ) (ws : List ℕ) → fields_of labels address r ≡ Ok (v ∷ []) → Each rs ws → Each (r ∷ rs) (v ∷ ws)
   one_more r rs v ws e each zero d lt = e
   one_more r rs v ws e each (suc i) d lt = each i d (omega arith)
 
-  numbers_each : (rs : List Reading) (ws : List ℕ) → AreNumbers rs → all_fields labels address rs ≡ Ok ws → (length ws ≡ length rs) × Each rs ws
+  numbers_each : (rs : List OperandValue) (ws : List ℕ) → AreNumbers rs → all_fields labels address rs ≡ Ok ws → (length ws ≡ length rs) × Each rs ws
   numbers_each [] ws h e = let none : [] ≡ ws = cc in (sym (ap length none), λ i d lt. absurd (omega arith))
   numbers_each (r ∷ rs) ws h e =
       let p = append_ok (fields_of labels address r) (all_fields labels address rs) ws e in
@@ -62,23 +62,23 @@ module _ (labels : Labels) (address : ℕ) where
 
 -- ---- the words of a statement
 
-number_form : (o : Option Form) (ts : List (List ℕ)) (rs : List Reading) → with_form o ts ≡ Ok (numbers rs) → AreNumbers rs
+number_form : (o : Option Form) (ts : List (List ℕ)) (rs : List OperandValue) → with_form o ts ≡ Ok (numbers rs) → AreNumbers rs
 number_form None ts rs e = absurd cc
-number_form (Some no_operation) [] rs e = let same : asks Word [] zero_expression ∷ [] ≡ rs = cc in subst AreNumbers same (zero_expression, refl, tt)
+number_form (Some no_operation) [] rs e = let same : ranged_value Word [] zero_expression ∷ [] ≡ rs = cc in subst AreNumbers same (zero_expression, refl, tt)
 number_form (Some no_operation) (t ∷ ts) rs e = absurd cc
 number_form (Some numbers_form) [] rs e = absurd cc
 number_form (Some numbers_form) (t ∷ ts) rs e = go (read_numbers (t ∷ ts)) refl e
   where
-    go : (o : Option (List Reading)) → read_numbers (t ∷ ts) ≡ o → with_operands (option_map numbers o) ≡ Ok (numbers rs) → AreNumbers rs
+    go : (o : Option (List OperandValue)) → read_numbers (t ∷ ts) ≡ o → with_operands (option_map numbers o) ≡ Ok (numbers rs) → AreNumbers rs
     go None is e = absurd cc
     go (Some found) is e = let same : found ≡ rs = cc in are_numbers (t ∷ ts) rs (is ∙ ap Some same)
 number_form (Some (row_form r)) ts rs e = go (read_all r.operands ts) e
   where
-    go : (o : Option (List Reading)) → with_operands (option_map (instruction r) o) ≡ Ok (numbers rs) → AreNumbers rs
+    go : (o : Option (List OperandValue)) → with_operands (option_map (instruction r) o) ≡ Ok (numbers rs) → AreNumbers rs
     go None e = absurd cc
     go (Some found) e = absurd cc
 
-number_statement : (text : List ℕ) (rs : List Reading) → statement_of text ≡ Ok (numbers rs) → AreNumbers rs
+number_statement : (text : List ℕ) (rs : List OperandValue) → statement_of text ≡ Ok (numbers rs) → AreNumbers rs
 number_statement text rs e = go (length text == 0) e
   where
     name : List ℕ
@@ -120,7 +120,7 @@ module _ (labels : Labels) (address : ℕ) (text : List ℕ) (ws : List ℕ) whe
 -- ---- the words of a line
 
 record LineWords (labels : Labels) (address : ℕ) (l : List ℕ) (ws : List ℕ) : Type 0 where
-  parts : Parts
+  parts : LineParts
   is_line : split_line l ≡ Some parts
   statement : Statement
   says : statement_of parts.body ≡ Ok statement
@@ -131,7 +131,7 @@ line_gives : (labels : Labels) (address : ℕ) (l : List ℕ) (ws : List ℕ) �
 unfolding line_words line_size
 line_gives labels address l ws e = go (split_line l) refl e
   where
-    said : (p : Parts) → split_line l ≡ Some p → (r : Result Statement AsmFaultKind) → statement_of p.body ≡ r → statement_words labels address r ≡ Ok ws → LineWords labels address l ws
+    said : (p : LineParts) → split_line l ≡ Some p → (r : Result Statement AsmFaultKind) → statement_of p.body ≡ r → statement_words labels address r ≡ Ok ws → LineWords labels address l ws
     said p is (Err kind) says e = absurd cc
     said p is (Ok s) says e =
         let words = are_words labels address p.body ws s says e in
@@ -140,11 +140,11 @@ line_gives labels address l ws e = go (split_line l) refl e
           is_line = is;
           statement = s;
           says = says;
-          count = words.count ∙ sym (ap size_in is ∙ ap size_if says);
+          count = words.count ∙ sym (ap parts_size is ∙ ap statement_size says);
           each = words.each;
         }
 
-    go : (o : Option Parts) → split_line l ≡ o → parts_words labels address o ≡ Ok ws → LineWords labels address l ws
+    go : (o : Option LineParts) → split_line l ≡ o → parts_words labels address o ≡ Ok ws → LineWords labels address l ws
     go None is e = absurd cc
     go (Some p) is e = said p is (statement_of p.body) refl e
 
@@ -156,12 +156,12 @@ words_ok (Ok before) n (Err kind) ws e = absurd cc
 words_ok (Ok before) n (Ok more) ws e = let same : before ++ more ≡ ws = cc in (before, more, refl, refl, same)
 
 module _ (labels : Labels) (origin : ℕ) (ls : List (List ℕ)) where
-  block_place : (n : ℕ) (ws : List ℕ) → words_before labels origin ls n ≡ Ok ws → origin + 4 * length ws ≡ place_of_line origin ls n
+  block_place : (n : ℕ) (ws : List ℕ) → words_before labels origin ls n ≡ Ok ws → origin + 4 * length ws ≡ address_of_line origin ls n
   block_place zero ws e = let none : [] ≡ ws = cc in omega (arith, ap length none)
   block_place (suc n) ws e =
       let p = words_ok (words_before labels origin ls n) (suc n) (words_of_line labels origin ls n) ws e in
       let here = block_place n p.0 p.2 in
-      let words = line_gives labels (place_of_line origin ls n) (line_at ls n) p.1 p.3 in
+      let words = line_gives labels (address_of_line origin ls n) (line_at ls n) p.1 p.3 in
       let count = words.count in
       omega (arith, here, count, ap length p.4, length-append p.0 p.1)
 
@@ -175,7 +175,7 @@ module _ (labels : Labels) (origin : ℕ) (ls : List (List ℕ)) where
             subst (IsWordOfLine labels origin ls j) same (block_each n p.0 (omega arith) p.2 j before)
         | inr behind ↦
             let same : get_or p.1 (j - length p.0) 0 ≡ get_or ws j 0 = sym (get_or-append_right p.0 p.1 (length p.0) j 0 refl behind) ∙ ap (λ t. get_or t j 0) p.4 in
-            let words = line_gives labels (place_of_line origin ls n) (line_at ls n) p.1 p.3 in
+            let words = line_gives labels (address_of_line origin ls n) (line_at ls n) p.1 p.3 in
             let here = block_place n p.0 p.2 in
             record {
               k = n;
@@ -187,7 +187,7 @@ module _ (labels : Labels) (origin : ℕ) (ls : List (List ℕ)) where
               statement = words.statement;
               says = words.says;
               meaning =
-                  subst (IsWord labels (place_of_line origin ls n) words.statement (j - length p.0)) same
+                  subst (IsWord labels (address_of_line origin ls n) words.statement (j - length p.0)) same
                   (words.each (j - length p.0) (omega (arith, lt, behind, ap length p.4, length-append p.0 p.1)));
             }
       ]

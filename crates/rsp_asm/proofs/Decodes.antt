@@ -8,12 +8,12 @@ use Rattle.rsp_decode.specs.declared.inst.Inst.TheVariants.{JumpLinkRegister}
 use Rattle.rsp_decode.specs.Table.{Row, rows, row_of, row_bit_fields, fits, fields, word_from, inst_of, canonical_of, FitBitFields, is_row_operand}
 use Rattle.rsp_decode.proofs.OneRow.{one_row}
 use Rattle.rsp_decode.proofs.BitFields.{apart_from, all_apart, under_others, fields_back, clear_from}
-use Rattle.rsp_decode.proofs.RowsBack.{round_trip, word_of_is_canonical}
-use Rattle.rsp_text.specs.declared.fault.AsmFaultKind.{AsmFaultKind}
-use Rattle.rsp_text.specs.declared.text.Boundary.TheVariants.{Blank}
-use Rattle.rsp_text.specs.Cuts.{is_boundary}
+use Rattle.rsp_decode.proofs.WordOfInstruction.{round_trip, word_of_is_canonical}
+use Rattle.rsp_syntax.specs.declared.fault.AsmFaultKind.{AsmFaultKind}
+use Rattle.rsp_syntax.specs.declared.text.Boundary.TheVariants.{Blank}
+use Rattle.rsp_syntax.specs.Cuts.{is_boundary}
 use Rattle.rsp_decode.specs.Table.{is_row_operand}
-use Rattle.rsp_text.specs.Statement.{Labels, Reading, nothing, numbers, instruction, Form, no_operation, numbers_form, row_form, row_named, linking_row, form_named, read_all, read_numbers, with_operands, with_form, operand_texts, all_fields, one_word, words_of}
+use Rattle.rsp_syntax.specs.Statement.{Labels, OperandValue, nothing, numbers, instruction, Form, no_operation, numbers_form, row_form, row_named, linking_row, form_named, read_all, read_numbers, with_operands, with_form, operand_texts, all_fields, one_word, words_of}
 use Rattle.rsp_asm.specs.Decoding.{Decodes, StatementsDecode}
 use Rattle.rsp_asm.proofs.Fits.{AllFit, all_fit}
 
@@ -128,14 +128,14 @@ form_usable name count row e =
     ]
 
 -- the form and the operands of an instruction
-record Read (o : Option Form) (ts : List (List ℕ)) (row : Row) (rs : List Reading) : Type 0 where
+record Read (o : Option Form) (ts : List (List ℕ)) (row : Row) (rs : List OperandValue) : Type 0 where
   form : o ≡ Some (row_form row)
   operands : read_all row.operands ts ≡ Some rs
 
-read_row : (r row : Row) (ts : List (List ℕ)) (rs : List Reading) → with_operands (option_map (instruction r) (read_all r.operands ts)) ≡ Ok (instruction row rs) → Read (Some (row_form r)) ts row rs
+read_row : (r row : Row) (ts : List (List ℕ)) (rs : List OperandValue) → with_operands (option_map (instruction r) (read_all r.operands ts)) ≡ Ok (instruction row rs) → Read (Some (row_form r)) ts row rs
 read_row r row ts rs e = go (read_all r.operands ts) refl e
   where
-    go : (o : Option (List Reading)) → read_all r.operands ts ≡ o → with_operands (option_map (instruction r) o) ≡ Ok (instruction row rs) → Read (Some (row_form r)) ts row rs
+    go : (o : Option (List OperandValue)) → read_all r.operands ts ≡ o → with_operands (option_map (instruction r) o) ≡ Ok (instruction row rs) → Read (Some (row_form r)) ts row rs
     go None is e = absurd cc
     go (Some found) is e =
         let same : r ≡ row = cc in
@@ -145,11 +145,11 @@ read_row r row ts rs e = go (read_all r.operands ts) refl e
           operands = subst (λ (x : Row). read_all x.operands ts ≡ Some rs) same (is ∙ ap Some all);
         }
 
-no_numbers : (o : Option (List Reading)) (row : Row) (rs : List Reading) → with_operands (option_map numbers o) ≡ Ok (instruction row rs) → ⊥
+no_numbers : (o : Option (List OperandValue)) (row : Row) (rs : List OperandValue) → with_operands (option_map numbers o) ≡ Ok (instruction row rs) → ⊥
 no_numbers None row rs e = absurd cc
 no_numbers (Some found) row rs e = absurd cc
 
-read_form : (o : Option Form) (ts : List (List ℕ)) (row : Row) (rs : List Reading) → with_form o ts ≡ Ok (instruction row rs) → Read o ts row rs
+read_form : (o : Option Form) (ts : List (List ℕ)) (row : Row) (rs : List OperandValue) → with_form o ts ≡ Ok (instruction row rs) → Read o ts row rs
 read_form None ts row rs e = absurd cc
 read_form (Some no_operation) [] row rs e = absurd cc
 read_form (Some no_operation) (t ∷ ts) row rs e = absurd cc
@@ -158,7 +158,7 @@ read_form (Some numbers_form) (t ∷ ts) row rs e = absurd (no_numbers (read_num
 read_form (Some (row_form r)) ts row rs e = read_row r row ts rs e
 
 -- the words of a usable row's operands
-module _ (labels : Labels) (address : ℕ) (row : Row) (rs : List Reading) (words : List ℕ) (usable : Usable row) where
+module _ (labels : Labels) (address : ℕ) (row : Row) (rs : List OperandValue) (words : List ℕ) (usable : Usable row) where
   decoded : (f : Result (List ℕ) AsmFaultKind) → all_fields labels address rs ≡ f → IfOk f (FitBitFields (row_bit_fields row)) → one_word row f ≡ Ok words → Decodes labels address row rs words
   decoded (Err kind) is fit e = absurd cc
   decoded (Ok vs) is fit e =

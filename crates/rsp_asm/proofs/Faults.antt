@@ -2,19 +2,19 @@
 use Rattle.std.proofs.Common.{◌≡◌, refl, subst, ap, ◌∙◌, ℕ, zero, suc, ◌+◌, ◌*◌, List, [], ◌∷◌, length, Bool, true, false, sym, inl, inr}
 use Rattle.std.specs.Prelude.{Option, Some, None, Result, Ok, Err, ◌==◌, if◌then◌else◌, nat_lt, ℤ}
 use Rattle.std.specs.List.{before_first, after_first}
-use Rattle.rsp_text.specs.declared.fault.AsmFault.{AsmFault}
-use Rattle.rsp_text.specs.declared.fault.AsmFaultKind.{AsmFaultKind}
-use Rattle.rsp_text.specs.declared.fault.AsmFaultKind.TheVariants.{OutOfRange, PastEnd, LabelTwice, OutOfMemory}
-use Rattle.rsp_text.specs.declared.slot.Slot.{Slot}
-use Rattle.rsp_text.specs.declared.text.Boundary.TheVariants.{Blank}
-use Rattle.rsp_text.specs.Cuts.{is_boundary}
-use Rattle.rsp_text.specs.Numbers.{Expression}
-use Rattle.rsp_text.specs.Statement.{Labels, Reading, Statement, nothing, numbers, instruction, Form, form_named, form_readings, with_operands, with_form, operand_texts, statement_of, size, field, evaluate, or_out_of_range, field_of, then_registers, fields_with, fields_of, append, all_fields, one_word}
-use Rattle.rsp_text.specs.SourceLine.{Parts, split_line, is_twice, has_bad_number, statement_fault, parts_fault, first_fault, statement_words, parts_words, line_words}
+use Rattle.rsp_syntax.specs.declared.fault.AsmFault.{AsmFault}
+use Rattle.rsp_syntax.specs.declared.fault.AsmFaultKind.{AsmFaultKind}
+use Rattle.rsp_syntax.specs.declared.fault.AsmFaultKind.TheVariants.{OutOfRange, PastEnd, LabelTwice, OutOfMemory}
+use Rattle.rsp_syntax.specs.declared.operand_range.OperandRange.{OperandRange}
+use Rattle.rsp_syntax.specs.declared.text.Boundary.TheVariants.{Blank}
+use Rattle.rsp_syntax.specs.Cuts.{is_boundary}
+use Rattle.rsp_syntax.specs.Numbers.{Expression}
+use Rattle.rsp_syntax.specs.Statement.{Labels, OperandValue, Statement, nothing, numbers, instruction, Form, form_named, statement_of_form, with_operands, with_form, operand_texts, statement_of, size, field, evaluate, or_out_of_range, field_of, then_registers, fields_with, fields_of, append, all_fields, one_word}
+use Rattle.rsp_syntax.specs.SourceLine.{LineParts, split_line, is_label_taken, has_bad_number, statement_fault, parts_fault, first_fault, statement_words, parts_words, line_words}
 use Rattle.std.specs.Str.Lines.{lines}
 use Rattle.std.proofs.lemmas.Bool.{false≢true}
-use Rattle.rsp_asm.specs.Answer.{IsFault, HidesNoFault}
-use Rattle.rsp_text.specs.Means.{all_labels, fault_of_line, words_of_line, or_fault, fault_before, and_words, words_before, unless, means_lines}
+use Rattle.rsp_asm.specs.AssembleFaults.{IsFault, HidesNoFault}
+use Rattle.rsp_syntax.specs.SourceText.{all_labels, fault_of_line, words_of_line, or_fault, fault_before, and_words, words_before, unless, meaning_of_lines}
 
 -- a kind that a text can have
 abbrev pub of_text : AsmFaultKind → Bool
@@ -45,7 +45,7 @@ read_fine (Some s) = tt
 
 form_fine : (o : Option Form) (ts : List (List ℕ)) → FineResult (with_form o ts)
 form_fine None ts = refl
-form_fine (Some form) ts = read_fine (form_readings form ts)
+form_fine (Some form) ts = read_fine (statement_of_form form ts)
 
 statement_fine : (bs : List ℕ) → FineResult (statement_of bs)
 statement_fine bs =
@@ -59,10 +59,10 @@ checked_fine address (Err kind) h = h
 checked_fine address (Ok s) h =
     either (has_bad_number address (Ok s)) (Some OutOfRange) _ refl (either (nat_lt 4096 (address + 4 * size s)) (Some PastEnd) None refl tt)
 
-parts_fine : (labels : Labels) (address : ℕ) (o : Option Parts) → Fine (parts_fault labels address o)
+parts_fine : (labels : Labels) (address : ℕ) (o : Option LineParts) → Fine (parts_fault labels address o)
 parts_fine labels address None = refl
 parts_fine labels address (Some p) =
-    either (is_twice labels p.label) (Some LabelTwice) _ refl (checked_fine address (statement_of p.body) (statement_fine p.body))
+    either (is_label_taken labels p.label) (Some LabelTwice) _ refl (checked_fine address (statement_of p.body) (statement_fine p.body))
 
 first_fine : (labels : Labels) (address : ℕ) (line : List ℕ) → Fine (first_fault labels address line)
 unfolding first_fault
@@ -85,7 +85,7 @@ value_fine : (o : Option ℕ) → FineResult (or_out_of_range o)
 value_fine None = refl
 value_fine (Some v) = tt
 
-field_fine : (range : Slot) (address : ℕ) (o : Option ℤ) → FineResult (field_of range address o)
+field_fine : (range : OperandRange) (address : ℕ) (o : Option ℤ) → FineResult (field_of range address o)
 field_fine range address None = refl
 field_fine range address (Some z) = value_fine (field range address z)
 
@@ -93,7 +93,7 @@ registers_fine : (ns : List ℕ) (r : Result ℕ AsmFaultKind) → FineResult r 
 registers_fine ns (Ok v) h = tt
 registers_fine ns (Err kind) h = h
 
-operand_fine : (labels : Labels) (address : ℕ) (ns : List ℕ) (o : Option (Slot × Expression)) → FineResult (fields_with labels address ns o)
+operand_fine : (labels : Labels) (address : ℕ) (ns : List ℕ) (o : Option (OperandRange × Expression)) → FineResult (fields_with labels address ns o)
 operand_fine labels address ns None = tt
 operand_fine labels address ns (Some v) = registers_fine ns (field_of v.0 address (evaluate labels v.1)) (field_fine v.0 address (evaluate labels v.1))
 
@@ -102,7 +102,7 @@ append_fine (Err kind) later h k = h
 append_fine (Ok vs) (Err kind) h k = k
 append_fine (Ok vs) (Ok more) h k = tt
 
-fields_fine : (labels : Labels) (address : ℕ) (rs : List Reading) → FineResult (all_fields labels address rs)
+fields_fine : (labels : Labels) (address : ℕ) (rs : List OperandValue) → FineResult (all_fields labels address rs)
 fields_fine labels address [] = tt
 fields_fine labels address (r ∷ rs) =
     append_fine (fields_of labels address r) (all_fields labels address rs) (operand_fine labels address r.registers r.value) (fields_fine labels address rs)
@@ -117,7 +117,7 @@ words_fine labels address (Ok (instruction row rs)) h = go (all_fields labels ad
     go (Err kind) k = k
     go (Ok vs) k = tt
 
-line_fine : (labels : Labels) (address : ℕ) (o : Option Parts) → FineResult (parts_words labels address o)
+line_fine : (labels : Labels) (address : ℕ) (o : Option LineParts) → FineResult (parts_words labels address o)
 line_fine labels address None = refl
 line_fine labels address (Some p) = words_fine labels address (statement_of p.body) (statement_fine p.body)
 
@@ -137,7 +137,7 @@ words_of_text labels origin ls (suc n) f e = go (words_before labels origin ls n
         subst (λ k. of_text k ≡ true) same h
 
 -- the fault that lines mean is one of the text
-pub means_of_text : (ls : List (List ℕ)) (origin : ℕ) (f : AsmFault) → means_lines ls origin ≡ Err f → of_text f.kind ≡ true
+pub means_of_text : (ls : List (List ℕ)) (origin : ℕ) (f : AsmFault) → meaning_of_lines ls origin ≡ Err f → of_text f.kind ≡ true
 means_of_text ls origin f e = go (fault_before origin ls (length ls)) refl e
   where
     go : (o : Option AsmFault) → fault_before origin ls (length ls) ≡ o → unless o (words_before (all_labels origin ls) origin ls (length ls)) ≡ Err f → of_text f.kind ≡ true
@@ -148,5 +148,5 @@ means_of_text ls origin f e = go (fault_before origin ls (length ls)) refl e
 
 -- there was no memory at a line where that hides no fault of the text
 pub short_hides : (origin : ℕ) (text : List ℕ) (f : AsmFault) → IsFault origin text f → f.kind ≡ OutOfMemory → HidesNoFault origin (lines text) f.line
-short_hides origin text f (inl means) e = absurd (false≢true (sym (ap of_text e) ∙ means_of_text (lines text) origin f means))
+short_hides origin text f (inl meaning_of_text) e = absurd (false≢true (sym (ap of_text e) ∙ means_of_text (lines text) origin f meaning_of_text))
 short_hides origin text f (inr short) e = short.hides

@@ -6,14 +6,14 @@ use Rattle.std.specs.Str.{str_eq_ignore_ascii_case}
 use Rattle.std.proofs.lemmas.Bool.{and_parts, or_cases, eqb-true}
 use Rattle.std.proofs.lemmas.Bool.Decides.{nat_tests}
 use Rattle.rsp_decode.specs.Table.{Operand, ByteElements, all_bytes, half_bytes, byte_bits, scalar, shift_amount, signed, unsigned, jump_target, branch_target, scalar_memory, vector_memory, sp_register, control_register, vector, vector_byte, vector_element, vector_lane, BitField, bit_fields, stepped, FitsBitField, FitBitFields, is_scale, is_row_operand}
-use Rattle.rsp_text.specs.declared.fault.AsmFaultKind.{AsmFaultKind}
-use Rattle.rsp_text.specs.declared.slot.Slot.{Slot}
-use Rattle.rsp_text.specs.declared.slot.Slot.TheVariants.{Half, Amount, Jump, Branch, Scaled}
-use Rattle.rsp_text.specs.declared.text.Boundary.TheVariants.{Parenthesis, Bracket}
-use Rattle.rsp_text.specs.Cuts.{cut}
-use Rattle.rsp_text.specs.Names.{look_up, below, small_number, is_decimal, scalar_names, scalar_named, vector_named, sp_named, control_names, control_named, element_names, element_named}
-use Rattle.rsp_text.specs.Numbers.{Expression, expression_of}
-use Rattle.rsp_text.specs.Statement.{Labels, Reading, one_register, asks, base_of, offset_of, memory, bracketed, half_start, byte_named, lane_named, with_element, bracket_of, memory_operand, read, field, half, amount, jump, branch, scaled_offset, evaluate, or_out_of_range, field_of, then_registers, fields_of, append, all_fields, read_all}
+use Rattle.rsp_syntax.specs.declared.fault.AsmFaultKind.{AsmFaultKind}
+use Rattle.rsp_syntax.specs.declared.operand_range.OperandRange.{OperandRange}
+use Rattle.rsp_syntax.specs.declared.operand_range.OperandRange.TheVariants.{Half, Amount, Jump, Branch, Scaled}
+use Rattle.rsp_syntax.specs.declared.text.Boundary.TheVariants.{Parenthesis, Bracket}
+use Rattle.rsp_syntax.specs.Cuts.{cut}
+use Rattle.rsp_syntax.specs.Names.{look_up, below, small_number, is_decimal, scalar_names, scalar_named, vector_named, sp_named, control_names, control_named, element_names, element_named}
+use Rattle.rsp_syntax.specs.Numbers.{Expression, expression_of}
+use Rattle.rsp_syntax.specs.Statement.{Labels, OperandValue, one_register, ranged_value, base_of, offset_of, memory, bracketed, half_start, byte_named, lane_named, with_element, bracket_of, memory_operand, read, field, half, amount, jump, branch, scaled_offset, evaluate, or_out_of_range, field_of, then_registers, fields_of, append, all_fields, read_all}
 
 -- ---- names
 
@@ -123,7 +123,7 @@ scaled_fits s e = elim (or_cases _ _ e) [
 
 module _ (labels : Labels) (address : ℕ) where
   -- the fields of what is read fit, where something is read and has fields
-  abbrev pub Fits : Operand → Option Reading → Type 0
+  abbrev pub Fits : Operand → Option OperandValue → Type 0
   Fits k o = IfSome o (λ r. IfOk (fields_of labels address r) (FitBitFields (bit_fields k)))
 
   pair_fits : (k : Operand) (P : ℕ → Type 0) (v e : Option ℕ) → Below 32 v → IfSome e P → ((n m : ℕ) → n < 32 → P m → FitBitFields (bit_fields k) (n ∷ m ∷ [])) → Fits k (with_element v e)
@@ -135,7 +135,7 @@ module _ (labels : Labels) (address : ℕ) where
   bracket_fits k P look default None bs all some h = pair_fits k P (vector_named bs) default (vector_below bs) some h
   bracket_fits k P look default (Some p) bs all some h = pair_fits k P (vector_named p.0) (bracketed look p.1) (vector_below p.0) (bracketed_fits P look all p.1) h
 
-  valued : (k : Operand) (range : Slot) (limit : ℕ) (ns : List ℕ) (e : Expression) → ((z : ℤ) → Below limit (field range address z)) → ((v : ℕ) → v < limit → FitBitFields (bit_fields k) (v ∷ ns)) → IfOk (fields_of labels address (asks range ns e)) (FitBitFields (bit_fields k))
+  valued : (k : Operand) (range : OperandRange) (limit : ℕ) (ns : List ℕ) (e : Expression) → ((z : ℤ) → Below limit (field range address z)) → ((v : ℕ) → v < limit → FitBitFields (bit_fields k) (v ∷ ns)) → IfOk (fields_of labels address (ranged_value range ns e)) (FitBitFields (bit_fields k))
   valued k range limit ns e all h = go (evaluate labels e)
     where
       ranged : (o : Option ℕ) → Below limit o → IfOk (then_registers ns (or_out_of_range o)) (FitBitFields (bit_fields k))
@@ -146,16 +146,16 @@ module _ (labels : Labels) (address : ℕ) where
       go None = tt
       go (Some z) = ranged (field range address z) (all z)
 
-  value_fits : (k : Operand) (range : Slot) (limit : ℕ) (o : Option Expression) → ((z : ℤ) → Below limit (field range address z)) → ((v : ℕ) → v < limit → FitBitFields (bit_fields k) (v ∷ [])) → Fits k (option_map (asks range []) o)
+  value_fits : (k : Operand) (range : OperandRange) (limit : ℕ) (o : Option Expression) → ((z : ℤ) → Below limit (field range address z)) → ((v : ℕ) → v < limit → FitBitFields (bit_fields k) (v ∷ [])) → Fits k (option_map (ranged_value range []) o)
   value_fits k range limit None all h = tt
   value_fits k range limit (Some e) all h = valued k range limit [] e all h
 
-  offset_fits : (k : Operand) (range : Slot) (limit : ℕ) (o : Option Expression) (base : Option ℕ) → Below 32 base → ((z : ℤ) → Below limit (field range address z)) → ((v n : ℕ) → v < limit → n < 32 → FitBitFields (bit_fields k) (v ∷ n ∷ [])) → Fits k (memory range o base)
+  offset_fits : (k : Operand) (range : OperandRange) (limit : ℕ) (o : Option Expression) (base : Option ℕ) → Below 32 base → ((z : ℤ) → Below limit (field range address z)) → ((v n : ℕ) → v < limit → n < 32 → FitBitFields (bit_fields k) (v ∷ n ∷ [])) → Fits k (memory range o base)
   offset_fits k range limit None base b all h = tt
   offset_fits k range limit (Some e) None b all h = tt
   offset_fits k range limit (Some e) (Some n) b all h = valued k range limit (n ∷ []) e all (λ v lt. h v n lt b)
 
-  memory_fits : (k : Operand) (range : Slot) (limit : ℕ) (o : Option (List ℕ × List ℕ)) → ((z : ℤ) → Below limit (field range address z)) → ((v n : ℕ) → v < limit → n < 32 → FitBitFields (bit_fields k) (v ∷ n ∷ [])) → Fits k (memory_operand range o)
+  memory_fits : (k : Operand) (range : OperandRange) (limit : ℕ) (o : Option (List ℕ × List ℕ)) → ((z : ℤ) → Below limit (field range address z)) → ((v n : ℕ) → v < limit → n < 32 → FitBitFields (bit_fields k) (v ∷ n ∷ [])) → Fits k (memory_operand range o)
   memory_fits k range limit None all h = tt
   memory_fits k range limit (Some p) all h = offset_fits k range limit (offset_of p.0) (base_of p.1) (base_below p.1) all h
 
@@ -195,10 +195,10 @@ module _ (labels : Labels) (address : ℕ) where
   append_fits ps qs (Ok vs) (Err kind) a b = tt
   append_fits ps qs (Ok vs) (Ok ws) a b = both_fit ps qs vs ws a b
 
-  abbrev pub AllFit : List Operand → Option (List Reading) → Type 0
+  abbrev pub AllFit : List Operand → Option (List OperandValue) → Type 0
   AllFit ks o = IfSome o (λ rs. IfOk (all_fields labels address rs) (FitBitFields (flat_map bit_fields ks)))
 
-  one_more : (k : Operand) (ks : List Operand) (o : Option Reading) (os : Option (List Reading)) → Fits k o → AllFit ks os → AllFit (k ∷ ks) (option_and_then (λ r. option_map (λ rs. r ∷ rs) os) o)
+  one_more : (k : Operand) (ks : List Operand) (o : Option OperandValue) (os : Option (List OperandValue)) → Fits k o → AllFit ks os → AllFit (k ∷ ks) (option_and_then (λ r. option_map (λ rs. r ∷ rs) os) o)
   one_more k ks None os a b = tt
   one_more k ks (Some r) None a b = tt
   one_more k ks (Some r) (Some rs) a b = append_fits (bit_fields k) (flat_map bit_fields ks) (fields_of labels address r) (all_fields labels address rs) a b

@@ -3,9 +3,9 @@ use Rattle.std.proofs.Common.{◌≡◌, refl, sym, ap, ◌∙◌, subst, ℕ, L
 use Rattle.std.specs.Prelude.{Option, Some, None, option_map, Result}
 use Rattle.std.specs.List.{list_all}
 use Rattle.rsp_decode.specs.Table.{Row, Entry, entry_of, is_row_operand}
-use Rattle.rsp_text.specs.declared.fault.AsmFaultKind.{AsmFaultKind}
-use Rattle.rsp_text.specs.Statement as meaning
-use Rattle.rsp_text.specs.Statement.{Form, no_operation, numbers_form, row_form, form_named, operand_texts, with_form}
+use Rattle.rsp_syntax.specs.declared.fault.AsmFaultKind.{AsmFaultKind}
+use Rattle.rsp_syntax.specs.Statement as meaning
+use Rattle.rsp_syntax.specs.Statement.{Form, no_operation, numbers_form, row_form, form_named, operand_texts, with_form}
 use Rattle.rsp_asm.specs.declared.statement.Form as code
 use Rattle.rsp_asm.specs.declared.statement.Statement.{Statement}
 use Rattle.rsp_asm.specs.declared.statement.Form.TheVariants.{NoOperation, Numbers}

@@ -1,13 +1,13 @@
 pub mod Passes
 pub mod Texts
-pub mod Readings
+pub mod OperandValues
 pub mod Forms
 pub mod Steps
 pub mod Statements
-pub mod Chain
+pub mod LineFaults
 pub mod Faults
 pub mod Fits
 pub mod Decodes
-pub mod Same
+pub mod SameAddresses
 pub mod Blocks
 pub mod BlockTexts

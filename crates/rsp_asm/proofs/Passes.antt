@@ -2,14 +2,14 @@
 use Rattle.std.proofs.Common.{◌≡◌, sym, ap, ◌∙◌, subst, ℕ, zero, suc, ◌+◌, ◌*◌, ◌<◌, ◌≤◌, List, [], ◌∷◌, ◌++◌, length, drop, drop-cons, arith, add-one, true, false}
 use Rattle.std.specs.Prelude.{Some, None, Result, Ok, Err, is_some, is_err, OnOk, OnErr, ◌-◌}
 use Rattle.std.proofs.lemmas.List.{length-drop}
-use Rattle.rsp_text.specs.declared.fault.AsmFault.{AsmFault}
-use Rattle.rsp_text.specs.declared.fault.AsmFaultKind.{AsmFaultKind}
-use Rattle.rsp_text.specs.Statement.{Labels}
-use Rattle.rsp_text.specs.SourceLine.{label_of, line_size, first_fault, line_words}
-use Rattle.rsp_text.specs.Means.{line_at, place_of_line, labelled, labels_before, all_labels, fault_of_line, words_of_line, fault_at, or_fault, fault_before, and_words, words_before, unless, means_lines}
-use Rattle.rsp_operands.specs.Labels.{SamePlaces}
-use Rattle.rsp_asm.specs.Answer.{HidesNoFault}
-use Rattle.rsp_asm.proofs.Same.{first_same, same_behind, new_label}
+use Rattle.rsp_syntax.specs.declared.fault.AsmFault.{AsmFault}
+use Rattle.rsp_syntax.specs.declared.fault.AsmFaultKind.{AsmFaultKind}
+use Rattle.rsp_syntax.specs.Statement.{Labels}
+use Rattle.rsp_syntax.specs.SourceLine.{label_of, line_size, first_fault, line_words}
+use Rattle.rsp_syntax.specs.SourceText.{line_at, address_of_line, labelled, labels_before, all_labels, fault_of_line, words_of_line, fault_at, or_fault, fault_before, and_words, words_before, unless, meaning_of_lines}
+use Rattle.rsp_operands.specs.Labels.{SameAddresses}
+use Rattle.rsp_asm.specs.AssembleFaults.{HidesNoFault}
+use Rattle.rsp_asm.proofs.SameAddresses.{first_same, same_behind, new_label}
 
 -- ---- the next of the lines that are left
 
@@ -37,11 +37,11 @@ module _ (origin : ℕ) (ls : List (List ℕ)) where
   fault_stays zero n m f e is = let same : n ≡ m = omega (arith, is) in subst (λ i. fault_before origin ls i ≡ Some f) same e
   fault_stays (suc k) n m f e is = fault_stays k (suc n) m f (ap (λ o. or_fault o (suc n) (fault_of_line origin ls n)) e) (omega (arith, is))
 
-  place_grows : (k n m : ℕ) → n + k ≡ m → place_of_line origin ls n ≤ place_of_line origin ls m
-  place_grows zero n m is = let same : n ≡ m = omega (arith, is) in subst (λ i. place_of_line origin ls n ≤ place_of_line origin ls i) same (omega arith)
+  place_grows : (k n m : ℕ) → n + k ≡ m → address_of_line origin ls n ≤ address_of_line origin ls m
+  place_grows zero n m is = let same : n ≡ m = omega (arith, is) in subst (λ i. address_of_line origin ls n ≤ address_of_line origin ls i) same (omega arith)
   place_grows (suc k) n m is = let more = place_grows k (suc n) m (omega (arith, is)) in omega (arith, more)
 
-  pub fault_means : (f : AsmFault) → fault_before origin ls (length ls) ≡ Some f → means_lines ls origin ≡ Err f
+  pub fault_means : (f : AsmFault) → fault_before origin ls (length ls) ≡ Some f → meaning_of_lines ls origin ≡ Err f
   fault_means f e = ap (λ o. unless o (words_before (all_labels origin ls) origin ls (length ls))) e
 
 -- the first pass has done the first lines of a text, and these are left
@@ -49,13 +49,13 @@ pub record Done (origin number : ℕ) (ls left : List (List ℕ)) (labels : Labe
   pub rest : drop number ls ≡ left
   pub few : number ≤ length ls
   pub clean : fault_before origin ls number ≡ None
-  pub labels_are : SamePlaces labels (labels_before origin ls number)
-  pub place_is : address ≡ place_of_line origin ls number
+  pub labels_are : SameAddresses labels (labels_before origin ls number)
+  pub place_is : address ≡ address_of_line origin ls number
 
 module _ (origin number : ℕ) (ls : List (List ℕ)) (l : List ℕ) (more : List (List ℕ)) (labels : Labels) (address : ℕ) (d : Done origin number ls (l ∷ more) labels address) where
   found : fault_of_line origin ls number ≡ first_fault labels address l
   found =
-      ap (first_fault (labels_before origin ls number) (place_of_line origin ls number)) (line_is ls number l more d.rest)
+      ap (first_fault (labels_before origin ls number) (address_of_line origin ls number)) (line_is ls number l more d.rest)
       ∙ ap (λ p. first_fault (labels_before origin ls number) p l) (sym d.place_is)
       ∙ sym (first_same labels (labels_before origin ls number) d.labels_are address l)
 
@@ -65,7 +65,7 @@ module _ (origin number : ℕ) (ls : List (List ℕ)) (l : List ℕ) (more : Lis
   clean_more : first_fault labels address l ≡ None → fault_before origin ls (suc number) ≡ None
   clean_more e = with_line ∙ ap (or_fault None (suc number)) e
 
-  pub done_more : (labels' : Labels) (address' : ℕ) → first_fault labels address l ≡ None → SamePlaces labels' (labelled (label_of l) address ++ labels) → address' ≡ address + 4 * line_size l → Done origin (number + 1) ls more labels' address'
+  pub done_more : (labels' : Labels) (address' : ℕ) → first_fault labels address l ≡ None → SameAddresses labels' (labelled (label_of l) address ++ labels) → address' ≡ address + 4 * line_size l → Done origin (number + 1) ls more labels' address'
   done_more labels' address' e labels_is at =
       let here = line_is ls number l more d.rest in
       rw (add-one) (record {
@@ -73,9 +73,9 @@ module _ (origin number : ℕ) (ls : List (List ℕ)) (l : List ℕ) (more : Lis
         few = inside ls number l more d.rest;
         clean = clean_more e;
         labels_are =
-            subst (λ t. SamePlaces labels' (labels_before origin ls number ++ t)) (ap (labelled (label_of l)) d.place_is ∙ ap (λ x. labelled (label_of x) (place_of_line origin ls number)) (sym here))
+            subst (λ t. SameAddresses labels' (labels_before origin ls number ++ t)) (ap (labelled (label_of l)) d.place_is ∙ ap (λ x. labelled (label_of x) (address_of_line origin ls number)) (sym here))
             (same_behind (label_of l) address labels' labels (labels_before origin ls number) (new_label (labels_before origin ls number) address l (sym (first_same labels (labels_before origin ls number) d.labels_are address l) ∙ e)) labels_is d.labels_are);
-        place_is = at ∙ ap (λ p. p + 4 * line_size l) d.place_is ∙ ap (λ x. place_of_line origin ls number + 4 * line_size x) (sym here);
+        place_is = at ∙ ap (λ p. p + 4 * line_size l) d.place_is ∙ ap (λ x. address_of_line origin ls number + 4 * line_size x) (sym here);
       })
 
   pub done_fault : (kind : AsmFaultKind) → first_fault labels address l ≡ Some kind → fault_before origin ls (length ls) ≡ Some (fault_at (number + 1) kind)
@@ -116,14 +116,14 @@ words_stay labels origin ls (suc k) n m f e is = words_stay labels origin ls k (
 pub record Written (origin number : ℕ) (ls left : List (List ℕ)) (labels : Labels) (count : ℕ) (words : List ℕ) : Type 0 where
   pub rest : drop number ls ≡ left
   pub few : number ≤ length ls
-  pub place_is : origin + 4 * count ≡ place_of_line origin ls number
+  pub place_is : origin + 4 * count ≡ address_of_line origin ls number
   pub words_are : words_before labels origin ls number ≡ Ok words
 
 module _ (origin number : ℕ) (ls : List (List ℕ)) (l : List ℕ) (more : List (List ℕ)) (labels : Labels) (count : ℕ) (words : List ℕ) (d : Written origin number ls (l ∷ more) labels count words) where
-  size_is : place_of_line origin ls (suc number) ≡ origin + 4 * count + 4 * line_size l
-  size_is = ap (λ x. place_of_line origin ls number + 4 * line_size x) (line_is ls number l more d.rest) ∙ ap (λ p. p + 4 * line_size l) (sym d.place_is)
+  size_is : address_of_line origin ls (suc number) ≡ origin + 4 * count + 4 * line_size l
+  size_is = ap (λ x. address_of_line origin ls number + 4 * line_size x) (line_is ls number l more d.rest) ∙ ap (λ p. p + 4 * line_size l) (sym d.place_is)
 
-  pub written_room : origin + 4 * count + 4 * line_size l ≤ place_of_line origin ls (length ls)
+  pub written_room : origin + 4 * count + 4 * line_size l ≤ address_of_line origin ls (length ls)
   written_room =
       let lt = inside ls number l more d.rest in
       let grows = place_grows origin ls (length ls - suc number) (suc number) (length ls) (omega (arith, lt)) in
@@ -133,7 +133,7 @@ module _ (origin number : ℕ) (ls : List (List ℕ)) (l : List ℕ) (more : Lis
   with_words : (address : ℕ) → address ≡ origin + 4 * count → words_before labels origin ls (suc number) ≡ and_words (Ok words) (suc number) (line_words labels address l)
   with_words address at =
       ap (λ o. and_words o (suc number) (words_of_line labels origin ls number)) d.words_are
-      ∙ ap (λ x. and_words (Ok words) (suc number) (line_words labels (place_of_line origin ls number) x)) (line_is ls number l more d.rest)
+      ∙ ap (λ x. and_words (Ok words) (suc number) (line_words labels (address_of_line origin ls number) x)) (line_is ls number l more d.rest)
       ∙ ap (λ p. and_words (Ok words) (suc number) (line_words labels p l)) (sym (at ∙ d.place_is))
 
   pub written_more : (address count' : ℕ) (vs words' : List ℕ) → address ≡ origin + 4 * count → line_words labels address l ≡ Ok vs → count' ≡ count + line_size l → words' ≡ words ++ vs → Written origin (number + 1) ls more labels count' words'
@@ -158,5 +158,5 @@ module _ (origin number : ℕ) (ls : List (List ℕ)) (labels : Labels) (count :
   pub written_all : words_before labels origin ls (length ls) ≡ Ok words
   written_all = ap (words_before labels origin ls) (sym whole) ∙ d.words_are
 
-  pub written_place : origin + 4 * count ≡ place_of_line origin ls (length ls)
-  written_place = d.place_is ∙ ap (place_of_line origin ls) whole
+  pub written_place : origin + 4 * count ≡ address_of_line origin ls (length ls)
+  written_place = d.place_is ∙ ap (address_of_line origin ls) whole

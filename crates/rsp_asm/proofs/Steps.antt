@@ -6,19 +6,19 @@ use Rattle.std.specs.Option.{option_or}
 use Rattle.std.specs.Result.{result_err, result_unwrap_or}
 use Rattle.std.proofs.lemmas.List.{append_assoc}
 use Rattle.rsp_decode.specs.Table.{Operand, BitField, bit_fields}
-use Rattle.rsp_text.specs.declared.fault.AsmFaultKind.{AsmFaultKind}
-use Rattle.rsp_text.specs.declared.fault.AsmFaultKind.TheVariants.{BadOperand, OutOfRange}
-use Rattle.rsp_text.specs.declared.slot.Slot.TheVariants.{Word}
-use Rattle.rsp_text.specs.Numbers.{Expression, expression_of}
-use Rattle.rsp_text.specs.Statement.{Labels, Reading, read, read_all, read_numbers, asks, append, evaluate, field_of, fields_of, all_fields, then_registers, or_out_of_range, word}
-use Rattle.rsp_text.specs.Walks.{reading_fails, with_values, word_fails, word_value}
-use Rattle.rsp_text.proofs.Tables.{at_index}
-use Rattle.rsp_asm.specs.Statements.{checked_readings, and_then, word_with, single}
-use Rattle.rsp_asm.proofs.Readings.{span, fields_span, read_span, with_fields_append}
+use Rattle.rsp_syntax.specs.declared.fault.AsmFaultKind.{AsmFaultKind}
+use Rattle.rsp_syntax.specs.declared.fault.AsmFaultKind.TheVariants.{BadOperand, OutOfRange}
+use Rattle.rsp_syntax.specs.declared.operand_range.OperandRange.TheVariants.{Word}
+use Rattle.rsp_syntax.specs.Numbers.{Expression, expression_of}
+use Rattle.rsp_syntax.specs.Statement.{Labels, OperandValue, read, read_all, read_numbers, ranged_value, append, evaluate, field_of, fields_of, all_fields, then_registers, or_out_of_range, word}
+use Rattle.rsp_syntax.specs.OperandResults.{operand_fails, with_values, word_fails, word_value}
+use Rattle.rsp_syntax.proofs.Tables.{at_index}
+use Rattle.rsp_asm.specs.Statements.{count_or_fault, and_then, word_with, single}
+use Rattle.rsp_asm.proofs.OperandValues.{span, fields_span, read_span, with_fields_append}
 
 -- a reading before others, where all can be read
-abbrev pub before_others : Option Reading → Option (List Reading) → Option (List Reading)
-before_others o q = option_and_then (λ (r : Reading). option_map (λ (rs : List Reading). r ∷ rs) q) o
+abbrev pub before_others : Option OperandValue → Option (List OperandValue) → Option (List OperandValue)
+before_others o q = option_and_then (λ (r : OperandValue). option_map (λ (rs : List OperandValue). r ∷ rs) q) o
 
 -- a fault that was found, or what was made so far
 abbrev pub so_far : {A : Type 0} → Option AsmFaultKind → A → Result A AsmFaultKind
@@ -32,13 +32,13 @@ or_both true b c = refl
 or_both false b c = refl
 
 module _ (address count : ℕ) (bad : Bool) where
-  pub checked_next : (o : Option Reading) (q : Option (List Reading)) (b : Bool) → Some b ≡ option_map (reading_fails address) o → checked_readings address (bad || b) count q ≡ checked_readings address bad count (before_others o q)
+  pub checked_next : (o : Option OperandValue) (q : Option (List OperandValue)) (b : Bool) → Some b ≡ option_map (operand_fails address) o → count_or_fault address (bad || b) count q ≡ count_or_fault address bad count (before_others o q)
   checked_next None q b e = absurd cc
   checked_next (Some r) None b e = refl
   checked_next (Some r) (Some rs) b e =
-      let same : b ≡ reading_fails address r = cc in
-      ap (λ t. if (bad || t) || list_any (reading_fails address) rs then Err OutOfRange else Ok count) same
-      ∙ ap (λ t. if t then Err OutOfRange else Ok count) (or_both bad (reading_fails address r) (list_any (reading_fails address) rs))
+      let same : b ≡ operand_fails address r = cc in
+      ap (λ t. if (bad || t) || list_any (operand_fails address) rs then Err OutOfRange else Ok count) same
+      ∙ ap (λ t. if t then Err OutOfRange else Ok count) (or_both bad (operand_fails address r) (list_any (operand_fails address) rs))
 
 -- ---- the second pass
 
@@ -48,7 +48,7 @@ put_one w ps qs (Ok vs) (Err kind) fit = refl
 put_one w ps qs (Ok vs) (Ok ws) fit = ap Ok (sym (with_fields_append ps qs vs ws w (fit vs refl)))
 
 module _ (labels : Labels) (address v : ℕ) (ps qs : List BitField) where
-  word_next : (fault : Option AsmFaultKind) (o : Option Reading) (q : Option (List Reading)) (p : Result ℕ AsmFaultKind) → ((r : Reading) → o ≡ Some r → span r ≡ length ps) → Some p ≡ option_map (λ (r : Reading). with_values v ps (fields_of labels address r)) o → word_with labels address (and_then (so_far fault v) (λ x. p)) qs q ≡ word_with labels address (so_far fault v) (ps ++ qs) (before_others o q)
+  word_next : (fault : Option AsmFaultKind) (o : Option OperandValue) (q : Option (List OperandValue)) (p : Result ℕ AsmFaultKind) → ((r : OperandValue) → o ≡ Some r → span r ≡ length ps) → Some p ≡ option_map (λ (r : OperandValue). with_values v ps (fields_of labels address r)) o → word_with labels address (and_then (so_far fault v) (λ x. p)) qs q ≡ word_with labels address (so_far fault v) (ps ++ qs) (before_others o q)
   word_next fault None q p fit e = absurd cc
   word_next fault (Some r) None p fit e = refl
   word_next (Some kind) (Some r) (Some rs) p fit e = refl
@@ -73,7 +73,7 @@ module _ (kinds : List Operand) (i : ℕ) (lt : i < length kinds) where
   first_read d t ts = ap (λ ks. read_all ks (t ∷ ts)) (at_index kinds i d lt)
 
   pub first_put : (d : Operand) (t : List ℕ) (ts : List (List ℕ)) (labels : Labels) (address v : ℕ) (fault : Option AsmFaultKind) (p w : Result ℕ AsmFaultKind)
-      → Some p ≡ option_map (λ (r : Reading). with_values v (bit_fields (get_or kinds i d)) (fields_of labels address r)) (read (get_or kinds i d) t)
+      → Some p ≡ option_map (λ (r : OperandValue). with_values v (bit_fields (get_or kinds i d)) (fields_of labels address r)) (read (get_or kinds i d) t)
       → w ≡ and_then (so_far fault v) (λ x. p)
       → word_with labels address w (flat_map bit_fields (drop (i + 1) kinds)) (read_all (drop (i + 1) kinds) ts) ≡ word_with labels address (so_far fault v) (flat_map bit_fields (drop i kinds)) (read_all (drop i kinds) (t ∷ ts))
   first_put d t ts labels address v fault p w e is =
@@ -84,39 +84,39 @@ module _ (kinds : List Operand) (i : ℕ) (lt : i < length kinds) where
       ∙ sym (ap (λ (xs : List Operand). word_with labels address (so_far fault v) (flat_map bit_fields xs) (read_all xs (t ∷ ts))) (at_index kinds i d lt))
 
   -- an operand that can't be read leaves nothing to read
-  pub first_unread : {A : Type 0} (f : Reading → A) (d : Operand) (t : List ℕ) (ts : List (List ℕ)) → None ≡ option_map f (read (get_or kinds i d) t) → None ≡ read_all (drop i kinds) (t ∷ ts)
+  pub first_unread : {A : Type 0} (f : OperandValue → A) (d : Operand) (t : List ℕ) (ts : List (List ℕ)) → None ≡ option_map f (read (get_or kinds i d) t) → None ≡ read_all (drop i kinds) (t ∷ ts)
   first_unread f d t ts e = go (read (get_or kinds i d) t) e ∙ sym (first_read d t ts)
     where
-      go : (o : Option Reading) → None ≡ option_map f o → None ≡ before_others o (read_all (drop (i + 1) kinds) ts)
+      go : (o : Option OperandValue) → None ≡ option_map f o → None ≡ before_others o (read_all (drop (i + 1) kinds) ts)
       go None e = refl
       go (Some r) e = absurd cc
 
 -- ---- the numbers of .word
 
-pub numbers_first : (t : List ℕ) (ts : List (List ℕ)) → read_numbers (t ∷ ts) ≡ before_others (option_map (asks Word []) (expression_of t)) (read_numbers ts)
+pub numbers_first : (t : List ℕ) (ts : List (List ℕ)) → read_numbers (t ∷ ts) ≡ before_others (option_map (ranged_value Word []) (expression_of t)) (read_numbers ts)
 numbers_first t ts = go (expression_of t)
   where
-    go : (o : Option Expression) → option_and_then (λ (e : Expression). option_map (λ (rs : List Reading). asks Word [] e ∷ rs) (read_numbers ts)) o ≡ before_others (option_map (asks Word []) o) (read_numbers ts)
+    go : (o : Option Expression) → option_and_then (λ (e : Expression). option_map (λ (rs : List OperandValue). ranged_value Word [] e ∷ rs) (read_numbers ts)) o ≡ before_others (option_map (ranged_value Word []) o) (read_numbers ts)
     go None = refl
     go (Some e) = refl
 
 pub numbers_unread : {A : Type 0} (f : Expression → A) (t : List ℕ) (ts : List (List ℕ)) → None ≡ option_map f (expression_of t) → None ≡ read_numbers (t ∷ ts)
 numbers_unread f t ts e = go (expression_of t) e ∙ sym (numbers_first t ts)
   where
-    go : (o : Option Expression) → None ≡ option_map f o → None ≡ before_others (option_map (asks Word []) o) (read_numbers ts)
+    go : (o : Option Expression) → None ≡ option_map f o → None ≡ before_others (option_map (ranged_value Word []) o) (read_numbers ts)
     go None e = refl
     go (Some x) e = absurd cc
 
-pub word_fails_so : (address : ℕ) (o : Option Expression) → option_map word_fails o ≡ option_map (reading_fails address) (option_map (asks Word []) o)
+pub word_fails_so : (address : ℕ) (o : Option Expression) → option_map word_fails o ≡ option_map (operand_fails address) (option_map (ranged_value Word []) o)
 word_fails_so address None = refl
 word_fails_so address (Some e) = refl
 
 -- words with those of these readings behind them, or the fault of the leftmost that has one
-abbrev pub words_with : Labels → ℕ → Result (List ℕ) AsmFaultKind → Option (List Reading) → Result (List ℕ) AsmFaultKind
+abbrev pub words_with : Labels → ℕ → Result (List ℕ) AsmFaultKind → Option (List OperandValue) → Result (List ℕ) AsmFaultKind
 words_with labels address words None = Err BadOperand
 words_with labels address words (Some rs) = append words (all_fields labels address rs)
 
-one_number : (labels : Labels) (address : ℕ) (e : Expression) → single (word_value labels e) ≡ fields_of labels address (asks Word [] e)
+one_number : (labels : Labels) (address : ℕ) (e : Expression) → single (word_value labels e) ≡ fields_of labels address (ranged_value Word [] e)
 one_number labels address e = go (evaluate labels e)
   where
     go : (o : Option ℤ) → single (field_of Word 0 o) ≡ then_registers [] (field_of Word address o)
@@ -133,14 +133,14 @@ append_three (Ok vs) (Err kind) c = refl
 append_three (Ok vs) (Ok ws) (Err kind) = refl
 append_three (Ok vs) (Ok ws) (Ok us) = ap Ok (append_assoc vs ws us)
 
-numbers_next : (labels : Labels) (address : ℕ) (words : Result (List ℕ) AsmFaultKind) (o : Option Expression) (q : Option (List Reading)) (p : Result ℕ AsmFaultKind) → Some p ≡ option_map (word_value labels) o → words_with labels address (append words (single p)) q ≡ words_with labels address words (before_others (option_map (asks Word []) o) q)
+numbers_next : (labels : Labels) (address : ℕ) (words : Result (List ℕ) AsmFaultKind) (o : Option Expression) (q : Option (List OperandValue)) (p : Result ℕ AsmFaultKind) → Some p ≡ option_map (word_value labels) o → words_with labels address (append words (single p)) q ≡ words_with labels address words (before_others (option_map (ranged_value Word []) o) q)
 numbers_next labels address words None q p e = absurd cc
 numbers_next labels address words (Some x) None p e = refl
 numbers_next labels address words (Some x) (Some rs) p e =
     let same : p ≡ word_value labels x = cc in
     ap (λ y. append (append words (single y)) (all_fields labels address rs)) same
     ∙ ap (λ y. append (append words y) (all_fields labels address rs)) (one_number labels address x)
-    ∙ append_three words (fields_of labels address (asks Word [] x)) (all_fields labels address rs)
+    ∙ append_three words (fields_of labels address (ranged_value Word [] x)) (all_fields labels address rs)
 
 -- Some of the numbers are put behind the words before them, or one of them has a fault, and these texts are left.
 pub record Part (labels : Labels) (old new : List ℕ) (fault : Option AsmFaultKind) (left ts : List (List ℕ)) : Type 0 where

@@ -6,12 +6,12 @@ use Rattle.std.proofs.lemmas.Bool.{cond-false}
 use Rattle.std.proofs.lemmas.List.Splits.{length-slice_split}
 use Rattle.std.proofs.lemmas.List.Sums.{count_by-le-length}
 use Rattle.std.proofs.lemmas.List.{length-map}
-use Rattle.rsp_text.specs.declared.text.Boundary.TheVariants.{Comma}
-use Rattle.rsp_text.specs.Chars.{trim}
-use Rattle.rsp_text.specs.Cuts.{is_boundary, cut}
-use Rattle.rsp_text.specs.Statement.{operand_texts}
-use Rattle.rsp_text.proofs.Cuts.{IsCut, cut_some, cut_nothing}
-use Rattle.rsp_text.proofs.Splits.{split_cons, split_one}
+use Rattle.rsp_syntax.specs.declared.text.Boundary.TheVariants.{Comma}
+use Rattle.rsp_syntax.specs.Chars.{trim}
+use Rattle.rsp_syntax.specs.Cuts.{is_boundary, cut}
+use Rattle.rsp_syntax.specs.Statement.{operand_texts}
+use Rattle.rsp_syntax.proofs.Cuts.{IsCut, cut_some, cut_nothing}
+use Rattle.rsp_syntax.proofs.Splits.{split_cons, split_one}
 
 -- the texts of a text that is cut at its first comma, and of one without a comma
 pub first_of_more : (text front rest : List ℕ) → Some (front, rest) ≡ cut Comma text → map trim (slice_split (is_boundary Comma) text) ≡ trim front ∷ map trim (slice_split (is_boundary Comma) rest)

@@ -1,12 +1,12 @@
 -- Scaffolding of the contracts: a statement whose operands are still to be read, as the code has it. What a statement means is
--- in Statement of rsp_text.
+-- in Statement of rsp_syntax.
 use Rattle.std.specs.Prelude.{◌≡◌, ℕ, List, true, Option, Some, None, Result, Ok}
 use Rattle.std.specs.List.{list_all}
 use Rattle.rsp_decode.specs.Table as table
 use Rattle.rsp_decode.specs.Table.{Entry, entry_of, entry, is_row_operand}
-use Rattle.rsp_text.specs.declared.fault.AsmFaultKind.{AsmFaultKind}
-use Rattle.rsp_text.specs.Statement as meaning
-use Rattle.rsp_text.specs.Statement.{nothing, no_operation, numbers_form, row_form, operand_texts, form_readings, with_operands}
+use Rattle.rsp_syntax.specs.declared.fault.AsmFaultKind.{AsmFaultKind}
+use Rattle.rsp_syntax.specs.Statement as meaning
+use Rattle.rsp_syntax.specs.Statement.{nothing, no_operation, numbers_form, row_form, operand_texts, statement_of_form, with_operands}
 use Rattle.rsp_asm.specs.declared.statement.Form.{Form}
 use Rattle.rsp_asm.specs.declared.statement.Form.TheVariants.{NoOperation, Numbers, Row}
 use Rattle.rsp_asm.specs.declared.statement.Statement.{Statement}
@@ -29,7 +29,7 @@ form_shape (row_form row) = row_shape (entry_of row)
 
 -- the statement of a form with these operands
 abbrev pub with_texts : meaning.Form → List ℕ → Result meaning.Statement AsmFaultKind
-with_texts form operands = with_operands (form_readings form (operand_texts operands))
+with_texts form operands = with_operands (statement_of_form form (operand_texts operands))
 
 -- the statement is that of an instruction with this entry
 pub record SaysRow (e : Entry) (operands : List ℕ) (said : Result meaning.Statement AsmFaultKind) : Type 0 where

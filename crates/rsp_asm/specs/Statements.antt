@@ -1,25 +1,25 @@
 -- Scaffolding of the contracts: what the two passes of the code return for a statement. What a statement means is in Statement
--- of rsp_text.
+-- of rsp_syntax.
 use Rattle.std.specs.Prelude.{◌≡◌, ℕ, Bool, ◌||◌, List, [], ◌∷◌, ◌++◌, length, flat_map, Option, Some, None, Result, Ok, Err, MatchResult, if◌then◌else◌}
 use Rattle.std.specs.List.{list_any}
 use Rattle.rsp_decode.specs.Table.{Entry, BitField, bit_fields}
-use Rattle.rsp_text.specs.declared.fault.AsmFaultKind.{AsmFaultKind}
-use Rattle.rsp_text.specs.declared.fault.AsmFaultKind.TheVariants.{BadOperand, OutOfRange}
-use Rattle.rsp_text.specs.SourceLine.{has_bad_number}
-use Rattle.rsp_text.specs.Statement.{Labels, Reading, Statement, all_fields, read_all, size}
-use Rattle.rsp_text.specs.Walks.{reading_fails, with_values}
+use Rattle.rsp_syntax.specs.declared.fault.AsmFaultKind.{AsmFaultKind}
+use Rattle.rsp_syntax.specs.declared.fault.AsmFaultKind.TheVariants.{BadOperand, OutOfRange}
+use Rattle.rsp_syntax.specs.SourceLine.{has_bad_number}
+use Rattle.rsp_syntax.specs.Statement.{Labels, OperandValue, Statement, all_fields, read_all, size}
+use Rattle.rsp_syntax.specs.OperandResults.{operand_fails, with_values}
 
 -- ---- the first pass
 
 -- `count`, or the fault that operands have without labels. `bad` says that an operand before them is out of its range.
-abbrev pub checked_readings : ℕ → Bool → ℕ → Option (List Reading) → Result ℕ AsmFaultKind
-checked_readings address bad count None = Err BadOperand
-checked_readings address bad count (Some rs) = if bad || list_any (reading_fails address) rs then Err OutOfRange else Ok count
+abbrev pub count_or_fault : ℕ → Bool → ℕ → Option (List OperandValue) → Result ℕ AsmFaultKind
+count_or_fault address bad count None = Err BadOperand
+count_or_fault address bad count (Some rs) = if bad || list_any (operand_fails address) rs then Err OutOfRange else Ok count
 
 -- how many words a statement gives, or the fault that it has without labels
-abbrev pub checked : ℕ → Result Statement AsmFaultKind → Result ℕ AsmFaultKind
-checked address (Err kind) = Err kind
-checked address (Ok s) = if has_bad_number address (Ok s) then Err OutOfRange else Ok (size s)
+abbrev pub size_or_fault : ℕ → Result Statement AsmFaultKind → Result ℕ AsmFaultKind
+size_or_fault address (Err kind) = Err kind
+size_or_fault address (Ok s) = if has_bad_number address (Ok s) then Err OutOfRange else Ok (size s)
 
 -- ---- the second pass
 
@@ -40,7 +40,7 @@ single (Err kind) = Err kind
 single (Ok w) = Ok (w ∷ [])
 
 -- n if the operands can be read, else 0
-abbrev pub counted : ℕ → Option (List Reading) → ℕ
+abbrev pub counted : ℕ → Option (List OperandValue) → ℕ
 counted n None = 0
 counted n (Some rs) = n
 
@@ -53,7 +53,7 @@ and_then (Err kind) more = Err kind
 and_then (Ok w) more = more w
 
 -- a word with the fields of these operands in these bit fields, or the fault of the leftmost that has one
-abbrev pub word_with : Labels → ℕ → Result ℕ AsmFaultKind → List BitField → Option (List Reading) → Result ℕ AsmFaultKind
+abbrev pub word_with : Labels → ℕ → Result ℕ AsmFaultKind → List BitField → Option (List OperandValue) → Result ℕ AsmFaultKind
 word_with labels address w ps None = Err BadOperand
 word_with labels address w ps (Some rs) = and_then w (λ v. with_values v ps (all_fields labels address rs))
 

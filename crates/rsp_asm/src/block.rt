@@ -1,13 +1,13 @@
 ghost use Rattle.std.specs.Prelude.{◌≡◌, ◌+◌, ◌*◌, ◌^◌, ◌<◌, ◌≤◌, ◌++◌, ◌∷◌, [], true, Ok, IfOk, IfErr, OnOk, OnErr, length};
 ghost use Rattle.std.specs.List.{list_all};
 ghost use Rattle.std.specs.String.{string_bytes};
-ghost use Rattle.rsp_text.specs.Chars.{is_plain};
-ghost use Rattle.rsp_asm.specs.Block.{opened, with_line, meaning};
+ghost use Rattle.rsp_syntax.specs.Chars.{is_line_byte};
+ghost use Rattle.rsp_asm.specs.Block.{empty_block, with_line, meaning_of_block};
 ghost use Rattle.rsp_asm.specs.BlockFault.{IsBlockFault};
 
-use crate::two_passes::assemble;
+use crate::assembler::assemble;
 use crate::words::Words;
-use rsp_text::{AsmFault, AsmFaultKind};
+use rsp_syntax::{AsmFault, AsmFaultKind};
 use std::alloc::{AllocError, Global};
 use std::marker::Model;
 
@@ -16,7 +16,7 @@ use std::marker::Model;
 /// It is what a script has between `asm` and `end`. Lines are kept as text, and read when the block is assembled.
 #[derive(Drop)]
 pub struct Block {
-    place: u16,
+    origin: u16,
     text: String,
 }
 
@@ -29,9 +29,9 @@ impl Model for Block {
 
     ghost Value = { OpenBlock };
 
-    ghost view = { λ b. record { place = b.place; lines = lines (string_bytes b.text) } };
+    ghost view = { λ b. record { origin = b.origin; lines = lines (string_bytes b.text) } };
 
-    ghost invariant = { λ b. (b.place ≤ 4092) × IsText (string_bytes b.text) };
+    ghost invariant = { λ b. (b.origin ≤ 4092) × IsText (string_bytes b.text) };
 }
 
 /// Why a block can't be assembled.
@@ -57,13 +57,13 @@ fn push_line(text: &mut String, line: &str) -> Result<(), AllocError>
 }
 
 impl Block {
-    /// A block without lines, whose first word will be at `place`, a byte address in IMEM of at most 4092. It doesn't allocate.
-    pub fn new(alloc: Global, place: u16) -> Block
-        requires { place ≤ 4092 }
-        ensures { result ≡ opened place }
+    /// A block without lines, whose first word will be at `origin`, a byte address in IMEM of at most 4092. It doesn't allocate.
+    pub fn new(alloc: Global, origin: u16) -> Block
+        requires { origin ≤ 4092 }
+        ensures { result ≡ empty_block origin }
     {
         Block {
-            place,
+            origin,
             text: String::new(alloc),
         }
     }
@@ -71,7 +71,7 @@ impl Block {
     /// Appends a line, given without its ending: tabs and bytes 20 to 7e hexadecimal. If there is no memory for it, the block is
     /// unchanged. A line of more than 256 bytes is accepted here, and refused as BadLine when the block is assembled.
     pub fn push(&mut self, line: &str) -> Result<(), AllocError>
-        requires { list_all is_plain line.now ≡ true }
+        requires { list_all is_line_byte line.now ≡ true }
         ensures ok { OnOk result (self.new ≡ with_line line.now self.old) }
         ensures err { OnErr result (self.new ≡ self.old) }
     {
@@ -79,11 +79,11 @@ impl Block {
     }
 
     /// The address of the first word, at most 4092.
-    pub fn place(&self) -> u16
-        ensures value { result ≡ self.now.place }
+    pub fn origin(&self) -> u16
+        ensures value { result ≡ self.now.origin }
         ensures range { result ≤ 4092 }
     {
-        self.place
+        self.origin
     }
 
     /// How many lines the block has.
@@ -96,13 +96,13 @@ impl Block {
 
     /// Assembles the lines as [`assemble`](crate::assemble) does a text, from the block's address on. Memory is needed for labels
     /// alone.
-    #[tactic(auto, unfolding(crate::specs::Block::meaning))]
+    #[tactic(auto, unfolding(crate::specs::Block::meaning_of_block))]
     pub fn assemble(&self, alloc: Global) -> Result<Words, BlockFault>
-        ensures ok { IfOk result (λ words. meaning self.now ≡ Ok words.items) }
-        ensures room { IfOk result (λ words. self.now.place + 4 * length words.items ≤ 4096) }
+        ensures ok { IfOk result (λ words. meaning_of_block self.now ≡ Ok words.items) }
+        ensures room { IfOk result (λ words. self.now.origin + 4 * length words.items ≤ 4096) }
         ensures err { IfErr result (IsBlockFault self.now) }
     {
-        match assemble(alloc, self.place, self.text.as_str()) {
+        match assemble(alloc, self.origin, self.text.as_str()) {
             Ok(words) => Ok(words),
             Err(fault) => match fault.kind {
                 AsmFaultKind::OutOfMemory => Err(BlockFault::OutOfMemory { line: fault.line }),

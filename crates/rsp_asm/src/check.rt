@@ -1,17 +1,17 @@
 // The first pass over a statement: how many words it gives, and each fault that needs no label.
 
 ghost use Rattle.std.specs.Prelude.{◌≡◌, ◌≤◌, ℕ};
-ghost use Rattle.rsp_text.specs.Statement.{statement_of, operand_texts, form_readings, with_operands, no_operation};
-ghost use Rattle.rsp_asm.specs.Statements.{checked};
+ghost use Rattle.rsp_syntax.specs.Statement.{statement_of, operand_texts, statement_of_form, with_operands, no_operation};
+ghost use Rattle.rsp_asm.specs.Statements.{size_or_fault};
 
 use crate::numbers::check_numbers;
 use crate::row::check_row;
 use crate::statement::{Form, Statement, read_statement};
-use rsp_text::AsmFaultKind;
+use rsp_syntax::AsmFaultKind;
 
 /// The one word of `nop`, which takes no operands.
 fn check_nothing(operands: &[u8]) -> Result<usize, AsmFaultKind>
-    ensures { (address : ℕ) → result ≡ checked address (with_operands (form_readings no_operation (operand_texts operands.now))) }
+    ensures { (address : ℕ) → result ≡ size_or_fault address (with_operands (statement_of_form no_operation (operand_texts operands.now))) }
 {
     if !operands.is_empty() {
         return Err(AsmFaultKind::BadOperand);
@@ -25,7 +25,7 @@ fn check_nothing(operands: &[u8]) -> Result<usize, AsmFaultKind>
 /// many as BadOperand, and a number that is out of its range whatever the labels are as OutOfRange.
 pub fn check_statement(text: &[u8], address: u16) -> Result<usize, AsmFaultKind>
     requires { address ≤ 4096 }
-    ensures { result ≡ checked address (statement_of text.now) }
+    ensures { result ≡ size_or_fault address (statement_of text.now) }
 {
     let statement = read_statement(text)?;
     let Some(Statement { form, operands }) = statement else {

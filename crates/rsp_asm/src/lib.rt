@@ -2,9 +2,10 @@
 //!
 //! [`assemble`] makes two passes over the lines. The first finds the address of each label and each fault that needs no label,
 //! the second writes the words. Each pass reads a line anew, so labels and words alone are stored. The meaning of a text is the
-//! definition `means` of `rsp_text/specs/Means.antt`.
+//! definition `meaning_of_text` of `rsp_syntax/specs/SourceText.antt`.
 #![tactic(auto)]
 
+mod assembler;
 mod block;
 mod check;
 pub mod laws;
@@ -14,11 +15,10 @@ mod operands;
 mod push;
 mod row;
 mod statement;
-mod two_passes;
 mod words;
 
+pub use assembler::assemble;
 pub use block::{Block, BlockFault};
-pub use line::{Line, read_line};
-pub use rsp_text::{AsmFault, AsmFaultKind};
-pub use two_passes::assemble;
+pub use line::{LineLayout, read_line};
+pub use rsp_syntax::{AsmFault, AsmFaultKind};
 pub use words::Words;

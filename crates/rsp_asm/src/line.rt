@@ -2,19 +2,19 @@
 
 ghost use Rattle.std.specs.Prelude.{◌≡◌, ◌+◌, ◌*◌, ◌≤◌, [], None, Some, Ok, Err, option_map, IfOk, IfErr, OnOk, drop, ◌++◌};
 ghost use Rattle.arrayvec.specs.ArrayVec.{array_vec_len};
-ghost use Rattle.rsp_text.specs.SourceLine.{code_of, split_line, is_twice, first_fault, label_of, line_size, line_words};
-ghost use Rattle.rsp_asm.specs.Parts.{seen_parts};
+ghost use Rattle.rsp_syntax.specs.SourceLine.{without_comment, split_line, is_label_taken, first_fault, label_of, line_size, line_words};
+ghost use Rattle.rsp_asm.specs.LineParts.{seen_parts};
 
 use crate::check::check_statement;
 use crate::push::push_statement;
 use crate::words::Words;
 use rsp_operands::Labels;
-use rsp_text::{AsmFaultKind, Boundary, cut, is_label, is_line, skip_blanks, trim};
+use rsp_syntax::{AsmFaultKind, Boundary, cut, is_label, is_line, skip_blanks, trim};
 use std::alloc::Global;
 
 /// The label of a line, and how many words it gives.
 #[derive(Clone, Copy)]
-pub struct Line<'a> {
+pub struct LineLayout<'a> {
     /// The label's name, if the line has one.
     pub label: Option<&'a [u8]>,
     /// How many words the line gives, at most 1024.
@@ -23,7 +23,7 @@ pub struct Line<'a> {
 
 /// A line without its comment, and without blanks at both ends.
 fn without_comment(line: &[u8]) -> &[u8]
-    ensures { result.now ≡ code_of line.now }
+    ensures { result.now ≡ without_comment line.now }
 {
     match cut(line, Boundary::Comment) {
         Some((prefix, _)) => trim(prefix),
@@ -33,13 +33,13 @@ fn without_comment(line: &[u8]) -> &[u8]
 
 /// The label of a line, and the text of its statement.
 #[derive(Clone, Copy)]
-struct Parts<'a> {
+struct LineParts<'a> {
     label: Option<&'a [u8]>,
     body: &'a [u8],
 }
 
 /// Cuts a line at its first colon. None if it is no line, or if what is before the colon is no label's name.
-fn split_line(line: &[u8]) -> Option<Parts<'_>>
+fn split_line(line: &[u8]) -> Option<LineParts<'_>>
     ensures { option_map seen_parts result ≡ split_line line.now }
 {
     if !is_line(line) {
@@ -47,7 +47,7 @@ fn split_line(line: &[u8]) -> Option<Parts<'_>>
     }
     let text = without_comment(line);
     let Some((name, rest)) = cut(text, Boundary::Colon) else {
-        return Some(Parts {
+        return Some(LineParts {
             label: None,
             body: text,
         });
@@ -55,15 +55,15 @@ fn split_line(line: &[u8]) -> Option<Parts<'_>>
     if !is_label(name) {
         return None;
     }
-    Some(Parts {
+    Some(LineParts {
         label: Some(name),
         body: skip_blanks(rest),
     })
 }
 
 /// Whether the line's label is already among the labels.
-fn is_twice(labels: &Labels<'_>, name: Option<&[u8]>) -> bool
-    ensures { result ≡ is_twice labels.now (option_map (λ t. t.now) name.entry) }
+fn is_label_taken(labels: &Labels<'_>, name: Option<&[u8]>) -> bool
+    ensures { result ≡ is_label_taken labels.now (option_map (λ t. t.now) name.entry) }
 {
     match name {
         None => false,
@@ -75,12 +75,12 @@ fn is_twice(labels: &Labels<'_>, name: Option<&[u8]>) -> bool
 ///
 /// The first of these faults is returned: BadLine, LabelTwice, UnknownName, BadOperand, OutOfRange of a number without a label,
 /// and PastEnd if the last word would be at 4096 or higher.
-#[tactic(auto, unfolding(rsp_text::specs::SourceLine::first_fault, rsp_text::specs::SourceLine::label_of, rsp_text::specs::SourceLine::line_size))]
+#[tactic(auto, unfolding(rsp_syntax::specs::SourceLine::first_fault, rsp_syntax::specs::SourceLine::label_of, rsp_syntax::specs::SourceLine::line_size))]
 pub fn check_line<'a>(
     line: &'a [u8],
     address: u16,
     labels: &Labels<'_>,
-) -> Result<Line<'a>, AsmFaultKind>
+) -> Result<LineLayout<'a>, AsmFaultKind>
     requires { address ≤ 4096 }
     ensures fault { IfOk result (λ l. first_fault labels.now address line.now ≡ None) }
     ensures label { IfOk result (λ l. option_map (λ t. t.now) l.label ≡ label_of line.now) }
@@ -91,14 +91,14 @@ pub fn check_line<'a>(
     let Some(parts) = split_line(line) else {
         return Err(AsmFaultKind::BadLine);
     };
-    if is_twice(labels, parts.label) {
+    if is_label_taken(labels, parts.label) {
         return Err(AsmFaultKind::LabelTwice);
     }
     let size = check_statement(parts.body, address)?;
     if size > usize::from(4096 - address) / 4 {
         return Err(AsmFaultKind::PastEnd);
     }
-    Ok(Line {
+    Ok(LineLayout {
         label: parts.label,
         size: size as u16,
     })
@@ -111,7 +111,11 @@ pub fn check_line<'a>(
 ///
 /// The first of these faults is returned: BadLine, UnknownName, BadOperand, OutOfRange of a number without a label, and PastEnd
 /// if the last word would be at 4096 or higher.
-pub fn read_line<'a>(alloc: Global, line: &'a [u8], address: u16) -> Result<Line<'a>, AsmFaultKind>
+pub fn read_line<'a>(
+    alloc: Global,
+    line: &'a [u8],
+    address: u16,
+) -> Result<LineLayout<'a>, AsmFaultKind>
     requires { address ≤ 4096 }
     ensures fault { IfOk result (λ l. first_fault [] address line.now ≡ None) }
     ensures label { IfOk result (λ l. option_map (λ t. t.now) l.label ≡ label_of line.now) }
@@ -126,7 +130,7 @@ pub fn read_line<'a>(alloc: Global, line: &'a [u8], address: u16) -> Result<Line
 ///
 /// Refused is the leftmost operand whose label is missing, as LabelMissing, or whose value is out of its range, as OutOfRange;
 /// before that, what the first pass refuses in a line alone.
-#[tactic(auto, unfolding(rsp_text::specs::SourceLine::line_words, rsp_text::specs::SourceLine::line_size))]
+#[tactic(auto, unfolding(rsp_syntax::specs::SourceLine::line_words, rsp_syntax::specs::SourceLine::line_size))]
 pub fn push_words(
     line: &[u8],
     address: u16,

@@ -3,21 +3,21 @@
 
 ghost use Rattle.std.specs.Prelude.{◌≡◌, ℕ, ◌+◌, ◌≤◌};
 ghost use Rattle.arrayvec.specs.ArrayVec.{array_vec_len};
-ghost use Rattle.rsp_text.specs.SourceLine.{size_if, statement_words};
-ghost use Rattle.rsp_text.specs.Statement.{operand_texts, form_readings, with_operands, numbers_form};
-ghost use Rattle.rsp_asm.specs.Statements.{checked, Puts};
+ghost use Rattle.rsp_syntax.specs.SourceLine.{statement_size, statement_words};
+ghost use Rattle.rsp_syntax.specs.Statement.{operand_texts, statement_of_form, with_operands, numbers_form};
+ghost use Rattle.rsp_asm.specs.Statements.{size_or_fault, Puts};
 
 use crate::operands::Operands;
 use crate::words::Words;
 use rsp_operands::{Labels, is_number_out_of_range, number_word};
-use rsp_text::AsmFaultKind;
+use rsp_syntax::AsmFaultKind;
 
 /// How many operands `.word` has. Each gives a word.
 ///
 /// Refused are no operands, or one that can't be read, as BadOperand, and then a number without a label that no word holds, as
 /// OutOfRange.
 pub fn check_numbers(text: &[u8]) -> Result<usize, AsmFaultKind>
-    ensures { (address : ℕ) → result ≡ checked address (with_operands (form_readings numbers_form (operand_texts text.now))) }
+    ensures { (address : ℕ) → result ≡ size_or_fault address (with_operands (statement_of_form numbers_form (operand_texts text.now))) }
 {
     if text.is_empty() {
         return Err(AsmFaultKind::BadOperand);
@@ -43,9 +43,9 @@ pub fn check_numbers(text: &[u8]) -> Result<usize, AsmFaultKind>
 /// Refused are no operands, or one that can't be read, as BadOperand, and then the leftmost operand whose label is missing, as
 /// LabelMissing, or whose value no word holds, as OutOfRange.
 pub fn push_numbers(text: &[u8], labels: &Labels<'_>, words: &mut Words) -> Result<(), AsmFaultKind>
-    requires { array_vec_len words.old + size_if (with_operands (form_readings numbers_form (operand_texts text.now))) ≤ 1024 }
-    ensures { (address : ℕ) → Puts (statement_words labels.now address (with_operands (form_readings numbers_form (operand_texts text.now))))
-        (size_if (with_operands (form_readings numbers_form (operand_texts text.now)))) words.old.items words.new.items result }
+    requires { array_vec_len words.old + statement_size (with_operands (statement_of_form numbers_form (operand_texts text.now))) ≤ 1024 }
+    ensures { (address : ℕ) → Puts (statement_words labels.now address (with_operands (statement_of_form numbers_form (operand_texts text.now))))
+        (statement_size (with_operands (statement_of_form numbers_form (operand_texts text.now)))) words.old.items words.new.items result }
 {
     if text.is_empty() {
         return Err(AsmFaultKind::BadOperand);

@@ -1,9 +1,9 @@
 // The operands of a statement, taken one after another.
 
 ghost use Rattle.std.specs.Prelude.{◌≡◌, ◌+◌, ◌≤◌, [], ◌∷◌, length, MatchOption};
-ghost use Rattle.rsp_text.specs.Statement.{operand_texts};
+ghost use Rattle.rsp_syntax.specs.Statement.{operand_texts};
 
-use rsp_text::{Boundary, cut, trim};
+use rsp_syntax::{Boundary, cut, trim};
 use std::marker::Model;
 
 /// The operands of a statement that haven't been taken yet. Contracts see a list of their texts.

@@ -4,8 +4,8 @@ ghost use Rattle.std.specs.Prelude.{◌≡◌, ℕ, ◌+◌, ◌≤◌, true};
 ghost use Rattle.std.specs.List.{list_all};
 ghost use Rattle.arrayvec.specs.ArrayVec.{array_vec_len};
 ghost use Rattle.rsp_decode.specs.Table.{entry, is_row_operand};
-ghost use Rattle.rsp_text.specs.SourceLine.{size_if, statement_words};
-ghost use Rattle.rsp_text.specs.Statement.{Labels, statement_of, operand_texts, form_readings, with_operands, no_operation};
+ghost use Rattle.rsp_syntax.specs.SourceLine.{statement_size, statement_words};
+ghost use Rattle.rsp_syntax.specs.Statement.{Labels, statement_of, operand_texts, statement_of_form, with_operands, no_operation};
 ghost use Rattle.rsp_asm.specs.Statements.{Puts, row_size, row_words};
 
 use crate::numbers::push_numbers;
@@ -14,13 +14,13 @@ use crate::statement::{Form, Statement, read_statement};
 use crate::words::Words;
 use rsp_decode::TableRow;
 use rsp_operands::Labels;
-use rsp_text::AsmFaultKind;
+use rsp_syntax::AsmFaultKind;
 
 /// Appends the one word of `nop`, which takes no operands.
 fn push_nothing(operands: &[u8], words: &mut Words) -> Result<(), AsmFaultKind>
-    requires { array_vec_len words.old + size_if (with_operands (form_readings no_operation (operand_texts operands.now))) ≤ 1024 }
-    ensures { (labels : Labels) (address : ℕ) → Puts (statement_words labels address (with_operands (form_readings no_operation (operand_texts operands.now))))
-        (size_if (with_operands (form_readings no_operation (operand_texts operands.now)))) words.old.items words.new.items result }
+    requires { array_vec_len words.old + statement_size (with_operands (statement_of_form no_operation (operand_texts operands.now))) ≤ 1024 }
+    ensures { (labels : Labels) (address : ℕ) → Puts (statement_words labels address (with_operands (statement_of_form no_operation (operand_texts operands.now))))
+        (statement_size (with_operands (statement_of_form no_operation (operand_texts operands.now)))) words.old.items words.new.items result }
 {
     if !operands.is_empty() {
         return Err(AsmFaultKind::BadOperand);
@@ -58,8 +58,8 @@ pub fn push_statement(
     words: &mut Words,
 ) -> Result<(), AsmFaultKind>
     requires address { address ≤ 4096 }
-    requires room { array_vec_len words.old + size_if (statement_of text.now) ≤ 1024 }
-    ensures { Puts (statement_words labels.now address (statement_of text.now)) (size_if (statement_of text.now)) words.old.items words.new.items result }
+    requires room { array_vec_len words.old + statement_size (statement_of text.now) ≤ 1024 }
+    ensures { Puts (statement_words labels.now address (statement_of text.now)) (statement_size (statement_of text.now)) words.old.items words.new.items result }
 {
     let statement = read_statement(text)?;
     let Some(Statement { form, operands }) = statement else {

@@ -4,13 +4,13 @@
 ghost use Rattle.std.specs.Prelude.{◌≡◌, ◌≤◌, false, true};
 ghost use Rattle.std.specs.List.{list_all};
 ghost use Rattle.rsp_decode.specs.Table.{entry, is_row_operand};
-ghost use Rattle.rsp_text.specs.Statement.{read_all, operand_texts};
-ghost use Rattle.rsp_asm.specs.Statements.{checked_readings, row_word};
+ghost use Rattle.rsp_syntax.specs.Statement.{read_all, operand_texts};
+ghost use Rattle.rsp_asm.specs.Statements.{count_or_fault, row_word};
 
 use crate::operands::Operands;
 use rsp_decode::{Operand, TableRow};
 use rsp_operands::{Labels, is_out_of_range, put_operand};
-use rsp_text::AsmFaultKind;
+use rsp_syntax::AsmFaultKind;
 
 /// How many words an instruction at `address` with operands of these kinds gives: one.
 ///
@@ -18,7 +18,7 @@ use rsp_text::AsmFaultKind;
 /// whatever the labels are, as OutOfRange.
 pub fn check_row(kinds: &[Operand], text: &[u8], address: u16) -> Result<usize, AsmFaultKind>
     requires { address ≤ 4096 }
-    ensures { result ≡ checked_readings address false 1 (read_all kinds.now (operand_texts text.now)) }
+    ensures { result ≡ count_or_fault address false 1 (read_all kinds.now (operand_texts text.now)) }
 {
     let mut bad = false;
     let mut operands = Operands::new(text);

@@ -2,14 +2,14 @@
 
 ghost use Rattle.std.specs.Prelude.{◌≡◌, ◌==◌, length, option_map, Err, IfOk, IfErr};
 ghost use Rattle.std.specs.List.{before_first, after_first};
-ghost use Rattle.rsp_text.specs.Cuts.{is_boundary};
-ghost use Rattle.rsp_text.specs.declared.text.Boundary.TheVariants.{Blank};
-ghost use Rattle.rsp_text.specs.Statement.{statement_of, form_named, operand_texts};
+ghost use Rattle.rsp_syntax.specs.Cuts.{is_boundary};
+ghost use Rattle.rsp_syntax.specs.declared.text.Boundary.TheVariants.{Blank};
+ghost use Rattle.rsp_syntax.specs.Statement.{statement_of, form_named, operand_texts};
 ghost use Rattle.rsp_asm.specs.Forms.{form, form_shape, Says};
 
 use crate::operands::Operands;
 use rsp_decode::{Operand, TableRow};
-use rsp_text::{AsmFaultKind, Boundary, cut, find_row, is_same};
+use rsp_syntax::{AsmFaultKind, Boundary, cut, find_row, is_same};
 
 /// What the name of a statement is.
 #[derive(Clone, Copy)]

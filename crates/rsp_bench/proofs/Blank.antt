@@ -1,8 +1,8 @@
 -- A line without bytes outside a block.
 use Rattle.std.proofs.Common.{◌≡◌, ◌==◌, ℕ, List, [], ◌∷◌, length, Bool, true, false, Option, Some, None, refl, ap, arith}
 use Rattle.std.specs.Prelude.{is_some}
-use Rattle.rsp_script.specs.Command.{command_of_words}
-use Rattle.rsp_script.specs.Line.{command_of}
+use Rattle.rsp_commands.specs.Command.{command_of_words}
+use Rattle.rsp_commands.specs.Line.{command_of}
 use Rattle.rsp_asm.specs.Block.{OpenBlock}
 use Rattle.rsp_debug.specs.Debugging.{Debugging}
 use Rattle.rsp_bench.specs.Session.{SessionState, same, line_answer, answer_of, in_block}

@@ -4,27 +4,27 @@ use Rattle.std.specs.Prelude.{codes, nat_le, length, is_some, if◌then◌else�
 use Rattle.std.specs.List.{before_first, list_all}
 use Rattle.std.specs.Str.{bytes_eq}
 use Rattle.std.proofs.lemmas.Slice.Eq.{bytes_eq-Decides}
-use Rattle.rsp_text.specs.Chars.{is_plain}
-use Rattle.rsp_script.specs.Line.{is_hash}
-use Rattle.rsp_script.specs.Words.{words_in}
-use Rattle.rsp_script.specs.Operand.{bank_of, ranged_of, address_of, place_of}
-use Rattle.rsp_script.specs.Line.{command_of, plain_command}
-use Rattle.rsp_script.specs.Command.{command_named, debug_named, look_named, alone, mem, dis, with_both, with_operand, in_bank, one_number, command_of_words}
-use Rattle.rsp_script.specs.declared.command.Command.{Command}
-use Rattle.rsp_script.specs.declared.command.Command.TheVariants.{Step, Run, Show}
-use Rattle.rsp_script.specs.declared.command.Look.{Look}
-use Rattle.rsp_script.specs.declared.command.Look.TheVariants.{Regs, Vregs, Acc, Flags, Sp, Mem, Dis}
-use Rattle.rsp_script.specs.declared.fault.LineFault.{LineFault}
-use Rattle.rsp_script.specs.declared.fault.LineFault.TheVariants.{BadCommand, BadNumber, LineTooLong, NotText}
+use Rattle.rsp_syntax.specs.Chars.{is_line_byte}
+use Rattle.rsp_commands.specs.Line.{is_hash}
+use Rattle.rsp_commands.specs.Words.{words_in}
+use Rattle.rsp_commands.specs.Operand.{bank_of, ranged_of, address_of, instruction_address_of}
+use Rattle.rsp_commands.specs.Line.{command_of, plain_command}
+use Rattle.rsp_commands.specs.Command.{command_named, debug_named, look_named, alone, mem, dis, with_both, with_operand, in_bank, one_number, command_of_words}
+use Rattle.rsp_commands.specs.declared.command.Command.{Command}
+use Rattle.rsp_commands.specs.declared.command.Command.TheVariants.{Step, Run, Show}
+use Rattle.rsp_commands.specs.declared.command.Look.{Look}
+use Rattle.rsp_commands.specs.declared.command.Look.TheVariants.{Regs, Vregs, Acc, Flags, Sp, Mem, Dis}
+use Rattle.rsp_commands.specs.declared.fault.LineFault.{LineFault}
+use Rattle.rsp_commands.specs.declared.fault.LineFault.TheVariants.{BadCommand, BadNumber, LineTooLong, NotText}
 use Rattle.rsp_memory.specs.declared.bank.Bank.{Bank}
 use Rattle.rsp_asm.specs.Block.{OpenBlock}
 use Rattle.rsp_debug.specs.Stops.{stop_of}
 use Rattle.rsp_debug.specs.Calls.{is_count}
-use Rattle.rsp_debug.specs.Debugging.{Debugging, stepped, steps_made, stop_in, ran}
-use Rattle.rsp_lines.specs.Replies.{replies, final}
+use Rattle.rsp_debug.specs.Debugging.{Debugging, after_debugger_step, after_steps, stop_in, after_run}
+use Rattle.rsp_script_io.specs.Replies.{replies, final}
 use Rattle.rsp_bench.specs.Replies.{stop_text, count_text}
 use Rattle.rsp_bench.specs.Session.{SessionState, same, then_debugging, plain_answer, answer_in, answer_of, parsed_answer, in_block, line_answer, step_answer, run_answer}
-use Rattle.rsp_bench.specs.Laws.{is_look_name, is_run_name, first_word, name_on, looks, runs, TellsSteps, IsExchange, IsStepLines, LinesComeOut}
+use Rattle.rsp_bench.specs.Laws.{is_look_name, is_run_name, first_word, name_on, looks, runs, ReportsSteps, IsExchange, IsStepLines, LinesComeOut}
 
 -- ---- lines after lines
 final-append : (p q : List (List ℕ)) (s : SessionState) → final line_answer (p ++ q) s ≡ final line_answer q (final line_answer p s)
@@ -126,7 +126,7 @@ quiet_dis : (operands : List (List ℕ)) → is_quiet (dis operands) ≡ true
 unfolding dis
 quiet_dis [] = refl
 quiet_dis (a ∷ []) = refl
-quiet_dis (a ∷ b ∷ []) = quiet_listing (place_of a) (ranged_of 1 64 b)
+quiet_dis (a ∷ b ∷ []) = quiet_listing (instruction_address_of a) (ranged_of 1 64 b)
 quiet_dis (a ∷ b ∷ c ∷ more) = refl
 
 -- a text that equals another by its bytes is that text
@@ -163,7 +163,7 @@ quiet_refused false text r e = refl
 
 quiet_line : (line : List ℕ) → looks line ≡ true → is_quiet (plain_command line) ≡ true
 unfolding name_on
-quiet_line line e = quiet_refused (nat_le (length line) 256) (list_all is_plain line) _ (quiet_words (words_in (before_first is_hash line)) e)
+quiet_line line e = quiet_refused (nat_le (length line) 256) (list_all is_line_byte line) _ (quiet_words (words_in (before_first is_hash line)) e)
 
 pub looks-change-nothing : (line : List ℕ) (s : SessionState) → s.block ≡ None → looks line ≡ true → (line_answer line s).next ≡ s
 looks-change-nothing line s closed e =
@@ -181,31 +181,31 @@ step_command : plain_command (codes "step") ≡ Ok Step
 unfolding command_of_words command_named
 step_command = refl
 
-step_next : (s : SessionState) → s.block ≡ None → (line_answer (codes "step") s).next ≡ at s (stepped s.debugging)
+step_next : (s : SessionState) → s.block ≡ None → (line_answer (codes "step") s).next ≡ at s (after_debugger_step s.debugging)
 unfolding step_answer
 step_next s closed =
     ap (λ o. o.next) (by_command (codes "step") s closed)
     ∙ ap (λ r. (parsed_answer r s).next) step_command
     ∙ ap (λ o. o.next) (by_answer Step s closed)
 
-first_step : (k : ℕ) (d : Debugging) → steps_made k (stepped d) ≡ stepped (steps_made k d)
-unfolding steps_made
+first_step : (k : ℕ) (d : Debugging) → after_steps k (after_debugger_step d) ≡ after_debugger_step (after_steps k d)
+unfolding after_steps
 first_step zero d = refl
-first_step (suc k) d = ap (λ (x : Debugging). stepped x) (first_step k d)
+first_step (suc k) d = ap (λ (x : Debugging). after_debugger_step x) (first_step k d)
 
-no_steps : (d : Debugging) → steps_made 0 d ≡ d
-unfolding steps_made
+no_steps : (d : Debugging) → after_steps 0 d ≡ d
+unfolding after_steps
 no_steps d = refl
 
-one_more : (k : ℕ) (d : Debugging) → steps_made (suc k) d ≡ stepped (steps_made k d)
-unfolding steps_made
+one_more : (k : ℕ) (d : Debugging) → after_steps (suc k) d ≡ after_debugger_step (after_steps k d)
+unfolding after_steps
 one_more k d = refl
 
-step_lines : (k : ℕ) (s : SessionState) → s.block ≡ None → final line_answer (replicate k (codes "step")) s ≡ at s (steps_made k s.debugging)
+step_lines : (k : ℕ) (s : SessionState) → s.block ≡ None → final line_answer (replicate k (codes "step")) s ≡ at s (after_steps k s.debugging)
 step_lines zero s closed = ap (at s) (sym (no_steps s.debugging))
 step_lines (suc k) s closed =
     ap (λ (u : SessionState). final line_answer (replicate k (codes "step")) u) (step_next s closed)
-    ∙ step_lines k (at s (stepped s.debugging)) closed
+    ∙ step_lines k (at s (after_debugger_step s.debugging)) closed
     ∙ ap (at s) (first_step k s.debugging ∙ sym (one_more k s.debugging))
 
 -- ---- runs
@@ -221,8 +221,8 @@ steps_by _ d = 0
 
 -- a session after a run, and what the run is answered
 record Ran (k : ℕ) (s next : SessionState) (reply : List ℕ) : Type 0 where
-  session : next ≡ at s (steps_made k s.debugging)
-  told : TellsSteps k reply
+  session : next ≡ at s (after_steps k s.debugging)
+  told : ReportsSteps k reply
 
 refused : (s : SessionState) (fault : List ℕ) → Ran 0 s s (codes "fault " ++ fault)
 refused s fault = record {
@@ -232,8 +232,8 @@ refused s fault = record {
 
 accepted : (accepts : Bool) (n : ℕ) (s : SessionState)
     → Ran (if accepts then (stop_in n s.debugging).steps else 0) s
-    (if accepts then then_debugging (stop_text (stop_in n s.debugging)) (ran n s.debugging) s else same count_text s).next
-    (if accepts then then_debugging (stop_text (stop_in n s.debugging)) (ran n s.debugging) s else same count_text s).reply
+    (if accepts then then_debugging (stop_text (stop_in n s.debugging)) (after_run n s.debugging) s else same count_text s).next
+    (if accepts then then_debugging (stop_text (stop_in n s.debugging)) (after_run n s.debugging) s else same count_text s).reply
 unfolding stop_of
 accepted true n s = record { session = refl; told = inl (stop_in n s.debugging, refl, refl) }
 accepted false n s = refused s (codes "26 Count" ++ 10 ∷ [])
@@ -273,7 +273,7 @@ running_refused false text r e = refl
 
 running_line : (line : List ℕ) → runs line ≡ true → is_running (plain_command line) ≡ true
 unfolding name_on
-running_line line e = running_refused (nat_le (length line) 256) (list_all is_plain line) _ (running_words (words_in (before_first is_hash line)) e)
+running_line line e = running_refused (nat_le (length line) 256) (list_all is_line_byte line) _ (running_words (words_in (before_first is_hash line)) e)
 
 ran_line : (line : List ℕ) (s : SessionState) → s.block ≡ None → runs line ≡ true
     → Ran (steps_by (plain_command line) s.debugging) s (line_answer line s).next (line_answer line s).reply

@@ -4,7 +4,7 @@ use Rattle.rsp_lanes.specs.Lanes.{each_lane}
 use Rattle.rsp_numbers.specs.Numbers.{number, high, middle, low}
 use Rattle.rsp_acc.specs.Parts.{part_of}
 use Rattle.rsp_acc.specs.declared.parts.Part.TheVariants.{High, Middle, Low}
-use Rattle.rsp_lines.specs.Text.{each_text}
+use Rattle.rsp_script_io.specs.Text.{each_text}
 use Rattle.rsp_bench.specs.Looks.{accumulator_line}
 
 pub accumulators_by_parts : (xs : List ℤ) (h m l : List ℕ)

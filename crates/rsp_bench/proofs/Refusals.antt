@@ -1,28 +1,28 @@
 -- What is refused leaves the session as it was.
 use Rattle.std.proofs.Common.{◌≡◌, ◌∙◌, ℕ, List, length, refl, ap, Bool, true, false, Option, Some, None, Result, Ok, Err}
 use Rattle.std.specs.Prelude.{if◌then◌else◌}
-use Rattle.rsp_script.specs.declared.command.Command.{Command}
-use Rattle.rsp_script.specs.declared.command.Command.TheVariants.{Nothing, Load, Step, Run, Break, Unbreak, Watch, Unwatch, Back, Read, Write, SetPc, Task, Show, Asm, BlockLine, End}
-use Rattle.rsp_script.specs.declared.fault.LineFault.{LineFault}
-use Rattle.rsp_script.specs.Line.{command_of}
+use Rattle.rsp_commands.specs.declared.command.Command.{Command}
+use Rattle.rsp_commands.specs.declared.command.Command.TheVariants.{Nothing, Load, Step, Run, Break, Unbreak, Watch, Unwatch, Back, Read, Write, SetPc, Task, Show, Asm, BlockLine, End}
+use Rattle.rsp_commands.specs.declared.fault.LineFault.{LineFault}
+use Rattle.rsp_commands.specs.Line.{command_of}
 use Rattle.rsp_memory.specs.declared.bank.Bank.{Bank}
-use Rattle.rsp_text.specs.declared.fault.AsmFault.{AsmFault}
-use Rattle.rsp_asm.specs.Block.{OpenBlock, meaning}
+use Rattle.rsp_syntax.specs.declared.fault.AsmFault.{AsmFault}
+use Rattle.rsp_asm.specs.Block.{OpenBlock, meaning_of_block}
 use Rattle.rsp_machine.specs.Host.{is_inside, with_bank_bytes, task_fault}
 use Rattle.rsp_machine.specs.declared.host.TaskFault.{TaskFault}
 use Rattle.rsp_debug.specs.Stops.{is_break}
 use Rattle.rsp_debug.specs.Calls.{is_count}
-use Rattle.rsp_debug.specs.Debugging.{stop_in, ran, unbroken_at, unwatching}
+use Rattle.rsp_debug.specs.Debugging.{stop_in, after_run, without_breakpoint, with_watch_dropped}
 use Rattle.rsp_debug.specs.Breaks.{break_fault}
 use Rattle.rsp_debug.specs.Watches.{number_for, has_watch}
 use Rattle.rsp_debug.specs.declared.breaks.BreakFault.{BreakFault}
 use Rattle.rsp_debug.specs.declared.watches.WatchFault.{WatchFault}
 use Rattle.rsp_debug.specs.declared.debugger.BackFault.{BackFault}
-use Rattle.rsp_lines.specs.Replies.{Answer}
+use Rattle.rsp_script_io.specs.Replies.{Answer}
 use Rattle.rsp_bench.specs.Looks.{sp_line}
 use Rattle.rsp_bench.specs.Replies.{ok_text, range_text, count_text, stop_text, no_break_text, no_watch_text}
 use Rattle.rsp_bench.specs.Session.{SessionState, same, then_debugging, then_state, plain_answer, block_answer, answer_in, answer_of, load_answer, step_answer, read_answer, task_answer, run_answer, break_answer, watch_answer, back_fault, back_answer, end_answer, parsed_answer, line_answer, in_block}
-use Rattle.rsp_bench.specs.Refusals.{is_refusal, kept_by, kept_by_line}
+use Rattle.rsp_bench.specs.Refusals.{is_refusal, after_refusal, after_refused_line}
 
 -- an answered that leaves the session as it was, where its reply refuses
 abbrev Keeps : Answer SessionState → SessionState → Type 0
@@ -47,7 +47,7 @@ keeps_read n s e = cc
 
 keeps_run : (n : ℕ) (s : SessionState) → Keeps (run_answer n s) s
 unfolding run_answer
-keeps_run n s e = keeps_if (is_count n) (then_debugging (stop_text (stop_in n s.debugging)) (ran n s.debugging) s) count_text s refl e
+keeps_run n s e = keeps_if (is_count n) (then_debugging (stop_text (stop_in n s.debugging)) (after_run n s.debugging) s) count_text s refl e
 
 keeps_task : (fault : Option TaskFault) (a : ℕ) (s : SessionState) → Keeps (task_answer fault a s) s
 keeps_task None a s e = cc
@@ -71,9 +71,9 @@ keeps_plain (Load bank a bytes) s e = keeps_load bank a bytes.items s e
 keeps_plain Step s e = keeps_step s e
 keeps_plain (Run n) s e = keeps_run n s e
 keeps_plain (Break place) s e = keeps_break (break_fault place s.debugging.breaks) place s e
-keeps_plain (Unbreak place) s e = keeps_if (is_break s.debugging.breaks place) (then_debugging ok_text (unbroken_at place s.debugging) s) no_break_text s refl e
+keeps_plain (Unbreak place) s e = keeps_if (is_break s.debugging.breaks place) (then_debugging ok_text (without_breakpoint place s.debugging) s) no_break_text s refl e
 keeps_plain (Watch a n) s e = keeps_watch (number_for a n s.debugging.watches) a n s e
-keeps_plain (Unwatch k) s e = keeps_if (has_watch k s.debugging.watches) (then_debugging ok_text (unwatching k s.debugging) s) no_watch_text s refl e
+keeps_plain (Unwatch k) s e = keeps_if (has_watch k s.debugging.watches) (then_debugging ok_text (with_watch_dropped k s.debugging) s) no_watch_text s refl e
 keeps_plain (Back n) s e = keeps_back (back_fault n s.debugging.past) n s e
 keeps_plain (Read n) s e = keeps_read n s e
 keeps_plain (Write n value) s e = cc
@@ -85,35 +85,35 @@ keeps_plain (BlockLine line) s e = refl
 keeps_plain End s e = refl
 
 -- where no block is open, there is none to close
-none_to_close : (c : Command) (s next : SessionState) → s.block ≡ None → next ≡ s → next ≡ kept_by c s
+none_to_close : (c : Command) (s next : SessionState) → s.block ≡ None → next ≡ s → next ≡ after_refusal c s
 none_to_close End s next closed e = e ∙ ap (λ b. record s { block = b }) closed
 none_to_close _ s next closed e = e
 
 kept_end : (b : OpenBlock) (r : Result (List ℕ) AsmFault) (s : SessionState) → is_refusal (end_answer b r s).reply ≡ true
-    → (end_answer b r s).next ≡ kept_by End s
+    → (end_answer b r s).next ≡ after_refusal End s
 kept_end b (Ok words) s e = cc
 kept_end b (Err fault) s e = refl
 
-kept_block : (b : OpenBlock) (c : Command) (s : SessionState) → is_refusal (block_answer b c s).reply ≡ true → (block_answer b c s).next ≡ kept_by c s
+kept_block : (b : OpenBlock) (c : Command) (s : SessionState) → is_refusal (block_answer b c s).reply ≡ true → (block_answer b c s).next ≡ after_refusal c s
 kept_block b (BlockLine line) s e = cc
-kept_block b End s e = kept_end b (meaning b) s e
+kept_block b End s e = kept_end b (meaning_of_block b) s e
 kept_block b _ s e = refl
 
 kept_in : (open_block : Option OpenBlock) (c : Command) (s : SessionState) → s.block ≡ open_block → is_refusal (answer_in open_block c s).reply ≡ true
-    → (answer_in open_block c s).next ≡ kept_by c s
+    → (answer_in open_block c s).next ≡ after_refusal c s
 kept_in None c s closed e = none_to_close c s _ closed (keeps_plain c s e)
 kept_in (Some b) c s closed e = kept_block b c s e
 
-pub refused_commands : (c : Command) (s : SessionState) → is_refusal (answer_of c s).reply ≡ true → (answer_of c s).next ≡ kept_by c s
+pub refused_commands : (c : Command) (s : SessionState) → is_refusal (answer_of c s).reply ≡ true → (answer_of c s).next ≡ after_refusal c s
 unfolding answer_of
 refused_commands c s e = kept_in s.block c s refl e
 
 kept_parsed : (r : Result Command LineFault) (s : SessionState) → is_refusal (parsed_answer r s).reply ≡ true
-    → (parsed_answer r s).next ≡ kept_by_line r s
+    → (parsed_answer r s).next ≡ after_refused_line r s
 kept_parsed (Ok c) s e = refused_commands c s e
 kept_parsed (Err fault) s e = refl
 
 pub refused_lines : (line : List ℕ) (s : SessionState) → is_refusal (line_answer line s).reply ≡ true
-    → (line_answer line s).next ≡ kept_by_line (command_of line (in_block s)) s
+    → (line_answer line s).next ≡ after_refused_line (command_of line (in_block s)) s
 unfolding line_answer
 refused_lines line s e = kept_parsed (command_of line (in_block s)) s e

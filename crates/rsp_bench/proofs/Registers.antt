@@ -2,7 +2,7 @@
 use Rattle.std.proofs.Common.{◌≡◌, ℕ, zero, suc, ◌+◌, ◌*◌, ◌<◌, List, [], ◌∷◌, ◌++◌, get_or, refl, ap, arith}
 use Rattle.std.specs.Prelude.{codes}
 use Rattle.rsp_scalar.specs.Registers.{register}
-use Rattle.rsp_lines.specs.Text.{each_text, two_digits}
+use Rattle.rsp_script_io.specs.Text.{each_text, two_digits}
 use Rattle.rsp_bench.specs.Looks.{word_text, register_line}
 
 each_text-same : (f g : ℕ → List ℕ) (n : ℕ) → ((i : ℕ) → i < n → f i ≡ g i) → each_text f n ≡ each_text g n

@@ -2,10 +2,10 @@
 use Rattle.std.specs.Prelude.{◌≡◌, ◌⊎◌, ℕ, List, [], ◌∷◌, ◌++◌, Bool, true, ◌||◌, None, replicate, codes}
 use Rattle.std.specs.List.{before_first}
 use Rattle.std.specs.Str.{bytes_eq}
-use Rattle.rsp_script.specs.Line.{is_hash}
-use Rattle.rsp_script.specs.Words.{words_in}
+use Rattle.rsp_commands.specs.Line.{is_hash}
+use Rattle.rsp_commands.specs.Words.{words_in}
 use Rattle.rsp_debug.specs.declared.stop.Stop.{Stop}
-use Rattle.rsp_lines.specs.Replies.{replies, final}
+use Rattle.rsp_script_io.specs.Replies.{replies, final}
 use Rattle.rsp_bench.specs.Replies.{stop_text}
 use Rattle.rsp_bench.specs.Session.{SessionState, line_answer}
 
@@ -37,8 +37,8 @@ abbrev pub runs : List ℕ → Bool
 runs line = is_run_name (name_on line)
 
 -- a reply to a line that runs: it gives k steps, or it is a fault, and k is 0
-abbrev pub TellsSteps : ℕ → List ℕ → Type 0
-TellsSteps k reply =
+abbrev pub ReportsSteps : ℕ → List ℕ → Type 0
+ReportsSteps k reply =
     ((stop : Stop) × (reply ≡ stop_text stop) × (k ≡ stop.steps))
     ⊎ ((fault : List ℕ) × (reply ≡ codes "fault " ++ fault) × (k ≡ 0))
 
@@ -58,7 +58,7 @@ pub record IsExchange (p lines others q : List (List ℕ)) (s : SessionState) : 
 -- a line is exchanged for as many lines `step` as its reply gives steps
 pub record IsStepLines (p : List (List ℕ)) (line : List ℕ) (q : List (List ℕ)) (s : SessionState) : Type 0 where
   pub count : ℕ
-  pub told : TellsSteps count (line_answer line (final line_answer p s)).reply
+  pub told : ReportsSteps count (line_answer line (final line_answer p s)).reply
   pub exchanged : IsExchange p (line ∷ []) (replicate count (codes "step")) q s
 
 -- The law: outside a block, a line that looks can be taken out, and a line that runs be exchanged for lines `step`.

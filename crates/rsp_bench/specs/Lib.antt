@@ -5,7 +5,7 @@ pub mod Replies
 pub mod Words
 pub mod Session
 pub mod Run
-pub mod Alike
+pub mod LongLineAnswers
 pub mod Laws
 pub mod Refusals
-pub mod WantOfMemory
+pub mod OutOfMemoryReplies

@@ -9,10 +9,10 @@ use Rattle.rsp_lanes.specs.declared.flags.Flags.{Flags}
 use Rattle.rsp_divide.specs.declared.divider.Divider.{Divider}
 use Rattle.rsp_numbers.specs.Numbers.{number, high, middle, low}
 use Rattle.std.specs.Simd.Lanes.{mask_l}
-use Rattle.rsp_regs.specs.Sp.{Sp, peeked}
+use Rattle.rsp_regs.specs.Sp.{Sp, read_value}
 use Rattle.rsp_machine.specs.State.{State}
-use Rattle.rsp_debug.specs.Looks.{ListedWord}
-use Rattle.rsp_lines.specs.Text.{hex_text, two_digits, short_decimal, each_text}
+use Rattle.rsp_debug.specs.Queries.{ListedWord}
+use Rattle.rsp_script_io.specs.Text.{hex_text, two_digits, short_decimal, each_text}
 
 -- a space and a word
 unfoldable pub word_text : ℕ → List ℕ
@@ -35,7 +35,7 @@ sp_line n value = codes "c" ++ short_decimal n ++ word_text value ++ 10 ∷ []
 -- the sixteen SP registers, as reads would return them, and the interrupt flag
 unfoldable pub sp_text : Sp → List ℕ
 sp_text sp =
-    each_text (λ n. sp_line n (peeked n sp)) 16 ++ codes "interrupt " ++ (if sp.interrupt then 49 else 48) ∷ 10 ∷ []
+    each_text (λ n. sp_line n (read_value n sp)) 16 ++ codes "interrupt " ++ (if sp.interrupt then 49 else 48) ∷ 10 ∷ []
 
 -- an address, and the bytes there
 unfoldable pub dump_line : ℕ → List ℕ → List ℕ

@@ -1,7 +1,7 @@
 -- The texts of replies.
 use Rattle.std.specs.Prelude.{ℕ, List, ◌∷◌, [], ◌++◌, codes, decimal}
-use Rattle.rsp_script.specs.declared.fault.LineFault.{LineFault}
-use Rattle.rsp_script.specs.Faults.{line_fault_name}
+use Rattle.rsp_commands.specs.declared.fault.LineFault.{LineFault}
+use Rattle.rsp_commands.specs.Faults.{line_fault_name}
 use Rattle.rsp_machine.specs.declared.step.StepEnd.{StepEnd}
 use Rattle.rsp_machine.specs.declared.step.StepEnd.TheVariants.{Done, Halted, Reserved}
 use Rattle.rsp_machine.specs.declared.host.TaskFault.{TaskFault}
@@ -11,9 +11,9 @@ use Rattle.rsp_debug.specs.declared.debugger.BackFault.{BackFault}
 use Rattle.rsp_debug.specs.declared.stop.Reason.{Reason}
 use Rattle.rsp_debug.specs.declared.stop.Reason.TheVariants as reasons
 use Rattle.rsp_debug.specs.declared.stop.Stop.{Stop}
-use Rattle.rsp_text.specs.declared.fault.AsmFault.{AsmFault}
-use Rattle.rsp_text.specs.Faults.{kind_name}
-use Rattle.rsp_lines.specs.Text.{hex_text}
+use Rattle.rsp_syntax.specs.declared.fault.AsmFault.{AsmFault}
+use Rattle.rsp_syntax.specs.Faults.{kind_name}
+use Rattle.rsp_script_io.specs.Text.{hex_text}
 use Rattle.rsp_bench.specs.Faults.{range_name, task_fault_name, break_fault_name, no_break_name, watch_fault_name, no_watch_name, count_name, back_fault_name}
 
 -- a line of a reply

@@ -1,17 +1,17 @@
 -- A run of a script: what is written, and how it ends.
 use Rattle.std.specs.Prelude.{ℕ, List, Result, Ok, Err}
 use Rattle.std.specs.Str.Lines.{lines}
-use Rattle.rsp_lines.specs.Replies.{final, out_of as written_of}
-use Rattle.rsp_lines.specs.declared.run.RunFault.{RunFault}
-use Rattle.rsp_lines.specs.declared.run.RunFault.TheVariants as faults
-use Rattle.rsp_bench.specs.Session.{SessionState, line_answer, closing, first_session}
+use Rattle.rsp_script_io.specs.Replies.{final, out_of as written_of}
+use Rattle.rsp_script_io.specs.declared.run.RunFault.{RunFault}
+use Rattle.rsp_script_io.specs.declared.run.RunFault.TheVariants as faults
+use Rattle.rsp_bench.specs.Session.{SessionState, line_answer, end_reply, first_session}
 use Rattle.rsp_bench.specs.declared.run.BenchEnd.{BenchEnd}
 use Rattle.rsp_bench.specs.declared.run.BenchEnd.TheVariants.{Finished, ReadFault, WriteFault, ScriptTooLong, OutOfMemory}
 
 -- all that is written for a script: the replies to its lines, each in the session that the lines before it left, and what is
 -- written at its end
 abbrev pub out_of : List ℕ → List ℕ → List ℕ
-out_of script image = written_of line_answer closing script (first_session image)
+out_of script image = written_of line_answer end_reply script (first_session image)
 
 -- the session that the lines of a script leave
 abbrev pub session_of : List ℕ → List ℕ → SessionState

@@ -1,29 +1,29 @@
 -- The answers to commands and lines.
 use Rattle.std.specs.Prelude.{ℕ, ◌≡◌, ◌+◌, ◌*◌, not, nat_le, nat_lt, List, [], Bool, Option, Some, None, is_some, IfSome, Result, Ok, Err, if◌then◌else◌, length}
-use Rattle.rsp_script.specs.declared.command.Command.{Command}
-use Rattle.rsp_script.specs.declared.command.Command.TheVariants.{Nothing, Load, Step, Run, Break, Unbreak, Watch, Unwatch, Back, Read, Write, SetPc, Task, Show, Asm, BlockLine, End}
-use Rattle.rsp_script.specs.declared.command.Look.{Look}
-use Rattle.rsp_script.specs.declared.command.Look.TheVariants.{Regs, Vregs, Acc, Flags, Sp, Mem, Dis}
-use Rattle.rsp_script.specs.declared.fault.LineFault.{LineFault}
-use Rattle.rsp_script.specs.declared.fault.LineFault.TheVariants.{BadCommand}
-use Rattle.rsp_lines.specs.Replies.{Answer}
-use Rattle.rsp_script.specs.Line.{command_of}
+use Rattle.rsp_commands.specs.declared.command.Command.{Command}
+use Rattle.rsp_commands.specs.declared.command.Command.TheVariants.{Nothing, Load, Step, Run, Break, Unbreak, Watch, Unwatch, Back, Read, Write, SetPc, Task, Show, Asm, BlockLine, End}
+use Rattle.rsp_commands.specs.declared.command.Look.{Look}
+use Rattle.rsp_commands.specs.declared.command.Look.TheVariants.{Regs, Vregs, Acc, Flags, Sp, Mem, Dis}
+use Rattle.rsp_commands.specs.declared.fault.LineFault.{LineFault}
+use Rattle.rsp_commands.specs.declared.fault.LineFault.TheVariants.{BadCommand}
+use Rattle.rsp_script_io.specs.Replies.{Answer}
+use Rattle.rsp_commands.specs.Line.{command_of}
 use Rattle.rsp_memory.specs.declared.bank.Bank.{Bank}
 use Rattle.rsp_memory.specs.declared.bank.Bank.TheVariants.{Imem}
-use Rattle.rsp_text.specs.declared.fault.AsmFault.{AsmFault}
-use Rattle.rsp_text.specs.declared.fault.AsmFaultKind.TheVariants.{BadLine}
-use Rattle.rsp_text.specs.Means.{fault_at}
-use Rattle.rsp_asm.specs.Block.{OpenBlock, opened, with_line, meaning}
+use Rattle.rsp_syntax.specs.declared.fault.AsmFault.{AsmFault}
+use Rattle.rsp_syntax.specs.declared.fault.AsmFaultKind.TheVariants.{BadLine}
+use Rattle.rsp_syntax.specs.SourceText.{fault_at}
+use Rattle.rsp_asm.specs.Block.{OpenBlock, empty_block, with_line, meaning_of_block}
 use Rattle.rsp_asm.specs.BlockFault.{hides_no_fault}
-use Rattle.rsp_regs.specs.Sp.{peeked}
+use Rattle.rsp_regs.specs.Sp.{read_value}
 use Rattle.rsp_machine.specs.State.{State, start_of}
 use Rattle.rsp_machine.specs.Step.{step_of}
-use Rattle.rsp_machine.specs.Host.{is_inside, with_bank_bytes, register_written, with_pc, task_fault, tasked}
+use Rattle.rsp_machine.specs.Host.{is_inside, with_bank_bytes, register_written, with_pc, task_fault, with_task}
 use Rattle.rsp_machine.specs.declared.host.TaskFault.{TaskFault}
-use Rattle.rsp_debug.specs.Debugging.{Debugging, debugging_of, stepped, stop_in, ran, broken_at, unbroken_at, watching, unwatching, gone_back, brought_to, read_from}
+use Rattle.rsp_debug.specs.Debugging.{Debugging, debugging_of, after_debugger_step, stop_in, after_run, with_breakpoint, without_breakpoint, with_new_watch, with_watch_dropped, after_back, set_by_host, after_register_read}
 use Rattle.rsp_debug.specs.Stops.{is_break}
 use Rattle.rsp_debug.specs.Calls.{is_count}
-use Rattle.rsp_debug.specs.Looks.{memory_of, listing_of}
+use Rattle.rsp_debug.specs.Queries.{memory_of, listing_of}
 use Rattle.rsp_debug.specs.Breaks.{break_fault}
 use Rattle.rsp_debug.specs.Watches.{number_for, has_watch}
 use Rattle.rsp_debug.specs.declared.breaks.BreakFault.{BreakFault}
@@ -49,12 +49,12 @@ then_debugging text d s = record { reply = text; next = record s { debugging = d
 
 -- a reply, and the state after the command, which can't be undone: the history is emptied
 abbrev pub then_state : List ℕ → State → SessionState → Answer SessionState
-then_state text state s = then_debugging text (brought_to state s.debugging) s
+then_state text state s = then_debugging text (set_by_host state s.debugging) s
 
 -- ---- the machine
 
 abbrev pub task_answer : Option TaskFault → ℕ → SessionState → Answer SessionState
-task_answer None a s = then_state ok_text (tasked a s.debugging.state) s
+task_answer None a s = then_state ok_text (with_task a s.debugging.state) s
 task_answer (Some fault) a s = same (task_fault_text fault) s
 
 unfoldable pub load_answer : Bank → ℕ → List ℕ → SessionState → Answer SessionState
@@ -64,36 +64,36 @@ load_answer bank a bytes s =
 
 unfoldable pub step_answer : SessionState → Answer SessionState
 step_answer s =
-    let after = stepped s.debugging in
+    let after = after_debugger_step s.debugging in
     then_debugging (step_text (step_of s.debugging.state).0 after.state.pc) after s
 
 abbrev pub read_answer : ℕ → SessionState → Answer SessionState
-read_answer n s = then_debugging (sp_line n (peeked n s.debugging.state.sp)) (read_from n s.debugging) s
+read_answer n s = then_debugging (sp_line n (read_value n s.debugging.state.sp)) (after_register_read n s.debugging) s
 
 -- ---- the debugger
 
 unfoldable pub run_answer : ℕ → SessionState → Answer SessionState
 run_answer n s =
-    if is_count n then then_debugging (stop_text (stop_in n s.debugging)) (ran n s.debugging) s
+    if is_count n then then_debugging (stop_text (stop_in n s.debugging)) (after_run n s.debugging) s
     else same count_text s
 
 abbrev pub break_answer : Option BreakFault → ℕ → SessionState → Answer SessionState
-break_answer None place s = then_debugging ok_text (broken_at place s.debugging) s
+break_answer None place s = then_debugging ok_text (with_breakpoint place s.debugging) s
 break_answer (Some fault) place s = same (break_fault_text fault) s
 
 abbrev pub unbreak_answer : ℕ → SessionState → Answer SessionState
 unbreak_answer place s =
-    if is_break s.debugging.breaks place then then_debugging ok_text (unbroken_at place s.debugging) s
+    if is_break s.debugging.breaks place then then_debugging ok_text (without_breakpoint place s.debugging) s
     else same no_break_text s
 
 -- a watch of some bytes, with the number that it gets
 abbrev pub watch_answer : Result ℕ WatchFault → ℕ → ℕ → SessionState → Answer SessionState
-watch_answer (Ok k) a n s = then_debugging (watch_text k) (watching k a n s.debugging) s
+watch_answer (Ok k) a n s = then_debugging (watch_text k) (with_new_watch k a n s.debugging) s
 watch_answer (Err fault) a n s = same (watch_fault_text fault) s
 
 abbrev pub unwatch_answer : ℕ → SessionState → Answer SessionState
 unwatch_answer k s =
-    if has_watch k s.debugging.watches then then_debugging ok_text (unwatching k s.debugging) s
+    if has_watch k s.debugging.watches then then_debugging ok_text (with_watch_dropped k s.debugging) s
     else same no_watch_text s
 
 -- why n steps can't be undone; the count comes first
@@ -104,7 +104,7 @@ back_fault n past =
     else None
 
 abbrev pub back_answer : Option BackFault → ℕ → SessionState → Answer SessionState
-back_answer None n s = then_debugging ok_text (gone_back n s.debugging) s
+back_answer None n s = then_debugging ok_text (after_back n s.debugging) s
 back_answer (Some fault) n s = same (back_fault_text fault) s
 
 -- ---- looks
@@ -147,7 +147,7 @@ plain_answer (Write n value) s = then_state ok_text (register_written n value s.
 plain_answer (SetPc place) s = then_state ok_text (with_pc place s.debugging.state) s
 plain_answer (Task a) s = task_answer (task_fault a s.debugging.state.rdram) a s
 plain_answer (Show look) s = same (look_text look s.debugging.state) s
-plain_answer (Asm place) s = with_block (opened place) s
+plain_answer (Asm place) s = with_block (empty_block place) s
 plain_answer (BlockLine line) s = same (line_fault_text BadCommand) s
 plain_answer End s = same (line_fault_text BadCommand) s
 
@@ -155,14 +155,14 @@ plain_answer End s = same (line_fault_text BadCommand) s
 abbrev pub end_answer : OpenBlock → Result (List ℕ) AsmFault → SessionState → Answer SessionState
 end_answer b (Ok words) s = record {
   reply = words_text (length words);
-  next = record { debugging = brought_to (with_bank_bytes Imem b.place (words_bytes words) s.debugging.state) s.debugging; block = None };
+  next = record { debugging = set_by_host (with_bank_bytes Imem b.origin (words_bytes words) s.debugging.state) s.debugging; block = None };
 }
 end_answer b (Err fault) s = record { reply = asm_fault_text fault; next = record s { block = None } }
 
 -- the answer to a command while a block is open
 abbrev pub block_answer : OpenBlock → Command → SessionState → Answer SessionState
 block_answer b (BlockLine line) s = with_block (with_line line b) s
-block_answer b End s = end_answer b (meaning b) s
+block_answer b End s = end_answer b (meaning_of_block b) s
 block_answer b _ s = same (line_fault_text BadCommand) s
 
 abbrev pub answer_in : Option OpenBlock → Command → SessionState → Answer SessionState
@@ -201,13 +201,13 @@ unfoldable pub line_answer : List ℕ → SessionState → Answer SessionState
 line_answer line s = parsed_answer (command_of line (in_block s)) s
 
 -- a block that is still open lacks the line that ends it
-abbrev pub closing_of : Option OpenBlock → List ℕ
-closing_of None = []
-closing_of (Some b) = asm_fault_text (fault_at (length b.lines + 1) BadLine)
+abbrev pub end_reply_of : Option OpenBlock → List ℕ
+end_reply_of None = []
+end_reply_of (Some b) = asm_fault_text (fault_at (length b.lines + 1) BadLine)
 
 -- what is written at the end of a script: a fault if a block is still open, else nothing
-abbrev pub closing : SessionState → List ℕ
-closing s = closing_of s.block
+abbrev pub end_reply : SessionState → List ℕ
+end_reply s = end_reply_of s.block
 
 -- the session at the start: a machine with this image and all else as at its start, no breakpoint, no watch, an empty history
 -- that keeps 256 states, and no open block

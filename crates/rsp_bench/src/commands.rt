@@ -1,5 +1,5 @@
 ghost use Rattle.std.specs.Prelude.{◌≡◌, ◌<◌, ◌≤◌, ◌%◌, [], None};
-ghost use Rattle.rsp_script.specs.Command.{IsLook};
+ghost use Rattle.rsp_commands.specs.Command.{IsLook};
 ghost use Rattle.rsp_machine.specs.Host.{task_fault};
 ghost use Rattle.rsp_debug.specs.Breaks.{break_fault};
 ghost use Rattle.rsp_debug.specs.Watches.{number_for};
@@ -9,9 +9,9 @@ use crate::looks::{push_sp_line, put_dump, put_listing, put_registers, put_sp_re
 use crate::replies::{put_fault, put_ok, put_step, put_stop, put_watch};
 use crate::session::Session;
 use crate::vector_looks::{put_accumulators, put_flags, put_vector_registers};
-use rsp_lines::Reply;
+use rsp_commands::Look;
 use rsp_memory::Bank;
-use rsp_script::Look;
+use rsp_script_io::Reply;
 
 /// What each command does if no block is open. Each call takes an empty reply, and writes the whole of the command's reply.
 impl Session {

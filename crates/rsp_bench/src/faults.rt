@@ -1,12 +1,12 @@
-// Each fault names itself, as a reply prints it. Faults of the assembler have a line too, and name themselves in `rsp_text`.
+// Each fault names itself, as a reply prints it. Faults of the assembler have a line too, and name themselves in `rsp_syntax`.
 
 ghost use Rattle.std.specs.Prelude.{◌≡◌, ℕ, ◌≤◌, List, length};
-ghost use Rattle.rsp_script.specs.Faults.{line_fault_name};
+ghost use Rattle.rsp_commands.specs.Faults.{line_fault_name};
 ghost use Rattle.rsp_bench.specs.Faults.{range_name, task_fault_name, break_fault_name, no_break_name, watch_fault_name, no_watch_name, count_name, back_fault_name};
 
+use rsp_commands::LineFault;
 use rsp_debug::{BackFault, BreakFault, CountFault, NoBreak, NoWatch, WatchFault};
 use rsp_machine::{RangeFault, TaskFault};
-use rsp_script::LineFault;
 
 /// A fault that a reply names.
 pub(crate) trait NamedFault {

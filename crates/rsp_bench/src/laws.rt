@@ -2,18 +2,18 @@
 
 ghost use Rattle.std.specs.Prelude.{◌≡◌, ℕ, ◌<◌, ◌≤◌, List, length, Ok};
 ghost use Rattle.std.specs.List.{All};
-ghost use Rattle.rsp_text.specs.Means.{means, means_lines};
-ghost use Rattle.rsp_text.specs.SourceLine.{text_of_lines};
-ghost use Rattle.rsp_text.specs.Spell.{listing};
+ghost use Rattle.rsp_syntax.specs.SourceText.{meaning_of_text, meaning_of_lines};
+ghost use Rattle.rsp_syntax.specs.SourceLine.{text_of_lines};
+ghost use Rattle.rsp_syntax.specs.Disassembly.{listing};
 ghost use Rattle.rsp_bench.specs.Laws.{LooksAndRunsComeOut, LooksChangeNothing};
 ghost use Rattle.rsp_bench.specs.Refusals.{RefusedCommandsChangeNothing, RefusedLinesChangeNothing};
-ghost use Rattle.rsp_bench.specs.WantOfMemory.{NoReplyWantsMemory};
+ghost use Rattle.rsp_bench.specs.OutOfMemoryReplies.{NoReplyIsOutOfMemory};
 
 /// Listings assemble back: for every list of at most 1024 words, the lines of their disassembly from address 0 on mean that list
 /// at origin 0. So does their text, with an LF after each line.
 pub fn l3()
-    ensures lines { (ws : List ℕ) → length ws ≤ 1024 → All (λ w. w < 4294967296) ws → means_lines (listing 0 ws) 0 ≡ Ok ws }
-    ensures text { (ws : List ℕ) → length ws ≤ 1024 → All (λ w. w < 4294967296) ws → means (text_of_lines (listing 0 ws)) 0 ≡ Ok ws }
+    ensures lines { (ws : List ℕ) → length ws ≤ 1024 → All (λ w. w < 4294967296) ws → meaning_of_lines (listing 0 ws) 0 ≡ Ok ws }
+    ensures text { (ws : List ℕ) → length ws ≤ 1024 → All (λ w. w < 4294967296) ws → meaning_of_text (text_of_lines (listing 0 ws)) 0 ≡ Ok ws }
 {}
 
 /// Looking changes nothing: a line that looks, accepted or refused, leaves the session as it was.
@@ -31,8 +31,8 @@ pub fn refusals_change_nothing()
 
 /// No reply is fault 17, OutOfMemory: what is written for a script is a reply to each line and a fault at the end of an open
 /// block, and none of them is that fault. An assembly that runs out of memory makes `exec` return `AllocError`.
-pub fn no_reply_wants_memory()
-    ensures { (script image : List ℕ) → NoReplyWantsMemory script image }
+pub fn no_reply_is_out_of_memory()
+    ensures { (script image : List ℕ) → NoReplyIsOutOfMemory script image }
 {}
 
 /// Looks and runs come out: whatever the lines before and after it, a line that looks can be taken out of a script, and a line

@@ -15,7 +15,7 @@ mod session;
 mod vector_looks;
 mod words;
 
-pub use rsp_lines::{EndFault, FromRead, MemSink, MemSource, Reply, Sink, Source, ToWrite};
-pub use rsp_script::{Command, LineFault, Look, SourceLine, parse_line};
+pub use rsp_commands::{Command, LineFault, Look, SourceLine, parse_line};
+pub use rsp_script_io::{EndFault, FromRead, MemSink, MemSource, Reply, Sink, Source, ToWrite};
 pub use run::{BenchEnd, run_bench};
 pub use session::Session;

@@ -1,15 +1,15 @@
 ghost use Rattle.std.specs.Prelude.{◌≡◌, ℕ, ◌+◌, ◌-◌, ◌*◌, ◌/◌, ◌^◌, ◌<◌, ◌≤◌, [], ◌++◌, take, drop, length, slice_index};
 ghost use Rattle.hex.specs.Hex.{encode_lower};
-ghost use Rattle.rsp_regs.specs.Sp.{peeked};
-ghost use Rattle.rsp_lines.specs.Text.{each_text, hex_text};
+ghost use Rattle.rsp_regs.specs.Sp.{read_value};
+ghost use Rattle.rsp_script_io.specs.Text.{each_text, hex_text};
 ghost use Rattle.rsp_bench.specs.Looks.{word_text, register_line, registers_text, sp_line, sp_text, dump_line, dump_text, listed_line, listing_text};
 
 use rsp_acc::Acc;
-use rsp_debug::{Debugger, Listed};
-use rsp_lines::{REPLY_LIMIT, Reply};
+use rsp_debug::{Debugger, ListingLine};
 use rsp_regs::SpRegs;
+use rsp_script_io::{REPLY_LIMIT, Reply};
 
-#[tactic(auto, using(rsp_lines::proofs::Texts::parts), unfolding(crate::specs::Looks::word_text))]
+#[tactic(auto, using(rsp_script_io::proofs::Texts::parts), unfolding(crate::specs::Looks::word_text))]
 fn push_word(reply: &mut Reply, word: u32)
     requires { length reply.old + 9 ≤ REPLY_LIMIT }
     ensures text { reply.new ≡ reply.old ++ word_text word }
@@ -20,7 +20,7 @@ fn push_word(reply: &mut Reply, word: u32)
 }
 
 /// Four registers, from `first` on.
-#[tactic(auto, using(rsp_lines::proofs::Texts::parts))]
+#[tactic(auto, using(rsp_script_io::proofs::Texts::parts))]
 fn push_four(reply: &mut Reply, words: &[u32; 32], first: u8)
     requires registers { first + 4 ≤ 32 }
     requires room { length reply.old + 36 ≤ REPLY_LIMIT }
@@ -32,7 +32,7 @@ fn push_four(reply: &mut Reply, words: &[u32; 32], first: u8)
     }
 }
 
-#[tactic(auto, using(rsp_lines::proofs::Texts::parts), unfolding(crate::specs::Looks::register_line))]
+#[tactic(auto, using(rsp_script_io::proofs::Texts::parts), unfolding(crate::specs::Looks::register_line))]
 fn push_register_line(reply: &mut Reply, words: &[u32; 32], k: u8)
     requires registers { k < 8 }
     requires room { length reply.old + 40 ≤ REPLY_LIMIT }
@@ -45,7 +45,7 @@ fn push_register_line(reply: &mut Reply, words: &[u32; 32], k: u8)
     reply.push_text(b"\n");
 }
 
-#[tactic(auto, using(rsp_lines::proofs::Texts::parts))]
+#[tactic(auto, using(rsp_script_io::proofs::Texts::parts))]
 fn push_register_lines(reply: &mut Reply, words: &[u32; 32])
     requires { length reply.old + 320 ≤ REPLY_LIMIT }
     ensures { reply.new ≡ reply.old ++ each_text (register_line (λ n. slice_index words.now n)) 8 }
@@ -56,7 +56,7 @@ fn push_register_lines(reply: &mut Reply, words: &[u32; 32])
 }
 
 /// `regs`: the program counters and the scalar registers.
-#[tactic(auto, using(rsp_lines::proofs::Texts::parts), unfolding(crate::specs::Looks::registers_text))]
+#[tactic(auto, using(rsp_script_io::proofs::Texts::parts), unfolding(crate::specs::Looks::registers_text))]
 pub(crate) fn put_registers<A: Acc>(reply: &mut Reply, debugger: &Debugger<A>)
     requires { reply.old ≡ [] }
     ensures { reply.new ≡ registers_text debugger.now.state }
@@ -71,7 +71,7 @@ pub(crate) fn put_registers<A: Acc>(reply: &mut Reply, debugger: &Debugger<A>)
 }
 
 /// One SP register: its number, below 16, and its value.
-#[tactic(auto, using(rsp_lines::proofs::Texts::parts), unfolding(crate::specs::Looks::sp_line))]
+#[tactic(auto, using(rsp_script_io::proofs::Texts::parts), unfolding(crate::specs::Looks::sp_line))]
 pub(crate) fn push_sp_line(reply: &mut Reply, n: u8, value: u32)
     requires register { n < 16 }
     requires room { length reply.old + 13 ≤ REPLY_LIMIT }
@@ -84,10 +84,10 @@ pub(crate) fn push_sp_line(reply: &mut Reply, n: u8, value: u32)
     reply.push_text(b"\n");
 }
 
-#[tactic(auto, using(rsp_lines::proofs::Texts::parts))]
+#[tactic(auto, using(rsp_script_io::proofs::Texts::parts))]
 fn push_sp_lines(reply: &mut Reply, sp: &SpRegs)
     requires { length reply.old + 208 ≤ REPLY_LIMIT }
-    ensures text { reply.new ≡ reply.old ++ each_text (λ n. sp_line n (peeked n sp.now)) 16 }
+    ensures text { reply.new ≡ reply.old ++ each_text (λ n. sp_line n (read_value n sp.now)) 16 }
     ensures len { length reply.new ≤ length reply.old + 208 }
 {
     for n in 0..16 {
@@ -96,7 +96,7 @@ fn push_sp_lines(reply: &mut Reply, sp: &SpRegs)
 }
 
 /// The SP registers as they would read, and the interrupt flag.
-#[tactic(auto, using(rsp_lines::proofs::Texts::parts), unfolding(crate::specs::Looks::sp_text))]
+#[tactic(auto, using(rsp_script_io::proofs::Texts::parts), unfolding(crate::specs::Looks::sp_text))]
 pub(crate) fn put_sp_registers(reply: &mut Reply, sp: &SpRegs)
     requires { reply.old ≡ [] }
     ensures { reply.new ≡ sp_text sp.now }
@@ -120,7 +120,7 @@ fn push_bytes(reply: &mut Reply, bytes: &[u8])
     reply.push_text(text);
 }
 
-#[tactic(auto, using(rsp_lines::proofs::Texts::parts), unfolding(crate::specs::Looks::dump_line))]
+#[tactic(auto, using(rsp_script_io::proofs::Texts::parts), unfolding(crate::specs::Looks::dump_line))]
 fn push_dump_line(reply: &mut Reply, a: u32, bytes: &[u8])
     requires few { length bytes.now ≤ 16 }
     requires room { length reply.old + 41 ≤ REPLY_LIMIT }
@@ -154,7 +154,7 @@ fn push_dump_row(reply: &mut Reply, a: u32, bytes: &[u8], k: usize)
 }
 
 /// `mem`: at most 256 bytes at an address, 16 in a line.
-#[tactic(auto, using(rsp_lines::proofs::Texts::parts), unfolding(crate::specs::Looks::dump_text))]
+#[tactic(auto, using(rsp_script_io::proofs::Texts::parts), unfolding(crate::specs::Looks::dump_text))]
 pub(crate) fn put_dump(reply: &mut Reply, a: u32, bytes: &[u8])
     requires place { a + length bytes.now < 2 ^ 31 }
     requires few { length bytes.now ≤ 256 }
@@ -166,8 +166,8 @@ pub(crate) fn put_dump(reply: &mut Reply, a: u32, bytes: &[u8])
     }
 }
 
-#[tactic(auto, using(rsp_lines::proofs::Texts::parts), unfolding(crate::specs::Looks::listed_line))]
-fn push_listed_line(reply: &mut Reply, listed: &Listed)
+#[tactic(auto, using(rsp_script_io::proofs::Texts::parts), unfolding(crate::specs::Looks::listed_line))]
+fn push_listed_line(reply: &mut Reply, listed: &ListingLine)
     requires { length reply.old + 78 ≤ REPLY_LIMIT }
     ensures text { reply.new ≡ reply.old ++ listed_line listed.now }
     ensures len { length reply.new ≤ length reply.old + 78 }
@@ -180,8 +180,8 @@ fn push_listed_line(reply: &mut Reply, listed: &Listed)
 }
 
 /// `dis`: at most 64 words of IMEM with their disassembly, a line each.
-#[tactic(auto, using(rsp_lines::proofs::Texts::parts), unfolding(crate::specs::Looks::listing_text))]
-pub(crate) fn put_listing(reply: &mut Reply, words: &[Listed])
+#[tactic(auto, using(rsp_script_io::proofs::Texts::parts), unfolding(crate::specs::Looks::listing_text))]
+pub(crate) fn put_listing(reply: &mut Reply, words: &[ListingLine])
     requires few { length words.now ≤ 64 }
     requires empty { reply.old ≡ [] }
     ensures { reply.new ≡ listing_text words.now }

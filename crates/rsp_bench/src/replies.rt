@@ -5,11 +5,11 @@ use crate::faults::NamedFault;
 use itoa::Buffer;
 use rsp_asm::AsmFault;
 use rsp_debug::{Reason, Stop};
-use rsp_lines::{REPLY_LIMIT, Reply};
 use rsp_machine::StepEnd;
+use rsp_script_io::{REPLY_LIMIT, Reply};
 
 /// The reply that refuses a command: the number and the name of the fault.
-#[tactic(auto, using(rsp_lines::proofs::Texts::parts))]
+#[tactic(auto, using(rsp_script_io::proofs::Texts::parts))]
 pub(crate) fn put_fault<F: NamedFault>(reply: &mut Reply, fault: F)
     requires { reply.old ≡ [] }
     ensures { reply.new ≡ fault_line (F.text fault) }
@@ -56,7 +56,7 @@ fn push_number(reply: &mut Reply, n: usize)
     reply.push_text(buffer.format(n).as_bytes());
 }
 
-#[tactic(auto, using(rsp_lines::proofs::Texts::parts))]
+#[tactic(auto, using(rsp_script_io::proofs::Texts::parts))]
 fn push_reason(reply: &mut Reply, reason: Reason)
     requires { length reply.old + 46 ≤ REPLY_LIMIT }
     ensures text { reply.new ≡ reply.old ++ reason_text reason }
@@ -75,7 +75,7 @@ fn push_reason(reply: &mut Reply, reason: Reason)
 }
 
 /// Why a run stopped, how many steps it made, and pc after it.
-#[tactic(auto, using(rsp_lines::proofs::Texts::parts))]
+#[tactic(auto, using(rsp_script_io::proofs::Texts::parts))]
 pub(crate) fn put_stop(reply: &mut Reply, stop: Stop)
     requires { reply.old ≡ [] }
     ensures { reply.new ≡ stop_text stop }
@@ -90,7 +90,7 @@ pub(crate) fn put_stop(reply: &mut Reply, stop: Stop)
 }
 
 /// The number of a new watch.
-#[tactic(auto, using(rsp_lines::proofs::Texts::parts))]
+#[tactic(auto, using(rsp_script_io::proofs::Texts::parts))]
 pub(crate) fn put_watch(reply: &mut Reply, number: usize)
     requires { reply.old ≡ [] }
     ensures { reply.new ≡ watch_text number }
@@ -101,7 +101,7 @@ pub(crate) fn put_watch(reply: &mut Reply, number: usize)
 }
 
 /// How many words a block has.
-#[tactic(auto, using(rsp_lines::proofs::Texts::parts))]
+#[tactic(auto, using(rsp_script_io::proofs::Texts::parts))]
 pub(crate) fn put_words(reply: &mut Reply, count: usize)
     requires { reply.old ≡ [] }
     ensures { reply.new ≡ words_text count }
@@ -112,7 +112,7 @@ pub(crate) fn put_words(reply: &mut Reply, count: usize)
 }
 
 /// Why a block has no words, and the number of the line in the block.
-#[tactic(auto, using(rsp_lines::proofs::Texts::parts))]
+#[tactic(auto, using(rsp_script_io::proofs::Texts::parts))]
 pub(crate) fn put_asm_fault(reply: &mut Reply, fault: AsmFault)
     requires { reply.old ≡ [] }
     ensures { reply.new ≡ asm_fault_text fault }

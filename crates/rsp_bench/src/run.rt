@@ -1,13 +1,13 @@
 ghost use Rattle.std.specs.Prelude.{◌≡◌, ◌<◌, ◌≤◌, ◌+◌, ◌-◌, ◌^◌, length, IfSome};
 ghost use Rattle.std.specs.Io.KnownBytes.{append_known};
-ghost use Rattle.rsp_lines.specs.Faults.{failed_reads, failed_writes};
-ghost use Rattle.rsp_lines.specs.Left.{TakesAtMost, Takes, LeavesWritten};
+ghost use Rattle.rsp_script_io.specs.Faults.{failed_reads, failed_writes};
+ghost use Rattle.rsp_script_io.specs.EarlyEnd.{TakesAtMost, Takes, LeavesWritten};
 ghost use Rattle.rsp_bench.specs.Run.{out_of, session_of, outcome, IfFinished};
-ghost use Rattle.rsp_bench.specs.Session.{line_answer, closing, first_session};
+ghost use Rattle.rsp_bench.specs.Session.{line_answer, end_reply, first_session};
 
 use crate::session::Session;
-use rsp_lines::{RunFault, SCRIPT_LIMIT, Sink, Source, answer_script};
 use rsp_memory::Rdram;
+use rsp_script_io::{RunFault, SCRIPT_LIMIT, Sink, Source, answer_script};
 use std::alloc::Global;
 
 /// How a run of a script ended. What it had written is a clause of [`run_bench`].
@@ -55,8 +55,8 @@ pub fn run_bench<R: Source, W: Sink>(
 
     // What a run that ends early has written.
     ensures left { LeavesWritten (outcome result) (record {
-      answered = line_answer;
-      closing = closing;
+      answer_to = line_answer;
+      end_reply = end_reply;
       session = first_session image;
       script = R.rest source.old;
       unread = R.rest source.new;

@@ -1,20 +1,20 @@
 ghost use Rattle.std.specs.Prelude.{◌≡◌, ◌≤◌, true, None, IsOk, IsSome, IfSome, IfOk, IfErr, OnOk, OnErr, List, ℕ, length, []};
 ghost use Rattle.std.specs.List.{list_all};
-ghost use Rattle.rsp_script.specs.Command.{IsCommand};
-ghost use Rattle.rsp_text.specs.Chars.{is_plain};
-ghost use Rattle.rsp_asm.specs.Block.{with_line, meaning};
-ghost use Rattle.rsp_bench.specs.Session.{NeedsNoMemory, HidesNoBlockFault, EndHidesNoBlockFault, answer_of, plain_answer, block_answer, with_block, end_answer, line_answer, first_session, closing, in_block};
+ghost use Rattle.rsp_commands.specs.Command.{IsCommand};
+ghost use Rattle.rsp_syntax.specs.Chars.{is_line_byte};
+ghost use Rattle.rsp_asm.specs.Block.{with_line, meaning_of_block};
+ghost use Rattle.rsp_bench.specs.Session.{NeedsNoMemory, HidesNoBlockFault, EndHidesNoBlockFault, answer_of, plain_answer, block_answer, with_block, end_answer, line_answer, first_session, end_reply, in_block};
 ghost use Rattle.rsp_bench.specs.Replies.{line_fault_text};
 
 use crate::replies::{put_asm_fault, put_fault, put_ok, put_words};
 use crate::words::load_words;
 use rsp_acc::PlaneAcc;
 use rsp_asm::{AsmFault, AsmFaultKind, Block, BlockFault};
+use rsp_commands::{Command, LineFault, SourceLine, parse_line};
 use rsp_debug::Debugger;
-use rsp_lines::{Answering, Reply};
 use rsp_machine::Machine;
 use rsp_memory::Rdram;
-use rsp_script::{Command, LineFault, SourceLine, parse_line};
+use rsp_script_io::{LineHandler, Reply};
 use std::alloc::{AllocError, Global};
 use std::marker::Model;
 
@@ -102,7 +102,7 @@ impl Session {
     /// Appends a line to the open block. AllocError if there is no memory for it: then nothing changes.
     fn keep(&mut self, line: &SourceLine) -> Result<(), AllocError>
         requires open { IsSome self.old.block }
-        requires text { list_all is_plain line.now ≡ true }
+        requires text { list_all is_line_byte line.now ≡ true }
         ensures next { OnOk result (IfSome self.old.block (λ b. self.new ≡ (with_block (with_line line.now b) self.old).next)) }
         ensures err { OnErr result (self.new ≡ self.old) }
     {
@@ -117,8 +117,8 @@ impl Session {
     fn end(&mut self, alloc: Global, reply: &mut Reply) -> Result<(), AllocError>
         requires open { IsSome self.old.block }
         requires empty { reply.old ≡ [] }
-        ensures reply { OnOk result (IfSome self.old.block (λ b. reply.new ≡ (end_answer b (meaning b) self.old).reply)) }
-        ensures next { OnOk result (IfSome self.old.block (λ b. self.new ≡ (end_answer b (meaning b) self.old).next)) }
+        ensures reply { OnOk result (IfSome self.old.block (λ b. reply.new ≡ (end_answer b (meaning_of_block b) self.old).reply)) }
+        ensures next { OnOk result (IfSome self.old.block (λ b. self.new ≡ (end_answer b (meaning_of_block b) self.old).next)) }
         ensures err { OnErr result (self.new ≡ self.old) }
         ensures hides { OnErr result (IfSome self.old.block HidesNoBlockFault) }
     {
@@ -127,7 +127,7 @@ impl Session {
         };
         match block.assemble(alloc) {
             Ok(words) => {
-                load_words(&mut self.debugger, block.place(), words.as_slice());
+                load_words(&mut self.debugger, block.origin(), words.as_slice());
                 put_words(reply, words.len());
             }
             Err(BlockFault::Text(fault)) => put_asm_fault(reply, fault),
@@ -145,7 +145,7 @@ impl Session {
     #[tactic(auto, unfolding(crate::specs::Session::answer_of))]
     pub fn exec(&mut self, alloc: Global, command: &Command) -> Result<Reply, AllocError>
         requires { IsCommand command.now }
-        ensures answered { NeedsNoMemory command.now self.old → IsOk result }
+        ensures answer_to { NeedsNoMemory command.now self.old → IsOk result }
         ensures reply { IfOk result (λ reply. reply ≡ (answer_of command.now self.old).reply) }
         ensures next { OnOk result (self.new ≡ (answer_of command.now self.old).next) }
         ensures err { OnErr result (self.new ≡ self.old) }
@@ -166,7 +166,7 @@ impl Session {
     ) -> Result<(), AllocError>
         requires command { IsCommand command.now }
         requires empty { reply.old ≡ [] }
-        ensures answered { NeedsNoMemory command.now self.old → IsOk result }
+        ensures answer_to { NeedsNoMemory command.now self.old → IsOk result }
         ensures reply { OnOk result (reply.new ≡ (answer_of command.now self.old).reply) }
         ensures next { OnOk result (self.new ≡ (answer_of command.now self.old).next) }
         ensures err { OnErr result (self.new ≡ self.old) }
@@ -216,10 +216,10 @@ impl Session {
 
     /// The reply at the end of a script: the fault BadLine if a block is still open, with the line after its last, else nothing.
     pub fn finish(&self) -> Reply
-        ensures { result ≡ closing self.now }
+        ensures { result ≡ end_reply self.now }
     {
         let mut reply = Reply::new();
-        self.put_closing(&mut reply);
+        self.put_end_reply(&mut reply);
         reply
     }
 
@@ -232,13 +232,13 @@ impl Session {
     }
 }
 
-impl Answering for Session {
-    ghost use Rattle.rsp_bench.specs.Session.{line_answer, closing};
-    ghost use Rattle.rsp_bench.specs.Alike.{long_alike};
+impl LineHandler for Session {
+    ghost use Rattle.rsp_bench.specs.Session.{line_answer, end_reply};
+    ghost use Rattle.rsp_bench.specs.LongLineAnswers.{long_alike};
 
-    ghost answered = { line_answer };
+    ghost answer_to = { line_answer };
 
-    ghost closing = { closing };
+    ghost end_reply = { end_reply };
 
     fn answer(&mut self, alloc: Global, line: &[u8], reply: &mut Reply) -> Result<(), AllocError> {
         reply.clear();
@@ -248,7 +248,7 @@ impl Answering for Session {
         self.answer_text(alloc, line, reply)
     }
 
-    fn put_closing(&self, reply: &mut Reply) {
+    fn put_end_reply(&self, reply: &mut Reply) {
         reply.clear();
         if let Some(block) = &self.block {
             let fault = AsmFault {

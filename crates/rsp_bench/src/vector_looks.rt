@@ -1,6 +1,6 @@
 ghost use Rattle.std.specs.Prelude.{◌≡◌, ℕ, ◌+◌, ◌*◌, ◌<◌, ◌≤◌, [], ◌++◌, List, length, slice_index};
 ghost use Rattle.rsp_loadstore.specs.File.{vector};
-ghost use Rattle.rsp_lines.specs.Text.{each_text};
+ghost use Rattle.rsp_script_io.specs.Text.{each_text};
 ghost use Rattle.rsp_bench.specs.Looks.{half_text, vector_line, vectors_text, accumulator_line, accumulators_text, flags_text};
 ghost use Rattle.rsp_loadstore.specs.Controls.{control_half};
 
@@ -8,9 +8,9 @@ use rsp_acc::Acc;
 use rsp_debug::Debugger;
 use rsp_divide::Divider;
 use rsp_lanes::{Flags, Mask8, VReg};
-use rsp_lines::{REPLY_LIMIT, Reply};
+use rsp_script_io::{REPLY_LIMIT, Reply};
 
-#[tactic(auto, using(rsp_lines::proofs::Texts::parts), unfolding(crate::specs::Looks::half_text))]
+#[tactic(auto, using(rsp_script_io::proofs::Texts::parts), unfolding(crate::specs::Looks::half_text))]
 fn push_half(reply: &mut Reply, half: u16)
     requires { length reply.old + 5 ≤ REPLY_LIMIT }
     ensures text { reply.new ≡ reply.old ++ half_text half }
@@ -20,7 +20,7 @@ fn push_half(reply: &mut Reply, half: u16)
     reply.push_hex(u32::from(half), 4);
 }
 
-#[tactic(auto, using(rsp_lines::proofs::Texts::parts))]
+#[tactic(auto, using(rsp_script_io::proofs::Texts::parts))]
 fn push_lanes(reply: &mut Reply, register: &VReg)
     requires { length reply.old + 40 ≤ REPLY_LIMIT }
     ensures text { reply.new ≡ reply.old ++ each_text (λ i. half_text (slice_index register.now i)) 8 }
@@ -31,7 +31,7 @@ fn push_lanes(reply: &mut Reply, register: &VReg)
     }
 }
 
-#[tactic(auto, using(rsp_lines::proofs::Texts::parts), unfolding(crate::specs::Looks::vector_line))]
+#[tactic(auto, using(rsp_script_io::proofs::Texts::parts), unfolding(crate::specs::Looks::vector_line))]
 fn push_vector_line(reply: &mut Reply, n: u8, register: &VReg)
     requires register { n < 32 }
     requires room { length reply.old + 44 ≤ REPLY_LIMIT }
@@ -45,7 +45,7 @@ fn push_vector_line(reply: &mut Reply, n: u8, register: &VReg)
 }
 
 /// `vregs`: the 32 vector registers.
-#[tactic(auto, using(rsp_lines::proofs::Texts::parts), unfolding(crate::specs::Looks::vectors_text))]
+#[tactic(auto, using(rsp_script_io::proofs::Texts::parts), unfolding(crate::specs::Looks::vectors_text))]
 pub(crate) fn put_vector_registers<A: Acc>(reply: &mut Reply, debugger: &Debugger<A>)
     requires { reply.old ≡ [] }
     ensures { reply.new ≡ vectors_text debugger.now.state.vectors }
@@ -56,7 +56,7 @@ pub(crate) fn put_vector_registers<A: Acc>(reply: &mut Reply, debugger: &Debugge
 }
 
 /// One accumulator, by its three parts of 16 bits.
-#[tactic(auto, using(rsp_lines::proofs::Texts::parts), unfolding(crate::specs::Looks::accumulator_line))]
+#[tactic(auto, using(rsp_script_io::proofs::Texts::parts), unfolding(crate::specs::Looks::accumulator_line))]
 fn push_accumulator_line(reply: &mut Reply, i: u8, high: u16, middle: u16, low: u16)
     requires lane { i < 8 }
     requires room { length reply.old + 17 ≤ REPLY_LIMIT }
@@ -73,7 +73,7 @@ fn push_accumulator_line(reply: &mut Reply, i: u8, high: u16, middle: u16, low: 
 }
 
 /// Eight accumulators, by their three parts of 16 bits.
-#[tactic(auto, using(rsp_lines::proofs::Texts::parts))]
+#[tactic(auto, using(rsp_script_io::proofs::Texts::parts))]
 fn push_accumulator_lines(reply: &mut Reply, high: &VReg, middle: &VReg, low: &VReg)
     requires { length reply.old + 136 ≤ REPLY_LIMIT }
     ensures { reply.new ≡ reply.old ++ each_text (λ i. accumulator_line i (slice_index high.now i) (slice_index middle.now i) (slice_index low.now i)) 8 }
@@ -85,7 +85,7 @@ fn push_accumulator_lines(reply: &mut Reply, high: &VReg, middle: &VReg, low: &V
 }
 
 /// `acc`: the eight accumulators.
-#[tactic(auto, using(rsp_lines::proofs::Texts::parts))]
+#[tactic(auto, using(rsp_script_io::proofs::Texts::parts))]
 pub(crate) fn put_accumulators<A: Acc>(reply: &mut Reply, debugger: &Debugger<A>)
     requires { reply.old ≡ [] }
     ensures { reply.new ≡ accumulators_text debugger.now.state.accumulators }
@@ -101,7 +101,7 @@ fn control_half(low: Mask8, high: Mask8) -> u32
 }
 
 /// `flags`: the control registers, and the divider.
-#[tactic(auto, using(rsp_lines::proofs::Texts::parts), unfolding(crate::specs::Looks::flags_text))]
+#[tactic(auto, using(rsp_script_io::proofs::Texts::parts), unfolding(crate::specs::Looks::flags_text))]
 pub(crate) fn put_flags(reply: &mut Reply, flags: &Flags, divider: &Divider)
     requires { reply.old ≡ [] }
     ensures { reply.new ≡ flags_text flags.now divider.now }

@@ -1,7 +1,7 @@
 ghost use Rattle.std.specs.Prelude.{◌≡◌, ◌+◌, ◌*◌, ◌≤◌, length};
 ghost use Rattle.arrayvec.specs.ArrayVec.{array_vec_len};
 ghost use Rattle.rsp_machine.specs.Host.{with_bank_bytes};
-ghost use Rattle.rsp_debug.specs.Debugging.{brought_to};
+ghost use Rattle.rsp_debug.specs.Debugging.{set_by_host};
 ghost use Rattle.rsp_bench.specs.Words.{words_bytes};
 
 use arrayvec::ArrayVec;
@@ -25,7 +25,7 @@ fn word_bytes(words: &[u32]) -> ArrayVec<u8, 4096>
 /// Writes words to IMEM from an address on. They must fit into it. That empties the history, even if there are no words.
 pub(crate) fn load_words<A: Acc>(debugger: &mut Debugger<A>, place: u16, words: &[u32])
     requires { place + 4 * length words.now ≤ 4096 }
-    ensures { debugger.new ≡ brought_to (with_bank_bytes Bank.Imem place (words_bytes words.now) debugger.old.state) debugger.old }
+    ensures { debugger.new ≡ set_by_host (with_bank_bytes Bank.Imem place (words_bytes words.now) debugger.old.state) debugger.old }
 {
     let bytes = word_bytes(words);
     let _ = debugger.load_bytes(Bank::Imem, u32::from(place), bytes.as_slice());

@@ -10,14 +10,14 @@ use Rattle.rsp_lanes.specs.Lanes.{each_lane}
 use Rattle.rsp_lanes.proofs.Kit.{eta, each_same, lane_of}
 use Rattle.rsp_acc.specs.Planes.{joined}
 use Rattle.rsp_numbers.proofs.Join.{high_join, middle_join, low_join}
-use Rattle.rsp_loadstore.specs.Controls.{marks}
-use Rattle.rsp_regs.specs.Sp.{Sp, IsSp, peeked, status, flag, signal}
+use Rattle.rsp_loadstore.specs.Controls.{flags_of_bits}
+use Rattle.rsp_regs.specs.Sp.{Sp, IsSp, read_value, status, flag, signal}
 use Rattle.rsp_regs.specs.Parts.{sp_of, parts_of}
 use Rattle.rsp_machine.specs.State.{State, IsState}
 use Rattle.rsp_machine.specs.Registers.{is_whole, registers_of, with_registers}
 use Rattle.rsp_machine.proofs.Whole.{with-registers-of}
-use Rattle.rsp_c.specs.Seen.{bit}
-use Rattle.rsp_c.specs.States.{sp_words, sp_parts, seen_state, registers_in}
+use Rattle.rsp_c.specs.ToC.{bit}
+use Rattle.rsp_c.specs.States.{sp_words, sp_parts, c_state, registers_from_c}
 use Rattle.rsp_c.specs.Faults.{sp_word_fault, state_fault}
 use Rattle.rsp_c.specs.Laws.{SetAsGot, AreHalves, GotAsSet}
 use Rattle.rsp_c.proofs.Fields.{first_fault, first_field, words-right, state-right}
@@ -46,7 +46,7 @@ one-back : (b : Bool) → (cond b 1 0 == 1) ≡ b
 one-back true = refl
 one-back false = refl
 
-marks-mask : (ms : List Bool) → length ms ≡ 8 → marks (mask_l ms) ≡ ms
+marks-mask : (ms : List Bool) → length ms ≡ 8 → flags_of_bits (mask_l ms) ≡ ms
 marks-mask ms n = each_same _ _ (λ i h. ap (λ x. x == 1) (bit_mask_l ms i) ∙ one-back (get_or ms i false)) ∙ sym (eta false ms n)
 
 -- a number of twelve bits with gaps, as SP_STATUS has them
@@ -146,7 +146,7 @@ words-again xs n = sym (eta 0 xs n)
 
 -- SP registers as words, and back
 parts-again : (p : Sp) → IsSp p → sp_parts (sp_words p) (bit p.interrupt) ≡ parts_of p
-unfolding peeked
+unfolding read_value
 parts-again p h =
     let x = status-bits p in
     let skip : (p.skip * 1048576 + 4088) / 1048576 ≡ p.skip = omega arith in
@@ -179,7 +179,7 @@ no-word-fault : (m r w k b s d e f : Bool) → m ≡ true → r ≡ true → w �
 no-word-fault m r w k b s d e f h1 h2 h3 h4 h5 h6 h7 h8 h9 = rw (h1, h2, h3, h4, h5, h6, h7, h8, h9) refl
 
 machine-words : (p : Sp) → IsSp p → sp_word_fault (sp_words p) ≡ None
-unfolding peeked
+unfolding read_value
 machine-words p h =
     let skip : (p.skip * 1048576 + 4088) / 1048576 ≡ p.skip = omega arith in
     let low : (p.skip * 1048576 + 4088) % 1048576 ≡ 4088 = omega arith in
@@ -197,7 +197,7 @@ no-fault : (z l p n i : Bool) (o : Option ℕ) → z ≡ true → l ≡ true →
     → first_field z l p n i o ≡ 0
 no-fault z l p n i o h1 h2 h3 h4 h5 h6 = rw (h1, h2, h3, h4, h5, h6) refl
 
-machine-state : (s : State) → IsState s → state_fault (seen_state (registers_of s) s.sp) ≡ 0
+machine-state : (s : State) → IsState s → state_fault (c_state (registers_of s) s.sp) ≡ 0
 unfolding registers_of
 machine-state s h = no-fault _ _ _ _ _ _
     (eq-true _ _ h.registers.zero)
@@ -207,7 +207,7 @@ machine-state s h = no-fault _ _ _ _ _ _
     (le-true _ 1 (bit-small s.sp.interrupt))
     (machine-words s.sp h.sp)
 
-registers-again : (s : State) → IsState s → registers_in (seen_state (registers_of s) s.sp) ≡ registers_of s
+registers-again : (s : State) → IsState s → registers_from_c (c_state (registers_of s) s.sp) ≡ registers_of s
 unfolding registers_of
 registers-again s h =
     rw (
@@ -259,7 +259,7 @@ mask-of-eight a b c d e f g h =
       mask-more h [],
     )
 
-mask-marks : (n : ℕ) → n < 256 → mask_l (marks n) ≡ n
+mask-marks : (n : ℕ) → n < 256 → mask_l (flags_of_bits n) ≡ n
 unfolding each_lane
 mask-marks n h =
     mask-of-eight (bit_set n 0) (bit_set n 1) (bit_set n 2) (bit_set n 3) (bit_set n 4) (bit_set n 5) (bit_set n 6) (bit_set n 7)
@@ -346,7 +346,7 @@ le-of a b e = grind (arith, nat_tests)
 
 -- words as SP registers, and back
 words-back : (w : List ℕ) (i : ℕ) → length w ≡ 16 → sp_word_fault w ≡ None → sp_words (sp_of (sp_parts w i)) ≡ w
-unfolding peeked
+unfolding read_value
 words-back w i n h =
     let is = words-right w h in
     let length-word : slice_index w 2 / 1048576 * 1048576 + 4088 ≡ slice_index w 2 = omega (arith, eq-of _ _ is.low) in

@@ -4,9 +4,9 @@ use Rattle.std.specs.Prelude.{if◌then◌else◌, not, ◌&&◌, ◌==◌, nat_
 use Rattle.rsp_machine.specs.declared.registers.RegistersFault.{RegistersFault}
 use Rattle.rsp_machine.specs.declared.registers.RegistersFault.TheVariants.{Place, RegisterZero, MemoryAddress, DramAddress, Skip}
 use Rattle.rsp_machine.specs.Registers.{is_whole, registers_fault, sp_fault}
-use Rattle.rsp_c.specs.declared.shapes.RspState.{RspState}
-use Rattle.rsp_c.specs.declared.shapes.RspSpWords.{RspSpWords}
-use Rattle.rsp_c.specs.States.{registers_in, sp_in, sp_parts}
+use Rattle.rsp_c.specs.declared.c_structs.RspState.{RspState}
+use Rattle.rsp_c.specs.declared.c_structs.RspSpWords.{RspSpWords}
+use Rattle.rsp_c.specs.States.{registers_from_c, sp_from_c, sp_parts}
 use Rattle.rsp_c.specs.Faults.{sp_word_fault, sp_field, are_sp, state_fault}
 
 -- what is tested of SP registers: the first two; the low bits and the skip of the third; the others to the eighth
@@ -101,7 +101,7 @@ pub state-right : (g : RspState) → state_fault g ≡ 0
     → AreRight (slice_index g.words 0 == 0) (nat_le g.divider.loaded 1) (is_whole 4 4096 g.pc) (is_whole 4 4096 g.npc) (nat_le g.interrupt 1) (sp_word_fault g.sp)
 state-right g h = right _ _ _ _ _ _ h
 
-pub state-unfaulted : (g : RspState) → state_fault g ≡ 0 → registers_fault (registers_in g) ≡ None
+pub state-unfaulted : (g : RspState) → state_fault g ≡ 0 → registers_fault (registers_from_c g) ≡ None
 state-unfaulted g h =
     let is = state-right g h in
     unfaulted_all _ _ _ (sp_fault (sp_parts g.sp g.interrupt)) is.pc is.npc is.zero (words-unfaulted g.sp g.interrupt is.sp)
@@ -110,7 +110,7 @@ are_none : (o : Option ℕ) (i : Bool) → IsTrue (is_none o && i) → o ≡ Non
 are_none None i h = refl
 are_none (Some n) i h = cc
 
-pub sp-unfaulted : (g : RspSpWords) → IsTrue (are_sp g) → sp_fault (sp_in g) ≡ None
+pub sp-unfaulted : (g : RspSpWords) → IsTrue (are_sp g) → sp_fault (sp_from_c g) ≡ None
 sp-unfaulted g h = words-unfaulted g.words g.interrupt (are_none (sp_word_fault g.words) (nat_le g.interrupt 1) h)
 
 pub ruleset fields = (state-unfaulted, sp-unfaulted)

@@ -6,23 +6,23 @@ use Rattle.std.proofs.lemmas.List.{take_more_set, take_all}
 use Rattle.std.proofs.lemmas.List.Elements.{All-push}
 use Rattle.std.proofs.lemmas.List.FromFn.{map-range_with_len_more}
 use Rattle.rsp_memory.specs.Memory.{word_at}
-use Rattle.rsp_c.specs.declared.shapes.RspLine.{RspLine}
-use Rattle.rsp_c.specs.Seen.{seen_line, seen_lines, IsEnded}
+use Rattle.rsp_c.specs.declared.c_structs.RspLine.{RspLine}
+use Rattle.rsp_c.specs.ToC.{c_line, c_lines, IsEnded}
 
 -- no lines
-pub lines-none : (imem : List ℕ) (place n : ℕ) (lines : List RspLine) → n ≡ 0 → take n lines ≡ seen_lines imem place n
-unfolding seen_lines
-lines-none imem place n lines e = ap (λ k. take k lines) e ∙ sym (ap (λ k. map (λ i. seen_line (word_at imem (place + 4 * i)) (place + 4 * i)) (range_with_len 0 k)) e)
+pub lines-none : (imem : List ℕ) (place n : ℕ) (lines : List RspLine) → n ≡ 0 → take n lines ≡ c_lines imem place n
+unfolding c_lines
+lines-none imem place n lines e = ap (λ k. take k lines) e ∙ sym (ap (λ k. map (λ i. c_line (word_at imem (place + 4 * i)) (place + 4 * i)) (range_with_len 0 k)) e)
 
 -- one line more
 pub lines-more : (imem : List ℕ) (place i : ℕ) (lines : List RspLine) (line : RspLine) → i < length lines
-    → take i lines ≡ seen_lines imem place i → line ≡ seen_line (word_at imem (place + 4 * i)) (place + 4 * i)
-    → take (i + 1) (slice_set lines i line) ≡ seen_lines imem place (i + 1)
-unfolding seen_lines
+    → take i lines ≡ c_lines imem place i → line ≡ c_line (word_at imem (place + 4 * i)) (place + 4 * i)
+    → take (i + 1) (slice_set lines i line) ≡ c_lines imem place (i + 1)
+unfolding c_lines
 lines-more imem place i lines line h e same =
     take_more_set lines i line h ∙ ap (λ xs. xs ++ line ∷ []) e
-    ∙ ap (λ x. map (λ i. seen_line (word_at imem (place + 4 * i)) (place + 4 * i)) (range_with_len 0 i) ++ x ∷ []) same
-    ∙ sym (map-range_with_len_more (λ i. seen_line (word_at imem (place + 4 * i)) (place + 4 * i)) 0 i i (omega arith))
+    ∙ ap (λ x. map (λ i. c_line (word_at imem (place + 4 * i)) (place + 4 * i)) (range_with_len 0 i) ++ x ∷ []) same
+    ∙ sym (map-range_with_len_more (λ i. c_line (word_at imem (place + 4 * i)) (place + 4 * i)) 0 i i (omega arith))
 
 -- one text more that ends in a zero
 pub ended-more : (i : ℕ) (lines : List RspLine) (line : RspLine) → i < length lines → All IsEnded (take i lines) → IsEnded line
@@ -34,8 +34,8 @@ pub ended-all : (k : ℕ) (lines : List RspLine) → All IsEnded (take k lines) 
 ended-all k lines all h = subst (λ xs. All IsEnded xs) (take_all k lines h) all
 
 -- all of them
-pub lines-all : (imem : List ℕ) (place n k : ℕ) (lines : List RspLine) → length lines ≡ n → n ≤ k → take k lines ≡ seen_lines imem place k → k ≤ n → lines ≡ seen_lines imem place n
+pub lines-all : (imem : List ℕ) (place n k : ℕ) (lines : List RspLine) → length lines ≡ n → n ≤ k → take k lines ≡ c_lines imem place k → k ≤ n → lines ≡ c_lines imem place n
 lines-all imem place n k lines e h all b =
-    sym (take_all k lines (omega (arith, e, h))) ∙ all ∙ ap (λ j. seen_lines imem place j) (omega (arith, h, b))
+    sym (take_all k lines (omega (arith, e, h))) ∙ all ∙ ap (λ j. c_lines imem place j) (omega (arith, h, b))
 
 pub ruleset listing = (lines-all, ended-all)

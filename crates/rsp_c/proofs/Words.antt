@@ -12,7 +12,7 @@ use Rattle.rsp_memory.specs.declared.bank.Bank.{Bank}
 use Rattle.rsp_memory.specs.declared.bank.Bank.TheVariants.{Dmem, Imem, Rdram}
 use Rattle.rsp_machine.specs.State.{State}
 use Rattle.rsp_machine.specs.Host.{bank_length, is_inside, with_bank_bytes}
-use Rattle.rsp_debug.specs.Debugging.{Debugging, brought_to}
+use Rattle.rsp_debug.specs.Debugging.{Debugging, set_by_host}
 use Rattle.rsp_c.specs.Bytes.{words_bytes}
 
 -- no bank has more than 8 MB
@@ -53,7 +53,7 @@ words_length (w ∷ ws) =
 
 -- the rest is inside, where all words were
 pub rest-inside : (b : Bank) (a n : ℕ) (words piece rest : List ℕ) (d e : Debugging) → length words ≡ n + length rest
-    → IsTrue (is_inside b a (4 * length words) d.state) → e ≡ brought_to (with_bank_bytes b a (words_bytes piece) d.state) d
+    → IsTrue (is_inside b a (4 * length words) d.state) → e ≡ set_by_host (with_bank_bytes b a (words_bytes piece) d.state) d
     → IsTrue (is_inside b (a + 4 * n) (4 * length rest) e.state)
 rest-inside b a n words piece rest d e l h g =
     let kept : bank_length b e.state ≡ bank_length b d.state = ap (λ (x : Debugging). bank_length b x.state) g ∙ bank_length-kept b a (words_bytes piece) d.state in
@@ -62,10 +62,10 @@ rest-inside b a n words piece rest d e l h g =
 
 -- after a piece and the rest all words are written
 pub rest-put : (b : Bank) (a n : ℕ) (words piece rest : List ℕ) (d e f : Debugging) → words ≡ piece ++ rest → length piece ≡ n
-    → e ≡ brought_to (with_bank_bytes b a (words_bytes piece) d.state) d
-    → f ≡ brought_to (with_bank_bytes b (a + 4 * n) (words_bytes rest) e.state) e
-    → f ≡ brought_to (with_bank_bytes b a (words_bytes words) d.state) d
+    → e ≡ set_by_host (with_bank_bytes b a (words_bytes piece) d.state) d
+    → f ≡ set_by_host (with_bank_bytes b (a + 4 * n) (words_bytes rest) e.state) e
+    → f ≡ set_by_host (with_bank_bytes b a (words_bytes words) d.state) d
 rest-put b a n words piece rest d e f split l g h =
     let at : a + 4 * n ≡ a + length (words_bytes piece) = omega (arith, l, words_length piece) in
     let all : words_bytes words ≡ words_bytes piece ++ words_bytes rest = ap words_bytes split ∙ flat_map-append (to_be_bytes w32) piece rest in
-    h ∙ rw (g, at, all) (ap (λ (s : State). brought_to s d) (put-more b a (words_bytes piece) (words_bytes rest) d.state))
+    h ∙ rw (g, at, all) (ap (λ (s : State). set_by_host s d) (put-more b a (words_bytes piece) (words_bytes rest) d.state))

@@ -11,14 +11,14 @@ use Rattle.rsp_memory.specs.declared.bank.Bank.TheVariants as bank
 use Rattle.rsp_debug.specs.declared.breaks.BreakFault.{BreakFault}
 use Rattle.rsp_debug.specs.declared.breaks.BreakFault.TheVariants as breaking
 use Rattle.rsp_debug.specs.declared.watches.WatchFault.{WatchFault}
-use Rattle.rsp_debug.specs.declared.watches.WatchFault.TheVariants as watching
+use Rattle.rsp_debug.specs.declared.watches.WatchFault.TheVariants as with_new_watch
 use Rattle.rsp_debug.specs.declared.stop.Watch.{Watch}
 use Rattle.rsp_debug.specs.declared.moves.Moves.{Moves}
 use Rattle.rsp_debug.specs.Breaks.{break_fault}
 use Rattle.rsp_debug.specs.Stops.{is_break}
 use Rattle.rsp_debug.specs.Watches.{has_watch}
-use Rattle.rsp_text.specs.declared.fault.AsmFaultKind.{AsmFaultKind}
-use Rattle.rsp_text.specs.declared.fault.AsmFaultKind.TheVariants as fault
+use Rattle.rsp_syntax.specs.declared.fault.AsmFaultKind.{AsmFaultKind}
+use Rattle.rsp_syntax.specs.declared.fault.AsmFaultKind.TheVariants as fault
 
 -- a step: done, halted, or at a reserved word
 abbrev pub step_status : StepEnd → ℕ
@@ -36,20 +36,20 @@ pass_status (Ok x) = 0
 pass_status (Err f) = pass_fault_status f
 
 -- the moves of two masks
-abbrev pub moves_in : ℕ → ℕ → Moves
-moves_in reads writes = record { reads = reads; writes = writes }
+abbrev pub moves_from_c : ℕ → ℕ → Moves
+moves_from_c reads writes = record { reads = reads; writes = writes }
 
 -- the bank of a number
 abbrev pub bank_of : ℕ → Option Bank
 bank_of n = if n == 0 then Some bank.Dmem else if n == 1 then Some bank.Imem else if n == 2 then Some bank.Rdram else None
 
 -- whether it is the address of a word of IMEM
-abbrev pub is_place : ℕ → Bool
-is_place n = nat_lt n 4096 && n % 4 == 0
+abbrev pub is_imem_address : ℕ → Bool
+is_imem_address n = nat_lt n 4096 && n % 4 == 0
 
 -- a new pc
-abbrev pub place_status : ℕ → ℕ
-place_status place = if is_place place then 0 else 3
+abbrev pub address_status : ℕ → ℕ
+address_status place = if is_imem_address place then 0 else 3
 
 -- a task's start
 abbrev pub task_status : Option TaskFault → ℕ
@@ -58,27 +58,27 @@ task_status (Some task.TaskPlace) = 7
 task_status (Some task.TaskSize) = 8
 
 -- a new breakpoint
-abbrev pub fault_status : Option BreakFault → ℕ
-fault_status None = 0
-fault_status (Some breaking.BreakFull) = 9
-fault_status (Some breaking.BreakTwice) = 10
+abbrev pub break_fault_status : Option BreakFault → ℕ
+break_fault_status None = 0
+break_fault_status (Some breaking.BreakFull) = 9
+break_fault_status (Some breaking.BreakTwice) = 10
 
-abbrev pub break_status : ℕ → List Bool → ℕ
-break_status place breaks = if is_place place then fault_status (break_fault place breaks) else 3
+abbrev pub add_break_status : ℕ → List Bool → ℕ
+add_break_status place breaks = if is_imem_address place then break_fault_status (break_fault place breaks) else 3
 
 -- a breakpoint that is dropped
-abbrev pub unbreak_status : ℕ → List Bool → ℕ
-unbreak_status place breaks = if is_place place then (if is_break breaks place then 0 else 11) else 3
+abbrev pub drop_break_status : ℕ → List Bool → ℕ
+drop_break_status place breaks = if is_imem_address place then (if is_break breaks place then 0 else 11) else 3
 
 -- a new watch
-abbrev pub watch_status : Result ℕ WatchFault → ℕ
-watch_status (Ok k) = 0
-watch_status (Err watching.WatchRange) = 3
-watch_status (Err watching.WatchFull) = 12
+abbrev pub add_watch_status : Result ℕ WatchFault → ℕ
+add_watch_status (Ok k) = 0
+add_watch_status (Err with_new_watch.WatchRange) = 3
+add_watch_status (Err with_new_watch.WatchFull) = 12
 
 -- a watch that is dropped
-abbrev pub unwatch_status : ℕ → List (Option Watch) → ℕ
-unwatch_status k watches = if has_watch k watches then 0 else 13
+abbrev pub drop_watch_status : ℕ → List (Option Watch) → ℕ
+drop_watch_status k watches = if has_watch k watches then 0 else 13
 
 -- the number of a fault of a text
 abbrev pub fault_number : AsmFaultKind → ℕ

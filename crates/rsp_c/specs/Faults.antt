@@ -1,8 +1,8 @@
 -- Which field of a state no machine can have.
 use Rattle.std.specs.Prelude.{ℕ, ◌+◌, ◌*◌, ◌/◌, ◌%◌, ◌==◌, ◌&&◌, not, nat_le, Bool, List, slice_index, Option, Some, None, is_none, if◌then◌else◌}
 use Rattle.rsp_machine.specs.Registers.{is_whole}
-use Rattle.rsp_c.specs.declared.shapes.RspSpWords.{RspSpWords}
-use Rattle.rsp_c.specs.declared.shapes.RspState.{RspState}
+use Rattle.rsp_c.specs.declared.c_structs.RspSpWords.{RspSpWords}
+use Rattle.rsp_c.specs.declared.c_structs.RspState.{RspState}
 
 -- the first SP register from which its word can't be read
 abbrev pub sp_word_fault : List ℕ → Option ℕ

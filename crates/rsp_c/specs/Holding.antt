@@ -5,7 +5,7 @@ use Rattle.std.specs.Prelude.{Option, None, Some}
 use Rattle.std.specs.Box.Ownership.{box_owns}
 use Rattle.std.specs.Global.{Global}
 use Rattle.std_heap.specs.contracts.GlobalAllocator.TheImpl.{ghosts}
-use Rattle.rsp_c.specs.contracts.session.Session.{the_row}
+use Rattle.rsp_c.specs.contracts.instance.Instance.{the_row}
 
 abbrev pub Opened : Type 0
 Opened = the_row.Denot

@@ -2,15 +2,15 @@
 use Rattle.std.specs.Prelude.{◌≡◌, ◌<◌, ℕ, List, length, slice_index}
 use Rattle.rsp_machine.specs.State.{State, IsState}
 use Rattle.rsp_machine.specs.Registers.{registers_of, with_registers}
-use Rattle.rsp_c.specs.declared.shapes.RspState.{RspState}
-use Rattle.rsp_c.specs.States.{seen_state, registers_in}
+use Rattle.rsp_c.specs.declared.c_structs.RspState.{RspState}
+use Rattle.rsp_c.specs.States.{c_state, registers_from_c}
 use Rattle.rsp_c.specs.Faults.{state_fault}
 
 -- The registers of a machine, as rsp_get gives them, have no fault, and set again in it they leave it.
 abbrev pub SetAsGot : Type 0
 SetAsGot = (s : State) → IsState s
-    → (state_fault (seen_state (registers_of s) s.sp) ≡ 0)
-    × (with_registers (registers_in (seen_state (registers_of s) s.sp)) s ≡ s)
+    → (state_fault (c_state (registers_of s) s.sp) ≡ 0)
+    × (with_registers (registers_from_c (c_state (registers_of s) s.sp)) s ≡ s)
 
 -- eight numbers of sixteen bits
 abbrev pub AreHalves : List ℕ → Type 0
@@ -31,4 +31,4 @@ pub record IsRspState (g : RspState) : Type 0 where
 -- A state without a fault, set in a machine, is what rsp_get then gives, with 0 for `zero`.
 abbrev pub GotAsSet : Type 0
 GotAsSet = (g : RspState) (s : State) → IsRspState g → state_fault g ≡ 0
-    → seen_state (registers_of (with_registers (registers_in g) s)) (with_registers (registers_in g) s).sp ≡ record g { zero = 0 }
+    → c_state (registers_of (with_registers (registers_from_c g) s)) (with_registers (registers_from_c g) s).sp ≡ record g { zero = 0 }

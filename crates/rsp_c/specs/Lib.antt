@@ -3,5 +3,5 @@ pub mod Bytes
 pub mod Faults
 pub mod Holding
 pub mod Laws
-pub mod Seen
+pub mod ToC
 pub mod States

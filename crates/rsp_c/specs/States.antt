@@ -1,28 +1,28 @@
 -- All registers as C sees them, and back.
 use Rattle.std.specs.Prelude.{ℕ, ◌/◌, ◌%◌, ◌==◌, List, [], ◌∷◌, slice_index, Bool}
-use Rattle.rsp_loadstore.specs.Controls.{marks}
-use Rattle.rsp_regs.specs.Sp.{Sp, peeked}
+use Rattle.rsp_loadstore.specs.Controls.{flags_of_bits}
+use Rattle.rsp_regs.specs.Sp.{Sp, read_value}
 use Rattle.rsp_regs.specs.declared.parts.SpParts.{SpParts}
 use Rattle.rsp_machine.specs.declared.registers.AllRegisters.{AllRegisters}
-use Rattle.rsp_c.specs.declared.shapes.RspSpWords.{RspSpWords}
-use Rattle.rsp_c.specs.declared.shapes.RspState.{RspState}
-use Rattle.rsp_c.specs.Seen.{bit, seen_flags, seen_divider}
+use Rattle.rsp_c.specs.declared.c_structs.RspSpWords.{RspSpWords}
+use Rattle.rsp_c.specs.declared.c_structs.RspState.{RspState}
+use Rattle.rsp_c.specs.ToC.{bit, c_flags, c_divider}
 
 -- the sixteen SP registers as a peek shows them
 abbrev pub sp_words : Sp → List ℕ
 sp_words s =
-    peeked 0 s ∷ peeked 1 s ∷ peeked 2 s ∷ peeked 3 s ∷ peeked 4 s ∷ peeked 5 s ∷ peeked 6 s ∷ peeked 7 s
-    ∷ peeked 8 s ∷ peeked 9 s ∷ peeked 10 s ∷ peeked 11 s ∷ peeked 12 s ∷ peeked 13 s ∷ peeked 14 s ∷ peeked 15 s ∷ []
+    read_value 0 s ∷ read_value 1 s ∷ read_value 2 s ∷ read_value 3 s ∷ read_value 4 s ∷ read_value 5 s ∷ read_value 6 s ∷ read_value 7 s
+    ∷ read_value 8 s ∷ read_value 9 s ∷ read_value 10 s ∷ read_value 11 s ∷ read_value 12 s ∷ read_value 13 s ∷ read_value 14 s ∷ read_value 15 s ∷ []
 
 -- all registers, with the SP registers as words
-abbrev pub seen_state : AllRegisters → Sp → RspState
-seen_state r s = record {
+abbrev pub c_state : AllRegisters → Sp → RspState
+c_state r s = record {
   words = r.registers;
   vectors = r.vectors;
   accumulators = record { high = r.accumulators_high; middle = r.accumulators_middle; low = r.accumulators_low };
-  flags = seen_flags r.flags;
+  flags = c_flags r.flags;
   zero = 0;
-  divider = seen_divider r.divider;
+  divider = c_divider r.divider;
   pc = r.pc;
   npc = r.npc;
   sp = sp_words s;
@@ -56,15 +56,15 @@ sp_parts w interrupt =
     }
 
 -- the SP registers as C sees them, and those that C gives
-abbrev pub seen_sp : Sp → RspSpWords
-seen_sp s = record { words = sp_words s; interrupt = bit s.interrupt }
+abbrev pub c_sp : Sp → RspSpWords
+c_sp s = record { words = sp_words s; interrupt = bit s.interrupt }
 
-abbrev pub sp_in : RspSpWords → SpParts
-sp_in g = sp_parts g.words g.interrupt
+abbrev pub sp_from_c : RspSpWords → SpParts
+sp_from_c g = sp_parts g.words g.interrupt
 
 -- the registers that C gives
-abbrev pub registers_in : RspState → AllRegisters
-registers_in g = record {
+abbrev pub registers_from_c : RspState → AllRegisters
+registers_from_c g = record {
   pc = g.pc;
   npc = g.npc;
   registers = g.words;
@@ -72,7 +72,7 @@ registers_in g = record {
   accumulators_high = g.accumulators.high;
   accumulators_middle = g.accumulators.middle;
   accumulators_low = g.accumulators.low;
-  flags = record { carry = marks g.flags.carry; differ = marks g.flags.differ; compare = marks g.flags.compare; clip = marks g.flags.clip; extra = marks g.flags.extra };
+  flags = record { carry = flags_of_bits g.flags.carry; differ = flags_of_bits g.flags.differ; compare = flags_of_bits g.flags.compare; clip = flags_of_bits g.flags.clip; extra = flags_of_bits g.flags.extra };
   divider = record { input = g.divider.input; output = g.divider.output; loaded = g.divider.loaded == 1 };
   sp = sp_parts g.sp g.interrupt;
 }

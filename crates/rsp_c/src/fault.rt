@@ -4,7 +4,7 @@ ghost use Rattle.std.specs.Prelude.{◌≡◌, ◌<◌};
 ghost use Rattle.rsp_machine.specs.Registers.{is_whole};
 ghost use Rattle.rsp_c.specs.Faults.{sp_word_fault, are_sp, state_fault};
 
-use crate::shapes::{RspSpWords, RspState};
+use crate::c_structs::{RspSpWords, RspState};
 use crate::status::OK;
 
 /// Register 0 isn't 0.

@@ -3,8 +3,8 @@
 ghost use Rattle.std.specs.Prelude.{◌≡◌, Option, None, Some, MatchOption};
 ghost use Rattle.rsp_c.specs.Holding.{holding, Opened};
 
-use crate::parts::Parts;
-use crate::session::Session;
+use crate::box_parts::BoxParts;
+use crate::instance::Instance;
 use std::alloc::Global;
 use std::marker::Model;
 
@@ -35,10 +35,10 @@ impl Handle {
     }
 
     /// The handle of a session.
-    pub fn of(parts: Parts<Session, Global>) -> Handle
+    pub fn of(parts: BoxParts<Instance, Global>) -> Handle
         ensures { result.session ≡ Some parts.value }
     {
-        let Parts { ptr, alloc } = parts;
+        let BoxParts { ptr, alloc } = parts;
         Handle {
             at: ptr as *mut u8,
             alloc,
@@ -46,15 +46,15 @@ impl Handle {
     }
 
     /// The session of the handle, if it owns one.
-    pub fn into_parts(self) -> Option<Parts<Session, Global>>
+    pub fn into_parts(self) -> Option<BoxParts<Instance, Global>>
         ensures { MatchOption result (self.session ≡ None) (λ p. self.session ≡ Some p.value) }
     {
         let Handle { at, alloc } = self;
         if at.is_null() {
             return None;
         }
-        Some(Parts {
-            ptr: at as *mut Session,
+        Some(BoxParts {
+            ptr: at as *mut Instance,
             alloc,
         })
     }
@@ -70,7 +70,7 @@ impl Drop for Handle {
 
 impl Handle {
     /// Takes the session out of the handle, if it owns one.
-    pub fn take(&mut self, alloc: Global) -> Option<Box<Session, Global>>
+    pub fn take(&mut self, alloc: Global) -> Option<Box<Instance, Global>>
         ensures was { MatchOption result (self.old.session ≡ None) (λ b. self.old.session ≡ Some b.value) }
         ensures now { self.new.session ≡ None }
     {
@@ -82,9 +82,9 @@ impl Handle {
     }
 
     /// Puts a session into the handle. The one that it owned is freed.
-    pub fn put(&mut self, session: Box<Session, Global>)
+    pub fn put(&mut self, session: Box<Instance, Global>)
         ensures { self.new.session ≡ Some session.value }
     {
-        *self = Handle::of(Parts::of(session));
+        *self = Handle::of(BoxParts::of(session));
     }
 }

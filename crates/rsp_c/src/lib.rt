@@ -4,18 +4,17 @@
 //! and parts of them, memories, SP registers, and texts.
 #![tactic(auto)]
 
+mod box_parts;
+mod c_structs;
 mod fault;
 mod handle;
+mod instance;
 pub mod laws;
 mod life;
-mod looks;
 mod memory;
 mod memory_words;
-mod parts;
+mod queries;
 mod registers;
-mod seen;
-mod session;
-mod shapes;
 mod sp;
 mod state;
 mod status;
@@ -23,5 +22,6 @@ mod steps;
 mod stops;
 mod tasks;
 mod texts;
+mod to_c;
 mod trace;
 mod until;

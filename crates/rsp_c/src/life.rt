@@ -6,7 +6,7 @@ ghost use Rattle.rsp_memory.specs.Image.{IsImageLength};
 ghost use Rattle.rsp_debug.specs.Debugging.{debugging_of};
 
 use crate::handle::Handle;
-use crate::session::Session;
+use crate::instance::Instance;
 use crate::status::{NO_MACHINE, NO_MEMORY, OK, OUT_OF_RANGE};
 use rsp_debug::Debugger;
 use rsp_machine::Machine;
@@ -52,7 +52,7 @@ pub extern "C" fn rsp_new(handle: &mut Handle, alloc: Global, image: &[u8], dept
     let Ok(debugger) = Debugger::try_new(alloc, Machine::new(rdram), depth as usize) else {
         return NO_MEMORY;
     };
-    match Box::new(alloc, Session { debugger }) {
+    match Box::new(alloc, Instance { debugger }) {
         Err(_) => NO_MEMORY,
         Ok(session) => {
             handle.put(session);
@@ -79,7 +79,7 @@ pub extern "C" fn rsp_copy(to: &mut Handle, alloc: Global, from: &mut Handle) ->
     let Ok(debugger) = copy else {
         return NO_MEMORY;
     };
-    match Box::new(alloc, Session { debugger }) {
+    match Box::new(alloc, Instance { debugger }) {
         Err(_) => NO_MEMORY,
         Ok(session) => {
             to.put(session);

@@ -2,7 +2,7 @@
 
 ghost use Rattle.std.specs.Prelude.{◌≡◌, ◌↔◌, ◌⊎◌, IfSome, IfNone, length, take, drop, option_map, IsTrue, IsSomeAnd};
 ghost use Rattle.rsp_machine.specs.Host.{with_bank_bytes, is_inside};
-ghost use Rattle.rsp_debug.specs.Debugging.{brought_to};
+ghost use Rattle.rsp_debug.specs.Debugging.{set_by_host};
 ghost use Rattle.rsp_c.specs.Answers.{bank_of};
 ghost use Rattle.rsp_c.specs.Bytes.{bank_bytes};
 
@@ -41,7 +41,7 @@ pub extern "C" fn rsp_load(
     ensures none { IfNone handle.old.session (result ≡ NO_MACHINE) }
     ensures inside { IfSome handle.old.session (λ d. (result ≡ OK) ↔ IsSomeAnd (bank_of number) (λ b. IsTrue (is_inside b address (length bytes.now) d.state))) }
     ensures answer { IfSome handle.old.session (λ d. (result ≡ OK) ⊎ (result ≡ OUT_OF_RANGE)) }
-    ensures next { result ≡ OK → IfSome (bank_of number) (λ b. handle.new.session ≡ option_map (λ d. brought_to (with_bank_bytes b address bytes.now d.state) d) handle.old.session) }
+    ensures next { result ≡ OK → IfSome (bank_of number) (λ b. handle.new.session ≡ option_map (λ d. set_by_host (with_bank_bytes b address bytes.now d.state) d) handle.old.session) }
     ensures same { (result ≡ OK → ⊥) → handle.new.session ≡ handle.old.session }
 {
     match handle.take(alloc) {

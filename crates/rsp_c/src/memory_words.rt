@@ -2,7 +2,7 @@
 
 ghost use Rattle.std.specs.Prelude.{◌≡◌, ◌+◌, ◌*◌, ◌≤◌, ◌↔◌, ◌⊎◌, IfSome, IfNone, length, take, drop, option_map, IsTrue, IsSomeAnd};
 ghost use Rattle.rsp_machine.specs.Host.{with_bank_bytes, is_inside};
-ghost use Rattle.rsp_debug.specs.Debugging.{brought_to};
+ghost use Rattle.rsp_debug.specs.Debugging.{set_by_host};
 ghost use Rattle.rsp_c.specs.Answers.{bank_of};
 ghost use Rattle.rsp_c.specs.Bytes.{bank_bytes, words_bytes};
 ghost use Rattle.byteorder.specs.Endian.{IsRead, big_number};
@@ -35,7 +35,7 @@ fn has_words(machine: &Machine<PlaneAcc>, bank: Bank, address: u32, n: usize) ->
 fn put_piece(debugger: &mut Debugger<PlaneAcc>, bank: Bank, address: u32, words: &[u32])
     requires few { length words.now ≤ 64 }
     requires inside { IsTrue (is_inside bank address (4 * length words.now) debugger.old.state) }
-    ensures { debugger.new ≡ brought_to (with_bank_bytes bank address (words_bytes words.now) debugger.old.state) debugger.old }
+    ensures { debugger.new ≡ set_by_host (with_bank_bytes bank address (words_bytes words.now) debugger.old.state) debugger.old }
 {
     let n = 4 * words.len();
     let mut bytes = [0; 4 * PIECE];
@@ -49,7 +49,7 @@ fn put_piece(debugger: &mut Debugger<PlaneAcc>, bank: Bank, address: u32, words:
 fn put_words(debugger: &mut Debugger<PlaneAcc>, bank: Bank, address: u32, words: &[u32])
     requires limit { address + 4 * length words.now ≤ 8388608 }
     requires inside { IsTrue (is_inside bank address (4 * length words.now) debugger.old.state) }
-    ensures { debugger.new ≡ brought_to (with_bank_bytes bank address (words_bytes words.now) debugger.old.state) debugger.old }
+    ensures { debugger.new ≡ set_by_host (with_bank_bytes bank address (words_bytes words.now) debugger.old.state) debugger.old }
 {
     if words.len() <= PIECE {
         return put_piece(debugger, bank, address, words);
@@ -79,7 +79,7 @@ pub extern "C" fn rsp_load_words(
     ensures none { IfNone handle.old.session (result ≡ NO_MACHINE) }
     ensures inside { IfSome handle.old.session (λ d. (result ≡ OK) ↔ ((length words.now ≤ 1024) × IsSomeAnd (bank_of number) (λ b. IsTrue (is_inside b address (4 * length words.now) d.state)))) }
     ensures answer { IfSome handle.old.session (λ d. (result ≡ OK) ⊎ (result ≡ OUT_OF_RANGE)) }
-    ensures next { result ≡ OK → IfSome (bank_of number) (λ b. handle.new.session ≡ option_map (λ d. brought_to (with_bank_bytes b address (words_bytes words.now) d.state) d) handle.old.session) }
+    ensures next { result ≡ OK → IfSome (bank_of number) (λ b. handle.new.session ≡ option_map (λ d. set_by_host (with_bank_bytes b address (words_bytes words.now) d.state) d) handle.old.session) }
     ensures same { (result ≡ OK → ⊥) → handle.new.session ≡ handle.old.session }
 {
     match handle.take(alloc) {

@@ -1,10 +1,10 @@
 // All registers in the shape that crosses to C, and back.
 
 ghost use Rattle.std.specs.Prelude.{◌≡◌};
-ghost use Rattle.rsp_c.specs.States.{seen_state, seen_sp, sp_words, sp_parts, sp_in, registers_in};
+ghost use Rattle.rsp_c.specs.States.{c_state, c_sp, sp_words, sp_parts, sp_from_c, registers_from_c};
 
-use crate::seen::{seen_divider, seen_flags};
-use crate::shapes::{RspAccumulators, RspSpWords, RspState};
+use crate::c_structs::{RspAccumulators, RspSpWords, RspState};
+use crate::to_c::{c_divider, c_flags};
 use rsp_divide::Divider;
 use rsp_lanes::{Flags, Mask8};
 use rsp_machine::AllRegisters;
@@ -35,8 +35,8 @@ fn sp_words(sp: &SpRegs) -> [u32; 16]
 }
 
 /// The SP registers as C sees them.
-pub fn seen_sp(sp: &SpRegs) -> RspSpWords
-    ensures { result ≡ seen_sp sp.now }
+pub fn c_sp(sp: &SpRegs) -> RspSpWords
+    ensures { result ≡ c_sp sp.now }
 {
     RspSpWords {
         words: sp_words(sp),
@@ -45,23 +45,23 @@ pub fn seen_sp(sp: &SpRegs) -> RspSpWords
 }
 
 /// All registers as C sees them.
-pub fn seen_state(all: &AllRegisters, sp: &SpRegs) -> RspState
-    ensures { result ≡ seen_state all.now sp.now }
+pub fn c_state(all: &AllRegisters, sp: &SpRegs) -> RspState
+    ensures { result ≡ c_state all.now sp.now }
 {
     let words = all.registers;
     let vectors = all.vectors;
     let high = all.accumulators_high;
     let middle = all.accumulators_middle;
     let low = all.accumulators_low;
-    let sp_words = seen_sp(sp);
+    let sp_words = c_sp(sp);
     let sp = sp_words.words;
     RspState {
         words,
         vectors,
         accumulators: RspAccumulators { high, middle, low },
-        flags: seen_flags(&all.flags),
+        flags: c_flags(&all.flags),
         zero: 0,
-        divider: seen_divider(&all.divider),
+        divider: c_divider(&all.divider),
         pc: all.pc,
         npc: all.npc,
         sp,
@@ -101,15 +101,15 @@ fn sp_parts(words: &[u32; 16], interrupt: u32) -> SpParts
 }
 
 /// The SP registers that C gives. Their ranges aren't tested here.
-pub fn sp_in(given: &RspSpWords) -> SpParts
-    ensures { result ≡ sp_in given.now }
+pub fn sp_from_c(given: &RspSpWords) -> SpParts
+    ensures { result ≡ sp_from_c given.now }
 {
     sp_parts(&given.words, given.interrupt)
 }
 
 /// The registers that C gives. Their ranges aren't tested here.
-pub fn registers_in(state: &RspState) -> AllRegisters
-    ensures { result ≡ registers_in state.now }
+pub fn registers_from_c(state: &RspState) -> AllRegisters
+    ensures { result ≡ registers_from_c state.now }
 {
     let registers = state.words;
     let vectors = state.vectors;

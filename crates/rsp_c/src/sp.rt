@@ -3,15 +3,15 @@
 ghost use Rattle.std.specs.Prelude.{◌≡◌, ◌↔◌, ◌⊎◌, IfSome, IfNone, IsTrue, option_map};
 ghost use Rattle.rsp_machine.specs.Host.{register_written};
 ghost use Rattle.rsp_regs.specs.Parts.{sp_of};
-ghost use Rattle.rsp_regs.specs.Sp.{peeked};
-ghost use Rattle.rsp_debug.specs.Debugging.{brought_to, read_from};
+ghost use Rattle.rsp_regs.specs.Sp.{read_value};
+ghost use Rattle.rsp_debug.specs.Debugging.{set_by_host, after_register_read};
 ghost use Rattle.rsp_c.specs.Faults.{are_sp};
-ghost use Rattle.rsp_c.specs.States.{seen_sp, sp_in};
+ghost use Rattle.rsp_c.specs.States.{c_sp, sp_from_c};
 
+use crate::c_structs::RspSpWords;
 use crate::fault::are_sp;
 use crate::handle::Handle;
-use crate::registers::{seen_sp, sp_in};
-use crate::shapes::RspSpWords;
+use crate::registers::{c_sp, sp_from_c};
 use crate::status::{NO_MACHINE, OK, OUT_OF_RANGE};
 use std::alloc::Global;
 
@@ -20,9 +20,9 @@ use std::alloc::Global;
 pub extern "C" fn rsp_read(handle: &mut Handle, alloc: Global, n: u32, out: &mut u32) -> u32
     ensures none { IfNone handle.old.session (result ≡ NO_MACHINE) }
     ensures ok { IfSome handle.old.session (λ d. result ≡ OK) }
-    ensures value { IfSome handle.old.session (λ d. out.new ≡ peeked n d.state.sp) }
+    ensures value { IfSome handle.old.session (λ d. out.new ≡ read_value n d.state.sp) }
     ensures refused { (result ≡ OK → ⊥) → out.new ≡ out.old }
-    ensures next { handle.new.session ≡ option_map (read_from n) handle.old.session }
+    ensures next { handle.new.session ≡ option_map (after_register_read n) handle.old.session }
 {
     match handle.take(alloc) {
         None => NO_MACHINE,
@@ -39,7 +39,7 @@ pub extern "C" fn rsp_read(handle: &mut Handle, alloc: Global, n: u32, out: &mut
 pub extern "C" fn rsp_peek(handle: &mut Handle, alloc: Global, n: u32, out: &mut u32) -> u32
     ensures none { IfNone handle.old.session (result ≡ NO_MACHINE) }
     ensures ok { IfSome handle.old.session (λ d. result ≡ OK) }
-    ensures value { IfSome handle.old.session (λ d. out.new ≡ peeked n d.state.sp) }
+    ensures value { IfSome handle.old.session (λ d. out.new ≡ read_value n d.state.sp) }
     ensures refused { (result ≡ OK → ⊥) → out.new ≡ out.old }
     ensures same { handle.new.session ≡ handle.old.session }
 {
@@ -58,7 +58,7 @@ pub extern "C" fn rsp_peek(handle: &mut Handle, alloc: Global, n: u32, out: &mut
 pub extern "C" fn rsp_write(handle: &mut Handle, alloc: Global, n: u32, value: u32) -> u32
     ensures none { IfNone handle.old.session (result ≡ NO_MACHINE) }
     ensures ok { IfSome handle.old.session (λ d. result ≡ OK) }
-    ensures next { handle.new.session ≡ option_map (λ d. brought_to (register_written n value d.state) d) handle.old.session }
+    ensures next { handle.new.session ≡ option_map (λ d. set_by_host (register_written n value d.state) d) handle.old.session }
 {
     match handle.take(alloc) {
         None => NO_MACHINE,
@@ -75,14 +75,14 @@ pub extern "C" fn rsp_write(handle: &mut Handle, alloc: Global, n: u32, value: u
 pub extern "C" fn rsp_sp(handle: &mut Handle, alloc: Global, out: &mut RspSpWords) -> u32
     ensures none { IfNone handle.old.session (result ≡ NO_MACHINE) }
     ensures ok { IfSome handle.old.session (λ d. result ≡ OK) }
-    ensures value { IfSome handle.old.session (λ d. out.new ≡ seen_sp d.state.sp) }
+    ensures value { IfSome handle.old.session (λ d. out.new ≡ c_sp d.state.sp) }
     ensures refused { (result ≡ OK → ⊥) → out.new ≡ out.old }
     ensures same { handle.new.session ≡ handle.old.session }
 {
     match handle.take(alloc) {
         None => NO_MACHINE,
         Some(session) => {
-            *out = seen_sp(session.debugger.sp_regs());
+            *out = c_sp(session.debugger.sp_regs());
             handle.put(session);
             OK
         }
@@ -97,7 +97,7 @@ pub extern "C" fn rsp_set_sp(handle: &mut Handle, alloc: Global, given: &RspSpWo
     ensures none { IfNone handle.old.session (result ≡ NO_MACHINE) }
     ensures range { IfSome handle.old.session (λ d. (result ≡ OK) ↔ IsTrue (are_sp given.now)) }
     ensures answer { IfSome handle.old.session (λ d. (result ≡ OK) ⊎ (result ≡ OUT_OF_RANGE)) }
-    ensures next { result ≡ OK → handle.new.session ≡ option_map (λ d. brought_to (record d.state { sp = sp_of (sp_in given.now) }) d) handle.old.session }
+    ensures next { result ≡ OK → handle.new.session ≡ option_map (λ d. set_by_host (record d.state { sp = sp_of (sp_from_c given.now) }) d) handle.old.session }
     ensures same { (result ≡ OK → ⊥) → handle.new.session ≡ handle.old.session }
 {
     match handle.take(alloc) {
@@ -107,7 +107,7 @@ pub extern "C" fn rsp_set_sp(handle: &mut Handle, alloc: Global, given: &RspSpWo
                 handle.put(session);
                 return OUT_OF_RANGE;
             }
-            let parts = sp_in(given);
+            let parts = sp_from_c(given);
             let Ok(()) = session.debugger.set_sp_parts(&parts) else {
                 unreachable!()
             };

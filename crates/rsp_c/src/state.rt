@@ -2,14 +2,14 @@
 
 ghost use Rattle.std.specs.Prelude.{◌≡◌, ◌↔◌, ◌⊎◌, IfSome, IfNone, option_map};
 ghost use Rattle.rsp_machine.specs.Registers.{registers_of, with_registers};
-ghost use Rattle.rsp_debug.specs.Debugging.{brought_to};
+ghost use Rattle.rsp_debug.specs.Debugging.{set_by_host};
 ghost use Rattle.rsp_c.specs.Faults.{state_fault};
-ghost use Rattle.rsp_c.specs.States.{seen_state, registers_in};
+ghost use Rattle.rsp_c.specs.States.{c_state, registers_from_c};
 
+use crate::c_structs::RspState;
 use crate::fault::state_fault;
 use crate::handle::Handle;
-use crate::registers::{registers_in, seen_state};
-use crate::shapes::RspState;
+use crate::registers::{c_state, registers_from_c};
 use crate::status::{NO_MACHINE, OK, OUT_OF_RANGE};
 use std::alloc::Global;
 
@@ -18,14 +18,14 @@ use std::alloc::Global;
 pub extern "C" fn rsp_get(handle: &mut Handle, alloc: Global, out: &mut RspState) -> u32
     ensures none { IfNone handle.old.session (result ≡ NO_MACHINE) }
     ensures ok { IfSome handle.old.session (λ d. result ≡ OK) }
-    ensures value { IfSome handle.old.session (λ d. out.new ≡ seen_state (registers_of d.state) d.state.sp) }
+    ensures value { IfSome handle.old.session (λ d. out.new ≡ c_state (registers_of d.state) d.state.sp) }
     ensures refused { (result ≡ OK → ⊥) → out.new ≡ out.old }
     ensures same { handle.new.session ≡ handle.old.session }
 {
     match handle.take(alloc) {
         None => NO_MACHINE,
         Some(session) => {
-            *out = seen_state(
+            *out = c_state(
                 &session.debugger.all_registers(),
                 session.debugger.sp_regs(),
             );
@@ -42,7 +42,7 @@ pub extern "C" fn rsp_set(handle: &mut Handle, alloc: Global, state: &RspState) 
     ensures none { IfNone handle.old.session (result ≡ NO_MACHINE) }
     ensures range { IfSome handle.old.session (λ d. (result ≡ OK) ↔ (state_fault state.now ≡ 0)) }
     ensures answer { IfSome handle.old.session (λ d. (result ≡ OK) ⊎ (result ≡ OUT_OF_RANGE)) }
-    ensures next { result ≡ OK → handle.new.session ≡ option_map (λ d. brought_to (with_registers (registers_in state.now) d.state) d) handle.old.session }
+    ensures next { result ≡ OK → handle.new.session ≡ option_map (λ d. set_by_host (with_registers (registers_from_c state.now) d.state) d) handle.old.session }
     ensures same { (result ≡ OK → ⊥) → handle.new.session ≡ handle.old.session }
 {
     match handle.take(alloc) {
@@ -52,7 +52,7 @@ pub extern "C" fn rsp_set(handle: &mut Handle, alloc: Global, state: &RspState) 
                 handle.put(session);
                 return OUT_OF_RANGE;
             }
-            let registers = registers_in(state);
+            let registers = registers_from_c(state);
             let Ok(()) = session.debugger.set_all_registers(&registers) else {
                 unreachable!()
             };

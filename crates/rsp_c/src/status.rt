@@ -1,7 +1,7 @@
 // What a call returns.
 
 ghost use Rattle.std.specs.Prelude.{◌≡◌, ◌<◌, ◌%◌, IsTrue, Some, Err};
-ghost use Rattle.rsp_c.specs.Answers.{step_status, pass_fault_status, bank_of, is_place, task_status, fault_status, watch_status, fault_number};
+ghost use Rattle.rsp_c.specs.Answers.{step_status, pass_fault_status, bank_of, is_imem_address, task_status, break_fault_status, add_watch_status, fault_number};
 
 use rsp_asm::AsmFaultKind;
 use rsp_debug::{BreakFault, WatchFault};
@@ -74,7 +74,7 @@ pub fn status_of_task(fault: TaskFault) -> u32
 
 /// The status of a breakpoint that can't be added.
 pub fn status_of_break(fault: BreakFault) -> u32
-    ensures { result ≡ fault_status (Some fault) }
+    ensures { result ≡ break_fault_status (Some fault) }
 {
     match fault {
         BreakFault::BreakFull => BREAK_FULL,
@@ -84,7 +84,7 @@ pub fn status_of_break(fault: BreakFault) -> u32
 
 /// The status of a watch that can't be added.
 pub fn status_of_watch(fault: WatchFault) -> u32
-    ensures { result ≡ watch_status (Err fault) }
+    ensures { result ≡ add_watch_status (Err fault) }
 {
     match fault {
         WatchFault::WatchRange => OUT_OF_RANGE,
@@ -105,8 +105,8 @@ pub fn bank_of(number: u32) -> Option<Bank>
 }
 
 /// Whether a number is an address of a word of IMEM, a multiple of 4 below 4096.
-pub fn is_place(number: u32) -> bool
-    ensures value { result ≡ is_place number }
+pub fn is_imem_address(number: u32) -> bool
+    ensures value { result ≡ is_imem_address number }
     ensures below { IsTrue result → number < 4096 }
     ensures whole { IsTrue result → number % 4 ≡ 0 }
 {

@@ -3,14 +3,14 @@
 ghost use Rattle.std.specs.Prelude.{◌≡◌, ◌<◌, ◌≤◌, ◌↔◌, ◌⊎◌, Some, IfSome, IfNone, IfOk, length, option_map};
 ghost use Rattle.rsp_machine.specs.Step.{step_of};
 ghost use Rattle.rsp_machine.specs.Pass.{pass_of};
-ghost use Rattle.rsp_debug.specs.Debugging.{stepped, ran, stop_in, gone_back, brought_to};
+ghost use Rattle.rsp_debug.specs.Debugging.{after_debugger_step, after_run, stop_in, after_back, set_by_host};
 ghost use Rattle.rsp_c.specs.Answers.{step_status, pass_status};
-ghost use Rattle.rsp_c.specs.Seen.{seen_stop};
+ghost use Rattle.rsp_c.specs.ToC.{c_stop};
 
+use crate::c_structs::RspStop;
 use crate::handle::Handle;
-use crate::seen::seen_stop;
-use crate::shapes::RspStop;
 use crate::status::{NO_MACHINE, OK, OUT_OF_RANGE, SHORT_HISTORY, status_of_pass, status_of_step};
+use crate::to_c::c_stop;
 use rsp_debug::BackFault;
 use std::alloc::Global;
 
@@ -19,7 +19,7 @@ use std::alloc::Global;
 pub extern "C" fn rsp_step(handle: &mut Handle, alloc: Global) -> u32
     ensures none { IfNone handle.old.session (result ≡ NO_MACHINE) }
     ensures answer { IfSome handle.old.session (λ d. result ≡ step_status (step_of d.state).0) }
-    ensures next { handle.new.session ≡ option_map stepped handle.old.session }
+    ensures next { handle.new.session ≡ option_map after_debugger_step handle.old.session }
 {
     match handle.take(alloc) {
         None => NO_MACHINE,
@@ -36,8 +36,8 @@ pub extern "C" fn rsp_step(handle: &mut Handle, alloc: Global) -> u32
 pub extern "C" fn rsp_run(handle: &mut Handle, alloc: Global, n: u32, out: &mut RspStop) -> u32
     ensures none { IfNone handle.old.session (result ≡ NO_MACHINE) }
     ensures count { IfSome handle.old.session (λ d. (result ≡ OK) ↔ ((1 ≤ n) × (n ≤ 1000000))) }
-    ensures stop { result ≡ OK → IfSome handle.old.session (λ d. out.new ≡ seen_stop (stop_in n d) (ran n d).state.imem) }
-    ensures next { result ≡ OK → handle.new.session ≡ option_map (ran n) handle.old.session }
+    ensures stop { result ≡ OK → IfSome handle.old.session (λ d. out.new ≡ c_stop (stop_in n d) (after_run n d).state.imem) }
+    ensures next { result ≡ OK → handle.new.session ≡ option_map (after_run n) handle.old.session }
     ensures refused { (result ≡ OK → ⊥) → out.new ≡ out.old }
     ensures same { (result ≡ OK → ⊥) → handle.new.session ≡ handle.old.session }
     ensures answer { IfSome handle.old.session (λ d. (result ≡ OK) ⊎ (result ≡ OUT_OF_RANGE)) }
@@ -49,7 +49,7 @@ pub extern "C" fn rsp_run(handle: &mut Handle, alloc: Global, n: u32, out: &mut 
                 handle.put(session);
                 return OUT_OF_RANGE;
             };
-            *out = seen_stop(stop, session.debugger.machine().imem());
+            *out = c_stop(stop, session.debugger.machine().imem());
             handle.put(session);
             OK
         }
@@ -62,7 +62,7 @@ pub extern "C" fn rsp_run(handle: &mut Handle, alloc: Global, n: u32, out: &mut 
 pub extern "C" fn rsp_pass(handle: &mut Handle, alloc: Global, value: u32) -> u32
     ensures none { IfNone handle.old.session (result ≡ NO_MACHINE) }
     ensures answer { IfSome handle.old.session (λ d. result ≡ pass_status (pass_of value d.state)) }
-    ensures next { IfSome handle.old.session (λ d. IfOk (pass_of value d.state) (λ s. handle.new.session ≡ Some (brought_to s d))) }
+    ensures next { IfSome handle.old.session (λ d. IfOk (pass_of value d.state) (λ s. handle.new.session ≡ Some (set_by_host s d))) }
     ensures same { (result ≡ OK → ⊥) → handle.new.session ≡ handle.old.session }
 {
     match handle.take(alloc) {
@@ -85,7 +85,7 @@ pub extern "C" fn rsp_back(handle: &mut Handle, alloc: Global, n: u32) -> u32
     ensures count { IfSome handle.old.session (λ d. (result ≡ OUT_OF_RANGE) ↔ ((n ≡ 0) ⊎ (1000000 < n))) }
     ensures short { IfSome handle.old.session (λ d. (result ≡ SHORT_HISTORY) ↔ ((0 < n) × (n ≤ 1000000) × (length d.past < n))) }
     ensures answer { IfSome handle.old.session (λ d. (result ≡ OK) ⊎ (result ≡ OUT_OF_RANGE) ⊎ (result ≡ SHORT_HISTORY)) }
-    ensures next { result ≡ OK → handle.new.session ≡ option_map (gone_back n) handle.old.session }
+    ensures next { result ≡ OK → handle.new.session ≡ option_map (after_back n) handle.old.session }
     ensures same { (result ≡ OK → ⊥) → handle.new.session ≡ handle.old.session }
 {
     match handle.take(alloc) {

@@ -4,12 +4,13 @@ ghost use Rattle.std.specs.Prelude.{◌≡◌, ◌<◌, ◌%◌, ◌↔◌, IfSo
 ghost use Rattle.rsp_debug.specs.Breaks.{break_fault};
 ghost use Rattle.rsp_debug.specs.Stops.{is_break};
 ghost use Rattle.rsp_debug.specs.Watches.{number_for, has_watch};
-ghost use Rattle.rsp_debug.specs.Debugging.{broken_at, unbroken_at, watching, unwatching};
-ghost use Rattle.rsp_c.specs.Answers.{is_place, break_status, unbreak_status, watch_status, unwatch_status};
+ghost use Rattle.rsp_debug.specs.Debugging.{with_breakpoint, without_breakpoint, with_new_watch, with_watch_dropped};
+ghost use Rattle.rsp_c.specs.Answers.{is_imem_address, add_break_status, drop_break_status, add_watch_status, drop_watch_status};
 
 use crate::handle::Handle;
 use crate::status::{
-    NO_BREAK, NO_MACHINE, NO_WATCH, OK, OUT_OF_RANGE, is_place, status_of_break, status_of_watch,
+    NO_BREAK, NO_MACHINE, NO_WATCH, OK, OUT_OF_RANGE, is_imem_address, status_of_break,
+    status_of_watch,
 };
 use std::alloc::Global;
 
@@ -18,14 +19,14 @@ use std::alloc::Global;
 #[unsafe(no_mangle)]
 pub extern "C" fn rsp_add_break(handle: &mut Handle, alloc: Global, place: u32) -> u32
     ensures none { IfNone handle.old.session (result ≡ NO_MACHINE) }
-    ensures answer { IfSome handle.old.session (λ d. result ≡ break_status place d.breaks) }
-    ensures next { result ≡ OK → handle.new.session ≡ option_map (broken_at place) handle.old.session }
+    ensures answer { IfSome handle.old.session (λ d. result ≡ add_break_status place d.breaks) }
+    ensures next { result ≡ OK → handle.new.session ≡ option_map (with_breakpoint place) handle.old.session }
     ensures same { (result ≡ OK → ⊥) → handle.new.session ≡ handle.old.session }
 {
     match handle.take(alloc) {
         None => NO_MACHINE,
         Some(mut session) => {
-            if !is_place(place) {
+            if !is_imem_address(place) {
                 handle.put(session);
                 return OUT_OF_RANGE;
             }
@@ -43,14 +44,14 @@ pub extern "C" fn rsp_add_break(handle: &mut Handle, alloc: Global, place: u32) 
 #[unsafe(no_mangle)]
 pub extern "C" fn rsp_drop_break(handle: &mut Handle, alloc: Global, place: u32) -> u32
     ensures none { IfNone handle.old.session (result ≡ NO_MACHINE) }
-    ensures answer { IfSome handle.old.session (λ d. result ≡ unbreak_status place d.breaks) }
-    ensures next { result ≡ OK → handle.new.session ≡ option_map (unbroken_at place) handle.old.session }
+    ensures answer { IfSome handle.old.session (λ d. result ≡ drop_break_status place d.breaks) }
+    ensures next { result ≡ OK → handle.new.session ≡ option_map (without_breakpoint place) handle.old.session }
     ensures same { (result ≡ OK → ⊥) → handle.new.session ≡ handle.old.session }
 {
     match handle.take(alloc) {
         None => NO_MACHINE,
         Some(mut session) => {
-            if !is_place(place) {
+            if !is_imem_address(place) {
                 handle.put(session);
                 return OUT_OF_RANGE;
             }
@@ -75,9 +76,9 @@ pub extern "C" fn rsp_add_watch(
     number: &mut usize,
 ) -> u32
     ensures none { IfNone handle.old.session (result ≡ NO_MACHINE) }
-    ensures answer { IfSome handle.old.session (λ d. result ≡ watch_status (number_for address len d.watches)) }
+    ensures answer { IfSome handle.old.session (λ d. result ≡ add_watch_status (number_for address len d.watches)) }
     ensures number { result ≡ OK → IfSome handle.old.session (λ d. number_for address len d.watches ≡ Ok number.new) }
-    ensures next { result ≡ OK → handle.new.session ≡ option_map (watching number.new address len) handle.old.session }
+    ensures next { result ≡ OK → handle.new.session ≡ option_map (with_new_watch number.new address len) handle.old.session }
     ensures refused { (result ≡ OK → ⊥) → number.new ≡ number.old }
     ensures same { (result ≡ OK → ⊥) → handle.new.session ≡ handle.old.session }
 {
@@ -101,8 +102,8 @@ pub extern "C" fn rsp_add_watch(
 #[unsafe(no_mangle)]
 pub extern "C" fn rsp_drop_watch(handle: &mut Handle, alloc: Global, number: u32) -> u32
     ensures none { IfNone handle.old.session (result ≡ NO_MACHINE) }
-    ensures answer { IfSome handle.old.session (λ d. result ≡ unwatch_status number d.watches) }
-    ensures next { result ≡ OK → handle.new.session ≡ option_map (unwatching number) handle.old.session }
+    ensures answer { IfSome handle.old.session (λ d. result ≡ drop_watch_status number d.watches) }
+    ensures next { result ≡ OK → handle.new.session ≡ option_map (with_watch_dropped number) handle.old.session }
     ensures same { (result ≡ OK → ⊥) → handle.new.session ≡ handle.old.session }
 {
     match handle.take(alloc) {

@@ -3,15 +3,15 @@
 ghost use Rattle.std.specs.Prelude.{◌≡◌, ◌+◌, ◌-◌, ◌*◌, ◌++◌, ◌<◌, ◌≤◌, ◌%◌, ◌↔◌, ◌⊎◌, All, Ok, IfSome, IfNone, MatchResult, length, take, drop, replicate};
 ghost use Rattle.std.specs.Str.{IsUtf8};
 ghost use Rattle.std.specs.Str.Lines.{lines};
-ghost use Rattle.rsp_text.specs.Means.{means};
-ghost use Rattle.rsp_asm.specs.Answer.{HidesNoFault};
-ghost use Rattle.rsp_c.specs.Answers.{fault_number, place_status};
-ghost use Rattle.rsp_c.specs.Seen.{seen_line, seen_lines, IsEnded, assembled_words, assembled_fault, assembled_no_memory, assembled_no_text};
+ghost use Rattle.rsp_syntax.specs.SourceText.{meaning_of_text};
+ghost use Rattle.rsp_asm.specs.AssembleFaults.{HidesNoFault};
+ghost use Rattle.rsp_c.specs.Answers.{fault_number, address_status};
+ghost use Rattle.rsp_c.specs.ToC.{c_line, c_lines, IsEnded, assembled_words, assembled_fault, assembled_no_memory, assembled_no_text};
 
+use crate::c_structs::{RspAssembled, RspLine};
 use crate::handle::Handle;
-use crate::shapes::{RspAssembled, RspLine};
 use crate::status::{
-    NO_MACHINE, NO_MEANING, NO_MEMORY, NO_ROOM, OK, OUT_OF_RANGE, fault_number, is_place,
+    NO_MACHINE, NO_MEANING, NO_MEMORY, NO_ROOM, OK, OUT_OF_RANGE, fault_number, is_imem_address,
 };
 use rsp_asm::{AsmFaultKind, assemble};
 use rsp_dis::text_of;
@@ -35,14 +35,14 @@ pub extern "C" fn rsp_assemble(
     out: &mut RspAssembled,
 ) -> u32
     ensures range { (result ≡ OUT_OF_RANGE) ↔ ((4096 < origin) ⊎ ¬ (origin % 4 ≡ 0)) }
-    ensures words { result ≡ OK → means text.now origin ≡ Ok (take out.new.count words.new) }
+    ensures words { result ≡ OK → meaning_of_text text.now origin ≡ Ok (take out.new.count words.new) }
     ensures rest { result ≡ OK → drop out.new.count words.new ≡ drop out.new.count words.old }
     ensures count { result ≡ OK → out.new.count ≤ length words.new }
     ensures told { result ≡ OK → out.new ≡ assembled_words out.new.count }
-    ensures fault { result ≡ NO_MEANING → IsUtf8 text.now → MatchResult (means text.now origin) (λ _. ⊥) (λ f. out.new ≡ assembled_fault f) }
+    ensures fault { result ≡ NO_MEANING → IsUtf8 text.now → MatchResult (meaning_of_text text.now origin) (λ _. ⊥) (λ f. out.new ≡ assembled_fault f) }
     ensures no_text { ¬ (IsUtf8 text.now) → (result ≡ OUT_OF_RANGE) ⊎ ((result ≡ NO_MEANING) × (out.new ≡ assembled_no_text)) }
-    ensures room { result ≡ NO_ROOM → MatchResult (means text.now origin) (λ found. length words.old < length found) (λ _. ⊥) }
-    ensures needed { result ≡ NO_ROOM → MatchResult (means text.now origin) (λ found. out.new ≡ assembled_words (length found)) (λ _. ⊥) }
+    ensures room { result ≡ NO_ROOM → MatchResult (meaning_of_text text.now origin) (λ found. length words.old < length found) (λ _. ⊥) }
+    ensures needed { result ≡ NO_ROOM → MatchResult (meaning_of_text text.now origin) (λ found. out.new ≡ assembled_words (length found)) (λ _. ⊥) }
     ensures memory { result ≡ NO_MEMORY → out.new ≡ assembled_no_memory out.new.line }
     ensures hides { result ≡ NO_MEMORY → HidesNoFault origin (lines text.now) out.new.line }
     ensures refused { (result ≡ OK → ⊥) → words.new ≡ words.old }
@@ -101,7 +101,7 @@ fn padded(bytes: &[u8]) -> [u8; 68]
 /// A word of IMEM with its disassembly.
 fn line_of(word: u32, place: u16) -> RspLine
     requires { place < 4096 }
-    ensures value { result ≡ seen_line word place }
+    ensures value { result ≡ c_line word place }
     ensures ended { IsEnded result }
 {
     let line = text_of(word, place);
@@ -118,12 +118,12 @@ fn line_of(word: u32, place: u16) -> RspLine
 /// Disassembles a word for an address of IMEM, a multiple of 4 below 4096. The text has at most 64 bytes, and a zero after it.
 #[unsafe(no_mangle)]
 pub extern "C" fn rsp_text(word: u32, place: u32, out: &mut RspLine) -> u32
-    ensures answer { result ≡ place_status place }
-    ensures value { result ≡ OK → out.new ≡ seen_line word place }
+    ensures answer { result ≡ address_status place }
+    ensures value { result ≡ OK → out.new ≡ c_line word place }
     ensures ended { result ≡ OK → IsEnded out.new }
     ensures refused { (result ≡ OK → ⊥) → out.new ≡ out.old }
 {
-    if !is_place(place) {
+    if !is_imem_address(place) {
         return OUT_OF_RANGE;
     }
     *out = line_of(word, place as u16);
@@ -134,7 +134,7 @@ pub extern "C" fn rsp_text(word: u32, place: u32, out: &mut RspLine) -> u32
 #[tactic(auto, using(crate::proofs::Lines::listing))]
 fn fill_lines(imem: &SpMem, place: u16, lines: &mut [RspLine])
     requires { place + 4 * length lines.old ≤ 4096 }
-    ensures value { lines.new ≡ seen_lines imem.now place (length lines.old) }
+    ensures value { lines.new ≡ c_lines imem.now place (length lines.old) }
     ensures ended { All IsEnded lines.new }
 {
     for i in 0..lines.len() {
@@ -155,7 +155,7 @@ pub extern "C" fn rsp_listing(
     ensures none { IfNone handle.old.session (result ≡ NO_MACHINE) }
     ensures range { IfSome handle.old.session (λ d. (result ≡ OK) ↔ ((place % 4 ≡ 0) × (place < 4096) × (place + 4 * length lines.old ≤ 4096))) }
     ensures answer { IfSome handle.old.session (λ d. (result ≡ OK) ⊎ (result ≡ OUT_OF_RANGE)) }
-    ensures value { result ≡ OK → IfSome handle.old.session (λ d. lines.new ≡ seen_lines d.state.imem place (length lines.old)) }
+    ensures value { result ≡ OK → IfSome handle.old.session (λ d. lines.new ≡ c_lines d.state.imem place (length lines.old)) }
     ensures ended { result ≡ OK → All IsEnded lines.new }
     ensures refused { (result ≡ OK → ⊥) → lines.new ≡ lines.old }
     ensures same { handle.new.session ≡ handle.old.session }
@@ -163,7 +163,7 @@ pub extern "C" fn rsp_listing(
     match handle.take(alloc) {
         None => NO_MACHINE,
         Some(session) => {
-            if !is_place(place) || lines.len() > (4096 - place as usize) / 4 {
+            if !is_imem_address(place) || lines.len() > (4096 - place as usize) / 4 {
                 handle.put(session);
                 return OUT_OF_RANGE;
             }

@@ -1,14 +1,14 @@
 // Runs that also end before moves of SP registers, for a caller that owns these registers.
 
 ghost use Rattle.std.specs.Prelude.{◌≡◌, ◌<◌, ◌≤◌, ◌↔◌, ◌⊎◌, IfSome, IfNone, option_map};
-ghost use Rattle.rsp_debug.specs.Debugging.{move_end_in, ran_to_move};
-ghost use Rattle.rsp_c.specs.Answers.{moves_in};
-ghost use Rattle.rsp_c.specs.Seen.{seen_move};
+ghost use Rattle.rsp_debug.specs.Debugging.{move_end_in, after_run_until_move};
+ghost use Rattle.rsp_c.specs.Answers.{moves_from_c};
+ghost use Rattle.rsp_c.specs.ToC.{c_move};
 
+use crate::c_structs::RspMove;
 use crate::handle::Handle;
-use crate::seen::seen_move;
-use crate::shapes::RspMove;
 use crate::status::{NO_MACHINE, OK, OUT_OF_RANGE};
+use crate::to_c::c_move;
 use rsp_debug::Moves;
 use std::alloc::Global;
 
@@ -27,8 +27,8 @@ pub extern "C" fn rsp_run_until_move(
     ensures none { IfNone handle.old.session (result ≡ NO_MACHINE) }
     ensures range { IfSome handle.old.session (λ d. (result ≡ OK) ↔ ((1 ≤ n) × (n ≤ 1000000) × (reads < 65536) × (writes < 65536))) }
     ensures answer { IfSome handle.old.session (λ d. (result ≡ OK) ⊎ (result ≡ OUT_OF_RANGE)) }
-    ensures end { result ≡ OK → IfSome handle.old.session (λ d. out.new ≡ seen_move (move_end_in n (moves_in reads writes) d) (ran_to_move n (moves_in reads writes) d).state.imem) }
-    ensures next { result ≡ OK → handle.new.session ≡ option_map (ran_to_move n (moves_in reads writes)) handle.old.session }
+    ensures end { result ≡ OK → IfSome handle.old.session (λ d. out.new ≡ c_move (move_end_in n (moves_from_c reads writes) d) (after_run_until_move n (moves_from_c reads writes) d).state.imem) }
+    ensures next { result ≡ OK → handle.new.session ≡ option_map (after_run_until_move n (moves_from_c reads writes)) handle.old.session }
     ensures refused { (result ≡ OK → ⊥) → out.new ≡ out.old }
     ensures same { (result ≡ OK → ⊥) → handle.new.session ≡ handle.old.session }
 {
@@ -47,7 +47,7 @@ pub extern "C" fn rsp_run_until_move(
                 handle.put(session);
                 return OUT_OF_RANGE;
             };
-            *out = seen_move(end, session.debugger.machine().imem());
+            *out = c_move(end, session.debugger.machine().imem());
             handle.put(session);
             OK
         }

@@ -8,7 +8,7 @@ use Rattle.rsp_debug.specs.Stops.{is_break, when, first_of}
 use Rattle.rsp_debug.specs.Breaks.{break_count}
 use Rattle.rsp_debug.specs.Snapshots.{differs}
 use Rattle.rsp_debug.specs.Runs.{hit_in}
-use Rattle.rsp_debug.proofs.Tables.{empty-break}
+use Rattle.rsp_debug.proofs.BreakTable.{empty-break}
 
 hit_by : (b : List Bool) (snapshots : List (Option Snapshot)) (s : State) (o : Option ℕ) (x : Bool) → differs snapshots s.dmem ≡ o → is_break b s.pc ≡ x
     → hit_in b snapshots s ≡ first_of (option_map Watched o ∷ when x Break ∷ [])

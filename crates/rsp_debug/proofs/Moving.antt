@@ -7,8 +7,8 @@ use Rattle.std.proofs.lemmas.Bool.{and_parts, cases_Bool, cond-true, cond-false,
 use Rattle.rsp_decode.specs.declared.inst.Inst.{Inst}
 use Rattle.rsp_decode.specs.declared.inst.Inst.TheVariants.{MoveSp}
 use Rattle.rsp_decode.specs.Table.{Row, rows, row_of, fits, meaning_of, inst_of, IsInstruction}
-use Rattle.rsp_decode.specs.Visit.{visited}
-use Rattle.rsp_decode.proofs.RowsKept.{decoded_instruction}
+use Rattle.rsp_decode.specs.Visit.{after_visit}
+use Rattle.rsp_decode.proofs.InstructionOfWord.{decoded_instruction}
 use Rattle.rsp_machine.specs.State.{State}
 use Rattle.rsp_debug.specs.declared.stop.Stop.{Stop}
 use Rattle.rsp_debug.specs.declared.moves.Moves.{Moves}
@@ -87,7 +87,7 @@ move-by-of None stop s = refl
 move-by-of (Some (MoveSp row rt r)) stop s = refl
 move-by-of (Some _) stop s = refl
 
-pub kept-of : (o : Option Inst) (k : KeptMove) → k ≡ visited (λ i _. record { inst = move_of (Some i) }) o (record { inst = None }) → k.inst ≡ move_of o
+pub kept-of : (o : Option Inst) (k : KeptMove) → k ≡ after_visit (λ i _. record { inst = move_of (Some i) }) o (record { inst = None }) → k.inst ≡ move_of o
 kept-of None k e = ap (λ (x : KeptMove). x.inst) e
 kept-of (Some i) k e = ap (λ (x : KeptMove). x.inst) e
 

@@ -4,7 +4,7 @@ use Rattle.std.specs.Prelude.{is_none, take, length, nat_lt, nat_eq, ◌==◌, o
 use Rattle.std.proofs.lemmas.Grind.{common_steps}
 use Rattle.rsp_memory.specs.Memory.{word_at}
 use Rattle.std.proofs.lemmas.List.{take_all}
-use Rattle.rsp_debug.proofs.Watched.{differs-since}
+use Rattle.rsp_debug.proofs.WatchChanges.{differs-since}
 use Rattle.rsp_decode.specs.declared.inst.Inst.{Inst}
 use Rattle.rsp_decode.specs.Table.{inst_of}
 use Rattle.rsp_machine.specs.State.{State}
@@ -12,7 +12,7 @@ use Rattle.rsp_machine.specs.Step.{step_of, step_by}
 use Rattle.rsp_machine.specs.Laws.{steps_of}
 use Rattle.rsp_machine.specs.declared.step.StepEnd.TheVariants as end
 use Rattle.rsp_debug.specs.Stops.{changed, is_break, when, first_of, reason_at, IsStop}
-use Rattle.rsp_debug.specs.Runs.{stuck_of, hit_in}
+use Rattle.rsp_debug.specs.Runs.{step_refusal, hit_in}
 use Rattle.rsp_debug.specs.Snapshots.{differs, watches_of}
 use Rattle.rsp_debug.specs.declared.snapshot.Snapshot.{Snapshot}
 use Rattle.rsp_debug.specs.declared.stop.Watch.{Watch}
@@ -56,11 +56,11 @@ answer_reserved true i w v s e = cc
 answer_reserved false None w v s e = (refl, refl)
 answer_reserved false (Some i) w v s e = cc
 
-pub step-done : (s : State) → (step_of s).0 ≡ end.Done → stuck_of s ≡ None
+pub step-done : (s : State) → (step_of s).0 ≡ end.Done → step_refusal s ≡ None
 unfolding step_of
 step-done s e = stuck_is s.sp.halted _ ∙ answer_done s.sp.halted (inst_of (word_at s.imem s.pc)) (word_at s.imem s.pc) s e
 
-pub step-halted : (s : State) → (step_of s).0 ≡ end.Halted → stuck_of s ≡ Some Halted
+pub step-halted : (s : State) → (step_of s).0 ≡ end.Halted → step_refusal s ≡ Some Halted
 unfolding step_of
 step-halted s e = stuck_is s.sp.halted _ ∙ (answer_halted s.sp.halted (inst_of (word_at s.imem s.pc)) (word_at s.imem s.pc) s e).0
 
@@ -68,7 +68,7 @@ pub step-halted-same : (s : State) → (step_of s).0 ≡ end.Halted → (step_of
 unfolding step_of
 step-halted-same s e = (answer_halted s.sp.halted (inst_of (word_at s.imem s.pc)) (word_at s.imem s.pc) s e).1
 
-pub step-reserved : (s : State) (w : ℕ) → (step_of s).0 ≡ end.Reserved w → stuck_of s ≡ Some Reserved
+pub step-reserved : (s : State) (w : ℕ) → (step_of s).0 ≡ end.Reserved w → step_refusal s ≡ Some Reserved
 unfolding step_of
 step-reserved s w e = stuck_is s.sp.halted _ ∙ (answer_reserved s.sp.halted (inst_of (word_at s.imem s.pc)) (word_at s.imem s.pc) w s e).0
 
@@ -109,29 +109,29 @@ limit_is : (k n : ℕ) → k ≡ n → first_of (when (k == n) Limit ∷ []) ≡
 limit_is k n h = let f : nat_eq k n ≡ true = grind (arith, common_steps) in rw f refl
 
 pub reason-stuck : (b : List Bool) (w : List (Option Watch)) (n : ℕ) (s t : State) (k : ℕ) (r : Reason)
-    → t ≡ steps_of k s → stuck_of t ≡ Some r → reason_at b w n s k ≡ Some r
+    → t ≡ steps_of k s → step_refusal t ≡ Some r → reason_at b w n s k ≡ Some r
 unfolding reason_at
 reason-stuck b w n s t k r same stuck =
-    let h : stuck_of (steps_of k s) ≡ Some r = ap stuck_of (sym same) ∙ stuck in
+    let h : step_refusal (steps_of k s) ≡ Some r = ap step_refusal (sym same) ∙ stuck in
     two_of _ _ _ _ _ r h
 
 pub reason-none : (b : List Bool) (w : List (Option Watch)) (n : ℕ) (s t : State) (k : ℕ)
-    → t ≡ steps_of k s → stuck_of t ≡ None → hit_of b w k (steps_of (k - 1) s) (steps_of k s) ≡ None → k < n → reason_at b w n s k ≡ None
+    → t ≡ steps_of k s → step_refusal t ≡ None → hit_of b w k (steps_of (k - 1) s) (steps_of k s) ≡ None → k < n → reason_at b w n s k ≡ None
 unfolding reason_at
 reason-none b w n s t k same stuck quiet h =
-    two_more _ _ _ _ _ (ap stuck_of (sym same) ∙ stuck) ∙ hit_more _ _ _ quiet ∙ limit_not k n h
+    two_more _ _ _ _ _ (ap step_refusal (sym same) ∙ stuck) ∙ hit_more _ _ _ quiet ∙ limit_not k n h
 
 pub reason-limit : (b : List Bool) (w : List (Option Watch)) (n : ℕ) (s t : State) (k : ℕ)
-    → t ≡ steps_of k s → stuck_of t ≡ None → hit_of b w k (steps_of (k - 1) s) (steps_of k s) ≡ None → k ≡ n → reason_at b w n s k ≡ Some Limit
+    → t ≡ steps_of k s → step_refusal t ≡ None → hit_of b w k (steps_of (k - 1) s) (steps_of k s) ≡ None → k ≡ n → reason_at b w n s k ≡ Some Limit
 unfolding reason_at
 reason-limit b w n s t k same stuck quiet h =
-    two_more _ _ _ _ _ (ap stuck_of (sym same) ∙ stuck) ∙ hit_more _ _ _ quiet ∙ limit_is k n h
+    two_more _ _ _ _ _ (ap step_refusal (sym same) ∙ stuck) ∙ hit_more _ _ _ quiet ∙ limit_is k n h
 
 pub reason-hit : (b : List Bool) (w : List (Option Watch)) (n : ℕ) (s t : State) (k : ℕ) (r : Reason)
-    → t ≡ steps_of k s → stuck_of t ≡ None → hit_of b w k (steps_of (k - 1) s) (steps_of k s) ≡ Some r → reason_at b w n s k ≡ Some r
+    → t ≡ steps_of k s → step_refusal t ≡ None → hit_of b w k (steps_of (k - 1) s) (steps_of k s) ≡ Some r → reason_at b w n s k ≡ Some r
 unfolding reason_at
 reason-hit b w n s t k r same stuck hit =
-    two_more _ _ _ _ _ (ap stuck_of (sym same) ∙ stuck) ∙ hit_some _ _ _ r hit
+    two_more _ _ _ _ _ (ap step_refusal (sym same) ∙ stuck) ∙ hit_some _ _ _ r hit
 
 -- one more step
 pub steps-none : (s : State) → steps_of 0 s ≡ s

@@ -9,34 +9,34 @@ use Rattle.rsp_machine.specs.State.{State}
 use Rattle.rsp_machine.specs.Laws.{steps_of}
 use Rattle.rsp_machine.specs.Effects.{effect_of}
 use Rattle.rsp_machine.specs.declared.effect.Effect.{Effect}
-use Rattle.rsp_machine.proofs.Making.{steps-add}
-use Rattle.rsp_debug.specs.declared.traced.Traced.{Traced}
-use Rattle.rsp_debug.specs.Traces.{traced, traced_by, trace_of}
+use Rattle.rsp_machine.proofs.LoopSteps.{steps-add}
+use Rattle.rsp_debug.specs.declared.trace_entry.TraceEntry.{TraceEntry}
+use Rattle.rsp_debug.specs.Traces.{step_entry, entry_made_of, trace_of}
 
 -- no entries
-pub trace-none : (s : State) (out : List Traced) → take 0 out ≡ trace_of 0 s
+pub trace-none : (s : State) (out : List TraceEntry) → take 0 out ≡ trace_of 0 s
 unfolding trace_of
 trace-none s out = refl
 
 -- one entry more
-pub trace-more : (k : ℕ) (s : State) (out : List Traced) (entry : Traced) → k < length out → take k out ≡ trace_of k s
-    → entry ≡ traced (steps_of k s) (steps_of (k + 1) s) → take (k + 1) (slice_set out k entry) ≡ trace_of (k + 1) s
+pub trace-more : (k : ℕ) (s : State) (out : List TraceEntry) (entry : TraceEntry) → k < length out → take k out ≡ trace_of k s
+    → entry ≡ step_entry (steps_of k s) (steps_of (k + 1) s) → take (k + 1) (slice_set out k entry) ≡ trace_of (k + 1) s
 unfolding trace_of
 trace-more k s out entry h e same =
     take_more_set out k entry h ∙ ap (λ xs. xs ++ entry ∷ []) e
-    ∙ ap (λ x. map (λ i. traced (steps_of i s) (steps_of (i + 1) s)) (range_with_len 0 k) ++ x ∷ []) same
-    ∙ sym (map-range_with_len_more (λ i. traced (steps_of i s) (steps_of (i + 1) s)) 0 k k (omega arith))
+    ∙ ap (λ x. map (λ i. step_entry (steps_of i s) (steps_of (i + 1) s)) (range_with_len 0 k) ++ x ∷ []) same
+    ∙ sym (map-range_with_len_more (λ i. step_entry (steps_of i s) (steps_of (i + 1) s)) 0 k k (omega arith))
 
 -- the further entries stay
-pub rest-more : (k : ℕ) (out old : List Traced) (entry : Traced) → drop k out ≡ drop k old → drop (k + 1) (slice_set out k entry) ≡ drop (k + 1) old
+pub rest-more : (k : ℕ) (out old : List TraceEntry) (entry : TraceEntry) → drop k out ≡ drop k old → drop (k + 1) (slice_set out k entry) ≡ drop (k + 1) old
 rest-more k out old entry e =
     drop-set-lt (k + 1) out k entry (omega arith) ∙ sym (drop-drop 1 k out) ∙ ap (drop 1) e ∙ drop-drop 1 k old
 
 -- the entry of a step
-pub entry-is : (k j pc word : ℕ) (effect : Effect) (s m t : State) (entry : Traced) → entry ≡ traced_by pc word effect t
+pub entry-is : (k j pc word : ℕ) (effect : Effect) (s m t : State) (entry : TraceEntry) → entry ≡ entry_made_of pc word effect t
     → pc ≡ m.pc → word ≡ word_at m.imem m.pc → effect ≡ effect_of m → m ≡ steps_of k s → t ≡ steps_of j m → j ≡ 1
-    → entry ≡ traced (steps_of k s) (steps_of (k + 1) s)
+    → entry ≡ step_entry (steps_of k s) (steps_of (k + 1) s)
 entry-is k j pc word effect s m t entry e p w f there next one =
     let after : t ≡ steps_of (k + 1) s = next ∙ ap (λ i. steps_of i m) one ∙ ap (λ (x : State). steps_of 1 x) there ∙ sym (steps-add k 1 s) in
-    let made : entry ≡ traced m t = e ∙ rw (p, w, f) refl in
+    let made : entry ≡ step_entry m t = e ∙ rw (p, w, f) refl in
     made ∙ rw (after, there) refl

@@ -2,8 +2,8 @@
 use Rattle.std.specs.Prelude.{ℕ, zero, suc, ◌-◌, ◌==◌, ◌≤◌, List, [], ◌∷◌, ◌++◌, length, take, drop, reverse, if◌then◌else◌}
 use Rattle.rsp_machine.specs.State.{State}
 use Rattle.rsp_machine.specs.Laws.{steps_of}
-use Rattle.rsp_machine.specs.Saved.{Saved, undone}
-use Rattle.rsp_debug.specs.Past.{past_after}
+use Rattle.rsp_machine.specs.Undo.{Saved, undone}
+use Rattle.rsp_debug.specs.Undoable.{history_after}
 
 -- the records of the last steps, the newest first, and how many there may be
 pub record Records : Type 0 where
@@ -11,16 +11,16 @@ pub record Records : Type 0 where
   pub depth : ℕ
 
 -- the entry before an entry, of n
-abbrev pub previous_slot : ℕ → ℕ → ℕ
-previous_slot n i = if i == 0 then n - 1 else i - 1
+abbrev pub previous_entry : ℕ → ℕ → ℕ
+previous_entry n i = if i == 0 then n - 1 else i - 1
 
 -- the members before an entry, the nearest first, round the start
 abbrev pub backwards : {X : Type 0} → ℕ → List X → List X
 backwards i xs = reverse (take i xs) ++ reverse (drop i xs)
 
 -- and so many of them
-abbrev pub before_slot : {X : Type 0} → ℕ → ℕ → List X → List X
-before_slot i count xs = take count (backwards i xs)
+abbrev pub entries_before : {X : Type 0} → ℕ → ℕ → List X → List X
+entries_before i count xs = take count (backwards i xs)
 
 -- xs has so many members before an entry, which may be the end
 abbrev pub IsWithin : {X : Type 0} → ℕ → ℕ → List X → Type 0
@@ -32,6 +32,6 @@ states_before s [] = []
 states_before s (r ∷ rs) = undone r s ∷ states_before (undone r s) rs
 
 -- the history after n steps from s
-unfoldable pub past_of : ℕ → ℕ → State → List State → List State
-past_of zero depth s past = past
-past_of (suc n) depth s past = past_after depth (steps_of n s) (past_of n depth s past)
+unfoldable pub history_after_steps : ℕ → ℕ → State → List State → List State
+history_after_steps zero depth s past = past
+history_after_steps (suc n) depth s past = history_after depth (steps_of n s) (history_after_steps n depth s past)

@@ -1,12 +1,12 @@
 -- Runs, breakpoints, watches, queries, and steps back.
-pub mod Past
+pub mod Undoable
 pub mod Stops
 pub mod Breaks
 pub mod Watches
 pub mod Debugging
-pub mod Looks
+pub mod Queries
 pub mod Calls
-pub mod Bits
+pub mod BreakBits
 pub mod History
 pub mod Snapshots
 pub mod Runs

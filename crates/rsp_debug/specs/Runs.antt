@@ -18,8 +18,8 @@ move_of (Some (MoveSp row rt r)) = Some (MoveSp row rt r)
 move_of _ = None
 
 -- why a machine can't make a step
-abbrev pub stuck_of : State → Option Reason
-stuck_of s = first_of (when (is_reserved s) Reserved ∷ when s.sp.halted Halted ∷ [])
+abbrev pub step_refusal : State → Option Reason
+step_refusal s = first_of (when (is_reserved s) Reserved ∷ when s.sp.halted Halted ∷ [])
 
 -- the watch or the breakpoint that a step has come to
 abbrev pub hit_in : List Bool → List (Option Snapshot) → State → Option Reason

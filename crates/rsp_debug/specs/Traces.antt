@@ -10,15 +10,15 @@ use Rattle.rsp_machine.specs.State.{State}
 use Rattle.rsp_machine.specs.Laws.{steps_of}
 use Rattle.rsp_machine.specs.Effects.{effect_of}
 use Rattle.rsp_machine.specs.declared.effect.Effect.{Effect}
-use Rattle.rsp_debug.specs.declared.traced.Traced.{Traced}
+use Rattle.rsp_debug.specs.declared.trace_entry.TraceEntry.{TraceEntry}
 
 -- the lanes of a vector register below 32; else 0
 abbrev pub lanes_in : ℕ → List (List ℕ) → List ℕ
 lanes_in n file = if nat_lt n 32 then vector file n else replicate 8 0
 
 -- the entry of a step of a word at an address, with an effect, which ended in the state t
-abbrev pub traced_by : ℕ → ℕ → Effect → State → Traced
-traced_by pc word effect t = record {
+abbrev pub entry_made_of : ℕ → ℕ → Effect → State → TraceEntry
+entry_made_of pc word effect t = record {
   word = word;
   value = register t.registers effect.scalar;
   pc = pc;
@@ -33,9 +33,9 @@ traced_by pc word effect t = record {
 }
 
 -- the entry of a step from s to t
-abbrev pub traced : State → State → Traced
-traced s t = traced_by s.pc (word_at s.imem s.pc) (effect_of s) t
+abbrev pub step_entry : State → State → TraceEntry
+step_entry s t = entry_made_of s.pc (word_at s.imem s.pc) (effect_of s) t
 
 -- the entries of the first n steps from s
-unfoldable pub trace_of : ℕ → State → List Traced
-trace_of n s = map (λ i. traced (steps_of i s) (steps_of (i + 1) s)) (range_with_len 0 n)
+unfoldable pub trace_of : ℕ → State → List TraceEntry
+trace_of n s = map (λ i. step_entry (steps_of i s) (steps_of (i + 1) s)) (range_with_len 0 n)

@@ -30,7 +30,7 @@ pub struct Breaks {
 impl Model for Breaks {
     ghost use Rattle.std.specs.Prelude.{List, Bool, ◌≡◌, ◌≤◌};
     ghost use Rattle.rsp_debug.specs.Breaks.{break_count};
-    ghost use Rattle.rsp_debug.specs.Bits.{breaks_of};
+    ghost use Rattle.rsp_debug.specs.BreakBits.{breaks_of};
 
     ghost Value = { List Bool };
 
@@ -41,7 +41,7 @@ impl Model for Breaks {
 
 impl Breaks {
     /// No breakpoints.
-    #[tactic(auto, using(crate::proofs::Tables::tables))]
+    #[tactic(auto, using(crate::proofs::BreakTable::tables))]
     pub fn new() -> Breaks
         ensures { result ≡ no_breaks }
     {
@@ -67,7 +67,7 @@ impl Breaks {
 
     /// Whether the word at an address below 4096 has a breakpoint. The two lowest bits of the address don't count.
     #[inline]
-    #[tactic(auto, using(crate::proofs::Tables::tables))]
+    #[tactic(auto, using(crate::proofs::BreakTable::tables))]
     pub fn contains(&self, place: u16) -> bool
         requires { place < 4096 }
         ensures { result ≡ is_break self.now place }
@@ -77,7 +77,7 @@ impl Breaks {
     }
 
     /// Adds a breakpoint at an address. BreakTwice if it has one, else BreakFull if there are sixteen.
-    #[tactic(auto, using(crate::proofs::Tables::tables))]
+    #[tactic(auto, using(crate::proofs::BreakTable::tables))]
     pub fn add(&mut self, place: u16) -> Result<(), BreakFault>
         requires { place < 4096 }
         ensures fault { MatchResult result (λ _. break_fault place self.old ≡ None) (λ f. break_fault place self.old ≡ Some f) }
@@ -97,7 +97,7 @@ impl Breaks {
     }
 
     /// Removes the breakpoint of an address. NoBreak if it has none.
-    #[tactic(auto, using(crate::proofs::Tables::tables))]
+    #[tactic(auto, using(crate::proofs::BreakTable::tables))]
     pub fn remove(&mut self, place: u16) -> Result<(), NoBreak>
         requires { place < 4096 }
         ensures had { IsOk result ↔ IsTrue (is_break self.old place) }

@@ -8,7 +8,7 @@ ghost use Rattle.rsp_debug.specs.Stops.{is_break};
 ghost use Rattle.rsp_debug.specs.Moves.{end_steps};
 ghost use Rattle.rsp_debug.specs.Breaks.{break_count, break_fault};
 ghost use Rattle.rsp_debug.specs.Watches.{number_for, has_watch};
-ghost use Rattle.rsp_debug.specs.Debugging.{debugging_of, stepped, stop_in, move_end_in, ran, ran_to_move, broken_at, unbroken_at, watching, unwatching, gone_back};
+ghost use Rattle.rsp_debug.specs.Debugging.{debugging_of, after_debugger_step, stop_in, move_end_in, after_run, after_run_until_move, with_breakpoint, without_breakpoint, with_new_watch, with_watch_dropped, after_back};
 
 use crate::breaks::{BreakFault, Breaks, NoBreak};
 use crate::history::History;
@@ -89,7 +89,7 @@ impl<A: Acc> Debugger<A> {
 
     /// Changes nothing. Its contract says what a caller's proof may need: the machine's state is in its ranges, there are at most
     /// sixteen breakpoints, and the history has at most as many states as are kept.
-    #[tactic(auto, using(crate::proofs::Pasts::more))]
+    #[tactic(auto, using(crate::proofs::HistoryRecords::more))]
     pub fn ranges(&self)
         ensures state { IsState self.now.state }
         ensures breaks { break_count self.now.breaks ≤ 16 }
@@ -103,7 +103,7 @@ impl<A: Acc> Debugger<A> {
     /// Makes one step, as [`Machine::step`] does.
     pub fn step(&mut self) -> StepEnd
         ensures answer { result ≡ (step_of self.old.state).0 }
-        ensures next { self.new ≡ stepped self.old }
+        ensures next { self.new ≡ after_debugger_step self.old }
     {
         if self.history.stretch(&mut self.machine, 1, &Never) == 0 {
             return self.machine.step();
@@ -117,7 +117,7 @@ impl<A: Acc> Debugger<A> {
         requires below { place < 4096 }
         requires whole { place % 4 ≡ 0 }
         ensures fault { MatchResult result (λ _. break_fault place self.old.breaks ≡ None) (λ f. break_fault place self.old.breaks ≡ Some f) }
-        ensures ok { OnOk result (self.new ≡ broken_at place self.old) }
+        ensures ok { OnOk result (self.new ≡ with_breakpoint place self.old) }
         ensures err { OnErr result (self.new ≡ self.old) }
     {
         self.breaks.add(place)
@@ -128,7 +128,7 @@ impl<A: Acc> Debugger<A> {
         requires below { place < 4096 }
         requires whole { place % 4 ≡ 0 }
         ensures had { IsOk result ↔ IsTrue (is_break self.old.breaks place) }
-        ensures ok { OnOk result (self.new ≡ unbroken_at place self.old) }
+        ensures ok { OnOk result (self.new ≡ without_breakpoint place self.old) }
         ensures err { OnErr result (self.new ≡ self.old) }
     {
         self.breaks.remove(place)
@@ -139,7 +139,7 @@ impl<A: Acc> Debugger<A> {
     /// watches.
     pub fn add_watch(&mut self, address: u32, len: u32) -> Result<usize, WatchFault>
         ensures answer { result ≡ number_for address len self.old.watches }
-        ensures ok { IfOk result (λ k. self.new ≡ watching k address len self.old) }
+        ensures ok { IfOk result (λ k. self.new ≡ with_new_watch k address len self.old) }
         ensures err { OnErr result (self.new ≡ self.old) }
     {
         self.watches.add(address, len)
@@ -148,7 +148,7 @@ impl<A: Acc> Debugger<A> {
     /// Removes the watch of a number. NoWatch if there is none.
     pub fn drop_watch(&mut self, k: u32) -> Result<(), NoWatch>
         ensures had { IsOk result ↔ IsTrue (has_watch k self.old.watches) }
-        ensures ok { OnOk result (self.new ≡ unwatching k self.old) }
+        ensures ok { OnOk result (self.new ≡ with_watch_dropped k self.old) }
         ensures err { OnErr result (self.new ≡ self.old) }
     {
         self.watches.remove(k)
@@ -157,12 +157,12 @@ impl<A: Acc> Debugger<A> {
     /// Makes steps until there is a reason to stop, at most `n`. The reasons, in their order: the word at pc is reserved and the
     /// machine isn't halted; it is halted; the last step changed a byte of a watch (the stop has the lowest number of such a watch);
     /// the last step led to a breakpoint; `n` steps are made. CountFault unless `n` is 1 to 1000000.
-    #[tactic(auto, using(crate::proofs::Ends::ends))]
+    #[tactic(auto, using(crate::proofs::RunEnds::ends))]
     pub fn run(&mut self, n: u32) -> Result<Stop, CountFault>
         ensures count { IsOk result ↔ ((1 ≤ n) × (n ≤ 1000000)) }
         ensures stop { IfOk result (λ stop. stop ≡ stop_in n self.old) }
         ensures reached { IfOk result (λ stop. self.new.state ≡ steps_of stop.steps self.old.state) }
-        ensures next { OnOk result (self.new ≡ ran n self.old) }
+        ensures next { OnOk result (self.new ≡ after_run n self.old) }
         ensures err { OnErr result (self.new ≡ self.old) }
     {
         if n == 0 || n > 1_000_000 {
@@ -182,12 +182,12 @@ impl<A: Acc> Debugger<A> {
     /// executed, also before the first step. The reasons, in their order: the word at pc is reserved and the machine isn't halted;
     /// it is halted; the last step changed a byte of a watch; it led to a breakpoint; such a move is next; `n` steps are made.
     /// CountFault unless `n` is 1 to 1000000.
-    #[tactic(auto, using(crate::proofs::Ends::ends))]
+    #[tactic(auto, using(crate::proofs::RunEnds::ends))]
     pub fn run_until_move(&mut self, n: u32, moves: Moves) -> Result<MoveEnd, CountFault>
         ensures count { IsOk result ↔ ((1 ≤ n) × (n ≤ 1000000)) }
         ensures end { IfOk result (λ end. end ≡ move_end_in n moves self.old) }
         ensures reached { IfOk result (λ end. self.new.state ≡ steps_of (end_steps end) self.old.state) }
-        ensures next { OnOk result (self.new ≡ ran_to_move n moves self.old) }
+        ensures next { OnOk result (self.new ≡ after_run_until_move n moves self.old) }
         ensures err { OnErr result (self.new ≡ self.old) }
     {
         if n == 0 || n > 1_000_000 {
@@ -206,9 +206,9 @@ impl<A: Acc> Debugger<A> {
 
     /// Undoes the last `n` steps, whose states leave the history. Breakpoints and watches stay. Count unless `n` is 1 to 1000000,
     /// else ShortHistory if the history has fewer states.
-    #[tactic(auto, using(crate::proofs::Pasts::more))]
+    #[tactic(auto, using(crate::proofs::HistoryRecords::more))]
     pub fn back(&mut self, n: u32) -> Result<(), BackFault>
-        ensures ok { OnOk result (self.new ≡ gone_back n self.old) }
+        ensures ok { OnOk result (self.new ≡ after_back n self.old) }
         ensures err { OnErr result (self.new ≡ self.old) }
         ensures count { IsErrOf result BackFault.Count ↔ ((n ≡ 0) ⊎ (1000000 < n)) }
         ensures short { IsErrOf result BackFault.ShortHistory ↔ ((0 < n) × (n ≤ 1000000) × (length self.old.past < n)) }

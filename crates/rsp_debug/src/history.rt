@@ -1,7 +1,7 @@
 // The records of the last steps, which undo them.
 
 ghost use Rattle.std.specs.Prelude.{◌≡◌, ◌<◌, ◌≤◌, [], length, drop, slice_get, option_copied, IfOk};
-ghost use Rattle.rsp_debug.specs.History.{previous_slot};
+ghost use Rattle.rsp_debug.specs.History.{previous_entry};
 
 use circular_buffer::HeapCircularBuffer;
 use rsp_machine::Record;
@@ -21,12 +21,12 @@ pub struct History {
 
 impl Model for History {
     ghost use Rattle.std.specs.Prelude.{length};
-    ghost use Rattle.rsp_debug.specs.History.{Records, before_slot, IsWithin};
+    ghost use Rattle.rsp_debug.specs.History.{Records, entries_before, IsWithin};
 
     ghost Value = { Records };
 
     ghost view = { λ h. record {
-      newest = before_slot h.next h.count h.slots.items;
+      newest = entries_before h.next h.count h.slots.items;
       depth = length h.slots.items;
     } };
 
@@ -34,9 +34,9 @@ impl Model for History {
 }
 
 /// The entry before an entry of a ring.
-fn previous_slot(n: usize, i: usize) -> usize
+fn previous_entry(n: usize, i: usize) -> usize
     requires { 0 < n }
-    ensures { result ≡ previous_slot n i }
+    ensures { result ≡ previous_entry n i }
 {
     if i == 0 { n - 1 } else { i - 1 }
 }
@@ -80,21 +80,21 @@ impl History {
     }
 
     /// The newest record, of which there must be one; Some always.
-    #[tactic(auto, using(crate::proofs::Turns::turns))]
+    #[tactic(auto, using(crate::proofs::Ring::turns))]
     pub fn newest(&self) -> Option<&Record>
         requires { 0 < length self.now.newest }
         ensures { option_copied result ≡ slice_get self.now.newest 0 }
     {
-        self.slots.get(previous_slot(self.slots.len(), self.next))
+        self.slots.get(previous_entry(self.slots.len(), self.next))
     }
 
     /// Drops the newest record, of which there must be one.
-    #[tactic(auto, using(crate::proofs::Turns::turns))]
+    #[tactic(auto, using(crate::proofs::Ring::turns))]
     pub fn drop_newest(&mut self)
         requires { 0 < length self.old.newest }
         ensures { self.new ≡ record self.old { newest = drop 1 self.old.newest } }
     {
-        self.next = previous_slot(self.slots.len(), self.next);
+        self.next = previous_entry(self.slots.len(), self.next);
         self.count -= 1;
     }
 }

@@ -1,10 +1,10 @@
 // What the host, the N64's CPU, does with the machine of a debugger.
 
 ghost use Rattle.std.specs.Prelude.{◌≡◌, ◌<◌, ◌%◌, ◌↔◌, Some, None, length, OnOk, OnErr, IsOk, IsTrue, MatchResult};
-ghost use Rattle.rsp_regs.specs.Sp.{peeked};
-ghost use Rattle.rsp_machine.specs.Host.{register_written, is_inside, with_bank_bytes, task_fault, tasked, with_pc};
+ghost use Rattle.rsp_regs.specs.Sp.{read_value};
+ghost use Rattle.rsp_machine.specs.Host.{register_written, is_inside, with_bank_bytes, task_fault, with_task, with_pc};
 ghost use Rattle.rsp_machine.specs.Registers.{registers_of, with_registers, registers_fault};
-ghost use Rattle.rsp_debug.specs.Debugging.{brought_to, read_from};
+ghost use Rattle.rsp_debug.specs.Debugging.{set_by_host, after_register_read};
 
 use crate::debugger::Debugger;
 use rsp_acc::Acc;
@@ -16,8 +16,8 @@ impl<A: Acc> Debugger<A> {
     /// semaphore, register 7, empties the history; no other read does.
     #[tactic(auto, using(crate::proofs::Hosts::hosts))]
     pub fn read_reg(&mut self, n: u32) -> u32
-        ensures value { result ≡ peeked n self.old.state.sp }
-        ensures next { self.new ≡ read_from n self.old }
+        ensures value { result ≡ read_value n self.old.state.sp }
+        ensures next { self.new ≡ after_register_read n self.old }
     {
         if n % 16 == 7 {
             self.history.clear();
@@ -27,7 +27,7 @@ impl<A: Acc> Debugger<A> {
 
     /// Writes an SP register, as [`rsp_machine::Machine::write_reg`] does, and empties the history.
     pub fn write_reg(&mut self, n: u32, value: u32)
-        ensures { self.new ≡ brought_to (register_written n value self.old.state) self.old }
+        ensures { self.new ≡ set_by_host (register_written n value self.old.state) self.old }
     {
         self.history.clear();
         self.machine.write_reg(n, value);
@@ -38,7 +38,7 @@ impl<A: Acc> Debugger<A> {
     pub fn set_pc(&mut self, pc: u16)
         requires below { pc < 4096 }
         requires whole { pc % 4 ≡ 0 }
-        ensures { self.new ≡ brought_to (with_pc pc self.old.state) self.old }
+        ensures { self.new ≡ set_by_host (with_pc pc self.old.state) self.old }
     {
         self.history.clear();
         self.machine.set_pc(pc);
@@ -55,7 +55,7 @@ impl<A: Acc> Debugger<A> {
     /// [`RegistersFault`] of registers that no machine can have, and then nothing changes.
     pub fn set_all_registers(&mut self, given: &AllRegisters) -> Result<(), RegistersFault>
         ensures fault { MatchResult result (λ _. registers_fault given.now ≡ None) (λ f. registers_fault given.now ≡ Some f) }
-        ensures ok { OnOk result (self.new ≡ brought_to (with_registers given.now self.old.state) self.old) }
+        ensures ok { OnOk result (self.new ≡ set_by_host (with_registers given.now self.old.state) self.old) }
         ensures err { OnErr result (self.new ≡ self.old) }
     {
         self.machine.set_all_registers(given)?;
@@ -67,7 +67,7 @@ impl<A: Acc> Debugger<A> {
     /// if there are no bytes. RangeFault, and nothing changes, if they pass the bank's end.
     pub fn load_bytes(&mut self, bank: Bank, a: u32, bytes: &[u8]) -> Result<(), RangeFault>
         ensures inside { IsOk result ↔ IsTrue (is_inside bank a (length bytes.now) self.old.state) }
-        ensures ok { OnOk result (self.new ≡ brought_to (with_bank_bytes bank a bytes.now self.old.state) self.old) }
+        ensures ok { OnOk result (self.new ≡ set_by_host (with_bank_bytes bank a bytes.now self.old.state) self.old) }
         ensures err { OnErr result (self.new ≡ self.old) }
     {
         self.machine.load_bytes(bank, a, bytes)?;
@@ -80,7 +80,7 @@ impl<A: Acc> Debugger<A> {
     /// it can't start.
     pub fn start_task(&mut self, a: u32) -> Result<(), TaskFault>
         ensures fault { MatchResult result (λ _. task_fault a self.old.state.rdram ≡ None) (λ f. task_fault a self.old.state.rdram ≡ Some f) }
-        ensures ok { OnOk result (self.new ≡ brought_to (tasked a self.old.state) self.old) }
+        ensures ok { OnOk result (self.new ≡ set_by_host (with_task a self.old.state) self.old) }
         ensures err { OnErr result (self.new ≡ self.old) }
     {
         self.machine.start_task(a)?;

@@ -9,7 +9,7 @@ ghost use Rattle.rsp_debug.specs.declared.stop.Reason.TheVariants.{Limit};
 
 use crate::stop::{Reason, Stop};
 use rsp_acc::Acc;
-use rsp_decode::{Inst, MoveRow, Visitor, visit};
+use rsp_decode::{Inst, MoveOp, Visitor, visit};
 use rsp_machine::{Machine, Until};
 
 /// A run ends before these moves: bit r of `reads` names each MFC0 from SP register r, bit r of `writes` each MTC0 to it.
@@ -117,8 +117,8 @@ impl Moves {
     {
         match move_of(word) {
             Some(Inst::MoveSp { row, register, .. }) => match row {
-                MoveRow::From => self.reads >> register & 1 == 1,
-                MoveRow::To => self.writes >> register & 1 == 1,
+                MoveOp::From => self.reads >> register & 1 == 1,
+                MoveOp::To => self.writes >> register & 1 == 1,
             },
             _ => false,
         }
@@ -156,7 +156,7 @@ impl Moves {
                 steps: stop.steps,
                 pc: stop.pc,
                 register,
-                writes: matches!(row, MoveRow::To),
+                writes: matches!(row, MoveOp::To),
                 value: machine.reg(rt),
             },
             _ => MoveEnd::Stop(stop),

@@ -3,14 +3,14 @@
 ghost use Rattle.std.specs.Prelude.{◌≡◌, ◌<◌, ◌≤◌, ◌+◌, ◌-◌, ℕ, true, false, None, length, drop, slice_index_or, unwrap_or};
 ghost use Rattle.rsp_machine.specs.Step.{step_of};
 ghost use Rattle.rsp_machine.specs.Laws.{steps_of, done_steps};
-ghost use Rattle.rsp_machine.specs.Saved.{record_at, is_back};
+ghost use Rattle.rsp_machine.specs.Undo.{record_at, can_undo};
 ghost use Rattle.rsp_machine.specs.Until.{ends_after};
 ghost use Rattle.rsp_debug.specs.Calls.{IsAfter};
 ghost use Rattle.rsp_debug.specs.Stops.{IsStop};
 ghost use Rattle.rsp_debug.specs.Moves.{steps_to_move};
 ghost use Rattle.rsp_debug.specs.Snapshots.{differs, watches_of};
-ghost use Rattle.rsp_debug.specs.History.{states_before, past_of};
-ghost use Rattle.rsp_debug.specs.Runs.{stuck_of, Asks};
+ghost use Rattle.rsp_debug.specs.History.{states_before, history_after_steps};
+ghost use Rattle.rsp_debug.specs.Runs.{step_refusal, Asks};
 
 use crate::breaks::Breaks;
 use crate::conditions::{StopConditions, dmem_bytes};
@@ -22,12 +22,12 @@ use rsp_acc::Acc;
 use rsp_machine::{Machine, Never, Record, Until};
 
 /// Whether the first `made` steps of some records can all be undone. Only the last of them may have started a DMA.
-fn leads_back(records: &[Record], made: usize) -> bool
+fn can_undo(records: &[Record], made: usize) -> bool
     requires { made ≤ length records.now }
     ensures none { made ≡ 0 → result ≡ true }
-    ensures last { 0 < made → result ≡ is_back (record_at records.now (made - 1)).change }
+    ensures last { 0 < made → result ≡ can_undo (record_at records.now (made - 1)).change }
 {
-    made == 0 || records[made - 1].leads_back()
+    made == 0 || records[made - 1].can_undo()
 }
 
 impl History {
@@ -40,7 +40,7 @@ impl History {
         ensures after { IsAfter result machine.old machine.new }
         ensures stuck { result ≡ 0 → done_steps (step_of machine.new).0 ≡ 0 }
         ensures asked { (i : ℕ) → i + 1 < result → ends_after (U.ends until.now) (steps_of i machine.old) ≡ false }
-        ensures past { states_before machine.new self.new.newest ≡ past_of result self.old.depth machine.old (states_before machine.old self.old.newest) }
+        ensures past { states_before machine.new self.new.newest ≡ history_after_steps result self.old.depth machine.old (states_before machine.old self.old.newest) }
         ensures depth { self.new.depth ≡ self.old.depth }
     {
         let depth = self.slots.len();
@@ -51,7 +51,7 @@ impl History {
         let room = (n as usize).min(depth - first);
         let lent = &mut self.slots.make_contiguous()[first..first + room];
         let made = machine.steps_recorded_until(lent, until);
-        self.count = if leads_back(lent, made) {
+        self.count = if can_undo(lent, made) {
             (self.count + made).min(depth)
         } else {
             0
@@ -61,7 +61,7 @@ impl History {
     }
 
     /// Undoes the last step of a machine, by the newest record, which goes.
-    #[tactic(auto, using(crate::proofs::Pasts::backs))]
+    #[tactic(auto, using(crate::proofs::HistoryRecords::backs))]
     pub fn undo<A: Acc>(&mut self, machine: &mut Machine<A>)
         requires { 0 < length self.old.newest }
         ensures state { machine.new ≡ slice_index_or (states_before machine.old self.old.newest) 0 machine.old }
@@ -77,8 +77,8 @@ impl History {
 }
 
 /// Why a machine can't make a step, if it can't.
-fn stuck<A: Acc>(machine: &Machine<A>) -> Option<Reason>
-    ensures { result ≡ stuck_of machine.now }
+fn step_refusal<A: Acc>(machine: &Machine<A>) -> Option<Reason>
+    ensures { result ≡ step_refusal machine.now }
 {
     if machine.sp_regs().halted() {
         return Some(Reason::Halted);
@@ -92,10 +92,10 @@ fn stuck<A: Acc>(machine: &Machine<A>) -> Option<Reason>
 /// A stop at the machine's pc: it can't make a step, or there is another reason.
 #[inline(always)]
 pub(crate) fn stopped_here<A: Acc>(machine: &Machine<A>, otherwise: Reason, steps: u32) -> Stop
-    ensures { result ≡ record { reason = unwrap_or (stuck_of machine.now) otherwise; steps = steps; pc = machine.now.pc } }
+    ensures { result ≡ record { reason = unwrap_or (step_refusal machine.now) otherwise; steps = steps; pc = machine.now.pc } }
 {
     Stop {
-        reason: stuck(machine).unwrap_or(otherwise),
+        reason: step_refusal(machine).unwrap_or(otherwise),
         steps,
         pc: machine.pc(),
     }
@@ -112,7 +112,7 @@ fn run_to<A: Acc, U: Until>(
     requires same { differs conditions.now.snapshots.now machine.old.dmem ≡ None }
     requires asks { Asks (U.ends until.now) conditions.now.breaks.now conditions.now.snapshots.now conditions.now.moves }
     ensures stop { IsStop conditions.now.breaks.now (watches_of conditions.now.snapshots.now) (steps_to_move conditions.now.moves n machine.old) machine.old machine.new result }
-    ensures past { states_before machine.new history.new.newest ≡ past_of result.steps history.old.depth machine.old (states_before machine.old history.old.newest) }
+    ensures past { states_before machine.new history.new.newest ≡ history_after_steps result.steps history.old.depth machine.old (states_before machine.old history.old.newest) }
     ensures depth { history.new.depth ≡ history.old.depth }
 {
     let mut left = n;
@@ -139,7 +139,7 @@ fn run_watching<A: Acc>(
     n: u32,
 ) -> Stop
     ensures stop { IsStop breaks.now watches.now (steps_to_move moves n machine.old) machine.old machine.new result }
-    ensures past { states_before machine.new history.new.newest ≡ past_of result.steps history.old.depth machine.old (states_before machine.old history.old.newest) }
+    ensures past { states_before machine.new history.new.newest ≡ history_after_steps result.steps history.old.depth machine.old (states_before machine.old history.old.newest) }
     ensures depth { history.new.depth ≡ history.old.depth }
 {
     let snapshots = watches.snapshots(dmem_bytes(machine));
@@ -161,7 +161,7 @@ pub fn run<A: Acc>(
     n: u32,
 ) -> Stop
     ensures stop { IsStop breaks.now watches.now (steps_to_move moves n machine.old) machine.old machine.new result }
-    ensures past { states_before machine.new history.new.newest ≡ past_of result.steps history.old.depth machine.old (states_before machine.old history.old.newest) }
+    ensures past { states_before machine.new history.new.newest ≡ history_after_steps result.steps history.old.depth machine.old (states_before machine.old history.old.newest) }
     ensures depth { history.new.depth ≡ history.old.depth }
 {
     if !watches.is_empty() {

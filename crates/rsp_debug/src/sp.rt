@@ -4,7 +4,7 @@ ghost use Rattle.std.specs.Prelude.{◌≡◌, Ok, Err, Some, None, IfErr, OnOk,
 ghost use Rattle.rsp_machine.specs.Pass.{pass_of};
 ghost use Rattle.rsp_machine.specs.Registers.{sp_fault};
 ghost use Rattle.rsp_regs.specs.Parts.{sp_of};
-ghost use Rattle.rsp_debug.specs.Debugging.{brought_to};
+ghost use Rattle.rsp_debug.specs.Debugging.{set_by_host};
 
 use crate::debugger::Debugger;
 use rsp_acc::Acc;
@@ -16,7 +16,7 @@ impl<A: Acc> Debugger<A> {
     /// answered, and then nothing changes.
     pub fn set_sp_parts(&mut self, given: &SpParts) -> Result<(), RegistersFault>
         ensures fault { MatchResult result (λ _. sp_fault given.now ≡ None) (λ f. sp_fault given.now ≡ Some f) }
-        ensures ok { OnOk result (self.new ≡ brought_to (record self.old.state { sp = sp_of given.now }) self.old) }
+        ensures ok { OnOk result (self.new ≡ set_by_host (record self.old.state { sp = sp_of given.now }) self.old) }
         ensures err { OnErr result (self.new ≡ self.old) }
     {
         self.machine.set_sp_parts(given)?;
@@ -28,7 +28,7 @@ impl<A: Acc> Debugger<A> {
     pub fn pass(&mut self, value: u32) -> Result<(), PassFault>
         ensures fault { IfErr result (λ f. pass_of value self.old.state ≡ Err f) }
         ensures ok { OnOk result (pass_of value self.old.state ≡ Ok self.new.state) }
-        ensures next { OnOk result (self.new ≡ brought_to self.new.state self.old) }
+        ensures next { OnOk result (self.new ≡ set_by_host self.new.state self.old) }
         ensures err { OnErr result (self.new ≡ self.old) }
     {
         self.machine.pass(value)?;

@@ -3,8 +3,8 @@
 ghost use Rattle.std.specs.Prelude.{◌≡◌, ◌≤◌, ◌↔◌, None, length, take, drop, IsOk, IfOk, OnOk, OnErr};
 ghost use Rattle.rsp_debug.specs.Stops.{IsStop};
 ghost use Rattle.rsp_debug.specs.Snapshots.{differs, watches_of};
-ghost use Rattle.rsp_debug.specs.History.{states_before, past_of};
-ghost use Rattle.rsp_debug.specs.Debugging.{stop_in, ran};
+ghost use Rattle.rsp_debug.specs.History.{states_before, history_after_steps};
+ghost use Rattle.rsp_debug.specs.Debugging.{stop_in, after_run};
 ghost use Rattle.rsp_debug.specs.Moves.{no_moves};
 ghost use Rattle.rsp_debug.specs.Traces.{trace_of};
 
@@ -15,7 +15,7 @@ use crate::history::History;
 use crate::moves::Moves;
 use crate::run::stopped_here;
 use crate::stop::{Reason, Stop};
-use crate::traced::{Traced, entry_of};
+use crate::trace_entry::{TraceEntry, entry_of};
 use crate::watches::Watches;
 use rsp_acc::Acc;
 use rsp_machine::{Machine, Never};
@@ -25,13 +25,13 @@ fn trace_to<A: Acc>(
     machine: &mut Machine<A>,
     history: &mut History,
     conditions: &StopConditions,
-    out: &mut [Traced],
+    out: &mut [TraceEntry],
 ) -> Stop
     requires same { differs conditions.now.snapshots.now machine.old.dmem ≡ None }
     requires unmoved { conditions.now.moves ≡ no_moves }
     requires few { length out.old ≤ 1000000 }
     ensures stop { IsStop conditions.now.breaks.now (watches_of conditions.now.snapshots.now) (length out.old) machine.old machine.new result }
-    ensures past { states_before machine.new history.new.newest ≡ past_of result.steps history.old.depth machine.old (states_before machine.old history.old.newest) }
+    ensures past { states_before machine.new history.new.newest ≡ history_after_steps result.steps history.old.depth machine.old (states_before machine.old history.old.newest) }
     ensures depth { history.new.depth ≡ history.old.depth }
     ensures entries { take result.steps out.new ≡ trace_of result.steps machine.old }
     ensures rest { drop result.steps out.new ≡ drop result.steps out.old }
@@ -59,11 +59,11 @@ fn trace<A: Acc>(
     history: &mut History,
     breaks: &Breaks,
     watches: &Watches,
-    out: &mut [Traced],
+    out: &mut [TraceEntry],
 ) -> Stop
     requires { length out.old ≤ 1000000 }
     ensures stop { IsStop breaks.now watches.now (length out.old) machine.old machine.new result }
-    ensures past { states_before machine.new history.new.newest ≡ past_of result.steps history.old.depth machine.old (states_before machine.old history.old.newest) }
+    ensures past { states_before machine.new history.new.newest ≡ history_after_steps result.steps history.old.depth machine.old (states_before machine.old history.old.newest) }
     ensures depth { history.new.depth ≡ history.old.depth }
     ensures entries { take result.steps out.new ≡ trace_of result.steps machine.old }
     ensures rest { drop result.steps out.new ≡ drop result.steps out.old }
@@ -89,11 +89,11 @@ fn trace<A: Acc>(
 impl<A: Acc> Debugger<A> {
     /// As [`Debugger::run`] of as many steps as `out` has entries, and writes the entry of each step; the other entries stay. CountFault
     /// unless there are 1 to 1000000 entries.
-    #[tactic(auto, using(crate::proofs::Ends::ends))]
-    pub fn trace(&mut self, out: &mut [Traced]) -> Result<Stop, CountFault>
+    #[tactic(auto, using(crate::proofs::RunEnds::ends))]
+    pub fn trace(&mut self, out: &mut [TraceEntry]) -> Result<Stop, CountFault>
         ensures count { IsOk result ↔ ((1 ≤ length out.old) × (length out.old ≤ 1000000)) }
         ensures stop { IfOk result (λ stop. stop ≡ stop_in (length out.old) self.old) }
-        ensures next { OnOk result (self.new ≡ ran (length out.old) self.old) }
+        ensures next { OnOk result (self.new ≡ after_run (length out.old) self.old) }
         ensures entries { IfOk result (λ stop. take stop.steps out.new ≡ trace_of stop.steps self.old.state) }
         ensures rest { IfOk result (λ stop. drop stop.steps out.new ≡ drop stop.steps out.old) }
         ensures err { OnErr result (self.new ≡ self.old) }

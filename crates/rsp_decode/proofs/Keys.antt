@@ -137,8 +137,8 @@ has_own r = not ((bit_and r.mask 0xfc000000 == 0xfc000000) && is_shared (value_a
 
 shared_not_fit : (w : ℕ) (r : Row) → is_shared (value_at w (whole 26 6)) ≡ false → has_own r ≡ false → fits w r ≡ false
 shared_not_fit w r own not_own =
-    let parts = and_parts _ _ (not-false _ not_own) in
-    ne_eqb _ _ (λ e. false≢true (sym own ∙ ap is_shared (opcode_of e (eqb-true _ _ parts.0)) ∙ parts.1))
+    let row_and_values = and_parts _ _ (not-false _ not_own) in
+    ne_eqb _ _ (λ e. false≢true (sym own ∙ ap is_shared (opcode_of e (eqb-true _ _ row_and_values.0)) ∙ row_and_values.1))
   where
     opcode_of : bit_and w r.mask ≡ r.value → bit_and r.mask 0xfc000000 ≡ 0xfc000000 → value_at w (whole 26 6) ≡ value_at r.value (whole 26 6)
     opcode_of e covers =
@@ -168,8 +168,8 @@ module _ (w o : ℕ) (at : value_at w (whole 26 6) ≡ o) where
 
   narrow_test : (r : Row) → value_at w (whole 11 5) ≢ 9 → wide o r ≡ false → fits w r ≡ false
   narrow_test r other f =
-      let parts = and_parts _ _ (not-false _ f) in
-      ne_eqb _ _ (λ fit. other (nine (sym (ap (bit_and w) (eqb-true _ _ parts.0)) ∙ fit ∙ eqb-true _ _ parts.1)))
+      let row_and_values = and_parts _ _ (not-false _ f) in
+      ne_eqb _ _ (λ fit. other (nine (sym (ap (bit_and w) (eqb-true _ _ row_and_values.0)) ∙ fit ∙ eqb-true _ _ row_and_values.1)))
     where
       nine : bit_and w 0xfc00fb80 ≡ o * 2 ^ 26 + 9 * 2 ^ 11 → value_at w (whole 11 5) ≡ 9
       nine fit = omega (arith, under_narrow, low_three)

@@ -1,5 +1,5 @@
 pub mod BitFields
 pub mod Keys
 pub mod OneRow
-pub mod RowsBack
-pub mod RowsKept
+pub mod WordOfInstruction
+pub mod InstructionOfWord

@@ -1,7 +1,7 @@
 // Words to instructions, by nested matches on fields.
 
 ghost use Rattle.std.specs.Prelude.{◌≡◌, ◌↔◌, IfSome, IsTrue};
-ghost use Rattle.rsp_decode.specs.Visit.{is_known, visited};
+ghost use Rattle.rsp_decode.specs.Visit.{is_instruction, after_visit};
 ghost use Rattle.rsp_decode.specs.Table.{inst_of, canonical_of, word_of, IsInstruction};
 
 mod scalar;
@@ -10,7 +10,7 @@ mod vector;
 use crate::bit_fields;
 use crate::encoding::encode;
 use crate::inst::Inst;
-use crate::visitor::{Kept, Visitor};
+use crate::visitor::{LastInst, Visitor};
 use scalar::{visit_cop0, visit_opcode, visit_regimm, visit_special};
 use vector::{visit_computing, visit_cop2, visit_lwc2, visit_swc2};
 
@@ -30,7 +30,7 @@ pub fn decode(word: u32) -> Option<Inst>
 fn meaning(word: u32) -> Option<Inst>
     ensures { result ≡ inst_of word }
 {
-    let mut kept = Kept { inst: None };
+    let mut kept = LastInst { inst: None };
     visit(word, &mut kept);
     kept.inst
 }
@@ -39,8 +39,8 @@ fn meaning(word: u32) -> Option<Inst>
 /// word it returns false, and the visitor is unchanged.
 #[inline(always)]
 pub fn visit<V: Visitor>(word: u32, visitor: &mut V) -> bool
-    ensures known { result ≡ is_known (inst_of word) }
-    ensures state { visitor.new ≡ visited V.after (inst_of word) visitor.old }
+    ensures known { result ≡ is_instruction (inst_of word) }
+    ensures state { visitor.new ≡ after_visit V.after (inst_of word) visitor.old }
 {
     match bit_fields::opcode(word) {
         0 => visit_special(word, visitor),

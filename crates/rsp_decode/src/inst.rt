@@ -2,12 +2,12 @@
 
 use crate::fields::{RegisterFields, ScalarMemoryFields, VectorFields, VectorMemoryFields};
 use crate::scalar::{
-    EqualRow, ImmediateRow, JumpRow, LoadRow, MoveRow, RegisterRow, ShiftByRow, ShiftRow, SignRow,
-    StoreRow,
+    BranchEqualOp, BranchSignOp, ImmediateOp, JumpOp, LoadOp, MoveOp, RegisterOp, ShiftOp,
+    ShiftVariableOp, StoreOp,
 };
 use crate::vector::{
-    Control, DivideRow, IdleRow, MpegRow, MultiplyRow, RoundRow, VectorAddRow, VectorClipRow,
-    VectorLoadRow, VectorLogicRow, VectorSelectRow, VectorStoreRow,
+    Control, VectorAddOp, VectorClipOp, VectorDivideOp, VectorLoadOp, VectorLogicOp, VectorMpegOp,
+    VectorMultiplyOp, VectorNopOp, VectorRoundOp, VectorSelectOp, VectorStoreOp,
 };
 
 /// An instruction: which one of its group, and its operands. Groups with the same operands share a struct of fields, which has
@@ -23,14 +23,14 @@ use crate::vector::{
 pub enum Inst {
     /// `sll $d, $t, amount`.
     Shift {
-        row: ShiftRow,
+        row: ShiftOp,
         rd: u8,
         rt: u8,
         amount: u8,
     },
     /// `sllv $d, $t, $s`.
     ShiftBy {
-        row: ShiftByRow,
+        row: ShiftVariableOp,
         fields: RegisterFields,
     },
     /// `jr $s`: jumps to the address in a register.
@@ -46,30 +46,30 @@ pub enum Inst {
     Break,
     /// `add $d, $s, $t`.
     Register {
-        row: RegisterRow,
+        row: RegisterOp,
         fields: RegisterFields,
     },
     /// `bltz $s, target`.
     BranchSign {
-        row: SignRow,
+        row: BranchSignOp,
         rs: u8,
         offset: u16,
     },
     /// `beq $s, $t, target`.
     BranchEqual {
-        row: EqualRow,
+        row: BranchEqualOp,
         rs: u8,
         rt: u8,
         offset: u16,
     },
     /// `j target`.
     Jump {
-        row: JumpRow,
+        row: JumpOp,
         target: u16,
     },
     /// `addi $t, $s, imm`.
     Immediate {
-        row: ImmediateRow,
+        row: ImmediateOp,
         rt: u8,
         rs: u8,
         imm: u16,
@@ -81,46 +81,46 @@ pub enum Inst {
     },
     /// `lw $t, offset($base)`.
     Load {
-        row: LoadRow,
+        row: LoadOp,
         fields: ScalarMemoryFields,
     },
     /// `sw $t, offset($base)`.
     Store {
-        row: StoreRow,
+        row: StoreOp,
         fields: ScalarMemoryFields,
     },
     /// `mfc0 $t, $cN`, `mtc0 $t, $cN`: an SP register.
     MoveSp {
-        row: MoveRow,
+        row: MoveOp,
         rt: u8,
         register: u8,
     },
     /// `mfc2 $t, $vN[e]`, `mtc2 $t, $vN[e]`: two bytes of a vector register from byte `element` on.
     MoveVector {
-        row: MoveRow,
+        row: MoveOp,
         rt: u8,
         vector: u8,
         element: u8,
     },
     /// `cfc2 $t, $vco`, `ctc2 $t, $vco`: a control register.
     MoveControl {
-        row: MoveRow,
+        row: MoveOp,
         rt: u8,
         control: Control,
     },
     /// `vmulf $vD, $vS, $vT[e]`.
     Multiply {
-        row: MultiplyRow,
+        row: VectorMultiplyOp,
         fields: VectorFields,
     },
     /// `vrndp $vD, $vS, $vT[e]`: rounds the accumulator; what is added depends on whether `vs` is odd.
     Round {
-        row: RoundRow,
+        row: VectorRoundOp,
         fields: VectorFields,
     },
     /// `vmulq $vD, $vS, $vT[e]`.
     MpegMultiply {
-        row: MpegRow,
+        row: VectorMpegOp,
         fields: VectorFields,
     },
     /// `vsar $vD, $vS, $vT[e]`: reads the part of the accumulator that `element` names.
@@ -129,17 +129,17 @@ pub enum Inst {
     },
     /// `vadd $vD, $vS, $vT[e]`.
     VectorAdd {
-        row: VectorAddRow,
+        row: VectorAddOp,
         fields: VectorFields,
     },
     /// `vlt $vD, $vS, $vT[e]`.
     VectorSelect {
-        row: VectorSelectRow,
+        row: VectorSelectOp,
         fields: VectorFields,
     },
     /// `vcl $vD, $vS, $vT[e]`.
     VectorClip {
-        row: VectorClipRow,
+        row: VectorClipOp,
         fields: VectorFields,
     },
     /// `vmrg $vD, $vS, $vT[e]`: the lane of `vs` if compare is set, else of `vt`.
@@ -148,12 +148,12 @@ pub enum Inst {
     },
     /// `vand $vD, $vS, $vT[e]`.
     VectorLogic {
-        row: VectorLogicRow,
+        row: VectorLogicOp,
         fields: VectorFields,
     },
     /// `vrcp $vD[lane], $vT[e]`.
     Divide {
-        row: DivideRow,
+        row: VectorDivideOp,
         vd: u8,
         lane: u8,
         vt: u8,
@@ -161,16 +161,16 @@ pub enum Inst {
     },
     /// `vnop`.
     Idle {
-        row: IdleRow,
+        row: VectorNopOp,
     },
     /// `lqv $vT[e], offset($base)`.
     VectorLoad {
-        row: VectorLoadRow,
+        row: VectorLoadOp,
         fields: VectorMemoryFields,
     },
     /// `sqv $vT[e], offset($base)`.
     VectorStore {
-        row: VectorStoreRow,
+        row: VectorStoreOp,
         fields: VectorMemoryFields,
     },
 }

@@ -23,11 +23,11 @@ pub use fields::{RegisterFields, ScalarMemoryFields, VectorFields, VectorMemoryF
 pub use inst::Inst;
 pub use rows::{ByteElements, Operand, TableRow, table};
 pub use scalar::{
-    EqualRow, ImmediateRow, JumpRow, LoadRow, MoveRow, RegisterRow, ShiftByRow, ShiftRow, SignRow,
-    StoreRow,
+    BranchEqualOp, BranchSignOp, ImmediateOp, JumpOp, LoadOp, MoveOp, RegisterOp, ShiftOp,
+    ShiftVariableOp, StoreOp,
 };
 pub use vector::{
-    Control, DivideRow, IdleRow, MpegRow, MultiplyRow, RoundRow, VectorAddRow, VectorClipRow,
-    VectorLoadRow, VectorLogicRow, VectorSelectRow, VectorStoreRow,
+    Control, VectorAddOp, VectorClipOp, VectorDivideOp, VectorLoadOp, VectorLogicOp, VectorMpegOp,
+    VectorMultiplyOp, VectorNopOp, VectorRoundOp, VectorSelectOp, VectorStoreOp,
 };
 pub use visitor::Visitor;

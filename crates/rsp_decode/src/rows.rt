@@ -178,158 +178,158 @@ macro_rules! instruction_table {
     ($then:ident $more:tt) => {
         $then! { $more
             special {
-                0x00 "sll" SHIFT shift(ShiftRow::Sll);
-                0x02 "srl" SHIFT shift(ShiftRow::Srl);
-                0x03 "sra" SHIFT shift(ShiftRow::Sra);
-                0x04 "sllv" SHIFT_BY shift_by(ShiftByRow::Sllv);
-                0x06 "srlv" SHIFT_BY shift_by(ShiftByRow::Srlv);
-                0x07 "srav" SHIFT_BY shift_by(ShiftByRow::Srav);
+                0x00 "sll" SHIFT shift(ShiftOp::Sll);
+                0x02 "srl" SHIFT shift(ShiftOp::Srl);
+                0x03 "sra" SHIFT shift(ShiftOp::Sra);
+                0x04 "sllv" SHIFT_BY shift_by(ShiftVariableOp::Sllv);
+                0x06 "srlv" SHIFT_BY shift_by(ShiftVariableOp::Srlv);
+                0x07 "srav" SHIFT_BY shift_by(ShiftVariableOp::Srav);
                 0x08 "jr" SOURCE jump_register;
                 0x09 "jalr" LINK jump_link_register;
                 0x0d "break" NOTHING break_instruction;
-                0x20 "add" REGISTERS register(RegisterRow::Add);
-                0x21 "addu" REGISTERS register(RegisterRow::Addu);
-                0x22 "sub" REGISTERS register(RegisterRow::Sub);
-                0x23 "subu" REGISTERS register(RegisterRow::Subu);
-                0x24 "and" REGISTERS register(RegisterRow::And);
-                0x25 "or" REGISTERS register(RegisterRow::Or);
-                0x26 "xor" REGISTERS register(RegisterRow::Xor);
-                0x27 "nor" REGISTERS register(RegisterRow::Nor);
-                0x2a "slt" REGISTERS register(RegisterRow::Slt);
-                0x2b "sltu" REGISTERS register(RegisterRow::Sltu);
+                0x20 "add" REGISTERS register(RegisterOp::Add);
+                0x21 "addu" REGISTERS register(RegisterOp::Addu);
+                0x22 "sub" REGISTERS register(RegisterOp::Sub);
+                0x23 "subu" REGISTERS register(RegisterOp::Subu);
+                0x24 "and" REGISTERS register(RegisterOp::And);
+                0x25 "or" REGISTERS register(RegisterOp::Or);
+                0x26 "xor" REGISTERS register(RegisterOp::Xor);
+                0x27 "nor" REGISTERS register(RegisterOp::Nor);
+                0x2a "slt" REGISTERS register(RegisterOp::Slt);
+                0x2b "sltu" REGISTERS register(RegisterOp::Sltu);
                 reserved 0x01 0x05 0x0a 0x0b 0x0c 0x0e 0x0f 0x10 0x11 0x12 0x13 0x14 0x15 0x16
                     0x17 0x18 0x19 0x1a 0x1b 0x1c 0x1d 0x1e 0x1f 0x28 0x29 0x2c 0x2d 0x2e 0x2f
                     0x30 0x31 0x32 0x33 0x34 0x35 0x36 0x37 0x38 0x39 0x3a 0x3b 0x3c 0x3d 0x3e
                     0x3f;
             }
             regimm {
-                0x00 "bltz" BRANCH_SIGN branch_sign(SignRow::Bltz);
-                0x01 "bgez" BRANCH_SIGN branch_sign(SignRow::Bgez);
-                0x10 "bltzal" BRANCH_SIGN branch_sign(SignRow::Bltzal);
-                0x11 "bgezal" BRANCH_SIGN branch_sign(SignRow::Bgezal);
+                0x00 "bltz" BRANCH_SIGN branch_sign(BranchSignOp::Bltz);
+                0x01 "bgez" BRANCH_SIGN branch_sign(BranchSignOp::Bgez);
+                0x10 "bltzal" BRANCH_SIGN branch_sign(BranchSignOp::Bltzal);
+                0x11 "bgezal" BRANCH_SIGN branch_sign(BranchSignOp::Bgezal);
                 otherwise false;
             }
             opcode {
-                0x06 "blez" BRANCH_SIGN branch_sign(SignRow::Blez);
-                0x07 "bgtz" BRANCH_SIGN branch_sign(SignRow::Bgtz);
-                0x02 "j" JUMP jump(JumpRow::J);
-                0x03 "jal" JUMP jump(JumpRow::Jal);
-                0x04 "beq" BRANCH_EQUAL branch_equal(EqualRow::Beq);
-                0x05 "bne" BRANCH_EQUAL branch_equal(EqualRow::Bne);
-                0x08 "addi" SIGNED with_immediate(ImmediateRow::Addi);
-                0x09 "addiu" SIGNED with_immediate(ImmediateRow::Addiu);
-                0x0a "slti" SIGNED with_immediate(ImmediateRow::Slti);
-                0x0b "sltiu" SIGNED with_immediate(ImmediateRow::Sltiu);
-                0x0c "andi" UNSIGNED with_immediate(ImmediateRow::Andi);
-                0x0d "ori" UNSIGNED with_immediate(ImmediateRow::Ori);
-                0x0e "xori" UNSIGNED with_immediate(ImmediateRow::Xori);
+                0x06 "blez" BRANCH_SIGN branch_sign(BranchSignOp::Blez);
+                0x07 "bgtz" BRANCH_SIGN branch_sign(BranchSignOp::Bgtz);
+                0x02 "j" JUMP jump(JumpOp::J);
+                0x03 "jal" JUMP jump(JumpOp::Jal);
+                0x04 "beq" BRANCH_EQUAL branch_equal(BranchEqualOp::Beq);
+                0x05 "bne" BRANCH_EQUAL branch_equal(BranchEqualOp::Bne);
+                0x08 "addi" SIGNED with_immediate(ImmediateOp::Addi);
+                0x09 "addiu" SIGNED with_immediate(ImmediateOp::Addiu);
+                0x0a "slti" SIGNED with_immediate(ImmediateOp::Slti);
+                0x0b "sltiu" SIGNED with_immediate(ImmediateOp::Sltiu);
+                0x0c "andi" UNSIGNED with_immediate(ImmediateOp::Andi);
+                0x0d "ori" UNSIGNED with_immediate(ImmediateOp::Ori);
+                0x0e "xori" UNSIGNED with_immediate(ImmediateOp::Xori);
                 0x0f "lui" UPPER load_upper;
-                0x20 "lb" MEMORY load(LoadRow::Lb);
-                0x21 "lh" MEMORY load(LoadRow::Lh);
-                0x23 "lw" MEMORY load(LoadRow::Lw);
-                0x24 "lbu" MEMORY load(LoadRow::Lbu);
-                0x25 "lhu" MEMORY load(LoadRow::Lhu);
-                0x27 "lwu" MEMORY load(LoadRow::Lwu);
-                0x28 "sb" MEMORY store(StoreRow::Sb);
-                0x29 "sh" MEMORY store(StoreRow::Sh);
-                0x2b "sw" MEMORY store(StoreRow::Sw);
+                0x20 "lb" MEMORY load(LoadOp::Lb);
+                0x21 "lh" MEMORY load(LoadOp::Lh);
+                0x23 "lw" MEMORY load(LoadOp::Lw);
+                0x24 "lbu" MEMORY load(LoadOp::Lbu);
+                0x25 "lhu" MEMORY load(LoadOp::Lhu);
+                0x27 "lwu" MEMORY load(LoadOp::Lwu);
+                0x28 "sb" MEMORY store(StoreOp::Sb);
+                0x29 "sh" MEMORY store(StoreOp::Sh);
+                0x2b "sw" MEMORY store(StoreOp::Sw);
                 reserved 0x00 0x01 0x10 0x11 0x12 0x13 0x14 0x15 0x16 0x17 0x18 0x19 0x1a 0x1b
                     0x1c 0x1d 0x1e 0x1f 0x22 0x26 0x2a 0x2c 0x2d 0x2e 0x2f 0x30 0x31 0x32 0x33
                     0x34 0x35 0x36 0x37 0x38 0x39 0x3a 0x3b 0x3c 0x3d 0x3e 0x3f;
             }
             cop0 {
-                0x00 "mfc0" MOVE_SP move_sp(MoveRow::From);
-                0x04 "mtc0" MOVE_SP move_sp(MoveRow::To);
+                0x00 "mfc0" MOVE_SP move_sp(MoveOp::From);
+                0x04 "mtc0" MOVE_SP move_sp(MoveOp::To);
                 otherwise false;
             }
             cop2 {
-                0x00 "mfc2" MOVE_VECTOR move_vector(MoveRow::From);
-                0x04 "mtc2" MOVE_VECTOR move_vector(MoveRow::To);
-                0x02 "cfc2" MOVE_CONTROL move_control(MoveRow::From);
-                0x06 "ctc2" MOVE_CONTROL move_control(MoveRow::To);
+                0x00 "mfc2" MOVE_VECTOR move_vector(MoveOp::From);
+                0x04 "mtc2" MOVE_VECTOR move_vector(MoveOp::To);
+                0x02 "cfc2" MOVE_CONTROL move_control(MoveOp::From);
+                0x06 "ctc2" MOVE_CONTROL move_control(MoveOp::To);
                 reserved 0x01 0x03 0x05 0x07 0x08 0x09 0x0a 0x0b 0x0c 0x0d 0x0e 0x0f 0x10 0x11
                     0x12 0x13 0x14 0x15 0x16 0x17 0x18 0x19 0x1a 0x1b 0x1c 0x1d 0x1e 0x1f;
             }
             products {
-                0x00 "vmulf" VECTORS multiply(MultiplyRow::Vmulf);
-                0x01 "vmulu" VECTORS multiply(MultiplyRow::Vmulu);
-                0x04 "vmudl" VECTORS multiply(MultiplyRow::Vmudl);
-                0x05 "vmudm" VECTORS multiply(MultiplyRow::Vmudm);
-                0x06 "vmudn" VECTORS multiply(MultiplyRow::Vmudn);
-                0x07 "vmudh" VECTORS multiply(MultiplyRow::Vmudh);
-                0x08 "vmacf" VECTORS multiply(MultiplyRow::Vmacf);
-                0x09 "vmacu" VECTORS multiply(MultiplyRow::Vmacu);
-                0x0c "vmadl" VECTORS multiply(MultiplyRow::Vmadl);
-                0x0d "vmadm" VECTORS multiply(MultiplyRow::Vmadm);
-                0x0e "vmadn" VECTORS multiply(MultiplyRow::Vmadn);
-                0x0f "vmadh" VECTORS multiply(MultiplyRow::Vmadh);
-                0x02 "vrndp" VECTORS round(RoundRow::Vrndp);
-                0x0a "vrndn" VECTORS round(RoundRow::Vrndn);
-                0x03 "vmulq" VECTORS mpeg_multiply(MpegRow::Vmulq);
-                0x0b "vmacq" VECTORS mpeg_multiply(MpegRow::Vmacq);
+                0x00 "vmulf" VECTORS multiply(VectorMultiplyOp::Vmulf);
+                0x01 "vmulu" VECTORS multiply(VectorMultiplyOp::Vmulu);
+                0x04 "vmudl" VECTORS multiply(VectorMultiplyOp::Vmudl);
+                0x05 "vmudm" VECTORS multiply(VectorMultiplyOp::Vmudm);
+                0x06 "vmudn" VECTORS multiply(VectorMultiplyOp::Vmudn);
+                0x07 "vmudh" VECTORS multiply(VectorMultiplyOp::Vmudh);
+                0x08 "vmacf" VECTORS multiply(VectorMultiplyOp::Vmacf);
+                0x09 "vmacu" VECTORS multiply(VectorMultiplyOp::Vmacu);
+                0x0c "vmadl" VECTORS multiply(VectorMultiplyOp::Vmadl);
+                0x0d "vmadm" VECTORS multiply(VectorMultiplyOp::Vmadm);
+                0x0e "vmadn" VECTORS multiply(VectorMultiplyOp::Vmadn);
+                0x0f "vmadh" VECTORS multiply(VectorMultiplyOp::Vmadh);
+                0x02 "vrndp" VECTORS round(VectorRoundOp::Vrndp);
+                0x0a "vrndn" VECTORS round(VectorRoundOp::Vrndn);
+                0x03 "vmulq" VECTORS mpeg_multiply(VectorMpegOp::Vmulq);
+                0x0b "vmacq" VECTORS mpeg_multiply(VectorMpegOp::Vmacq);
                 otherwise false;
             }
             others {
                 0x1d "vsar" VECTORS read_accumulator;
-                0x10 "vadd" VECTORS vector_add(VectorAddRow::Vadd);
-                0x11 "vsub" VECTORS vector_add(VectorAddRow::Vsub);
-                0x13 "vabs" VECTORS vector_add(VectorAddRow::Vabs);
-                0x14 "vaddc" VECTORS vector_add(VectorAddRow::Vaddc);
-                0x15 "vsubc" VECTORS vector_add(VectorAddRow::Vsubc);
-                0x20 "vlt" VECTORS vector_select(VectorSelectRow::Vlt);
-                0x21 "veq" VECTORS vector_select(VectorSelectRow::Veq);
-                0x22 "vne" VECTORS vector_select(VectorSelectRow::Vne);
-                0x23 "vge" VECTORS vector_select(VectorSelectRow::Vge);
-                0x24 "vcl" VECTORS vector_clip(VectorClipRow::Vcl);
-                0x25 "vch" VECTORS vector_clip(VectorClipRow::Vch);
-                0x26 "vcr" VECTORS vector_clip(VectorClipRow::Vcr);
+                0x10 "vadd" VECTORS vector_add(VectorAddOp::Vadd);
+                0x11 "vsub" VECTORS vector_add(VectorAddOp::Vsub);
+                0x13 "vabs" VECTORS vector_add(VectorAddOp::Vabs);
+                0x14 "vaddc" VECTORS vector_add(VectorAddOp::Vaddc);
+                0x15 "vsubc" VECTORS vector_add(VectorAddOp::Vsubc);
+                0x20 "vlt" VECTORS vector_select(VectorSelectOp::Vlt);
+                0x21 "veq" VECTORS vector_select(VectorSelectOp::Veq);
+                0x22 "vne" VECTORS vector_select(VectorSelectOp::Vne);
+                0x23 "vge" VECTORS vector_select(VectorSelectOp::Vge);
+                0x24 "vcl" VECTORS vector_clip(VectorClipOp::Vcl);
+                0x25 "vch" VECTORS vector_clip(VectorClipOp::Vch);
+                0x26 "vcr" VECTORS vector_clip(VectorClipOp::Vcr);
                 0x27 "vmrg" VECTORS vector_merge;
-                0x28 "vand" VECTORS vector_logic(VectorLogicRow::Vand);
-                0x29 "vnand" VECTORS vector_logic(VectorLogicRow::Vnand);
-                0x2a "vor" VECTORS vector_logic(VectorLogicRow::Vor);
-                0x2b "vnor" VECTORS vector_logic(VectorLogicRow::Vnor);
-                0x2c "vxor" VECTORS vector_logic(VectorLogicRow::Vxor);
-                0x2d "vnxor" VECTORS vector_logic(VectorLogicRow::Vnxor);
-                0x30 "vrcp" LANE divide(DivideRow::Vrcp);
-                0x31 "vrcpl" LANE divide(DivideRow::Vrcpl);
-                0x32 "vrcph" LANE divide(DivideRow::Vrcph);
-                0x33 "vmov" LANE divide(DivideRow::Vmov);
-                0x34 "vrsq" LANE divide(DivideRow::Vrsq);
-                0x35 "vrsql" LANE divide(DivideRow::Vrsql);
-                0x36 "vrsqh" LANE divide(DivideRow::Vrsqh);
-                0x37 "vnop" NOTHING idle(IdleRow::Vnop);
-                0x3f "vnull" NOTHING idle(IdleRow::Vnull);
+                0x28 "vand" VECTORS vector_logic(VectorLogicOp::Vand);
+                0x29 "vnand" VECTORS vector_logic(VectorLogicOp::Vnand);
+                0x2a "vor" VECTORS vector_logic(VectorLogicOp::Vor);
+                0x2b "vnor" VECTORS vector_logic(VectorLogicOp::Vnor);
+                0x2c "vxor" VECTORS vector_logic(VectorLogicOp::Vxor);
+                0x2d "vnxor" VECTORS vector_logic(VectorLogicOp::Vnxor);
+                0x30 "vrcp" LANE divide(VectorDivideOp::Vrcp);
+                0x31 "vrcpl" LANE divide(VectorDivideOp::Vrcpl);
+                0x32 "vrcph" LANE divide(VectorDivideOp::Vrcph);
+                0x33 "vmov" LANE divide(VectorDivideOp::Vmov);
+                0x34 "vrsq" LANE divide(VectorDivideOp::Vrsq);
+                0x35 "vrsql" LANE divide(VectorDivideOp::Vrsql);
+                0x36 "vrsqh" LANE divide(VectorDivideOp::Vrsqh);
+                0x37 "vnop" NOTHING idle(VectorNopOp::Vnop);
+                0x3f "vnull" NOTHING idle(VectorNopOp::Vnull);
                 reserved 0x12 0x16 0x17 0x18 0x19 0x1a 0x1b 0x1c 0x1e 0x1f 0x2e 0x2f 0x38 0x39
                     0x3a 0x3b 0x3c 0x3d 0x3e;
             }
             lwc2 {
-                0x00 "lbv" VECTOR_MEMORY_1 vector_load(VectorLoadRow::Lbv);
-                0x01 "lsv" VECTOR_MEMORY_2 vector_load(VectorLoadRow::Lsv);
-                0x02 "llv" VECTOR_MEMORY_4 vector_load(VectorLoadRow::Llv);
-                0x03 "ldv" VECTOR_MEMORY_8 vector_load(VectorLoadRow::Ldv);
-                0x04 "lqv" VECTOR_MEMORY_16 vector_load(VectorLoadRow::Lqv);
-                0x05 "lrv" VECTOR_MEMORY_16 vector_load(VectorLoadRow::Lrv);
-                0x06 "lpv" VECTOR_MEMORY_8 vector_load(VectorLoadRow::Lpv);
-                0x07 "luv" VECTOR_MEMORY_8 vector_load(VectorLoadRow::Luv);
-                0x08 "lhv" VECTOR_MEMORY_16 vector_load(VectorLoadRow::Lhv);
-                0x09 half "lfv" VECTOR_MEMORY_HALF vector_load(VectorLoadRow::Lfv);
-                0x0b "ltv" VECTOR_MEMORY_16 vector_load(VectorLoadRow::Ltv);
+                0x00 "lbv" VECTOR_MEMORY_1 vector_load(VectorLoadOp::Lbv);
+                0x01 "lsv" VECTOR_MEMORY_2 vector_load(VectorLoadOp::Lsv);
+                0x02 "llv" VECTOR_MEMORY_4 vector_load(VectorLoadOp::Llv);
+                0x03 "ldv" VECTOR_MEMORY_8 vector_load(VectorLoadOp::Ldv);
+                0x04 "lqv" VECTOR_MEMORY_16 vector_load(VectorLoadOp::Lqv);
+                0x05 "lrv" VECTOR_MEMORY_16 vector_load(VectorLoadOp::Lrv);
+                0x06 "lpv" VECTOR_MEMORY_8 vector_load(VectorLoadOp::Lpv);
+                0x07 "luv" VECTOR_MEMORY_8 vector_load(VectorLoadOp::Luv);
+                0x08 "lhv" VECTOR_MEMORY_16 vector_load(VectorLoadOp::Lhv);
+                0x09 half "lfv" VECTOR_MEMORY_HALF vector_load(VectorLoadOp::Lfv);
+                0x0b "ltv" VECTOR_MEMORY_16 vector_load(VectorLoadOp::Ltv);
                 reserved 0x09 0x0a 0x0c 0x0d 0x0e 0x0f 0x10 0x11 0x12 0x13 0x14 0x15 0x16 0x17
                     0x18 0x19 0x1a 0x1b 0x1c 0x1d 0x1e 0x1f;
             }
             swc2 {
-                0x00 "sbv" VECTOR_MEMORY_1 vector_store(VectorStoreRow::Sbv);
-                0x01 "ssv" VECTOR_MEMORY_2 vector_store(VectorStoreRow::Ssv);
-                0x02 "slv" VECTOR_MEMORY_4 vector_store(VectorStoreRow::Slv);
-                0x03 "sdv" VECTOR_MEMORY_8 vector_store(VectorStoreRow::Sdv);
-                0x04 "sqv" VECTOR_MEMORY_16 vector_store(VectorStoreRow::Sqv);
-                0x05 "srv" VECTOR_MEMORY_16 vector_store(VectorStoreRow::Srv);
-                0x06 "spv" VECTOR_MEMORY_8 vector_store(VectorStoreRow::Spv);
-                0x07 "suv" VECTOR_MEMORY_8 vector_store(VectorStoreRow::Suv);
-                0x08 "shv" VECTOR_MEMORY_16 vector_store(VectorStoreRow::Shv);
-                0x09 half "sfv" VECTOR_MEMORY_HALF vector_store(VectorStoreRow::Sfv);
-                0x0a "swv" VECTOR_MEMORY_16 vector_store(VectorStoreRow::Swv);
-                0x0b "stv" VECTOR_MEMORY_16 vector_store(VectorStoreRow::Stv);
+                0x00 "sbv" VECTOR_MEMORY_1 vector_store(VectorStoreOp::Sbv);
+                0x01 "ssv" VECTOR_MEMORY_2 vector_store(VectorStoreOp::Ssv);
+                0x02 "slv" VECTOR_MEMORY_4 vector_store(VectorStoreOp::Slv);
+                0x03 "sdv" VECTOR_MEMORY_8 vector_store(VectorStoreOp::Sdv);
+                0x04 "sqv" VECTOR_MEMORY_16 vector_store(VectorStoreOp::Sqv);
+                0x05 "srv" VECTOR_MEMORY_16 vector_store(VectorStoreOp::Srv);
+                0x06 "spv" VECTOR_MEMORY_8 vector_store(VectorStoreOp::Spv);
+                0x07 "suv" VECTOR_MEMORY_8 vector_store(VectorStoreOp::Suv);
+                0x08 "shv" VECTOR_MEMORY_16 vector_store(VectorStoreOp::Shv);
+                0x09 half "sfv" VECTOR_MEMORY_HALF vector_store(VectorStoreOp::Sfv);
+                0x0a "swv" VECTOR_MEMORY_16 vector_store(VectorStoreOp::Swv);
+                0x0b "stv" VECTOR_MEMORY_16 vector_store(VectorStoreOp::Stv);
                 reserved 0x09 0x0c 0x0d 0x0e 0x0f 0x10 0x11 0x12 0x13 0x14 0x15 0x16 0x17 0x18
                     0x19 0x1a 0x1b 0x1c 0x1d 0x1e 0x1f;
             }

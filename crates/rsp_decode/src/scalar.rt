@@ -3,7 +3,7 @@
 
 /// Shifts by an amount in the word.
 #[derive(Clone, Copy)]
-pub enum ShiftRow {
+pub enum ShiftOp {
     /// `sll`: to the left.
     Sll = 0x00,
     /// `srl`: to the right, zeros from above.
@@ -14,7 +14,7 @@ pub enum ShiftRow {
 
 /// Shifts by the low five bits of a register.
 #[derive(Clone, Copy)]
-pub enum ShiftByRow {
+pub enum ShiftVariableOp {
     /// `sllv`: to the left.
     Sllv = 0x04,
     /// `srlv`: to the right, zeros from above.
@@ -25,7 +25,7 @@ pub enum ShiftByRow {
 
 /// Results of two registers.
 #[derive(Clone, Copy)]
-pub enum RegisterRow {
+pub enum RegisterOp {
     /// `add`: the sum modulo 2^32; there is no overflow trap, so it is `addu`.
     Add = 0x20,
     /// `addu`: the sum modulo 2^32.
@@ -50,7 +50,7 @@ pub enum RegisterRow {
 
 /// Branches on the sign of a register.
 #[derive(Clone, Copy)]
-pub enum SignRow {
+pub enum BranchSignOp {
     /// `bltz`: taken if it is below 0.
     Bltz,
     /// `bgez`: taken if it is 0 or more.
@@ -67,7 +67,7 @@ pub enum SignRow {
 
 /// Branches on whether two registers are equal.
 #[derive(Clone, Copy)]
-pub enum EqualRow {
+pub enum BranchEqualOp {
     /// `beq`: taken if they are equal.
     Beq = 0x04,
     /// `bne`: taken if they differ.
@@ -76,7 +76,7 @@ pub enum EqualRow {
 
 /// Jumps to an address in the word.
 #[derive(Clone, Copy)]
-pub enum JumpRow {
+pub enum JumpOp {
     /// `j`: jumps.
     J = 0x02,
     /// `jal`: jumps and links.
@@ -85,7 +85,7 @@ pub enum JumpRow {
 
 /// Results of a register and an immediate.
 #[derive(Clone, Copy)]
-pub enum ImmediateRow {
+pub enum ImmediateOp {
     /// `addi`: the sum with a signed immediate modulo 2^32; there is no overflow trap.
     Addi = 0x08,
     /// `addiu`: as `addi`.
@@ -104,7 +104,7 @@ pub enum ImmediateRow {
 
 /// Loads of a scalar register from DMEM.
 #[derive(Clone, Copy)]
-pub enum LoadRow {
+pub enum LoadOp {
     /// `lb`: a byte, sign-extended.
     Lb = 0x20,
     /// `lh`: two bytes, sign-extended.
@@ -121,7 +121,7 @@ pub enum LoadRow {
 
 /// Stores of a scalar register to DMEM.
 #[derive(Clone, Copy)]
-pub enum StoreRow {
+pub enum StoreOp {
     /// `sb`: the low byte.
     Sb = 0x28,
     /// `sh`: the low two bytes.
@@ -132,7 +132,7 @@ pub enum StoreRow {
 
 /// Which way a move between a scalar register and a coprocessor goes.
 #[derive(Clone, Copy)]
-pub enum MoveRow {
+pub enum MoveOp {
     /// `mfc0`, `mfc2`, `cfc2`: into the scalar register.
     From = 0x00,
     /// `mtc0`, `mtc2`, `ctc2`: out of the scalar register.

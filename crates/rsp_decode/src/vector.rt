@@ -14,7 +14,7 @@ pub enum Control {
 
 /// Multiplies of two vectors, lane by lane, into the accumulator.
 #[derive(Clone, Copy)]
-pub enum MultiplyRow {
+pub enum VectorMultiplyOp {
     /// `vmulf`: signed fractions, rounded.
     Vmulf = 0x00,
     /// `vmulu`: the same, the result unsigned.
@@ -43,7 +43,7 @@ pub enum MultiplyRow {
 
 /// Roundings of the accumulator by its sign.
 #[derive(Clone, Copy)]
-pub enum RoundRow {
+pub enum VectorRoundOp {
     /// `vrndp`: if it is 0 or more.
     Vrndp = 0x02,
     /// `vrndn`: if it is negative.
@@ -52,7 +52,7 @@ pub enum RoundRow {
 
 /// Multiplies for MPEG coefficients.
 #[derive(Clone, Copy)]
-pub enum MpegRow {
+pub enum VectorMpegOp {
     /// `vmulq`: a signed product, rounded toward 0.
     Vmulq = 0x03,
     /// `vmacq`: a step of the accumulator toward an odd multiple of 32.
@@ -61,7 +61,7 @@ pub enum MpegRow {
 
 /// Sums and differences of two vectors, lane by lane.
 #[derive(Clone, Copy)]
-pub enum VectorAddRow {
+pub enum VectorAddOp {
     /// `vadd`: the sum with carry, clamped.
     Vadd = 0x10,
     /// `vsub`: the difference with borrow, clamped.
@@ -76,7 +76,7 @@ pub enum VectorAddRow {
 
 /// Comparisons of two vectors that select a lane of one of them.
 #[derive(Clone, Copy)]
-pub enum VectorSelectRow {
+pub enum VectorSelectOp {
     /// `vlt`: the first if it is less.
     Vlt = 0x20,
     /// `veq`: if they are equal.
@@ -89,7 +89,7 @@ pub enum VectorSelectRow {
 
 /// Clips of a vector by another, lane by lane.
 #[derive(Clone, Copy)]
-pub enum VectorClipRow {
+pub enum VectorClipOp {
     /// `vcl`: the low half, by the flags of a `vch`.
     Vcl = 0x24,
     /// `vch`: the high half, or a clip alone.
@@ -100,7 +100,7 @@ pub enum VectorClipRow {
 
 /// Logic of two vectors, bit by bit.
 #[derive(Clone, Copy)]
-pub enum VectorLogicRow {
+pub enum VectorLogicOp {
     /// `vand`: the bits set in both.
     Vand = 0x28,
     /// `vnand`: the bits not set in both.
@@ -117,7 +117,7 @@ pub enum VectorLogicRow {
 
 /// Instructions that write one lane: the divider, and a move.
 #[derive(Clone, Copy)]
-pub enum DivideRow {
+pub enum VectorDivideOp {
     /// `vrcp`: the reciprocal of a 16-bit number.
     Vrcp = 0x30,
     /// `vrcpl`: the reciprocal of a 32-bit number, whose high half `vrcph` took.
@@ -136,7 +136,7 @@ pub enum DivideRow {
 
 /// Instructions of the vector unit that change nothing.
 #[derive(Clone, Copy)]
-pub enum IdleRow {
+pub enum VectorNopOp {
     /// `vnop`.
     Vnop = 0x37,
     /// `vnull`.
@@ -145,7 +145,7 @@ pub enum IdleRow {
 
 /// Loads of a vector register from DMEM.
 #[derive(Clone, Copy)]
-pub enum VectorLoadRow {
+pub enum VectorLoadOp {
     /// `lbv`: one byte.
     Lbv = 0x00,
     /// `lsv`: two bytes.
@@ -172,7 +172,7 @@ pub enum VectorLoadRow {
 
 /// Stores of a vector register to DMEM.
 #[derive(Clone, Copy)]
-pub enum VectorStoreRow {
+pub enum VectorStoreOp {
     /// `sbv`: one byte.
     Sbv = 0x00,
     /// `ssv`: two bytes.

@@ -20,11 +20,11 @@ pub trait Visitor {
 
 /// Keeps the last instruction.
 #[derive(Drop)]
-pub struct Kept {
+pub struct LastInst {
     pub inst: Option<Inst>,
 }
 
-impl Visitor for Kept {
+impl Visitor for LastInst {
     ghost after = { λ i _. record { inst = Some i } };
 
     #[inline(always)]

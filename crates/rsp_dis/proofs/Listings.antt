@@ -5,11 +5,11 @@ use Rattle.std.specs.List.{All, list_all}
 use Rattle.std.proofs.Math.Seq.{take-suc, take-length}
 use Rattle.std.proofs.lemmas.Bool.{and_from}
 use Rattle.std.proofs.lemmas.List.{append-nil}
-use Rattle.rsp_text.specs.Chars.{is_plain}
-use Rattle.rsp_text.specs.SourceLine.{first_fault, line_words, text_of_lines}
-use Rattle.rsp_text.specs.Means.{line_at, place_of_line, labelled, labels_before, fault_of_line, words_of_line, or_fault, fault_before, and_words, words_before, unless, means_lines, means}
-use Rattle.rsp_text.specs.Spell.{spell, listing}
-use Rattle.rsp_text.proofs.TextLines.{lines_back}
+use Rattle.rsp_syntax.specs.Chars.{is_line_byte}
+use Rattle.rsp_syntax.specs.SourceLine.{first_fault, line_words, text_of_lines}
+use Rattle.rsp_syntax.specs.SourceText.{line_at, address_of_line, labelled, labels_before, fault_of_line, words_of_line, or_fault, fault_before, and_words, words_before, unless, meaning_of_lines, meaning_of_text}
+use Rattle.rsp_syntax.specs.Disassembly.{disassembly, listing}
+use Rattle.rsp_syntax.proofs.TextLines.{lines_back}
 use Rattle.rsp_dis.proofs.Words.{Gives, spelled_gives}
 
 abbrev AreWords : List ℕ → Type 0
@@ -19,10 +19,10 @@ length_listing : (address : ℕ) (ws : List ℕ) → length (listing address ws)
 length_listing address [] = refl
 length_listing address (w ∷ ws) = let more = length_listing (address + 4) ws in omega (arith, more)
 
-line_of : (address : ℕ) (ws : List ℕ) (k : ℕ) → k < length ws → line_at (listing address ws) k ≡ spell (get_or ws k 0) (address + 4 * k)
+line_of : (address : ℕ) (ws : List ℕ) (k : ℕ) → k < length ws → line_at (listing address ws) k ≡ disassembly (get_or ws k 0) (address + 4 * k)
 line_of address [] k lt = absurd (omega arith)
-line_of address (w ∷ ws) zero lt = ap (spell w) (omega arith)
-line_of address (w ∷ ws) (suc k) lt = line_of (address + 4) ws k (omega arith) ∙ ap (spell (get_or ws k 0)) (omega arith)
+line_of address (w ∷ ws) zero lt = ap (disassembly w) (omega arith)
+line_of address (w ∷ ws) (suc k) lt = line_of (address + 4) ws k (omega arith) ∙ ap (disassembly (get_or ws k 0)) (omega arith)
 
 module _ (ws : List ℕ) (few : length ws ≤ 1024) (h : AreWords ws) where
   abbrev ls : List (List ℕ)
@@ -30,10 +30,10 @@ module _ (ws : List ℕ) (few : length ws ≤ 1024) (h : AreWords ws) where
 
   at : (k : ℕ) → k < length ws → Gives (line_at ls k) (4 * k) (get_or ws k 0)
   at k lt =
-      let same : line_at ls k ≡ spell (get_or ws k 0) (4 * k) = line_of 0 ws k lt ∙ ap (spell (get_or ws k 0)) (omega arith) in
+      let same : line_at ls k ≡ disassembly (get_or ws k 0) (4 * k) = line_of 0 ws k lt ∙ ap (disassembly (get_or ws k 0)) (omega arith) in
       subst (λ l. Gives l (4 * k) (get_or ws k 0)) (sym same) (spelled_gives (get_or ws k 0) (4 * k) (omega arith) (h k 0 lt) (omega arith))
 
-  place_is : (k : ℕ) → k ≤ length ws → place_of_line 0 ls k ≡ 4 * k
+  place_is : (k : ℕ) → k ≤ length ws → address_of_line 0 ls k ≡ 4 * k
   place_is zero le = omega arith
   place_is (suc k) le =
       let here = place_is k (omega arith) in
@@ -44,14 +44,14 @@ module _ (ws : List ℕ) (few : length ws ≤ 1024) (h : AreWords ws) where
   no_labels zero le = refl
   no_labels (suc k) le =
       let g = at k (omega arith) in
-      ap (λ o. labels_before 0 ls k ++ labelled o (place_of_line 0 ls k)) g.no_label ∙ append-nil (labels_before 0 ls k) ∙ no_labels k (omega arith)
+      ap (λ o. labels_before 0 ls k ++ labelled o (address_of_line 0 ls k)) g.no_label ∙ append-nil (labels_before 0 ls k) ∙ no_labels k (omega arith)
 
   no_fault : (k : ℕ) → k ≤ length ws → fault_before 0 ls k ≡ None
   no_fault zero le = refl
   no_fault (suc k) le =
       let g = at k (omega arith) in
       ap (λ o. or_fault o (suc k) (fault_of_line 0 ls k)) (no_fault k (omega arith))
-      ∙ ap (λ t. or_fault None (suc k) (first_fault t (place_of_line 0 ls k) (line_at ls k))) (no_labels k (omega arith))
+      ∙ ap (λ t. or_fault None (suc k) (first_fault t (address_of_line 0 ls k) (line_at ls k))) (no_labels k (omega arith))
       ∙ ap (λ p. or_fault None (suc k) (first_fault [] p (line_at ls k))) (place_is k (omega arith))
       ∙ ap (or_fault None (suc k)) g.no_fault
 
@@ -64,7 +64,7 @@ module _ (ws : List ℕ) (few : length ws ≤ 1024) (h : AreWords ws) where
       ∙ ap (and_words (Ok (take k ws)) (suc k)) g.gives
       ∙ ap Ok (sym (take-suc ws k 0 (omega arith)))
 
-  pub listing_means : means_lines ls 0 ≡ Ok ws
+  pub listing_means : meaning_of_lines ls 0 ≡ Ok ws
   listing_means =
       let n = length ws in
       ap (λ k. unless (fault_before 0 ls k) (words_before (labels_before 0 ls k) 0 ls k)) (length_listing 0 ws)
@@ -73,11 +73,11 @@ module _ (ws : List ℕ) (few : length ws ≤ 1024) (h : AreWords ws) where
       ∙ words_are n (omega arith)
       ∙ ap Ok (take-length ws)
 
-all_plain : (address : ℕ) (ws : List ℕ) → AreWords ws → address % 4 ≡ 0 → address + 4 * length ws ≤ 4096 → list_all (list_all is_plain) (listing address ws) ≡ true
+all_plain : (address : ℕ) (ws : List ℕ) → AreWords ws → address % 4 ≡ 0 → address + 4 * length ws ≤ 4096 → list_all (list_all is_line_byte) (listing address ws) ≡ true
 all_plain address [] h aligned room = refl
 all_plain address (w ∷ ws) h aligned room =
     let g = let word : w < 4294967296 = h 0 w (omega arith) in spelled_gives w address aligned word (omega arith) in
     and_from _ _ g.plain (all_plain (address + 4) ws (λ k d lt. h (suc k) d (omega arith)) (omega arith) (omega arith))
 
-pub text_means : (ws : List ℕ) → length ws ≤ 1024 → AreWords ws → means (text_of_lines (listing 0 ws)) 0 ≡ Ok ws
-text_means ws few h = ap (λ ls. means_lines ls 0) (lines_back (listing 0 ws) (all_plain 0 ws h refl (omega arith))) ∙ listing_means ws few h
+pub text_means : (ws : List ℕ) → length ws ≤ 1024 → AreWords ws → meaning_of_text (text_of_lines (listing 0 ws)) 0 ≡ Ok ws
+text_means ws few h = ap (λ ls. meaning_of_lines ls 0) (lines_back (listing 0 ws) (all_plain 0 ws h refl (omega arith))) ∙ listing_means ws few h

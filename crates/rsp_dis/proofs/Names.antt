@@ -6,7 +6,7 @@ use Rattle.std.specs.Str.{str_eq_ignore_ascii_case}
 use Rattle.std.proofs.lemmas.Bool.{and_parts, cond-true, cond-false, not-true, cases_Bool, leb-true}
 use Rattle.std.proofs.lemmas.List.Recursion.{found_at, and_at}
 use Rattle.rsp_decode.specs.Table.{Row, rows, row_of, fits, is_row_operand}
-use Rattle.rsp_text.specs.Statement.{row_named, linking_row, no_operation, numbers_form, row_form, form_named}
+use Rattle.rsp_syntax.specs.Statement.{row_named, linking_row, no_operation, numbers_form, row_form, form_named}
 use Rattle.rsp_dis.proofs.Pieces.{is_piece}
 
 abbrev pairs_pass : (Row → Row → Bool) → List Row → Bool

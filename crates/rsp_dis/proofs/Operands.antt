@@ -9,45 +9,45 @@ use Rattle.std.proofs.lemmas.List.{length-append}
 use Rattle.std.proofs.lemmas.Fmt.{length_signed_le}
 use Rattle.std.proofs.lemmas.Nat.{mod_below}
 use Rattle.rsp_decode.specs.Table.{Operand, all_bytes, half_bytes, scalar, shift_amount, signed, unsigned, jump_target, branch_target, scalar_memory, vector_memory, sp_register, control_register, vector, vector_byte, vector_element, vector_lane, value_at, whole, capped, is_scale, is_row_operand}
-use Rattle.rsp_text.specs.declared.slot.Slot.{Slot}
-use Rattle.rsp_text.specs.declared.slot.Slot.TheVariants.{Half, Amount, Jump, Branch, Scaled}
-use Rattle.rsp_text.specs.declared.text.Boundary.TheVariants.{Parenthesis}
-use Rattle.rsp_text.specs.Cuts.{cut}
-use Rattle.rsp_text.specs.Numbers.{constant, expression_of}
-use Rattle.rsp_text.specs.Statement.{read, asks, field, offset_of, base_of, memory, memory_operand, zero_expression}
-use Rattle.rsp_text.specs.Walks.{reading_fields}
-use Rattle.rsp_text.specs.Spell.{hex, small, signed_half, signed_scaled, target, target_text, scalar_name, base_name, spell_operand, operand_fields, operand_text, reaches}
-use Rattle.rsp_text.proofs.Cuts.{cut_between}
-use Rattle.rsp_dis.specs.Quiet.{is_quiet}
+use Rattle.rsp_syntax.specs.declared.operand_range.OperandRange.{OperandRange}
+use Rattle.rsp_syntax.specs.declared.operand_range.OperandRange.TheVariants.{Half, Amount, Jump, Branch, Scaled}
+use Rattle.rsp_syntax.specs.declared.text.Boundary.TheVariants.{Parenthesis}
+use Rattle.rsp_syntax.specs.Cuts.{cut}
+use Rattle.rsp_syntax.specs.Numbers.{constant, expression_of}
+use Rattle.rsp_syntax.specs.Statement.{read, ranged_value, field, offset_of, base_of, memory, memory_operand, zero_expression}
+use Rattle.rsp_syntax.specs.OperandResults.{reading_fields}
+use Rattle.rsp_syntax.specs.Disassembly.{hex, small, signed_half, signed_scaled, target, target_text, scalar_name, base_name, operand_disassembly, operand_fields, operand_text, has_text}
+use Rattle.rsp_syntax.proofs.Cuts.{cut_between}
+use Rattle.rsp_dis.specs.NoSeparators.{is_no_separator}
 use Rattle.rsp_dis.proofs.Finite.{below, below_both, Said, says, said_by}
 use Rattle.rsp_dis.proofs.Pieces.{is_piece, piece_from, piece_of, all_append}
 use Rattle.rsp_dis.proofs.SpelledNumbers.{IsNumber, number_said, signed_number, hex_number, small_number, half_back, half_small, half_of, amount_of, jump_back, branch_back, branch_below, ScaledBack, by_1, by_2, by_4, by_8, by_16}
 
 -- an operand whose spelling at an address is read as these fields
 pub record IsSpelled (address : ℕ) (k : Operand) (vs : List ℕ) : Type 0 where
-  pub said : Said address (read k (spell_operand address k vs)) vs
-  pub piece : is_piece (spell_operand address k vs) ≡ true
+  pub said : Said address (read k (operand_disassembly address k vs)) vs
+  pub piece : is_piece (operand_disassembly address k vs) ≡ true
 
 -- ---- operands without a number, by a test of each
 
 abbrev names_one : Operand → ℕ → Bool
-names_one k n = says (read k (spell_operand 0 k (n ∷ []))) (n ∷ []) && is_piece (spell_operand 0 k (n ∷ []))
+names_one k n = says (read k (operand_disassembly 0 k (n ∷ []))) (n ∷ []) && is_piece (operand_disassembly 0 k (n ∷ []))
 
 abbrev names_two : Operand → ℕ → ℕ → Bool
-names_two k n e = says (read k (spell_operand 0 k (n ∷ e ∷ []))) (n ∷ e ∷ []) && is_piece (spell_operand 0 k (n ∷ e ∷ []))
+names_two k n e = says (read k (operand_disassembly 0 k (n ∷ e ∷ []))) (n ∷ e ∷ []) && is_piece (operand_disassembly 0 k (n ∷ e ∷ []))
 
 abbrev names_half : ℕ → ℕ → Bool
 names_half n b = names_two (vector_byte 0 half_bytes) n (b * 8)
 
-spelled : (address : ℕ) (k : Operand) (vs : List ℕ) → (says (read k (spell_operand address k vs)) vs && is_piece (spell_operand address k vs)) ≡ true → IsSpelled address k vs
+spelled : (address : ℕ) (k : Operand) (vs : List ℕ) → (says (read k (operand_disassembly address k vs)) vs && is_piece (operand_disassembly address k vs)) ≡ true → IsSpelled address k vs
 spelled address k vs e =
-    let both = and_parts (says (read k (spell_operand address k vs)) vs) (is_piece (spell_operand address k vs)) e in
+    let both = and_parts (says (read k (operand_disassembly address k vs)) vs) (is_piece (operand_disassembly address k vs)) e in
     record { said = said_by address _ vs both.0; piece = both.1 }
 
 -- ---- numbers
 
-number_spelled : (range : Slot) (address : ℕ) (z : ℤ) (v : ℕ) (bs : List ℕ) → IsNumber z bs → field range address z ≡ Some v → Said address (option_map (asks range []) (expression_of bs)) (v ∷ [])
-number_spelled range address z v bs num found = subst (λ x. Said address x (v ∷ [])) (sym (ap (option_map (asks range [])) num.reads)) (number_said range address [] z v found)
+number_spelled : (range : OperandRange) (address : ℕ) (z : ℤ) (v : ℕ) (bs : List ℕ) → IsNumber z bs → field range address z ≡ Some v → Said address (option_map (ranged_value range []) (expression_of bs)) (v ∷ [])
+number_spelled range address z v bs num found = subst (λ x. Said address x (v ∷ [])) (sym (ap (option_map (ranged_value range [])) num.reads)) (number_said range address [] z v found)
 
 is_base : Option ℕ → ℕ → Bool
 is_base None n = false
@@ -67,9 +67,9 @@ offset_read z bs num =
     let some : 0 < length bs = (piece_from bs num.piece).some in
     cond-false (length bs == 0) (Some zero_expression) (expression_of bs) (ne_eqb (length bs) 0 (λ e. omega arith)) ∙ num.reads
 
-memory_said : (range : Slot) (address : ℕ) (z : ℤ) (v n : ℕ) (bs : List ℕ) → IsNumber z bs → field range address z ≡ Some v → n < 32 → Said address (memory_operand range (cut Parenthesis (bs ++ base_name n))) (v ∷ n ∷ [])
+memory_said : (range : OperandRange) (address : ℕ) (z : ℤ) (v n : ℕ) (bs : List ℕ) → IsNumber z bs → field range address z ≡ Some v → n < 32 → Said address (memory_operand range (cut Parenthesis (bs ++ base_name n))) (v ∷ n ∷ [])
 memory_said range address z v n bs num found lt =
-    let is : memory_operand range (cut Parenthesis (bs ++ base_name n)) ≡ Some (asks range (n ∷ []) (constant z)) =
+    let is : memory_operand range (cut Parenthesis (bs ++ base_name n)) ≡ Some (ranged_value range (n ∷ []) (constant z)) =
     ap (memory_operand range) (cut_between Parenthesis bs (scalar_name n ++ 41 ∷ []) 40 num.no_parenthesis refl)
     ∙ ap (λ o. memory range o (base_of (scalar_name n ++ 41 ∷ []))) (offset_read z bs num)
     ∙ ap (memory range (Some (constant z))) (base_back n lt) in
@@ -78,12 +78,12 @@ memory_said range address z v n bs num found lt =
 memory_piece : (z : ℤ) (n : ℕ) → mag z < 65536 → IsNumber z (signed_decimal z) → n < 32 → is_piece (signed_decimal z ++ base_name n) ≡ true
 memory_piece z n few num lt =
     let number = piece_from (signed_decimal z) num.piece in
-    let rest = and_parts (nat_le (length (base_name n)) 5) (list_all is_quiet (base_name n)) (below (λ k. nat_le (length (base_name k)) 5 && list_all is_quiet (base_name k)) 32 refl n lt) in
+    let rest = and_parts (nat_le (length (base_name n)) 5) (list_all is_no_separator (base_name n)) (below (λ k. nat_le (length (base_name k)) 5 && list_all is_no_separator (base_name k)) 32 refl n lt) in
     let long : length (signed_decimal z) ≤ 6 = length_signed_le 5 z (omega arith) (omega arith) in
     let tail : length (base_name n) ≤ 5 = leb-true _ _ rest.0 in
     let some : 0 < length (signed_decimal z) = number.some in
     let whole_length = length-append (signed_decimal z) (base_name n) in
-    piece_of (signed_decimal z ++ base_name n) (omega arith) (omega arith) (all_append is_quiet (signed_decimal z) (base_name n) number.all rest.1)
+    piece_of (signed_decimal z ++ base_name n) (omega arith) (omega arith) (all_append is_no_separator (signed_decimal z) (base_name n) number.all rest.1)
 
 -- ---- each kind
 
@@ -135,7 +135,7 @@ target_spelled address w (Some t) aligned inside is e =
       num.piece,
     )
 
-pub kind_spelled : (address w : ℕ) → address % 4 ≡ 0 → address < 4096 → (k : Operand) → is_row_operand k ≡ true → reaches w address k ≡ true → IsSpelled address k (operand_fields k w)
+pub kind_spelled : (address w : ℕ) → address % 4 ≡ 0 → address < 4096 → (k : Operand) → is_row_operand k ≡ true → has_text w address k ≡ true → IsSpelled address k (operand_fields k w)
 kind_spelled address w aligned inside (scalar low) e near = spelled address (scalar low) _ (below (names_one (scalar 0)) 32 refl (value_at w (whole low 5)) (five_bits w low))
 kind_spelled address w aligned inside shift_amount e near =
     let num = small_number (value_at w (whole 6 5)) (five_bits w 6) in
@@ -182,8 +182,8 @@ kind_spelled address w aligned inside vector_lane e near = spelled address vecto
 
 -- ---- both halves, for the law
 
-pub fields_back : (w address : ℕ) (k : Operand) → address < 4096 → address % 4 ≡ 0 → is_row_operand k ≡ true → reaches w address k ≡ true → reading_fields [] address (read k (operand_text w address k)) ≡ Ok (operand_fields k w)
+pub fields_back : (w address : ℕ) (k : Operand) → address < 4096 → address % 4 ≡ 0 → is_row_operand k ≡ true → has_text w address k ≡ true → reading_fields [] address (read k (operand_text w address k)) ≡ Ok (operand_fields k w)
 fields_back w address k inside aligned e near = let said = (kind_spelled address w aligned inside k e near).said in ap (reading_fields [] address) said.is ∙ said.fields
 
-pub bytes_quiet : (w address : ℕ) (k : Operand) → address < 4096 → address % 4 ≡ 0 → is_row_operand k ≡ true → reaches w address k ≡ true → list_all is_quiet (operand_text w address k) ≡ true
+pub bytes_quiet : (w address : ℕ) (k : Operand) → address < 4096 → address % 4 ≡ 0 → is_row_operand k ≡ true → has_text w address k ≡ true → list_all is_no_separator (operand_text w address k) ≡ true
 bytes_quiet w address k inside aligned e near = (piece_from (operand_text w address k) (kind_spelled address w aligned inside k e near).piece).all

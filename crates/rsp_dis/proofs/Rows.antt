@@ -4,8 +4,8 @@ use Rattle.std.specs.Prelude.{map, find, Option, Some, None, option_map, ◌==�
 use Rattle.std.specs.List.{list_all}
 use Rattle.std.proofs.lemmas.Bool.{and_parts, and_from, cases_Bool, cond-true, cond-false, eq-eqb, eqb-true, ne_eqb}
 use Rattle.rsp_decode.specs.Table.{Row, rows, fits, fields, row_of, word_from, canonical_of, Entry, entry_of}
-use Rattle.rsp_text.specs.Spell.{reaches, operand_text, behind_name, row_text, plain_word, spell_row, spell}
-use Rattle.rsp_dis.specs.Room.{is_short}
+use Rattle.rsp_syntax.specs.Disassembly.{has_text, operand_text, operands_after_name, row_text, word_directive, row_disassembly, disassembly}
+use Rattle.rsp_dis.specs.TextLength.{is_short}
 
 all_short : list_all (λ (r : Row). is_short (entry_of r)) rows ≡ true
 all_short = refl
@@ -29,14 +29,14 @@ selected_short w e found = short_by w e (row_of w) refl found
 
 -- ---- the text of a word that isn't 0
 
-pub no_operation : (w address : ℕ) → w ≡ 0 → codes "nop" ≡ spell w address
-unfolding spell
-no_operation w address e = sym (cond-true (w == 0) (codes "nop") (spell_row w address (row_of w)) (eq-eqb w 0 e))
+pub no_operation : (w address : ℕ) → w ≡ 0 → codes "nop" ≡ disassembly w address
+unfolding disassembly
+no_operation w address e = sym (cond-true (w == 0) (codes "nop") (row_disassembly w address (row_of w)) (eq-eqb w 0 e))
 
 module _ (w address : ℕ) (some : w ≡ 0 → ⊥) where
-  by_row : (o : Option Row) → row_of w ≡ o → spell w address ≡ spell_row w address o
-  unfolding spell
-  by_row o is = cond-false (w == 0) (codes "nop") (spell_row w address (row_of w)) (ne_eqb w 0 some) ∙ ap (spell_row w address) is
+  by_row : (o : Option Row) → row_of w ≡ o → disassembly w address ≡ row_disassembly w address o
+  unfolding disassembly
+  by_row o is = cond-false (w == 0) (codes "nop") (row_disassembly w address (row_of w)) (ne_eqb w 0 some) ∙ ap (row_disassembly w address) is
 
   own_word : (r : Row) → row_of w ≡ Some r → canonical_of w ≡ Some w → (word_from r (fields r w) == w) ≡ true
   unfolding canonical_of
@@ -48,49 +48,49 @@ module _ (w address : ℕ) (some : w ≡ 0 → ⊥) where
   unfolding canonical_of
   canonical_row r is e = ap (option_map (λ (x : Row). word_from x (fields x w))) is ∙ ap Some (eqb-true _ w e)
 
-  spelled_by : (t : Entry) (o : Option Row) → row_of w ≡ o → Some t ≡ option_map entry_of o → canonical_of w ≡ Some w → list_all (reaches w address) t.operands ≡ true → t.name ++ behind_name (map (operand_text w address) t.operands) ≡ spell w address
+  spelled_by : (t : Entry) (o : Option Row) → row_of w ≡ o → Some t ≡ option_map entry_of o → canonical_of w ≡ Some w → list_all (has_text w address) t.operands ≡ true → t.name ++ operands_after_name (map (operand_text w address) t.operands) ≡ disassembly w address
   spelled_by t None is found own near = absurd cc
   spelled_by t (Some r) is found own near =
       let same : t ≡ entry_of r = cc in
-      ap (λ (x : Entry). x.name ++ behind_name (map (operand_text w address) x.operands)) same
+      ap (λ (x : Entry). x.name ++ operands_after_name (map (operand_text w address) x.operands)) same
       ∙ sym (by_row (Some r) is
-      ∙ cond-true ((word_from r (fields r w) == w) && list_all (reaches w address) r.operands) (row_text w address r) (plain_word w)
-      (and_from _ _ (own_word r is own) (sym (ap (λ (x : Entry). list_all (reaches w address) x.operands) same) ∙ near)))
+      ∙ cond-true ((word_from r (fields r w) == w) && list_all (has_text w address) r.operands) (row_text w address r) (word_directive w)
+      (and_from _ _ (own_word r is own) (sym (ap (λ (x : Entry). list_all (has_text w address) x.operands) same) ∙ near)))
 
-  far_by : (t : Entry) (o : Option Row) → row_of w ≡ o → Some t ≡ option_map entry_of o → list_all (reaches w address) t.operands ≡ false → plain_word w ≡ spell w address
+  far_by : (t : Entry) (o : Option Row) → row_of w ≡ o → Some t ≡ option_map entry_of o → list_all (has_text w address) t.operands ≡ false → word_directive w ≡ disassembly w address
   far_by t None is found far = absurd cc
   far_by t (Some r) is found far =
       let same : t ≡ entry_of r = cc in
       sym (by_row (Some r) is
-      ∙ cond-false ((word_from r (fields r w) == w) && list_all (reaches w address) r.operands) (row_text w address r) (plain_word w)
-      (and_no (word_from r (fields r w) == w) _ (sym (ap (λ (x : Entry). list_all (reaches w address) x.operands) same) ∙ far)))
+      ∙ cond-false ((word_from r (fields r w) == w) && list_all (has_text w address) r.operands) (row_text w address r) (word_directive w)
+      (and_no (word_from r (fields r w) == w) _ (sym (ap (λ (x : Entry). list_all (has_text w address) x.operands) same) ∙ far)))
     where
       and_no : (a b : Bool) → b ≡ false → (a && b) ≡ false
       and_no true b e = e
       and_no false b e = refl
 
-  other_by : (o : Option Row) → row_of w ≡ o → (canonical_of w ≡ Some w → ⊥) → plain_word w ≡ spell w address
+  other_by : (o : Option Row) → row_of w ≡ o → (canonical_of w ≡ Some w → ⊥) → word_directive w ≡ disassembly w address
   other_by None is other = sym (by_row None is)
   other_by (Some r) is other =
       sym (by_row (Some r) is
-      ∙ cond-false ((word_from r (fields r w) == w) && list_all (reaches w address) r.operands) (row_text w address r) (plain_word w)
+      ∙ cond-false ((word_from r (fields r w) == w) && list_all (has_text w address) r.operands) (row_text w address r) (word_directive w)
       (elim (cases_Bool (word_from r (fields r w) == w)) [
         | inl y ↦ absurd (other (canonical_row r is y))
-        | inr n ↦ ap (λ b. b && list_all (reaches w address) r.operands) n
+        | inr n ↦ ap (λ b. b && list_all (has_text w address) r.operands) n
       ]))
 
-  pub none_by : (o : Option Row) → row_of w ≡ o → None ≡ option_map entry_of o → plain_word w ≡ spell w address
+  pub none_by : (o : Option Row) → row_of w ≡ o → None ≡ option_map entry_of o → word_directive w ≡ disassembly w address
   none_by None is found = sym (by_row None is)
   none_by (Some r) is found = absurd cc
 
-  pub spelled : (t : Entry) (b : Bool) → Some t ≡ option_map entry_of (row_of w) → (IsTrue b ↔ (canonical_of w ≡ Some w)) → b ≡ true → list_all (reaches w address) t.operands ≡ true → t.name ++ behind_name (map (operand_text w address) t.operands) ≡ spell w address
+  pub spelled : (t : Entry) (b : Bool) → Some t ≡ option_map entry_of (row_of w) → (IsTrue b ↔ (canonical_of w ≡ Some w)) → b ≡ true → list_all (has_text w address) t.operands ≡ true → t.name ++ operands_after_name (map (operand_text w address) t.operands) ≡ disassembly w address
   spelled t b found own is near = spelled_by t (row_of w) refl found (own.0 is) near
 
-  pub too_far : (t : Entry) → Some t ≡ option_map entry_of (row_of w) → list_all (reaches w address) t.operands ≡ false → plain_word w ≡ spell w address
+  pub too_far : (t : Entry) → Some t ≡ option_map entry_of (row_of w) → list_all (has_text w address) t.operands ≡ false → word_directive w ≡ disassembly w address
   too_far t found far = far_by t (row_of w) refl found far
 
-  pub not_own : (b : Bool) → (IsTrue b ↔ (canonical_of w ≡ Some w)) → b ≡ false → plain_word w ≡ spell w address
+  pub not_own : (b : Bool) → (IsTrue b ↔ (canonical_of w ≡ Some w)) → b ≡ false → word_directive w ≡ disassembly w address
   not_own b own is = other_by (row_of w) refl (λ e. let yes : b ≡ true = own.1 e in let bad : true ≡ false = sym yes ∙ is in absurd cc)
 
-  pub reserved : None ≡ option_map entry_of (row_of w) → plain_word w ≡ spell w address
+  pub reserved : None ≡ option_map entry_of (row_of w) → word_directive w ≡ disassembly w address
   reserved found = none_by (row_of w) refl found

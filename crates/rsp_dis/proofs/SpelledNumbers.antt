@@ -14,14 +14,14 @@ use Rattle.std.proofs.lemmas.Str.Parse.{numerals_by_value, tells_digits, IsNumer
 use Rattle.std.proofs.Math.Nat.{pow-suc}
 use Rattle.std.proofs.lemmas.Int.{ints}
 use Rattle.std.proofs.lemmas.Nat.{mod_below, div_below}
-use Rattle.rsp_text.specs.declared.slot.Slot.{Slot}
-use Rattle.rsp_text.specs.declared.text.Boundary.TheVariants.{Plus, Minus}
-use Rattle.rsp_text.specs.Chars.{is_name_start, is_name_byte}
-use Rattle.rsp_text.specs.Cuts.{cut}
-use Rattle.rsp_text.specs.Numbers.{is_numeral, numeral, unsigned_of, signed_of, is_label, constant, sides, number_or, expression_of}
-use Rattle.rsp_text.specs.Statement.{asks, field, or_out_of_range, then_registers, fields_of, number_fails, half, branch, amount, jump, scaled_offset, word}
-use Rattle.rsp_text.specs.Spell.{hex, small, signed_half, signed_scaled, target}
-use Rattle.rsp_dis.specs.Quiet.{is_quiet}
+use Rattle.rsp_syntax.specs.declared.operand_range.OperandRange.{OperandRange}
+use Rattle.rsp_syntax.specs.declared.text.Boundary.TheVariants.{Plus, Minus}
+use Rattle.rsp_syntax.specs.Chars.{is_name_start, is_name_byte}
+use Rattle.rsp_syntax.specs.Cuts.{cut}
+use Rattle.rsp_syntax.specs.Numbers.{is_numeral, numeral, unsigned_of, signed_of, is_label, constant, sides, number_or, expression_of}
+use Rattle.rsp_syntax.specs.Statement.{ranged_value, field, or_out_of_range, then_registers, fields_of, number_fails, half, branch, amount, jump, scaled_offset, word}
+use Rattle.rsp_syntax.specs.Disassembly.{hex, small, signed_half, signed_scaled, target}
+use Rattle.rsp_dis.specs.NoSeparators.{is_no_separator}
 use Rattle.rsp_dis.proofs.Finite.{below, Said}
 use Rattle.rsp_dis.proofs.Pieces.{is_piece, piece_of, all_append}
 
@@ -32,15 +32,15 @@ zero_plus (pos n) = ap pos (omega arith)
 zero_plus (negsuc n) = omega (arith, ints)
 
 -- what asks for a number that is in its range
-pub number_fields : (range : Slot) (address : ℕ) (registers : List ℕ) (z : ℤ) (v : ℕ) → field range address z ≡ Some v → fields_of [] address (asks range registers (constant z)) ≡ Ok (v ∷ registers)
+pub number_fields : (range : OperandRange) (address : ℕ) (registers : List ℕ) (z : ℤ) (v : ℕ) → field range address z ≡ Some v → fields_of [] address (ranged_value range registers (constant z)) ≡ Ok (v ∷ registers)
 number_fields range address registers z v found = ap (λ x. then_registers registers (or_out_of_range (field range address x))) (zero_plus z) ∙ ap (λ o. then_registers registers (or_out_of_range o)) found
 
-pub number_fits : (range : Slot) (address : ℕ) (z : ℤ) (v : ℕ) → field range address z ≡ Some v → number_fails address (Some (range, constant z)) ≡ false
+pub number_fits : (range : OperandRange) (address : ℕ) (z : ℤ) (v : ℕ) → field range address z ≡ Some v → number_fails address (Some (range, constant z)) ≡ false
 number_fits range address z v found = ap is_none found
 
-pub number_said : (range : Slot) (address : ℕ) (registers : List ℕ) (z : ℤ) (v : ℕ) → field range address z ≡ Some v → Said address (Some (asks range registers (constant z))) (v ∷ registers)
+pub number_said : (range : OperandRange) (address : ℕ) (registers : List ℕ) (z : ℤ) (v : ℕ) → field range address z ≡ Some v → Said address (Some (ranged_value range registers (constant z))) (v ∷ registers)
 number_said range address registers z v found = record {
-  reading = asks range registers (constant z);
+  reading = ranged_value range registers (constant z);
   is = refl;
   fields = number_fields range address registers z v found;
   fits = number_fits range address z v found;
@@ -105,7 +105,7 @@ number_read n lt =
     cond-false (get_or (decimal n) 0 0 == 45) (option_map (λ m. neg_ℤ (pos m)) (unsigned_of (drop 1 (decimal n)))) (option_map pos (unsigned_of (decimal n))) (not_minus (decimal n) (digits_decimal own n lt))
     ∙ ap (option_map pos) (decimal_read n lt)
 
-digit_quiet : (c : ℕ) → 48 ≤ c → c ≤ 57 → is_quiet c ≡ true
+digit_quiet : (c : ℕ) → 48 ≤ c → c ≤ 57 → is_no_separator c ≡ true
 digit_quiet c low high = grind (arith, nat_tests)
 
 digit_no_parenthesis : (c : ℕ) → 48 ≤ c → c ≤ 57 → not (c == 40) ≡ true
@@ -118,7 +118,7 @@ signed_number (pos n) lt =
     let long = length_signed_le 5 (pos n) (omega arith) (omega arith) in
     record {
       reads = number_expression (decimal n) (pos n) (no_start (decimal n) digits) (number_read n fits);
-      piece = and_from _ _ (lt-ltb _ _ (decimal_nonempty n fits)) (and_from _ _ (le-leb _ _ (omega arith)) (digits_pass is_quiet digit_quiet (decimal n) digits));
+      piece = and_from _ _ (lt-ltb _ _ (decimal_nonempty n fits)) (and_from _ _ (le-leb _ _ (omega arith)) (digits_pass is_no_separator digit_quiet (decimal n) digits));
       no_parenthesis = digits_pass (λ c. not (c == 40)) digit_no_parenthesis (decimal n) digits;
     }
 signed_number (negsuc n) lt =
@@ -127,7 +127,7 @@ signed_number (negsuc n) lt =
     let long = length_signed_le 5 (negsuc n) (omega arith) (omega arith) in
     record {
       reads = number_expression (45 ∷ decimal (suc n)) (negsuc n) refl (ap (option_map (λ m. neg_ℤ (pos m))) (decimal_read (suc n) fits));
-      piece = piece_of (signed_decimal (negsuc n)) (omega arith) (omega arith) (digits_pass is_quiet digit_quiet (decimal (suc n)) digits);
+      piece = piece_of (signed_decimal (negsuc n)) (omega arith) (omega arith) (digits_pass is_no_separator digit_quiet (decimal (suc n)) digits);
       no_parenthesis = digits_pass (λ c. not (c == 40)) digit_no_parenthesis (decimal (suc n)) digits;
     }
 
@@ -160,7 +160,7 @@ hex_number k n some short lt =
     let read : signed_of (codes "0x" ++ hex k n) ≡ Some (pos n) = ap (option_map pos) (cond-true (is_numeral 16 (hex k n)) (Some (digits_value 16 (hex k n))) None is_hex ∙ ap Some (hex_value k n lt)) in
     record {
       reads = number_expression (codes "0x" ++ hex k n) (pos n) refl read;
-      piece = piece_of (codes "0x" ++ hex k n) (omega arith) (omega arith) (hex_pass is_quiet refl k n);
+      piece = piece_of (codes "0x" ++ hex k n) (omega arith) (omega arith) (hex_pass is_no_separator refl k n);
       no_parenthesis = hex_pass (λ c. not (c == 40)) refl k n;
     }
 

@@ -1,3 +1,3 @@
 -- Scaffolding of the disassembler: how long its texts are, and which bytes they have.
-pub mod Room
-pub mod Quiet
+pub mod TextLength
+pub mod NoSeparators

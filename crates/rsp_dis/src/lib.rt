@@ -1,7 +1,7 @@
 //! The disassembler: each word has one canonical text, and that assembles back to the word.
 //!
 //! [`text_of`] finds the word's instruction in the instruction table, and writes its name and its operands. What it writes is the
-//! definition `spell` of `rsp_text/specs/Spell.antt`.
+//! definition `disassembly` of `rsp_syntax/specs/Disassembly.antt`.
 #![tactic(auto)]
 
 pub mod laws;

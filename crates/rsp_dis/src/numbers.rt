@@ -4,12 +4,12 @@ ghost use Rattle.std.specs.Prelude.{◌≡◌, ◌<◌, ◌≤◌, ◌+◌, ◌+
 ghost use Rattle.std.specs.Char.{digit_char};
 ghost use Rattle.std.specs.Fmt.{signed_decimal};
 ghost use Rattle.arrayvec.specs.ArrayString.{array_string_len};
-ghost use Rattle.rsp_text.specs.Spell.{hex, small, signed_half, signed_scaled, byte_name, element_name, base_name, control_name};
+ghost use Rattle.rsp_syntax.specs.Disassembly.{hex, small, signed_half, signed_scaled, byte_name, element_name, base_name, control_name};
 ghost use Rattle.rsp_decode.specs.Table.{is_scale};
 
 use crate::line::Line;
 use itoa::Buffer;
-use rsp_text::hex_digit;
+use rsp_syntax::hex_digit;
 
 /// Appends the hexadecimal digit of a number below 16.
 #[tactic(auto, using(std::proofs::lemmas::Str::encode_ascii))]

@@ -3,7 +3,7 @@
 ghost use Rattle.std.specs.Prelude.{◌≡◌, ◌<◌, ◌≤◌, ◌+◌, ◌*◌, ◌++◌, [], ◌∷◌, true, codes};
 ghost use Rattle.arrayvec.specs.ArrayString.{array_string_len};
 ghost use Rattle.rsp_decode.specs.Table.{value_at, whole, byte_bits, is_row_operand};
-ghost use Rattle.rsp_text.specs.Spell.{hex, target, reaches, operand_text, scalar_name, vector_name, sp_name, target_text};
+ghost use Rattle.rsp_syntax.specs.Disassembly.{hex, target, has_text, operand_text, scalar_name, vector_name, sp_name, target_text};
 
 use crate::line::Line;
 use crate::numbers::{
@@ -63,9 +63,9 @@ fn target(address: u16, offset: u16) -> Option<u16>
 }
 
 /// Whether an operand has a text: it is no branch, or its target is in IMEM.
-pub fn is_reached(kind: Operand, word: u32, address: u16) -> bool
+pub fn has_text(kind: Operand, word: u32, address: u16) -> bool
     requires { address < 4096 }
-    ensures { result ≡ reaches word address kind }
+    ensures { result ≡ has_text word address kind }
 {
     match kind {
         Operand::BranchTarget => target(address, low_half(word)).is_some(),

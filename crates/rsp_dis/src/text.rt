@@ -4,22 +4,22 @@ ghost use Rattle.std.specs.Prelude.{◌≡◌, ◌<◌, ◌≤◌, ◌+◌, ◌*
 ghost use Rattle.std.specs.List.{list_all};
 ghost use Rattle.arrayvec.specs.ArrayString.{array_string_len};
 ghost use Rattle.rsp_decode.specs.Table.{entry, is_row_operand};
-ghost use Rattle.rsp_text.specs.Spell.{reaches, operand_text, more_operands, behind_name, plain_word, spell};
-ghost use Rattle.rsp_dis.specs.Room.{is_short};
+ghost use Rattle.rsp_syntax.specs.Disassembly.{has_text, operand_text, more_operands, operands_after_name, word_directive, disassembly};
+ghost use Rattle.rsp_dis.specs.TextLength.{is_short};
 
 use crate::line::Line;
 use crate::numbers::push_hex4;
-use crate::operand::{is_reached, push_operand};
+use crate::operand::{has_text, push_operand};
 use rsp_decode::{Operand, TableRow, is_canonical};
-use rsp_text::select_row;
+use rsp_syntax::select_row;
 
 /// Whether each operand has a text: none is a branch out of IMEM.
-fn are_reached(kinds: &[Operand], word: u32, address: u16) -> bool
+fn have_texts(kinds: &[Operand], word: u32, address: u16) -> bool
     requires { address < 4096 }
-    ensures { result ≡ list_all (reaches word address) kinds.now }
+    ensures { result ≡ list_all (has_text word address) kinds.now }
 {
     for kind in kinds {
-        if !is_reached(*kind, word, address) {
+        if !has_text(*kind, word, address) {
             return false;
         }
     }
@@ -44,7 +44,7 @@ fn push_operands(line: &mut Line, kinds: &[Operand], word: u32, address: u16)
     requires kinds { list_all is_row_operand kinds.now ≡ true }
     requires address { address < 4096 }
     requires room { array_string_len line.old + 13 * length kinds.now ≤ 64 }
-    ensures { line.new.bytes ≡ line.old.bytes ++ behind_name (map (operand_text word address) kinds.now) }
+    ensures { line.new.bytes ≡ line.old.bytes ++ operands_after_name (map (operand_text word address) kinds.now) }
 {
     if let [first, more @ ..] = kinds {
         line.push_str(" ");
@@ -57,7 +57,7 @@ fn push_operands(line: &mut Line, kinds: &[Operand], word: u32, address: u16)
 fn row_line(row: TableRow, word: u32, address: u16) -> Line
     requires row { is_short (entry row) ≡ true }
     requires address { address < 4096 }
-    ensures { result.bytes ≡ row.name.now ++ behind_name (map (operand_text word address) row.operands.now) }
+    ensures { result.bytes ≡ row.name.now ++ operands_after_name (map (operand_text word address) row.operands.now) }
 {
     let mut line = Line::new();
     line.push_str(row.name);
@@ -67,7 +67,7 @@ fn row_line(row: TableRow, word: u32, address: u16) -> Line
 
 /// A word as a number.
 fn plain_line(word: u32) -> Line
-    ensures { result.bytes ≡ plain_word word }
+    ensures { result.bytes ≡ word_directive word }
 {
     let mut line = Line::new();
     line.push_str(".word 0x");
@@ -85,7 +85,7 @@ fn plain_line(word: u32) -> Line
 /// - Every other word is its instruction's name and operands, in lower case.
 pub fn text_of(word: u32, address: u16) -> Line
     requires { address < 4096 }
-    ensures { result.bytes ≡ spell word address }
+    ensures { result.bytes ≡ disassembly word address }
 {
     if word == 0 {
         let mut line = Line::new();
@@ -93,7 +93,7 @@ pub fn text_of(word: u32, address: u16) -> Line
         return line;
     }
     match select_row(word) {
-        Some(row) if is_canonical(word) && are_reached(row.operands, word, address) => {
+        Some(row) if is_canonical(word) && have_texts(row.operands, word, address) => {
             row_line(row, word, address)
         }
         _ => plain_line(word),

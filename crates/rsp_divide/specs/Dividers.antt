@@ -20,8 +20,8 @@ divided d q = record {
 }
 
 -- DIV_OUT is written to the lane, and the source to DIV_IN; the loaded flag is set
-abbrev pub half_taken : Divider → ℕ → Division
-half_taken d source = record { lane = d.output; divider = record { input = source; output = d.output; loaded = true } }
+abbrev pub half_exchange : Divider → ℕ → Division
+half_exchange d source = record { lane = d.output; divider = record { input = source; output = d.output; loaded = true } }
 
 -- a lane is written; the divider is kept
 abbrev pub lane_only : Divider → ℕ → Division

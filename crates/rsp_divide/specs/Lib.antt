@@ -2,4 +2,4 @@
 pub mod Dividers
 pub mod Entries
 pub mod Quotients
-pub mod Rows
+pub mod DivideRules

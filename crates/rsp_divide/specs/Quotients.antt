@@ -29,8 +29,8 @@ unfoldable pub root_bits : ℕ → ℕ
 root_bits y = scaled (root_entry (root_index y)) ((31 - zeros y) / 2)
 
 -- the magnitude of a negative number; it counts one less below -32768
-abbrev pub size_of : ℤ → ℕ
-size_of x = if int_lt x (negsuc 32767) then unsigned_abs x - 1 else unsigned_abs x
+abbrev pub magnitude_of : ℤ → ℕ
+magnitude_of x = if int_lt x (negsuc 32767) then unsigned_abs x - 1 else unsigned_abs x
 
 -- the quotient of a signed number: 7FFFFFFF hex for 0, FFFF0000 hex for -32768, `bits` of a positive number; for
 -- another negative number the complement of `bits` of its magnitude
@@ -38,7 +38,7 @@ abbrev pub quotient_of : (ℕ → ℕ) → ℤ → ℤ
 quotient_of bits x =
     if int_eq x (pos 0) then pos 2147483647
     else if int_eq x (negsuc 32767) then negsuc 65535
-    else if int_lt x (pos 0) then negsuc 0 -ℤ pos (bits (size_of x))
+    else if int_lt x (pos 0) then negsuc 0 -ℤ pos (bits (magnitude_of x))
     else pos (bits (unsigned_abs x))
 
 -- the reciprocal of a signed number

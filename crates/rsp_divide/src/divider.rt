@@ -1,5 +1,5 @@
 ghost use Rattle.std.specs.Prelude.{◌≡◌};
-ghost use Rattle.rsp_divide.specs.Dividers.{no_divider, divided, half_taken, operand};
+ghost use Rattle.rsp_divide.specs.Dividers.{no_divider, divided, half_exchange, operand};
 ghost use Rattle.rsp_numbers.specs.Numbers.{s16};
 
 /// What the divide instructions keep from one to the next.
@@ -53,8 +53,8 @@ impl Divider {
     /// Writes the source to DIV_IN, sets the loaded flag, and returns DIV_OUT.
     #[inline]
     pub(crate) fn load(&mut self, source: u16) -> u16
-        ensures lane { result ≡ (half_taken self.old source).lane }
-        ensures divider { self.new ≡ (half_taken self.old source).divider }
+        ensures lane { result ≡ (half_exchange self.old source).lane }
+        ensures divider { self.new ≡ (half_exchange self.old source).divider }
     {
         self.input = source;
         self.loaded = true;

@@ -1,7 +1,7 @@
 ghost use Rattle.std.specs.Prelude.{◌≡◌, ◌<◌};
 ghost use Rattle.rsp_lanes.specs.Lanes.{selected};
 ghost use Rattle.rsp_acc.specs.Planes.{with_low};
-ghost use Rattle.rsp_divide.specs.Rows.{division, lane_written, divider_after};
+ghost use Rattle.rsp_divide.specs.DivideRules.{division, vd_after, divider_after};
 
 use crate::Divider;
 use crate::divider::signed;
@@ -15,7 +15,7 @@ use rsp_lanes::{VReg, select};
 /// The source is lane `e` modulo 8 of `vt`, the register as it was before the instruction. The lanes of `vt` that
 /// element `e` selects are written to the low sixteen bits of the accumulators. Requires `e` below 16 and `de` below 8.
 #[inline(always)]
-#[tactic(auto, unfolding(crate::specs::Rows::lane_written, crate::specs::Rows::divider_after))]
+#[tactic(auto, unfolding(crate::specs::DivideRules::vd_after, crate::specs::DivideRules::divider_after))]
 pub fn divide_op<A: Acc>(
     op: DivideOp,
     e: usize,
@@ -27,7 +27,7 @@ pub fn divide_op<A: Acc>(
 )
     requires element { e < 16 }
     requires lane { de < 8 }
-    ensures lane { vd.new ≡ lane_written op e de vt.now divider.old vd.old }
+    ensures lane { vd.new ≡ vd_after op e de vt.now divider.old vd.old }
     ensures divider { divider.new ≡ divider_after op e de vt.now divider.old }
     ensures accumulator { A.numbers acc.new ≡ with_low (A.numbers acc.old) (selected vt.now e) }
 {

@@ -179,8 +179,8 @@ each_byte_same f g e =
     ) refl
 
 -- consecutive bytes
-pub turned : (f : ℕ → ℕ) (bytes : List ℕ) (start : ℕ) → bytes ≡ each_byte f → each_byte (λ k. get_or bytes ((start + k) % 16) 0) ≡ each_byte (λ k. f ((start + k) % 16))
-turned f bytes start e = each_byte_same _ _ (λ k h. ap (λ bs. get_or bs ((start + k) % 16) 0) e ∙ byte_of f ((start + k) % 16) (omega arith))
+pub rotated : (f : ℕ → ℕ) (bytes : List ℕ) (start : ℕ) → bytes ≡ each_byte f → each_byte (λ k. get_or bytes ((start + k) % 16) 0) ≡ each_byte (λ k. f ((start + k) % 16))
+rotated f bytes start e = each_byte_same _ _ (λ k h. ap (λ bs. get_or bs ((start + k) % 16) 0) e ∙ byte_of f ((start + k) % 16) (omega arith))
 
 -- the high bytes of a register and of its double
 abbrev double : List ℕ → List ℕ

@@ -5,7 +5,7 @@ pub mod Carry
 pub mod Kit
 pub mod Saturation
 pub mod Masks
-pub mod Places
+pub mod ByteTables
 pub mod Wide
 pub mod Products
 pub mod Signs

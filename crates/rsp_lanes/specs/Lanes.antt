@@ -15,12 +15,12 @@ abbrev pub mask_lane : Bool → ℤ
 mask_lane b = cond b (negsuc 0) (pos 0)
 
 -- the lanes of a mask as truth values
-abbrev pub truths : List ℤ → List Bool
-truths m = map is_negative m
+abbrev pub truth_values : List ℤ → List Bool
+truth_values m = map is_negative m
 
 -- eight lanes, each all ones or 0
 abbrev pub IsMask : List ℤ → Type 0
-IsMask m = (length m ≡ 8) × (map mask_lane (truths m) ≡ m)
+IsMask m = (length m ≡ 8) × (map mask_lane (truth_values m) ≡ m)
 
 -- 1 if it is set, else 0
 abbrev pub bit : Bool → ℕ

@@ -3,7 +3,7 @@
 ghost use Rattle.std.specs.Prelude.{◌≡◌, ◌+◌, ◌-◌, ◌*◌, ◌%◌, ◌<◌, ◌≤◌, slice_index};
 ghost use Rattle.rsp_lanes.specs.Lanes.{each_lane, register_byte};
 ghost use Rattle.rsp_lanes.specs.Bytes.{each_byte, of_bytes, packed_byte, with_register_bytes};
-ghost use Rattle.rsp_lanes.specs.Swap.{byte_at_place};
+ghost use Rattle.rsp_lanes.specs.HostByteOrder.{byte_at_position};
 
 use crate::{Bytes16, VReg};
 use std::simd::prelude::*;
@@ -38,7 +38,7 @@ const FROM_LAST: [u8; 16] = [14, 15, 12, 13, 10, 11, 8, 9, 6, 7, 4, 5, 2, 3, 0, 
 #[inline(always)]
 fn distances(i: u8) -> u8x16
     requires { i < 32 }
-    ensures { result ≡ each_byte (λ p. (byte_at_place p + (256 - i)) % 256) }
+    ensures { result ≡ each_byte (λ p. (byte_at_position p + (256 - i)) % 256) }
 {
     let first = usize::from(i);
     u8x16::from_slice(&DISTANCES[first..first + 16]).swizzle_dyn(u8x16::from_array(FROM_LAST))
@@ -55,7 +55,7 @@ fn sixteen(places: &[u8; 31], start: u8) -> u8x16
 
 /// The bytes rotated: byte k is byte `start + k` modulo 16.
 #[inline(always)]
-fn turned(bytes: u8x16, start: u8) -> u8x16
+fn rotated(bytes: u8x16, start: u8) -> u8x16
     ensures { result ≡ each_byte (λ k. slice_index bytes ((start + k) % 16)) }
 {
     bytes.swizzle_dyn(sixteen(&PLACES, start))
@@ -90,24 +90,24 @@ impl VReg {
     /// The high bytes of lanes 0 to 7, and then bits 14 to 7 of lanes 0 to 7: these sixteen from number `i` modulo 16
     /// on, and after the last from the first on.
     #[inline(always)]
-    pub fn packed_from(&self, i: u8) -> [u8; 16]
+    pub fn packed_bytes_from(&self, i: u8) -> [u8; 16]
         ensures { result ≡ each_byte (λ k. packed_byte self.now ((i + k) % 16)) }
     {
         let lanes = self.to_simd();
         let doubled = lanes + lanes;
         let (_, high) = lanes.to_le_bytes().deinterleave(doubled.to_le_bytes());
-        turned(high, i).to_array()
+        rotated(high, i).to_array()
     }
 
     /// The register whose lane k is byte `start + k` modulo 16 of `source`, times `factor`.
     ///
     /// Requires a factor of at most 256.
     #[inline(always)]
-    pub fn from_packed(source: Bytes16, start: u8, factor: u16) -> VReg
+    pub fn unpacked_from(source: Bytes16, start: u8, factor: u16) -> VReg
         requires { factor ≤ 256 }
         ensures { result ≡ each_lane (λ i. slice_index source ((start + i) % 16) * factor) }
     {
-        let bytes = turned(source.to_simd(), start);
+        let bytes = rotated(source.to_simd(), start);
         VReg::from_simd(bytes.extract::<0, 8>().cast::<u16>() * u16x8::splat(factor))
     }
 
@@ -116,16 +116,16 @@ impl VReg {
     pub fn from_halves(source: Bytes16, start: u8) -> VReg
         ensures { result ≡ each_lane (λ i. slice_index source ((start + 2 * i) % 16) * 128) }
     {
-        let pairs = u16x8::from_le_bytes(turned(source.to_simd(), start));
+        let pairs = u16x8::from_le_bytes(rotated(source.to_simd(), start));
         VReg::from_simd(pairs << u16x8::splat(8) >> u16x8::splat(1))
     }
 
     /// The register whose byte k is byte `start + k` modulo 16 of `source`.
     #[inline(always)]
-    pub fn from_turned(source: Bytes16, start: u8) -> VReg
+    pub fn from_rotated(source: Bytes16, start: u8) -> VReg
         ensures { result ≡ of_bytes (λ k. slice_index source ((start + k) % 16)) }
     {
-        let bytes = turned(source.to_simd(), start);
+        let bytes = rotated(source.to_simd(), start);
         VReg::from_simd(u16x8::from_le_bytes(bytes.swizzle_dyn(u8x16::from_array(ORDER))))
     }
 }

@@ -1,6 +1,6 @@
 ghost use Rattle.std.specs.Prelude.{◌≡◌, ◌<◌, ◌&&◌, ◌||◌, not, length, slice_index, slice_index_or, false, cond};
 ghost use Rattle.std.specs.Simd.Lanes.{mask_l};
-ghost use Rattle.rsp_lanes.specs.Lanes.{each_lane, IsMask, truths, bool_xor};
+ghost use Rattle.rsp_lanes.specs.Lanes.{each_lane, IsMask, truth_values, bool_xor};
 ghost use Rattle.rsp_numbers.specs.Numbers.{bit_set};
 
 use crate::VReg;
@@ -15,12 +15,12 @@ pub struct Mask8 {
 
 impl Model for Mask8 {
     ghost use Rattle.std.specs.Prelude.{List, Bool, map};
-    ghost use Rattle.rsp_lanes.specs.Lanes.{IsMask, truths, mask_lane};
+    ghost use Rattle.rsp_lanes.specs.Lanes.{IsMask, truth_values, mask_lane};
     ghost use Rattle.std.proofs.Common.{ap};
 
     ghost Value = { List Bool };
 
-    ghost view = { λ m. truths m.lanes };
+    ghost view = { λ m. truth_values m.lanes };
 
     ghost invariant = { λ m. IsMask m.lanes };
 
@@ -36,7 +36,7 @@ impl Mask8 {
     #[inline(always)]
     pub fn from_simd(lanes: mask16x8) -> Self
         requires { IsMask lanes }
-        ensures { result ≡ truths lanes }
+        ensures { result ≡ truth_values lanes }
     {
         Mask8 { lanes }
     }
@@ -44,7 +44,7 @@ impl Mask8 {
     /// The eight lanes, each all ones if it is set, else 0.
     #[inline(always)]
     pub fn to_simd(self) -> mask16x8
-        ensures value { truths result ≡ self }
+        ensures value { truth_values result ≡ self }
         ensures mask { IsMask result }
         ensures eight { length self ≡ 8 }
     {

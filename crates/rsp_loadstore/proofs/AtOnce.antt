@@ -11,8 +11,8 @@ use Rattle.rsp_lanes.proofs.ByteOrder.{byte_of}
 use Rattle.rsp_lanes.proofs.Kit.{lane_of}
 use Rattle.rsp_memory.proofs.Wraps.{with_byte-wrapped}
 use Rattle.rsp_loadstore.specs.File.{vector, bits_14_to_7}
-use Rattle.rsp_loadstore.specs.Stores.{Store, from_byte, from_bits_14_to_7, stored, after_store, packed, unsigned_packed}
-use Rattle.rsp_loadstore.specs.Pairs.{for_each, place}
+use Rattle.rsp_loadstore.specs.Stores.{Store, from_byte, from_bits_14_to_7, stored, after_store, spv_pair, suv_pair}
+use Rattle.rsp_loadstore.specs.Pairs.{for_each, wrapped_address}
 use Rattle.rsp_loadstore.proofs.Pairs.{store_none, store_more}
 
 length-each_byte : (f : ℕ → ℕ) → length (each_byte f) ≡ 16
@@ -56,7 +56,7 @@ bits_are v j h =
     let q : (2 * j + 1) % 2 ≡ 1 = omega arith in
     rw (m, e, p, f, q) (omega arith)
 
-packed_pair : (file : List (List ℕ)) (m : List ℕ) (vt j a : ℕ) → j < 16 → stored file m (packed vt j a) ≡ with_byte m a (packed_byte (vector file vt) j)
+packed_pair : (file : List (List ℕ)) (m : List ℕ) (vt j a : ℕ) → j < 16 → stored file m (spv_pair vt j a) ≡ with_byte m a (packed_byte (vector file vt) j)
 unfolding stored
 packed_pair file m vt j a h = elim (cases_lt j 8) [
   | inl l ↦
@@ -69,12 +69,12 @@ packed_pair file m vt j a h = elim (cases_lt j 8) [
 ]
 
 pub packed_stored : (file : List (List ℕ)) (m : List ℕ) (vt e a n : ℕ) → n ≤ 16
-    → with_bytes m a (take n (each_byte (λ k. packed_byte (vector file vt) ((e + k) % 16)))) ≡ after_store file m (for_each n (λ k. packed vt ((e + k) % 16) (a + k)))
-packed_stored file m vt e a n h = stored_at_once file m (λ k. packed vt ((e + k) % 16) (a + k)) (λ k. packed_byte (vector file vt) ((e + k) % 16)) a n h
+    → with_bytes m a (take n (each_byte (λ k. packed_byte (vector file vt) ((e + k) % 16)))) ≡ after_store file m (for_each n (λ k. spv_pair vt ((e + k) % 16) (a + k)))
+packed_stored file m vt e a n h = stored_at_once file m (λ k. spv_pair vt ((e + k) % 16) (a + k)) (λ k. packed_byte (vector file vt) ((e + k) % 16)) a n h
     (λ m k. packed_pair file m vt ((e + k) % 16) (a + k) (omega arith))
 
 -- the two cases are exchanged if the numbers begin eight later
-unsigned_pair : (file : List (List ℕ)) (m : List ℕ) (vt j a : ℕ) → j < 16 → stored file m (unsigned_packed vt j a) ≡ with_byte m a (packed_byte (vector file vt) ((j + 8) % 16))
+unsigned_pair : (file : List (List ℕ)) (m : List ℕ) (vt j a : ℕ) → j < 16 → stored file m (suv_pair vt j a) ≡ with_byte m a (packed_byte (vector file vt) ((j + 8) % 16))
 unfolding stored
 unsigned_pair file m vt j a h = elim (cases_lt j 8) [
   | inl l ↦
@@ -91,8 +91,8 @@ unsigned_pair file m vt j a h = elim (cases_lt j 8) [
 ]
 
 pub unsigned_stored : (file : List (List ℕ)) (m : List ℕ) (vt e a n : ℕ) → n ≤ 16
-    → with_bytes m a (take n (each_byte (λ k. packed_byte (vector file vt) ((e + 8 + k) % 16)))) ≡ after_store file m (for_each n (λ k. unsigned_packed vt ((e + k) % 16) (a + k)))
-unsigned_stored file m vt e a n h = stored_at_once file m (λ k. unsigned_packed vt ((e + k) % 16) (a + k)) (λ k. packed_byte (vector file vt) ((e + 8 + k) % 16)) a n h
+    → with_bytes m a (take n (each_byte (λ k. packed_byte (vector file vt) ((e + 8 + k) % 16)))) ≡ after_store file m (for_each n (λ k. suv_pair vt ((e + k) % 16) (a + k)))
+unsigned_stored file m vt e a n h = stored_at_once file m (λ k. suv_pair vt ((e + k) % 16) (a + k)) (λ k. packed_byte (vector file vt) ((e + 8 + k) % 16)) a n h
     (λ m k.
     let q : ((e + k) % 16 + 8) % 16 ≡ (e + 8 + k) % 16 = omega arith in
     unsigned_pair file m vt ((e + k) % 16) (a + k) (omega arith) ∙ ap (λ j. with_byte m (a + k) (packed_byte (vector file vt) j)) q)
@@ -121,16 +121,16 @@ bits_of v e j h =
 
 -- a pair of a store of halves
 abbrev pub pair_of : ℕ → ℕ → ℕ → ℕ → Store
-pair_of vt e a j = from_bits_14_to_7 vt ((e + 2 * j) % 16) (place a (2 * j))
+pair_of vt e a j = from_bits_14_to_7 vt ((e + 2 * j) % 16) (wrapped_address a (2 * j))
 
 pub halves_more : (file : List (List ℕ)) (m now then bytes : List ℕ) (vt e a j : ℕ) → j < 8
     → bytes ≡ each_byte (λ k. packed_byte (each_lane (λ i. get_or (each_byte (λ k. register_byte (vector file vt) ((e + k) % 16))) (2 * i) 0 * 256 + get_or (each_byte (λ k. register_byte (vector file vt) ((e + k) % 16))) (2 * i + 1) 0)) ((8 + k) % 16))
     → now ≡ after_store file m (for_each j (pair_of vt e a))
-    → then ≡ with_byte now ((place a (2 * j)) % 4294967296) (get_or bytes j 0)
+    → then ≡ with_byte now ((wrapped_address a (2 * j)) % 4294967296) (get_or bytes j 0)
     → then ≡ after_store file m (for_each (j + 1) (pair_of vt e a))
 unfolding stored
 halves_more file m now then bytes vt e a j h b f g =
-    g ∙ with_byte-wrapped now (place a (2 * j)) (get_or bytes j 0)
-    ∙ ap (λ n. with_byte n (place a (2 * j)) (get_or bytes j 0)) f
-    ∙ ap (with_byte (after_store file m (for_each j (pair_of vt e a))) (place a (2 * j))) (ap (λ bs. get_or bs j 0) b ∙ bits_of (vector file vt) e j h)
+    g ∙ with_byte-wrapped now (wrapped_address a (2 * j)) (get_or bytes j 0)
+    ∙ ap (λ n. with_byte n (wrapped_address a (2 * j)) (get_or bytes j 0)) f
+    ∙ ap (with_byte (after_store file m (for_each j (pair_of vt e a))) (wrapped_address a (2 * j))) (ap (λ bs. get_or bs j 0) b ∙ bits_of (vector file vt) e j h)
     ∙ sym (store_more file m (pair_of vt e a) j)

@@ -6,7 +6,7 @@ use Rattle.std.proofs.lemmas.List.Sums.{fold-append}
 use Rattle.rsp_lanes.proofs.Kit.{below_eight}
 use Rattle.rsp_loadstore.proofs.Pairs.{fold_more}
 use Rattle.rsp_loadstore.specs.File.{vector, with_vector}
-use Rattle.rsp_loadstore.specs.Diagonal.{with_diagonal_lane, with_diagonal}
+use Rattle.rsp_loadstore.specs.TransposedLanes.{with_diagonal_lane, with_diagonal}
 
 -- steps that can be exchanged can be done in another order
 module _ {X : Type 0} (step : X → ℕ → X) (exchanged : (s : X) (i j : ℕ) → i ≢ j → step (step s i) j ≡ step (step s j) i) where

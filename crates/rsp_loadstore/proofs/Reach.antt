@@ -6,14 +6,14 @@ use Rattle.std.specs.List.{range_with_len}
 use Rattle.std.proofs.lemmas.List.{length-set}
 use Rattle.rsp_memory.specs.Memory.{bytes_at, with_bytes}
 use Rattle.rsp_memory.proofs.PutBack.{IsElsewhere, places, bytes-back, length-with_byte, with_byte-elsewhere, elsewhere-at}
-use Rattle.rsp_decode.specs.declared.vector.VectorLoadRow.{VectorLoadRow}
-use Rattle.rsp_decode.specs.declared.vector.VectorLoadRow.TheVariants.{Lbv, Lsv, Llv, Ldv, Lqv, Lrv, Lpv, Luv, Lhv, Lfv, Ltv}
-use Rattle.rsp_decode.specs.declared.vector.VectorStoreRow.{VectorStoreRow}
-use Rattle.rsp_decode.specs.declared.vector.VectorStoreRow.TheVariants.{Sbv, Ssv, Slv, Sdv, Sqv, Srv, Spv, Suv, Shv, Sfv, Swv, Stv}
+use Rattle.rsp_decode.specs.declared.vector.VectorLoadOp.{VectorLoadOp}
+use Rattle.rsp_decode.specs.declared.vector.VectorLoadOp.TheVariants.{Lbv, Lsv, Llv, Ldv, Lqv, Lrv, Lpv, Luv, Lhv, Lfv, Ltv}
+use Rattle.rsp_decode.specs.declared.vector.VectorStoreOp.{VectorStoreOp}
+use Rattle.rsp_decode.specs.declared.vector.VectorStoreOp.TheVariants.{Sbv, Ssv, Slv, Sdv, Sqv, Srv, Spv, Suv, Shv, Sfv, Swv, Stv}
 use Rattle.rsp_loadstore.specs.File.{with_vector}
-use Rattle.rsp_loadstore.specs.Pairs.{for_each, group}
+use Rattle.rsp_loadstore.specs.Pairs.{for_each, group_start}
 use Rattle.rsp_loadstore.specs.Loads.{Load, to_byte, to_lane, loaded, after_load, load_pairs}
-use Rattle.rsp_loadstore.specs.Stores.{Store, from_byte, from_bits_14_to_7, high_byte, shifted, packed, unsigned_packed, stored, after_store, store_pairs}
+use Rattle.rsp_loadstore.specs.Stores.{Store, from_byte, from_bits_14_to_7, high_byte_pair, bits_14_to_7_pair, spv_pair, suv_pair, stored, after_store, store_pairs}
 use Rattle.rsp_loadstore.specs.Reach.{writes_group, window_of}
 
 -- what holds of each member of a list
@@ -38,14 +38,14 @@ address_of (from_bits_14_to_7 r i a) = a
 abbrev IsInside : ℕ → Store → Type 0
 IsInside w p = (w ≤ address_of p) × (address_of p < w + 16)
 
-address_packed : (vt j a : ℕ) → address_of (packed vt j a) ≡ a
-address_packed vt j a = elim (nat_lt j 8) as (λ b. address_of (if b then high_byte vt j a else shifted vt (j % 8) a) ≡ a) [ true ↦ refl | false ↦ refl ]
+address_packed : (vt j a : ℕ) → address_of (spv_pair vt j a) ≡ a
+address_packed vt j a = elim (nat_lt j 8) as (λ b. address_of (if b then high_byte_pair vt j a else bits_14_to_7_pair vt (j % 8) a) ≡ a) [ true ↦ refl | false ↦ refl ]
 
-address_unsigned : (vt j a : ℕ) → address_of (unsigned_packed vt j a) ≡ a
-address_unsigned vt j a = elim (nat_lt j 8) as (λ b. address_of (if b then shifted vt j a else high_byte vt (j % 8) a) ≡ a) [ true ↦ refl | false ↦ refl ]
+address_unsigned : (vt j a : ℕ) → address_of (suv_pair vt j a) ≡ a
+address_unsigned vt j a = elim (nat_lt j 8) as (λ b. address_of (if b then bits_14_to_7_pair vt j a else high_byte_pair vt (j % 8) a) ≡ a) [ true ↦ refl | false ↦ refl ]
 
 -- each pair of a store is inside its window
-stores_inside : (row : VectorStoreRow) (vt e a : ℕ) → Each (IsInside (window_of row a)) (store_pairs row vt e a)
+stores_inside : (row : VectorStoreOp) (vt e a : ℕ) → Each (IsInside (window_of row a)) (store_pairs row vt e a)
 unfolding store_pairs
 stores_inside Sbv vt e a = each_for_each (IsInside (window_of Sbv a)) 1 _ (λ k h. (omega arith, omega arith))
 stores_inside Ssv vt e a = each_for_each (IsInside (window_of Ssv a)) 2 _ (λ k h. (omega arith, omega arith))
@@ -53,10 +53,10 @@ stores_inside Slv vt e a = each_for_each (IsInside (window_of Slv a)) 4 _ (λ k 
 stores_inside Sdv vt e a = each_for_each (IsInside (window_of Sdv a)) 8 _ (λ k h. (omega arith, omega arith))
 stores_inside Sqv vt e a = each_for_each (IsInside (window_of Sqv a)) (16 - a % 16) _ (λ k h. (omega arith, omega arith))
 stores_inside Srv vt e a = each_for_each (IsInside (window_of Srv a)) (a % 16) _ (λ k h. (omega arith, omega arith))
-stores_inside Spv vt e a = each_for_each (IsInside (window_of Spv a)) 8 (λ k. packed vt ((e + k) % 16) (a + k)) (λ k h.
+stores_inside Spv vt e a = each_for_each (IsInside (window_of Spv a)) 8 (λ k. spv_pair vt ((e + k) % 16) (a + k)) (λ k h.
     let p = address_packed vt ((e + k) % 16) (a + k) in
     (omega (arith, p), omega (arith, p)))
-stores_inside Suv vt e a = each_for_each (IsInside (window_of Suv a)) 8 (λ k. unsigned_packed vt ((e + k) % 16) (a + k)) (λ k h.
+stores_inside Suv vt e a = each_for_each (IsInside (window_of Suv a)) 8 (λ k. suv_pair vt ((e + k) % 16) (a + k)) (λ k h.
     let p = address_unsigned vt ((e + k) % 16) (a + k) in
     (omega (arith, p), omega (arith, p)))
 stores_inside Shv vt e a = each_for_each (IsInside (window_of Shv a)) 8 _ (λ k h. (omega arith, omega arith))
@@ -89,7 +89,7 @@ after_store-elsewhere file m (p ∷ ps) w r inside there =
     after_store-elsewhere file (stored file m p) ps w r inside.1 there ∙ stored-elsewhere file m p r (rw e at at)
 
 -- a store undone: the old sixteen bytes of its window are written back
-pub stored-back : (row : VectorStoreRow) (vt e a : ℕ) (file : List (List ℕ)) (m : List ℕ)
+pub stored-back : (row : VectorStoreOp) (vt e a : ℕ) (file : List (List ℕ)) (m : List ℕ)
     → with_bytes (after_store file m (store_pairs row vt e a)) (window_of row a) (bytes_at m (window_of row a) 16) ≡ m
 stored-back row vt e a file m =
     bytes-back m _ (window_of row a) 16 (length-after_store file m (store_pairs row vt e a))
@@ -101,7 +101,7 @@ register_of (to_byte r i a) = r
 register_of (to_lane r i f a) = r
 
 abbrev pub first_of : Bool → ℕ → ℕ
-first_of eight vt = if eight then group vt else vt
+first_of eight vt = if eight then group_start vt else vt
 
 abbrev pub count_of : Bool → ℕ
 count_of eight = if eight then 8 else 1
@@ -110,7 +110,7 @@ abbrev IsAmong : ℕ → ℕ → Load → Type 0
 IsAmong first n p = (first ≤ register_of p) × (register_of p < first + n)
 
 -- each pair of a load is among its registers
-loads_among : (row : VectorLoadRow) (vt e a : ℕ) → Each (IsAmong (first_of (writes_group row) vt) (count_of (writes_group row))) (load_pairs row vt e a)
+loads_among : (row : VectorLoadOp) (vt e a : ℕ) → Each (IsAmong (first_of (writes_group row) vt) (count_of (writes_group row))) (load_pairs row vt e a)
 unfolding load_pairs
 loads_among Lbv vt e a = each_for_each (IsAmong vt 1) (min 1 (16 - e)) _ (λ k h. (omega arith, omega arith))
 loads_among Lsv vt e a = each_for_each (IsAmong vt 1) (min 2 (16 - e)) _ (λ k h. (omega arith, omega arith))
@@ -122,7 +122,7 @@ loads_among Lpv vt e a = each_for_each (IsAmong vt 1) 8 _ (λ k h. (omega arith,
 loads_among Luv vt e a = each_for_each (IsAmong vt 1) 8 _ (λ k h. (omega arith, omega arith))
 loads_among Lhv vt e a = each_for_each (IsAmong vt 1) 8 _ (λ k h. (omega arith, omega arith))
 loads_among Lfv vt e a = each_for_each (IsAmong vt 1) 4 _ (λ k h. (omega arith, omega arith))
-loads_among Ltv vt e a = each_for_each (IsAmong (group vt) 8) 16 _ (λ k h. (omega arith, omega arith))
+loads_among Ltv vt e a = each_for_each (IsAmong (group_start vt) 8) 16 _ (λ k h. (omega arith, omega arith))
 
 length-loaded : (m : List ℕ) (file : List (List ℕ)) (p : Load) → length (loaded m file p) ≡ length file
 unfolding loaded with_vector
@@ -149,10 +149,10 @@ after_load-elsewhere m file (p ∷ ps) first n r among there =
     after_load-elsewhere m (loaded m file p) ps first n r among.1 there ∙ loaded-elsewhere m file p r (rw e at at)
 
 -- a load keeps all registers but its own, and their number
-pub length-load : (row : VectorLoadRow) (m : List ℕ) (file : List (List ℕ)) (vt e a : ℕ) → length (after_load m file (load_pairs row vt e a)) ≡ length file
+pub length-load : (row : VectorLoadOp) (m : List ℕ) (file : List (List ℕ)) (vt e a : ℕ) → length (after_load m file (load_pairs row vt e a)) ≡ length file
 length-load row m file vt e a = length-after_load m file (load_pairs row vt e a)
 
-pub load-elsewhere : (row : VectorLoadRow) (m : List ℕ) (file : List (List ℕ)) (vt e a r : ℕ)
+pub load-elsewhere : (row : VectorLoadOp) (m : List ℕ) (file : List (List ℕ)) (vt e a r : ℕ)
     → ((j : ℕ) → j < count_of (writes_group row) → r ≢ first_of (writes_group row) vt + j)
     → get_or (after_load m file (load_pairs row vt e a)) r [] ≡ get_or file r []
 load-elsewhere row m file vt e a r there =

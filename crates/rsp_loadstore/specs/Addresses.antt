@@ -14,7 +14,7 @@ abbrev pub displaced : ℕ → ℕ → ℕ → ℕ
 displaced base offset scale = modulo (pos base +ℤ (signed_offset offset *ℤ pos scale)) (2 ^ 32)
 
 -- the address, from the value of the base register; for another instruction that value
-unfoldable pub transfer_address : Inst → ℕ → ℕ
-transfer_address (VectorLoad row f) value = displaced value f.offset (vector_load_scale row)
-transfer_address (VectorStore row f) value = displaced value f.offset (vector_store_scale row)
-transfer_address _ value = value
+unfoldable pub vector_address : Inst → ℕ → ℕ
+vector_address (VectorLoad row f) value = displaced value f.offset (vector_load_scale row)
+vector_address (VectorStore row f) value = displaced value f.offset (vector_store_scale row)
+vector_address _ value = value

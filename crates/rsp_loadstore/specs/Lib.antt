@@ -6,5 +6,5 @@ pub mod Loads
 pub mod Stores
 pub mod Moves
 pub mod Controls
-pub mod Diagonal
+pub mod TransposedLanes
 pub mod Reach

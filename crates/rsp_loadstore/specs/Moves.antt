@@ -1,11 +1,11 @@
 -- Moves between a scalar register and a vector register.
 use Rattle.std.specs.Prelude.{ℕ, ◌+◌, ◌*◌, ◌/◌, ◌%◌, List, nat_lt, if◌then◌else◌}
 use Rattle.std.specs.Int.{w16}
-use Rattle.rsp_numbers.specs.Numbers.{extended}
+use Rattle.rsp_numbers.specs.Numbers.{sign_extended}
 use Rattle.rsp_lanes.specs.Lanes.{register_byte, with_register_byte}
 use Rattle.rsp_decode.specs.declared.inst.Inst.{Inst}
 use Rattle.rsp_decode.specs.declared.inst.Inst.TheVariants.{MoveVector}
-use Rattle.rsp_decode.specs.declared.scalar.MoveRow.TheVariants.{From, To}
+use Rattle.rsp_decode.specs.declared.scalar.MoveOp.TheVariants.{From, To}
 use Rattle.rsp_loadstore.specs.File.{vector, with_vector}
 
 -- the sixteen bits at bytes e and e + 1, modulo 16
@@ -20,10 +20,10 @@ with_register_half v e value =
 
 -- what MFC2 reads; 0 for another instruction
 unfoldable pub moved_value : Inst → List (List ℕ) → ℕ
-moved_value (MoveVector From rt n element) file = extended w16 (register_half (vector file n) element)
+moved_value (MoveVector From rt n element) file = sign_extended w16 (register_half (vector file n) element)
 moved_value _ file = 0
 
 -- the registers after MTC2 of a value; another instruction changes none
-unfoldable pub moved_file : Inst → ℕ → List (List ℕ) → List (List ℕ)
-moved_file (MoveVector To rt n element) value file = with_vector file n (with_register_half (vector file n) element value)
-moved_file _ value file = file
+unfoldable pub file_after_move : Inst → ℕ → List (List ℕ) → List (List ℕ)
+file_after_move (MoveVector To rt n element) value file = with_vector file n (with_register_half (vector file n) element value)
+file_after_move _ value file = file

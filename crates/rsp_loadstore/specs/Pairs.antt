@@ -8,24 +8,24 @@ unfoldable pub for_each : {P : Type 0} → ℕ → (ℕ → P) → List P
 for_each n f = map f (range_with_len 0 n)
 
 -- the address of the quadword, and of the doubleword, that an address is in
-abbrev pub line : ℕ → ℕ
-line a = a - a % 16
+abbrev pub quadword_start : ℕ → ℕ
+quadword_start a = a - a % 16
 
-abbrev pub block : ℕ → ℕ
-block a = a - a % 8
+abbrev pub doubleword_start : ℕ → ℕ
+doubleword_start a = a - a % 8
 
 -- the address of byte k after a, among the sixteen bytes from a's doubleword on: after the last comes the first
-abbrev pub place : ℕ → ℕ → ℕ
-place a k = block a + (a % 8 + k) % 16
+abbrev pub wrapped_address : ℕ → ℕ → ℕ
+wrapped_address a k = doubleword_start a + (a % 8 + k) % 16
 
 -- the first of the eight registers of vt's group: $v0, $v8, $v16 or $v24
-abbrev pub group : ℕ → ℕ
-group vt = vt - vt % 8
+abbrev pub group_start : ℕ → ℕ
+group_start vt = vt - vt % 8
 
 -- e rounded down to an even number
-abbrev pub even : ℕ → ℕ
-even e = e - e % 2
+abbrev pub down_to_even : ℕ → ℕ
+down_to_even e = e - e % 2
 
 -- k - n, modulo 16
-abbrev pub behind : ℕ → ℕ → ℕ
-behind k n = (k + 16 - n) % 16
+abbrev pub minus_modulo_16 : ℕ → ℕ → ℕ
+minus_modulo_16 k n = (k + 16 - n) % 16

@@ -5,9 +5,9 @@ use Rattle.rsp_memory.specs.Memory.{with_byte}
 use Rattle.rsp_lanes.specs.Lanes.{register_byte}
 use Rattle.rsp_decode.specs.declared.inst.Inst.{Inst}
 use Rattle.rsp_decode.specs.declared.inst.Inst.TheVariants.{VectorStore}
-use Rattle.rsp_decode.specs.declared.vector.VectorStoreRow.{VectorStoreRow}
-use Rattle.rsp_decode.specs.declared.vector.VectorStoreRow.TheVariants.{Sbv, Ssv, Slv, Sdv, Sqv, Srv, Spv, Suv, Shv, Sfv, Swv, Stv}
-use Rattle.rsp_loadstore.specs.Pairs.{for_each, line, place, group, even, behind}
+use Rattle.rsp_decode.specs.declared.vector.VectorStoreOp.{VectorStoreOp}
+use Rattle.rsp_decode.specs.declared.vector.VectorStoreOp.TheVariants.{Sbv, Ssv, Slv, Sdv, Sqv, Srv, Spv, Suv, Shv, Sfv, Swv, Stv}
+use Rattle.rsp_loadstore.specs.Pairs.{for_each, quadword_start, wrapped_address, group_start, down_to_even, minus_modulo_16}
 use Rattle.rsp_loadstore.specs.File.{vector, bits_14_to_7}
 
 -- one pair: a byte of a register, or bits 14 to 7 of the sixteen bits at a byte and the next, modulo 16, goes to an
@@ -26,44 +26,44 @@ unfoldable pub after_store : List (List ℕ) → List ℕ → List Store → Lis
 after_store file memory ps = fold (stored file) memory ps
 
 -- the high byte of a lane, and bits 14 to 7 of a lane
-abbrev pub high_byte : ℕ → ℕ → ℕ → Store
-high_byte vt lane a = from_byte vt (2 * lane) a
+abbrev pub high_byte_pair : ℕ → ℕ → ℕ → Store
+high_byte_pair vt lane a = from_byte vt (2 * lane) a
 
-abbrev pub shifted : ℕ → ℕ → ℕ → Store
-shifted vt lane a = from_bits_14_to_7 vt (2 * lane) a
+abbrev pub bits_14_to_7_pair : ℕ → ℕ → ℕ → Store
+bits_14_to_7_pair vt lane a = from_bits_14_to_7 vt (2 * lane) a
 
 -- SPV: for j below 8 the high byte of lane j, else bits 14 to 7 of lane j - 8; SUV exchanges the two cases
-abbrev pub packed : ℕ → ℕ → ℕ → Store
-packed vt j a = if nat_lt j 8 then high_byte vt j a else shifted vt (j % 8) a
+abbrev pub spv_pair : ℕ → ℕ → ℕ → Store
+spv_pair vt j a = if nat_lt j 8 then high_byte_pair vt j a else bits_14_to_7_pair vt (j % 8) a
 
-abbrev pub unsigned_packed : ℕ → ℕ → ℕ → Store
-unsigned_packed vt j a = if nat_lt j 8 then shifted vt j a else high_byte vt (j % 8) a
+abbrev pub suv_pair : ℕ → ℕ → ℕ → Store
+suv_pair vt j a = if nat_lt j 8 then bits_14_to_7_pair vt j a else high_byte_pair vt (j % 8) a
 
 -- The pairs of each store, by its register vt, its element e and its address a. SBV, SSV, SLV and SDV store 1, 2, 4 and
 -- 8 bytes, SQV as many as fit from a to the end of a's quadword, SRV as many as there are in the quadword before a. SPV
 -- and SUV pack lanes into bytes one after the other, SHV into every second byte, SFV four lanes into every fourth. SWV
 -- stores all bytes, rotated, and STV a lane of each of the eight registers of a group.
--- The numbers of register bytes, and the second argument of `place`, count modulo 16.
-unfoldable pub store_pairs : VectorStoreRow → ℕ → ℕ → ℕ → List Store
+-- The numbers of register bytes, and the second argument of `wrapped_address`, count modulo 16.
+unfoldable pub store_pairs : VectorStoreOp → ℕ → ℕ → ℕ → List Store
 store_pairs Sbv vt e a = for_each 1 (λ k. from_byte vt ((e + k) % 16) (a + k))
 store_pairs Ssv vt e a = for_each 2 (λ k. from_byte vt ((e + k) % 16) (a + k))
 store_pairs Slv vt e a = for_each 4 (λ k. from_byte vt ((e + k) % 16) (a + k))
 store_pairs Sdv vt e a = for_each 8 (λ k. from_byte vt ((e + k) % 16) (a + k))
 store_pairs Sqv vt e a = for_each (16 - a % 16) (λ k. from_byte vt ((e + k) % 16) (a + k))
-store_pairs Srv vt e a = for_each (a % 16) (λ k. from_byte vt (behind (e + k) (a % 16)) (line a + k))
-store_pairs Spv vt e a = for_each 8 (λ k. packed vt ((e + k) % 16) (a + k))
-store_pairs Suv vt e a = for_each 8 (λ k. unsigned_packed vt ((e + k) % 16) (a + k))
-store_pairs Shv vt e a = for_each 8 (λ j. from_bits_14_to_7 vt ((e + 2 * j) % 16) (place a (2 * j)))
-store_pairs Sfv vt e a = for_each 4 (λ j. shifted vt (e / 2 + j) (place a (4 * j)))
-store_pairs Swv vt e a = for_each 16 (λ j. from_byte vt ((e + j) % 16) (place a j))
-store_pairs Stv vt e a = for_each 16 (λ k. from_byte (group vt + k / 2) (behind k (even e)) (place a (behind k (even e))))
+store_pairs Srv vt e a = for_each (a % 16) (λ k. from_byte vt (minus_modulo_16 (e + k) (a % 16)) (quadword_start a + k))
+store_pairs Spv vt e a = for_each 8 (λ k. spv_pair vt ((e + k) % 16) (a + k))
+store_pairs Suv vt e a = for_each 8 (λ k. suv_pair vt ((e + k) % 16) (a + k))
+store_pairs Shv vt e a = for_each 8 (λ j. from_bits_14_to_7 vt ((e + 2 * j) % 16) (wrapped_address a (2 * j)))
+store_pairs Sfv vt e a = for_each 4 (λ j. bits_14_to_7_pair vt (e / 2 + j) (wrapped_address a (4 * j)))
+store_pairs Swv vt e a = for_each 16 (λ j. from_byte vt ((e + j) % 16) (wrapped_address a j))
+store_pairs Stv vt e a = for_each 16 (λ k. from_byte (group_start vt + k / 2) (minus_modulo_16 k (down_to_even e)) (wrapped_address a (minus_modulo_16 k (down_to_even e))))
 
 -- the elements of SFV are 0 and 8
-abbrev pub IsStoreElement : VectorStoreRow → ℕ → Type 0
+abbrev pub IsStoreElement : VectorStoreOp → ℕ → Type 0
 IsStoreElement Sfv e = (e ≡ 0) ⊎ (e ≡ 8)
 IsStoreElement _ e = Unit {0}
 
 -- the memory after a vector store at the address a; another instruction changes nothing
-unfoldable pub stored_memory : Inst → ℕ → List (List ℕ) → List ℕ → List ℕ
-stored_memory (VectorStore row f) a file memory = after_store file memory (store_pairs row f.vt f.element a)
-stored_memory _ a file memory = memory
+unfoldable pub memory_after_store : Inst → ℕ → List (List ℕ) → List ℕ → List ℕ
+memory_after_store (VectorStore row f) a file memory = after_store file memory (store_pairs row f.vt f.element a)
+memory_after_store _ a file memory = memory

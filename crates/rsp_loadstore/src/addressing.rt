@@ -1,15 +1,15 @@
 ghost use Rattle.std.specs.Prelude.{◌≡◌, ◌≤ℤ◌, pos, negsuc};
 ghost use Rattle.rsp_decode.specs.Table.{vector_load_scale, vector_store_scale};
-ghost use Rattle.rsp_loadstore.specs.Addresses.{signed_offset, displaced, transfer_address};
+ghost use Rattle.rsp_loadstore.specs.Addresses.{signed_offset, displaced, vector_address};
 
-use rsp_decode::{Inst, VectorLoadRow, VectorStoreRow};
+use rsp_decode::{Inst, VectorLoadOp, VectorStoreOp};
 
 /// The address of a vector load or store, modulo 2^32: `base`, the value of the base register, plus the signed
 /// seven-bit offset times the instruction's scale. For an instruction of another group it is `base`.
 #[inline(always)]
-#[tactic(auto, unfolding(crate::specs::Addresses::transfer_address))]
+#[tactic(auto, unfolding(crate::specs::Addresses::vector_address))]
 pub fn address(inst: &Inst, base: u32) -> u32
-    ensures { result ≡ transfer_address inst.now base }
+    ensures { result ≡ vector_address inst.now base }
 {
     match *inst {
         Inst::VectorLoad { row, fields } => displaced(base, fields.offset, load_scale(row)),
@@ -42,28 +42,28 @@ fn displaced(base: u32, offset: u8, scale: u8) -> u32
 
 /// What the offset of a load is counted in, in bytes.
 #[inline(always)]
-fn load_scale(row: VectorLoadRow) -> u8
+fn load_scale(row: VectorLoadOp) -> u8
     ensures { result ≡ vector_load_scale row }
 {
     match row {
-        VectorLoadRow::Lbv => 1,
-        VectorLoadRow::Lsv => 2,
-        VectorLoadRow::Llv => 4,
-        VectorLoadRow::Ldv | VectorLoadRow::Lpv | VectorLoadRow::Luv => 8,
+        VectorLoadOp::Lbv => 1,
+        VectorLoadOp::Lsv => 2,
+        VectorLoadOp::Llv => 4,
+        VectorLoadOp::Ldv | VectorLoadOp::Lpv | VectorLoadOp::Luv => 8,
         _ => 16,
     }
 }
 
 /// What the offset of a store is counted in, in bytes.
 #[inline(always)]
-fn store_scale(row: VectorStoreRow) -> u8
+fn store_scale(row: VectorStoreOp) -> u8
     ensures { result ≡ vector_store_scale row }
 {
     match row {
-        VectorStoreRow::Sbv => 1,
-        VectorStoreRow::Ssv => 2,
-        VectorStoreRow::Slv => 4,
-        VectorStoreRow::Sdv | VectorStoreRow::Spv | VectorStoreRow::Suv => 8,
+        VectorStoreOp::Sbv => 1,
+        VectorStoreOp::Ssv => 2,
+        VectorStoreOp::Slv => 4,
+        VectorStoreOp::Sdv | VectorStoreOp::Spv | VectorStoreOp::Suv => 8,
         _ => 16,
     }
 }

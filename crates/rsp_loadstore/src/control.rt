@@ -1,8 +1,8 @@
 ghost use Rattle.std.specs.Prelude.{◌≡◌};
 ghost use Rattle.rsp_decode.specs.Table.{IsInstruction};
-ghost use Rattle.rsp_loadstore.specs.Controls.{control_half, control_value, controlled_flags};
+ghost use Rattle.rsp_loadstore.specs.Controls.{control_half, control_value, flags_after_move};
 
-use rsp_decode::{Control, Inst, MoveRow};
+use rsp_decode::{Control, Inst, MoveOp};
 use rsp_lanes::{Flags, Mask8};
 use rsp_numbers::sign_extend;
 
@@ -21,7 +21,7 @@ pub fn control_from(inst: &Inst, flags: &Flags) -> u32
 {
     match *inst {
         Inst::MoveControl {
-            row: MoveRow::From,
+            row: MoveOp::From,
             control,
             ..
         } => match control {
@@ -34,13 +34,13 @@ pub fn control_from(inst: &Inst, flags: &Flags) -> u32
 }
 
 /// Executes CTC2: VCO and VCC take bits 15 to 0 of `value`, VCE bits 7 to 0. Another instruction changes nothing.
-#[tactic(auto, unfolding(crate::specs::Controls::controlled_flags))]
+#[tactic(auto, unfolding(crate::specs::Controls::flags_after_move))]
 pub fn control_to(inst: &Inst, value: u32, flags: &mut Flags)
     requires { IsInstruction inst.now }
-    ensures { flags.new ≡ controlled_flags inst.now value flags.old }
+    ensures { flags.new ≡ flags_after_move inst.now value flags.old }
 {
     if let Inst::MoveControl {
-        row: MoveRow::To,
+        row: MoveOp::To,
         control,
         ..
     } = *inst

@@ -2,23 +2,23 @@ ghost use Rattle.std.specs.Prelude.{◌≡◌, ◌<◌, ◌≤◌, ◌+◌, ◌-
 ghost use Rattle.rsp_lanes.specs.Bytes.{of_bytes};
 ghost use Rattle.rsp_memory.specs.Memory.{bytes_at};
 ghost use Rattle.rsp_decode.specs.Table.{IsInstruction};
-ghost use Rattle.rsp_decode.specs.declared.vector.VectorLoadRow.TheVariants.{Lhv, Lfv, Ltv};
-ghost use Rattle.rsp_loadstore.specs.Loads.{to_byte, to_lane, after_load, load_pairs, loaded_file, IsLoadElement};
-ghost use Rattle.rsp_loadstore.specs.Diagonal.{with_diagonal};
-ghost use Rattle.rsp_loadstore.specs.Pairs.{for_each, place};
+ghost use Rattle.rsp_decode.specs.declared.vector.VectorLoadOp.TheVariants.{Lhv, Lfv, Ltv};
+ghost use Rattle.rsp_loadstore.specs.Loads.{to_byte, to_lane, after_load, load_pairs, file_after_load, IsLoadElement};
+ghost use Rattle.rsp_loadstore.specs.TransposedLanes.{with_diagonal};
+ghost use Rattle.rsp_loadstore.specs.Pairs.{for_each, wrapped_address};
 
 use crate::VFile;
-use rsp_decode::{Inst, VectorLoadRow};
+use rsp_decode::{Inst, VectorLoadOp};
 use rsp_lanes::{Bytes16, Mask8, VReg};
 use rsp_memory::SpMem;
 
 /// Executes a vector load at address `a`, which [`address`](crate::address) returns. LTV writes two bytes of each of
 /// eight registers. An instruction of another group changes nothing.
 #[inline(always)]
-#[tactic(auto, unfolding(crate::specs::Loads::loaded_file))]
+#[tactic(auto, unfolding(crate::specs::Loads::file_after_load))]
 pub fn load(inst: &Inst, a: u32, memory: &SpMem, file: &mut VFile)
     requires { IsInstruction inst.now }
-    ensures { file.new ≡ loaded_file inst.now a memory.now file.old }
+    ensures { file.new ≡ file_after_load inst.now a memory.now file.old }
 {
     if let Inst::VectorLoad { row, fields } = *inst {
         load_row(row, fields.vt, fields.element as usize, a, memory, file);
@@ -28,7 +28,7 @@ pub fn load(inst: &Inst, a: u32, memory: &SpMem, file: &mut VFile)
 /// A load into register `vt`, or its group, with element `e`, at address `a`.
 #[inline(always)]
 #[tactic(auto, unfolding(crate::specs::Loads::load_pairs))]
-fn load_row(row: VectorLoadRow, vt: u8, e: usize, a: u32, memory: &SpMem, file: &mut VFile)
+fn load_row(row: VectorLoadOp, vt: u8, e: usize, a: u32, memory: &SpMem, file: &mut VFile)
     requires register { vt < 32 }
     requires element { e < 16 }
     requires half { IsLoadElement row e }
@@ -36,18 +36,18 @@ fn load_row(row: VectorLoadRow, vt: u8, e: usize, a: u32, memory: &SpMem, file: 
 {
     let misalignment = (a % 16) as usize;
     match row {
-        VectorLoadRow::Lbv => load_bytes(vt, e, 1, a, memory, file),
-        VectorLoadRow::Lsv => load_bytes(vt, e, 2, a, memory, file),
-        VectorLoadRow::Llv => load_bytes(vt, e, 4, a, memory, file),
-        VectorLoadRow::Ldv => load_bytes(vt, e, 8, a, memory, file),
-        VectorLoadRow::Lqv if misalignment == 0 && e == 0 => load_quadword(vt, a, memory, file),
-        VectorLoadRow::Lqv => load_bytes(vt, e, 16 - misalignment, a, memory, file),
-        VectorLoadRow::Lrv => load_bytes(vt, 16 - misalignment + e, 16, a - a % 16, memory, file),
-        VectorLoadRow::Lpv => load_packed(vt, 256, e, a, memory, file),
-        VectorLoadRow::Luv => load_packed(vt, 128, e, a, memory, file),
-        VectorLoadRow::Lhv => load_halves(vt, e, a, memory, file),
-        VectorLoadRow::Lfv => load_fourths(vt, e, a, memory, file),
-        VectorLoadRow::Ltv => load_transposed(vt, e, a, memory, file),
+        VectorLoadOp::Lbv => load_bytes(vt, e, 1, a, memory, file),
+        VectorLoadOp::Lsv => load_bytes(vt, e, 2, a, memory, file),
+        VectorLoadOp::Llv => load_bytes(vt, e, 4, a, memory, file),
+        VectorLoadOp::Ldv => load_bytes(vt, e, 8, a, memory, file),
+        VectorLoadOp::Lqv if misalignment == 0 && e == 0 => load_quadword(vt, a, memory, file),
+        VectorLoadOp::Lqv => load_bytes(vt, e, 16 - misalignment, a, memory, file),
+        VectorLoadOp::Lrv => load_bytes(vt, 16 - misalignment + e, 16, a - a % 16, memory, file),
+        VectorLoadOp::Lpv => load_packed(vt, 256, e, a, memory, file),
+        VectorLoadOp::Luv => load_packed(vt, 128, e, a, memory, file),
+        VectorLoadOp::Lhv => load_halves(vt, e, a, memory, file),
+        VectorLoadOp::Lfv => load_fourths(vt, e, a, memory, file),
+        VectorLoadOp::Ltv => load_transposed(vt, e, a, memory, file),
     }
 }
 
@@ -83,7 +83,7 @@ fn load_quadword(vt: u8, a: u32, memory: &SpMem, file: &mut VFile)
     ensures { file.new ≡ after_load memory.now file.old (for_each 16 (λ k. to_byte vt (0 + k) (a + k))) }
 {
     file.ranges();
-    file.set_reg(vt, VReg::from_turned(window(memory, a), 0));
+    file.set_reg(vt, VReg::from_rotated(window(memory, a), 0));
 }
 
 /// LPV and LUV: the eight lanes of a register become bytes of the sixteen from a's doubleword on, times a factor.
@@ -92,12 +92,12 @@ fn load_packed(vt: u8, factor: u16, e: usize, a: u32, memory: &SpMem, file: &mut
     requires register { vt < 32 }
     requires factor { factor ≤ 256 }
     requires element { e < 16 }
-    ensures { file.new ≡ after_load memory.now file.old (for_each 8 (λ j. to_lane vt j factor (place a (16 - e + j)))) }
+    ensures { file.new ≡ after_load memory.now file.old (for_each 8 (λ j. to_lane vt j factor (wrapped_address a (16 - e + j)))) }
 {
     file.ranges();
     let bytes = window(memory, a - a % 8);
     let start = (a % 8) as u8 + 16 - e as u8;
-    file.set_reg(vt, VReg::from_packed(bytes, start, factor));
+    file.set_reg(vt, VReg::unpacked_from(bytes, start, factor));
 }
 
 /// LHV: the eight lanes of a register become every second byte of the sixteen from a's doubleword on, times 128.
@@ -166,7 +166,7 @@ fn set_diagonal(vt: u8, e: usize, bytes: &[u8; 16], a: u32, file: &mut VFile)
 {
     let first = (vt - vt % 8) as usize;
     let start = (e as u32 + a / 8 % 2 * 8) as u8;
-    let lanes = VReg::from_turned(Bytes16::from_array(*bytes), start);
+    let lanes = VReg::from_rotated(Bytes16::from_array(*bytes), start);
     match e / 2 % 8 {
         0 => set_diagonal_lanes(first, 0, lanes, file),
         1 => set_diagonal_lanes(first, 1, lanes, file),

@@ -1,11 +1,11 @@
 ghost use Rattle.std.specs.Prelude.{◌≡◌, ◌<◌};
 ghost use Rattle.rsp_decode.specs.Table.{IsInstruction};
 ghost use Rattle.rsp_loadstore.specs.File.{vector, with_vector};
-ghost use Rattle.rsp_loadstore.specs.Moves.{moved_file, moved_value, with_register_half};
+ghost use Rattle.rsp_loadstore.specs.Moves.{file_after_move, moved_value, with_register_half};
 
 use crate::VFile;
 use byteorder::{BigEndian, ByteOrder};
-use rsp_decode::{Inst, MoveRow};
+use rsp_decode::{Inst, MoveOp};
 use rsp_lanes::Bytes16;
 use rsp_numbers::sign_extend;
 
@@ -18,7 +18,7 @@ pub fn move_from(inst: &Inst, file: &VFile) -> u32
 {
     match *inst {
         Inst::MoveVector {
-            row: MoveRow::From,
+            row: MoveOp::From,
             vector,
             element,
             ..
@@ -33,13 +33,13 @@ pub fn move_from(inst: &Inst, file: &VFile) -> u32
 
 /// Executes MTC2: byte `element` of a vector register takes bits 15 to 8 of `value`, and the next byte bits 7 to 0.
 /// What would be byte 16 is dropped. Another instruction changes nothing.
-#[tactic(auto, unfolding(crate::specs::Moves::moved_file))]
+#[tactic(auto, unfolding(crate::specs::Moves::file_after_move))]
 pub fn move_to(inst: &Inst, value: u32, file: &mut VFile)
     requires { IsInstruction inst.now }
-    ensures { file.new ≡ moved_file inst.now value file.old }
+    ensures { file.new ≡ file_after_move inst.now value file.old }
 {
     if let Inst::MoveVector {
-        row: MoveRow::To,
+        row: MoveOp::To,
         vector,
         element,
         ..

@@ -2,22 +2,22 @@ ghost use Rattle.std.specs.Prelude.{◌≡◌, ◌<◌, ◌≤◌, ◌+◌, ◌%
 ghost use Rattle.rsp_lanes.specs.Lanes.{each_lane};
 ghost use Rattle.rsp_loadstore.specs.File.{vector};
 ghost use Rattle.rsp_decode.specs.Table.{IsInstruction};
-ghost use Rattle.rsp_decode.specs.declared.vector.VectorStoreRow.TheVariants.{Spv, Suv, Shv, Sfv, Swv, Stv};
-ghost use Rattle.rsp_loadstore.specs.Stores.{from_byte, after_store, store_pairs, stored_memory, IsStoreElement};
+ghost use Rattle.rsp_decode.specs.declared.vector.VectorStoreOp.TheVariants.{Spv, Suv, Shv, Sfv, Swv, Stv};
+ghost use Rattle.rsp_loadstore.specs.Stores.{from_byte, after_store, store_pairs, memory_after_store, IsStoreElement};
 ghost use Rattle.rsp_loadstore.specs.Pairs.{for_each};
 
 use crate::VFile;
-use rsp_decode::{Inst, VectorStoreRow};
+use rsp_decode::{Inst, VectorStoreOp};
 use rsp_lanes::VReg;
 use rsp_memory::SpMem;
 
 /// Executes a vector store at address `a`, which [`address`](crate::address) returns. STV stores two bytes of each of
 /// eight registers. An instruction of another group changes nothing.
 #[inline(always)]
-#[tactic(auto, unfolding(crate::specs::Stores::stored_memory))]
+#[tactic(auto, unfolding(crate::specs::Stores::memory_after_store))]
 pub fn store(inst: &Inst, a: u32, file: &VFile, memory: &mut SpMem)
     requires { IsInstruction inst.now }
-    ensures { memory.new ≡ stored_memory inst.now a file.now memory.old }
+    ensures { memory.new ≡ memory_after_store inst.now a file.now memory.old }
 {
     if let Inst::VectorStore { row, fields } = *inst {
         store_row(row, fields.vt, fields.element as usize, a, file, memory);
@@ -27,7 +27,7 @@ pub fn store(inst: &Inst, a: u32, file: &VFile, memory: &mut SpMem)
 /// A store of register `vt`, or its group, with element `e`, at address `a`.
 #[inline(always)]
 #[tactic(auto, unfolding(crate::specs::Stores::store_pairs))]
-fn store_row(row: VectorStoreRow, vt: u8, e: usize, a: u32, file: &VFile, memory: &mut SpMem)
+fn store_row(row: VectorStoreOp, vt: u8, e: usize, a: u32, file: &VFile, memory: &mut SpMem)
     requires register { vt < 32 }
     requires element { e < 16 }
     requires half { IsStoreElement row e }
@@ -35,13 +35,13 @@ fn store_row(row: VectorStoreRow, vt: u8, e: usize, a: u32, file: &VFile, memory
 {
     let misalignment = (a % 16) as usize;
     match row {
-        VectorStoreRow::Sbv => store_run(vt, e, 1, a, file, memory),
-        VectorStoreRow::Ssv => store_run(vt, e, 2, a, file, memory),
-        VectorStoreRow::Slv => store_run(vt, e, 4, a, file, memory),
-        VectorStoreRow::Sdv => store_run(vt, e, 8, a, file, memory),
-        VectorStoreRow::Sqv if misalignment == 0 => store_run(vt, e, 16, a, file, memory),
-        VectorStoreRow::Sqv => store_run(vt, e, 16 - misalignment, a, file, memory),
-        VectorStoreRow::Srv => store_run(
+        VectorStoreOp::Sbv => store_run(vt, e, 1, a, file, memory),
+        VectorStoreOp::Ssv => store_run(vt, e, 2, a, file, memory),
+        VectorStoreOp::Slv => store_run(vt, e, 4, a, file, memory),
+        VectorStoreOp::Sdv => store_run(vt, e, 8, a, file, memory),
+        VectorStoreOp::Sqv if misalignment == 0 => store_run(vt, e, 16, a, file, memory),
+        VectorStoreOp::Sqv => store_run(vt, e, 16 - misalignment, a, file, memory),
+        VectorStoreOp::Srv => store_run(
             vt,
             e + (16 - misalignment),
             misalignment,
@@ -49,12 +49,12 @@ fn store_row(row: VectorStoreRow, vt: u8, e: usize, a: u32, file: &VFile, memory
             file,
             memory,
         ),
-        VectorStoreRow::Spv => store_packed(vt, e, a, file, memory),
-        VectorStoreRow::Suv => store_unsigned_packed(vt, e, a, file, memory),
-        VectorStoreRow::Shv => store_halves(vt, e, a, file, memory),
-        VectorStoreRow::Sfv => store_fourths(vt, e, a, file, memory),
-        VectorStoreRow::Swv => store_rotated(vt, e, a, file, memory),
-        VectorStoreRow::Stv => store_transposed(vt, e, a, file, memory),
+        VectorStoreOp::Spv => store_packed(vt, e, a, file, memory),
+        VectorStoreOp::Suv => store_unsigned_packed(vt, e, a, file, memory),
+        VectorStoreOp::Shv => store_halves(vt, e, a, file, memory),
+        VectorStoreOp::Sfv => store_fourths(vt, e, a, file, memory),
+        VectorStoreOp::Swv => store_rotated(vt, e, a, file, memory),
+        VectorStoreOp::Stv => store_transposed(vt, e, a, file, memory),
     }
 }
 
@@ -77,7 +77,7 @@ fn store_packed(vt: u8, e: usize, a: u32, file: &VFile, memory: &mut SpMem)
     requires element { e < 16 }
     ensures { memory.new ≡ after_store file.now memory.old (store_pairs Spv vt e a) }
 {
-    memory.set_bytes(a, &file.reg(vt).packed_from(e as u8)[..8]);
+    memory.set_bytes(a, &file.reg(vt).packed_bytes_from(e as u8)[..8]);
 }
 
 /// SUV: the same as SPV, with the two cases exchanged.
@@ -87,7 +87,7 @@ fn store_unsigned_packed(vt: u8, e: usize, a: u32, file: &VFile, memory: &mut Sp
     requires element { e < 16 }
     ensures { memory.new ≡ after_store file.now memory.old (store_pairs Suv vt e a) }
 {
-    memory.set_bytes(a, &file.reg(vt).packed_from(e as u8 + 8)[..8]);
+    memory.set_bytes(a, &file.reg(vt).packed_bytes_from(e as u8 + 8)[..8]);
 }
 
 /// SHV: stores bits 14 to 7 of eight pairs of bytes, to every second of the sixteen addresses from a's doubleword on.
@@ -98,7 +98,7 @@ fn store_halves(vt: u8, e: usize, a: u32, file: &VFile, memory: &mut SpMem)
     ensures { memory.new ≡ after_store file.now memory.old (store_pairs Shv vt e a) }
 {
     let block = a - a % 8;
-    let bytes = VReg::from_bytes(file.reg(vt).bytes_from(e as u8)).packed_from(8);
+    let bytes = VReg::from_bytes(file.reg(vt).bytes_from(e as u8)).packed_bytes_from(8);
     for j in 0..8 {
         let at = block.wrapping_add((a % 8 + 2 * j as u32) % 16);
         memory.set_byte(at, bytes[j]);

@@ -3,10 +3,10 @@ pub mod Undoing
 pub mod Loading
 pub mod Flagging
 pub mod Lows
-pub mod Saving
-pub mod Ending
-pub mod Elsewhere
-pub mod Making
-pub mod Recording
+pub mod Undo
+pub mod OneStep
+pub mod CountersApart
+pub mod LoopSteps
+pub mod Records
 pub mod Whole
 pub mod Copying

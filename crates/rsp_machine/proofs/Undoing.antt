@@ -5,9 +5,9 @@ use Rattle.std.proofs.lemmas.List.{set-set, set-get_or}
 use Rattle.rsp_memory.specs.Memory.{with_byte, with_half, with_word, bytes_at, with_bytes}
 use Rattle.rsp_memory.proofs.PutBack.{bytes-back, length-with_byte, with_byte-elsewhere, elsewhere-at}
 use Rattle.rsp_scalar.specs.Registers.{register, with_register}
-use Rattle.rsp_scalar.specs.Rows.{store_result}
-use Rattle.rsp_decode.specs.declared.scalar.StoreRow.{StoreRow}
-use Rattle.rsp_decode.specs.declared.scalar.StoreRow.TheVariants.{Sb, Sh, Sw}
+use Rattle.rsp_scalar.specs.ScalarRules.{store_result}
+use Rattle.rsp_decode.specs.declared.scalar.StoreOp.{StoreOp}
+use Rattle.rsp_decode.specs.declared.scalar.StoreOp.TheVariants.{Sb, Sh, Sw}
 use Rattle.rsp_loadstore.specs.File.{vector, with_vector}
 
 -- a scalar or a vector register
@@ -23,7 +23,7 @@ unfolding with_vector vector
 vector-back file n v = set-set file n v (slice_index_or file n []) ∙ set-get_or file n []
 
 -- scalar stores
-pub store-back : (row : StoreRow) (m : List ℕ) (a t : ℕ) → with_bytes (store_result row m a t) a (bytes_at m a 16) ≡ m
+pub store-back : (row : StoreOp) (m : List ℕ) (a t : ℕ) → with_bytes (store_result row m a t) a (bytes_at m a 16) ≡ m
 unfolding with_half with_word
 store-back Sb m a t =
     bytes-back m (with_byte m a _) a 16 (length-with_byte m a _) (λ r there. with_byte-elsewhere m a _ r there.0)

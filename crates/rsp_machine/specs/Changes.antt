@@ -4,7 +4,7 @@ use Rattle.rsp_numbers.specs.Numbers.{AreNumbers}
 use Rattle.rsp_lanes.specs.Flags.{flags_at, all_flags}
 use Rattle.rsp_loadstore.specs.File.{IsFile}
 use Rattle.rsp_machine.specs.State.{State}
-use Rattle.rsp_machine.specs.Saved.{changes_memory, is_back}
+use Rattle.rsp_machine.specs.Undo.{changes_memory, can_undo}
 use Rattle.rsp_machine.specs.declared.change.Change.{Change}
 use Rattle.rsp_machine.specs.declared.change.Reach.{Reach}
 use Rattle.rsp_machine.specs.declared.change.Change.TheVariants as of
@@ -40,4 +40,4 @@ reaches_sp _ = false
 
 -- what the loop of steps asks of a change
 abbrev pub reach_of : Change → Reach
-reach_of change = record { sp = reaches_sp change; dmem = changes_memory change; dma = not (is_back change) }
+reach_of change = record { sp = reaches_sp change; dmem = changes_memory change; dma = not (can_undo change) }

@@ -5,10 +5,10 @@ use Rattle.rsp_decode.specs.declared.inst.Inst.TheVariants.{Store, VectorStore}
 use Rattle.rsp_decode.specs.Table.{inst_of}
 use Rattle.rsp_memory.specs.Memory.{word_at}
 use Rattle.rsp_scalar.specs.Registers.{register}
-use Rattle.rsp_scalar.specs.Rows.{address}
-use Rattle.rsp_loadstore.specs.Addresses.{transfer_address}
+use Rattle.rsp_scalar.specs.ScalarRules.{address}
+use Rattle.rsp_loadstore.specs.Addresses.{vector_address}
 use Rattle.rsp_machine.specs.State.{State}
-use Rattle.rsp_machine.specs.Saved.{change_of}
+use Rattle.rsp_machine.specs.Undo.{change_of}
 use Rattle.rsp_machine.specs.declared.change.Change.{Change}
 use Rattle.rsp_machine.specs.declared.change.Change.TheVariants as of
 use Rattle.rsp_machine.specs.declared.effect.Effect.{Effect}
@@ -34,7 +34,7 @@ vector_of _ = 32
 -- the address in DMEM of a store
 abbrev pub stored_at : Inst → State → Option ℕ
 stored_at (Store row f) s = Some (address s.registers f.base f.offset % 4096)
-stored_at (VectorStore row f) s = Some (transfer_address (VectorStore row f) (register s.registers f.base) % 4096)
+stored_at (VectorStore row f) s = Some (vector_address (VectorStore row f) (register s.registers f.base) % 4096)
 stored_at _ s = None
 
 abbrev pub no_effect : Effect

@@ -2,10 +2,10 @@
 use Rattle.std.specs.Prelude.{ℕ, ◌+◌, ◌*◌, ◌%◌, Bool, not, nat_le, nat_lt, ◌==◌, ◌&&◌, ◌||◌, if◌then◌else◌, List, length, Option, Some, None}
 use Rattle.rsp_memory.specs.Memory.{with_bytes}
 use Rattle.rsp_memory.specs.Image.{image_byte, with_image_bytes}
-use Rattle.rsp_regs.specs.Sp.{after_read, written, dmem_from_rdram, imem_from_rdram, rdram_from_bank, after_task}
+use Rattle.rsp_regs.specs.Sp.{after_read, after_register_write, dmem_from_rdram, imem_from_rdram, rdram_from_bank, after_task}
 use Rattle.rsp_regs.specs.Dma.{pairs, copied_in}
 use Rattle.rsp_regs.specs.declared.transfer.Transfer.{Transfer}
-use Rattle.rsp_scalar.specs.Flow.{going_on}
+use Rattle.rsp_scalar.specs.Flow.{address_after}
 use Rattle.rsp_machine.specs.State.{State}
 use Rattle.rsp_memory.specs.declared.bank.Bank.{Bank}
 use Rattle.rsp_memory.specs.declared.bank.Bank.TheVariants.{Dmem, Imem, Rdram}
@@ -28,7 +28,7 @@ moved_out v s = record s { rdram = rdram_from_bank v s.sp s.dmem s.imem s.rdram 
 abbrev pub register_written : ℕ → ℕ → State → State
 register_written n v s =
     let t = if n % 16 == 2 then moved_in v s else if n % 16 == 3 then moved_out v s else s in
-    record t { sp = written n v s.sp }
+    record t { sp = after_register_write n v s.sp }
 
 -- the length of a bank
 abbrev pub bank_length : Bank → State → ℕ
@@ -52,8 +52,8 @@ image_word image a =
     image_byte image a * 16777216 + image_byte image (a + 1) * 65536 + image_byte image (a + 2) * 256 + image_byte image (a + 3)
 
 -- a move of some bytes from a place in the RDRAM to a place in a bank
-abbrev pub one_run : ℕ → ℕ → ℕ → Transfer
-one_run place from n = record { sp = place; dram = from; length = n; count = 0; skip = 0 }
+abbrev pub single_row : ℕ → ℕ → ℕ → Transfer
+single_row place from n = record { sp = place; dram = from; length = n; count = 0; skip = 0 }
 
 -- The task structure at an address of the RDRAM has ucode_boot, the place of its boot code in the RDRAM, at 8, modulo 2^24, and
 -- ucode_boot_size, the number of its bytes, at 12.
@@ -74,10 +74,10 @@ task_fault a image =
 -- The state after a task's start. The 64 bytes of its structure stand in DMEM from FC0 hex on, and its boot code in IMEM from
 -- 0 on. Boot code past the image's end is 0, and IMEM's other bytes stay. intbreak is set, and halted, broke and signals 0 to
 -- 2 are cleared.
-unfoldable pub tasked : ℕ → State → State
-tasked a s = record s {
-  dmem = copied_in s.rdram s.dmem (pairs (one_run 4032 a 64));
-  imem = copied_in s.rdram s.imem (pairs (one_run 0 (boot_place a s.rdram) (boot_size a s.rdram)));
+unfoldable pub with_task : ℕ → State → State
+with_task a s = record s {
+  dmem = copied_in s.rdram s.dmem (pairs (single_row 4032 a 64));
+  imem = copied_in s.rdram s.imem (pairs (single_row 0 (boot_place a s.rdram) (boot_size a s.rdram)));
   pc = 0;
   npc = 4;
   sp = after_task s.sp;
@@ -85,4 +85,4 @@ tasked a s = record s {
 
 -- the state that goes on at a place of IMEM
 abbrev pub with_pc : ℕ → State → State
-with_pc place s = record s { pc = place; npc = going_on place }
+with_pc place s = record s { pc = place; npc = address_after place }

@@ -5,10 +5,10 @@ pub mod Vector
 pub mod Host
 pub mod Step
 pub mod Laws
-pub mod Saved
+pub mod Undo
 pub mod Changes
-pub mod Places
-pub mod Making
+pub mod ProgramCounters
+pub mod Loop
 pub mod Registers
 pub mod Effects
 pub mod Transfers

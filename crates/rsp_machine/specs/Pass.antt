@@ -2,29 +2,29 @@
 use Rattle.std.specs.Prelude.{ℕ, Bool, true, false, Option, Some, Result, Ok, Err, if◌then◌else◌}
 use Rattle.rsp_decode.specs.declared.inst.Inst.{Inst}
 use Rattle.rsp_decode.specs.declared.inst.Inst.TheVariants.{MoveSp}
-use Rattle.rsp_decode.specs.declared.scalar.MoveRow.{MoveRow}
-use Rattle.rsp_decode.specs.declared.scalar.MoveRow.TheVariants.{From, To}
+use Rattle.rsp_decode.specs.declared.scalar.MoveOp.{MoveOp}
+use Rattle.rsp_decode.specs.declared.scalar.MoveOp.TheVariants.{From, To}
 use Rattle.rsp_decode.specs.Table.{inst_of}
 use Rattle.rsp_memory.specs.Memory.{word_at}
 use Rattle.rsp_scalar.specs.Registers.{with_register}
 use Rattle.rsp_machine.specs.State.{State, advanced}
-use Rattle.rsp_machine.specs.Step.{singled}
+use Rattle.rsp_machine.specs.Step.{after_single_step}
 use Rattle.rsp_machine.specs.declared.pass.PassFault.{PassFault}
 use Rattle.rsp_machine.specs.declared.pass.PassFault.TheVariants.{Halted, OtherWord}
 
 -- whether a move writes its SP register
-abbrev pub is_write : MoveRow → Bool
+abbrev pub is_write : MoveOp → Bool
 is_write From = false
 is_write To = true
 
 -- the state after such a move: register rt of an MFC0 becomes the value, and an MTC0 writes nothing
-abbrev pub passed : MoveRow → ℕ → ℕ → State → State
-passed From rt value s = singled (record (advanced s) { registers = with_register s.registers rt value })
-passed To rt value s = singled (advanced s)
+abbrev pub after_pass : MoveOp → ℕ → ℕ → State → State
+after_pass From rt value s = after_single_step (record (advanced s) { registers = with_register s.registers rt value })
+after_pass To rt value s = after_single_step (advanced s)
 
 -- the same by the instruction at pc, which has to be such a move
 abbrev pub pass_by : Option Inst → ℕ → State → Result State PassFault
-pass_by (Some (MoveSp row rt n)) value s = Ok (passed row rt value s)
+pass_by (Some (MoveSp row rt n)) value s = Ok (after_pass row rt value s)
 pass_by _ value s = Err OtherWord
 
 -- passing over the word at pc: the state after it, or why that is refused

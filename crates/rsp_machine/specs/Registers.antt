@@ -4,9 +4,9 @@ use Rattle.rsp_lanes.specs.Lanes.{each_lane}
 use Rattle.rsp_numbers.specs.Numbers.{number, high, middle, low}
 use Rattle.rsp_acc.specs.Planes.{joined}
 use Rattle.rsp_regs.specs.Parts.{parts_of, sp_of}
-use Rattle.rsp_regs.specs.Sp.{AreKept}
+use Rattle.rsp_regs.specs.Sp.{AreSpRanges}
 use Rattle.rsp_regs.specs.declared.parts.SpParts.{SpParts}
-use Rattle.rsp_machine.specs.State.{State, IsPlace, IsState}
+use Rattle.rsp_machine.specs.State.{State, IsInstructionAddress, IsState}
 use Rattle.rsp_machine.specs.declared.registers.AllRegisters.{AllRegisters}
 use Rattle.rsp_machine.specs.declared.registers.RegistersFault.{RegistersFault}
 use Rattle.rsp_machine.specs.declared.registers.RegistersFault.TheVariants.{Place, RegisterZero, MemoryAddress, DramAddress, Skip}
@@ -41,10 +41,10 @@ with_registers r s = record s {
 
 -- the ranges of registers that a machine can have; flags, lanes and the parts of accumulators can be any
 pub record AreRegisters (r : AllRegisters) : Type 0 where
-  pub pc : IsPlace r.pc
-  pub npc : IsPlace r.npc
+  pub pc : IsInstructionAddress r.pc
+  pub npc : IsInstructionAddress r.npc
   pub zero : slice_index r.registers 0 ≡ 0
-  pub sp : AreKept r.sp.memory r.sp.dram r.sp.skip
+  pub sp : AreSpRanges r.sp.memory r.sp.dram r.sp.skip
 
 -- whether a number is a multiple of another, below a limit
 abbrev pub is_whole : ℕ → ℕ → ℕ → Bool

@@ -10,7 +10,7 @@ use Rattle.rsp_divide.specs.declared.divider.Divider.{Divider}
 use Rattle.rsp_divide.specs.Dividers.{no_divider}
 use Rattle.rsp_loadstore.specs.File.{IsFile, empty_file}
 use Rattle.rsp_scalar.specs.Registers.{IsRegisters, empty_registers}
-use Rattle.rsp_scalar.specs.Flow.{going_on}
+use Rattle.rsp_scalar.specs.Flow.{address_after}
 use Rattle.rsp_regs.specs.Sp.{Sp, IsSp, start}
 
 pub record State : Type 0 where
@@ -27,8 +27,8 @@ pub record State : Type 0 where
   pub sp : Sp  -- the SP registers, with the interrupt flag
 
 -- an address in IMEM that an instruction can be fetched from
-abbrev pub IsPlace : ℕ → Type 0
-IsPlace n = (n < 4096) × (n % 4 ≡ 0)
+abbrev pub IsInstructionAddress : ℕ → Type 0
+IsInstructionAddress n = (n < 4096) × (n % 4 ≡ 0)
 
 -- eight flags in each of the five lists
 pub record AreFlags (f : Flags) : Type 0 where
@@ -40,8 +40,8 @@ pub record AreFlags (f : Flags) : Type 0 where
 
 -- The ranges of the state of every machine.
 pub record IsState (s : State) : Type 0 where
-  pub pc : IsPlace s.pc
-  pub npc : IsPlace s.npc
+  pub pc : IsInstructionAddress s.pc
+  pub npc : IsInstructionAddress s.npc
   pub registers : IsRegisters s.registers  -- 32 numbers below 2^32, of which number 0 is 0
   pub vectors : IsFile s.vectors  -- 32 registers of eight numbers below 2^16
   pub accumulators : AreNumbers s.accumulators  -- eight, from -2^47 to 2^47 - 1
@@ -70,4 +70,4 @@ start_of image = record {
 
 -- pc and npc advanced: pc becomes npc, and npc the next address
 abbrev pub advanced : State → State
-advanced s = record s { pc = s.npc; npc = going_on s.npc }
+advanced s = record s { pc = s.npc; npc = address_after s.npc }

@@ -3,14 +3,14 @@
 use Rattle.std.specs.Prelude.{ℕ, Option, Some, None, if◌then◌else◌}
 use Rattle.rsp_decode.specs.declared.inst.Inst.{Inst}
 use Rattle.rsp_decode.specs.declared.inst.Inst.TheVariants.{Shift, ShiftBy, JumpRegister, JumpLinkRegister, Break, Register, BranchSign, BranchEqual, Jump, Immediate, LoadUpper, Load, Store, MoveSp, MoveVector, MoveControl, Multiply, Round, MpegMultiply, ReadAccumulator, VectorAdd, VectorSelect, VectorClip, VectorMerge, VectorLogic, Divide, Idle, VectorLoad, VectorStore}
-use Rattle.rsp_decode.specs.declared.scalar.MoveRow.{MoveRow}
-use Rattle.rsp_decode.specs.declared.scalar.MoveRow.TheVariants.{From, To}
+use Rattle.rsp_decode.specs.declared.scalar.MoveOp.{MoveOp}
+use Rattle.rsp_decode.specs.declared.scalar.MoveOp.TheVariants.{From, To}
 use Rattle.rsp_decode.specs.Table.{inst_of}
 use Rattle.rsp_memory.specs.Memory.{word_at}
 use Rattle.rsp_scalar.specs.Registers.{register, with_register}
-use Rattle.rsp_scalar.specs.Rows.{computed, scalar_loaded, scalar_stored}
-use Rattle.rsp_scalar.specs.Flow.{following, linked}
-use Rattle.rsp_regs.specs.Sp.{peeked, after_break, after_step}
+use Rattle.rsp_scalar.specs.ScalarRules.{after_alu, after_scalar_load, after_scalar_store}
+use Rattle.rsp_scalar.specs.Flow.{next_npc, with_link}
+use Rattle.rsp_regs.specs.Sp.{read_value, after_break, after_step}
 use Rattle.rsp_compare.specs.Adds.{add_rule}
 use Rattle.rsp_compare.specs.Selects.{select_rule, merge_rule}
 use Rattle.rsp_compare.specs.Logic.{logic_rule}
@@ -25,76 +25,76 @@ use Rattle.rsp_machine.specs.declared.step.StepEnd.TheVariants.{Done, Halted, Re
 
 -- a scalar instruction that computes
 unfoldable pub computes : Inst → State → State
-computes i s = record s { registers = computed i s.registers }
+computes i s = record s { registers = after_alu i s.registers }
 
 -- a scalar load from DMEM
 unfoldable pub loads : Inst → State → State
-loads i s = record s { registers = scalar_loaded i s.registers s.dmem }
+loads i s = record s { registers = after_scalar_load i s.registers s.dmem }
 
 -- a scalar store to DMEM
 unfoldable pub stores : Inst → State → State
-stores i s = record s { dmem = scalar_stored i s.registers s.dmem }
+stores i s = record s { dmem = after_scalar_store i s.registers s.dmem }
 
 -- A jump or a branch, taken or not; it reads its registers before it writes its link. pc and npc have advanced, so s.pc is the
 -- delay slot: a target is counted from it, and a link is the address after it.
 unfoldable pub jumps : Inst → State → State
-jumps i s = record s { npc = following i s.registers s.pc; registers = linked i s.registers s.pc }
+jumps i s = record s { npc = next_npc i s.registers s.pc; registers = with_link i s.registers s.pc }
 
 -- a BREAK, after which pc advances as after any instruction
 unfoldable pub break_instruction : State → State
 break_instruction s = record s { sp = after_break s.sp }
 
 -- a move from SP register n to scalar register rt, or back: what the host's read and write of it do
-unfoldable pub moves_sp : MoveRow → ℕ → ℕ → State → State
+unfoldable pub moves_sp : MoveOp → ℕ → ℕ → State → State
 moves_sp From rt n s =
     let after = register_read n s in
-    record after { registers = with_register s.registers rt (peeked n s.sp) }
+    record after { registers = with_register s.registers rt (read_value n s.sp) }
 moves_sp To rt n s = register_written n (register s.registers rt) s
 
 -- what an instruction does, pc and npc advanced
-unfoldable pub worked : Inst → State → State
-worked (Shift row rd rt amount) s = computes (Shift row rd rt amount) s
-worked (ShiftBy row f) s = computes (ShiftBy row f) s
-worked (Register row f) s = computes (Register row f) s
-worked (Immediate row rt rs imm) s = computes (Immediate row rt rs imm) s
-worked (LoadUpper rt imm) s = computes (LoadUpper rt imm) s
-worked (Load row f) s = loads (Load row f) s
-worked (Store row f) s = stores (Store row f) s
-worked (JumpRegister rs) s = jumps (JumpRegister rs) s
-worked (JumpLinkRegister rd rs) s = jumps (JumpLinkRegister rd rs) s
-worked (BranchSign row rs offset) s = jumps (BranchSign row rs offset) s
-worked (BranchEqual row rs rt offset) s = jumps (BranchEqual row rs rt offset) s
-worked (Jump row target) s = jumps (Jump row target) s
-worked Break s = break_instruction s
-worked (MoveSp row rt n) s = moves_sp row rt n s
-worked (MoveVector row rt vector element) s = moves_vector row (MoveVector row rt vector element) rt s
-worked (MoveControl row rt control) s = moves_control row (MoveControl row rt control) rt s
-worked (Multiply row f) s = multiplies row f s
-worked (Round row f) s = rounds row f s
-worked (MpegMultiply row f) s = multiplies_mpeg row f s
-worked (ReadAccumulator f) s = reads_accumulator f s
-worked (VectorAdd row f) s = ruled (add_rule (add_op row)) f s
-worked (VectorSelect row f) s = ruled (select_rule (select_op row)) f s
-worked (VectorClip row f) s = ruled (clip_rule (clip_op row)) f s
-worked (VectorMerge f) s = ruled (merge_rule Vmrg) f s
-worked (VectorLogic row f) s = ruled (logic_rule (logic_op row)) f s
-worked (Divide row vd lane vt e) s = divides row vd lane vt e s
-worked (Idle row) s = s
-worked (VectorLoad row f) s = loads_vector row f s
-worked (VectorStore row f) s = stores_vector row f s
+unfoldable pub instruction_effect : Inst → State → State
+instruction_effect (Shift row rd rt amount) s = computes (Shift row rd rt amount) s
+instruction_effect (ShiftBy row f) s = computes (ShiftBy row f) s
+instruction_effect (Register row f) s = computes (Register row f) s
+instruction_effect (Immediate row rt rs imm) s = computes (Immediate row rt rs imm) s
+instruction_effect (LoadUpper rt imm) s = computes (LoadUpper rt imm) s
+instruction_effect (Load row f) s = loads (Load row f) s
+instruction_effect (Store row f) s = stores (Store row f) s
+instruction_effect (JumpRegister rs) s = jumps (JumpRegister rs) s
+instruction_effect (JumpLinkRegister rd rs) s = jumps (JumpLinkRegister rd rs) s
+instruction_effect (BranchSign row rs offset) s = jumps (BranchSign row rs offset) s
+instruction_effect (BranchEqual row rs rt offset) s = jumps (BranchEqual row rs rt offset) s
+instruction_effect (Jump row target) s = jumps (Jump row target) s
+instruction_effect Break s = break_instruction s
+instruction_effect (MoveSp row rt n) s = moves_sp row rt n s
+instruction_effect (MoveVector row rt vector element) s = moves_vector row (MoveVector row rt vector element) rt s
+instruction_effect (MoveControl row rt control) s = moves_control row (MoveControl row rt control) rt s
+instruction_effect (Multiply row f) s = multiplies row f s
+instruction_effect (Round row f) s = rounds row f s
+instruction_effect (MpegMultiply row f) s = multiplies_mpeg row f s
+instruction_effect (ReadAccumulator f) s = reads_accumulator f s
+instruction_effect (VectorAdd row f) s = ruled (add_rule (add_op row)) f s
+instruction_effect (VectorSelect row f) s = ruled (select_rule (select_op row)) f s
+instruction_effect (VectorClip row f) s = ruled (clip_rule (clip_op row)) f s
+instruction_effect (VectorMerge f) s = ruled (merge_rule Vmrg) f s
+instruction_effect (VectorLogic row f) s = ruled (logic_rule (logic_op row)) f s
+instruction_effect (Divide row vd lane vt e) s = divides row vd lane vt e s
+instruction_effect (Idle row) s = s
+instruction_effect (VectorLoad row f) s = loads_vector row f s
+instruction_effect (VectorStore row f) s = stores_vector row f s
 
 -- the state after an instruction
 unfoldable pub executed : Inst → State → State
-executed i s = worked i (advanced s)
+executed i s = instruction_effect i (advanced s)
 
 -- the state after a step: halted if single step is set in the state after the instruction
-abbrev pub singled : State → State
-singled s = record s { sp = after_step s.sp }
+abbrev pub after_single_step : State → State
+after_single_step s = record s { sp = after_step s.sp }
 
 -- the answer and the state after a word that is an instruction, or reserved; then nothing changes
 abbrev pub step_by : Option Inst → ℕ → State → StepEnd × State
 step_by None word s = (Reserved word, s)
-step_by (Some i) word s = (Done, singled (executed i s))
+step_by (Some i) word s = (Done, after_single_step (executed i s))
 
 -- One step: Halted if halted is set, and nothing changes; Reserved if the word at pc is reserved, and nothing changes; else the
 -- instruction is executed, and the answer is Done.

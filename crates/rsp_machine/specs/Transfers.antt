@@ -4,7 +4,7 @@ use Rattle.rsp_decode.specs.declared.inst.Inst.{Inst}
 use Rattle.rsp_decode.specs.Table.{inst_of}
 use Rattle.rsp_memory.specs.Memory.{word_at}
 use Rattle.rsp_machine.specs.State.{State}
-use Rattle.rsp_machine.specs.Saved.{starts_dma}
+use Rattle.rsp_machine.specs.Undo.{starts_dma}
 
 -- whether a word does, by the instruction that it is
 abbrev pub starts_dma_in : Option Inst → Bool

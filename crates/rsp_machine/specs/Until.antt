@@ -5,7 +5,7 @@ use Rattle.rsp_decode.specs.Table.{inst_of}
 use Rattle.rsp_memory.specs.Memory.{word_at}
 use Rattle.rsp_machine.specs.State.{State}
 use Rattle.rsp_machine.specs.Step.{step_of}
-use Rattle.rsp_machine.specs.Saved.{change_of, changes_memory}
+use Rattle.rsp_machine.specs.Undo.{change_of, changes_memory}
 
 -- whether an instruction, if there is one, may change DMEM: it stores there, or it starts a DMA
 abbrev pub may_store_by : Option Inst → State → Bool

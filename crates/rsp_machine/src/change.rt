@@ -2,19 +2,20 @@
 
 ghost use Rattle.std.specs.Prelude.{◌≡◌, ◌<◌};
 ghost use Rattle.rsp_decode.specs.Table.{IsInstruction};
-ghost use Rattle.rsp_machine.specs.Saved.{change_of, changes_memory, is_back};
+ghost use Rattle.rsp_machine.specs.Undo.{change_of, changes_memory, can_undo};
 ghost use Rattle.rsp_machine.specs.Changes.{IsChange, reach_of};
 
 use crate::machine::Machine;
 use rsp_acc::Acc;
-use rsp_decode::{Inst, JumpRow, MoveRow, SignRow, VectorLoadRow, VectorStoreRow};
+use rsp_decode::{BranchSignOp, Inst, JumpOp, MoveOp, VectorLoadOp, VectorStoreOp};
+use rsp_regs::is_length_register;
 
 /// What an instruction changes of a machine besides pc and npc, with the register or the address. A register number is a word
 /// here, which a step stores at once.
 #[derive(Clone, Copy)]
 pub(crate) enum Change {
     /// Nothing else.
-    Places,
+    ProgramCounters,
     /// A scalar register.
     Register(u32),
     /// Sixteen bytes of DMEM, from an address on.
@@ -64,7 +65,7 @@ impl Change {
         Reach {
             sp: matches!(self, Change::Sp(_) | Change::Dma),
             dmem: self.stores(),
-            dma: !self.is_back(),
+            dma: !self.can_undo(),
         }
     }
 
@@ -78,8 +79,8 @@ impl Change {
 
     /// Whether the instruction can be undone by its record.
     #[inline(always)]
-    pub(crate) fn is_back(self) -> bool
-        ensures { result ≡ is_back self }
+    pub(crate) fn can_undo(self) -> bool
+        ensures { result ≡ can_undo self }
     {
         !matches!(self, Change::Dma)
     }
@@ -87,7 +88,7 @@ impl Change {
 
 /// What an instruction changes of a machine.
 #[inline(always)]
-#[tactic(auto, unfolding(crate::specs::Saved::change_of))]
+#[tactic(auto, unfolding(crate::specs::Undo::change_of))]
 pub(crate) fn change_of<A: Acc>(inst: &Inst, machine: &Machine<A>) -> Change
     requires { IsInstruction inst.now }
     ensures value { result ≡ change_of inst.now machine.now }
@@ -107,20 +108,22 @@ pub(crate) fn change_of<A: Acc>(inst: &Inst, machine: &Machine<A>) -> Change
             fields.base,
             fields.offset,
         )),
-        Inst::JumpRegister { .. } | Inst::BranchEqual { .. } | Inst::Idle { .. } => Change::Places,
+        Inst::JumpRegister { .. } | Inst::BranchEqual { .. } | Inst::Idle { .. } =>
+            Change::ProgramCounters,
         Inst::BranchSign { row, .. } => match row {
-            SignRow::Bltzal | SignRow::Bgezal => Change::Register(31),
-            SignRow::Bltz | SignRow::Bgez | SignRow::Blez | SignRow::Bgtz => Change::Places,
+            BranchSignOp::Bltzal | BranchSignOp::Bgezal => Change::Register(31),
+            BranchSignOp::Bltz | BranchSignOp::Bgez | BranchSignOp::Blez | BranchSignOp::Bgtz =>
+                Change::ProgramCounters,
         },
         Inst::Jump { row, .. } => match row {
-            JumpRow::Jal => Change::Register(31),
-            JumpRow::J => Change::Places,
+            JumpOp::Jal => Change::Register(31),
+            JumpOp::J => Change::ProgramCounters,
         },
         Inst::Break => Change::Sp(0),
         Inst::MoveSp { row, rt, register } => match row {
-            MoveRow::From => Change::Sp(u32::from(rt)),
-            MoveRow::To => {
-                if register % 16 == 2 || register % 16 == 3 {
+            MoveOp::From => Change::Sp(u32::from(rt)),
+            MoveOp::To => {
+                if is_length_register(u32::from(register)) {
                     Change::Dma
                 } else {
                     Change::Sp(0)
@@ -133,12 +136,12 @@ pub(crate) fn change_of<A: Acc>(inst: &Inst, machine: &Machine<A>) -> Change
             vector,
             ..
         } => match row {
-            MoveRow::From => Change::Register(u32::from(rt)),
-            MoveRow::To => Change::Vector(u32::from(vector)),
+            MoveOp::From => Change::Register(u32::from(rt)),
+            MoveOp::To => Change::Vector(u32::from(vector)),
         },
         Inst::MoveControl { row, rt, .. } => match row {
-            MoveRow::From => Change::Register(u32::from(rt)),
-            MoveRow::To => Change::Flags,
+            MoveOp::From => Change::Register(u32::from(rt)),
+            MoveOp::To => Change::Flags,
         },
         Inst::Multiply { fields, .. }
         | Inst::Round { fields, .. }
@@ -152,13 +155,13 @@ pub(crate) fn change_of<A: Acc>(inst: &Inst, machine: &Machine<A>) -> Change
         Inst::VectorLogic { fields, .. } => Change::Low(u32::from(fields.vd)),
         Inst::Divide { vd, .. } => Change::Divide(u32::from(vd)),
         Inst::VectorLoad { row, fields } => match row {
-            VectorLoadRow::Ltv => Change::Group(u32::from(fields.vt - fields.vt % 8)),
+            VectorLoadOp::Ltv => Change::Group(u32::from(fields.vt - fields.vt % 8)),
             _ => Change::Vector(u32::from(fields.vt)),
         },
         Inst::VectorStore { row, fields } => {
             let a = rsp_loadstore::address(inst, machine.regs.get(fields.base));
             Change::Bytes(match row {
-                VectorStoreRow::Srv => a - a % 16,
+                VectorStoreOp::Srv => a - a % 16,
                 _ => a - a % 8,
             })
         }

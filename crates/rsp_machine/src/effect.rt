@@ -113,7 +113,7 @@ impl<A: Acc> Machine<A> {
                 stored: false,
             },
         };
-        visit(self.word_at(self.places()), &mut naming);
+        visit(self.word_at(self.counters()), &mut naming);
         naming.effect
     }
 }

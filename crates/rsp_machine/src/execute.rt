@@ -2,50 +2,50 @@
 
 ghost use Rattle.std.specs.Prelude.{◌≡◌, ◌<◌, option_map, unwrap_or};
 ghost use Rattle.rsp_decode.specs.Table.{IsInstruction, inst_of};
-ghost use Rattle.rsp_decode.specs.declared.scalar.MoveRow.TheVariants as row;
-ghost use Rattle.rsp_scalar.specs.Flow.{following, linked};
-ghost use Rattle.rsp_machine.specs.Step.{computes, loads, stores, break_instruction, moves_sp, worked, executed};
-ghost use Rattle.rsp_machine.specs.Places.{at_places, places_of};
-ghost use Rattle.rsp_machine.specs.Saved.{change_of, told_by};
+ghost use Rattle.rsp_decode.specs.declared.scalar.MoveOp.TheVariants as row;
+ghost use Rattle.rsp_scalar.specs.Flow.{next_npc, with_link};
+ghost use Rattle.rsp_machine.specs.Step.{computes, loads, stores, break_instruction, moves_sp, instruction_effect, executed};
+ghost use Rattle.rsp_machine.specs.ProgramCounters.{with_counters, counters_of};
+ghost use Rattle.rsp_machine.specs.Undo.{change_of, after_instruction};
 ghost use Rattle.rsp_machine.specs.Changes.{IsChange, reach_of};
 
 use crate::change::{Change, Reach, change_of};
 use crate::machine::Machine;
-use crate::place::{Place, Places};
-use crate::saver::Saver;
+use crate::program_counters::{InstructionAddress, ProgramCounters};
+use crate::recorder::Recorder;
 use crate::until::Until;
 use rsp_acc::Acc;
-use rsp_decode::{Inst, MoveRow, Visitor, visit};
+use rsp_decode::{Inst, MoveOp, Visitor, visit};
 use rsp_scalar::{alu, jump, load, store};
 use std::marker::PhantomData;
 
 /// A machine as the visitor of its instructions, and the saver of what they overwrite. It is a type of its own: an embedder, who
 /// can step a machine, can't execute an instruction without fetch and without the test whether the machine is halted.
 #[derive(Drop)]
-struct Executor<'a, A: Acc, K: Saver, U: Until> {
+struct Executor<'a, A: Acc, K: Recorder, U: Until> {
     machine: &'a mut Machine<A>,
     saver: &'a mut K,
     /// What may end the loop, which isn't asked here. By this type each loop has the decoder's functions for itself, so LLVM
     /// inlines them.
     until: PhantomData<U>,
     /// The address of the instruction.
-    from: Place,
+    from: InstructionAddress,
     /// pc and npc after it. Those of `machine` aren't used.
-    places: Places,
+    counters: ProgramCounters,
     /// What the loop asks of the instruction.
     reach: Reach,
 }
 
-impl<'a, A: Acc, K: Saver, U: Until> Executor<'a, A, K, U> {
+impl<'a, A: Acc, K: Recorder, U: Until> Executor<'a, A, K, U> {
     /// Saves what a change will overwrite.
     #[inline(always)]
     fn save(&mut self, change: Change)
         requires { IsChange change }
-        ensures { self.new ≡ record self.old { saver = record self.old.saver { now = K.saves change (at_places (record { pc = self.old.from; npc = self.old.places.pc }) self.old.machine.now) self.old.saver.now }; reach = reach_of change } }
+        ensures { self.new ≡ record self.old { saver = record self.old.saver { now = K.saves change (with_counters (record { pc = self.old.from; npc = self.old.counters.pc }) self.old.machine.now) self.old.saver.now }; reach = reach_of change } }
     {
-        let before = Places {
+        let before = ProgramCounters {
             pc: self.from,
-            npc: self.places.pc,
+            npc: self.counters.pc,
         };
         self.saver.save(self.machine, before, change);
         self.reach = change.reach();
@@ -53,10 +53,10 @@ impl<'a, A: Acc, K: Saver, U: Until> Executor<'a, A, K, U> {
 
     /// pc and npc after the instruction.
     #[inline(always)]
-    fn places(&self) -> Places
-        ensures { result ≡ self.now.places }
+    fn counters(&self) -> ProgramCounters
+        ensures { result ≡ self.now.counters }
     {
-        self.places
+        self.counters
     }
 }
 
@@ -91,15 +91,15 @@ impl<A: Acc> Machine<A> {
         store(inst, &self.regs, &mut self.dmem);
     }
 
-    /// A jump or a branch. pc and npc have advanced in `places`, and the machine's own aren't used: the instruction at this pc, its
+    /// A jump or a branch. pc and npc have advanced in `counters`, and the machine's own aren't used: the instruction at this pc, its
     /// delay slot, is executed before its target.
     #[inline(always)]
-    fn go_to(&mut self, inst: &Inst, places: &mut Places)
+    fn go_to(&mut self, inst: &Inst, counters: &mut ProgramCounters)
         requires { IsInstruction inst.now }
-        ensures places { places.new ≡ record places.old { npc = following inst.now self.old.registers places.old.pc } }
-        ensures link { self.new ≡ record self.old { registers = linked inst.now self.old.registers places.old.pc } }
+        ensures counters { counters.new ≡ record counters.old { npc = next_npc inst.now self.old.registers counters.old.pc } }
+        ensures link { self.new ≡ record self.old { registers = with_link inst.now self.old.registers counters.old.pc } }
     {
-        places.npc = Place::new(jump(inst, &mut self.regs, places.pc.get()));
+        counters.npc = InstructionAddress::new(jump(inst, &mut self.regs, counters.pc.get()));
     }
 
     /// BREAK.
@@ -113,13 +113,13 @@ impl<A: Acc> Machine<A> {
 
     /// A move between scalar register `rt` and an SP register.
     #[inline(always)]
-    fn move_sp_register(&mut self, row: MoveRow, rt: u8, register: u8)
+    fn move_sp_register(&mut self, row: MoveOp, rt: u8, register: u8)
         requires { rt < 32 }
         ensures { self.new ≡ moves_sp row rt register self.old }
     {
         match row {
-            MoveRow::From => self.move_from_sp(rt, register),
-            MoveRow::To => self.move_to_sp(rt, register),
+            MoveOp::From => self.move_from_sp(rt, register),
+            MoveOp::To => self.move_to_sp(rt, register),
         }
     }
 
@@ -144,13 +144,13 @@ impl<A: Acc> Machine<A> {
         self.write_reg(u32::from(register), value);
     }
 
-    /// Does what an instruction does. pc and npc have advanced in `places`, and the machine's own aren't used.
+    /// Does what an instruction does. pc and npc have advanced in `counters`, and the machine's own aren't used.
     #[inline(always)]
-    #[tactic(auto, unfolding(crate::specs::Step::worked, crate::specs::Step::computes, crate::specs::Step::loads, crate::specs::Step::stores, crate::specs::Step::jumps, crate::specs::Step::break_instruction, crate::specs::Vector::multiplies, crate::specs::Vector::rounds, crate::specs::Vector::multiplies_mpeg, crate::specs::Vector::reads_accumulator, crate::specs::Vector::ruled, crate::specs::Vector::divides, crate::specs::Vector::loads_vector, crate::specs::Vector::stores_vector))]
-    fn work(&mut self, inst: &Inst, places: &mut Places)
+    #[tactic(auto, unfolding(crate::specs::Step::instruction_effect, crate::specs::Step::computes, crate::specs::Step::loads, crate::specs::Step::stores, crate::specs::Step::jumps, crate::specs::Step::break_instruction, crate::specs::Vector::multiplies, crate::specs::Vector::rounds, crate::specs::Vector::multiplies_mpeg, crate::specs::Vector::reads_accumulator, crate::specs::Vector::ruled, crate::specs::Vector::divides, crate::specs::Vector::loads_vector, crate::specs::Vector::stores_vector))]
+    fn perform(&mut self, inst: &Inst, counters: &mut ProgramCounters)
         requires { IsInstruction inst.now }
-        ensures state { self.new ≡ at_places (places_of self.old) (worked inst.now (at_places places.old self.old)) }
-        ensures places { places.new ≡ places_of (worked inst.now (at_places places.old self.old)) }
+        ensures state { self.new ≡ with_counters (counters_of self.old) (instruction_effect inst.now (with_counters counters.old self.old)) }
+        ensures counters { counters.new ≡ counters_of (instruction_effect inst.now (with_counters counters.old self.old)) }
     {
         match *inst {
             Inst::Shift { .. }
@@ -164,7 +164,7 @@ impl<A: Acc> Machine<A> {
             | Inst::JumpLinkRegister { .. }
             | Inst::BranchSign { .. }
             | Inst::BranchEqual { .. }
-            | Inst::Jump { .. } => self.go_to(inst, places),
+            | Inst::Jump { .. } => self.go_to(inst, counters),
             Inst::Break => self.break_instruction(),
             Inst::MoveSp { row, rt, register } => self.move_sp_register(row, rt, register),
             // A call that isn't inlined gets a copy: so the instruction itself is never in memory.
@@ -198,28 +198,28 @@ impl<A: Acc> Machine<A> {
         }
     }
 
-    /// Executes the word at `places`, whose change a saver gets first, and returns what the loop asks of the change. None for a
+    /// Executes the word at `counters`, whose change a saver gets first, and returns what the loop asks of the change. None for a
     /// reserved word, which changes nothing. The machine's own pc and npc aren't used.
     #[inline(always)]
     #[tactic(auto, unfolding(crate::specs::Step::executed))]
-    pub(crate) fn execute<K: Saver, U: Until>(
+    pub(crate) fn execute<K: Recorder, U: Until>(
         &mut self,
-        places: &mut Places,
+        counters: &mut ProgramCounters,
         word: u32,
         saver: &mut K,
     ) -> Option<Reach>
-        ensures answer { result ≡ option_map (λ i. reach_of (change_of i (at_places places.old self.old))) (inst_of word) }
-        ensures state { at_places places.new self.new ≡ unwrap_or (option_map (λ i. executed i (at_places places.old self.old)) (inst_of word)) (at_places places.old self.old) }
-        ensures saver { saver.new ≡ told_by K.saves (inst_of word) (at_places places.old self.old) saver.old }
+        ensures answer { result ≡ option_map (λ i. reach_of (change_of i (with_counters counters.old self.old))) (inst_of word) }
+        ensures state { with_counters counters.new self.new ≡ unwrap_or (option_map (λ i. executed i (with_counters counters.old self.old)) (inst_of word)) (with_counters counters.old self.old) }
+        ensures saver { saver.new ≡ after_instruction K.saves (inst_of word) (with_counters counters.old self.old) saver.old }
     {
-        let from = places.pc;
-        let behind = places.next();
+        let from = counters.pc;
+        let behind = counters.next();
         let mut executor: Executor<A, K, U> = Executor {
             machine: self,
             saver,
             until: PhantomData,
             from,
-            places: behind,
+            counters: behind,
             reach: Reach {
                 sp: false,
                 dmem: false,
@@ -229,26 +229,26 @@ impl<A: Acc> Machine<A> {
         if !visit(word, &mut executor) {
             return None;
         }
-        *places = executor.places();
+        *counters = executor.counters();
         Some(executor.reach)
     }
 }
 
-impl<'a, A: Acc, K: Saver, U: Until> Visitor for Executor<'a, A, K, U> {
-    ghost use Rattle.rsp_machine.specs.Places.{at_places, places_of};
-    ghost use Rattle.rsp_machine.specs.Step.{worked};
-    ghost use Rattle.rsp_machine.specs.Saved.{change_of};
+impl<'a, A: Acc, K: Recorder, U: Until> Visitor for Executor<'a, A, K, U> {
+    ghost use Rattle.rsp_machine.specs.ProgramCounters.{with_counters, counters_of};
+    ghost use Rattle.rsp_machine.specs.Step.{instruction_effect};
+    ghost use Rattle.rsp_machine.specs.Undo.{change_of};
     ghost use Rattle.rsp_machine.specs.Changes.{reach_of};
 
     ghost after = { λ i e.
-        let before = at_places (record { pc = e.from; npc = e.places.pc }) e.machine.now in
-        let behind = worked i (at_places e.places e.machine.now) in
+        let before = with_counters (record { pc = e.from; npc = e.counters.pc }) e.machine.now in
+        let behind = instruction_effect i (with_counters e.counters e.machine.now) in
         record {
-          machine = record e.machine { now = at_places (places_of e.machine.now) behind };
+          machine = record e.machine { now = with_counters (counters_of e.machine.now) behind };
           saver = record e.saver { now = K.saves (change_of i before) before e.saver.now };
           until = e.until;
           from = e.from;
-          places = places_of behind;
+          counters = counters_of behind;
           reach = reach_of (change_of i before);
         } };
 
@@ -256,6 +256,6 @@ impl<'a, A: Acc, K: Saver, U: Until> Visitor for Executor<'a, A, K, U> {
     fn take(&mut self, inst: Inst) {
         let change = change_of(&inst, self.machine);
         self.save(change);
-        self.machine.work(&inst, &mut self.places);
+        self.machine.perform(&inst, &mut self.counters);
     }
 }

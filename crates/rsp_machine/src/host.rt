@@ -1,9 +1,9 @@
 ghost use Rattle.std.specs.Prelude.{◌≡◌, ◌<◌, ◌≤◌, ◌↔◌, ◌+◌, ◌%◌, IsOk, OnOk, OnErr, IsTrue, ℕ, Ok, Err, Some, None, length, MatchResult};
-ghost use Rattle.rsp_machine.specs.Host.{register_read, register_written, is_inside, with_bank_bytes, image_word, task_fault, tasked, one_run, with_pc};
-ghost use Rattle.rsp_regs.specs.Sp.{peeked};
+ghost use Rattle.rsp_machine.specs.Host.{register_read, register_written, is_inside, with_bank_bytes, image_word, task_fault, with_task, single_row, with_pc};
+ghost use Rattle.rsp_regs.specs.Sp.{read_value};
 
 use crate::machine::Machine;
-use crate::place::Place;
+use crate::program_counters::InstructionAddress;
 use byteorder::{BigEndian, ByteOrder};
 use rsp_acc::Acc;
 use rsp_memory::{Bank, Rdram};
@@ -43,7 +43,7 @@ impl<A: Acc> Machine<A> {
     /// Reads an SP register, whose number is `n` modulo 16. A read of the semaphore, register 7, then sets it; any other read
     /// changes nothing.
     pub fn read_reg(&mut self, n: u32) -> u32
-        ensures value { result ≡ peeked n self.old.sp }
+        ensures value { result ≡ read_value n self.old.sp }
         ensures state { self.new ≡ register_read n self.old }
     {
         self.sp.host_read(n)
@@ -64,7 +64,7 @@ impl<A: Acc> Machine<A> {
         requires whole { pc % 4 ≡ 0 }
         ensures { self.new ≡ with_pc pc self.old }
     {
-        self.pc = Place::new(pc);
+        self.pc = InstructionAddress::new(pc);
         self.npc = self.pc.next();
     }
 
@@ -108,10 +108,10 @@ impl<A: Acc> Machine<A> {
     ///
     /// The word at 8 of the structure is the boot code's address, modulo 2^24, and that at 12 the number of its bytes. A
     /// [`TaskFault`] is returned, and then nothing changes.
-    #[tactic(auto, unfolding(crate::specs::Host::tasked))]
+    #[tactic(auto, unfolding(crate::specs::Host::with_task))]
     pub fn start_task(&mut self, a: u32) -> Result<(), TaskFault>
         ensures fault { MatchResult result (λ _. task_fault a self.old.rdram ≡ None) (λ f. task_fault a self.old.rdram ≡ Some f) }
-        ensures ok { OnOk result (self.new ≡ tasked a self.old) }
+        ensures ok { OnOk result (self.new ≡ with_task a self.old) }
         ensures err { OnErr result (self.new ≡ self.old) }
     {
         self.rdram.ranges();
@@ -123,8 +123,8 @@ impl<A: Acc> Machine<A> {
             return Err(TaskFault::TaskSize);
         }
         let boot = image_word(&self.rdram, a + 8) % 0x100_0000;
-        one_run(0xfc0, a, 64).copy_in(&self.rdram, &mut self.dmem);
-        one_run(0, boot, size).copy_in(&self.rdram, &mut self.imem);
+        single_row(0xfc0, a, 64).copy_in(&self.rdram, &mut self.dmem);
+        single_row(0, boot, size).copy_in(&self.rdram, &mut self.imem);
         self.set_pc(0);
         self.sp.on_task();
         Ok(())
@@ -132,8 +132,8 @@ impl<A: Acc> Machine<A> {
 }
 
 /// A copy of `length` bytes from an address in the RDRAM to one in a bank.
-fn one_run(place: u32, from: u32, length: u32) -> Transfer
-    ensures { result ≡ one_run place from length }
+fn single_row(place: u32, from: u32, length: u32) -> Transfer
+    ensures { result ≡ single_row place from length }
 {
     Transfer {
         sp: place,

@@ -4,7 +4,7 @@ ghost use Rattle.rsp_machine.specs.Changes.{IsRanged};
 ghost use Rattle.rsp_scalar.specs.Registers.{register};
 ghost use Rattle.rsp_loadstore.specs.File.{vector};
 
-use crate::place::Place;
+use crate::program_counters::InstructionAddress;
 use rsp_acc::Acc;
 use rsp_divide::Divider;
 use rsp_lanes::{Flags, VReg};
@@ -19,8 +19,8 @@ use std::marker::Model;
 /// `State`.
 #[derive(Drop)]
 pub struct Machine<A: Acc> {
-    pub(crate) pc: Place,
-    pub(crate) npc: Place,
+    pub(crate) pc: InstructionAddress,
+    pub(crate) npc: InstructionAddress,
     pub(crate) regs: Regs,
     pub(crate) vregs: VFile,
     pub(crate) acc: A,
@@ -59,8 +59,8 @@ impl<A: Acc> Machine<A> {
         ensures { result ≡ start_of rdram }
     {
         Machine {
-            pc: Place::new(0),
-            npc: Place::new(4),
+            pc: InstructionAddress::new(0),
+            npc: InstructionAddress::new(4),
             regs: Regs::new(),
             vregs: VFile::new(),
             acc: A::zero(),

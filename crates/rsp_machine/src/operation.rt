@@ -5,121 +5,121 @@ ghost use Rattle.rsp_machine.specs.Operations.{multiply_op, round_op, mpeg_op, a
 
 use rsp_compare::{AddOp, ClipOp, LogicOp, SelectOp};
 use rsp_decode::{
-    DivideRow, MpegRow, MultiplyRow, RoundRow, VectorAddRow, VectorClipRow, VectorLogicRow,
-    VectorSelectRow,
+    VectorAddOp, VectorClipOp, VectorDivideOp, VectorLogicOp, VectorMpegOp, VectorMultiplyOp,
+    VectorRoundOp, VectorSelectOp,
 };
 use rsp_divide::DivideOp;
 use rsp_multiply::{MpegOp, MultiplyOp, RoundOp};
 
 /// The operation of a multiply.
 #[inline(always)]
-pub(crate) fn multiply_op(row: MultiplyRow) -> MultiplyOp
+pub(crate) fn multiply_op(row: VectorMultiplyOp) -> MultiplyOp
     ensures { result ≡ multiply_op row }
 {
     match row {
-        MultiplyRow::Vmulf => MultiplyOp::Vmulf,
-        MultiplyRow::Vmulu => MultiplyOp::Vmulu,
-        MultiplyRow::Vmudl => MultiplyOp::Vmudl,
-        MultiplyRow::Vmudm => MultiplyOp::Vmudm,
-        MultiplyRow::Vmudn => MultiplyOp::Vmudn,
-        MultiplyRow::Vmudh => MultiplyOp::Vmudh,
-        MultiplyRow::Vmacf => MultiplyOp::Vmacf,
-        MultiplyRow::Vmacu => MultiplyOp::Vmacu,
-        MultiplyRow::Vmadl => MultiplyOp::Vmadl,
-        MultiplyRow::Vmadm => MultiplyOp::Vmadm,
-        MultiplyRow::Vmadn => MultiplyOp::Vmadn,
-        MultiplyRow::Vmadh => MultiplyOp::Vmadh,
+        VectorMultiplyOp::Vmulf => MultiplyOp::Vmulf,
+        VectorMultiplyOp::Vmulu => MultiplyOp::Vmulu,
+        VectorMultiplyOp::Vmudl => MultiplyOp::Vmudl,
+        VectorMultiplyOp::Vmudm => MultiplyOp::Vmudm,
+        VectorMultiplyOp::Vmudn => MultiplyOp::Vmudn,
+        VectorMultiplyOp::Vmudh => MultiplyOp::Vmudh,
+        VectorMultiplyOp::Vmacf => MultiplyOp::Vmacf,
+        VectorMultiplyOp::Vmacu => MultiplyOp::Vmacu,
+        VectorMultiplyOp::Vmadl => MultiplyOp::Vmadl,
+        VectorMultiplyOp::Vmadm => MultiplyOp::Vmadm,
+        VectorMultiplyOp::Vmadn => MultiplyOp::Vmadn,
+        VectorMultiplyOp::Vmadh => MultiplyOp::Vmadh,
     }
 }
 
 /// The operation of a rounding of the accumulators.
 #[inline(always)]
-pub(crate) fn round_op(row: RoundRow) -> RoundOp
+pub(crate) fn round_op(row: VectorRoundOp) -> RoundOp
     ensures { result ≡ round_op row }
 {
     match row {
-        RoundRow::Vrndp => RoundOp::Vrndp,
-        RoundRow::Vrndn => RoundOp::Vrndn,
+        VectorRoundOp::Vrndp => RoundOp::Vrndp,
+        VectorRoundOp::Vrndn => RoundOp::Vrndn,
     }
 }
 
 /// The operation of a multiply for MPEG coefficients.
 #[inline(always)]
-pub(crate) fn mpeg_op(row: MpegRow) -> MpegOp
+pub(crate) fn mpeg_op(row: VectorMpegOp) -> MpegOp
     ensures { result ≡ mpeg_op row }
 {
     match row {
-        MpegRow::Vmulq => MpegOp::Vmulq,
-        MpegRow::Vmacq => MpegOp::Vmacq,
+        VectorMpegOp::Vmulq => MpegOp::Vmulq,
+        VectorMpegOp::Vmacq => MpegOp::Vmacq,
     }
 }
 
 /// The operation of a sum or a difference.
 #[inline(always)]
-pub(crate) fn add_op(row: VectorAddRow) -> AddOp
+pub(crate) fn add_op(row: VectorAddOp) -> AddOp
     ensures { result ≡ add_op row }
 {
     match row {
-        VectorAddRow::Vadd => AddOp::Vadd,
-        VectorAddRow::Vsub => AddOp::Vsub,
-        VectorAddRow::Vabs => AddOp::Vabs,
-        VectorAddRow::Vaddc => AddOp::Vaddc,
-        VectorAddRow::Vsubc => AddOp::Vsubc,
+        VectorAddOp::Vadd => AddOp::Vadd,
+        VectorAddOp::Vsub => AddOp::Vsub,
+        VectorAddOp::Vabs => AddOp::Vabs,
+        VectorAddOp::Vaddc => AddOp::Vaddc,
+        VectorAddOp::Vsubc => AddOp::Vsubc,
     }
 }
 
 /// The operation of a comparison.
 #[inline(always)]
-pub(crate) fn select_op(row: VectorSelectRow) -> SelectOp
+pub(crate) fn select_op(row: VectorSelectOp) -> SelectOp
     ensures { result ≡ select_op row }
 {
     match row {
-        VectorSelectRow::Vlt => SelectOp::Vlt,
-        VectorSelectRow::Veq => SelectOp::Veq,
-        VectorSelectRow::Vne => SelectOp::Vne,
-        VectorSelectRow::Vge => SelectOp::Vge,
+        VectorSelectOp::Vlt => SelectOp::Vlt,
+        VectorSelectOp::Veq => SelectOp::Veq,
+        VectorSelectOp::Vne => SelectOp::Vne,
+        VectorSelectOp::Vge => SelectOp::Vge,
     }
 }
 
 /// The operation of a clip.
 #[inline(always)]
-pub(crate) fn clip_op(row: VectorClipRow) -> ClipOp
+pub(crate) fn clip_op(row: VectorClipOp) -> ClipOp
     ensures { result ≡ clip_op row }
 {
     match row {
-        VectorClipRow::Vcl => ClipOp::Vcl,
-        VectorClipRow::Vch => ClipOp::Vch,
-        VectorClipRow::Vcr => ClipOp::Vcr,
+        VectorClipOp::Vcl => ClipOp::Vcl,
+        VectorClipOp::Vch => ClipOp::Vch,
+        VectorClipOp::Vcr => ClipOp::Vcr,
     }
 }
 
 /// The operation of a logic instruction.
 #[inline(always)]
-pub(crate) fn logic_op(row: VectorLogicRow) -> LogicOp
+pub(crate) fn logic_op(row: VectorLogicOp) -> LogicOp
     ensures { result ≡ logic_op row }
 {
     match row {
-        VectorLogicRow::Vand => LogicOp::Vand,
-        VectorLogicRow::Vnand => LogicOp::Vnand,
-        VectorLogicRow::Vor => LogicOp::Vor,
-        VectorLogicRow::Vnor => LogicOp::Vnor,
-        VectorLogicRow::Vxor => LogicOp::Vxor,
-        VectorLogicRow::Vnxor => LogicOp::Vnxor,
+        VectorLogicOp::Vand => LogicOp::Vand,
+        VectorLogicOp::Vnand => LogicOp::Vnand,
+        VectorLogicOp::Vor => LogicOp::Vor,
+        VectorLogicOp::Vnor => LogicOp::Vnor,
+        VectorLogicOp::Vxor => LogicOp::Vxor,
+        VectorLogicOp::Vnxor => LogicOp::Vnxor,
     }
 }
 
 /// The operation of an instruction that writes one lane.
 #[inline(always)]
-pub(crate) fn divide_op(row: DivideRow) -> DivideOp
+pub(crate) fn divide_op(row: VectorDivideOp) -> DivideOp
     ensures { result ≡ divide_op row }
 {
     match row {
-        DivideRow::Vrcp => DivideOp::Vrcp,
-        DivideRow::Vrcpl => DivideOp::Vrcpl,
-        DivideRow::Vrcph => DivideOp::Vrcph,
-        DivideRow::Vmov => DivideOp::Vmov,
-        DivideRow::Vrsq => DivideOp::Vrsq,
-        DivideRow::Vrsql => DivideOp::Vrsql,
-        DivideRow::Vrsqh => DivideOp::Vrsqh,
+        VectorDivideOp::Vrcp => DivideOp::Vrcp,
+        VectorDivideOp::Vrcpl => DivideOp::Vrcpl,
+        VectorDivideOp::Vrcph => DivideOp::Vrcph,
+        VectorDivideOp::Vmov => DivideOp::Vmov,
+        VectorDivideOp::Vrsq => DivideOp::Vrsq,
+        VectorDivideOp::Vrsql => DivideOp::Vrsql,
+        VectorDivideOp::Vrsqh => DivideOp::Vrsqh,
     }
 }

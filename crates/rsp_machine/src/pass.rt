@@ -6,7 +6,7 @@ ghost use Rattle.rsp_machine.specs.State.{advanced};
 
 use crate::machine::Machine;
 use rsp_acc::Acc;
-use rsp_decode::{Inst, MoveRow, decode};
+use rsp_decode::{Inst, MoveOp, decode};
 
 /// Why a machine can't pass over the word at pc. Of both faults Halted is reported.
 #[derive(Clone, Copy, Debug, PartialEq, Eq)]
@@ -29,12 +29,12 @@ impl<A: Acc> Machine<A> {
         if self.sp.halted() {
             return Err(PassFault::Halted);
         }
-        let Some(Inst::MoveSp { row, rt, .. }) = decode(self.word_at(self.places())) else {
+        let Some(Inst::MoveSp { row, rt, .. }) = decode(self.word_at(self.counters())) else {
             return Err(PassFault::OtherWord);
         };
-        let places = self.places().next();
-        self.put_places(places);
-        if let MoveRow::From = row {
+        let counters = self.counters().next();
+        self.set_counters(counters);
+        if let MoveOp::From = row {
             self.regs.set(rt, value);
         }
         self.sp.on_step();

@@ -2,12 +2,12 @@
 
 ghost use Rattle.std.specs.Prelude.{◌≡◌, ◌<◌, ◌≤◌};
 ghost use Rattle.rsp_loadstore.specs.File.{vector};
-ghost use Rattle.rsp_machine.specs.Saved.{blank, is_back, may_store, group_at, with_group, with_low_of, with_product, with_low_part, with_vco, undone};
+ghost use Rattle.rsp_machine.specs.Undo.{blank, can_undo, may_store, group_at, with_group, with_low_of, with_product, with_low_part, with_vco, undone};
 
 use crate::change::Change;
 use crate::machine::Machine;
-use crate::place::{Place, Places};
-use crate::saver::Saver;
+use crate::program_counters::{InstructionAddress, ProgramCounters};
+use crate::recorder::Recorder;
 use rsp_acc::{Acc, Addends, Part};
 use rsp_divide::Divider;
 use rsp_lanes::{Flags, VReg};
@@ -19,7 +19,7 @@ use std::marker::Model;
 /// after step: each writes only the values that it needs, and the others stay as earlier steps left them, also in contracts.
 #[derive(Drop)]
 pub struct Record {
-    pc: Place,
+    pc: InstructionAddress,
     change: Change,
     word: u32,
     bytes: [u8; 16],
@@ -32,7 +32,7 @@ pub struct Record {
 }
 
 impl Model for Record {
-    ghost use Rattle.rsp_machine.specs.Saved.{Saved};
+    ghost use Rattle.rsp_machine.specs.Undo.{Saved};
     ghost use Rattle.rsp_machine.specs.Changes.{IsChange};
 
     ghost Value = { Saved };
@@ -55,13 +55,13 @@ impl Model for Record {
 
 impl Record {
     /// The record of no step: [`Machine::undo`] of it changes nothing.
-    #[tactic(auto, unfolding(crate::specs::Saved::blank))]
+    #[tactic(auto, unfolding(crate::specs::Undo::blank))]
     pub fn new() -> Record
         ensures { result ≡ blank }
     {
         let zeros = VReg::new();
         Record {
-            pc: Place::new(0),
+            pc: InstructionAddress::new(0),
             change: Change::Dma,
             word: 0,
             bytes: [0; 16],
@@ -76,10 +76,10 @@ impl Record {
 
     /// Whether [`Machine::undo`] undoes the step: not if it started a DMA.
     #[inline(always)]
-    pub fn leads_back(&self) -> bool
-        ensures { result ≡ is_back self.now.change }
+    pub fn can_undo(&self) -> bool
+        ensures { result ≡ can_undo self.now.change }
     {
-        self.change.is_back()
+        self.change.can_undo()
     }
 
     /// Whether the step that last wrote the record may have changed DMEM.
@@ -131,11 +131,11 @@ impl Record {
     }
 }
 
-impl Saver for Record {
+impl Recorder for Record {
     ghost use Rattle.std.specs.Prelude.{true};
-    ghost use Rattle.rsp_machine.specs.Saved.{change_saved};
+    ghost use Rattle.rsp_machine.specs.Undo.{record_of};
 
-    ghost saves = { change_saved };
+    ghost saves = { record_of };
 
     ghost slot = { λ n. n };
 
@@ -152,12 +152,12 @@ impl Saver for Record {
     }
 
     #[inline(always)]
-    #[tactic(auto, unfolding(crate::specs::Saved::change_saved, crate::specs::Saved::values_saved))]
-    fn save<A: Acc>(&mut self, machine: &Machine<A>, before: Places, change: Change) {
+    #[tactic(auto, unfolding(crate::specs::Undo::record_of, crate::specs::Undo::values_saved))]
+    fn save<A: Acc>(&mut self, machine: &Machine<A>, before: ProgramCounters, change: Change) {
         self.pc = before.pc;
         self.change = change;
         match change {
-            Change::Places | Change::Dma => (),
+            Change::ProgramCounters | Change::Dma => (),
             Change::Register(n) => self.word = machine.regs.get(n as u8),
             Change::Bytes(a) => match machine.dmem.whole_window(a) {
                 Some(bytes) => self.bytes = *bytes,
@@ -196,12 +196,12 @@ impl Saver for Record {
 impl<A: Acc> Machine<A> {
     /// Undoes a step: writes back what it changed, and goes back to its address. From the state after the step this restores the
     /// whole state before it. The record of no step, and that of a step that starts a DMA, change nothing.
-    #[tactic(auto, unfolding(crate::specs::Saved::undone, crate::specs::Saved::restored))]
+    #[tactic(auto, unfolding(crate::specs::Undo::undone, crate::specs::Undo::restored))]
     pub fn undo(&mut self, saved: &Record)
         ensures { self.new ≡ undone saved.now self.old }
     {
         match saved.change {
-            Change::Places => (),
+            Change::ProgramCounters => (),
             Change::Register(n) => self.regs.set(n as u8, saved.word),
             Change::Bytes(a) => self.dmem.set_bytes(a, &saved.bytes),
             Change::Vector(n) => self.vregs.set_reg(n as u8, saved.vector),

@@ -3,10 +3,10 @@
 ghost use Rattle.std.specs.Prelude.{◌≡◌, Some, None, IfNone, OnOk, OnErr, MatchResult};
 ghost use Rattle.rsp_machine.specs.Registers.{AreRegisters, registers_of, with_registers, registers_fault, sp_fault};
 ghost use Rattle.rsp_regs.specs.Parts.{sp_of};
-ghost use Rattle.rsp_regs.specs.Sp.{AreKept};
+ghost use Rattle.rsp_regs.specs.Sp.{AreSpRanges};
 
 use crate::machine::Machine;
-use crate::place::Place;
+use crate::program_counters::InstructionAddress;
 use rsp_acc::{Acc, Addends, Part};
 use rsp_divide::Divider;
 use rsp_lanes::{Flags, VReg};
@@ -77,7 +77,7 @@ fn fault_of(given: &AllRegisters) -> Option<RegistersFault>
 /// Why SP registers can't be those of a machine.
 fn sp_fault(given: &SpParts) -> Option<RegistersFault>
     ensures fault { result ≡ sp_fault given.now }
-    ensures none { IfNone result (AreKept given.now.memory given.now.dram given.now.skip) }
+    ensures none { IfNone result (AreSpRanges given.now.memory given.now.dram given.now.skip) }
 {
     if given.memory >= 0x2000 || given.memory % 8 != 0 {
         return Some(RegistersFault::MemoryAddress);
@@ -147,8 +147,8 @@ impl<A: Acc> Machine<A> {
         let high = VReg::from_array(given.accumulators_high);
         let middle = VReg::from_array(given.accumulators_middle);
         let low = VReg::from_array(given.accumulators_low);
-        self.pc = Place::new(given.pc);
-        self.npc = Place::new(given.npc);
+        self.pc = InstructionAddress::new(given.pc);
+        self.npc = InstructionAddress::new(given.npc);
         self.regs = Regs::from_words(given.registers);
         self.vregs = VFile::from_lanes(&given.vectors);
         self.acc

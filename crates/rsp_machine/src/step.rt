@@ -2,20 +2,20 @@
 
 ghost use Rattle.std.specs.Prelude.{◌≡◌, ◌↔◌, ◌⊎◌, ◌<◌, ◌≤◌, ◌+◌, ◌-◌, ◌||◌, ◌&&◌, ℕ, true, false, not, if◌then◌else◌, length, drop, IsSome, IfSome};
 ghost use Rattle.rsp_memory.specs.Memory.{word_at};
-ghost use Rattle.rsp_machine.specs.Step.{singled, step_of};
-ghost use Rattle.rsp_machine.specs.Places.{at_places, places_of};
+ghost use Rattle.rsp_machine.specs.Step.{after_single_step, step_of};
+ghost use Rattle.rsp_machine.specs.ProgramCounters.{with_counters, counters_of};
 ghost use Rattle.rsp_machine.specs.Transfers.{starts_dma_at};
-ghost use Rattle.rsp_machine.specs.Saved.{is_back, may_store, record_at, undone};
+ghost use Rattle.rsp_machine.specs.Undo.{can_undo, may_store, record_at, undone};
 ghost use Rattle.rsp_machine.specs.Laws.{steps_of, done_steps, done_of};
 ghost use Rattle.rsp_machine.specs.Until.{ends_after};
-ghost use Rattle.rsp_machine.specs.Making.{IsMade, AreTold, IsEnd};
+ghost use Rattle.rsp_machine.specs.Loop.{AreDone, HaveRecorded, LoopEnd};
 ghost use Rattle.rsp_machine.specs.declared.step.StepEnd.TheVariants.{Done};
 
 use crate::change::Reach;
 use crate::machine::Machine;
-use crate::place::Places;
+use crate::program_counters::ProgramCounters;
 use crate::record::Record;
-use crate::saver::{NoRecord, Saver};
+use crate::recorder::{NoRecord, Recorder};
 use crate::until::{Never, Until};
 use rsp_acc::Acc;
 use std::slice;
@@ -37,10 +37,10 @@ pub enum StepEnd {
 impl<A: Acc> Machine<A> {
     /// pc and npc, which the loop of steps keeps apart.
     #[inline(always)]
-    pub(crate) fn places(&self) -> Places
-        ensures { result ≡ places_of self.now }
+    pub(crate) fn counters(&self) -> ProgramCounters
+        ensures { result ≡ counters_of self.now }
     {
-        Places {
+        ProgramCounters {
             pc: self.pc,
             npc: self.npc,
         }
@@ -48,26 +48,26 @@ impl<A: Acc> Machine<A> {
 
     /// Sets pc and npc, which the loop of steps has kept apart.
     #[inline(always)]
-    pub(crate) fn put_places(&mut self, places: Places)
-        ensures { self.new ≡ at_places places self.old }
+    pub(crate) fn set_counters(&mut self, counters: ProgramCounters)
+        ensures { self.new ≡ with_counters counters self.old }
     {
-        self.pc = places.pc;
-        self.npc = places.npc;
+        self.pc = counters.pc;
+        self.npc = counters.npc;
     }
 
     /// The word of IMEM that a machine with this pc executes next.
     #[inline(always)]
-    pub(crate) fn word_at(&self, places: Places) -> u32
-        ensures { result ≡ word_at self.now.imem places.pc }
+    pub(crate) fn word_at(&self, counters: ProgramCounters) -> u32
+        ensures { result ≡ word_at self.now.imem counters.pc }
     {
-        self.imem.aligned_word(places.pc.index())
+        self.imem.aligned_word(counters.pc.index())
     }
 
     /// Ends a step: in single step the machine halts. Returns whether the loop goes on. This is tested only after an instruction that
     /// may have reached the SP registers, or if `single`, which is false only if single step is clear.
     #[inline(always)]
-    fn end_step<K: Saver>(&mut self, reach: Reach, single: bool) -> bool
-        ensures state { self.new ≡ (if reach.sp || single then singled self.old else self.old) }
+    fn end_step<K: Recorder>(&mut self, reach: Reach, single: bool) -> bool
+        ensures state { self.new ≡ (if reach.sp || single then after_single_step self.old else self.old) }
         ensures goes { result ≡ (not (reach.sp || single) || not self.new.sp.halted && not (K.ends_at_dma && reach.dma)) }
     {
         // Apart, so that the other instructions need not carry whether they started a DMA.
@@ -79,8 +79,8 @@ impl<A: Acc> Machine<A> {
 
     /// Halts a machine in single step. Returns whether the loop goes on: the machine isn't halted, and no DMA ends the loop.
     #[inline(always)]
-    fn halt_or_go<K: Saver>(&mut self, reach: Reach) -> bool
-        ensures state { self.new ≡ singled self.old }
+    fn halt_or_go<K: Recorder>(&mut self, reach: Reach) -> bool
+        ensures state { self.new ≡ after_single_step self.old }
         ensures goes { result ≡ (not self.new.sp.halted && not (K.ends_at_dma && reach.dma)) }
     {
         self.sp.on_step();
@@ -90,38 +90,38 @@ impl<A: Acc> Machine<A> {
     /// Makes up to `n` steps, as long as they are Done, the savers go on, and `until` doesn't end them, and returns how many.
     /// Meanwhile pc and npc are in registers of the host. `until` is asked at the end of a turn, so not before the first step.
     #[inline(never)]
-    fn go<K: Saver, U: Until>(&mut self, n: u64, slots: &mut [K], until: &U) -> u64
+    fn run_loop<K: Recorder, U: Until>(&mut self, n: u64, slots: &mut [K], until: &U) -> u64
         requires slots { (i : ℕ) → i < n → K.slot i < length slots.old }
         ensures within { result ≤ n }
-        ensures made { IsMade result self.old self.new }
-        ensures told { AreTold K.saves K.slot result self.old slots.old slots.new }
+        ensures made { AreDone result self.old self.new }
+        ensures told { HaveRecorded K.saves K.slot result self.old slots.old slots.new }
         ensures before { (i : ℕ) → i + 1 < result → K.ends_at_dma ≡ true → starts_dma_at (steps_of i self.old) ≡ false }
         ensures asked { (i : ℕ) → i + 1 < result → ends_after (U.ends until.now) (steps_of i self.old) ≡ false }
-        ensures ends { result < n → IsEnd K.ends_at_dma (U.ends until.now) result self.old self.new }
+        ensures ends { result < n → LoopEnd K.ends_at_dma (U.ends until.now) result self.old self.new }
     {
         if self.sp.halted() {
             return 0;
         }
         let single = self.sp.single_step();
-        let mut places = self.places();
-        let mut word = self.word_at(places);
+        let mut counters = self.counters();
+        let mut word = self.word_at(counters);
         let mut made = 0;
         while made < n {
             self.vector_ranges();
             let slot = &mut slots[K::slot(made)];
-            let Some(reach) = self.execute::<K, U>(&mut places, word, slot) else {
+            let Some(reach) = self.execute::<K, U>(&mut counters, word, slot) else {
                 break;
             };
             made += 1;
             if !self.end_step::<K>(reach, single) {
                 break;
             }
-            word = self.word_at(places);
-            if until.ends(places.pc.get(), word, reach.dmem) {
+            word = self.word_at(counters);
+            if until.ends(counters.pc.get(), word, reach.dmem) {
                 break;
             }
         }
-        self.put_places(places);
+        self.set_counters(counters);
         made
     }
 
@@ -139,7 +139,7 @@ impl<A: Acc> Machine<A> {
             return StepEnd::Halted;
         }
         StepEnd::Reserved {
-            word: self.word_at(self.places()),
+            word: self.word_at(self.counters()),
         }
     }
 
@@ -149,7 +149,7 @@ impl<A: Acc> Machine<A> {
         ensures state { self.new ≡ steps_of n self.old }
         ensures done { result ≡ done_of n self.old }
     {
-        self.go(n, &mut [NoRecord], &Never)
+        self.run_loop(n, &mut [NoRecord], &Never)
     }
 
     /// One step, with the record that undoes it beside its answer: None exactly if the answer isn't Done or a DMA
@@ -164,7 +164,7 @@ impl<A: Acc> Machine<A> {
         if self.steps_recorded(slice::from_mut(&mut record)) == 0 {
             return (self.step(), None);
         }
-        let record = if record.leads_back() {
+        let record = if record.can_undo() {
             Some(record)
         } else {
             None
@@ -182,7 +182,7 @@ impl<A: Acc> Machine<A> {
         ensures state { self.new ≡ steps_of result self.old }
         ensures ends { result < length records.old → (done_steps (step_of self.new).0 ≡ 0) ⊎ ((0 < result) × (starts_dma_at (steps_of (result - 1) self.old) ≡ true)) }
         ensures before { (i : ℕ) → i + 1 < result → starts_dma_at (steps_of i self.old) ≡ false }
-        ensures which { (i : ℕ) → i < result → is_back (record_at records.new i).change ≡ not (starts_dma_at (steps_of i self.old)) }
+        ensures which { (i : ℕ) → i < result → can_undo (record_at records.new i).change ≡ not (starts_dma_at (steps_of i self.old)) }
         ensures back { (i : ℕ) → i < result → starts_dma_at (steps_of i self.old) ≡ false → undone (record_at records.new i) (steps_of (i + 1) self.old) ≡ steps_of i self.old }
         ensures memory { (i : ℕ) → i < result → may_store (record_at records.new i) ≡ false → (steps_of (i + 1) self.old).dmem ≡ (steps_of i self.old).dmem }
         ensures rest { drop result records.new ≡ drop result records.old }
@@ -201,7 +201,7 @@ impl<A: Acc> Machine<A> {
         ensures ends { result < n → (done_steps (step_of self.new).0 ≡ 0) ⊎ ((0 < result) × (ends_after (U.ends until.now) (steps_of (result - 1) self.old) ≡ true)) }
         ensures asked { (i : ℕ) → i + 1 < result → ends_after (U.ends until.now) (steps_of i self.old) ≡ false }
     {
-        self.go(n, &mut [NoRecord], until)
+        self.run_loop(n, &mut [NoRecord], until)
     }
 
     /// [`Machine::steps_recorded`] that `until` may end too. It is asked before each step but the first.
@@ -212,12 +212,12 @@ impl<A: Acc> Machine<A> {
         ensures ends { result < length records.old → (done_steps (step_of self.new).0 ≡ 0) ⊎ ((0 < result) × ((starts_dma_at (steps_of (result - 1) self.old) ≡ true) ⊎ (ends_after (U.ends until.now) (steps_of (result - 1) self.old) ≡ true))) }
         ensures asked { (i : ℕ) → i + 1 < result → ends_after (U.ends until.now) (steps_of i self.old) ≡ false }
         ensures before { (i : ℕ) → i + 1 < result → starts_dma_at (steps_of i self.old) ≡ false }
-        ensures which { (i : ℕ) → i < result → is_back (record_at records.new i).change ≡ not (starts_dma_at (steps_of i self.old)) }
+        ensures which { (i : ℕ) → i < result → can_undo (record_at records.new i).change ≡ not (starts_dma_at (steps_of i self.old)) }
         ensures back { (i : ℕ) → i < result → starts_dma_at (steps_of i self.old) ≡ false → undone (record_at records.new i) (steps_of (i + 1) self.old) ≡ steps_of i self.old }
         ensures memory { (i : ℕ) → i < result → may_store (record_at records.new i) ≡ false → (steps_of (i + 1) self.old).dmem ≡ (steps_of i self.old).dmem }
         ensures rest { drop result records.new ≡ drop result records.old }
         ensures len { length records.new ≡ length records.old }
     {
-        self.go(records.len() as u64, records, until) as usize
+        self.run_loop(records.len() as u64, records, until) as usize
     }
 }

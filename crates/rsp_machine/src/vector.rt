@@ -16,9 +16,9 @@ use crate::operation;
 use rsp_acc::Acc;
 use rsp_compare::MergeOp;
 use rsp_decode::{
-    DivideRow, Inst, MoveRow, MpegRow, MultiplyRow, RoundRow, VectorAddRow, VectorClipRow,
-    VectorFields, VectorLoadRow, VectorLogicRow, VectorMemoryFields, VectorSelectRow,
-    VectorStoreRow,
+    Inst, MoveOp, VectorAddOp, VectorClipOp, VectorDivideOp, VectorFields, VectorLoadOp,
+    VectorLogicOp, VectorMemoryFields, VectorMpegOp, VectorMultiplyOp, VectorRoundOp,
+    VectorSelectOp, VectorStoreOp,
 };
 use rsp_lanes::{VReg, select};
 use rsp_loadstore::{self, address, control_from, control_to, move_from, move_to};
@@ -37,7 +37,7 @@ impl<A: Acc> Machine<A> {
     /// One of the twelve multiplies.
     #[inline]
     #[tactic(auto, unfolding(crate::specs::Vector::multiplies))]
-    pub(crate) fn multiply_lanes(&mut self, row: MultiplyRow, fields: VectorFields)
+    pub(crate) fn multiply_lanes(&mut self, row: VectorMultiplyOp, fields: VectorFields)
         requires { IsVectorFields fields }
         ensures { self.new ≡ multiplies row fields self.old }
     {
@@ -50,7 +50,7 @@ impl<A: Acc> Machine<A> {
     /// Rounds the accumulators by their sign.
     #[inline]
     #[tactic(auto, unfolding(crate::specs::Vector::rounds))]
-    pub(crate) fn round_lanes(&mut self, row: RoundRow, fields: VectorFields)
+    pub(crate) fn round_lanes(&mut self, row: VectorRoundOp, fields: VectorFields)
         requires { IsVectorFields fields }
         ensures { self.new ≡ rounds row fields self.old }
     {
@@ -63,7 +63,7 @@ impl<A: Acc> Machine<A> {
     /// An MPEG multiply.
     #[inline]
     #[tactic(auto, unfolding(crate::specs::Vector::multiplies_mpeg))]
-    pub(crate) fn multiply_mpeg(&mut self, row: MpegRow, fields: VectorFields)
+    pub(crate) fn multiply_mpeg(&mut self, row: VectorMpegOp, fields: VectorFields)
         requires { IsVectorFields fields }
         ensures { self.new ≡ multiplies_mpeg row fields self.old }
     {
@@ -87,7 +87,7 @@ impl<A: Acc> Machine<A> {
     /// A sum or a difference.
     #[inline(always)]
     #[tactic(auto, unfolding(crate::specs::Vector::ruled))]
-    pub(crate) fn add_lanes(&mut self, row: VectorAddRow, fields: VectorFields)
+    pub(crate) fn add_lanes(&mut self, row: VectorAddOp, fields: VectorFields)
         requires { IsVectorFields fields }
         ensures { self.new ≡ ruled (add_rule (add_op row)) fields self.old }
     {
@@ -106,7 +106,7 @@ impl<A: Acc> Machine<A> {
     /// A comparison.
     #[inline(always)]
     #[tactic(auto, unfolding(crate::specs::Vector::ruled))]
-    pub(crate) fn select_lanes(&mut self, row: VectorSelectRow, fields: VectorFields)
+    pub(crate) fn select_lanes(&mut self, row: VectorSelectOp, fields: VectorFields)
         requires { IsVectorFields fields }
         ensures { self.new ≡ ruled (select_rule (select_op row)) fields self.old }
     {
@@ -125,7 +125,7 @@ impl<A: Acc> Machine<A> {
     /// A clip.
     #[inline(always)]
     #[tactic(auto, unfolding(crate::specs::Vector::ruled))]
-    pub(crate) fn clip_lanes(&mut self, row: VectorClipRow, fields: VectorFields)
+    pub(crate) fn clip_lanes(&mut self, row: VectorClipOp, fields: VectorFields)
         requires { IsVectorFields fields }
         ensures { self.new ≡ ruled (clip_rule (clip_op row)) fields self.old }
     {
@@ -157,7 +157,7 @@ impl<A: Acc> Machine<A> {
     /// A logic instruction.
     #[inline(always)]
     #[tactic(auto, unfolding(crate::specs::Vector::ruled))]
-    pub(crate) fn logic_lanes(&mut self, row: VectorLogicRow, fields: VectorFields)
+    pub(crate) fn logic_lanes(&mut self, row: VectorLogicOp, fields: VectorFields)
         requires { IsVectorFields fields }
         ensures { self.new ≡ ruled (logic_rule (logic_op row)) fields self.old }
     {
@@ -176,7 +176,7 @@ impl<A: Acc> Machine<A> {
     /// A divide instruction, which writes one lane.
     #[inline]
     #[tactic(auto, unfolding(crate::specs::Vector::divides))]
-    pub(crate) fn divide(&mut self, row: DivideRow, vd: u8, lane: u8, vt: u8, element: u8)
+    pub(crate) fn divide(&mut self, row: VectorDivideOp, vd: u8, lane: u8, vt: u8, element: u8)
         requires { IsInstruction (Inst.Divide row vd lane vt element) }
         ensures { self.new ≡ divides row vd lane vt element self.old }
     {
@@ -197,7 +197,7 @@ impl<A: Acc> Machine<A> {
     /// A vector load.
     #[inline]
     #[tactic(auto, unfolding(crate::specs::Vector::loads_vector))]
-    pub(crate) fn load_register(&mut self, row: VectorLoadRow, fields: VectorMemoryFields)
+    pub(crate) fn load_register(&mut self, row: VectorLoadOp, fields: VectorMemoryFields)
         requires { IsInstruction (Inst.VectorLoad row fields) }
         ensures { self.new ≡ loads_vector row fields self.old }
     {
@@ -209,7 +209,7 @@ impl<A: Acc> Machine<A> {
     /// A vector store.
     #[inline]
     #[tactic(auto, unfolding(crate::specs::Vector::stores_vector))]
-    pub(crate) fn store_register(&mut self, row: VectorStoreRow, fields: VectorMemoryFields)
+    pub(crate) fn store_register(&mut self, row: VectorStoreOp, fields: VectorMemoryFields)
         requires { IsInstruction (Inst.VectorStore row fields) }
         ensures { self.new ≡ stores_vector row fields self.old }
     {
@@ -221,28 +221,28 @@ impl<A: Acc> Machine<A> {
     /// A move between scalar register `rt` and a vector register.
     #[inline(always)]
     #[tactic(auto, unfolding(crate::specs::Vector::moves_vector))]
-    pub(crate) fn move_lanes(&mut self, inst: &Inst, row: MoveRow, rt: u8)
+    pub(crate) fn move_lanes(&mut self, inst: &Inst, row: MoveOp, rt: u8)
         requires inst { IsInstruction inst.now }
         requires rt { rt < 32 }
         ensures { self.new ≡ moves_vector row inst.now rt self.old }
     {
         match row {
-            MoveRow::From => self.regs.set(rt, move_from(inst, &self.vregs)),
-            MoveRow::To => move_to(inst, self.regs.get(rt), &mut self.vregs),
+            MoveOp::From => self.regs.set(rt, move_from(inst, &self.vregs)),
+            MoveOp::To => move_to(inst, self.regs.get(rt), &mut self.vregs),
         }
     }
 
     /// A move between scalar register `rt` and a control register.
     #[inline(always)]
     #[tactic(auto, unfolding(crate::specs::Vector::moves_control))]
-    pub(crate) fn move_flags(&mut self, inst: &Inst, row: MoveRow, rt: u8)
+    pub(crate) fn move_flags(&mut self, inst: &Inst, row: MoveOp, rt: u8)
         requires inst { IsInstruction inst.now }
         requires rt { rt < 32 }
         ensures { self.new ≡ moves_control row inst.now rt self.old }
     {
         match row {
-            MoveRow::From => self.regs.set(rt, control_from(inst, &self.flags)),
-            MoveRow::To => control_to(inst, self.regs.get(rt), &mut self.flags),
+            MoveOp::From => self.regs.set(rt, control_from(inst, &self.flags)),
+            MoveOp::To => control_to(inst, self.regs.get(rt), &mut self.flags),
         }
     }
 }

@@ -1,7 +1,7 @@
-//! The program `rsp`: the work of `rsp_program`, with the system's arguments, files and standard streams.
+//! The program `rsp`: the work of `rsp_cli`, with the system's arguments, files and standard streams.
 #![tactic(auto)]
 
-use rsp_program::{SystemFiles, without_words, work};
+use rsp_cli::{SystemFiles, refuse_arguments, work};
 use std::process::ExitCode;
 use std::{env, io};
 
@@ -20,7 +20,7 @@ fn main(rt: HostRuntime) -> ExitCode {
             io::writer(&rt),
             &mut errors,
         ),
-        Err(error) => without_words(&error, &mut errors),
+        Err(error) => refuse_arguments(&error, &mut errors),
     };
     ExitCode::from(status.code())
 }

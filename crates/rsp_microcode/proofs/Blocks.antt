@@ -1,6 +1,6 @@
 -- Blocks of words, one after the other.
 use Rattle.std.proofs.Common.{zero, suc, ◌+◌, [], ◌∷◌, ap, sym, subst, ◌∙◌, arith}
-use Rattle.rsp_scalar.specs.Flow.{going_on}
+use Rattle.rsp_scalar.specs.Flow.{address_after}
 use Rattle.rsp_regs.specs.Sp.{Sp}
 use Rattle.rsp_machine.specs.Laws.{steps_of}
 use Rattle.rsp_microcode.specs.Blocks.{BothStand, StepsAfter, FirstBlock, NextBlock, RoundsOfSteps}
@@ -11,7 +11,7 @@ steps_after m n s = ap (λ k. steps_of k s) (omega arith) ∙ steps-plus n m s
 
 pub both_stand : BothStand
 both_stand [] b p m h = (tt, h)
-both_stand (w ∷ ws) b p m h = let more = both_stand ws b (going_on p) m h.1 in ((h.0, more.0), more.1)
+both_stand (w ∷ ws) b p m h = let more = both_stand ws b (address_after p) m h.1 in ((h.0, more.0), more.1)
 
 pub first_block : FirstBlock
 first_block a b s at = record { goes = at.goes; runs = at.runs; next = at.next; stand = (both_stand a b s.pc s.imem at.stand).0 }

@@ -3,9 +3,9 @@ use Rattle.std.proofs.Common.{◌≡◌, ℕ, ◌+◌, ◌*◌, ◌%◌, ◌^◌
 use Rattle.std.specs.Prelude.{nat_lt, ◌==◌}
 use Rattle.std.proofs.lemmas.Bool.{cases_lt, lt-ltb, le-ltb, eq-eqb, ne_eqb}
 use Rattle.rsp_decode.specs.declared.inst.Inst.TheVariants.{VectorAdd, Immediate, BranchEqual}
-use Rattle.rsp_decode.specs.declared.vector.VectorAddRow.TheVariants.{Vadd}
-use Rattle.rsp_decode.specs.declared.scalar.ImmediateRow.TheVariants.{Addiu}
-use Rattle.rsp_decode.specs.declared.scalar.EqualRow.TheVariants.{Bne}
+use Rattle.rsp_decode.specs.declared.vector.VectorAddOp.TheVariants.{Vadd}
+use Rattle.rsp_decode.specs.declared.scalar.ImmediateOp.TheVariants.{Addiu}
+use Rattle.rsp_decode.specs.declared.scalar.BranchEqualOp.TheVariants.{Bne}
 use Rattle.rsp_decode.specs.Table.Words.{inst_of, row_of}
 use Rattle.rsp_lanes.specs.Lanes.{each_lane}
 use Rattle.rsp_lanes.specs.Outcome.{flags_after}
@@ -14,7 +14,7 @@ use Rattle.rsp_multiply.specs.Laws.{SumsOfProducts}
 use Rattle.rsp_scalar.specs.Registers.{register}
 use Rattle.rsp_loadstore.specs.File.{with_vector}
 use Rattle.rsp_machine.specs.State.{State, IsState}
-use Rattle.rsp_machine.specs.Step.{executed, worked, computes, jumps}
+use Rattle.rsp_machine.specs.Step.{executed, instruction_effect, computes, jumps}
 use Rattle.rsp_machine.specs.Vector.{ruled}
 use Rattle.rsp_microcode.specs.Lanes.{lanes_at, with_lanes}
 use Rattle.rsp_microcode.specs.Reads.{after_writes}
@@ -65,7 +65,7 @@ counted : (t : State) → length t.registers ≡ 32 →
     let p = (after_pieces loop.pieces t).registers in
     (register q 1 ≡ (register r 1 + 16) % 2 ^ 32) × (register q 2 ≡ (register r 2 + 16) % 2 ^ 32) × (register q 3 ≡ (register r 3 + 16) % 2 ^ 32)
     × (register q 4 ≡ (register r 4 + 4294967295) % 2 ^ 32) × (register p 4 ≡ (register r 4 + 4294967295) % 2 ^ 32) × (register p 0 ≡ register r 0)
-unfolding executed worked computes jumps ruled
+unfolding executed instruction_effect computes jumps ruled
 counted t n =
     let e = listed t.registers n in
     let q = λ (i : ℕ) (r : List ℕ). register (round_of loop (record t { registers = r })).registers i in
@@ -75,7 +75,7 @@ counted t n =
 -- what a round stores, and its flags
 stored : (t : State) → IsState t → t.flags.carry ≡ each_lane (λ _. false) → (round_of loop t).dmem
     ≡ with_lanes t.dmem (register t.registers 3 + 16 * 0) (limited_sums (lanes_at t.dmem (register t.registers 1 + 16 * 0)) (lanes_at t.dmem (register t.registers 2 + 16 * 0)))
-unfolding executed worked computes jumps ruled
+unfolding executed instruction_effect computes jumps ruled
 stored t is clear =
     let file = after_writes with_vector (loaded loads t.dmem t.registers) t.vectors in
     let read = λ (n : ℕ). vector_reads (loaded loads t.dmem t.registers) t.vectors n is.vectors.count refl in
@@ -85,7 +85,7 @@ stored t is clear =
     )
 
 cleared : (t : State) → (round_of loop t).flags.carry ≡ each_lane (λ _. false)
-unfolding executed worked computes jumps ruled flags_after
+unfolding executed instruction_effect computes jumps ruled flags_after
 cleared t = refl
 
 -- whether a round is left
@@ -96,7 +96,7 @@ more r z n k h l e zero = elim (cases_lt (k + 1) n) [
 ]
 
 one_round : (s : State) (a b c n : ℕ) → IsEntered s a b c n → HandsOn loop s n (Holds s a b c n)
-unfolding executed worked ruled
+unfolding executed instruction_effect ruled
 one_round s a b c n entered k t h is spares holds =
     let e1 = holds.one in
     let e2 = holds.two in

@@ -4,14 +4,14 @@ use Rattle.std.proofs.lemmas.Bool.{and_parts}
 use Rattle.std.proofs.lemmas.List.{length-map}
 use Rattle.rsp_decode.specs.declared.inst.Inst.{Inst}
 use Rattle.rsp_decode.specs.declared.inst.Inst.TheVariants.{JumpRegister, Jump}
-use Rattle.rsp_decode.specs.declared.scalar.JumpRow.TheVariants.{Jal}
+use Rattle.rsp_decode.specs.declared.scalar.JumpOp.TheVariants.{Jal}
 use Rattle.rsp_decode.specs.Table.Words.{inst_of}
 use Rattle.rsp_multiply.specs.Laws.{SumsOfProducts}
 use Rattle.rsp_scalar.specs.Registers.{register, with_register}
-use Rattle.rsp_scalar.specs.Flow.{going_on}
+use Rattle.rsp_scalar.specs.Flow.{address_after}
 use Rattle.rsp_loadstore.specs.File.{vector}
 use Rattle.rsp_machine.specs.State.{State, IsState}
-use Rattle.rsp_machine.specs.Step.{executed, worked, jumps}
+use Rattle.rsp_machine.specs.Step.{executed, instruction_effect, jumps}
 use Rattle.rsp_machine.specs.Laws.{steps_of}
 use Rattle.rsp_microcode.specs.Runs.{goes_on, ran_through, place_after}
 use Rattle.rsp_microcode.specs.Frames.{of_rows, with_parts, all_stay}
@@ -28,11 +28,11 @@ use Rattle.rsp_microcode.proofs.Loops.{stays_all, fit_all}
 
 -- a jump to register 31, and a jump that links
 returned : (s : State) → executed (JumpRegister 31) s ≡ record s { pc = s.npc; npc = return_of s }
-unfolding executed worked jumps
+unfolding executed instruction_effect jumps
 returned s = refl
 
-called : (target : ℕ) (s : State) → executed (Jump Jal target) s ≡ record s { pc = s.npc; npc = target * 4 % 4096; registers = with_register s.registers 31 (going_on s.npc) }
-unfolding executed worked jumps
+called : (target : ℕ) (s : State) → executed (Jump Jal target) s ≡ record s { pc = s.npc; npc = target * 4 % 4096; registers = with_register s.registers 31 (address_after s.npc) }
+unfolding executed instruction_effect jumps
 called target s = refl
 
 pub routine_run : SumsOfProducts → RoutineRuns
@@ -65,19 +65,19 @@ routine_run law r decoded test s ok at aligned =
       ran = refl;
       ranges = kept;
       spares = spares;
-      others = changed_is _ _ all_code s x ok kept spares pc (g.npc ∙ ap going_on (sym g.pc) ∙ ap going_on pc) frame;
+      others = changed_is _ _ all_code s x ok kept spares pc (g.npc ∙ ap address_after (sym g.pc) ∙ ap address_after pc) frame;
     })
 
 slot_stays : (i : Inst) → goes_on i ≡ true → all_stay (i ∷ []) ≡ true
 slot_stays i h = rw h refl
 
-two_places : (ws : List ℕ) (p : ℕ) → length ws ≡ 2 → place_after ws p ≡ going_on (going_on p)
+two_places : (ws : List ℕ) (p : ℕ) → length ws ≡ 2 → place_after ws p ≡ address_after (address_after p)
 two_places [] p e = absurd (omega arith)
 two_places (a ∷ []) p e = absurd (omega arith)
 two_places (a ∷ b ∷ []) p e = refl
 two_places (a ∷ b ∷ c ∷ ws) p e = absurd (omega arith)
 
-returns : (p : ℕ) → p % 4 ≡ 0 → going_on (going_on p) / 4 % 1024 * 4 ≡ going_on (going_on p)
+returns : (p : ℕ) → p % 4 ≡ 0 → address_after (address_after p) / 4 % 1024 * 4 ≡ address_after (address_after p)
 returns p h = omega arith
 
 pub call_runs : CallRuns
@@ -92,10 +92,10 @@ call_runs words target slot decoded test spare s ok at =
     let stay = stays_all [] (Jump Jal target) slot refl refl p.0 in
     let fit = fit_all [] (Jump Jal target) slot refl refl p.1 in
     let pc : x.pc ≡ target * 4 % 4096 = g.pc ∙ ap (λ (y : State). y.npc) call in
-    let link : register x.registers 31 ≡ going_on s.npc =
+    let link : register x.registers 31 ≡ address_after s.npc =
     scalars_spared (slot ∷ []) 31 v (slot_stays slot p.0) spare ∙ ap (λ (y : State). register y.registers 31) call
-    ∙ one_scalar s.registers 31 31 (going_on s.npc) ok.registers.count (omega arith) refl in
-    let two : place_after words s.pc ≡ going_on (going_on s.pc) = two_places words s.pc (sym (length-map words inst_of) ∙ ap length decoded) in
+    ∙ one_scalar s.registers 31 31 (address_after s.npc) ok.registers.count (omega arith) refl in
+    let two : place_after words s.pc ≡ address_after (address_after s.pc) = two_places words s.pc (sym (length-map words inst_of) ∙ ap length decoded) in
     subst (AfterCall words target slot s) (sym made) (record {
       ran = refl;
       ranges = ranges code s stay fit ok;
@@ -103,8 +103,8 @@ call_runs words target slot decoded test spare s ok at =
       at = λ ws stand. record {
         goes = ap (λ (y : State). y.sp.halted) (framed code s stay) ∙ at.goes;
         runs = ap (λ (y : State). y.sp.single_step) (framed code s stay) ∙ at.runs;
-        next = g.npc ∙ ap going_on (sym g.pc);
+        next = g.npc ∙ ap address_after (sym g.pc);
         stand = let e = ap (λ (y : State). y.imem) (framed code s stay) in rw (pc, e) stand;
       };
-      back = ap (λ n. n / 4 % 1024 * 4) (link ∙ ap going_on at.next) ∙ returns s.pc ok.pc.1 ∙ sym two;
+      back = ap (λ n. n / 4 % 1024 * 4) (link ∙ ap address_after at.next) ∙ returns s.pc ok.pc.1 ∙ sym two;
     })

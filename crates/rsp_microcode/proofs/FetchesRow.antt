@@ -1,16 +1,16 @@
 -- A row of bytes from RDRAM.
 use Rattle.std.proofs.Common.{◌≡◌, ℕ, ◌+◌, List, [], ◌∷◌, ◌++◌, length, map, Some, refl, ap, sym, subst, ◌∙◌, arith}
 use Rattle.rsp_decode.specs.declared.inst.Inst.TheVariants.{MoveSp, Shift, BranchEqual}
-use Rattle.rsp_decode.specs.declared.scalar.EqualRow.TheVariants.{Bne}
-use Rattle.rsp_decode.specs.declared.scalar.MoveRow.TheVariants.{From}
-use Rattle.rsp_decode.specs.declared.scalar.ShiftRow.TheVariants.{Sll}
+use Rattle.rsp_decode.specs.declared.scalar.BranchEqualOp.TheVariants.{Bne}
+use Rattle.rsp_decode.specs.declared.scalar.MoveOp.TheVariants.{From}
+use Rattle.rsp_decode.specs.declared.scalar.ShiftOp.TheVariants.{Sll}
 use Rattle.rsp_decode.specs.Table.Words.{inst_of, row_of}
 use Rattle.rsp_memory.specs.Memory.{byte_at}
 use Rattle.rsp_multiply.specs.Laws.{SumsOfProducts}
-use Rattle.rsp_regs.specs.Sp.{Sp, peeked}
+use Rattle.rsp_regs.specs.Sp.{Sp, read_value}
 use Rattle.rsp_scalar.specs.Registers.{register}
 use Rattle.rsp_machine.specs.State.{State, IsState}
-use Rattle.rsp_machine.specs.Step.{executed, worked, moves_sp}
+use Rattle.rsp_machine.specs.Step.{executed, instruction_effect, moves_sp}
 use Rattle.rsp_machine.specs.Laws.{steps_of}
 use Rattle.rsp_microcode.specs.Runs.{IsAt, place_after}
 use Rattle.rsp_microcode.specs.Kept.{registers_but}
@@ -43,7 +43,7 @@ Nothing k t = Unit {0}
 
 -- register 6 reads 0, and so does scalar register 0
 ready : (t : State) → length t.registers ≡ 32 → let r = (after_pieces wait.pieces t).registers in (register r 4 ≡ 0) × (register r 0 ≡ register t.registers 0)
-unfolding executed worked moves_sp peeked
+unfolding executed instruction_effect moves_sp read_value
 ready t n =
     let p = λ (i : ℕ) (r : List ℕ). register (after_pieces wait.pieces (record t { registers = r })).registers i in
     let e = listed t.registers n in

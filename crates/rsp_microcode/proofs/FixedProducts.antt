@@ -7,7 +7,7 @@ use Rattle.std.proofs.Math.Nat.{mul-le-mul}
 use borrow.Author.Differences.{up, down}
 use Rattle.rsp_numbers.specs.Numbers.{s16, s32, s48, floor_div}
 use Rattle.rsp_numbers.proofs.Wrap.{s48_is}
-use Rattle.rsp_multiply.specs.Rows.{unsigned_over_65536, signed_by_unsigned, unsigned_by_signed, signed_times_65536}
+use Rattle.rsp_multiply.specs.MultiplyRules.{unsigned_over_65536, signed_by_unsigned, unsigned_by_signed, signed_times_65536}
 use Rattle.rsp_multiply.proofs.Signs.{mixed, signed}
 use Rattle.rsp_microcode.specs.Fixed.{limited, product_sum, FixedProduct}
 use Rattle.rsp_microcode.proofs.Fixed.{itself, fixed_parts, fixed_sum}

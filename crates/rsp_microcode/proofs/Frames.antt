@@ -5,31 +5,31 @@ use Rattle.std.proofs.lemmas.Bool.{and_parts, ltb-true, leb-true, le-leb, cases_
 use Rattle.std.proofs.lemmas.Bool.Decides.{nat_tests}
 use Rattle.rsp_decode.specs.declared.inst.Inst.{Inst}
 use Rattle.rsp_decode.specs.declared.inst.Inst.TheVariants.{Break, MoveSp, Shift, ShiftBy, Register, Immediate, LoadUpper, Load, JumpLinkRegister, BranchSign, Jump, MoveVector, MoveControl, Multiply, Round, MpegMultiply, ReadAccumulator, VectorAdd, VectorSelect, VectorClip, VectorMerge, VectorLogic, Divide, VectorLoad}
-use Rattle.rsp_decode.specs.declared.vector.VectorLoadRow.TheVariants.{Lbv, Lsv, Llv, Ldv, Lqv, Lrv, Lpv, Luv, Lhv, Lfv, Ltv}
-use Rattle.rsp_decode.specs.declared.scalar.MoveRow.TheVariants.{From, To}
-use Rattle.rsp_decode.specs.declared.scalar.JumpRow.TheVariants.{J, Jal}
-use Rattle.rsp_decode.specs.declared.scalar.SignRow.TheVariants.{Bltz, Bgez, Bltzal, Bgezal, Blez, Bgtz}
+use Rattle.rsp_decode.specs.declared.vector.VectorLoadOp.TheVariants.{Lbv, Lsv, Llv, Ldv, Lqv, Lrv, Lpv, Luv, Lhv, Lfv, Ltv}
+use Rattle.rsp_decode.specs.declared.scalar.MoveOp.TheVariants.{From, To}
+use Rattle.rsp_decode.specs.declared.scalar.JumpOp.TheVariants.{J, Jal}
+use Rattle.rsp_decode.specs.declared.scalar.BranchSignOp.TheVariants.{Bltz, Bgez, Bltzal, Bgezal, Blez, Bgtz}
 use Rattle.std.proofs.lemmas.List.{get_or-set_other}
 use Rattle.rsp_scalar.specs.Registers.{register, with_register}
 use Rattle.rsp_loadstore.specs.File.{vector, with_vector}
-use Rattle.rsp_loadstore.specs.Pairs.{for_each, group, block, place}
-use Rattle.rsp_loadstore.specs.Loads.{Load as Pair, to_byte, to_lane, loaded, after_load, load_pairs, loaded_file}
-use Rattle.rsp_loadstore.specs.Moves.{moved_file}
-use Rattle.rsp_loadstore.specs.Addresses.{transfer_address}
+use Rattle.rsp_loadstore.specs.Pairs.{for_each, group_start, doubleword_start, wrapped_address}
+use Rattle.rsp_loadstore.specs.Loads.{Load as Pair, to_byte, to_lane, loaded, after_load, load_pairs, file_after_load}
+use Rattle.rsp_loadstore.specs.Moves.{file_after_move}
+use Rattle.rsp_loadstore.specs.Addresses.{vector_address}
 use Rattle.std.specs.List.{range_with_len}
 use Rattle.rsp_lanes.specs.declared.flags.Flags.{Flags}
 use Rattle.rsp_divide.specs.declared.divider.Divider.{Divider}
 use Rattle.rsp_regs.specs.Sp.{Sp}
 use Rattle.rsp_machine.specs.State.{State}
 use Rattle.rsp_machine.specs.Vector.{multiplies, rounds, multiplies_mpeg, reads_accumulator, ruled, divides, loads_vector, stores_vector, moves_vector, moves_control}
-use Rattle.rsp_machine.specs.Step.{executed, worked, computes, loads, stores, jumps, moves_sp}
+use Rattle.rsp_machine.specs.Step.{executed, instruction_effect, computes, loads, stores, jumps, moves_sp}
 use Rattle.rsp_microcode.specs.Runs.{ran_through}
 use Rattle.rsp_microcode.proofs.SpReads.{reads_leave, goes}
 use Rattle.rsp_microcode.specs.Frames.{Touch, of_row, both, of_rows, with_parts, stays, register_of, scalars_below, spare_scalar, vectors_of, spares_vector, spare_vector, vectors_below, Frame, ScalarsAbove, ScalarsSpared, VectorsAbove, VectorsSpared}
 
 -- one row
 pub row_framed : (i : Inst) (s : State) → stays i ≡ true → executed i s ≡ with_parts (of_row i) s (executed i s)
-unfolding executed worked computes loads stores jumps moves_sp multiplies rounds multiplies_mpeg reads_accumulator ruled divides loads_vector stores_vector moves_vector moves_control
+unfolding executed instruction_effect computes loads stores jumps moves_sp multiplies rounds multiplies_mpeg reads_accumulator ruled divides loads_vector stores_vector moves_vector moves_control
 row_framed Break s h = cc
 row_framed (MoveSp From rt n) s h = let e = reads_leave n s.sp (goes (not (n % 16 == 7)) h) in rw e refl
 row_framed (MoveSp To rt n) s h = cc
@@ -91,7 +91,7 @@ record Writes (i : Inst) (s t : State) : Type 0 where
   is : t.registers ≡ with_register s.registers (register_of i) value
 
 writes : (i : Inst) (s : State) → stays i ≡ true → Writes i s (executed i s)
-unfolding executed worked computes loads stores jumps moves_sp multiplies rounds multiplies_mpeg reads_accumulator ruled divides loads_vector stores_vector moves_vector moves_control
+unfolding executed instruction_effect computes loads stores jumps moves_sp multiplies rounds multiplies_mpeg reads_accumulator ruled divides loads_vector stores_vector moves_vector moves_control
 writes Break s h = cc
 writes (MoveSp From rt n) s h = record { value = _; is = refl }
 writes (MoveSp To rt n) s h = cc
@@ -171,7 +171,7 @@ apart_eight : (a k n : ℕ) → k < 8 → (nat_lt n a || nat_le (a + 8) n) ≡ t
 apart_eight a k n l h = grind (arith, nat_tests)
 
 vector_spared : (i : Inst) (n : ℕ) (s : State) → stays i ≡ true → spares_vector n i ≡ true → vector (executed i s).vectors n ≡ vector s.vectors n
-unfolding executed worked computes loads stores jumps moves_sp multiplies rounds multiplies_mpeg reads_accumulator ruled divides loads_vector stores_vector moves_vector moves_control loaded_file load_pairs for_each moved_file
+unfolding executed instruction_effect computes loads stores jumps moves_sp multiplies rounds multiplies_mpeg reads_accumulator ruled divides loads_vector stores_vector moves_vector moves_control file_after_load load_pairs for_each file_after_move
 vector_spared Break n s h spare = cc
 vector_spared (MoveSp From rt k) n s h spare = refl
 vector_spared (MoveSp To rt k) n s h spare = cc
@@ -190,19 +190,19 @@ vector_spared (VectorMerge f) n s h spare = other_vector s.vectors f.vd n _ (apa
 vector_spared (VectorLogic row f) n s h spare = other_vector s.vectors f.vd n _ (apart_one f.vd n spare)
 vector_spared (Divide row vd lane vt e) n s h spare = other_vector s.vectors vd n _ (apart_one vd n spare)
 vector_spared (VectorLoad Ltv f) n s h spare =
-    let a = transfer_address (VectorLoad Ltv f) (register s.registers f.base) in
-    let place_of = λ (k : ℕ). to_byte (group f.vt + (f.element / 2 + k / 2) % 8) k (block a + (k + f.element + a / 8 % 2 * 8) % 16) in
-    loads_other s.dmem place_of (range_with_len 0 16) n s.vectors (λ k. apart_eight (group f.vt) ((f.element / 2 + k / 2) % 8) n (omega arith) spare)
+    let a = vector_address (VectorLoad Ltv f) (register s.registers f.base) in
+    let place_of = λ (k : ℕ). to_byte (group_start f.vt + (f.element / 2 + k / 2) % 8) k (doubleword_start a + (k + f.element + a / 8 % 2 * 8) % 16) in
+    loads_other s.dmem place_of (range_with_len 0 16) n s.vectors (λ k. apart_eight (group_start f.vt) ((f.element / 2 + k / 2) % 8) n (omega arith) spare)
 vector_spared (VectorLoad Lbv f) n s h spare = loads_other s.dmem _ _ n s.vectors (λ k. apart_one f.vt n spare)
 vector_spared (VectorLoad Lsv f) n s h spare = loads_other s.dmem _ _ n s.vectors (λ k. apart_one f.vt n spare)
 vector_spared (VectorLoad Llv f) n s h spare = loads_other s.dmem _ _ n s.vectors (λ k. apart_one f.vt n spare)
 vector_spared (VectorLoad Ldv f) n s h spare = loads_other s.dmem _ _ n s.vectors (λ k. apart_one f.vt n spare)
 vector_spared (VectorLoad Lqv f) n s h spare = loads_other s.dmem _ _ n s.vectors (λ k. apart_one f.vt n spare)
 vector_spared (VectorLoad Lrv f) n s h spare = loads_other s.dmem _ _ n s.vectors (λ k. apart_one f.vt n spare)
-vector_spared (VectorLoad Lpv f) n s h spare = let a = transfer_address (VectorLoad Lpv f) (register s.registers f.base) in loads_other s.dmem (λ j. to_lane f.vt j 256 (place a (16 - f.element + j))) (range_with_len 0 8) n s.vectors (λ k. apart_one f.vt n spare)
-vector_spared (VectorLoad Luv f) n s h spare = let a = transfer_address (VectorLoad Luv f) (register s.registers f.base) in loads_other s.dmem (λ j. to_lane f.vt j 128 (place a (16 - f.element + j))) (range_with_len 0 8) n s.vectors (λ k. apart_one f.vt n spare)
-vector_spared (VectorLoad Lhv f) n s h spare = let a = transfer_address (VectorLoad Lhv f) (register s.registers f.base) in loads_other s.dmem (λ j. to_lane f.vt j 128 (place a (16 - f.element + 2 * j))) (range_with_len 0 8) n s.vectors (λ k. apart_one f.vt n spare)
-vector_spared (VectorLoad Lfv f) n s h spare = let a = transfer_address (VectorLoad Lfv f) (register s.registers f.base) in loads_other s.dmem (λ j. to_lane f.vt (f.element / 2 + j) 128 (place a (4 * j))) (range_with_len 0 4) n s.vectors (λ k. apart_one f.vt n spare)
+vector_spared (VectorLoad Lpv f) n s h spare = let a = vector_address (VectorLoad Lpv f) (register s.registers f.base) in loads_other s.dmem (λ j. to_lane f.vt j 256 (wrapped_address a (16 - f.element + j))) (range_with_len 0 8) n s.vectors (λ k. apart_one f.vt n spare)
+vector_spared (VectorLoad Luv f) n s h spare = let a = vector_address (VectorLoad Luv f) (register s.registers f.base) in loads_other s.dmem (λ j. to_lane f.vt j 128 (wrapped_address a (16 - f.element + j))) (range_with_len 0 8) n s.vectors (λ k. apart_one f.vt n spare)
+vector_spared (VectorLoad Lhv f) n s h spare = let a = vector_address (VectorLoad Lhv f) (register s.registers f.base) in loads_other s.dmem (λ j. to_lane f.vt j 128 (wrapped_address a (16 - f.element + 2 * j))) (range_with_len 0 8) n s.vectors (λ k. apart_one f.vt n spare)
+vector_spared (VectorLoad Lfv f) n s h spare = let a = vector_address (VectorLoad Lfv f) (register s.registers f.base) in loads_other s.dmem (λ j. to_lane f.vt (f.element / 2 + j) 128 (wrapped_address a (4 * j))) (range_with_len 0 4) n s.vectors (λ k. apart_one f.vt n spare)
 vector_spared _ n s h spare = refl
 
 pub vectors_spared : VectorsSpared

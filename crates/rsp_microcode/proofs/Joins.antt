@@ -4,7 +4,7 @@ use Rattle.std.specs.Prelude.{◌==◌}
 use Rattle.std.specs.List.{list_all, range_with_len}
 use Rattle.std.proofs.lemmas.Bool.{and_parts}
 use Rattle.rsp_decode.specs.declared.inst.Inst.{Inst}
-use Rattle.rsp_scalar.specs.Flow.{going_on}
+use Rattle.rsp_scalar.specs.Flow.{address_after}
 use Rattle.rsp_machine.specs.State.{State, IsState}
 use Rattle.rsp_microcode.specs.Runs.{place_after}
 use Rattle.rsp_microcode.specs.Frames.{Touch, both, of_row, of_rows, with_parts, register_of, spares_vector}
@@ -44,7 +44,7 @@ all_parts p (i ∷ is) b h =
 
 places_joined : (a b : List ℕ) (p : ℕ) → place_after (a ++ b) p ≡ place_after b (place_after a p)
 places_joined [] b p = refl
-places_joined (w ∷ ws) b p = places_joined ws b (going_on p)
+places_joined (w ∷ ws) b p = places_joined ws b (address_after p)
 
 pub blocks_join : BlocksJoin
 blocks_join a b c d s t u p q = record {
@@ -64,23 +64,23 @@ ran_at a b c s t at p = next_block a b s t at p.pc p.npc (ap (λ (x : State). x.
 pub ran_others : RanOthers
 ran_others words code s t is next p ns ms only =
     changed_is _ _ code s t is p.ranges p.spares p.pc
-    (p.npc ∙ ap going_on p.pc ∙ sym (placed words s.pc) ∙ ap (place_after words) (sym next)) p.frame ns ms only
+    (p.npc ∙ ap address_after p.pc ∙ sym (placed words s.pc) ∙ ap (place_after words) (sym next)) p.frame ns ms only
 
 -- pc and npc of a state whose other parts are known
-ran_of : (words : List ℕ) (code : List Inst) (s t : State) → s.npc ≡ going_on s.pc → IsState t → Spares code s t → t ≡ with_parts (of_rows code) s t
+ran_of : (words : List ℕ) (code : List Inst) (s t : State) → s.npc ≡ address_after s.pc → IsState t → Spares code s t → t ≡ with_parts (of_rows code) s t
     → t ≡ changed words code (range_with_len 1 31) (range_with_len 0 32) s t → Ran words code s t
 ran_of words code s t next is spares frame all =
     let pc : t.pc ≡ place_after words s.pc = ap (λ (x : State). x.pc) all in
     record {
       ranges = is;
       pc = pc;
-      npc = ap (λ (x : State). x.npc) all ∙ ap (place_after words) next ∙ placed words s.pc ∙ ap going_on (sym pc);
+      npc = ap (λ (x : State). x.npc) all ∙ ap (place_after words) next ∙ placed words s.pc ∙ ap address_after (sym pc);
       spares = spares;
       frame = frame;
     }
 
-pub pieces_ran : (words : List ℕ) (ps : List Piece) (s t : State) → s.npc ≡ going_on s.pc → AfterPieces words ps s t → Ran words (code_of ps) s t
+pub pieces_ran : (words : List ℕ) (ps : List Piece) (s t : State) → s.npc ≡ address_after s.pc → AfterPieces words ps s t → Ran words (code_of ps) s t
 pieces_ran words ps s t next end = ran_of words (code_of ps) s t next end.ranges end.spares end.frame (end.others (range_with_len 1 31) (range_with_len 0 32) refl)
 
-pub loop_ran : (l : Loop) (n : ℕ) (Holds : ℕ → State → Type 0) (s t : State) → s.npc ≡ going_on s.pc → AfterLoop l n Holds s t → Ran l.words (loop_code l) s t
+pub loop_ran : (l : Loop) (n : ℕ) (Holds : ℕ → State → Type 0) (s t : State) → s.npc ≡ address_after s.pc → AfterLoop l n Holds s t → Ran l.words (loop_code l) s t
 loop_ran l n Holds s t next end = ran_of l.words (loop_code l) s t next end.ranges end.spares end.frame (end.others (range_with_len 1 31) (range_with_len 0 32) refl)

@@ -3,22 +3,22 @@ use Rattle.std.proofs.Common.{◌≡◌, ℕ, ◌+◌, ◌-◌, ◌*◌, ◌/◌
 use Rattle.std.specs.Prelude.{if◌then◌else◌, ◌&&◌}
 use Rattle.std.proofs.lemmas.Bool.Decides.{nat_tests}
 use Rattle.rsp_memory.specs.Memory.{byte_at, bytes_at, half_at, with_bytes, with_byte, with_half}
-use Rattle.rsp_decode.specs.declared.vector.VectorLoadRow.TheVariants.{Lqv}
-use Rattle.rsp_decode.specs.declared.vector.VectorStoreRow.TheVariants.{Sqv}
+use Rattle.rsp_decode.specs.declared.vector.VectorLoadOp.TheVariants.{Lqv}
+use Rattle.rsp_decode.specs.declared.vector.VectorStoreOp.TheVariants.{Sqv}
 use Rattle.rsp_lanes.specs.Lanes.{register_byte}
 use Rattle.rsp_lanes.specs.Bytes.{each_byte, of_bytes, with_register_bytes}
 use Rattle.rsp_lanes.proofs.Kit.{each_same, eight}
 use Rattle.rsp_scalar.specs.Registers.{register}
-use Rattle.rsp_scalar.specs.Flow.{going_on}
+use Rattle.rsp_scalar.specs.Flow.{address_after}
 use Rattle.rsp_loadstore.specs.File.{vector, with_vector}
-use Rattle.rsp_loadstore.specs.Addresses.{transfer_address}
+use Rattle.rsp_loadstore.specs.Addresses.{vector_address}
 use Rattle.rsp_loadstore.specs.Pairs.{for_each}
-use Rattle.rsp_loadstore.specs.Loads.{to_byte, after_load, load_pairs, loaded_file}
-use Rattle.rsp_loadstore.specs.Stores.{from_byte, after_store, store_pairs, stored_memory}
-use Rattle.rsp_loadstore.proofs.Placed.{placed_loaded, window_byte}
+use Rattle.rsp_loadstore.specs.Loads.{to_byte, after_load, load_pairs, file_after_load}
+use Rattle.rsp_loadstore.specs.Stores.{from_byte, after_store, store_pairs, memory_after_store}
+use Rattle.rsp_loadstore.proofs.BytesLoaded.{placed_loaded, window_byte}
 use Rattle.rsp_loadstore.proofs.AtOnce.{run_stored}
 use Rattle.rsp_machine.specs.State.{State}
-use Rattle.rsp_machine.specs.Step.{executed, worked}
+use Rattle.rsp_machine.specs.Step.{executed, instruction_effect}
 use Rattle.rsp_machine.specs.Vector.{loads_vector, stores_vector}
 use Rattle.rsp_microcode.specs.Lanes.{lanes_at, with_halves, with_lanes, lqv, sqv, LoadsLanes, StoresLanes}
 use Rattle.rsp_microcode.proofs.Bytes.{lanes_ring, with_lanes_ring}
@@ -71,36 +71,36 @@ store_is m file vt a l e =
     ∙ by_halves (vector file vt) m a
 
 -- the address, but for multiples of 2^32
-load_address : (vt offset base value : ℕ) → offset < 64 → transfer_address (lqv vt offset base) value ≡ (value + 16 * offset) % 2 ^ 32
-unfolding transfer_address
+load_address : (vt offset base value : ℕ) → offset < 64 → vector_address (lqv vt offset base) value ≡ (value + 16 * offset) % 2 ^ 32
+unfolding vector_address
 load_address vt offset base value h =
     let e : nat_lt offset 64 ≡ true = grind (arith, nat_tests) in
     rw e (omega arith)
 
-store_address : (vt offset base value : ℕ) → offset < 64 → transfer_address (sqv vt offset base) value ≡ (value + 16 * offset) % 2 ^ 32
-unfolding transfer_address
+store_address : (vt offset base value : ℕ) → offset < 64 → vector_address (sqv vt offset base) value ≡ (value + 16 * offset) % 2 ^ 32
+unfolding vector_address
 store_address vt offset base value h =
     let e : nat_lt offset 64 ≡ true = grind (arith, nat_tests) in
     rw e (omega arith)
 
 pub loads_lanes : LoadsLanes
-unfolding executed worked loads_vector loaded_file
+unfolding executed instruction_effect loads_vector file_after_load
 loads_lanes vt offset base s is h o e =
     let b = register s.registers base in
-    let a = transfer_address (lqv vt offset base) b in
+    let a = vector_address (lqv vt offset base) b in
     let f : a ≡ (b + 16 * offset) % 2 ^ 32 = load_address vt offset base b o in
     let loaded : after_load s.dmem s.vectors (load_pairs Lqv vt 0 a) ≡ with_vector s.vectors vt (lanes_at s.dmem (b + 16 * offset)) =
     load_is s.dmem s.vectors vt a (omega (arith, is.count)) (is.registers vt h).0 (omega arith)
     ∙ ap (with_vector s.vectors vt) (lanes_ring s.dmem a (b + 16 * offset) (omega arith)) in
-    ap (λ v. let t : State = record s { pc = s.npc; npc = going_on s.npc; vectors = v } in t) loaded
+    ap (λ v. let t : State = record s { pc = s.npc; npc = address_after s.npc; vectors = v } in t) loaded
 
 pub stores_lanes : StoresLanes
-unfolding executed worked stores_vector stored_memory
+unfolding executed instruction_effect stores_vector memory_after_store
 stores_lanes vt offset base s l o e =
     let b = register s.registers base in
-    let a = transfer_address (sqv vt offset base) b in
+    let a = vector_address (sqv vt offset base) b in
     let f : a ≡ (b + 16 * offset) % 2 ^ 32 = store_address vt offset base b o in
     let stored : after_store s.vectors s.dmem (store_pairs Sqv vt 0 a) ≡ with_lanes s.dmem (b + 16 * offset) (vector s.vectors vt) =
     store_is s.dmem s.vectors vt a l (omega arith)
     ∙ with_lanes_ring s.dmem (vector s.vectors vt) a (b + 16 * offset) (omega arith) in
-    ap (λ m. let t : State = record s { pc = s.npc; npc = going_on s.npc; dmem = m } in t) stored
+    ap (λ m. let t : State = record s { pc = s.npc; npc = address_after s.npc; dmem = m } in t) stored

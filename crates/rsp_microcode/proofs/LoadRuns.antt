@@ -4,7 +4,7 @@ use Rattle.std.proofs.lemmas.Bool.{and_parts, ltb-true, cases_eq, eq-eqb, ne_eqb
 use Rattle.std.specs.List.{list_all}
 use Rattle.std.specs.Prelude.{nat_lt}
 use Rattle.rsp_scalar.specs.Registers.{register}
-use Rattle.rsp_scalar.specs.Flow.{going_on}
+use Rattle.rsp_scalar.specs.Flow.{address_after}
 use Rattle.rsp_loadstore.specs.File.{IsFile, with_vector}
 use Rattle.rsp_lanes.specs.Lanes.{IsVector}
 use Rattle.rsp_machine.specs.State.{State}
@@ -36,8 +36,8 @@ loads_run (l ∷ ls) s is bytes next fits aligned =
     let field = and_parts (nat_lt l.vt 32) (nat_lt l.offset 64) parts.0 in
     let v = lanes_at s.dmem (register s.registers l.base + 16 * l.offset) in
     let file = with_vector s.vectors l.vt v in
-    let t : State = record s { pc = s.npc; npc = going_on s.npc; vectors = file } in
+    let t : State = record s { pc = s.npc; npc = address_after s.npc; vectors = file } in
     let one : executed (load_of l) s ≡ t = loads_lanes l.vt l.offset l.base s is (ltb-true _ _ field.0) (ltb-true _ _ field.1) aligned.0 in
     let kept = file_written s.vectors l.vt v (ltb-true _ _ field.0) (lanes_are s.dmem _ bytes) is in
     let ih = loads_run ls t kept bytes refl parts.1 aligned.1 in
-    (ap (ran_through (map load_of ls)) one ∙ ih.0 ∙ ap (λ n. after_loads ls s n (going_on s.npc) file) next, ih.1)
+    (ap (ran_through (map load_of ls)) one ∙ ih.0 ∙ ap (λ n. after_loads ls s n (address_after s.npc) file) next, ih.1)

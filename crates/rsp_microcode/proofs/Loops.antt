@@ -8,23 +8,23 @@ use Rattle.std.proofs.lemmas.Bool.Decides.{nat_tests}
 use Rattle.rsp_numbers.specs.Numbers.{s16}
 use Rattle.rsp_decode.specs.declared.inst.Inst.{Inst}
 use Rattle.rsp_decode.specs.declared.inst.Inst.TheVariants.{BranchSign, BranchEqual}
-use Rattle.rsp_decode.specs.declared.scalar.SignRow.TheVariants.{Bltz, Bgez, Blez, Bgtz}
+use Rattle.rsp_decode.specs.declared.scalar.BranchSignOp.TheVariants.{Bltz, Bgez, Blez, Bgtz}
 use Rattle.rsp_decode.specs.Table.Words.{inst_of}
 use Rattle.rsp_multiply.proofs.Signs.{s16_large}
 use Rattle.rsp_multiply.specs.Laws.{SumsOfProducts}
 use Rattle.rsp_scalar.specs.Registers.{register}
 use Rattle.rsp_loadstore.specs.File.{vector}
-use Rattle.rsp_scalar.specs.Rows.{is_taken, branch_target}
-use Rattle.rsp_scalar.specs.Flow.{going_on}
+use Rattle.rsp_scalar.specs.ScalarRules.{is_taken, branch_target}
+use Rattle.rsp_scalar.specs.Flow.{address_after}
 use Rattle.rsp_machine.specs.State.{State, IsState}
-use Rattle.rsp_machine.specs.Step.{executed, worked, jumps}
+use Rattle.rsp_machine.specs.Step.{executed, instruction_effect, jumps}
 use Rattle.rsp_machine.specs.Laws.{steps_of}
 use Rattle.rsp_microcode.specs.Runs.{IsAt, all_go_on, goes_on, branches, ran_through, place_after}
 use Rattle.rsp_microcode.specs.Frames.{Touch, both, of_rows, with_parts, all_stay}
 use Rattle.rsp_microcode.specs.Kept.{Spares}
 use Rattle.rsp_microcode.specs.Ranges.{fits_word, all_fit}
 use Rattle.rsp_microcode.specs.Pieces.{code_of, after_pieces}
-use Rattle.rsp_microcode.specs.Loops.{Loop, loop_code, leads_back, is_loop, round_of, HandsOn, LoopRuns}
+use Rattle.rsp_microcode.specs.Loops.{Loop, loop_code, can_undo, is_loop, round_of, HandsOn, LoopRuns}
 use Rattle.rsp_microcode.proofs.Runs.{gone, with_branch, ran_on, rounds_kept}
 use Rattle.rsp_microcode.proofs.Frames.{framed, chained, unchanged, scalars_spared, vectors_spared}
 use Rattle.rsp_microcode.proofs.Ranges.{ranges}
@@ -34,7 +34,7 @@ use Rattle.rsp_microcode.proofs.Pieces.{pieces, places_run, placed, pieces_strai
 -- places
 pub place_is : {X : Type 0} (xs : List X) (p : ℕ) → p < 4096 → place_after xs p ≡ (p + 4 * length xs) % 4096
 place_is [] p h = omega arith
-place_is (x ∷ xs) p h = place_is xs (going_on p) (omega arith) ∙ omega arith
+place_is (x ∷ xs) p h = place_is xs (address_after p) (omega arith) ∙ omega arith
 
 -- the branch: it goes back to a place p from a slot n words behind it
 pub back_to : (p q n : ℕ) → p < 4096 → 0 < n → n < 1001 → q ≡ (p + 4 * n) % 4096 → branch_target q (65536 - n) ≡ p
@@ -45,10 +45,10 @@ back_to p q n h z m e =
 
 -- the places after a branch that leads back, and its slot
 abbrev pub goes : Bool → ℕ → ℕ → ℕ
-goes b q n = if b then branch_target q (65536 - n) else going_on q
+goes b q n = if b then branch_target q (65536 - n) else address_after q
 
-pub turned : (i : Inst) (n : ℕ) (s : State) → leads_back i n ≡ true → executed i s ≡ record s { pc = s.npc; npc = goes (is_taken i s.registers) s.npc n }
-unfolding executed worked jumps
+pub turned : (i : Inst) (n : ℕ) (s : State) → can_undo i n ≡ true → executed i s ≡ record s { pc = s.npc; npc = goes (is_taken i s.registers) s.npc n }
+unfolding executed instruction_effect jumps
 turned (BranchEqual row rs rt offset) n s h = let e : offset ≡ 65536 - n = grind (arith, nat_tests) in rw e refl
 turned (BranchSign Bltz rs offset) n s h = let e : offset ≡ 65536 - n = grind (arith, nat_tests) in rw e refl
 turned (BranchSign Bgez rs offset) n s h = let e : offset ≡ 65536 - n = grind (arith, nat_tests) in rw e refl
@@ -56,7 +56,7 @@ turned (BranchSign Blez rs offset) n s h = let e : offset ≡ 65536 - n = grind 
 turned (BranchSign Bgtz rs offset) n s h = let e : offset ≡ 65536 - n = grind (arith, nat_tests) in rw e refl
 turned _ n s h = cc
 
-is_branch : (i : Inst) (n : ℕ) → leads_back i n ≡ true → branches i ≡ true
+is_branch : (i : Inst) (n : ℕ) → can_undo i n ≡ true → branches i ≡ true
 is_branch (BranchEqual row rs rt offset) n h = refl
 is_branch (BranchSign row rs offset) n h = refl
 is_branch _ n h = cc
@@ -79,7 +79,7 @@ both_same : (k : Touch) → both k k ≡ k
 both_same k = rw (or_same k.registers, or_same k.vectors, or_same k.accumulators, or_same k.flags, or_same k.divider, or_same k.dmem) refl
 
 -- a branch fits a word, and so does a loop
-branch_fits : (i : Inst) (n : ℕ) → leads_back i n ≡ true → fits_word i ≡ true
+branch_fits : (i : Inst) (n : ℕ) → can_undo i n ≡ true → fits_word i ≡ true
 branch_fits (BranchEqual row rs rt offset) n h = refl
 branch_fits (BranchSign row rs offset) n h = refl
 branch_fits _ n h = cc
@@ -91,7 +91,7 @@ fit_all (i ∷ is) b d h p q = let parts = and_parts (fits_word i) (all_fit is) 
 -- what holds after k rounds
 record Stands (l : Loop) (s : State) (Holds : ℕ → State → Type 0) (n k : ℕ) (t : State) : Type 0 where
   ranges : IsState t
-  next : t.npc ≡ going_on t.pc
+  next : t.npc ≡ address_after t.pc
   holds : Holds k t
   here : k < n → t.pc ≡ s.pc
   past : k ≡ n → t.pc ≡ place_after l.words s.pc
@@ -132,17 +132,17 @@ round law l decoded test s place at n Holds each k t lt is =
     let fit = fit_all code l.branch l.slot straight.1 (branch_fits l.branch m p2.0) p3.1 in
     let same : ran_through (loop_code l) t ≡ x = ran_on code (l.branch ∷ l.slot ∷ []) t ∙ ap (λ y. executed l.slot (executed l.branch y)) run in
     let slot_at : u.npc ≡ (s.pc + 4 * m) % 4096 =
-    ap (λ (y : State). y.npc) (sym run) ∙ (places_run code t straight.0 is.next).1 ∙ ap (λ p. going_on (place_after code p)) (is.here lt)
-    ∙ ap going_on (place_is code s.pc place) ∙ omega arith in
+    ap (λ (y : State). y.npc) (sym run) ∙ (places_run code t straight.0 is.next).1 ∙ ap (λ p. address_after (place_after code p)) (is.here lt)
+    ∙ ap address_after (place_is code s.pc place) ∙ omega arith in
     let went : x.pc ≡ goes (nat_lt (k + 1) n) u.npc m = g.pc ∙ ap (λ (y : State). y.npc) turn ∙ ap (λ b. goes b u.npc m) r.1 in
     let long = lengths l.words code l.branch l.slot decoded in
     let framing : x ≡ with_parts (of_rows (loop_code l)) t x = subst (λ (y : State). y ≡ with_parts (of_rows (loop_code l)) t y) same (framed (loop_code l) t all) in
     subst (Stands l s Holds n (k + 1)) (sym made) (record {
       ranges = subst IsState same (ranges (loop_code l) t all fit is.ranges);
-      next = g.npc ∙ ap going_on (sym g.pc);
+      next = g.npc ∙ ap address_after (sym g.pc);
       holds = r.2;
       here = λ h. went ∙ ap (λ b. goes b u.npc m) (lt-ltb (k + 1) n h) ∙ back_to s.pc u.npc m place (omega arith) (omega arith) slot_at;
-      past = λ h. went ∙ ap (λ b. goes b u.npc m) (le-ltb (k + 1) n (omega arith)) ∙ ap going_on slot_at ∙ omega arith ∙ sym (place_is l.words s.pc place);
+      past = λ h. went ∙ ap (λ b. goes b u.npc m) (le-ltb (k + 1) n (omega arith)) ∙ ap address_after slot_at ∙ omega arith ∙ sym (place_is l.words s.pc place);
       frame = chained (of_rows (loop_code l)) (of_rows (loop_code l)) s t x is.frame framing ∙ ap (λ k. with_parts k s x) (both_same (of_rows (loop_code l)));
       spares = record {
         scalars = λ i h. ap (λ (y : State). register y.registers i) (sym same) ∙ scalars_spared (loop_code l) i t all h ∙ is.spares.scalars i h;
@@ -164,7 +164,7 @@ loops law l decoded test s is at n some Holds start each =
     let t = steps_of (n * length l.words) s in
     let end : Stands l s Holds n n t = rounds_kept (length l.words) n (Stands l s Holds n) s begin (round law l decoded test s is.pc.0 at n Holds each) in
     let pc = end.past refl in
-    let npc : t.npc ≡ place_after l.words s.npc = end.next ∙ ap going_on pc ∙ sym (placed l.words s.pc) ∙ ap (place_after l.words) (sym at.next) in
+    let npc : t.npc ≡ place_after l.words s.npc = end.next ∙ ap address_after pc ∙ sym (placed l.words s.pc) ∙ ap (place_after l.words) (sym at.next) in
     record {
       holds = end.holds;
       ranges = end.ranges;

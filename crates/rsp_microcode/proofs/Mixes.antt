@@ -4,7 +4,7 @@ use Rattle.std.specs.Prelude.{◌≤ℤ◌}
 use Rattle.std.proofs.lemmas.Int.{ints}
 use Rattle.rsp_numbers.specs.Numbers.{s16, s48, sixteen_bits, clamp16, floor_div}
 use Rattle.rsp_numbers.proofs.Wrap.{s48_is}
-use Rattle.rsp_decode.specs.declared.vector.MultiplyRow.TheVariants.{Vmulf, Vmacf}
+use Rattle.rsp_decode.specs.declared.vector.VectorMultiplyOp.TheVariants.{Vmulf, Vmacf}
 use Rattle.rsp_decode.specs.Table.Words.{inst_of, row_of}
 use Rattle.rsp_lanes.specs.Lanes.{each_lane, selected, IsVector}
 use Rattle.rsp_lanes.proofs.Kit.{lane_of, each_same}
@@ -12,7 +12,7 @@ use Rattle.rsp_loadstore.specs.File.{vector, with_vector}
 use Rattle.rsp_acc.specs.Parts.{clamp_of}
 use Rattle.rsp_acc.specs.declared.parts.Clamp.TheVariants.{Signed}
 use Rattle.rsp_multiply.specs.Laws.{SumsOfProducts}
-use Rattle.rsp_multiply.specs.Rows.{rounded, fraction}
+use Rattle.rsp_multiply.specs.MultiplyRules.{rounded, fraction}
 use Rattle.rsp_multiply.proofs.Signs.{signed}
 use Rattle.rsp_machine.specs.State.{State}
 use Rattle.rsp_machine.specs.Laws.{steps_of}

@@ -5,15 +5,15 @@ use Rattle.std.proofs.lemmas.Bool.{cases_lt, lt-ltb, le-ltb}
 use Rattle.rsp_numbers.specs.Numbers.{s32}
 use Rattle.rsp_numbers.proofs.Signed.{s32_small}
 use Rattle.rsp_decode.specs.declared.inst.Inst.TheVariants.{Immediate, BranchSign}
-use Rattle.rsp_decode.specs.declared.vector.MultiplyRow.TheVariants.{Vmulf, Vmacf}
-use Rattle.rsp_decode.specs.declared.scalar.ImmediateRow.TheVariants.{Addiu}
-use Rattle.rsp_decode.specs.declared.scalar.SignRow.TheVariants.{Bgtz}
+use Rattle.rsp_decode.specs.declared.vector.VectorMultiplyOp.TheVariants.{Vmulf, Vmacf}
+use Rattle.rsp_decode.specs.declared.scalar.ImmediateOp.TheVariants.{Addiu}
+use Rattle.rsp_decode.specs.declared.scalar.BranchSignOp.TheVariants.{Bgtz}
 use Rattle.rsp_decode.specs.Table.Words.{inst_of, row_of}
 use Rattle.rsp_multiply.specs.Laws.{SumsOfProducts}
 use Rattle.rsp_scalar.specs.Registers.{register}
 use Rattle.rsp_loadstore.specs.File.{vector, with_vector}
 use Rattle.rsp_machine.specs.State.{State, IsState}
-use Rattle.rsp_machine.specs.Step.{executed, worked, computes, jumps}
+use Rattle.rsp_machine.specs.Step.{executed, instruction_effect, computes, jumps}
 use Rattle.rsp_microcode.specs.Lanes.{lanes_at, with_lanes}
 use Rattle.rsp_microcode.specs.Loads.{WholeLoad, load, loaded}
 use Rattle.rsp_microcode.specs.Reads.{after_writes}
@@ -64,7 +64,7 @@ counted : (t : State) → length t.registers ≡ 32 →
     let q = (round_of loop t).registers in
     (register q 1 ≡ (register r 1 + 16) % 2 ^ 32) × (register q 2 ≡ (register r 2 + 16) % 2 ^ 32) × (register q 3 ≡ (register r 3 + 16) % 2 ^ 32)
     × (register q 4 ≡ (register r 4 + 4294967288) % 2 ^ 32) × (register (after_pieces loop.pieces t).registers 4 ≡ (register r 4 + 4294967288) % 2 ^ 32)
-unfolding executed worked computes jumps
+unfolding executed instruction_effect computes jumps
 counted t n =
     let e = listed t.registers n in
     let q = λ (i : ℕ) (r : List ℕ). register (round_of loop (record t { registers = r })).registers i in
@@ -73,7 +73,7 @@ counted t n =
 -- what a round stores
 stored : (t : State) → IsState t → (round_of loop t).dmem
     ≡ with_lanes t.dmem (register t.registers 3 + 16 * 0) (mix (lanes_at t.dmem (register t.registers 1 + 16 * 0)) (lanes_at t.dmem (register t.registers 2 + 16 * 0)) (vector t.vectors 3))
-unfolding executed worked computes jumps
+unfolding executed instruction_effect computes jumps
 stored t is =
     let file = after_writes with_vector (loaded loads t.dmem t.registers) t.vectors in
     let read = λ (n : ℕ). vector_reads (loaded loads t.dmem t.registers) t.vectors n is.vectors.count refl in

@@ -5,15 +5,15 @@ use Rattle.std.specs.List.{list_all}
 use Rattle.std.proofs.lemmas.Bool.{and_parts}
 use Rattle.std.proofs.lemmas.Bool.Decides.{nat_tests}
 use Rattle.std.proofs.lemmas.List.{get_or-set_same, get_or-set_other}
-use Rattle.rsp_scalar.specs.Flow.{going_on}
+use Rattle.rsp_scalar.specs.Flow.{address_after}
 use Rattle.rsp_loadstore.specs.File.{vector, with_vector}
-use Rattle.rsp_multiply.specs.Laws.{Step, IsStep, SumsOfProducts, after, results, sum_of}
-use Rattle.rsp_multiply.specs.Rows.{clamped_by}
+use Rattle.rsp_multiply.specs.Laws.{MultiplyInstruction, IsMultiplyInstruction, SumsOfProducts, after, results, sum_of}
+use Rattle.rsp_multiply.specs.MultiplyRules.{multiply_results}
 use Rattle.rsp_machine.specs.State.{State}
-use Rattle.rsp_machine.specs.Step.{executed, worked}
+use Rattle.rsp_machine.specs.Step.{executed, instruction_effect}
 use Rattle.rsp_machine.specs.Vector.{multiplies}
 use Rattle.rsp_microcode.specs.Runs.{all_go_on, ran_through, place_after}
-use Rattle.rsp_multiply.specs.Rows.{row}
+use Rattle.rsp_multiply.specs.MultiplyRules.{multiply_rule}
 use Rattle.rsp_numbers.specs.Numbers.{s48}
 use Rattle.rsp_lanes.specs.Lanes.{each_lane}
 use Rattle.std.proofs.lemmas.List.Elements.{All-nil, All-cons}
@@ -44,7 +44,7 @@ same_steps file vd v (m ∷ ms) h =
     let both = and_parts _ _ h in
     rw (same_step file vd v m both.0, same_steps file vd v ms both.1) refl
 
-abbrev with_steps : List Term → State → List Step → State
+abbrev with_steps : List Term → State → List MultiplyInstruction → State
 with_steps ms s steps = record s {
   pc = place_after ms s.pc;
   npc = place_after ms s.npc;
@@ -52,14 +52,14 @@ with_steps ms s steps = record s {
   vectors = after_writes with_vector (writes ms (results steps s.accumulators)) s.vectors;
 }
 
-pub run : (ms : List Term) (s : State) → independent ms ≡ true → s.npc ≡ going_on s.pc → ran_through (map instruction ms) s ≡ multiplied ms s
-unfolding executed worked multiplies
+pub run : (ms : List Term) (s : State) → independent ms ≡ true → s.npc ≡ address_after s.pc → ran_through (map instruction ms) s ≡ multiplied ms s
+unfolding executed instruction_effect multiplies
 run [] s h e = refl
 run (m ∷ ms) s h e =
     let both = and_parts _ _ h in
     let t = executed (instruction m) s in
     run ms t both.1 refl
-    ∙ ap (with_steps ms t) (same_steps s.vectors m.fields.vd (clamped_by (step_in [] m).op t.accumulators) ms both.0)
+    ∙ ap (with_steps ms t) (same_steps s.vectors m.fields.vd (multiply_results (step_in [] m).op t.accumulators) ms both.0)
     ∙ ap (λ (n : ℕ). let u : State = record s {
       pc = place_after ms n;
       npc = place_after (m ∷ ms) s.npc;
@@ -71,20 +71,20 @@ pub all_straight : (ms : List Term) → all_go_on (map instruction ms) ≡ true
 all_straight [] = refl
 all_straight (m ∷ ms) = all_straight ms
 
-step_fits : (file : List (List ℕ)) (m : Term) → IsFile file → has_fields m ≡ true → IsStep (step_in file m)
+step_fits : (file : List (List ℕ)) (m : Term) → IsFile file → has_fields m ≡ true → IsMultiplyInstruction (step_in file m)
 step_fits file m is h =
     let two = and_parts _ _ h in
     let both = and_parts _ _ two.0 in
     (is.registers m.fields.vs (ltb-true _ _ both.0), is.registers m.fields.vt (ltb-true _ _ both.1), ltb-true _ _ two.1)
 
-abbrev Adds : Step → Type 0
-Adds s = (row s.op).adds ≡ true
+abbrev Adds : MultiplyInstruction → Type 0
+Adds s = (multiply_rule s.op).adds ≡ true
 
-steps_fit : (file : List (List ℕ)) (ms : List Term) → IsFile file → list_all has_fields ms ≡ true → All IsStep (map (step_in file) ms)
-steps_fit file [] is h = All-nil IsStep
+steps_fit : (file : List (List ℕ)) (ms : List Term) → IsFile file → list_all has_fields ms ≡ true → All IsMultiplyInstruction (map (step_in file) ms)
+steps_fit file [] is h = All-nil IsMultiplyInstruction
 steps_fit file (m ∷ ms) is h =
     let both = and_parts _ _ h in
-    All-cons IsStep _ _ (step_fits file m is both.0) (steps_fit file ms is both.1)
+    All-cons IsMultiplyInstruction _ _ (step_fits file m is both.0) (steps_fit file ms is both.1)
 
 steps_add : (file : List (List ℕ)) (ms : List Term) → list_all adds ms ≡ true → All Adds (map (step_in file) ms)
 steps_add file [] h = All-nil Adds

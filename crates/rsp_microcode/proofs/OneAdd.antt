@@ -4,17 +4,17 @@ use Rattle.std.proofs.Math.IntN.{+ℤ_idr}
 use Rattle.rsp_numbers.specs.Numbers.{sixteen_bits, clamp16}
 use Rattle.rsp_decode.specs.declared.inst.Inst.{Inst}
 use Rattle.rsp_decode.specs.declared.inst.Inst.TheVariants.{VectorAdd}
-use Rattle.rsp_decode.specs.declared.vector.VectorAddRow.TheVariants.{Vadd}
+use Rattle.rsp_decode.specs.declared.vector.VectorAddOp.TheVariants.{Vadd}
 use Rattle.rsp_decode.specs.Table.Words.{inst_of, row_of}
 use Rattle.rsp_lanes.specs.Lanes.{each_lane, selected}
 use Rattle.rsp_lanes.proofs.Kit.{lane_of, each_same}
 use Rattle.rsp_lanes.specs.declared.flags.Flags.{Flags}
 use Rattle.rsp_lanes.specs.Outcome.{results_of}
 use Rattle.rsp_compare.specs.Adds.{vadd}
-use Rattle.rsp_scalar.specs.Flow.{going_on}
+use Rattle.rsp_scalar.specs.Flow.{address_after}
 use Rattle.rsp_loadstore.specs.File.{vector, with_vector}
 use Rattle.rsp_machine.specs.State.{State}
-use Rattle.rsp_machine.specs.Step.{executed, worked}
+use Rattle.rsp_machine.specs.Step.{executed, instruction_effect}
 use Rattle.rsp_machine.specs.Vector.{ruled}
 use Rattle.rsp_microcode.specs.OneAdd.{limited_sums, Adds, AddsLanes}
 use Rattle.rsp_microcode.proofs.Runs.{straight}
@@ -36,8 +36,8 @@ unfolding results_of
 sums_are v w f clear = each_same _ _ (λ i h. rw (lane_of false (λ _. false) f.carry clear i h, itself w i h) (ap (λ z. sixteen_bits (clamp16 z)) (+ℤ_idr _)))
 
 -- the state after the instruction
-added : (s : State) → s.npc ≡ going_on s.pc → s.flags.carry ≡ each_lane (λ _. false) → Adds words s (executed add s)
-unfolding executed worked ruled
+added : (s : State) → s.npc ≡ address_after s.pc → s.flags.carry ≡ each_lane (λ _. false) → Adds words s (executed add s)
+unfolding executed instruction_effect ruled
 added s next clear =
     let sum = sums_are (vector s.vectors 1) (vector s.vectors 2) s.flags clear in
     let t = executed add s in

@@ -2,7 +2,7 @@
 use Rattle.std.proofs.Common.{◌≡◌, ℕ, List, [], ◌∷◌, map, Some, get_or, false, refl, ap, sym, ◌∙◌, arith}
 use Rattle.rsp_decode.specs.declared.inst.Inst.{Inst}
 use Rattle.rsp_decode.specs.declared.inst.Inst.TheVariants.{VectorAdd}
-use Rattle.rsp_decode.specs.declared.vector.VectorAddRow.TheVariants.{Vsub}
+use Rattle.rsp_decode.specs.declared.vector.VectorAddOp.TheVariants.{Vsub}
 use Rattle.rsp_decode.specs.Table.Words.{inst_of, row_of}
 use Rattle.rsp_memory.specs.Memory.{word_at, byte_at}
 use Rattle.rsp_lanes.specs.Lanes.{each_lane}
@@ -10,7 +10,7 @@ use Rattle.rsp_lanes.specs.Outcome.{results_of}
 use Rattle.rsp_numbers.specs.Numbers.{clamp16}
 use Rattle.rsp_loadstore.specs.File.{vector, with_vector, empty_file}
 use Rattle.rsp_machine.specs.State.{State, start_of}
-use Rattle.rsp_machine.specs.Step.{executed, worked}
+use Rattle.rsp_machine.specs.Step.{executed, instruction_effect}
 use Rattle.rsp_machine.specs.Vector.{ruled}
 use Rattle.rsp_machine.specs.Laws.{steps_of}
 use Rattle.rsp_microcode.specs.Runs.{IsAt}
@@ -41,7 +41,7 @@ clear = refl
 
 -- lane 0 of register 3 after the word, and as it should be
 is_65535 : get_or (vector (executed subtract begin).vectors 3) 0 0 ≡ 65535
-unfolding executed worked ruled results_of start_of vector with_vector empty_file each_lane clamp16
+unfolding executed instruction_effect ruled results_of start_of vector with_vector empty_file each_lane clamp16
 is_65535 = refl
 
 pub differs : SubtractingDiffers

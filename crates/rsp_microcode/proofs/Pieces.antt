@@ -7,7 +7,7 @@ use Rattle.std.proofs.lemmas.List.{length-map}
 use Rattle.rsp_scalar.specs.Registers.{register}
 use Rattle.rsp_loadstore.specs.File.{vector}
 use Rattle.rsp_multiply.specs.Laws.{SumsOfProducts}
-use Rattle.rsp_scalar.specs.Flow.{going_on}
+use Rattle.rsp_scalar.specs.Flow.{address_after}
 use Rattle.rsp_machine.specs.State.{State, IsState}
 use Rattle.rsp_machine.specs.Step.{executed}
 use Rattle.rsp_machine.specs.Laws.{steps_of}
@@ -29,15 +29,15 @@ use Rattle.rsp_microcode.proofs.LoadRuns.{loads_run}
 use Rattle.rsp_microcode.proofs.Multiplies.{sums as sums_run}
 
 -- straight code leaves pc where it goes on to
-pub places_run : (is : List Inst) (s : State) → all_go_on is ≡ true → s.npc ≡ going_on s.pc
-    → ((ran_through is s).pc ≡ place_after is s.pc) × ((ran_through is s).npc ≡ going_on (place_after is s.pc))
+pub places_run : (is : List Inst) (s : State) → all_go_on is ≡ true → s.npc ≡ address_after s.pc
+    → ((ran_through is s).pc ≡ place_after is s.pc) × ((ran_through is s).npc ≡ address_after (place_after is s.pc))
 places_run [] s h n = (refl, n)
 places_run (i ∷ is) s h n =
     let parts = and_parts (goes_on i) (all_go_on is) h in
     let g = gone i s parts.0 in
-    let more = places_run is (executed i s) parts.1 (g.npc ∙ ap going_on (sym g.pc)) in
-    let e : (executed i s).pc ≡ going_on s.pc = g.pc ∙ n in
-    (more.0 ∙ ap (place_after is) e, more.1 ∙ ap (λ p. going_on (place_after is p)) e)
+    let more = places_run is (executed i s) parts.1 (g.npc ∙ ap address_after (sym g.pc)) in
+    let e : (executed i s).pc ≡ address_after s.pc = g.pc ∙ n in
+    (more.0 ∙ ap (place_after is) e, more.1 ∙ ap (λ p. address_after (place_after is p)) e)
 
 -- it stays, and so do pieces
 pub stay_all : (is : List Inst) → all_go_on is ≡ true → all_stay is ≡ true
@@ -71,10 +71,10 @@ pieces_straight (puts vt offset base ∷ ps) h = let parts = and_parts _ _ h in 
 pieces_straight (rows is ∷ ps) h = let parts = and_parts _ _ h in both_straight is _ (and_parts _ _ parts.0) (pieces_straight ps parts.1)
 
 -- what a straight run to a known state hands on
-handed_on : (is : List Inst) (s t : State) → IsStraight is → ran_through is s ≡ t → IsState s → s.npc ≡ going_on s.pc → IsState t × (t.npc ≡ going_on t.pc)
+handed_on : (is : List Inst) (s t : State) → IsStraight is → ran_through is s ≡ t → IsState s → s.npc ≡ address_after s.pc → IsState t × (t.npc ≡ address_after t.pc)
 handed_on is s t h e ok next =
     let p = places_run is s h.0 next in
-    subst (λ (x : State). IsState x × (x.npc ≡ going_on x.pc)) e (ranges is s (stay_all is h.0) h.1 ok, p.1 ∙ ap going_on (sym p.0))
+    subst (λ (x : State). IsState x × (x.npc ≡ address_after x.pc)) e (ranges is s (stay_all is h.0) h.1 ok, p.1 ∙ ap address_after (sym p.0))
 
 pub pieces : SumsOfProducts → RunsOfPieces
 pieces law [] s ok next h a = (refl, ok)
@@ -109,11 +109,11 @@ same_places : {X Y : Type 0} (xs : List X) (ys : List Y) (p : ℕ) → length xs
 same_places [] [] p e = refl
 same_places [] (y ∷ ys) p e = absurd (omega arith)
 same_places (x ∷ xs) [] p e = absurd (omega arith)
-same_places (x ∷ xs) (y ∷ ys) p e = same_places xs ys (going_on p) (omega arith)
+same_places (x ∷ xs) (y ∷ ys) p e = same_places xs ys (address_after p) (omega arith)
 
-pub placed : {X : Type 0} (xs : List X) (p : ℕ) → place_after xs (going_on p) ≡ going_on (place_after xs p)
+pub placed : {X : Type 0} (xs : List X) (p : ℕ) → place_after xs (address_after p) ≡ address_after (place_after xs p)
 placed [] p = refl
-placed (x ∷ xs) p = placed xs (going_on p)
+placed (x ∷ xs) p = placed xs (address_after p)
 
 pub pieces_run : SumsOfProducts → PiecesRun
 pieces_run law words ps decoded fits s ok at aligned =
@@ -126,7 +126,7 @@ pieces_run law words ps decoded fits s ok at aligned =
     let places = places_run code s h.0 at.next in
     let pc : t.pc ≡ place_after words s.pc = ap (λ (x : State). x.pc) ran ∙ places.0 ∙ sym (same_places words code s.pc long) in
     let npc : t.npc ≡ place_after words s.npc =
-    ap (λ (x : State). x.npc) ran ∙ places.1 ∙ sym (ap going_on (same_places words code s.pc long)) ∙ sym (placed words s.pc) ∙ ap (place_after words) (sym at.next) in
+    ap (λ (x : State). x.npc) ran ∙ places.1 ∙ sym (ap address_after (same_places words code s.pc long)) ∙ sym (placed words s.pc) ∙ ap (place_after words) (sym at.next) in
     let frame : t ≡ with_parts (of_rows code) s t = subst (λ (x : State). x ≡ with_parts (of_rows code) s x) (sym ran) (framed code s stay) in
     let kept : IsState t = subst IsState (sym ran) (ranges code s stay h.1 ok) in
     let spares : Spares code s t = record {

@@ -7,15 +7,15 @@ use Rattle.std.proofs.lemmas.Bool.{and_parts, ltb-true}
 use Rattle.rsp_decode.specs.declared.inst.Inst.{Inst}
 use Rattle.rsp_decode.specs.declared.inst.Inst.TheVariants.{Shift, ShiftBy, JumpRegister, JumpLinkRegister, Break, Register, BranchSign, BranchEqual, Jump, Immediate, LoadUpper, Load, Store, MoveSp, MoveVector, MoveControl, Multiply, Round, MpegMultiply, ReadAccumulator, VectorAdd, VectorSelect, VectorClip, VectorMerge, VectorLogic, Divide, Idle, VectorLoad, VectorStore}
 use Rattle.rsp_decode.specs.declared.fields.VectorFields.{VectorFields}
-use Rattle.rsp_decode.specs.declared.vector.MultiplyRow.{MultiplyRow}
-use Rattle.rsp_decode.specs.declared.vector.RoundRow.{RoundRow}
-use Rattle.rsp_decode.specs.declared.vector.MpegRow.{MpegRow}
-use Rattle.rsp_decode.specs.declared.vector.DivideRow.{DivideRow}
+use Rattle.rsp_decode.specs.declared.vector.VectorMultiplyOp.{VectorMultiplyOp}
+use Rattle.rsp_decode.specs.declared.vector.VectorRoundOp.{VectorRoundOp}
+use Rattle.rsp_decode.specs.declared.vector.VectorMpegOp.{VectorMpegOp}
+use Rattle.rsp_decode.specs.declared.vector.VectorDivideOp.{VectorDivideOp}
 use Rattle.rsp_decode.specs.declared.vector.Control.{Control}
 use Rattle.rsp_divide.specs.declared.divider.Divider.{Divider}
-use Rattle.rsp_decode.specs.declared.scalar.MoveRow.TheVariants.{From, To}
-use Rattle.rsp_decode.specs.declared.scalar.JumpRow.TheVariants.{J, Jal}
-use Rattle.rsp_decode.specs.declared.scalar.SignRow.TheVariants.{Bltz, Bgez, Bltzal, Bgezal, Blez, Bgtz}
+use Rattle.rsp_decode.specs.declared.scalar.MoveOp.TheVariants.{From, To}
+use Rattle.rsp_decode.specs.declared.scalar.JumpOp.TheVariants.{J, Jal}
+use Rattle.rsp_decode.specs.declared.scalar.BranchSignOp.TheVariants.{Bltz, Bgez, Bltzal, Bgezal, Blez, Bgtz}
 use Rattle.rsp_decode.specs.declared.vector.Control.TheVariants.{Vco, Vcc, Vce}
 use Rattle.rsp_numbers.specs.Numbers.{AreNumbers, number, s16, modulo, sixteen_bits, high, middle, low}
 use Rattle.rsp_memory.specs.Memory.{IsMemory}
@@ -25,22 +25,22 @@ use Rattle.rsp_lanes.specs.Outcome.{Rule, results_of, flags_after}
 use Rattle.rsp_lanes.specs.declared.flags.Flags.{Flags}
 use Rattle.rsp_lanes.proofs.Kit.{length_each}
 use Rattle.rsp_lanes.proofs.Products.{high_vector}
-use Rattle.rsp_multiply.specs.Rows.{accumulators_after, clamped_by, sar_of, sar_lane}
-use Rattle.rsp_multiply.specs.Mpeg.{accumulators_rounded, clamped_signed, accumulators_mpeg, halved_mpeg}
-use Rattle.rsp_divide.specs.Rows.{lane_written, divider_after}
+use Rattle.rsp_multiply.specs.MultiplyRules.{accumulators_after, multiply_results, sar_results, sar_lane}
+use Rattle.rsp_multiply.specs.Mpeg.{accumulators_after_rounding, rounding_results, accumulators_after_mpeg, mpeg_results}
+use Rattle.rsp_divide.specs.DivideRules.{vd_after, divider_after}
 use Rattle.rsp_acc.specs.declared.parts.Clamp.TheVariants.{Signed}
 use Rattle.rsp_scalar.specs.Registers.{IsRegisters, with_register}
-use Rattle.rsp_scalar.specs.Rows.{branch_target}
-use Rattle.rsp_scalar.specs.Flow.{going_on}
+use Rattle.rsp_scalar.specs.ScalarRules.{branch_target}
+use Rattle.rsp_scalar.specs.Flow.{address_after}
 use Rattle.rsp_loadstore.specs.File.{IsFile, vector}
-use Rattle.rsp_loadstore.specs.Loads.{loaded_file}
-use Rattle.rsp_loadstore.specs.Stores.{stored_memory}
-use Rattle.rsp_loadstore.specs.Moves.{moved_file, moved_value, with_register_half}
-use Rattle.rsp_loadstore.specs.Controls.{controlled_flags, control_value, with_control}
-use Rattle.rsp_machine.specs.State.{State, IsState, IsPlace, AreFlags, advanced}
+use Rattle.rsp_loadstore.specs.Loads.{file_after_load}
+use Rattle.rsp_loadstore.specs.Stores.{memory_after_store}
+use Rattle.rsp_loadstore.specs.Moves.{file_after_move, moved_value, with_register_half}
+use Rattle.rsp_loadstore.specs.Controls.{flags_after_move, control_value, with_control}
+use Rattle.rsp_machine.specs.State.{State, IsState, IsInstructionAddress, AreFlags, advanced}
 use Rattle.rsp_machine.specs.Operations.{round_op, mpeg_op, add_op, select_op, clip_op, logic_op, divide_op}
 use Rattle.rsp_machine.specs.Vector.{multiplies, rounds, multiplies_mpeg, reads_accumulator, ruled, divides, loads_vector, stores_vector, moves_vector, moves_control}
-use Rattle.rsp_machine.specs.Step.{executed, worked, computes, loads, stores, jumps, moves_sp}
+use Rattle.rsp_machine.specs.Step.{executed, instruction_effect, computes, loads, stores, jumps, moves_sp}
 use Rattle.rsp_microcode.specs.Frames.{stays}
 use Rattle.rsp_microcode.specs.Ranges.{fits_word, RangesKept}
 use Rattle.rsp_microcode.proofs.SpReads.{reads_leave, goes, peeked_small}
@@ -48,7 +48,7 @@ use Rattle.rsp_microcode.proofs.RangesOfParts.{register_written, file_written, v
 use Rattle.rsp_microcode.proofs.RangesOfResults.{shift_small, shift_by_small, register_small, immediate_small, load_small, stored_small, control_small, IsSmall, add_small, select_small, merge_small, clip_small, logic_small, selected_small, division_small, round_fits, mpeg_fits}
 
 -- places
-pub next_place : (p : ℕ) → p % 4 ≡ 0 → IsPlace (going_on p)
+pub next_place : (p : ℕ) → p % 4 ≡ 0 → IsInstructionAddress (address_after p)
 next_place p e = (omega arith, omega arith)
 
 -- a state with one part written over
@@ -70,7 +70,7 @@ accumulators_kept s x h is = record { pc = is.pc; npc = is.npc; registers = is.r
 flags_kept : (s : State) (f : Flags) → AreFlags f → IsState s → IsState (record s { flags = f })
 flags_kept s f h is = record { pc = is.pc; npc = is.npc; registers = is.registers; vectors = is.vectors; accumulators = is.accumulators; flags = h; divider = is.divider; dmem = is.dmem; imem = is.imem; rdram = is.rdram; sp = is.sp }
 
-npc_kept : (s : State) (n : ℕ) → IsPlace n → IsState s → IsState (record s { npc = n })
+npc_kept : (s : State) (n : ℕ) → IsInstructionAddress n → IsState s → IsState (record s { npc = n })
 npc_kept s n h is = record { pc = is.pc; npc = h; registers = is.registers; vectors = is.vectors; accumulators = is.accumulators; flags = is.flags; divider = is.divider; dmem = is.dmem; imem = is.imem; rdram = is.rdram; sp = is.sp }
 
 divider_kept : (s : State) (d : Divider) → (d.input < 65536) × (d.output < 65536) → IsState s → IsState (record s { divider = d })
@@ -88,8 +88,8 @@ rule_kept rule f s small is =
     (flags_kept _ _ (record { carry = length_each _; differ = length_each _; compare = length_each _; clip = length_each _; extra = length_each _ })
     (accumulators_kept s _ (low_numbers s.accumulators _) is))
 
-divide_kept : (row : DivideRow) (vd lane vt e : ℕ) (s : State) → IsState s → IsState (divides row vd lane vt e s)
-unfolding divides lane_written divider_after
+divide_kept : (row : VectorDivideOp) (vd lane vt e : ℕ) (s : State) → IsState s → IsState (divides row vd lane vt e s)
+unfolding divides vd_after divider_after
 divide_kept row vd lane vt e s is =
     let v = λ (i : ℕ). vector_small s.vectors vt i is.vectors in
     let d = division_small (divide_op row) s.divider (slice_index (vector s.vectors vt) (e % 8)) (slice_index (selected (vector s.vectors vt) e) lane)
@@ -97,13 +97,13 @@ divide_kept row vd lane vt e s is =
     vectors_kept _ _ (file_written s.vectors vd _ (λ l. vector_set _ lane _ d.0 (is.vectors.registers vd l)) is.vectors)
     (divider_kept _ _ d.1 (accumulators_kept s _ (low_numbers s.accumulators _) is))
 
-multiply_kept : (row : MultiplyRow) (f : VectorFields) (s : State) → IsState s → IsState (multiplies row f s)
-unfolding multiplies accumulators_after clamped_by
+multiply_kept : (row : VectorMultiplyOp) (f : VectorFields) (s : State) → IsState s → IsState (multiplies row f s)
+unfolding multiplies accumulators_after multiply_results
 multiply_kept row f s is =
     vectors_kept _ _ (file_written s.vectors f.vd _ (λ l. high_vector _ (λ i. clamp_small _ _)) is.vectors) (accumulators_kept s _ (are_numbers _ (λ i. wraps _)) is)
 
-round_kept : (row : RoundRow) (f : VectorFields) (s : State) → IsState s → IsState (rounds row f s)
-unfolding rounds accumulators_rounded clamped_signed
+round_kept : (row : VectorRoundOp) (f : VectorFields) (s : State) → IsState s → IsState (rounds row f s)
+unfolding rounds accumulators_after_rounding rounding_results
 round_kept row f s is =
     vectors_kept _ _ (file_written s.vectors f.vd _ (λ l. high_vector _ (λ i. clamp_small Signed _)) is.vectors)
     (accumulators_kept s _ (are_numbers _ (λ i. round_fits (round_op row) (f.vs % 2 == 1) (number s.accumulators i) (slice_index (selected (vector s.vectors f.vt) f.element) i) (is.accumulators.1 i))) is)
@@ -111,8 +111,8 @@ round_kept row f s is =
 half_small : (p : ℤ) → sixteen_bits p / 16 * 16 < 65536
 half_small p = omega (arith, sixteen_small p)
 
-mpeg_kept : (row : MpegRow) (f : VectorFields) (s : State) → IsState s → IsState (multiplies_mpeg row f s)
-unfolding multiplies_mpeg accumulators_mpeg halved_mpeg
+mpeg_kept : (row : VectorMpegOp) (f : VectorFields) (s : State) → IsState s → IsState (multiplies_mpeg row f s)
+unfolding multiplies_mpeg accumulators_after_mpeg mpeg_results
 mpeg_kept row f s is =
     let v = λ (i : ℕ). vector_small s.vectors f.vt i is.vectors in
     vectors_kept _ _ (file_written s.vectors f.vd _ (λ l. high_vector _ (λ i. half_small _)) is.vectors)
@@ -125,7 +125,7 @@ sar_small e x =
     (either_small (nat_eq e 9) _ _ 65536 (sixteen_small _) (either_small (nat_eq e 10) _ _ 65536 (sixteen_small x) (omega arith)))
 
 read_kept : (f : VectorFields) (s : State) → IsState s → IsState (reads_accumulator f s)
-unfolding reads_accumulator sar_of
+unfolding reads_accumulator sar_results
 read_kept f s is = vectors_kept s _ (file_written s.vectors f.vd _ (λ l. high_vector _ (λ i. sar_small f.element _)) is.vectors) is
 
 half_written : (v : List ℕ) (e n : ℕ) → IsVector v → IsVector (with_register_half v e n)
@@ -139,7 +139,7 @@ half_written v e n is =
     go false x y h k = k
 
 -- jumps and branches
-wrapped_place : (z k : ℤ) → z ≡ pos 4 *ℤ k → IsPlace (modulo z 4096)
+wrapped_place : (z k : ℤ) → z ≡ pos 4 *ℤ k → IsInstructionAddress (modulo z 4096)
 wrapped_place (pos n) (pos m) e = (omega (arith, ints), omega (arith, ints))
 wrapped_place (pos n) (negsuc m) e = absurd (omega (arith, ints))
 wrapped_place (negsuc n) (pos m) e = absurd (omega (arith, ints))
@@ -148,26 +148,26 @@ wrapped_place (negsuc n) (negsuc m) e = (omega (arith, ints), omega (arith, ints
 fourfold : (p : ℕ) (z : ℤ) → p % 4 ≡ 0 → pos p +ℤ pos 4 *ℤ z ≡ pos 4 *ℤ (pos (p / 4) +ℤ z)
 fourfold p z h = omega (arith, ints)
 
-target_place : (npc offset : ℕ) → npc % 4 ≡ 0 → IsPlace (branch_target npc offset)
+target_place : (npc offset : ℕ) → npc % 4 ≡ 0 → IsInstructionAddress (branch_target npc offset)
 target_place npc offset h = wrapped_place _ (pos (npc / 4) +ℤ s16 offset) (fourfold npc (s16 offset) h)
 
-either_place : (b : Bool) (x y : ℕ) → IsPlace x → IsPlace y → IsPlace (if b then x else y)
+either_place : (b : Bool) (x y : ℕ) → IsInstructionAddress x → IsInstructionAddress y → IsInstructionAddress (if b then x else y)
 either_place true x y h k = h
 either_place false x y h k = k
 
-branch_place : (b : Bool) (s : State) (offset : ℕ) → IsState s → IsPlace (if b then branch_target s.pc offset else going_on s.pc)
+branch_place : (b : Bool) (s : State) (offset : ℕ) → IsState s → IsInstructionAddress (if b then branch_target s.pc offset else address_after s.pc)
 branch_place b s offset is = either_place b _ _ (target_place s.pc offset is.pc.1) (next_place s.pc is.pc.1)
 
-register_place : (n : ℕ) → IsPlace (n / 4 % 1024 * 4)
+register_place : (n : ℕ) → IsInstructionAddress (n / 4 % 1024 * 4)
 register_place n = (omega arith, omega arith)
 
-jump_place : (target : ℕ) → IsPlace (target * 4 % 4096)
+jump_place : (target : ℕ) → IsInstructionAddress (target * 4 % 4096)
 jump_place target = (omega arith, omega arith)
 
-linked_kept : (n : ℕ) (s : State) (p : ℕ) → IsPlace p → IsState s → IsState (record s { npc = p; registers = with_register s.registers n (going_on s.pc) })
+linked_kept : (n : ℕ) (s : State) (p : ℕ) → IsInstructionAddress p → IsState s → IsState (record s { npc = p; registers = with_register s.registers n (address_after s.pc) })
 linked_kept n s p h is =
     let t : State = record s { npc = p } in
-    registers_kept t _ (register_written s.registers n (going_on s.pc) (let q = next_place s.pc is.pc.1 in omega (arith, q.0)) is.registers) (npc_kept s p h is)
+    registers_kept t _ (register_written s.registers n (address_after s.pc) (let q = next_place s.pc is.pc.1 in omega (arith, q.0)) is.registers) (npc_kept s p h is)
 
 marked : (c : Control) (v : ℕ) (f : Flags) → AreFlags f → AreFlags (with_control c v f)
 marked Vco v f is = record { carry = length_each _; differ = length_each _; compare = is.compare; clip = is.clip; extra = is.extra }
@@ -175,8 +175,8 @@ marked Vcc v f is = record { carry = is.carry; differ = is.differ; compare = len
 marked Vce v f is = record { carry = is.carry; differ = is.differ; compare = is.compare; clip = is.clip; extra = length_each _ }
 
 -- an instruction on a state whose places have gone on
-pub kept : (i : Inst) (s : State) → stays i ≡ true → fits_word i ≡ true → IsState s → IsState (worked i s)
-unfolding worked computes loads stores jumps moves_sp loads_vector stores_vector moves_vector moves_control loaded_file stored_memory moved_file moved_value controlled_flags control_value
+pub kept : (i : Inst) (s : State) → stays i ≡ true → fits_word i ≡ true → IsState s → IsState (instruction_effect i s)
+unfolding instruction_effect computes loads stores jumps moves_sp loads_vector stores_vector moves_vector moves_control file_after_load memory_after_store file_after_move moved_value flags_after_move control_value
 kept (Shift row rd rt amount) s h f is = registers_kept s _ (register_written _ rd _ (shift_small row _ amount (is.registers.words rt)) is.registers) is
 kept (ShiftBy row f) s h g is = registers_kept s _ (register_written _ f.rd _ (shift_by_small row _ _ (is.registers.words f.rt)) is.registers) is
 kept (Register row f) s h g is = registers_kept s _ (register_written _ f.rd _ (register_small row _ _ (is.registers.words f.rs) (is.registers.words f.rt)) is.registers) is

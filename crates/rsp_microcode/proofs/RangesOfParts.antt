@@ -17,10 +17,10 @@ use Rattle.rsp_acc.specs.declared.parts.Clamp.TheVariants.{Signed, Unsigned, Low
 use Rattle.rsp_acc.specs.Planes.{with_low}
 use Rattle.rsp_scalar.specs.Registers.{IsRegisters, with_register}
 use Rattle.rsp_loadstore.specs.File.{IsFile, vector, with_vector, bits_14_to_7}
-use Rattle.rsp_loadstore.specs.Pairs.{for_each, block, place, group}
+use Rattle.rsp_loadstore.specs.Pairs.{for_each, doubleword_start, wrapped_address, group_start}
 use Rattle.rsp_loadstore.specs.Loads.{Load, to_byte, to_lane, loaded, after_load, load_pairs}
-use Rattle.rsp_decode.specs.declared.vector.VectorLoadRow.{VectorLoadRow}
-use Rattle.rsp_decode.specs.declared.vector.VectorLoadRow.TheVariants.{Lbv, Lsv, Llv, Ldv, Lqv, Lrv, Lpv, Luv, Lhv, Lfv, Ltv}
+use Rattle.rsp_decode.specs.declared.vector.VectorLoadOp.{VectorLoadOp}
+use Rattle.rsp_decode.specs.declared.vector.VectorLoadOp.TheVariants.{Lbv, Lsv, Llv, Ldv, Lqv, Lrv, Lpv, Luv, Lhv, Lfv, Ltv}
 use Rattle.std.proofs.Math.Nat.{mul-le-mul}
 use Rattle.rsp_loadstore.specs.Stores.{Store, from_byte, from_bits_14_to_7, stored, after_store}
 
@@ -155,7 +155,7 @@ whole = omega arith
 half : 128 ≤ 256
 half = omega arith
 
-pub load_kept : (row : VectorLoadRow) (m : List ℕ) (vt e a : ℕ) (file : List (List ℕ)) → IsMemory m → IsFile file → IsFile (after_load m file (load_pairs row vt e a))
+pub load_kept : (row : VectorLoadOp) (m : List ℕ) (vt e a : ℕ) (file : List (List ℕ)) → IsMemory m → IsFile file → IsFile (after_load m file (load_pairs row vt e a))
 unfolding load_pairs for_each
 load_kept Lbv m vt e a file is h = load_all m _ _ file (λ k. tt) is h
 load_kept Lsv m vt e a file is h = load_all m _ _ file (λ k. tt) is h
@@ -163,11 +163,11 @@ load_kept Llv m vt e a file is h = load_all m _ _ file (λ k. tt) is h
 load_kept Ldv m vt e a file is h = load_all m _ _ file (λ k. tt) is h
 load_kept Lqv m vt e a file is h = load_all m _ _ file (λ k. tt) is h
 load_kept Lrv m vt e a file is h = load_all m _ _ file (λ k. tt) is h
-load_kept Lpv m vt e a file is h = load_all m (λ j. to_lane vt j 256 (place a (16 - e + j))) (range_with_len 0 8) file (λ k. whole) is h
-load_kept Luv m vt e a file is h = load_all m (λ j. to_lane vt j 128 (place a (16 - e + j))) (range_with_len 0 8) file (λ k. half) is h
-load_kept Lhv m vt e a file is h = load_all m (λ j. to_lane vt j 128 (place a (16 - e + 2 * j))) (range_with_len 0 8) file (λ k. half) is h
-load_kept Lfv m vt e a file is h = load_all m (λ j. to_lane vt (e / 2 + j) 128 (place a (4 * j))) (range_with_len 0 4) file (λ k. half) is h
-load_kept Ltv m vt e a file is h = load_all m (λ k. to_byte (group vt + (e / 2 + k / 2) % 8) k (block a + (k + e + a / 8 % 2 * 8) % 16)) (range_with_len 0 16) file (λ k. tt) is h
+load_kept Lpv m vt e a file is h = load_all m (λ j. to_lane vt j 256 (wrapped_address a (16 - e + j))) (range_with_len 0 8) file (λ k. whole) is h
+load_kept Luv m vt e a file is h = load_all m (λ j. to_lane vt j 128 (wrapped_address a (16 - e + j))) (range_with_len 0 8) file (λ k. half) is h
+load_kept Lhv m vt e a file is h = load_all m (λ j. to_lane vt j 128 (wrapped_address a (16 - e + 2 * j))) (range_with_len 0 8) file (λ k. half) is h
+load_kept Lfv m vt e a file is h = load_all m (λ j. to_lane vt (e / 2 + j) 128 (wrapped_address a (4 * j))) (range_with_len 0 4) file (λ k. half) is h
+load_kept Ltv m vt e a file is h = load_all m (λ k. to_byte (group_start vt + (e / 2 + k / 2) % 8) k (doubleword_start a + (k + e + a / 8 % 2 * 8) % 16)) (range_with_len 0 16) file (λ k. tt) is h
 
 pub store_kept : (file : List (List ℕ)) (ps : List Store) (m : List ℕ) → IsFile file → IsMemory m → IsMemory (after_store file m ps)
 unfolding after_store stored bits_14_to_7

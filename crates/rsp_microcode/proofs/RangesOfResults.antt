@@ -8,18 +8,18 @@ use Rattle.std.proofs.lemmas.Bool.{cases_lt, lt-ltb, le-ltb}
 use Rattle.std.proofs.lemmas.Nat.{or_lt, xor_lt, mod_below}
 use Rattle.std.proofs.lemmas.Simd.{mask_l-lt}
 use Rattle.std.proofs.Math.Nat.{div-le_self}
-use Rattle.rsp_decode.specs.declared.scalar.ShiftRow.{ShiftRow}
-use Rattle.rsp_decode.specs.declared.scalar.ShiftRow.TheVariants.{Sll, Srl, Sra}
-use Rattle.rsp_decode.specs.declared.scalar.ShiftByRow.{ShiftByRow}
-use Rattle.rsp_decode.specs.declared.scalar.ShiftByRow.TheVariants.{Sllv, Srlv, Srav}
-use Rattle.rsp_decode.specs.declared.scalar.RegisterRow.{RegisterRow}
-use Rattle.rsp_decode.specs.declared.scalar.RegisterRow.TheVariants.{Add, Addu, Sub, Subu, And, Or, Xor, Nor, Slt, Sltu}
-use Rattle.rsp_decode.specs.declared.scalar.ImmediateRow.{ImmediateRow}
-use Rattle.rsp_decode.specs.declared.scalar.ImmediateRow.TheVariants.{Addi, Addiu, Slti, Sltiu, Andi, Ori, Xori}
-use Rattle.rsp_decode.specs.declared.scalar.LoadRow.{LoadRow}
-use Rattle.rsp_decode.specs.declared.scalar.LoadRow.TheVariants.{Lb, Lh, Lw, Lbu, Lhu, Lwu}
-use Rattle.rsp_decode.specs.declared.scalar.StoreRow.{StoreRow}
-use Rattle.rsp_decode.specs.declared.scalar.StoreRow.TheVariants.{Sb, Sh, Sw}
+use Rattle.rsp_decode.specs.declared.scalar.ShiftOp.{ShiftOp}
+use Rattle.rsp_decode.specs.declared.scalar.ShiftOp.TheVariants.{Sll, Srl, Sra}
+use Rattle.rsp_decode.specs.declared.scalar.ShiftVariableOp.{ShiftVariableOp}
+use Rattle.rsp_decode.specs.declared.scalar.ShiftVariableOp.TheVariants.{Sllv, Srlv, Srav}
+use Rattle.rsp_decode.specs.declared.scalar.RegisterOp.{RegisterOp}
+use Rattle.rsp_decode.specs.declared.scalar.RegisterOp.TheVariants.{Add, Addu, Sub, Subu, And, Or, Xor, Nor, Slt, Sltu}
+use Rattle.rsp_decode.specs.declared.scalar.ImmediateOp.{ImmediateOp}
+use Rattle.rsp_decode.specs.declared.scalar.ImmediateOp.TheVariants.{Addi, Addiu, Slti, Sltiu, Andi, Ori, Xori}
+use Rattle.rsp_decode.specs.declared.scalar.LoadOp.{LoadOp}
+use Rattle.rsp_decode.specs.declared.scalar.LoadOp.TheVariants.{Lb, Lh, Lw, Lbu, Lhu, Lwu}
+use Rattle.rsp_decode.specs.declared.scalar.StoreOp.{StoreOp}
+use Rattle.rsp_decode.specs.declared.scalar.StoreOp.TheVariants.{Sb, Sh, Sw}
 use Rattle.rsp_decode.specs.declared.vector.Control.{Control}
 use Rattle.rsp_decode.specs.declared.vector.Control.TheVariants.{Vco, Vcc, Vce}
 use Rattle.rsp_multiply.specs.declared.op.RoundOp.{RoundOp}
@@ -41,16 +41,16 @@ use Rattle.rsp_lanes.specs.Flags.{LaneFlags}
 use Rattle.rsp_lanes.specs.declared.flags.Flags.{Flags}
 use Rattle.rsp_lanes.specs.Outcome.{Rule, Outcome}
 use Rattle.rsp_lanes.proofs.Products.{high_vector}
-use Rattle.rsp_multiply.specs.Mpeg.{rounded_by, rounding_adds, mpeg_accumulated, has_bit_5}
+use Rattle.rsp_multiply.specs.Mpeg.{accumulator_after_rounding, rounding_adds, accumulator_after_mpeg, has_bit_5}
 use Rattle.rsp_multiply.proofs.Signs.{signed}
 use Rattle.rsp_compare.specs.Adds.{add_rule}
 use Rattle.rsp_compare.specs.declared.selects.MergeOp.TheVariants.{Vmrg}
 use Rattle.rsp_compare.specs.Selects.{holds, select_rule, merge_rule}
 use Rattle.rsp_compare.specs.Clips.{signs_differ, vcl_compare, clip_rule}
 use Rattle.rsp_compare.specs.Logic.{logic_rule}
-use Rattle.rsp_divide.specs.Rows.{division}
+use Rattle.rsp_divide.specs.DivideRules.{division}
 use Rattle.rsp_divide.specs.declared.divider.Divider.{Divider}
-use Rattle.rsp_scalar.specs.Rows.{shift_result, shift_by_result, register_result, immediate_result, load_result, store_result, truth}
+use Rattle.rsp_scalar.specs.ScalarRules.{shift_result, shift_by_result, register_result, immediate_result, load_result, store_result, truth}
 use Rattle.rsp_loadstore.specs.Controls.{control_word}
 use Rattle.rsp_machine.specs.State.{AreFlags}
 use Rattle.rsp_microcode.proofs.RangesOfParts.{modulo_small, sixteen_small, either_small, memory_small, memory_written, wraps}
@@ -59,12 +59,12 @@ use Rattle.rsp_microcode.proofs.RangesOfParts.{modulo_small, sixteen_small, eith
 shifted : (t k : ℕ) → t < 2 ^ 32 → t / 2 ^ k < 2 ^ 32
 shifted t k h = omega (arith, div-le_self t (2 ^ k))
 
-pub shift_small : (row : ShiftRow) (t k : ℕ) → t < 2 ^ 32 → shift_result row t k < 2 ^ 32
+pub shift_small : (row : ShiftOp) (t k : ℕ) → t < 2 ^ 32 → shift_result row t k < 2 ^ 32
 shift_small Sll t k h = mod_below _ (2 ^ 32) (omega arith)
 shift_small Srl t k h = shifted t k h
 shift_small Sra t k h = modulo_small _
 
-pub shift_by_small : (row : ShiftByRow) (t k : ℕ) → t < 2 ^ 32 → shift_by_result row t k < 2 ^ 32
+pub shift_by_small : (row : ShiftVariableOp) (t k : ℕ) → t < 2 ^ 32 → shift_by_result row t k < 2 ^ 32
 shift_by_small Sllv t k h = mod_below _ (2 ^ 32) (omega arith)
 shift_by_small Srlv t k h = shifted t (k % 32) h
 shift_by_small Srav t k h = modulo_small _
@@ -73,7 +73,7 @@ truth_small : (b : Bool) → truth b < 2 ^ 32
 truth_small true = omega arith
 truth_small false = omega arith
 
-pub register_small : (row : RegisterRow) (a b : ℕ) → a < 2 ^ 32 → b < 2 ^ 32 → register_result row a b < 2 ^ 32
+pub register_small : (row : RegisterOp) (a b : ℕ) → a < 2 ^ 32 → b < 2 ^ 32 → register_result row a b < 2 ^ 32
 register_small Add a b h k = mod_below _ (2 ^ 32) (omega arith)
 register_small Addu a b h k = mod_below _ (2 ^ 32) (omega arith)
 register_small Sub a b h k = mod_below _ (2 ^ 32) (omega arith)
@@ -85,7 +85,7 @@ register_small Nor a b h k = omega arith
 register_small Slt a b h k = truth_small _
 register_small Sltu a b h k = truth_small _
 
-pub immediate_small : (row : ImmediateRow) (a imm : ℕ) → a < 2 ^ 32 → imm < 65536 → immediate_result row a imm < 2 ^ 32
+pub immediate_small : (row : ImmediateOp) (a imm : ℕ) → a < 2 ^ 32 → imm < 65536 → immediate_result row a imm < 2 ^ 32
 immediate_small Addi a imm h k = mod_below _ (2 ^ 32) (omega arith)
 immediate_small Addiu a imm h k = mod_below _ (2 ^ 32) (omega arith)
 immediate_small Slti a imm h k = truth_small _
@@ -102,7 +102,7 @@ half_small : (m : List ℕ) (a : ℕ) → IsMemory m → half_at m a < 2 ^ 32
 unfolding half_at
 half_small m a is = omega (arith, memory_small m a is, memory_small m (a + 1) is)
 
-pub load_small : (row : LoadRow) (m : List ℕ) (a : ℕ) → IsMemory m → load_result row m a < 2 ^ 32
+pub load_small : (row : LoadOp) (m : List ℕ) (a : ℕ) → IsMemory m → load_result row m a < 2 ^ 32
 load_small Lb m a is = modulo_small _
 load_small Lh m a is = modulo_small _
 load_small Lw m a is = word_small m a is
@@ -113,7 +113,7 @@ load_small Lwu m a is = word_small m a is
 high_part : (n : ℕ) → n % 2 ^ 16 / 256 < 256
 high_part n = omega arith
 
-pub stored_small : (row : StoreRow) (m : List ℕ) (a t : ℕ) → t < 2 ^ 32 → IsMemory m → IsMemory (store_result row m a t)
+pub stored_small : (row : StoreOp) (m : List ℕ) (a t : ℕ) → t < 2 ^ 32 → IsMemory m → IsMemory (store_result row m a t)
 unfolding with_half with_word
 stored_small Sb m a t h is = memory_written m a _ (mod_below t 256 (omega arith)) is
 stored_small Sh m a t h is = memory_written _ (a + 1) _ (mod_below _ 256 (omega arith)) (memory_written m a _ (high_part t) is)
@@ -198,7 +198,7 @@ one_number : (c : Bool) (x y : ℤ) → IsNumber x → IsNumber y → IsNumber (
 one_number true x y h k = h
 one_number false x y h k = k
 
-pub round_fits : (op : RoundOp) (odd : Bool) (x : ℤ) (b : ℕ) → IsNumber x → IsNumber (rounded_by op odd x b)
+pub round_fits : (op : RoundOp) (odd : Bool) (x : ℤ) (b : ℕ) → IsNumber x → IsNumber (accumulator_after_rounding op odd x b)
 round_fits op odd x b h = one_number (rounding_adds op x) _ x (wraps _) h
 
 abbrev Is32 : ℤ → Type 0
@@ -226,7 +226,7 @@ stepped false (pos n) h = elim (cases_lt n 32) [
 ]
 stepped false (negsuc n) h = (omega (arith, ints, h.0, h.1), omega (arith, ints, h.0, h.1))
 
-pub mpeg_fits : (op : MpegOp) (x : ℤ) (a b : ℕ) → IsNumber x → a < 65536 → b < 65536 → IsNumber (mpeg_accumulated op x a b)
+pub mpeg_fits : (op : MpegOp) (x : ℤ) (a b : ℕ) → IsNumber x → a < 65536 → b < 65536 → IsNumber (accumulator_after_mpeg op x a b)
 unfolding low
 mpeg_fits Vmulq x a b h i j = let p = (signed a b i j).1 in times_alone _ (product_fits (int_lt (s16 a *ℤ s16 b) (pos 0)) _ p.low p.high)
 mpeg_fits Vmacq x a b h i j = times_65536 _ _ (stepped (has_bit_5 (floor_div x 65536)) _ (divided_fits x h)) (sixteen_small x)

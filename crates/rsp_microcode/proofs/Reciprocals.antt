@@ -8,13 +8,13 @@ use Rattle.std.proofs.Math.Nat.{div-le_self}
 use Rattle.rsp_numbers.specs.Numbers.{s32, sixteen_bits, upper_bits}
 use Rattle.rsp_numbers.proofs.Signed.{s32_small, s32_large}
 use Rattle.rsp_decode.specs.declared.inst.Inst.TheVariants.{Divide}
-use Rattle.rsp_decode.specs.declared.vector.DivideRow.TheVariants.{Vrcph, Vrcpl, Vrsqh, Vrsql}
-use Rattle.rsp_divide.specs.Rows.{lane_written, divider_after}
-use Rattle.rsp_divide.specs.Quotients.{reciprocal_of, inverse_root_of, quotient_of, reciprocal_bits, root_bits, root_index, nine_bits, zeros, size_of}
+use Rattle.rsp_decode.specs.declared.vector.VectorDivideOp.TheVariants.{Vrcph, Vrcpl, Vrsqh, Vrsql}
+use Rattle.rsp_divide.specs.DivideRules.{vd_after, divider_after}
+use Rattle.rsp_divide.specs.Quotients.{reciprocal_of, inverse_root_of, quotient_of, reciprocal_bits, root_bits, root_index, nine_bits, zeros, magnitude_of}
 use Rattle.rsp_divide.specs.Entries.{reciprocal_entry, root_entry}
 use Rattle.rsp_loadstore.specs.File.{IsFile, vector, with_vector}
 use Rattle.rsp_machine.specs.State.{State}
-use Rattle.rsp_machine.specs.Step.{executed, worked}
+use Rattle.rsp_machine.specs.Step.{executed, instruction_effect}
 use Rattle.rsp_machine.specs.Vector.{divides}
 use Rattle.rsp_microcode.specs.Fixed.{fixed}
 use Rattle.rsp_microcode.specs.Reciprocals.{Reciprocals, Roots}
@@ -72,11 +72,11 @@ minus_is n h = (omega (arith, ints), omega (arith, ints))
 quotient_is : (bits : ℕ → ℕ) → ((y : ℕ) → bits y < 2 ^ 31) → (x : ℤ) → Is32 (quotient_of bits x)
 quotient_is bits small x =
     let above = pos (bits (unsigned_abs x)) in
-    let below = negsuc 0 -ℤ pos (bits (size_of x)) in
+    let below = negsuc 0 -ℤ pos (bits (magnitude_of x)) in
     let signed = if int_lt x (pos 0) then below else above in
     one_is (int_eq x (pos 0)) (pos 2147483647) (if int_eq x (negsuc 32767) then negsuc 65535 else signed) (pos_is 2147483647 (omega arith))
     (one_is (int_eq x (negsuc 32767)) (negsuc 65535) signed (neg_is 65535 (omega arith))
-    (one_is (int_lt x (pos 0)) below above (minus_is (bits (size_of x)) (small (size_of x))) (pos_is (bits (unsigned_abs x)) (small (unsigned_abs x)))))
+    (one_is (int_lt x (pos 0)) below above (minus_is (bits (magnitude_of x)) (small (magnitude_of x))) (pos_is (bits (unsigned_abs x)) (small (unsigned_abs x)))))
 
 -- lane 0 of a register whose lane 0 was written
 lane_0 : (file : List (List ℕ)) (n x : ℕ) → n < 32 → IsFile file → get_or (vector (with_vector file n (set (vector file n) 0 x)) n) 0 0 ≡ x
@@ -103,20 +103,20 @@ module _ (of : ℤ → ℤ) (fits : (x : ℤ) → Is32 (of x)) (high low a b : �
       rw (top, bottom) (halves_of q (fits (operand_of s a b u))) ∙ ap (λ w. of (s32 (get_or (vector s.vectors a) 0 0 * 65536 + get_or w 0 0))) same
 
 first_writes : (high a : ℕ) (s : State) → (executed (Divide Vrcph high 0 a 8) s).vectors ≡ with_vector s.vectors high (set (vector s.vectors high) 0 s.divider.output)
-unfolding executed worked divides lane_written
+unfolding executed instruction_effect divides vd_after
 first_writes high a s = refl
 
 second_writes : (high low a b : ℕ) (s : State) →
     let u = executed (Divide Vrcph high 0 a 8) s in
     (executed (Divide Vrcpl low 0 b 8) u).vectors ≡ with_vector u.vectors low (set (vector u.vectors low) 0 (sixteen_bits (reciprocal_of (operand_of s a b u))))
-unfolding executed worked divides lane_written divider_after
+unfolding executed instruction_effect divides vd_after divider_after
 second_writes high low a b s = refl
 
 third_writes : (high low a b c : ℕ) (s : State) →
     let u = executed (Divide Vrcph high 0 a 8) s in
     let v = executed (Divide Vrcpl low 0 b 8) u in
     (executed (Divide Vrcph high 0 c 8) v).vectors ≡ with_vector v.vectors high (set (vector v.vectors high) 0 (upper_bits (reciprocal_of (operand_of s a b u))))
-unfolding executed worked divides lane_written divider_after
+unfolding executed instruction_effect divides vd_after divider_after
 third_writes high low a b c s = refl
 
 pub reciprocals : Reciprocals
@@ -129,20 +129,20 @@ reciprocals high low a b c s is h l apart other t e =
     (first_writes high a s) (second_writes high low a b s) (ap (λ (x : State). x.vectors) e ∙ third_writes high low a b c s)
 
 first_root : (high a : ℕ) (s : State) → (executed (Divide Vrsqh high 0 a 8) s).vectors ≡ with_vector s.vectors high (set (vector s.vectors high) 0 s.divider.output)
-unfolding executed worked divides lane_written
+unfolding executed instruction_effect divides vd_after
 first_root high a s = refl
 
 second_root : (high low a b : ℕ) (s : State) →
     let u = executed (Divide Vrsqh high 0 a 8) s in
     (executed (Divide Vrsql low 0 b 8) u).vectors ≡ with_vector u.vectors low (set (vector u.vectors low) 0 (sixteen_bits (inverse_root_of (operand_of s a b u))))
-unfolding executed worked divides lane_written divider_after
+unfolding executed instruction_effect divides vd_after divider_after
 second_root high low a b s = refl
 
 third_root : (high low a b c : ℕ) (s : State) →
     let u = executed (Divide Vrsqh high 0 a 8) s in
     let v = executed (Divide Vrsql low 0 b 8) u in
     (executed (Divide Vrsqh high 0 c 8) v).vectors ≡ with_vector v.vectors high (set (vector v.vectors high) 0 (upper_bits (inverse_root_of (operand_of s a b u))))
-unfolding executed worked divides lane_written divider_after
+unfolding executed instruction_effect divides vd_after divider_after
 third_root high low a b c s = refl
 
 pub roots : Roots

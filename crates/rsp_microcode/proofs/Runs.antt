@@ -4,14 +4,14 @@ use Rattle.std.specs.Prelude.{if◌then◌else◌}
 use Rattle.std.proofs.lemmas.Bool.{and_parts}
 use Rattle.rsp_decode.specs.declared.inst.Inst.{Inst}
 use Rattle.rsp_decode.specs.declared.inst.Inst.TheVariants.{Break, MoveSp, MoveVector, MoveControl, JumpRegister, JumpLinkRegister, BranchSign, BranchEqual, Jump}
-use Rattle.rsp_decode.specs.declared.scalar.MoveRow.TheVariants.{From, To}
+use Rattle.rsp_decode.specs.declared.scalar.MoveOp.TheVariants.{From, To}
 use Rattle.rsp_decode.specs.Table.{inst_of}
 use Rattle.rsp_memory.specs.Memory.{word_at}
-use Rattle.rsp_scalar.specs.Flow.{going_on}
+use Rattle.rsp_scalar.specs.Flow.{address_after}
 use Rattle.rsp_regs.specs.Sp.{Sp, after_step}
 use Rattle.rsp_machine.specs.State.{State}
 use Rattle.rsp_machine.specs.Vector.{multiplies, rounds, multiplies_mpeg, reads_accumulator, ruled, divides, loads_vector, stores_vector, moves_vector, moves_control}
-use Rattle.rsp_machine.specs.Step.{step_of, step_by, singled, executed, worked, computes, loads, stores, jumps, moves_sp}
+use Rattle.rsp_machine.specs.Step.{step_of, step_by, after_single_step, executed, instruction_effect, computes, loads, stores, jumps, moves_sp}
 use Rattle.rsp_machine.specs.Laws.{steps_of}
 use Rattle.rsp_machine.specs.declared.step.StepEnd.{StepEnd}
 use Rattle.rsp_machine.specs.declared.step.StepEnd.TheVariants.{Done, Halted}
@@ -21,12 +21,12 @@ use Rattle.rsp_microcode.specs.Runs.{goes_on, branches, all_go_on, Stand, IsAt, 
 -- what a row that goes on leaves
 pub record Goes (s t : State) : Type 0 where
   pub pc : t.pc ≡ s.npc
-  pub npc : t.npc ≡ going_on s.npc
+  pub npc : t.npc ≡ address_after s.npc
   pub imem : t.imem ≡ s.imem
   pub sp : t.sp ≡ s.sp
 
 pub gone : (i : Inst) (s : State) → goes_on i ≡ true → Goes s (executed i s)
-unfolding executed worked computes loads stores moves_sp multiplies rounds multiplies_mpeg reads_accumulator ruled divides loads_vector stores_vector moves_vector moves_control
+unfolding executed instruction_effect computes loads stores moves_sp multiplies rounds multiplies_mpeg reads_accumulator ruled divides loads_vector stores_vector moves_vector moves_control
 gone (JumpRegister rs) s h = cc
 gone (JumpLinkRegister rd rs) s h = cc
 gone Break s h = cc
@@ -45,12 +45,12 @@ or_false : (a b : Bool) → b ≡ false → (a || b) ≡ a
 or_false true b h = refl
 or_false false b h = h
 
-unsingled : (s : State) → s.sp.single_step ≡ false → singled s ≡ s
+unsingled : (s : State) → s.sp.single_step ≡ false → after_single_step s ≡ s
 unfolding after_step
 unsingled s n = ap (λ (b : Bool). let p = s.sp in let q : Sp = record p { halted = b } in let t : State = record s { sp = q } in t) (or_false s.sp.halted s.sp.single_step n)
 
 step_fetched : (b : Bool) (o : Option Inst) (i : Inst) (word : ℕ) (s : State) → b ≡ false → o ≡ Some i
-    → (if b then (Halted, s) else step_by o word s) ≡ (Done, singled (executed i s))
+    → (if b then (Halted, s) else step_by o word s) ≡ (Done, after_single_step (executed i s))
 step_fetched b o i word s p q = rw (p, q) refl
 
 -- a step over a word that means an instruction
@@ -82,7 +82,7 @@ behind : (i : Inst) (s : State) (w : ℕ) (ws : List ℕ) → Goes s (executed i
 behind i s w ws kept at = record {
   goes = ap (λ (p : Sp). p.halted) kept.sp ∙ at.goes;
   runs = ap (λ (p : Sp). p.single_step) kept.sp ∙ at.runs;
-  next = kept.npc ∙ ap going_on (sym kept.pc);
+  next = kept.npc ∙ ap address_after (sym kept.pc);
   stand = still ws _ _ _ _ (sym at.next ∙ sym kept.pc) (sym kept.imem) at.stand.1;
 }
 
@@ -109,7 +109,7 @@ record Turns (s t : State) : Type 0 where
   sp : t.sp ≡ s.sp
 
 turned : (i : Inst) (s : State) → branches i ≡ true → Turns s (executed i s)
-unfolding executed worked jumps
+unfolding executed instruction_effect jumps
 turned (JumpRegister rs) s h = record { pc = refl; imem = refl; sp = refl }
 turned (JumpLinkRegister rd rs) s h = record { pc = refl; imem = refl; sp = refl }
 turned (BranchSign row rs offset) s h = record { pc = refl; imem = refl; sp = refl }

@@ -2,7 +2,7 @@
 use Rattle.std.proofs.Common.{◌≡◌, ℕ, zero, suc, ◌+◌, ◌%◌, ◌^◌, ◌<◌, ◌≤◌, List, ◌∷◌, get_or, Bool, true, false, ◌||◌, not, refl, arith}
 use Rattle.std.specs.Prelude.{◌==◌}
 use Rattle.std.proofs.lemmas.Bool.{not-true}
-use Rattle.rsp_regs.specs.Sp.{Sp, IsSp, flag, signal, status, length_word, words, peeked, after_read}
+use Rattle.rsp_regs.specs.Sp.{Sp, IsSp, flag, signal, status, length_word, words, read_value, after_read}
 
 -- a read of any but the semaphore
 pub reads_leave : (n : ℕ) (p : Sp) → not (n % 16 == 7) ≡ true → after_read n p ≡ p
@@ -44,6 +44,6 @@ all_words p is =
     one_more _ _ memory (one_more _ _ dram (one_more _ _ size (one_more _ _ size (one_more _ _ (status_small p)
     (one_more _ _ none (one_more _ _ none (one_more _ _ semaphore (record { each = is.words }))))))))
 
-pub peeked_small : (n : ℕ) (p : Sp) → IsSp p → peeked n p < 2 ^ 32
-unfolding peeked
+pub peeked_small : (n : ℕ) (p : Sp) → IsSp p → read_value n p < 2 ^ 32
+unfolding read_value
 peeked_small n p is = (all_words p is).each (n % 16)

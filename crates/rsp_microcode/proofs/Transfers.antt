@@ -6,19 +6,19 @@ use Rattle.std.proofs.lemmas.List.{get_or-set_same, get_or-set_other}
 use Rattle.rsp_numbers.specs.Numbers.{bit_set}
 use Rattle.rsp_decode.specs.declared.inst.Inst.{Inst}
 use Rattle.rsp_decode.specs.declared.inst.Inst.TheVariants.{MoveSp}
-use Rattle.rsp_decode.specs.declared.scalar.MoveRow.TheVariants.{To}
+use Rattle.rsp_decode.specs.declared.scalar.MoveOp.TheVariants.{To}
 use Rattle.rsp_decode.specs.Table.Words.{inst_of}
 use Rattle.rsp_memory.specs.Memory.{IsMemory, byte_at}
 use Rattle.rsp_memory.specs.Image.{IsImage, image_byte, with_image_byte}
 use Rattle.rsp_memory.proofs.PutBack.{length-with_byte}
 use Rattle.rsp_scalar.specs.Registers.{register}
-use Rattle.rsp_scalar.specs.Flow.{going_on}
+use Rattle.rsp_scalar.specs.Flow.{address_after}
 use Rattle.rsp_regs.specs.declared.transfer.Transfer.{Transfer}
 use Rattle.rsp_regs.specs.Dma.{row_pairs, first_rows, copied_in, copied_out}
-use Rattle.rsp_regs.specs.Sp.{Sp, IsSp, written, transfer, after_dma, dmem_from_rdram, imem_from_rdram, rdram_from_bank}
+use Rattle.rsp_regs.specs.Sp.{Sp, IsSp, after_register_write, transfer, after_dma, dmem_from_rdram, imem_from_rdram, rdram_from_bank}
 use Rattle.rsp_regs.proofs.Pairs.{row_in-more, row_out-more, row_in-none, row_out-none, rows_in-more, rows_out-more, rows_in-none, rows_out-none}
 use Rattle.rsp_machine.specs.State.{State, IsState}
-use Rattle.rsp_machine.specs.Step.{executed, worked, moves_sp}
+use Rattle.rsp_machine.specs.Step.{executed, instruction_effect, moves_sp}
 use Rattle.rsp_machine.specs.Laws.{steps_of}
 use Rattle.rsp_machine.specs.declared.step.StepEnd.{StepEnd}
 use Rattle.rsp_microcode.specs.Runs.{IsAt, Stand, place_after, ran_through}
@@ -32,7 +32,7 @@ use Rattle.rsp_microcode.proofs.Bytes.{read_written, read_elsewhere}
 -- what a move to an SP register leaves, other than SP_STATUS, if IMEM is no target of a transfer
 record Leaves (s t : State) : Type 0 where
   pc : t.pc ≡ s.npc
-  npc : t.npc ≡ going_on s.npc
+  npc : t.npc ≡ address_after s.npc
   imem : t.imem ≡ s.imem
   halted : t.sp.halted ≡ s.sp.halted
   single_step : t.sp.single_step ≡ s.sp.single_step
@@ -41,7 +41,7 @@ behind : (s t : State) (w : ℕ) (ws : List ℕ) → Leaves s t → IsAt (w ∷ 
 behind s t w ws k at = record {
   goes = k.halted ∙ at.goes;
   runs = k.single_step ∙ at.runs;
-  next = k.npc ∙ ap going_on (sym k.pc);
+  next = k.npc ∙ ap address_after (sym k.pc);
   stand = still ws _ _ _ _ (sym at.next ∙ sym k.pc) (sym k.imem) at.stand.1;
 }
 
@@ -205,24 +205,24 @@ abbrev prepared : ℕ → ℕ → State → State
 prepared memory image s = executed (MoveSp To image 1) (executed (MoveSp To memory 0) s)
 
 is_prepared : (memory image : ℕ) (s : State) → prepared memory image s
-    ≡ record s { pc = going_on s.npc; npc = going_on (going_on s.npc); sp = addressed (register s.registers memory) (register s.registers image) s.sp }
-unfolding executed worked moves_sp written
+    ≡ record s { pc = address_after s.npc; npc = address_after (address_after s.npc); sp = addressed (register s.registers memory) (register s.registers image) s.sp }
+unfolding executed instruction_effect moves_sp after_register_write
 is_prepared memory image s = refl
 
 leaves_memory : (memory : ℕ) (s : State) → Leaves s (executed (MoveSp To memory 0) s)
-unfolding executed worked moves_sp written
+unfolding executed instruction_effect moves_sp after_register_write
 leaves_memory memory s = record { pc = refl; npc = refl; imem = refl; halted = refl; single_step = refl }
 
 leaves_image : (image : ℕ) (s : State) → Leaves s (executed (MoveSp To image 1) s)
-unfolding executed worked moves_sp written
+unfolding executed instruction_effect moves_sp after_register_write
 leaves_image image s = record { pc = refl; npc = refl; imem = refl; halted = refl; single_step = refl }
 
 leaves_fetch : (size : ℕ) (s : State) → bit_set s.sp.memory 12 ≡ false → Leaves s (executed (MoveSp To size 2) s)
-unfolding executed worked moves_sp written after_dma imem_from_rdram
+unfolding executed instruction_effect moves_sp after_register_write after_dma imem_from_rdram
 leaves_fetch size s h = record { pc = refl; npc = refl; imem = rw h refl; halted = refl; single_step = refl }
 
 leaves_send : (size : ℕ) (s : State) → Leaves s (executed (MoveSp To size 3) s)
-unfolding executed worked moves_sp written after_dma
+unfolding executed instruction_effect moves_sp after_register_write after_dma
 leaves_send size s = record { pc = refl; npc = refl; imem = refl; halted = refl; single_step = refl }
 
 -- the state after each transfer
@@ -239,14 +239,14 @@ whole_out a d n bank image =
     rows_out-more bank image (one_row a d n) 0 ∙ rw (rows_out-none bank image (one_row a d n), e, f) refl
 
 abbrev after_row : ℕ → ℕ → ℕ → State → State
-after_row a d n s = record s { pc = going_on (going_on s.npc); npc = going_on (going_on (going_on s.npc)); sp = ended a d n s.sp }
+after_row a d n s = record s { pc = address_after (address_after s.npc); npc = address_after (address_after (address_after s.npc)); sp = ended a d n s.sp }
 
 fetched : (memory image size : ℕ) (s : State) →
     let a = register s.registers memory in
     let d = register s.registers image in
     let n = register s.registers size in
     IsRow a d n → executed (MoveSp To size 2) (prepared memory image s) ≡ record (after_row a d n s) { dmem = copied_in s.rdram s.dmem (row_pairs a d (row_bytes n)) }
-unfolding executed worked moves_sp written dmem_from_rdram imem_from_rdram
+unfolding executed instruction_effect moves_sp after_register_write dmem_from_rdram imem_from_rdram
 fetched memory image size s row =
     let a = register s.registers memory in
     let d = register s.registers image in
@@ -261,7 +261,7 @@ sent : (memory image size : ℕ) (s : State) →
     let d = register s.registers image in
     let n = register s.registers size in
     IsRow a d n → executed (MoveSp To size 3) (prepared memory image s) ≡ record (after_row a d n s) { rdram = copied_out s.dmem s.rdram (row_pairs a d (row_bytes n)) }
-unfolding executed worked moves_sp written rdram_from_bank
+unfolding executed instruction_effect moves_sp after_register_write rdram_from_bank
 sent memory image size s row =
     let a = register s.registers memory in
     let d = register s.registers image in
@@ -274,10 +274,10 @@ sent memory image size s row =
 row_kept : (a d n : ℕ) (s : State) → IsRow a d n → IsState s → IsState (after_row a d n s)
 row_kept a d n s row is =
     let one = next_place s.npc is.npc.1 in
-    let two = next_place (going_on s.npc) one.1 in
+    let two = next_place (address_after s.npc) one.1 in
     record {
       pc = two;
-      npc = next_place (going_on (going_on s.npc)) two.1;
+      npc = next_place (address_after (address_after s.npc)) two.1;
       registers = is.registers;
       vectors = is.vectors;
       accumulators = is.accumulators;

@@ -1,7 +1,7 @@
 -- Blocks of words, one after the other.
 use Rattle.std.specs.Prelude.{ℕ, ◌≡◌, ◌<◌, ◌+◌, true, List, ◌++◌}
 use Rattle.rsp_decode.specs.declared.inst.Inst.{Inst}
-use Rattle.rsp_scalar.specs.Flow.{going_on}
+use Rattle.rsp_scalar.specs.Flow.{address_after}
 use Rattle.rsp_machine.specs.State.{State, IsState}
 use Rattle.rsp_machine.specs.Laws.{steps_of}
 use Rattle.rsp_microcode.specs.Runs.{IsAt, Stand, place_after}
@@ -22,7 +22,7 @@ FirstBlock = (a b : List ℕ) (s : State) → IsAt (a ++ b) s → IsAt a s
 
 -- and where pc is after the first, IMEM and SP registers being as they were, it is about to execute the second
 abbrev pub NextBlock : Type 0
-NextBlock = (a b : List ℕ) (s t : State) → IsAt (a ++ b) s → t.pc ≡ place_after a s.pc → t.npc ≡ going_on t.pc → t.imem ≡ s.imem → t.sp ≡ s.sp → IsAt b t
+NextBlock = (a b : List ℕ) (s t : State) → IsAt (a ++ b) s → t.pc ≡ place_after a s.pc → t.npc ≡ address_after t.pc → t.imem ≡ s.imem → t.sp ≡ s.sp → IsAt b t
 
 -- Rounds of any lengths: after n of them holds what the last one hands on. So a loop may have branches inside.
 abbrev pub RoundsOfSteps : Type 1
@@ -35,7 +35,7 @@ RoundsOfSteps = (n : ℕ) (Holds : ℕ → State → Type 0) (s : State) → Hol
 pub record Ran (words : List ℕ) (code : List Inst) (s t : State) : Type 0 where
   pub ranges : IsState t
   pub pc : t.pc ≡ place_after words s.pc
-  pub npc : t.npc ≡ going_on t.pc
+  pub npc : t.npc ≡ address_after t.pc
   pub spares : Spares code s t
   pub frame : t ≡ with_parts (of_rows code) s t
 
@@ -49,5 +49,5 @@ RanAt = (a b : List ℕ) (code : List Inst) (s t : State) → IsAt (a ++ b) s �
 
 -- all else is as it was
 abbrev pub RanOthers : Type 0
-RanOthers = (words : List ℕ) (code : List Inst) (s t : State) → IsState s → s.npc ≡ going_on s.pc → Ran words code s t
+RanOthers = (words : List ℕ) (code : List Inst) (s t : State) → IsState s → s.npc ≡ address_after s.pc → Ran words code s t
     → (ns ms : List ℕ) → write_only ns ms code ≡ true → t ≡ changed words code ns ms s t

@@ -2,10 +2,10 @@
 use Rattle.std.specs.Prelude.{ℕ, ◌≡◌, ◌*◌, ◌/◌, ◌%◌, ◌&&◌, Bool, true, List, [], ◌∷◌, ◌++◌, length, map, Some}
 use Rattle.rsp_decode.specs.declared.inst.Inst.{Inst}
 use Rattle.rsp_decode.specs.declared.inst.Inst.TheVariants.{JumpRegister, Jump}
-use Rattle.rsp_decode.specs.declared.scalar.JumpRow.TheVariants.{Jal}
+use Rattle.rsp_decode.specs.declared.scalar.JumpOp.TheVariants.{Jal}
 use Rattle.rsp_decode.specs.Table.{inst_of}
 use Rattle.rsp_scalar.specs.Registers.{register}
-use Rattle.rsp_scalar.specs.Flow.{going_on}
+use Rattle.rsp_scalar.specs.Flow.{address_after}
 use Rattle.rsp_machine.specs.State.{State, IsState}
 use Rattle.rsp_machine.specs.Step.{executed}
 use Rattle.rsp_machine.specs.Laws.{steps_of}
@@ -37,7 +37,7 @@ pub record AfterRoutine (r : Routine) (s t : State) : Type 0 where
   pub ran : t ≡ executed r.slot (executed (JumpRegister 31) (after_pieces r.pieces s))
   pub ranges : IsState t
   pub spares : Spares (routine_code r) s t
-  pub others : (ns ms : List ℕ) → write_only ns ms (routine_code r) ≡ true → t ≡ changed_at (return_of s) (going_on (return_of s)) (routine_code r) ns ms s t
+  pub others : (ns ms : List ℕ) → write_only ns ms (routine_code r) ≡ true → t ≡ changed_at (return_of s) (address_after (return_of s)) (routine_code r) ns ms s t
 
 abbrev pub RoutineRuns : Type 0
 RoutineRuns = (r : Routine) → map inst_of r.words ≡ map Some (routine_code r) → is_routine r ≡ true

@@ -5,7 +5,7 @@ use Rattle.rsp_numbers.specs.Numbers.{s16, s32, s48, floor_div}
 use Rattle.rsp_lanes.specs.Lanes.{each_lane, selected, source_lane, IsVector}
 use Rattle.rsp_acc.specs.Parts.{clamp_of}
 use Rattle.rsp_acc.specs.declared.parts.Clamp.TheVariants.{Signed, LowKind}
-use Rattle.rsp_multiply.specs.Rows.{unsigned_over_65536, signed_by_unsigned, unsigned_by_signed, signed_times_65536}
+use Rattle.rsp_multiply.specs.MultiplyRules.{unsigned_over_65536, signed_by_unsigned, unsigned_by_signed, signed_times_65536}
 
 -- lane i of a high and a low register, as one signed number of 32 bits
 abbrev pub fixed : List ℕ → List ℕ → ℕ → ℤ

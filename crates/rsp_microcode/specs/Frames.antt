@@ -3,14 +3,14 @@ use Rattle.std.specs.Prelude.{ℕ, ◌≡◌, ◌≤◌, ◌+◌, ◌==◌, nat_
 use Rattle.std.specs.List.{list_all}
 use Rattle.rsp_decode.specs.declared.inst.Inst.{Inst}
 use Rattle.rsp_decode.specs.declared.inst.Inst.TheVariants.{Shift, ShiftBy, JumpRegister, JumpLinkRegister, Register, BranchSign, BranchEqual, Jump, Immediate, LoadUpper, Load, Store, MoveSp, MoveVector, MoveControl, Multiply, Round, MpegMultiply, ReadAccumulator, VectorAdd, VectorSelect, VectorClip, VectorMerge, VectorLogic, Divide, VectorLoad, VectorStore}
-use Rattle.rsp_decode.specs.declared.scalar.MoveRow.TheVariants.{From, To}
-use Rattle.rsp_decode.specs.declared.scalar.JumpRow.TheVariants.{J}
-use Rattle.rsp_decode.specs.declared.scalar.SignRow.TheVariants.{Bltz, Bgez, Blez, Bgtz}
-use Rattle.rsp_decode.specs.declared.vector.VectorLoadRow.TheVariants.{Ltv}
+use Rattle.rsp_decode.specs.declared.scalar.MoveOp.TheVariants.{From, To}
+use Rattle.rsp_decode.specs.declared.scalar.JumpOp.TheVariants.{J}
+use Rattle.rsp_decode.specs.declared.scalar.BranchSignOp.TheVariants.{Bltz, Bgez, Blez, Bgtz}
+use Rattle.rsp_decode.specs.declared.vector.VectorLoadOp.TheVariants.{Ltv}
 use Rattle.rsp_machine.specs.State.{State}
 use Rattle.rsp_scalar.specs.Registers.{register}
 use Rattle.rsp_loadstore.specs.File.{vector}
-use Rattle.rsp_loadstore.specs.Pairs.{group}
+use Rattle.rsp_loadstore.specs.Pairs.{group_start}
 use Rattle.rsp_microcode.specs.Runs.{branches, goes_on, ran_through}
 
 -- the parts of the state that rows may change, besides pc and npc
@@ -146,7 +146,7 @@ vectors_of (VectorClip row f) = (f.vd, 1)
 vectors_of (VectorMerge f) = (f.vd, 1)
 vectors_of (VectorLogic row f) = (f.vd, 1)
 vectors_of (Divide row vd lane vt e) = (vd, 1)
-vectors_of (VectorLoad Ltv f) = (group f.vt, 8)
+vectors_of (VectorLoad Ltv f) = (group_start f.vt, 8)
 vectors_of (VectorLoad row f) = (f.vt, 1)
 vectors_of _ = (0, 0)
 

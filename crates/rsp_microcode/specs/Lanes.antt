@@ -2,12 +2,12 @@
 use Rattle.std.specs.Prelude.{ℕ, ◌≡◌, ◌<◌, ◌≤◌, ◌+◌, ◌-◌, ◌*◌, ◌%◌, List, [], ◌∷◌, length}
 use Rattle.rsp_decode.specs.declared.inst.Inst.{Inst}
 use Rattle.rsp_decode.specs.declared.inst.Inst.TheVariants.{VectorLoad, VectorStore}
-use Rattle.rsp_decode.specs.declared.vector.VectorLoadRow.TheVariants.{Lqv}
-use Rattle.rsp_decode.specs.declared.vector.VectorStoreRow.TheVariants.{Sqv}
+use Rattle.rsp_decode.specs.declared.vector.VectorLoadOp.TheVariants.{Lqv}
+use Rattle.rsp_decode.specs.declared.vector.VectorStoreOp.TheVariants.{Sqv}
 use Rattle.rsp_memory.specs.Memory.{byte_at, half_at, with_half}
 use Rattle.rsp_lanes.specs.Lanes.{each_lane}
 use Rattle.rsp_scalar.specs.Registers.{register}
-use Rattle.rsp_scalar.specs.Flow.{going_on}
+use Rattle.rsp_scalar.specs.Flow.{address_after}
 use Rattle.rsp_loadstore.specs.File.{IsFile, vector, with_vector}
 use Rattle.rsp_machine.specs.State.{State}
 use Rattle.rsp_machine.specs.Step.{executed}
@@ -48,10 +48,10 @@ lanes_address offset base s = register s.registers base + 16 * offset
 abbrev pub LoadsLanes : Type 0
 LoadsLanes = (vt offset base : ℕ) (s : State) → IsFile s.vectors → vt < 32 → offset < 64 → register s.registers base % 16 ≡ 0
     → executed (lqv vt offset base) s
-    ≡ record s { pc = s.npc; npc = going_on s.npc; vectors = with_vector s.vectors vt (lanes_at s.dmem (lanes_address offset base s)) }
+    ≡ record s { pc = s.npc; npc = address_after s.npc; vectors = with_vector s.vectors vt (lanes_at s.dmem (lanes_address offset base s)) }
 
 -- SQV to an aligned address writes the register's eight lanes there
 abbrev pub StoresLanes : Type 0
 StoresLanes = (vt offset base : ℕ) (s : State) → length (vector s.vectors vt) ≡ 8 → offset < 64 → register s.registers base % 16 ≡ 0
     → executed (sqv vt offset base) s
-    ≡ record s { pc = s.npc; npc = going_on s.npc; dmem = with_lanes s.dmem (lanes_address offset base s) (vector s.vectors vt) }
+    ≡ record s { pc = s.npc; npc = address_after s.npc; dmem = with_lanes s.dmem (lanes_address offset base s) (vector s.vectors vt) }

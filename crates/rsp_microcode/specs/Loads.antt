@@ -3,7 +3,7 @@ use Rattle.std.specs.Prelude.{ℕ, ◌≡◌, ◌+◌, ◌*◌, ◌%◌, ◌&&�
 use Rattle.std.specs.List.{list_all}
 use Rattle.rsp_decode.specs.declared.inst.Inst.{Inst}
 use Rattle.rsp_scalar.specs.Registers.{register}
-use Rattle.rsp_scalar.specs.Flow.{going_on}
+use Rattle.rsp_scalar.specs.Flow.{address_after}
 use Rattle.rsp_loadstore.specs.File.{IsFile, with_vector}
 use Rattle.rsp_machine.specs.State.{State}
 use Rattle.rsp_microcode.specs.Runs.{ran_through, place_after}
@@ -38,7 +38,7 @@ AreAllAligned (l ∷ ls) r = (register r l.base % 16 ≡ 0) × AreAllAligned ls 
 
 -- a run through loads from aligned addresses is these writes
 abbrev pub RunsOfLoads : Type 0
-RunsOfLoads = (ls : List WholeLoad) (s : State) → IsFile s.vectors → HasBytes s.dmem → s.npc ≡ going_on s.pc
+RunsOfLoads = (ls : List WholeLoad) (s : State) → IsFile s.vectors → HasBytes s.dmem → s.npc ≡ address_after s.pc
     → list_all load_fits ls ≡ true → AreAllAligned ls s.registers
     → (ran_through (map load_of ls) s
     ≡ record s { pc = place_after ls s.pc; npc = place_after ls s.npc; vectors = after_writes with_vector (loaded ls s.dmem s.registers) s.vectors })

@@ -2,9 +2,9 @@
 use Rattle.std.specs.Prelude.{ℕ, ◌≡◌, ◌<◌, ◌+◌, ◌*◌, ◌-◌, ◌&&◌, ◌==◌, Bool, true, false, nat_lt, List, [], ◌∷◌, ◌++◌, length, map, Some}
 use Rattle.rsp_decode.specs.declared.inst.Inst.{Inst}
 use Rattle.rsp_decode.specs.declared.inst.Inst.TheVariants.{BranchSign, BranchEqual}
-use Rattle.rsp_decode.specs.declared.scalar.SignRow.TheVariants.{Bltz, Bgez, Blez, Bgtz}
+use Rattle.rsp_decode.specs.declared.scalar.BranchSignOp.TheVariants.{Bltz, Bgez, Blez, Bgtz}
 use Rattle.rsp_decode.specs.Table.{inst_of}
-use Rattle.rsp_scalar.specs.Rows.{is_taken}
+use Rattle.rsp_scalar.specs.ScalarRules.{is_taken}
 use Rattle.rsp_machine.specs.State.{State, IsState}
 use Rattle.rsp_machine.specs.Step.{executed}
 use Rattle.rsp_machine.specs.Laws.{steps_of}
@@ -24,17 +24,17 @@ abbrev pub loop_code : Loop → List Inst
 loop_code l = code_of l.pieces ++ l.branch ∷ l.slot ∷ []
 
 -- a branch that links nothing, over so many words back
-abbrev pub leads_back : Inst → ℕ → Bool
-leads_back (BranchEqual row rs rt offset) n = offset == 65536 - n
-leads_back (BranchSign Bltz rs offset) n = offset == 65536 - n
-leads_back (BranchSign Bgez rs offset) n = offset == 65536 - n
-leads_back (BranchSign Blez rs offset) n = offset == 65536 - n
-leads_back (BranchSign Bgtz rs offset) n = offset == 65536 - n
-leads_back _ n = false
+abbrev pub can_undo : Inst → ℕ → Bool
+can_undo (BranchEqual row rs rt offset) n = offset == 65536 - n
+can_undo (BranchSign Bltz rs offset) n = offset == 65536 - n
+can_undo (BranchSign Bgez rs offset) n = offset == 65536 - n
+can_undo (BranchSign Blez rs offset) n = offset == 65536 - n
+can_undo (BranchSign Bgtz rs offset) n = offset == 65536 - n
+can_undo _ n = false
 
 -- what computes of a loop
 abbrev pub is_loop : Loop → Bool
-is_loop l = (pieces_fit l.pieces && nat_lt (length (code_of l.pieces)) 1000) && (leads_back l.branch (length (code_of l.pieces) + 1) && (goes_on l.slot && fits_word l.slot))
+is_loop l = (pieces_fit l.pieces && nat_lt (length (code_of l.pieces)) 1000) && (can_undo l.branch (length (code_of l.pieces) + 1) && (goes_on l.slot && fits_word l.slot))
 
 -- the state after a round
 abbrev pub round_of : Loop → State → State

@@ -3,14 +3,14 @@ use Rattle.std.specs.Prelude.{ℕ, pos, ◌≡◌, Bool, true, false, not, ◌&&
 use Rattle.std.specs.List.{list_all}
 use Rattle.rsp_decode.specs.declared.inst.Inst.{Inst}
 use Rattle.rsp_decode.specs.declared.inst.Inst.TheVariants.{Multiply}
-use Rattle.rsp_decode.specs.declared.vector.MultiplyRow.{MultiplyRow}
+use Rattle.rsp_decode.specs.declared.vector.VectorMultiplyOp.{VectorMultiplyOp}
 use Rattle.rsp_decode.specs.declared.fields.VectorFields.{VectorFields}
 use Rattle.rsp_loadstore.specs.File.{IsFile, vector, with_vector}
-use Rattle.rsp_multiply.specs.Laws.{Step, after, results, sum_of, clamped_sums}
-use Rattle.rsp_multiply.specs.Rows.{row}
+use Rattle.rsp_multiply.specs.Laws.{MultiplyInstruction, after, results, sum_of, clamped_sums}
+use Rattle.rsp_multiply.specs.MultiplyRules.{multiply_rule}
 use Rattle.rsp_numbers.specs.Numbers.{s48}
 use Rattle.rsp_lanes.specs.Lanes.{each_lane}
-use Rattle.rsp_scalar.specs.Flow.{going_on}
+use Rattle.rsp_scalar.specs.Flow.{address_after}
 use Rattle.rsp_machine.specs.Operations.{multiply_op}
 use Rattle.rsp_machine.specs.State.{State}
 use Rattle.rsp_microcode.specs.Runs.{ran_through, place_after}
@@ -18,18 +18,18 @@ use Rattle.rsp_microcode.specs.Reads.{Write, after_writes}
 
 -- a multiply instruction: a term of a sum
 pub record Term : Type 0 where
-  pub name : MultiplyRow
+  pub name : VectorMultiplyOp
   pub fields : VectorFields
 
 -- name vd, vs, vt[e]
-abbrev pub term : MultiplyRow → ℕ → ℕ → ℕ → ℕ → Term
+abbrev pub term : VectorMultiplyOp → ℕ → ℕ → ℕ → ℕ → Term
 term name vd vs vt e = record { name = name; fields = record { vd = vd; vs = vs; vt = vt; element = e } }
 
 abbrev pub instruction : Term → Inst
 instruction m = Multiply m.name m.fields
 
 -- the row on the registers that it reads in these registers
-abbrev pub step_in : List (List ℕ) → Term → Step
+abbrev pub step_in : List (List ℕ) → Term → MultiplyInstruction
 step_in file m = record { op = multiply_op m.name; vs = vector file m.fields.vs; vt = vector file m.fields.vt; element = m.fields.element }
 
 abbrev pub reads_other : ℕ → Term → Bool
@@ -57,7 +57,7 @@ multiplied ms s = record s {
 
 -- the first replaces the accumulators, the others add to them, and their fields are those of a word
 abbrev pub adds : Term → Bool
-adds m = (row (step_in [] m).op).adds
+adds m = (multiply_rule (step_in [] m).op).adds
 
 abbrev pub has_fields : Term → Bool
 has_fields m = (nat_lt m.fields.vs 32 && nat_lt m.fields.vt 32) && nat_lt m.fields.element 16
@@ -82,5 +82,5 @@ summed ms s = record s {
 -- A run through a sum of products, of which none reads what another wrote: each accumulator is the sum of all the addends,
 -- and each result the clamp of the sum so far, as in law l4.
 abbrev pub SumsOfMultiplies : Type 0
-SumsOfMultiplies = (ms : List Term) (s : State) → IsFile s.vectors → s.npc ≡ going_on s.pc → independent ms ≡ true → is_sum ms ≡ true
+SumsOfMultiplies = (ms : List Term) (s : State) → IsFile s.vectors → s.npc ≡ address_after s.pc → independent ms ≡ true → is_sum ms ≡ true
     → ran_through (map instruction ms) s ≡ summed ms s

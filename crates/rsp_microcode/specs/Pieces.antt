@@ -4,7 +4,7 @@ use Rattle.std.specs.List.{list_all}
 use Rattle.rsp_decode.specs.declared.inst.Inst.{Inst}
 use Rattle.rsp_decode.specs.Table.{inst_of}
 use Rattle.rsp_scalar.specs.Registers.{register}
-use Rattle.rsp_scalar.specs.Flow.{going_on}
+use Rattle.rsp_scalar.specs.Flow.{address_after}
 use Rattle.rsp_loadstore.specs.File.{vector, with_vector}
 use Rattle.rsp_machine.specs.State.{State, IsState}
 use Rattle.rsp_machine.specs.Laws.{steps_of}
@@ -44,7 +44,7 @@ pieces_fit ps = list_all piece_fits ps
 abbrev pub after_piece : Piece → State → State
 after_piece (takes ls) s = record s { pc = place_after ls s.pc; npc = place_after ls s.npc; vectors = after_writes with_vector (loaded ls s.dmem s.registers) s.vectors }
 after_piece (sums ms) s = summed ms s
-after_piece (puts vt offset base) s = record s { pc = s.npc; npc = going_on s.npc; dmem = with_lanes s.dmem (lanes_address offset base s) (vector s.vectors vt) }
+after_piece (puts vt offset base) s = record s { pc = s.npc; npc = address_after s.npc; dmem = with_lanes s.dmem (lanes_address offset base s) (vector s.vectors vt) }
 after_piece (rows is) s = ran_through is s
 
 abbrev pub after_pieces : List Piece → State → State
@@ -61,7 +61,7 @@ AreAligned (rows is ∷ ps) s = AreAligned ps (after_piece (rows is) s)
 
 -- A run through pieces comes to the state that `after_pieces` computes, in its ranges.
 abbrev pub RunsOfPieces : Type 0
-RunsOfPieces = (ps : List Piece) (s : State) → IsState s → s.npc ≡ going_on s.pc → pieces_fit ps ≡ true → AreAligned ps s
+RunsOfPieces = (ps : List Piece) (s : State) → IsState s → s.npc ≡ address_after s.pc → pieces_fit ps ≡ true → AreAligned ps s
     → (ran_through (code_of ps) s ≡ after_pieces ps s) × IsState (after_pieces ps s)
 
 -- What steps over pieces lead from s to t: the state that computes, in its ranges. pc is after the words, and all that no

@@ -2,7 +2,7 @@
 use Rattle.std.specs.Prelude.{ℕ, ◌≡◌, ◌≢◌, ◌<◌, List, [], ◌∷◌}
 use Rattle.rsp_decode.specs.declared.inst.Inst.{Inst}
 use Rattle.rsp_decode.specs.declared.inst.Inst.TheVariants.{Divide}
-use Rattle.rsp_decode.specs.declared.vector.DivideRow.TheVariants.{Vrcph, Vrcpl, Vrsqh, Vrsql}
+use Rattle.rsp_decode.specs.declared.vector.VectorDivideOp.TheVariants.{Vrcph, Vrcpl, Vrsqh, Vrsql}
 use Rattle.rsp_divide.specs.Quotients.{reciprocal_of, inverse_root_of}
 use Rattle.rsp_loadstore.specs.File.{vector}
 use Rattle.rsp_machine.specs.State.{State, IsState}

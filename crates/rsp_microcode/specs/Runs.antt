@@ -2,10 +2,10 @@
 use Rattle.std.specs.Prelude.{ℕ, ◌≡◌, ◌%◌, ◌==◌, Bool, true, false, not, ◌&&◌, List, [], ◌∷◌, ◌++◌, length, map, Some}
 use Rattle.rsp_decode.specs.declared.inst.Inst.{Inst}
 use Rattle.rsp_decode.specs.declared.inst.Inst.TheVariants.{JumpRegister, JumpLinkRegister, Break, BranchSign, BranchEqual, Jump, MoveSp}
-use Rattle.rsp_decode.specs.declared.scalar.MoveRow.TheVariants.{From, To}
+use Rattle.rsp_decode.specs.declared.scalar.MoveOp.TheVariants.{From, To}
 use Rattle.rsp_decode.specs.Table.{inst_of}
 use Rattle.rsp_memory.specs.Memory.{word_at}
-use Rattle.rsp_scalar.specs.Flow.{going_on}
+use Rattle.rsp_scalar.specs.Flow.{address_after}
 use Rattle.rsp_machine.specs.State.{State}
 use Rattle.rsp_machine.specs.Step.{step_of, executed}
 use Rattle.rsp_machine.specs.declared.step.StepEnd.TheVariants.{Done}
@@ -36,13 +36,13 @@ all_go_on (i ∷ is) = goes_on i && all_go_on is
 -- the words stand in IMEM from a place on; as for pc, 0 comes after the last place
 abbrev pub Stand : List ℕ → ℕ → List ℕ → Type 0
 Stand [] place imem = Unit {0}
-Stand (w ∷ ws) place imem = (word_at imem place ≡ w) × Stand ws (going_on place) imem
+Stand (w ∷ ws) place imem = (word_at imem place ≡ w) × Stand ws (address_after place) imem
 
 -- the machine goes, not by single steps, and the words are what it executes next
 pub record IsAt (words : List ℕ) (s : State) : Type 0 where
   pub goes : s.sp.halted ≡ false
   pub runs : s.sp.single_step ≡ false
-  pub next : s.npc ≡ going_on s.pc
+  pub next : s.npc ≡ address_after s.pc
   pub stand : Stand words s.pc s.imem
 
 -- the state after instructions, each executed once
@@ -53,7 +53,7 @@ ran_through (i ∷ is) s = ran_through is (executed i s)
 -- the place that as many steps go on to as the list is long
 abbrev pub place_after : {X : Type 0} → List X → ℕ → ℕ
 place_after [] place = place
-place_after (x ∷ xs) place = place_after xs (going_on place)
+place_after (x ∷ xs) place = place_after xs (address_after place)
 
 -- whether a row is a branch or a jump
 abbrev pub branches : Inst → Bool
@@ -71,7 +71,7 @@ StraightRuns = (words : List ℕ) (code : List Inst) (s : State)
     → steps_of (length words) s ≡ ran_through code s
 
 -- Steps over straight code, a branch or jump, and the row in its slot come to the state after all of them. Where the branch
--- is taken, pc is then its target (`following`), since the branch wrote npc and the slot's row went on to it.
+-- is taken, pc is then its target (`next_npc`), since the branch wrote npc and the slot's row went on to it.
 abbrev pub BranchRuns : Type 0
 BranchRuns = (words : List ℕ) (front : List Inst) (branch slot : Inst) (s : State)
     → map inst_of words ≡ map Some (front ++ branch ∷ slot ∷ []) → all_go_on front ≡ true → branches branch ≡ true → goes_on slot ≡ true

@@ -2,7 +2,7 @@
 use Rattle.std.specs.Prelude.{ℕ, ◌≡◌, ◌⊎◌, ◌+◌, ◌*◌, ◌/◌, ◌%◌, ◌<◌, ◌≤◌, List, [], ◌∷◌, length, map, Some}
 use Rattle.rsp_decode.specs.declared.inst.Inst.{Inst}
 use Rattle.rsp_decode.specs.declared.inst.Inst.TheVariants.{MoveSp}
-use Rattle.rsp_decode.specs.declared.scalar.MoveRow.TheVariants.{To}
+use Rattle.rsp_decode.specs.declared.scalar.MoveOp.TheVariants.{To}
 use Rattle.rsp_decode.specs.Table.{inst_of}
 use Rattle.rsp_memory.specs.Memory.{byte_at}
 use Rattle.rsp_memory.specs.Image.{image_byte}

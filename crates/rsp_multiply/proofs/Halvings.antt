@@ -10,7 +10,7 @@ use Rattle.rsp_numbers.proofs.Wrap.{s48_is}
 use Rattle.rsp_numbers.proofs.Join.{join_small, join_large}
 use Rattle.rsp_acc.specs.Parts.{clamp_of}
 use Rattle.rsp_acc.specs.declared.parts.Clamp.TheVariants.{Signed}
-use Rattle.rsp_multiply.specs.Mpeg.{vmacq_step, mpeg_half}
+use Rattle.rsp_multiply.specs.Mpeg.{vmacq_step, mpeg_result}
 
 -- an accumulator by its upper 32 bits
 pub by_upper : (P : ℕ → ℕ → ℤ → Type 0) (x : ℤ) → IsNumber x
@@ -79,6 +79,6 @@ product_rounded (negsuc n) least most =
     rw e (s48_is _ _ 0 0 (omega (arith, ints)) (omega (arith, ints)) (omega (arith, ints)))
 
 -- the clamp of a half that is 65536 times as large in an accumulator
-pub half_clamped : (p : ℤ) → clamp_of Signed (floor_div p 2 *ℤ pos 65536) / 16 * 16 ≡ mpeg_half p
+pub half_clamped : (p : ℤ) → clamp_of Signed (floor_div p 2 *ℤ pos 65536) / 16 * 16 ≡ mpeg_result p
 unfolding clamp_of
 half_clamped p = rw (shifted_back (floor_div p 2)) refl

@@ -20,8 +20,8 @@ abbrev pub rounding : Bool → ℕ → ℤ
 rounding odd b = if odd then s16 b *ℤ pos 65536 else s16 b
 
 -- the accumulator x after VRNDP or VRNDN on the lane b
-abbrev pub rounded_by : RoundOp → Bool → ℤ → ℕ → ℤ
-rounded_by op odd x b = if rounding_adds op x then s48 (x +ℤ rounding odd b) else x
+abbrev pub accumulator_after_rounding : RoundOp → Bool → ℤ → ℕ → ℤ
+accumulator_after_rounding op odd x b = if rounding_adds op x then s48 (x +ℤ rounding odd b) else x
 
 -- VMULQ's p: the product of the lanes as signed values, plus 31 if that is negative
 abbrev pub mpeg_product : ℕ → ℕ → ℤ
@@ -43,26 +43,26 @@ vmacq_step p =
 
 -- the accumulator x after VMULQ or VMACQ on the lanes a and b: p times 65536; VMACQ takes p from the accumulator, and
 -- keeps its low sixteen bits
-abbrev pub mpeg_accumulated : MpegOp → ℤ → ℕ → ℕ → ℤ
-mpeg_accumulated Vmulq x a b = mpeg_product a b *ℤ pos 65536
-mpeg_accumulated Vmacq x a b = let p = floor_div x 65536 in (p +ℤ vmacq_step p) *ℤ pos 65536 +ℤ pos (low x)
+abbrev pub accumulator_after_mpeg : MpegOp → ℤ → ℕ → ℕ → ℤ
+accumulator_after_mpeg Vmulq x a b = mpeg_product a b *ℤ pos 65536
+accumulator_after_mpeg Vmacq x a b = let p = floor_div x 65536 in (p +ℤ vmacq_step p) *ℤ pos 65536 +ℤ pos (low x)
 
 -- the result of VMULQ or VMACQ: half of p, rounded down, clamped to -32768 .. 32767, with its low four bits cleared
-abbrev pub mpeg_half : ℤ → ℕ
-mpeg_half p = sixteen_bits (clamp16 (floor_div p 2)) / 16 * 16
+abbrev pub mpeg_result : ℤ → ℕ
+mpeg_result p = sixteen_bits (clamp16 (floor_div p 2)) / 16 * 16
 
 -- the eight accumulators after VRNDP or VRNDN on the register b, from those before
-unfoldable pub accumulators_rounded : RoundOp → Bool → List ℕ → List ℤ → List ℤ
-accumulators_rounded op odd b xs = each_lane (λ i. rounded_by op odd (number xs i) (slice_index b i))
+unfoldable pub accumulators_after_rounding : RoundOp → Bool → List ℕ → List ℤ → List ℤ
+accumulators_after_rounding op odd b xs = each_lane (λ i. accumulator_after_rounding op odd (number xs i) (slice_index b i))
 
 -- the result of VRNDP or VRNDN: the signed clamps of the accumulators after it
-unfoldable pub clamped_signed : List ℤ → List ℕ
-clamped_signed xs = each_lane (λ i. clamp_of Signed (number xs i))
+unfoldable pub rounding_results : List ℤ → List ℕ
+rounding_results xs = each_lane (λ i. clamp_of Signed (number xs i))
 
 -- the eight accumulators after VMULQ or VMACQ on the registers a and b, from those before
-unfoldable pub accumulators_mpeg : MpegOp → List ℕ → List ℕ → List ℤ → List ℤ
-accumulators_mpeg op a b xs = each_lane (λ i. mpeg_accumulated op (number xs i) (slice_index a i) (slice_index b i))
+unfoldable pub accumulators_after_mpeg : MpegOp → List ℕ → List ℕ → List ℤ → List ℤ
+accumulators_after_mpeg op a b xs = each_lane (λ i. accumulator_after_mpeg op (number xs i) (slice_index a i) (slice_index b i))
 
 -- the result of VMULQ or VMACQ, from the accumulators after it: p is an accumulator without its low sixteen bits
-unfoldable pub halved_mpeg : List ℤ → List ℕ
-halved_mpeg xs = each_lane (λ i. mpeg_half (floor_div (number xs i) 65536))
+unfoldable pub mpeg_results : List ℤ → List ℕ
+mpeg_results xs = each_lane (λ i. mpeg_result (floor_div (number xs i) 65536))

@@ -4,7 +4,7 @@
 ghost use Rattle.std.specs.Prelude.{◌≡◌, ◌*ℤ◌, pos, slice_index, int_lt};
 ghost use Rattle.rsp_lanes.specs.Lanes.{each_lane};
 ghost use Rattle.rsp_numbers.specs.Numbers.{s16, number, floor_div, sixteen_bits};
-ghost use Rattle.rsp_multiply.specs.Mpeg.{rounding_adds, rounding, vmacq_step, accumulators_rounded, clamped_signed, accumulators_mpeg, halved_mpeg};
+ghost use Rattle.rsp_multiply.specs.Mpeg.{rounding_adds, rounding, vmacq_step, accumulators_after_rounding, rounding_results, accumulators_after_mpeg, mpeg_results};
 
 use crate::op::{MpegOp, RoundOp};
 use crate::products::signed_times_65536;
@@ -70,8 +70,8 @@ fn rounding_lanes<A: Acc>(op: RoundOp, acc: &A) -> Mask8
 /// of all eight accumulators after it.
 #[inline(always)]
 pub fn round_op<A: Acc>(op: RoundOp, odd: bool, b: &VReg, acc: &mut A) -> VReg
-    ensures accumulators { A.numbers acc.new ≡ accumulators_rounded op odd b.now (A.numbers acc.old) }
-    ensures value { result ≡ clamped_signed (A.numbers acc.new) }
+    ensures accumulators { A.numbers acc.new ≡ accumulators_after_rounding op odd b.now (A.numbers acc.old) }
+    ensures value { result ≡ rounding_results (A.numbers acc.new) }
 {
     acc.ranges();
     let lanes = rounding_lanes(op, acc).merge(b, &VReg::new());
@@ -118,7 +118,7 @@ fn halves<A: Acc>(acc: &A) -> Addends
 /// The result of VMULQ or VMACQ, from the accumulators after it: the halves are clamped as accumulators of their own.
 #[inline(always)]
 fn halved<A: Acc>(acc: &A) -> VReg
-    ensures { result ≡ halved_mpeg (A.numbers acc.now) }
+    ensures { result ≡ mpeg_results (A.numbers acc.now) }
 {
     let mut other = A::zero();
     other.replace(&halves(acc));
@@ -136,8 +136,8 @@ fn halved<A: Acc>(acc: &A) -> VReg
 /// The result is half of p, rounded down, clamped to 16 bits, with its low four bits cleared.
 #[inline(always)]
 pub fn mpeg_op<A: Acc>(op: MpegOp, a: &VReg, b: &VReg, acc: &mut A) -> VReg
-    ensures accumulators { A.numbers acc.new ≡ accumulators_mpeg op a.now b.now (A.numbers acc.old) }
-    ensures value { result ≡ halved_mpeg (A.numbers acc.new) }
+    ensures accumulators { A.numbers acc.new ≡ accumulators_after_mpeg op a.now b.now (A.numbers acc.old) }
+    ensures value { result ≡ mpeg_results (A.numbers acc.new) }
 {
     acc.ranges();
     match op {
@@ -150,7 +150,7 @@ pub fn mpeg_op<A: Acc>(op: MpegOp, a: &VReg, b: &VReg, acc: &mut A) -> VReg
 /// VMULQ's accumulators: the products, plus 31 if they are negative, times 65536.
 #[inline(always)]
 fn multiply_rounded<A: Acc>(a: &VReg, b: &VReg, acc: &mut A)
-    ensures { A.numbers acc.new ≡ accumulators_mpeg MpegOp.Vmulq a.now b.now (A.numbers acc.old) }
+    ensures { A.numbers acc.new ≡ accumulators_after_mpeg MpegOp.Vmulq a.now b.now (A.numbers acc.old) }
 {
     a.ranges();
     b.ranges();

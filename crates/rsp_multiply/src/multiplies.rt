@@ -1,6 +1,6 @@
 ghost use Rattle.std.specs.Prelude.{◌≡◌, slice_index};
 ghost use Rattle.rsp_lanes.specs.Lanes.{each_lane};
-ghost use Rattle.rsp_multiply.specs.Rows.{row, accumulators_after, clamped_by, sar_of};
+ghost use Rattle.rsp_multiply.specs.MultiplyRules.{multiply_rule, accumulators_after, multiply_results, sar_results};
 
 use crate::op::MultiplyOp;
 use crate::products::{
@@ -12,7 +12,7 @@ use rsp_lanes::VReg;
 /// The addends of a multiply, from the lanes of a and b.
 #[inline(always)]
 fn addends(op: MultiplyOp, a: &VReg, b: &VReg) -> Addends
-    ensures { result ≡ each_lane (λ i. (row op).addend (slice_index a.now i) (slice_index b.now i)) }
+    ensures { result ≡ each_lane (λ i. (multiply_rule op).addend (slice_index a.now i) (slice_index b.now i)) }
 {
     match op {
         MultiplyOp::Vmulf | MultiplyOp::Vmulu => rounded(a, b),
@@ -27,7 +27,7 @@ fn addends(op: MultiplyOp, a: &VReg, b: &VReg) -> Addends
 /// Whether a multiply adds to the accumulators; else it replaces them.
 #[inline(always)]
 fn adds(op: MultiplyOp) -> bool
-    ensures { result ≡ (row op).adds }
+    ensures { result ≡ (multiply_rule op).adds }
 {
     match op {
         MultiplyOp::Vmacf
@@ -43,7 +43,7 @@ fn adds(op: MultiplyOp) -> bool
 /// How a multiply clamps the accumulators to its result.
 #[inline(always)]
 fn clamp(op: MultiplyOp) -> Clamp
-    ensures { result ≡ (row op).clamp }
+    ensures { result ≡ (multiply_rule op).clamp }
 {
     match op {
         MultiplyOp::Vmulu | MultiplyOp::Vmacu => Clamp::Unsigned,
@@ -61,7 +61,7 @@ fn clamp(op: MultiplyOp) -> Clamp
 #[inline(always)]
 pub fn multiply<A: Acc>(op: MultiplyOp, a: &VReg, b: &VReg, acc: &mut A) -> VReg
     ensures accumulators { A.numbers acc.new ≡ accumulators_after op a.now b.now (A.numbers acc.old) }
-    ensures value { result ≡ clamped_by op (A.numbers acc.new) }
+    ensures value { result ≡ multiply_results op (A.numbers acc.new) }
 {
     a.ranges();
     b.ranges();
@@ -78,7 +78,7 @@ pub fn multiply<A: Acc>(op: MultiplyOp, a: &VReg, b: &VReg, acc: &mut A) -> VReg
 /// accumulators are kept.
 #[inline(always)]
 pub fn sar<A: Acc>(e: usize, acc: &A) -> VReg
-    ensures { result ≡ sar_of e (A.numbers acc.now) }
+    ensures { result ≡ sar_results e (A.numbers acc.now) }
 {
     match e {
         8 => acc.part(Part::High),

@@ -4,7 +4,7 @@ ghost use Rattle.std.specs.Prelude.{◌≡◌, ◌*ℤ◌, pos, slice_index, nat
 ghost use Rattle.rsp_lanes.specs.Lanes.{each_lane};
 ghost use Rattle.rsp_numbers.specs.Numbers.{s16, sixteen_bits, upper_bits, join};
 ghost use Rattle.rsp_multiply.specs.Doubles.{doubled_high, doubled_low, doubled_sign};
-ghost use Rattle.rsp_multiply.specs.Rows.{rounded, unsigned_over_65536, signed_by_unsigned, signed_times_65536, fraction};
+ghost use Rattle.rsp_multiply.specs.MultiplyRules.{rounded, unsigned_over_65536, signed_by_unsigned, signed_times_65536, fraction};
 
 use rsp_acc::Addends;
 use rsp_lanes::VReg;

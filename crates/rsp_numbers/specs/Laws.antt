@@ -7,19 +7,19 @@ abbrev pub DifferByMultiple : ℕ → ℤ → ℤ → Type 0
 DifferByMultiple m z r = (i : ℕ) × (j : ℕ) × (z +ℤ pos (i * m) ≡ r +ℤ pos (j * m))
 
 -- r is the signed value of z: the number from -half to half - 1 that differs from z by a multiple of twice half
-pub record IsReading (half : ℕ) (z r : ℤ) : Type 0 where
+pub record IsSignedValue (half : ℕ) (z r : ℤ) : Type 0 where
   pub from : negsuc (half - 1) ≤ℤ r
   pub below : r <ℤ pos half
   pub same : DifferByMultiple (2 * half) z r
 
 -- s16, s32 and s48 give the signed values of 16, 32 and 48 bits, and each number has only one
-pub record Readings : Type 0 where
-  pub of16 : (n : ℕ) → n < 2 ^ 16 → IsReading (2 ^ 15) (pos n) (s16 n)
-  pub of32 : (n : ℕ) → n < 2 ^ 32 → IsReading (2 ^ 31) (pos n) (s32 n)
-  pub of48 : (z : ℤ) → IsReading (2 ^ 47) z (s48 z)
-  pub only16 : (n : ℕ) (r : ℤ) → n < 2 ^ 16 → IsReading (2 ^ 15) (pos n) r → s16 n ≡ r
-  pub only32 : (n : ℕ) (r : ℤ) → n < 2 ^ 32 → IsReading (2 ^ 31) (pos n) r → s32 n ≡ r
-  pub only48 : (z r : ℤ) → IsReading (2 ^ 47) z r → s48 z ≡ r
+pub record SignedValues : Type 0 where
+  pub of16 : (n : ℕ) → n < 2 ^ 16 → IsSignedValue (2 ^ 15) (pos n) (s16 n)
+  pub of32 : (n : ℕ) → n < 2 ^ 32 → IsSignedValue (2 ^ 31) (pos n) (s32 n)
+  pub of48 : (z : ℤ) → IsSignedValue (2 ^ 47) z (s48 z)
+  pub only16 : (n : ℕ) (r : ℤ) → n < 2 ^ 16 → IsSignedValue (2 ^ 15) (pos n) r → s16 n ≡ r
+  pub only32 : (n : ℕ) (r : ℤ) → n < 2 ^ 32 → IsSignedValue (2 ^ 31) (pos n) r → s32 n ≡ r
+  pub only48 : (z r : ℤ) → IsSignedValue (2 ^ 47) z r → s48 z ≡ r
 
 -- the high, middle and low sixteen bits of a joined number are those that it was joined from
 abbrev pub PartsOfJoin : Type 0

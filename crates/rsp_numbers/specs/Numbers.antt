@@ -41,8 +41,8 @@ abbrev pub s32 : ℕ → ℤ
 s32 n = cast_signed w32 n
 
 -- w bits, n below 2^w, sign-extended to 32 bits: the signed value modulo 2^32
-abbrev pub extended : Width → ℕ → ℕ
-extended w n = modulo (cast_signed w n) (2 ^ 32)
+abbrev pub sign_extended : Width → ℕ → ℕ
+sign_extended w n = modulo (cast_signed w n) (2 ^ 32)
 
 -- z clamped to -32768 .. 32767
 unfoldable pub clamp16 : ℤ → ℤ

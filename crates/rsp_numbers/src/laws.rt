@@ -1,11 +1,11 @@
 //! Laws of the definitions. Each is the contract of a function that does nothing.
 
-ghost use Rattle.rsp_numbers.specs.Laws.{PartsOfJoin, Readings};
+ghost use Rattle.rsp_numbers.specs.Laws.{PartsOfJoin, SignedValues};
 
 /// `s16`, `s32` and `s48` give signed values. Each lies in its range, differs from its argument by a multiple of 2^16,
 /// 2^32 or 2^48, and is the only number that does both.
-pub fn signed_readings()
-    ensures { Readings }
+pub fn signed_values()
+    ensures { SignedValues }
 {}
 
 /// The high, middle and low sixteen bits of a joined accumulator are those that it was joined from.

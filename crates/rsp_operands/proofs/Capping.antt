@@ -6,8 +6,8 @@ use Rattle.std.proofs.Math.Nat.{mod-zero, mul-le-mul_left}
 use Rattle.std.proofs.lemmas.Bool.{cases_lt, cases_Bool, cond-false, and_parts}
 use Rattle.std.proofs.lemmas.Bool.Decides.{nat_tests}
 use Rattle.std.proofs.lemmas.Int.{ints}
-use Rattle.rsp_text.specs.Seen.{capped_ℤ, many}
-use Rattle.rsp_text.specs.Statement.{scaled_offset}
+use Rattle.rsp_syntax.specs.Capping.{capped_ℤ, number_cap}
+use Rattle.rsp_syntax.specs.Statement.{scaled_offset}
 
 -- nothing far is a multiple of a small scale, at most 64 times it
 no_steps : (scale n : ℕ) → scale ≤ 255 → 1000000 ≤ n → n % scale ≡ 0 → n / scale ≤ 64 → ⊥
@@ -32,14 +32,14 @@ difference : (base m : ℕ) → base ≤ m → pos base +ℤ negsuc m ≡ negsuc
 difference base m le = omega (arith, ints)
 
 pub scaled_capped : (scale base : ℕ) (z : ℤ) → scale ≤ 255 → base ≤ 65535 → scaled_offset scale (saturate_signed w64 (pos base +ℤ capped_ℤ z)) ≡ scaled_offset scale (pos base +ℤ z)
-scaled_capped scale base (pos n) small low = elim (cases_lt n many) [
+scaled_capped scale base (pos n) small low = elim (cases_lt n number_cap) [
   | inl near ↦ ap (λ m. scaled_offset scale (pos m)) (omega arith)
-  | inr far ↦ above scale (min (base + min n many) (2 ^ 63 - 1)) small (omega arith) ∙ sym (above scale (base + n) small (omega arith))
+  | inr far ↦ above scale (min (base + min n number_cap) (2 ^ 63 - 1)) small (omega arith) ∙ sym (above scale (base + n) small (omega arith))
 ]
-scaled_capped scale base (negsuc n) small low = elim (cases_lt n many) [
+scaled_capped scale base (negsuc n) small low = elim (cases_lt n number_cap) [
   | inl near ↦ ap (scaled_offset scale) (grind (arith, ints))
   | inr far ↦
-      let m : ℕ = min n (many - 1) in
+      let m : ℕ = min n (number_cap - 1) in
       ap (λ z. scaled_offset scale (saturate_signed w64 z)) (difference base m (omega arith))
       ∙ below scale (min (m - base) (2 ^ 63 - 1)) small (omega arith)
       ∙ sym (below scale (n - base) small (omega arith))

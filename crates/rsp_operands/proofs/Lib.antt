@@ -1,7 +1,7 @@
-pub mod Readings
+pub mod OperandValues
 pub mod Capping
 pub mod Words
-pub mod Rooms
+pub mod FieldsFit
 pub mod Puts
 pub mod Rows
 pub mod Lookups

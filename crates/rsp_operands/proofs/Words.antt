@@ -5,7 +5,7 @@ use Rattle.std.specs.Int.Bits.{or_zero_r}
 use Rattle.std.proofs.Math.Nat.{mod-eq_of_lt}
 use Rattle.rsp_decode.specs.Table.{Operand, BitField, with_fields}
 use Rattle.rsp_operands.specs.Fields.{optional}
-use Rattle.rsp_operands.specs.Room.{FitWord}
+use Rattle.rsp_operands.specs.FieldsFit.{FitWord}
 
 pub or_none : (w : ℕ) → w ≡ bit_or w 0
 or_none w = sym (or_zero_r w)

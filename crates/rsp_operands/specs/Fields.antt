@@ -1,6 +1,6 @@
 -- Scaffolding of the contracts: the fields of an operand in the code, in the order of its text.
 use Rattle.std.specs.Prelude.{ℕ, List, [], ◌∷◌, Option, Some, None, Result, Ok, Err}
-use Rattle.rsp_text.specs.declared.fault.AsmFaultKind.{AsmFaultKind}
+use Rattle.rsp_syntax.specs.declared.fault.AsmFaultKind.{AsmFaultKind}
 use Rattle.rsp_operands.specs.declared.fields.Fields.{Fields}
 
 abbrev pub optional : Option ℕ → List ℕ

@@ -1,5 +1,5 @@
 -- Scaffolding of the contracts: operands and labels as the code has them.
 pub mod Labels
-pub mod Readings
+pub mod OperandValues
 pub mod Fields
-pub mod Room
+pub mod FieldsFit

@@ -2,17 +2,17 @@
 
 ghost use Rattle.std.specs.Prelude.{◌≡◌, ◌≤◌, ◌*◌, ◌^◌, ◌∷◌, [], ℕ, true, bit_or};
 ghost use Rattle.rsp_decode.specs.Table.{bit_fields, with_fields, is_row_operand};
-ghost use Rattle.rsp_text.specs.Statement as statement;
-ghost use Rattle.rsp_text.specs.Statement.{fields_of};
-ghost use Rattle.rsp_operands.specs.Readings.{reading, capped_reading};
+ghost use Rattle.rsp_syntax.specs.Statement as statement;
+ghost use Rattle.rsp_syntax.specs.Statement.{fields_of};
+ghost use Rattle.rsp_operands.specs.OperandValues.{reading, capped_value};
 ghost use Rattle.rsp_operands.specs.Fields.{field_values, fields_in};
-ghost use Rattle.rsp_operands.specs.Room.{FitWord};
+ghost use Rattle.rsp_operands.specs.FieldsFit.{FitWord};
 
 use crate::labels::Labels;
-use crate::reading::Reading;
+use crate::operand_value::OperandValue;
 use crate::values::expression_field;
 use rsp_decode::{ByteElements, Operand};
-use rsp_text::AsmFaultKind;
+use rsp_syntax::AsmFaultKind;
 
 /// The values of an operand's one or two fields, in the order of its text.
 #[derive(Clone, Copy)]
@@ -42,18 +42,18 @@ fn two(first: u32, second: u32) -> Fields
 /// The fields of an operand that was read, for a statement at `address`. A label that no line has is refused as LabelMissing,
 /// and a value out of its range as OutOfRange.
 pub(crate) fn reading_fields(
-    said: Reading<'_>,
+    said: OperandValue<'_>,
     address: u16,
     labels: &Labels<'_>,
 ) -> Result<Fields, AsmFaultKind>
     requires { address ≤ 4096 }
-    ensures { (r : statement.Reading) → reading said.entry ≡ capped_reading r → fields_in result ≡ fields_of labels.now address r }
+    ensures { (r : statement.OperandValue) → reading said.entry ≡ capped_value r → fields_in result ≡ fields_of labels.now address r }
 {
     match said {
-        Reading::Register(number) => Ok(one(u32::from(number))),
-        Reading::Pair(number, element) => Ok(two(u32::from(number), u32::from(element))),
-        Reading::Value(range, e) => Ok(one(expression_field(range, e, address, labels)?)),
-        Reading::Memory(range, e, base) => {
+        OperandValue::Register(number) => Ok(one(u32::from(number))),
+        OperandValue::Pair(number, element) => Ok(two(u32::from(number), u32::from(element))),
+        OperandValue::Value(range, e) => Ok(one(expression_field(range, e, address, labels)?)),
+        OperandValue::Memory(range, e, base) => {
             let offset = expression_field(range, e, address, labels)?;
             Ok(two(offset, u32::from(base)))
         }

@@ -1,8 +1,8 @@
 // The labels of a source text.
 
 ghost use Rattle.std.specs.Prelude.{◌≡◌, ◌∷◌, [], OnOk, OnErr};
-ghost use Rattle.rsp_text.specs.Statement.{find_label};
-ghost use Rattle.rsp_operands.specs.Labels.{SamePlaces};
+ghost use Rattle.rsp_syntax.specs.Statement.{find_label};
+ghost use Rattle.rsp_operands.specs.Labels.{SameAddresses};
 
 use std::alloc::{AllocError, Global};
 use std::collections::BTreeMap;
@@ -19,11 +19,11 @@ pub struct Labels<'a> {
 
 impl<'a> Model for Labels<'a> {
     ghost use Rattle.std.specs.Prelude.{ℕ, List};
-    ghost use Rattle.rsp_operands.specs.Labels.{named_places};
+    ghost use Rattle.rsp_operands.specs.Labels.{named_addresses};
 
     ghost Value = { List (List ℕ × ℕ) };
 
-    ghost view = { λ l. named_places l.addresses.entries };
+    ghost view = { λ l. named_addresses l.addresses.entries };
 }
 
 impl<'a> Labels<'a> {
@@ -45,7 +45,7 @@ impl<'a> Labels<'a> {
 
     /// Adds a label, or changes the address of the label with this name. If there is no memory for it, the labels are unchanged.
     pub fn add(&mut self, name: &'a [u8], address: u16) -> Result<(), AllocError>
-        ensures ok { OnOk result (SamePlaces self.new ((name.now, address) ∷ self.old)) }
+        ensures ok { OnOk result (SameAddresses self.new ((name.now, address) ∷ self.old)) }
         ensures err { OnErr result (self.new ≡ self.old) }
     {
         self.addresses.insert(name, address)?;

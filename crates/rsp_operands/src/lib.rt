@@ -7,9 +7,9 @@
 mod fields;
 mod labels;
 mod numbers;
+mod operand_value;
 mod operands;
 mod ranges;
-mod reading;
 mod values;
 
 pub use labels::Labels;

@@ -2,28 +2,28 @@
 
 ghost use Rattle.std.specs.Prelude.{◌≡◌, ◌≤◌, true, option_map};
 ghost use Rattle.rsp_decode.specs.Table.{bit_fields, is_row_operand};
-ghost use Rattle.rsp_text.specs.Statement as statement;
-ghost use Rattle.rsp_text.specs.Statement.{read, fields_of};
-ghost use Rattle.rsp_text.specs.Walks.{reading_fails, with_values};
+ghost use Rattle.rsp_syntax.specs.Statement as statement;
+ghost use Rattle.rsp_syntax.specs.Statement.{read, fields_of};
+ghost use Rattle.rsp_syntax.specs.OperandResults.{operand_fails, with_values};
 
 use crate::fields::{put, reading_fields};
 use crate::labels::Labels;
-use crate::reading::{Reading, read_operand};
+use crate::operand_value::{OperandValue, read_operand};
 use crate::values::is_beyond;
 use rsp_decode::Operand;
-use rsp_text::AsmFaultKind;
+use rsp_syntax::AsmFaultKind;
 
 /// Whether an operand is out of its range whatever the labels are: it names no label, and its number is out of the range that
 /// the kind has in a statement at `address`, at most 4096. None if the text is no operand of this kind.
 pub fn is_out_of_range(kind: Operand, text: &[u8], address: u16) -> Option<bool>
     requires { address ≤ 4096 }
-    ensures { result ≡ option_map (reading_fails address) (read kind text.now) }
+    ensures { result ≡ option_map (operand_fails address) (read kind text.now) }
 {
     match read_operand(kind, text)? {
-        Reading::Value(range, e) | Reading::Memory(range, e, _) => Some(is_beyond(
+        OperandValue::Value(range, e) | OperandValue::Memory(range, e, _) => Some(is_beyond(
             range, e, address,
         )),
-        Reading::Register(_) | Reading::Pair(_, _) => Some(false),
+        OperandValue::Register(_) | OperandValue::Pair(_, _) => Some(false),
     }
 }
 
@@ -41,7 +41,7 @@ pub fn put_operand(
 ) -> Option<Result<u32, AsmFaultKind>>
     requires inside { address ≤ 4096 }
     requires room { is_row_operand kind ≡ true }
-    ensures { result ≡ option_map (λ (r : statement.Reading). with_values word (bit_fields kind) (fields_of labels.now address r)) (read kind text.now) }
+    ensures { result ≡ option_map (λ (r : statement.OperandValue). with_values word (bit_fields kind) (fields_of labels.now address r)) (read kind text.now) }
 {
     let reading = read_operand(kind, text)?;
     match reading_fields(reading, address, labels) {

@@ -1,7 +1,7 @@
 // The ranges of operands: the field of a value, or None if the value is out of range.
 
 ghost use Rattle.std.specs.Prelude.{◌≡◌, ◌==◌, ◌≤◌, ◌%◌, ◌/◌, Some, None, if◌then◌else◌};
-ghost use Rattle.rsp_text.specs.Statement.{half, word, amount, jump, branch, scaled_offset};
+ghost use Rattle.rsp_syntax.specs.Statement.{half, word, amount, jump, branch, scaled_offset};
 
 /// The field of a 16-bit immediate: -32768 to 65535, modulo 65536.
 pub(crate) fn half(value: i64) -> Option<u32>

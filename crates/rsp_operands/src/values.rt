@@ -1,34 +1,34 @@
 // The fields of expressions.
 
 ghost use Rattle.std.specs.Prelude.{◌≡◌, ◌≤◌, ℤ, pos, ◌+ℤ◌, Some};
-ghost use Rattle.rsp_text.specs.Seen.{capped_ℤ};
-ghost use Rattle.rsp_text.specs.Numbers as numbers;
-ghost use Rattle.rsp_text.specs.Seen.{expression, capped_expression};
-ghost use Rattle.rsp_text.specs.Statement.{field, evaluate, field_of, number_fails};
+ghost use Rattle.rsp_syntax.specs.Capping.{capped_ℤ};
+ghost use Rattle.rsp_syntax.specs.Numbers as numbers;
+ghost use Rattle.rsp_syntax.specs.Capping.{expression, capped_expression};
+ghost use Rattle.rsp_syntax.specs.Statement.{field, evaluate, field_of, number_fails};
 
 use crate::labels::Labels;
 use crate::ranges::{amount, branch, half, jump, scaled_offset, word};
-use rsp_text::{AsmFaultKind, Expression, Slot};
+use rsp_syntax::{AsmFaultKind, Expression, OperandRange};
 
 /// The field of `origin + offset`, for a statement at `address`; None if that is out of the range. A sum that saturates is out
 /// of each range too.
-fn field(range: Slot, address: u16, origin: u16, offset: i64) -> Option<u32>
+fn field(range: OperandRange, address: u16, origin: u16, offset: i64) -> Option<u32>
     requires { address ≤ 4096 }
     ensures { (z : ℤ) → offset ≡ capped_ℤ z → result ≡ field range address (pos origin +ℤ z) }
 {
     let value = i64::from(origin).saturating_add(offset);
     match range {
-        Slot::Half => half(value),
-        Slot::Amount => amount(value),
-        Slot::Jump => jump(value),
-        Slot::Branch => branch(address, value),
-        Slot::Scaled(scale) => scaled_offset(scale, value),
-        Slot::Word => word(value),
+        OperandRange::Half => half(value),
+        OperandRange::Amount => amount(value),
+        OperandRange::Jump => jump(value),
+        OperandRange::Branch => branch(address, value),
+        OperandRange::Scaled(scale) => scaled_offset(scale, value),
+        OperandRange::Word => word(value),
     }
 }
 
 /// Whether an expression is out of the range whatever the labels are: it names no label, and its number is out of the range.
-pub(crate) fn is_beyond(range: Slot, e: Expression<'_>, address: u16) -> bool
+pub(crate) fn is_beyond(range: OperandRange, e: Expression<'_>, address: u16) -> bool
     requires { address ≤ 4096 }
     ensures { (x : numbers.Expression) → expression e.entry ≡ capped_expression x → result ≡ number_fails address (Some (range, x)) }
 {
@@ -38,7 +38,7 @@ pub(crate) fn is_beyond(range: Slot, e: Expression<'_>, address: u16) -> bool
 /// The field of an expression, for a statement at `address`. A label that no line has is refused as LabelMissing, and a value
 /// out of the range as OutOfRange.
 pub(crate) fn expression_field(
-    range: Slot,
+    range: OperandRange,
     e: Expression<'_>,
     address: u16,
     labels: &Labels<'_>,

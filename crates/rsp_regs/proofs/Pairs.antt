@@ -8,7 +8,7 @@ use Rattle.rsp_memory.specs.Memory.{byte_at, with_byte, with_bytes}
 use Rattle.rsp_memory.specs.Image.{image_byte, with_image_byte, with_image_bytes}
 use Rattle.rsp_memory.proofs.Runs.{run_turn}
 use Rattle.rsp_regs.specs.declared.transfer.Transfer.{Transfer}
-use Rattle.rsp_regs.specs.Dma.{row_pairs, row, first_rows, one_in, one_out, copied_in, copied_out}
+use Rattle.rsp_regs.specs.Dma.{row_pairs, row, first_rows, bank_after_pair, image_after_pair, copied_in, copied_out}
 
 -- a fold over f of the numbers below i + 1
 fold_map_more : {A B : Type 0} (step : B → A → B) (s : B) (f : ℕ → A) (i : ℕ)
@@ -39,12 +39,12 @@ row_out-none bank image sp dram = refl
 pub row_in-more : (image bank : List ℕ) (sp dram i : ℕ)
     → copied_in image bank (row_pairs sp dram (i + 1)) ≡ with_byte (copied_in image bank (row_pairs sp dram i)) (sp + i) (image_byte image (dram + i))
 unfolding copied_in row_pairs
-row_in-more image bank sp dram i = fold_map_more (one_in image) bank (λ k. (sp + k, dram + k)) i
+row_in-more image bank sp dram i = fold_map_more (bank_after_pair image) bank (λ k. (sp + k, dram + k)) i
 
 pub row_out-more : (bank image : List ℕ) (sp dram i : ℕ)
     → copied_out bank image (row_pairs sp dram (i + 1)) ≡ with_image_byte (copied_out bank image (row_pairs sp dram i)) (dram + i) (byte_at bank (sp + i))
 unfolding copied_out row_pairs
-row_out-more bank image sp dram i = fold_map_more (one_out bank) image (λ k. (sp + k, dram + k)) i
+row_out-more bank image sp dram i = fold_map_more (image_after_pair bank) image (λ k. (sp + k, dram + k)) i
 
 -- the bytes of a run, in the image and in a bank
 image_byte-at : (image : List ℕ) (a at n : ℕ) → a % 16777216 ≡ at + n → image_byte image a ≡ get_or (drop at image) n 0
@@ -89,11 +89,11 @@ rows_out-none bank image t = refl
 pub rows_in-more : (image bank : List ℕ) (t : Transfer) (r : ℕ)
     → copied_in image bank (first_rows t (r + 1)) ≡ copied_in image (copied_in image bank (first_rows t r)) (row t r)
 unfolding copied_in first_rows
-rows_in-more image bank t r = fold_flat_map_more (one_in image) bank (row t) r
+rows_in-more image bank t r = fold_flat_map_more (bank_after_pair image) bank (row t) r
 
 pub rows_out-more : (bank image : List ℕ) (t : Transfer) (r : ℕ)
     → copied_out bank image (first_rows t (r + 1)) ≡ copied_out bank (copied_out bank image (first_rows t r)) (row t r)
 unfolding copied_out first_rows
-rows_out-more bank image t r = fold_flat_map_more (one_out bank) image (row t) r
+rows_out-more bank image t r = fold_flat_map_more (image_after_pair bank) image (row t) r
 
 pub ruleset copies = (row_in-none, row_out-none, row_in-more, row_out-more, rows_in-none, rows_out-none, rows_in-more, rows_out-more)

@@ -14,7 +14,7 @@ pub record IsTransfer (t : Transfer) : Type 0 where
   pub skip : t.skip < 4096
 
 -- addresses, length and skip are multiples of 8
-pub record AreWhole (t : Transfer) : Type 0 where
+pub record AreMultiplesOf8 (t : Transfer) : Type 0 where
   pub sp : t.sp % 8 ≡ 0
   pub dram : t.dram % 8 ≡ 0
   pub length : t.length % 8 ≡ 0
@@ -35,15 +35,15 @@ abbrev pub pairs : Transfer → List (ℕ × ℕ)
 pairs t = first_rows t (t.count + 1)
 
 -- one pair is copied, into a bank, and out of it
-abbrev pub one_in : List ℕ → List ℕ → ℕ × ℕ → List ℕ
-one_in image bank p = with_byte bank p.0 (image_byte image p.1)
+abbrev pub bank_after_pair : List ℕ → List ℕ → ℕ × ℕ → List ℕ
+bank_after_pair image bank p = with_byte bank p.0 (image_byte image p.1)
 
-abbrev pub one_out : List ℕ → List ℕ → ℕ × ℕ → List ℕ
-one_out bank image p = with_image_byte image p.1 (byte_at bank p.0)
+abbrev pub image_after_pair : List ℕ → List ℕ → ℕ × ℕ → List ℕ
+image_after_pair bank image p = with_image_byte image p.1 (byte_at bank p.0)
 
 -- a bank, and the image, after the pairs are copied in order: a later pair wins
 unfoldable pub copied_in : List ℕ → List ℕ → List (ℕ × ℕ) → List ℕ
-copied_in image bank ps = fold (one_in image) bank ps
+copied_in image bank ps = fold (bank_after_pair image) bank ps
 
 unfoldable pub copied_out : List ℕ → List ℕ → List (ℕ × ℕ) → List ℕ
-copied_out bank image ps = fold (one_out bank) image ps
+copied_out bank image ps = fold (image_after_pair bank) image ps

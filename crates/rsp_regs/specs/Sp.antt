@@ -58,26 +58,26 @@ abbrev pub words : Sp → List ℕ
 words s = s.memory ∷ s.dram ∷ length_word s ∷ length_word s ∷ status s ∷ 0 ∷ 0 ∷ flag s.semaphore 1 ∷ s.dpc
 
 -- what a read of register n returns; numbers are taken modulo 16
-unfoldable pub peeked : ℕ → Sp → ℕ
-peeked n s = slice_index (words s) (n % 16)
+unfoldable pub read_value : ℕ → Sp → ℕ
+read_value n s = slice_index (words s) (n % 16)
 
 -- the registers after a read of register n: a read of the semaphore takes it
 unfoldable pub after_read : ℕ → Sp → Sp
 after_read n s = if n % 16 == 7 then record s { semaphore = true } else s
 
 -- a flag after a write of v: bit n clears it, and bit n + 1 sets it; both or neither keep it
-abbrev pub paired : ℕ → ℕ → Bool → Bool
-paired v n old = if bit_set v n then (if bit_set v (n + 1) then old else false) else (if bit_set v (n + 1) then true else old)
+abbrev pub after_clear_set : ℕ → ℕ → Bool → Bool
+after_clear_set v n old = if bit_set v n then (if bit_set v (n + 1) then old else false) else (if bit_set v (n + 1) then true else old)
 
 -- the registers after a write of SP_STATUS: twelve pairs (clear, set), and bit 2, which clears broke
-unfoldable pub status_written : ℕ → Sp → Sp
-status_written v s = record s {
-  halted = paired v 0 s.halted;
+unfoldable pub after_status_write : ℕ → Sp → Sp
+after_status_write v s = record s {
+  halted = after_clear_set v 0 s.halted;
   broke = if bit_set v 2 then false else s.broke;
-  interrupt = paired v 3 s.interrupt;
-  single_step = paired v 5 s.single_step;
-  intbreak = paired v 7 s.intbreak;
-  signals = map (λ n. paired v (9 + 2 * n) (signal s.signals n)) (range_with_len 0 8);
+  interrupt = after_clear_set v 3 s.interrupt;
+  single_step = after_clear_set v 5 s.single_step;
+  intbreak = after_clear_set v 7 s.intbreak;
+  signals = map (λ n. after_clear_set v (9 + 2 * n) (signal s.signals n)) (range_with_len 0 8);
 }
 
 -- the DMA of a word v that is written to a length register: the length is bits 11 to 0 with the low three bits set,
@@ -112,13 +112,13 @@ is_length_register n = is_rd_len n || is_wr_len n
 
 -- The registers after a write of v to register n. 0 keeps bits 12 to 3 of v, 1 bits 23 to 3. 2 and 3 do a DMA. 4 is
 -- SP_STATUS. 5 and 6 keep nothing. 7 is cleared, whatever v is. 8 to 15, the DPC registers, keep all of v.
-unfoldable pub written : ℕ → ℕ → Sp → Sp
-written n v s =
+unfoldable pub after_register_write : ℕ → ℕ → Sp → Sp
+after_register_write n v s =
     let k = n % 16 in
     if k == 0 then record s { memory = v % 8192 / 8 * 8 }
     else if k == 1 then record s { dram = v % 16777216 / 8 * 8 }
     else if is_length_register n then after_dma (transfer v s) s
-    else if k == 4 then status_written v s
+    else if k == 4 then after_status_write v s
     else if k == 7 then record s { semaphore = false }
     else if nat_lt k 8 then s
     else record s { dpc = slice_set s.dpc (k - 8) v }
@@ -157,14 +157,14 @@ after_task s = record s {
 
 -- the ranges of SP_MEM_ADDR, which keeps bits 12 to 3, of SP_DRAM_ADDR, which keeps bits 23 to 3, and of the skip, bits
 -- 11 to 3
-pub record AreKept (m d k : ℕ) : Type 0 where
+pub record AreSpRanges (m d k : ℕ) : Type 0 where
   pub memory : (m < 8192) × (m % 8 ≡ 0)
   pub dram : (d < 16777216) × (d % 8 ≡ 0)
   pub skip : (k < 4096) × (k % 8 ≡ 0)
 
 -- the ranges of the registers
 pub record IsSp (s : Sp) : Type 0 where
-  pub kept : AreKept s.memory s.dram s.skip
+  pub kept : AreSpRanges s.memory s.dram s.skip
   pub signals : length s.signals ≡ 8
   pub dpc : length s.dpc ≡ 8
   pub words : (i : ℕ) → slice_index s.dpc i < 2 ^ 32

@@ -1,6 +1,6 @@
 ghost use Rattle.std.specs.Prelude.{◌≡◌, ◌≤◌, ◌<◌};
 ghost use Rattle.rsp_numbers.specs.Numbers.{bit_set};
-ghost use Rattle.rsp_regs.specs.Sp.{flag, is_length_register, paired};
+ghost use Rattle.rsp_regs.specs.Sp.{flag, is_length_register, after_clear_set};
 
 /// The weight of a flag's bit if the flag is set, else 0.
 #[inline]
@@ -22,9 +22,9 @@ pub(crate) fn bit_set(value: u32, n: u32) -> bool
 
 /// A flag after a write of a word: bit `n` clears it, and bit `n + 1` sets it. Both or neither keep it.
 #[inline]
-pub(crate) fn paired(value: u32, n: u32, old: bool) -> bool
+pub(crate) fn after_clear_set(value: u32, n: u32, old: bool) -> bool
     requires { n < 31 }
-    ensures { result ≡ paired value n old }
+    ensures { result ≡ after_clear_set value n old }
 {
     match (bit_set(value, n), bit_set(value, n + 1)) {
         (true, false) => false,

@@ -1,9 +1,9 @@
 ghost use Rattle.std.specs.Prelude.{◌≡◌, ◌%◌, ◌==◌, ◌||◌, ◌<◌, ◌^◌, ℕ, if◌then◌else◌, slice_index, false};
-ghost use Rattle.rsp_regs.specs.Dma.{IsTransfer, AreWhole};
+ghost use Rattle.rsp_regs.specs.Dma.{IsTransfer, AreMultiplesOf8};
 ghost use Rattle.rsp_regs.specs.Parts.{parts_of, sp_of};
-ghost use Rattle.rsp_regs.specs.Sp.{AreKept, IsSp, start, status, peeked, after_read, status_written, transfer, after_dma, is_rd_len, is_wr_len, written, dmem_from_rdram, imem_from_rdram, rdram_from_bank, after_break, after_step, after_task};
+ghost use Rattle.rsp_regs.specs.Sp.{AreSpRanges, IsSp, start, status, read_value, after_read, after_status_write, transfer, after_dma, is_rd_len, is_wr_len, after_register_write, dmem_from_rdram, imem_from_rdram, rdram_from_bank, after_break, after_step, after_task};
 
-use crate::bits::{bit_set, flag, paired};
+use crate::bits::{after_clear_set, bit_set, flag};
 use crate::{SpParts, Transfer};
 use rsp_memory::{Rdram, SpMem};
 use std::marker::Model;
@@ -21,7 +21,7 @@ pub struct SpRegs {
     broke: bool,
     single_step: bool,
     /// Halted or single step: one value to test for each step.
-    is_held: bool,
+    halted_or_stepping: bool,
     intbreak: bool,
     signals: [bool; 8],
     interrupt: bool,
@@ -31,7 +31,7 @@ pub struct SpRegs {
 
 impl Model for SpRegs {
     ghost use Rattle.std.specs.Prelude.{◌≡◌, ◌||◌};
-    ghost use Rattle.rsp_regs.specs.Sp.{Sp, AreKept};
+    ghost use Rattle.rsp_regs.specs.Sp.{Sp, AreSpRanges};
 
     ghost Value = { Sp };
 
@@ -49,7 +49,7 @@ impl Model for SpRegs {
       dpc = s.dpc;
     } };
 
-    ghost invariant = { λ s. AreKept s.memory s.dram s.skip × (s.is_held ≡ (s.halted || s.single_step)) };
+    ghost invariant = { λ s. AreSpRanges s.memory s.dram s.skip × (s.halted_or_stepping ≡ (s.halted || s.single_step)) };
 
     ghost inverse = { λ s. record {
       memory = s.memory;
@@ -58,7 +58,7 @@ impl Model for SpRegs {
       halted = s.halted;
       broke = s.broke;
       single_step = s.single_step;
-      is_held = s.halted || s.single_step;
+      halted_or_stepping = s.halted || s.single_step;
       intbreak = s.intbreak;
       signals = s.signals;
       interrupt = s.interrupt;
@@ -87,7 +87,7 @@ impl SpRegs {
             halted: false,
             broke: false,
             single_step: false,
-            is_held: false,
+            halted_or_stepping: false,
             intbreak: false,
             signals: [false; 8],
             interrupt: false,
@@ -125,7 +125,7 @@ impl SpRegs {
 
     /// The registers with these values. Requires that each fits into its register.
     pub fn from_parts(parts: &SpParts) -> SpRegs
-        requires { AreKept parts.now.memory parts.now.dram parts.now.skip }
+        requires { AreSpRanges parts.now.memory parts.now.dram parts.now.skip }
         ensures { result ≡ sp_of parts.now }
     {
         SpRegs {
@@ -135,7 +135,7 @@ impl SpRegs {
             halted: parts.halted,
             broke: parts.broke,
             single_step: parts.single_step,
-            is_held: parts.halted || parts.single_step,
+            halted_or_stepping: parts.halted || parts.single_step,
             intbreak: parts.intbreak,
             signals: parts.signals,
             interrupt: parts.interrupt,
@@ -162,10 +162,10 @@ impl SpRegs {
 
     /// Whether the RSP is halted, or will be after one instruction.
     #[inline(always)]
-    pub fn is_held(&self) -> bool
+    pub fn halted_or_stepping(&self) -> bool
         ensures { result ≡ (self.now.halted || self.now.single_step) }
     {
-        self.is_held
+        self.halted_or_stepping
     }
 
     /// The interrupt flag.
@@ -198,9 +198,9 @@ impl SpRegs {
 
     /// The word that a read of register `n` would return. The semaphore isn't taken.
     #[inline]
-    #[tactic(auto, unfolding(crate::specs::Sp::peeked))]
+    #[tactic(auto, unfolding(crate::specs::Sp::read_value))]
     pub fn peek(&self, n: u32) -> u32
-        ensures { result ≡ peeked n self.now }
+        ensures { result ≡ read_value n self.now }
     {
         match n % 16 {
             0 => self.memory,
@@ -217,7 +217,7 @@ impl SpRegs {
     #[inline]
     #[tactic(auto, unfolding(crate::specs::Sp::after_read))]
     pub fn host_read(&mut self, n: u32) -> u32
-        ensures value { result ≡ peeked n self.old }
+        ensures value { result ≡ read_value n self.old }
         ensures state { self.new ≡ after_read n self.old }
     {
         let value = self.peek(n);
@@ -234,7 +234,7 @@ impl SpRegs {
         ensures { self.new ≡ after_break self.old }
     {
         self.halted = true;
-        self.is_held = true;
+        self.halted_or_stepping = true;
         self.broke = true;
         self.interrupt = self.interrupt || self.intbreak;
     }
@@ -245,7 +245,7 @@ impl SpRegs {
         ensures { self.new ≡ record self.old { halted = false } }
     {
         self.halted = false;
-        self.is_held = self.single_step;
+        self.halted_or_stepping = self.single_step;
     }
 
     /// The end of an instruction: sets halted if single step is set.
@@ -274,26 +274,26 @@ impl SpRegs {
 
     /// A write of SP_STATUS: twelve pairs of a bit that clears a flag and one that sets it, and a single bit that
     /// clears broke. Both bits of a pair, or neither, keep the flag.
-    #[tactic(auto, unfolding(crate::specs::Sp::status_written))]
+    #[tactic(auto, unfolding(crate::specs::Sp::after_status_write))]
     fn write_status(&mut self, value: u32)
-        ensures { self.new ≡ status_written value self.old }
+        ensures { self.new ≡ after_status_write value self.old }
     {
-        self.halted = paired(value, 0, self.halted);
+        self.halted = after_clear_set(value, 0, self.halted);
         self.broke = self.broke && !bit_set(value, 2);
-        self.interrupt = paired(value, 3, self.interrupt);
-        self.single_step = paired(value, 5, self.single_step);
-        self.is_held = self.halted || self.single_step;
-        self.intbreak = paired(value, 7, self.intbreak);
+        self.interrupt = after_clear_set(value, 3, self.interrupt);
+        self.single_step = after_clear_set(value, 5, self.single_step);
+        self.halted_or_stepping = self.halted || self.single_step;
+        self.intbreak = after_clear_set(value, 7, self.intbreak);
         let [a, b, c, d, e, f, g, h] = self.signals;
         self.signals = [
-            paired(value, 9, a),
-            paired(value, 11, b),
-            paired(value, 13, c),
-            paired(value, 15, d),
-            paired(value, 17, e),
-            paired(value, 19, f),
-            paired(value, 21, g),
-            paired(value, 23, h),
+            after_clear_set(value, 9, a),
+            after_clear_set(value, 11, b),
+            after_clear_set(value, 13, c),
+            after_clear_set(value, 15, d),
+            after_clear_set(value, 17, e),
+            after_clear_set(value, 19, f),
+            after_clear_set(value, 21, g),
+            after_clear_set(value, 23, h),
         ];
     }
 
@@ -302,7 +302,7 @@ impl SpRegs {
     fn transfer(&self, value: u32) -> Transfer
         ensures value { result ≡ transfer value self.now }
         ensures ranges { IsTransfer result }
-        ensures whole { AreWhole result }
+        ensures whole { AreMultiplesOf8 result }
     {
         Transfer {
             sp: self.memory % 4096,
@@ -317,7 +317,7 @@ impl SpRegs {
     #[tactic(auto, unfolding(crate::specs::Sp::after_dma))]
     fn advance(&mut self, t: &Transfer)
         requires ranges { IsTransfer t.now }
-        requires whole { AreWhole t.now }
+        requires whole { AreMultiplesOf8 t.now }
         ensures { self.new ≡ after_dma t.now self.old }
     {
         let bytes = (t.count + 1) * t.length;
@@ -361,7 +361,7 @@ impl SpRegs {
     }
 
     /// Writes register `n`. A write of a length register does its DMA.
-    #[tactic(auto, unfolding(crate::specs::Sp::written))]
+    #[tactic(auto, unfolding(crate::specs::Sp::after_register_write))]
     pub fn host_write(
         &mut self,
         n: u32,
@@ -370,7 +370,7 @@ impl SpRegs {
         imem: &mut SpMem,
         rdram: &mut Rdram,
     )
-        ensures registers { self.new ≡ written n value self.old }
+        ensures registers { self.new ≡ after_register_write n value self.old }
         ensures dmem { dmem.new ≡ if is_rd_len n then dmem_from_rdram value self.old rdram.old dmem.old else dmem.old }
         ensures imem { imem.new ≡ if is_rd_len n then imem_from_rdram value self.old rdram.old imem.old else imem.old }
         ensures rdram { rdram.new ≡ if is_wr_len n then rdram_from_bank value self.old dmem.old imem.old rdram.old else rdram.old }

@@ -5,18 +5,18 @@ use Rattle.std.proofs.lemmas.Bool.{cases_lt, lt-ltb, le-ltb, eq-eqb, ne_eqb}
 use Rattle.std.proofs.lemmas.Nat.{mul-le}
 use Rattle.rsp_decode.specs.declared.inst.Inst.{Inst}
 use Rattle.rsp_decode.specs.declared.inst.Inst.TheVariants.{Register, Immediate, Shift, BranchEqual}
-use Rattle.rsp_decode.specs.declared.scalar.EqualRow.TheVariants.{Bne}
-use Rattle.rsp_decode.specs.declared.scalar.ImmediateRow.TheVariants.{Addiu}
-use Rattle.rsp_decode.specs.declared.scalar.RegisterRow.TheVariants.{Addu, Subu}
-use Rattle.rsp_decode.specs.declared.scalar.ShiftRow.TheVariants.{Sll}
+use Rattle.rsp_decode.specs.declared.scalar.BranchEqualOp.TheVariants.{Bne}
+use Rattle.rsp_decode.specs.declared.scalar.ImmediateOp.TheVariants.{Addiu}
+use Rattle.rsp_decode.specs.declared.scalar.RegisterOp.TheVariants.{Addu, Subu}
+use Rattle.rsp_decode.specs.declared.scalar.ShiftOp.TheVariants.{Sll}
 use Rattle.rsp_decode.specs.Table.Words.{inst_of, row_of}
 use Rattle.rsp_memory.specs.Memory.{byte_at}
 use Rattle.rsp_memory.specs.Image.{image_byte}
 use Rattle.rsp_multiply.specs.Laws.{SumsOfProducts}
-use Rattle.rsp_scalar.specs.Flow.{going_on}
+use Rattle.rsp_scalar.specs.Flow.{address_after}
 use Rattle.rsp_scalar.specs.Registers.{register}
 use Rattle.rsp_machine.specs.State.{State, IsState}
-use Rattle.rsp_machine.specs.Step.{executed, worked, computes, jumps}
+use Rattle.rsp_machine.specs.Step.{executed, instruction_effect, computes, jumps}
 use Rattle.rsp_machine.specs.Laws.{steps_of}
 use Rattle.rsp_microcode.specs.Runs.{IsAt, place_after, ran_through}
 use Rattle.rsp_microcode.specs.Lanes.{IsOutside}
@@ -97,15 +97,15 @@ counted : (t : State) → length t.registers ≡ 32 →
     (register q 1 ≡ (register r 1 + register r 6) % 2 ^ 32) × (register q 2 ≡ (register r 2 + register r 6) % 2 ^ 32)
     × (register q 5 ≡ (register r 7 + (2 ^ 32 - register r 5)) % 2 ^ 32) × (register q 8 ≡ (register r 8 + 4294967295) % 2 ^ 32)
     × (register p 8 ≡ (register r 8 + 4294967295) % 2 ^ 32) × (register p 0 ≡ register r 0)
-unfolding executed worked computes jumps
+unfolding executed instruction_effect computes jumps
 counted t n =
     let e = listed t.registers n in
     let q = λ (i : ℕ) (r : List ℕ). register (ran_through tail_code (record t { registers = r })).registers i in
     let p = λ (i : ℕ) (r : List ℕ). register (ran_through front (record t { registers = r })).registers i in
     (ap (q 1) e, ap (q 2) e, ap (q 5) e, ap (q 8) e, ap (p 8) e, ap (p 0) e)
 
-front_place : (t : State) → (ran_through front t).npc ≡ going_on (going_on (going_on (going_on t.npc)))
-unfolding executed worked computes
+front_place : (t : State) → (ran_through front t).npc ≡ address_after (address_after (address_after (address_after t.npc)))
+unfolding executed instruction_effect computes
 front_place t = refl
 
 tail_frame : (t : State) → ran_through tail_code t ≡ kept t (ran_through tail_code t)
@@ -117,7 +117,7 @@ tail_frame t = put t (ran_through tail_code t) _ _ _ (framed tail_code t refl)
 -- what the tail leads from u to x: it goes back to the round's start, at `place`, if a round is left
 record Tailed (u x : State) (place : ℕ) : Type 0 where
   ranges : IsState x
-  next : x.npc ≡ going_on x.pc
+  next : x.npc ≡ address_after x.pc
   back : (b : Bool) → not ((register u.registers 8 + 4294967295) % 2 ^ 32 == 0) ≡ b → x.pc ≡ goes b ((place + 56) % 4096) 14
   frame : x ≡ kept u x
   imem : x.imem ≡ u.imem
@@ -143,7 +143,7 @@ tail_runs u place is at small here =
       made,
       record {
         ranges = ranges tail_code u refl refl is;
-        next = g.npc ∙ ap going_on (sym g.pc);
+        next = g.npc ∙ ap address_after (sym g.pc);
         back = λ b h. g.pc ∙ ap (λ (y : State). y.npc) turn ∙ ap (λ c. goes c v.npc 14) (rw (e4, zero) h) ∙ ap (λ p. goes b p 14) slot_at;
         frame = tail_frame u;
         imem = ap (λ (y : State). y.imem) frame;
@@ -157,7 +157,7 @@ tail_runs u place is at small here =
 -- what one round leads from t to x
 record Rounded (t x : State) (a from to size : ℕ) : Type 0 where
   ranges : IsState x
-  next : x.npc ≡ going_on x.pc
+  next : x.npc ≡ address_after x.pc
   back : (b : Bool) → not ((register t.registers 8 + 4294967295) % 2 ^ 32 == 0) ≡ b → x.pc ≡ goes b ((t.pc + 56) % 4096) 14
   one : register x.registers 1 ≡ (register t.registers 1 + register t.registers 6) % 2 ^ 32
   two : register x.registers 2 ≡ (register t.registers 2 + register t.registers 6) % 2 ^ 32
@@ -268,7 +268,7 @@ more r n k h word e = elim (cases_lt (k + 1) n) [
 -- what holds after k rounds
 record Holds (s : State) (from to size n a b k : ℕ) (t : State) : Type 0 where
   ranges : IsState t
-  next : t.npc ≡ going_on t.pc
+  next : t.npc ≡ address_after t.pc
   here : k < n → t.pc ≡ s.pc
   past : k ≡ n → t.pc ≡ place_after words s.pc
   goes_on : t.sp.halted ≡ false
@@ -328,7 +328,7 @@ module _ (law : SumsOfProducts) (s : State) (is : IsState s) (at : IsAt words s)
         ranges = done.ranges;
         next = done.next;
         here = λ g. turn ∙ ap (λ c. goes c ((t.pc + 56) % 4096) 14) (lt-ltb (k + 1) n g) ∙ back_to t.pc ((t.pc + 56) % 4096) 14 h.ranges.pc.0 (omega arith) (omega arith) refl ∙ begin;
-        past = λ g. turn ∙ ap (λ c. goes c ((t.pc + 56) % 4096) 14) (le-ltb (k + 1) n (omega arith)) ∙ ap (λ p. going_on ((p + 56) % 4096)) begin ∙ omega arith ∙ sym (place_is words s.pc place);
+        past = λ g. turn ∙ ap (λ c. goes c ((t.pc + 56) % 4096) 14) (le-ltb (k + 1) n (omega arith)) ∙ ap (λ p. address_after ((p + 56) % 4096)) begin ∙ omega arith ∙ sym (place_is words s.pc place);
         goes_on = done.goes_on;
         runs = done.runs;
         one = done.one ∙ omega arith;
@@ -395,7 +395,7 @@ copies law s is at from to size n a b blocks =
     let dmem = ap (λ (y : State). y.dmem) ran.frame in
     let frame : t ≡ kept s t = then s u t end.frame (wait_frame u t ran) in
     let pc : t.pc ≡ place_after (words ++ wait.words) s.pc = ran.pc ∙ ap (place_after wait.words) past in
-    let npc : t.npc ≡ place_after (words ++ wait.words) s.npc = ran.npc ∙ ap going_on pc ∙ ap (place_after (words ++ wait.words)) (sym at.next) in
+    let npc : t.npc ≡ place_after (words ++ wait.words) s.npc = ran.npc ∙ ap address_after pc ∙ ap (place_after (words ++ wait.words)) (sym at.next) in
     let spares : Spares code s t = record {
       scalars = λ i h. ran.spares.scalars i (all_parts (λ j. not (register_of j == i)) (loop_code wait) tail_code h).0 ∙ end.spares.scalars i h;
       vectors = λ i h. ap (λ (y : State). vector y.vectors i) frame;

@@ -9,9 +9,9 @@ use Rattle.rsp_numbers.specs.Numbers.{s16, s32}
 use Rattle.rsp_numbers.proofs.Signed.{s16_small, s16_large, s32_small, s32_large}
 use Rattle.rsp_decode.specs.declared.inst.Inst.{Inst}
 use Rattle.rsp_decode.specs.declared.inst.Inst.TheVariants.{VectorClip, MoveControl}
-use Rattle.rsp_decode.specs.declared.vector.VectorClipRow.TheVariants.{Vcl, Vch}
+use Rattle.rsp_decode.specs.declared.vector.VectorClipOp.TheVariants.{Vcl, Vch}
 use Rattle.rsp_decode.specs.declared.vector.Control.TheVariants.{Vcc}
-use Rattle.rsp_decode.specs.declared.scalar.MoveRow.TheVariants.{From}
+use Rattle.rsp_decode.specs.declared.scalar.MoveOp.TheVariants.{From}
 use Rattle.rsp_decode.specs.Table.Words.{inst_of, row_of}
 use Rattle.rsp_lanes.specs.Lanes.{bool_xor, selected}
 use Rattle.rsp_lanes.specs.Flags.{LaneFlags, flags_at}
@@ -24,7 +24,7 @@ use Rattle.rsp_scalar.specs.Registers.{register}
 use Rattle.rsp_loadstore.specs.File.{vector}
 use Rattle.rsp_loadstore.specs.Controls.{control_word, control_value}
 use Rattle.rsp_machine.specs.State.{State, IsState}
-use Rattle.rsp_machine.specs.Step.{executed, worked}
+use Rattle.rsp_machine.specs.Step.{executed, instruction_effect}
 use Rattle.rsp_machine.specs.Vector.{ruled, moves_control}
 use Rattle.rsp_machine.specs.Laws.{steps_of}
 use Rattle.rsp_microcode.specs.Pieces.{Piece, rows, code_of}
@@ -220,7 +220,7 @@ lane_flags s c d i h =
 
 ended : (s : State) → IsState s → (t : State) → t ≡ executed (MoveControl From 1 Vcc) (executed (VectorClip Vcl (record { vd = 6; vs = 2; vt = 4; element = 0 })) (executed (VectorClip Vch (record { vd = 5; vs = 1; vt = 3; element = 0 })) s))
     → (t.flags ≡ last_flags s (vector s.vectors 2) (vector s.vectors 4)) × (register t.registers 1 ≡ control_word Vcc t.flags)
-unfolding executed worked ruled moves_control control_value
+unfolding executed instruction_effect ruled moves_control control_value
 ended s is t e =
     let written = results_of vch (vector s.vectors 1) (selected (vector s.vectors 3) 0) s.flags in
     let read = λ (n : ℕ). vector_reads ((5, written) ∷ []) s.vectors n is.vectors.count refl in

@@ -8,12 +8,12 @@ use Rattle.rsp_numbers.proofs.Signed.{s32_small, s32_large}
 use Rattle.rsp_numbers.proofs.Wrap.{s48_is, s48_same, s48_differs}
 use Rattle.rsp_decode.specs.declared.inst.Inst.{Inst}
 use Rattle.rsp_decode.specs.declared.inst.Inst.TheVariants.{Register, Immediate, BranchSign, VectorLogic, Multiply, ReadAccumulator}
-use Rattle.rsp_decode.specs.declared.scalar.RegisterRow.TheVariants.{Addu}
-use Rattle.rsp_decode.specs.declared.scalar.ImmediateRow.TheVariants.{Addiu}
-use Rattle.rsp_decode.specs.declared.scalar.SignRow.TheVariants.{Bgez}
-use Rattle.rsp_decode.specs.declared.vector.VectorLogicRow.TheVariants as row
+use Rattle.rsp_decode.specs.declared.scalar.RegisterOp.TheVariants.{Addu}
+use Rattle.rsp_decode.specs.declared.scalar.ImmediateOp.TheVariants.{Addiu}
+use Rattle.rsp_decode.specs.declared.scalar.BranchSignOp.TheVariants.{Bgez}
+use Rattle.rsp_decode.specs.declared.vector.VectorLogicOp.TheVariants as row
 use Rattle.rsp_compare.specs.declared.logic.LogicOp.TheVariants.{Vand}
-use Rattle.rsp_decode.specs.declared.vector.MultiplyRow.TheVariants.{Vmudh, Vmudm, Vmadm, Vmadh}
+use Rattle.rsp_decode.specs.declared.vector.VectorMultiplyOp.TheVariants.{Vmudh, Vmudm, Vmadm, Vmadh}
 use Rattle.rsp_multiply.specs.declared.op.MultiplyOp.TheVariants as op
 use Rattle.rsp_decode.specs.Table.Words.{inst_of, row_of}
 use Rattle.rsp_lanes.specs.Lanes.{each_lane, selected, IsVector}
@@ -24,12 +24,12 @@ use Rattle.rsp_lanes.proofs.Products.{high_vector}
 use Rattle.rsp_acc.proofs.Rejoined.{parts_again}
 use Rattle.rsp_compare.specs.Logic.{logic_rule}
 use Rattle.rsp_multiply.specs.Laws.{SumsOfProducts}
-use Rattle.rsp_multiply.specs.Rows.{signed_by_unsigned, signed_times_65536, sar_of, accumulators_after}
+use Rattle.rsp_multiply.specs.MultiplyRules.{signed_by_unsigned, signed_times_65536, sar_results, accumulators_after}
 use Rattle.rsp_scalar.specs.Registers.{register}
-use Rattle.rsp_scalar.specs.Flow.{going_on}
+use Rattle.rsp_scalar.specs.Flow.{address_after}
 use Rattle.rsp_loadstore.specs.File.{vector, with_vector}
 use Rattle.rsp_machine.specs.State.{State, IsState}
-use Rattle.rsp_machine.specs.Step.{executed, worked, computes, jumps}
+use Rattle.rsp_machine.specs.Step.{executed, instruction_effect, computes, jumps}
 use Rattle.rsp_machine.specs.Vector.{ruled, multiplies, reads_accumulator}
 use Rattle.rsp_machine.specs.Laws.{steps_of}
 use Rattle.rsp_microcode.specs.Runs.{IsAt, ran_through}
@@ -156,7 +156,7 @@ nothing : (z : List ℕ) → z ≡ each_lane (λ _. 0) → each_lane (λ i. s48 
 nothing z e = each_same _ _ (λ i h. rw (itself z i h, lane_of 0 (λ _. 0) z e i h) refl)
 
 is_summed : (s : State) → IsState s → vector s.vectors 0 ≡ each_lane (λ _. 0) → Summed s (summing s)
-unfolding summing executed worked computes ruled
+unfolding summing executed instruction_effect computes ruled
 is_summed s is clear =
     let r = s.registers in
     let e = listed r is.registers.count in
@@ -197,7 +197,7 @@ started law s is at clear a1 a2 =
     let e6 : register y.registers 6 ≡ register s.registers 2 + register s.registers 4 = f.six ∙ omega arith in
     let x = tail_of y 1 5 in
     let z = tail_of y 2 6 in
-    let y1 : State = record y { pc = y.npc; npc = going_on y.npc; vectors = with_vector y.vectors 1 x } in
+    let y1 : State = record y { pc = y.npc; npc = address_after y.npc; vectors = with_vector y.vectors 1 x } in
     let two : vector y1.vectors 2 ≡ vector y.vectors 2 = vector_reads ((1, x) ∷ []) y.vectors 2 f.count refl in
     let made = end.ran ∙ ap (executed (lrv 2 0 6)) (right_loads 1 0 5 y f.count (ap length f.one ∙ length_each _) (omega arith) (omega arith) (omega arith))
     ∙ right_loads 2 0 6 y1 (length-with_vector y.vectors 1 x ∙ f.count) (ap length two ∙ ap length f.two ∙ length_each _) (omega arith) (omega arith) (omega arith) in
@@ -218,7 +218,7 @@ counted : (t : State) → length t.registers ≡ 32 →
     let q = (round_of loop t).registers in
     (register q 1 ≡ (register r 1 + 16) % 2 ^ 32) × (register q 2 ≡ (register r 2 + 16) % 2 ^ 32) × (register q 4 ≡ (register r 4 + 4294967280) % 2 ^ 32)
     × (register (after_pieces loop.pieces t).registers 4 ≡ (register r 4 + 4294967280) % 2 ^ 32)
-unfolding executed worked computes jumps multiplies
+unfolding executed instruction_effect computes jumps multiplies
 counted t n =
     let e = listed t.registers n in
     let q = λ (i : ℕ) (r : List ℕ). register (round_of loop (record t { registers = r })).registers i in
@@ -228,7 +228,7 @@ made : (t : State) → IsState t →
     let x = round_of loop t in
     (vector x.vectors 1 ≡ lanes_at t.dmem (register t.registers 1 + 16 * 0)) × (vector x.vectors 2 ≡ lanes_at t.dmem (register t.registers 2 + 16 * 0))
     × (x.accumulators ≡ accumulators_after op.Vmadh (vector t.vectors 1) (selected (vector t.vectors 2) 0) t.accumulators) × (x.dmem ≡ t.dmem)
-unfolding executed worked computes jumps multiplies
+unfolding executed instruction_effect computes jumps multiplies
 made t is =
     let writes : List ℕ → List (Write (List ℕ)) = λ c. (3, c) ∷ (1, lanes_at t.dmem (register t.registers 1 + 16 * 0)) ∷ (2, lanes_at t.dmem (register t.registers 2 + 16 * 0)) ∷ [] in
     (vector_reads (writes _) t.vectors 1 is.vectors.count refl, vector_reads (writes _) t.vectors 2 is.vectors.count refl, refl, refl)
@@ -253,7 +253,7 @@ more r n k h small word e = elim (cases_lt (k + 1) (n / 16 + 1)) [
 ]
 
 same_scalars : (t : State) → (after_pieces (rows (Multiply Vmadh (record { vd = 3; vs = 1; vt = 2; element = 0 }) ∷ []) ∷ []) t).registers ≡ t.registers
-unfolding executed worked multiplies
+unfolding executed instruction_effect multiplies
 same_scalars t = refl
 
 one_round : (s u : State) → IsDot (register s.registers 1) (register s.registers 2) (register s.registers 4) → HandsOn loop u (register s.registers 4 / 16 + 1) (Holds s)
@@ -444,43 +444,43 @@ result_is y z t =
 abbrev after_halves : State → State
 after_halves v = ran_through halves v
 
-halved : (v : State) → IsState v → (vector (after_halves v).vectors 3 ≡ sar_of 8 v.accumulators) × (vector (after_halves v).vectors 4 ≡ sar_of 9 v.accumulators)
+halved : (v : State) → IsState v → (vector (after_halves v).vectors 3 ≡ sar_results 8 v.accumulators) × (vector (after_halves v).vectors 4 ≡ sar_results 9 v.accumulators)
     × (vector (after_halves v).vectors 31 ≡ vector v.vectors 31) × (length (after_halves v).vectors ≡ 32)
-unfolding executed worked reads_accumulator
+unfolding executed instruction_effect reads_accumulator
 halved v is =
     let x = v.accumulators in
-    let read = λ (n : ℕ). vector_reads ((3, sar_of 8 x) ∷ (4, sar_of 9 x) ∷ []) v.vectors n is.vectors.count refl in
+    let read = λ (n : ℕ). vector_reads ((3, sar_results 8 x) ∷ (4, sar_results 9 x) ∷ []) v.vectors n is.vectors.count refl in
     (read 3, read 4, read 31, length-with_vector _ 4 _ ∙ length-with_vector v.vectors 3 _ ∙ is.vectors.count)
 
-read_out : (x : State) → length x.vectors ≡ 32 → (vector (ran_through results x).vectors 5 ≡ sar_of 9 x.accumulators) × (vector (ran_through results x).vectors 6 ≡ sar_of 10 x.accumulators)
-unfolding executed worked reads_accumulator
+read_out : (x : State) → length x.vectors ≡ 32 → (vector (ran_through results x).vectors 5 ≡ sar_results 9 x.accumulators) × (vector (ran_through results x).vectors 6 ≡ sar_results 10 x.accumulators)
+unfolding executed instruction_effect reads_accumulator
 read_out x count =
-    let read = λ (n : ℕ). vector_reads ((5, sar_of 9 x.accumulators) ∷ (6, sar_of 10 x.accumulators) ∷ []) x.vectors n count refl in
+    let read = λ (n : ℕ). vector_reads ((5, sar_results 9 x.accumulators) ∷ (6, sar_results 10 x.accumulators) ∷ []) x.vectors n count refl in
     (read 5, read 6)
 
-lanes_near : (xs : List ℤ) (p : ℕ → ℤ) → xs ≡ each_lane (λ i. s48 (p i *ℤ pos 65536)) → (e : ℕ) → e < 8 → Near (s32 (get_or (sar_of 8 xs) e 0 * 65536 + get_or (sar_of 9 xs) e 0)) (p e)
-unfolding sar_of
+lanes_near : (xs : List ℤ) (p : ℕ → ℤ) → xs ≡ each_lane (λ i. s48 (p i *ℤ pos 65536)) → (e : ℕ) → e < 8 → Near (s32 (get_or (sar_results 8 xs) e 0 * 65536 + get_or (sar_results 9 xs) e 0)) (p e)
+unfolding sar_results
 lanes_near xs p same e h =
     let x : number xs e ≡ s48 (p e *ℤ pos 65536) = lane_of (pos 0) (λ i. s48 (p i *ℤ pos 65536)) xs same e h in
-    let hi : get_or (sar_of 8 xs) e 0 ≡ high (s48 (p e *ℤ pos 65536)) = lane_of 0 (λ i. high (number xs i)) (sar_of 8 xs) refl e h ∙ ap high x in
-    let mid : get_or (sar_of 9 xs) e 0 ≡ middle (s48 (p e *ℤ pos 65536)) = lane_of 0 (λ i. middle (number xs i)) (sar_of 9 xs) refl e h ∙ ap middle x in
+    let hi : get_or (sar_results 8 xs) e 0 ≡ high (s48 (p e *ℤ pos 65536)) = lane_of 0 (λ i. high (number xs i)) (sar_results 8 xs) refl e h ∙ ap high x in
+    let mid : get_or (sar_results 9 xs) e 0 ≡ middle (s48 (p e *ℤ pos 65536)) = lane_of 0 (λ i. middle (number xs i)) (sar_results 9 xs) refl e h ∙ ap middle x in
     subst (λ n. Near (s32 n) (p e)) (sym (rw (hi, mid) refl)) (halves_near (p e))
 
-lanes_read : (f : ℕ → ℤ) (i : ℕ) → i < 8 → get_or (sar_of 9 (each_lane f)) i 0 * 65536 + get_or (sar_of 10 (each_lane f)) i 0 ≡ middle (f i) * 65536 + low (f i)
-unfolding sar_of
+lanes_read : (f : ℕ → ℤ) (i : ℕ) → i < 8 → get_or (sar_results 9 (each_lane f)) i 0 * 65536 + get_or (sar_results 10 (each_lane f)) i 0 ≡ middle (f i) * 65536 + low (f i)
+unfolding sar_results
 lanes_read f i h =
     let xs = each_lane f in
     let x : number xs i ≡ f i = lane_of (pos 0) f xs refl i h in
-    let mid : get_or (sar_of 9 xs) i 0 ≡ middle (f i) = lane_of 0 (λ i. middle (number xs i)) (sar_of 9 xs) refl i h ∙ ap middle x in
-    let lo : get_or (sar_of 10 xs) i 0 ≡ low (f i) = lane_of 0 (λ i. low (number xs i)) (sar_of 10 xs) refl i h ∙ ap low x in
+    let mid : get_or (sar_results 9 xs) i 0 ≡ middle (f i) = lane_of 0 (λ i. middle (number xs i)) (sar_results 9 xs) refl i h ∙ ap middle x in
+    let lo : get_or (sar_results 10 xs) i 0 ≡ low (f i) = lane_of 0 (λ i. low (number xs i)) (sar_results 10 xs) refl i h ∙ ap low x in
     rw (mid, lo) refl
 
-sar_8 : (xs : List ℤ) → IsVector (sar_of 8 xs)
-unfolding sar_of high
+sar_8 : (xs : List ℤ) → IsVector (sar_results 8 xs)
+unfolding sar_results high
 sar_8 xs = high_vector _ (λ i. sixteen_small _)
 
-sar_9 : (xs : List ℤ) → IsVector (sar_of 9 xs)
-unfolding sar_of middle
+sar_9 : (xs : List ℤ) → IsVector (sar_results 9 xs)
+unfolding sar_results middle
 sar_9 xs = high_vector _ (λ i. sixteen_small _)
 
 -- what the last block leaves, from a state whose accumulators hold sums of lanes

@@ -8,17 +8,17 @@ use Rattle.rsp_numbers.proofs.Signed.{s32_small, s32_large}
 use Rattle.rsp_numbers.proofs.Wrap.{s48_is, s48_differs}
 use Rattle.rsp_decode.specs.declared.inst.Inst.{Inst}
 use Rattle.rsp_decode.specs.declared.inst.Inst.TheVariants.{ReadAccumulator}
-use Rattle.rsp_decode.specs.declared.vector.MultiplyRow.TheVariants.{Vmudh, Vmudm, Vmadm, Vmadn, Vmadh}
+use Rattle.rsp_decode.specs.declared.vector.VectorMultiplyOp.TheVariants.{Vmudh, Vmudm, Vmadm, Vmadn, Vmadh}
 use Rattle.rsp_decode.specs.Table.Words.{inst_of, row_of}
 use Rattle.rsp_lanes.specs.Lanes.{each_lane, selected, IsVector}
 use Rattle.rsp_lanes.proofs.Kit.{lane_of}
 use Rattle.rsp_lanes.proofs.Products.{high_vector}
 use Rattle.rsp_acc.proofs.Rejoined.{parts_again}
 use Rattle.rsp_multiply.specs.Laws.{SumsOfProducts}
-use Rattle.rsp_multiply.specs.Rows.{signed_by_unsigned, signed_times_65536, sar_of}
+use Rattle.rsp_multiply.specs.MultiplyRules.{signed_by_unsigned, signed_times_65536, sar_results}
 use Rattle.rsp_loadstore.specs.File.{vector, with_vector}
 use Rattle.rsp_machine.specs.State.{State, IsState}
-use Rattle.rsp_machine.specs.Step.{executed, worked}
+use Rattle.rsp_machine.specs.Step.{executed, instruction_effect}
 use Rattle.rsp_machine.specs.Vector.{reads_accumulator}
 use Rattle.rsp_microcode.specs.Runs.{ran_through}
 use Rattle.rsp_microcode.specs.Multiplies.{Term, term, summed, sum_writes}
@@ -163,20 +163,20 @@ without_0 q = ap (λ z. ((((((z +ℤ q 1) +ℤ q 2) +ℤ q 3) +ℤ q 4) +ℤ q 5
 abbrev read_out : State → State
 read_out s = ran_through halves (summed first s)
 
-middle_halves : (s : State) → IsState s → (vector (read_out s).vectors 3 ≡ sar_of 8 (summed first s).accumulators) × (vector (read_out s).vectors 4 ≡ sar_of 9 (summed first s).accumulators)
-    × ((read_out s).vectors ≡ with_vector (with_vector (summed first s).vectors 3 (sar_of 8 (summed first s).accumulators)) 4 (sar_of 9 (summed first s).accumulators))
-unfolding executed worked reads_accumulator
+middle_halves : (s : State) → IsState s → (vector (read_out s).vectors 3 ≡ sar_results 8 (summed first s).accumulators) × (vector (read_out s).vectors 4 ≡ sar_results 9 (summed first s).accumulators)
+    × ((read_out s).vectors ≡ with_vector (with_vector (summed first s).vectors 3 (sar_results 8 (summed first s).accumulators)) 4 (sar_results 9 (summed first s).accumulators))
+unfolding executed instruction_effect reads_accumulator
 middle_halves s is =
     let x = (summed first s).accumulators in
     let count : length (summed first s).vectors ≡ 32 = length-with_vector s.vectors 3 _ ∙ is.vectors.count in
-    (vector_reads ((3, sar_of 8 x) ∷ (4, sar_of 9 x) ∷ []) (summed first s).vectors 3 count refl, vector_reads ((3, sar_of 8 x) ∷ (4, sar_of 9 x) ∷ []) (summed first s).vectors 4 count refl, refl)
+    (vector_reads ((3, sar_results 8 x) ∷ (4, sar_results 9 x) ∷ []) (summed first s).vectors 3 count refl, vector_reads ((3, sar_results 8 x) ∷ (4, sar_results 9 x) ∷ []) (summed first s).vectors 4 count refl, refl)
 
 kept : (s : State) → IsState s → (vector (read_out s).vectors 0 ≡ vector s.vectors 0) × (vector (read_out s).vectors 31 ≡ vector s.vectors 31) × (length (read_out s).vectors ≡ 32)
-unfolding executed worked reads_accumulator
+unfolding executed instruction_effect reads_accumulator
 kept s is =
     let x = (summed first s).accumulators in
     let count : length (summed first s).vectors ≡ 32 = length-with_vector s.vectors 3 _ ∙ is.vectors.count in
-    let read = λ (n : ℕ). vector_reads ((3, sar_of 8 x) ∷ (4, sar_of 9 x) ∷ []) (summed first s).vectors n count refl in
+    let read = λ (n : ℕ). vector_reads ((3, sar_results 8 x) ∷ (4, sar_results 9 x) ∷ []) (summed first s).vectors n count refl in
     let before = λ (n : ℕ). vector_reads (sum_writes first s.vectors) s.vectors n is.vectors.count refl in
     (read 0 ∙ before 0, read 31 ∙ before 31, length-with_vector _ 4 _ ∙ length-with_vector _ 3 _ ∙ length-with_vector s.vectors 3 _ ∙ is.vectors.count)
 
@@ -184,25 +184,25 @@ abbrev accumulated : List ℕ → List ℕ → ℕ → ℤ
 accumulated a b i = s48 (signed_times_65536 (get_or a i 0) (get_or (selected b 0) i 0) +ℤ pos 0)
 
 are_halves : (a b : List ℕ) → IsVector a → IsVector b → (e : ℕ) → e < 8
-    → s32 (get_or (sar_of 8 (each_lane (accumulated a b))) e 0 * 65536 + get_or (sar_of 9 (each_lane (accumulated a b))) e 0) ≡ product a b e
-unfolding sar_of
+    → s32 (get_or (sar_results 8 (each_lane (accumulated a b))) e 0 * 65536 + get_or (sar_results 9 (each_lane (accumulated a b))) e 0) ≡ product a b e
+unfolding sar_results
 are_halves a b is_a is_b e h =
     let xs = each_lane (accumulated a b) in
     let p = product a b e in
     let x : number xs e ≡ s48 (p *ℤ pos 65536) = lane_of (pos 0) (accumulated a b) xs refl e h ∙ rw (itself b e h) (ap s48 (plus_none (p *ℤ pos 65536))) in
-    let hi : get_or (sar_of 8 xs) e 0 ≡ high (number xs e) = lane_of 0 (λ i. high (number xs i)) (sar_of 8 xs) refl e h in
-    let mid : get_or (sar_of 9 xs) e 0 ≡ middle (number xs e) = lane_of 0 (λ i. middle (number xs i)) (sar_of 9 xs) refl e h in
+    let hi : get_or (sar_results 8 xs) e 0 ≡ high (number xs e) = lane_of 0 (λ i. high (number xs i)) (sar_results 8 xs) refl e h in
+    let mid : get_or (sar_results 9 xs) e 0 ≡ middle (number xs e) = lane_of 0 (λ i. middle (number xs i)) (sar_results 9 xs) refl e h in
     rw (hi, mid, x) (halves_are p (below (get_or a e 0) (get_or b e 0) (is_a.1 e) (is_b.1 e)))
   where
     plus_none : (z : ℤ) → z +ℤ pos 0 ≡ z
     plus_none z = omega (arith, ints)
 
-sar_vector : (e : ℕ) (xs : List ℤ) → e ≡ 8 → IsVector (sar_of e xs)
-unfolding sar_of high
+sar_vector : (e : ℕ) (xs : List ℤ) → e ≡ 8 → IsVector (sar_results e xs)
+unfolding sar_results high
 sar_vector e xs q = rw q (high_vector _ (λ i. sixteen_small _))
 
-sar_vector_9 : (xs : List ℤ) → IsVector (sar_of 9 xs)
-unfolding sar_of middle
+sar_vector_9 : (xs : List ℤ) → IsVector (sar_results 9 xs)
+unfolding sar_results middle
 sar_vector_9 xs = high_vector _ (λ i. sixteen_small _)
 
 pub dots : SumsOfProducts → DotsNumbers words

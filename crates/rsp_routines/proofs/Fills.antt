@@ -3,14 +3,14 @@ use Rattle.std.proofs.Common.{◌≡◌, ℕ, ◌+◌, ◌*◌, ◌%◌, ◌^◌
 use Rattle.std.specs.Prelude.{int_lt}
 use Rattle.rsp_numbers.specs.Numbers.{s32}
 use Rattle.rsp_decode.specs.declared.inst.Inst.TheVariants.{Immediate, BranchSign}
-use Rattle.rsp_decode.specs.declared.scalar.ImmediateRow.TheVariants.{Addiu}
-use Rattle.rsp_decode.specs.declared.scalar.SignRow.TheVariants.{Bgtz}
+use Rattle.rsp_decode.specs.declared.scalar.ImmediateOp.TheVariants.{Addiu}
+use Rattle.rsp_decode.specs.declared.scalar.BranchSignOp.TheVariants.{Bgtz}
 use Rattle.rsp_decode.specs.Table.Words.{inst_of, row_of}
 use Rattle.rsp_multiply.specs.Laws.{SumsOfProducts}
 use Rattle.rsp_scalar.specs.Registers.{register}
 use Rattle.rsp_loadstore.specs.File.{vector}
 use Rattle.rsp_machine.specs.State.{State, IsState}
-use Rattle.rsp_machine.specs.Step.{executed, worked, computes, jumps}
+use Rattle.rsp_machine.specs.Step.{executed, instruction_effect, computes, jumps}
 use Rattle.rsp_machine.specs.Laws.{steps_of}
 use Rattle.rsp_microcode.specs.Lanes.{with_lanes}
 use Rattle.rsp_microcode.specs.Pieces.{puts, rows, after_pieces}
@@ -48,7 +48,7 @@ counted : (t : State) → length t.registers ≡ 32 →
     (register q 3 ≡ (register r 3 + 16) % 2 ^ 32) × (register q 4 ≡ (register r 4 + 4294967280) % 2 ^ 32)
     × (register (after_pieces loop.pieces t).registers 4 ≡ (register r 4 + 4294967280) % 2 ^ 32)
     × ((round_of loop t).dmem ≡ with_lanes t.dmem (register r 3 + 16 * 0) (vector t.vectors 1))
-unfolding executed worked computes jumps
+unfolding executed instruction_effect computes jumps
 counted t n =
     let e = listed t.registers n in
     let q = λ (i : ℕ) (r : List ℕ). register (round_of loop (record t { registers = r })).registers i in

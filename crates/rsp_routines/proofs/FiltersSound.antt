@@ -6,9 +6,9 @@ use Rattle.rsp_numbers.specs.Numbers.{s32, s48, sixteen_bits, clamp16, floor_div
 use Rattle.rsp_numbers.proofs.Wrap.{s48_is}
 use Rattle.rsp_decode.specs.declared.inst.Inst.{Inst}
 use Rattle.rsp_decode.specs.declared.inst.Inst.TheVariants.{Immediate, BranchSign}
-use Rattle.rsp_decode.specs.declared.vector.MultiplyRow.TheVariants.{Vmulf, Vmacf}
-use Rattle.rsp_decode.specs.declared.scalar.ImmediateRow.TheVariants.{Addiu}
-use Rattle.rsp_decode.specs.declared.scalar.SignRow.TheVariants.{Bgtz}
+use Rattle.rsp_decode.specs.declared.vector.VectorMultiplyOp.TheVariants.{Vmulf, Vmacf}
+use Rattle.rsp_decode.specs.declared.scalar.ImmediateOp.TheVariants.{Addiu}
+use Rattle.rsp_decode.specs.declared.scalar.BranchSignOp.TheVariants.{Bgtz}
 use Rattle.rsp_decode.specs.Table.Words.{inst_of, row_of}
 use Rattle.rsp_memory.specs.Memory.{half_at}
 use Rattle.rsp_lanes.specs.Lanes.{each_lane, selected, IsVector}
@@ -16,12 +16,12 @@ use Rattle.rsp_lanes.proofs.Kit.{lane_of, each_same, length_each}
 use Rattle.rsp_acc.specs.Parts.{clamp_of}
 use Rattle.rsp_acc.specs.declared.parts.Clamp.TheVariants.{Signed}
 use Rattle.rsp_multiply.specs.Laws.{SumsOfProducts}
-use Rattle.rsp_multiply.specs.Rows.{rounded, fraction}
+use Rattle.rsp_multiply.specs.MultiplyRules.{rounded, fraction}
 use Rattle.rsp_scalar.specs.Registers.{register}
-use Rattle.rsp_scalar.specs.Flow.{going_on}
+use Rattle.rsp_scalar.specs.Flow.{address_after}
 use Rattle.rsp_loadstore.specs.File.{IsFile, vector, with_vector}
 use Rattle.rsp_machine.specs.State.{State, IsState}
-use Rattle.rsp_machine.specs.Step.{executed, worked, computes, jumps}
+use Rattle.rsp_machine.specs.Step.{executed, instruction_effect, computes, jumps}
 use Rattle.rsp_machine.specs.Vector.{loads_vector}
 use Rattle.rsp_machine.specs.Laws.{steps_of}
 use Rattle.rsp_microcode.specs.Runs.{ran_through}
@@ -111,9 +111,9 @@ with_three w =
     let r = w.registers in
     let at = λ (n : ℕ). lanes_at w.dmem (register r n) in
     let file = with_vector (with_vector (with_vector w.vectors 2 (at 6)) 3 (at 7)) 4 (at 8) in
-    let two : State = record w { pc = going_on w.npc; npc = going_on (going_on w.npc) } in
-    let four : State = record two { pc = going_on two.npc; npc = going_on (going_on two.npc) } in
-    record four { pc = going_on four.npc; npc = going_on (going_on four.npc); vectors = file }
+    let two : State = record w { pc = address_after w.npc; npc = address_after (address_after w.npc) } in
+    let four : State = record two { pc = address_after two.npc; npc = address_after (address_after two.npc) } in
+    record four { pc = address_after four.npc; npc = address_after (address_after four.npc); vectors = file }
 
 three_loads : (w : State) → IsFile w.vectors → HasBytes w.dmem → register w.registers 6 + 16 < 2 ^ 32 → register w.registers 7 + 16 < 2 ^ 32 → register w.registers 8 + 16 < 2 ^ 32
     → ran_through others w ≡ with_three w
@@ -124,8 +124,8 @@ three_loads w is bytes a6 a7 a8 =
     let f3 = with_vector f2 3 (at 7) in
     let is2 : IsFile f2 = file_written w.vectors 2 (at 6) (omega arith) (lanes_are w.dmem _ bytes) is in
     let is3 : IsFile f3 = file_written f2 3 (at 7) (omega arith) (lanes_are w.dmem _ bytes) is2 in
-    let w2 : State = record w { pc = going_on w.npc; npc = going_on (going_on w.npc); vectors = f2 } in
-    let w3 : State = record w2 { pc = going_on w2.npc; npc = going_on (going_on w2.npc); vectors = f3 } in
+    let w2 : State = record w { pc = address_after w.npc; npc = address_after (address_after w.npc); vectors = f2 } in
+    let w3 : State = record w2 { pc = address_after w2.npc; npc = address_after (address_after w2.npc); vectors = f3 } in
     ap (λ (x : State). executed (lrv 4 1 8) (executed (lqv 4 0 8) (executed (lrv 3 1 7) (executed (lqv 3 0 7) x)))) (whole_loads 2 6 w is bytes (omega arith) a6)
     ∙ ap (λ (x : State). executed (lrv 4 1 8) (executed (lqv 4 0 8) x)) (whole_loads 3 7 w2 is2 bytes (omega arith) a7)
     ∙ whole_loads 4 8 w3 is3 bytes (omega arith) a8
@@ -153,7 +153,7 @@ counted : (t : State) → length t.registers ≡ 32 →
     × (register (after_pieces (take 5 loop.pieces) t).registers 3 ≡ register r 3)
     × (register w 6 ≡ (register r 1 + 2) % 2 ^ 32) × (register w 7 ≡ (register r 1 + 4) % 2 ^ 32) × (register w 8 ≡ (register r 1 + 6) % 2 ^ 32)
     × (register w 3 ≡ register r 3) × (length w ≡ 32)
-unfolding executed worked computes jumps loads_vector
+unfolding executed instruction_effect computes jumps loads_vector
 counted t n =
     let e = listed t.registers n in
     let q = λ (i : ℕ) (r : List ℕ). register (round_of loop (record t { registers = r })).registers i in
@@ -176,7 +176,7 @@ ended w = executed loop.slot (executed loop.branch (after_pieces (rows counts �
 
 store_of : (w : State) → length w.registers ≡ 32 → IsFile w.vectors → (ended w).dmem
     ≡ with_lanes w.dmem (register w.registers 3 + 16 * 0) (samples (vector w.vectors 1) (vector w.vectors 2) (vector w.vectors 3) (vector w.vectors 4) (vector w.vectors 6))
-unfolding executed worked computes jumps
+unfolding executed instruction_effect computes jumps
 store_of w n is =
     let v = is.registers in
     ap (λ (r : List ℕ). (ended (record w { registers = r })).dmem) (listed w.registers n)
@@ -191,7 +191,7 @@ same_store m a b w w' x x' y y' z z' c c' p q r s t u = rw (p, q, r, s, t, u) re
 
 stored : (t : State) → IsState t → register t.registers 1 < 8192 → (round_of loop t).dmem
     ≡ with_lanes t.dmem (register t.registers 3 + 16 * 0) (samples (lanes_at t.dmem (register t.registers 1 + 16 * 0)) (lanes_at t.dmem (register t.registers 1 + 2)) (lanes_at t.dmem (register t.registers 1 + 4)) (lanes_at t.dmem (register t.registers 1 + 6)) (vector t.vectors 6))
-unfolding executed worked computes
+unfolding executed instruction_effect computes
 stored t is low =
     let r = t.registers in
     let bytes = has_bytes t.dmem is.dmem in

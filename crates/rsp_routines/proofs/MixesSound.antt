@@ -5,9 +5,9 @@ use Rattle.std.proofs.lemmas.Int.{ints}
 use Rattle.rsp_numbers.specs.Numbers.{s16, s32, s48, sixteen_bits, clamp16, floor_div}
 use Rattle.rsp_numbers.proofs.Wrap.{s48_is}
 use Rattle.rsp_decode.specs.declared.inst.Inst.TheVariants.{Immediate, BranchSign}
-use Rattle.rsp_decode.specs.declared.vector.MultiplyRow.TheVariants.{Vmulf, Vmadh}
-use Rattle.rsp_decode.specs.declared.scalar.ImmediateRow.TheVariants.{Addiu}
-use Rattle.rsp_decode.specs.declared.scalar.SignRow.TheVariants.{Bgtz}
+use Rattle.rsp_decode.specs.declared.vector.VectorMultiplyOp.TheVariants.{Vmulf, Vmadh}
+use Rattle.rsp_decode.specs.declared.scalar.ImmediateOp.TheVariants.{Addiu}
+use Rattle.rsp_decode.specs.declared.scalar.BranchSignOp.TheVariants.{Bgtz}
 use Rattle.rsp_decode.specs.Table.Words.{inst_of, row_of}
 use Rattle.rsp_memory.specs.Memory.{half_at}
 use Rattle.rsp_lanes.specs.Lanes.{each_lane, selected, IsVector}
@@ -15,12 +15,12 @@ use Rattle.rsp_lanes.proofs.Kit.{lane_of, each_same, length_each}
 use Rattle.rsp_acc.specs.Parts.{clamp_of}
 use Rattle.rsp_acc.specs.declared.parts.Clamp.TheVariants.{Signed}
 use Rattle.rsp_multiply.specs.Laws.{SumsOfProducts}
-use Rattle.rsp_multiply.specs.Rows.{rounded, signed_times_65536}
+use Rattle.rsp_multiply.specs.MultiplyRules.{rounded, signed_times_65536}
 use Rattle.rsp_multiply.proofs.Signs.{signed}
 use Rattle.rsp_scalar.specs.Registers.{register}
 use Rattle.rsp_loadstore.specs.File.{vector, with_vector}
 use Rattle.rsp_machine.specs.State.{State, IsState}
-use Rattle.rsp_machine.specs.Step.{executed, worked, computes, jumps}
+use Rattle.rsp_machine.specs.Step.{executed, instruction_effect, computes, jumps}
 use Rattle.rsp_machine.specs.Laws.{steps_of}
 use Rattle.rsp_microcode.specs.Lanes.{lanes_at, with_lanes}
 use Rattle.rsp_microcode.specs.Reads.{after_writes}
@@ -100,7 +100,7 @@ counted : (t : State) → length t.registers ≡ 32 →
     × (register q 4 ≡ (register r 4 + 4294967280) % 2 ^ 32)
     × (register (after_pieces loop.pieces t).registers 4 ≡ (register r 4 + 4294967280) % 2 ^ 32)
     × (register (after_pieces (take 4 loop.pieces) t).registers 3 ≡ register r 3)
-unfolding executed worked computes jumps
+unfolding executed instruction_effect computes jumps
 counted t n =
     let e = listed t.registers n in
     let q = λ (i : ℕ) (r : List ℕ). register (round_of loop (record t { registers = r })).registers i in (
@@ -115,7 +115,7 @@ counted t n =
 -- what a round stores
 stored : (t : State) → IsState t → (round_of loop t).dmem
     ≡ with_lanes t.dmem (register t.registers 3 + 16 * 0) (samples (lanes_at t.dmem (register t.registers 1 + 16 * 0)) (lanes_at t.dmem (register t.registers 2 + 16 * 0)) (vector t.vectors 3))
-unfolding executed worked computes jumps
+unfolding executed instruction_effect computes jumps
 stored t is =
     let r = t.registers in
     let writes = loaded loads t.dmem (listing r) in

@@ -1,6 +1,6 @@
 -- The product.
 use Rattle.std.proofs.Common.{◌≡◌, ℕ, List, [], ◌∷◌, map, Some, arith, refl, ap, ◌∙◌}
-use Rattle.rsp_decode.specs.declared.vector.MultiplyRow.TheVariants.{Vmudl, Vmadm, Vmadn, Vmadh}
+use Rattle.rsp_decode.specs.declared.vector.VectorMultiplyOp.TheVariants.{Vmudl, Vmadm, Vmadn, Vmadh}
 use Rattle.rsp_decode.specs.Table.Words.{inst_of, row_of}
 use Rattle.rsp_multiply.specs.Laws.{SumsOfProducts}
 use Rattle.rsp_loadstore.specs.File.{vector}

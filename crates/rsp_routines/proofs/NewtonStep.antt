@@ -5,13 +5,13 @@ use Rattle.std.proofs.lemmas.Int.{ints}
 use Rattle.rsp_numbers.specs.Numbers.{s48}
 use Rattle.rsp_numbers.proofs.Wrap.{s48_is}
 use Rattle.rsp_decode.specs.Table.Words.{inst_of, row_of}
-use Rattle.rsp_decode.specs.declared.vector.MultiplyRow.TheVariants.{Vmudl, Vmudh, Vmadm, Vmadn, Vmadh}
+use Rattle.rsp_decode.specs.declared.vector.VectorMultiplyOp.TheVariants.{Vmudl, Vmudh, Vmadm, Vmadn, Vmadh}
 use Rattle.rsp_divide.specs.Quotients.{reciprocal_of}
 use Rattle.rsp_lanes.specs.Lanes.{each_lane, selected, IsVector}
 use Rattle.rsp_lanes.proofs.Kit.{lane_of}
 use Rattle.rsp_multiply.specs.Laws.{SumsOfProducts}
-use Rattle.rsp_multiply.specs.Rows.{signed_times_65536}
-use Rattle.rsp_scalar.specs.Flow.{going_on}
+use Rattle.rsp_multiply.specs.MultiplyRules.{signed_times_65536}
+use Rattle.rsp_scalar.specs.Flow.{address_after}
 use Rattle.rsp_loadstore.specs.File.{vector}
 use Rattle.rsp_machine.specs.State.{State, IsState}
 use Rattle.rsp_machine.specs.Laws.{steps_of}
@@ -66,7 +66,7 @@ in_range : (h l : List ℕ) → IsVector h → IsVector l → s48 (pos 131072 -�
 in_range h l is_h is_l = let r = fixed_range h l 0 is_h is_l in s48_is _ _ 0 0 refl (omega (arith, ints)) (omega (arith, ints))
 
 -- the three sums, from the state that the divide instructions left
-from_estimate : SumsOfProducts → (u : State) → IsState u → u.npc ≡ going_on u.pc → vector u.vectors 0 ≡ each_lane (λ _. 0) → HasConstants (vector u.vectors 8)
+from_estimate : SumsOfProducts → (u : State) → IsState u → u.npc ≡ address_after u.pc → vector u.vectors 0 ≡ each_lane (λ _. 0) → HasConstants (vector u.vectors 8)
     → (t : State) → t ≡ after_pieces (sums times_estimate ∷ sums from_two ∷ sums times_rest ∷ []) u
     → fixed (vector t.vectors 11) (vector t.vectors 12) 0 ≡ improved (fixed (vector u.vectors 1) (vector u.vectors 2) 0) (fixed (vector u.vectors 3) (vector u.vectors 4) 0)
 from_estimate law u is next zero const t e =
@@ -110,7 +110,7 @@ improves law s is at zero const =
     let x = fixed (vector s.vectors 1) (vector s.vectors 2) 0 in
     let range = fixed_range (vector s.vectors 1) (vector s.vectors 2) 0 (is.vectors.registers 1 (omega arith)) (is.vectors.registers 2 (omega arith)) in
     let result : fixed (vector (steps_of 17 s).vectors 11) (vector (steps_of 17 s).vectors 12) 0 ≡ improved x (reciprocal_of x) =
-    from_estimate law u run.1 (places.1 ∙ ap going_on (sym places.0)) (kept 0 refl ∙ zero) (subst HasConstants (sym (kept 8 refl)) const) (steps_of 17 s) end.ran
+    from_estimate law u run.1 (places.1 ∙ ap address_after (sym places.0)) (kept 0 refl ∙ zero) (subst HasConstants (sym (kept 8 refl)) const) (steps_of 17 s) end.ran
     ∙ rw (u1, u2) (ap (improved x) estimate) in
     record {
       reciprocal = result;

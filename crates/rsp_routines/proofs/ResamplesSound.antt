@@ -8,8 +8,8 @@ use Rattle.rsp_numbers.specs.Numbers.{s16, s48, sixteen_bits, clamp16, floor_div
 use Rattle.rsp_numbers.proofs.Wrap.{s48_is}
 use Rattle.rsp_decode.specs.declared.inst.Inst.{Inst}
 use Rattle.rsp_decode.specs.declared.inst.Inst.TheVariants.{VectorLogic}
-use Rattle.rsp_decode.specs.declared.vector.MultiplyRow.TheVariants.{Vmudm, Vmadm}
-use Rattle.rsp_decode.specs.declared.vector.VectorLogicRow.TheVariants as row
+use Rattle.rsp_decode.specs.declared.vector.VectorMultiplyOp.TheVariants.{Vmudm, Vmadm}
+use Rattle.rsp_decode.specs.declared.vector.VectorLogicOp.TheVariants as row
 use Rattle.rsp_compare.specs.declared.logic.LogicOp.TheVariants.{Vnor}
 use Rattle.rsp_decode.specs.Table.Words.{inst_of, row_of}
 use Rattle.rsp_lanes.specs.Lanes.{each_lane, selected, IsVector}
@@ -21,11 +21,11 @@ use Rattle.rsp_acc.specs.Parts.{clamp_of}
 use Rattle.rsp_acc.specs.declared.parts.Clamp.TheVariants.{Signed}
 use Rattle.rsp_compare.specs.Logic.{logic_rule}
 use Rattle.rsp_multiply.specs.Laws.{SumsOfProducts}
-use Rattle.rsp_multiply.specs.Rows.{signed_by_unsigned}
+use Rattle.rsp_multiply.specs.MultiplyRules.{signed_by_unsigned}
 use Rattle.rsp_multiply.proofs.Signs.{mixed}
 use Rattle.rsp_loadstore.specs.File.{vector}
 use Rattle.rsp_machine.specs.State.{State, IsState}
-use Rattle.rsp_machine.specs.Step.{executed, worked}
+use Rattle.rsp_machine.specs.Step.{executed, instruction_effect}
 use Rattle.rsp_machine.specs.Vector.{ruled}
 use Rattle.rsp_machine.specs.Laws.{steps_of}
 use Rattle.rsp_microcode.specs.Runs.{place_after}
@@ -117,7 +117,7 @@ abbrev begun : State → State
 begun s = executed inverting s
 
 pub resamples : SumsOfProducts → ResamplesSound words
-unfolding executed worked ruled
+unfolding executed instruction_effect ruled
 resamples law s is at zero unit =
     let end = pieces_run law words code decoded refl s is at tt in
     let u = begun s in

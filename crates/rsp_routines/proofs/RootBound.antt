@@ -64,7 +64,7 @@ near_cubic w a h low high =
 
 -- The step: q is near 2^31 over the root of x, t is x q / 2^16, h is t q / 2^32, r is 98304 less 2 h, p is t r / 2^16, and m, the
 -- result, is p / 128; each is rounded down.
-record IsStep (x q t h r p m : ℕ) : Type 0 where
+record IsMultiplyInstruction (x q t h r p m : ℕ) : Type 0 where
   product_low : t * 65536 ≤ x * q
   product_high : x * q ≤ t * 65536 + 65535
   half_low : h * 2 ^ 32 ≤ t * q
@@ -83,7 +83,7 @@ record IsStepRest (x q t r : ℕ) : Type 0 where
   product : x * q < 2 ^ 47
   least : 2 ^ 62 ≤ x * (q * q) + 2 ^ 49
 
-rest_near : (x q t h r p m : ℕ) → x < 2 ^ 31 → IsRootEstimate x q → IsStep x q t h r p m → IsStepRest x q t r
+rest_near : (x q t h r p m : ℕ) → x < 2 ^ 31 → IsRootEstimate x q → IsMultiplyInstruction x q t h r p m → IsStepRest x q t r
 rest_near x q t h r p m small is step =
     let a : t * 65536 * q ≤ x * q * q = mul-le (t * 65536) q (x * q) q step.product_low (omega arith) in
     let b : x * q * q ≤ (t * 65536 + 65535) * q = mul-le (x * q) q (t * 65536 + 65535) q step.product_high (omega arith) in
@@ -107,7 +107,7 @@ squared x q t r is =
     let g : x * (x * (q * q) * (2 ^ 47 * r * (2 ^ 47 * r))) ≤ x * (4 * ((2 ^ 62 + 2 ^ 47) * ((2 ^ 62 + 2 ^ 47) * (2 ^ 62 + 2 ^ 47)))) = mul-le-mul_left x f in
     omega arith
 
-upper : (x q t h r p m : ℕ) → IsStep x q t h r p m → IsStepRest x q t r → m * m ≤ 65543 * x
+upper : (x q t h r p m : ℕ) → IsMultiplyInstruction x q t h r p m → IsStepRest x q t r → m * m ≤ 65543 * x
 upper x q t h r p m step is =
     let f : t * 65536 * r ≤ x * q * r = mul-le (t * 65536) r (x * q) r step.product_low (omega arith) in
     let g : m * 2 ^ 39 ≤ x * q * r = omega (arith, step.low, step.last_low) in
@@ -116,7 +116,7 @@ upper x q t h r p m step is =
     omega arith
 
 -- so no product is clamped
-inside : (x q t h r p m : ℕ) → x < 2 ^ 31 → IsStep x q t h r p m → IsStepRest x q t r → p < 2 ^ 31
+inside : (x q t h r p m : ℕ) → x < 2 ^ 31 → IsMultiplyInstruction x q t h r p m → IsStepRest x q t r → p < 2 ^ 31
 inside x q t h r p m small step is = elim (cases_lt p (2 ^ 31)) [
   | inl l ↦ l
   | inr g ↦
@@ -140,7 +140,7 @@ less_square g c r h = elim (cases_lt g 65536) [
         let b : y * r * (y * r) ≤ c * c = mul-le (y * r) (y * r) c c (omega arith) (omega arith) in
         rw e (omega arith)
 
-lower : (x q t h r p m : ℕ) → IsRootEstimate x q → IsStep x q t h r p m → IsStepRest x q t r → 65530 * x ≤ (m + 1) * (m + 1)
+lower : (x q t h r p m : ℕ) → IsRootEstimate x q → IsMultiplyInstruction x q t h r p m → IsStepRest x q t r → 65530 * x ≤ (m + 1) * (m + 1)
 lower x q t h r p m of step is =
     let w = x * (q * q) in
     let a = 2 ^ 47 * r in
@@ -155,7 +155,7 @@ lower x q t h r p m of step is =
     omega arith
 
 -- the steps as they are computed
-step_of : (x q t e r p : ℕ) → x * q / 65536 ≡ t → t * q / 65536 ≡ e → e / 65536 ≤ 49152 → 98304 - 2 * (e / 65536) ≡ r → t * r / 65536 ≡ p → IsStep x q t (e / 65536) r p (p / 128)
+step_of : (x q t e r p : ℕ) → x * q / 65536 ≡ t → t * q / 65536 ≡ e → e / 65536 ≤ 49152 → 98304 - 2 * (e / 65536) ≡ r → t * r / 65536 ≡ p → IsMultiplyInstruction x q t (e / 65536) r p (p / 128)
 step_of x q t e r p f g h i j = record {
   product_low = omega arith;
   product_high = omega arith;

@@ -7,13 +7,13 @@ use Rattle.rsp_numbers.specs.Numbers.{s16, s32, s48, floor_div}
 use Rattle.rsp_numbers.proofs.Signed.{s32_small, s32_large}
 use Rattle.rsp_numbers.proofs.Wrap.{s48_is}
 use Rattle.rsp_decode.specs.Table.Words.{inst_of, row_of}
-use Rattle.rsp_decode.specs.declared.vector.MultiplyRow.TheVariants.{Vmudl, Vmudn, Vmadm, Vmadn, Vmadh}
+use Rattle.rsp_decode.specs.declared.vector.VectorMultiplyOp.TheVariants.{Vmudl, Vmudn, Vmadm, Vmadn, Vmadh}
 use Rattle.rsp_divide.specs.Quotients.{inverse_root_of}
 use Rattle.rsp_lanes.specs.Lanes.{each_lane, selected, IsVector}
 use Rattle.rsp_lanes.proofs.Kit.{lane_of}
 use Rattle.rsp_multiply.specs.Laws.{SumsOfProducts}
-use Rattle.rsp_multiply.specs.Rows.{unsigned_over_65536, signed_by_unsigned, unsigned_by_signed}
-use Rattle.rsp_scalar.specs.Flow.{going_on}
+use Rattle.rsp_multiply.specs.MultiplyRules.{unsigned_over_65536, signed_by_unsigned, unsigned_by_signed}
+use Rattle.rsp_scalar.specs.Flow.{address_after}
 use Rattle.rsp_loadstore.specs.File.{vector}
 use Rattle.rsp_machine.specs.State.{State, IsState}
 use Rattle.rsp_machine.specs.Laws.{steps_of}
@@ -108,7 +108,7 @@ part_in_range (pos n) h k = ap limited (s48_is (pos (n / 128)) (pos (n / 128)) 0
 part_in_range (negsuc n) h k = ap limited (s48_is (negsuc (n / 128)) (negsuc (n / 128)) 0 0 refl (omega (arith, ints)) (omega (arith, ints))) ∙ omega (arith, ints, clamps)
 
 -- the five sums, from the state that the divide instructions left
-from_inverse : SumsOfProducts → (u : State) → IsState u → u.npc ≡ going_on u.pc → vector u.vectors 0 ≡ each_lane (λ _. 0) → HasRootConstants (vector u.vectors 8)
+from_inverse : SumsOfProducts → (u : State) → IsState u → u.npc ≡ address_after u.pc → vector u.vectors 0 ≡ each_lane (λ _. 0) → HasRootConstants (vector u.vectors 8)
     → (t : State) → t ≡ after_pieces all_sums u
     → let x = fixed (vector u.vectors 1) (vector u.vectors 2) 0 in let q = fixed (vector u.vectors 3) (vector u.vectors 4) 0 in
     (half : ℕ) → fixed_product (fixed_product x q) q ≡ pos half → fixed (vector t.vectors 11) (vector t.vectors 12) 0 ≡ improved_root x q
@@ -180,7 +180,7 @@ takes_root law s is at zero const =
     let same : fixed (vector u.vectors 1) (vector u.vectors 2) 0 ≡ x = ap (λ a. fixed a (vector u.vectors 2) 0) u1 ∙ ap (λ b. fixed (vector s.vectors 1) b 0) u2 in
     let range = fixed_range (vector s.vectors 1) (vector s.vectors 2) 0 (is.vectors.registers 1 (omega arith)) (is.vectors.registers 2 (omega arith)) in
     let from = λ (half : ℕ) (f : fixed_product (fixed_product x (inverse_root_of x)) (inverse_root_of x) ≡ pos half).
-    from_inverse law u run.1 (places.1 ∙ ap going_on (sym places.0)) (kept 0 refl ∙ zero) (subst HasRootConstants (sym (kept 8 refl)) const) (steps_of 24 s) end.ran half (rw (same, inverse) f)
+    from_inverse law u run.1 (places.1 ∙ ap address_after (sym places.0)) (kept 0 refl ∙ zero) (subst HasRootConstants (sym (kept 8 refl)) const) (steps_of 24 s) end.ran half (rw (same, inverse) f)
     ∙ ap (λ y. improved_root y (fixed (vector u.vectors 3) (vector u.vectors 4) 0)) same ∙ ap (improved_root x) inverse in
     let of = λ (n : ℕ) (f : x ≡ pos n). rooted_near n (omega (arith, ints)) in
     let result = λ (n : ℕ) (f : x ≡ pos n). from (of n f).half (subst (λ (y : ℤ). fixed_product (fixed_product y (inverse_root_of y)) (inverse_root_of y) ≡ pos (of n f).half) (sym f) (of n f).half_is) in

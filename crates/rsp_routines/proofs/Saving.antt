@@ -5,21 +5,21 @@ use Rattle.std.proofs.lemmas.Bool.{cases_lt}
 use Rattle.std.proofs.lemmas.Bool.Decides.{nat_tests}
 use Rattle.std.proofs.lemmas.List.{length-take, get_or-take}
 use Rattle.rsp_memory.specs.Memory.{byte_at, bytes_at, with_bytes}
-use Rattle.rsp_decode.specs.declared.vector.VectorLoadRow.TheVariants.{Lqv}
-use Rattle.rsp_decode.specs.declared.vector.VectorStoreRow.TheVariants.{Sqv}
+use Rattle.rsp_decode.specs.declared.vector.VectorLoadOp.TheVariants.{Lqv}
+use Rattle.rsp_decode.specs.declared.vector.VectorStoreOp.TheVariants.{Sqv}
 use Rattle.rsp_lanes.specs.Lanes.{register_byte, IsVector}
 use Rattle.rsp_lanes.specs.Bytes.{each_byte, with_register_bytes}
 use Rattle.rsp_lanes.proofs.ByteOrder.{byte_of}
 use Rattle.rsp_scalar.specs.Registers.{register}
-use Rattle.rsp_scalar.specs.Flow.{going_on}
+use Rattle.rsp_scalar.specs.Flow.{address_after}
 use Rattle.rsp_loadstore.specs.File.{IsFile, vector, with_vector}
-use Rattle.rsp_loadstore.specs.Addresses.{transfer_address}
-use Rattle.rsp_loadstore.specs.Loads.{after_load, load_pairs, loaded_file}
-use Rattle.rsp_loadstore.specs.Stores.{after_store, store_pairs, stored_memory}
-use Rattle.rsp_loadstore.proofs.Placed.{placed_loaded, window_byte}
+use Rattle.rsp_loadstore.specs.Addresses.{vector_address}
+use Rattle.rsp_loadstore.specs.Loads.{after_load, load_pairs, file_after_load}
+use Rattle.rsp_loadstore.specs.Stores.{after_store, store_pairs, memory_after_store}
+use Rattle.rsp_loadstore.proofs.BytesLoaded.{placed_loaded, window_byte}
 use Rattle.rsp_loadstore.proofs.AtOnce.{run_stored}
 use Rattle.rsp_machine.specs.State.{State}
-use Rattle.rsp_machine.specs.Step.{executed, worked}
+use Rattle.rsp_machine.specs.Step.{executed, instruction_effect}
 use Rattle.rsp_machine.specs.Vector.{loads_vector, stores_vector}
 use Rattle.rsp_microcode.specs.Lanes.{lqv, sqv, HasBytes, IsOutside}
 use Rattle.rsp_microcode.specs.Buffers.{IsFilled}
@@ -38,12 +38,12 @@ saved v m a = with_register_bytes v (bytes_at m a 16) 0 (reach a)
 abbrev pub restored : List ℕ → ℕ → List ℕ → List ℕ
 restored m a v = with_bytes m a (take (reach a) (each_byte (λ k. register_byte v ((0 + k) % 16))))
 
-load_address : (vt base value : ℕ) → value < 2 ^ 32 → transfer_address (lqv vt 0 base) value ≡ value
-unfolding transfer_address
+load_address : (vt base value : ℕ) → value < 2 ^ 32 → vector_address (lqv vt 0 base) value ≡ value
+unfolding vector_address
 load_address vt base value h = omega arith
 
-store_address : (vt base value : ℕ) → value < 2 ^ 32 → transfer_address (sqv vt 0 base) value ≡ value
-unfolding transfer_address
+store_address : (vt base value : ℕ) → value < 2 ^ 32 → vector_address (sqv vt 0 base) value ≡ value
+unfolding vector_address
 store_address vt base value h = omega arith
 
 load_is : (m : List ℕ) (file : List (List ℕ)) (vt a : ℕ) → vt < length file → length (vector file vt) ≡ 8
@@ -56,21 +56,21 @@ unfolding store_pairs
 store_is m file vt a = sym (run_stored file m vt 0 (reach a) a (omega arith))
 
 pub saves : (vt base : ℕ) (s : State) → IsFile s.vectors → vt < 32 → register s.registers base < 2 ^ 32
-    → executed (lqv vt 0 base) s ≡ record s { pc = s.npc; npc = going_on s.npc; vectors = with_vector s.vectors vt (saved (vector s.vectors vt) s.dmem (register s.registers base)) }
-unfolding executed worked loads_vector loaded_file
+    → executed (lqv vt 0 base) s ≡ record s { pc = s.npc; npc = address_after s.npc; vectors = with_vector s.vectors vt (saved (vector s.vectors vt) s.dmem (register s.registers base)) }
+unfolding executed instruction_effect loads_vector file_after_load
 saves vt base s is h small =
     let b = register s.registers base in
-    ap (λ v. let t : State = record s { pc = s.npc; npc = going_on s.npc; vectors = v } in t) (
+    ap (λ v. let t : State = record s { pc = s.npc; npc = address_after s.npc; vectors = v } in t) (
     ap (λ a. after_load s.dmem s.vectors (load_pairs Lqv vt 0 a)) (load_address vt base b small)
     ∙ load_is s.dmem s.vectors vt b (omega (arith, is.count)) (is.registers vt h).0
     )
 
 pub restores : (vt base : ℕ) (s : State) → register s.registers base < 2 ^ 32
-    → executed (sqv vt 0 base) s ≡ record s { pc = s.npc; npc = going_on s.npc; dmem = restored s.dmem (register s.registers base) (vector s.vectors vt) }
-unfolding executed worked stores_vector stored_memory
+    → executed (sqv vt 0 base) s ≡ record s { pc = s.npc; npc = address_after s.npc; dmem = restored s.dmem (register s.registers base) (vector s.vectors vt) }
+unfolding executed instruction_effect stores_vector memory_after_store
 restores vt base s small =
     let b = register s.registers base in
-    ap (λ m. let t : State = record s { pc = s.npc; npc = going_on s.npc; dmem = m } in t) (
+    ap (λ m. let t : State = record s { pc = s.npc; npc = address_after s.npc; dmem = m } in t) (
     ap (λ a. after_store s.vectors s.dmem (store_pairs Sqv vt 0 a)) (store_address vt base b small)
     ∙ store_is s.dmem s.vectors vt b
     )

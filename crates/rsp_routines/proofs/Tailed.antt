@@ -6,7 +6,7 @@ use Rattle.rsp_numbers.specs.Numbers.{s32}
 use Rattle.rsp_numbers.proofs.Signed.{s32_small, s32_large}
 use Rattle.rsp_decode.specs.declared.inst.Inst.{Inst}
 use Rattle.rsp_decode.specs.declared.inst.Inst.TheVariants.{Register}
-use Rattle.rsp_decode.specs.declared.scalar.RegisterRow.TheVariants.{Addu}
+use Rattle.rsp_decode.specs.declared.scalar.RegisterOp.TheVariants.{Addu}
 use Rattle.rsp_decode.specs.Table.Words.{inst_of, row_of}
 use Rattle.rsp_memory.specs.Memory.{byte_at, half_at}
 use Rattle.rsp_lanes.specs.Lanes.{register_byte}
@@ -14,7 +14,7 @@ use Rattle.rsp_multiply.specs.Laws.{SumsOfProducts}
 use Rattle.rsp_scalar.specs.Registers.{register}
 use Rattle.rsp_loadstore.specs.File.{IsFile, vector}
 use Rattle.rsp_machine.specs.State.{State, IsState}
-use Rattle.rsp_machine.specs.Step.{executed, worked, computes}
+use Rattle.rsp_machine.specs.Step.{executed, instruction_effect, computes}
 use Rattle.rsp_machine.specs.Laws.{steps_of}
 use Rattle.rsp_microcode.specs.Runs.{IsAt}
 use Rattle.rsp_microcode.specs.Frames.{spare_scalar, spare_vector}
@@ -73,11 +73,11 @@ abbrev adding : State → State
 adding s = executed (Register Addu (record { rd = 5; rs = 3; rt = 4 })) s
 
 added : (s : State) → length s.registers ≡ 32 → register (adding s).registers 5 ≡ (register s.registers 3 + register s.registers 4) % 2 ^ 32
-unfolding executed worked computes
+unfolding executed instruction_effect computes
 added s n = ap (λ (r : List ℕ). register (adding (record s { registers = r })).registers 5) (listed s.registers n)
 
 same_parts : (s : State) → ((adding s).vectors ≡ s.vectors) × ((adding s).dmem ≡ s.dmem)
-unfolding executed worked computes
+unfolding executed instruction_effect computes
 same_parts s = (refl, refl)
 
 begun : SumsOfProducts → (s : State) → IsState s → IsAt before_words s → register s.registers 3 + register s.registers 4 < 2 ^ 32 → Begun s (steps_of 2 s)

@@ -7,8 +7,8 @@ use Rattle.rsp_memory.specs.Memory.{half_at, byte_at, bytes_at}
 use Rattle.rsp_lanes.specs.Lanes.{each_lane, register_byte}
 use Rattle.rsp_lanes.specs.Bytes.{of_bytes}
 use Rattle.rsp_lanes.proofs.Kit.{lane_of}
-use Rattle.rsp_loadstore.specs.Pairs.{line}
-use Rattle.rsp_loadstore.proofs.Placed.{window_byte}
+use Rattle.rsp_loadstore.specs.Pairs.{quadword_start}
+use Rattle.rsp_loadstore.proofs.BytesLoaded.{window_byte}
 use Rattle.rsp_routines.proofs.RightLoads.{ended_at}
 
 -- the tail of a buffer that ends at e
@@ -38,16 +38,16 @@ tail_lane m e h i q l k =
           rw (p, zero_part (2 * i) (omega arith), zero_part (2 * i + 1) (omega arith)) refl
       | inr ge ↦
           let p = le-leb (8 - h) i ge in
-          let a : line e + (2 * i - (16 - e % 16 + 0)) ≡ e - 2 * h + 2 * (i + h - 8) = omega arith in
-          let b : line e + (2 * i + 1 - (16 - e % 16 + 0)) ≡ e - 2 * h + 2 * (i + h - 8) + 1 = omega arith in
+          let a : quadword_start e + (2 * i - (16 - e % 16 + 0)) ≡ e - 2 * h + 2 * (i + h - 8) = omega arith in
+          let b : quadword_start e + (2 * i + 1 - (16 - e % 16 + 0)) ≡ e - 2 * h + 2 * (i + h - 8) + 1 = omega arith in
           rw (p, taken (2 * i) (omega arith) (omega arith), taken (2 * i + 1) (omega arith) (omega arith), a, b) refl
     ]
   where
     f : ℕ → ℕ
-    f k = if nat_le (16 - e % 16 + 0) k && nat_lt k (16 - e % 16 + 0 + (e % 16 - 0)) then get_or (bytes_at m (line e) 16) (k - (16 - e % 16 + 0)) 0 else register_byte zeros k
+    f k = if nat_le (16 - e % 16 + 0) k && nat_lt k (16 - e % 16 + 0 + (e % 16 - 0)) then get_or (bytes_at m (quadword_start e) 16) (k - (16 - e % 16 + 0)) 0 else register_byte zeros k
 
     zero_part : (k : ℕ) → k < 16 - e % 16 → f k ≡ 0
     zero_part k h = let z = zero_byte k (omega arith) in grind (arith, nat_tests)
 
-    taken : (k : ℕ) → 16 - e % 16 ≤ k → k < 16 → f k ≡ byte_at m (line e + (k - (16 - e % 16 + 0)))
-    taken k h l = let w = window_byte m (line e) 16 (k - (16 - e % 16 + 0)) (omega arith) in grind (arith, nat_tests)
+    taken : (k : ℕ) → 16 - e % 16 ≤ k → k < 16 → f k ≡ byte_at m (quadword_start e + (k - (16 - e % 16 + 0)))
+    taken k h l = let w = window_byte m (quadword_start e) 16 (k - (16 - e % 16 + 0)) (omega arith) in grind (arith, nat_tests)

@@ -2,7 +2,7 @@
 use Rattle.std.proofs.Common.{◌≡◌, ℕ, ◌+◌, ◌-◌, ◌*◌, ◌%◌, ◌<◌, ℤ, pos, ◌+ℤ◌, ◌*ℤ◌, List, [], ◌∷◌, length, get_or, map, Some, refl, ap, ◌∙◌, arith}
 use Rattle.std.proofs.Math.IntN.{+ℤ_idl}
 use Rattle.rsp_numbers.specs.Numbers.{s16, s48}
-use Rattle.rsp_decode.specs.declared.vector.MultiplyRow.TheVariants.{Vmudn, Vmadn, Vmadh}
+use Rattle.rsp_decode.specs.declared.vector.VectorMultiplyOp.TheVariants.{Vmudn, Vmadn, Vmadh}
 use Rattle.rsp_decode.specs.Table.Words.{inst_of, row_of}
 use Rattle.rsp_memory.specs.Memory.{byte_at}
 use Rattle.rsp_lanes.proofs.Kit.{length_each}

@@ -3,23 +3,23 @@
 use Rattle.std.specs.Prelude.{ℕ, ◌+◌, ◌%◌, if◌then◌else◌, List}
 use Rattle.rsp_decode.specs.declared.inst.Inst.{Inst}
 use Rattle.rsp_decode.specs.declared.inst.Inst.TheVariants.{JumpLinkRegister, BranchSign, Jump}
-use Rattle.rsp_decode.specs.declared.scalar.SignRow.TheVariants.{Bltzal, Bgezal}
-use Rattle.rsp_decode.specs.declared.scalar.JumpRow.TheVariants.{Jal}
+use Rattle.rsp_decode.specs.declared.scalar.BranchSignOp.TheVariants.{Bltzal, Bgezal}
+use Rattle.rsp_decode.specs.declared.scalar.JumpOp.TheVariants.{Jal}
 use Rattle.rsp_scalar.specs.Registers.{with_register}
-use Rattle.rsp_scalar.specs.Rows.{is_taken, target_of}
+use Rattle.rsp_scalar.specs.ScalarRules.{is_taken, target_of}
 
 -- the address after npc
-abbrev pub going_on : ℕ → ℕ
-going_on npc = (npc + 4) % 4096
+abbrev pub address_after : ℕ → ℕ
+address_after npc = (npc + 4) % 4096
 
 -- the next npc: the target of a taken branch or a jump, else the address after npc
-abbrev pub following : Inst → List ℕ → ℕ → ℕ
-following i r npc = if is_taken i r then target_of i r npc else going_on npc
+abbrev pub next_npc : Inst → List ℕ → ℕ → ℕ
+next_npc i r npc = if is_taken i r then target_of i r npc else address_after npc
 
 -- the registers after the link: the address after npc goes to rd or to register 31, even if the branch isn't taken
-abbrev pub linked : Inst → List ℕ → ℕ → List ℕ
-linked (JumpLinkRegister rd rs) r npc = with_register r rd (going_on npc)
-linked (BranchSign Bltzal rs offset) r npc = with_register r 31 (going_on npc)
-linked (BranchSign Bgezal rs offset) r npc = with_register r 31 (going_on npc)
-linked (Jump Jal target) r npc = with_register r 31 (going_on npc)
-linked _ r npc = r
+abbrev pub with_link : Inst → List ℕ → ℕ → List ℕ
+with_link (JumpLinkRegister rd rs) r npc = with_register r rd (address_after npc)
+with_link (BranchSign Bltzal rs offset) r npc = with_register r 31 (address_after npc)
+with_link (BranchSign Bgezal rs offset) r npc = with_register r 31 (address_after npc)
+with_link (Jump Jal target) r npc = with_register r 31 (address_after npc)
+with_link _ r npc = r

@@ -1,4 +1,4 @@
 -- The scalar instructions.
 pub mod Registers
-pub mod Rows
+pub mod ScalarRules
 pub mod Flow

@@ -1,9 +1,9 @@
 ghost use Rattle.std.specs.Prelude.{◌≡◌, ◌<◌};
 ghost use Rattle.rsp_decode.specs.Table.{IsInstruction};
-ghost use Rattle.rsp_scalar.specs.Rows.{shift_result, shift_by_result, shifted_signed, register_result, immediate_result, computed};
+ghost use Rattle.rsp_scalar.specs.ScalarRules.{shift_result, shift_by_result, shifted_signed, register_result, immediate_result, after_alu};
 
 use crate::Regs;
-use rsp_decode::{ImmediateRow, Inst, RegisterRow, ShiftByRow, ShiftRow};
+use rsp_decode::{ImmediateOp, Inst, RegisterOp, ShiftOp, ShiftVariableOp};
 use rsp_numbers::sign_extend;
 
 /// A shift to the right that repeats the sign bit.
@@ -17,58 +17,58 @@ fn shifted_signed(t: u32, amount: u32) -> u32
 
 /// A shift by a constant.
 #[inline(always)]
-fn shift(row: ShiftRow, t: u32, amount: u8) -> u32
+fn shift(row: ShiftOp, t: u32, amount: u8) -> u32
     requires { amount < 32 }
     ensures { result ≡ shift_result row t amount }
 {
     match row {
-        ShiftRow::Sll => t << amount,
-        ShiftRow::Srl => t >> amount,
-        ShiftRow::Sra => shifted_signed(t, u32::from(amount)),
+        ShiftOp::Sll => t << amount,
+        ShiftOp::Srl => t >> amount,
+        ShiftOp::Sra => shifted_signed(t, u32::from(amount)),
     }
 }
 
 /// A shift by the low five bits of a register.
 #[inline(always)]
-fn shift_by(row: ShiftByRow, t: u32, s: u32) -> u32
+fn shift_by(row: ShiftVariableOp, t: u32, s: u32) -> u32
     ensures { result ≡ shift_by_result row t s }
 {
     match row {
-        ShiftByRow::Sllv => t << (s % 32),
-        ShiftByRow::Srlv => t >> (s % 32),
-        ShiftByRow::Srav => shifted_signed(t, s % 32),
+        ShiftVariableOp::Sllv => t << (s % 32),
+        ShiftVariableOp::Srlv => t >> (s % 32),
+        ShiftVariableOp::Srav => shifted_signed(t, s % 32),
     }
 }
 
 /// An instruction on two registers.
 #[inline(always)]
-fn register(row: RegisterRow, s: u32, t: u32) -> u32
+fn register(row: RegisterOp, s: u32, t: u32) -> u32
     ensures { result ≡ register_result row s t }
 {
     match row {
-        RegisterRow::Add | RegisterRow::Addu => s.wrapping_add(t),
-        RegisterRow::Sub | RegisterRow::Subu => s.wrapping_sub(t),
-        RegisterRow::And => s & t,
-        RegisterRow::Or => s | t,
-        RegisterRow::Xor => s ^ t,
-        RegisterRow::Nor => !(s | t),
-        RegisterRow::Slt => u32::from(s.cast_signed() < t.cast_signed()),
-        RegisterRow::Sltu => u32::from(s < t),
+        RegisterOp::Add | RegisterOp::Addu => s.wrapping_add(t),
+        RegisterOp::Sub | RegisterOp::Subu => s.wrapping_sub(t),
+        RegisterOp::And => s & t,
+        RegisterOp::Or => s | t,
+        RegisterOp::Xor => s ^ t,
+        RegisterOp::Nor => !(s | t),
+        RegisterOp::Slt => u32::from(s.cast_signed() < t.cast_signed()),
+        RegisterOp::Sltu => u32::from(s < t),
     }
 }
 
 /// An instruction on a register and an immediate of sixteen bits.
 #[inline(always)]
-fn immediate(row: ImmediateRow, s: u32, imm: u16) -> u32
+fn immediate(row: ImmediateOp, s: u32, imm: u16) -> u32
     ensures { result ≡ immediate_result row s imm }
 {
     match row {
-        ImmediateRow::Addi | ImmediateRow::Addiu => s.wrapping_add(sign_extend(imm)),
-        ImmediateRow::Slti => u32::from(s.cast_signed() < imm.cast_signed() as i32),
-        ImmediateRow::Sltiu => u32::from(s < sign_extend(imm)),
-        ImmediateRow::Andi => s & imm as u32,
-        ImmediateRow::Ori => s | imm as u32,
-        ImmediateRow::Xori => s ^ imm as u32,
+        ImmediateOp::Addi | ImmediateOp::Addiu => s.wrapping_add(sign_extend(imm)),
+        ImmediateOp::Slti => u32::from(s.cast_signed() < imm.cast_signed() as i32),
+        ImmediateOp::Sltiu => u32::from(s < sign_extend(imm)),
+        ImmediateOp::Andi => s & imm as u32,
+        ImmediateOp::Ori => s | imm as u32,
+        ImmediateOp::Xori => s ^ imm as u32,
     }
 }
 
@@ -77,7 +77,7 @@ fn immediate(row: ImmediateRow, s: u32, imm: u16) -> u32
 #[inline(always)]
 pub fn alu(inst: &Inst, regs: &mut Regs)
     requires { IsInstruction inst.now }
-    ensures { regs.new ≡ computed inst.now regs.old }
+    ensures { regs.new ≡ after_alu inst.now regs.old }
 {
     match *inst {
         Inst::Shift {

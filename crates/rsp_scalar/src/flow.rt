@@ -1,32 +1,32 @@
 ghost use Rattle.std.specs.Prelude.{◌≡◌, ◌<◌, ◌%◌};
 ghost use Rattle.rsp_decode.specs.Table.{IsInstruction};
-ghost use Rattle.rsp_scalar.specs.Rows.{is_taken, sign_test, equal_test, target_of, branch_target};
-ghost use Rattle.rsp_scalar.specs.Flow.{going_on, following, linked};
+ghost use Rattle.rsp_scalar.specs.ScalarRules.{is_taken, sign_test, equal_test, target_of, branch_target};
+ghost use Rattle.rsp_scalar.specs.Flow.{address_after, next_npc, with_link};
 
 use crate::Regs;
-use rsp_decode::{EqualRow, Inst, JumpRow, SignRow};
+use rsp_decode::{BranchEqualOp, BranchSignOp, Inst, JumpOp};
 
 /// The test of a branch on one register.
 #[inline(always)]
-fn sign_holds(row: SignRow, s: i32) -> bool
+fn sign_holds(row: BranchSignOp, s: i32) -> bool
     ensures { result ≡ sign_test row s }
 {
     match row {
-        SignRow::Bltz | SignRow::Bltzal => s < 0,
-        SignRow::Bgez | SignRow::Bgezal => s >= 0,
-        SignRow::Blez => s <= 0,
-        SignRow::Bgtz => s > 0,
+        BranchSignOp::Bltz | BranchSignOp::Bltzal => s < 0,
+        BranchSignOp::Bgez | BranchSignOp::Bgezal => s >= 0,
+        BranchSignOp::Blez => s <= 0,
+        BranchSignOp::Bgtz => s > 0,
     }
 }
 
 /// The test of a branch on two registers.
 #[inline(always)]
-fn equal_holds(row: EqualRow, s: u32, t: u32) -> bool
+fn equal_holds(row: BranchEqualOp, s: u32, t: u32) -> bool
     ensures { result ≡ equal_test row s t }
 {
     match row {
-        EqualRow::Beq => s == t,
-        EqualRow::Bne => s != t,
+        BranchEqualOp::Beq => s == t,
+        BranchEqualOp::Bne => s != t,
     }
 }
 
@@ -46,8 +46,8 @@ pub fn taken(inst: &Inst, regs: &Regs) -> bool
 
 /// The address after `npc`, modulo 4096.
 #[inline(always)]
-fn going_on(npc: u16) -> u16
-    ensures value { result ≡ going_on npc }
+fn address_after(npc: u16) -> u16
+    ensures value { result ≡ address_after npc }
     ensures place { result < 4096 }
     ensures whole { npc % 4 ≡ 0 → result % 4 ≡ 0 }
 {
@@ -83,22 +83,22 @@ pub fn target(inst: &Inst, regs: &Regs, npc: u16) -> u16
             branch_target(npc, offset)
         }
         Inst::Jump { target, .. } => (target as u32 * 4 % 4096) as u16,
-        _ => going_on(npc),
+        _ => address_after(npc),
     }
 }
 
 /// The next `npc`: the target of a taken branch or a jump, else the address after `npc`.
 #[inline(always)]
-fn following(inst: &Inst, regs: &Regs, npc: u16) -> u16
+fn next_npc(inst: &Inst, regs: &Regs, npc: u16) -> u16
     requires { IsInstruction inst.now }
-    ensures value { result ≡ following inst.now regs.now npc }
+    ensures value { result ≡ next_npc inst.now regs.now npc }
     ensures place { result < 4096 }
     ensures whole { npc % 4 ≡ 0 → result % 4 ≡ 0 }
 {
     if taken(inst, regs) {
         target(inst, regs, npc)
     } else {
-        going_on(npc)
+        address_after(npc)
     }
 }
 
@@ -106,18 +106,18 @@ fn following(inst: &Inst, regs: &Regs, npc: u16) -> u16
 #[inline(always)]
 fn link(inst: &Inst, regs: &mut Regs, npc: u16)
     requires { IsInstruction inst.now }
-    ensures { regs.new ≡ linked inst.now regs.old npc }
+    ensures { regs.new ≡ with_link inst.now regs.old npc }
 {
     match *inst {
-        Inst::JumpLinkRegister { rd, .. } => regs.set(rd, u32::from(going_on(npc))),
+        Inst::JumpLinkRegister { rd, .. } => regs.set(rd, u32::from(address_after(npc))),
         Inst::BranchSign {
-            row: SignRow::Bltzal | SignRow::Bgezal,
+            row: BranchSignOp::Bltzal | BranchSignOp::Bgezal,
             ..
         }
         | Inst::Jump {
-            row: JumpRow::Jal,
+            row: JumpOp::Jal,
             ..
-        } => regs.set(31, u32::from(going_on(npc))),
+        } => regs.set(31, u32::from(address_after(npc))),
         _ => {}
     }
 }
@@ -129,12 +129,12 @@ fn link(inst: &Inst, regs: &mut Regs, npc: u16)
 #[inline(always)]
 pub fn jump(inst: &Inst, regs: &mut Regs, npc: u16) -> u16
     requires { IsInstruction inst.now }
-    ensures next { result ≡ following inst.now regs.old npc }
+    ensures next { result ≡ next_npc inst.now regs.old npc }
     ensures place { result < 4096 }
     ensures whole { npc % 4 ≡ 0 → result % 4 ≡ 0 }
-    ensures registers { regs.new ≡ linked inst.now regs.old npc }
+    ensures registers { regs.new ≡ with_link inst.now regs.old npc }
 {
-    let next = following(inst, regs, npc);
+    let next = next_npc(inst, regs, npc);
     link(inst, regs, npc);
     next
 }

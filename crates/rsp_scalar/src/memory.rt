@@ -1,9 +1,9 @@
 ghost use Rattle.std.specs.Prelude.{◌≡◌, ◌<◌};
 ghost use Rattle.rsp_decode.specs.Table.{IsInstruction};
-ghost use Rattle.rsp_scalar.specs.Rows.{address, load_result, store_result, scalar_loaded, scalar_stored};
+ghost use Rattle.rsp_scalar.specs.ScalarRules.{address, load_result, store_result, after_scalar_load, after_scalar_store};
 
 use crate::Regs;
-use rsp_decode::{Inst, LoadRow, StoreRow};
+use rsp_decode::{Inst, LoadOp, StoreOp};
 use rsp_memory::SpMem;
 use rsp_numbers::sign_extend;
 
@@ -18,27 +18,27 @@ pub fn address(regs: &Regs, base: u8, offset: u16) -> u32
 
 /// What a load reads at address `a`.
 #[inline(always)]
-fn loaded(row: LoadRow, memory: &SpMem, a: u32) -> u32
+fn loaded(row: LoadOp, memory: &SpMem, a: u32) -> u32
     ensures { result ≡ load_result row memory.now a }
 {
     match row {
-        LoadRow::Lb => (memory.byte(a).cast_signed() as i32).cast_unsigned(),
-        LoadRow::Lh => sign_extend(memory.half(a)),
-        LoadRow::Lw | LoadRow::Lwu => memory.word(a),
-        LoadRow::Lbu => u32::from(memory.byte(a)),
-        LoadRow::Lhu => u32::from(memory.half(a)),
+        LoadOp::Lb => (memory.byte(a).cast_signed() as i32).cast_unsigned(),
+        LoadOp::Lh => sign_extend(memory.half(a)),
+        LoadOp::Lw | LoadOp::Lwu => memory.word(a),
+        LoadOp::Lbu => u32::from(memory.byte(a)),
+        LoadOp::Lhu => u32::from(memory.half(a)),
     }
 }
 
 /// Writes the low 1, 2 or 4 bytes of `t` at address `a`.
 #[inline(always)]
-fn write(row: StoreRow, memory: &mut SpMem, a: u32, t: u32)
+fn write(row: StoreOp, memory: &mut SpMem, a: u32, t: u32)
     ensures { memory.new ≡ store_result row memory.old a t }
 {
     match row {
-        StoreRow::Sb => memory.set_byte(a, (t % 256) as u8),
-        StoreRow::Sh => memory.set_half(a, (t % 65536) as u16),
-        StoreRow::Sw => memory.set_word(a, t),
+        StoreOp::Sb => memory.set_byte(a, (t % 256) as u8),
+        StoreOp::Sh => memory.set_half(a, (t % 65536) as u16),
+        StoreOp::Sw => memory.set_word(a, t),
     }
 }
 
@@ -47,7 +47,7 @@ fn write(row: StoreRow, memory: &mut SpMem, a: u32, t: u32)
 #[inline(always)]
 pub fn load(inst: &Inst, regs: &mut Regs, memory: &SpMem)
     requires { IsInstruction inst.now }
-    ensures { regs.new ≡ scalar_loaded inst.now regs.old memory.now }
+    ensures { regs.new ≡ after_scalar_load inst.now regs.old memory.now }
 {
     if let Inst::Load { row, fields } = *inst {
         let a = address(regs, fields.base, fields.offset);
@@ -60,7 +60,7 @@ pub fn load(inst: &Inst, regs: &mut Regs, memory: &SpMem)
 #[inline(always)]
 pub fn store(inst: &Inst, regs: &Regs, memory: &mut SpMem)
     requires { IsInstruction inst.now }
-    ensures { memory.new ≡ scalar_stored inst.now regs.now memory.old }
+    ensures { memory.new ≡ after_scalar_store inst.now regs.now memory.old }
 {
     if let Inst::Store { row, fields } = *inst {
         let a = address(regs, fields.base, fields.offset);

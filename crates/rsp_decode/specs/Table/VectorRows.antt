@@ -1,32 +1,32 @@
 -- The rows of the vector unit: above each, the text of the first of its group.
 use Rattle.std.specs.Prelude.{ℕ, ◌==◌, List, [], ◌∷◌, ◌++◌, map, codes, if◌then◌else◌}
 use Rattle.rsp_decode.specs.declared.inst.Inst.TheVariants.{MoveVector, MoveControl, Multiply, Round, MpegMultiply, ReadAccumulator, VectorAdd, VectorSelect, VectorClip, VectorMerge, VectorLogic, Divide, Idle, VectorLoad, VectorStore}
-use Rattle.rsp_decode.specs.declared.scalar.MoveRow.{MoveRow}
-use Rattle.rsp_decode.specs.declared.scalar.MoveRow.TheVariants.{From, To}
+use Rattle.rsp_decode.specs.declared.scalar.MoveOp.{MoveOp}
+use Rattle.rsp_decode.specs.declared.scalar.MoveOp.TheVariants.{From, To}
 use Rattle.rsp_decode.specs.declared.vector.Control.{Control}
 use Rattle.rsp_decode.specs.declared.vector.Control.TheVariants.{Vco, Vcc, Vce}
-use Rattle.rsp_decode.specs.declared.vector.MultiplyRow.{MultiplyRow}
-use Rattle.rsp_decode.specs.declared.vector.MultiplyRow.TheVariants.{Vmulf, Vmulu, Vmudl, Vmudm, Vmudn, Vmudh, Vmacf, Vmacu, Vmadl, Vmadm, Vmadn, Vmadh}
-use Rattle.rsp_decode.specs.declared.vector.RoundRow.{RoundRow}
-use Rattle.rsp_decode.specs.declared.vector.RoundRow.TheVariants.{Vrndp, Vrndn}
-use Rattle.rsp_decode.specs.declared.vector.MpegRow.{MpegRow}
-use Rattle.rsp_decode.specs.declared.vector.MpegRow.TheVariants.{Vmulq, Vmacq}
-use Rattle.rsp_decode.specs.declared.vector.VectorAddRow.{VectorAddRow}
-use Rattle.rsp_decode.specs.declared.vector.VectorAddRow.TheVariants.{Vadd, Vsub, Vabs, Vaddc, Vsubc}
-use Rattle.rsp_decode.specs.declared.vector.VectorSelectRow.{VectorSelectRow}
-use Rattle.rsp_decode.specs.declared.vector.VectorSelectRow.TheVariants.{Vlt, Veq, Vne, Vge}
-use Rattle.rsp_decode.specs.declared.vector.VectorClipRow.{VectorClipRow}
-use Rattle.rsp_decode.specs.declared.vector.VectorClipRow.TheVariants.{Vcl, Vch, Vcr}
-use Rattle.rsp_decode.specs.declared.vector.VectorLogicRow.{VectorLogicRow}
-use Rattle.rsp_decode.specs.declared.vector.VectorLogicRow.TheVariants.{Vand, Vnand, Vor, Vnor, Vxor, Vnxor}
-use Rattle.rsp_decode.specs.declared.vector.DivideRow.{DivideRow}
-use Rattle.rsp_decode.specs.declared.vector.DivideRow.TheVariants.{Vrcp, Vrcpl, Vrcph, Vmov, Vrsq, Vrsql, Vrsqh}
-use Rattle.rsp_decode.specs.declared.vector.IdleRow.{IdleRow}
-use Rattle.rsp_decode.specs.declared.vector.IdleRow.TheVariants.{Vnop, Vnull}
-use Rattle.rsp_decode.specs.declared.vector.VectorLoadRow.{VectorLoadRow}
-use Rattle.rsp_decode.specs.declared.vector.VectorLoadRow.TheVariants.{Lbv, Lsv, Llv, Ldv, Lqv, Lrv, Lpv, Luv, Lhv, Lfv, Ltv}
-use Rattle.rsp_decode.specs.declared.vector.VectorStoreRow.{VectorStoreRow}
-use Rattle.rsp_decode.specs.declared.vector.VectorStoreRow.TheVariants.{Sbv, Ssv, Slv, Sdv, Sqv, Srv, Spv, Suv, Shv, Sfv, Swv, Stv}
+use Rattle.rsp_decode.specs.declared.vector.VectorMultiplyOp.{VectorMultiplyOp}
+use Rattle.rsp_decode.specs.declared.vector.VectorMultiplyOp.TheVariants.{Vmulf, Vmulu, Vmudl, Vmudm, Vmudn, Vmudh, Vmacf, Vmacu, Vmadl, Vmadm, Vmadn, Vmadh}
+use Rattle.rsp_decode.specs.declared.vector.VectorRoundOp.{VectorRoundOp}
+use Rattle.rsp_decode.specs.declared.vector.VectorRoundOp.TheVariants.{Vrndp, Vrndn}
+use Rattle.rsp_decode.specs.declared.vector.VectorMpegOp.{VectorMpegOp}
+use Rattle.rsp_decode.specs.declared.vector.VectorMpegOp.TheVariants.{Vmulq, Vmacq}
+use Rattle.rsp_decode.specs.declared.vector.VectorAddOp.{VectorAddOp}
+use Rattle.rsp_decode.specs.declared.vector.VectorAddOp.TheVariants.{Vadd, Vsub, Vabs, Vaddc, Vsubc}
+use Rattle.rsp_decode.specs.declared.vector.VectorSelectOp.{VectorSelectOp}
+use Rattle.rsp_decode.specs.declared.vector.VectorSelectOp.TheVariants.{Vlt, Veq, Vne, Vge}
+use Rattle.rsp_decode.specs.declared.vector.VectorClipOp.{VectorClipOp}
+use Rattle.rsp_decode.specs.declared.vector.VectorClipOp.TheVariants.{Vcl, Vch, Vcr}
+use Rattle.rsp_decode.specs.declared.vector.VectorLogicOp.{VectorLogicOp}
+use Rattle.rsp_decode.specs.declared.vector.VectorLogicOp.TheVariants.{Vand, Vnand, Vor, Vnor, Vxor, Vnxor}
+use Rattle.rsp_decode.specs.declared.vector.VectorDivideOp.{VectorDivideOp}
+use Rattle.rsp_decode.specs.declared.vector.VectorDivideOp.TheVariants.{Vrcp, Vrcpl, Vrcph, Vmov, Vrsq, Vrsql, Vrsqh}
+use Rattle.rsp_decode.specs.declared.vector.VectorNopOp.{VectorNopOp}
+use Rattle.rsp_decode.specs.declared.vector.VectorNopOp.TheVariants.{Vnop, Vnull}
+use Rattle.rsp_decode.specs.declared.vector.VectorLoadOp.{VectorLoadOp}
+use Rattle.rsp_decode.specs.declared.vector.VectorLoadOp.TheVariants.{Lbv, Lsv, Llv, Ldv, Lqv, Lrv, Lpv, Luv, Lhv, Lfv, Ltv}
+use Rattle.rsp_decode.specs.declared.vector.VectorStoreOp.{VectorStoreOp}
+use Rattle.rsp_decode.specs.declared.vector.VectorStoreOp.TheVariants.{Sbv, Ssv, Slv, Sdv, Sqv, Srv, Spv, Suv, Shv, Sfv, Swv, Stv}
 use Rattle.rsp_decode.specs.Table.Operands.{Operand, scalar, control_register, vector_byte, all_bytes, half_bytes, vector_element, vector_lane, vector_memory, vector_operands}
 use Rattle.rsp_decode.specs.Table.Rows.{Row, row, Selector, cop2, computing, lwc2, lwc2_half, swc2, swc2_half, none, two, three, four, of_vectors, of_vector_memory}
 
@@ -41,25 +41,25 @@ control_number Vcc = 1
 control_number Vce = 2
 
 -- what selects the moves from and to vector registers
-abbrev pub move_vector_selector : MoveRow → Selector
+abbrev pub move_vector_selector : MoveOp → Selector
 move_vector_selector From = cop2 0 (codes "mfc2")
 move_vector_selector To = cop2 4 (codes "mtc2")
 
 -- mfc2 $t, $vN[e]
-abbrev pub move_vector_row : MoveRow → Row
+abbrev pub move_vector_row : MoveOp → Row
 move_vector_row r = row (move_vector_selector r) (scalar 16 ∷ vector_byte 11 all_bytes ∷ []) (three (MoveVector r))
 
 -- what selects the moves from and to the control registers
-abbrev pub move_control_selector : MoveRow → Selector
+abbrev pub move_control_selector : MoveOp → Selector
 move_control_selector From = cop2 2 (codes "cfc2")
 move_control_selector To = cop2 6 (codes "ctc2")
 
 -- cfc2 $t, $vco
-abbrev pub move_control_row : MoveRow → Row
+abbrev pub move_control_row : MoveOp → Row
 move_control_row r = row (move_control_selector r) (scalar 16 ∷ control_register ∷ []) (two (λ rt c. MoveControl r rt (control_of c)))
 
 -- what selects the multiplies
-abbrev pub multiply_selector : MultiplyRow → Selector
+abbrev pub multiply_selector : VectorMultiplyOp → Selector
 multiply_selector Vmulf = computing 0x00 (codes "vmulf")
 multiply_selector Vmulu = computing 0x01 (codes "vmulu")
 multiply_selector Vmudl = computing 0x04 (codes "vmudl")
@@ -74,25 +74,25 @@ multiply_selector Vmadn = computing 0x0e (codes "vmadn")
 multiply_selector Vmadh = computing 0x0f (codes "vmadh")
 
 -- vmulf $vD, $vS, $vT[e]
-abbrev pub multiply_row : MultiplyRow → Row
+abbrev pub multiply_row : VectorMultiplyOp → Row
 multiply_row r = row (multiply_selector r) vector_operands (of_vectors (Multiply r))
 
 -- what selects the roundings of the accumulator
-abbrev pub round_selector : RoundRow → Selector
+abbrev pub round_selector : VectorRoundOp → Selector
 round_selector Vrndp = computing 0x02 (codes "vrndp")
 round_selector Vrndn = computing 0x0a (codes "vrndn")
 
 -- vrndp $vD, $vS, $vT[e]
-abbrev pub round_row : RoundRow → Row
+abbrev pub round_row : VectorRoundOp → Row
 round_row r = row (round_selector r) vector_operands (of_vectors (Round r))
 
 -- what selects the multiplies for MPEG coefficients
-abbrev pub mpeg_selector : MpegRow → Selector
+abbrev pub mpeg_selector : VectorMpegOp → Selector
 mpeg_selector Vmulq = computing 0x03 (codes "vmulq")
 mpeg_selector Vmacq = computing 0x0b (codes "vmacq")
 
 -- vmulq $vD, $vS, $vT[e]
-abbrev pub mpeg_row : MpegRow → Row
+abbrev pub mpeg_row : VectorMpegOp → Row
 mpeg_row r = row (mpeg_selector r) vector_operands (of_vectors (MpegMultiply r))
 
 -- vsar $vD, $vS, $vT[e]
@@ -100,7 +100,7 @@ abbrev pub read_accumulator_row : Row
 read_accumulator_row = row (computing 0x1d (codes "vsar")) vector_operands (of_vectors ReadAccumulator)
 
 -- what selects the sums and differences of vectors
-abbrev pub vector_add_selector : VectorAddRow → Selector
+abbrev pub vector_add_selector : VectorAddOp → Selector
 vector_add_selector Vadd = computing 0x10 (codes "vadd")
 vector_add_selector Vsub = computing 0x11 (codes "vsub")
 vector_add_selector Vabs = computing 0x13 (codes "vabs")
@@ -108,28 +108,28 @@ vector_add_selector Vaddc = computing 0x14 (codes "vaddc")
 vector_add_selector Vsubc = computing 0x15 (codes "vsubc")
 
 -- vadd $vD, $vS, $vT[e]
-abbrev pub vector_add_row : VectorAddRow → Row
+abbrev pub vector_add_row : VectorAddOp → Row
 vector_add_row r = row (vector_add_selector r) vector_operands (of_vectors (VectorAdd r))
 
 -- what selects the comparisons that select
-abbrev pub vector_select_selector : VectorSelectRow → Selector
+abbrev pub vector_select_selector : VectorSelectOp → Selector
 vector_select_selector Vlt = computing 0x20 (codes "vlt")
 vector_select_selector Veq = computing 0x21 (codes "veq")
 vector_select_selector Vne = computing 0x22 (codes "vne")
 vector_select_selector Vge = computing 0x23 (codes "vge")
 
 -- vlt $vD, $vS, $vT[e]
-abbrev pub vector_select_row : VectorSelectRow → Row
+abbrev pub vector_select_row : VectorSelectOp → Row
 vector_select_row r = row (vector_select_selector r) vector_operands (of_vectors (VectorSelect r))
 
 -- what selects the clips
-abbrev pub vector_clip_selector : VectorClipRow → Selector
+abbrev pub vector_clip_selector : VectorClipOp → Selector
 vector_clip_selector Vcl = computing 0x24 (codes "vcl")
 vector_clip_selector Vch = computing 0x25 (codes "vch")
 vector_clip_selector Vcr = computing 0x26 (codes "vcr")
 
 -- vcl $vD, $vS, $vT[e]
-abbrev pub vector_clip_row : VectorClipRow → Row
+abbrev pub vector_clip_row : VectorClipOp → Row
 vector_clip_row r = row (vector_clip_selector r) vector_operands (of_vectors (VectorClip r))
 
 -- vmrg $vD, $vS, $vT[e]
@@ -137,7 +137,7 @@ abbrev pub vector_merge_row : Row
 vector_merge_row = row (computing 0x27 (codes "vmrg")) vector_operands (of_vectors VectorMerge)
 
 -- what selects the logic of vectors
-abbrev pub vector_logic_selector : VectorLogicRow → Selector
+abbrev pub vector_logic_selector : VectorLogicOp → Selector
 vector_logic_selector Vand = computing 0x28 (codes "vand")
 vector_logic_selector Vnand = computing 0x29 (codes "vnand")
 vector_logic_selector Vor = computing 0x2a (codes "vor")
@@ -146,11 +146,11 @@ vector_logic_selector Vxor = computing 0x2c (codes "vxor")
 vector_logic_selector Vnxor = computing 0x2d (codes "vnxor")
 
 -- vand $vD, $vS, $vT[e]
-abbrev pub vector_logic_row : VectorLogicRow → Row
+abbrev pub vector_logic_row : VectorLogicOp → Row
 vector_logic_row r = row (vector_logic_selector r) vector_operands (of_vectors (VectorLogic r))
 
 -- what selects the divide instructions, which write one lane
-abbrev pub divide_selector : DivideRow → Selector
+abbrev pub divide_selector : VectorDivideOp → Selector
 divide_selector Vrcp = computing 0x30 (codes "vrcp")
 divide_selector Vrcpl = computing 0x31 (codes "vrcpl")
 divide_selector Vrcph = computing 0x32 (codes "vrcph")
@@ -160,20 +160,20 @@ divide_selector Vrsql = computing 0x35 (codes "vrsql")
 divide_selector Vrsqh = computing 0x36 (codes "vrsqh")
 
 -- vrcp $vD[lane], $vT[e]
-abbrev pub divide_row : DivideRow → Row
+abbrev pub divide_row : VectorDivideOp → Row
 divide_row r = row (divide_selector r) (vector_lane ∷ vector_element ∷ []) (four (Divide r))
 
 -- what selects the instructions that change nothing
-abbrev pub idle_selector : IdleRow → Selector
+abbrev pub idle_selector : VectorNopOp → Selector
 idle_selector Vnop = computing 0x37 (codes "vnop")
 idle_selector Vnull = computing 0x3f (codes "vnull")
 
 -- vnop
-abbrev pub idle_row : IdleRow → Row
+abbrev pub idle_row : VectorNopOp → Row
 idle_row r = row (idle_selector r) [] (none (Idle r))
 
 -- what selects the vector loads
-abbrev pub vector_load_selector : VectorLoadRow → Selector
+abbrev pub vector_load_selector : VectorLoadOp → Selector
 vector_load_selector Lbv = lwc2 0 (codes "lbv")
 vector_load_selector Lsv = lwc2 1 (codes "lsv")
 vector_load_selector Llv = lwc2 2 (codes "llv")
@@ -187,7 +187,7 @@ vector_load_selector Lfv = lwc2_half 9 (codes "lfv")
 vector_load_selector Ltv = lwc2 11 (codes "ltv")
 
 -- what the offset in the word is multiplied by
-abbrev pub vector_load_scale : VectorLoadRow → ℕ
+abbrev pub vector_load_scale : VectorLoadOp → ℕ
 vector_load_scale Lbv = 1
 vector_load_scale Lsv = 2
 vector_load_scale Llv = 4
@@ -201,16 +201,16 @@ vector_load_scale Lfv = 16
 vector_load_scale Ltv = 16
 
 -- the register, and the byte of it at which the transfer begins
-abbrev pub vector_load_operand : VectorLoadRow → Operand
+abbrev pub vector_load_operand : VectorLoadOp → Operand
 vector_load_operand Lfv = vector_byte 16 half_bytes
 vector_load_operand _ = vector_byte 16 all_bytes
 
 -- lqv $vT[e], offset($base)
-abbrev pub vector_load_row : VectorLoadRow → Row
+abbrev pub vector_load_row : VectorLoadOp → Row
 vector_load_row r = row (vector_load_selector r) (vector_load_operand r ∷ vector_memory (vector_load_scale r) ∷ []) (of_vector_memory (VectorLoad r))
 
 -- what selects the vector stores
-abbrev pub vector_store_selector : VectorStoreRow → Selector
+abbrev pub vector_store_selector : VectorStoreOp → Selector
 vector_store_selector Sbv = swc2 0 (codes "sbv")
 vector_store_selector Ssv = swc2 1 (codes "ssv")
 vector_store_selector Slv = swc2 2 (codes "slv")
@@ -225,7 +225,7 @@ vector_store_selector Swv = swc2 10 (codes "swv")
 vector_store_selector Stv = swc2 11 (codes "stv")
 
 -- what the offset in the word is multiplied by
-abbrev pub vector_store_scale : VectorStoreRow → ℕ
+abbrev pub vector_store_scale : VectorStoreOp → ℕ
 vector_store_scale Sbv = 1
 vector_store_scale Ssv = 2
 vector_store_scale Slv = 4
@@ -240,56 +240,56 @@ vector_store_scale Swv = 16
 vector_store_scale Stv = 16
 
 -- the register, and the byte of it at which the transfer begins
-abbrev pub vector_store_operand : VectorStoreRow → Operand
+abbrev pub vector_store_operand : VectorStoreOp → Operand
 vector_store_operand Sfv = vector_byte 16 half_bytes
 vector_store_operand _ = vector_byte 16 all_bytes
 
 -- sqv $vT[e], offset($base)
-abbrev pub vector_store_row : VectorStoreRow → Row
+abbrev pub vector_store_row : VectorStoreOp → Row
 vector_store_row r = row (vector_store_selector r) (vector_store_operand r ∷ vector_memory (vector_store_scale r) ∷ []) (of_vector_memory (VectorStore r))
 
 -- the rows of a group
-abbrev pub multiplies : List MultiplyRow
+abbrev pub multiplies : List VectorMultiplyOp
 multiplies = Vmulf ∷ Vmulu ∷ Vmudl ∷ Vmudm ∷ Vmudn ∷ Vmudh ∷ Vmacf ∷ Vmacu ∷ Vmadl ∷ Vmadm ∷ Vmadn ∷ Vmadh ∷ []
 
 -- the rows of a group
-abbrev pub rounds : List RoundRow
+abbrev pub rounds : List VectorRoundOp
 rounds = Vrndp ∷ Vrndn ∷ []
 
 -- the rows of a group
-abbrev pub mpegs : List MpegRow
+abbrev pub mpegs : List VectorMpegOp
 mpegs = Vmulq ∷ Vmacq ∷ []
 
 -- the rows of a group
-abbrev pub vector_adds : List VectorAddRow
+abbrev pub vector_adds : List VectorAddOp
 vector_adds = Vadd ∷ Vsub ∷ Vabs ∷ Vaddc ∷ Vsubc ∷ []
 
 -- the rows of a group
-abbrev pub vector_selects : List VectorSelectRow
+abbrev pub vector_selects : List VectorSelectOp
 vector_selects = Vlt ∷ Veq ∷ Vne ∷ Vge ∷ []
 
 -- the rows of a group
-abbrev pub vector_clips : List VectorClipRow
+abbrev pub vector_clips : List VectorClipOp
 vector_clips = Vcl ∷ Vch ∷ Vcr ∷ []
 
 -- the rows of a group
-abbrev pub vector_logics : List VectorLogicRow
+abbrev pub vector_logics : List VectorLogicOp
 vector_logics = Vand ∷ Vnand ∷ Vor ∷ Vnor ∷ Vxor ∷ Vnxor ∷ []
 
 -- the rows of a group
-abbrev pub divides : List DivideRow
+abbrev pub divides : List VectorDivideOp
 divides = Vrcp ∷ Vrcpl ∷ Vrcph ∷ Vmov ∷ Vrsq ∷ Vrsql ∷ Vrsqh ∷ []
 
 -- the rows of a group
-abbrev pub idles : List IdleRow
+abbrev pub idles : List VectorNopOp
 idles = Vnop ∷ Vnull ∷ []
 
 -- the rows of a group
-abbrev pub vector_loads : List VectorLoadRow
+abbrev pub vector_loads : List VectorLoadOp
 vector_loads = Lbv ∷ Lsv ∷ Llv ∷ Ldv ∷ Lqv ∷ Lrv ∷ Lpv ∷ Luv ∷ Lhv ∷ Lfv ∷ Ltv ∷ []
 
 -- the rows of a group
-abbrev pub vector_stores : List VectorStoreRow
+abbrev pub vector_stores : List VectorStoreOp
 vector_stores = Sbv ∷ Ssv ∷ Slv ∷ Sdv ∷ Sqv ∷ Srv ∷ Spv ∷ Suv ∷ Shv ∷ Sfv ∷ Swv ∷ Stv ∷ []
 
 -- rows of opcode 18 without bit 25, by rs

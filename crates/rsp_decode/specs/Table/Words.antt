@@ -29,41 +29,41 @@ unfoldable pub canonical_of : ℕ → Option ℕ
 canonical_of w = option_map (λ (r : Row). word_from r (fields r w)) (row_of w)
 
 -- the row of an instruction, and its fields in the order of the row's text
-abbrev pub parts : Inst → Row × List ℕ
-parts (Shift r rd rt amount) = (shift_row r, rd ∷ rt ∷ amount ∷ [])
-parts (ShiftBy r fields) = (shift_by_row r, shift_by_values fields)
-parts (JumpRegister rs) = (jump_register_row, rs ∷ [])
-parts (JumpLinkRegister rd rs) = (jump_link_register_row, rd ∷ rs ∷ [])
-parts Break = (break_row, [])
-parts (Register r fields) = (register_row r, register_values fields)
-parts (BranchSign r rs offset) = (branch_sign_row r, rs ∷ offset ∷ [])
-parts (Jump r target) = (jump_row r, target ∷ [])
-parts (BranchEqual r rs rt offset) = (branch_equal_row r, rs ∷ rt ∷ offset ∷ [])
-parts (Immediate r rt rs imm) = (immediate_row r, rt ∷ rs ∷ imm ∷ [])
-parts (LoadUpper rt imm) = (load_upper_row, rt ∷ imm ∷ [])
-parts (Load r fields) = (load_row r, scalar_memory_values fields)
-parts (Store r fields) = (store_row r, scalar_memory_values fields)
-parts (MoveSp r rt register) = (move_sp_row r, rt ∷ register ∷ [])
-parts (MoveVector r rt vector' element) = (move_vector_row r, rt ∷ vector' ∷ element ∷ [])
-parts (MoveControl r rt control) = (move_control_row r, rt ∷ control_number control ∷ [])
-parts (Multiply r fields) = (multiply_row r, vector_values fields)
-parts (Round r fields) = (round_row r, vector_values fields)
-parts (MpegMultiply r fields) = (mpeg_row r, vector_values fields)
-parts (ReadAccumulator fields) = (read_accumulator_row, vector_values fields)
-parts (VectorAdd r fields) = (vector_add_row r, vector_values fields)
-parts (VectorSelect r fields) = (vector_select_row r, vector_values fields)
-parts (VectorClip r fields) = (vector_clip_row r, vector_values fields)
-parts (VectorMerge fields) = (vector_merge_row, vector_values fields)
-parts (VectorLogic r fields) = (vector_logic_row r, vector_values fields)
-parts (Divide r vd lane vt element) = (divide_row r, vd ∷ lane ∷ vt ∷ element ∷ [])
-parts (Idle r) = (idle_row r, [])
-parts (VectorLoad r fields) = (vector_load_row r, vector_memory_values fields)
-parts (VectorStore r fields) = (vector_store_row r, vector_memory_values fields)
+abbrev pub row_and_values : Inst → Row × List ℕ
+row_and_values (Shift r rd rt amount) = (shift_row r, rd ∷ rt ∷ amount ∷ [])
+row_and_values (ShiftBy r fields) = (shift_by_row r, shift_by_values fields)
+row_and_values (JumpRegister rs) = (jump_register_row, rs ∷ [])
+row_and_values (JumpLinkRegister rd rs) = (jump_link_register_row, rd ∷ rs ∷ [])
+row_and_values Break = (break_row, [])
+row_and_values (Register r fields) = (register_row r, register_values fields)
+row_and_values (BranchSign r rs offset) = (branch_sign_row r, rs ∷ offset ∷ [])
+row_and_values (Jump r target) = (jump_row r, target ∷ [])
+row_and_values (BranchEqual r rs rt offset) = (branch_equal_row r, rs ∷ rt ∷ offset ∷ [])
+row_and_values (Immediate r rt rs imm) = (immediate_row r, rt ∷ rs ∷ imm ∷ [])
+row_and_values (LoadUpper rt imm) = (load_upper_row, rt ∷ imm ∷ [])
+row_and_values (Load r fields) = (load_row r, scalar_memory_values fields)
+row_and_values (Store r fields) = (store_row r, scalar_memory_values fields)
+row_and_values (MoveSp r rt register) = (move_sp_row r, rt ∷ register ∷ [])
+row_and_values (MoveVector r rt vector' element) = (move_vector_row r, rt ∷ vector' ∷ element ∷ [])
+row_and_values (MoveControl r rt control) = (move_control_row r, rt ∷ control_number control ∷ [])
+row_and_values (Multiply r fields) = (multiply_row r, vector_values fields)
+row_and_values (Round r fields) = (round_row r, vector_values fields)
+row_and_values (MpegMultiply r fields) = (mpeg_row r, vector_values fields)
+row_and_values (ReadAccumulator fields) = (read_accumulator_row, vector_values fields)
+row_and_values (VectorAdd r fields) = (vector_add_row r, vector_values fields)
+row_and_values (VectorSelect r fields) = (vector_select_row r, vector_values fields)
+row_and_values (VectorClip r fields) = (vector_clip_row r, vector_values fields)
+row_and_values (VectorMerge fields) = (vector_merge_row, vector_values fields)
+row_and_values (VectorLogic r fields) = (vector_logic_row r, vector_values fields)
+row_and_values (Divide r vd lane vt element) = (divide_row r, vd ∷ lane ∷ vt ∷ element ∷ [])
+row_and_values (Idle r) = (idle_row r, [])
+row_and_values (VectorLoad r fields) = (vector_load_row r, vector_memory_values fields)
+row_and_values (VectorStore r fields) = (vector_store_row r, vector_memory_values fields)
 
 -- the instruction of some word
 abbrev pub IsInstruction : Inst → Type 0
-IsInstruction i = FitBitFields (row_bit_fields (parts i).0) (parts i).1
+IsInstruction i = FitBitFields (row_bit_fields (row_and_values i).0) (row_and_values i).1
 
 -- its canonical word
 abbrev pub word_of : Inst → ℕ
-word_of i = word_from (parts i).0 (parts i).1
+word_of i = word_from (row_and_values i).0 (row_and_values i).1

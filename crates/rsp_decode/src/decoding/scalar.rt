@@ -3,7 +3,7 @@
 
 ghost use Rattle.std.specs.Prelude.{◌≡◌, ◌*◌, ◌+◌, ◌^◌};
 ghost use Rattle.rsp_decode.specs.declared.inst.Inst.{Inst};
-ghost use Rattle.rsp_decode.specs.Visit.{is_known, visited};
+ghost use Rattle.rsp_decode.specs.Visit.{is_instruction, after_visit};
 ghost use Rattle.rsp_decode.specs.Table.{value_at, whole, pick, meaning_of, special_rows, regimm_rows, opcode_rows, cop0_rows, shift_row, shift_by_row, jump_register_row, jump_link_register_row, register_row, break_row, branch_sign_row, branch_equal_row, jump_row, load_upper_row, load_row, store_row, move_sp_row};
 
 use crate::bit_fields::{
@@ -13,13 +13,13 @@ use crate::bit_fields::{
 use crate::inst::Inst;
 use crate::rows::{arms, instruction_table};
 use crate::scalar::{
-    EqualRow, ImmediateRow, JumpRow, LoadRow, MoveRow, RegisterRow, ShiftByRow, ShiftRow, SignRow,
-    StoreRow,
+    BranchEqualOp, BranchSignOp, ImmediateOp, JumpOp, LoadOp, MoveOp, RegisterOp, ShiftOp,
+    ShiftVariableOp, StoreOp,
 };
 use crate::visitor::Visitor;
 
 #[inline]
-fn shift<V: Visitor>(word: u32, row: ShiftRow, visitor: &mut V)
+fn shift<V: Visitor>(word: u32, row: ShiftOp, visitor: &mut V)
     ensures { visitor.new ≡ V.after (meaning_of (shift_row row) word) visitor.old }
 {
     visitor.take(Inst::Shift {
@@ -31,7 +31,7 @@ fn shift<V: Visitor>(word: u32, row: ShiftRow, visitor: &mut V)
 }
 
 #[inline]
-fn shift_by<V: Visitor>(word: u32, row: ShiftByRow, visitor: &mut V)
+fn shift_by<V: Visitor>(word: u32, row: ShiftVariableOp, visitor: &mut V)
     ensures { visitor.new ≡ V.after (meaning_of (shift_by_row row) word) visitor.old }
 {
     visitor.take(Inst::ShiftBy {
@@ -58,7 +58,7 @@ fn jump_link_register<V: Visitor>(word: u32, visitor: &mut V)
 }
 
 #[inline]
-fn register<V: Visitor>(word: u32, row: RegisterRow, visitor: &mut V)
+fn register<V: Visitor>(word: u32, row: RegisterOp, visitor: &mut V)
     ensures { visitor.new ≡ V.after (meaning_of (register_row row) word) visitor.old }
 {
     visitor.take(Inst::Register {
@@ -76,14 +76,14 @@ fn break_instruction<V: Visitor>(word: u32, visitor: &mut V)
 
 #[inline(always)]
 pub fn visit_special<V: Visitor>(word: u32, visitor: &mut V) -> bool
-    ensures known { result ≡ is_known (pick special_rows (value_at word (whole 0 6)) word) }
-    ensures state { visitor.new ≡ visited V.after (pick special_rows (value_at word (whole 0 6)) word) visitor.old }
+    ensures known { result ≡ is_instruction (pick special_rows (value_at word (whole 0 6)) word) }
+    ensures state { visitor.new ≡ after_visit V.after (pick special_rows (value_at word (whole 0 6)) word) visitor.old }
 {
     instruction_table!(arms(special(function(word), word, visitor)))
 }
 
 #[inline]
-fn branch_sign<V: Visitor>(word: u32, row: SignRow, visitor: &mut V)
+fn branch_sign<V: Visitor>(word: u32, row: BranchSignOp, visitor: &mut V)
     ensures { visitor.new ≡ V.after (meaning_of (branch_sign_row row) word) visitor.old }
 {
     visitor.take(Inst::BranchSign {
@@ -95,14 +95,14 @@ fn branch_sign<V: Visitor>(word: u32, row: SignRow, visitor: &mut V)
 
 #[inline(always)]
 pub fn visit_regimm<V: Visitor>(word: u32, visitor: &mut V) -> bool
-    ensures known { result ≡ is_known (pick regimm_rows (2 ^ 26 + value_at word (whole 16 5) * 2 ^ 16) word) }
-    ensures state { visitor.new ≡ visited V.after (pick regimm_rows (2 ^ 26 + value_at word (whole 16 5) * 2 ^ 16) word) visitor.old }
+    ensures known { result ≡ is_instruction (pick regimm_rows (2 ^ 26 + value_at word (whole 16 5) * 2 ^ 16) word) }
+    ensures state { visitor.new ≡ after_visit V.after (pick regimm_rows (2 ^ 26 + value_at word (whole 16 5) * 2 ^ 16) word) visitor.old }
 {
     instruction_table!(arms(regimm(rt(word), word, visitor)))
 }
 
 #[inline]
-fn branch_equal<V: Visitor>(word: u32, row: EqualRow, visitor: &mut V)
+fn branch_equal<V: Visitor>(word: u32, row: BranchEqualOp, visitor: &mut V)
     ensures { visitor.new ≡ V.after (meaning_of (branch_equal_row row) word) visitor.old }
 {
     visitor.take(Inst::BranchEqual {
@@ -114,7 +114,7 @@ fn branch_equal<V: Visitor>(word: u32, row: EqualRow, visitor: &mut V)
 }
 
 #[inline]
-fn jump<V: Visitor>(word: u32, row: JumpRow, visitor: &mut V)
+fn jump<V: Visitor>(word: u32, row: JumpOp, visitor: &mut V)
     ensures { visitor.new ≡ V.after (meaning_of (jump_row row) word) visitor.old }
 {
     visitor.take(Inst::Jump {
@@ -124,7 +124,7 @@ fn jump<V: Visitor>(word: u32, row: JumpRow, visitor: &mut V)
 }
 
 #[inline]
-fn with_immediate<V: Visitor>(word: u32, row: ImmediateRow, visitor: &mut V)
+fn with_immediate<V: Visitor>(word: u32, row: ImmediateOp, visitor: &mut V)
     ensures { visitor.new ≡ V.after (Inst.Immediate row (value_at word (whole 16 5)) (value_at word (whole 21 5)) (value_at word (whole 0 16))) visitor.old }
 {
     visitor.take(Inst::Immediate {
@@ -146,7 +146,7 @@ fn load_upper<V: Visitor>(word: u32, visitor: &mut V)
 }
 
 #[inline]
-fn load<V: Visitor>(word: u32, row: LoadRow, visitor: &mut V)
+fn load<V: Visitor>(word: u32, row: LoadOp, visitor: &mut V)
     ensures { visitor.new ≡ V.after (meaning_of (load_row row) word) visitor.old }
 {
     visitor.take(Inst::Load {
@@ -156,7 +156,7 @@ fn load<V: Visitor>(word: u32, row: LoadRow, visitor: &mut V)
 }
 
 #[inline]
-fn store<V: Visitor>(word: u32, row: StoreRow, visitor: &mut V)
+fn store<V: Visitor>(word: u32, row: StoreOp, visitor: &mut V)
     ensures { visitor.new ≡ V.after (meaning_of (store_row row) word) visitor.old }
 {
     visitor.take(Inst::Store {
@@ -167,14 +167,14 @@ fn store<V: Visitor>(word: u32, row: StoreRow, visitor: &mut V)
 
 #[inline(always)]
 pub fn visit_opcode<V: Visitor>(word: u32, visitor: &mut V) -> bool
-    ensures known { result ≡ is_known (pick opcode_rows (value_at word (whole 26 6) * 2 ^ 26) word) }
-    ensures state { visitor.new ≡ visited V.after (pick opcode_rows (value_at word (whole 26 6) * 2 ^ 26) word) visitor.old }
+    ensures known { result ≡ is_instruction (pick opcode_rows (value_at word (whole 26 6) * 2 ^ 26) word) }
+    ensures state { visitor.new ≡ after_visit V.after (pick opcode_rows (value_at word (whole 26 6) * 2 ^ 26) word) visitor.old }
 {
     instruction_table!(arms(opcode(opcode(word), word, visitor)))
 }
 
 #[inline]
-fn move_sp<V: Visitor>(word: u32, row: MoveRow, visitor: &mut V)
+fn move_sp<V: Visitor>(word: u32, row: MoveOp, visitor: &mut V)
     ensures { visitor.new ≡ V.after (meaning_of (move_sp_row row) word) visitor.old }
 {
     visitor.take(Inst::MoveSp {
@@ -186,8 +186,8 @@ fn move_sp<V: Visitor>(word: u32, row: MoveRow, visitor: &mut V)
 
 #[inline(always)]
 pub fn visit_cop0<V: Visitor>(word: u32, visitor: &mut V) -> bool
-    ensures known { result ≡ is_known (pick cop0_rows (16 * 2 ^ 26 + value_at word (whole 21 5) * 2 ^ 21) word) }
-    ensures state { visitor.new ≡ visited V.after (pick cop0_rows (16 * 2 ^ 26 + value_at word (whole 21 5) * 2 ^ 21) word) visitor.old }
+    ensures known { result ≡ is_instruction (pick cop0_rows (16 * 2 ^ 26 + value_at word (whole 21 5) * 2 ^ 21) word) }
+    ensures state { visitor.new ≡ after_visit V.after (pick cop0_rows (16 * 2 ^ 26 + value_at word (whole 21 5) * 2 ^ 21) word) visitor.old }
 {
     instruction_table!(arms(cop0(rs(word), word, visitor)))
 }

@@ -3,7 +3,7 @@
 
 ghost use Rattle.std.specs.Prelude.{true, false, ◌≡◌, ◌↔◌, ◌*◌, ◌+◌, ◌^◌, ◌<◌, ◌≤◌, IsTrue};
 ghost use Rattle.rsp_decode.specs.declared.inst.Inst.{Inst};
-ghost use Rattle.rsp_decode.specs.Visit.{is_known, visited};
+ghost use Rattle.rsp_decode.specs.Visit.{is_instruction, after_visit};
 ghost use Rattle.rsp_decode.specs.Table.{IsInstruction, value_at, whole, pick, pick_by_operation, meaning_of, vector_memory_in, cop2_rows, computing_rows, lwc2_rows, swc2_rows, move_vector_row, move_control_row, multiply_row, round_row, mpeg_row, read_accumulator_row, vector_add_row, vector_select_row, vector_clip_row, vector_merge_row, vector_logic_row, divide_row, idle_row};
 
 use crate::bit_fields::{
@@ -12,15 +12,15 @@ use crate::bit_fields::{
 };
 use crate::inst::Inst;
 use crate::rows::{arms, instruction_table};
-use crate::scalar::MoveRow;
+use crate::scalar::MoveOp;
 use crate::vector::{
-    DivideRow, IdleRow, MpegRow, MultiplyRow, RoundRow, VectorAddRow, VectorClipRow, VectorLoadRow,
-    VectorLogicRow, VectorSelectRow, VectorStoreRow,
+    VectorAddOp, VectorClipOp, VectorDivideOp, VectorLoadOp, VectorLogicOp, VectorMpegOp,
+    VectorMultiplyOp, VectorNopOp, VectorRoundOp, VectorSelectOp, VectorStoreOp,
 };
 use crate::visitor::Visitor;
 
 #[inline]
-fn move_vector<V: Visitor>(word: u32, row: MoveRow, visitor: &mut V)
+fn move_vector<V: Visitor>(word: u32, row: MoveOp, visitor: &mut V)
     ensures { visitor.new ≡ V.after (meaning_of (move_vector_row row) word) visitor.old }
 {
     visitor.take(Inst::MoveVector {
@@ -32,7 +32,7 @@ fn move_vector<V: Visitor>(word: u32, row: MoveRow, visitor: &mut V)
 }
 
 #[inline]
-fn move_control<V: Visitor>(word: u32, row: MoveRow, visitor: &mut V)
+fn move_control<V: Visitor>(word: u32, row: MoveOp, visitor: &mut V)
     ensures { visitor.new ≡ V.after (meaning_of (move_control_row row) word) visitor.old }
 {
     visitor.take(Inst::MoveControl {
@@ -44,14 +44,14 @@ fn move_control<V: Visitor>(word: u32, row: MoveRow, visitor: &mut V)
 
 #[inline(always)]
 pub fn visit_cop2<V: Visitor>(word: u32, visitor: &mut V) -> bool
-    ensures known { result ≡ is_known (pick cop2_rows (18 * 2 ^ 26 + value_at word (whole 21 5) * 2 ^ 21) word) }
-    ensures state { visitor.new ≡ visited V.after (pick cop2_rows (18 * 2 ^ 26 + value_at word (whole 21 5) * 2 ^ 21) word) visitor.old }
+    ensures known { result ≡ is_instruction (pick cop2_rows (18 * 2 ^ 26 + value_at word (whole 21 5) * 2 ^ 21) word) }
+    ensures state { visitor.new ≡ after_visit V.after (pick cop2_rows (18 * 2 ^ 26 + value_at word (whole 21 5) * 2 ^ 21) word) visitor.old }
 {
     instruction_table!(arms(cop2(rs(word), word, visitor)))
 }
 
 #[inline]
-fn multiply<V: Visitor>(word: u32, row: MultiplyRow, visitor: &mut V)
+fn multiply<V: Visitor>(word: u32, row: VectorMultiplyOp, visitor: &mut V)
     ensures { visitor.new ≡ V.after (meaning_of (multiply_row row) word) visitor.old }
 {
     visitor.take(Inst::Multiply {
@@ -61,7 +61,7 @@ fn multiply<V: Visitor>(word: u32, row: MultiplyRow, visitor: &mut V)
 }
 
 #[inline]
-fn round<V: Visitor>(word: u32, row: RoundRow, visitor: &mut V)
+fn round<V: Visitor>(word: u32, row: VectorRoundOp, visitor: &mut V)
     ensures { visitor.new ≡ V.after (meaning_of (round_row row) word) visitor.old }
 {
     visitor.take(Inst::Round {
@@ -71,7 +71,7 @@ fn round<V: Visitor>(word: u32, row: RoundRow, visitor: &mut V)
 }
 
 #[inline]
-fn mpeg_multiply<V: Visitor>(word: u32, row: MpegRow, visitor: &mut V)
+fn mpeg_multiply<V: Visitor>(word: u32, row: VectorMpegOp, visitor: &mut V)
     ensures { visitor.new ≡ V.after (meaning_of (mpeg_row row) word) visitor.old }
 {
     visitor.take(Inst::MpegMultiply {
@@ -90,7 +90,7 @@ fn read_accumulator<V: Visitor>(word: u32, visitor: &mut V)
 }
 
 #[inline]
-fn vector_add<V: Visitor>(word: u32, row: VectorAddRow, visitor: &mut V)
+fn vector_add<V: Visitor>(word: u32, row: VectorAddOp, visitor: &mut V)
     ensures { visitor.new ≡ V.after (meaning_of (vector_add_row row) word) visitor.old }
 {
     visitor.take(Inst::VectorAdd {
@@ -100,7 +100,7 @@ fn vector_add<V: Visitor>(word: u32, row: VectorAddRow, visitor: &mut V)
 }
 
 #[inline]
-fn vector_select<V: Visitor>(word: u32, row: VectorSelectRow, visitor: &mut V)
+fn vector_select<V: Visitor>(word: u32, row: VectorSelectOp, visitor: &mut V)
     ensures { visitor.new ≡ V.after (meaning_of (vector_select_row row) word) visitor.old }
 {
     visitor.take(Inst::VectorSelect {
@@ -110,7 +110,7 @@ fn vector_select<V: Visitor>(word: u32, row: VectorSelectRow, visitor: &mut V)
 }
 
 #[inline]
-fn vector_clip<V: Visitor>(word: u32, row: VectorClipRow, visitor: &mut V)
+fn vector_clip<V: Visitor>(word: u32, row: VectorClipOp, visitor: &mut V)
     ensures { visitor.new ≡ V.after (meaning_of (vector_clip_row row) word) visitor.old }
 {
     visitor.take(Inst::VectorClip {
@@ -129,7 +129,7 @@ fn vector_merge<V: Visitor>(word: u32, visitor: &mut V)
 }
 
 #[inline]
-fn vector_logic<V: Visitor>(word: u32, row: VectorLogicRow, visitor: &mut V)
+fn vector_logic<V: Visitor>(word: u32, row: VectorLogicOp, visitor: &mut V)
     ensures { visitor.new ≡ V.after (meaning_of (vector_logic_row row) word) visitor.old }
 {
     visitor.take(Inst::VectorLogic {
@@ -139,7 +139,7 @@ fn vector_logic<V: Visitor>(word: u32, row: VectorLogicRow, visitor: &mut V)
 }
 
 #[inline]
-fn divide<V: Visitor>(word: u32, row: DivideRow, visitor: &mut V)
+fn divide<V: Visitor>(word: u32, row: VectorDivideOp, visitor: &mut V)
     ensures { visitor.new ≡ V.after (meaning_of (divide_row row) word) visitor.old }
 {
     visitor.take(Inst::Divide {
@@ -152,7 +152,7 @@ fn divide<V: Visitor>(word: u32, row: DivideRow, visitor: &mut V)
 }
 
 #[inline]
-fn idle<V: Visitor>(word: u32, row: IdleRow, visitor: &mut V)
+fn idle<V: Visitor>(word: u32, row: VectorNopOp, visitor: &mut V)
     ensures { visitor.new ≡ V.after (meaning_of (idle_row row) word) visitor.old }
 {
     visitor.take(Inst::Idle { row });
@@ -163,8 +163,8 @@ fn idle<V: Visitor>(word: u32, row: IdleRow, visitor: &mut V)
 #[inline]
 fn visit_products<V: Visitor>(word: u32, visitor: &mut V) -> bool
     ensures which { IsTrue result ↔ (value_at word (whole 0 6) < 16) }
-    ensures known { IsTrue result → is_known (pick computing_rows (18 * 2 ^ 26 + 2 ^ 25 + value_at word (whole 0 6)) word) ≡ true }
-    ensures state { IsTrue result → visitor.new ≡ visited V.after (pick computing_rows (18 * 2 ^ 26 + 2 ^ 25 + value_at word (whole 0 6)) word) visitor.old }
+    ensures known { IsTrue result → is_instruction (pick computing_rows (18 * 2 ^ 26 + 2 ^ 25 + value_at word (whole 0 6)) word) ≡ true }
+    ensures state { IsTrue result → visitor.new ≡ after_visit V.after (pick computing_rows (18 * 2 ^ 26 + 2 ^ 25 + value_at word (whole 0 6)) word) visitor.old }
     ensures others { result ≡ false → visitor.new ≡ visitor.old }
 {
     instruction_table!(arms(products(function(word), word, visitor)))
@@ -174,8 +174,8 @@ fn visit_products<V: Visitor>(word: u32, visitor: &mut V) -> bool
 #[inline]
 fn visit_others<V: Visitor>(word: u32, visitor: &mut V) -> bool
     requires { 16 ≤ value_at word (whole 0 6) }
-    ensures known { result ≡ is_known (pick computing_rows (18 * 2 ^ 26 + 2 ^ 25 + value_at word (whole 0 6)) word) }
-    ensures state { visitor.new ≡ visited V.after (pick computing_rows (18 * 2 ^ 26 + 2 ^ 25 + value_at word (whole 0 6)) word) visitor.old }
+    ensures known { result ≡ is_instruction (pick computing_rows (18 * 2 ^ 26 + 2 ^ 25 + value_at word (whole 0 6)) word) }
+    ensures state { visitor.new ≡ after_visit V.after (pick computing_rows (18 * 2 ^ 26 + 2 ^ 25 + value_at word (whole 0 6)) word) visitor.old }
 {
     instruction_table!(arms(others(function(word), word, visitor)))
 }
@@ -184,14 +184,14 @@ fn visit_others<V: Visitor>(word: u32, visitor: &mut V) -> bool
 /// their jumps become one: both match the same value, and no other test is between them.
 #[inline(always)]
 pub fn visit_computing<V: Visitor>(word: u32, visitor: &mut V) -> bool
-    ensures known { result ≡ is_known (pick computing_rows (18 * 2 ^ 26 + 2 ^ 25 + value_at word (whole 0 6)) word) }
-    ensures state { visitor.new ≡ visited V.after (pick computing_rows (18 * 2 ^ 26 + 2 ^ 25 + value_at word (whole 0 6)) word) visitor.old }
+    ensures known { result ≡ is_instruction (pick computing_rows (18 * 2 ^ 26 + 2 ^ 25 + value_at word (whole 0 6)) word) }
+    ensures state { visitor.new ≡ after_visit V.after (pick computing_rows (18 * 2 ^ 26 + 2 ^ 25 + value_at word (whole 0 6)) word) visitor.old }
 {
     visit_products(word, visitor) || visit_others(word, visitor)
 }
 
 #[inline]
-fn vector_load<V: Visitor>(word: u32, row: VectorLoadRow, visitor: &mut V)
+fn vector_load<V: Visitor>(word: u32, row: VectorLoadOp, visitor: &mut V)
     requires { IsInstruction (Inst.VectorLoad row (vector_memory_in word)) }
     ensures { visitor.new ≡ V.after (Inst.VectorLoad row (vector_memory_in word)) visitor.old }
 {
@@ -203,14 +203,14 @@ fn vector_load<V: Visitor>(word: u32, row: VectorLoadRow, visitor: &mut V)
 
 #[inline(always)]
 pub fn visit_lwc2<V: Visitor>(word: u32, visitor: &mut V) -> bool
-    ensures known { result ≡ is_known (pick_by_operation lwc2_rows 50 word) }
-    ensures state { visitor.new ≡ visited V.after (pick_by_operation lwc2_rows 50 word) visitor.old }
+    ensures known { result ≡ is_instruction (pick_by_operation lwc2_rows 50 word) }
+    ensures state { visitor.new ≡ after_visit V.after (pick_by_operation lwc2_rows 50 word) visitor.old }
 {
     instruction_table!(arms(lwc2(operation(word), word, visitor)))
 }
 
 #[inline]
-fn vector_store<V: Visitor>(word: u32, row: VectorStoreRow, visitor: &mut V)
+fn vector_store<V: Visitor>(word: u32, row: VectorStoreOp, visitor: &mut V)
     requires { IsInstruction (Inst.VectorStore row (vector_memory_in word)) }
     ensures { visitor.new ≡ V.after (Inst.VectorStore row (vector_memory_in word)) visitor.old }
 {
@@ -222,8 +222,8 @@ fn vector_store<V: Visitor>(word: u32, row: VectorStoreRow, visitor: &mut V)
 
 #[inline(always)]
 pub fn visit_swc2<V: Visitor>(word: u32, visitor: &mut V) -> bool
-    ensures known { result ≡ is_known (pick_by_operation swc2_rows 58 word) }
-    ensures state { visitor.new ≡ visited V.after (pick_by_operation swc2_rows 58 word) visitor.old }
+    ensures known { result ≡ is_instruction (pick_by_operation swc2_rows 58 word) }
+    ensures state { visitor.new ≡ after_visit V.after (pick_by_operation swc2_rows 58 word) visitor.old }
 {
     instruction_table!(arms(swc2(operation(word), word, visitor)))
 }

@@ -4,8 +4,8 @@ ghost use Rattle.std.specs.Prelude.{◌≡◌};
 ghost use Rattle.rsp_decode.specs.Table.{shift_selector, shift_by_selector, register_selector, branch_sign_selector, jump_selector, branch_equal_selector, immediate_selector, load_selector, store_selector, move_sp_selector};
 
 use crate::scalar::{
-    EqualRow, ImmediateRow, JumpRow, LoadRow, MoveRow, RegisterRow, ShiftByRow, ShiftRow, SignRow,
-    StoreRow,
+    BranchEqualOp, BranchSignOp, ImmediateOp, JumpOp, LoadOp, MoveOp, RegisterOp, ShiftOp,
+    ShiftVariableOp, StoreOp,
 };
 
 pub const JUMP_REGISTER: u32 = 8;
@@ -21,77 +21,77 @@ const REGIMM: u32 = 1 << 26;
 const COP0: u32 = 16 << 26;
 
 #[inline]
-pub fn shift_value(row: ShiftRow) -> u32
+pub fn shift_value(row: ShiftOp) -> u32
     ensures { result ≡ (shift_selector row).value }
 {
     row as u32
 }
 
 #[inline]
-pub fn shift_by_value(row: ShiftByRow) -> u32
+pub fn shift_by_value(row: ShiftVariableOp) -> u32
     ensures { result ≡ (shift_by_selector row).value }
 {
     row as u32
 }
 
 #[inline]
-pub fn register_value(row: RegisterRow) -> u32
+pub fn register_value(row: RegisterOp) -> u32
     ensures { result ≡ (register_selector row).value }
 {
     row as u32
 }
 
 #[inline]
-pub fn branch_sign_value(row: SignRow) -> u32
+pub fn branch_sign_value(row: BranchSignOp) -> u32
     ensures { result ≡ (branch_sign_selector row).value }
 {
     match row {
-        SignRow::Bltz => REGIMM,
-        SignRow::Bgez => REGIMM | 1 << 16,
-        SignRow::Bltzal => REGIMM | 16 << 16,
-        SignRow::Bgezal => REGIMM | 17 << 16,
-        SignRow::Blez => 6 << 26,
-        SignRow::Bgtz => 7 << 26,
+        BranchSignOp::Bltz => REGIMM,
+        BranchSignOp::Bgez => REGIMM | 1 << 16,
+        BranchSignOp::Bltzal => REGIMM | 16 << 16,
+        BranchSignOp::Bgezal => REGIMM | 17 << 16,
+        BranchSignOp::Blez => 6 << 26,
+        BranchSignOp::Bgtz => 7 << 26,
     }
 }
 
 #[inline]
-pub fn jump_value(row: JumpRow) -> u32
+pub fn jump_value(row: JumpOp) -> u32
     ensures { result ≡ (jump_selector row).value }
 {
     (row as u32) << 26
 }
 
 #[inline]
-pub fn branch_equal_value(row: EqualRow) -> u32
+pub fn branch_equal_value(row: BranchEqualOp) -> u32
     ensures { result ≡ (branch_equal_selector row).value }
 {
     (row as u32) << 26
 }
 
 #[inline]
-pub fn immediate_value(row: ImmediateRow) -> u32
+pub fn immediate_value(row: ImmediateOp) -> u32
     ensures { result ≡ (immediate_selector row).value }
 {
     (row as u32) << 26
 }
 
 #[inline]
-pub fn load_value(row: LoadRow) -> u32
+pub fn load_value(row: LoadOp) -> u32
     ensures { result ≡ (load_selector row).value }
 {
     (row as u32) << 26
 }
 
 #[inline]
-pub fn store_value(row: StoreRow) -> u32
+pub fn store_value(row: StoreOp) -> u32
     ensures { result ≡ (store_selector row).value }
 {
     (row as u32) << 26
 }
 
 #[inline]
-pub fn move_sp_value(row: MoveRow) -> u32
+pub fn move_sp_value(row: MoveOp) -> u32
     ensures { result ≡ (move_sp_selector row).value }
 {
     COP0 | (row as u32) << 21

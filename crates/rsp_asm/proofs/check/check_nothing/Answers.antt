@@ -1,5 +1,5 @@
 use Rattle.std.proofs.Common.{◌∙◌, sym}
-use Rattle.rsp_text.specs.Statement.{operand_texts}
+use Rattle.rsp_syntax.specs.Statement.{operand_texts}
 use Rattle.rsp_asm.proofs.Texts.{some_texts}
 use Rattle.rsp_asm.proofs.Statements.{nothing_unread}
 use Rattle.rsp_asm.proofs.check.check_nothing.Goals as goal

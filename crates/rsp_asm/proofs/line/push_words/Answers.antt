@@ -1,6 +1,6 @@
 use Rattle.std.proofs.Common.{◌∙◌, sym, ap, arith, ◌+◌, length}
 use Rattle.std.proofs.lemmas.Result.{MatchResult-weaker}
-use Rattle.rsp_asm.specs.Parts.{seen_parts}
+use Rattle.rsp_asm.specs.LineParts.{seen_parts}
 use Rattle.rsp_asm.proofs.Statements.{line_said, line_sized, pushed_ok, pushed_kept, pushed_len}
 use Rattle.rsp_asm.proofs.line.push_words.Goals as goal
 

@@ -1,6 +1,6 @@
 use Rattle.std.proofs.Common.{ap, ◌∙◌, sym, subst, arith, List, ℕ, length, length-append, []}
 use Rattle.std.specs.Prelude.{Some}
-use Rattle.rsp_text.specs.Statement.{operand_texts}
+use Rattle.rsp_syntax.specs.Statement.{operand_texts}
 use Rattle.rsp_asm.proofs.Passes.{on_ok, on_err}
 use Rattle.rsp_asm.proofs.Texts.{some_texts}
 use Rattle.rsp_asm.proofs.Steps.{Part, part_more, part_fault, part_unread}

@@ -1,5 +1,5 @@
 use Rattle.std.proofs.Common.{length}
-use Rattle.rsp_text.specs.Statement.{operand_texts}
+use Rattle.rsp_syntax.specs.Statement.{operand_texts}
 use Rattle.rsp_asm.proofs.Steps.{Part}
 use Rattle.rsp_asm.proofs.numbers.push_numbers.Given as goal
 

@@ -1,7 +1,7 @@
 use Rattle.std.proofs.Common.{ap, arith}
 use Rattle.rsp_decode.specs.Table.{entry}
-use Rattle.rsp_text.specs.SourceLine.{size_if}
-use Rattle.rsp_text.specs.Statement.{statement_of, operand_texts}
+use Rattle.rsp_syntax.specs.SourceLine.{statement_size}
+use Rattle.rsp_syntax.specs.Statement.{statement_of, operand_texts}
 use Rattle.rsp_asm.specs.declared.statement.Form.TheVariants.{Numbers, Row}
 use Rattle.rsp_asm.specs.Forms.{SaysRow}
 use Rattle.rsp_asm.proofs.Forms.{of_form}
@@ -11,7 +11,7 @@ use Rattle.rsp_asm.proofs.push.push_statement.Goals as goal
 pub push_numbers-requires : goal.push_numbers-requires
 push_numbers-requires c =
     let is = of_form c.in_ok-statement.statement c.in-Some.field-0 Numbers (statement_of c.args.text.now) c.in-Some.is c.in-Numbers.is c.in_ok-statement.ensures.ok in
-    let sizes = ap size_if is in
+    let sizes = ap statement_size is in
     let room = c.requires.room in
     omega (arith, sizes, room)
 

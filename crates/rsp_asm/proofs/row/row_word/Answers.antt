@@ -2,12 +2,12 @@ use Rattle.std.proofs.Common.{◌≡◌, ap, ◌∙◌, sym, arith, List, ℕ, d
 use Rattle.std.specs.Prelude.{flat_map, Result}
 use Rattle.std.specs.Option.{option_or}
 use Rattle.std.specs.Result.{result_err, result_unwrap_or}
-use Rattle.rsp_text.specs.declared.fault.AsmFaultKind.{AsmFaultKind}
+use Rattle.rsp_syntax.specs.declared.fault.AsmFaultKind.{AsmFaultKind}
 use Rattle.rsp_decode.specs.declared.rows.Operand.TheVariants.{Scalar}
 use Rattle.rsp_decode.specs.Table.{bit_fields}
-use Rattle.rsp_text.specs.Statement as statement
-use Rattle.rsp_text.specs.Statement.{read_all, fields_of}
-use Rattle.rsp_text.specs.Walks.{with_values}
+use Rattle.rsp_syntax.specs.Statement as statement
+use Rattle.rsp_syntax.specs.Statement.{read_all, fields_of}
+use Rattle.rsp_syntax.specs.OperandResults.{with_values}
 use Rattle.rsp_asm.specs.Statements.{word_with, and_then}
 use Rattle.rsp_asm.proofs.Steps.{so_far, too_few, first_unread, first_put, word_kept}
 use Rattle.rsp_operands.proofs.Rows.{operand_fits}
@@ -29,7 +29,7 @@ returns-in_default-put_operand c =
     let i = c.loop-kind.kind-index in
     let labels = c.args.labels.now in
     let w = so_far c.loop-kind.fault c.loop-kind.word in
-    let put : statement.Reading → Result ℕ AsmFaultKind = λ (r : statement.Reading). with_values c.loop-kind.word (bit_fields (get_or kinds i (Scalar 0))) (fields_of labels c.args.address r) in
+    let put : statement.OperandValue → Result ℕ AsmFaultKind = λ (r : statement.OperandValue). with_values c.loop-kind.word (bit_fields (get_or kinds i (Scalar 0))) (fields_of labels c.args.address r) in
     ap (word_with labels c.args.address w (flat_map bit_fields (drop i kinds))) (first_unread kinds i (omega arith) put _ c.in-Some.operand.now c.next.new.self c.in_default-put_operand.ensures)
     ∙ ap (λ (ts : List (List ℕ)). word_with labels c.args.address w (flat_map bit_fields (drop i kinds)) (read_all (drop i kinds) ts)) (sym c.in-Some.ensures)
     ∙ c.loop-kind.invariant

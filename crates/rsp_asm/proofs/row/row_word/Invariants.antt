@@ -1,7 +1,7 @@
 use Rattle.std.proofs.Common.{◌≡◌, drop}
 use Rattle.std.specs.Prelude.{flat_map}
 use Rattle.rsp_decode.specs.Table.{entry, bit_fields}
-use Rattle.rsp_text.specs.Statement.{read_all, operand_texts}
+use Rattle.rsp_syntax.specs.Statement.{read_all, operand_texts}
 use Rattle.rsp_asm.specs.Statements.{word_with, row_word}
 use Rattle.rsp_asm.proofs.Steps.{so_far}
 use Rattle.rsp_asm.proofs.row.row_word.Given as goal

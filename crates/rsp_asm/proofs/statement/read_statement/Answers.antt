@@ -1,5 +1,5 @@
 use Rattle.std.proofs.Common.{refl, sym, ◌∙◌, length}
-use Rattle.rsp_text.specs.Statement.{statement_of, form_named, operand_texts}
+use Rattle.rsp_syntax.specs.Statement.{statement_of, form_named, operand_texts}
 use Rattle.rsp_asm.proofs.Forms.{says_form}
 use Rattle.rsp_asm.proofs.Statements.{statement_is}
 use Rattle.rsp_asm.proofs.statement.read_statement.Goals as goal

@@ -1,4 +1,4 @@
-use Rattle.rsp_text.proofs.Splits.{no_blank_before, no_blank_after}
+use Rattle.rsp_syntax.proofs.Splits.{no_blank_before, no_blank_after}
 use Rattle.rsp_asm.proofs.statement.split.Goals as goal
 
 pub returns-in-None-clause-name : goal.returns-in-None-clause-name

@@ -1,5 +1,5 @@
 use Rattle.std.proofs.Common.{◌≡◌, ◌+◌, ◌*◌, ◌++◌, length, get_or}
-use Rattle.rsp_lines.specs.Text.{each_text}
+use Rattle.rsp_script_io.specs.Text.{each_text}
 use Rattle.rsp_bench.specs.Looks.{word_text}
 use Rattle.rsp_bench.proofs.looks.push_four.Given as goal
 

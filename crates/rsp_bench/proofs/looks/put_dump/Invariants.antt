@@ -1,5 +1,5 @@
 use Rattle.std.proofs.Common.{◌≡◌, ◌≤◌, ◌+◌, ◌*◌, ◌++◌, take, drop, length}
-use Rattle.rsp_lines.specs.Text.{each_text}
+use Rattle.rsp_script_io.specs.Text.{each_text}
 use Rattle.rsp_bench.specs.Looks.{dump_line}
 use Rattle.rsp_bench.proofs.looks.put_dump.Given as goal
 

@@ -1,6 +1,6 @@
 use Rattle.std.proofs.Common.{arith}
 use Rattle.std.proofs.lemmas.Grind.{common_steps}
-use Rattle.rsp_lines.proofs.Texts.{parts}
+use Rattle.rsp_script_io.proofs.Texts.{parts}
 use Rattle.rsp_bench.specs.Looks.{registers_text}
 use Rattle.rsp_bench.proofs.Registers.{register_lines}
 use Rattle.rsp_bench.proofs.looks.put_registers.Goals as goal

@@ -1,6 +1,6 @@
 use Rattle.std.proofs.Common.{◌≡◌, ◌+◌, ◌*◌, ◌++◌, length}
 use Rattle.rsp_loadstore.specs.File.{vector}
-use Rattle.rsp_lines.specs.Text.{each_text}
+use Rattle.rsp_script_io.specs.Text.{each_text}
 use Rattle.rsp_bench.specs.Looks.{vector_line}
 use Rattle.rsp_bench.proofs.vector_looks.put_vector_registers.Given as goal
 

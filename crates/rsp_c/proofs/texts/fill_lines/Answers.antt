@@ -1,7 +1,7 @@
 use Rattle.std.proofs.Common.{◌+◌, ◌*◌, [], ap, ◌∙◌, refl, arith}
 use Rattle.std.proofs.lemmas.List.{length-set}
 use Rattle.rsp_memory.specs.Memory.{word_at}
-use Rattle.rsp_c.specs.Seen.{seen_line}
+use Rattle.rsp_c.specs.ToC.{c_line}
 use Rattle.rsp_c.proofs.Lines.{lines-none, lines-more, ended-more}
 use Rattle.rsp_c.proofs.texts.fill_lines.Goals as goal
 
@@ -14,7 +14,7 @@ loop-i-preserved c =
     let i = c.loop-i.invariant in
     record {
       value = lines-more c.args.imem.now c.args.place c.loop-i.i c.loop-i.lines c.line_of.result (omega (arith, i.len)) i.value
-          (c.line_of.ensures.value ∙ ap (λ w. seen_line w at) (c.word.ensures ∙ ap (λ a. word_at c.args.imem.now a) c.from.ensures));
+          (c.line_of.ensures.value ∙ ap (λ w. c_line w at) (c.word.ensures ∙ ap (λ a. word_at c.args.imem.now a) c.from.ensures));
       ended = ended-more c.loop-i.i c.loop-i.lines c.line_of.result (omega (arith, i.len)) i.ended c.line_of.ensures.ended;
       len = length-set c.loop-i.lines c.loop-i.i c.line_of.result ∙ i.len;
     }

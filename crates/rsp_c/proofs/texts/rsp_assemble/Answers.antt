@@ -1,5 +1,5 @@
 use Rattle.std.proofs.Common.{subst, ℕ, List}
-use Rattle.rsp_asm.specs.Answer.{IsFault}
+use Rattle.rsp_asm.specs.AssembleFaults.{IsFault}
 use Rattle.rsp_asm.proofs.Faults.{short_hides}
 use Rattle.rsp_c.proofs.texts.rsp_assemble.Goals as goal
 

@@ -1,6 +1,6 @@
 use Rattle.std.proofs.Common.{refl}
-use Rattle.rsp_debug.proofs.Ends.{unwatched-stop}
-use Rattle.rsp_debug.proofs.Watched.{differs-empty}
+use Rattle.rsp_debug.proofs.RunEnds.{unwatched-stop}
+use Rattle.rsp_debug.proofs.WatchChanges.{differs-empty}
 use Rattle.rsp_debug.proofs.run.run.Goals as goal
 
 pub run_to-requires-clause-same : goal.run_to-requires-clause-same

@@ -1,13 +1,13 @@
 use Rattle.std.proofs.Common.{◌≡◌, ◌≤◌, ◌-◌}
-use Rattle.rsp_debug.specs.History.{states_before, past_of}
-use Rattle.rsp_debug.proofs.Coming.{IsCome}
+use Rattle.rsp_debug.specs.History.{states_before, history_after_steps}
+use Rattle.rsp_debug.proofs.RunLoop.{IsCome}
 use Rattle.rsp_debug.proofs.run.run_to.Given as goal
 
 abbrev pub invariant-loop-left : goal.invariant-loop-left
 invariant-loop-left g l = record {
   within : l.left ≤ l.n;
   come : IsCome l.conditions.breaks.now l.conditions.snapshots.now l.conditions.moves l.n l.fn.machine (l.n - l.left) l.machine l.found;
-  past : states_before l.machine l.history.newest ≡ past_of (l.n - l.left) l.fn.history.depth l.fn.machine (states_before l.fn.machine l.fn.history.newest);
+  past : states_before l.machine l.history.newest ≡ history_after_steps (l.n - l.left) l.fn.history.depth l.fn.machine (states_before l.fn.machine l.fn.history.newest);
   depth : l.history.depth ≡ l.fn.history.depth;
 }
 

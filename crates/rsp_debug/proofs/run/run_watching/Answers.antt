@@ -3,8 +3,8 @@ use Rattle.rsp_debug.specs.declared.snapshot.Snapshot.{Snapshot}
 use Rattle.rsp_debug.specs.Snapshots.{differs, snapshot_of, watches_of}
 use Rattle.rsp_debug.specs.Stops.{IsStop}
 use Rattle.rsp_debug.specs.Moves.{steps_to_move}
-use Rattle.rsp_debug.proofs.Ends.{snapshots-stop}
-use Rattle.rsp_debug.proofs.Watched.{differs-fresh}
+use Rattle.rsp_debug.proofs.RunEnds.{snapshots-stop}
+use Rattle.rsp_debug.proofs.WatchChanges.{differs-fresh}
 use Rattle.rsp_debug.proofs.run.run_watching.Goals as goal
 
 pub run_to-requires-clause-same : goal.run_to-requires-clause-same

@@ -2,8 +2,8 @@ use Rattle.std.proofs.Common.{◌∙◌, ap, refl, subst, map, List, Option, len
 use Rattle.rsp_debug.specs.declared.snapshot.Snapshot.{Snapshot}
 use Rattle.rsp_debug.specs.Snapshots.{differs, snapshot_of, watches_of}
 use Rattle.rsp_debug.specs.Stops.{IsStop}
-use Rattle.rsp_debug.proofs.Ends.{unwatched-stop, snapshots-stop}
-use Rattle.rsp_debug.proofs.Watched.{differs-empty, differs-fresh}
+use Rattle.rsp_debug.proofs.RunEnds.{unwatched-stop, snapshots-stop}
+use Rattle.rsp_debug.proofs.WatchChanges.{differs-empty, differs-fresh}
 use Rattle.rsp_debug.proofs.trace.trace.Goals as goal
 
 pub trace_to-requires-clause-same : goal.trace_to-requires-clause-same

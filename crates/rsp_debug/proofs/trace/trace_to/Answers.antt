@@ -2,17 +2,17 @@ use Rattle.std.proofs.Common.{◌≡◌, ◌∙◌, ◌+◌, ap, refl, sym, subs
 use Rattle.std.specs.Prelude.{is_some, unwrap_or}
 use Rattle.rsp_memory.specs.Memory.{word_at}
 use Rattle.rsp_machine.specs.State.{State}
-use Rattle.rsp_debug.specs.History.{Records, states_before, past_of}
-use Rattle.rsp_debug.specs.Runs.{stuck_of}
+use Rattle.rsp_debug.specs.History.{Records, states_before, history_after_steps}
+use Rattle.rsp_debug.specs.Runs.{step_refusal}
 use Rattle.rsp_debug.specs.Snapshots.{watches_of}
 use Rattle.rsp_debug.specs.Moves.{steps_to_move}
 use Rattle.rsp_debug.specs.Stops.{IsStop}
 use Rattle.rsp_debug.specs.Traces.{trace_of}
 use Rattle.rsp_debug.specs.declared.stop.Stop.{Stop}
-use Rattle.rsp_debug.proofs.Afters.{never}
-use Rattle.rsp_debug.proofs.Going.{past-none, stuck-is, no-one, some-one, after-zero, past-then, states-as}
-use Rattle.rsp_debug.proofs.Coming.{come-none, come-more, stop-come}
-use Rattle.rsp_debug.proofs.Ends.{unmoved-stop, unmoved-start, unmoved-found}
+use Rattle.rsp_debug.proofs.DoneSteps.{never}
+use Rattle.rsp_debug.proofs.Stretches.{past-none, stuck-is, no-one, some-one, after-zero, past-then, states-as}
+use Rattle.rsp_debug.proofs.RunLoop.{come-none, come-more, stop-come}
+use Rattle.rsp_debug.proofs.RunEnds.{unmoved-stop, unmoved-start, unmoved-found}
 use Rattle.rsp_debug.proofs.Traces.{trace-none, trace-more, rest-more, entry-is}
 use Rattle.rsp_debug.proofs.trace.trace_to.Goals.{then-loop-made-test+else-is_none, else-loop-made-test, then-loop-made-test+then-is_none+then-stretch-eq0}
 use Rattle.rsp_debug.proofs.trace.trace_to.Goals as goal
@@ -62,23 +62,23 @@ returns-clause-stop g c =
       | else-loop-made-test w ↦ w.machine-is
       | then-loop-made-test+then-is_none+then-stretch-eq0 w ↦ w.machine-is ∙ after-zero w.stretch.result l.machine w.stretch.new.machine w.if-stretch-eq0.true w.stretch.ensures.after
     ] in
-    let all : l.found ≡ None → stuck_of l.machine ≡ None → k ≡ n = λ none free. elim c.loop-made-test.branch [
+    let all : l.found ≡ None → step_refusal l.machine ≡ None → k ≡ n = λ none free. elim c.loop-made-test.branch [
       | then-loop-made-test+else-is_none w ↦ some-one l.found w.is_none.result (k ≡ n) w.is_none.ensures w.if-is_none.false none
       | else-loop-made-test w ↦ omega (arith, w.loop-made-test.false, i.within)
       | then-loop-made-test+then-is_none+then-stretch-eq0 w ↦
           let still = after-zero w.stretch.result l.machine w.stretch.new.machine w.if-stretch-eq0.true w.stretch.ensures.after in
-          never (stuck_of l.machine) (k ≡ n) (ap (λ (y : State). is_some (stuck_of y)) (sym still) ∙ stuck-is w.stretch.new.machine (w.stretch.ensures.stuck w.if-stretch-eq0.true)) free
+          never (step_refusal l.machine) (k ≡ n) (ap (λ (y : State). is_some (step_refusal y)) (sym still) ∙ stuck-is w.stretch.new.machine (w.stretch.ensures.stuck w.if-stretch-eq0.true)) free
     ] in
     let stop : IsStop x.breaks.now (watches_of x.snapshots.now) (steps_to_move x.moves n s) s l.machine c.stopped_here.result =
     stop-come x.breaks.now x.snapshots.now x.moves n s k l.machine l.found i.come all _ c.stopped_here.result
-    (c.stopped_here.ensures ∙ ap (λ (y : State). let made : Stop = record { reason = unwrap_or (stuck_of y) c.unwrap_or.result; steps = k; pc = y.pc } in made) same) c.unwrap_or.ensures in
+    (c.stopped_here.ensures ∙ ap (λ (y : State). let made : Stop = record { reason = unwrap_or (step_refusal y) c.unwrap_or.result; steps = k; pc = y.pc } in made) same) c.unwrap_or.ensures in
     subst (λ (y : State). IsStop x.breaks.now (watches_of x.snapshots.now) n s y c.stopped_here.result) (sym same) (unmoved-stop _ _ _ _ _ _ _ c.requires.unmoved stop)
 
 pub returns-clause-past : goal.returns-clause-past
 returns-clause-past g c =
     let s = c.args.machine.now in let depth = c.args.history.now.depth in let past = states_before s c.args.history.now.newest in
     let l = c.loop-made in let i = l.invariant in let k = l.made in
-    let kept : states_before c.loop-made-test.machine c.loop-made-test.history.newest ≡ past_of k depth s past = elim c.loop-made-test.branch [
+    let kept : states_before c.loop-made-test.machine c.loop-made-test.history.newest ≡ history_after_steps k depth s past = elim c.loop-made-test.branch [
       | then-loop-made-test+else-is_none w ↦ states-as _ l.machine _ l.history w.machine-is w.history-is ∙ i.past
       | else-loop-made-test w ↦ states-as _ l.machine _ l.history w.machine-is w.history-is ∙ i.past
       | then-loop-made-test+then-is_none+then-stretch-eq0 w ↦
@@ -86,7 +86,7 @@ returns-clause-past g c =
           states-as _ made.new.machine _ made.new.self w.machine-is w.history-is
           ∙ past-then k made.result k depth l.history.depth s l.machine past _ _ made.ensures.past i.depth i.past i.come.after.reached (omega (arith, w.if-stretch-eq0.true))
     ] in
-    kept ∙ ap (λ j. past_of j depth s past) (sym (ap (λ (x : Stop). x.steps) c.stopped_here.ensures))
+    kept ∙ ap (λ j. history_after_steps j depth s past) (sym (ap (λ (x : Stop). x.steps) c.stopped_here.ensures))
 
 pub returns-clause-depth : goal.returns-clause-depth
 returns-clause-depth g c = let i = c.loop-made.invariant in elim c.loop-made-test.branch [

@@ -1,5 +1,5 @@
 use Rattle.std.proofs.Common.{sym}
-use Rattle.rsp_decode.proofs.RowsKept.{decoded_instruction, decoded_canonical}
+use Rattle.rsp_decode.proofs.InstructionOfWord.{decoded_instruction, decoded_canonical}
 use Rattle.rsp_decode.proofs.decoding.decode.Goals as goal
 
 pub returns-clause-instruction : goal.returns-clause-instruction

@@ -1,6 +1,6 @@
 use Rattle.std.proofs.Common.{◌≡◌, sym}
 use Rattle.std.specs.Prelude.{None, Some, Option, ℕ}
-use Rattle.rsp_decode.proofs.RowsKept.{reserved}
+use Rattle.rsp_decode.proofs.InstructionOfWord.{reserved}
 use Rattle.rsp_decode.proofs.decoding.is_canonical.Goals as goal
 
 no_word : (o : Option ℕ) (w : ℕ) → o ≡ None → o ≡ Some w → ⊥

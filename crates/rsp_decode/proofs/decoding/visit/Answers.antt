@@ -2,15 +2,15 @@ use Rattle.std.proofs.Common.{◌≡◌, sym, ap, ◌∙◌, ◌/◌, ◌^◌, a
 use Rattle.std.proofs.lemmas.Nat.{and_mask}
 use Rattle.std.proofs.lemmas.Bool.Decides.{nat_tests}
 use Rattle.rsp_decode.specs.declared.inst.Inst.{Inst}
-use Rattle.rsp_decode.specs.Visit.{is_known, visited}
+use Rattle.rsp_decode.specs.Visit.{is_instruction, after_visit}
 use Rattle.rsp_decode.proofs.Keys.{special_is, regimm_is, cop0_is, cop2_is, computing_is, plain_is, lwc2_is, swc2_is}
 use Rattle.rsp_decode.proofs.decoding.visit.Goals as goal
 
-known_by : {b : Bool} {o p : Option Inst} → b ≡ is_known p → o ≡ p → b ≡ is_known o
-known_by e same = e ∙ sym (ap is_known same)
+known_by : {b : Bool} {o p : Option Inst} → b ≡ is_instruction p → o ≡ p → b ≡ is_instruction o
+known_by e same = e ∙ sym (ap is_instruction same)
 
-state_by : {S : Type 0} (after : Inst → S → S) (s : S) {t : S} {o p : Option Inst} → t ≡ visited after p s → o ≡ p → t ≡ visited after o s
-state_by after s e same = e ∙ sym (ap (λ q. visited after q s) same)
+state_by : {S : Type 0} (after : Inst → S → S) (s : S) {t : S} {o p : Option Inst} → t ≡ after_visit after p s → o ≡ p → t ≡ after_visit after o s
+state_by after s e same = e ∙ sym (ap (λ q. after_visit after q s) same)
 
 pub returns-in-0-clause-known : goal.returns-in-0-clause-known
 returns-in-0-clause-known g c =

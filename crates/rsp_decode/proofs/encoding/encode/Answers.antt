@@ -1,7 +1,7 @@
 use Rattle.std.proofs.Common.{sym, ap, ◌∙◌}
 use Rattle.std.specs.Prelude.{Some}
 use Rattle.rsp_decode.specs.Table.{inst_of, canonical_of}
-use Rattle.rsp_decode.proofs.RowsBack.{round_trip, word_of_is_canonical}
+use Rattle.rsp_decode.proofs.WordOfInstruction.{round_trip, word_of_is_canonical}
 use Rattle.rsp_decode.proofs.encoding.encode.Goals as goal
 
 pub returns-clause-meaning : goal.returns-clause-meaning

@@ -3,7 +3,7 @@ use Rattle.std.specs.Prelude.{map}
 use Rattle.std.specs.List.{list_all}
 use Rattle.arrayvec.specs.ArrayString.{array_string_len}
 use Rattle.rsp_decode.specs.Table.{is_row_operand}
-use Rattle.rsp_text.specs.Spell.{operand_text, more_operands}
+use Rattle.rsp_syntax.specs.Disassembly.{operand_text, more_operands}
 use Rattle.rsp_dis.proofs.text.push_more.Given as goal
 
 abbrev pub invariant-loop-kind : goal.invariant-loop-kind

@@ -1,7 +1,7 @@
 use Rattle.std.proofs.Common.{◌∙◌, ◌+◌, ap, arith, get_or}
 use Rattle.rsp_lanes.specs.Bytes.{each_byte}
 use Rattle.rsp_lanes.specs.declared.bytes.TheConstants.{DISTANCES}
-use Rattle.rsp_lanes.proofs.Places.{cut_out, from_last_ok, far_behind_is}
+use Rattle.rsp_lanes.proofs.ByteTables.{cut_out, from_last_ok, far_behind_is}
 use Rattle.rsp_lanes.proofs.bytes.distances.Goals as goal
 
 pub swizzle : goal.swizzle

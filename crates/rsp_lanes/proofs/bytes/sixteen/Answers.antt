@@ -1,6 +1,6 @@
 use Rattle.std.proofs.Common.{◌∙◌, ◌+◌, ap, arith, get_or}
 use Rattle.rsp_lanes.specs.Bytes.{each_byte}
-use Rattle.rsp_lanes.proofs.Places.{cut_out}
+use Rattle.rsp_lanes.proofs.ByteTables.{cut_out}
 use Rattle.rsp_lanes.proofs.bytes.sixteen.Goals as goal
 
 pub returns : goal.returns

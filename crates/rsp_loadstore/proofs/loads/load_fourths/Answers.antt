@@ -2,7 +2,7 @@ use Rattle.std.proofs.Common.{◌*◌, ◌%◌, ◌∙◌, ap, refl, false, arit
 use Rattle.rsp_lanes.proofs.Kit.{lane_of, each_same}
 use Rattle.rsp_loadstore.specs.File.{with_vector}
 use Rattle.rsp_loadstore.specs.Loads.{load_pairs}
-use Rattle.rsp_loadstore.proofs.Placed.{fourths_loaded}
+use Rattle.rsp_loadstore.proofs.BytesLoaded.{fourths_loaded}
 use Rattle.rsp_loadstore.proofs.loads.load_fourths.Goals as goal
 
 pub returns : goal.returns

@@ -1,6 +1,6 @@
 use Rattle.std.proofs.Common.{◌+◌, ◌-◌, ◌*◌, ◌%◌, ◌∙◌, arith}
 use Rattle.rsp_loadstore.specs.Loads.{load_pairs}
-use Rattle.rsp_loadstore.proofs.Placed.{lanes_loaded}
+use Rattle.rsp_loadstore.proofs.BytesLoaded.{lanes_loaded}
 use Rattle.rsp_loadstore.proofs.loads.load_halves.Goals as goal
 
 pub returns : goal.returns

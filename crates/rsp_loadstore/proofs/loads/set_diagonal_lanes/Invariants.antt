@@ -1,5 +1,5 @@
 use Rattle.std.proofs.Common.{◌≡◌}
-use Rattle.rsp_loadstore.specs.Diagonal.{with_diagonal}
+use Rattle.rsp_loadstore.specs.TransposedLanes.{with_diagonal}
 use Rattle.rsp_loadstore.proofs.loads.set_diagonal_lanes.Given as goal
 
 abbrev pub invariant-loop-l : goal.invariant-loop-l

@@ -1,6 +1,6 @@
 use Rattle.std.proofs.Common.{◌∙◌, ◌/◌, ◌%◌, ℕ, List, ◌∷◌, replicate, ap, arith}
 use Rattle.rsp_loadstore.specs.File.{vector, with_vector}
-use Rattle.rsp_loadstore.proofs.Placed.{half_placed}
+use Rattle.rsp_loadstore.proofs.BytesLoaded.{half_placed}
 use Rattle.rsp_loadstore.proofs.moves.set_half.Goals as goal
 
 pub returns : goal.returns

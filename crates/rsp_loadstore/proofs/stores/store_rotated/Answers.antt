@@ -1,6 +1,6 @@
 use Rattle.std.proofs.Common.{◌∙◌}
 use Rattle.rsp_loadstore.specs.Stores.{store_pairs}
-use Rattle.rsp_loadstore.proofs.Turned.{rotated_stored}
+use Rattle.rsp_loadstore.proofs.RotatedStores.{rotated_stored}
 use Rattle.rsp_loadstore.proofs.stores.store_rotated.Goals as goal
 
 pub returns : goal.returns

@@ -1,6 +1,6 @@
 use Rattle.std.proofs.Common.{◌∙◌}
 use Rattle.rsp_loadstore.specs.Stores.{store_pairs}
-use Rattle.rsp_loadstore.proofs.Turned.{transposed_stored}
+use Rattle.rsp_loadstore.proofs.RotatedStores.{transposed_stored}
 use Rattle.rsp_loadstore.proofs.stores.store_transposed.Goals as goal
 
 pub returns : goal.returns

@@ -1,12 +1,12 @@
 use Rattle.std.proofs.Common.{◌∙◌, pos}
 use Rattle.rsp_lanes.proofs.Kit.{lane_of, each_same}
-use Rattle.rsp_multiply.specs.Mpeg.{accumulators_mpeg}
+use Rattle.rsp_multiply.specs.Mpeg.{accumulators_after_mpeg}
 use Rattle.rsp_multiply.proofs.Halvings.{stepped}
 use Rattle.rsp_multiply.proofs.mpeg.mpeg_op.Goals as goal
 use Rattle.rsp_multiply.proofs.mpeg.mpeg_op.Goals.{in-Vmulq, in-Vmacq}
 
 pub returns-clause-accumulators : goal.returns-clause-accumulators
-unfolding accumulators_mpeg
+unfolding accumulators_after_mpeg
 returns-clause-accumulators g c =
     elim c.match-op.branch [
       | in-Vmulq w ↦ rw (w.acc-is, w.in-Vmulq.is) w.multiply_rounded.ensures

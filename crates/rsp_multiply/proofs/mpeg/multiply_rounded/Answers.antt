@@ -1,12 +1,12 @@
 use Rattle.std.proofs.Common.{◌∙◌, pos, false}
 use Rattle.rsp_lanes.proofs.Kit.{lane_of, each_same}
-use Rattle.rsp_multiply.specs.Mpeg.{accumulators_mpeg}
+use Rattle.rsp_multiply.specs.Mpeg.{accumulators_after_mpeg}
 use Rattle.rsp_multiply.proofs.Signs.{signed}
 use Rattle.rsp_multiply.proofs.Halvings.{product_rounded}
 use Rattle.rsp_multiply.proofs.mpeg.multiply_rounded.Goals as goal
 
 pub returns : goal.returns
-unfolding accumulators_mpeg
+unfolding accumulators_after_mpeg
 returns g c = c.add.ensures ∙ each_same _ _ (λ i h.
     let s = (signed _ _ (c.ranges-2.ensures.1 i) (c.ranges-3.ensures.1 i)).1 in
     rw (

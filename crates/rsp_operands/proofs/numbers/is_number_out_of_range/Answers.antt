@@ -1,7 +1,7 @@
-use Rattle.rsp_text.specs.Numbers.{expression_of}
-use Rattle.rsp_text.specs.Seen.{expression, capped_expression}
-use Rattle.rsp_text.specs.Walks.{word_fails}
-use Rattle.rsp_operands.proofs.Readings.{found_alike}
+use Rattle.rsp_syntax.specs.Numbers.{expression_of}
+use Rattle.rsp_syntax.specs.Capping.{expression, capped_expression}
+use Rattle.rsp_syntax.specs.OperandResults.{word_fails}
+use Rattle.rsp_operands.proofs.OperandValues.{found_alike}
 use Rattle.rsp_operands.proofs.numbers.is_number_out_of_range.Goals as goal
 
 pub returns : goal.returns

@@ -1,7 +1,7 @@
-use Rattle.rsp_text.specs.Numbers.{expression_of}
-use Rattle.rsp_text.specs.Seen.{expression, capped_expression}
-use Rattle.rsp_text.specs.Walks.{word_value}
-use Rattle.rsp_operands.proofs.Readings.{found_alike}
+use Rattle.rsp_syntax.specs.Numbers.{expression_of}
+use Rattle.rsp_syntax.specs.Capping.{expression, capped_expression}
+use Rattle.rsp_syntax.specs.OperandResults.{word_value}
+use Rattle.rsp_operands.proofs.OperandValues.{found_alike}
 use Rattle.rsp_operands.proofs.numbers.number_word.Goals as goal
 
 pub returns : goal.returns

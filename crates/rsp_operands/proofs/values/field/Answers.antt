@@ -2,7 +2,7 @@ use Rattle.std.proofs.Common.{ap, ◌∙◌, sym, arith, rules, w64, FitsSigned,
 use Rattle.std.specs.Prelude.{◌+ℤ◌}
 use Rattle.std.specs.Int.{saturate_signed}
 use Rattle.std.proofs.lemmas.Int.{to_z-of_z, ints}
-use Rattle.rsp_text.specs.Statement.{scaled_offset, field}
+use Rattle.rsp_syntax.specs.Statement.{scaled_offset, field}
 use Rattle.rsp_operands.proofs.Capping.{scaled_capped}
 use Rattle.rsp_operands.proofs.values.field.Goals as goal
 

@@ -1,9 +1,9 @@
 use Rattle.std.proofs.Common.{ap, ◌∙◌, sym, ◌∷◌, [], List, ℕ, Bor}
 use Rattle.std.specs.Prelude.{map, Option, option_map}
 use Rattle.std.specs.List.{slice_split}
-use Rattle.rsp_text.specs.declared.text.Boundary.TheVariants.{Comma}
-use Rattle.rsp_text.specs.Chars.{trim}
-use Rattle.rsp_text.specs.Cuts.{is_boundary}
+use Rattle.rsp_syntax.specs.declared.text.Boundary.TheVariants.{Comma}
+use Rattle.rsp_syntax.specs.Chars.{trim}
+use Rattle.rsp_syntax.specs.Cuts.{is_boundary}
 use Rattle.rsp_asm.specs.Operands.{texts_in}
 use Rattle.rsp_asm.proofs.Texts.{first_of_more, only_one}
 use Rattle.rsp_asm.proofs.operands.Operands.next.Goals as goal

@@ -12,13 +12,13 @@ use Rattle.std.proofs.Crossing.{frees}
 use Rattle.std_alloc.proofs.SendSync.{lies, quiet}
 use Rattle.std_heap.proofs.Global.TheSendSync as heap
 use Rattle.rsp_c.specs.Holding.{Opened, holding}
-use Rattle.rsp_c.specs.contracts.session.Session as Session
-use Rattle.rsp_c.proofs.session.Session.TheSendSync as session
+use Rattle.rsp_c.specs.contracts.instance.Instance as Instance
+use Rattle.rsp_c.proofs.instance.Instance.TheSendSync as session
 use Rattle.rsp_c.specs.contracts.handle.Handle.{the_row, the_type}
 
 held : (a : Global) (p : Ptr) (s : Option Opened) → Keyless (holding a p s)
 held a p None = tt
-held a p (Some x) = (lies Session.the_row session.the_send p x, frees.frees a (bare (lone Session.the_row.mir)) p)
+held a p (Some x) = (lies Instance.the_row session.the_send p x, frees.frees a (bare (lone Instance.the_row.mir)) p)
 
 pub send : IsSend the_row
 send =

@@ -36,8 +36,8 @@ use Rattle.std_heap.specs.contracts.Global as Heap
 use Rattle.std_heap.specs.contracts.GlobalAllocator.TheImpl.{ghosts}
 use Rattle.rsp_c.proofs.AsBox.{E, FromHeld as From}
 use Rattle.rsp_c.proofs.Holding.{pair, either, held_out}
-use Rattle.rsp_c.specs.contracts.session.Session as Session
-use Rattle.rsp_c.specs.contracts.parts.Parts as Parts
+use Rattle.rsp_c.specs.contracts.instance.Instance as Instance
+use Rattle.rsp_c.specs.contracts.box_parts.BoxParts as BoxParts
 use Rattle.rsp_c.specs.contracts.handle.Handle as Handle
 use Rattle.rsp_c.specs.contracts.handle.Handle.into_parts as F
 use Rattle.rsp_c.specs.contracts.handle.Handle.into_parts.Key.{name as #self}
@@ -48,7 +48,7 @@ abbrev stayed : Stays (F.ended).signature.params (F.ended).kept
 stayed = (stay_dropped From yes, tt)
 
 abbrev Lr : RattleType
-Lr = Parts.the_row Session.the_row Heap.the_row ghosts
+Lr = BoxParts.the_row Instance.the_row Heap.the_row ghosts
 
 module _ {M : Type 1} {𝓤 : Ura M} (𝓛 : Logic 𝓤) (at_mem : Memory → SProp 𝓤) (run : Routine → Fun 𝓤) (𝓣 : Tables 𝓤 𝓛.H) where
   open 𝓛 use {H}

@@ -1,6 +1,6 @@
 use Rattle.std.proofs.Common.{◌∙◌, sym, ap, false, arith, ◌/◌}
 use Rattle.std.specs.Prelude.{slice_index_or}
-use Rattle.rsp_debug.proofs.Tables.{bit-is, place-is}
+use Rattle.rsp_debug.proofs.BreakTable.{bit-is, place-is}
 use Rattle.rsp_debug.proofs.breaks.Breaks.contains.Goals as goal
 
 pub returns : goal.returns

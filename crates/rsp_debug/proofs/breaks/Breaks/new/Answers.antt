@@ -1,6 +1,6 @@
 use Rattle.std.proofs.Common.{◌∙◌, sym, ap, arith}
 use Rattle.rsp_debug.specs.Breaks.{break_count}
-use Rattle.rsp_debug.proofs.Tables.{breaks-none, count-none}
+use Rattle.rsp_debug.proofs.BreakTable.{breaks-none, count-none}
 use Rattle.rsp_debug.proofs.breaks.Breaks.new.Goals as goal
 
 pub invariant_of-result : goal.invariant_of-result

@@ -2,8 +2,8 @@ use Rattle.std.proofs.Common.{◌∙◌, ap, sym}
 use Rattle.rsp_machine.specs.Laws.{steps_of}
 use Rattle.rsp_debug.specs.History.{states_before}
 use Rattle.rsp_debug.specs.Moves.{end_steps}
-use Rattle.rsp_debug.specs.Debugging.{Debugging, move_end_in, ran_to_move}
-use Rattle.rsp_debug.proofs.Ends.{move-end-is, move-end-steps, ran-is}
+use Rattle.rsp_debug.specs.Debugging.{Debugging, move_end_in, after_run_until_move}
+use Rattle.rsp_debug.proofs.RunEnds.{move-end-is, move-end-steps, ran-is}
 use Rattle.rsp_debug.proofs.debugger.Debugger.run_until_move.Goals as goal
 
 pub returns-clause-end : goal.returns-clause-end
@@ -17,4 +17,4 @@ pub returns-clause-next : goal.returns-clause-next
 returns-clause-next g c =
     let i = c.self.inside in
     let d : Debugging = record { state = i.machine; breaks = i.breaks; watches = i.watches; past = states_before i.machine i.history.newest; depth = i.history.depth } in
-    ran-is d _ _ _ _ _ c.run-stop.ensures.stop c.run-stop.ensures.past c.run-stop.ensures.depth ∙ ap (λ (x : Debugging). ran_to_move c.args.n c.args.moves x) c.self.view_is
+    ran-is d _ _ _ _ _ c.run-stop.ensures.stop c.run-stop.ensures.past c.run-stop.ensures.depth ∙ ap (λ (x : Debugging). after_run_until_move c.args.n c.args.moves x) c.self.view_is

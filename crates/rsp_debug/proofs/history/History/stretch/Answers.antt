@@ -1,11 +1,11 @@
 use Rattle.std.proofs.Common.{◌≡◌, ◌<◌, ◌≤◌, ◌+◌, ◌-◌, ◌∙◌, ℕ, zero, suc, Bool, true, false, [], ◌++◌, length, take, drop, min, ap, refl, sym, arith}
 use Rattle.std.specs.List.{refill}
 use Rattle.std.proofs.lemmas.List.{length-take, length-drop}
-use Rattle.rsp_debug.specs.History.{Records, backwards, before_slot, past_of, states_before}
-use Rattle.rsp_debug.proofs.Turns.{turned, length-put}
-use Rattle.rsp_debug.proofs.Afters.{made-after}
-use Rattle.rsp_debug.proofs.Pasts.{past-unkept, IsStretch, stretch-kept, stretch-cleared, written-items}
-use Rattle.rsp_debug.proofs.history.History.stretch.Goals.{then-self-depth, else-self-depth, then-leads_back, else-leads_back}
+use Rattle.rsp_debug.specs.History.{Records, backwards, entries_before, history_after_steps, states_before}
+use Rattle.rsp_debug.proofs.Ring.{turned, length-put}
+use Rattle.rsp_debug.proofs.DoneSteps.{made-after}
+use Rattle.rsp_debug.proofs.HistoryRecords.{past-unkept, IsStretch, stretch-kept, stretch-cleared, written-items}
+use Rattle.rsp_debug.proofs.history.History.stretch.Goals.{then-self-depth, else-self-depth, then-can_undo, else-can_undo}
 use Rattle.rsp_debug.proofs.history.History.stretch.Goals as goal
 
 some_made : (k : ℕ) (b : Bool) → b ≡ false → (k ≡ 0 → b ≡ true) → 0 < k
@@ -23,7 +23,7 @@ pub returns-then-depth-eq0-clause-past : goal.returns-then-depth-eq0-clause-past
 returns-then-depth-eq0-clause-past g c =
     let i = c.self.inside in
     let none : length i.slots.items ≡ 0 = sym c.len-depth.ensures.len ∙ c.if-depth-eq0.true in
-    let empty : before_slot i.next i.count i.slots.items ≡ [] = ap (λ n. before_slot i.next n i.slots.items) (let z : i.count ≡ 0 = omega (arith, none, c.self.invariant.1) in z) in
+    let empty : entries_before i.next i.count i.slots.items ≡ [] = ap (λ n. entries_before i.next n i.slots.items) (let z : i.count ≡ 0 = omega (arith, none, c.self.invariant.1) in z) in
     past-unkept c.steps_until.result c.args.self.now.depth c.args.machine.now c.steps_until.new.self c.args.self.now.newest
     (ap (λ (r : Records). r.depth) (sym c.self.view_is) ∙ none) (ap (λ (r : Records). r.newest) (sym c.self.view_is) ∙ empty)
 
@@ -59,10 +59,10 @@ returns-clause-past g c =
     let put = take a ls ++ (ys ++ drop (a + m - a) (drop a ls)) in
     let whole : length put ≡ length xs = ap length (written-items a m (a + m - a) xs ls ys put same cut refl) ∙ length-put a m xs ys room h.len in
     let items : zs ≡ take a xs ++ (ys ++ drop (a + m) xs) = written-items a m (a + m - a) xs ls ys zs same cut (c.make_contiguous.ensures.same_len put whole) in
-    let made : states_before t (before_slot (a + k) c.if-leads_back.self zs) ≡ past_of k (length xs) s (states_before s (before_slot a i.count xs)) =
-    elim c.if-leads_back.branch [
-      | then-leads_back w ↦ stretch-kept a m k i.count c.if-leads_back.self s t xs ys zs h items (w.self-is ∙ w.min-self-inside.ensures ∙ ap (min (i.count + k)) depth) (λ some. sym w.if-leads_back.true ∙ c.leads_back.ensures.last some)
-      | else-leads_back w ↦ stretch-cleared a m k i.count c.if-leads_back.self s t xs ys zs h w.self-is (some_made k c.leads_back.result w.if-leads_back.false c.leads_back.ensures.none)
-          (sym w.if-leads_back.false ∙ c.leads_back.ensures.last (some_made k c.leads_back.result w.if-leads_back.false c.leads_back.ensures.none))
+    let made : states_before t (entries_before (a + k) c.if-can_undo.self zs) ≡ history_after_steps k (length xs) s (states_before s (entries_before a i.count xs)) =
+    elim c.if-can_undo.branch [
+      | then-can_undo w ↦ stretch-kept a m k i.count c.if-can_undo.self s t xs ys zs h items (w.self-is ∙ w.min-self-inside.ensures ∙ ap (min (i.count + k)) depth) (λ some. sym w.if-can_undo.true ∙ c.can_undo.ensures.last some)
+      | else-can_undo w ↦ stretch-cleared a m k i.count c.if-can_undo.self s t xs ys zs h w.self-is (some_made k c.can_undo.result w.if-can_undo.false c.can_undo.ensures.none)
+          (sym w.if-can_undo.false ∙ c.can_undo.ensures.last (some_made k c.can_undo.result w.if-can_undo.false c.can_undo.ensures.none))
     ] in
-    made ∙ ap (λ l. past_of k (length xs) s (states_before s (take i.count l))) turn ∙ ap (λ (r : Records). past_of k r.depth s (states_before s r.newest)) c.self.view_is
+    made ∙ ap (λ l. history_after_steps k (length xs) s (states_before s (take i.count l))) turn ∙ ap (λ (r : Records). history_after_steps k r.depth s (states_before s r.newest)) c.self.view_is

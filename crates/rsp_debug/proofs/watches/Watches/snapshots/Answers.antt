@@ -1,6 +1,6 @@
 use Rattle.std.proofs.Common.{◌≡◌, ◌∙◌, length, ap, rules, None, map}
 use Rattle.rsp_debug.specs.Snapshots.{snapshot_of}
-use Rattle.rsp_debug.proofs.Watched.{eight-mapped}
+use Rattle.rsp_debug.proofs.WatchChanges.{eight-mapped}
 use Rattle.rsp_debug.proofs.watches.Watches.snapshots.Goals as goal
 
 pub returns : goal.returns

@@ -1,5 +1,5 @@
 use Rattle.std.proofs.Common.{◌∙◌, ap}
-use Rattle.rsp_lanes.specs.Lanes.{truths}
+use Rattle.rsp_lanes.specs.Lanes.{truth_values}
 use Rattle.rsp_lanes.proofs.Masks.{mask_again}
 use Rattle.rsp_lanes.proofs.mask.Mask8.read.Goals as goal
 
@@ -7,4 +7,4 @@ pub invariant_of-result : goal.invariant_of-result
 invariant_of-result c = rw (mask_again _ c.self.invariant) c.self.invariant
 
 pub returns : goal.returns
-returns c = ap truths (mask_again _ c.self.invariant) ∙ c.self.view_is
+returns c = ap truth_values (mask_again _ c.self.invariant) ∙ c.self.view_is

@@ -1,13 +1,13 @@
 use Rattle.std.proofs.Common.{◌≡◌, ℤ, false, List, get_or, ◌∙◌, map, bit_xor, w16, refl}
 use mir.Val.{of_z}
 use Rattle.std.specs.Simd.Lanes.{zip2}
-use Rattle.rsp_lanes.specs.Lanes.{each_lane, truths, IsMask, bool_xor}
+use Rattle.rsp_lanes.specs.Lanes.{each_lane, truth_values, IsMask, bool_xor}
 use Rattle.rsp_lanes.proofs.Kit.{zip2_of_each, each_same}
 use Rattle.rsp_lanes.proofs.Masks.{mask_bits, bits-xor, bits_lane, made_mask, made_truths}
 use Rattle.rsp_lanes.proofs.mask.Mask8.xor.Goals as goal
 
-just_one : (m n : List ℤ) → IsMask m → IsMask n → zip2 bit_xor (map (of_z w16) m) (map (of_z w16) n) ≡ each_lane (λ i. bits_lane (bool_xor (get_or (truths m) i false) (get_or (truths n) i false)))
-just_one m n f g = rw (mask_bits m f, mask_bits n g) (zip2_of_each bit_xor _ _ ∙ each_same _ _ (λ i h. bits-xor (get_or (truths m) i false) (get_or (truths n) i false)))
+just_one : (m n : List ℤ) → IsMask m → IsMask n → zip2 bit_xor (map (of_z w16) m) (map (of_z w16) n) ≡ each_lane (λ i. bits_lane (bool_xor (get_or (truth_values m) i false) (get_or (truth_values n) i false)))
+just_one m n f g = rw (mask_bits m f, mask_bits n g) (zip2_of_each bit_xor _ _ ∙ each_same _ _ (λ i h. bits-xor (get_or (truth_values m) i false) (get_or (truth_values n) i false)))
 
 pub invariant_of-result : goal.invariant_of-result
 invariant_of-result c = made_mask _ _ (just_one _ _ c.self.invariant c.other.invariant)

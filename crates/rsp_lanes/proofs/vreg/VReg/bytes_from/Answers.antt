@@ -1,6 +1,6 @@
 use Rattle.std.proofs.Common.{◌∙◌, ◌+◌, ◌%◌, arith}
 use Rattle.rsp_lanes.proofs.ByteOrder.{swapped}
-use Rattle.rsp_lanes.proofs.Places.{ordered_from, swapped_below, places_ok, register_places}
+use Rattle.rsp_lanes.proofs.ByteTables.{ordered_from, swapped_below, places_ok, register_places}
 use Rattle.rsp_lanes.proofs.vreg.VReg.bytes_from.Goals as goal
 
 pub swizzle : goal.swizzle

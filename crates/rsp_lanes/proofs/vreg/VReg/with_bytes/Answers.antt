@@ -1,6 +1,6 @@
 use Rattle.std.proofs.Common.{◌∙◌}
 use Rattle.rsp_lanes.proofs.ByteOrder.{with_register_bytes_is}
-use Rattle.rsp_lanes.proofs.Places.{far_behind_ok, far_behind_distances}
+use Rattle.rsp_lanes.proofs.ByteTables.{far_behind_ok, far_behind_distances}
 use Rattle.rsp_lanes.proofs.vreg.VReg.with_bytes.Goals as goal
 
 pub swizzle-moved : goal.swizzle-moved

@@ -1,11 +1,11 @@
 use Rattle.std.proofs.Common.{◌≡◌, ◌∙◌, ◌<◌, ap, sym, subst, arith, Option}
 use Rattle.std.specs.Prelude.{IfSome}
-use Rattle.rsp_machine.specs.Saved.{Saved, undone}
+use Rattle.rsp_machine.specs.Undo.{Saved, undone}
 use Rattle.rsp_machine.specs.Transfers.{starts_dma_at}
 use Rattle.rsp_machine.specs.State.{State}
 use Rattle.rsp_machine.specs.Step.{step_of}
-use Rattle.rsp_machine.proofs.Recording.{recorded-none, recorded-one, which-some, which-none, one-marked, one-back}
-use Rattle.rsp_machine.proofs.machine.Machine.step_recorded.Goals.{then-leads_back, else-leads_back}
+use Rattle.rsp_machine.proofs.Records.{recorded-none, recorded-one, which-some, which-none, one-marked, one-back}
+use Rattle.rsp_machine.proofs.machine.Machine.step_recorded.Goals.{then-can_undo, else-can_undo}
 use Rattle.rsp_machine.proofs.machine.Machine.step_recorded.Goals as goal
 
 pub returns-then-steps_recorded-eq0-clause-answer : goal.returns-then-steps_recorded-eq0-clause-answer
@@ -32,9 +32,9 @@ pub returns-clause-which : goal.returns-clause-which
 returns-clause-which g c =
     let e = c.steps_recorded.ensures in let s = c.args.self.now in let rs = c.steps_recorded.new.records in let d = c.new-record.result in
     let marked = one-marked s rs d c.new-record.ensures (e.which 0 (omega (arith, c.if-steps_recorded-eq0.false))) in
-    elim c.if-leads_back.branch [
-      | then-leads_back w ↦ which-some c.if-leads_back.record _ (starts_dma_at s) _ w.record-is marked (sym c.leads_back.ensures ∙ w.if-leads_back.true)
-      | else-leads_back w ↦ which-none c.if-leads_back.record (starts_dma_at s) _ w.record-is marked (sym c.leads_back.ensures ∙ w.if-leads_back.false)
+    elim c.if-can_undo.branch [
+      | then-can_undo w ↦ which-some c.if-can_undo.record _ (starts_dma_at s) _ w.record-is marked (sym c.can_undo.ensures ∙ w.if-can_undo.true)
+      | else-can_undo w ↦ which-none c.if-can_undo.record (starts_dma_at s) _ w.record-is marked (sym c.can_undo.ensures ∙ w.if-can_undo.false)
     ]
 
 pub returns-clause-back : goal.returns-clause-back
@@ -42,9 +42,9 @@ returns-clause-back g c =
     let e = c.steps_recorded.ensures in let s = c.args.self.now in let t = c.steps_recorded.new.self in let rs = c.steps_recorded.new.records in let d = c.new-record.result in
     let some : 0 < c.steps_recorded.result = omega (arith, c.if-steps_recorded-eq0.false) in
     let marked = one-marked s rs d c.new-record.ensures (e.which 0 some) in
-    elim c.if-leads_back.branch [
-      | then-leads_back w ↦
+    elim c.if-can_undo.branch [
+      | then-can_undo w ↦
           subst (λ (o : Option Saved). IfSome o (λ r. undone r t ≡ s)) (sym w.record-is)
-          (one-back c.steps_recorded.result s t rs d (omega (arith, e.within, some)) c.new-record.ensures e.state marked (sym c.leads_back.ensures ∙ w.if-leads_back.true) (e.back 0 some))
-      | else-leads_back w ↦ subst (λ (o : Option Saved). IfSome o (λ r. undone r t ≡ s)) (sym w.record-is) tt
+          (one-back c.steps_recorded.result s t rs d (omega (arith, e.within, some)) c.new-record.ensures e.state marked (sym c.can_undo.ensures ∙ w.if-can_undo.true) (e.back 0 some))
+      | else-can_undo w ↦ subst (λ (o : Option Saved). IfSome o (λ r. undone r t ≡ s)) (sym w.record-is) tt
     ]

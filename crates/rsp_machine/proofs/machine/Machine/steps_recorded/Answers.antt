@@ -1,5 +1,5 @@
 use Rattle.std.proofs.Common.{inl, inr}
-use Rattle.rsp_machine.proofs.Recording.{recorded-never}
+use Rattle.rsp_machine.proofs.Records.{recorded-never}
 use Rattle.rsp_machine.proofs.machine.Machine.steps_recorded.Goals as goal
 
 pub returns-clause-ends : goal.returns-clause-ends

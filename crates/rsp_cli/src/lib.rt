@@ -1,0 +1,16 @@
+//! The work of the program `rsp`: it does what the command line asks for, with files and streams, and reports messages and an exit
+//! status. [`work`] is generic over all files and streams, so that tests give it fakes and need no program.
+#![tactic(auto)]
+
+mod assemble;
+mod dis;
+mod fault;
+mod files;
+mod listing;
+mod origin;
+mod program;
+mod status;
+
+pub use files::{FileFault, FileStore, SystemFiles};
+pub use program::{refuse_arguments, work};
+pub use status::Status;

@@ -1,0 +1,48 @@
+ghost use Rattle.std.specs.Prelude.{◌≤◌};
+
+use crate::dis::address_of;
+use rsp_asm::read_line;
+use std::alloc::Global;
+use std::io::{self, Write};
+use std::str;
+
+/// Prints the listing of a text that was assembled: for each label its address and its name, and for each word its address, the
+/// word, and the source line of the word.
+pub(crate) fn print_listing<W: Write>(
+    alloc: Global,
+    origin: u16,
+    text: &str,
+    words: &[u32],
+    output: &mut W,
+) -> io::Result<()>
+    requires { origin ≤ 4096 }
+{
+    let mut place = origin;
+    let mut rest = words;
+    for line in text.lines() {
+        let Ok(found) = read_line(alloc, line.as_bytes(), place) else {
+            return Ok(());
+        };
+        if let Some(name) = found.label {
+            print_label(output, place, name)?;
+        }
+        let (given, more) = rest.split_at(usize::from(found.size).min(rest.len()));
+        print_words(output, place, given, line.trim())?;
+        place += 4 * found.size;
+        rest = more;
+    }
+    Ok(())
+}
+
+fn print_label<W: Write>(output: &mut W, place: u16, name: &[u8]) -> io::Result<()> {
+    let name = str::from_utf8(name).unwrap_or("");
+    writeln!(output, "{place:03x} {name}:")
+}
+
+fn print_words<W: Write>(output: &mut W, place: u16, words: &[u32], line: &str) -> io::Result<()> {
+    for (index, &word) in words.iter().enumerate() {
+        let address = address_of(place, index);
+        writeln!(output, "{address:03x} {word:08x} {line}")?;
+    }
+    Ok(())
+}

@@ -1,0 +1,15 @@
+ghost use Rattle.std.specs.Prelude.{◌≤◌, IfOk};
+
+use crate::fault::Fault;
+use rsp_commands::instruction_address;
+
+/// The address that `--at` gives: a multiple of 4 from 0 to 4092, read as the `ADDR` of a script's `asm`. Without `--at` it is 0.
+/// NoAddress for any other text.
+pub(crate) fn origin_of<'a>(at: Option<&'a str>) -> Result<u16, Fault<'a>>
+    ensures { IfOk result (λ origin. origin ≤ 4092) }
+{
+    match at {
+        Some(text) => instruction_address(text.as_bytes()).ok_or(Fault::NoAddress(text)),
+        None => Ok(0),
+    }
+}

@@ -1,0 +1,157 @@
+use crate::assemble::assemble_file;
+use crate::dis::disassemble_file;
+use crate::fault::Fault;
+use crate::files::{FileFault, FileStore};
+use crate::status::Status;
+use clap::Error;
+use clap::error::ErrorKind;
+use rsp_bench::{BenchEnd, FromRead, ToWrite, run_bench};
+use rsp_cli_args::{Request, RunFiles, read_arguments};
+use rsp_memory::Rdram;
+use std::alloc::Global;
+use std::io::{self, Read, Write};
+
+/// The length of the RDRAM if no file is named: 4 MB, as in a console without its expansion.
+const DEFAULT_LENGTH: usize = 4_194_304;
+
+/// One byte more than the longest image, since a file of which so many were read is too long.
+const IMAGE_READ_LIMIT: u64 = 8_388_609;
+
+/// Does what the arguments ask for; the first of them is the program's name. `input` is the script of a run, `output` takes
+/// replies and listings. A fault, or why the arguments are refused, is written to `errors`.
+pub fn work<F: FileStore, R: Read + Drop, W: Write + Drop, E: Write>(
+    alloc: Global,
+    args: &[String],
+    files: &mut F,
+    input: R,
+    output: W,
+    errors: &mut E,
+) -> Status {
+    let asked = match read_arguments(alloc, args) {
+        Ok(asked) => asked,
+        Err(error) => return answer_words(&error, output, errors),
+    };
+    let done = match asked {
+        Request::Run(named) => run(alloc, &named, files, input, output),
+        Request::Assemble {
+            source,
+            out,
+            at,
+            with_listing,
+        } => assemble_file(alloc, files, source, out, at, with_listing, output),
+        Request::Disassemble {
+            words,
+            at,
+            with_addresses,
+        } => disassemble_file(alloc, files, words, at, with_addresses, output),
+    };
+    match done {
+        Ok(()) => Status::Done,
+        Err(fault) => faulted(fault, errors),
+    }
+}
+
+/// Answers arguments that ask for no work: prints the version if they ask for it, else why they are refused.
+fn answer_words<W: Write + Drop, E: Write>(error: &Error, mut output: W, errors: &mut E) -> Status {
+    match error.kind() {
+        ErrorKind::OutOfMemory => faulted(Fault::OutOfMemory, errors),
+        ErrorKind::DisplayVersion => match write!(output, "{error}") {
+            Ok(()) => Status::Done,
+            Err(_) => faulted(Fault::RunWrite, errors),
+        },
+        _ => {
+            let _ = write!(errors, "{error}");
+            Status::Refused
+        }
+    }
+}
+
+/// Reports why the arguments could not be read.
+pub fn refuse_arguments<E: Write>(error: &io::Error, errors: &mut E) -> Status {
+    if error.kind() == io::ErrorKind::OutOfMemory {
+        return faulted(Fault::OutOfMemory, errors);
+    }
+    let _ = writeln!(errors, "error: an argument isn't UTF-8");
+    Status::Refused
+}
+
+/// Writes a fault to `errors`, on a line of its own; a fault of the command line in the form of the other refusals. If the line
+/// can't be written, the status still reports the fault.
+fn faulted<E: Write>(fault: Fault, errors: &mut E) -> Status {
+    if let Fault::NoAddress(_) = fault {
+        let _ = writeln!(
+            errors,
+            "error: {fault}\n\nFor more information, try '--help'."
+        );
+        return Status::Refused;
+    }
+    let _ = writeln!(errors, "rsp: {fault}");
+    Status::Faulted
+}
+
+/// Answers a script. The image of the RDRAM is read before the script, and saved after a run that finished.
+fn run<'a, F: FileStore, R: Read + Drop, W: Write + Drop>(
+    alloc: Global,
+    asked: &RunFiles<'a>,
+    files: &mut F,
+    input: R,
+    output: W,
+) -> Result<(), Fault<'a>> {
+    let image = read_image(alloc, files, asked.rdram)?;
+    let image = answer(alloc, image, input, output)?;
+    match asked.save {
+        Some(name) => save_image(files, name, image),
+        None => Ok(()),
+    }
+}
+
+/// The image of the RDRAM: the bytes of the file, or zeros if none is named.
+fn read_image<'a, F: FileStore>(
+    alloc: Global,
+    files: &mut F,
+    name: Option<&'a str>,
+) -> Result<Rdram, Fault<'a>> {
+    let bytes = match name {
+        Some(name) => files
+            .read(alloc, name, IMAGE_READ_LIMIT)
+            .map_err(|fault| file_fault(fault, Fault::CannotRead(name)))?,
+        None => vec![in alloc; 0; DEFAULT_LENGTH].map_err(|_| Fault::OutOfMemory)?,
+    };
+    Rdram::from_bytes(bytes).map_err(|_| Fault::ImageSize)
+}
+
+/// Answers a script, and returns the image that it leaves.
+fn answer<'a, R: Read + Drop, W: Write + Drop>(
+    alloc: Global,
+    image: Rdram,
+    input: R,
+    output: W,
+) -> Result<Rdram, Fault<'a>> {
+    let mut source = FromRead::new(input);
+    let mut sink = ToWrite::new(output);
+    match run_bench(alloc, image, &mut source, &mut sink) {
+        BenchEnd::Finished(session) => Ok(session.into_rdram()),
+        BenchEnd::ReadFault => Err(Fault::RunRead),
+        BenchEnd::WriteFault => Err(Fault::RunWrite),
+        BenchEnd::ScriptTooLong => Err(Fault::ScriptTooLong),
+        BenchEnd::OutOfMemory => Err(Fault::RunOutOfMemory),
+    }
+}
+
+fn save_image<'a, F: FileStore>(
+    files: &mut F,
+    name: &'a str,
+    image: Rdram,
+) -> Result<(), Fault<'a>> {
+    files
+        .write(name, image.into_bytes().as_slice())
+        .map_err(|fault| file_fault(fault, Fault::CannotWrite(name)))
+}
+
+/// The program's fault for a fault of a file; `refused` if the system refused it.
+pub(crate) fn file_fault<'a>(fault: FileFault, refused: Fault<'a>) -> Fault<'a> {
+    match fault {
+        FileFault::Refused => refused,
+        FileFault::OutOfMemory => Fault::OutOfMemory,
+    }
+}

@@ -1,0 +1,190 @@
+-- Steps that all answer Done.
+use Rattle.std.proofs.Common.{◌≡◌, ℕ, zero, suc, ◌+◌, ◌-◌, ◌<◌, ◌≤◌, List, [], ◌∷◌, refl, ap, sym, ◌∙◌, arith, Bool, true, false, cond, Option, Some, None, inl, inr, subst}
+use Rattle.std.specs.Prelude.{is_some, unwrap_or, nat_eq, nat_lt, ◌&&◌, option_map}
+use Rattle.std.proofs.lemmas.Grind.{common_steps}
+use Rattle.std.proofs.lemmas.Bool.{cases_lt}
+use Rattle.rsp_memory.specs.Memory.{word_at}
+use Rattle.rsp_decode.specs.declared.inst.Inst.{Inst}
+use Rattle.rsp_decode.specs.Table.{inst_of}
+use Rattle.rsp_machine.specs.State.{State}
+use Rattle.rsp_machine.specs.Step.{step_of, step_by}
+use Rattle.rsp_machine.specs.Laws.{steps_of, done_steps, done_of}
+use Rattle.rsp_machine.specs.declared.step.StepEnd.{StepEnd}
+use Rattle.rsp_machine.specs.declared.step.StepEnd.TheVariants as end
+use Rattle.rsp_machine.proofs.LoopSteps.{steps-add}
+use Rattle.rsp_machine.proofs.Records.{done-each}
+use Rattle.rsp_debug.specs.declared.stop.Watch.{Watch}
+use Rattle.rsp_debug.specs.declared.stop.Stop.{Stop}
+use Rattle.rsp_debug.specs.declared.stop.Reason.{Reason}
+use Rattle.rsp_debug.specs.declared.stop.Reason.TheVariants.{Reserved, Halted, Watched, Break, Limit}
+use Rattle.rsp_debug.specs.Stops.{first_of, when, is_reserved, is_break, changed, reason_in, reason_at, least, run_steps, stop_of, IsStop}
+use Rattle.rsp_debug.specs.Runs.{step_refusal}
+use Rattle.rsp_debug.specs.Calls.{IsAfter, ForwardCall, StepCall, RunCall, is_count, call_steps, state_after_call, steps_of_calls, state_after_calls}
+use Rattle.rsp_debug.proofs.Reasons.{stuck_by, stuck_is, step-halted-same, step-reserved-same, steps-none, steps-more, two_none, is_stop, reason-stuck}
+
+pub after-none : (s : State) → IsAfter 0 s s
+after-none s = record { done = λ k h. absurd (omega arith); reached = sym (steps-none s) }
+
+after_done : (m n : ℕ) (s t u : State) → IsAfter m s t → IsAfter n t u → (k : ℕ) → k < m + n → (step_of (steps_of k s)).0 ≡ end.Done
+after_done m n s t u first second k h =
+    elim (cases_lt k m) [
+      | inl early ↦ first.done k early
+      | inr late ↦
+          let split : k ≡ m + (k - m) = omega arith in
+          let there : steps_of k s ≡ steps_of (k - m) t =
+          ap (λ i. steps_of i s) split ∙ steps-add m (k - m) s ∙ ap (λ (x : State). steps_of (k - m) x) (sym first.reached) in
+          ap (λ (x : State). (step_of x).0) there ∙ second.done (k - m) (omega arith)
+    ]
+
+pub after-then : (m n : ℕ) (s t u : State) → IsAfter m s t → IsAfter n t u → IsAfter (m + n) s u
+after-then m n s t u first second = record {
+  done = after_done m n s t u first second;
+  reached = second.reached ∙ ap (λ (x : State). steps_of n x) first.reached ∙ sym (steps-add m n s);
+}
+
+-- a machine that can go on does
+answer_goes : (halted : Bool) (i : Option Inst) (w : ℕ) (s : State) → stuck_by halted i ≡ None → (cond halted (end.Halted, s) (step_by i w s)).0 ≡ end.Done
+answer_goes true i w s e = cc
+answer_goes false None w s e = cc
+answer_goes false (Some i) w s e = refl
+
+pub goes-on : (s : State) → step_refusal s ≡ None → (step_of s).0 ≡ end.Done
+unfolding step_of
+goes-on s e = answer_goes s.sp.halted (inst_of (word_at s.imem s.pc)) (word_at s.imem s.pc) s (sym (stuck_is s.sp.halted (inst_of (word_at s.imem s.pc))) ∙ e)
+
+-- the numbers below the least that passes
+least_step : (test : ℕ → Bool) (n j : ℕ) (b : Bool) → test zero ≡ b → ((i : ℕ) → i < least (λ k. test (suc k)) n → test (suc i) ≡ false)
+    → j < cond b zero (suc (least (λ k. test (suc k)) n)) → test j ≡ false
+least_step test n j true e below h = absurd (omega arith)
+least_step test n zero false e below h = e
+least_step test n (suc j) false e below h = below j (omega arith)
+
+pub least-below : (test : ℕ → Bool) (n j : ℕ) → j < least test n → test j ≡ false
+least-below test zero j h = absurd (omega arith)
+least-below test (suc n) j h = least_step test n j (test zero) refl (least-below (λ k. test (suc k)) n) h
+
+pub no-some : {X : Type 0} (o : Option X) → is_some o ≡ false → o ≡ None
+no-some None e = refl
+no-some (Some x) e = cc
+
+pub no-reason : (b : List Bool) (w : List (Option Watch)) (n : ℕ) (s : State) (j : ℕ) → j < run_steps b w n s → reason_at b w n s j ≡ None
+unfolding run_steps
+no-reason b w n s j h = no-some _ (least-below (λ k. is_some (reason_at b w n s k)) n j h)
+
+reason_goes : (b : List Bool) (w : List (Option Watch)) (n : ℕ) (s : State) (k : ℕ) → reason_at b w n s k ≡ None → step_refusal (steps_of k s) ≡ None
+unfolding reason_at
+reason_goes b w n s k e = two_none _ _ _ _ _ e
+
+pub after-run : (b : List Bool) (w : List (Option Watch)) (n : ℕ) (s : State) → IsAfter (run_steps b w n s) s (steps_of (run_steps b w n s) s)
+after-run b w n s = record {
+  done = λ k h. goes-on (steps_of k s) (reason_goes b w n s k (no-reason b w n s k h));
+  reached = refl;
+}
+
+-- a step
+after_answer : (s : State) (e : StepEnd) → (step_of s).0 ≡ e → IsAfter (done_steps e) s (step_of s).1
+after_answer s end.Done e = record {
+  done = λ k h. ap (λ (x : State). (step_of x).0) (ap (λ i. steps_of i s) (let z : k ≡ 0 = omega arith in z) ∙ steps-none s) ∙ e;
+  reached = ap (λ (x : State). (step_of x).1) (sym (steps-none s)) ∙ sym (steps-more 0 s);
+}
+after_answer s end.Halted e = let same = step-halted-same s e in subst (λ (t : State). IsAfter 0 s t) (sym same) (after-none s)
+after_answer s (end.Reserved w) e = let same = step-reserved-same s w e in subst (λ (t : State). IsAfter 0 s t) (sym same) (after-none s)
+
+after_count : (counted : Bool) (k : ℕ) (s : State) → IsAfter k s (steps_of k s) → IsAfter (cond counted k 0) s (steps_of (cond counted k 0) s)
+after_count true k s h = h
+after_count false k s h = record { done = λ k h. absurd (omega arith); reached = refl }
+
+pub after-call : (call : ForwardCall) (s : State) → IsAfter (call_steps call s) s (state_after_call call s)
+unfolding call_steps state_after_call
+after-call StepCall s = after_answer s (step_of s).0 refl
+after-call (RunCall b w n) s = after_count (is_count n) (run_steps b w n s) s (after-run b w n s)
+
+pub after-calls : (calls : List ForwardCall) (s : State) → IsAfter (steps_of_calls calls s) s (state_after_calls calls s)
+after-calls [] s = after-none s
+after-calls (call ∷ calls) s = after-then (call_steps call s) (steps_of_calls calls (state_after_call call s)) s (state_after_call call s) _ (after-call call s) (after-calls calls (state_after_call call s))
+
+-- a run has a reason to stop at the least number of steps that has one, which is at most its limit
+least_in : (test : ℕ → Bool) (n : ℕ) (b : Bool) → test zero ≡ b → (test (suc (least (λ k. test (suc k)) n)) ≡ true) × (least (λ k. test (suc k)) n ≤ n)
+    → (test (cond b zero (suc (least (λ k. test (suc k)) n))) ≡ true) × (cond b zero (suc (least (λ k. test (suc k)) n)) ≤ suc n)
+least_in test n true e later = (e, omega arith)
+least_in test n false e later = (later.0, omega (arith, later.1))
+
+pub least-passes : (test : ℕ → Bool) (n : ℕ) → test n ≡ true → (test (least test n) ≡ true) × (least test n ≤ n)
+least-passes test zero e = (e, omega arith)
+least-passes test (suc n) e = least_in test n (test zero) refl (least-passes (λ k. test (suc k)) n e)
+
+last_reason : (a b c d : Option Reason) (limit : Bool) → limit ≡ true → is_some (first_of (a ∷ b ∷ c ∷ d ∷ when limit Limit ∷ [])) ≡ true
+last_reason (Some r) b c d true e = refl
+last_reason None (Some r) c d true e = refl
+last_reason None None (Some r) d true e = refl
+last_reason None None None (Some r) true e = refl
+last_reason None None None None true e = refl
+last_reason a b c d false e = cc
+
+limit_in : (b : List Bool) (w : List (Option Watch)) (n : ℕ) (before s : State) → is_some (reason_in b w n n before s) ≡ true
+limit_in b w n before s =
+    let same : nat_eq n n ≡ true = grind (arith, common_steps) in
+    last_reason (when (is_reserved s) Reserved) (when s.sp.halted Halted) (cond (nat_lt 0 n) (option_map Watched (changed w before.dmem s.dmem)) None)
+    (when (nat_lt 0 n && is_break b s.pc) Break) (nat_eq n n) same
+
+limit_reason : (b : List Bool) (w : List (Option Watch)) (n : ℕ) (s : State) → is_some (reason_at b w n s n) ≡ true
+unfolding reason_at
+limit_reason b w n s = limit_in b w n (steps_of (n - 1) s) (steps_of n s)
+
+the_reason : (o : Option Reason) → is_some o ≡ true → o ≡ Some (unwrap_or o Limit)
+the_reason None e = cc
+the_reason (Some r) e = refl
+
+least_within : (b : List Bool) (w : List (Option Watch)) (n : ℕ) (s : State) → least (λ k. is_some (reason_at b w n s k)) n ≤ n → run_steps b w n s ≤ n
+unfolding run_steps
+least_within b w n s h = h
+
+least_there : (b : List Bool) (w : List (Option Watch)) (n : ℕ) (s : State) → is_some (reason_at b w n s (least (λ k. is_some (reason_at b w n s k)) n)) ≡ true
+    → is_some (reason_at b w n s (run_steps b w n s)) ≡ true
+unfolding run_steps
+least_there b w n s h = h
+
+pub stop-first : (b : List Bool) (w : List (Option Watch)) (n : ℕ) (s : State) → IsStop b w n s (steps_of (run_steps b w n s) s) (stop_of b w n s)
+unfolding stop_of
+stop-first b w n s =
+    let there = least-passes (λ k. is_some (reason_at b w n s k)) n (limit_reason b w n s) in
+    record {
+      within = least_within b w n s there.1;
+      reached = refl;
+      reason = the_reason _ (least_there b w n s there.0);
+      first = no-reason b w n s;
+      place = refl;
+    }
+
+pub at-end : (k n : ℕ) (s t : State) → IsAfter k s t → k ≡ n → IsAfter n s t
+at-end k n s t h e = subst (λ (i : ℕ). IsAfter i s t) e h
+
+-- one step more, or none
+pub after-more : (k : ℕ) (s m t : State) → IsAfter k s m → (step_of m).0 ≡ end.Done → t ≡ (step_of m).1 → IsAfter (k + 1) s t
+after-more k s m t h e there = subst (λ (x : State). IsAfter (k + 1) s x) (sym there) (after-then k 1 s m (step_of m).1 h (after_answer m end.Done e))
+
+pub after-same : (k : ℕ) (s m t : State) → IsAfter k s m → t ≡ m → IsAfter k s t
+after-same k s m t h there = subst (λ (x : State). IsAfter k s x) (sym there) h
+
+-- steps that all are Done
+pub made-after : (k : ℕ) (s t : State) → done_of k s ≡ k → t ≡ steps_of k s → IsAfter k s t
+made-after k s t done there = record { done = done-each k s done; reached = there }
+
+pub ruleset afters = (after-calls, stop-first)
+
+-- a stop where the machine stands
+stop_by : (b : List Bool) (w : List (Option Watch)) (n : ℕ) (s t : State) (k m : ℕ) (r : Reason) (stop : Stop) (o : Option Reason) → step_refusal t ≡ o
+    → stop ≡ record { reason = unwrap_or o r; steps = m; pc = t.pc } → m ≡ k → k ≤ n → t ≡ steps_of k s
+    → ((j : ℕ) → j < k → reason_at b w n s j ≡ None) → (step_refusal t ≡ None → reason_at b w n s k ≡ Some r) → IsStop b w n s t stop
+stop_by b w n s t k m r stop None e same count within reached first other = is_stop b w n s t k m r stop same count within reached first (other e)
+stop_by b w n s t k m r stop (Some q) e same count within reached first other =
+    is_stop b w n s t k m q stop same count within reached first (reason-stuck b w n s t k q reached e)
+
+pub stop-here : (b : List Bool) (w : List (Option Watch)) (n : ℕ) (s t : State) (k m : ℕ) (r : Reason) (stop : Stop)
+    → stop ≡ record { reason = unwrap_or (step_refusal t) r; steps = m; pc = t.pc } → m ≡ k → k ≤ n → t ≡ steps_of k s
+    → ((j : ℕ) → j < k → reason_at b w n s j ≡ None) → (step_refusal t ≡ None → reason_at b w n s k ≡ Some r) → IsStop b w n s t stop
+stop-here b w n s t k m r stop = stop_by b w n s t k m r stop (step_refusal t) refl
+
+pub never : (o : Option Reason) (X : Type 0) → is_some o ≡ true → o ≡ None → X
+never None X e h = cc
+never (Some r) X e h = cc

@@ -1,0 +1,49 @@
+-- Looks, item by item.
+use Rattle.std.proofs.Common.{◌≡◌, ℕ, ◌+◌, ◌*◌, ◌<◌, List, [], ◌∷◌, ◌++◌, length, map, ap, sym, ◌∙◌, arith, inl, inr, get_or-set_other, get_or-set_same}
+use Rattle.std.specs.Prelude.{slice_set, slice_index}
+use Rattle.std.specs.List.{range_with_len}
+use Rattle.std.proofs.lemmas.Bool.{cases_eq}
+use Rattle.std.proofs.lemmas.List.FromFn.{map-range_with_len_more, length-map-range_with_len}
+use Rattle.rsp_memory.specs.declared.bank.Bank.{Bank}
+use Rattle.rsp_machine.specs.State.{State}
+use Rattle.rsp_debug.specs.Queries.{bank_byte, memory_of, listing_line, listing_of}
+
+-- words that agree below k, and one more
+pub agree-more : (words registers : List ℕ) (k v : ℕ) → ((j : ℕ) → j < k → slice_index words j ≡ slice_index registers j) → k < length words → v ≡ slice_index registers k
+    → (j : ℕ) → j < k + 1 → slice_index (slice_set words k v) j ≡ slice_index registers j
+agree-more words registers k v below h e j b =
+    elim (cases_eq j k) [
+      | inl same ↦ ap (λ x. slice_index (slice_set words k v) x) same ∙ get_or-set_same words k v 0 h ∙ e ∙ sym (ap (λ x. slice_index registers x) same)
+      | inr other ↦ get_or-set_other words k j v 0 other ∙ below j (omega arith)
+    ]
+
+pub ruleset registers = (agree-more)
+
+-- one item more
+pub bytes-none : (bank : Bank) (s : State) (a n : ℕ) → n ≡ 0 → [] ≡ memory_of bank s a n
+unfolding memory_of
+bytes-none bank s a n e = sym (ap (λ k. map (λ i. bank_byte bank s (a + i)) (range_with_len 0 k)) e)
+
+pub bytes-more : (bank : Bank) (s : State) (a i : ℕ) → memory_of bank s a i ++ bank_byte bank s (a + i) ∷ [] ≡ memory_of bank s a (i + 1)
+unfolding memory_of
+bytes-more bank s a i = sym (map-range_with_len_more (λ i. bank_byte bank s (a + i)) 0 i i (omega arith))
+
+pub length-bytes : (bank : Bank) (s : State) (a n : ℕ) → length (memory_of bank s a n) ≡ n
+unfolding memory_of
+length-bytes bank s a n = length-map-range_with_len (λ i. bank_byte bank s (a + i)) 0 n
+
+pub ruleset bytes = (bytes-none, bytes-more, length-bytes)
+
+pub words-none : (s : State) (place n : ℕ) → n ≡ 0 → [] ≡ listing_of s place n
+unfolding listing_of
+words-none s place n e = sym (ap (λ k. map (λ i. listing_line s (place + 4 * i)) (range_with_len 0 k)) e)
+
+pub words-more : (s : State) (place i : ℕ) → listing_of s place i ++ listing_line s (place + 4 * i) ∷ [] ≡ listing_of s place (i + 1)
+unfolding listing_of
+words-more s place i = sym (map-range_with_len_more (λ i. listing_line s (place + 4 * i)) 0 i i (omega arith))
+
+pub length-words : (s : State) (place n : ℕ) → length (listing_of s place n) ≡ n
+unfolding listing_of
+length-words s place n = length-map-range_with_len (λ i. listing_line s (place + 4 * i)) 0 n
+
+pub ruleset words = (words-none, words-more, length-words)

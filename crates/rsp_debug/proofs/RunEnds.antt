@@ -1,0 +1,149 @@
+-- Where runs end.
+use Rattle.std.proofs.Common.{◌≡◌, ℕ, zero, suc, ◌-◌, ◌<◌, ◌≤◌, List, [], ◌∷◌, refl, ap, sym, subst, ◌∙◌, arith, Bool, true, false, cond, Option, Some, None}
+use Rattle.std.specs.Prelude.{not, All, IsNone, is_some, unwrap_or, nat_lt, option_map, map, ◌&&◌, ◌==◌}
+use Rattle.rsp_machine.specs.State.{State}
+use Rattle.rsp_machine.specs.Laws.{steps_of}
+use Rattle.rsp_debug.specs.Stops.{is_break, is_reserved, when, first_of, reason_at, least, run_steps, stop_of, IsStop}
+use Rattle.std.specs.Int.{bit_at}
+use Rattle.std.proofs.lemmas.Nat.Bits.{bit_at-zero}
+use Rattle.rsp_memory.specs.Memory.{word_at}
+use Rattle.rsp_decode.specs.declared.inst.Inst.{Inst}
+use Rattle.rsp_decode.specs.declared.inst.Inst.TheVariants.{MoveSp}
+use Rattle.rsp_machine.specs.Pass.{is_write}
+use Rattle.rsp_decode.specs.Table.{inst_of}
+use Rattle.rsp_debug.specs.declared.moves.Moves.{Moves}
+use Rattle.rsp_debug.specs.declared.moves.MoveEnd.{MoveEnd}
+use Rattle.rsp_debug.specs.declared.moves.MoveEnd.TheVariants as end
+use Rattle.rsp_debug.specs.Moves.{no_moves, is_asked, is_at_move, is_limit, steps_to_move, move_by, end_by, move_end_of, end_steps}
+use Rattle.rsp_debug.specs.Runs.{hit_in, found_in}
+use Rattle.rsp_debug.specs.declared.snapshot.Snapshot.{Snapshot}
+use Rattle.rsp_debug.specs.Snapshots.{snapshot_of, watches_of}
+use Rattle.rsp_debug.specs.History.{history_after_steps}
+use Rattle.rsp_debug.specs.Debugging.{Debugging, after_steps, after_run}
+use Rattle.rsp_debug.proofs.Stretches.{made-is}
+use Rattle.rsp_debug.specs.declared.stop.Watch.{Watch}
+use Rattle.rsp_debug.specs.declared.stop.Reason.{Reason}
+use Rattle.rsp_debug.specs.declared.stop.Reason.TheVariants.{Reserved, Halted, Watched, Break, Limit}
+use Rattle.rsp_debug.specs.declared.stop.Stop.{Stop}
+use Rattle.rsp_debug.proofs.WatchChanges.{none-changed, changed-none, watches-of}
+
+-- the least number that passes
+pub least-is : (test : ℕ → Bool) (n k : ℕ) → k ≤ n → test k ≡ true → ((j : ℕ) → j < k → test j ≡ false) → least test n ≡ k
+least-is test zero zero within here before = refl
+least-is test zero (suc k) within here before = absurd (omega arith)
+least-is test (suc n) zero within here before = ap (λ b. cond b zero (suc (least (λ i. test (suc i)) n))) here
+least-is test (suc n) (suc k) within here before =
+    ap (λ b. cond b zero (suc (least (λ i. test (suc i)) n))) (before zero (omega arith))
+    ∙ ap suc (least-is (λ i. test (suc i)) n k (omega arith) here (λ j h. before (suc j) (omega arith)))
+
+-- a stop is the one that the definition gives
+pub steps-are : (b : List Bool) (w : List (Option Watch)) (n : ℕ) (s t : State) (stop : Stop) → IsStop b w n s t stop → run_steps b w n s ≡ stop.steps
+unfolding run_steps
+steps-are b w n s t stop is =
+    least-is (λ k. is_some (reason_at b w n s k)) n stop.steps is.within (ap is_some is.reason) (λ j h. ap is_some (is.first j h))
+
+abbrev made : Reason → ℕ → ℕ → Stop
+made r k pc = record { reason = r; steps = k; pc = pc }
+
+pub stop-is : (b : List Bool) (w : List (Option Watch)) (n : ℕ) (s t : State) (stop : Stop) → IsStop b w n s t stop → stop ≡ stop_of b w n s
+unfolding stop_of
+stop-is b w n s t stop is =
+    ap (λ pc. made stop.reason stop.steps pc) (is.place ∙ ap (λ (x : State). x.pc) is.reached)
+    ∙ ap (λ o. made (unwrap_or o Limit) stop.steps (steps_of stop.steps s).pc) (sym is.reason)
+    ∙ ap (λ k. made (unwrap_or (reason_at b w n s k) Limit) k (steps_of k s).pc) (sym (steps-are b w n s t stop is))
+
+-- where there are no watches, none changes
+unwatched_reason : (b : List Bool) (w : List (Option Watch)) (n k : ℕ) (s : State) → All IsNone w → reason_at b [] n s k ≡ reason_at b w n s k
+unfolding reason_at
+unwatched_reason b w n k s none =
+    let before = steps_of (k - 1) s in let t = steps_of k s in
+    ap (λ o. first_of (when (is_reserved t) Reserved ∷ when t.sp.halted Halted ∷ cond (nat_lt 0 k) (option_map Watched o) None ∷ when (nat_lt 0 k && is_break b t.pc) Break ∷ when (k == n) Limit ∷ []))
+    (none-changed before.dmem t.dmem ∙ sym (changed-none w before.dmem t.dmem none))
+
+pub unwatched-stop : (b : List Bool) (w : List (Option Watch)) (n : ℕ) (s t : State) (stop : Stop) → IsStop b [] n s t stop → All IsNone w → IsStop b w n s t stop
+unwatched-stop b w n s t stop is none = record {
+  within = is.within;
+  reached = is.reached;
+  reason = sym (unwatched_reason b w n stop.steps s none) ∙ is.reason;
+  first = λ j h. sym (unwatched_reason b w n j s none) ∙ is.first j h;
+  place = is.place;
+}
+
+-- the watches are those of the snapshots
+pub snapshots-stop : (b : List Bool) (w : List (Option Watch)) (n : ℕ) (s t : State) (stop : Stop) (dmem : List ℕ) → IsStop b (watches_of (map (snapshot_of dmem) w)) n s t stop → IsStop b w n s t stop
+snapshots-stop b w n s t stop dmem is = subst (λ (x : List (Option Watch)). IsStop b x n s t stop) (watches-of w dmem) is
+
+-- if no move is asked for, none comes
+zero_bit : (b : Bool) (r : ℕ) → (bit_at (cond b 0 0) r == 1) ≡ false
+zero_bit true r = ap (λ x. x == 1) (bit_at-zero r)
+zero_bit false r = ap (λ x. x == 1) (bit_at-zero r)
+
+pub never-asked : (o : Option Inst) → is_asked no_moves o ≡ false
+never-asked None = refl
+never-asked (Some (MoveSp row rt r)) = zero_bit (is_write row) r
+never-asked (Some _) = refl
+
+least-none : (test : ℕ → Bool) (n : ℕ) → ((k : ℕ) → test k ≡ false) → least test n ≡ n
+least-none test zero none = refl
+least-none test (suc n) none =
+    ap (λ b. cond b zero (suc (least (λ i. test (suc i)) n))) (none zero) ∙ ap suc (least-none (λ i. test (suc i)) n (λ k. none (suc k)))
+
+not_next : (halted asked : Bool) → asked ≡ false → not halted && asked ≡ false
+not_next true asked e = refl
+not_next false asked e = e
+
+pub unmoved-stop : (b : List Bool) (w : List (Option Watch)) (moves : Moves) (n : ℕ) (s t : State) (stop : Stop) → moves ≡ no_moves → IsStop b w (steps_to_move moves n s) s t stop → IsStop b w n s t stop
+unfolding steps_to_move
+unmoved-stop b w moves n s t stop none given =
+    let is = subst (λ (x : Moves). IsStop b w (steps_to_move x n s) s t stop) none given in
+    subst (λ (x : ℕ). IsStop b w x s t stop)
+    (least-none (λ k. is_at_move no_moves (steps_of k s)) n (λ k. let x = steps_of k s in not_next x.sp.halted _ (never-asked (inst_of (word_at x.imem x.pc))))) is
+
+-- where no moves are asked for, none is the limit
+unmoved : (moves : Moves) (s : State) → moves ≡ no_moves → is_at_move moves s ≡ false
+unmoved moves s none = ap (λ (x : Moves). is_at_move x s) none ∙ not_next s.sp.halted _ (never-asked (inst_of (word_at s.imem s.pc)))
+
+pub unmoved-start : (moves : Moves) (s : State) → moves ≡ no_moves → None ≡ when (is_at_move moves s) Limit
+unmoved-start moves s none = sym (ap (λ b. when b Limit) (unmoved moves s none))
+
+first_alone : (o : Option Reason) → first_of (o ∷ None ∷ []) ≡ o
+first_alone None = refl
+first_alone (Some r) = refl
+
+pub unmoved-found : (b : List Bool) (snapshots : List (Option Snapshot)) (moves : Moves) (s : State) (r : Option Reason) → moves ≡ no_moves → r ≡ hit_in b snapshots s → r ≡ found_in b snapshots moves s
+unmoved-found b snapshots moves s r none e =
+    e ∙ sym (first_alone (hit_in b snapshots s)) ∙ ap (λ o. first_of (hit_in b snapshots s ∷ o ∷ [])) (unmoved-start moves s none)
+
+-- the end of a run that also ends before moves is the one that the definition gives
+pub move-end-is : (b : List Bool) (w : List (Option Watch)) (moves : Moves) (n : ℕ) (s t : State) (stop : Stop) (r : MoveEnd) → IsStop b w (steps_to_move moves n s) s t stop → r ≡ end_by moves stop t
+    → r ≡ move_end_of b w moves n s
+unfolding move_end_of
+move-end-is b w moves n s t stop r is e =
+    e ∙ ap (λ (x : State). end_by moves stop x) is.reached ∙ ap (λ (x : Stop). end_by moves x (steps_of x.steps s)) (stop-is b w (steps_to_move moves n s) s t stop is)
+
+move_steps : (o : Option Inst) (stop : Stop) (s : State) → end_steps (move_by o stop s) ≡ stop.steps
+move_steps None stop s = refl
+move_steps (Some (MoveSp row rt r)) stop s = refl
+move_steps (Some _) stop s = refl
+
+steps_by : (b : Bool) (o : Option Inst) (stop : Stop) (s : State) → end_steps (cond b (move_by o stop s) (end.Stop stop)) ≡ stop.steps
+steps_by true o stop s = move_steps o stop s
+steps_by false o stop s = refl
+
+pub move-end-steps : (moves : Moves) (stop : Stop) (t : State) (r : MoveEnd) → r ≡ end_by moves stop t → end_steps r ≡ stop.steps
+move-end-steps moves stop t r e =
+    ap end_steps e ∙ steps_by (is_limit stop.reason && is_at_move moves t) (inst_of (word_at t.imem t.pc)) stop t
+
+-- a debugger after a run
+pub ran-is : (d : Debugging) (n : ℕ) (t : State) (past : List State) (depth : ℕ) (stop : Stop) → IsStop d.breaks d.watches n d.state t stop
+    → past ≡ history_after_steps stop.steps d.depth d.state d.past → depth ≡ d.depth
+    → (let x : Debugging = record { state = t; breaks = d.breaks; watches = d.watches; past = past; depth = depth } in x) ≡ after_run n d
+ran-is d n t past depth stop is p e =
+    let k = steps-are d.breaks d.watches n d.state t stop is in
+    ap (λ (s : State). let x : Debugging = record { state = s; breaks = d.breaks; watches = d.watches; past = past; depth = depth } in x) is.reached
+    ∙ ap (λ l. let x : Debugging = record { state = steps_of stop.steps d.state; breaks = d.breaks; watches = d.watches; past = l; depth = depth } in x) p
+    ∙ ap (λ i. let x : Debugging = record { state = steps_of stop.steps d.state; breaks = d.breaks; watches = d.watches; past = history_after_steps stop.steps d.depth d.state d.past; depth = i } in x) e
+    ∙ sym (made-is stop.steps d)
+    ∙ ap (λ i. after_steps i d) (sym k)
+
+pub ruleset ends = (stop-is, ran-is)

@@ -1,0 +1,106 @@
+-- Going on by stretches of steps.
+use Rattle.std.proofs.Common.{◌≡◌, ◌≢◌, ℕ, zero, suc, ◌+◌, ◌≤◌, List, refl, ap, sym, ◌∙◌, arith, Bool, true, false, Option, Some, None}
+use Rattle.std.specs.Prelude.{is_some, not}
+use Rattle.rsp_machine.specs.State.{State}
+use Rattle.rsp_machine.specs.Step.{step_of}
+use Rattle.rsp_machine.specs.Laws.{steps_of, done_steps}
+use Rattle.rsp_machine.specs.Undo.{Saved}
+use Rattle.rsp_machine.specs.Transfers.{starts_dma_at}
+use Rattle.rsp_machine.specs.declared.step.StepEnd.{StepEnd}
+use Rattle.rsp_machine.specs.declared.step.StepEnd.TheVariants as end
+use Rattle.rsp_machine.proofs.LoopSteps.{steps-add}
+use Rattle.rsp_debug.specs.Undoable.{history_by, history_after}
+use Rattle.rsp_debug.specs.History.{Records, states_before, history_after_steps}
+use Rattle.rsp_debug.specs.Debugging.{Debugging, after_steps, after_debugger_step}
+use Rattle.rsp_debug.specs.Calls.{IsAfter}
+use Rattle.rsp_debug.specs.Runs.{step_refusal}
+use Rattle.rsp_debug.proofs.Reasons.{step-halted, step-reserved, step-halted-same, step-reserved-same}
+
+-- n steps of a debugger are n steps of its machine, and fill its past
+abbrev pub made : ℕ → Debugging → Debugging
+made k d = record d { state = steps_of k d.state; past = history_after_steps k d.depth d.state d.past }
+
+pub made-is : (k : ℕ) (d : Debugging) → after_steps k d ≡ made k d
+unfolding after_steps steps_of history_after_steps
+made-is zero d = refl
+made-is (suc k) d = ap (λ (x : Debugging). let y : Debugging = record x { state = (step_of x.state).1; past = history_after x.depth x.state x.past } in y) (made-is k d)
+
+pub made-state : (k : ℕ) (d : Debugging) → (after_steps k d).state ≡ steps_of k d.state
+made-state k d = ap (λ (x : Debugging). x.state) (made-is k d)
+
+pub past-none : (depth : ℕ) (s : State) (past : List State) → history_after_steps 0 depth s past ≡ past
+unfolding history_after_steps
+past-none depth s past = refl
+
+pub past-add : (k j n : ℕ) (s : State) (past : List State) → history_after_steps (k + j) n s past ≡ history_after_steps j n (steps_of k s) (history_after_steps k n s past)
+unfolding history_after_steps
+past-add k zero n s past = ap (λ i. history_after_steps i n s past) (let e : k + 0 ≡ k = omega arith in e)
+past-add k (suc j) n s past =
+    ap (λ i. history_after_steps i n s past) (let e : k + suc j ≡ suc (k + j) = omega arith in e)
+    ∙ ap (λ (x : State). history_after n x (history_after_steps (k + j) n s past)) (steps-add k j s)
+    ∙ ap (history_after n (steps_of j (steps_of k s))) (past-add k j n s past)
+
+-- a stretch of at most one step, for a step
+not_done : (e : StepEnd) (b : Bool) (n : ℕ) (s : State) (past : List State) → done_steps e ≡ 0 → history_by e b n s past ≡ past
+not_done end.Done b n s past h = absurd (omega (arith, h))
+not_done end.Halted b n s past h = refl
+not_done (end.Reserved w) b n s past h = refl
+
+not_moved : (s : State) (e : StepEnd) → (step_of s).0 ≡ e → done_steps e ≡ 0 → (step_of s).1 ≡ s
+not_moved s end.Done is h = absurd (omega (arith, h))
+not_moved s end.Halted is h = step-halted-same s is
+not_moved s (end.Reserved w) is h = step-reserved-same s w is
+
+pub single-none : (k n : ℕ) (s t u : State) (rs : List Saved) (past : List State) → k ≡ 0 → t ≡ steps_of k s → done_steps (step_of t).0 ≡ 0 → u ≡ (step_of t).1 → states_before t rs ≡ history_after_steps k n s past
+    → (u ≡ (step_of s).1) × (states_before u rs ≡ history_after n s past)
+unfolding steps_of history_after_steps history_after
+single-none k n s t u rs past none there stuck moved kept =
+    let same : t ≡ s = there ∙ ap (λ i. steps_of i s) none in
+    let still : u ≡ t = moved ∙ not_moved t (step_of t).0 refl stuck in (
+      moved ∙ ap (λ (x : State). (step_of x).1) same,
+      ap (λ (x : State). states_before x rs) still ∙ kept ∙ ap (λ i. history_after_steps i n s past) none
+          ∙ sym (not_done (step_of s).0 (starts_dma_at s) n s past (ap (λ (x : State). done_steps (step_of x).0) (sym same) ∙ stuck)),
+    )
+
+pub single-done : (k n : ℕ) (s t : State) (rs : List Saved) (past : List State) → k ≢ 0 → k ≤ 1 → IsAfter k s t → states_before t rs ≡ history_after_steps k n s past
+    → (end.Done ≡ (step_of s).0) × (t ≡ (step_of s).1) × (states_before t rs ≡ history_after n s past)
+unfolding steps_of history_after_steps
+single-done k n s t rs past some few after kept =
+    let one : k ≡ 1 = omega (arith, some, few) in
+    (sym (after.done 0 (omega (arith, one))), after.reached ∙ ap (λ i. steps_of i s) one, kept ∙ ap (λ i. history_after_steps i n s past) one)
+
+-- where a step can't be made the machine is stuck
+stuck_by_end : (s : State) (e : StepEnd) → (step_of s).0 ≡ e → done_steps e ≡ 0 → is_some (step_refusal s) ≡ true
+stuck_by_end s end.Done is h = absurd (omega (arith, h))
+stuck_by_end s end.Halted is h = ap is_some (step-halted s is)
+stuck_by_end s (end.Reserved w) is h = ap is_some (step-reserved s w is)
+
+pub stuck-is : (s : State) → done_steps (step_of s).0 ≡ 0 → is_some (step_refusal s) ≡ true
+stuck-is s h = stuck_by_end s (step_of s).0 refl h
+
+-- the parts of a run's loop
+pub no-one : {X : Type 0} (o : Option X) (b : Bool) → is_some o ≡ not b → b ≡ true → o ≡ None
+no-one None b e h = refl
+no-one (Some x) b e h = let no : true ≡ false = e ∙ ap not h in cc
+
+pub some-one : {X : Type 0} (o : Option X) (b : Bool) (Y : Type 0) → is_some o ≡ not b → b ≡ false → o ≡ None → Y
+some-one o b Y e h none = let no : false ≡ true = sym (ap is_some none) ∙ e ∙ ap not h in cc
+
+pub after-zero : (k : ℕ) (s t : State) → k ≡ 0 → IsAfter k s t → t ≡ s
+unfolding steps_of
+after-zero k s t none h = h.reached ∙ ap (λ i. steps_of i s) none
+
+pub past-then : (k j o depth now : ℕ) (s m : State) (past old next : List State) → next ≡ history_after_steps j now m old → now ≡ depth → old ≡ history_after_steps k depth s past → m ≡ steps_of k s → o ≡ k + j → next ≡ history_after_steps o depth s past
+past-then k j o depth now s m past old next e same kept there count =
+    e ∙ ap (λ d. history_after_steps j d m old) same ∙ ap (history_after_steps j depth m) kept ∙ ap (λ (x : State). history_after_steps j depth x (history_after_steps k depth s past)) there
+    ∙ sym (past-add k j depth s past) ∙ ap (λ i. history_after_steps i depth s past) (sym count)
+
+pub states-as : (s t : State) (h g : Records) → s ≡ t → h ≡ g → states_before s h.newest ≡ states_before t g.newest
+states-as s t h g e f = rw (e, f) refl
+
+pub stepped-as : (d : Debugging) (t : State) (past : List State) (depth : ℕ) → t ≡ (step_of d.state).1 → past ≡ history_after d.depth d.state d.past → depth ≡ d.depth
+    → (let x : Debugging = record { state = t; breaks = d.breaks; watches = d.watches; past = past; depth = depth } in x) ≡ after_debugger_step d
+stepped-as d t past depth e f h =
+    ap (λ (s : State). let x : Debugging = record { state = s; breaks = d.breaks; watches = d.watches; past = past; depth = depth } in x) e
+    ∙ ap (λ p. let x : Debugging = record { state = (step_of d.state).1; breaks = d.breaks; watches = d.watches; past = p; depth = depth } in x) f
+    ∙ ap (λ i. let x : Debugging = record { state = (step_of d.state).1; breaks = d.breaks; watches = d.watches; past = history_after d.depth d.state d.past; depth = i } in x) h

@@ -1,0 +1,162 @@
+-- Decoding: what a word means has the word's row and its fields.
+use Rattle.std.proofs.Common.{◌≡◌, refl, sym, ap, subst, ◌∙◌, ℕ, zero, suc, ◌/◌, ◌%◌, ◌^◌, min, List, [], ◌∷◌, ◌++◌, Bool, arith, Option, inl, inr}
+use Rattle.std.specs.Prelude.{find, map, Some, None, option_map, IfSome}
+use Rattle.std.proofs.lemmas.Bool.{cond-true, cond-false, cases_Bool}
+use Rattle.rsp_decode.specs.declared.inst.Inst.{Inst}
+use Rattle.rsp_decode.specs.declared.scalar.BranchSignOp.TheVariants.{Bltz, Bgez, Bltzal, Bgezal, Blez, Bgtz}
+use Rattle.rsp_decode.specs.declared.scalar.ImmediateOp.{ImmediateOp}
+use Rattle.rsp_decode.specs.declared.scalar.ImmediateOp.TheVariants.{Addi}
+use Rattle.rsp_decode.specs.declared.scalar.MoveOp.{MoveOp}
+use Rattle.rsp_decode.specs.declared.scalar.MoveOp.TheVariants.{From, To}
+use Rattle.rsp_decode.specs.declared.vector.VectorLoadOp.{VectorLoadOp}
+use Rattle.rsp_decode.specs.declared.vector.VectorLoadOp.TheVariants.{Lbv}
+use Rattle.rsp_decode.specs.declared.vector.VectorStoreOp.{VectorStoreOp}
+use Rattle.rsp_decode.specs.declared.vector.VectorStoreOp.TheVariants.{Sbv}
+use Rattle.rsp_decode.specs.Table.{shifts, shifts_by, registers, jumps, branches_equal, immediates, loads, stores, multiplies, rounds, mpegs, vector_adds, vector_selects, vector_clips, vector_logics, divides, idles, vector_loads, vector_stores, Row, rows, row_of, fits, fields, row_bit_fields, inst_of, canonical_of, meaning_of, word_from, word_of, row_and_values, IsInstruction, FitBitFields, control_of, control_number, special_rows, regimm_rows, opcode_rows, cop0_rows, cop2_rows, computing_rows, lwc2_rows, swc2_rows, shift_row, shift_by_row, jump_register_row, jump_link_register_row, break_row, register_row, branch_sign_row, jump_row, branch_equal_row, immediate_row, load_upper_row, load_row, store_row, move_sp_row, move_vector_row, move_control_row, multiply_row, round_row, mpeg_row, read_accumulator_row, vector_add_row, vector_select_row, vector_clip_row, vector_merge_row, vector_logic_row, divide_row, idle_row, vector_load_row, vector_store_row}
+use Rattle.rsp_decode.proofs.BitFields.{fit_read}
+
+-- a fact of each row of a list
+abbrev All_of : (Row → Type 0) → List Row → Type 0
+All_of P [] = Unit {0}
+All_of P (r ∷ rs) = P r × All_of P rs
+
+record Each (P : Row → Type 0) (rs : List Row) : Type 0 where
+  each : All_of P rs
+
+infixl 60 ◌&◌
+◌&◌ : {P : Row → Type 0} {xs ys : List Row} → Each P xs → Each P ys → Each P (xs ++ ys)
+◌&◌ {P} {xs} {ys} a b = record { each = go xs a.each }
+  where
+    go : (zs : List Row) → All_of P zs → All_of P (zs ++ ys)
+    go [] c = b.each
+    go (z ∷ zs) c = (c.0, go zs c.1)
+
+group : {A : Type 0} {P : Row → Type 0} (f : A → Row) → ((a : A) → P (f a)) → (xs : List A) → Each P (map f xs)
+group {A} {P} f all xs = record { each = go xs }
+  where
+    go : (ys : List A) → All_of P (map f ys)
+    go [] = tt
+    go (y ∷ ys) = (all y, go ys)
+
+alone : {P : Row → Type 0} (r : Row) → P r → Each P (r ∷ [])
+alone r p = record { each = (p, tt) }
+
+found : (P : Row → Type 0) (p : Row → Bool) (rs : List Row) → All_of P rs → (r : Row) → find p rs ≡ Some r → P r
+found P p [] all r e = cc
+found P p (x ∷ xs) all r e =
+    elim (cases_Bool (p x)) [
+      | inl t ↦ let same : x ≡ r = let s : Some x ≡ Some r = sym (cond-true _ (Some x) (find p xs) t) ∙ e in cc in subst P same all.0
+      | inr f ↦ found P p xs all.1 r (sym (cond-false _ (Some x) (find p xs) f) ∙ e)
+    ]
+
+-- the row and the fields of what it means are its own
+abbrev Kept : Row → Type 0
+Kept r = (w : ℕ) → row_and_values (meaning_of r w) ≡ (r, fields r w)
+
+-- control register 3 is read as 2
+control_kept : (n : ℕ) → control_number (control_of (min 2 n)) ≡ min 2 n
+control_kept zero = refl
+control_kept (suc zero) = refl
+control_kept (suc (suc n)) = let e : min 2 (suc (suc n)) ≡ 2 = omega arith in ap (λ m. control_number (control_of m)) e ∙ sym e
+
+immediate_kept : (r : ImmediateOp) → Kept (immediate_row r)
+immediate_kept r = elim r as (λ s. Kept (immediate_row s)) [ Addi ↦ λ w. refl | _ ↦ λ w. refl ]
+
+move_control_kept : (r : MoveOp) → Kept (move_control_row r)
+move_control_kept r = λ w. ap (λ c. (move_control_row r, w / 2 ^ 16 % 2 ^ 5 ∷ c ∷ [])) (control_kept (w / 2 ^ 11 % 2 ^ 2))
+
+vector_load_kept : (r : VectorLoadOp) → Kept (vector_load_row r)
+vector_load_kept r = elim r as (λ s. Kept (vector_load_row s)) [ Lbv ↦ λ w. refl | _ ↦ λ w. refl ]
+
+vector_store_kept : (r : VectorStoreOp) → Kept (vector_store_row r)
+vector_store_kept r = elim r as (λ s. Kept (vector_store_row s)) [ Sbv ↦ λ w. refl | _ ↦ λ w. refl ]
+
+special_kept_rows : Each Kept special_rows
+special_kept_rows =
+    group shift_row (λ r w. refl) shifts
+    & group shift_by_row (λ r w. refl) shifts_by
+    & alone jump_register_row (λ w. refl)
+    & alone jump_link_register_row (λ w. refl)
+    & alone break_row (λ w. refl)
+    & group register_row (λ r w. refl) registers
+
+regimm_kept_rows : Each Kept regimm_rows
+regimm_kept_rows = group branch_sign_row (λ r w. refl) (Bltz ∷ Bgez ∷ Bltzal ∷ Bgezal ∷ [])
+
+opcode_kept_rows : Each Kept opcode_rows
+opcode_kept_rows =
+    group branch_sign_row (λ r w. refl) (Blez ∷ Bgtz ∷ [])
+    & group jump_row (λ r w. refl) jumps
+    & group branch_equal_row (λ r w. refl) branches_equal
+    & group immediate_row immediate_kept immediates
+    & alone load_upper_row (λ w. refl)
+    & group load_row (λ r w. refl) loads
+    & group store_row (λ r w. refl) stores
+
+cop0_kept_rows : Each Kept cop0_rows
+cop0_kept_rows = group move_sp_row (λ r w. refl) (From ∷ To ∷ [])
+
+cop2_kept_rows : Each Kept cop2_rows
+cop2_kept_rows =
+    group move_vector_row (λ r w. refl) (From ∷ To ∷ [])
+    & group move_control_row move_control_kept (From ∷ To ∷ [])
+
+computing_kept_rows : Each Kept computing_rows
+computing_kept_rows =
+    group multiply_row (λ r w. refl) multiplies
+    & group round_row (λ r w. refl) rounds
+    & group mpeg_row (λ r w. refl) mpegs
+    & alone read_accumulator_row (λ w. refl)
+    & group vector_add_row (λ r w. refl) vector_adds
+    & group vector_select_row (λ r w. refl) vector_selects
+    & group vector_clip_row (λ r w. refl) vector_clips
+    & alone vector_merge_row (λ w. refl)
+    & group vector_logic_row (λ r w. refl) vector_logics
+    & group divide_row (λ r w. refl) divides
+    & group idle_row (λ r w. refl) idles
+
+lwc2_kept_rows : Each Kept lwc2_rows
+lwc2_kept_rows = group vector_load_row vector_load_kept vector_loads
+
+swc2_kept_rows : Each Kept swc2_rows
+swc2_kept_rows = group vector_store_row vector_store_kept vector_stores
+
+all_kept : Each Kept rows
+all_kept =
+    special_kept_rows
+    & regimm_kept_rows
+    & opcode_kept_rows
+    & cop0_kept_rows
+    & cop2_kept_rows
+    & computing_kept_rows
+    & lwc2_kept_rows
+    & swc2_kept_rows
+
+pub decoded : (w : ℕ) (i : Inst) → inst_of w ≡ Some i → IsInstruction i × (canonical_of w ≡ Some (word_of i))
+unfolding inst_of canonical_of row_of
+decoded w i e = go (row_of w) refl e
+  where
+    go : (o : Option Row) → row_of w ≡ o → option_map (λ (r : Row). meaning_of r w) o ≡ Some i → IsInstruction i × (option_map (λ (r : Row). word_from r (fields r w)) (row_of w) ≡ Some (word_of i))
+    go None row e = absurd cc
+    go (Some r) row e =
+        let same : r.inst (fields r w) ≡ i = cc in
+        let p : row_and_values i ≡ (r, fields r w) = ap row_and_values (sym same) ∙ found Kept (fits w) rows all_kept.each r row w in (
+          subst (λ (q : Row × List ℕ). FitBitFields (row_bit_fields q.0) q.1) (sym p) (fit_read w (row_bit_fields r)),
+          ap (option_map (λ (s : Row). word_from s (fields s w))) row ∙ ap (λ (q : Row × List ℕ). Some (word_from q.0 q.1)) (sym p),
+        )
+
+pub decoded_instruction : (w : ℕ) (o : Option Inst) → inst_of w ≡ o → IfSome o IsInstruction
+decoded_instruction w None e = tt
+decoded_instruction w (Some i) e = (decoded w i e).0
+
+pub decoded_canonical : (w : ℕ) (o : Option Inst) → inst_of w ≡ o → IfSome o (λ i. canonical_of w ≡ Some (word_of i))
+decoded_canonical w None e = tt
+decoded_canonical w (Some i) e = (decoded w i e).1
+
+pub reserved : (w : ℕ) → inst_of w ≡ None → canonical_of w ≡ None
+unfolding inst_of canonical_of
+reserved w e = go (row_of w) e
+  where
+    go : (o : Option Row) → option_map (λ (r : Row). meaning_of r w) o ≡ None → option_map (λ (r : Row). word_from r (fields r w)) o ≡ None
+    go None e = refl
+    go (Some r) e = absurd cc

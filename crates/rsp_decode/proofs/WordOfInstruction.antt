@@ -1,0 +1,109 @@
+-- Encoding: the word of an instruction has its row alone, and its fields are read back.
+use Rattle.std.proofs.Common.{◌≡◌, refl, ap, ◌∙◌, ℕ, List, [], ◌∷◌, Bool, true, ◌&&◌, bit_and}
+use Rattle.std.specs.Prelude.{◌==◌, find, filter, Some, None, option_map}
+use Rattle.std.proofs.lemmas.Bool.{eqb-true, eq-eqb, and_parts, cond-true}
+use Rattle.rsp_decode.specs.declared.inst.Inst.{Inst}
+use Rattle.rsp_decode.specs.declared.scalar.ShiftOp.TheVariants.{Sll}
+use Rattle.rsp_decode.specs.declared.scalar.ShiftVariableOp.TheVariants.{Sllv}
+use Rattle.rsp_decode.specs.declared.scalar.RegisterOp.TheVariants.{Add}
+use Rattle.rsp_decode.specs.declared.scalar.BranchSignOp.TheVariants.{Bltz}
+use Rattle.rsp_decode.specs.declared.scalar.JumpOp.TheVariants.{J}
+use Rattle.rsp_decode.specs.declared.scalar.BranchEqualOp.TheVariants.{Beq}
+use Rattle.rsp_decode.specs.declared.scalar.ImmediateOp.TheVariants.{Addi}
+use Rattle.rsp_decode.specs.declared.scalar.LoadOp.TheVariants.{Lb}
+use Rattle.rsp_decode.specs.declared.scalar.StoreOp.TheVariants.{Sb}
+use Rattle.rsp_decode.specs.declared.scalar.MoveOp.TheVariants.{From}
+use Rattle.rsp_decode.specs.declared.vector.VectorMultiplyOp.TheVariants.{Vmulf}
+use Rattle.rsp_decode.specs.declared.vector.VectorRoundOp.TheVariants.{Vrndp}
+use Rattle.rsp_decode.specs.declared.vector.VectorMpegOp.TheVariants.{Vmulq}
+use Rattle.rsp_decode.specs.declared.vector.VectorAddOp.TheVariants.{Vadd}
+use Rattle.rsp_decode.specs.declared.vector.VectorSelectOp.TheVariants.{Vlt}
+use Rattle.rsp_decode.specs.declared.vector.VectorClipOp.TheVariants.{Vcl}
+use Rattle.rsp_decode.specs.declared.vector.VectorLogicOp.TheVariants.{Vand}
+use Rattle.rsp_decode.specs.declared.vector.VectorDivideOp.TheVariants.{Vrcp}
+use Rattle.rsp_decode.specs.declared.vector.VectorNopOp.TheVariants.{Vnop}
+use Rattle.rsp_decode.specs.declared.vector.VectorLoadOp.TheVariants.{Lbv}
+use Rattle.rsp_decode.specs.declared.vector.VectorStoreOp.TheVariants.{Sbv}
+use Rattle.rsp_decode.specs.declared.vector.Control.TheVariants.{Vco, Vcc, Vce}
+use Rattle.rsp_decode.specs.declared.inst.Inst.TheVariants.{BranchEqual, BranchSign, Break, Idle, Immediate, Jump, JumpLinkRegister, JumpRegister, Divide, Load, LoadUpper, MoveControl, MoveSp, MoveVector, Register, Shift, ShiftBy, Store, Multiply, Round, MpegMultiply, ReadAccumulator, VectorAdd, VectorSelect, VectorClip, VectorMerge, VectorLogic, VectorLoad, VectorStore}
+use Rattle.rsp_decode.specs.Table.{Row, rows, row_of, fits, fields, row_bit_fields, inst_of, canonical_of, word_from, word_of, row_and_values, IsInstruction, FitBitFields, shift_row, shift_by_row, register_row, branch_sign_row, jump_row, branch_equal_row, immediate_row, load_row, store_row, move_sp_row, move_vector_row, move_control_row, multiply_row, round_row, mpeg_row, vector_add_row, vector_select_row, vector_clip_row, vector_logic_row, divide_row, idle_row, vector_load_row, vector_store_row}
+use Rattle.rsp_decode.proofs.Keys.{may_have, narrowed}
+use Rattle.rsp_decode.proofs.BitFields.{apart_from, all_apart, under_others, fields_back, clear_from}
+
+-- the value is under the mask, and the places are apart from the mask and from each other
+abbrev sound : Row → Bool
+sound r = (bit_and r.value r.mask == r.value) && (apart_from r.mask (row_bit_fields r) && all_apart (row_bit_fields r))
+
+-- and no other row fits a word of the row
+record Good (r : Row) : Type 0 where
+  is_sound : sound r ≡ true
+  alone : filter (may_have r.mask r.value) rows ≡ r ∷ []
+
+module _ (r : Row) (good : Good r) (vs : List ℕ) (fit : FitBitFields (row_bit_fields r) vs) where
+  word_row : row_of (word_from r vs) ≡ Some r
+  unfolding row_of
+  word_row =
+      let tests = and_parts _ _ good.is_sound in
+      let under : bit_and (word_from r vs) r.mask ≡ r.value =
+      under_others (row_bit_fields r) vs r.value r.mask fit (and_parts _ _ tests.1).0 ∙ eqb-true _ _ tests.0 in
+      narrowed (word_from r vs) r.mask r.value rows under
+      ∙ ap (find (fits (word_from r vs))) good.alone
+      ∙ cond-true (fits (word_from r vs) r) (Some r) None (eq-eqb _ _ under)
+
+  word_fields : fields r (word_from r vs) ≡ vs
+  word_fields =
+      let tests = and_parts _ _ good.is_sound in
+      let places = and_parts _ _ tests.1 in
+      fields_back (row_bit_fields r) vs r.value fit places.1 (clear_from r.mask r.value (row_bit_fields r) (eqb-true _ _ tests.0) places.0)
+
+  word_inst : inst_of (word_from r vs) ≡ Some (r.inst vs)
+  unfolding inst_of
+  word_inst = ap (option_map (λ (s : Row). s.inst (fields s (word_from r vs)))) word_row ∙ ap (λ f. Some (r.inst f)) word_fields
+
+  word_canonical : canonical_of (word_from r vs) ≡ Some (word_from r vs)
+  unfolding canonical_of
+  word_canonical = ap (option_map (λ (s : Row). word_from s (fields s (word_from r vs)))) word_row ∙ ap (λ f. Some (word_from r f)) word_fields
+
+-- each row of an instruction
+good_parts : (i : Inst) → Good (row_and_values i).0
+good_parts (Shift r rd rt amount) = elim r as (λ s. Good (shift_row s)) [ Sll ↦ record { is_sound = refl; alone = refl } | _ ↦ record { is_sound = refl; alone = refl } ]
+good_parts (ShiftBy r fields) = elim r as (λ s. Good (shift_by_row s)) [ Sllv ↦ record { is_sound = refl; alone = refl } | _ ↦ record { is_sound = refl; alone = refl } ]
+good_parts (JumpRegister rs) = record { is_sound = refl; alone = refl }
+good_parts (JumpLinkRegister rd rs) = record { is_sound = refl; alone = refl }
+good_parts Break = record { is_sound = refl; alone = refl }
+good_parts (Register r fields) = elim r as (λ s. Good (register_row s)) [ Add ↦ record { is_sound = refl; alone = refl } | _ ↦ record { is_sound = refl; alone = refl } ]
+good_parts (BranchSign r rs offset) = elim r as (λ s. Good (branch_sign_row s)) [ Bltz ↦ record { is_sound = refl; alone = refl } | _ ↦ record { is_sound = refl; alone = refl } ]
+good_parts (Jump r target) = elim r as (λ s. Good (jump_row s)) [ J ↦ record { is_sound = refl; alone = refl } | _ ↦ record { is_sound = refl; alone = refl } ]
+good_parts (BranchEqual r rs rt offset) = elim r as (λ s. Good (branch_equal_row s)) [ Beq ↦ record { is_sound = refl; alone = refl } | _ ↦ record { is_sound = refl; alone = refl } ]
+good_parts (Immediate r rt rs imm) = elim r as (λ s. Good (immediate_row s)) [ Addi ↦ record { is_sound = refl; alone = refl } | _ ↦ record { is_sound = refl; alone = refl } ]
+good_parts (LoadUpper rt imm) = record { is_sound = refl; alone = refl }
+good_parts (Load r fields) = elim r as (λ s. Good (load_row s)) [ Lb ↦ record { is_sound = refl; alone = refl } | _ ↦ record { is_sound = refl; alone = refl } ]
+good_parts (Store r fields) = elim r as (λ s. Good (store_row s)) [ Sb ↦ record { is_sound = refl; alone = refl } | _ ↦ record { is_sound = refl; alone = refl } ]
+good_parts (MoveSp r rt register) = elim r as (λ s. Good (move_sp_row s)) [ From ↦ record { is_sound = refl; alone = refl } | _ ↦ record { is_sound = refl; alone = refl } ]
+good_parts (MoveVector r rt vector' element) = elim r as (λ s. Good (move_vector_row s)) [ From ↦ record { is_sound = refl; alone = refl } | _ ↦ record { is_sound = refl; alone = refl } ]
+good_parts (MoveControl r rt control) = elim r as (λ s. Good (move_control_row s)) [ From ↦ record { is_sound = refl; alone = refl } | _ ↦ record { is_sound = refl; alone = refl } ]
+good_parts (Multiply r fields) = elim r as (λ s. Good (multiply_row s)) [ Vmulf ↦ record { is_sound = refl; alone = refl } | _ ↦ record { is_sound = refl; alone = refl } ]
+good_parts (Round r fields) = elim r as (λ s. Good (round_row s)) [ Vrndp ↦ record { is_sound = refl; alone = refl } | _ ↦ record { is_sound = refl; alone = refl } ]
+good_parts (MpegMultiply r fields) = elim r as (λ s. Good (mpeg_row s)) [ Vmulq ↦ record { is_sound = refl; alone = refl } | _ ↦ record { is_sound = refl; alone = refl } ]
+good_parts (ReadAccumulator fields) = record { is_sound = refl; alone = refl }
+good_parts (VectorAdd r fields) = elim r as (λ s. Good (vector_add_row s)) [ Vadd ↦ record { is_sound = refl; alone = refl } | _ ↦ record { is_sound = refl; alone = refl } ]
+good_parts (VectorSelect r fields) = elim r as (λ s. Good (vector_select_row s)) [ Vlt ↦ record { is_sound = refl; alone = refl } | _ ↦ record { is_sound = refl; alone = refl } ]
+good_parts (VectorClip r fields) = elim r as (λ s. Good (vector_clip_row s)) [ Vcl ↦ record { is_sound = refl; alone = refl } | _ ↦ record { is_sound = refl; alone = refl } ]
+good_parts (VectorMerge fields) = record { is_sound = refl; alone = refl }
+good_parts (VectorLogic r fields) = elim r as (λ s. Good (vector_logic_row s)) [ Vand ↦ record { is_sound = refl; alone = refl } | _ ↦ record { is_sound = refl; alone = refl } ]
+good_parts (Divide r vd lane vt element) = elim r as (λ s. Good (divide_row s)) [ Vrcp ↦ record { is_sound = refl; alone = refl } | _ ↦ record { is_sound = refl; alone = refl } ]
+good_parts (Idle r) = elim r as (λ s. Good (idle_row s)) [ Vnop ↦ record { is_sound = refl; alone = refl } | _ ↦ record { is_sound = refl; alone = refl } ]
+good_parts (VectorLoad r fields) = elim r as (λ s. Good (vector_load_row s)) [ Lbv ↦ record { is_sound = refl; alone = refl } | _ ↦ record { is_sound = refl; alone = refl } ]
+good_parts (VectorStore r fields) = elim r as (λ s. Good (vector_store_row s)) [ Sbv ↦ record { is_sound = refl; alone = refl } | _ ↦ record { is_sound = refl; alone = refl } ]
+
+rebuilt : (i : Inst) → (row_and_values i).0.inst (row_and_values i).1 ≡ i
+rebuilt (MoveControl r rt Vco) = refl
+rebuilt (MoveControl r rt Vcc) = refl
+rebuilt (MoveControl r rt Vce) = refl
+rebuilt _ = refl
+
+pub round_trip : (i : Inst) → IsInstruction i → inst_of (word_of i) ≡ Some i
+round_trip i is = word_inst (row_and_values i).0 (good_parts i) (row_and_values i).1 is ∙ ap Some (rebuilt i)
+
+pub word_of_is_canonical : (i : Inst) → IsInstruction i → canonical_of (word_of i) ≡ Some (word_of i)
+word_of_is_canonical i is = word_canonical (row_and_values i).0 (good_parts i) (row_and_values i).1 is

@@ -1,7 +1,0 @@
-use Rattle.std.proofs.Common.{◌∙◌}
-use Rattle.rsp_lanes.specs.Bytes.{packed_byte}
-use Rattle.rsp_lanes.proofs.ByteOrder.{turned, packed_is}
-use Rattle.rsp_lanes.proofs.vreg.VReg.packed_from.Goals as goal
-
-pub returns : goal.returns
-returns c = c.turned.ensures ∙ rw (c.to_simd-lanes.ensures.value) (turned (packed_byte c.args.self.now) _ c.args.i (packed_is c.args.self.now c.to_simd-lanes.ensures.vector))

@@ -1,9 +1,0 @@
-pub mod Alike
-pub mod PieceAnswers
-pub mod Kept
-pub mod KnownEnds
-pub mod Left
-pub mod Pieces
-pub mod Replies
-pub mod Runs
-pub mod Texts

@@ -1,9 +1,0 @@
--- Reading a script in pieces, and writing the replies to its lines.
-pub mod Pieces
-pub mod Faults
-pub mod Left
-pub mod Lines
-pub mod Replies
-pub mod Ends
-pub mod Views
-pub mod Text

@@ -1,0 +1,74 @@
+-- Moves neither ask nor tell where the machine stands: from elsewhere they do the same, and stay there.
+use Rattle.std.proofs.Common.{◌≡◌, refl, ℕ, Bool, true, false}
+use Rattle.std.specs.Prelude.{if◌then◌else◌, ◌%◌, ◌==◌}
+use Rattle.rsp_decode.specs.declared.inst.Inst.{Inst}
+use Rattle.rsp_decode.specs.declared.inst.Inst.TheVariants.{Break}
+use Rattle.rsp_decode.specs.declared.scalar.MoveOp.{MoveOp}
+use Rattle.rsp_decode.specs.declared.scalar.MoveOp.TheVariants.{From, To}
+use Rattle.rsp_scalar.specs.Registers.{register}
+use Rattle.rsp_regs.specs.Sp.{Sp, after_register_write}
+use Rattle.rsp_machine.specs.State.{State}
+use Rattle.rsp_machine.specs.Undo.{change_of}
+use Rattle.rsp_machine.specs.Changes.{IsRanged}
+use Rattle.rsp_machine.specs.ProgramCounters.{ProgramCounters, with_counters, counters_of}
+use Rattle.rsp_machine.specs.Host.{moved_in, moved_out}
+use Rattle.rsp_machine.specs.Vector.{moves_vector, moves_control}
+use Rattle.rsp_machine.specs.Step.{moves_sp}
+
+pub vector_elsewhere : (row : MoveOp) (i : Inst) (rt : ℕ) (p : ProgramCounters) (s : State) → moves_vector row i rt (with_counters p s) ≡ with_counters p (moves_vector row i rt s)
+unfolding moves_vector
+vector_elsewhere From i rt p s = refl
+vector_elsewhere To i rt p s = refl
+
+pub vector_stays : (row : MoveOp) (i : Inst) (rt : ℕ) (s : State) → with_counters (counters_of s) (moves_vector row i rt s) ≡ moves_vector row i rt s
+unfolding moves_vector
+vector_stays From i rt s = refl
+vector_stays To i rt s = refl
+
+pub control_elsewhere : (row : MoveOp) (i : Inst) (rt : ℕ) (p : ProgramCounters) (s : State) → moves_control row i rt (with_counters p s) ≡ with_counters p (moves_control row i rt s)
+unfolding moves_control
+control_elsewhere From i rt p s = refl
+control_elsewhere To i rt p s = refl
+
+pub control_stays : (row : MoveOp) (i : Inst) (rt : ℕ) (s : State) → with_counters (counters_of s) (moves_control row i rt s) ≡ moves_control row i rt s
+unfolding moves_control
+control_stays From i rt s = refl
+control_stays To i rt s = refl
+
+written_elsewhere : (a b : Bool) (v : ℕ) (sp : Sp) (p : ProgramCounters) (s : State)
+    → record (if a then moved_in v (with_counters p s) else if b then moved_out v (with_counters p s) else with_counters p s) { sp = sp }
+    ≡ with_counters p (record (if a then moved_in v s else if b then moved_out v s else s) { sp = sp })
+written_elsewhere true b v sp p s = refl
+written_elsewhere false true v sp p s = refl
+written_elsewhere false false v sp p s = refl
+
+pub sp_elsewhere : (row : MoveOp) (rt n : ℕ) (p : ProgramCounters) (s : State) → moves_sp row rt n (with_counters p s) ≡ with_counters p (moves_sp row rt n s)
+unfolding moves_sp
+sp_elsewhere From rt n p s = refl
+sp_elsewhere To rt n p s =
+    let v = register s.registers rt in
+    written_elsewhere (n % 16 == 2) (n % 16 == 3) v (after_register_write n v s.sp) p s
+
+written_stays : (a b : Bool) (v : ℕ) (sp : Sp) (s : State)
+    → with_counters (counters_of s) (record (if a then moved_in v s else if b then moved_out v s else s) { sp = sp })
+    ≡ record (if a then moved_in v s else if b then moved_out v s else s) { sp = sp }
+written_stays true b v sp s = refl
+written_stays false true v sp s = refl
+written_stays false false v sp s = refl
+
+pub sp_stays : (row : MoveOp) (rt n : ℕ) (s : State) → with_counters (counters_of s) (moves_sp row rt n s) ≡ moves_sp row rt n s
+unfolding moves_sp
+sp_stays From rt n s = refl
+sp_stays To rt n s =
+    let v = register s.registers rt in
+    written_stays (n % 16 == 2) (n % 16 == 3) v (after_register_write n v s.sp) s
+
+-- nor does what an instruction changes depend on the places
+pub change_elsewhere : (i : Inst) (p : ProgramCounters) (s : State) → change_of i s ≡ change_of i (with_counters p s)
+unfolding change_of
+change_elsewhere Break p s = refl
+change_elsewhere _ p s = refl
+
+-- nor do the ranges of the vector unit tell
+pub ranged-at : (p : ProgramCounters) (s : State) → IsRanged s → IsRanged (with_counters p s)
+ranged-at p s r = record { vectors = r.vectors; accumulators = r.accumulators; flags = r.flags }

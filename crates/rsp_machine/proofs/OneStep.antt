@@ -1,0 +1,144 @@
+-- How a step of a machine that isn't halted ends.
+use Rattle.std.proofs.Common.{◌≡◌, ℕ, Bool, true, false, not, ◌||◌, refl, sym, ap, ◌∙◌, Option, Some, None}
+use Rattle.std.specs.Prelude.{if◌then◌else◌, option_map, unwrap_or}
+use Rattle.rsp_decode.specs.declared.inst.Inst.{Inst}
+use Rattle.rsp_decode.specs.declared.inst.Inst.TheVariants.{Break, MoveSp, MoveVector, MoveControl}
+use Rattle.rsp_decode.specs.declared.scalar.MoveOp.TheVariants.{From, To}
+use Rattle.rsp_decode.specs.Table.{inst_of}
+use Rattle.rsp_memory.specs.Memory.{word_at}
+use Rattle.rsp_regs.specs.Sp.{Sp, after_step}
+use Rattle.rsp_machine.specs.State.{State}
+use Rattle.rsp_machine.specs.Vector.{multiplies, rounds, multiplies_mpeg, reads_accumulator, ruled, divides, loads_vector, stores_vector, moves_vector, moves_control}
+use Rattle.rsp_machine.specs.Step.{computes, loads, stores, jumps, instruction_effect, executed, after_single_step, step_by, step_of}
+use Rattle.rsp_machine.specs.declared.step.StepEnd.TheVariants.{Done, Halted, Reserved}
+use Rattle.rsp_machine.specs.Transfers.{starts_dma_in, starts_dma_at}
+use Rattle.rsp_machine.specs.declared.change.Change.TheVariants as of
+use Rattle.rsp_regs.specs.Sp.{is_length_register}
+use Rattle.rsp_machine.specs.Undo.{change_of, starts_dma, can_undo}
+use Rattle.rsp_machine.specs.Changes.{reaches_sp, reach_of}
+use Rattle.rsp_machine.specs.Until.{may_store_by, may_store_at}
+use Rattle.rsp_machine.specs.declared.change.Change.{Change}
+use Rattle.rsp_machine.specs.declared.change.Reach.{Reach}
+use Rattle.rsp_machine.proofs.Undo.{dma_of}
+
+-- what the loop asks of an instruction, if there is one; and the state after it
+abbrev pub reached : State → Option Inst → Option Reach
+reached s o = option_map (λ i. reach_of (change_of i s)) o
+
+abbrev pub after : State → Option Inst → State
+after s o = unwrap_or (option_map (λ i. executed i s) o) s
+
+-- an instruction that doesn't reach the SP registers leaves them
+dma_reaches : (b : Bool) (X : Type 0) → reaches_sp (if b then of.Dma else of.Sp 0) ≡ false → X
+dma_reaches true X h = cc
+dma_reaches false X h = cc
+
+leaves : (i : Inst) (s : State) → reaches_sp (change_of i s) ≡ false → (executed i s).sp ≡ s.sp
+unfolding change_of executed instruction_effect computes loads stores jumps multiplies rounds multiplies_mpeg reads_accumulator ruled divides loads_vector stores_vector moves_vector moves_control
+leaves Break s h = cc
+leaves (MoveSp From rt n) s h = cc
+leaves (MoveSp To rt n) s h = dma_reaches (is_length_register n) ((executed (MoveSp To rt n) s).sp ≡ s.sp) h
+leaves (MoveVector From rt n element) s h = refl
+leaves (MoveVector To rt n element) s h = refl
+leaves (MoveControl From rt control) s h = refl
+leaves (MoveControl To rt control) s h = refl
+leaves _ s h = refl
+
+some_is : {X : Type 0} (x y : X) → Some x ≡ Some y → x ≡ y
+some_is x y e = cc
+
+pub stays : (o : Option Inst) (s t : State) (e : Reach) → e.sp ≡ false → Some e ≡ reached s o → t ≡ after s o → t.sp ≡ s.sp
+stays None s t e none h there = cc
+stays (Some i) s t e none h there = ap (λ (x : State). x.sp) there ∙ leaves i s (ap (λ (x : Reach). x.sp) (sym (some_is _ _ h)) ∙ none)
+
+pub halted_as : (s t : State) → s.sp.halted ≡ false → t.sp ≡ s.sp → false ≡ t.sp.halted
+halted_as s t h e = sym (ap (λ (p : Sp). p.halted) e ∙ h)
+
+-- whether it starts a DMA, and whether it may have stored
+pub not_back : (b d : Bool) → b ≡ not d → not b ≡ d
+not_back b true e = ap not e
+not_back b false e = ap not e
+
+dma_by : (o : Option Inst) (s : State) (e : Reach) → Some e ≡ reached s o → e.dma ≡ starts_dma_in o
+dma_by None s e h = cc
+dma_by (Some i) s e h = ap (λ (x : Reach). x.dma) (some_is _ _ h) ∙ not_back (can_undo (change_of i s)) (starts_dma i) (dma_of i s)
+
+pub dma-as : (w : ℕ) (s : State) (e : Reach) → w ≡ word_at s.imem s.pc → Some e ≡ reached s (inst_of w) → e.dma ≡ starts_dma_at s
+unfolding starts_dma_at
+dma-as w s e is h = dma_by (inst_of w) s e h ∙ ap (λ v. starts_dma_in (inst_of v)) is
+
+no_dma : (c : Change) → reaches_sp c ≡ false → not (can_undo c) ≡ false
+no_dma of.Dma h = cc
+no_dma _ h = refl
+
+pub dma-free : (o : Option Inst) (s : State) (e : Reach) → Some e ≡ reached s o → e.sp ≡ false → e.dma ≡ false
+dma-free None s e h none = cc
+dma-free (Some i) s e h none =
+    let same = some_is e (reach_of (change_of i s)) h in
+    ap (λ (x : Reach). x.dma) same ∙ no_dma (change_of i s) (ap (λ (x : Reach). x.sp) (sym same) ∙ none)
+
+stored_by : (o : Option Inst) (s : State) (e : Reach) → Some e ≡ reached s o → e.dmem ≡ may_store_by o s
+stored_by None s e h = cc
+stored_by (Some i) s e h = ap (λ (x : Reach). x.dmem) (some_is _ _ h)
+
+pub stored-as : (w : ℕ) (s : State) (e : Reach) → w ≡ word_at s.imem s.pc → Some e ≡ reached s (inst_of w) → e.dmem ≡ may_store_at s
+unfolding may_store_at
+stored-as w s e is h = stored_by (inst_of w) s e h ∙ ap (λ v. may_store_by (inst_of v) s) is
+
+-- single step halts nothing where it is clear
+halts_none : (p : Sp) → p.halted ≡ false → p.single_step ≡ false → after_step p ≡ p
+unfolding after_step
+halts_none p h e = rw (e, h) refl
+
+pub free : (s t : State) → s.sp.halted ≡ false → t.sp ≡ s.sp → t.sp.single_step ≡ false → t ≡ after_single_step t
+free s t h same e = sym (ap (λ p. record t { sp = p }) (halts_none t.sp (ap (λ (p : Sp). p.halted) same ∙ h) e))
+
+pub clear_as : (s t : State) → s.sp.single_step ≡ false → t.sp ≡ s.sp → t.sp.single_step ≡ false
+clear_as s t h e = ap (λ (p : Sp). p.single_step) e ∙ h
+
+-- and a machine that goes on behind an instruction isn't in single step
+clear_by : (h single : Bool) → (h || single) ≡ false → single ≡ false
+clear_by false single e = e
+clear_by true single e = cc
+
+clear_after : (p : Sp) → (after_step p).halted ≡ false → (after_step p).single_step ≡ false
+unfolding after_step
+clear_after p h = clear_by p.halted p.single_step h
+
+pub clear_behind : (s t : State) → t ≡ after_single_step s → t.sp.halted ≡ false → t.sp.single_step ≡ false
+clear_behind s t e h = ap (λ (x : State). x.sp.single_step) e ∙ clear_after s.sp (sym (ap (λ (x : State). x.sp.halted) e) ∙ h)
+
+pub ended : (v t : State) (p : Sp) → v ≡ t → p ≡ after_step v.sp → record v { sp = p } ≡ after_single_step t
+ended v t p e f = ap (λ (q : Sp). record v { sp = q }) f ∙ ap after_single_step e
+
+-- a step of a halted machine
+halted_by : (b : Bool) (o : Option Inst) (w : ℕ) (s : State) → b ≡ true → (if b then (Halted, s) else step_by o w s) ≡ (Halted, s)
+halted_by true o w s h = refl
+halted_by false o w s h = cc
+
+pub step_halted : (s : State) → s.sp.halted ≡ true → step_of s ≡ (Halted, s)
+unfolding step_of
+step_halted s h = halted_by s.sp.halted (inst_of (word_at s.imem s.pc)) (word_at s.imem s.pc) s h
+
+-- a step of a machine that isn't halted
+running : (b : Bool) (o : Option Inst) (w : ℕ) (s : State) → b ≡ false → (if b then (Halted, s) else step_by o w s) ≡ step_by o w s
+running true o w s h = cc
+running false o w s h = refl
+
+reserved : (o : Option Inst) (w : ℕ) (s t : State) → reached s o ≡ None → t ≡ after s o → step_by o w s ≡ (Reserved w, t)
+reserved None w s t h e = ap (λ (x : State). (Reserved w, x)) (sym e)
+reserved (Some i) w s t h e = cc
+
+done : (o : Option Inst) (w : ℕ) (s t : State) (e : Reach) → reached s o ≡ Some e → t ≡ after s o → step_by o w s ≡ (Done, after_single_step t)
+done None w s t e h there = cc
+done (Some i) w s t e h there = ap (λ (x : State). (Done, after_single_step x)) (sym there)
+
+pub step_reserved : (w : ℕ) (s t : State) → s.sp.halted ≡ false → w ≡ word_at s.imem s.pc → None ≡ reached s (inst_of w) → t ≡ after s (inst_of w)
+    → step_of s ≡ (Reserved w, t)
+unfolding step_of
+step_reserved w s t h e r there = rw (← e) (running s.sp.halted (inst_of w) w s h ∙ reserved (inst_of w) w s t (sym r) there)
+
+pub step_done : (w : ℕ) (s t : State) (e : Reach) → s.sp.halted ≡ false → w ≡ word_at s.imem s.pc → Some e ≡ reached s (inst_of w) → t ≡ after s (inst_of w)
+    → step_of s ≡ (Done, after_single_step t)
+unfolding step_of
+step_done w s t e h is r there = rw (← is) (running s.sp.halted (inst_of w) w s h ∙ done (inst_of w) w s t e (sym r) there)

@@ -1,0 +1,122 @@
+-- Which states the records of steps undo to.
+use Rattle.std.proofs.Common.{◌≡◌, ◌⊎◌, inl, inr, ℕ, zero, suc, ◌+◌, ◌-◌, ◌<◌, ◌≤◌, Bool, true, false, not, List, [], ◌∷◌, length, drop, get_or, refl, sym, ap, ◌∙◌, arith, add-one, Option, Some, None}
+use Rattle.std.specs.Prelude.{slice_get, IsSome, is_some}
+use Rattle.std.proofs.lemmas.Bool.{cases_lt}
+use Rattle.std.proofs.lemmas.Option.{get_or_from_slice_get}
+use Rattle.rsp_machine.specs.State.{State}
+use Rattle.rsp_machine.specs.Step.{step_of}
+use Rattle.rsp_machine.specs.Laws.{steps_of, done_steps, done_of}
+use Rattle.rsp_machine.specs.Undo.{Saved, blank, record_of, after_step_from, record_at, can_undo, may_store, undone}
+use Rattle.rsp_machine.specs.Transfers.{starts_dma_at}
+use Rattle.rsp_machine.specs.Until.{ends_after}
+use Rattle.rsp_machine.specs.Loop.{HasRecorded, HaveRecorded, LoopEnd}
+use Rattle.rsp_machine.specs.declared.step.StepEnd.TheVariants.{Done}
+use Rattle.rsp_machine.proofs.OneStep.{not_back}
+use Rattle.rsp_machine.proofs.LoopSteps.{done_few, is_done}
+use Rattle.rsp_machine.proofs.Undo.{record-dma, record-back, record-memory}
+
+-- the steps behind each other
+pub steps-more : (i : ℕ) (s : State) → steps_of (i + 1) s ≡ (step_of (steps_of i s)).1
+unfolding steps_of
+steps-more i s = rw add-one refl
+
+-- where all are Done, each is
+done_within : (n : ℕ) (s : State) → done_of n s ≤ n
+unfolding done_of
+done_within zero s = omega arith
+done_within (suc n) s = omega (arith, done_within n s, done_few (step_of (steps_of n s)).0)
+
+pub done-each : (k : ℕ) (s : State) → done_of k s ≡ k → (i : ℕ) → i < k → (step_of (steps_of i s)).0 ≡ Done
+unfolding done_of
+done-each zero s d i h = absurd (omega (arith, h))
+done-each (suc k) s d i h =
+    let bound = done_within k s in let one = done_few (step_of (steps_of k s)).0 in
+    elim (cases_lt i k) [
+      | inl l ↦ done-each k s (omega (arith, d, bound, one)) i l
+      | inr r ↦
+          let last : i ≡ k = omega (arith, r, h) in
+          ap (λ j. (step_of (steps_of j s)).0) last ∙ sym (is_done (step_of (steps_of k s)).0 (omega (arith, d, bound, one)))
+    ]
+
+-- the records of k steps from s
+abbrev pub AreRecorded : ℕ → State → List Saved → List Saved → Type 0
+AreRecorded k s old new = HaveRecorded record_of (λ n. n) k s old new
+
+record_is : (s : State) (rs : List Saved) (i : ℕ) (h : HasRecorded record_of s (slice_get rs i)) → record_at rs i ≡ after_step_from record_of s h.before
+record_is s rs i h = get_or_from_slice_get rs i (after_step_from record_of s h.before) blank h.told
+
+each : (i j : ℕ) → i ≡ j → i ≡ j
+each i j e = e
+
+module _ (k : ℕ) (s : State) (old new : List Saved) (a : AreRecorded k s old new) (done : done_of k s ≡ k) where
+  pub recorded-which : (i : ℕ) → i < k → can_undo (record_at new i).change ≡ not (starts_dma_at (steps_of i s))
+  recorded-which i h =
+      let told = a.told each i h in
+      ap (λ r. can_undo r.change) (record_is (steps_of i s) new i told) ∙ record-dma (steps_of i s) told.before (done-each k s done i h)
+
+  pub recorded-back : (i : ℕ) → i < k → starts_dma_at (steps_of i s) ≡ false → undone (record_at new i) (steps_of (i + 1) s) ≡ steps_of i s
+  recorded-back i h none =
+      let told = a.told each i h in
+      rw (record_is (steps_of i s) new i told, steps-more i s) (record-back (steps_of i s) told.before told.ranged (done-each k s done i h) none)
+
+  pub recorded-memory : (i : ℕ) → i < k → may_store (record_at new i) ≡ false → (steps_of (i + 1) s).dmem ≡ (steps_of i s).dmem
+  recorded-memory i h none =
+      let told = a.told each i h in
+      ap (λ (x : State). x.dmem) (steps-more i s)
+      ∙ record-memory (steps_of i s) told.before (done-each k s done i h) (ap may_store (sym (record_is (steps_of i s) new i told)) ∙ none)
+
+pub recorded-end : (k : ℕ) (s t : State) (ends : ℕ → ℕ → Bool → Bool) → LoopEnd true ends k s t
+    → (done_steps (step_of t).0 ≡ 0) ⊎ ((0 < k) × ((starts_dma_at (steps_of (k - 1) s) ≡ true) ⊎ (ends_after ends (steps_of (k - 1) s) ≡ true)))
+recorded-end k s t ends (inl stuck) = inl stuck
+recorded-end k s t ends (inr (some, inl last)) = inr (some, inl last.1)
+recorded-end k s t ends (inr (some, inr ended)) = inr (some, inr ended)
+
+pub recorded-never : {D : Type 0} (s : State) → D ⊎ (ends_after (λ pc word stored. false) s ≡ true) → D
+unfolding ends_after
+recorded-never s (inl d) = d
+recorded-never s (inr ended) = cc
+
+-- the further records stay
+drop_as : {X : Type 0} (xs ys : List X) (n : ℕ) → length xs ≡ length ys → ((j : ℕ) → n ≤ j → slice_get xs j ≡ slice_get ys j) → drop n xs ≡ drop n ys
+drop_as [] [] n len same = refl
+drop_as [] (y ∷ ys) n len same = absurd (omega (arith, len))
+drop_as (x ∷ xs) [] n len same = absurd (omega (arith, len))
+drop_as (x ∷ xs) (y ∷ ys) zero len same =
+    let head : x ≡ y = some_is x y (same zero (omega arith)) in
+    let tail : drop 0 xs ≡ drop 0 ys = drop_as xs ys zero (omega (arith, len)) (λ j h. same (suc j) (omega arith)) in
+    ap (λ z. z ∷ xs) head ∙ ap (λ l. y ∷ l) tail
+  where
+    some_is : {X : Type 0} (x y : X) → Some x ≡ Some y → x ≡ y
+    some_is x y e = cc
+drop_as (x ∷ xs) (y ∷ ys) (suc n) len same = drop_as xs ys n (omega (arith, len)) (λ j h. same (suc j) (omega (arith, h)))
+
+pub recorded-rest : (k : ℕ) (s : State) (old new : List Saved) → AreRecorded k s old new → drop k new ≡ drop k old
+recorded-rest k s old new a = drop_as new old k a.len (λ j h. a.rest j (λ i l e. absurd (omega (arith, h, l, e))))
+
+-- one step
+pub recorded-none : (k : ℕ) (s t : State) → k ≡ 0 → t ≡ steps_of k s → t ≡ s
+unfolding steps_of
+recorded-none k s t e there = there ∙ ap (λ i. steps_of i s) e
+
+pub recorded-one : (k : ℕ) (s t : State) → k ≡ 1 → done_of k s ≡ k → t ≡ steps_of k s → (Done ≡ (step_of s).0) × (t ≡ (step_of s).1)
+unfolding steps_of
+recorded-one k s t e done there = (sym (done-each k s done 0 (omega (arith, e))), there ∙ ap (λ i. steps_of i s) e)
+
+-- and the record of it, where it leads back
+pub which-some : {X : Type 0} (o : Option X) (x : X) (dma b : Bool) → o ≡ Some x → b ≡ not dma → b ≡ true → (IsSome o → (Done ≡ Done) × (dma ≡ false)) × ((Done ≡ Done) × (dma ≡ false) → IsSome o)
+which-some o x dma b e m leads = (λ some. (refl, sym (not_back b dma m) ∙ ap not leads), λ p. ap is_some e)
+
+pub which-none : {X : Type 0} (o : Option X) (dma b : Bool) → o ≡ None → b ≡ not dma → b ≡ false → (IsSome o → (Done ≡ Done) × (dma ≡ false)) × ((Done ≡ Done) × (dma ≡ false) → IsSome o)
+which-none o dma b e m not_so =
+    let started : true ≡ dma = sym (ap not not_so) ∙ not_back b dma m in
+    (λ some. let no : false ≡ true = sym (ap is_some e) ∙ some in cc, λ p. let no : true ≡ false = started ∙ p.1 in cc)
+
+pub one-marked : (s : State) (rs : List Saved) (d : Saved) → d ≡ blank → can_undo (record_at rs 0).change ≡ not (starts_dma_at (steps_of 0 s)) → can_undo (get_or rs 0 d).change ≡ not (starts_dma_at s)
+unfolding steps_of
+one-marked s rs d e h = ap (λ (x : Saved). can_undo (get_or rs 0 x).change) e ∙ h
+
+pub one-back : (k : ℕ) (s t : State) (rs : List Saved) (d : Saved) → k ≡ 1 → d ≡ blank → t ≡ steps_of k s → can_undo (get_or rs 0 d).change ≡ not (starts_dma_at s) → can_undo (get_or rs 0 d).change ≡ true
+    → (starts_dma_at (steps_of 0 s) ≡ false → undone (record_at rs 0) (steps_of (0 + 1) s) ≡ steps_of 0 s) → undone (get_or rs 0 d) t ≡ s
+unfolding steps_of
+one-back k s t rs d e b there m leads h =
+    ap (λ x. undone (get_or rs 0 x) t) b ∙ ap (undone (record_at rs 0)) (there ∙ ap (λ i. steps_of i s) e) ∙ h (sym (not_back _ (starts_dma_at s) m) ∙ ap not leads)

@@ -1,0 +1,64 @@
+// What saves the values that the steps of a loop change.
+
+ghost use Rattle.std.specs.Prelude.{◌≡◌, ℕ, Bool};
+ghost use Rattle.rsp_machine.specs.State.{State};
+ghost use Rattle.rsp_machine.specs.ProgramCounters.{with_counters};
+ghost use Rattle.rsp_machine.specs.Changes.{IsChange};
+ghost use Rattle.rsp_machine.specs.declared.change.Change.{Change};
+
+use crate::change::Change;
+use crate::machine::Machine;
+use crate::program_counters::ProgramCounters;
+use rsp_acc::Acc;
+
+/// What gets each instruction's change, before the instruction is executed, and may save the values that it overwrites.
+pub(crate) trait Recorder {
+    /// What it is after a change.
+    ghost saves: { Change → State → Self → Self };
+
+    /// Which saver gets step `n` of a loop.
+    ghost slot: { ℕ → ℕ };
+
+    /// Whether a loop ends after a step that starts a DMA.
+    ghost ends_at_dma: { Bool };
+
+    /// Saves what it wants of the values before the change, of a machine with these program counters.
+    fn save<A: Acc>(&mut self, machine: &Machine<A>, before: ProgramCounters, change: Change)
+        requires { IsChange change }
+        ensures { self.new ≡ saves change (with_counters before machine.now) self.old };
+
+    /// Which saver gets step `n` of a loop.
+    fn slot(n: u64) -> usize
+        ensures { result ≡ slot n };
+
+    /// Whether a loop ends after a step that starts a DMA.
+    fn ends_at_dma() -> bool
+        ensures { result ≡ ends_at_dma };
+}
+
+/// Saves nothing. One gets all steps.
+#[derive(Clone, Copy, Drop)]
+pub(crate) struct NoRecord;
+
+impl Recorder for NoRecord {
+    ghost use Rattle.std.specs.Prelude.{false};
+
+    ghost saves = { λ p s k. k };
+
+    ghost slot = { λ n. 0 };
+
+    ghost ends_at_dma = { false };
+
+    #[inline(always)]
+    fn save<A: Acc>(&mut self, _machine: &Machine<A>, _before: ProgramCounters, _change: Change) {}
+
+    #[inline(always)]
+    fn slot(_n: u64) -> usize {
+        0
+    }
+
+    #[inline(always)]
+    fn ends_at_dma() -> bool {
+        false
+    }
+}

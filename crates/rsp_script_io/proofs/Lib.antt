@@ -1,0 +1,9 @@
+pub mod LongLineReplies
+pub mod PieceAnswers
+pub mod Kept
+pub mod KnownEnds
+pub mod Prefixes
+pub mod Pieces
+pub mod Replies
+pub mod Runs
+pub mod Texts

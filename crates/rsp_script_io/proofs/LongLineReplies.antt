@@ -1,0 +1,79 @@
+-- Lines that are answered alike.
+use Rattle.std.proofs.Common.{◌≡◌, ◌≤◌, ◌<◌, ◌⊎◌, ℕ, Bool, true, false, List, [], ◌∷◌, ◌++◌, length, refl, sym, ◌∙◌, ap, inl, inr, arith}
+use Rattle.std.proofs.lemmas.Grind.{common_steps}
+use Rattle.std.proofs.lemmas.Bool.{lt-leb}
+use Rattle.std.proofs.lemmas.Bool.Decides.{nat_tests}
+use Rattle.std.proofs.lemmas.List.{append-nil}
+use Rattle.std.specs.Prelude.{cond, nat_le, if◌then◌else◌}
+use Rattle.std.specs.Str.Lines.{strip_carriage_return}
+use Rattle.rsp_script_io.specs.Lines.{is_newline, ended_after, last_line, kept, IsSameOrLong}
+use Rattle.rsp_script_io.specs.Replies.{Answer, LongLinesAlike, replies, final}
+use Rattle.rsp_script_io.proofs.KnownEnds.{append_known-nil}
+use Rattle.rsp_script_io.proofs.Kept.{kept-more, like-strips, same_or_full}
+
+-- what tells long lines by their length alone answers them alike
+pub long-alike : {A : Type 0} (f : List ℕ → A) (long : A) (line other : List ℕ) → 256 < length line → 256 < length other
+    → (if nat_le (length line) 256 then f line else long) ≡ (if nat_le (length other) 256 then f other else long)
+long-alike f long line other h g =
+    ap (λ t. if t then f line else long) (lt-leb (length line) 256 h)
+    ∙ sym (ap (λ t. if t then f other else long) (lt-leb (length other) 256 g))
+
+pub answered-like : {S : Type 0} (answer_to : List ℕ → S → Answer S) (line other : List ℕ) (s : S) → LongLinesAlike answer_to → IsSameOrLong line other
+    → answer_to line s ≡ answer_to other s
+answered-like answer_to line other s alike (inl e) = ap (λ l. answer_to l s) e
+answered-like answer_to line other s alike (inr h) = alike line other s h.0 h.1
+
+pub replies-kept : {S : Type 0} (answer_to : List ℕ → S → Answer S) → LongLinesAlike answer_to → (line other text : List ℕ) (s : S) → kept line ≡ kept other
+    → replies answer_to (ended_after line text) s ≡ replies answer_to (ended_after other text) s
+replies-kept answer_to alike line other [] s e = refl
+replies-kept answer_to alike line other (b ∷ text) s e =
+    elim (is_newline b) as (λ t. replies answer_to (cond t (strip_carriage_return line ∷ ended_after [] text) (ended_after (line ++ b ∷ []) text)) s
+    ≡ replies answer_to (cond t (strip_carriage_return other ∷ ended_after [] text) (ended_after (other ++ b ∷ []) text)) s) [
+      | true ↦ ap (λ o. o.reply ++ replies answer_to (ended_after [] text) o.next)
+          (answered-like answer_to (strip_carriage_return line) (strip_carriage_return other) s alike (like-strips line other e))
+      | false ↦ replies-kept answer_to alike (line ++ b ∷ []) (other ++ b ∷ []) text s (kept-more line other (b ∷ []) e)
+    ]
+
+pub final-kept : {S : Type 0} (answer_to : List ℕ → S → Answer S) → LongLinesAlike answer_to → (line other text : List ℕ) (s : S) → kept line ≡ kept other
+    → final answer_to (ended_after line text) s ≡ final answer_to (ended_after other text) s
+final-kept answer_to alike line other [] s e = refl
+final-kept answer_to alike line other (b ∷ text) s e =
+    elim (is_newline b) as (λ t. final answer_to (cond t (strip_carriage_return line ∷ ended_after [] text) (ended_after (line ++ b ∷ []) text)) s
+    ≡ final answer_to (cond t (strip_carriage_return other ∷ ended_after [] text) (ended_after (other ++ b ∷ []) text)) s) [
+      | true ↦ ap (λ o. final answer_to (ended_after [] text) o.next)
+          (answered-like answer_to (strip_carriage_return line) (strip_carriage_return other) s alike (like-strips line other e))
+      | false ↦ final-kept answer_to alike (line ++ b ∷ []) (other ++ b ∷ []) text s (kept-more line other (b ∷ []) e)
+    ]
+
+pub last_line-some : (line : List ℕ) → 0 < length line → last_line line ≡ line ∷ []
+last_line-some line h = grind (arith, nat_tests, common_steps)
+
+pub last_line-none : (line : List ℕ) → length line ≡ 0 → last_line line ≡ []
+last_line-none line h = grind (arith, nat_tests, common_steps)
+
+pub replies-last : {S : Type 0} (answer_to : List ℕ → S → Answer S) (line : List ℕ) (s : S) → 0 < length line
+    → (answer_to line s).reply ≡ replies answer_to (last_line line) s
+replies-last answer_to line s h = rw (last_line-some line h) (sym (append-nil (answer_to line s).reply))
+
+pub ruleset last_lines = (last_line-some, last_line-none, append-nil, append_known-nil)
+
+-- two lists of lines that are answered alike
+pub record SameReplies {S : Type 0} (answer_to : List ℕ → S → Answer S) (ls ms : List (List ℕ)) (s : S) : Type 0 where
+  pub reply : replies answer_to ls s ≡ replies answer_to ms s
+  pub next : final answer_to ls s ≡ final answer_to ms s
+
+pub alike-last : {S : Type 0} (answer_to : List ℕ → S → Answer S) → LongLinesAlike answer_to → (line other : List ℕ) (s : S) → kept line ≡ kept other
+    → SameReplies answer_to (last_line line) (last_line other) s
+alike-last {S} answer_to alike line other s e = by_case (same_or_full line other e)
+  where
+    by_case : (line ≡ other) ⊎ ((258 ≤ length line) × (258 ≤ length other)) → SameReplies answer_to (last_line line) (last_line other) s
+    by_case (inl h) = record {
+      reply = ap (λ l. replies answer_to (last_line l) s) h;
+      next = ap (λ l. final answer_to (last_line l) s) h;
+    }
+    by_case (inr h) =
+        let same : answer_to line s ≡ answer_to other s = alike line other s (omega arith) (omega arith) in
+        rw (last_line-some line (omega arith), last_line-some other (omega arith)) (record {
+          reply = ap (λ o. o.reply ++ []) same;
+          next = ap (λ o. o.next) same;
+        })

@@ -1,0 +1,189 @@
+-- How far a run came.
+use Rattle.std.proofs.Common.{◌≡◌, ◌≤◌, ◌<◌, ◌+◌, ◌-◌, ℕ, List, [], ◌++◌, min, Option, Some, None, IfSome, Err, length, take, refl, sym, ◌∙◌, ap, inl, inr, arith, append_assoc, length-append, length-take, ◌⊎◌}
+use Rattle.std.proofs.Math.Seq.{take-append-add}
+use Rattle.std.proofs.lemmas.List.{append-nil, take_all, take-append-le, take-take}
+use Rattle.std.proofs.lemmas.Bool.{cases_lt}
+use Rattle.std.proofs.lemmas.Option.{none-some}
+use Rattle.std.specs.Io.KnownBytes.{append_known, prepend_known, IsAtEnd}
+use Rattle.std.specs.Str.Lines.{lines}
+use Rattle.rsp_script_io.specs.declared.run.TheConstants.{SCRIPT_LIMIT}
+use Rattle.rsp_script_io.specs.declared.run.RunFault.{RunFault}
+use Rattle.rsp_script_io.specs.declared.run.RunFault.TheVariants.{ReadFault, WriteFault, ScriptTooLong, OutOfMemory}
+use Rattle.rsp_script_io.specs.Faults.{IsAnswerFault}
+use Rattle.rsp_script_io.specs.Pieces.{PieceAnswered}
+use Rattle.rsp_script_io.specs.EarlyEnd.{WritesPrefix, TakesAtMost, Takes, ScriptRun, EndedLinesWritten, PrefixWritten, LeavesWritten}
+use Rattle.rsp_script_io.specs.Lines.{ended_lines, ended_after, open_after, last_line, kept}
+use Rattle.rsp_script_io.specs.Replies.{Answer, LongLinesAlike, replies, final, out_of}
+use Rattle.rsp_script_io.proofs.LongLineReplies.{SameReplies, alike-last}
+use Rattle.rsp_script_io.proofs.PieceAnswers.{answers-none, answers-then, answers-front}
+use Rattle.rsp_script_io.proofs.KnownEnds.{append_known-append, prepend_known-append, prepend_known-nil}
+use Rattle.rsp_script_io.proofs.Prefixes.{prefix-along, prefix-then}
+use Rattle.rsp_script_io.proofs.Pieces.{ended_lines-after, lines-ended}
+use Rattle.rsp_script_io.proofs.Replies.{replies-append, final-append}
+
+pub if_some : {A : Type 0} (o : Option A) (P : A → Type 0) → ((x : A) → o ≡ Some x → P x) → IfSome o P
+if_some None P f = tt
+if_some (Some x) P f = f x refl
+
+-- what answering a line or the end can fail by leaves the same written
+pub left_answer : {S : Type 0} (r : ScriptRun S) (fault : RunFault) → IsAnswerFault fault → PrefixWritten r → LeavesWritten {A = Unit {0}} (Err fault) r
+left_answer r ReadFault cause prefix = absurd cause
+left_answer r WriteFault cause prefix = prefix
+left_answer r ScriptTooLong cause prefix = absurd cause
+left_answer r OutOfMemory cause prefix = prefix
+
+-- what a source gave that is at its end is all that it had
+told_all : (rest after : Option (List ℕ)) (taken script : List ℕ) → rest ≡ prepend_known taken after → IsAtEnd after → rest ≡ Some script → taken ≡ script
+told_all rest None taken script e d h = absurd (none-some script (sym e ∙ h))
+told_all rest (Some ys) taken script e d h =
+    let same : Some (taken ++ ys) ≡ Some script = sym e ∙ h in
+    sym (append-nil taken) ∙ ap (λ l. taken ++ l) (sym d) ∙ (cc)
+
+-- what a source gave is the front of what it had
+told_front : (rest after : Option (List ℕ)) (taken script : List ℕ) → rest ≡ prepend_known taken after → rest ≡ Some script
+    → (more : List ℕ) × (taken ++ more ≡ script)
+told_front rest None taken script e h = absurd (none-some script (sym e ∙ h))
+told_front rest (Some ys) taken script e h =
+    let same : Some (taken ++ ys) ≡ Some script = sym e ∙ h in
+    (ys, cc)
+
+limit_all : (taken : List ℕ) → length taken ≤ SCRIPT_LIMIT → take SCRIPT_LIMIT taken ≡ taken
+limit_all taken h = take_all SCRIPT_LIMIT taken h
+
+limit_more : (taken piece within : List ℕ) (total : ℕ) → length taken ≡ total → total ≤ SCRIPT_LIMIT → within ≡ take (SCRIPT_LIMIT - total) piece
+    → take SCRIPT_LIMIT taken ++ within ≡ take SCRIPT_LIMIT (taken ++ piece)
+limit_more taken piece within total c h e =
+    let whole : length taken + (SCRIPT_LIMIT - total) ≡ SCRIPT_LIMIT = omega arith in
+    rw (e, limit_all taken (omega arith)) (sym (take-append-add taken piece (SCRIPT_LIMIT - total)) ∙ ap (λ n. take n (taken ++ piece)) whole)
+
+-- the part of the bytes read that is within the limit
+pub read_cut : (read others : List ℕ) (n k within : ℕ) → n ≤ length read → within ≡ min n k → take within (read ++ others) ≡ take k (take n read)
+read_cut read others n k within h e =
+    take-append-le within read others (omega arith) ∙ by_order (cases_lt k n)
+  where
+    by_order : (k < n) ⊎ (n ≤ k) → take within read ≡ take k (take n read)
+    by_order (inl l) =
+        let same : within ≡ k = omega arith in
+        ap (λ i. take i read) same ∙ sym (take-take k n read (omega arith))
+    by_order (inr l) =
+        let same : within ≡ n = omega arith in
+        ap (λ i. take i read) same ∙ sym (take_all k (take n read) (omega (arith, length-take n read)))
+
+-- the bytes that the reads of a run gave, and what came of them
+pub record Progress {S : Type 0} (answer_to : List ℕ → S → Answer S) (rest unread old now : Option (List ℕ)) (line : List ℕ) (s t : S) (total : ℕ) : Type 0 where
+  pub taken : List ℕ
+  pub told : rest ≡ prepend_known taken unread
+  pub count : length taken ≡ total
+  pub answers : PieceAnswered answer_to old now [] line s t (take SCRIPT_LIMIT taken)
+
+module _ {S : Type 0} (answer_to : List ℕ → S → Answer S) (end_reply : S → List ℕ) (alike : LongLinesAlike answer_to) where
+  pub progress-none : (r w : Option (List ℕ)) (s : S) → Progress answer_to r r w w [] s s 0
+  progress-none r w s = record { taken = []; told = sym (prepend_known-nil r); count = refl; answers = answers-none answer_to alike w [] s }
+
+  pub progress-more : {r u v w x y : Option (List ℕ)} {l m : List ℕ} {s t o : S} {total : ℕ} (piece within : List ℕ) (n : ℕ) → Progress answer_to r u w x l s t total
+      → u ≡ prepend_known piece v → length piece ≡ n → total ≤ SCRIPT_LIMIT → within ≡ take (SCRIPT_LIMIT - total) piece → PieceAnswered answer_to x y l m t o within
+      → Progress answer_to r v w y m s o (total + n)
+  progress-more {w = w} {y = y} {m = m} {s = s} {o = o} {total = total} piece within n h e len few cut a = record {
+    taken = h.taken ++ piece;
+    told = h.told ∙ ap (prepend_known h.taken) e ∙ prepend_known-append _ h.taken piece;
+    count = omega (arith, length-append h.taken piece, h.count);
+    answers = rw (← limit_more h.taken piece within total h.count few cut)
+        (answers-then answer_to alike (take SCRIPT_LIMIT h.taken) within h.answers a);
+  }
+
+  -- a read failed
+  pub progress-ended : {r u v w x : Option (List ℕ)} {l : List ℕ} {s t : S} {total : ℕ} → Progress answer_to r u w x l s t total
+      → u ≡ prepend_known [] v → total ≤ SCRIPT_LIMIT → EndedLinesWritten (record { answer_to = answer_to; end_reply = end_reply; session = s; script = r; unread = v; before = w; written = x })
+  progress-ended {w = w} {s = s} {total = total} h e few = record {
+    taken = h.taken;
+    told = h.told ∙ ap (prepend_known h.taken) (e ∙ prepend_known-nil _);
+    few = omega (arith, h.count);
+    written = h.answers.written ∙ ap (λ text. append_known w (replies answer_to (ended_after [] text) s)) (limit_all h.taken (omega (arith, h.count)))
+        ∙ ap (λ ls. append_known w (replies answer_to ls s)) (sym (ended_lines-after h.taken));
+  }
+
+  -- a piece was not answered to its end
+  pub progress-front : {r u v w x y : Option (List ℕ)} {l : List ℕ} {s t : S} {total : ℕ} (piece within : List ℕ) → Progress answer_to r u w x l s t total
+      → u ≡ prepend_known piece v → total ≤ SCRIPT_LIMIT → within ≡ take (SCRIPT_LIMIT - total) piece
+      → WritesPrefix x y (replies answer_to (ended_after l within) t) → PrefixWritten (record { answer_to = answer_to; end_reply = end_reply; session = s; script = r; unread = v; before = w; written = y })
+  progress-front {s = s} {total = total} piece within h e few cut f = record {
+    taken = h.taken ++ piece;
+    told = h.told ∙ ap (prepend_known h.taken) e ∙ prepend_known-append _ h.taken piece;
+    prefix = inl (prefix-along
+        (ap (λ text. replies answer_to (ended_after [] text) s) (limit_more h.taken piece within total h.count few cut)
+        ∙ ap (λ ls. replies answer_to ls s) (sym (ended_lines-after (take SCRIPT_LIMIT (h.taken ++ piece)))))
+        (answers-front answer_to alike (take SCRIPT_LIMIT h.taken) within h.answers f));
+  }
+
+  -- at most one byte past the limit was taken
+  pub progress-few : {r u w x : Option (List ℕ)} {l : List ℕ} {s t : S} {total : ℕ} (v : Option (List ℕ)) (piece : List ℕ) → Progress answer_to r u w x l s t total
+      → u ≡ prepend_known piece v → total + length piece ≤ SCRIPT_LIMIT + 1 → TakesAtMost (SCRIPT_LIMIT + 1) r v
+  progress-few v piece h e few = (
+    h.taken ++ piece,
+    h.told ∙ ap (prepend_known h.taken) e ∙ prepend_known-append _ h.taken piece,
+    omega (arith, h.count, length-append h.taken piece),
+  )
+
+  -- the byte past the limit was taken
+  pub progress-past : {r u w x : Option (List ℕ)} {l : List ℕ} {s t : S} {total : ℕ} → Progress answer_to r u w x l s t total
+      → total ≡ SCRIPT_LIMIT + 1 → Takes (SCRIPT_LIMIT + 1) r u
+  progress-past h all = (h.taken, h.told, h.count ∙ all)
+
+  -- a script that goes on past the limit
+  pub progress-long : {r u w x : Option (List ℕ)} {l : List ℕ} {s t : S} {total : ℕ} → Progress answer_to r u w x l s t total
+      → SCRIPT_LIMIT < total → IfSome r (λ script. x ≡ append_known w (replies answer_to (ended_lines (take SCRIPT_LIMIT script)) s))
+  progress-long {r = r} {u = u} {w = w} {s = s} h long = if_some r _ (λ script e.
+      let there : (more : List ℕ) × (h.taken ++ more ≡ script) = told_front r u h.taken script h.told e in
+      let same : take SCRIPT_LIMIT h.taken ≡ take SCRIPT_LIMIT script =
+      sym (take-append-le SCRIPT_LIMIT h.taken there.0 (omega (arith, h.count))) ∙ ap (take SCRIPT_LIMIT) there.1 in
+      h.answers.written ∙ ap (λ text. append_known w (replies answer_to (ended_after [] text) s)) same
+      ∙ ap (λ ls. append_known w (replies answer_to ls s)) (sym (ended_lines-after (take SCRIPT_LIMIT script))))
+
+  -- the replies to the lines that a newline ended, and what is left to answer and to say
+  out-pieces : (taken line : List ℕ) (s t : S) → kept line ≡ kept (open_after [] taken) → t ≡ final answer_to (ended_after [] taken) s
+      → replies answer_to (ended_after [] taken) s ++ (replies answer_to (last_line line) t ++ end_reply (final answer_to (last_line line) t))
+      ≡ out_of answer_to end_reply taken s
+  out-pieces taken line s t e n =
+      let same : SameReplies answer_to (last_line line) (last_line (open_after [] taken)) t = alike-last answer_to alike line (open_after [] taken) t e in
+      rw (
+        lines-ended taken,
+        replies-append answer_to (ended_after [] taken) (last_line (open_after [] taken)) s,
+        final-append answer_to (ended_after [] taken) (last_line (open_after [] taken)) s,
+        ← n,
+        ← same.reply,
+        ← same.next,
+      )
+      (sym (append_assoc (replies answer_to (ended_after [] taken) s) (replies answer_to (last_line line) t) (end_reply (final answer_to (last_line line) t))))
+
+  final-pieces : (taken line : List ℕ) (s t : S) → kept line ≡ kept (open_after [] taken) → t ≡ final answer_to (ended_after [] taken) s
+      → final answer_to (last_line line) t ≡ final answer_to (lines taken) s
+  final-pieces taken line s t e n =
+      let same : SameReplies answer_to (last_line line) (last_line (open_after [] taken)) t = alike-last answer_to alike line (open_after [] taken) t e in
+      rw (lines-ended taken, final-append answer_to (ended_after [] taken) (last_line (open_after [] taken)) s, ← n) same.next
+
+  -- where the end of input was met and answered
+  pub progress-end : {r u w x y : Option (List ℕ)} {l : List ℕ} {s t o : S} {total : ℕ} (v : Option (List ℕ)) (script : List ℕ) → Progress answer_to r u w x l s t total
+      → u ≡ prepend_known [] v → IsAtEnd v → total ≤ SCRIPT_LIMIT → r ≡ Some script
+      → y ≡ append_known x (replies answer_to (last_line l) t ++ end_reply (final answer_to (last_line l) t)) → o ≡ final answer_to (last_line l) t
+      → (length script ≤ SCRIPT_LIMIT) × (y ≡ append_known w (out_of answer_to end_reply script s)) × (o ≡ final answer_to (lines script) s)
+  progress-end {r = r} {w = w} {x = x} {l = l} {s = s} {t = t} v script h e d few k written next =
+      let all : h.taken ≡ script = told_all r v h.taken script (h.told ∙ ap (prepend_known h.taken) (e ∙ prepend_known-nil _)) d k in
+      let part : take SCRIPT_LIMIT h.taken ≡ script = limit_all h.taken (omega (arith, h.count)) ∙ all in
+      let a : PieceAnswered answer_to w x [] l s t script = rw (← part) h.answers in (
+        omega (arith, h.count, ap length all),
+        written ∙ ap (λ b. append_known b (replies answer_to (last_line l) t ++ end_reply (final answer_to (last_line l) t))) a.written
+            ∙ append_known-append w (replies answer_to (ended_after [] script) s) _ ∙ ap (append_known w) (out-pieces script l s t a.last a.session),
+        next ∙ final-pieces script l s t a.last a.session,
+      )
+
+  -- where the end of input was met and not answered
+  pub progress-end_front : {r u v w x y : Option (List ℕ)} {l : List ℕ} {s t : S} {total : ℕ} → Progress answer_to r u w x l s t total
+      → u ≡ prepend_known [] v → IsAtEnd v → total ≤ SCRIPT_LIMIT
+      → WritesPrefix x y (replies answer_to (last_line l) t ++ end_reply (final answer_to (last_line l) t)) → PrefixWritten (record { answer_to = answer_to; end_reply = end_reply; session = s; script = r; unread = v; before = w; written = y })
+  progress-end_front {w = w} {x = x} {l = l} {s = s} {t = t} h e d few f =
+      let a : PieceAnswered answer_to w x [] l s t h.taken = rw (← limit_all h.taken (omega (arith, h.count))) h.answers in
+      record {
+        taken = h.taken;
+        told = h.told ∙ ap (prepend_known h.taken) (e ∙ prepend_known-nil _);
+        prefix = inr (d, prefix-along (out-pieces h.taken l s t a.last a.session) (prefix-then (replies answer_to (ended_after [] h.taken) s) a.written f));
+      }

@@ -1,0 +1,11 @@
+-- One piece of a script.
+use Rattle.std.specs.Prelude.{◌≡◌, ℕ, List, Option}
+use Rattle.std.specs.Io.KnownBytes.{append_known}
+use Rattle.rsp_script_io.specs.Lines.{ended_after, open_after, kept}
+use Rattle.rsp_script_io.specs.Replies.{Answer, replies, final}
+
+-- each line that ends in a piece was answered; the first of them began with `line`, and `after` is kept of what no newline ended
+pub record PieceAnswered {S : Type 0} (answer_to : List ℕ → S → Answer S) (old new : Option (List ℕ)) (line after : List ℕ) (s t : S) (piece : List ℕ) : Type 0 where
+  pub written : new ≡ append_known old (replies answer_to (ended_after line piece) s)
+  pub session : t ≡ final answer_to (ended_after line piece) s
+  pub last : kept after ≡ kept (open_after line piece)

@@ -1,0 +1,26 @@
+-- What is written for a script.
+use Rattle.std.specs.Prelude.{◌≡◌, ℕ, ◌<◌, List, [], ◌∷◌, ◌++◌, length}
+use Rattle.std.specs.Str.Lines.{lines}
+
+-- the answer to a line: its reply, and what answers the next line
+pub record Answer (S : Type 0) : Type 0 where
+  pub reply : List ℕ
+  pub next : S
+
+-- lines of more than 256 bytes are answered alike, whatever they say
+abbrev pub LongLinesAlike : {S : Type 0} → (List ℕ → S → Answer S) → Type 0
+LongLinesAlike {S} answer_to = (line other : List ℕ) (s : S) → 256 < length line → 256 < length other → answer_to line s ≡ answer_to other s
+
+-- the replies to lines, one after another
+abbrev pub replies : {S : Type 0} → (List ℕ → S → Answer S) → List (List ℕ) → S → List ℕ
+replies answer_to [] s = []
+replies answer_to (l ∷ ls) s = (answer_to l s).reply ++ replies answer_to ls (answer_to l s).next
+
+-- what answers the line after these lines
+abbrev pub final : {S : Type 0} → (List ℕ → S → Answer S) → List (List ℕ) → S → S
+final answer_to [] s = s
+final answer_to (l ∷ ls) s = final answer_to ls (answer_to l s).next
+
+-- all that is written for a script: the replies to its lines, and what is written at its end
+abbrev pub out_of : {S : Type 0} → (List ℕ → S → Answer S) → (S → List ℕ) → List ℕ → S → List ℕ
+out_of answer_to end_reply script s = replies answer_to (lines script) s ++ end_reply (final answer_to (lines script) s)

@@ -1,0 +1,25 @@
+//! Reading a script in pieces, and writing the replies to its lines.
+//!
+//! A script is cut into lines at its LF bytes. One CR directly before an LF is dropped, and bytes after the last LF are a line
+//! if there are any. [`answer_script`] reads pieces of at most 4096 bytes and answers each line when it has ended. Of a longer
+//! line it keeps 258 bytes. Its contract says what was written for the whole script, however the reads cut it, and what was
+//! written before a run that ended early. What answers a line is a trait, [`LineHandler`]: `rsp_bench` implements it.
+//!
+//! A script comes from a [`Source`] and the replies go to a [`Sink`]. Their contracts name the bytes that are left and the bytes
+//! that were written. [`MemSource`] and [`MemSink`] name them; [`FromRead`] and [`ToWrite`], over a reader and a writer of the
+//! standard library, name none. A [`Reply`] is the text of one reply.
+#![tactic(auto)]
+
+mod answer;
+mod line;
+mod line_handler;
+mod reply;
+mod run;
+mod sink;
+mod source;
+
+pub use line_handler::LineHandler;
+pub use reply::{REPLY_LIMIT, Reply};
+pub use run::{RunFault, SCRIPT_LIMIT, answer_script};
+pub use sink::{MemSink, Sink, ToWrite};
+pub use source::{EndFault, FromRead, MemSource, Source};

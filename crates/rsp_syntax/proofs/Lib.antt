@@ -1,0 +1,11 @@
+pub mod Trims
+pub mod Cuts
+pub mod Splits
+pub mod TextLines
+pub mod Numerals
+pub mod HexDigits
+pub mod Tables
+pub mod TableSearch
+pub mod Expressions
+pub mod Capping
+pub mod Examples

@@ -1,0 +1,13 @@
+use Rattle.std.proofs.Common.{◌∙◌, inl, inr}
+use Rattle.rsp_tests_machine.proofs.Listed.{gives_words, gives_no_fault}
+use Rattle.rsp_tests_machine.proofs.listings.assembled_listing.Goals as goal
+
+pub returns-in-Ok : goal.returns-in-Ok
+returns-in-Ok c =
+    gives_words _ c.args.words.now (c.deref.ensures ∙ c.in_ok-text.ensures) c.requires c.type_inv.words _ c.in-Ok.ensures.ok
+
+pub unreachable-requires : goal.unreachable-requires
+unreachable-requires c = elim c.in-Err.ensures.err [
+  | inl meaning_of_text ↦ gives_no_fault _ c.args.words.now (c.deref.ensures ∙ c.in_ok-text.ensures) c.requires c.type_inv.words _ meaning_of_text
+  | inr short ↦ c.in_default.not-OutOfMemory short.kind
+]

@@ -1,8 +1,0 @@
-use Rattle.std.proofs.Common.{ap, ◌∙◌}
-use Rattle.std.specs.Prelude.{find}
-use Rattle.rsp_text.specs.Rows.{has_name}
-use Rattle.rsp_text.proofs.Rows.{named_row}
-use Rattle.rsp_text.proofs.table.find_row.Goals as goal
-
-pub returns : goal.returns
-returns c = c.find_in.ensures ∙ ap (find (has_name c.args.name.now)) c.table.ensures ∙ named_row c.args.name.now

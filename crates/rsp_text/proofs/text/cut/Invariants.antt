@@ -1,7 +1,0 @@
-use Rattle.std.proofs.Common.{◌≡◌, take, true}
-use Rattle.rsp_text.specs.Cuts.{is_boundary}
-use Rattle.rsp_text.proofs.Cuts.{no}
-use Rattle.rsp_text.proofs.text.cut.Given as goal
-
-abbrev pub invariant-loop-at : goal.invariant-loop-at
-invariant-loop-at l = no (is_boundary l.boundary) (take l.at l.text) ≡ true
