@@ -73,7 +73,7 @@ def faults(source):
 
 def reasons(source):
     """The numbers of the reasons of a stop, by the names that the debugger has for them."""
-    text = (source / "seen.rt").read_text()
+    text = (source / "to_c.rt").read_text()
     found = re.findall(r"Reason::(\w+)(?:\(k\))? => \((\d+),", text)
     at_move = re.search(r"const AT_MOVE: u32 = (\d+);", text)[1]
     return {name: int(value) for name, value in [*found, ("Move", at_move)]}
@@ -101,8 +101,8 @@ def structs_of(text, known=()):
 
 def structs(source):
     """The structs of rsp_c, with the entry of a trace, which the debugger has."""
-    traced = (source.parent.parent / "rsp_debug" / "src" / "traced.rt").read_text()
-    return structs_of((source / "shapes.rt").read_text() + traced.replace("struct Traced", "struct RspTraced"))
+    entry = (source.parent.parent / "rsp_debug" / "src" / "trace_entry.rt").read_text()
+    return structs_of((source / "c_structs.rt").read_text() + entry.replace("struct TraceEntry", "struct RspTraced"))
 
 
 def layout(struct):
