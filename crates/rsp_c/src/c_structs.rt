@@ -22,13 +22,13 @@ pub struct RspStop {
 pub struct RspMove {
     /// Where it stopped; its reason is 5 before a move.
     pub stop: RspStop,
-    /// Before a move its word, else 0.
+    /// The word of the move, if it stopped before one; else 0.
     pub word: u32,
-    /// Before a move the number of its SP register, else 0.
+    /// The number of the move's SP register, if it stopped before one; else 0.
     pub number: u32,
     /// 1 before an MTC0, else 0.
     pub writes: u32,
-    /// Before a move the value of its scalar register, else 0.
+    /// The value of the move's scalar register, if it stopped before one; else 0.
     pub value: u32,
 }
 

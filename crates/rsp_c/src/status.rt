@@ -8,7 +8,7 @@ use rsp_debug::{BreakFault, WatchFault};
 use rsp_machine::{PassFault, StepEnd, TaskFault};
 use rsp_memory::Bank;
 
-/// It did what it was asked.
+/// The call succeeded.
 pub const OK: u32 = 0;
 /// The handle holds no machine.
 pub const NO_MACHINE: u32 = 1;

@@ -1,4 +1,4 @@
-// Where the machine goes on: at a task, or at an address.
+// Sets where the machine continues: at a task, or at an address.
 
 ghost use Rattle.std.specs.Prelude.{◌≡◌, IfSome, IfNone, option_map, if◌then◌else◌};
 ghost use Rattle.rsp_machine.specs.Host.{task_fault, with_task, with_pc};

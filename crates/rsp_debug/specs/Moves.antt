@@ -1,4 +1,4 @@
--- Where a run that also ends before moves does.
+-- Where a run ends that also ends before moves.
 use Rattle.std.specs.Prelude.{ℕ, List, Bool, true, false, not, ◌&&◌, ◌==◌, Option, Some, if◌then◌else◌}
 use Rattle.std.specs.Int.{bit_at}
 use Rattle.rsp_memory.specs.Memory.{word_at}

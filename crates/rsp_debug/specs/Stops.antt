@@ -40,8 +40,8 @@ first_of [] = None
 first_of (None ∷ others) = first_of others
 first_of (Some reason ∷ others) = Some reason
 
--- Why a run of at most n steps stops in a state, after k steps, the last of which began in the state `before`: of the reasons
--- that hold, the first in this order.
+-- Why a run of at most n steps stops in a state, after k steps; the last of them began in the state `before`. Of the reasons that hold it
+-- is the first in this order.
 abbrev pub reason_in : List Bool → List (Option Watch) → ℕ → ℕ → State → State → Option Reason
 reason_in breaks watches n k before s = first_of (
     when (is_reserved s) Reserved

@@ -79,7 +79,7 @@ impl History {
         self.count = 0;
     }
 
-    /// The newest record, of which there must be one; Some always.
+    /// The newest record. There must be one, so it is always Some.
     #[tactic(auto, using(crate::proofs::Ring::turns))]
     pub fn newest(&self) -> Option<&Record>
         requires { 0 < length self.now.newest }
@@ -88,7 +88,7 @@ impl History {
         self.slots.get(previous_entry(self.slots.len(), self.next))
     }
 
-    /// Drops the newest record, of which there must be one.
+    /// Drops the newest record. There must be one.
     #[tactic(auto, using(crate::proofs::Ring::turns))]
     pub fn drop_newest(&mut self)
         requires { 0 < length self.old.newest }

@@ -32,7 +32,7 @@ fn can_undo(records: &[Record], made: usize) -> bool
 
 impl History {
     /// Makes up to `n` steps of a machine, at least one if it can make one, keeps their records if it keeps any, and returns how
-    /// many. `until` may end them, and is asked before each step but the first. They end at the ring's end too, and after a step
+    /// many. `until` may end them; it is called before each step but the first. They end at the ring's end too, and after a step
     /// that starts a DMA.
     pub fn stretch<A: Acc, U: Until>(&mut self, machine: &mut Machine<A>, n: u32, until: &U) -> u32
         requires { 0 < n }
@@ -60,7 +60,7 @@ impl History {
         made as u32
     }
 
-    /// Undoes the last step of a machine, by the newest record, which goes.
+    /// Undoes the last step of a machine by the newest record, and drops that record.
     #[tactic(auto, using(crate::proofs::HistoryRecords::backs))]
     pub fn undo<A: Acc>(&mut self, machine: &mut Machine<A>)
         requires { 0 < length self.old.newest }

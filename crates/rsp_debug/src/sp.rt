@@ -12,8 +12,8 @@ use rsp_machine::{PassFault, RegistersFault};
 use rsp_regs::SpParts;
 
 impl<A: Acc> Debugger<A> {
-    /// Sets the SP registers, as [`rsp_machine::Machine::set_sp_parts`] does, and empties the history. A fault of [`RegistersFault`] is
-    /// answered, and then nothing changes.
+    /// Sets the SP registers, as [`rsp_machine::Machine::set_sp_parts`] does, and empties the history. If a [`RegistersFault`] is
+    /// returned, nothing changes.
     pub fn set_sp_parts(&mut self, given: &SpParts) -> Result<(), RegistersFault>
         ensures fault { MatchResult result (λ _. sp_fault given.now ≡ None) (λ f. sp_fault given.now ≡ Some f) }
         ensures ok { OnOk result (self.new ≡ set_by_host (record self.old.state { sp = sp_of given.now }) self.old) }
@@ -24,7 +24,7 @@ impl<A: Acc> Debugger<A> {
         Ok(())
     }
 
-    /// Goes past the MFC0 or MTC0 at pc, as [`rsp_machine::Machine::pass`] does, and empties the history.
+    /// Passes over the MFC0 or MTC0 at pc, as [`rsp_machine::Machine::pass`] does, and empties the history.
     pub fn pass(&mut self, value: u32) -> Result<(), PassFault>
         ensures fault { IfErr result (λ f. pass_of value self.old.state ≡ Err f) }
         ensures ok { OnOk result (pass_of value self.old.state ≡ Ok self.new.state) }

@@ -9,7 +9,7 @@ use rsp_acc::Acc;
 use rsp_lanes::Mask8;
 use rsp_machine::{Effect, Machine};
 
-/// What a step did, in plain numbers, as a log has them. Its bytes have no gaps, so that equal entries have equal bytes.
+/// What a step did, in plain numbers, as a log has them. Its bytes have no gaps: equal entries have equal bytes.
 #[repr(C)]
 #[derive(Clone, Copy, Debug, PartialEq, Eq, Drop)]
 pub struct TraceEntry {
@@ -19,7 +19,7 @@ pub struct TraceEntry {
     pub value: u32,
     /// The address of the word.
     pub pc: u16,
-    /// Of a store the address in DMEM, below 4096; else 0.
+    /// The address in DMEM of a store, below 4096; else 0.
     pub address: u16,
     /// VCO after the step.
     pub vco: u16,
@@ -29,9 +29,9 @@ pub struct TraceEntry {
     pub vce: u8,
     /// The number of the scalar register that the step wrote, 1 to 31; 0 if it wrote none.
     pub scalar: u8,
-    /// The number of the vector register that the step wrote, of LTV the first of eight; 32 if it wrote none.
+    /// The number of the vector register that the step wrote, the first of eight for LTV; 32 if it wrote none.
     pub vector: u8,
-    /// 1 of a store, else 0.
+    /// 1 for a store, else 0.
     pub stored: u8,
     /// The lanes of the vector register after the step; 0 without one.
     pub lanes: [u16; 8],

@@ -1,4 +1,4 @@
--- Scaffolding of proofs: what the code asks of a change. Saved has the meaning.
+-- Scaffolding of proofs: what the code requires of a change, and what it reports of one. Undo defines the changes.
 use Rattle.std.specs.Prelude.{ℕ, ◌+◌, ◌<◌, ◌≡◌, Bool, true, false, not}
 use Rattle.rsp_numbers.specs.Numbers.{AreNumbers}
 use Rattle.rsp_lanes.specs.Flags.{flags_at, all_flags}
@@ -26,7 +26,7 @@ last_register _ = 0
 abbrev pub IsChange : Change → Type 0
 IsChange change = last_register change < 32
 
--- the ranges of the vector unit: what a record leads back to depends on them
+-- the ranges of the vector unit, on which undoing a step depends
 pub record IsRanged (s : State) : Type 0 where
   pub vectors : IsFile s.vectors
   pub accumulators : AreNumbers s.accumulators
@@ -38,6 +38,6 @@ reaches_sp (of.Sp n) = true
 reaches_sp of.Dma = true
 reaches_sp _ = false
 
--- what the loop of steps asks of a change
+-- what the loop of steps tests after an instruction with a change
 abbrev pub reach_of : Change → Reach
 reach_of change = record { sp = reaches_sp change; dmem = changes_memory change; dma = not (can_undo change) }

@@ -13,13 +13,13 @@ use Rattle.rsp_machine.specs.declared.change.Change.{Change}
 use Rattle.rsp_machine.specs.declared.change.Change.TheVariants as of
 use Rattle.rsp_machine.specs.declared.effect.Effect.{Effect}
 
--- the number of the scalar register that is written; 0 if none is, as register 0 never is
+-- the number of the scalar register that is written; 0 if none is, since register 0 is never written
 abbrev pub scalar_of : Change → ℕ
 scalar_of (of.Register n) = n
 scalar_of (of.Sp n) = n
 scalar_of _ = 0
 
--- the number of the vector register that is written, of a group the first; 32 if none is
+-- the number of the vector register that is written, the first of a group; 32 if none is
 abbrev pub vector_of : Change → ℕ
 vector_of (of.Vector n) = n
 vector_of (of.Group n) = n

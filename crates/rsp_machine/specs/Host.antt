@@ -1,4 +1,4 @@
--- What the host does: SP registers, loads, places and tasks.
+-- What the host does: it reads and writes SP registers, loads bytes, starts tasks and sets pc.
 use Rattle.std.specs.Prelude.{ℕ, ◌+◌, ◌*◌, ◌%◌, Bool, not, nat_le, nat_lt, ◌==◌, ◌&&◌, ◌||◌, if◌then◌else◌, List, length, Option, Some, None}
 use Rattle.rsp_memory.specs.Memory.{with_bytes}
 use Rattle.rsp_memory.specs.Image.{image_byte, with_image_bytes}
@@ -16,15 +16,15 @@ use Rattle.rsp_machine.specs.declared.host.TaskFault.TheVariants.{TaskPlace, Tas
 abbrev pub register_read : ℕ → State → State
 register_read n s = record s { sp = after_read n s.sp }
 
--- the state after the DMA that v asks for from the RDRAM, into the bank that SP_MEM_ADDR names
+-- the state after the DMA that a write of v to a length register starts, from the RDRAM into the bank that SP_MEM_ADDR selects
 abbrev pub moved_in : ℕ → State → State
 moved_in v s = record s { dmem = dmem_from_rdram v s.sp s.rdram s.dmem; imem = imem_from_rdram v s.sp s.rdram s.imem }
 
--- the state after the DMA that v asks for from that bank, into the RDRAM
+-- the state after the DMA that it starts from that bank into the RDRAM
 abbrev pub moved_out : ℕ → State → State
 moved_out v s = record s { rdram = rdram_from_bank v s.sp s.dmem s.imem s.rdram }
 
--- the state after a write of v to SP register n, modulo 16: number 2 starts the one DMA, and number 3 the other
+-- the state after a write of v to SP register n, modulo 16: number 2 starts a DMA into the bank, and number 3 one into the RDRAM
 abbrev pub register_written : ℕ → ℕ → State → State
 register_written n v s =
     let t = if n % 16 == 2 then moved_in v s else if n % 16 == 3 then moved_out v s else s in
@@ -36,7 +36,7 @@ bank_length Dmem s = 4096
 bank_length Imem s = 4096
 bank_length Rdram s = length s.rdram
 
--- whether n bytes from an address on stand in a bank; of no bytes, whether the address isn't past its end
+-- whether n bytes from an address on are inside a bank; if n is 0, whether the address is at most the bank's length
 abbrev pub is_inside : Bank → ℕ → ℕ → State → Bool
 is_inside bank a n s = nat_le (a + n) (bank_length bank s)
 
@@ -51,29 +51,28 @@ unfoldable pub image_word : List ℕ → ℕ → ℕ
 image_word image a =
     image_byte image a * 16777216 + image_byte image (a + 1) * 65536 + image_byte image (a + 2) * 256 + image_byte image (a + 3)
 
--- a move of some bytes from a place in the RDRAM to a place in a bank
+-- a copy of n bytes, in one row, from an address in the RDRAM to an address in a bank
 abbrev pub single_row : ℕ → ℕ → ℕ → Transfer
 single_row place from n = record { sp = place; dram = from; length = n; count = 0; skip = 0 }
 
--- The task structure at an address of the RDRAM has ucode_boot, the place of its boot code in the RDRAM, at 8, modulo 2^24, and
--- ucode_boot_size, the number of its bytes, at 12.
+-- The task structure at an address of the RDRAM holds ucode_boot at offset 8: the address of its boot code in the RDRAM, modulo 2^24. At
+-- offset 12 it holds ucode_boot_size, the number of bytes of the boot code.
 abbrev pub boot_place : ℕ → List ℕ → ℕ
 boot_place a image = image_word image (a + 8) % 16777216
 
 abbrev pub boot_size : ℕ → List ℕ → ℕ
 boot_size a image = image_word image (a + 12)
 
--- Why a task can't start: its structure of 64 bytes stands at no multiple of 8, or passes the image's end; else its boot code
--- hasn't 1 to 4096 bytes.
+-- Why a task can't start. TaskPlace: its structure of 64 bytes isn't at a multiple of 8, or it passes the image's end. TaskSize: its boot
+-- code hasn't 1 to 4096 bytes. If both hold, the fault is TaskPlace.
 abbrev pub task_fault : ℕ → List ℕ → Option TaskFault
 task_fault a image =
     if not (a % 8 == 0) || nat_lt (length image) (a + 64) then Some TaskPlace
     else if nat_le 1 (boot_size a image) && nat_le (boot_size a image) 4096 then None
     else Some TaskSize
 
--- The state after a task's start. The 64 bytes of its structure stand in DMEM from FC0 hex on, and its boot code in IMEM from
--- 0 on. Boot code past the image's end is 0, and IMEM's other bytes stay. intbreak is set, and halted, broke and signals 0 to
--- 2 are cleared.
+-- The state after a task's start. DMEM holds the 64 bytes of its structure from FC0 hex on, and IMEM its boot code from 0 on. Boot code
+-- past the image's end is 0, and IMEM's other bytes stay. intbreak is set, and halted, broke and signals 0 to 2 are cleared.
 unfoldable pub with_task : ℕ → State → State
 with_task a s = record s {
   dmem = copied_in s.rdram s.dmem (pairs (single_row 4032 a 64));
@@ -83,6 +82,6 @@ with_task a s = record s {
   sp = after_task s.sp;
 }
 
--- the state that goes on at a place of IMEM
+-- the state with this pc, and with npc at the next address
 abbrev pub with_pc : ℕ → State → State
 with_pc place s = record s { pc = place; npc = address_after place }

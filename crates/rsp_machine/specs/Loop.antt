@@ -1,4 +1,4 @@
--- Scaffolding: what a loop of steps knows of those that it has made.
+-- Scaffolding: what holds of the steps that a loop has made.
 use Rattle.std.specs.Prelude.{ℕ, ◌≡◌, ◌≢◌, ◌<◌, ◌-◌, ◌⊎◌, Bool, true, List, length, slice_get, Option, Some}
 use Rattle.rsp_machine.specs.State.{State}
 use Rattle.rsp_machine.specs.Step.{step_of}
@@ -14,7 +14,7 @@ pub record AreDone (k : ℕ) (s t : State) : Type 0 where
   pub state : t ≡ steps_of k s
   pub done : done_of k s ≡ k
 
--- no two steps have one saver
+-- no two steps have the same saver
 abbrev pub IsInjective : (ℕ → ℕ) → Type 0
 IsInjective slot = (i j : ℕ) → slot i ≡ slot j → i ≡ j
 
@@ -24,13 +24,14 @@ pub record HasRecorded {K : Type 0} (saves : Change → State → K → K) (s : 
   pub told : o ≡ Some (after_step_from saves s before)
   pub ranged : IsRanged s
 
--- What the savers are after k steps from s. No other saver has changed.
+-- The savers after k steps from s: those of the steps have saved, and no other has changed.
 pub record HaveRecorded {K : Type 0} (saves : Change → State → K → K) (slot : ℕ → ℕ) (k : ℕ) (s : State) (old new : List K) : Type 0 where
   pub told : IsInjective slot → (i : ℕ) → i < k → HasRecorded saves (steps_of i s) (slice_get new (slot i))
   pub rest : (j : ℕ) → ((i : ℕ) → i < k → slot i ≢ j) → slice_get new j ≡ slice_get old j
   pub len : length new ≡ length old
 
--- why k steps from s that lead to t aren't more: the next isn't Done, or the last started a DMA and steps end at one, or a test ends them
+-- Why a loop ends after k steps from s, at t: the next step isn't Done, or the last one started a DMA and the loop ends at one, or a test
+-- ended the loop.
 abbrev pub LoopEnd : Bool → (ℕ → ℕ → Bool → Bool) → ℕ → State → State → Type 0
 LoopEnd at_dma ends k s t =
     (done_steps (step_of t).0 ≡ 0) ⊎ ((0 < k) × (((at_dma ≡ true) × (starts_dma_at (steps_of (k - 1) s) ≡ true)) ⊎ (ends_after ends (steps_of (k - 1) s) ≡ true)))

@@ -1,4 +1,4 @@
--- Which operation of its group's crate an instruction of the table is.
+-- The operation of each vector instruction, in the crate of its group.
 use Rattle.rsp_decode.specs.declared.vector.VectorMultiplyOp.{VectorMultiplyOp}
 use Rattle.rsp_decode.specs.declared.vector.VectorMultiplyOp.TheVariants.{Vmulf, Vmulu, Vmudl, Vmudm, Vmudn, Vmudh, Vmacf, Vmacu, Vmadl, Vmadm, Vmadn, Vmadh}
 use Rattle.rsp_decode.specs.declared.vector.VectorRoundOp.{VectorRoundOp}

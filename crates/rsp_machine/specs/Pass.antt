@@ -1,4 +1,4 @@
--- Passing over a move of an SP register in place of executing it.
+-- Passing over a move of an SP register instead of executing it.
 use Rattle.std.specs.Prelude.{ℕ, Bool, true, false, Option, Some, Result, Ok, Err, if◌then◌else◌}
 use Rattle.rsp_decode.specs.declared.inst.Inst.{Inst}
 use Rattle.rsp_decode.specs.declared.inst.Inst.TheVariants.{MoveSp}
@@ -17,12 +17,12 @@ abbrev pub is_write : MoveOp → Bool
 is_write From = false
 is_write To = true
 
--- the state after such a move: register rt of an MFC0 becomes the value, and an MTC0 writes nothing
+-- the state after a move was passed over: register rt of an MFC0 becomes the value, and an MTC0 writes nothing
 abbrev pub after_pass : MoveOp → ℕ → ℕ → State → State
 after_pass From rt value s = after_single_step (record (advanced s) { registers = with_register s.registers rt value })
 after_pass To rt value s = after_single_step (advanced s)
 
--- the same by the instruction at pc, which has to be such a move
+-- the same for the instruction at pc, which must be such a move
 abbrev pub pass_by : Option Inst → ℕ → State → Result State PassFault
 pass_by (Some (MoveSp row rt n)) value s = Ok (after_pass row rt value s)
 pass_by _ value s = Err OtherWord

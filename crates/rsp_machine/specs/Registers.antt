@@ -1,4 +1,4 @@
--- All registers at once: what a state holds but its memories.
+-- All registers at once: all of a state but its memories.
 use Rattle.std.specs.Prelude.{ℕ, ◌≡◌, ◌%◌, ◌==◌, ◌&&◌, not, nat_lt, if◌then◌else◌, Bool, slice_index, Option, Some, None}
 use Rattle.rsp_lanes.specs.Lanes.{each_lane}
 use Rattle.rsp_numbers.specs.Numbers.{number, high, middle, low}
@@ -46,7 +46,7 @@ pub record AreRegisters (r : AllRegisters) : Type 0 where
   pub zero : slice_index r.registers 0 ≡ 0
   pub sp : AreSpRanges r.sp.memory r.sp.dram r.sp.skip
 
--- whether a number is a multiple of another, below a limit
+-- whether n is a multiple of `step` and below `limit`
 abbrev pub is_whole : ℕ → ℕ → ℕ → Bool
 is_whole step limit n = nat_lt n limit && (n % step == 0)
 
@@ -65,6 +65,6 @@ registers_fault r =
     else if not (slice_index r.registers 0 == 0) then Some RegisterZero
     else sp_fault r.sp
 
--- The registers of a machine's state have no fault, and set again in it they leave it.
+-- The registers of a machine's state have no fault, and setting them again leaves the state as it is.
 abbrev pub SetAsRead : Type 0
 SetAsRead = (s : State) → IsState s → (registers_fault (registers_of s) ≡ None) × (with_registers (registers_of s) s ≡ s)

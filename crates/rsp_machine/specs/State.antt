@@ -16,7 +16,7 @@ use Rattle.rsp_regs.specs.Sp.{Sp, IsSp, start}
 pub record State : Type 0 where
   pub pc : ℕ  -- the address in IMEM of the next instruction, below 4096
   pub npc : ℕ  -- and of the one after it
-  pub registers : List ℕ  -- 32 numbers below 2^32, of which number 0 is 0
+  pub registers : List ℕ  -- 32 numbers below 2^32; number 0 is 0
   pub vectors : List (List ℕ)  -- 32 registers of eight numbers below 2^16
   pub accumulators : List ℤ  -- eight numbers from -2^47 to 2^47 - 1
   pub flags : Flags  -- five flags of each lane
@@ -42,7 +42,7 @@ pub record AreFlags (f : Flags) : Type 0 where
 pub record IsState (s : State) : Type 0 where
   pub pc : IsInstructionAddress s.pc
   pub npc : IsInstructionAddress s.npc
-  pub registers : IsRegisters s.registers  -- 32 numbers below 2^32, of which number 0 is 0
+  pub registers : IsRegisters s.registers  -- 32 numbers below 2^32; number 0 is 0
   pub vectors : IsFile s.vectors  -- 32 registers of eight numbers below 2^16
   pub accumulators : AreNumbers s.accumulators  -- eight, from -2^47 to 2^47 - 1
   pub flags : AreFlags s.flags  -- eight in each of the five lists

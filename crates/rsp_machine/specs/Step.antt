@@ -44,14 +44,14 @@ jumps i s = record s { npc = next_npc i s.registers s.pc; registers = with_link 
 unfoldable pub break_instruction : State → State
 break_instruction s = record s { sp = after_break s.sp }
 
--- a move from SP register n to scalar register rt, or back: what the host's read and write of it do
+-- a move from SP register n to scalar register rt, or back: it does what the host's read or write of the SP register does
 unfoldable pub moves_sp : MoveOp → ℕ → ℕ → State → State
 moves_sp From rt n s =
     let after = register_read n s in
     record after { registers = with_register s.registers rt (read_value n s.sp) }
 moves_sp To rt n s = register_written n (register s.registers rt) s
 
--- what an instruction does, pc and npc advanced
+-- what an instruction does after pc and npc have advanced
 unfoldable pub instruction_effect : Inst → State → State
 instruction_effect (Shift row rd rt amount) s = computes (Shift row rd rt amount) s
 instruction_effect (ShiftBy row f) s = computes (ShiftBy row f) s
@@ -91,7 +91,7 @@ executed i s = instruction_effect i (advanced s)
 abbrev pub after_single_step : State → State
 after_single_step s = record s { sp = after_step s.sp }
 
--- the answer and the state after a word that is an instruction, or reserved; then nothing changes
+-- the answer and the state after a word: an instruction is executed, and a reserved word changes nothing
 abbrev pub step_by : Option Inst → ℕ → State → StepEnd × State
 step_by None word s = (Reserved word, s)
 step_by (Some i) word s = (Done, after_single_step (executed i s))

@@ -6,11 +6,11 @@ use Rattle.rsp_memory.specs.Memory.{word_at}
 use Rattle.rsp_machine.specs.State.{State}
 use Rattle.rsp_machine.specs.Undo.{starts_dma}
 
--- whether a word does, by the instruction that it is
+-- whether a word starts a DMA, by the instruction that it is
 abbrev pub starts_dma_in : Option Inst → Bool
 starts_dma_in None = false
 starts_dma_in (Some i) = starts_dma i
 
--- whether the word at pc does: a move from a scalar register to one of the two length registers
+-- whether the word at pc starts a DMA: it moves a scalar register to one of the two length registers
 unfoldable pub starts_dma_at : State → Bool
 starts_dma_at s = starts_dma_in (inst_of (word_at s.imem s.pc))

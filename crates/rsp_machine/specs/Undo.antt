@@ -35,7 +35,7 @@ pub record Saved : Type 0 where
   pub bytes : List ℕ
   pub vector : List ℕ
   pub vectors : List (List ℕ)
-  pub accumulators : List ℤ  -- of an instruction that writes the low accumulators alone, their low sixteen bits
+  pub accumulators : List ℤ  -- only the low sixteen bits count if the instruction writes the low accumulators alone
   pub flags : Flags
   pub divider : Divider
   pub sp : Sp
@@ -64,7 +64,7 @@ with_group file n vs =
     let half = with_vector (with_vector (with_vector (with_vector file n (vector vs 0)) (n + 1) (vector vs 1)) (n + 2) (vector vs 2)) (n + 3) (vector vs 3) in
     with_vector (with_vector (with_vector (with_vector half (n + 4) (vector vs 4)) (n + 5) (vector vs 5)) (n + 6) (vector vs 6)) (n + 7) (vector vs 7)
 
--- flags in which VCO is that of `old`; and in which VCC is too
+-- flags with the VCO of `old`, and flags with its VCO and VCC
 abbrev pub with_vco : Flags → Flags → Flags
 with_vco old f = record f { carry = old.carry; differ = old.differ }
 
@@ -154,7 +154,7 @@ change_of (VectorLoad row f) s = loaded_change row f.vt
 change_of (VectorStore row f) s =
     of.Bytes (window_of row (vector_address (VectorStore row f) (register s.registers f.base)))
 
--- A saver after an instruction, if there is one, and after a step: it gets what the instruction changes.
+-- A saver after an instruction, if there is one, and after a step. It gets the change of the instruction.
 abbrev pub after_instruction : {K : Type 0} → (Change → State → K → K) → Option Inst → State → K → K
 after_instruction saves None s k = k
 after_instruction saves (Some i) s k = saves (change_of i s) s k
@@ -185,7 +185,7 @@ may_store r = changes_memory r.change
 abbrev pub with_product : ℕ → Saved → State → State
 with_product n r s = record s { vectors = with_vector s.vectors n r.vector; accumulators = r.accumulators }
 
--- and with the low accumulators alone; the instruction left the others
+-- vector register n and the low accumulators, written back; the instruction left the other parts
 abbrev pub with_low_part : ℕ → Saved → State → State
 with_low_part n r s = record s { vectors = with_vector s.vectors n r.vector; accumulators = with_low_of r.accumulators s.accumulators }
 
@@ -205,11 +205,11 @@ restored of.Flags r s = record s { flags = r.flags }
 restored (of.Sp n) r s = record s { registers = with_register s.registers n r.word; sp = r.sp }
 restored _ r s = s
 
--- A machine that steps isn't halted, and its npc is pc after the step.
+-- the state with this pc and npc, and not halted: a machine that steps isn't halted before, and its npc becomes its pc
 abbrev pub before : ℕ → ℕ → State → State
 before pc npc s = record s { pc = pc; npc = npc; sp = record s.sp { halted = false } }
 
--- the record of step i of some
+-- the record of step i
 abbrev pub record_at : List Saved → ℕ → Saved
 record_at records i = slice_index_or records i blank
 

@@ -1,4 +1,4 @@
--- Where a test ends a run of steps.
+-- Tests that end a run of steps.
 use Rattle.std.specs.Prelude.{ℕ, Bool, false, Option, Some, None}
 use Rattle.rsp_decode.specs.declared.inst.Inst.{Inst}
 use Rattle.rsp_decode.specs.Table.{inst_of}
@@ -12,10 +12,11 @@ abbrev pub may_store_by : Option Inst → State → Bool
 may_store_by None s = false
 may_store_by (Some i) s = changes_memory (change_of i s)
 
--- whether the word at pc may
+-- whether the word at pc may change DMEM
 unfoldable pub may_store_at : State → Bool
 may_store_at s = may_store_by (inst_of (word_at s.imem s.pc)) s
 
--- whether a run ends after the step from a state, by a test of the next instruction's pc and word, and of whether the step may have stored
+-- Whether a test ends a run after the step from a state. It gets the next instruction's pc and word, and whether the step may have changed
+-- DMEM.
 unfoldable pub ends_after : (ℕ → ℕ → Bool → Bool) → State → Bool
 ends_after ends s = let t = (step_of s).1 in ends t.pc (word_at t.imem t.pc) (may_store_at s)

@@ -1,4 +1,4 @@
--- What the vector rows do. Sources are those of the state before.
+-- What the vector instructions do. Each reads its sources from the state before it.
 use Rattle.std.specs.Prelude.{ℕ, ◌%◌, ◌==◌}
 use Rattle.rsp_decode.specs.declared.inst.Inst.{Inst}
 use Rattle.rsp_decode.specs.declared.inst.Inst.TheVariants.{VectorLoad, VectorStore}
@@ -34,8 +34,8 @@ multiplies row f s =
     let after = accumulators_after (multiply_op row) (vector s.vectors f.vs) (selected (vector s.vectors f.vt) f.element) s.accumulators in
     record s { accumulators = after; vectors = with_vector s.vectors f.vd (multiply_results (multiply_op row) after) }
 
--- a rounding of the accumulators by the selected vt, of which 65536 times as much counts where the number vs is odd: the
--- accumulators after it, and in vd their signed clamp
+-- a rounding of the accumulators by the selected vt, or by 65536 times it if the number vs is odd: the accumulators after it, and in vd
+-- their signed clamp
 unfoldable pub rounds : VectorRoundOp → VectorFields → State → State
 rounds row f s =
     let after = accumulators_after_rounding (round_op row) (f.vs % 2 == 1) (selected (vector s.vectors f.vt) f.element) s.accumulators in
@@ -51,7 +51,7 @@ multiplies_mpeg row f s =
 unfoldable pub reads_accumulator : VectorFields → State → State
 reads_accumulator f s = record s { vectors = with_vector s.vectors f.vd (sar_results f.element s.accumulators) }
 
--- a row that has a rule for one lane, on vs and the selected vt
+-- an instruction with a rule for one lane, on vs and the selected vt
 unfoldable pub ruled : Rule → VectorFields → State → State
 ruled rule f s =
     let a = vector s.vectors f.vs in
@@ -62,7 +62,7 @@ ruled rule f s =
       accumulators = with_low s.accumulators (lows_of rule a b s.flags);
     }
 
--- a divide row, which writes one lane of vd; vt is as it stood before, so that it may be vd
+-- a divide instruction, which writes one lane of vd; vt is read first, so it may be vd
 unfoldable pub divides : VectorDivideOp → ℕ → ℕ → ℕ → ℕ → State → State
 divides row vd lane vt e s =
     let source = vector s.vectors vt in
@@ -72,14 +72,14 @@ divides row vd lane vt e s =
       accumulators = with_low s.accumulators (selected source e);
     }
 
--- a vector load from DMEM, at the base register's value and the offset
+-- a vector load from DMEM, at the base register's value plus the scaled offset
 unfoldable pub loads_vector : VectorLoadOp → VectorMemoryFields → State → State
 loads_vector row f s =
     let i = VectorLoad row f in
     let a = vector_address i (register s.registers f.base) in
     record s { vectors = file_after_load i a s.dmem s.vectors }
 
--- a vector store to DMEM, at the same address
+-- a vector store to DMEM, at the base register's value plus the scaled offset
 unfoldable pub stores_vector : VectorStoreOp → VectorMemoryFields → State → State
 stores_vector row f s =
     let i = VectorStore row f in

@@ -11,7 +11,7 @@ use rsp_decode::{BranchSignOp, Inst, JumpOp, MoveOp, VectorLoadOp, VectorStoreOp
 use rsp_regs::is_length_register;
 
 /// What an instruction changes of a machine besides pc and npc, with the register or the address. A register number is a word
-/// here, which a step stores at once.
+/// here, because a step stores a word at once.
 #[derive(Clone, Copy)]
 pub(crate) enum Change {
     /// Nothing else.
@@ -44,8 +44,8 @@ pub(crate) enum Change {
     Dma,
 }
 
-/// What the loop of steps asks of an instruction. As plain truth values they are known in each arm of the decoder, where LLVM
-/// then drops the questions.
+/// What the loop of steps tests after an instruction. These are plain truth values: they are known in each arm of the decoder,
+/// and LLVM drops the tests there.
 #[derive(Clone, Copy, Drop)]
 pub(crate) struct Reach {
     /// Whether the instruction may have read or written the SP registers.
@@ -57,7 +57,7 @@ pub(crate) struct Reach {
 }
 
 impl Change {
-    /// What the loop of steps asks of the change.
+    /// What the loop of steps tests after an instruction with this change.
     #[inline(always)]
     pub(crate) fn reach(self) -> Reach
         ensures { result ≡ reach_of self }

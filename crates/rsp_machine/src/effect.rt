@@ -13,17 +13,17 @@ use rsp_decode::{Inst, Visitor, visit};
 /// Which registers the word at pc writes when it is executed, and where it stores.
 #[derive(Clone, Copy, Debug, PartialEq, Eq, Drop)]
 pub struct Effect {
-    /// The number of the scalar register, 1 to 31; 0 if it writes none, as register 0 is never written.
+    /// The number of the scalar register, 1 to 31; 0 if it writes none, since register 0 is never written.
     pub scalar: u8,
-    /// The number of the vector register, of LTV the first of eight; 32 if it writes none.
+    /// The number of the vector register, the first of eight for LTV; 32 if it writes none.
     pub vector: u8,
-    /// Of a store its address in DMEM, below 4096; else 0.
+    /// The address in DMEM of a store, below 4096; else 0.
     pub address: u16,
     /// Whether it is a store.
     pub stored: bool,
 }
 
-/// The scalar register that a change writes.
+/// The number of the scalar register that a change writes; 0 if it writes none.
 #[inline(always)]
 fn scalar_of(change: Change) -> u8
     requires { IsChange change }
@@ -35,7 +35,7 @@ fn scalar_of(change: Change) -> u8
     }
 }
 
-/// The vector register that a change writes, of a group the first.
+/// The number of the vector register that a change writes, the first of a group; 32 if it writes none.
 #[inline(always)]
 fn vector_of(change: Change) -> u8
     requires { IsChange change }
@@ -54,7 +54,7 @@ fn vector_of(change: Change) -> u8
     }
 }
 
-/// The address in DMEM of a store.
+/// The address in DMEM of a store; None for any other instruction.
 #[inline(always)]
 fn stored_at<A: Acc>(inst: &Inst, machine: &Machine<A>) -> Option<u16>
     requires { IsInstruction inst.now }

@@ -19,20 +19,20 @@ use rsp_decode::{Inst, MoveOp, Visitor, visit};
 use rsp_scalar::{alu, jump, load, store};
 use std::marker::PhantomData;
 
-/// A machine as the visitor of its instructions, and the saver of what they overwrite. It is a type of its own: an embedder, who
-/// can step a machine, can't execute an instruction without fetch and without the test whether the machine is halted.
+/// A machine as the visitor of its instructions, and the saver of what they overwrite. It is a type of its own because an
+/// embedder may step a machine, but must not execute an instruction without the fetch and the test of halted.
 #[derive(Drop)]
 struct Executor<'a, A: Acc, K: Recorder, U: Until> {
     machine: &'a mut Machine<A>,
     saver: &'a mut K,
-    /// What may end the loop, which isn't asked here. By this type each loop has the decoder's functions for itself, so LLVM
+    /// The test that may end the loop. It isn't called here. Its type gives each loop the decoder's functions for itself, so LLVM
     /// inlines them.
     until: PhantomData<U>,
     /// The address of the instruction.
     from: InstructionAddress,
     /// pc and npc after it. Those of `machine` aren't used.
     counters: ProgramCounters,
-    /// What the loop asks of the instruction.
+    /// What the loop tests after the instruction.
     reach: Reach,
 }
 
@@ -91,8 +91,8 @@ impl<A: Acc> Machine<A> {
         store(inst, &self.regs, &mut self.dmem);
     }
 
-    /// A jump or a branch. pc and npc have advanced in `counters`, and the machine's own aren't used: the instruction at this pc, its
-    /// delay slot, is executed before its target.
+    /// A jump or a branch. pc and npc have advanced in `counters`, and the machine's own aren't used. The instruction at this pc
+    /// is the delay slot, which is executed before the target.
     #[inline(always)]
     fn go_to(&mut self, inst: &Inst, counters: &mut ProgramCounters)
         requires { IsInstruction inst.now }
@@ -123,7 +123,7 @@ impl<A: Acc> Machine<A> {
         }
     }
 
-    /// A read of an SP register into scalar register `rt`. It is apart from the write, which is long by its DMA.
+    /// A read of an SP register into scalar register `rt`. It is apart from the write, whose DMA makes it long.
     #[tactic(auto, unfolding(crate::specs::Step::moves_sp))]
     fn move_from_sp(&mut self, rt: u8, register: u8)
         requires { rt < 32 }
@@ -167,7 +167,7 @@ impl<A: Acc> Machine<A> {
             | Inst::Jump { .. } => self.go_to(inst, counters),
             Inst::Break => self.break_instruction(),
             Inst::MoveSp { row, rt, register } => self.move_sp_register(row, rt, register),
-            // A call that isn't inlined gets a copy: so the instruction itself is never in memory.
+            // A call that isn't inlined gets a copy. Else the instruction itself would be in memory.
             Inst::MoveVector { row, rt, .. } => {
                 let copy = *inst;
                 self.move_lanes(&copy, row, rt);
@@ -198,7 +198,7 @@ impl<A: Acc> Machine<A> {
         }
     }
 
-    /// Executes the word at `counters`, whose change a saver gets first, and returns what the loop asks of the change. None for a
+    /// Executes the word at `counters`, and returns what the loop tests after it. A saver gets its change first. None for a
     /// reserved word, which changes nothing. The machine's own pc and npc aren't used.
     #[inline(always)]
     #[tactic(auto, unfolding(crate::specs::Step::executed))]

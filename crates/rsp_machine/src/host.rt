@@ -14,7 +14,7 @@ use thiserror::Error;
 #[derive(Clone, Copy, Debug, PartialEq, Eq)]
 pub struct RangeFault;
 
-/// Why a task can't start. Of two faults TaskPlace is reported.
+/// Why a task can't start. If both hold, TaskPlace is reported.
 #[derive(Clone, Copy, Debug, PartialEq, Eq, Error)]
 pub enum TaskFault {
     /// Fault 4: the address of its structure isn't a multiple of 8, or its 64 bytes pass the image's end.
@@ -49,8 +49,9 @@ impl<A: Acc> Machine<A> {
         self.sp.host_read(n)
     }
 
-    /// Writes an SP register, whose number is `n` modulo 16. A write of register 2 does a DMA from the RDRAM into the bank in
-    /// register 0, one of register 3 a DMA back, whether the machine is halted or not. pc and npc stay.
+    /// Writes an SP register, whose number is `n` modulo 16. A write of register 2 does a DMA from the RDRAM into the bank that
+    /// register 0 selects, and one of register 3 a DMA from that bank into the RDRAM. It does so whether the machine is halted or
+    /// not. pc and npc stay.
     pub fn write_reg(&mut self, n: u32, value: u32)
         ensures { self.new ≡ register_written n value self.old }
     {
@@ -68,8 +69,8 @@ impl<A: Acc> Machine<A> {
         self.npc = self.pc.next();
     }
 
-    /// Whether `n` bytes from an address on are inside a bank. DMEM and IMEM end at 4096, the RDRAM at the image's end. 0 bytes are
-    /// inside up to this end.
+    /// Whether `n` bytes from an address on are inside a bank. DMEM and IMEM end at 4096, the RDRAM at the image's end. 0 bytes
+    /// are inside at each address up to this end.
     #[inline]
     pub fn is_inside(&self, bank: Bank, a: u32, n: usize) -> bool
         ensures value { result ≡ is_inside bank a n self.now }
@@ -83,8 +84,8 @@ impl<A: Acc> Machine<A> {
         n <= length && a as usize <= length - n
     }
 
-    /// Writes bytes to a bank from an address on. RangeFault if they aren't inside the bank ([`Machine::is_inside`]), and then
-    /// nothing changes.
+    /// Writes bytes to a bank from an address on. If they aren't inside the bank ([`Machine::is_inside`]), it returns RangeFault
+    /// and changes nothing.
     #[tactic(auto, unfolding(crate::specs::Host::with_bank_bytes))]
     pub fn load_bytes(&mut self, bank: Bank, a: u32, bytes: &[u8]) -> Result<(), RangeFault>
         ensures inside { IsOk result ↔ IsTrue (is_inside bank a (length bytes.now) self.old) }
@@ -106,8 +107,8 @@ impl<A: Acc> Machine<A> {
     /// and its boot code to IMEM from 0 on. Bytes of the boot code past the image's end are 0. Then pc is 0, npc is 4, intbreak
     /// is set, and halted, broke and the signals 0, 1 and 2 are cleared. All else stays.
     ///
-    /// The word at 8 of the structure is the boot code's address, modulo 2^24, and that at 12 the number of its bytes. A
-    /// [`TaskFault`] is returned, and then nothing changes.
+    /// The word at offset 8 of the structure is the boot code's address, modulo 2^24, and the word at offset 12 the number of its
+    /// bytes. If a [`TaskFault`] is returned, nothing changes.
     #[tactic(auto, unfolding(crate::specs::Host::with_task))]
     pub fn start_task(&mut self, a: u32) -> Result<(), TaskFault>
         ensures fault { MatchResult result (λ _. task_fault a self.old.rdram ≡ None) (λ f. task_fault a self.old.rdram ≡ Some f) }

@@ -1,4 +1,4 @@
-//! Laws about steps, which hold whatever the accumulators are kept in.
+//! Laws about steps. They hold for every representation of the accumulators.
 
 ghost use Rattle.std.specs.Prelude.{◌≡◌};
 ghost use Rattle.rsp_machine.specs.Step.{step_of};
@@ -8,8 +8,8 @@ ghost use Rattle.rsp_machine.specs.Registers.{SetAsRead};
 use crate::{Machine, StepEnd};
 use rsp_acc::Acc;
 
-/// Planes equal whole numbers, for one step: machines over any two kinds of accumulators whose states
-/// are equal give equal answers, and their states are equal afterwards.
+/// One step is the same over any two kinds of accumulators, such as planes and whole numbers: machines in equal states give equal
+/// answers, and come to equal states.
 pub fn same_step<A: Acc, B: Acc>(a: &mut Machine<A>, b: &mut Machine<B>) -> (StepEnd, StepEnd)
     requires same { a.old ≡ b.old }
     ensures answer { result.0 ≡ (step_of a.old).0 }
@@ -20,8 +20,8 @@ pub fn same_step<A: Acc, B: Acc>(a: &mut Machine<A>, b: &mut Machine<B>) -> (Ste
     (a.step(), b.step())
 }
 
-/// Planes equal whole numbers, for any number of steps: machines over any two kinds of accumulators whose states are equal make
-/// equally many steps, and come to equal states.
+/// Any number of steps is the same over any two kinds of accumulators: machines in equal states make equally many steps, and come
+/// to equal states.
 pub fn same_steps<A: Acc, B: Acc>(a: &mut Machine<A>, b: &mut Machine<B>, n: u64) -> (u64, u64)
     requires same { a.old ≡ b.old }
     ensures done { result.0 ≡ done_of n a.old }

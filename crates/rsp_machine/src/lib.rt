@@ -1,7 +1,7 @@
 //! The signal processor: its state, its steps, and what the host does with it.
 //!
 //! [`Machine`] is generic in how its accumulators are kept. Contracts see it as the plain record `State`, so machines with equal
-//! states go on alike. Each call is one equation between the states before and after it.
+//! states go on alike. The contract of a call is one equation between the states before and after it.
 #![tactic(auto)]
 
 mod change;

@@ -8,7 +8,7 @@ use crate::machine::Machine;
 use rsp_acc::Acc;
 use rsp_decode::{Inst, MoveOp, decode};
 
-/// Why a machine can't pass over the word at pc. Of both faults Halted is reported.
+/// Why a machine can't pass over the word at pc. If both hold, Halted is reported.
 #[derive(Clone, Copy, Debug, PartialEq, Eq)]
 pub enum PassFault {
     /// The machine is halted.

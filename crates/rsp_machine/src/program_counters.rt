@@ -3,7 +3,7 @@ ghost use Rattle.rsp_scalar.specs.Flow.{address_after};
 
 use std::marker::Model;
 
-/// The address of an instruction in IMEM: a multiple of 4 below 4096. It is kept as an index, as a fetch takes it.
+/// The address of an instruction in IMEM: a multiple of 4 below 4096. It is kept as the index that a fetch takes.
 #[derive(Clone, Copy, Drop)]
 pub(crate) struct InstructionAddress {
     address: usize,
@@ -85,7 +85,7 @@ impl Model for ProgramCounters {
 }
 
 impl ProgramCounters {
-    /// pc and npc after an instruction that is no jump.
+    /// pc and npc after an instruction that neither jumps nor branches.
     #[inline(always)]
     pub(crate) fn next(self) -> ProgramCounters
         ensures { result ≡ record { pc = self.npc; npc = address_after self.npc } }

@@ -15,8 +15,8 @@ use rsp_loadstore::VFile;
 use rsp_regs::SpRegs;
 use std::marker::Model;
 
-/// What a step saved: the values that its instruction overwrites. [`Machine::undo`] writes them back. A record can be used for step
-/// after step: each writes only the values that it needs, and the others stay as earlier steps left them, also in contracts.
+/// What a step saved: the values that its instruction overwrites. [`Machine::undo`] writes them back. A record can be used again:
+/// each step writes only the values that it needs, and the others stay as earlier steps left them, also in contracts.
 #[derive(Drop)]
 pub struct Record {
     pc: InstructionAddress,
@@ -74,7 +74,7 @@ impl Record {
         }
     }
 
-    /// Whether [`Machine::undo`] undoes the step: not if it started a DMA.
+    /// Whether [`Machine::undo`] undoes the step. It doesn't if the step started a DMA.
     #[inline(always)]
     pub fn can_undo(&self) -> bool
         ensures { result ≡ can_undo self.now.change }
@@ -194,8 +194,8 @@ impl Recorder for Record {
 }
 
 impl<A: Acc> Machine<A> {
-    /// Undoes a step: writes back what it changed, and goes back to its address. From the state after the step this restores the
-    /// whole state before it. The record of no step, and that of a step that starts a DMA, change nothing.
+    /// Undoes a step: writes back what it changed, and sets pc to its address. From the state after the step this restores the
+    /// whole state before it. The record of no step changes nothing, nor does that of a step that started a DMA.
     #[tactic(auto, unfolding(crate::specs::Undo::undone, crate::specs::Undo::restored))]
     pub fn undo(&mut self, saved: &Record)
         ensures { self.new ≡ undone saved.now self.old }

@@ -1,4 +1,4 @@
-// What saves the values that the steps of a loop change.
+// Savers of the values that the steps of a loop change.
 
 ghost use Rattle.std.specs.Prelude.{◌≡◌, ℕ, Bool};
 ghost use Rattle.rsp_machine.specs.State.{State};
@@ -11,23 +11,24 @@ use crate::machine::Machine;
 use crate::program_counters::ProgramCounters;
 use rsp_acc::Acc;
 
-/// What gets each instruction's change, before the instruction is executed, and may save the values that it overwrites.
+/// A saver. It gets each instruction's change before the instruction is executed, and may save the values that the instruction
+/// overwrites.
 pub(crate) trait Recorder {
-    /// What it is after a change.
+    /// The saver after a change.
     ghost saves: { Change → State → Self → Self };
 
-    /// Which saver gets step `n` of a loop.
+    /// The index of the saver that gets step `n` of a loop.
     ghost slot: { ℕ → ℕ };
 
     /// Whether a loop ends after a step that starts a DMA.
     ghost ends_at_dma: { Bool };
 
-    /// Saves what it wants of the values before the change, of a machine with these program counters.
+    /// Saves what it needs of the values before the change. The machine's pc and npc are those of `before`.
     fn save<A: Acc>(&mut self, machine: &Machine<A>, before: ProgramCounters, change: Change)
         requires { IsChange change }
         ensures { self.new ≡ saves change (with_counters before machine.now) self.old };
 
-    /// Which saver gets step `n` of a loop.
+    /// The index of the saver that gets step `n` of a loop.
     fn slot(n: u64) -> usize
         ensures { result ≡ slot n };
 
@@ -36,7 +37,7 @@ pub(crate) trait Recorder {
         ensures { result ≡ ends_at_dma };
 }
 
-/// Saves nothing. One gets all steps.
+/// Saves nothing. One such saver gets all steps.
 #[derive(Clone, Copy, Drop)]
 pub(crate) struct NoRecord;
 

@@ -1,4 +1,4 @@
-// All registers at once: what a machine holds but its memories.
+// All registers at once: all of a machine but its memories.
 
 ghost use Rattle.std.specs.Prelude.{◌≡◌, Some, None, IfNone, OnOk, OnErr, MatchResult};
 ghost use Rattle.rsp_machine.specs.Registers.{AreRegisters, registers_of, with_registers, registers_fault, sp_fault};
@@ -15,14 +15,14 @@ use rsp_regs::{SpParts, SpRegs};
 use rsp_scalar::Regs;
 use thiserror::Error;
 
-/// All that a machine holds but its three memories: for a program that keeps or sets a whole state.
+/// All of a machine but its three memories, for a program that saves or sets a whole state.
 #[derive(Clone, Copy, PartialEq, Drop)]
 pub struct AllRegisters {
     /// The address of the next instruction, a multiple of 4 below 4096.
     pub pc: u16,
     /// The address of the one after it, a multiple of 4 below 4096.
     pub npc: u16,
-    /// The 32 scalar registers, of which number 0 is 0.
+    /// The 32 scalar registers. Number 0 is 0.
     pub registers: [u32; 32],
     /// The 32 vector registers, lane 0 of each first.
     pub vectors: [[u16; 8]; 32],
@@ -40,7 +40,7 @@ pub struct AllRegisters {
     pub sp: SpParts,
 }
 
-/// Why registers can't be those of a machine. Of several faults the first in this order is reported.
+/// Why registers can't be those of a machine. If several hold, the first in this order is reported.
 #[derive(Clone, Copy, Debug, PartialEq, Eq, Error)]
 pub enum RegistersFault {
     /// `pc` or `npc` isn't a multiple of 4 below 4096.
@@ -92,8 +92,8 @@ fn sp_fault(given: &SpParts) -> Option<RegistersFault>
 }
 
 impl<A: Acc> Machine<A> {
-    /// All registers. Changes nothing: the semaphore isn't set. Inlined, since a caller mostly moves them on, and the kilobyte is then
-    /// copied once.
+    /// All registers. Changes nothing: the semaphore isn't set. It is inlined because most callers move the registers on, and the
+    /// kilobyte is then copied once.
     #[inline(always)]
     #[tactic(auto, unfolding(crate::specs::Registers::registers_of))]
     pub fn all_registers(&self) -> AllRegisters
@@ -113,7 +113,7 @@ impl<A: Acc> Machine<A> {
         }
     }
 
-    /// Sets all registers; the three memories stay. A [`RegistersFault`] is returned, and then nothing changes.
+    /// Sets all registers; the three memories stay. If a [`RegistersFault`] is returned, nothing changes.
     pub fn set_all_registers(&mut self, given: &AllRegisters) -> Result<(), RegistersFault>
         ensures fault { MatchResult result (λ _. registers_fault given.now ≡ None) (λ f. registers_fault given.now ≡ Some f) }
         ensures ok { OnOk result (self.new ≡ with_registers given.now self.old) }
@@ -126,7 +126,7 @@ impl<A: Acc> Machine<A> {
         Ok(())
     }
 
-    /// Sets the SP registers, with the interrupt flag; all else stays. A [`RegistersFault`] is returned, and then nothing changes.
+    /// Sets the SP registers, with the interrupt flag; all else stays. If a [`RegistersFault`] is returned, nothing changes.
     pub fn set_sp_parts(&mut self, given: &SpParts) -> Result<(), RegistersFault>
         ensures fault { MatchResult result (λ _. sp_fault given.now ≡ None) (λ f. sp_fault given.now ≡ Some f) }
         ensures ok { OnOk result (self.new ≡ record self.old { sp = sp_of given.now }) }

@@ -63,14 +63,14 @@ impl<A: Acc> Machine<A> {
         self.imem.aligned_word(counters.pc.index())
     }
 
-    /// Ends a step: in single step the machine halts. Returns whether the loop goes on. This is tested only after an instruction that
-    /// may have reached the SP registers, or if `single`, which is false only if single step is clear.
+    /// Ends a step: in single step the machine halts. Returns whether the loop goes on. Both are tested only if the instruction
+    /// may have reached the SP registers, or if `single` is true. `single` is false only if single step is clear.
     #[inline(always)]
     fn end_step<K: Recorder>(&mut self, reach: Reach, single: bool) -> bool
         ensures state { self.new ≡ (if reach.sp || single then after_single_step self.old else self.old) }
         ensures goes { result ≡ (not (reach.sp || single) || not self.new.sp.halted && not (K.ends_at_dma && reach.dma)) }
     {
-        // Apart, so that the other instructions need not carry whether they started a DMA.
+        // A case of its own: the other instructions need not carry whether they started a DMA.
         if reach.sp {
             return self.halt_or_go::<K>(reach);
         }
@@ -87,8 +87,9 @@ impl<A: Acc> Machine<A> {
         !self.sp.halted() && !(K::ends_at_dma() && reach.dma)
     }
 
-    /// Makes up to `n` steps, as long as they are Done, the savers go on, and `until` doesn't end them, and returns how many.
-    /// Meanwhile pc and npc are in registers of the host. `until` is asked at the end of a turn, so not before the first step.
+    /// Makes up to `n` steps and returns how many. It ends earlier if the next step isn't Done, if a step starts a DMA and the
+    /// savers end at one, or if `until` ends it. Meanwhile pc and npc are in registers of the host. `until` is called at the end
+    /// of a turn, so not before the first step.
     #[inline(never)]
     fn run_loop<K: Recorder, U: Until>(&mut self, n: u64, slots: &mut [K], until: &U) -> u64
         requires slots { (i : ℕ) → i < n → K.slot i < length slots.old }
@@ -143,8 +144,8 @@ impl<A: Acc> Machine<A> {
         }
     }
 
-    /// Makes up to `n` steps, as [`Machine::step`] makes them, as long as they are Done. Returns how many were: fewer than `n` if
-    /// the machine is halted then, or the word at pc is reserved, as a further step would return.
+    /// Makes up to `n` steps, as [`Machine::step`] makes them, as long as they are Done. Returns how many were Done: fewer than
+    /// `n` if the machine is then halted or the word at pc is reserved. A further step reports which.
     pub fn steps(&mut self, n: u64) -> u64
         ensures state { self.new ≡ steps_of n self.old }
         ensures done { result ≡ done_of n self.old }
@@ -152,8 +153,7 @@ impl<A: Acc> Machine<A> {
         self.run_loop(n, &mut [NoRecord], &Never)
     }
 
-    /// One step, with the record that undoes it beside its answer: None exactly if the answer isn't Done or a DMA
-    /// started.
+    /// One step: its answer, and the record that undoes it. The record is None exactly if the answer isn't Done or a DMA started.
     pub fn step_recorded(&mut self) -> (StepEnd, Option<Record>)
         ensures answer { result.0 ≡ (step_of self.old).0 }
         ensures state { self.new ≡ (step_of self.old).1 }
@@ -173,9 +173,8 @@ impl<A: Acc> Machine<A> {
     }
 
     /// Makes up to as many steps as there are records, as [`Machine::step`] makes them and as long as they are Done, and writes
-    /// the record of each. It ends after a step that starts a DMA: only the last step may be one that can't be undone. A step
-    /// changes DMEM only if [`Record::may_store`] says so of its record. Returns how many steps it made; the further records
-    /// stay.
+    /// the record of each. It ends after a step that starts a DMA, so only the last step may be one that can't be undone. A step
+    /// changes DMEM only if [`Record::may_store`] is true of its record. Returns how many steps it made. The other records stay.
     pub fn steps_recorded(&mut self, records: &mut [Record]) -> usize
         ensures within { result ≤ length records.old }
         ensures done { done_of result self.old ≡ result }
@@ -191,9 +190,9 @@ impl<A: Acc> Machine<A> {
         self.steps_recorded_until(records, &Never)
     }
 
-    /// Makes up to `n` steps, as [`Machine::step`] makes them, as long as they are Done and `until` doesn't end them. It is asked
-    /// before each step but the first. Returns how many steps were made: fewer than `n` if a further step wouldn't be Done, or
-    /// if `until` ends them there.
+    /// Makes up to `n` steps, as [`Machine::step`] makes them, as long as they are Done and `until` doesn't end them. `until` is
+    /// called before each step but the first. Returns how many steps were made: fewer than `n` if a further step wouldn't be
+    /// Done, or if `until` ended them.
     pub fn steps_until<U: Until>(&mut self, n: u64, until: &U) -> u64
         ensures within { result ≤ n }
         ensures done { done_of result self.old ≡ result }
@@ -204,7 +203,7 @@ impl<A: Acc> Machine<A> {
         self.run_loop(n, &mut [NoRecord], until)
     }
 
-    /// [`Machine::steps_recorded`] that `until` may end too. It is asked before each step but the first.
+    /// [`Machine::steps_recorded`], which `until` may end too. `until` is called before each step but the first.
     pub fn steps_recorded_until<U: Until>(&mut self, records: &mut [Record], until: &U) -> usize
         ensures within { result ≤ length records.old }
         ensures done { done_of result self.old ≡ result }

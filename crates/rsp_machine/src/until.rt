@@ -2,11 +2,12 @@
 
 ghost use Rattle.std.specs.Prelude.{◌≡◌, ◌<◌, ◌%◌};
 
-/// Ends runs of steps. A run calls it between two of its steps.
+/// A test that ends runs of steps. A run calls it between two of its steps.
 pub trait Until {
     ghost use Rattle.std.specs.Prelude.{ℕ, Bool};
 
-    /// Whether a run ends before the instruction with this pc and this word, by whether the step before may have changed DMEM.
+    /// Whether a run ends before the instruction with this pc and this word. The truth value is whether the step before may have
+    /// changed DMEM.
     ghost ends: { Self → ℕ → ℕ → Bool → Bool };
 
     /// Whether a run ends here. `pc` and `word` are those of the next instruction. `stored` is false only if the step before
@@ -17,7 +18,7 @@ pub trait Until {
         ensures { result ≡ ends self.now pc word stored };
 }
 
-/// Ends no run.
+/// The test that ends no run.
 #[derive(Clone, Copy, Drop)]
 pub struct Never;
 

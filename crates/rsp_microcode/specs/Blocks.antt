@@ -12,7 +12,7 @@ use Rattle.rsp_microcode.specs.Kept.{write_only, Spares, changed}
 abbrev pub StepsAfter : Type 0
 StepsAfter = (m n : ℕ) (s : State) → steps_of (m + n) s ≡ steps_of n (steps_of m s)
 
--- where two blocks stand, the first stands, and the second after it
+-- if IMEM holds two blocks, one after the other, it holds the first, and the second after it
 abbrev pub BothStand : Type 0
 BothStand = (a b : List ℕ) (p : ℕ) (m : List ℕ) → Stand (a ++ b) p m → Stand a p m × Stand b (place_after a p) m
 
@@ -20,18 +20,18 @@ BothStand = (a b : List ℕ) (p : ℕ) (m : List ℕ) → Stand (a ++ b) p m →
 abbrev pub FirstBlock : Type 0
 FirstBlock = (a b : List ℕ) (s : State) → IsAt (a ++ b) s → IsAt a s
 
--- and where pc is after the first, IMEM and SP registers being as they were, it is about to execute the second
+-- and if pc is after the first, and IMEM and the SP registers are as they were, it is about to execute the second
 abbrev pub NextBlock : Type 0
 NextBlock = (a b : List ℕ) (s t : State) → IsAt (a ++ b) s → t.pc ≡ place_after a s.pc → t.npc ≡ address_after t.pc → t.imem ≡ s.imem → t.sp ≡ s.sp → IsAt b t
 
--- Rounds of any lengths: after n of them holds what the last one hands on. So a loop may have branches inside.
+-- Rounds of any lengths: each round hands on what holds, so it holds after n of them. The rounds of a loop may have branches inside.
 abbrev pub RoundsOfSteps : Type 1
 RoundsOfSteps = (n : ℕ) (Holds : ℕ → State → Type 0) (s : State) → Holds 0 s
     → ((k : ℕ) (t : State) → k < n → Holds k t → (m : ℕ) × Holds (k + 1) (steps_of m t))
     → (m : ℕ) × Holds n (steps_of m s)
 
--- What steps over a block lead from s to t: pc is after its words, the registers that its code doesn't write are as they were,
--- and so are all parts that it can't change. Straight code and loops are such blocks.
+-- Steps over a block go from s to t: pc is after its words, the registers that its code doesn't write are as they were, and so are all
+-- parts that it can't change. Straight code and loops are such blocks.
 pub record Ran (words : List ℕ) (code : List Inst) (s t : State) : Type 0 where
   pub ranges : IsState t
   pub pc : t.pc ≡ place_after words s.pc

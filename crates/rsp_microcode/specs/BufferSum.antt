@@ -24,7 +24,7 @@ text =
     ++ line (codes "bne $4, $0, loop")
     ++ line (codes "addiu $3, $3, 16")
 
--- what the loop is entered with
+-- the precondition of the loop
 pub record IsEntered (s : State) (first second sums n : ℕ) : Type 0 where
   pub count : 0 < n
   pub first_buffer : IsBuffer first n
@@ -49,7 +49,7 @@ pub record AddsBuffers (words : List ℕ) (s t : State) (first second sums n : �
     dmem = t.dmem;
   }
 
--- from each state that is about to execute the words, with the addresses and the count in registers 1 to 4: nine steps a vector
+-- from each state that is about to execute the words, with the addresses and the count in registers 1 to 4: nine steps for each vector
 abbrev pub AddsAllBuffers : List ℕ → Type 0
 AddsAllBuffers words = (s : State) → IsState s → IsAt words s
     → IsEntered s (register s.registers 1) (register s.registers 2) (register s.registers 3) (register s.registers 4)

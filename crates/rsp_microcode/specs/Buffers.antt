@@ -1,4 +1,4 @@
--- Buffers of vectors in DMEM, of which a loop fills one vector by vector.
+-- Buffers of vectors in DMEM. A loop fills one of them vector by vector.
 use Rattle.std.specs.Prelude.{ℕ, ◌≡◌, ◌⊎◌, ◌+◌, ◌*◌, ◌%◌, ◌<◌, ◌≤◌, List, length}
 use Rattle.rsp_memory.specs.Memory.{byte_at}
 use Rattle.rsp_microcode.specs.Lanes.{lanes_at, with_lanes, IsOutside}
@@ -8,8 +8,8 @@ pub record IsBuffer (a n : ℕ) : Type 0 where
   pub aligned : a % 16 ≡ 0
   pub inside : a + 16 * n ≤ 4096
 
--- a buffer of n vectors that is filled from a on spares those of another that are still to be read: it begins where that
--- buffer begins, or before, or after its end
+-- Filling a buffer from a on overwrites no vector of a buffer of n vectors at b that is still to be read: it begins at b, or before b, or
+-- after that buffer's end.
 abbrev pub SparesBuffer : ℕ → ℕ → ℕ → Type 0
 SparesBuffer a b n = (a ≤ b) ⊎ (b + 16 * n ≤ a)
 
@@ -27,7 +27,7 @@ abbrev pub FilledOne : Type 0
 FilledOne = (f : ℕ → List ℕ) (m t : List ℕ) (a n k : ℕ) → IsBuffer a n → k < n → length t ≡ 4096 → length (f k) ≡ 8
     → IsFilled f m t a k → IsFilled f m (with_lanes t (a + 16 * k) (f k)) a (k + 1)
 
--- the next vector of a buffer that is spared is that of the start
+-- the next vector of a spared buffer is as it was at the start
 abbrev pub FilledSpares : Type 0
 FilledSpares = (f : ℕ → List ℕ) (m t : List ℕ) (a b n k : ℕ) → IsBuffer a n → IsBuffer b n → SparesBuffer a b n → k < n
     → IsFilled f m t a k → lanes_at t (b + 16 * k) ≡ lanes_at m (b + 16 * k)

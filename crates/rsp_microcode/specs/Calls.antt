@@ -15,7 +15,7 @@ use Rattle.rsp_microcode.specs.Ranges.{fits_word}
 use Rattle.rsp_microcode.specs.Kept.{write_only, Spares, changed_at}
 use Rattle.rsp_microcode.specs.Pieces.{Piece, code_of, pieces_fit, after_pieces, AreAligned}
 
--- pieces, `jr $31`, and one more instruction in its slot
+-- pieces, `jr $31`, and one more instruction in its delay slot
 pub record Routine : Type 0 where
   pub words : List ℕ
   pub pieces : List Piece
@@ -24,15 +24,15 @@ pub record Routine : Type 0 where
 abbrev pub routine_code : Routine → List Inst
 routine_code r = code_of r.pieces ++ JumpRegister 31 ∷ r.slot ∷ []
 
--- what computes of a routine: the pieces don't write the register of its return address
+-- the conditions on a routine that can be computed, among them: its pieces don't write register 31, which has the return address
 abbrev pub is_routine : Routine → Bool
 is_routine r = (pieces_fit r.pieces && spare_scalar 31 (code_of r.pieces)) && (goes_on r.slot && fits_word r.slot)
 
--- the address that register 31 leads back to
+-- the address in IMEM that `jr $31` jumps to
 abbrev pub return_of : State → ℕ
 return_of s = register s.registers 31 / 4 % 1024 * 4
 
--- What a routine leads from s to t: the state that computes, in its ranges, at the return address. All else is as it was, as after pieces.
+-- A routine goes from s to t: t is the computed state, in its ranges, at the return address. All else is as it was, as after pieces.
 pub record AfterRoutine (r : Routine) (s t : State) : Type 0 where
   pub ran : t ≡ executed r.slot (executed (JumpRegister 31) (after_pieces r.pieces s))
   pub ranges : IsState t
@@ -44,11 +44,11 @@ RoutineRuns = (r : Routine) → map inst_of r.words ≡ map Some (routine_code r
     → (s : State) → IsState s → IsAt r.words s → AreAligned r.pieces s
     → AfterRoutine r s (steps_of (length r.words) s)
 
--- `jal` and one more instruction in its slot, which doesn't write register 31
+-- `jal`, and one more instruction in its delay slot, which doesn't write register 31
 abbrev pub call_code : ℕ → Inst → List Inst
 call_code target slot = Jump Jal target ∷ slot ∷ []
 
--- What a call leads from s to t: what stands at its target is executed next, and register 31 leads back to the word after the slot.
+-- A call goes from s to t: the words at its target are executed next, and register 31 holds the address of the word after the delay slot.
 pub record AfterCall (words : List ℕ) (target : ℕ) (slot : Inst) (s t : State) : Type 0 where
   pub ran : t ≡ executed slot (executed (Jump Jal target) s)
   pub ranges : IsState t

@@ -24,7 +24,7 @@ fixed_product a b = limited (floor_div (a *ℤ b) 65536)
 abbrev pub last : List ℕ → ℕ → ℤ
 last z i = unsigned_by_signed (slice_index z i) (slice_index (selected z 0) i)
 
--- the number is its high half as a signed number, and the low one
+-- the number is 65536 times its high half, as a signed number, plus its low half
 abbrev pub FixedParts : Type 0
 FixedParts = (high low : ℕ) → high < 65536 → low < 65536 → s32 (high * 65536 + low) ≡ s16 high *ℤ pos 65536 +ℤ pos low
 

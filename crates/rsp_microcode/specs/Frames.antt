@@ -1,4 +1,4 @@
--- What straight microcode leaves as it was: computed from the rows alone.
+-- What straight microcode leaves as it was: computed from the instructions alone.
 use Rattle.std.specs.Prelude.{ℕ, ◌≡◌, ◌≤◌, ◌+◌, ◌==◌, nat_lt, nat_le, not, Bool, true, false, ◌||◌, if◌then◌else◌, List, [], ◌∷◌}
 use Rattle.std.specs.List.{list_all}
 use Rattle.rsp_decode.specs.declared.inst.Inst.{Inst}
@@ -13,7 +13,7 @@ use Rattle.rsp_loadstore.specs.File.{vector}
 use Rattle.rsp_loadstore.specs.Pairs.{group_start}
 use Rattle.rsp_microcode.specs.Runs.{branches, goes_on, ran_through}
 
--- the parts of the state that rows may change, besides pc and npc
+-- the parts of the state that instructions may change, besides pc and npc
 pub record Touch : Type 0 where
   pub registers : Bool
   pub vectors : Bool
@@ -89,18 +89,18 @@ with_parts k s t = record s {
   dmem = if k.dmem then t.dmem else s.dmem;
 }
 
--- rows that go on, branches and jumps
+-- instructions that go on, branches and jumps
 abbrev pub stays : Inst → Bool
 stays i = goes_on i || branches i
 
 abbrev pub all_stay : List Inst → Bool
 all_stay is = list_all stays is
 
--- all that none of the rows may change is as it was
+-- all that no instruction may change is as it was
 abbrev pub Frame : Type 0
 Frame = (code : List Inst) (s : State) → all_stay code ≡ true → ran_through code s ≡ with_parts (of_rows code) s (ran_through code s)
 
--- the scalar register that a row writes, or 0, which none does
+-- the scalar register that an instruction writes; 0 if it writes none
 abbrev pub register_of : Inst → ℕ
 register_of (Shift row rd rt amount) = rd
 register_of (ShiftBy row f) = f.rd
@@ -165,12 +165,12 @@ abbrev pub VectorsSpared : Type 0
 VectorsSpared = (code : List Inst) (n : ℕ) (s : State) → all_stay code ≡ true → spare_vector n code ≡ true
     → vector (ran_through code s).vectors n ≡ vector s.vectors n
 
--- and so are vector registers from a bound on, where the instructions write none of them
+-- and so are vector registers from a bound on, if the instructions write none of them
 abbrev pub VectorsAbove : Type 0
 VectorsAbove = (code : List Inst) (bound n : ℕ) (s : State) → all_stay code ≡ true → vectors_below bound code ≡ true → bound ≤ n
     → vector (ran_through code s).vectors n ≡ vector s.vectors n
 
--- scalar registers from a bound on, where the rows write none of them
+-- and scalar registers from a bound on, if the instructions write none of them
 abbrev pub ScalarsAbove : Type 0
 ScalarsAbove = (code : List Inst) (bound n : ℕ) (s : State) → all_stay code ≡ true → scalars_below bound code ≡ true → bound ≤ n
     → register (ran_through code s).registers n ≡ register s.registers n

@@ -1,4 +1,4 @@
--- Registers that are kept, but for some.
+-- Registers that stay as they were, but for some.
 use Rattle.std.specs.Prelude.{ℕ, ◌≡◌, ◌&&◌, nat_lt, nat_eq, Bool, true, false, ◌||◌, List, [], ◌∷◌, map}
 use Rattle.std.specs.List.{list_all, range_with_len}
 use Rattle.rsp_decode.specs.declared.inst.Inst.{Inst}
@@ -9,11 +9,11 @@ use Rattle.rsp_microcode.specs.Reads.{after_writes}
 use Rattle.rsp_microcode.specs.Runs.{place_after}
 use Rattle.rsp_microcode.specs.Frames.{of_rows, with_parts, spare_scalar, spare_vector}
 
--- the scalar registers `before`, but those of these numbers are the ones `after`
+-- the scalar registers `before`, but with those of these numbers from `after`
 abbrev pub registers_but : List ℕ → List ℕ → List ℕ → List ℕ
 registers_but ns before after = after_writes with_register (map (λ n. (n, register after n)) ns) before
 
--- the vector registers `before`, but those of these numbers are the ones `after`
+-- the vector registers `before`, but with those of these numbers from `after`
 abbrev pub vectors_but : List ℕ → List (List ℕ) → List (List ℕ) → List (List ℕ)
 vectors_but ns before after = after_writes with_vector (map (λ n. (n, vector after n)) ns) before
 
@@ -35,7 +35,7 @@ pub record Spares (code : List Inst) (s t : State) : Type 0 where
   pub scalars : (n : ℕ) → spare_scalar n code ≡ true → register t.registers n ≡ register s.registers n
   pub vectors : (n : ℕ) → spare_vector n code ≡ true → vector t.vectors n ≡ vector s.vectors n
 
--- s at pc p and npc q, with the parts of t that the instructions may change, and of the registers these alone
+-- s with pc p and npc q, and with the parts of t that the instructions may change; of the registers only these
 abbrev pub changed_at : ℕ → ℕ → List Inst → List ℕ → List ℕ → State → State → State
 changed_at p q code ns ms s t = record (with_parts (of_rows code) s t) {
   pc = p;

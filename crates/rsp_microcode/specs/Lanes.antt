@@ -12,11 +12,11 @@ use Rattle.rsp_loadstore.specs.File.{IsFile, vector, with_vector}
 use Rattle.rsp_machine.specs.State.{State}
 use Rattle.rsp_machine.specs.Step.{executed}
 
--- the eight lanes that stand in DMEM from an address on: two bytes each, the high one first
+-- the eight lanes in DMEM from an address on: two bytes each, the high one first
 unfoldable pub lanes_at : List ℕ → ℕ → List ℕ
 lanes_at memory a = each_lane (λ i. half_at memory (a + 2 * i))
 
--- DMEM after numbers of sixteen bits were written, one behind the other
+-- DMEM after numbers of sixteen bits were written, one after the other
 abbrev pub with_halves : List ℕ → ℕ → List ℕ → List ℕ
 with_halves memory a [] = memory
 with_halves memory a (h ∷ hs) = with_halves (with_half memory a h) (a + 2) hs
@@ -44,7 +44,7 @@ sqv vt offset base = VectorStore Sqv (record { vt = vt; element = 0; offset = of
 abbrev pub lanes_address : ℕ → ℕ → State → ℕ
 lanes_address offset base s = register s.registers base + 16 * offset
 
--- LQV from an aligned address makes the register the eight lanes that stand there
+-- LQV from an aligned address loads the eight lanes there into the register
 abbrev pub LoadsLanes : Type 0
 LoadsLanes = (vt offset base : ℕ) (s : State) → IsFile s.vectors → vt < 32 → offset < 64 → register s.registers base % 16 ≡ 0
     → executed (lqv vt offset base) s

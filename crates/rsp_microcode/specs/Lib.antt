@@ -1,4 +1,4 @@
--- Laws of runs of microcode, and theorems about some.
+-- Laws about runs of microcode, and theorems about some routines.
 pub mod Runs
 pub mod Lanes
 pub mod Reads

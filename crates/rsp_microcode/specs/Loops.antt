@@ -1,4 +1,4 @@
--- Loops of pieces, a branch back to their start, and one more instruction in its slot.
+-- Loops: pieces, a branch back to their start, and one more instruction in its delay slot.
 use Rattle.std.specs.Prelude.{ℕ, ◌≡◌, ◌<◌, ◌+◌, ◌*◌, ◌-◌, ◌&&◌, ◌==◌, Bool, true, false, nat_lt, List, [], ◌∷◌, ◌++◌, length, map, Some}
 use Rattle.rsp_decode.specs.declared.inst.Inst.{Inst}
 use Rattle.rsp_decode.specs.declared.inst.Inst.TheVariants.{BranchSign, BranchEqual}
@@ -23,7 +23,7 @@ pub record Loop : Type 0 where
 abbrev pub loop_code : Loop → List Inst
 loop_code l = code_of l.pieces ++ l.branch ∷ l.slot ∷ []
 
--- a branch that links nothing, over so many words back
+-- a branch that links nothing, back over this number of words
 abbrev pub can_undo : Inst → ℕ → Bool
 can_undo (BranchEqual row rs rt offset) n = offset == 65536 - n
 can_undo (BranchSign Bltz rs offset) n = offset == 65536 - n
@@ -32,7 +32,7 @@ can_undo (BranchSign Blez rs offset) n = offset == 65536 - n
 can_undo (BranchSign Bgtz rs offset) n = offset == 65536 - n
 can_undo _ n = false
 
--- what computes of a loop
+-- the conditions on a loop that can be computed
 abbrev pub is_loop : Loop → Bool
 is_loop l = (pieces_fit l.pieces && nat_lt (length (code_of l.pieces)) 1000) && (can_undo l.branch (length (code_of l.pieces) + 1) && (goes_on l.slot && fits_word l.slot))
 
@@ -40,13 +40,14 @@ is_loop l = (pieces_fit l.pieces && nat_lt (length (code_of l.pieces)) 1000) && 
 abbrev pub round_of : Loop → State → State
 round_of l s = executed l.slot (executed l.branch (after_pieces l.pieces s))
 
--- What a round has to show: after k rounds from s its addresses are aligned, its branch is taken if a round is left, and what holds goes on.
+-- What is to be shown of each round: its addresses are aligned, its branch is taken exactly if a round is left, and what holds before it
+-- holds after it, for one round more.
 abbrev pub HandsOn : Loop → State → ℕ → (ℕ → State → Type 0) → Type 0
 HandsOn l s n Holds = (k : ℕ) (t : State) → k < n → IsState t → Spares (loop_code l) s t → Holds k t
     → AreAligned l.pieces t × (is_taken l.branch (after_pieces l.pieces t).registers ≡ nat_lt (k + 1) n) × Holds (k + 1) (round_of l t)
 
--- What n rounds lead from s to: what holds then, in a state in its ranges. pc is after the words, and all else is as it was, as
--- after pieces.
+-- n rounds go from s to t: t is in its ranges, and what holds after n rounds holds of it. pc is after the words, and all else is as it
+-- was, as after pieces.
 pub record AfterLoop (l : Loop) (n : ℕ) (Holds : ℕ → State → Type 0) (s t : State) : Type 0 where
   pub holds : Holds n t
   pub ranges : IsState t

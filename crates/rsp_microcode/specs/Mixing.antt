@@ -14,7 +14,7 @@ text =
     line (codes "vmulf $v4, $v1, $v3[0]")
     ++ line (codes "vmacf $v4, $v2, $v3[1]")
 
--- samples a and b by volumes v and w, all fractions of 32768: a v + b w, rounded to the nearest, limited
+-- samples a and b by volumes v and w, all fractions of 32768: a v + b w, rounded to the nearest and clamped
 abbrev pub mixed : ℤ → ℤ → ℤ → ℤ → ℤ
 mixed a b v w = clamp16 (floor_div ((pos 2 *ℤ (a *ℤ v) +ℤ pos 2 *ℤ (b *ℤ w)) +ℤ pos 32768) 65536)
 

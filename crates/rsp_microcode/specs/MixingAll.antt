@@ -25,7 +25,7 @@ text =
     ++ line (codes "bgtz $4, mix")
     ++ line (codes "addiu $3, $3, 16")
 
--- what the loop is entered with: 8 n samples
+-- the precondition of the loop: 8 n samples
 pub record IsEntered (s : State) (first second out n : ℕ) : Type 0 where
   pub some : 0 < n
   pub count : register s.registers 4 ≡ 8 * n
@@ -49,7 +49,7 @@ pub record MixesBuffers (words : List ℕ) (s t : State) (first second out n : �
     dmem = t.dmem;
   }
 
--- from each state that is about to execute the words, with the addresses and the count in registers 1 to 4: ten steps a vector
+-- from each state that is about to execute the words, with the addresses and the count in registers 1 to 4: ten steps for each vector
 abbrev pub MixesAll : List ℕ → Type 0
 MixesAll words = (s : State) → IsState s → IsAt words s
     → (n : ℕ) → IsEntered s (register s.registers 1) (register s.registers 2) (register s.registers 3) n

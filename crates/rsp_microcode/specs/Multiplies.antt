@@ -1,4 +1,4 @@
--- Sums of products: multiplies of which none reads what another wrote.
+-- Sums of products: multiplies that read no result of one another.
 use Rattle.std.specs.Prelude.{ℕ, pos, ◌≡◌, Bool, true, false, not, ◌&&◌, nat_eq, nat_lt, List, [], ◌∷◌, map}
 use Rattle.std.specs.List.{list_all}
 use Rattle.rsp_decode.specs.declared.inst.Inst.{Inst}
@@ -28,7 +28,7 @@ term name vd vs vt e = record { name = name; fields = record { vd = vd; vs = vs;
 abbrev pub instruction : Term → Inst
 instruction m = Multiply m.name m.fields
 
--- the row on the registers that it reads in these registers
+-- the multiply on the values of the registers that it reads
 abbrev pub step_in : List (List ℕ) → Term → MultiplyInstruction
 step_in file m = record { op = multiply_op m.name; vs = vector file m.fields.vs; vt = vector file m.fields.vt; element = m.fields.element }
 
@@ -79,8 +79,8 @@ summed ms s = record s {
   vectors = after_writes with_vector (sum_writes ms s.vectors) s.vectors;
 }
 
--- A run through a sum of products, of which none reads what another wrote: each accumulator is the sum of all the addends,
--- and each result the clamp of the sum so far, as in law l4.
+-- A run through a sum of products, whose multiplies read no result of one another: each accumulator is the sum of all the addends, and
+-- each result the clamp of the sum so far, as in law l4.
 abbrev pub SumsOfMultiplies : Type 0
 SumsOfMultiplies = (ms : List Term) (s : State) → IsFile s.vectors → s.npc ≡ address_after s.pc → independent ms ≡ true → is_sum ms ≡ true
     → ran_through (map instruction ms) s ≡ summed ms s

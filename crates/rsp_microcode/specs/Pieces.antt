@@ -1,4 +1,5 @@
--- Straight microcode by pieces: whole loads, sums of multiplies, whole stores, and any other instructions. The state after them computes.
+-- Straight microcode by pieces: whole loads, sums of multiplies, whole stores, and any other instructions. The state after them can be
+-- computed.
 use Rattle.std.specs.Prelude.{ℕ, ◌≡◌, ◌%◌, ◌&&◌, Bool, true, nat_lt, List, [], ◌∷◌, ◌++◌, length, map, Some}
 use Rattle.std.specs.List.{list_all}
 use Rattle.rsp_decode.specs.declared.inst.Inst.{Inst}
@@ -30,7 +31,7 @@ code_of (sums ms ∷ ps) = map instruction ms ++ code_of ps
 code_of (puts vt offset base ∷ ps) = sqv vt offset base ∷ code_of ps
 code_of (rows is ∷ ps) = is ++ code_of ps
 
--- what computes of a piece: its fields are those of words, and its instructions go on
+-- the conditions on a piece that can be computed: its fields are those of words, and its instructions go on
 abbrev pub piece_fits : Piece → Bool
 piece_fits (takes ls) = list_all load_fits ls
 piece_fits (sums ms) = independent ms && is_sum ms
@@ -51,7 +52,7 @@ abbrev pub after_pieces : List Piece → State → State
 after_pieces [] s = s
 after_pieces (p ∷ ps) s = after_pieces ps (after_piece p s)
 
--- what a caller has to see to: aligned addresses
+-- what a caller has to show: aligned addresses
 abbrev pub AreAligned : List Piece → State → Type 0
 AreAligned [] s = Unit {0}
 AreAligned (takes ls ∷ ps) s = AreAllAligned ls s.registers × AreAligned ps (after_piece (takes ls) s)
@@ -64,8 +65,8 @@ abbrev pub RunsOfPieces : Type 0
 RunsOfPieces = (ps : List Piece) (s : State) → IsState s → s.npc ≡ address_after s.pc → pieces_fit ps ≡ true → AreAligned ps s
     → (ran_through (code_of ps) s ≡ after_pieces ps s) × IsState (after_pieces ps s)
 
--- What steps over pieces lead from s to t: the state that computes, in its ranges. pc is after the words, and all that no
--- instruction may change is as it was; so are all registers but ones that hold each register that is written.
+-- Steps over pieces go from s to t: t is the computed state, in its ranges. pc is after the words, and all that no instruction may change
+-- is as it was. So are all registers outside of lists that name each register that is written.
 pub record AfterPieces (words : List ℕ) (ps : List Piece) (s t : State) : Type 0 where
   pub ran : t ≡ after_pieces ps s
   pub ranges : IsState t

@@ -1,4 +1,4 @@
--- What a read gives after writes.
+-- What reads return after writes.
 use Rattle.std.specs.Prelude.{ℕ, ◌≡◌, ◌<◌, ◌%◌, ◌^◌, ◌==◌, Bool, true, not, nat_lt, if◌then◌else◌, List, [], ◌∷◌, length, slice_index_or}
 use Rattle.std.specs.List.{list_all}
 use Rattle.rsp_memory.specs.Memory.{byte_at, with_byte, word_at, with_word}
@@ -20,7 +20,7 @@ abbrev pub after_writes : {X : Type 0} → (List X → ℕ → X → List X) →
 after_writes write [] file = file
 after_writes write (w ∷ ws) file = after_writes write ws (write file w.0 w.1)
 
--- what register n holds after writes, where it held v before: it computes where the numbers are given
+-- what register n holds after writes, if it held v before: it computes if the numbers are given
 abbrev pub last_written : {X : Type 0} → List (Write X) → ℕ → X → X
 last_written [] n v = v
 last_written (w ∷ ws) n v = last_written ws n (if n == w.0 then w.1 else v)
@@ -35,7 +35,7 @@ abbrev pub ScalarReads : Type 0
 ScalarReads = (ws : List (Write ℕ)) (r : List ℕ) (n : ℕ) → length r ≡ 32 → are_registers ws ≡ true → not (n == 0) ≡ true
     → register (after_writes with_register ws r) n ≡ last_written ws n (register r n)
 
--- one lane of what a row made lane by lane: a result, an accumulator, a flag
+-- one lane of what an instruction made lane by lane: a result, an accumulator, a flag
 abbrev pub LaneReads : Type 0
 LaneReads = (f : ℕ → ℕ) (i : ℕ) → i < 8 → slice_index_or (each_lane f) i 0 ≡ f i
 

@@ -1,4 +1,4 @@
--- Runs of microcode: what stands at pc, straight code, code that ends with a branch and its slot.
+-- Runs of microcode: the words at pc, straight code, and code that ends with a branch and its delay slot.
 use Rattle.std.specs.Prelude.{ℕ, ◌≡◌, ◌%◌, ◌==◌, Bool, true, false, not, ◌&&◌, List, [], ◌∷◌, ◌++◌, length, map, Some}
 use Rattle.rsp_decode.specs.declared.inst.Inst.{Inst}
 use Rattle.rsp_decode.specs.declared.inst.Inst.TheVariants.{JumpRegister, JumpLinkRegister, Break, BranchSign, BranchEqual, Jump, MoveSp}
@@ -11,13 +11,13 @@ use Rattle.rsp_machine.specs.Step.{step_of, executed}
 use Rattle.rsp_machine.specs.declared.step.StepEnd.TheVariants.{Done}
 use Rattle.rsp_machine.specs.Laws.{steps_of}
 
--- a step over a word that means an instruction, of any row, where single step isn't set after it
+-- a step over a word that means an instruction, if single step isn't set after it
 abbrev pub StepsOver : Type 0
 StepsOver = (i : Inst) (s : State) → s.sp.halted ≡ false → inst_of (word_at s.imem s.pc) ≡ Some i → (executed i s).sp.single_step ≡ false
     → step_of s ≡ (Done, executed i s)
 
--- Whether a row leaves pc, npc and the SP registers to the step: all but jumps, branches, BREAK, moves to SP registers, and the move
--- from number 7, which takes the semaphore.
+-- Whether an instruction leaves pc, npc and the SP registers to the step: all do but jumps, branches, BREAK, moves to SP registers, and
+-- the move from number 7, which takes the semaphore.
 abbrev pub goes_on : Inst → Bool
 goes_on (JumpRegister rs) = false
 goes_on (JumpLinkRegister rd rs) = false
@@ -33,12 +33,12 @@ abbrev pub all_go_on : List Inst → Bool
 all_go_on [] = true
 all_go_on (i ∷ is) = goes_on i && all_go_on is
 
--- the words stand in IMEM from a place on; as for pc, 0 comes after the last place
+-- IMEM holds the words from an address on; as for pc, 0 comes after the last address
 abbrev pub Stand : List ℕ → ℕ → List ℕ → Type 0
 Stand [] place imem = Unit {0}
 Stand (w ∷ ws) place imem = (word_at imem place ≡ w) × Stand ws (address_after place) imem
 
--- the machine goes, not by single steps, and the words are what it executes next
+-- the machine is neither halted nor in single step, and it executes the words next
 pub record IsAt (words : List ℕ) (s : State) : Type 0 where
   pub goes : s.sp.halted ≡ false
   pub runs : s.sp.single_step ≡ false
@@ -50,12 +50,12 @@ abbrev pub ran_through : List Inst → State → State
 ran_through [] s = s
 ran_through (i ∷ is) s = ran_through is (executed i s)
 
--- the place that as many steps go on to as the list is long
+-- the address after as many instructions as the list is long
 abbrev pub place_after : {X : Type 0} → List X → ℕ → ℕ
 place_after [] place = place
 place_after (x ∷ xs) place = place_after xs (address_after place)
 
--- whether a row is a branch or a jump
+-- whether an instruction is a branch or a jump
 abbrev pub branches : Inst → Bool
 branches (JumpRegister rs) = true
 branches (JumpLinkRegister rd rs) = true
@@ -70,8 +70,8 @@ StraightRuns = (words : List ℕ) (code : List Inst) (s : State)
     → map inst_of words ≡ map Some code → all_go_on code ≡ true → IsAt words s
     → steps_of (length words) s ≡ ran_through code s
 
--- Steps over straight code, a branch or jump, and the row in its slot come to the state after all of them. Where the branch
--- is taken, pc is then its target (`next_npc`), since the branch wrote npc and the slot's row went on to it.
+-- Steps over straight code, a branch or jump, and the instruction in its delay slot come to the state after all of them. If the branch is
+-- taken, pc is then its target (`next_npc`): the branch wrote npc, and the delay slot's instruction advanced pc to it.
 abbrev pub BranchRuns : Type 0
 BranchRuns = (words : List ℕ) (front : List Inst) (branch slot : Inst) (s : State)
     → map inst_of words ≡ map Some (front ++ branch ∷ slot ∷ []) → all_go_on front ≡ true → branches branch ≡ true → goes_on slot ≡ true

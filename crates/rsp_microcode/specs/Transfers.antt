@@ -29,16 +29,16 @@ pub record IsRow (a image_address size : ℕ) : Type 0 where
   pub image : (image_address < 16777216) × (image_address % 8 ≡ 0)
   pub one_row : size < 4096
 
--- what a transfer from RDRAM leads from s to t
+-- what a transfer from RDRAM does from s to t
 pub record Fetches (words : List ℕ) (s t : State) (a image_address size : ℕ) : Type 0 where
   pub bytes : (i : ℕ) → i < row_bytes size → byte_at t.dmem (a + i) ≡ image_byte s.rdram (image_address + i)
   pub outside : (x : ℕ) → IsOutside a (row_bytes size) x → byte_at t.dmem x ≡ byte_at s.dmem x
   pub ranges : IsState t
-  -- what stands after the words is executed next, and nothing else changed but the SP registers' addresses and skip
+  -- the words after these are executed next, and nothing else changed but the SP registers' addresses and skip
   pub at : (ws : List ℕ) → Stand ws (place_after words s.pc) s.imem → IsAt ws t
   pub others : t ≡ record s { pc = place_after words s.pc; npc = place_after words s.npc; dmem = t.dmem; sp = t.sp }
 
--- and one to RDRAM
+-- what a transfer to RDRAM does from s to t
 pub record Sends (words : List ℕ) (s t : State) (a image_address size : ℕ) : Type 0 where
   pub bytes : (i : ℕ) → i < row_bytes size → image_byte t.rdram (image_address + i) ≡ byte_at s.dmem (a + i)
   pub outside : (x : ℕ) → x < 16777216 → (x < image_address) ⊎ (image_address + row_bytes size ≤ x) → image_byte t.rdram x ≡ image_byte s.rdram x
@@ -53,7 +53,7 @@ FetchRuns = (words : List ℕ) (memory image size : ℕ) → map inst_of words �
     → IsRow (register s.registers memory) (register s.registers image) (register s.registers size)
     → Fetches words s (steps_of (length words) s) (register s.registers memory) (register s.registers image) (register s.registers size)
 
--- a row that goes to RDRAM is inside it
+-- a transfer to RDRAM requires that its row is inside the image
 abbrev pub SendRuns : Type 0
 SendRuns = (words : List ℕ) (memory image size : ℕ) → map inst_of words ≡ map Some (send_code memory image size)
     → (s : State) → IsState s → IsAt words s

@@ -17,16 +17,16 @@ const WORDS: [u32; 9] = [
     0x24630010, // addiu $3, $3, 16
 ];
 
-// The theorem by itself, so that it refuses other words and not the text alone.
+// The theorem by itself: other words break it too, and not the text alone.
 fn holds()
     ensures { AddsAllBuffers WORDS }
 {
     l4();
 }
 
-/// The words of microcode that adds `$4` vectors of eight lanes at `$1` to those at `$2`, and stores the
-/// sums at `$3`: as signed numbers, limited to -32768 .. 32767. For every count but 0, all buffers inside
-/// DMEM, and the sums over no vector that is still to be added, all else in DMEM stays as it was.
+/// The words of microcode that adds `$4` vectors of eight lanes at `$1` to those at `$2`, and stores the sums
+/// at `$3`: as signed numbers, clamped to -32768 .. 32767. The count isn't 0, all buffers are inside DMEM,
+/// and the sums overwrite no vector that is still to be added. All else in DMEM stays as it was.
 pub fn add_buffers() -> [u32; 9]
     ensures text { Assembles text result }
     ensures theorem { AddsAllBuffers result }

@@ -14,14 +14,14 @@ const WORDS: [u32; 6] = [
     0x00000000, // nop
 ];
 
-// The theorem by itself, so that it refuses other words and not the text alone.
+// The theorem by itself: other words break it too, and not the text alone.
 fn holds()
     ensures { FetchesRows WORDS }
 {
     l4();
 }
 
-/// The words of microcode that fetches a row of bytes from RDRAM and waits until they have come: the address
+/// The words of microcode that fetches a row of bytes from RDRAM and waits until they have come. The address
 /// in DMEM is in `$1`, that in RDRAM in `$2`, and the number of bytes less 1 in `$3`. All else in DMEM stays
 /// as it was, and nothing else changes but `$4`, the SP registers, pc and npc.
 pub fn fetch_row() -> [u32; 6]

@@ -1,4 +1,4 @@
-//! What the theorems about microcode are proved with: laws of any words and any state. Each is the
+//! Laws about any words and any state. The theorems about microcode are proved with them. Each is the
 //! contract of a function that does nothing; a function that calls it may use it in its proof.
 
 ghost use Rattle.rsp_microcode.specs.Blocks.{BlocksJoin, BothStand, FirstBlock, NextBlock, RanAt, RanOthers, StepsAfter};
@@ -19,23 +19,23 @@ ghost use Rattle.rsp_microcode.specs.Transfers.{FetchRuns, SendRuns};
 
 use rsp_multiply::laws::l4;
 
-/// A step over any row: where the word at pc means an instruction, the step executes it, unless the
-/// machine is halted or in single step.
+/// A step over any instruction: if the word at pc means one, the step executes it, unless the machine is
+/// halted or in single step.
 pub fn steps_over()
     ensures { StepsOver }
 {}
 
-/// Straight microcode: steps over words that mean rows that go on come to the state after those rows.
+/// Straight microcode: steps over words that mean instructions that go on come to the state after those instructions.
 pub fn straight_runs()
     ensures { StraightRuns }
 {}
 
-/// Straight microcode that ends with a branch or a jump, taken or not, and the row in its delay slot.
+/// Straight microcode that ends with a branch or a jump, taken or not, and the instruction in its delay slot.
 pub fn branch_runs()
     ensures { BranchRuns }
 {}
 
-/// LQV from an aligned address loads the eight lanes that stand there.
+/// LQV from an aligned address loads the eight lanes there.
 pub fn loads_lanes()
     ensures { LoadsLanes }
 {}
@@ -112,7 +112,7 @@ pub fn others_read()
     ensures { OthersRead }
 {}
 
-/// Straight microcode, with branches: all that none of its rows may change is as it was.
+/// Straight microcode, with branches: all that none of its instructions may change is as it was.
 pub fn frames()
     ensures kept { Frame }
     ensures scalars { ScalarsSpared }
@@ -132,13 +132,13 @@ pub fn blocks()
     ensures others { RanOthers }
 {}
 
-/// Transfers: three moves to SP registers take a row of bytes from RDRAM to DMEM, or to RDRAM, and change nothing else.
+/// Transfers: three moves to SP registers take a row of bytes from RDRAM to DMEM, or from DMEM to RDRAM, and change nothing else.
 pub fn transfers()
     ensures fetch { FetchRuns }
     ensures send { SendRuns }
 {}
 
-/// Calls: what `jal` with its slot leaves, and what a routine that ends with `jr $31` does.
+/// Calls: what `jal` with its delay slot does, and what a routine that ends with `jr $31` does.
 pub fn calls()
     ensures call { CallRuns }
     ensures routine { RoutineRuns }
@@ -163,8 +163,8 @@ pub fn ranges_kept()
     ensures { RangesKept }
 {}
 
-/// Straight microcode by pieces: whole loads, sums of multiplies, whole stores, and any other instructions that go on. The
-/// state after them computes; steps over their words come to it, keep the ranges, and leave all else as it was.
+/// Straight microcode by pieces: whole loads, sums of multiplies, whole stores, and any other instructions that go on. The state
+/// after them can be computed; steps over their words come to it, keep the ranges, and leave all else as it was.
 pub fn runs_of_pieces()
     ensures pieces { RunsOfPieces }
     ensures steps { PiecesRun }

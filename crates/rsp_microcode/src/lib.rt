@@ -1,7 +1,7 @@
 //! Theorems about microcode, for all inputs, and the laws that they are proved with.
 //!
-//! Each routine is a function that returns its words. Its contract says which text they are assembled
-//! from, and what steps over them do, from every state that meets the premises.
+//! Each routine is a function that returns its words. Its contract says which text they are assembled from,
+//! and what steps over them do, from every state that meets the preconditions.
 #![tactic(auto)]
 
 mod adding;

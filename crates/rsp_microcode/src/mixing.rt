@@ -10,15 +10,15 @@ const WORDS: [u32; 2] = [
     0x4b231108, // vmacf $v4, $v2, $v3[1]
 ];
 
-// The theorem by itself, so that it refuses other words and not the text alone.
+// The theorem by itself: other words break it too, and not the text alone.
 fn holds()
     ensures { MixesLanes WORDS }
 {
     l4();
 }
 
-/// The words of microcode that mixes eight samples of two sounds, in `$v1` and `$v2`, by the volumes in
-/// lanes 0 and 1 of `$v3`, into `$v4`: rounded, and limited to 16 bits.
+/// The words of microcode that mixes eight samples of two sounds, in `$v1` and `$v2`, by the volumes in lanes
+/// 0 and 1 of `$v3`, into `$v4`: rounded, and clamped to 16 bits.
 pub fn mix_lanes() -> [u32; 2]
     ensures text { Assembles text result }
     ensures theorem { MixesLanes result }

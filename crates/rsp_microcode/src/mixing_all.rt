@@ -18,16 +18,16 @@ const WORDS: [u32; 10] = [
     0x24630010, // addiu $3, $3, 16
 ];
 
-// The theorem by itself, so that it refuses other words and not the text alone.
+// The theorem by itself: other words break it too, and not the text alone.
 fn holds()
     ensures { MixesAll WORDS }
 {
     l4();
 }
 
-/// The words of microcode that mixes `$4` samples at `$1` and `$2` by the volumes in lanes 0 and 1 of
-/// `$v3`, and stores them at `$3`: for every positive multiple of eight samples, all buffers inside DMEM,
-/// and the mix over no vector that is still to be mixed, all else in DMEM stays as it was.
+/// The words of microcode that mixes `$4` samples at `$1` and `$2` by the volumes in lanes 0 and 1 of `$v3`,
+/// and stores them at `$3`. The count is a positive multiple of eight, all buffers are inside DMEM, and the
+/// mix overwrites no vector that is still to be mixed. All else in DMEM stays as it was.
 pub fn mix_buffers() -> [u32; 10]
     ensures text { Assembles text result }
     ensures theorem { MixesAll result }

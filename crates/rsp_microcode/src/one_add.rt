@@ -7,18 +7,18 @@ const WORDS: [u32; 1] = [
     0x4a0208d0, // vadd $v3, $v1, $v2
 ];
 
-// The theorem by itself, so that it refuses other words and not the text alone.
+// The theorem by itself: other words break it too, and not the text alone.
 fn holds()
     ensures { AddsLanes WORDS }
 {}
 
-// The statement can be missed: the word of a VSUB doesn't meet it.
+// The theorem can fail: the word of a VSUB doesn't meet it.
 fn subtracting_differs()
     ensures { SubtractingDiffers }
 {}
 
 /// The word of microcode that adds the lanes of `$v1` and `$v2` into `$v3`: the sums as signed numbers,
-/// limited to -32768 .. 32767, where the carry flags are clear.
+/// clamped to -32768 .. 32767, if the carry flags are clear.
 pub fn add_lanes() -> [u32; 1]
     ensures text { Assembles text result }
     ensures theorem { AddsLanes result }

@@ -1,4 +1,4 @@
--- Bytes in DMEM that a routine reads or fills sixteen at a time, though their number is no multiple of 16.
+-- Bytes in DMEM that a routine reads or fills sixteen at a time. Their number need not be a multiple of 16.
 use Rattle.std.specs.Prelude.{ℕ, ◌≡◌, ◌⊎◌, ◌+◌, ◌-◌, ◌/◌, ◌%◌, ◌<◌, ◌≤◌}
 
 -- n bytes inside DMEM from a multiple of 16 on, but not all of DMEM
@@ -8,8 +8,8 @@ pub record IsArea (a n : ℕ) : Type 0 where
   pub ends : a + n ≤ 4096
   pub short : n < 4096
 
--- Bytes that are filled from a on spare n bytes from b on that are still to be read: they begin where those begin, or before
--- them, or after their end.
+-- Filling bytes from a on overwrites none of the n bytes from b on that are still to be read: it begins at b, or before b, or after the
+-- last of them.
 abbrev pub SparesArea : ℕ → ℕ → ℕ → Type 0
 SparesArea a b n = (a ≤ b) ⊎ (b + n ≤ a)
 

@@ -10,8 +10,8 @@ use Rattle.rsp_microcode.specs.Lanes.{IsOutside}
 use Rattle.rsp_microcode.specs.Kept.{registers_but}
 use Rattle.rsp_microcode.specs.Text.{line}
 
--- $1 has the address of the first block in RDRAM, $2 where it goes there, $3 the number of bytes of a block less 1, $6 that number, $5 the
--- address of a buffer in DMEM, $7 the sum of the addresses of both, $8 the number of blocks
+-- $1 has the address of the first block in RDRAM, $2 the address there that it goes to, $6 the number of bytes of a block, $3 that number
+-- less 1, $5 the address of a buffer in DMEM, $7 the sum of the addresses of both buffers, $8 the number of blocks
 abbrev pub text : List ℕ
 text =
     line (codes "next: mtc0 $5, $c0")
@@ -33,7 +33,7 @@ text =
     ++ line (codes "bne $4, $0, sent")
     ++ line (codes "nop")
 
--- n blocks of `size` bytes from `from` on in RDRAM, which go to `to`, and the buffers a and b
+-- the precondition: n blocks of `size` bytes from `from` on in RDRAM, which go to `to`, and the buffers a and b
 pub record IsBlocks (s : State) (from to size n a b : ℕ) : Type 0 where
   pub first : register s.registers 1 ≡ from
   pub target : register s.registers 2 ≡ to
@@ -47,7 +47,7 @@ pub record IsBlocks (s : State) (from to size n a b : ℕ) : Type 0 where
   pub short : size ≤ 4096
   pub aligned : (from % 8 ≡ 0) × (to % 8 ≡ 0) × (size % 8 ≡ 0)
   pub in_dmem : (a < 4096) × (a % 8 ≡ 0) × (b < 4096) × (b % 8 ≡ 0)
-  -- the blocks have addresses of RDRAM, what they go to is inside it, and the two are apart
+  -- the blocks have addresses of RDRAM, the bytes that they go to are inside the image, and the two don't overlap
   pub source : from + n * size ≤ 16777216
   pub inside : to + n * size ≤ length s.rdram
   pub apart : (from + n * size ≤ to) ⊎ (to + n * size ≤ from)
@@ -58,7 +58,7 @@ pub record CopiesBlocks (words : List ℕ) (s t : State) (from to size n a b : �
   pub bytes : (i : ℕ) → i < n * size → image_byte t.rdram (to + i) ≡ image_byte s.rdram (from + i)
   pub outside : (x : ℕ) → x < 16777216 → (x < to) ⊎ (to + n * size ≤ x) → image_byte t.rdram x ≡ image_byte s.rdram x
   pub memory : (x : ℕ) → IsOutside a size x → IsOutside b size x → byte_at t.dmem x ≡ byte_at s.dmem x
-  -- what is after the words is executed next
+  -- the words after these are executed next
   pub at : (ws : List ℕ) → Stand ws (place_after words s.pc) s.imem → IsAt ws t
   -- nothing else changed but scalar registers 1, 2, 4, 5 and 8, the SP registers, pc and npc
   pub others : t ≡ record s {

@@ -18,7 +18,7 @@ text =
     ++ line (codes "vcl $v6, $v2, $v4")
     ++ line (codes "cfc2 $1, $vcc")
 
--- x < 0 and x <= -w, and x >= 0 and x >= w
+-- whether x < 0 and x <= -w, and whether x >= 0 and x >= w
 abbrev pub is_below : ℤ → ℤ → Bool
 is_below x w = int_lt x (pos 0) && int_le (x +ℤ w) (pos 0)
 
@@ -27,7 +27,7 @@ is_above x w = int_le (pos 0) x && int_le w x
 
 -- what the three steps from s to t do
 pub record ClipsNumbers (words : List ℕ) (s t : State) : Type 0 where
-  -- the compare flag of lane i is the first, and its clip flag the second
+  -- the compare flag of lane i is `is_below` of its number, and the clip flag `is_above`
   pub below : (i : ℕ) → i < 8 → slice_index_or t.flags.compare i false ≡ is_below (fixed (vector s.vectors 1) (vector s.vectors 2) i) (fixed (vector s.vectors 3) (vector s.vectors 4) i)
   pub above : (i : ℕ) → i < 8 → slice_index_or t.flags.clip i false ≡ is_above (fixed (vector s.vectors 1) (vector s.vectors 2) i) (fixed (vector s.vectors 3) (vector s.vectors 4) i)
   -- register 1 has them as a number: bit i is the compare flag of lane i, bit 8 + i its clip flag, and bit 15 is repeated above

@@ -23,7 +23,7 @@ text =
     ++ line (codes "addiu $3, $3, 16")
     ++ line (codes "sqv $v30[0], 0($5)")
 
--- what the words are entered with
+-- the precondition of the words
 pub record IsCopy (from to n : ℕ) : Type 0 where
   pub source : IsArea from n
   pub target : IsArea to n

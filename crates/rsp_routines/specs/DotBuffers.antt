@@ -58,7 +58,7 @@ abbrev pub dot_of : List ℕ → ℕ → ℕ → ℕ → ℤ
 dot_of memory a b zero = pos 0
 dot_of memory a b (suc k) = dot_of memory a b k +ℤ product_at memory a b k
 
--- what the words are entered with: whole numbers of two bytes
+-- the precondition of the words: whole numbers of two bytes
 pub record IsDot (first second n : ℕ) : Type 0 where
   pub first_area : IsArea first n
   pub second_area : IsArea second n

@@ -48,7 +48,7 @@ abbrev pub filtered : (w x y z : ℕ) → List ℕ → ℕ
 filtered w x y z c =
     sixteen_bits (weighed (s16 w) (s16 x) (s16 y) (s16 z) (s16 (slice_index c 0)) (s16 (slice_index c 1)) (s16 (slice_index c 2)) (s16 (slice_index c 3)))
 
--- what the words are entered with: the source has 32 bytes more, which are read, though only three more samples are used
+-- the precondition of the words: 32 bytes more of the source are read, though only three more samples are used
 pub record IsFilter (from to n : ℕ) : Type 0 where
   pub source : IsArea from (n + 32)
   pub target : IsArea to n

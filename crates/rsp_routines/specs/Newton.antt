@@ -31,8 +31,8 @@ text =
     ++ line (codes "vmadh $v11, $v3, $v9")
     ++ line (codes "vmadn $v12, $v0, $v0")
 
--- One step from q, which is near one half of 1 / x: twice q * (1 - x * q), where all numbers have sixteen bits of fraction, each
--- product is rounded down, and 131072 is 2.
+-- One step from q, which is near one half of 1 / x: twice q * (1 - x * q). All numbers have sixteen bits of fraction, each product is
+-- rounded down, and 131072 is 2.
 abbrev pub improved : ℤ → ℤ → ℤ
 improved x q = fixed_product q (limited (pos 131072 -ℤ pos 2 *ℤ fixed_product x q))
 

@@ -38,7 +38,7 @@ mixed_in a v b w = clamp16 (floor_div ((pos 2 *ℤ (a *ℤ v) +ℤ pos 32768) +�
 abbrev pub sample : ℕ → ℕ → List ℕ → ℕ
 sample a b volumes = sixteen_bits (mixed_in (s16 a) (s16 (slice_index volumes 0)) (s16 b) (s16 (slice_index volumes 1)))
 
--- what the words are entered with
+-- the precondition of the words
 pub record IsMix (first second to n : ℕ) : Type 0 where
   pub first_area : IsArea first n
   pub second_area : IsArea second n

@@ -40,8 +40,8 @@ text =
     ++ line (codes "vmadm $v11, $v11, $v8[3]")
     ++ line (codes "vmadn $v12, $v0, $v0")
 
--- One step from q, which is near 128 over the root of x, and t, which is x q: t (3 / 2 - 2 (t q / 65536)) / 128, where all numbers have
--- sixteen bits of fraction, each product and quotient is rounded down, and 98304 is 3 / 2.
+-- One step from q, which is near 128 over the root of x, and t, which is x q: t (3 / 2 - 2 (t q / 65536)) / 128. All numbers have sixteen
+-- bits of fraction, each product and quotient is rounded down, and 98304 is 3 / 2.
 abbrev pub rooted : ℤ → ℤ → ℤ
 rooted t q = floor_div (fixed_product t (limited (pos 98304 -ℤ pos 2 *ℤ floor_div (fixed_product t q) 65536))) 128
 

@@ -37,18 +37,18 @@ text =
     ++ line (codes "sqv $v10[0], 0($3)")
     ++ line (codes "sqv $v11[0], 16($3)")
 
--- Number (i, k) of the matrices at an address: lanes 0 to 3 are the rows of the first matrix, lanes 4 to 7 those of the second.
--- The high parts of the columns 0 to 3 stand first, 16 bytes each, and the low parts after them.
+-- Number (i, k) of the matrices at an address: lanes 0 to 3 are the rows of the first matrix, lanes 4 to 7 those of the second. The high
+-- parts of the columns 0 to 3 come first, 16 bytes each, and the low parts after them.
 abbrev pub matrix_at : List ℕ → ℕ → ℕ → ℕ → ℤ
 matrix_at memory a i k = fixed (lanes_at memory (a + 16 * k)) (lanes_at memory (a + 16 * (4 + k))) i
 
--- Coordinate k of the vector that lane i belongs to: the first vector stands in lanes 0 to 3, the second in lanes 4 to 7.
+-- Coordinate k of the vector that lane i belongs to: the first vector is in lanes 0 to 3, the second in lanes 4 to 7.
 abbrev pub coordinate_at : List ℕ → ℕ → ℕ → ℕ → ℤ
 coordinate_at memory a i k = s16 (slice_index (lanes_at memory a) (i - i % 4 + k))
 
--- Row i of a matrix times its vector: the sum of the four products, as the accumulator keeps it (modulo 2^48, with its sign),
--- clamped to 32 signed bits. Nothing is rounded, since the coordinates are whole numbers. The sum wraps only where it reaches
--- 2^47, which is 2^31 as a number: 65536 times the bound.
+-- Row i of a matrix times its vector: the sum of the four products, as the accumulator keeps it (modulo 2^48, with its sign), clamped to
+-- 32 signed bits. Nothing is rounded, since the coordinates are whole numbers. The sum wraps only if it reaches 2^47, which is 2^31 as a
+-- number: 65536 times the bound.
 abbrev pub transformed : List ℕ → ℕ → ℕ → ℕ → ℤ
 transformed memory matrix vector i =
     limited (s48 (((matrix_at memory matrix i 0 *ℤ coordinate_at memory vector i 0
@@ -60,7 +60,7 @@ transformed memory matrix vector i =
 abbrev pub AreAligned : State → Type 0
 AreAligned s = (register s.registers 1 % 16 ≡ 0) × (register s.registers 2 % 16 ≡ 0) × (register s.registers 3 % 16 ≡ 0)
 
--- what the twenty steps from s to t do, where $1, $2 and $3 hold these three addresses
+-- what the twenty steps from s to t do, if $1, $2 and $3 hold these three addresses
 pub record Transforms (words : List ℕ) (s t : State) (matrix vectors result : ℕ) : Type 0 where
   -- the eight numbers at the result: high parts first, then the low ones
   pub product : (i : ℕ) → i < 8 → fixed (lanes_at t.dmem result) (lanes_at t.dmem (result + 16)) i ≡ transformed s.dmem matrix vectors i

@@ -26,18 +26,18 @@ const WORDS: [u32; 18] = [
     0x00000000, // nop
 ];
 
-// The theorem by itself, so that it refuses other words and not the text alone.
+// The theorem by itself: other words break it too, and not the text alone.
 fn holds()
     ensures { CopiesAllBlocks WORDS }
 {
     l4();
 }
 
-/// The words of microcode that copies blocks of RDRAM to another place there, through two buffers of DMEM in
+/// The words of microcode that copies blocks of RDRAM to another address there, through two buffers of DMEM in
 /// turn: while one block is sent from one buffer, the next comes to the other. The address of the first block
-/// is in `$1`, where it goes in `$2`, the number of bytes of a block in `$6` and less 1 in `$3`, the address of
-/// a buffer in `$5`, the sum of the addresses of both in `$7`, and the number of blocks in `$8`. No other byte
-/// of RDRAM changes, and no byte of DMEM outside of the buffers.
+/// is in `$1`, the address that it goes to in `$2`, the number of bytes of a block in `$6` and less 1 in `$3`,
+/// the address of a buffer in `$5`, the sum of the addresses of both in `$7`, and the number of blocks in `$8`.
+/// No other byte of RDRAM changes, and no byte of DMEM outside of the buffers.
 pub fn copy_blocks() -> [u32; 18]
     ensures text { Assembles text result }
     ensures theorem { CopiesAllBlocks result }

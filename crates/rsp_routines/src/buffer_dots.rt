@@ -42,17 +42,17 @@ const WORDS: [u32; 34] = [
     0x4b46319d, // vsar $v6, $v6, $v6[2]
 ];
 
-// The theorem by itself, so that it refuses other words and not the text alone.
+// The theorem by itself: other words break it too, and not the text alone.
 fn holds()
     ensures { DotsBuffers WORDS }
 {
     l4();
 }
 
-/// The words of microcode that multiplies the numbers of two bytes at `$1` by those at `$2` and adds the products,
-/// of buffers of `$4` bytes each: the sum modulo 2^32, its high half in each lane of `$v5`, its low half in each
-/// lane of `$v6`. For every even count below 4096, 0 too, both buffers inside DMEM at multiples of 16, 0 in `$v0`
-/// and 1 in each lane of `$v31`; DMEM doesn't change.
+/// The words of microcode that multiplies the numbers of two bytes at `$1` by those at `$2` and adds the
+/// products, of buffers of `$4` bytes each: the sum modulo 2^32, its high half in each lane of `$v5`, its low
+/// half in each lane of `$v6`. The count is even and below 4096, 0 too, both buffers are inside DMEM at
+/// multiples of 16, 0 is in `$v0` and 1 in each lane of `$v31`. DMEM doesn't change.
 pub fn dot_buffers() -> [u32; 34]
     ensures text { Assembles text result }
     ensures theorem { DotsBuffers result }

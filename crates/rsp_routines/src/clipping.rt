@@ -11,7 +11,7 @@ const WORDS: [u32; 3] = [
     0x48410800, // cfc2 $1, $vcc
 ];
 
-// The theorem by itself, so that it refuses other words and not the text alone.
+// The theorem by itself: other words break it too, and not the text alone.
 fn holds()
     ensures { ClipsAll WORDS }
 {
@@ -19,9 +19,9 @@ fn holds()
 }
 
 /// The words of microcode that compares eight numbers of 32 bits, high halves in `$v1` and low ones in `$v2`,
-/// with -w and w, 0 or more, in `$v3` and `$v4`: bit i of `$1` says whether the number of lane i is negative and
-/// at most -w, bit 8 + i whether it isn't and is at least w. Nothing else changes but `$v5`, `$v6`, the flags,
-/// the accumulators, pc and npc.
+/// with -w and w, 0 or more, in `$v3` and `$v4`. Bit i of `$1` is 1 if the number of lane i is negative and at
+/// most -w, and bit 8 + i if it isn't negative and is at least w. Nothing else changes but `$v5`, `$v6`, the
+/// flags, the accumulators, pc and npc.
 pub fn clip_codes() -> [u32; 3]
     ensures text { Assembles text result }
     ensures theorem { ClipsAll result }

@@ -17,16 +17,16 @@ const WORDS: [u32; 9] = [
     0xe8be2000, // sqv $v30[0], 0($5)
 ];
 
-// The theorem by itself, so that it refuses other words and not the text alone.
+// The theorem by itself: other words break it too, and not the text alone.
 fn holds()
     ensures { CopiesBytes WORDS }
 {
     l4();
 }
 
-/// The words of microcode that copies `$4` bytes in DMEM from `$1` to `$3`, both multiples of 16. For every
-/// count below 4096, 0 too, both inside DMEM, and the copy over no byte that is still to be read, all else in
-/// DMEM stays as it was.
+/// The words of microcode that copies `$4` bytes in DMEM from `$1` to `$3`, both multiples of 16. The count is
+/// below 4096, 0 too, both are inside DMEM, and the copy overwrites no byte that is still to be read. All else
+/// in DMEM stays as it was.
 pub fn copy_bytes() -> [u32; 9]
     ensures text { Assembles text result }
     ensures theorem { CopiesBytes result }

@@ -28,7 +28,7 @@ const WORDS: [u32; 20] = [
     0x4a00018e, // vmadn $v6, $v0, $v0
 ];
 
-// The theorem by itself, so that it refuses other words and not the text alone.
+// The theorem by itself: other words break it too, and not the text alone.
 fn holds()
     ensures { DotsNumbers WORDS }
 {

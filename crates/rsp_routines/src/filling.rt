@@ -15,7 +15,7 @@ const WORDS: [u32; 7] = [
     0xe8be2000, // sqv $v30[0], 0($5)
 ];
 
-// The theorem by itself, so that it refuses other words and not the text alone.
+// The theorem by itself: other words break it too, and not the text alone.
 fn holds()
     ensures { FillsBytes WORDS }
 {
@@ -23,8 +23,8 @@ fn holds()
 }
 
 /// The words of microcode that fills `$4` bytes of DMEM from `$3` on, a multiple of 16, with the sixteen bytes
-/// of `$v1`, over and over. For every count below 4096, 0 too, that is inside DMEM, all else in DMEM stays as
-/// it was.
+/// of `$v1`, over and over. The count is below 4096, 0 too, and the bytes are inside DMEM. All else in DMEM
+/// stays as it was.
 pub fn fill_bytes() -> [u32; 7]
     ensures text { Assembles text result }
     ensures theorem { FillsBytes result }

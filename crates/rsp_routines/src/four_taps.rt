@@ -30,7 +30,7 @@ const WORDS: [u32; 22] = [
     0xe8be2000, // sqv $v30[0], 0($5)
 ];
 
-// The theorem by itself, so that it refuses other words and not the text alone.
+// The theorem by itself: other words break it too, and not the text alone.
 fn holds()
     ensures { FiltersSound WORDS }
 {
@@ -38,9 +38,10 @@ fn holds()
 }
 
 /// The words of microcode that filters the sound of `$4` bytes at `$1` into `$3`, by the four coefficients in
-/// lanes 0 to 3 of `$v6`, fractions of 32768: each sample is the sum of four from its place on, each times its
-/// coefficient, rounded to the nearest number and clamped to 16 bits. For every count, 0 too, of which 32 bytes
-/// more are inside DMEM, and the result over no byte that is still to be read, all else in DMEM stays as it was.
+/// lanes 0 to 3 of `$v6`, fractions of 32768. Each result is the sum of the sample at its position and the
+/// three after it, each times its coefficient, rounded to the nearest number and clamped to 16 bits. The count
+/// may be 0; 32 bytes more than it are inside DMEM at `$1`, and the result overwrites no byte that is still to
+/// be read. All else in DMEM stays as it was.
 pub fn filter_sound() -> [u32; 22]
     ensures text { Assembles text result }
     ensures theorem { FiltersSound result }

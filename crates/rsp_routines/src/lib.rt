@@ -1,7 +1,7 @@
 //! Routines of microcode to paste, each with a theorem about what it does for all inputs.
 //!
 //! A routine is a function that returns its words. Its contract says which text they are assembled from, and
-//! what steps over them do, from every state that meets the premises.
+//! what steps over them do, from every state that meets the preconditions.
 #![tactic(auto)]
 
 mod blocks;

@@ -25,17 +25,17 @@ const WORDS: [u32; 17] = [
     0x4a00030e, // vmadn $v12, $v0, $v0
 ];
 
-// The theorem by itself, so that it refuses other words and not the text alone.
+// The theorem by itself: other words break it too, and not the text alone.
 fn holds()
     ensures { ImprovesReciprocal WORDS }
 {
     l4();
 }
 
-/// The words of microcode that takes the reciprocal of the number in lane 0 of `$v1` and `$v2` from the
-/// table, and makes it better by one step of Newton's method: the exact value, with each rounding and
-/// limit on the way. The result is one half of the reciprocal, in lane 0 of `$v11` and `$v12`. For a number x
-/// other than 0 it differs from 1 / 2x by no more than (2 + 1 / |x|) / 65536.
+/// The words of microcode that takes the reciprocal of the number in lane 0 of `$v1` and `$v2` from the table,
+/// and makes it better by one step of Newton's method: the exact value, with each rounding and clamp of the
+/// code. The result is one half of the reciprocal, in lane 0 of `$v11` and `$v12`. For a number x other than 0
+/// it differs from 1 / 2x by no more than (2 + 1 / |x|) / 65536.
 pub fn improve_reciprocal() -> [u32; 17]
     ensures text { Assembles text result }
     ensures theorem { ImprovesReciprocal result }

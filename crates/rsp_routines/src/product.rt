@@ -13,17 +13,16 @@ const WORDS: [u32; 5] = [
     0x4a00028e, // vmadn $v10, $v0, $v0
 ];
 
-// The theorem by itself, so that it refuses other words and not the text alone.
+// The theorem by itself: other words break it too, and not the text alone.
 fn holds()
     ensures { MultipliesFixed WORDS }
 {
     l4();
 }
 
-/// The words of microcode that multiplies numbers with sixteen bits of fraction, eight at once: high
-/// halves in `$v1` and `$v3`, low ones in `$v2` and `$v4`, 0 in `$v0`; the product in `$v9` and `$v10`.
-/// For all inputs it is rounded down and limited to 32 signed bits, and nothing else changes but the
-/// accumulators, pc and npc.
+/// The words of microcode that multiplies numbers with sixteen bits of fraction, eight at once: high halves in
+/// `$v1` and `$v3`, low ones in `$v2` and `$v4`, 0 in `$v0`; the product in `$v9` and `$v10`. For all inputs it
+/// is rounded down and clamped to 32 signed bits, and nothing else changes but the accumulators, pc and npc.
 pub fn multiply_fixed() -> [u32; 5]
     ensures text { Assembles text result }
     ensures theorem { MultipliesFixed result }

@@ -12,7 +12,7 @@ const WORDS: [u32; 4] = [
     0x4a03110d, // vmadm $v4, $v2, $v3
 ];
 
-// The theorem by itself, so that it refuses other words and not the text alone.
+// The theorem by itself: other words break it too, and not the text alone.
 fn holds()
     ensures { ResamplesSound WORDS }
 {

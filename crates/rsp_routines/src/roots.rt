@@ -32,7 +32,7 @@ const WORDS: [u32; 24] = [
     0x4a00030e, // vmadn $v12, $v0, $v0
 ];
 
-// The theorem by itself, so that it refuses other words and not the text alone.
+// The theorem by itself: other words break it too, and not the text alone.
 fn holds()
     ensures { TakesRoots WORDS }
 {

@@ -21,7 +21,7 @@ const WORDS: [u32; 13] = [
     0xe8be2000, // sqv $v30[0], 0($5)
 ];
 
-// The theorem by itself, so that it refuses other words and not the text alone.
+// The theorem by itself: other words break it too, and not the text alone.
 fn holds()
     ensures { MixesSound WORDS }
 {
@@ -29,9 +29,9 @@ fn holds()
 }
 
 /// The words of microcode that mixes the sound of `$4` bytes at `$1`, times the fraction of 32768 in lane 0 of
-/// `$v3`, with the one at `$2`, times the whole number in lane 1, into `$3`: rounded to the nearest, and clamped
-/// to 16 bits. For every count below 4096, 0 too, all three inside DMEM at multiples of 16, and the mix over no
-/// byte that is still to be read, all else in DMEM stays as it was.
+/// `$v3`, with the one at `$2`, times the whole number in lane 1, into `$3`: rounded to the nearest, and
+/// clamped to 16 bits. The count is below 4096, 0 too, all three are inside DMEM at multiples of 16, and the
+/// mix overwrites no byte that is still to be read. All else in DMEM stays as it was.
 pub fn mix_sound() -> [u32; 13]
     ensures text { Assembles text result }
     ensures theorem { MixesSound result }

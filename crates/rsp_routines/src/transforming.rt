@@ -28,16 +28,16 @@ const WORDS: [u32; 20] = [
     0xe86b2001, // sqv $v11[0], 16($3)
 ];
 
-// The theorem by itself, so that it refuses other words and not the text alone.
+// The theorem by itself: other words break it too, and not the text alone.
 fn holds()
     ensures { TransformsVectors WORDS }
 {
     l4();
 }
 
-/// The words of microcode that multiplies two vectors of four whole numbers by a matrix each, of four
-/// by four numbers with sixteen bits of fraction: from DMEM at `$1` and `$2` to DMEM at `$3`. For all
-/// inputs each of the eight results is the sum of its four products, limited to 32 signed bits.
+/// The words of microcode that multiplies two vectors of four whole numbers by a matrix each, of four by four
+/// numbers with sixteen bits of fraction: from DMEM at `$1` and `$2` to DMEM at `$3`. For all inputs each of
+/// the eight results is the sum of its four products, clamped to 32 signed bits.
 pub fn transform() -> [u32; 20]
     ensures text { Assembles text result }
     ensures theorem { TransformsVectors result }
