@@ -9,7 +9,7 @@ use Rattle.rsp_commands.specs.Line.{is_hash}
 use Rattle.rsp_commands.specs.Words.{words_in}
 use Rattle.rsp_commands.specs.Operand.{bank_of, ranged_of, address_of, instruction_address_of}
 use Rattle.rsp_commands.specs.Line.{command_of, plain_command}
-use Rattle.rsp_commands.specs.Command.{command_named, debug_named, look_named, alone, mem, dis, with_both, with_operand, in_bank, one_number, command_of_words}
+use Rattle.rsp_commands.specs.Command.{command_named, debug_named, look_named, without_operands, mem, dis, with_both, with_operand, in_bank, one_number, command_of_words}
 use Rattle.rsp_commands.specs.declared.command.Command.{Command}
 use Rattle.rsp_commands.specs.declared.command.Command.TheVariants.{Step, Run, Show}
 use Rattle.rsp_commands.specs.declared.command.Look.{Look}
@@ -96,7 +96,7 @@ quiet_next : (r : Result Command LineFault) (s : SessionState) → s.block ≡ N
 quiet_next (Ok c) s closed e = ap (λ o. o.next) (by_answer c s closed) ∙ quiet_plain c s e
 quiet_next (Err fault) s closed e = refl
 
-quiet_alone : (look : Look) (operands : List (List ℕ)) → is_quiet (alone (Show look) operands) ≡ true
+quiet_alone : (look : Look) (operands : List (List ℕ)) → is_quiet (without_operands (Show look) operands) ≡ true
 quiet_alone look [] = refl
 quiet_alone look (w ∷ ws) = refl
 

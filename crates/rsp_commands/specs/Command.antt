@@ -25,9 +25,9 @@ in_bank command (Some bank) = command bank
 in_bank command None = Err BadCommand
 
 -- a command without operands
-abbrev pub alone : Command → List (List ℕ) → Result Command LineFault
-alone command [] = Ok command
-alone command (w ∷ ws) = Err BadCommand
+abbrev pub without_operands : Command → List (List ℕ) → Result Command LineFault
+without_operands command [] = Ok command
+without_operands command (w ∷ ws) = Err BadCommand
 
 -- the only operand, by its meaning
 abbrev pub only : (List ℕ → Option ℕ) → List (List ℕ) → Result ℕ LineFault
@@ -85,11 +85,11 @@ watch = two_words (λ address len. with_both (λ a n. Watch a n) (ranged_of 0 42
 -- the commands that show something
 unfoldable pub look_named : List ℕ → List (List ℕ) → Result Command LineFault
 look_named name operands =
-    if bytes_eq name (codes "regs") then alone (Show Regs) operands
-    else if bytes_eq name (codes "vregs") then alone (Show Vregs) operands
-    else if bytes_eq name (codes "acc") then alone (Show Acc) operands
-    else if bytes_eq name (codes "flags") then alone (Show Flags) operands
-    else if bytes_eq name (codes "sp") then alone (Show Sp) operands
+    if bytes_eq name (codes "regs") then without_operands (Show Regs) operands
+    else if bytes_eq name (codes "vregs") then without_operands (Show Vregs) operands
+    else if bytes_eq name (codes "acc") then without_operands (Show Acc) operands
+    else if bytes_eq name (codes "flags") then without_operands (Show Flags) operands
+    else if bytes_eq name (codes "sp") then without_operands (Show Sp) operands
     else if bytes_eq name (codes "mem") then mem operands
     else if bytes_eq name (codes "dis") then dis operands
     else Err BadCommand
@@ -109,7 +109,7 @@ debug_named name operands =
 unfoldable pub command_named : List ℕ → List (List ℕ) → Result Command LineFault
 command_named name operands =
     if bytes_eq name (codes "load") then load operands
-    else if bytes_eq name (codes "step") then alone Step operands
+    else if bytes_eq name (codes "step") then without_operands Step operands
     else if bytes_eq name (codes "read") then with_operand (λ n. Read n) (one_number 0 15 operands)
     else if bytes_eq name (codes "write") then write operands
     else if bytes_eq name (codes "pc") then with_operand (λ a. SetPc a) (one_address operands)

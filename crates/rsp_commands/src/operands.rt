@@ -1,7 +1,7 @@
 // The words after a command's name: as many as the command takes, or BadCommand.
 
 ghost use Rattle.std.specs.Prelude.{◌≡◌, ℕ, ◌≤◌, ◌%◌, List, length, Result, IfOk, Ok, Err, MatchResult};
-ghost use Rattle.rsp_commands.specs.Command.{IsCommand, alone, one_number, one_address, two_words, on_bank};
+ghost use Rattle.rsp_commands.specs.Command.{IsCommand, without_operands, one_number, one_address, two_words, on_bank};
 
 use crate::operand::{bank, instruction_address, ranged};
 use crate::words::Words;
@@ -9,9 +9,9 @@ use crate::{Command, LineFault};
 use rsp_memory::Bank;
 
 /// The command, which takes no operands.
-pub(crate) fn alone(command: Command, mut words: Words) -> Result<Command, LineFault>
+pub(crate) fn without_operands(command: Command, mut words: Words) -> Result<Command, LineFault>
     requires { IsCommand command }
-    ensures value { result ≡ alone command words.entry }
+    ensures value { result ≡ without_operands command words.entry }
     ensures ranges { IfOk result IsCommand }
 {
     match words.next() {

@@ -4,7 +4,7 @@ ghost use Rattle.std.specs.Prelude.{◌≡◌, IfOk};
 ghost use Rattle.rsp_commands.specs.Command.{IsCommand, load, mem, write, dis, watch, command_of_words, command_named, debug_named, look_named};
 
 use crate::operand::{bytes, instruction_address, ranged};
-use crate::operands::{alone, on_bank, one_address, one_number, two_words};
+use crate::operands::{on_bank, one_address, one_number, two_words, without_operands};
 use crate::words::Words;
 use crate::{Command, LineFault, Look};
 
@@ -90,15 +90,15 @@ fn parse_look(name: &[u8], words: Words) -> Result<Command, LineFault>
     ensures ranges { IfOk result IsCommand }
 {
     if name == b"regs".as_slice() {
-        alone(Command::Show(Look::Regs), words)
+        without_operands(Command::Show(Look::Regs), words)
     } else if name == b"vregs".as_slice() {
-        alone(Command::Show(Look::Vregs), words)
+        without_operands(Command::Show(Look::Vregs), words)
     } else if name == b"acc".as_slice() {
-        alone(Command::Show(Look::Acc), words)
+        without_operands(Command::Show(Look::Acc), words)
     } else if name == b"flags".as_slice() {
-        alone(Command::Show(Look::Flags), words)
+        without_operands(Command::Show(Look::Flags), words)
     } else if name == b"sp".as_slice() {
-        alone(Command::Show(Look::Sp), words)
+        without_operands(Command::Show(Look::Sp), words)
     } else if name == b"mem".as_slice() {
         parse_mem(words)
     } else if name == b"dis".as_slice() {
@@ -145,7 +145,7 @@ fn parse_command(name: &[u8], words: Words) -> Result<Command, LineFault>
     if name == b"load".as_slice() {
         parse_load(words)
     } else if name == b"step".as_slice() {
-        alone(Command::Step, words)
+        without_operands(Command::Step, words)
     } else if name == b"read".as_slice() {
         let register = one_number(0, 15, words)? as u8;
         Ok(Command::Read { register })

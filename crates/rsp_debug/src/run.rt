@@ -31,9 +31,8 @@ fn can_undo(records: &[Record], made: usize) -> bool
 }
 
 impl History {
-    /// Makes up to `n` steps of a machine, at least one if it can make one, keeps their records if it keeps any, and returns how
-    /// many. `until` may end them; it is called before each step but the first. They end at the ring's end too, and after a step
-    /// that starts a DMA.
+    /// Makes 1 to `n` steps of a machine, or none if the next one isn't Done. Returns how many. With a depth other than 0 it keeps
+    /// their records. It stops early at the ring's last entry, after a step that starts a DMA, or if `until` ends it.
     pub fn stretch<A: Acc, U: Until>(&mut self, machine: &mut Machine<A>, n: u32, until: &U) -> u32
         requires { 0 < n }
         ensures within { result ≤ n }

@@ -63,7 +63,7 @@ fn saturated(numbers: i32x8) -> VReg
 impl VReg {
     /// The sums of the lanes as signed values and a carry, clamped to -32768..=32767.
     ///
-    /// The carry is added to the lesser lane, after that is clamped to 32766: so no carry overflows. A lesser lane of
+    /// First the lesser lane is clamped to 32766, then the carry is added, which can't overflow. A lesser lane of
     /// 32767 means that both are 32767, and then the clamped sum is 32767 in any case.
     #[inline(always)]
     pub fn add_clamped(&self, other: &VReg, carry: Mask8) -> VReg

@@ -14,17 +14,17 @@ pub record AreDone (k : ℕ) (s t : State) : Type 0 where
   pub state : t ≡ steps_of k s
   pub done : done_of k s ≡ k
 
--- no two steps have the same saver
+-- no two steps have the same recorder
 abbrev pub IsInjective : (ℕ → ℕ) → Type 0
 IsInjective slot = (i j : ℕ) → slot i ≡ slot j → i ≡ j
 
--- a saver got the step from s
+-- a recorder got the step from s
 pub record HasRecorded {K : Type 0} (saves : Change → State → K → K) (s : State) (o : Option K) : Type 0 where
   pub before : K
   pub told : o ≡ Some (after_step_from saves s before)
   pub ranged : IsRanged s
 
--- The savers after k steps from s: those of the steps have saved, and no other has changed.
+-- The recorders after k steps from s: those of the steps have saved, and no other has changed.
 pub record HaveRecorded {K : Type 0} (saves : Change → State → K → K) (slot : ℕ → ℕ) (k : ℕ) (s : State) (old new : List K) : Type 0 where
   pub told : IsInjective slot → (i : ℕ) → i < k → HasRecorded saves (steps_of i s) (slice_get new (slot i))
   pub rest : (j : ℕ) → ((i : ℕ) → i < k → slot i ≢ j) → slice_get new j ≡ slice_get old j

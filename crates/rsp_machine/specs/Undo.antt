@@ -154,7 +154,7 @@ change_of (VectorLoad row f) s = loaded_change row f.vt
 change_of (VectorStore row f) s =
     of.Bytes (window_of row (vector_address (VectorStore row f) (register s.registers f.base)))
 
--- A saver after an instruction, if there is one, and after a step. It gets the change of the instruction.
+-- A recorder after an instruction, if there is one, and after a step. It gets the change of the instruction.
 abbrev pub after_instruction : {K : Type 0} → (Change → State → K → K) → Option Inst → State → K → K
 after_instruction saves None s k = k
 after_instruction saves (Some i) s k = saves (change_of i s) s k

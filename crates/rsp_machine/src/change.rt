@@ -44,8 +44,7 @@ pub(crate) enum Change {
     Dma,
 }
 
-/// What the loop of steps tests after an instruction. These are plain truth values: they are known in each arm of the decoder,
-/// and LLVM drops the tests there.
+/// What the loop of steps tests after an instruction. Each arm of the decoder sets these to constants, so LLVM removes the tests.
 #[derive(Clone, Copy, Drop)]
 pub(crate) struct Reach {
     /// Whether the instruction may have read or written the SP registers.

@@ -19,18 +19,17 @@ use rsp_decode::{Inst, MoveOp, Visitor, visit};
 use rsp_scalar::{alu, jump, load, store};
 use std::marker::PhantomData;
 
-/// A machine as the visitor of its instructions, and the saver of what they overwrite. It is a type of its own because an
+/// A machine as the visitor of its instructions, and the recorder of what they overwrite. It is a type of its own because an
 /// embedder may step a machine, but must not execute an instruction without the fetch and the test of halted.
 #[derive(Drop)]
 struct Executor<'a, A: Acc, K: Recorder, U: Until> {
     machine: &'a mut Machine<A>,
-    saver: &'a mut K,
-    /// The test that may end the loop. It isn't called here. Its type gives each loop the decoder's functions for itself, so LLVM
-    /// inlines them.
+    recorder: &'a mut K,
+    /// Never used. The type parameter gives each loop its own copy of the decoder, which LLVM then inlines.
     until: PhantomData<U>,
     /// The address of the instruction.
-    from: InstructionAddress,
-    /// pc and npc after it. Those of `machine` aren't used.
+    address: InstructionAddress,
+    /// pc and npc after the instruction. Those in `machine` are stale while the loop runs.
     counters: ProgramCounters,
     /// What the loop tests after the instruction.
     reach: Reach,
@@ -41,13 +40,13 @@ impl<'a, A: Acc, K: Recorder, U: Until> Executor<'a, A, K, U> {
     #[inline(always)]
     fn save(&mut self, change: Change)
         requires { IsChange change }
-        ensures { self.new ≡ record self.old { saver = record self.old.saver { now = K.saves change (with_counters (record { pc = self.old.from; npc = self.old.counters.pc }) self.old.machine.now) self.old.saver.now }; reach = reach_of change } }
+        ensures { self.new ≡ record self.old { recorder = record self.old.recorder { now = K.saves change (with_counters (record { pc = self.old.address; npc = self.old.counters.pc }) self.old.machine.now) self.old.recorder.now }; reach = reach_of change } }
     {
         let before = ProgramCounters {
-            pc: self.from,
+            pc: self.address,
             npc: self.counters.pc,
         };
-        self.saver.save(self.machine, before, change);
+        self.recorder.save(self.machine, before, change);
         self.reach = change.reach();
     }
 
@@ -198,7 +197,7 @@ impl<A: Acc> Machine<A> {
         }
     }
 
-    /// Executes the word at `counters`, and returns what the loop tests after it. A saver gets its change first. None for a
+    /// Executes the word at `counters`, and returns what the loop tests after it. A recorder gets its change first. None for a
     /// reserved word, which changes nothing. The machine's own pc and npc aren't used.
     #[inline(always)]
     #[tactic(auto, unfolding(crate::specs::Step::executed))]
@@ -206,20 +205,20 @@ impl<A: Acc> Machine<A> {
         &mut self,
         counters: &mut ProgramCounters,
         word: u32,
-        saver: &mut K,
+        recorder: &mut K,
     ) -> Option<Reach>
         ensures answer { result ≡ option_map (λ i. reach_of (change_of i (with_counters counters.old self.old))) (inst_of word) }
         ensures state { with_counters counters.new self.new ≡ unwrap_or (option_map (λ i. executed i (with_counters counters.old self.old)) (inst_of word)) (with_counters counters.old self.old) }
-        ensures saver { saver.new ≡ after_instruction K.saves (inst_of word) (with_counters counters.old self.old) saver.old }
+        ensures recorder { recorder.new ≡ after_instruction K.saves (inst_of word) (with_counters counters.old self.old) recorder.old }
     {
-        let from = counters.pc;
-        let behind = counters.next();
+        let address = counters.pc;
+        let next = counters.next();
         let mut executor: Executor<A, K, U> = Executor {
             machine: self,
-            saver,
+            recorder,
             until: PhantomData,
-            from,
-            counters: behind,
+            address,
+            counters: next,
             reach: Reach {
                 sp: false,
                 dmem: false,
@@ -241,14 +240,14 @@ impl<'a, A: Acc, K: Recorder, U: Until> Visitor for Executor<'a, A, K, U> {
     ghost use Rattle.rsp_machine.specs.Changes.{reach_of};
 
     ghost after = { λ i e.
-        let before = with_counters (record { pc = e.from; npc = e.counters.pc }) e.machine.now in
-        let behind = instruction_effect i (with_counters e.counters e.machine.now) in
+        let before = with_counters (record { pc = e.address; npc = e.counters.pc }) e.machine.now in
+        let next = instruction_effect i (with_counters e.counters e.machine.now) in
         record {
-          machine = record e.machine { now = with_counters (counters_of e.machine.now) behind };
-          saver = record e.saver { now = K.saves (change_of i before) before e.saver.now };
+          machine = record e.machine { now = with_counters (counters_of e.machine.now) next };
+          recorder = record e.recorder { now = K.saves (change_of i before) before e.recorder.now };
           until = e.until;
-          from = e.from;
-          counters = counters_of behind;
+          address = e.address;
+          counters = counters_of next;
           reach = reach_of (change_of i before);
         } };
 

@@ -11,13 +11,13 @@ use crate::machine::Machine;
 use crate::program_counters::ProgramCounters;
 use rsp_acc::Acc;
 
-/// A saver. It gets each instruction's change before the instruction is executed, and may save the values that the instruction
+/// A recorder. It gets each instruction's change before the instruction is executed, and may save the values that the instruction
 /// overwrites.
 pub(crate) trait Recorder {
-    /// The saver after a change.
+    /// The recorder after a change.
     ghost saves: { Change → State → Self → Self };
 
-    /// The index of the saver that gets step `n` of a loop.
+    /// The index of the recorder that gets step `n` of a loop.
     ghost slot: { ℕ → ℕ };
 
     /// Whether a loop ends after a step that starts a DMA.
@@ -28,7 +28,7 @@ pub(crate) trait Recorder {
         requires { IsChange change }
         ensures { self.new ≡ saves change (with_counters before machine.now) self.old };
 
-    /// The index of the saver that gets step `n` of a loop.
+    /// The index of the recorder that gets step `n` of a loop.
     fn slot(n: u64) -> usize
         ensures { result ≡ slot n };
 
@@ -37,7 +37,7 @@ pub(crate) trait Recorder {
         ensures { result ≡ ends_at_dma };
 }
 
-/// Saves nothing. One such saver gets all steps.
+/// Saves nothing. One such recorder gets all steps.
 #[derive(Clone, Copy, Drop)]
 pub(crate) struct NoRecord;
 

@@ -63,8 +63,8 @@ impl<A: Acc> Machine<A> {
         self.imem.aligned_word(counters.pc.index())
     }
 
-    /// Ends a step: in single step the machine halts. Returns whether the loop goes on. Both are tested only if the instruction
-    /// may have reached the SP registers, or if `single` is true. `single` is false only if single step is clear.
+    /// Ends a step: in single step the machine halts. Returns whether the loop goes on. Single step and halted are tested after an
+    /// instruction that may reach the SP registers, and after each instruction if single step was set when the loop began (`single`).
     #[inline(always)]
     fn end_step<K: Recorder>(&mut self, reach: Reach, single: bool) -> bool
         ensures state { self.new ≡ (if reach.sp || single then after_single_step self.old else self.old) }
@@ -88,8 +88,8 @@ impl<A: Acc> Machine<A> {
     }
 
     /// Makes up to `n` steps and returns how many. It ends earlier if the next step isn't Done, if a step starts a DMA and the
-    /// savers end at one, or if `until` ends it. Meanwhile pc and npc are in registers of the host. `until` is called at the end
-    /// of a turn, so not before the first step.
+    /// recorders end at one, or if `until` ends it. Meanwhile pc and npc are in registers of the host. `until` is called after each
+    /// step that leaves the machine running, so not before the first.
     #[inline(never)]
     fn run_loop<K: Recorder, U: Until>(&mut self, n: u64, slots: &mut [K], until: &U) -> u64
         requires slots { (i : ℕ) → i < n → K.slot i < length slots.old }
@@ -191,7 +191,7 @@ impl<A: Acc> Machine<A> {
     }
 
     /// Makes up to `n` steps, as [`Machine::step`] makes them, as long as they are Done and `until` doesn't end them. `until` is
-    /// called before each step but the first. Returns how many steps were made: fewer than `n` if a further step wouldn't be
+    /// called after each step that leaves the machine running. Returns how many steps were made: fewer than `n` if a further step wouldn't be
     /// Done, or if `until` ended them.
     pub fn steps_until<U: Until>(&mut self, n: u64, until: &U) -> u64
         ensures within { result ≤ n }
@@ -203,7 +203,8 @@ impl<A: Acc> Machine<A> {
         self.run_loop(n, &mut [NoRecord], until)
     }
 
-    /// [`Machine::steps_recorded`], which `until` may end too. `until` is called before each step but the first.
+    /// [`Machine::steps_recorded`], which `until` may end too. `until` is called after each step that leaves the
+    /// machine running.
     pub fn steps_recorded_until<U: Until>(&mut self, records: &mut [Record], until: &U) -> usize
         ensures within { result ≤ length records.old }
         ensures done { done_of result self.old ≡ result }

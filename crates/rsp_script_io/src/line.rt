@@ -7,7 +7,7 @@ use rsp_syntax::without_return;
 use std::marker::Model;
 
 /// What a run keeps of a line that no LF has ended yet: its first 258 bytes, and a flag that there were more. Contracts see the
-/// bytes. 258 are enough: with an LF after them, and one CR dropped, they are still more than the 256 of the longest line.
+/// bytes. 258 are enough: without a CR at their end they are still 257, one more than the longest line has.
 #[derive(Drop)]
 pub(crate) struct LineSoFar {
     bytes: ArrayVec<u8, 258>,

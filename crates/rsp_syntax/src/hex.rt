@@ -4,7 +4,7 @@ ghost use Rattle.std.specs.Prelude.{◌≡◌, ◌<◌};
 ghost use Rattle.std.specs.Char.{digit_char};
 
 /// The hexadecimal digit of a number below 16, in lower case, as an ASCII byte.
-#[inline]
+#[inline(always)]
 pub fn hex_digit(n: u32) -> u8
     requires { n < 16 }
     ensures value { result ≡ digit_char n }

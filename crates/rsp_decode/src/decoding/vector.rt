@@ -180,8 +180,8 @@ fn visit_others<V: Visitor>(word: u32, visitor: &mut V) -> bool
     instruction_table!(arms(others(function(word), word, visitor)))
 }
 
-/// The computing instructions. Two functions share them, so that each is small enough to be inlined into the loop over steps. There
-/// their jumps become one: both match the same value, and no other test is between them.
+/// The computing instructions. Two functions share them: each is small enough to be inlined into the loop over steps. Inlined,
+/// their two matches become one jump.
 #[inline(always)]
 pub fn visit_computing<V: Visitor>(word: u32, visitor: &mut V) -> bool
     ensures known { result ≡ is_instruction (pick computing_rows (18 * 2 ^ 26 + 2 ^ 25 + value_at word (whole 0 6)) word) }

@@ -6,5 +6,5 @@ use Rattle.rsp_machine.proofs.execute.ExecutorVisitor.take.Goals as goal
 pub returns : goal.returns
 returns g c =
     let e = c.args.self.now in
-    let before : ProgramCounters = record { pc = e.from; npc = e.counters.pc } in
+    let before : ProgramCounters = record { pc = e.address; npc = e.counters.pc } in
     rw (← change_elsewhere c.args.inst before e.machine.now) (search rules)

@@ -47,7 +47,7 @@ loop-made-preserved g c =
     let running = turn-running l.word s t u r e single turn (elim goes [ inl none ↦ inl none | inr on ↦ inr on.0 ]) in
     let inside : c.slot.result < length l.slots = omega (arith, c.slot.ensures, c.requires.slots l.made c.loop-made-test.true, i.told.len) in
     let told = turn-told k.saves k.slot l.word l.made c.slot.result o s t r c.args.slots.now l.slots x (get_or l.slots c.slot.result c.index-slots-slot.result)
-    turn.executed i.run i.told c.slot.ensures inside c.execute.ensures.saver (ranged-at l.counters l.self c.vector_ranges.ensures) in
+    turn.executed i.run i.told c.slot.ensures inside c.execute.ensures.recorder (ranged-at l.counters l.self c.vector_ranges.ensures) in
     let passes = turn-ends l.word s t u r e single turn ends next.result next.ensures ∙ ap (λ (p : ProgramCounters). ends p.pc next.result e.dmem) (sym c.counters.view_is) ∙ ap (λ pc. ends pc next.result e.dmem) (sym c.get.ensures.value) ∙ sym c.ends.ensures ∙ c.if-ends.false in
     record {
       within = omega (arith, c.loop-made-test.true);
@@ -101,19 +101,19 @@ returns-clause-told g c =
       | then-loop-made-test+in_default w ↦
           let none = sym w.in_default.is ∙ w.execute.ensures.answer in
           told-as k.saves k.slot l.made made o old l.slots slots i.told w.made-is
-          (w.slots-is ∙ told-reserved k.saves l.word s l.slots w.slot.result w.index-slots-slot.result w.execute.new.saver none w.execute.ensures.saver)
+          (w.slots-is ∙ told-reserved k.saves l.word s l.slots w.slot.result w.index-slots-slot.result w.execute.new.saver none w.execute.ensures.recorder)
       | then-loop-made-test+in-Some+then-not-end_step w ↦
           let h = executed-as l.word l.counters w.execute.new.counters l.self w.execute.new.self w.execute.result i.goes i.word w.execute.ensures.answer w.execute.ensures.state in
           let inside : w.slot.result < length l.slots = omega (arith, w.slot.ensures, c.requires.slots l.made w.loop-made-test.true, i.told.len) in
           told-as k.saves k.slot (l.made + 1) made o old _ slots
           (turn-told k.saves k.slot l.word l.made w.slot.result o s _ _ old l.slots w.execute.new.saver (get_or l.slots w.slot.result w.index-slots-slot.result)
-          h i.run i.told w.slot.ensures inside w.execute.ensures.saver (ranged-at l.counters l.self w.vector_ranges.ensures)) w.made-is w.slots-is
+          h i.run i.told w.slot.ensures inside w.execute.ensures.recorder (ranged-at l.counters l.self w.vector_ranges.ensures)) w.made-is w.slots-is
       | then-loop-made-test+in-Some+else-not-end_step+then-ends w ↦
           let h = executed-as l.word l.counters w.execute.new.counters l.self w.execute.new.self w.execute.result i.goes i.word w.execute.ensures.answer w.execute.ensures.state in
           let inside : w.slot.result < length l.slots = omega (arith, w.slot.ensures, c.requires.slots l.made w.loop-made-test.true, i.told.len) in
           told-as k.saves k.slot (l.made + 1) made o old _ slots
           (turn-told k.saves k.slot l.word l.made w.slot.result o s _ _ old l.slots w.execute.new.saver (get_or l.slots w.slot.result w.index-slots-slot.result)
-          h i.run i.told w.slot.ensures inside w.execute.ensures.saver (ranged-at l.counters l.self w.vector_ranges.ensures)) w.made-is w.slots-is
+          h i.run i.told w.slot.ensures inside w.execute.ensures.recorder (ranged-at l.counters l.self w.vector_ranges.ensures)) w.made-is w.slots-is
     ]
 
 pub returns-clause-ends : goal.returns-clause-ends
