@@ -204,7 +204,7 @@ impl<A: Acc> Machine<A> {
     }
 
     /// [`Machine::steps_recorded`], which `until` may end too. `until` is called after each step that leaves the
-    /// machine running.
+    /// machine running and starts no DMA.
     pub fn steps_recorded_until<U: Until>(&mut self, records: &mut [Record], until: &U) -> usize
         ensures within { result ≤ length records.old }
         ensures done { done_of result self.old ≡ result }

@@ -41,7 +41,7 @@ pub loop-made-preserved : goal.loop-made-preserved
 loop-made-preserved g c =
     let l = c.loop-made in let i = l.invariant in let o = c.args.self.now in let k = g.K.Recorder in let single = c.single_step-single.result in let ends = g.U.Until.ends c.args.until.now in
     let s = with_counters l.counters l.self in let q = c.execute.new.counters in let v = c.execute.new.self in let m = c.end_step.new.self in let t = with_counters q v in let u = with_counters q m in
-    let r = c.execute.result in let e = c.in-Some.reach in let x = c.execute.new.saver in let next = c.word_at-word-in-loop-made in
+    let r = c.execute.result in let e = c.in-Some.reach in let x = c.execute.new.recorder in let next = c.word_at-word-in-loop-made in
     let turn = turn-of l.word l.counters q l.self v m r e single i.goes i.word c.execute.ensures.answer c.execute.ensures.state c.in-Some.is i.free c.end_step.ensures.state in
     let goes = goes-by e.sp single u.sp.halted (not (k.ends_at_dma && e.dma)) c.end_step.result c.end_step.ensures.goes c.if-not-end_step.false in
     let running = turn-running l.word s t u r e single turn (elim goes [ inl none ↦ inl none | inr on ↦ inr on.0 ]) in
@@ -101,18 +101,18 @@ returns-clause-told g c =
       | then-loop-made-test+in_default w ↦
           let none = sym w.in_default.is ∙ w.execute.ensures.answer in
           told-as k.saves k.slot l.made made o old l.slots slots i.told w.made-is
-          (w.slots-is ∙ told-reserved k.saves l.word s l.slots w.slot.result w.index-slots-slot.result w.execute.new.saver none w.execute.ensures.recorder)
+          (w.slots-is ∙ told-reserved k.saves l.word s l.slots w.slot.result w.index-slots-slot.result w.execute.new.recorder none w.execute.ensures.recorder)
       | then-loop-made-test+in-Some+then-not-end_step w ↦
           let h = executed-as l.word l.counters w.execute.new.counters l.self w.execute.new.self w.execute.result i.goes i.word w.execute.ensures.answer w.execute.ensures.state in
           let inside : w.slot.result < length l.slots = omega (arith, w.slot.ensures, c.requires.slots l.made w.loop-made-test.true, i.told.len) in
           told-as k.saves k.slot (l.made + 1) made o old _ slots
-          (turn-told k.saves k.slot l.word l.made w.slot.result o s _ _ old l.slots w.execute.new.saver (get_or l.slots w.slot.result w.index-slots-slot.result)
+          (turn-told k.saves k.slot l.word l.made w.slot.result o s _ _ old l.slots w.execute.new.recorder (get_or l.slots w.slot.result w.index-slots-slot.result)
           h i.run i.told w.slot.ensures inside w.execute.ensures.recorder (ranged-at l.counters l.self w.vector_ranges.ensures)) w.made-is w.slots-is
       | then-loop-made-test+in-Some+else-not-end_step+then-ends w ↦
           let h = executed-as l.word l.counters w.execute.new.counters l.self w.execute.new.self w.execute.result i.goes i.word w.execute.ensures.answer w.execute.ensures.state in
           let inside : w.slot.result < length l.slots = omega (arith, w.slot.ensures, c.requires.slots l.made w.loop-made-test.true, i.told.len) in
           told-as k.saves k.slot (l.made + 1) made o old _ slots
-          (turn-told k.saves k.slot l.word l.made w.slot.result o s _ _ old l.slots w.execute.new.saver (get_or l.slots w.slot.result w.index-slots-slot.result)
+          (turn-told k.saves k.slot l.word l.made w.slot.result o s _ _ old l.slots w.execute.new.recorder (get_or l.slots w.slot.result w.index-slots-slot.result)
           h i.run i.told w.slot.ensures inside w.execute.ensures.recorder (ranged-at l.counters l.self w.vector_ranges.ensures)) w.made-is w.slots-is
     ]
 
