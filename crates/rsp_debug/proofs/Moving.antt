@@ -3,6 +3,7 @@ use Rattle.std.proofs.Common.{◌≡◌, ℕ, subst, ◌<◌, ◌≤◌, ◌^◌
 use Rattle.std.specs.Prelude.{◌==◌, ◌&&◌, ◌||◌, ◌⊎◌, not, find, option_map, IfSome}
 use Rattle.std.specs.List.{list_all}
 use Rattle.std.proofs.lemmas.Nat.Bits.{and_high}
+use Rattle.std.proofs.lemmas.Bool.Decides.{nat_tests}
 use Rattle.std.proofs.lemmas.Bool.{and_parts, cases_Bool, cond-true, cond-false, eqb-true}
 use Rattle.rsp_decode.specs.declared.inst.Inst.{Inst}
 use Rattle.rsp_decode.specs.declared.inst.Inst.TheVariants.{MoveSp}
@@ -14,7 +15,7 @@ use Rattle.rsp_debug.specs.declared.stop.Stop.{Stop}
 use Rattle.rsp_debug.specs.declared.moves.Moves.{Moves}
 use Rattle.rsp_debug.specs.declared.moves.KeptMove.{KeptMove}
 use Rattle.rsp_debug.specs.Moves.{is_asked, move_by}
-use Rattle.rsp_debug.specs.Runs.{move_of}
+use Rattle.rsp_debug.specs.Runs.{move_of, may_be_move}
 
 abbrev is_move : Inst → Bool
 is_move (MoveSp row rt r) = true
@@ -75,6 +76,12 @@ below-moves moves w small h = sym (other-word moves w small (λ p. absurd (omega
 
 pub above-moves : (moves : Moves) (w : ℕ) → w < 2 ^ 32 → 0x40a00000 ≤ w → false ≡ is_asked moves (inst_of w)
 above-moves moves w small h = sym (other-word moves w small (λ p. absurd (omega (arith, h, p.1))))
+
+outside_range : (w : ℕ) → may_be_move w ≡ false → (w < 2 ^ 32) × ((0x40000000 ≤ w) × (w < 0x40a00000) → ⊥)
+outside_range w e = (grind (arith, nat_tests, e), λ p. grind (arith, nat_tests, e, p.0, p.1))
+
+pub not-a-move : (moves : Moves) (w : ℕ) → may_be_move w ≡ false → is_asked moves (inst_of w) ≡ false
+not-a-move moves w e = let out = outside_range w e in other-word moves w out.0 out.1
 
 -- what is kept of a word
 pub asked-of : (moves : Moves) (o : Option Inst) → is_asked moves (move_of o) ≡ is_asked moves o

@@ -1,5 +1,5 @@
 -- Scaffolding of proofs: what the loop of a run tests. Stops has the meaning.
-use Rattle.std.specs.Prelude.{◌≡◌, ◌⊎◌, ℕ, List, [], ◌∷◌, length, Bool, false, Option, Some, None, option_map}
+use Rattle.std.specs.Prelude.{◌≡◌, ◌⊎◌, ◌&&◌, ◌||◌, nat_le, nat_lt, ℕ, List, [], ◌∷◌, length, Bool, false, Option, Some, None, option_map}
 use Rattle.rsp_decode.specs.declared.inst.Inst.{Inst}
 use Rattle.rsp_decode.specs.declared.inst.Inst.TheVariants.{MoveSp}
 use Rattle.rsp_decode.specs.Table.{inst_of}
@@ -16,6 +16,10 @@ use Rattle.rsp_debug.specs.Snapshots.{differs}
 abbrev pub move_of : Option Inst → Option Inst
 move_of (Some (MoveSp row rt r)) = Some (MoveSp row rt r)
 move_of _ = None
+
+-- whether a number is in the range of MFC0 and MTC0, or no word
+abbrev pub may_be_move : ℕ → Bool
+may_be_move w = (nat_le 0x40000000 w && nat_lt w 0x40a00000) || nat_le 0x100000000 w
 
 -- why a machine can't make a step
 abbrev pub step_refusal : State → Option Reason

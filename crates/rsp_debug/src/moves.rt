@@ -4,7 +4,7 @@ ghost use Rattle.std.specs.Prelude.{◌≡◌, IsTrue, IfSome, is_none};
 ghost use Rattle.rsp_decode.specs.Table.{inst_of, IsInstruction};
 ghost use Rattle.rsp_debug.specs.Stops.{when};
 ghost use Rattle.rsp_debug.specs.Moves.{no_moves, is_asked, is_at_move, end_by};
-ghost use Rattle.rsp_debug.specs.Runs.{move_of};
+ghost use Rattle.rsp_debug.specs.Runs.{move_of, may_be_move};
 ghost use Rattle.rsp_debug.specs.declared.stop.Reason.TheVariants.{Limit};
 
 use crate::stop::{Reason, Stop};
@@ -49,7 +49,7 @@ struct KeptMove {
 
 impl Visitor for KeptMove {
     ghost use Rattle.std.specs.Prelude.{Some};
-    ghost use Rattle.rsp_debug.specs.Runs.{move_of};
+    ghost use Rattle.rsp_debug.specs.Runs.{move_of, may_be_move};
 
     ghost after = { λ i _. record { inst = move_of (Some i) } };
 
@@ -81,6 +81,14 @@ pub(crate) fn is_reserved(word: u32) -> bool
     !visit(word, &mut KeptMove { inst: None })
 }
 
+/// Whether a word is in the range of MFC0 and MTC0. Most words aren't.
+#[inline(always)]
+fn may_be_move(word: u32) -> bool
+    ensures { result ≡ may_be_move word }
+{
+    0x4000_0000 <= word && word < 0x40a0_0000
+}
+
 impl Moves {
     /// No move.
     pub(crate) fn none() -> Moves
@@ -105,7 +113,7 @@ impl Moves {
     pub(crate) fn has_word(self, word: u32) -> bool
         ensures { result ≡ is_asked self (inst_of word) }
     {
-        0x4000_0000 <= word && word < 0x40a0_0000 && self.has_move(word)
+        may_be_move(word) && self.has_move(word)
     }
 
     /// Whether a word is one of them, by its instruction.
@@ -165,13 +173,13 @@ impl Moves {
 }
 
 impl Until for Moves {
-    ghost use Rattle.rsp_decode.specs.Table.{inst_of};
-    ghost use Rattle.rsp_debug.specs.Moves.{is_asked};
+    ghost use Rattle.rsp_debug.specs.Runs.{may_be_move};
 
-    ghost ends = { λ m pc word stored. is_asked m (inst_of word) };
+    ghost ends = { λ m pc word stored. may_be_move word };
 
+    // It ends steps at other moves too: a call in the loop would cost it registers of the host, and a run goes on after them.
     #[inline(always)]
     fn ends(&self, _pc: u16, word: u32, _stored: bool) -> bool {
-        self.has_word(word)
+        may_be_move(word)
     }
 }

@@ -1,4 +1,7 @@
-use Rattle.std.proofs.Common.{refl}
+use Rattle.std.proofs.Common.{refl, inr, sym, ◌∙◌, ◌/◌}
+use Rattle.std.proofs.lemmas.Bool.{eqb-true}
+use Rattle.rsp_debug.proofs.BreakTable.{empty-break}
+use Rattle.rsp_debug.proofs.Moving.{not-a-move}
 use Rattle.rsp_debug.proofs.RunEnds.{unwatched-stop}
 use Rattle.rsp_debug.proofs.WatchChanges.{differs-empty}
 use Rattle.rsp_debug.proofs.run.run.Goals as goal
@@ -17,6 +20,9 @@ returns-then-is_empty-clause-stop g c = unwatched-stop _ _ _ _ _ _ c.run_to-then
 
 pub run_to-requires-2-clause-same : goal.run_to-requires-2-clause-same
 run_to-requires-2-clause-same g c = differs-empty _ _ refl
+
+pub run_to-requires-2-clause-asks : goal.run_to-requires-2-clause-asks
+run_to-requires-2-clause-asks g c pc word stored e = (empty-break c.args.breaks.now (pc / 4) (eqb-true _ _ (sym c.is_empty-2.ensures ∙ c.if-not-is_empty-2.false)), not-a-move c.args.moves word e, inr refl)
 
 pub returns-clause-stop : goal.returns-clause-stop
 returns-clause-stop g c = unwatched-stop _ _ _ _ _ _ c.run_to-2.ensures.stop (c.is_empty.ensures.0 c.if-not-is_empty.false)
