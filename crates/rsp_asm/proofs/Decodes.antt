@@ -27,7 +27,7 @@ ready r =
 rows_ready : list_all ready rows ≡ true
 rows_ready = refl
 
--- a row that a search finds stands in the list
+-- a row that a search finds is in the list
 found_at : (p t : Row → Bool) (rs : List Row) (r : Row) → list_all t rs ≡ true → find p rs ≡ Some r → (i : ℕ) × (i < length rs) × (get_or rs i r ≡ r) × (t r ≡ true)
 found_at p t [] r all e = absurd cc
 found_at p t (x ∷ xs) r all e =

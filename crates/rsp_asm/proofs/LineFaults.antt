@@ -8,7 +8,7 @@ use Rattle.rsp_syntax.specs.Statement.{Labels, Statement, statement_of, size}
 use Rattle.rsp_syntax.specs.SourceLine.{LineParts, split_line, is_label_taken, statement_size, parts_size, line_size, has_bad_number, statement_fault, parts_fault, first_fault}
 use Rattle.rsp_asm.specs.Statements.{size_or_fault}
 
--- a line of this size behind those with a fault
+-- a line of this size, after the lines with a fault
 abbrev pub last_fault : ℕ → ℕ → Option AsmFaultKind
 last_fault address n = if nat_lt 4096 (address + 4 * n) then Some PastEnd else None
 

@@ -15,9 +15,9 @@ use Rattle.rsp_syntax.specs.SourceLine.{LineParts, split_line, is_label_taken, s
 use Rattle.rsp_syntax.specs.SourceText.{line_at, address_of_line, labelled, all_labels, words_of_line, fault_before, and_words, words_before, unless, meaning_of_lines}
 use Rattle.rsp_operands.specs.Labels.{SameAddresses}
 
--- ---- a label behind others
+-- ---- a label after others
 
--- a label whose name no earlier one has is found as if it stood in front
+-- a label whose name no earlier one has is found as if it were the first
 found_behind : (xs : Labels) (name : List ℕ) (address : ℕ) → find_label xs name ≡ None → (q : List ℕ) → find_label (xs ++ (name, address) ∷ []) q ≡ (if bytes_eq name q then Some address else find_label xs q)
 found_behind [] name address none q = refl
 found_behind (x ∷ xs) name address none q = elim (cases_Bool (bytes_eq x.0 name)) [
@@ -32,7 +32,7 @@ found_behind (x ∷ xs) name address none q = elim (cases_Bool (bytes_eq x.0 nam
     apart true false h = refl
     apart false b h = refl
 
--- the label of a line, put before others that have the same places, is found as if it stood behind them
+-- the label of a line, put before others with the same addresses, is found as if it were after them
 pub same_behind : (o : Option (List ℕ)) (address : ℕ) (new old table : Labels) → is_label_taken table o ≡ false → SameAddresses new (labelled o address ++ old) → SameAddresses old table → SameAddresses new (table ++ labelled o address)
 same_behind None address new old table once h same q = h q ∙ same q ∙ ap (λ t. find_label t q) (sym (append-nil table))
 same_behind (Some name) address new old table once h same q =

@@ -22,7 +22,7 @@ name_of bs = before_first (is_boundary Blank) bs
 abbrev pub texts_after : List ℕ → List (List ℕ)
 texts_after bs = operand_texts (after_first (is_boundary Blank) bs)
 
--- the statement of a text that isn't empty, by what stands for its name and its operands
+-- the statement of a text that isn't empty, by the statement that its name and its operands give
 pub statement_is : (bs name operands : List ℕ) (o : Option Form) → (length bs == 0) ≡ false → name ≡ name_of bs → operands ≡ after_first (is_boundary Blank) bs → form_named name (length (operand_texts operands)) ≡ o → statement_of bs ≡ with_form o (operand_texts operands)
 statement_is bs name operands o some n t e =
     cond-false (length bs == 0) (Ok nothing) _ some

@@ -111,7 +111,7 @@ pub word_fails_so : (address : ℕ) (o : Option Expression) → option_map word_
 word_fails_so address None = refl
 word_fails_so address (Some e) = refl
 
--- words with those of these readings behind them, or the fault of the leftmost that has one
+-- words followed by those of these operands, or the fault of the leftmost that has one
 abbrev pub words_with : Labels → ℕ → Result (List ℕ) AsmFaultKind → Option (List OperandValue) → Result (List ℕ) AsmFaultKind
 words_with labels address words None = Err BadOperand
 words_with labels address words (Some rs) = append words (all_fields labels address rs)
@@ -142,7 +142,7 @@ numbers_next labels address words (Some x) (Some rs) p e =
     ∙ ap (λ y. append (append words y) (all_fields labels address rs)) (one_number labels address x)
     ∙ append_three words (fields_of labels address (ranged_value Word [] x)) (all_fields labels address rs)
 
--- Some of the numbers are put behind the words before them, or one of them has a fault, and these texts are left.
+-- Some of the numbers are put after the words before them, or one of them has a fault, and these texts are left.
 pub record Part (labels : Labels) (old new : List ℕ) (fault : Option AsmFaultKind) (left ts : List (List ℕ)) : Type 0 where
   pub words : List ℕ
   pub kept : new ≡ old ++ words

@@ -1,4 +1,4 @@
-//! The work of the program `rsp`: it does what the command line asks for, with files and streams, and reports messages and an exit
+//! The work of the program `rsp`: it does what the command line requests, with files and streams, and reports messages and an exit
 //! status. [`work`] is generic over all files and streams, so that tests give it fakes and need no program.
 #![tactic(auto)]
 

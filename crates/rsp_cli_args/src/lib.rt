@@ -20,7 +20,7 @@ pub struct RunFiles<'a> {
     pub save: Option<&'a str>,
 }
 
-/// What the command line asks for.
+/// What the command line requests.
 #[derive(Drop)]
 pub enum Request<'a> {
     /// `rsp run`: answering the script on standard input.

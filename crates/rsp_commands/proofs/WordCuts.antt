@@ -19,7 +19,7 @@ keeps-word : (w : List ℕ) (parts : List (List ℕ)) → 0 < length w → filte
 keeps-word [] parts h = absurd (omega arith)
 keeps-word (b ∷ bs) parts h = grind (arith, common_steps)
 
--- a first word with a blank behind it
+-- a first word with a blank after it
 first-inside : (bs : List ℕ) → 0 < position_or_len is_blank bs → position_or_len is_blank bs < length bs
     → words_in bs ≡ take (position_or_len is_blank bs) bs ∷ words_in (drop (position_or_len is_blank bs) bs)
 first-inside bs h lt =

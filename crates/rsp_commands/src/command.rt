@@ -21,7 +21,7 @@ pub enum Look {
     Dis { address: u16, count: u32 },
 }
 
-/// What a line of a script asks for. `parse_line` makes none with an operand out of the range given here; it checks no
+/// What a line of a script requests. `parse_line` makes none with an operand out of the range given here; it checks no
 /// more: whether an address is inside its bank, and a count in its limits, is for whoever carries the command out.
 #[derive(Drop, Debug)]
 pub enum Command {

@@ -172,7 +172,7 @@ made-after k s t done there = record { done = done-each k s done; reached = ther
 
 pub ruleset afters = (after-calls, stop-first)
 
--- a stop where the machine stands
+-- a stop at the machine's pc
 stop_by : (b : List Bool) (w : List (Option Watch)) (n : ℕ) (s t : State) (k m : ℕ) (r : Reason) (stop : Stop) (o : Option Reason) → step_refusal t ≡ o
     → stop ≡ record { reason = unwrap_or o r; steps = m; pc = t.pc } → m ≡ k → k ≤ n → t ≡ steps_of k s
     → ((j : ℕ) → j < k → reason_at b w n s j ≡ None) → (step_refusal t ≡ None → reason_at b w n s k ≡ Some r) → IsStop b w n s t stop

@@ -13,7 +13,7 @@ use Rattle.rsp_debug.specs.declared.snapshot.Snapshot.{Snapshot}
 use Rattle.rsp_debug.specs.Stops.{watched, is_changed, changed}
 use Rattle.rsp_debug.specs.Snapshots.{IsShort, snapshot_of, is_other, differs, watches_of}
 
--- a number that stands for no watch
+-- a number without a watch
 pub past-watch : (watches : List (Option Watch)) (k : ℕ) → length watches ≤ k → slice_index_or watches k None ≡ None
 past-watch watches k h = get_or_past watches k None h
 

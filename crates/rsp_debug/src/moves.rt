@@ -1,6 +1,6 @@
 // Moves between the scalar registers and the SP registers, before which a run can end.
 
-ghost use Rattle.std.specs.Prelude.{◌≡◌, IsTrue, IfSome, is_none};
+ghost use Rattle.std.specs.Prelude.{◌≡◌, ◌==◌, ◌&&◌, IsTrue, IfSome, is_none};
 ghost use Rattle.rsp_decode.specs.Table.{inst_of, IsInstruction};
 ghost use Rattle.rsp_debug.specs.Stops.{when};
 ghost use Rattle.rsp_debug.specs.Moves.{no_moves, is_asked, is_at_move, end_by};
@@ -102,7 +102,8 @@ impl Moves {
 
     /// Whether there is none.
     pub(crate) fn is_empty(self) -> bool
-        ensures { IsTrue result → self ≡ no_moves }
+        ensures value { result ≡ ((self.reads == 0) && (self.writes == 0)) }
+        ensures none { IsTrue result → self ≡ no_moves }
     {
         self.reads == 0 && self.writes == 0
     }

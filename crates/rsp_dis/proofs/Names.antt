@@ -19,7 +19,7 @@ pairs_at t (r ∷ rs) i zero d e lt inside = absurd (omega arith)
 pairs_at t (r ∷ rs) zero (suc j) d e lt inside = and_at (list_all (t r)) (t r) refl (λ _ _. refl) rs j d (omega arith) (and_parts _ _ e).0
 pairs_at t (r ∷ rs) (suc i) (suc j) d e lt inside = pairs_at t rs i j d (and_parts _ _ e).1 (omega arith) (omega arith)
 
--- where a row stands that was found
+-- the index of a row that was found
 place_of : (p : Row → Bool) (rs : List Row) (r : Row) → find p rs ≡ Some r → (i : ℕ) × (i < length rs) × (get_or rs i r ≡ r)
 place_of p [] r e = absurd cc
 place_of p (x ∷ xs) r e = elim (cases_Bool (p x)) [

@@ -1,4 +1,4 @@
--- Writing back what stood in a list before gives the list back, for lists of any members.
+-- Writing back what was in a list before gives the list back, for lists of any members.
 use Rattle.std.proofs.Common.{◌≡◌, ◌≢◌, ℕ, inl, inr, List, [], ◌∷◌, length, sym, ◌∙◌, arith, get_or, set, get_or-set_same, get_or-set_other}
 use Rattle.std.proofs.lemmas.List.{ext_get_or, length-set}
 use Rattle.std.proofs.Math.ListN.{get_or-eq_default}

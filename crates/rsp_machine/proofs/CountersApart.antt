@@ -1,4 +1,4 @@
--- Moves neither ask nor tell where the machine stands: from elsewhere they do the same, and stay there.
+-- Moves neither read nor write pc and npc: with other ones they do the same, and leave them.
 use Rattle.std.proofs.Common.{◌≡◌, refl, ℕ, Bool, true, false}
 use Rattle.std.specs.Prelude.{if◌then◌else◌, ◌%◌, ◌==◌}
 use Rattle.rsp_decode.specs.declared.inst.Inst.{Inst}

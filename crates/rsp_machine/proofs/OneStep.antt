@@ -96,7 +96,7 @@ free s t h same e = sym (ap (λ p. record t { sp = p }) (halts_none t.sp (ap (λ
 pub clear_as : (s t : State) → s.sp.single_step ≡ false → t.sp ≡ s.sp → t.sp.single_step ≡ false
 clear_as s t h e = ap (λ (p : Sp). p.single_step) e ∙ h
 
--- and a machine that goes on behind an instruction isn't in single step
+-- and a machine that goes on after an instruction isn't in single step
 clear_by : (h single : Bool) → (h || single) ≡ false → single ≡ false
 clear_by false single e = e
 clear_by true single e = cc

@@ -15,7 +15,7 @@ use Rattle.rsp_machine.proofs.OneStep.{not_back}
 use Rattle.rsp_machine.proofs.LoopSteps.{done_few, is_done}
 use Rattle.rsp_machine.proofs.Undo.{record-dma, record-back, record-memory}
 
--- the steps behind each other
+-- the steps one after the other
 pub steps-more : (i : ℕ) (s : State) → steps_of (i + 1) s ≡ (step_of (steps_of i s)).1
 unfolding steps_of
 steps-more i s = rw add-one refl

@@ -13,7 +13,7 @@ struct Outcome {
     errors: String,
 }
 
-/// Does the work that a command line asks for. Its arguments are separated by spaces.
+/// Does the work that a command line requests. Its arguments are separated by spaces.
 fn run_work<W: Write + Drop>(
     rt: &HostRuntime,
     line: &str,
