@@ -1,4 +1,4 @@
-ghost use Rattle.std.specs.Prelude.{◌≡◌, ◌%◌, ◌==◌, ◌||◌, ◌<◌, ◌^◌, ℕ, if◌then◌else◌, slice_index, false};
+ghost use Rattle.std.specs.Prelude.{◌≡◌, ◌%◌, ◌==◌, ◌<◌, ◌^◌, ℕ, if◌then◌else◌, slice_index, false};
 ghost use Rattle.rsp_regs.specs.Dma.{IsTransfer, AreMultiplesOf8};
 ghost use Rattle.rsp_regs.specs.Parts.{parts_of, sp_of};
 ghost use Rattle.rsp_regs.specs.Sp.{AreSpRanges, IsSp, start, status, read_value, after_read, after_status_write, transfer, after_dma, is_rd_len, is_wr_len, after_register_write, dmem_from_rdram, imem_from_rdram, rdram_from_bank, after_break, after_step, after_task};
@@ -20,8 +20,6 @@ pub struct SpRegs {
     halted: bool,
     broke: bool,
     single_step: bool,
-    /// Halted or single step: one value to test for each step.
-    halted_or_stepping: bool,
     intbreak: bool,
     signals: [bool; 8],
     interrupt: bool,
@@ -30,7 +28,6 @@ pub struct SpRegs {
 }
 
 impl Model for SpRegs {
-    ghost use Rattle.std.specs.Prelude.{◌≡◌, ◌||◌};
     ghost use Rattle.rsp_regs.specs.Sp.{Sp, AreSpRanges};
 
     ghost Value = { Sp };
@@ -49,7 +46,7 @@ impl Model for SpRegs {
       dpc = s.dpc;
     } };
 
-    ghost invariant = { λ s. AreSpRanges s.memory s.dram s.skip × (s.halted_or_stepping ≡ (s.halted || s.single_step)) };
+    ghost invariant = { λ s. AreSpRanges s.memory s.dram s.skip };
 
     ghost inverse = { λ s. record {
       memory = s.memory;
@@ -58,7 +55,6 @@ impl Model for SpRegs {
       halted = s.halted;
       broke = s.broke;
       single_step = s.single_step;
-      halted_or_stepping = s.halted || s.single_step;
       intbreak = s.intbreak;
       signals = s.signals;
       interrupt = s.interrupt;
@@ -87,7 +83,6 @@ impl SpRegs {
             halted: false,
             broke: false,
             single_step: false,
-            halted_or_stepping: false,
             intbreak: false,
             signals: [false; 8],
             interrupt: false,
@@ -135,7 +130,6 @@ impl SpRegs {
             halted: parts.halted,
             broke: parts.broke,
             single_step: parts.single_step,
-            halted_or_stepping: parts.halted || parts.single_step,
             intbreak: parts.intbreak,
             signals: parts.signals,
             interrupt: parts.interrupt,
@@ -158,14 +152,6 @@ impl SpRegs {
         ensures { result ≡ self.now.single_step }
     {
         self.single_step
-    }
-
-    /// Whether the RSP is halted, or will be after one instruction.
-    #[inline(always)]
-    pub fn halted_or_stepping(&self) -> bool
-        ensures { result ≡ (self.now.halted || self.now.single_step) }
-    {
-        self.halted_or_stepping
     }
 
     /// The interrupt flag.
@@ -234,7 +220,6 @@ impl SpRegs {
         ensures { self.new ≡ after_break self.old }
     {
         self.halted = true;
-        self.halted_or_stepping = true;
         self.broke = true;
         self.interrupt = self.interrupt || self.intbreak;
     }
@@ -245,7 +230,6 @@ impl SpRegs {
         ensures { self.new ≡ record self.old { halted = false } }
     {
         self.halted = false;
-        self.halted_or_stepping = self.single_step;
     }
 
     /// The end of an instruction: sets halted if single step is set.
@@ -282,7 +266,6 @@ impl SpRegs {
         self.broke = self.broke && !bit_set(value, 2);
         self.interrupt = after_clear_set(value, 3, self.interrupt);
         self.single_step = after_clear_set(value, 5, self.single_step);
-        self.halted_or_stepping = self.halted || self.single_step;
         self.intbreak = after_clear_set(value, 7, self.intbreak);
         let [a, b, c, d, e, f, g, h] = self.signals;
         self.signals = [
