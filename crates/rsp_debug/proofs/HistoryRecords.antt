@@ -1,9 +1,9 @@
 -- Records stand for states.
-use Rattle.std.proofs.Common.{◌≡◌, ℕ, zero, suc, ◌+◌, ◌-◌, ◌<◌, ◌≤◌, inl, inr, min, Bool, true, false, not, List, [], ◌∷◌, ◌++◌, length, take, drop, refl, sym, ◌∙◌, ap, arith, add-one, Option, Some, None}
-use Rattle.std.specs.Prelude.{reverse, slice_get, slice_index_or}
-use Rattle.std.proofs.lemmas.Option.{none-some}
+use Rattle.std.proofs.Common.{◌≡◌, ◌⊎◌, ℕ, zero, suc, ◌+◌, ◌-◌, ◌<◌, ◌≤◌, inl, inr, min, Bool, true, false, not, List, [], ◌∷◌, ◌++◌, length, take, drop, refl, sym, ◌∙◌, ap, arith, add-one, Option, Some, None}
+use Rattle.std.specs.Prelude.{reverse, slice_get, slice_set, slice_index_or}
+use Rattle.std.proofs.lemmas.Option.{none-some, slice_get_cases, get_or_from_slice_get}
 use Rattle.std.proofs.Math.Seq.{drop-cons}
-use Rattle.std.proofs.lemmas.List.{drop-drop, length-drop, take_more, take_all, take-take, reverse-append}
+use Rattle.std.proofs.lemmas.List.{drop-drop, drop-set, set-get_or, length-drop, length-take, drop_all, take_more, take_all, take-take, take-set, take-append-drop, reverse-append}
 use Rattle.rsp_machine.specs.State.{State}
 use Rattle.rsp_machine.specs.Step.{step_of}
 use Rattle.rsp_machine.specs.Laws.{steps_of, done_of}
@@ -166,3 +166,64 @@ state_back s past zero h = absurd (omega arith)
 state_back s past (suc n) h = let e : suc n - 1 ≡ n = omega arith in ap (λ i. slice_index_or past i s) e
 
 pub ruleset more = (past_more, state_more, state_back, length-states_before, length-drop)
+
+-- one step, whose record is written at an entry
+length_one : {X : Type 0} (k : ℕ) (ys zs : List X) → k ≡ 1 → length ys ≡ 1 → length zs ≡ 1 → drop k ys ≡ drop k zs
+length_one k ys zs e f h = drop_all k ys (omega (arith, e, f)) ∙ sym (drop_all k zs (omega (arith, e, h)))
+
+pub one-written : (a k count : ℕ) (s t : State) (xs ys : List Saved) → a < length xs → count ≤ length xs → k ≡ 1 → length ys ≡ 1 → done_of k s ≡ k → t ≡ steps_of k s
+    → ((i : ℕ) → i < k → can_undo (record_at ys i).change ≡ not (starts_dma_at (steps_of i s)))
+    → ((i : ℕ) → i < k → starts_dma_at (steps_of i s) ≡ false → undone (record_at ys i) (steps_of (i + 1) s) ≡ steps_of i s)
+    → IsStretch a 1 k count s t xs ys
+one-written a k count s t xs ys room held one len done there which back = record {
+  room = omega (arith, room);
+  held = held;
+  len = len;
+  few = omega (arith, one);
+  rest = length_one k ys (take 1 (drop a xs)) one len (omega (arith, length-take 1 (drop a xs), length-drop a xs, room));
+  done = done;
+  there = there;
+  before = λ i h. absurd (omega (arith, h, one));
+  which = which;
+  back = back;
+}
+
+-- the ring after that
+one_item : (ys : List Saved) (d : Saved) → length ys ≡ 1 → ys ≡ slice_index_or ys 0 d ∷ []
+one_item [] d e = absurd (omega (arith, e))
+one_item (y ∷ []) d e = refl
+one_item (y ∷ z ∷ ys) d e = absurd (omega (arith, e))
+
+pub one-put : (a : ℕ) (d : Saved) (xs ys : List Saved) → a < length xs → length ys ≡ 1 → slice_set xs a (slice_index_or ys 0 d) ≡ take a xs ++ (ys ++ drop (a + 1) xs)
+one-put a d xs ys room one =
+    let r = slice_index_or ys 0 d in
+    sym (take-append-drop a (slice_set xs a r)) ∙ ap (λ l. l ++ drop a (slice_set xs a r)) (take-set xs a r) ∙ ap (λ l. take a xs ++ l) (drop-set xs a r room)
+    ∙ ap (λ l. take a xs ++ (l ++ drop (a + 1) xs)) (sym (one_item ys d one))
+
+pub one-record : (k : ℕ) (d : Saved) (ys : List Saved) → k ≡ 1 → length ys ≡ 1 → slice_index_or ys 0 d ≡ record_at ys (k - 1)
+one-record k d [] one len = absurd (omega (arith, len))
+one-record k d (y ∷ ys) one len = ap (λ i. record_at (y ∷ ys) (i - 1)) (sym one)
+
+pub one-more : (k n : ℕ) (s : State) (past : List State) → k ≡ 1 → history_after_steps k n s past ≡ history_after n s past
+unfolding history_after_steps steps_of
+one-more k n s past e = ap (λ i. history_after_steps i n s past) e
+
+-- and if there was no step
+none_kept : (k : ℕ) (ys zs : List Saved) → k ≡ 0 → drop k ys ≡ drop k zs → ys ≡ zs
+none_kept k ys zs none e = ap (λ i. drop i ys) (sym none) ∙ e ∙ ap (λ i. drop i zs) none
+
+pub none-put : (a k : ℕ) (d : Saved) (xs ys zs : List Saved) → slice_get xs a ≡ Some d → k ≡ 0 → drop k ys ≡ drop k zs → zs ≡ d ∷ [] → slice_set xs a (slice_index_or ys 0 d) ≡ xs
+none-put a k d xs ys zs here none same old =
+    ap (λ l. slice_set xs a (slice_index_or l 0 d)) (none_kept k ys zs none same ∙ old)
+    ∙ ap (slice_set xs a) (sym (get_or_from_slice_get xs a d d here)) ∙ set-get_or xs a d
+
+-- a ring without this entry has none
+past_end : (xs : List Saved) (a : ℕ) → slice_get xs a ≡ None → length xs ≤ a
+past_end xs a e = elim (slice_get_cases xs a).1 [
+  | inl here ↦ absurd (none-some here.0 (sym e ∙ here.2))
+  | inr there ↦ there.0
+]
+
+pub no-entry : (xs : List Saved) (a : ℕ) → slice_get xs a ≡ None → (a ≡ 0) ⊎ (a < length xs) → length xs ≡ 0
+no-entry xs a e (inl start) = omega (arith, past_end xs a e, start)
+no-entry xs a e (inr inside) = absurd (omega (arith, past_end xs a e, inside))

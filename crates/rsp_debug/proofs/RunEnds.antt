@@ -15,12 +15,11 @@ use Rattle.rsp_debug.specs.declared.moves.Moves.{Moves}
 use Rattle.rsp_debug.specs.declared.moves.MoveEnd.{MoveEnd}
 use Rattle.rsp_debug.specs.declared.moves.MoveEnd.TheVariants as end
 use Rattle.rsp_debug.specs.Moves.{no_moves, is_asked, is_at_move, is_limit, steps_to_move, move_by, end_by, move_end_of, end_steps}
-use Rattle.rsp_debug.specs.Runs.{hit_in, found_in}
-use Rattle.rsp_debug.specs.declared.snapshot.Snapshot.{Snapshot}
 use Rattle.rsp_debug.specs.Snapshots.{snapshot_of, watches_of}
 use Rattle.rsp_debug.specs.History.{history_after_steps}
 use Rattle.rsp_debug.specs.Debugging.{Debugging, after_steps, after_run}
 use Rattle.rsp_debug.proofs.Stretches.{made-is}
+use Rattle.rsp_debug.specs.Runs.{has_move, Refuses}
 use Rattle.rsp_debug.specs.declared.stop.Watch.{Watch}
 use Rattle.rsp_debug.specs.declared.stop.Reason.{Reason}
 use Rattle.rsp_debug.specs.declared.stop.Reason.TheVariants.{Reserved, Halted, Watched, Break, Limit}
@@ -88,7 +87,7 @@ least-none test zero none = refl
 least-none test (suc n) none =
     ap (λ b. cond b zero (suc (least (λ i. test (suc i)) n))) (none zero) ∙ ap suc (least-none (λ i. test (suc i)) n (λ k. none (suc k)))
 
-not_next : (halted asked : Bool) → asked ≡ false → not halted && asked ≡ false
+pub not_next : (halted asked : Bool) → asked ≡ false → not halted && asked ≡ false
 not_next true asked e = refl
 not_next false asked e = e
 
@@ -99,20 +98,12 @@ unmoved-stop b w moves n s t stop none given =
     subst (λ (x : ℕ). IsStop b w x s t stop)
     (least-none (λ k. is_at_move no_moves (steps_of k s)) n (λ k. let x = steps_of k s in not_next x.sp.halted _ (never-asked (inst_of (word_at x.imem x.pc))))) is
 
--- where no moves are asked for, none is the limit
-unmoved : (moves : Moves) (s : State) → moves ≡ no_moves → is_at_move moves s ≡ false
+-- where no moves are asked for, none is refused, and none is next
+pub none-refused : (moves : Moves) → moves ≡ no_moves → Refuses (λ row register. false) moves
+none-refused moves none row register = sym (ap (λ (x : Moves). has_move x row register) none ∙ zero_bit (is_write row) register)
+
+pub unmoved : (moves : Moves) (s : State) → moves ≡ no_moves → is_at_move moves s ≡ false
 unmoved moves s none = ap (λ (x : Moves). is_at_move x s) none ∙ not_next s.sp.halted _ (never-asked (inst_of (word_at s.imem s.pc)))
-
-pub unmoved-start : (moves : Moves) (s : State) → moves ≡ no_moves → None ≡ when (is_at_move moves s) Limit
-unmoved-start moves s none = sym (ap (λ b. when b Limit) (unmoved moves s none))
-
-first_alone : (o : Option Reason) → first_of (o ∷ None ∷ []) ≡ o
-first_alone None = refl
-first_alone (Some r) = refl
-
-pub unmoved-found : (b : List Bool) (snapshots : List (Option Snapshot)) (moves : Moves) (s : State) (r : Option Reason) → moves ≡ no_moves → r ≡ hit_in b snapshots s → r ≡ found_in b snapshots moves s
-unmoved-found b snapshots moves s r none e =
-    e ∙ sym (first_alone (hit_in b snapshots s)) ∙ ap (λ o. first_of (hit_in b snapshots s ∷ o ∷ [])) (unmoved-start moves s none)
 
 -- the end of a run that also ends before moves is the one that the definition gives
 pub move-end-is : (b : List Bool) (w : List (Option Watch)) (moves : Moves) (n : ℕ) (s t : State) (stop : Stop) (r : MoveEnd) → IsStop b w (steps_to_move moves n s) s t stop → r ≡ end_by moves stop t

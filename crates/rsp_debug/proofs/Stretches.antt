@@ -1,5 +1,5 @@
 -- Going on by stretches of steps.
-use Rattle.std.proofs.Common.{◌≡◌, ◌≢◌, ℕ, zero, suc, ◌+◌, ◌≤◌, List, refl, ap, sym, ◌∙◌, arith, Bool, true, false, Option, Some, None}
+use Rattle.std.proofs.Common.{◌≡◌, ◌≢◌, ℕ, zero, suc, ◌+◌, List, refl, ap, sym, ◌∙◌, arith, Bool, true, false, Option, Some, None}
 use Rattle.std.specs.Prelude.{is_some, not}
 use Rattle.rsp_machine.specs.State.{State}
 use Rattle.rsp_machine.specs.Step.{step_of}
@@ -40,7 +40,7 @@ past-add k (suc j) n s past =
     ∙ ap (λ (x : State). history_after n x (history_after_steps (k + j) n s past)) (steps-add k j s)
     ∙ ap (history_after n (steps_of j (steps_of k s))) (past-add k j n s past)
 
--- a stretch of at most one step, for a step
+-- a step that isn't Done leaves the machine and the history
 not_done : (e : StepEnd) (b : Bool) (n : ℕ) (s : State) (past : List State) → done_steps e ≡ 0 → history_by e b n s past ≡ past
 not_done end.Done b n s past h = absurd (omega (arith, h))
 not_done end.Halted b n s past h = refl
@@ -62,13 +62,6 @@ single-none k n s t u rs past none there stuck moved kept =
           ∙ sym (not_done (step_of s).0 (starts_dma_at s) n s past (ap (λ (x : State). done_steps (step_of x).0) (sym same) ∙ stuck)),
     )
 
-pub single-done : (k n : ℕ) (s t : State) (rs : List Saved) (past : List State) → k ≢ 0 → k ≤ 1 → IsAfter k s t → states_before t rs ≡ history_after_steps k n s past
-    → (end.Done ≡ (step_of s).0) × (t ≡ (step_of s).1) × (states_before t rs ≡ history_after n s past)
-unfolding steps_of history_after_steps
-single-done k n s t rs past some few after kept =
-    let one : k ≡ 1 = omega (arith, some, few) in
-    (sym (after.done 0 (omega (arith, one))), after.reached ∙ ap (λ i. steps_of i s) one, kept ∙ ap (λ i. history_after_steps i n s past) one)
-
 -- where a step can't be made the machine is stuck
 stuck_by_end : (s : State) (e : StepEnd) → (step_of s).0 ≡ e → done_steps e ≡ 0 → is_some (step_refusal s) ≡ true
 stuck_by_end s end.Done is h = absurd (omega (arith, h))
@@ -77,6 +70,21 @@ stuck_by_end s (end.Reserved w) is h = ap is_some (step-reserved s w is)
 
 pub stuck-is : (s : State) → done_steps (step_of s).0 ≡ 0 → is_some (step_refusal s) ≡ true
 stuck-is s h = stuck_by_end s (step_of s).0 refl h
+
+-- and the code's answer to one
+ends_none : (e : StepEnd) → e ≢ end.Done → done_steps e ≡ 0
+ends_none end.Done other = absurd (other refl)
+ends_none end.Halted other = refl
+ends_none (end.Reserved w) other = refl
+
+pub not-done : (s t : State) (e : StepEnd) → e ≡ (step_of s).0 → t ≡ (step_of s).1 → e ≢ end.Done → (t ≡ s) × (done_steps (step_of s).0 ≡ 0)
+not-done s t e is there other =
+    let none = ends_none e other in
+    (there ∙ not_moved s e (sym is) none, ap done_steps (sym is) ∙ none)
+
+pub not-done-past : (n : ℕ) (s : State) (past : List State) (e : StepEnd) → e ≡ (step_of s).0 → e ≢ end.Done → history_after n s past ≡ past
+unfolding history_after
+not-done-past n s past e is other = not_done (step_of s).0 (starts_dma_at s) n s past (ap done_steps (sym is) ∙ ends_none e other)
 
 -- the parts of a run's loop
 pub no-one : {X : Type 0} (o : Option X) (b : Bool) → is_some o ≡ not b → b ≡ true → o ≡ None

@@ -1,14 +1,15 @@
 -- Scaffolding of proofs: what the loop of a run tests. Stops has the meaning.
-use Rattle.std.specs.Prelude.{◌≡◌, ◌⊎◌, ◌&&◌, ◌||◌, nat_le, nat_lt, ℕ, List, [], ◌∷◌, length, Bool, false, Option, Some, None, option_map}
+use Rattle.std.specs.Prelude.{◌≡◌, ◌⊎◌, ◌==◌, ℕ, List, [], ◌∷◌, length, Bool, false, Option, Some, None, option_map, if◌then◌else◌}
+use Rattle.std.specs.Int.{bit_at}
 use Rattle.rsp_decode.specs.declared.inst.Inst.{Inst}
 use Rattle.rsp_decode.specs.declared.inst.Inst.TheVariants.{MoveSp}
-use Rattle.rsp_decode.specs.Table.{inst_of}
+use Rattle.rsp_decode.specs.declared.scalar.MoveOp.{MoveOp}
 use Rattle.rsp_machine.specs.State.{State}
+use Rattle.rsp_machine.specs.Pass.{is_write}
 use Rattle.rsp_debug.specs.declared.snapshot.Snapshot.{Snapshot}
 use Rattle.rsp_debug.specs.declared.stop.Reason.{Reason}
-use Rattle.rsp_debug.specs.declared.stop.Reason.TheVariants.{Reserved, Halted, Watched, Break, Limit}
+use Rattle.rsp_debug.specs.declared.stop.Reason.TheVariants.{Reserved, Halted, Watched, Break}
 use Rattle.rsp_debug.specs.declared.moves.Moves.{Moves}
-use Rattle.rsp_debug.specs.Moves.{is_asked, is_at_move}
 use Rattle.rsp_debug.specs.Stops.{is_reserved, is_break, when, first_of}
 use Rattle.rsp_debug.specs.Snapshots.{differs}
 
@@ -17,9 +18,9 @@ abbrev pub move_of : Option Inst → Option Inst
 move_of (Some (MoveSp row rt r)) = Some (MoveSp row rt r)
 move_of _ = None
 
--- whether a number is in the range of MFC0 and MTC0, or no word
-abbrev pub may_be_move : ℕ → Bool
-may_be_move w = (nat_le 0x40000000 w && nat_lt w 0x40a00000) || nat_le 0x100000000 w
+-- whether a move is one of some moves, by its direction and its SP register
+abbrev pub has_move : Moves → MoveOp → ℕ → Bool
+has_move moves row register = bit_at (if is_write row then moves.writes else moves.reads) register == 1
 
 -- why a machine can't make a step
 abbrev pub step_refusal : State → Option Reason
@@ -29,12 +30,12 @@ step_refusal s = first_of (when (is_reserved s) Reserved ∷ when s.sp.halted Ha
 abbrev pub hit_in : List Bool → List (Option Snapshot) → State → Option Reason
 hit_in breaks snapshots s = first_of (option_map Watched (differs snapshots s.dmem) ∷ when (is_break breaks s.pc) Break ∷ [])
 
--- and, after these, the limit if a move is next
-abbrev pub found_in : List Bool → List (Option Snapshot) → Moves → State → Option Reason
-found_in breaks snapshots moves s = first_of (hit_in breaks snapshots s ∷ when (is_at_move moves s) Limit ∷ [])
+-- A test ends a stretch of steps wherever there may be a watch or a breakpoint to stop at: if it doesn't, pc has no breakpoint, and the
+-- step before left DMEM as it was, or there are no watches.
+abbrev pub Asks : (ℕ → ℕ → Bool → Bool) → List Bool → List (Option Snapshot) → Type 0
+Asks ends breaks snapshots = (pc word : ℕ) (stored : Bool) → ends pc word stored ≡ false
+    → (is_break breaks pc ≡ false) × ((stored ≡ false) ⊎ (length snapshots ≡ 0))
 
--- A test ends a stretch of steps wherever there may be a reason to stop: if it doesn't, pc has no breakpoint, the word is none of the
--- moves, and the step before left DMEM as it was, or there are no watches.
-abbrev pub Asks : (ℕ → ℕ → Bool → Bool) → List Bool → List (Option Snapshot) → Moves → Type 0
-Asks ends breaks snapshots moves = (pc word : ℕ) (stored : Bool) → ends pc word stored ≡ false
-    → (is_break breaks pc ≡ false) × (is_asked moves (inst_of word) ≡ false) × ((stored ≡ false) ⊎ (length snapshots ≡ 0))
+-- A test refuses exactly some moves.
+abbrev pub Refuses : (MoveOp → ℕ → Bool) → Moves → Type 0
+Refuses refuses moves = (row : MoveOp) (register : ℕ) → refuses row register ≡ has_move moves row register

@@ -1,13 +1,15 @@
 // What ends a run between two of its steps.
 
-ghost use Rattle.std.specs.Prelude.{◌≡◌, length};
-ghost use Rattle.rsp_debug.specs.Runs.{hit_in, found_in};
+ghost use Rattle.std.specs.Prelude.{◌≡◌, ◌==◌, ◌&&◌, length};
+ghost use Rattle.rsp_debug.specs.Breaks.{break_count};
+ghost use Rattle.rsp_debug.specs.Runs.{hit_in};
 
 use crate::breaks::Breaks;
 use crate::moves::Moves;
 use crate::snapshot::{Snapshot, differs};
 use crate::stop::Reason;
 use rsp_acc::Acc;
+use rsp_decode::MoveOp;
 use rsp_machine::{Machine, Until};
 
 /// The bytes of DMEM.
@@ -30,6 +32,13 @@ pub(crate) struct StopConditions<'a> {
 }
 
 impl<'a> StopConditions<'a> {
+    /// Whether there is neither a breakpoint nor a watch.
+    pub(crate) fn is_empty(&self) -> bool
+        ensures { result ≡ ((break_count self.now.breaks.now == 0) && (length self.now.snapshots.now == 0)) }
+    {
+        self.breaks.is_empty() && self.snapshots.is_empty()
+    }
+
     /// The watch or the breakpoint that ends a run after a step.
     #[inline(always)]
     #[tactic(auto, using(crate::proofs::Hits::hits))]
@@ -44,31 +53,24 @@ impl<'a> StopConditions<'a> {
         }
         None
     }
-
-    /// The reason that ends a run after a step. Before a move it is the limit.
-    #[inline(always)]
-    pub(crate) fn found<A: Acc>(&self, machine: &Machine<A>) -> Option<Reason>
-        ensures { result ≡ found_in self.now.breaks.now self.now.snapshots.now self.now.moves machine.now }
-    {
-        match self.hit(machine) {
-            Some(reason) => Some(reason),
-            None => self.moves.limit(machine),
-        }
-    }
 }
 
 impl<'a> Until for StopConditions<'a> {
     ghost use Rattle.std.specs.Prelude.{◌||◌, ◌&&◌, ◌==◌, not, length};
-    ghost use Rattle.rsp_decode.specs.Table.{inst_of};
     ghost use Rattle.rsp_debug.specs.Stops.{is_break};
-    ghost use Rattle.rsp_debug.specs.Moves.{is_asked};
+    ghost use Rattle.rsp_debug.specs.Runs.{has_move};
 
-    ghost ends = { λ s pc word stored. is_break s.breaks.now pc || (stored && not (length s.snapshots.now == 0)) || is_asked s.moves (inst_of word) };
+    ghost ends = { λ s pc word stored. is_break s.breaks.now pc || (stored && not (length s.snapshots.now == 0)) };
+
+    ghost refuses = { λ s row register. has_move s.moves row register };
 
     #[inline(always)]
-    fn ends(&self, pc: u16, word: u32, stored: bool) -> bool {
-        self.breaks.contains(pc)
-            || (stored && !self.snapshots.is_empty())
-            || self.moves.has_word(word)
+    fn ends(&self, pc: u16, _word: u32, stored: bool) -> bool {
+        self.breaks.contains(pc) || (stored && !self.snapshots.is_empty())
+    }
+
+    #[inline(always)]
+    fn refuses(&self, row: MoveOp, register: u8) -> bool {
+        self.moves.refuses(row, register)
     }
 }

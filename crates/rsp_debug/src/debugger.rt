@@ -17,7 +17,7 @@ use crate::run::run;
 use crate::stop::Stop;
 use crate::watches::{NoWatch, WatchFault, Watches};
 use rsp_acc::Acc;
-use rsp_machine::{Machine, Never, StepEnd};
+use rsp_machine::{Machine, StepEnd};
 use std::alloc::{AllocError, Global};
 use std::marker::Model;
 
@@ -105,10 +105,7 @@ impl<A: Acc> Debugger<A> {
         ensures answer { result ≡ (step_of self.old.state).0 }
         ensures next { self.new ≡ after_debugger_step self.old }
     {
-        if self.history.stretch(&mut self.machine, 1, &Never) == 0 {
-            return self.machine.step();
-        }
-        StepEnd::Done
+        self.history.step(&mut self.machine)
     }
 
     /// Adds a breakpoint at an address of IMEM, a multiple of 4 below 4096: a run stops when a step leads there. BreakTwice if the

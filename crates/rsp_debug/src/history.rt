@@ -1,12 +1,16 @@
 // The records of the last steps, which undo them.
 
 ghost use Rattle.std.specs.Prelude.{◌≡◌, ◌<◌, ◌≤◌, [], length, drop, slice_get, option_copied, IfOk};
-ghost use Rattle.rsp_debug.specs.History.{previous_entry};
+ghost use Rattle.rsp_machine.specs.Step.{step_of};
+ghost use Rattle.rsp_debug.specs.Undoable.{history_after};
+ghost use Rattle.rsp_debug.specs.History.{previous_entry, states_before};
 
 use circular_buffer::HeapCircularBuffer;
-use rsp_machine::Record;
+use rsp_acc::Acc;
+use rsp_machine::{Machine, Record, StepEnd};
 use std::alloc::{AllocError, Global};
 use std::marker::Model;
+use std::slice;
 
 /// The records of the last steps, in a ring. Its entries are all allocated at the start, and written in place in the order of the
 /// steps. Contracts see the records, the newest first, and how many there may be.
@@ -86,6 +90,46 @@ impl History {
         ensures { option_copied result ≡ slice_get self.now.newest 0 }
     {
         self.slots.get(previous_entry(self.slots.len(), self.next))
+    }
+
+    /// Makes one step of a machine, and with a depth other than 0 keeps its record.
+    #[inline(always)]
+    pub fn step<A: Acc>(&mut self, machine: &mut Machine<A>) -> StepEnd
+        ensures answer { result ≡ (step_of machine.old).0 }
+        ensures state { machine.new ≡ (step_of machine.old).1 }
+        ensures past { states_before machine.new self.new.newest ≡ history_after self.old.depth machine.old (states_before machine.old self.old.newest) }
+        ensures depth { self.new.depth ≡ self.old.depth }
+    {
+        if self.slots.is_empty() {
+            return machine.step();
+        }
+        self.recorded_step(machine)
+    }
+
+    /// As [`History::step`], without a test for a depth of 0 ahead: that there is no entry shows it. So a loop of such steps keeps
+    /// more in registers of the host.
+    #[inline(always)]
+    pub fn recorded_step<A: Acc>(&mut self, machine: &mut Machine<A>) -> StepEnd
+        ensures answer { result ≡ (step_of machine.old).0 }
+        ensures state { machine.new ≡ (step_of machine.old).1 }
+        ensures past { states_before machine.new self.new.newest ≡ history_after self.old.depth machine.old (states_before machine.old self.old.newest) }
+        ensures depth { self.new.depth ≡ self.old.depth }
+    {
+        let depth = self.slots.len();
+        let entry = if self.next == depth { 0 } else { self.next };
+        let Some(record) = self.slots.get_mut(entry) else {
+            return machine.step();
+        };
+        if machine.steps_recorded(slice::from_mut(record)) == 0 {
+            return machine.step();
+        }
+        self.count = if record.can_undo() {
+            (self.count + 1).min(depth)
+        } else {
+            0
+        };
+        self.next = entry + 1;
+        StepEnd::Done
     }
 
     /// Drops the newest record. There must be one.

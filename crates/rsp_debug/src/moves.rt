@@ -1,11 +1,9 @@
 // Moves between the scalar registers and the SP registers, before which a run can end.
 
-ghost use Rattle.std.specs.Prelude.{◌≡◌, ◌==◌, ◌&&◌, IsTrue, IfSome, is_none};
+ghost use Rattle.std.specs.Prelude.{◌≡◌, ◌<◌, ◌==◌, ◌&&◌, IsTrue, IfSome, is_none};
 ghost use Rattle.rsp_decode.specs.Table.{inst_of, IsInstruction};
-ghost use Rattle.rsp_debug.specs.Stops.{when};
-ghost use Rattle.rsp_debug.specs.Moves.{no_moves, is_asked, is_at_move, end_by};
-ghost use Rattle.rsp_debug.specs.Runs.{move_of, may_be_move};
-ghost use Rattle.rsp_debug.specs.declared.stop.Reason.TheVariants.{Limit};
+ghost use Rattle.rsp_debug.specs.Moves.{no_moves, end_by};
+ghost use Rattle.rsp_debug.specs.Runs.{move_of, has_move};
 
 use crate::stop::{Reason, Stop};
 use rsp_acc::Acc;
@@ -49,7 +47,7 @@ struct KeptMove {
 
 impl Visitor for KeptMove {
     ghost use Rattle.std.specs.Prelude.{Some};
-    ghost use Rattle.rsp_debug.specs.Runs.{move_of, may_be_move};
+    ghost use Rattle.rsp_debug.specs.Runs.{move_of};
 
     ghost after = { λ i _. record { inst = move_of (Some i) } };
 
@@ -81,14 +79,6 @@ pub(crate) fn is_reserved(word: u32) -> bool
     !visit(word, &mut KeptMove { inst: None })
 }
 
-/// Whether a word is in the range of MFC0 and MTC0. Most words aren't.
-#[inline(always)]
-fn may_be_move(word: u32) -> bool
-    ensures { result ≡ may_be_move word }
-{
-    0x4000_0000 <= word && word < 0x40a0_0000
-}
-
 impl Moves {
     /// No move.
     pub(crate) fn none() -> Moves
@@ -108,48 +98,16 @@ impl Moves {
         self.reads == 0 && self.writes == 0
     }
 
-    /// Whether a word is one of them. Most words are outside of the range of MFC0 and MTC0.
+    /// Whether a move of an SP register is one of them.
     #[inline(always)]
-    #[tactic(auto, using(crate::proofs::Moving::moving))]
-    pub(crate) fn has_word(self, word: u32) -> bool
-        ensures { result ≡ is_asked self (inst_of word) }
+    fn has_move(self, row: MoveOp, register: u8) -> bool
+        requires { register < 16 }
+        ensures { result ≡ has_move self row register }
     {
-        may_be_move(word) && self.has_move(word)
-    }
-
-    /// Whether a word is one of them, by its instruction.
-    #[cold]
-    #[inline(never)]
-    #[tactic(auto, using(crate::proofs::Moving::moving))]
-    fn has_move(self, word: u32) -> bool
-        ensures { result ≡ is_asked self (inst_of word) }
-    {
-        match move_of(word) {
-            Some(Inst::MoveSp { row, register, .. }) => match row {
-                MoveOp::From => self.reads >> register & 1 == 1,
-                MoveOp::To => self.writes >> register & 1 == 1,
-            },
-            _ => false,
+        match row {
+            MoveOp::From => self.reads >> register & 1 == 1,
+            MoveOp::To => self.writes >> register & 1 == 1,
         }
-    }
-
-    /// Whether a machine that isn't halted executes one of them next.
-    pub(crate) fn are_next<A: Acc>(self, machine: &Machine<A>) -> bool
-        ensures { result ≡ is_at_move self machine.now }
-    {
-        !self.is_empty()
-            && !machine.sp_regs().halted()
-            && self.has_word(machine.imem().aligned_word(usize::from(machine.pc())))
-    }
-
-    /// The limit, if one of them is next.
-    pub(crate) fn limit<A: Acc>(self, machine: &Machine<A>) -> Option<Reason>
-        ensures { result ≡ when (is_at_move self machine.now) Limit }
-    {
-        if self.are_next(machine) {
-            return Some(Reason::Limit);
-        }
-        None
     }
 
     /// The end of a run that made no more steps than to the first of the moves.
@@ -157,30 +115,39 @@ impl Moves {
     pub(crate) fn end<A: Acc>(self, stop: Stop, machine: &Machine<A>) -> MoveEnd
         ensures { result ≡ end_by self stop machine.now }
     {
-        if !matches!(stop.reason, Reason::Limit) || !self.are_next(machine) {
+        if !matches!(stop.reason, Reason::Limit) || machine.sp_regs().halted() {
             return MoveEnd::Stop(stop);
         }
         match move_of(machine.imem().aligned_word(usize::from(machine.pc()))) {
-            Some(Inst::MoveSp { row, rt, register }) => MoveEnd::Move {
-                steps: stop.steps,
-                pc: stop.pc,
-                register,
-                writes: matches!(row, MoveOp::To),
-                value: machine.reg(rt),
-            },
+            Some(Inst::MoveSp { row, rt, register }) if self.has_move(row, register) => {
+                MoveEnd::Move {
+                    steps: stop.steps,
+                    pc: stop.pc,
+                    register,
+                    writes: matches!(row, MoveOp::To),
+                    value: machine.reg(rt),
+                }
+            }
             _ => MoveEnd::Stop(stop),
         }
     }
 }
 
 impl Until for Moves {
-    ghost use Rattle.rsp_debug.specs.Runs.{may_be_move};
+    ghost use Rattle.std.specs.Prelude.{false};
+    ghost use Rattle.rsp_debug.specs.Runs.{has_move};
 
-    ghost ends = { λ m pc word stored. may_be_move word };
+    ghost ends = { λ m pc word stored. false };
 
-    // It ends steps at other moves too: a call in the loop would cost it registers of the host, and a run goes on after them.
+    ghost refuses = { λ m row register. has_move m row register };
+
     #[inline(always)]
-    fn ends(&self, _pc: u16, word: u32, _stored: bool) -> bool {
-        may_be_move(word)
+    fn ends(&self, _pc: u16, _word: u32, _stored: bool) -> bool {
+        false
+    }
+
+    #[inline(always)]
+    fn refuses(&self, row: MoveOp, register: u8) -> bool {
+        self.has_move(row, register)
     }
 }

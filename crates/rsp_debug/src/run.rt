@@ -1,16 +1,16 @@
 // Runs, which make steps in stretches. After each stretch a run tests whether there is a reason to stop.
 
-ghost use Rattle.std.specs.Prelude.{◌≡◌, ◌<◌, ◌≤◌, ◌+◌, ◌-◌, ℕ, true, false, None, length, drop, slice_index_or, unwrap_or};
+ghost use Rattle.std.specs.Prelude.{◌≡◌, ◌<◌, ◌≤◌, ◌+◌, ◌-◌, ◌⊎◌, ℕ, true, false, None, length, drop, slice_index_or, unwrap_or};
 ghost use Rattle.rsp_machine.specs.Step.{step_of};
 ghost use Rattle.rsp_machine.specs.Laws.{steps_of, done_steps};
 ghost use Rattle.rsp_machine.specs.Undo.{record_at, can_undo};
-ghost use Rattle.rsp_machine.specs.Until.{ends_after};
+ghost use Rattle.rsp_machine.specs.Until.{ends_after, refuses_at};
 ghost use Rattle.rsp_debug.specs.Calls.{IsAfter};
 ghost use Rattle.rsp_debug.specs.Stops.{IsStop};
 ghost use Rattle.rsp_debug.specs.Moves.{steps_to_move};
 ghost use Rattle.rsp_debug.specs.Snapshots.{differs, watches_of};
 ghost use Rattle.rsp_debug.specs.History.{states_before, history_after_steps};
-ghost use Rattle.rsp_debug.specs.Runs.{step_refusal, Asks};
+ghost use Rattle.rsp_debug.specs.Runs.{step_refusal, Asks, Refuses};
 
 use crate::breaks::Breaks;
 use crate::conditions::{StopConditions, dmem_bytes};
@@ -31,14 +31,16 @@ fn can_undo(records: &[Record], made: usize) -> bool
 }
 
 impl History {
-    /// Makes 1 to `n` steps of a machine, or none if the next one isn't Done. Returns how many. With a depth other than 0 it keeps
-    /// their records. It stops early at the ring's last entry, after a step that starts a DMA, or if `until` ends it.
+    /// Makes 1 to `n` steps of a machine, or none if the next one isn't Done or `until` refuses it. Returns how many. With a depth
+    /// other than 0 it keeps their records. It stops early at the ring's last entry, after a step that starts a DMA, or if `until`
+    /// ends it or refuses the next step.
     pub fn stretch<A: Acc, U: Until>(&mut self, machine: &mut Machine<A>, n: u32, until: &U) -> u32
         requires { 0 < n }
         ensures within { result ≤ n }
         ensures after { IsAfter result machine.old machine.new }
-        ensures stuck { result ≡ 0 → done_steps (step_of machine.new).0 ≡ 0 }
+        ensures stuck { result ≡ 0 → (done_steps (step_of machine.new).0 ≡ 0) ⊎ (refuses_at (U.refuses until.now) machine.new ≡ true) }
         ensures asked { (i : ℕ) → i + 1 < result → ends_after (U.ends until.now) (steps_of i machine.old) ≡ false }
+        ensures permitted { (i : ℕ) → i < result → refuses_at (U.refuses until.now) (steps_of i machine.old) ≡ false }
         ensures past { states_before machine.new self.new.newest ≡ history_after_steps result self.old.depth machine.old (states_before machine.old self.old.newest) }
         ensures depth { self.new.depth ≡ self.old.depth }
     {
@@ -100,7 +102,7 @@ pub(crate) fn stopped_here<A: Acc>(machine: &Machine<A>, otherwise: Reason, step
     }
 }
 
-/// Runs until one of the conditions holds. `until` ends a stretch of steps wherever one may hold.
+/// Runs until one of the conditions holds. `until` ends a stretch of steps wherever one may hold, and refuses the moves.
 fn run_to<A: Acc, U: Until>(
     machine: &mut Machine<A>,
     history: &mut History,
@@ -109,22 +111,42 @@ fn run_to<A: Acc, U: Until>(
     n: u32,
 ) -> Stop
     requires same { differs conditions.now.snapshots.now machine.old.dmem ≡ None }
-    requires asks { Asks (U.ends until.now) conditions.now.breaks.now conditions.now.snapshots.now conditions.now.moves }
+    requires asks { Asks (U.ends until.now) conditions.now.breaks.now conditions.now.snapshots.now }
+    requires refuses { Refuses (U.refuses until.now) conditions.now.moves }
     ensures stop { IsStop conditions.now.breaks.now (watches_of conditions.now.snapshots.now) (steps_to_move conditions.now.moves n machine.old) machine.old machine.new result }
     ensures past { states_before machine.new history.new.newest ≡ history_after_steps result.steps history.old.depth machine.old (states_before machine.old history.old.newest) }
     ensures depth { history.new.depth ≡ history.old.depth }
 {
     let mut left = n;
-    let mut found = conditions.moves.limit(machine);
+    let mut found = None;
     while left > 0 && found.is_none() {
         let steps = history.stretch(machine, left, until);
         if steps == 0 {
             break;
         }
         left -= steps;
-        found = conditions.found(machine);
+        found = conditions.hit(machine);
     }
     stopped_here(machine, found.unwrap_or(Reason::Limit), n - left)
+}
+
+/// [`run_to`] without a history and where only moves end a run. Then nothing is kept or tested between two steps, and one call makes
+/// them all.
+fn run_unrecorded<A: Acc>(
+    machine: &mut Machine<A>,
+    history: &History,
+    conditions: &StopConditions,
+    n: u32,
+) -> Stop
+    requires unkept { history.now.depth ≡ 0 }
+    requires same { differs conditions.now.snapshots.now machine.old.dmem ≡ None }
+    requires asks { Asks (λ pc word stored. false) conditions.now.breaks.now conditions.now.snapshots.now }
+    ensures stop { IsStop conditions.now.breaks.now (watches_of conditions.now.snapshots.now) (steps_to_move conditions.now.moves n machine.old) machine.old machine.new result }
+    ensures past { states_before machine.new history.now.newest ≡ history_after_steps result.steps history.now.depth machine.old (states_before machine.old history.now.newest) }
+{
+    let _ = history.len();
+    let steps = machine.steps_until(u64::from(n), &conditions.moves) as u32;
+    stopped_here(machine, Reason::Limit, steps)
 }
 
 /// [`run`] with watches.
@@ -176,6 +198,9 @@ pub fn run<A: Acc>(
     }
     if moves.is_empty() {
         return run_to(machine, history, &conditions, &Never, n);
+    }
+    if history.depth() == 0 {
+        return run_unrecorded(machine, history, &conditions, n);
     }
     run_to(machine, history, &conditions, &moves, n)
 }

@@ -18,7 +18,7 @@ use crate::stop::{Reason, Stop};
 use crate::trace_entry::{TraceEntry, entry_of};
 use crate::watches::Watches;
 use rsp_acc::Acc;
-use rsp_machine::{Machine, Never};
+use rsp_machine::{Machine, StepEnd};
 
 /// Runs to breakpoints and watches, and writes an entry for each step.
 fn trace_to<A: Acc>(
@@ -37,18 +37,21 @@ fn trace_to<A: Acc>(
     ensures rest { drop result.steps out.new ≡ drop result.steps out.old }
 {
     let n = out.len();
+    let tests = !conditions.is_empty();
     let mut made = 0;
     let mut found = None;
     while made < n && found.is_none() {
         let pc = machine.pc();
         let word = machine.imem().aligned_word(usize::from(pc));
         let effect = machine.effect();
-        if history.stretch(machine, 1, &Never) == 0 {
+        let StepEnd::Done = history.recorded_step(machine) else {
             break;
-        }
+        };
         out[made] = entry_of(pc, word, effect, machine);
+        if tests {
+            found = conditions.hit(machine);
+        }
         made += 1;
-        found = conditions.hit(machine);
     }
     stopped_here(machine, found.unwrap_or(Reason::Limit), made as u32)
 }

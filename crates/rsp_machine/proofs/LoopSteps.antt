@@ -1,9 +1,11 @@
 -- Steps that are made one by one.
-use Rattle.std.proofs.Common.{◌≡◌, ◌≢◌, inl, inr, ℕ, zero, suc, ◌+◌, ◌-◌, ◌<◌, ◌≤◌, Bool, true, false, List, [], ◌∷◌, length, set, get_or, refl, sym, ap, subst, ◌∙◌, arith, Option, Some, None}
+use Rattle.std.proofs.Common.{◌≡◌, ◌≢◌, inl, inr, ℕ, zero, suc, ◌+◌, ◌-◌, ◌<◌, ◌≤◌, Bool, true, false, List, [], ◌∷◌, length, set, get_or, refl, sym, ap, subst, ◌∙◌, arith, cond, Option, Some, None}
 use Rattle.std.specs.Prelude.{if◌then◌else◌, not, ◌||◌, ◌&&◌, ◌⊎◌, slice_get}
 use Rattle.std.proofs.lemmas.Bool.{cases_lt, not-true, not-false}
 use Rattle.std.proofs.lemmas.List.{length-set, set-get_or}
 use Rattle.rsp_decode.specs.declared.inst.Inst.{Inst}
+use Rattle.rsp_decode.specs.declared.inst.Inst.TheVariants.{MoveSp}
+use Rattle.rsp_decode.specs.declared.scalar.MoveOp.{MoveOp}
 use Rattle.rsp_decode.specs.Table.{inst_of}
 use Rattle.rsp_memory.specs.Memory.{word_at}
 use Rattle.rsp_machine.specs.State.{State}
@@ -18,7 +20,7 @@ use Rattle.rsp_machine.specs.declared.change.Change.{Change}
 use Rattle.rsp_machine.specs.declared.change.Reach.{Reach}
 use Rattle.rsp_machine.specs.declared.step.StepEnd.{StepEnd}
 use Rattle.rsp_machine.specs.declared.step.StepEnd.TheVariants.{Done, Halted, Reserved}
-use Rattle.rsp_machine.specs.Until.{may_store_at, ends_after}
+use Rattle.rsp_machine.specs.Until.{may_store_at, ends_after, refuses_by, refuses_at, permitted}
 use Rattle.rsp_machine.proofs.OneStep.{reached, after, stays, free, clear_as, clear_behind, halted_as, stored-as, dma-as, dma-free, step_halted, step_reserved, step_done}
 
 -- no step, and one more
@@ -97,19 +99,31 @@ stuck_done_all k n s t m h e =
     omega (arith, rest, done_add k (n - k) s, there, stuck_done (n - k) t e, m.done)
 
 -- What execute answers and leaves, of a machine s that isn't halted.
-pub record IsExecuted (w : ℕ) (s t : State) (r : Option Reach) : Type 0 where
+pub record IsExecuted (refuses : MoveOp → ℕ → Bool) (w : ℕ) (s t : State) (r : Option Reach) : Type 0 where
   pub goes : s.sp.halted ≡ false
   pub word : w ≡ word_at s.imem s.pc
-  pub answer : r ≡ reached s (inst_of w)
-  pub state : t ≡ after s (inst_of w)
+  pub answer : r ≡ reached s (permitted refuses (inst_of w))
+  pub state : t ≡ after s (permitted refuses (inst_of w))
 
-pub executed-as : (w : ℕ) (p q : ProgramCounters) (l v : State) (r : Option Reach) → l.sp.halted ≡ false → w ≡ word_at l.imem p.pc → r ≡ reached (with_counters p l) (inst_of w)
-    → with_counters q v ≡ after (with_counters p l) (inst_of w) → IsExecuted w (with_counters p l) (with_counters q v) r
-executed-as w p q l v r goes word answer state = record { goes = goes; word = word; answer = answer; state = state }
+pub executed-as : (refuses : MoveOp → ℕ → Bool) (w : ℕ) (p q : ProgramCounters) (l v : State) (r : Option Reach) → l.sp.halted ≡ false → w ≡ word_at l.imem p.pc
+    → r ≡ reached (with_counters p l) (permitted refuses (inst_of w)) → with_counters q v ≡ after (with_counters p l) (permitted refuses (inst_of w))
+    → IsExecuted refuses w (with_counters p l) (with_counters q v) r
+executed-as refuses w p q l v r goes word answer state = record { goes = goes; word = word; answer = answer; state = state }
+
+-- what is executed isn't refused, so it is the instruction of the word
+allowed_by : (refused : Bool) (o : Option Inst) (s : State) (r : Option Reach) (e : Reach) → r ≡ reached s (cond refused None o) → r ≡ Some e → refused ≡ false
+allowed_by true o s r e answer some = cc
+allowed_by false o s r e answer some = refl
+
+allowed : (refuses : MoveOp → ℕ → Bool) (w : ℕ) (s t : State) (r : Option Reach) (e : Reach) → IsExecuted refuses w s t r → r ≡ Some e → refuses_by refuses (inst_of w) ≡ false
+allowed refuses w s t r e h some = allowed_by (refuses_by refuses (inst_of w)) (inst_of w) s r e h.answer some
+
+permitted_is : (refuses : MoveOp → ℕ → Bool) (w : ℕ) (s t : State) (r : Option Reach) (e : Reach) → IsExecuted refuses w s t r → r ≡ Some e → permitted refuses (inst_of w) ≡ inst_of w
+permitted_is refuses w s t r e h some = ap (λ b. cond b None (inst_of w)) (allowed refuses w s t r e h some)
 
 -- and in which state the step then ends
-pub record IsTurn (w : ℕ) (s t u : State) (r : Option Reach) (e : Reach) (single : Bool) : Type 0 where
-  pub executed : IsExecuted w s t r
+pub record IsTurn (refuses : MoveOp → ℕ → Bool) (w : ℕ) (s t u : State) (r : Option Reach) (e : Reach) (single : Bool) : Type 0 where
+  pub executed : IsExecuted refuses w s t r
   pub some : r ≡ Some e
   pub clear : single ≡ false → s.sp.single_step ≡ false
   pub ended : u ≡ (if e.sp || single then after_single_step t else t)
@@ -118,10 +132,11 @@ ended_at : (b : Bool) (p : ProgramCounters) (s t : State) → s ≡ (if b then a
 ended_at true p s t e = ap (with_counters p) e
 ended_at false p s t e = ap (with_counters p) e
 
-pub turn-of : (w : ℕ) (p q : ProgramCounters) (l v m : State) (r : Option Reach) (e : Reach) (single : Bool) → l.sp.halted ≡ false → w ≡ word_at l.imem p.pc → r ≡ reached (with_counters p l) (inst_of w)
-    → with_counters q v ≡ after (with_counters p l) (inst_of w) → r ≡ Some e → (single ≡ false → l.sp.single_step ≡ false) → m ≡ (if e.sp || single then after_single_step v else v)
-    → IsTurn w (with_counters p l) (with_counters q v) (with_counters q m) r e single
-turn-of w p q l v m r e single goes word answer state some clear ended = record {
+pub turn-of : (refuses : MoveOp → ℕ → Bool) (w : ℕ) (p q : ProgramCounters) (l v m : State) (r : Option Reach) (e : Reach) (single : Bool) → l.sp.halted ≡ false → w ≡ word_at l.imem p.pc
+    → r ≡ reached (with_counters p l) (permitted refuses (inst_of w)) → with_counters q v ≡ after (with_counters p l) (permitted refuses (inst_of w)) → r ≡ Some e
+    → (single ≡ false → l.sp.single_step ≡ false) → m ≡ (if e.sp || single then after_single_step v else v)
+    → IsTurn refuses w (with_counters p l) (with_counters q v) (with_counters q m) r e single
+turn-of refuses w p q l v m r e single goes word answer state some clear ended = record {
   executed = record { goes = goes; word = word; answer = answer; state = state };
   some = some;
   clear = clear;
@@ -148,24 +163,31 @@ stops-by false true true goes r e f = inl refl
 stops-by false true false goes r e f = inr (sym e ∙ f)
 stops-by false false halted goes r e f = cc
 
-module _ (w : ℕ) (s t u : State) (r : Option Reach) (e : Reach) (single : Bool) (h : IsTurn w s t u r e single) where
+module _ (refuses : MoveOp → ℕ → Bool) (w : ℕ) (s t u : State) (r : Option Reach) (e : Reach) (single : Bool) (h : IsTurn refuses w s t u r e single) where
   turn_answer : Some e ≡ reached s (inst_of w)
-  turn_answer = sym h.some ∙ h.executed.answer
+  turn_answer = sym h.some ∙ h.executed.answer ∙ ap (reached s) (permitted_is refuses w s t r e h.executed h.some)
+
+  turn_state : t ≡ after s (inst_of w)
+  turn_state = h.executed.state ∙ ap (after s) (permitted_is refuses w s t r e h.executed h.some)
+
+  pub turn-permitted : refuses_at refuses s ≡ false
+  unfolding refuses_at
+  turn-permitted = ap (λ v. refuses_by refuses (inst_of v)) (sym h.executed.word) ∙ allowed refuses w s t r e h.executed h.some
 
   -- an instruction that doesn't reach the SP registers leaves them, and single step halts nothing where it is clear
   turn_free : (e.sp ≡ false) × (single ≡ false) → t ≡ after_single_step t
   turn_free none =
-      let same = stays (inst_of w) s t e none.0 turn_answer h.executed.state in
+      let same = stays (inst_of w) s t e none.0 turn_answer turn_state in
       free s t h.executed.goes same (clear_as s t (h.clear none.1) same)
 
   turn_ended : after_single_step t ≡ u
   turn_ended = ended_by e.sp single t u h.ended turn_free
 
   turn_same : (e.sp ≡ false) × (single ≡ false) → u.sp ≡ s.sp
-  turn_same none = ap (λ (x : State). x.sp) (sym turn_ended ∙ sym (turn_free none)) ∙ stays (inst_of w) s t e none.0 turn_answer h.executed.state
+  turn_same none = ap (λ (x : State). x.sp) (sym turn_ended ∙ sym (turn_free none)) ∙ stays (inst_of w) s t e none.0 turn_answer turn_state
 
   pub turn-done : step_of s ≡ (Done, u)
-  turn-done = step_done w s t e h.executed.goes h.executed.word turn_answer h.executed.state ∙ ap (λ (x : State). (Done, x)) turn_ended
+  turn-done = step_done w s t e h.executed.goes h.executed.word turn_answer turn_state ∙ ap (λ (x : State). (Done, x)) turn_ended
 
   pub turn-running : ((e.sp ≡ false) × (single ≡ false)) ⊎ (u.sp.halted ≡ false) → u.sp.halted ≡ false
   turn-running (inl none) = sym (halted_as s u h.executed.goes (turn_same none))
@@ -194,17 +216,38 @@ module _ (w : ℕ) (s t u : State) (r : Option Reach) (e : Reach) (single : Bool
       ∙ ap (λ n. ends u.pc n (may_store_at s)) (sym is)
       ∙ ap (ends u.pc v) (sym (stored-as w s e h.executed.word turn_answer))
 
--- a reserved word, which changes nothing
+-- what is refused at none of k steps, and at none of k + 1
+pub permitted-more : (refuses : MoveOp → ℕ → Bool) (o s : State) (k n j : ℕ) → ((i : ℕ) → i < k → refuses_at refuses (steps_of i o) ≡ false) → s ≡ steps_of k o → refuses_at refuses s ≡ false
+    → n ≡ k + 1 → j < n → refuses_at refuses (steps_of j o) ≡ false
+permitted-more refuses o s k n j before there here more less = elim (cases_lt j k) [
+  | inl earlier ↦ before j earlier
+  | inr now ↦
+      let last : k ≡ j = omega (arith, now, less, more) in
+      subst (λ (i : ℕ). refuses_at refuses (steps_of i o) ≡ false) last (ap (refuses_at refuses) (sym there) ∙ here)
+]
+
+-- a reserved word and a refused move change nothing
 unreached : (o : Option Inst) (s : State) → None ≡ reached s o → after s o ≡ s
 unreached None s h = refl
 unreached (Some i) s h = cc
 
-pub executed-none : (w : ℕ) (s t : State) (r : Option Reach) → IsExecuted w s t r → r ≡ None → (t ≡ s) × (step_of s ≡ (Reserved w, t))
-executed-none w s t r h is =
-    let answer = sym is ∙ h.answer in (
-      h.state ∙ unreached (inst_of w) s answer,
-      step_reserved w s t h.goes h.word answer h.state,
-    )
+refused_at : (refuses : MoveOp → ℕ → Bool) (w : ℕ) (s t : State) → w ≡ word_at s.imem s.pc → t ≡ s → refuses_by refuses (inst_of w) ≡ true → refuses_at refuses t ≡ true
+unfolding refuses_at
+refused_at refuses w s t word same refused =
+    ap (λ (x : State). refuses_by refuses (inst_of (word_at x.imem x.pc))) same ∙ ap (λ v. refuses_by refuses (inst_of v)) (sym word) ∙ refused
+
+none_by : (refuses : MoveOp → ℕ → Bool) (w : ℕ) (s t : State) (refused : Bool) → s.sp.halted ≡ false → w ≡ word_at s.imem s.pc → refuses_by refuses (inst_of w) ≡ refused
+    → None ≡ reached s (cond refused None (inst_of w)) → t ≡ after s (cond refused None (inst_of w)) → t ≡ s → (done_steps (step_of t).0 ≡ 0) ⊎ (refuses_at refuses t ≡ true)
+none_by refuses w s t true goes word refused answer state same = inr (refused_at refuses w s t word same refused)
+none_by refuses w s t false goes word refused answer state same =
+    inl (ap (λ (x : State). done_steps (step_of x).0) same ∙ ap (λ x. done_steps x.0) (step_reserved w s t goes word answer state))
+
+pub executed-none : (refuses : MoveOp → ℕ → Bool) (w : ℕ) (s t : State) (r : Option Reach) → IsExecuted refuses w s t r → r ≡ None
+    → (t ≡ s) × ((done_steps (step_of t).0 ≡ 0) ⊎ (refuses_at refuses t ≡ true))
+executed-none refuses w s t r h is =
+    let answer = sym is ∙ h.answer in
+    let same = h.state ∙ unreached (permitted refuses (inst_of w)) s answer in
+    (same, none_by refuses w s t (refuses_by refuses (inst_of w)) h.goes h.word refl answer h.state same)
 
 -- the same places, and the same start
 pub same_places : (p q : ProgramCounters) (v w : State) → p ≡ q → v ≡ w → with_counters p v ≡ with_counters q w
@@ -269,17 +312,29 @@ ends-done k n s t m within stuck = elim (cases_lt k n) [
 ]
 
 -- steps that no DMA ends
-pub ends-freely : (k : ℕ) (s t : State) (ends : ℕ → ℕ → Bool → Bool) → LoopEnd false ends k s t
-    → (done_steps (step_of t).0 ≡ 0) ⊎ ((0 < k) × (ends_after ends (steps_of (k - 1) s) ≡ true))
-ends-freely k s t ends (inl stuck) = inl stuck
-ends-freely k s t ends (inr (some, inl last)) = absurd (let never : false ≡ true = last.0 in cc)
-ends-freely k s t ends (inr (some, inr ended)) = inr (some, ended)
+pub ends-freely : (k : ℕ) (s t : State) (ends : ℕ → ℕ → Bool → Bool) (refuses : MoveOp → ℕ → Bool) → LoopEnd false ends refuses k s t
+    → (done_steps (step_of t).0 ≡ 0) ⊎ (refuses_at refuses t ≡ true) ⊎ ((0 < k) × (ends_after ends (steps_of (k - 1) s) ≡ true))
+ends-freely k s t ends refuses (inl stuck) = inl stuck
+ends-freely k s t ends refuses (inr (inl refused)) = inr (inl refused)
+ends-freely k s t ends refuses (inr (inr (some, inl last))) = absurd (let never : false ≡ true = last.0 in cc)
+ends-freely k s t ends refuses (inr (inr (some, inr ended))) = inr (inr (some, ended))
 
-pub ends-stuck : (k : ℕ) (s t : State) → LoopEnd false (λ pc word stored. false) k s t → done_steps (step_of t).0 ≡ 0
+-- and that no test ends
+never_by : (o : Option Inst) → refuses_by (λ row register. false) o ≡ false
+never_by None = refl
+never_by (Some (MoveSp row rt register)) = refl
+never_by (Some _) = refl
+
+pub never-refuses : (s : State) (X : Type 0) → refuses_at (λ row register. false) s ≡ true → X
+unfolding refuses_at
+never-refuses s X h = let no : false ≡ true = sym (never_by (inst_of (word_at s.imem s.pc))) ∙ h in cc
+
+pub ends-stuck : (k : ℕ) (s t : State) → LoopEnd false (λ pc word stored. false) (λ row register. false) k s t → done_steps (step_of t).0 ≡ 0
 unfolding ends_after
 ends-stuck k s t (inl stuck) = stuck
-ends-stuck k s t (inr (some, inl last)) = absurd (let never : false ≡ true = last.0 in cc)
-ends-stuck k s t (inr (some, inr ended)) = cc
+ends-stuck k s t (inr (inl refused)) = never-refuses t _ refused
+ends-stuck k s t (inr (inr (some, inl last))) = absurd (let never : false ≡ true = last.0 in cc)
+ends-stuck k s t (inr (inr (some, inr ended))) = cc
 
 -- what is in an entry that is written, and in the others
 slice_get-set_same : {X : Type 0} (xs : List X) (i : ℕ) (x : X) → i < length xs → slice_get (set xs i x) i ≡ Some x
@@ -294,7 +349,7 @@ slice_get-set_other (y ∷ ys) (suc i) zero x h = refl
 slice_get-set_other (y ∷ ys) zero (suc j) x h = refl
 slice_get-set_other (y ∷ ys) (suc i) (suc j) x h = slice_get-set_other ys i j x (λ e. h (ap suc e))
 
--- what a step tells: of an instruction, and nothing of a reserved word
+-- what a step tells: of an instruction, and nothing of a reserved word or a refused move
 told_running : {K : Type 0} (saves : Change → State → K → K) (b : Bool) (o : Option Inst) (s : State) (k : K) → b ≡ false → after_instruction saves o s k ≡ (if b then k else after_instruction saves o s k)
 told_running saves true o s k h = cc
 told_running saves false o s k h = refl
@@ -307,8 +362,8 @@ told_nothing : {K : Type 0} (saves : Change → State → K → K) (o : Option I
 told_nothing saves None s k h = refl
 told_nothing saves (Some i) s k h = cc
 
-pub told-reserved : {K : Type 0} (saves : Change → State → K → K) (w : ℕ) (s : State) (xs : List K) (j : ℕ) (d x : K) → None ≡ reached s (inst_of w) → x ≡ after_instruction saves (inst_of w) s (get_or xs j d) → set xs j x ≡ xs
-told-reserved saves w s xs j d x none e = ap (set xs j) (e ∙ told_nothing saves (inst_of w) s (get_or xs j d) none) ∙ set-get_or xs j d
+pub told-nothing : {K : Type 0} (saves : Change → State → K → K) (o : Option Inst) (s : State) (xs : List K) (j : ℕ) (d x : K) → None ≡ reached s o → x ≡ after_instruction saves o s (get_or xs j d) → set xs j x ≡ xs
+told-nothing saves o s xs j d x none e = ap (set xs j) (e ∙ told_nothing saves o s (get_or xs j d) none) ∙ set-get_or xs j d
 
 module _ {K : Type 0} (saves : Change → State → K → K) (slot : ℕ → ℕ) where
   pub told-none : (s : State) (old : List K) → HaveRecorded saves slot 0 s old old
@@ -338,10 +393,12 @@ module _ {K : Type 0} (saves : Change → State → K → K) (slot : ℕ → ℕ
       }
 
   -- by a turn
-  pub turn-told : (w k j : ℕ) (o s t : State) (r : Option Reach) (old new : List K) (x before : K) → IsExecuted w s t r → AreDone k o s → HaveRecorded saves slot k o old new → j ≡ slot k → j < length new
-      → x ≡ after_instruction saves (inst_of w) s before → IsRanged s → HaveRecorded saves slot (k + 1) o old (set new j x)
-  turn-told w k j o s t r old new x before h run a at inside told ranged =
-      told-more k j o s old new x before a run.state at inside (told-running saves w s before x h.goes h.word told) ranged
+  pub turn-told : (refuses : MoveOp → ℕ → Bool) (w k j : ℕ) (o s t : State) (r : Option Reach) (e : Reach) (old new : List K) (x before : K) → IsExecuted refuses w s t r → r ≡ Some e → AreDone k o s
+      → HaveRecorded saves slot k o old new → j ≡ slot k → j < length new → x ≡ after_instruction saves (permitted refuses (inst_of w)) s before → IsRanged s
+      → HaveRecorded saves slot (k + 1) o old (set new j x)
+  turn-told refuses w k j o s t r e old new x before h some run a at inside told ranged =
+      let same = told ∙ ap (λ i. after_instruction saves i s before) (permitted_is refuses w s t r e h some) in
+      told-more k j o s old new x before a run.state at inside (told-running saves w s before x h.goes h.word same) ranged
 
   -- the same, by a number and slots that are equal
   pub told-as : (k j : ℕ) (s : State) (old new now : List K) → HaveRecorded saves slot k s old new → j ≡ k → now ≡ new → HaveRecorded saves slot j s old now

@@ -8,7 +8,8 @@ use Rattle.rsp_machine.specs.Step.{step_of}
 use Rattle.rsp_machine.specs.Laws.{steps_of, done_steps, done_of}
 use Rattle.rsp_machine.specs.Undo.{Saved, blank, record_of, after_step_from, record_at, can_undo, may_store, undone}
 use Rattle.rsp_machine.specs.Transfers.{starts_dma_at}
-use Rattle.rsp_machine.specs.Until.{ends_after}
+use Rattle.rsp_decode.specs.declared.scalar.MoveOp.{MoveOp}
+use Rattle.rsp_machine.specs.Until.{ends_after, refuses_at}
 use Rattle.rsp_machine.specs.Loop.{HasRecorded, HaveRecorded, LoopEnd}
 use Rattle.rsp_machine.specs.declared.step.StepEnd.TheVariants.{Done}
 use Rattle.rsp_machine.proofs.OneStep.{not_back}
@@ -65,11 +66,12 @@ module _ (k : ℕ) (s : State) (old new : List Saved) (a : AreRecorded k s old n
       ap (λ (x : State). x.dmem) (steps-more i s)
       ∙ record-memory (steps_of i s) told.before (done-each k s done i h) (ap may_store (sym (record_is (steps_of i s) new i told)) ∙ none)
 
-pub recorded-end : (k : ℕ) (s t : State) (ends : ℕ → ℕ → Bool → Bool) → LoopEnd true ends k s t
-    → (done_steps (step_of t).0 ≡ 0) ⊎ ((0 < k) × ((starts_dma_at (steps_of (k - 1) s) ≡ true) ⊎ (ends_after ends (steps_of (k - 1) s) ≡ true)))
-recorded-end k s t ends (inl stuck) = inl stuck
-recorded-end k s t ends (inr (some, inl last)) = inr (some, inl last.1)
-recorded-end k s t ends (inr (some, inr ended)) = inr (some, inr ended)
+pub recorded-end : (k : ℕ) (s t : State) (ends : ℕ → ℕ → Bool → Bool) (refuses : MoveOp → ℕ → Bool) → LoopEnd true ends refuses k s t
+    → (done_steps (step_of t).0 ≡ 0) ⊎ (refuses_at refuses t ≡ true) ⊎ ((0 < k) × ((starts_dma_at (steps_of (k - 1) s) ≡ true) ⊎ (ends_after ends (steps_of (k - 1) s) ≡ true)))
+recorded-end k s t ends refuses (inl stuck) = inl stuck
+recorded-end k s t ends refuses (inr (inl refused)) = inr (inl refused)
+recorded-end k s t ends refuses (inr (inr (some, inl last))) = inr (inr (some, inl last.1))
+recorded-end k s t ends refuses (inr (inr (some, inr ended))) = inr (inr (some, inr ended))
 
 pub recorded-never : {D : Type 0} (s : State) → D ⊎ (ends_after (λ pc word stored. false) s ≡ true) → D
 unfolding ends_after

@@ -6,7 +6,8 @@ use Rattle.rsp_machine.specs.Laws.{steps_of, done_steps, done_of}
 use Rattle.rsp_machine.specs.Undo.{after_step_from}
 use Rattle.rsp_machine.specs.Transfers.{starts_dma_at}
 use Rattle.rsp_machine.specs.Changes.{IsRanged}
-use Rattle.rsp_machine.specs.Until.{ends_after}
+use Rattle.rsp_decode.specs.declared.scalar.MoveOp.{MoveOp}
+use Rattle.rsp_machine.specs.Until.{ends_after, refuses_at}
 use Rattle.rsp_machine.specs.declared.change.Change.{Change}
 
 -- k steps lead from s to t, and all are Done
@@ -30,8 +31,8 @@ pub record HaveRecorded {K : Type 0} (saves : Change → State → K → K) (slo
   pub rest : (j : ℕ) → ((i : ℕ) → i < k → slot i ≢ j) → slice_get new j ≡ slice_get old j
   pub len : length new ≡ length old
 
--- Why a loop ends after k steps from s, at t: the next step isn't Done, or the last one started a DMA and the loop ends at one, or a test
--- ended the loop.
-abbrev pub LoopEnd : Bool → (ℕ → ℕ → Bool → Bool) → ℕ → State → State → Type 0
-LoopEnd at_dma ends k s t =
-    (done_steps (step_of t).0 ≡ 0) ⊎ ((0 < k) × (((at_dma ≡ true) × (starts_dma_at (steps_of (k - 1) s) ≡ true)) ⊎ (ends_after ends (steps_of (k - 1) s) ≡ true)))
+-- Why a loop ends after k steps from s, at t: the next step isn't Done, or a test refuses it, or the last one started a DMA and the loop ends
+-- at one, or a test ended the loop.
+abbrev pub LoopEnd : Bool → (ℕ → ℕ → Bool → Bool) → (MoveOp → ℕ → Bool) → ℕ → State → State → Type 0
+LoopEnd at_dma ends refuses k s t =
+    (done_steps (step_of t).0 ≡ 0) ⊎ (refuses_at refuses t ≡ true) ⊎ ((0 < k) × (((at_dma ≡ true) × (starts_dma_at (steps_of (k - 1) s) ≡ true)) ⊎ (ends_after ends (steps_of (k - 1) s) ≡ true)))

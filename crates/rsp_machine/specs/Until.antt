@@ -1,6 +1,8 @@
 -- Tests that end a run of steps.
-use Rattle.std.specs.Prelude.{ℕ, Bool, false, Option, Some, None}
+use Rattle.std.specs.Prelude.{ℕ, Bool, false, Option, Some, None, if◌then◌else◌}
 use Rattle.rsp_decode.specs.declared.inst.Inst.{Inst}
+use Rattle.rsp_decode.specs.declared.inst.Inst.TheVariants.{MoveSp}
+use Rattle.rsp_decode.specs.declared.scalar.MoveOp.{MoveOp}
 use Rattle.rsp_decode.specs.Table.{inst_of}
 use Rattle.rsp_memory.specs.Memory.{word_at}
 use Rattle.rsp_machine.specs.State.{State}
@@ -20,3 +22,16 @@ may_store_at s = may_store_by (inst_of (word_at s.imem s.pc)) s
 -- DMEM.
 unfoldable pub ends_after : (ℕ → ℕ → Bool → Bool) → State → Bool
 ends_after ends s = let t = (step_of s).1 in ends t.pc (word_at t.imem t.pc) (may_store_at s)
+
+-- whether a test refuses an instruction, if there is one: only a move of an SP register, by its direction and its register
+abbrev pub refuses_by : (MoveOp → ℕ → Bool) → Option Inst → Bool
+refuses_by refuses (Some (MoveSp row rt register)) = refuses row register
+refuses_by refuses _ = false
+
+-- whether a test refuses the instruction at pc
+unfoldable pub refuses_at : (MoveOp → ℕ → Bool) → State → Bool
+refuses_at refuses s = refuses_by refuses (inst_of (word_at s.imem s.pc))
+
+-- an instruction, if there is one and a test doesn't refuse it
+abbrev pub permitted : (MoveOp → ℕ → Bool) → Option Inst → Option Inst
+permitted refuses i = if refuses_by refuses i then None else i

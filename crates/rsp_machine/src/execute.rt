@@ -1,6 +1,6 @@
 // What an instruction does.
 
-ghost use Rattle.std.specs.Prelude.{◌≡◌, ◌<◌, option_map, unwrap_or};
+ghost use Rattle.std.specs.Prelude.{◌≡◌, ◌<◌, Some, option_map, unwrap_or};
 ghost use Rattle.rsp_decode.specs.Table.{IsInstruction, inst_of};
 ghost use Rattle.rsp_decode.specs.declared.scalar.MoveOp.TheVariants as row;
 ghost use Rattle.rsp_scalar.specs.Flow.{next_npc, with_link};
@@ -8,6 +8,7 @@ ghost use Rattle.rsp_machine.specs.Step.{computes, loads, stores, break_instruct
 ghost use Rattle.rsp_machine.specs.ProgramCounters.{with_counters, counters_of};
 ghost use Rattle.rsp_machine.specs.Undo.{change_of, after_instruction};
 ghost use Rattle.rsp_machine.specs.Changes.{IsChange, reach_of};
+ghost use Rattle.rsp_machine.specs.Until.{refuses_by, permitted};
 
 use crate::change::{Change, Reach, change_of};
 use crate::machine::Machine;
@@ -17,37 +18,36 @@ use crate::until::Until;
 use rsp_acc::Acc;
 use rsp_decode::{Inst, MoveOp, Visitor, visit};
 use rsp_scalar::{alu, jump, load, store};
-use std::marker::PhantomData;
 
 /// A machine as the visitor of its instructions, and the recorder of what they overwrite. It is a type of its own because an
 /// embedder may step a machine, but must not execute an instruction without the fetch and the test of halted.
 #[derive(Drop)]
-struct Executor<'a, A: Acc, K: Recorder, U: Until> {
+struct Executor<'a, 'b, A: Acc, K: Recorder, U: Until> {
     machine: &'a mut Machine<A>,
     recorder: &'a mut K,
-    /// Never used. The type parameter gives each loop its own copy of the decoder, which LLVM then inlines.
-    until: PhantomData<U>,
+    /// The test that may refuse a move. Its type gives each loop its own copy of the decoder, which LLVM then inlines.
+    until: &'b U,
     /// The address of the instruction.
     address: InstructionAddress,
     /// pc and npc after the instruction. Those in `machine` are stale while the loop runs.
     counters: ProgramCounters,
-    /// What the loop tests after the instruction.
-    reach: Reach,
+    /// What the loop tests after the instruction; None if none was executed.
+    reach: Option<Reach>,
 }
 
-impl<'a, A: Acc, K: Recorder, U: Until> Executor<'a, A, K, U> {
+impl<'a, 'b, A: Acc, K: Recorder, U: Until> Executor<'a, 'b, A, K, U> {
     /// Saves what a change will overwrite.
     #[inline(always)]
     fn save(&mut self, change: Change)
         requires { IsChange change }
-        ensures { self.new ≡ record self.old { recorder = record self.old.recorder { now = K.saves change (with_counters (record { pc = self.old.address; npc = self.old.counters.pc }) self.old.machine.now) self.old.recorder.now }; reach = reach_of change } }
+        ensures { self.new ≡ record self.old { recorder = record self.old.recorder { now = K.saves change (with_counters (record { pc = self.old.address; npc = self.old.counters.pc }) self.old.machine.now) self.old.recorder.now }; reach = Some (reach_of change) } }
     {
         let before = ProgramCounters {
             pc: self.address,
             npc: self.counters.pc,
         };
         self.recorder.save(self.machine, before, change);
-        self.reach = change.reach();
+        self.reach = Some(change.reach());
     }
 
     /// pc and npc after the instruction.
@@ -56,6 +56,18 @@ impl<'a, A: Acc, K: Recorder, U: Until> Executor<'a, A, K, U> {
         ensures { result ≡ self.now.counters }
     {
         self.counters
+    }
+}
+
+/// Whether a test refuses an instruction. Each arm of the decoder knows whether its instruction is a move.
+#[inline(always)]
+fn is_refused<U: Until>(until: &U, inst: &Inst) -> bool
+    requires { IsInstruction inst.now }
+    ensures { result ≡ refuses_by (U.refuses until.now) (Some inst.now) }
+{
+    match *inst {
+        Inst::MoveSp { row, register, .. } => until.refuses(row, register),
+        _ => false,
     }
 }
 
@@ -198,7 +210,7 @@ impl<A: Acc> Machine<A> {
     }
 
     /// Executes the word at `counters`, and returns what the loop tests after it. A recorder gets its change first. None for a
-    /// reserved word, which changes nothing. The machine's own pc and npc aren't used.
+    /// reserved word, and for a move that `until` refuses: both change nothing. The machine's own pc and npc aren't used.
     #[inline(always)]
     #[tactic(auto, unfolding(crate::specs::Step::executed))]
     pub(crate) fn execute<K: Recorder, U: Until>(
@@ -206,53 +218,54 @@ impl<A: Acc> Machine<A> {
         counters: &mut ProgramCounters,
         word: u32,
         recorder: &mut K,
+        until: &U,
     ) -> Option<Reach>
-        ensures answer { result ≡ option_map (λ i. reach_of (change_of i (with_counters counters.old self.old))) (inst_of word) }
-        ensures state { with_counters counters.new self.new ≡ unwrap_or (option_map (λ i. executed i (with_counters counters.old self.old)) (inst_of word)) (with_counters counters.old self.old) }
-        ensures recorder { recorder.new ≡ after_instruction K.saves (inst_of word) (with_counters counters.old self.old) recorder.old }
+        ensures answer { result ≡ option_map (λ i. reach_of (change_of i (with_counters counters.old self.old))) (permitted (U.refuses until.now) (inst_of word)) }
+        ensures state { with_counters counters.new self.new ≡ unwrap_or (option_map (λ i. executed i (with_counters counters.old self.old)) (permitted (U.refuses until.now) (inst_of word))) (with_counters counters.old self.old) }
+        ensures recorder { recorder.new ≡ after_instruction K.saves (permitted (U.refuses until.now) (inst_of word)) (with_counters counters.old self.old) recorder.old }
     {
         let address = counters.pc;
         let next = counters.next();
         let mut executor: Executor<A, K, U> = Executor {
             machine: self,
             recorder,
-            until: PhantomData,
+            until,
             address,
             counters: next,
-            reach: Reach {
-                sp: false,
-                dmem: false,
-                dma: false,
-            },
+            reach: None,
         };
-        if !visit(word, &mut executor) {
-            return None;
-        }
+        visit(word, &mut executor);
+        let reach = executor.reach?;
         *counters = executor.counters();
-        Some(executor.reach)
+        Some(reach)
     }
 }
 
-impl<'a, A: Acc, K: Recorder, U: Until> Visitor for Executor<'a, A, K, U> {
+impl<'a, 'b, A: Acc, K: Recorder, U: Until> Visitor for Executor<'a, 'b, A, K, U> {
     ghost use Rattle.rsp_machine.specs.ProgramCounters.{with_counters, counters_of};
     ghost use Rattle.rsp_machine.specs.Step.{instruction_effect};
     ghost use Rattle.rsp_machine.specs.Undo.{change_of};
+    ghost use Rattle.std.specs.Prelude.{Some, if◌then◌else◌};
     ghost use Rattle.rsp_machine.specs.Changes.{reach_of};
+    ghost use Rattle.rsp_machine.specs.Until.{refuses_by};
 
     ghost after = { λ i e.
         let before = with_counters (record { pc = e.address; npc = e.counters.pc }) e.machine.now in
         let next = instruction_effect i (with_counters e.counters e.machine.now) in
-        record {
+        if refuses_by (U.refuses e.until.now) (Some i) then e else record {
           machine = record e.machine { now = with_counters (counters_of e.machine.now) next };
           recorder = record e.recorder { now = K.saves (change_of i before) before e.recorder.now };
           until = e.until;
           address = e.address;
           counters = counters_of next;
-          reach = reach_of (change_of i before);
+          reach = Some (reach_of (change_of i before));
         } };
 
     #[inline(always)]
     fn take(&mut self, inst: Inst) {
+        if is_refused(self.until, &inst) {
+            return;
+        }
         let change = change_of(&inst, self.machine);
         self.save(change);
         self.machine.perform(&inst, &mut self.counters);

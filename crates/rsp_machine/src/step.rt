@@ -7,7 +7,7 @@ ghost use Rattle.rsp_machine.specs.ProgramCounters.{with_counters, counters_of};
 ghost use Rattle.rsp_machine.specs.Transfers.{starts_dma_at};
 ghost use Rattle.rsp_machine.specs.Undo.{can_undo, may_store, record_at, undone};
 ghost use Rattle.rsp_machine.specs.Laws.{steps_of, done_steps, done_of};
-ghost use Rattle.rsp_machine.specs.Until.{ends_after};
+ghost use Rattle.rsp_machine.specs.Until.{ends_after, refuses_at};
 ghost use Rattle.rsp_machine.specs.Loop.{AreDone, HaveRecorded, LoopEnd};
 ghost use Rattle.rsp_machine.specs.declared.step.StepEnd.TheVariants.{Done};
 
@@ -88,8 +88,8 @@ impl<A: Acc> Machine<A> {
     }
 
     /// Makes up to `n` steps and returns how many. It ends earlier if the next step isn't Done, if a step starts a DMA and the
-    /// recorders end at one, or if `until` ends it. Meanwhile pc and npc are in registers of the host. `until` is called after each
-    /// step that leaves the machine running, so not before the first.
+    /// recorders end at one, or if `until` ends it or refuses the next move. Meanwhile pc and npc are in registers of the host.
+    /// `until` is asked whether to end after each step that leaves the machine running, so not before the first.
     #[inline(never)]
     fn run_loop<K: Recorder, U: Until>(&mut self, n: u64, slots: &mut [K], until: &U) -> u64
         requires slots { (i : ℕ) → i < n → K.slot i < length slots.old }
@@ -98,7 +98,8 @@ impl<A: Acc> Machine<A> {
         ensures told { HaveRecorded K.saves K.slot result self.old slots.old slots.new }
         ensures before { (i : ℕ) → i + 1 < result → K.ends_at_dma ≡ true → starts_dma_at (steps_of i self.old) ≡ false }
         ensures asked { (i : ℕ) → i + 1 < result → ends_after (U.ends until.now) (steps_of i self.old) ≡ false }
-        ensures ends { result < n → LoopEnd K.ends_at_dma (U.ends until.now) result self.old self.new }
+        ensures permitted { (i : ℕ) → i < result → refuses_at (U.refuses until.now) (steps_of i self.old) ≡ false }
+        ensures ends { result < n → LoopEnd K.ends_at_dma (U.ends until.now) (U.refuses until.now) result self.old self.new }
     {
         if self.sp.halted() {
             return 0;
@@ -110,7 +111,7 @@ impl<A: Acc> Machine<A> {
         while made < n {
             self.vector_ranges();
             let slot = &mut slots[K::slot(made)];
-            let Some(reach) = self.execute::<K, U>(&mut counters, word, slot) else {
+            let Some(reach) = self.execute::<K, U>(&mut counters, word, slot, until) else {
                 break;
             };
             made += 1;
@@ -190,27 +191,30 @@ impl<A: Acc> Machine<A> {
         self.steps_recorded_until(records, &Never)
     }
 
-    /// Makes up to `n` steps, as [`Machine::step`] makes them, as long as they are Done and `until` doesn't end them. `until` is
-    /// called after each step that leaves the machine running. Returns how many steps were made: fewer than `n` if a further step wouldn't be
-    /// Done, or if `until` ended them.
+    /// Makes up to `n` steps, as [`Machine::step`] makes them, as long as they are Done and `until` neither ends them nor refuses the
+    /// next one. `until` is asked whether to end after each step that leaves the machine running, and whether it refuses before each
+    /// MFC0 and MTC0, which then isn't executed. Returns how many steps were made: fewer than `n` if a further step wouldn't be Done, or
+    /// if `until` ended them or refuses it.
     pub fn steps_until<U: Until>(&mut self, n: u64, until: &U) -> u64
         ensures within { result ≤ n }
         ensures done { done_of result self.old ≡ result }
         ensures state { self.new ≡ steps_of result self.old }
-        ensures ends { result < n → (done_steps (step_of self.new).0 ≡ 0) ⊎ ((0 < result) × (ends_after (U.ends until.now) (steps_of (result - 1) self.old) ≡ true)) }
+        ensures ends { result < n → (done_steps (step_of self.new).0 ≡ 0) ⊎ (refuses_at (U.refuses until.now) self.new ≡ true) ⊎ ((0 < result) × (ends_after (U.ends until.now) (steps_of (result - 1) self.old) ≡ true)) }
         ensures asked { (i : ℕ) → i + 1 < result → ends_after (U.ends until.now) (steps_of i self.old) ≡ false }
+        ensures permitted { (i : ℕ) → i < result → refuses_at (U.refuses until.now) (steps_of i self.old) ≡ false }
     {
         self.run_loop(n, &mut [NoRecord], until)
     }
 
-    /// [`Machine::steps_recorded`], which `until` may end too. `until` is called after each step that leaves the
-    /// machine running and starts no DMA.
+    /// [`Machine::steps_recorded`], which `until` may end too. It is asked whether to end after each step that leaves the
+    /// machine running and starts no DMA, and whether it refuses before each MFC0 and MTC0, which then isn't executed.
     pub fn steps_recorded_until<U: Until>(&mut self, records: &mut [Record], until: &U) -> usize
         ensures within { result ≤ length records.old }
         ensures done { done_of result self.old ≡ result }
         ensures state { self.new ≡ steps_of result self.old }
-        ensures ends { result < length records.old → (done_steps (step_of self.new).0 ≡ 0) ⊎ ((0 < result) × ((starts_dma_at (steps_of (result - 1) self.old) ≡ true) ⊎ (ends_after (U.ends until.now) (steps_of (result - 1) self.old) ≡ true))) }
+        ensures ends { result < length records.old → (done_steps (step_of self.new).0 ≡ 0) ⊎ (refuses_at (U.refuses until.now) self.new ≡ true) ⊎ ((0 < result) × ((starts_dma_at (steps_of (result - 1) self.old) ≡ true) ⊎ (ends_after (U.ends until.now) (steps_of (result - 1) self.old) ≡ true))) }
         ensures asked { (i : ℕ) → i + 1 < result → ends_after (U.ends until.now) (steps_of i self.old) ≡ false }
+        ensures permitted { (i : ℕ) → i < result → refuses_at (U.refuses until.now) (steps_of i self.old) ≡ false }
         ensures before { (i : ℕ) → i + 1 < result → starts_dma_at (steps_of i self.old) ≡ false }
         ensures which { (i : ℕ) → i < result → can_undo (record_at records.new i).change ≡ not (starts_dma_at (steps_of i self.old)) }
         ensures back { (i : ℕ) → i < result → starts_dma_at (steps_of i self.old) ≡ false → undone (record_at records.new i) (steps_of (i + 1) self.old) ≡ steps_of i self.old }

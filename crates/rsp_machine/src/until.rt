@@ -2,13 +2,19 @@
 
 ghost use Rattle.std.specs.Prelude.{◌≡◌, ◌<◌, ◌%◌};
 
-/// A test that ends runs of steps. A run calls it between two of its steps.
+use rsp_decode::MoveOp;
+
+/// A test that ends runs of steps. A run calls it between two of its steps, and before each move of an SP register.
 pub trait Until {
     ghost use Rattle.std.specs.Prelude.{ℕ, Bool};
+    ghost use Rattle.rsp_decode.specs.declared.scalar.MoveOp.{MoveOp};
 
     /// Whether a run ends before the instruction with this pc and this word. The truth value is whether the step before may have
     /// changed DMEM.
     ghost ends: { Self → ℕ → ℕ → Bool → Bool };
+
+    /// Whether a run ends before an MFC0 or MTC0 of an SP register.
+    ghost refuses: { Self → MoveOp → ℕ → Bool };
 
     /// Whether a run ends here. `pc` and `word` are those of the next instruction. `stored` is false only if the step before
     /// left DMEM as it was.
@@ -16,6 +22,12 @@ pub trait Until {
         requires below { pc < 4096 }
         requires whole { pc % 4 ≡ 0 }
         ensures { result ≡ ends self.now pc word stored };
+
+    /// Whether a run ends before this move of an SP register. It is called only if the next instruction is one, also before the
+    /// first step, and costs other instructions nothing.
+    fn refuses(&self, row: MoveOp, register: u8) -> bool
+        requires { register < 16 }
+        ensures { result ≡ refuses self.now row register };
 }
 
 /// The test that ends no run.
@@ -27,8 +39,15 @@ impl Until for Never {
 
     ghost ends = { λ u pc word stored. false };
 
+    ghost refuses = { λ u row register. false };
+
     #[inline(always)]
     fn ends(&self, _pc: u16, _word: u32, _stored: bool) -> bool {
+        false
+    }
+
+    #[inline(always)]
+    fn refuses(&self, _row: MoveOp, _register: u8) -> bool {
         false
     }
 }

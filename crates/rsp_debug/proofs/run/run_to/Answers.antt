@@ -1,15 +1,17 @@
-use Rattle.std.proofs.Common.{◌≡◌, ◌∙◌, ◌+◌, ◌-◌, ap, refl, sym, subst, arith, None}
-use Rattle.std.specs.Prelude.{is_some, unwrap_or}
+use Rattle.std.proofs.Common.{◌≡◌, ◌∙◌, ◌+◌, ◌-◌, ap, refl, sym, subst, inl, inr, arith, true, None}
+use Rattle.std.specs.Prelude.{◌⊎◌, is_some, unwrap_or}
 use Rattle.rsp_machine.specs.State.{State}
+use Rattle.rsp_machine.specs.Laws.{steps_of}
+use Rattle.rsp_machine.specs.Until.{refuses_at}
 use Rattle.rsp_debug.specs.History.{states_before, history_after_steps}
 use Rattle.rsp_debug.specs.Runs.{step_refusal}
 use Rattle.rsp_debug.specs.Snapshots.{watches_of}
-use Rattle.rsp_debug.specs.Moves.{steps_to_move}
+use Rattle.rsp_debug.specs.Moves.{is_at_move, steps_to_move}
 use Rattle.rsp_debug.specs.Stops.{IsStop}
 use Rattle.rsp_debug.specs.declared.stop.Stop.{Stop}
 use Rattle.rsp_debug.proofs.DoneSteps.{never}
 use Rattle.rsp_debug.proofs.Stretches.{past-none, stuck-is, no-one, some-one, after-zero, past-then, states-as}
-use Rattle.rsp_debug.proofs.RunLoop.{come-none, come-more, stop-come}
+use Rattle.rsp_debug.proofs.RunLoop.{moves-pass, move-next, come-none, come-more, stop-come}
 use Rattle.rsp_debug.proofs.run.run_to.Goals.{then-loop-left-test+else-is_none, else-loop-left-test, then-loop-left-test+then-is_none+then-steps-eq0}
 use Rattle.rsp_debug.proofs.run.run_to.Goals as goal
 
@@ -19,7 +21,7 @@ loop-left-init g c =
     let x = c.args.conditions.now in let none : c.args.n - c.args.n ≡ 0 = omega arith in
     record {
       within = omega arith;
-      come = come-none x.breaks.now x.snapshots.now x.moves c.args.n s (c.args.n - c.args.n) _ none c.requires.same c.limit-found.ensures;
+      come = come-none x.breaks.now x.snapshots.now x.moves c.args.n s (c.args.n - c.args.n) none c.requires.same;
       past = sym (ap (λ i. history_after_steps i depth s past) none ∙ past-none depth s past);
       depth = refl;
     }
@@ -31,8 +33,9 @@ loop-left-preserved g c =
     let count : n - (l.left - j) ≡ n - l.left + j = omega (arith, i.within, e.within) in
     record {
       within = omega (arith, i.within);
-      come = come-more x.breaks.now x.snapshots.now x.moves n s (g.U.Until.ends c.args.until.now) (n - l.left) j (n - (l.left - j)) l.machine t l.found c.found-found.result c.requires.asks
-          i.come (no-one l.found c.is_none.result c.is_none.ensures c.if-is_none.true) e.after e.asked count (omega arith) (omega (arith, c.if-steps-eq0.false)) c.found-found.ensures;
+      come = come-more x.breaks.now x.snapshots.now x.moves n s (g.U.Until.ends c.args.until.now) (n - l.left) j (n - (l.left - j)) l.machine t l.found c.hit-found.result c.requires.asks
+          i.come (no-one l.found c.is_none.result c.is_none.ensures c.if-is_none.true) e.after e.asked
+          (λ q h. moves-pass (g.U.Until.refuses c.args.until.now) x.moves (steps_of q l.machine) c.requires.refuses (e.permitted q h)) count (omega arith) (omega (arith, c.if-steps-eq0.false)) c.hit-found.ensures;
       past = past-then (n - l.left) j (n - (l.left - j)) c.args.history.now.depth l.history.depth s l.machine _ _ _ e.past i.depth i.past i.come.after.reached count;
       depth = e.depth ∙ i.depth;
     }
@@ -46,12 +49,15 @@ returns-clause-stop g c =
       | else-loop-left-test w ↦ w.machine-is
       | then-loop-left-test+then-is_none+then-steps-eq0 w ↦ w.machine-is ∙ after-zero w.stretch-steps.result l.machine w.stretch-steps.new.machine w.if-steps-eq0.true w.stretch-steps.ensures.after
     ] in
-    let all : l.found ≡ None → step_refusal l.machine ≡ None → k ≡ n = λ none free. elim c.loop-left-test.branch [
-      | then-loop-left-test+else-is_none w ↦ some-one l.found w.is_none.result (k ≡ n) w.is_none.ensures w.if-is_none.false none
-      | else-loop-left-test w ↦ omega (arith, w.loop-left-test.false)
+    let all : l.found ≡ None → step_refusal l.machine ≡ None → (k ≡ n) ⊎ (is_at_move x.moves l.machine ≡ true) = λ none free. elim c.loop-left-test.branch [
+      | then-loop-left-test+else-is_none w ↦ some-one l.found w.is_none.result _ w.is_none.ensures w.if-is_none.false none
+      | else-loop-left-test w ↦ inl (omega (arith, w.loop-left-test.false))
       | then-loop-left-test+then-is_none+then-steps-eq0 w ↦
           let still = after-zero w.stretch-steps.result l.machine w.stretch-steps.new.machine w.if-steps-eq0.true w.stretch-steps.ensures.after in
-          never (step_refusal l.machine) (k ≡ n) (ap (λ (y : State). is_some (step_refusal y)) (sym still) ∙ stuck-is w.stretch-steps.new.machine (w.stretch-steps.ensures.stuck w.if-steps-eq0.true)) free
+          elim (w.stretch-steps.ensures.stuck w.if-steps-eq0.true) [
+            | inl stuck ↦ never (step_refusal l.machine) _ (ap (λ (y : State). is_some (step_refusal y)) (sym still) ∙ stuck-is w.stretch-steps.new.machine stuck) free
+            | inr refused ↦ inr (move-next (g.U.Until.refuses c.args.until.now) x.moves l.machine c.requires.refuses (ap (refuses_at (g.U.Until.refuses c.args.until.now)) (sym still) ∙ refused) free)
+          ]
     ] in
     let stop : IsStop x.breaks.now (watches_of x.snapshots.now) (steps_to_move x.moves n s) s l.machine c.stopped_here.result =
     stop-come x.breaks.now x.snapshots.now x.moves n s k l.machine l.found i.come all _ c.stopped_here.result

@@ -3,7 +3,7 @@ use Rattle.rsp_memory.specs.Memory.{word_at}
 use Rattle.rsp_machine.specs.Laws.{steps_of}
 use Rattle.rsp_machine.specs.ProgramCounters.{with_counters}
 use Rattle.rsp_machine.specs.Transfers.{starts_dma_at}
-use Rattle.rsp_machine.specs.Until.{ends_after}
+use Rattle.rsp_machine.specs.Until.{ends_after, refuses_at}
 use Rattle.rsp_machine.specs.Loop.{AreDone, HaveRecorded}
 use Rattle.rsp_machine.proofs.machine.Machine.run_loop.Given as goal
 
@@ -17,6 +17,7 @@ invariant-loop-made g l = record {
   told : HaveRecorded g.K.Recorder.saves g.K.Recorder.slot l.made l.fn.self l.fn.slots l.slots;
   before : (i : ℕ) → i < l.made → g.K.Recorder.ends_at_dma ≡ true → starts_dma_at (steps_of i l.fn.self) ≡ false;
   asked : (i : ℕ) → i < l.made → ends_after (g.U.Until.ends l.until) (steps_of i l.fn.self) ≡ false;
+  permitted : (i : ℕ) → i < l.made → refuses_at (g.U.Until.refuses l.until) (steps_of i l.fn.self) ≡ false;
 }
 
 abbrev pub decreases-loop-made : goal.decreases-loop-made

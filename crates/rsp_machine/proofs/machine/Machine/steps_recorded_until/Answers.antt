@@ -4,7 +4,7 @@ use Rattle.rsp_machine.proofs.machine.Machine.steps_recorded_until.Goals as goal
 
 pub returns-clause-ends : goal.returns-clause-ends
 returns-clause-ends g c less =
-    recorded-end c.run_loop.result c.args.self.now c.run_loop.new.self _ (c.run_loop.ensures.ends less)
+    recorded-end c.run_loop.result c.args.self.now c.run_loop.new.self _ _ (c.run_loop.ensures.ends less)
 
 pub returns-clause-before : goal.returns-clause-before
 returns-clause-before g c i less = c.run_loop.ensures.before i less refl
