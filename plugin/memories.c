@@ -72,29 +72,27 @@ uint32_t row_inside(size_t rdram_size, uint32_t address, uint32_t len, uint32_t 
     return address + len > size ? size - address : len;
 }
 
-/* Brings the machine's RDRAM up to date where a DMA reads it. */
-void rows_in(rsp_unit *unit, dma_rows rows)
+/* Brings the machine's RDRAM up to date where the DMA that a length word starts at an address reads it. */
+void rows_in(rsp_unit *unit, uint32_t address, uint32_t length_word)
 {
-    uint32_t address = rows.address;
-    for (uint32_t row = 0; row < rows.count; row++, address = (address + rows.stride) & 0xffffff) {
+    dma_rows rows = rows_of(address, length_word);
+    for (; rows.count; rows.count--, rows.address = (rows.address + rows.stride) & 0xffffff) {
         uint8_t bytes[4 * MEMORY_WORDS];
-        uint32_t from, len = row_inside(unit->rdram_size, address, rows.len, &from);
+        uint32_t from, len = row_inside(unit->rdram_size, rows.address, rows.len, &from);
         if (!len) continue;
         swap_bytes(bytes, unit->memory[RSP_RDRAM] + from / 4, len / 4);
         rsp_load(&unit->machine, RSP_RDRAM, from, bytes, len);
     }
 }
 
-/* Gives the emulator the bytes of RDRAM that a DMA wrote. */
-void rows_out(rsp_unit *unit, dma_rows rows)
+/* Gives the emulator the words of RDRAM that such a DMA wrote. */
+void rows_out(rsp_unit *unit, uint32_t address, uint32_t length_word)
 {
-    uint32_t address = rows.address;
-    for (uint32_t row = 0; row < rows.count; row++, address = (address + rows.stride) & 0xffffff) {
-        uint8_t bytes[4 * MEMORY_WORDS];
-        uint32_t from, len = row_inside(unit->rdram_size, address, rows.len, &from);
+    dma_rows rows = rows_of(address, length_word);
+    for (; rows.count; rows.count--, rows.address = (rows.address + rows.stride) & 0xffffff) {
+        uint32_t from, len = row_inside(unit->rdram_size, rows.address, rows.len, &from);
         if (!len) continue;
         if (unit->storing) unit->storing(from, len);
-        rsp_memory(&unit->machine, RSP_RDRAM, from, bytes, len);
-        swap_bytes(unit->memory[RSP_RDRAM] + from / 4, bytes, len / 4);
+        rsp_memory_words(&unit->machine, RSP_RDRAM, from, unit->memory[RSP_RDRAM] + from / 4, len / 4);
     }
 }

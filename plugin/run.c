@@ -54,21 +54,27 @@ uint32_t word_at(rsp_unit *unit, uint16_t pc)
     return word;
 }
 
+/* A DMA, before which the machine has stopped. Its rows of RDRAM are carried before it reads them, or after it wrote them. */
+static void make_dma(rsp_unit *unit, const rsp_move *at)
+{
+    uint32_t address;
+    rsp_peek(&unit->machine, SP_DRAM_ADDR, &address);
+    if (at->number == SP_RD_LEN) {
+        unit->imem_moved = 1;
+        rows_in(unit, address, at->value);
+        rsp_step(&unit->machine);
+    } else {
+        rsp_step(&unit->machine);
+        rows_out(unit, address, at->value);
+    }
+}
+
 /* Executes the move before which the machine has stopped. */
 static void make_move(rsp_unit *unit, const rsp_move *at)
 {
-    rsp_sp_words sp;
-    dma_rows rows = { 0 };
-    uint32_t reads = at->writes && at->number == SP_RD_LEN, writes = at->writes && at->number == SP_WR_LEN;
-    if (reads || writes) {
-        rsp_sp(&unit->machine, &sp);
-        rows = rows_of(sp.words[SP_DRAM_ADDR], at->value);
-        if (reads && sp.words[SP_MEM_ADDR] & 0x1000) unit->imem_moved = 1;
-    }
-    if (reads) rows_in(unit, rows);
+    if (at->writes && at->number < DPC_START) { make_dma(unit, at); return; }
     rsp_step(&unit->machine);
-    if (writes) rows_out(unit, rows);
-    if (at->writes && at->number >= DPC_START) write_dpc(unit, at->number, at->value);
+    if (at->writes) write_dpc(unit, at->number, at->value);
 }
 
 /* A reserved word, at which the machine doesn't go on, does nothing: NOP is executed in its place. */

@@ -27,11 +27,10 @@ static void spoil(rsp *m, uint32_t word)
 }
 
 /* For a plugin with another DMA. */
-void __real_rows_out(rsp_unit *unit, dma_rows rows);
-void __wrap_rows_out(rsp_unit *unit, dma_rows rows)
+void __real_rows_out(rsp_unit *unit, uint32_t address, uint32_t length_word);
+void __wrap_rows_out(rsp_unit *unit, uint32_t address, uint32_t length_word)
 {
-    rows.len += FAULT == 2 ? 8 : 0;
-    if (FAULT != 3) __real_rows_out(unit, rows);
+    if (FAULT != 3) __real_rows_out(unit, address, length_word + (FAULT == 2 ? 8 : 0));
 }
 
 uint32_t __wrap_rsp_step(rsp *m)
