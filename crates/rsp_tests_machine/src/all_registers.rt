@@ -1,3 +1,4 @@
+use crate::readers::flags;
 use rsp_acc::{Acc, Part, PlainAcc, PlaneAcc};
 use rsp_debug::{BackFault, Debugger};
 use rsp_divide::Divider;
@@ -69,36 +70,48 @@ fn stands<A: Acc>(rt: &impl Abort, machine: &mut Machine<A>) {
     let given = registers();
     assert!(rt; machine.set_all_registers(&given) == Ok(()));
     assert!(rt; machine.all_registers() == given);
-    assert_eq!(rt; (machine.pc(), machine.npc()), (0xffc, 0));
-    assert_eq!(rt;
-        [machine.reg(0), machine.reg(1), machine.reg(31)],
-        [0, 0xffff_fffe, 0x8000_0001]
-    );
     assert_eq!(rt; machine.vreg(0), VReg::from_array([1, 2, 3, 4, 5, 6, 7, 8]));
-    assert_eq!(rt; machine.vreg(31).lane(7), 0xdef0);
-    assert_eq!(rt; machine.acc().part(Part::High).lane(0), 0x8000);
-    assert_eq!(rt; machine.acc().part(Part::Middle).lane(7), 0xffff);
-    assert_eq!(rt; machine.acc().part(Part::Low).lane(0), 0xfff0);
-    let flags = machine.flags();
-    assert_eq!(rt;
-        (flags.carry.bits(), flags.differ.bits(), flags.extra.bits()),
-        (0x01, 0x83, 0x55)
-    );
-    assert_eq!(rt; (flags.compare.bits(), flags.clip.bits()), (0x0f, 0xf0));
-    assert_eq!(rt; machine.divider().output, 0x2222);
+    let lanes = [
+        machine.pc(),
+        machine.npc(),
+        machine.vreg(31).lane(7),
+        machine.acc().part(Part::High).lane(0),
+        machine.acc().part(Part::Middle).lane(7),
+        machine.acc().part(Part::Low).lane(0),
+        machine.divider().output,
+    ];
+    assert_eq!(rt; lanes, [0xffc, 0, 0xdef0, 0x8000, 0xffff, 0xfff0, 0x2222]);
+    assert_eq!(rt; flags(machine), [0x01, 0x83, 0x0f, 0xf0, 0x55]);
     let sp = machine.sp_regs();
-    assert_eq!(rt;
-        [sp.peek(0), sp.peek(1), sp.peek(2), sp.peek(3)],
-        [0x1ff8, 0xff_fff8, 0xff80_0ff8, 0xff80_0ff8]
-    );
-    assert_eq!(rt;
-        [sp.peek(4), sp.peek(7), sp.peek(8), sp.peek(15)],
-        [0x40c2, 1, 1, 0xffff_ffff]
-    );
-    assert!(rt; sp.interrupt());
-    assert_eq!(rt; machine.dmem().byte(8), 0xab);
-    assert!(rt; machine.step() == StepEnd::Done);
-    assert!(rt; machine.step() == StepEnd::Done);
+    let words = [
+        machine.reg(0),
+        machine.reg(1),
+        machine.reg(31),
+        sp.peek(0),
+        sp.peek(1),
+        sp.peek(2),
+        sp.peek(3),
+        sp.peek(4),
+        sp.peek(7),
+        sp.peek(8),
+        sp.peek(15),
+    ];
+    let expected = [
+        0,
+        0xffff_fffe,
+        0x8000_0001,
+        0x1ff8,
+        0xff_fff8,
+        0xff80_0ff8,
+        0xff80_0ff8,
+        0x40c2,
+        1,
+        1,
+        0xffff_ffff,
+    ];
+    assert_eq!(rt; words, expected);
+    assert!(rt; sp.interrupt() && machine.dmem().byte(8) == 0xab);
+    assert!(rt; machine.step() == StepEnd::Done && machine.step() == StepEnd::Done);
     assert_eq!(rt;
         (machine.pc(), machine.reg(2), machine.reg(1)),
         (4, 2, 0xffff_ffff)
