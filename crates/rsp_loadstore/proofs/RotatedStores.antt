@@ -12,7 +12,7 @@ use Rattle.rsp_lanes.specs.Bytes.{each_byte}
 use Rattle.rsp_lanes.proofs.Kit.{below_eight, lane_of}
 use Rattle.rsp_lanes.proofs.ByteOrder.{each_byte_same}
 use Rattle.rsp_loadstore.specs.File.{vector}
-use Rattle.rsp_loadstore.specs.Stores.{Store, from_byte, stored, after_store}
+use Rattle.rsp_loadstore.specs.Stores.{Store, from_byte, stored, after_store, stv_pair}
 use Rattle.rsp_loadstore.specs.Pairs.{for_each, doubleword_start, wrapped_address, group_start, down_to_even, minus_modulo_16}
 
 -- two runs that have no address in common can be exchanged
@@ -110,7 +110,7 @@ diagonal_byte file base half q h =
 
 pub transposed_stored : (file : List (List ℕ)) (m : List ℕ) (vt e a : ℕ) → e < 16
     → with_bytes m (doubleword_start a) (each_byte (λ k. register_byte (each_lane (λ i. get_or (vector file (group_start vt + (e / 2 + i) % 8)) i 0)) ((16 - a % 8 + k) % 16)))
-    ≡ after_store file m (for_each 16 (λ k. from_byte (group_start vt + k / 2) (minus_modulo_16 k (down_to_even e)) (wrapped_address a (minus_modulo_16 k (down_to_even e)))))
+    ≡ after_store file m (for_each 16 (stv_pair vt (down_to_even e) a))
 unfolding stored
 transposed_stored file m vt e a h =
     ap (with_bytes m (doubleword_start a)) (each_byte_same _ _ (λ p l.
@@ -121,7 +121,7 @@ transposed_stored file m vt e a h =
     ∙ ap (λ n. register_byte (vector file (group_start vt + n)) ((16 - a % 8 + p) % 16)) r
     ∙ ap (register_byte (vector file (group_start vt + k / 2))) q))
     ∙ turned_stored file m
-    (λ k. from_byte (group_start vt + k / 2) (minus_modulo_16 k (down_to_even e)) (wrapped_address a (minus_modulo_16 k (down_to_even e))))
+    (stv_pair vt (down_to_even e) a)
     (λ k. register_byte (vector file (group_start vt + k / 2)) (minus_modulo_16 k (down_to_even e)))
     (doubleword_start a) ((a % 8 + 16 - down_to_even e) % 16) (omega arith)
     (λ m k. ap (λ p. with_byte m (doubleword_start a + p) (register_byte (vector file (group_start vt + k / 2)) (minus_modulo_16 k (down_to_even e)))) (omega arith))

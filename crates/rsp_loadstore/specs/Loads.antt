@@ -8,7 +8,7 @@ use Rattle.rsp_decode.specs.declared.inst.Inst.TheVariants.{VectorLoad}
 use Rattle.rsp_decode.specs.declared.vector.VectorLoadOp.{VectorLoadOp}
 use Rattle.rsp_decode.specs.declared.vector.VectorLoadOp.TheVariants.{Lbv, Lsv, Llv, Ldv, Lqv, Lrv, Lpv, Luv, Lhv, Lfv, Ltv}
 use Rattle.rsp_loadstore.specs.File.{vector, with_vector}
-use Rattle.rsp_loadstore.specs.Pairs.{for_each, quadword_start, doubleword_start, wrapped_address, group_start}
+use Rattle.rsp_loadstore.specs.Pairs.{for_each, quadword_start, doubleword_start, upper_half, wrapped_address, group_start}
 
 -- one pair: a byte of a register takes the byte at an address, or a lane takes that byte times a factor; the address is
 -- modulo 4096
@@ -41,7 +41,7 @@ load_pairs Lpv vt e a = for_each 8 (λ j. to_lane vt j 256 (wrapped_address a (1
 load_pairs Luv vt e a = for_each 8 (λ j. to_lane vt j 128 (wrapped_address a (16 - e + j)))
 load_pairs Lhv vt e a = for_each 8 (λ j. to_lane vt j 128 (wrapped_address a (16 - e + 2 * j)))
 load_pairs Lfv vt e a = for_each 4 (λ j. to_lane vt (e / 2 + j) 128 (wrapped_address a (4 * j)))
-load_pairs Ltv vt e a = for_each 16 (λ k. to_byte (group_start vt + (e / 2 + k / 2) % 8) k (doubleword_start a + (k + e + a / 8 % 2 * 8) % 16))
+load_pairs Ltv vt e a = for_each 16 (λ k. to_byte (group_start vt + (e / 2 + k / 2) % 8) k (doubleword_start a + (k + e + upper_half a) % 16))
 
 -- the elements of LFV are 0 and 8
 abbrev pub IsLoadElement : VectorLoadOp → ℕ → Type 0

@@ -1,6 +1,6 @@
 -- What the rules of vector loads and stores are written with: a pair for each number, quadwords and doublewords, the
 -- sixteen bytes from a doubleword on, and the eight registers of LTV and STV.
-use Rattle.std.specs.Prelude.{ℕ, ◌+◌, ◌-◌, ◌%◌, List, map}
+use Rattle.std.specs.Prelude.{ℕ, ◌+◌, ◌-◌, ◌*◌, ◌/◌, ◌%◌, List, map}
 use Rattle.std.specs.List.{range_with_len}
 
 -- f 0, f 1, and so on up to f (n - 1), in this order
@@ -13,6 +13,10 @@ quadword_start a = a - a % 16
 
 abbrev pub doubleword_start : ℕ → ℕ
 doubleword_start a = a - a % 8
+
+-- 8 for an address in the upper doubleword of its quadword, else 0
+abbrev pub upper_half : ℕ → ℕ
+upper_half a = a / 8 % 2 * 8
 
 -- the address of byte k after a, among the sixteen bytes from a's doubleword on: after the last comes the first
 abbrev pub wrapped_address : ℕ → ℕ → ℕ

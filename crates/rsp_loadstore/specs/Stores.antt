@@ -39,6 +39,11 @@ spv_pair vt j a = if nat_lt j 8 then high_byte_pair vt j a else bits_14_to_7_pai
 abbrev pub suv_pair : ℕ → ℕ → ℕ → Store
 suv_pair vt j a = if nat_lt j 8 then bits_14_to_7_pair vt j a else high_byte_pair vt (j % 8) a
 
+-- STV, pair k of sixteen, by f, which is e rounded down to an even number: byte k - f, modulo 16, of register k / 2 of
+-- vt's group goes to the byte of that number of the sixteen from a's doubleword on
+abbrev pub stv_pair : ℕ → ℕ → ℕ → ℕ → Store
+stv_pair vt f a k = let j = minus_modulo_16 k f in from_byte (group_start vt + k / 2) j (wrapped_address a j)
+
 -- The pairs of each store, by its register vt, its element e and its address a. SBV, SSV, SLV and SDV store 1, 2, 4 and
 -- 8 bytes, SQV as many as fit from a to the end of a's quadword, SRV as many as there are in the quadword before a. SPV
 -- and SUV pack lanes into bytes one after the other, SHV into every second byte, SFV four lanes into every fourth. SWV
@@ -56,7 +61,7 @@ store_pairs Suv vt e a = for_each 8 (λ k. suv_pair vt ((e + k) % 16) (a + k))
 store_pairs Shv vt e a = for_each 8 (λ j. from_bits_14_to_7 vt ((e + 2 * j) % 16) (wrapped_address a (2 * j)))
 store_pairs Sfv vt e a = for_each 4 (λ j. bits_14_to_7_pair vt (e / 2 + j) (wrapped_address a (4 * j)))
 store_pairs Swv vt e a = for_each 16 (λ j. from_byte vt ((e + j) % 16) (wrapped_address a j))
-store_pairs Stv vt e a = for_each 16 (λ k. from_byte (group_start vt + k / 2) (minus_modulo_16 k (down_to_even e)) (wrapped_address a (minus_modulo_16 k (down_to_even e))))
+store_pairs Stv vt e a = for_each 16 (stv_pair vt (down_to_even e) a)
 
 -- the elements of SFV are 0 and 8
 abbrev pub IsStoreElement : VectorStoreOp → ℕ → Type 0

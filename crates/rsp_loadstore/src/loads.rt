@@ -5,7 +5,7 @@ ghost use Rattle.rsp_decode.specs.Table.{IsInstruction};
 ghost use Rattle.rsp_decode.specs.declared.vector.VectorLoadOp.TheVariants.{Lhv, Lfv, Ltv};
 ghost use Rattle.rsp_loadstore.specs.Loads.{to_byte, to_lane, after_load, load_pairs, file_after_load, IsLoadElement};
 ghost use Rattle.rsp_loadstore.specs.TransposedLanes.{with_diagonal};
-ghost use Rattle.rsp_loadstore.specs.Pairs.{for_each, wrapped_address};
+ghost use Rattle.rsp_loadstore.specs.Pairs.{for_each, upper_half, wrapped_address};
 
 use crate::VFile;
 use rsp_decode::{Inst, VectorLoadOp};
@@ -162,7 +162,7 @@ fn load_transposed_wrapped(vt: u8, e: usize, a: u32, memory: &SpMem, file: &mut 
 fn set_diagonal(vt: u8, e: usize, bytes: &[u8; 16], a: u32, file: &mut VFile)
     requires register { vt < 32 }
     requires element { e < 16 }
-    ensures { file.new ≡ with_diagonal (of_bytes (λ k. slice_index bytes.now ((e + a / 8 % 2 * 8 + k) % 16))) (vt - vt % 8) (e / 2) file.old 8 }
+    ensures { file.new ≡ with_diagonal (of_bytes (λ k. slice_index bytes.now ((e + upper_half a + k) % 16))) (vt - vt % 8) (e / 2) file.old 8 }
 {
     let first = (vt - vt % 8) as usize;
     let start = (e as u32 + a / 8 % 2 * 8) as u8;
