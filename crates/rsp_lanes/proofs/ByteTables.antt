@@ -84,9 +84,6 @@ far_behind i = each_byte (λ p. (byte_at_position p + (256 - i)) % 256)
 distance_at : (j : ℕ) → j < 47 → get_or DISTANCES j 0 ≡ (271 - j) % 256
 distance_at j h = eqb-true _ _ (agree_below_at (λ j. nat_eq (get_or DISTANCES j 0) ((271 - j) % 256)) (λ _. true) 47 j refl h)
 
-from_last_at : (p : ℕ) → p < 16 → get_or FROM_LAST p 0 ≡ 15 - byte_at_position p
-from_last_at p h = eqb-true _ _ (agree_below_at (λ p. nat_eq (get_or FROM_LAST p 0) (15 - byte_at_position p)) (λ _. true) 16 p refl h)
-
 swapped_at : (p : ℕ) → p < 16 → swapped p ≡ byte_at_position p
 swapped_at p h = eqb-true _ _ (agree_below_at (λ p. nat_eq (swapped p) (byte_at_position p)) (λ _. true) 16 p refl h)
 
