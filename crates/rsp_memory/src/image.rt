@@ -18,7 +18,7 @@ impl Model for Rdram {
 
     ghost view = { λ r. r.bytes.items };
 
-    ghost invariant = { λ r. IsImageLength (length r.bytes.items) };
+    ghost invariant = { λ r. IsImage r.bytes.items };
 }
 
 /// Fault 7, SizeFault: no image has this length. It returns the bytes to the caller.
@@ -45,24 +45,13 @@ impl Rdram {
         }
     }
 
-    /// Does nothing. Its contract gives the prover a fact: the number of bytes is a multiple of 8 from 64 to 8,388,608.
+    /// All the bytes, in place.
     #[inline(always)]
-    pub fn ranges(&self)
-        ensures { IsImageLength (length self.now) }
+    pub fn bytes(&self) -> &[u8]
+        ensures value { result.now ≡ self.now }
+        ensures image { IsImage self.now }
     {
-        let _ = &self.bytes;
-    }
-
-    /// Does nothing. Its contract gives the prover a fact: there are as many bytes as an image can have, each below
-    /// 256.
-    #[inline(always)]
-    pub fn byte_ranges(&self)
-        ensures { IsImage self.now }
-    {
-        // The prover knows the range of a number that is read. An optimised build drops the loop.
-        for i in 0..self.len() {
-            let _byte = self.bytes[i];
-        }
+        &self.bytes
     }
 
     /// The byte at address `a` modulo 2^24; 0 after the image's end.
@@ -91,7 +80,8 @@ impl Rdram {
 
     /// At most `n` bytes, from address `a` modulo 2^24 to the image's end; none if `a` is after it.
     pub fn run(&self, a: u32, n: usize) -> &[u8]
-        ensures { result.now ≡ take n (drop (a % 16777216) self.now) }
+        ensures value { result.now ≡ take n (drop (a % 16777216) self.now) }
+        ensures within { IsImageLength (length self.now) }
     {
         let at = self.len().min((a % 16_777_216) as usize);
         &self.bytes[at..at + n.min(self.len() - at)]
@@ -113,7 +103,8 @@ impl Rdram {
     /// The number of bytes.
     #[inline]
     pub fn len(&self) -> usize
-        ensures { result ≡ length self.now }
+        ensures value { result ≡ length self.now }
+        ensures within { IsImageLength result }
     {
         self.bytes.len()
     }

@@ -1,5 +1,5 @@
 ghost use Rattle.std.specs.Prelude.{◌≡◌, ◌<◌, ◌≤◌, ◌%◌, ◌*◌, ◌/◌, ℕ, List, length, take, drop, MatchOption};
-ghost use Rattle.rsp_memory.specs.Memory.{IsMemory, empty_memory, byte_at, half_at, word_at, with_byte, with_half, with_word, bytes_at, with_bytes};
+ghost use Rattle.rsp_memory.specs.Memory.{empty_memory, byte_at, half_at, word_at, with_byte, with_half, with_word, bytes_at, with_bytes};
 
 use crate::splice::splice;
 use byteorder::{BigEndian, ByteOrder};
@@ -28,23 +28,12 @@ impl SpMem {
         SpMem { bytes: [0; 4096] }
     }
 
-    /// Does nothing. Its contract gives the prover a fact: there are 4096 bytes.
+    /// All the bytes, in place.
     #[inline(always)]
-    pub fn ranges(&self)
-        ensures { length self.now ≡ 4096 }
+    pub fn bytes(&self) -> &[u8; 4096]
+        ensures { result.now ≡ self.now }
     {
-        let _ = &self.bytes;
-    }
-
-    /// Does nothing. Its contract gives the prover a fact: there are 4096 bytes, each below 256.
-    #[inline(always)]
-    pub fn byte_ranges(&self)
-        ensures { IsMemory self.now }
-    {
-        // The prover knows the range of a number that is read. An optimised build drops the loop.
-        for i in 0..4096 {
-            let _byte = self.bytes[i];
-        }
+        &self.bytes
     }
 
     /// The byte at address `a`.
@@ -207,7 +196,8 @@ impl SpMem {
 
     /// At most `n` bytes from address `a` on, up to the first that wraps: at least one, unless `n` is 0.
     pub fn run(&self, a: u32, n: usize) -> &[u8]
-        ensures { result.now ≡ take n (drop (a % 4096) self.now) }
+        ensures value { result.now ≡ take n (drop (a % 4096) self.now) }
+        ensures whole { length self.now ≡ 4096 }
     {
         let at = (a % 4096) as usize;
         &self.bytes[at..at + n.min(4096 - at)]
