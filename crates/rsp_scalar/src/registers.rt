@@ -42,17 +42,10 @@ impl Regs {
 
     /// All 32 registers.
     pub fn words(&self) -> [u32; 32]
-        ensures { result ≡ self.now }
+        ensures value { result ≡ self.now }
+        ensures within { IsRegisters result }
     {
         self.words
-    }
-
-    /// Does nothing. Its contract gives the prover a fact: there are 32 numbers below 2^32, and register 0 is 0.
-    #[inline(always)]
-    pub fn ranges(&self)
-        ensures { IsRegisters self.now }
-    {
-        let _ = &self.words;
     }
 
     /// Register `n`, below 32.
