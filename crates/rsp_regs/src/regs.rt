@@ -63,14 +63,6 @@ impl Model for SpRegs {
     } };
 }
 
-/// Does nothing. Its contract gives the prover a fact: the words are below 2^32.
-#[inline(always)]
-fn below(words: [u32; 8])
-    ensures { (i : ℕ) → slice_index words i < 2 ^ 32 }
-{
-    let _ = words;
-}
-
 impl SpRegs {
     /// The registers at the start: zeros.
     pub fn new() -> SpRegs
@@ -91,17 +83,11 @@ impl SpRegs {
         }
     }
 
-    /// Does nothing. Its contract gives the prover a fact: the registers are in their ranges.
-    #[inline(always)]
-    pub fn ranges(&self)
-        ensures { IsSp self.now }
-    {
-        below(self.dpc);
-    }
-
     /// All registers as plain data. The semaphore isn't taken.
     pub fn parts(&self) -> SpParts
-        ensures { result ≡ parts_of self.now }
+        ensures value { result ≡ parts_of self.now }
+        ensures within { AreSpRanges result.memory result.dram result.skip }
+        ensures ranges { IsSp self.now }
     {
         SpParts {
             memory: self.memory,
@@ -114,8 +100,16 @@ impl SpRegs {
             signals: self.signals,
             interrupt: self.interrupt,
             semaphore: self.semaphore,
-            dpc: self.dpc,
+            dpc: self.dpc_words(),
         }
+    }
+
+    /// The eight DPC registers.
+    #[inline(always)]
+    fn dpc_words(&self) -> [u32; 8]
+        ensures { result ≡ self.now.dpc }
+    {
+        self.dpc
     }
 
     /// The registers with these values. Requires that each fits into its register.

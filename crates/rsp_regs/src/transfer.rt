@@ -55,7 +55,6 @@ fn copy_row_in(sp: u32, dram: u32, length: u32, rdram: &Rdram, bank: &mut SpMem)
     requires length { length ≤ 4096 }
     ensures { bank.new ≡ copied_in rdram.now bank.old (row_pairs sp dram length) }
 {
-    rdram.ranges();
     let mut done = 0;
     while done < length {
         let run = rdram.run(dram + done, (length - done) as usize);
@@ -77,7 +76,6 @@ fn copy_row_out(sp: u32, dram: u32, length: u32, bank: &SpMem, rdram: &mut Rdram
     requires length { length ≤ 4096 }
     ensures { rdram.new ≡ copied_out bank.now rdram.old (row_pairs sp dram length) }
 {
-    bank.ranges();
     let mut done = 0;
     while done < length {
         let room = (0x100_0000 - (dram + done) % 0x100_0000).min(length - done);
