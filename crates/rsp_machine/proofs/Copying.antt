@@ -5,8 +5,8 @@ use Rattle.rsp_memory.specs.Memory.{with_bytes}
 use Rattle.rsp_memory.proofs.Runs.{with_bytes-spliced}
 use Rattle.rsp_numbers.specs.Numbers.{AreNumbers}
 use Rattle.rsp_acc.proofs.Rejoined.{parts_joined}
-use Rattle.rsp_machine.specs.State.{State, IsState}
-use Rattle.rsp_machine.specs.Registers.{AreRegisters, registers_of, with_registers}
+use Rattle.rsp_machine.specs.State.{State}
+use Rattle.rsp_machine.specs.Registers.{registers_of, with_registers}
 
 -- all bytes of a memory written over those of another
 pub written-whole : (m bytes : List ℕ) → length m ≡ 4096 → length bytes ≡ 4096 → with_bytes m 0 bytes ≡ bytes
@@ -14,11 +14,6 @@ written-whole m bytes h k =
     with_bytes-spliced m 0 bytes (omega (arith, k)) h
     ∙ ap (λ xs. bytes ++ xs) (drop_all (0 + length bytes) m (omega (arith, h, k)))
     ∙ append-nil bytes
-
--- the registers of a state are those of a machine
-pub are-registers-of : (s : State) → IsState s → AreRegisters (registers_of s)
-unfolding registers_of
-are-registers-of s h = record { pc = h.pc; npc = h.npc; zero = h.registers.zero; sp = h.sp.kept }
 
 -- set in a state with the same memories they make the same state
 pub with-registers-as : (s t : State) → AreNumbers s.accumulators → t.dmem ≡ s.dmem → t.imem ≡ s.imem → t.rdram ≡ s.rdram

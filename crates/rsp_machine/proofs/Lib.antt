@@ -10,3 +10,4 @@ pub mod LoopSteps
 pub mod Records
 pub mod Whole
 pub mod Copying
+pub mod Effects

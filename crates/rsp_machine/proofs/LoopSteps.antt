@@ -14,14 +14,14 @@ use Rattle.rsp_machine.specs.Step.{after_single_step, step_by, step_of}
 use Rattle.rsp_machine.specs.Laws.{steps_of, done_steps, done_of}
 use Rattle.rsp_machine.specs.Undo.{after_instruction, after_step_from}
 use Rattle.rsp_machine.specs.Transfers.{starts_dma_at}
-use Rattle.rsp_machine.specs.Changes.{IsRanged}
+use Rattle.rsp_machine.specs.Changes.{IsRanged, reached, after}
 use Rattle.rsp_machine.specs.Loop.{AreDone, IsInjective, HasRecorded, HaveRecorded, LoopEnd}
 use Rattle.rsp_machine.specs.declared.change.Change.{Change}
 use Rattle.rsp_machine.specs.declared.change.Reach.{Reach}
 use Rattle.rsp_machine.specs.declared.step.StepEnd.{StepEnd}
 use Rattle.rsp_machine.specs.declared.step.StepEnd.TheVariants.{Done, Halted, Reserved}
 use Rattle.rsp_machine.specs.Until.{may_store_at, ends_after, refuses_by, refuses_at, permitted}
-use Rattle.rsp_machine.proofs.OneStep.{reached, after, stays, free, clear_as, clear_behind, halted_as, stored-as, dma-as, dma-free, step_halted, step_reserved, step_done}
+use Rattle.rsp_machine.proofs.OneStep.{stays, free, clear_as, clear_behind, halted_as, stored-as, dma-as, dma-free, step_halted, step_reserved, step_done}
 
 -- no step, and one more
 pub made-none : (k : ℕ) (s t : State) → k ≡ 0 → t ≡ s → AreDone k s t

@@ -1,6 +1,6 @@
 -- How a step of a machine that isn't halted ends.
 use Rattle.std.proofs.Common.{◌≡◌, ℕ, Bool, true, false, not, ◌||◌, refl, sym, ap, ◌∙◌, Option, Some, None}
-use Rattle.std.specs.Prelude.{if◌then◌else◌, option_map, unwrap_or}
+use Rattle.std.specs.Prelude.{if◌then◌else◌}
 use Rattle.rsp_decode.specs.declared.inst.Inst.{Inst}
 use Rattle.rsp_decode.specs.declared.inst.Inst.TheVariants.{Break, MoveSp, MoveVector, MoveControl}
 use Rattle.rsp_decode.specs.declared.scalar.MoveOp.TheVariants.{From, To}
@@ -11,22 +11,15 @@ use Rattle.rsp_machine.specs.State.{State}
 use Rattle.rsp_machine.specs.Vector.{multiplies, rounds, multiplies_mpeg, reads_accumulator, ruled, divides, loads_vector, stores_vector, moves_vector, moves_control}
 use Rattle.rsp_machine.specs.Step.{computes, loads, stores, jumps, instruction_effect, executed, after_single_step, step_by, step_of}
 use Rattle.rsp_machine.specs.declared.step.StepEnd.TheVariants.{Done, Halted, Reserved}
-use Rattle.rsp_machine.specs.Transfers.{starts_dma_in, starts_dma_at}
+use Rattle.rsp_machine.specs.Transfers.{starts_dma, starts_dma_in, starts_dma_at}
 use Rattle.rsp_machine.specs.declared.change.Change.TheVariants as of
 use Rattle.rsp_regs.specs.Sp.{is_length_register}
-use Rattle.rsp_machine.specs.Undo.{change_of, starts_dma, can_undo}
-use Rattle.rsp_machine.specs.Changes.{reaches_sp, reach_of}
+use Rattle.rsp_machine.specs.Undo.{change_of, can_undo}
+use Rattle.rsp_machine.specs.Changes.{reaches_sp, reach_of, reached, after}
 use Rattle.rsp_machine.specs.Until.{may_store_by, may_store_at}
 use Rattle.rsp_machine.specs.declared.change.Change.{Change}
 use Rattle.rsp_machine.specs.declared.change.Reach.{Reach}
 use Rattle.rsp_machine.proofs.Undo.{dma_of}
-
--- what the loop asks of an instruction, if there is one; and the state after it
-abbrev pub reached : State → Option Inst → Option Reach
-reached s o = option_map (λ i. reach_of (change_of i s)) o
-
-abbrev pub after : State → Option Inst → State
-after s o = unwrap_or (option_map (λ i. executed i s) o) s
 
 -- an instruction that doesn't reach the SP registers leaves them
 dma_reaches : (b : Bool) (X : Type 0) → reaches_sp (if b then of.Dma else of.Sp 0) ≡ false → X

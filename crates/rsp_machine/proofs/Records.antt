@@ -1,20 +1,18 @@
 -- Which states the records of steps undo to.
-use Rattle.std.proofs.Common.{◌≡◌, ◌⊎◌, inl, inr, ℕ, zero, suc, ◌+◌, ◌-◌, ◌<◌, ◌≤◌, Bool, true, false, not, List, [], ◌∷◌, length, drop, get_or, refl, sym, ap, ◌∙◌, arith, add-one, Option, Some, None}
+use Rattle.std.proofs.Common.{◌≡◌, inl, inr, ℕ, zero, suc, ◌+◌, ◌<◌, ◌≤◌, Bool, true, false, not, List, [], ◌∷◌, length, drop, get_or, refl, sym, ap, ◌∙◌, arith, add-one, Option, Some, None}
 use Rattle.std.specs.Prelude.{slice_get, IsSome, is_some}
 use Rattle.std.proofs.lemmas.Bool.{cases_lt}
 use Rattle.std.proofs.lemmas.Option.{get_or_from_slice_get}
 use Rattle.rsp_machine.specs.State.{State}
 use Rattle.rsp_machine.specs.Step.{step_of}
 use Rattle.rsp_machine.specs.Laws.{steps_of, done_steps, done_of}
-use Rattle.rsp_machine.specs.Undo.{Saved, blank, record_of, after_step_from, record_at, can_undo, may_store, undone}
+use Rattle.rsp_machine.specs.Undo.{Saved, blank, record_of, after_step_from, record_at, can_undo, undone}
 use Rattle.rsp_machine.specs.Transfers.{starts_dma_at}
-use Rattle.rsp_decode.specs.declared.scalar.MoveOp.{MoveOp}
-use Rattle.rsp_machine.specs.Until.{ends_after, refuses_at}
-use Rattle.rsp_machine.specs.Loop.{HasRecorded, HaveRecorded, LoopEnd}
+use Rattle.rsp_machine.specs.Loop.{AreDone, AreRecorded, HasRecorded, HaveRecorded, LoopEnd}
 use Rattle.rsp_machine.specs.declared.step.StepEnd.TheVariants.{Done}
 use Rattle.rsp_machine.proofs.OneStep.{not_back}
-use Rattle.rsp_machine.proofs.LoopSteps.{done_few, is_done}
-use Rattle.rsp_machine.proofs.Undo.{record-dma, record-back, record-memory}
+use Rattle.rsp_machine.proofs.LoopSteps.{done_few, is_done, never-refuses}
+use Rattle.rsp_machine.proofs.Undo.{record-dma, record-back}
 
 -- the steps one after the other
 pub steps-more : (i : ℕ) (s : State) → steps_of (i + 1) s ≡ (step_of (steps_of i s)).1
@@ -40,8 +38,8 @@ done-each (suc k) s d i h =
     ]
 
 -- the records of k steps from s
-abbrev pub AreRecorded : ℕ → State → List Saved → List Saved → Type 0
-AreRecorded k s old new = HaveRecorded record_of (λ n. n) k s old new
+abbrev pub HaveSaved : ℕ → State → List Saved → List Saved → Type 0
+HaveSaved k s old new = HaveRecorded record_of (λ n. n) k s old new
 
 record_is : (s : State) (rs : List Saved) (i : ℕ) (h : HasRecorded record_of s (slice_get rs i)) → record_at rs i ≡ after_step_from record_of s h.before
 record_is s rs i h = get_or_from_slice_get rs i (after_step_from record_of s h.before) blank h.told
@@ -49,7 +47,7 @@ record_is s rs i h = get_or_from_slice_get rs i (after_step_from record_of s h.b
 each : (i j : ℕ) → i ≡ j → i ≡ j
 each i j e = e
 
-module _ (k : ℕ) (s : State) (old new : List Saved) (a : AreRecorded k s old new) (done : done_of k s ≡ k) where
+module _ (k : ℕ) (s : State) (old new : List Saved) (a : HaveSaved k s old new) (done : done_of k s ≡ k) where
   pub recorded-which : (i : ℕ) → i < k → can_undo (record_at new i).change ≡ not (starts_dma_at (steps_of i s))
   recorded-which i h =
       let told = a.told each i h in
@@ -59,24 +57,6 @@ module _ (k : ℕ) (s : State) (old new : List Saved) (a : AreRecorded k s old n
   recorded-back i h none =
       let told = a.told each i h in
       rw (record_is (steps_of i s) new i told, steps-more i s) (record-back (steps_of i s) told.before told.ranged (done-each k s done i h) none)
-
-  pub recorded-memory : (i : ℕ) → i < k → may_store (record_at new i) ≡ false → (steps_of (i + 1) s).dmem ≡ (steps_of i s).dmem
-  recorded-memory i h none =
-      let told = a.told each i h in
-      ap (λ (x : State). x.dmem) (steps-more i s)
-      ∙ record-memory (steps_of i s) told.before (done-each k s done i h) (ap may_store (sym (record_is (steps_of i s) new i told)) ∙ none)
-
-pub recorded-end : (k : ℕ) (s t : State) (ends : ℕ → ℕ → Bool → Bool) (refuses : MoveOp → ℕ → Bool) → LoopEnd true ends refuses k s t
-    → (done_steps (step_of t).0 ≡ 0) ⊎ (refuses_at refuses t ≡ true) ⊎ ((0 < k) × ((starts_dma_at (steps_of (k - 1) s) ≡ true) ⊎ (ends_after ends (steps_of (k - 1) s) ≡ true)))
-recorded-end k s t ends refuses (inl stuck) = inl stuck
-recorded-end k s t ends refuses (inr (inl refused)) = inr (inl refused)
-recorded-end k s t ends refuses (inr (inr (some, inl last))) = inr (inr (some, inl last.1))
-recorded-end k s t ends refuses (inr (inr (some, inr ended))) = inr (inr (some, inr ended))
-
-pub recorded-never : {D : Type 0} (s : State) → D ⊎ (ends_after (λ pc word stored. false) s ≡ true) → D
-unfolding ends_after
-recorded-never s (inl d) = d
-recorded-never s (inr ended) = cc
 
 -- the further records stay
 drop_as : {X : Type 0} (xs ys : List X) (n : ℕ) → length xs ≡ length ys → ((j : ℕ) → n ≤ j → slice_get xs j ≡ slice_get ys j) → drop n xs ≡ drop n ys
@@ -92,8 +72,20 @@ drop_as (x ∷ xs) (y ∷ ys) zero len same =
     some_is x y e = cc
 drop_as (x ∷ xs) (y ∷ ys) (suc n) len same = drop_as xs ys n (omega (arith, len)) (λ j h. same (suc j) (omega (arith, h)))
 
-pub recorded-rest : (k : ℕ) (s : State) (old new : List Saved) → AreRecorded k s old new → drop k new ≡ drop k old
+pub recorded-rest : (k : ℕ) (s : State) (old new : List Saved) → HaveSaved k s old new → drop k new ≡ drop k old
 recorded-rest k s old new a = drop_as new old k a.len (λ j h. a.rest j (λ i l e. absurd (omega (arith, h, l, e))))
+
+-- all that a run with records promises
+pub are-recorded : (k : ℕ) (s t : State) (old new : List Saved) → k ≤ length old → AreDone k s t → HaveSaved k s old new → ((i : ℕ) → i + 1 < k → true ≡ true → starts_dma_at (steps_of i s) ≡ false) → AreRecorded k s t old new
+are-recorded k s t old new within made told before = record {
+  within = within;
+  made = made;
+  before = λ i h. before i h refl;
+  which = recorded-which k s old new told made.done;
+  back = recorded-back k s old new told made.done;
+  rest = recorded-rest k s old new told;
+  len = told.len;
+}
 
 -- one step
 pub recorded-none : (k : ℕ) (s t : State) → k ≡ 0 → t ≡ steps_of k s → t ≡ s
@@ -103,6 +95,12 @@ recorded-none k s t e there = there ∙ ap (λ i. steps_of i s) e
 pub recorded-one : (k : ℕ) (s t : State) → k ≡ 1 → done_of k s ≡ k → t ≡ steps_of k s → (Done ≡ (step_of s).0) × (t ≡ (step_of s).1)
 unfolding steps_of
 recorded-one k s t e done there = (sym (done-each k s done 0 (omega (arith, e))), there ∙ ap (λ i. steps_of i s) e)
+
+-- none, where no test ends or refuses
+pub none-stuck : (k : ℕ) (s t : State) → k ≡ 0 → LoopEnd true (λ pc word stored. false) (λ row register. false) k s t → done_steps (step_of t).0 ≡ 0
+none-stuck k s t e (inl stuck) = stuck
+none-stuck k s t e (inr (inl refused)) = never-refuses t _ refused
+none-stuck k s t e (inr (inr last)) = absurd (omega (arith, last.0, e))
 
 -- and the record of it, where it leads back
 pub which-some : {X : Type 0} (o : Option X) (x : X) (dma b : Bool) → o ≡ Some x → b ≡ not dma → b ≡ true → (IsSome o → (Done ≡ Done) × (dma ≡ false)) × ((Done ≡ Done) × (dma ≡ false) → IsSome o)

@@ -26,9 +26,9 @@ use Rattle.rsp_machine.specs.Step.{computes, loads, stores, jumps, break_instruc
 use Rattle.rsp_machine.specs.Host.{register_written}
 use Rattle.rsp_machine.specs.declared.step.StepEnd.TheVariants.{Done, Halted}
 use Rattle.rsp_regs.specs.Sp.{is_length_register}
-use Rattle.rsp_machine.specs.Undo.{Saved, record_of, values_saved, restored, change_of, undone, starts_dma, after_instruction, after_step_from, may_store, can_undo, changes_memory}
+use Rattle.rsp_machine.specs.Undo.{Saved, record_of, values_saved, restored, change_of, undone, after_instruction, after_step_from, can_undo, changes_memory}
 use Rattle.rsp_machine.specs.Changes.{IsRanged}
-use Rattle.rsp_machine.specs.Transfers.{starts_dma_in, starts_dma_at}
+use Rattle.rsp_machine.specs.Transfers.{starts_dma, starts_dma_in, starts_dma_at}
 use Rattle.rsp_machine.specs.Until.{may_store_by, may_store_at}
 use Rattle.rsp_machine.specs.declared.change.Change.{Change}
 use Rattle.rsp_machine.specs.declared.change.Change.TheVariants as of
@@ -212,15 +212,3 @@ stays_by false (Some i) word s e h = dmem_stays i s h
 pub memory-kept : (s : State) → (step_of s).0 ≡ Done → may_store_at s ≡ false → (step_of s).1.dmem ≡ s.dmem
 unfolding may_store_at step_of
 memory-kept s e h = stays_by s.sp.halted (inst_of (word_at s.imem s.pc)) (word_at s.imem s.pc) s e h
-
--- its record says so
-memory_by : (b : Bool) (o : Option Inst) (word : ℕ) (s : State) (r : Saved) → (if b then (Halted, s) else step_by o word s).0 ≡ Done
-    → may_store (if b then r else after_instruction record_of o s r) ≡ may_store_by o s
-memory_by true o word s r e = cc
-memory_by false None word s r e = cc
-memory_by false (Some i) word s r e = ap changes_memory (change_kept (change_of i s) s r)
-
-pub record-memory : (s : State) (r : Saved) → (step_of s).0 ≡ Done → may_store (after_step_from record_of s r) ≡ false → (step_of s).1.dmem ≡ s.dmem
-unfolding after_step_from step_of may_store_at
-record-memory s r e h =
-    memory-kept s e (sym (memory_by s.sp.halted (inst_of (word_at s.imem s.pc)) (word_at s.imem s.pc) s r e) ∙ h)

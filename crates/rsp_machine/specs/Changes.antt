@@ -1,10 +1,12 @@
 -- Scaffolding of proofs: what the code requires of a change, and what it reports of one. Undo defines the changes.
-use Rattle.std.specs.Prelude.{ℕ, ◌+◌, ◌<◌, ◌≡◌, Bool, true, false, not}
+use Rattle.std.specs.Prelude.{ℕ, ◌+◌, ◌<◌, ◌≡◌, Bool, true, false, not, Option, option_map, unwrap_or}
 use Rattle.rsp_numbers.specs.Numbers.{AreNumbers}
 use Rattle.rsp_lanes.specs.Flags.{flags_at, all_flags}
 use Rattle.rsp_loadstore.specs.File.{IsFile}
+use Rattle.rsp_decode.specs.declared.inst.Inst.{Inst}
 use Rattle.rsp_machine.specs.State.{State}
-use Rattle.rsp_machine.specs.Undo.{changes_memory, can_undo}
+use Rattle.rsp_machine.specs.Step.{executed}
+use Rattle.rsp_machine.specs.Undo.{change_of, changes_memory, can_undo}
 use Rattle.rsp_machine.specs.declared.change.Change.{Change}
 use Rattle.rsp_machine.specs.declared.change.Reach.{Reach}
 use Rattle.rsp_machine.specs.declared.change.Change.TheVariants as of
@@ -41,3 +43,10 @@ reaches_sp _ = false
 -- what the loop of steps tests after an instruction with a change
 abbrev pub reach_of : Change → Reach
 reach_of change = record { sp = reaches_sp change; dmem = changes_memory change; dma = not (can_undo change) }
+
+-- what the loop tests after an instruction, if there is one; and the state after it
+abbrev pub reached : State → Option Inst → Option Reach
+reached s o = option_map (λ i. reach_of (change_of i s)) o
+
+abbrev pub after : State → Option Inst → State
+after s o = unwrap_or (option_map (λ i. executed i s) o) s

@@ -1,9 +1,9 @@
--- Scaffolding: what holds of the steps that a loop has made.
-use Rattle.std.specs.Prelude.{ℕ, ◌≡◌, ◌≢◌, ◌<◌, ◌-◌, ◌⊎◌, Bool, true, List, length, slice_get, Option, Some}
+-- What holds of the steps that a loop has made, and why it ends.
+use Rattle.std.specs.Prelude.{ℕ, ◌≡◌, ◌≢◌, ◌<◌, ◌≤◌, ◌+◌, ◌-◌, ◌⊎◌, Bool, true, false, not, List, length, drop, slice_get, Option, Some}
 use Rattle.rsp_machine.specs.State.{State}
 use Rattle.rsp_machine.specs.Step.{step_of}
 use Rattle.rsp_machine.specs.Laws.{steps_of, done_steps, done_of}
-use Rattle.rsp_machine.specs.Undo.{after_step_from}
+use Rattle.rsp_machine.specs.Undo.{Saved, after_step_from, can_undo, record_at, undone}
 use Rattle.rsp_machine.specs.Transfers.{starts_dma_at}
 use Rattle.rsp_machine.specs.Changes.{IsRanged}
 use Rattle.rsp_decode.specs.declared.scalar.MoveOp.{MoveOp}
@@ -36,3 +36,14 @@ pub record HaveRecorded {K : Type 0} (saves : Change → State → K → K) (slo
 abbrev pub LoopEnd : Bool → (ℕ → ℕ → Bool → Bool) → (MoveOp → ℕ → Bool) → ℕ → State → State → Type 0
 LoopEnd at_dma ends refuses k s t =
     (done_steps (step_of t).0 ≡ 0) ⊎ (refuses_at refuses t ≡ true) ⊎ ((0 < k) × (((at_dma ≡ true) × (starts_dma_at (steps_of (k - 1) s) ≡ true)) ⊎ (ends_after ends (steps_of (k - 1) s) ≡ true)))
+
+-- What a run with records promises. Its k steps lead from s to t, all Done, and only the last may start a DMA. The first k records are theirs: each
+-- undoes its step, unless that starts a DMA. The others stay.
+pub record AreRecorded (k : ℕ) (s t : State) (old new : List Saved) : Type 0 where
+  pub within : k ≤ length old
+  pub made : AreDone k s t
+  pub before : (i : ℕ) → i + 1 < k → starts_dma_at (steps_of i s) ≡ false
+  pub which : (i : ℕ) → i < k → can_undo (record_at new i).change ≡ not (starts_dma_at (steps_of i s))
+  pub back : (i : ℕ) → i < k → starts_dma_at (steps_of i s) ≡ false → undone (record_at new i) (steps_of (i + 1) s) ≡ steps_of i s
+  pub rest : drop k new ≡ drop k old
+  pub len : length new ≡ length old

@@ -162,24 +162,16 @@ after_instruction saves (Some i) s k = saves (change_of i s) s k
 unfoldable pub after_step_from : {K : Type 0} → (Change → State → K → K) → State → K → K
 after_step_from saves s k = if s.sp.halted then k else after_instruction saves (inst_of (word_at s.imem s.pc)) s k
 
--- whether an instruction starts a DMA
-abbrev pub starts_dma : Inst → Bool
-starts_dma (MoveSp To rt n) = is_length_register n
-starts_dma _ = false
-
 -- whether a record undoes its step
 abbrev pub can_undo : Change → Bool
 can_undo of.Dma = false
 can_undo _ = true
 
--- whether the step that wrote a record may have changed DMEM: it stored there, or it started a DMA
+-- whether a step with this change may change DMEM: it stores there, or it starts a DMA
 abbrev pub changes_memory : Change → Bool
 changes_memory (of.Bytes a) = true
 changes_memory of.Dma = true
 changes_memory _ = false
-
-abbrev pub may_store : Saved → Bool
-may_store r = changes_memory r.change
 
 -- vector register n and the accumulators, written back
 abbrev pub with_product : ℕ → Saved → State → State

@@ -98,14 +98,15 @@ impl<'a, A: Acc> Visitor for Naming<'a, A> {
     }
 }
 
-impl<A: Acc> Machine<A> {
+impl Effect {
     /// Which registers the word at pc writes when it is executed, and where it stores. A reserved word does neither.
     #[tactic(auto, unfolding(crate::specs::Effects::effect_of))]
-    pub fn effect(&self) -> Effect
-        ensures { result ≡ effect_of self.now }
+    pub fn of<A: Acc>(machine: &Machine<A>) -> Effect
+        ensures value { result ≡ effect_of machine.now }
+        ensures register { result.scalar < 32 }
     {
         let mut naming = Naming {
-            machine: self,
+            machine,
             effect: Effect {
                 scalar: 0,
                 vector: 32,
@@ -113,7 +114,7 @@ impl<A: Acc> Machine<A> {
                 stored: false,
             },
         };
-        visit(self.word_at(self.counters()), &mut naming);
+        visit(machine.word_at(machine.counters()), &mut naming);
         naming.effect
     }
 }

@@ -1,13 +1,13 @@
 // What an instruction does.
 
-ghost use Rattle.std.specs.Prelude.{◌≡◌, ◌<◌, Some, option_map, unwrap_or};
+ghost use Rattle.std.specs.Prelude.{◌≡◌, ◌<◌, Some};
 ghost use Rattle.rsp_decode.specs.Table.{IsInstruction, inst_of};
 ghost use Rattle.rsp_decode.specs.declared.scalar.MoveOp.TheVariants as row;
 ghost use Rattle.rsp_scalar.specs.Flow.{next_npc, with_link};
-ghost use Rattle.rsp_machine.specs.Step.{computes, loads, stores, break_instruction, moves_sp, instruction_effect, executed};
+ghost use Rattle.rsp_machine.specs.Step.{computes, loads, stores, break_instruction, moves_sp, instruction_effect};
 ghost use Rattle.rsp_machine.specs.ProgramCounters.{with_counters, counters_of};
-ghost use Rattle.rsp_machine.specs.Undo.{change_of, after_instruction};
-ghost use Rattle.rsp_machine.specs.Changes.{IsChange, reach_of};
+ghost use Rattle.rsp_machine.specs.Undo.{after_instruction};
+ghost use Rattle.rsp_machine.specs.Changes.{IsChange, reach_of, reached, after};
 ghost use Rattle.rsp_machine.specs.Until.{refuses_by, permitted};
 
 use crate::change::{Change, Reach, change_of};
@@ -27,8 +27,8 @@ struct Executor<'a, 'b, A: Acc, K: Recorder, U: Until> {
     recorder: &'a mut K,
     /// The test that may refuse a move. Its type gives each loop its own copy of the decoder, which LLVM then inlines.
     until: &'b U,
-    /// The address of the instruction.
-    address: InstructionAddress,
+    /// pc and npc before the instruction.
+    before: ProgramCounters,
     /// pc and npc after the instruction. Those in `machine` are stale while the loop runs.
     counters: ProgramCounters,
     /// What the loop tests after the instruction; None if none was executed.
@@ -40,13 +40,9 @@ impl<'a, 'b, A: Acc, K: Recorder, U: Until> Executor<'a, 'b, A, K, U> {
     #[inline(always)]
     fn save(&mut self, change: Change)
         requires { IsChange change }
-        ensures { self.new ≡ record self.old { recorder = record self.old.recorder { now = K.saves change (with_counters (record { pc = self.old.address; npc = self.old.counters.pc }) self.old.machine.now) self.old.recorder.now }; reach = Some (reach_of change) } }
+        ensures { self.new ≡ record self.old { recorder = record self.old.recorder { now = K.saves change (with_counters self.old.before self.old.machine.now) self.old.recorder.now }; reach = Some (reach_of change) } }
     {
-        let before = ProgramCounters {
-            pc: self.address,
-            npc: self.counters.pc,
-        };
-        self.recorder.save(self.machine, before, change);
+        self.recorder.save(self.machine, self.before, change);
         self.reach = Some(change.reach());
     }
 
@@ -220,17 +216,17 @@ impl<A: Acc> Machine<A> {
         recorder: &mut K,
         until: &U,
     ) -> Option<Reach>
-        ensures answer { result ≡ option_map (λ i. reach_of (change_of i (with_counters counters.old self.old))) (permitted (U.refuses until.now) (inst_of word)) }
-        ensures state { with_counters counters.new self.new ≡ unwrap_or (option_map (λ i. executed i (with_counters counters.old self.old)) (permitted (U.refuses until.now) (inst_of word))) (with_counters counters.old self.old) }
+        ensures answer { result ≡ reached (with_counters counters.old self.old) (permitted (U.refuses until.now) (inst_of word)) }
+        ensures state { with_counters counters.new self.new ≡ after (with_counters counters.old self.old) (permitted (U.refuses until.now) (inst_of word)) }
         ensures recorder { recorder.new ≡ after_instruction K.saves (permitted (U.refuses until.now) (inst_of word)) (with_counters counters.old self.old) recorder.old }
     {
-        let address = counters.pc;
+        let before = *counters;
         let next = counters.next();
         let mut executor: Executor<A, K, U> = Executor {
             machine: self,
             recorder,
             until,
-            address,
+            before,
             counters: next,
             reach: None,
         };
@@ -250,13 +246,13 @@ impl<'a, 'b, A: Acc, K: Recorder, U: Until> Visitor for Executor<'a, 'b, A, K, U
     ghost use Rattle.rsp_machine.specs.Until.{refuses_by};
 
     ghost after = { λ i e.
-        let before = with_counters (record { pc = e.address; npc = e.counters.pc }) e.machine.now in
+        let before = with_counters e.before e.machine.now in
         let next = instruction_effect i (with_counters e.counters e.machine.now) in
         if refuses_by (U.refuses e.until.now) (Some i) then e else record {
           machine = record e.machine { now = with_counters (counters_of e.machine.now) next };
           recorder = record e.recorder { now = K.saves (change_of i before) before e.recorder.now };
           until = e.until;
-          address = e.address;
+          before = e.before;
           counters = counters_of next;
           reach = Some (reach_of (change_of i before));
         } };

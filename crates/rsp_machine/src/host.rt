@@ -1,13 +1,25 @@
-ghost use Rattle.std.specs.Prelude.{◌≡◌, ◌<◌, ◌≤◌, ◌↔◌, ◌+◌, ◌%◌, IsOk, OnOk, OnErr, IsTrue, ℕ, Ok, Err, Some, None, length, MatchResult};
+// What the host does: it reads and writes registers, loads bytes, starts tasks, sets pc, and passes over moves of SP registers.
+
+ghost use Rattle.std.specs.Prelude.{◌≡◌, ◌<◌, ◌≤◌, ◌↔◌, ◌+◌, ◌%◌, IsOk, IfErr, OnOk, OnErr, IsTrue, ℕ, Ok, Err, Some, None, length, MatchResult};
+ghost use Rattle.rsp_machine.specs.State.{State, IsState, advanced};
 ghost use Rattle.rsp_machine.specs.Host.{register_read, register_written, is_inside, with_bank_bytes, image_word, task_fault, with_task, single_row, with_pc};
+ghost use Rattle.rsp_machine.specs.Registers.{AreRegisters, registers_of, with_registers, registers_fault, sp_fault};
+ghost use Rattle.rsp_machine.specs.Pass.{pass_of};
+ghost use Rattle.rsp_regs.specs.Parts.{sp_of};
 ghost use Rattle.rsp_regs.specs.Sp.{read_value};
 
 use crate::machine::Machine;
+use crate::pass::PassFault;
 use crate::program_counters::InstructionAddress;
+use crate::registers::{AllRegisters, RegistersFault, fault_of, sp_fault};
 use byteorder::{BigEndian, ByteOrder};
-use rsp_acc::Acc;
+use rsp_acc::{Acc, Addends, Part};
+use rsp_decode::{Inst, MoveOp, decode};
+use rsp_lanes::VReg;
+use rsp_loadstore::VFile;
 use rsp_memory::{Bank, Rdram};
-use rsp_regs::Transfer;
+use rsp_regs::{SpParts, SpRegs, Transfer};
+use rsp_scalar::Regs;
 use thiserror::Error;
 
 /// Fault 6, RangeFault: the bytes pass the end of their bank.
@@ -76,7 +88,6 @@ impl<A: Acc> Machine<A> {
         ensures value { result ≡ is_inside bank a n self.now }
         ensures limit { IsTrue result → a + n ≤ 8388608 }
     {
-        self.rdram.ranges();
         let length = match bank {
             Bank::Dmem | Bank::Imem => 4096,
             Bank::Rdram => self.rdram.len(),
@@ -115,7 +126,6 @@ impl<A: Acc> Machine<A> {
         ensures ok { OnOk result (self.new ≡ with_task a self.old) }
         ensures err { OnErr result (self.new ≡ self.old) }
     {
-        self.rdram.ranges();
         if a % 8 != 0 || a as usize + 64 > self.rdram.len() {
             return Err(TaskFault::TaskPlace);
         }
@@ -128,6 +138,102 @@ impl<A: Acc> Machine<A> {
         single_row(0, boot, size).copy_in(&self.rdram, &mut self.imem);
         self.set_pc(0);
         self.sp.on_task();
+        Ok(())
+    }
+
+    /// All registers. Set in a machine with the same memories they make its state the same. Changes nothing: the semaphore isn't set.
+    /// The contract also says that the state is in the ranges of every machine. It is inlined because most callers move the registers
+    /// on, and the kilobyte is then copied once.
+    #[inline(always)]
+    #[tactic(auto, unfolding(crate::specs::Registers::registers_of))]
+    pub fn all_registers(&self) -> AllRegisters
+        ensures value { result ≡ registers_of self.now }
+        ensures registers { AreRegisters result }
+        ensures ranges { IsState self.now }
+        ensures back { (t : State) → t.dmem ≡ self.now.dmem → t.imem ≡ self.now.imem → t.rdram ≡ self.now.rdram → with_registers result t ≡ self.now }
+    {
+        self.in_range();
+        AllRegisters {
+            pc: self.pc.get(),
+            npc: self.npc.get(),
+            registers: self.regs.words(),
+            vectors: self.vregs.lanes(),
+            accumulators_high: self.acc.part(Part::High).to_array(),
+            accumulators_middle: self.acc.part(Part::Middle).to_array(),
+            accumulators_low: self.acc.part(Part::Low).to_array(),
+            flags: self.flags,
+            divider: self.divider,
+            sp: self.sp.parts(),
+        }
+    }
+
+    /// Sets all registers; the three memories stay. If a [`RegistersFault`] is returned, nothing changes.
+    #[inline(always)]
+    pub fn set_all_registers(&mut self, given: &AllRegisters) -> Result<(), RegistersFault>
+        ensures fault { MatchResult result (λ _. registers_fault given.now ≡ None) (λ f. registers_fault given.now ≡ Some f) }
+        ensures ok { OnOk result (self.new ≡ with_registers given.now self.old) }
+        ensures err { OnErr result (self.new ≡ self.old) }
+    {
+        if let Some(fault) = fault_of(given) {
+            return Err(fault);
+        }
+        self.put_registers(given);
+        Ok(())
+    }
+
+    /// Sets the SP registers, with the interrupt flag; all else stays. If a [`RegistersFault`] is returned, nothing changes.
+    pub fn set_sp_parts(&mut self, given: &SpParts) -> Result<(), RegistersFault>
+        ensures fault { MatchResult result (λ _. sp_fault given.now ≡ None) (λ f. sp_fault given.now ≡ Some f) }
+        ensures ok { OnOk result (self.new ≡ record self.old { sp = sp_of given.now }) }
+        ensures err { OnErr result (self.new ≡ self.old) }
+    {
+        if let Some(fault) = sp_fault(given) {
+            return Err(fault);
+        }
+        self.sp = SpRegs::from_parts(given);
+        Ok(())
+    }
+
+    /// Writes all registers.
+    #[tactic(auto, unfolding(crate::specs::Registers::with_registers))]
+    pub(crate) fn put_registers(&mut self, given: &AllRegisters)
+        requires { AreRegisters given.now }
+        ensures { self.new ≡ with_registers given.now self.old }
+    {
+        let high = VReg::from_array(given.accumulators_high);
+        let middle = VReg::from_array(given.accumulators_middle);
+        let low = VReg::from_array(given.accumulators_low);
+        self.pc = InstructionAddress::new(given.pc);
+        self.npc = InstructionAddress::new(given.npc);
+        self.regs = Regs::from_words(given.registers);
+        self.vregs = VFile::from_lanes(&given.vectors);
+        self.acc
+            .replace(&Addends::from_planes(&high, &middle, &low));
+        self.flags = given.flags;
+        self.divider = given.divider;
+        self.sp = SpRegs::from_parts(&given.sp);
+    }
+
+    /// Passes over the MFC0 or MTC0 at pc: pc and npc advance, register rt of an MFC0 becomes the value, and single step halts as
+    /// after any instruction. All else stays.
+    #[tactic(auto, unfolding(crate::specs::Pass::pass_of))]
+    pub fn pass(&mut self, value: u32) -> Result<(), PassFault>
+        ensures fault { IfErr result (λ f. pass_of value self.old ≡ Err f) }
+        ensures ok { OnOk result (pass_of value self.old ≡ Ok self.new) }
+        ensures err { OnErr result (self.new ≡ self.old) }
+    {
+        if self.sp.halted() {
+            return Err(PassFault::Halted);
+        }
+        let Some(Inst::MoveSp { row, rt, .. }) = decode(self.word_at(self.counters())) else {
+            return Err(PassFault::OtherWord);
+        };
+        let counters = self.counters().next();
+        self.set_counters(counters);
+        if let MoveOp::From = row {
+            self.regs.set(rt, value);
+        }
+        self.sp.on_step();
         Ok(())
     }
 }

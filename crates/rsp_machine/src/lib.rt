@@ -5,7 +5,6 @@
 #![tactic(auto)]
 
 mod change;
-mod copy;
 mod effect;
 mod execute;
 mod host;

@@ -1,10 +1,12 @@
 ghost use Rattle.std.specs.Prelude.{◌≡◌, ◌<◌, ◌%◌};
 ghost use Rattle.rsp_machine.specs.State.{IsState, start_of};
 ghost use Rattle.rsp_machine.specs.Changes.{IsRanged};
+ghost use Rattle.rsp_machine.specs.ProgramCounters.{with_counters, counters_of};
+ghost use Rattle.rsp_memory.specs.Memory.{word_at};
 ghost use Rattle.rsp_scalar.specs.Registers.{register};
 ghost use Rattle.rsp_loadstore.specs.File.{vector};
 
-use crate::program_counters::InstructionAddress;
+use crate::program_counters::{InstructionAddress, ProgramCounters};
 use rsp_acc::Acc;
 use rsp_divide::Divider;
 use rsp_lanes::{Flags, VReg};
@@ -71,39 +73,6 @@ impl<A: Acc> Machine<A> {
             rdram,
             sp: SpRegs::new(),
         }
-    }
-
-    /// Changes nothing. By its contract the state is in its ranges, which a caller's proof may need.
-    #[inline(always)]
-    pub fn ranges(&self)
-        ensures { IsState self.now }
-    {
-        let _pc = self.pc.get();
-        let _npc = self.npc.get();
-        self.regs.ranges();
-        self.vregs.ranges();
-        self.acc.ranges();
-        self.flags.carry.ranges();
-        self.flags.differ.ranges();
-        self.flags.compare.ranges();
-        self.flags.clip.ranges();
-        self.flags.extra.ranges();
-        let _input = self.divider.input;
-        let _output = self.divider.output;
-        self.dmem.byte_ranges();
-        self.imem.byte_ranges();
-        self.rdram.byte_ranges();
-        self.sp.ranges();
-    }
-
-    /// Changes nothing. By its contract the vector registers, the accumulators and the flags are in their ranges.
-    #[inline(always)]
-    pub(crate) fn vector_ranges(&self)
-        ensures { IsRanged self.now }
-    {
-        self.vregs.ranges();
-        self.acc.ranges();
-        self.flags.ranges();
     }
 
     /// The address in IMEM of the next instruction, a multiple of 4 below 4096.
@@ -218,5 +187,60 @@ impl<A: Acc> Machine<A> {
             sp: _,
         } = self;
         rdram
+    }
+
+    /// pc and npc, which the loop of steps keeps apart.
+    #[inline(always)]
+    pub(crate) fn counters(&self) -> ProgramCounters
+        ensures { result ≡ counters_of self.now }
+    {
+        ProgramCounters {
+            pc: self.pc,
+            npc: self.npc,
+        }
+    }
+
+    /// Sets pc and npc, which the loop of steps has kept apart.
+    #[inline(always)]
+    pub(crate) fn set_counters(&mut self, counters: ProgramCounters)
+        ensures { self.new ≡ with_counters counters self.old }
+    {
+        self.pc = counters.pc;
+        self.npc = counters.npc;
+    }
+
+    /// The word of IMEM that a machine with this pc executes next.
+    #[inline(always)]
+    pub(crate) fn word_at(&self, counters: ProgramCounters) -> u32
+        ensures { result ≡ word_at self.now.imem counters.pc }
+    {
+        self.imem.aligned_word(counters.pc.index())
+    }
+
+    /// Reads what the ranges of the state follow from. The compiler drops the reads.
+    #[inline(always)]
+    pub(crate) fn in_range(&self)
+        ensures { IsState self.now }
+    {
+        let _pc = self.pc.get();
+        let _npc = self.npc.get();
+        let _registers = self.regs.words();
+        self.vector_ranges();
+        let _input = self.divider.input;
+        let _output = self.divider.output;
+        let _dmem = self.dmem.bytes()[0];
+        let _imem = self.imem.bytes()[0];
+        let _rdram = self.rdram.bytes();
+        let _sp = self.sp.parts();
+    }
+
+    /// Changes nothing. By its contract the vector registers, the accumulators and the flags are in their ranges.
+    #[inline(always)]
+    pub(crate) fn vector_ranges(&self)
+        ensures { IsRanged self.now }
+    {
+        self.vregs.ranges();
+        self.acc.ranges();
+        self.flags.ranges();
     }
 }

@@ -1,8 +1,8 @@
-// What a step saves, and how it is undone.
+// What a step saves of the values that it overwrites.
 
 ghost use Rattle.std.specs.Prelude.{◌≡◌, ◌<◌, ◌≤◌};
 ghost use Rattle.rsp_loadstore.specs.File.{vector};
-ghost use Rattle.rsp_machine.specs.Undo.{blank, can_undo, may_store, group_at, with_group, with_low_of, with_product, with_low_part, with_vco, undone};
+ghost use Rattle.rsp_machine.specs.Undo.{blank, can_undo, group_at, with_low_of};
 
 use crate::change::Change;
 use crate::machine::Machine;
@@ -19,16 +19,16 @@ use std::marker::Model;
 /// each step writes only the values that it needs, and the others stay as earlier steps left them, also in contracts.
 #[derive(Drop)]
 pub struct Record {
-    pc: InstructionAddress,
-    change: Change,
-    word: u32,
-    bytes: [u8; 16],
-    vector: VReg,
-    accumulators: Addends,
-    flags: Flags,
-    divider: Divider,
-    vectors: [VReg; 8],
-    sp: SpRegs,
+    pub(crate) pc: InstructionAddress,
+    pub(crate) change: Change,
+    pub(crate) word: u32,
+    pub(crate) bytes: [u8; 16],
+    pub(crate) vector: VReg,
+    pub(crate) accumulators: Addends,
+    pub(crate) flags: Flags,
+    pub(crate) divider: Divider,
+    pub(crate) vectors: [VReg; 8],
+    pub(crate) sp: SpRegs,
 }
 
 impl Model for Record {
@@ -80,14 +80,6 @@ impl Record {
         ensures { result ≡ can_undo self.now.change }
     {
         self.change.can_undo()
-    }
-
-    /// Whether the step that last wrote the record may have changed DMEM.
-    #[inline(always)]
-    pub fn may_store(&self) -> bool
-        ensures { result ≡ may_store self.now }
-    {
-        self.change.stores()
     }
 
     /// Saves vector register `n` and the accumulators.
@@ -190,89 +182,5 @@ impl Recorder for Record {
                 self.sp = machine.sp;
             }
         }
-    }
-}
-
-impl<A: Acc> Machine<A> {
-    /// Undoes a step: writes back what it changed, and sets pc to its address. From the state after the step this restores the
-    /// whole state before it. The record of no step changes nothing, nor does that of a step that started a DMA.
-    #[tactic(auto, unfolding(crate::specs::Undo::undone, crate::specs::Undo::restored))]
-    pub fn undo(&mut self, saved: &Record)
-        ensures { self.new ≡ undone saved.now self.old }
-    {
-        match saved.change {
-            Change::ProgramCounters => (),
-            Change::Register(n) => self.regs.set(n as u8, saved.word),
-            Change::Bytes(a) => self.dmem.set_bytes(a, &saved.bytes),
-            Change::Vector(n) => self.vregs.set_reg(n as u8, saved.vector),
-            Change::Group(n) => self.put_group(n as u8, &saved.vectors),
-            Change::Product(n) => self.put_product(saved, n),
-            Change::Low(n) => self.put_low(saved, n),
-            Change::Sum(n) => self.put_sum(saved, n),
-            Change::Choice(n) => {
-                self.put_sum(saved, n);
-                self.flags.take_vcc(&saved.flags);
-            }
-            Change::Clip(n) => {
-                self.put_low(saved, n);
-                self.flags = saved.flags;
-            }
-            Change::Divide(n) => {
-                self.put_low(saved, n);
-                self.divider = saved.divider;
-            }
-            Change::Flags => self.flags = saved.flags,
-            Change::Sp(n) => {
-                self.regs.set(n as u8, saved.word);
-                self.sp = saved.sp;
-            }
-            Change::Dma => return,
-        }
-        self.sp.resume();
-        self.npc = self.pc;
-        self.pc = saved.pc;
-    }
-
-    /// Writes back vector register `n` and the accumulators.
-    fn put_product(&mut self, saved: &Record, n: u32)
-        requires { n < 32 }
-        ensures { self.new ≡ with_product n saved.now self.old }
-    {
-        self.vregs.set_reg(n as u8, saved.vector);
-        self.acc.replace(&saved.accumulators);
-    }
-
-    /// Writes back vector register `n` and the low accumulators.
-    fn put_low(&mut self, saved: &Record, n: u32)
-        requires { n < 32 }
-        ensures { self.new ≡ with_low_part n saved.now self.old }
-    {
-        self.vregs.set_reg(n as u8, saved.vector);
-        self.acc.set_low(&saved.accumulators.low());
-    }
-
-    /// Writes back vector register `n`, the low accumulators and the flags of VCO.
-    fn put_sum(&mut self, saved: &Record, n: u32)
-        requires { n < 32 }
-        ensures { self.new ≡ record (with_low_part n saved.now self.old) { flags = with_vco saved.now.flags self.old.flags } }
-    {
-        self.put_low(saved, n);
-        self.flags.take_vco(&saved.flags);
-    }
-
-    /// Writes eight vector registers, from `n` on.
-    #[tactic(auto, using(std::proofs::lemmas::List::get_or_default), unfolding(rsp_loadstore::specs::File::vector))]
-    fn put_group(&mut self, n: u8, vectors: &[VReg; 8])
-        requires { n ≤ 24 }
-        ensures { self.new ≡ record self.old { vectors = with_group self.old.vectors n vectors.now } }
-    {
-        self.vregs.set_reg(n, vectors[0]);
-        self.vregs.set_reg(n + 1, vectors[1]);
-        self.vregs.set_reg(n + 2, vectors[2]);
-        self.vregs.set_reg(n + 3, vectors[3]);
-        self.vregs.set_reg(n + 4, vectors[4]);
-        self.vregs.set_reg(n + 5, vectors[5]);
-        self.vregs.set_reg(n + 6, vectors[6]);
-        self.vregs.set_reg(n + 7, vectors[7]);
     }
 }

@@ -1,23 +1,22 @@
-// Steps, in one loop.
+// Steps, in one loop, and undoing one.
 
-ghost use Rattle.std.specs.Prelude.{◌≡◌, ◌↔◌, ◌⊎◌, ◌<◌, ◌≤◌, ◌+◌, ◌-◌, ◌||◌, ◌&&◌, ℕ, true, false, not, if◌then◌else◌, length, drop, IsSome, IfSome};
-ghost use Rattle.rsp_memory.specs.Memory.{word_at};
+ghost use Rattle.std.specs.Prelude.{◌≡◌, ◌↔◌, ◌<◌, ◌≤◌, ◌+◌, ◌||◌, ◌&&◌, ℕ, true, false, not, if◌then◌else◌, length, IsSome, IfSome};
+ghost use Rattle.rsp_machine.specs.State.{IsState};
 ghost use Rattle.rsp_machine.specs.Step.{after_single_step, step_of};
-ghost use Rattle.rsp_machine.specs.ProgramCounters.{with_counters, counters_of};
 ghost use Rattle.rsp_machine.specs.Transfers.{starts_dma_at};
-ghost use Rattle.rsp_machine.specs.Undo.{can_undo, may_store, record_at, undone};
-ghost use Rattle.rsp_machine.specs.Laws.{steps_of, done_steps, done_of};
+ghost use Rattle.rsp_machine.specs.Undo.{undone, with_group, with_product, with_low_part, with_vco};
+ghost use Rattle.rsp_machine.specs.Laws.{steps_of, done_of};
 ghost use Rattle.rsp_machine.specs.Until.{ends_after, refuses_at};
-ghost use Rattle.rsp_machine.specs.Loop.{AreDone, HaveRecorded, LoopEnd};
+ghost use Rattle.rsp_machine.specs.Loop.{AreDone, AreRecorded, HaveRecorded, LoopEnd};
 ghost use Rattle.rsp_machine.specs.declared.step.StepEnd.TheVariants.{Done};
 
-use crate::change::Reach;
+use crate::change::{Change, Reach};
 use crate::machine::Machine;
-use crate::program_counters::ProgramCounters;
 use crate::record::Record;
 use crate::recorder::{NoRecord, Recorder};
 use crate::until::{Never, Until};
 use rsp_acc::Acc;
+use rsp_lanes::VReg;
 use std::slice;
 
 /// How a step ended.
@@ -35,34 +34,6 @@ pub enum StepEnd {
 }
 
 impl<A: Acc> Machine<A> {
-    /// pc and npc, which the loop of steps keeps apart.
-    #[inline(always)]
-    pub(crate) fn counters(&self) -> ProgramCounters
-        ensures { result ≡ counters_of self.now }
-    {
-        ProgramCounters {
-            pc: self.pc,
-            npc: self.npc,
-        }
-    }
-
-    /// Sets pc and npc, which the loop of steps has kept apart.
-    #[inline(always)]
-    pub(crate) fn set_counters(&mut self, counters: ProgramCounters)
-        ensures { self.new ≡ with_counters counters self.old }
-    {
-        self.pc = counters.pc;
-        self.npc = counters.npc;
-    }
-
-    /// The word of IMEM that a machine with this pc executes next.
-    #[inline(always)]
-    pub(crate) fn word_at(&self, counters: ProgramCounters) -> u32
-        ensures { result ≡ word_at self.now.imem counters.pc }
-    {
-        self.imem.aligned_word(counters.pc.index())
-    }
-
     /// Ends a step: in single step the machine halts. Returns whether the loop goes on. Single step and halted are tested after an
     /// instruction that may reach the SP registers, and after each instruction if single step was set when the loop began (`single`).
     #[inline(always)]
@@ -146,11 +117,14 @@ impl<A: Acc> Machine<A> {
     }
 
     /// Makes up to `n` steps, as [`Machine::step`] makes them, as long as they are Done. Returns how many were Done: fewer than
-    /// `n` if the machine is then halted or the word at pc is reserved. A further step reports which.
+    /// `n` if the machine is then halted or the word at pc is reserved. A further step reports which. The contract also says that
+    /// the state before them was in the ranges of every machine.
     pub fn steps(&mut self, n: u64) -> u64
         ensures state { self.new ≡ steps_of n self.old }
         ensures done { result ≡ done_of n self.old }
+        ensures ranges { IsState self.old }
     {
+        self.in_range();
         self.run_loop(n, &mut [NoRecord], &Never)
     }
 
@@ -162,7 +136,7 @@ impl<A: Acc> Machine<A> {
         ensures back { IfSome result.1 (λ r. undone r self.new ≡ self.old) }
     {
         let mut record = Record::new();
-        if self.steps_recorded(slice::from_mut(&mut record)) == 0 {
+        if self.steps_recorded_until(slice::from_mut(&mut record), &Never) == 0 {
             return (self.step(), None);
         }
         let record = if record.can_undo() {
@@ -173,55 +147,111 @@ impl<A: Acc> Machine<A> {
         (StepEnd::Done, record)
     }
 
-    /// Makes up to as many steps as there are records, as [`Machine::step`] makes them and as long as they are Done, and writes
-    /// the record of each. It ends after a step that starts a DMA, so only the last step may be one that can't be undone. A step
-    /// changes DMEM only if [`Record::may_store`] is true of its record. Returns how many steps it made. The other records stay.
-    pub fn steps_recorded(&mut self, records: &mut [Record]) -> usize
-        ensures within { result ≤ length records.old }
-        ensures done { done_of result self.old ≡ result }
-        ensures state { self.new ≡ steps_of result self.old }
-        ensures ends { result < length records.old → (done_steps (step_of self.new).0 ≡ 0) ⊎ ((0 < result) × (starts_dma_at (steps_of (result - 1) self.old) ≡ true)) }
-        ensures before { (i : ℕ) → i + 1 < result → starts_dma_at (steps_of i self.old) ≡ false }
-        ensures which { (i : ℕ) → i < result → can_undo (record_at records.new i).change ≡ not (starts_dma_at (steps_of i self.old)) }
-        ensures back { (i : ℕ) → i < result → starts_dma_at (steps_of i self.old) ≡ false → undone (record_at records.new i) (steps_of (i + 1) self.old) ≡ steps_of i self.old }
-        ensures memory { (i : ℕ) → i < result → may_store (record_at records.new i) ≡ false → (steps_of (i + 1) self.old).dmem ≡ (steps_of i self.old).dmem }
-        ensures rest { drop result records.new ≡ drop result records.old }
-        ensures len { length records.new ≡ length records.old }
-    {
-        self.steps_recorded_until(records, &Never)
-    }
-
     /// Makes up to `n` steps, as [`Machine::step`] makes them, as long as they are Done and `until` neither ends them nor refuses the
     /// next one. `until` is asked whether to end after each step that leaves the machine running, and whether it refuses before each
     /// MFC0 and MTC0, which then isn't executed. Returns how many steps were made: fewer than `n` if a further step wouldn't be Done, or
     /// if `until` ended them or refuses it.
     pub fn steps_until<U: Until>(&mut self, n: u64, until: &U) -> u64
         ensures within { result ≤ n }
-        ensures done { done_of result self.old ≡ result }
-        ensures state { self.new ≡ steps_of result self.old }
-        ensures ends { result < n → (done_steps (step_of self.new).0 ≡ 0) ⊎ (refuses_at (U.refuses until.now) self.new ≡ true) ⊎ ((0 < result) × (ends_after (U.ends until.now) (steps_of (result - 1) self.old) ≡ true)) }
+        ensures made { AreDone result self.old self.new }
         ensures asked { (i : ℕ) → i + 1 < result → ends_after (U.ends until.now) (steps_of i self.old) ≡ false }
         ensures permitted { (i : ℕ) → i < result → refuses_at (U.refuses until.now) (steps_of i self.old) ≡ false }
+        ensures ends { result < n → LoopEnd false (U.ends until.now) (U.refuses until.now) result self.old self.new }
     {
         self.run_loop(n, &mut [NoRecord], until)
     }
 
-    /// [`Machine::steps_recorded`], which `until` may end too. It is asked whether to end after each step that leaves the
-    /// machine running and starts no DMA, and whether it refuses before each MFC0 and MTC0, which then isn't executed.
+    /// Makes up to as many steps as there are records, as [`Machine::steps_until`] makes them, and writes the record of each. It also ends
+    /// after a step that starts a DMA, so only the last step may be one that can't be undone. Returns how many steps it made. The other
+    /// records stay.
     pub fn steps_recorded_until<U: Until>(&mut self, records: &mut [Record], until: &U) -> usize
-        ensures within { result ≤ length records.old }
-        ensures done { done_of result self.old ≡ result }
-        ensures state { self.new ≡ steps_of result self.old }
-        ensures ends { result < length records.old → (done_steps (step_of self.new).0 ≡ 0) ⊎ (refuses_at (U.refuses until.now) self.new ≡ true) ⊎ ((0 < result) × ((starts_dma_at (steps_of (result - 1) self.old) ≡ true) ⊎ (ends_after (U.ends until.now) (steps_of (result - 1) self.old) ≡ true))) }
+        ensures recorded { AreRecorded result self.old self.new records.old records.new }
         ensures asked { (i : ℕ) → i + 1 < result → ends_after (U.ends until.now) (steps_of i self.old) ≡ false }
         ensures permitted { (i : ℕ) → i < result → refuses_at (U.refuses until.now) (steps_of i self.old) ≡ false }
-        ensures before { (i : ℕ) → i + 1 < result → starts_dma_at (steps_of i self.old) ≡ false }
-        ensures which { (i : ℕ) → i < result → can_undo (record_at records.new i).change ≡ not (starts_dma_at (steps_of i self.old)) }
-        ensures back { (i : ℕ) → i < result → starts_dma_at (steps_of i self.old) ≡ false → undone (record_at records.new i) (steps_of (i + 1) self.old) ≡ steps_of i self.old }
-        ensures memory { (i : ℕ) → i < result → may_store (record_at records.new i) ≡ false → (steps_of (i + 1) self.old).dmem ≡ (steps_of i self.old).dmem }
-        ensures rest { drop result records.new ≡ drop result records.old }
-        ensures len { length records.new ≡ length records.old }
+        ensures ends { result < length records.old → LoopEnd true (U.ends until.now) (U.refuses until.now) result self.old self.new }
     {
         self.run_loop(records.len() as u64, records, until) as usize
+    }
+
+    /// Undoes a step: writes back what it changed, and sets pc to its address. From the state after the step this restores the
+    /// whole state before it. The record of no step changes nothing, nor does that of a step that started a DMA.
+    #[tactic(auto, unfolding(crate::specs::Undo::undone, crate::specs::Undo::restored))]
+    pub fn undo(&mut self, saved: &Record)
+        ensures { self.new ≡ undone saved.now self.old }
+    {
+        match saved.change {
+            Change::ProgramCounters => (),
+            Change::Register(n) => self.regs.set(n as u8, saved.word),
+            Change::Bytes(a) => self.dmem.set_bytes(a, &saved.bytes),
+            Change::Vector(n) => self.vregs.set_reg(n as u8, saved.vector),
+            Change::Group(n) => self.put_group(n as u8, &saved.vectors),
+            Change::Product(n) => self.put_product(saved, n),
+            Change::Low(n) => self.put_low(saved, n),
+            Change::Sum(n) => self.put_sum(saved, n),
+            Change::Choice(n) => {
+                self.put_sum(saved, n);
+                self.flags.take_vcc(&saved.flags);
+            }
+            Change::Clip(n) => {
+                self.put_low(saved, n);
+                self.flags = saved.flags;
+            }
+            Change::Divide(n) => {
+                self.put_low(saved, n);
+                self.divider = saved.divider;
+            }
+            Change::Flags => self.flags = saved.flags,
+            Change::Sp(n) => {
+                self.regs.set(n as u8, saved.word);
+                self.sp = saved.sp;
+            }
+            Change::Dma => return,
+        }
+        self.sp.resume();
+        self.npc = self.pc;
+        self.pc = saved.pc;
+    }
+
+    /// Writes back vector register `n` and the accumulators.
+    fn put_product(&mut self, saved: &Record, n: u32)
+        requires { n < 32 }
+        ensures { self.new ≡ with_product n saved.now self.old }
+    {
+        self.vregs.set_reg(n as u8, saved.vector);
+        self.acc.replace(&saved.accumulators);
+    }
+
+    /// Writes back vector register `n` and the low accumulators.
+    fn put_low(&mut self, saved: &Record, n: u32)
+        requires { n < 32 }
+        ensures { self.new ≡ with_low_part n saved.now self.old }
+    {
+        self.vregs.set_reg(n as u8, saved.vector);
+        self.acc.set_low(&saved.accumulators.low());
+    }
+
+    /// Writes back vector register `n`, the low accumulators and the flags of VCO.
+    fn put_sum(&mut self, saved: &Record, n: u32)
+        requires { n < 32 }
+        ensures { self.new ≡ record (with_low_part n saved.now self.old) { flags = with_vco saved.now.flags self.old.flags } }
+    {
+        self.put_low(saved, n);
+        self.flags.take_vco(&saved.flags);
+    }
+
+    /// Writes eight vector registers, from `n` on.
+    #[tactic(auto, using(std::proofs::lemmas::List::get_or_default), unfolding(rsp_loadstore::specs::File::vector))]
+    fn put_group(&mut self, n: u8, vectors: &[VReg; 8])
+        requires { n ≤ 24 }
+        ensures { self.new ≡ record self.old { vectors = with_group self.old.vectors n vectors.now } }
+    {
+        self.vregs.set_reg(n, vectors[0]);
+        self.vregs.set_reg(n + 1, vectors[1]);
+        self.vregs.set_reg(n + 2, vectors[2]);
+        self.vregs.set_reg(n + 3, vectors[3]);
+        self.vregs.set_reg(n + 4, vectors[4]);
+        self.vregs.set_reg(n + 5, vectors[5]);
+        self.vregs.set_reg(n + 6, vectors[6]);
+        self.vregs.set_reg(n + 7, vectors[7]);
     }
 }

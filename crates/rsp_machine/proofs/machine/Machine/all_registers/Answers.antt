@@ -1,15 +1,17 @@
-use Rattle.std.proofs.Common.{refl}
-use Rattle.rsp_machine.specs.Registers.{registers_of}
+use Rattle.std.proofs.Common.{refl, ap, ◌∙◌}
+use Rattle.rsp_machine.specs.declared.registers.AllRegisters.{AllRegisters}
+use Rattle.rsp_machine.specs.Registers.{registers_of, with_registers}
+use Rattle.rsp_machine.proofs.Copying.{with-registers-as}
 use Rattle.rsp_machine.proofs.machine.Machine.all_registers.Goals as goal
 
-pub returns : goal.returns
+pub returns-clause-value : goal.returns-clause-value
 unfolding registers_of
-returns g c =
+returns-clause-value g c =
     rw (
       ← c.self.view_is,
       c.get.ensures.value,
       c.get-2.ensures.value,
-      c.words.ensures,
+      c.words.ensures.value,
       c.lanes.ensures,
       c.to_array.ensures,
       c.part.ensures,
@@ -17,5 +19,9 @@ returns g c =
       c.part-2.ensures,
       c.to_array-3.ensures,
       c.part-3.ensures,
-      c.parts.ensures,
+      c.parts.ensures.value,
     ) refl
+
+pub returns-clause-back : goal.returns-clause-back
+returns-clause-back g c t d i r =
+    ap (λ (x : AllRegisters). with_registers x t) (returns-clause-value g c) ∙ with-registers-as c.args.self.now t c.in_range.ensures.accumulators d i r

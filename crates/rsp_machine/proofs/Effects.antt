@@ -1,0 +1,59 @@
+-- A trace's scalar register is one of 32.
+use Rattle.std.proofs.Common.{◌<◌, ◌-◌, ◌%◌, ℕ, Bool, true, false, Option, Some, None, lit<, refl}
+use Rattle.std.specs.Prelude.{IfSome, if◌then◌else◌}
+use Rattle.rsp_decode.specs.declared.inst.Inst.{Inst}
+use Rattle.rsp_decode.specs.declared.inst.Inst.TheVariants.{Shift, ShiftBy, JumpLinkRegister, Register, BranchSign, Jump, Immediate, LoadUpper, Load, MoveSp, MoveVector, MoveControl, VectorLoad}
+use Rattle.rsp_decode.specs.declared.scalar.MoveOp.TheVariants.{From, To}
+use Rattle.rsp_decode.specs.declared.scalar.JumpOp.TheVariants.{J, Jal}
+use Rattle.rsp_decode.specs.declared.scalar.BranchSignOp.TheVariants.{Bltz, Bgez, Bltzal, Bgezal, Blez, Bgtz}
+use Rattle.rsp_decode.specs.Table.{IsInstruction, inst_of}
+use Rattle.rsp_decode.proofs.InstructionOfWord.{decoded_instruction}
+use Rattle.rsp_memory.specs.Memory.{word_at}
+use Rattle.rsp_regs.specs.Sp.{is_length_register}
+use Rattle.rsp_loadstore.specs.Reach.{writes_group}
+use Rattle.rsp_machine.specs.State.{State}
+use Rattle.rsp_machine.specs.Undo.{change_of}
+use Rattle.rsp_machine.specs.Effects.{scalar_of, effect_by, effect_of}
+use Rattle.rsp_machine.specs.declared.change.Change.TheVariants as of
+
+none_below : (dma : Bool) → scalar_of (if dma then of.Dma else of.Sp 0) < 32
+none_below true = lit< tt
+none_below false = lit< tt
+
+load_below : (group : Bool) (vt : ℕ) → scalar_of (if group then of.Group (vt - vt % 8) else of.Vector vt) < 32
+load_below true vt = lit< tt
+load_below false vt = lit< tt
+
+scalar-below : (i : Inst) (s : State) → IsInstruction i → scalar_of (change_of i s) < 32
+unfolding change_of
+scalar-below (Shift row rd rt amount) s h = h.0
+scalar-below (ShiftBy row f) s h = h.0
+scalar-below (JumpLinkRegister rd rs) s h = h.0
+scalar-below (Register row f) s h = h.0
+scalar-below (BranchSign Bltz rs offset) s h = lit< tt
+scalar-below (BranchSign Bgez rs offset) s h = lit< tt
+scalar-below (BranchSign Bltzal rs offset) s h = lit< tt
+scalar-below (BranchSign Bgezal rs offset) s h = lit< tt
+scalar-below (BranchSign Blez rs offset) s h = lit< tt
+scalar-below (BranchSign Bgtz rs offset) s h = lit< tt
+scalar-below (Jump J target) s h = lit< tt
+scalar-below (Jump Jal target) s h = lit< tt
+scalar-below (Immediate row rt rs imm) s h = h.0
+scalar-below (LoadUpper rt imm) s h = h.0
+scalar-below (Load row f) s h = h.0
+scalar-below (MoveSp From rt n) s h = h.0
+scalar-below (MoveSp To rt n) s h = none_below (is_length_register n)
+scalar-below (MoveVector From rt n element) s h = h.0
+scalar-below (MoveVector To rt n element) s h = lit< tt
+scalar-below (MoveControl From rt control) s h = h.0
+scalar-below (MoveControl To rt control) s h = lit< tt
+scalar-below (VectorLoad row f) s h = load_below (writes_group row) f.vt
+scalar-below _ s h = lit< tt
+
+below_by : (o : Option Inst) (s : State) → IfSome o IsInstruction → (effect_by o s).scalar < 32
+below_by None s h = lit< tt
+below_by (Some i) s h = scalar-below i s h
+
+pub effect-below : (s : State) → (effect_of s).scalar < 32
+unfolding effect_of
+effect-below s = let w = word_at s.imem s.pc in below_by (inst_of w) s (decoded_instruction w (inst_of w) refl)
