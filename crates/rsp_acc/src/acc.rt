@@ -19,17 +19,14 @@ pub trait Acc: Drop {
     fn zero() -> Self
         ensures { numbers result ≡ each_lane (λ _. pos 0) };
 
-    /// Does nothing. Its contract gives the prover a fact: there are eight numbers from -2^47 to 2^47 - 1.
-    fn ranges(&self)
-        ensures { AreNumbers (numbers self.now) };
-
     /// Replaces each accumulator by its addend.
     fn replace(&mut self, addends: &Addends)
         ensures { numbers self.new ≡ addends.now };
 
     /// Adds its addend to each accumulator: the sum modulo 2^48, as a signed value.
     fn add(&mut self, addends: &Addends)
-        ensures { numbers self.new ≡ wrapped_sums (numbers self.old) addends.now };
+        ensures value { numbers self.new ≡ wrapped_sums (numbers self.old) addends.now }
+        ensures within { AreNumbers (numbers self.old) };
 
     /// Writes the low sixteen bits of each accumulator. The high and middle ones are kept.
     fn set_low(&mut self, low: &VReg)
@@ -37,7 +34,8 @@ pub trait Acc: Drop {
 
     /// The high, middle or low sixteen bits of each accumulator.
     fn part(&self, part: Part) -> VReg
-        ensures { result ≡ each_lane (λ i. part_of part (number (numbers self.now) i)) };
+        ensures value { result ≡ each_lane (λ i. part_of part (number (numbers self.now) i)) }
+        ensures within { AreNumbers (numbers self.now) };
 
     /// Each accumulator clamped to sixteen bits.
     fn clamp(&self, clamp: Clamp) -> VReg

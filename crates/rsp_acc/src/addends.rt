@@ -1,7 +1,6 @@
 ghost use Rattle.std.specs.Prelude.{◌≡◌, pos};
-ghost use Rattle.rsp_lanes.specs.Lanes.{each_lane, IsVector};
-ghost use Rattle.rsp_numbers.specs.Numbers.{AreNumbers};
-ghost use Rattle.rsp_acc.specs.Planes.{joined, wrapped_sums, low_lanes, with_low};
+ghost use Rattle.rsp_lanes.specs.Lanes.{each_lane};
+ghost use Rattle.rsp_acc.specs.Planes.{joined, ArePlanes, wrapped_sums, low_lanes, with_low};
 
 use crate::{Acc, Part};
 use rsp_lanes::{Mask8, VReg, u16x8};
@@ -9,7 +8,7 @@ use std::marker::Model;
 
 /// What is written or added to the eight accumulators: eight numbers from -2^47 to 2^47 - 1, as three planes of sixteen
 /// bits. Contracts see the list of numbers, lane 0 first.
-#[derive(Clone, Copy, Debug, Drop)]
+#[derive(Drop)]
 pub struct Addends {
     high: u16x8,
     middle: u16x8,
@@ -18,21 +17,13 @@ pub struct Addends {
 
 impl Model for Addends {
     ghost use Rattle.std.specs.Prelude.{List, ℤ};
-    ghost use Rattle.rsp_lanes.specs.Lanes.{IsVector};
-    ghost use Rattle.rsp_numbers.specs.Numbers.{AreNumbers};
-    ghost use Rattle.rsp_acc.specs.Planes.{joined, high_plane, middle_plane, low_plane};
-    ghost use Rattle.rsp_numbers.specs.Numbers.{AreNumbers};
-    ghost use Rattle.rsp_acc.specs.PlanesOfJoined.{high_joined, middle_joined, low_joined};
+    ghost use Rattle.rsp_acc.specs.Planes.{joined, ArePlanes};
 
     ghost Value = { List ℤ };
 
     ghost view = { λ a. joined a.high a.middle a.low };
 
-    ghost invariant = { λ a. IsVector a.high × IsVector a.middle × IsVector a.low };
-
-    ghost inverse = { λ n. record { high = high_plane n; middle = middle_plane n; low = low_plane n } };
-
-    ghost inverse_ok = { λ a v k. record { high = high_joined a.high a.middle a.low v.0 v.1 v.2 k; middle = middle_joined a.high a.middle a.low v.0 v.1 v.2 k; low = low_joined a.high a.middle a.low v.0 v.1 v.2 k } };
+    ghost invariant = { λ a. ArePlanes a.high a.middle a.low };
 }
 
 impl Addends {
@@ -63,26 +54,17 @@ impl Addends {
     pub fn of<A: Acc>(acc: &A) -> Self
         ensures { result ≡ A.numbers acc.now }
     {
-        acc.ranges();
         let high = acc.part(Part::High);
         let middle = acc.part(Part::Middle);
         let low = acc.part(Part::Low);
         Addends::from_planes(&high, &middle, &low)
     }
 
-    /// Does nothing. Its contract gives the prover a fact: there are eight numbers from -2^47 to 2^47 - 1.
-    #[inline(always)]
-    pub fn ranges(&self)
-        ensures { AreNumbers self.now }
-    {
-        let _ = &self.low;
-    }
-
     /// The high, middle and low sixteen bits of each number.
     #[inline(always)]
     pub(crate) fn planes(&self) -> (VReg, VReg, VReg)
         ensures joined { self.now ≡ joined result.0 result.1 result.2 }
-        ensures vectors { IsVector result.0 × IsVector result.1 × IsVector result.2 }
+        ensures planes { ArePlanes result.0 result.1 result.2 }
     {
         (
             VReg::from_simd(self.high),
@@ -125,6 +107,7 @@ impl Addends {
 mod tests {
     use super::*;
 
+    // compiles only if the struct has exactly these fields
     #[test]
     fn holds_three_planes(rt: HostRuntime) {
         let addends = Addends {

@@ -1,5 +1,5 @@
-ghost use Rattle.std.specs.Prelude.{◌≡◌, ◌<◌, ◌<ℤ◌, ◌≤ℤ◌, pos, negsuc, ◌^◌, ◌-◌};
-ghost use Rattle.rsp_numbers.specs.Numbers.{s48, number, IsNumber, join, sixteen_bits};
+ghost use Rattle.std.specs.Prelude.{◌≡◌, ◌<ℤ◌, ◌≤ℤ◌, pos, negsuc, ◌^◌, ◌-◌};
+ghost use Rattle.rsp_numbers.specs.Numbers.{s48, IsNumber, AreNumbers, join, sixteen_bits};
 ghost use Rattle.rsp_acc.specs.Parts.{part_of, clamp_of, clamp_by};
 ghost use Rattle.rsp_acc.specs.Planes.{with_low_bits};
 
@@ -33,24 +33,15 @@ impl Acc for PlainAcc {
         PlainAcc { numbers: [0; 8] }
     }
 
-    #[inline(always)]
-    fn ranges(&self) {
-        let _ = &self.numbers;
-    }
-
     fn replace(&mut self, addends: &Addends) {
-        addends.ranges();
-        let mut numbers = [0; 8];
-        for i in 0..8 {
-            numbers[i] = addend(addends, i);
-        }
-        self.numbers = numbers;
+        self.numbers = whole_numbers(addends);
     }
 
     fn add(&mut self, addends: &Addends) {
+        let added = whole_numbers(addends);
         let mut numbers = [0; 8];
         for i in 0..8 {
-            numbers[i] = wrap48(self.numbers[i] + addend(addends, i));
+            numbers[i] = wrap48(self.numbers[i] + added[i]);
         }
         self.numbers = numbers;
     }
@@ -89,14 +80,17 @@ fn wrap48(n: i64) -> i64
     (n + (1 << 47)).rem_euclid(1 << 48) - (1 << 47)
 }
 
-/// The addend of lane `i`.
-fn addend(addends: &Addends, i: usize) -> i64
-    requires { i < 8 }
-    ensures value { result ≡ number addends.now i }
-    ensures number { IsNumber result }
+/// The addends as whole numbers.
+fn whole_numbers(addends: &Addends) -> [i64; 8]
+    ensures value { result ≡ addends.now }
+    ensures within { AreNumbers result }
 {
     let (high, middle, low) = addends.planes();
-    join(high.lane(i), middle.lane(i), low.lane(i))
+    let mut numbers = [0; 8];
+    for i in 0..8 {
+        numbers[i] = join(high.lane(i), middle.lane(i), low.lane(i));
+    }
+    numbers
 }
 
 /// The number with these high, middle and low sixteen bits.

@@ -1,4 +1,5 @@
 ghost use Rattle.std.specs.Prelude.{◌≡◌, slice_index_or, []};
+ghost use Rattle.rsp_numbers.specs.Numbers.{AreNumbers};
 ghost use Rattle.rsp_acc.specs.Planes.{joined};
 
 use crate::{Acc, Addends, Clamp, Part};
@@ -7,7 +8,7 @@ use std::marker::Model;
 
 /// The accumulators as three planes: lane i of `high`, `middle` and `low` is bits 47 to 32, 31 to 16 and 15 to 0 of
 /// accumulator i.
-#[derive(Clone, Copy, Debug, Drop)]
+#[derive(Drop)]
 pub struct PlaneAcc {
     high: u16x8,
     middle: u16x8,
@@ -16,19 +17,13 @@ pub struct PlaneAcc {
 
 impl Model for PlaneAcc {
     ghost use Rattle.std.specs.Prelude.{List, ℤ};
-    ghost use Rattle.rsp_lanes.specs.Lanes.{IsVector};
-    ghost use Rattle.rsp_acc.specs.Planes.{joined, high_plane, middle_plane, low_plane};
-    ghost use Rattle.rsp_acc.specs.PlanesOfJoined.{high_joined, middle_joined, low_joined};
+    ghost use Rattle.rsp_acc.specs.Planes.{joined, ArePlanes};
 
     ghost Value = { List ℤ };
 
     ghost view = { λ a. joined a.high a.middle a.low };
 
-    ghost invariant = { λ a. IsVector a.high × IsVector a.middle × IsVector a.low };
-
-    ghost inverse = { λ n. record { high = high_plane n; middle = middle_plane n; low = low_plane n } };
-
-    ghost inverse_ok = { λ a v k. record { high = high_joined a.high a.middle a.low v.0 v.1 v.2 k; middle = middle_joined a.high a.middle a.low v.0 v.1 v.2 k; low = low_joined a.high a.middle a.low v.0 v.1 v.2 k } };
+    ghost invariant = { λ a. ArePlanes a.high a.middle a.low };
 }
 
 impl PlaneAcc {
@@ -46,7 +41,8 @@ impl PlaneAcc {
     /// The accumulators as addends.
     #[inline(always)]
     fn as_addends(&self) -> Addends
-        ensures { result ≡ self.now }
+        ensures value { result ≡ self.now }
+        ensures within { AreNumbers self.now }
     {
         let high = VReg::from_simd(self.high);
         let middle = VReg::from_simd(self.middle);
@@ -65,11 +61,6 @@ impl Acc for PlaneAcc {
             middle: u16x8::splat(0),
             low: u16x8::splat(0),
         }
-    }
-
-    #[inline(always)]
-    fn ranges(&self) {
-        let _ = &self.high;
     }
 
     #[inline(always)]
@@ -135,6 +126,7 @@ impl Acc for PlaneAcc {
 mod tests {
     use super::*;
 
+    // compiles only if the struct has exactly these fields
     #[test]
     fn holds_three_planes(rt: HostRuntime) {
         let acc = PlaneAcc {

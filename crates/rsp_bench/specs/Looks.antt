@@ -4,8 +4,8 @@ use Rattle.std.specs.List.{flat_map}
 use Rattle.hex.specs.Hex.{encode_lower}
 use Rattle.rsp_scalar.specs.Registers.{register}
 use Rattle.rsp_loadstore.specs.File.{vector}
-use Rattle.rsp_loadstore.specs.Controls.{control_half}
 use Rattle.rsp_lanes.specs.declared.flags.Flags.{Flags}
+use Rattle.rsp_lanes.specs.Flags.{vco, vcc}
 use Rattle.rsp_divide.specs.declared.divider.Divider.{Divider}
 use Rattle.rsp_numbers.specs.Numbers.{number, high, middle, low}
 use Rattle.std.specs.Simd.Lanes.{mask_l}
@@ -78,6 +78,6 @@ accumulators_text xs =
 -- the control registers, and the divider
 unfoldable pub flags_text : Flags → Divider → List ℕ
 flags_text f d =
-    codes "vco " ++ hex_text 4 (control_half f.carry f.differ) ++ codes " vcc " ++ hex_text 4 (control_half f.compare f.clip)
+    codes "vco " ++ hex_text 4 (vco f) ++ codes " vcc " ++ hex_text 4 (vcc f)
     ++ codes " vce " ++ hex_text 2 (mask_l f.extra) ++ codes " in " ++ hex_text 4 d.input ++ codes " out " ++ hex_text 4 d.output
     ++ codes " loaded " ++ (if d.loaded then 49 else 48) ∷ 10 ∷ []

@@ -2,12 +2,11 @@ ghost use Rattle.std.specs.Prelude.{◌≡◌, ℕ, ◌+◌, ◌*◌, ◌<◌, �
 ghost use Rattle.rsp_loadstore.specs.File.{vector};
 ghost use Rattle.rsp_script_io.specs.Text.{each_text};
 ghost use Rattle.rsp_bench.specs.Looks.{half_text, vector_line, vectors_text, accumulator_line, accumulators_text, flags_text};
-ghost use Rattle.rsp_loadstore.specs.Controls.{control_half};
 
 use rsp_acc::Acc;
 use rsp_debug::Debugger;
 use rsp_divide::Divider;
-use rsp_lanes::{Flags, Mask8, VReg};
+use rsp_lanes::{Flags, VReg};
 use rsp_script_io::{REPLY_LIMIT, Reply};
 
 #[tactic(auto, using(rsp_script_io::proofs::Texts::parts), unfolding(crate::specs::Looks::half_text))]
@@ -94,12 +93,6 @@ pub(crate) fn put_accumulators<A: Acc>(reply: &mut Reply, debugger: &Debugger<A>
     push_accumulator_lines(reply, &high, &middle, &low);
 }
 
-fn control_half(low: Mask8, high: Mask8) -> u32
-    ensures { result ≡ control_half low high }
-{
-    (low.bits() + high.bits() * 256) as u32
-}
-
 /// `flags`: the control registers, and the divider.
 #[tactic(auto, using(rsp_script_io::proofs::Texts::parts), unfolding(crate::specs::Looks::flags_text))]
 pub(crate) fn put_flags(reply: &mut Reply, flags: &Flags, divider: &Divider)
@@ -107,11 +100,11 @@ pub(crate) fn put_flags(reply: &mut Reply, flags: &Flags, divider: &Divider)
     ensures { reply.new ≡ flags_text flags.now divider.now }
 {
     reply.push_text(b"vco ");
-    reply.push_hex(control_half(flags.carry, flags.differ), 4);
+    reply.push_hex(u32::from(flags.vco()), 4);
     reply.push_text(b" vcc ");
-    reply.push_hex(control_half(flags.compare, flags.clip), 4);
+    reply.push_hex(u32::from(flags.vcc()), 4);
     reply.push_text(b" vce ");
-    reply.push_hex(flags.extra.bits() as u32, 2);
+    reply.push_hex(u32::from(flags.extra.bits()), 2);
     reply.push_text(b" in ");
     reply.push_hex(u32::from(divider.input), 4);
     reply.push_text(b" out ");

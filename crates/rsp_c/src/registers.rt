@@ -125,11 +125,11 @@ pub fn registers_from_c(state: &RspState) -> AllRegisters
         accumulators_middle,
         accumulators_low,
         flags: Flags {
-            carry: Mask8::from_bits(u16::from(state.flags.carry)),
-            differ: Mask8::from_bits(u16::from(state.flags.differ)),
-            compare: Mask8::from_bits(u16::from(state.flags.compare)),
-            clip: Mask8::from_bits(u16::from(state.flags.clip)),
-            extra: Mask8::from_bits(u16::from(state.flags.extra)),
+            carry: Mask8::from_bits(state.flags.carry),
+            differ: Mask8::from_bits(state.flags.differ),
+            compare: Mask8::from_bits(state.flags.compare),
+            clip: Mask8::from_bits(state.flags.clip),
+            extra: Mask8::from_bits(state.flags.extra),
         },
         divider: Divider {
             input: state.divider.input,

@@ -26,11 +26,11 @@ pub fn c_flags(flags: &Flags) -> RspFlagBits
     ensures { result ≡ c_flags flags.now }
 {
     RspFlagBits {
-        carry: flags.carry.bits() as u8,
-        differ: flags.differ.bits() as u8,
-        compare: flags.compare.bits() as u8,
-        clip: flags.clip.bits() as u8,
-        extra: flags.extra.bits() as u8,
+        carry: flags.carry.bits(),
+        differ: flags.differ.bits(),
+        compare: flags.compare.bits(),
+        clip: flags.clip.bits(),
+        extra: flags.extra.bits(),
     }
 }
 

@@ -61,8 +61,6 @@ fn clamped_sums(a: &VReg, b: &VReg, carry: Mask8) -> (VReg, VReg)
     ensures value { result.0 ≡ each_lane (λ i. sixteen_bits (clamp16 (s16 (slice_index a.now i) +ℤ s16 (slice_index b.now i) +ℤ pos (bit (slice_index_or carry i false))))) }
     ensures low { result.1 ≡ each_lane (λ i. sixteen_bits (s16 (slice_index a.now i) +ℤ s16 (slice_index b.now i) +ℤ pos (bit (slice_index_or carry i false)))) }
 {
-    a.ranges();
-    b.ranges();
     let (sum, _) = a.add_carrying(b, carry);
     (a.add_clamped(b, carry), sum)
 }
@@ -86,7 +84,6 @@ fn subtract(a: &VReg, b: &VReg, flags: &mut Flags) -> (VReg, VReg)
     ensures low { result.1 ≡ lows_of vsub a.now b.now flags.old }
     ensures flags { flags.new ≡ flags_after vsub a.now b.now flags.old }
 {
-    b.ranges();
     let sums = clamped_sums(a, &b.not(), flags.carry.not());
     flags.clear_vco();
     sums
@@ -99,13 +96,12 @@ fn absolute(a: &VReg, b: &VReg, flags: &mut Flags) -> (VReg, VReg)
     ensures low { result.1 ≡ lows_of vabs a.now b.now flags.old }
     ensures flags { flags.new ≡ flags_after vabs a.now b.now flags.old }
 {
-    a.ranges();
-    b.ranges();
     let negative = a.is_negative();
     let signed = negative.merge(&b.negate(), b);
     let low = a.is_zero().merge(&VReg::new(), &signed);
     let passes = negative.and(b.is_equal(&VReg::splat(0x8000)));
-    flags.ranges();
+    // VABS keeps the flags, which are those of eight lanes: the contract of `vco` says so.
+    let _ = flags.vco();
     (passes.merge(&VReg::splat(0x7fff), &low), low)
 }
 
@@ -129,8 +125,6 @@ fn subtract_borrowed(a: &VReg, b: &VReg, flags: &mut Flags) -> (VReg, VReg)
     ensures low { result.1 ≡ lows_of vsubc a.now b.now flags.old }
     ensures flags { flags.new ≡ flags_after vsubc a.now b.now flags.old }
 {
-    a.ranges();
-    b.ranges();
     let difference = a.subtract(b);
     flags.set_vco(a.is_below(b), a.is_equal(b).not());
     (difference, difference)

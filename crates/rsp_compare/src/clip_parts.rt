@@ -1,5 +1,5 @@
 ghost use Rattle.std.specs.Prelude.{◌≡◌, cond, false, slice_index, slice_index_or};
-ghost use Rattle.rsp_lanes.specs.Lanes.{each_lane};
+ghost use Rattle.rsp_lanes.specs.Lanes.{each_lane, IsVector};
 ghost use Rattle.rsp_numbers.specs.Numbers.{sixteen_bits};
 ghost use Rattle.rsp_compare.specs.Clips.{signs_differ};
 ghost use Rattle.rsp_compare.specs.ClipParts.{sum_or_difference};
@@ -18,10 +18,9 @@ pub(crate) fn signs_differ(a: &VReg, b: &VReg) -> Mask8
 /// so no bit is lost.
 #[inline(always)]
 pub(crate) fn sum_or_difference(a: &VReg, b: &VReg) -> VReg
-    ensures { result ≡ each_lane (λ i. sixteen_bits (sum_or_difference (slice_index a.now i) (slice_index b.now i))) }
+    ensures value { result ≡ each_lane (λ i. sixteen_bits (sum_or_difference (slice_index a.now i) (slice_index b.now i))) }
+    ensures within { IsVector a.now × IsVector b.now }
 {
-    a.ranges();
-    b.ranges();
     a.subtract(&signs_differ(a, b).merge(&b.negate(), b))
 }
 

@@ -53,8 +53,6 @@ fn vch(a: &VReg, b: &VReg, flags: &mut Flags) -> VReg
     ensures value { result ≡ results_of vch a.now b.now flags.old }
     ensures flags { flags.new ≡ flags_after vch a.now b.now flags.old }
 {
-    a.ranges();
-    b.ranges();
     let apart = signs_differ(a, b);
     let number = sum_or_difference(a, b);
     let is_zero = number.is_zero();
@@ -80,8 +78,6 @@ fn vcr(a: &VReg, b: &VReg, flags: &mut Flags) -> VReg
     ensures value { result ≡ results_of vcr a.now b.now flags.old }
     ensures flags { flags.new ≡ flags_after vcr a.now b.now flags.old }
 {
-    a.ranges();
-    b.ranges();
     let apart = signs_differ(a, b);
     let is_negative = sum_or_difference(a, b).is_negative();
     let taken = is_negative.xor(apart).not();

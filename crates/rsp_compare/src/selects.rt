@@ -83,8 +83,6 @@ fn taken(op: SelectOp, a: &VReg, b: &VReg, flags: &Flags) -> Mask8
 fn is_below(a: &VReg, b: &VReg, flags: &Flags) -> Mask8
     ensures { result ≡ each_lane (λ i. vlt (slice_index a.now i) (slice_index b.now i) (flags_at flags.now i)) }
 {
-    a.ranges();
-    b.ranges();
     let both = flags.carry.and(flags.differ);
     a.is_below_signed(b).or(a.is_equal(b).and(both))
 }
@@ -94,8 +92,6 @@ fn is_below(a: &VReg, b: &VReg, flags: &Flags) -> Mask8
 fn is_equal(a: &VReg, b: &VReg, flags: &Flags) -> Mask8
     ensures { result ≡ each_lane (λ i. veq (slice_index a.now i) (slice_index b.now i) (flags_at flags.now i)) }
 {
-    a.ranges();
-    b.ranges();
     a.is_equal(b).and(flags.differ.not())
 }
 
@@ -104,8 +100,6 @@ fn is_equal(a: &VReg, b: &VReg, flags: &Flags) -> Mask8
 fn is_different(a: &VReg, b: &VReg, flags: &Flags) -> Mask8
     ensures { result ≡ each_lane (λ i. vne (slice_index a.now i) (slice_index b.now i) (flags_at flags.now i)) }
 {
-    a.ranges();
-    b.ranges();
     a.is_equal(b).not().or(flags.differ)
 }
 
@@ -114,8 +108,6 @@ fn is_different(a: &VReg, b: &VReg, flags: &Flags) -> Mask8
 fn is_at_least(a: &VReg, b: &VReg, flags: &Flags) -> Mask8
     ensures { result ≡ each_lane (λ i. vge (slice_index a.now i) (slice_index b.now i) (flags_at flags.now i)) }
 {
-    a.ranges();
-    b.ranges();
     let both = flags.carry.and(flags.differ);
     b.is_below_signed(a).or(a.is_equal(b).and(both.not()))
 }

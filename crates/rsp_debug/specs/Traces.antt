@@ -5,7 +5,7 @@ use Rattle.std.specs.Simd.Lanes.{mask_l}
 use Rattle.rsp_memory.specs.Memory.{word_at}
 use Rattle.rsp_scalar.specs.Registers.{register}
 use Rattle.rsp_loadstore.specs.File.{vector}
-use Rattle.rsp_loadstore.specs.Controls.{control_half}
+use Rattle.rsp_lanes.specs.Flags.{vco, vcc}
 use Rattle.rsp_machine.specs.State.{State}
 use Rattle.rsp_machine.specs.Laws.{steps_of}
 use Rattle.rsp_machine.specs.Effects.{effect_of}
@@ -23,8 +23,8 @@ entry_made_of pc word effect t = record {
   value = register t.registers effect.scalar;
   pc = pc;
   address = effect.address;
-  vco = control_half t.flags.carry t.flags.differ;
-  vcc = control_half t.flags.compare t.flags.clip;
+  vco = vco t.flags;
+  vcc = vcc t.flags;
   vce = mask_l t.flags.extra;
   scalar = effect.scalar;
   vector = effect.vector;

@@ -2,11 +2,9 @@
 
 ghost use Rattle.std.specs.Prelude.{◌≡◌};
 ghost use Rattle.rsp_scalar.specs.Registers.{register};
-ghost use Rattle.rsp_loadstore.specs.Controls.{control_half};
 ghost use Rattle.rsp_debug.specs.Traces.{lanes_in, entry_made_of};
 
 use rsp_acc::Acc;
-use rsp_lanes::Mask8;
 use rsp_machine::{Effect, Machine};
 
 /// What a step did, in plain numbers, as a log has them. Its bytes have no gaps: equal entries have equal bytes.
@@ -35,14 +33,6 @@ pub struct TraceEntry {
     pub stored: u8,
     /// The lanes of the vector register after the step; 0 without one.
     pub lanes: [u16; 8],
-}
-
-/// Sixteen flags as a number: eight in bits 0 to 7, and eight in bits 8 to 15.
-#[inline(always)]
-fn control_half(low: &Mask8, high: &Mask8) -> u16
-    ensures { result ≡ control_half low.now high.now }
-{
-    low.bits() as u16 + high.bits() as u16 * 256
 }
 
 /// The value of scalar register `n`.
@@ -76,9 +66,9 @@ pub fn entry_of<A: Acc>(pc: u16, word: u32, effect: Effect, machine: &Machine<A>
         value: register_of(effect.scalar, machine),
         pc,
         address: effect.address,
-        vco: control_half(&flags.carry, &flags.differ),
-        vcc: control_half(&flags.compare, &flags.clip),
-        vce: flags.extra.bits() as u8,
+        vco: flags.vco(),
+        vcc: flags.vcc(),
+        vce: flags.extra.bits(),
         scalar: effect.scalar,
         vector: effect.vector,
         stored: if effect.stored { 1 } else { 0 },

@@ -1,5 +1,6 @@
 -- The flags of the vector unit: of one lane, and of all eight.
-use Rattle.std.specs.Prelude.{ℕ, Bool, false, slice_index_or}
+use Rattle.std.specs.Prelude.{ℕ, ◌+◌, ◌*◌, Bool, false, slice_index_or}
+use Rattle.std.specs.Simd.Lanes.{mask_l}
 use Rattle.rsp_lanes.specs.Lanes.{each_lane}
 use Rattle.rsp_lanes.specs.declared.flags.Flags.{Flags}
 
@@ -44,3 +45,10 @@ no_flags = record {
 -- a lane's flags with VCO, which is carry and not-equal, cleared
 abbrev pub vco_cleared : LaneFlags → LaneFlags
 vco_cleared f = record f { carry = false; differ = false }
+
+-- VCO and VCC as sixteen bits: eight flags in bits 7 to 0, and eight in bits 15 to 8. Flag i of eight is bit i of them.
+abbrev pub vco : Flags → ℕ
+vco f = mask_l f.carry + mask_l f.differ * 256
+
+abbrev pub vcc : Flags → ℕ
+vcc f = mask_l f.compare + mask_l f.clip * 256

@@ -1,5 +1,5 @@
 ghost use Rattle.std.specs.Prelude.{◌≡◌, slice_index_or, false};
-ghost use Rattle.rsp_lanes.specs.Flags.{no_flags, flags_at, all_flags, vco_cleared};
+ghost use Rattle.rsp_lanes.specs.Flags.{no_flags, flags_at, all_flags, vco_cleared, vco, vcc};
 
 use crate::mask::Mask8;
 
@@ -40,16 +40,24 @@ impl Flags {
         }
     }
 
-    /// Does nothing. Its contract gives the prover a fact: the flags are those of their eight lanes.
+    /// VCO as sixteen bits: carry is bits 7 to 0, and not-equal bits 15 to 8.
     #[inline(always)]
-    pub fn ranges(&self)
-        ensures { self.now ≡ all_flags (flags_at self.now) }
+    pub fn vco(&self) -> u16
+        ensures value { result ≡ vco self.now }
+        ensures within { self.now ≡ all_flags (flags_at self.now) }
     {
-        self.carry.ranges();
-        self.differ.ranges();
-        self.compare.ranges();
-        self.clip.ranges();
-        self.extra.ranges();
+        self.read_lanes();
+        u16::from(self.carry.bits()) + u16::from(self.differ.bits()) * 256
+    }
+
+    /// VCC as sixteen bits: compare is bits 7 to 0, and clip bits 15 to 8.
+    #[inline(always)]
+    pub fn vcc(&self) -> u16
+        ensures value { result ≡ vcc self.now }
+        ensures within { self.now ≡ all_flags (flags_at self.now) }
+    {
+        self.read_lanes();
+        u16::from(self.compare.bits()) + u16::from(self.clip.bits()) * 256
     }
 
     /// Writes VCO, the carry and not-equal flags. VCC and VCE are kept.
@@ -57,11 +65,9 @@ impl Flags {
     pub fn set_vco(&mut self, carry: Mask8, differ: Mask8)
         ensures { self.new ≡ all_flags (λ i. record (flags_at self.old i) { carry = slice_index_or carry i false; differ = slice_index_or differ i false }) }
     {
-        carry.ranges();
-        differ.ranges();
-        self.ranges();
-        self.carry = carry;
-        self.differ = differ;
+        self.read_lanes();
+        self.carry = carry.read();
+        self.differ = differ.read();
     }
 
     /// Clears VCO. VCC and VCE are kept.
@@ -106,10 +112,20 @@ impl Flags {
     pub fn set_vcc(&mut self, compare: Mask8, clip: Mask8)
         ensures { self.new ≡ all_flags (λ i. record (flags_at self.old i) { compare = slice_index_or compare i false; clip = slice_index_or clip i false }) }
     {
-        compare.ranges();
-        clip.ranges();
-        self.ranges();
-        self.compare = compare;
-        self.clip = clip;
+        self.read_lanes();
+        self.compare = compare.read();
+        self.clip = clip.read();
+    }
+
+    /// Reads the five masks, so that the prover knows that the flags are those of eight lanes. LLVM removes it.
+    #[inline(always)]
+    fn read_lanes(&self)
+        ensures { self.now ≡ all_flags (flags_at self.now) }
+    {
+        self.carry.read();
+        self.differ.read();
+        self.compare.read();
+        self.clip.read();
+        self.extra.read();
     }
 }

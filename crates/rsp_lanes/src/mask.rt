@@ -54,17 +54,10 @@ impl Mask8 {
     /// A copy of the mask through a vector register. A copy of the struct would go from memory to memory.
     #[inline(always)]
     pub(crate) fn read(&self) -> Self
-        ensures { result ≡ self.now }
+        ensures value { result ≡ self.now }
+        ensures eight { length self.now ≡ 8 }
     {
         Mask8 { lanes: self.lanes }
-    }
-
-    /// Does nothing. Its contract gives the prover a fact: there are eight lanes.
-    #[inline(always)]
-    pub fn ranges(self)
-        ensures { length self ≡ 8 }
-    {
-        let _ = &self.lanes;
     }
 
     /// The lanes that are set in both.
@@ -125,20 +118,19 @@ impl Mask8 {
 
     /// The number from 0 to 255 whose bit `i` is 1 if lane `i` is set.
     #[inline(always)]
-    pub fn bits(self) -> u64
-        ensures value { result ≡ mask_l self }
-        ensures bound { result < 256 }
+    pub fn bits(self) -> u8
+        ensures { result ≡ mask_l self }
     {
-        self.lanes.to_bitmask()
+        self.lanes.to_bitmask() as u8
     }
 
-    /// The mask whose lane `i` is set if bit `i` of the number is 1. Bits 8 to 15 are ignored.
+    /// The mask whose lane `i` is set if bit `i` of the number is 1.
     #[inline(always)]
-    pub fn from_bits(bits: u16) -> Self
+    pub fn from_bits(bits: u8) -> Self
         ensures { result ≡ each_lane (λ i. bit_set bits i) }
     {
-        let places = u16x8::from_array([1, 2, 4, 8, 16, 32, 64, 128]);
-        Mask8::from_simd((u16x8::splat(bits) & places).simd_ne(u16x8::splat(0)))
+        let powers = u16x8::from_array([1, 2, 4, 8, 16, 32, 64, 128]);
+        Mask8::from_simd((u16x8::splat(u16::from(bits)) & powers).simd_ne(u16x8::splat(0)))
     }
 }
 
@@ -146,6 +138,7 @@ impl Mask8 {
 mod tests {
     use super::*;
 
+    // compiles only if the struct has exactly this field
     #[test]
     fn holds_one_mask(rt: HostRuntime) {
         let m = Mask8 {

@@ -2,7 +2,7 @@
 
 ghost use Rattle.std.specs.Prelude.{ℕ, ◌≡◌, ◌<◌, ◌^◌, ◌-◌, ◌*ℤ◌, ◌+ℤ◌, ◌≤ℤ◌, ◌<ℤ◌, pos, negsuc, cond, nat_lt, slice_index, slice_index_or, false};
 ghost use Rattle.std.specs.Int.{int_min, int_max};
-ghost use Rattle.rsp_lanes.specs.Lanes.{each_lane, bit};
+ghost use Rattle.rsp_lanes.specs.Lanes.{each_lane, bit, IsVector};
 ghost use Rattle.rsp_numbers.specs.Numbers.{s16, upper_bits, sixteen_bits, clamp16, number};
 
 use crate::{Mask8, VReg};
@@ -11,7 +11,8 @@ use std::simd::prelude::*;
 /// The lanes as signed values, in 16 bits.
 #[inline(always)]
 fn signed(v: &VReg) -> i16x8
-    ensures { result ≡ each_lane (λ i. s16 (slice_index v.now i)) }
+    ensures value { result ≡ each_lane (λ i. s16 (slice_index v.now i)) }
+    ensures within { IsVector v.now }
 {
     i16x8::from_le_bytes(v.to_simd().to_le_bytes())
 }
@@ -19,19 +20,17 @@ fn signed(v: &VReg) -> i16x8
 /// The lanes as signed values, in 32 bits.
 #[inline(always)]
 fn wide(v: &VReg) -> i32x8
-    ensures { result ≡ each_lane (λ i. s16 (slice_index v.now i)) }
+    ensures value { result ≡ each_lane (λ i. s16 (slice_index v.now i)) }
+    ensures within { IsVector v.now }
 {
-    v.ranges();
     signed(v).cast::<i32>()
 }
 
-/// The lesser of both lanes as signed values and of 32766.
+/// The lesser of both lanes as signed values, clamped to 32766 so that a carry can be added without overflow.
 #[inline(always)]
-fn lesser(a: &VReg, b: &VReg) -> VReg
+fn clamped_lesser(a: &VReg, b: &VReg) -> VReg
     ensures { (i : ℕ) → i < 8 → s16 (slice_index result i) ≡ int_min (int_min (s16 (slice_index a.now i)) (s16 (slice_index b.now i))) (pos 32766) }
 {
-    a.ranges();
-    b.ranges();
     let lesser = signed(a).simd_min(signed(b)).simd_min(i16x8::splat(0x7ffe));
     VReg::from_simd(u16x8::from_le_bytes(lesser.to_le_bytes()))
 }
@@ -39,10 +38,9 @@ fn lesser(a: &VReg, b: &VReg) -> VReg
 /// The greater of both lanes as signed values, in 32 bits.
 #[inline(always)]
 fn greater(a: &VReg, b: &VReg) -> i32x8
-    ensures { result ≡ each_lane (λ i. int_max (s16 (slice_index a.now i)) (s16 (slice_index b.now i))) }
+    ensures value { result ≡ each_lane (λ i. int_max (s16 (slice_index a.now i)) (s16 (slice_index b.now i))) }
+    ensures within { IsVector a.now × IsVector b.now }
 {
-    a.ranges();
-    b.ranges();
     signed(a).simd_max(signed(b)).cast::<i32>()
 }
 
@@ -63,19 +61,15 @@ fn saturated(numbers: i32x8) -> VReg
 impl VReg {
     /// The sums of the lanes as signed values and a carry, clamped to -32768..=32767.
     ///
-    /// First the lesser lane is clamped to 32766, then the carry is added, which can't overflow. A lesser lane of
-    /// 32767 means that both are 32767, and then the clamped sum is 32767 in any case.
+    /// The carry is added to the lesser lane, clamped to 32766. A lesser lane of 32767 means that both are 32767, and
+    /// then the clamped sum is 32767 in any case.
     #[inline(always)]
     pub fn add_clamped(&self, other: &VReg, carry: Mask8) -> VReg
         ensures { result ≡ each_lane (λ i. sixteen_bits (clamp16 (s16 (slice_index self.now i) +ℤ s16 (slice_index other.now i) +ℤ pos (bit (slice_index_or carry i false))))) }
     {
-        self.ranges();
-        other.ranges();
-        let lesser = lesser(self, other);
-        lesser.ranges();
+        let lesser = clamped_lesser(self, other);
         let minus_carry = carry.merge(&VReg::splat(0xffff), &VReg::new());
         let carried = lesser.subtract(&minus_carry);
-        carried.ranges();
         saturated(greater(self, other) + wide(&carried))
     }
 
@@ -84,8 +78,6 @@ impl VReg {
     pub fn signed_product_high(&self, other: &VReg) -> VReg
         ensures { result ≡ each_lane (λ i. upper_bits (s16 (slice_index self.now i) *ℤ s16 (slice_index other.now i))) }
     {
-        self.ranges();
-        other.ranges();
         let product = signed(self)
             .cast::<i32>()
             .strict_mul(signed(other).cast::<i32>());
@@ -98,7 +90,6 @@ impl VReg {
     pub fn sign(&self) -> VReg
         ensures { result ≡ each_lane (λ i. cond (nat_lt 32767 (slice_index self.now i)) 65535 0) }
     {
-        self.ranges();
         let sign = signed(self) >> i16x8::splat(15);
         VReg::from_simd(u16x8::from_le_bytes(sign.to_le_bytes()))
     }

@@ -100,14 +100,6 @@ impl VReg {
         self.lanes
     }
 
-    /// Does nothing. Its contract gives the prover a fact: there are eight lanes, each below 65536.
-    #[inline(always)]
-    pub fn ranges(&self)
-        ensures { IsVector self.now }
-    {
-        let _ = &self.lanes;
-    }
-
     /// Lane `i`, from 0 to 7.
     #[inline(always)]
     pub fn lane(&self, i: usize) -> u16
@@ -162,7 +154,8 @@ impl VReg {
     /// The sums of the lanes, modulo 65536.
     #[inline(always)]
     pub fn add(&self, other: &VReg) -> VReg
-        ensures { result ≡ each_lane (λ i. (slice_index self.now i + slice_index other.now i) % 65536) }
+        ensures value { result ≡ each_lane (λ i. (slice_index self.now i + slice_index other.now i) % 65536) }
+        ensures within { IsVector self.now × IsVector other.now }
     {
         VReg::from_simd(self.lanes + other.lanes)
     }
@@ -170,7 +163,8 @@ impl VReg {
     /// The differences of the lanes, modulo 65536.
     #[inline(always)]
     pub fn subtract(&self, other: &VReg) -> VReg
-        ensures { result ≡ each_lane (λ i. (slice_index self.now i + (65536 - slice_index other.now i)) % 65536) }
+        ensures value { result ≡ each_lane (λ i. (slice_index self.now i + (65536 - slice_index other.now i)) % 65536) }
+        ensures within { IsVector self.now × IsVector other.now }
     {
         VReg::from_simd(self.lanes - other.lanes)
     }
@@ -178,7 +172,8 @@ impl VReg {
     /// Bitwise and.
     #[inline(always)]
     pub fn and(&self, other: &VReg) -> VReg
-        ensures { result ≡ each_lane (λ i. bit_and (slice_index self.now i) (slice_index other.now i)) }
+        ensures value { result ≡ each_lane (λ i. bit_and (slice_index self.now i) (slice_index other.now i)) }
+        ensures within { IsVector self.now × IsVector other.now }
     {
         VReg::from_simd(self.lanes & other.lanes)
     }
@@ -202,7 +197,8 @@ impl VReg {
     /// Bitwise not.
     #[inline(always)]
     pub fn not(&self) -> VReg
-        ensures { result ≡ each_lane (λ i. complement (slice_index self.now i)) }
+        ensures value { result ≡ each_lane (λ i. complement (slice_index self.now i)) }
+        ensures within { IsVector self.now }
     {
         VReg::from_simd(!self.lanes)
     }
@@ -210,7 +206,8 @@ impl VReg {
     /// The lanes negated, modulo 65536: 8000 hex is its own negative.
     #[inline(always)]
     pub fn negate(&self) -> VReg
-        ensures { result ≡ each_lane (λ i. negated (slice_index self.now i)) }
+        ensures value { result ≡ each_lane (λ i. negated (slice_index self.now i)) }
+        ensures within { IsVector self.now }
     {
         VReg::new().subtract(self)
     }
@@ -218,7 +215,8 @@ impl VReg {
     /// The lanes that are 0.
     #[inline(always)]
     pub fn is_zero(&self) -> Mask8
-        ensures { result ≡ each_lane (λ i. nat_eq (slice_index self.now i) 0) }
+        ensures value { result ≡ each_lane (λ i. nat_eq (slice_index self.now i) 0) }
+        ensures within { IsVector self.now }
     {
         self.is_equal(&VReg::new())
     }
@@ -226,7 +224,8 @@ impl VReg {
     /// The lanes that are below the other's, as unsigned values.
     #[inline(always)]
     pub fn is_below(&self, other: &VReg) -> Mask8
-        ensures { result ≡ each_lane (λ i. nat_lt (slice_index self.now i) (slice_index other.now i)) }
+        ensures value { result ≡ each_lane (λ i. nat_lt (slice_index self.now i) (slice_index other.now i)) }
+        ensures within { IsVector self.now × IsVector other.now }
     {
         Mask8::from_simd(self.lanes.simd_lt(other.lanes))
     }
@@ -236,8 +235,6 @@ impl VReg {
     pub fn is_below_signed(&self, other: &VReg) -> Mask8
         ensures { result ≡ each_lane (λ i. int_lt (s16 (slice_index self.now i)) (s16 (slice_index other.now i))) }
     {
-        self.ranges();
-        other.ranges();
         let half = VReg::splat(0x8000);
         self.add(&half).is_below(&other.add(&half))
     }
@@ -245,7 +242,8 @@ impl VReg {
     /// The lanes that are equal to the other's.
     #[inline(always)]
     pub fn is_equal(&self, other: &VReg) -> Mask8
-        ensures { result ≡ each_lane (λ i. nat_eq (slice_index self.now i) (slice_index other.now i)) }
+        ensures value { result ≡ each_lane (λ i. nat_eq (slice_index self.now i) (slice_index other.now i)) }
+        ensures within { IsVector self.now × IsVector other.now }
     {
         Mask8::from_simd(self.lanes.simd_eq(other.lanes))
     }
@@ -255,9 +253,8 @@ impl VReg {
     pub fn add_carrying(&self, other: &VReg, carry: Mask8) -> (VReg, Mask8)
         ensures sum { result.0 ≡ each_lane (λ i. (slice_index self.now i + slice_index other.now i + bit (slice_index_or carry i false)) % 65536) }
         ensures carry { result.1 ≡ each_lane (λ i. nat_le 65536 (slice_index self.now i + slice_index other.now i + bit (slice_index_or carry i false))) }
+        ensures within { IsVector self.now × IsVector other.now }
     {
-        self.ranges();
-        other.ranges();
         let plain = self.add(other);
         let sum = plain.add(&carry.merge(&VReg::splat(1), &VReg::new()));
         (sum, plain.is_below(self).or(sum.is_below(&plain)))
@@ -266,7 +263,8 @@ impl VReg {
     /// The lanes that are negative as signed values: their top bit is set.
     #[inline(always)]
     pub fn is_negative(&self) -> Mask8
-        ensures { result ≡ each_lane (λ i. nat_lt 32767 (slice_index self.now i)) }
+        ensures value { result ≡ each_lane (λ i. nat_lt 32767 (slice_index self.now i)) }
+        ensures within { IsVector self.now }
     {
         VReg::splat(0x7fff).is_below(self)
     }
@@ -276,6 +274,7 @@ impl VReg {
     pub fn product(&self, other: &VReg) -> (VReg, VReg)
         ensures high { result.0 ≡ each_lane (λ i. slice_index self.now i * slice_index other.now i / 65536) }
         ensures low { result.1 ≡ each_lane (λ i. slice_index self.now i * slice_index other.now i % 65536) }
+        ensures within { IsVector self.now × IsVector other.now }
     {
         let product = self.lanes.cast::<u32>() * other.lanes.cast::<u32>();
         (
@@ -289,6 +288,7 @@ impl VReg {
 mod tests {
     use super::*;
 
+    // compiles only if the struct has exactly this field
     #[test]
     fn holds_one_vector(rt: HostRuntime) {
         let v = VReg {

@@ -212,11 +212,11 @@ from_given_more value v half n h = sym (set_each (λ i. if nat_le half i && nat_
 
 -- four lanes, with every fourth byte of a window
 pub fourths_loaded : (m : List ℕ) (file : List (List ℕ)) (vt e a : ℕ) → vt < length file → length (vector file vt) ≡ 8 → (e ≡ 0) ⊎ (e ≡ 8)
-    → with_vector file vt (each_lane (λ i. cond (bit_set (15 * 2 ^ (e / 2) % 65536) i) (get_or (bytes_at m (doubleword_start a) 16) ((a % 8 + 2 * (2 * i % 8)) % 16) 0 * 128) (get_or (vector file vt) i 0)))
+    → with_vector file vt (each_lane (λ i. cond (bit_set (15 * 2 ^ (e / 2) % 256) i) (get_or (bytes_at m (doubleword_start a) 16) ((a % 8 + 2 * (2 * i % 8)) % 16) 0 * 128) (get_or (vector file vt) i 0)))
     ≡ after_load m file (for_each 4 (λ j. to_lane vt (e / 2 + j) 128 (wrapped_address a (4 * j))))
 unfolding loaded
 fourths_loaded m file vt e a h l half =
-    ap (with_vector file vt) (each_same _ _ (λ i k. ap (λ b. cond (bit_set (15 * 2 ^ (e / 2) % 65536) i) (b * 128) (get_or (vector file vt) i 0)) (byte i) ∙ lane i k))
+    ap (with_vector file vt) (each_same _ _ (λ i k. ap (λ b. cond (bit_set (15 * 2 ^ (e / 2) % 256) i) (b * 128) (get_or (vector file vt) i 0)) (byte i) ∙ lane i k))
     ∙ sym (one_register m file vt 4 (λ j. to_lane vt (e / 2 + j) 128 (wrapped_address a (4 * j))) (λ v j. set v (e / 2 + j) (value j)) (from_given value (vector file vt) (e / 2))
     h (λ _ _. refl) (from_given_none value (vector file vt) (e / 2) l) (λ k lt. from_given_more value (vector file vt) (e / 2) k (small k lt)))
   where
@@ -232,7 +232,7 @@ fourths_loaded m file vt e a h l half =
     byte : (i : ℕ) → get_or (bytes_at m (doubleword_start a) 16) ((a % 8 + 2 * (2 * i % 8)) % 16) 0 ≡ byte_at m (doubleword_start a + (a % 8 + 2 * (2 * i % 8)) % 16)
     byte i = window_byte m (doubleword_start a) 16 _ (omega arith)
 
-    lane : (i : ℕ) → i < 8 → cond (bit_set (15 * 2 ^ (e / 2) % 65536) i) (byte_at m (doubleword_start a + (a % 8 + 2 * (2 * i % 8)) % 16) * 128) (get_or (vector file vt) i 0)
+    lane : (i : ℕ) → i < 8 → cond (bit_set (15 * 2 ^ (e / 2) % 256) i) (byte_at m (doubleword_start a + (a % 8 + 2 * (2 * i % 8)) % 16) * 128) (get_or (vector file vt) i 0)
         ≡ (if nat_le (e / 2) i && nat_lt i (e / 2 + 4) then value (i - e / 2) else get_or (vector file vt) i 0)
     lane i k = elim half [
       | inl z ↦ rw z (below_eight (λ i. cond (bit_set 15 i) (byte_at m (doubleword_start a + (a % 8 + 2 * (2 * i % 8)) % 16) * 128) (get_or (vector file vt) i 0)

@@ -1,19 +1,16 @@
 -- Moves between a scalar register and a control register of the vector unit.
-use Rattle.std.specs.Prelude.{ℕ, ◌+◌, ◌*◌, ◌/◌, ◌%◌, Bool, List}
+use Rattle.std.specs.Prelude.{ℕ, ◌/◌, ◌%◌, Bool, List}
 use Rattle.std.specs.Int.{w16}
 use Rattle.std.specs.Simd.Lanes.{mask_l}
 use Rattle.rsp_numbers.specs.Numbers.{bit_set, sign_extended}
 use Rattle.rsp_lanes.specs.Lanes.{each_lane}
 use Rattle.rsp_lanes.specs.declared.flags.Flags.{Flags}
+use Rattle.rsp_lanes.specs.Flags.{vco, vcc}
 use Rattle.rsp_decode.specs.declared.inst.Inst.{Inst}
 use Rattle.rsp_decode.specs.declared.inst.Inst.TheVariants.{MoveControl}
 use Rattle.rsp_decode.specs.declared.scalar.MoveOp.TheVariants.{From, To}
 use Rattle.rsp_decode.specs.declared.vector.Control.{Control}
 use Rattle.rsp_decode.specs.declared.vector.Control.TheVariants.{Vco, Vcc, Vce}
-
--- VCO or VCC as sixteen bits: eight flags in bits 0 to 7, and eight in bits 8 to 15
-abbrev pub control_half : List Bool → List Bool → ℕ
-control_half low high = mask_l low + mask_l high * 256
 
 -- the flags of lanes 0 to 7 from bits 0 to 7 of a number
 abbrev pub flags_of_bits : ℕ → List Bool
@@ -21,8 +18,8 @@ flags_of_bits n = each_lane (λ i. bit_set n i)
 
 -- a control register in 32 bits: VCO and VCC are sign-extended, VCE is zero-extended
 abbrev pub control_word : Control → Flags → ℕ
-control_word Vco f = sign_extended w16 (control_half f.carry f.differ)
-control_word Vcc f = sign_extended w16 (control_half f.compare f.clip)
+control_word Vco f = sign_extended w16 (vco f)
+control_word Vcc f = sign_extended w16 (vcc f)
 control_word Vce f = mask_l f.extra
 
 -- the flags after a write of a control register

@@ -1,17 +1,10 @@
 ghost use Rattle.std.specs.Prelude.{◌≡◌};
 ghost use Rattle.rsp_decode.specs.Table.{IsInstruction};
-ghost use Rattle.rsp_loadstore.specs.Controls.{control_half, control_value, flags_after_move};
+ghost use Rattle.rsp_loadstore.specs.Controls.{control_value, flags_after_move};
 
 use rsp_decode::{Control, Inst, MoveOp};
 use rsp_lanes::{Flags, Mask8};
 use rsp_numbers::sign_extend;
-
-/// VCO or VCC as sixteen bits: eight flags in bits 7 to 0, and eight in bits 15 to 8.
-fn control_half(low: Mask8, high: Mask8) -> u16
-    ensures { result ≡ control_half low high }
-{
-    (low.bits() + high.bits() * 256) as u16
-}
 
 /// What CFC2 reads: VCO or VCC sign-extended, or VCE zero-extended. For another instruction it is 0.
 #[tactic(auto, unfolding(crate::specs::Controls::control_value))]
@@ -25,9 +18,9 @@ pub fn control_from(inst: &Inst, flags: &Flags) -> u32
             control,
             ..
         } => match control {
-            Control::Vco => sign_extend(control_half(flags.carry, flags.differ)),
-            Control::Vcc => sign_extend(control_half(flags.compare, flags.clip)),
-            Control::Vce => flags.extra.bits() as u32,
+            Control::Vco => sign_extend(flags.vco()),
+            Control::Vcc => sign_extend(flags.vcc()),
+            Control::Vce => u32::from(flags.extra.bits()),
         },
         _ => 0,
     }
@@ -45,8 +38,8 @@ pub fn control_to(inst: &Inst, value: u32, flags: &mut Flags)
         ..
     } = *inst
     {
-        let low = Mask8::from_bits((value % 256) as u16);
-        let high = Mask8::from_bits((value / 256 % 256) as u16);
+        let low = Mask8::from_bits((value % 256) as u8);
+        let high = Mask8::from_bits((value / 256 % 256) as u8);
         match control {
             Control::Vco => {
                 flags.carry = low;

@@ -48,27 +48,19 @@ impl VFile {
     pub fn lanes(&self) -> [[u16; 8]; 32]
         ensures { result ≡ self.now }
     {
-        self.ranges();
         let mut lanes = [[0; 8]; 32];
         for n in 0..32 {
-            lanes[n] = self.at(n).to_array();
+            lanes[n] = self.registers[n].to_array();
         }
         lanes
-    }
-
-    /// Does nothing. Its contract gives the prover a fact: there are 32 registers, each of eight lanes below 2^16.
-    #[inline(always)]
-    pub fn ranges(&self)
-        ensures { IsFile self.now }
-    {
-        let _ = &self.registers;
     }
 
     /// Register `n`, below 32.
     #[inline(always)]
     pub fn reg(&self, n: u8) -> VReg
         requires { n < 32 }
-        ensures { result ≡ vector self.now n }
+        ensures value { result ≡ vector self.now n }
+        ensures within { IsFile self.now }
     {
         self.at(n as usize)
     }
@@ -78,7 +70,8 @@ impl VFile {
     #[tactic(auto, using(std::proofs::lemmas::List::get_or_default), unfolding(crate::specs::File::vector))]
     pub(crate) fn at(&self, n: usize) -> VReg
         requires { n < 32 }
-        ensures { result ≡ vector self.now n }
+        ensures value { result ≡ vector self.now n }
+        ensures within { IsFile self.now }
     {
         self.registers[n]
     }
@@ -87,7 +80,8 @@ impl VFile {
     #[inline(always)]
     pub fn set_reg(&mut self, n: u8, v: VReg)
         requires { n < 32 }
-        ensures { self.new ≡ with_vector self.old n v }
+        ensures value { self.new ≡ with_vector self.old n v }
+        ensures within { IsFile self.old }
     {
         self.put(n as usize, v);
     }
@@ -97,10 +91,11 @@ impl VFile {
     #[tactic(auto, unfolding(crate::specs::File::with_vector))]
     pub(crate) fn put(&mut self, n: usize, v: VReg)
         requires { n < 32 }
-        ensures { self.new ≡ with_vector self.old n v }
+        ensures value { self.new ≡ with_vector self.old n v }
+        ensures within { IsFile self.old }
     {
-        v.ranges();
-        self.registers[n] = v;
+        // `to_simd` says that v has eight lanes below 2^16, as each register has
+        self.registers[n] = VReg::from_simd(v.to_simd());
     }
 
     /// Bits 14 to 7 of the sixteen bits at bytes `i` and `i + 1` modulo 16 of register `n`.

@@ -71,7 +71,6 @@ fn load_bytes(vt: u8, i: usize, n: usize, a: u32, memory: &SpMem, file: &mut VFi
     requires count { n ≤ 16 }
     ensures { file.new ≡ after_load memory.now file.old (for_each (min n (16 - i)) (λ k. to_byte vt (i + k) (a + k))) }
 {
-    file.ranges();
     let v = file.reg(vt);
     file.set_reg(vt, v.with_bytes(window(memory, a), i as u8, n as u8));
 }
@@ -82,7 +81,6 @@ fn load_quadword(vt: u8, a: u32, memory: &SpMem, file: &mut VFile)
     requires { vt < 32 }
     ensures { file.new ≡ after_load memory.now file.old (for_each 16 (λ k. to_byte vt (0 + k) (a + k))) }
 {
-    file.ranges();
     file.set_reg(vt, VReg::from_rotated(window(memory, a), 0));
 }
 
@@ -94,7 +92,6 @@ fn load_packed(vt: u8, factor: u16, e: usize, a: u32, memory: &SpMem, file: &mut
     requires element { e < 16 }
     ensures { file.new ≡ after_load memory.now file.old (for_each 8 (λ j. to_lane vt j factor (wrapped_address a (16 - e + j)))) }
 {
-    file.ranges();
     let bytes = window(memory, a - a % 8);
     let start = (a % 8) as u8 + 16 - e as u8;
     file.set_reg(vt, VReg::unpacked_from(bytes, start, factor));
@@ -107,7 +104,6 @@ fn load_halves(vt: u8, e: usize, a: u32, memory: &SpMem, file: &mut VFile)
     requires element { e < 16 }
     ensures { file.new ≡ after_load memory.now file.old (load_pairs Lhv vt e a) }
 {
-    file.ranges();
     let bytes = window(memory, a - a % 8);
     let start = (a % 8) as u8 + 16 - e as u8;
     file.set_reg(vt, VReg::from_halves(bytes, start));
@@ -120,10 +116,9 @@ fn load_fourths(vt: u8, e: usize, a: u32, memory: &SpMem, file: &mut VFile)
     requires element { IsLoadElement Lfv e }
     ensures { file.new ≡ after_load memory.now file.old (load_pairs Lfv vt e a) }
 {
-    file.ranges();
     let bytes = window(memory, a - a % 8);
     let fourths = VReg::from_halves(bytes, (a % 8) as u8).even_lanes();
-    let taken = Mask8::from_bits(15 << e / 2);
+    let taken = Mask8::from_bits(15 << (e / 2));
     let v = file.reg(vt);
     file.set_reg(vt, taken.merge(&fourths, &v));
 }

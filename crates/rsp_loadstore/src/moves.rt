@@ -56,7 +56,6 @@ fn set_half(n: u8, e: u8, value: u32, file: &mut VFile)
     requires byte { e < 16 }
     ensures { file.new ≡ with_vector file.old n (with_register_half (vector file.old n) e value) }
 {
-    file.ranges();
     let v = file.reg(n);
     let mut half = [0; 16];
     BigEndian::write_u16(&mut half, (value % 65536) as u16);

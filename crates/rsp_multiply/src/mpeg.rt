@@ -16,7 +16,6 @@ use rsp_lanes::{Mask8, VReg};
 fn signed(lanes: &VReg) -> Addends
     ensures { result ≡ each_lane (λ i. s16 (slice_index lanes.now i)) }
 {
-    lanes.ranges();
     let sign = lanes
         .is_negative()
         .merge(&VReg::splat(0xffff), &VReg::new());
@@ -28,7 +27,6 @@ fn signed(lanes: &VReg) -> Addends
 fn shifted(lanes: &VReg) -> Addends
     ensures { result ≡ each_lane (λ i. s16 (slice_index lanes.now i) *ℤ pos 65536) }
 {
-    lanes.ranges();
     let zeros = VReg::new();
     let sign = lanes.is_negative().merge(&VReg::splat(0xffff), &zeros);
     Addends::from_planes(&sign, lanes, &zeros)
@@ -47,7 +45,6 @@ fn rounding(odd: bool, lanes: &VReg) -> Addends
 fn negative<A: Acc>(acc: &A) -> Mask8
     ensures { result ≡ each_lane (λ i. int_lt (number (A.numbers acc.now) i) (pos 0)) }
 {
-    acc.ranges();
     acc.part(Part::High).is_negative()
 }
 
@@ -73,7 +70,6 @@ pub fn round_op<A: Acc>(op: RoundOp, odd: bool, b: &VReg, acc: &mut A) -> VReg
     ensures accumulators { A.numbers acc.new ≡ accumulators_after_rounding op odd b.now (A.numbers acc.old) }
     ensures value { result ≡ rounding_results (A.numbers acc.new) }
 {
-    acc.ranges();
     let lanes = rounding_lanes(op, acc).merge(b, &VReg::new());
     acc.add(&rounding(odd, &lanes));
     acc.clamp(Clamp::Signed)
@@ -84,7 +80,6 @@ pub fn round_op<A: Acc>(op: RoundOp, odd: bool, b: &VReg, acc: &mut A) -> VReg
 fn steps<A: Acc>(acc: &A) -> VReg
     ensures { result ≡ each_lane (λ i. sixteen_bits (vmacq_step (floor_div (number (A.numbers acc.now) i) 65536))) }
 {
-    acc.ranges();
     let zeros = VReg::new();
     let high = acc.part(Part::High);
     let middle = acc.part(Part::Middle);
@@ -104,7 +99,6 @@ fn steps<A: Acc>(acc: &A) -> VReg
 fn halves<A: Acc>(acc: &A) -> Addends
     ensures { result ≡ each_lane (λ i. floor_div (floor_div (number (A.numbers acc.now) i) 65536) 2 *ℤ pos 65536) }
 {
-    acc.ranges();
     let zeros = VReg::new();
     let top = VReg::splat(0x8000);
     let high = acc.part(Part::High);
@@ -123,7 +117,6 @@ fn halved<A: Acc>(acc: &A) -> VReg
     let mut other = A::zero();
     other.replace(&halves(acc));
     let clamped = other.clamp(Clamp::Signed);
-    clamped.ranges();
     clamped.and(&VReg::splat(0xfff0))
 }
 
@@ -139,7 +132,6 @@ pub fn mpeg_op<A: Acc>(op: MpegOp, a: &VReg, b: &VReg, acc: &mut A) -> VReg
     ensures accumulators { A.numbers acc.new ≡ accumulators_after_mpeg op a.now b.now (A.numbers acc.old) }
     ensures value { result ≡ mpeg_results (A.numbers acc.new) }
 {
-    acc.ranges();
     match op {
         MpegOp::Vmulq => multiply_rounded(a, b, acc),
         MpegOp::Vmacq => acc.add(&shifted(&steps(acc))),
@@ -152,8 +144,6 @@ pub fn mpeg_op<A: Acc>(op: MpegOp, a: &VReg, b: &VReg, acc: &mut A) -> VReg
 fn multiply_rounded<A: Acc>(a: &VReg, b: &VReg, acc: &mut A)
     ensures { A.numbers acc.new ≡ accumulators_after_mpeg MpegOp.Vmulq a.now b.now (A.numbers acc.old) }
 {
-    a.ranges();
-    b.ranges();
     acc.replace(&signed_times_65536(a, b));
     let rounding = negative(acc).merge(&VReg::splat(31), &VReg::new());
     acc.add(&shifted(&rounding));

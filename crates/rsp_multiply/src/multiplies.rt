@@ -1,5 +1,5 @@
 ghost use Rattle.std.specs.Prelude.{◌≡◌, slice_index};
-ghost use Rattle.rsp_lanes.specs.Lanes.{each_lane};
+ghost use Rattle.rsp_lanes.specs.Lanes.{each_lane, IsVector};
 ghost use Rattle.rsp_multiply.specs.MultiplyRules.{multiply_rule, accumulators_after, multiply_results, sar_results};
 
 use crate::op::MultiplyOp;
@@ -12,7 +12,8 @@ use rsp_lanes::VReg;
 /// The addends of a multiply, from the lanes of a and b.
 #[inline(always)]
 fn addends(op: MultiplyOp, a: &VReg, b: &VReg) -> Addends
-    ensures { result ≡ each_lane (λ i. (multiply_rule op).addend (slice_index a.now i) (slice_index b.now i)) }
+    ensures value { result ≡ each_lane (λ i. (multiply_rule op).addend (slice_index a.now i) (slice_index b.now i)) }
+    ensures within { IsVector a.now × IsVector b.now }
 {
     match op {
         MultiplyOp::Vmulf | MultiplyOp::Vmulu => rounded(a, b),
@@ -63,8 +64,6 @@ pub fn multiply<A: Acc>(op: MultiplyOp, a: &VReg, b: &VReg, acc: &mut A) -> VReg
     ensures accumulators { A.numbers acc.new ≡ accumulators_after op a.now b.now (A.numbers acc.old) }
     ensures value { result ≡ multiply_results op (A.numbers acc.new) }
 {
-    a.ranges();
-    b.ranges();
     let addends = addends(op, a, b);
     if adds(op) {
         acc.add(&addends);

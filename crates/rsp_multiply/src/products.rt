@@ -1,7 +1,7 @@
 //! Products of lanes as addends, from their halves of sixteen bits.
 
 ghost use Rattle.std.specs.Prelude.{◌≡◌, ◌*ℤ◌, pos, slice_index, nat_lt, if◌then◌else◌};
-ghost use Rattle.rsp_lanes.specs.Lanes.{each_lane};
+ghost use Rattle.rsp_lanes.specs.Lanes.{each_lane, IsVector};
 ghost use Rattle.rsp_numbers.specs.Numbers.{s16, sixteen_bits, upper_bits, join};
 ghost use Rattle.rsp_multiply.specs.Doubles.{doubled_high, doubled_low, doubled_sign};
 ghost use Rattle.rsp_multiply.specs.MultiplyRules.{rounded, unsigned_over_65536, signed_by_unsigned, signed_times_65536, fraction};
@@ -14,9 +14,8 @@ use rsp_lanes::VReg;
 pub(crate) fn signed_product(a: &VReg, b: &VReg) -> (VReg, VReg)
     ensures high { result.0 ≡ each_lane (λ i. upper_bits (s16 (slice_index a.now i) *ℤ s16 (slice_index b.now i))) }
     ensures low { result.1 ≡ each_lane (λ i. sixteen_bits (s16 (slice_index a.now i) *ℤ s16 (slice_index b.now i))) }
+    ensures within { IsVector a.now × IsVector b.now }
 {
-    a.ranges();
-    b.ranges();
     let high = a.signed_product_high(b);
     let (_, low) = a.product(b);
     (high, low)
@@ -27,9 +26,8 @@ pub(crate) fn signed_product(a: &VReg, b: &VReg) -> (VReg, VReg)
 pub(crate) fn mixed_product(a: &VReg, b: &VReg) -> (VReg, VReg)
     ensures high { result.0 ≡ each_lane (λ i. upper_bits (s16 (slice_index a.now i) *ℤ pos (slice_index b.now i))) }
     ensures low { result.1 ≡ each_lane (λ i. sixteen_bits (s16 (slice_index a.now i) *ℤ pos (slice_index b.now i))) }
+    ensures within { IsVector a.now × IsVector b.now }
 {
-    a.ranges();
-    b.ranges();
     let (high, low) = a.product(b);
     let high = high.subtract(&a.is_negative().merge(b, &VReg::splat(0)));
     (high, low)
@@ -76,10 +74,9 @@ fn doubled_sign(high: &VReg, middle: &VReg) -> VReg
 /// Twice the products of the lanes as signed values.
 #[inline(always)]
 pub(crate) fn fraction(a: &VReg, b: &VReg) -> Addends
-    ensures { result ≡ each_lane (λ i. fraction (slice_index a.now i) (slice_index b.now i)) }
+    ensures value { result ≡ each_lane (λ i. fraction (slice_index a.now i) (slice_index b.now i)) }
+    ensures within { IsVector a.now × IsVector b.now }
 {
-    a.ranges();
-    b.ranges();
     let (high, low) = signed_product(a, b);
     let (middle, low) = doubled(&high, &low);
     Addends::from_planes(&doubled_sign(&high, &middle), &middle, &low)
@@ -88,10 +85,9 @@ pub(crate) fn fraction(a: &VReg, b: &VReg) -> Addends
 /// Twice the products of the lanes as signed values, plus 32768.
 #[inline(always)]
 pub(crate) fn rounded(a: &VReg, b: &VReg) -> Addends
-    ensures { result ≡ each_lane (λ i. rounded (slice_index a.now i) (slice_index b.now i)) }
+    ensures value { result ≡ each_lane (λ i. rounded (slice_index a.now i) (slice_index b.now i)) }
+    ensures within { IsVector a.now × IsVector b.now }
 {
-    a.ranges();
-    b.ranges();
     let (high, low) = signed_product(a, b);
     let (middle, low) = doubled(&high, &low);
     let middle = middle.add(&top_bit(&low));
@@ -102,10 +98,9 @@ pub(crate) fn rounded(a: &VReg, b: &VReg) -> Addends
 /// The products of the lanes as unsigned values, divided by 65536 and rounded down.
 #[inline(always)]
 pub(crate) fn unsigned_over_65536(a: &VReg, b: &VReg) -> Addends
-    ensures { result ≡ each_lane (λ i. unsigned_over_65536 (slice_index a.now i) (slice_index b.now i)) }
+    ensures value { result ≡ each_lane (λ i. unsigned_over_65536 (slice_index a.now i) (slice_index b.now i)) }
+    ensures within { IsVector a.now × IsVector b.now }
 {
-    a.ranges();
-    b.ranges();
     let zeros = VReg::splat(0);
     let (high, _) = a.product(b);
     Addends::from_planes(&zeros, &zeros, &high)
@@ -114,10 +109,9 @@ pub(crate) fn unsigned_over_65536(a: &VReg, b: &VReg) -> Addends
 /// The products of a's lanes as signed values and b's as unsigned ones.
 #[inline(always)]
 pub(crate) fn signed_by_unsigned(a: &VReg, b: &VReg) -> Addends
-    ensures { result ≡ each_lane (λ i. signed_by_unsigned (slice_index a.now i) (slice_index b.now i)) }
+    ensures value { result ≡ each_lane (λ i. signed_by_unsigned (slice_index a.now i) (slice_index b.now i)) }
+    ensures within { IsVector a.now × IsVector b.now }
 {
-    a.ranges();
-    b.ranges();
     let (high, low) = mixed_product(a, b);
     from_halves(&high, &low)
 }
@@ -125,10 +119,9 @@ pub(crate) fn signed_by_unsigned(a: &VReg, b: &VReg) -> Addends
 /// The products of the lanes as signed values, times 65536.
 #[inline(always)]
 pub(crate) fn signed_times_65536(a: &VReg, b: &VReg) -> Addends
-    ensures { result ≡ each_lane (λ i. signed_times_65536 (slice_index a.now i) (slice_index b.now i)) }
+    ensures value { result ≡ each_lane (λ i. signed_times_65536 (slice_index a.now i) (slice_index b.now i)) }
+    ensures within { IsVector a.now × IsVector b.now }
 {
-    a.ranges();
-    b.ranges();
     let (high, low) = signed_product(a, b);
     Addends::from_planes(&high, &low, &VReg::splat(0))
 }

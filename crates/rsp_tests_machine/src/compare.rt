@@ -6,7 +6,7 @@ use rsp_lanes::VReg;
 use std::process::Abort;
 
 /// The carries and the not-equal flags.
-fn vco(flags: &Flags) -> (u64, u64) {
+fn vco(flags: &Flags) -> (u8, u8) {
     (flags.carry.bits(), flags.differ.bits())
 }
 

@@ -63,7 +63,7 @@ fn makes_steps_at_once(rt: HostRuntime) -> Result<(), AllocError> {
 
 /// Registers 2 and 3, lanes that the programs below write, the three parts of accumulator 0, clip, and
 /// DIV_OUT.
-fn vectors_shown<A: Acc>(machine: &Machine<A>) -> ([u32; 2], [u16; 7], u64, u16) {
+fn vectors_shown<A: Acc>(machine: &Machine<A>) -> ([u32; 2], [u16; 7], u8, u16) {
     let lanes = [
         machine.vreg(1).lane(3),
         machine.vreg(2).lane(7),

@@ -12,7 +12,7 @@ pub struct MachineView {
     registers: [u32; 32],
     vectors: [VReg; 32],
     accumulators: [VReg; 3],
-    flags: [u64; 5],
+    flags: [u8; 5],
     divider: Divider,
     sp: [u32; 16],
     interrupt: bool,

@@ -13,7 +13,7 @@ pub fn accumulators<A: Acc>(machine: &Machine<A>) -> [VReg; 3] {
 }
 
 /// The five flags, a bit for each lane.
-pub fn flags<A: Acc>(machine: &Machine<A>) -> [u64; 5] {
+pub fn flags<A: Acc>(machine: &Machine<A>) -> [u8; 5] {
     let flags = machine.flags();
     [
         flags.carry.bits(),

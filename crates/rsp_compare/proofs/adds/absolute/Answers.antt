@@ -8,26 +8,26 @@ pub returns-clause-value : goal.returns-clause-value
 returns-clause-value c = results_are _ _ _ _ _ _ c.merge.ensures (λ i h.
     simp (
       lane_of false _ _ c.and-passes.ensures i h,
-      lane_of false _ _ c.is_negative-negative.ensures i h,
-      lane_of false _ _ c.is_zero.ensures i h,
-      lane_of false _ _ c.is_equal.ensures i h,
+      lane_of false _ _ c.is_negative-negative.ensures.value i h,
+      lane_of false _ _ c.is_zero.ensures.value i h,
+      lane_of false _ _ c.is_equal.ensures.value i h,
       lane_of 0 _ _ c.merge-low.ensures i h,
       lane_of 0 _ _ c.merge-signed.ensures i h,
-      lane_of 0 _ _ c.negate.ensures i h,
+      lane_of 0 _ _ c.negate.ensures.value i h,
       lane_of 0 _ _ c.new.ensures i h,
       lane_of 0 _ _ c.splat.ensures i h,
       lane_of 0 _ _ c.splat-2.ensures i h,
-    ) (ap (λ x. x.result) (sym (abs_is _ _ _ (c.ranges-2.ensures.1 i) (c.ranges-3.ensures.1 i)))))
+    ) (ap (λ x. x.result) (sym (abs_is _ _ _ (c.is_zero.ensures.within.1 i) (c.negate.ensures.within.1 i)))))
 
 pub returns-clause-low : goal.returns-clause-low
 returns-clause-low c = lows_are _ _ _ _ _ _ c.merge-low.ensures (λ i h.
     rw (
-      lane_of false _ _ c.is_zero.ensures i h,
+      lane_of false _ _ c.is_zero.ensures.value i h,
       lane_of 0 _ _ c.merge-signed.ensures i h,
-      lane_of false _ _ c.is_negative-negative.ensures i h,
-      lane_of 0 _ _ c.negate.ensures i h,
+      lane_of false _ _ c.is_negative-negative.ensures.value i h,
+      lane_of 0 _ _ c.negate.ensures.value i h,
       lane_of 0 _ _ c.new.ensures i h,
-    ) (ap (λ x. x.low) (sym (abs_is _ _ _ (c.ranges-2.ensures.1 i) (c.ranges-3.ensures.1 i)))))
+    ) (ap (λ x. x.low) (sym (abs_is _ _ _ (c.is_zero.ensures.within.1 i) (c.negate.ensures.within.1 i)))))
 
 pub returns-clause-flags : goal.returns-clause-flags
-returns-clause-flags c = flags_are _ _ _ _ _ _ c.ranges-4.ensures (λ i h. ap (λ x. x.flags) (sym (abs_is _ _ _ (c.ranges-2.ensures.1 i) (c.ranges-3.ensures.1 i))))
+returns-clause-flags c = flags_are _ _ _ _ _ _ c.vco.ensures.within (λ i h. ap (λ x. x.flags) (sym (abs_is _ _ _ (c.is_zero.ensures.within.1 i) (c.negate.ensures.within.1 i))))

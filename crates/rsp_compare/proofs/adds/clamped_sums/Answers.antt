@@ -4,4 +4,4 @@ use Rattle.rsp_compare.proofs.Sums.{sum_bits}
 use Rattle.rsp_compare.proofs.adds.clamped_sums.Goals as goal
 
 pub returns-clause-low : goal.returns-clause-low
-returns-clause-low c = c.add_carrying-sum.ensures.sum ∙ each_same _ _ (λ i h. sum_bits _ _ _ (c.ranges-2.ensures.1 i) (c.ranges-3.ensures.1 i))
+returns-clause-low c = c.add_carrying-sum.ensures.sum ∙ each_same _ _ (λ i h. sum_bits _ _ _ (c.add_carrying-sum.ensures.within.0.1 i) (c.add_carrying-sum.ensures.within.1.1 i))

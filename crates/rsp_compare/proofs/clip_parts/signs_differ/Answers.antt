@@ -5,4 +5,4 @@ use Rattle.rsp_compare.proofs.clip_parts.signs_differ.Goals as goal
 
 pub returns : goal.returns
 returns c = c.xor.ensures ∙ each_same _ _ (λ i h.
-    simp (lane_of false _ _ c.is_negative.ensures i h, lane_of false _ _ c.is_negative-2.ensures i h, below_zero))
+    simp (lane_of false _ _ c.is_negative.ensures.value i h, lane_of false _ _ c.is_negative-2.ensures.value i h, below_zero))

@@ -14,21 +14,21 @@ returns c =
     (λ i h. simp (
       lane_of 0 _ _ c.merge-result.ensures i h,
       lane_of 0 _ _ c.merge-bound.ensures i h,
-      lane_of 0 _ _ c.negate.ensures i h,
+      lane_of 0 _ _ c.negate.ensures.value i h,
       lane_of false _ _ c.exchanged-compare.ensures.first i h,
       lane_of false _ _ c.exchanged-compare.ensures.second i h,
       lane_of false _ _ c.or-taken.ensures i h,
       lane_of false _ _ c.xor.ensures i h,
       lane_of false _ _ c.not-2.ensures i h,
       lane_of false _ _ c.and-extra.ensures i h,
-      lane_of false _ _ c.is_equal.ensures i h,
+      lane_of false _ _ c.is_equal.ensures.value i h,
       lane_of 0 _ _ c.splat.ensures i h,
       lane_of false _ _ c.or.ensures i h,
       lane_of false _ _ c.not.ensures i h,
-      lane_of false _ _ c.is_negative.ensures i h,
-      lane_of false _ _ c.is_negative-is_negative.ensures i h,
-      lane_of false _ _ c.is_zero-is_zero.ensures i h,
-      lane_of 0 _ _ c.sum_or_difference-number.ensures i h,
+      lane_of false _ _ c.is_negative.ensures.value i h,
+      lane_of false _ _ c.is_negative-is_negative.ensures.value i h,
+      lane_of false _ _ c.is_zero-is_zero.ensures.value i h,
+      lane_of 0 _ _ c.sum_or_difference-number.ensures.value i h,
       lane_of false _ _ c.signs_differ-apart.ensures i h,
-    ) (vch_is _ _ (flags_at c.args.flags.now i) (c.ranges-2.ensures.1 i) (c.ranges-3.ensures.1 i))) in
+    ) (vch_is _ _ (flags_at c.args.flags.now i) (c.sum_or_difference-number.ensures.within.0.1 i) (c.sum_or_difference-number.ensures.within.1.1 i))) in
     record { value = row.value; flags = row.flags }

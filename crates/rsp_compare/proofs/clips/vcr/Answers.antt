@@ -15,15 +15,15 @@ returns c =
     (λ i h. simp (
       lane_of 0 _ _ c.merge-result.ensures i h,
       lane_of 0 _ _ c.merge-bound.ensures i h,
-      lane_of 0 _ _ c.not.ensures i h,
+      lane_of 0 _ _ c.not.ensures.value i h,
       lane_of false _ _ c.exchanged-compare.ensures.first i h,
       lane_of false _ _ c.exchanged-compare.ensures.second i h,
       lane_of false _ _ c.not-taken.ensures i h,
       lane_of false _ _ c.xor.ensures i h,
-      lane_of false _ _ c.is_negative.ensures i h,
-      lane_of false _ _ c.is_negative-is_negative.ensures i h,
-      lane_of 0 _ _ c.sum_or_difference.ensures i h,
+      lane_of false _ _ c.is_negative.ensures.value i h,
+      lane_of false _ _ c.is_negative-is_negative.ensures.value i h,
+      lane_of 0 _ _ c.sum_or_difference.ensures.value i h,
       lane_of false _ _ c.signs_differ-apart.ensures i h,
       lane_of false _ _ c.splat-clear.ensures i h,
-    ) (vcr_is _ _ (flags_at c.args.flags.now i) (c.ranges-2.ensures.1 i) (c.ranges-3.ensures.1 i))) in
+    ) (vcr_is _ _ (flags_at c.args.flags.now i) (c.sum_or_difference.ensures.within.0.1 i) (c.sum_or_difference.ensures.within.1.1 i))) in
     record { value = row.value; flags = row.flags }

@@ -4,4 +4,4 @@ use Rattle.rsp_compare.proofs.Comparisons.{is_equal}
 use Rattle.rsp_compare.proofs.selects.is_at_least.Goals as goal
 
 pub returns : goal.returns
-returns c = c.or.ensures ∙ each_same _ _ (λ i h. rw (lane_of false _ _ c.is_below_signed.ensures i h, lane_of false _ _ c.and.ensures i h, lane_of false _ _ c.not.ensures i h, lane_of false _ _ c.and-both.ensures i h, lane_of false _ _ c.is_equal.ensures i h, is_equal _ _ (c.ranges-2.ensures.1 i) (c.ranges-3.ensures.1 i)) refl)
+returns c = c.or.ensures ∙ each_same _ _ (λ i h. rw (lane_of false _ _ c.is_below_signed.ensures i h, lane_of false _ _ c.and.ensures i h, lane_of false _ _ c.not.ensures i h, lane_of false _ _ c.and-both.ensures i h, lane_of false _ _ c.is_equal.ensures.value i h, is_equal _ _ (c.is_equal.ensures.within.0.1 i) (c.is_equal.ensures.within.1.1 i)) refl)

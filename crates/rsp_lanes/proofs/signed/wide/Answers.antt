@@ -3,6 +3,6 @@ use Rattle.rsp_lanes.proofs.Kit.{each_same}
 use Rattle.rsp_lanes.proofs.Products.{wide_is}
 use Rattle.rsp_lanes.proofs.signed.wide.Goals as goal
 
-pub returns : goal.returns
+pub returns-clause-value : goal.returns-clause-value
 unfolding each_lane
-returns c = rw c.signed.ensures (each_same _ _ (λ i h. wide_is _ (c.ranges-2.ensures.1 i)))
+returns-clause-value c = rw c.signed.ensures.value (each_same _ _ (λ i h. wide_is _ (c.signed.ensures.within.1 i)))

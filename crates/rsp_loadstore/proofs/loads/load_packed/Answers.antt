@@ -4,6 +4,6 @@ use Rattle.rsp_loadstore.proofs.loads.load_packed.Goals as goal
 
 pub returns : goal.returns
 returns c =
-    c.set_reg.ensures ∙ rw (c.unpacked_from.ensures, c.window-bytes.ensures)
+    c.set_reg.ensures.value ∙ rw (c.unpacked_from.ensures, c.window-bytes.ensures)
     (lanes_loaded c.args.memory.now c.args.file.now c.args.vt c.args.factor c.args.a (λ j. c.args.a % 8 + 16 - c.args.e + j) (λ j. 16 - c.args.e + j)
-    (omega (arith, c.ranges-2.ensures.count, c.requires.register)) (c.ranges-2.ensures.registers c.args.vt c.requires.register).0 (λ j. omega (arith, c.requires.element)))
+    (omega (arith, c.set_reg.ensures.within.count, c.requires.register)) (c.set_reg.ensures.within.registers c.args.vt c.requires.register).0 (λ j. omega (arith, c.requires.element)))

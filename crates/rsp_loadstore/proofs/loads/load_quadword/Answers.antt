@@ -4,5 +4,5 @@ use Rattle.rsp_loadstore.proofs.loads.load_quadword.Goals as goal
 
 pub returns : goal.returns
 returns c =
-    c.set_reg.ensures ∙ rw (c.from_rotated.ensures, c.window.ensures)
-    (line_loaded c.args.memory.now c.args.file.now c.args.vt c.args.a (omega (arith, c.ranges-2.ensures.count, c.requires)) (c.ranges-2.ensures.registers c.args.vt c.requires).0)
+    c.set_reg.ensures.value ∙ rw (c.from_rotated.ensures, c.window.ensures)
+    (line_loaded c.args.memory.now c.args.file.now c.args.vt c.args.a (omega (arith, c.set_reg.ensures.within.count, c.requires)) (c.set_reg.ensures.within.registers c.args.vt c.requires).0)

@@ -11,6 +11,6 @@ returns-clause-accumulators g c =
     elim c.match-op.branch [
       | in-Vmulq w ↦ rw (w.acc-is, w.in-Vmulq.is) w.multiply_rounded.ensures
       | in-Vmacq w ↦
-          rw (w.acc-is, w.in-Vmacq.is) (w.add.ensures ∙ each_same _ _ (λ i h.
-          rw (lane_of (pos 0) _ _ w.shifted.ensures i h, lane_of 0 _ _ w.steps.ensures i h) (stepped _ (c.ranges-2.ensures.1 i))))
+          rw (w.acc-is, w.in-Vmacq.is) (w.add.ensures.value ∙ each_same _ _ (λ i h.
+          rw (lane_of (pos 0) _ _ w.shifted.ensures i h, lane_of 0 _ _ w.steps.ensures i h) (stepped _ (w.add.ensures.within.1 i))))
     ]

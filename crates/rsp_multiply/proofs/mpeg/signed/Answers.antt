@@ -5,5 +5,5 @@ use Rattle.rsp_multiply.proofs.mpeg.signed.Goals as goal
 
 pub returns : goal.returns
 returns c = c.from_planes.ensures ∙ each_same _ _ (λ i h.
-    rw (lane_of 0 _ _ c.merge-sign.ensures i h, lane_of _ _ _ c.is_negative.ensures i h, lane_of 0 _ _ c.splat.ensures i h, lane_of 0 _ _ c.new.ensures i h)
-    (signed_lane _ (c.ranges-2.ensures.1 i)))
+    rw (lane_of 0 _ _ c.merge-sign.ensures i h, lane_of _ _ _ c.is_negative.ensures.value i h, lane_of 0 _ _ c.splat.ensures i h, lane_of 0 _ _ c.new.ensures i h)
+    (signed_lane _ (c.is_negative.ensures.within.1 i)))

@@ -11,10 +11,10 @@ returns-clause-accumulators g c =
     elim c.if-adds.branch [
       | then-adds w ↦
           let yes : (multiply_rule c.args.op).adds ≡ true = sym c.adds.ensures ∙ w.if-adds.true in
-          rw w.acc-is (w.add.ensures ∙ each_same _ _ (λ i h. rw (yes, lane_of (pos 0) _ _ c.addends-addends.ensures i h) refl))
+          rw w.acc-is (w.add.ensures.value ∙ each_same _ _ (λ i h. rw (yes, lane_of (pos 0) _ _ c.addends-addends.ensures.value i h) refl))
       | else-adds w ↦
           let no : (multiply_rule c.args.op).adds ≡ false = sym c.adds.ensures ∙ w.if-adds.false in
-          rw w.acc-is (w.replace.ensures ∙ c.addends-addends.ensures ∙ each_same _ _ (λ i h. rw no (sym (addend_again _ _ (c.ranges-2.ensures.1 i) (c.ranges-3.ensures.1 i) c.args.op))))
+          rw w.acc-is (w.replace.ensures ∙ c.addends-addends.ensures.value ∙ each_same _ _ (λ i h. rw no (sym (addend_again _ _ (c.addends-addends.ensures.within.0.1 i) (c.addends-addends.ensures.within.1.1 i) c.args.op))))
     ]
 
 pub returns-clause-value : goal.returns-clause-value

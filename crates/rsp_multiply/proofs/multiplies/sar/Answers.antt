@@ -9,15 +9,15 @@ other e x a b c = grind (arith, nat_tests)
 
 pub returns-in-8 : goal.returns-in-8
 unfolding sar_results
-returns-in-8 g c = rw c.in-8.is c.part.ensures
+returns-in-8 g c = rw c.in-8.is c.part.ensures.value
 
 pub returns-in-9 : goal.returns-in-9
 unfolding sar_results
-returns-in-9 g c = rw c.in-9.is c.part-in-9.ensures
+returns-in-9 g c = rw c.in-9.is c.part-in-9.ensures.value
 
 pub returns-in-10 : goal.returns-in-10
 unfolding sar_results
-returns-in-10 g c = rw c.in-10.is c.part-in-10.ensures
+returns-in-10 g c = rw c.in-10.is c.part-in-10.ensures.value
 
 pub returns-in_default : goal.returns-in_default
 unfolding sar_results

@@ -4,13 +4,13 @@ use Rattle.rsp_multiply.proofs.Signs.{signed}
 use Rattle.rsp_multiply.proofs.Doubles.{twice_rounded}
 use Rattle.rsp_multiply.proofs.products.rounded.Goals as goal
 
-pub returns : goal.returns
-returns c = c.from_planes.ensures ∙ each_same _ _ (λ i h.
-    let s = (signed _ _ (c.ranges-2.ensures.1 i) (c.ranges-3.ensures.1 i)).1 in
+pub returns-clause-value : goal.returns-clause-value
+returns-clause-value c = c.from_planes.ensures ∙ each_same _ _ (λ i h.
+    let s = (signed _ _ (c.signed_product-high.ensures.within.0.1 i) (c.signed_product-high.ensures.within.1.1 i)).1 in
     simp (
       lane_of 0 _ _ c.doubled_sign-sign.ensures i h,
-      lane_of 0 _ _ c.add-middle.ensures i h,
-      lane_of 0 _ _ c.add.ensures i h,
+      lane_of 0 _ _ c.add-middle.ensures.value i h,
+      lane_of 0 _ _ c.add.ensures.value i h,
       lane_of 0 _ _ c.top_bit.ensures i h,
       lane_of 0 _ _ c.doubled-middle.ensures.high i h,
       lane_of 0 _ _ c.doubled-middle.ensures.low i h,

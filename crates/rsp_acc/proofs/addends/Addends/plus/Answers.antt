@@ -5,8 +5,8 @@ use Rattle.rsp_acc.proofs.addends.Addends.plus.Goals as goal
 
 pub returns : goal.returns
 returns c = c.from_planes.ensures ∙ each_same _ _ (λ i h.
-    let v = c.planes-a_high.ensures.vectors in
-    let w = c.planes-b_high.ensures.vectors in
+    let v = c.planes-a_high.ensures.planes in
+    let w = c.planes-b_high.ensures.planes in
     rw (
       lane_of 0 _ _ c.add_carrying-high.ensures.sum i h,
       lane_of 0 _ _ c.add_carrying-middle.ensures.sum i h,

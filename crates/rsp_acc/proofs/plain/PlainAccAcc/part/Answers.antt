@@ -10,5 +10,8 @@ loop-i-preserved c =
     let value = c.part_of.ensures ∙ ap (part_of c.args.part) (again _ (c.self.invariant.1 c.loop-i.i)) in
     (length-set c.loop-i.lanes _ _ ∙ c.loop-i.invariant.0, fill _ _ _ _ 0 n value c.loop-i.invariant.1)
 
-pub returns : goal.returns
-returns c = c.from_array.ensures ∙ rw (← c.self.view_is) (filled _ 0 _ _ c.loop-i.invariant.0 (λ h. omega arith) c.loop-i.invariant.1)
+pub returns-clause-value : goal.returns-clause-value
+returns-clause-value c = c.from_array.ensures ∙ rw (← c.self.view_is) (filled _ 0 _ _ c.loop-i.invariant.0 (λ h. omega arith) c.loop-i.invariant.1)
+
+pub returns-clause-within : goal.returns-clause-within
+returns-clause-within c = rw (← c.self.view_is) c.self.invariant

@@ -1,22 +1,22 @@
-use Rattle.std.proofs.Common.{◌∙◌, pos, sym}
-use Rattle.rsp_lanes.proofs.Kit.{eta, lane_of, each_same}
-use Rattle.rsp_numbers.proofs.Join.{high_join, middle_join, low_join}
+use Rattle.std.proofs.Common.{◌∙◌}
+use Rattle.rsp_acc.proofs.Range.{joined_fit}
+use Rattle.rsp_acc.proofs.Rejoined.{high_joined, middle_joined, low_joined}
 use Rattle.rsp_acc.proofs.planes.PlaneAccAcc.part.Goals as goal
 
-pub returns-in-High : goal.returns-in-High
-returns-in-High c =
-    let v = c.self.invariant in
-    c.from_simd.ensures ∙ eta 0 _ v.0.0 ∙ each_same _ _ (λ i h.
-    rw (c.in-High.is, lane_of (pos 0) _ _ (sym c.self.view_is) i h) (sym (high_join _ _ _ (v.0.1 i) (v.1.1 i) (v.2.1 i))))
+pub returns-in-High-clause-value : goal.returns-in-High-clause-value
+returns-in-High-clause-value c = c.from_simd.ensures ∙ rw (c.in-High.is, ← c.self.view_is) (high_joined _ _ _ c.self.invariant)
 
-pub returns-in-Middle : goal.returns-in-Middle
-returns-in-Middle c =
-    let v = c.self.invariant in
-    c.from_simd-in-Middle.ensures ∙ eta 0 _ v.1.0 ∙ each_same _ _ (λ i h.
-    rw (c.in-Middle.is, lane_of (pos 0) _ _ (sym c.self.view_is) i h) (sym (middle_join _ _ _ (v.0.1 i) (v.1.1 i) (v.2.1 i))))
+pub returns-in-High-clause-within : goal.returns-in-High-clause-within
+returns-in-High-clause-within c = rw (← c.self.view_is) (joined_fit _ _ _)
 
-pub returns-in-Low : goal.returns-in-Low
-returns-in-Low c =
-    let v = c.self.invariant in
-    c.from_simd-in-Low.ensures ∙ eta 0 _ v.2.0 ∙ each_same _ _ (λ i h.
-    rw (c.in-Low.is, lane_of (pos 0) _ _ (sym c.self.view_is) i h) (sym (low_join _ _ _ (v.0.1 i) (v.1.1 i) (v.2.1 i))))
+pub returns-in-Middle-clause-value : goal.returns-in-Middle-clause-value
+returns-in-Middle-clause-value c = c.from_simd-in-Middle.ensures ∙ rw (c.in-Middle.is, ← c.self.view_is) (middle_joined _ _ _ c.self.invariant)
+
+pub returns-in-Middle-clause-within : goal.returns-in-Middle-clause-within
+returns-in-Middle-clause-within c = rw (← c.self.view_is) (joined_fit _ _ _)
+
+pub returns-in-Low-clause-value : goal.returns-in-Low-clause-value
+returns-in-Low-clause-value c = c.from_simd-in-Low.ensures ∙ rw (c.in-Low.is, ← c.self.view_is) (low_joined _ _ _ c.self.invariant)
+
+pub returns-in-Low-clause-within : goal.returns-in-Low-clause-within
+returns-in-Low-clause-within c = rw (← c.self.view_is) (joined_fit _ _ _)

@@ -2,4 +2,6 @@ use Rattle.rsp_lanes.proofs.FlagLanes.{whole_vcc}
 use Rattle.rsp_lanes.proofs.flags.Flags.set_vcc.Goals as goal
 
 pub returns : goal.returns
-returns c = whole_vcc _ _ _ c.ranges-2.ensures c.ranges-3.ensures c.ranges-4.ensures
+returns c =
+    rw (c.read-self.ensures.value, c.read-self-2.ensures.value)
+    (whole_vcc _ _ _ c.read-self.ensures.eight c.read-self-2.ensures.eight c.read_lanes.ensures)

@@ -10,7 +10,7 @@ unfolding each_lane
 are n = rw (bit_test n 0, bit_test n 1, bit_test n 2, bit_test n 3, bit_test n 4, bit_test n 5, bit_test n 6, bit_test n 7) refl
 
 pub from_simd-requires : goal.from_simd-requires
-from_simd-requires c = made_mask (bit_set c.args.bits) _ (are c.args.bits)
+from_simd-requires c = rw c.from.ensures (made_mask (bit_set c.args.bits) _ (are c.args.bits))
 
 pub returns : goal.returns
-returns c = c.from_simd.ensures ∙ made_truths (bit_set c.args.bits) _ (are c.args.bits)
+returns c = c.from_simd.ensures ∙ rw c.from.ensures (made_truths (bit_set c.args.bits) _ (are c.args.bits))

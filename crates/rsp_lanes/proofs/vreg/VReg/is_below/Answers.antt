@@ -11,5 +11,5 @@ tests a b m n = zip2_each _ 0 0 a b m n
 pub from_simd-requires : goal.from_simd-requires
 from_simd-requires c = made_mask (λ i. nat_lt (get_or c.self.inside.lanes i 0) (get_or c.other.inside.lanes i 0)) _ (tests _ _ c.self.invariant.0 c.other.invariant.0)
 
-pub returns : goal.returns
-returns c = c.from_simd.ensures ∙ rw (← c.self.view_is, ← c.other.view_is) (made_truths (λ i. nat_lt (get_or c.self.inside.lanes i 0) (get_or c.other.inside.lanes i 0)) _ (tests _ _ c.self.invariant.0 c.other.invariant.0))
+pub returns-clause-value : goal.returns-clause-value
+returns-clause-value c = c.from_simd.ensures ∙ rw (← c.self.view_is, ← c.other.view_is) (made_truths (λ i. nat_lt (get_or c.self.inside.lanes i 0) (get_or c.other.inside.lanes i 0)) _ (tests _ _ c.self.invariant.0 c.other.invariant.0))

@@ -2,5 +2,5 @@ use Rattle.std.proofs.Common.{◌∙◌, refl, zero-add}
 use Rattle.rsp_lanes.proofs.Kit.{lane_of, each_same}
 use Rattle.rsp_lanes.proofs.vreg.VReg.negate.Goals as goal
 
-pub returns : goal.returns
-returns c = c.subtract.ensures ∙ each_same _ _ (λ i h. rw (lane_of 0 _ _ c.new.ensures i h, zero-add) refl)
+pub returns-clause-value : goal.returns-clause-value
+returns-clause-value c = c.subtract.ensures.value ∙ each_same _ _ (λ i h. rw (lane_of 0 _ _ c.new.ensures i h, zero-add) refl)

@@ -5,4 +5,4 @@ use Rattle.rsp_lanes.proofs.vreg.VReg.sign.Goals as goal
 
 pub returns : goal.returns
 unfolding each_lane
-returns c = c.from_simd.ensures ∙ rw c.signed.ensures (sign_lanes c.args.self.now c.ranges-2.ensures.1)
+returns c = c.from_simd.ensures ∙ rw c.signed.ensures.value (sign_lanes c.args.self.now c.signed.ensures.within.1)

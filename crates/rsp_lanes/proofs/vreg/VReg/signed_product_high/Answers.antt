@@ -6,9 +6,9 @@ use Rattle.rsp_lanes.proofs.vreg.VReg.signed_product_high.Goals as goal
 pub overflow_mul-product : goal.overflow_mul-product
 unfolding each_lane
 overflow_mul-product c =
-    let v = c.ranges-2.ensures.1 in
-    let w = c.ranges-3.ensures.1 in
-    rw (c.signed.ensures, c.signed-2.ensures) (
+    let v = c.signed.ensures.within.1 in
+    let w = c.signed-2.ensures.within.1 in
+    rw (c.signed.ensures.value, c.signed-2.ensures.value) (
       product_fits _ _ (v 0) (w 0),
       (
         product_fits _ _ (v 1) (w 1),
@@ -25,9 +25,9 @@ overflow_mul-product c =
 pub overflow_cast-high : goal.overflow_cast-high
 unfolding each_lane
 overflow_cast-high c =
-    let v = c.ranges-2.ensures.1 in
-    let w = c.ranges-3.ensures.1 in
-    rw (c.signed.ensures, c.signed-2.ensures) (
+    let v = c.signed.ensures.within.1 in
+    let w = c.signed-2.ensures.within.1 in
+    rw (c.signed.ensures.value, c.signed-2.ensures.value) (
       shifted_fits _ _ (v 0) (w 0),
       (
         shifted_fits _ _ (v 1) (w 1),
@@ -44,6 +44,6 @@ overflow_cast-high c =
 pub returns : goal.returns
 unfolding each_lane
 returns c =
-    let v = c.ranges-2.ensures.1 in
-    let w = c.ranges-3.ensures.1 in
-    c.from_simd.ensures ∙ rw (c.signed.ensures, c.signed-2.ensures) (high_lanes c.args.self.now c.args.other.now v w)
+    let v = c.signed.ensures.within.1 in
+    let w = c.signed-2.ensures.within.1 in
+    c.from_simd.ensures ∙ rw (c.signed.ensures.value, c.signed-2.ensures.value) (high_lanes c.args.self.now c.args.other.now v w)
