@@ -7,7 +7,7 @@ ghost use Rattle.rsp_scalar.specs.Registers.{register};
 ghost use Rattle.rsp_loadstore.specs.File.{vector};
 
 use crate::program_counters::{InstructionAddress, ProgramCounters};
-use rsp_acc::Acc;
+use rsp_acc::{Acc, Part};
 use rsp_divide::Divider;
 use rsp_lanes::{Flags, VReg};
 use rsp_loadstore::VFile;
@@ -234,13 +234,14 @@ impl<A: Acc> Machine<A> {
         let _sp = self.sp.parts();
     }
 
-    /// Changes nothing. By its contract the vector registers, the accumulators and the flags are in their ranges.
+    /// Reads what the ranges of the vector registers, the accumulators and the flags follow from. The compiler drops the
+    /// reads.
     #[inline(always)]
     pub(crate) fn vector_ranges(&self)
         ensures { IsRanged self.now }
     {
-        self.vregs.ranges();
-        self.acc.ranges();
-        self.flags.ranges();
+        let _vector = self.vregs.reg(0);
+        let _low = self.acc.part(Part::Low);
+        let _vco = self.flags.vco();
     }
 }

@@ -14,11 +14,11 @@ returns-clause-value g c =
       c.words.ensures.value,
       c.lanes.ensures,
       c.to_array.ensures,
-      c.part.ensures,
+      c.part.ensures.value,
       c.to_array-2.ensures,
-      c.part-2.ensures,
+      c.part-2.ensures.value,
       c.to_array-3.ensures,
-      c.part-3.ensures,
+      c.part-3.ensures.value,
       c.parts.ensures.value,
     ) refl
 
