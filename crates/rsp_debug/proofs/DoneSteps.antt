@@ -156,18 +156,12 @@ stop-first b w n s =
       place = refl;
     }
 
-pub at-end : (k n : ℕ) (s t : State) → IsAfter k s t → k ≡ n → IsAfter n s t
-at-end k n s t h e = subst (λ (i : ℕ). IsAfter i s t) e h
-
 -- one step more, or none
 pub after-more : (k : ℕ) (s m t : State) → IsAfter k s m → (step_of m).0 ≡ end.Done → t ≡ (step_of m).1 → IsAfter (k + 1) s t
 after-more k s m t h e there = subst (λ (x : State). IsAfter (k + 1) s x) (sym there) (after-then k 1 s m (step_of m).1 h (after_answer m end.Done e))
 
 pub after-one : (s t : State) → (step_of s).0 ≡ end.Done → t ≡ (step_of s).1 → IsAfter 1 s t
 after-one s t done there = after-more 0 s s t (after-none s) done there
-
-pub after-same : (k : ℕ) (s m t : State) → IsAfter k s m → t ≡ m → IsAfter k s t
-after-same k s m t h there = subst (λ (x : State). IsAfter k s x) (sym there) h
 
 -- steps that all are Done
 pub made-after : (k : ℕ) (s t : State) → done_of k s ≡ k → t ≡ steps_of k s → IsAfter k s t

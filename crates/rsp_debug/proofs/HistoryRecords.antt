@@ -6,13 +6,14 @@ use Rattle.std.proofs.Math.Seq.{drop-cons}
 use Rattle.std.proofs.lemmas.List.{drop-drop, drop-set, set-get_or, length-drop, length-take, drop_all, take_more, take_all, take-take, take-set, take-append-drop, reverse-append}
 use Rattle.rsp_machine.specs.State.{State}
 use Rattle.rsp_machine.specs.Step.{step_of}
-use Rattle.rsp_machine.specs.Laws.{steps_of, done_of}
+use Rattle.rsp_machine.specs.Laws.{steps_of}
 use Rattle.rsp_machine.specs.Undo.{Saved, blank, record_at, can_undo, undone}
 use Rattle.rsp_machine.specs.declared.step.StepEnd.TheVariants.{Done, Halted, Reserved}
 use Rattle.rsp_machine.specs.declared.step.StepEnd.{StepEnd}
 use Rattle.rsp_machine.specs.Transfers.{starts_dma_at}
-use Rattle.rsp_debug.specs.History.{backwards, entries_before, states_before, history_after_steps}
-use Rattle.rsp_debug.specs.Undoable.{history_by, history_after}
+use Rattle.rsp_machine.specs.Loop.{AreRecorded}
+use Rattle.rsp_debug.specs.History.{history_after_steps, history_by, history_after}
+use Rattle.rsp_debug.specs.HistoryRing.{backwards, entries_before, states_before}
 use Rattle.std.proofs.lemmas.Bool.{cases_lt}
 use Rattle.rsp_machine.proofs.Records.{done-each}
 use Rattle.rsp_debug.proofs.Ring.{pushed, length-before}
@@ -70,37 +71,35 @@ past-cleared (suc k) n s past some done dma =
 pub record IsStretch (a m k count : ℕ) (s t : State) (xs ys : List Saved) : Type 0 where
   pub room : a + m ≤ length xs
   pub held : count ≤ length xs
-  pub len : length ys ≡ m
-  pub few : k ≤ m
-  pub rest : drop k ys ≡ drop k (take m (drop a xs))
-  pub done : done_of k s ≡ k
-  pub there : t ≡ steps_of k s
-  pub before : (i : ℕ) → i + 1 < k → starts_dma_at (steps_of i s) ≡ false
-  pub which : (i : ℕ) → i < k → can_undo (record_at ys i).change ≡ not (starts_dma_at (steps_of i s))
-  pub back : (i : ℕ) → i < k → starts_dma_at (steps_of i s) ≡ false → undone (record_at ys i) (steps_of (i + 1) s) ≡ steps_of i s
+  pub recorded : AreRecorded k s t (take m (drop a xs)) ys
 
 dma_is : (b d : Bool) → b ≡ not d → d ≡ not b
 dma_is b true e = sym (ap not e)
 dma_is b false e = sym (ap not e)
 
 module _ (a m k count more : ℕ) (s t : State) (xs ys zs : List Saved) (h : IsStretch a m k count s t xs ys) where
+  entries : length (take m (drop a xs)) ≡ m
+  entries = omega (arith, length-take m (drop a xs), length-drop a xs, h.room)
+
   last_dma : (b : Bool) → 0 < k → b ≡ can_undo (record_at ys (k - 1)).change → starts_dma_at (steps_of (k - 1) s) ≡ not b
-  last_dma b some e = dma_is b _ (e ∙ h.which (k - 1) (omega (arith, some)))
+  last_dma b some e = dma_is b _ (e ∙ h.recorded.which (k - 1) (omega (arith, some)))
 
   pub stretch-kept : zs ≡ take a xs ++ (ys ++ drop (a + m) xs) → more ≡ min (count + k) (length xs) → (0 < k → true ≡ can_undo (record_at ys (k - 1)).change)
       → states_before t (entries_before (a + k) more zs) ≡ history_after_steps k (length xs) s (states_before s (entries_before a count xs))
   stretch-kept written up leads =
-      let within : k ≤ length ys = omega (arith, h.len, h.few) in
-      let few : length (entries_before a count xs) ≤ length xs = omega (arith, length-before a count xs h.held, h.held) in
-      ap (λ (x : State). states_before x (entries_before (a + k) more zs)) h.there
+      let len : length ys ≡ m = h.recorded.len ∙ entries in
+      let few : k ≤ m = omega (arith, h.recorded.within, entries) in
+      let within : k ≤ length ys = omega (arith, len, few) in
+      let held : length (entries_before a count xs) ≤ length xs = omega (arith, length-before a count xs h.held, h.held) in
+      ap (λ (x : State). states_before x (entries_before (a + k) more zs)) h.recorded.made.state
       ∙ ap (λ l. states_before (steps_of k s) (take more (backwards (a + k) l))) written
       ∙ ap (λ i. states_before (steps_of k s) (take i (backwards (a + k) (take a xs ++ (ys ++ drop (a + m) xs))))) up
-      ∙ ap (states_before (steps_of k s)) (pushed a m k count xs ys h.room h.len h.few h.rest)
-      ∙ past-made k (length xs) s ys (entries_before a count xs) few within (λ i l. done-each k s h.done i l) none (λ i l. h.back i l (none i l))
+      ∙ ap (states_before (steps_of k s)) (pushed a m k count xs ys h.room len few h.recorded.rest)
+      ∙ past-made k (length xs) s ys (entries_before a count xs) held within (λ i l. done-each k s h.recorded.made.done i l) none (λ i l. h.recorded.back i l (none i l))
     where
       none : (i : ℕ) → i < k → starts_dma_at (steps_of i s) ≡ false
       none i l = elim (cases_lt (i + 1) k) [
-        | inl early ↦ h.before i early
+        | inl early ↦ h.recorded.before i early
         | inr late ↦
             let last : k - 1 ≡ i = omega (arith, l, late) in
             ap (λ j. starts_dma_at (steps_of j s)) (sym last) ∙ last_dma true (omega (arith, l)) (leads (omega (arith, l)))
@@ -110,7 +109,7 @@ module _ (a m k count more : ℕ) (s t : State) (xs ys zs : List Saved) (h : IsS
       → states_before t (entries_before (a + k) more zs) ≡ history_after_steps k (length xs) s (states_before s (entries_before a count xs))
   stretch-cleared zeroed some leads =
       ap (λ i. states_before t (entries_before (a + k) i zs)) zeroed
-      ∙ past-cleared k (length xs) s (states_before s (entries_before a count xs)) some (done-each k s h.done (k - 1) (omega (arith, some))) (last_dma false some leads)
+      ∙ past-cleared k (length xs) s (states_before s (entries_before a count xs)) some (done-each k s h.recorded.made.done (k - 1) (omega (arith, some))) (last_dma false some leads)
 
 -- what the ring is that such a stretch leaves
 pub written-items : (a m j : ℕ) (xs ls ys zs : List Saved) → ls ≡ xs → j ≡ m → zs ≡ take a ls ++ (ys ++ drop j (drop a ls)) → zs ≡ take a xs ++ (ys ++ drop (a + m) xs)
@@ -171,22 +170,22 @@ pub ruleset more = (past_more, state_more, state_back, length-states_before, len
 length_one : {X : Type 0} (k : ℕ) (ys zs : List X) → k ≡ 1 → length ys ≡ 1 → length zs ≡ 1 → drop k ys ≡ drop k zs
 length_one k ys zs e f h = drop_all k ys (omega (arith, e, f)) ∙ sym (drop_all k zs (omega (arith, e, h)))
 
-pub one-written : (a k count : ℕ) (s t : State) (xs ys : List Saved) → a < length xs → count ≤ length xs → k ≡ 1 → length ys ≡ 1 → done_of k s ≡ k → t ≡ steps_of k s
-    → ((i : ℕ) → i < k → can_undo (record_at ys i).change ≡ not (starts_dma_at (steps_of i s)))
-    → ((i : ℕ) → i < k → starts_dma_at (steps_of i s) ≡ false → undone (record_at ys i) (steps_of (i + 1) s) ≡ steps_of i s)
-    → IsStretch a 1 k count s t xs ys
-one-written a k count s t xs ys room held one len done there which back = record {
-  room = omega (arith, room);
-  held = held;
-  len = len;
-  few = omega (arith, one);
-  rest = length_one k ys (take 1 (drop a xs)) one len (omega (arith, length-take 1 (drop a xs), length-drop a xs, room));
-  done = done;
-  there = there;
-  before = λ i h. absurd (omega (arith, h, one));
-  which = which;
-  back = back;
-}
+pub one-written : (a k count : ℕ) (s t : State) (xs old ys : List Saved) → a < length xs → count ≤ length xs → k ≡ 1 → length old ≡ 1 → AreRecorded k s t old ys → IsStretch a 1 k count s t xs ys
+one-written a k count s t xs old ys room held one len r =
+    let entry : length (take 1 (drop a xs)) ≡ 1 = omega (arith, length-take 1 (drop a xs), length-drop a xs, room) in
+    record {
+      room = omega (arith, room);
+      held = held;
+      recorded = record {
+        within = omega (arith, one, entry);
+        made = r.made;
+        before = r.before;
+        which = r.which;
+        back = r.back;
+        rest = length_one k ys (take 1 (drop a xs)) one (r.len ∙ len) entry;
+        len = r.len ∙ len ∙ sym entry;
+      };
+    }
 
 -- the ring after that
 one_item : (ys : List Saved) (d : Saved) → length ys ≡ 1 → ys ≡ slice_index_or ys 0 d ∷ []

@@ -3,7 +3,6 @@ use Rattle.std.proofs.Common.{◌≡◌, ℕ, ◌+◌, ◌-◌, ◌<◌, ◌≤�
 use Rattle.std.specs.Prelude.{is_none, take, length, nat_lt, nat_eq, ◌==◌, option_map, ◌&&◌, not}
 use Rattle.std.proofs.lemmas.Grind.{common_steps}
 use Rattle.rsp_memory.specs.Memory.{word_at}
-use Rattle.std.proofs.lemmas.List.{take_all}
 use Rattle.rsp_debug.proofs.WatchChanges.{differs-since}
 use Rattle.rsp_decode.specs.declared.inst.Inst.{Inst}
 use Rattle.rsp_decode.specs.Table.{inst_of}
@@ -178,7 +177,3 @@ hit_nothing (Some k) d e = cc
 
 pub nothing-differs : (b : List Bool) (snapshots : List (Option Snapshot)) (t : State) → hit_in b snapshots t ≡ None → differs snapshots t.dmem ≡ None
 nothing-differs b snapshots t e = hit_nothing (differs snapshots t.dmem) (when (is_break b t.pc) Break) e
-
--- a DMEM that is read whole
-pub whole : (m : List ℕ) (n : ℕ) → length m ≡ n → take n m ≡ m
-whole m n e = take_all n m (omega (arith, e))

@@ -6,7 +6,7 @@ use Rattle.std.proofs.lemmas.Option.{slice_get-get_or}
 use Rattle.std.proofs.lemmas.List.{take_more, take_all, drop_all, take-append-le, take-take, drop-drop, take-append-drop, length-take, length-drop, length-append, length-reverse, reverse-append, append-nil}
 use Rattle.std.proofs.lemmas.Bool.{cases_lt}
 use Rattle.std.proofs.lemmas.Bool.Decides.{nat_tests}
-use Rattle.rsp_debug.specs.History.{previous_entry, backwards, entries_before}
+use Rattle.rsp_debug.specs.HistoryRing.{previous_entry, backwards, entries_before}
 
 previous_below : (n i : ℕ) → i ≤ n → 0 < n → previous_entry n i < n
 previous_below n i h some = grind (arith, nat_tests)

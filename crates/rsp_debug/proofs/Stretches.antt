@@ -9,8 +9,8 @@ use Rattle.rsp_machine.specs.Transfers.{starts_dma_at}
 use Rattle.rsp_machine.specs.declared.step.StepEnd.{StepEnd}
 use Rattle.rsp_machine.specs.declared.step.StepEnd.TheVariants as end
 use Rattle.rsp_machine.proofs.LoopSteps.{steps-add}
-use Rattle.rsp_debug.specs.Undoable.{history_by, history_after}
-use Rattle.rsp_debug.specs.History.{Records, states_before, history_after_steps}
+use Rattle.rsp_debug.specs.History.{history_by, history_after, history_after_steps}
+use Rattle.rsp_debug.specs.HistoryRing.{Records, states_before}
 use Rattle.rsp_debug.specs.Debugging.{Debugging, after_steps, after_debugger_step}
 use Rattle.rsp_debug.specs.Calls.{IsAfter}
 use Rattle.rsp_debug.specs.Runs.{step_refusal}

@@ -8,7 +8,7 @@ use Rattle.rsp_machine.specs.Laws.{steps_of, done_steps}
 use Rattle.rsp_machine.specs.Transfers.{starts_dma_at}
 use Rattle.rsp_machine.specs.declared.step.StepEnd.{StepEnd}
 use Rattle.rsp_machine.specs.declared.step.StepEnd.TheVariants.{Done, Halted, Reserved}
-use Rattle.rsp_debug.specs.Undoable.{history_by, history_after}
+use Rattle.rsp_debug.specs.History.{history_by, history_after}
 use Rattle.rsp_debug.specs.Debugging.{Debugging, debugging_of, after_debugger_step, after_steps, after_back}
 use Rattle.rsp_debug.specs.Calls.{ForwardCall, StepCall, RunCall, accepted_run_steps, call_steps, state_after_call, Call, GoOn, GoBack, Tally, after_forward_call, is_accepted, after_call, after_calls, Undoes}
 use Rattle.rsp_debug.proofs.Reasons.{step-halted-same, step-reserved-same}

@@ -9,7 +9,7 @@ use Rattle.rsp_debug.specs.Stops.{run_steps, stop_of}
 use Rattle.rsp_debug.specs.declared.moves.Moves.{Moves}
 use Rattle.rsp_debug.specs.declared.moves.MoveEnd.{MoveEnd}
 use Rattle.rsp_debug.specs.Moves.{steps_to_move, move_end_of}
-use Rattle.rsp_debug.specs.Undoable.{history_after}
+use Rattle.rsp_debug.specs.History.{history_after}
 use Rattle.rsp_debug.specs.Breaks.{no_breaks, with_break, without_break}
 use Rattle.rsp_debug.specs.Watches.{no_watches, with_watch, without_watch}
 

@@ -1,35 +1,22 @@
--- Scaffolding of proofs: the entries of a ring, and the states that its records give back.
-use Rattle.std.specs.Prelude.{ℕ, zero, suc, ◌-◌, ◌==◌, ◌≤◌, List, [], ◌∷◌, ◌++◌, length, take, drop, reverse, if◌then◌else◌}
+-- The history of a debugger: the states that steps back reach.
+use Rattle.std.specs.Prelude.{ℕ, zero, suc, List, [], ◌∷◌, take, Bool, true, false}
 use Rattle.rsp_machine.specs.State.{State}
+use Rattle.rsp_machine.specs.Step.{step_of}
 use Rattle.rsp_machine.specs.Laws.{steps_of}
-use Rattle.rsp_machine.specs.Undo.{Saved, undone}
-use Rattle.rsp_debug.specs.Undoable.{history_after}
+use Rattle.rsp_machine.specs.Transfers.{starts_dma_at}
+use Rattle.rsp_machine.specs.declared.step.StepEnd.{StepEnd}
+use Rattle.rsp_machine.specs.declared.step.StepEnd.TheVariants.{Done, Halted, Reserved}
 
--- the records of the last steps, the newest first, and how many there may be
-pub record Records : Type 0 where
-  pub newest : List Saved
-  pub depth : ℕ
+-- The history after a step from s, by what the step returns and whether it starts a DMA: a step that is Done adds s as the newest,
+-- a DMA empties the history, and a step that isn't Done leaves it.
+abbrev pub history_by : StepEnd → Bool → ℕ → State → List State → List State
+history_by Done false depth s past = take depth (s ∷ past)
+history_by Done true depth s past = []
+history_by Halted b depth s past = past
+history_by (Reserved w) b depth s past = past
 
--- the entry before an entry, of n
-abbrev pub previous_entry : ℕ → ℕ → ℕ
-previous_entry n i = if i == 0 then n - 1 else i - 1
-
--- the members before an entry, the nearest first, round the start
-abbrev pub backwards : {X : Type 0} → ℕ → List X → List X
-backwards i xs = reverse (take i xs) ++ reverse (drop i xs)
-
--- and so many of them
-abbrev pub entries_before : {X : Type 0} → ℕ → ℕ → List X → List X
-entries_before i count xs = take count (backwards i xs)
-
--- xs has so many members before an entry, which may be the end
-abbrev pub IsWithin : {X : Type 0} → ℕ → ℕ → List X → Type 0
-IsWithin i count xs = (i ≤ length xs) × (count ≤ length xs)
-
--- the states before s, by what each step saved, the newest first
-abbrev pub states_before : State → List Saved → List State
-states_before s [] = []
-states_before s (r ∷ rs) = undone r s ∷ states_before (undone r s) rs
+unfoldable pub history_after : ℕ → State → List State → List State
+history_after depth s past = history_by (step_of s).0 (starts_dma_at s) depth s past
 
 -- the history after n steps from s
 unfoldable pub history_after_steps : ℕ → ℕ → State → List State → List State

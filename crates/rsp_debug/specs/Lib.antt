@@ -1,5 +1,5 @@
 -- Runs, breakpoints, watches, queries, and steps back.
-pub mod Undoable
+pub mod History
 pub mod Stops
 pub mod Breaks
 pub mod Watches
@@ -7,7 +7,7 @@ pub mod Debugging
 pub mod Queries
 pub mod Calls
 pub mod BreakBits
-pub mod History
+pub mod HistoryRing
 pub mod Snapshots
 pub mod Runs
 pub mod Moves

@@ -51,13 +51,6 @@ impl Breaks {
         }
     }
 
-    /// Changes nothing. Its contract says that there are at most sixteen breakpoints.
-    pub fn ranges(&self)
-        ensures { break_count self.now ≤ 16 }
-    {
-        let _ = &self.bits;
-    }
-
     /// Whether there is no breakpoint.
     pub fn is_empty(&self) -> bool
         ensures { result ≡ (break_count self.now == 0) }
@@ -83,6 +76,7 @@ impl Breaks {
         ensures fault { MatchResult result (λ _. break_fault place self.old ≡ None) (λ f. break_fault place self.old ≡ Some f) }
         ensures ok { OnOk result (self.new ≡ with_break place self.old) }
         ensures err { OnErr result (self.new ≡ self.old) }
+        ensures few { break_count self.new ≤ 16 }
     {
         if self.contains(place) {
             return Err(BreakFault::BreakTwice);

@@ -17,9 +17,7 @@ pub(crate) fn dmem_bytes<A: Acc>(machine: &Machine<A>) -> &[u8]
     ensures value { result.now ≡ machine.now.dmem }
     ensures len { length result.now ≡ 4096 }
 {
-    let dmem = machine.dmem();
-    dmem.ranges();
-    dmem.run(0, 4096)
+    machine.dmem().bytes()
 }
 
 /// The breakpoints, watches and moves that can end a run, with the watched bytes as they were when the run began.

@@ -3,7 +3,6 @@
 ghost use Rattle.std.specs.Prelude.{◌≡◌, ◌<◌, ◌≤◌, ◌%◌, ◌⊎◌, ◌↔◌, Some, None, length, OnOk, OnErr, IfOk, IfErr, IsOk, IsErrOf, IsTrue, MatchResult};
 ghost use Rattle.rsp_machine.specs.Step.{step_of};
 ghost use Rattle.rsp_machine.specs.Laws.{steps_of};
-ghost use Rattle.rsp_machine.specs.State.{IsState};
 ghost use Rattle.rsp_debug.specs.Stops.{is_break};
 ghost use Rattle.rsp_debug.specs.Moves.{end_steps};
 ghost use Rattle.rsp_debug.specs.Breaks.{break_count, break_fault};
@@ -50,7 +49,7 @@ pub struct Debugger<A: Acc> {
 }
 
 impl<A: Acc> Model for Debugger<A> {
-    ghost use Rattle.rsp_debug.specs.History.{states_before};
+    ghost use Rattle.rsp_debug.specs.HistoryRing.{states_before};
     ghost use Rattle.rsp_debug.specs.Debugging.{Debugging};
 
     ghost Value = { Debugging };
@@ -72,7 +71,6 @@ impl<A: Acc> Debugger<A> {
         machine: Machine<A>,
         depth: usize,
     ) -> Result<Debugger<A>, (Machine<A>, AllocError)>
-        requires { depth ≤ 4096 }
         ensures ok { IfOk result (λ d. d ≡ debugging_of depth machine) }
         ensures err { IfErr result (λ e. e.0 ≡ machine) }
     {
@@ -87,17 +85,13 @@ impl<A: Acc> Debugger<A> {
         }
     }
 
-    /// Changes nothing. Its contract says what a caller's proof may need: the machine's state is in its ranges, there are at most
-    /// sixteen breakpoints, and the history has at most as many states as are kept.
+    /// How many states a step back can reach at most.
     #[tactic(auto, using(crate::proofs::HistoryRecords::more))]
-    pub fn ranges(&self)
-        ensures state { IsState self.now.state }
-        ensures breaks { break_count self.now.breaks ≤ 16 }
-        ensures past { length self.now.past ≤ self.now.depth }
+    pub fn depth(&self) -> usize
+        ensures value { result ≡ self.now.depth }
+        ensures within { length self.now.past ≤ result }
     {
-        self.machine.ranges();
-        self.breaks.ranges();
-        let _ = self.history.len();
+        self.history.depth()
     }
 
     /// Makes one step, as [`Machine::step`] does.
@@ -116,6 +110,7 @@ impl<A: Acc> Debugger<A> {
         ensures fault { MatchResult result (λ _. break_fault place self.old.breaks ≡ None) (λ f. break_fault place self.old.breaks ≡ Some f) }
         ensures ok { OnOk result (self.new ≡ with_breakpoint place self.old) }
         ensures err { OnErr result (self.new ≡ self.old) }
+        ensures few { break_count self.new.breaks ≤ 16 }
     {
         self.breaks.add(place)
     }

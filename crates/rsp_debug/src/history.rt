@@ -1,13 +1,17 @@
 // The records of the last steps, which undo them.
 
-ghost use Rattle.std.specs.Prelude.{◌≡◌, ◌<◌, ◌≤◌, [], length, drop, slice_get, option_copied, IfOk};
+ghost use Rattle.std.specs.Prelude.{◌≡◌, ◌<◌, ◌≤◌, ◌+◌, ◌-◌, ◌⊎◌, ℕ, true, false, [], length, drop, slice_get, slice_index_or, option_copied, IfOk};
 ghost use Rattle.rsp_machine.specs.Step.{step_of};
-ghost use Rattle.rsp_debug.specs.Undoable.{history_after};
-ghost use Rattle.rsp_debug.specs.History.{previous_entry, states_before};
+ghost use Rattle.rsp_machine.specs.Laws.{steps_of, done_steps};
+ghost use Rattle.rsp_machine.specs.Undo.{record_at, can_undo};
+ghost use Rattle.rsp_machine.specs.Until.{ends_after, refuses_at};
+ghost use Rattle.rsp_debug.specs.Calls.{IsAfter};
+ghost use Rattle.rsp_debug.specs.History.{history_after, history_after_steps};
+ghost use Rattle.rsp_debug.specs.HistoryRing.{previous_entry, states_before};
 
 use circular_buffer::HeapCircularBuffer;
 use rsp_acc::Acc;
-use rsp_machine::{Machine, Record, StepEnd};
+use rsp_machine::{Machine, Never, Record, StepEnd, Until};
 use std::alloc::{AllocError, Global};
 use std::marker::Model;
 use std::slice;
@@ -25,7 +29,7 @@ pub struct History {
 
 impl Model for History {
     ghost use Rattle.std.specs.Prelude.{length};
-    ghost use Rattle.rsp_debug.specs.History.{Records, entries_before, IsWithin};
+    ghost use Rattle.rsp_debug.specs.HistoryRing.{Records, entries_before, IsWithin};
 
     ghost Value = { Records };
 
@@ -43,6 +47,15 @@ fn previous_entry(n: usize, i: usize) -> usize
     ensures { result ≡ previous_entry n i }
 {
     if i == 0 { n - 1 } else { i - 1 }
+}
+
+/// Whether the first `made` steps of some records can all be undone. Only the last of them may have started a DMA.
+fn can_undo(records: &[Record], made: usize) -> bool
+    requires { made ≤ length records.now }
+    ensures none { made ≡ 0 → result ≡ true }
+    ensures last { 0 < made → result ≡ can_undo (record_at records.now (made - 1)).change }
+{
+    made == 0 || records[made - 1].can_undo()
 }
 
 impl History {
@@ -63,7 +76,8 @@ impl History {
 
     /// How many records there may be.
     pub fn depth(&self) -> usize
-        ensures { result ≡ self.now.depth }
+        ensures value { result ≡ self.now.depth }
+        ensures within { length self.now.newest ≤ result }
     {
         self.slots.len()
     }
@@ -120,7 +134,7 @@ impl History {
         let Some(record) = self.slots.get_mut(entry) else {
             return machine.step();
         };
-        if machine.steps_recorded(slice::from_mut(record)) == 0 {
+        if machine.steps_recorded_until(slice::from_mut(record), &Never) == 0 {
             return machine.step();
         }
         self.count = if record.can_undo() {
@@ -140,5 +154,50 @@ impl History {
     {
         self.next = previous_entry(self.slots.len(), self.next);
         self.count -= 1;
+    }
+
+    /// Makes 1 to `n` steps of a machine, or none if the next one isn't Done or `until` refuses it. Returns how many. With a depth
+    /// other than 0 it keeps their records. It stops early at the ring's last entry, after a step that starts a DMA, or if `until`
+    /// ends it or refuses the next step.
+    pub fn stretch<A: Acc, U: Until>(&mut self, machine: &mut Machine<A>, n: u32, until: &U) -> u32
+        requires { 0 < n }
+        ensures within { result ≤ n }
+        ensures after { IsAfter result machine.old machine.new }
+        ensures stuck { result ≡ 0 → (done_steps (step_of machine.new).0 ≡ 0) ⊎ (refuses_at (U.refuses until.now) machine.new ≡ true) }
+        ensures asked { (i : ℕ) → i + 1 < result → ends_after (U.ends until.now) (steps_of i machine.old) ≡ false }
+        ensures permitted { (i : ℕ) → i < result → refuses_at (U.refuses until.now) (steps_of i machine.old) ≡ false }
+        ensures past { states_before machine.new self.new.newest ≡ history_after_steps result self.old.depth machine.old (states_before machine.old self.old.newest) }
+        ensures depth { self.new.depth ≡ self.old.depth }
+    {
+        let depth = self.slots.len();
+        if depth == 0 {
+            return machine.steps_until(u64::from(n), until) as u32;
+        }
+        let first = if self.next == depth { 0 } else { self.next };
+        let room = (n as usize).min(depth - first);
+        let lent = &mut self.slots.make_contiguous()[first..first + room];
+        let made = machine.steps_recorded_until(lent, until);
+        self.count = if can_undo(lent, made) {
+            (self.count + made).min(depth)
+        } else {
+            0
+        };
+        self.next = first + made;
+        made as u32
+    }
+
+    /// Undoes the last step of a machine by the newest record, and drops that record.
+    #[tactic(auto, using(crate::proofs::HistoryRecords::backs))]
+    pub fn undo<A: Acc>(&mut self, machine: &mut Machine<A>)
+        requires { 0 < length self.old.newest }
+        ensures state { machine.new ≡ slice_index_or (states_before machine.old self.old.newest) 0 machine.old }
+        ensures past { states_before machine.new self.new.newest ≡ drop 1 (states_before machine.old self.old.newest) }
+        ensures depth { self.new.depth ≡ self.old.depth }
+    {
+        let Some(record) = self.newest() else {
+            unreachable!()
+        };
+        machine.undo(record);
+        self.drop_newest();
     }
 }

@@ -2,6 +2,7 @@
 
 ghost use Rattle.std.specs.Prelude.{◌≡◌, ◌<◌, ◌%◌, ◌↔◌, Some, None, length, OnOk, OnErr, IsOk, IsTrue, MatchResult};
 ghost use Rattle.rsp_regs.specs.Sp.{read_value};
+ghost use Rattle.rsp_machine.specs.State.{IsState};
 ghost use Rattle.rsp_machine.specs.Host.{register_written, is_inside, with_bank_bytes, task_fault, with_task, with_pc};
 ghost use Rattle.rsp_machine.specs.Registers.{registers_of, with_registers, registers_fault};
 ghost use Rattle.rsp_debug.specs.Debugging.{set_by_host, after_register_read};
@@ -46,13 +47,15 @@ impl<A: Acc> Debugger<A> {
 
     /// All registers, as [`rsp_machine::Machine::all_registers`] returns them. Changes nothing.
     pub fn all_registers(&self) -> AllRegisters
-        ensures { result ≡ registers_of self.now.state }
+        ensures value { result ≡ registers_of self.now.state }
+        ensures ranges { IsState self.now.state }
     {
         self.machine.all_registers()
     }
 
     /// Sets all registers, as [`rsp_machine::Machine::set_all_registers`] does, and empties the history. Returns the
     /// [`RegistersFault`] of registers that no machine can have, and then nothing changes.
+    #[inline(always)]
     pub fn set_all_registers(&mut self, given: &AllRegisters) -> Result<(), RegistersFault>
         ensures fault { MatchResult result (λ _. registers_fault given.now ≡ None) (λ f. registers_fault given.now ≡ Some f) }
         ensures ok { OnOk result (self.new ≡ set_by_host (with_registers given.now self.old.state) self.old) }

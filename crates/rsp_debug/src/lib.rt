@@ -3,7 +3,6 @@
 
 mod breaks;
 mod conditions;
-mod copy;
 mod debugger;
 mod history;
 mod host;

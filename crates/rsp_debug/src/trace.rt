@@ -3,7 +3,8 @@
 ghost use Rattle.std.specs.Prelude.{◌≡◌, ◌≤◌, ◌↔◌, None, length, take, drop, IsOk, IfOk, OnOk, OnErr};
 ghost use Rattle.rsp_debug.specs.Stops.{IsStop};
 ghost use Rattle.rsp_debug.specs.Snapshots.{differs, watches_of};
-ghost use Rattle.rsp_debug.specs.History.{states_before, history_after_steps};
+ghost use Rattle.rsp_debug.specs.History.{history_after_steps};
+ghost use Rattle.rsp_debug.specs.HistoryRing.{states_before};
 ghost use Rattle.rsp_debug.specs.Debugging.{stop_in, after_run};
 ghost use Rattle.rsp_debug.specs.Moves.{no_moves};
 ghost use Rattle.rsp_debug.specs.Traces.{trace_of};
@@ -18,7 +19,7 @@ use crate::stop::{Reason, Stop};
 use crate::trace_entry::{TraceEntry, entry_of};
 use crate::watches::Watches;
 use rsp_acc::Acc;
-use rsp_machine::{Machine, StepEnd};
+use rsp_machine::{Effect, Machine, StepEnd};
 
 /// Runs to breakpoints and watches, and writes an entry for each step.
 fn trace_to<A: Acc>(
@@ -43,7 +44,7 @@ fn trace_to<A: Acc>(
     while made < n && found.is_none() {
         let pc = machine.pc();
         let word = machine.imem().aligned_word(usize::from(pc));
-        let effect = machine.effect();
+        let effect = Effect::of(machine);
         let StepEnd::Done = history.recorded_step(machine) else {
             break;
         };

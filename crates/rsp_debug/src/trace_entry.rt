@@ -1,7 +1,7 @@
 // An entry of a trace.
 
-ghost use Rattle.std.specs.Prelude.{◌≡◌};
-ghost use Rattle.rsp_scalar.specs.Registers.{register};
+ghost use Rattle.std.specs.Prelude.{◌≡◌, ◌<◌};
+ghost use Rattle.rsp_loadstore.specs.Controls.{control_half};
 ghost use Rattle.rsp_debug.specs.Traces.{lanes_in, entry_made_of};
 
 use rsp_acc::Acc;
@@ -35,13 +35,12 @@ pub struct TraceEntry {
     pub lanes: [u16; 8],
 }
 
-/// The value of scalar register `n`.
+/// Sixteen flags as a number: eight in bits 0 to 7, and eight in bits 8 to 15.
 #[inline(always)]
-fn register_of<A: Acc>(n: u8, machine: &Machine<A>) -> u32
-    ensures { result ≡ register machine.now.registers n }
+fn control_half(low: &Mask8, high: &Mask8) -> u16
+    ensures { result ≡ control_half low.now high.now }
 {
-    machine.ranges();
-    if n < 32 { machine.reg(n) } else { 0 }
+    low.bits() as u16 + high.bits() as u16 * 256
 }
 
 /// The lanes of vector register `n`, if that is below 32, else 0.
@@ -58,12 +57,13 @@ fn lanes_in<A: Acc>(n: u8, machine: &Machine<A>) -> [u16; 8]
 /// The entry of a step of the word at an address, with this effect, which ended in this machine.
 #[inline(always)]
 pub fn entry_of<A: Acc>(pc: u16, word: u32, effect: Effect, machine: &Machine<A>) -> TraceEntry
+    requires { effect.scalar < 32 }
     ensures { result ≡ entry_made_of pc word effect machine.now }
 {
     let flags = machine.flags();
     TraceEntry {
         word,
-        value: register_of(effect.scalar, machine),
+        value: machine.reg(effect.scalar),
         pc,
         address: effect.address,
         vco: flags.vco(),

@@ -3,7 +3,8 @@ use Rattle.std.specs.Prelude.{◌⊎◌, is_some, unwrap_or}
 use Rattle.rsp_machine.specs.State.{State}
 use Rattle.rsp_machine.specs.Laws.{steps_of}
 use Rattle.rsp_machine.specs.Until.{refuses_at}
-use Rattle.rsp_debug.specs.History.{states_before, history_after_steps}
+use Rattle.rsp_debug.specs.History.{history_after_steps}
+use Rattle.rsp_debug.specs.HistoryRing.{states_before}
 use Rattle.rsp_debug.specs.Runs.{step_refusal}
 use Rattle.rsp_debug.specs.Snapshots.{watches_of}
 use Rattle.rsp_debug.specs.Moves.{is_at_move, steps_to_move}

@@ -2,6 +2,7 @@ use Rattle.std.proofs.Common.{◌≡◌, ◌-◌, refl, inl, inr, arith, true, N
 use Rattle.std.specs.Prelude.{◌⊎◌}
 use Rattle.std.proofs.lemmas.Bool.{cases_lt}
 use Rattle.rsp_machine.specs.Laws.{steps_of}
+use Rattle.rsp_machine.proofs.LoopSteps.{ends-freely}
 use Rattle.rsp_debug.specs.Runs.{step_refusal}
 use Rattle.rsp_debug.specs.Moves.{is_at_move}
 use Rattle.rsp_debug.specs.declared.stop.Reason.TheVariants.{Limit}
@@ -19,10 +20,10 @@ pub returns-clause-stop : goal.returns-clause-stop
 returns-clause-stop g c =
     let n = c.args.n in let s = c.args.machine.now in let x = c.args.conditions.now in
     let e = c.steps_until-steps.ensures in let k = c.steps_until-steps.result in let t = c.steps_until-steps.new.self in
-    let come = come-all x.breaks.now x.snapshots.now x.moves n s k t c.requires.asks c.requires.same (made-after k s t e.done e.state) (omega (arith, e.within, c.from.ensures))
+    let come = come-all x.breaks.now x.snapshots.now x.moves n s k t c.requires.asks c.requires.same (made-after k s t e.made.done e.made.state) (omega (arith, e.within, c.from.ensures))
     (λ i h. moves-pass _ x.moves (steps_of i s) (λ row register. refl) (e.permitted i h)) in
     let all : step_refusal t ≡ None → (k ≡ n) ⊎ (is_at_move x.moves t ≡ true) = λ free. elim (cases_lt k n) [
-      | inl short ↦ elim (e.ends (omega (arith, short, c.from.ensures))) [
+      | inl short ↦ elim (ends-freely k s t _ _ (e.ends (omega (arith, short, c.from.ensures)))) [
         | inl stuck ↦ never (step_refusal t) _ (stuck-is t stuck) free
         | inr (inl refused) ↦ inr (move-next _ x.moves t (λ row register. refl) refused free)
         | inr (inr ended) ↦ never-ends (steps_of (k - 1) s) _ ended.1

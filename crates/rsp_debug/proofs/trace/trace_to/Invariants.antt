@@ -1,5 +1,6 @@
 use Rattle.std.proofs.Common.{◌≡◌, ◌≤◌, ◌-◌, length, take, drop}
-use Rattle.rsp_debug.specs.History.{states_before, history_after_steps}
+use Rattle.rsp_debug.specs.History.{history_after_steps}
+use Rattle.rsp_debug.specs.HistoryRing.{states_before}
 use Rattle.rsp_debug.specs.Traces.{trace_of}
 use Rattle.rsp_debug.proofs.RunLoop.{IsCome}
 use Rattle.rsp_debug.proofs.trace.trace_to.Given as goal

@@ -1,6 +1,6 @@
 use Rattle.std.proofs.Common.{◌≡◌, ◌∷◌, drop}
 use Rattle.std.specs.Prelude.{slice_index_or}
-use Rattle.rsp_debug.specs.History.{states_before}
+use Rattle.rsp_debug.specs.HistoryRing.{states_before}
 use Rattle.rsp_debug.proofs.debugger.Debugger.back.Given as goal
 
 abbrev pub invariant-loop : goal.invariant-loop

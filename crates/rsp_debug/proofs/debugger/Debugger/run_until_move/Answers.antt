@@ -1,6 +1,6 @@
 use Rattle.std.proofs.Common.{◌∙◌, ap, sym}
 use Rattle.rsp_machine.specs.Laws.{steps_of}
-use Rattle.rsp_debug.specs.History.{states_before}
+use Rattle.rsp_debug.specs.HistoryRing.{states_before}
 use Rattle.rsp_debug.specs.Moves.{end_steps}
 use Rattle.rsp_debug.specs.Debugging.{Debugging, move_end_in, after_run_until_move}
 use Rattle.rsp_debug.proofs.RunEnds.{move-end-is, move-end-steps, ran-is}

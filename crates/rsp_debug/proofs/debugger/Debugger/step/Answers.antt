@@ -1,5 +1,5 @@
 use Rattle.std.proofs.Common.{◌∙◌, ap}
-use Rattle.rsp_debug.specs.History.{states_before}
+use Rattle.rsp_debug.specs.HistoryRing.{states_before}
 use Rattle.rsp_debug.specs.Debugging.{Debugging, after_debugger_step}
 use Rattle.rsp_debug.proofs.Stretches.{stepped-as}
 use Rattle.rsp_debug.proofs.debugger.Debugger.step.Goals as goal

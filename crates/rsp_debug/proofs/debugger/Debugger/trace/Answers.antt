@@ -1,5 +1,5 @@
 use Rattle.std.proofs.Common.{◌∙◌, ap, length}
-use Rattle.rsp_debug.specs.History.{states_before}
+use Rattle.rsp_debug.specs.HistoryRing.{states_before}
 use Rattle.rsp_debug.specs.Debugging.{Debugging, stop_in, after_run}
 use Rattle.rsp_debug.specs.Traces.{trace_of}
 use Rattle.rsp_debug.proofs.RunEnds.{stop-is, ran-is}

@@ -2,8 +2,8 @@ use Rattle.std.proofs.Common.{◌≡◌, ◌∙◌, [], length, ap, sym, refl, a
 use Rattle.std.proofs.lemmas.Bool.{eqb-true}
 use Rattle.rsp_machine.specs.State.{State}
 use Rattle.rsp_machine.specs.Step.{step_of}
-use Rattle.rsp_debug.specs.History.{Records, entries_before, states_before}
-use Rattle.rsp_debug.specs.Undoable.{history_after}
+use Rattle.rsp_debug.specs.HistoryRing.{Records, entries_before, states_before}
+use Rattle.rsp_debug.specs.History.{history_after}
 use Rattle.rsp_debug.proofs.HistoryRecords.{past-unkept, one-more}
 use Rattle.rsp_debug.proofs.history.History.step.Goals as goal
 
