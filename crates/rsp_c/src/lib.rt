@@ -6,6 +6,7 @@
 
 mod box_parts;
 mod c_structs;
+mod copies;
 mod fault;
 mod handle;
 mod instance;

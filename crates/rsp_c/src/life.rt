@@ -1,17 +1,18 @@
 // A machine's life.
 
-ghost use Rattle.std.specs.Prelude.{◌≡◌, ◌<◌, ◌↔◌, ◌⊎◌, IsTrue, Some, None, IfSome, IfNone, length};
+ghost use Rattle.std.specs.Prelude.{◌≡◌, ◌<◌, ◌↔◌, ◌⊎◌, IsTrue, Some, None, IfSome, IfNone, IfOk, length};
 ghost use Rattle.rsp_machine.specs.State.{start_of};
 ghost use Rattle.rsp_memory.specs.Image.{IsImageLength};
 ghost use Rattle.rsp_debug.specs.Debugging.{debugging_of};
 
+use crate::copies::copy_of;
 use crate::handle::Handle;
 use crate::instance::Instance;
 use crate::status::{NO_MACHINE, NO_MEMORY, OK, OUT_OF_RANGE};
 use rsp_debug::Debugger;
 use rsp_machine::Machine;
 use rsp_memory::Rdram;
-use std::alloc::Global;
+use std::alloc::{AllocError, Global};
 
 /// The version of the interface: a call, a struct or a number that changes its meaning raises it.
 const VERSION: u32 = 1;
@@ -31,6 +32,28 @@ fn is_image_length(n: usize) -> bool
     n >= 64 && n <= 0x80_0000 && n % 8 == 0
 }
 
+/// A machine with a copy of an image of the RDRAM, and a history of `depth` states. AllocError if out of memory.
+#[inline(always)]
+pub(crate) fn new_instance(
+    alloc: Global,
+    image: &[u8],
+    depth: usize,
+) -> Result<Box<Instance, Global>, AllocError>
+    requires { IsImageLength (length image.now) }
+    ensures { IfOk result (λ session. session.value ≡ debugging_of depth (start_of image.now)) }
+{
+    let Ok(rdram) = Rdram::from_bytes(Vec::from_slice(alloc, image)?) else {
+        unreachable!()
+    };
+    let Ok(debugger) = Debugger::try_new(alloc, Machine::new(rdram), depth) else {
+        return Err(AllocError);
+    };
+    match Box::new(alloc, Instance { debugger }) {
+        Err(_) => Err(AllocError),
+        Ok(session) => Ok(session),
+    }
+}
+
 /// Makes a machine with a copy of an image of the RDRAM, 64 to 8388608 bytes and a multiple of 8, and a history of `depth` states, at most
 /// 4096. What the handle held is freed. OUT_OF_RANGE for another length or depth, before anything is copied.
 #[unsafe(no_mangle)]
@@ -43,16 +66,7 @@ pub extern "C" fn rsp_new(handle: &mut Handle, alloc: Global, image: &[u8], dept
     if depth > 4096 || !is_image_length(image.len()) {
         return OUT_OF_RANGE;
     }
-    let Ok(bytes) = Vec::from_slice(alloc, image) else {
-        return NO_MEMORY;
-    };
-    let Ok(rdram) = Rdram::from_bytes(bytes) else {
-        unreachable!()
-    };
-    let Ok(debugger) = Debugger::try_new(alloc, Machine::new(rdram), depth as usize) else {
-        return NO_MEMORY;
-    };
-    match Box::new(alloc, Instance { debugger }) {
+    match new_instance(alloc, image, depth as usize) {
         Err(_) => NO_MEMORY,
         Ok(session) => {
             handle.put(session);
@@ -74,12 +88,9 @@ pub extern "C" fn rsp_copy(to: &mut Handle, alloc: Global, from: &mut Handle) ->
     let Some(session) = from.take(alloc) else {
         return NO_MACHINE;
     };
-    let copy = session.debugger.try_copy(alloc);
+    let copy = copy_of(&session.debugger, alloc);
     from.put(session);
-    let Ok(debugger) = copy else {
-        return NO_MEMORY;
-    };
-    match Box::new(alloc, Instance { debugger }) {
+    match copy {
         Err(_) => NO_MEMORY,
         Ok(session) => {
             to.put(session);

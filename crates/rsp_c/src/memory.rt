@@ -19,9 +19,6 @@ pub fn bytes_of<A: Acc>(machine: &Machine<A>, bank: Bank, a: u32, n: usize) -> &
     ensures bytes { result.now ≡ take n (drop a (bank_bytes bank machine.now)) }
     ensures len { length result.now ≡ n }
 {
-    machine.dmem().ranges();
-    machine.imem().ranges();
-    machine.rdram().ranges();
     match bank {
         Bank::Dmem => machine.dmem().run(a, n),
         Bank::Imem => machine.imem().run(a, n),

@@ -27,7 +27,7 @@ fn has_words(machine: &Machine<PlaneAcc>, bank: Bank, address: u32, n: usize) ->
     ensures few { IsTrue result → n ≤ 2097152 }
     ensures limit { IsTrue result → address + 4 * n ≤ 8388608 }
 {
-    machine.rdram().ranges();
+    let _longest = machine.rdram().len();
     n <= 0x20_0000 && machine.is_inside(bank, address, 4 * n)
 }
 
