@@ -1,5 +1,6 @@
 /* What the calls of rsp.h take of memory: linked with -Wl,--wrap=malloc,--wrap=realloc,--wrap=free.
  *   - rsp_new, rsp_copy and rsp_assemble while the K-th call of malloc or realloc fails, for each K. A handle keeps what it held.
+ *   - What a handle held is freed when rsp_new or rsp_copy puts another machine into it.
  *   - No other call takes memory, accepted or refused.
  *   - All that was taken is freed: also by calls.c, whose main is all_calls here. */
 #include "rsp.h"
@@ -50,35 +51,65 @@ static void see(const char *what, long k, int is_right)
     if (!is_right) printf("FAIL %s, if allocation %ld fails\n", what, k);
 }
 
+/* A whole machine: all but its breakpoints and watches. */
+struct whole {
+    rsp_state state;
+    uint8_t banks[3][4096];
+};
+
+static void read_whole(rsp *m, struct whole *w)
+{
+    uint32_t k;
+    memset(w, 0, sizeof *w);
+    see("rsp_get", -1, rsp_get(m, &w->state) == RSP_OK);
+    for (k = 0; k < 3; k++) see("rsp_memory", -1, rsp_memory(m, k, 0, w->banks[k], k == RSP_RDRAM ? 64 : 4096) == RSP_OK);
+}
+
+static int is_still(rsp *m, const struct whole *before)
+{
+    static struct whole after;
+    read_whole(m, &after);
+    return memcmp(&after, before, sizeof after) == 0;
+}
+
 static void failing_new(rsp *m)
 {
+    static struct whole before;
     uint32_t word, status = RSP_NO_MEMORY;
-    long k, refused = 0;
+    long k, refused = 0, blocks = held;
+    read_whole(m, &before);
     for (k = 0; k < 100; k++) {
         left = k;
         status = rsp_new(m, image, 64, 100);
         left = -1;
         if (status == RSP_OK) break;
         refused++;
-        see("rsp_new", k, status == RSP_NO_MEMORY && rsp_peek(m, 8, &word) == RSP_OK && word == 77);
+        see("rsp_new", k, status == RSP_NO_MEMORY && is_still(m, &before));
+        see("rsp_new frees what it took", k, held == blocks);
     }
     see("rsp_new takes memory", k, refused >= 3 && status == RSP_OK && rsp_peek(m, 8, &word) == RSP_OK && word == 0);
+    see("rsp_new frees what the handle held", k, held == blocks);
 }
 
 static void failing_copy(rsp *m, rsp *from)
 {
-    uint32_t word, status = RSP_NO_MEMORY;
-    long k, refused = 0;
+    static struct whole before, first;
+    uint32_t status = RSP_NO_MEMORY;
+    long k, refused = 0, blocks = held;
+    read_whole(m, &before);
+    read_whole(from, &first);
     for (k = 0; k < 100; k++) {
         left = k;
         status = rsp_copy(m, from);
         left = -1;
         if (status == RSP_OK) break;
         refused++;
-        see("rsp_copy", k, status == RSP_NO_MEMORY && rsp_peek(m, 8, &word) == RSP_OK && word == 0);
-        see("rsp_copy leaves the first", k, rsp_back(from, 1) == RSP_OK && rsp_step(from) == RSP_OK);
+        see("rsp_copy", k, status == RSP_NO_MEMORY && is_still(m, &before));
+        see("rsp_copy leaves the first", k, is_still(from, &first) && rsp_back(from, 1) == RSP_OK && rsp_step(from) == RSP_OK);
+        see("rsp_copy frees what it took", k, held == blocks);
     }
-    see("rsp_copy takes memory", k, refused >= 3 && status == RSP_OK && rsp_peek(m, 8, &word) == RSP_OK && word == 88);
+    see("rsp_copy takes memory", k, refused >= 3 && status == RSP_OK && is_still(m, &first) && is_still(from, &first));
+    see("rsp_copy frees what the handle held", k, held == blocks);
 }
 
 /* An assembly without memory for a label reports the label's line, and no fault that stands before it is hidden by that. */
@@ -172,7 +203,7 @@ static void other_calls(rsp *m)
 int main(void)
 {
     rsp m = RSP_NONE, from = RSP_NONE;
-    see("the first machine", -1, rsp_new(&m, image, 64, 0) == RSP_OK && rsp_write(&m, 8, 77) == RSP_OK);
+    see("the first machine", -1, rsp_new(&m, image, 64, 100) == RSP_OK && rsp_write(&m, 8, 77) == RSP_OK);
     failing_new(&m);
     see("the machine to copy", -1, rsp_new(&from, image, 64, 100) == RSP_OK && rsp_write(&from, 8, 88) == RSP_OK && rsp_step(&from) == RSP_OK);
     failing_copy(&m, &from);
