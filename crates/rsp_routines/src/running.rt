@@ -14,7 +14,6 @@ use rsp_memory::{Bank, Rdram};
 use rsp_multiply::laws::l4;
 
 /// Takes five steps over the words of [`crate::multiply_fixed`].
-#[tactic(auto, unfolding(rsp_machine::specs::Laws::steps_of))]
 pub fn multiply<A: Acc>(machine: &mut Machine<A>)
     requires at { IsAt words machine.old }
     requires zero { vector machine.old.vectors 0 ≡ each_lane (λ _. 0) }
@@ -22,10 +21,7 @@ pub fn multiply<A: Acc>(machine: &mut Machine<A>)
     ensures product { (i : ℕ) → i < 8 → fixed (vector machine.new.vectors 9) (vector machine.new.vectors 10) i
         ≡ fixed_product (fixed (vector machine.old.vectors 1) (vector machine.old.vectors 2) i) (fixed (vector machine.old.vectors 3) (vector machine.old.vectors 4) i) }
 {
-    machine.ranges();
-    for _ in 0..5u64 {
-        let _ = machine.step();
-    }
+    let _ = machine.steps(5);
     l4();
 }
 
