@@ -1,6 +1,6 @@
 -- Which reason holds, by what a step answers.
 use Rattle.std.proofs.Common.{◌≡◌, ℕ, ◌+◌, ◌-◌, ◌<◌, ◌≤◌, List, [], ◌∷◌, refl, ap, sym, ◌∙◌, subst, arith, Bool, true, false, cond, Option, Some, None, add-one}
-use Rattle.std.specs.Prelude.{is_none, take, length, nat_lt, nat_eq, ◌==◌, option_map, ◌&&◌, not}
+use Rattle.std.specs.Prelude.{is_none, nat_lt, nat_eq, ◌==◌, option_map, ◌&&◌, not}
 use Rattle.std.proofs.lemmas.Grind.{common_steps}
 use Rattle.rsp_memory.specs.Memory.{word_at}
 use Rattle.rsp_debug.proofs.WatchChanges.{differs-since}

@@ -7,8 +7,8 @@ use Rattle.std.proofs.lemmas.List.FromFn.{map-range_with_len_more}
 use Rattle.rsp_memory.specs.Memory.{word_at}
 use Rattle.rsp_machine.specs.State.{State}
 use Rattle.rsp_machine.specs.Laws.{steps_of}
-use Rattle.rsp_machine.specs.Effects.{effect_of}
-use Rattle.rsp_machine.specs.declared.effect.Effect.{Effect}
+use Rattle.rsp_machine.specs.Writes.{writes_of}
+use Rattle.rsp_machine.specs.declared.writes.Writes.{Writes}
 use Rattle.rsp_machine.proofs.LoopSteps.{steps-add}
 use Rattle.rsp_debug.specs.declared.trace_entry.TraceEntry.{TraceEntry}
 use Rattle.rsp_debug.specs.Traces.{step_entry, entry_made_of, trace_of}
@@ -33,10 +33,10 @@ rest-more k out old entry e =
     drop-set-lt (k + 1) out k entry (omega arith) ∙ sym (drop-drop 1 k out) ∙ ap (drop 1) e ∙ drop-drop 1 k old
 
 -- the entry of a step
-pub entry-is : (k j pc word : ℕ) (effect : Effect) (s m t : State) (entry : TraceEntry) → entry ≡ entry_made_of pc word effect t
-    → pc ≡ m.pc → word ≡ word_at m.imem m.pc → effect ≡ effect_of m → m ≡ steps_of k s → t ≡ steps_of j m → j ≡ 1
+pub entry-is : (k j pc word : ℕ) (writes : Writes) (s m t : State) (entry : TraceEntry) → entry ≡ entry_made_of pc word writes t
+    → pc ≡ m.pc → word ≡ word_at m.imem m.pc → writes ≡ writes_of m → m ≡ steps_of k s → t ≡ steps_of j m → j ≡ 1
     → entry ≡ step_entry (steps_of k s) (steps_of (k + 1) s)
-entry-is k j pc word effect s m t entry e p w f there next one =
+entry-is k j pc word writes s m t entry e p w f there next one =
     let after : t ≡ steps_of (k + 1) s = next ∙ ap (λ i. steps_of i m) one ∙ ap (λ (x : State). steps_of 1 x) there ∙ sym (steps-add k 1 s) in
     let made : entry ≡ step_entry m t = e ∙ rw (p, w, f) refl in
     made ∙ rw (after, there) refl

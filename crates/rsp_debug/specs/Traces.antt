@@ -8,33 +8,33 @@ use Rattle.rsp_loadstore.specs.File.{vector}
 use Rattle.rsp_lanes.specs.Flags.{vco, vcc}
 use Rattle.rsp_machine.specs.State.{State}
 use Rattle.rsp_machine.specs.Laws.{steps_of}
-use Rattle.rsp_machine.specs.Effects.{effect_of}
-use Rattle.rsp_machine.specs.declared.effect.Effect.{Effect}
+use Rattle.rsp_machine.specs.Writes.{writes_of}
+use Rattle.rsp_machine.specs.declared.writes.Writes.{Writes}
 use Rattle.rsp_debug.specs.declared.trace_entry.TraceEntry.{TraceEntry}
 
 -- the lanes of a vector register below 32; else 0
 abbrev pub lanes_in : ℕ → List (List ℕ) → List ℕ
 lanes_in n file = if nat_lt n 32 then vector file n else replicate 8 0
 
--- the entry of a step of a word at an address, with an effect, which ended in the state t
-abbrev pub entry_made_of : ℕ → ℕ → Effect → State → TraceEntry
-entry_made_of pc word effect t = record {
+-- the entry of a step of a word at an address, by what it writes, which ended in the state t
+abbrev pub entry_made_of : ℕ → ℕ → Writes → State → TraceEntry
+entry_made_of pc word writes t = record {
   word = word;
-  value = register t.registers effect.scalar;
+  value = register t.registers writes.scalar;
   pc = pc;
-  address = effect.address;
+  address = writes.address;
   vco = vco t.flags;
   vcc = vcc t.flags;
   vce = mask_l t.flags.extra;
-  scalar = effect.scalar;
-  vector = effect.vector;
-  stored = if effect.stored then 1 else 0;
-  lanes = lanes_in effect.vector t.vectors;
+  scalar = writes.scalar;
+  vector = writes.vector;
+  stored = if writes.stored then 1 else 0;
+  lanes = lanes_in writes.vector t.vectors;
 }
 
 -- the entry of a step from s to t
 abbrev pub step_entry : State → State → TraceEntry
-step_entry s t = entry_made_of s.pc (word_at s.imem s.pc) (effect_of s) t
+step_entry s t = entry_made_of s.pc (word_at s.imem s.pc) (writes_of s) t
 
 -- the entries of the first n steps from s
 unfoldable pub trace_of : ℕ → State → List TraceEntry

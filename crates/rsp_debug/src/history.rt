@@ -3,7 +3,8 @@
 ghost use Rattle.std.specs.Prelude.{◌≡◌, ◌<◌, ◌≤◌, ◌+◌, ◌-◌, ◌⊎◌, ℕ, true, false, [], length, drop, slice_get, slice_index_or, option_copied, IfOk};
 ghost use Rattle.rsp_machine.specs.Step.{step_of};
 ghost use Rattle.rsp_machine.specs.Laws.{steps_of, done_steps};
-ghost use Rattle.rsp_machine.specs.Undo.{record_at, can_undo};
+ghost use Rattle.rsp_machine.specs.Undo.{record_at};
+ghost use Rattle.rsp_machine.specs.Footprint.{can_undo};
 ghost use Rattle.rsp_machine.specs.Until.{ends_after, refuses_at};
 ghost use Rattle.rsp_debug.specs.Calls.{IsAfter};
 ghost use Rattle.rsp_debug.specs.History.{history_after, history_after_steps};
@@ -53,7 +54,7 @@ fn previous_entry(n: usize, i: usize) -> usize
 fn can_undo(records: &[Record], made: usize) -> bool
     requires { made ≤ length records.now }
     ensures none { made ≡ 0 → result ≡ true }
-    ensures last { 0 < made → result ≡ can_undo (record_at records.now (made - 1)).change }
+    ensures last { 0 < made → result ≡ can_undo (record_at records.now (made - 1)).footprint }
 {
     made == 0 || records[made - 1].can_undo()
 }

@@ -19,7 +19,7 @@ use crate::stop::{Reason, Stop};
 use crate::trace_entry::{TraceEntry, entry_of};
 use crate::watches::Watches;
 use rsp_acc::Acc;
-use rsp_machine::{Effect, Machine, StepEnd};
+use rsp_machine::{Machine, StepEnd, Writes};
 
 /// Runs to breakpoints and watches, and writes an entry for each step.
 fn trace_to<A: Acc>(
@@ -44,11 +44,11 @@ fn trace_to<A: Acc>(
     while made < n && found.is_none() {
         let pc = machine.pc();
         let word = machine.imem().aligned_word(usize::from(pc));
-        let effect = Effect::of(machine);
+        let writes = Writes::of(machine);
         let StepEnd::Done = history.recorded_step(machine) else {
             break;
         };
-        out[made] = entry_of(pc, word, effect, machine);
+        out[made] = entry_of(pc, word, writes, machine);
         if tests {
             found = conditions.hit(machine);
         }

@@ -1,11 +1,10 @@
 // An entry of a trace.
 
 ghost use Rattle.std.specs.Prelude.{◌≡◌, ◌<◌};
-ghost use Rattle.rsp_loadstore.specs.Controls.{control_half};
 ghost use Rattle.rsp_debug.specs.Traces.{lanes_in, entry_made_of};
 
 use rsp_acc::Acc;
-use rsp_machine::{Effect, Machine};
+use rsp_machine::{Machine, Writes};
 
 /// What a step did, in plain numbers, as a log has them. Its bytes have no gaps: equal entries have equal bytes.
 #[repr(C)]
@@ -35,14 +34,6 @@ pub struct TraceEntry {
     pub lanes: [u16; 8],
 }
 
-/// Sixteen flags as a number: eight in bits 0 to 7, and eight in bits 8 to 15.
-#[inline(always)]
-fn control_half(low: &Mask8, high: &Mask8) -> u16
-    ensures { result ≡ control_half low.now high.now }
-{
-    low.bits() as u16 + high.bits() as u16 * 256
-}
-
 /// The lanes of vector register `n`, if that is below 32, else 0.
 #[inline(always)]
 fn lanes_in<A: Acc>(n: u8, machine: &Machine<A>) -> [u16; 8]
@@ -54,24 +45,24 @@ fn lanes_in<A: Acc>(n: u8, machine: &Machine<A>) -> [u16; 8]
     [0; 8]
 }
 
-/// The entry of a step of the word at an address, with this effect, which ended in this machine.
+/// The entry of a step of the word at an address, that wrote this and ended in this machine.
 #[inline(always)]
-pub fn entry_of<A: Acc>(pc: u16, word: u32, effect: Effect, machine: &Machine<A>) -> TraceEntry
-    requires { effect.scalar < 32 }
-    ensures { result ≡ entry_made_of pc word effect machine.now }
+pub fn entry_of<A: Acc>(pc: u16, word: u32, writes: Writes, machine: &Machine<A>) -> TraceEntry
+    requires { writes.scalar < 32 }
+    ensures { result ≡ entry_made_of pc word writes machine.now }
 {
     let flags = machine.flags();
     TraceEntry {
         word,
-        value: machine.reg(effect.scalar),
+        value: machine.reg(writes.scalar),
         pc,
-        address: effect.address,
+        address: writes.address,
         vco: flags.vco(),
         vcc: flags.vcc(),
         vce: flags.extra.bits(),
-        scalar: effect.scalar,
-        vector: effect.vector,
-        stored: if effect.stored { 1 } else { 0 },
-        lanes: lanes_in(effect.vector, machine),
+        scalar: writes.scalar,
+        vector: writes.vector,
+        stored: if writes.stored { 1 } else { 0 },
+        lanes: lanes_in(writes.vector, machine),
     }
 }

@@ -8,8 +8,8 @@ use Rattle.rsp_decode.specs.declared.scalar.MoveOp.TheVariants.{From, To}
 use Rattle.rsp_scalar.specs.Registers.{register}
 use Rattle.rsp_regs.specs.Sp.{Sp, after_register_write}
 use Rattle.rsp_machine.specs.State.{State}
-use Rattle.rsp_machine.specs.Undo.{change_of}
-use Rattle.rsp_machine.specs.Changes.{IsRanged}
+use Rattle.rsp_machine.specs.Footprint.{footprint_of}
+use Rattle.rsp_machine.specs.LoopTests.{IsRanged}
 use Rattle.rsp_machine.specs.ProgramCounters.{ProgramCounters, with_counters, counters_of}
 use Rattle.rsp_machine.specs.Host.{moved_in, moved_out}
 use Rattle.rsp_machine.specs.Vector.{moves_vector, moves_control}
@@ -64,10 +64,10 @@ sp_stays To rt n s =
     written_stays (n % 16 == 2) (n % 16 == 3) v (after_register_write n v s.sp) s
 
 -- nor does what an instruction changes depend on the places
-pub change_elsewhere : (i : Inst) (p : ProgramCounters) (s : State) → change_of i s ≡ change_of i (with_counters p s)
-unfolding change_of
-change_elsewhere Break p s = refl
-change_elsewhere _ p s = refl
+pub footprint_elsewhere : (i : Inst) (p : ProgramCounters) (s : State) → footprint_of i s ≡ footprint_of i (with_counters p s)
+unfolding footprint_of
+footprint_elsewhere Break p s = refl
+footprint_elsewhere _ p s = refl
 
 -- nor do the ranges of the vector unit tell
 pub ranged-at : (p : ProgramCounters) (s : State) → IsRanged s → IsRanged (with_counters p s)

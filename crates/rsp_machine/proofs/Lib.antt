@@ -5,9 +5,11 @@ pub mod Flagging
 pub mod Lows
 pub mod Undo
 pub mod OneStep
+pub mod Footprints
+pub mod Passing
 pub mod CountersApart
 pub mod LoopSteps
 pub mod Records
 pub mod Whole
 pub mod Copying
-pub mod Effects
+pub mod WrittenRegisters

@@ -14,10 +14,10 @@ use Rattle.rsp_machine.specs.Step.{after_single_step, step_by, step_of}
 use Rattle.rsp_machine.specs.Laws.{steps_of, done_steps, done_of}
 use Rattle.rsp_machine.specs.Undo.{after_instruction, after_step_from}
 use Rattle.rsp_machine.specs.Transfers.{starts_dma_at}
-use Rattle.rsp_machine.specs.Changes.{IsRanged, reached, after}
+use Rattle.rsp_machine.specs.LoopTests.{IsRanged, tests_in, state_after}
 use Rattle.rsp_machine.specs.Loop.{AreDone, IsInjective, HasRecorded, HaveRecorded, LoopEnd}
-use Rattle.rsp_machine.specs.declared.change.Change.{Change}
-use Rattle.rsp_machine.specs.declared.change.Reach.{Reach}
+use Rattle.rsp_machine.specs.declared.footprint.Footprint.{Footprint}
+use Rattle.rsp_machine.specs.declared.footprint.StepTests.{StepTests}
 use Rattle.rsp_machine.specs.declared.step.StepEnd.{StepEnd}
 use Rattle.rsp_machine.specs.declared.step.StepEnd.TheVariants.{Done, Halted, Reserved}
 use Rattle.rsp_machine.specs.Until.{may_store_at, ends_after, refuses_by, refuses_at, permitted}
@@ -99,30 +99,30 @@ stuck_done_all k n s t m h e =
     omega (arith, rest, done_add k (n - k) s, there, stuck_done (n - k) t e, m.done)
 
 -- What execute answers and leaves, of a machine s that isn't halted.
-pub record IsExecuted (refuses : MoveOp → ℕ → Bool) (w : ℕ) (s t : State) (r : Option Reach) : Type 0 where
+pub record IsExecuted (refuses : MoveOp → ℕ → Bool) (w : ℕ) (s t : State) (r : Option StepTests) : Type 0 where
   pub goes : s.sp.halted ≡ false
   pub word : w ≡ word_at s.imem s.pc
-  pub answer : r ≡ reached s (permitted refuses (inst_of w))
-  pub state : t ≡ after s (permitted refuses (inst_of w))
+  pub answer : r ≡ tests_in s (permitted refuses (inst_of w))
+  pub state : t ≡ state_after s (permitted refuses (inst_of w))
 
-pub executed-as : (refuses : MoveOp → ℕ → Bool) (w : ℕ) (p q : ProgramCounters) (l v : State) (r : Option Reach) → l.sp.halted ≡ false → w ≡ word_at l.imem p.pc
-    → r ≡ reached (with_counters p l) (permitted refuses (inst_of w)) → with_counters q v ≡ after (with_counters p l) (permitted refuses (inst_of w))
+pub executed-as : (refuses : MoveOp → ℕ → Bool) (w : ℕ) (p q : ProgramCounters) (l v : State) (r : Option StepTests) → l.sp.halted ≡ false → w ≡ word_at l.imem p.pc
+    → r ≡ tests_in (with_counters p l) (permitted refuses (inst_of w)) → with_counters q v ≡ state_after (with_counters p l) (permitted refuses (inst_of w))
     → IsExecuted refuses w (with_counters p l) (with_counters q v) r
 executed-as refuses w p q l v r goes word answer state = record { goes = goes; word = word; answer = answer; state = state }
 
 -- what is executed isn't refused, so it is the instruction of the word
-allowed_by : (refused : Bool) (o : Option Inst) (s : State) (r : Option Reach) (e : Reach) → r ≡ reached s (cond refused None o) → r ≡ Some e → refused ≡ false
+allowed_by : (refused : Bool) (o : Option Inst) (s : State) (r : Option StepTests) (e : StepTests) → r ≡ tests_in s (cond refused None o) → r ≡ Some e → refused ≡ false
 allowed_by true o s r e answer some = cc
 allowed_by false o s r e answer some = refl
 
-allowed : (refuses : MoveOp → ℕ → Bool) (w : ℕ) (s t : State) (r : Option Reach) (e : Reach) → IsExecuted refuses w s t r → r ≡ Some e → refuses_by refuses (inst_of w) ≡ false
+allowed : (refuses : MoveOp → ℕ → Bool) (w : ℕ) (s t : State) (r : Option StepTests) (e : StepTests) → IsExecuted refuses w s t r → r ≡ Some e → refuses_by refuses (inst_of w) ≡ false
 allowed refuses w s t r e h some = allowed_by (refuses_by refuses (inst_of w)) (inst_of w) s r e h.answer some
 
-permitted_is : (refuses : MoveOp → ℕ → Bool) (w : ℕ) (s t : State) (r : Option Reach) (e : Reach) → IsExecuted refuses w s t r → r ≡ Some e → permitted refuses (inst_of w) ≡ inst_of w
+permitted_is : (refuses : MoveOp → ℕ → Bool) (w : ℕ) (s t : State) (r : Option StepTests) (e : StepTests) → IsExecuted refuses w s t r → r ≡ Some e → permitted refuses (inst_of w) ≡ inst_of w
 permitted_is refuses w s t r e h some = ap (λ b. cond b None (inst_of w)) (allowed refuses w s t r e h some)
 
 -- and in which state the step then ends
-pub record IsTurn (refuses : MoveOp → ℕ → Bool) (w : ℕ) (s t u : State) (r : Option Reach) (e : Reach) (single : Bool) : Type 0 where
+pub record IsTurn (refuses : MoveOp → ℕ → Bool) (w : ℕ) (s t u : State) (r : Option StepTests) (e : StepTests) (single : Bool) : Type 0 where
   pub executed : IsExecuted refuses w s t r
   pub some : r ≡ Some e
   pub clear : single ≡ false → s.sp.single_step ≡ false
@@ -132,8 +132,8 @@ ended_at : (b : Bool) (p : ProgramCounters) (s t : State) → s ≡ (if b then a
 ended_at true p s t e = ap (with_counters p) e
 ended_at false p s t e = ap (with_counters p) e
 
-pub turn-of : (refuses : MoveOp → ℕ → Bool) (w : ℕ) (p q : ProgramCounters) (l v m : State) (r : Option Reach) (e : Reach) (single : Bool) → l.sp.halted ≡ false → w ≡ word_at l.imem p.pc
-    → r ≡ reached (with_counters p l) (permitted refuses (inst_of w)) → with_counters q v ≡ after (with_counters p l) (permitted refuses (inst_of w)) → r ≡ Some e
+pub turn-of : (refuses : MoveOp → ℕ → Bool) (w : ℕ) (p q : ProgramCounters) (l v m : State) (r : Option StepTests) (e : StepTests) (single : Bool) → l.sp.halted ≡ false → w ≡ word_at l.imem p.pc
+    → r ≡ tests_in (with_counters p l) (permitted refuses (inst_of w)) → with_counters q v ≡ state_after (with_counters p l) (permitted refuses (inst_of w)) → r ≡ Some e
     → (single ≡ false → l.sp.single_step ≡ false) → m ≡ (if e.sp || single then after_single_step v else v)
     → IsTurn refuses w (with_counters p l) (with_counters q v) (with_counters q m) r e single
 turn-of refuses w p q l v m r e single goes word answer state some clear ended = record {
@@ -163,12 +163,12 @@ stops-by false true true goes r e f = inl refl
 stops-by false true false goes r e f = inr (sym e ∙ f)
 stops-by false false halted goes r e f = cc
 
-module _ (refuses : MoveOp → ℕ → Bool) (w : ℕ) (s t u : State) (r : Option Reach) (e : Reach) (single : Bool) (h : IsTurn refuses w s t u r e single) where
-  turn_answer : Some e ≡ reached s (inst_of w)
-  turn_answer = sym h.some ∙ h.executed.answer ∙ ap (reached s) (permitted_is refuses w s t r e h.executed h.some)
+module _ (refuses : MoveOp → ℕ → Bool) (w : ℕ) (s t u : State) (r : Option StepTests) (e : StepTests) (single : Bool) (h : IsTurn refuses w s t u r e single) where
+  turn_answer : Some e ≡ tests_in s (inst_of w)
+  turn_answer = sym h.some ∙ h.executed.answer ∙ ap (tests_in s) (permitted_is refuses w s t r e h.executed h.some)
 
-  turn_state : t ≡ after s (inst_of w)
-  turn_state = h.executed.state ∙ ap (after s) (permitted_is refuses w s t r e h.executed h.some)
+  turn_state : t ≡ state_after s (inst_of w)
+  turn_state = h.executed.state ∙ ap (state_after s) (permitted_is refuses w s t r e h.executed h.some)
 
   pub turn-permitted : refuses_at refuses s ≡ false
   unfolding refuses_at
@@ -227,7 +227,7 @@ permitted-more refuses o s k n j before there here more less = elim (cases_lt j 
 ]
 
 -- a reserved word and a refused move change nothing
-unreached : (o : Option Inst) (s : State) → None ≡ reached s o → after s o ≡ s
+unreached : (o : Option Inst) (s : State) → None ≡ tests_in s o → state_after s o ≡ s
 unreached None s h = refl
 unreached (Some i) s h = cc
 
@@ -237,12 +237,12 @@ refused_at refuses w s t word same refused =
     ap (λ (x : State). refuses_by refuses (inst_of (word_at x.imem x.pc))) same ∙ ap (λ v. refuses_by refuses (inst_of v)) (sym word) ∙ refused
 
 none_by : (refuses : MoveOp → ℕ → Bool) (w : ℕ) (s t : State) (refused : Bool) → s.sp.halted ≡ false → w ≡ word_at s.imem s.pc → refuses_by refuses (inst_of w) ≡ refused
-    → None ≡ reached s (cond refused None (inst_of w)) → t ≡ after s (cond refused None (inst_of w)) → t ≡ s → (done_steps (step_of t).0 ≡ 0) ⊎ (refuses_at refuses t ≡ true)
+    → None ≡ tests_in s (cond refused None (inst_of w)) → t ≡ state_after s (cond refused None (inst_of w)) → t ≡ s → (done_steps (step_of t).0 ≡ 0) ⊎ (refuses_at refuses t ≡ true)
 none_by refuses w s t true goes word refused answer state same = inr (refused_at refuses w s t word same refused)
 none_by refuses w s t false goes word refused answer state same =
     inl (ap (λ (x : State). done_steps (step_of x).0) same ∙ ap (λ x. done_steps x.0) (step_reserved w s t goes word answer state))
 
-pub executed-none : (refuses : MoveOp → ℕ → Bool) (w : ℕ) (s t : State) (r : Option Reach) → IsExecuted refuses w s t r → r ≡ None
+pub executed-none : (refuses : MoveOp → ℕ → Bool) (w : ℕ) (s t : State) (r : Option StepTests) → IsExecuted refuses w s t r → r ≡ None
     → (t ≡ s) × ((done_steps (step_of t).0 ≡ 0) ⊎ (refuses_at refuses t ≡ true))
 executed-none refuses w s t r h is =
     let answer = sym is ∙ h.answer in
@@ -350,22 +350,22 @@ slice_get-set_other (y ∷ ys) zero (suc j) x h = refl
 slice_get-set_other (y ∷ ys) (suc i) (suc j) x h = slice_get-set_other ys i j x (λ e. h (ap suc e))
 
 -- what a step tells: of an instruction, and nothing of a reserved word or a refused move
-told_running : {K : Type 0} (saves : Change → State → K → K) (b : Bool) (o : Option Inst) (s : State) (k : K) → b ≡ false → after_instruction saves o s k ≡ (if b then k else after_instruction saves o s k)
+told_running : {K : Type 0} (saves : Footprint → State → K → K) (b : Bool) (o : Option Inst) (s : State) (k : K) → b ≡ false → after_instruction saves o s k ≡ (if b then k else after_instruction saves o s k)
 told_running saves true o s k h = cc
 told_running saves false o s k h = refl
 
-told-running : {K : Type 0} (saves : Change → State → K → K) (w : ℕ) (s : State) (k x : K) → s.sp.halted ≡ false → w ≡ word_at s.imem s.pc → x ≡ after_instruction saves (inst_of w) s k → x ≡ after_step_from saves s k
+told-running : {K : Type 0} (saves : Footprint → State → K → K) (w : ℕ) (s : State) (k x : K) → s.sp.halted ≡ false → w ≡ word_at s.imem s.pc → x ≡ after_instruction saves (inst_of w) s k → x ≡ after_step_from saves s k
 unfolding after_step_from
 told-running saves w s k x goes word e = e ∙ ap (λ v. after_instruction saves (inst_of v) s k) word ∙ told_running saves s.sp.halted (inst_of (word_at s.imem s.pc)) s k goes
 
-told_nothing : {K : Type 0} (saves : Change → State → K → K) (o : Option Inst) (s : State) (k : K) → None ≡ reached s o → after_instruction saves o s k ≡ k
+told_nothing : {K : Type 0} (saves : Footprint → State → K → K) (o : Option Inst) (s : State) (k : K) → None ≡ tests_in s o → after_instruction saves o s k ≡ k
 told_nothing saves None s k h = refl
 told_nothing saves (Some i) s k h = cc
 
-pub told-nothing : {K : Type 0} (saves : Change → State → K → K) (o : Option Inst) (s : State) (xs : List K) (j : ℕ) (d x : K) → None ≡ reached s o → x ≡ after_instruction saves o s (get_or xs j d) → set xs j x ≡ xs
+pub told-nothing : {K : Type 0} (saves : Footprint → State → K → K) (o : Option Inst) (s : State) (xs : List K) (j : ℕ) (d x : K) → None ≡ tests_in s o → x ≡ after_instruction saves o s (get_or xs j d) → set xs j x ≡ xs
 told-nothing saves o s xs j d x none e = ap (set xs j) (e ∙ told_nothing saves o s (get_or xs j d) none) ∙ set-get_or xs j d
 
-module _ {K : Type 0} (saves : Change → State → K → K) (slot : ℕ → ℕ) where
+module _ {K : Type 0} (saves : Footprint → State → K → K) (slot : ℕ → ℕ) where
   pub told-none : (s : State) (old : List K) → HaveRecorded saves slot 0 s old old
   told-none s old = record { told = λ each i h. absurd (omega (arith, h)); rest = λ j h. refl; len = refl }
 
@@ -393,7 +393,7 @@ module _ {K : Type 0} (saves : Change → State → K → K) (slot : ℕ → ℕ
       }
 
   -- by a turn
-  pub turn-told : (refuses : MoveOp → ℕ → Bool) (w k j : ℕ) (o s t : State) (r : Option Reach) (e : Reach) (old new : List K) (x before : K) → IsExecuted refuses w s t r → r ≡ Some e → AreDone k o s
+  pub turn-told : (refuses : MoveOp → ℕ → Bool) (w k j : ℕ) (o s t : State) (r : Option StepTests) (e : StepTests) (old new : List K) (x before : K) → IsExecuted refuses w s t r → r ≡ Some e → AreDone k o s
       → HaveRecorded saves slot k o old new → j ≡ slot k → j < length new → x ≡ after_instruction saves (permitted refuses (inst_of w)) s before → IsRanged s
       → HaveRecorded saves slot (k + 1) o old (set new j x)
   turn-told refuses w k j o s t r e old new x before h some run a at inside told ranged =

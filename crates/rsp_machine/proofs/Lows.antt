@@ -29,7 +29,7 @@ use Rattle.rsp_compare.specs.Logic.{logic_rule}
 use Rattle.rsp_loadstore.specs.File.{vector, IsFile}
 use Rattle.rsp_machine.specs.State.{State}
 use Rattle.rsp_machine.specs.Undo.{with_low_of}
-use Rattle.rsp_machine.specs.Changes.{IsRanged}
+use Rattle.rsp_machine.specs.LoopTests.{IsRanged}
 
 -- an outcome, and each outcome of a rule, has sixteen bits for the low accumulator
 pub record IsSixteen (x : Outcome) : Type 0 where

@@ -12,13 +12,13 @@ use Rattle.rsp_machine.specs.Vector.{multiplies, rounds, multiplies_mpeg, reads_
 use Rattle.rsp_machine.specs.Step.{computes, loads, stores, jumps, instruction_effect, executed, after_single_step, step_by, step_of}
 use Rattle.rsp_machine.specs.declared.step.StepEnd.TheVariants.{Done, Halted, Reserved}
 use Rattle.rsp_machine.specs.Transfers.{starts_dma, starts_dma_in, starts_dma_at}
-use Rattle.rsp_machine.specs.declared.change.Change.TheVariants as of
+use Rattle.rsp_machine.specs.declared.footprint.Footprint.TheVariants as of
 use Rattle.rsp_regs.specs.Sp.{is_length_register}
-use Rattle.rsp_machine.specs.Undo.{change_of, can_undo}
-use Rattle.rsp_machine.specs.Changes.{reaches_sp, reach_of, reached, after}
+use Rattle.rsp_machine.specs.Footprint.{footprint_of, can_undo, reaches_sp}
+use Rattle.rsp_machine.specs.LoopTests.{tests_of, tests_in, state_after}
 use Rattle.rsp_machine.specs.Until.{may_store_by, may_store_at}
-use Rattle.rsp_machine.specs.declared.change.Change.{Change}
-use Rattle.rsp_machine.specs.declared.change.Reach.{Reach}
+use Rattle.rsp_machine.specs.declared.footprint.Footprint.{Footprint}
+use Rattle.rsp_machine.specs.declared.footprint.StepTests.{StepTests}
 use Rattle.rsp_machine.proofs.Undo.{dma_of}
 
 -- an instruction that doesn't reach the SP registers leaves them
@@ -26,8 +26,8 @@ dma_reaches : (b : Bool) (X : Type 0) → reaches_sp (if b then of.Dma else of.S
 dma_reaches true X h = cc
 dma_reaches false X h = cc
 
-leaves : (i : Inst) (s : State) → reaches_sp (change_of i s) ≡ false → (executed i s).sp ≡ s.sp
-unfolding change_of executed instruction_effect computes loads stores jumps multiplies rounds multiplies_mpeg reads_accumulator ruled divides loads_vector stores_vector moves_vector moves_control
+pub leaves : (i : Inst) (s : State) → reaches_sp (footprint_of i s) ≡ false → (executed i s).sp ≡ s.sp
+unfolding footprint_of executed instruction_effect computes loads stores jumps multiplies rounds multiplies_mpeg reads_accumulator ruled divides loads_vector stores_vector moves_vector moves_control
 leaves Break s h = cc
 leaves (MoveSp From rt n) s h = cc
 leaves (MoveSp To rt n) s h = dma_reaches (is_length_register n) ((executed (MoveSp To rt n) s).sp ≡ s.sp) h
@@ -40,9 +40,9 @@ leaves _ s h = refl
 some_is : {X : Type 0} (x y : X) → Some x ≡ Some y → x ≡ y
 some_is x y e = cc
 
-pub stays : (o : Option Inst) (s t : State) (e : Reach) → e.sp ≡ false → Some e ≡ reached s o → t ≡ after s o → t.sp ≡ s.sp
+pub stays : (o : Option Inst) (s t : State) (e : StepTests) → e.sp ≡ false → Some e ≡ tests_in s o → t ≡ state_after s o → t.sp ≡ s.sp
 stays None s t e none h there = cc
-stays (Some i) s t e none h there = ap (λ (x : State). x.sp) there ∙ leaves i s (ap (λ (x : Reach). x.sp) (sym (some_is _ _ h)) ∙ none)
+stays (Some i) s t e none h there = ap (λ (x : State). x.sp) there ∙ leaves i s (ap (λ (x : StepTests). x.sp) (sym (some_is _ _ h)) ∙ none)
 
 pub halted_as : (s t : State) → s.sp.halted ≡ false → t.sp ≡ s.sp → false ≡ t.sp.halted
 halted_as s t h e = sym (ap (λ (p : Sp). p.halted) e ∙ h)
@@ -52,29 +52,29 @@ pub not_back : (b d : Bool) → b ≡ not d → not b ≡ d
 not_back b true e = ap not e
 not_back b false e = ap not e
 
-dma_by : (o : Option Inst) (s : State) (e : Reach) → Some e ≡ reached s o → e.dma ≡ starts_dma_in o
+dma_by : (o : Option Inst) (s : State) (e : StepTests) → Some e ≡ tests_in s o → e.dma ≡ starts_dma_in o
 dma_by None s e h = cc
-dma_by (Some i) s e h = ap (λ (x : Reach). x.dma) (some_is _ _ h) ∙ not_back (can_undo (change_of i s)) (starts_dma i) (dma_of i s)
+dma_by (Some i) s e h = ap (λ (x : StepTests). x.dma) (some_is _ _ h) ∙ not_back (can_undo (footprint_of i s)) (starts_dma i) (dma_of i s)
 
-pub dma-as : (w : ℕ) (s : State) (e : Reach) → w ≡ word_at s.imem s.pc → Some e ≡ reached s (inst_of w) → e.dma ≡ starts_dma_at s
+pub dma-as : (w : ℕ) (s : State) (e : StepTests) → w ≡ word_at s.imem s.pc → Some e ≡ tests_in s (inst_of w) → e.dma ≡ starts_dma_at s
 unfolding starts_dma_at
 dma-as w s e is h = dma_by (inst_of w) s e h ∙ ap (λ v. starts_dma_in (inst_of v)) is
 
-no_dma : (c : Change) → reaches_sp c ≡ false → not (can_undo c) ≡ false
+no_dma : (c : Footprint) → reaches_sp c ≡ false → not (can_undo c) ≡ false
 no_dma of.Dma h = cc
 no_dma _ h = refl
 
-pub dma-free : (o : Option Inst) (s : State) (e : Reach) → Some e ≡ reached s o → e.sp ≡ false → e.dma ≡ false
+pub dma-free : (o : Option Inst) (s : State) (e : StepTests) → Some e ≡ tests_in s o → e.sp ≡ false → e.dma ≡ false
 dma-free None s e h none = cc
 dma-free (Some i) s e h none =
-    let same = some_is e (reach_of (change_of i s)) h in
-    ap (λ (x : Reach). x.dma) same ∙ no_dma (change_of i s) (ap (λ (x : Reach). x.sp) (sym same) ∙ none)
+    let same = some_is e (tests_of (footprint_of i s)) h in
+    ap (λ (x : StepTests). x.dma) same ∙ no_dma (footprint_of i s) (ap (λ (x : StepTests). x.sp) (sym same) ∙ none)
 
-stored_by : (o : Option Inst) (s : State) (e : Reach) → Some e ≡ reached s o → e.dmem ≡ may_store_by o s
+stored_by : (o : Option Inst) (s : State) (e : StepTests) → Some e ≡ tests_in s o → e.dmem ≡ may_store_by o s
 stored_by None s e h = cc
-stored_by (Some i) s e h = ap (λ (x : Reach). x.dmem) (some_is _ _ h)
+stored_by (Some i) s e h = ap (λ (x : StepTests). x.dmem) (some_is _ _ h)
 
-pub stored-as : (w : ℕ) (s : State) (e : Reach) → w ≡ word_at s.imem s.pc → Some e ≡ reached s (inst_of w) → e.dmem ≡ may_store_at s
+pub stored-as : (w : ℕ) (s : State) (e : StepTests) → w ≡ word_at s.imem s.pc → Some e ≡ tests_in s (inst_of w) → e.dmem ≡ may_store_at s
 unfolding may_store_at
 stored-as w s e is h = stored_by (inst_of w) s e h ∙ ap (λ v. may_store_by (inst_of v) s) is
 
@@ -118,20 +118,20 @@ running : (b : Bool) (o : Option Inst) (w : ℕ) (s : State) → b ≡ false →
 running true o w s h = cc
 running false o w s h = refl
 
-reserved : (o : Option Inst) (w : ℕ) (s t : State) → reached s o ≡ None → t ≡ after s o → step_by o w s ≡ (Reserved w, t)
+reserved : (o : Option Inst) (w : ℕ) (s t : State) → tests_in s o ≡ None → t ≡ state_after s o → step_by o w s ≡ (Reserved w, t)
 reserved None w s t h e = ap (λ (x : State). (Reserved w, x)) (sym e)
 reserved (Some i) w s t h e = cc
 
-done : (o : Option Inst) (w : ℕ) (s t : State) (e : Reach) → reached s o ≡ Some e → t ≡ after s o → step_by o w s ≡ (Done, after_single_step t)
+done : (o : Option Inst) (w : ℕ) (s t : State) (e : StepTests) → tests_in s o ≡ Some e → t ≡ state_after s o → step_by o w s ≡ (Done, after_single_step t)
 done None w s t e h there = cc
 done (Some i) w s t e h there = ap (λ (x : State). (Done, after_single_step x)) (sym there)
 
-pub step_reserved : (w : ℕ) (s t : State) → s.sp.halted ≡ false → w ≡ word_at s.imem s.pc → None ≡ reached s (inst_of w) → t ≡ after s (inst_of w)
+pub step_reserved : (w : ℕ) (s t : State) → s.sp.halted ≡ false → w ≡ word_at s.imem s.pc → None ≡ tests_in s (inst_of w) → t ≡ state_after s (inst_of w)
     → step_of s ≡ (Reserved w, t)
 unfolding step_of
 step_reserved w s t h e r there = rw (← e) (running s.sp.halted (inst_of w) w s h ∙ reserved (inst_of w) w s t (sym r) there)
 
-pub step_done : (w : ℕ) (s t : State) (e : Reach) → s.sp.halted ≡ false → w ≡ word_at s.imem s.pc → Some e ≡ reached s (inst_of w) → t ≡ after s (inst_of w)
+pub step_done : (w : ℕ) (s t : State) (e : StepTests) → s.sp.halted ≡ false → w ≡ word_at s.imem s.pc → Some e ≡ tests_in s (inst_of w) → t ≡ state_after s (inst_of w)
     → step_of s ≡ (Done, after_single_step t)
 unfolding step_of
 step_done w s t e h is r there = rw (← is) (running s.sp.halted (inst_of w) w s h ∙ done (inst_of w) w s t e (sym r) there)

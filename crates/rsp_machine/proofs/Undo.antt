@@ -26,12 +26,13 @@ use Rattle.rsp_machine.specs.Step.{computes, loads, stores, jumps, break_instruc
 use Rattle.rsp_machine.specs.Host.{register_written}
 use Rattle.rsp_machine.specs.declared.step.StepEnd.TheVariants.{Done, Halted}
 use Rattle.rsp_regs.specs.Sp.{is_length_register}
-use Rattle.rsp_machine.specs.Undo.{Saved, record_of, values_saved, restored, change_of, undone, after_instruction, after_step_from, can_undo, changes_memory}
-use Rattle.rsp_machine.specs.Changes.{IsRanged}
+use Rattle.rsp_machine.specs.Undo.{Saved, record_of, values_saved, restored, undone, after_instruction, after_step_from}
+use Rattle.rsp_machine.specs.Footprint.{footprint_of, can_undo, changes_memory}
+use Rattle.rsp_machine.specs.LoopTests.{IsRanged}
 use Rattle.rsp_machine.specs.Transfers.{starts_dma, starts_dma_in, starts_dma_at}
 use Rattle.rsp_machine.specs.Until.{may_store_by, may_store_at}
-use Rattle.rsp_machine.specs.declared.change.Change.{Change}
-use Rattle.rsp_machine.specs.declared.change.Change.TheVariants as of
+use Rattle.rsp_machine.specs.declared.footprint.Footprint.{Footprint}
+use Rattle.rsp_machine.specs.declared.footprint.Footprint.TheVariants as of
 use Rattle.rsp_machine.proofs.Undoing.{register-back, vector-back, store-back}
 use Rattle.rsp_machine.proofs.Loading.{loaded-back, put_back}
 use Rattle.rsp_machine.proofs.Flagging.{sum-back, merge-back, choice-back, logic-back}
@@ -82,8 +83,8 @@ load_back true vt v s r h e = vectors_same s _ h e
 load_back false vt v s r h e = vectors_same s _ h e
 
 -- any instruction that starts no DMA
-saved_back : (i : Inst) (s : State) (r : Saved) → starts_dma i ≡ false → s.sp.halted ≡ false → IsRanged s → undone (record_of (change_of i s) s r) (after_single_step (executed i s)) ≡ s
-unfolding undone record_of values_saved restored after_step change_of executed instruction_effect computes loads stores jumps break_instruction moves_sp multiplies rounds multiplies_mpeg reads_accumulator ruled divides loads_vector stores_vector moves_vector moves_control file_after_load memory_after_store file_after_move
+pub saved_back : (i : Inst) (s : State) (r : Saved) → starts_dma i ≡ false → s.sp.halted ≡ false → IsRanged s → undone (record_of (footprint_of i s) s r) (after_single_step (executed i s)) ≡ s
+unfolding undone record_of values_saved restored after_step footprint_of executed instruction_effect computes loads stores jumps break_instruction moves_sp multiplies rounds multiplies_mpeg reads_accumulator ruled divides loads_vector stores_vector moves_vector moves_control file_after_load memory_after_store file_after_move
 saved_back (Shift row rd rt amount) s r e h k = registers_same s _ h (register-back s.registers rd _)
 saved_back (ShiftBy row f) s r e h k = registers_same s _ h (register-back s.registers f.rd _)
 saved_back (Register row f) s r e h k = registers_same s _ h (register-back s.registers f.rd _)
@@ -143,10 +144,10 @@ unfolding after_step_from step_of starts_dma_at
 record-back s r k done e = back_by s.sp.halted (inst_of (word_at s.imem s.pc)) (word_at s.imem s.pc) s r refl k done e
 
 -- a record has the change of its step
-change_kept : (change : Change) (s : State) (r : Saved) → (record_of change s r).change ≡ change
+footprint_kept : (change : Footprint) (s : State) (r : Saved) → (record_of change s r).footprint ≡ change
 unfolding record_of values_saved
-change_kept of.ProgramCounters s r = refl
-change_kept _ s r = refl
+footprint_kept of.ProgramCounters s r = refl
+footprint_kept _ s r = refl
 
 load_undone : (group : Bool) (vt : ℕ) → can_undo (if group then of.Group (vt - vt % 8) else of.Vector vt) ≡ true
 load_undone true vt = refl
@@ -157,8 +158,8 @@ write_undone true = refl
 write_undone false = refl
 
 -- an instruction's change says whether the instruction starts a DMA
-pub dma_of : (i : Inst) (s : State) → can_undo (change_of i s) ≡ not (starts_dma i)
-unfolding change_of
+pub dma_of : (i : Inst) (s : State) → can_undo (footprint_of i s) ≡ not (starts_dma i)
+unfolding footprint_of
 dma_of (BranchSign Bltz rs offset) s = refl
 dma_of (BranchSign Bgez rs offset) s = refl
 dma_of (BranchSign Bltzal rs offset) s = refl
@@ -178,12 +179,12 @@ dma_of _ s = refl
 
 -- and so does the record of a step that is Done
 dma_by : (b : Bool) (o : Option Inst) (word : ℕ) (s : State) (r : Saved) → (if b then (Halted, s) else step_by o word s).0 ≡ Done
-    → can_undo (if b then r else after_instruction record_of o s r).change ≡ not (starts_dma_in o)
+    → can_undo (if b then r else after_instruction record_of o s r).footprint ≡ not (starts_dma_in o)
 dma_by true o word s r e = cc
 dma_by false None word s r e = cc
-dma_by false (Some i) word s r e = ap can_undo (change_kept (change_of i s) s r) ∙ dma_of i s
+dma_by false (Some i) word s r e = ap can_undo (footprint_kept (footprint_of i s) s r) ∙ dma_of i s
 
-pub record-dma : (s : State) (r : Saved) → (step_of s).0 ≡ Done → can_undo (after_step_from record_of s r).change ≡ not (starts_dma_at s)
+pub record-dma : (s : State) (r : Saved) → (step_of s).0 ≡ Done → can_undo (after_step_from record_of s r).footprint ≡ not (starts_dma_at s)
 unfolding after_step_from step_of starts_dma_at
 record-dma s r e = dma_by s.sp.halted (inst_of (word_at s.imem s.pc)) (word_at s.imem s.pc) s r e
 
@@ -192,8 +193,8 @@ written_stays : (b : Bool) (v n : ℕ) (s : State) → is_length_register n ≡ 
 written_stays true v n s e h = cc
 written_stays false v n s e h = ap (λ t. t.dmem) (no_dma n v (advanced s) e)
 
-dmem_stays : (i : Inst) (s : State) → changes_memory (change_of i s) ≡ false → (executed i s).dmem ≡ s.dmem
-unfolding change_of executed instruction_effect computes loads stores jumps break_instruction moves_sp multiplies rounds multiplies_mpeg reads_accumulator ruled divides loads_vector stores_vector moves_vector moves_control
+dmem_stays : (i : Inst) (s : State) → changes_memory (footprint_of i s) ≡ false → (executed i s).dmem ≡ s.dmem
+unfolding footprint_of executed instruction_effect computes loads stores jumps break_instruction moves_sp multiplies rounds multiplies_mpeg reads_accumulator ruled divides loads_vector stores_vector moves_vector moves_control
 dmem_stays (Store row f) s h = cc
 dmem_stays (VectorStore row f) s h = cc
 dmem_stays (MoveSp From rt n) s h = refl

@@ -5,12 +5,14 @@ pub mod Vector
 pub mod Host
 pub mod Step
 pub mod Laws
+pub mod Footprint
 pub mod Undo
-pub mod Changes
+pub mod LoopTests
 pub mod ProgramCounters
 pub mod Loop
 pub mod Registers
-pub mod Effects
+pub mod Writes
+pub mod Footprints
 pub mod Transfers
 pub mod Pass
 pub mod Until

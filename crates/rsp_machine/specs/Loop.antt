@@ -3,12 +3,13 @@ use Rattle.std.specs.Prelude.{ℕ, ◌≡◌, ◌≢◌, ◌<◌, ◌≤◌, ◌
 use Rattle.rsp_machine.specs.State.{State}
 use Rattle.rsp_machine.specs.Step.{step_of}
 use Rattle.rsp_machine.specs.Laws.{steps_of, done_steps, done_of}
-use Rattle.rsp_machine.specs.Undo.{Saved, after_step_from, can_undo, record_at, undone}
+use Rattle.rsp_machine.specs.Undo.{Saved, after_step_from, record_at, undone}
+use Rattle.rsp_machine.specs.Footprint.{can_undo}
 use Rattle.rsp_machine.specs.Transfers.{starts_dma_at}
-use Rattle.rsp_machine.specs.Changes.{IsRanged}
+use Rattle.rsp_machine.specs.LoopTests.{IsRanged}
 use Rattle.rsp_decode.specs.declared.scalar.MoveOp.{MoveOp}
 use Rattle.rsp_machine.specs.Until.{ends_after, refuses_at}
-use Rattle.rsp_machine.specs.declared.change.Change.{Change}
+use Rattle.rsp_machine.specs.declared.footprint.Footprint.{Footprint}
 
 -- k steps lead from s to t, and all are Done
 pub record AreDone (k : ℕ) (s t : State) : Type 0 where
@@ -20,13 +21,13 @@ abbrev pub IsInjective : (ℕ → ℕ) → Type 0
 IsInjective slot = (i j : ℕ) → slot i ≡ slot j → i ≡ j
 
 -- a recorder got the step from s
-pub record HasRecorded {K : Type 0} (saves : Change → State → K → K) (s : State) (o : Option K) : Type 0 where
+pub record HasRecorded {K : Type 0} (saves : Footprint → State → K → K) (s : State) (o : Option K) : Type 0 where
   pub before : K
   pub told : o ≡ Some (after_step_from saves s before)
   pub ranged : IsRanged s
 
 -- The recorders after k steps from s: those of the steps have saved, and no other has changed.
-pub record HaveRecorded {K : Type 0} (saves : Change → State → K → K) (slot : ℕ → ℕ) (k : ℕ) (s : State) (old new : List K) : Type 0 where
+pub record HaveRecorded {K : Type 0} (saves : Footprint → State → K → K) (slot : ℕ → ℕ) (k : ℕ) (s : State) (old new : List K) : Type 0 where
   pub told : IsInjective slot → (i : ℕ) → i < k → HasRecorded saves (steps_of i s) (slice_get new (slot i))
   pub rest : (j : ℕ) → ((i : ℕ) → i < k → slot i ≢ j) → slice_get new j ≡ slice_get old j
   pub len : length new ≡ length old
@@ -43,7 +44,7 @@ pub record AreRecorded (k : ℕ) (s t : State) (old new : List Saved) : Type 0 w
   pub within : k ≤ length old
   pub made : AreDone k s t
   pub before : (i : ℕ) → i + 1 < k → starts_dma_at (steps_of i s) ≡ false
-  pub which : (i : ℕ) → i < k → can_undo (record_at new i).change ≡ not (starts_dma_at (steps_of i s))
+  pub which : (i : ℕ) → i < k → can_undo (record_at new i).footprint ≡ not (starts_dma_at (steps_of i s))
   pub back : (i : ℕ) → i < k → starts_dma_at (steps_of i s) ≡ false → undone (record_at new i) (steps_of (i + 1) s) ≡ steps_of i s
   pub rest : drop k new ≡ drop k old
   pub len : length new ≡ length old

@@ -1,14 +1,6 @@
 -- What a record saves of the state before a step, and how it undoes the step: for the debugger. What an instruction does is in Step.
-use Rattle.std.specs.Prelude.{ℕ, ℤ, pos, ◌+◌, ◌-◌, ◌%◌, ◌==◌, ◌||◌, Bool, true, false, if◌then◌else◌, List, [], ◌∷◌, Option, Some, None, replicate, slice_index_or}
+use Rattle.std.specs.Prelude.{ℕ, ℤ, pos, ◌+◌, false, if◌then◌else◌, List, [], ◌∷◌, Option, Some, None, replicate, slice_index_or}
 use Rattle.rsp_decode.specs.declared.inst.Inst.{Inst}
-use Rattle.rsp_decode.specs.declared.inst.Inst.TheVariants.{Shift, ShiftBy, JumpRegister, JumpLinkRegister, Break, Register, BranchSign, BranchEqual, Jump, Immediate, LoadUpper, Load, Store, MoveSp, MoveVector, MoveControl, Multiply, Round, MpegMultiply, ReadAccumulator, VectorAdd, VectorSelect, VectorClip, VectorMerge, VectorLogic, Divide, Idle, VectorLoad, VectorStore}
-use Rattle.rsp_decode.specs.declared.scalar.MoveOp.{MoveOp}
-use Rattle.rsp_decode.specs.declared.scalar.MoveOp.TheVariants.{From, To}
-use Rattle.rsp_decode.specs.declared.scalar.BranchSignOp.{BranchSignOp}
-use Rattle.rsp_decode.specs.declared.scalar.BranchSignOp.TheVariants.{Bltzal, Bgezal}
-use Rattle.rsp_decode.specs.declared.scalar.JumpOp.{JumpOp}
-use Rattle.rsp_decode.specs.declared.scalar.JumpOp.TheVariants.{Jal}
-use Rattle.rsp_decode.specs.declared.vector.VectorLoadOp.{VectorLoadOp}
 use Rattle.rsp_decode.specs.Table.{inst_of}
 use Rattle.rsp_lanes.specs.Lanes.{each_lane}
 use Rattle.rsp_lanes.specs.declared.flags.Flags.{Flags}
@@ -17,20 +9,18 @@ use Rattle.rsp_acc.specs.Planes.{with_low, low_lanes}
 use Rattle.rsp_divide.specs.declared.divider.Divider.{Divider}
 use Rattle.rsp_divide.specs.Dividers.{no_divider}
 use Rattle.rsp_memory.specs.Memory.{word_at, bytes_at, with_bytes}
-use Rattle.rsp_regs.specs.Sp.{Sp, start, is_length_register}
+use Rattle.rsp_regs.specs.Sp.{Sp, start}
 use Rattle.rsp_scalar.specs.Registers.{register, with_register}
-use Rattle.rsp_scalar.specs.ScalarRules.{address}
 use Rattle.rsp_loadstore.specs.File.{vector, with_vector}
-use Rattle.rsp_loadstore.specs.Addresses.{vector_address}
-use Rattle.rsp_loadstore.specs.Reach.{writes_group, window_of}
 use Rattle.rsp_machine.specs.State.{State}
-use Rattle.rsp_machine.specs.declared.change.Change.{Change}
-use Rattle.rsp_machine.specs.declared.change.Change.TheVariants as of
+use Rattle.rsp_machine.specs.Footprint.{footprint_of, can_undo}
+use Rattle.rsp_machine.specs.declared.footprint.Footprint.{Footprint}
+use Rattle.rsp_machine.specs.declared.footprint.Footprint.TheVariants as of
 
--- What one step saved: values as they were before it. `change` says which of them count.
+-- What one step saved: values as they were before it. `footprint` says which of them count.
 pub record Saved : Type 0 where
   pub pc : ℕ
-  pub change : Change
+  pub footprint : Footprint
   pub word : ℕ  -- the scalar register
   pub bytes : List ℕ
   pub vector : List ℕ
@@ -44,7 +34,7 @@ pub record Saved : Type 0 where
 unfoldable pub blank : Saved
 blank = record {
   pc = 0;
-  change = of.Dma;
+  footprint = of.Dma;
   word = 0;
   bytes = replicate 16 0;
   vector = each_lane (λ _. 0);
@@ -75,8 +65,8 @@ with_vco_and_vcc old f = record (with_vco old f) { compare = old.compare; clip =
 abbrev pub with_low_of : List ℤ → List ℤ → List ℤ
 with_low_of old xs = with_low xs (low_lanes old)
 
--- a record after it has saved the values that a change overwrites
-unfoldable pub values_saved : Change → State → Saved → Saved
+-- a record after it has saved the values that a footprint names
+unfoldable pub values_saved : Footprint → State → Saved → Saved
 values_saved (of.Register n) s r = record r { word = register s.registers n }
 values_saved (of.Bytes a) s r = record r { bytes = bytes_at s.dmem a 16 }
 values_saved (of.Vector n) s r = record r { vector = vector s.vectors n }
@@ -91,87 +81,17 @@ values_saved of.Flags s r = record r { flags = s.flags }
 values_saved (of.Sp n) s r = record r { word = register s.registers n; sp = s.sp }
 values_saved _ s r = r
 
--- a record after a change
-unfoldable pub record_of : Change → State → Saved → Saved
-record_of change s r = values_saved change s (record r { pc = s.pc; change = change })
+-- a record after an instruction with a footprint
+unfoldable pub record_of : Footprint → State → Saved → Saved
+record_of f s r = values_saved f s (record r { pc = s.pc; footprint = f })
 
--- what a jump or a branch changes: the register that it links
-abbrev pub sign_change : BranchSignOp → Change
-sign_change Bltzal = of.Register 31
-sign_change Bgezal = of.Register 31
-sign_change _ = of.ProgramCounters
-
-abbrev pub jump_change : JumpOp → Change
-jump_change Jal = of.Register 31
-jump_change _ = of.ProgramCounters
-
--- what a vector load changes: the eight registers of a group, or one
-abbrev pub loaded_change : VectorLoadOp → ℕ → Change
-loaded_change row vt = if writes_group row then of.Group (vt - vt % 8) else of.Vector vt
-
-abbrev pub vector_move_change : MoveOp → ℕ → ℕ → Change
-vector_move_change From rt n = of.Register rt
-vector_move_change To rt n = of.Vector n
-
-abbrev pub control_move_change : MoveOp → ℕ → Change
-control_move_change From rt = of.Register rt
-control_move_change To rt = of.Flags
-
-abbrev pub sp_move_change : MoveOp → ℕ → ℕ → Change
-sp_move_change From rt n = of.Sp rt
-sp_move_change To rt n = if is_length_register n then of.Dma else of.Sp 0
-
--- what an instruction changes of a state, besides pc and npc
-unfoldable pub change_of : Inst → State → Change
-change_of (Shift row rd rt amount) s = of.Register rd
-change_of (ShiftBy row f) s = of.Register f.rd
-change_of (Register row f) s = of.Register f.rd
-change_of (Immediate row rt rs imm) s = of.Register rt
-change_of (LoadUpper rt imm) s = of.Register rt
-change_of (Load row f) s = of.Register f.rt
-change_of (Store row f) s = of.Bytes (address s.registers f.base f.offset)
-change_of (JumpRegister rs) s = of.ProgramCounters
-change_of (JumpLinkRegister rd rs) s = of.Register rd
-change_of (BranchSign row rs offset) s = sign_change row
-change_of (BranchEqual row rs rt offset) s = of.ProgramCounters
-change_of (Jump row target) s = jump_change row
-change_of Break s = of.Sp 0
-change_of (MoveSp row rt n) s = sp_move_change row rt n
-change_of (MoveVector row rt n element) s = vector_move_change row rt n
-change_of (MoveControl row rt control) s = control_move_change row rt
-change_of (Multiply row f) s = of.Product f.vd
-change_of (Round row f) s = of.Product f.vd
-change_of (MpegMultiply row f) s = of.Product f.vd
-change_of (ReadAccumulator f) s = of.Vector f.vd
-change_of (VectorAdd row f) s = of.Sum f.vd
-change_of (VectorSelect row f) s = of.Choice f.vd
-change_of (VectorClip row f) s = of.Clip f.vd
-change_of (VectorMerge f) s = of.Sum f.vd
-change_of (VectorLogic row f) s = of.Low f.vd
-change_of (Divide row vd lane vt e) s = of.Divide vd
-change_of (Idle row) s = of.ProgramCounters
-change_of (VectorLoad row f) s = loaded_change row f.vt
-change_of (VectorStore row f) s =
-    of.Bytes (window_of row (vector_address (VectorStore row f) (register s.registers f.base)))
-
--- A recorder after an instruction, if there is one, and after a step. It gets the change of the instruction.
-abbrev pub after_instruction : {K : Type 0} → (Change → State → K → K) → Option Inst → State → K → K
+-- A recorder after an instruction, if there is one, and after a step. It gets the instruction's footprint.
+abbrev pub after_instruction : {K : Type 0} → (Footprint → State → K → K) → Option Inst → State → K → K
 after_instruction saves None s k = k
-after_instruction saves (Some i) s k = saves (change_of i s) s k
+after_instruction saves (Some i) s k = saves (footprint_of i s) s k
 
-unfoldable pub after_step_from : {K : Type 0} → (Change → State → K → K) → State → K → K
+unfoldable pub after_step_from : {K : Type 0} → (Footprint → State → K → K) → State → K → K
 after_step_from saves s k = if s.sp.halted then k else after_instruction saves (inst_of (word_at s.imem s.pc)) s k
-
--- whether a record undoes its step
-abbrev pub can_undo : Change → Bool
-can_undo of.Dma = false
-can_undo _ = true
-
--- whether a step with this change may change DMEM: it stores there, or it starts a DMA
-abbrev pub changes_memory : Change → Bool
-changes_memory (of.Bytes a) = true
-changes_memory of.Dma = true
-changes_memory _ = false
 
 -- vector register n and the accumulators, written back
 abbrev pub with_product : ℕ → Saved → State → State
@@ -181,8 +101,8 @@ with_product n r s = record s { vectors = with_vector s.vectors n r.vector; accu
 abbrev pub with_low_part : ℕ → Saved → State → State
 with_low_part n r s = record s { vectors = with_vector s.vectors n r.vector; accumulators = with_low_of r.accumulators s.accumulators }
 
--- what was changed, written back
-unfoldable pub restored : Change → Saved → State → State
+-- what a footprint names, written back
+unfoldable pub restored : Footprint → Saved → State → State
 restored (of.Register n) r s = record s { registers = with_register s.registers n r.word }
 restored (of.Bytes a) r s = record s { dmem = with_bytes s.dmem a r.bytes }
 restored (of.Vector n) r s = record s { vectors = with_vector s.vectors n r.vector }
@@ -207,4 +127,4 @@ record_at records i = slice_index_or records i blank
 
 -- the state before the step, if the record undoes it; else nothing changes
 unfoldable pub undone : Saved → State → State
-undone r s = if can_undo r.change then before r.pc s.pc (restored r.change r s) else s
+undone r s = if can_undo r.footprint then before r.pc s.pc (restored r.footprint r s) else s

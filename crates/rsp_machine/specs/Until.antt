@@ -7,12 +7,12 @@ use Rattle.rsp_decode.specs.Table.{inst_of}
 use Rattle.rsp_memory.specs.Memory.{word_at}
 use Rattle.rsp_machine.specs.State.{State}
 use Rattle.rsp_machine.specs.Step.{step_of}
-use Rattle.rsp_machine.specs.Undo.{change_of, changes_memory}
+use Rattle.rsp_machine.specs.Footprint.{footprint_of, changes_memory}
 
 -- whether an instruction, if there is one, may change DMEM: it stores there, or it starts a DMA
 abbrev pub may_store_by : Option Inst → State → Bool
 may_store_by None s = false
-may_store_by (Some i) s = changes_memory (change_of i s)
+may_store_by (Some i) s = changes_memory (footprint_of i s)
 
 -- whether the word at pc may change DMEM
 unfoldable pub may_store_at : State → Bool

@@ -7,10 +7,10 @@ ghost use Rattle.rsp_scalar.specs.Flow.{next_npc, with_link};
 ghost use Rattle.rsp_machine.specs.Step.{computes, loads, stores, break_instruction, moves_sp, instruction_effect};
 ghost use Rattle.rsp_machine.specs.ProgramCounters.{with_counters, counters_of};
 ghost use Rattle.rsp_machine.specs.Undo.{after_instruction};
-ghost use Rattle.rsp_machine.specs.Changes.{IsChange, reach_of, reached, after};
+ghost use Rattle.rsp_machine.specs.LoopTests.{IsFootprint, tests_of, tests_in, state_after};
 ghost use Rattle.rsp_machine.specs.Until.{refuses_by, permitted};
 
-use crate::change::{Change, Reach, change_of};
+use crate::footprint::{Footprint, StepTests, footprint_of};
 use crate::machine::Machine;
 use crate::program_counters::{InstructionAddress, ProgramCounters};
 use crate::recorder::Recorder;
@@ -32,18 +32,18 @@ struct Executor<'a, 'b, A: Acc, K: Recorder, U: Until> {
     /// pc and npc after the instruction. Those in `machine` are stale while the loop runs.
     counters: ProgramCounters,
     /// What the loop tests after the instruction; None if none was executed.
-    reach: Option<Reach>,
+    tests: Option<StepTests>,
 }
 
 impl<'a, 'b, A: Acc, K: Recorder, U: Until> Executor<'a, 'b, A, K, U> {
-    /// Saves what a change will overwrite.
+    /// Saves what an instruction with a footprint will overwrite.
     #[inline(always)]
-    fn save(&mut self, change: Change)
-        requires { IsChange change }
-        ensures { self.new ≡ record self.old { recorder = record self.old.recorder { now = K.saves change (with_counters self.old.before self.old.machine.now) self.old.recorder.now }; reach = Some (reach_of change) } }
+    fn save(&mut self, footprint: Footprint)
+        requires { IsFootprint footprint }
+        ensures { self.new ≡ record self.old { recorder = record self.old.recorder { now = K.saves footprint (with_counters self.old.before self.old.machine.now) self.old.recorder.now }; tests = Some (tests_of footprint) } }
     {
-        self.recorder.save(self.machine, self.before, change);
-        self.reach = Some(change.reach());
+        self.recorder.save(self.machine, self.before, footprint);
+        self.tests = Some(footprint.tests());
     }
 
     /// pc and npc after the instruction.
@@ -205,7 +205,7 @@ impl<A: Acc> Machine<A> {
         }
     }
 
-    /// Executes the word at `counters`, and returns what the loop tests after it. A recorder gets its change first. None for a
+    /// Executes the word at `counters`, and returns what the loop tests after it. A recorder gets its footprint first. None for a
     /// reserved word, and for a move that `until` refuses: both change nothing. The machine's own pc and npc aren't used.
     #[inline(always)]
     #[tactic(auto, unfolding(crate::specs::Step::executed))]
@@ -215,9 +215,9 @@ impl<A: Acc> Machine<A> {
         word: u32,
         recorder: &mut K,
         until: &U,
-    ) -> Option<Reach>
-        ensures answer { result ≡ reached (with_counters counters.old self.old) (permitted (U.refuses until.now) (inst_of word)) }
-        ensures state { with_counters counters.new self.new ≡ after (with_counters counters.old self.old) (permitted (U.refuses until.now) (inst_of word)) }
+    ) -> Option<StepTests>
+        ensures answer { result ≡ tests_in (with_counters counters.old self.old) (permitted (U.refuses until.now) (inst_of word)) }
+        ensures state { with_counters counters.new self.new ≡ state_after (with_counters counters.old self.old) (permitted (U.refuses until.now) (inst_of word)) }
         ensures recorder { recorder.new ≡ after_instruction K.saves (permitted (U.refuses until.now) (inst_of word)) (with_counters counters.old self.old) recorder.old }
     {
         let before = *counters;
@@ -228,21 +228,21 @@ impl<A: Acc> Machine<A> {
             until,
             before,
             counters: next,
-            reach: None,
+            tests: None,
         };
         visit(word, &mut executor);
-        let reach = executor.reach?;
+        let tests = executor.tests?;
         *counters = executor.counters();
-        Some(reach)
+        Some(tests)
     }
 }
 
 impl<'a, 'b, A: Acc, K: Recorder, U: Until> Visitor for Executor<'a, 'b, A, K, U> {
     ghost use Rattle.rsp_machine.specs.ProgramCounters.{with_counters, counters_of};
     ghost use Rattle.rsp_machine.specs.Step.{instruction_effect};
-    ghost use Rattle.rsp_machine.specs.Undo.{change_of};
+    ghost use Rattle.rsp_machine.specs.Footprint.{footprint_of};
     ghost use Rattle.std.specs.Prelude.{Some, if◌then◌else◌};
-    ghost use Rattle.rsp_machine.specs.Changes.{reach_of};
+    ghost use Rattle.rsp_machine.specs.LoopTests.{tests_of};
     ghost use Rattle.rsp_machine.specs.Until.{refuses_by};
 
     ghost after = { λ i e.
@@ -250,11 +250,11 @@ impl<'a, 'b, A: Acc, K: Recorder, U: Until> Visitor for Executor<'a, 'b, A, K, U
         let next = instruction_effect i (with_counters e.counters e.machine.now) in
         if refuses_by (U.refuses e.until.now) (Some i) then e else record {
           machine = record e.machine { now = with_counters (counters_of e.machine.now) next };
-          recorder = record e.recorder { now = K.saves (change_of i before) before e.recorder.now };
+          recorder = record e.recorder { now = K.saves (footprint_of i before) before e.recorder.now };
           until = e.until;
           before = e.before;
           counters = counters_of next;
-          reach = Some (reach_of (change_of i before));
+          tests = Some (tests_of (footprint_of i before));
         } };
 
     #[inline(always)]
@@ -262,8 +262,8 @@ impl<'a, 'b, A: Acc, K: Recorder, U: Until> Visitor for Executor<'a, 'b, A, K, U
         if is_refused(self.until, &inst) {
             return;
         }
-        let change = change_of(&inst, self.machine);
-        self.save(change);
+        let footprint = footprint_of(&inst, self.machine);
+        self.save(footprint);
         self.machine.perform(&inst, &mut self.counters);
     }
 }

@@ -1,7 +1,7 @@
 // What the host does: it reads and writes registers, loads bytes, starts tasks, sets pc, and passes over moves of SP registers.
 
-ghost use Rattle.std.specs.Prelude.{◌≡◌, ◌<◌, ◌≤◌, ◌↔◌, ◌+◌, ◌%◌, IsOk, IfErr, OnOk, OnErr, IsTrue, ℕ, Ok, Err, Some, None, length, MatchResult};
-ghost use Rattle.rsp_machine.specs.State.{State, IsState, advanced};
+ghost use Rattle.std.specs.Prelude.{◌≡◌, ◌<◌, ◌≤◌, ◌↔◌, ◌+◌, ◌%◌, IsOk, IfErr, OnOk, OnErr, IsTrue, Ok, Err, Some, None, length, MatchResult};
+ghost use Rattle.rsp_machine.specs.State.{State, IsState};
 ghost use Rattle.rsp_machine.specs.Host.{register_read, register_written, is_inside, with_bank_bytes, image_word, task_fault, with_task, single_row, with_pc};
 ghost use Rattle.rsp_machine.specs.Registers.{AreRegisters, registers_of, with_registers, registers_fault, sp_fault};
 ghost use Rattle.rsp_machine.specs.Pass.{pass_of};

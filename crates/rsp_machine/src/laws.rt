@@ -4,6 +4,7 @@ ghost use Rattle.std.specs.Prelude.{◌≡◌};
 ghost use Rattle.rsp_machine.specs.Step.{step_of};
 ghost use Rattle.rsp_machine.specs.Laws.{steps_of, done_of};
 ghost use Rattle.rsp_machine.specs.Registers.{SetAsRead};
+ghost use Rattle.rsp_machine.specs.Footprints.{FootprintsHold, WritesHold, PassesAreSteps};
 
 use crate::{Machine, StepEnd};
 use rsp_acc::Acc;
@@ -36,4 +37,23 @@ pub fn same_steps<A: Acc, B: Acc>(a: &mut Machine<A>, b: &mut Machine<B>, n: u64
 #[tactic(auto, using(crate::proofs::Whole::wholes))]
 pub fn set_as_read()
     ensures { SetAsRead }
+{}
+
+/// A step changes nothing but pc, npc and what its footprint names: registers, lanes, parts of the accumulators, flags, the divider,
+/// bytes of DMEM, SP registers. After a step that starts a DMA this says what the DMA leaves.
+#[tactic(auto, using(crate::proofs::Footprints::footprints))]
+pub fn footprints()
+    ensures { FootprintsHold }
+{}
+
+/// What a trace says of a step: it writes no other register, and leaves DMEM if it neither stores nor starts a DMA.
+#[tactic(auto, using(crate::proofs::Footprints::footprints))]
+pub fn writes()
+    ensures { WritesHold }
+{}
+
+/// Passing over a move of an SP register is a step, but for the SP registers, the memories and the register that the move writes.
+#[tactic(auto, using(crate::proofs::Passing::passing))]
+pub fn passes()
+    ensures { PassesAreSteps }
 {}

@@ -4,9 +4,8 @@
 //! states go on alike. The contract of a call is one equation between the states before and after it.
 #![tactic(auto)]
 
-mod change;
-mod effect;
 mod execute;
+mod footprint;
 mod host;
 pub mod laws;
 mod machine;
@@ -19,8 +18,8 @@ mod registers;
 mod step;
 mod until;
 mod vector;
+mod writes;
 
-pub use effect::Effect;
 pub use host::{RangeFault, TaskFault};
 pub use machine::Machine;
 pub use pass::PassFault;
@@ -28,3 +27,4 @@ pub use record::Record;
 pub use registers::{AllRegisters, RegistersFault};
 pub use step::StepEnd;
 pub use until::{Never, Until};
+pub use writes::Writes;

@@ -1,6 +1,6 @@
 ghost use Rattle.std.specs.Prelude.{◌≡◌, ◌<◌, ◌%◌};
 ghost use Rattle.rsp_machine.specs.State.{IsState, start_of};
-ghost use Rattle.rsp_machine.specs.Changes.{IsRanged};
+ghost use Rattle.rsp_machine.specs.LoopTests.{IsRanged};
 ghost use Rattle.rsp_machine.specs.ProgramCounters.{with_counters, counters_of};
 ghost use Rattle.rsp_memory.specs.Memory.{word_at};
 ghost use Rattle.rsp_scalar.specs.Registers.{register};

@@ -2,9 +2,10 @@
 
 ghost use Rattle.std.specs.Prelude.{◌≡◌, ◌<◌, ◌≤◌};
 ghost use Rattle.rsp_loadstore.specs.File.{vector};
-ghost use Rattle.rsp_machine.specs.Undo.{blank, can_undo, group_at, with_low_of};
+ghost use Rattle.rsp_machine.specs.Undo.{blank, group_at, with_low_of};
+ghost use Rattle.rsp_machine.specs.Footprint.{can_undo};
 
-use crate::change::Change;
+use crate::footprint::Footprint;
 use crate::machine::Machine;
 use crate::program_counters::{InstructionAddress, ProgramCounters};
 use crate::recorder::Recorder;
@@ -20,7 +21,7 @@ use std::marker::Model;
 #[derive(Drop)]
 pub struct Record {
     pub(crate) pc: InstructionAddress,
-    pub(crate) change: Change,
+    pub(crate) footprint: Footprint,
     pub(crate) word: u32,
     pub(crate) bytes: [u8; 16],
     pub(crate) vector: VReg,
@@ -33,13 +34,13 @@ pub struct Record {
 
 impl Model for Record {
     ghost use Rattle.rsp_machine.specs.Undo.{Saved};
-    ghost use Rattle.rsp_machine.specs.Changes.{IsChange};
+    ghost use Rattle.rsp_machine.specs.LoopTests.{IsFootprint};
 
     ghost Value = { Saved };
 
     ghost view = { λ r. record {
       pc = r.pc;
-      change = r.change;
+      footprint = r.footprint;
       word = r.word;
       bytes = r.bytes;
       vector = r.vector;
@@ -50,7 +51,7 @@ impl Model for Record {
       sp = r.sp;
     } };
 
-    ghost invariant = { λ r. IsChange r.change };
+    ghost invariant = { λ r. IsFootprint r.footprint };
 }
 
 impl Record {
@@ -62,7 +63,7 @@ impl Record {
         let zeros = VReg::new();
         Record {
             pc: InstructionAddress::new(0),
-            change: Change::Dma,
+            footprint: Footprint::Dma,
             word: 0,
             bytes: [0; 16],
             vector: zeros,
@@ -77,9 +78,9 @@ impl Record {
     /// Whether [`Machine::undo`] undoes the step. It doesn't if the step started a DMA.
     #[inline(always)]
     pub fn can_undo(&self) -> bool
-        ensures { result ≡ can_undo self.now.change }
+        ensures { result ≡ can_undo self.now.footprint }
     {
-        self.change.can_undo()
+        self.footprint.can_undo()
     }
 
     /// Saves vector register `n` and the accumulators.
@@ -145,39 +146,44 @@ impl Recorder for Record {
 
     #[inline(always)]
     #[tactic(auto, unfolding(crate::specs::Undo::record_of, crate::specs::Undo::values_saved))]
-    fn save<A: Acc>(&mut self, machine: &Machine<A>, before: ProgramCounters, change: Change) {
+    fn save<A: Acc>(
+        &mut self,
+        machine: &Machine<A>,
+        before: ProgramCounters,
+        footprint: Footprint,
+    ) {
         self.pc = before.pc;
-        self.change = change;
-        match change {
-            Change::ProgramCounters | Change::Dma => (),
-            Change::Register(n) => self.word = machine.regs.get(n as u8),
-            Change::Bytes(a) => match machine.dmem.whole_window(a) {
+        self.footprint = footprint;
+        match footprint {
+            Footprint::ProgramCounters | Footprint::Dma => (),
+            Footprint::Register(n) => self.word = machine.regs.get(n as u8),
+            Footprint::Bytes(a) => match machine.dmem.whole_window(a) {
                 Some(bytes) => self.bytes = *bytes,
                 None => self.bytes = machine.dmem.window(a),
             },
-            Change::Vector(n) => self.vector = machine.vregs.reg(n as u8),
-            Change::Group(n) => self.save_group(&machine.vregs, n),
-            Change::Product(n) => self.save_product(machine, n),
-            Change::Low(n) => self.save_low(machine, n),
-            Change::Sum(n) => {
+            Footprint::Vector(n) => self.vector = machine.vregs.reg(n as u8),
+            Footprint::Group(n) => self.save_group(&machine.vregs, n),
+            Footprint::Product(n) => self.save_product(machine, n),
+            Footprint::Low(n) => self.save_low(machine, n),
+            Footprint::Sum(n) => {
                 self.save_low(machine, n);
                 self.flags.take_vco(&machine.flags);
             }
-            Change::Choice(n) => {
+            Footprint::Choice(n) => {
                 self.save_low(machine, n);
                 self.flags.take_vco(&machine.flags);
                 self.flags.take_vcc(&machine.flags);
             }
-            Change::Clip(n) => {
+            Footprint::Clip(n) => {
                 self.save_low(machine, n);
                 self.flags.take(&machine.flags);
             }
-            Change::Divide(n) => {
+            Footprint::Divide(n) => {
                 self.save_low(machine, n);
                 self.divider = machine.divider;
             }
-            Change::Flags => self.flags = machine.flags,
-            Change::Sp(n) => {
+            Footprint::Flags => self.flags = machine.flags,
+            Footprint::Sp(n) => {
                 self.word = machine.regs.get(n as u8);
                 self.sp = machine.sp;
             }

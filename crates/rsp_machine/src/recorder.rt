@@ -3,19 +3,19 @@
 ghost use Rattle.std.specs.Prelude.{◌≡◌, ℕ, Bool};
 ghost use Rattle.rsp_machine.specs.State.{State};
 ghost use Rattle.rsp_machine.specs.ProgramCounters.{with_counters};
-ghost use Rattle.rsp_machine.specs.Changes.{IsChange};
-ghost use Rattle.rsp_machine.specs.declared.change.Change.{Change};
+ghost use Rattle.rsp_machine.specs.LoopTests.{IsFootprint};
+ghost use Rattle.rsp_machine.specs.declared.footprint.Footprint.{Footprint};
 
-use crate::change::Change;
+use crate::footprint::Footprint;
 use crate::machine::Machine;
 use crate::program_counters::ProgramCounters;
 use rsp_acc::Acc;
 
-/// A recorder. It gets each instruction's change before the instruction is executed, and may save the values that the instruction
+/// A recorder. It gets each instruction's footprint before the instruction is executed, and may save the values that the instruction
 /// overwrites.
 pub(crate) trait Recorder {
-    /// The recorder after a change.
-    ghost saves: { Change → State → Self → Self };
+    /// The recorder after an instruction with a footprint.
+    ghost saves: { Footprint → State → Self → Self };
 
     /// The index of the recorder that gets step `n` of a loop.
     ghost slot: { ℕ → ℕ };
@@ -23,10 +23,10 @@ pub(crate) trait Recorder {
     /// Whether a loop ends after a step that starts a DMA.
     ghost ends_at_dma: { Bool };
 
-    /// Saves what it needs of the values before the change. The machine's pc and npc are those of `before`.
-    fn save<A: Acc>(&mut self, machine: &Machine<A>, before: ProgramCounters, change: Change)
-        requires { IsChange change }
-        ensures { self.new ≡ saves change (with_counters before machine.now) self.old };
+    /// Saves what it needs of the values before the instruction. The machine's pc and npc are those of `before`.
+    fn save<A: Acc>(&mut self, machine: &Machine<A>, before: ProgramCounters, footprint: Footprint)
+        requires { IsFootprint footprint }
+        ensures { self.new ≡ saves footprint (with_counters before machine.now) self.old };
 
     /// The index of the recorder that gets step `n` of a loop.
     fn slot(n: u64) -> usize
@@ -51,7 +51,12 @@ impl Recorder for NoRecord {
     ghost ends_at_dma = { false };
 
     #[inline(always)]
-    fn save<A: Acc>(&mut self, _machine: &Machine<A>, _before: ProgramCounters, _change: Change) {}
+    fn save<A: Acc>(
+        &mut self,
+        _machine: &Machine<A>,
+        _before: ProgramCounters,
+        _footprint: Footprint,
+    ) {}
 
     #[inline(always)]
     fn slot(_n: u64) -> usize {

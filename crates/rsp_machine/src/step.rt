@@ -10,7 +10,7 @@ ghost use Rattle.rsp_machine.specs.Until.{ends_after, refuses_at};
 ghost use Rattle.rsp_machine.specs.Loop.{AreDone, AreRecorded, HaveRecorded, LoopEnd};
 ghost use Rattle.rsp_machine.specs.declared.step.StepEnd.TheVariants.{Done};
 
-use crate::change::{Change, Reach};
+use crate::footprint::{Footprint, StepTests};
 use crate::machine::Machine;
 use crate::record::Record;
 use crate::recorder::{NoRecord, Recorder};
@@ -37,25 +37,25 @@ impl<A: Acc> Machine<A> {
     /// Ends a step: in single step the machine halts. Returns whether the loop goes on. Single step and halted are tested after an
     /// instruction that may reach the SP registers, and after each instruction if single step was set when the loop began (`single`).
     #[inline(always)]
-    fn end_step<K: Recorder>(&mut self, reach: Reach, single: bool) -> bool
-        ensures state { self.new ≡ (if reach.sp || single then after_single_step self.old else self.old) }
-        ensures goes { result ≡ (not (reach.sp || single) || not self.new.sp.halted && not (K.ends_at_dma && reach.dma)) }
+    fn end_step<K: Recorder>(&mut self, tests: StepTests, single: bool) -> bool
+        ensures state { self.new ≡ (if tests.sp || single then after_single_step self.old else self.old) }
+        ensures goes { result ≡ (not (tests.sp || single) || not self.new.sp.halted && not (K.ends_at_dma && tests.dma)) }
     {
         // A case of its own: the other instructions need not carry whether they started a DMA.
-        if reach.sp {
-            return self.halt_or_go::<K>(reach);
+        if tests.sp {
+            return self.halt_or_go::<K>(tests);
         }
-        !single || self.halt_or_go::<K>(reach)
+        !single || self.halt_or_go::<K>(tests)
     }
 
     /// Halts a machine in single step. Returns whether the loop goes on: the machine isn't halted, and no DMA ends the loop.
     #[inline(always)]
-    fn halt_or_go<K: Recorder>(&mut self, reach: Reach) -> bool
+    fn halt_or_go<K: Recorder>(&mut self, tests: StepTests) -> bool
         ensures state { self.new ≡ after_single_step self.old }
-        ensures goes { result ≡ (not self.new.sp.halted && not (K.ends_at_dma && reach.dma)) }
+        ensures goes { result ≡ (not self.new.sp.halted && not (K.ends_at_dma && tests.dma)) }
     {
         self.sp.on_step();
-        !self.sp.halted() && !(K::ends_at_dma() && reach.dma)
+        !self.sp.halted() && !(K::ends_at_dma() && tests.dma)
     }
 
     /// Makes up to `n` steps and returns how many. It ends earlier if the next step isn't Done, if a step starts a DMA and the
@@ -82,15 +82,15 @@ impl<A: Acc> Machine<A> {
         while made < n {
             self.vector_ranges();
             let slot = &mut slots[K::slot(made)];
-            let Some(reach) = self.execute::<K, U>(&mut counters, word, slot, until) else {
+            let Some(tests) = self.execute::<K, U>(&mut counters, word, slot, until) else {
                 break;
             };
             made += 1;
-            if !self.end_step::<K>(reach, single) {
+            if !self.end_step::<K>(tests, single) {
                 break;
             }
             word = self.word_at(counters);
-            if until.ends(counters.pc.get(), word, reach.dmem) {
+            if until.ends(counters.pc.get(), word, tests.dmem) {
                 break;
             }
         }
@@ -179,33 +179,33 @@ impl<A: Acc> Machine<A> {
     pub fn undo(&mut self, saved: &Record)
         ensures { self.new ≡ undone saved.now self.old }
     {
-        match saved.change {
-            Change::ProgramCounters => (),
-            Change::Register(n) => self.regs.set(n as u8, saved.word),
-            Change::Bytes(a) => self.dmem.set_bytes(a, &saved.bytes),
-            Change::Vector(n) => self.vregs.set_reg(n as u8, saved.vector),
-            Change::Group(n) => self.put_group(n as u8, &saved.vectors),
-            Change::Product(n) => self.put_product(saved, n),
-            Change::Low(n) => self.put_low(saved, n),
-            Change::Sum(n) => self.put_sum(saved, n),
-            Change::Choice(n) => {
+        match saved.footprint {
+            Footprint::ProgramCounters => (),
+            Footprint::Register(n) => self.regs.set(n as u8, saved.word),
+            Footprint::Bytes(a) => self.dmem.set_bytes(a, &saved.bytes),
+            Footprint::Vector(n) => self.vregs.set_reg(n as u8, saved.vector),
+            Footprint::Group(n) => self.put_group(n as u8, &saved.vectors),
+            Footprint::Product(n) => self.put_product(saved, n),
+            Footprint::Low(n) => self.put_low(saved, n),
+            Footprint::Sum(n) => self.put_sum(saved, n),
+            Footprint::Choice(n) => {
                 self.put_sum(saved, n);
                 self.flags.take_vcc(&saved.flags);
             }
-            Change::Clip(n) => {
+            Footprint::Clip(n) => {
                 self.put_low(saved, n);
                 self.flags = saved.flags;
             }
-            Change::Divide(n) => {
+            Footprint::Divide(n) => {
                 self.put_low(saved, n);
                 self.divider = saved.divider;
             }
-            Change::Flags => self.flags = saved.flags,
-            Change::Sp(n) => {
+            Footprint::Flags => self.flags = saved.flags,
+            Footprint::Sp(n) => {
                 self.regs.set(n as u8, saved.word);
                 self.sp = saved.sp;
             }
-            Change::Dma => return,
+            Footprint::Dma => return,
         }
         self.sp.resume();
         self.npc = self.pc;

@@ -1,7 +1,7 @@
 -- What straight microcode leaves as it was.
-use Rattle.std.proofs.Common.{◌≡◌, ◌≢◌, ℕ, ◌+◌, ◌-◌, ◌*◌, ◌/◌, ◌%◌, ℤ, List, [], ◌∷◌, map, ◌<◌, ◌≤◌, inl, inr, arith, refl, ap, ◌∙◌, Bool, true, false, ◌||◌, not, nat_lt, nat_le}
+use Rattle.std.proofs.Common.{◌≡◌, ◌≢◌, ℕ, ◌+◌, ◌-◌, ◌*◌, ◌/◌, ◌%◌, ℤ, List, [], ◌∷◌, map, ◌<◌, ◌≤◌, arith, refl, ap, ◌∙◌, Bool, true, false, ◌||◌, not, nat_lt, nat_le}
 use Rattle.std.specs.Prelude.{if◌then◌else◌, ◌==◌}
-use Rattle.std.proofs.lemmas.Bool.{and_parts, ltb-true, leb-true, le-leb, cases_eq, ne_eqb}
+use Rattle.std.proofs.lemmas.Bool.{and_parts, ltb-true, leb-true, le-leb, ne_eqb}
 use Rattle.std.proofs.lemmas.Bool.Decides.{nat_tests}
 use Rattle.rsp_decode.specs.declared.inst.Inst.{Inst}
 use Rattle.rsp_decode.specs.declared.inst.Inst.TheVariants.{Break, MoveSp, Shift, ShiftBy, Register, Immediate, LoadUpper, Load, JumpLinkRegister, BranchSign, Jump, MoveVector, MoveControl, Multiply, Round, MpegMultiply, ReadAccumulator, VectorAdd, VectorSelect, VectorClip, VectorMerge, VectorLogic, Divide, VectorLoad}
@@ -9,9 +9,8 @@ use Rattle.rsp_decode.specs.declared.vector.VectorLoadOp.TheVariants.{Lbv, Lsv, 
 use Rattle.rsp_decode.specs.declared.scalar.MoveOp.TheVariants.{From, To}
 use Rattle.rsp_decode.specs.declared.scalar.JumpOp.TheVariants.{J, Jal}
 use Rattle.rsp_decode.specs.declared.scalar.BranchSignOp.TheVariants.{Bltz, Bgez, Bltzal, Bgezal, Blez, Bgtz}
-use Rattle.std.proofs.lemmas.List.{get_or-set_other}
 use Rattle.rsp_scalar.specs.Registers.{register, with_register}
-use Rattle.rsp_loadstore.specs.File.{vector, with_vector}
+use Rattle.rsp_loadstore.specs.File.{vector}
 use Rattle.rsp_loadstore.specs.Pairs.{for_each, group_start, doubleword_start, wrapped_address}
 use Rattle.rsp_loadstore.specs.Loads.{Load as Pair, to_byte, to_lane, loaded, after_load, load_pairs, file_after_load}
 use Rattle.rsp_loadstore.specs.Moves.{file_after_move}
@@ -20,12 +19,20 @@ use Rattle.std.specs.List.{range_with_len}
 use Rattle.rsp_lanes.specs.declared.flags.Flags.{Flags}
 use Rattle.rsp_divide.specs.declared.divider.Divider.{Divider}
 use Rattle.rsp_regs.specs.Sp.{Sp}
-use Rattle.rsp_machine.specs.State.{State}
+use Rattle.rsp_loadstore.specs.Reach.{writes_group}
+use Rattle.rsp_machine.specs.State.{State, advanced}
+use Rattle.rsp_machine.specs.Footprint.{loaded_footprint, scalar_in}
 use Rattle.rsp_machine.specs.Vector.{multiplies, rounds, multiplies_mpeg, reads_accumulator, ruled, divides, loads_vector, stores_vector, moves_vector, moves_control}
 use Rattle.rsp_machine.specs.Step.{executed, instruction_effect, computes, loads, stores, jumps, moves_sp}
+use Rattle.rsp_machine.proofs.Footprints.{other_register, other_vector}
 use Rattle.rsp_microcode.specs.Runs.{ran_through}
 use Rattle.rsp_microcode.proofs.SpReads.{reads_leave, goes}
-use Rattle.rsp_microcode.specs.Frames.{Touch, of_row, both, of_rows, with_parts, stays, register_of, scalars_below, spare_scalar, vectors_of, spares_vector, spare_vector, vectors_below, Frame, ScalarsAbove, ScalarsSpared, VectorsAbove, VectorsSpared}
+use Rattle.rsp_microcode.specs.Frames.{Touch, parts_in, of_row, both, of_rows, with_parts, stays, register_of, scalars_below, spare_scalar, vectors_of, spares_vector, spare_vector, vectors_below, Frame, ScalarsAbove, ScalarsSpared, VectorsAbove, VectorsSpared}
+
+-- what a vector load leaves, whether it writes a group or one register
+load_framed : (group : Bool) (vt : ℕ) (s : State) (v : List (List ℕ)) → let t = record (advanced s) { vectors = v } in t ≡ with_parts (parts_in (loaded_footprint group vt)) s t
+load_framed true vt s v = refl
+load_framed false vt s v = refl
 
 -- one row
 pub row_framed : (i : Inst) (s : State) → stays i ≡ true → executed i s ≡ with_parts (of_row i) s (executed i s)
@@ -45,6 +52,7 @@ row_framed (MoveVector From rt n element) s h = refl
 row_framed (MoveVector To rt n element) s h = refl
 row_framed (MoveControl From rt control) s h = refl
 row_framed (MoveControl To rt control) s h = refl
+row_framed (VectorLoad row f) s h = load_framed (writes_group row) f.vt s _
 row_framed _ s h = refl
 
 -- one part, through two runs
@@ -90,6 +98,10 @@ record Writes (i : Inst) (s t : State) : Type 0 where
   value : ℕ
   is : t.registers ≡ with_register s.registers (register_of i) value
 
+load_writes : (group : Bool) (vt : ℕ) (r : List ℕ) → r ≡ with_register r (scalar_in (loaded_footprint group vt)) 0
+load_writes true vt r = refl
+load_writes false vt r = refl
+
 writes : (i : Inst) (s : State) → stays i ≡ true → Writes i s (executed i s)
 unfolding executed instruction_effect computes loads stores jumps moves_sp multiplies rounds multiplies_mpeg reads_accumulator ruled divides loads_vector stores_vector moves_vector moves_control
 writes Break s h = cc
@@ -114,13 +126,8 @@ writes (MoveVector From rt n element) s h = record { value = _; is = refl }
 writes (MoveVector To rt n element) s h = record { value = 0; is = refl }
 writes (MoveControl From rt control) s h = record { value = _; is = refl }
 writes (MoveControl To rt control) s h = record { value = 0; is = refl }
+writes (VectorLoad row f) s h = record { value = 0; is = load_writes (writes_group row) f.vt s.registers }
 writes _ s h = record { value = 0; is = refl }
-
-other_register : (r : List ℕ) (k n v : ℕ) → n ≢ k → register (with_register r k v) n ≡ register r n
-other_register r k n v h = elim (cases_eq k 0) [
-  | inl e ↦ rw e refl
-  | inr ne ↦ rw (ne_eqb k 0 ne) (get_or-set_other r k n v 0 h)
-]
 
 apart : (a n : ℕ) → not (a == n) ≡ true → n ≢ a
 apart a n h = grind (arith, nat_tests)
@@ -146,10 +153,6 @@ pub scalars_above : ScalarsAbove
 scalars_above code bound n s h below le = scalars_spared code n s h (spare_above code bound n below le)
 
 -- vector registers
-other_vector : (file : List (List ℕ)) (k n : ℕ) (v : List ℕ) → n ≢ k → vector (with_vector file k v) n ≡ vector file n
-unfolding vector with_vector
-other_vector file k n v h = get_or-set_other file k n v [] h
-
 abbrev written_by : Pair → ℕ
 written_by (to_byte r i a) = r
 written_by (to_lane r i f a) = r

@@ -55,9 +55,9 @@ loop-made-preserved g c =
       past = past-then k 1 (k + 1) c.args.history.now.depth l.history.depth s l.machine _ _ _ (e.past ∙ sym (one-more 1 l.history.depth l.machine _ refl)) i.depth i.past i.come.after.reached refl;
       depth = e.depth ∙ i.depth;
       entries = trace-more k s l.out c.entry_of.result (omega (arith, c.loop-made-test.true, l.auto.out)) i.entries
-          (entry-is k 1 c.pc-pc.result c.aligned_word-word.result c.of-effect.result s l.machine t c.entry_of.result c.entry_of.ensures c.pc-pc.ensures.value
+          (entry-is k 1 c.pc-pc.result c.aligned_word-word.result c.of-writes.result s l.machine t c.entry_of.result c.entry_of.ensures c.pc-pc.ensures.value
           (c.aligned_word-word.ensures ∙ ap (λ d. word_at d c.from.result) c.imem.ensures ∙ ap (λ a. word_at l.machine.imem a) (c.from.ensures ∙ c.pc-pc.ensures.value))
-          c.of-effect.ensures.value i.come.after.reached after.reached refl);
+          c.of-writes.ensures.value i.come.after.reached after.reached refl);
       rest = rest-more k l.out c.args.out.now c.entry_of.result i.rest;
     }
 

@@ -5,7 +5,7 @@ use Rattle.rsp_lanes.specs.Lanes.{each_lane}
 use Rattle.rsp_lanes.specs.declared.flags.Flags.{Flags}
 use Rattle.rsp_lanes.specs.Flags.{flags_at, all_flags}
 use Rattle.rsp_machine.specs.State.{IsState, IsInstructionAddress, AreFlags}
-use Rattle.rsp_machine.specs.Changes.{IsRanged}
+use Rattle.rsp_machine.specs.LoopTests.{IsRanged}
 use Rattle.rsp_machine.proofs.machine.Machine.in_range.Goals as goal
 
 eight_each : (f : Flags) → f ≡ all_flags (flags_at f) → AreFlags f

@@ -43,7 +43,7 @@ pub loop-made-preserved : goal.loop-made-preserved
 loop-made-preserved g c =
     let l = c.loop-made in let i = l.invariant in let o = c.args.self.now in let k = g.K.Recorder in let single = c.single_step-single.result in let ends = g.U.Until.ends c.args.until.now in let refuses = g.U.Until.refuses c.args.until.now in
     let s = with_counters l.counters l.self in let q = c.execute.new.counters in let v = c.execute.new.self in let m = c.end_step.new.self in let t = with_counters q v in let u = with_counters q m in
-    let r = c.execute.result in let e = c.in-Some.reach in let x = c.execute.new.recorder in let next = c.word_at-word-in-loop-made in
+    let r = c.execute.result in let e = c.in-Some.tests in let x = c.execute.new.recorder in let next = c.word_at-word-in-loop-made in
     let turn = turn-of refuses l.word l.counters q l.self v m r e single i.goes i.word c.execute.ensures.answer c.execute.ensures.state c.in-Some.is i.free c.end_step.ensures.state in
     let goes = goes-by e.sp single u.sp.halted (not (k.ends_at_dma && e.dma)) c.end_step.result c.end_step.ensures.goes c.if-not-end_step.false in
     let running = turn-running refuses l.word s t u r e single turn (elim goes [ inl none ↦ inl none | inr on ↦ inr on.0 ]) in
@@ -86,12 +86,12 @@ returns-clause-made g c =
           made-as l.made _ o s _ i.run w.made-is (c.set_counters.ensures ∙ same_places _ q _ v w.counters-is w.self-is ∙ (executed-none refuses _ s (with_counters q v) _ h w.in_default.is).0)
       | then-loop-made-test+in-Some+then-not-end_step w ↦
           let q = w.execute.new.counters in let v = w.execute.new.self in let m = w.end_step.new.self in
-          let turn = turn-of refuses l.word l.counters q l.self v m _ w.in-Some.reach single i.goes i.word w.execute.ensures.answer w.execute.ensures.state w.in-Some.is i.free w.end_step.ensures.state in
+          let turn = turn-of refuses l.word l.counters q l.self v m _ w.in-Some.tests single i.goes i.word w.execute.ensures.answer w.execute.ensures.state w.in-Some.is i.free w.end_step.ensures.state in
           let made = made-more l.made (l.made + 1) o s (with_counters q m) i.run (turn-done refuses l.word s _ _ _ _ single turn) (omega arith) in
           made-as (l.made + 1) _ o (with_counters q m) _ made w.made-is (c.set_counters.ensures ∙ same_places _ q _ m w.counters-is w.self-is)
       | then-loop-made-test+in-Some+else-not-end_step+then-ends w ↦
           let q = w.execute.new.counters in let v = w.execute.new.self in let m = w.end_step.new.self in
-          let turn = turn-of refuses l.word l.counters q l.self v m _ w.in-Some.reach single i.goes i.word w.execute.ensures.answer w.execute.ensures.state w.in-Some.is i.free w.end_step.ensures.state in
+          let turn = turn-of refuses l.word l.counters q l.self v m _ w.in-Some.tests single i.goes i.word w.execute.ensures.answer w.execute.ensures.state w.in-Some.is i.free w.end_step.ensures.state in
           let made = made-more l.made (l.made + 1) o s (with_counters q m) i.run (turn-done refuses l.word s _ _ _ _ single turn) (omega arith) in
           made-as (l.made + 1) _ o (with_counters q m) _ made w.made-is (c.set_counters.ensures ∙ same_places _ q _ m w.counters-is w.self-is)
     ]
@@ -110,13 +110,13 @@ returns-clause-told g c =
           let h = executed-as refuses l.word l.counters w.execute.new.counters l.self w.execute.new.self w.execute.result i.goes i.word w.execute.ensures.answer w.execute.ensures.state in
           let inside : w.slot.result < length l.slots = omega (arith, w.slot.ensures, c.requires.slots l.made w.loop-made-test.true, i.told.len) in
           told-as k.saves k.slot (l.made + 1) made o old _ slots
-          (turn-told k.saves k.slot refuses l.word l.made w.slot.result o s _ _ w.in-Some.reach old l.slots w.execute.new.recorder (get_or l.slots w.slot.result w.index-slots-slot.result)
+          (turn-told k.saves k.slot refuses l.word l.made w.slot.result o s _ _ w.in-Some.tests old l.slots w.execute.new.recorder (get_or l.slots w.slot.result w.index-slots-slot.result)
           h w.in-Some.is i.run i.told w.slot.ensures inside w.execute.ensures.recorder (ranged-at l.counters l.self w.vector_ranges.ensures)) w.made-is w.slots-is
       | then-loop-made-test+in-Some+else-not-end_step+then-ends w ↦
           let h = executed-as refuses l.word l.counters w.execute.new.counters l.self w.execute.new.self w.execute.result i.goes i.word w.execute.ensures.answer w.execute.ensures.state in
           let inside : w.slot.result < length l.slots = omega (arith, w.slot.ensures, c.requires.slots l.made w.loop-made-test.true, i.told.len) in
           told-as k.saves k.slot (l.made + 1) made o old _ slots
-          (turn-told k.saves k.slot refuses l.word l.made w.slot.result o s _ _ w.in-Some.reach old l.slots w.execute.new.recorder (get_or l.slots w.slot.result w.index-slots-slot.result)
+          (turn-told k.saves k.slot refuses l.word l.made w.slot.result o s _ _ w.in-Some.tests old l.slots w.execute.new.recorder (get_or l.slots w.slot.result w.index-slots-slot.result)
           h w.in-Some.is i.run i.told w.slot.ensures inside w.execute.ensures.recorder (ranged-at l.counters l.self w.vector_ranges.ensures)) w.made-is w.slots-is
     ]
 
@@ -128,11 +128,11 @@ returns-clause-permitted g c j less =
       | else-loop-made-test w ↦ i.permitted j (omega (arith, less, w.made-is))
       | then-loop-made-test+in_default w ↦ i.permitted j (omega (arith, less, w.made-is))
       | then-loop-made-test+in-Some+then-not-end_step w ↦
-          let turn = turn-of refuses l.word l.counters w.execute.new.counters l.self w.execute.new.self w.end_step.new.self _ w.in-Some.reach single
+          let turn = turn-of refuses l.word l.counters w.execute.new.counters l.self w.execute.new.self w.end_step.new.self _ w.in-Some.tests single
           i.goes i.word w.execute.ensures.answer w.execute.ensures.state w.in-Some.is i.free w.end_step.ensures.state in
           permitted-more refuses o s l.made c.loop-made-test.made j i.permitted i.run.state (turn-permitted refuses l.word s _ _ _ _ single turn) w.made-is less
       | then-loop-made-test+in-Some+else-not-end_step+then-ends w ↦
-          let turn = turn-of refuses l.word l.counters w.execute.new.counters l.self w.execute.new.self w.end_step.new.self _ w.in-Some.reach single
+          let turn = turn-of refuses l.word l.counters w.execute.new.counters l.self w.execute.new.self w.end_step.new.self _ w.in-Some.tests single
           i.goes i.word w.execute.ensures.answer w.execute.ensures.state w.in-Some.is i.free w.end_step.ensures.state in
           permitted-more refuses o s l.made c.loop-made-test.made j i.permitted i.run.state (turn-permitted refuses l.word s _ _ _ _ single turn) w.made-is less
     ]
@@ -152,7 +152,7 @@ returns-clause-ends g c less =
             | inr refused ↦ inr (inl (ap (refuses_at refuses) end ∙ refused))
           ]
       | then-loop-made-test+in-Some+then-not-end_step w ↦
-          let q = w.execute.new.counters in let v = w.execute.new.self in let m = w.end_step.new.self in let e = w.in-Some.reach in let single = c.single_step-single.result in
+          let q = w.execute.new.counters in let v = w.execute.new.self in let m = w.end_step.new.self in let e = w.in-Some.tests in let single = c.single_step-single.result in
           let turn = turn-of refuses l.word l.counters q l.self v m _ e single i.goes i.word w.execute.ensures.answer w.execute.ensures.state w.in-Some.is i.free w.end_step.ensures.state in
           let last : made - 1 ≡ l.made = omega (arith, w.made-is) in
           elim (stops-by e.sp single m.sp.halted (not (k.ends_at_dma && e.dma)) w.end_step.result w.end_step.ensures.goes w.if-not-end_step.true) [
@@ -164,7 +164,7 @@ returns-clause-ends g c less =
                 inr (inr (omega (arith, w.made-is), inl (dma.0, ap (λ n. starts_dma_at (steps_of n o)) last ∙ ap starts_dma_at (sym i.run.state) ∙ dma.1)))
           ]
       | then-loop-made-test+in-Some+else-not-end_step+then-ends w ↦
-          let q = w.execute.new.counters in let v = w.execute.new.self in let m = w.end_step.new.self in let e = w.in-Some.reach in let next = w.word_at-word-in-loop-made in
+          let q = w.execute.new.counters in let v = w.execute.new.self in let m = w.end_step.new.self in let e = w.in-Some.tests in let next = w.word_at-word-in-loop-made in
           let single = c.single_step-single.result in let ends = g.U.Until.ends c.args.until.now in
           let turn = turn-of refuses l.word l.counters q l.self v m _ e single i.goes i.word w.execute.ensures.answer w.execute.ensures.state w.in-Some.is i.free w.end_step.ensures.state in
           let last : made - 1 ≡ l.made = omega (arith, w.made-is) in

@@ -1,19 +1,19 @@
-// What an instruction changes of a machine.
+// What an instruction touches of a machine.
 
 ghost use Rattle.std.specs.Prelude.{◌≡◌, ◌<◌};
 ghost use Rattle.rsp_decode.specs.Table.{IsInstruction};
-ghost use Rattle.rsp_machine.specs.Undo.{change_of, changes_memory, can_undo};
-ghost use Rattle.rsp_machine.specs.Changes.{IsChange, reach_of};
+ghost use Rattle.rsp_machine.specs.Footprint.{footprint_of, is_store, can_undo};
+ghost use Rattle.rsp_machine.specs.LoopTests.{IsFootprint, tests_of};
 
 use crate::machine::Machine;
 use rsp_acc::Acc;
 use rsp_decode::{BranchSignOp, Inst, JumpOp, MoveOp, VectorLoadOp, VectorStoreOp};
 use rsp_regs::is_length_register;
 
-/// What an instruction changes of a machine besides pc and npc, with the register or the address. A register number is a word
+/// What an instruction touches of a machine besides pc and npc, with the register or the address. A register number is a word
 /// here, because a step stores a word at once.
 #[derive(Clone, Copy)]
-pub(crate) enum Change {
+pub(crate) enum Footprint {
     /// Nothing else.
     ProgramCounters,
     /// A scalar register.
@@ -46,7 +46,7 @@ pub(crate) enum Change {
 
 /// What the loop of steps tests after an instruction. Each arm of the decoder sets these to constants, so LLVM removes the tests.
 #[derive(Clone, Copy, Drop)]
-pub(crate) struct Reach {
+pub(crate) struct StepTests {
     /// Whether the instruction may have read or written the SP registers.
     pub(crate) sp: bool,
     /// Whether it may have written DMEM.
@@ -55,25 +55,25 @@ pub(crate) struct Reach {
     pub(crate) dma: bool,
 }
 
-impl Change {
-    /// What the loop of steps tests after an instruction with this change.
+impl Footprint {
+    /// What the loop of steps tests after an instruction with this footprint.
     #[inline(always)]
-    pub(crate) fn reach(self) -> Reach
-        ensures { result ≡ reach_of self }
+    pub(crate) fn tests(self) -> StepTests
+        ensures { result ≡ tests_of self }
     {
-        Reach {
-            sp: matches!(self, Change::Sp(_) | Change::Dma),
-            dmem: self.stores(),
+        StepTests {
+            sp: matches!(self, Footprint::Sp(_) | Footprint::Dma),
+            dmem: self.is_store() || !self.can_undo(),
             dma: !self.can_undo(),
         }
     }
 
-    /// Whether the instruction may have written DMEM.
+    /// Whether the instruction is a store.
     #[inline(always)]
-    pub(crate) fn stores(self) -> bool
-        ensures { result ≡ changes_memory self }
+    pub(crate) fn is_store(self) -> bool
+        ensures { result ≡ is_store self }
     {
-        matches!(self, Change::Bytes(_) | Change::Dma)
+        matches!(self, Footprint::Bytes(_))
     }
 
     /// Whether the instruction can be undone by its record.
@@ -81,51 +81,53 @@ impl Change {
     pub(crate) fn can_undo(self) -> bool
         ensures { result ≡ can_undo self }
     {
-        !matches!(self, Change::Dma)
+        !matches!(self, Footprint::Dma)
     }
 }
 
-/// What an instruction changes of a machine.
+/// What an instruction touches of a machine.
 #[inline(always)]
-#[tactic(auto, unfolding(crate::specs::Undo::change_of))]
-pub(crate) fn change_of<A: Acc>(inst: &Inst, machine: &Machine<A>) -> Change
+#[tactic(auto, unfolding(crate::specs::Footprint::footprint_of))]
+pub(crate) fn footprint_of<A: Acc>(inst: &Inst, machine: &Machine<A>) -> Footprint
     requires { IsInstruction inst.now }
-    ensures value { result ≡ change_of inst.now machine.now }
-    ensures change { IsChange result }
+    ensures value { result ≡ footprint_of inst.now machine.now }
+    ensures within { IsFootprint result }
 {
     match *inst {
         Inst::Shift { rd, .. } | Inst::JumpLinkRegister { rd, .. } => {
-            Change::Register(u32::from(rd))
+            Footprint::Register(u32::from(rd))
         }
         Inst::ShiftBy { fields, .. } | Inst::Register { fields, .. } => {
-            Change::Register(u32::from(fields.rd))
+            Footprint::Register(u32::from(fields.rd))
         }
-        Inst::Immediate { rt, .. } | Inst::LoadUpper { rt, .. } => Change::Register(u32::from(rt)),
-        Inst::Load { fields, .. } => Change::Register(u32::from(fields.rt)),
-        Inst::Store { fields, .. } => Change::Bytes(rsp_scalar::address(
+        Inst::Immediate { rt, .. } | Inst::LoadUpper { rt, .. } => Footprint::Register(u32::from(
+            rt,
+        )),
+        Inst::Load { fields, .. } => Footprint::Register(u32::from(fields.rt)),
+        Inst::Store { fields, .. } => Footprint::Bytes(rsp_scalar::address(
             &machine.regs,
             fields.base,
             fields.offset,
         )),
         Inst::JumpRegister { .. } | Inst::BranchEqual { .. } | Inst::Idle { .. } =>
-            Change::ProgramCounters,
+            Footprint::ProgramCounters,
         Inst::BranchSign { row, .. } => match row {
-            BranchSignOp::Bltzal | BranchSignOp::Bgezal => Change::Register(31),
+            BranchSignOp::Bltzal | BranchSignOp::Bgezal => Footprint::Register(31),
             BranchSignOp::Bltz | BranchSignOp::Bgez | BranchSignOp::Blez | BranchSignOp::Bgtz =>
-                Change::ProgramCounters,
+                Footprint::ProgramCounters,
         },
         Inst::Jump { row, .. } => match row {
-            JumpOp::Jal => Change::Register(31),
-            JumpOp::J => Change::ProgramCounters,
+            JumpOp::Jal => Footprint::Register(31),
+            JumpOp::J => Footprint::ProgramCounters,
         },
-        Inst::Break => Change::Sp(0),
+        Inst::Break => Footprint::Sp(0),
         Inst::MoveSp { row, rt, register } => match row {
-            MoveOp::From => Change::Sp(u32::from(rt)),
+            MoveOp::From => Footprint::Sp(u32::from(rt)),
             MoveOp::To => {
                 if is_length_register(u32::from(register)) {
-                    Change::Dma
+                    Footprint::Dma
                 } else {
-                    Change::Sp(0)
+                    Footprint::Sp(0)
                 }
             }
         },
@@ -135,31 +137,31 @@ pub(crate) fn change_of<A: Acc>(inst: &Inst, machine: &Machine<A>) -> Change
             vector,
             ..
         } => match row {
-            MoveOp::From => Change::Register(u32::from(rt)),
-            MoveOp::To => Change::Vector(u32::from(vector)),
+            MoveOp::From => Footprint::Register(u32::from(rt)),
+            MoveOp::To => Footprint::Vector(u32::from(vector)),
         },
         Inst::MoveControl { row, rt, .. } => match row {
-            MoveOp::From => Change::Register(u32::from(rt)),
-            MoveOp::To => Change::Flags,
+            MoveOp::From => Footprint::Register(u32::from(rt)),
+            MoveOp::To => Footprint::Flags,
         },
         Inst::Multiply { fields, .. }
         | Inst::Round { fields, .. }
-        | Inst::MpegMultiply { fields, .. } => Change::Product(u32::from(fields.vd)),
-        Inst::ReadAccumulator { fields } => Change::Vector(u32::from(fields.vd)),
+        | Inst::MpegMultiply { fields, .. } => Footprint::Product(u32::from(fields.vd)),
+        Inst::ReadAccumulator { fields } => Footprint::Vector(u32::from(fields.vd)),
         Inst::VectorAdd { fields, .. } | Inst::VectorMerge { fields } => {
-            Change::Sum(u32::from(fields.vd))
+            Footprint::Sum(u32::from(fields.vd))
         }
-        Inst::VectorSelect { fields, .. } => Change::Choice(u32::from(fields.vd)),
-        Inst::VectorClip { fields, .. } => Change::Clip(u32::from(fields.vd)),
-        Inst::VectorLogic { fields, .. } => Change::Low(u32::from(fields.vd)),
-        Inst::Divide { vd, .. } => Change::Divide(u32::from(vd)),
+        Inst::VectorSelect { fields, .. } => Footprint::Choice(u32::from(fields.vd)),
+        Inst::VectorClip { fields, .. } => Footprint::Clip(u32::from(fields.vd)),
+        Inst::VectorLogic { fields, .. } => Footprint::Low(u32::from(fields.vd)),
+        Inst::Divide { vd, .. } => Footprint::Divide(u32::from(vd)),
         Inst::VectorLoad { row, fields } => match row {
-            VectorLoadOp::Ltv => Change::Group(u32::from(fields.vt - fields.vt % 8)),
-            _ => Change::Vector(u32::from(fields.vt)),
+            VectorLoadOp::Ltv => Footprint::Group(u32::from(fields.vt - fields.vt % 8)),
+            _ => Footprint::Vector(u32::from(fields.vt)),
         },
         Inst::VectorStore { row, fields } => {
             let a = rsp_loadstore::address(inst, machine.regs.get(fields.base));
-            Change::Bytes(match row {
+            Footprint::Bytes(match row {
                 VectorStoreOp::Srv => a - a % 16,
                 _ => a - a % 8,
             })

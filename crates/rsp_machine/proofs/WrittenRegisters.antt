@@ -12,20 +12,20 @@ use Rattle.rsp_memory.specs.Memory.{word_at}
 use Rattle.rsp_regs.specs.Sp.{is_length_register}
 use Rattle.rsp_loadstore.specs.Reach.{writes_group}
 use Rattle.rsp_machine.specs.State.{State}
-use Rattle.rsp_machine.specs.Undo.{change_of}
-use Rattle.rsp_machine.specs.Effects.{scalar_of, effect_by, effect_of}
-use Rattle.rsp_machine.specs.declared.change.Change.TheVariants as of
+use Rattle.rsp_machine.specs.Footprint.{footprint_of, scalar_in}
+use Rattle.rsp_machine.specs.Writes.{writes_by, writes_of}
+use Rattle.rsp_machine.specs.declared.footprint.Footprint.TheVariants as of
 
-none_below : (dma : Bool) → scalar_of (if dma then of.Dma else of.Sp 0) < 32
+none_below : (dma : Bool) → scalar_in (if dma then of.Dma else of.Sp 0) < 32
 none_below true = lit< tt
 none_below false = lit< tt
 
-load_below : (group : Bool) (vt : ℕ) → scalar_of (if group then of.Group (vt - vt % 8) else of.Vector vt) < 32
+load_below : (group : Bool) (vt : ℕ) → scalar_in (if group then of.Group (vt - vt % 8) else of.Vector vt) < 32
 load_below true vt = lit< tt
 load_below false vt = lit< tt
 
-scalar-below : (i : Inst) (s : State) → IsInstruction i → scalar_of (change_of i s) < 32
-unfolding change_of
+scalar-below : (i : Inst) (s : State) → IsInstruction i → scalar_in (footprint_of i s) < 32
+unfolding footprint_of
 scalar-below (Shift row rd rt amount) s h = h.0
 scalar-below (ShiftBy row f) s h = h.0
 scalar-below (JumpLinkRegister rd rs) s h = h.0
@@ -50,10 +50,10 @@ scalar-below (MoveControl To rt control) s h = lit< tt
 scalar-below (VectorLoad row f) s h = load_below (writes_group row) f.vt
 scalar-below _ s h = lit< tt
 
-below_by : (o : Option Inst) (s : State) → IfSome o IsInstruction → (effect_by o s).scalar < 32
+below_by : (o : Option Inst) (s : State) → IfSome o IsInstruction → (writes_by o s).scalar < 32
 below_by None s h = lit< tt
 below_by (Some i) s h = scalar-below i s h
 
-pub effect-below : (s : State) → (effect_of s).scalar < 32
-unfolding effect_of
-effect-below s = let w = word_at s.imem s.pc in below_by (inst_of w) s (decoded_instruction w (inst_of w) refl)
+pub writes-below : (s : State) → (writes_of s).scalar < 32
+unfolding writes_of
+writes-below s = let w = word_at s.imem s.pc in below_by (inst_of w) s (decoded_instruction w (inst_of w) refl)
