@@ -2,3 +2,4 @@
 pub mod Wrap
 pub mod Signed
 pub mod Join
+pub mod Roots

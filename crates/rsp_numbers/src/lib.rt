@@ -3,6 +3,9 @@
 //!
 //! The definitions are in `specs/Numbers.antt`, for the contracts of all crates; `laws` proves what characterizes them.
 //! Of code there is only [`sign_extend`], which scalar instructions and moves share.
+//!
+//! `specs/Roots.antt` defines the roots of the root table, and `proofs/Roots.antt` proves that there is one for each
+//! index. They are here since the definition of a table entry names that proof, which has to be in a crate below.
 #![tactic(auto)]
 
 pub mod laws;

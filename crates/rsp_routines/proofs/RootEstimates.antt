@@ -4,9 +4,10 @@ use Rattle.std.proofs.lemmas.Bool.{cases_lt, cases_eq}
 use Rattle.std.proofs.lemmas.Bool.Decides.{nat_tests}
 use Rattle.std.proofs.lemmas.Nat.{leading_top, mul-le, pow-add}
 use Rattle.std.proofs.Math.Nat.{mul-le-mul_left, le_of_mul-le-mul_right}
-use Rattle.rsp_divide.specs.Entries.{IsRoot, root_of, root_entry, radicand}
+use Rattle.rsp_numbers.specs.Roots.{IsRoot, radicand}
+use Rattle.rsp_divide.specs.Entries.{root_entry}
 use Rattle.rsp_divide.specs.Quotients.{root_bits, zeros}
-use Rattle.rsp_divide.proofs.Roots.{root_exists, root_small, radicand_low}
+use Rattle.rsp_numbers.proofs.Roots.{one_root, root_small}
 use Rattle.rsp_microcode.proofs.Reciprocals.{root_bits_small}
 
 -- x times the square of its estimate q: near 2^62
@@ -48,8 +49,8 @@ root_large a b to is = elim (cases_lt b (2 ^ 17)) [
 entry_close : (i a s : ℕ) → radicand i ≡ a → 256 ≤ a → a ≤ 1023 → 256 * s ≤ a → IsClose a s (65536 + root_entry i)
 unfolding root_entry
 entry_close i a s e from to long =
-    let b = root_of (radicand i) in
-    let is : IsRoot a b = subst (λ (n : ℕ). IsRoot n b) e (root_exists (radicand i) (radicand_low i)) in
+    let b = (one_root i).0 in
+    let is : IsRoot a b = subst (λ (n : ℕ). IsRoot n b) e (one_root i).1 in
     let small = root_small a b from is in
     let large = root_large a b to is in
     half_close a s b (65536 + b / 2 % 65536) from to long is (omega arith) (omega arith)

@@ -1,7 +1,5 @@
-use Rattle.std.proofs.Common.{sym}
-use Rattle.rsp_divide.specs.Entries.{radicand, root_of}
-use Rattle.rsp_divide.proofs.Roots.{root_exists, root_is, root_small, radicand_low}
+use Rattle.rsp_numbers.proofs.Roots.{one_root}
 use Rattle.rsp_divide.proofs.laws.l2.Goals as goal
 
 pub returns : goal.returns
-returns c = λ i lt. (root_of (radicand i), root_exists _ (radicand_low i), λ b r. sym (root_is (radicand i) b (root_small (radicand i) b (radicand_low i) r) r))
+returns c = λ i lt. one_root i
