@@ -13,7 +13,7 @@ use Rattle.rsp_syntax.specs.Statement.{Labels, OperandValue, Statement, nothing,
 use Rattle.rsp_syntax.specs.SourceLine.{LineParts, split_line, is_label_taken, has_bad_number, statement_fault, parts_fault, first_fault, statement_words, parts_words, line_words}
 use Rattle.std.specs.Str.Lines.{lines}
 use Rattle.std.proofs.lemmas.Bool.{false≢true}
-use Rattle.rsp_asm.specs.AssembleFaults.{IsFault, HidesNoFault}
+use Rattle.rsp_asm.specs.AssembleFaults.{IsFault, HidesNoFault, NoTextMeansOutOfMemory}
 use Rattle.rsp_syntax.specs.SourceText.{all_labels, fault_of_line, words_of_line, or_fault, fault_before, and_words, words_before, unless, meaning_of_lines}
 
 -- a kind that a text can have
@@ -146,7 +146,10 @@ means_of_text ls origin f e = go (fault_before origin ls (length ls)) refl e
         let same : fault ≡ f = cc in
         fault_fine origin ls (length ls) f (is ∙ ap Some same)
 
+pub not_out_of_memory : NoTextMeansOutOfMemory
+not_out_of_memory text origin f means e = false≢true (sym (ap of_text e) ∙ means_of_text (lines text) origin f means)
+
 -- there was no memory at a line where that hides no fault of the text
 pub short_hides : (origin : ℕ) (text : List ℕ) (f : AsmFault) → IsFault origin text f → f.kind ≡ OutOfMemory → HidesNoFault origin (lines text) f.line
-short_hides origin text f (inl meaning_of_text) e = absurd (false≢true (sym (ap of_text e) ∙ means_of_text (lines text) origin f meaning_of_text))
+short_hides origin text f (inl means) e = absurd (not_out_of_memory text origin f means e)
 short_hides origin text f (inr short) e = short.hides

@@ -19,6 +19,10 @@ pub record IsOutOfMemory (origin : ℕ) (text : List ℕ) (fault : AsmFault) : T
   pub kind : fault.kind ≡ OutOfMemory
   pub hides : HidesNoFault origin (lines text) fault.line
 
+-- no text, at no origin, means the fault OutOfMemory
+abbrev pub NoTextMeansOutOfMemory : Type 0
+NoTextMeansOutOfMemory = (text : List ℕ) (origin : ℕ) (fault : AsmFault) → meaning_of_text text origin ≡ Err fault → ¬ (fault.kind ≡ OutOfMemory)
+
 -- the fault of the text, or OutOfMemory
 abbrev pub IsFault : ℕ → List ℕ → AsmFault → Type 0
 IsFault origin text fault = (meaning_of_text text origin ≡ Err fault) ⊎ IsOutOfMemory origin text fault

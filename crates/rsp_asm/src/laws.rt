@@ -1,5 +1,6 @@
-//! Laws of the words of a source text. Each law is the contract of a function that does nothing.
+//! Laws of the words of a source text, and of its fault. Each law is the contract of a function that does nothing.
 
+ghost use Rattle.rsp_asm.specs.AssembleFaults.{NoTextMeansOutOfMemory};
 ghost use Rattle.rsp_asm.specs.Decoding.{BlocksDecode, StatementsDecode};
 
 /// The instruction table decodes what the assembler writes: an accepted statement of an instruction gives one word, and the table
@@ -14,4 +15,9 @@ pub fn words_decode()
 /// each other from the origin on, line by line, and none is left out.
 pub fn blocks_decode()
     ensures { BlocksDecode }
+{}
+
+/// No text means the fault OutOfMemory, at no origin: [`assemble`](crate::assemble) returns it only if an allocation failed.
+pub fn no_text_means_out_of_memory()
+    ensures { NoTextMeansOutOfMemory }
 {}
