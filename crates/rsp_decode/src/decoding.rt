@@ -26,6 +26,7 @@ pub fn decode(word: u32) -> Option<Inst>
     meaning(word)
 }
 
+/// The instruction that [`visit`] hands to a visitor which keeps it.
 #[inline]
 fn meaning(word: u32) -> Option<Inst>
     ensures { result ≡ inst_of word }

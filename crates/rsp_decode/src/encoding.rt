@@ -35,6 +35,7 @@ pub fn encode(inst: &Inst) -> u32
     canonical_word(inst)
 }
 
+/// The canonical word of an instruction, by a match with an arm for each variant: its selecting bits, and its fields.
 fn canonical_word(inst: &Inst) -> u32
     requires { IsInstruction inst.now }
     ensures { result ≡ word_of inst.now }
@@ -120,7 +121,7 @@ fn canonical_word(inst: &Inst) -> u32
     }
 }
 
-// A word with the fields of `$vD, $vS, $vT[e]` added.
+/// A word with the fields of `$vD, $vS, $vT[e]` added.
 #[inline]
 fn with_vectors(word: u32, fields: VectorFields) -> u32
     ensures { result ≡ with_fields word (flat_map bit_fields vector_operands) (vector_values fields) }
@@ -128,7 +129,7 @@ fn with_vectors(word: u32, fields: VectorFields) -> u32
     word | at(fields.vd, 6) | at(fields.vs, 11) | at(fields.vt, 16) | at(fields.element, 21)
 }
 
-// A field whose lowest bit is bit `low` of a word.
+/// A field whose lowest bit is bit `low` of a word.
 #[inline]
 fn at(field: u8, low: u32) -> u32
     requires { low ≤ 24 }
@@ -137,6 +138,7 @@ fn at(field: u8, low: u32) -> u32
     u32::from(field) << low
 }
 
+/// The number of a control register of the vector unit, as `cfc2` and `ctc2` have it.
 #[inline]
 fn control_bits(control: Control) -> u8
     ensures { result ≡ control_number control }

@@ -18,6 +18,7 @@ use crate::scalar::{
 };
 use crate::visitor::Visitor;
 
+/// `sll`, `srl` and `sra`: hands the visitor the operation, rd, rt and the shift amount.
 #[inline]
 fn shift<V: Visitor>(word: u32, row: ShiftOp, visitor: &mut V)
     ensures { visitor.new ≡ V.after (meaning_of (shift_row row) word) visitor.old }
@@ -30,6 +31,7 @@ fn shift<V: Visitor>(word: u32, row: ShiftOp, visitor: &mut V)
     });
 }
 
+/// `sllv`, `srlv` and `srav`: hands the visitor the operation, rd, rt and rs.
 #[inline]
 fn shift_by<V: Visitor>(word: u32, row: ShiftVariableOp, visitor: &mut V)
     ensures { visitor.new ≡ V.after (meaning_of (shift_by_row row) word) visitor.old }
@@ -40,6 +42,7 @@ fn shift_by<V: Visitor>(word: u32, row: ShiftVariableOp, visitor: &mut V)
     });
 }
 
+/// `jr`: hands the visitor rs.
 #[inline]
 fn jump_register<V: Visitor>(word: u32, visitor: &mut V)
     ensures { visitor.new ≡ V.after (meaning_of jump_register_row word) visitor.old }
@@ -47,6 +50,7 @@ fn jump_register<V: Visitor>(word: u32, visitor: &mut V)
     visitor.take(Inst::JumpRegister { rs: rs(word) });
 }
 
+/// `jalr`: hands the visitor rd and rs.
 #[inline]
 fn jump_link_register<V: Visitor>(word: u32, visitor: &mut V)
     ensures { visitor.new ≡ V.after (meaning_of jump_link_register_row word) visitor.old }
@@ -57,6 +61,7 @@ fn jump_link_register<V: Visitor>(word: u32, visitor: &mut V)
     });
 }
 
+/// The instructions on two registers, from `add` to `sltu`: hands the visitor the operation, rd, rs and rt.
 #[inline]
 fn register<V: Visitor>(word: u32, row: RegisterOp, visitor: &mut V)
     ensures { visitor.new ≡ V.after (meaning_of (register_row row) word) visitor.old }
@@ -67,6 +72,7 @@ fn register<V: Visitor>(word: u32, row: RegisterOp, visitor: &mut V)
     });
 }
 
+/// `break`, which has no fields: hands it to the visitor.
 #[inline]
 fn break_instruction<V: Visitor>(word: u32, visitor: &mut V)
     ensures { visitor.new ≡ V.after (meaning_of break_row word) visitor.old }
@@ -74,6 +80,8 @@ fn break_instruction<V: Visitor>(word: u32, visitor: &mut V)
     visitor.take(Inst::Break);
 }
 
+/// Opcode 0: hands the visitor the instruction that the function selects, and returns true. If the function is reserved it
+/// returns false, and the visitor is unchanged.
 #[inline(always)]
 pub fn visit_special<V: Visitor>(word: u32, visitor: &mut V) -> bool
     ensures known { result ≡ is_instruction (pick special_rows (value_at word (whole 0 6)) word) }
@@ -82,6 +90,7 @@ pub fn visit_special<V: Visitor>(word: u32, visitor: &mut V) -> bool
     instruction_table!(arms(special(function(word), word, visitor)))
 }
 
+/// The branches on the sign of a register: hands the visitor the operation, rs and the offset.
 #[inline]
 fn branch_sign<V: Visitor>(word: u32, row: BranchSignOp, visitor: &mut V)
     ensures { visitor.new ≡ V.after (meaning_of (branch_sign_row row) word) visitor.old }
@@ -93,6 +102,8 @@ fn branch_sign<V: Visitor>(word: u32, row: BranchSignOp, visitor: &mut V)
     });
 }
 
+/// Opcode 1: hands the visitor the branch that rt selects, and returns true. If rt is reserved it returns false, and the
+/// visitor is unchanged.
 #[inline(always)]
 pub fn visit_regimm<V: Visitor>(word: u32, visitor: &mut V) -> bool
     ensures known { result ≡ is_instruction (pick regimm_rows (2 ^ 26 + value_at word (whole 16 5) * 2 ^ 16) word) }
@@ -101,6 +112,7 @@ pub fn visit_regimm<V: Visitor>(word: u32, visitor: &mut V) -> bool
     instruction_table!(arms(regimm(rt(word), word, visitor)))
 }
 
+/// `beq` and `bne`: hands the visitor the operation, rs, rt and the offset.
 #[inline]
 fn branch_equal<V: Visitor>(word: u32, row: BranchEqualOp, visitor: &mut V)
     ensures { visitor.new ≡ V.after (meaning_of (branch_equal_row row) word) visitor.old }
@@ -113,6 +125,7 @@ fn branch_equal<V: Visitor>(word: u32, row: BranchEqualOp, visitor: &mut V)
     });
 }
 
+/// `j` and `jal`: hands the visitor the operation and the target.
 #[inline]
 fn jump<V: Visitor>(word: u32, row: JumpOp, visitor: &mut V)
     ensures { visitor.new ≡ V.after (meaning_of (jump_row row) word) visitor.old }
@@ -123,6 +136,7 @@ fn jump<V: Visitor>(word: u32, row: JumpOp, visitor: &mut V)
     });
 }
 
+/// The instructions with an immediate, from `addi` to `xori`: hands the visitor the operation, rt, rs and the immediate.
 #[inline]
 fn with_immediate<V: Visitor>(word: u32, row: ImmediateOp, visitor: &mut V)
     ensures { visitor.new ≡ V.after (Inst.Immediate row (value_at word (whole 16 5)) (value_at word (whole 21 5)) (value_at word (whole 0 16))) visitor.old }
@@ -135,6 +149,7 @@ fn with_immediate<V: Visitor>(word: u32, row: ImmediateOp, visitor: &mut V)
     });
 }
 
+/// `lui`: hands the visitor rt and the immediate.
 #[inline]
 fn load_upper<V: Visitor>(word: u32, visitor: &mut V)
     ensures { visitor.new ≡ V.after (meaning_of load_upper_row word) visitor.old }
@@ -145,6 +160,7 @@ fn load_upper<V: Visitor>(word: u32, visitor: &mut V)
     });
 }
 
+/// The scalar loads: hands the visitor the operation, rt, the offset and the base.
 #[inline]
 fn load<V: Visitor>(word: u32, row: LoadOp, visitor: &mut V)
     ensures { visitor.new ≡ V.after (meaning_of (load_row row) word) visitor.old }
@@ -155,6 +171,7 @@ fn load<V: Visitor>(word: u32, row: LoadOp, visitor: &mut V)
     });
 }
 
+/// The scalar stores: hands the visitor the operation, rt, the offset and the base.
 #[inline]
 fn store<V: Visitor>(word: u32, row: StoreOp, visitor: &mut V)
     ensures { visitor.new ≡ V.after (meaning_of (store_row row) word) visitor.old }
@@ -165,6 +182,8 @@ fn store<V: Visitor>(word: u32, row: StoreOp, visitor: &mut V)
     });
 }
 
+/// The opcodes that select an instruction alone: hands the visitor that instruction, and returns true. If the opcode is reserved
+/// it returns false, and the visitor is unchanged.
 #[inline(always)]
 pub fn visit_opcode<V: Visitor>(word: u32, visitor: &mut V) -> bool
     ensures known { result ≡ is_instruction (pick opcode_rows (value_at word (whole 26 6) * 2 ^ 26) word) }
@@ -173,6 +192,7 @@ pub fn visit_opcode<V: Visitor>(word: u32, visitor: &mut V) -> bool
     instruction_table!(arms(opcode(opcode(word), word, visitor)))
 }
 
+/// `mfc0` and `mtc0`: hands the visitor the operation, rt and the SP register.
 #[inline]
 fn move_sp<V: Visitor>(word: u32, row: MoveOp, visitor: &mut V)
     ensures { visitor.new ≡ V.after (meaning_of (move_sp_row row) word) visitor.old }
@@ -184,6 +204,8 @@ fn move_sp<V: Visitor>(word: u32, row: MoveOp, visitor: &mut V)
     });
 }
 
+/// Opcode 16: hands the visitor the move that rs selects, and returns true. If rs is reserved it returns false, and the
+/// visitor is unchanged.
 #[inline(always)]
 pub fn visit_cop0<V: Visitor>(word: u32, visitor: &mut V) -> bool
     ensures known { result ≡ is_instruction (pick cop0_rows (16 * 2 ^ 26 + value_at word (whole 21 5) * 2 ^ 21) word) }

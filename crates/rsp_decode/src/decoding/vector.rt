@@ -19,6 +19,7 @@ use crate::vector::{
 };
 use crate::visitor::Visitor;
 
+/// `mfc2` and `mtc2`: hands the visitor the operation, rt, the vector register and the byte element.
 #[inline]
 fn move_vector<V: Visitor>(word: u32, row: MoveOp, visitor: &mut V)
     ensures { visitor.new ≡ V.after (meaning_of (move_vector_row row) word) visitor.old }
@@ -31,6 +32,7 @@ fn move_vector<V: Visitor>(word: u32, row: MoveOp, visitor: &mut V)
     });
 }
 
+/// `cfc2` and `ctc2`: hands the visitor the operation, rt and the control register.
 #[inline]
 fn move_control<V: Visitor>(word: u32, row: MoveOp, visitor: &mut V)
     ensures { visitor.new ≡ V.after (meaning_of (move_control_row row) word) visitor.old }
@@ -42,6 +44,8 @@ fn move_control<V: Visitor>(word: u32, row: MoveOp, visitor: &mut V)
     });
 }
 
+/// Opcode 18 without bit 25: hands the visitor the move that rs selects, and returns true. If rs is reserved it returns false,
+/// and the visitor is unchanged.
 #[inline(always)]
 pub fn visit_cop2<V: Visitor>(word: u32, visitor: &mut V) -> bool
     ensures known { result ≡ is_instruction (pick cop2_rows (18 * 2 ^ 26 + value_at word (whole 21 5) * 2 ^ 21) word) }
@@ -50,6 +54,7 @@ pub fn visit_cop2<V: Visitor>(word: u32, visitor: &mut V) -> bool
     instruction_table!(arms(cop2(rs(word), word, visitor)))
 }
 
+/// The multiplies: hands the visitor the operation, vd, vs, vt and the element.
 #[inline]
 fn multiply<V: Visitor>(word: u32, row: VectorMultiplyOp, visitor: &mut V)
     ensures { visitor.new ≡ V.after (meaning_of (multiply_row row) word) visitor.old }
@@ -60,6 +65,7 @@ fn multiply<V: Visitor>(word: u32, row: VectorMultiplyOp, visitor: &mut V)
     });
 }
 
+/// `vrndp` and `vrndn`: hands the visitor the operation, vd, vs, vt and the element.
 #[inline]
 fn round<V: Visitor>(word: u32, row: VectorRoundOp, visitor: &mut V)
     ensures { visitor.new ≡ V.after (meaning_of (round_row row) word) visitor.old }
@@ -70,6 +76,7 @@ fn round<V: Visitor>(word: u32, row: VectorRoundOp, visitor: &mut V)
     });
 }
 
+/// `vmulq` and `vmacq`: hands the visitor the operation, vd, vs, vt and the element.
 #[inline]
 fn mpeg_multiply<V: Visitor>(word: u32, row: VectorMpegOp, visitor: &mut V)
     ensures { visitor.new ≡ V.after (meaning_of (mpeg_row row) word) visitor.old }
@@ -80,6 +87,7 @@ fn mpeg_multiply<V: Visitor>(word: u32, row: VectorMpegOp, visitor: &mut V)
     });
 }
 
+/// `vsar`: hands the visitor vd, vs, vt and the element.
 #[inline]
 fn read_accumulator<V: Visitor>(word: u32, visitor: &mut V)
     ensures { visitor.new ≡ V.after (meaning_of read_accumulator_row word) visitor.old }
@@ -89,6 +97,7 @@ fn read_accumulator<V: Visitor>(word: u32, visitor: &mut V)
     });
 }
 
+/// The sums, the differences and `vabs`: hands the visitor the operation, vd, vs, vt and the element.
 #[inline]
 fn vector_add<V: Visitor>(word: u32, row: VectorAddOp, visitor: &mut V)
     ensures { visitor.new ≡ V.after (meaning_of (vector_add_row row) word) visitor.old }
@@ -99,6 +108,7 @@ fn vector_add<V: Visitor>(word: u32, row: VectorAddOp, visitor: &mut V)
     });
 }
 
+/// The comparisons: hands the visitor the operation, vd, vs, vt and the element.
 #[inline]
 fn vector_select<V: Visitor>(word: u32, row: VectorSelectOp, visitor: &mut V)
     ensures { visitor.new ≡ V.after (meaning_of (vector_select_row row) word) visitor.old }
@@ -109,6 +119,7 @@ fn vector_select<V: Visitor>(word: u32, row: VectorSelectOp, visitor: &mut V)
     });
 }
 
+/// The clips: hands the visitor the operation, vd, vs, vt and the element.
 #[inline]
 fn vector_clip<V: Visitor>(word: u32, row: VectorClipOp, visitor: &mut V)
     ensures { visitor.new ≡ V.after (meaning_of (vector_clip_row row) word) visitor.old }
@@ -119,6 +130,7 @@ fn vector_clip<V: Visitor>(word: u32, row: VectorClipOp, visitor: &mut V)
     });
 }
 
+/// `vmrg`: hands the visitor vd, vs, vt and the element.
 #[inline]
 fn vector_merge<V: Visitor>(word: u32, visitor: &mut V)
     ensures { visitor.new ≡ V.after (meaning_of vector_merge_row word) visitor.old }
@@ -128,6 +140,7 @@ fn vector_merge<V: Visitor>(word: u32, visitor: &mut V)
     });
 }
 
+/// The logic instructions: hands the visitor the operation, vd, vs, vt and the element.
 #[inline]
 fn vector_logic<V: Visitor>(word: u32, row: VectorLogicOp, visitor: &mut V)
     ensures { visitor.new ≡ V.after (meaning_of (vector_logic_row row) word) visitor.old }
@@ -138,6 +151,7 @@ fn vector_logic<V: Visitor>(word: u32, row: VectorLogicOp, visitor: &mut V)
     });
 }
 
+/// The divides and `vmov`: hands the visitor the operation, vd, the lane, vt and the element.
 #[inline]
 fn divide<V: Visitor>(word: u32, row: VectorDivideOp, visitor: &mut V)
     ensures { visitor.new ≡ V.after (meaning_of (divide_row row) word) visitor.old }
@@ -151,6 +165,7 @@ fn divide<V: Visitor>(word: u32, row: VectorDivideOp, visitor: &mut V)
     });
 }
 
+/// `vnop` and `vnull`, whose fields are ignored: hands the visitor the operation.
 #[inline]
 fn idle<V: Visitor>(word: u32, row: VectorNopOp, visitor: &mut V)
     ensures { visitor.new ≡ V.after (meaning_of (idle_row row) word) visitor.old }
@@ -190,6 +205,7 @@ pub fn visit_computing<V: Visitor>(word: u32, visitor: &mut V) -> bool
     visit_products(word, visitor) || visit_others(word, visitor)
 }
 
+/// The vector loads: hands the visitor the operation, vt, the element, the offset and the base.
 #[inline]
 fn vector_load<V: Visitor>(word: u32, row: VectorLoadOp, visitor: &mut V)
     requires { IsInstruction (Inst.VectorLoad row (vector_memory_in word)) }
@@ -201,6 +217,8 @@ fn vector_load<V: Visitor>(word: u32, row: VectorLoadOp, visitor: &mut V)
     });
 }
 
+/// Opcode 50: hands the visitor the load that the operation selects, and returns true. If the word is reserved it returns false,
+/// and the visitor is unchanged.
 #[inline(always)]
 pub fn visit_lwc2<V: Visitor>(word: u32, visitor: &mut V) -> bool
     ensures known { result ≡ is_instruction (pick_by_operation lwc2_rows 50 word) }
@@ -209,6 +227,7 @@ pub fn visit_lwc2<V: Visitor>(word: u32, visitor: &mut V) -> bool
     instruction_table!(arms(lwc2(operation(word), word, visitor)))
 }
 
+/// The vector stores: hands the visitor the operation, vt, the element, the offset and the base.
 #[inline]
 fn vector_store<V: Visitor>(word: u32, row: VectorStoreOp, visitor: &mut V)
     requires { IsInstruction (Inst.VectorStore row (vector_memory_in word)) }
@@ -220,6 +239,8 @@ fn vector_store<V: Visitor>(word: u32, row: VectorStoreOp, visitor: &mut V)
     });
 }
 
+/// Opcode 58: hands the visitor the store that the operation selects, and returns true. If the word is reserved it returns false,
+/// and the visitor is unchanged.
 #[inline(always)]
 pub fn visit_swc2<V: Visitor>(word: u32, visitor: &mut V) -> bool
     ensures known { result ≡ is_instruction (pick_by_operation swc2_rows 58 word) }

@@ -20,6 +20,7 @@ const REGIMM: u32 = 1 << 26;
 
 const COP0: u32 = 16 << 26;
 
+/// `sll`, `srl` and `sra`: opcode 0, and the function.
 #[inline]
 pub fn shift_value(row: ShiftOp) -> u32
     ensures { result ≡ (shift_selector row).value }
@@ -27,6 +28,7 @@ pub fn shift_value(row: ShiftOp) -> u32
     row as u32
 }
 
+/// `sllv`, `srlv` and `srav`: opcode 0, and the function.
 #[inline]
 pub fn shift_by_value(row: ShiftVariableOp) -> u32
     ensures { result ≡ (shift_by_selector row).value }
@@ -34,6 +36,7 @@ pub fn shift_by_value(row: ShiftVariableOp) -> u32
     row as u32
 }
 
+/// The instructions on two registers: opcode 0, and the function.
 #[inline]
 pub fn register_value(row: RegisterOp) -> u32
     ensures { result ≡ (register_selector row).value }
@@ -41,6 +44,7 @@ pub fn register_value(row: RegisterOp) -> u32
     row as u32
 }
 
+/// The branches on a sign: opcode 1 and the number in rt, or opcode 6 or 7.
 #[inline]
 pub fn branch_sign_value(row: BranchSignOp) -> u32
     ensures { result ≡ (branch_sign_selector row).value }
@@ -55,6 +59,7 @@ pub fn branch_sign_value(row: BranchSignOp) -> u32
     }
 }
 
+/// `j` and `jal`: the opcode.
 #[inline]
 pub fn jump_value(row: JumpOp) -> u32
     ensures { result ≡ (jump_selector row).value }
@@ -62,6 +67,7 @@ pub fn jump_value(row: JumpOp) -> u32
     (row as u32) << 26
 }
 
+/// `beq` and `bne`: the opcode.
 #[inline]
 pub fn branch_equal_value(row: BranchEqualOp) -> u32
     ensures { result ≡ (branch_equal_selector row).value }
@@ -69,6 +75,7 @@ pub fn branch_equal_value(row: BranchEqualOp) -> u32
     (row as u32) << 26
 }
 
+/// The instructions with an immediate: the opcode.
 #[inline]
 pub fn immediate_value(row: ImmediateOp) -> u32
     ensures { result ≡ (immediate_selector row).value }
@@ -76,6 +83,7 @@ pub fn immediate_value(row: ImmediateOp) -> u32
     (row as u32) << 26
 }
 
+/// The scalar loads: the opcode.
 #[inline]
 pub fn load_value(row: LoadOp) -> u32
     ensures { result ≡ (load_selector row).value }
@@ -83,6 +91,7 @@ pub fn load_value(row: LoadOp) -> u32
     (row as u32) << 26
 }
 
+/// The scalar stores: the opcode.
 #[inline]
 pub fn store_value(row: StoreOp) -> u32
     ensures { result ≡ (store_selector row).value }
@@ -90,6 +99,7 @@ pub fn store_value(row: StoreOp) -> u32
     (row as u32) << 26
 }
 
+/// `mfc0` and `mtc0`: opcode 16, and the direction in rs.
 #[inline]
 pub fn move_sp_value(row: MoveOp) -> u32
     ensures { result ≡ (move_sp_selector row).value }

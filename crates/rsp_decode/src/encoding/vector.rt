@@ -21,6 +21,7 @@ pub const READ_ACCUMULATOR: u32 = COMPUTING | 0x1d;
 
 pub const VECTOR_MERGE: u32 = COMPUTING | 0x27;
 
+/// `mfc2` and `mtc2`: opcode 18, and the direction in rs.
 #[inline]
 pub fn move_vector_value(row: MoveOp) -> u32
     ensures { result ≡ (move_vector_selector row).value }
@@ -28,6 +29,7 @@ pub fn move_vector_value(row: MoveOp) -> u32
     COP2 | (row as u32) << 21
 }
 
+/// `cfc2` and `ctc2`: opcode 18, and the direction in rs, 2 higher than that of `mfc2` and `mtc2`.
 #[inline]
 pub fn move_control_value(row: MoveOp) -> u32
     ensures { result ≡ (move_control_selector row).value }
@@ -35,6 +37,7 @@ pub fn move_control_value(row: MoveOp) -> u32
     COP2 | (row as u32 + 2) << 21
 }
 
+/// The multiplies: opcode 18, bit 25 and the function.
 #[inline]
 pub fn multiply_value(row: VectorMultiplyOp) -> u32
     ensures { result ≡ (multiply_selector row).value }
@@ -42,6 +45,7 @@ pub fn multiply_value(row: VectorMultiplyOp) -> u32
     COMPUTING | row as u32
 }
 
+/// `vrndp` and `vrndn`: opcode 18, bit 25 and the function.
 #[inline]
 pub fn round_value(row: VectorRoundOp) -> u32
     ensures { result ≡ (round_selector row).value }
@@ -49,6 +53,7 @@ pub fn round_value(row: VectorRoundOp) -> u32
     COMPUTING | row as u32
 }
 
+/// `vmulq` and `vmacq`: opcode 18, bit 25 and the function.
 #[inline]
 pub fn mpeg_value(row: VectorMpegOp) -> u32
     ensures { result ≡ (mpeg_selector row).value }
@@ -56,6 +61,7 @@ pub fn mpeg_value(row: VectorMpegOp) -> u32
     COMPUTING | row as u32
 }
 
+/// The sums, the differences and `vabs`: opcode 18, bit 25 and the function.
 #[inline]
 pub fn vector_add_value(row: VectorAddOp) -> u32
     ensures { result ≡ (vector_add_selector row).value }
@@ -63,6 +69,7 @@ pub fn vector_add_value(row: VectorAddOp) -> u32
     COMPUTING | row as u32
 }
 
+/// The comparisons: opcode 18, bit 25 and the function.
 #[inline]
 pub fn vector_select_value(row: VectorSelectOp) -> u32
     ensures { result ≡ (vector_select_selector row).value }
@@ -70,6 +77,7 @@ pub fn vector_select_value(row: VectorSelectOp) -> u32
     COMPUTING | row as u32
 }
 
+/// The clips: opcode 18, bit 25 and the function.
 #[inline]
 pub fn vector_clip_value(row: VectorClipOp) -> u32
     ensures { result ≡ (vector_clip_selector row).value }
@@ -77,6 +85,7 @@ pub fn vector_clip_value(row: VectorClipOp) -> u32
     COMPUTING | row as u32
 }
 
+/// The logic instructions: opcode 18, bit 25 and the function.
 #[inline]
 pub fn vector_logic_value(row: VectorLogicOp) -> u32
     ensures { result ≡ (vector_logic_selector row).value }
@@ -84,6 +93,7 @@ pub fn vector_logic_value(row: VectorLogicOp) -> u32
     COMPUTING | row as u32
 }
 
+/// The divides and `vmov`: opcode 18, bit 25 and the function.
 #[inline]
 pub fn divide_value(row: VectorDivideOp) -> u32
     ensures { result ≡ (divide_selector row).value }
@@ -91,6 +101,7 @@ pub fn divide_value(row: VectorDivideOp) -> u32
     COMPUTING | row as u32
 }
 
+/// `vnop` and `vnull`: opcode 18, bit 25 and the function.
 #[inline]
 pub fn idle_value(row: VectorNopOp) -> u32
     ensures { result ≡ (idle_selector row).value }
@@ -98,6 +109,7 @@ pub fn idle_value(row: VectorNopOp) -> u32
     COMPUTING | row as u32
 }
 
+/// The vector loads: opcode 50, and the operation in bits 15 to 11.
 #[inline]
 pub fn vector_load_value(row: VectorLoadOp) -> u32
     ensures { result ≡ (vector_load_selector row).value }
@@ -105,6 +117,7 @@ pub fn vector_load_value(row: VectorLoadOp) -> u32
     LWC2 | (row as u32) << 11
 }
 
+/// The vector stores: opcode 58, and the operation in bits 15 to 11.
 #[inline]
 pub fn vector_store_value(row: VectorStoreOp) -> u32
     ensures { result ≡ (vector_store_selector row).value }
