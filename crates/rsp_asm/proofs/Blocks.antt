@@ -7,7 +7,7 @@ use Rattle.std.proofs.lemmas.List.{get_or_append_left, get_or-append_right}
 use Rattle.rsp_syntax.specs.declared.fault.AsmFault.{AsmFault}
 use Rattle.rsp_syntax.specs.declared.fault.AsmFaultKind.{AsmFaultKind}
 use Rattle.rsp_syntax.specs.declared.operand_range.OperandRange.TheVariants.{Word}
-use Rattle.rsp_syntax.specs.declared.text.Boundary.TheVariants.{Blank}
+use Rattle.rsp_syntax.specs.declared.line_bytes.Boundary.TheVariants.{Blank}
 use Rattle.rsp_syntax.specs.Cuts.{is_boundary}
 use Rattle.rsp_syntax.specs.Numbers.{Expression}
 use Rattle.rsp_syntax.specs.Statement.{Labels, OperandValue, ranged_value, zero_expression, Statement, nothing, numbers, instruction, Form, no_operation, numbers_form, row_form, form_named, read_all, read_numbers, with_operands, with_form, operand_texts, statement_of, size, evaluate, field_of, then_registers, fields_of, append, all_fields, words_of}

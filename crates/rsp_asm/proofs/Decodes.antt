@@ -10,7 +10,7 @@ use Rattle.rsp_decode.proofs.OneRow.{one_row}
 use Rattle.rsp_decode.proofs.BitFields.{apart_from, all_apart, under_others, fields_back, clear_from}
 use Rattle.rsp_decode.proofs.WordOfInstruction.{round_trip, word_of_is_canonical}
 use Rattle.rsp_syntax.specs.declared.fault.AsmFaultKind.{AsmFaultKind}
-use Rattle.rsp_syntax.specs.declared.text.Boundary.TheVariants.{Blank}
+use Rattle.rsp_syntax.specs.declared.line_bytes.Boundary.TheVariants.{Blank}
 use Rattle.rsp_syntax.specs.Cuts.{is_boundary}
 use Rattle.rsp_decode.specs.Table.{is_row_operand}
 use Rattle.rsp_syntax.specs.Statement.{Labels, OperandValue, nothing, numbers, instruction, Form, no_operation, numbers_form, row_form, row_named, linking_row, form_named, read_all, read_numbers, with_operands, with_form, operand_texts, all_fields, one_word, words_of}

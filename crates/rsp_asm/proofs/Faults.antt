@@ -6,7 +6,7 @@ use Rattle.rsp_syntax.specs.declared.fault.AsmFault.{AsmFault}
 use Rattle.rsp_syntax.specs.declared.fault.AsmFaultKind.{AsmFaultKind}
 use Rattle.rsp_syntax.specs.declared.fault.AsmFaultKind.TheVariants.{OutOfRange, PastEnd, LabelTwice, OutOfMemory}
 use Rattle.rsp_syntax.specs.declared.operand_range.OperandRange.{OperandRange}
-use Rattle.rsp_syntax.specs.declared.text.Boundary.TheVariants.{Blank}
+use Rattle.rsp_syntax.specs.declared.line_bytes.Boundary.TheVariants.{Blank}
 use Rattle.rsp_syntax.specs.Cuts.{is_boundary}
 use Rattle.rsp_syntax.specs.Numbers.{Expression}
 use Rattle.rsp_syntax.specs.Statement.{Labels, OperandValue, Statement, nothing, numbers, instruction, Form, form_named, statement_of_form, with_operands, with_form, operand_texts, statement_of, size, field, evaluate, or_out_of_range, field_of, then_registers, fields_with, fields_of, append, all_fields, one_word}

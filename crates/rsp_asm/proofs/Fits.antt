@@ -9,7 +9,7 @@ use Rattle.rsp_decode.specs.Table.{Operand, ByteElements, all_bytes, half_bytes,
 use Rattle.rsp_syntax.specs.declared.fault.AsmFaultKind.{AsmFaultKind}
 use Rattle.rsp_syntax.specs.declared.operand_range.OperandRange.{OperandRange}
 use Rattle.rsp_syntax.specs.declared.operand_range.OperandRange.TheVariants.{Half, Amount, Jump, Branch, Scaled}
-use Rattle.rsp_syntax.specs.declared.text.Boundary.TheVariants.{Parenthesis, Bracket}
+use Rattle.rsp_syntax.specs.declared.line_bytes.Boundary.TheVariants.{Parenthesis, Bracket}
 use Rattle.rsp_syntax.specs.Cuts.{cut}
 use Rattle.rsp_syntax.specs.Names.{look_up, below, small_number, is_decimal, scalar_names, scalar_named, vector_named, sp_named, control_names, control_named, element_names, element_named}
 use Rattle.rsp_syntax.specs.Numbers.{Expression, expression_of}

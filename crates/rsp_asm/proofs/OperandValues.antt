@@ -5,7 +5,7 @@ use Rattle.rsp_decode.specs.Table.{Operand, scalar, shift_amount, signed, unsign
 use Rattle.rsp_syntax.specs.declared.fault.AsmFaultKind.{AsmFaultKind}
 use Rattle.rsp_syntax.specs.declared.operand_range.OperandRange.{OperandRange}
 use Rattle.rsp_syntax.specs.declared.operand_range.OperandRange.TheVariants.{Half, Amount, Jump, Branch, Scaled, Word}
-use Rattle.rsp_syntax.specs.declared.text.Boundary.TheVariants.{Parenthesis, Bracket}
+use Rattle.rsp_syntax.specs.declared.line_bytes.Boundary.TheVariants.{Parenthesis, Bracket}
 use Rattle.rsp_syntax.specs.Cuts.{cut}
 use Rattle.rsp_syntax.specs.Names.{scalar_named, vector_named, sp_named, control_named, element_named}
 use Rattle.rsp_syntax.specs.Numbers.{Expression, expression_of}

@@ -7,7 +7,7 @@ use Rattle.std.proofs.lemmas.List.{drop_at, append-nil}
 use Rattle.rsp_decode.specs.Table.{Row, bit_fields, Entry, entry_of}
 use Rattle.rsp_syntax.specs.declared.fault.AsmFaultKind.{AsmFaultKind}
 use Rattle.rsp_syntax.specs.declared.fault.AsmFaultKind.TheVariants.{OutOfRange, BadOperand}
-use Rattle.rsp_syntax.specs.declared.text.Boundary.TheVariants.{Blank}
+use Rattle.rsp_syntax.specs.declared.line_bytes.Boundary.TheVariants.{Blank}
 use Rattle.rsp_syntax.specs.Cuts.{is_boundary}
 use Rattle.rsp_syntax.specs.SourceLine.{LineParts, split_line, statement_size, parts_size, line_size, statement_words, parts_words, line_words}
 use Rattle.rsp_syntax.specs.Statement.{Labels, OperandValue, Statement, nothing, numbers, instruction, Form, no_operation, numbers_form, row_form, read_all, read_numbers, form_named, statement_of_form, with_operands, with_form, statement_of, operand_texts, append, all_fields, one_word}

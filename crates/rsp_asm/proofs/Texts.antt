@@ -6,7 +6,7 @@ use Rattle.std.proofs.lemmas.Bool.{cond-false}
 use Rattle.std.proofs.lemmas.List.Splits.{length-slice_split}
 use Rattle.std.proofs.lemmas.List.Sums.{count_by-le-length}
 use Rattle.std.proofs.lemmas.List.{length-map}
-use Rattle.rsp_syntax.specs.declared.text.Boundary.TheVariants.{Comma}
+use Rattle.rsp_syntax.specs.declared.line_bytes.Boundary.TheVariants.{Comma}
 use Rattle.rsp_syntax.specs.Chars.{trim}
 use Rattle.rsp_syntax.specs.Cuts.{is_boundary, cut}
 use Rattle.rsp_syntax.specs.Statement.{operand_texts}

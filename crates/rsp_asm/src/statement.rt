@@ -3,7 +3,7 @@
 ghost use Rattle.std.specs.Prelude.{◌≡◌, ◌==◌, length, option_map, Err, IfOk, IfErr};
 ghost use Rattle.std.specs.List.{before_first, after_first};
 ghost use Rattle.rsp_syntax.specs.Cuts.{is_boundary};
-ghost use Rattle.rsp_syntax.specs.declared.text.Boundary.TheVariants.{Blank};
+ghost use Rattle.rsp_syntax.specs.declared.line_bytes.Boundary.TheVariants.{Blank};
 ghost use Rattle.rsp_syntax.specs.Statement.{statement_of, form_named, operand_texts};
 ghost use Rattle.rsp_asm.specs.Forms.{form, form_shape, Says};
 

@@ -7,15 +7,12 @@
 mod command;
 mod fault;
 mod line;
-mod number;
-mod operand;
 mod operands;
 mod parse;
 mod source_line;
-mod words;
 
 pub use command::{Command, Look};
 pub use fault::LineFault;
 pub use line::parse_line;
-pub use operand::instruction_address;
+pub use operands::instruction_address;
 pub use source_line::SourceLine;

@@ -5,8 +5,8 @@ ghost use Rattle.rsp_commands.specs.Words.{words_in, is_end};
 ghost use Rattle.rsp_commands.specs.Line.{block_command, command_of};
 ghost use Rattle.rsp_commands.specs.Command.{IsCommand};
 
+use crate::operands::Words;
 use crate::parse::parse_words;
-use crate::words::Words;
 use crate::{Command, LineFault, SourceLine};
 use rsp_syntax::{MAX_LINE_LEN, has_line_bytes, is_line, len_before};
 

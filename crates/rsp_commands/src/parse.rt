@@ -3,9 +3,10 @@
 ghost use Rattle.std.specs.Prelude.{◌≡◌, IfOk};
 ghost use Rattle.rsp_commands.specs.Command.{IsCommand, load, mem, write, dis, watch, command_of_words, command_named, debug_named, look_named};
 
-use crate::operand::{bytes, instruction_address, ranged};
-use crate::operands::{on_bank, one_address, one_number, two_words, without_operands};
-use crate::words::Words;
+use crate::operands::{
+    Words, bytes, instruction_address, on_bank, one_address, one_number, ranged, two_words,
+    without_operands,
+};
 use crate::{Command, LineFault, Look};
 
 /// The last address of the 16 MB that an address of a script reaches.

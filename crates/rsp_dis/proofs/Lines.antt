@@ -5,7 +5,7 @@ use Rattle.std.specs.List.{list_all, after_first, slice_split}
 use Rattle.std.proofs.lemmas.Bool.{and_parts, and_from, cond-true, cond-false, ne_eqb, le-leb, not-true}
 use Rattle.std.proofs.lemmas.Bool.Decides.{nat_tests}
 use Rattle.std.proofs.lemmas.List.{append_assoc, append-nil, length-append, reverse-append, reverse-reverse}
-use Rattle.rsp_syntax.specs.declared.text.Boundary.TheVariants.{Blank, Colon, Comma, Comment}
+use Rattle.rsp_syntax.specs.declared.line_bytes.Boundary.TheVariants.{Blank, Colon, Comma, Comment}
 use Rattle.rsp_syntax.specs.Chars.{is_blank, is_line_byte, skip_blanks, trim}
 use Rattle.rsp_syntax.specs.Cuts.{is_boundary, cut}
 use Rattle.rsp_syntax.specs.Chars.{is_line}

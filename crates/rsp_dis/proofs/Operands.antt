@@ -11,7 +11,7 @@ use Rattle.std.proofs.lemmas.Nat.{mod_below}
 use Rattle.rsp_decode.specs.Table.{Operand, all_bytes, half_bytes, scalar, shift_amount, signed, unsigned, jump_target, branch_target, scalar_memory, vector_memory, sp_register, control_register, vector, vector_byte, vector_element, vector_lane, value_at, whole, capped, is_scale, is_row_operand}
 use Rattle.rsp_syntax.specs.declared.operand_range.OperandRange.{OperandRange}
 use Rattle.rsp_syntax.specs.declared.operand_range.OperandRange.TheVariants.{Half, Amount, Jump, Branch, Scaled}
-use Rattle.rsp_syntax.specs.declared.text.Boundary.TheVariants.{Parenthesis}
+use Rattle.rsp_syntax.specs.declared.line_bytes.Boundary.TheVariants.{Parenthesis}
 use Rattle.rsp_syntax.specs.Cuts.{cut}
 use Rattle.rsp_syntax.specs.Numbers.{constant, expression_of}
 use Rattle.rsp_syntax.specs.Statement.{read, ranged_value, field, offset_of, base_of, memory, memory_operand, zero_expression}
@@ -108,9 +108,6 @@ module _ (w : ℕ) where
 
   control_below : value_at w (capped 11 2 2) < 3
   control_below = omega arith
-
-abbrev Spelled : ℕ → ℕ → Operand → Type 0
-Spelled address w k = IsSpelled address k (operand_fields k w)
 
 scaled_back : (s v : ℕ) → is_scale s ≡ true → v < 128 → ScaledBack s v
 scaled_back s v e lt = elim (or_cases _ _ e) [

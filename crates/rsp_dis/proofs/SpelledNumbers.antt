@@ -15,7 +15,7 @@ use Rattle.std.proofs.Math.Nat.{pow-suc}
 use Rattle.std.proofs.lemmas.Int.{ints}
 use Rattle.std.proofs.lemmas.Nat.{mod_below, div_below}
 use Rattle.rsp_syntax.specs.declared.operand_range.OperandRange.{OperandRange}
-use Rattle.rsp_syntax.specs.declared.text.Boundary.TheVariants.{Plus, Minus}
+use Rattle.rsp_syntax.specs.declared.line_bytes.Boundary.TheVariants.{Plus, Minus}
 use Rattle.rsp_syntax.specs.Chars.{is_name_start, is_name_byte}
 use Rattle.rsp_syntax.specs.Cuts.{cut}
 use Rattle.rsp_syntax.specs.Numbers.{is_numeral, numeral, unsigned_of, signed_of, is_label, constant, sides, number_or, expression_of}

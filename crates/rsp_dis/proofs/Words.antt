@@ -1,5 +1,5 @@
 -- The spelling of a word gives the word.
-use Rattle.std.proofs.Common.{◌≡◌, refl, sym, ap, ◌∙◌, subst, ℕ, ◌+◌, ◌*◌, ◌%◌, ◌<◌, ◌≤◌, List, [], ◌∷◌, ◌++◌, length, Bool, true, false, ◌&&◌, ◌||◌, arith, inl, inr, pos}
+use Rattle.std.proofs.Common.{◌≡◌, refl, sym, ap, ◌∙◌, subst, ℕ, ◌+◌, ◌*◌, ◌%◌, ◌<◌, ◌≤◌, List, [], ◌∷◌, ◌++◌, length, true, false, ◌&&◌, ◌||◌, arith, inl, inr, pos}
 use Rattle.std.specs.Prelude.{Option, Some, None, ◌==◌, nat_lt, map, flat_map, option_map, option_and_then, Ok, codes}
 use Rattle.std.specs.List.{list_all, list_any}
 use Rattle.std.proofs.lemmas.Bool.{and_parts, cases_Bool, cond-true, cond-false, eqb-true, le-ltb, leb-true}
@@ -25,9 +25,6 @@ pub record Gives (line : List ℕ) (address word : ℕ) : Type 0 where
   pub no_fault : first_fault [] address line ≡ None
   pub gives : line_words [] address line ≡ Ok (word ∷ [])
   pub plain : list_all is_line_byte line ≡ true
-
-fails : ℕ → OperandValue → Bool
-fails address r = number_fails address r.value
 
 module _ (line : List ℕ) (address word : ℕ) (s : Statement) (parts : split_line line ≡ Some (record { label = None; body = line })) (said : statement_of line ≡ Ok s) (one : size s ≡ 1) where
   unlabelled : label_of line ≡ None

@@ -1,6 +1,6 @@
 -- Scaffolding of a law: the bytes of a disassembled operand.
 use Rattle.std.specs.Prelude.{ℕ, Bool, not, ◌&&◌, ◌||◌}
-use Rattle.rsp_syntax.specs.declared.text.Boundary.TheVariants.{Blank, Colon, Comma, Comment}
+use Rattle.rsp_syntax.specs.declared.line_bytes.Boundary.TheVariants.{Blank, Colon, Comma, Comment}
 use Rattle.rsp_syntax.specs.Chars.{is_line_byte}
 use Rattle.rsp_syntax.specs.Cuts.{is_boundary}
 

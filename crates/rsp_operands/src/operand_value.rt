@@ -1,7 +1,7 @@
 // Operands as their texts give them, by their kinds.
 
 ghost use Rattle.std.specs.Prelude.{◌≡◌, [], Some, None, option_map};
-ghost use Rattle.rsp_syntax.specs.declared.text.Boundary.TheVariants.{Bracket, Parenthesis};
+ghost use Rattle.rsp_syntax.specs.declared.line_bytes.Boundary.TheVariants.{Bracket, Parenthesis};
 ghost use Rattle.rsp_syntax.specs.Cuts.{cut};
 ghost use Rattle.rsp_syntax.specs.Names.{vector_named, element_named};
 ghost use Rattle.rsp_syntax.specs.Numbers.{expression_of};

@@ -1,22 +1,14 @@
 -- Lines that are answered alike.
 use Rattle.std.proofs.Common.{◌≡◌, ◌≤◌, ◌<◌, ◌⊎◌, ℕ, Bool, true, false, List, [], ◌∷◌, ◌++◌, length, refl, sym, ◌∙◌, ap, inl, inr, arith}
 use Rattle.std.proofs.lemmas.Grind.{common_steps}
-use Rattle.std.proofs.lemmas.Bool.{lt-leb}
 use Rattle.std.proofs.lemmas.Bool.Decides.{nat_tests}
 use Rattle.std.proofs.lemmas.List.{append-nil}
-use Rattle.std.specs.Prelude.{cond, nat_le, if◌then◌else◌}
+use Rattle.std.specs.Prelude.{cond}
 use Rattle.std.specs.Str.Lines.{strip_carriage_return}
 use Rattle.rsp_script_io.specs.Lines.{is_newline, ended_after, last_line, kept, IsSameOrLong}
 use Rattle.rsp_script_io.specs.Replies.{Answer, LongLinesAlike, replies, final}
 use Rattle.rsp_script_io.proofs.KnownEnds.{append_known-nil}
 use Rattle.rsp_script_io.proofs.Kept.{kept-more, like-strips, same_or_full}
-
--- what tells long lines by their length alone answers them alike
-pub long-alike : {A : Type 0} (f : List ℕ → A) (long : A) (line other : List ℕ) → 256 < length line → 256 < length other
-    → (if nat_le (length line) 256 then f line else long) ≡ (if nat_le (length other) 256 then f other else long)
-long-alike f long line other h g =
-    ap (λ t. if t then f line else long) (lt-leb (length line) 256 h)
-    ∙ sym (ap (λ t. if t then f other else long) (lt-leb (length other) 256 g))
 
 pub answered-like : {S : Type 0} (answer_to : List ℕ → S → Answer S) (line other : List ℕ) (s : S) → LongLinesAlike answer_to → IsSameOrLong line other
     → answer_to line s ≡ answer_to other s

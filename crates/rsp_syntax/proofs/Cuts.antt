@@ -4,7 +4,7 @@ use Rattle.std.specs.Prelude.{Option, Some, None}
 use Rattle.std.specs.List.{list_all, before_first, after_first, list_any, position_or_len}
 use Rattle.std.proofs.lemmas.Bool.{and_parts, and_from, cond-true, cond-false, cases_Bool}
 use Rattle.std.proofs.lemmas.List.{take_at, drop_at, append_assoc, take-append-drop}
-use Rattle.rsp_syntax.specs.declared.text.Boundary.{Boundary}
+use Rattle.rsp_syntax.specs.declared.line_bytes.Boundary.{Boundary}
 use Rattle.rsp_syntax.specs.Cuts.{is_boundary, cut}
 
 abbrev pub no : (ℕ → Bool) → List ℕ → Bool

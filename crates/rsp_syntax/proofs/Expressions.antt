@@ -2,7 +2,7 @@
 use Rattle.std.proofs.Common.{◌≡◌, refl, sym, ap, ◌∙◌, ℕ, List, Bool, true, false, pos}
 use Rattle.std.specs.Prelude.{Option, Some, None, ℤ, option_map}
 use Rattle.std.proofs.lemmas.Bool.{cond-false}
-use Rattle.rsp_syntax.specs.declared.text.Boundary.TheVariants.{Plus, Minus}
+use Rattle.rsp_syntax.specs.declared.line_bytes.Boundary.TheVariants.{Plus, Minus}
 use Rattle.rsp_syntax.specs.Chars.{skip_blanks, trim}
 use Rattle.rsp_syntax.specs.Cuts.{cut}
 use Rattle.rsp_syntax.specs.Numbers.{Expression, constant, plus, signed_number, is_label, signed_of, number_or, sides, label_and_number, expression_of}

@@ -7,5 +7,4 @@ pub mod HexDigits
 pub mod Tables
 pub mod TableSearch
 pub mod Expressions
-pub mod Capping
 pub mod Examples

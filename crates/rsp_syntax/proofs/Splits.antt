@@ -4,7 +4,7 @@ use Rattle.std.specs.Prelude.{Bool, None}
 use Rattle.std.specs.List.{slice_split, onto_first, before_first, after_first, position_or_len}
 use Rattle.std.proofs.lemmas.Bool.{and_parts, cond-true, cond-false, not-true}
 use Rattle.std.proofs.lemmas.List.{take_all, drop_all}
-use Rattle.rsp_syntax.specs.declared.text.Boundary.TheVariants.{Blank}
+use Rattle.rsp_syntax.specs.declared.line_bytes.Boundary.TheVariants.{Blank}
 use Rattle.rsp_syntax.specs.Cuts.{is_boundary, cut}
 use Rattle.rsp_syntax.proofs.Cuts.{no, cut_nothing}
 

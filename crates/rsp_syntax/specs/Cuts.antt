@@ -2,8 +2,8 @@
 use Rattle.std.specs.Prelude.{ℕ, ◌==◌, Bool, ◌||◌, List, Option, Some, None, if◌then◌else◌}
 use Rattle.std.specs.List.{list_any, before_first, after_first}
 use Rattle.rsp_syntax.specs.Chars.{is_blank}
-use Rattle.rsp_syntax.specs.declared.text.Boundary.{Boundary}
-use Rattle.rsp_syntax.specs.declared.text.Boundary.TheVariants.{Blank, Colon, Comma, Comment, Bracket, Newline, Parenthesis, Plus, Minus}
+use Rattle.rsp_syntax.specs.declared.line_bytes.Boundary.{Boundary}
+use Rattle.rsp_syntax.specs.declared.line_bytes.Boundary.TheVariants.{Blank, Colon, Comma, Comment, Bracket, Newline, Parenthesis, Plus, Minus}
 
 -- the bytes of each kind of separator
 abbrev pub is_boundary : Boundary → ℕ → Bool

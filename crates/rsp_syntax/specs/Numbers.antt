@@ -3,7 +3,7 @@ use Rattle.std.specs.Prelude.{ℕ, ◌==◌, nat_eq, nat_lt, nat_le, Bool, true,
 use Rattle.std.specs.List.{list_all, starts_with}
 use Rattle.std.specs.Char.{digit_value}
 use Rattle.std.specs.Str.Parse.{digits_value}
-use Rattle.rsp_syntax.specs.declared.text.Boundary.TheVariants.{Plus, Minus}
+use Rattle.rsp_syntax.specs.declared.line_bytes.Boundary.TheVariants.{Plus, Minus}
 use Rattle.rsp_syntax.specs.Chars.{is_name_start, is_name_byte, skip_blanks, trim}
 use Rattle.rsp_syntax.specs.Cuts.{cut}
 

@@ -3,7 +3,7 @@ use Rattle.std.specs.Prelude.{ℕ, zero, suc, ◌+◌, ◌-◌, ◌*◌, ◌/◌
 use Rattle.std.specs.Char.{digit_char}
 use Rattle.std.specs.Fmt.{signed_decimal}
 use Rattle.rsp_decode.specs.Table.{Operand, ByteElements, all_bytes, half_bytes, scalar, shift_amount, signed, unsigned, jump_target, branch_target, scalar_memory, vector_memory, sp_register, control_register, vector, vector_byte, vector_element, vector_lane}
-use Rattle.rsp_syntax.specs.declared.text.Boundary.TheVariants.{Parenthesis, Bracket}
+use Rattle.rsp_syntax.specs.declared.line_bytes.Boundary.TheVariants.{Parenthesis, Bracket}
 use Rattle.rsp_syntax.specs.declared.operand_range.OperandRange.{OperandRange}
 use Rattle.rsp_syntax.specs.declared.operand_range.OperandRange.TheVariants.{Half, Amount, Jump, Branch, Scaled}
 use Rattle.rsp_syntax.specs.Cuts.{cut}

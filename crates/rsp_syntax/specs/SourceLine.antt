@@ -3,7 +3,7 @@ use Rattle.std.specs.Prelude.{ℕ, ◌+◌, ◌*◌, nat_lt, Bool, false, List, 
 use Rattle.std.specs.List.{list_any}
 use Rattle.rsp_syntax.specs.declared.fault.AsmFaultKind.{AsmFaultKind}
 use Rattle.rsp_syntax.specs.declared.fault.AsmFaultKind.TheVariants.{BadLine, OutOfRange, LabelTwice, PastEnd}
-use Rattle.rsp_syntax.specs.declared.text.Boundary.TheVariants.{Comment, Colon}
+use Rattle.rsp_syntax.specs.declared.line_bytes.Boundary.TheVariants.{Comment, Colon}
 use Rattle.rsp_syntax.specs.Chars.{is_line, skip_blanks, trim}
 use Rattle.rsp_syntax.specs.Cuts.{cut}
 use Rattle.rsp_syntax.specs.Numbers.{is_label}

@@ -6,7 +6,7 @@ use Rattle.rsp_decode.specs.Table.{Operand, scalar, Row, row, selector, one, row
 use Rattle.rsp_decode.specs.declared.inst.Inst.TheVariants.{JumpLinkRegister}
 use Rattle.rsp_syntax.specs.declared.fault.AsmFaultKind.{AsmFaultKind}
 use Rattle.rsp_syntax.specs.declared.fault.AsmFaultKind.TheVariants.{UnknownName, BadOperand, OutOfRange, LabelMissing}
-use Rattle.rsp_syntax.specs.declared.text.Boundary.TheVariants.{Blank, Comma}
+use Rattle.rsp_syntax.specs.declared.line_bytes.Boundary.TheVariants.{Blank, Comma}
 use Rattle.rsp_syntax.specs.declared.operand_range.OperandRange.{OperandRange}
 use Rattle.rsp_syntax.specs.declared.operand_range.OperandRange.TheVariants.{Half, Amount, Jump, Branch, Scaled, Word}
 use Rattle.rsp_syntax.specs.Chars.{trim}

@@ -6,10 +6,9 @@ ghost use Rattle.rsp_syntax.specs.Chars.{is_name_byte, is_name_start};
 ghost use Rattle.rsp_syntax.specs.Numbers.{is_label, expression_of, label_and_number};
 ghost use Rattle.rsp_syntax.specs.Capping.{expression, capped_expression};
 
-use crate::blanks::{skip_blanks, trim};
+use crate::line_bytes::{Boundary, cut, skip_blanks, trim};
 use crate::name_bytes::{is_name_byte, is_name_start};
 use crate::numbers::{number, read_unsigned, signed};
-use crate::text::{Boundary, cut};
 
 /// The value of an expression: a number, or the address of a label plus a number.
 #[derive(Clone, Copy)]

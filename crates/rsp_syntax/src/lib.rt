@@ -7,29 +7,26 @@
 //! does either as a whole.
 #![tactic(auto)]
 
-mod blanks;
 mod expression;
 mod fault;
 mod hex;
-mod lines;
+mod line_bytes;
 mod name_bytes;
 mod names;
 mod numbers;
 mod operand_range;
-mod search;
 mod table;
-mod text;
 
-pub use blanks::{skip_blanks, trim};
 pub use expression::{Expression, is_label, read_expression};
 pub use fault::{AsmFault, AsmFaultKind};
 pub use hex::hex_digit;
-pub use lines::{MAX_LINE_LEN, has_line_bytes, is_line, without_return};
+pub use line_bytes::{
+    Boundary, MAX_LINE_LEN, cut, has_line_bytes, is_line, is_same, len_before, len_before_blank,
+    skip_blanks, trim, without_return,
+};
 pub use names::{
     read_control, read_element, read_scalar, read_sp_register, read_vector, small_number,
 };
 pub use numbers::read_unsigned;
 pub use operand_range::OperandRange;
-pub use search::{len_before, len_before_blank};
 pub use table::{find_row, select_row};
-pub use text::{Boundary, cut, is_same};

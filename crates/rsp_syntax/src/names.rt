@@ -3,7 +3,7 @@
 ghost use Rattle.std.specs.Prelude.{◌≡◌, ◌≤◌, map};
 ghost use Rattle.rsp_syntax.specs.Names.{look_up, small_number, scalar_named, scalar_names, vector_named, sp_named, control_named, element_named};
 
-use crate::text::is_same;
+use crate::line_bytes::is_same;
 
 /// The names of scalar registers beside `$0` to `$31`.
 static SCALARS: [(&str, u8); 31] = [

@@ -5,7 +5,7 @@ ghost use Rattle.rsp_decode.specs.Table.{entry, entry_of, row_of};
 ghost use Rattle.rsp_syntax.specs.TableSearch.{has_name, is_selected};
 ghost use Rattle.rsp_syntax.specs.Statement.{row_named};
 
-use crate::text::is_same;
+use crate::line_bytes::is_same;
 use rsp_decode::{TableRow, table};
 
 /// The first instruction of the rows with this name, in either case.

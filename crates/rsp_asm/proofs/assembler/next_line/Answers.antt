@@ -1,6 +1,6 @@
 use Rattle.std.proofs.Common.{sym, ap, ◌∙◌, ◌<◌, ◌∷◌, arith, length, length-append}
 use Rattle.std.specs.Str.Lines.{lines}
-use Rattle.rsp_syntax.specs.declared.text.Boundary.TheVariants.{Newline}
+use Rattle.rsp_syntax.specs.declared.line_bytes.Boundary.TheVariants.{Newline}
 use Rattle.rsp_syntax.proofs.Cuts.{IsCut, cut_some, cut_nothing}
 use Rattle.rsp_syntax.specs.Cuts.{is_boundary}
 use Rattle.std.proofs.lemmas.Grind.{common_steps}

@@ -1,7 +1,7 @@
 use Rattle.std.proofs.Common.{ap, ◌∙◌, sym, ◌∷◌, [], List, ℕ, Bor}
 use Rattle.std.specs.Prelude.{map, Option, option_map}
 use Rattle.std.specs.List.{slice_split}
-use Rattle.rsp_syntax.specs.declared.text.Boundary.TheVariants.{Comma}
+use Rattle.rsp_syntax.specs.declared.line_bytes.Boundary.TheVariants.{Comma}
 use Rattle.rsp_syntax.specs.Chars.{trim}
 use Rattle.rsp_syntax.specs.Cuts.{is_boundary}
 use Rattle.rsp_asm.specs.Operands.{texts_in}

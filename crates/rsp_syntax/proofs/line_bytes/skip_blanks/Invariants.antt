@@ -1,6 +1,6 @@
 use Rattle.std.proofs.Common.{◌≡◌, ◌≤◌, length}
 use Rattle.rsp_syntax.specs.Chars.{skip_blanks}
-use Rattle.rsp_syntax.proofs.blanks.skip_blanks.Given as goal
+use Rattle.rsp_syntax.proofs.line_bytes.skip_blanks.Given as goal
 
 abbrev pub invariant-loop-text : goal.invariant-loop-text
 invariant-loop-text l = (skip_blanks l.text ≡ skip_blanks l.initial.text) × (length l.text ≤ length l.initial.text)

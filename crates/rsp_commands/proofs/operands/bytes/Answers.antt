@@ -3,7 +3,7 @@ use Rattle.std.specs.Prelude.{is_err}
 use Rattle.std.proofs.lemmas.Grind.{common_steps}
 use Rattle.arrayvec.specs.ArrayVec.{array_vec_len, with_items}
 use Rattle.rsp_commands.proofs.HexBytes.{bytes_of-decoded}
-use Rattle.rsp_commands.proofs.operand.bytes.Goals as goal
+use Rattle.rsp_commands.proofs.operands.bytes.Goals as goal
 
 pub returns-clause-value : goal.returns-clause-value
 returns-clause-value c =

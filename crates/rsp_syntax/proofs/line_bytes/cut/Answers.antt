@@ -2,7 +2,7 @@ use Rattle.std.proofs.Common.{ap, ◌∙◌, sym, ◌+◌, ◌-◌, length, take
 use Rattle.std.specs.Prelude.{Some}
 use Rattle.std.proofs.lemmas.List.{take_all, length-drop}
 use Rattle.rsp_syntax.proofs.Cuts.{cut_here, cut_none}
-use Rattle.rsp_syntax.proofs.text.cut.Goals as goal
+use Rattle.rsp_syntax.proofs.line_bytes.cut.Goals as goal
 
 pub returns-then-is_at : goal.returns-then-is_at
 returns-then-is_at c =
