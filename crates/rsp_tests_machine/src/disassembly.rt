@@ -1,8 +1,7 @@
 // Disassembly in the compiled program: a listing assembles to its words.
 
-use crate::assembled_listing;
 use crate::random::Random;
-use rsp_dis::text_of;
+use rsp_laws::assembled_listing;
 use std::alloc::{AllocError, Global};
 use std::test::Fail;
 

@@ -2,8 +2,7 @@
 //!
 //! They are in one crate since a crate with tests is proved twice. Random programs compare two machines: one keeps its accumulators in
 //! planes of 16 bits, the other as whole numbers. That the two never differ, and that listings assemble to their words, is proved in
-//! the crates themselves; here the compiled program shows it. One law of the assembler and the disassembler together is proved here:
-//! [`assembled_listing`].
+//! the crates themselves; here the compiled program shows it.
 #![tactic(auto)]
 
 #[cfg(test)]
@@ -20,7 +19,6 @@ mod debugger;
 mod disassembly;
 #[cfg(test)]
 mod divide;
-mod listings;
 #[cfg(test)]
 mod machine;
 #[cfg(test)]
@@ -41,5 +39,3 @@ mod readers;
 mod undo;
 #[cfg(test)]
 mod vector_words;
-
-pub use listings::assembled_listing;
