@@ -152,19 +152,22 @@ impl Session {
         ensures hides { OnErr result (EndHidesNoBlockFault command.now self.old) }
     {
         let mut reply = Reply::new();
-        self.exec_to(alloc, command, &mut reply)?;
+        let is_open = self.in_block();
+        self.exec_to(alloc, command, is_open, &mut reply)?;
         Ok(reply)
     }
 
-    /// Carries out a command as `exec` does, and writes its reply into an empty one.
+    /// Carries out a command as `exec` does, and writes its reply into an empty one. `is_open` is whether a block is open.
     #[tactic(auto, unfolding(crate::specs::Session::answer_of))]
     fn exec_to(
         &mut self,
         alloc: Global,
         command: &Command,
+        is_open: bool,
         reply: &mut Reply,
     ) -> Result<(), AllocError>
         requires command { IsCommand command.now }
+        requires open { is_open ≡ in_block self.old }
         requires empty { reply.old ≡ [] }
         ensures answer_to { NeedsNoMemory command.now self.old → IsOk result }
         ensures reply { OnOk result (reply.new ≡ (answer_of command.now self.old).reply) }
@@ -172,7 +175,7 @@ impl Session {
         ensures err { OnErr result (self.new ≡ self.old) }
         ensures hides { OnErr result (EndHidesNoBlockFault command.now self.old) }
     {
-        match (command, self.in_block()) {
+        match (command, is_open) {
             (command, false) => self.answer_plain(alloc, command, reply),
             (Command::BlockLine(line), true) => self.keep(line)?,
             (Command::End, true) => self.end(alloc, reply)?,
@@ -183,15 +186,12 @@ impl Session {
 
     /// Whether a line is empty outside a block, so that it has no reply and no effect.
     #[tactic(auto, using(crate::proofs::Blank::reply, crate::proofs::Blank::next))]
-    fn says_nothing(&self, line: &[u8]) -> bool
+    fn says_nothing(&self, line: &[u8], is_open: bool) -> bool
+        requires { is_open ≡ in_block self.now }
         ensures reply { result ≡ true → (line_answer line.now self.now).reply ≡ [] }
         ensures next { result ≡ true → (line_answer line.now self.now).next ≡ self.now }
     {
-        if line.is_empty() {
-            !self.in_block()
-        } else {
-            false
-        }
+        if line.is_empty() { !is_open } else { false }
     }
 
     /// Answers a line in an empty reply. It isn't inlined, since a command's locals would slow empty lines down.
@@ -201,14 +201,16 @@ impl Session {
         &mut self,
         alloc: Global,
         line: &[u8],
+        is_open: bool,
         reply: &mut Reply,
     ) -> Result<(), AllocError>
+        requires open { is_open ≡ in_block self.old }
         requires empty { reply.old ≡ [] }
         ensures reply { OnOk result (reply.new ≡ (line_answer line.now self.old).reply) }
         ensures next { OnOk result (self.new ≡ (line_answer line.now self.old).next) }
     {
-        match &parse_line(line, self.in_block()) {
-            Ok(command) => self.exec_to(alloc, command, reply)?,
+        match &parse_line(line, is_open) {
+            Ok(command) => self.exec_to(alloc, command, is_open, reply)?,
             Err(fault) => put_fault(reply, *fault),
         }
         Ok(())
@@ -242,10 +244,11 @@ impl LineHandler for Session {
 
     fn answer(&mut self, alloc: Global, line: &[u8], reply: &mut Reply) -> Result<(), AllocError> {
         reply.clear();
-        if self.says_nothing(line) {
+        let is_open = self.in_block();
+        if self.says_nothing(line, is_open) {
             return Ok(());
         }
-        self.answer_text(alloc, line, reply)
+        self.answer_text(alloc, line, is_open, reply)
     }
 
     fn put_end_reply(&self, reply: &mut Reply) {
