@@ -118,24 +118,6 @@ pub lanes_are : (m : List ℕ) (a : ℕ) → HasBytes m → IsVector (lanes_at m
 unfolding lanes_at half_at
 lanes_are m a h = high_vector _ (λ i. omega (arith, h (a + 2 * i), h (a + 2 * i + 1)))
 
--- bytes that are written keep it so
-pub halves_have_bytes : (hs m : List ℕ) (a : ℕ) → length m ≡ 4096 → ((i : ℕ) → get_or hs i 0 < 65536) → HasBytes m → HasBytes (with_halves m a hs)
-unfolding with_half
-halves_have_bytes [] m a l small h = h
-halves_have_bytes (v ∷ hs) m a l small h =
-    halves_have_bytes hs _ (a + 2) (length-with_byte _ _ _ ∙ length-with_byte m a _ ∙ l) (λ i. small (suc i))
-    (byte_written _ (a + 1) (v % 256) (length-with_byte m a _ ∙ l) (omega arith) (byte_written m a (v / 256) l (let s = small 0 in omega arith) h))
-  where
-    byte_written : (m : List ℕ) (a n : ℕ) → length m ≡ 4096 → n < 256 → HasBytes m → HasBytes (with_byte m a n)
-    byte_written m a n l s h x = elim (cases_eq (a % 4096) (x % 4096)) [
-      | inl e ↦ rw (read_written m a x n l e) s
-      | inr ne ↦ rw (read_elsewhere m a x n ne) (h x)
-    ]
-
-pub lanes_have_bytes : (m v : List ℕ) (a : ℕ) → length m ≡ 4096 → IsVector v → HasBytes m → HasBytes (with_lanes m a v)
-unfolding with_lanes
-lanes_have_bytes m v a l is h = halves_have_bytes v m a l is.1 h
-
 -- words
 word_written : (m : List ℕ) (a n : ℕ) → length m ≡ 4096 → n < 2 ^ 32 → word_at (with_word m a n) a ≡ n
 unfolding word_at with_word

@@ -67,10 +67,6 @@ run (m ∷ ms) s h e =
       vectors = after_writes with_vector (writes (m ∷ ms) (results (map (step_in s.vectors) (m ∷ ms)) s.accumulators)) s.vectors;
     } in u) e
 
-pub all_straight : (ms : List Term) → all_go_on (map instruction ms) ≡ true
-all_straight [] = refl
-all_straight (m ∷ ms) = all_straight ms
-
 step_fits : (file : List (List ℕ)) (m : Term) → IsFile file → has_fields m ≡ true → IsMultiplyInstruction (step_in file m)
 step_fits file m is h =
     let two = and_parts _ _ h in
