@@ -11,11 +11,16 @@ use Rattle.rsp_lanes.specs.Lanes.{each_lane, selected, source_lane}
 use Rattle.rsp_lanes.proofs.Kit.{lane_of}
 use Rattle.rsp_acc.specs.Parts.{clamp_of}
 use Rattle.rsp_acc.specs.declared.parts.Clamp.TheVariants.{Signed, LowKind}
-use Rattle.rsp_microcode.specs.Fixed.{limited, last, FixedParts, FixedRange, FixedSum, FixedTimes}
+use Rattle.rsp_microcode.specs.Fixed.{limited, last, FixedParts, FixedHigh, FixedRange, FixedSum, FixedTimes}
+use Rattle.rsp_microcode.proofs.Halves.{floored}
 
 -- the element 0 selects each lane for itself
 pub itself : (v : List ℕ) (i : ℕ) → i < 8 → get_or (selected v 0) i 0 ≡ get_or v i 0
 itself v i h = lane_of 0 (λ i. get_or v i 0) (selected v 0) refl i h
+
+-- and another element selects one lane for each
+pub picked : (v : List ℕ) (e i : ℕ) → i < 8 → get_or (selected v e) i 0 ≡ get_or v (source_lane e i) 0
+picked v e i h = lane_of 0 (λ j. get_or v (source_lane e j) 0) (selected v e) refl i h
 
 pub fixed_parts : FixedParts
 fixed_parts a b h k =
@@ -23,6 +28,9 @@ fixed_parts a b h k =
       | inl n ↦ rw (s16_small a n, s32_small (a * 65536 + b) (omega arith)) (omega (arith, ints))
       | inr n ↦ rw (s16_large a n h, s32_large (a * 65536 + b) (omega arith) (omega arith)) (omega (arith, ints))
     ]
+
+pub fixed_high : FixedHigh
+fixed_high a b h k = floored _ _ b k (fixed_parts a b h k)
 
 -- it has 32 bits
 pub fixed_range : FixedRange
@@ -59,5 +67,4 @@ regroup z a b = omega (arith, ints)
 
 pub fixed_times : FixedTimes
 fixed_times z high low x e i is_h is_l h =
-    let same : get_or (selected x e) i 0 ≡ get_or x (source_lane e i) 0 = lane_of 0 (λ j. get_or x (source_lane e j) 0) (selected x e) refl i h in
-    rw same (regroup z _ _ ∙ ap (λ p. z +ℤ p) (times _ (s16 (get_or high i 0)) (s16 (get_or x (source_lane e i) 0)) (get_or low i 0) (fixed_parts (get_or high i 0) (get_or low i 0) (is_h.1 i) (is_l.1 i))))
+    rw (picked x e i h) (regroup z _ _ ∙ ap (λ p. z +ℤ p) (times _ (s16 (get_or high i 0)) (s16 (get_or x (source_lane e i) 0)) (get_or low i 0) (fixed_parts (get_or high i 0) (get_or low i 0) (is_h.1 i) (is_l.1 i))))

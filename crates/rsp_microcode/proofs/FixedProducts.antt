@@ -1,4 +1,4 @@
--- The product of fixed-point numbers, by four multiplies.
+-- The product of fixed-point numbers, by four multiplies, and sums of such products.
 use Rattle.std.proofs.Common.{◌≡◌, ℕ, ◌+◌, ◌-◌, ◌*◌, ◌/◌, ◌%◌, ◌^◌, ◌<◌, ◌≤◌, ℤ, pos, negsuc, ◌+ℤ◌, ◌*ℤ◌, get_or, arith, refl, ap, sym, ◌∙◌}
 use Rattle.std.specs.Prelude.{◌≤ℤ◌, ◌<ℤ◌}
 use Rattle.std.proofs.lemmas.Int.{ints}
@@ -9,8 +9,10 @@ use Rattle.rsp_numbers.specs.Numbers.{s16, s32, s48, floor_div}
 use Rattle.rsp_numbers.proofs.Wrap.{s48_is}
 use Rattle.rsp_multiply.specs.MultiplyRules.{unsigned_over_65536, signed_by_unsigned, unsigned_by_signed, signed_times_65536}
 use Rattle.rsp_multiply.proofs.Signs.{mixed, signed}
-use Rattle.rsp_microcode.specs.Fixed.{limited, product_sum, FixedProduct}
-use Rattle.rsp_microcode.proofs.Fixed.{itself, fixed_parts, fixed_sum}
+use Rattle.rsp_lanes.specs.Lanes.{source_lane}
+use Rattle.rsp_microcode.specs.Fixed.{limited, product_sum, FixedProduct, FixedPlusProduct}
+use Rattle.rsp_microcode.proofs.Halves.{floored}
+use Rattle.rsp_microcode.proofs.Fixed.{itself, picked, fixed_parts, fixed_sum}
 
 -- the addends of a lane whose halves are a, b and c, d
 abbrev sum : ℕ → ℕ → ℕ → ℕ → ℤ
@@ -24,13 +26,8 @@ multiplied_out x y a c b d e f =
     let q : up c + 65536 * down y ≡ down c + 65536 * up y + d = omega (arith, ints) in
     omega (arith, ints, ap (λ n. n * up c) p, ap (λ n. n * down c) p, ap (λ n. n * up x) q, ap (λ n. n * down x) q, ap (λ n. n * b) q)
 
-floored : (z q : ℤ) (r : ℕ) → r < 65536 → z ≡ q *ℤ pos 65536 +ℤ pos r → floor_div z 65536 ≡ q
-floored (pos n) (pos m) r h e = omega (arith, ints)
-floored (pos n) (negsuc m) r h e = absurd (omega (arith, ints))
-floored (negsuc n) (pos m) r h e = absurd (omega (arith, ints))
-floored (negsuc n) (negsuc m) r h e = omega (arith, ints)
-
-whole : (a b c d : ℕ) → a < 65536 → b < 65536 → c < 65536 → d < 65536 → floor_div (s32 (a * 65536 + b) *ℤ s32 (c * 65536 + d)) 65536 ≡ sum a b c d
+-- the product of two numbers by their halves, rounded down, is the sum of the four addends
+pub whole : (a b c d : ℕ) → a < 65536 → b < 65536 → c < 65536 → d < 65536 → floor_div (s32 (a * 65536 + b) *ℤ s32 (c * 65536 + d)) 65536 ≡ sum a b c d
 whole a b c d h i j k = floored _ _ (b * d % 65536) (omega arith) (multiplied_out (s16 a) (s16 c) _ _ b d (fixed_parts a b h i) (fixed_parts c d j k))
 
 -- the sum never wraps
@@ -52,3 +49,12 @@ fixed_product a b c d zero high low is_a is_b is_c is_d e is_high is_low i h =
     let far : product_sum a b c d i ≡ sum (get_or a i 0) (get_or b i 0) (get_or c i 0) (get_or d i 0) = rw (itself d i h, itself c i h, +ℤ_idl (unsigned_over_65536 (get_or b i 0) (get_or d i 0))) refl in
     fixed_sum (product_sum a b c d) zero high low e is_high is_low i h
     ∙ ap limited (ap s48 far ∙ in_range _ _ _ _ (is_a.1 i) (is_b.1 i) (is_c.1 i) (is_d.1 i) ∙ sym (whole _ _ _ _ (is_a.1 i) (is_b.1 i) (is_c.1 i) (is_d.1 i)))
+
+regroup : (z p q r t : ℤ) → (((z +ℤ p) +ℤ q) +ℤ r) +ℤ t ≡ z +ℤ (((p +ℤ q) +ℤ r) +ℤ t)
+regroup z p q r t = omega (arith, ints)
+
+pub fixed_plus_product : FixedPlusProduct
+fixed_plus_product z a b c d e i is_a is_b is_c is_d h =
+    let j = source_lane e i in
+    rw (picked c e i h, picked d e i h) (regroup z _ _ _ _
+    ∙ ap (λ p. z +ℤ p) (sym (whole (get_or a i 0) (get_or b i 0) (get_or c j 0) (get_or d j 0) (is_a.1 i) (is_b.1 i) (is_c.1 j) (is_d.1 j))))

@@ -20,8 +20,11 @@ pub mod Calls
 pub mod Blocks
 pub mod Joins
 pub mod Kept
+pub mod Halves
+pub mod FlagsKept
 pub mod Fixed
 pub mod FixedProducts
+pub mod FixedSums
 pub mod Reciprocals
 pub mod MixesAll
 pub mod SpReads

@@ -4,7 +4,7 @@
 ghost use Rattle.rsp_microcode.specs.Blocks.{BlocksJoin, BothStand, FirstBlock, NextBlock, RanAt, RanOthers, StepsAfter};
 ghost use Rattle.rsp_microcode.specs.Calls.{CallRuns, RoutineRuns};
 ghost use Rattle.rsp_microcode.specs.Buffers.{FilledNone, FilledOne, FilledSpares};
-ghost use Rattle.rsp_microcode.specs.Fixed.{FixedParts, FixedProduct, FixedRange, FixedSum, FixedTimes};
+ghost use Rattle.rsp_microcode.specs.Fixed.{FixedAdds, FixedAddsInRange, FixedHigh, FixedParts, FixedPlusProduct, FixedProduct, FixedRange, FixedSum, FixedTimes};
 ghost use Rattle.rsp_microcode.specs.Frames.{Frame, ScalarsAbove, ScalarsSpared, VectorsAbove, VectorsSpared};
 ghost use Rattle.rsp_microcode.specs.Kept.{KeptBut};
 ghost use Rattle.rsp_microcode.specs.Pieces.{PiecesRun, RunsOfPieces};
@@ -58,13 +58,18 @@ pub fn sums_of_multiplies()
     l4();
 }
 
-/// Fixed-point numbers: by their halves, in their range, as the two clamps of a sum, as the product of two of them, and times a whole number.
+/// Fixed-point numbers: by their halves, in their range, as the two clamps of a sum, as the product of two of them, as a sum of
+/// products, times a whole number, and as the sum that VADDC and VADD make.
 pub fn fixed_numbers()
     ensures parts { FixedParts }
+    ensures high { FixedHigh }
     ensures range { FixedRange }
     ensures sum { FixedSum }
     ensures product { FixedProduct }
+    ensures plus_product { FixedPlusProduct }
     ensures times { FixedTimes }
+    ensures adds { FixedAdds }
+    ensures adds_in_range { FixedAddsInRange }
 {}
 
 /// Reciprocals: what VRCPH, VRCPL and VRCPH leave is the table's reciprocal, as a fixed-point number.
