@@ -65,6 +65,7 @@ routine_run law r decoded test s ok at aligned =
       ran = refl;
       ranges = kept;
       spares = spares;
+      frame = frame;
       others = changed_is _ _ all_code s x ok kept spares pc (g.npc ∙ ap address_after (sym g.pc) ∙ ap address_after pc) frame;
     })
 

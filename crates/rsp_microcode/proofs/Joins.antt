@@ -1,5 +1,5 @@
 -- Blocks that are joined.
-use Rattle.std.proofs.Common.{◌≡◌, ℕ, List, [], ◌∷◌, ◌++◌, Bool, true, false, ◌||◌, not, refl, ap, sym, ◌∙◌}
+use Rattle.std.proofs.Common.{◌≡◌, ℕ, ◌*◌, ◌/◌, ◌%◌, List, [], ◌∷◌, ◌++◌, Bool, true, false, ◌||◌, not, refl, ap, sym, ◌∙◌}
 use Rattle.std.specs.Prelude.{◌==◌}
 use Rattle.std.specs.List.{list_all, range_with_len}
 use Rattle.std.proofs.lemmas.Bool.{and_parts}
@@ -11,7 +11,8 @@ use Rattle.rsp_microcode.specs.Frames.{Touch, both, of_row, of_rows, with_parts,
 use Rattle.rsp_microcode.specs.Kept.{Spares, changed}
 use Rattle.rsp_microcode.specs.Pieces.{Piece, code_of, AfterPieces}
 use Rattle.rsp_microcode.specs.Loops.{Loop, loop_code, AfterLoop}
-use Rattle.rsp_microcode.specs.Blocks.{Ran, BlocksJoin, RanAt, RanOthers}
+use Rattle.rsp_microcode.specs.Calls.{routine_code}
+use Rattle.rsp_microcode.specs.Blocks.{Ran, BlocksJoin, RanAt, RanOthers, RanReturns}
 use Rattle.rsp_microcode.proofs.Frames.{chained}
 use Rattle.rsp_microcode.proofs.Kept.{changed_is}
 use Rattle.rsp_microcode.proofs.Pieces.{placed}
@@ -46,16 +47,22 @@ places_joined : (a b : List ℕ) (p : ℕ) → place_after (a ++ b) p ≡ place_
 places_joined [] b p = refl
 places_joined (w ∷ ws) b p = places_joined ws b (address_after p)
 
+spares_joined : (a b : List Inst) (s t u : State) → Spares a s t → Spares b t u → Spares (a ++ b) s u
+spares_joined a b s t u p q = record {
+  scalars = λ n h. let parts = all_parts (λ i. not (register_of i == n)) a b h in q.scalars n parts.1 ∙ p.scalars n parts.0;
+  vectors = λ n h. let parts = all_parts (spares_vector n) a b h in q.vectors n parts.1 ∙ p.vectors n parts.0;
+}
+
+frames_joined : (a b : List Inst) (s t u : State) → t ≡ with_parts (of_rows a) s t → u ≡ with_parts (of_rows b) t u → u ≡ with_parts (of_rows (a ++ b)) s u
+frames_joined a b s t u p q = chained (of_rows a) (of_rows b) s t u p q ∙ ap (λ k. with_parts k s u) (sym (rows_joined a b))
+
 pub blocks_join : BlocksJoin
 blocks_join a b c d s t u p q = record {
   ranges = q.ranges;
   pc = q.pc ∙ ap (place_after b) p.pc ∙ sym (places_joined a b s.pc);
   npc = q.npc;
-  spares = record {
-    scalars = λ n h. let parts = all_parts (λ i. not (register_of i == n)) c d h in q.spares.scalars n parts.1 ∙ p.spares.scalars n parts.0;
-    vectors = λ n h. let parts = all_parts (spares_vector n) c d h in q.spares.vectors n parts.1 ∙ p.spares.vectors n parts.0;
-  };
-  frame = chained (of_rows c) (of_rows d) s t u p.frame q.frame ∙ ap (λ k. with_parts k s u) (sym (rows_joined c d));
+  spares = spares_joined c d s t u p.spares q.spares;
+  frame = frames_joined c d s t u p.frame q.frame;
 }
 
 pub ran_at : RanAt
@@ -65,6 +72,14 @@ pub ran_others : RanOthers
 ran_others words code s t is next p ns ms only =
     changed_is _ _ code s t is p.ranges p.spares p.pc
     (p.npc ∙ ap address_after p.pc ∙ sym (placed words s.pc) ∙ ap (place_after words) (sym next)) p.frame ns ms only
+
+pub ran_returns : RanReturns
+ran_returns words code r s t u is p spare q ns ms only =
+    let end = q.others (range_with_len 1 31) (range_with_len 0 32) refl in
+    let back = ap (λ n. n / 4 % 1024 * 4) (p.spares.scalars 31 spare) in
+    changed_is _ _ (code ++ routine_code r) s u is q.ranges (spares_joined code (routine_code r) s t u p.spares q.spares)
+    (ap (λ (x : State). x.pc) end ∙ back) (ap (λ (x : State). x.npc) end ∙ ap address_after back)
+    (frames_joined code (routine_code r) s t u p.frame q.frame) ns ms only
 
 -- pc and npc of a state whose other parts are known
 ran_of : (words : List ℕ) (code : List Inst) (s t : State) → s.npc ≡ address_after s.pc → IsState t → Spares code s t → t ≡ with_parts (of_rows code) s t

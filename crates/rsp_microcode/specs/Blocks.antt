@@ -5,8 +5,9 @@ use Rattle.rsp_scalar.specs.Flow.{address_after}
 use Rattle.rsp_machine.specs.State.{State, IsState}
 use Rattle.rsp_machine.specs.Laws.{steps_of}
 use Rattle.rsp_microcode.specs.Runs.{IsAt, Stand, place_after}
-use Rattle.rsp_microcode.specs.Frames.{of_rows, with_parts}
-use Rattle.rsp_microcode.specs.Kept.{write_only, Spares, changed}
+use Rattle.rsp_microcode.specs.Frames.{of_rows, with_parts, spare_scalar}
+use Rattle.rsp_microcode.specs.Kept.{write_only, Spares, changed, changed_at}
+use Rattle.rsp_microcode.specs.Calls.{Routine, routine_code, return_of, AfterRoutine}
 
 -- steps, and more steps
 abbrev pub StepsAfter : Type 0
@@ -51,3 +52,9 @@ RanAt = (a b : List ℕ) (code : List Inst) (s t : State) → IsAt (a ++ b) s �
 abbrev pub RanOthers : Type 0
 RanOthers = (words : List ℕ) (code : List Inst) (s t : State) → IsState s → s.npc ≡ address_after s.pc → Ran words code s t
     → (ns ms : List ℕ) → write_only ns ms code ≡ true → t ≡ changed words code ns ms s t
+
+-- If code that doesn't write register 31 is before a routine's end, the whole returns to where that register said at the start.
+abbrev pub RanReturns : Type 0
+RanReturns = (words : List ℕ) (code : List Inst) (r : Routine) (s t u : State) → IsState s → Ran words code s t → spare_scalar 31 code ≡ true → AfterRoutine r t u
+    → (ns ms : List ℕ) → write_only ns ms (code ++ routine_code r) ≡ true
+    → u ≡ changed_at (return_of s) (address_after (return_of s)) (code ++ routine_code r) ns ms s u

@@ -10,7 +10,7 @@ use Rattle.rsp_machine.specs.State.{State, IsState}
 use Rattle.rsp_machine.specs.Step.{executed}
 use Rattle.rsp_machine.specs.Laws.{steps_of}
 use Rattle.rsp_microcode.specs.Runs.{IsAt, Stand, goes_on, place_after}
-use Rattle.rsp_microcode.specs.Frames.{spare_scalar}
+use Rattle.rsp_microcode.specs.Frames.{of_rows, with_parts, spare_scalar}
 use Rattle.rsp_microcode.specs.Ranges.{fits_word}
 use Rattle.rsp_microcode.specs.Kept.{write_only, Spares, changed_at}
 use Rattle.rsp_microcode.specs.Pieces.{Piece, code_of, pieces_fit, after_pieces, AreAligned}
@@ -37,6 +37,7 @@ pub record AfterRoutine (r : Routine) (s t : State) : Type 0 where
   pub ran : t ≡ executed r.slot (executed (JumpRegister 31) (after_pieces r.pieces s))
   pub ranges : IsState t
   pub spares : Spares (routine_code r) s t
+  pub frame : t ≡ with_parts (of_rows (routine_code r)) s t
   pub others : (ns ms : List ℕ) → write_only ns ms (routine_code r) ≡ true → t ≡ changed_at (return_of s) (address_after (return_of s)) (routine_code r) ns ms s t
 
 abbrev pub RoutineRuns : Type 0

@@ -1,7 +1,7 @@
 //! Laws about any words and any state. The theorems about microcode are proved with them. Each is the
 //! contract of a function that does nothing; a function that calls it may use it in its proof.
 
-ghost use Rattle.rsp_microcode.specs.Blocks.{BlocksJoin, BothStand, FirstBlock, NextBlock, RanAt, RanOthers, StepsAfter};
+ghost use Rattle.rsp_microcode.specs.Blocks.{BlocksJoin, BothStand, FirstBlock, NextBlock, RanAt, RanOthers, RanReturns, StepsAfter};
 ghost use Rattle.rsp_microcode.specs.Calls.{CallRuns, RoutineRuns};
 ghost use Rattle.rsp_microcode.specs.Buffers.{FilledNone, FilledOne, FilledSpares};
 ghost use Rattle.rsp_microcode.specs.Fixed.{FixedAdds, FixedAddsInRange, FixedHigh, FixedParts, FixedPlusProduct, FixedProduct, FixedRange, FixedSum, FixedTimes};
@@ -126,7 +126,7 @@ pub fn frames()
     ensures vectors_above { VectorsAbove }
 {}
 
-/// Blocks of words, one after the other: where they are, and what two of them leave, as one block.
+/// Blocks of words, one after the other: where they are, and what two of them leave, as one block; also if a routine's end is last.
 pub fn blocks()
     ensures steps { StepsAfter }
     ensures stand { BothStand }
@@ -135,6 +135,7 @@ pub fn blocks()
     ensures join { BlocksJoin }
     ensures at { RanAt }
     ensures others { RanOthers }
+    ensures returns { RanReturns }
 {}
 
 /// Transfers: three moves to SP registers take a row of bytes from RDRAM to DMEM, or from DMEM to RDRAM, and change nothing else.

@@ -1,5 +1,5 @@
 use Rattle.rsp_microcode.proofs.Blocks.{steps_after, both_stand, first_block, next_block}
-use Rattle.rsp_microcode.proofs.Joins.{blocks_join, ran_at, ran_others}
+use Rattle.rsp_microcode.proofs.Joins.{blocks_join, ran_at, ran_others, ran_returns}
 use Rattle.rsp_microcode.proofs.laws.blocks.Goals as goal
 
 pub returns-clause-steps : goal.returns-clause-steps
@@ -22,3 +22,6 @@ returns-clause-at c = ran_at
 
 pub returns-clause-others : goal.returns-clause-others
 returns-clause-others c = ran_others
+
+pub returns-clause-returns : goal.returns-clause-returns
+returns-clause-returns c = ran_returns
