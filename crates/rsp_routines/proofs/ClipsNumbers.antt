@@ -2,6 +2,7 @@
 use Rattle.std.proofs.Common.{◌≡◌, ℕ, ◌+◌, ◌-◌, ◌*◌, ◌%◌, ◌^◌, ◌<◌, ◌≤◌, ◌&&◌, ◌||◌, ℤ, pos, negsuc, ◌+ℤ◌, List, [], ◌∷◌, get_or, map, Some, Bool, true, false, not, nat_lt, nat_le, nat_eq, refl, ap, sym, ◌∙◌, arith, inl, inr}
 use Rattle.std.specs.Prelude.{◌-ℤ◌, int_lt, int_le, if◌then◌else◌}
 use Rattle.std.proofs.lemmas.Int.{ints}
+use Rattle.std.proofs.Math.IntN.{+ℤ_comm}
 use Rattle.std.proofs.lemmas.Bool.{cases_lt, lt-leb, le-leb, le-ltb}
 use Rattle.std.specs.Ordering.{int_eq}
 use Rattle.std.proofs.lemmas.Bool.Decides.{nat_tests}
@@ -110,6 +111,34 @@ opposite c d = refl
 not_below : (c d k : ℕ) → 0 < k → last_of c d (apart (pos k) false) ≡ compare_flags false false
 not_below c d k h = let p = not_0 k h in let q = lt-leb k 0 (omega arith) in rw (p, q) refl
 
+-- the same for a w below 0
+pos_neg : (a k : ℕ) → first_of (pos a) (negsuc k) ≡ apart (pos a +ℤ negsuc k) true
+pos_neg a k = let p = le-ltb a 0 (omega arith) in rw p refl
+
+neg_neg : (j k : ℕ) → first_of (negsuc j) (negsuc k) ≡ agree (negsuc j -ℤ negsuc k) true
+neg_neg j k = refl
+
+smaller_n : (c d k : ℕ) → last_of c d (agree (negsuc k) true) ≡ compare_flags true false
+smaller_n c d k = refl
+
+larger_n : (c d k : ℕ) → 0 < k → last_of c d (agree (pos k) true) ≡ compare_flags true true
+larger_n c d k h = let p = not_0 k h in let q = le-leb 0 k (omega arith) in rw (p, q) refl
+
+same_high_n : (c d : ℕ) → last_of c d (agree (pos 0) true) ≡ compare_flags true (nat_le d c)
+same_high_n c d = refl
+
+far_below_n : (c d k : ℕ) → 0 < k → last_of c d (apart (negsuc k) true) ≡ compare_flags true true
+far_below_n c d k h = let p = not_minus_1 k h in rw p refl
+
+just_below_n : (c d : ℕ) → last_of c d (apart (negsuc 0) true) ≡ compare_flags (nat_eq ((c + d) % 65536) 0 || nat_lt (c + d) 65536) true
+just_below_n c d = refl
+
+opposite_n : (c d : ℕ) → last_of c d (apart (pos 0) true) ≡ compare_flags (nat_eq (c + d) 0) true
+opposite_n c d = refl
+
+not_below_n : (c d k : ℕ) → 0 < k → last_of c d (apart (pos k) true) ≡ compare_flags false true
+not_below_n c d k h = let p = not_0 k h in let q = lt-leb k 0 (omega arith) in rw (p, q) refl
+
 -- the two codes of a number with this sign
 at_most_0 : (p q : ℕ) → int_le (negsuc p +ℤ pos q) (pos 0) ≡ nat_le q (p + 1)
 at_most_0 p q = elim (cases_lt p q) [
@@ -121,10 +150,13 @@ at_most_0 p q = elim (cases_lt p q) [
     nat_case k q r e = grind (arith, nat_tests)
 
 below_positive : (x w : ℕ) → is_below (pos x) (pos w) ≡ false
-below_positive x w = let p = le-ltb x 0 (omega arith) in rw p refl
+below_positive x w = let p = le-ltb x 0 (omega arith) in let q = le-ltb w 0 (omega arith) in rw (p, q) refl
 
-above_positive : (x w : ℕ) → is_above (pos x) (pos w) ≡ nat_le w x
-above_positive x w = let p = le-leb 0 x (omega arith) in rw p refl
+below_pos_neg : (x w : ℕ) → is_below (pos x) (negsuc w) ≡ nat_le x (w + 1)
+below_pos_neg x w = let p = le-ltb x 0 (omega arith) in rw p (ap (λ z. int_le z (pos 0)) (+ℤ_comm (pos x) (negsuc w)) ∙ at_most_0 w x)
+
+below_neg_neg : (x w : ℕ) → is_below (negsuc x) (negsuc w) ≡ true
+below_neg_neg x w = refl
 
 shown : (a b c d : ℕ) (f g : LaneFlags) (p q : Bool) (x w : ℤ) → (vch a b f).flags ≡ g → last_of c d g ≡ compare_flags p q
     → s32 (a * 65536 + c) ≡ x → s32 (b * 65536 + d) ≡ w → p ≡ is_below x w → q ≡ is_above x w → Codes a b c d f
@@ -141,23 +173,28 @@ positive a b c d f ha hb hc hd =
     let w : s32 (b * 65536 + d) ≡ pos (b * 65536 + d) = s32_small _ (omega arith) in
     let one = first_is a b f ∙ ap (λ z. first_of z (s16 b)) (s16_small a (omega arith)) ∙ ap (first_of (pos a)) (s16_small b (omega arith)) ∙ both_positive a b in
     let low = sym (below_positive (a * 65536 + c) (b * 65536 + d)) in
-    let high = sym (above_positive (a * 65536 + c) (b * 65536 + d)) in
     elim (cases_lt a b) [
       | inl l ↦
           let e : pos a -ℤ pos b ≡ negsuc (b - a - 1) = omega (arith, ints) in
-          shown a b c d f _ _ _ _ _ (one ∙ ap (λ n. agree n false) e) (smaller c d (b - a - 1)) x w low (sym (lt-leb (b * 65536 + d) (a * 65536 + c) (omega arith)) ∙ high)
+          shown a b c d f _ _ _ _ _ (one ∙ ap (λ n. agree n false) e) (smaller c d (b - a - 1)) x w low (sym (lt-leb (b * 65536 + d) (a * 65536 + c) (omega arith)))
       | inr l ↦ elim (cases_lt b a) [
         | inl m ↦
             let e : pos a -ℤ pos b ≡ pos (a - b) = omega (arith, ints) in
-            shown a b c d f _ _ _ _ _ (one ∙ ap (λ n. agree n false) e) (larger c d (a - b) (omega arith)) x w low (sym (le-leb (b * 65536 + d) (a * 65536 + c) (omega arith)) ∙ high)
+            shown a b c d f _ _ _ _ _ (one ∙ ap (λ n. agree n false) e) (larger c d (a - b) (omega arith)) x w low (sym (le-leb (b * 65536 + d) (a * 65536 + c) (omega arith)))
         | inr m ↦
             let e : pos a -ℤ pos b ≡ pos 0 = omega (arith, ints) in
-            shown a b c d f _ _ _ _ _ (one ∙ ap (λ n. agree n false) e) (same_high c d) x w low (low_halves a b c d (omega arith) ∙ high)
+            shown a b c d f _ _ _ _ _ (one ∙ ap (λ n. agree n false) e) (same_high c d) x w low (low_halves a b c d (omega arith))
       ]
     ]
   where
     low_halves : (a b c d : ℕ) → a ≡ b → nat_le d c ≡ nat_le (b * 65536 + d) (a * 65536 + c)
     low_halves a b c d e = grind (arith, nat_tests)
+
+none_over : (a b c d v y : ℕ) → v ≤ y + (c + d) → y + (c + d) ≤ v → c + d < 131072 → nat_eq (c + d) 0 ≡ nat_le v y
+none_over a b c d v y p q r = grind (arith, nat_tests)
+
+one_over : (a b c d v y : ℕ) → c < 65536 → d < 65536 → v + 65536 ≡ y + (c + d) → (nat_eq ((c + d) % 65536) 0 || nat_lt (c + d) 65536) ≡ nat_le v y
+one_over a b c d v y p q e = grind (arith, nat_tests)
 
 negative : (a b c d : ℕ) (f : LaneFlags) → 32768 ≤ a → a < 65536 → b < 32768 → c < 65536 → d < 65536 → Codes a b c d f
 negative a b c d f la ha hb hc hd =
@@ -186,17 +223,74 @@ negative a b c d f la ha hb hc hd =
             shown a b c d f _ _ _ _ _ (one ∙ ap (λ n. apart n false) e) (just_below c d) x w (one_over a b c d v (y + 1) hc hd (omega arith) ∙ low) refl
       ]
     ]
+
+-- w below 0, x not
+positive_w : (a b c d : ℕ) (f : LaneFlags) → a < 32768 → 32768 ≤ b → b < 65536 → c < 65536 → d < 65536 → Codes a b c d f
+positive_w a b c d f ha lb hb hc hd =
+    let v = a * 65536 + c in
+    let y = 2 ^ 32 - 1 - (b * 65536 + d) in
+    let k = 2 ^ 16 - 1 - b in
+    let x : s32 v ≡ pos v = s32_small _ (omega arith) in
+    let w : s32 (b * 65536 + d) ≡ negsuc y = s32_large _ (omega arith) (omega arith) in
+    let one = first_is a b f ∙ ap (λ z. first_of z (s16 b)) (s16_small a (omega arith)) ∙ ap (first_of (pos a)) (s16_large b lb (omega arith)) ∙ pos_neg a k in
+    let low = sym (below_pos_neg v y) in
+    elim (cases_lt k a) [
+      | inl l ↦ elim (cases_lt (k + 1) a) [
+        | inl m ↦
+            let e : pos a +ℤ negsuc k ≡ pos (a - k - 1) = omega (arith, ints) in
+            shown a b c d f _ _ _ _ _ (one ∙ ap (λ n. apart n true) e) (not_below_n c d (a - k - 1) (omega arith)) x w (sym (lt-leb v (y + 1) (omega arith)) ∙ low) refl
+        | inr m ↦
+            let e : pos a +ℤ negsuc k ≡ pos 0 = omega (arith, ints) in
+            shown a b c d f _ _ _ _ _ (one ∙ ap (λ n. apart n true) e) (opposite_n c d) x w (none_over a b c d v (y + 1) (omega arith) (omega arith) (omega arith) ∙ low) refl
+      ]
+      | inr l ↦ elim (cases_lt a k) [
+        | inl m ↦
+            let e : pos a +ℤ negsuc k ≡ negsuc (k - a) = omega (arith, ints) in
+            shown a b c d f _ _ _ _ _ (one ∙ ap (λ n. apart n true) e) (far_below_n c d (k - a) (omega arith)) x w (sym (le-leb v (y + 1) (omega arith)) ∙ low) refl
+        | inr m ↦
+            let e : pos a +ℤ negsuc k ≡ negsuc 0 = omega (arith, ints) in
+            shown a b c d f _ _ _ _ _ (one ∙ ap (λ n. apart n true) e) (just_below_n c d) x w (one_over a b c d v (y + 1) hc hd (omega arith) ∙ low) refl
+      ]
+    ]
+
+-- both below 0
+negative_w : (a b c d : ℕ) (f : LaneFlags) → 32768 ≤ a → a < 65536 → 32768 ≤ b → b < 65536 → c < 65536 → d < 65536 → Codes a b c d f
+negative_w a b c d f la ha lb hb hc hd =
+    let v = 2 ^ 32 - 1 - (a * 65536 + c) in
+    let y = 2 ^ 32 - 1 - (b * 65536 + d) in
+    let j = 2 ^ 16 - 1 - a in
+    let k = 2 ^ 16 - 1 - b in
+    let x : s32 (a * 65536 + c) ≡ negsuc v = s32_large _ (omega arith) (omega arith) in
+    let w : s32 (b * 65536 + d) ≡ negsuc y = s32_large _ (omega arith) (omega arith) in
+    let one = first_is a b f ∙ ap (λ z. first_of z (s16 b)) (s16_large a la (omega arith)) ∙ ap (first_of (negsuc j)) (s16_large b lb (omega arith)) ∙ neg_neg j k in
+    let low = sym (below_neg_neg v y) in
+    elim (cases_lt a b) [
+      | inl l ↦
+          let e : negsuc j -ℤ negsuc k ≡ negsuc (b - a - 1) = omega (arith, ints) in
+          shown a b c d f _ _ _ _ _ (one ∙ ap (λ n. agree n true) e) (smaller_n c d (b - a - 1)) x w low (sym (lt-leb v y (omega arith)))
+      | inr l ↦ elim (cases_lt b a) [
+        | inl m ↦
+            let e : negsuc j -ℤ negsuc k ≡ pos (a - b) = omega (arith, ints) in
+            shown a b c d f _ _ _ _ _ (one ∙ ap (λ n. agree n true) e) (larger_n c d (a - b) (omega arith)) x w low (sym (le-leb v y (omega arith)))
+        | inr m ↦
+            let e : negsuc j -ℤ negsuc k ≡ pos 0 = omega (arith, ints) in
+            shown a b c d f _ _ _ _ _ (one ∙ ap (λ n. agree n true) e) (same_high_n c d) x w low (low_halves_w c d v y (omega arith))
+      ]
+    ]
   where
-    none_over : (a b c d v y : ℕ) → v ≤ y + (c + d) → y + (c + d) ≤ v → c + d < 131072 → nat_eq (c + d) 0 ≡ nat_le v y
-    none_over a b c d v y p q r = grind (arith, nat_tests)
+    low_halves_w : (c d v y : ℕ) → v + c ≡ y + d → nat_le d c ≡ nat_le v y
+    low_halves_w c d v y e = grind (arith, nat_tests)
 
-    one_over : (a b c d v y : ℕ) → c < 65536 → d < 65536 → v + 65536 ≡ y + (c + d) → (nat_eq ((c + d) % 65536) 0 || nat_lt (c + d) 65536) ≡ nat_le v y
-    one_over a b c d v y p q e = grind (arith, nat_tests)
-
-codes_are : (a b c d : ℕ) (f : LaneFlags) → a < 65536 → b < 32768 → c < 65536 → d < 65536 → Codes a b c d f
-codes_are a b c d f ha hb hc hd = elim (cases_lt a 32768) [
-  | inl l ↦ positive a b c d f l hb hc hd
-  | inr l ↦ negative a b c d f l ha hb hc hd
+codes_are : (a b c d : ℕ) (f : LaneFlags) → a < 65536 → b < 65536 → c < 65536 → d < 65536 → Codes a b c d f
+codes_are a b c d f ha hb hc hd = elim (cases_lt b 32768) [
+  | inl m ↦ elim (cases_lt a 32768) [
+    | inl l ↦ positive a b c d f l m hc hd
+    | inr l ↦ negative a b c d f l ha m hc hd
+  ]
+  | inr m ↦ elim (cases_lt a 32768) [
+    | inl l ↦ positive_w a b c d f l m hb hc hd
+    | inr l ↦ negative_w a b c d f l ha m hb hc hd
+  ]
 ]
 
 -- the flags after both instructions, by lanes
@@ -230,11 +324,11 @@ ended s is t e =
     )
 
 pub clips : SumsOfProducts → ClipsAll words
-clips law s is at sizes =
+clips law s is at =
     let end = pieces_run law words code decoded refl s is at tt in
     let done = ended s is (steps_of 3 s) end.ran in
     let v = is.vectors.registers in
-    let codes = λ (i : ℕ) (h : i < 8). codes_are _ _ _ _ (flags_at s.flags i) ((v 1 (omega arith)).1 i) (sizes i h) ((v 2 (omega arith)).1 i) ((v 4 (omega arith)).1 i) in
+    let codes = λ (i : ℕ) (h : i < 8). codes_are _ _ _ _ (flags_at s.flags i) ((v 1 (omega arith)).1 i) ((v 3 (omega arith)).1 i) ((v 2 (omega arith)).1 i) ((v 4 (omega arith)).1 i) in
     let lane = λ (i : ℕ) (h : i < 8). ap (λ f. flags_at f i) done.0 ∙ lane_flags s (vector s.vectors 2) (vector s.vectors 4) i h in
     record {
       below = λ i h. ap (λ (f : LaneFlags). f.compare) (lane i h) ∙ (codes i h).below;

@@ -1,5 +1,5 @@
 -- Clip codes: on which side of -w to w a number is.
-use Rattle.std.specs.Prelude.{ℕ, ℤ, pos, ◌≡◌, ◌<◌, ◌&&◌, ◌+ℤ◌, ◌++◌, int_lt, int_le, Bool, false, List, [], ◌∷◌, codes, slice_index, slice_index_or}
+use Rattle.std.specs.Prelude.{ℕ, ℤ, pos, ◌≡◌, ◌<◌, ◌&&◌, ◌||◌, ◌+ℤ◌, ◌++◌, int_lt, int_le, Bool, false, List, [], ◌∷◌, codes, slice_index, slice_index_or}
 use Rattle.rsp_decode.specs.declared.vector.Control.TheVariants.{Vcc}
 use Rattle.rsp_scalar.specs.Registers.{register}
 use Rattle.rsp_loadstore.specs.File.{vector}
@@ -18,12 +18,12 @@ text =
     ++ line (codes "vcl $v6, $v2, $v4")
     ++ line (codes "cfc2 $1, $vcc")
 
--- whether x < 0 and x <= -w, and whether x >= 0 and x >= w
+-- whether x <= -w, and one of the two is negative (so not both are 0); and whether x >= w
 abbrev pub is_below : ℤ → ℤ → Bool
-is_below x w = int_lt x (pos 0) && int_le (x +ℤ w) (pos 0)
+is_below x w = (int_lt x (pos 0) || int_lt w (pos 0)) && int_le (x +ℤ w) (pos 0)
 
 abbrev pub is_above : ℤ → ℤ → Bool
-is_above x w = int_le (pos 0) x && int_le w x
+is_above x w = int_le w x
 
 -- what the three steps from s to t do
 pub record ClipsNumbers (words : List ℕ) (s t : State) : Type 0 where
@@ -42,6 +42,6 @@ pub record ClipsNumbers (words : List ℕ) (s t : State) : Type 0 where
     flags = t.flags;
   }
 
--- from each state that is about to execute the words, if w is 0 or more in each lane
+-- from each state that is about to execute the words
 abbrev pub ClipsAll : List ℕ → Type 0
-ClipsAll words = (s : State) → IsState s → IsAt words s → ((i : ℕ) → i < 8 → slice_index (vector s.vectors 3) i < 32768) → ClipsNumbers words s (steps_of 3 s)
+ClipsAll words = (s : State) → IsState s → IsAt words s → ClipsNumbers words s (steps_of 3 s)

@@ -18,10 +18,9 @@ fn holds()
     l4();
 }
 
-/// The words of microcode that compares eight numbers of 32 bits, high halves in `$v1` and low ones in `$v2`,
-/// with -w and w, 0 or more, in `$v3` and `$v4`. Bit i of `$1` is 1 if the number of lane i is negative and at
-/// most -w, and bit 8 + i if it isn't negative and is at least w. Nothing else changes but `$v5`, `$v6`, the
-/// flags, the accumulators, pc and npc.
+/// The words of microcode that compares eight numbers x of 32 bits, high halves in `$v1` and low ones in `$v2`,
+/// with -w and w, for w in `$v3` and `$v4`. Bit i of `$1` is 1 if x <= -w in lane i, and not both are 0. Bit
+/// 8 + i is 1 if x >= w. Nothing else changes but `$v5`, `$v6`, the flags, the accumulators, pc and npc.
 pub fn clip_codes() -> [u32; 3]
     ensures text { Assembles text result }
     ensures theorem { ClipsAll result }
