@@ -4,9 +4,9 @@
 #          number, $5 the address of a buffer in DMEM, $7 the sum of the addresses of both buffers, $8 the number of blocks
 # Out      the blocks, one after the other
 # Needs    one block at least, of 4096 bytes at most; the addresses and the number of bytes multiples of 8; the buffers' addresses
-#          below 1000 in hexadecimal; the blocks and what they go to inside RDRAM, and apart. On a chip, whose transfers take time,
-#          the buffers are apart too
-# Changes  $1, $2, $4, $5, $8, the buffers, the SP registers
+#          below 1000 in hexadecimal; the blocks, and what they go to, inside RDRAM; they go to where they are, or before it, or to
+#          their end or after it. On a chip, whose transfers take time, the buffers are apart
+# Changes  $1, $2, $4, $5, $8, the buffers, SP registers 0 to 3
 # Cost     15 instructions for each block, and 3
 # Theorem  Byte i there is byte i of the blocks as they were, no other byte of RDRAM changes, and none of DMEM outside of the
 #          buffers. The machine goes on after the last instruction. A transfer is done at once.

@@ -7,7 +7,7 @@ use Rattle.rsp_decode.specs.declared.scalar.ShiftOp.TheVariants.{Sll}
 use Rattle.rsp_decode.specs.Table.Words.{inst_of, row_of}
 use Rattle.rsp_memory.specs.Memory.{byte_at}
 use Rattle.rsp_multiply.specs.Laws.{SumsOfProducts}
-use Rattle.rsp_regs.specs.Sp.{Sp, read_value}
+use Rattle.rsp_regs.specs.Sp.{read_value}
 use Rattle.rsp_scalar.specs.Registers.{register}
 use Rattle.rsp_machine.specs.State.{State, IsState}
 use Rattle.rsp_machine.specs.Step.{executed, instruction_effect, moves_sp}
@@ -16,7 +16,7 @@ use Rattle.rsp_microcode.specs.Runs.{IsAt, place_after}
 use Rattle.rsp_microcode.specs.Kept.{registers_but}
 use Rattle.rsp_microcode.specs.Pieces.{rows, after_pieces}
 use Rattle.rsp_microcode.specs.Loops.{Loop, loop_code, HandsOn, AfterLoop}
-use Rattle.rsp_microcode.specs.Transfers.{fetch_code}
+use Rattle.rsp_microcode.specs.Transfers.{fetch_code, with_addresses}
 use Rattle.rsp_microcode.specs.FetchRow.{FetchesRow, FetchesRows}
 use Rattle.rsp_microcode.proofs.Listings.{listed}
 use Rattle.rsp_microcode.proofs.Blocks.{steps_after, both_stand, first_block}
@@ -72,13 +72,13 @@ fetches law s is at row =
     subst (λ (x : State). FetchesRow (moves ++ wait.words) s x (register r 1) (register r 2) (register r 3)) (sym (steps_after 3 3 s)) (record {
       bytes = λ i h. ap (λ m. byte_at m (register r 1 + i)) same ∙ first.bytes i h;
       outside = λ x h. ap (λ m. byte_at m x) same ∙ first.outside x h;
-      others = tidy s t _ _ _ _ _ (last ∙ ap (λ (x : State). let y : State = record x {
+      others = tidy s t _ _ _ _ _ _ _ (last ∙ ap (λ (x : State). let y : State = record x {
         pc = place_after wait.words x.pc;
         npc = place_after wait.words x.npc;
         registers = registers_but (4 ∷ []) x.registers t.registers;
       } in y) first.others);
     })
   where
-    tidy : (s t : State) (p q : ℕ) (r m : List ℕ) (z : Sp) → t ≡ record s { pc = p; npc = q; registers = r; dmem = m; sp = z }
-        → t ≡ record s { pc = p; npc = q; registers = r; dmem = t.dmem; sp = t.sp }
-    tidy s t p q r m z e = subst (λ (y : State). y ≡ record s { pc = p; npc = q; registers = r; dmem = y.dmem; sp = y.sp }) (sym e) refl
+    tidy : (s t : State) (p q : ℕ) (r m : List ℕ) (u v w : ℕ) → t ≡ record s { pc = p; npc = q; registers = r; dmem = m; sp = record s.sp { memory = u; dram = v; skip = w } }
+        → t ≡ record s { pc = p; npc = q; registers = r; dmem = t.dmem; sp = with_addresses s.sp t.sp }
+    tidy s t p q r m u v w e = subst (λ (y : State). y ≡ record s { pc = p; npc = q; registers = r; dmem = y.dmem; sp = with_addresses s.sp y.sp }) (sym e) refl

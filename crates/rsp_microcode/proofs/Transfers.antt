@@ -23,7 +23,7 @@ use Rattle.rsp_machine.specs.Laws.{steps_of}
 use Rattle.rsp_machine.specs.declared.step.StepEnd.{StepEnd}
 use Rattle.rsp_microcode.specs.Runs.{IsAt, Stand, place_after, ran_through}
 use Rattle.rsp_microcode.specs.Lanes.{IsOutside}
-use Rattle.rsp_microcode.specs.Transfers.{fetch_code, send_code, row_bytes, IsRow, Fetches, Sends, FetchRuns, SendRuns}
+use Rattle.rsp_microcode.specs.Transfers.{fetch_code, send_code, row_bytes, with_addresses, IsRow, Fetches, Sends, FetchRuns, SendRuns}
 use Rattle.rsp_microcode.proofs.Runs.{over, steps-first, still}
 use Rattle.rsp_microcode.proofs.Ranges.{next_place, dmem_kept}
 use Rattle.rsp_microcode.proofs.RangesOfParts.{set_small, memory_small, memory_written}
@@ -299,6 +299,7 @@ follows words ws s t m stand =
     record { goes = m.at.goes; runs = m.at.runs; next = m.at.next; stand = rw (e, f) stand }
 
 pub fetch_runs : FetchRuns
+unfolding after_dma
 fetch_runs words memory image size decoded s ok at row =
     let a = register s.registers memory in
     let d = register s.registers image in
@@ -313,13 +314,14 @@ fetch_runs words memory image size decoded s ok at row =
       outside = λ y h. ap (λ (z : State). byte_at z.dmem y) final ∙ outside_in (row_bytes n) a d y s.rdram s.dmem h;
       ranges = subst IsState (sym final) (dmem_kept _ _ (memory_in (row_bytes n) a d s.rdram s.dmem ok.rdram ok.dmem) (row_kept a d n s row ok));
       at = λ ws stand. follows words ws s x run.1 stand;
-      others = put s x _ _ _ _ _ _ final run.1.pc run.1.npc;
+      others = put s x _ _ _ _ _ _ _ _ final run.1.pc run.1.npc;
     })
   where
-    put : (s x : State) (p q i j : ℕ) (m : List ℕ) (r : Sp) → x ≡ record s { pc = i; npc = j; dmem = m; sp = r } → x.pc ≡ p → x.npc ≡ q → x ≡ record s { pc = p; npc = q; dmem = x.dmem; sp = x.sp }
-    put s x p q i j m r e f g = rw (← f, ← g) (subst (λ (y : State). y ≡ record s { pc = y.pc; npc = y.npc; dmem = y.dmem; sp = y.sp }) (sym e) refl)
+    put : (s x : State) (p q i j : ℕ) (m : List ℕ) (u v w : ℕ) → x ≡ record s { pc = i; npc = j; dmem = m; sp = record s.sp { memory = u; dram = v; skip = w } } → x.pc ≡ p → x.npc ≡ q → x ≡ record s { pc = p; npc = q; dmem = x.dmem; sp = with_addresses s.sp x.sp }
+    put s x p q i j m u v w e f g = rw (← f, ← g) (subst (λ (y : State). y ≡ record s { pc = y.pc; npc = y.npc; dmem = y.dmem; sp = with_addresses s.sp y.sp }) (sym e) refl)
 
 pub send_runs : SendRuns
+unfolding after_dma
 send_runs words memory image size decoded s ok at row inside =
     let a = register s.registers memory in
     let d = register s.registers image in
@@ -334,8 +336,8 @@ send_runs words memory image size decoded s ok at row inside =
       count = ap (λ (z : State). length z.rdram) final ∙ length_out (row_bytes n) a d s.dmem s.rdram;
       ranges = subst IsState (sym final) (rdram_kept _ _ (image_out (row_bytes n) a d s.dmem s.rdram ok.dmem ok.rdram) (row_kept a d n s row ok));
       at = λ ws stand. follows words ws s x run.1 stand;
-      others = put s x _ _ _ _ _ _ final run.1.pc run.1.npc;
+      others = put s x _ _ _ _ _ _ _ _ final run.1.pc run.1.npc;
     })
   where
-    put : (s x : State) (p q i j : ℕ) (m : List ℕ) (r : Sp) → x ≡ record s { pc = i; npc = j; rdram = m; sp = r } → x.pc ≡ p → x.npc ≡ q → x ≡ record s { pc = p; npc = q; rdram = x.rdram; sp = x.sp }
-    put s x p q i j m r e f g = rw (← f, ← g) (subst (λ (y : State). y ≡ record s { pc = y.pc; npc = y.npc; rdram = y.rdram; sp = y.sp }) (sym e) refl)
+    put : (s x : State) (p q i j : ℕ) (m : List ℕ) (u v w : ℕ) → x ≡ record s { pc = i; npc = j; rdram = m; sp = record s.sp { memory = u; dram = v; skip = w } } → x.pc ≡ p → x.npc ≡ q → x ≡ record s { pc = p; npc = q; rdram = x.rdram; sp = with_addresses s.sp x.sp }
+    put s x p q i j m u v w e f g = rw (← f, ← g) (subst (λ (y : State). y ≡ record s { pc = y.pc; npc = y.npc; rdram = y.rdram; sp = with_addresses s.sp y.sp }) (sym e) refl)

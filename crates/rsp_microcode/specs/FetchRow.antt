@@ -8,7 +8,7 @@ use Rattle.rsp_machine.specs.Laws.{steps_of}
 use Rattle.rsp_microcode.specs.Runs.{IsAt, place_after}
 use Rattle.rsp_microcode.specs.Lanes.{IsOutside}
 use Rattle.rsp_microcode.specs.Kept.{registers_but}
-use Rattle.rsp_microcode.specs.Transfers.{IsRow, row_bytes}
+use Rattle.rsp_microcode.specs.Transfers.{IsRow, row_bytes, with_addresses}
 use Rattle.rsp_microcode.specs.Text.{line}
 
 -- $1 has the address in DMEM, $2 that in RDRAM, $3 the number of bytes less 1
@@ -26,13 +26,13 @@ pub record FetchesRow (words : List ℕ) (s t : State) (a image_address size : �
   -- each byte of the row, and no other byte of DMEM changed
   pub bytes : (i : ℕ) → i < row_bytes size → byte_at t.dmem (a + i) ≡ image_byte s.rdram (image_address + i)
   pub outside : (x : ℕ) → IsOutside a (row_bytes size) x → byte_at t.dmem x ≡ byte_at s.dmem x
-  -- nothing else changed but scalar register 4, the SP registers, pc and npc
+  -- nothing else changed but scalar register 4, the addresses and the skip of the SP registers, pc and npc
   pub others : t ≡ record s {
     pc = place_after words s.pc;
     npc = place_after words s.npc;
     registers = registers_but (4 ∷ []) s.registers t.registers;
     dmem = t.dmem;
-    sp = t.sp;
+    sp = with_addresses s.sp t.sp;
   }
 
 -- from each state that is about to execute the words, with a row in registers 1 to 3

@@ -6,6 +6,7 @@ use Rattle.rsp_decode.specs.declared.scalar.MoveOp.TheVariants.{To}
 use Rattle.rsp_decode.specs.Table.{inst_of}
 use Rattle.rsp_memory.specs.Memory.{byte_at}
 use Rattle.rsp_memory.specs.Image.{image_byte}
+use Rattle.rsp_regs.specs.Sp.{Sp}
 use Rattle.rsp_scalar.specs.Registers.{register}
 use Rattle.rsp_machine.specs.State.{State, IsState}
 use Rattle.rsp_machine.specs.Laws.{steps_of}
@@ -29,14 +30,18 @@ pub record IsRow (a image_address size : ℕ) : Type 0 where
   pub image : (image_address < 16777216) × (image_address % 8 ≡ 0)
   pub one_row : size < 4096
 
+-- SP registers as they were before a transfer, but for the two addresses and the skip, which are those after it
+abbrev pub with_addresses : Sp → Sp → Sp
+with_addresses before after = record before { memory = after.memory; dram = after.dram; skip = after.skip }
+
 -- what a transfer from RDRAM does from s to t
 pub record Fetches (words : List ℕ) (s t : State) (a image_address size : ℕ) : Type 0 where
   pub bytes : (i : ℕ) → i < row_bytes size → byte_at t.dmem (a + i) ≡ image_byte s.rdram (image_address + i)
   pub outside : (x : ℕ) → IsOutside a (row_bytes size) x → byte_at t.dmem x ≡ byte_at s.dmem x
   pub ranges : IsState t
-  -- the words after these are executed next, and nothing else changed but the SP registers' addresses and skip
+  -- the words after these are executed next, and nothing else changed but the addresses and the skip of the SP registers
   pub at : (ws : List ℕ) → Stand ws (place_after words s.pc) s.imem → IsAt ws t
-  pub others : t ≡ record s { pc = place_after words s.pc; npc = place_after words s.npc; dmem = t.dmem; sp = t.sp }
+  pub others : t ≡ record s { pc = place_after words s.pc; npc = place_after words s.npc; dmem = t.dmem; sp = with_addresses s.sp t.sp }
 
 -- what a transfer to RDRAM does from s to t
 pub record Sends (words : List ℕ) (s t : State) (a image_address size : ℕ) : Type 0 where
@@ -45,7 +50,7 @@ pub record Sends (words : List ℕ) (s t : State) (a image_address size : ℕ) :
   pub count : length t.rdram ≡ length s.rdram
   pub ranges : IsState t
   pub at : (ws : List ℕ) → Stand ws (place_after words s.pc) s.imem → IsAt ws t
-  pub others : t ≡ record s { pc = place_after words s.pc; npc = place_after words s.npc; rdram = t.rdram; sp = t.sp }
+  pub others : t ≡ record s { pc = place_after words s.pc; npc = place_after words s.npc; rdram = t.rdram; sp = with_addresses s.sp t.sp }
 
 abbrev pub FetchRuns : Type 0
 FetchRuns = (words : List ℕ) (memory image size : ℕ) → map inst_of words ≡ map Some (fetch_code memory image size)

@@ -25,7 +25,7 @@ use Rattle.rsp_microcode.specs.Loops.{loop_code}
 use Rattle.rsp_microcode.specs.Blocks.{Ran}
 use Rattle.rsp_microcode.specs.Frames.{register_of, spare_scalar}
 use Rattle.rsp_loadstore.specs.File.{vector}
-use Rattle.rsp_microcode.specs.Transfers.{IsRow, Fetches, Sends, fetch_code, send_code, row_bytes}
+use Rattle.rsp_microcode.specs.Transfers.{IsRow, Fetches, Sends, fetch_code, send_code, row_bytes, with_addresses}
 use Rattle.rsp_routines.specs.BlockCopies.{IsBlocks, CopiesBlocks, CopiesAllBlocks}
 use Rattle.rsp_microcode.proofs.Blocks.{steps_after, both_stand, first_block}
 use Rattle.rsp_microcode.proofs.FetchesRow.{wait, Nothing, waits}
@@ -84,7 +84,7 @@ code = loop_code wait ++ tail_code
 
 -- s, with the parts of t that a round may change
 abbrev kept : State → State → State
-kept s t = record s { pc = t.pc; npc = t.npc; registers = t.registers; dmem = t.dmem; rdram = t.rdram; sp = t.sp }
+kept s t = record s { pc = t.pc; npc = t.npc; registers = t.registers; dmem = t.dmem; rdram = t.rdram; sp = with_addresses s.sp t.sp }
 
 then : (s t u : State) → t ≡ kept s t → u ≡ kept t u → u ≡ kept s u
 then s t u e f = f ∙ ap (λ (y : State). kept y u) e
@@ -175,13 +175,13 @@ record Rounded (t x : State) (a from to size : ℕ) : Type 0 where
 fetch_frame : (s t : State) (a d n : ℕ) → Fetches fetch s t a d n → t ≡ kept s t
 fetch_frame s t a d n is = put s t t _ _ _ is.others
   where
-    put : (s t z : State) (p q : ℕ) (m : List ℕ) → t ≡ record s { pc = p; npc = q; dmem = m; sp = z.sp } → t ≡ kept s t
+    put : (s t z : State) (p q : ℕ) (m : List ℕ) → t ≡ record s { pc = p; npc = q; dmem = m; sp = with_addresses s.sp z.sp } → t ≡ kept s t
     put s t z p q m e = subst (λ (y : State). y ≡ kept s y) (sym e) refl
 
 send_frame : (s t : State) (a d n : ℕ) → Sends send s t a d n → t ≡ kept s t
 send_frame s t a d n is = put s t t _ _ _ is.others
   where
-    put : (s t z : State) (p q : ℕ) (m : List ℕ) → t ≡ record s { pc = p; npc = q; rdram = m; sp = z.sp } → t ≡ kept s t
+    put : (s t z : State) (p q : ℕ) (m : List ℕ) → t ≡ record s { pc = p; npc = q; rdram = m; sp = with_addresses s.sp z.sp } → t ≡ kept s t
     put s t z p q m e = subst (λ (y : State). y ≡ kept s y) (sym e) refl
 
 wait_frame : (s t : State) → Ran wait.words (loop_code wait) s t → t ≡ kept s t
@@ -343,7 +343,7 @@ module _ (law : SumsOfProducts) (s : State) (is : IsState s) (at : IsAt words s)
         count = done.count ∙ h.count;
         bytes = λ i g. elim (cases_lt i (k * size)) [
           | inl l ↦ done.outside (to + i) (omega arith) (inl (omega arith)) ∙ h.bytes i l
-          | inr o ↦ ap (image_byte x.rdram) (omega arith) ∙ done.bytes (i - k * size) (omega arith) ∙ h.outside (register r 1 + (i - k * size)) (omega arith) (elim blocks.apart [
+          | inr o ↦ ap (image_byte x.rdram) (omega arith) ∙ done.bytes (i - k * size) (omega arith) ∙ h.outside (register r 1 + (i - k * size)) (omega arith) (elim blocks.spares [
             | inl u ↦ inl (omega arith)
             | inr u ↦ inr (omega arith)
           ]) ∙ ap (image_byte s.rdram) (omega arith)
@@ -359,7 +359,7 @@ module _ (law : SumsOfProducts) (s : State) (is : IsState s) (at : IsAt words s)
       }
 
 tidy : (s t : State) (p q : ℕ) (r : List ℕ) → t ≡ kept s t → t.pc ≡ p → t.npc ≡ q → t.registers ≡ r
-    → t ≡ record s { pc = p; npc = q; registers = r; dmem = t.dmem; rdram = t.rdram; sp = t.sp }
+    → t ≡ record s { pc = p; npc = q; registers = r; dmem = t.dmem; rdram = t.rdram; sp = with_addresses s.sp t.sp }
 tidy s t p q r e f g h = rw (← f, ← g, ← h) e
 
 pub copies : SumsOfProducts → CopiesAllBlocks (words ++ wait.words)

@@ -8,6 +8,7 @@ use Rattle.rsp_machine.specs.Laws.{steps_of}
 use Rattle.rsp_microcode.specs.Runs.{IsAt, Stand, place_after}
 use Rattle.rsp_microcode.specs.Lanes.{IsOutside}
 use Rattle.rsp_microcode.specs.Kept.{registers_but}
+use Rattle.rsp_microcode.specs.Transfers.{with_addresses}
 use Rattle.rsp_microcode.specs.Text.{line}
 
 -- $1 has the address of the first block in RDRAM, $2 the address there that it goes to, $6 the number of bytes of a block, $3 that number
@@ -47,10 +48,11 @@ pub record IsBlocks (s : State) (from to size n a b : ℕ) : Type 0 where
   pub short : size ≤ 4096
   pub aligned : (from % 8 ≡ 0) × (to % 8 ≡ 0) × (size % 8 ≡ 0)
   pub in_dmem : (a < 4096) × (a % 8 ≡ 0) × (b < 4096) × (b % 8 ≡ 0)
-  -- the blocks have addresses of RDRAM, the bytes that they go to are inside the image, and the two don't overlap
+  -- the blocks have addresses of RDRAM, and the bytes that they go to are inside the image
   pub source : from + n * size ≤ 16777216
   pub inside : to + n * size ≤ length s.rdram
-  pub apart : (from + n * size ≤ to) ⊎ (to + n * size ≤ from)
+  -- no block that is still to be copied is overwritten: they go to where they are, or before it, or after their end
+  pub spares : (from + n * size ≤ to) ⊎ (to ≤ from)
 
 -- what the steps from s to t do
 pub record CopiesBlocks (words : List ℕ) (s t : State) (from to size n a b : ℕ) : Type 0 where
@@ -60,14 +62,14 @@ pub record CopiesBlocks (words : List ℕ) (s t : State) (from to size n a b : �
   pub memory : (x : ℕ) → IsOutside a size x → IsOutside b size x → byte_at t.dmem x ≡ byte_at s.dmem x
   -- the words after these are executed next
   pub at : (ws : List ℕ) → Stand ws (place_after words s.pc) s.imem → IsAt ws t
-  -- nothing else changed but scalar registers 1, 2, 4, 5 and 8, the SP registers, pc and npc
+  -- nothing else changed but scalar registers 1, 2, 4, 5 and 8, the addresses and the skip of the SP registers, pc and npc
   pub others : t ≡ record s {
     pc = place_after words s.pc;
     npc = place_after words s.npc;
     registers = registers_but (1 ∷ 2 ∷ 4 ∷ 5 ∷ 8 ∷ []) s.registers t.registers;
     dmem = t.dmem;
     rdram = t.rdram;
-    sp = t.sp;
+    sp = with_addresses s.sp t.sp;
   }
 
 -- from each state that is about to execute the words, with such blocks
