@@ -1,5 +1,6 @@
 pub mod Multiplying
 pub mod Transforms
+pub mod TransformsFixed
 pub mod NewtonBound
 pub mod NewtonStep
 pub mod RootEstimates
@@ -12,6 +13,7 @@ pub mod Copies
 pub mod Estimates
 pub mod Fills
 pub mod MixesSound
+pub mod MixesRamps
 pub mod Products
 pub mod RightLoads
 pub mod Unaligned

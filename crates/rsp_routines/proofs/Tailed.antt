@@ -153,13 +153,15 @@ same_half : (m n : List ℕ) (c i : ℕ) → byte_at m (c + 2 * i) ≡ byte_at n
 unfolding half_at
 same_half m n c i p q = let e : c + 2 * i + 1 ≡ c + (2 * i + 1) = omega arith in rw (p, e, q) refl
 
-pub tailed : SumsOfProducts → (l : Loop) → map inst_of l.words ≡ map Some (loop_code l) → is_loop l ≡ true
+-- A loop may also hand on what its last round leaves in vector registers.
+pub tailed_and : SumsOfProducts → (l : Loop) → map inst_of l.words ≡ map Some (loop_code l) → is_loop l ≡ true
     → spare_scalar 5 (loop_code l) ≡ true → spare_vector 30 (loop_code l) ≡ true
     → (f : ℕ → List ℕ) (s : State) → IsState s → IsAt (tailed_words l) s → IsArea (register s.registers 3) (register s.registers 4)
-    → (Holds : State → ℕ → State → Type 0)
-    → ((u : State) → IsState u → Begun s u → Loops l f s u (vectors_for (register s.registers 4)) (Holds u))
-    → Tailed l f s (steps_of (2 + (vectors_for (register s.registers 4) * length l.words + 1)) s)
-tailed law l decoded test spare5 spare30 f s is at area Holds each =
+    → (Holds : State → ℕ → State → Type 0) (Leaves : List (List ℕ) → Type 0)
+    → ((u : State) → IsState u → Begun s u → Loops l f s u (vectors_for (register s.registers 4)) (Holds u)
+    × ((v : State) → Holds u (vectors_for (register s.registers 4)) v → Leaves v.vectors))
+    → let t = steps_of (2 + (vectors_for (register s.registers 4) * length l.words + 1)) s in Tailed l f s t × Leaves t.vectors
+tailed_and law l decoded test spare5 spare30 f s is at area Holds Leaves each =
     let c = register s.registers 3 in
     let n = register s.registers 4 in
     let rounds = vectors_for n in
@@ -168,7 +170,8 @@ tailed law l decoded test spare5 spare30 f s is at area Holds each =
     let u = steps_of 2 s in
     let b = begun law s is (first_block before_words (l.words ++ after_words) s at) (omega arith) in
     let at_u = ran_at before_words (l.words ++ after_words) _ s u at b.ran in
-    let shown = each u b.ran.ranges b in
+    let both = each u b.ran.ranges b in
+    let shown = both.0 in
     let mid = loops law l decoded test u b.ran.ranges (first_block l.words after_words u at_u) rounds (omega arith) (Holds u) shown.start shown.each in
     let v = steps_of (rounds * length l.words) u in
     let ran_v = loop_ran l rounds (Holds u) u v at_u.next mid in
@@ -178,13 +181,26 @@ tailed law l decoded test spare5 spare30 f s is at area Holds each =
     let filled = shown.filled v mid.holds in
     let end : register v.registers 5 ≡ c + n = mid.spares.scalars 5 spare5 ∙ b.end in
     let tail : vector v.vectors 30 ≡ saved (vector s.vectors 30) s.dmem (c + n) = mid.spares.vectors 30 spare30 ∙ b.tail in
+    let put = last.ran ∙ restores 30 5 v (omega arith) in
     let memory : t.dmem ≡ restored v.dmem (c + n) (saved (vector s.vectors 30) s.dmem (c + n)) =
-    ap (λ (x : State). x.dmem) (last.ran ∙ restores 30 5 v (omega arith)) ∙ rw (end, tail) refl in
+    ap (λ (x : State). x.dmem) put ∙ rw (end, tail) refl in
     let kept = tail_kept f s.dmem v.dmem (vector s.vectors 30) c n area mid.ranges.dmem.count (is.vectors.registers 30 (omega arith)) (has_bytes s.dmem is.dmem) filled in
     let byte = λ (i : ℕ) (h : i < n). ap (λ m. byte_at m (c + i)) memory ∙ kept.0 i h in
-    subst (Tailed l f s) (sym (steps_after 2 (rounds * length l.words + 1) s ∙ steps_after (rounds * length l.words) 1 u)) (record {
-      ran = blocks_join before_words (l.words ++ after_words) _ _ s u t b.ran (blocks_join l.words after_words _ _ u v t ran_v (pieces_ran after_words after v t at_v.next last));
-      bytes = λ i h. byte i h ∙ byte_of f s.dmem v c n i mid.ranges filled h;
-      halves = λ i h. same_half t.dmem v.dmem c i (byte (2 * i) (omega arith)) (byte (2 * i + 1) h) ∙ half_of f s.dmem v c n i filled h;
-      outside = λ x h. ap (λ m. byte_at m x) memory ∙ kept.1 x h;
-    })
+    subst (λ (x : State). Tailed l f s x × Leaves x.vectors) (sym (steps_after 2 (rounds * length l.words + 1) s ∙ steps_after (rounds * length l.words) 1 u)) (
+      record {
+        ran = blocks_join before_words (l.words ++ after_words) _ _ s u t b.ran (blocks_join l.words after_words _ _ u v t ran_v (pieces_ran after_words after v t at_v.next last));
+        bytes = λ i h. byte i h ∙ byte_of f s.dmem v c n i mid.ranges filled h;
+        halves = λ i h. same_half t.dmem v.dmem c i (byte (2 * i) (omega arith)) (byte (2 * i + 1) h) ∙ half_of f s.dmem v c n i filled h;
+        outside = λ x h. ap (λ m. byte_at m x) memory ∙ kept.1 x h;
+      },
+      subst Leaves (sym (ap (λ (x : State). x.vectors) put)) (both.1 v mid.holds),
+    )
+
+pub tailed : SumsOfProducts → (l : Loop) → map inst_of l.words ≡ map Some (loop_code l) → is_loop l ≡ true
+    → spare_scalar 5 (loop_code l) ≡ true → spare_vector 30 (loop_code l) ≡ true
+    → (f : ℕ → List ℕ) (s : State) → IsState s → IsAt (tailed_words l) s → IsArea (register s.registers 3) (register s.registers 4)
+    → (Holds : State → ℕ → State → Type 0)
+    → ((u : State) → IsState u → Begun s u → Loops l f s u (vectors_for (register s.registers 4)) (Holds u))
+    → Tailed l f s (steps_of (2 + (vectors_for (register s.registers 4) * length l.words + 1)) s)
+tailed law l decoded test spare5 spare30 f s is at area Holds each =
+    (tailed_and law l decoded test spare5 spare30 f s is at area Holds (λ _. Unit {0}) (λ u ok b. (each u ok b, λ v holds. tt))).0
