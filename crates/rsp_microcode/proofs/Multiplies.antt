@@ -12,7 +12,7 @@ use Rattle.rsp_multiply.specs.MultiplyRules.{multiply_results}
 use Rattle.rsp_machine.specs.State.{State}
 use Rattle.rsp_machine.specs.Step.{executed, instruction_effect}
 use Rattle.rsp_machine.specs.Vector.{multiplies}
-use Rattle.rsp_microcode.specs.Runs.{all_go_on, ran_through, place_after}
+use Rattle.rsp_microcode.specs.Runs.{ran_through, place_after}
 use Rattle.rsp_multiply.specs.MultiplyRules.{multiply_rule}
 use Rattle.rsp_numbers.specs.Numbers.{s48}
 use Rattle.rsp_lanes.specs.Lanes.{each_lane}

@@ -1,5 +1,5 @@
 -- Clip codes: on which side of -w to w a number is.
-use Rattle.std.specs.Prelude.{ℕ, ℤ, pos, ◌≡◌, ◌<◌, ◌&&◌, ◌||◌, ◌+ℤ◌, ◌++◌, int_lt, int_le, Bool, false, List, [], ◌∷◌, codes, slice_index, slice_index_or}
+use Rattle.std.specs.Prelude.{ℕ, ℤ, pos, ◌≡◌, ◌<◌, ◌&&◌, ◌||◌, ◌+ℤ◌, ◌++◌, int_lt, int_le, Bool, false, List, [], ◌∷◌, codes, slice_index_or}
 use Rattle.rsp_decode.specs.declared.vector.Control.TheVariants.{Vcc}
 use Rattle.rsp_scalar.specs.Registers.{register}
 use Rattle.rsp_loadstore.specs.File.{vector}
