@@ -1,0 +1,58 @@
+"""step_view.py SOURCE [STEPS [FROM]]: shows the code of microcode beside what each step changed.
+
+It assembles a text, runs it from 0 on, and shows the steps FROM to STEPS. On the left is the code around
+the step, which is marked; on the right are the registers, the flags and the lines of DMEM that it changed.
+"""
+
+import sys
+from pathlib import Path
+from typing import Iterator, List, Tuple
+
+import rsp
+
+AROUND = 2  # lines of code before and after the step
+Seen = Tuple[rsp.State, bytes]
+
+
+def seen(machine: rsp.Rsp) -> Seen:
+    """All registers, and DMEM."""
+    return machine.get(), machine.memory(rsp.DMEM, 0, 4096)
+
+
+def changes(before: Seen, after: Seen) -> Iterator[str]:
+    """Lines for what a step changed, but for pc and npc."""
+    for part in after[0].diff(before[0]):
+        if part.name not in ("pc", "npc") and " lane " not in part.name:
+            yield f"{part.name} {part.value:0{part.digits}x}"
+    for number, (old, new) in enumerate(zip(before[0].vectors, after[0].vectors)):
+        if list(old) != list(new):
+            yield f"$v{number} {' '.join(f'{lane:04x}' for lane in new)}"
+    for at in range(0, 4096, 16):
+        if before[1][at : at + 16] != after[1][at : at + 16]:
+            yield f"{at:03x}: {after[1][at : at + 16].hex()}"
+
+
+def show(machine: rsp.Rsp, place: int, right: List[str]) -> None:
+    """The code around a place beside other lines."""
+    begin = max(place - 4 * AROUND, 0)
+    code = machine.listing(begin, min(2 * AROUND + 1, (4096 - begin) // 4))
+    left = [f"{'>' if it.place == place else ' '} {it.place:03x} {it.text}" for it in code]
+    for n in range(max(len(left), len(right))):
+        line = (left[n] if n < len(left) else "").ljust(40)
+        print(f"{line}| {right[n] if n < len(right) else ''}".rstrip())
+
+
+def main(source: str, steps: str = "20", first: str = "1") -> None:
+    with rsp.Rsp() as machine:
+        machine.load_words(rsp.IMEM, 0, rsp.assemble(Path(source).read_text()))
+        machine.write(4, 1)
+        for number in range(1, int(steps) + 1):
+            before = seen(machine)
+            if machine.step() is not rsp.Status.OK:
+                break
+            if number >= int(first):
+                print(f"step {number}")
+                show(machine, before[0].pc, list(changes(before, seen(machine))))
+
+
+main(*sys.argv[1:])
