@@ -1,0 +1,128 @@
+"""Straight code as pieces, for the laws of rsp_microcode."""
+
+from __future__ import annotations
+
+from dataclasses import dataclass, field
+
+from .instructions import Instruction
+
+
+@dataclass
+class Piece:
+    """A piece: its kind, the text of each member, and the base registers that have to be aligned."""
+
+    kind: str  # takes, sums, puts or rows
+    members: list[str] = field(default_factory=list)
+    bases: list[int] = field(default_factory=list)
+    moves: bool = False  # whether it writes a scalar register
+    name: str = ""
+
+    @property
+    def text(self) -> str:
+        if self.kind == "puts":
+            return f"puts {self.members[0]}"
+        return f"{self.kind} {self.name}" if self.name else f"{self.kind} ({listing(self.members)})"
+
+
+def listing(members: list[str]) -> str:
+    return " ∷ ".join([*members, "[]"])
+
+
+def is_whole(it: Instruction) -> bool:
+    """Whether it loads or stores a whole register, with an offset that keeps the base aligned."""
+    return it.name in ("lqv", "sqv") and it.fields["e"] == 0 and it.fields["off"] < 64
+
+
+def pieces_of(code: list[Instruction], steady: dict[int, int]) -> list[Piece]:
+    """The pieces of straight code. LQV and SQV of whole registers are pieces if their base is `steady` and
+    no instruction before them writes it. Multiplies that add to one are a sum, if none reads what one before
+    it wrote.
+    """
+    pieces: list[Piece] = []
+    written: set[int] = set()
+    summed: set[int] = set()  # the vector registers that the last sum wrote
+    for it in code:
+        last = pieces[-1].kind if pieces else None
+        kind, member = kind_of(it, last, summed, steady.keys() - written)
+        if kind == "puts" or kind != last or kind == "sums" and not adds(it):
+            pieces.append(Piece(kind))
+            summed = set()
+        if kind == "sums":
+            summed.add(it.fields["vd"])
+        piece = pieces[-1]
+        piece.members.append(member)
+        if kind in ("takes", "puts"):
+            piece.bases.append(it.fields["base"])
+        if it.scalar:
+            written.add(it.scalar)
+            piece.moves = True
+    return named(pieces)
+
+
+def adds(it: Instruction) -> bool:
+    """Whether a multiply adds to the accumulator, and doesn't begin anew."""
+    return it.name.startswith("vma")
+
+
+def kind_of(it: Instruction, last: str | None, summed: set[int], steady: set[int]) -> tuple[str, str]:
+    """The kind of piece that an instruction is in, after one of the kind `last`, and its text there."""
+    fields = it.fields
+    if is_whole(it) and fields["base"] in steady:
+        where = f"{fields['vt']} {fields['off']} {fields['base']}"
+        return ("takes", f"load {where}") if it.name == "lqv" else ("puts", where)
+    reads_sum = it.variant == "Multiply" and {fields["vs"], fields["vt"]} & summed
+    if it.variant == "Multiply" and (not adds(it) or last == "sums" and not reads_sum):
+        return "sums", f"term {it.row} {fields['vd']} {fields['vs']} {fields['vt']} {fields['e']}"
+    return "rows", it.term
+
+
+def named(pieces: list[Piece]) -> list[Piece]:
+    """Gives the loads and the sums names, which a lemma about them can use."""
+    for kind, name in ("takes", "loads"), ("sums", "terms"):
+        for number, piece in enumerate((it for it in pieces if it.kind == kind), 1):
+            piece.name = f"{name}_{number}"
+    return pieces
+
+
+def definitions(pieces: list[Piece]) -> str:
+    """The definitions of the pieces that have names."""
+    text = ""
+    for kind, member in ("takes", "WholeLoad"), ("sums", "Term"):
+        for it in pieces:
+            if it.kind == kind:
+                text += f"abbrev {it.name} : List {member}\n{it.name} = {listing(it.members)}\n\n"
+    return text
+
+
+def pieces_text(pieces: list[Piece], indent: int) -> str:
+    return ("\n" + " " * indent + "∷ ").join([*(it.text for it in pieces), "[]"])
+
+
+def bases_of(pieces: list[Piece]) -> list[int]:
+    return sorted({base for it in pieces for base in it.bases})
+
+
+def aligned(pieces: list[Piece], where: str, state: str) -> str:
+    """The proof that the addresses of the pieces are aligned, from a fact a1, a2, .. for each base register.
+    `where` names the pieces, and `state` what they begin in. If instructions before a piece write scalar
+    registers, a listing of the registers shows what it reads.
+    """
+    before = [any(it.moves for it in pieces[:number]) for number in range(len(pieces))]
+
+    def fact(number: int, base: int) -> str:
+        if not before[number]:
+            return f"a{base}"
+        after = f"after_pieces (take {number} {where}) (record {state} {{ registers = r }})"
+        listed = f"listed {state}.registers is.registers.count"
+        return f"ap (λ r. register ({after}).registers {base} % 16) ({listed}) ∙ a{base}"
+
+    proof = "tt"
+    for number, piece in reversed([*enumerate(pieces)]):
+        if piece.kind == "puts":
+            proof = f"({fact(number, piece.bases[0])}, {proof})"
+        elif piece.kind == "takes":
+            group = "tt"
+            for base in reversed(piece.bases):
+                group = f"({fact(number, base)}, {group})"
+            proof = f"({group}, {proof})"
+    return proof
