@@ -1,0 +1,10 @@
+"""What z64 does otherwise than the instruction table: a sentence and a rule for each instruction.
+
+The sentences are those of conformance/Z64.md, in its order.
+"""
+
+from . import scalar, moves, vector, divides, memory  # noqa: F401, I001
+from .case import RULES, Case, Rule, State, complaint, state_of, texts_of
+from .planted import PLANTED
+
+__all__ = ["PLANTED", "RULES", "Case", "Rule", "State", "complaint", "state_of", "texts_of"]
