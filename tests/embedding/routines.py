@@ -143,7 +143,8 @@ def test_runs():
         "ones that aren't there",
         routines.broken(machine, "dot") == ("$v31 == [1] * 8: $v31 is [0, 0, 0, 0, 0, 0, 0, 0]",),
     )
-    machine = machine_at("clip", 4088, {}, "nop")
+    machine = rsp.Rsp()
+    machine.load_words(rsp.IMEM, 4088, routines.WORDS["clip"][:2])
     machine.load_words(rsp.IMEM, 0, routines.WORDS["clip"][2:])
     machine.set_pc(4088)
     see("a routine over the end of IMEM", routines.name_at_pc(machine) == "clip")

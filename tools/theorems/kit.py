@@ -38,8 +38,10 @@ use Rattle.rsp_microcode.specs.Multiplies.{Term, term, sum_writes}
 use Rattle.rsp_microcode.specs.Fixed.{fixed, limited, plus_times}
 use Rattle.rsp_microcode.specs.Buffers.{IsFilled}
 use Rattle.rsp_microcode.specs.Pieces.{Piece, takes, sums, puts, rows, code_of, after_pieces}
-use Rattle.rsp_microcode.specs.Loops.{Loop, loop_code, round_of, HandsOn}
-use Rattle.rsp_microcode.proofs.Listings.{listed}
+use Rattle.rsp_machine.specs.Laws.{steps_of}
+use Rattle.rsp_microcode.specs.Runs.{IsAt}
+use Rattle.rsp_microcode.specs.Loops.{Loop, loop_code, round_of, HandsOn, AfterLoop}
+use Rattle.rsp_microcode.proofs.Listings.{listed, listing}
 use Rattle.rsp_microcode.proofs.Registers.{vector_reads, length-with_vector}
 use Rattle.rsp_microcode.proofs.Bytes.{has_bytes, lanes_are}
 use Rattle.rsp_microcode.proofs.Buffers.{filled_none, filled_one, filled_spares}

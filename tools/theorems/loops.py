@@ -2,14 +2,13 @@
 
 from __future__ import annotations
 
-from .kit import KIT, OPENED
+import re
+
+from .buffers import MARK, filled, marked, memory, result_use, stored
 from .instructions import uses
+from .kit import KIT, OPENED
 from .pieces import aligned, definitions, listing, pieces_text
-from .routine import Counter, Routine
-
-
-def times(amount: int, count: str) -> str:
-    return count if amount == 1 else f"{amount} * {count}"
+from .routine import Routine
 
 
 def wide(amount: int) -> int:
@@ -23,12 +22,19 @@ def after_rounds(base: int, amount: int, count: str) -> str:
     return f"({start} + {wide(amount)} * {count}) % 2 ^ 32" if amount else start
 
 
-def loop_proof(it: Routine, counter: Counter) -> str:
-    words = listing([f"0x{word:08x}" for word in it.words])
+def loop_proof(it: Routine) -> str:
+    names = f"{it.module}Entered, Does{it.module}"
     return f"""-- {it.name}.
-{KIT}{uses(it.code)}use Rattle.rsp_microcode.specs.{it.module}.{{{it.module}Entered, Does{it.module}}}
+{KIT}{uses(it.code)}use Rattle.rsp_microcode.specs.{it.module}.{{{names}}}
+{result_use(it)}
+{lemmas(it)}
+{does(it)}"""
 
-{definitions(it.pieces)}abbrev loop : Loop
+
+def lemmas(it: Routine) -> str:
+    """The loop, and what one round does."""
+    words = listing([f"0x{word:08x}" for word in it.words])
+    return f"""{definitions(it.pieces)}abbrev loop : Loop
 loop = record {{
   words = {words};
   pieces =
@@ -41,40 +47,40 @@ decoded : map inst_of loop.words ≡ map Some (loop_code loop)
 unfolding inst_of row_of
 decoded = refl
 
-{holds(it, counter)}
-{counted(it, counter)}
+{holds(it)}
+{counted(it)}
 -- whether a round is left
-{more(it, counter)}
-{one_round(it, counter)}
-{does(it)}"""
+{more(it)}
+{stored(it)}{one_round(it)}"""
 
 
-def holds(it: Routine, counter: Counter) -> str:
+def holds(it: Routine) -> str:
     """The invariant of the rounds."""
-    down = counter.down
+    count = it.rounds.register
     bases = "".join(
         f"  base_{base} : register t.registers {base} ≡ {after_rounds(base, it.far[base], 'k')}\n"
         for base in it.bases
     )
+    filled = f"  filled : IsFilled (result s) s.dmem t.dmem (register s.registers {it.target}) k\n"
     return f"""-- what holds after k rounds
 record Holds (s : State) (n k : ℕ) (t : State) : Type 0 where
-  count : register t.registers {counter.register} + {times(down, "k")} ≡ {times(down, "n")}
+  count : {it.rounds.held(f"register t.registers {count}", f"register s.registers {count}")}
 {bases}  -- TODO: what k rounds have done
-"""
+{marked(filled) if it.target else ""}"""
 
 
-def counted(it: Routine, counter: Counter) -> str:
+def counted(it: Routine) -> str:
     """The registers after a round: the counter, the bases, and those that the branch reads."""
 
     def moved(register: int, amount: int) -> str:
         return f"(register r {register} + {amount}) % 2 ^ 32" if amount else f"register r {register}"
 
-    count = counter.register
-    counts = moved(count, 2**32 - counter.down)
+    count = it.rounds.register
+    counts = moved(count, it.rounds.step % 2**32)
     sides = [("q", count, counts), *(("q", base, moved(base, wide(it.far[base]))) for base in it.bases)]
-    sides.append(("p", count, counts))
-    if counter.branch == "bne":
-        sides.append(("p", 0, "register r 0"))
+    sides.append(("p", count, f"register r {count}" if it.rounds.is_late else counts))
+    if it.rounds.branch == "bne":
+        sides.append(("p", it.rounds.other, f"register r {it.rounds.other}"))
     types = "\n    × ".join(f"(register {when} {register} ≡ {value})" for when, register, value in sides)
     proofs = ", ".join(f"ap ({when} {register}) e" for when, register, _ in sides)
     begun = "(record t { registers = r })"
@@ -93,80 +99,138 @@ counted t n =
 """
 
 
-def more(it: Routine, counter: Counter) -> str:
+def compared(it: Routine) -> str:
+    """What the branch reads of the counter, r at the start of a round."""
+    return "r" if it.rounds.is_late else f"(r + {it.rounds.step % 2**32}) % 2 ^ 32"
+
+
+def in_letters(it: Routine, fact: str) -> str:
+    """A fact of the start, with c for the counter and z for what it is compared with."""
+    letters = {str(it.rounds.register): "c", str(it.rounds.other): "z"}
+    return re.sub(r"register s\.registers (\d+)", lambda found: letters[found[1]], fact)
+
+
+def more(it: Routine) -> str:
     """The branch is taken exactly if a round is left."""
-    down, up = counter.down, 2**32 - counter.down
-    left, all_left = times(down, "k"), times(down, "n")
+    after, counter = compared(it), it.rounds
+    facts = ["k < n", "r < 2 ^ 32", counter.held("r", "c"), in_letters(it, counter.entered)]
+    small = in_letters(it, counter.small)
+    facts += [small] if small else []
+    given = f"h w e l{' m' if small else ''}"
     if counter.branch == "bne":
-        after = f"(r + {up}) % 2 ^ 32"
-        facts = f"k < n → r < 2 ^ 32 → r + {left} ≡ {all_left} → z ≡ 0"
+        zero = "" if counter.other else " → z ≡ 0"
         return f"""\
-more : (r z n k : ℕ) → {facts} → not ({after} == z) ≡ nat_lt (k + 1) n
-more r z n k h l e zero = elim (cases_lt (k + 1) n) [
+more : (r c z n k : ℕ) → {" → ".join(facts)}{zero} → not ({after} == z) ≡ nat_lt (k + 1) n
+more r c z n k {given}{"" if counter.other else " zero"} = elim (cases_lt (k + 1) n) [
   | inl lt ↦ rw (lt-ltb (k + 1) n lt, ne_eqb ({after}) z (omega arith)) refl
   | inr ge ↦ rw (le-ltb (k + 1) n ge, eq-eqb ({after}) z (omega arith)) refl
 ]
 """
-    facts = f"k < n → {all_left} < 2 ^ 31 → r + {left} ≡ {all_left}"
     return f"""\
-more : (r n k : ℕ) → {facts} → int_lt (pos 0) (s32 ((r + {up}) % 2 ^ 32)) ≡ nat_lt (k + 1) n
-more r n k h l e =
-    let small : (r + {up}) % 2 ^ 32 < 2147483648 = omega arith in
-    rw (s32_small ((r + {up}) % 2 ^ 32) small) (elim (cases_lt (k + 1) n) [
-      | inl lt ↦ rw (lt-ltb (k + 1) n lt) (lt-ltb 0 ((r + {up}) % 2 ^ 32) (omega arith))
-      | inr ge ↦ rw (le-ltb (k + 1) n ge) (le-ltb 0 ((r + {up}) % 2 ^ 32) (omega arith))
+more : (r c n k : ℕ) → {" → ".join(facts)} → int_lt (pos 0) (s32 ({after})) ≡ nat_lt (k + 1) n
+more r c n k {given} =
+    let small : {after} < 2147483648 = omega arith in
+    rw (s32_small ({after}) small) (elim (cases_lt (k + 1) n) [
+      | inl lt ↦ rw (lt-ltb (k + 1) n lt) (lt-ltb 0 ({after}) (omega arith))
+      | inr ge ↦ rw (le-ltb (k + 1) n ge) (le-ltb 0 ({after}) (omega arith))
     ])
 """
 
 
-def taken(it: Routine, counter: Counter) -> str:
+def taken(it: Routine) -> str:
     """The proof in one round that the branch does as `more` says."""
-    count, last = f"register t.registers {counter.register}", len(it.bases) + 1
-    if counter.branch == "bne":
-        facts = f"h (is.registers.words {counter.register}) e is.registers.zero"
-        return f"rw (q.{last}, q.{last + 1}) (more ({count}) (register t.registers 0) n k {facts})"
-    return f"ap (λ x. int_lt (pos 0) (s32 x)) q.{last} ∙ more ({count}) n k h entered.small e"
-
-
-def one_round(it: Routine, counter: Counter) -> str:
-    known = "".join(
-        f"    let b{base} = holds.base_{base} in\n"
-        f"    let s{base} = entered.aligned_{base} in\n"
-        f"    let a{base} : register t.registers {base} % 16 ≡ 0 = omega arith in\n"
-        for base in it.bases
+    counter, last = it.rounds, len(it.bases) + 1
+    count = f"(register t.registers {counter.register}) (register s.registers {counter.register})"
+    facts = f"h (is.registers.words {counter.register}) e entered.count"
+    facts += f" {small_fact(it)}" if counter.small else ""
+    if counter.branch == "bgtz":
+        return f"ap (λ x. int_lt (pos 0) (s32 x)) q.{last} ∙ more {count} n k {facts}"
+    if counter.other:
+        other = f"register s.registers {counter.other}"
+        same = f"spares.scalars {counter.other} refl"
+        return f"rw (q.{last}, q.{last + 1}, {same}) (more {count} ({other}) n k {facts})"
+    return (
+        f"rw (q.{last}, q.{last + 1}) (more {count} (register t.registers 0) n k {facts} is.registers.zero)"
     )
+
+
+def needs_bound(it: Routine) -> bool:
+    """Whether the bound of the counted numbers is a premise: buffers inside DMEM bound what steps with them."""
+    counts_buffer = it.rounds.step < 0 or it.rounds.register in it.bases
+    return bool(it.rounds.small) and not (it.target and counts_buffer)
+
+
+def small_fact(it: Routine) -> str:
+    return "entered.small" if needs_bound(it) else "(omega arith)"
+
+
+def facts_of(it: Routine) -> str:
+    """The facts of one round about the base registers."""
+    lines = []
+    for base in it.bases:
+        lines.append(f"let b{base} = holds.base_{base} in")
+        if it.target:
+            lines.append(f"let f{base} = entered.buffer_{base} in")
+            lines.append(f"let s{base} = f{base}.aligned in")
+            lines.append(f"let i{base} = f{base}.inside in")
+        else:
+            lines.append(f"let s{base} = entered.aligned_{base} in")
+    lines += [f"let a{base} : register t.registers {base} % 16 ≡ 0 = omega arith in" for base in it.bases]
+    return "".join(f"    {line}\n" for line in lines)
+
+
+def one_round(it: Routine) -> str:
     bases = "".join(
         f"        base_{base} = let f = q.{number} in omega arith;\n"
         for number, base in enumerate(it.bases, 1)
     )
-    words = f"is.registers.words {counter.register}"
+    words = f"is.registers.words {it.rounds.register}"
+    small = f"let m = {small_fact(it)} in " if it.rounds.small and needs_bound(it) else ""
     return f"""\
 one_round : (s : State) (n : ℕ) → {it.module}Entered s n → HandsOn loop s n (Holds s n)
 unfolding {OPENED}
 one_round s n entered k t h is spares holds =
     let q = counted t is.registers.count in
     let e = holds.count in
-{known}    (
+{facts_of(it)}{memory(it)}    (
       {aligned(it.pieces, "loop.pieces", "t")},
-      {taken(it, counter)},
+      {taken(it)},
       record {{
-        count = let f = q.0 in let w = {words} in omega arith;
-{bases}      }},
+        count = let f = q.0 in let w = {words} in let c = entered.count in {small}omega arith;
+{bases}{filled(it)}      }},
     )
+
+{ends(it)}"""
+
+
+def ends(it: Routine) -> str:
+    """The law of loops, with the invariant."""
+    starts = [f"count = omega (arith, is.registers.words {it.rounds.register});"]
+    starts += [f"base_{base} = {at_start(base, it.far[base])};" for base in it.bases]
+    start = "".join(f"      {line}\n" for line in starts)
+    if it.target:
+        start += f"{MARK}      filled = filled_none (result s) s.dmem (register s.registers {it.target});\n"
+    return f"""\
+ends : SumsOfProducts → (s : State) → IsState s → IsAt loop.words s → (n : ℕ) → {it.module}Entered s n
+    → AfterLoop loop n (Holds s n) s (steps_of (n * {len(it.code)}) s)
+ends law s is at n entered =
+    let start : Holds s n 0 s = record {{
+{start}    }} in
+    loops law loop decoded refl s is at n entered.some (Holds s n) start (one_round s n entered)
 """
 
 
 def does(it: Routine) -> str:
-    starts = ["count = omega arith", *(f"base_{base} = {at_start(base, it.far[base])}" for base in it.bases)]
-    ends = "".join(f"base_{base} = end.holds.base_{base}; " for base in it.bases if it.far[base])
+    results = "".join(f"      base_{base} = end.holds.base_{base};\n" for base in it.bases if it.far[base])
+    if it.target:
+        results += f"{MARK}      filled = end.holds.filled;\n"
     return f"""\
 pub does : SumsOfProducts → Does{it.module} loop.words
 does law s is at n entered =
-    let count = entered.count in
-    let start : Holds s n 0 s = record {{ {"; ".join(starts)}; }} in
-    let end =
-        loops law loop decoded refl s is at n entered.some (Holds s n) start (one_round s n entered) in
-    record {{ {ends}others = end.others {it.numbers} {it.vectors} refl }}
+    let end = ends law s is at n entered in
+    record {{
+{results}      others = end.others {it.numbers} {it.vectors} refl;
+    }}
 """
 
 

@@ -102,19 +102,19 @@ def bases_of(pieces: list[Piece]) -> list[int]:
     return sorted({base for it in pieces for base in it.bases})
 
 
-def aligned(pieces: list[Piece], where: str, state: str) -> str:
+def aligned(pieces: list[Piece], where: str, state: str, ranges: str = "is", facts: str = "a") -> str:
     """The proof that the addresses of the pieces are aligned, from a fact a1, a2, .. for each base register.
-    `where` names the pieces, and `state` what they begin in. If instructions before a piece write scalar
-    registers, a listing of the registers shows what it reads.
+    `where` names the pieces, and `state` what they begin in, with its `ranges`. If instructions before a
+    piece write scalar registers, a listing of the registers shows what it reads.
     """
     before = [any(it.moves for it in pieces[:number]) for number in range(len(pieces))]
 
     def fact(number: int, base: int) -> str:
         if not before[number]:
-            return f"a{base}"
+            return f"{facts}{base}"
         after = f"after_pieces (take {number} {where}) (record {state} {{ registers = r }})"
-        listed = f"listed {state}.registers is.registers.count"
-        return f"ap (λ r. register ({after}).registers {base} % 16) ({listed}) ∙ a{base}"
+        listed = f"listed {state}.registers {ranges}.registers.count"
+        return f"ap (λ r. register ({after}).registers {base} % 16) ({listed}) ∙ {facts}{base}"
 
     proof = "tt"
     for number, piece in reversed([*enumerate(pieces)]):

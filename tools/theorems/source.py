@@ -2,10 +2,10 @@
 
 from __future__ import annotations
 
-from .routine import Routine
+from .routine import Text
 
 
-def source(it: Routine) -> str:
+def source(it: Text) -> str:
     words = "".join(f"    0x{word:08x}, // {comment}\n" for word, comment in zip(it.words, it.comments))
     return f"""// {it.name}.
 
@@ -35,7 +35,7 @@ pub fn {it.name}() -> [u32; {len(it.words)}]
 """
 
 
-def theorem_answer(it: Routine) -> str:
+def theorem_answer(it: Text) -> str:
     return f"""use Rattle.rsp_microcode.proofs.{it.module}Runs.{{does}}
 use Rattle.rsp_microcode.proofs.{it.name}_words.holds.Goals as goal
 
@@ -44,7 +44,7 @@ returns c = does c.l4.ensures
 """
 
 
-def text_answer(it: Routine) -> str:
+def text_answer(it: Text) -> str:
     return f"""use Rattle.std.proofs.Common.{{refl}}
 use Rattle.rsp_syntax.specs.SourceLine.{{label_of, line_size, first_fault, line_words}}
 use Rattle.rsp_syntax.specs.Statement.{{row_named}}
