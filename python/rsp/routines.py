@@ -130,7 +130,8 @@ class Entry(NamedTuple):
 
 
 def _code(premise: str) -> CodeType:
-    return compile(re.sub(r"\$(\d)", r"s\1", re.sub(r"\$v", "v", premise)), premise, "eval")
+    code: CodeType = compile(re.sub(r"\$(\d)", r"s\1", re.sub(r"\$v", "v", premise)), premise, "eval")
+    return code
 
 
 _CODES = {premise: _code(premise) for premises in (*PREMISES.values(), _EVERYWHERE) for premise in premises}
@@ -164,7 +165,7 @@ def name_at_pc(machine: "Rsp") -> Optional[str]:
     words = machine.memory_words(_IMEM, 0, 1024)
     ahead = words[pc // 4 :] + words[: pc // 4]
     found = [name for name, its in WORDS.items() if tuple(ahead[: len(its)]) == its]
-    return max(found, key=lambda name: len(WORDS[name]), default=None)
+    return max(found, key=lambda name: len(WORDS[name])) if found else None
 
 
 def broken(machine: "Rsp", name: str) -> Tuple[str, ...]:
