@@ -111,14 +111,6 @@ def load_lines(bank, address, text):
         yield f"load {bank} {address + at // 2} {text[at:at + 200]}"
 
 
-def wrapping_pieces(address, text, size=4096):
-    """The bytes at an address of a memory that wraps, as pieces that don't."""
-    first = 2 * (size - address)
-    yield address, text[:first]
-    if text[first:]:
-        yield 0, text[first:]
-
-
 class Script:
     """Lines for `rsp run`, with the number of reply lines that each of them has."""
 

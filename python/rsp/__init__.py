@@ -181,7 +181,10 @@ def _library() -> str:
     here = os.path.dirname(os.path.abspath(__file__))
     top = os.path.join(here, "..", "..")
     places = [os.path.join(it, "librsp.so") for it in (here, os.path.join(top, "lib"), os.path.join(top, "c"))]
-    return next(filter(os.path.exists, places), places[-1])
+    for place in places:
+        if os.path.exists(place):
+            return place
+    raise ImportError("the library isn't built: in a clone of rsp, c/build makes it, as c/librsp.so")
 
 
 _lib = ctypes.CDLL(_library())

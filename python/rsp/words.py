@@ -71,7 +71,7 @@ TOGETHER = {
 
 # By status; {} is the first number that the call was given.
 SENTENCES = {
-    1: "the machine is closed",
+    1: "the machine is closed, or a call in another thread has it",
     2: "an allocation failed",
     7: "{} isn't a multiple of 8, or the 64 bytes from there pass the image's end",
     8: "the size of the boot code, the word at offset 12 of the structure at {}, isn't 1 to 4096",

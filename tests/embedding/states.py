@@ -6,7 +6,10 @@ import copy
 import gc
 import pickle
 import re
+import shutil
+import subprocess
 import sys
+import tempfile
 from importlib.util import find_spec
 from pathlib import Path
 
@@ -188,12 +191,28 @@ def messages():
         made.set_pc(8)
         see("a copy of a machine", made.regs().pc == 8 and machine.regs().pc == 0)
         made.close()
+    # While a call in another thread is at work, the handle holds no machine.
+    held, machine._handle.at = machine._handle.at, None
+    raised(machine.step, rsp.RspError, "a call in another thread has it")
+    machine._handle.at = held
     machine.close()
     raised(lambda: copy.copy(machine), rsp.RspError, "copy: the machine is closed")
     raised(machine.step, rsp.RspError, "the machine is closed")
     for fault in (rsp.RspError(rsp.Status.NO_BREAK, "words"), rsp.AssemblyError(2, 11, "foo")):
         again = pickle.loads(pickle.dumps(fault))
         see(f"{fault!r} is pickled", type(again) is type(fault) and str(again) == str(fault) and again.status is fault.status)
+
+
+def no_library():
+    """What `import rsp` says in a clone in which no library is built."""
+    with tempfile.TemporaryDirectory() as folder:
+        ignored = shutil.ignore_patterns("librsp.so", "__pycache__")
+        shutil.copytree(Path(rsp.__file__).parent, Path(folder) / "python/rsp", ignore=ignored)
+        words = [sys.executable, "-c", "import rsp"]
+        said = subprocess.run(words, cwd=Path(folder) / "python", capture_output=True, text=True).stderr
+        last = said.splitlines()[-1]
+        wanted = "ImportError: the library isn't built: in a clone of rsp, c/build makes it"
+        see(f"no library: {last}", last.startswith(wanted))
 
 
 def failed_starts():
@@ -273,7 +292,7 @@ def arrays():
     raised(lambda: machine.memory_array(rsp.DMEM, 0, 6, ">u4"), ValueError, "length is 6")
 
 
-for part in (fields, equality, differences, shown, messages, failed_starts, buffers, arrays):
+for part in (fields, equality, differences, shown, messages, no_library, failed_starts, buffers, arrays):
     part()
 print(f"{COUNTS[0]} passed, {COUNTS[1]} failed")
 sys.exit(COUNTS[1] > 0)
