@@ -1,6 +1,6 @@
 /* rsp.h: the Nintendo 64's Reality Signal Processor (RSP): emulator, debugger, assembler and disassembler. Each call is proved to do
  * what the instruction table and the definitions of this repository say.
- * For C and C++, on Linux on x86-64. docs/EMBEDDING.md shows how to build and link it, docs/FAULTS.md the statuses beside the faults.
+ * For C and C++, on Linux on x86-64-v2. docs/EMBEDDING.md shows how to build and link it, docs/FAULTS.md the statuses beside the faults.
  *
  * Preconditions, which no call can check:
  *   - A handle is RSP_NONE before its first call, and after that as the last call left it. Never copy a handle that holds a machine,
@@ -13,9 +13,9 @@
  *     from the child that a process with more than one thread forked.
  *   - A call has RSP_STACK bytes of stack.
  *
- * Postconditions of every call: it returns, for any numbers, with a status. If that isn't RSP_OK, no machine has changed; `*out` and a
- * buffer that the call fills are unspecified unless stated otherwise. Every call with a handle but rsp_new and rsp_free returns RSP_NO_MACHINE if the handle holds no
- * machine, and rsp_copy if `from` holds none; below this status isn't listed again, nor is RSP_OK. */
+ * Postconditions of every call: it returns, for any numbers, with a status. If that isn't RSP_OK, no machine has changed, and neither has
+ * anything that the call fills. rsp_assemble alone then says in `out` why. Every call with a handle but rsp_new and rsp_free returns
+ * RSP_NO_MACHINE if the handle holds no machine, and rsp_copy if `from` holds none; below this status isn't listed again, nor is RSP_OK. */
 #ifndef RSP_H
 #define RSP_H
 
@@ -187,7 +187,7 @@ uint32_t rsp_set(rsp *m, const rsp_state *state);
 uint32_t rsp_state_fault(const rsp_state *state, uint32_t *out);
 
 /* Memories: bytes in and out, and words in (at most 1024) and out, the high byte of each first. Writing empties the history.
- * Each returns RSP_OUT_OF_RANGE if there is no such bank or the bytes pass its end; then the buffer of a read is as it was. */
+ * Each returns RSP_OUT_OF_RANGE if there is no such bank or the bytes pass its end. */
 uint32_t rsp_load(rsp *m, uint32_t bank, uint32_t address, const uint8_t *bytes, size_t len);
 uint32_t rsp_load_words(rsp *m, uint32_t bank, uint32_t address, const uint32_t *words, size_t len);
 uint32_t rsp_memory(rsp *m, uint32_t bank, uint32_t address, uint8_t *bytes, size_t len);
@@ -208,7 +208,7 @@ uint32_t rsp_set_pc(rsp *m, uint32_t pc);
  * `writes`: bit r for register r. It stops there before the first step too. Returns RSP_OUT_OF_RANGE unless n is 1 to 1000000 and both are
  * below 65536.
  * rsp_trace is rsp_run of `n` steps, and writes an entry for each; the other entries stay. Returns RSP_OUT_OF_RANGE unless n is 1 to
- * 1000000, and then `out` is as it was.
+ * 1000000.
  * rsp_back undoes n steps. Returns RSP_OUT_OF_RANGE unless n is 1 to 1000000; else RSP_SHORT_HISTORY.
  * rsp_pass goes past the MFC0 or MTC0 at pc, for a caller that owns the SP registers: pc and npc go on, register rt of an MFC0 becomes
  * `value`, single step halts as after any instruction, and nothing else is done. It empties the history. Returns RSP_HALTED; else
@@ -253,14 +253,15 @@ uint32_t rsp_set_sp(rsp *m, const rsp_sp_words *given);
 
 /* Texts.
  * rsp_assemble gives the words of a text in UTF-8, at most 1024; the first one is for the address `origin`, a multiple of 4 up to 4096. What
- * follows them in `words` stays, and all of it if the call is refused. Returns
- *   - RSP_OUT_OF_RANGE for another origin;
+ * follows them in `words` stays. Returns
+ *   - RSP_OUT_OF_RANGE for another origin: `out` stays;
  *   - RSP_NO_MEANING: `out` has the fault and its line;
  *   - RSP_NO_ROOM if there are more words than `capacity`: `out` has their count, so a capacity of 0 asks for it;
  *   - RSP_NO_MEMORY: `out` has fault 17 and the line whose label had no memory. No line up to it has a fault, but perhaps an operand that
  *     needs the labels of all lines.
  * rsp_text disassembles a word for an address of IMEM, a multiple of 4 below 4096. Returns RSP_OUT_OF_RANGE.
- * rsp_listing disassembles `len` words of IMEM from an address on. Returns RSP_OUT_OF_RANGE if they pass its end; then `lines` is as it was. */
+ * rsp_listing disassembles `len` words of IMEM from an address on. Returns RSP_OUT_OF_RANGE unless the address is a multiple of 4 below 4096
+ * and the words end by IMEM's end. */
 uint32_t rsp_assemble(uint32_t origin, const uint8_t *text, size_t len, uint32_t *words, size_t capacity, rsp_assembled *out);
 uint32_t rsp_text(uint32_t word, uint32_t address, rsp_line *out);
 uint32_t rsp_listing(rsp *m, uint32_t address, rsp_line *lines, size_t len);
