@@ -1,4 +1,4 @@
--- Scaffolding of proofs: the registers that a load can change, and the bytes that a store can, for an undo.
+-- The registers that a load can change, and the bytes that a store can: for an undo.
 use Rattle.std.specs.Prelude.{ℕ, Bool, true, false}
 use Rattle.rsp_decode.specs.declared.vector.VectorLoadOp.{VectorLoadOp}
 use Rattle.rsp_decode.specs.declared.vector.VectorLoadOp.TheVariants.{Ltv}
