@@ -4,6 +4,8 @@
  * is still in every glibc. It wants the functions that run before main, which today's glibc finds by itself. */
 #include <cpuid.h>
 #include <stddef.h>
+#include <sys/syscall.h>
+#include <unistd.h>
 
 typedef void constructor(int, char **, char **);
 extern constructor *__init_array_start[] __attribute__((visibility("hidden")));
@@ -52,4 +54,10 @@ __attribute__((visibility("hidden"))) const struct features *__x86_get_cpuid_fea
     if (at != &found[1] && __get_cpuid(leaves[number], &to[0], &to[1], &to[2], &to[3]))
         for (size_t i = 0; i < 4; i++) at->usable[i] = to[i];
     return at;
+}
+
+/* glibc has statx from 2.28 on. A kernel before 4.11 has none: there the call fails, and a file is saved in place. */
+__attribute__((visibility("hidden"))) int statx(int folder, const char *path, int flags, unsigned mask, void *found)
+{
+    return (int)syscall(SYS_statx, folder, path, flags, mask, found);
 }

@@ -1,5 +1,6 @@
-use std::alloc::Global;
-use std::fs::{self, File};
+use crate::save::save;
+use std::alloc::{AllocGlobal, Global};
+use std::fs::File;
 use std::io::{self, ErrorKind, Read};
 use std::rt::Files;
 
@@ -21,7 +22,7 @@ pub trait FileStore {
     fn write(&mut self, name: &str, bytes: &[u8]) -> Result<(), FileFault>;
 }
 
-/// The files of the system.
+/// The files of the system. One that is written keeps its old bytes until the new ones are whole, unless no new file can replace it.
 #[derive(Drop)]
 pub struct SystemFiles<'a, R> {
     runtime: &'a R,
@@ -54,12 +55,12 @@ fn read_at_most<R: Files>(
     Ok(bytes)
 }
 
-impl<R: Files> FileStore for SystemFiles<'_, R> {
+impl<R: Files + AllocGlobal> FileStore for SystemFiles<'_, R> {
     fn read(&mut self, alloc: Global, name: &str, limit: u64) -> Result<Vec<u8>, FileFault> {
         read_at_most(self.runtime, alloc, name, limit).map_err(|error| fault_of(&error))
     }
 
     fn write(&mut self, name: &str, bytes: &[u8]) -> Result<(), FileFault> {
-        fs::write(self.runtime, name, bytes).map_err(|error| fault_of(&error))
+        save(self.runtime, name, bytes).map_err(|error| fault_of(&error))
     }
 }

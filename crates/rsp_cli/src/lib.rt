@@ -3,13 +3,16 @@
 #![tactic(auto)]
 
 mod assemble;
+mod beside;
 mod dis;
 mod fault;
 mod files;
 mod listing;
 mod origin;
 mod program;
+mod save;
 mod status;
+mod target;
 
 pub use files::{FileFault, FileStore, SystemFiles};
 pub use program::{refuse_arguments, work};
