@@ -29,9 +29,7 @@ fn folder() -> Option<PathBuf> {
 
 fn main() {
     READ.iter().for_each(|name| println!("cargo:rerun-if-env-changed={name}"));
-    let Some(folder) = folder() else {
-        panic!("librsp.a isn't found: run c/build, or c/install for pkg-config, or name its folder by RSP_LIB_DIR");
-    };
+    let folder = folder().expect("librsp.a isn't found: run c/build, or c/install for pkg-config, or name its folder by RSP_LIB_DIR");
     let library = folder.join("librsp.a");
     println!("cargo:rerun-if-changed={}", library.display());
     assert!(library.is_file(), "{} isn't there", library.display());

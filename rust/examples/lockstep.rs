@@ -25,14 +25,14 @@ impl Emulator<'_> {
     fn step(&mut self) {
         let word = self.imem[usize::from(self.pc / 4)];
         let (s, t, d) = (word as usize >> 21 & 31, word as usize >> 16 & 31, word as usize >> 11 & 31);
-        let low = word as u16 as i16;
+        let low = word as u16;
         let (place, mut next) = (self.npc, (self.npc + 4) % 4096);
         match (word >> 26, word & 63) {
             (0, 3) if self.has_fault => self.r[d] = self.r[t] >> (word >> 6 & 31),
             (0, 3) => self.r[d] = (self.r[t] as i32 >> (word >> 6 & 31)) as u32,
             (0, 33) => self.r[d] = self.r[s].wrapping_add(self.r[t]),
-            (5, _) if self.r[s] != self.r[t] => next = self.npc.wrapping_add_signed(low.wrapping_mul(4)) % 4096,
-            (9, _) => self.r[t] = self.r[s].wrapping_add_signed(low.into()),
+            (5, _) if self.r[s] != self.r[t] => next = self.npc.wrapping_add(low.wrapping_mul(4)) % 4096,
+            (9, _) => self.r[t] = self.r[s].wrapping_add(low as i16 as u32),
             _ => (),
         }
         self.r[0] = 0;
