@@ -54,17 +54,26 @@ static void tell_other(void)
     tell(M64_INFO, "check: each task also runs on %s%s", options.check_against, other.is_z64 ? ", a z64 whose registers are known" : "");
 }
 
-/* Loads the other plugin, if the user wants one and it isn't there. The next ROM may have another RDRAM. */
+/* Loads the other plugin, unless it is loaded. Returns whether it is. */
+static int load_other(void)
+{
+    static char loaded[sizeof options.check_against];
+    if (!strcmp(loaded, options.check_against)) return 1;
+    *loaded = 0;
+    kept = kept ? kept : malloc(RDRAM_BYTES);
+    if (!kept || !open_other(options.check_against)) return 0;
+    memcpy(loaded, options.check_against, sizeof loaded);
+    tell_other();
+    return 1;
+}
+
+/* Begins check mode for a ROM, if the user wants it. The next ROM may have another RDRAM, and the user other options. */
 void check_open(rsp_unit *unit)
 {
     ours = unit;
+    unit->storing = NULL;
     other.rdram_size = unit->rdram_size;
-    if (!*options.check_against) return;
-    kept = kept ? kept : malloc(RDRAM_BYTES);
-    if (!is_open) {
-        is_open = kept && open_other(options.check_against);
-        if (is_open) tell_other();
-    }
+    is_open = *options.check_against && load_other();
     if (!is_open) return;
     unit->storing = keep_pages;
     give_list = unit->list;

@@ -98,17 +98,21 @@ size_t rdram_size(void)
     return options.small_rdram || settings[M64_SETTINGS_WITHOUT_PACK] ? 0x400000 : 0x800000;
 }
 
-/* Reads all options, and sets the defaults of those that the user doesn't have. Returns an m64p_error. */
-int read_options(void *core)
+/* Finds the emulator's calls. Returns an m64p_error. */
+int find_emulator(void *core)
 {
-    void *section;
     int version = 0;
     if (!find_calls(core)) return M64_INCOMPATIBLE;
     core_calls.versions(&version, NULL, NULL, NULL);
-    if (version >> 16 != M64_API >> 16) {
-        tell(M64_ERROR, "the emulator has version %d.%d of the configuration interface, and this plugin is for 2", version >> 16, version >> 8 & 255);
-        return M64_INCOMPATIBLE;
-    }
+    if (version >> 16 == M64_API >> 16) return M64_SUCCESS;
+    tell(M64_ERROR, "the emulator has version %d.%d of the configuration interface, and this plugin is for 2", version >> 16, version >> 8 & 255);
+    return M64_INCOMPATIBLE;
+}
+
+/* Reads all options, and sets the defaults of those that the user doesn't have. Returns an m64p_error. */
+int read_options(void)
+{
+    void *section;
     if (core_calls.open("Rsp-Proved", &section)) return M64_INCOMPATIBLE;
     read_section(section);
     if (!core_calls.open("Core", &section)) options.small_rdram = core_calls.get_bool(section, "DisableExtraMem");

@@ -83,8 +83,8 @@ int open_other(const char *path)
     if (!find_calls(path) || !dladdr(*(void **)&run, &at)) return 0;
     extent[0] = at.dli_fbase;
     dl_iterate_phdr(measure, extent);
-    other.memory[RSP_RDRAM] = (uint32_t *)make_pages();
-    other.memory[RSP_DMEM] = calloc(1, SP_SPACE);
+    if (!other.memory[RSP_RDRAM]) other.memory[RSP_RDRAM] = (uint32_t *)make_pages();
+    if (!other.memory[RSP_DMEM]) other.memory[RSP_DMEM] = calloc(1, SP_SPACE);
     if (!other.memory[RSP_RDRAM] || !other.memory[RSP_DMEM]) return tell(M64_ERROR, "check: there is no memory for it"), 0;
     other.memory[RSP_IMEM] = other.memory[RSP_DMEM] + MEMORY_WORDS;
     close_pages();

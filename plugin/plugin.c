@@ -15,7 +15,8 @@ EXPORTED int PluginStartup(void *core, void *context, m64p_message *message)
     int error;
     if (is_started) return M64_ALREADY_INIT;
     tell_by(message, context);
-    error = read_options(core);
+    error = find_emulator(core);
+    if (!error) error = read_options();
     is_started = error == M64_SUCCESS;
     return error;
 }
@@ -41,12 +42,14 @@ EXPORTED int PluginGetVersion(int *type, int *version, int *api, const char **na
 
 static void nothing(void) {}
 
-/* The emulator's memories and registers. The machine is made in the first task, since that may be in another thread. */
+/* The emulator's memories and registers. The machine is made in the first task, since that may be in another thread. The options are read again: a
+ * front end may set those of its command line after PluginStartup. */
 EXPORTED void InitiateRSP(m64p_rsp_info given, unsigned *cycles)
 {
     unsigned *sp[16] = { given.SP_MEM_ADDR, given.SP_DRAM_ADDR, given.SP_RD_LEN, given.SP_WR_LEN, given.SP_STATUS, given.SP_DMA_FULL,
         given.SP_DMA_BUSY, given.SP_SEMAPHORE, given.DPC_START, given.DPC_END, given.DPC_CURRENT, given.DPC_STATUS, given.DPC_CLOCK,
         given.DPC_BUFBUSY, given.DPC_PIPEBUSY, given.DPC_TMEM };
+    if (is_started) read_options();
     emulator = given;
     unit.memory[RSP_RDRAM] = (uint32_t *)given.RDRAM;
     unit.memory[RSP_DMEM] = (uint32_t *)given.DMEM;
