@@ -11,7 +11,9 @@ import rsp
 from . import TOP, CampaignFault
 
 HERE = Path(__file__).resolve().parent
-LIBRARY = [TOP / "c" / "rsp.h", TOP / "c" / "librsp.a"]
+# The repository has both in c/, a release archive in include/ and lib/.
+IN_REPOSITORY, IN_ARCHIVE = (TOP / "c/rsp.h", TOP / "c/librsp.a"), (TOP / "include/rsp.h", TOP / "lib/librsp.a")
+HEADER, LIBRARY = IN_REPOSITORY if IN_REPOSITORY[0].is_file() else IN_ARCHIVE
 
 
 def hash_of(paths, more=""):
@@ -25,7 +27,7 @@ def hash_of(paths, more=""):
 
 def sources():
     """All that decides what a campaign compares with: our sources, and the library."""
-    return [*sorted(HERE.glob("*.[chp]*")), *sorted(HERE.parent.glob("*.py")), *sorted((TOP / "plugin").glob("*.[ch]")), *LIBRARY]
+    return [*sorted(HERE.glob("*.[chp]*")), *sorted(HERE.parent.glob("*.py")), *sorted((TOP / "plugin").glob("*.[ch]")), HEADER, LIBRARY]
 
 
 def built(name, flags=(), source=None):
@@ -35,7 +37,8 @@ def built(name, flags=(), source=None):
     if made.exists():
         return str(made)
     waiting = made.with_name(f"{made.name}.{os.getpid()}")
-    words = ["cc", "-O2", "-march=x86-64-v2", "-shared", "-fPIC", f"-I{TOP / 'c'}", f"-I{HERE}", *flags, source, LIBRARY[1], "-ldl", "-o", waiting]
+    folders = [f"-I{HEADER.parent}", f"-I{HERE}"]
+    words = ["cc", "-O2", "-march=x86-64-v2", "-shared", "-fPIC", *folders, *flags, source, LIBRARY, "-ldl", "-o", waiting]
     try:
         made.parent.mkdir(exist_ok=True)
         ended = subprocess.run(words, stderr=subprocess.PIPE, text=True)
