@@ -1,5 +1,6 @@
 mod dis;
 mod fakes;
+mod long_files;
 
 use fakes::{AfterBytes, FakeFiles, FakeReader};
 use rsp_cli::{FileFault, Status, refuse_arguments, work};

@@ -24,34 +24,64 @@ fn words_are_listed(rt: HostRuntime) -> Result<(), Fail> {
     Ok(())
 }
 
-/// 4,096 bytes that look random: xorshift over 32 bits.
-fn random_bytes(alloc: Global) -> Result<Vec<u8>, AllocError> {
+/// Opcodes of instructions, some of them with many.
+const OPCODES: [u32; 19] = [
+    0, 1, 2, 3, 4, 5, 8, 13, 15, 16, 18, 18, 18, 32, 35, 40, 43, 50, 58,
+];
+
+/// The next number that looks random: xorshift over 32 bits.
+fn next(state: &mut u32) -> u32 {
+    *state ^= *state << 13;
+    *state ^= *state >> 17;
+    *state ^= *state << 5;
+    *state
+}
+
+/// 1,024 words of any bits, or of any bits after the opcode of an instruction.
+fn random_image(alloc: Global, state: &mut u32, has_opcodes: bool) -> Result<Vec<u8>, AllocError> {
     let mut bytes = Vec::new(alloc);
-    let mut state: u32 = 0x2545_f491;
-    for _ in 0..4096 {
-        state ^= state << 13;
-        state ^= state >> 17;
-        state ^= state << 5;
-        bytes.push((state % 256) as u8)?;
+    for _ in 0..1024 {
+        let mut word = next(state);
+        if has_opcodes {
+            word = OPCODES[(next(state) % 19) as usize] << 26 | word & 0x03ff_ffff;
+        }
+        bytes.extend_from_slice(&word.to_be_bytes())?;
     }
     Ok(bytes)
 }
 
-#[test]
-fn any_words_are_listed_and_assembled_back(rt: HostRuntime) -> Result<(), Fail> {
-    let words = random_bytes(rt.alloc())?;
-    let mut files = FakeFiles::new(rt.alloc(), &words);
+/// Lists the words of an image and assembles the listing: whether the words come back.
+fn comes_back(rt: &HostRuntime, words: &[u8]) -> Result<bool, Fail> {
+    let mut files = FakeFiles::new(rt.alloc(), words);
     let mut script = FakeReader::new(b"", AfterBytes::End);
     let mut listing = Vec::new(rt.alloc());
-    let end = run_work(&rt, "rsp dis image", &mut files, &mut script, &mut listing)?;
-    assert_eq!(rt; end.status, Status::Done);
+    let listed = run_work(rt, "rsp dis image", &mut files, &mut script, &mut listing)?;
     let mut files = FakeFiles::new(rt.alloc(), &listing);
     let mut output = Vec::new(rt.alloc());
     let line = "rsp asm image words";
-    let end = run_work(&rt, line, &mut files, &mut script, &mut output)?;
-    assert_eq!(rt; end.status, Status::Done);
-    assert!(rt; output.as_slice() == b"ok 1024 words\n".as_slice());
-    assert!(rt; files.saved.as_slice() == words.as_slice());
+    let assembled = run_work(rt, line, &mut files, &mut script, &mut output)?;
+    let is_done = listed.status == Status::Done && assembled.status == Status::Done;
+    let is_whole = output.as_slice() == b"ok 1024 words\n".as_slice();
+    Ok(is_done && is_whole && files.saved.as_slice() == words)
+}
+
+#[test]
+fn any_words_are_listed_and_assembled_back(rt: HostRuntime) -> Result<(), Fail> {
+    let mut state = 0x2545_f491;
+    for number in 0..128 {
+        let words = random_image(rt.alloc(), &mut state, false)?;
+        assert!(rt; comes_back(&rt, &words)?, "image {number}");
+    }
+    Ok(())
+}
+
+#[test]
+fn words_with_opcodes_are_listed_and_assembled_back(rt: HostRuntime) -> Result<(), Fail> {
+    let mut state = 0x9e37_79b9;
+    for number in 0..128 {
+        let words = random_image(rt.alloc(), &mut state, true)?;
+        assert!(rt; comes_back(&rt, &words)?, "image {number}");
+    }
     Ok(())
 }
 

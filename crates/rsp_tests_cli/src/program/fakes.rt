@@ -38,7 +38,10 @@ impl FileStore for FakeFiles<'_> {
         if name != "image" {
             return Err(FileFault::Refused);
         }
-        Vec::from_slice(alloc, self.image).map_err(|_| FileFault::OutOfMemory)
+        let end = usize::try_from(limit)
+            .unwrap_or(usize::MAX)
+            .min(self.image.len());
+        Vec::from_slice(alloc, &self.image[..end]).map_err(|_| FileFault::OutOfMemory)
     }
 
     fn write(&mut self, _name: &str, bytes: &[u8]) -> Result<(), FileFault> {
