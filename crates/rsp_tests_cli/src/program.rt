@@ -1,6 +1,7 @@
 mod dis;
 mod fakes;
 mod long_files;
+mod out_of_memory;
 
 use fakes::{AfterBytes, FakeFiles, FakeReader};
 use rsp_cli::{FileFault, Status, refuse_arguments, work};

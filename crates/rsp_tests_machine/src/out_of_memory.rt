@@ -3,6 +3,7 @@
 
 use rsp_acc::PlaneAcc;
 use rsp_debug::Debugger;
+use rsp_laws::assembled_listing;
 use rsp_machine::{Machine, StepEnd};
 use rsp_memory::{Bank, Rdram};
 use std::test::Fail;
@@ -38,6 +39,18 @@ fn a_machine_comes_back_when_there_is_no_memory(rt: HostRuntime) -> Result<(), F
             debugger.step() == StepEnd::Done && debugger.back(1).is_ok() == (depth > 0),
             "{depth}"
         );
+    }
+    Ok(())
+}
+
+#[test]
+fn a_listing_is_assembled_when_memory_is_there(rt: HostRuntime) -> Result<(), Fail> {
+    let words = [0x1000_ffff, 0, 0xffff_ffff, 0x4ac3_1050];
+    for _ in 0..2 {
+        match assembled_listing(rt.alloc(), &words) {
+            Ok(again) => assert!(rt; again.as_slice() == words.as_slice()),
+            Err(_) => println!(rt; "no memory for a listing")?,
+        }
     }
     Ok(())
 }

@@ -3,9 +3,12 @@
 
 ghost use Rattle.std.specs.Prelude.{◌≡◌, IfOk};
 
-use rsp_asm::{AsmFaultKind, assemble};
+use rsp_asm::{AsmFaultKind, Block, BlockFault, assemble};
 use rsp_bench::{BenchEnd, MemSink, MemSource, Session, Source, parse_line, run_bench};
 use rsp_memory::Rdram;
+use rsp_operands::Labels;
+use rsp_script_io::{LineHandler, Reply, RunFault, answer_script};
+use rsp_syntax::has_line_bytes;
 use std::test::Fail;
 
 /// An image whose bytes are all 7. This is an allocation of the test itself: if it fails, it is made again.
@@ -25,6 +28,16 @@ fn sink(rt: &HostRuntime) -> Result<MemSink, Fail>
         Err(_) => {
             println!(rt; "no sink")?;
             Ok(MemSink::new(rt.alloc(), 256)?)
+        }
+    }
+}
+
+fn session(rt: &HostRuntime) -> Result<Session, Fail> {
+    match Session::try_new(rt.alloc(), image(rt)?) {
+        Ok(session) => Ok(session),
+        Err((image, _)) => {
+            println!(rt; "no session")?;
+            Session::try_new(rt.alloc(), image).map_err(|_| Fail::new("still no session"))
         }
     }
 }
@@ -50,6 +63,46 @@ fn a_text_is_assembled_when_memory_is_there(rt: HostRuntime) -> Result<(), Fail>
     Ok(())
 }
 
+#[test]
+fn labels_are_added_when_memory_is_there(rt: HostRuntime) -> Result<(), Fail> {
+    let mut labels = Labels::new(rt.alloc());
+    for (name, address) in [(b"loop".as_slice(), 0), (b"end", 12)] {
+        if labels.add(name, address).is_err() {
+            println!(rt; "no memory for a label at {address}")?;
+            assert!(rt; labels.find(name) == None);
+            labels.add(name, address)?;
+        }
+    }
+    assert!(rt; labels.find(b"loop") == Some(0) && labels.find(b"end") == Some(12));
+    Ok(())
+}
+
+#[test]
+fn a_block_is_assembled_when_memory_is_there(rt: HostRuntime) -> Result<(), Fail> {
+    let mut block = Block::new(rt.alloc(), 8);
+    for line in [
+        "loop: j end # the first line of the block",
+        "nop",
+        "end: j loop",
+    ] {
+        assert!(rt; has_line_bytes(line.as_bytes()));
+        if block.push(line).is_err() {
+            println!(rt; "no memory for {line}")?;
+            block.push(line)?;
+        }
+    }
+    for _ in 0..2 {
+        match block.assemble(rt.alloc()) {
+            Ok(words) => {
+                assert!(rt; words.as_slice() == [0x0800_0004, 0, 0x0800_0002].as_slice())
+            }
+            Err(BlockFault::OutOfMemory { line }) => println!(rt; "no memory at line {line}")?,
+            Err(_) => return Err(Fail::new("the block has a fault")),
+        }
+    }
+    Ok(())
+}
+
 /// Lines, and the reply to each.
 const LINES: [(&str, &str); 8] = [
     ("asm 0", ""),
@@ -67,13 +120,7 @@ const LINES: [(&str, &str); 8] = [
 
 #[test]
 fn a_session_goes_on_when_memory_is_there(rt: HostRuntime) -> Result<(), Fail> {
-    let mut session = match Session::try_new(rt.alloc(), image(&rt)?) {
-        Ok(session) => session,
-        Err((image, _)) => {
-            println!(rt; "no session")?;
-            Session::try_new(rt.alloc(), image).map_err(|_| Fail::new("still no session"))?
-        }
-    };
+    let mut session = session(&rt)?;
     for (line, expected) in LINES {
         let Ok(command) = parse_line(line.as_bytes(), session.in_block()) else {
             return Err(Fail::new("a line is no command"));
@@ -109,6 +156,42 @@ fn a_run_is_whole_when_memory_is_there(rt: HostRuntime) -> Result<(), Fail> {
                 assert!(rt; is_unread == sink.bytes().is_empty());
             }
             _ => return Err(Fail::new("the run ends otherwise")),
+        }
+    }
+    Ok(())
+}
+
+#[test]
+fn a_line_is_answered_when_memory_is_there(rt: HostRuntime) -> Result<(), Fail> {
+    let mut session = session(&rt)?;
+    let mut reply = Reply::new();
+    for (line, expected) in LINES {
+        if session
+            .answer(rt.alloc(), line.as_bytes(), &mut reply)
+            .is_err()
+        {
+            println!(rt; "no memory for {line}")?;
+            session.answer(rt.alloc(), line.as_bytes(), &mut reply)?;
+        }
+        assert!(rt; reply.bytes() == expected.as_bytes(), "{line}");
+    }
+    Ok(())
+}
+
+#[test]
+fn a_script_is_answered_when_memory_is_there(rt: HostRuntime) -> Result<(), Fail> {
+    let replies = b"step Done pc 004\nok 1 words\n".as_slice();
+    for _ in 0..2 {
+        let mut session = session(&rt)?;
+        let mut source = MemSource::new(b"step\nasm 8\nx: j x\nend\n");
+        let mut sink = sink(&rt)?;
+        match answer_script(rt.alloc(), &mut session, &mut source, &mut sink) {
+            Ok(()) => assert!(rt; sink.bytes() == replies),
+            Err(RunFault::OutOfMemory) => {
+                println!(rt; "no memory after {} bytes", sink.bytes().len())?;
+                assert!(rt; replies.starts_with(sink.bytes()) && session.in_block());
+            }
+            Err(_) => return Err(Fail::new("the script ends otherwise")),
         }
     }
     Ok(())
