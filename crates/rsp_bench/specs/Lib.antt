@@ -2,7 +2,6 @@
 pub mod Looks
 pub mod Faults
 pub mod Replies
-pub mod Words
 pub mod Session
 pub mod Run
 pub mod LongLineAnswers

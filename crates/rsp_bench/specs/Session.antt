@@ -32,7 +32,7 @@ use Rattle.rsp_debug.specs.declared.debugger.BackFault.{BackFault}
 use Rattle.rsp_debug.specs.declared.debugger.BackFault.TheVariants.{Count, ShortHistory}
 use Rattle.rsp_bench.specs.Looks.{registers_text, sp_line, sp_text, dump_text, listing_text, vectors_text, accumulators_text, flags_text}
 use Rattle.rsp_bench.specs.Replies.{ok_text, range_text, line_fault_text, task_fault_text, break_fault_text, no_break_text, watch_fault_text, no_watch_text, count_text, back_fault_text, step_text, stop_text, watch_text, words_text, asm_fault_text}
-use Rattle.rsp_bench.specs.Words.{words_bytes}
+use Rattle.rsp_memory.specs.Words.{words_bytes}
 
 -- a session: what its debugger holds, and the block of source text that is open
 pub record SessionState : Type 0 where

@@ -2,7 +2,7 @@ ghost use Rattle.std.specs.Prelude.{◌≡◌, ◌+◌, ◌*◌, ◌≤◌, leng
 ghost use Rattle.arrayvec.specs.ArrayVec.{array_vec_len};
 ghost use Rattle.rsp_machine.specs.Host.{with_bank_bytes};
 ghost use Rattle.rsp_debug.specs.Debugging.{set_by_host};
-ghost use Rattle.rsp_bench.specs.Words.{words_bytes};
+ghost use Rattle.rsp_memory.specs.Words.{words_bytes};
 
 use arrayvec::ArrayVec;
 use byteorder::{BigEndian, ByteOrder};

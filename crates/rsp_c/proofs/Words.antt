@@ -13,7 +13,7 @@ use Rattle.rsp_memory.specs.declared.bank.Bank.TheVariants.{Dmem, Imem, Rdram}
 use Rattle.rsp_machine.specs.State.{State}
 use Rattle.rsp_machine.specs.Host.{bank_length, is_inside, with_bank_bytes}
 use Rattle.rsp_debug.specs.Debugging.{Debugging, set_by_host}
-use Rattle.rsp_c.specs.Bytes.{words_bytes}
+use Rattle.rsp_memory.specs.Words.{words_bytes}
 
 -- no bank has more than 8 MB
 pub bank_length-small : (b : Bank) (s : State) → length s.rdram ≤ 8388608 → bank_length b s ≤ 8388608

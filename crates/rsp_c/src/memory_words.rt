@@ -4,7 +4,8 @@ ghost use Rattle.std.specs.Prelude.{◌≡◌, ◌+◌, ◌*◌, ◌≤◌, ◌�
 ghost use Rattle.rsp_machine.specs.Host.{with_bank_bytes, is_inside};
 ghost use Rattle.rsp_debug.specs.Debugging.{set_by_host};
 ghost use Rattle.rsp_c.specs.Answers.{bank_of};
-ghost use Rattle.rsp_c.specs.Bytes.{bank_bytes, words_bytes};
+ghost use Rattle.rsp_memory.specs.Words.{words_bytes};
+ghost use Rattle.rsp_c.specs.Bytes.{bank_bytes};
 ghost use Rattle.byteorder.specs.Endian.{IsRead, big_number};
 
 use crate::handle::Handle;

@@ -3,3 +3,4 @@ pub mod Memory
 pub mod Image
 pub mod Runs
 pub mod Splices
+pub mod Words
