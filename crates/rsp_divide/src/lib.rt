@@ -1,4 +1,4 @@
-//! The divide instructions: reciprocals and inverse square roots of one lane, and VMOV. The divider carries halves of
+//! The divide instructions: reciprocals and inverse square roots of one lane, VMOV, VNOP and VNULL. The divider carries halves of
 //! 32-bit operands and quotients from one instruction to the next.
 //!
 //! docs/INSTRUCTIONS.md, "Divide instructions", has the rules.

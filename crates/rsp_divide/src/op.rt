@@ -1,6 +1,6 @@
 // The operations of this crate, each named as its instruction.
 
-/// Instructions that write one lane: the divides, and VMOV.
+/// The divides, VMOV, and the two instructions of their group that change nothing.
 #[derive(Clone, Copy)]
 pub enum DivideOp {
     /// `vrcp`: the low half of the reciprocal of a 16-bit number.
@@ -17,4 +17,8 @@ pub enum DivideOp {
     Vrsql,
     /// `vrsqh`: the same as `vrcph`.
     Vrsqh,
+    /// `vnop`: changes nothing.
+    Vnop,
+    /// `vnull`: changes nothing.
+    Vnull,
 }

@@ -3,6 +3,7 @@ pub mod Undoing
 pub mod Loading
 pub mod Flagging
 pub mod Lows
+pub mod Divides
 pub mod Undo
 pub mod OneStep
 pub mod Footprints

@@ -15,6 +15,8 @@ use Rattle.rsp_decode.specs.declared.vector.VectorLogicOp.{VectorLogicOp}
 use Rattle.rsp_decode.specs.declared.vector.VectorLogicOp.TheVariants.{Vand, Vnand, Vor, Vnor, Vxor, Vnxor}
 use Rattle.rsp_decode.specs.declared.vector.VectorDivideOp.{VectorDivideOp}
 use Rattle.rsp_decode.specs.declared.vector.VectorDivideOp.TheVariants.{Vrcp, Vrcpl, Vrcph, Vmov, Vrsq, Vrsql, Vrsqh}
+use Rattle.rsp_decode.specs.declared.vector.VectorNopOp.{VectorNopOp}
+use Rattle.rsp_decode.specs.declared.vector.VectorNopOp.TheVariants.{Vnop, Vnull}
 use Rattle.rsp_multiply.specs.declared.op.MultiplyOp.{MultiplyOp}
 use Rattle.rsp_multiply.specs.declared.op.RoundOp.{RoundOp}
 use Rattle.rsp_multiply.specs.declared.op.MpegOp.{MpegOp}
@@ -88,3 +90,8 @@ divide_op Vmov = DivideOp.Vmov
 divide_op Vrsq = DivideOp.Vrsq
 divide_op Vrsql = DivideOp.Vrsql
 divide_op Vrsqh = DivideOp.Vrsqh
+
+-- the operation of an instruction that changes nothing
+abbrev pub idle_op : VectorNopOp → DivideOp
+idle_op Vnop = DivideOp.Vnop
+idle_op Vnull = DivideOp.Vnull

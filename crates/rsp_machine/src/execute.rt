@@ -199,7 +199,7 @@ impl<A: Acc> Machine<A> {
                 vt,
                 element,
             } => self.divide(row, vd, lane, vt, element),
-            Inst::Idle { .. } => (),
+            Inst::Idle { row } => self.idle(row),
             Inst::VectorLoad { row, fields } => self.load_register(row, fields),
             Inst::VectorStore { row, fields } => self.store_register(row, fields),
         }

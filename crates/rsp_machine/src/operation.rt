@@ -1,12 +1,12 @@
 // The operation, in its group's crate, of each vector instruction. These crates don't know the instruction table.
 
 ghost use Rattle.std.specs.Prelude.{◌≡◌};
-ghost use Rattle.rsp_machine.specs.Operations.{multiply_op, round_op, mpeg_op, add_op, select_op, clip_op, logic_op, divide_op};
+ghost use Rattle.rsp_machine.specs.Operations.{multiply_op, round_op, mpeg_op, add_op, select_op, clip_op, logic_op, divide_op, idle_op};
 
 use rsp_compare::{AddOp, ClipOp, LogicOp, SelectOp};
 use rsp_decode::{
     VectorAddOp, VectorClipOp, VectorDivideOp, VectorLogicOp, VectorMpegOp, VectorMultiplyOp,
-    VectorRoundOp, VectorSelectOp,
+    VectorNopOp, VectorRoundOp, VectorSelectOp,
 };
 use rsp_divide::DivideOp;
 use rsp_multiply::{MpegOp, MultiplyOp, RoundOp};
@@ -121,5 +121,16 @@ pub(crate) fn divide_op(row: VectorDivideOp) -> DivideOp
         VectorDivideOp::Vrsq => DivideOp::Vrsq,
         VectorDivideOp::Vrsql => DivideOp::Vrsql,
         VectorDivideOp::Vrsqh => DivideOp::Vrsqh,
+    }
+}
+
+/// The operation of an instruction that changes nothing.
+#[inline(always)]
+pub(crate) fn idle_op(row: VectorNopOp) -> DivideOp
+    ensures { result ≡ idle_op row }
+{
+    match row {
+        VectorNopOp::Vnop => DivideOp::Vnop,
+        VectorNopOp::Vnull => DivideOp::Vnull,
     }
 }

@@ -17,7 +17,7 @@ use rsp_acc::Acc;
 use rsp_compare::MergeOp;
 use rsp_decode::{
     Inst, MoveOp, VectorAddOp, VectorClipOp, VectorDivideOp, VectorFields, VectorLoadOp,
-    VectorLogicOp, VectorMemoryFields, VectorMpegOp, VectorMultiplyOp, VectorRoundOp,
+    VectorLogicOp, VectorMemoryFields, VectorMpegOp, VectorMultiplyOp, VectorNopOp, VectorRoundOp,
     VectorSelectOp, VectorStoreOp,
 };
 use rsp_lanes::{VReg, select};
@@ -175,7 +175,7 @@ impl<A: Acc> Machine<A> {
 
     /// A divide instruction, which writes one lane.
     #[inline]
-    #[tactic(auto, unfolding(crate::specs::Vector::divides))]
+    #[tactic(auto, unfolding(crate::specs::Vector::divides), using(crate::proofs::Divides::written))]
     pub(crate) fn divide(&mut self, row: VectorDivideOp, vd: u8, lane: u8, vt: u8, element: u8)
         requires { IsInstruction (Inst.Divide row vd lane vt element) }
         ensures { self.new ≡ divides row vd lane vt element self.old }
@@ -192,6 +192,25 @@ impl<A: Acc> Machine<A> {
             &mut self.acc,
         );
         self.vregs.set_reg(vd, register);
+    }
+
+    /// `vnop` or `vnull`, which changes nothing, whatever registers it is given.
+    #[inline(always)]
+    #[tactic(auto, using(crate::proofs::Divides::idle_divider, crate::proofs::Divides::idle_accumulators))]
+    pub(crate) fn idle(&mut self, row: VectorNopOp)
+        ensures { self.new ≡ self.old }
+    {
+        let source = self.vregs.reg(0);
+        let mut register = source;
+        rsp_divide::divide_op(
+            operation::idle_op(row),
+            0,
+            0,
+            &source,
+            &mut register,
+            &mut self.divider,
+            &mut self.acc,
+        );
     }
 
     /// A vector load.

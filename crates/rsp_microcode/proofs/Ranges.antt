@@ -27,7 +27,7 @@ use Rattle.rsp_lanes.proofs.Kit.{length_each}
 use Rattle.rsp_lanes.proofs.Products.{high_vector}
 use Rattle.rsp_multiply.specs.MultiplyRules.{accumulators_after, multiply_results, sar_results, sar_lane}
 use Rattle.rsp_multiply.specs.Mpeg.{accumulators_after_rounding, rounding_results, accumulators_after_mpeg, mpeg_results}
-use Rattle.rsp_divide.specs.DivideRules.{vd_after, divider_after}
+use Rattle.rsp_divide.specs.DivideRules.{writes, vd_after, divider_after}
 use Rattle.rsp_acc.specs.declared.parts.Clamp.TheVariants.{Signed}
 use Rattle.rsp_scalar.specs.Registers.{IsRegisters, with_register}
 use Rattle.rsp_scalar.specs.ScalarRules.{branch_target}
@@ -88,13 +88,17 @@ rule_kept rule f s small is =
     (flags_kept _ _ (record { carry = length_each _; differ = length_each _; compare = length_each _; clip = length_each _; extra = length_each _ })
     (accumulators_kept s _ (low_numbers s.accumulators _) is))
 
+either_vector : (c : Bool) (v w : List ℕ) → IsVector v → IsVector w → IsVector (if c then v else w)
+either_vector true v w h k = h
+either_vector false v w h k = k
+
 divide_kept : (row : VectorDivideOp) (vd lane vt e : ℕ) (s : State) → IsState s → IsState (divides row vd lane vt e s)
 unfolding divides vd_after divider_after
 divide_kept row vd lane vt e s is =
     let v = λ (i : ℕ). vector_small s.vectors vt i is.vectors in
     let d = division_small (divide_op row) s.divider (slice_index (vector s.vectors vt) (e % 8)) (slice_index (selected (vector s.vectors vt) e) lane)
     is.divider.0 is.divider.1 (v (e % 8)) (selected_small (vector s.vectors vt) e lane v) in
-    vectors_kept _ _ (file_written s.vectors vd _ (λ l. vector_set _ lane _ d.0 (is.vectors.registers vd l)) is.vectors)
+    vectors_kept _ _ (file_written s.vectors vd _ (λ l. either_vector (writes (divide_op row)) _ _ (vector_set _ lane _ d.0 (is.vectors.registers vd l)) (is.vectors.registers vd l)) is.vectors)
     (divider_kept _ _ d.1 (accumulators_kept s _ (low_numbers s.accumulators _) is))
 
 multiply_kept : (row : VectorMultiplyOp) (f : VectorFields) (s : State) → IsState s → IsState (multiplies row f s)

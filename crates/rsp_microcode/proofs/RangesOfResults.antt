@@ -33,7 +33,7 @@ use Rattle.rsp_compare.specs.declared.clips.ClipOp.TheVariants.{Vcl, Vch, Vcr}
 use Rattle.rsp_compare.specs.declared.logic.LogicOp.{LogicOp}
 use Rattle.rsp_compare.specs.declared.logic.LogicOp.TheVariants.{Vand, Vnand, Vor, Vnor, Vxor, Vnxor}
 use Rattle.rsp_divide.specs.declared.op.DivideOp.{DivideOp}
-use Rattle.rsp_divide.specs.declared.op.DivideOp.TheVariants.{Vrcp, Vrcpl, Vrcph, Vmov, Vrsq, Vrsql, Vrsqh}
+use Rattle.rsp_divide.specs.declared.op.DivideOp.TheVariants.{Vrcp, Vrcpl, Vrcph, Vmov, Vrsq, Vrsql, Vrsqh, Vnop, Vnull}
 use Rattle.rsp_numbers.specs.Numbers.{IsNumber, s16, complement, negated, floor_div, low}
 use Rattle.rsp_memory.specs.Memory.{IsMemory, half_at, word_at, with_half, with_word}
 use Rattle.rsp_lanes.specs.Lanes.{selected, source_lane}
@@ -192,6 +192,8 @@ division_small Vmov d source lane i o s l = (l, (i, o))
 division_small Vrsq d source lane i o s l = (sixteen_small _, (i, sixteen_small _))
 division_small Vrsql d source lane i o s l = (sixteen_small _, (i, sixteen_small _))
 division_small Vrsqh d source lane i o s l = (o, (s, o))
+division_small Vnop d source lane i o s l = (l, (i, o))
+division_small Vnull d source lane i o s l = (l, (i, o))
 
 -- accumulators
 one_number : (c : Bool) (x y : ℤ) → IsNumber x → IsNumber y → IsNumber (if c then x else y)
