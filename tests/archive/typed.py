@@ -139,5 +139,6 @@ WAYS = (
     Way(PLUGIN, "tests/plugin/run ", left_out=THE_HUNT),
     Way(PLUGIN, "(sed ", left_out=THE_HUNT),
     Way("docs/PROVING.md", "tools/theorem ", left_out="it needs the repository and the kit"),
+    Way("docs/PROVING.md", "sed -i ", left_out="it edits what tools/theorem writes"),
     Way("docs/SCRIPT.md", "od ", first=f"{LOOP}\nrsp asm loop.s code.bin", prints=f"ok 4 words\nload imem 0 {LOOP_WORDS}"),
 )
