@@ -74,7 +74,7 @@ def complaint(one: Rule, case: Case, got: State, with_memories: bool = True) -> 
             if said is not UNCLAIMED and said != found:
                 return f"{case.name}: by the rule {name} is {shown(said)}, and z64 gave {shown(found)}"
     except KeyError as fault:
-        return f"{case.name}: the case doesn't hold {fault}, which the rule asks for"
+        return f"{case.name}: the case doesn't hold {fault}, which the rule requires"
     return None
 
 
