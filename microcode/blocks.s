@@ -10,7 +10,7 @@
 # Cost     15 instructions for each block, and 3
 # Theorem  Byte i there is byte i of the blocks as they were, no other byte of RDRAM changes, and none of DMEM outside of the
 #          buffers. The machine goes on after the last instruction. A transfer is done at once.
-#          crates/rsp_routines/specs/BlockCopies.antt
+#          crates/rsp_routines/specs/Blocks.antt
 next:   mtc0  $5, $c0               # a block comes to a buffer,
         mtc0  $1, $c1
         mtc0  $3, $c2

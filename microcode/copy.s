@@ -7,7 +7,7 @@
 # Changes  $1, $3, $4, $5, $v1, $v30
 # Cost     3 instructions, and 6 for each 16 bytes begun, at least once
 # Theorem  Byte i of the copy is byte i of the source as it was, for each i below the number, and no other byte of
-#          DMEM changes. crates/rsp_routines/specs/Copying.antt
+#          DMEM changes. crates/rsp_routines/specs/Copy.antt
         addu  $5, $3, $4            # the end of the copy
         lqv   $v30[0], 0($5)        # what follows it in its last 16 bytes is put back at the end
 copy:   lqv   $v1[0], 0($1)

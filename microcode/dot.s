@@ -5,7 +5,7 @@
 # Changes  $v3 to $v6, the accumulators
 # Cost     20 instructions
 # Theorem  The result is the sum of the eight products, exactly, clamped to 32 bits.
-#          crates/rsp_routines/specs/DotProduct.antt
+#          crates/rsp_routines/specs/Dot.antt
         vmudh $v3, $v1, $v2         # the products
         vsar  $v3, $v3, $v3[0]      # their high halves
         vsar  $v4, $v4, $v4[1]      # their low halves

@@ -6,7 +6,7 @@
 # Changes  $3, $4, $5, $v30
 # Cost     3 instructions, and 4 for each 16 bytes begun, at least once
 # Theorem  Byte i is byte i mod 16 of $v1, for each i below the number, and no other byte of DMEM changes.
-#          crates/rsp_routines/specs/Filling.antt
+#          crates/rsp_routines/specs/Fill.antt
         addu  $5, $3, $4            # the end
         lqv   $v30[0], 0($5)        # what follows it in its last 16 bytes is put back at the end
 fill:   sqv   $v1[0], 0($3)

@@ -10,7 +10,7 @@
 # Cost     3 instructions, and 19 for each 8 samples begun, at least once
 # Theorem  Sample i of the result is (c0 x[i] + c1 x[i+1] + c2 x[i+2] + c3 x[i+3]) / 32768, rounded to the nearest number
 #          (halves up) and clamped to 16 bits, and no byte outside of the result changes.
-#          crates/rsp_routines/specs/FourTaps.antt
+#          crates/rsp_routines/specs/Filter.antt
         addu  $5, $3, $4            # the end of the result
         lqv   $v30[0], 0($5)        # what follows it in its last 16 bytes is put back at the end
 filter: lqv   $v1[0], 0($1)         # eight samples

@@ -10,7 +10,7 @@
 # Cost     3 instructions, and 10 for each 8 samples begun, at least once
 # Theorem  Sample i of the mix is a v / 32768 + b w, rounded to the nearest number (halves up) and clamped to 16 bits,
 #          for samples a and b and the volumes v and w, and no byte outside of the mix changes.
-#          crates/rsp_routines/specs/SoundMixing.antt
+#          crates/rsp_routines/specs/Mix.antt
         addu  $5, $3, $4            # the end of the mix
         lqv   $v30[0], 0($5)        # what follows it in its last 16 bytes is put back at the end
 mix:    lqv   $v1[0], 0($1)

@@ -10,7 +10,7 @@
 # Theorem  Sample i of the mix is a v / 32768 + b w, rounded to the nearest number (halves up) and clamped to 16 bits, for
 #          samples a and b, the high half v of the volume of lane i mod 8, and the second sound's volume w; and no byte
 #          outside of the mix changes. After each 8 samples the volumes grow by the steps, as numbers of 32 bits; a high half
-#          that leaves 16 bits is clamped. crates/rsp_routines/specs/RampMixing.antt
+#          that leaves 16 bits is clamped. crates/rsp_routines/specs/MixRamp.antt
         addu  $5, $3, $4            # the end of the mix
         lqv   $v30[0], 0($5)        # what follows it in its last 16 bytes is put back at the end
 ramp:   lqv   $v1[0], 0($1)

@@ -5,7 +5,7 @@
 # Changes  $v9, $v10, the accumulators
 # Cost     5 instructions
 # Theorem  In each lane the result is the product of the two numbers, rounded down to 16 bits of fraction and clamped to 32
-#          bits. crates/rsp_routines/specs/FixedProduct.antt
+#          bits. crates/rsp_routines/specs/Multiply.antt
         vmudl $v10, $v2, $v4        # low by low
         vmadm $v10, $v1, $v4        # high by low
         vmadn $v10, $v2, $v3        # low by high

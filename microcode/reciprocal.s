@@ -7,7 +7,7 @@
 # Theorem  If q is the table's reciprocal of x, which is near 1 / 2x, the result is q (2 - 2 x q): all numbers with 16 bits of
 #          fraction, each product rounded down, and each product and difference clamped to 32 bits. If x isn't 0, the result
 #          differs from 1 / 2x by no more than (2 + 1 / |x|) / 65536.
-#          crates/rsp_routines/specs/Newton.antt
+#          crates/rsp_routines/specs/Reciprocal.antt
         vrcph $v3[0], $v1[0]        # the high half goes in
         vrcpl $v4[0], $v2[0]        # the low half goes in; the low half of q comes out
         vrcph $v3[0], $v0[0]        # the high half of q

@@ -6,7 +6,7 @@
 # Changes  $v4, $v6, the accumulators
 # Cost     4 instructions
 # Theorem  In each lane the result is (a (65536 - f) + b f) / 65536, rounded down, for the samples a and b and the fraction f.
-#          crates/rsp_routines/specs/Resampling.antt
+#          crates/rsp_routines/specs/Resample.antt
         vnor  $v6, $v3, $v0         # 65535 - f
         vmudm $v4, $v1, $v6         # a (65535 - f)
         vmadm $v4, $v1, $v5[0]      # and a once more

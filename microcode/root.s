@@ -8,7 +8,7 @@
 # Theorem  If q is the table's inverse root of x, which is near 128 over the root, and t is x q, the result is t r / 128, and r is
 #          3 / 2 - 2 (t q / 65536): all numbers with 16 bits of fraction, each product and quotient rounded down. The result's
 #          square is no more than x + 7 x / 65536, and the next number's square no less than x - 6 x / 65536.
-#          crates/rsp_routines/specs/SquareRoot.antt
+#          crates/rsp_routines/specs/Root.antt
         vrsqh $v3[0], $v1[0]        # the high half goes in
         vrsql $v4[0], $v2[0]        # the low half goes in; the low half of q comes out
         vrsqh $v3[0], $v0[0]        # the high half of q

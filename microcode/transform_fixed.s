@@ -6,7 +6,7 @@
 # Changes  $v1, $v2, the accumulators
 # Cost     17 instructions
 # Theorem  Number i of the result is row i of the matrix times the vector: four products, each rounded down, and their sum
-#          modulo 2^48, then clamped to 32 bits. crates/rsp_routines/specs/FixedTransform.antt
+#          modulo 2^48, then clamped to 32 bits. crates/rsp_routines/specs/TransformFixed.antt
         vmudl $v2, $v20, $v10[0h]   # column 0 by number 0 of each vector: low by low
         vmadm $v2, $v16, $v10[0h]   # high by low
         vmadn $v2, $v20, $v9[0h]    # low by high

@@ -13,7 +13,7 @@ use Rattle.rsp_loadstore.specs.File.{vector}
 use Rattle.rsp_machine.specs.State.{State, IsState}
 use Rattle.rsp_machine.specs.Step.{executed, instruction_effect, jumps}
 use Rattle.rsp_machine.specs.Laws.{steps_of}
-use Rattle.rsp_microcode.specs.Runs.{goes_on, ran_through, place_after}
+use Rattle.rsp_microcode.specs.Runs.{goes_on, ran_through, address_after_words}
 use Rattle.rsp_microcode.specs.Frames.{of_rows, with_parts, all_stay}
 use Rattle.rsp_microcode.specs.Kept.{Spares}
 use Rattle.rsp_microcode.specs.Pieces.{code_of, after_pieces}
@@ -72,11 +72,11 @@ routine_run law r decoded test s ok at aligned =
 slot_stays : (i : Inst) → goes_on i ≡ true → all_stay (i ∷ []) ≡ true
 slot_stays i h = rw h refl
 
-two_places : (ws : List ℕ) (p : ℕ) → length ws ≡ 2 → place_after ws p ≡ address_after (address_after p)
-two_places [] p e = absurd (omega arith)
-two_places (a ∷ []) p e = absurd (omega arith)
-two_places (a ∷ b ∷ []) p e = refl
-two_places (a ∷ b ∷ c ∷ ws) p e = absurd (omega arith)
+two_addresses : (ws : List ℕ) (p : ℕ) → length ws ≡ 2 → address_after_words ws p ≡ address_after (address_after p)
+two_addresses [] p e = absurd (omega arith)
+two_addresses (a ∷ []) p e = absurd (omega arith)
+two_addresses (a ∷ b ∷ []) p e = refl
+two_addresses (a ∷ b ∷ c ∷ ws) p e = absurd (omega arith)
 
 returns : (p : ℕ) → p % 4 ≡ 0 → address_after (address_after p) / 4 % 1024 * 4 ≡ address_after (address_after p)
 returns p h = omega arith
@@ -96,7 +96,7 @@ call_runs words target slot decoded test spare s ok at =
     let link : register x.registers 31 ≡ address_after s.npc =
     scalars_spared (slot ∷ []) 31 v (slot_stays slot p.0) spare ∙ ap (λ (y : State). register y.registers 31) call
     ∙ one_scalar s.registers 31 31 (address_after s.npc) ok.registers.count (omega arith) refl in
-    let two : place_after words s.pc ≡ address_after (address_after s.pc) = two_places words s.pc (sym (length-map words inst_of) ∙ ap length decoded) in
+    let two : address_after_words words s.pc ≡ address_after (address_after s.pc) = two_addresses words s.pc (sym (length-map words inst_of) ∙ ap length decoded) in
     subst (AfterCall words target slot s) (sym made) (record {
       ran = refl;
       ranges = ranges code s stay fit ok;

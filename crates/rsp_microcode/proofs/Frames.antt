@@ -19,7 +19,7 @@ use Rattle.std.specs.List.{range_with_len}
 use Rattle.rsp_lanes.specs.declared.flags.Flags.{Flags}
 use Rattle.rsp_divide.specs.declared.divider.Divider.{Divider}
 use Rattle.rsp_regs.specs.Sp.{Sp}
-use Rattle.rsp_loadstore.specs.Reach.{writes_group}
+use Rattle.rsp_loadstore.specs.Windows.{writes_group}
 use Rattle.rsp_machine.specs.State.{State, advanced}
 use Rattle.rsp_machine.specs.Footprint.{loaded_footprint, scalar_in}
 use Rattle.rsp_machine.specs.Vector.{multiplies, rounds, multiplies_mpeg, reads_accumulator, ruled, divides, loads_vector, stores_vector, moves_vector, moves_control}
@@ -34,7 +34,7 @@ load_framed : (group : Bool) (vt : ℕ) (s : State) (v : List (List ℕ)) → le
 load_framed true vt s v = refl
 load_framed false vt s v = refl
 
--- one row
+-- one instruction
 pub row_framed : (i : Inst) (s : State) → stays i ≡ true → executed i s ≡ with_parts (of_row i) s (executed i s)
 unfolding executed instruction_effect computes loads stores jumps moves_sp multiplies rounds multiplies_mpeg reads_accumulator ruled divides loads_vector stores_vector moves_vector moves_control
 row_framed Break s h = cc
@@ -52,7 +52,7 @@ row_framed (MoveVector From rt n element) s h = refl
 row_framed (MoveVector To rt n element) s h = refl
 row_framed (MoveControl From rt control) s h = refl
 row_framed (MoveControl To rt control) s h = refl
-row_framed (VectorLoad row f) s h = load_framed (writes_group row) f.vt s _
+row_framed (VectorLoad op f) s h = load_framed (writes_group op) f.vt s _
 row_framed _ s h = refl
 
 -- one part, through two runs
@@ -93,7 +93,7 @@ framed (i ∷ is) s h =
     let parts = and_parts _ _ h in
     chained (of_row i) (of_rows is) s (executed i s) (ran_through is (executed i s)) (row_framed i s parts.0) (framed is (executed i s) parts.1)
 
--- the scalar register that a row writes
+-- the scalar register that an instruction writes
 record Writes (i : Inst) (s t : State) : Type 0 where
   value : ℕ
   is : t.registers ≡ with_register s.registers (register_of i) value
@@ -107,12 +107,12 @@ unfolding executed instruction_effect computes loads stores jumps moves_sp multi
 writes Break s h = cc
 writes (MoveSp From rt n) s h = record { value = _; is = refl }
 writes (MoveSp To rt n) s h = cc
-writes (Shift row rd rt amount) s h = record { value = _; is = refl }
-writes (ShiftBy row f) s h = record { value = _; is = refl }
-writes (Register row f) s h = record { value = _; is = refl }
-writes (Immediate row rt rs imm) s h = record { value = _; is = refl }
+writes (Shift op rd rt amount) s h = record { value = _; is = refl }
+writes (ShiftBy op f) s h = record { value = _; is = refl }
+writes (Register op f) s h = record { value = _; is = refl }
+writes (Immediate op rt rs imm) s h = record { value = _; is = refl }
 writes (LoadUpper rt imm) s h = record { value = _; is = refl }
-writes (Load row f) s h = record { value = _; is = refl }
+writes (Load op f) s h = record { value = _; is = refl }
 writes (JumpLinkRegister rd rs) s h = record { value = _; is = refl }
 writes (BranchSign Bltz rs offset) s h = record { value = 0; is = refl }
 writes (BranchSign Bgez rs offset) s h = record { value = 0; is = refl }
@@ -126,7 +126,7 @@ writes (MoveVector From rt n element) s h = record { value = _; is = refl }
 writes (MoveVector To rt n element) s h = record { value = 0; is = refl }
 writes (MoveControl From rt control) s h = record { value = _; is = refl }
 writes (MoveControl To rt control) s h = record { value = 0; is = refl }
-writes (VectorLoad row f) s h = record { value = 0; is = load_writes (writes_group row) f.vt s.registers }
+writes (VectorLoad op f) s h = record { value = 0; is = load_writes (writes_group op) f.vt s.registers }
 writes _ s h = record { value = 0; is = refl }
 
 apart : (a n : ℕ) → not (a == n) ≡ true → n ≢ a
@@ -182,16 +182,16 @@ vector_spared (MoveVector From rt k element) n s h spare = refl
 vector_spared (MoveVector To rt k element) n s h spare = other_vector s.vectors k n _ (apart_one k n spare)
 vector_spared (MoveControl From rt c) n s h spare = refl
 vector_spared (MoveControl To rt c) n s h spare = refl
-vector_spared (Multiply row f) n s h spare = other_vector s.vectors f.vd n _ (apart_one f.vd n spare)
-vector_spared (Round row f) n s h spare = other_vector s.vectors f.vd n _ (apart_one f.vd n spare)
-vector_spared (MpegMultiply row f) n s h spare = other_vector s.vectors f.vd n _ (apart_one f.vd n spare)
+vector_spared (Multiply op f) n s h spare = other_vector s.vectors f.vd n _ (apart_one f.vd n spare)
+vector_spared (Round op f) n s h spare = other_vector s.vectors f.vd n _ (apart_one f.vd n spare)
+vector_spared (MpegMultiply op f) n s h spare = other_vector s.vectors f.vd n _ (apart_one f.vd n spare)
 vector_spared (ReadAccumulator f) n s h spare = other_vector s.vectors f.vd n _ (apart_one f.vd n spare)
-vector_spared (VectorAdd row f) n s h spare = other_vector s.vectors f.vd n _ (apart_one f.vd n spare)
-vector_spared (VectorSelect row f) n s h spare = other_vector s.vectors f.vd n _ (apart_one f.vd n spare)
-vector_spared (VectorClip row f) n s h spare = other_vector s.vectors f.vd n _ (apart_one f.vd n spare)
+vector_spared (VectorAdd op f) n s h spare = other_vector s.vectors f.vd n _ (apart_one f.vd n spare)
+vector_spared (VectorSelect op f) n s h spare = other_vector s.vectors f.vd n _ (apart_one f.vd n spare)
+vector_spared (VectorClip op f) n s h spare = other_vector s.vectors f.vd n _ (apart_one f.vd n spare)
 vector_spared (VectorMerge f) n s h spare = other_vector s.vectors f.vd n _ (apart_one f.vd n spare)
-vector_spared (VectorLogic row f) n s h spare = other_vector s.vectors f.vd n _ (apart_one f.vd n spare)
-vector_spared (Divide row vd lane vt e) n s h spare = other_vector s.vectors vd n _ (apart_one vd n spare)
+vector_spared (VectorLogic op f) n s h spare = other_vector s.vectors f.vd n _ (apart_one f.vd n spare)
+vector_spared (Divide op vd lane vt e) n s h spare = other_vector s.vectors vd n _ (apart_one vd n spare)
 vector_spared (VectorLoad Ltv f) n s h spare =
     let a = vector_address (VectorLoad Ltv f) (register s.registers f.base) in
     let place_of = λ (k : ℕ). to_byte (group_start f.vt + (f.element / 2 + k / 2) % 8) k (doubleword_start a + (k + f.element + a / 8 % 2 * 8) % 16) in

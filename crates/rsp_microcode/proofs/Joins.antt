@@ -6,9 +6,9 @@ use Rattle.std.proofs.lemmas.Bool.{and_parts}
 use Rattle.rsp_decode.specs.declared.inst.Inst.{Inst}
 use Rattle.rsp_scalar.specs.Flow.{address_after}
 use Rattle.rsp_machine.specs.State.{State, IsState}
-use Rattle.rsp_microcode.specs.Runs.{place_after}
+use Rattle.rsp_microcode.specs.Runs.{address_after_words}
 use Rattle.rsp_microcode.specs.Frames.{Touch, both, of_row, of_rows, with_parts, register_of, spares_vector}
-use Rattle.rsp_microcode.specs.Kept.{Spares, changed}
+use Rattle.rsp_microcode.specs.Kept.{Spares, with_written}
 use Rattle.rsp_microcode.specs.Pieces.{Piece, code_of, AfterPieces}
 use Rattle.rsp_microcode.specs.Loops.{Loop, loop_code, AfterLoop}
 use Rattle.rsp_microcode.specs.Calls.{routine_code}
@@ -43,9 +43,9 @@ all_parts p (i ∷ is) b h =
     let more = all_parts p is b parts.1 in
     (rw (parts.0, more.0) refl, more.1)
 
-places_joined : (a b : List ℕ) (p : ℕ) → place_after (a ++ b) p ≡ place_after b (place_after a p)
-places_joined [] b p = refl
-places_joined (w ∷ ws) b p = places_joined ws b (address_after p)
+addresses_joined : (a b : List ℕ) (p : ℕ) → address_after_words (a ++ b) p ≡ address_after_words b (address_after_words a p)
+addresses_joined [] b p = refl
+addresses_joined (w ∷ ws) b p = addresses_joined ws b (address_after p)
 
 spares_joined : (a b : List Inst) (s t u : State) → Spares a s t → Spares b t u → Spares (a ++ b) s u
 spares_joined a b s t u p q = record {
@@ -59,7 +59,7 @@ frames_joined a b s t u p q = chained (of_rows a) (of_rows b) s t u p q ∙ ap (
 pub blocks_join : BlocksJoin
 blocks_join a b c d s t u p q = record {
   ranges = q.ranges;
-  pc = q.pc ∙ ap (place_after b) p.pc ∙ sym (places_joined a b s.pc);
+  pc = q.pc ∙ ap (address_after_words b) p.pc ∙ sym (addresses_joined a b s.pc);
   npc = q.npc;
   spares = spares_joined c d s t u p.spares q.spares;
   frame = frames_joined c d s t u p.frame q.frame;
@@ -71,7 +71,7 @@ ran_at a b c s t at p = next_block a b s t at p.pc p.npc (ap (λ (x : State). x.
 pub ran_others : RanOthers
 ran_others words code s t is next p ns ms only =
     changed_is _ _ code s t is p.ranges p.spares p.pc
-    (p.npc ∙ ap address_after p.pc ∙ sym (placed words s.pc) ∙ ap (place_after words) (sym next)) p.frame ns ms only
+    (p.npc ∙ ap address_after p.pc ∙ sym (placed words s.pc) ∙ ap (address_after_words words) (sym next)) p.frame ns ms only
 
 pub ran_returns : RanReturns
 ran_returns words code r s t u is p spare q ns ms only =
@@ -83,13 +83,13 @@ ran_returns words code r s t u is p spare q ns ms only =
 
 -- pc and npc of a state whose other parts are known
 ran_of : (words : List ℕ) (code : List Inst) (s t : State) → s.npc ≡ address_after s.pc → IsState t → Spares code s t → t ≡ with_parts (of_rows code) s t
-    → t ≡ changed words code (range_with_len 1 31) (range_with_len 0 32) s t → Ran words code s t
+    → t ≡ with_written words code (range_with_len 1 31) (range_with_len 0 32) s t → Ran words code s t
 ran_of words code s t next is spares frame all =
-    let pc : t.pc ≡ place_after words s.pc = ap (λ (x : State). x.pc) all in
+    let pc : t.pc ≡ address_after_words words s.pc = ap (λ (x : State). x.pc) all in
     record {
       ranges = is;
       pc = pc;
-      npc = ap (λ (x : State). x.npc) all ∙ ap (place_after words) next ∙ placed words s.pc ∙ ap address_after (sym pc);
+      npc = ap (λ (x : State). x.npc) all ∙ ap (address_after_words words) next ∙ placed words s.pc ∙ ap address_after (sym pc);
       spares = spares;
       frame = frame;
     }

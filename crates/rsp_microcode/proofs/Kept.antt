@@ -9,7 +9,7 @@ use Rattle.rsp_scalar.specs.Registers.{register, with_register}
 use Rattle.rsp_loadstore.specs.File.{vector, with_vector}
 use Rattle.rsp_machine.specs.State.{State, IsState}
 use Rattle.rsp_microcode.specs.Frames.{of_rows, with_parts, spare_scalar, spare_vector}
-use Rattle.rsp_microcode.specs.Kept.{registers_but, vectors_but, is_among, are_numbers, write_only, Spares, changed_at, KeptBut}
+use Rattle.rsp_microcode.specs.Kept.{registers_but, vectors_but, is_among, are_numbers, write_only, Spares, with_written_at, KeptBut}
 use Rattle.rsp_microcode.proofs.Registers.{one_vector, one_scalar, length-with_vector, length-with_register}
 
 -- a test of all numbers of a range
@@ -109,10 +109,10 @@ kept_but code s t is_s is_t spares ns ms only =
           ])),
     )
 
--- a state whose places and parts are known
+-- a state whose pc, npc and parts are known
 pub changed_is : (p q : ℕ) (code : List Inst) (s t : State) → IsState s → IsState t → Spares code s t
     → t.pc ≡ p → t.npc ≡ q → t ≡ with_parts (of_rows code) s t
-    → (ns ms : List ℕ) → write_only ns ms code ≡ true → t ≡ changed_at p q code ns ms s t
+    → (ns ms : List ℕ) → write_only ns ms code ≡ true → t ≡ with_written_at p q code ns ms s t
 changed_is p q code s t is_s is_t spares pc npc frame ns ms only =
     let k = kept_but code s t is_s is_t spares ns ms only in
     put t _ _ _ _ pc npc k.0 k.1 ∙ ap (λ (x : State). let y : State = record x {

@@ -4,10 +4,6 @@ pub mod Lanes
 pub mod Registers
 pub mod LoadRuns
 pub mod Multiplies
-pub mod OneAdd
-pub mod OneDiffers
-pub mod Mixes
-pub mod BufferSums
 pub mod Frames
 pub mod Listings
 pub mod Pieces
@@ -26,7 +22,5 @@ pub mod Fixed
 pub mod FixedProducts
 pub mod FixedSums
 pub mod Reciprocals
-pub mod MixesAll
 pub mod SpReads
 pub mod Transfers
-pub mod FetchesRow

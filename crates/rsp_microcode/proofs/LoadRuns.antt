@@ -9,7 +9,7 @@ use Rattle.rsp_loadstore.specs.File.{IsFile, with_vector}
 use Rattle.rsp_lanes.specs.Lanes.{IsVector}
 use Rattle.rsp_machine.specs.State.{State}
 use Rattle.rsp_machine.specs.Step.{executed}
-use Rattle.rsp_microcode.specs.Runs.{ran_through, place_after}
+use Rattle.rsp_microcode.specs.Runs.{ran_through, address_after_words}
 use Rattle.rsp_microcode.specs.Lanes.{lanes_at}
 use Rattle.rsp_microcode.specs.Reads.{after_writes}
 use Rattle.rsp_microcode.specs.Loads.{WholeLoad, load_of, load_fits, loaded, RunsOfLoads}
@@ -27,7 +27,7 @@ file_written file n v h k is = record {
 }
 
 abbrev after_loads : List WholeLoad → State → ℕ → ℕ → List (List ℕ) → State
-after_loads ls s pc npc file = record s { pc = place_after ls pc; npc = place_after ls npc; vectors = after_writes with_vector (loaded ls s.dmem s.registers) file }
+after_loads ls s pc npc file = record s { pc = address_after_words ls pc; npc = address_after_words ls npc; vectors = after_writes with_vector (loaded ls s.dmem s.registers) file }
 
 pub loads_run : RunsOfLoads
 loads_run [] s is bytes next fits aligned = (refl, is)

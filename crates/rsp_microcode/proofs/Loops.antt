@@ -19,46 +19,46 @@ use Rattle.rsp_scalar.specs.Flow.{address_after}
 use Rattle.rsp_machine.specs.State.{State, IsState}
 use Rattle.rsp_machine.specs.Step.{executed, instruction_effect, jumps}
 use Rattle.rsp_machine.specs.Laws.{steps_of}
-use Rattle.rsp_microcode.specs.Runs.{IsAt, all_go_on, goes_on, branches, ran_through, place_after}
+use Rattle.rsp_microcode.specs.Runs.{IsAt, all_go_on, goes_on, branches, ran_through, address_after_words}
 use Rattle.rsp_microcode.specs.Frames.{Touch, both, of_rows, with_parts, all_stay}
 use Rattle.rsp_microcode.specs.Kept.{Spares}
 use Rattle.rsp_microcode.specs.Ranges.{fits_word, all_fit}
 use Rattle.rsp_microcode.specs.Pieces.{code_of, after_pieces}
-use Rattle.rsp_microcode.specs.Loops.{Loop, loop_code, can_undo, is_loop, round_of, HandsOn, LoopRuns}
+use Rattle.rsp_microcode.specs.Loops.{Loop, loop_code, branches_back, is_loop, round_of, HandsOn, LoopRuns}
 use Rattle.rsp_microcode.proofs.Runs.{gone, with_branch, ran_on, rounds_kept}
 use Rattle.rsp_microcode.proofs.Frames.{framed, chained, unchanged, scalars_spared, vectors_spared}
 use Rattle.rsp_microcode.proofs.Ranges.{ranges}
 use Rattle.rsp_microcode.proofs.Kept.{changed_is}
-use Rattle.rsp_microcode.proofs.Pieces.{pieces, places_run, placed, pieces_straight}
+use Rattle.rsp_microcode.proofs.Pieces.{pieces, addresses_run, placed, pieces_straight}
 
--- places
-pub place_is : {X : Type 0} (xs : List X) (p : ℕ) → p < 4096 → place_after xs p ≡ (p + 4 * length xs) % 4096
-place_is [] p h = omega arith
-place_is (x ∷ xs) p h = place_is xs (address_after p) (omega arith) ∙ omega arith
+-- addresses
+pub address_is : {X : Type 0} (xs : List X) (p : ℕ) → p < 4096 → address_after_words xs p ≡ (p + 4 * length xs) % 4096
+address_is [] p h = omega arith
+address_is (x ∷ xs) p h = address_is xs (address_after p) (omega arith) ∙ omega arith
 
--- the branch: it goes back to a place p from a slot n words behind it
+-- the branch: it goes back to an address p from a slot n words behind it
 pub back_to : (p q n : ℕ) → p < 4096 → 0 < n → n < 1001 → q ≡ (p + 4 * n) % 4096 → branch_target q (65536 - n) ≡ p
 back_to p q n h z m e =
     let back : s16 (65536 - n) ≡ negsuc (n - 1) = s16_large (65536 - n) (n - 1) (omega arith) (omega arith) in
     let r = int_rem_euclid_is (pos q +ℤ (pos 4 *ℤ s16 (65536 - n))) (pos 4096) 4096 1 (q + (4096 - 4 * n)) (omega arith) refl (rw back (omega (arith, ints))) in
     ap unsigned_abs r ∙ omega arith
 
--- the places after a branch that leads back, and its slot
+-- the addresses after a branch that goes back, and its slot
 abbrev pub goes : Bool → ℕ → ℕ → ℕ
 goes b q n = if b then branch_target q (65536 - n) else address_after q
 
-pub turned : (i : Inst) (n : ℕ) (s : State) → can_undo i n ≡ true → executed i s ≡ record s { pc = s.npc; npc = goes (is_taken i s.registers) s.npc n }
+pub turned : (i : Inst) (n : ℕ) (s : State) → branches_back i n ≡ true → executed i s ≡ record s { pc = s.npc; npc = goes (is_taken i s.registers) s.npc n }
 unfolding executed instruction_effect jumps
-turned (BranchEqual row rs rt offset) n s h = let e : offset ≡ 65536 - n = grind (arith, nat_tests) in rw e refl
+turned (BranchEqual op rs rt offset) n s h = let e : offset ≡ 65536 - n = grind (arith, nat_tests) in rw e refl
 turned (BranchSign Bltz rs offset) n s h = let e : offset ≡ 65536 - n = grind (arith, nat_tests) in rw e refl
 turned (BranchSign Bgez rs offset) n s h = let e : offset ≡ 65536 - n = grind (arith, nat_tests) in rw e refl
 turned (BranchSign Blez rs offset) n s h = let e : offset ≡ 65536 - n = grind (arith, nat_tests) in rw e refl
 turned (BranchSign Bgtz rs offset) n s h = let e : offset ≡ 65536 - n = grind (arith, nat_tests) in rw e refl
 turned _ n s h = cc
 
-is_branch : (i : Inst) (n : ℕ) → can_undo i n ≡ true → branches i ≡ true
-is_branch (BranchEqual row rs rt offset) n h = refl
-is_branch (BranchSign row rs offset) n h = refl
+is_branch : (i : Inst) (n : ℕ) → branches_back i n ≡ true → branches i ≡ true
+is_branch (BranchEqual op rs rt offset) n h = refl
+is_branch (BranchSign op rs offset) n h = refl
 is_branch _ n h = cc
 
 pub stays_all : (is : List Inst) (b d : Inst) → all_go_on is ≡ true → branches b ≡ true → goes_on d ≡ true → all_stay (is ++ b ∷ d ∷ []) ≡ true
@@ -79,9 +79,9 @@ both_same : (k : Touch) → both k k ≡ k
 both_same k = rw (or_same k.registers, or_same k.vectors, or_same k.accumulators, or_same k.flags, or_same k.divider, or_same k.dmem) refl
 
 -- a branch fits a word, and so does a loop
-branch_fits : (i : Inst) (n : ℕ) → can_undo i n ≡ true → fits_word i ≡ true
-branch_fits (BranchEqual row rs rt offset) n h = refl
-branch_fits (BranchSign row rs offset) n h = refl
+branch_fits : (i : Inst) (n : ℕ) → branches_back i n ≡ true → fits_word i ≡ true
+branch_fits (BranchEqual op rs rt offset) n h = refl
+branch_fits (BranchSign op rs offset) n h = refl
 branch_fits _ n h = cc
 
 pub fit_all : (is : List Inst) (b d : Inst) → all_fit is ≡ true → fits_word b ≡ true → fits_word d ≡ true → all_fit (is ++ b ∷ d ∷ []) ≡ true
@@ -94,7 +94,7 @@ record Stands (l : Loop) (s : State) (Holds : ℕ → State → Type 0) (n k : �
   next : t.npc ≡ address_after t.pc
   holds : Holds k t
   here : k < n → t.pc ≡ s.pc
-  past : k ≡ n → t.pc ≡ place_after l.words s.pc
+  past : k ≡ n → t.pc ≡ address_after_words l.words s.pc
   frame : t ≡ with_parts (of_rows (loop_code l)) s t
   spares : Spares (loop_code l) s t
 
@@ -104,7 +104,7 @@ lengths ws is b d e = sym (length-map ws inst_of) ∙ ap length e ∙ length-map
 round : SumsOfProducts → (l : Loop) → map inst_of l.words ≡ map Some (loop_code l) → is_loop l ≡ true
     → (s : State) → s.pc < 4096 → IsAt l.words s → (n : ℕ) (Holds : ℕ → State → Type 0) → HandsOn l s n Holds
     → (k : ℕ) (t : State) → k < n → Stands l s Holds n k t → Stands l s Holds n (k + 1) (steps_of (length l.words) t)
-round law l decoded test s place at n Holds each k t lt is =
+round law l decoded test s address at n Holds each k t lt is =
     let p0 = and_parts _ _ test in
     let p1 = and_parts _ _ p0.0 in
     let p2 = and_parts _ _ p0.1 in
@@ -132,8 +132,8 @@ round law l decoded test s place at n Holds each k t lt is =
     let fit = fit_all code l.branch l.slot straight.1 (branch_fits l.branch m p2.0) p3.1 in
     let same : ran_through (loop_code l) t ≡ x = ran_on code (l.branch ∷ l.slot ∷ []) t ∙ ap (λ y. executed l.slot (executed l.branch y)) run in
     let slot_at : u.npc ≡ (s.pc + 4 * m) % 4096 =
-    ap (λ (y : State). y.npc) (sym run) ∙ (places_run code t straight.0 is.next).1 ∙ ap (λ p. address_after (place_after code p)) (is.here lt)
-    ∙ ap address_after (place_is code s.pc place) ∙ omega arith in
+    ap (λ (y : State). y.npc) (sym run) ∙ (addresses_run code t straight.0 is.next).1 ∙ ap (λ p. address_after (address_after_words code p)) (is.here lt)
+    ∙ ap address_after (address_is code s.pc address) ∙ omega arith in
     let went : x.pc ≡ goes (nat_lt (k + 1) n) u.npc m = g.pc ∙ ap (λ (y : State). y.npc) turn ∙ ap (λ b. goes b u.npc m) r.1 in
     let long = lengths l.words code l.branch l.slot decoded in
     let framing : x ≡ with_parts (of_rows (loop_code l)) t x = subst (λ (y : State). y ≡ with_parts (of_rows (loop_code l)) t y) same (framed (loop_code l) t all) in
@@ -141,8 +141,8 @@ round law l decoded test s place at n Holds each k t lt is =
       ranges = subst IsState same (ranges (loop_code l) t all fit is.ranges);
       next = g.npc ∙ ap address_after (sym g.pc);
       holds = r.2;
-      here = λ h. went ∙ ap (λ b. goes b u.npc m) (lt-ltb (k + 1) n h) ∙ back_to s.pc u.npc m place (omega arith) (omega arith) slot_at;
-      past = λ h. went ∙ ap (λ b. goes b u.npc m) (le-ltb (k + 1) n (omega arith)) ∙ ap address_after slot_at ∙ omega arith ∙ sym (place_is l.words s.pc place);
+      here = λ h. went ∙ ap (λ b. goes b u.npc m) (lt-ltb (k + 1) n h) ∙ back_to s.pc u.npc m address (omega arith) (omega arith) slot_at;
+      past = λ h. went ∙ ap (λ b. goes b u.npc m) (le-ltb (k + 1) n (omega arith)) ∙ ap address_after slot_at ∙ omega arith ∙ sym (address_is l.words s.pc address);
       frame = chained (of_rows (loop_code l)) (of_rows (loop_code l)) s t x is.frame framing ∙ ap (λ k. with_parts k s x) (both_same (of_rows (loop_code l)));
       spares = record {
         scalars = λ i h. ap (λ (y : State). register y.registers i) (sym same) ∙ scalars_spared (loop_code l) i t all h ∙ is.spares.scalars i h;
@@ -164,7 +164,7 @@ loops law l decoded test s is at n some Holds start each =
     let t = steps_of (n * length l.words) s in
     let end : Stands l s Holds n n t = rounds_kept (length l.words) n (Stands l s Holds n) s begin (round law l decoded test s is.pc.0 at n Holds each) in
     let pc = end.past refl in
-    let npc : t.npc ≡ place_after l.words s.npc = end.next ∙ ap address_after pc ∙ sym (placed l.words s.pc) ∙ ap (place_after l.words) (sym at.next) in
+    let npc : t.npc ≡ address_after_words l.words s.npc = end.next ∙ ap address_after pc ∙ sym (placed l.words s.pc) ∙ ap (address_after_words l.words) (sym at.next) in
     record {
       holds = end.holds;
       ranges = end.ranges;

@@ -12,7 +12,7 @@ use Rattle.rsp_multiply.specs.MultiplyRules.{multiply_results}
 use Rattle.rsp_machine.specs.State.{State}
 use Rattle.rsp_machine.specs.Step.{executed, instruction_effect}
 use Rattle.rsp_machine.specs.Vector.{multiplies}
-use Rattle.rsp_microcode.specs.Runs.{ran_through, place_after}
+use Rattle.rsp_microcode.specs.Runs.{ran_through, address_after_words}
 use Rattle.rsp_multiply.specs.MultiplyRules.{multiply_rule}
 use Rattle.rsp_numbers.specs.Numbers.{s48}
 use Rattle.rsp_lanes.specs.Lanes.{each_lane}
@@ -46,8 +46,8 @@ same_steps file vd v (m ∷ ms) h =
 
 abbrev with_steps : List Term → State → List MultiplyInstruction → State
 with_steps ms s steps = record s {
-  pc = place_after ms s.pc;
-  npc = place_after ms s.npc;
+  pc = address_after_words ms s.pc;
+  npc = address_after_words ms s.npc;
   accumulators = after steps s.accumulators;
   vectors = after_writes with_vector (writes ms (results steps s.accumulators)) s.vectors;
 }
@@ -61,8 +61,8 @@ run (m ∷ ms) s h e =
     run ms t both.1 refl
     ∙ ap (with_steps ms t) (same_steps s.vectors m.fields.vd (multiply_results (step_in [] m).op t.accumulators) ms both.0)
     ∙ ap (λ (n : ℕ). let u : State = record s {
-      pc = place_after ms n;
-      npc = place_after (m ∷ ms) s.npc;
+      pc = address_after_words ms n;
+      npc = address_after_words (m ∷ ms) s.npc;
       accumulators = after (map (step_in s.vectors) (m ∷ ms)) s.accumulators;
       vectors = after_writes with_vector (writes (m ∷ ms) (results (map (step_in s.vectors) (m ∷ ms)) s.accumulators)) s.vectors;
     } in u) e
@@ -90,8 +90,8 @@ steps_add file (m ∷ ms) h =
 
 abbrev with_results : List Term → State → List ℤ → List (List ℕ) → State
 with_results ms s xs rs = record s {
-  pc = place_after ms s.pc;
-  npc = place_after ms s.npc;
+  pc = address_after_words ms s.pc;
+  npc = address_after_words ms s.npc;
   accumulators = xs;
   vectors = after_writes with_vector (writes ms rs) s.vectors;
 }

@@ -11,7 +11,7 @@ use Rattle.rsp_scalar.specs.Flow.{address_after}
 use Rattle.rsp_machine.specs.State.{State, IsState}
 use Rattle.rsp_machine.specs.Step.{executed}
 use Rattle.rsp_machine.specs.Laws.{steps_of}
-use Rattle.rsp_microcode.specs.Runs.{goes_on, all_go_on, ran_through, place_after}
+use Rattle.rsp_microcode.specs.Runs.{goes_on, all_go_on, ran_through, address_after_words}
 use Rattle.rsp_microcode.specs.Frames.{of_rows, with_parts, all_stay}
 use Rattle.rsp_microcode.specs.Ranges.{fits_word, all_fit}
 use Rattle.rsp_microcode.specs.Lanes.{sqv}
@@ -29,15 +29,15 @@ use Rattle.rsp_microcode.proofs.LoadRuns.{loads_run}
 use Rattle.rsp_microcode.proofs.Multiplies.{sums as sums_run}
 
 -- straight code leaves pc where it goes on to
-pub places_run : (is : List Inst) (s : State) → all_go_on is ≡ true → s.npc ≡ address_after s.pc
-    → ((ran_through is s).pc ≡ place_after is s.pc) × ((ran_through is s).npc ≡ address_after (place_after is s.pc))
-places_run [] s h n = (refl, n)
-places_run (i ∷ is) s h n =
+pub addresses_run : (is : List Inst) (s : State) → all_go_on is ≡ true → s.npc ≡ address_after s.pc
+    → ((ran_through is s).pc ≡ address_after_words is s.pc) × ((ran_through is s).npc ≡ address_after (address_after_words is s.pc))
+addresses_run [] s h n = (refl, n)
+addresses_run (i ∷ is) s h n =
     let parts = and_parts (goes_on i) (all_go_on is) h in
     let g = gone i s parts.0 in
-    let more = places_run is (executed i s) parts.1 (g.npc ∙ ap address_after (sym g.pc)) in
+    let more = addresses_run is (executed i s) parts.1 (g.npc ∙ ap address_after (sym g.pc)) in
     let e : (executed i s).pc ≡ address_after s.pc = g.pc ∙ n in
-    (more.0 ∙ ap (place_after is) e, more.1 ∙ ap (λ p. address_after (place_after is p)) e)
+    (more.0 ∙ ap (address_after_words is) e, more.1 ∙ ap (λ p. address_after (address_after_words is p)) e)
 
 -- it stays, and so do pieces
 pub stay_all : (is : List Inst) → all_go_on is ≡ true → all_stay is ≡ true
@@ -73,7 +73,7 @@ pieces_straight (rows is ∷ ps) h = let parts = and_parts _ _ h in both_straigh
 -- what a straight run to a known state hands on
 handed_on : (is : List Inst) (s t : State) → IsStraight is → ran_through is s ≡ t → IsState s → s.npc ≡ address_after s.pc → IsState t × (t.npc ≡ address_after t.pc)
 handed_on is s t h e ok next =
-    let p = places_run is s h.0 next in
+    let p = addresses_run is s h.0 next in
     subst (λ (x : State). IsState x × (x.npc ≡ address_after x.pc)) e (ranges is s (stay_all is h.0) h.1 ok, p.1 ∙ ap address_after (sym p.0))
 
 pub pieces : SumsOfProducts → RunsOfPieces
@@ -104,14 +104,14 @@ pieces law (rows is ∷ ps) s ok next h a =
     let rest = pieces law ps _ more.0 more.1 parts.1 a in
     (ran_on is (code_of ps) s ∙ rest.0, rest.1)
 
--- as many places go on as there are words
-same_places : {X Y : Type 0} (xs : List X) (ys : List Y) (p : ℕ) → length xs ≡ length ys → place_after xs p ≡ place_after ys p
-same_places [] [] p e = refl
-same_places [] (y ∷ ys) p e = absurd (omega arith)
-same_places (x ∷ xs) [] p e = absurd (omega arith)
-same_places (x ∷ xs) (y ∷ ys) p e = same_places xs ys (address_after p) (omega arith)
+-- lists of the same length lead to the same address
+same_addresses : {X Y : Type 0} (xs : List X) (ys : List Y) (p : ℕ) → length xs ≡ length ys → address_after_words xs p ≡ address_after_words ys p
+same_addresses [] [] p e = refl
+same_addresses [] (y ∷ ys) p e = absurd (omega arith)
+same_addresses (x ∷ xs) [] p e = absurd (omega arith)
+same_addresses (x ∷ xs) (y ∷ ys) p e = same_addresses xs ys (address_after p) (omega arith)
 
-pub placed : {X : Type 0} (xs : List X) (p : ℕ) → place_after xs (address_after p) ≡ address_after (place_after xs p)
+pub placed : {X : Type 0} (xs : List X) (p : ℕ) → address_after_words xs (address_after p) ≡ address_after (address_after_words xs p)
 placed [] p = refl
 placed (x ∷ xs) p = placed xs (address_after p)
 
@@ -123,10 +123,10 @@ pieces_run law words ps decoded fits s ok at aligned =
     let stay = stay_all code h.0 in
     let ran : t ≡ ran_through code s = straight words code s decoded h.0 at in
     let long : length words ≡ length code = sym (length-map words inst_of) ∙ ap length decoded ∙ length-map code Some in
-    let places = places_run code s h.0 at.next in
-    let pc : t.pc ≡ place_after words s.pc = ap (λ (x : State). x.pc) ran ∙ places.0 ∙ sym (same_places words code s.pc long) in
-    let npc : t.npc ≡ place_after words s.npc =
-    ap (λ (x : State). x.npc) ran ∙ places.1 ∙ sym (ap address_after (same_places words code s.pc long)) ∙ sym (placed words s.pc) ∙ ap (place_after words) (sym at.next) in
+    let addresses = addresses_run code s h.0 at.next in
+    let pc : t.pc ≡ address_after_words words s.pc = ap (λ (x : State). x.pc) ran ∙ addresses.0 ∙ sym (same_addresses words code s.pc long) in
+    let npc : t.npc ≡ address_after_words words s.npc =
+    ap (λ (x : State). x.npc) ran ∙ addresses.1 ∙ sym (ap address_after (same_addresses words code s.pc long)) ∙ sym (placed words s.pc) ∙ ap (address_after_words words) (sym at.next) in
     let frame : t ≡ with_parts (of_rows code) s t = subst (λ (x : State). x ≡ with_parts (of_rows code) s x) (sym ran) (framed code s stay) in
     let kept : IsState t = subst IsState (sym ran) (ranges code s stay h.1 ok) in
     let spares : Spares code s t = record {

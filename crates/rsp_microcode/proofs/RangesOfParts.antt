@@ -155,7 +155,7 @@ whole = omega arith
 half : 128 ≤ 256
 half = omega arith
 
-pub load_kept : (row : VectorLoadOp) (m : List ℕ) (vt e a : ℕ) (file : List (List ℕ)) → IsMemory m → IsFile file → IsFile (after_load m file (load_pairs row vt e a))
+pub load_kept : (op : VectorLoadOp) (m : List ℕ) (vt e a : ℕ) (file : List (List ℕ)) → IsMemory m → IsFile file → IsFile (after_load m file (load_pairs op vt e a))
 unfolding load_pairs for_each
 load_kept Lbv m vt e a file is h = load_all m _ _ file (λ k. tt) is h
 load_kept Lsv m vt e a file is h = load_all m _ _ file (λ k. tt) is h

@@ -59,12 +59,12 @@ use Rattle.rsp_microcode.proofs.RangesOfParts.{modulo_small, sixteen_small, eith
 shifted : (t k : ℕ) → t < 2 ^ 32 → t / 2 ^ k < 2 ^ 32
 shifted t k h = omega (arith, div-le_self t (2 ^ k))
 
-pub shift_small : (row : ShiftOp) (t k : ℕ) → t < 2 ^ 32 → shift_result row t k < 2 ^ 32
+pub shift_small : (op : ShiftOp) (t k : ℕ) → t < 2 ^ 32 → shift_result op t k < 2 ^ 32
 shift_small Sll t k h = mod_below _ (2 ^ 32) (omega arith)
 shift_small Srl t k h = shifted t k h
 shift_small Sra t k h = modulo_small _
 
-pub shift_by_small : (row : ShiftVariableOp) (t k : ℕ) → t < 2 ^ 32 → shift_by_result row t k < 2 ^ 32
+pub shift_by_small : (op : ShiftVariableOp) (t k : ℕ) → t < 2 ^ 32 → shift_by_result op t k < 2 ^ 32
 shift_by_small Sllv t k h = mod_below _ (2 ^ 32) (omega arith)
 shift_by_small Srlv t k h = shifted t (k % 32) h
 shift_by_small Srav t k h = modulo_small _
@@ -73,7 +73,7 @@ truth_small : (b : Bool) → truth b < 2 ^ 32
 truth_small true = omega arith
 truth_small false = omega arith
 
-pub register_small : (row : RegisterOp) (a b : ℕ) → a < 2 ^ 32 → b < 2 ^ 32 → register_result row a b < 2 ^ 32
+pub register_small : (op : RegisterOp) (a b : ℕ) → a < 2 ^ 32 → b < 2 ^ 32 → register_result op a b < 2 ^ 32
 register_small Add a b h k = mod_below _ (2 ^ 32) (omega arith)
 register_small Addu a b h k = mod_below _ (2 ^ 32) (omega arith)
 register_small Sub a b h k = mod_below _ (2 ^ 32) (omega arith)
@@ -85,7 +85,7 @@ register_small Nor a b h k = omega arith
 register_small Slt a b h k = truth_small _
 register_small Sltu a b h k = truth_small _
 
-pub immediate_small : (row : ImmediateOp) (a imm : ℕ) → a < 2 ^ 32 → imm < 65536 → immediate_result row a imm < 2 ^ 32
+pub immediate_small : (op : ImmediateOp) (a imm : ℕ) → a < 2 ^ 32 → imm < 65536 → immediate_result op a imm < 2 ^ 32
 immediate_small Addi a imm h k = mod_below _ (2 ^ 32) (omega arith)
 immediate_small Addiu a imm h k = mod_below _ (2 ^ 32) (omega arith)
 immediate_small Slti a imm h k = truth_small _
@@ -102,7 +102,7 @@ half_small : (m : List ℕ) (a : ℕ) → IsMemory m → half_at m a < 2 ^ 32
 unfolding half_at
 half_small m a is = omega (arith, memory_small m a is, memory_small m (a + 1) is)
 
-pub load_small : (row : LoadOp) (m : List ℕ) (a : ℕ) → IsMemory m → load_result row m a < 2 ^ 32
+pub load_small : (op : LoadOp) (m : List ℕ) (a : ℕ) → IsMemory m → load_result op m a < 2 ^ 32
 load_small Lb m a is = modulo_small _
 load_small Lh m a is = modulo_small _
 load_small Lw m a is = word_small m a is
@@ -113,7 +113,7 @@ load_small Lwu m a is = word_small m a is
 high_part : (n : ℕ) → n % 2 ^ 16 / 256 < 256
 high_part n = omega arith
 
-pub stored_small : (row : StoreOp) (m : List ℕ) (a t : ℕ) → t < 2 ^ 32 → IsMemory m → IsMemory (store_result row m a t)
+pub stored_small : (op : StoreOp) (m : List ℕ) (a t : ℕ) → t < 2 ^ 32 → IsMemory m → IsMemory (store_result op m a t)
 unfolding with_half with_word
 stored_small Sb m a t h is = memory_written m a _ (mod_below t 256 (omega arith)) is
 stored_small Sh m a t h is = memory_written _ (a + 1) _ (mod_below _ 256 (omega arith)) (memory_written m a _ (high_part t) is)

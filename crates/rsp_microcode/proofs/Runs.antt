@@ -18,7 +18,7 @@ use Rattle.rsp_machine.specs.declared.step.StepEnd.TheVariants.{Done, Halted}
 use Rattle.rsp_microcode.proofs.SpReads.{reads_leave}
 use Rattle.rsp_microcode.specs.Runs.{goes_on, branches, all_go_on, Stand, IsAt, ran_through, StepsOver, StraightRuns, BranchRuns}
 
--- what a row that goes on leaves
+-- what an instruction that goes on leaves
 pub record Goes (s t : State) : Type 0 where
   pub pc : t.pc ≡ s.npc
   pub npc : t.npc ≡ address_after s.npc
@@ -30,9 +30,9 @@ unfolding executed instruction_effect computes loads stores moves_sp multiplies 
 gone (JumpRegister rs) s h = cc
 gone (JumpLinkRegister rd rs) s h = cc
 gone Break s h = cc
-gone (BranchSign row rs offset) s h = cc
-gone (BranchEqual row rs rt offset) s h = cc
-gone (Jump row target) s h = cc
+gone (BranchSign op rs offset) s h = cc
+gone (BranchEqual op rs rt offset) s h = cc
+gone (Jump op target) s h = cc
 gone (MoveSp From rt n) s h = record { pc = refl; npc = refl; imem = refl; sp = reads_leave n s.sp h }
 gone (MoveSp To rt n) s h = cc
 gone (MoveVector From rt n element) s h = record { pc = refl; npc = refl; imem = refl; sp = refl }
@@ -77,7 +77,7 @@ steps-first (suc n) s = ap (λ (x : State). (step_of x).1) (steps-first n s)
 pub still : (ws : List ℕ) (a b : ℕ) (m n : List ℕ) → a ≡ b → m ≡ n → Stand ws a m → Stand ws b n
 still ws a b m n p q h = rw (← p, ← q) h
 
--- the words behind a row that goes on are at pc after it
+-- the words after an instruction that goes on are at pc after it
 behind : (i : Inst) (s : State) (w : ℕ) (ws : List ℕ) → Goes s (executed i s) → IsAt (w ∷ ws) s → IsAt ws (executed i s)
 behind i s w ws kept at = record {
   goes = ap (λ (p : Sp). p.halted) kept.sp ∙ at.goes;
@@ -86,7 +86,7 @@ behind i s w ws kept at = record {
   stand = still ws _ _ _ _ (sym at.next ∙ sym kept.pc) (sym kept.imem) at.stand.1;
 }
 
--- the first of some steps, over a row that goes on
+-- the first of some steps, over an instruction that goes on
 first_step : (n : ℕ) (i : Inst) (s : State) (w : ℕ) (ws : List ℕ) → inst_of w ≡ Some i → goes_on i ≡ true → IsAt (w ∷ ws) s → steps_of (suc n) s ≡ steps_of n (executed i s)
 first_step n i s w ws e g at =
     steps-first n s ∙ ap (λ (x : StepEnd × State). steps_of n x.1) (step_is i s at.goes at.runs (ap inst_of at.stand.0 ∙ e) g)
@@ -112,9 +112,9 @@ turned : (i : Inst) (s : State) → branches i ≡ true → Turns s (executed i 
 unfolding executed instruction_effect jumps
 turned (JumpRegister rs) s h = record { pc = refl; imem = refl; sp = refl }
 turned (JumpLinkRegister rd rs) s h = record { pc = refl; imem = refl; sp = refl }
-turned (BranchSign row rs offset) s h = record { pc = refl; imem = refl; sp = refl }
-turned (BranchEqual row rs rt offset) s h = record { pc = refl; imem = refl; sp = refl }
-turned (Jump row target) s h = record { pc = refl; imem = refl; sp = refl }
+turned (BranchSign op rs offset) s h = record { pc = refl; imem = refl; sp = refl }
+turned (BranchEqual op rs rt offset) s h = record { pc = refl; imem = refl; sp = refl }
+turned (Jump op target) s h = record { pc = refl; imem = refl; sp = refl }
 turned _ s h = cc
 
 branch_and_slot : (w v : ℕ) (b d : Inst) (s : State) → inst_of w ≡ Some b → inst_of v ≡ Some d → branches b ≡ true → goes_on d ≡ true → IsAt (w ∷ v ∷ []) s

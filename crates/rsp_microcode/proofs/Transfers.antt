@@ -21,11 +21,11 @@ use Rattle.rsp_machine.specs.State.{State, IsState}
 use Rattle.rsp_machine.specs.Step.{executed, instruction_effect, moves_sp}
 use Rattle.rsp_machine.specs.Laws.{steps_of}
 use Rattle.rsp_machine.specs.declared.step.StepEnd.{StepEnd}
-use Rattle.rsp_microcode.specs.Runs.{IsAt, Stand, place_after, ran_through}
+use Rattle.rsp_microcode.specs.Runs.{IsAt, Stand, address_after_words, ran_through}
 use Rattle.rsp_microcode.specs.Lanes.{IsOutside}
 use Rattle.rsp_microcode.specs.Transfers.{fetch_code, send_code, row_bytes, with_addresses, IsRow, Fetches, Sends, FetchRuns, SendRuns}
 use Rattle.rsp_microcode.proofs.Runs.{over, steps-first, still}
-use Rattle.rsp_microcode.proofs.Ranges.{next_place, dmem_kept}
+use Rattle.rsp_microcode.proofs.Ranges.{next_address, dmem_kept}
 use Rattle.rsp_microcode.proofs.RangesOfParts.{set_small, memory_small, memory_written}
 use Rattle.rsp_microcode.proofs.Bytes.{read_written, read_elsewhere}
 
@@ -51,8 +51,8 @@ AllLeave [] s = Unit {0}
 AllLeave (i ∷ is) s = Leaves s (executed i s) × AllLeave is (executed i s)
 
 record Moved (words : List ℕ) (s t : State) : Type 0 where
-  pc : t.pc ≡ place_after words s.pc
-  npc : t.npc ≡ place_after words s.npc
+  pc : t.pc ≡ address_after_words words s.pc
+  npc : t.npc ≡ address_after_words words s.npc
   imem : t.imem ≡ s.imem
   at : IsAt [] t
 
@@ -70,8 +70,8 @@ moved (w ∷ ws) (i ∷ is) s e leave at =
     let r = rest.1 in (
       steps-first (length ws) s ∙ ap (λ (x : StepEnd × State). steps_of (length ws) x.1) (over i s at.goes (ap inst_of at.stand.0 ∙ first) (k.single_step ∙ at.runs)) ∙ rest.0,
       record {
-        pc = r.pc ∙ ap (place_after ws) (k.pc ∙ at.next);
-        npc = r.npc ∙ ap (place_after ws) k.npc;
+        pc = r.pc ∙ ap (address_after_words ws) (k.pc ∙ at.next);
+        npc = r.npc ∙ ap (address_after_words ws) k.npc;
         imem = r.imem ∙ k.imem;
         at = r.at;
       },
@@ -273,11 +273,11 @@ sent memory image size s row =
 
 row_kept : (a d n : ℕ) (s : State) → IsRow a d n → IsState s → IsState (after_row a d n s)
 row_kept a d n s row is =
-    let one = next_place s.npc is.npc.1 in
-    let two = next_place (address_after s.npc) one.1 in
+    let one = next_address s.npc is.npc.1 in
+    let two = next_address (address_after s.npc) one.1 in
     record {
       pc = two;
-      npc = next_place (address_after (address_after s.npc)) two.1;
+      npc = next_address (address_after (address_after s.npc)) two.1;
       registers = is.registers;
       vectors = is.vectors;
       accumulators = is.accumulators;
@@ -292,7 +292,7 @@ row_kept a d n s row is =
 rdram_kept : (s : State) (m : List ℕ) → IsImage m → IsState s → IsState (record s { rdram = m })
 rdram_kept s m h is = record { pc = is.pc; npc = is.npc; registers = is.registers; vectors = is.vectors; accumulators = is.accumulators; flags = is.flags; divider = is.divider; dmem = is.dmem; imem = is.imem; rdram = h; sp = is.sp }
 
-follows : (words ws : List ℕ) (s t : State) → Moved words s t → Stand ws (place_after words s.pc) s.imem → IsAt ws t
+follows : (words ws : List ℕ) (s t : State) → Moved words s t → Stand ws (address_after_words words s.pc) s.imem → IsAt ws t
 follows words ws s t m stand =
     let e = m.pc in
     let f = m.imem in

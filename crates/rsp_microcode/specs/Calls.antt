@@ -9,10 +9,10 @@ use Rattle.rsp_scalar.specs.Flow.{address_after}
 use Rattle.rsp_machine.specs.State.{State, IsState}
 use Rattle.rsp_machine.specs.Step.{executed}
 use Rattle.rsp_machine.specs.Laws.{steps_of}
-use Rattle.rsp_microcode.specs.Runs.{IsAt, Stand, goes_on, place_after}
+use Rattle.rsp_microcode.specs.Runs.{IsAt, Stand, goes_on, address_after_words}
 use Rattle.rsp_microcode.specs.Frames.{of_rows, with_parts, spare_scalar}
 use Rattle.rsp_microcode.specs.Ranges.{fits_word}
-use Rattle.rsp_microcode.specs.Kept.{write_only, Spares, changed_at}
+use Rattle.rsp_microcode.specs.Kept.{write_only, Spares, with_written_at}
 use Rattle.rsp_microcode.specs.Pieces.{Piece, code_of, pieces_fit, after_pieces, AreAligned}
 
 -- pieces, `jr $31`, and one more instruction in its delay slot
@@ -38,7 +38,7 @@ pub record AfterRoutine (r : Routine) (s t : State) : Type 0 where
   pub ranges : IsState t
   pub spares : Spares (routine_code r) s t
   pub frame : t ≡ with_parts (of_rows (routine_code r)) s t
-  pub others : (ns ms : List ℕ) → write_only ns ms (routine_code r) ≡ true → t ≡ changed_at (return_of s) (address_after (return_of s)) (routine_code r) ns ms s t
+  pub others : (ns ms : List ℕ) → write_only ns ms (routine_code r) ≡ true → t ≡ with_written_at (return_of s) (address_after (return_of s)) (routine_code r) ns ms s t
 
 abbrev pub RoutineRuns : Type 0
 RoutineRuns = (r : Routine) → map inst_of r.words ≡ map Some (routine_code r) → is_routine r ≡ true
@@ -55,7 +55,7 @@ pub record AfterCall (words : List ℕ) (target : ℕ) (slot : Inst) (s t : Stat
   pub ranges : IsState t
   pub spares : Spares (call_code target slot) s t
   pub at : (ws : List ℕ) → Stand ws (target * 4 % 4096) s.imem → IsAt ws t
-  pub back : return_of t ≡ place_after words s.pc
+  pub back : return_of t ≡ address_after_words words s.pc
 
 abbrev pub CallRuns : Type 0
 CallRuns = (words : List ℕ) (target : ℕ) (slot : Inst) → map inst_of words ≡ map Some (call_code target slot)

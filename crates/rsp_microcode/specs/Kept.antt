@@ -6,7 +6,7 @@ use Rattle.rsp_scalar.specs.Registers.{register, with_register}
 use Rattle.rsp_loadstore.specs.File.{vector, with_vector}
 use Rattle.rsp_machine.specs.State.{State, IsState}
 use Rattle.rsp_microcode.specs.Reads.{after_writes}
-use Rattle.rsp_microcode.specs.Runs.{place_after}
+use Rattle.rsp_microcode.specs.Runs.{address_after_words}
 use Rattle.rsp_microcode.specs.Frames.{of_rows, with_parts, spare_scalar, spare_vector}
 
 -- the scalar registers `before`, but with those of these numbers from `after`
@@ -36,8 +36,8 @@ pub record Spares (code : List Inst) (s t : State) : Type 0 where
   pub vectors : (n : ℕ) → spare_vector n code ≡ true → vector t.vectors n ≡ vector s.vectors n
 
 -- s with pc p and npc q, and with the parts of t that the instructions may change; of the registers only these
-abbrev pub changed_at : ℕ → ℕ → List Inst → List ℕ → List ℕ → State → State → State
-changed_at p q code ns ms s t = record (with_parts (of_rows code) s t) {
+abbrev pub with_written_at : ℕ → ℕ → List Inst → List ℕ → List ℕ → State → State → State
+with_written_at p q code ns ms s t = record (with_parts (of_rows code) s t) {
   pc = p;
   npc = q;
   registers = registers_but ns s.registers t.registers;
@@ -45,8 +45,8 @@ changed_at p q code ns ms s t = record (with_parts (of_rows code) s t) {
 }
 
 -- the same after the words
-abbrev pub changed : List ℕ → List Inst → List ℕ → List ℕ → State → State → State
-changed words code ns ms s t = changed_at (place_after words s.pc) (place_after words s.npc) code ns ms s t
+abbrev pub with_written : List ℕ → List Inst → List ℕ → List ℕ → State → State → State
+with_written words code ns ms s t = with_written_at (address_after_words words s.pc) (address_after_words words s.npc) code ns ms s t
 
 -- so the registers are those of the start, but for the ones that they write
 abbrev pub KeptBut : Type 0

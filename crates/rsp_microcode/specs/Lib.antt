@@ -1,13 +1,10 @@
--- Laws about runs of microcode, and theorems about some routines.
+-- Laws about runs of microcode.
 pub mod Runs
 pub mod Lanes
 pub mod Reads
 pub mod Loads
 pub mod Multiplies
 pub mod Text
-pub mod OneAdd
-pub mod Mixing
-pub mod BufferSum
 pub mod Frames
 pub mod Pieces
 pub mod Loops
@@ -18,6 +15,4 @@ pub mod Blocks
 pub mod Kept
 pub mod Fixed
 pub mod Reciprocals
-pub mod MixingAll
 pub mod Transfers
-pub mod FetchRow

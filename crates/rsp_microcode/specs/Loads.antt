@@ -6,7 +6,7 @@ use Rattle.rsp_scalar.specs.Registers.{register}
 use Rattle.rsp_scalar.specs.Flow.{address_after}
 use Rattle.rsp_loadstore.specs.File.{IsFile, with_vector}
 use Rattle.rsp_machine.specs.State.{State}
-use Rattle.rsp_microcode.specs.Runs.{ran_through, place_after}
+use Rattle.rsp_microcode.specs.Runs.{ran_through, address_after_words}
 use Rattle.rsp_microcode.specs.Lanes.{lqv, lanes_at, HasBytes}
 use Rattle.rsp_microcode.specs.Reads.{Write, after_writes}
 
@@ -41,5 +41,5 @@ abbrev pub RunsOfLoads : Type 0
 RunsOfLoads = (ls : List WholeLoad) (s : State) → IsFile s.vectors → HasBytes s.dmem → s.npc ≡ address_after s.pc
     → list_all load_fits ls ≡ true → AreAllAligned ls s.registers
     → (ran_through (map load_of ls) s
-    ≡ record s { pc = place_after ls s.pc; npc = place_after ls s.npc; vectors = after_writes with_vector (loaded ls s.dmem s.registers) s.vectors })
+    ≡ record s { pc = address_after_words ls s.pc; npc = address_after_words ls s.npc; vectors = after_writes with_vector (loaded ls s.dmem s.registers) s.vectors })
     × IsFile (after_writes with_vector (loaded ls s.dmem s.registers) s.vectors)

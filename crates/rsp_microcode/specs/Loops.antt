@@ -10,7 +10,7 @@ use Rattle.rsp_machine.specs.Step.{executed}
 use Rattle.rsp_machine.specs.Laws.{steps_of}
 use Rattle.rsp_microcode.specs.Runs.{IsAt, goes_on}
 use Rattle.rsp_microcode.specs.Frames.{of_rows, with_parts}
-use Rattle.rsp_microcode.specs.Kept.{write_only, Spares, changed}
+use Rattle.rsp_microcode.specs.Kept.{write_only, Spares, with_written}
 use Rattle.rsp_microcode.specs.Ranges.{fits_word}
 use Rattle.rsp_microcode.specs.Pieces.{Piece, code_of, pieces_fit, after_pieces, AreAligned}
 
@@ -24,17 +24,17 @@ abbrev pub loop_code : Loop → List Inst
 loop_code l = code_of l.pieces ++ l.branch ∷ l.slot ∷ []
 
 -- a branch that links nothing, back over this number of words
-abbrev pub can_undo : Inst → ℕ → Bool
-can_undo (BranchEqual row rs rt offset) n = offset == 65536 - n
-can_undo (BranchSign Bltz rs offset) n = offset == 65536 - n
-can_undo (BranchSign Bgez rs offset) n = offset == 65536 - n
-can_undo (BranchSign Blez rs offset) n = offset == 65536 - n
-can_undo (BranchSign Bgtz rs offset) n = offset == 65536 - n
-can_undo _ n = false
+abbrev pub branches_back : Inst → ℕ → Bool
+branches_back (BranchEqual op rs rt offset) n = offset == 65536 - n
+branches_back (BranchSign Bltz rs offset) n = offset == 65536 - n
+branches_back (BranchSign Bgez rs offset) n = offset == 65536 - n
+branches_back (BranchSign Blez rs offset) n = offset == 65536 - n
+branches_back (BranchSign Bgtz rs offset) n = offset == 65536 - n
+branches_back _ n = false
 
 -- the conditions on a loop that can be computed
 abbrev pub is_loop : Loop → Bool
-is_loop l = (pieces_fit l.pieces && nat_lt (length (code_of l.pieces)) 1000) && (can_undo l.branch (length (code_of l.pieces) + 1) && (goes_on l.slot && fits_word l.slot))
+is_loop l = (pieces_fit l.pieces && nat_lt (length (code_of l.pieces)) 1000) && (branches_back l.branch (length (code_of l.pieces) + 1) && (goes_on l.slot && fits_word l.slot))
 
 -- the state after a round
 abbrev pub round_of : Loop → State → State
@@ -53,7 +53,7 @@ pub record AfterLoop (l : Loop) (n : ℕ) (Holds : ℕ → State → Type 0) (s 
   pub ranges : IsState t
   pub spares : Spares (loop_code l) s t
   pub frame : t ≡ with_parts (of_rows (loop_code l)) s t
-  pub others : (ns ms : List ℕ) → write_only ns ms (loop_code l) ≡ true → t ≡ changed l.words (loop_code l) ns ms s t
+  pub others : (ns ms : List ℕ) → write_only ns ms (loop_code l) ≡ true → t ≡ with_written l.words (loop_code l) ns ms s t
 
 abbrev pub LoopRuns : Type 1
 LoopRuns = (l : Loop) → map inst_of l.words ≡ map Some (loop_code l) → is_loop l ≡ true

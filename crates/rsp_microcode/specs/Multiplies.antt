@@ -13,7 +13,7 @@ use Rattle.rsp_lanes.specs.Lanes.{each_lane}
 use Rattle.rsp_scalar.specs.Flow.{address_after}
 use Rattle.rsp_machine.specs.Operations.{multiply_op}
 use Rattle.rsp_machine.specs.State.{State}
-use Rattle.rsp_microcode.specs.Runs.{ran_through, place_after}
+use Rattle.rsp_microcode.specs.Runs.{ran_through, address_after_words}
 use Rattle.rsp_microcode.specs.Reads.{Write, after_writes}
 
 -- a multiply instruction: a term of a sum
@@ -49,8 +49,8 @@ writes (m ∷ ms) (r ∷ rs) = (m.fields.vd, r) ∷ writes ms rs
 -- the state after them
 abbrev pub multiplied : List Term → State → State
 multiplied ms s = record s {
-  pc = place_after ms s.pc;
-  npc = place_after ms s.npc;
+  pc = address_after_words ms s.pc;
+  npc = address_after_words ms s.npc;
   accumulators = after (map (step_in s.vectors) ms) s.accumulators;
   vectors = after_writes with_vector (writes ms (results (map (step_in s.vectors) ms) s.accumulators)) s.vectors;
 }
@@ -73,8 +73,8 @@ sum_writes ms file = writes ms (clamped_sums (map (step_in file) ms) (λ _. pos 
 -- the state after it
 abbrev pub summed : List Term → State → State
 summed ms s = record s {
-  pc = place_after ms s.pc;
-  npc = place_after ms s.npc;
+  pc = address_after_words ms s.pc;
+  npc = address_after_words ms s.npc;
   accumulators = each_lane (λ i. s48 (sum_of (map (step_in s.vectors) ms) i));
   vectors = after_writes with_vector (sum_writes ms s.vectors) s.vectors;
 }

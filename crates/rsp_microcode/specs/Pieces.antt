@@ -9,9 +9,9 @@ use Rattle.rsp_scalar.specs.Flow.{address_after}
 use Rattle.rsp_loadstore.specs.File.{vector, with_vector}
 use Rattle.rsp_machine.specs.State.{State, IsState}
 use Rattle.rsp_machine.specs.Laws.{steps_of}
-use Rattle.rsp_microcode.specs.Runs.{IsAt, all_go_on, ran_through, place_after}
+use Rattle.rsp_microcode.specs.Runs.{IsAt, all_go_on, ran_through, address_after_words}
 use Rattle.rsp_microcode.specs.Frames.{of_rows, with_parts}
-use Rattle.rsp_microcode.specs.Kept.{write_only, Spares, changed}
+use Rattle.rsp_microcode.specs.Kept.{write_only, Spares, with_written}
 use Rattle.rsp_microcode.specs.Ranges.{all_fit}
 use Rattle.rsp_microcode.specs.Lanes.{sqv, with_lanes, lanes_address}
 use Rattle.rsp_microcode.specs.Reads.{after_writes}
@@ -43,7 +43,7 @@ pieces_fit ps = list_all piece_fits ps
 
 -- the state after it
 abbrev pub after_piece : Piece → State → State
-after_piece (takes ls) s = record s { pc = place_after ls s.pc; npc = place_after ls s.npc; vectors = after_writes with_vector (loaded ls s.dmem s.registers) s.vectors }
+after_piece (takes ls) s = record s { pc = address_after_words ls s.pc; npc = address_after_words ls s.npc; vectors = after_writes with_vector (loaded ls s.dmem s.registers) s.vectors }
 after_piece (sums ms) s = summed ms s
 after_piece (puts vt offset base) s = record s { pc = s.npc; npc = address_after s.npc; dmem = with_lanes s.dmem (lanes_address offset base s) (vector s.vectors vt) }
 after_piece (rows is) s = ran_through is s
@@ -72,7 +72,7 @@ pub record AfterPieces (words : List ℕ) (ps : List Piece) (s t : State) : Type
   pub ranges : IsState t
   pub spares : Spares (code_of ps) s t
   pub frame : t ≡ with_parts (of_rows (code_of ps)) s t
-  pub others : (ns ms : List ℕ) → write_only ns ms (code_of ps) ≡ true → t ≡ changed words (code_of ps) ns ms s t
+  pub others : (ns ms : List ℕ) → write_only ns ms (code_of ps) ≡ true → t ≡ with_written words (code_of ps) ns ms s t
 
 abbrev pub PiecesRun : Type 0
 PiecesRun = (words : List ℕ) (ps : List Piece) → map inst_of words ≡ map Some (code_of ps) → pieces_fit ps ≡ true

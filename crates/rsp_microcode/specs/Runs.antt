@@ -35,8 +35,8 @@ all_go_on (i ∷ is) = goes_on i && all_go_on is
 
 -- IMEM holds the words from an address on; as for pc, 0 comes after the last address
 abbrev pub Stand : List ℕ → ℕ → List ℕ → Type 0
-Stand [] place imem = Unit {0}
-Stand (w ∷ ws) place imem = (word_at imem place ≡ w) × Stand ws (address_after place) imem
+Stand [] address imem = Unit {0}
+Stand (w ∷ ws) address imem = (word_at imem address ≡ w) × Stand ws (address_after address) imem
 
 -- the machine is neither halted nor in single step, and it executes the words next
 pub record IsAt (words : List ℕ) (s : State) : Type 0 where
@@ -51,9 +51,9 @@ ran_through [] s = s
 ran_through (i ∷ is) s = ran_through is (executed i s)
 
 -- the address after as many instructions as the list is long
-abbrev pub place_after : {X : Type 0} → List X → ℕ → ℕ
-place_after [] place = place
-place_after (x ∷ xs) place = place_after xs (address_after place)
+abbrev pub address_after_words : {X : Type 0} → List X → ℕ → ℕ
+address_after_words [] address = address
+address_after_words (x ∷ xs) address = address_after_words xs (address_after address)
 
 -- whether an instruction is a branch or a jump
 abbrev pub branches : Inst → Bool

@@ -10,7 +10,7 @@ use Rattle.rsp_regs.specs.Sp.{Sp}
 use Rattle.rsp_scalar.specs.Registers.{register}
 use Rattle.rsp_machine.specs.State.{State, IsState}
 use Rattle.rsp_machine.specs.Laws.{steps_of}
-use Rattle.rsp_microcode.specs.Runs.{IsAt, Stand, place_after}
+use Rattle.rsp_microcode.specs.Runs.{IsAt, Stand, address_after_words}
 use Rattle.rsp_microcode.specs.Lanes.{IsOutside}
 
 -- mtc0 $memory, $c0; mtc0 $image, $c1; and mtc0 $size, $c2 for a transfer from RDRAM, or $c3 for one to RDRAM
@@ -40,8 +40,8 @@ pub record Fetches (words : List ℕ) (s t : State) (a image_address size : ℕ)
   pub outside : (x : ℕ) → IsOutside a (row_bytes size) x → byte_at t.dmem x ≡ byte_at s.dmem x
   pub ranges : IsState t
   -- the words after these are executed next, and nothing else changed but the addresses and the skip of the SP registers
-  pub at : (ws : List ℕ) → Stand ws (place_after words s.pc) s.imem → IsAt ws t
-  pub others : t ≡ record s { pc = place_after words s.pc; npc = place_after words s.npc; dmem = t.dmem; sp = with_addresses s.sp t.sp }
+  pub at : (ws : List ℕ) → Stand ws (address_after_words words s.pc) s.imem → IsAt ws t
+  pub others : t ≡ record s { pc = address_after_words words s.pc; npc = address_after_words words s.npc; dmem = t.dmem; sp = with_addresses s.sp t.sp }
 
 -- what a transfer to RDRAM does from s to t
 pub record Sends (words : List ℕ) (s t : State) (a image_address size : ℕ) : Type 0 where
@@ -49,8 +49,8 @@ pub record Sends (words : List ℕ) (s t : State) (a image_address size : ℕ) :
   pub outside : (x : ℕ) → x < 16777216 → (x < image_address) ⊎ (image_address + row_bytes size ≤ x) → image_byte t.rdram x ≡ image_byte s.rdram x
   pub count : length t.rdram ≡ length s.rdram
   pub ranges : IsState t
-  pub at : (ws : List ℕ) → Stand ws (place_after words s.pc) s.imem → IsAt ws t
-  pub others : t ≡ record s { pc = place_after words s.pc; npc = place_after words s.npc; rdram = t.rdram; sp = with_addresses s.sp t.sp }
+  pub at : (ws : List ℕ) → Stand ws (address_after_words words s.pc) s.imem → IsAt ws t
+  pub others : t ≡ record s { pc = address_after_words words s.pc; npc = address_after_words words s.npc; rdram = t.rdram; sp = with_addresses s.sp t.sp }
 
 abbrev pub FetchRuns : Type 0
 FetchRuns = (words : List ℕ) (memory image size : ℕ) → map inst_of words ≡ map Some (fetch_code memory image size)

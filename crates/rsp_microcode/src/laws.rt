@@ -138,7 +138,8 @@ pub fn blocks()
     ensures returns { RanReturns }
 {}
 
-/// Transfers: three moves to SP registers take a row of bytes from RDRAM to DMEM, or from DMEM to RDRAM, and change nothing else.
+/// Transfers: three moves to SP registers take a row of bytes from RDRAM to DMEM, or from DMEM to RDRAM, and change nothing else
+/// but the addresses and the skip of the SP registers.
 pub fn transfers()
     ensures fetch { FetchRuns }
     ensures send { SendRuns }

@@ -9,8 +9,8 @@ use Rattle.std.proofs.lemmas.Nat.{mul-le}
 use Rattle.rsp_numbers.specs.Numbers.{floor_div}
 use Rattle.rsp_divide.specs.Quotients.{inverse_root_of, root_bits}
 use Rattle.rsp_microcode.specs.Fixed.{limited, fixed_product}
-use Rattle.rsp_routines.specs.SquareRoot.{improved_root, rooted, IsNearRoot}
-use Rattle.rsp_routines.proofs.NewtonBound.{doubled}
+use Rattle.rsp_routines.specs.Root.{improved_root, rooted, IsNearRoot}
+use Rattle.rsp_routines.proofs.ReciprocalBound.{doubled}
 use Rattle.rsp_routines.proofs.RootEstimates.{IsRootEstimate, root_estimated}
 
 -- (3n - b) b b has its greatest value, 4n^3, at 2n

@@ -7,7 +7,7 @@ use Rattle.rsp_scalar.specs.Registers.{register}
 use Rattle.rsp_loadstore.specs.File.{vector}
 use Rattle.rsp_machine.specs.State.{State, IsState}
 use Rattle.rsp_machine.specs.Laws.{steps_of}
-use Rattle.rsp_microcode.specs.Runs.{IsAt, place_after}
+use Rattle.rsp_microcode.specs.Runs.{IsAt, address_after_words}
 use Rattle.rsp_microcode.specs.Kept.{registers_but, vectors_but}
 use Rattle.rsp_microcode.specs.Text.{line}
 use Rattle.rsp_routines.specs.Areas.{IsArea}
@@ -70,8 +70,8 @@ pub record DotsAll (words : List ℕ) (s t : State) (first second n : ℕ) : Typ
   pub result : (i : ℕ) → i < 8 → slice_index (vector t.vectors 5) i * 65536 + slice_index (vector t.vectors 6) i ≡ modulo (dot_of s.dmem first second (n / 2)) (2 ^ 32)
   -- nothing else changed but scalar registers 1, 2, 4, 5 and 6, vector registers 1 to 6, the flags and the accumulators
   pub others : t ≡ record s {
-    pc = place_after words s.pc;
-    npc = place_after words s.npc;
+    pc = address_after_words words s.pc;
+    npc = address_after_words words s.npc;
     registers = registers_but (1 ∷ 2 ∷ 4 ∷ 5 ∷ 6 ∷ []) s.registers t.registers;
     vectors = vectors_but (1 ∷ 2 ∷ 3 ∷ 4 ∷ 5 ∷ 6 ∷ []) s.vectors t.vectors;
     accumulators = t.accumulators;

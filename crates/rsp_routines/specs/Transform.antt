@@ -7,7 +7,7 @@ use Rattle.rsp_scalar.specs.Registers.{register}
 use Rattle.rsp_loadstore.specs.File.{vector}
 use Rattle.rsp_machine.specs.State.{State, IsState}
 use Rattle.rsp_machine.specs.Laws.{steps_of}
-use Rattle.rsp_microcode.specs.Runs.{IsAt, place_after}
+use Rattle.rsp_microcode.specs.Runs.{IsAt, address_after_words}
 use Rattle.rsp_microcode.specs.Lanes.{lanes_at, IsOutside}
 use Rattle.rsp_microcode.specs.Kept.{vectors_but}
 use Rattle.rsp_microcode.specs.Fixed.{fixed, limited}
@@ -64,11 +64,11 @@ AreAligned s = (register s.registers 1 % 16 ≡ 0) × (register s.registers 2 % 
 pub record Transforms (words : List ℕ) (s t : State) (matrix vectors result : ℕ) : Type 0 where
   -- the eight numbers at the result: high parts first, then the low ones
   pub product : (i : ℕ) → i < 8 → fixed (lanes_at t.dmem result) (lanes_at t.dmem (result + 16)) i ≡ transformed s.dmem matrix vectors i
-  -- no other byte of DMEM changed, nor anything else but vector registers 1 to 11, the accumulators, pc and npc
+  -- no other byte of DMEM with_written, nor anything else but vector registers 1 to 11, the accumulators, pc and npc
   pub outside : (x : ℕ) → IsOutside result 32 x → byte_at t.dmem x ≡ byte_at s.dmem x
   pub others : t ≡ record s {
-    pc = place_after words s.pc;
-    npc = place_after words s.npc;
+    pc = address_after_words words s.pc;
+    npc = address_after_words words s.npc;
     vectors = vectors_but (1 ∷ 2 ∷ 3 ∷ 4 ∷ 5 ∷ 6 ∷ 7 ∷ 8 ∷ 9 ∷ 10 ∷ 11 ∷ []) s.vectors t.vectors;
     accumulators = t.accumulators;
     dmem = t.dmem;

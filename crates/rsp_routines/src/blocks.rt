@@ -1,6 +1,6 @@
-// Blocks of RDRAM, through two buffers in turn.
+//! Blocks of RDRAM, through two buffers in turn.
 
-ghost use Rattle.rsp_routines.specs.BlockCopies.{text, CopiesAllBlocks};
+ghost use Rattle.rsp_routines.specs.Blocks.{text, CopiesAllBlocks};
 ghost use Rattle.rsp_microcode.specs.Text.{Assembles};
 
 use rsp_multiply::laws::l4;
@@ -26,8 +26,8 @@ const WORDS: [u32; 18] = [
     0x00000000, // nop
 ];
 
-// The theorem by itself: other words break it too, and not the text alone.
-fn holds()
+// The theorem without the text: other words break it too, and not the text alone.
+fn theorem()
     ensures { CopiesAllBlocks WORDS }
 {
     l4();
@@ -38,10 +38,10 @@ fn holds()
 /// is in `$1`, the address that it goes to in `$2`, the number of bytes of a block in `$6` and less 1 in `$3`,
 /// the address of a buffer in `$5`, the sum of the addresses of both in `$7`, and the number of blocks in `$8`.
 /// No other byte of RDRAM changes, and no byte of DMEM outside of the buffers.
-pub fn copy_blocks() -> [u32; 18]
+pub fn words() -> [u32; 18]
     ensures text { Assembles text result }
     ensures theorem { CopiesAllBlocks result }
 {
-    holds();
+    theorem();
     WORDS
 }

@@ -5,7 +5,7 @@ ghost use Rattle.rsp_lanes.specs.Lanes.{each_lane};
 ghost use Rattle.rsp_loadstore.specs.File.{vector};
 ghost use Rattle.rsp_machine.specs.Laws.{steps_of};
 ghost use Rattle.rsp_microcode.specs.Fixed.{fixed, fixed_product};
-ghost use Rattle.rsp_routines.specs.FixedProduct.{words};
+ghost use Rattle.rsp_routines.specs.Multiply.{words};
 ghost use Rattle.rsp_microcode.specs.Runs.{IsAt};
 
 use rsp_acc::Acc;
@@ -13,8 +13,8 @@ use rsp_machine::{Machine, RangeFault};
 use rsp_memory::{Bank, Rdram};
 use rsp_multiply::laws::l4;
 
-/// Takes five steps over the words of [`crate::multiply_fixed`].
-pub fn multiply<A: Acc>(machine: &mut Machine<A>)
+/// Takes five steps over the words of [`crate::multiply::words`].
+pub fn run_multiply<A: Acc>(machine: &mut Machine<A>)
     requires at { IsAt words machine.old }
     requires zero { vector machine.old.vectors 0 ≡ each_lane (λ _. 0) }
     ensures state { machine.new ≡ steps_of 5 machine.old }
@@ -31,8 +31,8 @@ const BYTES: [u8; 20] = [
     0x4a, 0x00, 0x02, 0x8e,
 ];
 
-/// A machine that is ready for [`multiply`].
-pub fn ready<A: Acc>(rdram: Rdram) -> Result<Machine<A>, RangeFault>
+/// A machine that is ready for [`run_multiply`].
+pub fn ready_to_multiply<A: Acc>(rdram: Rdram) -> Result<Machine<A>, RangeFault>
     ensures ok { IsOk result }
     ensures at { IfOk result (λ m. IsAt words m) }
     ensures zero { IfOk result (λ m. vector m.vectors 0 ≡ each_lane (λ _. 0)) }
