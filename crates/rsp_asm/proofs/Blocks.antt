@@ -156,11 +156,11 @@ words_ok (Ok before) n (Err kind) ws e = absurd cc
 words_ok (Ok before) n (Ok more) ws e = let same : before ++ more ≡ ws = cc in (before, more, refl, refl, same)
 
 module _ (labels : Labels) (origin : ℕ) (ls : List (List ℕ)) where
-  block_place : (n : ℕ) (ws : List ℕ) → words_before labels origin ls n ≡ Ok ws → origin + 4 * length ws ≡ address_of_line origin ls n
-  block_place zero ws e = let none : [] ≡ ws = cc in omega (arith, ap length none)
-  block_place (suc n) ws e =
+  block_address : (n : ℕ) (ws : List ℕ) → words_before labels origin ls n ≡ Ok ws → origin + 4 * length ws ≡ address_of_line origin ls n
+  block_address zero ws e = let none : [] ≡ ws = cc in omega (arith, ap length none)
+  block_address (suc n) ws e =
       let p = words_ok (words_before labels origin ls n) (suc n) (words_of_line labels origin ls n) ws e in
-      let here = block_place n p.0 p.2 in
+      let here = block_address n p.0 p.2 in
       let words = line_gives labels (address_of_line origin ls n) (line_at ls n) p.1 p.3 in
       let count = words.count in
       omega (arith, here, count, ap length p.4, length-append p.0 p.1)
@@ -176,7 +176,7 @@ module _ (labels : Labels) (origin : ℕ) (ls : List (List ℕ)) where
         | inr behind ↦
             let same : get_or p.1 (j - length p.0) 0 ≡ get_or ws j 0 = sym (get_or-append_right p.0 p.1 (length p.0) j 0 refl behind) ∙ ap (λ t. get_or t j 0) p.4 in
             let words = line_gives labels (address_of_line origin ls n) (line_at ls n) p.1 p.3 in
-            let here = block_place n p.0 p.2 in
+            let here = block_address n p.0 p.2 in
             record {
               k = n;
               i = j - length p.0;
@@ -195,7 +195,7 @@ module _ (labels : Labels) (origin : ℕ) (ls : List (List ℕ)) where
 pub blocks_decode : BlocksDecode
 blocks_decode ls origin words e =
     let said = go (fault_before origin ls (length ls)) e in
-    record { each = block_each (all_labels origin ls) origin ls (length ls) words (omega arith) said; no_more = block_place (all_labels origin ls) origin ls (length ls) words said }
+    record { each = block_each (all_labels origin ls) origin ls (length ls) words (omega arith) said; no_more = block_address (all_labels origin ls) origin ls (length ls) words said }
   where
     go : (o : Option AsmFault) → unless o (words_before (all_labels origin ls) origin ls (length ls)) ≡ Ok words → words_before (all_labels origin ls) origin ls (length ls) ≡ Ok words
     go None e = e

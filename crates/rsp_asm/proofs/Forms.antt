@@ -25,7 +25,7 @@ is_numbers (Some no_operation) e = absurd (let bad : numbers_shape ≡ nothing_s
 is_numbers (Some numbers_form) e = refl
 is_numbers (Some (row_form r)) e = absurd (let bad : numbers_shape ≡ row_shape (entry_of r) = cc in cc)
 
-is_row : (o : Option Form) (e : Entry) → Some (row_shape e) ≡ option_map form_shape o → (r : Row) × (o ≡ Some (row_form r)) × (entry_of r ≡ e)
+pub is_row : (o : Option Form) (e : Entry) → Some (row_shape e) ≡ option_map form_shape o → (r : Row) × (o ≡ Some (row_form r)) × (entry_of r ≡ e)
 is_row None e h = absurd cc
 is_row (Some no_operation) e h = absurd (let bad : row_shape e ≡ nothing_shape = cc in cc)
 is_row (Some numbers_form) e h = absurd (let bad : row_shape e ≡ numbers_shape = cc in cc)

@@ -11,3 +11,4 @@ pub mod Decodes
 pub mod SameAddresses
 pub mod Blocks
 pub mod BlockTexts
+pub mod Explaining

@@ -37,9 +37,9 @@ module _ (origin : ℕ) (ls : List (List ℕ)) where
   fault_stays zero n m f e is = let same : n ≡ m = omega (arith, is) in subst (λ i. fault_before origin ls i ≡ Some f) same e
   fault_stays (suc k) n m f e is = fault_stays k (suc n) m f (ap (λ o. or_fault o (suc n) (fault_of_line origin ls n)) e) (omega (arith, is))
 
-  place_grows : (k n m : ℕ) → n + k ≡ m → address_of_line origin ls n ≤ address_of_line origin ls m
-  place_grows zero n m is = let same : n ≡ m = omega (arith, is) in subst (λ i. address_of_line origin ls n ≤ address_of_line origin ls i) same (omega arith)
-  place_grows (suc k) n m is = let more = place_grows k (suc n) m (omega (arith, is)) in omega (arith, more)
+  address_grows : (k n m : ℕ) → n + k ≡ m → address_of_line origin ls n ≤ address_of_line origin ls m
+  address_grows zero n m is = let same : n ≡ m = omega (arith, is) in subst (λ i. address_of_line origin ls n ≤ address_of_line origin ls i) same (omega arith)
+  address_grows (suc k) n m is = let more = address_grows k (suc n) m (omega (arith, is)) in omega (arith, more)
 
   pub fault_means : (f : AsmFault) → fault_before origin ls (length ls) ≡ Some f → meaning_of_lines ls origin ≡ Err f
   fault_means f e = ap (λ o. unless o (words_before (all_labels origin ls) origin ls (length ls))) e
@@ -50,13 +50,13 @@ pub record Done (origin number : ℕ) (ls left : List (List ℕ)) (labels : Labe
   pub few : number ≤ length ls
   pub clean : fault_before origin ls number ≡ None
   pub labels_are : SameAddresses labels (labels_before origin ls number)
-  pub place_is : address ≡ address_of_line origin ls number
+  pub address_is : address ≡ address_of_line origin ls number
 
 module _ (origin number : ℕ) (ls : List (List ℕ)) (l : List ℕ) (more : List (List ℕ)) (labels : Labels) (address : ℕ) (d : Done origin number ls (l ∷ more) labels address) where
   found : fault_of_line origin ls number ≡ first_fault labels address l
   found =
       ap (first_fault (labels_before origin ls number) (address_of_line origin ls number)) (line_is ls number l more d.rest)
-      ∙ ap (λ p. first_fault (labels_before origin ls number) p l) (sym d.place_is)
+      ∙ ap (λ p. first_fault (labels_before origin ls number) p l) (sym d.address_is)
       ∙ sym (first_same labels (labels_before origin ls number) d.labels_are address l)
 
   with_line : fault_before origin ls (suc number) ≡ or_fault None (suc number) (first_fault labels address l)
@@ -73,9 +73,9 @@ module _ (origin number : ℕ) (ls : List (List ℕ)) (l : List ℕ) (more : Lis
         few = inside ls number l more d.rest;
         clean = clean_more e;
         labels_are =
-            subst (λ t. SameAddresses labels' (labels_before origin ls number ++ t)) (ap (labelled (label_of l)) d.place_is ∙ ap (λ x. labelled (label_of x) (address_of_line origin ls number)) (sym here))
+            subst (λ t. SameAddresses labels' (labels_before origin ls number ++ t)) (ap (labelled (label_of l)) d.address_is ∙ ap (λ x. labelled (label_of x) (address_of_line origin ls number)) (sym here))
             (same_behind (label_of l) address labels' labels (labels_before origin ls number) (new_label (labels_before origin ls number) address l (sym (first_same labels (labels_before origin ls number) d.labels_are address l) ∙ e)) labels_is d.labels_are);
-        place_is = at ∙ ap (λ p. p + 4 * line_size l) d.place_is ∙ ap (λ x. address_of_line origin ls number + 4 * line_size x) (sym here);
+        address_is = at ∙ ap (λ p. p + 4 * line_size l) d.address_is ∙ ap (λ x. address_of_line origin ls number + 4 * line_size x) (sym here);
       })
 
   pub done_fault : (kind : AsmFaultKind) → first_fault labels address l ≡ Some kind → fault_before origin ls (length ls) ≡ Some (fault_at (number + 1) kind)
@@ -116,17 +116,17 @@ words_stay labels origin ls (suc k) n m f e is = words_stay labels origin ls k (
 pub record Written (origin number : ℕ) (ls left : List (List ℕ)) (labels : Labels) (count : ℕ) (words : List ℕ) : Type 0 where
   pub rest : drop number ls ≡ left
   pub few : number ≤ length ls
-  pub place_is : origin + 4 * count ≡ address_of_line origin ls number
+  pub address_is : origin + 4 * count ≡ address_of_line origin ls number
   pub words_are : words_before labels origin ls number ≡ Ok words
 
 module _ (origin number : ℕ) (ls : List (List ℕ)) (l : List ℕ) (more : List (List ℕ)) (labels : Labels) (count : ℕ) (words : List ℕ) (d : Written origin number ls (l ∷ more) labels count words) where
   size_is : address_of_line origin ls (suc number) ≡ origin + 4 * count + 4 * line_size l
-  size_is = ap (λ x. address_of_line origin ls number + 4 * line_size x) (line_is ls number l more d.rest) ∙ ap (λ p. p + 4 * line_size l) (sym d.place_is)
+  size_is = ap (λ x. address_of_line origin ls number + 4 * line_size x) (line_is ls number l more d.rest) ∙ ap (λ p. p + 4 * line_size l) (sym d.address_is)
 
   pub written_room : origin + 4 * count + 4 * line_size l ≤ address_of_line origin ls (length ls)
   written_room =
       let lt = inside ls number l more d.rest in
-      let grows = place_grows origin ls (length ls - suc number) (suc number) (length ls) (omega (arith, lt)) in
+      let grows = address_grows origin ls (length ls - suc number) (suc number) (length ls) (omega (arith, lt)) in
       let size = size_is in
       omega (arith, grows, size)
 
@@ -134,7 +134,7 @@ module _ (origin number : ℕ) (ls : List (List ℕ)) (l : List ℕ) (more : Lis
   with_words address at =
       ap (λ o. and_words o (suc number) (words_of_line labels origin ls number)) d.words_are
       ∙ ap (λ x. and_words (Ok words) (suc number) (line_words labels (address_of_line origin ls number) x)) (line_is ls number l more d.rest)
-      ∙ ap (λ p. and_words (Ok words) (suc number) (line_words labels p l)) (sym (at ∙ d.place_is))
+      ∙ ap (λ p. and_words (Ok words) (suc number) (line_words labels p l)) (sym (at ∙ d.address_is))
 
   pub written_more : (address count' : ℕ) (vs words' : List ℕ) → address ≡ origin + 4 * count → line_words labels address l ≡ Ok vs → count' ≡ count + line_size l → words' ≡ words ++ vs → Written origin (number + 1) ls more labels count' words'
   written_more address count' vs words' at e count_is words_is =
@@ -142,7 +142,7 @@ module _ (origin number : ℕ) (ls : List (List ℕ)) (l : List ℕ) (more : Lis
       rw (add-one) (record {
         rest = drop_next ls number l more d.rest;
         few = inside ls number l more d.rest;
-        place_is = omega (arith, size, count_is);
+        address_is = omega (arith, size, count_is);
         words_are = with_words address at ∙ ap (and_words (Ok words) (suc number)) e ∙ ap Ok (sym words_is);
       })
 
@@ -158,5 +158,5 @@ module _ (origin number : ℕ) (ls : List (List ℕ)) (labels : Labels) (count :
   pub written_all : words_before labels origin ls (length ls) ≡ Ok words
   written_all = ap (words_before labels origin ls) (sym whole) ∙ d.words_are
 
-  pub written_place : origin + 4 * count ≡ address_of_line origin ls (length ls)
-  written_place = d.place_is ∙ ap (address_of_line origin ls) whole
+  pub written_address : origin + 4 * count ≡ address_of_line origin ls (length ls)
+  written_address = d.address_is ∙ ap (address_of_line origin ls) whole

@@ -66,7 +66,7 @@ module _ (xs ys : Labels) (same : SameAddresses xs ys) where
       go None = refl
       go (Some name) = same name
 
-  fields_same : (address : ℕ) (ns : List ℕ) (o : Option (OperandRange × Expression)) → fields_with xs address ns o ≡ fields_with ys address ns o
+  pub fields_same : (address : ℕ) (ns : List ℕ) (o : Option (OperandRange × Expression)) → fields_with xs address ns o ≡ fields_with ys address ns o
   fields_same address ns None = refl
   fields_same address ns (Some v) = ap (λ z. then_registers ns (field_of v.0 address z)) (value_same v.1)
 

@@ -7,3 +7,5 @@ pub mod AssembleFaults
 pub mod Decoding
 pub mod Block
 pub mod BlockFault
+pub mod Explanations
+pub mod FormOperands

@@ -1,11 +1,11 @@
 // The two passes over a source text.
 
-ghost use Rattle.std.specs.Prelude.{◌≡◌, ◌+◌, ◌*◌, ◌<◌, ◌≤◌, [], ◌∷◌, None, Ok, Err, length, ◌++◌, MatchOption, IfOk, IfErr, OnOk, OnErr, option_map, is_some, true};
+ghost use Rattle.std.specs.Prelude.{◌≡◌, ◌+◌, ◌*◌, ◌<◌, ◌≤◌, [], ◌∷◌, ◌⊎◌, None, Some, Ok, Err, length, ◌++◌, MatchOption, IfOk, IfErr, OnOk, OnErr, option_map, is_some, true};
 ghost use Rattle.arrayvec.specs.ArrayVec.{array_vec_len};
 ghost use Rattle.std.specs.Str.Lines.{lines};
 ghost use Rattle.rsp_syntax.specs.SourceText.{fault_before, words_before, meaning_of_text, labelled, all_labels, address_of_line};
 ghost use Rattle.rsp_operands.specs.Labels.{SameAddresses};
-ghost use Rattle.rsp_asm.specs.AssembleFaults.{IsFault};
+ghost use Rattle.rsp_asm.specs.AssembleFaults.{IsFault, IsOutOfMemory};
 
 use crate::line::{check_line, push_words};
 use crate::words::Words;
@@ -14,7 +14,7 @@ use rsp_syntax::{AsmFault, AsmFaultKind, Boundary, cut, without_return};
 use std::alloc::{AllocError, Global};
 
 /// The first line without its ending, and the text after it; None of an empty text. It ends with LF, or CR and LF.
-fn next_line(text: &[u8]) -> Option<(&[u8], &[u8])>
+pub(crate) fn next_line(text: &[u8]) -> Option<(&[u8], &[u8])>
     ensures { MatchOption result (lines text.now ≡ []) (λ p. (lines text.now ≡ p.0.now ∷ lines p.1.now) × (length p.1.now < length text.now)) }
 {
     if text.is_empty() {
@@ -43,12 +43,16 @@ fn add_label<'a>(
 
 /// The labels of all lines, or the fault of the lowest line that has one without regard to labels; OutOfMemory at the line of a
 /// label for which there is no memory.
-fn first_pass<'a>(alloc: Global, origin: u16, text: &'a [u8]) -> Result<Labels<'a>, AsmFault>
+pub(crate) fn first_pass<'a>(
+    alloc: Global,
+    origin: u16,
+    text: &'a [u8],
+) -> Result<Labels<'a>, AsmFault>
     requires { origin ≤ 4096 }
     ensures clean { IfOk result (λ v. fault_before origin (lines text.now) (length (lines text.now)) ≡ None) }
     ensures labels { IfOk result (λ v. SameAddresses v (all_labels origin (lines text.now))) }
     ensures room { IfOk result (λ v. address_of_line origin (lines text.now) (length (lines text.now)) ≤ 4096) }
-    ensures err { IfErr result (IsFault origin text.now) }
+    ensures err { IfErr result (λ f. (fault_before origin (lines text.now) (length (lines text.now)) ≡ Some f) ⊎ IsOutOfMemory origin text.now f) }
 {
     let mut labels = Labels::new(alloc);
     let mut address = origin;
@@ -73,7 +77,7 @@ fn first_pass<'a>(alloc: Global, origin: u16, text: &'a [u8]) -> Result<Labels<'
 }
 
 /// The words of all lines, or the fault of the lowest line with an operand that has one.
-fn second_pass(origin: u16, text: &[u8], labels: &Labels<'_>) -> Result<Words, AsmFault>
+pub(crate) fn second_pass(origin: u16, text: &[u8], labels: &Labels<'_>) -> Result<Words, AsmFault>
     requires { address_of_line origin (lines text.now) (length (lines text.now)) ≤ 4096 }
     ensures ok { IfOk result (λ w. words_before labels.now origin (lines text.now) (length (lines text.now)) ≡ Ok w.items) }
     ensures room { IfOk result (λ w. origin + 4 * array_vec_len w ≤ 4096) }

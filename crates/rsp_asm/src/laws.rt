@@ -17,7 +17,7 @@ pub fn blocks_decode()
     ensures { BlocksDecode }
 {}
 
-/// No text means the fault OutOfMemory, at no origin: [`assemble`](crate::assemble) returns it only if an allocation failed.
+/// No text means the fault OutOfMemory, at no origin: if [`assemble`](crate::assemble) returns it, the fault isn't the text's.
 pub fn no_text_means_out_of_memory()
     ensures { NoTextMeansOutOfMemory }
 {}

@@ -8,6 +8,7 @@
 mod assembler;
 mod block;
 mod check;
+mod explanation;
 pub mod laws;
 mod line;
 mod numbers;
@@ -19,6 +20,7 @@ mod words;
 
 pub use assembler::assemble;
 pub use block::{Block, BlockFault};
+pub use explanation::{Bounds, Expected, FaultyOperand, explain, operand_text};
 pub use line::{LineLayout, read_line};
 pub use rsp_syntax::{AsmFault, AsmFaultKind};
 pub use words::Words;

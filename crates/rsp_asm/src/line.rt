@@ -33,13 +33,13 @@ fn without_comment(line: &[u8]) -> &[u8]
 
 /// The label of a line, and the text of its statement.
 #[derive(Clone, Copy)]
-struct LineParts<'a> {
-    label: Option<&'a [u8]>,
-    body: &'a [u8],
+pub(crate) struct LineParts<'a> {
+    pub(crate) label: Option<&'a [u8]>,
+    pub(crate) body: &'a [u8],
 }
 
 /// Cuts a line at its first colon. None if it is no line, or if what is before the colon is no label's name.
-fn split_line(line: &[u8]) -> Option<LineParts<'_>>
+pub(crate) fn split_line(line: &[u8]) -> Option<LineParts<'_>>
     ensures { option_map seen_parts result ≡ split_line line.now }
 {
     if !is_line(line) {

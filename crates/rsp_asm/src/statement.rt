@@ -32,7 +32,7 @@ pub struct Statement<'a> {
 }
 
 /// Cuts a statement at its first blank: its name, and the text of its operands.
-fn split(text: &[u8]) -> (&[u8], &[u8])
+pub(crate) fn split(text: &[u8]) -> (&[u8], &[u8])
     ensures name { result.0.now ≡ before_first (is_boundary Blank) text.now }
     ensures operands { result.1.now ≡ after_first (is_boundary Blank) text.now }
 {
@@ -59,7 +59,7 @@ fn is_single(operands: &[u8]) -> bool
 }
 
 /// What a name is, in either case, before these operands; None if no statement has it.
-fn form_of(name: &[u8], operands: &[u8]) -> Option<Form>
+pub(crate) fn form_of(name: &[u8], operands: &[u8]) -> Option<Form>
     ensures { option_map form result ≡ option_map form_shape (form_named name.now (length (operand_texts operands.now))) }
 {
     if is_same(name, b"nop") {

@@ -1,5 +1,6 @@
 ghost use Rattle.std.specs.Prelude.{◌≤◌};
 
+use crate::explanation::explanation;
 use crate::fault::Fault;
 use crate::files::FileStore;
 use crate::listing::print_listing;
@@ -7,6 +8,7 @@ use crate::origin::origin_of;
 use crate::program::file_fault;
 use byteorder::{BigEndian, ByteOrder};
 use rsp_asm::{AsmFaultKind, Words, assemble};
+use rsp_cli_args::AssembleFiles;
 use std::alloc::{AllocError, Global};
 use std::io::Write;
 use std::str;
@@ -22,25 +24,22 @@ const SOURCE_READ_LIMIT: u64 = 1_048_577;
 pub fn assemble_file<'a, F: FileStore, W: Write + Drop>(
     alloc: Global,
     files: &mut F,
-    source: &'a str,
-    out: &'a str,
-    at: Option<&'a str>,
-    with_listing: bool,
+    asked: &AssembleFiles<'a>,
     mut output: W,
 ) -> Result<(), Fault<'a>> {
-    let origin = origin_of(at)?;
+    let origin = origin_of(asked.at)?;
     let bytes = files
-        .read(alloc, source, SOURCE_READ_LIMIT)
-        .map_err(|fault| file_fault(fault, Fault::CannotRead(source)))?;
+        .read(alloc, asked.source, SOURCE_READ_LIMIT)
+        .map_err(|fault| file_fault(fault, Fault::CannotRead(asked.source)))?;
     let text = text_in(bytes.as_slice())?;
-    let words = assembled(alloc, origin, text)?;
+    let words = assembled(alloc, origin, text, asked.with_explanation)?;
     let bytes = big_endian(alloc, words.as_slice()).map_err(|_| Fault::OutOfMemory)?;
     files
-        .write(out, bytes.as_slice())
-        .map_err(|fault| file_fault(fault, Fault::CannotWrite(out)))?;
+        .write(asked.out, bytes.as_slice())
+        .map_err(|fault| file_fault(fault, Fault::CannotWrite(asked.out)))?;
     let count = words.len();
     writeln!(output, "ok {count} words").map_err(|_| Fault::RunWrite)?;
-    if with_listing {
+    if asked.with_listing {
         print_listing(alloc, origin, text, words.as_slice(), &mut output).map_err(
             |_| Fault::RunWrite,
         )?;
@@ -56,14 +55,29 @@ fn text_in<'a>(bytes: &[u8]) -> Result<&str, Fault<'a>> {
     str::from_utf8(bytes).map_err(|_| Fault::NotText)
 }
 
-/// The words of a source text.
-fn assembled<'a>(alloc: Global, origin: u16, text: &str) -> Result<Words, Fault<'a>>
+/// The words of a source text. A fault is explained if that is asked for and there is memory for it.
+fn assembled<'a>(
+    alloc: Global,
+    origin: u16,
+    text: &str,
+    with_explanation: bool,
+) -> Result<Words, Fault<'a>>
     requires { origin ≤ 4092 }
 {
-    assemble(alloc, origin, text).map_err(|fault| match fault.kind {
-        AsmFaultKind::OutOfMemory => Fault::OutOfMemory,
-        _ => Fault::Source(fault),
-    })
+    match assemble(alloc, origin, text) {
+        Ok(words) => Ok(words),
+        Err(fault) => match fault.kind {
+            AsmFaultKind::OutOfMemory => Err(Fault::OutOfMemory),
+            _ => {
+                let explanation = if with_explanation {
+                    explanation(alloc, origin, text, fault).unwrap_or(String::new(alloc))
+                } else {
+                    String::new(alloc)
+                };
+                Err(Fault::Source { fault, explanation })
+            }
+        },
+    }
 }
 
 /// The bytes of words, the high byte of each first.

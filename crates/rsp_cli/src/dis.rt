@@ -1,11 +1,11 @@
-ghost use Rattle.std.specs.Prelude.{◌<◌, ◌≤◌};
+ghost use Rattle.std.specs.Prelude.{◌≡◌, ◌+◌, ◌*◌, ◌<◌, ◌≤◌, ◌%◌, length};
 
 use crate::fault::Fault;
 use crate::files::FileStore;
 use crate::origin::origin_of;
 use crate::program::file_fault;
 use byteorder::{BigEndian, ByteOrder};
-use rsp_dis::text_of;
+use rsp_dis::{Targets, label_of, labelled_text_of, text_of};
 use std::alloc::Global;
 use std::io::{self, Write};
 
@@ -16,14 +16,16 @@ const WORDS_LIMIT: usize = 4096;
 const WORDS_READ_LIMIT: u64 = 4097;
 
 /// Prints the disassembly of the words of a file, a line each, for the words at the address `at` of IMEM and after it. The high
-/// byte of a word comes first in the file. With `with_addresses` a line begins with the address and the word. WordsSize if the file
-/// has no whole number of words, or more than fit from that address to the end of IMEM.
+/// byte of a word comes first in the file. With `with_addresses` a line begins with the address and the word. With `with_labels` a
+/// word that a jump or a branch of the file leads to has a label, on a line before it. WordsSize if the file has no whole number of
+/// words, or more than fit from that address to the end of IMEM.
 pub fn disassemble_file<'a, F: FileStore, W: Write + Drop>(
     alloc: Global,
     files: &mut F,
     name: &'a str,
     at: Option<&'a str>,
     with_addresses: bool,
+    with_labels: bool,
     mut output: W,
 ) -> Result<(), Fault<'a>> {
     let origin = origin_of(at)?;
@@ -33,13 +35,16 @@ pub fn disassemble_file<'a, F: FileStore, W: Write + Drop>(
     if bytes.len() > WORDS_LIMIT - usize::from(origin) || bytes.len() % 4 != 0 {
         return Err(Fault::WordsSize);
     }
-    for (index, bytes) in bytes.chunks_exact(4).enumerate() {
-        let word = BigEndian::read_u32(bytes);
-        print_word(&mut output, address_of(origin, index), word, with_addresses).map_err(
-            |_| Fault::RunWrite,
-        )?;
+    let count = bytes.len() / 4;
+    let mut words = [0; 1024];
+    BigEndian::read_u32_into(&bytes, &mut words[..count]);
+    let words = &words[..count];
+    if with_labels {
+        print_labelled(&mut output, origin, words, with_addresses)
+    } else {
+        print_plain(&mut output, origin, words, with_addresses)
     }
-    Ok(())
+    .map_err(|_| Fault::RunWrite)
 }
 
 /// The address in IMEM of the word `index` of a file whose first word is at `origin`.
@@ -49,17 +54,54 @@ pub(crate) fn address_of(origin: u16, index: usize) -> u16
     ((usize::from(origin) + index % 1024 * 4) % 4096) as u16
 }
 
-fn print_word<W: Write>(
+fn print_plain<W: Write>(
     output: &mut W,
-    place: u16,
-    word: u32,
+    origin: u16,
+    words: &[u32],
+    with_addresses: bool,
+) -> io::Result<()> {
+    for (index, &word) in words.iter().enumerate() {
+        let address = address_of(origin, index);
+        let text = text_of(word, address);
+        print_word(output, address, word, text.as_str(), with_addresses)?;
+    }
+    Ok(())
+}
+
+fn print_labelled<W: Write>(
+    output: &mut W,
+    origin: u16,
+    words: &[u32],
     with_addresses: bool,
 ) -> io::Result<()>
-    requires { place < 4096 }
+    requires aligned { origin % 4 ≡ 0 }
+    requires room { origin + 4 * length words.now ≤ 4096 }
 {
-    let line = text_of(word, place);
-    if with_addresses {
-        write!(output, "{place:03x} {word:08x} ")?;
+    let targets = Targets::of(origin, words);
+    for (index, &word) in words.iter().enumerate() {
+        let address = address_of(origin, index);
+        if targets.contains(address) {
+            let name = label_of(address);
+            if with_addresses {
+                write!(output, "{address:03x} ")?;
+            }
+            writeln!(output, "{name}:")?;
+        }
+        let text = labelled_text_of(word, address, &targets);
+        print_word(output, address, word, text.as_str(), with_addresses)?;
     }
-    writeln!(output, "{line}")
+    Ok(())
+}
+
+fn print_word<W: Write>(
+    output: &mut W,
+    address: u16,
+    word: u32,
+    text: &str,
+    with_addresses: bool,
+) -> io::Result<()> {
+    if with_addresses {
+        write!(output, "{address:03x} {word:08x} ")?;
+    }
+    writeln!(output, "{text}")
 }

@@ -2,7 +2,7 @@ use rsp_asm::AsmFault;
 use thiserror::Error;
 
 /// Why the program ends with a fault. The text is that of its line on standard error.
-#[derive(Clone, Copy, Debug, PartialEq, Eq, Error)]
+#[derive(Debug, Error, Drop)]
 pub enum Fault<'a> {
     /// The value of `--at` is no multiple of 4 from 0 to 4092.
     #[error("invalid value '{0}' for '--at <ADDR>': not a multiple of 4 from 0 to 4092")]
@@ -19,9 +19,14 @@ pub enum Fault<'a> {
     /// The length of a file of words is no multiple of 4, or the words don't fit into IMEM from their address on.
     #[error("bad size")]
     WordsSize,
-    /// The source text has a fault.
-    #[error("{0}")]
-    Source(AsmFault),
+    /// The source text has a fault. Its explanation is empty if none is asked for.
+    #[error("{fault}{explanation}")]
+    Source {
+        /// The fault.
+        fault: AsmFault,
+        /// What is added to its line.
+        explanation: String,
+    },
     /// The source text isn't UTF-8.
     #[error("fault 33 NotText")]
     NotText,

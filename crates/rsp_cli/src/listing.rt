@@ -17,31 +17,31 @@ pub(crate) fn print_listing<W: Write>(
 ) -> io::Result<()>
     requires { origin ≤ 4096 }
 {
-    let mut place = origin;
+    let mut address = origin;
     let mut rest = words;
     for line in text.lines() {
-        let Ok(found) = read_line(alloc, line.as_bytes(), place) else {
+        let Ok(found) = read_line(alloc, line.as_bytes(), address) else {
             return Ok(());
         };
         if let Some(name) = found.label {
-            print_label(output, place, name)?;
+            print_label(output, address, name)?;
         }
         let (given, more) = rest.split_at(usize::from(found.size).min(rest.len()));
-        print_words(output, place, given, line.trim())?;
-        place += 4 * found.size;
+        print_words(output, address, given, line.trim())?;
+        address += 4 * found.size;
         rest = more;
     }
     Ok(())
 }
 
-fn print_label<W: Write>(output: &mut W, place: u16, name: &[u8]) -> io::Result<()> {
+fn print_label<W: Write>(output: &mut W, address: u16, name: &[u8]) -> io::Result<()> {
     let name = str::from_utf8(name).unwrap_or("");
-    writeln!(output, "{place:03x} {name}:")
+    writeln!(output, "{address:03x} {name}:")
 }
 
-fn print_words<W: Write>(output: &mut W, place: u16, words: &[u32], line: &str) -> io::Result<()> {
+fn print_words<W: Write>(output: &mut W, first: u16, words: &[u32], line: &str) -> io::Result<()> {
     for (index, &word) in words.iter().enumerate() {
-        let address = address_of(place, index);
+        let address = address_of(first, index);
         writeln!(output, "{address:03x} {word:08x} {line}")?;
     }
     Ok(())

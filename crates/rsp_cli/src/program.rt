@@ -33,17 +33,13 @@ pub fn work<F: FileStore, R: Read + Drop, W: Write + Drop, E: Write>(
     };
     let done = match asked {
         Request::Run(named) => run(alloc, &named, files, input, output),
-        Request::Assemble {
-            source,
-            out,
-            at,
-            with_listing,
-        } => assemble_file(alloc, files, source, out, at, with_listing, output),
+        Request::Assemble(named) => assemble_file(alloc, files, &named, output),
         Request::Disassemble {
             words,
             at,
             with_addresses,
-        } => disassemble_file(alloc, files, words, at, with_addresses, output),
+            with_labels,
+        } => disassemble_file(alloc, files, words, at, with_addresses, with_labels, output),
     };
     match done {
         Ok(()) => Status::Done,

@@ -34,7 +34,7 @@ enum Found {
 }
 
 /// What a new file has to replace for the file of this name to have other bytes: the file that its symbolic links lead to, or the
-/// free path. None if that is no regular file, if it has several names, if a link leads to nothing or stands for an open file.
+/// free path. None if that is no regular file, if it has several names, if a link leads to nothing or to an open file.
 pub(crate) fn target_of<R: Files + AllocGlobal>(
     runtime: &R,
     name: &str,

@@ -20,22 +20,28 @@ pub struct RunFiles<'a> {
     pub save: Option<&'a str>,
 }
 
+/// The files of an assembly, and what is printed of it.
+#[derive(Drop)]
+pub struct AssembleFiles<'a> {
+    /// The file of the source text.
+    pub source: &'a str,
+    /// The file that the words are written to.
+    pub out: &'a str,
+    /// The address of the first word in IMEM, as it was written; without it 0.
+    pub at: Option<&'a str>,
+    /// Whether each word is listed, with its address and its source line.
+    pub with_listing: bool,
+    /// Whether a fault of the text is explained.
+    pub with_explanation: bool,
+}
+
 /// What the command line requests.
 #[derive(Drop)]
 pub enum Request<'a> {
     /// `rsp run`: answering the script on standard input.
     Run(RunFiles<'a>),
     /// `rsp asm`: assembling a file of source text into a file of words.
-    Assemble {
-        /// The file of the source text.
-        source: &'a str,
-        /// The file that the words are written to.
-        out: &'a str,
-        /// The address of the first word in IMEM, as it was written; without it 0.
-        at: Option<&'a str>,
-        /// Whether each word is listed, with its address and its source line.
-        with_listing: bool,
-    },
+    Assemble(AssembleFiles<'a>),
     /// `rsp dis`: printing the disassembly of a file of words.
     Disassemble {
         /// The file of the words.
@@ -44,6 +50,8 @@ pub enum Request<'a> {
         at: Option<&'a str>,
         /// Whether each line begins with the address and the word.
         with_addresses: bool,
+        /// Whether the targets among the words are labels.
+        with_labels: bool,
     },
 }
 
@@ -65,8 +73,16 @@ fn file_option<'a>(alloc: Global, name: &'a str, about: &'a str) -> Arg<'a> {
         .help(about)
 }
 
+/// An option without a value.
+fn flag_option<'a>(alloc: Global, name: &'a str, about: &'a str) -> Arg<'a> {
+    Arg::new(alloc, name)
+        .long(name)
+        .action(ArgAction::SetTrue)
+        .help(about)
+}
+
 /// The address of the first word, as text. It is read and refused where it is used.
-fn place_option<'a>(alloc: Global) -> Arg<'a> {
+fn address_option<'a>(alloc: Global) -> Arg<'a> {
     Arg::new(alloc, "at")
         .long("at")
         .value_name("ADDR")
@@ -95,15 +111,17 @@ fn asm_command<'a>(alloc: Global) -> Result<Command<'a>, Error> {
             .about("Assembles a text, and writes its words with the high byte first")
             .arg(file_argument(alloc, "SRC", "The source text"))?
             .arg(file_argument(alloc, "OUT", "Where the words are written"))?
-            .arg(place_option(alloc))?
-            .arg(
-                Arg::new(alloc, "listing")
-                    .long("listing")
-                    .action(ArgAction::SetTrue)
-                    .help(
-                        "Prints the labels, and the address, the word and the source line of each word",
-                    ),
-            )?,
+            .arg(address_option(alloc))?
+            .arg(flag_option(
+                alloc,
+                "listing",
+                "Prints the labels, and the address, the word and the source line of each word",
+            ))?
+            .arg(flag_option(
+                alloc,
+                "explain",
+                "Shows the line of a fault, its operand, and what that may be",
+            ))?,
     )
 }
 
@@ -112,13 +130,17 @@ fn dis_command<'a>(alloc: Global) -> Result<Command<'a>, Error> {
         Command::new(alloc, "dis")
             .about("Prints the words of a file, the high byte first, as assembly text")
             .arg(file_argument(alloc, "FILE", "The words, at most 1024"))?
-            .arg(place_option(alloc))?
-            .arg(
-                Arg::new(alloc, "places")
-                    .long("places")
-                    .action(ArgAction::SetTrue)
-                    .help("Shows the place and the word before each text"),
-            )?,
+            .arg(address_option(alloc))?
+            .arg(flag_option(
+                alloc,
+                "places",
+                "Shows the place and the word before each text",
+            ))?
+            .arg(flag_option(
+                alloc,
+                "labels",
+                "Names the words that jumps and branches lead to",
+            ))?,
     )
 }
 
@@ -143,16 +165,18 @@ fn request_in<'a>(matches: &ArgMatches<'a>) -> Option<Request<'a>> {
             rdram: given.get_str("rdram"),
             save: given.get_str("save"),
         })),
-        "asm" => Some(Request::Assemble {
+        "asm" => Some(Request::Assemble(AssembleFiles {
             source: given.get_str("SRC")?,
             out: given.get_str("OUT")?,
             at: given.get_str("at"),
             with_listing: given.get_flag("listing"),
-        }),
+            with_explanation: given.get_flag("explain"),
+        })),
         "dis" => Some(Request::Disassemble {
             words: given.get_str("FILE")?,
             at: given.get_str("at"),
             with_addresses: given.get_flag("places"),
+            with_labels: given.get_flag("labels"),
         }),
         _ => None,
     }

@@ -8,7 +8,7 @@ use Rattle.std.specs.List.{slice_split, position_or_len, before_first, after_fir
 use Rattle.std.proofs.lemmas.List.Splits.{slice_split_first, slice_split_none, slice_split-cons_yes}
 use Rattle.std.proofs.lemmas.List.Sums.{fails_before_first, passes_at_first, prefix_len-le-length}
 use Rattle.rsp_syntax.specs.Chars.{is_blank, skip_blanks}
-use Rattle.rsp_commands.specs.Words.{is_word, words_in}
+use Rattle.rsp_commands.specs.LineWords.{is_word, words_in}
 
 -- a blank in front makes no word
 words-blank : (b : ℕ) (bs : List ℕ) → is_blank b ≡ true → words_in (b ∷ bs) ≡ words_in bs

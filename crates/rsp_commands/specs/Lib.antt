@@ -1,6 +1,6 @@
 -- From a line of a script to its command.
 pub mod Number
-pub mod Words
+pub mod LineWords
 pub mod Operand
 pub mod Command
 pub mod Line

@@ -2,7 +2,7 @@
 use Rattle.std.specs.Prelude.{ℕ, List, Bool, Result, Ok, Err, if◌then◌else◌, nat_le, ◌==◌, codes, length}
 use Rattle.std.specs.List.{list_all, before_first}
 use Rattle.rsp_syntax.specs.Chars.{is_line_byte, is_line}
-use Rattle.rsp_commands.specs.Words.{words_in, is_end}
+use Rattle.rsp_commands.specs.LineWords.{words_in, is_end}
 use Rattle.rsp_commands.specs.Command.{command_of_words}
 use Rattle.rsp_commands.specs.declared.command.Command.{Command}
 use Rattle.rsp_commands.specs.declared.command.Command.TheVariants.{BlockLine, End}

@@ -1,11 +1,11 @@
 ghost use Rattle.std.specs.Prelude.{◌≡◌, ◌≤◌, length, Ok, IfOk};
 ghost use Rattle.std.specs.List.{list_all};
 ghost use Rattle.rsp_syntax.specs.Chars.{is_line_byte};
-ghost use Rattle.rsp_commands.specs.Words.{words_in, is_end};
+ghost use Rattle.rsp_commands.specs.LineWords.{words_in, is_end};
 ghost use Rattle.rsp_commands.specs.Line.{block_command, command_of};
 ghost use Rattle.rsp_commands.specs.Command.{IsCommand};
 
-use crate::operands::Words;
+use crate::operands::LineWords;
 use crate::parse::parse_words;
 use crate::{Command, LineFault, SourceLine};
 use rsp_syntax::{MAX_LINE_LEN, has_line_bytes, is_line, len_before};
@@ -15,7 +15,7 @@ fn is_end(line: &[u8]) -> bool
     requires { length line.now ≤ 256 }
     ensures { result ≡ is_end (words_in line.now) }
 {
-    let mut words = Words::new(line);
+    let mut words = LineWords::new(line);
     match (words.next(), words.next()) {
         (Some(word), None) => word == b"end".as_slice(),
         _ => false,
@@ -62,5 +62,5 @@ pub fn parse_line(line: &[u8], in_block: bool) -> Result<Command, LineFault>
     if !has_line_bytes(line) {
         return Err(LineFault::NotText);
     }
-    parse_words(Words::new(&line[..len_before(b'#', line)]))
+    parse_words(LineWords::new(&line[..len_before(b'#', line)]))
 }

@@ -2,7 +2,7 @@
 
 ghost use Rattle.std.specs.Prelude.{◌≡◌, ℕ, List, [], ◌∷◌, ◌≤◌, ◌%◌, ◌<◌, length, Result, Ok, Err, IfOk, IfSome, MatchOption, MatchResult};
 ghost use Rattle.arrayvec.specs.ArrayVec.{array_vec_len};
-ghost use Rattle.rsp_commands.specs.Words.{words_in};
+ghost use Rattle.rsp_commands.specs.LineWords.{words_in};
 ghost use Rattle.rsp_commands.specs.Number.{number_of};
 ghost use Rattle.rsp_commands.specs.Operand.{bank_of, ranged_of, instruction_address_of, bytes_of};
 ghost use Rattle.rsp_commands.specs.Command.{IsCommand, without_operands, one_number, one_address, two_words, on_bank};
@@ -15,11 +15,11 @@ use std::marker::Model;
 
 /// The words that are left of a line of at most 256 bytes: its parts between whitespace. Contracts see them as a list.
 #[derive(Drop)]
-pub struct Words<'a> {
+pub struct LineWords<'a> {
     text: &'a [u8],
 }
 
-impl<'a> Model for Words<'a> {
+impl<'a> Model for LineWords<'a> {
     ghost Value = { List (List ℕ) };
 
     ghost view = { λ w. words_in w.text.now };
@@ -27,13 +27,13 @@ impl<'a> Model for Words<'a> {
     ghost invariant = { λ w. length w.text.now ≤ 256 };
 }
 
-impl<'a> Words<'a> {
+impl<'a> LineWords<'a> {
     /// The words of a line.
-    pub fn new(text: &'a [u8]) -> Words<'a>
+    pub fn new(text: &'a [u8]) -> LineWords<'a>
         requires { length text.now ≤ 256 }
         ensures { result ≡ words_in text.now }
     {
-        Words { text }
+        LineWords { text }
     }
 
     /// Takes the next word, if there is one.
@@ -124,7 +124,7 @@ pub fn bytes(word: &[u8]) -> Option<ArrayVec<u8, 128>>
 }
 
 /// The command, which takes no operands.
-pub(crate) fn without_operands(command: Command, mut words: Words) -> Result<Command, LineFault>
+pub(crate) fn without_operands(command: Command, mut words: LineWords) -> Result<Command, LineFault>
     requires { IsCommand command }
     ensures value { result ≡ without_operands command words.entry }
     ensures ranges { IfOk result IsCommand }
@@ -137,7 +137,7 @@ pub(crate) fn without_operands(command: Command, mut words: Words) -> Result<Com
 
 /// The only operand, a number from `low` to `high`.
 #[tactic(auto, unfolding(crate::specs::Command::one_number))]
-pub(crate) fn one_number(low: u32, high: u32, mut words: Words) -> Result<u32, LineFault>
+pub(crate) fn one_number(low: u32, high: u32, mut words: LineWords) -> Result<u32, LineFault>
     ensures value { result ≡ one_number low high words.entry }
     ensures range { IfOk result (λ n. n ≤ high) }
 {
@@ -149,7 +149,7 @@ pub(crate) fn one_number(low: u32, high: u32, mut words: Words) -> Result<u32, L
 
 /// The only operand, the address of an instruction.
 #[tactic(auto, unfolding(crate::specs::Command::one_address))]
-pub(crate) fn one_address(mut words: Words) -> Result<u16, LineFault>
+pub(crate) fn one_address(mut words: LineWords) -> Result<u16, LineFault>
     ensures value { result ≡ one_address words.entry }
     ensures range { IfOk result (λ n. (n ≤ 4092) × (n % 4 ≡ 0)) }
 {
@@ -160,7 +160,7 @@ pub(crate) fn one_address(mut words: Words) -> Result<u16, LineFault>
 }
 
 /// The two operands, as words.
-pub(crate) fn two_words(mut words: Words) -> Result<(&[u8], &[u8]), LineFault>
+pub(crate) fn two_words(mut words: LineWords) -> Result<(&[u8], &[u8]), LineFault>
     ensures words { (command : List ℕ → List ℕ → Result Command LineFault) → MatchResult result
         (λ w. two_words command words.entry ≡ command w.0.now w.1.now)
         (λ fault. two_words command words.entry ≡ Err fault) }
@@ -173,7 +173,7 @@ pub(crate) fn two_words(mut words: Words) -> Result<(&[u8], &[u8]), LineFault>
 }
 
 /// A bank, and the two operands after it, as words.
-pub(crate) fn on_bank(mut words: Words) -> Result<(Bank, &[u8], &[u8]), LineFault>
+pub(crate) fn on_bank(mut words: LineWords) -> Result<(Bank, &[u8], &[u8]), LineFault>
     ensures words { (command : Bank → List ℕ → List ℕ → Result Command LineFault) → MatchResult result
         (λ w. on_bank command words.entry ≡ command w.0 w.1.now w.2.now)
         (λ fault. on_bank command words.entry ≡ Err fault) }

@@ -4,7 +4,7 @@ ghost use Rattle.std.specs.Prelude.{◌≡◌, IfOk};
 ghost use Rattle.rsp_commands.specs.Command.{IsCommand, load, mem, write, dis, watch, command_of_words, command_named, debug_named, look_named};
 
 use crate::operands::{
-    Words, bytes, instruction_address, on_bank, one_address, one_number, ranged, two_words,
+    LineWords, bytes, instruction_address, on_bank, one_address, one_number, ranged, two_words,
     without_operands,
 };
 use crate::{Command, LineFault, Look};
@@ -14,7 +14,7 @@ const LAST_ADDRESS: u32 = 16_777_215;
 
 /// `load BANK ADDR HEX`
 #[tactic(auto, unfolding(crate::specs::Command::load))]
-fn parse_load(words: Words) -> Result<Command, LineFault>
+fn parse_load(words: LineWords) -> Result<Command, LineFault>
     ensures value { result ≡ load words.entry }
     ensures ranges { IfOk result IsCommand }
 {
@@ -31,7 +31,7 @@ fn parse_load(words: Words) -> Result<Command, LineFault>
 
 /// `mem BANK ADDR LEN`
 #[tactic(auto, unfolding(crate::specs::Command::mem))]
-fn parse_mem(words: Words) -> Result<Command, LineFault>
+fn parse_mem(words: LineWords) -> Result<Command, LineFault>
     ensures value { result ≡ mem words.entry }
     ensures ranges { IfOk result IsCommand }
 {
@@ -44,7 +44,7 @@ fn parse_mem(words: Words) -> Result<Command, LineFault>
 
 /// `write N VALUE`
 #[tactic(auto, unfolding(crate::specs::Command::write))]
-fn parse_write(words: Words) -> Result<Command, LineFault>
+fn parse_write(words: LineWords) -> Result<Command, LineFault>
     ensures value { result ≡ write words.entry }
     ensures ranges { IfOk result IsCommand }
 {
@@ -60,7 +60,7 @@ fn parse_write(words: Words) -> Result<Command, LineFault>
 
 /// `dis ADDR N`
 #[tactic(auto, unfolding(crate::specs::Command::dis))]
-fn parse_dis(words: Words) -> Result<Command, LineFault>
+fn parse_dis(words: LineWords) -> Result<Command, LineFault>
     ensures value { result ≡ dis words.entry }
     ensures ranges { IfOk result IsCommand }
 {
@@ -73,7 +73,7 @@ fn parse_dis(words: Words) -> Result<Command, LineFault>
 
 /// `watch ADDR LEN`
 #[tactic(auto, unfolding(crate::specs::Command::watch))]
-fn parse_watch(words: Words) -> Result<Command, LineFault>
+fn parse_watch(words: LineWords) -> Result<Command, LineFault>
     ensures value { result ≡ watch words.entry }
     ensures ranges { IfOk result IsCommand }
 {
@@ -86,7 +86,7 @@ fn parse_watch(words: Words) -> Result<Command, LineFault>
 
 /// The table's last part: the commands that show something.
 #[tactic(auto, unfolding(crate::specs::Command::look_named))]
-fn parse_look(name: &[u8], words: Words) -> Result<Command, LineFault>
+fn parse_look(name: &[u8], words: LineWords) -> Result<Command, LineFault>
     ensures value { result ≡ look_named name.now words.entry }
     ensures ranges { IfOk result IsCommand }
 {
@@ -111,7 +111,7 @@ fn parse_look(name: &[u8], words: Words) -> Result<Command, LineFault>
 
 /// The table's second part: the commands of the debugger.
 #[tactic(auto, unfolding(crate::specs::Command::debug_named))]
-fn parse_debug(name: &[u8], words: Words) -> Result<Command, LineFault>
+fn parse_debug(name: &[u8], words: LineWords) -> Result<Command, LineFault>
     ensures value { result ≡ debug_named name.now words.entry }
     ensures ranges { IfOk result IsCommand }
 {
@@ -139,7 +139,7 @@ fn parse_debug(name: &[u8], words: Words) -> Result<Command, LineFault>
 
 /// The command of a name and its operands. The table's first part: the commands of the machine, and `asm`.
 #[tactic(auto, unfolding(crate::specs::Command::command_named))]
-fn parse_command(name: &[u8], words: Words) -> Result<Command, LineFault>
+fn parse_command(name: &[u8], words: LineWords) -> Result<Command, LineFault>
     ensures value { result ≡ command_named name.now words.entry }
     ensures ranges { IfOk result IsCommand }
 {
@@ -171,7 +171,7 @@ fn parse_command(name: &[u8], words: Words) -> Result<Command, LineFault>
 /// `BadCommand` for an unknown name, a wrong count of operands or a wrong bank; else `BadNumber` for an operand that is no
 /// number, or out of its range.
 #[tactic(auto, unfolding(crate::specs::Command::command_of_words))]
-pub fn parse_words(mut words: Words) -> Result<Command, LineFault>
+pub fn parse_words(mut words: LineWords) -> Result<Command, LineFault>
     ensures value { result ≡ command_of_words words.entry }
     ensures ranges { IfOk result IsCommand }
 {

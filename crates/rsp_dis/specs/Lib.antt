@@ -1,3 +1,6 @@
--- Scaffolding of the disassembler: how long its texts are, and which bytes they have.
+-- The disassembly of words with labels. Scaffolding of the disassembler: how long its texts are, which bytes they have, and which
+-- addresses have labels.
+pub mod Labels
+pub mod LabelTests
 pub mod TextLength
 pub mod NoSeparators

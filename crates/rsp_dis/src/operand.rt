@@ -4,6 +4,7 @@ ghost use Rattle.std.specs.Prelude.{◌≡◌, ◌<◌, ◌≤◌, ◌+◌, ◌*
 ghost use Rattle.arrayvec.specs.ArrayString.{array_string_len};
 ghost use Rattle.rsp_decode.specs.Table.{value_at, whole, byte_bits, is_row_operand};
 ghost use Rattle.rsp_syntax.specs.Disassembly.{hex, target, has_text, operand_text, scalar_name, vector_name, sp_name, target_text};
+ghost use Rattle.rsp_dis.specs.Labels.{operand_target};
 
 use crate::line::Line;
 use crate::numbers::{
@@ -70,6 +71,18 @@ pub fn has_text(kind: Operand, word: u32, address: u16) -> bool
     match kind {
         Operand::BranchTarget => target(address, low_half(word)).is_some(),
         _ => true,
+    }
+}
+
+/// The address that an operand leads to: the target of a jump, or of a branch if that is in IMEM.
+pub fn operand_target(kind: Operand, word: u32, address: u16) -> Option<u16>
+    requires { address < 4096 }
+    ensures { result ≡ operand_target word address kind }
+{
+    match kind {
+        Operand::JumpTarget => Some((4 * (word & 0x3ff)) as u16),
+        Operand::BranchTarget => target(address, low_half(word)),
+        _ => None,
     }
 }
 

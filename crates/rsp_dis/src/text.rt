@@ -1,15 +1,18 @@
 // The disassembly of a word.
 
-ghost use Rattle.std.specs.Prelude.{◌≡◌, ◌<◌, ◌≤◌, ◌+◌, ◌*◌, ◌++◌, true, map, length};
+ghost use Rattle.std.specs.Prelude.{◌≡◌, ◌<◌, ◌≤◌, ◌+◌, ◌*◌, ◌++◌, ◌∷◌, true, map, option_map, length};
 ghost use Rattle.std.specs.List.{list_all};
 ghost use Rattle.arrayvec.specs.ArrayString.{array_string_len};
 ghost use Rattle.rsp_decode.specs.Table.{entry, is_row_operand};
-ghost use Rattle.rsp_syntax.specs.Disassembly.{has_text, operand_text, more_operands, operands_after_name, word_directive, disassembly};
+ghost use Rattle.rsp_syntax.specs.Disassembly.{has_text, more_operands, operands_after_name, word_directive, disassembly};
+ghost use Rattle.rsp_dis.specs.Labels.{label_name, labelled_operand, labelled_disassembly};
+ghost use Rattle.rsp_dis.specs.LabelTests.{labels_in, marked};
 ghost use Rattle.rsp_dis.specs.TextLength.{is_short};
 
 use crate::line::Line;
-use crate::numbers::push_hex4;
-use crate::operand::{has_text, push_operand};
+use crate::numbers::{push_hex3, push_hex4};
+use crate::operand::{has_text, operand_target, push_operand};
+use crate::targets::Targets;
 use rsp_decode::{Operand, TableRow, is_canonical};
 use rsp_syntax::select_row;
 
@@ -26,42 +29,77 @@ fn have_texts(kinds: &[Operand], word: u32, address: u16) -> bool
     true
 }
 
+/// Appends the name of an address's label.
+fn push_label(line: &mut Line, address: u16)
+    requires room { array_string_len line.old + 4 ≤ 64 }
+    ensures bytes { line.new.bytes ≡ line.old.bytes ++ label_name address }
+    ensures len { array_string_len line.new ≡ array_string_len line.old + 4 }
+{
+    line.push_str("L");
+    push_hex3(line, u32::from(address));
+}
+
+/// Appends an operand, or the name of the label that it leads to.
+fn push_named(line: &mut Line, kind: Operand, word: u32, address: u16, labels: Option<&Targets>)
+    requires kind { is_row_operand kind ≡ true }
+    requires address { address < 4096 }
+    requires room { array_string_len line.old + 11 ≤ 64 }
+    ensures bytes { line.new.bytes ≡ line.old.bytes ++ labelled_operand (labels_in (option_map (λ t. t.now) labels.entry)) word address kind }
+    ensures len { array_string_len line.new ≤ array_string_len line.old + 11 }
+{
+    if let Some(labels) = labels {
+        if let Some(target) = operand_target(kind, word, address) {
+            if labels.contains(target) {
+                push_label(line, target);
+                return;
+            }
+        }
+    }
+    push_operand(line, kind, word, address);
+}
+
 /// Appends the operands after the first, each after a comma and a space.
-fn push_more(line: &mut Line, kinds: &[Operand], word: u32, address: u16)
+fn push_more(line: &mut Line, kinds: &[Operand], word: u32, address: u16, labels: Option<&Targets>)
     requires kinds { list_all is_row_operand kinds.now ≡ true }
     requires address { address < 4096 }
     requires room { array_string_len line.old + 13 * length kinds.now ≤ 64 }
-    ensures { line.new.bytes ≡ line.old.bytes ++ more_operands (map (operand_text word address) kinds.now) }
+    ensures { line.new.bytes ≡ line.old.bytes ++ more_operands (map (labelled_operand (labels_in (option_map (λ t. t.now) labels.entry)) word address) kinds.now) }
 {
     for kind in kinds {
         line.push_str(", ");
-        push_operand(line, *kind, word, address);
+        push_named(line, *kind, word, address, labels);
     }
 }
 
 /// Appends the operands after a name.
-fn push_operands(line: &mut Line, kinds: &[Operand], word: u32, address: u16)
+fn push_operands(
+    line: &mut Line,
+    kinds: &[Operand],
+    word: u32,
+    address: u16,
+    labels: Option<&Targets>,
+)
     requires kinds { list_all is_row_operand kinds.now ≡ true }
     requires address { address < 4096 }
     requires room { array_string_len line.old + 13 * length kinds.now ≤ 64 }
-    ensures { line.new.bytes ≡ line.old.bytes ++ operands_after_name (map (operand_text word address) kinds.now) }
+    ensures { line.new.bytes ≡ line.old.bytes ++ operands_after_name (map (labelled_operand (labels_in (option_map (λ t. t.now) labels.entry)) word address) kinds.now) }
 {
     if let [first, more @ ..] = kinds {
         line.push_str(" ");
-        push_operand(line, *first, word, address);
-        push_more(line, more, word, address);
+        push_named(line, *first, word, address, labels);
+        push_more(line, more, word, address, labels);
     }
 }
 
 /// A word as an instruction.
-fn row_line(row: TableRow, word: u32, address: u16) -> Line
+fn row_line(row: TableRow, word: u32, address: u16, labels: Option<&Targets>) -> Line
     requires row { is_short (entry row) ≡ true }
     requires address { address < 4096 }
-    ensures { result.bytes ≡ row.name.now ++ operands_after_name (map (operand_text word address) row.operands.now) }
+    ensures { result.bytes ≡ row.name.now ++ operands_after_name (map (labelled_operand (labels_in (option_map (λ t. t.now) labels.entry)) word address) row.operands.now) }
 {
     let mut line = Line::new();
     line.push_str(row.name);
-    push_operands(&mut line, row.operands, word, address);
+    push_operands(&mut line, row.operands, word, address, labels);
     line
 }
 
@@ -76,6 +114,24 @@ fn plain_line(word: u32) -> Line
     line
 }
 
+/// The disassembly of a word, with the labels if there are some.
+fn word_line(word: u32, address: u16, labels: Option<&Targets>) -> Line
+    requires { address < 4096 }
+    ensures { result.bytes ≡ labelled_disassembly (labels_in (option_map (λ t. t.now) labels.entry)) word address }
+{
+    if word == 0 {
+        let mut line = Line::new();
+        line.push_str("nop");
+        return line;
+    }
+    match select_row(word) {
+        Some(row) if is_canonical(word) && have_texts(row.operands, word, address) => {
+            row_line(row, word, address, labels)
+        }
+        _ => plain_line(word),
+    }
+}
+
 /// The canonical disassembly of a word at `address`, a byte address in IMEM below 4096. Assembled at the same address, a multiple
 /// of 4, it gives the word back.
 ///
@@ -87,15 +143,24 @@ pub fn text_of(word: u32, address: u16) -> Line
     requires { address < 4096 }
     ensures { result.bytes ≡ disassembly word address }
 {
-    if word == 0 {
-        let mut line = Line::new();
-        line.push_str("nop");
-        return line;
-    }
-    match select_row(word) {
-        Some(row) if is_canonical(word) && have_texts(row.operands, word, address) => {
-            row_line(row, word, address)
-        }
-        _ => plain_line(word),
-    }
+    word_line(word, address, None)
+}
+
+/// The disassembly of a word at `address`, as of [`text_of`], with the name of the label as the operand that leads to one of these
+/// targets.
+pub fn labelled_text_of(word: u32, address: u16, targets: &Targets) -> Line
+    requires { address < 4096 }
+    ensures { result.bytes ≡ labelled_disassembly (marked targets.now) word address }
+{
+    word_line(word, address, Some(targets))
+}
+
+/// The name of the label of an address in IMEM: `L` and three hexadecimal digits. No disassembly has such a word.
+pub fn label_of(address: u16) -> Line
+    requires { address < 4096 }
+    ensures { result.bytes ≡ label_name address }
+{
+    let mut line = Line::new();
+    push_label(&mut line, address);
+    line
 }

@@ -2,6 +2,8 @@
 //!
 //! An assembler calls this crate in both of its passes: `is_out_of_range` in the first, when not all labels are known, and
 //! `put_operand` in the second. Each reads the operand's text anew, so nothing has to be stored between the passes.
+//!
+//! It is apart since the check of `rsp_asm` would take twice as long with it.
 #![tactic(auto)]
 
 mod fields;

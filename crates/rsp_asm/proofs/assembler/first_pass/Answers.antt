@@ -3,7 +3,7 @@ use Rattle.std.specs.Prelude.{is_some}
 use Rattle.std.specs.Str.Lines.{lines}
 use Rattle.rsp_syntax.specs.SourceText.{labels_before, labelled, address_of_line, fault_before}
 use Rattle.rsp_operands.specs.Labels.{SameAddresses}
-use Rattle.rsp_asm.proofs.Passes.{Done, done_more, done_fault, done_all, done_short, on_ok, on_err, fault_means}
+use Rattle.rsp_asm.proofs.Passes.{Done, done_more, done_fault, done_all, done_short, on_ok, on_err}
 use Rattle.rsp_asm.proofs.assembler.first_pass.Goals as goal
 
 pub returns-in-Err-clause-err : goal.returns-in-Err-clause-err
@@ -14,7 +14,7 @@ returns-in-Err-clause-err c =
     let table = c.loop-line.labels in
     let done : Done c.args.origin c.loop-line.number ls (line ∷ more) table c.loop-line.address =
     subst (λ (left : List (List ℕ)). Done c.args.origin c.loop-line.number ls left table c.loop-line.address) c.in-Some.ensures.0 c.loop-line.invariant.0 in
-    inl (fault_means c.args.origin ls _ (done_fault c.args.origin c.loop-line.number ls line more table c.loop-line.address done c.in-Err.kind c.in-Err.ensures.err))
+    inl (done_fault c.args.origin c.loop-line.number ls line more table c.loop-line.address done c.in-Err.kind c.in-Err.ensures.err)
 
 pub loop-line-preserved : goal.loop-line-preserved
 loop-line-preserved c =
@@ -53,7 +53,7 @@ returns-clause-room c =
     let table = c.loop-line.labels in
     let done : Done c.args.origin c.loop-line.number ls [] table c.loop-line.address =
     subst (λ (left : List (List ℕ)). Done c.args.origin c.loop-line.number ls left table c.loop-line.address) c.in_default.ensures c.loop-line.invariant.0 in
-    let at : c.loop-line.address ≡ address_of_line c.args.origin ls (length ls) = done.place_is ∙ ap (address_of_line c.args.origin ls) (done_all c.args.origin c.loop-line.number ls table c.loop-line.address done) in
+    let at : c.loop-line.address ≡ address_of_line c.args.origin ls (length ls) = done.address_is ∙ ap (address_of_line c.args.origin ls) (done_all c.args.origin c.loop-line.number ls table c.loop-line.address done) in
     subst (λ p. p ≤ 4096) at c.loop-line.invariant.1
 
 pub returns-then-is_err-clause-err : goal.returns-then-is_err-clause-err

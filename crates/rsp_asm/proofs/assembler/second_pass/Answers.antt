@@ -1,7 +1,7 @@
 use Rattle.std.proofs.Common.{ap, subst, arith, ◌+◌, ◌*◌, ◌∷◌, List, ℕ, drop}
 use Rattle.std.specs.Str.Lines.{lines}
 use Rattle.arrayvec.specs.ArrayVec.{array_vec_len}
-use Rattle.rsp_asm.proofs.Passes.{Written, written_more, written_fault, written_all, written_place, written_room}
+use Rattle.rsp_asm.proofs.Passes.{Written, written_more, written_fault, written_all, written_address, written_room}
 use Rattle.rsp_asm.proofs.assembler.second_pass.Goals as goal
 
 pub overflow_add-address : goal.overflow_add-address
@@ -60,6 +60,6 @@ returns-clause-room c =
     let ls = lines c.args.text.now in
     let table = c.args.labels.now in
     let count = array_vec_len c.loop-line.words in
-    let address = written_place c.args.origin c.loop-line.number ls table count c.loop-line.words.items
+    let address = written_address c.args.origin c.loop-line.number ls table count c.loop-line.words.items
     (subst (λ (left : List (List ℕ)). Written c.args.origin c.loop-line.number ls left table count c.loop-line.words.items) c.in_default.ensures c.loop-line.invariant.0) in
     omega (arith, address, c.requires)
