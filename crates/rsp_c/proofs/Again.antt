@@ -1,13 +1,13 @@
 -- What C gets it can set, and what it sets it gets.
-use Rattle.std.proofs.Common.{◌≡◌, ◌<◌, ◌≤◌, ℕ, zero, suc, ◌+◌, ◌*◌, ◌/◌, ◌%◌, Bool, true, false, cond, List, [], ◌∷◌, length, take, drop, ◌++◌, get_or, pos, refl, ap, sym, ◌∙◌, arith, Option, None}
+use Rattle.std.proofs.Common.{◌≡◌, ◌<◌, ◌≤◌, ℕ, zero, suc, ◌+◌, ◌*◌, ◌/◌, ◌%◌, Bool, true, false, cond, List, [], ◌∷◌, length, take, drop, ◌++◌, get_or, pos, refl, ap, sym, subst, ◌∙◌, arith, Option, None}
 use Rattle.std.specs.Prelude.{◌==◌, nat_le, slice_index}
 use Rattle.std.specs.Simd.Lanes.{mask_l}
 use Rattle.std.proofs.lemmas.Simd.{bit_mask_l}
-use Rattle.std.proofs.lemmas.List.{length-take-le, length-drop, get_or-take, get_or-drop, take-append-drop}
+use Rattle.std.proofs.lemmas.List.{length-take-le, length-drop, take-append-drop}
 use Rattle.std.proofs.lemmas.Bool.Decides.{nat_tests}
 use Rattle.rsp_numbers.specs.Numbers.{bit_set, number, high, middle, low}
 use Rattle.rsp_lanes.specs.Lanes.{each_lane}
-use Rattle.rsp_lanes.proofs.Kit.{eta, each_same, lane_of}
+use Rattle.rsp_lanes.proofs.Kit.{eight, eta, each_same, lane_of}
 use Rattle.rsp_acc.specs.Planes.{joined}
 use Rattle.rsp_numbers.proofs.Join.{high_join, middle_join, low_join}
 use Rattle.rsp_loadstore.specs.Controls.{flags_of_bits}
@@ -310,33 +310,16 @@ status-again w i h =
     )
 
 -- lists of sixteen
-sixteen-again : (xs : List ℕ) → length xs ≡ 16
-    → slice_index xs 0 ∷ slice_index xs 1 ∷ slice_index xs 2 ∷ slice_index xs 3 ∷ slice_index xs 4 ∷ slice_index xs 5 ∷ slice_index xs 6 ∷ slice_index xs 7
+abbrev sixteen : List ℕ → List ℕ
+sixteen xs =
+    slice_index xs 0 ∷ slice_index xs 1 ∷ slice_index xs 2 ∷ slice_index xs 3 ∷ slice_index xs 4 ∷ slice_index xs 5 ∷ slice_index xs 6 ∷ slice_index xs 7
     ∷ slice_index xs 8 ∷ slice_index xs 9 ∷ slice_index xs 10 ∷ slice_index xs 11 ∷ slice_index xs 12 ∷ slice_index xs 13 ∷ slice_index xs 14 ∷ slice_index xs 15 ∷ []
-    ≡ xs
+
+sixteen-again : (xs : List ℕ) → length xs ≡ 16 → sixteen xs ≡ xs
 sixteen-again xs n =
-    let front = words-again (take 8 xs) (length-take-le 8 xs (omega (arith, n))) in
-    let back = words-again (drop 8 xs) (length-drop 8 xs ∙ omega (arith, n)) in
-    let joined = ap (λ ys. ys ++ drop 8 xs) front ∙ take-append-drop 8 xs in
-    rw (
-      get_or-take 8 xs 0 0 (omega arith),
-      get_or-take 8 xs 1 0 (omega arith),
-      get_or-take 8 xs 2 0 (omega arith),
-      get_or-take 8 xs 3 0 (omega arith),
-      get_or-take 8 xs 4 0 (omega arith),
-      get_or-take 8 xs 5 0 (omega arith),
-      get_or-take 8 xs 6 0 (omega arith),
-      get_or-take 8 xs 7 0 (omega arith),
-      ← back,
-      get_or-drop 8 xs 0 0,
-      get_or-drop 8 xs 1 0,
-      get_or-drop 8 xs 2 0,
-      get_or-drop 8 xs 3 0,
-      get_or-drop 8 xs 4 0,
-      get_or-drop 8 xs 5 0,
-      get_or-drop 8 xs 6 0,
-      get_or-drop 8 xs 7 0,
-    ) at joined
+    subst (λ ys. sixteen ys ≡ ys) (take-append-drop 8 xs) (eight (λ f. sixteen (f ++ drop 8 xs) ≡ f ++ drop 8 xs) (λ a b c d e f g h.
+    eight (λ r. sixteen (a ∷ b ∷ c ∷ d ∷ e ∷ f ∷ g ∷ h ∷ r) ≡ a ∷ b ∷ c ∷ d ∷ e ∷ f ∷ g ∷ h ∷ r) (λ i j k l m o p q. refl) (drop 8 xs) (length-drop 8 xs ∙ omega (arith, n)))
+    (take 8 xs) (length-take-le 8 xs (omega (arith, n))))
 
 eq-of : (a b : ℕ) → (a == b) ≡ true → a ≡ b
 eq-of a b e = grind (arith, nat_tests)

@@ -1,23 +1,15 @@
 -- The steps of a handle's walks. Assumes `Logic`.
-use mathlib.Core.Path.{◌≡◌, refl, subst}
-use mathlib.Core.List.{List, [], ◌∷◌, ◌++◌}
+use Rattle.rsp_c.proofs.Walks.{◌≡◌, refl, subst, List, [], ◌∷◌, ◌++◌, Ura, bare, Val, vcons, vnil, vstruct, of_list, SProp, ent, never, fst∗, Logic, sem, Item, Goal, Seq, ‵, ◌$◌, move, drop, use1, fsplit, fjoin, fpick, feq_i, feq_l, Ptr, RawPtr, block_ptr, null_ptr, ptr_val, in_a_block, nothing, Option, None, Some}
 use Prim.Native.Nat.{ℕ}
-use seplogic.Ra.Ura.{Ura}
-use mir.Raw.{raw as bare}
-use mir.Val.{Val, vstruct, vcons, vnil, of_list}
 use base.Fraction.{full_share}
-use base.Logic.{SProp, ent, guard, never, fst∗, snd∗, via, guard_i}
-use types.Logic.{Logic, sem}
-use types.Kit.{Item, Goal, Seq, Step, step, ‵, given, ◌$◌, move, drop, fsplit, fjoin, fpick, fpack, feq_l, feq_i, learn, use1}
+use base.Logic.{guard, snd∗, via, guard_i}
 use contract.Monad.{fact_use}
-use denote.RattleType.{Valss}
-use denote.Builtin.{RawPtr}
 use denote.Memory.{lone}
-use denote.RawPtr.{Ptr, block_ptr, null_ptr, ptr_val, in_a_block, lies_at, Testable}
-use denote.Steps.{nothing}
+use denote.RattleType.{Valss}
+use denote.RawPtr.{lies_at, Testable}
 use denote.Struct.Struct.{within}
 use denote.Struct.Owning.{shape}
-use Rattle.std.specs.Prelude.{Option, None, Some}
+use types.Kit.{Step, step, given, fpack, learn}
 use Rattle.std.specs.Box.Ownership.{box_owns}
 use Rattle.std.specs.Global.{Global}
 use Rattle.std.proofs.GlobalToken.{dealloc_token-Testable}

@@ -3,4 +3,5 @@ pub mod Fields
 pub mod Holding
 pub mod Again
 pub mod Lines
+pub mod Walks
 pub mod Words

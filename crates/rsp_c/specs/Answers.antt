@@ -49,7 +49,7 @@ is_imem_address n = nat_lt n 4096 && n % 4 == 0
 
 -- a new pc
 abbrev pub address_status : ℕ → ℕ
-address_status place = if is_imem_address place then 0 else 3
+address_status address = if is_imem_address address then 0 else 3
 
 -- a task's start
 abbrev pub task_status : Option TaskFault → ℕ
@@ -64,11 +64,11 @@ break_fault_status (Some breaking.BreakFull) = 9
 break_fault_status (Some breaking.BreakTwice) = 10
 
 abbrev pub add_break_status : ℕ → List Bool → ℕ
-add_break_status place breaks = if is_imem_address place then break_fault_status (break_fault place breaks) else 3
+add_break_status address breaks = if is_imem_address address then break_fault_status (break_fault address breaks) else 3
 
 -- a breakpoint that is dropped
 abbrev pub drop_break_status : ℕ → List Bool → ℕ
-drop_break_status place breaks = if is_imem_address place then (if is_break breaks place then 0 else 11) else 3
+drop_break_status address breaks = if is_imem_address address then (if is_break breaks address then 0 else 11) else 3
 
 -- a new watch
 abbrev pub add_watch_status : Result ℕ WatchFault → ℕ

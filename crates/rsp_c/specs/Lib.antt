@@ -1,5 +1,7 @@
 pub mod Answers
 pub mod Bytes
+pub mod Calls
+pub mod Explained
 pub mod Faults
 pub mod Holding
 pub mod Laws

@@ -91,11 +91,11 @@ c_divider d = record { input = d.input; output = d.output; loaded = bit d.loaded
 
 -- the word at an address, with its disassembly and zeros after it
 abbrev pub c_line : ℕ → ℕ → RspLine
-c_line word place = record {
+c_line word address = record {
   word = word;
-  place = place;
-  len = length (disassembly word place);
-  text = disassembly word place ++ replicate (68 - length (disassembly word place)) 0;
+  place = address;
+  len = length (disassembly word address);
+  text = disassembly word address ++ replicate (68 - length (disassembly word address)) 0;
 }
 
 -- a text has at most 64 bytes, and a zero after it
@@ -104,7 +104,7 @@ IsEnded l = (l.len ≤ 64) × (slice_index l.text l.len ≡ 0)
 
 -- the n words of IMEM from an address on
 unfoldable pub c_lines : List ℕ → ℕ → ℕ → List RspLine
-c_lines imem place n = map (λ i. c_line (word_at imem (place + 4 * i)) (place + 4 * i)) (range_with_len 0 n)
+c_lines imem address n = map (λ i. c_line (word_at imem (address + 4 * i)) (address + 4 * i)) (range_with_len 0 n)
 
 -- the report on an assembly: how many words there are; a fault of the text; no memory for the label of a line; bytes that are no UTF-8
 abbrev pub assembled_words : ℕ → RspAssembled

@@ -1,4 +1,4 @@
-// The structs of `c/rsp.h`.
+// The structs of `library/c/rsp.h`.
 
 /// Where a run stopped.
 #[repr(C)]

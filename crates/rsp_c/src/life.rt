@@ -5,13 +5,12 @@ ghost use Rattle.rsp_machine.specs.State.{start_of};
 ghost use Rattle.rsp_memory.specs.Image.{IsImageLength};
 ghost use Rattle.rsp_debug.specs.Debugging.{debugging_of};
 
-use crate::copies::copy_of;
-use crate::handle::Handle;
-use crate::instance::Instance;
+use crate::handle::{Handle, with_debugger};
 use crate::status::{NO_MACHINE, NO_MEMORY, OK, OUT_OF_RANGE};
+use rsp_acc::{Acc, PlaneAcc};
 use rsp_debug::Debugger;
 use rsp_machine::Machine;
-use rsp_memory::Rdram;
+use rsp_memory::{Bank, Rdram};
 use std::alloc::{AllocError, Global};
 
 /// The version of the interface: a call, a struct or a number that changes its meaning raises it.
@@ -32,15 +31,15 @@ fn is_image_length(n: usize) -> bool
     n >= 64 && n <= 0x80_0000 && n % 8 == 0
 }
 
-/// A machine with a copy of an image of the RDRAM, and a history of `depth` states. AllocError if out of memory.
+/// A debugger of a machine with a copy of an image of the RDRAM, and a history of `depth` states. AllocError if out of memory.
 #[inline(always)]
-pub(crate) fn new_instance(
+fn new_debugger(
     alloc: Global,
     image: &[u8],
     depth: usize,
-) -> Result<Box<Instance, Global>, AllocError>
+) -> Result<Box<Debugger<PlaneAcc>, Global>, AllocError>
     requires { IsImageLength (length image.now) }
-    ensures { IfOk result (λ session. session.value ≡ debugging_of depth (start_of image.now)) }
+    ensures { IfOk result (λ debugger. debugger.value ≡ debugging_of depth (start_of image.now)) }
 {
     let Ok(rdram) = Rdram::from_bytes(Vec::from_slice(alloc, image)?) else {
         unreachable!()
@@ -48,9 +47,9 @@ pub(crate) fn new_instance(
     let Ok(debugger) = Debugger::try_new(alloc, Machine::new(rdram), depth) else {
         return Err(AllocError);
     };
-    match Box::new(alloc, Instance { debugger }) {
+    match Box::new(alloc, debugger) {
         Err(_) => Err(AllocError),
-        Ok(session) => Ok(session),
+        Ok(debugger) => Ok(debugger),
     }
 }
 
@@ -66,13 +65,44 @@ pub extern "C" fn rsp_new(handle: &mut Handle, alloc: Global, image: &[u8], dept
     if depth > 4096 || !is_image_length(image.len()) {
         return OUT_OF_RANGE;
     }
-    match new_instance(alloc, image, depth as usize) {
+    match new_debugger(alloc, image, depth as usize) {
         Err(_) => NO_MEMORY,
-        Ok(session) => {
-            handle.put(session);
+        Ok(debugger) => {
+            handle.put(debugger);
             OK
         }
     }
+}
+
+/// Puts the state of a machine into a debugger that was just made, with the same image.
+#[inline(always)]
+fn put_state<A: Acc>(to: &mut Debugger<A>, machine: &Machine<A>)
+    requires { to.old ≡ debugging_of to.old.depth (start_of machine.now.rdram) }
+    ensures { to.new ≡ debugging_of to.old.depth machine.now }
+{
+    let Ok(()) = to.load_bytes(Bank::Dmem, 0, machine.dmem().bytes()) else {
+        unreachable!()
+    };
+    let Ok(()) = to.load_bytes(Bank::Imem, 0, machine.imem().bytes()) else {
+        unreachable!()
+    };
+    let Ok(()) = to.set_all_registers(&machine.all_registers()) else {
+        unreachable!()
+    };
+}
+
+/// A debugger of a machine in the same state, with as long a history, which is empty, and without breakpoints and watches. AllocError if
+/// there is no memory for it.
+#[inline(always)]
+fn copy_of(
+    debugger: &Debugger<PlaneAcc>,
+    alloc: Global,
+) -> Result<Box<Debugger<PlaneAcc>, Global>, AllocError>
+    ensures { IfOk result (λ copy. copy.value ≡ debugging_of debugger.now.depth debugger.now.state) }
+{
+    let mut copy = new_debugger(alloc, debugger.machine().rdram().bytes(), debugger.depth())?;
+    put_state(&mut copy, debugger.machine());
+    Ok(copy)
 }
 
 /// Makes in `to` a second machine in the same state, memories included, with as long a history, which is empty, and without breakpoints and
@@ -85,18 +115,13 @@ pub extern "C" fn rsp_copy(to: &mut Handle, alloc: Global, from: &mut Handle) ->
     ensures kept { from.new.session ≡ from.old.session }
     ensures same { (result ≡ OK → ⊥) → to.new.session ≡ to.old.session }
 {
-    let Some(session) = from.take(alloc) else {
-        return NO_MACHINE;
-    };
-    let copy = copy_of(&session.debugger, alloc);
-    from.put(session);
-    match copy {
+    with_debugger!(from, alloc, |debugger| match copy_of(&debugger, alloc) {
         Err(_) => NO_MEMORY,
-        Ok(session) => {
-            to.put(session);
+        Ok(copy) => {
+            to.put(copy);
             OK
         }
-    }
+    })
 }
 
 /// Frees the machine, if the handle holds one. It holds none afterwards.

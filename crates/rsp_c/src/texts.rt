@@ -1,17 +1,18 @@
 // Texts: from a source to words, and from words to their disassembly.
 
-ghost use Rattle.std.specs.Prelude.{◌≡◌, ◌+◌, ◌-◌, ◌*◌, ◌++◌, ◌<◌, ◌≤◌, ◌%◌, ◌↔◌, ◌⊎◌, All, Ok, IfSome, IfNone, MatchResult, length, take, drop, replicate};
+ghost use Rattle.std.specs.Prelude.{◌≡◌, ◌+◌, ◌-◌, ◌*◌, ◌++◌, ◌<◌, ◌≤◌, ◌%◌, ◌↔◌, ◌⊎◌, All, Ok, MatchResult, length, take, drop, replicate};
 ghost use Rattle.std.specs.Str.{IsUtf8};
 ghost use Rattle.std.specs.Str.Lines.{lines};
 ghost use Rattle.rsp_syntax.specs.SourceText.{meaning_of_text};
 ghost use Rattle.rsp_asm.specs.AssembleFaults.{HidesNoFault};
 ghost use Rattle.rsp_c.specs.Answers.{fault_number, address_status};
+ghost use Rattle.rsp_c.specs.Calls.{IsDoneIf, IsFilled};
 ghost use Rattle.rsp_c.specs.ToC.{c_line, c_lines, IsEnded, assembled_words, assembled_fault, assembled_no_memory, assembled_no_text};
 
 use crate::c_structs::{RspAssembled, RspLine};
-use crate::handle::Handle;
+use crate::handle::{Handle, with_debugger};
 use crate::status::{
-    NO_MACHINE, NO_MEANING, NO_MEMORY, NO_ROOM, OK, OUT_OF_RANGE, fault_number, is_imem_address,
+    NO_MEANING, NO_MEMORY, NO_ROOM, OK, OUT_OF_RANGE, fault_number, is_imem_address,
 };
 use rsp_asm::{AsmFaultKind, assemble};
 use rsp_dis::text_of;
@@ -99,17 +100,17 @@ fn padded(bytes: &[u8]) -> [u8; 68]
 }
 
 /// A word of IMEM with its disassembly.
-fn line_of(word: u32, place: u16) -> RspLine
-    requires { place < 4096 }
-    ensures value { result ≡ c_line word place }
+fn line_of(word: u32, address: u16) -> RspLine
+    requires { address < 4096 }
+    ensures value { result ≡ c_line word address }
     ensures ended { IsEnded result }
 {
-    let line = text_of(word, place);
+    let line = text_of(word, address);
     let bytes = line.as_str().as_bytes();
     let text = padded(bytes);
     RspLine {
         word,
-        place,
+        place: address,
         len: bytes.len() as u16,
         text,
     }
@@ -117,28 +118,28 @@ fn line_of(word: u32, place: u16) -> RspLine
 
 /// Disassembles a word for an address of IMEM, a multiple of 4 below 4096. The text has at most 64 bytes, and a zero after it.
 #[unsafe(no_mangle)]
-pub extern "C" fn rsp_text(word: u32, place: u32, out: &mut RspLine) -> u32
-    ensures answer { result ≡ address_status place }
-    ensures value { result ≡ OK → out.new ≡ c_line word place }
+pub extern "C" fn rsp_text(word: u32, address: u32, out: &mut RspLine) -> u32
+    ensures answer { result ≡ address_status address }
+    ensures value { result ≡ OK → out.new ≡ c_line word address }
     ensures ended { result ≡ OK → IsEnded out.new }
     ensures refused { (result ≡ OK → ⊥) → out.new ≡ out.old }
 {
-    if !is_imem_address(place) {
+    if !is_imem_address(address) {
         return OUT_OF_RANGE;
     }
-    *out = line_of(word, place as u16);
+    *out = line_of(word, address as u16);
     OK
 }
 
 /// The words of IMEM from an address on, with their disassembly.
 #[tactic(auto, using(crate::proofs::Lines::listing))]
-fn fill_lines(imem: &SpMem, place: u16, lines: &mut [RspLine])
-    requires { place + 4 * length lines.old ≤ 4096 }
-    ensures value { lines.new ≡ c_lines imem.now place (length lines.old) }
+fn fill_lines(imem: &SpMem, address: u16, lines: &mut [RspLine])
+    requires { address + 4 * length lines.old ≤ 4096 }
+    ensures value { lines.new ≡ c_lines imem.now address (length lines.old) }
     ensures ended { All IsEnded lines.new }
 {
     for i in 0..lines.len() {
-        let at = place + 4 * i as u16;
+        let at = address + 4 * i as u16;
         lines[i] = line_of(imem.word(u32::from(at)), at);
     }
 }
@@ -149,27 +150,16 @@ fn fill_lines(imem: &SpMem, place: u16, lines: &mut [RspLine])
 pub extern "C" fn rsp_listing(
     handle: &mut Handle,
     alloc: Global,
-    place: u32,
+    address: u32,
     lines: &mut [RspLine],
 ) -> u32
-    ensures none { IfNone handle.old.session (result ≡ NO_MACHINE) }
-    ensures range { IfSome handle.old.session (λ d. (result ≡ OK) ↔ ((place % 4 ≡ 0) × (place < 4096) × (place + 4 * length lines.old ≤ 4096))) }
-    ensures answer { IfSome handle.old.session (λ d. (result ≡ OK) ⊎ (result ≡ OUT_OF_RANGE)) }
-    ensures value { result ≡ OK → IfSome handle.old.session (λ d. lines.new ≡ c_lines d.state.imem place (length lines.old)) }
+    ensures range { IsDoneIf (λ d. (address % 4 ≡ 0) × (address < 4096) × (address + 4 * length lines.old ≤ 4096)) handle.old.session result }
+    ensures value { IsFilled result (λ d. c_lines d.state.imem address (length lines.old)) handle.old.session lines.old lines.new }
     ensures ended { result ≡ OK → All IsEnded lines.new }
-    ensures refused { (result ≡ OK → ⊥) → lines.new ≡ lines.old }
     ensures same { handle.new.session ≡ handle.old.session }
 {
-    match handle.take(alloc) {
-        None => NO_MACHINE,
-        Some(session) => {
-            if !is_imem_address(place) || lines.len() > (4096 - place as usize) / 4 {
-                handle.put(session);
-                return OUT_OF_RANGE;
-            }
-            fill_lines(session.debugger.machine().imem(), place as u16, lines);
-            handle.put(session);
-            OK
-        }
-    }
+    let is_right = is_imem_address(address) && lines.len() <= (4096 - address as usize) / 4;
+    with_debugger!(handle, alloc, |debugger| if is_right => do {
+        fill_lines(debugger.machine().imem(), address as u16, lines)
+    })
 }

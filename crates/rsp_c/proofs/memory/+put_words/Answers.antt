@@ -1,7 +1,7 @@
 use Rattle.std.proofs.Common.{arith, sym}
 use Rattle.std.proofs.lemmas.List.{take-append-drop}
 use Rattle.rsp_c.proofs.Words.{rest-inside, rest-put}
-use Rattle.rsp_c.proofs.memory_words.+put_words.Goals as goal
+use Rattle.rsp_c.proofs.memory.+put_words.Goals as goal
 
 pub put_words-requires : goal.put_words-requires
 put_words-requires t c = (

@@ -6,7 +6,7 @@ use Rattle.rsp_machine.specs.State.{State, start_of}
 use Rattle.rsp_machine.specs.Host.{with_bank_bytes}
 use Rattle.rsp_machine.proofs.Copying.{written-whole}
 use Rattle.rsp_debug.specs.Debugging.{Debugging, debugging_of, set_by_host}
-use Rattle.rsp_c.proofs.copies.put_state.Goals as goal
+use Rattle.rsp_c.proofs.life.put_state.Goals as goal
 
 -- the memories of a machine with this image, after both were written whole
 record SameMemories (s t : State) : Type 0 where

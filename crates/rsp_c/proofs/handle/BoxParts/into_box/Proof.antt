@@ -1,0 +1,54 @@
+-- `into_box` hands what the parts own to `from_raw`.
+use Rattle.rsp_c.proofs.Walks.{◌≡◌, refl, sym, ap, subst, List, [], ◌∷◌, ◌++◌, T, Val, vptr, has_ty, WT, ent, id⊢, ftrue, fsep, flft, ◌⊑◌, fact, tables, WpFn, Item, ‵, raw, at_ret, ◌⊛◌, some, later, ◌$◌, ◌∵◌, !, qed, by, move, drop, use1, split, split3, join, pick, await, rewrite, fsplit, fjoin, feq_i, suffices, done, whole, sub, stop, fld, no_more, and_then, of_opd, first, blocks, exec, returns, enter, alloc_all, pass_all, free_all, look_at, get, get_in, sets, lands_last, env, no, block_ptr, RattleType, plain, nothing, heard, only, triple_of, framed, says, Stays, stay_dropped, walk_of, ends_at, proved_at}
+use mir.Syntax.{Body, place, copy, assign, rv_opd, seq, return}
+use mir.MapTy.{inst_fn}
+use denote.Triple.Call.{calls_at_last}
+use Rattle.std.proofs.alloc.Calls.{token, Goes-blank}
+use Rattle.std_alloc.specs.Box.Ownership.{box_owns}
+use Rattle.std_alloc.proofs.BoxSteps.Form.{Bx, D, R, P, B, args, box_ty, word, box_typed}
+use Rattle.std_alloc.proofs.BoxSteps.Steps.{box_out, box_in}
+use Rattle.std_alloc.specs.contracts.boxed.Box.from_raw as Fr
+use Rattle.std_alloc.proofs.boxed.Box.from_raw.Met as raw_met
+use Rattle.rsp_c.specs.contracts.handle.BoxParts as parts
+use Rattle.rsp_c.specs.contracts.handle.BoxParts.into_box as F
+use Rattle.rsp_c.specs.contracts.handle.BoxParts.into_box.Key.{name as #self}
+use Rattle.rsp_c.proofs.handle.BoxParts.into_box.Statement.{statement}
+use Rattle.rsp_c.proofs.handle.BoxParts.into_box.Code as code
+
+abbrev rest : Body
+rest = seq (assign (place 0 []) (rv_opd (copy (place 4 [])))) return
+
+pub into_box_spec : {M : Type 1} → statement M
+into_box_spec 𝓤 𝓛 𝓜 𝓡 wired X Z LX LZ g d dd allocator md =
+    let E : Bx = record { row = X; laws = LX; al = record { row = Z; laws = LZ; g = g; d = d; drops = dd } } in
+    let fn = inst_fn (args E) code.function in let From : RattleType = parts.the_row (R E) (P E) g in
+    let ends = F.ended X Z g d dd in let st : Stays ends.signature.params ends.kept = (stay_dropped (plain (λ _. From)) no, tt) in
+    let c = F.clauses X Z g d dd 𝓛 𝓜.mem 𝓡.returns in let W = walk_of 𝓛 ends st c in let 𝓣 = tables 𝓤 𝓛.H 𝓜 𝓡 𝓡.env in
+    let Shuts = triple_of 𝓛 (Fr.signature X Z g d dd) (Fr.spec X Z g d dd 𝓛 𝓜.mem 𝓡.returns) in
+    let kn = raw_met.met 𝓤 𝓛 𝓜 𝓡 (code.calls-std_alloc::boxed::Box::from_raw 𝓡.env wired) X Z LX LZ g d dd allocator md in
+    proved_at 𝓛 ends st c 𝓜 𝓡 (Goes-blank 𝓛 2 (plain (λ _. From)) no (λ κs x f. tt), tt) (#self (args E)) fn (code.unfolded 𝓤 𝓛.H 𝓜 𝓡 wired (X, (Z, tt)) d dd) (λ z are.
+    let κs = z.0.0 in let qs = z.0.1 in let a = z.0.3.0.alloc in let x = z.0.3.0.value in
+    let v : D E = record { ptr = z.0.3.0.ptr; alloc = a; value = x } in
+    let ts : Item 𝓤 = ‵ (flft κs.0 qs.0) ⊛ ‵ (flft κs.1.0 qs.1.0) ⊛ ‵ ftrue in
+    let in_x : Item 𝓤 = raw (fact 𝓤 (κs.0 ⊑ E.row.lives)) in let in_a : Item 𝓤 = raw (fact 𝓤 (κs.1.0 ⊑ E.al.row.lives)) in
+    qed 𝓛 ((ts ⊛ ‵ (fsep ((B E).own_val v z.0.4.0) ftrue)) ∷ (in_x ⊛ in_a ⊛ ‵ ftrue) ∷ []) ∵ split ! $ move ! (1 ∷ []) $ fsplit ! $
+    box_out E ! v z.0.4.0 (λ b o hv e ws fa. fjoin ! $
+    let w = word E hv b o in
+    let y : Shuts.Ghost = ((κs, qs, tt, (a, (block_ptr b o, tt)), (hv ∷ [], (vptr b o ∷ [], tt))), x) in
+    let Γ : List (Item 𝓤) = ‵ (box_owns (token E.al a) (R E) (block_ptr b o) x) ∷ ‵ ((P E).own_val a (hv ∷ [])) ∷ ‵ ftrue ∷ ts ∷ (in_x ⊛ in_a ⊛ ‵ ftrue) ∷ [] in
+    by ! (subst (λ (us : List Val). ent 𝓤 (types.Kit.⋆ 𝓛 Γ) (WpFn 𝓤 𝓛.H 𝓣.C 𝓣.Λ fn (us ++ []) (W.post z))) (sym ws)
+    (qed 𝓛 Γ ∵ enter ! 𝓣.C 𝓣.Λ fn (w ∷ []) _ $ alloc_all ! (λ ls. pass_all ! refl (box_typed E hv b o fa, tt) $
+    sets ! (of_opd ! (get_in ! (fld ! refl (stop !)) (sub ! 0 refl (whole !)))) refl (tt, tt) $ sets ! (of_opd ! (get_in ! (fld ! refl (stop !)) (sub ! 1 refl (whole !)))) refl fa $
+    first ! $ blocks ! $ sets ! (of_opd ! (get ! refl)) refl fa $
+    move ! (4 ∷ []) $ split3 ! $ move ! (2 ∷ []) $ drop ! $ move ! (1 ∷ 2 ∷ []) $ join ! $ move ! (1 ∷ 0 ∷ []) $ join ! $
+    -- [what it requires; the handle; true; the tokens]
+    move ! (2 ∷ []) $ feq_i ! (List Val) (vptr b o ∷ []) (vptr b o ∷ []) refl $ fjoin ! $ move ! (2 ∷ 0 ∷ []) $ fjoin ! $ move ! (2 ∷ 0 ∷ []) $ join ! $ join ! $ use1 𝓛 (raw (Shuts.pre y)) (id⊢ 𝓤 _) $
+    calls_at_last ! (framed 𝓤 𝓛.H 𝓜 𝓣) Shuts kn y (and_then ! (get ! refl) (and_then ! (get ! refl) (no_more !))) (λ u.
+    use1 𝓛 (later (some (λ (r : D E). (ts ⊛ ‵ ((B E).own_val r (u ∷ []))) ⊛ some (λ (_ : Unit {0} × (Unit {0} × Unit {0})). ‵ (fsep ftrue (fsep ftrue ftrue)) ⊛ (raw (fact 𝓤 (r.value ≡ x)) ⊛ raw (fact 𝓤 (r.alloc ≡ a))))))) (id⊢ 𝓤 _) $
+    await ! tt $ pick ! (λ r. split ! $ move ! (1 ∷ []) $ pick ! (λ _. split3 ! $ drop ! $ heard ! (r.value ≡ x) (λ same. drop ! $ split ! $ move ! (1 ∷ []) $
+    box_out E ! r (u ∷ []) (λ b' o' hw e' wu fw. box_in E ! r b' o' r.value e' refl $ rewrite ! 0 (λ (us : List Val). ‵ ((B E).own_val r us)) (sym wu) refl $
+    let typed : T (has_ty (box_ty E) u) × WT u = subst (λ (s : Val). T (has_ty (box_ty E) s) × WT s) (sym (ap only wu)) (box_typed E hw b' o' fw) in
+    lands_last ! refl typed $ exec ! 𝓣.C 𝓣.Λ (env fn.locals ls) rest (at_ret (env fn.locals ls) (W.post z)) $
+    sets ! (of_opd ! (get ! refl)) refl typed $ returns ! (look_at ! 0 refl) $ free_all ! refl $
+    suffices ! _ (ends_at 𝓛 ends st c z u r ((tt, (tt, tt)), tt) (tt, tt)) $ says ! same $
+    nothing ! $ nothing ! $ fjoin ! $ join ! $ move ! (1 ∷ 0 ∷ []) $ join ! $ done !))))))))))
