@@ -1,3 +1,6 @@
+// Each clamp is a selection: the sign of the high plane, and whether that plane is the sign extension of the middle
+// one, decide which of three values a lane takes. Packing two planes as numbers of 32 bits would need wider lanes.
+
 ghost use Rattle.std.specs.Prelude.{◌≡◌, slice_index_or, []};
 ghost use Rattle.rsp_numbers.specs.Numbers.{AreNumbers};
 ghost use Rattle.rsp_acc.specs.Planes.{joined};

@@ -6,7 +6,7 @@ use Rattle.std.specs.Str.{bytes_eq}
 use Rattle.std.proofs.lemmas.Slice.Eq.{bytes_eq-Decides}
 use Rattle.rsp_syntax.specs.Chars.{is_line_byte}
 use Rattle.rsp_commands.specs.Line.{is_hash}
-use Rattle.rsp_commands.specs.Words.{words_in}
+use Rattle.rsp_commands.specs.LineWords.{words_in}
 use Rattle.rsp_commands.specs.Operand.{bank_of, ranged_of, address_of, instruction_address_of}
 use Rattle.rsp_commands.specs.Line.{command_of, plain_command}
 use Rattle.rsp_commands.specs.Command.{command_named, debug_named, look_named, without_operands, mem, dis, with_both, with_operand, in_bank, one_number, command_of_words}

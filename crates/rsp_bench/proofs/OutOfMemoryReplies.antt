@@ -148,7 +148,7 @@ look_other Acc s = accumulators_other s
 look_other Flags s = flags_other s
 look_other Sp s = sp_other s
 look_other (Mem bank a n) s = other_if (is_inside bank a n s) (dump_text a (memory_of bank s a n)) range_text (dump_other a (memory_of bank s a n)) refl
-look_other (Dis place n) s = other_if (nat_le (place + 4 * n) 4096) (listing_text (listing_of s place n)) range_text (listing_other (listing_of s place n)) refl
+look_other (Dis address n) s = other_if (nat_le (address + 4 * n) 4096) (listing_text (listing_of s address n)) range_text (listing_other (listing_of s address n)) refl
 
 -- ---- faults
 
@@ -195,10 +195,10 @@ task_other None a s = refl
 task_other (Some TaskPlace) a s = refl
 task_other (Some TaskSize) a s = refl
 
-break_other : (fault : Option BreakFault) (place : ℕ) (s : SessionState) → IsOther (break_answer fault place s).reply
-break_other None place s = refl
-break_other (Some BreakTwice) place s = refl
-break_other (Some BreakFull) place s = refl
+break_other : (fault : Option BreakFault) (address : ℕ) (s : SessionState) → IsOther (break_answer fault address s).reply
+break_other None address s = refl
+break_other (Some BreakTwice) address s = refl
+break_other (Some BreakFull) address s = refl
 
 watch_other : (number : Result ℕ WatchFault) (a n : ℕ) (s : SessionState) → IsOther (watch_answer number a n s).reply
 watch_other (Ok k) a n s = refl
@@ -215,17 +215,17 @@ plain_other Nothing s = refl
 plain_other (Load bank a bytes) s = load_other bank a bytes.items s
 plain_other Step s = step_other s
 plain_other (Run n) s = run_other n s
-plain_other (Break place) s = break_other (break_fault place s.debugging.breaks) place s
-plain_other (Unbreak place) s = answer_if (is_break s.debugging.breaks place) _ _ refl refl
+plain_other (Break address) s = break_other (break_fault address s.debugging.breaks) address s
+plain_other (Unbreak address) s = answer_if (is_break s.debugging.breaks address) _ _ refl refl
 plain_other (Watch a n) s = watch_other (number_for a n s.debugging.watches) a n s
 plain_other (Unwatch k) s = answer_if (has_watch k s.debugging.watches) _ _ refl refl
 plain_other (Back n) s = back_other (back_fault n s.debugging.past) n s
 plain_other (Read n) s = read_other n s
 plain_other (Write n value) s = refl
-plain_other (SetPc place) s = refl
+plain_other (SetPc address) s = refl
 plain_other (Task a) s = task_other (task_fault a s.debugging.state.rdram) a s
 plain_other (Show look) s = look_other look s.debugging.state
-plain_other (Asm place) s = refl
+plain_other (Asm address) s = refl
 plain_other (BlockLine line) s = refl
 plain_other End s = refl
 

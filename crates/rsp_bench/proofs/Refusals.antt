@@ -53,9 +53,9 @@ keeps_task : (fault : Option TaskFault) (a : ℕ) (s : SessionState) → Keeps (
 keeps_task None a s e = cc
 keeps_task (Some fault) a s e = refl
 
-keeps_break : (fault : Option BreakFault) (place : ℕ) (s : SessionState) → Keeps (break_answer fault place s) s
-keeps_break None place s e = cc
-keeps_break (Some fault) place s e = refl
+keeps_break : (fault : Option BreakFault) (address : ℕ) (s : SessionState) → Keeps (break_answer fault address s) s
+keeps_break None address s e = cc
+keeps_break (Some fault) address s e = refl
 
 keeps_watch : (number : Result ℕ WatchFault) (a n : ℕ) (s : SessionState) → Keeps (watch_answer number a n s) s
 keeps_watch (Ok k) a n s e = cc
@@ -70,17 +70,17 @@ keeps_plain Nothing s e = refl
 keeps_plain (Load bank a bytes) s e = keeps_load bank a bytes.items s e
 keeps_plain Step s e = keeps_step s e
 keeps_plain (Run n) s e = keeps_run n s e
-keeps_plain (Break place) s e = keeps_break (break_fault place s.debugging.breaks) place s e
-keeps_plain (Unbreak place) s e = keeps_if (is_break s.debugging.breaks place) (then_debugging ok_text (without_breakpoint place s.debugging) s) no_break_text s refl e
+keeps_plain (Break address) s e = keeps_break (break_fault address s.debugging.breaks) address s e
+keeps_plain (Unbreak address) s e = keeps_if (is_break s.debugging.breaks address) (then_debugging ok_text (without_breakpoint address s.debugging) s) no_break_text s refl e
 keeps_plain (Watch a n) s e = keeps_watch (number_for a n s.debugging.watches) a n s e
 keeps_plain (Unwatch k) s e = keeps_if (has_watch k s.debugging.watches) (then_debugging ok_text (with_watch_dropped k s.debugging) s) no_watch_text s refl e
 keeps_plain (Back n) s e = keeps_back (back_fault n s.debugging.past) n s e
 keeps_plain (Read n) s e = keeps_read n s e
 keeps_plain (Write n value) s e = cc
-keeps_plain (SetPc place) s e = cc
+keeps_plain (SetPc address) s e = cc
 keeps_plain (Task a) s e = keeps_task (task_fault a s.debugging.state.rdram) a s e
 keeps_plain (Show look) s e = refl
-keeps_plain (Asm place) s e = cc
+keeps_plain (Asm address) s e = cc
 keeps_plain (BlockLine line) s e = refl
 keeps_plain End s e = refl
 

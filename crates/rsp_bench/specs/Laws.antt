@@ -3,7 +3,7 @@ use Rattle.std.specs.Prelude.{◌≡◌, ◌⊎◌, ℕ, List, [], ◌∷◌, �
 use Rattle.std.specs.List.{before_first}
 use Rattle.std.specs.Str.{bytes_eq}
 use Rattle.rsp_commands.specs.Line.{is_hash}
-use Rattle.rsp_commands.specs.Words.{words_in}
+use Rattle.rsp_commands.specs.LineWords.{words_in}
 use Rattle.rsp_debug.specs.declared.stop.Stop.{Stop}
 use Rattle.rsp_script_io.specs.Replies.{replies, final}
 use Rattle.rsp_bench.specs.Replies.{stop_text}

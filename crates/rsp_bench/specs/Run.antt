@@ -1,7 +1,7 @@
 -- A run of a script: what is written, and how it ends.
 use Rattle.std.specs.Prelude.{ℕ, List, Result, Ok, Err}
 use Rattle.std.specs.Str.Lines.{lines}
-use Rattle.rsp_script_io.specs.Replies.{final, out_of as written_of}
+use Rattle.rsp_script_io.specs.Replies.{final, written_of}
 use Rattle.rsp_script_io.specs.declared.run.RunFault.{RunFault}
 use Rattle.rsp_script_io.specs.declared.run.RunFault.TheVariants as faults
 use Rattle.rsp_bench.specs.Session.{SessionState, line_answer, end_reply, first_session}

@@ -78,12 +78,12 @@ run_answer n s =
     else same count_text s
 
 abbrev pub break_answer : Option BreakFault → ℕ → SessionState → Answer SessionState
-break_answer None place s = then_debugging ok_text (with_breakpoint place s.debugging) s
-break_answer (Some fault) place s = same (break_fault_text fault) s
+break_answer None address s = then_debugging ok_text (with_breakpoint address s.debugging) s
+break_answer (Some fault) address s = same (break_fault_text fault) s
 
 abbrev pub unbreak_answer : ℕ → SessionState → Answer SessionState
-unbreak_answer place s =
-    if is_break s.debugging.breaks place then then_debugging ok_text (without_breakpoint place s.debugging) s
+unbreak_answer address s =
+    if is_break s.debugging.breaks address then then_debugging ok_text (without_breakpoint address s.debugging) s
     else same no_break_text s
 
 -- a watch of some bytes, with the number that it gets
@@ -113,7 +113,7 @@ abbrev pub memory_text : Bank → ℕ → ℕ → State → List ℕ
 memory_text bank a n state = if is_inside bank a n state then dump_text a (memory_of bank state a n) else range_text
 
 abbrev pub dis_text : ℕ → ℕ → State → List ℕ
-dis_text place n state = if nat_le (place + 4 * n) 4096 then listing_text (listing_of state place n) else range_text
+dis_text address n state = if nat_le (address + 4 * n) 4096 then listing_text (listing_of state address n) else range_text
 
 -- what a look shows
 abbrev pub look_text : Look → State → List ℕ
@@ -123,7 +123,7 @@ look_text Acc state = accumulators_text state.accumulators
 look_text Flags state = flags_text state.flags state.divider
 look_text Sp state = sp_text state.sp
 look_text (Mem bank a n) state = memory_text bank a n state
-look_text (Dis place n) state = dis_text place n state
+look_text (Dis address n) state = dis_text address n state
 
 -- ---- commands
 
@@ -137,17 +137,17 @@ plain_answer Nothing s = same [] s
 plain_answer (Load bank a bytes) s = load_answer bank a bytes.items s
 plain_answer Step s = step_answer s
 plain_answer (Run n) s = run_answer n s
-plain_answer (Break place) s = break_answer (break_fault place s.debugging.breaks) place s
-plain_answer (Unbreak place) s = unbreak_answer place s
+plain_answer (Break address) s = break_answer (break_fault address s.debugging.breaks) address s
+plain_answer (Unbreak address) s = unbreak_answer address s
 plain_answer (Watch a n) s = watch_answer (number_for a n s.debugging.watches) a n s
 plain_answer (Unwatch k) s = unwatch_answer k s
 plain_answer (Back n) s = back_answer (back_fault n s.debugging.past) n s
 plain_answer (Read n) s = read_answer n s
 plain_answer (Write n value) s = then_state ok_text (register_written n value s.debugging.state) s
-plain_answer (SetPc place) s = then_state ok_text (with_pc place s.debugging.state) s
+plain_answer (SetPc address) s = then_state ok_text (with_pc address s.debugging.state) s
 plain_answer (Task a) s = task_answer (task_fault a s.debugging.state.rdram) a s
 plain_answer (Show look) s = same (look_text look s.debugging.state) s
-plain_answer (Asm place) s = with_block (empty_block place) s
+plain_answer (Asm address) s = with_block (empty_block address) s
 plain_answer (BlockLine line) s = same (line_fault_text BadCommand) s
 plain_answer End s = same (line_fault_text BadCommand) s
 

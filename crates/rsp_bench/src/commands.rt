@@ -53,28 +53,28 @@ impl Session {
     }
 
     /// `break`: BreakTwice or BreakFull.
-    pub(crate) fn add_break(&mut self, place: u16, reply: &mut Reply)
-        requires below { place < 4096 }
-        requires whole { place % 4 ≡ 0 }
+    pub(crate) fn add_break(&mut self, address: u16, reply: &mut Reply)
+        requires below { address < 4096 }
+        requires whole { address % 4 ≡ 0 }
         requires empty { reply.old ≡ [] }
-        ensures reply { reply.new ≡ (break_answer (break_fault place self.old.debugging.breaks) place self.old).reply }
-        ensures next { self.new ≡ (break_answer (break_fault place self.old.debugging.breaks) place self.old).next }
+        ensures reply { reply.new ≡ (break_answer (break_fault address self.old.debugging.breaks) address self.old).reply }
+        ensures next { self.new ≡ (break_answer (break_fault address self.old.debugging.breaks) address self.old).next }
     {
-        match self.debugger.add_break(place) {
+        match self.debugger.add_break(address) {
             Ok(()) => put_ok(reply),
             Err(fault) => put_fault(reply, fault),
         }
     }
 
     /// `unbreak`: NoBreak.
-    pub(crate) fn drop_break(&mut self, place: u16, reply: &mut Reply)
-        requires below { place < 4096 }
-        requires whole { place % 4 ≡ 0 }
+    pub(crate) fn drop_break(&mut self, address: u16, reply: &mut Reply)
+        requires below { address < 4096 }
+        requires whole { address % 4 ≡ 0 }
         requires empty { reply.old ≡ [] }
-        ensures reply { reply.new ≡ (unbreak_answer place self.old).reply }
-        ensures next { self.new ≡ (unbreak_answer place self.old).next }
+        ensures reply { reply.new ≡ (unbreak_answer address self.old).reply }
+        ensures next { self.new ≡ (unbreak_answer address self.old).next }
     {
-        match self.debugger.drop_break(place) {
+        match self.debugger.drop_break(address) {
             Ok(()) => put_ok(reply),
             Err(fault) => put_fault(reply, fault),
         }
@@ -156,15 +156,15 @@ impl Session {
 
     /// `dis`. It isn't inlined, since its local of 64 lines would slow all other commands down.
     #[inline(never)]
-    fn disassembly(&self, place: u16, count: u32, reply: &mut Reply)
-        requires below { place < 4096 }
-        requires whole { place % 4 ≡ 0 }
+    fn disassembly(&self, address: u16, count: u32, reply: &mut Reply)
+        requires below { address < 4096 }
+        requires whole { address % 4 ≡ 0 }
         requires some { 1 ≤ count }
         requires few { count ≤ 64 }
         requires empty { reply.old ≡ [] }
-        ensures { reply.new ≡ dis_text place count self.now.debugging.state }
+        ensures { reply.new ≡ dis_text address count self.now.debugging.state }
     {
-        match self.debugger.listing(place, count as u16) {
+        match self.debugger.listing(address, count as u16) {
             Ok(words) => put_listing(reply, words.as_slice()),
             Err(fault) => put_fault(reply, fault),
         }

@@ -61,13 +61,13 @@ pub(crate) fn put_registers<A: Acc>(reply: &mut Reply, debugger: &Debugger<A>)
     requires { reply.old ≡ [] }
     ensures { reply.new ≡ registers_text debugger.now.state }
 {
-    let places = debugger.regs();
+    let registers = debugger.regs();
     reply.push_text(b"pc ");
-    reply.push_hex(u32::from(places.pc), 3);
+    reply.push_hex(u32::from(registers.pc), 3);
     reply.push_text(b" npc ");
-    reply.push_hex(u32::from(places.npc), 3);
+    reply.push_hex(u32::from(registers.npc), 3);
     reply.push_text(b"\n");
-    push_register_lines(reply, &places.words);
+    push_register_lines(reply, &registers.words);
 }
 
 /// One SP register: its number, below 16, and its value.
@@ -144,7 +144,7 @@ fn first_line(bytes: &[u8]) -> &[u8]
 /// Line `k` of the bytes at an address.
 fn push_dump_row(reply: &mut Reply, a: u32, bytes: &[u8], k: usize)
     requires inside { 16 * k ≤ length bytes.now }
-    requires place { a + length bytes.now < 2 ^ 31 }
+    requires below { a + length bytes.now < 2 ^ 31 }
     requires room { length reply.old + 41 ≤ REPLY_LIMIT }
     ensures text { reply.new ≡ reply.old ++ dump_line (a + 16 * k) (take 16 (drop (16 * k) bytes.now)) }
     ensures len { length reply.new ≤ length reply.old + 41 }
@@ -156,7 +156,7 @@ fn push_dump_row(reply: &mut Reply, a: u32, bytes: &[u8], k: usize)
 /// `mem`: at most 256 bytes at an address, 16 in a line.
 #[tactic(auto, using(rsp_script_io::proofs::Texts::parts), unfolding(crate::specs::Looks::dump_text))]
 pub(crate) fn put_dump(reply: &mut Reply, a: u32, bytes: &[u8])
-    requires place { a + length bytes.now < 2 ^ 31 }
+    requires below { a + length bytes.now < 2 ^ 31 }
     requires few { length bytes.now ≤ 256 }
     requires empty { reply.old ≡ [] }
     ensures { reply.new ≡ dump_text a bytes.now }

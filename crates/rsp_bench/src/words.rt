@@ -23,10 +23,10 @@ fn word_bytes(words: &[u32]) -> ArrayVec<u8, 4096>
 }
 
 /// Writes words to IMEM from an address on. They must fit into it. That empties the history, even if there are no words.
-pub(crate) fn load_words<A: Acc>(debugger: &mut Debugger<A>, place: u16, words: &[u32])
-    requires { place + 4 * length words.now ≤ 4096 }
-    ensures { debugger.new ≡ set_by_host (with_bank_bytes Bank.Imem place (words_bytes words.now) debugger.old.state) debugger.old }
+pub(crate) fn load_words<A: Acc>(debugger: &mut Debugger<A>, address: u16, words: &[u32])
+    requires { address + 4 * length words.now ≤ 4096 }
+    ensures { debugger.new ≡ set_by_host (with_bank_bytes Bank.Imem address (words_bytes words.now) debugger.old.state) debugger.old }
 {
     let bytes = word_bytes(words);
-    let _ = debugger.load_bytes(Bank::Imem, u32::from(place), bytes.as_slice());
+    let _ = debugger.load_bytes(Bank::Imem, u32::from(address), bytes.as_slice());
 }

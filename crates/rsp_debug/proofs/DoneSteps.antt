@@ -17,7 +17,7 @@ use Rattle.rsp_debug.specs.declared.stop.Watch.{Watch}
 use Rattle.rsp_debug.specs.declared.stop.Stop.{Stop}
 use Rattle.rsp_debug.specs.declared.stop.Reason.{Reason}
 use Rattle.rsp_debug.specs.declared.stop.Reason.TheVariants.{Reserved, Halted, Watched, Break, Limit}
-use Rattle.rsp_debug.specs.Stops.{first_of, when, is_reserved, is_break, changed, reason_in, reason_at, least, run_steps, stop_of, IsStop}
+use Rattle.rsp_debug.specs.Stops.{first_of, when, is_reserved, is_break, changed_watch, reason_in, reason_at, least, run_steps, stop_of, IsStop}
 use Rattle.rsp_debug.specs.Runs.{step_refusal}
 use Rattle.rsp_debug.specs.Calls.{IsAfter, ForwardCall, StepCall, RunCall, is_count, call_steps, state_after_call, steps_of_calls, state_after_calls}
 use Rattle.rsp_debug.proofs.Reasons.{stuck_by, stuck_is, step-halted-same, step-reserved-same, steps-none, steps-more, two_none, is_stop, reason-stuck}
@@ -124,7 +124,7 @@ last_reason a b c d false e = cc
 limit_in : (b : List Bool) (w : List (Option Watch)) (n : ℕ) (before s : State) → is_some (reason_in b w n n before s) ≡ true
 limit_in b w n before s =
     let same : nat_eq n n ≡ true = grind (arith, common_steps) in
-    last_reason (when (is_reserved s) Reserved) (when s.sp.halted Halted) (cond (nat_lt 0 n) (option_map Watched (changed w before.dmem s.dmem)) None)
+    last_reason (when (is_reserved s) Reserved) (when s.sp.halted Halted) (cond (nat_lt 0 n) (option_map Watched (changed_watch w before.dmem s.dmem)) None)
     (when (nat_lt 0 n && is_break b s.pc) Break) (nat_eq n n) same
 
 limit_reason : (b : List Bool) (w : List (Option Watch)) (n : ℕ) (s : State) → is_some (reason_at b w n s n) ≡ true
@@ -153,7 +153,7 @@ stop-first b w n s =
       reached = refl;
       reason = the_reason _ (least_there b w n s there.0);
       first = no-reason b w n s;
-      place = refl;
+      pc = refl;
     }
 
 -- one step more, or none

@@ -18,18 +18,18 @@ use Rattle.rsp_debug.specs.Runs.{move_of, Refuses}
 -- a move that is asked for is one that a test refuses
 pub asked-is : (refuses : MoveOp → ℕ → Bool) (moves : Moves) → Refuses refuses moves → (o : Option Inst) → is_asked moves o ≡ refuses_by refuses o
 asked-is refuses moves same None = refl
-asked-is refuses moves same (Some (MoveSp row rt r)) = sym (same row r)
+asked-is refuses moves same (Some (MoveSp op rt r)) = sym (same op r)
 asked-is refuses moves same (Some _) = refl
 
 -- what is kept of a word
 pub asked-of : (moves : Moves) (o : Option Inst) → is_asked moves (move_of o) ≡ is_asked moves o
 asked-of moves None = refl
-asked-of moves (Some (MoveSp row rt r)) = refl
+asked-of moves (Some (MoveSp op rt r)) = refl
 asked-of moves (Some _) = refl
 
 pub move-by-of : (o : Option Inst) (stop : Stop) (s : State) → move_by (move_of o) stop s ≡ move_by o stop s
 move-by-of None stop s = refl
-move-by-of (Some (MoveSp row rt r)) stop s = refl
+move-by-of (Some (MoveSp op rt r)) stop s = refl
 move-by-of (Some _) stop s = refl
 
 pub kept-of : (o : Option Inst) (k : KeptMove) → k ≡ after_visit (λ i _. record { inst = move_of (Some i) }) o (record { inst = None }) → k.inst ≡ move_of o
@@ -38,7 +38,7 @@ kept-of (Some i) k e = ap (λ (x : KeptMove). x.inst) e
 
 fits-move : (o : Option Inst) → IfSome o IsInstruction → IfSome (move_of o) IsInstruction
 fits-move None h = tt
-fits-move (Some (MoveSp row rt r)) h = h
+fits-move (Some (MoveSp op rt r)) h = h
 fits-move (Some _) h = tt
 
 pub fits-of : (w : ℕ) (m : Option Inst) → m ≡ move_of (inst_of w) → IfSome m IsInstruction

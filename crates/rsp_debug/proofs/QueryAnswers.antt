@@ -34,16 +34,16 @@ length-bytes bank s a n = length-map-range_with_len (λ i. bank_byte bank s (a +
 
 pub ruleset bytes = (bytes-none, bytes-more, length-bytes)
 
-pub words-none : (s : State) (place n : ℕ) → n ≡ 0 → [] ≡ listing_of s place n
+pub words-none : (s : State) (address n : ℕ) → n ≡ 0 → [] ≡ listing_of s address n
 unfolding listing_of
-words-none s place n e = sym (ap (λ k. map (λ i. listing_line s (place + 4 * i)) (range_with_len 0 k)) e)
+words-none s address n e = sym (ap (λ k. map (λ i. listing_line s (address + 4 * i)) (range_with_len 0 k)) e)
 
-pub words-more : (s : State) (place i : ℕ) → listing_of s place i ++ listing_line s (place + 4 * i) ∷ [] ≡ listing_of s place (i + 1)
+pub words-more : (s : State) (address i : ℕ) → listing_of s address i ++ listing_line s (address + 4 * i) ∷ [] ≡ listing_of s address (i + 1)
 unfolding listing_of
-words-more s place i = sym (map-range_with_len_more (λ i. listing_line s (place + 4 * i)) 0 i i (omega arith))
+words-more s address i = sym (map-range_with_len_more (λ i. listing_line s (address + 4 * i)) 0 i i (omega arith))
 
-pub length-words : (s : State) (place n : ℕ) → length (listing_of s place n) ≡ n
+pub length-words : (s : State) (address n : ℕ) → length (listing_of s address n) ≡ n
 unfolding listing_of
-length-words s place n = length-map-range_with_len (λ i. listing_line s (place + 4 * i)) 0 n
+length-words s address n = length-map-range_with_len (λ i. listing_line s (address + 4 * i)) 0 n
 
 pub ruleset words = (words-none, words-more, length-words)

@@ -10,7 +10,7 @@ use Rattle.rsp_machine.specs.State.{State}
 use Rattle.rsp_machine.specs.Step.{step_of, step_by}
 use Rattle.rsp_machine.specs.Laws.{steps_of}
 use Rattle.rsp_machine.specs.declared.step.StepEnd.TheVariants as end
-use Rattle.rsp_debug.specs.Stops.{changed, is_break, when, first_of, reason_at, IsStop}
+use Rattle.rsp_debug.specs.Stops.{changed_watch, is_break, when, first_of, reason_at, IsStop}
 use Rattle.rsp_debug.specs.Runs.{step_refusal, hit_in}
 use Rattle.rsp_debug.specs.Snapshots.{differs, watches_of}
 use Rattle.rsp_debug.specs.declared.snapshot.Snapshot.{Snapshot}
@@ -28,7 +28,7 @@ stuck_by false (Some i) = None
 -- the watch or the breakpoint that k steps have come to
 abbrev pub hit_of : List Bool → List (Option Watch) → ℕ → State → State → Option Reason
 hit_of breaks watches k before s = first_of (
-    cond (nat_lt 0 k) (option_map Watched (changed watches before.dmem s.dmem)) None
+    cond (nat_lt 0 k) (option_map Watched (changed_watch watches before.dmem s.dmem)) None
     ∷ when (nat_lt 0 k && is_break breaks s.pc) Break
     ∷ [])
 
@@ -147,7 +147,7 @@ pub is_stop : (b : List Bool) (w : List (Option Watch)) (n : ℕ) (s t : State) 
     → ((j : ℕ) → j < k → reason_at b w n s j ≡ None) → reason_at b w n s k ≡ Some r → IsStop b w n s t stop
 is_stop b w n s t k m r stop same count within reached first reason =
     let exact : stop ≡ record { reason = r; steps = k; pc = t.pc } = same ∙ ap (λ x. let made : Stop = record { reason = r; steps = x; pc = t.pc } in made) count in
-    subst (λ (x : Stop). IsStop b w n s t x) (sym exact) (record { within = within; reached = reached; reason = reason; first = first; place = refl })
+    subst (λ (x : Stop). IsStop b w n s t x) (sym exact) (record { within = within; reached = reached; reason = reason; first = first; pc = refl })
 
 -- the watch or the breakpoint, by the watch that changed
 abbrev hit_by : List Bool → Option ℕ → State → Option Reason
@@ -166,9 +166,9 @@ next-hit b snapshots s m t k here there same =
     let before : k + 1 - 1 ≡ k = omega arith in
     let back : steps_of (k + 1 - 1) s ≡ m = ap (λ i. steps_of i s) before ∙ sym here in
     let w = watches_of snapshots in
-    hit_later b (changed w (steps_of (k + 1 - 1) s).dmem (steps_of (k + 1) s).dmem) (nat_lt 0 (k + 1)) (steps_of (k + 1) s) positive
-    ∙ ap (λ (x : State). hit_by b (changed w (steps_of (k + 1 - 1) s).dmem x.dmem) x) (sym there)
-    ∙ ap (λ (x : State). hit_by b (changed w x.dmem t.dmem) t) back
+    hit_later b (changed_watch w (steps_of (k + 1 - 1) s).dmem (steps_of (k + 1) s).dmem) (nat_lt 0 (k + 1)) (steps_of (k + 1) s) positive
+    ∙ ap (λ (x : State). hit_by b (changed_watch w (steps_of (k + 1 - 1) s).dmem x.dmem) x) (sym there)
+    ∙ ap (λ (x : State). hit_by b (changed_watch w x.dmem t.dmem) t) back
     ∙ ap (λ o. hit_by b o t) (sym (differs-since snapshots m.dmem t.dmem same))
 
 hit_nothing : (o : Option ℕ) (d : Option Reason) → first_of (option_map Watched o ∷ d ∷ []) ≡ None → o ≡ None

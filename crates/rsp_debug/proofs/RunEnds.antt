@@ -47,7 +47,7 @@ made r k pc = record { reason = r; steps = k; pc = pc }
 pub stop-is : (b : List Bool) (w : List (Option Watch)) (n : ℕ) (s t : State) (stop : Stop) → IsStop b w n s t stop → stop ≡ stop_of b w n s
 unfolding stop_of
 stop-is b w n s t stop is =
-    ap (λ pc. made stop.reason stop.steps pc) (is.place ∙ ap (λ (x : State). x.pc) is.reached)
+    ap (λ pc. made stop.reason stop.steps pc) (is.pc ∙ ap (λ (x : State). x.pc) is.reached)
     ∙ ap (λ o. made (unwrap_or o Limit) stop.steps (steps_of stop.steps s).pc) (sym is.reason)
     ∙ ap (λ k. made (unwrap_or (reason_at b w n s k) Limit) k (steps_of k s).pc) (sym (steps-are b w n s t stop is))
 
@@ -65,7 +65,7 @@ unwatched-stop b w n s t stop is none = record {
   reached = is.reached;
   reason = sym (unwatched_reason b w n stop.steps s none) ∙ is.reason;
   first = λ j h. sym (unwatched_reason b w n j s none) ∙ is.first j h;
-  place = is.place;
+  pc = is.pc;
 }
 
 -- the watches are those of the snapshots
@@ -79,7 +79,7 @@ zero_bit false r = ap (λ x. x == 1) (bit_at-zero r)
 
 pub never-asked : (o : Option Inst) → is_asked no_moves o ≡ false
 never-asked None = refl
-never-asked (Some (MoveSp row rt r)) = zero_bit (is_write row) r
+never-asked (Some (MoveSp op rt r)) = zero_bit (is_write op) r
 never-asked (Some _) = refl
 
 least-none : (test : ℕ → Bool) (n : ℕ) → ((k : ℕ) → test k ≡ false) → least test n ≡ n
@@ -99,8 +99,8 @@ unmoved-stop b w moves n s t stop none given =
     (least-none (λ k. is_at_move no_moves (steps_of k s)) n (λ k. let x = steps_of k s in not_next x.sp.halted _ (never-asked (inst_of (word_at x.imem x.pc))))) is
 
 -- where no moves are asked for, none is refused, and none is next
-pub none-refused : (moves : Moves) → moves ≡ no_moves → Refuses (λ row register. false) moves
-none-refused moves none row register = sym (ap (λ (x : Moves). has_move x row register) none ∙ zero_bit (is_write row) register)
+pub none-refused : (moves : Moves) → moves ≡ no_moves → Refuses (λ op register. false) moves
+none-refused moves none op register = sym (ap (λ (x : Moves). has_move x op register) none ∙ zero_bit (is_write op) register)
 
 pub unmoved : (moves : Moves) (s : State) → moves ≡ no_moves → is_at_move moves s ≡ false
 unmoved moves s none = ap (λ (x : Moves). is_at_move x s) none ∙ not_next s.sp.halted _ (never-asked (inst_of (word_at s.imem s.pc)))
@@ -114,7 +114,7 @@ move-end-is b w moves n s t stop r is e =
 
 move_steps : (o : Option Inst) (stop : Stop) (s : State) → end_steps (move_by o stop s) ≡ stop.steps
 move_steps None stop s = refl
-move_steps (Some (MoveSp row rt r)) stop s = refl
+move_steps (Some (MoveSp op rt r)) stop s = refl
 move_steps (Some _) stop s = refl
 
 steps_by : (b : Bool) (o : Option Inst) (stop : Stop) (s : State) → end_steps (cond b (move_by o stop s) (end.Stop stop)) ≡ stop.steps

@@ -10,7 +10,7 @@ use Rattle.std.proofs.lemmas.Grind.{common_steps}
 use Rattle.std.proofs.lemmas.List.Sums.{prefix_len-le-length, fails_before_first, passes_at_first, position_or_len_is}
 use Rattle.rsp_debug.specs.declared.stop.Watch.{Watch}
 use Rattle.rsp_debug.specs.declared.snapshot.Snapshot.{Snapshot}
-use Rattle.rsp_debug.specs.Stops.{watched, is_changed, changed}
+use Rattle.rsp_debug.specs.Stops.{watched, is_changed, changed_watch}
 use Rattle.rsp_debug.specs.Snapshots.{IsShort, snapshot_of, is_other, differs, watches_of}
 
 -- a number without a watch
@@ -74,8 +74,8 @@ unlike now next (Some h) e =
     let same : h.bytes.items ≡ watched h.watch now = (bytes_eq-Decides h.bytes.items (watched h.watch now)).0 (not_not _ e) in
     ap (λ bytes. not (bytes_eq bytes (watched h.watch next))) same
 
-pub differs-since : (snapshots : List (Option Snapshot)) (now next : List ℕ) → differs snapshots now ≡ None → differs snapshots next ≡ changed (watches_of snapshots) now next
-unfolding differs changed
+pub differs-since : (snapshots : List (Option Snapshot)) (now next : List ℕ) → differs snapshots now ≡ None → differs snapshots next ≡ changed_watch (watches_of snapshots) now next
+unfolding differs changed_watch
 differs-since snapshots now next e =
     same_position (is_other next) (λ h. is_changed now next (option_map (λ h. h.watch) h)) snapshots None
     (λ k h. unlike now next (get_or snapshots k None) (passes_nowhere _ snapshots None _ refl e k h))
@@ -112,12 +112,12 @@ no_watch : (before dmem : List ℕ) (watch : Option Watch) → IsNone watch → 
 no_watch before dmem None h = refl
 no_watch before dmem (Some w) h = cc
 
-pub changed-none : (watches : List (Option Watch)) (before dmem : List ℕ) → All IsNone watches → changed watches before dmem ≡ None
-unfolding changed
+pub changed-none : (watches : List (Option Watch)) (before dmem : List ℕ) → All IsNone watches → changed_watch watches before dmem ≡ None
+unfolding changed_watch
 changed-none watches before dmem none = no_position _ watches None (λ k h. no_watch before dmem (get_or watches k None) (none k None h))
 
-pub none-changed : (before dmem : List ℕ) → changed [] before dmem ≡ None
-unfolding changed
+pub none-changed : (before dmem : List ℕ) → changed_watch [] before dmem ≡ None
+unfolding changed_watch
 none-changed before dmem = refl
 
 -- a watch written, and one dropped, where all are short

@@ -13,14 +13,14 @@ abbrev pub break_count : List Bool → ℕ
 break_count breaks = count_by (λ has. has) breaks
 
 abbrev pub with_break : ℕ → List Bool → List Bool
-with_break place breaks = slice_set breaks (place / 4) true
+with_break address breaks = slice_set breaks (address / 4) true
 
 abbrev pub without_break : ℕ → List Bool → List Bool
-without_break place breaks = slice_set breaks (place / 4) false
+without_break address breaks = slice_set breaks (address / 4) false
 
 -- why an address can't get a breakpoint
 abbrev pub break_fault : ℕ → List Bool → Option BreakFault
-break_fault place breaks =
-    if is_break breaks place then Some BreakTwice
+break_fault address breaks =
+    if is_break breaks address then Some BreakTwice
     else if nat_le 16 (break_count breaks) then Some BreakFull
     else None

@@ -53,10 +53,10 @@ after_run_until_move n moves d = after_run (steps_to_move moves n d.state) d
 
 -- with one breakpoint more, or less
 abbrev pub with_breakpoint : ℕ → Debugging → Debugging
-with_breakpoint place d = record d { breaks = with_break place d.breaks }
+with_breakpoint address d = record d { breaks = with_break address d.breaks }
 
 abbrev pub without_breakpoint : ℕ → Debugging → Debugging
-without_breakpoint place d = record d { breaks = without_break place d.breaks }
+without_breakpoint address d = record d { breaks = without_break address d.breaks }
 
 -- with one watch more, or less
 abbrev pub with_new_watch : ℕ → ℕ → ℕ → Debugging → Debugging

@@ -24,7 +24,7 @@ no_moves = record { reads = 0; writes = 0 }
 
 -- whether an instruction is one of some moves: an MFC0 from SP register r by bit r of `reads`, an MTC0 to it by bit r of `writes`
 abbrev pub is_asked : Moves → Option Inst → Bool
-is_asked moves (Some (MoveSp row rt r)) = bit_at (if is_write row then moves.writes else moves.reads) r == 1
+is_asked moves (Some (MoveSp op rt r)) = bit_at (if is_write op then moves.writes else moves.reads) r == 1
 is_asked moves _ = false
 
 -- whether a machine isn't halted and executes such a move next
@@ -37,7 +37,7 @@ steps_to_move moves n s = least (λ k. is_at_move moves (steps_of k s)) n
 
 -- the move that an instruction is, of a run that stopped there
 abbrev pub move_by : Option Inst → Stop → State → MoveEnd
-move_by (Some (MoveSp row rt r)) stop s = end.Move stop.steps stop.pc r (is_write row) (register s.registers rt)
+move_by (Some (MoveSp op rt r)) stop s = end.Move stop.steps stop.pc r (is_write op) (register s.registers rt)
 move_by _ stop s = end.Stop stop
 
 -- the reason that comes after all others

@@ -25,8 +25,8 @@ pub record ListedWord : Type 0 where
   pub text : List ℕ
 
 abbrev pub listing_line : State → ℕ → ListedWord
-listing_line s place = record { place = place; word = word_at s.imem place; text = disassembly (word_at s.imem place) place }
+listing_line s address = record { place = address; word = word_at s.imem address; text = disassembly (word_at s.imem address) address }
 
 -- the n words from an address of IMEM on
 unfoldable pub listing_of : State → ℕ → ℕ → List ListedWord
-listing_of s place n = map (λ i. listing_line s (place + 4 * i)) (range_with_len 0 n)
+listing_of s address n = map (λ i. listing_line s (address + 4 * i)) (range_with_len 0 n)

@@ -15,12 +15,12 @@ use Rattle.rsp_debug.specs.Snapshots.{differs}
 
 -- the instruction, if it is an MFC0 or MTC0
 abbrev pub move_of : Option Inst → Option Inst
-move_of (Some (MoveSp row rt r)) = Some (MoveSp row rt r)
+move_of (Some (MoveSp op rt r)) = Some (MoveSp op rt r)
 move_of _ = None
 
 -- whether a move is one of some moves, by its direction and its SP register
 abbrev pub has_move : Moves → MoveOp → ℕ → Bool
-has_move moves row register = bit_at (if is_write row then moves.writes else moves.reads) register == 1
+has_move moves op register = bit_at (if is_write op then moves.writes else moves.reads) register == 1
 
 -- why a machine can't make a step
 abbrev pub step_refusal : State → Option Reason
@@ -38,4 +38,4 @@ Asks ends breaks snapshots = (pc word : ℕ) (stored : Bool) → ends pc word st
 
 -- A test refuses exactly some moves.
 abbrev pub Refuses : (MoveOp → ℕ → Bool) → Moves → Type 0
-Refuses refuses moves = (row : MoveOp) (register : ℕ) → refuses row register ≡ has_move moves row register
+Refuses refuses moves = (op : MoveOp) (register : ℕ) → refuses op register ≡ has_move moves op register

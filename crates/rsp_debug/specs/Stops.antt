@@ -19,12 +19,12 @@ is_changed before dmem None = false
 is_changed before dmem (Some w) = not (bytes_eq (watched w before) (watched w dmem))
 
 -- the lowest number of a watch with a byte that isn't what it was
-unfoldable pub changed : List (Option Watch) → List ℕ → List ℕ → Option ℕ
-changed watches before dmem = position (is_changed before dmem) watches
+unfoldable pub changed_watch : List (Option Watch) → List ℕ → List ℕ → Option ℕ
+changed_watch watches before dmem = position (is_changed before dmem) watches
 
 -- whether an address of IMEM has a breakpoint: `breaks` has a truth value for each of the 1024 words
 abbrev pub is_break : List Bool → ℕ → Bool
-is_break breaks place = slice_index_or breaks (place / 4) false
+is_break breaks address = slice_index_or breaks (address / 4) false
 
 -- whether a machine isn't halted and the word at pc is reserved
 abbrev pub is_reserved : State → Bool
@@ -46,7 +46,7 @@ abbrev pub reason_in : List Bool → List (Option Watch) → ℕ → ℕ → Sta
 reason_in breaks watches n k before s = first_of (
     when (is_reserved s) Reserved
     ∷ when s.sp.halted Halted
-    ∷ (if nat_lt 0 k then option_map Watched (changed watches before.dmem s.dmem) else None)
+    ∷ (if nat_lt 0 k then option_map Watched (changed_watch watches before.dmem s.dmem) else None)
     ∷ when (nat_lt 0 k && is_break breaks s.pc) Break
     ∷ when (k == n) Limit
     ∷ [])
@@ -80,4 +80,4 @@ pub record IsStop (breaks : List Bool) (watches : List (Option Watch)) (n : ℕ)
   pub reached : t ≡ steps_of stop.steps s
   pub reason : reason_at breaks watches n s stop.steps ≡ Some stop.reason
   pub first : (j : ℕ) → j < stop.steps → reason_at breaks watches n s j ≡ None
-  pub place : stop.pc ≡ t.pc
+  pub pc : stop.pc ≡ t.pc

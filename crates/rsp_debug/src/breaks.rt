@@ -61,30 +61,30 @@ impl Breaks {
     /// Whether the word at an address below 4096 has a breakpoint. The two lowest bits of the address don't count.
     #[inline]
     #[tactic(auto, using(crate::proofs::BreakTable::tables))]
-    pub fn contains(&self, place: u16) -> bool
-        requires { place < 4096 }
-        ensures { result ≡ is_break self.now place }
+    pub fn contains(&self, address: u16) -> bool
+        requires { address < 4096 }
+        ensures { result ≡ is_break self.now address }
     {
-        let at = place / 4;
+        let at = address / 4;
         (self.bits[(at / 64) as usize] >> (at % 64)) & 1 == 1
     }
 
     /// Adds a breakpoint at an address. BreakTwice if it has one, else BreakFull if there are sixteen.
     #[tactic(auto, using(crate::proofs::BreakTable::tables))]
-    pub fn add(&mut self, place: u16) -> Result<(), BreakFault>
-        requires { place < 4096 }
-        ensures fault { MatchResult result (λ _. break_fault place self.old ≡ None) (λ f. break_fault place self.old ≡ Some f) }
-        ensures ok { OnOk result (self.new ≡ with_break place self.old) }
+    pub fn add(&mut self, address: u16) -> Result<(), BreakFault>
+        requires { address < 4096 }
+        ensures fault { MatchResult result (λ _. break_fault address self.old ≡ None) (λ f. break_fault address self.old ≡ Some f) }
+        ensures ok { OnOk result (self.new ≡ with_break address self.old) }
         ensures err { OnErr result (self.new ≡ self.old) }
         ensures few { break_count self.new ≤ 16 }
     {
-        if self.contains(place) {
+        if self.contains(address) {
             return Err(BreakFault::BreakTwice);
         }
         if self.count >= 16 {
             return Err(BreakFault::BreakFull);
         }
-        let at = place / 4;
+        let at = address / 4;
         self.bits[(at / 64) as usize] |= 1 << (at % 64);
         self.count += 1;
         Ok(())
@@ -92,16 +92,16 @@ impl Breaks {
 
     /// Removes the breakpoint of an address. NoBreak if it has none.
     #[tactic(auto, using(crate::proofs::BreakTable::tables))]
-    pub fn remove(&mut self, place: u16) -> Result<(), NoBreak>
-        requires { place < 4096 }
-        ensures had { IsOk result ↔ IsTrue (is_break self.old place) }
-        ensures ok { OnOk result (self.new ≡ without_break place self.old) }
+    pub fn remove(&mut self, address: u16) -> Result<(), NoBreak>
+        requires { address < 4096 }
+        ensures had { IsOk result ↔ IsTrue (is_break self.old address) }
+        ensures ok { OnOk result (self.new ≡ without_break address self.old) }
         ensures err { OnErr result (self.new ≡ self.old) }
     {
-        if !self.contains(place) {
+        if !self.contains(address) {
             return Err(NoBreak);
         }
-        let at = place / 4;
+        let at = address / 4;
         self.bits[(at / 64) as usize] &= !(1 << (at % 64));
         self.count -= 1;
         Ok(())

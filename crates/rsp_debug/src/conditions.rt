@@ -60,7 +60,7 @@ impl<'a> Until for StopConditions<'a> {
 
     ghost ends = { λ s pc word stored. is_break s.breaks.now pc || (stored && not (length s.snapshots.now == 0)) };
 
-    ghost refuses = { λ s row register. has_move s.moves row register };
+    ghost refuses = { λ s op register. has_move s.moves op register };
 
     #[inline(always)]
     fn ends(&self, pc: u16, _word: u32, stored: bool) -> bool {
@@ -68,7 +68,7 @@ impl<'a> Until for StopConditions<'a> {
     }
 
     #[inline(always)]
-    fn refuses(&self, row: MoveOp, register: u8) -> bool {
-        self.moves.refuses(row, register)
+    fn refuses(&self, op: MoveOp, register: u8) -> bool {
+        self.moves.refuses(op, register)
     }
 }

@@ -20,6 +20,9 @@ use rsp_machine::{Machine, StepEnd};
 use std::alloc::{AllocError, Global};
 use std::marker::Model;
 
+/// The most steps of a run, and of a step back.
+pub(crate) const RUN_LIMIT: u32 = 1_000_000;
+
 /// Fault 26, Count: a run of no steps, or of more than 1000000.
 #[derive(Clone, Copy, Debug, PartialEq, Eq, Drop)]
 pub struct CountFault;
@@ -104,26 +107,26 @@ impl<A: Acc> Debugger<A> {
 
     /// Adds a breakpoint at an address of IMEM, a multiple of 4 below 4096: a run stops when a step leads there. BreakTwice if the
     /// address has one, else BreakFull if sixteen addresses have one.
-    pub fn add_break(&mut self, place: u16) -> Result<(), BreakFault>
-        requires below { place < 4096 }
-        requires whole { place % 4 ≡ 0 }
-        ensures fault { MatchResult result (λ _. break_fault place self.old.breaks ≡ None) (λ f. break_fault place self.old.breaks ≡ Some f) }
-        ensures ok { OnOk result (self.new ≡ with_breakpoint place self.old) }
+    pub fn add_break(&mut self, address: u16) -> Result<(), BreakFault>
+        requires below { address < 4096 }
+        requires whole { address % 4 ≡ 0 }
+        ensures fault { MatchResult result (λ _. break_fault address self.old.breaks ≡ None) (λ f. break_fault address self.old.breaks ≡ Some f) }
+        ensures ok { OnOk result (self.new ≡ with_breakpoint address self.old) }
         ensures err { OnErr result (self.new ≡ self.old) }
         ensures few { break_count self.new.breaks ≤ 16 }
     {
-        self.breaks.add(place)
+        self.breaks.add(address)
     }
 
     /// Removes the breakpoint of an address of IMEM, a multiple of 4 below 4096. NoBreak if it has none.
-    pub fn drop_break(&mut self, place: u16) -> Result<(), NoBreak>
-        requires below { place < 4096 }
-        requires whole { place % 4 ≡ 0 }
-        ensures had { IsOk result ↔ IsTrue (is_break self.old.breaks place) }
-        ensures ok { OnOk result (self.new ≡ without_breakpoint place self.old) }
+    pub fn drop_break(&mut self, address: u16) -> Result<(), NoBreak>
+        requires below { address < 4096 }
+        requires whole { address % 4 ≡ 0 }
+        ensures had { IsOk result ↔ IsTrue (is_break self.old.breaks address) }
+        ensures ok { OnOk result (self.new ≡ without_breakpoint address self.old) }
         ensures err { OnErr result (self.new ≡ self.old) }
     {
-        self.breaks.remove(place)
+        self.breaks.remove(address)
     }
 
     /// Watches `len` bytes of DMEM from an address on, and returns the watch's number, the lowest that is free: a run stops after a
@@ -157,7 +160,7 @@ impl<A: Acc> Debugger<A> {
         ensures next { OnOk result (self.new ≡ after_run n self.old) }
         ensures err { OnErr result (self.new ≡ self.old) }
     {
-        if n == 0 || n > 1_000_000 {
+        if n == 0 || n > RUN_LIMIT {
             return Err(CountFault);
         }
         Ok(run(
@@ -182,7 +185,7 @@ impl<A: Acc> Debugger<A> {
         ensures next { OnOk result (self.new ≡ after_run_until_move n moves self.old) }
         ensures err { OnErr result (self.new ≡ self.old) }
     {
-        if n == 0 || n > 1_000_000 {
+        if n == 0 || n > RUN_LIMIT {
             return Err(CountFault);
         }
         let stop = run(
@@ -205,7 +208,7 @@ impl<A: Acc> Debugger<A> {
         ensures count { IsErrOf result BackFault.Count ↔ ((n ≡ 0) ⊎ (1000000 < n)) }
         ensures short { IsErrOf result BackFault.ShortHistory ↔ ((0 < n) × (n ≤ 1000000) × (length self.old.past < n)) }
     {
-        if n == 0 || n > 1_000_000 {
+        if n == 0 || n > RUN_LIMIT {
             return Err(BackFault::Count);
         }
         if self.history.len() < n as usize {

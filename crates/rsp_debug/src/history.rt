@@ -1,4 +1,8 @@
 // The records of the last steps, which undo them.
+//
+// The ring is filled once, and written in place: the push of `circular_buffer` takes a whole record by value, a copy
+// of 200 bytes and more. So the index after the newest entry, and the number of entries, are kept beside it. A single
+// step takes its entry by the index; to lend the ring as one slice costs more, which a run pays once for many steps.
 
 ghost use Rattle.std.specs.Prelude.{◌≡◌, ◌<◌, ◌≤◌, ◌+◌, ◌-◌, ◌⊎◌, ℕ, true, false, [], length, drop, slice_get, slice_index_or, option_copied, IfOk};
 ghost use Rattle.rsp_machine.specs.Step.{step_of};
@@ -51,7 +55,7 @@ fn previous_entry(n: usize, i: usize) -> usize
 }
 
 /// Whether the first `made` steps of some records can all be undone. Only the last of them may have started a DMA.
-fn can_undo(records: &[Record], made: usize) -> bool
+fn can_undo_steps(records: &[Record], made: usize) -> bool
     requires { made ≤ length records.now }
     ensures none { made ≡ 0 → result ≡ true }
     ensures last { 0 < made → result ≡ can_undo (record_at records.now (made - 1)).footprint }
@@ -178,7 +182,7 @@ impl History {
         let room = (n as usize).min(depth - first);
         let lent = &mut self.slots.make_contiguous()[first..first + room];
         let made = machine.steps_recorded_until(lent, until);
-        self.count = if can_undo(lent, made) {
+        self.count = if can_undo_steps(lent, made) {
             (self.count + made).min(depth)
         } else {
             0

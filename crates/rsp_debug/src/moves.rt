@@ -54,7 +54,7 @@ impl Visitor for KeptMove {
     #[inline(always)]
     fn take(&mut self, inst: Inst) {
         self.inst = match inst {
-            Inst::MoveSp { row, rt, register } => Some(Inst::MoveSp { row, rt, register }),
+            Inst::MoveSp { op, rt, register } => Some(Inst::MoveSp { op, rt, register }),
             _ => None,
         };
     }
@@ -100,11 +100,11 @@ impl Moves {
 
     /// Whether a move of an SP register is one of them.
     #[inline(always)]
-    fn has_move(self, row: MoveOp, register: u8) -> bool
+    fn has_move(self, op: MoveOp, register: u8) -> bool
         requires { register < 16 }
-        ensures { result ≡ has_move self row register }
+        ensures { result ≡ has_move self op register }
     {
-        match row {
+        match op {
             MoveOp::From => self.reads >> register & 1 == 1,
             MoveOp::To => self.writes >> register & 1 == 1,
         }
@@ -119,12 +119,12 @@ impl Moves {
             return MoveEnd::Stop(stop);
         }
         match move_of(machine.imem().aligned_word(usize::from(machine.pc()))) {
-            Some(Inst::MoveSp { row, rt, register }) if self.has_move(row, register) => {
+            Some(Inst::MoveSp { op, rt, register }) if self.has_move(op, register) => {
                 MoveEnd::Move {
                     steps: stop.steps,
                     pc: stop.pc,
                     register,
-                    writes: matches!(row, MoveOp::To),
+                    writes: matches!(op, MoveOp::To),
                     value: machine.reg(rt),
                 }
             }
@@ -139,7 +139,7 @@ impl Until for Moves {
 
     ghost ends = { λ m pc word stored. false };
 
-    ghost refuses = { λ m row register. has_move m row register };
+    ghost refuses = { λ m op register. has_move m op register };
 
     #[inline(always)]
     fn ends(&self, _pc: u16, _word: u32, _stored: bool) -> bool {
@@ -147,7 +147,7 @@ impl Until for Moves {
     }
 
     #[inline(always)]
-    fn refuses(&self, row: MoveOp, register: u8) -> bool {
-        self.has_move(row, register)
+    fn refuses(&self, op: MoveOp, register: u8) -> bool {
+        self.has_move(op, register)
     }
 }

@@ -91,29 +91,29 @@ fn bank_bytes<A: Acc>(machine: &Machine<A>, bank: Bank, a: u32, n: usize) -> Arr
 }
 
 /// The word at an address of IMEM, with its text.
-fn read_word<A: Acc>(machine: &Machine<A>, place: u16) -> ListingLine
-    requires { place < 4096 }
-    ensures { result ≡ listing_line machine.now place }
+fn read_word<A: Acc>(machine: &Machine<A>, address: u16) -> ListingLine
+    requires { address < 4096 }
+    ensures { result ≡ listing_line machine.now address }
 {
-    let word = machine.imem().word(u32::from(place));
+    let word = machine.imem().word(u32::from(address));
     ListingLine {
-        place,
+        place: address,
         word,
-        text: text_of(word, place),
+        text: text_of(word, address),
     }
 }
 
 /// `n` words of IMEM from an address on.
 #[tactic(auto, using(crate::proofs::QueryAnswers::words))]
-fn listed_words<A: Acc>(machine: &Machine<A>, place: u16, n: u16) -> ArrayVec<ListingLine, 64>
+fn listed_words<A: Acc>(machine: &Machine<A>, address: u16, n: u16) -> ArrayVec<ListingLine, 64>
     requires few { n ≤ 64 }
-    requires inside { place + 4 * n ≤ 4096 }
-    ensures words { result.items ≡ listing_of machine.now place n }
+    requires inside { address + 4 * n ≤ 4096 }
+    ensures words { result.items ≡ listing_of machine.now address n }
     ensures count { length result.items ≡ n }
 {
     let mut words = ArrayVec::new();
     for i in 0..n {
-        words.push(read_word(machine, place + 4 * i));
+        words.push(read_word(machine, address + 4 * i));
     }
     words
 }
@@ -193,18 +193,18 @@ impl<A: Acc> Debugger<A> {
 
     /// `n` words of IMEM from an address on, a multiple of 4 below 4096, 1 to 64 of them, each with its canonical text.
     /// RangeFault if they pass the end of IMEM. The words are read at each call.
-    pub fn listing(&self, place: u16, n: u16) -> Result<ArrayVec<ListingLine, 64>, RangeFault>
-        requires below { place < 4096 }
-        requires whole { place % 4 ≡ 0 }
+    pub fn listing(&self, address: u16, n: u16) -> Result<ArrayVec<ListingLine, 64>, RangeFault>
+        requires below { address < 4096 }
+        requires whole { address % 4 ≡ 0 }
         requires some { 1 ≤ n }
         requires few { n ≤ 64 }
-        ensures inside { IsOk result ↔ (place + 4 * n ≤ 4096) }
-        ensures words { IfOk result (λ words. words.items ≡ listing_of self.now.state place n) }
+        ensures inside { IsOk result ↔ (address + 4 * n ≤ 4096) }
+        ensures words { IfOk result (λ words. words.items ≡ listing_of self.now.state address n) }
         ensures count { IfOk result (λ words. length words.items ≡ n) }
     {
-        if place + 4 * n > 4096 {
+        if address + 4 * n > 4096 {
             return Err(RangeFault);
         }
-        Ok(listed_words(&self.machine, place, n))
+        Ok(listed_words(&self.machine, address, n))
     }
 }

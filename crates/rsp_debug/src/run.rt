@@ -1,4 +1,8 @@
 // Runs, which make steps in stretches. After each stretch a run tests whether there is a reason to stop.
+//
+// The debugger lends the machine the entries up to the ring's end, and inspects it between stretches. A stretch also
+// ends at an address that has a breakpoint, and after a step that may have changed DMEM, so watched bytes are compared
+// only there. If nothing else can end the run and no history is kept, the machine makes all its steps by one call.
 
 ghost use Rattle.std.specs.Prelude.{◌≡◌, false, None, unwrap_or};
 ghost use Rattle.rsp_debug.specs.Stops.{IsStop};

@@ -11,7 +11,7 @@ ghost use Rattle.rsp_debug.specs.Traces.{trace_of};
 
 use crate::breaks::Breaks;
 use crate::conditions::{StopConditions, dmem_bytes};
-use crate::debugger::{CountFault, Debugger};
+use crate::debugger::{CountFault, Debugger, RUN_LIMIT};
 use crate::history::History;
 use crate::moves::Moves;
 use crate::run::stopped_here;
@@ -103,7 +103,7 @@ impl<A: Acc> Debugger<A> {
         ensures err { OnErr result (self.new ≡ self.old) }
         ensures kept { OnErr result (out.new ≡ out.old) }
     {
-        if out.is_empty() || out.len() > 1_000_000 {
+        if out.is_empty() || out.len() > RUN_LIMIT as usize {
             return Err(CountFault);
         }
         Ok(trace(

@@ -12,7 +12,7 @@ use Rattle.rsp_decode.specs.declared.vector.VectorLoadOp.{VectorLoadOp}
 use Rattle.rsp_decode.specs.declared.vector.VectorLoadOp.TheVariants.{Lbv}
 use Rattle.rsp_decode.specs.declared.vector.VectorStoreOp.{VectorStoreOp}
 use Rattle.rsp_decode.specs.declared.vector.VectorStoreOp.TheVariants.{Sbv}
-use Rattle.rsp_decode.specs.Table.{shifts, shifts_by, registers, jumps, branches_equal, immediates, loads, stores, multiplies, rounds, mpegs, vector_adds, vector_selects, vector_clips, vector_logics, divides, idles, vector_loads, vector_stores, Row, rows, row_of, fits, fields, row_bit_fields, inst_of, canonical_of, meaning_of, word_from, word_of, row_and_values, IsInstruction, FitBitFields, control_of, control_number, special_rows, regimm_rows, opcode_rows, cop0_rows, cop2_rows, computing_rows, lwc2_rows, swc2_rows, shift_row, shift_by_row, jump_register_row, jump_link_register_row, break_row, register_row, branch_sign_row, jump_row, branch_equal_row, immediate_row, load_upper_row, load_row, store_row, move_sp_row, move_vector_row, move_control_row, multiply_row, round_row, mpeg_row, read_accumulator_row, vector_add_row, vector_select_row, vector_clip_row, vector_merge_row, vector_logic_row, divide_row, idle_row, vector_load_row, vector_store_row}
+use Rattle.rsp_decode.specs.Table.{shift_ops, shift_by_ops, register_ops, jump_ops, branch_equal_ops, immediate_ops, load_ops, store_ops, multiply_ops, round_ops, mpeg_ops, vector_add_ops, vector_select_ops, vector_clip_ops, vector_logic_ops, divide_ops, idle_ops, vector_load_ops, vector_store_ops, Row, rows, row_of, fits, fields, row_bit_fields, inst_of, canonical_of, meaning_of, word_from, word_of, row_and_values, IsInstruction, FitBitFields, control_of, control_number, special_rows, regimm_rows, opcode_rows, cop0_rows, cop2_rows, computing_rows, lwc2_rows, swc2_rows, shift_row, shift_by_row, jump_register_row, jump_link_register_row, break_row, register_row, branch_sign_row, jump_row, branch_equal_row, immediate_row, load_upper_row, load_row, store_row, move_sp_row, move_vector_row, move_control_row, multiply_row, round_row, mpeg_row, read_accumulator_row, vector_add_row, vector_select_row, vector_clip_row, vector_merge_row, vector_logic_row, divide_row, idle_row, vector_load_row, vector_store_row}
 use Rattle.rsp_decode.proofs.BitFields.{fit_read}
 
 -- a fact of each row of a list
@@ -73,12 +73,12 @@ vector_store_kept r = elim r as (λ s. Kept (vector_store_row s)) [ Sbv ↦ λ w
 
 special_kept_rows : Each Kept special_rows
 special_kept_rows =
-    group shift_row (λ r w. refl) shifts
-    & group shift_by_row (λ r w. refl) shifts_by
+    group shift_row (λ r w. refl) shift_ops
+    & group shift_by_row (λ r w. refl) shift_by_ops
     & alone jump_register_row (λ w. refl)
     & alone jump_link_register_row (λ w. refl)
     & alone break_row (λ w. refl)
-    & group register_row (λ r w. refl) registers
+    & group register_row (λ r w. refl) register_ops
 
 regimm_kept_rows : Each Kept regimm_rows
 regimm_kept_rows = group branch_sign_row (λ r w. refl) (Bltz ∷ Bgez ∷ Bltzal ∷ Bgezal ∷ [])
@@ -86,12 +86,12 @@ regimm_kept_rows = group branch_sign_row (λ r w. refl) (Bltz ∷ Bgez ∷ Bltza
 opcode_kept_rows : Each Kept opcode_rows
 opcode_kept_rows =
     group branch_sign_row (λ r w. refl) (Blez ∷ Bgtz ∷ [])
-    & group jump_row (λ r w. refl) jumps
-    & group branch_equal_row (λ r w. refl) branches_equal
-    & group immediate_row immediate_kept immediates
+    & group jump_row (λ r w. refl) jump_ops
+    & group branch_equal_row (λ r w. refl) branch_equal_ops
+    & group immediate_row immediate_kept immediate_ops
     & alone load_upper_row (λ w. refl)
-    & group load_row (λ r w. refl) loads
-    & group store_row (λ r w. refl) stores
+    & group load_row (λ r w. refl) load_ops
+    & group store_row (λ r w. refl) store_ops
 
 cop0_kept_rows : Each Kept cop0_rows
 cop0_kept_rows = group move_sp_row (λ r w. refl) (From ∷ To ∷ [])
@@ -103,23 +103,23 @@ cop2_kept_rows =
 
 computing_kept_rows : Each Kept computing_rows
 computing_kept_rows =
-    group multiply_row (λ r w. refl) multiplies
-    & group round_row (λ r w. refl) rounds
-    & group mpeg_row (λ r w. refl) mpegs
+    group multiply_row (λ r w. refl) multiply_ops
+    & group round_row (λ r w. refl) round_ops
+    & group mpeg_row (λ r w. refl) mpeg_ops
     & alone read_accumulator_row (λ w. refl)
-    & group vector_add_row (λ r w. refl) vector_adds
-    & group vector_select_row (λ r w. refl) vector_selects
-    & group vector_clip_row (λ r w. refl) vector_clips
+    & group vector_add_row (λ r w. refl) vector_add_ops
+    & group vector_select_row (λ r w. refl) vector_select_ops
+    & group vector_clip_row (λ r w. refl) vector_clip_ops
     & alone vector_merge_row (λ w. refl)
-    & group vector_logic_row (λ r w. refl) vector_logics
-    & group divide_row (λ r w. refl) divides
-    & group idle_row (λ r w. refl) idles
+    & group vector_logic_row (λ r w. refl) vector_logic_ops
+    & group divide_row (λ r w. refl) divide_ops
+    & group idle_row (λ r w. refl) idle_ops
 
 lwc2_kept_rows : Each Kept lwc2_rows
-lwc2_kept_rows = group vector_load_row vector_load_kept vector_loads
+lwc2_kept_rows = group vector_load_row vector_load_kept vector_load_ops
 
 swc2_kept_rows : Each Kept swc2_rows
-swc2_kept_rows = group vector_store_row vector_store_kept vector_stores
+swc2_kept_rows = group vector_store_row vector_store_kept vector_store_ops
 
 all_kept : Each Kept rows
 all_kept =

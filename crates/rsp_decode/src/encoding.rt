@@ -41,79 +41,75 @@ fn canonical_word(inst: &Inst) -> u32
     ensures { result ≡ word_of inst.now }
 {
     match *inst {
-        Inst::Shift {
-            row,
-            rd,
-            rt,
-            amount,
-        } => shift_value(row) | at(rd, 11) | at(rt, 16) | at(amount, 6),
-        Inst::ShiftBy { row, fields } => shift_by_value(row)
+        Inst::Shift { op, rd, rt, amount } => shift_value(op)
+            | at(rd, 11)
+            | at(rt, 16)
+            | at(amount, 6),
+        Inst::ShiftBy { op, fields } => shift_by_value(op)
             | at(fields.rd, 11)
             | at(fields.rt, 16)
             | at(fields.rs, 21),
         Inst::JumpRegister { rs } => JUMP_REGISTER | at(rs, 21),
         Inst::JumpLinkRegister { rd, rs } => JUMP_LINK_REGISTER | at(rd, 11) | at(rs, 21),
         Inst::Break => BREAK,
-        Inst::Register { row, fields } => register_value(row)
+        Inst::Register { op, fields } => register_value(op)
             | at(fields.rd, 11)
             | at(fields.rs, 21)
             | at(fields.rt, 16),
-        Inst::BranchSign { row, rs, offset } => branch_sign_value(row)
+        Inst::BranchSign { op, rs, offset } => branch_sign_value(op)
             | at(rs, 21)
             | u32::from(offset),
-        Inst::Jump { row, target } => jump_value(row) | u32::from(target),
-        Inst::BranchEqual {
-            row,
-            rs,
-            rt,
-            offset,
-        } => branch_equal_value(row) | at(rs, 21) | at(rt, 16) | u32::from(offset),
-        Inst::Immediate { row, rt, rs, imm } => immediate_value(row)
+        Inst::Jump { op, target } => jump_value(op) | u32::from(target),
+        Inst::BranchEqual { op, rs, rt, offset } => branch_equal_value(op)
+            | at(rs, 21)
+            | at(rt, 16)
+            | u32::from(offset),
+        Inst::Immediate { op, rt, rs, imm } => immediate_value(op)
             | at(rt, 16)
             | at(rs, 21)
             | u32::from(imm),
         Inst::LoadUpper { rt, imm } => LOAD_UPPER | at(rt, 16) | u32::from(imm),
-        Inst::Load { row, fields } => load_value(row)
+        Inst::Load { op, fields } => load_value(op)
             | at(fields.rt, 16)
             | u32::from(fields.offset)
             | at(fields.base, 21),
-        Inst::Store { row, fields } => store_value(row)
+        Inst::Store { op, fields } => store_value(op)
             | at(fields.rt, 16)
             | u32::from(fields.offset)
             | at(fields.base, 21),
-        Inst::MoveSp { row, rt, register } => move_sp_value(row) | at(rt, 16) | at(register, 11),
+        Inst::MoveSp { op, rt, register } => move_sp_value(op) | at(rt, 16) | at(register, 11),
         Inst::MoveVector {
-            row,
+            op,
             rt,
             vector,
             element,
-        } => move_vector_value(row) | at(rt, 16) | at(vector, 11) | at(element, 7),
-        Inst::MoveControl { row, rt, control } => move_control_value(row)
+        } => move_vector_value(op) | at(rt, 16) | at(vector, 11) | at(element, 7),
+        Inst::MoveControl { op, rt, control } => move_control_value(op)
             | at(rt, 16)
             | at(control_bits(control), 11),
-        Inst::Multiply { row, fields } => with_vectors(multiply_value(row), fields),
-        Inst::Round { row, fields } => with_vectors(round_value(row), fields),
-        Inst::MpegMultiply { row, fields } => with_vectors(mpeg_value(row), fields),
+        Inst::Multiply { op, fields } => with_vectors(multiply_value(op), fields),
+        Inst::Round { op, fields } => with_vectors(round_value(op), fields),
+        Inst::MpegMultiply { op, fields } => with_vectors(mpeg_value(op), fields),
         Inst::ReadAccumulator { fields } => with_vectors(READ_ACCUMULATOR, fields),
-        Inst::VectorAdd { row, fields } => with_vectors(vector_add_value(row), fields),
-        Inst::VectorSelect { row, fields } => with_vectors(vector_select_value(row), fields),
-        Inst::VectorClip { row, fields } => with_vectors(vector_clip_value(row), fields),
+        Inst::VectorAdd { op, fields } => with_vectors(vector_add_value(op), fields),
+        Inst::VectorSelect { op, fields } => with_vectors(vector_select_value(op), fields),
+        Inst::VectorClip { op, fields } => with_vectors(vector_clip_value(op), fields),
         Inst::VectorMerge { fields } => with_vectors(VECTOR_MERGE, fields),
-        Inst::VectorLogic { row, fields } => with_vectors(vector_logic_value(row), fields),
+        Inst::VectorLogic { op, fields } => with_vectors(vector_logic_value(op), fields),
         Inst::Divide {
-            row,
+            op,
             vd,
             lane,
             vt,
             element,
-        } => divide_value(row) | at(vd, 6) | at(lane, 11) | at(vt, 16) | at(element, 21),
-        Inst::Idle { row } => idle_value(row),
-        Inst::VectorLoad { row, fields } => vector_load_value(row)
+        } => divide_value(op) | at(vd, 6) | at(lane, 11) | at(vt, 16) | at(element, 21),
+        Inst::Idle { op } => idle_value(op),
+        Inst::VectorLoad { op, fields } => vector_load_value(op)
             | at(fields.vt, 16)
             | at(fields.element, 7)
             | at(fields.offset, 0)
             | at(fields.base, 21),
-        Inst::VectorStore { row, fields } => vector_store_value(row)
+        Inst::VectorStore { op, fields } => vector_store_value(op)
             | at(fields.vt, 16)
             | at(fields.element, 7)
             | at(fields.offset, 0)

@@ -1,4 +1,7 @@
 // Instructions: a variant for each group.
+//
+// The enums derive neither `PartialEq` nor `Debug`, since a derive is proved, too. Two instructions are compared by
+// their words, or by a pattern.
 
 use crate::fields::{RegisterFields, ScalarMemoryFields, VectorFields, VectorMemoryFields};
 use crate::scalar::{
@@ -23,14 +26,14 @@ use crate::vector::{
 pub enum Inst {
     /// `sll $d, $t, amount`.
     Shift {
-        row: ShiftOp,
+        op: ShiftOp,
         rd: u8,
         rt: u8,
         amount: u8,
     },
     /// `sllv $d, $t, $s`.
     ShiftBy {
-        row: ShiftVariableOp,
+        op: ShiftVariableOp,
         fields: RegisterFields,
     },
     /// `jr $s`: jumps to the address in a register.
@@ -46,30 +49,30 @@ pub enum Inst {
     Break,
     /// `add $d, $s, $t`.
     Register {
-        row: RegisterOp,
+        op: RegisterOp,
         fields: RegisterFields,
     },
     /// `bltz $s, target`.
     BranchSign {
-        row: BranchSignOp,
+        op: BranchSignOp,
         rs: u8,
         offset: u16,
     },
     /// `beq $s, $t, target`.
     BranchEqual {
-        row: BranchEqualOp,
+        op: BranchEqualOp,
         rs: u8,
         rt: u8,
         offset: u16,
     },
     /// `j target`.
     Jump {
-        row: JumpOp,
+        op: JumpOp,
         target: u16,
     },
     /// `addi $t, $s, imm`.
     Immediate {
-        row: ImmediateOp,
+        op: ImmediateOp,
         rt: u8,
         rs: u8,
         imm: u16,
@@ -81,46 +84,46 @@ pub enum Inst {
     },
     /// `lw $t, offset($base)`.
     Load {
-        row: LoadOp,
+        op: LoadOp,
         fields: ScalarMemoryFields,
     },
     /// `sw $t, offset($base)`.
     Store {
-        row: StoreOp,
+        op: StoreOp,
         fields: ScalarMemoryFields,
     },
     /// `mfc0 $t, $cN`, `mtc0 $t, $cN`: an SP register.
     MoveSp {
-        row: MoveOp,
+        op: MoveOp,
         rt: u8,
         register: u8,
     },
     /// `mfc2 $t, $vN[e]`, `mtc2 $t, $vN[e]`: two bytes of a vector register from byte `element` on.
     MoveVector {
-        row: MoveOp,
+        op: MoveOp,
         rt: u8,
         vector: u8,
         element: u8,
     },
     /// `cfc2 $t, $vco`, `ctc2 $t, $vco`: a control register.
     MoveControl {
-        row: MoveOp,
+        op: MoveOp,
         rt: u8,
         control: Control,
     },
     /// `vmulf $vD, $vS, $vT[e]`.
     Multiply {
-        row: VectorMultiplyOp,
+        op: VectorMultiplyOp,
         fields: VectorFields,
     },
     /// `vrndp $vD, $vS, $vT[e]`: rounds the accumulator; what is added depends on whether `vs` is odd.
     Round {
-        row: VectorRoundOp,
+        op: VectorRoundOp,
         fields: VectorFields,
     },
     /// `vmulq $vD, $vS, $vT[e]`.
     MpegMultiply {
-        row: VectorMpegOp,
+        op: VectorMpegOp,
         fields: VectorFields,
     },
     /// `vsar $vD, $vS, $vT[e]`: reads the part of the accumulator that `element` names.
@@ -129,17 +132,17 @@ pub enum Inst {
     },
     /// `vadd $vD, $vS, $vT[e]`.
     VectorAdd {
-        row: VectorAddOp,
+        op: VectorAddOp,
         fields: VectorFields,
     },
     /// `vlt $vD, $vS, $vT[e]`.
     VectorSelect {
-        row: VectorSelectOp,
+        op: VectorSelectOp,
         fields: VectorFields,
     },
     /// `vcl $vD, $vS, $vT[e]`.
     VectorClip {
-        row: VectorClipOp,
+        op: VectorClipOp,
         fields: VectorFields,
     },
     /// `vmrg $vD, $vS, $vT[e]`: the lane of `vs` if compare is set, else of `vt`.
@@ -148,12 +151,12 @@ pub enum Inst {
     },
     /// `vand $vD, $vS, $vT[e]`.
     VectorLogic {
-        row: VectorLogicOp,
+        op: VectorLogicOp,
         fields: VectorFields,
     },
     /// `vrcp $vD[lane], $vT[e]`.
     Divide {
-        row: VectorDivideOp,
+        op: VectorDivideOp,
         vd: u8,
         lane: u8,
         vt: u8,
@@ -161,16 +164,16 @@ pub enum Inst {
     },
     /// `vnop`.
     Idle {
-        row: VectorNopOp,
+        op: VectorNopOp,
     },
     /// `lqv $vT[e], offset($base)`.
     VectorLoad {
-        row: VectorLoadOp,
+        op: VectorLoadOp,
         fields: VectorMemoryFields,
     },
     /// `sqv $vT[e], offset($base)`.
     VectorStore {
-        row: VectorStoreOp,
+        op: VectorStoreOp,
         fields: VectorMemoryFields,
     },
 }

@@ -368,7 +368,7 @@ macro_rules! value {
 /// The lines of all sections as rows.
 macro_rules! all_rows {
     (() $($section:ident {
-        $($n:literal $($half:ident)? $name:literal $operands:ident $call:ident $(($row:path))?;)*
+        $($n:literal $($half:ident)? $name:literal $operands:ident $call:ident $(($op:path))?;)*
         $(reserved $($reserved:literal)*;)?
         $(otherwise $otherwise:expr;)?
     })*) => {
@@ -385,13 +385,13 @@ macro_rules! all_rows {
 /// first line whose guard holds, and returns whether there is one.
 macro_rules! arms {
     (@($key:expr, $word:ident, $visitor:ident) {
-        $($n:literal $($half:ident)? $name:literal $operands:ident $call:ident $(($row:path))?;)*
+        $($n:literal $($half:ident)? $name:literal $operands:ident $call:ident $(($op:path))?;)*
         $(reserved $($reserved:literal)*;)?
         $(otherwise $otherwise:expr;)?
     }) => {
         match $key {
             $($n $(if $half($word))? => {
-                $call($word, $($row,)? $visitor);
+                $call($word, $($op,)? $visitor);
                 true
             })*
             $($($reserved => crate::rows::reserved(),)* _ => unreachable!(),)?

@@ -11,16 +11,16 @@ use Rattle.rsp_lanes.proofs.Kit.{eta, each_same, lane_of, length_of}
 use Rattle.rsp_lanes.proofs.ByteLanes.{bytes_of, lanes_of, lanes_again}
 use Rattle.rsp_lanes.proofs.Products.{high_vector}
 
--- the bits of the greater of two numbers of 32 bits, and of the lesser
+-- the bits of the greater of two numbers of 32 bits, and of the signed_lesser
 abbrev pub greater : ℕ → ℕ → ℕ
 greater a b = cond (top 31 (cond (lt_z (to_z w32 a) (to_z w32 b)) 4294967295 0)) b a
 
-abbrev pub lesser : ℕ → ℕ → ℕ
-lesser a b = cond (top 31 (cond (lt_z (to_z w32 a) (to_z w32 b)) 4294967295 0)) a b
+abbrev pub signed_lesser : ℕ → ℕ → ℕ
+signed_lesser a b = cond (top 31 (cond (lt_z (to_z w32 a) (to_z w32 b)) 4294967295 0)) a b
 
 -- the bits of a number clamped to -32768 .. 32767
 abbrev pub saturated : ℤ → ℕ
-saturated z = lesser (greater (of_z w32 z) 4294934528) 32767
+saturated z = signed_lesser (greater (of_z w32 z) 4294934528) 32767
 
 -- what they are
 pub record IsSaturated (z : ℤ) : Type 0 where

@@ -15,6 +15,6 @@ displaced base offset scale = modulo (pos base +ℤ (signed_offset offset *ℤ p
 
 -- the address, from the value of the base register; for another instruction that value
 unfoldable pub vector_address : Inst → ℕ → ℕ
-vector_address (VectorLoad row f) value = displaced value f.offset (vector_load_scale row)
-vector_address (VectorStore row f) value = displaced value f.offset (vector_store_scale row)
+vector_address (VectorLoad op f) value = displaced value f.offset (vector_load_scale op)
+vector_address (VectorStore op f) value = displaced value f.offset (vector_store_scale op)
 vector_address _ value = value

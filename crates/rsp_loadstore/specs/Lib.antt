@@ -7,4 +7,4 @@ pub mod Stores
 pub mod Moves
 pub mod Controls
 pub mod TransposedLanes
-pub mod Reach
+pub mod Windows

@@ -50,5 +50,5 @@ IsLoadElement _ e = Unit {0}
 
 -- the registers after a vector load at the address a; another instruction changes none
 unfoldable pub file_after_load : Inst → ℕ → List ℕ → List (List ℕ) → List (List ℕ)
-file_after_load (VectorLoad row f) a memory file = after_load memory file (load_pairs row f.vt f.element a)
+file_after_load (VectorLoad op f) a memory file = after_load memory file (load_pairs op f.vt f.element a)
 file_after_load _ a memory file = file

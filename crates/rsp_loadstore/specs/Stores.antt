@@ -70,5 +70,5 @@ IsStoreElement _ e = Unit {0}
 
 -- the memory after a vector store at the address a; another instruction changes nothing
 unfoldable pub memory_after_store : Inst → ℕ → List (List ℕ) → List ℕ → List ℕ
-memory_after_store (VectorStore row f) a file memory = after_store file memory (store_pairs row f.vt f.element a)
+memory_after_store (VectorStore op f) a file memory = after_store file memory (store_pairs op f.vt f.element a)
 memory_after_store _ a file memory = memory

@@ -12,8 +12,8 @@ pub fn address(inst: &Inst, base: u32) -> u32
     ensures { result ≡ vector_address inst.now base }
 {
     match *inst {
-        Inst::VectorLoad { row, fields } => displaced(base, fields.offset, load_scale(row)),
-        Inst::VectorStore { row, fields } => displaced(base, fields.offset, store_scale(row)),
+        Inst::VectorLoad { op, fields } => displaced(base, fields.offset, load_scale(op)),
+        Inst::VectorStore { op, fields } => displaced(base, fields.offset, store_scale(op)),
         _ => base,
     }
 }
@@ -42,10 +42,10 @@ fn displaced(base: u32, offset: u8, scale: u8) -> u32
 
 /// What the offset of a load is counted in, in bytes.
 #[inline(always)]
-fn load_scale(row: VectorLoadOp) -> u8
-    ensures { result ≡ vector_load_scale row }
+fn load_scale(op: VectorLoadOp) -> u8
+    ensures { result ≡ vector_load_scale op }
 {
-    match row {
+    match op {
         VectorLoadOp::Lbv => 1,
         VectorLoadOp::Lsv => 2,
         VectorLoadOp::Llv => 4,
@@ -56,10 +56,10 @@ fn load_scale(row: VectorLoadOp) -> u8
 
 /// What the offset of a store is counted in, in bytes.
 #[inline(always)]
-fn store_scale(row: VectorStoreOp) -> u8
-    ensures { result ≡ vector_store_scale row }
+fn store_scale(op: VectorStoreOp) -> u8
+    ensures { result ≡ vector_store_scale op }
 {
-    match row {
+    match op {
         VectorStoreOp::Sbv => 1,
         VectorStoreOp::Ssv => 2,
         VectorStoreOp::Slv => 4,

@@ -14,7 +14,7 @@ pub fn control_from(inst: &Inst, flags: &Flags) -> u32
 {
     match *inst {
         Inst::MoveControl {
-            row: MoveOp::From,
+            op: MoveOp::From,
             control,
             ..
         } => match control {
@@ -33,7 +33,7 @@ pub fn control_to(inst: &Inst, value: u32, flags: &mut Flags)
     ensures { flags.new ≡ flags_after_move inst.now value flags.old }
 {
     if let Inst::MoveControl {
-        row: MoveOp::To,
+        op: MoveOp::To,
         control,
         ..
     } = *inst

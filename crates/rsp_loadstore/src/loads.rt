@@ -20,22 +20,22 @@ pub fn load(inst: &Inst, a: u32, memory: &SpMem, file: &mut VFile)
     requires { IsInstruction inst.now }
     ensures { file.new ≡ file_after_load inst.now a memory.now file.old }
 {
-    if let Inst::VectorLoad { row, fields } = *inst {
-        load_row(row, fields.vt, fields.element as usize, a, memory, file);
+    if let Inst::VectorLoad { op, fields } = *inst {
+        load_op(op, fields.vt, fields.element as usize, a, memory, file);
     }
 }
 
 /// A load into register `vt`, or its group, with element `e`, at address `a`.
 #[inline(always)]
 #[tactic(auto, unfolding(crate::specs::Loads::load_pairs))]
-fn load_row(row: VectorLoadOp, vt: u8, e: usize, a: u32, memory: &SpMem, file: &mut VFile)
+fn load_op(op: VectorLoadOp, vt: u8, e: usize, a: u32, memory: &SpMem, file: &mut VFile)
     requires register { vt < 32 }
     requires element { e < 16 }
-    requires half { IsLoadElement row e }
-    ensures { file.new ≡ after_load memory.now file.old (load_pairs row vt e a) }
+    requires half { IsLoadElement op e }
+    ensures { file.new ≡ after_load memory.now file.old (load_pairs op vt e a) }
 {
     let misalignment = (a % 16) as usize;
-    match row {
+    match op {
         VectorLoadOp::Lbv => load_bytes(vt, e, 1, a, memory, file),
         VectorLoadOp::Lsv => load_bytes(vt, e, 2, a, memory, file),
         VectorLoadOp::Llv => load_bytes(vt, e, 4, a, memory, file),

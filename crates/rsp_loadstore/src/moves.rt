@@ -18,7 +18,7 @@ pub fn move_from(inst: &Inst, file: &VFile) -> u32
 {
     match *inst {
         Inst::MoveVector {
-            row: MoveOp::From,
+            op: MoveOp::From,
             vector,
             element,
             ..
@@ -39,7 +39,7 @@ pub fn move_to(inst: &Inst, value: u32, file: &mut VFile)
     ensures { file.new ≡ file_after_move inst.now value file.old }
 {
     if let Inst::MoveVector {
-        row: MoveOp::To,
+        op: MoveOp::To,
         vector,
         element,
         ..

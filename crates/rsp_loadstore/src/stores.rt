@@ -19,22 +19,22 @@ pub fn store(inst: &Inst, a: u32, file: &VFile, memory: &mut SpMem)
     requires { IsInstruction inst.now }
     ensures { memory.new ≡ memory_after_store inst.now a file.now memory.old }
 {
-    if let Inst::VectorStore { row, fields } = *inst {
-        store_row(row, fields.vt, fields.element as usize, a, file, memory);
+    if let Inst::VectorStore { op, fields } = *inst {
+        store_op(op, fields.vt, fields.element as usize, a, file, memory);
     }
 }
 
 /// A store of register `vt`, or its group, with element `e`, at address `a`.
 #[inline(always)]
 #[tactic(auto, unfolding(crate::specs::Stores::store_pairs))]
-fn store_row(row: VectorStoreOp, vt: u8, e: usize, a: u32, file: &VFile, memory: &mut SpMem)
+fn store_op(op: VectorStoreOp, vt: u8, e: usize, a: u32, file: &VFile, memory: &mut SpMem)
     requires register { vt < 32 }
     requires element { e < 16 }
-    requires half { IsStoreElement row e }
-    ensures { memory.new ≡ after_store file.now memory.old (store_pairs row vt e a) }
+    requires half { IsStoreElement op e }
+    ensures { memory.new ≡ after_store file.now memory.old (store_pairs op vt e a) }
 {
     let misalignment = (a % 16) as usize;
-    match row {
+    match op {
         VectorStoreOp::Sbv => store_run(vt, e, 1, a, file, memory),
         VectorStoreOp::Ssv => store_run(vt, e, 2, a, file, memory),
         VectorStoreOp::Slv => store_run(vt, e, 4, a, file, memory),

@@ -15,22 +15,22 @@ use Rattle.rsp_machine.specs.Host.{moved_in, moved_out}
 use Rattle.rsp_machine.specs.Vector.{moves_vector, moves_control}
 use Rattle.rsp_machine.specs.Step.{moves_sp}
 
-pub vector_elsewhere : (row : MoveOp) (i : Inst) (rt : ℕ) (p : ProgramCounters) (s : State) → moves_vector row i rt (with_counters p s) ≡ with_counters p (moves_vector row i rt s)
+pub vector_elsewhere : (op : MoveOp) (i : Inst) (rt : ℕ) (p : ProgramCounters) (s : State) → moves_vector op i rt (with_counters p s) ≡ with_counters p (moves_vector op i rt s)
 unfolding moves_vector
 vector_elsewhere From i rt p s = refl
 vector_elsewhere To i rt p s = refl
 
-pub vector_stays : (row : MoveOp) (i : Inst) (rt : ℕ) (s : State) → with_counters (counters_of s) (moves_vector row i rt s) ≡ moves_vector row i rt s
+pub vector_stays : (op : MoveOp) (i : Inst) (rt : ℕ) (s : State) → with_counters (counters_of s) (moves_vector op i rt s) ≡ moves_vector op i rt s
 unfolding moves_vector
 vector_stays From i rt s = refl
 vector_stays To i rt s = refl
 
-pub control_elsewhere : (row : MoveOp) (i : Inst) (rt : ℕ) (p : ProgramCounters) (s : State) → moves_control row i rt (with_counters p s) ≡ with_counters p (moves_control row i rt s)
+pub control_elsewhere : (op : MoveOp) (i : Inst) (rt : ℕ) (p : ProgramCounters) (s : State) → moves_control op i rt (with_counters p s) ≡ with_counters p (moves_control op i rt s)
 unfolding moves_control
 control_elsewhere From i rt p s = refl
 control_elsewhere To i rt p s = refl
 
-pub control_stays : (row : MoveOp) (i : Inst) (rt : ℕ) (s : State) → with_counters (counters_of s) (moves_control row i rt s) ≡ moves_control row i rt s
+pub control_stays : (op : MoveOp) (i : Inst) (rt : ℕ) (s : State) → with_counters (counters_of s) (moves_control op i rt s) ≡ moves_control op i rt s
 unfolding moves_control
 control_stays From i rt s = refl
 control_stays To i rt s = refl
@@ -42,7 +42,7 @@ written_elsewhere true b v sp p s = refl
 written_elsewhere false true v sp p s = refl
 written_elsewhere false false v sp p s = refl
 
-pub sp_elsewhere : (row : MoveOp) (rt n : ℕ) (p : ProgramCounters) (s : State) → moves_sp row rt n (with_counters p s) ≡ with_counters p (moves_sp row rt n s)
+pub sp_elsewhere : (op : MoveOp) (rt n : ℕ) (p : ProgramCounters) (s : State) → moves_sp op rt n (with_counters p s) ≡ with_counters p (moves_sp op rt n s)
 unfolding moves_sp
 sp_elsewhere From rt n p s = refl
 sp_elsewhere To rt n p s =
@@ -56,7 +56,7 @@ written_stays true b v sp s = refl
 written_stays false true v sp s = refl
 written_stays false false v sp s = refl
 
-pub sp_stays : (row : MoveOp) (rt n : ℕ) (s : State) → with_counters (counters_of s) (moves_sp row rt n s) ≡ moves_sp row rt n s
+pub sp_stays : (op : MoveOp) (rt n : ℕ) (s : State) → with_counters (counters_of s) (moves_sp op rt n s) ≡ moves_sp op rt n s
 unfolding moves_sp
 sp_stays From rt n s = refl
 sp_stays To rt n s =

@@ -11,7 +11,7 @@ use Rattle.rsp_lanes.proofs.Kit.{eta}
 use Rattle.rsp_lanes.specs.declared.flags.Flags.{Flags}
 use Rattle.rsp_lanes.specs.Flags.{flags_at, all_flags}
 use Rattle.rsp_memory.specs.Memory.{word_at, byte_at, with_byte, bytes_at, with_bytes}
-use Rattle.rsp_memory.proofs.PutBack.{IsElsewhere, places, with_byte-elsewhere}
+use Rattle.rsp_memory.proofs.PutBack.{IsElsewhere, addresses, with_byte-elsewhere}
 use Rattle.rsp_scalar.specs.Registers.{register, with_register}
 use Rattle.rsp_loadstore.specs.File.{vector, with_vector}
 use Rattle.rsp_regs.specs.Sp.{Sp, after_step, after_register_write}
@@ -61,13 +61,13 @@ other_group file k n vs out =
     ∙ other_vector _ (k + 1) n _ (apart k n 1 out (omega arith))
     ∙ other_vector file k n _ (λ e. apart k n 0 out (omega arith) (e ∙ omega arith))
 
-elsewhere_from : (q a n : ℕ) → ((k : ℕ) → k < n → q ≢ (a + k) % 4096) → IsElsewhere q (places a n)
+elsewhere_from : (q a n : ℕ) → ((k : ℕ) → k < n → q ≢ (a + k) % 4096) → IsElsewhere q (addresses a n)
 elsewhere_from q a zero h = tt
 elsewhere_from q a (suc n) h =
     let first : a ≡ a + 0 = omega arith in
     (λ e. h 0 (omega arith) (e ∙ ap (λ i. i % 4096) first), elsewhere_from q (a + 1) n (λ k l e. let next : a + 1 + k ≡ a + suc k = omega arith in h (suc k) (omega (arith, l)) (e ∙ ap (λ i. i % 4096) next)))
 
-other_byte : (k : ℕ) (m n : List ℕ) (a q : ℕ) → IsElsewhere q (places a k) → get_or (with_bytes n a (bytes_at m a k)) q 0 ≡ get_or n q 0
+other_byte : (k : ℕ) (m n : List ℕ) (a q : ℕ) → IsElsewhere q (addresses a k) → get_or (with_bytes n a (bytes_at m a k)) q 0 ≡ get_or n q 0
 other_byte zero m n a q h = refl
 other_byte (suc k) m n a q h = other_byte k m (with_byte n a (byte_at m a)) (a + 1) q h.1 ∙ with_byte-elsewhere n a _ q h.0
 

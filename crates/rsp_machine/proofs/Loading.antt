@@ -6,8 +6,8 @@ use Rattle.rsp_memory.proofs.PutBack.{IsElsewhere}
 use Rattle.rsp_decode.specs.declared.vector.VectorLoadOp.{VectorLoadOp}
 use Rattle.rsp_loadstore.specs.File.{vector, with_vector}
 use Rattle.rsp_loadstore.specs.Loads.{after_load, load_pairs}
-use Rattle.rsp_loadstore.specs.Reach.{writes_group}
-use Rattle.rsp_loadstore.proofs.Reach.{first_of, count_of, length-load, load-elsewhere}
+use Rattle.rsp_loadstore.specs.Windows.{writes_group}
+use Rattle.rsp_loadstore.proofs.Windows.{first_of, count_of, length-load, load-elsewhere}
 use Rattle.rsp_machine.specs.Undo.{group_at, with_group}
 use Rattle.rsp_machine.proofs.Back.{back_is}
 
@@ -41,6 +41,6 @@ unfolding with_vector vector
 put_back-is true vt file now l h = with_group-back file now (vt - vt % 8) l (λ r there. h r (λ j k. apart r (vt - vt % 8) 8 j there k))
 put_back-is false vt file now l h = back_is [] file (vt ∷ []) now l (λ r there. h r (λ j k e. there.0 (e ∙ omega arith)))
 
-pub loaded-back : (row : VectorLoadOp) (m : List ℕ) (file : List (List ℕ)) (vt e a : ℕ)
-    → put_back (writes_group row) vt file (after_load m file (load_pairs row vt e a)) ≡ file
-loaded-back row m file vt e a = put_back-is (writes_group row) vt file _ (length-load row m file vt e a) (load-elsewhere row m file vt e a)
+pub loaded-back : (op : VectorLoadOp) (m : List ℕ) (file : List (List ℕ)) (vt e a : ℕ)
+    → put_back (writes_group op) vt file (after_load m file (load_pairs op vt e a)) ≡ file
+loaded-back op m file vt e a = put_back-is (writes_group op) vt file _ (length-load op m file vt e a) (load-elsewhere op m file vt e a)

@@ -250,8 +250,8 @@ executed-none refuses w s t r h is =
     (same, none_by refuses w s t (refuses_by refuses (inst_of w)) h.goes h.word refl answer h.state same)
 
 -- the same places, and the same start
-pub same_places : (p q : ProgramCounters) (v w : State) → p ≡ q → v ≡ w → with_counters p v ≡ with_counters q w
-same_places p q v w e f = rw (e, f) refl
+pub same_counters : (p q : ProgramCounters) (v w : State) → p ≡ q → v ≡ w → with_counters p v ≡ with_counters q w
+same_counters p q v w e f = rw (e, f) refl
 
 pub made-as : (k j : ℕ) (s t u : State) → AreDone k s t → j ≡ k → u ≡ t → AreDone j s u
 made-as k j s t u m i e = rw (i, e) m
@@ -320,16 +320,16 @@ ends-freely k s t ends refuses (inr (inr (some, inl last))) = absurd (let never 
 ends-freely k s t ends refuses (inr (inr (some, inr ended))) = inr (inr (some, ended))
 
 -- and that no test ends
-never_by : (o : Option Inst) → refuses_by (λ row register. false) o ≡ false
+never_by : (o : Option Inst) → refuses_by (λ op register. false) o ≡ false
 never_by None = refl
-never_by (Some (MoveSp row rt register)) = refl
+never_by (Some (MoveSp op rt register)) = refl
 never_by (Some _) = refl
 
-pub never-refuses : (s : State) (X : Type 0) → refuses_at (λ row register. false) s ≡ true → X
+pub never-refuses : (s : State) (X : Type 0) → refuses_at (λ op register. false) s ≡ true → X
 unfolding refuses_at
 never-refuses s X h = let no : false ≡ true = sym (never_by (inst_of (word_at s.imem s.pc))) ∙ h in cc
 
-pub ends-stuck : (k : ℕ) (s t : State) → LoopEnd false (λ pc word stored. false) (λ row register. false) k s t → done_steps (step_of t).0 ≡ 0
+pub ends-stuck : (k : ℕ) (s t : State) → LoopEnd false (λ pc word stored. false) (λ op register. false) k s t → done_steps (step_of t).0 ≡ 0
 unfolding ends_after
 ends-stuck k s t (inl stuck) = stuck
 ends-stuck k s t (inr (inl refused)) = never-refuses t _ refused

@@ -45,7 +45,7 @@ record Passed (i : Inst) (value : ℕ) (s p t : State) : Type 0 where
   registers : (n : ℕ) → n ≢ scalar_in (footprint_of i s) → register p.registers n ≡ register t.registers n
   rest : record p { registers = t.registers } ≡ record t { dmem = s.dmem; imem = s.imem; rdram = s.rdram; sp = after_step s.sp }
 
-passed : (row : MoveOp) (rt n value : ℕ) (s : State) → Passed (MoveSp row rt n) value s (after_pass row rt value s) (after_single_step (executed (MoveSp row rt n) s))
+passed : (op : MoveOp) (rt n value : ℕ) (s : State) → Passed (MoveSp op rt n) value s (after_pass op rt value s) (after_single_step (executed (MoveSp op rt n) s))
 unfolding footprint_of executed instruction_effect moves_sp
 passed From rt n value s = record {
   same = same_value (rt == 0) s.registers rt value (read_value n s.sp);
@@ -68,9 +68,9 @@ passed_by : (b : Bool) (o : Option Inst) (word value : ℕ) (s p : State) → (i
     → PassedBy o value s p (if b then (Halted, s) else step_by o word s)
 passed_by true o word value s p e = cc
 passed_by false None word value s p e = cc
-passed_by false (Some (MoveSp row rt n)) word value s p e =
-    let t = after_single_step (executed (MoveSp row rt n) s) in
-    let w = subst (λ (x : State). Passed (MoveSp row rt n) value s x t) (ok_is (after_pass row rt value s) p e) (passed row rt n value s) in
+passed_by false (Some (MoveSp op rt n)) word value s p e =
+    let t = after_single_step (executed (MoveSp op rt n) s) in
+    let w = subst (λ (x : State). Passed (MoveSp op rt n) value s x t) (ok_is (after_pass op rt value s) p e) (passed op rt n value s) in
     record { done = refl; same = w.same; registers = w.registers; rest = w.rest }
 passed_by false (Some _) word value s p e = cc
 

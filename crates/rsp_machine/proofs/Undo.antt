@@ -14,10 +14,10 @@ use Rattle.rsp_scalar.specs.ScalarRules.{address}
 use Rattle.rsp_decode.specs.Table.{inst_of}
 use Rattle.rsp_loadstore.specs.Addresses.{vector_address}
 use Rattle.rsp_loadstore.specs.Loads.{file_after_load}
-use Rattle.rsp_loadstore.specs.Reach.{writes_group}
+use Rattle.rsp_loadstore.specs.Windows.{writes_group}
 use Rattle.rsp_loadstore.specs.Stores.{memory_after_store}
 use Rattle.rsp_loadstore.specs.Moves.{file_after_move}
-use Rattle.rsp_loadstore.proofs.Reach.{stored-back}
+use Rattle.rsp_loadstore.proofs.Windows.{stored-back}
 use Rattle.rsp_regs.specs.Sp.{after_step, after_register_write}
 use Rattle.rsp_machine.specs.State.{State, advanced}
 use Rattle.rsp_machine.specs.Operations.{add_op, select_op, clip_op, logic_op}
@@ -85,13 +85,13 @@ load_back false vt v s r h e = vectors_same s _ h e
 -- any instruction that starts no DMA
 pub saved_back : (i : Inst) (s : State) (r : Saved) → starts_dma i ≡ false → s.sp.halted ≡ false → IsRanged s → undone (record_of (footprint_of i s) s r) (after_single_step (executed i s)) ≡ s
 unfolding undone record_of values_saved restored after_step footprint_of executed instruction_effect computes loads stores jumps break_instruction moves_sp multiplies rounds multiplies_mpeg reads_accumulator ruled divides loads_vector stores_vector moves_vector moves_control file_after_load memory_after_store file_after_move
-saved_back (Shift row rd rt amount) s r e h k = registers_same s _ h (register-back s.registers rd _)
-saved_back (ShiftBy row f) s r e h k = registers_same s _ h (register-back s.registers f.rd _)
-saved_back (Register row f) s r e h k = registers_same s _ h (register-back s.registers f.rd _)
-saved_back (Immediate row rt rs imm) s r e h k = registers_same s _ h (register-back s.registers rt _)
+saved_back (Shift op rd rt amount) s r e h k = registers_same s _ h (register-back s.registers rd _)
+saved_back (ShiftBy op f) s r e h k = registers_same s _ h (register-back s.registers f.rd _)
+saved_back (Register op f) s r e h k = registers_same s _ h (register-back s.registers f.rd _)
+saved_back (Immediate op rt rs imm) s r e h k = registers_same s _ h (register-back s.registers rt _)
 saved_back (LoadUpper rt imm) s r e h k = registers_same s _ h (register-back s.registers rt _)
-saved_back (Load row f) s r e h k = registers_same s _ h (register-back s.registers f.rt _)
-saved_back (Store row f) s r e h k = memory_same s _ h (store-back row s.dmem (address s.registers f.base f.offset) (register s.registers f.rt))
+saved_back (Load op f) s r e h k = registers_same s _ h (register-back s.registers f.rt _)
+saved_back (Store op f) s r e h k = memory_same s _ h (store-back op s.dmem (address s.registers f.base f.offset) (register s.registers f.rt))
 saved_back (JumpRegister rs) s r e h k = registers_same s _ h refl
 saved_back (JumpLinkRegister rd rs) s r e h k = registers_same s _ h (register-back s.registers rd _)
 saved_back (BranchSign Bltz rs offset) s r e h k = registers_same s _ h refl
@@ -100,7 +100,7 @@ saved_back (BranchSign Bltzal rs offset) s r e h k = registers_same s _ h (regis
 saved_back (BranchSign Bgezal rs offset) s r e h k = registers_same s _ h (register-back s.registers 31 _)
 saved_back (BranchSign Blez rs offset) s r e h k = registers_same s _ h refl
 saved_back (BranchSign Bgtz rs offset) s r e h k = registers_same s _ h refl
-saved_back (BranchEqual row rs rt offset) s r e h k = registers_same s _ h refl
+saved_back (BranchEqual op rs rt offset) s r e h k = registers_same s _ h refl
 saved_back (Jump J target) s r e h k = registers_same s _ h refl
 saved_back (Jump Jal target) s r e h k = registers_same s _ h (register-back s.registers 31 _)
 saved_back Break s r e h k = registers_same s _ h refl
@@ -110,26 +110,26 @@ saved_back (MoveVector From rt n element) s r e h k = registers_same s _ h (regi
 saved_back (MoveVector To rt n element) s r e h k = vectors_same s _ h (vector-back s.vectors n _)
 saved_back (MoveControl From rt control) s r e h k = registers_same s _ h (register-back s.registers rt _)
 saved_back (MoveControl To rt control) s r e h k = registers_same s _ h refl
-saved_back (Multiply row f) s r e h k = vectors_same s _ h (vector-back s.vectors f.vd _)
-saved_back (Round row f) s r e h k = vectors_same s _ h (vector-back s.vectors f.vd _)
-saved_back (MpegMultiply row f) s r e h k = vectors_same s _ h (vector-back s.vectors f.vd _)
+saved_back (Multiply op f) s r e h k = vectors_same s _ h (vector-back s.vectors f.vd _)
+saved_back (Round op f) s r e h k = vectors_same s _ h (vector-back s.vectors f.vd _)
+saved_back (MpegMultiply op f) s r e h k = vectors_same s _ h (vector-back s.vectors f.vd _)
 saved_back (ReadAccumulator f) s r e h k = vectors_same s _ h (vector-back s.vectors f.vd _)
-saved_back (VectorAdd row f) s r e h k =
-    lanes_same s _ _ _ h (vector-back s.vectors f.vd _) (rule-back _ (add_low (add_op row)) s r.accumulators f.vs f.vt f.element k) (sum-back (add_op row) _ _ s.flags k.flags)
-saved_back (VectorSelect row f) s r e h k =
-    lanes_same s _ _ _ h (vector-back s.vectors f.vd _) (rule-back _ (select_low (select_op row)) s r.accumulators f.vs f.vt f.element k) (choice-back (select_op row) _ _ s.flags k.flags)
-saved_back (VectorClip row f) s r e h k =
-    lanes_same s _ _ _ h (vector-back s.vectors f.vd _) (rule-back _ (clip_low (clip_op row)) s r.accumulators f.vs f.vt f.element k) refl
+saved_back (VectorAdd op f) s r e h k =
+    lanes_same s _ _ _ h (vector-back s.vectors f.vd _) (rule-back _ (add_low (add_op op)) s r.accumulators f.vs f.vt f.element k) (sum-back (add_op op) _ _ s.flags k.flags)
+saved_back (VectorSelect op f) s r e h k =
+    lanes_same s _ _ _ h (vector-back s.vectors f.vd _) (rule-back _ (select_low (select_op op)) s r.accumulators f.vs f.vt f.element k) (choice-back (select_op op) _ _ s.flags k.flags)
+saved_back (VectorClip op f) s r e h k =
+    lanes_same s _ _ _ h (vector-back s.vectors f.vd _) (rule-back _ (clip_low (clip_op op)) s r.accumulators f.vs f.vt f.element k) refl
 saved_back (VectorMerge f) s r e h k =
     lanes_same s _ _ _ h (vector-back s.vectors f.vd _) (rule-back _ merge_low s r.accumulators f.vs f.vt f.element k) (merge-back _ _ s.flags k.flags)
-saved_back (VectorLogic row f) s r e h k =
-    lanes_same s _ _ _ h (vector-back s.vectors f.vd _) (rule-back _ (logic_low (logic_op row)) s r.accumulators f.vs f.vt f.element k) (logic-back (logic_op row) _ _ s.flags k.flags)
-saved_back (Divide row vd lane vt n) s r e h k = lanes_same s _ _ _ h (vector-back s.vectors vd _) (divide-back s r.accumulators vt n k) refl
-saved_back (Idle row) s r e h k = registers_same s _ h refl
-saved_back (VectorLoad row f) s r e h k =
-    load_back (writes_group row) f.vt _ s r h (loaded-back row s.dmem s.vectors f.vt f.element (vector_address (VectorLoad row f) (register s.registers f.base)))
-saved_back (VectorStore row f) s r e h k =
-    memory_same s _ h (stored-back row f.vt f.element (vector_address (VectorStore row f) (register s.registers f.base)) s.vectors s.dmem)
+saved_back (VectorLogic op f) s r e h k =
+    lanes_same s _ _ _ h (vector-back s.vectors f.vd _) (rule-back _ (logic_low (logic_op op)) s r.accumulators f.vs f.vt f.element k) (logic-back (logic_op op) _ _ s.flags k.flags)
+saved_back (Divide op vd lane vt n) s r e h k = lanes_same s _ _ _ h (vector-back s.vectors vd _) (divide-back s r.accumulators vt n k) refl
+saved_back (Idle op) s r e h k = registers_same s _ h refl
+saved_back (VectorLoad op f) s r e h k =
+    load_back (writes_group op) f.vt _ s r h (loaded-back op s.dmem s.vectors f.vt f.element (vector_address (VectorLoad op f) (register s.registers f.base)))
+saved_back (VectorStore op f) s r e h k =
+    memory_same s _ h (stored-back op f.vt f.element (vector_address (VectorStore op f) (register s.registers f.base)) s.vectors s.dmem)
 
 -- any step that is Done and starts no DMA
 back_by : (b : Bool) (o : Option Inst) (word : ℕ) (s : State) (r : Saved) → s.sp.halted ≡ b → IsRanged s
@@ -174,7 +174,7 @@ dma_of (MoveVector From rt n element) s = refl
 dma_of (MoveVector To rt n element) s = refl
 dma_of (MoveControl From rt control) s = refl
 dma_of (MoveControl To rt control) s = refl
-dma_of (VectorLoad row f) s = load_undone (writes_group row) f.vt
+dma_of (VectorLoad op f) s = load_undone (writes_group op) f.vt
 dma_of _ s = refl
 
 -- and so does the record of a step that is Done
@@ -195,8 +195,8 @@ written_stays false v n s e h = ap (λ t. t.dmem) (no_dma n v (advanced s) e)
 
 dmem_stays : (i : Inst) (s : State) → changes_memory (footprint_of i s) ≡ false → (executed i s).dmem ≡ s.dmem
 unfolding footprint_of executed instruction_effect computes loads stores jumps break_instruction moves_sp multiplies rounds multiplies_mpeg reads_accumulator ruled divides loads_vector stores_vector moves_vector moves_control
-dmem_stays (Store row f) s h = cc
-dmem_stays (VectorStore row f) s h = cc
+dmem_stays (Store op f) s h = cc
+dmem_stays (VectorStore op f) s h = cc
 dmem_stays (MoveSp From rt n) s h = refl
 dmem_stays (MoveSp To rt n) s h = written_stays (is_length_register n) (register s.registers rt) n s refl h
 dmem_stays (MoveVector From rt n element) s h = refl

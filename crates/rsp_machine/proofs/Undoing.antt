@@ -23,7 +23,7 @@ unfolding with_vector vector
 vector-back file n v = set-set file n v (slice_index_or file n []) ∙ set-get_or file n []
 
 -- scalar stores
-pub store-back : (row : StoreOp) (m : List ℕ) (a t : ℕ) → with_bytes (store_result row m a t) a (bytes_at m a 16) ≡ m
+pub store-back : (op : StoreOp) (m : List ℕ) (a t : ℕ) → with_bytes (store_result op m a t) a (bytes_at m a 16) ≡ m
 unfolding with_half with_word
 store-back Sb m a t =
     bytes-back m (with_byte m a _) a 16 (length-with_byte m a _) (λ r there. with_byte-elsewhere m a _ r there.0)

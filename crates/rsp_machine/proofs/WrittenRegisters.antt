@@ -10,7 +10,7 @@ use Rattle.rsp_decode.specs.Table.{IsInstruction, inst_of}
 use Rattle.rsp_decode.proofs.InstructionOfWord.{decoded_instruction}
 use Rattle.rsp_memory.specs.Memory.{word_at}
 use Rattle.rsp_regs.specs.Sp.{is_length_register}
-use Rattle.rsp_loadstore.specs.Reach.{writes_group}
+use Rattle.rsp_loadstore.specs.Windows.{writes_group}
 use Rattle.rsp_machine.specs.State.{State}
 use Rattle.rsp_machine.specs.Footprint.{footprint_of, scalar_in}
 use Rattle.rsp_machine.specs.Writes.{writes_by, writes_of}
@@ -26,10 +26,10 @@ load_below false vt = lit< tt
 
 scalar-below : (i : Inst) (s : State) → IsInstruction i → scalar_in (footprint_of i s) < 32
 unfolding footprint_of
-scalar-below (Shift row rd rt amount) s h = h.0
-scalar-below (ShiftBy row f) s h = h.0
+scalar-below (Shift op rd rt amount) s h = h.0
+scalar-below (ShiftBy op f) s h = h.0
 scalar-below (JumpLinkRegister rd rs) s h = h.0
-scalar-below (Register row f) s h = h.0
+scalar-below (Register op f) s h = h.0
 scalar-below (BranchSign Bltz rs offset) s h = lit< tt
 scalar-below (BranchSign Bgez rs offset) s h = lit< tt
 scalar-below (BranchSign Bltzal rs offset) s h = lit< tt
@@ -38,16 +38,16 @@ scalar-below (BranchSign Blez rs offset) s h = lit< tt
 scalar-below (BranchSign Bgtz rs offset) s h = lit< tt
 scalar-below (Jump J target) s h = lit< tt
 scalar-below (Jump Jal target) s h = lit< tt
-scalar-below (Immediate row rt rs imm) s h = h.0
+scalar-below (Immediate op rt rs imm) s h = h.0
 scalar-below (LoadUpper rt imm) s h = h.0
-scalar-below (Load row f) s h = h.0
+scalar-below (Load op f) s h = h.0
 scalar-below (MoveSp From rt n) s h = h.0
 scalar-below (MoveSp To rt n) s h = none_below (is_length_register n)
 scalar-below (MoveVector From rt n element) s h = h.0
 scalar-below (MoveVector To rt n element) s h = lit< tt
 scalar-below (MoveControl From rt control) s h = h.0
 scalar-below (MoveControl To rt control) s h = lit< tt
-scalar-below (VectorLoad row f) s h = load_below (writes_group row) f.vt
+scalar-below (VectorLoad op f) s h = load_below (writes_group op) f.vt
 scalar-below _ s h = lit< tt
 
 below_by : (o : Option Inst) (s : State) → IfSome o IsInstruction → (writes_by o s).scalar < 32

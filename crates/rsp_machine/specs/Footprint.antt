@@ -13,7 +13,7 @@ use Rattle.rsp_scalar.specs.Registers.{register}
 use Rattle.rsp_scalar.specs.ScalarRules.{address}
 use Rattle.rsp_loadstore.specs.Pairs.{group_start}
 use Rattle.rsp_loadstore.specs.Addresses.{vector_address}
-use Rattle.rsp_loadstore.specs.Reach.{writes_group, window_of}
+use Rattle.rsp_loadstore.specs.Windows.{writes_group, window_of}
 use Rattle.rsp_machine.specs.State.{State}
 use Rattle.rsp_machine.specs.declared.footprint.Footprint.{Footprint}
 use Rattle.rsp_machine.specs.declared.footprint.Footprint.TheVariants as of
@@ -47,40 +47,40 @@ sp_move_footprint To rt n = if is_length_register n then of.Dma else of.Sp 0
 
 -- What an instruction touches. The sixteen bytes that a store may write begin at `a`.
 abbrev pub footprint : Inst → ℕ → Footprint
-footprint (Shift row rd rt amount) a = of.Register rd
-footprint (ShiftBy row f) a = of.Register f.rd
-footprint (Register row f) a = of.Register f.rd
-footprint (Immediate row rt rs imm) a = of.Register rt
+footprint (Shift op rd rt amount) a = of.Register rd
+footprint (ShiftBy op f) a = of.Register f.rd
+footprint (Register op f) a = of.Register f.rd
+footprint (Immediate op rt rs imm) a = of.Register rt
 footprint (LoadUpper rt imm) a = of.Register rt
-footprint (Load row f) a = of.Register f.rt
-footprint (Store row f) a = of.Bytes a
+footprint (Load op f) a = of.Register f.rt
+footprint (Store op f) a = of.Bytes a
 footprint (JumpRegister rs) a = of.ProgramCounters
 footprint (JumpLinkRegister rd rs) a = of.Register rd
-footprint (BranchSign row rs offset) a = sign_footprint row
-footprint (BranchEqual row rs rt offset) a = of.ProgramCounters
-footprint (Jump row target) a = jump_footprint row
+footprint (BranchSign op rs offset) a = sign_footprint op
+footprint (BranchEqual op rs rt offset) a = of.ProgramCounters
+footprint (Jump op target) a = jump_footprint op
 footprint Break a = of.Sp 0
-footprint (MoveSp row rt n) a = sp_move_footprint row rt n
-footprint (MoveVector row rt n element) a = vector_move_footprint row rt n
-footprint (MoveControl row rt control) a = control_move_footprint row rt
-footprint (Multiply row f) a = of.Product f.vd
-footprint (Round row f) a = of.Product f.vd
-footprint (MpegMultiply row f) a = of.Product f.vd
+footprint (MoveSp op rt n) a = sp_move_footprint op rt n
+footprint (MoveVector op rt n element) a = vector_move_footprint op rt n
+footprint (MoveControl op rt control) a = control_move_footprint op rt
+footprint (Multiply op f) a = of.Product f.vd
+footprint (Round op f) a = of.Product f.vd
+footprint (MpegMultiply op f) a = of.Product f.vd
 footprint (ReadAccumulator f) a = of.Vector f.vd
-footprint (VectorAdd row f) a = of.Sum f.vd
-footprint (VectorSelect row f) a = of.Choice f.vd
-footprint (VectorClip row f) a = of.Clip f.vd
+footprint (VectorAdd op f) a = of.Sum f.vd
+footprint (VectorSelect op f) a = of.Choice f.vd
+footprint (VectorClip op f) a = of.Clip f.vd
 footprint (VectorMerge f) a = of.Sum f.vd
-footprint (VectorLogic row f) a = of.Low f.vd
-footprint (Divide row vd lane vt e) a = of.Divide vd
-footprint (Idle row) a = of.ProgramCounters
-footprint (VectorLoad row f) a = loaded_footprint (writes_group row) f.vt
-footprint (VectorStore row f) a = of.Bytes a
+footprint (VectorLogic op f) a = of.Low f.vd
+footprint (Divide op vd lane vt e) a = of.Divide vd
+footprint (Idle op) a = of.ProgramCounters
+footprint (VectorLoad op f) a = loaded_footprint (writes_group op) f.vt
+footprint (VectorStore op f) a = of.Bytes a
 
 -- the first of the sixteen bytes that a store in a state may write; 0 for another instruction
 abbrev pub window : Inst → State → ℕ
-window (Store row f) s = address s.registers f.base f.offset
-window (VectorStore row f) s = window_of row (vector_address (VectorStore row f) (register s.registers f.base))
+window (Store op f) s = address s.registers f.base f.offset
+window (VectorStore op f) s = window_of op (vector_address (VectorStore op f) (register s.registers f.base))
 window _ s = 0
 
 -- what an instruction touches of a state

@@ -53,12 +53,12 @@ image_word image a =
 
 -- a copy of n bytes, in one row, from an address in the RDRAM to an address in a bank
 abbrev pub single_row : ℕ → ℕ → ℕ → Transfer
-single_row place from n = record { sp = place; dram = from; length = n; count = 0; skip = 0 }
+single_row address from n = record { sp = address; dram = from; length = n; count = 0; skip = 0 }
 
 -- The task structure at an address of the RDRAM holds ucode_boot at offset 8: the address of its boot code in the RDRAM, modulo 2^24. At
 -- offset 12 it holds ucode_boot_size, the number of bytes of the boot code.
-abbrev pub boot_place : ℕ → List ℕ → ℕ
-boot_place a image = image_word image (a + 8) % 16777216
+abbrev pub boot_address : ℕ → List ℕ → ℕ
+boot_address a image = image_word image (a + 8) % 16777216
 
 abbrev pub boot_size : ℕ → List ℕ → ℕ
 boot_size a image = image_word image (a + 12)
@@ -76,7 +76,7 @@ task_fault a image =
 unfoldable pub with_task : ℕ → State → State
 with_task a s = record s {
   dmem = copied_in s.rdram s.dmem (pairs (single_row 4032 a 64));
-  imem = copied_in s.rdram s.imem (pairs (single_row 0 (boot_place a s.rdram) (boot_size a s.rdram)));
+  imem = copied_in s.rdram s.imem (pairs (single_row 0 (boot_address a s.rdram) (boot_size a s.rdram)));
   pc = 0;
   npc = 4;
   sp = after_task s.sp;
@@ -84,4 +84,4 @@ with_task a s = record s {
 
 -- the state with this pc, and with npc at the next address
 abbrev pub with_pc : ℕ → State → State
-with_pc place s = record s { pc = place; npc = address_after place }
+with_pc address s = record s { pc = address; npc = address_after address }

@@ -24,7 +24,7 @@ after_pass To rt value s = after_single_step (advanced s)
 
 -- the same for the instruction at pc, which must be such a move
 abbrev pub pass_by : Option Inst → ℕ → State → Result State PassFault
-pass_by (Some (MoveSp row rt n)) value s = Ok (after_pass row rt value s)
+pass_by (Some (MoveSp op rt n)) value s = Ok (after_pass op rt value s)
 pass_by _ value s = Err OtherWord
 
 -- passing over the word at pc: the state after it, or why that is refused

@@ -53,35 +53,35 @@ moves_sp To rt n s = register_written n (register s.registers rt) s
 
 -- what an instruction does after pc and npc have advanced
 unfoldable pub instruction_effect : Inst → State → State
-instruction_effect (Shift row rd rt amount) s = computes (Shift row rd rt amount) s
-instruction_effect (ShiftBy row f) s = computes (ShiftBy row f) s
-instruction_effect (Register row f) s = computes (Register row f) s
-instruction_effect (Immediate row rt rs imm) s = computes (Immediate row rt rs imm) s
+instruction_effect (Shift op rd rt amount) s = computes (Shift op rd rt amount) s
+instruction_effect (ShiftBy op f) s = computes (ShiftBy op f) s
+instruction_effect (Register op f) s = computes (Register op f) s
+instruction_effect (Immediate op rt rs imm) s = computes (Immediate op rt rs imm) s
 instruction_effect (LoadUpper rt imm) s = computes (LoadUpper rt imm) s
-instruction_effect (Load row f) s = loads (Load row f) s
-instruction_effect (Store row f) s = stores (Store row f) s
+instruction_effect (Load op f) s = loads (Load op f) s
+instruction_effect (Store op f) s = stores (Store op f) s
 instruction_effect (JumpRegister rs) s = jumps (JumpRegister rs) s
 instruction_effect (JumpLinkRegister rd rs) s = jumps (JumpLinkRegister rd rs) s
-instruction_effect (BranchSign row rs offset) s = jumps (BranchSign row rs offset) s
-instruction_effect (BranchEqual row rs rt offset) s = jumps (BranchEqual row rs rt offset) s
-instruction_effect (Jump row target) s = jumps (Jump row target) s
+instruction_effect (BranchSign op rs offset) s = jumps (BranchSign op rs offset) s
+instruction_effect (BranchEqual op rs rt offset) s = jumps (BranchEqual op rs rt offset) s
+instruction_effect (Jump op target) s = jumps (Jump op target) s
 instruction_effect Break s = break_instruction s
-instruction_effect (MoveSp row rt n) s = moves_sp row rt n s
-instruction_effect (MoveVector row rt vector element) s = moves_vector row (MoveVector row rt vector element) rt s
-instruction_effect (MoveControl row rt control) s = moves_control row (MoveControl row rt control) rt s
-instruction_effect (Multiply row f) s = multiplies row f s
-instruction_effect (Round row f) s = rounds row f s
-instruction_effect (MpegMultiply row f) s = multiplies_mpeg row f s
+instruction_effect (MoveSp op rt n) s = moves_sp op rt n s
+instruction_effect (MoveVector op rt vector element) s = moves_vector op (MoveVector op rt vector element) rt s
+instruction_effect (MoveControl op rt control) s = moves_control op (MoveControl op rt control) rt s
+instruction_effect (Multiply op f) s = multiplies op f s
+instruction_effect (Round op f) s = rounds op f s
+instruction_effect (MpegMultiply op f) s = multiplies_mpeg op f s
 instruction_effect (ReadAccumulator f) s = reads_accumulator f s
-instruction_effect (VectorAdd row f) s = ruled (add_rule (add_op row)) f s
-instruction_effect (VectorSelect row f) s = ruled (select_rule (select_op row)) f s
-instruction_effect (VectorClip row f) s = ruled (clip_rule (clip_op row)) f s
+instruction_effect (VectorAdd op f) s = ruled (add_rule (add_op op)) f s
+instruction_effect (VectorSelect op f) s = ruled (select_rule (select_op op)) f s
+instruction_effect (VectorClip op f) s = ruled (clip_rule (clip_op op)) f s
 instruction_effect (VectorMerge f) s = ruled (merge_rule Vmrg) f s
-instruction_effect (VectorLogic row f) s = ruled (logic_rule (logic_op row)) f s
-instruction_effect (Divide row vd lane vt e) s = divides row vd lane vt e s
-instruction_effect (Idle row) s = s
-instruction_effect (VectorLoad row f) s = loads_vector row f s
-instruction_effect (VectorStore row f) s = stores_vector row f s
+instruction_effect (VectorLogic op f) s = ruled (logic_rule (logic_op op)) f s
+instruction_effect (Divide op vd lane vt e) s = divides op vd lane vt e s
+instruction_effect (Idle op) s = s
+instruction_effect (VectorLoad op f) s = loads_vector op f s
+instruction_effect (VectorStore op f) s = stores_vector op f s
 
 -- the state after an instruction
 unfoldable pub executed : Inst → State → State

@@ -25,7 +25,7 @@ ends_after ends s = let t = (step_of s).1 in ends t.pc (word_at t.imem t.pc) (ma
 
 -- whether a test refuses an instruction, if there is one: only a move of an SP register, by its direction and its register
 abbrev pub refuses_by : (MoveOp → ℕ → Bool) → Option Inst → Bool
-refuses_by refuses (Some (MoveSp row rt register)) = refuses row register
+refuses_by refuses (Some (MoveSp op rt register)) = refuses op register
 refuses_by refuses _ = false
 
 -- whether a test refuses the instruction at pc

@@ -30,21 +30,21 @@ use Rattle.rsp_machine.specs.Operations.{multiply_op, round_op, mpeg_op, divide_
 
 -- a multiply of vs and the selected vt: the accumulators after it, and in vd their clamp
 unfoldable pub multiplies : VectorMultiplyOp → VectorFields → State → State
-multiplies row f s =
-    let after = accumulators_after (multiply_op row) (vector s.vectors f.vs) (selected (vector s.vectors f.vt) f.element) s.accumulators in
-    record s { accumulators = after; vectors = with_vector s.vectors f.vd (multiply_results (multiply_op row) after) }
+multiplies op f s =
+    let after = accumulators_after (multiply_op op) (vector s.vectors f.vs) (selected (vector s.vectors f.vt) f.element) s.accumulators in
+    record s { accumulators = after; vectors = with_vector s.vectors f.vd (multiply_results (multiply_op op) after) }
 
 -- a rounding of the accumulators by the selected vt, or by 65536 times it if the number vs is odd: the accumulators after it, and in vd
 -- their signed clamp
 unfoldable pub rounds : VectorRoundOp → VectorFields → State → State
-rounds row f s =
-    let after = accumulators_after_rounding (round_op row) (f.vs % 2 == 1) (selected (vector s.vectors f.vt) f.element) s.accumulators in
+rounds op f s =
+    let after = accumulators_after_rounding (round_op op) (f.vs % 2 == 1) (selected (vector s.vectors f.vt) f.element) s.accumulators in
     record s { accumulators = after; vectors = with_vector s.vectors f.vd (rounding_results after) }
 
 -- an MPEG multiply of vs and the selected vt: the accumulators after it, and in vd their halves
 unfoldable pub multiplies_mpeg : VectorMpegOp → VectorFields → State → State
-multiplies_mpeg row f s =
-    let after = accumulators_after_mpeg (mpeg_op row) (vector s.vectors f.vs) (selected (vector s.vectors f.vt) f.element) s.accumulators in
+multiplies_mpeg op f s =
+    let after = accumulators_after_mpeg (mpeg_op op) (vector s.vectors f.vs) (selected (vector s.vectors f.vt) f.element) s.accumulators in
     record s { accumulators = after; vectors = with_vector s.vectors f.vd (mpeg_results after) }
 
 -- VSAR: sixteen bits of each accumulator into vd, as the element selects them
@@ -64,25 +64,25 @@ ruled rule f s =
 
 -- a divide instruction, which writes one lane of vd; vt is read first, so it may be vd
 unfoldable pub divides : VectorDivideOp → ℕ → ℕ → ℕ → ℕ → State → State
-divides row vd lane vt e s =
+divides op vd lane vt e s =
     let source = vector s.vectors vt in
     record s {
-      vectors = with_vector s.vectors vd (vd_after (divide_op row) e lane source s.divider (vector s.vectors vd));
-      divider = divider_after (divide_op row) e lane source s.divider;
+      vectors = with_vector s.vectors vd (vd_after (divide_op op) e lane source s.divider (vector s.vectors vd));
+      divider = divider_after (divide_op op) e lane source s.divider;
       accumulators = with_low s.accumulators (selected source e);
     }
 
 -- a vector load from DMEM, at the base register's value plus the scaled offset
 unfoldable pub loads_vector : VectorLoadOp → VectorMemoryFields → State → State
-loads_vector row f s =
-    let i = VectorLoad row f in
+loads_vector op f s =
+    let i = VectorLoad op f in
     let a = vector_address i (register s.registers f.base) in
     record s { vectors = file_after_load i a s.dmem s.vectors }
 
 -- a vector store to DMEM, at the base register's value plus the scaled offset
 unfoldable pub stores_vector : VectorStoreOp → VectorMemoryFields → State → State
-stores_vector row f s =
-    let i = VectorStore row f in
+stores_vector op f s =
+    let i = VectorStore op f in
     let a = vector_address i (register s.registers f.base) in
     record s { dmem = memory_after_store i a s.vectors s.dmem }
 

@@ -18,8 +18,8 @@ vector_in f = if (vectors_in f).1 == 0 then 32 else (vectors_in f).0
 
 -- the address in DMEM of a store; 0 for another instruction
 abbrev pub stored_at : Inst → State → ℕ
-stored_at (Store row f) s = address s.registers f.base f.offset % 4096
-stored_at (VectorStore row f) s = vector_address (VectorStore row f) (register s.registers f.base) % 4096
+stored_at (Store op f) s = address s.registers f.base f.offset % 4096
+stored_at (VectorStore op f) s = vector_address (VectorStore op f) (register s.registers f.base) % 4096
 stored_at _ s = 0
 
 abbrev pub no_writes : Writes

@@ -1,8 +1,13 @@
 // What an instruction does.
+//
+// The decoder hands each instruction to one method, `take`, and one match executes it. LLVM puts the match into each
+// arm of the decoder, so no `Option<Inst>` is written and matched again. That holds up to some 8,000 instructions of
+// LLVM's: for a longer function the kit drops `inline(always)`, and a step costs 60 host instructions more. So
+// multiplies, loads, stores and divides are `inline`, and LLVM chooses.
 
 ghost use Rattle.std.specs.Prelude.{◌≡◌, ◌<◌, Some};
 ghost use Rattle.rsp_decode.specs.Table.{IsInstruction, inst_of};
-ghost use Rattle.rsp_decode.specs.declared.scalar.MoveOp.TheVariants as row;
+ghost use Rattle.rsp_decode.specs.declared.scalar.MoveOp.TheVariants as op;
 ghost use Rattle.rsp_scalar.specs.Flow.{next_npc, with_link};
 ghost use Rattle.rsp_machine.specs.Step.{computes, loads, stores, break_instruction, moves_sp, instruction_effect};
 ghost use Rattle.rsp_machine.specs.ProgramCounters.{with_counters, counters_of};
@@ -62,7 +67,7 @@ fn is_refused<U: Until>(until: &U, inst: &Inst) -> bool
     ensures { result ≡ refuses_by (U.refuses until.now) (Some inst.now) }
 {
     match *inst {
-        Inst::MoveSp { row, register, .. } => until.refuses(row, register),
+        Inst::MoveSp { op, register, .. } => until.refuses(op, register),
         _ => false,
     }
 }
@@ -120,11 +125,11 @@ impl<A: Acc> Machine<A> {
 
     /// A move between scalar register `rt` and an SP register.
     #[inline(always)]
-    fn move_sp_register(&mut self, row: MoveOp, rt: u8, register: u8)
+    fn move_sp_register(&mut self, op: MoveOp, rt: u8, register: u8)
         requires { rt < 32 }
-        ensures { self.new ≡ moves_sp row rt register self.old }
+        ensures { self.new ≡ moves_sp op rt register self.old }
     {
-        match row {
+        match op {
             MoveOp::From => self.move_from_sp(rt, register),
             MoveOp::To => self.move_to_sp(rt, register),
         }
@@ -134,7 +139,7 @@ impl<A: Acc> Machine<A> {
     #[tactic(auto, unfolding(crate::specs::Step::moves_sp))]
     fn move_from_sp(&mut self, rt: u8, register: u8)
         requires { rt < 32 }
-        ensures { self.new ≡ moves_sp row.From rt register self.old }
+        ensures { self.new ≡ moves_sp op.From rt register self.old }
     {
         let value = self.sp.host_read(u32::from(register));
         self.regs.set(rt, value);
@@ -145,7 +150,7 @@ impl<A: Acc> Machine<A> {
     #[tactic(auto, unfolding(crate::specs::Step::moves_sp))]
     fn move_to_sp(&mut self, rt: u8, register: u8)
         requires { rt < 32 }
-        ensures { self.new ≡ moves_sp row.To rt register self.old }
+        ensures { self.new ≡ moves_sp op.To rt register self.old }
     {
         let value = self.regs.get(rt);
         self.write_reg(u32::from(register), value);
@@ -173,35 +178,35 @@ impl<A: Acc> Machine<A> {
             | Inst::BranchEqual { .. }
             | Inst::Jump { .. } => self.go_to(inst, counters),
             Inst::Break => self.break_instruction(),
-            Inst::MoveSp { row, rt, register } => self.move_sp_register(row, rt, register),
+            Inst::MoveSp { op, rt, register } => self.move_sp_register(op, rt, register),
             // A call that isn't inlined gets a copy. Else the instruction itself would be in memory.
-            Inst::MoveVector { row, rt, .. } => {
+            Inst::MoveVector { op, rt, .. } => {
                 let copy = *inst;
-                self.move_lanes(&copy, row, rt);
+                self.move_lanes(&copy, op, rt);
             }
-            Inst::MoveControl { row, rt, .. } => {
+            Inst::MoveControl { op, rt, .. } => {
                 let copy = *inst;
-                self.move_flags(&copy, row, rt);
+                self.move_flags(&copy, op, rt);
             }
-            Inst::Multiply { row, fields } => self.multiply_lanes(row, fields),
-            Inst::Round { row, fields } => self.round_lanes(row, fields),
-            Inst::MpegMultiply { row, fields } => self.multiply_mpeg(row, fields),
+            Inst::Multiply { op, fields } => self.multiply_lanes(op, fields),
+            Inst::Round { op, fields } => self.round_lanes(op, fields),
+            Inst::MpegMultiply { op, fields } => self.multiply_mpeg(op, fields),
             Inst::ReadAccumulator { fields } => self.read_part(fields),
-            Inst::VectorAdd { row, fields } => self.add_lanes(row, fields),
-            Inst::VectorSelect { row, fields } => self.select_lanes(row, fields),
-            Inst::VectorClip { row, fields } => self.clip_lanes(row, fields),
+            Inst::VectorAdd { op, fields } => self.add_lanes(op, fields),
+            Inst::VectorSelect { op, fields } => self.select_lanes(op, fields),
+            Inst::VectorClip { op, fields } => self.clip_lanes(op, fields),
             Inst::VectorMerge { fields } => self.merge_lanes(fields),
-            Inst::VectorLogic { row, fields } => self.logic_lanes(row, fields),
+            Inst::VectorLogic { op, fields } => self.logic_lanes(op, fields),
             Inst::Divide {
-                row,
+                op,
                 vd,
                 lane,
                 vt,
                 element,
-            } => self.divide(row, vd, lane, vt, element),
-            Inst::Idle { row } => self.idle(row),
-            Inst::VectorLoad { row, fields } => self.load_register(row, fields),
-            Inst::VectorStore { row, fields } => self.store_register(row, fields),
+            } => self.divide(op, vd, lane, vt, element),
+            Inst::Idle { op } => self.idle(op),
+            Inst::VectorLoad { op, fields } => self.load_register(op, fields),
+            Inst::VectorStore { op, fields } => self.store_register(op, fields),
         }
     }
 

@@ -111,17 +111,17 @@ pub(crate) fn footprint_of<A: Acc>(inst: &Inst, machine: &Machine<A>) -> Footpri
         )),
         Inst::JumpRegister { .. } | Inst::BranchEqual { .. } | Inst::Idle { .. } =>
             Footprint::ProgramCounters,
-        Inst::BranchSign { row, .. } => match row {
+        Inst::BranchSign { op, .. } => match op {
             BranchSignOp::Bltzal | BranchSignOp::Bgezal => Footprint::Register(31),
             BranchSignOp::Bltz | BranchSignOp::Bgez | BranchSignOp::Blez | BranchSignOp::Bgtz =>
                 Footprint::ProgramCounters,
         },
-        Inst::Jump { row, .. } => match row {
+        Inst::Jump { op, .. } => match op {
             JumpOp::Jal => Footprint::Register(31),
             JumpOp::J => Footprint::ProgramCounters,
         },
         Inst::Break => Footprint::Sp(0),
-        Inst::MoveSp { row, rt, register } => match row {
+        Inst::MoveSp { op, rt, register } => match op {
             MoveOp::From => Footprint::Sp(u32::from(rt)),
             MoveOp::To => {
                 if is_length_register(u32::from(register)) {
@@ -131,16 +131,11 @@ pub(crate) fn footprint_of<A: Acc>(inst: &Inst, machine: &Machine<A>) -> Footpri
                 }
             }
         },
-        Inst::MoveVector {
-            row,
-            rt,
-            vector,
-            ..
-        } => match row {
+        Inst::MoveVector { op, rt, vector, .. } => match op {
             MoveOp::From => Footprint::Register(u32::from(rt)),
             MoveOp::To => Footprint::Vector(u32::from(vector)),
         },
-        Inst::MoveControl { row, rt, .. } => match row {
+        Inst::MoveControl { op, rt, .. } => match op {
             MoveOp::From => Footprint::Register(u32::from(rt)),
             MoveOp::To => Footprint::Flags,
         },
@@ -155,13 +150,13 @@ pub(crate) fn footprint_of<A: Acc>(inst: &Inst, machine: &Machine<A>) -> Footpri
         Inst::VectorClip { fields, .. } => Footprint::Clip(u32::from(fields.vd)),
         Inst::VectorLogic { fields, .. } => Footprint::Low(u32::from(fields.vd)),
         Inst::Divide { vd, .. } => Footprint::Divide(u32::from(vd)),
-        Inst::VectorLoad { row, fields } => match row {
+        Inst::VectorLoad { op, fields } => match op {
             VectorLoadOp::Ltv => Footprint::Group(u32::from(fields.vt - fields.vt % 8)),
             _ => Footprint::Vector(u32::from(fields.vt)),
         },
-        Inst::VectorStore { row, fields } => {
+        Inst::VectorStore { op, fields } => {
             let a = rsp_loadstore::address(inst, machine.regs.get(fields.base));
-            Footprint::Bytes(match row {
+            Footprint::Bytes(match op {
                 VectorStoreOp::Srv => a - a % 16,
                 _ => a - a % 8,
             })

@@ -225,12 +225,12 @@ impl<A: Acc> Machine<A> {
         if self.sp.halted() {
             return Err(PassFault::Halted);
         }
-        let Some(Inst::MoveSp { row, rt, .. }) = decode(self.word_at(self.counters())) else {
+        let Some(Inst::MoveSp { op, rt, .. }) = decode(self.word_at(self.counters())) else {
             return Err(PassFault::OtherWord);
         };
         let counters = self.counters().next();
         self.set_counters(counters);
-        if let MoveOp::From = row {
+        if let MoveOp::From = op {
             self.regs.set(rt, value);
         }
         self.sp.on_step();
@@ -239,11 +239,11 @@ impl<A: Acc> Machine<A> {
 }
 
 /// A copy of `length` bytes from an address in the RDRAM to one in a bank.
-fn single_row(place: u32, from: u32, length: u32) -> Transfer
-    ensures { result ≡ single_row place from length }
+fn single_row(address: u32, from: u32, length: u32) -> Transfer
+    ensures { result ≡ single_row address from length }
 {
     Transfer {
-        sp: place,
+        sp: address,
         dram: from,
         length,
         count: 0,

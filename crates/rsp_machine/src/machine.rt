@@ -79,7 +79,7 @@ impl<A: Acc> Machine<A> {
     #[inline]
     pub fn pc(&self) -> u16
         ensures value { result ≡ self.now.pc }
-        ensures place { result < 4096 }
+        ensures below { result < 4096 }
         ensures whole { result % 4 ≡ 0 }
     {
         self.pc.get()
@@ -89,7 +89,7 @@ impl<A: Acc> Machine<A> {
     #[inline]
     pub fn npc(&self) -> u16
         ensures value { result ≡ self.now.npc }
-        ensures place { result < 4096 }
+        ensures below { result < 4096 }
         ensures whole { result % 4 ≡ 0 }
     {
         self.npc.get()

@@ -1,4 +1,8 @@
 // The operation, in its group's crate, of each vector instruction. These crates don't know the instruction table.
+//
+// So a name of the table is translated here, by one match for each group, which the compiler folds. It costs a second
+// name for 41 instructions. Scalar instructions, vector loads and stores have no operations: their crates take the
+// `Inst` itself, whose fields they read.
 
 ghost use Rattle.std.specs.Prelude.{◌≡◌};
 ghost use Rattle.rsp_machine.specs.Operations.{multiply_op, round_op, mpeg_op, add_op, select_op, clip_op, logic_op, divide_op, idle_op};
@@ -13,10 +17,10 @@ use rsp_multiply::{MpegOp, MultiplyOp, RoundOp};
 
 /// The operation of a multiply.
 #[inline(always)]
-pub(crate) fn multiply_op(row: VectorMultiplyOp) -> MultiplyOp
-    ensures { result ≡ multiply_op row }
+pub(crate) fn multiply_op(op: VectorMultiplyOp) -> MultiplyOp
+    ensures { result ≡ multiply_op op }
 {
-    match row {
+    match op {
         VectorMultiplyOp::Vmulf => MultiplyOp::Vmulf,
         VectorMultiplyOp::Vmulu => MultiplyOp::Vmulu,
         VectorMultiplyOp::Vmudl => MultiplyOp::Vmudl,
@@ -34,10 +38,10 @@ pub(crate) fn multiply_op(row: VectorMultiplyOp) -> MultiplyOp
 
 /// The operation of a rounding of the accumulators.
 #[inline(always)]
-pub(crate) fn round_op(row: VectorRoundOp) -> RoundOp
-    ensures { result ≡ round_op row }
+pub(crate) fn round_op(op: VectorRoundOp) -> RoundOp
+    ensures { result ≡ round_op op }
 {
-    match row {
+    match op {
         VectorRoundOp::Vrndp => RoundOp::Vrndp,
         VectorRoundOp::Vrndn => RoundOp::Vrndn,
     }
@@ -45,10 +49,10 @@ pub(crate) fn round_op(row: VectorRoundOp) -> RoundOp
 
 /// The operation of a multiply for MPEG coefficients.
 #[inline(always)]
-pub(crate) fn mpeg_op(row: VectorMpegOp) -> MpegOp
-    ensures { result ≡ mpeg_op row }
+pub(crate) fn mpeg_op(op: VectorMpegOp) -> MpegOp
+    ensures { result ≡ mpeg_op op }
 {
-    match row {
+    match op {
         VectorMpegOp::Vmulq => MpegOp::Vmulq,
         VectorMpegOp::Vmacq => MpegOp::Vmacq,
     }
@@ -56,10 +60,10 @@ pub(crate) fn mpeg_op(row: VectorMpegOp) -> MpegOp
 
 /// The operation of a sum or a difference.
 #[inline(always)]
-pub(crate) fn add_op(row: VectorAddOp) -> AddOp
-    ensures { result ≡ add_op row }
+pub(crate) fn add_op(op: VectorAddOp) -> AddOp
+    ensures { result ≡ add_op op }
 {
-    match row {
+    match op {
         VectorAddOp::Vadd => AddOp::Vadd,
         VectorAddOp::Vsub => AddOp::Vsub,
         VectorAddOp::Vabs => AddOp::Vabs,
@@ -70,10 +74,10 @@ pub(crate) fn add_op(row: VectorAddOp) -> AddOp
 
 /// The operation of a comparison.
 #[inline(always)]
-pub(crate) fn select_op(row: VectorSelectOp) -> SelectOp
-    ensures { result ≡ select_op row }
+pub(crate) fn select_op(op: VectorSelectOp) -> SelectOp
+    ensures { result ≡ select_op op }
 {
-    match row {
+    match op {
         VectorSelectOp::Vlt => SelectOp::Vlt,
         VectorSelectOp::Veq => SelectOp::Veq,
         VectorSelectOp::Vne => SelectOp::Vne,
@@ -83,10 +87,10 @@ pub(crate) fn select_op(row: VectorSelectOp) -> SelectOp
 
 /// The operation of a clip.
 #[inline(always)]
-pub(crate) fn clip_op(row: VectorClipOp) -> ClipOp
-    ensures { result ≡ clip_op row }
+pub(crate) fn clip_op(op: VectorClipOp) -> ClipOp
+    ensures { result ≡ clip_op op }
 {
-    match row {
+    match op {
         VectorClipOp::Vcl => ClipOp::Vcl,
         VectorClipOp::Vch => ClipOp::Vch,
         VectorClipOp::Vcr => ClipOp::Vcr,
@@ -95,10 +99,10 @@ pub(crate) fn clip_op(row: VectorClipOp) -> ClipOp
 
 /// The operation of a logic instruction.
 #[inline(always)]
-pub(crate) fn logic_op(row: VectorLogicOp) -> LogicOp
-    ensures { result ≡ logic_op row }
+pub(crate) fn logic_op(op: VectorLogicOp) -> LogicOp
+    ensures { result ≡ logic_op op }
 {
-    match row {
+    match op {
         VectorLogicOp::Vand => LogicOp::Vand,
         VectorLogicOp::Vnand => LogicOp::Vnand,
         VectorLogicOp::Vor => LogicOp::Vor,
@@ -110,10 +114,10 @@ pub(crate) fn logic_op(row: VectorLogicOp) -> LogicOp
 
 /// The operation of an instruction that writes one lane.
 #[inline(always)]
-pub(crate) fn divide_op(row: VectorDivideOp) -> DivideOp
-    ensures { result ≡ divide_op row }
+pub(crate) fn divide_op(op: VectorDivideOp) -> DivideOp
+    ensures { result ≡ divide_op op }
 {
-    match row {
+    match op {
         VectorDivideOp::Vrcp => DivideOp::Vrcp,
         VectorDivideOp::Vrcpl => DivideOp::Vrcpl,
         VectorDivideOp::Vrcph => DivideOp::Vrcph,
@@ -126,10 +130,10 @@ pub(crate) fn divide_op(row: VectorDivideOp) -> DivideOp
 
 /// The operation of an instruction that changes nothing.
 #[inline(always)]
-pub(crate) fn idle_op(row: VectorNopOp) -> DivideOp
-    ensures { result ≡ idle_op row }
+pub(crate) fn idle_op(op: VectorNopOp) -> DivideOp
+    ensures { result ≡ idle_op op }
 {
-    match row {
+    match op {
         VectorNopOp::Vnop => DivideOp::Vnop,
         VectorNopOp::Vnull => DivideOp::Vnull,
     }

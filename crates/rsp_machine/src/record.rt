@@ -1,4 +1,8 @@
 // What a step saves of the values that it overwrites.
+//
+// A record says which register or address its instruction changes, so a step back neither decodes a word nor reads
+// IMEM. Of the accumulators it saves what the instruction writes: all three planes for a multiply or a rounding, else
+// the low one. What earlier steps left in the other two is never read.
 
 ghost use Rattle.std.specs.Prelude.{◌≡◌, ◌<◌, ◌≤◌};
 ghost use Rattle.rsp_loadstore.specs.File.{vector};

@@ -1,4 +1,9 @@
 // Tests that end a run of steps.
+//
+// The loop calls a test between two steps, and knows from the instruction's footprint whether DMEM may have changed,
+// so a watch needs no lemma about words. A move of an SP register is refused by a method of its own, which only the
+// decoder's arm of these moves calls, before anything is saved or executed: other instructions don't pay for it. Each
+// pair of a recorder and a test is a further copy of the loop in the program.
 
 ghost use Rattle.std.specs.Prelude.{◌≡◌, ◌<◌, ◌%◌};
 
@@ -25,9 +30,9 @@ pub trait Until {
 
     /// Whether a run ends before this move of an SP register. It is called only if the next instruction is one, also before the
     /// first step, and costs other instructions nothing.
-    fn refuses(&self, row: MoveOp, register: u8) -> bool
+    fn refuses(&self, op: MoveOp, register: u8) -> bool
         requires { register < 16 }
-        ensures { result ≡ refuses self.now row register };
+        ensures { result ≡ refuses self.now op register };
 }
 
 /// The test that ends no run.
@@ -39,7 +44,7 @@ impl Until for Never {
 
     ghost ends = { λ u pc word stored. false };
 
-    ghost refuses = { λ u row register. false };
+    ghost refuses = { λ u op register. false };
 
     #[inline(always)]
     fn ends(&self, _pc: u16, _word: u32, _stored: bool) -> bool {

@@ -37,39 +37,39 @@ impl<A: Acc> Machine<A> {
     /// One of the twelve multiplies.
     #[inline]
     #[tactic(auto, unfolding(crate::specs::Vector::multiplies))]
-    pub(crate) fn multiply_lanes(&mut self, row: VectorMultiplyOp, fields: VectorFields)
+    pub(crate) fn multiply_lanes(&mut self, op: VectorMultiplyOp, fields: VectorFields)
         requires { IsVectorFields fields }
-        ensures { self.new ≡ multiplies row fields self.old }
+        ensures { self.new ≡ multiplies op fields self.old }
     {
         let a = self.vregs.reg(fields.vs);
         let b = self.selected(fields);
-        let result = rsp_multiply::multiply(operation::multiply_op(row), &a, &b, &mut self.acc);
+        let result = rsp_multiply::multiply(operation::multiply_op(op), &a, &b, &mut self.acc);
         self.vregs.set_reg(fields.vd, result);
     }
 
     /// Rounds the accumulators by their sign.
     #[inline]
     #[tactic(auto, unfolding(crate::specs::Vector::rounds))]
-    pub(crate) fn round_lanes(&mut self, row: VectorRoundOp, fields: VectorFields)
+    pub(crate) fn round_lanes(&mut self, op: VectorRoundOp, fields: VectorFields)
         requires { IsVectorFields fields }
-        ensures { self.new ≡ rounds row fields self.old }
+        ensures { self.new ≡ rounds op fields self.old }
     {
         let b = self.selected(fields);
         let odd = fields.vs % 2 == 1;
-        let result = rsp_multiply::round_op(operation::round_op(row), odd, &b, &mut self.acc);
+        let result = rsp_multiply::round_op(operation::round_op(op), odd, &b, &mut self.acc);
         self.vregs.set_reg(fields.vd, result);
     }
 
     /// An MPEG multiply.
     #[inline]
     #[tactic(auto, unfolding(crate::specs::Vector::multiplies_mpeg))]
-    pub(crate) fn multiply_mpeg(&mut self, row: VectorMpegOp, fields: VectorFields)
+    pub(crate) fn multiply_mpeg(&mut self, op: VectorMpegOp, fields: VectorFields)
         requires { IsVectorFields fields }
-        ensures { self.new ≡ multiplies_mpeg row fields self.old }
+        ensures { self.new ≡ multiplies_mpeg op fields self.old }
     {
         let a = self.vregs.reg(fields.vs);
         let b = self.selected(fields);
-        let result = rsp_multiply::mpeg_op(operation::mpeg_op(row), &a, &b, &mut self.acc);
+        let result = rsp_multiply::mpeg_op(operation::mpeg_op(op), &a, &b, &mut self.acc);
         self.vregs.set_reg(fields.vd, result);
     }
 
@@ -87,57 +87,42 @@ impl<A: Acc> Machine<A> {
     /// A sum or a difference.
     #[inline(always)]
     #[tactic(auto, unfolding(crate::specs::Vector::ruled))]
-    pub(crate) fn add_lanes(&mut self, row: VectorAddOp, fields: VectorFields)
+    pub(crate) fn add_lanes(&mut self, op: VectorAddOp, fields: VectorFields)
         requires { IsVectorFields fields }
-        ensures { self.new ≡ ruled (add_rule (add_op row)) fields self.old }
+        ensures { self.new ≡ ruled (add_rule (add_op op)) fields self.old }
     {
         let a = self.vregs.reg(fields.vs);
         let b = self.selected(fields);
-        let result = rsp_compare::add_op(
-            operation::add_op(row),
-            &a,
-            &b,
-            &mut self.flags,
-            &mut self.acc,
-        );
+        let op = operation::add_op(op);
+        let result = rsp_compare::add_op(op, &a, &b, &mut self.flags, &mut self.acc);
         self.vregs.set_reg(fields.vd, result);
     }
 
     /// A comparison.
     #[inline(always)]
     #[tactic(auto, unfolding(crate::specs::Vector::ruled))]
-    pub(crate) fn select_lanes(&mut self, row: VectorSelectOp, fields: VectorFields)
+    pub(crate) fn select_lanes(&mut self, op: VectorSelectOp, fields: VectorFields)
         requires { IsVectorFields fields }
-        ensures { self.new ≡ ruled (select_rule (select_op row)) fields self.old }
+        ensures { self.new ≡ ruled (select_rule (select_op op)) fields self.old }
     {
         let a = self.vregs.reg(fields.vs);
         let b = self.selected(fields);
-        let result = rsp_compare::select_op(
-            operation::select_op(row),
-            &a,
-            &b,
-            &mut self.flags,
-            &mut self.acc,
-        );
+        let op = operation::select_op(op);
+        let result = rsp_compare::select_op(op, &a, &b, &mut self.flags, &mut self.acc);
         self.vregs.set_reg(fields.vd, result);
     }
 
     /// A clip.
     #[inline(always)]
     #[tactic(auto, unfolding(crate::specs::Vector::ruled))]
-    pub(crate) fn clip_lanes(&mut self, row: VectorClipOp, fields: VectorFields)
+    pub(crate) fn clip_lanes(&mut self, op: VectorClipOp, fields: VectorFields)
         requires { IsVectorFields fields }
-        ensures { self.new ≡ ruled (clip_rule (clip_op row)) fields self.old }
+        ensures { self.new ≡ ruled (clip_rule (clip_op op)) fields self.old }
     {
         let a = self.vregs.reg(fields.vs);
         let b = self.selected(fields);
-        let result = rsp_compare::clip_op(
-            operation::clip_op(row),
-            &a,
-            &b,
-            &mut self.flags,
-            &mut self.acc,
-        );
+        let op = operation::clip_op(op);
+        let result = rsp_compare::clip_op(op, &a, &b, &mut self.flags, &mut self.acc);
         self.vregs.set_reg(fields.vd, result);
     }
 
@@ -157,33 +142,28 @@ impl<A: Acc> Machine<A> {
     /// A logic instruction.
     #[inline(always)]
     #[tactic(auto, unfolding(crate::specs::Vector::ruled))]
-    pub(crate) fn logic_lanes(&mut self, row: VectorLogicOp, fields: VectorFields)
+    pub(crate) fn logic_lanes(&mut self, op: VectorLogicOp, fields: VectorFields)
         requires { IsVectorFields fields }
-        ensures { self.new ≡ ruled (logic_rule (logic_op row)) fields self.old }
+        ensures { self.new ≡ ruled (logic_rule (logic_op op)) fields self.old }
     {
         let a = self.vregs.reg(fields.vs);
         let b = self.selected(fields);
-        let result = rsp_compare::logic_op(
-            operation::logic_op(row),
-            &a,
-            &b,
-            &mut self.flags,
-            &mut self.acc,
-        );
+        let op = operation::logic_op(op);
+        let result = rsp_compare::logic_op(op, &a, &b, &mut self.flags, &mut self.acc);
         self.vregs.set_reg(fields.vd, result);
     }
 
     /// A divide instruction, which writes one lane.
     #[inline]
     #[tactic(auto, unfolding(crate::specs::Vector::divides), using(crate::proofs::Divides::written))]
-    pub(crate) fn divide(&mut self, row: VectorDivideOp, vd: u8, lane: u8, vt: u8, element: u8)
-        requires { IsInstruction (Inst.Divide row vd lane vt element) }
-        ensures { self.new ≡ divides row vd lane vt element self.old }
+    pub(crate) fn divide(&mut self, op: VectorDivideOp, vd: u8, lane: u8, vt: u8, element: u8)
+        requires { IsInstruction (Inst.Divide op vd lane vt element) }
+        ensures { self.new ≡ divides op vd lane vt element self.old }
     {
         let source = self.vregs.reg(vt);
         let mut register = self.vregs.reg(vd);
         rsp_divide::divide_op(
-            operation::divide_op(row),
+            operation::divide_op(op),
             usize::from(element),
             usize::from(lane),
             &source,
@@ -197,13 +177,13 @@ impl<A: Acc> Machine<A> {
     /// `vnop` or `vnull`, which changes nothing, whatever registers it is given.
     #[inline(always)]
     #[tactic(auto, using(crate::proofs::Divides::idle_divider, crate::proofs::Divides::idle_accumulators))]
-    pub(crate) fn idle(&mut self, row: VectorNopOp)
+    pub(crate) fn idle(&mut self, op: VectorNopOp)
         ensures { self.new ≡ self.old }
     {
         let source = self.vregs.reg(0);
         let mut register = source;
         rsp_divide::divide_op(
-            operation::idle_op(row),
+            operation::idle_op(op),
             0,
             0,
             &source,
@@ -216,11 +196,11 @@ impl<A: Acc> Machine<A> {
     /// A vector load.
     #[inline]
     #[tactic(auto, unfolding(crate::specs::Vector::loads_vector))]
-    pub(crate) fn load_register(&mut self, row: VectorLoadOp, fields: VectorMemoryFields)
-        requires { IsInstruction (Inst.VectorLoad row fields) }
-        ensures { self.new ≡ loads_vector row fields self.old }
+    pub(crate) fn load_register(&mut self, op: VectorLoadOp, fields: VectorMemoryFields)
+        requires { IsInstruction (Inst.VectorLoad op fields) }
+        ensures { self.new ≡ loads_vector op fields self.old }
     {
-        let inst = Inst::VectorLoad { row, fields };
+        let inst = Inst::VectorLoad { op, fields };
         let a = address(&inst, self.regs.get(fields.base));
         rsp_loadstore::load(&inst, a, &self.dmem, &mut self.vregs);
     }
@@ -228,11 +208,11 @@ impl<A: Acc> Machine<A> {
     /// A vector store.
     #[inline]
     #[tactic(auto, unfolding(crate::specs::Vector::stores_vector))]
-    pub(crate) fn store_register(&mut self, row: VectorStoreOp, fields: VectorMemoryFields)
-        requires { IsInstruction (Inst.VectorStore row fields) }
-        ensures { self.new ≡ stores_vector row fields self.old }
+    pub(crate) fn store_register(&mut self, op: VectorStoreOp, fields: VectorMemoryFields)
+        requires { IsInstruction (Inst.VectorStore op fields) }
+        ensures { self.new ≡ stores_vector op fields self.old }
     {
-        let inst = Inst::VectorStore { row, fields };
+        let inst = Inst::VectorStore { op, fields };
         let a = address(&inst, self.regs.get(fields.base));
         rsp_loadstore::store(&inst, a, &self.vregs, &mut self.dmem);
     }
@@ -240,12 +220,12 @@ impl<A: Acc> Machine<A> {
     /// A move between scalar register `rt` and a vector register.
     #[inline(always)]
     #[tactic(auto, unfolding(crate::specs::Vector::moves_vector))]
-    pub(crate) fn move_lanes(&mut self, inst: &Inst, row: MoveOp, rt: u8)
+    pub(crate) fn move_lanes(&mut self, inst: &Inst, op: MoveOp, rt: u8)
         requires inst { IsInstruction inst.now }
         requires rt { rt < 32 }
-        ensures { self.new ≡ moves_vector row inst.now rt self.old }
+        ensures { self.new ≡ moves_vector op inst.now rt self.old }
     {
-        match row {
+        match op {
             MoveOp::From => self.regs.set(rt, move_from(inst, &self.vregs)),
             MoveOp::To => move_to(inst, self.regs.get(rt), &mut self.vregs),
         }
@@ -254,12 +234,12 @@ impl<A: Acc> Machine<A> {
     /// A move between scalar register `rt` and a control register.
     #[inline(always)]
     #[tactic(auto, unfolding(crate::specs::Vector::moves_control))]
-    pub(crate) fn move_flags(&mut self, inst: &Inst, row: MoveOp, rt: u8)
+    pub(crate) fn move_flags(&mut self, inst: &Inst, op: MoveOp, rt: u8)
         requires inst { IsInstruction inst.now }
         requires rt { rt < 32 }
-        ensures { self.new ≡ moves_control row inst.now rt self.old }
+        ensures { self.new ≡ moves_control op inst.now rt self.old }
     {
-        match row {
+        match op {
             MoveOp::From => self.regs.set(rt, control_from(inst, &self.flags)),
             MoveOp::To => control_to(inst, self.regs.get(rt), &mut self.flags),
         }

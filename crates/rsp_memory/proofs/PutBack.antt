@@ -33,19 +33,19 @@ back_is m (p ∷ ps) n e h =
     back_is m ps (set n p (get_or m p 0)) (length-set n p (get_or m p 0) ∙ e) (λ q there. same_there m n p q ps e h there)
 
 -- the indices of the n bytes from an address on
-abbrev pub places : ℕ → ℕ → List ℕ
-places a zero = []
-places a (suc n) = a % 4096 ∷ places (a + 1) n
+abbrev pub addresses : ℕ → ℕ → List ℕ
+addresses a zero = []
+addresses a (suc n) = a % 4096 ∷ addresses (a + 1) n
 
-with_bytes-put_back : (m n : List ℕ) (a k : ℕ) → with_bytes n a (bytes_at m a k) ≡ put_back m (places a k) n
+with_bytes-put_back : (m n : List ℕ) (a k : ℕ) → with_bytes n a (bytes_at m a k) ≡ put_back m (addresses a k) n
 unfolding byte_at with_byte
 with_bytes-put_back m n a zero = refl
 with_bytes-put_back m n a (suc k) = with_bytes-put_back m (set n (a % 4096) (get_or m (a % 4096) 0)) (a + 1) k
 
 -- a memory that differs from m in k bytes from an address on becomes m after m's bytes are written there
 pub bytes-back : (m n : List ℕ) (a k : ℕ) → length n ≡ length m
-    → ((r : ℕ) → IsElsewhere r (places a k) → get_or n r 0 ≡ get_or m r 0) → with_bytes n a (bytes_at m a k) ≡ m
-bytes-back m n a k e h = with_bytes-put_back m n a k ∙ back_is m (places a k) n e h
+    → ((r : ℕ) → IsElsewhere r (addresses a k) → get_or n r 0 ≡ get_or m r 0) → with_bytes n a (bytes_at m a k) ≡ m
+bytes-back m n a k e h = with_bytes-put_back m n a k ∙ back_is m (addresses a k) n e h
 
 -- a byte that is written changes no other index, and no length
 pub length-with_byte : (m : List ℕ) (a b : ℕ) → length (with_byte m a b) ≡ length m
@@ -57,7 +57,7 @@ unfolding with_byte
 with_byte-elsewhere m a b r h = get_or-set_other m (a % 4096) r b 0 h
 
 -- an index outside of the n bytes from an address on is none of theirs
-pub elsewhere-at : (r a n j : ℕ) → IsElsewhere r (places a n) → j < n → r ≢ (a + j) % 4096
+pub elsewhere-at : (r a n j : ℕ) → IsElsewhere r (addresses a n) → j < n → r ≢ (a + j) % 4096
 elsewhere-at r a zero j there h = absurd (omega arith)
 elsewhere-at r a (suc n) zero there h = rw add-zero there.0
 elsewhere-at r a (suc n) (suc j) there h =

@@ -95,19 +95,19 @@ impl SpMem {
         }
     }
 
-    /// The word at the address `place`, a multiple of 4 below 4096: none of its bytes wraps.
+    /// The word at an address, a multiple of 4 below 4096: none of its bytes wraps.
     #[inline(always)]
     #[tactic(auto, unfolding(crate::specs::Memory::word_at, crate::specs::Memory::byte_at))]
-    pub fn aligned_word(&self, place: usize) -> u32
-        requires below { place < 4096 }
-        requires whole { place % 4 ≡ 0 }
-        ensures { result ≡ word_at self.now place }
+    pub fn aligned_word(&self, address: usize) -> u32
+        requires below { address < 4096 }
+        requires whole { address % 4 ≡ 0 }
+        ensures { result ≡ word_at self.now address }
     {
         BigEndian::read_u32(&[
-            self.bytes[place],
-            self.bytes[place + 1],
-            self.bytes[place + 2],
-            self.bytes[place + 3],
+            self.bytes[address],
+            self.bytes[address + 1],
+            self.bytes[address + 2],
+            self.bytes[address + 3],
         ])
     }
 

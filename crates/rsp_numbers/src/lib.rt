@@ -6,6 +6,8 @@
 //!
 //! `specs/Roots.antt` defines the roots of the root table, and `proofs/Roots.antt` proves that there is one for each
 //! index. They are here since the definition of a table entry names that proof, which has to be in a crate below.
+//!
+//! It is a crate since an `impl Model` may cite lemmas of other crates only.
 #![tactic(auto)]
 
 pub mod laws;

@@ -1,3 +1,6 @@
+// A transfer moves runs of bytes by slices if its rows don't wrap; its contract is the list of byte pairs applied in
+// order.
+
 ghost use Rattle.std.specs.Prelude.{◌≡◌, ◌+◌, ◌*◌, ◌<◌, ◌≤◌, ◌^◌};
 ghost use Rattle.rsp_regs.specs.Dma.{IsTransfer, row_pairs, pairs, copied_in, copied_out};
 

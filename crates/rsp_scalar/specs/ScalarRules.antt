@@ -74,10 +74,10 @@ immediate_result Xori s imm = bit_xor s imm
 
 -- the registers after an instruction that computes; others change none
 abbrev pub after_alu : Inst → List ℕ → List ℕ
-after_alu (Shift row rd rt amount) r = with_register r rd (shift_result row (register r rt) amount)
-after_alu (ShiftBy row f) r = with_register r f.rd (shift_by_result row (register r f.rt) (register r f.rs))
-after_alu (Register row f) r = with_register r f.rd (register_result row (register r f.rs) (register r f.rt))
-after_alu (Immediate row rt rs imm) r = with_register r rt (immediate_result row (register r rs) imm)
+after_alu (Shift op rd rt amount) r = with_register r rd (shift_result op (register r rt) amount)
+after_alu (ShiftBy op f) r = with_register r f.rd (shift_by_result op (register r f.rt) (register r f.rs))
+after_alu (Register op f) r = with_register r f.rd (register_result op (register r f.rs) (register r f.rt))
+after_alu (Immediate op rt rs imm) r = with_register r rt (immediate_result op (register r rs) imm)
 after_alu (LoadUpper rt imm) r = with_register r rt (imm * 65536)
 after_alu _ r = r
 
@@ -96,7 +96,7 @@ load_result Lwu memory a = word_at memory a
 
 -- the registers after a load; other instructions change none
 abbrev pub after_scalar_load : Inst → List ℕ → List ℕ → List ℕ
-after_scalar_load (Load row f) r memory = with_register r f.rt (load_result row memory (address r f.base f.offset))
+after_scalar_load (Load op f) r memory = with_register r f.rt (load_result op memory (address r f.base f.offset))
 after_scalar_load _ r memory = r
 
 -- the memory after a store of the low 1, 2 or 4 bytes of t
@@ -107,7 +107,7 @@ store_result Sw memory a t = with_word memory a t
 
 -- the memory after a store; other instructions leave it
 abbrev pub after_scalar_store : Inst → List ℕ → List ℕ → List ℕ
-after_scalar_store (Store row f) r memory = store_result row memory (address r f.base f.offset) (register r f.rt)
+after_scalar_store (Store op f) r memory = store_result op memory (address r f.base f.offset) (register r f.rt)
 after_scalar_store _ r memory = memory
 
 -- the tests of the branches; s is a signed value if there is one register
@@ -127,9 +127,9 @@ equal_test Bne s t = not (s == t)
 abbrev pub is_taken : Inst → List ℕ → Bool
 is_taken (JumpRegister rs) r = true
 is_taken (JumpLinkRegister rd rs) r = true
-is_taken (BranchSign row rs offset) r = sign_test row (s32 (register r rs))
-is_taken (BranchEqual row rs rt offset) r = equal_test row (register r rs) (register r rt)
-is_taken (Jump row target) r = true
+is_taken (BranchSign op rs offset) r = sign_test op (s32 (register r rs))
+is_taken (BranchEqual op rs rt offset) r = equal_test op (register r rs) (register r rt)
+is_taken (Jump op target) r = true
 is_taken _ r = false
 
 -- npc + 4 * offset, modulo 4096: npc is the address of the delay slot, and the offset a signed value
@@ -140,7 +140,7 @@ branch_target npc offset = modulo (pos npc +ℤ (pos 4 *ℤ s16 offset)) 4096
 abbrev pub target_of : Inst → List ℕ → ℕ → ℕ
 target_of (JumpRegister rs) r npc = register r rs / 4 % 1024 * 4
 target_of (JumpLinkRegister rd rs) r npc = register r rs / 4 % 1024 * 4
-target_of (BranchSign row rs offset) r npc = branch_target npc offset
-target_of (BranchEqual row rs rt offset) r npc = branch_target npc offset
-target_of (Jump row target) r npc = target * 4 % 4096
+target_of (BranchSign op rs offset) r npc = branch_target npc offset
+target_of (BranchEqual op rs rt offset) r npc = branch_target npc offset
+target_of (Jump op target) r npc = target * 4 % 4096
 target_of _ r npc = (npc + 4) % 4096

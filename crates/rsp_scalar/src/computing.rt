@@ -17,11 +17,11 @@ fn shifted_signed(t: u32, amount: u32) -> u32
 
 /// A shift by a constant.
 #[inline(always)]
-fn shift(row: ShiftOp, t: u32, amount: u8) -> u32
+fn shift(op: ShiftOp, t: u32, amount: u8) -> u32
     requires { amount < 32 }
-    ensures { result ≡ shift_result row t amount }
+    ensures { result ≡ shift_result op t amount }
 {
-    match row {
+    match op {
         ShiftOp::Sll => t << amount,
         ShiftOp::Srl => t >> amount,
         ShiftOp::Sra => shifted_signed(t, u32::from(amount)),
@@ -30,10 +30,10 @@ fn shift(row: ShiftOp, t: u32, amount: u8) -> u32
 
 /// A shift by the low five bits of a register.
 #[inline(always)]
-fn shift_by(row: ShiftVariableOp, t: u32, s: u32) -> u32
-    ensures { result ≡ shift_by_result row t s }
+fn shift_by(op: ShiftVariableOp, t: u32, s: u32) -> u32
+    ensures { result ≡ shift_by_result op t s }
 {
-    match row {
+    match op {
         ShiftVariableOp::Sllv => t << (s % 32),
         ShiftVariableOp::Srlv => t >> (s % 32),
         ShiftVariableOp::Srav => shifted_signed(t, s % 32),
@@ -42,10 +42,10 @@ fn shift_by(row: ShiftVariableOp, t: u32, s: u32) -> u32
 
 /// An instruction on two registers.
 #[inline(always)]
-fn register(row: RegisterOp, s: u32, t: u32) -> u32
-    ensures { result ≡ register_result row s t }
+fn register(op: RegisterOp, s: u32, t: u32) -> u32
+    ensures { result ≡ register_result op s t }
 {
-    match row {
+    match op {
         RegisterOp::Add | RegisterOp::Addu => s.wrapping_add(t),
         RegisterOp::Sub | RegisterOp::Subu => s.wrapping_sub(t),
         RegisterOp::And => s & t,
@@ -59,10 +59,10 @@ fn register(row: RegisterOp, s: u32, t: u32) -> u32
 
 /// An instruction on a register and an immediate of sixteen bits.
 #[inline(always)]
-fn immediate(row: ImmediateOp, s: u32, imm: u16) -> u32
-    ensures { result ≡ immediate_result row s imm }
+fn immediate(op: ImmediateOp, s: u32, imm: u16) -> u32
+    ensures { result ≡ immediate_result op s imm }
 {
-    match row {
+    match op {
         ImmediateOp::Addi | ImmediateOp::Addiu => s.wrapping_add(sign_extend(imm)),
         ImmediateOp::Slti => u32::from(s.cast_signed() < imm.cast_signed() as i32),
         ImmediateOp::Sltiu => u32::from(s < sign_extend(imm)),
@@ -80,21 +80,16 @@ pub fn alu(inst: &Inst, regs: &mut Regs)
     ensures { regs.new ≡ after_alu inst.now regs.old }
 {
     match *inst {
-        Inst::Shift {
-            row,
-            rd,
-            rt,
-            amount,
-        } => regs.set(rd, shift(row, regs.get(rt), amount)),
-        Inst::ShiftBy { row, fields } => regs.set(
+        Inst::Shift { op, rd, rt, amount } => regs.set(rd, shift(op, regs.get(rt), amount)),
+        Inst::ShiftBy { op, fields } => regs.set(
             fields.rd,
-            shift_by(row, regs.get(fields.rt), regs.get(fields.rs)),
+            shift_by(op, regs.get(fields.rt), regs.get(fields.rs)),
         ),
-        Inst::Register { row, fields } => regs.set(
+        Inst::Register { op, fields } => regs.set(
             fields.rd,
-            register(row, regs.get(fields.rs), regs.get(fields.rt)),
+            register(op, regs.get(fields.rs), regs.get(fields.rt)),
         ),
-        Inst::Immediate { row, rt, rs, imm } => regs.set(rt, immediate(row, regs.get(rs), imm)),
+        Inst::Immediate { op, rt, rs, imm } => regs.set(rt, immediate(op, regs.get(rs), imm)),
         Inst::LoadUpper { rt, imm } => regs.set(rt, (imm as u32) << 16),
         _ => {}
     }

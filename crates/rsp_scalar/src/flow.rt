@@ -8,10 +8,10 @@ use rsp_decode::{BranchEqualOp, BranchSignOp, Inst, JumpOp};
 
 /// The test of a branch on one register.
 #[inline(always)]
-fn sign_holds(row: BranchSignOp, s: i32) -> bool
-    ensures { result ≡ sign_test row s }
+fn sign_holds(op: BranchSignOp, s: i32) -> bool
+    ensures { result ≡ sign_test op s }
 {
-    match row {
+    match op {
         BranchSignOp::Bltz | BranchSignOp::Bltzal => s < 0,
         BranchSignOp::Bgez | BranchSignOp::Bgezal => s >= 0,
         BranchSignOp::Blez => s <= 0,
@@ -21,10 +21,10 @@ fn sign_holds(row: BranchSignOp, s: i32) -> bool
 
 /// The test of a branch on two registers.
 #[inline(always)]
-fn equal_holds(row: BranchEqualOp, s: u32, t: u32) -> bool
-    ensures { result ≡ equal_test row s t }
+fn equal_holds(op: BranchEqualOp, s: u32, t: u32) -> bool
+    ensures { result ≡ equal_test op s t }
 {
-    match row {
+    match op {
         BranchEqualOp::Beq => s == t,
         BranchEqualOp::Bne => s != t,
     }
@@ -38,8 +38,8 @@ pub fn taken(inst: &Inst, regs: &Regs) -> bool
 {
     match *inst {
         Inst::JumpRegister { .. } | Inst::JumpLinkRegister { .. } | Inst::Jump { .. } => true,
-        Inst::BranchSign { row, rs, .. } => sign_holds(row, regs.get(rs).cast_signed()),
-        Inst::BranchEqual { row, rs, rt, .. } => equal_holds(row, regs.get(rs), regs.get(rt)),
+        Inst::BranchSign { op, rs, .. } => sign_holds(op, regs.get(rs).cast_signed()),
+        Inst::BranchEqual { op, rs, rt, .. } => equal_holds(op, regs.get(rs), regs.get(rt)),
         _ => false,
     }
 }
@@ -48,7 +48,7 @@ pub fn taken(inst: &Inst, regs: &Regs) -> bool
 #[inline(always)]
 fn address_after(npc: u16) -> u16
     ensures value { result ≡ address_after npc }
-    ensures place { result < 4096 }
+    ensures below { result < 4096 }
     ensures whole { npc % 4 ≡ 0 → result % 4 ≡ 0 }
 {
     ((npc as u32 + 4) % 4096) as u16
@@ -58,7 +58,7 @@ fn address_after(npc: u16) -> u16
 #[inline(always)]
 fn branch_target(npc: u16, offset: u16) -> u16
     ensures value { result ≡ branch_target npc offset }
-    ensures place { result < 4096 }
+    ensures below { result < 4096 }
     ensures whole { npc % 4 ≡ 0 → result % 4 ≡ 0 }
 {
     // 4 times 2^16 is a multiple of 4096, so the offset's sign makes no difference.
@@ -72,7 +72,7 @@ fn branch_target(npc: u16, offset: u16) -> u16
 pub fn target(inst: &Inst, regs: &Regs, npc: u16) -> u16
     requires { IsInstruction inst.now }
     ensures value { result ≡ target_of inst.now regs.now npc }
-    ensures place { result < 4096 }
+    ensures below { result < 4096 }
     ensures whole { npc % 4 ≡ 0 → result % 4 ≡ 0 }
 {
     match *inst {
@@ -92,7 +92,7 @@ pub fn target(inst: &Inst, regs: &Regs, npc: u16) -> u16
 fn next_npc(inst: &Inst, regs: &Regs, npc: u16) -> u16
     requires { IsInstruction inst.now }
     ensures value { result ≡ next_npc inst.now regs.now npc }
-    ensures place { result < 4096 }
+    ensures below { result < 4096 }
     ensures whole { npc % 4 ≡ 0 → result % 4 ≡ 0 }
 {
     if taken(inst, regs) {
@@ -111,11 +111,11 @@ fn link(inst: &Inst, regs: &mut Regs, npc: u16)
     match *inst {
         Inst::JumpLinkRegister { rd, .. } => regs.set(rd, u32::from(address_after(npc))),
         Inst::BranchSign {
-            row: BranchSignOp::Bltzal | BranchSignOp::Bgezal,
+            op: BranchSignOp::Bltzal | BranchSignOp::Bgezal,
             ..
         }
         | Inst::Jump {
-            row: JumpOp::Jal,
+            op: JumpOp::Jal,
             ..
         } => regs.set(31, u32::from(address_after(npc))),
         _ => {}
@@ -130,7 +130,7 @@ fn link(inst: &Inst, regs: &mut Regs, npc: u16)
 pub fn jump(inst: &Inst, regs: &mut Regs, npc: u16) -> u16
     requires { IsInstruction inst.now }
     ensures next { result ≡ next_npc inst.now regs.old npc }
-    ensures place { result < 4096 }
+    ensures below { result < 4096 }
     ensures whole { npc % 4 ≡ 0 → result % 4 ≡ 0 }
     ensures registers { regs.new ≡ with_link inst.now regs.old npc }
 {

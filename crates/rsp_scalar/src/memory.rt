@@ -18,10 +18,10 @@ pub fn address(regs: &Regs, base: u8, offset: u16) -> u32
 
 /// What a load reads at address `a`.
 #[inline(always)]
-fn loaded(row: LoadOp, memory: &SpMem, a: u32) -> u32
-    ensures { result ≡ load_result row memory.now a }
+fn loaded(op: LoadOp, memory: &SpMem, a: u32) -> u32
+    ensures { result ≡ load_result op memory.now a }
 {
-    match row {
+    match op {
         LoadOp::Lb => (memory.byte(a).cast_signed() as i32).cast_unsigned(),
         LoadOp::Lh => sign_extend(memory.half(a)),
         LoadOp::Lw | LoadOp::Lwu => memory.word(a),
@@ -32,10 +32,10 @@ fn loaded(row: LoadOp, memory: &SpMem, a: u32) -> u32
 
 /// Writes the low 1, 2 or 4 bytes of `t` at address `a`.
 #[inline(always)]
-fn write(row: StoreOp, memory: &mut SpMem, a: u32, t: u32)
-    ensures { memory.new ≡ store_result row memory.old a t }
+fn write(op: StoreOp, memory: &mut SpMem, a: u32, t: u32)
+    ensures { memory.new ≡ store_result op memory.old a t }
 {
-    match row {
+    match op {
         StoreOp::Sb => memory.set_byte(a, (t % 256) as u8),
         StoreOp::Sh => memory.set_half(a, (t % 65536) as u16),
         StoreOp::Sw => memory.set_word(a, t),
@@ -49,9 +49,9 @@ pub fn load(inst: &Inst, regs: &mut Regs, memory: &SpMem)
     requires { IsInstruction inst.now }
     ensures { regs.new ≡ after_scalar_load inst.now regs.old memory.now }
 {
-    if let Inst::Load { row, fields } = *inst {
+    if let Inst::Load { op, fields } = *inst {
         let a = address(regs, fields.base, fields.offset);
-        regs.set(fields.rt, loaded(row, memory, a));
+        regs.set(fields.rt, loaded(op, memory, a));
     }
 }
 
@@ -62,8 +62,8 @@ pub fn store(inst: &Inst, regs: &Regs, memory: &mut SpMem)
     requires { IsInstruction inst.now }
     ensures { memory.new ≡ after_scalar_store inst.now regs.now memory.old }
 {
-    if let Inst::Store { row, fields } = *inst {
+    if let Inst::Store { op, fields } = *inst {
         let a = address(regs, fields.base, fields.offset);
-        write(row, memory, a, regs.get(fields.rt));
+        write(op, memory, a, regs.get(fields.rt));
     }
 }

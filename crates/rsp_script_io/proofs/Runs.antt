@@ -13,7 +13,7 @@ use Rattle.rsp_script_io.specs.Faults.{IsAnswerFault}
 use Rattle.rsp_script_io.specs.Pieces.{PieceAnswered}
 use Rattle.rsp_script_io.specs.EarlyEnd.{WritesPrefix, TakesAtMost, Takes, ScriptRun, EndedLinesWritten, PrefixWritten, LeavesWritten}
 use Rattle.rsp_script_io.specs.Lines.{ended_lines, ended_after, open_after, last_line, kept}
-use Rattle.rsp_script_io.specs.Replies.{Answer, LongLinesAlike, replies, final, out_of}
+use Rattle.rsp_script_io.specs.Replies.{Answer, LongLinesAlike, replies, final, written_of}
 use Rattle.rsp_script_io.proofs.LongLineReplies.{SameReplies, alike-last}
 use Rattle.rsp_script_io.proofs.PieceAnswers.{answers-none, answers-then, answers-front}
 use Rattle.rsp_script_io.proofs.KnownEnds.{append_known-append, prepend_known-append, prepend_known-nil}
@@ -142,7 +142,7 @@ module _ {S : Type 0} (answer_to : List ℕ → S → Answer S) (end_reply : S �
   -- the replies to the lines that a newline ended, and what is left to answer and to say
   out-pieces : (taken line : List ℕ) (s t : S) → kept line ≡ kept (open_after [] taken) → t ≡ final answer_to (ended_after [] taken) s
       → replies answer_to (ended_after [] taken) s ++ (replies answer_to (last_line line) t ++ end_reply (final answer_to (last_line line) t))
-      ≡ out_of answer_to end_reply taken s
+      ≡ written_of answer_to end_reply taken s
   out-pieces taken line s t e n =
       let same : SameReplies answer_to (last_line line) (last_line (open_after [] taken)) t = alike-last answer_to alike line (open_after [] taken) t e in
       rw (
@@ -165,7 +165,7 @@ module _ {S : Type 0} (answer_to : List ℕ → S → Answer S) (end_reply : S �
   pub progress-end : {r u w x y : Option (List ℕ)} {l : List ℕ} {s t o : S} {total : ℕ} (v : Option (List ℕ)) (script : List ℕ) → Progress answer_to r u w x l s t total
       → u ≡ prepend_known [] v → IsAtEnd v → total ≤ SCRIPT_LIMIT → r ≡ Some script
       → y ≡ append_known x (replies answer_to (last_line l) t ++ end_reply (final answer_to (last_line l) t)) → o ≡ final answer_to (last_line l) t
-      → (length script ≤ SCRIPT_LIMIT) × (y ≡ append_known w (out_of answer_to end_reply script s)) × (o ≡ final answer_to (lines script) s)
+      → (length script ≤ SCRIPT_LIMIT) × (y ≡ append_known w (written_of answer_to end_reply script s)) × (o ≡ final answer_to (lines script) s)
   progress-end {r = r} {w = w} {x = x} {l = l} {s = s} {t = t} v script h e d few k written next =
       let all : h.taken ≡ script = told_all r v h.taken script (h.told ∙ ap (prepend_known h.taken) (e ∙ prepend_known-nil _)) d k in
       let part : take SCRIPT_LIMIT h.taken ≡ script = limit_all h.taken (omega (arith, h.count)) ∙ all in

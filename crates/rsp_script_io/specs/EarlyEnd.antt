@@ -5,7 +5,7 @@ use Rattle.rsp_script_io.specs.declared.run.TheConstants.{SCRIPT_LIMIT}
 use Rattle.rsp_script_io.specs.declared.run.RunFault.{RunFault}
 use Rattle.rsp_script_io.specs.declared.run.RunFault.TheVariants.{ReadFault, WriteFault, ScriptTooLong, OutOfMemory}
 use Rattle.rsp_script_io.specs.Lines.{ended_lines}
-use Rattle.rsp_script_io.specs.Replies.{Answer, replies, out_of}
+use Rattle.rsp_script_io.specs.Replies.{Answer, replies, written_of}
 
 -- a prefix of these bytes was written after the old ones, and nothing else
 pub record WritesPrefix (old new : Option (List ℕ)) (bytes : List ℕ) : Type 0 where
@@ -47,7 +47,7 @@ pub record PrefixWritten {S : Type 0} (r : ScriptRun S) : Type 0 where
   pub taken : List ℕ
   pub told : r.script ≡ prepend_known taken r.unread
   pub prefix : WritesPrefix r.before r.written (replies r.answer_to (ended_lines (take SCRIPT_LIMIT taken)) r.session)
-      ⊎ (IsAtEnd r.unread × WritesPrefix r.before r.written (out_of r.answer_to r.end_reply taken r.session))
+      ⊎ (IsAtEnd r.unread × WritesPrefix r.before r.written (written_of r.answer_to r.end_reply taken r.session))
 
 -- the replies to the lines that ended within the limit of a script were written in full, and nothing else
 abbrev pub LimitWritten : {S : Type 0} → ScriptRun S → Type 0

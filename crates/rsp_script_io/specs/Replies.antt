@@ -22,5 +22,5 @@ final answer_to [] s = s
 final answer_to (l ∷ ls) s = final answer_to ls (answer_to l s).next
 
 -- all that is written for a script: the replies to its lines, and what is written at its end
-abbrev pub out_of : {S : Type 0} → (List ℕ → S → Answer S) → (S → List ℕ) → List ℕ → S → List ℕ
-out_of answer_to end_reply script s = replies answer_to (lines script) s ++ end_reply (final answer_to (lines script) s)
+abbrev pub written_of : {S : Type 0} → (List ℕ → S → Answer S) → (S → List ℕ) → List ℕ → S → List ℕ
+written_of answer_to end_reply script s = replies answer_to (lines script) s ++ end_reply (final answer_to (lines script) s)

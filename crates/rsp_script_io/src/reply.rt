@@ -1,3 +1,6 @@
+// Numbers are printed by `itoa`, whose contract is over std's own definition of decimals, and bytes by `hex`. A single
+// hexadecimal number has digits of our own: `hex` prints bytes, and a pc has three digits.
+
 ghost use Rattle.std.specs.Prelude.{◌≡◌, ℕ, ◌+◌, ◌*◌, ◌/◌, ◌%◌, ◌^◌, ◌<◌, ◌≤◌, List, [], ◌∷◌, ◌++◌, length};
 ghost use Rattle.rsp_script_io.specs.Text.{hex_text, two_digits, short_decimal};
 

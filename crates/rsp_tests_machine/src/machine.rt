@@ -19,8 +19,8 @@ fn start<A: Acc>(rt: &impl Abort, alloc: Global) -> Result<Machine<A>, AllocErro
 }
 
 /// Writes words to IMEM from an address on, which may wrap, and sets pc to it.
-fn program<A: Acc>(machine: &mut Machine<A>, place: u16, words: &[u32]) {
-    let start = place % 4096 / 4 * 4;
+fn program<A: Acc>(machine: &mut Machine<A>, address: u16, words: &[u32]) {
+    let start = address % 4096 / 4 * 4;
     let mut at = u32::from(start);
     for word in words {
         let _ = machine.load_bytes(Bank::Imem, at % 4096, &word.to_be_bytes());
@@ -32,7 +32,7 @@ fn program<A: Acc>(machine: &mut Machine<A>, place: u16, words: &[u32]) {
 #[test]
 fn makes_steps_at_once(rt: HostRuntime) -> Result<(), AllocError> {
     let up = 0x2421_0001; // addiu $1, $1, 1
-    for (status, place, words, n, made, pc, npc, count, halted) in [
+    for (status, address, words, n, made, pc, npc, count, halted) in [
         // addiu; j 0; addiu
         (0, 0, [up, 0x0800_0000, up], 7, 7, 4, 8, 5, false),
         // ends at a jump: its delay slot is next
@@ -51,7 +51,7 @@ fn makes_steps_at_once(rt: HostRuntime) -> Result<(), AllocError> {
         (0, 0, [up; 3], 0, 0, 0, 4, 0, false),
     ] {
         let mut machine: Machine<PlaneAcc> = start(&rt, rt.alloc())?;
-        program(&mut machine, place, &words);
+        program(&mut machine, address, &words);
         machine.write_reg(4, status);
         assert_eq!(rt; machine.steps(n), made);
         assert_eq!(rt; (machine.pc(), machine.npc()), (pc, npc));

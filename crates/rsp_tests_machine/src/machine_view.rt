@@ -8,7 +8,7 @@ use std::alloc::{AllocError, Global};
 /// What the readers of a machine show at one time, except IMEM and the image, which no instruction changes without a DMA.
 #[derive(Drop)]
 pub struct MachineView {
-    places: [u16; 2],
+    counters: [u16; 2],
     registers: [u32; 32],
     vectors: [VReg; 32],
     accumulators: [VReg; 3],
@@ -60,7 +60,7 @@ impl MachineView {
         let mut dmem = Vec::new(alloc);
         dmem.extend_from_slice(machine.dmem().run(0, 4096))?;
         Ok(MachineView {
-            places: [machine.pc(), machine.npc()],
+            counters: [machine.pc(), machine.npc()],
             registers: registers(machine),
             vectors: vectors(machine),
             accumulators: accumulators(machine),
@@ -86,7 +86,7 @@ impl MachineView {
 
     /// Whether all is equal.
     pub fn is_same(&self, other: &MachineView) -> bool {
-        self.places == other.places && self.is_same_beside(other)
+        self.counters == other.counters && self.is_same_beside(other)
     }
 
     /// Whether more than the program counters differs.

@@ -1,4 +1,4 @@
-// Calls that allocate. `tests/refusals` runs these tests many times, and each time another allocation fails: a test then prints the
+// Calls that allocate. `tests/part failing-allocations` runs these tests many times, and each time another allocation fails: a test then prints the
 // answer on standard output, and calls again.
 
 use rsp_acc::PlaneAcc;

@@ -1,9 +1,9 @@
-// Calls that allocate. `tests/refusals` runs these tests many times, and each time another allocation fails: a test then prints the
+// Calls that allocate. `tests/part failing-allocations` runs these tests many times, and each time another allocation fails: a test then prints the
 // answer on standard output, and calls again. When memory is there, the answers must be the usual ones.
 
 ghost use Rattle.std.specs.Prelude.{◌≡◌, IfOk};
 
-use rsp_asm::{AsmFaultKind, Block, BlockFault, assemble};
+use rsp_asm::{AsmFaultKind, Block, BlockFault, assemble, explain};
 use rsp_bench::{BenchEnd, MemSink, MemSource, Session, Source, parse_line, run_bench};
 use rsp_memory::Rdram;
 use rsp_operands::Labels;
@@ -58,6 +58,17 @@ fn a_text_is_assembled_when_memory_is_there(rt: HostRuntime) -> Result<(), Fail>
                 assert!(rt; fault.kind == AsmFaultKind::OutOfMemory);
                 println!(rt; "no memory at line {}", fault.line)?;
             }
+        }
+    }
+    Ok(())
+}
+
+#[test]
+fn a_text_is_explained_when_memory_is_there(rt: HostRuntime) -> Result<(), Fail> {
+    for _ in 0..2 {
+        match explain(rt.alloc(), 0, "a: nop\nb: nop\nbeq $1, $2, c") {
+            Ok(found) => assert!(rt; found.is_some_and(|operand| operand.number == 3)),
+            Err(_) => println!(rt; "no memory for a label")?,
         }
     }
     Ok(())

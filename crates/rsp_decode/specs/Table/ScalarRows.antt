@@ -165,46 +165,46 @@ abbrev pub move_sp_row : MoveOp → Row
 move_sp_row r = row (move_sp_selector r) (scalar 16 ∷ sp_register ∷ []) (two (MoveSp r))
 
 -- the rows of a group
-abbrev pub shifts : List ShiftOp
-shifts = Sll ∷ Srl ∷ Sra ∷ []
+abbrev pub shift_ops : List ShiftOp
+shift_ops = Sll ∷ Srl ∷ Sra ∷ []
 
 -- the rows of a group
-abbrev pub shifts_by : List ShiftVariableOp
-shifts_by = Sllv ∷ Srlv ∷ Srav ∷ []
+abbrev pub shift_by_ops : List ShiftVariableOp
+shift_by_ops = Sllv ∷ Srlv ∷ Srav ∷ []
 
 -- the rows of a group
-abbrev pub registers : List RegisterOp
-registers = Add ∷ Addu ∷ Sub ∷ Subu ∷ And ∷ Or ∷ Xor ∷ Nor ∷ Slt ∷ Sltu ∷ []
+abbrev pub register_ops : List RegisterOp
+register_ops = Add ∷ Addu ∷ Sub ∷ Subu ∷ And ∷ Or ∷ Xor ∷ Nor ∷ Slt ∷ Sltu ∷ []
 
 -- the rows of a group
-abbrev pub jumps : List JumpOp
-jumps = J ∷ Jal ∷ []
+abbrev pub jump_ops : List JumpOp
+jump_ops = J ∷ Jal ∷ []
 
 -- the rows of a group
-abbrev pub branches_equal : List BranchEqualOp
-branches_equal = Beq ∷ Bne ∷ []
+abbrev pub branch_equal_ops : List BranchEqualOp
+branch_equal_ops = Beq ∷ Bne ∷ []
 
 -- the rows of a group
-abbrev pub immediates : List ImmediateOp
-immediates = Addi ∷ Addiu ∷ Slti ∷ Sltiu ∷ Andi ∷ Ori ∷ Xori ∷ []
+abbrev pub immediate_ops : List ImmediateOp
+immediate_ops = Addi ∷ Addiu ∷ Slti ∷ Sltiu ∷ Andi ∷ Ori ∷ Xori ∷ []
 
 -- the rows of a group
-abbrev pub loads : List LoadOp
-loads = Lb ∷ Lh ∷ Lw ∷ Lbu ∷ Lhu ∷ Lwu ∷ []
+abbrev pub load_ops : List LoadOp
+load_ops = Lb ∷ Lh ∷ Lw ∷ Lbu ∷ Lhu ∷ Lwu ∷ []
 
 -- the rows of a group
-abbrev pub stores : List StoreOp
-stores = Sb ∷ Sh ∷ Sw ∷ []
+abbrev pub store_ops : List StoreOp
+store_ops = Sb ∷ Sh ∷ Sw ∷ []
 
 -- rows of opcode 0, by function
 abbrev pub special_rows : List Row
 special_rows =
-    map shift_row shifts
-    ++ map shift_by_row shifts_by
+    map shift_row shift_ops
+    ++ map shift_by_row shift_by_ops
     ++ (jump_register_row ∷ [])
     ++ (jump_link_register_row ∷ [])
     ++ (break_row ∷ [])
-    ++ map register_row registers
+    ++ map register_row register_ops
 
 -- rows of opcode 1, by rt
 abbrev pub regimm_rows : List Row
@@ -215,12 +215,12 @@ regimm_rows =
 abbrev pub opcode_rows : List Row
 opcode_rows =
     map branch_sign_row (Blez ∷ Bgtz ∷ [])
-    ++ map jump_row jumps
-    ++ map branch_equal_row branches_equal
-    ++ map immediate_row immediates
+    ++ map jump_row jump_ops
+    ++ map branch_equal_row branch_equal_ops
+    ++ map immediate_row immediate_ops
     ++ (load_upper_row ∷ [])
-    ++ map load_row loads
-    ++ map store_row stores
+    ++ map load_row load_ops
+    ++ map store_row store_ops
 
 -- rows of opcode 16, by rs
 abbrev pub cop0_rows : List Row

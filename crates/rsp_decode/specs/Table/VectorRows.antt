@@ -249,48 +249,48 @@ abbrev pub vector_store_row : VectorStoreOp → Row
 vector_store_row r = row (vector_store_selector r) (vector_store_operand r ∷ vector_memory (vector_store_scale r) ∷ []) (of_vector_memory (VectorStore r))
 
 -- the rows of a group
-abbrev pub multiplies : List VectorMultiplyOp
-multiplies = Vmulf ∷ Vmulu ∷ Vmudl ∷ Vmudm ∷ Vmudn ∷ Vmudh ∷ Vmacf ∷ Vmacu ∷ Vmadl ∷ Vmadm ∷ Vmadn ∷ Vmadh ∷ []
+abbrev pub multiply_ops : List VectorMultiplyOp
+multiply_ops = Vmulf ∷ Vmulu ∷ Vmudl ∷ Vmudm ∷ Vmudn ∷ Vmudh ∷ Vmacf ∷ Vmacu ∷ Vmadl ∷ Vmadm ∷ Vmadn ∷ Vmadh ∷ []
 
 -- the rows of a group
-abbrev pub rounds : List VectorRoundOp
-rounds = Vrndp ∷ Vrndn ∷ []
+abbrev pub round_ops : List VectorRoundOp
+round_ops = Vrndp ∷ Vrndn ∷ []
 
 -- the rows of a group
-abbrev pub mpegs : List VectorMpegOp
-mpegs = Vmulq ∷ Vmacq ∷ []
+abbrev pub mpeg_ops : List VectorMpegOp
+mpeg_ops = Vmulq ∷ Vmacq ∷ []
 
 -- the rows of a group
-abbrev pub vector_adds : List VectorAddOp
-vector_adds = Vadd ∷ Vsub ∷ Vabs ∷ Vaddc ∷ Vsubc ∷ []
+abbrev pub vector_add_ops : List VectorAddOp
+vector_add_ops = Vadd ∷ Vsub ∷ Vabs ∷ Vaddc ∷ Vsubc ∷ []
 
 -- the rows of a group
-abbrev pub vector_selects : List VectorSelectOp
-vector_selects = Vlt ∷ Veq ∷ Vne ∷ Vge ∷ []
+abbrev pub vector_select_ops : List VectorSelectOp
+vector_select_ops = Vlt ∷ Veq ∷ Vne ∷ Vge ∷ []
 
 -- the rows of a group
-abbrev pub vector_clips : List VectorClipOp
-vector_clips = Vcl ∷ Vch ∷ Vcr ∷ []
+abbrev pub vector_clip_ops : List VectorClipOp
+vector_clip_ops = Vcl ∷ Vch ∷ Vcr ∷ []
 
 -- the rows of a group
-abbrev pub vector_logics : List VectorLogicOp
-vector_logics = Vand ∷ Vnand ∷ Vor ∷ Vnor ∷ Vxor ∷ Vnxor ∷ []
+abbrev pub vector_logic_ops : List VectorLogicOp
+vector_logic_ops = Vand ∷ Vnand ∷ Vor ∷ Vnor ∷ Vxor ∷ Vnxor ∷ []
 
 -- the rows of a group
-abbrev pub divides : List VectorDivideOp
-divides = Vrcp ∷ Vrcpl ∷ Vrcph ∷ Vmov ∷ Vrsq ∷ Vrsql ∷ Vrsqh ∷ []
+abbrev pub divide_ops : List VectorDivideOp
+divide_ops = Vrcp ∷ Vrcpl ∷ Vrcph ∷ Vmov ∷ Vrsq ∷ Vrsql ∷ Vrsqh ∷ []
 
 -- the rows of a group
-abbrev pub idles : List VectorNopOp
-idles = Vnop ∷ Vnull ∷ []
+abbrev pub idle_ops : List VectorNopOp
+idle_ops = Vnop ∷ Vnull ∷ []
 
 -- the rows of a group
-abbrev pub vector_loads : List VectorLoadOp
-vector_loads = Lbv ∷ Lsv ∷ Llv ∷ Ldv ∷ Lqv ∷ Lrv ∷ Lpv ∷ Luv ∷ Lhv ∷ Lfv ∷ Ltv ∷ []
+abbrev pub vector_load_ops : List VectorLoadOp
+vector_load_ops = Lbv ∷ Lsv ∷ Llv ∷ Ldv ∷ Lqv ∷ Lrv ∷ Lpv ∷ Luv ∷ Lhv ∷ Lfv ∷ Ltv ∷ []
 
 -- the rows of a group
-abbrev pub vector_stores : List VectorStoreOp
-vector_stores = Sbv ∷ Ssv ∷ Slv ∷ Sdv ∷ Sqv ∷ Srv ∷ Spv ∷ Suv ∷ Shv ∷ Sfv ∷ Swv ∷ Stv ∷ []
+abbrev pub vector_store_ops : List VectorStoreOp
+vector_store_ops = Sbv ∷ Ssv ∷ Slv ∷ Sdv ∷ Sqv ∷ Srv ∷ Spv ∷ Suv ∷ Shv ∷ Sfv ∷ Swv ∷ Stv ∷ []
 
 -- rows of opcode 18 without bit 25, by rs
 abbrev pub cop2_rows : List Row
@@ -301,24 +301,24 @@ cop2_rows =
 -- rows of opcode 18 with bit 25, by function
 abbrev pub computing_rows : List Row
 computing_rows =
-    map multiply_row multiplies
-    ++ map round_row rounds
-    ++ map mpeg_row mpegs
+    map multiply_row multiply_ops
+    ++ map round_row round_ops
+    ++ map mpeg_row mpeg_ops
     ++ (read_accumulator_row ∷ [])
-    ++ map vector_add_row vector_adds
-    ++ map vector_select_row vector_selects
-    ++ map vector_clip_row vector_clips
+    ++ map vector_add_row vector_add_ops
+    ++ map vector_select_row vector_select_ops
+    ++ map vector_clip_row vector_clip_ops
     ++ (vector_merge_row ∷ [])
-    ++ map vector_logic_row vector_logics
-    ++ map divide_row divides
-    ++ map idle_row idles
+    ++ map vector_logic_row vector_logic_ops
+    ++ map divide_row divide_ops
+    ++ map idle_row idle_ops
 
 -- rows of opcode 50, by operation
 abbrev pub lwc2_rows : List Row
 lwc2_rows =
-    map vector_load_row vector_loads
+    map vector_load_row vector_load_ops
 
 -- rows of opcode 58, by operation
 abbrev pub swc2_rows : List Row
 swc2_rows =
-    map vector_store_row vector_stores
+    map vector_store_row vector_store_ops

@@ -20,11 +20,11 @@ use crate::visitor::Visitor;
 
 /// `sll`, `srl` and `sra`: hands the visitor the operation, rd, rt and the shift amount.
 #[inline]
-fn shift<V: Visitor>(word: u32, row: ShiftOp, visitor: &mut V)
-    ensures { visitor.new ≡ V.after (meaning_of (shift_row row) word) visitor.old }
+fn shift<V: Visitor>(word: u32, op: ShiftOp, visitor: &mut V)
+    ensures { visitor.new ≡ V.after (meaning_of (shift_row op) word) visitor.old }
 {
     visitor.take(Inst::Shift {
-        row,
+        op,
         rd: rd(word),
         rt: rt(word),
         amount: shift_amount(word),
@@ -33,11 +33,11 @@ fn shift<V: Visitor>(word: u32, row: ShiftOp, visitor: &mut V)
 
 /// `sllv`, `srlv` and `srav`: hands the visitor the operation, rd, rt and rs.
 #[inline]
-fn shift_by<V: Visitor>(word: u32, row: ShiftVariableOp, visitor: &mut V)
-    ensures { visitor.new ≡ V.after (meaning_of (shift_by_row row) word) visitor.old }
+fn shift_by<V: Visitor>(word: u32, op: ShiftVariableOp, visitor: &mut V)
+    ensures { visitor.new ≡ V.after (meaning_of (shift_by_row op) word) visitor.old }
 {
     visitor.take(Inst::ShiftBy {
-        row,
+        op,
         fields: register_fields(word),
     });
 }
@@ -63,11 +63,11 @@ fn jump_link_register<V: Visitor>(word: u32, visitor: &mut V)
 
 /// The instructions on two registers, from `add` to `sltu`: hands the visitor the operation, rd, rs and rt.
 #[inline]
-fn register<V: Visitor>(word: u32, row: RegisterOp, visitor: &mut V)
-    ensures { visitor.new ≡ V.after (meaning_of (register_row row) word) visitor.old }
+fn register<V: Visitor>(word: u32, op: RegisterOp, visitor: &mut V)
+    ensures { visitor.new ≡ V.after (meaning_of (register_row op) word) visitor.old }
 {
     visitor.take(Inst::Register {
-        row,
+        op,
         fields: register_fields(word),
     });
 }
@@ -92,11 +92,11 @@ pub fn visit_special<V: Visitor>(word: u32, visitor: &mut V) -> bool
 
 /// The branches on the sign of a register: hands the visitor the operation, rs and the offset.
 #[inline]
-fn branch_sign<V: Visitor>(word: u32, row: BranchSignOp, visitor: &mut V)
-    ensures { visitor.new ≡ V.after (meaning_of (branch_sign_row row) word) visitor.old }
+fn branch_sign<V: Visitor>(word: u32, op: BranchSignOp, visitor: &mut V)
+    ensures { visitor.new ≡ V.after (meaning_of (branch_sign_row op) word) visitor.old }
 {
     visitor.take(Inst::BranchSign {
-        row,
+        op,
         rs: rs(word),
         offset: immediate(word),
     });
@@ -114,11 +114,11 @@ pub fn visit_regimm<V: Visitor>(word: u32, visitor: &mut V) -> bool
 
 /// `beq` and `bne`: hands the visitor the operation, rs, rt and the offset.
 #[inline]
-fn branch_equal<V: Visitor>(word: u32, row: BranchEqualOp, visitor: &mut V)
-    ensures { visitor.new ≡ V.after (meaning_of (branch_equal_row row) word) visitor.old }
+fn branch_equal<V: Visitor>(word: u32, op: BranchEqualOp, visitor: &mut V)
+    ensures { visitor.new ≡ V.after (meaning_of (branch_equal_row op) word) visitor.old }
 {
     visitor.take(Inst::BranchEqual {
-        row,
+        op,
         rs: rs(word),
         rt: rt(word),
         offset: immediate(word),
@@ -127,22 +127,22 @@ fn branch_equal<V: Visitor>(word: u32, row: BranchEqualOp, visitor: &mut V)
 
 /// `j` and `jal`: hands the visitor the operation and the target.
 #[inline]
-fn jump<V: Visitor>(word: u32, row: JumpOp, visitor: &mut V)
-    ensures { visitor.new ≡ V.after (meaning_of (jump_row row) word) visitor.old }
+fn jump<V: Visitor>(word: u32, op: JumpOp, visitor: &mut V)
+    ensures { visitor.new ≡ V.after (meaning_of (jump_row op) word) visitor.old }
 {
     visitor.take(Inst::Jump {
-        row,
+        op,
         target: target(word),
     });
 }
 
 /// The instructions with an immediate, from `addi` to `xori`: hands the visitor the operation, rt, rs and the immediate.
 #[inline]
-fn with_immediate<V: Visitor>(word: u32, row: ImmediateOp, visitor: &mut V)
-    ensures { visitor.new ≡ V.after (Inst.Immediate row (value_at word (whole 16 5)) (value_at word (whole 21 5)) (value_at word (whole 0 16))) visitor.old }
+fn with_immediate<V: Visitor>(word: u32, op: ImmediateOp, visitor: &mut V)
+    ensures { visitor.new ≡ V.after (Inst.Immediate op (value_at word (whole 16 5)) (value_at word (whole 21 5)) (value_at word (whole 0 16))) visitor.old }
 {
     visitor.take(Inst::Immediate {
-        row,
+        op,
         rt: rt(word),
         rs: rs(word),
         imm: immediate(word),
@@ -162,22 +162,22 @@ fn load_upper<V: Visitor>(word: u32, visitor: &mut V)
 
 /// The scalar loads: hands the visitor the operation, rt, the offset and the base.
 #[inline]
-fn load<V: Visitor>(word: u32, row: LoadOp, visitor: &mut V)
-    ensures { visitor.new ≡ V.after (meaning_of (load_row row) word) visitor.old }
+fn load<V: Visitor>(word: u32, op: LoadOp, visitor: &mut V)
+    ensures { visitor.new ≡ V.after (meaning_of (load_row op) word) visitor.old }
 {
     visitor.take(Inst::Load {
-        row,
+        op,
         fields: scalar_memory_fields(word),
     });
 }
 
 /// The scalar stores: hands the visitor the operation, rt, the offset and the base.
 #[inline]
-fn store<V: Visitor>(word: u32, row: StoreOp, visitor: &mut V)
-    ensures { visitor.new ≡ V.after (meaning_of (store_row row) word) visitor.old }
+fn store<V: Visitor>(word: u32, op: StoreOp, visitor: &mut V)
+    ensures { visitor.new ≡ V.after (meaning_of (store_row op) word) visitor.old }
 {
     visitor.take(Inst::Store {
-        row,
+        op,
         fields: scalar_memory_fields(word),
     });
 }
@@ -194,11 +194,11 @@ pub fn visit_opcode<V: Visitor>(word: u32, visitor: &mut V) -> bool
 
 /// `mfc0` and `mtc0`: hands the visitor the operation, rt and the SP register.
 #[inline]
-fn move_sp<V: Visitor>(word: u32, row: MoveOp, visitor: &mut V)
-    ensures { visitor.new ≡ V.after (meaning_of (move_sp_row row) word) visitor.old }
+fn move_sp<V: Visitor>(word: u32, op: MoveOp, visitor: &mut V)
+    ensures { visitor.new ≡ V.after (meaning_of (move_sp_row op) word) visitor.old }
 {
     visitor.take(Inst::MoveSp {
-        row,
+        op,
         rt: rt(word),
         register: sp_register(word),
     });

@@ -21,11 +21,11 @@ use crate::visitor::Visitor;
 
 /// `mfc2` and `mtc2`: hands the visitor the operation, rt, the vector register and the byte element.
 #[inline]
-fn move_vector<V: Visitor>(word: u32, row: MoveOp, visitor: &mut V)
-    ensures { visitor.new ≡ V.after (meaning_of (move_vector_row row) word) visitor.old }
+fn move_vector<V: Visitor>(word: u32, op: MoveOp, visitor: &mut V)
+    ensures { visitor.new ≡ V.after (meaning_of (move_vector_row op) word) visitor.old }
 {
     visitor.take(Inst::MoveVector {
-        row,
+        op,
         rt: rt(word),
         vector: rd(word),
         element: byte_element(word),
@@ -34,11 +34,11 @@ fn move_vector<V: Visitor>(word: u32, row: MoveOp, visitor: &mut V)
 
 /// `cfc2` and `ctc2`: hands the visitor the operation, rt and the control register.
 #[inline]
-fn move_control<V: Visitor>(word: u32, row: MoveOp, visitor: &mut V)
-    ensures { visitor.new ≡ V.after (meaning_of (move_control_row row) word) visitor.old }
+fn move_control<V: Visitor>(word: u32, op: MoveOp, visitor: &mut V)
+    ensures { visitor.new ≡ V.after (meaning_of (move_control_row op) word) visitor.old }
 {
     visitor.take(Inst::MoveControl {
-        row,
+        op,
         rt: rt(word),
         control: control(word),
     });
@@ -56,33 +56,33 @@ pub fn visit_cop2<V: Visitor>(word: u32, visitor: &mut V) -> bool
 
 /// The multiplies: hands the visitor the operation, vd, vs, vt and the element.
 #[inline]
-fn multiply<V: Visitor>(word: u32, row: VectorMultiplyOp, visitor: &mut V)
-    ensures { visitor.new ≡ V.after (meaning_of (multiply_row row) word) visitor.old }
+fn multiply<V: Visitor>(word: u32, op: VectorMultiplyOp, visitor: &mut V)
+    ensures { visitor.new ≡ V.after (meaning_of (multiply_row op) word) visitor.old }
 {
     visitor.take(Inst::Multiply {
-        row,
+        op,
         fields: vector_fields(word),
     });
 }
 
 /// `vrndp` and `vrndn`: hands the visitor the operation, vd, vs, vt and the element.
 #[inline]
-fn round<V: Visitor>(word: u32, row: VectorRoundOp, visitor: &mut V)
-    ensures { visitor.new ≡ V.after (meaning_of (round_row row) word) visitor.old }
+fn round<V: Visitor>(word: u32, op: VectorRoundOp, visitor: &mut V)
+    ensures { visitor.new ≡ V.after (meaning_of (round_row op) word) visitor.old }
 {
     visitor.take(Inst::Round {
-        row,
+        op,
         fields: vector_fields(word),
     });
 }
 
 /// `vmulq` and `vmacq`: hands the visitor the operation, vd, vs, vt and the element.
 #[inline]
-fn mpeg_multiply<V: Visitor>(word: u32, row: VectorMpegOp, visitor: &mut V)
-    ensures { visitor.new ≡ V.after (meaning_of (mpeg_row row) word) visitor.old }
+fn mpeg_multiply<V: Visitor>(word: u32, op: VectorMpegOp, visitor: &mut V)
+    ensures { visitor.new ≡ V.after (meaning_of (mpeg_row op) word) visitor.old }
 {
     visitor.take(Inst::MpegMultiply {
-        row,
+        op,
         fields: vector_fields(word),
     });
 }
@@ -99,33 +99,33 @@ fn read_accumulator<V: Visitor>(word: u32, visitor: &mut V)
 
 /// The sums, the differences and `vabs`: hands the visitor the operation, vd, vs, vt and the element.
 #[inline]
-fn vector_add<V: Visitor>(word: u32, row: VectorAddOp, visitor: &mut V)
-    ensures { visitor.new ≡ V.after (meaning_of (vector_add_row row) word) visitor.old }
+fn vector_add<V: Visitor>(word: u32, op: VectorAddOp, visitor: &mut V)
+    ensures { visitor.new ≡ V.after (meaning_of (vector_add_row op) word) visitor.old }
 {
     visitor.take(Inst::VectorAdd {
-        row,
+        op,
         fields: vector_fields(word),
     });
 }
 
 /// The comparisons: hands the visitor the operation, vd, vs, vt and the element.
 #[inline]
-fn vector_select<V: Visitor>(word: u32, row: VectorSelectOp, visitor: &mut V)
-    ensures { visitor.new ≡ V.after (meaning_of (vector_select_row row) word) visitor.old }
+fn vector_select<V: Visitor>(word: u32, op: VectorSelectOp, visitor: &mut V)
+    ensures { visitor.new ≡ V.after (meaning_of (vector_select_row op) word) visitor.old }
 {
     visitor.take(Inst::VectorSelect {
-        row,
+        op,
         fields: vector_fields(word),
     });
 }
 
 /// The clips: hands the visitor the operation, vd, vs, vt and the element.
 #[inline]
-fn vector_clip<V: Visitor>(word: u32, row: VectorClipOp, visitor: &mut V)
-    ensures { visitor.new ≡ V.after (meaning_of (vector_clip_row row) word) visitor.old }
+fn vector_clip<V: Visitor>(word: u32, op: VectorClipOp, visitor: &mut V)
+    ensures { visitor.new ≡ V.after (meaning_of (vector_clip_row op) word) visitor.old }
 {
     visitor.take(Inst::VectorClip {
-        row,
+        op,
         fields: vector_fields(word),
     });
 }
@@ -142,22 +142,22 @@ fn vector_merge<V: Visitor>(word: u32, visitor: &mut V)
 
 /// The logic instructions: hands the visitor the operation, vd, vs, vt and the element.
 #[inline]
-fn vector_logic<V: Visitor>(word: u32, row: VectorLogicOp, visitor: &mut V)
-    ensures { visitor.new ≡ V.after (meaning_of (vector_logic_row row) word) visitor.old }
+fn vector_logic<V: Visitor>(word: u32, op: VectorLogicOp, visitor: &mut V)
+    ensures { visitor.new ≡ V.after (meaning_of (vector_logic_row op) word) visitor.old }
 {
     visitor.take(Inst::VectorLogic {
-        row,
+        op,
         fields: vector_fields(word),
     });
 }
 
 /// The divides and `vmov`: hands the visitor the operation, vd, the lane, vt and the element.
 #[inline]
-fn divide<V: Visitor>(word: u32, row: VectorDivideOp, visitor: &mut V)
-    ensures { visitor.new ≡ V.after (meaning_of (divide_row row) word) visitor.old }
+fn divide<V: Visitor>(word: u32, op: VectorDivideOp, visitor: &mut V)
+    ensures { visitor.new ≡ V.after (meaning_of (divide_row op) word) visitor.old }
 {
     visitor.take(Inst::Divide {
-        row,
+        op,
         vd: vd(word),
         lane: lane(word),
         vt: vt(word),
@@ -167,10 +167,10 @@ fn divide<V: Visitor>(word: u32, row: VectorDivideOp, visitor: &mut V)
 
 /// `vnop` and `vnull`, whose fields are ignored: hands the visitor the operation.
 #[inline]
-fn idle<V: Visitor>(word: u32, row: VectorNopOp, visitor: &mut V)
-    ensures { visitor.new ≡ V.after (meaning_of (idle_row row) word) visitor.old }
+fn idle<V: Visitor>(word: u32, op: VectorNopOp, visitor: &mut V)
+    ensures { visitor.new ≡ V.after (meaning_of (idle_row op) word) visitor.old }
 {
-    visitor.take(Inst::Idle { row });
+    visitor.take(Inst::Idle { op });
 }
 
 /// The functions below 16, the multiplies and the roundings, of which none is reserved. Returns whether the function is one of
@@ -207,12 +207,12 @@ pub fn visit_computing<V: Visitor>(word: u32, visitor: &mut V) -> bool
 
 /// The vector loads: hands the visitor the operation, vt, the element, the offset and the base.
 #[inline]
-fn vector_load<V: Visitor>(word: u32, row: VectorLoadOp, visitor: &mut V)
-    requires { IsInstruction (Inst.VectorLoad row (vector_memory_in word)) }
-    ensures { visitor.new ≡ V.after (Inst.VectorLoad row (vector_memory_in word)) visitor.old }
+fn vector_load<V: Visitor>(word: u32, op: VectorLoadOp, visitor: &mut V)
+    requires { IsInstruction (Inst.VectorLoad op (vector_memory_in word)) }
+    ensures { visitor.new ≡ V.after (Inst.VectorLoad op (vector_memory_in word)) visitor.old }
 {
     visitor.take(Inst::VectorLoad {
-        row,
+        op,
         fields: vector_memory_fields(word),
     });
 }
@@ -229,12 +229,12 @@ pub fn visit_lwc2<V: Visitor>(word: u32, visitor: &mut V) -> bool
 
 /// The vector stores: hands the visitor the operation, vt, the element, the offset and the base.
 #[inline]
-fn vector_store<V: Visitor>(word: u32, row: VectorStoreOp, visitor: &mut V)
-    requires { IsInstruction (Inst.VectorStore row (vector_memory_in word)) }
-    ensures { visitor.new ≡ V.after (Inst.VectorStore row (vector_memory_in word)) visitor.old }
+fn vector_store<V: Visitor>(word: u32, op: VectorStoreOp, visitor: &mut V)
+    requires { IsInstruction (Inst.VectorStore op (vector_memory_in word)) }
+    ensures { visitor.new ≡ V.after (Inst.VectorStore op (vector_memory_in word)) visitor.old }
 {
     visitor.take(Inst::VectorStore {
-        row,
+        op,
         fields: vector_memory_fields(word),
     });
 }

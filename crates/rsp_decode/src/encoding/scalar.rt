@@ -22,34 +22,34 @@ const COP0: u32 = 16 << 26;
 
 /// `sll`, `srl` and `sra`: opcode 0, and the function.
 #[inline]
-pub fn shift_value(row: ShiftOp) -> u32
-    ensures { result ≡ (shift_selector row).value }
+pub fn shift_value(op: ShiftOp) -> u32
+    ensures { result ≡ (shift_selector op).value }
 {
-    row as u32
+    op as u32
 }
 
 /// `sllv`, `srlv` and `srav`: opcode 0, and the function.
 #[inline]
-pub fn shift_by_value(row: ShiftVariableOp) -> u32
-    ensures { result ≡ (shift_by_selector row).value }
+pub fn shift_by_value(op: ShiftVariableOp) -> u32
+    ensures { result ≡ (shift_by_selector op).value }
 {
-    row as u32
+    op as u32
 }
 
 /// The instructions on two registers: opcode 0, and the function.
 #[inline]
-pub fn register_value(row: RegisterOp) -> u32
-    ensures { result ≡ (register_selector row).value }
+pub fn register_value(op: RegisterOp) -> u32
+    ensures { result ≡ (register_selector op).value }
 {
-    row as u32
+    op as u32
 }
 
 /// The branches on a sign: opcode 1 and the number in rt, or opcode 6 or 7.
 #[inline]
-pub fn branch_sign_value(row: BranchSignOp) -> u32
-    ensures { result ≡ (branch_sign_selector row).value }
+pub fn branch_sign_value(op: BranchSignOp) -> u32
+    ensures { result ≡ (branch_sign_selector op).value }
 {
-    match row {
+    match op {
         BranchSignOp::Bltz => REGIMM,
         BranchSignOp::Bgez => REGIMM | 1 << 16,
         BranchSignOp::Bltzal => REGIMM | 16 << 16,
@@ -61,48 +61,48 @@ pub fn branch_sign_value(row: BranchSignOp) -> u32
 
 /// `j` and `jal`: the opcode.
 #[inline]
-pub fn jump_value(row: JumpOp) -> u32
-    ensures { result ≡ (jump_selector row).value }
+pub fn jump_value(op: JumpOp) -> u32
+    ensures { result ≡ (jump_selector op).value }
 {
-    (row as u32) << 26
+    (op as u32) << 26
 }
 
 /// `beq` and `bne`: the opcode.
 #[inline]
-pub fn branch_equal_value(row: BranchEqualOp) -> u32
-    ensures { result ≡ (branch_equal_selector row).value }
+pub fn branch_equal_value(op: BranchEqualOp) -> u32
+    ensures { result ≡ (branch_equal_selector op).value }
 {
-    (row as u32) << 26
+    (op as u32) << 26
 }
 
 /// The instructions with an immediate: the opcode.
 #[inline]
-pub fn immediate_value(row: ImmediateOp) -> u32
-    ensures { result ≡ (immediate_selector row).value }
+pub fn immediate_value(op: ImmediateOp) -> u32
+    ensures { result ≡ (immediate_selector op).value }
 {
-    (row as u32) << 26
+    (op as u32) << 26
 }
 
 /// The scalar loads: the opcode.
 #[inline]
-pub fn load_value(row: LoadOp) -> u32
-    ensures { result ≡ (load_selector row).value }
+pub fn load_value(op: LoadOp) -> u32
+    ensures { result ≡ (load_selector op).value }
 {
-    (row as u32) << 26
+    (op as u32) << 26
 }
 
 /// The scalar stores: the opcode.
 #[inline]
-pub fn store_value(row: StoreOp) -> u32
-    ensures { result ≡ (store_selector row).value }
+pub fn store_value(op: StoreOp) -> u32
+    ensures { result ≡ (store_selector op).value }
 {
-    (row as u32) << 26
+    (op as u32) << 26
 }
 
 /// `mfc0` and `mtc0`: opcode 16, and the direction in rs.
 #[inline]
-pub fn move_sp_value(row: MoveOp) -> u32
-    ensures { result ≡ (move_sp_selector row).value }
+pub fn move_sp_value(op: MoveOp) -> u32
+    ensures { result ≡ (move_sp_selector op).value }
 {
-    COP0 | (row as u32) << 21
+    COP0 | (op as u32) << 21
 }

@@ -3,7 +3,7 @@ use super::run_work;
 use rsp_cli::Status;
 use std::test::Fail;
 
-/// A command line, how long the file `image` is that it names, how many bytes of it the program asks for, and the message. The
+/// A command line, how long the file `image` is that it names, how many bytes of it the program reads at most, and the message. The
 /// bytes are no text, so a source that isn't too long is refused for that.
 const LENGTHS: [(&str, usize, u64, &str); 5] = [
     ("rsp run --rdram image", 8_388_608, 8_388_609, ""),

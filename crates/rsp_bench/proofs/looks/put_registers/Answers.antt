@@ -8,5 +8,5 @@ use Rattle.rsp_bench.proofs.looks.put_registers.Goals as goal
 pub returns : goal.returns
 unfolding registers_text
 returns g c =
-    let same = register_lines c.regs-places.result.words c.args.debugger.now.state.registers c.regs-places.ensures.words in
+    let same = register_lines c.regs-registers.result.words c.args.debugger.now.state.registers c.regs-registers.ensures.words in
     rw (c.push_register_lines.ensures, same) (grind (arith, parts, common_steps))

@@ -21,11 +21,11 @@ returns-clause-stop g c =
     let n = c.args.n in let s = c.args.machine.now in let x = c.args.conditions.now in
     let e = c.steps_until-steps.ensures in let k = c.steps_until-steps.result in let t = c.steps_until-steps.new.self in
     let come = come-all x.breaks.now x.snapshots.now x.moves n s k t c.requires.asks c.requires.same (made-after k s t e.made.done e.made.state) (omega (arith, e.within, c.from.ensures))
-    (λ i h. moves-pass _ x.moves (steps_of i s) (λ row register. refl) (e.permitted i h)) in
+    (λ i h. moves-pass _ x.moves (steps_of i s) (λ op register. refl) (e.permitted i h)) in
     let all : step_refusal t ≡ None → (k ≡ n) ⊎ (is_at_move x.moves t ≡ true) = λ free. elim (cases_lt k n) [
       | inl short ↦ elim (ends-freely k s t _ _ (e.ends (omega (arith, short, c.from.ensures)))) [
         | inl stuck ↦ never (step_refusal t) _ (stuck-is t stuck) free
-        | inr (inl refused) ↦ inr (move-next _ x.moves t (λ row register. refl) refused free)
+        | inr (inl refused) ↦ inr (move-next _ x.moves t (λ op register. refl) refused free)
         | inr (inr ended) ↦ never-ends (steps_of (k - 1) s) _ ended.1
       ]
       | inr rest ↦ inl (omega (arith, rest, e.within, c.from.ensures))

@@ -5,4 +5,4 @@ use Rattle.rsp_debug.proofs.breaks.Breaks.contains.Goals as goal
 
 pub returns : goal.returns
 returns c =
-    bit-is _ _ ∙ sym (place-is c.self.inside.bits (c.args.place / 4) (omega arith)) ∙ ap (λ l. slice_index_or l (c.args.place / 4) false) c.self.view_is
+    bit-is _ _ ∙ sym (place-is c.self.inside.bits (c.args.address / 4) (omega arith)) ∙ ap (λ l. slice_index_or l (c.args.address / 4) false) c.self.view_is

@@ -8,7 +8,7 @@ use Rattle.rsp_debug.specs.HistoryRing.{Records, backwards, entries_before, stat
 use Rattle.rsp_debug.proofs.Ring.{turned, length-put}
 use Rattle.rsp_debug.proofs.DoneSteps.{made-after}
 use Rattle.rsp_debug.proofs.HistoryRecords.{past-unkept, IsStretch, stretch-kept, stretch-cleared, written-items}
-use Rattle.rsp_debug.proofs.history.History.stretch.Goals.{then-self-depth, else-self-depth, then-can_undo, else-can_undo}
+use Rattle.rsp_debug.proofs.history.History.stretch.Goals.{then-self-depth, else-self-depth, then-can_undo_steps, else-can_undo_steps}
 use Rattle.rsp_debug.proofs.history.History.stretch.Goals as goal
 
 some_made : (k : ℕ) (b : Bool) → b ≡ false → (k ≡ 0 → b ≡ true) → 0 < k
@@ -52,10 +52,10 @@ returns-clause-past g c =
     let put = take a ls ++ (ys ++ drop (a + m - a) (drop a ls)) in
     let whole : length put ≡ length xs = ap length (written-items a m (a + m - a) xs ls ys put same cut refl) ∙ length-put a m xs ys room len in
     let items : zs ≡ take a xs ++ (ys ++ drop (a + m) xs) = written-items a m (a + m - a) xs ls ys zs same cut (c.make_contiguous.ensures.same_len put whole) in
-    let made : states_before t (entries_before (a + k) c.if-can_undo.self zs) ≡ history_after_steps k (length xs) s (states_before s (entries_before a i.count xs)) =
-    elim c.if-can_undo.branch [
-      | then-can_undo w ↦ stretch-kept a m k i.count c.if-can_undo.self s t xs ys zs h items (w.self-is ∙ w.min-self-inside.ensures ∙ ap (min (i.count + k)) depth) (λ some. sym w.if-can_undo.true ∙ c.can_undo.ensures.last some)
-      | else-can_undo w ↦ stretch-cleared a m k i.count c.if-can_undo.self s t xs ys zs h w.self-is (some_made k c.can_undo.result w.if-can_undo.false c.can_undo.ensures.none)
-          (sym w.if-can_undo.false ∙ c.can_undo.ensures.last (some_made k c.can_undo.result w.if-can_undo.false c.can_undo.ensures.none))
+    let made : states_before t (entries_before (a + k) c.if-can_undo_steps.self zs) ≡ history_after_steps k (length xs) s (states_before s (entries_before a i.count xs)) =
+    elim c.if-can_undo_steps.branch [
+      | then-can_undo_steps w ↦ stretch-kept a m k i.count c.if-can_undo_steps.self s t xs ys zs h items (w.self-is ∙ w.min-self-inside.ensures ∙ ap (min (i.count + k)) depth) (λ some. sym w.if-can_undo_steps.true ∙ c.can_undo_steps.ensures.last some)
+      | else-can_undo_steps w ↦ stretch-cleared a m k i.count c.if-can_undo_steps.self s t xs ys zs h w.self-is (some_made k c.can_undo_steps.result w.if-can_undo_steps.false c.can_undo_steps.ensures.none)
+          (sym w.if-can_undo_steps.false ∙ c.can_undo_steps.ensures.last (some_made k c.can_undo_steps.result w.if-can_undo_steps.false c.can_undo_steps.ensures.none))
     ] in
     made ∙ ap (λ l. history_after_steps k (length xs) s (states_before s (take i.count l))) turn ∙ ap (λ (r : Records). history_after_steps k r.depth s (states_before s r.newest)) c.self.view_is

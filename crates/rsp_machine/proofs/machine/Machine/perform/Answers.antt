@@ -8,36 +8,36 @@ pub returns-in-MoveSp-clause-state : goal.returns-in-MoveSp-clause-state
 unfolding instruction_effect
 returns-in-MoveSp-clause-state g c =
     let i = c.in-MoveSp in let p = c.args.counters.now in let s = c.args.self.now in
-    rw (i.is, sp_elsewhere i.row i.rt i.register p s, sp_stays i.row i.rt i.register s) (search rules)
+    rw (i.is, sp_elsewhere i.op i.rt i.register p s, sp_stays i.op i.rt i.register s) (search rules)
 
 pub returns-in-MoveSp-clause-counters : goal.returns-in-MoveSp-clause-counters
 unfolding instruction_effect
 returns-in-MoveSp-clause-counters g c =
     let i = c.in-MoveSp in let p = c.args.counters.now in let s = c.args.self.now in
-    rw (i.is, sp_elsewhere i.row i.rt i.register p s) (search rules)
+    rw (i.is, sp_elsewhere i.op i.rt i.register p s) (search rules)
 
 pub returns-in-MoveVector-clause-state : goal.returns-in-MoveVector-clause-state
 unfolding instruction_effect
 returns-in-MoveVector-clause-state g c =
     let i = c.in-MoveVector in let p = c.args.counters.now in let s = c.args.self.now in
-    let inst = MoveVector i.row i.rt i.vector i.element in
-    rw (i.is, vector_elsewhere i.row inst i.rt p s, vector_stays i.row inst i.rt s) (search rules)
+    let inst = MoveVector i.op i.rt i.vector i.element in
+    rw (i.is, vector_elsewhere i.op inst i.rt p s, vector_stays i.op inst i.rt s) (search rules)
 
 pub returns-in-MoveVector-clause-counters : goal.returns-in-MoveVector-clause-counters
 unfolding instruction_effect
 returns-in-MoveVector-clause-counters g c =
     let i = c.in-MoveVector in let p = c.args.counters.now in let s = c.args.self.now in
-    rw (i.is, vector_elsewhere i.row (MoveVector i.row i.rt i.vector i.element) i.rt p s) (search rules)
+    rw (i.is, vector_elsewhere i.op (MoveVector i.op i.rt i.vector i.element) i.rt p s) (search rules)
 
 pub returns-in-MoveControl-clause-state : goal.returns-in-MoveControl-clause-state
 unfolding instruction_effect
 returns-in-MoveControl-clause-state g c =
     let i = c.in-MoveControl in let p = c.args.counters.now in let s = c.args.self.now in
-    let inst = MoveControl i.row i.rt i.control in
-    rw (i.is, control_elsewhere i.row inst i.rt p s, control_stays i.row inst i.rt s) (search rules)
+    let inst = MoveControl i.op i.rt i.control in
+    rw (i.is, control_elsewhere i.op inst i.rt p s, control_stays i.op inst i.rt s) (search rules)
 
 pub returns-in-MoveControl-clause-counters : goal.returns-in-MoveControl-clause-counters
 unfolding instruction_effect
 returns-in-MoveControl-clause-counters g c =
     let i = c.in-MoveControl in let p = c.args.counters.now in let s = c.args.self.now in
-    rw (i.is, control_elsewhere i.row (MoveControl i.row i.rt i.control) i.rt p s) (search rules)
+    rw (i.is, control_elsewhere i.op (MoveControl i.op i.rt i.control) i.rt p s) (search rules)

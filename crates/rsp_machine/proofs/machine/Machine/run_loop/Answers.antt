@@ -9,7 +9,7 @@ use Rattle.rsp_machine.specs.Transfers.{starts_dma_at}
 use Rattle.rsp_machine.specs.Until.{ends_after, refuses_at, permitted}
 use Rattle.rsp_machine.proofs.CountersApart.{ranged-at}
 use Rattle.rsp_machine.proofs.OneStep.{step_halted}
-use Rattle.rsp_machine.proofs.LoopSteps.{executed-as, turn-of, goes-by, stops-by, turn-done, turn-running, turn-clear, turn-permitted, permitted-more, turn-goes, turn-stops, turn-ends, executed-none, made-none, made-more, made-as, same_places, told-none, turn-told, told-as, told-nothing}
+use Rattle.rsp_machine.proofs.LoopSteps.{executed-as, turn-of, goes-by, stops-by, turn-done, turn-running, turn-clear, turn-permitted, permitted-more, turn-goes, turn-stops, turn-ends, executed-none, made-none, made-more, made-as, same_counters, told-none, turn-told, told-as, told-nothing}
 use Rattle.rsp_machine.proofs.machine.Machine.run_loop.Goals.{else-loop-made-test, then-loop-made-test+in_default, then-loop-made-test+in-Some+then-not-end_step, then-loop-made-test+in-Some+else-not-end_step+then-ends}
 use Rattle.rsp_machine.proofs.machine.Machine.run_loop.Goals as goal
 
@@ -79,21 +79,21 @@ returns-clause-made g c =
     let o = c.args.self.now in let l = c.loop-made in let i = l.invariant in let s = with_counters l.counters l.self in let single = c.single_step-single.result in
     let refuses = g.U.Until.refuses c.args.until.now in
     elim c.loop-made-test.branch [
-      | else-loop-made-test w ↦ made-as l.made _ o s _ i.run w.made-is (c.set_counters.ensures ∙ same_places _ l.counters _ l.self w.counters-is w.self-is)
+      | else-loop-made-test w ↦ made-as l.made _ o s _ i.run w.made-is (c.set_counters.ensures ∙ same_counters _ l.counters _ l.self w.counters-is w.self-is)
       | then-loop-made-test+in_default w ↦
           let q = w.execute.new.counters in let v = w.execute.new.self in
           let h = executed-as refuses l.word l.counters q l.self v w.execute.result i.goes i.word w.execute.ensures.answer w.execute.ensures.state in
-          made-as l.made _ o s _ i.run w.made-is (c.set_counters.ensures ∙ same_places _ q _ v w.counters-is w.self-is ∙ (executed-none refuses _ s (with_counters q v) _ h w.in_default.is).0)
+          made-as l.made _ o s _ i.run w.made-is (c.set_counters.ensures ∙ same_counters _ q _ v w.counters-is w.self-is ∙ (executed-none refuses _ s (with_counters q v) _ h w.in_default.is).0)
       | then-loop-made-test+in-Some+then-not-end_step w ↦
           let q = w.execute.new.counters in let v = w.execute.new.self in let m = w.end_step.new.self in
           let turn = turn-of refuses l.word l.counters q l.self v m _ w.in-Some.tests single i.goes i.word w.execute.ensures.answer w.execute.ensures.state w.in-Some.is i.free w.end_step.ensures.state in
           let made = made-more l.made (l.made + 1) o s (with_counters q m) i.run (turn-done refuses l.word s _ _ _ _ single turn) (omega arith) in
-          made-as (l.made + 1) _ o (with_counters q m) _ made w.made-is (c.set_counters.ensures ∙ same_places _ q _ m w.counters-is w.self-is)
+          made-as (l.made + 1) _ o (with_counters q m) _ made w.made-is (c.set_counters.ensures ∙ same_counters _ q _ m w.counters-is w.self-is)
       | then-loop-made-test+in-Some+else-not-end_step+then-ends w ↦
           let q = w.execute.new.counters in let v = w.execute.new.self in let m = w.end_step.new.self in
           let turn = turn-of refuses l.word l.counters q l.self v m _ w.in-Some.tests single i.goes i.word w.execute.ensures.answer w.execute.ensures.state w.in-Some.is i.free w.end_step.ensures.state in
           let made = made-more l.made (l.made + 1) o s (with_counters q m) i.run (turn-done refuses l.word s _ _ _ _ single turn) (omega arith) in
-          made-as (l.made + 1) _ o (with_counters q m) _ made w.made-is (c.set_counters.ensures ∙ same_places _ q _ m w.counters-is w.self-is)
+          made-as (l.made + 1) _ o (with_counters q m) _ made w.made-is (c.set_counters.ensures ∙ same_counters _ q _ m w.counters-is w.self-is)
     ]
 
 pub returns-clause-told : goal.returns-clause-told
@@ -146,7 +146,7 @@ returns-clause-ends g c less =
       | then-loop-made-test+in_default w ↦
           let q = w.execute.new.counters in let v = w.execute.new.self in
           let h = executed-as refuses l.word l.counters q l.self v w.execute.result i.goes i.word w.execute.ensures.answer w.execute.ensures.state in
-          let end = c.set_counters.ensures ∙ same_places _ q _ v w.counters-is w.self-is in
+          let end = c.set_counters.ensures ∙ same_counters _ q _ v w.counters-is w.self-is in
           elim (executed-none refuses _ s (with_counters q v) _ h w.in_default.is).1 [
             | inl stuck ↦ inl (ap (λ (x : State). done_steps (step_of x).0) end ∙ stuck)
             | inr refused ↦ inr (inl (ap (refuses_at refuses) end ∙ refused))
@@ -157,7 +157,7 @@ returns-clause-ends g c less =
           let last : made - 1 ≡ l.made = omega (arith, w.made-is) in
           elim (stops-by e.sp single m.sp.halted (not (k.ends_at_dma && e.dma)) w.end_step.result w.end_step.ensures.goes w.if-not-end_step.true) [
             | inl halted ↦
-                let end = ap (λ (x : State). x.sp.halted) (c.set_counters.ensures ∙ same_places _ q _ m w.counters-is w.self-is) in
+                let end = ap (λ (x : State). x.sp.halted) (c.set_counters.ensures ∙ same_counters _ q _ m w.counters-is w.self-is) in
                 inl (ap (λ x. done_steps x.0) (step_halted c.set_counters.new.self (end ∙ halted)))
             | inr stops ↦
                 let dma = turn-stops refuses l.word s _ _ _ e single turn k.ends_at_dma stops in

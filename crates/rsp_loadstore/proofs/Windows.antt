@@ -5,7 +5,7 @@ use Rattle.std.specs.Prelude.{if◌then◌else◌, nat_lt}
 use Rattle.std.specs.List.{range_with_len}
 use Rattle.std.proofs.lemmas.List.{length-set}
 use Rattle.rsp_memory.specs.Memory.{bytes_at, with_bytes}
-use Rattle.rsp_memory.proofs.PutBack.{IsElsewhere, places, bytes-back, length-with_byte, with_byte-elsewhere, elsewhere-at}
+use Rattle.rsp_memory.proofs.PutBack.{IsElsewhere, addresses, bytes-back, length-with_byte, with_byte-elsewhere, elsewhere-at}
 use Rattle.rsp_decode.specs.declared.vector.VectorLoadOp.{VectorLoadOp}
 use Rattle.rsp_decode.specs.declared.vector.VectorLoadOp.TheVariants.{Lbv, Lsv, Llv, Ldv, Lqv, Lrv, Lpv, Luv, Lhv, Lfv, Ltv}
 use Rattle.rsp_decode.specs.declared.vector.VectorStoreOp.{VectorStoreOp}
@@ -14,7 +14,7 @@ use Rattle.rsp_loadstore.specs.File.{with_vector}
 use Rattle.rsp_loadstore.specs.Pairs.{for_each, group_start}
 use Rattle.rsp_loadstore.specs.Loads.{Load, to_byte, to_lane, loaded, after_load, load_pairs}
 use Rattle.rsp_loadstore.specs.Stores.{Store, from_byte, from_bits_14_to_7, high_byte_pair, bits_14_to_7_pair, spv_pair, suv_pair, stored, after_store, store_pairs}
-use Rattle.rsp_loadstore.specs.Reach.{writes_group, window_of}
+use Rattle.rsp_loadstore.specs.Windows.{writes_group, window_of}
 
 -- what holds of each member of a list
 abbrev Each : {P : Type 0} → (P → Type 0) → List P → Type 0
@@ -45,7 +45,7 @@ address_unsigned : (vt j a : ℕ) → address_of (suv_pair vt j a) ≡ a
 address_unsigned vt j a = elim (nat_lt j 8) as (λ b. address_of (if b then bits_14_to_7_pair vt j a else high_byte_pair vt (j % 8) a) ≡ a) [ true ↦ refl | false ↦ refl ]
 
 -- each pair of a store is inside its window
-stores_inside : (row : VectorStoreOp) (vt e a : ℕ) → Each (IsInside (window_of row a)) (store_pairs row vt e a)
+stores_inside : (op : VectorStoreOp) (vt e a : ℕ) → Each (IsInside (window_of op a)) (store_pairs op vt e a)
 unfolding store_pairs
 stores_inside Sbv vt e a = each_for_each (IsInside (window_of Sbv a)) 1 _ (λ k h. (omega arith, omega arith))
 stores_inside Ssv vt e a = each_for_each (IsInside (window_of Ssv a)) 2 _ (λ k h. (omega arith, omega arith))
@@ -79,7 +79,7 @@ unfolding stored
 stored-elsewhere file m (from_byte n i a) r h = with_byte-elsewhere m a _ r h
 stored-elsewhere file m (from_bits_14_to_7 n i a) r h = with_byte-elsewhere m a _ r h
 
-after_store-elsewhere : (file : List (List ℕ)) (m : List ℕ) (ps : List Store) (w r : ℕ) → Each (IsInside w) ps → IsElsewhere r (places w 16)
+after_store-elsewhere : (file : List (List ℕ)) (m : List ℕ) (ps : List Store) (w r : ℕ) → Each (IsInside w) ps → IsElsewhere r (addresses w 16)
     → get_or (after_store file m ps) r 0 ≡ get_or m r 0
 unfolding after_store
 after_store-elsewhere file m [] w r inside there = refl
@@ -89,11 +89,11 @@ after_store-elsewhere file m (p ∷ ps) w r inside there =
     after_store-elsewhere file (stored file m p) ps w r inside.1 there ∙ stored-elsewhere file m p r (rw e at at)
 
 -- a store undone: the old sixteen bytes of its window are written back
-pub stored-back : (row : VectorStoreOp) (vt e a : ℕ) (file : List (List ℕ)) (m : List ℕ)
-    → with_bytes (after_store file m (store_pairs row vt e a)) (window_of row a) (bytes_at m (window_of row a) 16) ≡ m
-stored-back row vt e a file m =
-    bytes-back m _ (window_of row a) 16 (length-after_store file m (store_pairs row vt e a))
-    (λ r there. after_store-elsewhere file m (store_pairs row vt e a) (window_of row a) r (stores_inside row vt e a) there)
+pub stored-back : (op : VectorStoreOp) (vt e a : ℕ) (file : List (List ℕ)) (m : List ℕ)
+    → with_bytes (after_store file m (store_pairs op vt e a)) (window_of op a) (bytes_at m (window_of op a) 16) ≡ m
+stored-back op vt e a file m =
+    bytes-back m _ (window_of op a) 16 (length-after_store file m (store_pairs op vt e a))
+    (λ r there. after_store-elsewhere file m (store_pairs op vt e a) (window_of op a) r (stores_inside op vt e a) there)
 
 -- the register that a pair loads into, one of n from the first on: eight of a group, or one
 abbrev register_of : Load → ℕ
@@ -110,7 +110,7 @@ abbrev IsAmong : ℕ → ℕ → Load → Type 0
 IsAmong first n p = (first ≤ register_of p) × (register_of p < first + n)
 
 -- each pair of a load is among its registers
-loads_among : (row : VectorLoadOp) (vt e a : ℕ) → Each (IsAmong (first_of (writes_group row) vt) (count_of (writes_group row))) (load_pairs row vt e a)
+loads_among : (op : VectorLoadOp) (vt e a : ℕ) → Each (IsAmong (first_of (writes_group op) vt) (count_of (writes_group op))) (load_pairs op vt e a)
 unfolding load_pairs
 loads_among Lbv vt e a = each_for_each (IsAmong vt 1) (min 1 (16 - e)) _ (λ k h. (omega arith, omega arith))
 loads_among Lsv vt e a = each_for_each (IsAmong vt 1) (min 2 (16 - e)) _ (λ k h. (omega arith, omega arith))
@@ -149,11 +149,11 @@ after_load-elsewhere m file (p ∷ ps) first n r among there =
     after_load-elsewhere m (loaded m file p) ps first n r among.1 there ∙ loaded-elsewhere m file p r (rw e at at)
 
 -- a load keeps all registers but its own, and their number
-pub length-load : (row : VectorLoadOp) (m : List ℕ) (file : List (List ℕ)) (vt e a : ℕ) → length (after_load m file (load_pairs row vt e a)) ≡ length file
-length-load row m file vt e a = length-after_load m file (load_pairs row vt e a)
+pub length-load : (op : VectorLoadOp) (m : List ℕ) (file : List (List ℕ)) (vt e a : ℕ) → length (after_load m file (load_pairs op vt e a)) ≡ length file
+length-load op m file vt e a = length-after_load m file (load_pairs op vt e a)
 
-pub load-elsewhere : (row : VectorLoadOp) (m : List ℕ) (file : List (List ℕ)) (vt e a r : ℕ)
-    → ((j : ℕ) → j < count_of (writes_group row) → r ≢ first_of (writes_group row) vt + j)
-    → get_or (after_load m file (load_pairs row vt e a)) r [] ≡ get_or file r []
-load-elsewhere row m file vt e a r there =
-    after_load-elsewhere m file (load_pairs row vt e a) (first_of (writes_group row) vt) (count_of (writes_group row)) r (loads_among row vt e a) there
+pub load-elsewhere : (op : VectorLoadOp) (m : List ℕ) (file : List (List ℕ)) (vt e a r : ℕ)
+    → ((j : ℕ) → j < count_of (writes_group op) → r ≢ first_of (writes_group op) vt + j)
+    → get_or (after_load m file (load_pairs op vt e a)) r [] ≡ get_or file r []
+load-elsewhere op m file vt e a r there =
+    after_load-elsewhere m file (load_pairs op vt e a) (first_of (writes_group op) vt) (count_of (writes_group op)) r (loads_among op vt e a) there
