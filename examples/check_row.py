@@ -1,12 +1,13 @@
 #!/usr/bin/env python3
 """check_row.py [PROGRAM]: checks the row VMULF against a model of one's own, over pipes to `rsp run`.
 
-Copy `Bench`: it sends a command and reads as many lines as the command answers with. Then put your row and your
-model in the place of `VMULF` and `model`.
+Copy `Bench`: it sends a command and reads as many lines as the command answers with. Then put your row and
+your model in the place of `VMULF` and `model`.
 """
 import random
 import subprocess
 import sys
+from typing import List
 
 
 class Bench:
@@ -14,10 +15,14 @@ class Bench:
 
     LINES = {"regs": 9, "vregs": 32, "acc": 8, "sp": 17}
 
-    def __init__(self, program):
-        self.ends = subprocess.Popen([program, "run"], stdin=subprocess.PIPE, stdout=subprocess.PIPE, text=True, bufsize=1)
+    def __init__(self, program: str) -> None:
+        ends = subprocess.Popen(
+            [program, "run"], stdin=subprocess.PIPE, stdout=subprocess.PIPE, text=True, bufsize=1
+        )
+        assert ends.stdin and ends.stdout
+        self.stdin, self.stdout = ends.stdin, ends.stdout
 
-    def lines_of(self, command):
+    def lines_of(self, command: str) -> int:
         """How many lines a command replies with, if it isn't refused."""
         words = command.split()
         if words[0] == "mem":
@@ -26,17 +31,17 @@ class Bench:
             return int(words[2], 0)
         return self.LINES.get(words[0], 1)
 
-    def ask(self, command):
-        """Sends a command, and gives the lines of its reply. A refusal is one line that begins with `fault`."""
-        self.ends.stdin.write(command + "\n")
-        reply = [self.ends.stdout.readline().rstrip("\n")]
+    def ask(self, command: str) -> List[str]:
+        """Sends a command, and gives the lines of its reply. A refusal is one line with `fault` first."""
+        self.stdin.write(command + "\n")
+        reply = [self.stdout.readline().rstrip("\n")]
         if not reply[0].startswith("fault "):
-            reply += [self.ends.stdout.readline().rstrip("\n") for _ in range(self.lines_of(command) - 1)]
+            reply += [self.stdout.readline().rstrip("\n") for _ in range(self.lines_of(command) - 1)]
         return reply
 
-    def assemble(self, place, text):
+    def assemble(self, place: int, text: str) -> str:
         """Assembles a text; the lines of a block have no reply, only its end has."""
-        self.ends.stdin.write(f"asm {place}\n{text}\n")
+        self.stdin.write(f"asm {place}\n{text}\n")
         return self.ask("end")[0]
 
 
@@ -49,17 +54,17 @@ VMULF = """
 """
 
 
-def signed(lane):
+def signed(lane: int) -> int:
     return lane - 65536 if lane >= 32768 else lane
 
 
-def model(a, b):
-    """The result of VMULF for one lane: twice the product, rounded, its upper half limited to sixteen bits."""
+def model(a: int, b: int) -> int:
+    """The result of VMULF for one lane: twice the product, rounded, its upper half clamped to 16 bits."""
     upper = (2 * signed(a) * signed(b) + 32768) >> 16
     return min(max(upper, -32768), 32767) % 65536
 
 
-def main():
+def main() -> None:
     bench = Bench(sys.argv[1] if len(sys.argv) > 1 else "./rsp")
     assert bench.assemble(0, VMULF) == "ok 5 words"
     chance = random.Random(1)

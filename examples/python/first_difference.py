@@ -1,4 +1,5 @@
-"""The first step after which an emulator of three instructions differs from the machine. Its SRA has a planted fault. See docs/EMBEDDING.md."""
+"""The first step after which an emulator of three instructions differs from the machine. Its SRA has a
+planted fault. See docs/EMBEDDING.md."""
 
 import rsp
 
@@ -13,15 +14,15 @@ PROGRAM = """
 class Mine:
     """In place of your emulator: LUI, SW, and an SRA that shifts zeros in."""
 
-    def __init__(self, image):
+    def __init__(self, image: bytes) -> None:
         self.state = rsp.State()
         self.memories = [bytearray(4096), bytearray(4096), bytearray(image)]
 
-    def run(self, steps):
+    def run(self, steps: int) -> None:
         for _ in range(steps):
             self.step()
 
-    def step(self):
+    def step(self) -> None:
         r, pc = self.state.words, self.state.pc
         word = int.from_bytes(self.memories[rsp.IMEM][pc : pc + 4], "big")
         s, t, d, low = word >> 21 & 31, word >> 16 & 31, word >> 11 & 31, word & 0xFFFF
@@ -35,16 +36,16 @@ class Mine:
         r[0] = 0
         self.state.pc, self.state.npc = self.state.npc, (self.state.npc + 4) % 4096
 
-    def get(self):
+    def get(self) -> rsp.State:
         return self.state
 
-    def set(self, state):
+    def set(self, state: rsp.State) -> None:
         self.state = state
 
-    def memory(self, bank, address, length):
+    def memory(self, bank: int, address: int, length: int) -> bytes:
         return self.memories[bank][address : address + length]
 
-    def load(self, bank, address, data):
+    def load(self, bank: int, address: int, data: bytes) -> None:
         self.memories[bank][address : address + len(data)] = data
 
 

@@ -1,8 +1,10 @@
-"""Lock step: an emulator of a few scalar instructions beside the proved machine, from one state on. The first difference is reported with the text of its
-instruction. The emulator has a fault that is planted: its SRA shifts zeros in. See docs/EMBEDDING.md.
+"""Lock step: an emulator of a few scalar instructions beside the proved machine, from one state on. The first
+difference is reported with the text of its instruction. The emulator has a fault that is planted: its SRA
+shifts zeros in. See docs/EMBEDDING.md.
 """
 
 import sys
+from typing import List
 
 import rsp
 
@@ -20,11 +22,11 @@ BELOW = 1 << 32
 class Emulator:
     """In place of your emulator: NOP, SRA, ADDU, ADDIU, BNE, and BREAK, which does nothing here."""
 
-    def __init__(self, imem, state, has_fault):
+    def __init__(self, imem: List[int], state: rsp.State, has_fault: bool) -> None:
         self.imem, self.has_fault = imem, has_fault
         self.r, self.pc, self.npc = list(state.words), state.pc, state.npc
 
-    def step(self):
+    def step(self) -> None:
         word = self.imem[self.pc // 4]
         s, t, d = word >> 21 & 31, word >> 16 & 31, word >> 11 & 31
         low = (word & 0xFFFF) - (word << 1 & 0x10000)
@@ -41,11 +43,11 @@ class Emulator:
         self.r[0] = 0
         self.pc, self.npc = place, following
 
-    def regs(self):
+    def regs(self) -> rsp.Scalars:
         return rsp.Scalars(words=self.r, pc=self.pc, npc=self.npc)
 
 
-def lockstep(start, emulator):
+def lockstep(start: rsp.Rsp, emulator: Emulator) -> None:
     """Steps both from one state on, that of `start`, up to a difference or a halt."""
     machine = start.copy()
     steps = 0
@@ -64,7 +66,7 @@ def lockstep(start, emulator):
             return
 
 
-def main():
+def main() -> None:
     words = rsp.assemble(PROGRAM)
     imem = words + [0] * (1024 - len(words))
     with rsp.Rsp() as machine:

@@ -20,7 +20,7 @@ def labels(text: str, origin: int) -> Dict[int, str]:
     """The labels of a text that has at most one instruction a line, by their addresses."""
     found, place = {}, origin
     for line in text.splitlines():
-        name, instruction = re.match(r"\s*(?:(\w+):)?\s*([^#;]*)", line).groups()
+        name, instruction = re.findall(r"^\s*(?:(\w+):)?\s*([^#;]*)", line)[0]
         if name:
             found[place] = name
         place += 4 if instruction.strip() else 0

@@ -1,7 +1,7 @@
 """step_view.py SOURCE [STEPS [FROM]]: shows the code of microcode beside what each step changed.
 
-It assembles a text, runs it from 0 on, and shows the steps FROM to STEPS. On the left is the code around
-the step, which is marked; on the right are the registers, the flags and the lines of DMEM that it changed.
+It assembles a text, runs it from 0 on, and shows the steps FROM to STEPS. On the left is the code around the
+step, which is marked; on the right are the registers, the flags and the lines of DMEM that it changed.
 """
 
 import sys
