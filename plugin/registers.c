@@ -21,7 +21,7 @@ uint32_t registers_out(rsp_unit *unit)
     rsp_sp_words now;
     rsp_sp(&unit->machine, &now);
     for (unsigned i = 0; i < sizeof given_back / sizeof *given_back; i++) *unit->sp[given_back[i]] = now.words[given_back[i]];
-    *unit->sp[SP_STATUS] = (*unit->sp[SP_STATUS] & ~KEPT_STATUS) | now.words[SP_STATUS];
+    *unit->sp[SP_STATUS] = (*unit->sp[SP_STATUS] & ~(uint32_t)KEPT_STATUS) | now.words[SP_STATUS];
     return now.interrupt;
 }
 

@@ -1,7 +1,11 @@
-/* A shared object of cases: an emulator that conformance/campaign checks, a batch of cases a call. library.c is one, and a pattern for others. */
+/* A shared object of cases: an emulator that conformance/campaign checks, a batch of cases a call. library.c is one, and a pattern for others.
+ * For C11 and C++17. */
 #pragma once
 #include "rsp.h"
 #include <string.h>
+#ifdef __cplusplus
+extern "C" {
+#endif
 
 /* A case: all registers, and the word at their pc. The memories before it are those of cases_open. */
 typedef struct rsp_case { rsp_state state; uint32_t word; } rsp_case;
@@ -27,10 +31,13 @@ static inline uint64_t digest(const uint8_t *before, const uint8_t *after, size_
 {
     uint64_t sum = 0;
     for (size_t at = 0; at < n; at += 1024) if (memcmp(before + at, after + at, 1024) != 0) for (size_t i = at; i < at + 1024; i++) if (before[i] != after[i]) {
-        uint64_t x = (i << 8 | after[i]) * 0xBF58476D1CE4E5B9u + 0x9E3779B97F4A7C15u;
+        uint64_t x = ((uint64_t)i << 8 | after[i]) * 0xBF58476D1CE4E5B9u + 0x9E3779B97F4A7C15u;
         x = (x ^ x >> 27) * 0x94D049BB133111EBu;
         sum += x ^ x >> 31;
     }
     return sum;
 }
 static inline int is_dma(uint32_t word) { return (word & 0xFFE07000) == 0x40801000; } /* MTC0 of a length: it can reach the RDRAM */
+#ifdef __cplusplus
+}
+#endif

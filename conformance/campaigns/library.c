@@ -3,7 +3,7 @@
 
 typedef rsp machine;
 static const size_t start_of[] = { DMEM, IMEM, RDRAM, MEMORIES }; /* each bank's, by its number */
-static const uint8_t zeros[RDRAM_LENGTH];
+static const uint8_t zeros[RDRAM_LENGTH] = { 0 };
 
 static int make(rsp *m, const char *what) { (void)what; return rsp_new(m, zeros, RDRAM_LENGTH, 0) == RSP_OK; }
 static int is_shown(const rsp_case *in) { (void)in; return 1; }

@@ -33,7 +33,8 @@ static int is_shown(const rsp_case *in) /* not branches, jumps and BREAK, not SP
 static void set(const rsp_state *s) /* puts the data of SETTING into DMEM */
 {
     const rsp_flag_bits *f = &s->flags;
-    const uint16_t rest[] = { 0x7FFF, 2, 1, 0, 0, 0, 0, 0, 0, 0xFFFF, s->divider.input, 0, 0, 0, 0, 0, f->carry | f->differ << 8, f->compare | f->clip << 8, f->extra };
+    const uint16_t vco = (uint16_t)(f->carry | f->differ << 8), vcc = (uint16_t)(f->compare | f->clip << 8);
+    const uint16_t rest[] = { 0x7FFF, 2, 1, 0, 0, 0, 0, 0, 0, 0xFFFF, s->divider.input, 0, 0, 0, 0, 0, vco, vcc, f->extra };
     uint32_t *dmem = other.memory[RSP_DMEM];
     uint16_t data[SCALARS] = { 0 };
     memcpy(data + VECTORS, s->vectors, sizeof s->vectors);
@@ -47,11 +48,12 @@ static void set(const rsp_state *s) /* puts the data of SETTING into DMEM */
 static void get(rsp_state *s) /* takes from DMEM what SAVING left */
 {
     const uint32_t *dmem = other.memory[RSP_DMEM];
-    uint16_t data[SCALARS], *control = data + CONTROLS;
-    for (int k = 0; k < SCALARS / 2; k++) { data[2 * k] = dmem[k] >> 16; data[2 * k + 1] = dmem[k]; }
+    uint16_t data[SCALARS];
+    const uint8_t *flags = (const uint8_t *)(data + CONTROLS); /* the low byte of a half is first */
+    for (int k = 0; k < SCALARS / 2; k++) { data[2 * k] = (uint16_t)(dmem[k] >> 16); data[2 * k + 1] = (uint16_t)dmem[k]; }
     memcpy(s->vectors, data + VECTORS, sizeof s->vectors);
     memcpy(&s->accumulators, data + ACCUMULATORS, sizeof s->accumulators);
-    s->flags = (rsp_flag_bits){ control[0], control[0] >> 8, control[1], control[1] >> 8, control[2] };
+    s->flags = (rsp_flag_bits){ flags[0], flags[1], flags[2], flags[3], flags[4] };
     memcpy(s->words + 1, dmem + SCALARS / 2 + 1, 31 * 4);
 }
 

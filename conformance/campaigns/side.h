@@ -1,4 +1,4 @@
-/* The calls of cases.h over an emulator's own: a file defines these, and then includes this one. library.c is a pattern.
+/* The calls of cases.h over an emulator's own: a file defines these, and then includes this one. library.c is a pattern, in C++ too.
  *   typedef .. machine;
  *   static int make(machine *m, const char *what);      0 if it can't
  *   static int is_shown(const rsp_case *in);            0 of a case that it can't be given
@@ -9,11 +9,14 @@
  *   static void load(machine *m, const uint8_t *memories, size_t to);  the memories up to `to`, which is RDRAM or MEMORIES
  *   static void look(machine *m, uint8_t *memories, size_t to); */
 #include <stdlib.h>
+#ifdef __cplusplus
+extern "C" {
+#endif
 typedef struct side { machine m; uint8_t before[MEMORIES], after[MEMORIES]; } side;
 
 void *cases_open(const char *what, const uint8_t *memories)
 {
-    side *s = calloc(1, sizeof *s);
+    side *s = (side *)calloc(1, sizeof *s);
     if (!s || !make(&s->m, what)) return NULL;
     memcpy(s->before, memories, MEMORIES);
     load(&s->m, memories, MEMORIES);
@@ -42,7 +45,7 @@ int cases_run(void *at, const rsp_case *in, rsp_end *out, size_t n)
 {
     for (size_t i = 0; i < n; i++)
         if (!is_shown(in + i)) out[i].status = UNSHOWN;
-        else if (!one(at, in + i, out + i)) return (int)i + 1;
+        else if (!one((side *)at, in + i, out + i)) return (int)i + 1;
     return 0;
 }
 
@@ -51,3 +54,6 @@ void cases_get(void *at, rsp_state *state) { get(&((side *)at)->m, state); }
 void cases_load(void *at, const uint8_t *memories) { load(&((side *)at)->m, memories, MEMORIES); }
 void cases_look(void *at, uint8_t *memories) { look(&((side *)at)->m, memories, MEMORIES); }
 void cases_step(void *at, uint32_t steps) { while (steps-- && step(&((side *)at)->m) == RSP_OK) {} }
+#ifdef __cplusplus
+}
+#endif

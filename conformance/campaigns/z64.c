@@ -28,7 +28,7 @@ static void get(machine *m, rsp_state *s)
 {
     (void)m;
     get_z64(s);
-    s->pc = other.registers[REGISTER_PC]; /* with the two low bits that z64 keeps */
+    s->pc = (uint16_t)other.registers[REGISTER_PC]; /* with the two low bits that z64 keeps */
     s->npc = z64->target == NO_TARGET ? (s->pc + 4) & 0xFFC : z64->target & 0xFFF;
     memcpy(s->sp, other.registers, sizeof s->sp);
     s->interrupt = other.registers[REGISTER_INTERRUPTS] & 1;

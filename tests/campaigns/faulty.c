@@ -1,11 +1,19 @@
 /* The library with a planted fault. FAULT=1: lane 5 of VADD is one too small if two largest numbers and a carry are added. FAULT=2: VXOR changes
- * a bit if the instruction before it was LQV. FAULT=3: it dies after a batch that has a case of the word WORD. */
+ * a bit if the instruction before it was LQV. FAULT=3: it dies after a batch that has a case of the word WORD. FAULT=4: VLT changes a bit after
+ * a CTC2, unless the registers were read or set since. */
 #include "rsp.h"
 static uint32_t faulty_step(rsp *m);
+static int is_spoilt;
+static uint32_t faulty_get(rsp *m, rsp_state *s) { is_spoilt = 0; return rsp_get(m, s); }
+static uint32_t faulty_set(rsp *m, const rsp_state *s) { is_spoilt = 0; return rsp_set(m, s); }
 #define rsp_step faulty_step
+#define rsp_get faulty_get
+#define rsp_set faulty_set
 #define cases_run library_run
 #include "library.c"
 #undef rsp_step
+#undef rsp_get
+#undef rsp_set
 #undef cases_run
 #ifndef WORD
 #define WORD 0
@@ -23,6 +31,8 @@ static int is_faulty(const rsp_state *s, uint32_t word)
     static uint32_t last;
     uint32_t before = last;
     last = word;
+    if (FAULT == 4 && (word & 0xFFE00000) == 0x48C00000) is_spoilt = 1;
+    if (FAULT == 4) return (word & 0xFE00003F) == 0x4A000020 && is_spoilt;
     if (FAULT == 2) return (word & 0xFE00003F) == 0x4A00002C && (before & 0xFC00F800) == 0xC8002000;
     return (word & 0xFE00003F) == 0x4A000010 && (word >> 21 & 15) < 2 && s->vectors[word >> 11 & 31][5] == 0x7FFF
         && s->vectors[word >> 16 & 31][5] == 0x7FFF && s->flags.carry & 32;
@@ -34,10 +44,12 @@ static uint32_t faulty_step(rsp *m)
     uint8_t w[4];
     rsp_get(m, &s);
     rsp_memory(m, RSP_IMEM, s.pc, w, 4);
-    uint32_t word = (uint32_t)w[0] << 24 | w[1] << 16 | w[2] << 8 | w[3], faulty = is_faulty(&s, word), status = rsp_step(m);
+    uint32_t word = (uint32_t)w[0] << 24 | (uint32_t)w[1] << 16 | (uint32_t)w[2] << 8 | w[3];
+    int faulty = is_faulty(&s, word);
+    uint32_t status = rsp_step(m);
     if (!faulty || status != RSP_OK) return status;
     rsp_get(m, &s);
-    if (FAULT == 2) s.vectors[word >> 6 & 31][0] ^= 1;
+    if (FAULT != 1) s.vectors[word >> 6 & 31][0] ^= 1;
     else s.vectors[word >> 6 & 31][5]--;
     rsp_set(m, &s);
     return RSP_OK;

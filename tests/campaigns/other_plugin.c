@@ -43,7 +43,7 @@ unsigned DoRspCycles(unsigned cycles)
         rsp_memory(&machine, RSP_IMEM, at.pc, w, 4);
         rsp_run(&machine, 1, &stop);
         if (stop.steps == 0) break;
-        spoil((uint32_t)w[0] << 24 | w[1] << 16 | w[2] << 8 | w[3]);
+        spoil((uint32_t)w[0] << 24 | (uint32_t)w[1] << 16 | (uint32_t)w[2] << 8 | w[3]);
     }
     carry(0);
     return cycles;

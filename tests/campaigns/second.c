@@ -1,5 +1,5 @@
 /* A second core of the RSP, written from docs/INSTRUCTIONS.md and docs/MACHINE.md. Without PLANTED it has no known fault; -DPLANTED=N plants fault N
- * of bugs.tsv, which says what it does. tests/campaigns/planted builds it once for each of them. It is an emulator for conformance/campaign, and
+ * of bugs.tsv, which says what it does. tests/part campaigns-planted builds it once for each of them. It is an emulator for conformance/campaign, and
  * core_step and core_until_halt run the vectors. */
 #include "cases.h"
 
@@ -386,7 +386,7 @@ static int is_shown(const rsp_case *in) { (void)in; return 1; }
 static int set(core *m, const rsp_state *s) { m->s = *s; return 1; }
 static uint32_t step(core *m) { return core_step(m); }
 static void get(core *m, rsp_state *s) { *s = m->s; }
-static void put(core *m, uint32_t pc, uint32_t word) { for (int i = 0; i < 4; i++) m->memory[IMEM + pc + i] = (uint8_t)(word >> (24 - 8 * i)); }
+static void put(core *m, uint32_t pc, uint32_t word) { for (uint32_t i = 0; i < 4; i++) m->memory[IMEM + pc + i] = (uint8_t)(word >> (24 - 8 * i)); }
 static void load(core *m, const uint8_t *memories, size_t to) {
     memcpy(m->memory, memories, RDRAM);
     if (to > RDRAM) memcpy(m->rdram, memories + RDRAM, RDRAM_LENGTH);

@@ -1,4 +1,4 @@
-/* Each call of c/rsp.h, in its range and out of it. It is C99 and C++11. The last line is `N passed, M failed`. */
+/* Each call of library/c/rsp.h, in its range and out of it. It is C99 and C++11. The last line is `N passed, M failed`. */
 #include "rsp.h"
 #include <stdio.h>
 #include <string.h>
@@ -561,6 +561,50 @@ static void states(void)
     rsp_free(&m);
 }
 
+/* The operand of a refused text: its number, its kind, its range. Expected are the ranges of docs/ASSEMBLY.md. */
+static void explanations(void)
+{
+    static const struct {
+        const char *text;
+        size_t number;
+        uint32_t kind, step;
+        int64_t low, high;
+    } texts[] = {
+        { "nop\n", 0, RSP_OPERAND_NOTHING, 0, 0, 0 },
+        { "nop\nfoo $1\n", 0, RSP_OPERAND_NOTHING, 0, 0, 0 },
+        { "nop $1", 1, RSP_OPERAND_NOTHING, 0, 0, 0 },
+        { ".word 1, 4294967296", 2, RSP_OPERAND_WORD, 1, -2147483647 - 1, 4294967295 },
+        { "jr $v1", 1, RSP_OPERAND_SCALAR, 0, 0, 0 },
+        { "nop\nsll $1, $2, 32", 3, RSP_OPERAND_SHIFT, 1, 0, 31 },
+        { "addiu $1, $2, 65536", 3, RSP_OPERAND_IMMEDIATE, 1, -32768, 65535 },
+        { "lui $1, $2", 2, RSP_OPERAND_IMMEDIATE, 1, -32768, 65535 },
+        { "j 4096", 1, RSP_OPERAND_JUMP, 4, 0, 4092 },
+        { "bne $1, $2, nowhere", 3, RSP_OPERAND_BRANCH, 4, 0, 4092 },
+        { "lw $1, 65536($2)", 2, RSP_OPERAND_SCALAR_MEMORY, 1, -32768, 65535 },
+        { "lqv $v1[0], 0x460($0)", 2, RSP_OPERAND_VECTOR_MEMORY, 16, -1024, 1008 },
+        { "sbv $v1[0], 64($0)", 2, RSP_OPERAND_VECTOR_MEMORY, 1, -64, 63 },
+        { "mtc0 $1, $2", 2, RSP_OPERAND_SP, 0, 0, 0 },
+        { "ctc2 $1, $2", 2, RSP_OPERAND_CONTROL, 0, 0, 0 },
+        { "vadd $v1, $2, $v3", 2, RSP_OPERAND_VECTOR, 0, 0, 0 },
+        { "mfc2 $1, $v2[16]", 2, RSP_OPERAND_VECTOR_BYTE, 0, 0, 0 },
+        { "vadd $v1, $v2, $v3[8]", 3, RSP_OPERAND_VECTOR_ELEMENT, 0, 0, 0 },
+        { "vrcp $v1, $v2[0]", 1, RSP_OPERAND_VECTOR_LANE, 0, 0, 0 }
+    };
+    rsp_operand out;
+    size_t i;
+    for (i = 0; i < sizeof texts / sizeof *texts; i++) {
+        memset(&out, 0xee, sizeof out);
+        SEE(rsp_explain(0, (const uint8_t *)texts[i].text, strlen(texts[i].text), &out) == RSP_OK);
+        SEE(out.number == texts[i].number && out.kind == texts[i].kind && out.step == texts[i].step);
+        SEE(out.low == texts[i].low && out.high == texts[i].high);
+    }
+    out.number = 99;
+    SEE(rsp_explain(2, (const uint8_t *)"jr", 2, &out) == RSP_OUT_OF_RANGE && out.number == 99);
+    SEE(rsp_explain(4100, (const uint8_t *)"jr", 2, &out) == RSP_OUT_OF_RANGE && out.number == 99);
+    SEE(rsp_explain(0, (const uint8_t *)"\xff", 1, &out) == RSP_NO_MEANING && out.number == 99);
+    SEE(rsp_explain(4096, (const uint8_t *)"jr", 2, &out) == RSP_OK && out.number == 1);
+}
+
 static void texts(void)
 {
     rsp m = RSP_NONE;
@@ -580,6 +624,7 @@ static void texts(void)
     SEE(rsp_assemble(0, (const uint8_t *)"nop\nfoo $1\n", 11, words, 4, &out) == RSP_NO_MEANING && out.line == 2 && out.fault == 11);
     SEE(rsp_assemble(0, (const uint8_t *)"nop\n\xff\n", 6, words, 4, &out) == RSP_NO_MEANING && out.fault == 33);
     SEE(words[0] == 9);
+    explanations();
     SEE(rsp_assemble(0, text, strlen(good), words, 4, &out) == RSP_OK && out.count == 3 && out.line == 0 && out.fault == 0);
     SEE(words[0] == 0 && words[1] == 0x4a631050u && words[2] == 0x0d && words[3] == 9);
     memset(&line, 0xee, sizeof line);

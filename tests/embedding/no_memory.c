@@ -1,46 +1,16 @@
 /* What the calls of rsp.h take of memory: linked with -Wl,--wrap=malloc,--wrap=realloc,--wrap=free.
- *   - rsp_new, rsp_copy and rsp_assemble while the K-th call of malloc or realloc fails, for each K. A handle keeps what it held.
+ *   - rsp_new, rsp_copy, rsp_assemble and rsp_explain while the K-th call of malloc or realloc fails, for each K. A handle keeps what it held.
  *   - What a handle held is freed when rsp_new or rsp_copy puts another machine into it.
- *   - No other call takes memory, accepted or refused.
+ *   - No other call takes memory or frees any: accepted, refused, and of a handle that holds no machine.
  *   - All that was taken is freed: also by calls.c, whose main is all_calls here. */
 #include "rsp.h"
+#include "counted.h"
 #include <stdio.h>
 #include <stdlib.h>
 #include <string.h>
 
-static long left = -1, taken, held;
 static int passed, failed;
-void *__real_malloc(size_t n);
-void *__wrap_malloc(size_t n);
-void *__real_realloc(void *p, size_t n);
-void *__wrap_realloc(void *p, size_t n);
-void __real_free(void *p);
-void __wrap_free(void *p);
 int all_calls(void);
-
-static int fails(void) { return left >= 0 && left-- == 0; }
-
-void *__wrap_malloc(size_t n)
-{
-    void *p = fails() ? NULL : __real_malloc(n);
-    taken++;
-    held += p != NULL;
-    return p;
-}
-
-void *__wrap_realloc(void *p, size_t n)
-{
-    void *q = fails() ? NULL : __real_realloc(p, n);
-    taken++;
-    held += p == NULL && q != NULL;
-    return q;
-}
-
-void __wrap_free(void *p)
-{
-    held -= p != NULL;
-    __real_free(p);
-}
 
 static uint8_t image[64];
 
@@ -134,12 +104,73 @@ static void failing_assemble(void)
     see("an earlier fault", 0, status == RSP_NO_MEANING && out.line == 1 && out.fault == 11);
 }
 
-/* That a call takes no memory. */
+/* An explanation without memory for a label changes nothing. */
+static void failing_explain(void)
+{
+    static const char labels[] = "a: nop\nb: nop\nc: j d\n";
+    rsp_operand out;
+    uint32_t status = RSP_NO_MEMORY;
+    long k;
+    for (k = 0; k < 100; k++) {
+        left = k;
+        out.number = 99;
+        status = rsp_explain(0, (const uint8_t *)labels, strlen(labels), &out);
+        left = -1;
+        if (status == RSP_OK) break;
+        see("rsp_explain", k, status == RSP_NO_MEMORY && out.number == 99);
+    }
+    see("rsp_explain takes memory", k, k > 0 && status == RSP_OK && out.number == 1 && out.kind == RSP_OPERAND_JUMP);
+}
+
+/* That a call takes no memory and frees none. */
 #define NONE(call) do { \
-    long before = taken; \
+    long before = taken, blocks = held; \
     (void)(call); \
-    see(#call, -1, taken == before); \
+    see(#call, -1, taken == before && held == blocks); \
 } while (0)
+
+/* The same of a call that is refused. */
+#define REFUSED(call) NONE(see(#call " is refused", -1, (call) != RSP_OK))
+
+static void refused_calls(rsp *m)
+{
+    static rsp_line lines[1025];
+    static uint32_t words[1025];
+    static rsp_traced entry;
+    static rsp_state wrong;
+    rsp_stop stop;
+    rsp_move move;
+    rsp_lanes lanes;
+    rsp_sp_words sp;
+    uint8_t byte = 0;
+    size_t number;
+    wrong.words[0] = 1;
+    memset(&sp, 0, sizeof sp);
+    REFUSED(rsp_set(m, &wrong));
+    REFUSED(rsp_set_sp(m, &sp));
+    REFUSED(rsp_load(m, 3, 0, &byte, 1));
+    REFUSED(rsp_load(m, RSP_RDRAM, 64, &byte, 1));
+    REFUSED(rsp_load_words(m, RSP_RDRAM, 64, words, 1));
+    REFUSED(rsp_load_words(m, RSP_DMEM, 0, words, 1025));
+    REFUSED(rsp_memory(m, RSP_RDRAM, 64, &byte, 1));
+    REFUSED(rsp_memory_words(m, RSP_DMEM, 0, words, 1025));
+    REFUSED(rsp_task(m, 1));
+    REFUSED(rsp_set_pc(m, 2));
+    REFUSED(rsp_run(m, 0, &stop));
+    REFUSED(rsp_run_until_move(m, 1, 65536, 0, &move));
+    REFUSED(rsp_trace(m, &entry, 0, &stop));
+    REFUSED(rsp_back(m, 0));
+    REFUSED(rsp_back(m, 1000000));
+    REFUSED(rsp_pass(m, 1));
+    REFUSED(rsp_add_break(m, 4096));
+    REFUSED(rsp_drop_break(m, 4));
+    REFUSED(rsp_add_watch(m, 0, 65, &number));
+    REFUSED(rsp_drop_watch(m, 7));
+    REFUSED(rsp_reg(m, 32, words));
+    REFUSED(rsp_vreg(m, 32, &lanes));
+    REFUSED(rsp_text(0, 4096, lines));
+    REFUSED(rsp_listing(m, 0, lines, 1025));
+}
 
 static void other_calls(rsp *m)
 {
@@ -200,15 +231,30 @@ static void other_calls(rsp *m)
     NONE(rsp_listing(m, 0, lines, 1024));
 }
 
+/* Handles that hold none stay so. */
+static void without_machine(void)
+{
+    rsp none = RSP_NONE, to = RSP_NONE;
+    refused_calls(&none);
+    other_calls(&none);
+    REFUSED(rsp_copy(&to, &none));
+    NONE(rsp_free(&none));
+    see("they hold none", -1, none.at == NULL && to.at == NULL);
+}
+
 int main(void)
 {
     rsp m = RSP_NONE, from = RSP_NONE;
+    taken = held = 0; /* what the C library took before main */
     see("the first machine", -1, rsp_new(&m, image, 64, 100) == RSP_OK && rsp_write(&m, 8, 77) == RSP_OK);
     failing_new(&m);
     see("the machine to copy", -1, rsp_new(&from, image, 64, 100) == RSP_OK && rsp_write(&from, 8, 88) == RSP_OK && rsp_step(&from) == RSP_OK);
     failing_copy(&m, &from);
     failing_assemble();
+    refused_calls(&m);
+    failing_explain();
     other_calls(&m);
+    without_machine();
     see("two machines are held", -1, held > 0);
     rsp_free(&m);
     rsp_free(&from);

@@ -24,6 +24,7 @@ static rsp_accumulators accumulators;
 static rsp_flag_bits flags;
 static rsp_divide_state divider;
 static rsp_assembled assembled;
+static rsp_operand operand;
 static size_t number;
 static rsp_move move;
 static rsp_traced entries[256];
@@ -64,6 +65,7 @@ static void transfer(void) { word = rsp_write(&m, 2, 0xfffff); }
 static void sp_words(void) { word = rsp_sp(&m, &sp); }
 static void set_sp(void) { word = rsp_set_sp(&m, &sp); }
 static void assemble(void) { word = rsp_assemble(0, (const uint8_t *)text, strlen(text), words, 1024, &assembled); }
+static void explain(void) { word = rsp_explain(0, (const uint8_t *)text, strlen(text), &operand); }
 static void disassemble(void) { word = rsp_text(0x4a631050u, 0, lines); }
 static void listing(void) { word = rsp_listing(&m, 0, lines, 1024); }
 
@@ -73,6 +75,7 @@ static const struct {
     void (*made)(void);
 } calls[] = {
     { "nothing", nothing }, { "rsp_version", version }, { "rsp_new", make }, { "rsp_assemble", assemble }, { "rsp_load_words", load_words },
+    { "rsp_explain", explain },
     { "rsp_load", load }, { "rsp_memory", memory }, { "rsp_memory_words", memory_words }, { "rsp_step", step }, { "rsp_run", run },
     { "rsp_run_until_move", run_until_move }, { "rsp_trace", traced },
     { "rsp_back", back }, { "rsp_add_watch", add_watch }, { "rsp_add_break", add_break }, { "rsp_run with both", run },
@@ -120,6 +123,7 @@ int main(int argc, char **argv)
     image[64 + 0x08 + 2] = 1, image[0x0c + 3] = 8;
     if (posix_memalign((void **)&stack, 4096, SIZE)) return 2;
     fill_text();
+    used(0); /* the first thread also does what a C library does once */
     for (n = 0; n < sizeof calls / sizeof *calls; n++) {
         size_t bytes_used = used(n);
         if (n == 0) none = bytes_used;

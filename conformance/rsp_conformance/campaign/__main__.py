@@ -1,0 +1,175 @@
+"""Checks an emulator against the proved library, by cases of each instruction and by random programs.
+
+EMULATOR is FILE.so, plugin:FILE.so, python:MODULE:CLASS, or a command; docs/CAMPAIGN.md says what each has to
+be. OUT is the campaign's folder: a file for each task, table.txt, table.html, and in programs/ what differs,
+cut down. A campaign that was stopped goes on when it is started again: what OUT holds isn't done again. With
+--case, OUT gives the instructions of a program. It fails if a task isn't done, or with a sentence if it can't
+begin.
+"""
+
+import argparse
+import os
+import re
+import sys
+import time
+from pathlib import Path
+from typing import Any, Callable, List, NoReturn, Tuple
+
+from rsp_conformance.table import ROWS as INSTRUCTIONS
+
+from . import CampaignFault
+from .folder import Folder, given_in, write
+from .report import html_table, results_in, text_table
+from .shared import PROGRAM, VERSION, name_of
+from .task import check
+from .workers import options_of, results
+
+# Options that are numbers: the least and the default of each.
+NUMBERS = {
+    "cases": (0, 1 << 16, "cases of each instruction"),
+    "size": (1, 1 << 18, "cases of a task"),
+    "programs": (0, 0, "random programs"),
+    "programs-size": (1, 100, "programs of a task"),
+    "steps": (1, 1000, "steps of a program"),
+    "limit": (1, 20, "the most seconds for a case"),
+    "workers": (1, len(os.sched_getaffinity(0)), "how many tasks run at a time on this computer"),
+}
+
+
+def stop(sentence: object) -> NoReturn:
+    sys.exit(f"campaign: {sentence}")
+
+
+def run(args: argparse.Namespace) -> None:
+    """Does what is left of a campaign, and prints how far it is."""
+    folder = Folder(args)
+    folder.open()
+    todo, began = folder.left(), time.time()
+    done, differ, lost = 0, 0, None
+    for number, result in enumerate(results(args, todo), 1):
+        if isinstance(result, Exception):
+            lost = result
+            continue
+        folder.keep(result)
+        done, differ, passed = done + result["count"], differ + result["differ"], time.time() - began
+        tasks = f"{number + len(folder.tasks) - len(todo)} of {len(folder.tasks)} tasks"
+        left = passed / number * (len(todo) - number)
+        said = f"\r{tasks}, {done / passed:.0f} cases/s, {differ} differ, {left:.0f} s left "
+        print(said, end="", file=sys.stderr, flush=True)
+    print(file=sys.stderr)
+    report(args)
+    if tasks_left := folder.left():
+        why = lost or "-".join(map(str, tasks_left[0]))
+        stop(f"{len(tasks_left)} tasks aren't done ({why}); start it again")
+
+
+def report(args: argparse.Namespace) -> None:
+    """Prints and writes the table."""
+    if found := results_in(args.out):
+        text, title = text_table(found), f"{args.emulator.rpartition('/')[2]} against the proved library"
+        print(text)
+        write(args.out / "table.txt", text + "\n")
+        write(args.out / "table.html", html_table(found, title))
+
+
+def show(args: argparse.Namespace) -> None:
+    """Cases, or programs of the instructions and steps of OUT, if it's given."""
+    name, seed, first, last = args.case
+    if args.out:
+        given = given_in(args.out)
+        args.instructions, args.steps = given["instructions"], given["steps"]
+    options = {**options_of(args), "whole": first == last}
+    result = check(args.emulator, name, seed, first, last - first + 1, options)
+    if "given up" in result:
+        stop(f"{name_of(name, seed, first)}: {result['given up']}")
+    print(*result["shown"], sep="\n", end="\n" * bool(result["shown"]))
+    print(f"{result['count']} done, {result['differ']} differ, {result['unshown']} not shown")
+    for it in result["programs"]:
+        print(f"{it['name']} is cut down to {it['steps']} steps from {it['pc']:03x}:")
+        print(*it["listing"], *(f"  {line}" for line in it["differs"]), sep="\n")
+
+
+def number_from(least: int) -> Callable[[str], int]:
+    """A type of arguments: whole numbers from `least` on."""
+
+    def number(text: str) -> int:
+        if not text.isdigit() or int(text) < least:
+            raise argparse.ArgumentTypeError(f"{text} is no number from {least} on")
+        return int(text)
+
+    return number
+
+
+def seed_of(text: str) -> str:
+    if not re.fullmatch("[a-z0-9]+", text):
+        raise argparse.ArgumentTypeError("a seed is letters a to z and digits: it is part of names")
+    return text
+
+
+def instructions_of(text: str) -> List[str]:
+    names = [*dict.fromkeys(text.lower().split(","))]
+    if unknown := [name for name in names if name not in INSTRUCTIONS]:
+        raise argparse.ArgumentTypeError(f"the instruction table has no {unknown[0].upper()!r}")
+    return names
+
+
+def case_of(text: str) -> Tuple[str, str, int, int]:
+    """The instruction, the seed, the first and the last number."""
+    found = re.fullmatch(r"(\w+?)(?:-g(\d+))?-([a-z0-9]+)-(\d+)(?:\.\.(\d+))?", text)
+    if found and found[1].lower() in (*INSTRUCTIONS, PROGRAM):
+        first, last, version = int(found[4]), int(found[5] or found[4]), int(found[2] or 1)
+        if version != VERSION:
+            raise argparse.ArgumentTypeError(
+                f"{text} is of generator {version}, and this is generator {VERSION}"
+            )
+        if first <= last:
+            return found[1].lower(), found[3], first, last
+    names = f"as VADD-g{VERSION}-7-000123 does, and no program, as PROGRAM-g{VERSION}-7-000005 does"
+    raise argparse.ArgumentTypeError(f"{text} names no case, {names}")
+
+
+def arguments() -> argparse.Namespace:
+    raw = argparse.RawDescriptionHelpFormatter
+    parser: Any = argparse.ArgumentParser("conformance/campaign", description=__doc__, formatter_class=raw)
+    parser.error = stop
+    add = parser.add_argument
+    for name, (least, default, what) in NUMBERS.items():
+        add(f"--{name}", type=number_from(least), default=default, metavar="N", help=f"{what} ({default})")
+    all_names, which = [*INSTRUCTIONS], "the instructions of cases and programs (all)"
+    add("--instructions", type=instructions_of, default=all_names, metavar="NAME,..", help=which)
+    add("--seed", type=seed_of, default="1", help="letters a to z and digits (1)")
+    add("--scheduler", metavar="ADDRESS", help="a cluster that is there")
+    add("--here", action="store_true", help="works in this process, without Dask")
+    names = f"VADD-g{VERSION}-7-000123, VADD-g{VERSION}-7-000123..000130, or PROGRAM-g{VERSION}-7-000005"
+    add("--case", type=case_of, metavar="NAME", help=f"shows {names}")
+    add("emulator", metavar="EMULATOR")
+    add("out", metavar="OUT", type=Path, nargs="?")
+    args: argparse.Namespace = parser.parse_intermixed_args()
+    if not args.out and not args.case:
+        stop("it needs a folder OUT")
+    return args
+
+
+def main() -> None:
+    args = arguments()
+    try:
+        import numpy  # noqa: F401
+        import rsp  # noqa: F401
+    except ImportError as fault:
+        if fault.name == "numpy":
+            how = "apt-get install python3-numpy, and begin with PATH=/usr/bin:$PATH (or pip install numpy)"
+            stop(f"{sys.executable} has no numpy: {how}")
+        stop(f"run library/c/build first: {fault}")
+    try:
+        show(args) if args.case else run(args)
+    except CampaignFault as fault:
+        stop(fault)
+    except OSError as fault:
+        stop(f"{fault.filename}: {fault.strerror}" if fault.filename else fault)
+
+
+if __name__ == "__main__":
+    try:
+        main()
+    except KeyboardInterrupt:
+        stop("stopped; started again, it goes on")

@@ -1,0 +1,245 @@
+"""What can be checked. An EMULATOR is one of
+  FILE.so              a shared object with the interface of cases.h
+  plugin:FILE.so       a plugin of mupen64plus: z64 with all its registers, any other by what microcode leaves
+                       in memory
+  python:MODULE:CLASS  a class; CLASS(memories) has `step(case)` -> (state, status, {address: byte}), or
+                       `ends(cases)` -> an array of END, and, for programs, what rsp.first_difference calls of
+                       an emulator
+  anything else        a command that answers each line of JSON by one: docs/CAMPAIGN.md has them
+"""
+
+import contextlib
+import ctypes
+import functools
+import importlib
+import json
+import os
+import shlex
+import subprocess
+from typing import Any, Dict, Iterable, Tuple
+
+import numpy as np
+import rsp
+from rsp_conformance.library_states import numbers_of, state_of
+
+from . import CampaignFault
+from .build import built, microcode
+from .generator import BANKS, END, IMEM, MEMORIES, RDRAM, STATE, Array
+from .task import end_with_parent
+
+Changed = Dict[int, int]  # the bytes of memories that differ, by their addresses
+End = Tuple[Any, int, Changed]  # a state, the status, and the bytes
+
+
+class Emulator:
+    """What has `fill(cases, ends)`. One that takes programs is an emulator for rsp.first_difference, too."""
+
+    seen: Array = np.full(END.itemsize, 255, np.uint8)  # the bits of an end that it shows
+
+    def fill(self, cases: Array, ends: Array) -> None:
+        raise NotImplementedError
+
+    def for_programs(self, compared: rsp.Rsp) -> Any:
+        """The emulator for rsp.first_difference, beside the machine that it is compared with."""
+        return self
+
+
+class Object(Emulator):
+    """A shared object with the interface of cases.h."""
+
+    def __init__(self, path: str, memories: bytes, what: str = "") -> None:
+        self.lib, self.what, self.memories = (
+            ctypes.CDLL(os.path.abspath(path)),
+            what or path,
+            bytearray(memories),
+        )
+        self.lib.cases_open.restype = ctypes.c_void_p
+        self.at = ctypes.c_void_p(self.lib.cases_open(what.encode(), bytes(memories)))
+        if not self.at:
+            raise CampaignFault(f"{self.what} can't be opened")
+        if hasattr(self.lib, "cases_seen"):
+            self.seen = self.seen.copy()
+            self.lib.cases_seen(self.at, self.seen.ctypes)
+
+    def fill(self, cases: Array, ends: Array) -> None:
+        if refused := self.lib.cases_run(self.at, cases.ctypes, ends.ctypes, ctypes.c_size_t(len(cases))):
+            raise CampaignFault(f"case {refused - 1} of the batch is refused")
+
+    def for_programs(self, compared: rsp.Rsp) -> Any:
+        if not hasattr(self.lib, "cases_step"):
+            raise CampaignFault(f"{self.what} takes no programs")
+        self.compared = compared
+        return self
+
+    def set(self, state: rsp.State) -> None:
+        self.lib.cases_set(self.at, bytes(state))
+
+    def get(self) -> rsp.State:
+        """The bits that it doesn't show are those of the machine."""
+        found, seen = bytearray(STATE.itemsize), self.seen[: STATE.itemsize]
+        self.lib.cases_get(self.at, ctypes.byref((ctypes.c_char * len(found)).from_buffer(found)))
+        ours = np.frombuffer(bytes(self.compared.get()), np.uint8)
+        return rsp.State.from_buffer_copy(np.frombuffer(found, np.uint8) & seen | ours & ~seen)
+
+    def load(self, bank: int, address: int, data: bytes) -> None:
+        at = bank * IMEM + address
+        self.memories[at : at + len(data)] = data
+        self.lib.cases_load(self.at, bytes(self.memories))
+
+    def memory(self, bank: int, address: int, length: int) -> bytes:
+        found, at = ctypes.create_string_buffer(MEMORIES), bank * IMEM + address
+        self.lib.cases_look(self.at, found)
+        return found.raw[at : at + length]
+
+    def run(self, steps: int) -> None:
+        self.lib.cases_step(self.at, steps)
+
+
+def patched(memories: Iterable[int], changed: Changed) -> bytes:
+    """Memories with other bytes at some addresses."""
+    made = bytearray(memories)
+    for address, byte in changed.items():
+        made[address] = byte
+    return bytes(made)
+
+
+def word_of(case: Array) -> Changed:
+    """The bytes of a case's word, by their addresses."""
+    return dict(enumerate(int(case["word"]).to_bytes(4, "big"), IMEM + int(case["state"]["pc"])))
+
+
+@functools.lru_cache(1)
+def digest() -> Any:
+    """That of cases.h."""
+    call = ctypes.CDLL(built("library")).cases_digest
+    call.restype = ctypes.c_uint64
+    return call
+
+
+class Single(Emulator):
+    """An emulator that takes one case at a time."""
+
+    memories: bytes
+
+    def step(self, case: Array) -> End:
+        raise NotImplementedError
+
+    def fill(self, cases: Array, ends: Array) -> None:
+        for case, end in zip(cases, ends):
+            before = patched(self.memories, word_of(case))
+            state, status, changed = self.step(case)
+            end["state"] = np.frombuffer(bytes(state), STATE)[0]
+            end["changed"] = digest()(before, patched(before, changed))
+            end["status"] = status  # last: it says that the case is done
+
+
+class Python(Single):
+    """A class of Python."""
+
+    def __init__(self, path: str, memories: bytes) -> None:
+        module, _, name = path.partition(":")
+        if not name:
+            raise CampaignFault("no class is named: python:MODULE:CLASS")
+        self.memories = bytes(memories)
+        self.machine = getattr(importlib.import_module(module), name)(self.memories)
+
+    def fill(self, cases: Array, ends: Array) -> None:
+        if hasattr(self.machine, "ends"):
+            ends[:] = self.machine.ends(cases)
+        else:
+            super().fill(cases, ends)
+
+    def step(self, case: Array) -> End:
+        end: End = self.machine.step(case)
+        return end
+
+    def for_programs(self, compared: rsp.Rsp) -> Any:
+        if not hasattr(self.machine, "load"):
+            raise CampaignFault(f"{type(self.machine).__name__} takes no programs: it has no `load`")
+        return self.machine
+
+
+def without_ours() -> Dict[str, str]:
+    """The environment of a command, which has to find its own modules."""
+    return {name: value for name, value in os.environ.items() if name not in ("PYTHONPATH", "PYTHONSAFEPATH")}
+
+
+class Command(Single):
+    """A command over lines of JSON."""
+
+    def __init__(self, command: str, memories: bytes) -> None:
+        self.process = subprocess.Popen(
+            shlex.split(command),
+            stdin=subprocess.PIPE,
+            stdout=subprocess.PIPE,
+            preexec_fn=end_with_parent,
+            env=without_ours(),
+        )
+        self.memories = bytes(memories)
+        self.say_memories()
+
+    def say_memories(self) -> None:
+        self.say({"memories": {bank: self.memories[low:high].hex() for bank, (low, high) in BANKS.items()}})
+
+    def say(self, value: Dict[str, Any]) -> None:
+        assert self.process.stdin
+        with contextlib.suppress(BrokenPipeError):  # its end is noticed when it has to answer
+            self.process.stdin.write(json.dumps(value, separators=(",", ":")).encode() + b"\n")
+            self.process.stdin.flush()
+
+    def ask(self, question: Dict[str, Any]) -> Tuple[rsp.State, int, Changed]:
+        """The state, the status and the bytes that an answer names."""
+        self.say(question)
+        assert self.process.stdout
+        line = self.process.stdout.readline()
+        if not line:
+            raise CampaignFault(f"the command ended with status {self.process.wait()}")
+        try:
+            final = json.loads(line)["final"]
+            changed: Changed = {at: byte for at, byte in final["ram"]}
+            changed.update({RDRAM + at: byte for at, byte in final["rdram"]})
+            if not all(0 <= at < MEMORIES and 0 <= byte < 256 for at, byte in changed.items()):
+                raise ValueError("no byte of a memory")
+            return state_of(final), final.get("status", 0), changed
+        except (ValueError, KeyError, TypeError, IndexError, OverflowError) as fault:
+            said = f"{type(fault).__name__} {fault}"
+            raise CampaignFault(f"the command answered {line[:60]!r}: {said}") from None
+
+    def step(self, case: Array) -> End:
+        registers = numbers_of(rsp.State.from_buffer_copy(case["state"].tobytes()))
+        return self.ask({"initial": {**registers, "ram": [*word_of(case).items()], "rdram": []}})
+
+    def set(self, state: rsp.State) -> None:
+        self.state = state
+        self.question: Dict[str, Any] = {"initial": {**numbers_of(state), "ram": [], "rdram": []}}
+
+    def get(self) -> rsp.State:
+        return self.state
+
+    def load(self, bank: int, address: int, data: bytes) -> None:
+        at = bank * IMEM + address
+        self.memories = self.after = self.memories[:at] + data + self.memories[at + len(data) :]
+
+    def memory(self, bank: int, address: int, length: int) -> bytes:
+        return self.after[bank * IMEM + address :][:length]
+
+    def run(self, steps: int) -> None:
+        if self.question:
+            self.say_memories()
+        self.state, _, changed = self.ask({**self.question, "steps": steps})
+        self.after, self.question = patched(self.memories, changed), {}
+
+
+def emulator_of(spec: str, memories: bytes) -> Emulator:
+    """The emulator, with memories.
+
+    A plugin that isn't the build of z64 whose registers are known is seen by microcode.
+    """
+    kind, _, rest = spec.partition(":")
+    if kind == "python":
+        return Python(rest, memories)
+    if kind != "plugin":
+        return Object(spec, memories) if spec.endswith(".so") else Command(spec, memories)
+    with contextlib.suppress(CampaignFault):
+        return Object(built("z64"), memories, os.path.abspath(rest))
+    return Object(built("microcode", microcode()), memories, os.path.abspath(rest))

@@ -1,0 +1,297 @@
+"""Cases of an instruction as arrays. A case is decided by the generator's version, instruction, seed and
+number alone: in any range, on any machine and version of numpy.
+
+A case has WORDS random words of 64 bits: those of PCG64, begun at a hash of version, instruction and seed,
+from number * WORDS on. Only raw words are used, which numpy promises to keep. Each flag, field and choice of
+a case takes bits of its own from them, and so does each operand. All other registers are the exclusive or of
+two rows of a pool that the case draws. So all are independent of each other and of the number: each pair of
+values occurs. Nothing is drawn again, so no case takes another's words. The memories are random bytes, the
+same for all cases of an instruction and a seed.
+"""
+
+import functools
+import hashlib
+import itertools
+from typing import Any, Callable, Dict, Tuple
+
+import numpy as np
+import rsp
+from rsp_conformance import cases as vectors, draws
+from rsp_conformance.outcomes import selected
+from rsp_conformance.table import FORMS, ROWS as INSTRUCTIONS, SCALE, Row, ignored_bits, word_of
+
+from .shared import VERSION
+
+Array = Any  # of numpy, whose dtypes mypy doesn't follow
+Fields = Dict[str, Array]
+
+STATE = np.dtype(rsp.State)
+CASE = np.dtype([("state", STATE), ("word", "<u4")])
+END = np.dtype([("state", STATE), ("status", "<u4"), ("changed", "<u8")])
+DMEM, IMEM, RDRAM, MEMORIES = 0, 4096, 8192, 8192 + 16384  # the three memories in one array
+BANKS = {"dmem": (DMEM, IMEM), "imem": (IMEM, RDRAM), "rdram": (RDRAM, MEMORIES)}
+# The words of a case: the rows of the pool; choices of lanes, of lanes close to others, and of accumulators;
+# and all other choices, two a word.
+ROWS, LANE_CHOICES, NEAR_CHOICES, ACCUMULATOR_CHOICES, CHOICES = 0, 1, 3, 4, 6
+WORDS = CHOICES + 21
+POOL, REGISTERS = 1024, CASE.itemsize // 8
+
+EDGES, LANES, HALVES, PLACES, FLAGS, SP_NUMBERS = (
+    np.array(it, np.int64)
+    for it in (vectors.WORDS, draws.LANES, vectors.HALVES, vectors.PLACES, vectors.FLAGS, vectors.SP_NUMBERS)
+)
+EXTREMES, DIVISORS = np.array(vectors.EXTREMES, np.uint16), np.array(vectors.DIVISORS, np.int64)
+OFFSETS, HIGH = np.array([0, 1, 63, 64, 127]), np.array([0, 0, 1, 0xFFFFF])
+# For each element the lanes of vt that the lanes take, and how many take the same one.
+SELECTED = np.array([[selected(e, lane) for lane in range(8)] for e in range(16)])
+REPEATED = 8 // np.array([len(set(it)) for it in SELECTED.tolist()])
+FIRST_EDGE = 116  # a byte from here on chooses an edge
+EDGE = LANES[np.arange(256) % len(LANES)].astype(np.uint16)
+# Lanes close to a limit of the comparisons, (b * TIMES + PLUS) ^ FLIP: b, -b, ~b, b + 1, b - 1, 1 - b, -b -
+# 2, b ^ 0x8000.
+NEAR = ((1, 0, 0), (-1, 0, 0), (-1, -1, 0), (1, 1, 0), (1, -1, 0), (-1, 1, 0), (-1, -2, 0), (1, 0, 0x8000))
+TIMES, PLUS, FLIP = (np.array(it, np.int32) for it in zip(*NEAR))
+PARTED = np.array(
+    [high << 32 | middle << 16 | low for high, middle, low in itertools.product(draws.PARTS, repeat=3)],
+    np.int64,
+)
+BOUNDS = (0, 1 << 31, -1 << 31, 1 << 47, 1 << 15)
+LIMITS = np.array([limit + near for limit in BOUNDS for near in (-1, 0, 1)] + [-1 << 47], np.int64)
+
+
+def generator(what: str, seed: str) -> Array:
+    """PCG64, begun at a hash."""
+    key = int.from_bytes(hashlib.sha256(f"{VERSION}/{what}/{seed}".encode()).digest(), "little")
+    made, state = np.random.PCG64(), {"state": key >> 128, "inc": key % 2**128 | 1}  # type: Any, Any
+    made.state = {"bit_generator": "PCG64", "state": state, "has_uint32": 0, "uinteger": 0}
+    return made
+
+
+def memories_of(name: str, seed: str) -> Array:
+    """DMEM, IMEM and RDRAM before each case."""
+    return generator(f"memories of {name}", seed).random_raw(MEMORIES // 8).astype("<u8").view(np.uint8)
+
+
+@functools.lru_cache(4)
+def pool_of(name: str, seed: str) -> Array:
+    words = generator(f"registers of {name}", seed).random_raw(POOL * REGISTERS)
+    return words.astype("<u8").reshape(POOL, REGISTERS)
+
+
+class Draw:
+    """The choices of `count` cases from `start` on, each an array.
+
+    Each call of `any` takes the next 32 bits of every case.
+    """
+
+    def __init__(self, name: str, seed: str, start: int, count: int) -> None:
+        made = generator(name, seed)
+        made.advance(start * WORDS)
+        self.raw = made.random_raw(count * WORDS).astype("<u8", copy=False).reshape(count, WORDS)
+        self.all, self.column, self.pool = np.arange(count), -1, pool_of(name, seed)
+        self.columns = np.ascontiguousarray(self.raw[:, CHOICES:].view("<u4").T)
+
+    def any(self) -> Array:
+        self.column += 1
+        return self.columns[self.column].astype(np.int64)
+
+    def below(self, limit: Array) -> Array:
+        return self.any() * limit >> 32
+
+    def pick(self, values: Array) -> Array:
+        return values[self.below(len(values))]
+
+    def one_in(self, count: int) -> Array:
+        return self.any() < (1 << 32) // count
+
+    def mixed(self, edges: Array, bits: int) -> Array:
+        """An edge or any number, equally often."""
+        return np.where(self.one_in(2), self.below(1 << bits), self.pick(edges))
+
+    def bytes(self, word: int, count: int) -> Array:
+        return self.raw[:, word : word + count].view(np.uint8)
+
+
+def either(condition: Array, yes: Array, no: Array) -> Array:
+    """np.where of 16 bits, in a quarter of its time."""
+    return no ^ ((yes ^ no) & -condition.astype(np.uint16))
+
+
+def lanes_of(d: Draw, state: Array, register: Array, choices: int) -> Array:
+    """The lanes of a register: edges and any. In one of eight cases all are the first."""
+    value = state["vectors"][d.all, register] ^ d.below(1 << 16).astype(np.uint16)[:, None]
+    choice = d.bytes(LANE_CHOICES + choices, 1)
+    value = either(choice >= FIRST_EDGE, EDGE.take(choice), value)
+    return either(d.one_in(8)[:, None], value[:, :1], value)
+
+
+def accumulates(row: Row) -> bool:
+    """Whether an instruction multiplies, or reads an accumulator."""
+    return row.name == "vsar" or row.name[:2] in ("vm", "vr") and row.name != "vmrg"
+
+
+def vector(row: Row, d: Draw, state: Array, fields: Fields) -> None:
+    vs, vt, vd, e = d.below(32), d.below(32), d.below(32), d.below(16)
+    same = d.below(10)
+    vs, vd = np.where(same == 0, vt, vs), np.where(same == 1, vt, np.where(same == 2, vs, vd))
+    if row.name == "vsar":
+        e = np.where(d.one_in(2), 8 + d.below(3), e)  # three elements read a part
+    a, b = lanes_of(d, state, vs, 0), lanes_of(d, state, vt, 1)
+    chosen = SELECTED[e]
+    if not accumulates(row):
+        kind, other = d.bytes(NEAR_CHOICES, 1), b[d.all[:, None], chosen].astype(np.int32)
+        near = other * TIMES.take(kind & 7) + PLUS.take(kind & 7) ^ FLIP.take(kind & 7)
+        a = either((kind > 127) & ~d.one_in(3)[:, None], near.astype(np.uint16), a)
+    extreme, lane, pair = d.below(3 * REPEATED[e]) == 0, d.below(8), d.pick(EXTREMES)
+    a[d.all[extreme], lane[extreme]] = pair[extreme, 0]
+    b[d.all[extreme], chosen[d.all, lane][extreme]] = pair[extreme, 1]
+    state["vectors"][d.all, vs] = a
+    state["vectors"][d.all, vt] = b
+    if accumulates(row):
+        accumulate_to_limits(d, state, a, b[d.all[:, None], chosen])
+    fields.update(e=e, vs=vs, vt=vt, vd=vd)
+
+
+def accumulate_to_limits(d: Draw, state: Array, a: Array, b: Array) -> None:
+    """Accumulators: edges, and those to which the product of a lane adds up to a limit, or next to one."""
+    choice = d.bytes(ACCUMULATOR_CHOICES, 2).view("<u2")
+    s, t, us, ut = (it.astype(np.int64) for it in (a.view(np.int16), b.view(np.int16), a, b))
+    product = np.where(
+        choice & 1, np.where(choice & 2, us * t, s * t << 16), np.where(choice & 2, s * ut, s * t << 1)
+    )
+    value = np.where(choice > 43000, LIMITS.take(choice >> 2 & 15) - product, PARTED.take(choice & 511))
+    for part, low in (("high", 32), ("middle", 16), ("low", 0)):
+        accumulators = state["accumulators"]
+        accumulators[part] = either(choice > 20000, (value >> low).astype(np.uint16), accumulators[part])
+
+
+def lane(row: Row, d: Draw, state: Array, fields: Fields) -> None:
+    """Divides and VMOV: numbers as likely short as long, and edges."""
+    vt, vd, e = d.below(32), d.below(32), d.below(16)
+    vd = np.where(d.one_in(5), vt, vd)
+    b, size = lanes_of(d, state, vt, 0), 1 << d.below(33)
+    value = size + np.where(d.one_in(2), d.any() & size - 1, d.below(3) - 1)
+    value = np.where(d.one_in(6), d.pick(DIVISORS), np.where(d.one_in(2), value, -value)) & 0xFFFFFFFF
+    b[d.all, e % 8] = value & 0xFFFF
+    state["vectors"][d.all, vt] = b
+    state["divider"]["input"] = value >> 16
+    fields.update(e=e, de=d.below(8), vt=vt, vd=vd)
+
+
+def nothing(row: Row, d: Draw, state: Array, fields: Fields) -> None:
+    pass
+
+
+def move(row: Row, d: Draw, state: Array, fields: Fields) -> None:
+    """MFC2, MTC2, CFC2, CTC2."""
+    t = d.below(32)
+    put(state, d, t, d.mixed(EDGES, 32))
+    fields.update(e=d.below(16), vd=d.below(32), t=t, c=d.below(4))
+
+
+def put(state: Array, d: Draw, register: Array, value: Array) -> None:
+    state["words"][d.all, register] = value & 0xFFFFFFFF
+
+
+def scalar(row: Row, d: Draw, state: Array, fields: Fields) -> None:
+    """Two numbers, or a number and imm: edges, any, and next to each other."""
+    s, t, a, b = d.below(32), d.below(32), d.mixed(EDGES, 32), d.mixed(EDGES, 32)
+    imm, near = d.mixed(HALVES, 16), d.below(3) - 1
+    other = (imm ^ 0x8000) - 0x8000 if "imm" in FORMS[row.form] and row.form != "branch two" else b
+    to, same = d.below(32), d.one_in(8)
+    s = np.where(same & row.name.endswith("al"), 31, np.where(same & ("d" in FORMS[row.form]), to, s))
+    put(state, d, t, b)
+    put(state, d, s, np.where(d.one_in(2 if "branch" in row.form else 4), other + near, a))
+    fields.update(s=s, t=t, d=to, imm=imm, sa=d.below(32), target=d.below(1024))
+
+
+def address(d: Draw) -> Array:
+    """Any byte of DMEM, and those around its end more often."""
+    return np.where(d.one_in(4), 0xFE0 + d.below(48), d.below(4096)) & 0xFFF
+
+
+def put_base(state: Array, d: Draw, register: Array, at: Array, offset: Array) -> Array:
+    """Sets a base register for an address, and returns the address, which $0 doesn't reach.
+
+    Bits of a base above the twelve of DMEM don't count.
+    """
+    put(state, d, register, at + (d.pick(HIGH) << 12) - offset)
+    return np.where(register == 0, offset, at) & 0xFFF
+
+
+def scalar_memory(row: Row, d: Draw, state: Array, fields: Fields) -> None:
+    s, t, imm, at = d.below(32), d.below(32), d.mixed(HALVES, 16), address(d)
+    put(state, d, t, d.mixed(EDGES, 32))
+    put_base(state, d, s, at, (imm ^ 0x8000) - 0x8000)
+    fields.update(s=s, t=t, imm=imm)
+
+
+def vector_memory(row: Row, d: Draw, state: Array, fields: Fields) -> None:
+    letter, base, at, e = row.name[1], d.below(32), address(d), d.below(16)
+    off = np.where(d.one_in(2), d.below(128), d.pick(OFFSETS))
+    if letter == "f":
+        e &= 8
+    if letter == "t":  # most are no choices
+        e, at = np.where(d.one_in(2), e & ~1, e), np.where(d.below(4) > 0, at & ~15, at)
+    at = put_base(state, d, base, at, ((off ^ 64) - 64) * SCALE[letter])
+    fields.update(base=base, vt=d.below(32), e=e, off=off, at=at)
+
+
+def sp(row: Row, d: Draw, state: Array, fields: Fields) -> None:
+    """MFC0 and MTC0. A DMA has up to four short rows, or in one of 16 cases a row of any length."""
+    c = d.below(16)
+    if row.form == "to sp":
+        c = np.where(d.one_in(2), d.pick(SP_NUMBERS), c)
+    t, starts = d.below(32), (c == 2) | (c == 3)
+    transfer = np.where(d.one_in(16), d.below(4096), d.below(9) << 23 | d.below(4) << 12 | d.below(25))
+    put(state, d, t, np.where(starts, transfer, d.mixed(EDGES, 32)))
+    state["sp"][:, 1] = np.where(starts, d.below(1024) * 8, state["sp"][:, 1])
+    fields.update(t=t, c=c)
+
+
+MAKERS: Dict[str, Callable[[Row, Draw, Array, Fields], None]] = {
+    "vector": vector, "lane": lane, "nothing": nothing, "break": nothing, "from sp": sp, "to sp": sp,
+    "load": scalar_memory, "store": scalar_memory, "vector load": vector_memory,
+    "vector store": vector_memory, "from vector": move, "to vector": move, "from control": move,
+    "to control": move,
+}  # fmt: skip
+
+
+def registers(d: Draw) -> Array:
+    """All registers of each case before its instruction's own choices: any that a machine can hold."""
+    rows = (d.raw[:, ROWS : ROWS + 1].view("<u4") % POOL).astype(np.intp)
+    words = d.pool.take(rows[:, 0], 0)
+    words ^= d.pool.take(rows[:, 1], 0)
+    cases = words.reshape(-1).view(CASE)
+    state = cases["state"]
+    vco, vcc, vce = (d.mixed(FLAGS, 16) for _ in range(3))
+    values = {"carry": vco, "differ": vco >> 8, "compare": vcc, "clip": vcc >> 8, "extra": vce}
+    for name, value in values.items():
+        state["flags"][name] = value & 255
+    state["divider"]["loaded"] &= 1
+    state["interrupt"] &= 1
+    state["pc"] = np.where(d.one_in(4), d.pick(PLACES), d.below(1024) * 4)
+    state["npc"] = np.where(d.one_in(4), d.below(1024) * 4, state["pc"] + 4 & 0xFFC)
+    for number, mask in ((0, 0x1FF8), (1, 0xFFFFF8), (2, 0xFF800000), (4, 0x7FE2), (5, 0), (6, 0), (7, 1)):
+        state["sp"][:, number] &= mask
+    state["sp"][:, 2] |= 0xFF8
+    state["sp"][:, 3] = state["sp"][:, 2]
+    cases.view(np.uint8).reshape(-1, CASE.itemsize)[:, 693] = 0  # no register
+    state["words"][:, 0] = 0
+    return cases
+
+
+def cases_of(name: str, seed: str, start: int, count: int) -> Tuple[Array, Array]:
+    """Cases of an instruction from `start` on, and which show what the documents of the vectors chose
+    themselves.
+    """
+    row = INSTRUCTIONS[name]
+    d = Draw(name, seed, start, count)
+    fields: Fields = {}
+    cases = registers(d)
+    MAKERS.get(row.form, scalar)(row, d, cases["state"], fields)
+    cases["state"]["words"][:, 0] = 0
+    word = word_of(row, fields)
+    cases["word"] = np.where(d.one_in(10), word | d.any() & ignored_bits(row), word)
+    found = vectors.choices(row, fields, cases["state"]["pc"], cases["state"]["npc"], fields.get("at"))
+    return cases, functools.reduce(np.logical_or, (holds for _, holds in found), np.zeros(count, bool))

@@ -1,0 +1,66 @@
+"""What a result is of: the files of the emulator, and all that it is compared with, each as one hash."""
+
+import hashlib
+import importlib.util
+import os
+import shlex
+import shutil
+import sys
+from importlib.machinery import ModuleSpec, PathFinder
+from pathlib import Path
+from typing import Dict, Iterable, List, Optional, Sequence
+
+from rsp_conformance import HERE, TOP
+
+from . import CampaignFault
+
+SOURCES = HERE / "campaigns"
+# The repository has the library in library/c/, a release archive in include/ and lib/.
+IN_REPOSITORY = (TOP / "library/c/rsp.h", TOP / "library/c/librsp.a")
+IN_ARCHIVE = (TOP / "include/rsp.h", TOP / "lib/librsp.a")
+HEADER, LIBRARY = IN_REPOSITORY if IN_REPOSITORY[0].is_file() else IN_ARCHIVE
+
+
+class CurrentFolder:
+    """Finds the modules of the current folder: an emulator in Python is there."""
+
+    @staticmethod
+    def find_spec(
+        name: str, path: Optional[Sequence[str]] = None, target: object = None
+    ) -> Optional[ModuleSpec]:
+        return PathFinder.find_spec(name, [os.getcwd()]) if path is None else None
+
+
+sys.meta_path.append(CurrentFolder)
+
+
+def hash_of(paths: Iterable[object], more: str = "") -> str:
+    """One hash of files and a text."""
+    try:
+        found = [hashlib.sha256(Path(str(path)).read_bytes()).digest() for path in paths]
+    except FileNotFoundError as fault:
+        raise CampaignFault(f"there is no file {fault.filename}") from None
+    return hashlib.sha256(b"/".join([more.encode(), *found])).hexdigest()
+
+
+def sources() -> List[Path]:
+    """All that decides what a campaign compares with: our sources, and the library."""
+    ours = [*SOURCES.glob("*.[ch]"), *(HERE / "rsp_conformance").rglob("*.py"), *TOP.glob("plugin/*.[ch]")]
+    return [*sorted(ours), HEADER, LIBRARY]
+
+
+def files_of(spec: str) -> List[str]:
+    """The emulator's own files: the object, the module, or those that a command names."""
+    kind, _, rest = spec.partition(":")
+    if kind == "python":
+        module = importlib.util.find_spec(rest.partition(":")[0])
+        return [module.origin] if module and module.origin else []
+    if kind == "plugin" or spec.endswith(".so"):
+        return [rest or spec]
+    found = (word if Path(word).is_file() else shutil.which(word) for word in shlex.split(spec))
+    return [it for it in found if it]
+
+
+def hashes(spec: str) -> Dict[str, str]:
+    """The hashes of a result."""
+    return {"emulator": hash_of(files_of(spec)), "library": hash_of(sources())}

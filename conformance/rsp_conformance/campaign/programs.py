@@ -1,0 +1,107 @@
+"""Random programs: words of all instructions, from any state.
+
+Both sides are compared after each EVERY steps, whole states and memories.
+"""
+
+import functools
+from typing import Iterator, List, Sequence, Set, Tuple
+
+import numpy as np
+import rsp
+
+from .generator import (
+    EDGE,
+    FIRST_EDGE,
+    IMEM,
+    INSTRUCTIONS,
+    MEMORIES,
+    Array,
+    Draw,
+    cases_of,
+    generator,
+    registers,
+)
+from .shared import PROGRAM, SHOWN, Result, name_of
+from .shrink import cut_down, settable
+from .sides import Program, Sides, in_brief, in_words
+
+EVERY, LENGTH, WORDS = 100, 1024, 1024
+NEVER = ("break",)
+
+
+def edged(raw: Array) -> Array:
+    """Half of the numbers of 16 bits become edges."""
+    return np.where(raw >> 8 >= FIRST_EDGE, EDGE[raw & 255], raw << 3 | raw >> 13).astype("<u2")
+
+
+@functools.lru_cache(1)
+def words_of(names: Tuple[str, ...], seed: str) -> Array:
+    """WORDS words of each instruction. None halts the machine or sets single step."""
+    words = np.array([cases_of(name, f"{seed} of programs", 0, WORDS)[0]["word"] for name in names], np.int64)
+    if "mtc0" in names:
+        row = words[names.index("mtc0")]
+        row ^= (row >> 11 & 7 == 4) << 11
+    return words
+
+
+def program_of(names: Sequence[str], seed: str, number: int) -> Program:
+    """An IMEM full of words of these instructions. A quarter are of eight instructions that are the program's
+    own.
+
+    Branches and jumps go on by a few words, and JR and JALR are rare: else each program would soon be in a
+    small loop.
+    """
+    choice = (generator("program", f"{seed}/{number}").random_raw(LENGTH + 8) >> 1).astype(np.int64)
+    few, choice = choice[:8] % len(names), choice[8:]
+    rows = np.where(choice & 3, (choice >> 16 & 0xFFFF) % len(names), few[choice >> 8 & 7])
+    words, on = words_of(tuple(names), seed)[rows, choice >> 32 & WORDS - 1], choice >> 48
+    forms = np.array([INSTRUCTIONS[name].form for name in names])[rows]
+    words = np.where(np.isin(forms, ("branch one", "branch two")), words & ~0xFFFF | 1 + on % 7, words)
+    words = np.where(np.isin(forms, ("jump register", "link register")) & (choice >> 24 & 15 > 0), 0, words)
+    words = np.where(forms == "jump", words & ~0x3FF | np.arange(LENGTH) + 2 + on % 5 & 0x3FF, words)
+    raw = generator("memories of programs", f"{seed}/{number}").random_raw(MEMORIES // 8)
+    memories = edged(raw.view("<u2")).view(np.uint8)
+    memories[IMEM : IMEM + 4096] = words.astype(">u4").view(np.uint8)
+    state = registers(Draw(PROGRAM, seed, number, 1))["state"][0]
+    state["pc"], state["npc"], state["vectors"] = 0, 4, edged(state["vectors"])
+    return settable(Program(state.tobytes(), memories))
+
+
+def at_fault(texts: List[str], found: rsp.FirstDifference) -> str:
+    """The word at fault, and what else of a program is left that was cut down.
+
+    If no step alone differs, an earlier word has left the emulator in a state that it doesn't show: the first
+    one is at fault.
+    """
+    first = texts[0] if found.steps > 1 else found.text
+    others = [text for text in texts if text != first]
+    how = ", which shows at " if found.steps > 1 else ", after "
+    return first + (how + ", ".join(others) if others else "")
+
+
+def check_programs(
+    spec: str, seed: str, start: int, count: int, instructions: List[str], steps: int
+) -> Iterator[Result]:
+    """Yields the result of each program.
+
+    `parts` names the instruction after which it differs; the first of each is cut down.
+    """
+    sides, cut = Sides(spec, bytes(MEMORIES)), set()  # type: Tuple[Sides, Set[str]]
+    names = [name for name in instructions if name not in NEVER]
+    sides.first_difference(program_of(names, seed, start), 0, 1)  # it may take no programs
+    yield {"count": 0, "unseen": sides.unseen}
+    for number in range(start, start + count):
+        program, name = program_of(names, seed, number), name_of(PROGRAM, seed, number)
+        found = sides.first_difference(program, steps, EVERY)
+        if not found:
+            yield {"count": 1}
+            continue
+        text, made = found.text, {}  # type: str, Result
+        if found.step and len(cut) < SHOWN and (found.steps > 1 or text.split()[0] not in cut):
+            made = cut_down(sides, program, found.step, found.steps > 1)
+            text = at_fault(made["texts"], found)
+        what = text.split()[0]
+        cut.add(what)
+        shown = f"{name}: step {found.step}, {text}: {in_brief(in_words(found.parts))}"
+        programs = [{"name": name, "shown": shown, **made}] if made else []
+        yield {"count": 1, "differ": 1, "parts": {what: 1}, "shown": [shown], "programs": programs}

@@ -1,0 +1,91 @@
+"""The table of a campaign by instruction, as a text and as a page of HTML."""
+
+import html
+import json
+from pathlib import Path
+from typing import Any, Dict, Iterator, List, Tuple
+
+from . import CampaignFault
+from .shared import PROGRAM, Result
+from .task import add, nothing
+
+HEADS = ("", "cases", "not shown", "differ", "choices", "faults", "first difference")
+STYLE = """body { font: 15px/1.4 system-ui, sans-serif; margin: 2em; color: #222 }
+table { border-collapse: collapse } code { font-size: 13px }
+th, td { padding: .15em .7em; text-align: left; vertical-align: top; border-bottom: 1px solid #e4e4e4 }
+td.n { text-align: right; font-variant-numeric: tabular-nums }
+.bar { width: 12em; height: 1em; background: #d8ecd8 }
+.bar i { display: block; height: 100%; background: #c0392b }"""
+
+
+def results_in(out: Path) -> List[Result]:
+    """The results of a campaign's folder, in the order of their numbers."""
+    found = [result_in(path) for path in out.glob("*-*-*.json")]
+    return sorted(found, key=lambda it: (it["instruction"] == PROGRAM, it["instruction"], it["start"]))
+
+
+def result_in(path: Path) -> Result:
+    try:
+        found: Result = json.loads(path.read_text())
+        return found
+    except ValueError:
+        raise CampaignFault(f"{path} isn't a result: delete it, and start the campaign again") from None
+
+
+def summary(results: List[Result]) -> Dict[str, Result]:
+    """What each instruction's results add up to, and those of programs, with the first difference."""
+    lines: Dict[str, Result] = {}
+    for result in results:
+        line = lines.setdefault(result["instruction"], {**nothing(), "given up": ""})
+        add(line, result)
+        if "given up" in result:
+            line["given up"] = line["given up"] or f" (given up: {result['given up']})"
+    for line in lines.values():
+        line.update(first="".join(line.pop("shown")[:1]), faults=len(line["faults"]))
+        del line["programs"], line["unseen"], line["processor"]
+    return lines
+
+
+def rows_of(lines: Dict[str, Result]) -> Iterator[Tuple[Any, ...]]:
+    """The cells of each instruction, as HEADS names them."""
+    for name, it in lines.items():
+        counts = (it["count"] - it["unshown"], it["unshown"], it["differ"], it["choices"], it["faults"])
+        yield name.upper(), *counts, it["first"] + it["given up"]
+
+
+def last_words(results: List[Result]) -> str:
+    """What was done, in a sentence."""
+    lines = summary(results)
+    count, differ, faults = (sum(it[key] for it in lines.values()) for key in ("count", "differ", "faults"))
+    programs, used = lines.get(PROGRAM, {"count": 0})["count"], sum(it["processor"] for it in results)
+    unseen = ", ".join(dict.fromkeys(part for it in results for part in it["unseen"]))
+    done = f"{count - programs} cases and {programs} programs: {differ} differ, {faults} of them by faults"
+    more = f" Not compared, or not in all bits: {unseen}." if unseen else ""
+    return f"{done}; {used:.0f} seconds of processor.{more}"
+
+
+def text_table(results: List[Result]) -> str:
+    line = "{:10}{:>11}{:>11}{:>10}{:>9}{:>7}  {}".format
+    rows = [line(*cells).rstrip() for cells in (HEADS, *rows_of(summary(results)))]
+    return "\n".join([*rows, last_words(results)])
+
+
+def html_row(cells: Tuple[Any, ...], it: Result) -> str:
+    """A line of the page, with a bar: the share of cases that differ."""
+    name, *numbers, first = cells
+    share = 100 * it["differ"] / max(numbers[0], 1)
+    most = sorted(it["parts"].items(), key=lambda pair: -pair[1])[:6]
+    parts = html.escape(", ".join(f"{part} {count}" for part, count in most))
+    width = max(share, 1.5 * (share > 0))
+    bar = f'<div class=bar title="{share:.4f} %"><i style="width:{width:.2f}%"></i></div>'
+    counts = "".join(f"<td class=n>{value or ''}" for value in numbers)
+    return f"<tr><th>{name}{counts}<td>{bar}<td>{parts}<td><code>{html.escape(first)}</code>"
+
+
+def html_table(results: List[Result], title: str) -> str:
+    """The page."""
+    lines, title = summary(results), html.escape(title)
+    rows = "".join(html_row(cells, it) for cells, it in zip(rows_of(lines), lines.values()))
+    heads = "".join(f"<th>{it}" for it in (*HEADS[:-1], "share", "what differs", HEADS[-1]))
+    head = f"<!doctype html><html lang=en><meta charset=utf-8><title>{title}</title><style>{STYLE}</style>"
+    return f"{head}<h1>{title}</h1><p>{last_words(results)}</p><table><tr>{heads}{rows}</table>"

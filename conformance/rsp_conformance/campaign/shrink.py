@@ -1,0 +1,111 @@
+"""Cuts a program that shows a difference down: to the latest beginning, the fewest words, and the fewest
+registers and bytes that aren't 0.
+"""
+
+from typing import Callable, List, Optional, Tuple
+
+import rsp
+from rsp_conformance import bench
+from rsp_conformance.library_states import numbers_of
+from rsp_conformance.states import texts_of
+
+from . import CampaignFault, generator
+from .generator import BANKS, STATE
+from .search import fewest, minimal
+from .shared import Result
+from .sides import Program, Sides, in_words
+
+Parts = List[Tuple[int, int]]
+
+
+def parts_of(*ranges: Tuple[int, int, int]) -> Parts:
+    """Parts of a program's bytes: ranges of them, with the size of a part of each."""
+    return [(low, low + size) for start, end, size in ranges for low in range(start, end, size)]
+
+
+DMEM, IMEM, RDRAM, END = (
+    STATE.itemsize + at for at in (generator.DMEM, generator.IMEM, generator.RDRAM, generator.MEMORIES)
+)
+# What can become 0: words, then registers, lanes and flags (not pc, npc and the lengths of a DMA), and blocks
+# of 64 bytes of memories.
+WORDS = parts_of((IMEM, RDRAM, 4))
+REGISTERS = parts_of((4, 128, 4), (128, 688, 2), (688, 693, 1), (694, 700, 2), (704, 712, 4), (720, 772, 4))
+OTHERS = [*REGISTERS, *parts_of((DMEM, IMEM, 64), (RDRAM, END, 64))]
+
+
+def settable(program: Program) -> Program:
+    """The program with a state that a script can set: no DIV_OUT, no lengths of a DMA, and DIV_IN only as a
+    number that is loaded.
+    """
+    state = program.state
+    state.divider.output = 0
+    state.divider.input *= state.divider.loaded
+    state.sp[2:5] = 0xFF8, 0xFF8, state.sp[4] & 0x7FC0
+    return program
+
+
+def cut_down(sides: Sides, program: Program, steps: int, is_hidden: bool) -> Result:
+    """What a result says of a program that first differs after so many steps.
+
+    If no step alone differs, both sides make all steps at once.
+    """
+
+    def first_difference(candidate: Program, most: int) -> Optional[rsp.FirstDifference]:
+        return sides.first_difference(candidate, most, most if is_hidden else max(1, most // 16))
+
+    def later(back: int) -> Program:
+        return settable(sides.after(program, steps - back))
+
+    most = fewest(steps, lambda back: first_difference(later(back), back)) or steps
+    program = later(most)
+    for parts in (WORDS, OTHERS):
+        program = smallest(program, parts, lambda candidate: first_difference(candidate, most))
+    found = first_difference(program, most)
+    if not found:
+        raise CampaignFault("cut down, the program doesn't show its difference again")
+    words = [pc for pc in range(0, 4096, 4) if program.word(pc)]
+    return {
+        "steps": found.step,
+        "differs": in_words(found.parts)[:8],
+        "pc": program.state.pc,
+        "listing": [f"{pc:03x}: {program.text(pc)}" for pc in words],
+        "texts": [program.text(pc) for pc in sorted(words, key=lambda pc: (pc - program.state.pc) % 4096)],
+        "source": source_of(program, words),
+        "script": script_of(program, found.step),
+    }
+
+
+def smallest(program: Program, parts: Parts, fails: Callable[[Program], object]) -> Program:
+    """A program with 0 in all of these parts that it doesn't need."""
+    parts = [(low, high) for low, high in parts if any(program.raw[low:high])]
+
+    def with_parts(kept: Parts) -> Program:
+        made = Program(program.state, program.memories)
+        for low, high in {*parts} - {*kept}:
+            made.raw[low:high] = bytes(high - low)
+        return made
+
+    return with_parts(minimal(parts, lambda kept: fails(with_parts(kept))))
+
+
+def source_of(program: Program, words: List[int]) -> str:
+    """The text of a program for `rsp asm --at`: from its first word that isn't nop to its last."""
+    addresses = range(min(words, default=0), max(words, default=0) + 4, 4)
+    head = f"# rsp asm --at {addresses[0]}; it begins at {program.state.pc:#05x}\n"
+    return head + "".join(f"{program.text(pc)}\n" for pc in addresses)
+
+
+def script_of(program: Program, steps: int) -> str:
+    """A script for `rsp run`: it sets the state by microcode, loads the memories, makes the steps, and looks
+    at all.
+    """
+    script = bench.prelude()
+    bench.set_state(script, texts_of(numbers_of(program.state)), program.word(program.state.pc))
+    for bank, (low, high) in BANKS.items():
+        for at in range(low, high, 64):
+            if bank == "rdram" or any(program.memories[at : at + 64]):
+                script.load(bank, at - low, program.memories[at : at + 64].hex())
+    for line in (f"dis {program.state.pc} 1", *["step"] * steps):
+        script.say(line)
+    bench.look(script, ("dmem", "imem"), "after")
+    return "".join(f"{line}\n" for line in script.lines)

@@ -1,0 +1,102 @@
+"""The proved library and an emulator side by side, and what differs between them in words."""
+
+from typing import Dict, Iterable, List, Optional, Union
+
+import numpy as np
+import rsp
+
+from .build import built
+from .emulators import Object, emulator_of
+from .generator import BANKS, END, IMEM, MEMORIES, RDRAM, STATE, Array
+
+PADDING = 693  # a byte of a state that is no register
+# What can differ: the parts of an end, by their bytes.
+PARTS = {"scalar registers": (0, 128), "vector registers": (128, 640), "accumulators": (640, 688),
+         "VCO": (688, 690), "VCC": (690, 692), "VCE": (692, 693), "divider": (694, 700), "pc": (700, 702),
+         "npc": (702, 704), "SP registers": (704, 768), "interrupt": (768, 772), "status": (772, 776),
+         "memories": (776, 784)}  # fmt: skip
+
+
+class Program:
+    """What a run begins with: a state and all memories. Both are views of its bytes."""
+
+    def __init__(self, state: Union[bytes, rsp.State], memories: Union[bytes, memoryview, Array]) -> None:
+        self.raw = bytearray(bytes(state) + bytes(memories))
+        self.state, self.memories = rsp.State.from_buffer(self.raw), memoryview(self.raw)[STATE.itemsize :]
+
+    def word(self, pc: int) -> int:
+        return int.from_bytes(self.memories[IMEM + pc : IMEM + pc + 4], "big")
+
+    def text(self, pc: int) -> str:
+        return rsp.text(self.word(pc), pc)
+
+
+class Sides:
+    """Both, with the same memories."""
+
+    def __init__(self, spec: str, memories: bytes) -> None:
+        self.library, self.emulator = Object(built("library"), memories), emulator_of(spec, memories)
+        self.machine, hidden = rsp.Rsp(bytes(MEMORIES - RDRAM)), ~self.emulator.seen
+        self.unseen = [part for part, (low, high) in PARTS.items() if hidden[low:high].any()]
+        hidden[PADDING] = 255
+        self.hidden = [(word, mask) for word, mask in enumerate(hidden.view("<u8")) if mask]
+
+    def run(self, cases: Array, expected: Array, ends: Array) -> Array:
+        """Which ends differ after cases on both.
+
+        An end of the emulator gets the library's bits where it shows none.
+        """
+        self.library.fill(cases, expected)
+        self.emulator.fill(cases, ends)
+        ours, theirs = (it.view("<u8").reshape(len(cases), -1) for it in (expected, ends))
+        for word, mask in self.hidden:
+            theirs[:, word] ^= (theirs[:, word] ^ ours[:, word]) & mask
+        return (ours != theirs).any(1)
+
+    def begin(self, program: Program) -> None:
+        """Puts a program into the library's machine."""
+        self.machine.set(program.state)
+        for bank, (low, high) in enumerate(BANKS.values()):
+            self.machine.load(bank, 0, program.memories[low:high])
+
+    def after(self, program: Program, steps: int) -> Program:
+        """The machine as a program of its own, so many steps on."""
+        self.begin(program)
+        if steps:
+            self.machine.run(steps)
+        memories = (
+            self.machine.memory(bank, 0, high - low) for bank, (low, high) in enumerate(BANKS.values())
+        )
+        return Program(self.machine.get(), b"".join(memories))
+
+    def first_difference(self, program: Program, steps: int, every: int) -> Optional[rsp.FirstDifference]:
+        """The first step of a program after which they differ, as rsp.first_difference says it, or None."""
+        self.begin(program)
+        return rsp.first_difference(self.machine, self.emulator.for_programs(self.machine), every, steps)
+
+
+def parts_that_differ(expected: Array, ends: Array) -> Dict[str, int]:
+    """How many of these ends differ in each part."""
+    wrong = (expected.view(np.uint8) != ends.view(np.uint8)).reshape(-1, END.itemsize)
+    counts = {part: int(wrong[:, low:high].any(1).sum()) for part, (low, high) in PARTS.items()}
+    return {part: count for part, count in counts.items() if count}
+
+
+def in_words(parts: Iterable[rsp.Part]) -> List[str]:
+    """What differs, a line each."""
+    return [f"{it.name}: expected {it.value:x}, got {it.other:x}" for it in parts]
+
+
+def differences(expected: Array, got: Array) -> List[str]:
+    """All that differs between two ends, in words."""
+    ours, theirs = (rsp.State.from_buffer_copy(end["state"].tobytes()) for end in (expected, got))
+    lines = in_words(ours.diff(theirs))
+    if expected["status"] != got["status"]:
+        lines.append(f"status: expected {expected['status']}, got {got['status']}")
+    return lines + ["bytes of memories"] * bool(expected["changed"] != got["changed"])
+
+
+def in_brief(lines: List[str]) -> str:
+    """The first of some differences, and how many there are."""
+    first, *rest = lines
+    return f"{first}, and {len(rest)} more" if rest else first

@@ -1,0 +1,405 @@
+"""The cases of each instruction: a word, and the state before it, on edge values and on random ones.
+
+The same row, seed and number give the same case, on every version of Python.
+"""
+
+from typing import Any, Callable, Dict, Iterator, List, Optional, Tuple
+
+from rsp_conformance.aims import TRIES, aim, near
+from rsp_conformance.draws import LANES, Random
+from rsp_conformance.outcomes import possible, selected
+from rsp_conformance.states import Texts
+from rsp_conformance.table import FORMS, MPEG, SCALE, Row, destination, ignored_bits, word_of
+from rsp_conformance.whole import DIVIDENDS, zeros
+
+Fields = Dict[str, int]
+Made = Tuple[Fields, Texts]
+
+WORDS = (0, 1, 2, 3, 0x7F, 0x80, 0xFF, 0x7FFF, 0x8000, 0xFFFF, 0x10000, 0x7FFFFFFF, 0x80000000, 0x80000001,
+         0xFFFF8000, 0xFFFFFFFE, 0xFFFFFFFF)  # fmt: skip
+HALVES = (0, 1, 2, 0x1F, 0x7F, 0x80, 0x7FFF, 0x8000, 0x8001, 0xFFFE, 0xFFFF)
+FLAGS = (0x0000, 0xFFFF, 0x00FF, 0xFF00, 0x0F0F, 0xF0F0, 0x3333)
+# Two lanes that each instruction meets: products and sums at their limits.
+EXTREMES = ((0x8000, 0x8000), (0x8000, 0x7FFF), (0x7FFF, 0x7FFF), (0xFFFF, 0x8000), (0x8000, 0xFFFF),
+            (0x7FFF, 0x8000), (0xFFFF, 0xFFFF), (0x0000, 0x8000), (0x0001, 0x8000),
+            (0x8000, 0x0001))  # fmt: skip
+# What is divided first, before random numbers: each edge of the divider's rules.
+DIVISORS = (0, -32768, 1, -1, 3, -3, 0x7FFFFFFF, -0x80000000, -32769, 65536)
+DIVIDED = (0, 1, -1, -32768, -32769, 32767, 32768, 65535, 65536, -65536)
+SP_NUMBERS = (0, 1, 2, 3, 4, 4, 4, 7, 2, 3, 4, 5, 6, 8, 11, 15, 4, 2, 3, 4)
+PLACES = (0x000, 0x004, 0x7FC, 0xFF4, 0xFF8, 0xFFC)
+WRAPPING = 0xFE0  # the window of the cases that pass the end of DMEM
+WINDOW_LENGTH = 48
+
+
+class Case:
+    """An instruction's fields, its word, and the state before it: what differs from the default."""
+
+    window = 0  # the address of the memory of a case in a program
+    place = 0  # the address of its word there
+
+    def __init__(self, name: str, row: Row, fields: Fields, before: Texts, word: int) -> None:
+        self.name, self.row, self.fields, self.before, self.word = name, row, fields, before, word
+        self.choice = choice_of(row, self)
+
+
+def text_of_lanes(lanes: List[int]) -> str:
+    return "".join(f"{lane:04x}" for lane in lanes)
+
+
+def relate(random: Random, vs: List[int], vt: List[int], element: int) -> None:
+    """Makes half of the lanes of vs close to a limit of the comparisons with the selected lane."""
+    for lane in range(8):
+        b = vt[selected(element, lane)]
+        if random.one_in(2):
+            vs[lane] = near(random, b)
+
+
+def flags(random: Random) -> Texts:
+    vco, vcc, vce = (random.mixed(FLAGS, 16) for _ in range(3))
+    return {"vco": f"{vco:04x}", "vcc": f"{vcc:04x}", "vce": f"{vce % 256:02x}"}
+
+
+def vector_state(random: Random) -> Texts:
+    """Accumulators and flags of their own, which no instruction that keeps them may lose."""
+    state = {f"a{lane}": f"{random.accumulator():012x}" for lane in range(8)}
+    return {**state, **flags(random)}
+
+
+def word(random: Random) -> str:
+    return f"{random.mixed(WORDS, 32):08x}"
+
+
+def signed(number: int, bits: int) -> int:
+    half = 1 << bits - 1
+    return (number & 2 * half - 1 ^ half) - half
+
+
+def divisor(random: Random) -> int:
+    """A signed number of 32 bits, as likely short as long, near a power of two, or an edge."""
+    length = random.below(33)
+    size = random.below(1 << length) | 1 << length >> 1
+    return int(random.pick((size, -size, (1 << length) - 1, -(1 << length), *DIVIDED))) % 2**32
+
+
+def divider(random: Random, number: int) -> Texts:
+    """The divider: what was divided last (its `in` and `out`), and whether another number is loaded."""
+    divided = f"{divisor(random):08x}"
+    loaded = f"{divisor(random) >> 16:04x}" if number % 2 else divided[:4]
+    return {"divided": divided, "loaded": str(number % 2), "in": loaded}
+
+
+def element_of(row: Row, number: int) -> int:
+    """The element of a case: every other case takes each lane for itself, the others have all the rest in
+    turn.
+
+    VSAR has three that read a part.
+    """
+    if row.name == "vsar":
+        return 8 + number // 2 % 3 if number % 2 == 0 else number // 2 % 16
+    return number // 2 % 2 if number % 2 == 0 else 2 + number // 2 % 14
+
+
+# Cases that are given and not drawn, by instruction and number: a and b of each lane, and the flags before. A
+# number is even, so that each lane is taken for itself and vs isn't vt, and below that of SMALL.
+GIVEN = {
+    ("vch", 32): (0x7FFF, 0x8000, {"vco": "ffff", "vcc": "ffff", "vce": "ff"}),
+}
+
+
+def make_vector(row: Row, random: Random, number: int, window: int) -> Made:
+    fields = {"e": element_of(row, number)}
+    fields["vs"], fields["vt"], fields["vd"] = random.some(3, 32)
+    if random.one_in(5):
+        fields[random.pick(("vs", "vd")) if number % 2 else "vd"] = fields["vt"]
+    vs, vt = random.lanes(), random.lanes()
+    before = vector_state(random)
+    if number % 2 == 0 and row.name != "vsar" and possible(row.name):
+        aim(row.name, random, number // 2, fields, vs, vt, before, LANES, EXTREMES)
+    else:
+        if not row.name.startswith("vm") and not random.one_in(3):
+            relate(random, vs, vt, fields["e"])
+        lane = random.below(8)
+        vs[lane], vt[selected(fields["e"], lane)] = EXTREMES[number // 2 % len(EXTREMES)]
+    if given := GIVEN.get((row.name, number)):
+        vs, vt = [given[0]] * 8, [given[1]] * 8
+        before.update(given[2])
+    if random.one_in(4):
+        before.update(divider(random, number))
+    before[f"v{fields['vs']}"] = text_of_lanes(vs)
+    before[f"v{fields['vt']}"] = text_of_lanes(vt)
+    return fields, before
+
+
+def dividend(random: Random, number: int, is_long: bool) -> int:
+    """A number to divide: by eights of cases one of each branch of the divider's rule, then any.
+
+    Its leading zeros are even and odd in turn.
+    """
+    branch = number // 8 % (len(DIVIDENDS) + 1)
+    for _ in range(TRIES):
+        x = random.pick(DIVISORS) if random.one_in(2) else (divisor(random) ^ 1 << 31) - (1 << 31)
+        x = x if is_long else signed(x, 16)
+        is_even = branch < 2 or zeros(x) % 2 == (number + branch) % 2
+        if branch == len(DIVIDENDS) or DIVIDENDS[branch].when(x) and is_even:
+            break
+    return int(x)
+
+
+def make_lane(row: Row, random: Random, number: int, window: int) -> Made:
+    fields = {"e": (number * 3 + number // 8) % 16, "de": number % 8}
+    fields["vt"], fields["vd"] = random.some(2, 32)
+    if random.one_in(5):
+        fields["vd"] = fields["vt"]
+    before = vector_state(random)
+    before.update(divider(random, 1 if number // 8 % 6 == 4 else number + number // 8 + 1))
+    is_long = row.name[-1] == "l" and before["loaded"] == "1"
+    whole = dividend(random, number, is_long)
+    if is_long:
+        before["in"] = f"{whole >> 16 & 0xFFFF:04x}"
+    vt = random.lanes()
+    vt[fields["e"] % 8] = whole % 65536
+    before[f"v{fields['vd']}"] = text_of_lanes(random.lanes())
+    before[f"v{fields['vt']}"] = text_of_lanes(vt)
+    return fields, before
+
+
+def make_nothing(row: Row, random: Random, number: int, window: int) -> Made:
+    return {}, {**vector_state(random), **divider(random, number)}
+
+
+def make_move(row: Row, random: Random, number: int, window: int) -> Made:
+    """MFC2 and MTC2."""
+    fields = {"e": number % 16, "vd": random.below(32), "t": random.below(32)}
+    before = {f"v{fields['vd']}": text_of_lanes(random.lanes())}
+    if row.form == "to vector":
+        before[f"r{fields['t']}"] = word(random)
+    return fields, before
+
+
+def make_control(row: Row, random: Random, number: int, window: int) -> Made:
+    fields = {"c": number % 4, "t": random.below(32)}
+    return fields, {**flags(random), f"r{fields['t']}": word(random)}
+
+
+def make_shift(row: Row, random: Random, number: int, window: int) -> Made:
+    fields = {"sa": (number * 13) % 32, "t": random.below(32), "d": random.below(32)}
+    return fields, {f"r{fields['t']}": word(random)}
+
+
+def make_three(row: Row, random: Random, number: int, window: int) -> Made:
+    fields = {"s": random.below(32), "t": random.below(32), "d": random.below(32)}
+    if random.one_in(6):
+        fields["d"] = random.pick((fields["s"], fields["t"]))
+    s, t = random.mixed(WORDS, 32), random.mixed(WORDS, 32)
+    if random.one_in(4):
+        s = random.pick((t, t + 1, t - 1)) % 2**32
+    return fields, {f"r{fields['t']}": f"{t:08x}", f"r{fields['s']}": f"{s:08x}"}
+
+
+def make_immediate(row: Row, random: Random, number: int, window: int) -> Made:
+    fields = {"s": random.below(32), "t": random.below(32), "imm": random.mixed(HALVES, 16)}
+    s = random.mixed(WORDS, 32)
+    if random.one_in(4):
+        s = (signed(fields["imm"], 16) + random.pick((-1, 0, 1))) % 2**32
+    return fields, {f"r{fields['s']}": f"{s:08x}"}
+
+
+def make_upper(row: Row, random: Random, number: int, window: int) -> Made:
+    return {"t": random.below(32), "imm": random.mixed(HALVES, 16)}, {}
+
+
+def places(random: Random) -> Texts:
+    """pc and npc: any, and now and then a delay slot, whose npc isn't pc + 4."""
+    pc = random.pick(PLACES) if random.one_in(3) else 4 * random.below(1024)
+    npc = 4 * random.below(1024) if random.one_in(4) else (pc + 4) % 4096
+    return {"pc": f"{pc:03x}", "npc": f"{npc:03x}"}
+
+
+def make_branch(row: Row, random: Random, number: int, window: int) -> Made:
+    fields = {"s": random.below(32), "t": random.below(32), "imm": random.mixed(HALVES, 16)}
+    s, t = random.mixed(WORDS, 32), random.mixed(WORDS, 32)
+    if random.one_in(2):
+        t = s
+    if row.name.endswith("al") and number % 4 == 2:  # register 31 is tested before the link is written
+        fields["s"], s = 31, random.below(1 << 31) | (number // 4 % 2) << 31
+    before = places(random)
+    if row.form == "branch two":
+        before[f"r{fields['t']}"] = f"{t:08x}"
+    before[f"r{fields['s']}"] = f"{s:08x}"
+    return fields, before
+
+
+def make_jump(row: Row, random: Random, number: int, window: int) -> Made:
+    return {"target": random.pick((0, 1, 0x3FF, random.below(1024)))}, places(random)
+
+
+def make_jump_register(row: Row, random: Random, number: int, window: int) -> Made:
+    fields = {"s": random.below(32), "d": random.pick((31, 31, 0, random.below(32)))}
+    if random.one_in(4):
+        fields["d"] = fields["s"]
+    return fields, {**places(random), f"r{fields['s']}": word(random)}
+
+
+def status(random: Random) -> Texts:
+    return {"c4": f"{random.below(1024) << 5:08x}", "interrupt": str(random.below(2))}
+
+
+def make_break(row: Row, random: Random, number: int, window: int) -> Made:
+    return {}, {**places(random), **status(random)}
+
+
+def sp_state(random: Random) -> Texts:
+    before = {"c0": random.below(1 << 13) & ~7, "c1": random.below(1 << 24) & ~7, "c7": random.below(2)}
+    texts = {**{key: f"{value:08x}" for key, value in before.items()}, **status(random)}
+    return {**texts, **{f"c{number}": word(random) for number in range(8, 16)}}
+
+
+def make_from_sp(row: Row, random: Random, number: int, window: int) -> Made:
+    return {"c": number % 16, "t": random.below(32)}, sp_state(random)
+
+
+def make_to_sp(row: Row, random: Random, number: int, window: int) -> Made:
+    fields = {"c": SP_NUMBERS[number % len(SP_NUMBERS)], "t": 1 + random.below(31)}
+    before = sp_state(random)
+    value = random.mixed(WORDS, 32)
+    if fields["c"] in (2, 3):
+        value = transfer(random, before)
+    elif fields["c"] == 4:
+        value = random.below(1 << 25)
+    before[f"r{fields['t']}"] = f"{value:08x}"
+    return fields, before
+
+
+def transfer(random: Random, before: Texts) -> int:
+    """A DMA of few bytes, within the part of RDRAM that is compared, on rows that lie apart."""
+    value = random.below(9) << 23 | random.below(4) << 12 | random.below(25)
+    inside = random.pick((0, 0x1000)) | random.pick((0xFF0, 0xFF8, 8 * random.below(512)))
+    before["c0"], before["c1"] = f"{inside:08x}", f"{0x10000 + 8 * random.below(16):08x}"
+    before["rdram"] = {f"{0x10000:06x}": random.bytes(512)}
+    before["imem" if inside & 0x1000 else "dmem"] = memory_at(inside & 0xFF8, random.bytes(128))
+    before["pc"], before["npc"] = ("800", "804") if inside & 0xFF8 < 0x700 else ("200", "204")
+    return value
+
+
+def memory_at(address: int, text: str) -> Dict[str, str]:
+    """Bytes at an address of a memory that wraps, as a state names them."""
+    first = 2 * (4096 - address)
+    return {f"{address:03x}": text[:first], **({"000": text[first:]} if text[first:] else {})}
+
+
+def address_in(random: Random, number: int, window: int) -> int:
+    """An address in the middle of a window of 48 bytes, each byte of a quadword in its turn.
+
+    The last one comes where DMEM ends first (number 3).
+    """
+    return (window + 16 + (number * 7 + number // 16 + 10) % 16) % 4096
+
+
+def base_of(random: Random, address: int, offset: int) -> str:
+    """A base register for an address: the bits above DMEM's twelve don't count."""
+    high = random.pick((0, 0, random.below(1 << 20)))
+    return f"{(address + (high << 12) - offset) % 2**32:08x}"
+
+
+def make_scalar_memory(row: Row, random: Random, number: int, window: int) -> Made:
+    fields = {"s": random.below(32), "t": random.below(32), "imm": random.mixed(HALVES, 16)}
+    address = address_in(random, number, window)
+    before: Texts = {"dmem": memory_at(window, random.bytes(WINDOW_LENGTH))}
+    offset = signed(fields["imm"], 16)
+    if fields["s"] == 0:
+        offset = fields["imm"] = address
+    if row.form == "store":
+        before[f"r{fields['t']}"] = word(random)
+    before[f"r{fields['s']}"] = base_of(random, address, offset)
+    return fields, before
+
+
+def make_vector_memory(row: Row, random: Random, number: int, window: int) -> Made:
+    base, vt, letter = 1 + random.below(31), random.below(32), row.name[1]
+    fields = {"base": base, "vt": vt, "e": number % 16 if letter != "f" else 8 * (number % 2)}
+    fields["off"] = random.pick((0, 1, 63, 64, 127, random.below(128)))
+    address = address_in(random, number, window)
+    if letter == "t" and number // 16 % 2:
+        fields["e"], address = fields["e"] & ~1, address & ~15  # what isn't a choice
+    before: Texts = {"dmem": memory_at(window, random.bytes(WINDOW_LENGTH))}
+    before[f"r{base}"] = base_of(random, address, signed(fields["off"], 7) * SCALE[letter])
+    for register in range(vt & ~7, (vt & ~7) + 8) if letter == "t" else [vt]:
+        before[f"v{register}"] = random.bytes(16)
+    return fields, before
+
+
+# The cases that an instruction has in the small set, by its name or form; of others 20.
+SMALL = {"vector": 32, "vch": 33, "lane": 40, "ltv": 32, "stv": 32}
+
+MAKERS: Dict[str, Callable[[Row, Random, int, int], Made]] = {
+    "shift": make_shift,
+    "three": make_three,
+    "immediate": make_immediate,
+    "upper": make_upper,
+    **dict.fromkeys(("load", "store"), make_scalar_memory),
+    **dict.fromkeys(("branch one", "branch two"), make_branch),
+    "jump": make_jump,
+    **dict.fromkeys(("jump register", "link register"), make_jump_register),
+    "break": make_break,
+    "from sp": make_from_sp,
+    "to sp": make_to_sp,
+    **dict.fromkeys(("from vector", "to vector"), make_move),
+    **dict.fromkeys(("from control", "to control"), make_control),
+    "vector": make_vector,
+    "lane": make_lane,
+    "nothing": make_nothing,
+    **dict.fromkeys(("vector load", "vector store"), make_vector_memory),
+}
+
+
+def small_count(row: Row) -> int:
+    return SMALL.get(row.name, SMALL.get(row.form, 20))
+
+
+def choices(row: Row, fields: Dict[str, Any], pc: Any, npc: Any, address: Any) -> Iterator[Tuple[str, Any]]:
+    """What of a case these documents chose themselves, since nothing that is published settles it, and
+    whether it holds.
+
+    All numbers may be arrays.
+    """
+    if row.name in MPEG:
+        yield "MPEG row", True
+    if row.name in ("ltv", "stv"):
+        yield "odd element", fields["e"] % 2 == 1
+        yield "address not a multiple of 16", address % 16 != 0
+    if row.form in ("from control", "to control"):
+        yield "control register 3", fields["c"] == 3
+    if row.form in ("from sp", "to sp"):
+        yield "DPC register as a stored word", fields["c"] >= 8
+    if "branch" in row.form or "jump" in row.form or row.form == "link register":
+        yield "branch in a delay slot", npc != (pc + 4) % 4096
+    if row.name in ("jal", "jalr") or row.name.endswith("zal"):
+        yield "link modulo 4096", pc >= 0xFF8
+    if row.form == "break":
+        yield "pc after BREAK", True
+
+
+def choice_of(row: Row, case: Case) -> Optional[str]:
+    """The first that holds of a case, or None."""
+    pc, address = int(case.before.get("pc", "000"), 16), 0
+    npc = int(case.before["npc"], 16) if "npc" in case.before else (pc + 4) % 4096
+    if row.name in ("ltv", "stv"):
+        base = int(case.before[f"r{case.fields['base']}"], 16)
+        address = base + signed(case.fields["off"], 7) * SCALE["t"]
+    return next((name for name, holds in choices(row, case.fields, pc, npc, address) if holds), None)
+
+
+def make_case(row: Row, seed: str, number: int, window: Optional[int] = None) -> Case:
+    """The case of an instruction with this seed and number. If a window is named, its memory is there."""
+    random = Random(seed, row.name, number)
+    if window is None:
+        window = WRAPPING if number % 4 == 3 else 16 * Random(seed, row.name, number, "window").below(250)
+    fields, before = MAKERS[row.form](row, random, number, window)
+    if (to := destination(row)) and number % 5 == 1:
+        fields[to] = 0
+    before.pop("r0", None)  # it is always 0
+    made = word_of(row, {name: fields[name] for name in FORMS[row.form]})
+    if number % 10 == 9:
+        made |= random.below(1 << 32) & ignored_bits(row)
+    return Case(f"{row.name.upper()}-{number:03d}", row, fields, before, made)

@@ -1,0 +1,298 @@
+"""conformance/check [PROGRAM | --table | --reasons]: checks the test vectors in vectors/ with the program rsp
+(./rsp). It fails if a state differs, or if a tool of the suite doesn't find a planted fault.
+
+  - `conformance/run` and `conformance/generate` say in a sentence why they have nothing to do.
+  - Generated anew they are the same, byte by byte, and each instruction of the table has cases in both forms.
+  - Each outcome of each instruction occurs in each lane, but for those that its rule can't give.
+    coverage.tsv has their counts (--table prints it), COVERAGE.md what can't occur (--reasons prints that).
+    For each outcome the runner names the lane of a result, or of a flag, that is planted wrong.
+  - The runner finds no difference in them.
+  - The cases of form 3 are those of form 1, and the runner of README.md passes them on the program, and names
+    one that is spoilt.
+  - One digit of an expected state that is changed, and one byte that is dropped, is found and named, in each
+    instruction and each form.
+The last line is `N passed, M failed`.
+"""
+
+import contextlib
+import io
+import json
+import os
+import re
+import subprocess
+import sys
+import tempfile
+from collections import defaultdict
+from pathlib import Path
+from typing import Any, Dict, Iterator, List
+
+from rsp_conformance import HERE, bench, coverage, flat, full, generate, planted, play, steps
+from rsp_conformance.commands import PROGRAM, Complaints, counted, reader, unless
+from rsp_conformance.draws import Random
+from rsp_conformance.spoil import spoilt_entries
+from rsp_conformance.states import numbers_of, texts_of
+from rsp_conformance.table import ROWS
+from rsp_conformance.vectors import VECTORS, entries_in, manifest_in
+
+NAMES = [row.name.upper() for row in ROWS.values()]
+PROGRAMS = VECTORS / "programs"
+
+
+def files_of(folder: Path) -> Dict[str, bytes]:
+    files = (path for path in folder.rglob("*") if path.is_file())
+    return {str(path.relative_to(folder)): path.read_bytes() for path in files}
+
+
+def regenerated(program: str) -> Iterator[Complaints]:
+    """Each file of the vectors against a new one."""
+    with tempfile.TemporaryDirectory() as out:
+        made = generate.generate(program, list(ROWS.values()), generate.SEED, None, Path(out))
+        yield from ([error] for error in made)
+        old, new = files_of(VECTORS), files_of(Path(out))
+    for name in sorted({*old, *new}):
+        same = old.get(name) == new.get(name)
+        yield unless(same, f"vectors/{name} isn't what `conformance/generate` makes")
+
+
+def has_cases(name: str) -> bool:
+    """Whether an instruction has cases in both forms."""
+    files = (VECTORS / "steps" / f"{name}.jsonl", PROGRAMS / f"{name}.json")
+    if not all(path.is_file() for path in files) or not entries_in(VECTORS, name):
+        return False
+    return all(entry["cases"] for entry in manifest_in(VECTORS, name)["programs"])
+
+
+def spoilt_steps_found(program: str, names: List[str]) -> Iterator[Complaints]:
+    """That the runner names the case of which a digit, byte or part is another, and nothing in the true one
+    before it.
+    """
+    entries, wants = [], []
+    for name in names:
+        random = Random("spoilt", name)
+        entry = random.pick(entries_in(VECTORS, name))
+        for one in (entry, *spoilt_entries(entry, random)):
+            entries.append(one)
+            wants.append(one is not entry)
+    for entry, want, found in zip(entries, wants, steps.run_entries(program, entries)):
+        right = bool(found) == want and all(it.startswith(f"{entry['name']} (") for it in found)
+        kind = "a false" if want else "a true"
+        yield unless(right, f"{entry['name']}: {kind} state after was answered by {found}")
+
+
+def spoilt_program_found(name: str) -> Iterator[Complaints]:
+    """That a changed byte of a program's end is named by its case and field, and a dropped byte by the
+    program.
+    """
+    random = Random("spoilt", name)
+    entry = random.pick(manifest_in(VECTORS, name)["programs"])
+    case = random.pick(entry["cases"])
+    what, offset, length = random.pick(entry["layouts"][case["layout"]])
+    at = (int(case["at"], 16) + offset + random.below(length)) % play.MEMORY
+    right = (PROGRAMS / f"{entry['name']}.after").read_bytes()
+    wrong = right[:at] + bytes([right[at] ^ 1 << random.below(8)]) + right[at + 1 :]
+    found = play.complaints(entry, wrong, right)
+    named = what in ("vco", "vcc", "vce") or (found and f", {what}, " in found[0])
+    is_found = len(found) == 1 and found[0].startswith(f"{case['name']} (") and named
+    yield unless(is_found, f"{case['name']}: {what}: {found}")
+    found = play.complaints(entry, right[:at] + right[at + 1 :], right)
+    is_found = bool(found) and found[0].startswith(f"{entry['name']}: ")
+    yield unless(is_found, f"{entry['name']}: a dropped byte was answered by {found}")
+
+
+def outcomes_of(name: str) -> coverage.Found:
+    return coverage.shown(ROWS[name.lower()], entries_in(VECTORS, name))
+
+
+def table_of(found: Dict[str, coverage.Found]) -> str:
+    """The data of all outcomes."""
+    lines = (line for name, it in found.items() for line in coverage.lines(ROWS[name.lower()], it))
+    return coverage.HEAD + "".join(lines)
+
+
+def outcomes_shown(names: List[str]) -> Iterator[Complaints]:
+    """That each outcome occurs in each lane, that data and page say so, and that a fault in any is found."""
+    found = {name: outcomes_of(name) for name in names}
+    table = table_of(found)
+    same = (HERE / "coverage.tsv").read_text() == table
+    yield unless(same, "coverage.tsv isn't what `conformance/check --table` prints")
+    same = (HERE / "COVERAGE.md").read_text().endswith(f"\n\n{coverage.reasons(table)}")
+    yield unless(same, "COVERAGE.md doesn't end with what `conformance/check --reasons` prints")
+    for name, outcomes in found.items():
+        row = ROWS[name.lower()]
+        yield from coverage.complaints(row, outcomes)
+        yield from planted.results(row, outcomes)
+        yield from planted.in_steps(row, outcomes)
+        yield from planted.in_programs(row, outcomes, manifest_in(VECTORS, name), PROGRAMS)
+
+
+def runs_true(program: str, name: str) -> Iterator[Complaints]:
+    """That each program of an instruction ends as its file says."""
+    yield from (found[:1] for found in play.run_manifest(program, manifest_in(VECTORS, name), PROGRAMS))
+
+
+def refusals(program: str) -> Iterator[Complaints]:
+    """That what can't be run or made is reported in a sentence, with a status that isn't 0."""
+    with tempfile.TemporaryDirectory() as folder:
+        empty, blank = Path(folder) / "empty", Path(folder) / "blank"
+        (empty / "steps").mkdir(parents=True)
+        for name, text in (("steps", ""), ("programs", '{"row":"ADD","programs":[]}')):
+            (blank / name).mkdir(parents=True)
+            (blank / name / f"ADD.json{'l' * (name == 'steps')}").write_text(text)
+        for words, told in (
+            (["run", Path(folder) / "none"], "there is no folder "),
+            (["run", empty], "has no test vectors"),
+            (["run", blank], "has no case"),
+            (["run", VECTORS, "VFOO"], "the instruction table has no VFOO"),
+            (["run", blank, "SUB"], "has no test vectors of SUB"),
+            (["generate", empty, "vfoo"], "the instruction table has no vfoo"),
+            (["generate", "--cases", "0", empty], "--cases is 1 or more"),
+        ):
+            command = [HERE / str(words[0]), "--program", program, *words[1:]]
+            ran = subprocess.run(list(map(str, command)), capture_output=True, text=True)
+            right = ran.returncode == 1 and told in ran.stderr and ran.stderr.count("\n") == 1
+            yield unless(right, f"{words}: status {ran.returncode}, {ran.stderr[-200:]!r}")
+
+
+def bytes_that_differ(pairs: Any, start: int, end: int, *pieces: Dict[str, str]) -> List[int]:
+    """The addresses of a memory whose bytes aren't those that pieces of form 1 leave, one over the other."""
+    found = {at - start: byte for at, byte in pairs if start <= at < end and byte}
+    wanted: Dict[int, int] = {}
+    for address, text in (it for piece in pieces for it in piece.items()):
+        wanted.update({int(address, 16) + i: int(text[2 * i : 2 * i + 2], 16) for i in range(len(text) // 2)})
+    return [at for at in {*found, *wanted} if found.get(at, 0) != wanted.get(at, 0)]
+
+
+def full_is_the_same(name: str) -> Complaints:
+    """That the cases of form 3 are those of form 1."""
+    entries = entries_in(VECTORS, name)
+    cases = json.loads(full.full_text(entries))
+    wrong: List[Any] = [] if len(cases) == len(entries) else ["a case is missing"]
+    for entry, case in zip(entries, cases):
+        before, after = entry["before"], entry["after"]
+        code = {before.get("pc", "000"): entry["word"]}
+        for state, changed in ((case["initial"], {}), (case["final"], after)):
+            whole = {**bench.DEFAULT, **before, **changed}
+            wrong += [key for key, text in texts_of(state).items() if text != whole[key]]
+            for bank, memory, start, end in (
+                ("dmem", "ram", 0, 4096), ("imem", "ram", 4096, 8192), ("rdram", "rdram", 0, 1 << 24)
+            ):  # fmt: skip
+                pieces = (before.get(bank, {}), code if bank == "imem" else {}, changed.get(bank, {}))
+                wrong += bytes_that_differ(state[memory], start, end, *pieces)
+    return unless(not wrong, f"{name}: form 3 differs from form 1 in {wrong[:4]}")
+
+
+def flat_is_the_same(name: str) -> Complaints:
+    """That the cases of form 4 are those of form 1."""
+    entries = entries_in(VECTORS, name)
+    cases = [*flat.cases_in(flat.flat_bytes(entries))]
+    wrong: List[str] = [] if len(cases) == len(entries) else ["a case is missing"]
+    for entry, case in zip(entries, cases):
+        whole = {**bench.DEFAULT, **entry["before"]}
+        code = {whole["pc"]: entry["word"]}
+        pieces: Dict[Any, Dict[str, str]] = {}
+        for when, bank, at, data in case["pieces"]:
+            key = f"{at:0{6 if bank == 2 else 3}x}"
+            pieces.setdefault((when, flat.BANKS[bank]), {})[key] = data.hex()
+        for when, part in (
+            (0, {**entry["before"], "imem": {**entry["before"].get("imem", {}), **code}}),
+            (1, entry["after"]),
+        ):
+            whole.update({key: text for key, text in part.items() if isinstance(text, str)})
+            state = texts_of(case[("before", "after")[when]])
+            wrong += [f"{entry['name']} {key}" for key, text in state.items() if text != whole[key]]
+            wrong += [it for it in flat.BANKS if pieces.get((when, it), {}) != part.get(it, {})]
+        wrong += (
+            [entry["name"]] if (case["name"], case["word"]) != (entry["name"], int(entry["word"], 16)) else []
+        )
+    return unless(not wrong, f"{name}: form 4 differs from form 1 in {wrong[:4]}")
+
+
+def machine_on(program: str, name: str) -> Any:
+    """A machine as the runner of README.md wants it, whose step is one of the program."""
+
+    class Rsp:
+        def __init__(self) -> None:
+            self.ram: Dict[int, int] = defaultdict(int)
+            self.rdram: Dict[int, int] = defaultdict(int)
+            self.pc = 0
+
+        def step(self) -> None:
+            memories: Dict[str, Dict[str, str]] = {"dmem": {}, "imem": {}}
+            memories["rdram"] = {f"{at:06x}": f"{byte:02x}" for at, byte in self.rdram.items()}
+            for at, byte in self.ram.items():
+                memories["imem" if at >= 4096 else "dmem"][f"{at % 4096:03x}"] = f"{byte:02x}"
+            word = int.from_bytes(bytes(self.ram[4096 + (self.pc + i) % 4096] for i in range(4)), "big")
+            case = (ROWS[name.lower()], word, {**texts_of(vars(self)), **memories})
+            (looks,) = bench.observe(program, [case])
+            vars(self).update(numbers_of(looks["after"]))
+            for bank, memory, start in (
+                ("dmem", self.ram, 0),
+                ("imem", self.ram, 4096),
+                ("rdram", self.rdram, bench.WINDOW),
+            ):
+                data = bytes.fromhex("".join(looks["after"].get(bank, [])))
+                memory.update({start + at: byte for at, byte in enumerate(data)})
+
+    return Rsp
+
+
+def told_by_runner(program: str, name: str, cases: Any) -> str:
+    """What the runner of README.md prints about cases, on the program."""
+    found = re.search(r"\n\n(    import json(?:\n|    .*\n)*)", (HERE / "README.md").read_text())
+    told = io.StringIO()
+    with tempfile.NamedTemporaryFile("w", suffix=".json") as file, contextlib.redirect_stdout(told):
+        json.dump(cases, file)
+        file.flush()
+        known = {"Rsp": machine_on(program, name), "FILE": file.name}
+        exec(re.sub("(?m)^    ", "", found[1] if found else "raise KeyError"), known)
+    return told.getvalue()
+
+
+def ten_lines_find(program: str, name: str) -> Iterator[Complaints]:
+    """That the runner of README.md passes an instruction's first cases on the program, and names each that is
+    spoilt.
+    """
+    cases = json.loads(full.full_text(entries_in(VECTORS, name)[:2]))
+    told = told_by_runner(program, name, cases)
+    yield unless(not told, f"the runner of README.md says of {name}: {told[:200]}")
+    for number, case in enumerate(cases):
+        if number % 2:
+            case["final"]["v"][31][7] ^= 1
+        else:
+            case["final"]["ram"][0][1] ^= 1
+    told = told_by_runner(program, name, cases)
+    right = told.count("\n") == len(cases) and all(case["name"] in told for case in cases)
+    yield unless(right, f"the runner of README.md says of spoilt cases of {name}: {told[:200]!r}")
+
+
+def checks(program: str) -> Iterator[Complaints]:
+    yield from refusals(program)
+    yield from regenerated(program)
+    names = [name for name in NAMES if has_cases(name)]
+    yield from (unless(name in names, f"{name}: it has no cases") for name in NAMES)
+    yield from outcomes_shown(names)
+    yield from map(full_is_the_same, names)
+    yield from map(flat_is_the_same, names)
+    for name in ("VADDC", "SQV", "MTC0", "BEQ"):
+        yield from ten_lines_find(program, name)
+    yield from spoilt_steps_found(program, names)
+    for name in names:
+        yield from runs_true(program, name)
+        yield from spoilt_program_found(name)
+
+
+def main() -> None:
+    words = reader("check", __doc__)
+    words.add_argument("--table", action="store_true", help="prints coverage.tsv")
+    words.add_argument("--reasons", action="store_true", help="prints the table of COVERAGE.md")
+    words.add_argument("program", nargs="?", metavar="PROGRAM", default=PROGRAM)
+    args = words.parse_args()
+    if args.table or args.reasons:
+        table = table_of({name: outcomes_of(name) for name in NAMES})
+        print(table if args.table else coverage.reasons(table), end="")
+    else:
+        sys.exit(counted(checks(os.path.abspath(args.program)), "FAIL "))
+
+
+if __name__ == "__main__":
+    main()

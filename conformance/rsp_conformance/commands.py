@@ -1,0 +1,33 @@
+"""What the commands share: how words are read, and how checks are counted and printed."""
+
+import argparse
+from typing import Iterable, List, Optional
+
+from rsp_conformance import TOP
+
+Complaints = List[str]  # of a check: it has passed if there are none
+PROGRAM = str(TOP / "rsp")
+
+
+def reader(name: str, doc: Optional[str]) -> argparse.ArgumentParser:
+    """A reader of a command's words, whose --help shows the module's text."""
+    raw = argparse.RawDescriptionHelpFormatter
+    return argparse.ArgumentParser(f"conformance/{name}", description=doc, formatter_class=raw)
+
+
+def unless(is_right: object, complaint: str) -> Complaints:
+    """A check with one complaint, if it isn't right."""
+    return [] if is_right else [complaint]
+
+
+def counted(checks: Iterable[Complaints], start: str = "") -> int:
+    """Prints the complaints of checks, and how many passed.
+
+    Returns the status: 0 if none failed and one passed.
+    """
+    passed = failed = 0
+    for found in checks:
+        print("".join(f"{start}{complaint}\n" for complaint in found), end="", flush=True)
+        passed, failed = passed + (not found), failed + bool(found)
+    print(f"{passed} passed, {failed} failed")
+    return int(failed > 0 or not passed)

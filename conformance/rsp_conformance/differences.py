@@ -1,0 +1,168 @@
+"""conformance/differences [--write | --take OUT | --cases PLUGIN [N [FILE]]]: makes Z64.md of a campaign's
+data. It fails if a sentence of the page isn't true of a case, or if the page isn't what the data gives.
+
+  (nothing)       compares Z64.md with the data, and each sentence with the cases in z64/cases.jsonl
+  --write         writes Z64.md
+  --take OUT      takes the data, z64/campaign.json, from a campaign's folder, and writes Z64.md
+  --cases PLUGIN  compares each sentence with N cases (84000) of each instruction on z64 itself, and writes
+                  some of them to FILE (z64/cases.jsonl)
+
+A sentence is beside a rule, in the package otherwise, that computes what z64 leaves of a case. A case in
+which it leaves something else is a failure. So is an instruction that differs and has no sentence, and a
+sentence about one that agrees. Some wrong rules are tried each time, and have to fail. The last line is `N
+passed, M failed`.
+"""
+
+import json
+import sys
+from collections import Counter
+from pathlib import Path
+from textwrap import fill
+from typing import Any, Dict, Iterator, List, Tuple
+
+from rsp_conformance import HERE
+from rsp_conformance.campaign import CampaignFault
+from rsp_conformance.commands import Complaints, counted, reader, unless
+from rsp_conformance.otherwise import PLANTED, RULES, Case, State, complaint, state_of
+from rsp_conformance.table import ROWS, fields_of
+
+Data = Dict[str, Any]
+
+DATA, CASES, PAGE = HERE / "z64/campaign.json", HERE / "z64/cases.jsonl", HERE / "Z64.md"
+MOST = 84000
+
+
+def take(out: Path) -> None:
+    """The data of a campaign's folder."""
+    from rsp_conformance.campaign.report import results_in, summary
+
+    given, lines = json.loads((out / "campaign.json").read_text()), summary(results_in(out))
+    lines.pop("program", None)
+    data = {"seed": given["seed"], "cases": given["cases"], "instructions": lines}
+    DATA.write_text(json.dumps(data, indent=1) + "\n")
+
+
+def sentences(data: Data) -> Iterator[Complaints]:
+    """An instruction that differs has a sentence, one that agrees none. Differences in choices need none."""
+    differ = {name for name, it in data["instructions"].items() if it["differ"] > it["choices"]}
+    named = [name for rule in RULES for name in rule.names]
+    for name in data["instructions"]:
+        right, has = name in differ, name in named
+        told = "differs, and no sentence says how" if right else "agrees, and a sentence says that it differs"
+        yield unless(right == has, f"{name.upper()} {told}")
+
+
+def share_of(it: Data, cases: int) -> str:
+    """How many of an instruction's cases differ; of how many, if not of all."""
+    shown = it["count"] - it["unshown"]
+    share = f"{100 * it['differ'] / max(1, shown):.3g} %"
+    of = f" of {shown}" if shown != cases else ""
+    return share + of + (f", {it['faults']} faults" if it["faults"] else "")
+
+
+def line_of(names: List[str], data: Data, sentence: str) -> str:
+    """The line of the instructions that have a sentence."""
+    rows = [data["instructions"][name] for name in names]
+    counts: Counter[str] = Counter()
+    for it in rows:
+        counts.update(it["parts"])
+    parts = ", ".join(part for part, _ in sorted(counts.items(), key=lambda pair: -pair[1]))
+    shares = ", ".join(share_of(it, data["cases"]) for it in rows)
+    first = ", ".join("`" + it["first"].split(" (")[0].split(":")[0] + "`" for it in rows)
+    return f"| {', '.join(names).upper()} | {sentence} | {shares} | {parts} | {first} |"
+
+
+def page_of(data: Data) -> str:
+    found = data["instructions"]
+    agree = [name.upper() for name, it in found.items() if not it["differ"]]
+    chosen = [name.upper() for name, it in found.items() if it["differ"] and it["differ"] == it["choices"]]
+    named: Dict[str, List[str]] = {}
+    for rule in RULES:
+        named.setdefault(rule.sentence, []).extend(name for name in rule.names if found[name]["differ"])
+    lines = [line_of(names, data, sentence) for sentence, names in named.items() if names]
+    return f"""# What z64 does otherwise
+
+For those who use z64, the low-level RSP of mupen64plus, or compare another emulator with it. Find here each instruction
+that differs from the [instruction table](../docs/INSTRUCTIONS.md), with a case that shows it. A difference doesn't say
+which of the two a console agrees with.
+
+A [campaign](../docs/CAMPAIGN.md) compared {data["cases"]} cases of each of {len(found)} instructions (seed `{data["seed"]}`) with Debian's
+mupen64plus-rsp-z64 2.5.9+10+ga7bf40f-2. `conformance/differences` makes this page of its data. The campaign compares
+all registers and memories. What z64 doesn't show is left out: whether the divider is loaded, and halted, broke and
+single step. `conformance/campaign plugin:FILE --case NAME` shows a case.
+
+The letters are those of the table. Beside each sentence a [rule](rsp_conformance/otherwise) computes what z64 leaves,
+and cases of each instruction are compared with it. The rest is as in the table.
+
+| Instruction | What z64 does | Cases that differ | In | First |
+|---|---|---|---|---|
+{chr(10).join(lines)}
+
+{len(agree)} instructions agree in every case:
+
+{fill(", ".join(agree), 120, initial_indent="    ", subsequent_indent="    ")}
+{f"{chr(10)}Of {', '.join(chosen)} every difference is in what [the vectors](README.md#what-they-cant-show) chose themselves.{chr(10)}" if chosen else ""}"""  # noqa: E501
+
+
+def cases() -> Dict[str, List[Tuple[Case, State]]]:
+    """The cases that are kept, by their instruction, each with what z64 leaves."""
+    found: Dict[str, List[Tuple[Case, State]]] = {}
+    for line in CASES.read_text().splitlines():
+        it = json.loads(line)
+        name, word = it["name"].split("-")[0].lower(), int(it["word"], 16)
+        before, table, got = (state_of(it[key]) for key in ("before", "table", "z64"))
+        case = Case(it["name"], word, fields_of(ROWS[name], word), before, table)
+        found.setdefault(name, []).append((case, got))
+    return found
+
+
+def compared(found: Dict[str, List[Tuple[Case, State]]]) -> Iterator[Complaints]:
+    """No case contradicts a sentence, and one contradicts each wrong one."""
+    for rule in RULES:
+        for name in rule.names:
+            told = [complaint(rule, case, got) for case, got in found.get(name, [])]
+            wrong = [it for it in told if it] if told else ["there is no case of it"]
+            yield unless(not wrong, f"{name.upper()}: {rule.sentence}: {''.join(wrong[:1])}")
+    for rule, name in ((rule, name) for rule in PLANTED for name in rule.names):
+        is_wrong = any(complaint(rule, case, got) for case, got in found[name])
+        yield unless(is_wrong, f"{name.upper()}: no case contradicts the wrong sentence: {rule.sentence}")
+
+
+def on_z64(plugin: str, count: str = str(MOST), file: str = str(CASES)) -> List[Complaints]:
+    """What is wrong in cases on z64 itself. Some of them go to a file."""
+    try:
+        from rsp_conformance.otherwise.taking import take as cases_of
+
+        return [[it] for it in cases_of(plugin, int(count), Path(file))]
+    except ValueError:
+        sys.exit(f"differences: {count} is no number of cases")
+    except (OSError, ImportError) as fault:
+        sys.exit(f"differences: it needs numpy and library/c/build: {fault}")
+    except CampaignFault as fault:
+        sys.exit(f"differences: {fault}")
+
+
+def main() -> None:
+    parser = reader("differences", __doc__)
+    words = parser.add_mutually_exclusive_group()
+    words.add_argument("--write", action="store_true")
+    words.add_argument("--take", type=Path, metavar="OUT")
+    words.add_argument("--cases", nargs="+", metavar="PLUGIN")
+    args = parser.parse_args()
+    if args.cases and len(args.cases) > 3:
+        parser.error("--cases takes PLUGIN [N [FILE]]")
+    failed = on_z64(*args.cases) if args.cases else []
+    try:
+        if args.take:
+            take(args.take)
+    except (OSError, ImportError, KeyError, ValueError, CampaignFault) as fault:
+        sys.exit(f"differences: {args.take} isn't a campaign's folder, or can't be read: {fault}")
+    data = json.loads(DATA.read_text())
+    if args.take or args.write:
+        PAGE.write_text(page_of(data))
+    page = unless(PAGE.read_text() == page_of(data), "Z64.md isn't what its data gives")
+    sys.exit(counted([*failed, *sentences(data), *compared(cases()), page], "FAIL "))
+
+
+if __name__ == "__main__":
+    main()

@@ -1,0 +1,100 @@
+"""conformance/generate [--full] [--flat] [--cases N] [--seed S] [--program PROGRAM] OUT [NAME..]: makes test
+vectors of instructions. It fails if the program doesn't know one of them.
+
+NAME is an instruction; without one all instructions are meant. It makes N cases of each (as many as the small
+set has: 20 to 40), from the seed S (1), on the program rsp (./rsp):
+  OUT/steps/NAME.jsonl                 one instruction a case: state before, state after
+  OUT/programs/NAME.json, NAME-K.imem, NAME-K.dmem, NAME-K.after   whole programs, with what they leave in
+                                                                   DMEM
+  OUT/full/NAME.json                   with --full: the cases of steps/, whole states of numbers before and
+                                       after
+  OUT/flat/NAME.bin                    with --flat: the cases of steps/, as rsp_state of rsp.h and bytes
+README.md beside this command says how they are read. The same N and S give the same files.
+"""
+
+import argparse
+import sys
+from concurrent.futures import ThreadPoolExecutor
+from pathlib import Path
+from typing import Callable, Dict, Iterator, List, Optional, Sequence, Tuple
+
+from rsp_conformance import bench, flat, full, play, steps
+from rsp_conformance.cases import small_count
+from rsp_conformance.commands import PROGRAM, reader
+from rsp_conformance.table import ROWS, Row
+
+SEED = "1"
+
+
+MORE: Dict[str, Tuple[str, Callable[[List[steps.Entry]], bytes]]] = {
+    "full": ("json", lambda entries: full.full_text(entries).encode()),
+    "flat": ("bin", flat.flat_bytes),
+}  # forms that are made of form 1: the suffix of a file, and what it holds
+
+
+def write_row(program: str, row: Row, seed: str, count: int, out: Path, more: Sequence[str]) -> None:
+    """Writes the files of an instruction."""
+    text, name = steps.row_text(program, row, seed, count), row.name.upper()
+    (out / "steps" / f"{name}.jsonl").write_text(text)
+    for form in more:
+        suffix, made = MORE[form]
+        (out / form / f"{name}.{suffix}").write_bytes(made(steps.read_row(text)))
+    for file, content in play.row_files(program, row, seed, count).items():
+        (out / "programs" / file).write_bytes(content)
+
+
+def generate(
+    program: str, rows: List[Row], seed: str, count: Optional[int], out: Path, more: Sequence[str] = ()
+) -> Iterator[str]:
+    """Writes the files of these instructions, of the small set if no count is given.
+
+    Yields a line for each instruction that the program doesn't know.
+    """
+    for name in ("steps", "programs", *more):
+        (out / name).mkdir(parents=True, exist_ok=True)
+    with ThreadPoolExecutor() as workers:
+        todo = [(program, row, seed, count or small_count(row), out, more) for row in rows]
+        made = [(it[1], workers.submit(write_row, *it)) for it in todo]
+        for row, task in made:
+            try:
+                task.result()
+            except bench.RspError as error:
+                yield f"{row.name.upper()}: {error}"
+
+
+def refusal_of(args: argparse.Namespace) -> Optional[str]:
+    """Why these words give nothing, as a sentence."""
+    if unknown := [name for name in args.names if name.lower() not in ROWS]:
+        return f"the instruction table has no {unknown[0]}"
+    if args.cases is not None and args.cases < 1:
+        return "--cases is 1 or more"
+    if args.out.lower() in ROWS:
+        how = f"write ./{args.out} for a folder of that name"
+        return f"{args.out} is an instruction, and the first word is the folder OUT ({how})"
+    return bench.refusal_of(args.program)
+
+
+def main() -> None:
+    words = reader("generate", __doc__)
+    words.add_argument("--full", action="append_const", const="full", dest="more", default=[])
+    words.add_argument("--flat", action="append_const", const="flat", dest="more")
+    words.add_argument("--cases", type=int)
+    words.add_argument("--seed", default=SEED)
+    words.add_argument("--program", default=PROGRAM)
+    words.add_argument("out")
+    words.add_argument("names", nargs="*", metavar="NAME")
+    args = words.parse_args()
+    if refusal := refusal_of(args):
+        sys.exit(f"generate: {refusal}")
+    rows = [ROWS[name.lower()] for name in args.names] or list(ROWS.values())
+    try:
+        errors = list(generate(args.program, rows, args.seed, args.cases, Path(args.out), args.more))
+    except OSError as fault:
+        sys.exit(f"generate: {fault.filename or args.out} can't be written: {fault.strerror}")
+    print(*errors, sep="\n", end="\n" * bool(errors))
+    print(f"{len(rows) - len(errors)} of {len(rows)} instructions, {args.cases or '20 to 40'} cases each")
+    sys.exit(1 if errors else 0)
+
+
+if __name__ == "__main__":
+    main()

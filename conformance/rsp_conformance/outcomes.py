@@ -1,0 +1,405 @@
+"""What can happen in a lane of a computing instruction, decided from the numbers that the lane reads.
+
+KINDS has the outcomes of each instruction, and IMPOSSIBLE those that its rule can't give. coverage.py counts
+them in the vectors, and aims.py makes lanes that have them.
+"""
+
+from collections import namedtuple
+from typing import Any, Callable, Dict, Iterable, Iterator, List, Tuple
+
+from rsp_conformance.states import Texts
+
+Number = Callable[[Any], Any]  # of a lane, or of a case
+# a, b: the operands, unsigned; sa, sb: signed. acc: signed. odd: whether vs has an odd number. e: the
+# element.
+Lane = namedtuple("Lane", "a b sa sb acc carry unequal compare clip extra odd e")
+# text: what happens. when: whether it does in a lane. result: what the lane's result is if it does; None if
+# the outcome doesn't say. group: what names it together with others in a table.
+Kind = namedtuple("Kind", "text when result group", defaults=(None, None))
+
+FLAGS = {
+    "carry": ("vco", 0),
+    "unequal": ("vco", 8),
+    "compare": ("vcc", 0),
+    "clip": ("vcc", 8),
+    "extra": ("vce", 0),
+}
+LIMIT = 1 << 47  # an accumulator is below it, and not below its opposite
+
+
+def signed(number: int) -> int:
+    return (number ^ 0x8000) - 0x8000
+
+
+def selected(element: int, lane: int) -> int:
+    """The lane that an element of a computing instruction takes for a lane."""
+    if element < 2:
+        return lane
+    if element < 4:
+        return lane // 2 * 2 + element - 2
+    if element < 8:
+        return lane // 4 * 4 + element - 4
+    return element - 8
+
+
+def lane_of(a: int, b: int, acc: int = 0, flags: Any = (0,) * 5, odd: bool = False, e: int = 0) -> Lane:
+    return Lane._make([a, b, signed(a), signed(b), acc, *flags, odd, e])
+
+
+def wrapped(number: int) -> int:
+    return (number + LIMIT) % (2 * LIMIT) - LIMIT
+
+
+# Of an accumulator: the least high part that is kept, what a smaller and a larger one give, and what is kept.
+Clamp = Tuple[int, int, int, Number]
+SIGNED: Clamp = (-32768, 0x8000, 0x7FFF, lambda acc: acc >> 16)
+UNSIGNED: Clamp = (0, 0, 0xFFFF, lambda acc: acc >> 16)
+LOW: Clamp = (-32768, 0, 0xFFFF, lambda acc: acc)
+
+
+def clamps(total: Number, clamp: Clamp) -> List[Kind]:
+    least, below, above, kept = clamp
+    return [
+        Kind(f"clamped up to {below:04x}", lambda it: wrapped(total(it)) >> 16 < least, lambda it: below),
+        Kind(f"clamped down to {above:04x}", lambda it: wrapped(total(it)) >> 16 > 32767, lambda it: above),
+        Kind(
+            "not clamped",
+            lambda it: least <= wrapped(total(it)) >> 16 <= 32767,
+            lambda it: kept(wrapped(total(it))),
+        ),
+    ]
+
+
+def signs(product: Number) -> List[Kind]:
+    return [
+        Kind("product below 0", lambda it: product(it) < 0),
+        Kind("product 0", lambda it: product(it) == 0),
+        Kind("product above 0", lambda it: product(it) > 0),
+    ]
+
+
+def wraps(total: Number) -> List[Kind]:
+    return [
+        Kind("wraps past the top", lambda it: total(it) >= LIMIT),
+        Kind("wraps past the bottom", lambda it: total(it) < -LIMIT),
+        Kind("doesn't wrap", lambda it: -LIMIT <= total(it) < LIMIT),
+    ]
+
+
+PRODUCTS: Dict[str, Tuple[Number, Clamp]] = {
+    "f": (lambda it: 2 * it.sa * it.sb, SIGNED),
+    "u": (lambda it: 2 * it.sa * it.sb, UNSIGNED),
+    "l": (lambda it: it.a * it.b >> 16, LOW),
+    "m": (lambda it: it.sa * it.b, SIGNED),
+    "n": (lambda it: it.a * it.sb, LOW),
+    "h": (lambda it: it.sa * it.sb << 16, SIGNED),
+}
+
+
+def multiply(letter: str) -> List[Kind]:
+    product, clamp = PRODUCTS[letter]
+    rounding = 32768 if letter in "fu" else 0
+    return [*clamps(lambda it: product(it) + rounding, clamp), *signs(product)]
+
+
+def multiply_and_add(letter: str) -> List[Kind]:
+    product, clamp = PRODUCTS[letter]
+
+    def total(it: Lane) -> Any:
+        return it.acc + product(it)
+
+    return [*clamps(total, clamp), *signs(product), *wraps(total)]
+
+
+def rounding(negative: bool) -> List[Kind]:
+    """VRNDP (of accumulators that aren't negative) and VRNDN."""
+
+    def total(it: Lane) -> Any:
+        return it.acc + (it.sb << 16 * it.odd) if (it.acc < 0) == negative else it.acc
+
+    return [
+        Kind("b is added", lambda it: (it.acc < 0) == negative and not it.odd),
+        Kind("b times 65536 is added", lambda it: (it.acc < 0) == negative and it.odd),
+        Kind("the accumulator is kept", lambda it: (it.acc < 0) != negative),
+        *clamps(total, SIGNED),
+        *wraps(total),
+    ]
+
+
+def halves(number: Number) -> List[Kind]:
+    """The results of VMULQ and VMACQ: half of a number, clamped, and its low four bits cleared."""
+    return [
+        Kind("half clamped up to 8000", lambda it: number(it) >> 1 < -32768, lambda it: 0x8000),
+        Kind("half clamped down to 7fff", lambda it: number(it) >> 1 > 32767, lambda it: 0x7FF0),
+        Kind(
+            "half not clamped",
+            lambda it: -32768 <= number(it) >> 1 <= 32767,
+            lambda it: number(it) >> 1 & 0xFFF0,
+        ),
+    ]
+
+
+def quantised(it: Lane) -> Any:
+    return it.sa * it.sb + (31 if it.sa * it.sb < 0 else 0)
+
+
+def oddified(it: Lane) -> Any:
+    p = it.acc >> 16
+    return p if p & 32 else p + 32 if p < 0 else p - 32 if p >= 32 else p
+
+
+ODDIFYING = [
+    Kind("bit 5 is set", lambda it: it.acc >> 16 & 32),
+    Kind("32 is added", lambda it: not it.acc >> 16 & 32 and it.acc < 0),
+    Kind("32 is taken away", lambda it: not it.acc >> 16 & 32 and it.acc >> 16 >= 32),
+    Kind("below 32, and kept", lambda it: 0 <= it.acc >> 16 < 32),
+]
+
+
+def sums(number: Number) -> List[Kind]:
+    """VADD and VSUB."""
+    return [
+        Kind("clamped up to 8000", lambda it: number(it) < -32768, lambda it: 0x8000),
+        Kind("clamped down to 7fff", lambda it: number(it) > 32767, lambda it: 0x7FFF),
+        Kind("not clamped, carry clear", lambda it: -32768 <= number(it) <= 32767 and not it.carry, number),
+        Kind("not clamped, carry set", lambda it: -32768 <= number(it) <= 32767 and it.carry, number),
+    ]
+
+
+ABSOLUTE = [
+    Kind("a below 0", lambda it: it.sa < 0 and it.b != 0x8000, lambda it: -it.b),
+    Kind("a below 0, b 8000", lambda it: it.sa < 0 and it.b == 0x8000, lambda it: 0x7FFF),
+    Kind("a 0", lambda it: it.a == 0, lambda it: 0),
+    Kind("a above 0", lambda it: it.sa > 0, lambda it: it.b),
+]
+ADD_CARRY = [
+    Kind("carry becomes set", lambda it: it.a + it.b > 65535, lambda it: it.a + it.b),
+    Kind("carry becomes clear", lambda it: it.a + it.b <= 65535, lambda it: it.a + it.b),
+]
+SUBTRACT_CARRY = [
+    Kind("a below b: carry, not-equal", lambda it: it.a < it.b, lambda it: it.a - it.b),
+    Kind("a equals b: neither", lambda it: it.a == it.b, lambda it: 0),
+    Kind("a above b: not-equal", lambda it: it.a > it.b, lambda it: it.a - it.b),
+]
+
+
+def a_of(it: Lane) -> Any:
+    return it.a
+
+
+def b_of(it: Lane) -> Any:
+    return it.b
+
+
+def minus_b(it: Lane) -> Any:
+    return -it.b
+
+
+def ordered(less: Number, equal_and_both: Number, equal: Number, greater: Number) -> List[Kind]:
+    """VLT and VGE, by the operand that each outcome gives."""
+    return [
+        Kind("a below b", lambda it: it.sa < it.sb, less),
+        Kind("equal, both flags", lambda it: it.a == it.b and it.carry and it.unequal, equal_and_both),
+        Kind("equal, carry alone", lambda it: it.a == it.b and it.carry and not it.unequal, equal),
+        Kind("equal, not-equal alone", lambda it: it.a == it.b and not it.carry and it.unequal, equal),
+        Kind("equal, no flag", lambda it: it.a == it.b and not it.carry and not it.unequal, equal),
+        Kind("a above b", lambda it: it.sa > it.sb, greater),
+    ]
+
+
+def equality(true_if_equal: bool) -> List[Kind]:
+    """VEQ and VNE."""
+    equal, differs = (a_of, b_of) if true_if_equal else (b_of, a_of)
+    return [
+        Kind("equal, not-equal clear", lambda it: it.a == it.b and not it.unequal, equal),
+        Kind("equal, not-equal set", lambda it: it.a == it.b and it.unequal, differs),
+        Kind("differs, not-equal clear", lambda it: it.a != it.b and not it.unequal, differs),
+        Kind("differs, not-equal set", lambda it: it.a != it.b and it.unequal, differs),
+    ]
+
+
+def with_flags(carry: int, unequal: int) -> Number:
+    return lambda it: (it.carry, it.unequal) == (carry, unequal)
+
+
+def kinds_if(condition: Number, start: str, kinds: Iterable[Kind]) -> List[Kind]:
+    """Outcomes of those lanes alone that a condition holds of."""
+    return [
+        Kind(f"{start}{kind.text}", lambda it, when=kind.when: condition(it) and when(it), kind.result)
+        for kind in kinds
+    ]
+
+
+def total_of(it: Lane) -> Any:
+    return it.a + it.b
+
+
+def parts_of_sum(*parts: Any) -> List[Kind]:
+    return [Kind(text, lambda it, when=when: when(total_of(it)), result) for text, when, result in parts]
+
+
+BY_COMPARE = [
+    Kind("compare set", lambda it: it.compare, minus_b),
+    Kind("compare clear", lambda it: not it.compare, a_of),
+]
+BY_CLIP = [Kind("clip set", lambda it: it.clip, b_of), Kind("clip clear", lambda it: not it.clip, a_of)]
+WITH_EXTRA = parts_of_sum(
+    ("sum 0", lambda n: n == 0, minus_b),
+    ("sum 1 to 65535", lambda n: 0 < n < 65536, minus_b),
+    ("sum 65536", lambda n: n == 65536, minus_b),
+    ("sum above 65536", lambda n: n > 65536, a_of),
+)
+WITHOUT_EXTRA = parts_of_sum(
+    ("sum 0", lambda n: n == 0, minus_b),
+    ("sum 65536", lambda n: n == 65536, a_of),
+    ("another sum", lambda n: n not in (0, 65536), a_of),
+)
+BY_ORDER = [
+    Kind("a above b", lambda it: it.a > it.b, b_of),
+    Kind("equal", lambda it: it.a == it.b, b_of),
+    Kind("a below b", lambda it: it.a < it.b, a_of),
+]
+CLIP_LOW = [
+    *kinds_if(with_flags(1, 1), "carry, not-equal: ", BY_COMPARE),
+    *kinds_if(lambda it: with_flags(1, 0)(it) and it.extra, "carry, extra: ", WITH_EXTRA),
+    *kinds_if(lambda it: with_flags(1, 0)(it) and not it.extra, "carry, no extra: ", WITHOUT_EXTRA),
+    *kinds_if(with_flags(0, 1), "not-equal: ", BY_CLIP),
+    *kinds_if(with_flags(0, 0), "no flag: ", BY_ORDER),
+]
+
+
+def borders(condition: Number, start: str, number: Number, kinds: Iterable[Any]) -> List[Kind]:
+    """Outcomes by where a number is. Each of `kinds` is a text, a condition of the number, and the result."""
+    return kinds_if(
+        condition,
+        start,
+        [Kind(text, lambda it, when=when: when(number(it)), result) for text, when, result in kinds],
+    )
+
+
+DIFFERENCES = (
+    ("a below b", lambda n: n < 0, a_of),
+    ("a equals b", lambda n: n == 0, b_of),
+    ("a above b", lambda n: n > 0, b_of),
+)
+
+
+def with_signs(differ: bool, below: bool) -> Number:
+    return lambda it: ((it.sa < 0) != (it.sb < 0)) == differ and (it.sb < 0) == below
+
+
+def clip_by_signs(shift: int, sums: Iterable[Any]) -> List[Kind]:
+    """VCH and VCR: by the signs of a and b, and by their sum (plus `shift`) or their difference."""
+    kinds: List[Kind] = []
+    for text, below in (("b below 0", True), ("b not below 0", False)):
+        apart, alike = with_signs(True, below), with_signs(False, below)
+        kinds += borders(apart, f"signs differ, {text}, ", lambda it: it.sa + it.sb + shift, sums)
+        kinds += borders(alike, f"signs agree, {text}, ", lambda it: it.sa - it.sb, DIFFERENCES)
+    return kinds
+
+
+CLIP_HIGH = clip_by_signs(
+    0,
+    (
+        ("sum below -1", lambda n: n < -1, minus_b),
+        ("sum -1", lambda n: n == -1, minus_b),
+        ("sum 0", lambda n: n == 0, minus_b),
+        ("sum above 0", lambda n: n > 0, a_of),
+    ),
+)
+CLIP_CRIMP = clip_by_signs(
+    1,
+    (
+        ("sum + 1 below 0", lambda n: n < 0, lambda it: ~it.b),
+        ("sum + 1 is 0", lambda n: n == 0, lambda it: ~it.b),
+        ("sum + 1 above 0", lambda n: n > 0, a_of),
+    ),
+)
+MERGE = [
+    Kind("compare set", lambda it: it.compare, a_of),
+    Kind("compare clear", lambda it: not it.compare, b_of),
+]
+
+
+def bits(operation: Callable[[int, int], int]) -> List[Kind]:
+    """The logic instructions: each pair of bits."""
+    return [
+        Kind(
+            f"bits {x} and {y}",
+            lambda it, x=x, y=y: (it.a ^ x - 1) & (it.b ^ y - 1) & 0xFFFF,
+            lambda it: operation(it.a, it.b),
+        )
+        for x in (0, 1)
+        for y in (0, 1)
+    ]
+
+
+READING = [
+    Kind("the high part", lambda it: it.e == 8, lambda it: it.acc >> 32),
+    Kind("the middle part", lambda it: it.e == 9, lambda it: it.acc >> 16),
+    Kind("the low part", lambda it: it.e == 10, lambda it: it.acc),
+    Kind("no part", lambda it: it.e not in (8, 9, 10), lambda it: 0),
+]
+
+KINDS: Dict[str, List[Kind]] = {
+    **{f"vmul{letter}": multiply(letter) for letter in "fu"},
+    **{f"vmud{letter}": multiply(letter) for letter in "lmnh"},
+    **{f"vmac{letter}": multiply_and_add(letter) for letter in "fu"},
+    **{f"vmad{letter}": multiply_and_add(letter) for letter in "lmnh"},
+    "vrndp": rounding(False),
+    "vrndn": rounding(True),
+    "vmulq": [*signs(lambda it: it.sa * it.sb), *halves(quantised)],
+    "vmacq": [*ODDIFYING, *halves(oddified)],
+    "vsar": READING,
+    "vadd": sums(lambda it: it.sa + it.sb + it.carry),
+    "vsub": sums(lambda it: it.sa - it.sb - it.carry),
+    "vabs": ABSOLUTE,
+    "vaddc": ADD_CARRY,
+    "vsubc": SUBTRACT_CARRY,
+    "vlt": ordered(a_of, a_of, b_of, b_of),
+    "vge": ordered(b_of, b_of, a_of, a_of),
+    "veq": equality(True),
+    "vne": equality(False),
+    "vcl": CLIP_LOW,
+    "vch": CLIP_HIGH,
+    "vcr": CLIP_CRIMP,
+    "vmrg": MERGE,
+    "vand": bits(lambda a, b: a & b),
+    "vnand": bits(lambda a, b: ~(a & b)),
+    "vor": bits(lambda a, b: a | b),
+    "vnor": bits(lambda a, b: ~(a | b)),
+    "vxor": bits(lambda a, b: a ^ b),
+    "vnxor": bits(lambda a, b: ~(a ^ b)),
+}
+
+FITS = "the product fits into 32 bits, one of them its sign"
+IMPOSSIBLE = {
+    ("vmulf", "clamped up to 8000"): "the least accumulator, of 8000 by 7fff, is above -32768 times 65536",
+    ("vmudl", "clamped up to 0000"): "the accumulator is 0 to fffe",
+    ("vmudl", "clamped down to ffff"): "the accumulator is 0 to fffe",
+    ("vmudl", "product below 0"): "both operands are unsigned",
+    ("vmudm", "clamped up to 8000"): FITS,
+    ("vmudm", "clamped down to 7fff"): FITS,
+    ("vmudn", "clamped up to 0000"): FITS,
+    ("vmudn", "clamped down to ffff"): FITS,
+    ("vmadl", "product below 0"): "both operands are unsigned",
+    ("vmadl", "wraps past the bottom"): "what is added isn't below 0",
+    ("vrndp", "wraps past the bottom"): "b is added to an accumulator that isn't below 0",
+    ("vrndn", "wraps past the top"): "b is added to an accumulator below 0",
+}
+
+
+def possible(name: str) -> List[Kind]:
+    """The outcomes that an instruction can give."""
+    return [kind for kind in KINDS.get(name, ()) if (name, kind.text) not in IMPOSSIBLE]
+
+
+def lanes_of(fields: Dict[str, int], before: Texts) -> Iterator[Lane]:
+    """What each lane of a case reads: `before` is a whole state, of texts."""
+    vs, vt = (before[f"v{fields[name]}"] for name in ("vs", "vt"))
+    flags = [int(before[key], 16) >> shift for key, shift in FLAGS.values()]
+    for lane in range(8):
+        from_lane = selected(fields["e"], lane)
+        acc = wrapped(int(before[f"a{lane}"], 16))
+        a, b = int(vs[4 * lane :][:4], 16), int(vt[4 * from_lane :][:4], 16)
+        yield lane_of(a, b, acc, [flag >> lane & 1 for flag in flags], fields["vs"] % 2 == 1, fields["e"])

@@ -1,0 +1,358 @@
+"""Form 2: whole programs for machines that can only run microcode. Each holds many cases of one instruction,
+and stores what they left.
+
+This file writes their text and their data; play.py runs them.
+"""
+
+import copy
+from typing import Any, Callable, Dict, Iterator, List, Tuple
+
+from rsp_conformance import bench
+from rsp_conformance.bench import ONES_DATA, accumulator_data, accumulator_program
+from rsp_conformance.cases import WINDOW_LENGTH, WRAPPING, Case, make_case
+from rsp_conformance.draws import Random
+from rsp_conformance.table import Row, uses_memory, word_of
+
+Layout = List[Tuple[str, int, int]]  # the fields that a case stores: what, offset, length
+
+MEMORY = 4096
+ONES = 16  # the address of the numbers that a program sets its accumulators with
+# Bytes 0 to 15 and those from WRAPPING on are the window of a case that wraps.
+FIRST_FREE, END_OF_FREE = 32, WRAPPING
+LAST_WORD = 1016  # a case that would pass it goes to the next program
+
+JUMPS = ("branch one", "branch two", "jump", "jump register", "link register")
+SP_MOVES = ("from sp", "to sp")
+STATUS_SIGNALS = 0x7F80
+CONTROLS = ("vco", "vcc", "vce")
+
+
+class Full(Exception):
+    """A case for which a program has no room."""
+
+
+class Program:
+    """A program in the making: the lines of its text, its data, and its cases."""
+
+    def __init__(self) -> None:
+        self.lines: List[str] = []
+        self.places = 0  # the words that the lines make
+        self.data = bytearray(MEMORY)
+        self.data[ONES : ONES + 16] = bytes.fromhex(ONES_DATA)
+        self.free = FIRST_FREE
+        self.cases: List[Dict[str, Any]] = []
+        self.layouts: Dict[str, Layout] = {}
+        self.wrapped = False
+
+    def copy(self) -> "Program":
+        made = copy.copy(self)
+        made.lines, made.data, made.cases = [*self.lines], bytearray(self.data), [*self.cases]
+        made.layouts = {**self.layouts}
+        return made
+
+    def emit(self, *lines: str) -> None:
+        self.lines += lines
+        self.places += sum(1 for line in lines if not line.endswith(":"))
+
+    def take(self, length: int, alignment: int) -> int:
+        """The address of so many bytes of DMEM."""
+        at = (self.free + alignment - 1) // alignment * alignment
+        if at + length > END_OF_FREE:
+            raise Full
+        self.free = at + length
+        return at
+
+    def put(self, text: str, alignment: int = 4) -> int:
+        """Puts bytes into the data, and returns their address."""
+        at = self.take(len(text) // 2, alignment)
+        self.data[at : at + len(text) // 2] = bytes.fromhex(text)
+        return at
+
+    def window(self, wrapping: bool) -> int:
+        """The address of the memory of a case that loads or stores.
+
+        One case of a program has the one that wraps.
+        """
+        if not wrapping or self.wrapped:
+            return self.take(WINDOW_LENGTH, 16)
+        self.wrapped = True
+        return WRAPPING
+
+    def layout(self, fields: Layout) -> str:
+        """The name of a layout."""
+        known = next((name for name, it in self.layouts.items() if it == fields), None)
+        name = known or f"L{len(self.layouts)}"
+        self.layouts[name] = fields
+        return name
+
+    def test(self, case: Case, word: int) -> None:
+        """Emits the word that a case is about."""
+        case.place, case.word = 4 * self.places, word
+        self.emit(f".word 0x{word:08x}")
+
+    def close(self, case: Case, at: int, fields: Layout) -> None:
+        what = {"name": case.name, "pc": f"{case.place:03x}", "word": f"{case.word:08x}", "text": ""}
+        entry = {**what, "at": f"{at:03x}", "layout": self.layout(fields)}
+        if case.choice and case.row.form not in (
+            *JUMPS,
+            *SP_MOVES,
+            "break",
+        ):  # what these choose can't be seen here
+            entry["choice"] = case.choice
+        self.cases.append(entry)
+
+
+class Saved:
+    """What a case leaves in DMEM: fields one after the other from an address on."""
+
+    def __init__(self, program: Program, vectors: int = 0, halves: int = 0, words: int = 0) -> None:
+        self.program, self.fields = program, []  # type: Program, Layout
+        length = 16 * vectors + (2 * halves + 3) // 4 * 4 + 4 * words
+        self.start = self.at = program.take(length, 16 if vectors else 4)
+
+    def field(self, what: str, length: int) -> int:
+        """The address of the next field."""
+        at = self.at
+        self.fields.append((what, at - self.start, length))
+        self.at += length
+        return at
+
+    def vector(self, what: str, register: str) -> None:
+        self.program.emit(f"sqv ${register}[0], {self.field(what, 16) - self.start}($1)")
+
+    def half(self, what: str) -> None:
+        self.program.emit(f"sh $2, {self.field(what, 2)}($0)")
+
+    def word(self, what: str, register: int) -> None:
+        self.program.emit(f"sw ${register}, {self.field(what, 4)}($0)")
+
+    def flags(self) -> None:
+        for control in CONTROLS:
+            self.program.emit(f"cfc2 $2, ${control}")
+            self.half(control)
+
+
+def keys(case: Case, letter: str) -> List[str]:
+    """The scalar or vector registers that a case names."""
+    return [key for key in case.before if key[0] == letter and key[1:].isdigit()]
+
+
+def set_up(program: Program, case: Case) -> None:
+    """Sets what a case names: divider, accumulators and flags if it names them, then its registers."""
+    before = {**bench.DEFAULT, **case.before}
+    if "divided" in case.before:
+        loaded = before["in"] if before["loaded"] == "1" else "0000"
+        at = program.put(before["divided"] + loaded + "0" * 20, 16)
+        program.emit(
+            f"addiu $1, $0, {at}", "lqv $v1[0], 0($1)", "vrcph $v2[0], $v1[0]", "vrcpl $v2[0], $v1[1]"
+        )
+        if before["loaded"] == "1":
+            program.emit("vrcph $v2[0], $v1[2]")
+    if "a0" in case.before:
+        at = program.put("".join(accumulator_data(before[f"a{lane}"] for lane in range(8))), 16)
+        program.emit(f"addiu $1, $0, {at}", *accumulator_program("$v1", "$v3", "$1", "$0", 0, ONES))
+    if "vco" in case.before:
+        at = program.put(before["vco"] + before["vcc"] + "00" + before["vce"] + "0000")
+        for number, control in enumerate(CONTROLS):
+            program.emit(f"lhu $1, {at + 2 * number}($0)", f"ctc2 $1, ${control}")
+    if registers := keys(case, "v"):
+        at = program.put("".join(before[key] for key in registers), 16)
+        program.emit(
+            f"addiu $1, $0, {at}", *(f"lqv ${key}[0], {16 * i}($1)" for i, key in enumerate(registers))
+        )
+    set_scalars(program, case)
+
+
+def set_scalars(program: Program, case: Case) -> None:
+    for key in keys(case, "r"):
+        program.emit(f"lw ${key[1:]}, {program.put(case.before[key])}($0)")
+
+
+def begun(program: Program, case: Case, vectors: int = 0, halves: int = 0, words: int = 0) -> Saved:
+    """Sets a case up, executes its word, and takes room for what it leaves. $1 has the address of vectors."""
+    for address, text in case.before.get("dmem", {}).items():
+        program.data[int(address, 16) : int(address, 16) + len(text) // 2] = bytes.fromhex(text)
+    set_up(program, case)
+    program.test(case, case.word)
+    saved = Saved(program, vectors, halves, words)
+    if vectors:
+        program.emit(f"addiu $1, $0, {saved.start}")
+    return saved
+
+
+def add_computing(program: Program, case: Case) -> None:
+    """A case of a computing instruction: its result, accumulators, flags, and of a divide instruction the
+    divider.
+    """
+    has_result, is_vector = case.row.form != "nothing", case.row.form == "vector"
+    saved = begun(program, case, 3 + has_result, 3 if is_vector else 5)
+    if has_result:
+        saved.vector("result", f"v{case.fields['vd']}")
+    for element, part in enumerate(("high", "middle", "low")):
+        program.emit(f"vsar $v1, $v0, $v0[{element}]")
+        saved.vector(f"accumulator {part}", "v1")
+    saved.flags()
+    if not is_vector:
+        save_divider(program, case, saved)
+    program.close(case, saved.start, saved.fields)
+
+
+def save_divider(program: Program, case: Case, saved: Saved) -> None:
+    """What can be seen of the divider: DIV_OUT by VRCPH; or, since that loads, what is loaded, by the next
+    VRCPL of 1.
+    """
+    program.emit("addiu $2, $0, 1", "mtc2 $2, $v2[0]")
+    if int(case.name[-1]) % 2 == 0:
+        program.emit("vrcph $v1[0], $v2[0]", "mfc2 $2, $v1[0]")
+        saved.half("DIV_OUT")
+    else:
+        program.emit("vrcpl $v1[0], $v2[0]", "vrcph $v1[1], $v2[0]", "mfc2 $2, $v1[2]")
+        saved.half("next VRCPL of 1, high")
+        program.emit("mfc2 $2, $v1[0]")
+        saved.half("next VRCPL of 1, low")
+
+
+def add_register(program: Program, case: Case) -> None:
+    """A case whose result is one scalar register."""
+    saved = begun(program, case, words=1)
+    name = "d" if case.row.form in ("shift", "three") else "t"
+    saved.word(f"register r{name}", case.fields[name])
+    program.close(case, saved.start, saved.fields)
+
+
+def add_to_vector(program: Program, case: Case) -> None:
+    saved = begun(program, case, vectors=1)
+    saved.vector("register", f"v{case.fields['vd']}")
+    program.close(case, saved.start, saved.fields)
+
+
+def add_to_control(program: Program, case: Case) -> None:
+    saved = begun(program, case, halves=3)
+    saved.flags()
+    program.close(case, saved.start, saved.fields)
+
+
+def add_store(program: Program, case: Case) -> None:
+    begun(program, case)
+    program.close(case, case.window, [("memory", 0, WINDOW_LENGTH)])
+
+
+def add_vector_load(program: Program, case: Case) -> None:
+    registers = keys(case, "v")
+    saved = begun(program, case, vectors=len(registers))
+    for number, register in enumerate(registers):
+        saved.vector("register" if len(registers) == 1 else f"register {number} of the group", register)
+    program.close(case, saved.start, saved.fields)
+
+
+def add_jump(program: Program, case: Case) -> None:
+    """A branch or jump, forward or backward. The path that was taken is a number that its steps add up."""
+    fields, row = case.fields, case.row
+    by_register = row.form in ("jump register", "link register")
+    if by_register and fields["s"] == 0:
+        fields["s"] = 5  # register 0 can't hold the target
+    used = {fields.get("s"), fields.get("t"), fields.get("d"), 31, 0}
+    path = next(number for number in range(1, 32) if number not in used)
+    backward, label = int(case.name[-1]) % 2 == 1, case.name.lower().replace("-", "")
+    setting = {*keys(case, "r")} | ({f"r{fields['s']}"} if by_register else set())
+    program.emit(f"addiu ${path}, $0, 0")
+    # The words that come before the test: those that load, and those of a backward jump's target.
+    place = 4 * (program.places + len(setting) + (5 if backward else 0))
+    target = place - 12 if backward else place + 12
+    if by_register:
+        key = f"r{fields['s']}"
+        case.before[key] = f"{int(case.before.get(key, '0'), 16) & 0xFFFFF003 | target:08x}"
+    set_scalars(program, case)
+    if backward:
+        program.emit(f"beq $0, $0, {label}over", "nop", f"addiu ${path}, ${path}, 4")
+        program.emit(f"beq $0, $0, {label}out", "nop", f"{label}over:")
+    program.test(case, word_of(row, {**fields, "imm": (target - place - 4) // 4, "target": target // 4}))
+    program.emit(f"addiu ${path}, ${path}, 1", f"addiu ${path}, ${path}, 2", f"{label}out:")
+    links = row.name == "jal" or row.name.endswith("zal") or row.form == "link register"
+    saved = Saved(program, words=1 + links)
+    saved.word("path", path)
+    if links:
+        saved.word("link", fields["d"] if row.form == "link register" else 31)
+    program.close(case, saved.start, saved.fields)
+
+
+SP_WORDS = {0: "SP_MEM_ADDR", 1: "SP_DRAM_ADDR", 4: "signals of SP_STATUS", 7: "SP_SEMAPHORE"}
+
+
+def add_sp(program: Program, case: Case) -> None:
+    """MFC0 and MTC0 of the registers that don't start anything: the addresses of a DMA, the signals, the
+    semaphore.
+    """
+    number, random = int(case.name[-3:]), Random("sp", case.name)
+    c, value, t = (0, 1, 4, 7)[number % 4], random.below(1 << 32), case.fields["t"] or 5
+    if c == 4:
+        value &= 0x1FFFE00  # a clear and a set bit for each signal
+    word = word_of(case.row, {"c": c, "t": t})
+    program.emit(f"lw ${t}, {program.put(f'{value:08x}')}($0)")
+    if case.row.form == "to sp":
+        program.test(case, word)
+        program.emit(f"mfc0 ${t}, $c{c}")
+    else:
+        program.emit(f"mtc0 ${t}, $c{c}")
+        if c == 7 and number % 8 == 7:
+            program.emit("mfc0 $0, $c7")
+        program.test(case, word)
+    if c == 4:
+        program.emit(f"andi ${t}, ${t}, 0x{STATUS_SIGNALS:x}")
+    saved = Saved(program, words=1)
+    saved.word(SP_WORDS[c], t)
+    program.close(case, saved.start, saved.fields)
+
+
+def add_break(program: Program, case: Case) -> None:
+    """BREAK ends its program: what follows it isn't executed. In the second program it is in a delay slot."""
+    saved = Saved(program, words=2)
+    program.emit("addiu $2, $0, 1", "addiu $3, $0, 2")
+    saved.word("before", 2)
+    if int(case.name[-3:]) % 2:
+        program.emit("beq $0, $0, target")
+    program.test(case, case.word)
+    program.emit("nop", "target:")
+    saved.word("behind, not stored", 3)
+    program.close(case, saved.start, saved.fields)
+
+
+ADDERS: Dict[str, Callable[[Program, Case], None]] = {
+    **dict.fromkeys(("vector", "lane", "nothing"), add_computing),
+    **dict.fromkeys(
+        ("shift", "three", "immediate", "upper", "from vector", "from control", "load"), add_register
+    ),
+    "to vector": add_to_vector,
+    "to control": add_to_control,
+    **dict.fromkeys(("store", "vector store"), add_store),
+    "vector load": add_vector_load,
+    **dict.fromkeys(JUMPS, add_jump),
+    **dict.fromkeys(SP_MOVES, add_sp),
+    "break": add_break,
+}
+
+
+def with_case(program: Program, row: Row, seed: str, number: int) -> Program:
+    """The program with a case more."""
+    program = program.copy()
+    window = program.window(number % 4 == 3) if uses_memory(row) else 0
+    case = make_case(row, seed, number, window)
+    case.window = window
+    ADDERS[row.form](program, case)
+    if program.places > LAST_WORD:
+        raise Full
+    return program
+
+
+def programs_of(row: Row, seed: str, count: int) -> Iterator[Program]:
+    """The programs that hold the cases of an instruction. A BREAK ends its own."""
+    program = Program()
+    for number in range(min(count, 2) if row.form == "break" else count):
+        try:
+            if row.form == "break" and program.cases:
+                raise Full
+            program = with_case(program, row, seed, number)
+        except Full:
+            yield program
+            program = with_case(Program(), row, seed, number)
+    yield program

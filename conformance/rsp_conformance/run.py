@@ -1,0 +1,57 @@
+"""conformance/run [--program PROGRAM] [FOLDER] [NAME..]: runs test vectors on the program rsp (./rsp), and
+names what differs. It fails if a state does.
+
+FOLDER is one that `conformance/generate` made (vectors/ beside this command). NAME is an instruction; without
+one all instructions of FOLDER are run. The last line is `N passed, M failed`, of cases and of whole programs.
+The status is 0 if none failed and one passed. This is also an example of a runner: one for another machine
+replaces bench.py alone.
+"""
+
+import sys
+from pathlib import Path
+from typing import Iterator, List
+
+from rsp_conformance import bench, play, steps
+from rsp_conformance.commands import PROGRAM, Complaints, counted, reader
+from rsp_conformance.vectors import VECTORS, VectorsFault, entries_in, manifest_in, names_in
+
+
+def run_row(program: str, folder: Path, name: str) -> Iterator[Complaints]:
+    """The complaints of each case and each program of an instruction."""
+    try:
+        yield from steps.run_entries(program, entries_in(folder, name))
+        yield from play.run_manifest(program, manifest_in(folder, name), folder / "programs")
+    except bench.RspError as fault:
+        raise VectorsFault(f"{name}: {fault}") from None
+    except OSError as fault:
+        raise VectorsFault(f"{fault.filename or folder} can't be read: {fault.strerror}") from None
+    except (ValueError, KeyError, TypeError, IndexError) as fault:
+        what = f"{type(fault).__name__} {fault}"
+        raise VectorsFault(f"{name}: one of its cases or programs isn't one: {what}") from None
+
+
+def run_rows(program: str, folder: Path, names: List[str]) -> Iterator[Complaints]:
+    for name in names:
+        yield from run_row(program, folder, name)
+
+
+def main() -> None:
+    words = reader("run", __doc__)
+    words.add_argument("--program", default=PROGRAM)
+    words.add_argument("folder", nargs="?", type=Path, default=VECTORS)
+    words.add_argument("names", nargs="*", metavar="NAME")
+    args = words.parse_args()
+    try:
+        names = names_in(args.folder, args.names)
+        if refusal := bench.refusal_of(args.program):
+            raise VectorsFault(refusal)
+        found = [*run_rows(args.program, args.folder, names)]
+        if not found:
+            raise VectorsFault(f"{args.folder} has no case")
+    except VectorsFault as fault:
+        sys.exit(f"run: {fault}")
+    sys.exit(counted(found))
+
+
+if __name__ == "__main__":
+    main()

@@ -1,0 +1,132 @@
+"""Form 1: cases of one instruction each, as lines of JSON, a file for each instruction."""
+
+import json
+from typing import Any, Dict, Iterable, Iterator, List
+
+from rsp_conformance import bench
+from rsp_conformance.bench import Looks
+from rsp_conformance.cases import Case, make_case
+from rsp_conformance.states import Texts
+from rsp_conformance.table import ROWS, Row
+
+Entry = Dict[str, Any]  # a case as a file has it
+
+
+def checked_before(case: Case, look: Texts) -> Texts:
+    """The state before a case as the machine shows it, which has to be the one that was to be set."""
+    before = dict(case.before)
+    if "divided" in before:
+        before["out"] = look["out"]
+    for key in bench.DEFAULT:
+        if look[key] != (wanted := before.get(key, bench.DEFAULT[key])):
+            raise bench.RspError(f"{case.name}: {key} was to be {wanted}, and is {look[key]}")
+    return {key: value for key, value in before.items() if value != bench.DEFAULT.get(key)}
+
+
+def entry_of(case: Case, found: Looks) -> Entry:
+    """A case as a file has it."""
+    before = checked_before(case, found["before"])
+    after = bench.differences(found["before"], found["after"])
+    _, word, text = found["text"].split(" ", 2)
+    if word != f"{case.word:08x}":
+        raise bench.RspError(f"{case.name}: the word is {case.word:08x}, and it is listed as {word}")
+    entry = {"name": case.name, "word": word, "text": text}
+    if case.choice:
+        entry["choice"] = case.choice
+    return {**entry, "before": before, "after": after}
+
+
+def row_text(program: str, row: Row, seed: str, count: int) -> str:
+    """The file of an instruction. An RspError if the machine doesn't know it."""
+    cases = [make_case(row, seed, number) for number in range(count)]
+    found = bench.observe(program, [(row, case.word, {**bench.DEFAULT, **case.before}) for case in cases])
+    lines = []
+    for case, looks in zip(cases, found):
+        if not looks["step"].startswith("step Done"):
+            raise bench.RspError(f"{case.name}: {looks['step']}")
+        lines.append(json.dumps(entry_of(case, looks), separators=(",", ":")) + "\n")
+    return "".join(lines)
+
+
+def read_row(text: str) -> List[Entry]:
+    return [json.loads(line) for line in text.splitlines()]
+
+
+def complaints(entry: Entry, look: Texts) -> List[str]:
+    """How a machine's state after a case differs from what the case says: a list of texts that name what
+    differs.
+    """
+    expected, found = {**bench.DEFAULT, **entry["before"], **entry["after"]}, []
+    for key in bench.DEFAULT:
+        if look[key] != expected[key]:
+            found += named(entry, key, expected[key], look[key])
+    for bank in ("dmem", "imem", "rdram"):
+        if bank in look:
+            found += memory_complaints(entry, bank, look[bank])
+    return found
+
+
+FLAG_NAMES = {"vco": ("carry", "not-equal"), "vcc": ("compare", "clip"), "vce": ("extra",)}
+
+
+def named(entry: Entry, key: str, expected: str, got: str) -> List[str]:
+    """The lanes, flags or whole numbers in which two values differ."""
+    start = f"{entry['name']} ({entry['text']})"
+    if len(expected) != len(got):
+        return [f"{start}, {key}: expected {expected}, got {got}"]
+    if key in FLAG_NAMES:
+        wrong = int(expected, 16) ^ int(got, 16)
+        return [
+            f"{start}, lane {bit % 8}: {FLAG_NAMES[key][bit // 8]}: expected {int(expected, 16) >> bit & 1}"
+            for bit in range(16)
+            if wrong >> bit & 1
+        ]
+    if key[0] == "v":
+        lanes = [(lane, expected[4 * lane :][:4], got[4 * lane :][:4]) for lane in range(8)]
+        return [f"{start}, ${key} lane {lane}: expected {a}, got {b}" for lane, a, b in lanes if a != b]
+    names = {"a": "accumulator of lane ", "r": "$"}
+    what = names[key[0]] + key[1:] if key[0] in names and key[1:].isdigit() else key
+    return [f"{start}, {what}: expected {expected}, got {got}"]
+
+
+def memory_complaints(entry: Entry, bank: str, lines: List[str]) -> List[str]:
+    """The bytes of a memory that aren't as a case says.
+
+    `lines` are the replies of `mem`, from the window on for RDRAM.
+    """
+    start = bench.WINDOW if bank == "rdram" else 0
+    expected = bytearray(sum(len(line) // 2 for line in lines))
+    code = [(entry["before"].get("pc", "000"), entry["word"])] if bank == "imem" else []
+    pieces = [*entry["before"].get(bank, {}).items(), *code, *entry["after"].get(bank, {}).items()]
+    for address, text in pieces:
+        at = int(address, 16) - start
+        expected[at : at + len(text) // 2] = bytes.fromhex(text)
+    got = bytes.fromhex("".join(lines))
+    if expected == got:
+        return []
+    head = f"{entry['name']} ({entry['text']}), {bank}"
+    wrong = [(start + at, a, b) for at, (a, b) in enumerate(zip(expected, got)) if a != b]
+    return [f"{head} {at:03x}: expected {a:02x}, got {b:02x}" for at, a, b in wrong]
+
+
+def row_of(entry: Entry) -> Row:
+    return ROWS[entry["name"].split("-")[0].lower()]
+
+
+def observed_of(entry: Entry) -> bench.Observed:
+    """A case as `observe` takes it."""
+    return row_of(entry), int(entry["word"], 16), {**bench.DEFAULT, **entry["before"]}
+
+
+def run_entries(program: str, entries: List[Entry]) -> Iterator[List[str]]:
+    """Runs cases as files have them, and yields the complaints of each."""
+    return complaints_of(entries, bench.observe(program, map(observed_of, entries)))
+
+
+def complaints_of(entries: List[Entry], observed: Iterable[Looks]) -> Iterator[List[str]]:
+    """The complaints of each case, from what was seen of it."""
+    for entry, looks in zip(entries, observed):
+        if not looks["step"].startswith("step Done"):
+            yield [f"{entry['name']} ({entry['text']}): {looks['step']}"]
+        else:
+            yield complaints(entry, looks["after"])

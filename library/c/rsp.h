@@ -1,0 +1,396 @@
+/* rsp.h: the Nintendo 64's Reality Signal Processor (RSP): emulator, debugger, assembler and disassembler.
+ * Each call is proved to do what the instruction table and the definitions of this repository say. For C
+ * and C++, on Linux on x86-64-v2. docs/EMBEDDING.md shows how to build and link it, docs/FAULTS.md the
+ * statuses beside the faults.
+ *
+ * Preconditions, which no call can check:
+ *   - A handle is RSP_NONE before its first call, and after that as the last call left it. Never copy a
+ *     handle that holds a machine, and never write its field. What it points to is the library's: nobody
+ *     else reads, writes or frees it.
+ *   - One call at a time uses a handle. Between two calls it may go to another thread, handed over as any
+ *     data is, by a mutex or a join: nothing in a machine is bound to a thread.
+ *   - No pointer is null, not even that of an empty buffer. A buffer has as many elements as are said, and
+ *     its type's alignment.
+ *   - No two pointers of one call overlap, and nobody writes a buffer while a call reads it.
+ *   - malloc, realloc and free are of one allocator, and align as the platform's do, to 16 bytes. No call
+ *     comes from a signal handler, nor from the child that a process with more than one thread forked.
+ *   - A call has RSP_STACK bytes of stack.
+ *
+ * Postconditions of every call: it returns, for any numbers, with a status. If that isn't RSP_OK, no
+ * machine has changed, and neither has anything that the call fills. rsp_assemble alone then says in `out`
+ * why. Every call with a handle but rsp_new and rsp_free returns RSP_NO_MACHINE if the handle holds no
+ * machine, and rsp_copy if `from` holds none. Below this status isn't listed again, nor is RSP_OK. */
+#ifndef RSP_H
+#define RSP_H
+
+#include <stddef.h>
+#include <stdint.h>
+
+#ifdef __cplusplus
+extern "C" {
+#endif
+
+typedef struct rsp {
+    void *at;
+} rsp;
+#define RSP_NONE { 0 }
+
+/* How many bytes of stack a call needs at most. Measured, not proved. */
+#define RSP_STACK 131072
+
+enum rsp_status {
+    RSP_OK = 0,            /* done; of a step: one instruction was executed */
+    RSP_NO_MACHINE = 1,    /* the handle holds no machine */
+    RSP_NO_MEMORY = 2,     /* an allocation failed */
+    RSP_OUT_OF_RANGE = 3,  /* a number, a length or a count is out of its range */
+    RSP_HALTED = 4,        /* rsp_step, rsp_pass: the machine is halted */
+    RSP_RESERVED = 5,      /* rsp_step: the word at pc is reserved */
+    RSP_NO_MEANING = 6,    /* rsp_assemble: the text has a fault; `out` has its number and its line */
+    RSP_TASK_PLACE = 7,    /* rsp_task: the address is no multiple of 8, or 64 bytes pass the image's end */
+    RSP_TASK_SIZE = 8,     /* rsp_task: the size of the boot code isn't 1 to 4096 */
+    RSP_BREAK_FULL = 9,    /* rsp_add_break: sixteen addresses have one */
+    RSP_BREAK_TWICE = 10,  /* rsp_add_break: the address has one */
+    RSP_NO_BREAK = 11,     /* rsp_drop_break: the address has none */
+    RSP_WATCH_FULL = 12,   /* rsp_add_watch: there are eight watches */
+    RSP_NO_WATCH = 13,     /* rsp_drop_watch: the number has no watch */
+    RSP_SHORT_HISTORY = 14, /* rsp_back: the history holds fewer states */
+    RSP_NO_ROOM = 15       /* rsp_assemble: there are more words than the buffer has */
+};
+
+/* The three memories. DMEM and IMEM have 4096 bytes, RDRAM as many as its image. */
+enum rsp_bank { RSP_DMEM = 0, RSP_IMEM = 1, RSP_RDRAM = 2 };
+
+/* Why a run stopped: the first that holds, but a move comes before the limit. */
+enum rsp_reason {
+    RSP_AT_RESERVED = 0, /* the machine isn't halted, and the word at pc is reserved */
+    RSP_AT_HALT = 1,     /* it is halted, whatever the word is */
+    RSP_AT_WATCH = 2,    /* the last step changed a byte of a watch */
+    RSP_AT_BREAK = 3,    /* the last step came to a breakpoint */
+    RSP_AT_LIMIT = 4,    /* all steps are made */
+    RSP_AT_MOVE = 5      /* of rsp_run_until_move: such a move is next */
+};
+
+typedef struct rsp_stop {
+    uint32_t reason; /* an rsp_reason */
+    uint32_t steps;  /* how many steps were made */
+    size_t watch;    /* at a watch its number, else 0 */
+    uint16_t pc;     /* the address of the next instruction */
+    uint32_t word;   /* at a reserved word the word, else 0 */
+} rsp_stop;
+
+/* Where rsp_run_until_move stopped. Unless it is before a move, all but `stop` is 0. */
+typedef struct rsp_move {
+    rsp_stop stop;   /* before a move its reason is RSP_AT_MOVE */
+    uint32_t word;   /* the move: MFC0 or MTC0 */
+    uint32_t number; /* the number of its SP register, 0 to 15 */
+    uint32_t writes; /* 1 of MTC0, 0 of MFC0 */
+    uint32_t value;  /* what its scalar register rt holds: what an MTC0 would write */
+} rsp_move;
+
+/* An entry of a trace: what a step did. The struct has no padding: equal entries are equal for memcmp. */
+typedef struct rsp_traced {
+    uint32_t word;     /* the word that was executed */
+    uint32_t value;    /* what the scalar register holds after the step; without one 0 */
+    uint16_t pc;       /* the address of the word */
+    uint16_t address;  /* of a store its address in DMEM, below 4096; else 0 */
+    uint16_t vco, vcc; /* after the step */
+    uint8_t vce;       /* after the step */
+    uint8_t scalar;    /* the number of the scalar register that the step wrote, 1 to 31; 0 if none */
+    uint8_t vector;    /* the vector register that it wrote, of LTV the first of its group; 32 if none */
+    uint8_t stored;    /* 1 of a store, else 0 */
+    uint16_t lanes[8]; /* what the vector register holds after the step; without one 0 */
+} rsp_traced;
+
+typedef struct rsp_scalars {
+    uint32_t words[32];
+    uint16_t pc, npc; /* the addresses of the next instruction, and of the one after it */
+} rsp_scalars;
+
+typedef struct rsp_lanes {
+    uint16_t lanes[8];
+} rsp_lanes;
+
+/* The accumulators of the eight lanes: bits 47 to 32 of each, 31 to 16, and 15 to 0. */
+typedef struct rsp_accumulators {
+    uint16_t high[8], middle[8], low[8];
+} rsp_accumulators;
+
+/* Flags, bit i for lane i. VCO is carry in its bits 0 to 7 and differ (not-equal) in 8 to 15, VCC compare
+ * and clip, VCE extra. */
+typedef struct rsp_flag_bits {
+    uint8_t carry, differ, compare, clip, extra;
+} rsp_flag_bits;
+
+/* What the divide instructions keep: DIV_IN, DIV_OUT, and 1 if DIV_IN is loaded, else 0. */
+typedef struct rsp_divide_state {
+    uint16_t input, output, loaded;
+} rsp_divide_state;
+
+/* All registers. */
+typedef struct rsp_state {
+    uint32_t words[32];       /* scalar registers; number 0 is 0 */
+    uint16_t vectors[32][8];  /* vector registers, lane 0 first */
+    rsp_accumulators accumulators;
+    rsp_flag_bits flags;
+    uint8_t zero;             /* rsp_get writes 0, so memcmp compares its states; rsp_set ignores it */
+    rsp_divide_state divider;
+    uint16_t pc, npc;         /* multiples of 4 below 4096 */
+    uint32_t sp[16];          /* SP registers 0 to 7 and the DPC's 0 to 7, as rsp_peek gives them */
+    uint32_t interrupt;       /* 1 if the interrupt flag is set, else 0 */
+} rsp_state;
+
+/* The SP registers 0 to 7 and the DPC's 0 to 7, as rsp_peek gives them; 1 if the interrupt flag is set,
+ * else 0. */
+typedef struct rsp_sp_words {
+    uint32_t words[16];
+    uint32_t interrupt;
+} rsp_sp_words;
+
+/* The fields of a state that have values which no machine can have. */
+enum rsp_field {
+    RSP_FIELD_NONE = 0,
+    RSP_FIELD_ZERO = 1,      /* words[0] isn't 0 */
+    RSP_FIELD_LOADED = 2,    /* divider.loaded isn't 0 or 1 */
+    RSP_FIELD_PC = 3,        /* pc isn't a multiple of 4 below 4096 */
+    RSP_FIELD_NPC = 4,       /* nor is npc */
+    RSP_FIELD_INTERRUPT = 5, /* interrupt isn't 0 or 1 */
+    RSP_FIELD_SP = 16        /* 16 + n: sp[n] can't be read from that register; it is in none from 8 on */
+};
+
+typedef struct rsp_assembled {
+    size_t count;   /* how many words there are; of a fault 0 */
+    size_t line;    /* of a fault: the number of its line, from 1; else 0, also if the text isn't UTF-8 */
+    uint32_t fault; /* of a fault: its number, 10 to 17 (docs/FAULTS.md), 33 if it isn't UTF-8; else 0 */
+} rsp_assembled;
+
+/* A word with its disassembly. */
+typedef struct rsp_line {
+    uint32_t word;
+    uint16_t place; /* its address in IMEM */
+    uint16_t len;   /* how many bytes the text has, at most 64 */
+    char text[68];  /* the text, then zeros, at least four */
+} rsp_line;
+
+/* The version of this interface. It is raised if a call, a struct or a number changes its meaning. */
+#define RSP_VERSION 1
+
+/* Returns the library's RSP_VERSION. */
+uint32_t rsp_version(void);
+
+/* ---- Creating and freeing ---- */
+
+/* Makes a machine with a copy of an image of RDRAM (64 to 8388608 bytes, a multiple of 8) and a history of
+ * `depth` states, at most 4096. All else is 0, but npc, which is 4. It takes all memory: no later call on
+ * the handle takes any. What the handle held before is freed, unless the call fails. Returns
+ * RSP_OUT_OF_RANGE for any other length or depth, and then has read nothing of the image; else
+ * RSP_NO_MEMORY. */
+uint32_t rsp_new(rsp *m, const uint8_t *image, size_t len, uint32_t depth);
+
+/* Makes in `to` a second machine in the state of that in `from`, memories included. Its history is as long,
+ * and empty; it has no breakpoints and no watches. What `to` held before is freed, unless the call fails.
+ * `from` stays. Returns RSP_NO_MEMORY. */
+uint32_t rsp_copy(rsp *to, rsp *from);
+
+/* Frees the machine, if there is one, and leaves RSP_NONE. */
+void rsp_free(rsp *m);
+
+/* ---- Whole states: all registers. The memories stay. ---- */
+
+/* Gives the state, and changes nothing. */
+uint32_t rsp_get(rsp *m, rsp_state *out);
+
+/* Sets what rsp_get gives, and rsp_get then gives it back. Empties the history. Returns RSP_OUT_OF_RANGE
+ * for a state that no machine can have: rsp_state_fault says why. */
+uint32_t rsp_set(rsp *m, const rsp_state *state);
+
+/* Gives the first rsp_field for which rsp_set refuses a state, and RSP_FIELD_NONE if it takes it. */
+uint32_t rsp_state_fault(const rsp_state *state, uint32_t *out);
+
+/* ---- Memories. Each returns RSP_OUT_OF_RANGE if there is no such bank, or the bytes pass its end. ---- */
+
+/* Writes bytes to a memory, and empties the history. */
+uint32_t rsp_load(rsp *m, uint32_t bank, uint32_t address, const uint8_t *bytes, size_t len);
+
+/* Writes words, at most 1024, the high byte of each first. Empties the history. */
+uint32_t rsp_load_words(rsp *m, uint32_t bank, uint32_t address, const uint32_t *words, size_t len);
+
+/* Reads bytes of a memory. */
+uint32_t rsp_memory(rsp *m, uint32_t bank, uint32_t address, uint8_t *bytes, size_t len);
+
+/* Reads words, the high byte of each first. */
+uint32_t rsp_memory_words(rsp *m, uint32_t bank, uint32_t address, uint32_t *words, size_t len);
+
+/* ---- Where the machine goes on ---- */
+
+/* Starts the task whose structure of 64 bytes is at an address of RDRAM, and clears halted. Empties the
+ * history. Returns RSP_TASK_PLACE, RSP_TASK_SIZE. */
+uint32_t rsp_task(rsp *m, uint32_t address);
+
+/* Goes on at an address of IMEM; a machine that is halted stays so. Empties the history. Returns
+ * RSP_OUT_OF_RANGE unless it is a multiple of 4 below 4096. */
+uint32_t rsp_set_pc(rsp *m, uint32_t pc);
+
+/* ---- Steps. An executed instruction adds a state to the history; one that starts a DMA empties it. ---- */
+
+/* Executes one instruction. Returns RSP_HALTED, RSP_RESERVED. */
+uint32_t rsp_step(rsp *m);
+
+/* Makes at most n steps, up to the first reason to stop. Returns RSP_OUT_OF_RANGE unless n is 1 to
+ * 1000000. */
+uint32_t rsp_run(rsp *m, uint32_t n, rsp_stop *out);
+
+/* The same, and also stops before an MFC0 whose SP register has its bit in `reads`, or an MTC0 whose
+ * register has it in `writes`: bit r for register r. It stops there before the first step too. Returns
+ * RSP_OUT_OF_RANGE unless n is 1 to 1000000 and both are below 65536. */
+uint32_t rsp_run_until_move(rsp *m, uint32_t n, uint32_t reads, uint32_t writes, rsp_move *out);
+
+/* The same as rsp_run, with an entry for each step; the other entries stay. Returns RSP_OUT_OF_RANGE unless
+ * n is 1 to 1000000. */
+uint32_t rsp_trace(rsp *m, rsp_traced *out, size_t n, rsp_stop *stop);
+
+/* Undoes n steps. Returns RSP_OUT_OF_RANGE unless n is 1 to 1000000; else RSP_SHORT_HISTORY. */
+uint32_t rsp_back(rsp *m, uint32_t n);
+
+/* Goes past the MFC0 or MTC0 at pc, for a caller that owns the SP registers. pc and npc go on, register rt
+ * of an MFC0 becomes `value`, single step halts as after any instruction, and nothing else is done. Empties
+ * the history. Returns RSP_HALTED; else RSP_OUT_OF_RANGE if another word is at pc. */
+uint32_t rsp_pass(rsp *m, uint32_t value);
+
+/* ---- Breakpoints at addresses of IMEM, at most sixteen, and watches of DMEM, at most eight ---- */
+
+/* Returns RSP_OUT_OF_RANGE unless the address is a multiple of 4 below 4096; else RSP_BREAK_TWICE, then
+ * RSP_BREAK_FULL. */
+uint32_t rsp_add_break(rsp *m, uint32_t address);
+
+/* Returns RSP_OUT_OF_RANGE, RSP_NO_BREAK. */
+uint32_t rsp_drop_break(rsp *m, uint32_t address);
+
+/* Watches 1 to 64 bytes, and gives the lowest free number. Returns RSP_OUT_OF_RANGE, then RSP_WATCH_FULL. */
+uint32_t rsp_add_watch(rsp *m, uint32_t address, uint32_t len, size_t *number);
+
+/* Returns RSP_NO_WATCH. */
+uint32_t rsp_drop_watch(rsp *m, uint32_t number);
+
+/* ---- Parts of the state. These change nothing. ---- */
+
+/* A scalar register. Returns RSP_OUT_OF_RANGE unless n is below 32. */
+uint32_t rsp_reg(rsp *m, uint32_t n, uint32_t *out);
+
+/* All scalar registers, with pc and npc. */
+uint32_t rsp_regs(rsp *m, rsp_scalars *out);
+
+/* A vector register. Returns RSP_OUT_OF_RANGE unless n is below 32. */
+uint32_t rsp_vreg(rsp *m, uint32_t n, rsp_lanes *out);
+
+/* The accumulators. */
+uint32_t rsp_acc(rsp *m, rsp_accumulators *out);
+
+/* VCO, VCC and VCE. */
+uint32_t rsp_flags(rsp *m, rsp_flag_bits *out);
+
+/* DIV_IN, DIV_OUT, and whether DIV_IN is loaded. */
+uint32_t rsp_divider(rsp *m, rsp_divide_state *out);
+
+/* ---- SP registers, numbered modulo 16: 0 to 7, then the DPC's ---- */
+
+/* Reads one as the CPU does: a read of the semaphore, 7, takes it and empties the history. */
+uint32_t rsp_read(rsp *m, uint32_t n, uint32_t *out);
+
+/* Gives the word that a read would give, and changes nothing. */
+uint32_t rsp_peek(rsp *m, uint32_t n, uint32_t *out);
+
+/* Writes one as the CPU does, with its DMA if it is a length register. Empties the history. */
+uint32_t rsp_write(rsp *m, uint32_t n, uint32_t value);
+
+/* Gives them all with the interrupt flag, and changes nothing. */
+uint32_t rsp_sp(rsp *m, rsp_sp_words *out);
+
+/* Sets them all with the interrupt flag, and does no DMA. Empties the history. Returns RSP_OUT_OF_RANGE if
+ * a word could not be read from its register, or `interrupt` isn't 0 or 1. */
+uint32_t rsp_set_sp(rsp *m, const rsp_sp_words *given);
+
+/* ---- Texts ---- */
+
+/* Gives the words of a text in UTF-8, at most 1024. The first one is for the address `origin`, a multiple
+ * of 4 up to 4096. What follows them in `words` stays. Returns
+ *   - RSP_OUT_OF_RANGE for another origin: `out` stays;
+ *   - RSP_NO_MEANING: `out` has the fault and its line;
+ *   - RSP_NO_ROOM if there are more words than `capacity`: `out` has their count, so a capacity of 0 asks
+ *     for it;
+ *   - RSP_NO_MEMORY: `out` has fault 17 and the line whose label had no memory. No line up to it has a
+ *     fault, but perhaps an operand that needs the labels of all lines. */
+uint32_t rsp_assemble(uint32_t origin, const uint8_t *text, size_t len, uint32_t *words, size_t capacity,
+                      rsp_assembled *out);
+
+/* Disassembles a word for an address of IMEM, a multiple of 4 below 4096. Returns RSP_OUT_OF_RANGE. */
+uint32_t rsp_text(uint32_t word, uint32_t address, rsp_line *out);
+
+/* Disassembles `len` words of IMEM from an address on. Returns RSP_OUT_OF_RANGE unless the address is a
+ * multiple of 4 below 4096 and the words end by IMEM's end. */
+uint32_t rsp_listing(rsp *m, uint32_t address, rsp_line *lines, size_t len);
+
+/* What a statement takes as an operand: rsp_operand's `kind`. */
+enum {
+    RSP_OPERAND_NOTHING = 0,        /* it has operands enough */
+    RSP_OPERAND_WORD = 1,           /* a number of .word */
+    RSP_OPERAND_SCALAR = 2,         /* a scalar register */
+    RSP_OPERAND_SHIFT = 3,          /* a shift amount */
+    RSP_OPERAND_IMMEDIATE = 4,      /* an immediate of 16 bits */
+    RSP_OPERAND_JUMP = 5,           /* the target of a jump */
+    RSP_OPERAND_BRANCH = 6,         /* the target of a branch */
+    RSP_OPERAND_SCALAR_MEMORY = 7,  /* an offset, and a scalar register in parentheses */
+    RSP_OPERAND_VECTOR_MEMORY = 8,  /* the same of a vector load or store */
+    RSP_OPERAND_SP = 9,             /* an SP register */
+    RSP_OPERAND_CONTROL = 10,       /* a control register */
+    RSP_OPERAND_VECTOR = 11,        /* a vector register */
+    RSP_OPERAND_VECTOR_BYTE = 12,   /* a vector register with a byte of it */
+    RSP_OPERAND_VECTOR_ELEMENT = 13, /* a vector register with the element of a computing instruction */
+    RSP_OPERAND_VECTOR_LANE = 14    /* a vector register with a lane */
+};
+
+typedef struct rsp_operand {
+    int64_t low;     /* the lowest number that it may be, if it has a range; else 0 */
+    int64_t high;    /* the highest one */
+    size_t number;   /* which one of its line, from 1, also if that lacks it; 0 if no operand is refused */
+    uint32_t kind;   /* what the statement takes there */
+    uint32_t step;   /* each number of the range is a multiple of this; 0 if there is no range */
+} rsp_operand;
+
+/* Finds the operand for which rsp_assemble refuses a text, with fault 12, 13 or 15. Returns
+ * RSP_OUT_OF_RANGE for an origin that isn't a multiple of 4 up to 4096, RSP_NO_MEANING if the text isn't
+ * UTF-8, and RSP_NO_MEMORY. */
+uint32_t rsp_explain(uint32_t origin, const uint8_t *text, size_t len, rsp_operand *out);
+
+/* The name of a status, for messages. Here and below that of any other number is "unknown". */
+static inline const char *rsp_status_name(uint32_t status)
+{
+    static const char *const names[] = {
+        "OK", "NO_MACHINE", "NO_MEMORY", "OUT_OF_RANGE", "HALTED", "RESERVED", "NO_MEANING", "TASK_PLACE",
+        "TASK_SIZE", "BREAK_FULL", "BREAK_TWICE", "NO_BREAK", "WATCH_FULL", "NO_WATCH", "SHORT_HISTORY",
+        "NO_ROOM"
+    };
+    return status < sizeof names / sizeof *names ? names[status] : "unknown";
+}
+
+/* The name of the fault of an assembly (docs/FAULTS.md). */
+static inline const char *rsp_fault_name(uint32_t fault)
+{
+    static const char *const names[] = {
+        "BadLine", "UnknownName", "BadOperand", "OutOfRange", "LabelTwice", "LabelMissing", "PastEnd",
+        "OutOfMemory"
+    };
+    if (fault == 33) return "NotText";
+    return fault >= 10 && fault - 10 < sizeof names / sizeof *names ? names[fault - 10] : "unknown";
+}
+
+/* The name of the reason of a stop. */
+static inline const char *rsp_reason_name(uint32_t reason)
+{
+    static const char *const names[] = { "RESERVED", "HALT", "WATCH", "BREAK", "LIMIT", "MOVE" };
+    return reason < sizeof names / sizeof *names ? names[reason] : "unknown";
+}
+
+#ifdef __cplusplus
+}
+#endif
+#endif

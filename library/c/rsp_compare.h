@@ -1,0 +1,297 @@
+/* rsp_compare.h: the first step after which an emulator differs from a machine of rsp.h. For C and C++; nothing but this header and the
+ * library is needed. The module for Python finds the same by rsp.first_difference.
+ *
+ *     rsp_difference found;
+ *     if (rsp_first_difference(&machine, &emulator, image_length, 64, 1000000, &found) == RSP_OK && found.count) {
+ *         printf("step %u, %03x: %s\n", found.step, found.line.place, found.line.text);
+ *         for (size_t i = 0; i < found.count; i++) puts(found.parts[i].name);
+ *     }
+ *     rsp_difference_free(&found);
+ */
+#ifndef RSP_COMPARE_H
+#define RSP_COMPARE_H
+
+#include "rsp.h"
+#include <stdio.h>
+#include <stdlib.h>
+#include <string.h>
+
+#ifdef __cplusplus
+extern "C" {
+#endif
+
+/* What is called of an emulator, each time with `self`. */
+typedef struct rsp_emulator {
+    void *self;
+    void (*run)(void *self, uint32_t steps); /* the machine has made as many, so it isn't halted before any; BREAK is a step */
+    void (*get)(void *self, rsp_state *state); /* all registers; those that it doesn't have as `set` gave them */
+    void (*set)(void *self, const rsp_state *state);
+    void (*memory)(void *self, uint32_t bank, uint32_t address, uint8_t *bytes, size_t len);
+    void (*load)(void *self, uint32_t bank, uint32_t address, const uint8_t *bytes, size_t len);
+} rsp_emulator;
+
+/* A part that differs: a register, such as `$3`, or a quadword of a memory, such as `DMEM 3f0`; the machine's value and the emulator's, the
+ * high 64 bits first; and how many hexadecimal digits it has. */
+typedef struct rsp_part {
+    char name[24];
+    uint64_t value[2], other[2];
+    unsigned digits;
+} rsp_part;
+
+/* A step after which they differ: its number, from 1; its instruction; the state before it; and what differs after it. Step 0 says that they
+ * differ before the first step: the emulator hasn't kept what `set` and `load` gave it. If `steps` isn't 1, that many steps up to `step`
+ * differ together, the first of them at line.place, and none does alone: the emulator has a state that `get` and `set` don't carry. */
+typedef struct rsp_difference {
+    uint32_t step, steps;
+    rsp_line line;
+    rsp_state before;
+    rsp_part *parts;
+    size_t count; /* 0 if there is no difference */
+} rsp_difference;
+
+enum { RSP_COMPARE_LENGTHS = 1 << 2 | 1 << 3, RSP_COMPARE_SP = 8192, RSP_COMPARE_PARTS = 321, RSP_QUADWORD = 16 };
+
+/* Internal: what is compared of a side. The bytes are DMEM, IMEM, and RDRAM. */
+typedef struct rsp_compare_seen {
+    rsp_state state;
+    uint8_t *bytes;
+} rsp_compare_seen;
+
+/* Internal: the n-th part of a state, with its name. */
+static inline uint64_t rsp_compare_part(const rsp_state *s, unsigned n, rsp_part *part)
+{
+    static const char *const sp[] = { "SP_MEM_ADDR", "SP_DRAM_ADDR", "SP_RD_LEN", "SP_WR_LEN", "SP_STATUS", "SP_DMA_FULL", "SP_DMA_BUSY",
+                                      "SP_SEMAPHORE" };
+    static const char *const rest[] = { "vco", "vcc", "vce", "in", "out", "loaded" };
+    static const unsigned digits[] = { 4, 4, 2, 4, 4, 1 };
+    const uint64_t values[] = { (uint64_t)s->flags.differ << 8 | s->flags.carry, (uint64_t)s->flags.clip << 8 | s->flags.compare,
+                                s->flags.extra, s->divider.input, s->divider.output, s->divider.loaded };
+    if (n < 2) {
+        part->digits = 3;
+        snprintf(part->name, sizeof part->name, "%s", n ? "npc" : "pc");
+        return n ? s->npc : s->pc;
+    }
+    if ((n -= 2) < 32) {
+        part->digits = 8;
+        snprintf(part->name, sizeof part->name, "$%u", n);
+        return s->words[n];
+    }
+    if ((n -= 32) < 256) {
+        part->digits = 4;
+        snprintf(part->name, sizeof part->name, "$v%u lane %u", n / 8, n % 8);
+        return s->vectors[n / 8][n % 8];
+    }
+    if ((n -= 256) < 8) {
+        const rsp_accumulators *a = &s->accumulators;
+        part->digits = 12;
+        snprintf(part->name, sizeof part->name, "accumulator %u", n);
+        return (uint64_t)a->high[n] << 32 | (uint64_t)a->middle[n] << 16 | a->low[n];
+    }
+    if ((n -= 8) < 6) {
+        part->digits = digits[n];
+        snprintf(part->name, sizeof part->name, "%s", rest[n]);
+        return values[n];
+    }
+    if ((n -= 6) < 16) {
+        part->digits = 8;
+        if (n < 8) snprintf(part->name, sizeof part->name, "%s", sp[n]);
+        else snprintf(part->name, sizeof part->name, "DPC register %u", n - 8);
+        return s->sp[n];
+    }
+    part->digits = 1;
+    snprintf(part->name, sizeof part->name, "interrupt");
+    return s->interrupt;
+}
+
+/* Internal: the number at eight bytes, the high one first. */
+static inline uint64_t rsp_compare_number(const uint8_t *bytes)
+{
+    uint64_t number = 0;
+    for (int i = 0; i < 8; i++) number = number << 8 | bytes[i];
+    return number;
+}
+
+/* Internal: the parts that differ, into `parts` if it isn't null. Returns how many there are. */
+static inline size_t rsp_compare_parts(const rsp_compare_seen *mine, const rsp_compare_seen *its, size_t length, rsp_part *parts)
+{
+    static const char *const names[] = { "DMEM", "IMEM", "RDRAM" };
+    size_t count = 0;
+    rsp_part part;
+    memset(&part, 0, sizeof part);
+    for (unsigned n = 0; n < RSP_COMPARE_PARTS; n++) {
+        part.value[1] = rsp_compare_part(&mine->state, n, &part);
+        part.other[1] = rsp_compare_part(&its->state, n, &part);
+        if (part.value[1] != part.other[1] && ++count && parts) parts[count - 1] = part;
+    }
+    for (size_t at = 0; at < length; at += RSP_QUADWORD) {
+        const uint8_t *value = mine->bytes + at, *other = its->bytes + at;
+        size_t size = length - at < RSP_QUADWORD ? length - at : (size_t)RSP_QUADWORD, bank = at < RSP_COMPARE_SP ? at / 4096 : 2;
+        if (memcmp(value, other, size) == 0 || !++count || !parts) continue;
+        snprintf(part.name, sizeof part.name, "%s %03x", names[bank], (unsigned)(at - bank * 4096));
+        part.digits = (unsigned)(2 * RSP_QUADWORD);
+        for (int half = 0; half < 2; half++) {
+            part.value[half] = 8 * (size_t)half < size ? rsp_compare_number(value + 8 * half) : 0;
+            part.other[half] = 8 * (size_t)half < size ? rsp_compare_number(other + 8 * half) : 0;
+        }
+        if (size < RSP_QUADWORD) { /* the RDRAM's end: eight bytes */
+            part.value[1] = part.value[0];
+            part.other[1] = part.other[0];
+            part.value[0] = part.other[0] = 0;
+        }
+        parts[count - 1] = part;
+    }
+    return count;
+}
+
+/* Internal: looks at `length` bytes of memories and all registers of the machine, or of the emulator if there is one. */
+static inline void rsp_compare_see(rsp *m, const rsp_emulator *e, size_t length, rsp_compare_seen *seen)
+{
+    memset(&seen->state, 0, sizeof seen->state);
+    if (e) e->get(e->self, &seen->state);
+    else rsp_get(m, &seen->state);
+    for (uint32_t bank = 0; bank < 3 && (size_t)bank * 4096 < length; bank++) {
+        uint8_t *bytes = seen->bytes + bank * 4096;
+        size_t len = bank < 2 ? 4096 : length - RSP_COMPARE_SP;
+        if (e) e->memory(e->self, bank, 0, bytes, len);
+        else rsp_memory(m, bank, 0, bytes, len);
+    }
+}
+
+/* Internal: brings a side to what was seen. */
+static inline void rsp_compare_put(rsp *m, const rsp_emulator *e, size_t length, const rsp_compare_seen *seen)
+{
+    if (e) e->set(e->self, &seen->state);
+    else rsp_set(m, &seen->state);
+    for (uint32_t bank = 0; bank < 3 && (size_t)bank * 4096 < length; bank++) {
+        const uint8_t *bytes = seen->bytes + bank * 4096;
+        size_t len = bank < 2 ? 4096 : length - RSP_COMPARE_SP;
+        if (e) e->load(e->self, bank, 0, bytes, len);
+        else rsp_load(m, bank, 0, bytes, len);
+    }
+}
+
+/* Internal: fills what differs. Returns RSP_NO_MEMORY if there is no room for it. */
+static inline uint32_t rsp_compare_tell(const rsp_compare_seen *mine, const rsp_compare_seen *its, size_t length, rsp_difference *out)
+{
+    size_t count = rsp_compare_parts(mine, its, length, NULL);
+    if (!count) return RSP_OK;
+    out->parts = (rsp_part *)malloc(count * sizeof(rsp_part));
+    if (!out->parts) return RSP_NO_MEMORY;
+    out->count = rsp_compare_parts(mine, its, length, out->parts);
+    return RSP_OK;
+}
+
+/* Internal: one step of both, and what differs after it. `made` is 0 if the machine can't make one. */
+static inline uint32_t rsp_compare_step(rsp *m, const rsp_emulator *e, uint32_t number, size_t length, rsp_compare_seen *mine,
+                                        rsp_compare_seen *its, uint32_t *made, rsp_difference *out)
+{
+    out->step = number;
+    out->steps = 1;
+    rsp_get(m, &out->before);
+    rsp_listing(m, out->before.pc, &out->line, 1);
+    *made = rsp_step(m) == RSP_OK;
+    if (!*made) return RSP_OK;
+    e->run(e->self, 1);
+    rsp_compare_see(m, NULL, length, mine);
+    rsp_compare_see(m, e, length, its);
+    return rsp_compare_tell(mine, its, length, out);
+}
+
+/* Internal: the step of a stretch after which they differ, or the whole stretch if no step alone shows it. */
+static inline uint32_t rsp_compare_narrow(rsp *m, const rsp_emulator *e, uint32_t first, uint32_t steps, const rsp_compare_seen *before,
+                                          rsp_compare_seen *mine, rsp_compare_seen *its, rsp_difference *out)
+{
+    uint32_t made = 0, status = rsp_compare_tell(mine, its, RSP_COMPARE_SP, out);
+    rsp_difference whole = *out;
+    rsp_compare_put(m, NULL, RSP_COMPARE_SP, before);
+    rsp_compare_put(m, e, RSP_COMPARE_SP, before);
+    rsp_listing(m, before->state.pc, &whole.line, 1);
+    out->parts = NULL;
+    out->count = 0;
+    for (uint32_t n = 0; n < steps && status == RSP_OK && !out->count; n++)
+        status = rsp_compare_step(m, e, first + n, RSP_COMPARE_SP, mine, its, &made, out);
+    if (out->count || status != RSP_OK) {
+        free(whole.parts);
+        return status;
+    }
+    whole.before = before->state;
+    whole.step = first + steps - 1;
+    whole.steps = steps;
+    *out = whole;
+    return RSP_OK;
+}
+
+/* Internal: the comparison from the second step on. `mine` is what was seen last of both. */
+static inline uint32_t rsp_compare_run(rsp *m, const rsp_emulator *e, size_t length, uint32_t every, uint32_t limit, rsp_compare_seen *mine,
+                                       rsp_compare_seen *its, rsp_compare_seen *before, rsp_difference *out)
+{
+    uint32_t status = RSP_OK, made = 1;
+    for (uint32_t steps = 0; steps < limit && status == RSP_OK && made; steps += made) {
+        rsp_move move;
+        uint32_t most = every < limit - steps ? every : limit - steps;
+        before->state = mine->state;
+        memcpy(before->bytes, mine->bytes, RSP_COMPARE_SP);
+        status = rsp_run_until_move(m, most, 0, RSP_COMPARE_LENGTHS, &move);
+        if (status != RSP_OK) return status;
+        made = (uint32_t)move.stop.steps;
+        if (!made) { /* it is before a DMA, or can't go on */
+            status = rsp_compare_step(m, e, steps + 1, length, mine, its, &made, out);
+            if (out->count || status != RSP_OK) return status;
+            continue;
+        }
+        e->run(e->self, made);
+        rsp_compare_see(m, NULL, RSP_COMPARE_SP, mine);
+        rsp_compare_see(m, e, RSP_COMPARE_SP, its);
+        if (rsp_compare_parts(mine, its, RSP_COMPARE_SP, NULL)) return rsp_compare_narrow(m, e, steps + 1, made, before, mine, its, out);
+    }
+    return status;
+}
+
+/* The first step after which an emulator differs from the machine, whose image of RDRAM has `image_length` bytes. out->count is 0 if there is
+ * none in `limit` steps, or up to a halt or a reserved word.
+ *
+ * The emulator is first given the machine's registers and memories. Then both run in stretches of at most `every` steps that end before a
+ * DMA. After each, all registers, DMEM and IMEM are compared, and after a DMA RDRAM too. If they differ, both go back to the last
+ * comparison and are stepped; they stay after the step that differs, and the machine's history is empty.
+ *
+ * Returns RSP_NO_MACHINE; RSP_OUT_OF_RANGE unless `every` is 1 to 1000000; RSP_NO_MEMORY. `out` is filled in each case. */
+static inline uint32_t rsp_first_difference(rsp *m, const rsp_emulator *e, size_t image_length, uint32_t every, uint32_t limit,
+                                            rsp_difference *out)
+{
+    size_t length = RSP_COMPARE_SP + image_length;
+    uint8_t *bytes = (uint8_t *)malloc(3 * length);
+    rsp_compare_seen mine, its, before;
+    uint32_t status;
+    memset(out, 0, sizeof *out);
+    status = rsp_get(m, &out->before);
+    if (status == RSP_OK && (every < 1 || every > 1000000)) status = RSP_OUT_OF_RANGE;
+    if (status == RSP_OK && !bytes) status = RSP_NO_MEMORY;
+    if (status == RSP_OK) {
+        mine.bytes = bytes;
+        its.bytes = bytes + length;
+        before.bytes = bytes + 2 * length;
+        rsp_compare_see(m, NULL, length, &mine);
+        rsp_compare_put(m, e, length, &mine);
+        rsp_compare_see(m, e, length, &its);
+        rsp_listing(m, mine.state.pc, &out->line, 1);
+        out->steps = 1;
+        status = rsp_compare_tell(&mine, &its, length, out);
+        if (status == RSP_OK && !out->count) status = rsp_compare_run(m, e, length, every, limit, &mine, &its, &before, out);
+    }
+    free(bytes);
+    return status;
+}
+
+/* Frees what rsp_first_difference has filled. */
+static inline void rsp_difference_free(rsp_difference *found)
+{
+    free(found->parts);
+    found->parts = NULL;
+    found->count = 0;
+}
+
+#ifdef __cplusplus
+}
+#endif
+
+#endif

@@ -1,0 +1,51 @@
+"""What an operand may be for which a text is refused: the words that AssemblyError adds to its message."""
+
+from ctypes import Structure, c_int64, c_size_t, c_uint32
+
+
+class Operand(Structure):
+    """`rsp_operand` of rsp.h."""
+
+    _fields_ = [
+        ("low", c_int64),
+        ("high", c_int64),
+        ("number", c_size_t),
+        ("kind", c_uint32),
+        ("step", c_uint32),
+    ]
+
+
+# By the numbers of RSP_OPERAND_ in rsp.h. A range follows what ends with a comma.
+_NUMBER = "a number or a label,"
+_VECTOR = "a vector register"
+_FORMS = (
+    "nothing",
+    _NUMBER,
+    "a scalar register",
+    *[_NUMBER] * 6,
+    "an SP register, $c0 to $c15",
+    "$vco, $vcc or $vce",
+    _VECTOR,
+    f"{_VECTOR}, with a byte or none",
+    f"{_VECTOR}, with an element or none",
+    f"{_VECTOR}, with a lane",
+)
+_MEMORY = (7, 8)
+_BAD_OPERAND, _LABEL_MISSING = 12, 15
+
+
+def allowed(found: Operand, fault: int) -> str:
+    """Which operand is at fault, and what it may be; nothing if none is."""
+    if not found.number:
+        return ""
+    span = (
+        f"{found.low} to {found.high}" + f", a multiple of {found.step}" * (found.step > 1)
+        if found.step
+        else ""
+    )
+    if fault == _BAD_OPERAND:
+        form = _FORMS[found.kind] if found.kind < len(_FORMS) else "another one"
+        span = f"{form} {span}".strip() + ", and a scalar register in parentheses" * (found.kind in _MEMORY)
+    elif fault == _LABEL_MISSING:
+        span = f"the label of a line, or {span}"
+    return f"operand {found.number} may be {span}"

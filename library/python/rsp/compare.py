@@ -1,0 +1,183 @@
+"""The first step after which an emulator differs from the machine."""
+
+from html import escape
+from typing import TYPE_CHECKING, Any, Iterator, NamedTuple, Optional, Protocol, Sequence, Tuple
+
+from . import words as _in_words
+from .shown import Difference, Part
+from .state import State
+
+if TYPE_CHECKING:
+    from . import Rsp
+
+NAMES = "DMEM", "IMEM", "RDRAM"
+LENGTHS = 1 << 2 | 1 << 3  # a write of SP_RD_LEN or SP_WR_LEN starts a DMA
+QUADWORD = 16
+
+
+class Emulator(Protocol):
+    """What `first_difference` calls of an emulator. A machine has all of it, so a second machine can be the
+    emulator."""
+
+    def run(self, steps: int) -> Any:
+        """Makes this many steps. The machine has made as many, so it isn't halted before any, and no word is
+        reserved.
+
+        BREAK is a step: it sets bits 0 and 1 of SP_STATUS, `sp[4]`.
+        """
+
+    def get(self) -> State:
+        """All registers; those that the emulator doesn't have as `set` gave them. The state is neither kept
+        nor changed."""
+
+    def set(self, state: State) -> Any:
+        """Sets all registers."""
+
+    def memory(self, bank: int, address: int, length: int) -> bytes:
+        """`length` bytes of DMEM (0), IMEM (1) or RDRAM (2), which have 4096, 4096 and the machine's
+        `image_length`."""
+
+    def load(self, bank: int, address: int, data: bytes) -> Any:
+        """Writes bytes to a memory."""
+
+
+class FirstDifference(NamedTuple):
+    """A step after which they differ: its number, from 1; its instruction, by its address `place`, `word` and
+    `text`; and the state `before` it.
+
+    `parts` has what differs after it, the machine's value first: registers, then quadwords of memories, such
+    as `DMEM 3f0`. Step 0 says that they differ before the first step: the emulator hasn't kept what `set` and
+    `load` gave it. If `steps` isn't 1, that many steps up to `step` differ together, the first of them at
+    `place`, and none does alone: the emulator has a state that `get` and `set` don't carry.
+    """
+
+    step: int
+    place: int
+    word: int
+    text: str
+    before: State
+    parts: Difference
+    steps: int = 1
+
+    def _head(self) -> str:
+        if self.steps != 1:
+            steps = f"steps {self.step - self.steps + 1} to {self.step}, from {self.place:03x} on"
+            return f"{steps}: no step alone differs, so get and set leave something out"
+        return f"step {self.step}, {self.place:03x}: {self.text}"
+
+    def __str__(self) -> str:
+        return "\n  ".join([self._head(), *self.parts.told("on the machine", "in the emulator").split("\n")])
+
+    def __repr__(self) -> str:
+        return f"<rsp.FirstDifference: {self._head()}>"
+
+    def _repr_html_(self) -> str:
+        return f"<p>{escape(self._head())}</p>{self.parts._repr_html_()}"
+
+
+class _Seen(NamedTuple):
+    """What is compared of a side: all registers, and memories from DMEM on."""
+
+    state: State
+    memories: Tuple[bytes, ...]
+
+
+def _seen(side: Emulator, rdram: int = 0) -> _Seen:
+    """A side with DMEM, IMEM and this many bytes of RDRAM."""
+    lengths = (4096, 4096, rdram)[: 3 if rdram else 2]
+    memories = tuple(bytes(side.memory(bank, 0, length)) for bank, length in enumerate(lengths))
+    return _Seen(side.get(), memories)
+
+
+def _put(side: Emulator, seen: _Seen) -> None:
+    """Brings a side to what was seen. The state that it is given is its own: it may keep and change it."""
+    side.set(State.from_buffer_copy(seen.state))
+    for bank, data in enumerate(seen.memories):
+        side.load(bank, 0, data)
+
+
+def _quadwords(mine: Sequence[bytes], its: Sequence[bytes]) -> Iterator[Part]:
+    """The quadwords of memories that differ."""
+    for name, here, there in zip(NAMES, mine, its):
+        for at in range(0, len(here), QUADWORD) if here != there else ():
+            value, other = (int.from_bytes(it[at : at + QUADWORD], "big") for it in (here, there))
+            if value != other:
+                yield Part(f"{name} {at:03x}", value, other, 2 * QUADWORD)
+
+
+def _parts(mine: _Seen, its: _Seen) -> Difference:
+    return Difference([*mine.state.diff(its.state), *_quadwords(mine.memories, its.memories)])
+
+
+def _step(
+    machine: "Rsp", emulator: Emulator, number: int, rdram: int = 0
+) -> Tuple[bool, Optional[FirstDifference]]:
+    """One step of both: whether the machine makes it, and the difference after it."""
+    before = machine.get()
+    (line,) = machine.listing(before.pc, 1)
+    if machine.step() != 0:
+        return False, None
+    emulator.run(1)
+    mine, its = _seen(machine, rdram), _seen(emulator, rdram)
+    return True, FirstDifference(number, *line, before, _parts(mine, its)) if mine != its else None
+
+
+def _narrowed(
+    machine: "Rsp", emulator: Emulator, before: _Seen, steps: range, parts: Difference
+) -> FirstDifference:
+    """The step of a stretch after which they differ, or the whole stretch if no step alone shows it."""
+    for side in machine, emulator:
+        _put(side, before)
+    (line,) = machine.listing(before.state.pc, 1)
+    for number in steps:
+        _, found = _step(machine, emulator, number)
+        if found:
+            return found
+    return FirstDifference(steps[-1], *line, before.state, parts, len(steps))
+
+
+def first_difference(
+    machine: "Rsp", emulator: Emulator, every: int = 64, limit: int = 1000000
+) -> Optional[FirstDifference]:
+    """The first step after which an emulator differs from the machine; None if there is none in `limit`
+    steps, or up to a halt or a reserved word.
+
+    After None, `machine.step()` says which: it answers HALTED or RESERVED unless the limit ended it.
+    Breakpoints and watches don't end it.
+
+    The emulator is first given the machine's registers and memories. Then both run in stretches of at most
+    `every` steps, 1 to 1000000, that end before a DMA. After each, all registers, DMEM and IMEM are compared,
+    and after a DMA RDRAM too. If they differ, both go back to the last comparison and are stepped; they stay
+    after the step that differs, and the machine's history is empty. ValueError if `every` or `limit`, 0 to
+    4294967295, isn't in its range, or the emulator's memory has a wrong length.
+    """
+    every, limit = _in_words.integers("first_difference", (every, limit))
+    if not 1 <= every <= 1000000 or limit < 0:
+        raise ValueError(_in_words.refusal(3, "first_difference", (every, limit)))
+    rdram, steps = machine.image_length, 0
+    seen = _seen(machine, rdram)
+    _put(emulator, seen)
+    its = _seen(emulator, rdram)
+    for bank, (memory, other) in enumerate(zip(seen.memories, its.memories)):
+        if len(memory) != len(other):
+            told = f"memory({bank}, 0, {len(memory)}) has {len(other)} bytes"
+            raise ValueError(f"first_difference: the emulator's {told}")
+    if seen != its:
+        return FirstDifference(0, *machine.listing(seen.state.pc, 1)[0], seen.state, _parts(seen, its))
+    while steps < limit:
+        made = machine.run_until_move(min(every, limit - steps), 0, LENGTHS).steps
+        if made:
+            emulator.run(made)
+            before, its = seen, _seen(emulator)
+            # A DMA alone changes the machine's IMEM.
+            seen = _Seen(machine.get(), (machine.memory(0, 0, 4096), before.memories[1]))
+            if seen != its:
+                stretch = range(steps + 1, steps + made + 1)
+                return _narrowed(machine, emulator, before, stretch, _parts(seen, its))
+        else:  # it is before a DMA, or can't go on
+            goes_on, found = _step(machine, emulator, steps + 1, rdram)
+            if found or not goes_on:
+                return found
+            made, seen = 1, _seen(machine)
+        steps += made
+    return None

@@ -1,0 +1,154 @@
+"""Registers as text: the lines of the bench's `regs`, `vregs`, `acc` and `flags`, and tables for a notebook.
+"""
+
+from html import escape
+from typing import Any, Iterable, Iterator, List, NamedTuple, Tuple
+
+SP_NAMES = (
+    "SP_MEM_ADDR", "SP_DRAM_ADDR", "SP_RD_LEN", "SP_WR_LEN", "SP_STATUS", "SP_DMA_FULL", "SP_DMA_BUSY",
+    "SP_SEMAPHORE", *(f"DPC register {n}" for n in range(8)),
+)  # fmt: skip
+
+Named = Iterator[Tuple[str, int, int]]
+
+
+class Part(NamedTuple):
+    """A part that differs: its name, such as `$3`, its value, the other's value, and how many hexadecimal
+    digits it has."""
+
+    name: str
+    value: int
+    other: int
+    digits: int
+
+    def __str__(self) -> str:
+        return self.told("here", "in the other")
+
+    def told(self, here: str, there: str) -> str:
+        """The sentence `$3 is fffffff0 HERE and 3ffffff0 THERE`."""
+        return f"{self.name} is {self.value:0{self.digits}x} {here} and {self.other:0{self.digits}x} {there}"
+
+
+class Difference(Tuple[Part, ...]):
+    """The parts that differ between two states, in the bench's order. It is false if there is none."""
+
+    def __str__(self) -> str:
+        return self.told("here", "in the other")
+
+    def told(self, here: str, there: str) -> str:
+        """A line for each part, such as `$3 is fffffff0 on the machine and 3ffffff0 in the emulator`."""
+        return "\n".join(it.told(here, there) for it in self) or "no difference"
+
+    def __repr__(self) -> str:
+        return f"<rsp.Difference: {', '.join(it.name for it in self) or 'none'}>"
+
+    def _repr_html_(self) -> str:
+        rows = [[it.name, f"{it.value:0{it.digits}x}", f"{it.other:0{it.digits}x}"] for it in self]
+        return table([["", "here", "the other"], *rows])
+
+
+def table(rows: Iterable[Iterable[str]]) -> str:
+    """A table in HTML; the first cell of a row is its heading."""
+    lines = []
+    for first, *others in rows:
+        cells = "".join(f"<td><code>{escape(it)}</code></td>" for it in others)
+        lines.append(f"<tr><th>{escape(first)}</th>{cells}</tr>")
+    return f"<table>{''.join(lines)}</table>"
+
+
+def regs(state: Any) -> List[str]:
+    """The lines of `regs`: pc and npc, then four registers a line."""
+    words = list(state.words)
+    lines = [f"r{n:02} " + " ".join(f"{it:08x}" for it in words[n : n + 4]) for n in range(0, 32, 4)]
+    return [f"pc {state.pc:03x} npc {state.npc:03x}", *lines]
+
+
+def vregs(vectors: Iterable[Iterable[int]]) -> List[str]:
+    """The lines of `vregs`: a vector register a line, lane 0 first."""
+    return [f"v{n:02} " + " ".join(f"{it:04x}" for it in lanes) for n, lanes in enumerate(vectors)]
+
+
+def acc(accumulators: Any) -> List[str]:
+    """The lines of `acc`: the 48 bits of an accumulator a line."""
+    return [f"a{n} {value:0{digits}x}" for n, (_, value, digits) in enumerate(acc_parts(accumulators))]
+
+
+def scalar_parts(state: Any) -> Named:
+    """The name, the value and the digits of pc, npc and each scalar register."""
+    yield "pc", state.pc, 3
+    yield "npc", state.npc, 3
+    for n, value in enumerate(state.words):
+        yield f"${n}", value, 8
+
+
+def vector_parts(vectors: Iterable[Iterable[int]]) -> Named:
+    """Those of each lane of each vector register."""
+    for n, lanes in enumerate(vectors):
+        for lane, value in enumerate(lanes):
+            yield f"$v{n} lane {lane}", value, 4
+
+
+def acc_parts(accumulators: Any) -> Named:
+    """Those of each accumulator."""
+    for lane, (high, middle, low) in enumerate(zip(accumulators.high, accumulators.middle, accumulators.low)):
+        yield f"accumulator {lane}", high << 32 | middle << 16 | low, 12
+
+
+def flag_parts(flags: Any) -> Named:
+    """Those of VCO, VCC and VCE."""
+    yield "vco", flags.differ << 8 | flags.carry, 4
+    yield "vcc", flags.clip << 8 | flags.compare, 4
+    yield "vce", flags.extra, 2
+
+
+def traced_parts(entry: Any) -> Named:
+    """Those of an entry of a trace."""
+    yield "pc", entry.pc, 3
+    yield "word", entry.word, 8
+    yield "scalar register", entry.scalar, 2
+    yield "value", entry.value, 8
+    yield "vector register", entry.vector, 2
+    for lane, value in enumerate(entry.lanes):
+        yield f"lane {lane}", value, 4
+    yield "vco", entry.vco, 4
+    yield "vcc", entry.vcc, 4
+    yield "vce", entry.vce, 2
+    yield "stored", entry.stored, 1
+    yield "address", entry.address, 3
+
+
+def traced(entry: Any) -> str:
+    """A step of a trace in a line: what was executed, and what it wrote."""
+    scalar = f" ${entry.scalar} {entry.value:08x}" if entry.scalar else ""
+    vector = f" $v{entry.vector} " + " ".join(f"{it:04x}" for it in entry.lanes) if entry.vector < 32 else ""
+    store = f" stored {entry.address:03x}" if entry.stored else ""
+    flags = f"vco {entry.vco:04x} vcc {entry.vcc:04x} vce {entry.vce:02x}"
+    return f"{entry.pc:03x} {entry.word:08x}{scalar}{vector}{store} {flags}"
+
+
+def divider_parts(divider: Any) -> Named:
+    """Those of what the divide instructions keep, by the names of the bench's `flags`."""
+    yield "in", divider.input, 4
+    yield "out", divider.output, 4
+    yield "loaded", divider.loaded, 1
+
+
+def sp_parts(words: Iterable[int], interrupt: int) -> Named:
+    """Those of the SP registers and of the interrupt flag."""
+    yield from ((name, value, 8) for name, value in zip(SP_NAMES, words))
+    yield "interrupt", interrupt, 1
+
+
+def state_parts(state: Any) -> Named:
+    """Those of all registers."""
+    yield from scalar_parts(state)
+    yield from vector_parts(state.vectors)
+    yield from acc_parts(state.accumulators)
+    yield from flag_parts(state.flags)
+    yield from divider_parts(state.divider)
+    yield from sp_parts(state.sp, state.interrupt)
+
+
+def line(parts: Named) -> str:
+    """Names with their values in one line."""
+    return " ".join(f"{name} {value:0{digits}x}" for name, value, digits in parts)

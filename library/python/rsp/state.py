@@ -1,0 +1,259 @@
+"""Registers as plain structures. A field is checked as it is set, `==` compares bytes, and `print` shows what
+the bench shows."""
+
+from ctypes import Structure, c_uint8, c_uint16, c_uint32
+from typing import TYPE_CHECKING, Any, ClassVar, Dict, List, Tuple, Type, TypeVar
+
+from . import shown
+from .items import Lanes, Sp, SpItems, Vectors, Words, taken
+from .shown import Difference, Part
+
+if TYPE_CHECKING:
+    from . import typed
+
+_P = TypeVar("_P", bound="Plain")
+Fields = List[Tuple[str, Any]]
+
+
+def u32(*names: str) -> Fields:
+    """Fields of 32 bits."""
+    return [(name, c_uint32) for name in names]
+
+
+def u16(*names: str) -> Fields:
+    """Fields of 16 bits."""
+    return [(name, c_uint16) for name in names]
+
+
+def u8(*names: str) -> Fields:
+    """Fields of 8 bits."""
+    return [(name, c_uint8) for name in names]
+
+
+class Plain(Structure):
+    """A structure of numbers: built from values in order or by keywords, checked as it is set, equal to
+    another if all numbers are."""
+
+    _kinds: ClassVar[Dict[str, Any]] = {}
+
+    def __init_subclass__(cls, **words: Any) -> None:
+        super().__init_subclass__(**words)
+        cls._kinds = {name: kind for name, kind in cls.__dict__.get("_fields_", ()) if name != "zero"}
+
+    def __init__(self, *values: Any, **fields: Any) -> None:
+        super().__init__()
+        for name, value in [*zip(self._kinds, values), *fields.items()]:
+            setattr(self, name, value)
+        if len(values) > len(self._kinds) or fields.keys() & [*self._kinds][: len(values)]:
+            raise TypeError(f"rsp.{type(self).__name__} takes each of {', '.join(self._kinds)} at most once")
+
+    def __setattr__(self, name: str, value: Any) -> None:
+        kind = self._kinds.get(name)
+        if kind is None:
+            known = f"its fields are {', '.join(self._kinds)}"
+            raise AttributeError(f"rsp.{type(self).__name__} has no field {name}; {known}")
+        super().__setattr__(name, taken(name, kind, value))
+
+    def __eq__(self, other: object) -> bool:
+        if type(other) is not type(self):
+            return NotImplemented
+        both: List[Any] = [self, other]
+        if bytes(both[0]) == bytes(both[1]):
+            return True
+        # The byte `zero` of a state has no meaning, so states whose bytes differ may be equal still.
+        return all(getattr(self, it) == getattr(other, it) for it in self._kinds)
+
+    __hash__ = None  # type: ignore[assignment]
+
+    def __repr__(self) -> str:
+        held = ", ".join(f"{name}={getattr(self, name)!r}" for name in self._kinds)
+        return f"{type(self).__name__}({held})"
+
+    def _parts(self) -> shown.Named:
+        """The name, the value and the hexadecimal digits of each part."""
+        raise NotImplementedError
+
+    def __str__(self) -> str:
+        return shown.line(self._parts())
+
+    def _repr_html_(self) -> str:
+        return shown.table(it.split() for it in str(self).splitlines())
+
+    def diff(self: _P, other: _P) -> Difference:
+        """The parts in which they differ, each with its name and both values."""
+        if type(other) is not type(self):
+            raise TypeError(f"diff: other is of type {type(other).__name__}, not rsp.{type(self).__name__}")
+        pairs = zip(self._parts(), other._parts())
+        parts = (Part(name, mine, its, digits) for (name, mine, digits), (_, its, _) in pairs)
+        return Difference(it for it in parts if it.value != it.other)
+
+
+class Scalars(Plain):
+    """The scalar registers `words`, 32 numbers below 2**32, and the addresses pc and npc, multiples of 4
+    below 4096."""
+
+    _fields_ = [("words", Words), *u16("pc", "npc")]
+    if TYPE_CHECKING:
+        words: typed.NumbersField
+        pc: int
+        npc: int
+
+    def _parts(self) -> shown.Named:
+        return shown.scalar_parts(self)
+
+    def __repr__(self) -> str:
+        return f"<rsp.{type(self).__name__}: pc {self.pc:03x}, npc {self.npc:03x}>"
+
+    def __str__(self) -> str:
+        return "\n".join(shown.regs(self))
+
+
+class Accumulators(Plain):
+    """Bits 47 to 32, 31 to 16 and 15 to 0 of the eight accumulators: eight numbers below 65536 each."""
+
+    _fields_ = [("high", Lanes), ("middle", Lanes), ("low", Lanes)]
+    if TYPE_CHECKING:
+        high: typed.NumbersField
+        middle: typed.NumbersField
+        low: typed.NumbersField
+
+    def _parts(self) -> shown.Named:
+        return shown.acc_parts(self)
+
+    def __str__(self) -> str:
+        return "\n".join(shown.acc(self))
+
+
+class Flags(Plain):
+    """Flags, numbers below 256, bit i for lane i. VCO is `carry` in bits 0 to 7 and `differ` (not-equal) in 8
+    to 15, VCC `compare` and `clip`, VCE `extra`."""
+
+    _fields_ = [*u8("carry", "differ", "compare", "clip", "extra")]
+    if TYPE_CHECKING:
+        carry: int
+        differ: int
+        compare: int
+        clip: int
+        extra: int
+
+    def _parts(self) -> shown.Named:
+        return shown.flag_parts(self)
+
+
+class Divider(Plain):
+    """What the divide instructions keep: DIV_IN and DIV_OUT, below 65536, and 1 or 0, if DIV_IN is loaded."""
+
+    _fields_ = [*u16("input", "output", "loaded")]
+    if TYPE_CHECKING:
+        input: int
+        output: int
+        loaded: int
+
+    def _parts(self) -> shown.Named:
+        return shown.divider_parts(self)
+
+
+class SpWords(Plain):
+    """The sixteen SP registers as `peek` gives them, `words`, and `interrupt`, 1 if the interrupt flag is
+    set, else 0."""
+
+    _fields_ = [("words", SpItems), *u32("interrupt")]
+    if TYPE_CHECKING:
+        words: typed.NumbersField
+        interrupt: int
+
+    def _parts(self) -> shown.Named:
+        return shown.sp_parts(self.words, self.interrupt)
+
+    def __str__(self) -> str:
+        return "\n".join(f"{name} {value:0{digits}x}" for name, value, digits in self._parts())
+
+
+class Traced(Plain):
+    """An entry of a trace: the `word` at `pc` that a step executed, and what it wrote.
+
+    `scalar` is the number of the scalar register, 0 if it wrote none, and `value` what that holds after the
+    step; `vector` is the number of the vector register (of LTV the first of its group), 32 if it wrote none,
+    and `lanes` what that holds. `vco`, `vcc` and `vce` are the flags after the step. A store has `stored` 1
+    and its `address` in DMEM. What there isn't is 0.
+    """
+
+    _fields_ = [
+        *u32("word", "value"),
+        *u16("pc", "address", "vco", "vcc"),
+        *u8("vce", "scalar", "vector", "stored"),
+        ("lanes", Lanes),
+    ]
+    if TYPE_CHECKING:
+        word: int
+        value: int
+        pc: int
+        address: int
+        vco: int
+        vcc: int
+        vce: int
+        scalar: int
+        vector: int
+        stored: int
+        lanes: typed.NumbersField
+
+    def _parts(self) -> shown.Named:
+        return shown.traced_parts(self)
+
+    def __str__(self) -> str:
+        return shown.traced(self)
+
+
+class State(Plain):
+    """All registers. `State()` is that of a new machine, and keywords set fields in it; npc is 4 after pc if
+    it isn't given.
+
+    `words` has 32 scalar registers below 2**32, the first 0; `vectors[n][lane]` 32 vectors of eight lanes
+    below 65536, lane 0 first; `sp` the sixteen SP registers as `peek` gives them; `pc` and `npc` are
+    multiples of 4 below 4096, and `interrupt` is 0 or 1. A field that is an array takes a list. `print` shows
+    the lines of the bench's `regs`, `vregs` and `flags`.
+    """
+
+    _fields_ = [
+        ("words", Words),
+        ("vectors", Vectors),
+        ("accumulators", Accumulators),
+        ("flags", Flags),
+        *u8("zero"),
+        ("divider", Divider),
+        *u16("pc", "npc"),
+        ("sp", Sp),
+        *u32("interrupt"),
+    ]
+    if TYPE_CHECKING:
+        words: typed.NumbersField
+        vectors: typed.VectorsField
+        accumulators: Accumulators
+        flags: Flags
+        divider: Divider
+        pc: int
+        npc: int
+        sp: typed.NumbersField
+        interrupt: int
+
+    def __init__(self, *values: Any, **fields: Any) -> None:
+        super().__init__(*values, **fields)
+        given = {*[*self._kinds][: len(values)], *fields}
+        if "sp" not in given:
+            self.sp[2] = self.sp[3] = 0xFF8
+        if "npc" not in given:
+            self.npc = (self.pc + 4) % 4096
+
+    def _parts(self) -> shown.Named:
+        return shown.state_parts(self)
+
+    def __repr__(self) -> str:
+        return f"<rsp.State: pc {self.pc:03x}, npc {self.npc:03x}>"
+
+    def __str__(self) -> str:
+        return "\n".join([*shown.regs(self), *shown.vregs(self.vectors), f"{self.flags} {self.divider}"])
+
+
+def unset(kind: Type[_P]) -> _P:
+    """A structure for a call to fill."""
+    return kind.__new__(kind)

@@ -1,0 +1,35 @@
+"""The arrays of a state as a type checker sees them: items are numbers, and a field takes a list too."""
+
+from typing import Any, Iterable, Iterator, List, Union, overload
+
+from .items import Items
+
+class Numbers(Items):
+    """An array of numbers."""
+
+    def __iter__(self) -> Iterator[int]: ...
+    @overload
+    def __getitem__(self, index: int) -> int: ...
+    @overload
+    def __getitem__(self, index: slice) -> List[int]: ...
+
+class Vectors(Items):
+    """The vector registers."""
+
+    def __iter__(self) -> Iterator[Numbers]: ...
+    @overload
+    def __getitem__(self, index: int) -> Numbers: ...
+    @overload
+    def __getitem__(self, index: slice) -> List[Numbers]: ...
+
+class NumbersField:
+    """A field that is an array of numbers."""
+
+    def __get__(self, state: object, kind: Any = None) -> Numbers: ...
+    def __set__(self, state: object, value: Union[Numbers, Iterable[int]]) -> None: ...
+
+class VectorsField:
+    """The field of all vector registers."""
+
+    def __get__(self, state: object, kind: Any = None) -> Vectors: ...
+    def __set__(self, state: object, value: Union[Vectors, Iterable[Iterable[int]]]) -> None: ...

@@ -1,0 +1,48 @@
+//! Finds librsp.a. The first of these counts:
+//! - the folder that RSP_LIB_DIR names;
+//! - lib/TARGET/, where an archive for that target has the library, and lib/, where a package and the release archive for Linux on x86-64 do;
+//! - ../c, where `library/c/build` puts it in the repository;
+//! - where pkg-config finds it: `library/c/install` has put it there.
+
+use std::env;
+use std::path::{Path, PathBuf};
+use std::process::Command;
+
+const READ: [&str; 3] = ["RSP_LIB_DIR", "PKG_CONFIG", "PKG_CONFIG_PATH"];
+/// What the targets have in their names for which `library/c/build` makes librsp.a.
+const BUILT: [&str; 2] = ["x86_64-", "-linux-"];
+
+/// The library folder of an installed rsp that is no older than this crate.
+fn installed() -> Option<PathBuf> {
+    let command = env::var_os("PKG_CONFIG").unwrap_or("pkg-config".into());
+    let wanted = concat!("rsp >= ", env!("CARGO_PKG_VERSION"));
+    let said = Command::new(command).args(["--variable=libdir", wanted]).output().ok()?;
+    let folder = String::from_utf8(said.stdout).ok()?.trim().replace("\\ ", " ");
+    (said.status.success() && !folder.is_empty()).then(|| folder.into())
+}
+
+fn folder(target: &str) -> Option<PathBuf> {
+    if let Some(named) = env::var_os("RSP_LIB_DIR") {
+        return Some(named.into());
+    }
+    let here = Path::new(env!("CARGO_MANIFEST_DIR"));
+    let mut beside = vec![here.join("lib").join(target)];
+    if BUILT.iter().all(|part| target.contains(part)) {
+        beside.extend([here.join("lib"), here.join("../c")]);
+    }
+    let found = beside.into_iter().find(|it| it.join("librsp.a").is_file());
+    found.or_else(|| (target == env::var("HOST").unwrap_or_default()).then(installed).flatten())
+}
+
+fn main() {
+    READ.iter().for_each(|name| println!("cargo:rerun-if-env-changed={name}"));
+    let target = env::var("TARGET").expect("cargo names the target");
+    let folder = folder(&target).unwrap_or_else(|| {
+        panic!("librsp.a for {target} isn't found: put it into lib/{target} of the crate, or name its folder by RSP_LIB_DIR; for Linux on x86-64 library/c/build or library/c/install makes it")
+    });
+    let library = folder.join("librsp.a");
+    println!("cargo:rerun-if-changed={}", library.display());
+    assert!(library.is_file(), "{} isn't there", library.display());
+    println!("cargo:rustc-link-search=native={}", folder.display());
+    println!("cargo:rustc-link-lib=static=rsp");
+}

@@ -1,0 +1,237 @@
+//! The first step after which an emulator differs from the machine.
+
+use crate::{Bank, Line, Machine, MoveEnd, Part, Refused, State, StepEnd};
+use std::fmt::{Display, Formatter};
+use std::ops::RangeInclusive;
+
+/// What [`first_difference`] calls of an emulator.
+pub trait Emulator {
+    /// Makes this many steps. The machine has made as many, so it isn't halted before any, and no word is reserved. BREAK is a step: it sets
+    /// bits 0 and 1 of SP_STATUS, `sp[4]`.
+    fn run(&mut self, steps: u32);
+    /// All registers; those that the emulator doesn't have as `set` gave them.
+    fn get(&self) -> State;
+    /// Sets all registers.
+    fn set(&mut self, state: &State);
+    /// Reads a memory from its beginning, as many bytes as the buffer has: 4096 of DMEM and of IMEM, the machine's `image_length` of RDRAM.
+    fn memory(&self, bank: Bank, bytes: &mut [u8]);
+    /// Writes a memory from its beginning.
+    fn load(&mut self, bank: Bank, bytes: &[u8]);
+}
+
+/// Sixteen bytes of a memory that differ.
+#[derive(Clone, Copy, Debug, PartialEq, Eq)]
+pub struct Quadword {
+    /// The memory.
+    pub bank: Bank,
+    /// The address of the first byte, a multiple of 16.
+    pub address: usize,
+    /// The machine's bytes, the first one highest.
+    pub value: u128,
+    /// The emulator's.
+    pub other: u128,
+}
+
+/// A step after which a machine and an emulator differ. The machine's values are the first ones.
+#[derive(Clone, Debug, PartialEq, Eq)]
+pub struct FirstDifference {
+    /// Its number, from 1. 0 says that they differ before the first step: the emulator hasn't kept what `set` and `load` gave it.
+    pub step: u64,
+    /// Its instruction.
+    pub line: Line,
+    /// How many steps up to `step` differ together: 1, or more if no step alone differs. `line` is the first of them. The emulator then has a
+    /// state that `get` and `set` don't carry.
+    pub steps: u64,
+    /// The machine's registers before it.
+    pub before: State,
+    /// The registers that differ after it.
+    pub registers: Vec<Part>,
+    /// The memories that differ after it.
+    pub memories: Vec<Quadword>,
+}
+
+/// A line for the step, and one for each part that differs: `$3 is fffffff0 on the machine and 3ffffff0 in the emulator`.
+impl Display for FirstDifference {
+    fn fmt(&self, f: &mut Formatter<'_>) -> std::fmt::Result {
+        match self.steps {
+            1 => write!(f, "step {}, {:03x}: {}", self.step, self.line.place, self.line.text)?,
+            steps => {
+                let (first, place) = (self.step - steps + 1, self.line.place);
+                write!(
+                    f,
+                    "steps {first} to {}, from {place:03x} on: no step alone differs, so get and set leave something out",
+                    self.step
+                )?;
+            }
+        }
+        for part in &self.registers {
+            write!(f, "\n  {}", part.told("on the machine", "in the emulator"))?;
+        }
+        for Quadword { bank, address, value, other } in &self.memories {
+            write!(f, "\n  {bank} {address:03x} is {value:032x} on the machine and {other:032x} in the emulator")?;
+        }
+        Ok(())
+    }
+}
+
+const BANKS: [Bank; 3] = [Bank::Dmem, Bank::Imem, Bank::Rdram];
+
+/// What is compared of a side: its registers, and its memories, of which RDRAM may be empty.
+#[derive(PartialEq)]
+struct Seen {
+    state: State,
+    memories: [Vec<u8>; 3],
+}
+
+impl Seen {
+    fn of_machine(machine: &Machine, rdram: usize) -> Result<Seen, Refused> {
+        let mut memories = [vec![0; 4096], vec![0; 4096], vec![0; rdram]];
+        for (bank, bytes) in BANKS.into_iter().zip(&mut memories).filter(|(_, bytes)| !bytes.is_empty()) {
+            machine.memory(bank, 0, bytes)?;
+        }
+        Ok(Seen { state: machine.get()?, memories })
+    }
+
+    fn of_emulator(emulator: &impl Emulator, rdram: usize) -> Seen {
+        let mut memories = [vec![0; 4096], vec![0; 4096], vec![0; rdram]];
+        BANKS.into_iter().zip(&mut memories).filter(|(_, bytes)| !bytes.is_empty()).for_each(|(bank, bytes)| emulator.memory(bank, bytes));
+        Seen { state: emulator.get(), memories }
+    }
+
+    /// The memories that were read.
+    fn read(&self) -> impl Iterator<Item = (Bank, &Vec<u8>)> {
+        BANKS.into_iter().zip(&self.memories).filter(|(_, bytes)| !bytes.is_empty())
+    }
+
+    /// The quadwords in which they differ.
+    fn quadwords(&self, other: &Seen) -> Vec<Quadword> {
+        let mut found = Vec::new();
+        for ((bank, mine), its) in BANKS.into_iter().zip(&self.memories).zip(&other.memories) {
+            let pairs = mine.chunks(16).zip(its.chunks(16)).enumerate().filter(|(_, (value, other))| value != other);
+            found.extend(pairs.map(|(n, (value, other))| Quadword { bank, address: 16 * n, value: number(value), other: number(other) }));
+        }
+        found
+    }
+
+    /// The difference after a step, if there is one.
+    fn difference(&self, other: &Seen, step: u64, line: Line, before: State) -> Option<FirstDifference> {
+        let found =
+            || FirstDifference { step, line, steps: 1, before, registers: self.state.diff(&other.state), memories: self.quadwords(other) };
+        (self != other).then(found)
+    }
+}
+
+/// Bytes as a number, the first one highest.
+fn number(bytes: &[u8]) -> u128 {
+    bytes.iter().fold(0, |number, byte| number << 8 | u128::from(*byte))
+}
+
+/// How a step of both ended.
+enum Both {
+    /// The machine can't make it.
+    Ended,
+    Alike,
+    Differ(Box<FirstDifference>),
+}
+
+/// One step of both, after which they are compared.
+fn step(machine: &mut Machine, emulator: &mut impl Emulator, number: u64, rdram: usize) -> Result<Both, Refused> {
+    let before = machine.get()?;
+    let line = next_line(machine, &before)?;
+    if machine.step()? != StepEnd::Done {
+        return Ok(Both::Ended);
+    }
+    emulator.run(1);
+    let (mine, its) = (Seen::of_machine(machine, rdram)?, Seen::of_emulator(emulator, rdram));
+    Ok(mine.difference(&its, number, line, before).map_or(Both::Alike, |found| Both::Differ(Box::new(found))))
+}
+
+/// Brings an emulator to what was seen.
+fn put(emulator: &mut impl Emulator, seen: &Seen) {
+    emulator.set(&seen.state);
+    seen.read().for_each(|(bank, bytes)| emulator.load(bank, bytes));
+}
+
+/// The instruction at pc.
+fn next_line(machine: &Machine, state: &State) -> Result<Line, Refused> {
+    Ok(machine.listing(state.pc.into(), 1)?.swap_remove(0))
+}
+
+/// The step of a stretch after which they differ, or the whole stretch if no step alone shows it.
+fn narrowed(
+    machine: &mut Machine,
+    emulator: &mut impl Emulator,
+    before: &Seen,
+    steps: RangeInclusive<u64>,
+    stretch: FirstDifference,
+) -> Result<FirstDifference, Refused> {
+    machine.set(&before.state)?;
+    for (bank, bytes) in before.read() {
+        machine.load(bank, 0, bytes)?;
+    }
+    put(emulator, before);
+    for number in steps.clone() {
+        if let Both::Differ(found) = step(machine, emulator, number, 0)? {
+            return Ok(*found);
+        }
+    }
+    Ok(FirstDifference { steps: steps.end() - steps.start() + 1, ..stretch })
+}
+
+/// A write of SP_RD_LEN or SP_WR_LEN starts a DMA.
+const LENGTHS: u16 = 1 << 2 | 1 << 3;
+
+/// Makes at most so many steps, and ends before one that starts a DMA. Returns how many it made.
+fn run_before_dma(machine: &mut Machine, steps: u32) -> Result<u32, Refused> {
+    Ok(match machine.run_until_move(steps, 0, LENGTHS)? {
+        MoveEnd::Stop(stop) => stop.steps,
+        MoveEnd::Move { steps, .. } => steps,
+    })
+}
+
+/// The first step after which an emulator differs from the machine, or none in `limit` steps, or up to a halt or a reserved word. After none,
+/// [`Machine::step`] says which. Breakpoints and watches don't end it.
+///
+/// The emulator is first given the machine's registers and memories. Then both run in stretches of at most `every` steps, 1 to 1000000, that
+/// end before a DMA. After each, all registers, DMEM and IMEM are compared, and after a DMA RDRAM too. If they differ, both go back to the
+/// last comparison and are stepped; they stay after the step that differs, and the machine's history is empty. It is refused as
+/// [`Refused::OutOfRange`] if `every` isn't in its range.
+pub fn first_difference(
+    machine: &mut Machine,
+    emulator: &mut impl Emulator,
+    every: u32,
+    limit: u64,
+) -> Result<Option<FirstDifference>, Refused> {
+    if !(1..=1_000_000).contains(&every) {
+        return Err(Refused::OutOfRange);
+    }
+    let rdram = machine.image_length();
+    let seen = Seen::of_machine(machine, rdram)?;
+    put(emulator, &seen);
+    if let Some(found) = seen.difference(&Seen::of_emulator(emulator, rdram), 0, next_line(machine, &seen.state)?, seen.state) {
+        return Ok(Some(found));
+    }
+    let (mut steps, mut before) = (0, Seen::of_machine(machine, 0)?);
+    while steps < limit {
+        let most = u32::try_from(limit - steps).map_or(every, |left| left.min(every));
+        let line = next_line(machine, &before.state)?;
+        let made = run_before_dma(machine, most)?;
+        if made == 0 {
+            // It is before a DMA, or can't go on.
+            match step(machine, emulator, steps + 1, rdram)? {
+                Both::Ended => break,
+                Both::Alike => steps += 1,
+                Both::Differ(found) => return Ok(Some(*found)),
+            }
+            before = Seen::of_machine(machine, 0)?;
+            continue;
+        }
+        emulator.run(made);
+        let (last, seen) = (steps + u64::from(made), Seen::of_machine(machine, 0)?);
+        if let Some(stretch) = seen.difference(&Seen::of_emulator(emulator, 0), last, line, before.state) {
+            return narrowed(machine, emulator, &before, steps + 1..=last, stretch).map(Some);
+        }
+        (steps, before) = (last, seen);
+    }
+    Ok(None)
+}

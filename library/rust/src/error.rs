@@ -1,0 +1,113 @@
+//! Why a call was refused.
+
+use crate::{raw, Fault, Operand};
+use std::error::Error;
+use std::fmt;
+
+/// The version of the interface for which this crate is.
+pub const VERSION: u32 = 1;
+
+/// Why a call was refused. It has changed nothing.
+#[derive(Clone, Copy, Debug, PartialEq, Eq)]
+pub enum Refused {
+    /// An allocation failed.
+    NoMemory,
+    /// A number, a length or a count is out of its range.
+    OutOfRange,
+    /// A text has a fault.
+    NoMeaning {
+        /// The number of the line, from 1.
+        line: usize,
+        /// The number of a [`Fault`], which is the source of this error.
+        fault: u32,
+        /// The operand at fault, if one is.
+        operand: Option<Operand>,
+    },
+    /// The address of a task isn't a multiple of 8, or its structure passes the image's end.
+    TaskPlace,
+    /// The size of a task's boot code isn't 1 to 4096.
+    TaskSize,
+    /// Sixteen addresses have a breakpoint.
+    BreakFull,
+    /// The address has a breakpoint.
+    BreakTwice,
+    /// The address has no breakpoint.
+    NoBreak,
+    /// There are eight watches.
+    WatchFull,
+    /// The number has no watch.
+    NoWatch,
+    /// The history holds fewer states.
+    ShortHistory,
+    /// The library has this version of the interface, and the crate is for [`VERSION`].
+    Version(u32),
+    /// A status that this crate doesn't know.
+    Unknown(u32),
+}
+
+impl fmt::Display for Refused {
+    fn fmt(&self, f: &mut fmt::Formatter<'_>) -> fmt::Result {
+        f.write_str(match self {
+            Refused::NoMemory => "an allocation failed",
+            Refused::OutOfRange => "a number, a length or a count is out of its range",
+            Refused::NoMeaning { line, fault, operand } => return told(f, *line, *fault, *operand),
+            Refused::TaskPlace => "the task's address isn't a multiple of 8, or its structure passes the image's end",
+            Refused::TaskSize => "the size of the task's boot code isn't 1 to 4096",
+            Refused::BreakFull => "sixteen addresses have a breakpoint",
+            Refused::BreakTwice => "the address has a breakpoint",
+            Refused::NoBreak => "the address has no breakpoint",
+            Refused::WatchFull => "there are eight watches",
+            Refused::NoWatch => "no watch has this number",
+            Refused::ShortHistory => "the history holds fewer states",
+            Refused::Version(found) => return write!(f, "the interface of the library has version {found}, not {VERSION}"),
+            Refused::Unknown(status) => return write!(f, "the library returned the unknown status {status}"),
+        })
+    }
+}
+
+/// The fault of a text in the words of the bench, `fault 11 UnknownName line 2`, and what its operand may be.
+fn told(f: &mut fmt::Formatter<'_>, line: usize, fault: u32, operand: Option<Operand>) -> fmt::Result {
+    write!(f, "fault {fault} ")?;
+    Fault::of(fault).map_or(Ok(()), |it| write!(f, "{it:?} "))?;
+    write!(f, "line {line}")?;
+    operand.map_or(Ok(()), |it| {
+        f.write_str("; ")?;
+        it.told(f, fault)
+    })
+}
+
+impl Error for Refused {
+    fn source(&self) -> Option<&(dyn Error + 'static)> {
+        match self {
+            Refused::NoMeaning { fault, .. } => Fault::of(*fault).map(|it| it as &dyn Error),
+            _ => None,
+        }
+    }
+}
+
+/// Refuses a library of another version, before it is used.
+pub(crate) fn right_version() -> Result<(), Refused> {
+    // SAFETY: it takes nothing.
+    match unsafe { raw::rsp_version() } {
+        VERSION => Ok(()),
+        other => Err(Refused::Version(other)),
+    }
+}
+
+/// The result that a status means.
+pub(crate) fn done(status: u32) -> Result<(), Refused> {
+    Err(match status {
+        0 => return Ok(()),
+        2 => Refused::NoMemory,
+        3 => Refused::OutOfRange,
+        7 => Refused::TaskPlace,
+        8 => Refused::TaskSize,
+        9 => Refused::BreakFull,
+        10 => Refused::BreakTwice,
+        11 => Refused::NoBreak,
+        12 => Refused::WatchFull,
+        13 => Refused::NoWatch,
+        14 => Refused::ShortHistory,
+        other => Refused::Unknown(other),
+    })
+}

@@ -1,0 +1,37 @@
+//! The Nintendo 64's Reality Signal Processor (RSP): emulator, debugger, assembler and disassembler, proved to follow the instruction table.
+//!
+//! A [`Machine`] may go to another thread. A refused call returns why, and has changed nothing.
+//!
+//! ```
+//! use rsp::{assemble, Bank, Machine, Reason};
+//!
+//! let mut machine = Machine::new(&[0; 64], 100)?;
+//! machine.load_words(Bank::Imem, 0, &assemble("ori $2, $0, 0x1234\nbreak\n", 0)?)?;
+//! assert_eq!(machine.run(100)?.reason, Reason::Halt);
+//! assert_eq!(machine.reg(2)?, 0x1234);
+//! # Ok::<(), rsp::Refused>(())
+//! ```
+
+#![warn(missing_docs)]
+
+mod compare;
+mod difference;
+mod error;
+mod faults;
+mod machine;
+mod numbers;
+mod operand;
+mod raw;
+mod shapes;
+mod shown;
+mod texts;
+
+pub use compare::{first_difference, Emulator, FirstDifference, Quadword};
+pub use difference::{Part, Place};
+pub use error::{Refused, VERSION};
+pub use faults::Fault;
+pub use machine::Machine;
+pub use numbers::NoSuchNumber;
+pub use operand::Operand;
+pub use shapes::{Accumulators, Bank, DivideState, Field, FlagBits, Line, MoveEnd, Reason, Scalars, SpWords, State, StepEnd, Stop, Traced};
+pub use texts::{assemble, text, version};

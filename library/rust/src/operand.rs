@@ -1,0 +1,70 @@
+//! The operand for which a text is refused.
+
+use crate::raw;
+use std::fmt;
+
+/// The operand for which a text is refused, and what it may be.
+#[derive(Clone, Copy, Debug, PartialEq, Eq)]
+pub struct Operand {
+    /// Which one of its line it is, from 1. The line may lack it.
+    pub number: usize,
+    /// What the statement takes there: an `RSP_OPERAND_` of `rsp.h`.
+    pub kind: u32,
+    /// The lowest and the highest number that it may be, and the step of which each is a multiple; None of what has no range.
+    pub range: Option<(i64, i64, u32)>,
+}
+
+/// By the numbers of `RSP_OPERAND_`. A range follows what ends with a comma.
+const FORMS: [&str; 15] = [
+    "nothing",
+    "a number or a label,",
+    "a scalar register",
+    "a number or a label,",
+    "a number or a label,",
+    "a number or a label,",
+    "a number or a label,",
+    "a number or a label,",
+    "a number or a label,",
+    "an SP register, $c0 to $c15",
+    "$vco, $vcc or $vce",
+    "a vector register",
+    "a vector register, with a byte or none",
+    "a vector register, with an element or none",
+    "a vector register, with a lane",
+];
+const MEMORY: [u32; 2] = [7, 8];
+const BAD_OPERAND: u32 = 12;
+const LABEL_MISSING: u32 = 15;
+
+impl Operand {
+    /// The operand for which this text is refused; None if there is none, or no memory to find it.
+    pub(crate) fn of(text: &str, origin: u32) -> Option<Self> {
+        let mut out = raw::Operand::default();
+        // SAFETY: each pointer is of a borrow, with its own length.
+        let status = unsafe { raw::rsp_explain(origin, text.as_ptr(), text.len(), &mut out) };
+        if status != 0 || out.number == 0 {
+            return None;
+        }
+        let range = if out.step == 0 { None } else { Some((out.low, out.high, out.step)) };
+        Some(Operand { number: out.number, kind: out.kind, range })
+    }
+
+    /// Writes which operand it is and what it may be, after this fault.
+    pub(crate) fn told(&self, f: &mut fmt::Formatter<'_>, fault: u32) -> fmt::Result {
+        write!(f, "operand {} may be ", self.number)?;
+        if fault == BAD_OPERAND {
+            f.write_str(FORMS.get(self.kind as usize).unwrap_or(&"another one"))?;
+            f.write_str(if self.range.is_some() { " " } else { "" })?;
+        } else if fault == LABEL_MISSING {
+            f.write_str("the label of a line, or ")?;
+        }
+        if let Some((low, high, step)) = self.range {
+            write!(f, "{low} to {high}")?;
+            if step > 1 {
+                write!(f, ", a multiple of {step}")?;
+            }
+        }
+        let in_memory = fault == BAD_OPERAND && MEMORY.contains(&self.kind);
+        f.write_str(if in_memory { ", and a scalar register in parentheses" } else { "" })
+    }
+}

@@ -1,0 +1,102 @@
+//! What library/c/rsp.h declares.
+
+use crate::shapes::{Accumulators, DivideState, FlagBits, Scalars, SpWords, State, Traced};
+
+#[repr(C)]
+pub struct Handle {
+    pub at: *mut u8,
+}
+
+#[repr(C)]
+#[derive(Default)]
+pub struct Stop {
+    pub reason: u32,
+    pub steps: u32,
+    pub watch: usize,
+    pub pc: u16,
+    pub word: u32,
+}
+
+#[repr(C)]
+#[derive(Default)]
+pub struct Move {
+    pub stop: Stop,
+    pub word: u32,
+    pub number: u32,
+    pub writes: u32,
+    pub value: u32,
+}
+
+#[repr(C)]
+#[derive(Default)]
+pub struct Lanes {
+    pub lanes: [u16; 8],
+}
+
+#[repr(C)]
+#[derive(Default)]
+pub struct Assembled {
+    pub count: usize,
+    pub line: usize,
+    pub fault: u32,
+}
+
+#[repr(C)]
+#[derive(Default)]
+pub struct Operand {
+    pub low: i64,
+    pub high: i64,
+    pub number: usize,
+    pub kind: u32,
+    pub step: u32,
+}
+
+#[repr(C)]
+#[derive(Clone, Copy)]
+pub struct Line {
+    pub word: u32,
+    pub place: u16,
+    pub len: u16,
+    pub text: [u8; 68],
+}
+
+extern "C" {
+    pub fn rsp_version() -> u32;
+    pub fn rsp_new(m: *mut Handle, image: *const u8, len: usize, depth: u32) -> u32;
+    pub fn rsp_copy(to: *mut Handle, from: *mut Handle) -> u32;
+    pub fn rsp_free(m: *mut Handle);
+    pub fn rsp_get(m: *mut Handle, out: *mut State) -> u32;
+    pub fn rsp_set(m: *mut Handle, state: *const State) -> u32;
+    pub fn rsp_state_fault(state: *const State, out: *mut u32) -> u32;
+    pub fn rsp_load(m: *mut Handle, bank: u32, address: u32, bytes: *const u8, len: usize) -> u32;
+    pub fn rsp_load_words(m: *mut Handle, bank: u32, address: u32, words: *const u32, len: usize) -> u32;
+    pub fn rsp_memory(m: *mut Handle, bank: u32, address: u32, bytes: *mut u8, len: usize) -> u32;
+    pub fn rsp_memory_words(m: *mut Handle, bank: u32, address: u32, words: *mut u32, len: usize) -> u32;
+    pub fn rsp_task(m: *mut Handle, address: u32) -> u32;
+    pub fn rsp_set_pc(m: *mut Handle, pc: u32) -> u32;
+    pub fn rsp_step(m: *mut Handle) -> u32;
+    pub fn rsp_run(m: *mut Handle, n: u32, out: *mut Stop) -> u32;
+    pub fn rsp_run_until_move(m: *mut Handle, n: u32, reads: u32, writes: u32, out: *mut Move) -> u32;
+    pub fn rsp_trace(m: *mut Handle, out: *mut Traced, n: usize, stop: *mut Stop) -> u32;
+    pub fn rsp_back(m: *mut Handle, n: u32) -> u32;
+    pub fn rsp_pass(m: *mut Handle, value: u32) -> u32;
+    pub fn rsp_add_break(m: *mut Handle, place: u32) -> u32;
+    pub fn rsp_drop_break(m: *mut Handle, place: u32) -> u32;
+    pub fn rsp_add_watch(m: *mut Handle, address: u32, len: u32, number: *mut usize) -> u32;
+    pub fn rsp_drop_watch(m: *mut Handle, number: u32) -> u32;
+    pub fn rsp_reg(m: *mut Handle, n: u32, out: *mut u32) -> u32;
+    pub fn rsp_regs(m: *mut Handle, out: *mut Scalars) -> u32;
+    pub fn rsp_vreg(m: *mut Handle, n: u32, out: *mut Lanes) -> u32;
+    pub fn rsp_acc(m: *mut Handle, out: *mut Accumulators) -> u32;
+    pub fn rsp_flags(m: *mut Handle, out: *mut FlagBits) -> u32;
+    pub fn rsp_divider(m: *mut Handle, out: *mut DivideState) -> u32;
+    pub fn rsp_read(m: *mut Handle, n: u32, out: *mut u32) -> u32;
+    pub fn rsp_peek(m: *mut Handle, n: u32, out: *mut u32) -> u32;
+    pub fn rsp_write(m: *mut Handle, n: u32, value: u32) -> u32;
+    pub fn rsp_sp(m: *mut Handle, out: *mut SpWords) -> u32;
+    pub fn rsp_set_sp(m: *mut Handle, given: *const SpWords) -> u32;
+    pub fn rsp_assemble(origin: u32, text: *const u8, len: usize, words: *mut u32, capacity: usize, out: *mut Assembled) -> u32;
+    pub fn rsp_text(word: u32, place: u32, out: *mut Line) -> u32;
+    pub fn rsp_listing(m: *mut Handle, place: u32, lines: *mut Line, len: usize) -> u32;
+    pub fn rsp_explain(origin: u32, text: *const u8, len: usize, out: *mut Operand) -> u32;
+}

@@ -1,0 +1,44 @@
+//! Assembling and disassembling.
+
+use crate::error::{done, right_version};
+use crate::raw;
+use crate::shapes::Line;
+use crate::{Operand, Refused};
+
+const NO_MEANING: u32 = 6;
+
+pub(crate) const NO_LINE: raw::Line = raw::Line { word: 0, place: 0, len: 0, text: [0; 68] };
+
+pub(crate) fn seen(line: &raw::Line) -> Line {
+    Line { place: line.place, word: line.word, text: String::from_utf8_lossy(&line.text[..usize::from(line.len)]).into_owned() }
+}
+
+/// The words of a text, the first one for the address `origin`, a multiple of 4 up to 4096.
+pub fn assemble(text: &str, origin: u32) -> Result<Vec<u32>, Refused> {
+    right_version()?;
+    let mut words = vec![0; 1024];
+    let mut out = raw::Assembled::default();
+    // SAFETY: each pointer is of a borrow, with its own length.
+    let status = unsafe { raw::rsp_assemble(origin, text.as_ptr(), text.len(), words.as_mut_ptr(), words.len(), &mut out) };
+    if status == NO_MEANING {
+        return Err(Refused::NoMeaning { line: out.line, fault: out.fault, operand: Operand::of(text, origin) });
+    }
+    done(status)?;
+    words.truncate(out.count);
+    Ok(words)
+}
+
+/// The disassembly of a word for the address `place`, a multiple of 4 below 4096.
+pub fn text(word: u32, place: u32) -> Result<String, Refused> {
+    right_version()?;
+    let mut line = NO_LINE;
+    // SAFETY: the pointer is of a borrow.
+    done(unsafe { raw::rsp_text(word, place, &mut line) })?;
+    Ok(seen(&line).text)
+}
+
+/// The version of the library's interface. A library of another one than [`VERSION`](crate::VERSION) is refused.
+pub fn version() -> u32 {
+    // SAFETY: it takes nothing.
+    unsafe { raw::rsp_version() }
+}

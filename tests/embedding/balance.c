@@ -1,0 +1,111 @@
+/* How many blocks of memory are held after rsp_new, rsp_copy, rsp_free and rsp_assemble, done or refused, and what each answers: of rsp_new
+ * at every depth and for images of every class of lengths. A machine has equally many blocks at each depth but 0, and RSP_NO_MEMORY is
+ * answered only if an allocation failed. Linked with -Wl,--wrap=malloc,--wrap=realloc,--wrap=free. */
+#include "rsp.h"
+#include "counted.h"
+#include <stdio.h>
+#include <string.h>
+
+#define LONGEST 8388608u
+
+static int passed, failed;
+static uint8_t image[LONGEST + 64];
+static rsp m = RSP_NONE, other = RSP_NONE, none = RSP_NONE;
+
+/* A call answers this status, and this many blocks are held after it. No allocation failed. The first ten faults are shown. */
+static void see(const char *what, long of, uint32_t status, uint32_t wanted, long blocks)
+{
+    int is_right = status == wanted && held == blocks && refused == 0;
+    passed += is_right;
+    failed += !is_right;
+    if (!is_right && failed <= 10) printf("FAIL %s %ld: status %u for %u, %ld blocks for %ld\n", what, of, status, wanted, held, blocks);
+}
+
+/* How many blocks a machine has. */
+static long blocks_of(uint32_t depth)
+{
+    long before = held, blocks;
+    uint32_t status = rsp_new(&m, image, 64, depth);
+    blocks = held - before;
+    see("rsp_new, of depth", depth, status, RSP_OK, before + blocks);
+    rsp_free(&m);
+    see("rsp_free, of depth", depth, m.at == NULL ? RSP_OK : RSP_NO_MACHINE, RSP_OK, before);
+    rsp_free(&m);
+    see("rsp_free again, of depth", depth, RSP_OK, RSP_OK, before);
+    return blocks;
+}
+
+/* What a handle held is freed, and what a refused call took. */
+static void depths(long one)
+{
+    static const uint32_t wrong[] = { 4097, 4098, 8192, 65536, 0x7fffffffu, 0x80000000u, 0xffffffffu };
+    uint32_t depth;
+    size_t i;
+    for (depth = 0; depth <= 4096; depth++) {
+        long blocks = depth ? one : blocks_of(0);
+        see("rsp_new, of depth", depth, rsp_new(&m, image, 64, depth), RSP_OK, blocks);
+        see("rsp_new again, of depth", depth, rsp_new(&m, image, 64, depth), RSP_OK, blocks);
+        see("rsp_copy, of depth", depth, rsp_copy(&other, &m), RSP_OK, 2 * blocks);
+        see("rsp_copy again, of depth", depth, rsp_copy(&other, &m), RSP_OK, 2 * blocks);
+        see("rsp_copy of none, of depth", depth, rsp_copy(&other, &none), RSP_NO_MACHINE, 2 * blocks);
+        rsp_free(&other);
+        rsp_free(&m);
+        see("rsp_free, of depth", depth, RSP_OK, RSP_OK, 0);
+    }
+    see("rsp_new", 0, rsp_new(&m, image, 64, 1), RSP_OK, one);
+    for (i = 0; i < sizeof wrong / sizeof *wrong; i++) {
+        long before = taken;
+        see("rsp_new, of depth", wrong[i], rsp_new(&m, image, 64, wrong[i]), RSP_OUT_OF_RANGE, one);
+        see("rsp_new takes nothing, of depth", wrong[i], taken == before ? RSP_OK : RSP_NO_MEMORY, RSP_OK, one);
+    }
+    rsp_free(&m);
+}
+
+/* An image has a multiple of 8 bytes, from 64 to 8388608. */
+static void one_length(size_t n, long one)
+{
+    int is_right = n >= 64 && n <= LONGEST && n % 8 == 0;
+    long before = taken;
+    see("rsp_new, of length", (long)n, rsp_new(&m, image, n, 1), is_right ? RSP_OK : RSP_OUT_OF_RANGE, one);
+    see("rsp_new takes memory, of length", (long)n, (taken > before) == is_right ? RSP_OK : RSP_NO_MEMORY, RSP_OK, one);
+}
+
+static void lengths(long one)
+{
+    size_t n, power;
+    see("rsp_new", 0, rsp_new(&m, image, 64, 1), RSP_OK, one);
+    for (n = 0; n <= 1024; n++) one_length(n, one);
+    for (power = 1024; power <= LONGEST; power *= 2)
+        for (n = power - 17; n <= power + 17; n++) one_length(n, one);
+    for (n = LONGEST + 18; n <= sizeof image; n++) one_length(n, one);
+    for (n = LONGEST - 65536; n < LONGEST; n += 8192) one_length(n, one);
+    for (n = 1; n < 8; n++) one_length(5000000 + n, one);
+    rsp_free(&m);
+}
+
+/* An assembly holds nothing when it returns: of words, of a fault, of bytes that are no text, without room, and at a wrong address. */
+static void texts(void)
+{
+    static const char right[] = "a: nop\nb: j a\nnop\n", wrong[] = "a: nop\nfoo\n", no_text[] = "a: nop\n\xff";
+    uint32_t words[8];
+    rsp_assembled out;
+    const uint8_t *text = (const uint8_t *)right;
+    see("rsp_assemble", 0, rsp_assemble(0, text, strlen(right), words, 8, &out), RSP_OK, 0);
+    see("rsp_assemble without room", 0, rsp_assemble(0, text, strlen(right), words, 2, &out), RSP_NO_ROOM, 0);
+    see("rsp_assemble for a wrong address", 2, rsp_assemble(2, text, strlen(right), words, 8, &out), RSP_OUT_OF_RANGE, 0);
+    text = (const uint8_t *)wrong;
+    see("rsp_assemble of a fault", 0, rsp_assemble(0, text, strlen(wrong), words, 8, &out), RSP_NO_MEANING, 0);
+    text = (const uint8_t *)no_text;
+    see("rsp_assemble of no text", 0, rsp_assemble(0, text, strlen(no_text), words, 8, &out), RSP_NO_MEANING, 0);
+}
+
+int main(void)
+{
+    long one = blocks_of(1);
+    see("a machine holds blocks", one, one > 0 ? RSP_OK : RSP_NO_MEMORY, RSP_OK, 0);
+    depths(one);
+    lengths(one);
+    texts();
+    printf("%d passed, %d failed\n", passed, failed);
+    return failed != 0;
+}

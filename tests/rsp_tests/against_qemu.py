@@ -1,0 +1,270 @@
+"""tests/part against-qemu [--blocks N] [--seed S] [PROGRAM]: scalar instructions against QEMU's MIPS.
+
+It fails if a random block of instructions leaves other registers or data there than here; 2 says that a
+program is missing. It makes N blocks (300) of the scalar instructions that a plain big-endian MIPS has too,
+runs each by `qemu-mips` (Debian's package qemu-user) and by `rsp run`, and compares the 32 scalar registers
+and the 4096 bytes of DMEM at the end. The same seed gives the same blocks. No part of the gate.
+
+How a block runs on both: its words are in IMEM from 0 on, and in the ELF file that QEMU runs at 4000 hex, a
+multiple of 4096, so that the processor, which takes addresses modulo 4096, reads the same J and JR as QEMU.
+Data are at 0 to FFF hex for both. A block begins with LUI and ORI words for all registers, and goes on with
+random instructions, with short branches and jumps forward, and with counted loops. In a delay slot is a nop
+or an instruction that computes. On the processor it ends with BREAK; for QEMU with stores of all registers
+and a system call that writes them out.
+
+Left out, since the two differ there on purpose or a plain MIPS lacks it:
+  - the overflow trap: QEMU runs ADD, SUB, ADDI as ADDU, SUBU, ADDIU, and LWU as LW
+  - links (JAL, JALR, BLTZAL, BGEZAL), which are taken modulo 4096 here, a branch in a delay slot, and a block
+    that passes the end of IMEM
+  - loads and stores that are not aligned, or wrap past 4095
+  - BREAK, MFC0 and MTC0, moves and all else of the vector unit
+"""
+
+import argparse
+import collections
+import random
+import re
+import shutil
+import struct
+import subprocess
+import sys
+import tempfile
+from pathlib import Path
+from typing import Counter, List, Sequence, Set, Tuple, Union
+
+from rsp_conformance.table import ROWS, destination, word_of
+from rsp_tests.common.arguments import add_program, reader
+
+CODE = 0x4000  # QEMU's address of the block: a multiple of 4096
+SAVED = 0x1000  # where QEMU's end of a block puts the registers, after the data
+SYSCALL = 12
+COMPUTING = (
+    "shift",
+    "three",
+    "three",
+    "three",
+    "immediate",
+)  # forms of the table, each as often as it is drawn
+TRANSFERS = [row.name for row in ROWS.values() if row.form in ("load", "store")]
+SIZES = {"b": 1, "h": 2, "w": 4}  # by the second letter of a transfer's name
+BRANCHES = ("bltz", "bgez", "blez", "bgtz", "beq", "beq", "bne", "bne")
+# What QEMU runs instead of an instruction that it lacks or that would trap.
+INSTEAD = {"add": "addu", "sub": "subu", "addi": "addiu", "lwu": "lw"}
+SMALL = [0, 1, 2, 31, 32, 0x7F, 0x80, 0xFF, 0x7FFF, 0x8000, 0xFFFF]
+NUMBERS = [*SMALL, 0x7FFFFFFF, 0x80000000, 0x80000001, 0xFFFF8000, 0xFFFFFFFF]
+# The registers and the data after a block, or what went wrong.
+Outcome = Union[str, Tuple[Sequence[int], bytes]]
+
+
+def word(name: str, **fields: int) -> int:
+    return int(word_of(ROWS[name], fields))
+
+
+def for_qemu(given: int) -> int:
+    """The word that QEMU runs instead of a block's word."""
+    for name, other in INSTEAD.items():
+        if given & ROWS[name].mask == ROWS[name].value:
+            return given & ~ROWS[name].mask | ROWS[other].value
+    return given
+
+
+class Block:
+    """A random block: its words, the data before it, and the most steps that it can take."""
+
+    def __init__(self, seed: str, used: Counter[str]) -> None:
+        self.random, self.used = random.Random(seed), used
+        self.words: List[int] = []
+        self.steps, self.loops = 0, 1
+        self.kept: Set[int] = set()  # registers that no instruction may write
+        self.data = bytes(self.random.randrange(256) for _ in range(4096))
+        for register in range(1, 32):
+            self.set_register(register, self.number())
+        for _ in range(self.random.randrange(20, 40)):
+            self.piece()
+        self.put("break")
+
+    def number(self) -> int:
+        return self.random.choice([self.random.choice(NUMBERS), self.random.randrange(1 << 32)])
+
+    def source(self) -> int:
+        return self.random.randrange(32)
+
+    def target(self, first: int = 0) -> int:
+        """A register that may be written, from the first on."""
+        return self.random.choice([it for it in range(first, 32) if it not in self.kept])
+
+    def put(self, name: str, **fields: int) -> int:
+        """Adds an instruction, and returns its place."""
+        self.words.append(word(name, **fields) if fields else ROWS[name].value)
+        self.used[name] += 1
+        self.steps += self.loops
+        return len(self.words) - 1
+
+    def set_register(self, register: int, value: int) -> None:
+        self.put("lui", t=register, imm=value >> 16)
+        self.put("ori", s=register, t=register, imm=value)
+
+    def compute(self) -> None:
+        form = self.random.choice(COMPUTING)
+        row = self.random.choice([it for it in ROWS.values() if it.form == form])
+        fields = {"s": self.source(), "t": self.source(), "sa": self.source(), "imm": self.number()}
+        self.put(row.name, **{**fields, str(destination(row)): self.target()})
+
+    def transfer(self) -> None:
+        name = self.random.choice(TRANSFERS)
+        size = SIZES[name[1]]
+        place = self.random.randrange(4096 // size) * size
+        offset, base = self.random.randrange(-32768, 32768), self.target(1)
+        self.set_register(base, (place - offset) % (1 << 32))
+        register = self.target() if ROWS[name].form == "load" else self.source()
+        self.put(name, s=base, t=register, imm=offset)
+
+    def slot(self) -> None:
+        self.random.choice([self.compute, lambda: self.put("sll")])()
+
+    def passed(self) -> int:
+        """A delay slot and some words, which may be none, over which the word before goes. The place then."""
+        self.slot()
+        for _ in range(self.random.randrange(4)):
+            self.compute()
+        return len(self.words)
+
+    def branch(self) -> None:
+        """A branch or a jump forward over some words."""
+        if self.random.randrange(3):
+            name = self.random.choice(BRANCHES)
+            at = self.put(name)
+            offset, s = self.passed() - at - 1, self.source()
+            self.words[at] = word(name, s=s, t=self.random.choice([s, self.source()]), imm=offset)
+        elif self.random.randrange(2):
+            at = self.put("j")
+            self.words[at] |= (CODE + 4 * self.passed()) // 4
+        else:
+            register, at = self.target(1), self.put("ori")
+            self.put("jr", s=register)
+            self.words[at] = word("ori", s=0, t=register, imm=CODE + 4 * self.passed())
+
+    def loop(self) -> None:
+        """A loop that is run some times: its counter is a register that the words in it don't write."""
+        if self.loops > 1:
+            return
+        counter, times = self.target(1), self.random.randrange(1, 6)
+        self.put("addiu", s=0, t=counter, imm=times)
+        self.kept.add(counter)
+        self.loops = times
+        start = len(self.words)
+        for _ in range(self.random.randrange(1, 5)):
+            self.random.choice([self.compute, self.transfer, self.branch])()
+        self.put("addiu", s=counter, t=counter, imm=-1)
+        back = start - len(self.words) - 1
+        self.put(self.random.choice(["bne", "bgtz"]), s=counter, t=0, imm=back)
+        self.slot()
+        self.loops = 1
+        self.kept.remove(counter)
+
+    def piece(self) -> None:
+        kinds = [self.compute] * 5 + [self.transfer] * 2 + [self.branch] * 2 + [self.loop]
+        self.random.choice(kinds)()
+
+
+def elf_of(block: Block) -> bytes:
+    """An ELF file for QEMU: the data at 0, the block at CODE, and then what writes data and registers out."""
+    words = [for_qemu(it) for it in block.words[:-1]]
+    words += [word("sw", s=0, t=n, imm=SAVED + 4 * n) for n in range(32)]
+    words += [word("ori", s=0, t=n, imm=value) for n, value in ((2, 4004), (4, 1), (5, 0), (6, SAVED + 128))]
+    words += [SYSCALL, word("ori", s=0, t=2, imm=4001), word("ori", s=0, t=4, imm=0), SYSCALL]
+    code = struct.pack(f">{len(words)}I", *words)
+    magic, sizes = b"\x7fELF\x01\x02\x01".ljust(16, b"\0"), (52, 32, 2, 0, 0, 0)
+    header = struct.pack(">16sHHIIIIIHHHHHH", magic, 2, 8, 1, CODE, 52, 0, 0x50001001, *sizes)
+    data_segment = struct.pack(">8I", 1, 0x1000, 0, 0, 4096, 0x2000, 6, 0x1000)
+    code_segment = struct.pack(">8I", 1, 0x2000, CODE, CODE, len(code), len(code), 5, 0x1000)
+    return (header + data_segment + code_segment).ljust(0x1000, b"\0") + block.data + code
+
+
+def script_of(block: Block) -> str:
+    """A script for the processor: loads, steps, and the state."""
+    code = struct.pack(f">{len(block.words)}I", *block.words)
+    lines = [f"load imem {i} {code[i : i + 100].hex()}" for i in range(0, len(code), 100)]
+    lines += [f"load dmem {i} {block.data[i : i + 64].hex()}" for i in range(0, 4096, 64)]
+    lines += ["step"] * (block.steps + 1) + ["regs"] + [f"mem dmem {i} 256" for i in range(0, 4096, 256)]
+    return "".join(line + "\n" for line in lines)
+
+
+def run_qemu(block: Block) -> Outcome:
+    with tempfile.TemporaryDirectory() as folder:
+        file = Path(folder, "block")
+        file.write_bytes(elf_of(block))
+        file.chmod(0o700)
+        ran = subprocess.run(["qemu-mips", str(file)], capture_output=True, timeout=60)
+    if ran.returncode or len(ran.stdout) != SAVED + 128:
+        return f"qemu: status {ran.returncode}, {len(ran.stdout)} bytes, {ran.stderr!r}"
+    return struct.unpack(">32I", ran.stdout[SAVED:]), ran.stdout[:4096]
+
+
+def run_rsp(program: str, block: Block) -> Outcome:
+    given = script_of(block)
+    ran = subprocess.run([program, "run"], input=given, capture_output=True, text=True, timeout=600)
+    faults = re.findall(r"(?m)^(?:fault|step Reserved).*", ran.stdout)
+    if ran.returncode or faults:
+        return f"rsp: status {ran.returncode} {faults[:1]} {ran.stderr.strip()}"
+    if not re.search("(?m)^step Halted", ran.stdout):
+        return "rsp: the block didn't come to its end"
+    lines = re.findall(r"(?m)^r.*", ran.stdout)
+    registers = [int(word, 16) for line in lines for word in line.split()[1:]]
+    data = bytes.fromhex("".join(re.findall(r"(?m)^.{6}: (.*)", ran.stdout)))
+    if len(registers) != 32 or len(data) != 4096:
+        return f"rsp: {len(registers)} registers and {len(data)} bytes"
+    return registers, data
+
+
+def differences(program: str, block: Block) -> List[str]:
+    """What differs in a block, as lines with QEMU's number first; none if all is the same."""
+    rsp, qemu = run_rsp(program, block), run_qemu(block)
+    if isinstance(rsp, str) or isinstance(qemu, str):
+        return [it for it in (rsp, qemu) if isinstance(it, str)]
+    found = [f"${n}: {a:08x} and {b:08x}" for n, (a, b) in enumerate(zip(qemu[0], rsp[0])) if a != b]
+    bytes_of = enumerate(zip(qemu[1], rsp[1]))
+    return found + [f"dmem {n:03x}: {a:02x} and {b:02x}" for n, (a, b) in bytes_of if a != b]
+
+
+def keep(folder: Path, name: str, block: Block) -> None:
+    folder.mkdir(parents=True, exist_ok=True)
+    (folder / f"{name}.elf").write_bytes(elf_of(block))
+    (folder / f"{name}.rsp").write_text(script_of(block))
+
+
+def arguments() -> argparse.Namespace:
+    words = reader("tests/part against-qemu", __doc__)
+    add_program(words)
+    words.add_argument("--blocks", type=int, default=300)
+    words.add_argument("--seed", type=int, default=1)
+    words.add_argument(
+        "--keep", type=Path, metavar="FOLDER", help="leave the files of blocks that differ there"
+    )
+    return words.parse_args()
+
+
+def main() -> int:
+    given = arguments()
+    for program in ("qemu-mips", given.program):
+        if not shutil.which(program):
+            print(f"tests/part against-qemu: there is no program {program}", file=sys.stderr)
+            return 2
+    used: Counter[str] = collections.Counter()
+    words = wrong = 0
+    for number in range(given.blocks):
+        name = f"{given.seed}.{number}"
+        block = Block(name, used)
+        words += len(block.words)
+        found = differences(given.program, block)
+        if found:
+            wrong += 1
+            print(f"block {name}: {'; '.join(found[:8])}")
+            if given.keep:
+                keep(given.keep, name, block)
+    print(f"{given.blocks} blocks, {words} words, {len(used)} instructions, {wrong} blocks differ")
+    return int(wrong > 0)
+
+
+if __name__ == "__main__":
+    sys.exit(main())

@@ -1,0 +1,181 @@
+"""How tests/part archive types the commands of pages, what they print, and which it leaves out."""
+
+from typing import NamedTuple, Tuple
+
+from rsp_tests.common.pages import block_with, page
+
+
+class Way(NamedTuple):
+    """How a block is typed, which is known by its page and by what it begins with."""
+
+    page: str
+    begins: str
+    first: str = ""  # typed before it
+    instead: Tuple[Tuple[str, str], ...] = ()  # words of the page, and what is typed in their place
+    then: str = ""  # typed after it
+    # What all that prints, `..` being any lines; `below` and `after` are what the page has there.
+    prints: str = ".."
+    needs: Tuple[str, ...] = ()  # programs, files, and modules of /usr/bin/python3
+    left_out: str = ""  # why it isn't typed
+
+
+def file_of(name: str, text: str) -> str:
+    """The command that writes a text to a file."""
+    return f"cat > {name} <<'END_OF_FILE'\n{text.rstrip()}\nEND_OF_FILE"
+
+
+EMBEDDING, PLUGIN, CAMPAIGN = "docs/EMBEDDING.md", "docs/PLUGIN.md", "docs/CAMPAIGN.md"
+LOOP = file_of("loop.s", "loop: addiu $1, $1, -1\nbne $1, $0, loop\nnop\nbreak\n")
+LOOP_WORDS = "2421ffff1420fffe000000000000000d"
+MY_C = file_of("my.c", block_with(EMBEDDING, '#include "rsp.h"'))
+MY_C_PRINTS = "..\n2 steps, $2 is 1234"
+CMAKE = """
+cmake_minimum_required(VERSION 3.10)
+project(mine C)
+find_package(rsp 1.0 REQUIRED)
+add_executable(mine my.c)
+target_link_libraries(mine rsp::rsp)
+"""
+FAULTY = "start: ori $1, $0, 1\nfoo $2\nj start\nori $1, $99, 1\nbreak\n"
+GCC = ("cc", "/usr/include/stdio.h")
+NUMPY_AND_Z64 = ("import numpy", "/usr/lib/x86_64-linux-gnu/mupen64plus/mupen64plus-rsp-z64.so", *GCC)
+A_GAME = "it needs a screen and a ROM; tests/part plugin types it there"
+THE_HUNT = "it needs the repository; tests/part plugin types it there"
+
+WAYS = (
+    Way("README.md", "./rsp run < ", prints=page("examples/first.out")),
+    Way(
+        "README.md",
+        "./rsp asm SRC OUT\n./rsp dis FILE",
+        first=LOOP,
+        instead=(("SRC OUT", "loop.s loop.bin"), ("FILE", "loop.bin")),
+        prints="ok 4 words\naddiu $1, $1, -1\nbne $1, $0, 0x000\nnop\nbreak\n",
+    ),
+    # --help ends with status 2.
+    Way("README.md", "./rsp --help", instead=(("--help", "--help || [ $? = 2 ]"),), needs=("man",)),
+    Way("README.md", "export PATH=", then="cd /\necho 'mem dmem 0 4' | rsp run", prints="000000: 00000000"),
+    Way(
+        "README.md",
+        "export PKG_CONFIG_PATH=",
+        first=MY_C,
+        then="./a.out",
+        prints=MY_C_PRINTS,
+        needs=("pkg-config", *GCC),
+    ),
+    Way(
+        "README.md",
+        "cmake ",
+        first=f"{MY_C}\nmkdir ~/mine\ncp my.c ~/mine\n{file_of('~/mine/CMakeLists.txt', CMAKE)}",
+        instead=(("MINE", "~/mine"),),
+        then="cmake --build ~/mine/out\n~/mine/out/mine",
+        prints=MY_C_PRINTS,
+        needs=("cmake", "make", *GCC),
+    ),
+    Way("README.md", "cc -Iinclude", first=MY_C, then="./a.out", prints=MY_C_PRINTS, needs=GCC),
+    Way(
+        "README.md",
+        "python3 -m venv ",
+        then="cd /\n~/rsp-python/bin/python -c 'import rsp; print(rsp.text(0, 0))'",
+        prints="..\nnop",
+        needs=("import ensurepip",),
+    ),
+    Way("README.md", "/usr/games/mupen64plus", left_out=A_GAME),
+    Way("README.md", "cp -dR ", left_out="it needs root; it is typed in a namespace of its own"),
+    Way("README.md", "sha256sum -c", prints="..\nrsp: OK\n.."),
+    Way(
+        "docs/ASSEMBLY.md",
+        "rsp asm mine.s",
+        first=file_of("mine.s", "nop\nlqv $v30[0], 0x460($0)\n"),
+        instead=(("--explain", "--explain 2>&1 || [ $? = 1 ]"),),
+        prints="below",
+    ),
+    Way("docs/ASSEMBLY.md", "rsp asm copy.s", first="cd microcode", prints="below.."),
+    Way(
+        "docs/ASSEMBLY.md",
+        "rsp dis ucode.bin",
+        first="printf 'start: j start\\nnop\\n' > ucode.s\nrsp asm ucode.s ucode.bin --at 0x080",
+        prints="ok 2 words\n080 08000020 j 0x080\n084 00000000 nop\nok 2 words",
+    ),
+    Way(
+        "docs/ASSEMBLY.md",
+        "rsp dis ucode.bin --at 0x080 --labels",
+        first="printf 'ori $1, $0, 3\\nbne $1, $0, 0x084\\naddiu $1, $1, -1\\nbreak\\n' > ucode.s\n"
+        "rsp asm ucode.s ucode.bin --at 0x080",
+        prints="ok 4 words\nori $1, $0, 0x0003\nL084:\nbne $1, $0, L084\naddiu $1, $1, -1\nbreak",
+    ),
+    Way(CAMPAIGN, "apt-get ", left_out="it needs root and a network"),
+    Way(
+        CAMPAIGN,
+        "conformance/campaign plugin:",
+        instead=(("/tmp/first", "~/first"),),
+        prints="after",
+        needs=NUMPY_AND_Z64,
+    ),
+    Way(CAMPAIGN, "conformance/campaign plugin:", prints="below", needs=NUMPY_AND_Z64),
+    Way(
+        CAMPAIGN,
+        "dask ",
+        left_out="it needs several machines; tests/part campaigns --dask has a cluster on one",
+    ),
+    Way(
+        "docs/COOKBOOK.md",
+        "cp text.s copy.s",
+        first=file_of("text.s", FAULTY),
+        then="rsp asm copy.s copy.bin",
+        prints="..\nok 3 words",
+    ),
+    Way(
+        EMBEDDING,
+        "cp -dR ",
+        first="mkdir ~/prefix",
+        instead=(("PREFIX", "~/prefix"),),
+        then="test -s ~/prefix/lib/librsp.so",
+    ),
+    Way(
+        EMBEDDING,
+        "export PKG_CONFIG_PATH=",
+        first=MY_C,
+        instead=(("PREFIX/", "$HOME/prefix/"),),
+        then="./a.out",
+        prints=MY_C_PRINTS,
+        needs=("pkg-config", *GCC),
+    ),
+    Way(EMBEDDING, "cc -O2 ", first=MY_C, then="./a.out", prints=MY_C_PRINTS, needs=GCC),
+    Way(
+        EMBEDDING,
+        "python3 -m venv ",
+        first=file_of("~/mine.py", block_with(EMBEDDING, "import rsp")),
+        then="cd /\n~/rsp-python/bin/python ~/mine.py",
+        prints="..\nHALT 0x1234",
+        needs=("import ensurepip",),
+    ),
+    Way(
+        "docs/MACHINE.md",
+        "python3 -c",
+        first=r"printf '\001\000\003\002\005\004\007\006' > dump",
+        then="od -An -v -tx1 image | tr -d ' '",
+        prints="0203000106070405",
+    ),
+    Way(
+        "microcode/README.md",
+        "sed -E",
+        first=file_of("mine.s", "vadd $v1, $v2, $v12\n"),
+        then="cat renamed.s",
+        prints="vadd $v11, $v12, $v12",
+    ),
+    Way(PLUGIN, "plugin/build", then="test -s plugin/mupen64plus-rsp-proved.so", needs=GCC),
+    Way(PLUGIN, "cp plugin/", left_out="it needs root"),
+    Way(PLUGIN, "/usr/games/mupen64plus", left_out=A_GAME),
+    Way(PLUGIN, "/usr/games/mupen64plus", left_out=A_GAME),
+    Way(PLUGIN, "tests/part plugin ", left_out=THE_HUNT),
+    Way(PLUGIN, "(sed ", left_out=THE_HUNT),
+    Way("docs/PROVING.md", "tools/theorem ", left_out="it needs the repository and the kit"),
+    Way("docs/PROVING.md", "sed -i ", left_out="it edits what tools/theorem writes"),
+    Way(
+        "docs/SCRIPT.md",
+        "od ",
+        first=f"{LOOP}\nrsp asm loop.s code.bin",
+        prints=f"ok 4 words\nload imem 0 {LOOP_WORDS}",
+    ),
+    Way("docs/SYSTEMS.md", "library/c/build", left_out="it needs the repository and the kit"),
+)

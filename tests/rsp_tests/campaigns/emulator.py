@@ -1,0 +1,127 @@
+"""Emulators for tests/part campaigns, all of them the module `rsp`; python:emulator:CLASS in this folder.
+
+As a command, [HOW WORD]: it answers lines of JSON, but at a case of this word (hexadecimal) it hangs, dies,
+answers garbage, a number out of its range, or a byte of no memory. "after" is a fault of two cases: it dies
+at whatever comes after the word.
+"""
+
+import json
+import os
+import sys
+import time
+from typing import Any, Dict, List, Optional, Tuple
+
+import rsp
+from rsp_conformance.library_states import numbers_of, state_of
+
+BANKS = {"dmem": (rsp.DMEM, 0, 4096), "imem": (rsp.IMEM, 4096, 4096), "rdram": (rsp.RDRAM, 8192, 16384)}
+
+
+class Machine(rsp.Rsp):
+    """A machine with an image of 16384 bytes. All that programs need is its own."""
+
+    def __init__(self, memories: bytes) -> None:
+        super().__init__(bytes(16384))
+        self.load_all(memories)
+
+    def load_all(self, memories: bytes) -> None:
+        self.before = bytes(memories)
+        for bank, start, length in BANKS.values():
+            self.load(bank, 0, self.before[start : start + length])
+
+    def memories(self) -> bytes:
+        return b"".join(self.memory(bank, 0, length) for bank, _, length in BANKS.values())
+
+    def step(self, case: Any = None) -> Any:
+        """A case, from the memories of the beginning; without one, a step."""
+        if case is None:
+            return super().step()
+        self.set(rsp.State.from_buffer_copy(case["state"].tobytes()))
+        self.load_words(rsp.IMEM, int(case["state"]["pc"]), [int(case["word"])])
+        before = self.memories()
+        status = super().step()
+        after, state = self.memories(), self.get()
+        self.load_all(self.before)
+        return state, int(status), {at: byte for at, byte in enumerate(after) if byte != before[at]}
+
+    def go(self, steps: int) -> int:
+        """Makes steps up to a halt or a reserved word, and returns the last status."""
+        status = rsp.Status.OK
+        while steps and status == rsp.Status.OK:
+            status, steps = super().step(), steps - 1
+        return int(status)
+
+
+class Forgets(Machine):
+    """Loses a register."""
+
+    def get(self) -> rsp.State:
+        state = super().get()
+        state.words[5] = 0
+        return state
+
+
+class Few:
+    """Answers one end too few."""
+
+    def __init__(self, memories: bytes) -> None:
+        pass
+
+    def ends(self, cases: Any) -> Any:
+        import numpy
+        from rsp_conformance.campaign.generator import END
+
+        return numpy.zeros(len(cases) - 1, END)
+
+
+def answer(machine: Machine, question: Dict[str, Any]) -> Dict[str, Any]:
+    """What a line is answered by."""
+    if initial := question.get("initial"):
+        machine.load_all(machine.before)
+        machine.set(state_of(initial))
+        for at, byte in initial["ram"]:
+            machine.load(at // 4096, at % 4096, bytes([byte]))
+    status = machine.go(question.get("steps", 1))
+    changed = [(at, it) for at, it in enumerate(machine.memories()) if it != machine.before[at]]
+    ram, rdram = [it for it in changed if it[0] < 8192], [(at - 8192, it) for at, it in changed if at >= 8192]
+    return {**numbers_of(machine.get()), "status": status, "ram": ram, "rdram": rdram}
+
+
+def say(final: Dict[str, Any]) -> None:
+    print(json.dumps({"final": final}), flush=True)
+
+
+def misbehave(how: str) -> None:
+    if how == "hang":
+        time.sleep(3600)
+    if how == "die":
+        os._exit(3)
+    if how == "garbage":
+        print("no JSON", flush=True)
+    if how == "range":
+        say({**numbers_of(rsp.State()), "pc": 65536, "ram": [], "rdram": []})
+    if how == "byte":
+        say({**numbers_of(rsp.State()), "ram": [[99999, 1]], "rdram": []})
+
+
+def main(how: str = "", word: str = "0") -> None:
+    machine: Optional[Machine] = None
+    last = 0
+    for line in sys.stdin:
+        question = json.loads(line)
+        if memories := question.get("memories"):
+            machine = Machine(b"".join(bytes.fromhex(memories[bank]) for bank in BANKS))
+        if memories or not machine:
+            continue
+        ram: List[Tuple[int, int]] = question.get("initial", {}).get("ram", [])
+        here = int.from_bytes(bytes(byte for _, byte in ram), "big")
+        if how == "after" and last == int(word, 16):
+            misbehave("die")
+        if here == int(word, 16):
+            misbehave(how)
+        last = here
+        say(answer(machine, question))
+
+
+if __name__ == "__main__":
+    main(*sys.argv[1:])

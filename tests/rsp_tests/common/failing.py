@@ -1,0 +1,49 @@
+"""Makes calls of the C library fail in turn: LD_PRELOAD puts those of tests/failing before the others."""
+
+import os
+import subprocess
+from pathlib import Path
+from typing import Iterator, Sequence, Tuple
+
+from rsp_tests import TESTS
+from rsp_tests.common.processes import run
+from rsp_tests.common.program import ended
+
+Ended = subprocess.CompletedProcess
+
+
+def library(folder: Path, name: str) -> Path:
+    """Builds these calls: `allocations` or `writes`."""
+    built = folder / f"{name}.so"
+    run(
+        "cc",
+        "-shared",
+        "-fPIC",
+        "-O1",
+        "-U_FORTIFY_SOURCE",
+        "-o",
+        built,
+        TESTS / f"failing/{name}.c",
+        check=True,
+    )
+    return built
+
+
+def runs(
+    calls: Path, words: Sequence[object], script: bytes = b"", lasting: bool = False
+) -> Iterator[Tuple[bool, "Ended[bytes]"]]:
+    """Runs a program with its first call failing, then with its second, up to a run in which none fails.
+
+    Of each: whether a call failed, and the run.
+    """
+    number, is_failed = 0, True
+    while is_failed and number < 1000:
+        number += 1
+        reading, writing = os.pipe()
+        told = {"FAILING": str(number), "LASTING": str(int(lasting)), "TOLD": str(writing)}
+        env = {**os.environ, "LD_PRELOAD": str(calls), **told}
+        ran = ended(words[0], words[1:], script, env=env, pass_fds=(writing,))
+        os.close(writing)
+        is_failed = bool(os.read(reading, 1))
+        os.close(reading)
+        yield is_failed, ran

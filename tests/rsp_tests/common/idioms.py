@@ -1,0 +1,136 @@
+"""The idioms of docs/COOKBOOK.md that work on vectors, on random numbers, against mathematics."""
+
+from random import Random
+from typing import Callable, Dict, Iterator, List
+
+from rsp_tests.common.cases import Case, unless
+from rsp_tests.common.numbers import clamped, edged, fixed, packed
+from rsp_tests.common.pages import block_with, replies, tables
+
+ROUNDS = 8
+SCALAR = 31  # the vector register whose lane 0 shows the scalar register $1
+Lanes = List[int]
+Given = Dict[int, Lanes]  # vector registers with their lanes
+Wanted = Dict[int, Lanes]  # the same, or as many of their first lanes as are known
+# It changes registers 1 to 7 to numbers that the block is for, and says what the block leaves.
+Rule = Callable[[Given], Wanted]
+
+
+def halves_of(high: int, low: int, numbers: Lanes) -> Wanted:
+    """Numbers of 32 bits in two registers."""
+    return {high: [it >> 16 for it in numbers], low: [it & 0xFFFF for it in numbers]}
+
+
+def constant(_: Given) -> Wanted:
+    return {1: [5] * 8}
+
+
+def whole_product(v: Given) -> Wanted:
+    products = [it * v[2][0] for it in v[1]]
+    return {3: products, 4: [clamped(it) for it in products], **halves_of(5, 6, products)}
+
+
+def fixed_product(v: Given) -> Wanted:
+    pairs = zip(fixed(v[1], v[2]), fixed(v[3], v[4]))
+    return halves_of(5, 6, [clamped(x * y >> 16, 32) for x, y in pairs])
+
+
+def product_by_whole(v: Given) -> Wanted:
+    return halves_of(5, 6, [clamped(x * y, 32) for x, y in zip(fixed(v[1], v[2]), v[3])])
+
+
+def shift_right(v: Given) -> Wanted:
+    v[3] = [1 << it % 16 for it in v[3]]
+    shifts = [17 - it.bit_length() for it in v[3]]
+    return halves_of(5, 6, [x >> k for x, k in zip(fixed(v[1], v[2]), shifts)])
+
+
+def fractions(v: Given) -> Wanted:
+    sums = [a * v[2][0] + b * v[2][1] + c * v[2][2] for a, b, c in zip(v[1], v[3], v[4])]
+    return {5: [clamped((it + 16384) // 32768) for it in sums]}
+
+
+def long_sums(v: Given) -> Wanted:
+    pairs = list(zip(fixed(v[1], v[2]), fixed(v[3], v[4])))
+    sums, differences = [x + y for x, y in pairs], [x - y for x, y in pairs]
+    high, low = [clamped(it >> 16) for it in sums], [it & 0xFFFF for it in sums]
+    return {5: high, 6: low, 7: [clamped(it >> 16) for it in differences], 8: differences}
+
+
+def sum_of_lanes(v: Given) -> Wanted:
+    v[1] = [it // 8 for it in v[1]]  # so that no step clamps
+    return {1: [sum(v[1])]}
+
+
+def absolute(v: Given) -> Wanted:
+    return {2: [min(abs(it), 32767) for it in v[1]]}
+
+
+def larger_smaller(v: Given) -> Wanted:
+    v[3] = [min(abs(it), 32767) for it in v[3]]
+    within = [max(-w, min(w, it)) for it, w in zip(v[1], v[3])]
+    pairs = list(zip(v[1], v[2]))
+    return {5: [max(a, b) for a, b in pairs], 6: [min(a, b) for a, b in pairs], 7: within}
+
+
+def largest(v: Given) -> Wanted:
+    return {2: [max(v[1])]}
+
+
+def choice(v: Given) -> Wanted:
+    return {5: [x if a < b else y for a, b, x, y in zip(v[1], v[2], v[6], v[7])]}
+
+
+def clip_codes(v: Given) -> Wanted:
+    v[1][:4] = [it & 0x7FFF for it in v[1][:4]]  # what the lanes become is said of numbers from 0 on
+    v[3] = [it & 0x7FFF for it in v[3]]
+    pairs = list(zip(fixed(v[1], v[2]), fixed(v[3], v[4])))
+    low = sum(1 << i for i, (x, w) in enumerate(pairs) if x <= -w and (x or w))
+    high = sum(256 << i for i, (x, w) in enumerate(pairs) if x >= w)
+    return {SCALAR: [low | high], **halves_of(5, 6, [min(x, w) for x, w in pairs[:4]])}
+
+
+RULES: Dict[str, Rule] = {
+    "addiu $1, $0, 5": constant,
+    "vmudn $v3, $v1, $v2[0]": whole_product,
+    "vmudl $v6, $v2, $v4 ": fixed_product,
+    "vmudn $v6, $v2, $v3": product_by_whole,
+    "vmudl $v6, $v2, $v3": shift_right,
+    "vmulf $v5, $v1, $v2[0]": fractions,
+    "vaddc $v6, $v2, $v4": long_sums,
+    "vadd  $v1, $v1, $v1[1q]": sum_of_lanes,
+    "vabs  $v2, $v1, $v1": absolute,
+    "vge   $v5, $v1, $v2": larger_smaller,
+    "vge   $v2, $v1, $v1[1q]": largest,
+    "vlt   $v4, $v1, $v2": choice,
+    "vch   $v5, $v1, $v3": clip_codes,
+}
+
+
+def left(program: str, block: str, given: Given) -> Given:
+    """The vector registers after a block that begins with these."""
+    loads = [f"load dmem {16 * n} {packed(lanes).hex()}" for n, lanes in given.items()]
+    setting = [f"lqv $v{n}[0], {16 * n}($0)" for n in given]
+    code = [*setting, block.rstrip("\n"), f"mtc2 $1, $v{SCALAR}[0]", "break"]
+    lines = [*loads, "asm 0", *code, "end", "run 100", "vregs", ""]
+    shown = replies(program, "\n".join(lines)).splitlines()[-32:]
+    return {n: [int(it, 16) for it in line.split()[1:]] for n, line in enumerate(shown)}
+
+
+def idiom_cases(program: str) -> Iterator[Case]:
+    """Each block leaves what its rule says, in each of some rounds."""
+    for start, rule in RULES.items():
+        block, random, wrong = block_with("docs/COOKBOOK.md", start), Random(start), []
+        for _ in range(ROUNDS):
+            given = {n: [edged(random) for _ in range(8)] for n in range(1, 8)}
+            wanted, found = rule(given), left(program, block, given)
+            for n, lanes in wanted.items():
+                told = [f"{it % 65536:04x}" for it in lanes]
+                has = [f"{it:04x}" for it in found[n][: len(lanes)]]
+                wrong += unless(has == told, f"$v{n} is {has}, not {told}, of {given}")
+        yield f"COOKBOOK.md `{start}`, its numbers", wrong[:1]
+    block = block_with("docs/COOKBOOK.md", "vmudn $v3, $v1, $v2[0]")
+    for cells in tables("docs/COOKBOOK.md", "### Products"):
+        given = {n: [int(it, 16)] * 8 for n, it in enumerate(cells[0].split(" by "), 1)}
+        shown = " ".join(f"{left(program, block, given)[n][0]:04x}" for n in (3, 4, 5, 6))
+        yield f"COOKBOOK.md {cells[0]}", unless(shown == " ".join(cells[1:]), f"the program says {shown}")

@@ -1,0 +1,144 @@
+"""Pages with their blocks and tables, the tables of docs/data, and the program's replies to their texts."""
+
+import re
+import subprocess
+import sys
+import tempfile
+from pathlib import Path
+from typing import Dict, Iterable, Iterator, List, Optional, Sequence, Tuple
+
+from rsp_tests import TOP
+from rsp_tests.common.report import Report
+
+DATA = TOP / "docs/data"
+Case = Tuple[str, List[str]]
+
+
+def page(name: str) -> str:
+    return (TOP / name).read_text()
+
+
+def blocks_of(text: str) -> List[str]:
+    """The indented blocks of a text."""
+    found = re.findall(r"(?:^|\n)((?:    .*\n(?:\n(?=    ))?)+)", text)
+    return [re.sub("(?m)^    ", "", block) for block in found]
+
+
+def blocks(name: str) -> List[str]:
+    """The indented blocks of a page."""
+    return blocks_of(page(name))
+
+
+def block_with(name: str, start: str, more: int = 0) -> str:
+    """The block of a page that begins so, or one `more` blocks after it."""
+    shown = blocks(name)
+    return shown[next(i for i, block in enumerate(shown) if block.lstrip("\n").startswith(start)) + more]
+
+
+def transcripts(name: str, heading: str) -> Iterator[Tuple[str, str]]:
+    """The blocks of a page from a heading on, which have replies beside their commands: scripts with their
+    replies."""
+    for block in blocks_of(page(name).partition(f"\n{heading}\n")[2]):
+        lines = [re.split(r" {3,}", line, maxsplit=1) for line in block.splitlines()]
+        beside = [line[1] for line in lines if len(line) == 2]
+        wanted = [it for it in beside if not it.startswith("#")]
+        yield "".join(f"{line[0]}\n" for line in lines if line[0]), "\n".join(wanted)
+
+
+def cells_of(line: str) -> List[str]:
+    """The cells of a line of a table."""
+    return [cell.strip() for cell in line.strip()[1:-1].split("|")]
+
+
+def tables(name: str, heading: str = "") -> Iterator[List[str]]:
+    """The lines of a page's tables, or of those below a heading, as cells; without the first two of each."""
+    text = page(name)
+    found = re.search(rf"(?ms)^{re.escape(heading)}$\n(.*?)(?=^#|\Z)", text)
+    if found is None:
+        sys.exit(f"{name} has no heading `{heading}`\n0 passed, 1 failed")
+    for table in re.findall(r"(?m)^\|.*\|\n\|[-|]+\|\n((?:\|.*\|\n)+)", found[1] if heading else text):
+        yield from map(cells_of, table.splitlines())
+
+
+def data(name: str) -> List[Dict[str, str]]:
+    """The lines of a table of docs/data, each as its cells by the names of the columns."""
+    names, *lines = [line.split("\t") for line in (DATA / f"{name}.tsv").read_text().splitlines()]
+    if any(len(cells) != len(names) for cells in lines):
+        sys.exit(f"docs/data/{name}.tsv: a line has not {len(names)} cells\n0 passed, 1 failed")
+    return [dict(zip(names, cells)) for cells in lines]
+
+
+def anchor(heading: str) -> str:
+    """What a link has after its `#`, as the usual viewers of Markdown make it."""
+    return re.sub(r"[^\w\- ]", "", heading.lower()).replace(" ", "-")
+
+
+def matches(told: Sequence[str], wanted: Sequence[str]) -> bool:
+    """Whether the lines of a reply are the wanted ones, `..` being any lines."""
+    form = "".join(r"(?:.*\n)*" if it == ".." else re.escape(it) + "\n" for it in wanted)
+    return re.fullmatch(form, "".join(f"{it}\n" for it in told)) is not None
+
+
+def said(program: object, *words: object, given: str = "") -> str:
+    """The standard output of the program, which has to succeed."""
+    command = [str(program), *map(str, words)]
+    return subprocess.run(command, input=given, stdout=subprocess.PIPE, check=True, text=True).stdout
+
+
+def replies(program: object, script: str) -> str:
+    return said(program, "run", given=script)
+
+
+def names_of(program: object, words: Sequence[int]) -> List[Optional[str]]:
+    """The instruction that the program names for each of these words, None of a reserved one.
+
+    A small branch of 512 words at 0 stays in IMEM.
+    """
+    names: List[Optional[str]] = []
+    for first in range(0, len(words), 512):
+        with tempfile.NamedTemporaryFile() as file:
+            Path(file.name).write_bytes(b"".join(it.to_bytes(4, "big") for it in words[first : first + 512]))
+            found = [text.split()[0] for text in said(program, "dis", file.name).splitlines()]
+        names += [{"nop": "SLL", ".word": None}.get(it, it.upper()) for it in found]
+    return names
+
+
+def words_of(program: object, named: Iterable[Tuple[str, object]]) -> List[List[str]]:
+    """The word of each of these texts at its address, and its disassembly; the label `over` is 3 words on."""
+    lines = [
+        f"asm {place}\n{text}\n" + "nop\nnop\nover: nop\n" * ("over" in text) + f"end\ndis {place} 1\n"
+        for text, place in named
+    ]
+    found = iter(replies(program, "".join(lines)).splitlines())
+    pairs = zip(found, found)
+    return [shown.split(" ", 2) if told.startswith("ok") else [told, "", ""] for told, shown in pairs]
+
+
+def listing(program: object, text: str, at: str) -> str:
+    """The disassembly of a text with the addresses and words, after it was assembled at an address."""
+    with tempfile.TemporaryDirectory() as folder:
+        Path(folder, "source").write_text(text)
+        said(program, "asm", f"{folder}/source", f"{folder}/words", "--at", at)
+        return said(program, "dis", f"{folder}/words", "--at", at, "--places")
+
+
+def answered(name: str, told: str, wanted: str) -> Case:
+    """A case: whether a reply is as a page has it."""
+    right = matches(told.strip("\n").split("\n"), wanted.strip("\n").split("\n"))
+    return name, [] if right else [f"the page has {wanted!r}, the program says {told!r}"]
+
+
+def compared(where: str, found: Iterable[str], wanted: Iterable[str]) -> Case:
+    """A case: what a list lacks, has and shouldn't, or has twice."""
+    here, right = list(found), set(wanted)
+    lost, more = sorted(right - {*here}), sorted({*here} - right)
+    twice = sorted({it for it in here if here.count(it) > 1})
+    told = (("it lacks {}", lost), ("it has {}", more), ("it has {} twice", twice))
+    return where, [form.format(it) for form, names in told for it in names]
+
+
+def report(cases: Iterable[Tuple[str, Iterable[str]]]) -> int:
+    """Prints what is wrong with each case, a pair of its name and its complaints; returns the status."""
+    seen = Report()
+    seen.see_all(cases)
+    return seen.end()

@@ -1,0 +1,29 @@
+"""Commands as a user types them who isn't root, in a folder of his own and with an empty HOME."""
+
+import os
+import subprocess
+from pathlib import Path
+from typing import Tuple
+
+from rsp_tests.common.processes import Ended, run
+
+NOBODY = 65534
+
+
+class User:
+    """One who owns what is below some folders. If this process isn't root, he is the one who started it."""
+
+    def __init__(self, at: Path, home: Path, *owned: Path, path: str = "/usr/bin:/bin") -> None:
+        self.at = at
+        self.prefix: Tuple[str, ...] = ("timeout", "3600")
+        self.env = {"HOME": str(home), "PATH": path, "LC_ALL": "C.UTF-8", "MANPAGER": "cat"}
+        home.mkdir(exist_ok=True)
+        if os.getuid() == 0:
+            user = ("setpriv", f"--reuid={NOBODY}", f"--regid={NOBODY}", "--clear-groups")
+            self.prefix = (*user, *self.prefix)
+            run("chown", "-R", f"{NOBODY}:{NOBODY}", home, at, *owned, check=True)
+
+    def types(self, script: str) -> "Ended[str]":
+        """Runs a script of the shell, up to a command that fails."""
+        words = (*self.prefix, "bash", "-e", "-u", "-c", script)
+        return run(*words, cwd=self.at, env=self.env, stderr=subprocess.PIPE)

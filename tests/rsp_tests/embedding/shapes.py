@@ -1,0 +1,148 @@
+"""What crates/rsp_c exports, read from its source: calls, structs and numbers, for comparisons with other
+languages."""
+
+import ctypes
+import re
+from typing import Any, Dict, Iterator, List, Mapping, Optional, Tuple, Type
+
+from rsp_tests import TOP
+
+SOURCE = TOP / "crates/rsp_c/src"
+NUMBERS = {
+    "u8": ctypes.c_uint8,
+    "u16": ctypes.c_uint16,
+    "u32": ctypes.c_uint32,
+    "i64": ctypes.c_int64,
+    "usize": ctypes.c_size_t,
+}
+C_NUMBERS = {"u8": "uint8_t", "u32": "uint32_t", "usize": "size_t"}
+AS_C = {"u32": "uint32_t", "usize": "size_t", "Global": "", "&mut Handle": "rsp *", "": "void"}
+# What the debugger calls the reasons of a stop, by their names in C.
+REASONS = {
+    "RESERVED": "Reserved",
+    "HALT": "Halted",
+    "WATCH": "Watched",
+    "BREAK": "Break",
+    "LIMIT": "Limit",
+    "MOVE": "Move",
+}
+Call = Tuple[str, str, str]  # its name, its result, and its parameters as C has them, between bars
+Struct = Type[ctypes.Structure]
+
+
+def groups(form: str, text: str) -> Tuple[Any, ...]:
+    """The groups of a form that a text has as a whole."""
+    found = re.fullmatch(form, text)
+    if not found:
+        raise ValueError(f"{text!r} isn't of the form {form}")
+    return found.groups()
+
+
+def c_name(rust: str) -> str:
+    """RspFlagBits is rsp_flag_bits."""
+    return re.sub(r"(?<!^)(?=[A-Z])", "_", rust).lower()
+
+
+def c_types(rust: str) -> str:
+    """The C parameters of a Rust one, joined by bars."""
+    if rust in AS_C:
+        return AS_C[rust]
+    mutable, slice_of, one = groups(r"&(mut )?(?:\[(\w+)\]|(.+))", rust)
+    element = slice_of or one
+    named = C_NUMBERS.get(element) or c_name(element)
+    return f"{'' if mutable else 'const '}{named} *" + ("|size_t" if slice_of else "")
+
+
+def exported() -> Iterator[Call]:
+    """Each exported call."""
+    form = r'extern "C" fn (\w+)\((.*?)\)(?: -> (\w+))?\s'
+    for path in sorted(SOURCE.glob("*.rt")):
+        for name, given, result in re.findall(form, path.read_text(), re.S):
+            types = [c_types(it.split(":", 1)[1].strip()) for it in given.split(",") if it.strip()]
+            yield name, AS_C[result], "|".join(it for it in types if it) or "void"
+
+
+def declared(header: str) -> Iterator[Call]:
+    """The same of a header."""
+    text = re.sub(r"/\*.*?\*/", "", header, flags=re.S)
+    for result, name, given in re.findall(r"^(\w+) (rsp_\w+)\((.*?)\);", text, re.M | re.S):
+        types = [re.sub(r"(?<=[ *])\w+$", "", it.strip()).strip() for it in given.split(",")]
+        yield name, result, "|".join(types)
+
+
+def declared_in_rust(text: str) -> Iterator[Call]:
+    """The same of a block of Rust's `extern`."""
+
+    def as_c(given: str) -> str:
+        pointer, kind = groups(r"(\*const |\*mut )?(\w+)", given)
+        name = {**C_NUMBERS, "Handle": "rsp"}.get(kind) or c_name(f"Rsp{kind}")
+        return {None: name, "*const ": f"const {name} *", "*mut ": f"{name} *"}[pointer]
+
+    for name, given, result in re.findall(r"pub fn (rsp_\w+)\((.*?)\)(?: -> (\w+))?;", text):
+        types = [as_c(it.split(":", 1)[1].strip()) for it in given.split(",") if it]
+        yield name, AS_C[result], "|".join(types) or "void"
+
+
+def numbers(file: str, form: str) -> Dict[str, int]:
+    """The names with their numbers that a form finds in a source."""
+    text = (SOURCE / file).read_text()
+    return {it["name"]: int(it["number"]) for it in re.finditer(form, text, re.M)}
+
+
+def statuses() -> Dict[str, int]:
+    return numbers("status.rt", r"pub const (?P<name>\w+): u32 = (?P<number>\d+);")
+
+
+def banks() -> Dict[str, int]:
+    found = numbers("status.rt", r"(?P<number>\d+) => Some\(Bank::(?P<name>\w+)\),")
+    return {name.upper(): number for name, number in found.items()}
+
+
+def faults() -> Dict[str, int]:
+    """Those of a text."""
+    found = numbers("status.rt", r"AsmFaultKind::(?P<name>\w+) => (?P<number>\d+),")
+    not_text = numbers("texts.rt", r"const (?P<name>NOT_TEXT): u32 = (?P<number>\d+);")
+    return {**found, "NotText": not_text["NOT_TEXT"]}
+
+
+def reasons() -> Dict[str, int]:
+    """Those of a stop, by the names that the debugger has for them."""
+    found = numbers("to_c.rt", r"Reason::(?P<name>\w+)(?:\(k\))? => \((?P<number>\d+),")
+    at_move = numbers("to_c.rt", r"const (?P<name>AT_MOVE): u32 = (?P<number>\d+);")
+    return {**found, "Move": at_move["AT_MOVE"]}
+
+
+def fields() -> Dict[str, int]:
+    """Those of a state that can have a fault."""
+    return numbers("fault.rt", r"^const (?P<name>\w+): u32 = (?P<number>\d+);")
+
+
+def structs_of(text: str, known: Optional[Mapping[str, Struct]] = None) -> Dict[str, Struct]:
+    """Each repr(C) struct of a text but the handle, as ctypes lays it out by C's rules. Fields may be known
+    structs."""
+    made = dict(known or {})
+
+    def typed(kind: str) -> Any:
+        array = re.fullmatch(r"\[(.+); (\d+)\]", kind)
+        return typed(array[1]) * int(array[2]) if array else NUMBERS.get(kind) or made[kind]
+
+    form = r"#\[repr\(C\)\]\n(?:#\[[^\n]*\n)*pub struct (\w+) \{(.*?)\n\}"
+    for name, body in re.findall(form, text, re.S):
+        if name != "Handle":
+            held = [(field, typed(kind)) for field, kind in re.findall(r"pub (\w+): (.+),", body)]
+            made[name] = type(name, (ctypes.Structure,), {"_fields_": held})
+    return made
+
+
+def structs() -> Dict[str, Struct]:
+    """The structs of rsp_c, with the entry of a trace, which the debugger has."""
+    entry = (TOP / "crates/rsp_debug/src/trace_entry.rt").read_text()
+    entry = entry.replace("struct TraceEntry", "struct RspTraced")
+    texts = "".join((SOURCE / name).read_text() for name in ("c_structs.rt", "explain.rt"))
+    return structs_of(texts + entry)
+
+
+def layout(struct: Struct) -> Tuple[int, List[Tuple[str, int, int]]]:
+    """Its size, and (name, offset, size) of each field."""
+    places = [(name, getattr(struct, name)) for name, *_ in struct._fields_]
+    return ctypes.sizeof(struct), [(name, at.offset, at.size) for name, at in places]

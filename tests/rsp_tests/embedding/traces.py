@@ -1,0 +1,109 @@
+"""The entry of a trace for each instruction, by its worked case of docs/data/instructions.tsv.
+
+It fails if an entry names something else than the text of its instruction does, or has another value than the
+worked case ends with. An instruction writes its first operand, but for those below.
+"""
+
+import re
+import sys
+from typing import Dict, Iterator, Tuple, Union
+
+import rsp
+from rsp_tests.common import worked
+from rsp_tests.common.pages import data
+from rsp_tests.embedding.checks import REPORT, same, see
+from rsp_tests.embedding.shapes import groups
+
+Case = Dict[Union[str, int], str]  # parts of a state by their names, or bytes of DMEM by their addresses
+# Jumps and branches write no register, or register 31 as a link.
+NOTHING = {"beq", "bne", "blez", "bgtz", "bltz", "bgez", "j", "jr", "break", "ctc2", "mtc0", "vnop", "vnull"}
+LINKS = {"jal", "bltzal", "bgezal"}
+SCALAR_STORES = {"sb", "sh", "sw"}
+FLAGS = {"vco": ("carry", "differ"), "vcc": ("compare", "clip"), "vce": ("extra",)}
+
+
+def is_store(name: str) -> bool:
+    return name in SCALAR_STORES or re.fullmatch(r"s[bsldqrpuhfwt]v", name) is not None
+
+
+def named(text: str, scalars: Dict[int, int]) -> Tuple[int, int, int, int]:
+    """What an instruction writes: a scalar and a vector register, whether it stores, and where."""
+    name, _, operands = text.partition(" ")
+    if is_store(name):
+        offset, base = groups(r".*, (-?\d+)\(\$(\d+)\)", operands)
+        return 0, 32, 1, (scalars.get(int(base), 0) + int(offset)) % 4096
+    if name in NOTHING:
+        return 0, 32, 0, 0
+    if name in LINKS:
+        return 31, 32, 0, 0
+    first = operands.split(", ")[1 if name == "mtc2" else 0]
+    is_vector, digits = groups(r"\$(v?)(\d+).*", first)
+    number = int(digits)
+    if is_vector:
+        return 0, number - number % 8 if name == "ltv" else number, 0, 0
+    return number, 32, 0, 0
+
+
+def machine_of(before: Case) -> rsp.Rsp:
+    """A machine in the state that a worked case begins with."""
+    machine = rsp.Rsp(bytes(4096))
+    state = machine.get()
+    for key, value in before.items():
+        if isinstance(key, int):
+            machine.load(rsp.DMEM, key, bytes.fromhex(value))
+        elif re.fullmatch(r"r\d+", key):
+            state.words[int(key[1:])] = int(value, 16)
+        elif re.fullmatch(r"v\d+", key):
+            state.vectors[int(key[1:])] = [int(value[4 * lane :][:4], 16) for lane in range(8)]
+        elif re.fullmatch(r"a\d", key):
+            for part, digits in (("high", value[:4]), ("middle", value[4:8]), ("low", value[8:])):
+                getattr(state.accumulators, part)[int(key[1:])] = int(digits, 16)
+        elif key in FLAGS:
+            for i, name in enumerate(FLAGS[key]):
+                setattr(state.flags, name, int(value, 16) >> 8 * i & 255)
+        elif key in ("in", "out", "loaded"):
+            setattr(state.divider, {"in": "input", "out": "output"}.get(key, key), int(value, 16))
+        else:
+            raise ValueError(f"a worked case begins with {key}")
+    machine.set(state)
+    return machine
+
+
+def values(entry: rsp.Traced, after: Case) -> Iterator[Tuple[object, str, str]]:
+    """What an entry shows and what the worked case ends with, of each part that both have."""
+    lanes = "".join(f"{it:04x}" for it in entry.lanes)
+    for key, value in after.items():
+        if key == f"r{entry.scalar}":
+            yield key, f"{entry.value:08x}", value
+        elif key == f"v{entry.vector}":
+            yield key, lanes, value
+        elif isinstance(key, str) and key.startswith(f"v{entry.vector}["):
+            yield key, lanes[4 * int(key[-2]) :][:4], value
+        elif isinstance(key, str) and key in FLAGS:
+            yield key, f"{getattr(entry, key):0{len(value)}x}", value
+
+
+def traces(case: Dict[str, str]) -> None:
+    before: Case = dict(worked.parts(case["Before"]))
+    machine = machine_of(before)
+    said = {str(key): value for key, value in before.items()}
+    scalars = {int(key[1:]): int(value, 16) for key, value in said.items() if re.fullmatch(r"r\d+", key)}
+    text = case["Worked"]
+    words = rsp.assemble(f"{text}\nnop\nnop\nover: nop\n")
+    machine.load_words(rsp.IMEM, 0, words)
+    _, (entry,) = machine.trace(1)
+    same(f"{text}: pc and word", (entry.pc, entry.word), (0, words[0]))
+    got = (entry.scalar, entry.vector, entry.stored, entry.address)
+    same(f"{text}: what it names", got, named(text, scalars))
+    see(f"{text}: a value of a register without one", entry.scalar != 0 or entry.value == 0)
+    see(f"{text}: lanes of a register without one", entry.vector != 32 or not any(entry.lanes))
+    for part, shown, wanted in values(entry, dict(worked.parts(case["After"]))):
+        same(f"{text}: {part}", shown, wanted)
+
+
+if __name__ == "__main__":
+    cases = data("instructions")
+    for case in cases:
+        traces(case)
+    same("all instructions", len(cases), 120)
+    sys.exit(REPORT.end())

@@ -1,0 +1,455 @@
+"""Runs each routine of microcode/ on random inputs, on the program rsp, and compares the result with
+mathematics.
+
+It fails if anything but what the routine's theorem promises is there at the end: in DMEM, in RDRAM, or in a
+register that the routine's head doesn't list under "Changes". What has to be there is computed from the
+theorem's sentence, by whole numbers. The steps have to be as many as the table of microcode/README.md says
+for the number of bytes or blocks, and the words too. The words of each text are compared with those that the
+theorem is about, in crates/rsp_routines/src.
+"""
+
+import math
+import random
+import re
+import subprocess
+import sys
+import tempfile
+from dataclasses import dataclass, field
+from pathlib import Path
+from random import Random
+from typing import Callable, Dict, Iterator, List, NamedTuple, Optional, Sequence, Set, Tuple
+
+from rsp_tests import TOP
+from rsp_tests.common.arguments import add_program, reader
+from rsp_tests.common.cases import Case, search, unless
+from rsp_tests.common.numbers import clamped, edged, fixed, halves, packed, random_bytes, signed
+from rsp_tests.common.report import Report
+
+ROUNDS = 25
+HERE = 0x400  # where the routine is in IMEM
+RDRAM = 16384  # its bytes
+
+
+def text_of(name: str) -> str:
+    return (TOP / "microcode" / f"{name}.s").read_text()
+
+
+@dataclass
+class State:
+    """DMEM, RDRAM, the scalar registers, and the vector registers as eight signed numbers each.
+
+    Of DMEM the bytes at `unstated` may change.
+    """
+
+    dmem: bytearray
+    rdram: bytes
+    scalars: List[int]
+    vectors: List[List[int]]
+    unstated: Set[int] = field(default_factory=set)
+
+
+class Wanted(NamedTuple):
+    """What has to be at the end of a routine for `size` bytes or blocks, 0 if it has none.
+
+    Lanes by their vector register, bytes by their address in DMEM, scalar registers, and RDRAM if it changes.
+    """
+
+    size: int = 0
+    lanes: Dict[int, Dict[int, int]] = {}
+    memory: Dict[int, bytes] = {}
+    scalars: Dict[int, int] = {}
+    rdram: Optional[bytes] = None
+
+
+def random_state(choose: Random) -> State:
+    scalars = [0] + [choose.randrange(1 << 32) for _ in range(31)]
+    dmem, rdram = bytearray(random_bytes(choose, 4096)), random_bytes(choose, RDRAM)
+    return State(dmem, rdram, scalars, [[edged(choose) for _ in range(8)] for _ in range(32)])
+
+
+def loads(content: bytes) -> List[str]:
+    return [f"load dmem {at} {content[at : at + 64].hex()}" for at in range(0, len(content), 64)]
+
+
+def script_of(name: str, state: State) -> List[str]:
+    """A script that sets a state by microcode, runs a routine, and shows the state after it."""
+    setting = [f"lqv $v{n}[0], {16 * n}($0)" for n in range(32)]
+    for n in range(1, 32):
+        setting += [f"lui ${n}, {state.scalars[n] >> 16}", f"ori ${n}, ${n}, {state.scalars[n] % 65536}"]
+    routine = [line.split("#")[0].strip() for line in text_of(name).splitlines()]
+    lines = [*loads(b"".join(map(packed, state.vectors))), "asm 0", *setting, "break", "end"]
+    lines += [f"asm {HERE}", *routine, "break", "end", "run 1000", *loads(bytes(state.dmem))]
+    lines += [f"pc {HERE}", "write 4 1", "run 100000", "regs", "vregs"]
+    return lines + [f"mem dmem {at} 256" for at in range(0, 4096, 256)]
+
+
+def run(program: str, name: str, state: State) -> Tuple[State, int]:
+    """The state after the routine, and its steps."""
+    with tempfile.TemporaryDirectory() as folder:
+        image = Path(folder) / "image"
+        image.write_bytes(state.rdram)
+        words = [program, "run", "--rdram", str(image), "--save", str(image)]
+        script = "\n".join(script_of(name, state))
+        ended = subprocess.run(words, input=script, stdout=subprocess.PIPE, check=True, text=True)
+        rdram = image.read_bytes()
+    said = ended.stdout.splitlines()
+    dmem = bytearray.fromhex("".join(line.split(": ")[1] for line in said[-256:]))
+    vectors = [[signed(int(lane, 16)) for lane in line.split()[1:]] for line in said[-288:-256]]
+    scalars = [int(word, 16) for line in said[-296:-288] for word in line.split()[1:]]
+    steps = int(search(r"^stop Halted steps (\d+) ", said[-298])[1])
+    return State(dmem, rdram, scalars, vectors), steps - 1
+
+
+def changes(name: str) -> Tuple[Set[int], Set[int]]:
+    """The scalar and the vector registers that the routine's head lists."""
+    listed = search(r"(?m)^# Changes  (.*)$", text_of(name))[1]
+    found: Dict[str, Set[int]] = {"": set(), "v": set()}
+    for kind, first, last in re.findall(r"\$(v?)(\d+)(?: to \$v?(\d+))?", listed):
+        found[kind] |= set(range(int(first), int(last or first) + 1))
+    return found[""], found["v"]
+
+
+def differs(what: str, expected: object, got: object) -> List[str]:
+    return unless(expected == got, f"{what}: expected {expected}, got {got}")
+
+
+def areas(choose: Random, count: int, sources: int) -> Tuple[int, List[int]]:
+    """The address of a target of `count` bytes, and those of sources that it spares.
+
+    It begins where they begin, before them or after.
+    """
+    places = [at for at in range(0, 4096, 16) if at + count <= 4096]
+    to = choose.choice(places)
+    spared = [at for at in places if to <= at or at + count <= to]
+    return to, [choose.choice((to, choose.choice(spared))) for _ in range(sources)]
+
+
+def counted(choose: Random, most: int = 4095) -> int:
+    return choose.choice((0, 1, 2, 15, 16, 17, 30, 32, choose.randrange(100), choose.randrange(most + 1)))
+
+
+def page_numbers() -> Dict[str, Tuple[int, str]]:
+    """By the table of microcode/README.md: the words of each routine, and its instructions as `A` or `A + B
+    X`."""
+    table = (TOP / "microcode" / "README.md").read_text()
+    found = re.findall(r"^\| \[(\w+)\.s\].* \| (\d+) \| (.*) \|$", table, re.M)
+    return {name: (int(words), cost) for name, words, cost in found}
+
+
+def cost_of(cost: str, count: int) -> int:
+    """The instructions for so many bytes or blocks.
+
+    They are A, or A + B for each v (vectors begun, one at least), w (whole vectors) or b (blocks).
+    """
+    rounds = {"v": max(1, -(-count // 16)), "w": count // 16, "b": count}
+    once, each, kind = search(r"^(\d+)(?: \+ (\d+) ([vwb]))?$", cost).groups()
+    return int(once) + (int(each) * rounds[kind] if each else 0)
+
+
+# Each routine: a function that chooses its inputs in a random state, and returns what has to be at the end.
+
+
+def blocks(choose: Random, state: State) -> Wanted:
+    size = choose.choice((8, 16, 4096, 8 * choose.randrange(1, 513)))
+    count = choose.randrange(1, min(12, RDRAM // 2 // size) + 1)
+    total = count * size
+    low = 8 * choose.randrange((RDRAM - 2 * total) // 8 + 1)
+    places = [low, low + total + 8 * choose.randrange((RDRAM - 2 * total - low) // 8 + 1)]
+    choose.shuffle(places)
+    source, to = places
+    if choose.randrange(2):  # to lower addresses, also over the blocks themselves
+        to = source - 8 * choose.randrange(min(source, total) // 8 + 1)
+    first, second = (8 * choose.randrange(512) for _ in range(2))
+    state.scalars[1:9] = source, to, size - 1, state.scalars[4], first, size, first + second, count
+    state.unstated = {(at + i) % 4096 for at in (first, second) for i in range(size)}
+    image = bytearray(state.rdram)
+    image[to : to + total] = state.rdram[source : source + total]
+    return Wanted(count, rdram=bytes(image))
+
+
+def clip(choose: Random, state: State) -> Wanted:
+    """The codes are a number in $1, which the head says is VCC with bit 15 repeated above."""
+    for lane in range(8):
+        if choose.randrange(2):  # near w or -w
+            w = fixed(state.vectors[3], state.vectors[4])[lane]
+            x = choose.choice((w, -w, w - 1, 1 - w, w + 1, -w - 1))
+            state.vectors[1][lane], state.vectors[2][lane] = signed(x >> 16), signed(x)
+    codes = 0
+    for lane, (x, w) in enumerate(zip(fixed(*state.vectors[1:3]), fixed(*state.vectors[3:5]))):
+        codes |= (x <= -w and (x, w) != (0, 0)) << lane | (x >= w) << 8 + lane
+    return Wanted(scalars={1: signed(codes) % (1 << 32)})
+
+
+def copy(choose: Random, state: State) -> Wanted:
+    count = counted(choose)
+    to, (source,) = areas(choose, count, 1)
+    state.scalars[1], state.scalars[3], state.scalars[4] = source, to, count
+    return Wanted(count, memory={to: bytes(state.dmem[source : source + count])})
+
+
+def fill(choose: Random, state: State) -> Wanted:
+    count = counted(choose)
+    to, _ = areas(choose, count, 0)
+    state.scalars[3], state.scalars[4] = to, count
+    return Wanted(count, memory={to: bytes(packed(state.vectors[1])[i % 16] for i in range(count))})
+
+
+def mix(choose: Random, state: State) -> Wanted:
+    count = counted(choose) // 2 * 2
+    to, (first, second) = areas(choose, count, 2)
+    state.scalars[1:5] = first, second, to, count
+    for at in {first, second}:
+        state.dmem[at : at + count] = packed(edged(choose) for _ in range(count // 2))
+    state.vectors[3][1] = choose.choice((1, 1, 0, -1, edged(choose)))
+    v, w = state.vectors[3][:2]
+    mixed = [
+        clamped((2 * a * v + 65536 * b * w + 32768) // 65536)
+        for a, b in zip(halves(state.dmem, first, count // 2), halves(state.dmem, second, count // 2))
+    ]
+    return Wanted(count, memory={to: packed(mixed)})
+
+
+def mix_ramp(choose: Random, state: State) -> Wanted:
+    count = counted(choose) // 2 * 2
+    to, (first, second) = areas(choose, count, 2)
+    state.scalars[1:5] = first, second, to, count
+    for at in {first, second}:
+        state.dmem[at : at + count] = packed(edged(choose) for _ in range(count // 2))
+    if choose.randrange(2):  # small steps, which leave most volumes in their range
+        state.vectors[5] = [choose.choice((0, -1, 1, 100)) for _ in range(8)]
+    volumes, steps, w = fixed(*state.vectors[3:5]), fixed(*state.vectors[5:7]), state.vectors[8][0]
+    samples = list(zip(halves(state.dmem, first, count // 2), halves(state.dmem, second, count // 2)))
+    mixed = []
+    for begin in range(0, max(count // 2, 1), 8):
+        mixed += [
+            clamped((2 * a * (v // 65536) + 65536 * b * w + 32768) // 65536)
+            for (a, b), v in zip(samples[begin : begin + 8], volumes)
+        ]
+        volumes = [
+            clamped((v + step) // 65536) * 65536 + (v + step) % 65536 for v, step in zip(volumes, steps)
+        ]
+    return Wanted(count, both(3, 4, volumes), {to: packed(mixed)})
+
+
+def dot(choose: Random, state: State) -> Wanted:
+    state.vectors[0], state.vectors[31] = [0] * 8, [1] * 8
+    total = clamped(sum(a * b for a, b in zip(*state.vectors[1:3])), 32)
+    return Wanted(lanes=both(5, 6, [total] * 8))
+
+
+def dot_buffers(choose: Random, state: State) -> Wanted:
+    count = counted(choose) // 2 * 2
+    first, second = (choose.choice([at for at in range(0, 4096, 16) if at + count <= 4096]) for _ in range(2))
+    state.scalars[1], state.scalars[2], state.scalars[4] = first, second, count
+    state.vectors[0], state.vectors[31] = [0] * 8, [1] * 8
+    total = sum(
+        a * b for a, b in zip(halves(state.dmem, first, count // 2), halves(state.dmem, second, count // 2))
+    )
+    return Wanted(count, both(5, 6, [signed(total, 32)] * 8))
+
+
+def filter_four(choose: Random, state: State) -> Wanted:
+    count = counted(choose, 4063) // 2 * 2
+    source = 16 * choose.randrange((4096 - count - 32) // 16 + 1)
+    to = choose.choice(
+        [
+            at
+            for at in range(0, 4096 - count + 1, 16)
+            if at < 4096 and (at <= source or source + count + 32 <= at)
+        ]
+    )
+    state.scalars[1], state.scalars[3], state.scalars[4] = source, to, count
+    state.dmem[source : source + count + 6] = packed(edged(choose) for _ in range(count // 2 + 3))
+    x = halves(state.dmem, source, count // 2 + 3)
+    sums = [sum(state.vectors[6][k] * x[i + k] for k in range(4)) for i in range(count // 2)]
+    return Wanted(count, memory={to: packed(clamped((it + 16384) // 32768) for it in sums)})
+
+
+def multiply(choose: Random, state: State) -> Wanted:
+    state.vectors[0] = [0] * 8
+    products = [
+        clamped(a * b // 65536, 32) for a, b in zip(fixed(*state.vectors[1:3]), fixed(*state.vectors[3:5]))
+    ]
+    return Wanted(lanes=both(9, 10, products))
+
+
+def both(high: int, low: int, numbers: Sequence[int]) -> Dict[int, Dict[int, int]]:
+    """The lanes of two registers that hold the halves of numbers."""
+    return {
+        high: {i: it >> 16 for i, it in enumerate(numbers)},
+        low: {i: signed(it) for i, it in enumerate(numbers)},
+    }
+
+
+def leading_zeros(size: int) -> int:
+    return 32 - size.bit_length()
+
+
+def below_leading_one(size: int) -> int:
+    """The nine bits below the leading one of a number above 0."""
+    return (size << leading_zeros(size)) >> 22 & 511
+
+
+def quotient(x: int, of_positive: Callable[[int], int]) -> int:
+    """What a divide instruction answers for a signed number, from what it answers for a positive one."""
+    if x in (0, -32768):
+        return 2147483647 if x == 0 else -65536
+    return of_positive(x) if x > 0 else ~of_positive(-x if x > -32768 else ~x)
+
+
+def reciprocal_of_positive(x: int) -> int:
+    """Near 2^31 / x."""
+    index = below_leading_one(x)
+    entry = (2**34 // (512 + index) + 1) // 256 % 65536 if index else 65535
+    return (65536 + entry) * 2**14 >> 31 - leading_zeros(x)
+
+
+def number(choose: Random) -> int:
+    """A number of up to 31 bits, of each size alike."""
+    edges = (1, 32767, 32768, 65535, 65536, 65537, 2**31 - 1)
+    return choose.choice((*edges, choose.randrange(1 << choose.randrange(1, 32))))
+
+
+def reciprocal(choose: Random, state: State) -> Wanted:
+    x = number(choose) * choose.choice((1, 1, -1)) - choose.randrange(2)
+    state.vectors[0], state.vectors[8][:3] = [0] * 8, [2, 1, -2]
+    state.vectors[1][0], state.vectors[2][0] = x >> 16, signed(x)
+    q = quotient(x, reciprocal_of_positive)
+    rest = clamped(2 * 65536 - 2 * clamped(x * q // 65536, 32), 32)
+    better = clamped(q * rest // 65536, 32)
+    assert not x or abs(better * x - 2**31) <= 65536 + 2 * abs(x), f"the bound fails at {x}"
+    return Wanted(lanes={11: {0: better >> 16}, 12: {0: signed(better)}})
+
+
+def root_of_positive(x: int) -> int:
+    """Near 2^31 over the root of x."""
+    zeros = leading_zeros(x)
+    index = below_leading_one(x) // 2 * 2 + zeros % 2
+    radicand = (512 + index) // (1 + index % 2)
+    entry = math.isqrt((2**44 - 1) // radicand) // 2 % 65536
+    return (65536 + entry) * 2**14 >> (31 - zeros) // 2
+
+
+def root(choose: Random, state: State) -> Wanted:
+    x = max(0, number(choose) - choose.randrange(2))
+    state.vectors[0], state.vectors[8][:4] = [0] * 8, [3, -32768, -2, 512]
+    state.vectors[1][0], state.vectors[2][0] = x >> 16, signed(x)
+    q = quotient(x, root_of_positive)
+    product = clamped(x * q // 65536, 32)
+    rest = clamped(3 * 32768 - 2 * (clamped(product * q // 65536, 32) // 65536), 32)
+    better = clamped(product * rest // 65536, 32) // 128
+    assert better**2 <= (65536 + 7) * x and (better + 1) ** 2 >= (65536 - 6) * x, f"the bound fails at {x}"
+    return Wanted(lanes={11: {0: better >> 16}, 12: {0: signed(better)}})
+
+
+def resample(choose: Random, state: State) -> Wanted:
+    state.vectors[0], state.vectors[5][0] = [0] * 8, 1
+    between = [(a * (65536 - f % 65536) + b * (f % 65536)) // 65536 for a, b, f in zip(*state.vectors[1:4])]
+    return Wanted(lanes={4: dict(enumerate(between))})
+
+
+def transform(choose: Random, state: State) -> Wanted:
+    matrix, points, to = (16 * choose.randrange(*it) for it in ((64,), (64, 128), (128, 254)))
+    state.scalars[1:4], state.vectors[0] = [matrix, points, to], [0] * 8
+    entries = ((0, 1, -1, choose.randrange(-8192, 8192), edged(choose)) for _ in range(32))
+    state.dmem[matrix : matrix + 64] = packed(choose.choice(it) for it in entries)
+    columns = [
+        fixed(halves(state.dmem, matrix + 16 * k), halves(state.dmem, matrix + 16 * (k + 4)))
+        for k in range(4)
+    ]
+    numbers = halves(state.dmem, points)
+    sums = [
+        clamped(signed(sum(columns[k][i] * numbers[i // 4 * 4 + k] for k in range(4)), 48), 32)
+        for i in range(8)
+    ]
+    return Wanted(memory={to: packed(it >> 16 for it in sums) + packed(sums)})
+
+
+def transform_fixed(choose: Random, state: State) -> Wanted:
+    state.vectors[0] = [0] * 8
+    columns = [fixed(state.vectors[16 + k], state.vectors[20 + k]) for k in range(4)]
+    numbers = fixed(*state.vectors[9:11])
+    sums = [sum(columns[k][i] * numbers[i // 4 * 4 + k] // 65536 for k in range(4)) for i in range(8)]
+    return Wanted(lanes=both(1, 2, [clamped(signed(it, 48), 32) for it in sums]))
+
+
+MADE = (blocks, clip, copy, dot, dot_buffers, fill, mix, mix_ramp, multiply, reciprocal, resample, root)
+ROUTINES = {it.__name__: it for it in (*MADE, transform, transform_fixed)}
+ROUTINES["filter"] = filter_four
+
+
+def bytes_that_differ(where: str, wanted: bytes, got: bytes, unstated: Set[int]) -> Iterator[str]:
+    for at, (one, other) in enumerate(zip(wanted, got)):
+        if one != other and at not in unstated:
+            yield f"{where} at {at:04x}: expected {one:02x}, got {other:02x}"
+
+
+def faults(program: str, name: str, cost: str, choose: Random) -> Iterator[str]:
+    """What is wrong with a run on random inputs."""
+    before = random_state(choose)
+    wanted = ROUTINES[name](choose, before)
+    after, steps = run(program, name, before)
+    yield from differs("the steps", cost_of(cost, wanted.size), steps)
+    scalars, vectors = changes(name)
+    for it in {*range(32)} - scalars:
+        yield from differs(f"${it}, which it keeps", before.scalars[it], after.scalars[it])
+    for it in {*range(32)} - vectors:
+        yield from differs(f"$v{it}, which it keeps", before.vectors[it], after.vectors[it])
+    for it, value in wanted.scalars.items():
+        yield from differs(f"${it}", value, after.scalars[it])
+    for it, lanes in wanted.lanes.items():
+        yield from differs(f"$v{it}", lanes, {lane: after.vectors[it][lane] for lane in lanes})
+    dmem = bytearray(before.dmem)
+    for at, content in wanted.memory.items():
+        dmem[at : at + len(content)] = content
+    yield from bytes_that_differ("DMEM", dmem, after.dmem, before.unstated)
+    rdram = before.rdram if wanted.rdram is None else wanted.rdram
+    yield from bytes_that_differ("RDRAM", rdram, after.rdram, set())
+
+
+Words = Tuple[int, ...]
+
+
+def proved() -> Dict[str, Words]:
+    """The words that the theorem of each routine is about, which has the text's name."""
+    texts = {name: (TOP / f"crates/rsp_routines/src/{name}.rt").read_text() for name in ROUTINES}
+    found = {name: search(r"(?s)const WORDS: .*?\[\n(.*?)\];", text)[1] for name, text in texts.items()}
+    return {
+        name: tuple(int(it, 16) for it in re.findall(r"(?m)^ *0x(\w{8}),", text))
+        for name, text in found.items()
+    }
+
+
+def words_of(program: str, name: str, folder: str) -> Words:
+    out = Path(folder) / name
+    words = [program, "asm", str(TOP / "microcode" / f"{name}.s"), str(out)]
+    subprocess.run(words, stdout=subprocess.DEVNULL, check=True)
+    content = out.read_bytes()
+    return tuple(int.from_bytes(content[at : at + 4], "big") for at in range(0, len(content), 4))
+
+
+def cases(program: str) -> Iterator[Case]:
+    texts = {path.stem for path in (TOP / "microcode").glob("*.s")}
+    yield "the routines", differs("texts", set(ROUTINES), texts)
+    with tempfile.TemporaryDirectory() as folder:
+        words = {name: words_of(program, name, folder) for name in sorted(texts)}
+    yield "words that have a theorem", differs("all", proved(), words)
+    page = page_numbers()
+    counts = {name: number for name, (number, _) in page.items()}
+    yield "the table's words", differs("words", {name: len(its) for name, its in words.items()}, counts)
+    for name in sorted(ROUTINES):
+        choose = random.Random(name)
+        for number_of_run in range(1, ROUNDS + 1):
+            found = [*faults(program, name, page[name][1], choose)]
+            yield f"{name}, random inputs {number_of_run}", found[:5]
+
+
+def main() -> None:
+    words, report = reader("tests/part microcode", __doc__), Report()
+    add_program(words)
+    report.see_all(cases(words.parse_args().program))
+    sys.exit(report.end())
+
+
+if __name__ == "__main__":
+    main()

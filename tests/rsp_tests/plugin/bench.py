@@ -1,0 +1,199 @@
+"""What the tests of the plugin share: a folder with the plugin, its driver, microcode, and the ROM for an
+emulator."""
+
+import os
+import re
+import struct
+import sys
+from pathlib import Path
+from typing import Iterator, List, Optional, Sequence, Tuple, Union
+
+from rsp_tests import TESTS, TOP
+from rsp_tests.common import z64
+from rsp_tests.common.processes import lacking, run
+from rsp_tests.common.report import Report, leave_out
+from rsp_tests.common.workshop import LIBRARY, STRICT, Workshop
+
+HERE = TESTS / "plugin"
+ROM = HERE / "rom"
+HEADERS = Path("/usr/include/mupen64plus")
+CORE = Path("/usr/lib/x86_64-linux-gnu/libmupen64plus.so.2")
+FRONT_END = Path("/usr/games/mupen64plus")
+GRAPHICS = Path("/usr/lib/x86_64-linux-gnu/mupen64plus/mupen64plus-video-z64.so")
+Z64 = Path(z64.PLUGIN)
+# Debian's packages of these.
+PACKAGES = {
+    HEADERS: "libmupen64plus-dev",
+    CORE: "libmupen64plus2",
+    FRONT_END: "mupen64plus-ui-console",
+    GRAPHICS: "mupen64plus-video-z64",
+    Z64: "mupen64plus-rsp-z64",
+}
+FLAGS = ("-std=gnu11", *STRICT, f"-I{TOP}/plugin")
+MIPS = (
+    "-march=vr4300 -mabi=32 -mno-abicalls -fno-pic -G0 -O2 -ffreestanding -nostdlib "
+    "-fno-tree-loop-distribute-patterns -fno-builtin -msoft-float"
+).split()
+# Where a task of the ROM has its code, if not at 0.
+PLACES = {"task_add": "0x80", "overlay_one": "0x400", "overlay_two": "0x400"}
+HEADER = struct.pack(">IIII16x20s7x4sx", 0x80371240, 0xF, 0x80002000, 0, b"PROVED RSP TEST     ", b"NPRE")
+
+
+def is_left_out(what: str, *needed: Union[str, Path]) -> bool:
+    """Whether this machine lacks a tool or a file that a part needs. It says which."""
+    files = [it for it in needed if isinstance(it, Path) and not it.exists()]
+    told = [f"there is no {it} (Debian's package {PACKAGES[it]})" for it in files]
+    told.append(lacking(*(it for it in needed if isinstance(it, str))))
+    if any(told):
+        leave_out(what, "; ".join(filter(None, told)))
+    return any(told)
+
+
+def begun(*options: str) -> List[str]:
+    """The lines that start the plugin with these options, and a ROM."""
+    return [*(f"option {it}" for it in ("Version 1", *options)), "start", "initiate"]
+
+
+def halves(numbers: Sequence[int]) -> str:
+    """Halves of words as words in hexadecimal."""
+    return " ".join(f"{a & 0xFFFF:04x}{b & 0xFFFF:04x}" for a, b in zip(numbers[::2], numbers[1::2]))
+
+
+def shown(**values: int) -> List[str]:
+    """What the driver's `registers` prints, if all others are 0."""
+    return [f"{name} {values.get(name, 0):08x}" for name in z64.REGISTERS]
+
+
+class Bench(Workshop):
+    """The plugin that is tested, and the program that assembles microcode."""
+
+    def __init__(self, report: Report, folder: Path, program: Path, plugin: Optional[Path] = None) -> None:
+        super().__init__(report, folder)
+        self.program, self.plugin, self.driver = (
+            program,
+            plugin or folder / "rsp-proved.so",
+            folder / "driver",
+        )
+        if not plugin:
+            environment = {**os.environ, "CFLAGS": "-Werror"}
+            self.succeeds("plugin/build", TOP / "plugin/build", self.plugin, env=environment)
+        self.built("driver", *FLAGS, "-rdynamic", HERE / "driver.c", "-ldl", "-lpthread")
+
+    def drive(
+        self, lines: Sequence[str], plugin: Optional[Path] = None, under: Sequence[str] = ()
+    ) -> List[str]:
+        """What the driver prints, line by line; at its end its status, if that isn't 0."""
+        words = (*under, self.driver, plugin or self.plugin)
+        got = self.run(*words, input="".join(f"{it}\n" for it in lines))
+        return got.stdout.splitlines() + [f"status {got.returncode}"] * (got.returncode != 0)
+
+    def words(self, text: str, at: int = 0) -> str:
+        """The words of an assembly text, in hexadecimal."""
+        source, out = self.put("text.s", text), self.folder / "text.bin"
+        got = run(self.program, "asm", source, out, "--at", hex(at))
+        if got.returncode:
+            sys.exit(f"tests/part plugin: {got.stdout}")
+        return " ".join(f"{it:08x}" for (it,) in struct.iter_unpack(">I", out.read_bytes()))
+
+    def microcode(self, name: str) -> str:
+        """The words of a task of the ROM."""
+        return self.words((ROM / f"{name}.s").read_text())
+
+    def faulty(self, fault: int) -> Path:
+        """A plugin with a planted fault."""
+        wraps = "-Wl,--wrap=rsp_step,--wrap=rsp_run_until_move,--wrap=rows_out"
+        flags = (*FLAGS, f"-DFAULT={fault}", "-fPIC", "-fvisibility=hidden", "-shared", wraps)
+        parts = (HERE / "faulty.c", *sorted((TOP / "plugin").glob("*.c")), LIBRARY, "-ldl")
+        self.built(f"faulty-{fault}.so", *flags, *parts)
+        return self.folder / f"faulty-{fault}.so"
+
+    def rom(self, name: str, *defines: str) -> Path:
+        """The ROM as a file: a header, the boot code, and the program from 1000 on."""
+        at = self.folder / "rom"
+        at.mkdir(exist_ok=True)
+        for source in sorted(ROM.glob("*.s")):
+            place = PLACES.get(source.stem, "0")
+            binary = at / f"{source.stem}.bin"
+            self.succeeds(f"asm {source.name}", self.program, "asm", source, binary, "--at", place)
+        for file in "boot.S", "cpu.c":
+            flags = (*MIPS, *defines, f"-Wa,-I{at}", "-c")
+            self.built(f"rom/{file}.o", *flags, ROM / file, compiler="mips-linux-gnu-gcc")
+        script = ("-EB", "-T", ROM / "rom.ld", "--defsym=_gp=0")
+        self.built("rom/rom.elf", *script, at / "boot.S.o", at / "cpu.c.o", compiler="mips-linux-gnu-ld")
+        for section in "boot", "text":
+            copy = ("mips-linux-gnu-objcopy", "-O", "binary", "-j", f".{section}")
+            self.succeeds(f"section {section}", *copy, at / "rom.elf", at / section)
+        image = (HEADER + (at / "boot").read_bytes()).ljust(0x1000, b"\0") + (at / "text").read_bytes()
+        out = self.folder / f"{name}.z64"
+        out.write_bytes(image.ljust(0x101000, b"\0"))
+        return out
+
+    def front(self) -> Path:
+        """The front end that plays a ROM to its end."""
+        self.built("front", *FLAGS, f"-I{HEADERS}", HERE / "front.c", "-ldl", "-lpthread")
+        return self.folder / "front"
+
+    def played(self, rom: Path, plugin: Path, mode: int, *options: str) -> Tuple[str, bytes]:
+        """What the front end prints, and the RDRAM at the end."""
+        out = self.folder / "rdram"
+        out.unlink(missing_ok=True)
+        got = self.run(self.folder / "front", CORE, rom, plugin, out, mode, 60, *options)
+        return got.stdout, out.read_bytes() if out.exists() else b""
+
+
+def results(rdram: bytes) -> Iterator[Tuple[int, ...]]:
+    """The ROM's results: (number, whether it is right, found, expected), up to one whose number is 0."""
+    for at in range(0x100000, 0x110000, 16):
+        found = struct.unpack_from(">IIII", rdram, at)
+        if found[0] == 0:
+            return
+        yield found
+
+
+def tasks_of_rom(bench: Bench) -> List[List[str]]:
+    """The lines that set up each of the ROM's tasks."""
+    list_at, registers_at = "put dmem ff0 123000", "put dmem ff0 124000 124100"
+    vectors = halves([i * 977 % 65536 for i in range(256)])
+    return [
+        [f"put imem 0 {bench.microcode('scalar')}"],
+        speed_task(bench),
+        [f"put imem 0 {bench.microcode('many')}", "put dmem ff0 5 127000"],
+        [f"put imem 0 {bench.microcode('registers')}", registers_at, "set SP_SEMAPHORE 0"],
+        ["rdp", f"put imem 0 {bench.microcode('list')}", list_at],
+        ["put dmem ff0 124000"],
+        [
+            f"put imem 0 {bench.microcode('vector')}",
+            f"put rdram 120000 {vectors}",
+            "put dmem ff0 120000 121000",
+        ],
+    ]
+
+
+def speed_task(bench: Bench) -> List[str]:
+    """The lines of the task whose speed is measured."""
+    return [
+        f"put imem 0 {bench.microcode('speed')}",
+        f"put rdram 128000 {halves([(i * 2311 + 77) % 65536 for i in range(256)])}",
+        "put dmem fe0 20003000 34587890 48a0c0e0 5ce90930 2 128000",
+    ]
+
+
+def checked(bench: Bench, other: object, tasks: Sequence[Sequence[str]], *options: str) -> List[str]:
+    """What check mode says of tasks, each the lines that set it up. SP_PC and SP_STATUS are 0 before each
+    one."""
+    lines = begun(f"CheckAgainst {other}", f"CheckFolder {bench.folder}", *options)
+    for task in tasks:
+        lines += ["set SP_PC 0", "set SP_STATUS 0", *task, "cycles 100000000"]
+    said = bench.drive([*lines, "close"])
+    return [it.split("check: ")[1] for it in said if "check: " in it]
+
+
+def see_played(bench: Bench, task: int) -> None:
+    """The script of a difference has our registers before and after it, and our DMEM, as its last replies."""
+    text = (bench.folder / f"rsp-task-{task}.txt").read_text()
+    script = (bench.folder / f"rsp-task-{task}.script").read_text()
+    got = run(bench.program, "run", input=script).stdout
+    expected = re.findall(r"\nOur [^\n]*:\n(.*?)(?=\n\n|\Z)", text.rstrip("\n"), re.S)
+    replies = f"{expected[0]}\nstep Done pc {expected[1][3:6]}\n" + "\n".join(expected[1:]) + "\n"
+    is_right = got.endswith(replies) and "fault" not in got and len(expected) in (2, 3)
+    bench.see(f"the script of task {task}, played", is_right, got[-6000:])

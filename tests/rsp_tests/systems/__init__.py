@@ -1,0 +1,1 @@
+"""Tests of the library on other systems than Linux on x86-64."""

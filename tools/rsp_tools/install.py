@@ -1,0 +1,99 @@
+"""library/c/install PREFIX: installs the library below the folder PREFIX.
+
+library/c/build builds it first, if it isn't built. If a file can't be written, none is replaced, and it
+fails.
+
+  PREFIX/include/rsp.h             and rsp_compare.h, the first difference from another emulator
+  PREFIX/lib/librsp.so.1           and librsp.so, a link to it
+  PREFIX/lib/librsp.a
+  PREFIX/lib/pkgconfig/rsp.pc      for cc my.c $(pkg-config --cflags --libs rsp)
+  PREFIX/lib/cmake/rsp/            for find_package(rsp): the targets rsp::rsp and rsp::rsp_static
+  PREFIX/share/man/man1/rsp.1
+  PREFIX/bin/rsp                   if ./rsp has built the program
+
+pkg-config reads the variable PKG_CONFIG_PATH, and cmake takes -DCMAKE_PREFIX_PATH=PREFIX. A second install
+replaces the first one.
+"""
+
+import argparse
+import os
+import re
+import signal
+import subprocess
+import sys
+from pathlib import Path
+from typing import List, NoReturn, Optional
+
+from rsp_tools import TOP
+from rsp_tools.packaging.installed import File, contents
+from rsp_tools.packaging.link import linked_program
+
+NAME = "library/c/install"
+
+
+def fail(text: str) -> NoReturn:
+    sys.exit(f"{NAME}: {text}")
+
+
+def program() -> Optional[bytes]:
+    """The program, linked for any Linux; None if it isn't built."""
+    made = TOP / "crates/rsp_main/out/rsp_main.o"
+    about = subprocess.run([TOP / "rsp", "--version"], capture_output=True, text=True).stdout
+    return linked_program(made) if made.is_file() and "proved and built by" in about else None
+
+
+def write(path: Path, file: File) -> None:
+    path.parent.mkdir(parents=True, exist_ok=True)
+    path.unlink(missing_ok=True)
+    if isinstance(file.data, str):
+        path.symlink_to(file.data)
+    else:
+        path.write_bytes(file.data)
+        path.chmod(0o755 if file.can_run else 0o644)
+
+
+def install(prefix: Path, files: List[File]) -> None:
+    """Writes all files beside their places, and only then puts them there."""
+    made = [
+        (prefix / it.name, (prefix / it.name).with_name(f".{Path(it.name).name}.new"), it) for it in files
+    ]
+    path = prefix
+    try:
+        for path, new, file in made:
+            if path.is_dir():
+                fail(f"{path} is a folder")
+            write(new, file)
+        for path, new, _ in made:
+            os.replace(new, path)
+    except OSError as fault:
+        fail(f"cannot write {fault.filename or path}: {fault.strerror}")
+    finally:
+        for _, new, _ in made:
+            if os.path.lexists(new):
+                new.unlink()
+
+
+def main() -> None:
+    signal.signal(signal.SIGINT, lambda *_: sys.exit(130))
+    form = argparse.RawDescriptionHelpFormatter
+    words = argparse.ArgumentParser(prog=NAME, description=__doc__, formatter_class=form)
+    words.add_argument("prefix", metavar="PREFIX")
+    given = words.parse_args().prefix
+    if not given:
+        words.error("PREFIX is empty")
+    prefix = os.path.abspath(given)
+    bad = re.findall(r"[^\w/.,:@%+=~ -]", prefix)
+    if bad:
+        fail(
+            f"PREFIX has the character {bad[0]!r}, which the words of pkg-config can't bring through a shell"
+        )
+    if subprocess.run([TOP / "library/c/build"]).returncode:
+        fail("library/c/build has built no library")
+    files = list(contents(prefix.replace(" ", "\\ "), program()))
+    install(Path(prefix), files)
+    more = "" if files[-1].name == "bin/rsp" else ", without the program, which ./rsp builds"
+    print(f"{NAME}: {len(files)} files in {prefix}{more}")
+
+
+if __name__ == "__main__":
+    main()

@@ -1,0 +1,102 @@
+"""Links what is shipped, by cc and binutils. The same input gives the same bytes.
+
+  library ARCHIVE..   makes librsp.a, librsp.so.1 and the same as librsp.so in library/c, of archives, the
+  crate's and
+                      the kit's. Both show the calls of rsp.h alone. All else in them is local, so that
+                      another
+                      library of the kit can be linked into the same program.
+  program OBJECT OUT  links the program again, of the object file that rt leaves and the kit's archives, so
+  that it
+                      needs no newer glibc than tools/packaging/start.c says.
+"""
+
+import argparse
+import os
+import shutil
+import signal
+import subprocess
+import sys
+import tempfile
+from pathlib import Path
+from typing import List, NoReturn
+
+from rsp_tools import TOOLS, TOP
+from rsp_tools.packaging import installed
+
+NAME = "tools/python rsp_tools.packaging.link"
+C = TOP / "library/c"
+HARDENED = ["-Wl,-z,relro,-z,now,--gc-sections"]
+
+
+def fail(text: str) -> NoReturn:
+    sys.exit(f"{NAME}: {text}")
+
+
+def call(*words: object) -> str:
+    """What a command says. Ends with what it says if it fails."""
+    if not shutil.which(str(words[0])):
+        fail(f"there is no {words[0]}")
+    ended = subprocess.run(list(map(str, words)), capture_output=True, text=True)
+    if ended.returncode:
+        fail(f"{words[0]} failed:\n{ended.stdout}{ended.stderr}".rstrip())
+    return ended.stdout.strip()
+
+
+def put(folder: Path, name: str) -> None:
+    """Replaces a file of library/c by the one in a folder. A run that was killed may have left a new one."""
+    new = C / f"{name}.new"
+    try:
+        new.unlink(missing_ok=True)
+        shutil.copy(folder / name, new)
+        os.replace(new, C / name)
+    except OSError as fault:
+        fail(f"cannot write {C / name}: {fault.strerror}")
+    finally:
+        new.unlink(missing_ok=True)
+
+
+def link_library(archives: List[str]) -> None:
+    name, keep = installed.soname(), [f"--keep-global-symbol={it}" for it in installed.calls()]
+    with tempfile.TemporaryDirectory() as folder:
+        at = Path(folder)
+        call("ld", "-r", "-o", at / "all.o", "--whole-archive", *archives)
+        call("objcopy", *keep, at / "all.o", at / "rsp.o")
+        call("ar", "rcsD", at / "librsp.a", at / "rsp.o")
+        words = [f"-Wl,-soname,{name}", f"-Wl,--version-script={C}/rsp.map", "-Wl,-z,defs", *HARDENED]
+        call("cc", "-shared", "-o", at / name, *words, at / "rsp.o")
+        shutil.copy(at / name, at / "librsp.so")  # a link would do, but `rt ci` refuses links
+        for made in "librsp.a", name, "librsp.so":
+            put(at, made)
+
+
+def link_program(made: str, out: str) -> None:
+    kit = Path(call("rt", "doc")).parent
+    parts = [TOOLS / "packaging/start.c", made, kit / "c/libos_c.a", kit / "c/liblibc_c.a"]
+    call("cc", "-O2", "-fPIE", "-pie", "-nostartfiles", *HARDENED, "-o", out, *parts)
+
+
+def linked_program(made: Path) -> bytes:
+    """The program of an object file, linked for any Linux since 2014."""
+    with tempfile.TemporaryDirectory() as folder:
+        link_program(str(made), f"{folder}/rsp")
+        return Path(folder, "rsp").read_bytes()
+
+
+def main() -> None:
+    signal.signal(signal.SIGINT, lambda *_: sys.exit(130))
+    form = argparse.RawDescriptionHelpFormatter
+    words = argparse.ArgumentParser(prog=NAME, description=__doc__, formatter_class=form)
+    kinds = words.add_subparsers(dest="kind", required=True, metavar="library | program")
+    kinds.add_parser("library").add_argument("archives", nargs="+", metavar="ARCHIVE")
+    program = kinds.add_parser("program")
+    program.add_argument("object", metavar="OBJECT")
+    program.add_argument("out", metavar="OUT")
+    given = words.parse_args()
+    if given.kind == "library":
+        link_library(given.archives)
+    else:
+        link_program(given.object, given.out)
+
+
+if __name__ == "__main__":
+    main()

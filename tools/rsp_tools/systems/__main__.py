@@ -1,0 +1,95 @@
+"""tools/systems [SYSTEM..]: makes the library for other systems than Linux on x86-64, or for those that are
+named.
+
+  linux-aarch64    library/systems/linux-aarch64: librsp.a, librsp.so.1, pkg-config, CMake, and the Python
+                   wheel; glibc 2.17
+
+It wants a clone whose library is built (library/c/build), the kit, and packages of Debian that it names.
+Each system takes at most three minutes of processor, and the same sources give the same bytes. What the
+kit's `rattle build` hands to clang is kept until a source changes. The status is 0 if all are made, 1 if
+one isn't, 2 if the words are wrong. What isn't made leaves what was there."""
+
+import argparse
+import os
+import shutil
+import signal
+import sys
+import tempfile
+from pathlib import Path
+from typing import Callable, Dict, List, NamedTuple, Tuple
+
+from . import linux, places
+from .modules import Source, module
+from .toolchain import Refused, missing
+
+
+class System(NamedTuple):
+    """How a system's folder is made, and the programs of Debian's packages that make it."""
+
+    make: Callable[[Path, Path, Source], None]
+    programs: Tuple[str, ...]
+
+
+SYSTEMS: Dict[str, System] = {
+    "linux-aarch64": System(linux.make, ("aarch64-linux-gnu-gcc",)),
+}
+
+
+def put(made: Path, to: Path) -> None:
+    """Puts a folder in the place of another."""
+    old = to.with_name(f".{to.name}.old")
+    shutil.rmtree(old, ignore_errors=True)
+    if to.exists():
+        os.rename(to, old)
+    os.rename(made, to)
+    shutil.rmtree(old, ignore_errors=True)
+
+
+def make(name: str) -> None:
+    """Makes a system's folder beside its place, and only then puts it there."""
+    absent = missing(*SYSTEMS[name].programs)
+    if absent:
+        raise Refused(f"it needs packages of Debian: apt-get install {absent}")
+    places.MADE.mkdir(parents=True, exist_ok=True)
+    with tempfile.TemporaryDirectory() as at, tempfile.TemporaryDirectory(
+        dir=places.MADE, prefix=f".{name}."
+    ) as beside:
+        SYSTEMS[name].make(Path(beside, name), Path(at), module)
+        put(Path(beside, name), places.MADE / name)
+
+
+def report(name: str) -> None:
+    """Names what was made, with its sizes."""
+    print(f"{name}:")
+    for path in sorted(it for it in (places.MADE / name).rglob("*") if it.is_file()):
+        print(f"  {path.stat().st_size:>9} {path.relative_to(places.TOP)}")
+
+
+def main(words: List[str]) -> int:
+    """The program. The status."""
+    reader = argparse.ArgumentParser(
+        prog="tools/systems", description=__doc__, formatter_class=argparse.RawDescriptionHelpFormatter
+    )
+    reader.add_argument("systems", nargs="*", metavar="SYSTEM")
+    names = reader.parse_args(words).systems or [*SYSTEMS]
+    signal.signal(signal.SIGINT, lambda *_: sys.exit(130))
+    unknown = [it for it in names if it not in SYSTEMS]
+    if unknown:
+        print(
+            f"tools/systems: there is no system {unknown[0]}: the systems are {', '.join(SYSTEMS)}",
+            file=sys.stderr,
+        )
+        return 1
+    status = 0
+    for name in names:
+        try:
+            make(name)
+            report(name)
+        except (Refused, OSError) as fault:
+            print(f"tools/systems: {name} isn't made: {fault}", file=sys.stderr)
+            status = 1
+    return status
+
+
+if __name__ == "__main__":
+    sys.exit(main(sys.argv[1:]))

@@ -1,0 +1,151 @@
+"""The modules of the library that `rattle build` hands to clang: for x86-64, and for ARM.
+
+The kit has no command that gives them. It takes the folder of its toolchain by a word, though, so here a
+folder of links stands for it, with a program `clang` that keeps its input. A module is kept until a source
+of the library or the kit changes. """
+
+import re
+import shutil
+import subprocess
+import tempfile
+from pathlib import Path
+from typing import Callable, Dict, List, NamedTuple
+
+from . import places
+from .toolchain import Refused, call, kit, llvm
+
+TARGETS: Dict[str, str] = {"x86_64": "x86_64-unknown-linux-gnu", "aarch64": "aarch64-unknown-linux-gnu"}
+# The library begins its lines of crates.txt with the name of a crate.
+LINE = re.compile(r"(\w+)(?: staticlib)?:(.*)")
+
+
+class Module(NamedTuple):
+    """A module of the library in LLVM's language, the archive that the kit itself makes of it, and how it
+    has clang compile it."""
+
+    text: Path
+    archive: Path
+    flags: List[str]
+
+
+# What gives the module for a processor.
+Source = Callable[[str], Module]
+
+
+def mark() -> str:
+    """The kit's version and the sums of all sources. Refused if the library isn't built of them."""
+    built = places.CRATE / "out" / "built"
+    if not built.is_file() or not (places.CRATE / "out" / "librsp_c.a").is_file():
+        raise Refused("the library isn't built: library/c/build makes it")
+    text = built.read_text(errors="surrogateescape")
+    # The first line is the kit's version, and the last one the sum of the library itself.
+    if call(str(places.SOURCES), *with_below("rsp_c", uses())).splitlines() != text.splitlines()[1:-1]:
+        raise Refused("the library's sources have changed since it was built: library/c/build makes it again")
+    return text
+
+
+def uses() -> Dict[str, List[str]]:
+    """The crates that each crate of the repository uses."""
+    lines = places.CRATES.with_suffix(".txt").read_text().splitlines()
+    return {found[1]: found[2].split() for found in map(LINE.fullmatch, lines) if found}
+
+
+def with_below(name: str, used: Dict[str, List[str]]) -> List[str]:
+    """A crate and those of the repository that it uses, each after those that it uses itself."""
+    if name not in used:
+        return []
+    return [*dict.fromkeys(below for it in used[name] for below in with_below(it, used)), name]
+
+
+def words_of(target: str, toolchain: Path, out: Path) -> List[str]:
+    """The words of `rattle build`, as `rt lib` has them, with a target and a toolchain."""
+    used = uses()
+    ours = with_below("rsp_c", used)[:-1]
+    words = "--crate-name rsp_c src/lib.rt --crate-type staticlib --backend llvm --jobs 2".split()
+    for name in ["std", *used["rsp_c"]]:
+        folder = places.CRATES / name / "out" / "rlib" if name in ours else kit() / "rlibs"
+        words += ["--extern", f"{name}={folder}/{name}.rlib"]
+    for at in [kit() / "rlibs", *(places.CRATES / it / "out" / "rlib" for it in ours)]:
+        words += ["-L", f"dependency={at}"]
+    words += [
+        "--antt-project",
+        f"{kit()}/rattle/logic/antt-project.json",
+        "--logic-built",
+        f"{kit()}/logic_built",
+    ]
+    words += ["--incremental", str(places.KEPT / "incremental"), "--target", TARGETS[target]]
+    return [*words, "--toolchain", str(toolchain), "-o", str(out)]
+
+
+def link_toolchain(folder: Path) -> None:
+    """A folder of links to the kit's toolchain, with our program as its clang."""
+    (folder / "bin").mkdir(parents=True)
+    (folder / "lib").symlink_to(kit() / "toolchain" / "lib")
+    for it in (kit() / "toolchain" / "bin").iterdir():
+        (folder / "bin" / it.name).symlink_to(
+            kit() / "toolchain" / "bin" / "clang" if it.is_symlink() else it
+        )
+    (folder / "bin" / "kit").mkdir()
+    (folder / "bin" / "clang").rename(folder / "bin" / "kit" / "clang")
+    shutil.copy(places.PARTS / "clang", folder / "bin" / "clang")
+
+
+def take(target: str, folder: Path) -> None:
+    """Has the kit build the library for a target, and leaves its module and its archive in a folder."""
+    kept = places.KEPT / "incremental"
+    if not kept.is_dir():
+        # A check over what the library's own check found takes a minute, and leaves that as it was.
+        shutil.copytree(places.CRATE / "out" / "incremental", kept, symlinks=True)
+    link_toolchain(folder / "toolchain")
+    words = [f"{kit()}/bin/rattle", "build", *words_of(target, folder / "toolchain", folder / "librsp_c.a")]
+    ended = subprocess.run(
+        words, cwd=places.CRATE, stdin=subprocess.DEVNULL, capture_output=True, text=True, errors="replace"
+    )
+    if ended.returncode or not (folder / "module").is_file():
+        last = "\n".join((ended.stdout + ended.stderr).strip().splitlines()[-20:])
+        raise Refused(f"`rattle build` for {TARGETS[target]} ended with status {ended.returncode}:\n{last}")
+    llvm(
+        "clang",
+        "-x",
+        "ir",
+        folder / "module",
+        "-S",
+        "-emit-llvm",
+        "-O0",
+        "-Wno-override-module",
+        "-o",
+        folder / "module.ll",
+    )
+
+
+def flags(words: List[str]) -> List[str]:
+    """Of the words that the kit gives clang, how it optimizes, on any processor. Refused if it doesn't say
+    so as it did."""
+    passed = [it for word, it in zip(words, words[1:]) if word == "-mllvm" and "x86" not in it]
+    if "-O3" not in words or not passed:
+        raise Refused(f"the kit gives clang other words than these rules were written for: {' '.join(words)}")
+    return [
+        "-O3",
+        "-ffunction-sections",
+        "-fdata-sections",
+        *(word for it in passed for word in ("-mllvm", it)),
+    ]
+
+
+def module(target: str) -> Module:
+    """The module for a processor, x86_64 or aarch64, made again if a source has changed."""
+    made_of, kept = mark(), places.KEPT / target
+    if (
+        not kept.joinpath("mark").is_file()
+        or kept.joinpath("mark").read_text(errors="surrogateescape") != made_of
+    ):
+        places.KEPT.mkdir(parents=True, exist_ok=True)
+        with tempfile.TemporaryDirectory() as at:
+            take(target, Path(at))
+            shutil.rmtree(kept, ignore_errors=True)
+            kept.mkdir()
+            for name in ("module.ll", "module.words", "librsp_c.a"):
+                shutil.copy(Path(at, name), kept / name)
+        kept.joinpath("mark").write_text(made_of, errors="surrogateescape")
+    given = kept.joinpath("module.words").read_text().splitlines()
+    return Module(kept / "module.ll", kept / "librsp_c.a", flags(given))

@@ -1,0 +1,16 @@
+"""Where the tree has what this package reads and writes."""
+
+from pathlib import Path
+
+PARTS = Path(__file__).resolve().parent
+TOP = PARTS.parents[2]
+CRATE = TOP / "crates" / "rsp_c"
+CRATES = TOP / "crates"
+HEADER = TOP / "library" / "c" / "rsp.h"
+PYTHON = TOP / "library" / "python"
+RUST = TOP / "library" / "rust"
+SOURCES = TOP / "tools" / "sources"
+# What is made: a folder for each system. What is kept to make it again sooner: the modules, and what their
+# checks found.
+MADE = TOP / "library" / "systems"
+KEPT = CRATE / "out" / "systems"

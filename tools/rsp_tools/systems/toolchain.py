@@ -1,0 +1,60 @@
+"""The kit's LLVM, and the programs of Debian's packages."""
+
+import functools
+import re
+import shutil
+import subprocess
+from pathlib import Path
+from typing import Dict, Union
+
+Word = Union[str, Path]
+
+# The rules on modules were written for what this version of the kit's clang reads and writes.
+CLANG = "22.1.8"
+PACKAGES: Dict[str, str] = {
+    "aarch64-linux-gnu-gcc": "gcc-aarch64-linux-gnu libc6-dev-arm64-cross",
+    "qemu-aarch64": "qemu-user",
+}
+
+
+class Refused(Exception):
+    """Why a system can't be made, in a line."""
+
+
+def missing(*programs: str) -> str:
+    """The packages of Debian whose programs aren't there, with a blank between them."""
+    return " ".join(dict.fromkeys(PACKAGES.get(it, it) for it in programs if not shutil.which(it)))
+
+
+def call(program: str, *words: Word, executable: str = "") -> str:
+    """What a program says. Refused, with its last lines, if it fails."""
+    if not executable and not shutil.which(program):
+        raise Refused(f"there is no {program}: Debian's package {missing(program)} has it")
+    given = [program, *map(str, words)]
+    ended = subprocess.run(
+        given, executable=executable or None, capture_output=True, text=True, errors="replace"
+    )
+    if ended.returncode:
+        last = "\n".join((ended.stdout + ended.stderr).strip().splitlines()[-20:])
+        raise Refused(f"{program} failed with status {ended.returncode}:\n{last}")
+    return ended.stdout
+
+
+@functools.lru_cache(None)
+def kit() -> Path:
+    """The folder of the Rattle kit. Refused if there is none, or if its clang is another one."""
+    if not shutil.which("rt"):
+        raise Refused("there is no `rt`, the command of the Rattle kit (README.md names its version)")
+    folder = Path(call("rt", "doc").strip()).parent
+    said = call("clang", "--version", executable=f"{folder}/toolchain/bin/clang")
+    version = re.search(r"clang version (\S+)", said)
+    if not version or version[1] != CLANG:
+        named = version[1] if version else said.strip()
+        raise Refused(f"the kit's clang is {named}, and the rules on modules are for {CLANG}")
+    return folder
+
+
+def llvm(tool: str, *words: Word) -> str:
+    """Runs a tool of the kit's LLVM. One file holds them all, and does what the name says by which it is
+    called."""
+    return call(tool, *words, executable=f"{kit()}/toolchain/bin/clang")

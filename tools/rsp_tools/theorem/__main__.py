@@ -1,0 +1,140 @@
+"""tools/theorem NAME TEXT: begins a theorem about microcode.
+
+Reads assembly text from the file TEXT, assembles it with the built program, and writes a routine NAME
+(words_like_this) into crates/rsp_routines: src/NAME.rt, specs/Name.antt, proofs/NameRuns.antt, the answers in
+proofs/NAME, and lines in lib.rt and both Lib.antt. The statement is proved as it is written:
+the words are the text, and nothing changes that no instruction writes. Write what the routine does where it
+says TODO. Then:
+
+    cd crates/rsp_routines && rt check --only NAME
+
+The text is straight code and at most one loop, with code before it and after it. `jr $31` and the delay slot
+may end it. The branch of the loop is `bne $A, $B`, of which one `addiu` of the loop counts one, or `bgtz $C`.
+Of a loop over buffers, which stores one vector a round, the lines that begin with `--| ` say what it fills:
+they are comments until you take these marks away.
+"""
+
+from __future__ import annotations
+
+import argparse
+import os
+import re
+import subprocess
+import tempfile
+from pathlib import Path
+
+
+from rsp_tools import TOP
+from rsp_tools.theorem import stop
+from rsp_tools.theorem.joined import joined_proof
+from rsp_tools.theorem.loops import loop_proof
+from rsp_tools.theorem.routine import Joined, Routine, module_of, routine_of
+from rsp_tools.theorem.source import source, text_answer, theorem_answer
+from rsp_tools.theorem.statement import statement
+from rsp_tools.theorem.straight import routine_proof, straight_proof
+
+CRATE = TOP / "crates" / "rsp_routines"
+PROGRAM = os.environ.get("RSP_PROGRAM", str(TOP / "crates/rsp_main/out/rsp_main"))
+RESERVED = set(
+    """
+    as break const continue crate dyn else enum extern false fn for ghost if impl in let loop match mod
+    move mut pub ref return self static struct super trait true type unsafe use where async await
+    abstract become box do final macro override priv try typeof unsized virtual yield union requires
+    ensures result data record deriving module package open ruleset unfolding abbrev unfoldable elim
+    absurd syntax ground assumption search grind omega simp rw std core words text line state
+""".split()
+)
+
+
+def check_name(name: str) -> None:
+    """Refuses a name that the language or the crate has already."""
+    if not re.fullmatch(r"[a-z][a-z0-9]*(_[a-z0-9]+)*", name):
+        stop(f"`{name}` is no name like `add_lanes`: small letters, digits, and single _ between them")
+    if name in RESERVED:
+        stop(f"`{name}` is a word of the language or of the script: take another name")
+    module = module_of(name)
+    folders = ("src", ".rt"), ("specs", ".antt"), ("proofs", ".antt")
+    files = [file for folder, end in folders for file in (CRATE / folder).glob(f"*{end}")]
+    known = {file.stem.lower(): file for file in files}
+    for mine in name, module, f"{module}Runs":
+        if other := known.get(mine.lower()):
+            stop(
+                f"`{name}` is too near to {other.relative_to(CRATE)}, from which a file of it would differ"
+                " at most in case: take another name"
+            )
+    if re.search(rf"\b{name}\b", (CRATE / "src/lib.rt").read_text()):
+        stop(f"lib.rt has the name `{name}` already")
+
+
+def assembled(text: str) -> tuple[list[int], list[str]]:
+    """The words of a text, and their disassembly."""
+    if not os.access(PROGRAM, os.X_OK):
+        stop(
+            "the program that assembles the text isn't built: `./rsp run < /dev/null` builds it, or"
+            " RSP_PROGRAM names one that is"
+        )
+    with tempfile.NamedTemporaryFile() as out:
+        done = subprocess.run([PROGRAM, "asm", text, out.name], capture_output=True, text=True)
+        if done.returncode:
+            stop(f"the text isn't assembled: {done.stderr.strip()}")
+        data = Path(out.name).read_bytes()
+        shown = subprocess.run([PROGRAM, "dis", out.name], capture_output=True, text=True).stdout.splitlines()
+    return [int.from_bytes(data[at : at + 4], "big") for at in range(0, len(data), 4)], shown
+
+
+def lines_of(text: str) -> list[str]:
+    """The lines of a text, without comments and needless blanks."""
+    lines = (re.sub("[#;].*", "", line) for line in Path(text).read_text().splitlines())
+    return [" ".join(line.split()) for line in lines if line.strip()]
+
+
+def proof(it: Routine | Joined) -> str:
+    if isinstance(it, Joined):
+        return joined_proof(it)
+    if it.counter:
+        return loop_proof(it)
+    return routine_proof(it) if it.returns else straight_proof(it)
+
+
+def write(path: str, text: str) -> None:
+    (CRATE / path).parent.mkdir(parents=True, exist_ok=True)
+    (CRATE / path).write_text(text)
+    print("wrote", (CRATE / path).relative_to(TOP))
+
+
+def declare(it: Routine | Joined) -> None:
+    """Adds the routine's lines to lib.rt and to both Lib.antt."""
+    lib = CRATE / "src/lib.rt"
+    code = lib.read_text().rstrip("\n")
+    first = code.index("\npub mod ") + 1
+    lib.write_text(f"{code[:first]}pub mod {it.name};\n{code[first:]}\n")
+    for path, module in ("specs/Lib.antt", it.module), ("proofs/Lib.antt", f"{it.module}Runs"):
+        with (CRATE / path).open("a") as file:
+            file.write(f"pub mod {module}\n")
+
+
+def main(name: str, text: str) -> None:
+    check_name(name)
+    if not os.path.exists(text):
+        stop(f"there is no file {text}")
+    words, shown = assembled(text)
+    if not words:
+        stop("the text has no instruction")
+    it = routine_of(name, lines_of(text), words, shown)
+    write(f"src/{name}.rt", source(it))
+    write(f"specs/{it.module}.antt", statement(it))
+    write(f"proofs/{it.module}Runs.antt", proof(it))
+    write(f"proofs/{name}/theorem/Answers.antt", theorem_answer(it))
+    write(f"proofs/{name}/words/Answers.antt", text_answer(it))
+    declare(it)
+    print(f"now: cd crates/rsp_routines && rt check --only {name}")
+
+
+if __name__ == "__main__":
+    reader = argparse.ArgumentParser(
+        prog="tools/theorem", description=__doc__, formatter_class=argparse.RawDescriptionHelpFormatter
+    )
+    reader.add_argument("name", metavar="NAME")
+    reader.add_argument("text", metavar="TEXT")
+    asked = reader.parse_args()
+    main(asked.name, asked.text)

@@ -1,0 +1,246 @@
+"""The proof of a loop with straight code before it or after it, which may return."""
+
+from __future__ import annotations
+
+from .buffers import marked, result_use
+from .instructions import uses
+from .kit import KIT, OPENED
+from .loops import lemmas, needs_bound
+from .pieces import Piece, aligned, bases_of, definitions, listing, pieces_text
+from .routine import Joined, Routine
+
+JOINS = """\
+use Rattle.std.specs.Prelude.{◌++◌}
+use Rattle.rsp_microcode.specs.Calls.{Routine, routine_code}
+use Rattle.rsp_microcode.proofs.Blocks.{steps_after, first_block}
+use Rattle.rsp_microcode.proofs.Calls.{routine_run}
+use Rattle.rsp_microcode.proofs.Joins.{blocks_join, ran_at, ran_others, ran_returns, pieces_ran, loop_ran}
+"""
+
+
+def joined_proof(it: Joined) -> str:
+    for block, name in (it.front, "front"), (it.back, "back"):
+        for piece in block.pieces if block else []:
+            piece.name = f"{name}_{piece.name}" if piece.name else ""
+    names = f"{it.module}Entered, {it.module}Does, Does{it.module}"
+    blocks = [block_text(it.front, "front"), back_text(it.back)]
+    return f"""-- {it.name}.
+{KIT}{uses(it.code)}{JOINS}use Rattle.rsp_routines.specs.{it.module}.{{{names}}}
+{result_use(it.loop)}
+{lemmas(it.loop)}
+{"".join(blocks)}abbrev words : List ℕ
+words = {" ++ ".join(words_in(it))}
+
+{moved(it)}{does(it)}"""
+
+
+def words_in(it: Joined) -> list[str]:
+    """The names of the words of each block."""
+    front = ["front_words"] if it.front else []
+    back = ["back.words" if it.returns else "back_words"] if it.back else []
+    parts = [*front, "loop.words", *back]
+    return [*parts[:-2], f"({' ++ '.join(parts[-2:])})"] if len(parts) == 3 else parts
+
+
+def hexadecimal(it: Routine) -> str:
+    return listing([f"0x{word:08x}" for word in it.words])
+
+
+def block_text(it: Routine | None, name: str) -> str:
+    """Straight code."""
+    if not it:
+        return ""
+    return f"""{definitions(it.pieces)}abbrev {name}_words : List ℕ
+{name}_words = {hexadecimal(it)}
+
+abbrev {name} : List Piece
+{name} =
+    {pieces_text(it.pieces, 4)}
+
+{name}_decoded : map inst_of {name}_words ≡ map Some (code_of {name})
+unfolding inst_of row_of
+{name}_decoded = refl
+
+"""
+
+
+def back_text(it: Routine | None) -> str:
+    """The code after the loop."""
+    if not it or not it.returns:
+        return block_text(it, "back")
+    return f"""{definitions(it.pieces)}abbrev back : Routine
+back = record {{
+  words = {hexadecimal(it)};
+  pieces =
+      {pieces_text(it.pieces, 4)};
+  slot = {it.code[-1].term};
+}}
+
+back_decoded : map inst_of back.words ≡ map Some (routine_code back)
+unfolding inst_of row_of
+back_decoded = refl
+
+"""
+
+
+def does(it: Joined) -> str:
+    """The theorem: each block by its law, and all of them joined."""
+    before, each, after = it.steps
+    facts = "".join(f" a{base}" for base in bases_of(straight_pieces(it)))
+    cuts = [f"steps_after {before} ({it.later_steps}) s"] if it.front else []
+    cuts += [f"steps_after (n * {each}) {after} u"] if it.back else []
+    lines = [*front_lines(it), *loop_lines(it), *back_lines(it)]
+    results = marked(f"      filled = {filled(it)};") if it.loop.target else ""
+    return f"""\
+pub does : SumsOfProducts → Does{it.module} words
+unfolding {OPENED}
+does law s is at{facts} n entered =
+{"".join(f"    {line}{chr(10)}" for line in lines)}    let done : {it.module}Does words s t n = record {{
+{results}      others = {others(it)};
+    }} in
+    subst (λ (x : State). {it.module}Does words s x n) (sym ({' ∙ '.join(cuts)})) done
+"""
+
+
+def moved(it: Joined) -> str:
+    """What the loop fills, as of the first state."""
+    if not it.loop.target or it.entry != "s":
+        return ""
+    bases = [*dict.fromkeys([*it.loop.sources, it.loop.target])]
+    names = dict(zip(bases, "abcdefgh"))
+    equal = " → ".join(f"register u.registers {base} ≡ register s.registers {base}" for base in bases)
+    vectors = " ".join(f"(lanes_at w ({names[base]} + 16 * k))" for base in it.loop.sources)
+    made = f"IsFilled (λ k. result_of {vectors}) w m {names[it.loop.target]} n"
+    numbers = [f"(register u.registers {base})" for base in bases]
+    proof, facts = "f", [f"e{base}" for base in bases]
+    for place, base in enumerate(bases):
+        args = [f"(register s.registers {one})" for one in bases[:place]] + ["x"] + numbers[place + 1 :]
+        proof = f"subst (λ x. made {' '.join(args)} u.dmem) e{base} ({proof})"
+    last = " ".join(f"(register s.registers {base})" for base in bases)
+    filled = "IsFilled (result {0}) {0}.dmem m (register {0}.registers {1}) n"
+    return (
+        marked(
+            f"""\
+-- what the loop fills, as of the first state
+moved : (s u : State) (m : List ℕ) (n : ℕ) → {equal} → u.dmem ≡ s.dmem
+    → {filled.format("u", it.loop.target)} → {filled.format("s", it.loop.target)}
+moved s u m n {" ".join(facts)} d f =
+    let made = λ ({" ".join(names.values())} : ℕ) (w : List ℕ). {made} in
+    subst (λ w. made {last} w) d ({proof})
+"""
+        )
+        + "\n"
+    )
+
+
+def filled(it: Joined) -> str:
+    """The proof of what the whole fills."""
+    stores = [block for block in (it.front, it.back) if block and "dmem" in block.parts]
+    if stores:
+        return "?"
+    start, target = it.entry, it.loop.target
+    proof = "mid.holds.filled"
+    if it.front and start == "s":
+        bases = [*dict.fromkeys([*it.loop.sources, target])]
+        same = " ".join(f"(first.spares.scalars {base} refl)" for base in bases)
+        proof = f"moved s u v.dmem n {same} (ap (λ (x : State). x.dmem) first.frame) {proof}"
+    if not it.back:
+        return proof
+    goal = f"IsFilled (result {start}) {start}.dmem m (register {start}.registers {target}) n"
+    return f"subst (λ m. {goal}) (sym (ap (λ (x : State). x.dmem) last.frame)) ({proof})"
+
+
+def straight_pieces(it: Joined) -> list[Piece]:
+    return [piece for block in (it.front, it.back) if block for piece in block.pieces]
+
+
+def rest(it: Joined) -> str:
+    """The words from the loop on."""
+    back = "back.words" if it.returns else "back_words"
+    return f"(loop.words ++ {back})" if it.back else "loop.words"
+
+
+def front_lines(it: Joined) -> list[str]:
+    """The code before the loop: u is the state after it."""
+    if not it.front:
+        return ["let u = s in", "let at_u = at in", "let ok = is in"]
+    return [
+        f"let u = steps_of {it.steps[0]} s in",
+        "let first = pieces_run law front_words front front_decoded refl s is"
+        f" (first_block front_words {rest(it)} s at) {aligned(it.front.pieces, 'front', 's')} in",
+        "let ran_u = pieces_ran front_words front s u at.next first in",
+        f"let at_u = ran_at front_words {rest(it)} _ s u at ran_u in",
+        "let ok = first.ranges in",
+    ]
+
+
+def loop_lines(it: Joined) -> list[str]:
+    """The loop: v is the state after it."""
+    back = "back.words" if it.returns else "back_words"
+    at = f"(first_block loop.words {back} u at_u)" if it.back else "at_u"
+    lines = [
+        f"let entered_u : {it.module}Entered u n = {entered(it)} in",
+        f"let mid = ends law u ok {at} n entered_u in",
+        f"let v = steps_of (n * {it.steps[1]}) u in",
+        "let ran_v = loop_ran loop n (Holds u n) u v at_u.next mid in",
+    ]
+    return [*lines, f"let at_v = ran_at loop.words {back} _ u v at_u ran_v in"] if it.back else lines
+
+
+def entered(it: Joined) -> str:
+    """The loop's premises, of the state after the code before it."""
+    if not it.front or it.entry != "s":
+        return "entered"
+    loop = it.loop
+    names = ["some", "count", *(["small"] if needs_bound(loop) else [])]
+    names += [f"{'buffer' if loop.target else 'aligned'}_{base}" for base in loop.bases]
+    names += [f"spares_{base}" for base in dict.fromkeys(loop.sources) if loop.target and base != loop.target]
+    fields = " ".join(f"{name} = {rewritten(name, loop)};" for name in names)
+    return f"record {{ {fields} }}"
+
+
+def rewritten(name: str, loop: Routine) -> str:
+    """A premise of the first state, as one of the state after the code before the loop."""
+    if name == "some":
+        return "entered.some"
+    if name in ("count", "small"):
+        numbers = {loop.rounds.register} | ({loop.rounds.other} - {0} if name == "count" else set())
+    elif name.startswith("spares"):
+        numbers = {int(name.split("_")[1]), loop.target or 0}
+    else:
+        numbers = {int(name.split("_")[1])}
+    facts = ", ".join(f"first.spares.scalars {number} refl" for number in sorted(numbers))
+    return f"rw ({facts}) entered.{name}"
+
+
+def back_lines(it: Joined) -> list[str]:
+    """The code after the loop: t is the state after it."""
+    if not it.back:
+        return ["let t = v in"]
+    kept = "mid.spares.scalars {0} refl" + (" ∙ first.spares.scalars {0} refl" if it.front else "")
+    bases = bases_of(it.back.pieces)
+    facts = [f"let c{base} = ap (λ x. x % 16) ({kept.format(base)}) ∙ a{base} in" for base in bases]
+    law = "routine_run law back" if it.returns else "pieces_run law back_words back"
+    pieces = "back.pieces" if it.returns else "back"
+    proof = aligned(it.back.pieces, pieces, "v", "mid.ranges", "c")
+    return [
+        *facts,
+        f"let last = {law} back_decoded refl v mid.ranges at_v {proof} in",
+        f"let t = steps_of {it.steps[2]} v in",
+    ]
+
+
+def others(it: Joined) -> str:
+    """The frame of all blocks."""
+    sets = f"{it.numbers} {it.vectors} refl"
+    if it.returns:
+        ran = "(blocks_join front_words loop.words _ _ s u v ran_u ran_v)" if it.front else "ran_v"
+        words = "(front_words ++ loop.words)" if it.front else "loop.words"
+        return f"ran_returns {words} _ back s v t is {ran} refl last {sets}"
+    ran = "ran_v"
+    if it.back:
+        last = "(pieces_ran back_words back v t at_v.next last)"
+        ran = f"(blocks_join loop.words back_words _ _ u v t ran_v {last})"
+    if it.front:
+        ran = f"(blocks_join front_words {rest(it)} _ _ s u t ran_u {ran})"
+    return f"ran_others words _ s t is at.next {ran} {sets}"

@@ -1,0 +1,239 @@
+"""The proof of a loop: what holds after k rounds, what one round does, and whether one is left."""
+
+from __future__ import annotations
+
+import re
+
+from .buffers import MARK, filled, marked, memory, result_use, stored
+from .instructions import uses
+from .kit import KIT, OPENED
+from .pieces import aligned, definitions, listing, pieces_text
+from .routine import Routine
+
+
+def wide(amount: int) -> int:
+    """The 32 bits that an ADDIU of these 16 bits adds."""
+    return amount if amount < 0x8000 else amount + 2**32 - 0x10000
+
+
+def after_rounds(base: int, amount: int, count: str) -> str:
+    """What base register `base` holds after some rounds, each of which adds so much to it."""
+    start = f"register s.registers {base}"
+    return f"({start} + {wide(amount)} * {count}) % 2 ^ 32" if amount else start
+
+
+def loop_proof(it: Routine) -> str:
+    names = f"{it.module}Entered, Does{it.module}"
+    return f"""-- {it.name}.
+{KIT}{uses(it.code)}use Rattle.rsp_routines.specs.{it.module}.{{{names}}}
+{result_use(it)}
+{lemmas(it)}
+{does(it)}"""
+
+
+def lemmas(it: Routine) -> str:
+    """The loop, and what one round does."""
+    words = listing([f"0x{word:08x}" for word in it.words])
+    return f"""{definitions(it.pieces)}abbrev loop : Loop
+loop = record {{
+  words = {words};
+  pieces =
+      {pieces_text(it.pieces, 4)};
+  branch = {it.code[-2].term};
+  slot = {it.code[-1].term};
+}}
+
+decoded : map inst_of loop.words ≡ map Some (loop_code loop)
+unfolding inst_of row_of
+decoded = refl
+
+{holds(it)}
+{counted(it)}
+-- whether a round is left
+{more(it)}
+{stored(it)}{one_round(it)}"""
+
+
+def holds(it: Routine) -> str:
+    """The invariant of the rounds."""
+    count = it.rounds.register
+    bases = "".join(
+        f"  base_{base} : register t.registers {base} ≡ {after_rounds(base, it.far[base], 'k')}\n"
+        for base in it.bases
+    )
+    filled = f"  filled : IsFilled (result s) s.dmem t.dmem (register s.registers {it.target}) k\n"
+    return f"""-- what holds after k rounds
+record Holds (s : State) (n k : ℕ) (t : State) : Type 0 where
+  count : {it.rounds.held(f"register t.registers {count}", f"register s.registers {count}")}
+{bases}  -- TODO: what k rounds have done
+{marked(filled) if it.target else ""}"""
+
+
+def counted(it: Routine) -> str:
+    """The registers after a round: the counter, the bases, and those that the branch reads."""
+
+    def moved(register: int, amount: int) -> str:
+        return f"(register r {register} + {amount}) % 2 ^ 32" if amount else f"register r {register}"
+
+    count = it.rounds.register
+    counts = moved(count, it.rounds.step % 2**32)
+    sides = [("q", count, counts), *(("q", base, moved(base, wide(it.far[base]))) for base in it.bases)]
+    sides.append(("p", count, f"register r {count}" if it.rounds.is_late else counts))
+    if it.rounds.branch == "bne":
+        sides.append(("p", it.rounds.other, f"register r {it.rounds.other}"))
+    types = "\n    × ".join(f"(register {when} {register} ≡ {value})" for when, register, value in sides)
+    proofs = ", ".join(f"ap ({when} {register}) e" for when, register, _ in sides)
+    begun = "(record t { registers = r })"
+    return f"""-- the scalar registers after a round (q), and those that the branch reads (p)
+counted : (t : State) → length t.registers ≡ 32 →
+    let r = t.registers in
+    let q = (round_of loop t).registers in
+    let p = (after_pieces loop.pieces t).registers in
+    {types}
+unfolding {OPENED}
+counted t n =
+    let e = listed t.registers n in
+    let q = λ (i : ℕ) (r : List ℕ). register (round_of loop {begun}).registers i in
+    let p = λ (i : ℕ) (r : List ℕ). register (after_pieces loop.pieces {begun}).registers i in
+    ({proofs})
+"""
+
+
+def compared(it: Routine) -> str:
+    """What the branch reads of the counter, r at the start of a round."""
+    return "r" if it.rounds.is_late else f"(r + {it.rounds.step % 2**32}) % 2 ^ 32"
+
+
+def in_letters(it: Routine, fact: str) -> str:
+    """A fact of the start, with c for the counter and z for what it is compared with."""
+    letters = {str(it.rounds.register): "c", str(it.rounds.other): "z"}
+    return re.sub(r"register s\.registers (\d+)", lambda found: letters[found[1]], fact)
+
+
+def more(it: Routine) -> str:
+    """The branch is taken exactly if a round is left."""
+    after, counter = compared(it), it.rounds
+    facts = ["k < n", "r < 2 ^ 32", counter.held("r", "c"), in_letters(it, counter.entered)]
+    small = in_letters(it, counter.small)
+    facts += [small] if small else []
+    given = f"h w e l{' m' if small else ''}"
+    if counter.branch == "bne":
+        zero = "" if counter.other else " → z ≡ 0"
+        return f"""\
+more : (r c z n k : ℕ) → {" → ".join(facts)}{zero} → not ({after} == z) ≡ nat_lt (k + 1) n
+more r c z n k {given}{"" if counter.other else " zero"} = elim (cases_lt (k + 1) n) [
+  | inl lt ↦ rw (lt-ltb (k + 1) n lt, ne_eqb ({after}) z (omega arith)) refl
+  | inr ge ↦ rw (le-ltb (k + 1) n ge, eq-eqb ({after}) z (omega arith)) refl
+]
+"""
+    return f"""\
+more : (r c n k : ℕ) → {" → ".join(facts)} → int_lt (pos 0) (s32 ({after})) ≡ nat_lt (k + 1) n
+more r c n k {given} =
+    let small : {after} < 2147483648 = omega arith in
+    rw (s32_small ({after}) small) (elim (cases_lt (k + 1) n) [
+      | inl lt ↦ rw (lt-ltb (k + 1) n lt) (lt-ltb 0 ({after}) (omega arith))
+      | inr ge ↦ rw (le-ltb (k + 1) n ge) (le-ltb 0 ({after}) (omega arith))
+    ])
+"""
+
+
+def taken(it: Routine) -> str:
+    """The proof in one round that the branch does as `more` says."""
+    counter, last = it.rounds, len(it.bases) + 1
+    count = f"(register t.registers {counter.register}) (register s.registers {counter.register})"
+    facts = f"h (is.registers.words {counter.register}) e entered.count"
+    facts += f" {small_fact(it)}" if counter.small else ""
+    if counter.branch == "bgtz":
+        return f"ap (λ x. int_lt (pos 0) (s32 x)) q.{last} ∙ more {count} n k {facts}"
+    if counter.other:
+        other = f"register s.registers {counter.other}"
+        same = f"spares.scalars {counter.other} refl"
+        return f"rw (q.{last}, q.{last + 1}, {same}) (more {count} ({other}) n k {facts})"
+    return (
+        f"rw (q.{last}, q.{last + 1}) (more {count} (register t.registers 0) n k {facts} is.registers.zero)"
+    )
+
+
+def needs_bound(it: Routine) -> bool:
+    """Whether the bound of the counted numbers is a premise: buffers inside DMEM bound what steps with
+    them."""
+    counts_buffer = it.rounds.step < 0 or it.rounds.register in it.bases
+    return bool(it.rounds.small) and not (it.target and counts_buffer)
+
+
+def small_fact(it: Routine) -> str:
+    return "entered.small" if needs_bound(it) else "(omega arith)"
+
+
+def facts_of(it: Routine) -> str:
+    """The facts of one round about the base registers."""
+    lines = []
+    for base in it.bases:
+        lines.append(f"let b{base} = holds.base_{base} in")
+        if it.target:
+            lines.append(f"let f{base} = entered.buffer_{base} in")
+            lines.append(f"let s{base} = f{base}.aligned in")
+            lines.append(f"let i{base} = f{base}.inside in")
+        else:
+            lines.append(f"let s{base} = entered.aligned_{base} in")
+    lines += [f"let a{base} : register t.registers {base} % 16 ≡ 0 = omega arith in" for base in it.bases]
+    return "".join(f"    {line}\n" for line in lines)
+
+
+def one_round(it: Routine) -> str:
+    bases = "".join(
+        f"        base_{base} = let f = q.{number} in omega arith;\n"
+        for number, base in enumerate(it.bases, 1)
+    )
+    words = f"is.registers.words {it.rounds.register}"
+    small = f"let m = {small_fact(it)} in " if it.rounds.small and needs_bound(it) else ""
+    return f"""\
+one_round : (s : State) (n : ℕ) → {it.module}Entered s n → HandsOn loop s n (Holds s n)
+unfolding {OPENED}
+one_round s n entered k t h is spares holds =
+    let q = counted t is.registers.count in
+    let e = holds.count in
+{facts_of(it)}{memory(it)}    (
+      {aligned(it.pieces, "loop.pieces", "t")},
+      {taken(it)},
+      record {{
+        count = let f = q.0 in let w = {words} in let c = entered.count in {small}omega arith;
+{bases}{filled(it)}      }},
+    )
+
+{ends(it)}"""
+
+
+def ends(it: Routine) -> str:
+    """The law of loops, with the invariant."""
+    starts = [f"count = omega (arith, is.registers.words {it.rounds.register});"]
+    starts += [f"base_{base} = {at_start(base, it.far[base])};" for base in it.bases]
+    start = "".join(f"      {line}\n" for line in starts)
+    if it.target:
+        start += f"{MARK}      filled = filled_none (result s) s.dmem (register s.registers {it.target});\n"
+    return f"""\
+ends : SumsOfProducts → (s : State) → IsState s → IsAt loop.words s → (n : ℕ) → {it.module}Entered s n
+    → AfterLoop loop n (Holds s n) s (steps_of (n * {len(it.code)}) s)
+ends law s is at n entered =
+    let start : Holds s n 0 s = record {{
+{start}    }} in
+    loops law loop decoded refl s is at n entered.some (Holds s n) start (one_round s n entered)
+"""
+
+
+def does(it: Routine) -> str:
+    results = "".join(f"      base_{base} = end.holds.base_{base};\n" for base in it.bases if it.far[base])
+    if it.target:
+        results += f"{MARK}      filled = end.holds.filled;\n"
+    return f"""\
+pub does : SumsOfProducts → Does{it.module} loop.words
+does law s is at n entered =
+    let end = ends law s is at n entered in
+    record {{
+{results}      others = end.others {it.numbers} {it.vectors} refl;
+    }}
+"""
+
+
+def at_start(base: int, amount: int) -> str:
+    return f"omega (arith, is.registers.words {base})" if amount else "refl"

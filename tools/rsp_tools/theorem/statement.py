@@ -1,0 +1,140 @@
+"""The statement of a routine's theorem: specs/Name.antt."""
+
+from __future__ import annotations
+
+from .buffers import marked
+from .loops import after_rounds, needs_bound
+from .pieces import bases_of
+from .routine import Joined, Routine
+
+KIT = """\
+use Rattle.std.specs.Prelude.{ℕ, ℤ, pos, ◌≡◌, ◌<◌, ◌+◌, ◌-◌, ◌*◌, ◌/◌, ◌%◌, ◌^◌, ◌+ℤ◌, ◌-ℤ◌, ◌*ℤ◌, ◌++◌}
+use Rattle.std.specs.Prelude.{true, false, List, [], ◌∷◌, codes, slice_index}
+use Rattle.std.specs.Int.Bits.{bit_and, bit_or, bit_xor}
+use Rattle.rsp_numbers.specs.Numbers.{s16, s32, s48, sixteen_bits, clamp16, floor_div}
+use Rattle.rsp_memory.specs.Memory.{byte_at, word_at}
+use Rattle.rsp_lanes.specs.Lanes.{each_lane}
+use Rattle.rsp_loadstore.specs.File.{vector, with_vector}
+use Rattle.rsp_microcode.specs.Lanes.{lanes_at, IsOutside}
+use Rattle.rsp_microcode.specs.Buffers.{IsBuffer, SparesBuffer, IsFilled}
+use Rattle.rsp_microcode.specs.Fixed.{fixed, limited, fixed_product}
+use Rattle.rsp_scalar.specs.Registers.{register}
+use Rattle.rsp_machine.specs.State.{State, IsState}
+use Rattle.rsp_machine.specs.Laws.{steps_of}
+use Rattle.rsp_microcode.specs.Runs.{IsAt, address_after_words}
+use Rattle.rsp_microcode.specs.Kept.{registers_but, vectors_but}
+use Rattle.rsp_microcode.specs.Calls.{return_of}
+use Rattle.rsp_scalar.specs.Flow.{address_after}
+use Rattle.rsp_microcode.specs.Text.{line}
+"""
+
+
+def statement(it: Routine | Joined) -> str:
+    text = "\n    ++ ".join(f'line (codes "{line}")' for line in it.lines)
+    loop = it.loop if isinstance(it, Joined) else it if it.counter else None
+    what, rounds = f"the {len(it.code)} steps from s to t do", ""
+    if loop:
+        what, rounds = "all steps from s to t do", " (n : ℕ)"
+    start = it.entry if isinstance(it, Joined) else "s"
+    filled = ""
+    if loop and loop.target:
+        target = f"(register {start}.registers {loop.target})"
+        filled = f"  pub filled : IsFilled (result {start}) {start}.dmem t.dmem {target} n\n"
+    return f"""-- {it.name}.
+{KIT}
+abbrev pub text : List ℕ
+text =
+    {text}
+
+{result(loop)}{entered(loop)}-- what {what}
+pub record {it.module}Does (words : List ℕ) (s t : State){rounds} : Type 0 where
+  -- TODO: the result
+{marked(filled)}{moved_bases(it)}  -- nothing else changed
+  pub others : t ≡ record s {{
+    {(";" + chr(10) + "    ").join(changed(it))};
+  }}
+
+-- from each state that is about to execute the words
+abbrev pub Does{it.module} : List ℕ → Type 0
+Does{it.module} words = (s : State) → IsState s → IsAt words s → {claim(it)}
+"""
+
+
+def result(loop: Routine | None) -> str:
+    """What a loop over buffers fills."""
+    if not loop or not loop.target:
+        return ""
+    letters = "vwxyz"[: len(loop.sources)]
+    sources = " ".join(f"(lanes_at s.dmem (register s.registers {base} + 16 * k))" for base in loop.sources)
+    text = f"""-- TODO: what a round stores, by the vectors that it loads
+abbrev pub result_of : {"List ℕ → " * len(letters)}List ℕ
+result_of {" ".join(letters)} = each_lane (λ i. ?)
+
+-- vector k of the result
+abbrev pub result : State → ℕ → List ℕ
+result s k = result_of {sources}
+"""
+    return marked(text) + "\n"
+
+
+def entered(loop: Routine | None) -> str:
+    """What a loop is entered with."""
+    if not loop:
+        return ""
+    facts = ["pub some : 0 < n", f"pub count : {loop.rounds.entered}"]
+    facts += [f"pub small : {loop.rounds.small}"] if needs_bound(loop) else []
+    for base in loop.bases:
+        start = f"register s.registers {base}"
+        facts.append(
+            f"pub buffer_{base} : IsBuffer ({start}) n"
+            if loop.target
+            else f"pub aligned_{base} : {start} % 16 ≡ 0"
+        )
+    for base in dict.fromkeys(loop.sources if loop.target else []):
+        if base != loop.target:
+            target = f"register s.registers {loop.target}"
+            facts.append(f"pub spares_{base} : SparesBuffer ({target}) (register s.registers {base}) n")
+    return f"""-- what the loop is entered with: n rounds
+pub record {loop.module}Entered (s : State) (n : ℕ) : Type 0 where
+{"".join(f"  {fact}{chr(10)}" for fact in facts)}
+"""
+
+
+def moved_bases(it: Routine | Joined) -> str:
+    """What the base registers hold after a loop."""
+    if isinstance(it, Joined):
+        return ""
+    moved = [base for base in it.bases if it.counter and it.far[base]]
+    return "".join(
+        f"  pub base_{base} : register t.registers {base} ≡ {after_rounds(base, it.far[base], 'n')}\n"
+        for base in moved
+    )
+
+
+def changed(it: Routine | Joined) -> list[str]:
+    """The fields of the state after, which the routine may change."""
+    end = "return_of s" if it.returns else "address_after_words words s.pc"
+    after_end = "address_after (return_of s)" if it.returns else end.replace("s.pc", "s.npc")
+    fields = [f"pc = {end}", f"npc = {after_end}"]
+    if it.numbers != "[]":
+        fields.append(f"registers = registers_but {it.numbers} s.registers t.registers")
+    if it.vectors != "[]":
+        fields.append(f"vectors = vectors_but {it.vectors} s.vectors t.vectors")
+    return fields + [f"{part} = t.{part}" for part in it.parts]
+
+
+def claim(it: Routine | Joined) -> str:
+    does, steps = f"{it.module}Does words s", len(it.code)
+    if isinstance(it, Joined):
+        rounds = f"(n : ℕ) → {it.module}Entered {it.entry} n"
+        return f"{premises(it)}{rounds} → {does} (steps_of ({it.all_steps}) s) n"
+    if it.counter:
+        return f"(n : ℕ) → {it.module}Entered s n → {does} (steps_of (n * {steps}) s) n"
+    return f"{premises(it)}{does} (steps_of {steps} s)"
+
+
+def premises(it: Routine | Joined) -> str:
+    """That the addresses of straight code are aligned."""
+    blocks = [block for block in (it.front, it.back) if block] if isinstance(it, Joined) else [it]
+    bases = bases_of([piece for block in blocks for piece in block.pieces])
+    return "".join(f"register s.registers {base} % 16 ≡ 0 → " for base in bases)
