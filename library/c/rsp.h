@@ -1,7 +1,7 @@
 /* rsp.h: the Nintendo 64's Reality Signal Processor (RSP): emulator, debugger, assembler and disassembler.
  * Each call is proved to do what the instruction table and the definitions of this repository say. For C
- * and C++, on Linux on x86-64-v2. docs/EMBEDDING.md shows how to build and link it, docs/FAULTS.md the
- * statuses beside the faults.
+ * and C++. docs/SYSTEMS.md has the systems, docs/EMBEDDING.md shows how to build and link it, and
+ * docs/FAULTS.md the statuses beside the faults.
  *
  * Preconditions, which no call can check:
  *   - A handle is RSP_NONE before its first call, and after that as the last call left it. Never copy a

@@ -1,4 +1,4 @@
-//! Finds librsp.a. The first of these counts:
+//! Finds librsp.a, or for MSVC rsp_static.lib. The first of these counts:
 //! - the folder that RSP_LIB_DIR names;
 //! - lib/TARGET/, where an archive for that target has the library, and lib/, where a package and the release archive for Linux on x86-64 do;
 //! - ../c, where `library/c/build` puts it in the repository;
@@ -21,6 +21,15 @@ fn installed() -> Option<PathBuf> {
     (said.status.success() && !folder.is_empty()).then(|| folder.into())
 }
 
+/// The file of the library, and what rustc calls it.
+fn names(target: &str) -> (&'static str, &'static str) {
+    if target.ends_with("-msvc") {
+        ("rsp_static.lib", "rsp_static")
+    } else {
+        ("librsp.a", "rsp")
+    }
+}
+
 fn folder(target: &str) -> Option<PathBuf> {
     if let Some(named) = env::var_os("RSP_LIB_DIR") {
         return Some(named.into());
@@ -30,19 +39,20 @@ fn folder(target: &str) -> Option<PathBuf> {
     if BUILT.iter().all(|part| target.contains(part)) {
         beside.extend([here.join("lib"), here.join("../c")]);
     }
-    let found = beside.into_iter().find(|it| it.join("librsp.a").is_file());
+    let found = beside.into_iter().find(|it| it.join(names(target).0).is_file());
     found.or_else(|| (target == env::var("HOST").unwrap_or_default()).then(installed).flatten())
 }
 
 fn main() {
     READ.iter().for_each(|name| println!("cargo:rerun-if-env-changed={name}"));
     let target = env::var("TARGET").expect("cargo names the target");
+    let (file, name) = names(&target);
     let folder = folder(&target).unwrap_or_else(|| {
-        panic!("librsp.a for {target} isn't found: put it into lib/{target} of the crate, or name its folder by RSP_LIB_DIR; for Linux on x86-64 library/c/build or library/c/install makes it")
+        panic!("{file} for {target} isn't found: put it into lib/{target} of the crate, or name its folder by RSP_LIB_DIR; for Linux on x86-64 library/c/build or library/c/install makes it")
     });
-    let library = folder.join("librsp.a");
+    let library = folder.join(file);
     println!("cargo:rerun-if-changed={}", library.display());
     assert!(library.is_file(), "{} isn't there", library.display());
     println!("cargo:rustc-link-search=native={}", folder.display());
-    println!("cargo:rustc-link-lib=static=rsp");
+    println!("cargo:rustc-link-lib=static={name}");
 }

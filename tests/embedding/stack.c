@@ -1,17 +1,21 @@
 /* How many bytes of stack each call of rsp.h uses. A thread gets a stack that is filled with one byte; after the call, the lowest byte that
- * has changed shows how far it went. A thread that makes no call is the measure that is taken off. The last line is `N passed, M failed`;
- * with an argument each call is printed. */
+ * has changed shows how far it went. A thread that makes no call is the measure that is taken off. On Windows, which takes no stack from a
+ * program, a thread fills its own. The last line is `N passed, M failed`; with an argument each call is printed. */
+#ifdef _WIN32
+#include <windows.h>
+#else
 #define _POSIX_C_SOURCE 200809L
-#include "rsp.h"
 #include <pthread.h>
+#endif
+#include "rsp.h"
 #include <stdio.h>
 #include <stdlib.h>
 #include <string.h>
 
-enum { SIZE = 1 << 20, FILL = 0xa5 };
+enum { STACK_SIZE = 1 << 20, FILL = 0xa5 };
 
 static rsp m = RSP_NONE, copy = RSP_NONE;
-static uint8_t *stack, bytes[4096], image[8192];
+static uint8_t bytes[4096], image[8192];
 static uint32_t words[1024], word;
 static char text[65536];
 static rsp_state state;
@@ -86,10 +90,55 @@ static const struct {
     { "rsp_task", task }
 };
 
+#ifdef _WIN32
+static uintptr_t lowest;
+
+/* Makes the system give the stack room below the caller. */
+static void take_pages(int count)
+{
+    volatile uint8_t page[4096];
+    page[0] = FILL;
+    lowest = (uintptr_t)page;
+    if (count) take_pages(count - 1);
+    page[1] = page[0];
+}
+
+/* Fills the room below its own part of the stack, and looks there after the call. */
+static DWORD WINAPI in_thread(void *given)
+{
+    volatile uint8_t own = FILL;
+    uintptr_t top = (uintptr_t)&own - 512, at;
+    size_t *n = (size_t *)given;
+    take_pages(STACK_SIZE / 2 / 4096);
+    for (at = lowest; at < top; at++) *(volatile uint8_t *)at = own;
+    calls[*n].made();
+    for (at = lowest; at < top && *(volatile uint8_t *)at == FILL; at++) { }
+    *n = top - at;
+    return 0;
+}
+
+static void begin(void) { }
+
+/* How many bytes of the stack the call has changed, below some that are the thread's own. */
+static size_t used(size_t n)
+{
+    HANDLE thread = CreateThread(NULL, STACK_SIZE, in_thread, &n, STACK_SIZE_PARAM_IS_A_RESERVATION, NULL);
+    if (!thread || WaitForSingleObject(thread, INFINITE)) exit(2);
+    CloseHandle(thread);
+    return n;
+}
+#else
+static uint8_t *stack;
+
 static void *in_thread(void *given)
 {
     calls[*(size_t *)given].made();
     return NULL;
+}
+
+static void begin(void)
+{
+    if (posix_memalign((void **)&stack, 4096, STACK_SIZE)) exit(2);
 }
 
 /* How many bytes of the stack the call has changed. */
@@ -98,12 +147,13 @@ static size_t used(size_t n)
     pthread_attr_t attr;
     pthread_t thread;
     size_t low = 0;
-    memset(stack, FILL, SIZE);
-    if (pthread_attr_init(&attr) || pthread_attr_setstack(&attr, stack, SIZE) || pthread_create(&thread, &attr, in_thread, &n)) exit(2);
+    memset(stack, FILL, STACK_SIZE);
+    if (pthread_attr_init(&attr) || pthread_attr_setstack(&attr, stack, STACK_SIZE) || pthread_create(&thread, &attr, in_thread, &n)) exit(2);
     pthread_join(thread, NULL);
-    while (low < SIZE && stack[low] == FILL) low++;
-    return SIZE - low;
+    while (low < STACK_SIZE && stack[low] == FILL) low++;
+    return STACK_SIZE - low;
 }
+#endif
 
 /* A text of 1024 words with labels and the most expensive operands. */
 static void fill_text(void)
@@ -121,7 +171,7 @@ int main(int argc, char **argv)
     int failed = 0;
     (void)argv;
     image[64 + 0x08 + 2] = 1, image[0x0c + 3] = 8;
-    if (posix_memalign((void **)&stack, 4096, SIZE)) return 2;
+    begin();
     fill_text();
     used(0); /* the first thread also does what a C library does once */
     for (n = 0; n < sizeof calls / sizeof *calls; n++) {

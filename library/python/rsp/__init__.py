@@ -14,6 +14,7 @@ A machine may go from thread to thread, as long as one call at a time uses it. d
 import ctypes
 import enum
 import os
+import sys
 from ctypes import POINTER, Structure, byref, c_char_p, c_size_t, c_uint16, c_uint32, c_void_p
 from typing import Any, Iterable, Iterator, List, NamedTuple, Optional, Sequence, Tuple, TypeVar
 
@@ -191,12 +192,15 @@ class _Lanes(Structure):
     _fields_ = [("lanes", c_uint16 * 8)]
 
 
+_NAME = {"win32": "rsp.dll", "darwin": "librsp.dylib"}.get(sys.platform, "librsp.so")
+
+
 def _library() -> str:
     """The library in the package; else that of the release archive; else the one that library/c/build has
     made."""
     here = os.path.dirname(os.path.abspath(__file__))
-    for folder in ("", "../../lib", "../../c"):
-        place = os.path.join(here, folder, "librsp.so")
+    for folder in ("", "../../lib", "../../bin", "../../c"):
+        place = os.path.join(here, folder, _NAME)
         if os.path.exists(place):
             return place
     text = "the library isn't built: in a clone of rsp, library/c/build makes it, as library/c/librsp.so"
@@ -229,7 +233,7 @@ _lib.rsp_free.argtypes, _lib.rsp_free.restype = [_M], None
 VERSION = 1
 _found = _lib.rsp_version()
 if _found != VERSION:
-    raise ImportError(f"librsp.so has version {_found} of the interface, and this module is for {VERSION}")
+    raise ImportError(f"{_NAME} has version {_found} of the interface, and this module is for {VERSION}")
 
 
 def _ok(status: int, name: str = "", numbers: Sequence[int] = ()) -> None:

@@ -3,6 +3,9 @@
 import base64
 import hashlib
 import re
+import subprocess
+import sys
+import tempfile
 import zipfile
 from pathlib import Path
 from typing import Dict, List, Set
@@ -14,9 +17,24 @@ from .counts import Counts
 
 PLATFORMS: Dict[str, List[str]] = {
     "linux-aarch64": ["manylinux_2_17_aarch64", "manylinux2014_aarch64"],
+    "windows-x86_64": ["win_amd64"],
+    "macos": ["macosx_11_0_universal2"],
 }
-LIBRARIES = {"linux-aarch64": "lib/librsp.so"}
+LIBRARIES = {
+    "linux-aarch64": "lib/librsp.so",
+    "windows-x86_64": "bin/rsp.dll",
+    "macos": "lib/librsp.dylib",
+}
 OLDEST = (2, 17)  # the glibc of manylinux2014
+# What Python calls each system, and a program that imports the module there, up to what it would load.
+PYTHONS = {"linux-aarch64": "linux", "windows-x86_64": "win32", "macos": "darwin"}
+IMPORTED = """import ctypes, sys
+def load(path):
+    sys.exit(f"loads {path}")
+ctypes.CDLL = load
+sys.platform = sys.argv[1]
+import rsp
+"""
 
 
 def shown(*words: str) -> Set[str]:
@@ -58,6 +76,12 @@ def see_wheel(counts: Counts, system: str, folder: Path) -> None:
         wanted = ("", "") if name.endswith("/RECORD") else (f"sha256={digest}", str(len(data)))
         counts.see(f"{system}: the wheel's record of {name}", recorded.pop(name, None) == wanted)
     counts.see(f"{system}: the wheel's record has more: {recorded}", not recorded)
+    with tempfile.TemporaryDirectory() as at, zipfile.ZipFile(folder / "python" / named) as wheel:
+        wheel.extractall(at)
+        words = [sys.executable, "-c", IMPORTED, PYTHONS[system]]
+        ended = subprocess.run(words, cwd=at, capture_output=True, text=True)
+        loads = f"loads {Path(at).resolve()}/{library}\n"
+        counts.see(f"{system}: the module: {ended.stderr}", ended.stderr == loads)
 
 
 def see_linux(counts: Counts, system: str, folder: Path) -> None:

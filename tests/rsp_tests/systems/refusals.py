@@ -7,10 +7,19 @@ import tempfile
 from pathlib import Path
 from typing import List
 
-from rsp_tools.systems import places
+from rsp_tools.systems import places, rewriting
 from rsp_tools.systems.toolchain import Refused, kit, missing
 
 from .counts import Counts
+
+NAMES = ["linux-aarch64", "windows-x86_64", "macos"]
+# The packages that are named where there are none.
+PACKAGES = {
+    "linux-aarch64": "gcc-aarch64-linux-gnu",
+    "windows-x86_64": "gcc-mingw-w64-x86-64",
+}
+# A call as a module has it, of an instruction that no processor has.
+FOREIGN = "%2 = call <16 x i8> @llvm.x86.rsp.add(<16 x i8> %1)\n"
 
 
 def said(words: List[str], path: str) -> "subprocess.CompletedProcess[str]":
@@ -25,13 +34,14 @@ def see_program(counts: Counts, at: Path) -> None:
     written."""
     held = sorted(places.MADE.glob("*")) if places.MADE.is_dir() else []
     ended = said(["linux-arm"], os.environ["PATH"])
-    wanted = "tools/systems: there is no system linux-arm: the systems are linux-aarch64\n"
+    wanted = f"tools/systems: there is no system linux-arm: the systems are {', '.join(NAMES)}\n"
     counts.see(f"an unknown system: {ended.stderr}", ended.returncode == 1 and ended.stderr == wanted)
     ended = said(["--all"], os.environ["PATH"])
     counts.see(f"an unknown word: {ended.stderr}", ended.returncode == 2)
-    ended = said(["linux-aarch64"], str(at))
-    wanted = "linux-aarch64 isn't made: it needs packages of Debian: apt-get install gcc-aarch64-linux-gnu"
-    counts.see(f"a missing package: {ended.stderr}", ended.returncode == 1 and wanted in ended.stderr)
+    for system, package in PACKAGES.items():
+        ended = said([system], str(at))
+        wanted = f"{system} isn't made: it needs packages of Debian: apt-get install {package}"
+        counts.see(f"a missing package: {ended.stderr}", ended.returncode == 1 and wanted in ended.stderr)
     counts.see("nothing is written", held == (sorted(places.MADE.glob("*")) if places.MADE.is_dir() else []))
 
 
@@ -57,8 +67,19 @@ def see_clang(counts: Counts, at: Path) -> None:
         kit.cache_clear()
 
 
+def see_module(counts: Counts) -> None:
+    """A module with an intrinsic that no rule names."""
+    try:
+        rewriting.rewritten(FOREIGN, {"llvm.x86.ssse3.pshuf.b.128"})
+        counts.see("an intrinsic that no rule names is refused", False)
+    except Refused as fault:
+        wanted = "the module has the intrinsic llvm.x86.rsp.add, which no rule names"
+        counts.see(f"another intrinsic: {fault}", str(fault) == wanted)
+
+
 def all_of(counts: Counts) -> None:
     """All of them."""
+    see_module(counts)
     with tempfile.TemporaryDirectory() as at:
         see_program(counts, Path(at))
         if missing("rt"):

@@ -2,6 +2,8 @@
 systems that can be run here.
 
   linux-aarch64    under qemu-aarch64
+  windows-x86_64   under wine. What is for MSVC is linked by lld-link
+  macos            nothing is run: symbols and load commands are read
 
 On each that is run: all calls of tests/embedding/calls.c, with the static and the shared library; owner.c
 and the lock step of examples; all test vectors; ten seeds of a million steps of random programs of all

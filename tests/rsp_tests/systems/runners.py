@@ -1,6 +1,7 @@
 """How a program in C is compiled for a system, and run on it."""
 
 import os
+import shutil
 import subprocess
 from pathlib import Path
 from typing import Dict, List, NamedTuple, Optional
@@ -28,6 +29,8 @@ class Runner:
     # How a process is started, and what is linked for threads.
     start: List[str] = []
     threads = ["-pthread"]
+    # Whether there is something that runs its programs.
+    runs = True
     # How many programs are run side by side.
     at_once = 2
 
@@ -95,3 +98,35 @@ class Arm(Runner):
     compiler = "aarch64-linux-gnu-gcc"
     programs = ["aarch64-linux-gnu-gcc", "qemu-aarch64"]
     start = ["qemu-aarch64", "-L", "/usr/aarch64-linux-gnu"]
+
+
+class Windows(Runner):
+    """Windows on x86-64, under wine, whose files are in a folder of their own."""
+
+    compiler = "x86_64-w64-mingw32-gcc"
+    programs = ["x86_64-w64-mingw32-gcc", "wine"]
+    start = ["wine"]
+    ending = ".exe"
+    threads = ["-pthread", "-static"]
+
+    def __init__(self, folder: Path, at: Path) -> None:
+        super().__init__(folder, at)
+        self.env.pop("DISPLAY", None)
+        without = "mscoree,mshtml,winemenubuilder.exe="
+        self.env.update(WINEPREFIX=str(at / "wine"), WINEDEBUG="-all", WINEDLLOVERRIDES=without)
+        subprocess.run(["wineboot", "--init"], env=self.env, capture_output=True)
+
+    def shared(self) -> List[str]:
+        # Windows looks for a library beside the program.
+        shutil.copy(self.folder / "bin" / "rsp.dll", self.at)
+        return [f"-L{self.folder}/lib", "-lrsp"]
+
+    def stop(self) -> None:
+        subprocess.run(["wineserver", "-k"], env=self.env, capture_output=True)
+
+
+class Mac(Runner):
+    """macOS, whose files are read alone."""
+
+    programs = []
+    runs = False

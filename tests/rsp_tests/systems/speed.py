@@ -8,7 +8,7 @@ from .runners import Ended, Runner
 
 SOURCE = places.TOP / "tests" / "systems" / "rate.c"
 TURNS = 5
-MILLIONS = "20"
+MILLIONS = "60"
 
 
 def rates(ended: Ended) -> Dict[str, float]:

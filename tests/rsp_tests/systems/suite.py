@@ -9,9 +9,9 @@ from rsp_tools.systems.__main__ import SYSTEMS
 from rsp_tools.systems.modules import Module
 from rsp_tools.systems.modules import module as true_module
 
-from . import digests, files, planted, rust, vectors
+from . import digests, files, macos, planted, rust, vectors, windows
 from .counts import Counts
-from .runners import Arm, Native, Runner
+from .runners import Arm, Mac, Native, Runner, Windows
 
 DATA = places.TOP / "tests" / "systems"
 EMBEDDING = places.TOP / "tests" / "embedding"
@@ -23,7 +23,11 @@ FEW = 20000
 class Suite:
     """Tests that each system has. `at` is a folder for files on the way."""
 
-    runners: Dict[str, Type[Runner]] = {"linux-aarch64": Arm}
+    runners: Dict[str, Type[Runner]] = {
+        "linux-aarch64": Arm,
+        "windows-x86_64": Windows,
+        "macos": Mac,
+    }
 
     def __init__(self, counts: Counts, system: str, at: Path, steps: int) -> None:
         self.counts, self.system, self.steps = counts, system, steps
@@ -40,8 +44,13 @@ class Suite:
         """All tests of the system."""
         self.files()
         self.again()
+        if not self.runner.runs:
+            print(f"{self.system}: its files were read, and nothing was run", flush=True)
+            return
         self.calls()
         self.limits()
+        if self.system in rust.TESTED:
+            rust.see_tests(self.counts, self.system, self.runner, *rust.TESTED[self.system])
         found = self.vectors(self.runner)
         print(f"{self.system}: vectors: {found.passed} passed, {found.failed} failed", flush=True)
         self.counts.passed += found.passed
@@ -56,7 +65,12 @@ class Suite:
 
     def files(self) -> None:
         """What the files show and need."""
-        files.see_linux(self.counts, self.system, self.runner.folder)
+        if self.system == "linux-aarch64":
+            files.see_linux(self.counts, self.system, self.runner.folder)
+        if isinstance(self.runner, Windows):
+            windows.see(self.counts, self.system, self.runner)
+        if isinstance(self.runner, Mac):
+            macos.see(self.counts, self.system, self.runner.folder, self.at)
         files.see_wheel(self.counts, self.system, self.runner.folder)
         rust.see_crate(self.counts, self.system, self.runner.folder, self.at)
 

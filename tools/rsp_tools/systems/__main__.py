@@ -3,6 +3,10 @@ named.
 
   linux-aarch64    library/systems/linux-aarch64: librsp.a, librsp.so.1, pkg-config, CMake, and the Python
                    wheel; glibc 2.17
+  windows-x86_64   library/systems/windows-x86_64: rsp.dll, an import library and a static one for mingw and
+                   for MSVC, CMake, and the Python wheel
+  macos            library/systems/macos: librsp.dylib and librsp.a for Intel and ARM, pkg-config, CMake, and
+                   the Python wheel; macOS 11. Never run: there was no Mac
 
 It wants a clone whose library is built (library/c/build), the kit, and packages of Debian that it names.
 Each system takes at most three minutes of processor, and the same sources give the same bytes. What the
@@ -18,7 +22,7 @@ import tempfile
 from pathlib import Path
 from typing import Callable, Dict, List, NamedTuple, Tuple
 
-from . import linux, places
+from . import linux, macos, places, windows
 from .modules import Source, module
 from .toolchain import Refused, missing
 
@@ -32,6 +36,8 @@ class System(NamedTuple):
 
 SYSTEMS: Dict[str, System] = {
     "linux-aarch64": System(linux.make, ("aarch64-linux-gnu-gcc",)),
+    "windows-x86_64": System(windows.make, ("x86_64-w64-mingw32-gcc",)),
+    "macos": System(macos.make, ()),
 }
 
 

@@ -29,6 +29,6 @@ def make(out: Path, at: Path, source: Source = module) -> None:
     shutil.copy(out / "lib" / soname, out / "lib" / "librsp.so")  # a link would do, but `rt ci` refuses links
     packages.header(out)
     packages.pkg_config(out)
-    packages.cmake(out, "unix", "Linux", "aarch64|arm64", SONAME=soname)
+    packages.cmake(out, "unix", "Linux", "aarch64|arm64", LIBRARY=soname, SONAME=soname)
     tags = ["manylinux_2_17_aarch64", "manylinux2014_aarch64"]
     packages.wheel(out, out / "lib" / soname, "librsp.so", tags)

@@ -92,10 +92,11 @@ def link_toolchain(folder: Path) -> None:
 
 def take(target: str, folder: Path) -> None:
     """Has the kit build the library for a target, and leaves its module and its archive in a folder."""
-    kept = places.KEPT / "incremental"
-    if not kept.is_dir():
-        # A check over what the library's own check found takes a minute, and leaves that as it was.
-        shutil.copytree(places.CRATE / "out" / "incremental", kept, symlinks=True)
+    kept, found = places.KEPT / "incremental", places.CRATE / "out" / "incremental"
+    if not kept.is_dir() and found.is_dir():
+        # A check over what the library's own check found takes a minute, and leaves that as it was. After
+        # `rt ci` there is none.
+        shutil.copytree(found, kept, symlinks=True)
     link_toolchain(folder / "toolchain")
     words = [f"{kit()}/bin/rattle", "build", *words_of(target, folder / "toolchain", folder / "librsp_c.a")]
     ended = subprocess.run(

@@ -14,6 +14,8 @@ CLANG = "22.1.8"
 PACKAGES: Dict[str, str] = {
     "aarch64-linux-gnu-gcc": "gcc-aarch64-linux-gnu libc6-dev-arm64-cross",
     "qemu-aarch64": "qemu-user",
+    "x86_64-w64-mingw32-gcc": "gcc-mingw-w64-x86-64",
+    "wine": "wine wine64",
 }
 
 

@@ -1,0 +1,36 @@
+"""The library as one object for a system other than Linux: the module of a processor, rewritten, with the
+heap inside."""
+
+from pathlib import Path
+from typing import AbstractSet, Dict, Iterable
+
+from . import places
+from .modules import TARGETS, Module
+from .rewriting import Change, rewritten
+from .toolchain import llvm
+
+# The intrinsics of a processor that its modules have. Each is an instruction on any system.
+INTRINSICS: Dict[str, AbstractSet[str]] = {
+    "x86_64": {"llvm.x86.ssse3.pshuf.b.128"},
+    "aarch64": set(),
+}
+
+
+def heap(processor: str, to: Path) -> None:
+    """Writes heap.c in LLVM's language, as the modules are: for Linux. Compiled for Windows, C would return
+    its two numbers in another way than the modules expect."""
+    words = [f"--target={TARGETS[processor]}", "-O2", "-fPIC", "-ffreestanding", "-c", "-emit-llvm"]
+    llvm("clang", *words, "-o", to, places.PARTS / "heap.c")
+
+
+def compiled(module: Module, processor: str, target: str, at: Path, changes: Iterable[Change] = ()) -> Path:
+    """An object for a target of clang, in which only the calls of rsp.h are to be seen. `at` is for files on
+    the way."""
+    text, made = at / f"{target}.ll", at / f"{target}.o"
+    text.write_text(rewritten(module.text.read_text(), INTRINSICS[processor], changes))
+    heap(processor, at / f"{target}-heap.bc")
+    # Clang makes what it takes in by this word invisible from outside.
+    inside = ["-Xclang", "-mlink-builtin-bitcode", "-Xclang", str(at / f"{target}-heap.bc")]
+    words = [f"--target={target}", "-x", "ir", "-c", *module.flags, *inside]
+    llvm("clang", *words, "-Wno-override-module", "-o", made, text)
+    return made

@@ -1,0 +1,45 @@
+"""What a system can't take of the modules that the kit makes for Linux, and the reason of each change.
+
+A module is text in LLVM's language. What a processor alone has, the rules have to name: a module with
+something else is refused, since nobody has looked at it."""
+
+import re
+from typing import AbstractSet, Callable, Iterable, NamedTuple
+
+from .toolchain import Refused
+
+PROCESSORS = "x86|aarch64|arm|wasm"
+
+
+def without_stack_probes(text: str) -> str:
+    """Drops how the stack is probed, and how often."""
+    return re.sub(r' "(?:probe-stack|stack-probe-size)"="[^"]*"', "", text)
+
+
+class Change(NamedTuple):
+    """A change of a module's text, and why a system needs it."""
+
+    reason: str
+    made: Callable[[str], str]
+
+
+STACK_PROBES = Change(
+    "the module wants the stack probed by inline assembler, which LLVM has neither for Windows nor for"
+    " WebAssembly: it would call a function of that name. Windows has probes of its own",
+    without_stack_probes,
+)
+
+
+def intrinsics(text: str) -> AbstractSet[str]:
+    """The instructions of one processor that a module calls by LLVM's names."""
+    return {*re.findall(rf"@(llvm\.(?:{PROCESSORS})\.[\w.]+)", text)}
+
+
+def rewritten(text: str, known: AbstractSet[str], changes: Iterable[Change] = ()) -> str:
+    """A module after the changes. Refused if it has an intrinsic of a processor that no rule names."""
+    unknown = sorted(intrinsics(text) - known)
+    if unknown:
+        raise Refused(f"the module has the intrinsic {unknown[0]}, which no rule names")
+    for it in changes:
+        text = it.made(text)
+    return text
