@@ -139,6 +139,17 @@ typedef struct rsp_state {
     uint32_t interrupt;       /* 1 if the interrupt flag is set, else 0 */
 } rsp_state;
 
+/* What a step changed. The struct has no padding. Besides, an LTV writes seven more registers of its group;
+ * MFC0, MTC0, BREAK and single step change SP registers; and a DMA changes memories. */
+typedef struct rsp_changes {
+    rsp_traced traced;        /* its entry in a trace */
+    uint16_t pc, npc;         /* after the step, as all that follows */
+    rsp_divide_state divider;
+    uint16_t quadword;        /* of a store the address of the quadword in which its address is; else 0 */
+    rsp_accumulators accumulators;
+    uint8_t bytes[2][16];     /* of a store that quadword and the next one, modulo 4096; else 0 */
+} rsp_changes;
+
 /* The SP registers 0 to 7 and the DPC's 0 to 7, as rsp_peek gives them; 1 if the interrupt flag is set,
  * else 0. */
 typedef struct rsp_sp_words {
@@ -211,7 +222,7 @@ uint32_t rsp_state_fault(const rsp_state *state, uint32_t *out);
 /* Writes bytes to a memory, and empties the history. */
 uint32_t rsp_load(rsp *m, uint32_t bank, uint32_t address, const uint8_t *bytes, size_t len);
 
-/* Writes words, at most 1024, the high byte of each first. Empties the history. */
+/* Writes words, the high byte of each first. Empties the history. */
 uint32_t rsp_load_words(rsp *m, uint32_t bank, uint32_t address, const uint32_t *words, size_t len);
 
 /* Reads bytes of a memory. */
@@ -234,6 +245,9 @@ uint32_t rsp_set_pc(rsp *m, uint32_t pc);
 
 /* Executes one instruction. Returns RSP_HALTED, RSP_RESERVED. */
 uint32_t rsp_step(rsp *m);
+
+/* The same, and gives what the step changed. Returns RSP_HALTED, RSP_RESERVED. */
+uint32_t rsp_step_changes(rsp *m, rsp_changes *out);
 
 /* Makes at most n steps, up to the first reason to stop. Returns RSP_OUT_OF_RANGE unless n is 1 to
  * 1000000. */

@@ -111,12 +111,13 @@ static inline uint64_t rsp_compare_number(const uint8_t *bytes)
     return number;
 }
 
-/* Internal: the parts that differ, into `parts` if it isn't null. Returns how many there are. */
+/* Internal: the parts that differ, into `parts` if it isn't null. Returns how many there are. A state's byte `zero` may differ. */
 static inline size_t rsp_compare_parts(const rsp_compare_seen *mine, const rsp_compare_seen *its, size_t length, rsp_part *parts)
 {
     static const char *const names[] = { "DMEM", "IMEM", "RDRAM" };
     size_t count = 0;
     rsp_part part;
+    if (!memcmp(&mine->state, &its->state, sizeof mine->state) && !memcmp(mine->bytes, its->bytes, length)) return 0;
     memset(&part, 0, sizeof part);
     for (unsigned n = 0; n < RSP_COMPARE_PARTS; n++) {
         part.value[1] = rsp_compare_part(&mine->state, n, &part);
@@ -181,18 +182,48 @@ static inline uint32_t rsp_compare_tell(const rsp_compare_seen *mine, const rsp_
     return RSP_OK;
 }
 
-/* Internal: one step of both, and what differs after it. `made` is 0 if the machine can't make one. */
+/* Internal: whether a step from this state may have changed more than rsp_changes has: a move of an SP register, BREAK, LTV, single step. */
+static inline int rsp_compare_is_more(const rsp_state *before, uint32_t word)
+{
+    return word >> 26 == 16 || (word & 0xfc00003fu) == 13 || (word & 0xfc00f800u) == 0xc8005800u || (before->sp[4] & 1 << 5) != 0;
+}
+
+/* Internal: what was seen of the machine, after a step that changed no more than this. */
+static inline void rsp_compare_change(rsp_compare_seen *mine, const rsp_changes *by)
+{
+    rsp_state *s = &mine->state;
+    const rsp_traced *t = &by->traced;
+    s->words[t->scalar] = t->value;
+    if (t->vector < 32) memcpy(s->vectors[t->vector], t->lanes, sizeof t->lanes);
+    s->accumulators = by->accumulators;
+    s->flags.carry = (uint8_t)(t->vco & 255);
+    s->flags.differ = (uint8_t)(t->vco >> 8);
+    s->flags.compare = (uint8_t)(t->vcc & 255);
+    s->flags.clip = (uint8_t)(t->vcc >> 8);
+    s->flags.extra = t->vce;
+    s->divider = by->divider;
+    s->pc = by->pc;
+    s->npc = by->npc;
+    if (!t->stored) return;
+    memcpy(mine->bytes + by->quadword, by->bytes[0], RSP_QUADWORD);
+    memcpy(mine->bytes + (by->quadword + RSP_QUADWORD) % 4096, by->bytes[1], RSP_QUADWORD);
+}
+
+/* Internal: one step of both, and what differs after it. `mine` is what was seen last of the machine, which is there still. `made` is 0 if
+ * the machine can't make one. */
 static inline uint32_t rsp_compare_step(rsp *m, const rsp_emulator *e, uint32_t number, size_t length, rsp_compare_seen *mine,
                                         rsp_compare_seen *its, uint32_t *made, rsp_difference *out)
 {
+    rsp_changes changes;
     out->step = number;
     out->steps = 1;
-    rsp_get(m, &out->before);
+    out->before = mine->state;
     rsp_listing(m, out->before.pc, &out->line, 1);
-    *made = rsp_step(m) == RSP_OK;
+    *made = rsp_step_changes(m, &changes) == RSP_OK;
     if (!*made) return RSP_OK;
     e->run(e->self, 1);
-    rsp_compare_see(m, NULL, length, mine);
+    if (rsp_compare_is_more(&out->before, changes.traced.word)) rsp_compare_see(m, NULL, length, mine);
+    else rsp_compare_change(mine, &changes);
     rsp_compare_see(m, e, length, its);
     return rsp_compare_tell(mine, its, length, out);
 }
@@ -205,6 +236,8 @@ static inline uint32_t rsp_compare_narrow(rsp *m, const rsp_emulator *e, uint32_
     rsp_difference whole = *out;
     rsp_compare_put(m, NULL, RSP_COMPARE_SP, before);
     rsp_compare_put(m, e, RSP_COMPARE_SP, before);
+    mine->state = before->state;
+    memcpy(mine->bytes, before->bytes, RSP_COMPARE_SP);
     rsp_listing(m, before->state.pc, &whole.line, 1);
     out->parts = NULL;
     out->count = 0;

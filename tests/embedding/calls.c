@@ -43,6 +43,7 @@ static void without_machine(void)
     rsp_sp_words sp;
     rsp_move move;
     rsp_traced traced;
+    rsp_changes changed;
     rsp to = RSP_NONE;
     int i;
     memset(&sp, 0, sizeof sp);
@@ -64,6 +65,7 @@ static void without_machine(void)
         SEE(rsp_set_pc(m, 0) == RSP_NO_MACHINE);
         SEE(rsp_set_pc(m, 1) == RSP_NO_MACHINE);
         SEE(rsp_step(m) == RSP_NO_MACHINE);
+        SEE(rsp_step_changes(m, &changed) == RSP_NO_MACHINE);
         SEE(rsp_run(m, 1, &stop) == RSP_NO_MACHINE);
         SEE(rsp_run(m, 0, &stop) == RSP_NO_MACHINE);
         SEE(rsp_run_until_move(m, 1, 0, 0, &move) == RSP_NO_MACHINE);
@@ -205,6 +207,35 @@ static void memories(void)
     SEE(rsp_load(&m, 3, 0, bytes, 1) == RSP_OUT_OF_RANGE);
     SEE(rsp_load_words(&m, ANY, 0, words, 1) == RSP_OUT_OF_RANGE);
     SEE(rsp_memory(&m, 3, 0, found, 1) == RSP_OUT_OF_RANGE);
+    rsp_free(&m);
+}
+
+/* As many words as a memory has, from both ends of the largest image. */
+static void many_words(void)
+{
+    enum { COUNT = 1 << 21 };
+    static uint8_t large[4 * COUNT];
+    static uint32_t words[COUNT + 1], got[COUNT];
+    rsp m = RSP_NONE;
+    size_t i, wrong = 0;
+    for (i = 0; i <= COUNT; i++) words[i] = (uint32_t)i * 2654435761u;
+    SEE(rsp_new(&m, large, sizeof large, 4) == RSP_OK);
+    SEE(rsp_load_words(&m, RSP_RDRAM, 0, words, COUNT + 1) == RSP_OUT_OF_RANGE && rsp_load_words(&m, RSP_RDRAM, 1, words, COUNT) == RSP_OUT_OF_RANGE);
+    SEE(rsp_memory_words(&m, RSP_RDRAM, 0, got, COUNT) == RSP_OK);
+    for (i = 0; i < COUNT; i++) wrong += got[i] != 0;
+    SEE(wrong == 0);
+    SEE(rsp_step(&m) == RSP_OK && rsp_load_words(&m, RSP_RDRAM, 0, words + 1, COUNT) == RSP_OK && rsp_back(&m, 1) == RSP_SHORT_HISTORY);
+    SEE(rsp_memory(&m, RSP_RDRAM, 0, large, sizeof large) == RSP_OK);
+    for (i = 0; i < COUNT; i++) {
+        uint8_t *at = large + 4 * i;
+        wrong += ((uint32_t)at[0] << 24 | (uint32_t)at[1] << 16 | (uint32_t)at[2] << 8 | at[3]) != words[i + 1];
+    }
+    SEE(wrong == 0);
+    for (i = 60; i < 200; i++) { /* those around it stay */
+        SEE(rsp_load_words(&m, RSP_RDRAM, 4, words, i) == RSP_OK && rsp_memory_words(&m, RSP_RDRAM, 0, got, i + 2) == RSP_OK);
+        SEE(got[0] == words[1] && !memcmp(got + 1, words, 4 * i) && got[i + 1] == words[i + 2]);
+    }
+    SEE(rsp_load_words(&m, RSP_DMEM, 0, words, 1025) == RSP_OUT_OF_RANGE);
     rsp_free(&m);
 }
 
@@ -456,6 +487,69 @@ static void traces(void)
     rsp_free(&steps);
 }
 
+/* A state after a step, by what the step changed of the state before it. */
+static void change(rsp_state *s, uint8_t *dmem, const rsp_changes *by)
+{
+    s->words[by->traced.scalar] = by->traced.value;
+    if (by->traced.vector < 32) memcpy(s->vectors[by->traced.vector], by->traced.lanes, 16);
+    s->accumulators = by->accumulators;
+    s->flags.carry = (uint8_t)(by->traced.vco & 255);
+    s->flags.differ = (uint8_t)(by->traced.vco >> 8);
+    s->flags.compare = (uint8_t)(by->traced.vcc & 255);
+    s->flags.clip = (uint8_t)(by->traced.vcc >> 8);
+    s->flags.extra = by->traced.vce;
+    s->divider = by->divider;
+    s->pc = by->pc;
+    s->npc = by->npc;
+    if (by->traced.stored) {
+        memcpy(dmem + by->quadword, by->bytes[0], 16);
+        memcpy(dmem + (by->quadword + 16) % 4096, by->bytes[1], 16);
+    }
+}
+
+/* A machine that is stepped so beside another one that is stepped, and traced. */
+static void changes(void)
+{
+    static const uint8_t zeros[32] = { 0 };
+    rsp m = RSP_NONE, steps = RSP_NONE, traced = RSP_NONE;
+    rsp_changes by, blank;
+    rsp_traced entry;
+    rsp_stop stop;
+    uint8_t dmem[4096], found[4096];
+    uint32_t word = 0xffffffffu;
+    size_t i;
+    int k;
+    for (i = 0; i < 4096; i++) dmem[i] = (uint8_t)(i * 7 + i / 256);
+    memset(&blank, 0xee, sizeof blank);
+    by = blank;
+    SEE(sizeof by == 128 && rsp_new(&m, image, 64, 2) == RSP_OK && rsp_load(&m, RSP_DMEM, 0, dmem, 4096) == RSP_OK);
+    load(&m, "ori $1, $0, 0x8001\nsw $1, 0x1ffd($0)\nmtc2 $1, $v1[2]\nlqv $v3[0], 16($0)\nvaddc $v2, $v1, $v3\nvmudh $v4, $v3, $v2\n"
+             "vrcph $v5[3], $v3[1]\nvrcpl $v5[2], $v3[4]\nvch $v6, $v3, $v2\nsrv $v3[3], -16($1)\nsqv $v3[0], 16($1)\nspv $v2[0], -8($0)\n"
+             "stv $v0[4], 32($0)\nshv $v3[1], -16($0)\nsb $1, -1($0)\njal 0x44\nsdv $v3[2], -8($0)\naddu $0, $1, $1\n");
+    SEE(rsp_copy(&steps, &m) == RSP_OK && rsp_copy(&traced, &m) == RSP_OK && rsp_get(&m, &state) == RSP_OK);
+    for (k = 0; k < 18; k++) {
+        SEE(rsp_step_changes(&m, &by) == RSP_OK && rsp_step(&steps) == RSP_OK && rsp_trace(&traced, &entry, 1, &stop) == RSP_OK);
+        SEE(!memcmp(&by.traced, &entry, sizeof entry) && by.quadword == (entry.address & 0xff0) && (entry.stored || !memcmp(by.bytes, zeros, 32)));
+        change(&state, dmem, &by);
+        SEE(rsp_get(&m, &other) == RSP_OK && !memcmp(&state, &other, sizeof state) && rsp_memory(&m, RSP_DMEM, 0, found, 4096) == RSP_OK);
+        SEE(!memcmp(dmem, found, 4096) && rsp_get(&steps, &other) == RSP_OK && !memcmp(&state, &other, sizeof state));
+        SEE(rsp_memory(&steps, RSP_DMEM, 0, found, 4096) == RSP_OK && !memcmp(dmem, found, 4096));
+        if (k == 1) SEE(by.quadword == 0xff0 && !memcmp(by.bytes[0] + 13, "\0\0\200", 3) && by.bytes[1][0] == 1 && by.bytes[1][1] == 7);
+        if (k == 6) SEE(by.divider.loaded == 1 && by.divider.input == 0x7e85);
+        if (k == 7) SEE(by.divider.loaded == 0);
+        if (k == 15) SEE(by.pc == 0x40 && by.npc == 0x44 && by.traced.scalar == 31 && by.traced.value == 0x44);
+    }
+    SEE(rsp_back(&m, 3) == RSP_SHORT_HISTORY && rsp_back(&m, 2) == RSP_OK && rsp_back(&steps, 2) == RSP_OK);
+    SEE(rsp_get(&m, &state) == RSP_OK && rsp_get(&steps, &other) == RSP_OK && !memcmp(&state, &other, sizeof state));
+    by = blank;
+    SEE(rsp_write(&m, 4, 2) == RSP_OK && rsp_step_changes(&m, &by) == RSP_HALTED && !memcmp(&by, &blank, sizeof by));
+    SEE(rsp_load_words(&m, RSP_IMEM, 0, &word, 1) == RSP_OK && rsp_set_pc(&m, 0) == RSP_OK && rsp_write(&m, 4, 1) == RSP_OK);
+    SEE(rsp_step_changes(&m, &by) == RSP_RESERVED && !memcmp(&by, &blank, sizeof by));
+    rsp_free(&m);
+    rsp_free(&steps);
+    rsp_free(&traced);
+}
+
 static void tasks(void)
 {
     rsp m = RSP_NONE;
@@ -656,6 +750,7 @@ int main(void)
     lives();
     copies();
     memories();
+    many_words();
     steps();
     looks();
     sp_registers();
@@ -663,6 +758,7 @@ int main(void)
     passes();
     moves();
     traces();
+    changes();
     tasks();
     states();
     texts();

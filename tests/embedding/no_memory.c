@@ -137,6 +137,7 @@ static void refused_calls(rsp *m)
     static rsp_line lines[1025];
     static uint32_t words[1025];
     static rsp_traced entry;
+    static rsp_changes changes;
     static rsp_state wrong;
     rsp_stop stop;
     rsp_move move;
@@ -166,6 +167,9 @@ static void refused_calls(rsp *m)
     REFUSED(rsp_drop_break(m, 4));
     REFUSED(rsp_add_watch(m, 0, 65, &number));
     REFUSED(rsp_drop_watch(m, 7));
+    NONE(rsp_write(m, 4, 2));
+    REFUSED(rsp_step_changes(m, &changes));
+    NONE(rsp_write(m, 4, 1));
     REFUSED(rsp_reg(m, 32, words));
     REFUSED(rsp_vreg(m, 32, &lanes));
     REFUSED(rsp_text(0, 4096, lines));
@@ -179,6 +183,7 @@ static void other_calls(rsp *m)
     static uint32_t words[1024];
     static rsp_state state;
     static rsp_traced entries[64];
+    static rsp_changes changes;
     rsp_move move;
     rsp_stop stop;
     rsp_scalars scalars;
@@ -203,6 +208,7 @@ static void other_calls(rsp *m)
     NONE(rsp_task(m, 0));
     NONE(rsp_set_pc(m, 0));
     NONE(rsp_step(m));
+    NONE(rsp_step_changes(m, &changes));
     NONE(rsp_run(m, 1000000, &stop));
     NONE(rsp_run(m, 0, &stop));
     NONE(rsp_run_until_move(m, 1000, 0xffff, 0xffff, &move));

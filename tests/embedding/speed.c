@@ -1,6 +1,6 @@
 /* speed HOW DEPTH N TEXT: assembles a text, and makes N steps in one call (HOW is run or until, rsp_run_until_move before any move) or in
  * calls of 1024 (trace), or makes N calls: HOW is run1 (rsp_run of one step), until1, step, regs (a step and all scalars), reg (one
- * register), get, set, sp, set_sp, fault, copy, pass (which goes back to 0 each time), or load or words (rsp_load_words or
+ * register), changes (rsp_step_changes), get, set, sp, set_sp, fault, copy, pass (which goes back to 0 each time), or load or words (rsp_load_words or
  * rsp_memory_words) with how many words, as load1. Under `valgrind --tool=callgrind` the difference of two N, divided by the difference of the N, is what one costs in host
  * instructions. */
 #include "rsp.h"
@@ -15,6 +15,7 @@ static rsp_sp_words sp;
 static rsp_stop stop;
 static rsp_move move;
 static rsp_traced entries[1024];
+static rsp_changes changes;
 
 static uint32_t call(const char *how, size_t count)
 {
@@ -28,6 +29,7 @@ static uint32_t call(const char *how, size_t count)
     case 's' * 256 + 'e': return how[3] == '_' ? rsp_set_sp(&m, &sp) : rsp_set(&m, &state);
     case 's' * 256 + 'p': return rsp_sp(&m, &sp);
     case 'f' * 256 + 'a': return rsp_state_fault(&state, &word);
+    case 'c' * 256 + 'h': return rsp_step_changes(&m, &changes);
     case 'c' * 256 + 'o': return rsp_copy(&copy, &m);
     case 'p' * 256 + 'a': return rsp_pass(&m, 7) | rsp_set_pc(&m, 0);
     case 'l' * 256 + 'o': return rsp_load_words(&m, RSP_DMEM, 0, words, count);

@@ -32,6 +32,7 @@ static rsp_operand operand;
 static size_t number;
 static rsp_move move;
 static rsp_traced entries[256];
+static rsp_changes changes;
 
 static void nothing(void) { }
 static void version(void) { word = rsp_version(); }
@@ -48,6 +49,7 @@ static void memory_words(void) { word = rsp_memory_words(&m, RSP_IMEM, 0, words,
 static void task(void) { word = rsp_task(&m, 0); }
 static void set_pc(void) { word = rsp_set_pc(&m, 0); }
 static void step(void) { word = rsp_step(&m); }
+static void changed(void) { word = rsp_step_changes(&m, &changes); }
 static void back(void) { word = rsp_back(&m, 1); }
 static void pass(void) { word = rsp_pass(&m, 1); }
 static void run(void) { word = rsp_run(&m, 100000, &stop); }
@@ -81,6 +83,7 @@ static const struct {
     { "nothing", nothing }, { "rsp_version", version }, { "rsp_new", make }, { "rsp_assemble", assemble }, { "rsp_load_words", load_words },
     { "rsp_explain", explain },
     { "rsp_load", load }, { "rsp_memory", memory }, { "rsp_memory_words", memory_words }, { "rsp_step", step }, { "rsp_run", run },
+    { "rsp_step_changes", changed },
     { "rsp_run_until_move", run_until_move }, { "rsp_trace", traced },
     { "rsp_back", back }, { "rsp_add_watch", add_watch }, { "rsp_add_break", add_break }, { "rsp_run with both", run },
     { "rsp_drop_break", drop_break }, { "rsp_drop_watch", drop_watch }, { "rsp_copy", copied }, { "rsp_free", freed }, { "rsp_get", get },

@@ -60,12 +60,11 @@ rest-inside b a n words piece rest d e l h g =
     let sum : a + 4 * n + 4 * length rest ≡ a + 4 * length words = omega (arith, l) in
     rw (kept, sum) h
 
--- after a piece and the rest all words are written
-pub rest-put : (b : Bank) (a n : ℕ) (words piece rest : List ℕ) (d e f : Debugging) → words ≡ piece ++ rest → length piece ≡ n
+-- a piece, and the rest after it, are all words
+pub rest-put : (b : Bank) (a n : ℕ) (words piece rest : List ℕ) (d e : Debugging) → words ≡ piece ++ rest → length piece ≡ n
     → e ≡ set_by_host (with_bank_bytes b a (words_bytes piece) d.state) d
-    → f ≡ set_by_host (with_bank_bytes b (a + 4 * n) (words_bytes rest) e.state) e
-    → f ≡ set_by_host (with_bank_bytes b a (words_bytes words) d.state) d
-rest-put b a n words piece rest d e f split l g h =
+    → set_by_host (with_bank_bytes b (a + 4 * n) (words_bytes rest) e.state) e ≡ set_by_host (with_bank_bytes b a (words_bytes words) d.state) d
+rest-put b a n words piece rest d e split l g =
     let at : a + 4 * n ≡ a + length (words_bytes piece) = omega (arith, l, words_length piece) in
     let all : words_bytes words ≡ words_bytes piece ++ words_bytes rest = ap words_bytes split ∙ flat_map-append (to_be_bytes w32) piece rest in
-    h ∙ rw (g, at, all) (ap (λ (s : State). set_by_host s d) (put-more b a (words_bytes piece) (words_bytes rest) d.state))
+    rw (g, at, all) (ap (λ (s : State). set_by_host s d) (put-more b a (words_bytes piece) (words_bytes rest) d.state))

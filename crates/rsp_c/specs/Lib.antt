@@ -1,6 +1,7 @@
 pub mod Answers
 pub mod Bytes
 pub mod Calls
+pub mod Changes
 pub mod Explained
 pub mod Faults
 pub mod Holding

@@ -5,6 +5,7 @@
 #![tactic(auto)]
 
 mod c_structs;
+mod changes;
 mod explain;
 mod fault;
 mod handle;

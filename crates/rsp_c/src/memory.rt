@@ -110,12 +110,15 @@ fn put_words(debugger: &mut Debugger<PlaneAcc>, bank: Bank, address: u32, words:
     requires inside { IsTrue (is_inside bank address (4 * length words.now) debugger.old.state) }
     ensures { debugger.new ≡ set_by_host (with_bank_bytes bank address (words_bytes words.now) debugger.old.state) debugger.old }
 {
-    if words.len() <= PIECE {
-        return put_piece(debugger, bank, address, words);
+    let mut at = address;
+    let mut rest = words;
+    while rest.len() > PIECE {
+        let (piece, more) = rest.split_at(PIECE);
+        put_piece(debugger, bank, at, piece);
+        at += 4 * PIECE as u32;
+        rest = more;
     }
-    let (piece, rest) = words.split_at(PIECE);
-    put_piece(debugger, bank, address, piece);
-    put_words(debugger, bank, address + 4 * PIECE as u32, rest);
+    put_piece(debugger, bank, at, rest);
 }
 
 /// Reads words of a bank from an address on.
@@ -126,7 +129,7 @@ fn read_words(machine: &Machine<PlaneAcc>, bank: Bank, address: u32, words: &mut
     BigEndian::read_u32_into(bytes_of(machine, bank, address, 4 * words.len()), words);
 }
 
-/// Writes at most 1024 words to a bank from an address on, and empties the history.
+/// Writes words to a bank from an address on, and empties the history.
 #[unsafe(no_mangle)]
 pub extern "C" fn rsp_load_words(
     handle: &mut Handle,
@@ -135,13 +138,12 @@ pub extern "C" fn rsp_load_words(
     address: u32,
     words: &[u32],
 ) -> u32
-    ensures inside { IsDoneIf (λ d. (length words.now ≤ 1024) × IsSomeAnd (bank_of number) (λ b. IsTrue (is_inside b address (4 * length words.now) d.state))) handle.old.session result }
+    ensures inside { IsDoneIf (λ d. IsSomeAnd (bank_of number) (λ b. IsTrue (is_inside b address (4 * length words.now) d.state))) handle.old.session result }
     ensures next { result ≡ OK → IfSome (bank_of number) (λ b. handle.new.session ≡ option_map (λ d. set_by_host (with_bank_bytes b address (words_bytes words.now) d.state) d) handle.old.session) }
     ensures same { (result ≡ OK → ⊥) → handle.new.session ≡ handle.old.session }
 {
     with_debugger!(handle, alloc, |debugger| match bank_of(number) {
-        Some(bank)
-            if words.len() <= 1024 && has_words(debugger.machine(), bank, address, words.len()) => {
+        Some(bank) if has_words(debugger.machine(), bank, address, words.len()) => {
             put_words(&mut debugger, bank, address, words);
             OK
         }

@@ -23,14 +23,14 @@ from . import _explain
 from . import words as _in_words
 from .compare import Emulator, FirstDifference, first_difference
 from .shown import Difference, Part
-from .state import Accumulators, Divider, Flags, Scalars, SpWords, State, Traced, unset
+from .state import Accumulators, Changes, Divider, Flags, Scalars, SpWords, State, Traced, unset
 from .state import u32 as _u32
 from .words import FAULTS
 
 __version__ = "1.0.0"
 __all__ = [
-    "DMEM", "FAULTS", "IMEM", "RDRAM", "VERSION", "Accumulators", "AssemblyError", "Bank", "Difference",
-    "Divider", "Emulator", "FirstDifference", "Flags", "Line", "Move", "Part", "Reason", "Rsp", "RspError",
+    "DMEM", "FAULTS", "IMEM", "RDRAM", "VERSION", "Accumulators", "AssemblyError", "Bank", "Changes",
+    "Difference", "Divider", "Emulator", "FirstDifference", "Flags", "Line", "Move", "Part", "Reason", "Rsp", "RspError",
     "Scalars", "SpWords", "State", "Status", "Stop", "Traced", "assemble", "first_difference", "state_fault",
     "text",
 ]  # fmt: skip
@@ -215,7 +215,7 @@ _CALLS = {
     "rsp_state_fault": [POINTER(State), _W], "rsp_load": [_M, _U, _U, _B, _Z],
     "rsp_load_words": [_M, _U, _U, _W, _Z], "rsp_memory": [_M, _U, _U, c_void_p, _Z],
     "rsp_memory_words": [_M, _U, _U, _W, _Z], "rsp_task": [_M, _U], "rsp_set_pc": [_M, _U],
-    "rsp_step": [_M], "rsp_run": [_M, _U, POINTER(_Stop)], "rsp_back": [_M, _U], "rsp_pass": [_M, _U],
+    "rsp_step": [_M], "rsp_step_changes": [_M, POINTER(Changes)], "rsp_run": [_M, _U, POINTER(_Stop)], "rsp_back": [_M, _U], "rsp_pass": [_M, _U],
     "rsp_run_until_move": [_M, _U, _U, _U, POINTER(_Move)],
     "rsp_trace": [_M, POINTER(Traced), _Z, POINTER(_Stop)], "rsp_add_break": [_M, _U],
     "rsp_drop_break": [_M, _U], "rsp_add_watch": [_M, _U, _U, POINTER(_Z)], "rsp_drop_watch": [_M, _U],
@@ -261,8 +261,6 @@ def _words(call: str, words: Iterable[int]) -> Any:
     for n, number in enumerate(numbers):
         if not 0 <= number < 1 << 32:
             raise RspError(Status.OUT_OF_RANGE, f"{call}: words[{n}] is {number}, not 0 to 4294967295")
-    if len(numbers) > 1024:
-        raise RspError(Status.OUT_OF_RANGE, f"{call}: words has {len(numbers)} items, not at most 1024")
     return (c_uint32 * len(numbers))(*numbers)
 
 
@@ -387,7 +385,7 @@ class Rsp:
         _ok(_lib.rsp_load(byref(self._handle), bank, address, raw, len(raw)), "load", [bank, address])
 
     def load_words(self, bank: int, address: int, words: Iterable[int]) -> None:
-        """Writes at most 1024 words below 2**32, the high byte of each first, and empties the history."""
+        """Writes words below 2**32, the high byte of each first, and empties the history."""
         bank, address = _numbers("load_words", bank, address)
         array = _words("load_words", words)
         status = _lib.rsp_load_words(byref(self._handle), bank, address, array, len(array))
@@ -430,6 +428,15 @@ class Rsp:
         if status in (Status.OK, Status.HALTED, Status.RESERVED):
             return status
         raise RspError(status, _in_words.refusal(status, "step"))
+
+    def step_changes(self) -> Optional[Changes]:
+        """As `step`, and returns what the step changed; None if the machine can't make it."""
+        out = unset(Changes)
+        status = Status(_lib.rsp_step_changes(byref(self._handle), byref(out)))
+        if status in (Status.HALTED, Status.RESERVED):
+            return None
+        _ok(status, "step_changes")
+        return out
 
     def run(self, steps: int) -> Stop:
         """Makes 1 to 1000000 steps, up to the first reason to stop."""

@@ -126,6 +126,22 @@ def traced(entry: Any) -> str:
     return f"{entry.pc:03x} {entry.word:08x}{scalar}{vector}{store} {flags}"
 
 
+def rest_parts(changes: Any) -> Named:
+    """Those of what a step changed, besides the entry of a trace and the accumulators."""
+    yield "next pc", changes.pc, 3
+    yield "npc", changes.npc, 3
+    yield from divider_parts(changes.divider)
+    yield "quadword", changes.quadword, 3
+    yield "bytes", int.from_bytes(bytes(changes.bytes), "big"), 64
+
+
+def changed_parts(changes: Any) -> Named:
+    """Those of what a step changed."""
+    yield from traced_parts(changes.traced)
+    yield from acc_parts(changes.accumulators)
+    yield from rest_parts(changes)
+
+
 def divider_parts(divider: Any) -> Named:
     """Those of what the divide instructions keep, by the names of the bench's `flags`."""
     yield "in", divider.input, 4

@@ -5,7 +5,7 @@ from ctypes import Structure, c_uint8, c_uint16, c_uint32
 from typing import TYPE_CHECKING, Any, ClassVar, Dict, List, Tuple, Type, TypeVar
 
 from . import shown
-from .items import Lanes, Sp, SpItems, Vectors, Words, taken
+from .items import Lanes, Sp, SpItems, StoredBytes, Vectors, Words, taken
 from .shown import Difference, Part
 
 if TYPE_CHECKING:
@@ -202,6 +202,41 @@ class Traced(Plain):
 
     def __str__(self) -> str:
         return shown.traced(self)
+
+
+class Changes(Plain):
+    """What a step changed: its entry in a trace, `traced`; and after the step pc and npc, the `divider`, the
+    `accumulators`.
+
+    Of a store `quadword` is the address of the quadword in which its address is, and `bytes` has that
+    quadword and the next one, modulo 4096; of any other step both are 0. Besides, an LTV writes seven more
+    registers of its group; MFC0, MTC0, BREAK and single step change SP registers; and a DMA changes memories.
+    """
+
+    _fields_ = [
+        ("traced", Traced),
+        *u16("pc", "npc"),
+        ("divider", Divider),
+        *u16("quadword"),
+        ("accumulators", Accumulators),
+        ("bytes", StoredBytes),
+    ]
+    if TYPE_CHECKING:
+        traced: Traced
+        pc: int
+        npc: int
+        divider: Divider
+        quadword: int
+        accumulators: Accumulators
+        bytes: typed.NumbersField
+
+    def _parts(self) -> shown.Named:
+        return shown.changed_parts(self)
+
+    def __str__(self) -> str:
+        return "\n".join(
+            [str(self.traced), *shown.acc(self.accumulators), shown.line(shown.rest_parts(self))]
+        )
 
 
 class State(Plain):

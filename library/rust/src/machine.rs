@@ -2,7 +2,7 @@
 
 use crate::error::{done, right_version};
 use crate::raw;
-use crate::shapes::{Accumulators, Bank, DivideState, FlagBits, Line, MoveEnd, Reason, Scalars, SpWords, State, StepEnd, Stop, Traced};
+use crate::shapes::{Accumulators, Bank, Changes, DivideState, FlagBits, Line, MoveEnd, Reason, Scalars, SpWords, State, StepEnd, Stop, Traced};
 use crate::texts::{seen, NO_LINE};
 use crate::Refused;
 use std::cell::UnsafeCell;
@@ -73,7 +73,7 @@ impl Machine {
         done(unsafe { raw::rsp_load(self.at(), bank as u32, address, bytes.as_ptr(), bytes.len()) })
     }
 
-    /// Writes at most 1024 words to a memory from an address on, the high byte of each first, and empties the history.
+    /// Writes words to a memory from an address on, the high byte of each first, and empties the history.
     pub fn load_words(&mut self, bank: Bank, address: u32, words: &[u32]) -> Result<(), Refused> {
         done(unsafe { raw::rsp_load_words(self.at(), bank as u32, address, words.as_ptr(), words.len()) })
     }
@@ -100,12 +100,12 @@ impl Machine {
 
     /// Executes one instruction.
     pub fn step(&mut self) -> Result<StepEnd, Refused> {
-        match unsafe { raw::rsp_step(self.at()) } {
-            0 => Ok(StepEnd::Done),
-            4 => Ok(StepEnd::Halted),
-            5 => Ok(StepEnd::Reserved),
-            other => Err(Refused::Unknown(other)),
-        }
+        step_end(unsafe { raw::rsp_step(self.at()) })
+    }
+
+    /// As [`step`](Machine::step), and writes what the step changed, if it was made.
+    pub fn step_changes(&mut self, out: &mut Changes) -> Result<StepEnd, Refused> {
+        step_end(unsafe { raw::rsp_step_changes(self.at(), out) })
     }
 
     /// Makes 1 to 1000000 steps, up to the first reason to stop.
@@ -270,6 +270,15 @@ impl Machine {
 
 /// The reason of a run that stopped before a move.
 const AT_MOVE: u32 = 5;
+
+fn step_end(status: u32) -> Result<StepEnd, Refused> {
+    match status {
+        0 => Ok(StepEnd::Done),
+        4 => Ok(StepEnd::Halted),
+        5 => Ok(StepEnd::Reserved),
+        other => Err(Refused::Unknown(other)),
+    }
+}
 
 fn seen_stop(out: &raw::Stop) -> Stop {
     let reason = match out.reason {

@@ -1,6 +1,6 @@
 //! What library/c/rsp.h declares.
 
-use crate::shapes::{Accumulators, DivideState, FlagBits, Scalars, SpWords, State, Traced};
+use crate::shapes::{Accumulators, Changes, DivideState, FlagBits, Scalars, SpWords, State, Traced};
 
 #[repr(C)]
 pub struct Handle {
@@ -75,6 +75,7 @@ extern "C" {
     pub fn rsp_task(m: *mut Handle, address: u32) -> u32;
     pub fn rsp_set_pc(m: *mut Handle, pc: u32) -> u32;
     pub fn rsp_step(m: *mut Handle) -> u32;
+    pub fn rsp_step_changes(m: *mut Handle, out: *mut Changes) -> u32;
     pub fn rsp_run(m: *mut Handle, n: u32, out: *mut Stop) -> u32;
     pub fn rsp_run_until_move(m: *mut Handle, n: u32, reads: u32, writes: u32, out: *mut Move) -> u32;
     pub fn rsp_trace(m: *mut Handle, out: *mut Traced, n: usize, stop: *mut Stop) -> u32;

@@ -119,6 +119,27 @@ pub struct Traced {
     pub lanes: [u16; 8],
 }
 
+/// What a step changed; its bytes have no gaps. Besides, an LTV writes seven more registers of its group; MFC0, MTC0, BREAK and single step
+/// change SP registers; and a DMA changes memories.
+#[repr(C)]
+#[derive(Clone, Copy, Debug, Default, PartialEq, Eq)]
+pub struct Changes {
+    /// Its entry in a trace.
+    pub traced: Traced,
+    /// The address of the next instruction.
+    pub pc: u16,
+    /// The address of the one after it.
+    pub npc: u16,
+    /// What the divide instructions keep, after the step.
+    pub divider: DivideState,
+    /// Of a store the address of the quadword in which its address is; else 0.
+    pub quadword: u16,
+    /// The accumulators after the step.
+    pub accumulators: Accumulators,
+    /// Of a store that quadword and the next one after the step, modulo 4096; else 0.
+    pub bytes: [[u8; 16]; 2],
+}
+
 /// A field of a [`State`] with a value that no machine can have.
 #[derive(Clone, Copy, Debug, PartialEq, Eq)]
 pub enum Field {

@@ -1,6 +1,6 @@
 //! The calls in their ranges and out of them.
 
-use rsp::{assemble, text, version, Bank, Field, Machine, MoveEnd, Reason, Refused, State, StepEnd, Stop, Traced};
+use rsp::{assemble, text, version, Bank, Changes, Field, Machine, MoveEnd, Reason, Refused, State, StepEnd, Stop, Traced};
 use std::thread;
 
 fn loaded(source: &str, depth: u32) -> Machine {
@@ -108,6 +108,25 @@ fn traces() {
     let last = turning.trace_iter(3000).enumerate().last().unwrap();
     assert_eq!((last.0, last.1.pc, last.1.value, turning.reg(1)), (2999, 4, 1500, Ok(1500)));
     assert_eq!(loaded("nop\nbreak\n", 0).trace_iter(10).map(|it| it.pc).collect::<Vec<_>>(), [0, 4]);
+}
+
+#[test]
+fn changes() {
+    let mut machine = loaded("ori $1, $0, 0x8001\nsw $1, 0x0ffd($0)\nmtc2 $1, $v1[2]\nvaddc $v2, $v1, $v1\nj 0x100\nbreak\n", 1);
+    let mut out = Changes::default();
+    let mut steps = Vec::new();
+    for _ in 0..6 {
+        assert_eq!(machine.step_changes(&mut out), Ok(StepEnd::Done));
+        steps.push(out);
+    }
+    let entry = Traced { word: 0x3401_8001, scalar: 1, value: 0x8001, vector: 32, ..Traced::default() };
+    assert_eq!(steps[0], Changes { traced: entry, pc: 4, npc: 8, ..Changes::default() });
+    assert_eq!((steps[1].traced.address, steps[1].quadword, steps[1].traced.stored), (0xffd, 0xff0, 1));
+    assert_eq!((&steps[1].bytes[0][13..], &steps[1].bytes[1][..2]), (&[0, 0, 0x80][..], &[1, 0][..]));
+    assert_eq!((steps[3].accumulators.low[1], steps[3].traced.lanes[1], steps[3].traced.vco), (2, 2, 2));
+    assert_eq!((steps[4].pc, steps[4].npc, steps[5].pc, steps[5].npc), (0x14, 0x100, 0x100, 0x104));
+    assert_eq!((machine.step_changes(&mut out), out), (Ok(StepEnd::Halted), steps[5]));
+    assert_eq!((machine.back(1), machine.regs().unwrap().pc), (Ok(()), 0x14));
 }
 
 #[test]

@@ -21,6 +21,7 @@ STRUCTS = {
     "RspSpWords": rsp.SpWords,
     "RspMove": rsp._Move,
     "RspTraced": rsp.Traced,
+    "RspChanges": rsp.Changes,
     "RspOperand": Operand,
 }
 

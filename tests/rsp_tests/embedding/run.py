@@ -103,7 +103,7 @@ def test_layouts(shop: Workshop) -> None:
             lines.append(f'printf("{name}.{field} %zu %zu\\n", {numbers});')
             wants.append(f"{name}.{field} {offset} {width}")
     compare_lines(shop, "layouts", lines, wants)
-    shop.see("all structs", len(structs) == 13)
+    shop.see("all structs", len(structs) == 14)
 
 
 def test_names(shop: Workshop) -> None:

@@ -138,8 +138,8 @@ def structs() -> Dict[str, Struct]:
     """The structs of rsp_c, with the entry of a trace, which the debugger has."""
     entry = (TOP / "crates/rsp_debug/src/trace_entry.rt").read_text()
     entry = entry.replace("struct TraceEntry", "struct RspTraced")
-    texts = "".join((SOURCE / name).read_text() for name in ("c_structs.rt", "explain.rt"))
-    return structs_of(texts + entry)
+    texts = [(SOURCE / name).read_text() for name in ("c_structs.rt", "explain.rt", "changes.rt")]
+    return structs_of("".join([entry, *texts]))
 
 
 def layout(struct: Struct) -> Tuple[int, List[Tuple[str, int, int]]]:

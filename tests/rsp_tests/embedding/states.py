@@ -191,7 +191,7 @@ def messages() -> None:
         (TypeError, "load_words: words is of type bytes", machine.load_words, rsp.DMEM, 0, b"ab"),
         (TypeError, "words[1] is of type str", machine.load_words, rsp.DMEM, 0, [1, "a"]),
         (RspError, "words[1] is -1", machine.load_words, rsp.DMEM, 0, [0, -1]),
-        (RspError, "1025 items", machine.load_words, rsp.DMEM, 0, [0] * 1025),
+        (RspError, "words from 0 on pass the end of DMEM", machine.load_words, rsp.DMEM, 0, [0] * 1025),
         (RspError, "2 bytes from 4095 on pass the end of DMEM", machine.add_watch, 4095, 2),
         (RspError, "4 has no breakpoint", machine.drop_break, 4),
         (RspError, "fewer states than 1", machine.back, 1),

@@ -1,7 +1,8 @@
-"""The entry of a trace for each instruction, by its worked case of docs/data/instructions.tsv.
+"""The entry of a trace for each instruction, and what its step changed, by its worked case of docs/data/instructions.tsv.
 
 It fails if an entry names something else than the text of its instruction does, or has another value than the
-worked case ends with. An instruction writes its first operand, but for those below.
+worked case ends with; or if `step_changes` gives another entry, or a state after the step that isn't the machine's.
+An instruction writes its first operand, but for those below.
 """
 
 import re
@@ -83,6 +84,39 @@ def values(entry: rsp.Traced, after: Case) -> Iterator[Tuple[object, str, str]]:
             yield key, f"{getattr(entry, key):0{len(value)}x}", value
 
 
+def changed(before: rsp.State, dmem: bytes, by: rsp.Changes) -> Tuple[rsp.State, bytes]:
+    """Registers and DMEM after a step, by what it changed."""
+    after, entry = rsp.State.from_buffer_copy(before), by.traced
+    after.words[entry.scalar] = entry.value
+    if entry.vector < 32:
+        after.vectors[entry.vector] = list(entry.lanes)
+    after.accumulators, after.divider, after.pc, after.npc = by.accumulators, by.divider, by.pc, by.npc
+    for key, names in FLAGS.items():
+        for i, name in enumerate(names):
+            setattr(after.flags, name, getattr(entry, key) >> 8 * i & 255)
+    if entry.stored:
+        at = [(by.quadword + n) % 4096 for n in range(32)]
+        stored = dict(zip(at, by.bytes))
+        dmem = bytes(stored.get(n, byte) for n, byte in enumerate(dmem))
+    return after, dmem
+
+
+def changes(text: str, machine: rsp.Rsp, entry: rsp.Traced) -> None:
+    """What the step of a worked case changes, with the entry that a trace has of it."""
+    before, dmem = machine.get(), machine.memory(rsp.DMEM, 0, 4096)
+    by, name = machine.step_changes(), text.split()[0]
+    if not see(f"{text}: a step", by is not None) or by is None:
+        return
+    same(f"{text}: the entry of the changes", by.traced, entry)
+    at = (entry.address - entry.address % 16) if entry.stored else 0
+    same(f"{text}: the quadword", (by.quadword, entry.stored or not any(by.bytes)), (at, True))
+    after, stored = changed(before, dmem, by)
+    left = {part.name for part in machine.get().diff(after)}
+    others = {"ltv": r"\$v(9|1[0-5]) lane \d", "break": "SP_STATUS", "mtc0": r"SP_.*|DPC.*"}.get(name, "")
+    same(f"{text}: what the changes lack", {it for it in left if not re.fullmatch(others, it)}, set())
+    see(f"{text}: DMEM by the changes", stored == machine.memory(rsp.DMEM, 0, 4096))
+
+
 def traces(case: Dict[str, str]) -> None:
     before: Case = dict(worked.parts(case["Before"]))
     machine = machine_of(before)
@@ -91,7 +125,9 @@ def traces(case: Dict[str, str]) -> None:
     text = case["Worked"]
     words = rsp.assemble(f"{text}\nnop\nnop\nover: nop\n")
     machine.load_words(rsp.IMEM, 0, words)
+    other = machine.copy()
     _, (entry,) = machine.trace(1)
+    changes(text, other, entry)
     same(f"{text}: pc and word", (entry.pc, entry.word), (0, words[0]))
     got = (entry.scalar, entry.vector, entry.stored, entry.address)
     same(f"{text}: what it names", got, named(text, scalars))
