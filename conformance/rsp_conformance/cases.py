@@ -3,14 +3,14 @@
 The same row, seed and number give the same case, on every version of Python.
 """
 
-from typing import Any, Callable, Dict, Iterator, List, Optional, Tuple
+from typing import Any, Callable, Dict, Iterator, List, Optional, Sequence, Tuple
 
 from rsp_conformance.aims import TRIES, aim, near
 from rsp_conformance.draws import LANES, Random
 from rsp_conformance.outcomes import possible, selected
 from rsp_conformance.states import Texts
-from rsp_conformance.table import FORMS, MPEG, SCALE, Row, destination, ignored_bits, word_of
-from rsp_conformance.whole import DIVIDENDS, zeros
+from rsp_conformance.table import FORMS, MPEG, SCALE, Row, destination, ignored_bits, uses_memory, word_of
+from rsp_conformance.whole import DIVIDENDS, elements_of, zeros
 
 Fields = Dict[str, int]
 Made = Tuple[Fields, Texts]
@@ -89,6 +89,27 @@ def divider(random: Random, number: int) -> Texts:
     return {"divided": divided, "loaded": str(number % 2), "in": loaded}
 
 
+# How many cases of an instruction, by its name or form, come before those of its pairs: of a base $0, of
+# equal registers, of the lane that is read and written, and of the divider's state, each with each element.
+UNPAIRED = {"vector": 32, "lane": 40, "ltv": 32, "stv": 32, "vector load": 20, "vector store": 20}
+
+
+def unpaired(row: Row) -> int:
+    return UNPAIRED.get(row.name, UNPAIRED.get(row.form, 20))
+
+
+def paired_elements(row: Row) -> Sequence[int]:
+    """The elements of the cases that are about pairs."""
+    return elements_of(row) if row.form in UNPAIRED else ()
+
+
+def paired_element(row: Row, number: int) -> Optional[int]:
+    """The element of a case that is about a pair; None of any other."""
+    at, elements = unpaired(row), paired_elements(row)
+    place = number % (at + len(elements)) - at
+    return elements[place] if place >= 0 else None
+
+
 def element_of(row: Row, number: int) -> int:
     """The element of a case: every other case takes each lane for itself, the others have all the rest in
     turn.
@@ -100,14 +121,26 @@ def element_of(row: Row, number: int) -> int:
     return number // 2 % 2 if number % 2 == 0 else 2 + number // 2 % 14
 
 
-# Cases that are given and not drawn, by instruction and number: a and b of each lane, and the flags before. A
-# number is even, so that each lane is taken for itself and vs isn't vt, and below that of SMALL.
+# Cases that are given and not drawn, by instruction and number: a and b of each lane, and the flags before.
+# The first of an instruction has the number after its pairs, and all have even ones: then each lane is taken
+# for itself, and vs isn't vt.
 GIVEN = {
-    ("vch", 32): (0x7FFF, 0x8000, {"vco": "ffff", "vcc": "ffff", "vce": "ff"}),
+    ("vch", 48): (0x7FFF, 0x8000, {"vco": "ffff", "vcc": "ffff", "vce": "ff"}),
 }
 
 
+def make_equal(row: Row, random: Random, element: int) -> Made:
+    """A case of a computing instruction whose three registers are one."""
+    register, lanes = random.below(32), random.lanes()
+    if not row.name.startswith("vm"):
+        relate(random, lanes, [*lanes], element)
+    before = {**vector_state(random), f"v{register}": text_of_lanes(lanes)}
+    return {"e": element, "vs": register, "vt": register, "vd": register}, before
+
+
 def make_vector(row: Row, random: Random, number: int, window: int) -> Made:
+    if (element := paired_element(row, number)) is not None:
+        return make_equal(row, random, element)
     fields = {"e": element_of(row, number)}
     fields["vs"], fields["vt"], fields["vd"] = random.some(3, 32)
     if random.one_in(5):
@@ -149,10 +182,13 @@ def dividend(random: Random, number: int, is_long: bool) -> int:
 def make_lane(row: Row, random: Random, number: int, window: int) -> Made:
     fields = {"e": (number * 3 + number // 8) % 16, "de": number % 8}
     fields["vt"], fields["vd"] = random.some(2, 32)
-    if random.one_in(5):
+    loaded = 1 if number // 8 % 6 == 4 else number + number // 8 + 1
+    element = paired_element(row, number)
+    if element is not None:  # that lane of one register; else an odd element goes with nothing loaded
+        fields, loaded = {**fields, "e": element, "de": element % 8}, element
+    if random.one_in(5) or element is not None:
         fields["vd"] = fields["vt"]
-    before = vector_state(random)
-    before.update(divider(random, 1 if number // 8 % 6 == 4 else number + number // 8 + 1))
+    before = {**vector_state(random), **divider(random, loaded)}
     is_long = row.name[-1] == "l" and before["loaded"] == "1"
     whole = dividend(random, number, is_long)
     if is_long:
@@ -322,15 +358,15 @@ def make_vector_memory(row: Row, random: Random, number: int, window: int) -> Ma
     address = address_in(random, number, window)
     if letter == "t" and number // 16 % 2:
         fields["e"], address = fields["e"] & ~1, address & ~15  # what isn't a choice
+    if (element := paired_element(row, number)) is not None:
+        address -= address % SCALE[letter]
+        fields = {"base": 0, "vt": vt, "e": element, "off": signed(address, 12) // SCALE[letter] % 128}
     before: Texts = {"dmem": memory_at(window, random.bytes(WINDOW_LENGTH))}
-    before[f"r{base}"] = base_of(random, address, signed(fields["off"], 7) * SCALE[letter])
+    before[f"r{fields['base']}"] = base_of(random, address, signed(fields["off"], 7) * SCALE[letter])
     for register in range(vt & ~7, (vt & ~7) + 8) if letter == "t" else [vt]:
         before[f"v{register}"] = random.bytes(16)
     return fields, before
 
-
-# The cases that an instruction has in the small set, by its name or form; of others 20.
-SMALL = {"vector": 32, "vch": 33, "lane": 40, "ltv": 32, "stv": 32}
 
 MAKERS: Dict[str, Callable[[Row, Random, int, int], Made]] = {
     "shift": make_shift,
@@ -354,7 +390,23 @@ MAKERS: Dict[str, Callable[[Row, Random, int, int], Made]] = {
 
 
 def small_count(row: Row) -> int:
-    return SMALL.get(row.name, SMALL.get(row.form, 20))
+    """How many cases of an instruction the small set has."""
+    return unpaired(row) + len(paired_elements(row)) + sum(name == row.name for name, _ in GIVEN)
+
+
+def reached_windows(row: Row) -> List[int]:
+    """The windows whose middle a vector load or store reaches from base $0: those nearest to 0 first."""
+    reach = 64 * SCALE[row.name[1]]
+    ends = zip(range(32, reach - 31, WINDOW_LENGTH), range(4016, 4079 - reach, -WINDOW_LENGTH))
+    return [WRAPPING, *(window for pair in ends for window in pair)]
+
+
+def window_of(row: Row, seed: str, number: int) -> int:
+    """The address of the memory of a case, if nothing else chooses it."""
+    random = Random(seed, row.name, number, "window")
+    if uses_memory(row) and paired_element(row, number) is not None:
+        return int(random.pick(reached_windows(row)))
+    return WRAPPING if number % 4 == 3 else 16 * random.below(250)
 
 
 def choices(row: Row, fields: Dict[str, Any], pc: Any, npc: Any, address: Any) -> Iterator[Tuple[str, Any]]:
@@ -385,7 +437,7 @@ def choice_of(row: Row, case: Case) -> Optional[str]:
     pc, address = int(case.before.get("pc", "000"), 16), 0
     npc = int(case.before["npc"], 16) if "npc" in case.before else (pc + 4) % 4096
     if row.name in ("ltv", "stv"):
-        base = int(case.before[f"r{case.fields['base']}"], 16)
+        base = int(case.before.get(f"r{case.fields['base']}", "0"), 16)
         address = base + signed(case.fields["off"], 7) * SCALE["t"]
     return next((name for name, holds in choices(row, case.fields, pc, npc, address) if holds), None)
 
@@ -394,7 +446,7 @@ def make_case(row: Row, seed: str, number: int, window: Optional[int] = None) ->
     """The case of an instruction with this seed and number. If a window is named, its memory is there."""
     random = Random(seed, row.name, number)
     if window is None:
-        window = WRAPPING if number % 4 == 3 else 16 * Random(seed, row.name, number, "window").below(250)
+        window = window_of(row, seed, number)
     fields, before = MAKERS[row.form](row, random, number, window)
     if (to := destination(row)) and number % 5 == 1:
         fields[to] = 0

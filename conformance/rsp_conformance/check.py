@@ -7,6 +7,7 @@
     coverage.tsv has their counts (--table prints it), COVERAGE.md what can't occur (--reasons prints that).
     For each outcome the runner names the lane of a result, or of a flag, that is planted wrong.
   - The runner finds no difference in them.
+  - No program has a divide instruction but those of the divide instructions, VNOP and VNULL.
   - The cases of form 3 are those of form 1, and the runner of README.md passes them on the program, and names
     one that is spoilt.
   - One digit of an expected state that is changed, and one byte that is dropped, is found and named, in each
@@ -29,6 +30,7 @@ from typing import Any, Dict, Iterator, List
 from rsp_conformance import HERE, bench, coverage, flat, full, generate, planted, play, steps
 from rsp_conformance.commands import PROGRAM, Complaints, counted, reader, unless
 from rsp_conformance.draws import Random
+from rsp_conformance.programs import DIVIDING
 from rsp_conformance.spoil import spoilt_entries
 from rsp_conformance.states import numbers_of, texts_of
 from rsp_conformance.table import ROWS
@@ -123,6 +125,16 @@ def outcomes_shown(names: List[str]) -> Iterator[Complaints]:
         yield from planted.results(row, outcomes)
         yield from planted.in_steps(row, outcomes)
         yield from planted.in_programs(row, outcomes, manifest_in(VECTORS, name), PROGRAMS)
+
+
+def divides_where_it_may(name: str) -> Complaints:
+    """That the programs of an instruction divide only if it is about the divider."""
+    row, divides = ROWS[name.lower()], [it for it in ROWS.values() if it.form == "lane"]
+    images = [(PROGRAMS / f"{it['name']}.imem").read_bytes() for it in manifest_in(VECTORS, name)["programs"]]
+    words = {int.from_bytes(image[at : at + 4], "big") for image in images for at in range(0, len(image), 4)}
+    found = [f"{word:08x}" for word in words if any(word & it.mask == it.value for it in divides)]
+    right = bool(found) == (row.form in DIVIDING)
+    return unless(right, f"{name}: the divide instructions of its programs: {found[:4]}")
 
 
 def runs_true(program: str, name: str) -> Iterator[Complaints]:
@@ -273,6 +285,7 @@ def checks(program: str) -> Iterator[Complaints]:
     yield from outcomes_shown(names)
     yield from map(full_is_the_same, names)
     yield from map(flat_is_the_same, names)
+    yield from map(divides_where_it_may, names)
     for name in ("VADDC", "SQV", "MTC0", "BEQ"):
         yield from ten_lines_find(program, name)
     yield from spoilt_steps_found(program, names)

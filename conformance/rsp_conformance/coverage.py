@@ -38,9 +38,10 @@ REASONS_HEAD = "| Outcome | Instructions | Why it can't occur |\n|---|---|---|\n
 def kinds_of(row: Row) -> Tuple[List[Kind], List[Kind]]:
     """The outcomes of an instruction that occur in lanes, and those that a case has as a whole."""
     if row.form == "vector":
-        return [*outcomes.KINDS.get(row.name, ()), *SHARED], []
+        return [*outcomes.KINDS.get(row.name, ()), *SHARED], whole.pair_kinds(row)
     if row.form == "lane":
-        return whole.divide_kinds(row.name), whole.each("element", ELEMENTS, whole.element_of)
+        elements = whole.each("element", ELEMENTS, whole.element_of)
+        return whole.divide_kinds(row.name), [*elements, *whole.pair_kinds(row)]
     return [], whole.kinds_of(row)
 
 

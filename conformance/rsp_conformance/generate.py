@@ -2,7 +2,7 @@
 vectors of instructions. It fails if the program doesn't know one of them.
 
 NAME is an instruction; without one all instructions are meant. It makes N cases of each (as many as the small
-set has: 20 to 40), from the seed S (1), on the program rsp (./rsp):
+set has: 20 to 56), from the seed S (1), on the program rsp (./rsp):
   OUT/steps/NAME.jsonl                 one instruction a case: state before, state after
   OUT/programs/NAME.json, NAME-K.imem, NAME-K.dmem, NAME-K.after   whole programs, with what they leave in
                                                                    DMEM
@@ -92,7 +92,7 @@ def main() -> None:
     except OSError as fault:
         sys.exit(f"generate: {fault.filename or args.out} can't be written: {fault.strerror}")
     print(*errors, sep="\n", end="\n" * bool(errors))
-    print(f"{len(rows) - len(errors)} of {len(rows)} instructions, {args.cases or '20 to 40'} cases each")
+    print(f"{len(rows) - len(errors)} of {len(rows)} instructions, {args.cases or '20 to 56'} cases each")
     sys.exit(1 if errors else 0)
 
 

@@ -5,11 +5,11 @@ This file writes their text and their data; play.py runs them.
 """
 
 import copy
-from typing import Any, Callable, Dict, Iterator, List, Tuple
+from typing import Any, Callable, Dict, Iterator, List, Sequence, Tuple
 
 from rsp_conformance import bench
 from rsp_conformance.bench import ONES_DATA, accumulator_data, accumulator_program
-from rsp_conformance.cases import WINDOW_LENGTH, WRAPPING, Case, make_case
+from rsp_conformance.cases import WINDOW_LENGTH, WRAPPING, Case, make_case, paired_element, reached_windows
 from rsp_conformance.draws import Random
 from rsp_conformance.table import Row, uses_memory, word_of
 
@@ -17,12 +17,13 @@ Layout = List[Tuple[str, int, int]]  # the fields that a case stores: what, offs
 
 MEMORY = 4096
 ONES = 16  # the address of the numbers that a program sets its accumulators with
-# Bytes 0 to 15 and those from WRAPPING on are the window of a case that wraps.
-FIRST_FREE, END_OF_FREE = 32, WRAPPING
+FIRST_FREE = 32  # bytes 0 to 15 and those from WRAPPING on are the window of a case that wraps
+REACHED = 17  # how many windows a program keeps for cases whose base is $0
 LAST_WORD = 1016  # a case that would pass it goes to the next program
 
 JUMPS = ("branch one", "branch two", "jump", "jump register", "link register")
 SP_MOVES = ("from sp", "to sp")
+DIVIDING = ("lane", "nothing")  # the forms whose programs set the divider, and show it
 STATUS_SIGNALS = 0x7F80
 CONTROLS = ("vco", "vcc", "vce")
 
@@ -32,22 +33,27 @@ class Full(Exception):
 
 
 class Program:
-    """A program in the making: the lines of its text, its data, and its cases."""
+    """A program in the making: the lines of its text, its data, and its cases.
 
-    def __init__(self) -> None:
+    `reached` are windows at both ends of DMEM that it keeps for the cases whose base is $0, the wrapping one
+    first.
+    """
+
+    def __init__(self, reached: Sequence[int] = (WRAPPING,)) -> None:
         self.lines: List[str] = []
         self.places = 0  # the words that the lines make
         self.data = bytearray(MEMORY)
         self.data[ONES : ONES + 16] = bytes.fromhex(ONES_DATA)
-        self.free = FIRST_FREE
+        self.free, self.end = FIRST_FREE, min(it for it in reached if it >= MEMORY // 2)
+        self.free += sum(WINDOW_LENGTH for it in reached if it < MEMORY // 2)
         self.cases: List[Dict[str, Any]] = []
         self.layouts: Dict[str, Layout] = {}
-        self.wrapped = False
+        self.reached = [*reached]
 
     def copy(self) -> "Program":
         made = copy.copy(self)
         made.lines, made.data, made.cases = [*self.lines], bytearray(self.data), [*self.cases]
-        made.layouts = {**self.layouts}
+        made.layouts, made.reached = {**self.layouts}, [*self.reached]
         return made
 
     def emit(self, *lines: str) -> None:
@@ -57,7 +63,7 @@ class Program:
     def take(self, length: int, alignment: int) -> int:
         """The address of so many bytes of DMEM."""
         at = (self.free + alignment - 1) // alignment * alignment
-        if at + length > END_OF_FREE:
+        if at + length > self.end:
             raise Full
         self.free = at + length
         return at
@@ -68,15 +74,16 @@ class Program:
         self.data[at : at + len(text) // 2] = bytes.fromhex(text)
         return at
 
-    def window(self, wrapping: bool) -> int:
+    def window(self, wrapping: bool, from_zero: bool) -> int:
         """The address of the memory of a case that loads or stores.
 
         One case of a program has the one that wraps.
         """
-        if not wrapping or self.wrapped:
-            return self.take(WINDOW_LENGTH, 16)
-        self.wrapped = True
-        return WRAPPING
+        if from_zero and not self.reached:
+            raise Full
+        if from_zero or wrapping and WRAPPING in self.reached:
+            return self.reached.pop(0)
+        return self.take(WINDOW_LENGTH, 16)
 
     def layout(self, fields: Layout) -> str:
         """The name of a layout."""
@@ -138,9 +145,15 @@ def keys(case: Case, letter: str) -> List[str]:
 
 
 def set_up(program: Program, case: Case) -> None:
-    """Sets what a case names: divider, accumulators and flags if it names them, then its registers."""
+    """Sets what a case names: flags and accumulators if it names them, the divider if it is stored too, then
+    its registers.
+    """
     before = {**bench.DEFAULT, **case.before}
-    if "divided" in case.before:
+    if "vco" in case.before:
+        at = program.put(before["vco"] + before["vcc"] + "00" + before["vce"] + "0000")
+        for number, control in enumerate(CONTROLS):
+            program.emit(f"lhu $1, {at + 2 * number}($0)", f"ctc2 $1, ${control}")
+    if "divided" in case.before and case.row.form in DIVIDING:
         loaded = before["in"] if before["loaded"] == "1" else "0000"
         at = program.put(before["divided"] + loaded + "0" * 20, 16)
         program.emit(
@@ -151,10 +164,6 @@ def set_up(program: Program, case: Case) -> None:
     if "a0" in case.before:
         at = program.put("".join(accumulator_data(before[f"a{lane}"] for lane in range(8))), 16)
         program.emit(f"addiu $1, $0, {at}", *accumulator_program("$v1", "$v3", "$1", "$0", 0, ONES))
-    if "vco" in case.before:
-        at = program.put(before["vco"] + before["vcc"] + "00" + before["vce"] + "0000")
-        for number, control in enumerate(CONTROLS):
-            program.emit(f"lhu $1, {at + 2 * number}($0)", f"ctc2 $1, ${control}")
     if registers := keys(case, "v"):
         at = program.put("".join(before[key] for key in registers), 16)
         program.emit(
@@ -172,9 +181,11 @@ def begun(program: Program, case: Case, vectors: int = 0, halves: int = 0, words
     """Sets a case up, executes its word, and takes room for what it leaves. $1 has the address of vectors."""
     for address, text in case.before.get("dmem", {}).items():
         program.data[int(address, 16) : int(address, 16) + len(text) // 2] = bytes.fromhex(text)
+    saved = Saved(
+        program, vectors, halves, words
+    )  # halves, then the flags that are set, end at a multiple of 16
     set_up(program, case)
     program.test(case, case.word)
-    saved = Saved(program, vectors, halves, words)
     if vectors:
         program.emit(f"addiu $1, $0, {saved.start}")
     return saved
@@ -334,8 +345,8 @@ ADDERS: Dict[str, Callable[[Program, Case], None]] = {
 
 def with_case(program: Program, row: Row, seed: str, number: int) -> Program:
     """The program with a case more."""
-    program = program.copy()
-    window = program.window(number % 4 == 3) if uses_memory(row) else 0
+    program, from_zero = program.copy(), paired_element(row, number) is not None
+    window = program.window(number % 4 == 3, from_zero) if uses_memory(row) else 0
     case = make_case(row, seed, number, window)
     case.window = window
     ADDERS[row.form](program, case)
@@ -344,9 +355,14 @@ def with_case(program: Program, row: Row, seed: str, number: int) -> Program:
     return program
 
 
+def begun_program(row: Row) -> Program:
+    """A program without a case."""
+    return Program(reached_windows(row)[:REACHED]) if "vector" in row.form and uses_memory(row) else Program()
+
+
 def programs_of(row: Row, seed: str, count: int) -> Iterator[Program]:
     """The programs that hold the cases of an instruction. A BREAK ends its own."""
-    program = Program()
+    program = begun_program(row)
     for number in range(min(count, 2) if row.form == "break" else count):
         try:
             if row.form == "break" and program.cases:
@@ -354,5 +370,5 @@ def programs_of(row: Row, seed: str, count: int) -> Iterator[Program]:
             program = with_case(program, row, seed, number)
         except Full:
             yield program
-            program = with_case(Program(), row, seed, number)
+            program = with_case(begun_program(row), row, seed, number)
     yield program

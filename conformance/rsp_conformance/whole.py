@@ -5,11 +5,12 @@ it reads.
 counts them in the vectors.
 """
 
+import itertools
 from collections import namedtuple
-from typing import Any, Callable, Dict, Iterable, List
+from typing import Any, Callable, Dict, Iterable, Iterator, List, Sequence, Tuple
 
 from rsp_conformance.outcomes import Kind
-from rsp_conformance.table import SCALE, Row, destination, uses_memory
+from rsp_conformance.table import FORMS, SCALE, Row, destination, uses_memory
 
 # A case: its instruction, its fields, and the whole state before it, of texts.
 Whole = namedtuple("Whole", "row fields before")
@@ -165,6 +166,46 @@ def element_of(it: Whole) -> int:
     return it.fields["e"]
 
 
+def elements_of(row: Row) -> Sequence[int]:
+    """The elements that an instruction takes; none if it takes none."""
+    if "e" not in FORMS[row.form]:
+        return ()
+    return (0, 8) if row.name in ("lfv", "sfv") else range(16)
+
+
+def are_equal(one: str, other: str) -> Rule:
+    return lambda it: it.fields[one] == it.fields[other]
+
+
+def pairs_of(row: Row) -> Iterator[Tuple[str, Rule]]:
+    """What an instruction meets with each element, and whether it holds: registers that are equal, a base $0,
+    the lane that is read and written, and the divider's state.
+    """
+    names = [name for name in ("vs", "vt", "vd") if name in FORMS[row.form]]
+    for one, other in itertools.combinations(names, 2):
+        yield f"{one} is {other}", are_equal(one, other)
+    if "base" in FORMS[row.form]:
+        yield "the base is $0", lambda it: it.fields["base"] == 0
+        yield "the base isn't $0", lambda it: it.fields["base"] != 0
+    if row.form == "lane":
+        yield "it writes the lane that it reads", lambda it: it.fields["de"] == it.fields["e"] % 8
+        yield "nothing is loaded", lambda it: it.before["loaded"] == "0"
+        yield "a half is loaded", lambda it: it.before["loaded"] == "1"
+
+
+def pair_kinds(row: Row) -> List[Kind]:
+    """Those pairs as outcomes."""
+    return [
+        Kind(
+            f"element {e}, {text}",
+            lambda it, holds=holds, e=e: element_of(it) == e and holds(it),
+            group=f"each element, {text}",
+        )
+        for text, holds in pairs_of(row)
+        for e in elements_of(row)
+    ]
+
+
 def kinds_of(row: Row) -> List[Kind]:
     """The outcomes of an instruction that doesn't work on lanes."""
     kinds: List[Kind] = []
@@ -176,7 +217,7 @@ def kinds_of(row: Row) -> List[Kind]:
         yes, no, holds = EITHER[row.name]
         kinds += [Kind(yes, holds), Kind(no, lambda it: not holds(it))]
     if row.form in ("vector load", "vector store", "from vector", "to vector"):
-        kinds += each("element", (0, 8) if row.name[1] == "f" and uses_memory(row) else range(16), element_of)
+        kinds += [*each("element", elements_of(row), element_of), *pair_kinds(row)]
     if row.form in ("from control", "to control"):
         kinds += each("control register", range(4), lambda it: it.fields["c"])
     if uses_memory(row):

@@ -30,9 +30,9 @@ from .words import FAULTS
 __version__ = "1.0.0"
 __all__ = [
     "DMEM", "FAULTS", "IMEM", "RDRAM", "VERSION", "Accumulators", "AssemblyError", "Bank", "Changes",
-    "Difference", "Divider", "Emulator", "FirstDifference", "Flags", "Line", "Move", "Part", "Reason", "Rsp", "RspError",
-    "Scalars", "SpWords", "State", "Status", "Stop", "Traced", "assemble", "first_difference", "state_fault",
-    "text",
+    "Difference", "Divider", "Emulator", "FirstDifference", "Flags", "Line", "Move", "Part", "Reason", "Rsp",
+    "RspError", "Scalars", "SpWords", "State", "Status", "Stop", "Traced", "assemble", "first_difference",
+    "state_fault", "text",
 ]  # fmt: skip
 
 _S = TypeVar("_S", bound=Structure)
@@ -215,7 +215,8 @@ _CALLS = {
     "rsp_state_fault": [POINTER(State), _W], "rsp_load": [_M, _U, _U, _B, _Z],
     "rsp_load_words": [_M, _U, _U, _W, _Z], "rsp_memory": [_M, _U, _U, c_void_p, _Z],
     "rsp_memory_words": [_M, _U, _U, _W, _Z], "rsp_task": [_M, _U], "rsp_set_pc": [_M, _U],
-    "rsp_step": [_M], "rsp_step_changes": [_M, POINTER(Changes)], "rsp_run": [_M, _U, POINTER(_Stop)], "rsp_back": [_M, _U], "rsp_pass": [_M, _U],
+    "rsp_step": [_M], "rsp_step_changes": [_M, POINTER(Changes)], "rsp_run": [_M, _U, POINTER(_Stop)],
+    "rsp_back": [_M, _U], "rsp_pass": [_M, _U],
     "rsp_run_until_move": [_M, _U, _U, _U, POINTER(_Move)],
     "rsp_trace": [_M, POINTER(Traced), _Z, POINTER(_Stop)], "rsp_add_break": [_M, _U],
     "rsp_drop_break": [_M, _U], "rsp_add_watch": [_M, _U, _U, POINTER(_Z)], "rsp_drop_watch": [_M, _U],

@@ -1,8 +1,9 @@
-"""The entry of a trace for each instruction, and what its step changed, by its worked case of docs/data/instructions.tsv.
+"""The entry of a trace for each instruction, and what its step changed, by its worked case of
+docs/data/instructions.tsv.
 
 It fails if an entry names something else than the text of its instruction does, or has another value than the
-worked case ends with; or if `step_changes` gives another entry, or a state after the step that isn't the machine's.
-An instruction writes its first operand, but for those below.
+worked case ends with; or if `step_changes` gives another entry, or a state after the step that isn't the
+machine's. An instruction writes its first operand, but for those below.
 """
 
 import re
