@@ -208,12 +208,20 @@ impl Session {
         requires empty { reply.old ≡ [] }
         ensures reply { OnOk result (reply.new ≡ (line_answer line.now self.old).reply) }
         ensures next { OnOk result (self.new ≡ (line_answer line.now self.old).next) }
+        ensures err { OnErr result (self.new ≡ self.old) }
     {
         match &parse_line(line, is_open) {
             Ok(command) => self.exec_to(alloc, command, is_open, reply)?,
             Err(fault) => put_fault(reply, *fault),
         }
         Ok(())
+    }
+
+    /// The machine, with all that the commands so far did.
+    pub fn machine(&self) -> &Machine<PlaneAcc>
+        ensures { result.now ≡ self.now.debugging.state }
+    {
+        self.debugger.machine()
     }
 
     /// The reply at the end of a script: the fault BadLine if a block is still open, with the line after its last, else nothing.

@@ -4,7 +4,7 @@ use Rattle.std.proofs.Math.Seq.{take-append-add}
 use Rattle.std.proofs.lemmas.Grind.{common_steps}
 use Rattle.std.proofs.lemmas.Bool.{cases_lt}
 use Rattle.std.proofs.lemmas.Bool.Decides.{nat_tests}
-use Rattle.std.proofs.lemmas.List.{take_all, take_at, take-append-le, append-nil}
+use Rattle.std.proofs.lemmas.List.{take_all, take_at, take-append-le, take-take, append-nil}
 use Rattle.std.specs.Prelude.{cond}
 use Rattle.std.specs.Str.Lines.{strip_carriage_return}
 use Rattle.rsp_script_io.specs.Lines.{is_newline, open_after, kept, IsSameOrLong}
@@ -87,3 +87,8 @@ open-kept line other (b ∷ text) e =
     elim (is_newline b) as (λ t. kept (cond t (open_after [] text) (open_after (line ++ b ∷ []) text))
     ≡ kept (cond t (open_after [] text) (open_after (other ++ b ∷ []) text)))
     [ true ↦ refl | false ↦ open-kept (line ++ b ∷ []) (other ++ b ∷ []) text (kept-more line other (b ∷ []) e) ]
+
+-- the line before bytes were kept
+pub kept-back : (line more : List ℕ) (n : ℕ) → n ≡ length line → n ≤ 258 → take n (kept (line ++ more)) ≡ line
+unfolding kept
+kept-back line more n e h = take-take n 258 (line ++ more) h ∙ take_at line more n (sym e)

@@ -1,6 +1,6 @@
 -- Pieces that are answered one after another.
-use Rattle.std.proofs.Common.{◌≡◌, ℕ, List, [], ◌∷◌, ◌++◌, Option, ◌<◌, length, refl, sym, ◌∙◌, ap, arith}
-use Rattle.std.proofs.lemmas.List.{append-nil, take_all}
+use Rattle.std.proofs.Common.{◌≡◌, ℕ, ◌+◌, List, [], ◌∷◌, ◌++◌, Option, ◌<◌, length, take, drop, refl, sym, ◌∙◌, ap, arith, append_assoc, length-append, length-take}
+use Rattle.std.proofs.lemmas.List.{append-nil, take_all, take_at, take-append-drop}
 use Rattle.std.specs.List.{position_or_len, before_first, after_first}
 use Rattle.std.specs.Io.KnownBytes.{append_known}
 use Rattle.std.specs.Str.Lines.{strip_carriage_return}
@@ -14,6 +14,35 @@ use Rattle.rsp_script_io.proofs.KnownEnds.{append_known-nil, append_known-append
 use Rattle.rsp_script_io.proofs.Prefixes.{Leaves, leaves-less, prefix-along, prefix-first, prefix-then}
 use Rattle.rsp_script_io.proofs.Pieces.{ended-append, open-append, ended-line, open-line, cut_at_newline}
 use Rattle.rsp_script_io.proofs.Replies.{replies-append, final-append}
+
+-- bytes with no newline are all of the line
+all-before : (bytes : List ℕ) → position_or_len is_newline bytes ≡ length bytes → before_first is_newline bytes ++ [] ≡ bytes
+all-before bytes e = append-nil _ ∙ take_all (position_or_len is_newline bytes) bytes (omega (arith, e))
+
+none-ended : (line bytes : List ℕ) → position_or_len is_newline bytes ≡ length bytes → ended_after line bytes ≡ []
+none-ended line bytes e = ap (ended_after line) (sym (all-before bytes e)) ∙ ended-line line bytes []
+
+pub open-all : (line bytes : List ℕ) → position_or_len is_newline bytes ≡ length bytes → line ++ before_first is_newline bytes ≡ open_after line bytes
+open-all line bytes e = sym (open-line line bytes []) ∙ ap (open_after line) (all-before bytes e)
+
+-- bytes up to the first newline and with it
+to-newline : (bytes : List ℕ) → position_or_len is_newline bytes < length bytes
+    → before_first is_newline bytes ++ 10 ∷ [] ≡ take (position_or_len is_newline bytes + 1) bytes
+to-newline bytes lt =
+    let front : List ℕ = before_first is_newline bytes ++ 10 ∷ [] in
+    let long : length front ≡ position_or_len is_newline bytes + 1 =
+    omega (arith, lt, length-append (before_first is_newline bytes) (10 ∷ []), length-take (position_or_len is_newline bytes) bytes) in
+    sym (take_at front (after_first is_newline bytes) (position_or_len is_newline bytes + 1) long)
+    ∙ ap (take (position_or_len is_newline bytes + 1)) (append_assoc (before_first is_newline bytes) (10 ∷ []) (after_first is_newline bytes) ∙ sym (cut_at_newline bytes lt))
+
+one-ended : (line bytes : List ℕ) → position_or_len is_newline bytes < length bytes
+    → ended_after (line ++ before_first is_newline bytes) (10 ∷ []) ≡ ended_after line (take (position_or_len is_newline bytes + 1) bytes)
+one-ended line bytes lt = sym (ended-line line bytes (10 ∷ [])) ∙ ap (ended_after line) (to-newline bytes lt)
+
+pub open-none : (line bytes : List ℕ) → position_or_len is_newline bytes < length bytes
+    → [] ≡ kept (open_after line (take (position_or_len is_newline bytes + 1) bytes))
+unfolding kept
+open-none line bytes lt = ap (take 258) (sym (open-line line bytes (10 ∷ [])) ∙ ap (open_after line) (to-newline bytes lt))
 
 module _ {S : Type 0} (answer_to : List ℕ → S → Answer S) (alike : LongLinesAlike answer_to) where
   pub answers-none : (w : Option (List ℕ)) (line : List ℕ) (s : S) → PieceAnswered answer_to w w line line s s []
@@ -29,7 +58,7 @@ module _ {S : Type 0} (answer_to : List ℕ → S → Answer S) (alike : LongLin
       ∙ sym (replies-append answer_to (ended_after line a) (ended_after (open_after line a) b) s)
       ∙ ap (λ ls. replies answer_to ls s) (sym (ended-append line a b))
 
-  final-pieces : (line mid a b : List ℕ) (s t : S) → kept mid ≡ kept (open_after line a) → t ≡ final answer_to (ended_after line a) s
+  pub final-pieces : (line mid a b : List ℕ) (s t : S) → kept mid ≡ kept (open_after line a) → t ≡ final answer_to (ended_after line a) s
       → final answer_to (ended_after mid b) t ≡ final answer_to (ended_after line (a ++ b)) s
   final-pieces line mid a b s t e n =
       ap (final answer_to (ended_after mid b)) n
@@ -70,58 +99,56 @@ module _ {S : Type 0} (answer_to : List ℕ → S → Answer S) (alike : LongLin
     last = refl;
   }
 
-  -- the line that the first newline of the rest ends, of which `ended` stands for what was kept
-  ended-first : (line rest : List ℕ) → position_or_len is_newline rest < length rest
-      → ended_after (line ++ before_first is_newline rest) (10 ∷ after_first is_newline rest) ≡ ended_after line rest
-  ended-first line rest lt =
-      sym (ended-line line rest (10 ∷ after_first is_newline rest)) ∙ ap (ended_after line) (sym (cut_at_newline rest lt))
+  -- bytes with no newline
+  pub replies-open : (line bytes : List ℕ) (s : S) → position_or_len is_newline bytes ≡ length bytes → [] ≡ replies answer_to (ended_after line bytes) s
+  replies-open line bytes s e = ap (λ ls. replies answer_to ls s) (sym (none-ended line bytes e))
 
-  replies-first : (line rest ended : List ℕ) (t : S) → position_or_len is_newline rest < length rest
-      → IsSameOrLong ended (strip_carriage_return (kept (line ++ before_first is_newline rest)))
-      → (answer_to ended t).reply ++ replies answer_to (ended_after [] (after_first is_newline rest)) (answer_to ended t).next
-      ≡ replies answer_to (ended_after line rest) t
-  replies-first line rest ended t lt like =
-      ap (λ o. o.reply ++ replies answer_to (ended_after [] (after_first is_newline rest)) o.next) (answered-like answer_to ended _ t alike like)
-      ∙ replies-kept answer_to alike _ (line ++ before_first is_newline rest) (10 ∷ after_first is_newline rest) t (kept-kept (line ++ before_first is_newline rest))
-      ∙ ap (λ ls. replies answer_to ls t) (ended-first line rest lt)
+  pub final-open : (line bytes : List ℕ) (s : S) → position_or_len is_newline bytes ≡ length bytes → s ≡ final answer_to (ended_after line bytes) s
+  final-open line bytes s e = ap (λ ls. final answer_to ls s) (sym (none-ended line bytes e))
 
-  final-first : (line rest ended : List ℕ) (t : S) → position_or_len is_newline rest < length rest
-      → IsSameOrLong ended (strip_carriage_return (kept (line ++ before_first is_newline rest)))
-      → final answer_to (ended_after [] (after_first is_newline rest)) (answer_to ended t).next ≡ final answer_to (ended_after line rest) t
-  final-first line rest ended t lt like =
-      ap (λ o. final answer_to (ended_after [] (after_first is_newline rest)) o.next) (answered-like answer_to ended _ t alike like)
-      ∙ final-kept answer_to alike _ (line ++ before_first is_newline rest) (10 ∷ after_first is_newline rest) t (kept-kept (line ++ before_first is_newline rest))
-      ∙ ap (λ ls. final answer_to ls t) (ended-first line rest lt)
+  -- bytes up to the first newline and with it, of which `ended` stands for the line
+  pub reply-ended : (line bytes ended : List ℕ) (s : S) → position_or_len is_newline bytes < length bytes
+      → IsSameOrLong ended (strip_carriage_return (kept (line ++ before_first is_newline bytes)))
+      → (answer_to ended s).reply ≡ replies answer_to (ended_after line (take (position_or_len is_newline bytes + 1) bytes)) s
+  reply-ended line bytes ended s lt like =
+      sym (append-nil _) ∙ ap (λ o. o.reply ++ []) (answered-like answer_to ended _ s alike like)
+      ∙ replies-kept answer_to alike _ (line ++ before_first is_newline bytes) (10 ∷ []) s (kept-kept (line ++ before_first is_newline bytes))
+      ∙ ap (λ ls. replies answer_to ls s) (one-ended line bytes lt)
 
-  open-first : (line rest : List ℕ) → position_or_len is_newline rest < length rest → open_after [] (after_first is_newline rest) ≡ open_after line rest
-  open-first line rest lt =
-      sym (open-line line rest (10 ∷ after_first is_newline rest)) ∙ ap (open_after line) (sym (cut_at_newline rest lt))
+  pub next-ended : (line bytes ended : List ℕ) (s : S) → position_or_len is_newline bytes < length bytes
+      → IsSameOrLong ended (strip_carriage_return (kept (line ++ before_first is_newline bytes)))
+      → (answer_to ended s).next ≡ final answer_to (ended_after line (take (position_or_len is_newline bytes + 1) bytes)) s
+  next-ended line bytes ended s lt like =
+      ap (λ o. o.next) (answered-like answer_to ended _ s alike like)
+      ∙ final-kept answer_to alike _ (line ++ before_first is_newline bytes) (10 ∷ []) s (kept-kept (line ++ before_first is_newline bytes))
+      ∙ ap (λ ls. final answer_to ls s) (one-ended line bytes lt)
 
-  -- one line more was answered
-  pub leads-more : {old now new : Option (List ℕ)} {line mid ended : List ℕ} {s t u : S} (piece rest : List ℕ) → Leads old now line mid s t piece rest
-      → position_or_len is_newline rest < length rest → IsSameOrLong ended (strip_carriage_return (kept (mid ++ before_first is_newline rest)))
-      → new ≡ append_known now (answer_to ended t).reply → u ≡ (answer_to ended t).next → Leads old new line [] s u piece (after_first is_newline rest)
-  leads-more {mid = mid} {ended = ended} {t = t} piece rest h lt like e n = rw n (record {
-    written = leaves-less (answer_to ended t).reply _ h.written e (replies-first mid rest ended t lt like);
-    session = final-first mid rest ended t lt like ∙ h.session;
-    last = ap kept (open-first mid rest lt) ∙ h.last;
-  })
+  -- the replies to a rest are those to its front and to what follows
+  front-replies : (n : ℕ) (mid after rest : List ℕ) (t u : S) → u ≡ final answer_to (ended_after mid (take n rest)) t → after ≡ kept (open_after mid (take n rest))
+      → replies answer_to (ended_after mid (take n rest)) t ++ replies answer_to (ended_after after (drop n rest)) u ≡ replies answer_to (ended_after mid rest) t
+  front-replies n mid after rest t u next e =
+      replies-pieces mid after (take n rest) (drop n rest) t u (ap kept e ∙ kept-kept (open_after mid (take n rest))) next
+      ∙ ap (λ text. replies answer_to (ended_after mid text) t) (take-append-drop n rest)
 
-  -- or a front of its reply was written
-  pub leads-front : {old now new : Option (List ℕ)} {line mid ended : List ℕ} {s t : S} (piece rest : List ℕ) → Leads old now line mid s t piece rest
-      → position_or_len is_newline rest < length rest → IsSameOrLong ended (strip_carriage_return (kept (mid ++ before_first is_newline rest)))
-      → WritesPrefix now new (answer_to ended t).reply → WritesPrefix old new (replies answer_to (ended_after line piece) s)
-  leads-front {mid = mid} {ended = ended} {t = t} piece rest h lt like f =
-      prefix-along h.written.whole (prefix-then h.written.prefix h.written.grows (prefix-along (replies-first mid rest ended t lt like) (prefix-first _ f)))
-
-  -- the rest has no newline
-  pub leads-end : {old new : Option (List ℕ)} {line mid : List ℕ} {s t : S} (piece rest : List ℕ) → Leads old new line mid s t piece rest
-      → position_or_len is_newline rest ≡ length rest → PieceAnswered answer_to old new line (kept (mid ++ before_first is_newline rest)) s t piece
-  leads-end {old = old} {line = line} {mid = mid} {s = s} {t = t} piece rest h e =
-      let all : before_first is_newline rest ++ [] ≡ rest = append-nil _ ∙ take_all (position_or_len is_newline rest) rest (omega (arith, e)) in
-      let none : ended_after mid rest ≡ [] = ap (ended_after mid) (sym all) ∙ ended-line mid rest [] in
+  -- the front of the rest was answered
+  pub leads-more : {old now new : Option (List ℕ)} {line mid after : List ℕ} {s t u : S} (n : ℕ) (piece rest : List ℕ) → Leads old now line mid s t piece rest
+      → new ≡ append_known now (replies answer_to (ended_after mid (take n rest)) t) → u ≡ final answer_to (ended_after mid (take n rest)) t
+      → after ≡ kept (open_after mid (take n rest)) → Leads old new line after s u piece (drop n rest)
+  leads-more {mid = mid} {after = after} {t = t} {u = u} n piece rest h w next e =
+      let same : kept after ≡ kept (open_after mid (take n rest)) = ap kept e ∙ kept-kept (open_after mid (take n rest)) in
       record {
-        written = h.written.grows ∙ ap (append_known old) (sym (append-nil h.written.prefix) ∙ ap (λ ls. h.written.prefix ++ replies answer_to ls t) (sym none) ∙ h.written.whole);
-        session = ap (λ ls. final answer_to ls t) (sym none) ∙ h.session;
-        last = kept-kept (mid ++ before_first is_newline rest) ∙ ap kept (sym (open-line mid rest []) ∙ ap (open_after mid) all) ∙ h.last;
+        written = leaves-less (replies answer_to (ended_after mid (take n rest)) t) _ h.written w (front-replies n mid after rest t u next e);
+        session =
+            final-pieces mid after (take n rest) (drop n rest) t u same next
+            ∙ ap (λ text. final answer_to (ended_after mid text) t) (take-append-drop n rest) ∙ h.session;
+        last =
+            open-kept after (open_after mid (take n rest)) (drop n rest) same
+            ∙ ap kept (sym (open-append mid (take n rest) (drop n rest)) ∙ ap (open_after mid) (take-append-drop n rest)) ∙ h.last;
       }
+
+  -- or a front of the replies to it was written
+  pub leads-front : {old now new : Option (List ℕ)} {line mid after : List ℕ} {s t u : S} (n : ℕ) (piece rest : List ℕ) → Leads old now line mid s t piece rest
+      → u ≡ final answer_to (ended_after mid (take n rest)) t → after ≡ kept (open_after mid (take n rest))
+      → WritesPrefix now new (replies answer_to (ended_after mid (take n rest)) t) → WritesPrefix old new (replies answer_to (ended_after line piece) s)
+  leads-front {mid = mid} {after = after} {t = t} {u = u} n piece rest h next e f =
+      prefix-along h.written.whole (prefix-then h.written.prefix h.written.grows (prefix-along (front-replies n mid after rest t u next e) (prefix-first _ f)))

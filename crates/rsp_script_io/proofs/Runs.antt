@@ -6,7 +6,7 @@ use Rattle.std.proofs.lemmas.Bool.{cases_lt}
 use Rattle.std.proofs.lemmas.Option.{none-some}
 use Rattle.std.specs.Io.KnownBytes.{append_known, prepend_known, IsAtEnd}
 use Rattle.std.specs.Str.Lines.{lines}
-use Rattle.rsp_script_io.specs.declared.run.TheConstants.{SCRIPT_LIMIT}
+use Rattle.rsp_script_io.specs.declared.feed.TheConstants.{SCRIPT_LIMIT}
 use Rattle.rsp_script_io.specs.declared.run.RunFault.{RunFault}
 use Rattle.rsp_script_io.specs.declared.run.RunFault.TheVariants.{ReadFault, WriteFault, ScriptTooLong, OutOfMemory}
 use Rattle.rsp_script_io.specs.Faults.{IsAnswerFault}
@@ -57,8 +57,8 @@ limit_more taken piece within total c h e =
     rw (e, limit_all taken (omega arith)) (sym (take-append-add taken piece (SCRIPT_LIMIT - total)) ∙ ap (λ n. take n (taken ++ piece)) whole)
 
 -- the part of the bytes read that is within the limit
-pub read_cut : (read others : List ℕ) (n k within : ℕ) → n ≤ length read → within ≡ min n k → take within (read ++ others) ≡ take k (take n read)
-read_cut read others n k within h e =
+pub read_cut : (read others : List ℕ) (n k within room : ℕ) → n ≤ length read → within ≡ min n room → room ≡ k → take within (read ++ others) ≡ take k (take n read)
+read_cut read others n k within room h e r =
     take-append-le within read others (omega arith) ∙ by_order (cases_lt k n)
   where
     by_order : (k < n) ⊎ (n ≤ k) → take within read ≡ take k (take n read)
@@ -80,16 +80,23 @@ module _ {S : Type 0} (answer_to : List ℕ → S → Answer S) (end_reply : S �
   pub progress-none : (r w : Option (List ℕ)) (s : S) → Progress answer_to r r w w [] s s 0
   progress-none r w s = record { taken = []; told = sym (prepend_known-nil r); count = refl; answers = answers-none answer_to alike w [] s }
 
-  pub progress-more : {r u v w x y : Option (List ℕ)} {l m : List ℕ} {s t o : S} {total : ℕ} (piece within : List ℕ) (n : ℕ) → Progress answer_to r u w x l s t total
-      → u ≡ prepend_known piece v → length piece ≡ n → total ≤ SCRIPT_LIMIT → within ≡ take (SCRIPT_LIMIT - total) piece → PieceAnswered answer_to x y l m t o within
-      → Progress answer_to r v w y m s o (total + n)
-  progress-more {w = w} {y = y} {m = m} {s = s} {o = o} {total = total} piece within n h e len few cut a = record {
+  pub progress-more : {r u v w x y : Option (List ℕ)} {l m : List ℕ} {s t o : S} {total next : ℕ} (piece within : List ℕ) → Progress answer_to r u w x l s t total
+      → u ≡ prepend_known piece v → next ≡ total + length piece → total ≤ SCRIPT_LIMIT → within ≡ take (SCRIPT_LIMIT - total) piece → PieceAnswered answer_to x y l m t o within
+      → Progress answer_to r v w y m s o next
+  progress-more {w = w} {y = y} {m = m} {s = s} {o = o} {total = total} piece within h e len few cut a = record {
     taken = h.taken ++ piece;
     told = h.told ∙ ap (prepend_known h.taken) e ∙ prepend_known-append _ h.taken piece;
-    count = omega (arith, length-append h.taken piece, h.count);
+    count = omega (arith, length-append h.taken piece, h.count, len);
     answers = rw (← limit_more h.taken piece within total h.count few cut)
         (answers-then answer_to alike (take SCRIPT_LIMIT h.taken) within h.answers a);
   }
+
+  -- all of a piece was within the limit
+  pub progress-within : {r u v w x y : Option (List ℕ)} {l m : List ℕ} {s t o : S} {total next : ℕ} (piece within : List ℕ) → Progress answer_to r u w x l s t total
+      → u ≡ prepend_known piece v → length piece ≤ SCRIPT_LIMIT - total → total ≤ SCRIPT_LIMIT → within ≡ take (SCRIPT_LIMIT - total) piece → next ≡ total + length within
+      → PieceAnswered answer_to x y l m t o within → Progress answer_to r v w y m s o next
+  progress-within {total = total} piece within h e all few cut n a =
+      progress-more piece within h e (omega (arith, n, ap length cut, length-take (SCRIPT_LIMIT - total) piece, all)) few cut a
 
   -- a read failed
   pub progress-ended : {r u v w x : Option (List ℕ)} {l : List ℕ} {s t : S} {total : ℕ} → Progress answer_to r u w x l s t total
@@ -125,9 +132,13 @@ module _ {S : Type 0} (answer_to : List ℕ → S → Answer S) (end_reply : S �
   )
 
   -- the byte past the limit was taken
-  pub progress-past : {r u w x : Option (List ℕ)} {l : List ℕ} {s t : S} {total : ℕ} → Progress answer_to r u w x l s t total
-      → total ≡ SCRIPT_LIMIT + 1 → Takes (SCRIPT_LIMIT + 1) r u
-  progress-past h all = (h.taken, h.told, h.count ∙ all)
+  pub progress-past : {r u w x : Option (List ℕ)} {l : List ℕ} {s t : S} {total : ℕ} (v : Option (List ℕ)) (piece : List ℕ) → Progress answer_to r u w x l s t total
+      → u ≡ prepend_known piece v → total + length piece ≡ SCRIPT_LIMIT + 1 → Takes (SCRIPT_LIMIT + 1) r v
+  progress-past v piece h e all = (
+    h.taken ++ piece,
+    h.told ∙ ap (prepend_known h.taken) e ∙ prepend_known-append _ h.taken piece,
+    omega (arith, h.count, all, length-append h.taken piece),
+  )
 
   -- a script that goes on past the limit
   pub progress-long : {r u w x : Option (List ℕ)} {l : List ℕ} {s t : S} {total : ℕ} → Progress answer_to r u w x l s t total
@@ -140,7 +151,7 @@ module _ {S : Type 0} (answer_to : List ℕ → S → Answer S) (end_reply : S �
       ∙ ap (λ ls. append_known w (replies answer_to ls s)) (sym (ended_lines-after (take SCRIPT_LIMIT script))))
 
   -- the replies to the lines that a newline ended, and what is left to answer and to say
-  out-pieces : (taken line : List ℕ) (s t : S) → kept line ≡ kept (open_after [] taken) → t ≡ final answer_to (ended_after [] taken) s
+  pub out-pieces : (taken line : List ℕ) (s t : S) → kept line ≡ kept (open_after [] taken) → t ≡ final answer_to (ended_after [] taken) s
       → replies answer_to (ended_after [] taken) s ++ (replies answer_to (last_line line) t ++ end_reply (final answer_to (last_line line) t))
       ≡ written_of answer_to end_reply taken s
   out-pieces taken line s t e n =
@@ -155,7 +166,7 @@ module _ {S : Type 0} (answer_to : List ℕ → S → Answer S) (end_reply : S �
       )
       (sym (append_assoc (replies answer_to (ended_after [] taken) s) (replies answer_to (last_line line) t) (end_reply (final answer_to (last_line line) t))))
 
-  final-pieces : (taken line : List ℕ) (s t : S) → kept line ≡ kept (open_after [] taken) → t ≡ final answer_to (ended_after [] taken) s
+  pub final-pieces : (taken line : List ℕ) (s t : S) → kept line ≡ kept (open_after [] taken) → t ≡ final answer_to (ended_after [] taken) s
       → final answer_to (last_line line) t ≡ final answer_to (lines taken) s
   final-pieces taken line s t e n =
       let same : SameReplies answer_to (last_line line) (last_line (open_after [] taken)) t = alike-last answer_to alike line (open_after [] taken) t e in

@@ -1,7 +1,7 @@
 -- What was read and written when a run ended early.
 use Rattle.std.specs.Prelude.{◌≡◌, ◌≤◌, ℕ, ◌⊎◌, List, ◌++◌, take, length, Option, IfSome, Result, Ok, Err}
 use Rattle.std.specs.Io.KnownBytes.{append_known, prepend_known, IsAtEnd}
-use Rattle.rsp_script_io.specs.declared.run.TheConstants.{SCRIPT_LIMIT}
+use Rattle.rsp_script_io.specs.declared.feed.TheConstants.{SCRIPT_LIMIT}
 use Rattle.rsp_script_io.specs.declared.run.RunFault.{RunFault}
 use Rattle.rsp_script_io.specs.declared.run.RunFault.TheVariants.{ReadFault, WriteFault, ScriptTooLong, OutOfMemory}
 use Rattle.rsp_script_io.specs.Lines.{ended_lines}

@@ -1,5 +1,6 @@
 -- Reading a script in pieces, and writing the replies to its lines.
 pub mod Pieces
+pub mod Feeds
 pub mod Faults
 pub mod EarlyEnd
 pub mod Lines

@@ -14,6 +14,7 @@
 #![tactic(auto)]
 
 mod answer;
+mod feed;
 mod line;
 mod line_handler;
 mod reply;
@@ -21,8 +22,9 @@ mod run;
 mod sink;
 mod source;
 
+pub use feed::{Feed, FeedFault, SCRIPT_LIMIT};
 pub use line_handler::LineHandler;
 pub use reply::{REPLY_LIMIT, Reply};
-pub use run::{RunFault, SCRIPT_LIMIT, answer_script};
+pub use run::{RunFault, answer_script};
 pub use sink::{MemSink, Sink, ToWrite};
 pub use source::{EndFault, FromRead, MemSource, Source};

@@ -1,4 +1,4 @@
-ghost use Rattle.std.specs.Prelude.{◌≡◌, [], ◌++◌};
+ghost use Rattle.std.specs.Prelude.{◌≡◌, ◌≤◌, [], ◌++◌, length, take};
 ghost use Rattle.std.specs.Str.Lines.{strip_carriage_return};
 ghost use Rattle.rsp_script_io.specs.Lines.{kept, IsSameOrLong};
 
@@ -75,5 +75,20 @@ impl LineSoFar {
         } else {
             without_return(self.bytes.as_slice())
         }
+    }
+    /// How many bytes it keeps.
+    pub(crate) fn len(&self) -> usize
+        ensures value { result ≡ length self.now }
+        ensures most { result ≤ 258 }
+    {
+        self.bytes.len()
+    }
+
+    /// Drops the bytes from `len` on.
+    pub(crate) fn truncate(&mut self, len: usize)
+        ensures { self.new ≡ take len self.old }
+    {
+        self.bytes.truncate(len);
+        self.longer = false;
     }
 }

@@ -6,15 +6,12 @@ ghost use Rattle.rsp_script_io.specs.EarlyEnd.{TakesAtMost, Takes, LeavesWritten
 ghost use Rattle.rsp_script_io.specs.Replies.{final, written_of};
 
 use crate::answer::{answer_end, answer_piece};
-use crate::line::LineSoFar;
+use crate::feed::{Feed, SCRIPT_LIMIT};
 use crate::line_handler::LineHandler;
 use crate::reply::Reply;
 use crate::sink::Sink;
 use crate::source::Source;
 use std::alloc::Global;
-
-/// The most bytes of a script: 1 MiB.
-pub const SCRIPT_LIMIT: usize = 1_048_576;
 
 /// The most bytes of one read.
 const PIECE_LENGTH: usize = 4096;
@@ -70,29 +67,30 @@ pub fn answer_script<S: LineHandler, R: Source, W: Sink>(
       written = W.written sink.new;
     }) }
 {
-    let mut line = LineSoFar::new();
+    let mut feed = Feed::new();
     let mut buffer = [0u8; PIECE_LENGTH];
     let mut reply = Reply::new();
-    let mut total = 0usize;
-    while total <= SCRIPT_LIMIT {
-        let room = PIECE_LENGTH.min(SCRIPT_LIMIT + 1 - total);
-        let Ok(n) = source.read(&mut buffer[..room]) else {
+    loop {
+        let room = feed.room();
+        let most = PIECE_LENGTH.min(room + 1);
+        let Ok(n) = source.read(&mut buffer[..most]) else {
             return Err(RunFault::ReadFault);
         };
         if n == 0 {
-            answer_end(alloc, session, &line, &mut reply, sink)?;
+            answer_end(alloc, session, &feed, &mut reply, sink)?;
             return Ok(());
         }
-        let within = n.min(SCRIPT_LIMIT - total);
+        let within = n.min(room);
         answer_piece(
             alloc,
             session,
-            &mut line,
+            &mut feed,
             &buffer[..within],
             &mut reply,
             sink,
         )?;
-        total += n;
+        if n > room {
+            return Err(RunFault::ScriptTooLong);
+        }
     }
-    Err(RunFault::ScriptTooLong)
 }

@@ -1,0 +1,16 @@
+-- A script that comes in pieces of any size.
+use Rattle.std.specs.Prelude.{ℕ, ◌+◌, List, [], length}
+use Rattle.rsp_script_io.specs.Lines.{open_after, kept}
+
+-- what is kept of the bytes that came: of the line that no newline has ended what it takes to answer it, and how many bytes they are
+pub record FedBytes : Type 0 where
+  pub line : List ℕ
+  pub count : ℕ
+
+-- no bytes
+abbrev pub no_bytes : FedBytes
+no_bytes = record { line = []; count = 0 }
+
+-- what is kept after a piece more
+abbrev pub bytes_after : List ℕ → FedBytes → FedBytes
+bytes_after piece f = record { line = kept (open_after f.line piece); count = f.count + length piece }
