@@ -14,6 +14,7 @@ It fails if a page, a table or a link says what the program or the repository do
   docs/READING.md              each block, that it is in the source that the page names last before it
   docs/INSTRUCTIONS.md         its rules that are Python, on random values
   docs/COOKBOOK.md             its idioms on vectors, on random numbers, against mathematics
+  conformance/README.md        its example of a manifest, and how many cases the small set has
   docs/help, CHANGELOG.md      the texts of --help, and the version
   all pages                    that the file and the heading that a link leads to are there, and how long
   pages and sentences are
@@ -26,10 +27,12 @@ import subprocess
 import sys
 import tempfile
 from pathlib import Path
-from typing import Any, Dict, Iterator, List, Sequence
+from typing import Any, Dict, Iterator, List, Sequence, Tuple
 
 from rsp_conformance import bench, programs
+from rsp_conformance.play import short
 from rsp_conformance.table import ROWS
+from rsp_conformance.vectors import VECTORS, entries_in, manifest_in, names_in
 from rsp_tests import TOP, part
 from rsp_tests.common.arguments import add_program, reader
 from rsp_tests.common.cases import Case, search, unless
@@ -42,6 +45,8 @@ from rsp_tests.common.rules import rule_cases
 from rsp_tests.common import worked
 
 MADE = {"instructions": "docs/ROWS.md", "commands": "docs/SCRIPT.md", "faults": "docs/FAULTS.md"}
+OF_VECTORS = "conformance/README.md"
+EXAMPLE = "VCH-003"  # the case of form 2 that it shows
 FOLDERS = ".", "docs", "conformance", "microcode"
 PAGES = sorted(it for folder in FOLDERS for it in TOP.glob(f"{folder}/*.md"))
 OPEN_BLOCK = "fault 10 BadLine line 1\n"  # what a script ends with that hasn't closed its block
@@ -69,6 +74,43 @@ def made_cases(write: bool) -> Iterator[Case]:
             (TOP / at).write_text(text.replace(found, wanted))
         again = f"it isn't that of docs/data/{name}.tsv: tests/part pages PROGRAM --write makes it again"
         yield f"{at}, its table", unless(write or found == wanted, again)
+
+
+def manifest_shown() -> Iterator[Tuple[str, str]]:
+    """What OF_VECTORS shows of EXAMPLE, a block and a line: each as a pattern, and as its manifest has it."""
+    manifest = manifest_in(VECTORS, EXAMPLE.partition("-")[0])
+    cases = [(entry, it) for entry in manifest["programs"] for it in entry["cases"]]
+    entry, case = next(pair for pair in cases if pair[1]["name"] == EXAMPLE)
+    fields = entry["layouts"][case["layout"]]
+    vcc = next(it for it in fields if it[0] == "vcc")
+    shown = f"[{short(fields[0])},{short(fields[1])},..,{short(vcc)},..]"
+    head = short({"name": entry["name"], "steps": entry["steps"]})[:-1]
+    lines = (
+        f'{{"row":"{manifest["row"]}","programs":[',
+        f' {head},"layouts":{{"{case["layout"]}":{shown}}},"cases":[',
+    )
+    block = "".join(f"    {it}\n" for it in (*lines, "  ..", f"  {short(case)},", "  ..]}]}"))
+    yield r'(?s)    {"row":.*?\]}\]}\n', block
+    flags = (int(case["at"], 16) + vcc[1]) % programs.MEMORY
+    told = f"begins at {case['at']}, and its `vcc` is {vcc[1]} bytes after that, at {flags:03x}."
+    told += f" So the byte at {flags + 1:03x} is"
+    yield r"begins at \w+, and its `vcc` is .* So the byte at \w+ is", told
+
+
+def vectors_cases(write: bool) -> Iterator[Case]:
+    """OF_VECTORS: its example of a manifest, and how many cases it says that each instruction has."""
+    text = page(OF_VECTORS)
+    for pattern, wanted in manifest_shown():
+        found = search(pattern, text)[0]
+        text = text.replace(found, wanted)
+        again = f"it isn't that of the manifest, {wanted!r}: tests/part pages PROGRAM --write makes it again"
+        yield f"{OF_VECTORS}, {EXAMPLE}", unless(write or found == wanted, again)
+    if write:
+        (TOP / OF_VECTORS).write_text(text)
+    table = search(r"\| Instructions \| Cases of each \|\n\|[-|]+\|\n((?:\|.*\n)+)", text)[1]
+    said = {*map(int, re.findall(r"\d+", table))}
+    counts = {len(entries_in(VECTORS, name)) for name in names_in(VECTORS)}
+    yield f"{OF_VECTORS}, its counts", unless(said == counts, f"the small set has {sorted(counts)}")
 
 
 def worked_complaints(row: Dict[str, str], look: Dict[str, Any]) -> Iterator[str]:
@@ -276,9 +318,10 @@ GROUPS = (row_cases, example_cases, tutorial_cases, command_cases, transcript_ca
 def main() -> None:
     words = reader("tests/part pages", __doc__)
     add_program(words)
-    words.add_argument("--write", action="store_true", help="first make the tables of pages from docs/data")
+    words.add_argument("--write", action="store_true", help="first make what pages have of data and vectors")
     asked, report = words.parse_args(), Report()
     report.see_all(made_cases(asked.write))
+    report.see_all(vectors_cases(asked.write))
     for group in (
         *GROUPS,
         syntax_cases,
