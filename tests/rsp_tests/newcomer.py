@@ -160,10 +160,13 @@ def lines_to_run(stranger: Stranger, name: str, block: str) -> Iterator[str]:
 
 
 def test_pages(stranger: Stranger) -> None:
-    """Each command of the pages, once. The program of EMBEDDING is there as my.c."""
+    """Each command of the pages, once. EMBEDDING's program is there as my.c, and CAMPAIGN's as mine.c."""
     leave_out("blocks of programs and sessions", "`pages` and `embedding-..` of tests/all run them")
-    program = block_with("docs/EMBEDDING.md", '#include "rsp.h"')
-    stranger.run(f"cat >my.c <<'END_OF_FILE'\n{program}\nEND_OF_FILE")
+    for name, at, begins in (
+        ("my.c", "docs/EMBEDDING.md", '#include "rsp.h"'),
+        ("mine.c", "docs/CAMPAIGN.md", '#include "cases.h"'),
+    ):
+        stranger.run(f"cat >{name} <<'END_OF_FILE'\n{block_with(at, begins)}\nEND_OF_FILE")
     done: Set[str] = set()
     for name in PAGES:
         for block in commands(name):
@@ -172,7 +175,7 @@ def test_pages(stranger: Stranger) -> None:
             elif block not in done:
                 test_block(stranger, name, block)
             done.add(block)
-    stranger.run("rm -f my.c a.out")
+    stranger.run("rm -f my.c a.out mine.c mine.so")
 
 
 def test_block(stranger: Stranger, name: str, block: str) -> None:

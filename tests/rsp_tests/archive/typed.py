@@ -114,6 +114,15 @@ WAYS = (
     Way(CAMPAIGN, "conformance/campaign plugin:", prints="below", needs=NUMPY_AND_Z64),
     Way(
         CAMPAIGN,
+        "cc -O2 -shared",
+        first=file_of("mine.c", block_with(CAMPAIGN, '#include "cases.h"')),
+        instead=(("/tmp/mine", "~/mine"),),
+        then="cut -c 1-42 ~/mine/table.txt | grep V",
+        prints="..\nVADD             1000          0      1000\nVNOP             1000          0         0",
+        needs=("import numpy", *GCC),
+    ),
+    Way(
+        CAMPAIGN,
         "dask ",
         left_out="it needs several machines; tests/part campaigns --dask has a cluster on one",
     ),
