@@ -1,6 +1,5 @@
 """The rules that docs/INSTRUCTIONS.md has as Python, against the program on random values."""
 
-from math import isqrt
 from random import Random
 from typing import Any, Dict, Iterator, List, Sequence
 
@@ -18,9 +17,9 @@ Look = Dict[str, Any]
 
 def page_rules() -> Dict[str, Any]:
     """The functions of the page's blocks."""
-    names: Dict[str, Any] = {"isqrt": isqrt}
+    names: Dict[str, Any] = {}
     for block in blocks("docs/INSTRUCTIONS.md"):
-        if block.startswith("def "):
+        if block.startswith(("def ", "from math ")):
             exec(block, names)
     return names
 
