@@ -322,7 +322,7 @@ def accumulator(program: str) -> str:
 
 ACCUMULATOR_WORDS = [
     "A blue bar has the bits of the product of vs and vt, a light bar copies of its sign. Grey is 0.",
-    "VMULF and VMULU add 1 at the dot, to round. VMACF to VMADH add the product to what is there.",
+    "At the dot VMULF and VMULU add 1, to round. VMACF to VMADH add the product alone to what is there.",
     "What is empty is kept, but for carries of what is added.",
 ]
 
@@ -345,6 +345,7 @@ def product_parts(name: str, it: Product, y: int) -> Parts:
     if it.rounding:
         x = bit_x(it.rounding.bit_length() - 1) + CELL / 2
         parts.append(f"<circle cx='{x:g}' cy='{y + 11}' r='4' fill='{svg.DARK}'/>")
+        parts.append(svg.text(x + 10, y + 15, f"{name.upper()} adds 1", "left on"))
     return parts
 
 
@@ -459,7 +460,7 @@ def clamp_of(value: int, results: List[str]) -> int:
 
 
 def users_of_clamps(program: str, results: Dict[str, List[str]]) -> Dict[str, List[str]]:
-    """Which multiplies use each clamp: the one that gives all their results, on operands that look random
+    """Which instructions use each clamp: the one that gives all their results, on operands that look random
     and on the greatest."""
     chance = random.Random(3)
     ends = [32767, 32768, 65535, 1]
@@ -468,7 +469,7 @@ def users_of_clamps(program: str, results: Dict[str, List[str]]) -> Dict[str, Li
     starts = [
         [chance.randrange(-(2**47), 2**47) >> chance.randrange(32) for _ in range(8)] for _ in states
     ]
-    names, trials = [*ADDERS, *ADDERS.values()], list(zip(states, starts))
+    names, trials = [*ADDERS, *ADDERS.values(), "vrndp", "vrndn"], list(zip(states, starts))
     looks = iter(
         after(program, [case(name, a, b, accumulators=it) for name in names for (a, b), it in trials])
     )
