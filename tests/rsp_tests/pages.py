@@ -7,8 +7,8 @@ It fails if a page, a table or a link says what the program or the repository do
   docs/data/commands.tsv       each command's sample, and how many lines it is answered with
   docs/data/faults.tsv         each fault is what its example ends with; with `$ ` the example is a command
   of the shell
-  docs/data/syntax.tsv         what the assembler takes and refuses of other assemblers' syntax, which
-  ASSEMBLY names
+  docs/data/syntax.tsv         what the assembler takes and refuses of other assemblers' syntax, and what
+  word it makes of a line that means something else; ASSEMBLY names each
   README, ASSEMBLY, COOKBOOK, TUTORIAL, SCRIPT   blocks and cells with commands, and what they are answered
   with
   docs/READING.md              each block, that it is in the source that the page names last before it
@@ -151,9 +151,6 @@ def example_cases(program: str) -> Iterator[Case]:
     page_of_texts = "docs/ASSEMBLY.md"
     sums = listing(program, block_with(page_of_texts, "# the sum of 1 to 10"), "0")
     yield answered("ASSEMBLY.md, a listing", sums, block_with(page_of_texts, "000 2401000a"))
-    last = listing(program, block_with(page_of_texts, "start:  j"), "0x080").split("\n")[-2].split()[1]
-    is_said = f"the last word is {last}." in page(page_of_texts)
-    yield "ASSEMBLY.md, a label's address", unless(is_said, f"the program says {last}")
     text = page("docs/COOKBOOK.md")
     idioms = text[text.index("## Idioms") : text.index("## Macros")]
     found = [it for it in blocks("docs/COOKBOOK.md") if it.split("\n")[0] in idioms]
@@ -242,15 +239,27 @@ def fault_cases(program: str) -> Iterator[Case]:
     yield "FAULTS.md, the messages", lost or unless(len(messages) > 9, "the program's aren't found")
 
 
+def statements_of(cell: str) -> List[str]:
+    """The statements in a cell of ASSEMBLY.md: a name, and operands."""
+    return [it for it in re.findall(r"`([^`]*)`", cell) if re.match(r"(?!rsp )[.\w]+ \S", it)]
+
+
 def syntax_cases(program: str) -> Iterator[Case]:
-    """What ASSEMBLY.md says of other assemblers' syntax: theirs is refused, its own is not."""
-    text = page("docs/ASSEMBLY.md")
-    table = text[text.index("## Coming from another assembler") :]
+    """What ASSEMBLY.md says of other assemblers' syntax: theirs is refused, or is another word; its own is
+    taken."""
+    heading = "## Coming from another assembler"
+    table = page("docs/ASSEMBLY.md").partition(heading)[2]
     for it in data("syntax"):
-        told = replies(program, f"asm 0\nx: {it['Line']}\nend\n")
+        told = replies(program, f"asm 0\nx: {it['Line']}\nend\ndis 0 1\n")
         wrong = unless(f"`{it['Line']}`" in table, "ASSEMBLY.md hasn't it")
-        is_told = told.startswith(it["Answer"])
+        is_told = told.startswith(it["Answer"]) and (it["Word"] == "-" or f"\n000 {it['Word']} " in told)
         yield f"syntax.tsv `{it['Line']}`", wrong + unless(is_told, f"the program says {told!r}")
+    for cells in tables("docs/ASSEMBLY.md", heading):
+        theirs, own = (statements_of(cells[i]) for i in (0, -1))
+        for line in own + theirs * (len(cells) == 2):
+            told = replies(program, f"asm 0\nx: {line}\nend\n")
+            is_told = told.startswith("ok" if line in own else "fault")
+            yield f"ASSEMBLY.md `{line}`", unless(is_told, f"the program says {told!r}")
 
 
 def help_cases(program: str) -> Iterator[Case]:

@@ -8,6 +8,7 @@ else.
   test
                       computes from the words, and the text assembles to the same words, also after lines are
                       put in
+  docs/ASSEMBLY.md    its command on code that was linked elsewhere, which then keeps its labels, too
   rsp asm --explain   texts that are refused, each with its operand and with what docs/ASSEMBLY.md allows
   there
   docs/MACHINE.md, docs/SCRIPT.md, microcode/README.md   an image of a task, code and data as an image, a
@@ -70,7 +71,10 @@ class Files:
     def words_of(self, lines: Sequence[str], *options: str) -> List[int]:
         (self.folder / "text").write_text("".join(f"{line}\n" for line in lines))
         self.ran("asm", "text", "made", *options)
-        made = (self.folder / "made").read_bytes()
+        return self.words_in("made")
+
+    def words_in(self, name: str) -> List[int]:
+        made = (self.folder / name).read_bytes()
         return [int.from_bytes(made[i : i + 4], "big") for i in range(0, len(made), 4)]
 
 
@@ -172,22 +176,43 @@ SUM = """
 WITH_SLOT = ("j", "jal", "jr", "bne")
 
 
+def edited_cases(files: Files, words: Sequence[int], at: int, choose: random.Random) -> Iterator[Case]:
+    """With lines put in anywhere, the words of SUM, disassembled with labels, do what they did."""
+    text = files.text_of(words, "--at", hex(at), "--labels")
+    for _ in range(5):
+        edited = list(text)
+        for _ in range(choose.randrange(1, 8)):
+            behind = [i for i in range(2, len(edited) + 1) if edited[i - 1].split()[0] not in WITH_SLOT]
+            edited.insert(choose.choice([0, 1, *behind]), "nop")
+        script = [f"asm {at}", *edited, "end", f"pc {at}", "run 1000", "regs"]
+        told = replies(files.program, "\n".join(script))
+        sum_of = re.search(r"(?m)^r00 \S+ \S+ (\S+)", told)
+        is_right = sum_of and int(sum_of[1], 16) == 55 and "stop Halted" in told
+        yield f"lines put in at {at:03x}", unless(is_right, f"{edited}: {told!r}")
+
+
 def insertion_cases(files: Files) -> Iterator[Case]:
-    """With lines put in anywhere, code that was disassembled with labels does what it did."""
+    """With lines put in, code that was disassembled with labels does what it did."""
     choose = random.Random(3)
     for at in (0, 0x80, 4092 - 4 * len(SUM) - 80):
+        yield from edited_cases(files, files.words_of(SUM, "--at", hex(at)), at, choose)
+
+
+def linked_cases(files: Files) -> Iterator[Case]:
+    """The same of code that was linked elsewhere, with its jumps cleared as ASSEMBLY.md does it."""
+    choose = random.Random(4)
+    for base, at in ((0x1000, 0x080), (0x04001000, 0xC80), (0x0FFFF000, 0x400)):
         words = files.words_of(SUM, "--at", hex(at))
-        text = files.text_of(words, "--at", hex(at), "--labels")
-        for _ in range(5):
-            edited = list(text)
-            for _ in range(choose.randrange(1, 8)):
-                behind = [i for i in range(2, len(edited) + 1) if edited[i - 1].split()[0] not in WITH_SLOT]
-                edited.insert(choose.choice([0, 1, *behind]), "nop")
-            script = [f"asm {at}", *edited, "end", f"pc {at}", "run 1000", "regs"]
-            told = replies(files.program, "\n".join(script))
-            sum_of = re.search(r"(?m)^r00 \S+ \S+ (\S+)", told)
-            is_right = sum_of and int(sum_of[1], 16) == 55 and "stop Halted" in told
-            yield f"lines put in at {at:03x}", unless(is_right, f"{edited}: {told!r}")
+        linked = [word | base >> 2 if word >> 26 in (2, 3) else word for word in words]
+        texts = [line for line in files.text_of(linked, "--at", hex(at), "--labels") if line[0] != "L"]
+        kept = [texts[i] == f".word {word:#010x}" for i, word in enumerate(linked) if word != words[i]]
+        yield f"jumps linked from {base:#x} on", unless(kept == [True, True], f"they are {texts}")
+        (files.folder / "linked.bin").write_bytes(packed(linked))
+        command = block_with("docs/ASSEMBLY.md", "python3 -c 'code")
+        subprocess.run(["sh", "-c", command], cwd=files.folder, check=True)
+        cleared = files.words_in("ucode.bin")
+        yield "the same, cleared", unless(cleared == words, f"they are {packed(cleared).hex()}")
+        yield from edited_cases(files, cleared, at, choose)
 
 
 # A line that is refused, the fault, the number and text of its operand, and what may be there, as
@@ -386,7 +411,7 @@ def taken_cases(files: Files) -> Iterator[Case]:
     yield "a register kept in DMEM", unless(is_kept, f"the program says {told!r}")
 
 
-GROUPS = (label_cases, insertion_cases, explanation_cases, page_cases, refusal_cases, task_cases, image_cases)
+GROUPS = (label_cases, insertion_cases, linked_cases, explanation_cases, page_cases, refusal_cases)
 
 
 def main() -> None:
@@ -395,7 +420,7 @@ def main() -> None:
     program = words.parse_args().program
     with tempfile.TemporaryDirectory() as folder:
         files = Files(program, folder)
-        for group in (*GROUPS, taken_cases):
+        for group in (*GROUPS, task_cases, image_cases, taken_cases):
             report.see_all(group(files))
     sys.exit(report.end())
 

@@ -103,6 +103,13 @@ WAYS = (
         "rsp asm ucode.s ucode.bin --at 0x080",
         prints="ok 4 words\nori $1, $0, 0x0003\nL084:\nbne $1, $0, L084\naddiu $1, $1, -1\nbreak",
     ),
+    Way(
+        "docs/ASSEMBLY.md",
+        "python3 -c",
+        first=r"printf '\015\000\004\041\000\000\000\015' > linked.bin",
+        then="od -An -v -tx1 ucode.bin | tr -d ' '",
+        prints="0c0000210000000d",
+    ),
     Way(CAMPAIGN, "apt-get ", left_out="it needs root and a network"),
     Way(
         CAMPAIGN,
