@@ -23,6 +23,7 @@ STRICT = ("-std=gnu11", "-O2", "-Wall", "-Wextra", "-Wconversion", "-Werror", "-
 FOLDERS = ("-Ilibrary/c", "-Iplugin", "-Iconformance/campaigns", f"-I{HEADERS}")
 # What the scripts that compile these files define: a planted fault, and words of microcode.
 DEFINED = ("-DFAULT=1", "-DSETTING=0", "-DSAVING=0", "-DLOADING=0")
+CLANG_WASM = ("--target=wasm64", "-mbulk-memory", "-ffreestanding", "-fno-builtin")
 CLANG_MIPS = ("--target=mips-linux-gnu", "-ffreestanding")
 FRONT = "tests/plugin/front.c"  # it needs the headers of mupen64plus
 ROM = "tests/plugin/rom/cpu.c"  # it is compiled for the VR4300
@@ -60,6 +61,8 @@ def see_c(report: Report, files: List[str], folder: Path) -> None:
             command: Tuple[str, ...] = (compiler,)
             if name == ROM:
                 command = ("mips-linux-gnu-gcc", *MIPS) if compiler == "gcc" else (compiler, *CLANG_MIPS)
+            if name.endswith("_wasm.c"):  # gcc has no such target
+                command = ("clang", *CLANG_WASM)
             needed = (HEADERS,) if name == FRONT else ()
             if not is_left_out(f"{name} by {compiler}", command[0], *needed):
                 words = (*STRICT, *FOLDERS, *DEFINED, name, "-o", folder / "out.s")

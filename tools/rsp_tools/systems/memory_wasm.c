@@ -1,0 +1,34 @@
+/* Where allocator.c has its memory in WebAssembly, and three functions that the library calls. */
+typedef __SIZE_TYPE__ size;
+
+enum { PAGE = 65536, UNIT = 16, LEAST = 64 };
+
+/* The linker's: the end of stack and data, and that of the memory at the start. */
+extern char __heap_base, __heap_end;
+
+char *heap_more(size len, size *got);
+void *memcpy(void *to, const void *from, size len);
+void *memmove(void *to, const void *from, size len);
+void *memset(void *to, int byte, size len);
+
+/* At first what the memory has after the data. Others may have grown it before. */
+char *heap_more(size len, size *got)
+{
+    static int is_begun;
+    size first = ((size)&__heap_base + UNIT - 1) & ~(size)(UNIT - 1), end = (size)&__heap_end;
+    size pages = len / PAGE + (len % PAGE != 0);
+    if (!is_begun && end - first >= LEAST) {
+        is_begun = 1;
+        *got = end - first;
+        return (char *)first;
+    }
+    first = __builtin_wasm_memory_grow(0, pages);
+    *got = pages * PAGE;
+    return first == ~(size)0 ? 0 : (char *)(first * PAGE);
+}
+
+void *memcpy(void *to, const void *from, size len) { return __builtin_memcpy(to, from, len); }
+
+void *memmove(void *to, const void *from, size len) { return __builtin_memmove(to, from, len); }
+
+void *memset(void *to, int byte, size len) { return __builtin_memset(to, byte, len); }
