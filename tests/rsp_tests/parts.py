@@ -41,6 +41,7 @@ PARTS = [
     Part("bad-input", "hostile input", f"tests/part bad-input {PROGRAM}"),
     Part("failing-allocations", "failed allocations", f"tests/part failing-allocations {PROGRAM}", "cc"),
     Part("embedding-c", "library in C", "tests/part embedding c", LIBRARY),
+    Part("embedding-javascript", "library in JavaScript", "tests/part embedding javascript", LIBRARY),
     Part("embedding-c++", "library in C++", "tests/part embedding c++", f"{LIBRARY} c++"),
     Part("library-vectors", "vectors on the library", "conformance/library", LIBRARY),
     Part("differences", "differences of z64", "conformance/differences"),

@@ -24,6 +24,8 @@ PACKAGES = {
     "pip": "python3-pip",
     "dot": "graphviz",
     "Xvfb": "xvfb",
+    "node": "nodejs",
+    "tsc": "node-typescript",
 }
 # What is said of those that Debian hasn't.
 OTHERS = {

@@ -1,4 +1,5 @@
-"""tests/part embedding [LANGUAGE..]: the library from C, C++, Python and Rust, and in C under valgrind.
+"""tests/part embedding [LANGUAGE..]: the library from C, C++, Python and Rust, in C under valgrind,
+and what JavaScript has beside it.
 
 It fails if a call, a layout, a number or a name of library/ differs from crates/rsp_c, or a program over the
 library does something else than docs/EMBEDDING.md and its header say.
@@ -9,6 +10,7 @@ library does something else than docs/EMBEDDING.md and its header say.
     (no_memory.c); a machine that goes from thread to thread, in C under -fsanitize=thread.
   - Lock step beside an emulator with a planted fault, the same in three languages, and the first difference.
   - In Python also traces, states, messages and shown forms; types by mypy; an editable install.
+  - The numbers, layouts and declarations of JavaScript; `tests/part systems wasm64` runs it.
 """
 
 import re
@@ -23,7 +25,7 @@ from rsp_tests.common.pages import block_with, page
 from rsp_tests.common.processes import lacking, run
 from rsp_tests.common.report import Report, leave_out
 from rsp_tests.common.workshop import LIBRARY, STRICT, Workshop
-from rsp_tests.embedding import python, rust, shapes
+from rsp_tests.embedding import javascript, python, rust, shapes
 
 HERE = TESTS / "embedding"
 LOCKSTEP = (TOP / "examples/c/lockstep.expected").read_text()
@@ -217,6 +219,7 @@ LANGUAGES: Dict[str, Callable[[Workshop], None]] = {
     "valgrind": test_valgrind,
     "python": python.test,
     "rust": rust.test,
+    "javascript": javascript.test,
 }
 
 

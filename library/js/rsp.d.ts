@@ -1,0 +1,367 @@
+/** The Nintendo 64's Reality Signal Processor (RSP): emulator, debugger, assembler and disassembler, proved to follow
+ * the instruction table.
+ *
+ *     import { IMEM, Reason, Rsp, assemble } from "rsp";
+ *
+ *     const machine = new Rsp(new Uint8Array(64), 100);
+ *     machine.load_words(IMEM, 0, assemble("ori $2, $0, 0x1234\nbreak\n"));
+ *     const stop = machine.run(100);
+ *     console.log(Reason[stop.reason], machine.reg(2).toString(16));
+ *     machine.free();
+ *
+ * The names are those of the Python module. Numbers are integers; a number that isn't one is a TypeError, and one that
+ * a call doesn't take an RspError. */
+
+declare global {
+  interface SymbolConstructor {
+    readonly dispose: unique symbol;
+  }
+}
+
+/** What a call returns. The numbers are not those of faults: docs/FAULTS.md has both. */
+export enum Status {
+  OK = 0,
+  NO_MACHINE = 1,
+  NO_MEMORY = 2,
+  OUT_OF_RANGE = 3,
+  HALTED = 4,
+  RESERVED = 5,
+  NO_MEANING = 6,
+  TASK_PLACE = 7,
+  TASK_SIZE = 8,
+  BREAK_FULL = 9,
+  BREAK_TWICE = 10,
+  NO_BREAK = 11,
+  WATCH_FULL = 12,
+  NO_WATCH = 13,
+  SHORT_HISTORY = 14,
+  NO_ROOM = 15,
+}
+
+/** The three memories. */
+export enum Bank {
+  DMEM = 0,
+  IMEM = 1,
+  RDRAM = 2,
+}
+
+/** Why a run stopped. */
+export enum Reason {
+  RESERVED = 0,
+  HALT = 1,
+  WATCH = 2,
+  BREAK = 3,
+  LIMIT = 4,
+  MOVE = 5,
+}
+
+export const DMEM: Bank.DMEM;
+export const IMEM: Bank.IMEM;
+export const RDRAM: Bank.RDRAM;
+
+/** The version of the library's interface. */
+export const VERSION: 1;
+
+/** The names of the faults of a text, by their numbers. */
+export const FAULTS: { readonly [fault: number]: string };
+
+/** A call was refused, and has changed nothing. `status` says why by its number, the message in words. */
+export class RspError extends Error {
+  constructor(status: Status, message?: string);
+  readonly status: Status;
+}
+
+/** A text has a fault. `line` counts from 1, `source` is that line, and `fault` is a number from 10 to 16, in FAULTS
+ * with its name. `allowed` says which operand is at fault and what it may be, if one is. */
+export class AssemblyError extends RspError {
+  constructor(line: number, fault: number, source?: string, allowed?: string);
+  readonly line: number;
+  readonly fault: number;
+  readonly source: string;
+  readonly allowed: string;
+}
+
+/** A part that differs: its name, such as `$3`, its value, the other's value, and how many hexadecimal digits it has.
+ * The values of quadwords of memories are BigInts. */
+export class Part {
+  readonly name: string;
+  readonly value: number | bigint;
+  readonly other: number | bigint;
+  readonly digits: number;
+  /** The sentence `$3 is fffffff0 HERE and 3ffffff0 THERE`. */
+  told(here: string, there: string): string;
+  toString(): string;
+}
+
+/** The parts that differ, in the bench's order. */
+export class Difference extends Array<Part> {
+  /** A line for each part, such as `$3 is fffffff0 on the machine and 3ffffff0 in the emulator`. */
+  told(here: string, there: string): string;
+  toString(): string;
+}
+
+/** A struct of numbers over bytes of its own. An array of it is a typed array over them, which cuts what it is given;
+ * a field that is set as a whole is checked. */
+declare class Plain {
+  /** The bytes of the struct, as rsp.h lays it out. */
+  readonly bytes: Uint8Array;
+  /** Whether all numbers are equal. */
+  equals(other: this): boolean;
+  /** The parts in which they differ. TypeError if the other is another struct. */
+  diff(other: this): Difference;
+  /** The lines that the bench shows. */
+  toString(): string;
+}
+
+/** The scalar registers, and the addresses pc and npc, multiples of 4 below 4096. */
+export class Scalars extends Plain {
+  constructor(fields?: Partial<Pick<Scalars, "words" | "pc" | "npc">>);
+  static from(bytes: Uint8Array): Scalars;
+  copy(): Scalars;
+  words: Uint32Array;
+  pc: number;
+  npc: number;
+}
+
+/** Bits 47 to 32, 31 to 16 and 15 to 0 of the eight accumulators. */
+export class Accumulators extends Plain {
+  constructor(fields?: Partial<Pick<Accumulators, "high" | "middle" | "low">>);
+  static from(bytes: Uint8Array): Accumulators;
+  copy(): Accumulators;
+  high: Uint16Array;
+  middle: Uint16Array;
+  low: Uint16Array;
+}
+
+/** Flags below 256, bit i for lane i. VCO is `carry` in bits 0 to 7 and `differ` (not-equal) in 8 to 15, VCC `compare`
+ * and `clip`, VCE `extra`. */
+export class Flags extends Plain {
+  constructor(fields?: Partial<Pick<Flags, "carry" | "differ" | "compare" | "clip" | "extra">>);
+  static from(bytes: Uint8Array): Flags;
+  copy(): Flags;
+  carry: number;
+  differ: number;
+  compare: number;
+  clip: number;
+  extra: number;
+}
+
+/** What the divide instructions keep: DIV_IN and DIV_OUT, and 1 or 0, if DIV_IN is loaded. */
+export class Divider extends Plain {
+  constructor(fields?: Partial<Pick<Divider, "input" | "output" | "loaded">>);
+  static from(bytes: Uint8Array): Divider;
+  copy(): Divider;
+  input: number;
+  output: number;
+  loaded: number;
+}
+
+/** The sixteen SP registers as `peek` gives them, and 1 if the interrupt flag is set, else 0. */
+export class SpWords extends Plain {
+  constructor(fields?: Partial<Pick<SpWords, "words" | "interrupt">>);
+  static from(bytes: Uint8Array): SpWords;
+  copy(): SpWords;
+  words: Uint32Array;
+  interrupt: number;
+}
+
+/** An entry of a trace: the `word` at `pc` that a step executed, and what it wrote.
+ *
+ * `scalar` is the number of the scalar register, 0 if it wrote none, and `value` what that holds after the step;
+ * `vector` is the number of the vector register (of LTV the first of its group), 32 if it wrote none, and `lanes` what
+ * that holds. `vco`, `vcc` and `vce` are the flags after the step. A store has `stored` 1 and its `address` in DMEM.
+ * What there isn't is 0. */
+export class Traced extends Plain {
+  static from(bytes: Uint8Array): Traced;
+  copy(): Traced;
+  readonly word: number;
+  readonly value: number;
+  readonly pc: number;
+  readonly address: number;
+  readonly vco: number;
+  readonly vcc: number;
+  readonly vce: number;
+  readonly scalar: number;
+  readonly vector: number;
+  readonly stored: number;
+  readonly lanes: Uint16Array;
+}
+
+/** All registers. `new State()` is that of a new machine, and fields that are given are set in it; npc is 4 after pc if
+ * it isn't given. `vectors[n][lane]` has lane 0 first, and `words[0]` is 0. */
+export class State extends Plain {
+  constructor(fields?: Partial<Omit<State, keyof Plain | "copy">>);
+  static from(bytes: Uint8Array): State;
+  copy(): State;
+  words: Uint32Array;
+  vectors: readonly Uint16Array[];
+  accumulators: Accumulators;
+  flags: Flags;
+  divider: Divider;
+  pc: number;
+  npc: number;
+  sp: Uint32Array;
+  interrupt: number;
+}
+
+/** A move of SP register `number`: its `word`, whether it `writes` (MTC0), and the `value` of its scalar register. */
+export interface Move {
+  word: number;
+  number: number;
+  writes: boolean;
+  value: number;
+}
+
+/** Where a run stopped: `watch` is the number of the watch at which it did, `word` the reserved word, `move` the move
+ * before which `run_until_move` did. Each is null otherwise. */
+export interface Stop {
+  reason: Reason;
+  steps: number;
+  pc: number;
+  watch: number | null;
+  word: number | null;
+  move: Move | null;
+}
+
+/** A word of IMEM with its address and its disassembly. */
+export interface Line {
+  place: number;
+  word: number;
+  text: string;
+}
+
+/** The words of a text, at most 1024, the first one for the address `origin`, a multiple of 4 up to 4096.
+ * AssemblyError if the text has a fault. */
+export function assemble(text: string, origin?: number): Uint32Array;
+
+/** The disassembly of a word for the address `place`, a multiple of 4 below 4096. */
+export function text(word: number, place?: number): string;
+
+/** The first field for which `Rsp.set` refuses a state, else null. */
+export function state_fault(state: State): string | null;
+
+/** A machine with a copy of an image of RDRAM and a history of `depth` states, at most 4096.
+ *
+ * The image has 64 to 8388608 bytes, a multiple of 8. A machine that is dropped is freed in time; `free` does it at
+ * once, and so does the end of a block that declares it with `using`. */
+export class Rsp {
+  constructor(image?: ArrayBuffer | ArrayBufferView, depth?: number);
+  /** How many bytes the image has. */
+  readonly image_length: number;
+  /** A second machine in the same state, memories included, with as long a history, which is empty, and without
+   * breakpoints and watches. */
+  copy(): Rsp;
+  /** Frees the machine. Any later call is refused with NO_MACHINE. */
+  free(): void;
+  [Symbol.dispose](): void;
+  /** All registers, a copy. */
+  get(): State;
+  /** Sets all registers, and empties the history. The memories stay. OUT_OF_RANGE for a state that no machine can
+   * have. */
+  set(state: State): void;
+  /** Writes bytes to a memory, and empties the history. Words go in as their bytes are in this computer. */
+  load(bank: Bank, address: number, data: ArrayBuffer | ArrayBufferView): void;
+  /** Writes at most 1024 words, the high byte of each first, and empties the history. */
+  load_words(bank: Bank, address: number, words: Iterable<number>): void;
+  /** A copy of bytes of a memory: DMEM and IMEM have 4096, RDRAM as many as the image. */
+  memory(bank: Bank, address: number, length: number): Uint8Array;
+  /** A copy of words of a memory, the high byte of each first. */
+  memory_words(bank: Bank, address: number, count: number): Uint32Array;
+  /** Starts the task whose structure of 64 bytes is at an address of RDRAM, a multiple of 8, and empties the
+   * history. */
+  start_task(address: number): void;
+  /** Goes on at an address of IMEM, a multiple of 4 below 4096, and empties the history. */
+  set_pc(pc: number): void;
+  /** Executes one instruction. OK, or HALTED or RESERVED if the machine can't. */
+  step(): Status.OK | Status.HALTED | Status.RESERVED;
+  /** Makes 1 to 1000000 steps, up to the first reason to stop. */
+  run(steps: number): Stop;
+  /** As `run`, and also stops before an MFC0 whose SP register has its bit in `reads`, or an MTC0 whose register has
+   * it in `writes`. It stops there before the first step too. `pass_move` goes past it, and `step` executes it. */
+  run_until_move(steps: number, reads: number, writes: number): Stop;
+  /** As `run`, with an entry for each step that it made. */
+  trace(steps: number): [Stop, Traced[]];
+  /** The entries of a trace one by one, up to a stop or `limit` steps. The machine makes up to 1024 steps ahead of
+   * them. */
+  iter_trace(limit?: number): Generator<Traced, void, undefined>;
+  /** Undoes 1 to 1000000 steps. SHORT_HISTORY if the history holds fewer. */
+  back(states: number): void;
+  /** Goes past the MFC0 or MTC0 at pc without its meaning: register rt of an MFC0 becomes the value. It empties the
+   * history. OK, or HALTED if the machine is halted. Of any other word it is refused. */
+  pass_move(value?: number): Status.OK | Status.HALTED;
+  /** Sets a breakpoint at an address of IMEM, a multiple of 4 below 4096; at most sixteen. */
+  add_break(place: number): void;
+  /** Removes the breakpoint at an address. */
+  drop_break(place: number): void;
+  /** Watches 1 to 64 bytes of DMEM, and returns the watch's number, 0 to 7. */
+  add_watch(address: number, length: number): number;
+  /** Removes a watch. */
+  drop_watch(number: number): void;
+  /** Scalar register `number`, 0 to 31. */
+  reg(number: number): number;
+  /** pc, npc and the scalar registers. */
+  regs(): Scalars;
+  /** The eight lanes of vector register `number`, 0 to 31. */
+  vreg(number: number): Uint16Array;
+  /** The accumulators. */
+  acc(): Accumulators;
+  /** The flags. */
+  flags(): Flags;
+  /** DIV_IN, DIV_OUT, and whether DIV_IN is loaded. */
+  divider(): Divider;
+  /** Reads SP register `number`, modulo 16, as the CPU does: a read of the semaphore, 7, takes it and empties the
+   * history. */
+  read(number: number): number;
+  /** The word that a read of SP register `number`, modulo 16, would give. */
+  peek(number: number): number;
+  /** Writes SP register `number`, modulo 16, as the CPU does, with its DMA, and empties the history. */
+  write(number: number, value: number): void;
+  /** All SP registers, with the interrupt flag. */
+  sp(): SpWords;
+  /** Sets all SP registers and the interrupt flag, without a DMA, and empties the history. */
+  set_sp(given: SpWords): void;
+  /** At most 1024 words of IMEM from the address `place` on, a multiple of 4, with their disassembly. */
+  listing(place: number, count: number): Line[];
+}
+
+/** What `first_difference` calls of an emulator. A machine has all of it, so a second machine can be the emulator. */
+export interface Emulator {
+  /** Makes this many steps. The machine has made as many, so it isn't halted before any, and no word is reserved. BREAK
+   * is a step: it sets bits 0 and 1 of SP_STATUS, `sp[4]`. */
+  run(steps: number): unknown;
+  /** All registers; those that the emulator doesn't have as `set` gave them. The state is copied. */
+  get(): State;
+  /** Sets all registers. The state is the emulator's own. */
+  set(state: State): unknown;
+  /** Bytes of DMEM, IMEM or RDRAM, which have 4096, 4096 and the machine's `image_length`. */
+  memory(bank: Bank, address: number, length: number): Uint8Array;
+  /** Writes bytes to a memory. */
+  load(bank: Bank, address: number, data: Uint8Array): unknown;
+}
+
+/** A step after which they differ: its number, from 1; its instruction, by its address `place`, `word` and `text`; and
+ * the state `before` it.
+ *
+ * `parts` has what differs after it, the machine's value first: registers, then quadwords of memories, such as
+ * `DMEM 3f0`. Step 0 says that they differ before the first step: the emulator hasn't kept what `set` and `load` gave
+ * it. If `steps` isn't 1, that many steps up to `step` differ together, the first of them at `place`, and none does
+ * alone: the emulator has a state that `get` and `set` don't carry. */
+export interface FirstDifference extends Line {
+  step: number;
+  before: State;
+  parts: Difference;
+  steps: number;
+  toString(): string;
+}
+
+/** The first step after which an emulator differs from the machine; null if there is none in `limit` steps, or up to a
+ * halt or a reserved word.
+ *
+ * After null, `machine.step()` says which: it answers HALTED or RESERVED unless the limit ended it. Breakpoints and
+ * watches don't end it. The emulator is first given the machine's registers and memories. Then both run in stretches of
+ * at most `every` steps, 1 to 1000000, that end before a DMA. After each, all registers, DMEM and IMEM are compared,
+ * and after a DMA RDRAM too. If they differ, both go back to the last comparison and are stepped; they stay after the
+ * step that differs, and the machine's history is empty. RangeError if the emulator's memory has a wrong length. */
+export function first_difference(
+  machine: Rsp, emulator: Emulator, every?: number, limit?: number,
+): FirstDifference | null;

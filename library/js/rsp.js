@@ -1,0 +1,357 @@
+/** The Nintendo 64's Reality Signal Processor (RSP): emulator, debugger, assembler and disassembler, proved to follow
+ * the instruction table. docs/EMBEDDING.md shows how it is used, rsp.d.ts has each call. */
+
+import { Accumulators, Bank, Divider, FAULTS, FIELDS, Flags, Reason, Scalars, SpWords, State, Status, Traced, layout, read }
+  from "./shapes.js";
+import { AssemblyError, RspError, allowed, bytes_of, numbers, refusal, state_refusal, words_of } from "./words.js";
+
+export { Accumulators, Bank, Difference, Divider, FAULTS, Flags, Part, Reason, Scalars, SpWords, State, Status, Traced }
+  from "./shapes.js";
+export { AssemblyError, RspError } from "./words.js";
+export { first_difference } from "./compare.js";
+
+export const { DMEM, IMEM, RDRAM } = Bank;
+export const VERSION = 1;
+
+const NEEDED = "rsp needs WebAssembly with 64-bit memories: Chrome and Edge have them since 133, Firefox since 134, "
+  + "Node since 24; Safari hasn't";
+
+/** The bytes of rsp.wasm, beside this file: from the disk in Node, else as it is served. */
+async function compiled() {
+  const url = new URL("./rsp.wasm", import.meta.url);
+  const files = url.protocol === "file:" && globalThis.process?.getBuiltinModule?.("node:fs");
+  if (files) return files.readFileSync(url);
+  const answer = await fetch(url);
+  if (!answer.ok) throw new Error(`rsp.wasm isn't served: ${answer.status} ${answer.statusText}`);
+  return answer.arrayBuffer();
+}
+
+/** The calls of rsp.h. */
+async function instantiated() {
+  const bytes = await compiled();
+  try {
+    return (await WebAssembly.instantiate(bytes, {})).instance.exports;
+  } catch (cause) {
+    throw new Error(NEEDED, { cause });
+  }
+}
+
+const wasm = await instantiated();
+if (wasm.rsp_version() !== VERSION) {
+  throw new Error(`rsp.wasm has version ${wasm.rsp_version()} of the interface, and this module is for ${VERSION}`);
+}
+
+/** Addresses are BigInts for the calls. What a call fills or is given, up to ROOM bytes, is at HERE. */
+const ROOM = 1024, HERE = wasm.malloc(BigInt(ROOM)), CELL = 8n, NOTHING = cell("rsp");
+
+/** The bytes of the library's memory at an address; only until the next call. */
+function bytes_at(at, length) { return new Uint8Array(wasm.memory.buffer, Number(at), length); }
+
+function copied(at, length) { return bytes_at(at, length).slice(); }
+
+function ok(status, call, given) {
+  if (status !== Status.OK) throw refusal(status, call, given);
+}
+
+/** So many new bytes of the library's memory. */
+function taken(call, length) {
+  const at = wasm.malloc(BigInt(length));
+  if (!at) throw refusal(Status.NO_MEMORY, call);
+  return at;
+}
+
+/** A handle without a machine. */
+function cell(call) {
+  const at = taken(call, Number(CELL));
+  bytes_at(at, Number(CELL)).fill(0);
+  return at;
+}
+
+/** What `work` returns of the address of so many bytes, which are freed then. */
+function lent(call, length, work) {
+  const at = taken(call, length);
+  try {
+    return work(at);
+  } finally {
+    wasm.free(at);
+  }
+}
+
+/** The same of a copy of these bytes. */
+function given_to(call, bytes, work) {
+  return lent(call, bytes.length, (at) => {
+    bytes_at(at, bytes.length).set(bytes);
+    return work(at);
+  });
+}
+
+function release(at) {
+  wasm.rsp_free(at);
+  wasm.free(at);
+}
+
+const dropped = new FinalizationRegistry(release);
+
+/** The struct at an address. */
+function struct(kind, at = HERE) {
+  return read(kind, new DataView(wasm.memory.buffer, Number(at), layout(kind).size));
+}
+
+function stop_of({ reason, steps, pc, watch, word }) {
+  return {
+    reason, steps, pc, watch: reason === Reason.WATCH ? watch : null, word: reason === Reason.RESERVED ? word : null, move: null,
+  };
+}
+
+function bytes_of_words(words) { return new Uint8Array(words.buffer); }
+
+function text_of(bytes) { return new TextDecoder().decode(bytes); }
+
+function line_at(at) {
+  const { word, place, len } = struct("RspLine", at), text = BigInt(layout("RspLine").fields.at(-1).offset);
+  return { place, word, text: text_of(copied(at + text, len)) };
+}
+
+/** The fault of a text, which rsp_assemble has reported at HERE. */
+function assembly_error(origin, text, at, length) {
+  const { line, fault } = struct("RspAssembled");
+  const status = wasm.rsp_explain(origin, at, length, HERE);
+  const why = status === Status.OK ? allowed(struct("RspOperand"), fault) : "";
+  return new AssemblyError(line, fault, text.split("\n")[line - 1]?.trim(), why);
+}
+
+export function assemble(text, origin = 0) {
+  numbers("assemble", [origin]);
+  if (typeof text !== "string") throw new TypeError(`assemble: text is of type ${typeof text}, not a string`);
+  const raw = new TextEncoder().encode(text), length = BigInt(raw.length);
+  return given_to("assemble", raw, (at) => lent("assemble", 4096, (words) => {
+    const status = wasm.rsp_assemble(origin, at, length, words, 1024n, HERE);
+    if (status === Status.NO_MEANING) throw assembly_error(origin, text, at, length);
+    ok(status, "assemble", [origin]);
+    return new Uint32Array(copied(words, 4 * struct("RspAssembled").count).buffer);
+  }));
+}
+
+export function text(word, place = 0) {
+  numbers("text", [word, place]);
+  ok(wasm.rsp_text(word, place, HERE), "text", [word, place]);
+  return line_at(HERE).text;
+}
+
+function put_here(call, name, kind, given) {
+  if (!(given instanceof kind)) throw new TypeError(`${call}: ${name} is of type ${typeof given}, not ${kind.name}`);
+  bytes_at(HERE, kind.size).set(given.bytes);
+}
+
+export function state_fault(state) {
+  put_here("state_fault", "state", State, state);
+  const at = HERE + BigInt(State.size);
+  ok(wasm.rsp_state_fault(HERE, at), "state_fault");
+  return FIELDS[new DataView(wasm.memory.buffer).getUint32(Number(at), true)] ?? null;
+}
+
+/** What `Rsp.copy` hands to the constructor: a handle that holds a machine, and its image's length. */
+class Held {
+  constructor(at, length) { Object.assign(this, { at, length }); }
+}
+
+/** A handle with a new machine. */
+function held(image, depth) {
+  const bytes = bytes_of("Rsp", "image", image), { length } = bytes;
+  numbers("Rsp", [depth]);
+  if (length % 8 || length < 64 || length > 1 << 23) {
+    throw new RspError(Status.OUT_OF_RANGE, `Rsp: image has ${length} bytes, not a multiple of 8 from 64 to 8388608`);
+  }
+  return filled("Rsp", [depth], length, (to) =>
+    given_to("Rsp", bytes, (at) => wasm.rsp_new(to, at, BigInt(length), depth)));
+}
+
+/** A new handle in which `make` has put a machine. It is freed if that fails. */
+function filled(call, given, length, make) {
+  const at = cell(call);
+  try {
+    ok(make(at), call, given);
+  } catch (fault) {
+    release(at);
+    throw fault;
+  }
+  return new Held(at, length);
+}
+
+export class Rsp {
+  #at;
+  #length;
+
+  constructor(image = new Uint8Array(64), depth = 0) {
+    const { at, length } = image instanceof Held ? image : held(image, depth);
+    this.#at = at;
+    this.#length = length;
+    dropped.register(this, at, this);
+  }
+
+  get image_length() { return this.#length; }
+
+  copy() {
+    return new Rsp(filled("copy", [], this.#length, (to) => wasm.rsp_copy(to, this.#at)));
+  }
+
+  free() {
+    if (this.#at === NOTHING) return;
+    dropped.unregister(this);
+    release(this.#at);
+    this.#at = NOTHING;
+  }
+
+  [Symbol.dispose ?? Symbol.for("Symbol.dispose")]() { this.free(); }
+
+  /** A call with numbers alone. */
+  #call(call, given, name = call) {
+    ok(wasm[`rsp_${name}`](this.#at, ...numbers(call, given)), call, given);
+  }
+
+  /** A call that fills what is at HERE. */
+  #fill(call, given, name = call) {
+    ok(wasm[`rsp_${name}`](this.#at, ...numbers(call, given), HERE), call, given);
+  }
+
+  #word(call, given) {
+    this.#fill(call, given);
+    return new DataView(wasm.memory.buffer).getUint32(Number(HERE), true);
+  }
+
+  #registers(kind, call) {
+    this.#fill(call, []);
+    return kind.over(copied(HERE, kind.size));
+  }
+
+  get() { return this.#registers(State, "get"); }
+
+  set(state) {
+    put_here("set", "state", State, state);
+    const status = wasm.rsp_set(this.#at, HERE);
+    if (status === Status.OUT_OF_RANGE) throw new RspError(status, `set: ${state_refusal(state_fault(state), state)}`);
+    ok(status, "set");
+  }
+
+  load(bank, address, data) {
+    const given = numbers("load", [bank, address]), bytes = bytes_of("load", "data", data);
+    given_to("load", bytes, (at) => ok(wasm.rsp_load(this.#at, ...given, at, BigInt(bytes.length)), "load", given));
+  }
+
+  load_words(bank, address, words) {
+    const given = numbers("load_words", [bank, address]), items = words_of("load_words", words);
+    given_to("load_words", bytes_of_words(items), (at) =>
+      ok(wasm.rsp_load_words(this.#at, ...given, at, BigInt(items.length)), "load_words", given));
+  }
+
+  /** So many items of a memory, each of `size` bytes, by a call of the library. */
+  #memory(call, given, size, most) {
+    const [bank, address, count] = numbers(call, given, most);
+    return lent(call, size * count, (at) => {
+      ok(wasm[`rsp_${call}`](this.#at, bank, address, at, BigInt(count)), call, given);
+      return copied(at, size * count);
+    });
+  }
+
+  memory(bank, address, length) { return this.#memory("memory", [bank, address, length], 1, 1 << 23); }
+
+  memory_words(bank, address, count) {
+    return new Uint32Array(this.#memory("memory_words", [bank, address, count], 4, 1 << 21).buffer);
+  }
+
+  start_task(address) { this.#call("start_task", [address], "task"); }
+
+  set_pc(pc) { this.#call("set_pc", [pc]); }
+
+  step() {
+    const status = wasm.rsp_step(this.#at);
+    if (status !== Status.HALTED && status !== Status.RESERVED) ok(status, "step");
+    return status;
+  }
+
+  run(steps) {
+    this.#fill("run", [steps]);
+    return stop_of(struct("RspStop"));
+  }
+
+  run_until_move(steps, reads, writes) {
+    this.#fill("run_until_move", [steps, reads, writes]);
+    const { stop, word, number, writes: is_write, value } = struct("RspMove");
+    const move = stop.reason === Reason.MOVE ? { word, number, writes: is_write !== 0, value } : null;
+    return { ...stop_of(stop), move };
+  }
+
+  trace(steps) {
+    numbers("trace", [steps], 1000000);
+    return lent("trace", steps * Traced.size, (at) => {
+      ok(wasm.rsp_trace(this.#at, at, BigInt(steps), HERE), "trace", [steps]);
+      const stop = stop_of(struct("RspStop")), bytes = copied(at, stop.steps * Traced.size);
+      const entry = (_, n) => Traced.over(bytes.subarray(n * Traced.size, (n + 1) * Traced.size));
+      return [stop, Array.from({ length: stop.steps }, entry)];
+    });
+  }
+
+  * iter_trace(limit = 1000000) {
+    let [left] = numbers("iter_trace", [limit]);
+    while (left) {
+      const [stop, entries] = this.trace(Math.min(left, 1024));
+      yield* entries;
+      left = stop.reason === Reason.LIMIT ? left - entries.length : 0;
+    }
+  }
+
+  back(states) { this.#call("back", [states]); }
+
+  pass_move(value = 0) {
+    const status = wasm.rsp_pass(this.#at, ...numbers("pass_move", [value]));
+    if (status !== Status.HALTED) ok(status, "pass_move", [value]);
+    return status;
+  }
+
+  add_break(place) { this.#call("add_break", [place]); }
+
+  drop_break(place) { this.#call("drop_break", [place]); }
+
+  add_watch(address, length) {
+    this.#fill("add_watch", [address, length]);
+    return Number(new DataView(wasm.memory.buffer).getBigUint64(Number(HERE), true));
+  }
+
+  drop_watch(number) { this.#call("drop_watch", [number]); }
+
+  reg(number) { return this.#word("reg", [number]); }
+
+  regs() { return this.#registers(Scalars, "regs"); }
+
+  vreg(number) {
+    this.#fill("vreg", [number]);
+    return new Uint16Array(copied(HERE, layout("RspLanes").size).buffer);
+  }
+
+  acc() { return this.#registers(Accumulators, "acc"); }
+
+  flags() { return this.#registers(Flags, "flags"); }
+
+  divider() { return this.#registers(Divider, "divider"); }
+
+  read(number) { return this.#word("read", [number]); }
+
+  peek(number) { return this.#word("peek", [number]); }
+
+  write(number, value) { this.#call("write", [number, value]); }
+
+  sp() { return this.#registers(SpWords, "sp"); }
+
+  set_sp(given) {
+    put_here("set_sp", "given", SpWords, given);
+    ok(wasm.rsp_set_sp(this.#at, HERE), "set_sp", []);
+  }
+
+  listing(place, count) {
+    const { size } = layout("RspLine"), given = numbers("listing", [place, count], 1024);
+    return lent("listing", size * count, (at) => {
+      ok(wasm.rsp_listing(this.#at, place, at, BigInt(count)), "listing", given);
+      return Array.from({ length: count }, (_, n) => line_at(at + BigInt(n * size)));
+    });
+  }
+}

@@ -1,0 +1,164 @@
+/** Refusals in words: what a call was given, and what it takes. */
+
+import { Bank, FAULTS, Status } from "./shapes.js";
+import { SP_NAMES } from "./shown.js";
+
+const range = (low, high, step = 1) => ({
+  has: (n) => n >= low && n <= high && (n - low) % step === 0,
+  text: step === 1 ? `${low} to ${high}` : high === 4096 ? "a multiple of 4 up to 4096" : "a multiple of 4 below 4096",
+});
+const WORD = range(0, 0xffffffff), PLACE = range(0, 4092, 4), COUNT = range(1, 1000000), MASK = range(0, 65535);
+const REGISTER = range(0, 31), BANK = { ...range(0, 2), text: "DMEM, IMEM or RDRAM" };
+
+/** The arguments of each call, in order. */
+export const ARGUMENTS = {
+  Rsp: { depth: range(0, 4096) },
+  load: { bank: BANK, address: WORD },
+  load_words: { bank: BANK, address: WORD },
+  memory: { bank: BANK, address: WORD, length: WORD },
+  memory_words: { bank: BANK, address: WORD, count: WORD },
+  start_task: { address: WORD },
+  set_pc: { pc: PLACE },
+  run: { steps: COUNT },
+  run_until_move: { steps: COUNT, reads: MASK, writes: MASK },
+  trace: { steps: COUNT },
+  iter_trace: { limit: WORD },
+  back: { states: COUNT },
+  pass_move: { value: WORD },
+  add_break: { place: PLACE },
+  drop_break: { place: PLACE },
+  add_watch: { address: range(0, 4095), length: range(1, 64) },
+  drop_watch: { number: WORD },
+  reg: { number: REGISTER },
+  vreg: { number: REGISTER },
+  read: { number: WORD },
+  peek: { number: WORD },
+  write: { number: WORD, value: WORD },
+  assemble: { origin: range(0, 4096, 4) },
+  text: { word: WORD, place: PLACE },
+  listing: { place: PLACE, count: range(0, 1024) },
+  first_difference: { every: COUNT, limit: WORD },
+};
+
+/** What is wrong if each number is in its range. */
+const TOGETHER = {
+  load: (bank, address) => `the bytes from ${address} on pass the end of ${Bank[bank]}`,
+  load_words: (bank, address) => `the words from ${address} on pass the end of ${Bank[bank]}`,
+  memory: (bank, address, length) => `${length} bytes from ${address} on pass the end of ${Bank[bank]}`,
+  memory_words: (bank, address, count) => `${count} words from ${address} on pass the end of ${Bank[bank]}`,
+  pass_move: () => "the word at pc is no MFC0 or MTC0",
+  set_sp: () => "a word can't be read from its SP register, or interrupt isn't 0 or 1",
+  listing: (place, count) => `${count} words from ${place} on pass the end of IMEM`,
+  add_watch: (address, length) => `${length} bytes from ${address} on pass the end of DMEM`,
+};
+
+/** By status, of the first number that the call was given. */
+const SENTENCES = {
+  1: () => "the machine is freed",
+  2: () => "an allocation failed",
+  7: (n) => `${n} isn't a multiple of 8, or the 64 bytes from there pass the image's end`,
+  8: (n) => `the size of the boot code, the word at offset 12 of the structure at ${n}, isn't 1 to 4096`,
+  9: () => "sixteen addresses have a breakpoint",
+  10: (n) => `${n} has a breakpoint`,
+  11: (n) => `${n} has no breakpoint`,
+  12: () => "there are eight watches",
+  13: (n) => `no watch has the number ${n}`,
+  14: (n) => `the history holds fewer states than ${n}`,
+  15: () => "the text has more than 1024 words",
+};
+
+/** A call was refused, and has changed nothing. */
+export class RspError extends Error {
+  name = "RspError";
+
+  constructor(status, message = Status[status]) {
+    super(message);
+    this.status = status;
+  }
+}
+
+/** A text has a fault. */
+export class AssemblyError extends RspError {
+  name = "AssemblyError";
+
+  constructor(line, fault, source = "", allowed = "") {
+    const words = `fault ${fault} ${FAULTS[fault] ?? "unknown"} line ${line}: ${source}`;
+    super(Status.NO_MEANING, `assemble: ${words}${allowed && `; ${allowed}`}`);
+    Object.assign(this, { line, fault, source, allowed });
+  }
+}
+
+function out_of_range(call, given) {
+  const names = Object.entries(ARGUMENTS[call] ?? {});
+  const at = names.findIndex(([, allowed], n) => n < given.length && !allowed.has(given[n]));
+  if (at >= 0) return `${names[at][0]} is ${given[at]}, not ${names[at][1].text}`;
+  return TOGETHER[call]?.(...given) ?? "a number is out of its range";
+}
+
+/** The error of a status, of a call with these numbers. */
+export function refusal(status, call, given = []) {
+  const why = status === Status.OUT_OF_RANGE ? out_of_range(call, given) : SENTENCES[status]?.(...given) ?? "refused";
+  return new RspError(status, `${call}: ${why}`);
+}
+
+/** The arguments of a call, if they are integers of 32 bits, and the last one at most `most`. */
+export function numbers(call, given, most = 0xffffffff) {
+  const names = Object.keys(ARGUMENTS[call] ?? {});
+  given.forEach((it, n) => {
+    const kind = typeof it === "number" ? String(it) : `of type ${typeof it}`;
+    if (!Number.isInteger(it)) throw new TypeError(`${call}: ${names[n]} is ${kind}, not an integer`);
+  });
+  if (given.some((it) => it < 0 || it > 0xffffffff) || given.at(-1) > most) throw refusal(Status.OUT_OF_RANGE, call, given);
+  return given;
+}
+
+/** The bytes of a buffer or of a typed array. */
+export function bytes_of(call, name, data) {
+  if (data instanceof ArrayBuffer) return new Uint8Array(data);
+  if (ArrayBuffer.isView(data)) return new Uint8Array(data.buffer, data.byteOffset, data.byteLength);
+  throw new TypeError(`${call}: ${name} is of type ${typeof data}, not a typed array or an ArrayBuffer`);
+}
+
+/** At most 1024 words from a list. */
+export function words_of(call, words) {
+  if (typeof words === "string" || typeof words?.[Symbol.iterator] !== "function") {
+    throw new TypeError(`${call}: words is of type ${typeof words}, not a list of integers`);
+  }
+  const items = [...words];
+  items.forEach((it, n) => {
+    if (!Number.isInteger(it)) throw new TypeError(`${call}: words[${n}] is ${String(it)}, not an integer`);
+    if (!WORD.has(it)) throw new RspError(Status.OUT_OF_RANGE, `${call}: words[${n}] is ${it}, not ${WORD.text}`);
+  });
+  if (items.length > 1024) throw new RspError(Status.OUT_OF_RANGE, `${call}: words has ${items.length} items, not at most 1024`);
+  return Uint32Array.from(items);
+}
+
+const TAKES = { "words[0]": "0", "divider.loaded": "0 or 1", pc: PLACE.text, npc: PLACE.text, interrupt: "0 or 1" };
+
+/** Why `set` refuses a state for this field. */
+export function state_refusal(field, state) {
+  if (TAKES[field]) {
+    const value = field === "words[0]" ? state.words[0] : field === "divider.loaded" ? state.divider.loaded : state[field];
+    return `${field} is ${value}, not ${TAKES[field]}`;
+  }
+  const number = Number(field.slice(3, -1));
+  return `${field} is 0x${state.sp[number].toString(16)}, which ${SP_NAMES[number]} can't hold`;
+}
+
+const NUMBER = "a number or a label,", VECTOR = "a vector register";
+/** By the numbers of RSP_OPERAND_ in rsp.h. A range follows what ends with a comma. */
+const FORMS = ["nothing", NUMBER, "a scalar register", ...Array(6).fill(NUMBER), "an SP register, $c0 to $c15",
+  "$vco, $vcc or $vce", VECTOR, `${VECTOR}, with a byte or none`, `${VECTOR}, with an element or none`, `${VECTOR}, with a lane`];
+
+/** Which operand is at fault, and what it may be; nothing if none is. */
+export function allowed(found, fault) {
+  if (!found.number) return "";
+  let span = found.step ? `${found.low} to ${found.high}${found.step > 1 ? `, a multiple of ${found.step}` : ""}` : "";
+  if (FAULTS[fault] === "BadOperand") {
+    span = `${FORMS[found.kind] ?? "another one"} ${span}`.trim();
+    if (found.kind === 7 || found.kind === 8) span += ", and a scalar register in parentheses";
+  } else if (FAULTS[fault] === "LabelMissing") {
+    span = `the label of a line, or ${span}`;
+  }
+  return `operand ${found.number} may be ${span}`;
+}
