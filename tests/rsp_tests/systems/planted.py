@@ -7,13 +7,16 @@ from rsp_tools.systems import modules
 from rsp_tools.systems.toolchain import llvm
 
 
-# The lower bound of a clamp, which is selected beside the upper one.
-FORM = r"splat \(i16 -32768\)(?=, <8 x i16> splat \(i16 32767\))"
+# The lower bound of a clamp: for ARM selected beside the upper one, for x86-64 stored.
+FORMS = {
+    "aarch64": r"splat \(i16 -32768\)(?=, <8 x i16> splat \(i16 32767\))",
+    "x86_64": r"(?<=store <8 x i16> )splat \(i16 -32768\)",
+}
 
 
-def changed_constant(text: str) -> str:
+def changed_constant(text: str, target: str) -> str:
     """A module in which a clamp has another bound: -32767 for -32768."""
-    changed = re.sub(FORM, "splat (i16 -32767)", text)
+    changed = re.sub(FORMS[target], "splat (i16 -32767)", text)
     assert changed != text, "the module has the constant"
     return changed
 
@@ -21,7 +24,7 @@ def changed_constant(text: str) -> str:
 def module(target: str, at: Path) -> modules.Module:
     """The module of a processor with the planted constant, in a folder, and the archive of it."""
     made, text, archive = modules.module(target), at / f"planted-{target}.ll", at / f"planted-{target}.a"
-    text.write_text(changed_constant(made.text.read_text()))
+    text.write_text(changed_constant(made.text.read_text(), target))
     words = [f"--target={modules.TARGETS[target]}", "-x", "ir", "-c", *made.flags, "-fPIC"]
     llvm("clang", *words, "-Wno-override-module", "-o", at / "planted.o", text)
     llvm("llvm-ar", "rcsD", archive, at / "planted.o")

@@ -5,7 +5,7 @@ import re
 import shutil
 import subprocess
 from pathlib import Path
-from typing import List
+from typing import List, Set
 
 from rsp_tools.systems import header, modules, objects, places
 from rsp_tools.systems.toolchain import Word, call, llvm, missing
@@ -18,6 +18,8 @@ from .runners import Windows
 # What the library takes of the C library, and for each compiler how it grows the stack.
 TAKEN = {"free", "malloc", "memcpy", "memmove", "memset", "realloc"}
 STATIC = {"librsp.a": TAKEN | {"___chkstk_ms"}, "rsp_static.lib": TAKEN | {"__chkstk"}}
+# These call nothing, and take no room on the stack.
+FRAMELESS = {"rsp_state_fault", "rsp_version"}
 MINGW = Path("/usr/x86_64-w64-mingw32/lib")
 HEADERS = "/usr/share/mingw-w64/include"
 CALLS = places.TOP / "tests" / "embedding" / "calls.c"
@@ -56,21 +58,31 @@ def see_static(counts: Counts, system: str, folder: Path) -> None:
     calls = {*header.calls()}
     for name, taken in STATIC.items():
         library = str(folder / "lib" / name)
-        got = shown("-g", "--defined-only", library)
-        counts.see(f"{system}: {name} shows the calls alone", got == calls)
+        # Objects for MSVC share such constants.
+        got = {it for it in shown("-g", "--defined-only", library) if not it.startswith("__xmm@")}
+        counts.see(f"{system}: {name} shows {got - calls}", got == calls)
         wants = shown("-u", library)
-        counts.see(f"{system}: {name} takes {wants}", wants == taken)
+        counts.see(f"{system}: {name} takes {wants}", {"free", "malloc"} <= wants <= taken)
     for name in ("librsp.dll.a", "rsp.lib"):
         found = llvm("llvm-nm", "--defined-only", str(folder / "lib" / name))
         got = {*re.findall(r"(?m)^rsp\.dll:\n\d+ T __imp_(\w+)\n\d+ T \1$", found)}
         counts.see(f"{system}: {name} has the calls", got == calls)
 
 
-def see_probes(counts: Counts, system: str, at: Path) -> None:
-    """Without its change the module would call a function for its probes that isn't there."""
-    (at / "probes").mkdir()
-    made = objects.compiled(modules.module("x86_64"), "x86_64", GNU, at / "probes")
+def framed(library: Path) -> Set[str]:
+    """The functions whose frame a table describes."""
+    return {*re.findall(r"StartAddress: (\w+) ", llvm("llvm-readobj", "--unwind", library))}
+
+
+def see_changes(counts: Counts, system: str, folder: Path, at: Path) -> None:
+    """What the module lacks without its changes: a function for its probes, and the tables of frames."""
+    for name in STATIC:
+        lacks = {*header.calls()} - framed(folder / "lib" / name)
+        counts.see(f"{system}: {name} has no table of {lacks}", lacks <= FRAMELESS)
+    (at / "unchanged").mkdir()
+    made = objects.compiled(modules.module("x86_64"), "x86_64", GNU, at / "unchanged")
     counts.see(f"{system}: a module with the kit's probes", "inline-asm" in shown("-u", str(made)))
+    counts.see(f"{system}: a module without tables", not framed(made))
 
 
 def compile_for_msvc(source: Path, *words: str) -> Path:
@@ -134,6 +146,6 @@ def see(counts: Counts, system: str, runner: Windows) -> None:
     """All of them."""
     see_shared(counts, system, runner.folder)
     see_static(counts, system, runner.folder)
-    see_probes(counts, system, runner.at)
+    see_changes(counts, system, runner.folder, runner.at)
     see_msvc(counts, system, runner)
     see_cmake(counts, system, runner)

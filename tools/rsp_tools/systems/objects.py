@@ -12,7 +12,7 @@ from .toolchain import llvm
 # The intrinsics of a processor that its modules have. Each is an instruction on any system.
 INTRINSICS: Dict[str, AbstractSet[str]] = {
     "x86_64": {"llvm.x86.ssse3.pshuf.b.128"},
-    "aarch64": set(),
+    "aarch64": {"llvm.aarch64.neon.tbl1.v16i8"},
 }
 
 
@@ -29,8 +29,10 @@ def compiled(module: Module, processor: str, target: str, at: Path, changes: Ite
     text, made = at / f"{target}.ll", at / f"{target}.o"
     text.write_text(rewritten(module.text.read_text(), INTRINSICS[processor], changes))
     heap(processor, at / f"{target}-heap.bc")
-    # Clang makes what it takes in by this word invisible from outside.
+    # What clang takes in by the first word isn't to be seen from outside. By the second it writes no time
+    # into an object for Windows.
     inside = ["-Xclang", "-mlink-builtin-bitcode", "-Xclang", str(at / f"{target}-heap.bc")]
-    words = [f"--target={target}", "-x", "ir", "-c", *module.flags, *inside]
+    same = "-mno-incremental-linker-compatible"
+    words = [f"--target={target}", "-x", "ir", "-c", *module.flags, *inside, same]
     llvm("clang", *words, "-Wno-override-module", "-o", made, text)
     return made

@@ -16,6 +16,12 @@ def without_stack_probes(text: str) -> str:
     return re.sub(r' "(?:probe-stack|stack-probe-size)"="[^"]*"', "", text)
 
 
+def with_unwind_tables(text: str) -> str:
+    """Has LLVM write a table of the frame of each function that the module defines. These alone name their
+    processor."""
+    return re.sub(r'(?m)^(attributes #\d+ = \{ )(.*"target-cpu")', r"\1uwtable \2", text)
+
+
 class Change(NamedTuple):
     """A change of a module's text, and why a system needs it."""
 
@@ -27,6 +33,12 @@ STACK_PROBES = Change(
     "the module wants the stack probed by inline assembler, which LLVM has neither for Windows nor for"
     " WebAssembly: it would call a function of that name. Windows has probes of its own",
     without_stack_probes,
+)
+
+UNWIND_TABLES = Change(
+    "Windows and its debuggers walk the stack by a table of each frame, and take a function without one for"
+    " one that has no frame",
+    with_unwind_tables,
 )
 
 

@@ -6,7 +6,7 @@ from pathlib import Path
 from . import header, packages
 from .modules import Source, module
 from .objects import compiled
-from .rewriting import STACK_PROBES
+from .rewriting import STACK_PROBES, UNWIND_TABLES
 from .toolchain import call, llvm
 
 GNU, MSVC = "x86_64-w64-windows-gnu", "x86_64-pc-windows-msvc"
@@ -18,7 +18,8 @@ HARDENED = "-Wl,--dynamicbase,--nxcompat,--high-entropy-va,--gc-sections"
 def make(out: Path, at: Path, source: Source = module) -> None:
     """Writes the library's folder, from the modules of a source. `at` is for files on the way."""
     made = source("x86_64")
-    gnu, msvc = (compiled(made, "x86_64", it, at, [STACK_PROBES]) for it in (GNU, MSVC))
+    changes = [STACK_PROBES, UNWIND_TABLES]
+    gnu, msvc = (compiled(made, "x86_64", it, at, changes) for it in (GNU, MSVC))
     for folder in ("bin", "lib"):
         (out / folder).mkdir(parents=True)
     exports = at / "rsp.def"
