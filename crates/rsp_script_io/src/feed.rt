@@ -1,4 +1,4 @@
-ghost use Rattle.std.specs.Prelude.{◌≡◌, ◌-◌, ◌<◌, ◌≤◌, ◌↔◌, length, take, IfOk, OnOk, OnErr, IsErrOf};
+ghost use Rattle.std.specs.Prelude.{◌≡◌, ◌+◌, ◌-◌, ◌<◌, ◌≤◌, ◌↔◌, length, take, IfOk, OnOk, OnErr, IsErrOf};
 ghost use Rattle.rsp_script_io.specs.Lines.{ended_after, open_after, kept, last_line};
 ghost use Rattle.rsp_script_io.specs.Replies.{replies, final};
 ghost use Rattle.rsp_script_io.specs.Feeds.{no_bytes, bytes_after};
@@ -70,7 +70,7 @@ fn answer_last<S: LineHandler>(
 }
 
 /// Why bytes of a script are not taken. Then nothing changes.
-#[derive(Clone, Copy, Debug, PartialEq, Eq)]
+#[derive(Clone, Copy)]
 pub enum FeedFault {
     /// Fault 42: `SCRIPT_LIMIT` bytes were taken, and these would be more.
     ScriptTooLong,
@@ -127,6 +127,7 @@ impl Feed {
     ) -> Result<usize, FeedFault>
         ensures some { IfOk result (λ n. n ≤ length bytes.now) }
         ensures goes_on { IfOk result (λ n. 0 < length bytes.now → 0 < n) }
+        ensures limit { IfOk result (λ n. self.old.count + n ≤ SCRIPT_LIMIT) }
         ensures reply { IfOk result (λ n. reply.new ≡ replies S.answer_to (ended_after self.old.line (take n bytes.now)) session.old) }
         ensures session { IfOk result (λ n. session.new ≡ final S.answer_to (ended_after self.old.line (take n bytes.now)) session.old) }
         ensures fed { IfOk result (λ n. self.new ≡ bytes_after (take n bytes.now) self.old) }
