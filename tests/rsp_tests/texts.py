@@ -4,16 +4,15 @@ set up a run.
 It fails if a label or an explanation is another one than ASSEMBLY's rules give, or a block does something
 else.
 
-  rsp dis --labels    each kind of branch at each distance, and random files: the labels are those that this
-  test
-                      computes from the words, and the text assembles to the same words, also after lines are
-                      put in
-  docs/ASSEMBLY.md    its command on code that was linked elsewhere, which then keeps its labels, too
-  rsp asm --explain   texts that are refused, each with its operand and with what docs/ASSEMBLY.md allows
-  there
-  docs/MACHINE.md, docs/SCRIPT.md, microcode/README.md   an image of a task, code and data as an image, a
-  routine
-                                                         whose registers are taken
+  rsp dis --labels      each kind of branch at each distance, and random files: the labels are those that
+                        this test computes from the words, and the text assembles to the same words, also
+                        after lines are put in
+  rsp asm --explain     texts that are refused, each with its operand and with what docs/ASSEMBLY.md allows
+                        there
+  docs/ASSEMBLY.md      code that was linked elsewhere, which keeps its labels once its jumps are cleared
+  docs/MACHINE.md       an image of a task
+  docs/SCRIPT.md        code and data as an image; a file of text in a script, and a jump that goes astray
+  microcode/README.md   a routine whose registers are taken
 """
 
 import random
@@ -394,6 +393,22 @@ def image_cases(files: Files) -> Iterator[Case]:
     yield "code and data as an image", unless(is_right, "the memories hold other bytes")
 
 
+# A routine that goes astray: its `jr`, at 00c, is three steps before the BREAK that stops it.
+ASTRAY = "ori $31, $0, 0x7f0\naddiu $1, $1, 1\naddiu $1, $1, 1\njr $31\naddiu $1, $1, 1\nbreak\n"
+
+
+def astray_cases(files: Files) -> Iterator[Case]:
+    """A file of text in an IMEM full of BREAK, as SCRIPT.md does it, and the way back to the jump."""
+    (files.folder / "mine.s").write_text(ASTRAY)
+    (files.folder / "commands").write_text("run 1000000\nback 3\nregs\nmem imem 4092 4\n")
+    line = block_with("docs/SCRIPT.md", "(echo asm 0;")
+    words = ["sh", "-c", f'rsp() {{ "{files.program}" "$@"; }}\n{line}']
+    told = subprocess.run(words, cwd=files.folder, capture_output=True, text=True).stdout.splitlines()
+    wanted = ["ok 1024 words", "ok 6 words", "stop Halted steps 6 pc 7f4", "ok", "pc 00c npc 010"]
+    is_right = told[:5] == wanted and told[-1] == "000ffc: 0000000d"
+    yield "a jump that goes astray", unless(is_right, f"{wanted} are wanted, the program says {told}")
+
+
 def taken_cases(files: Files) -> Iterator[Case]:
     """A text whose registers a routine takes: with its own renamed, and with one kept in DMEM."""
     command = block_with("microcode/README.md", "sed -E").strip()
@@ -420,7 +435,7 @@ def main() -> None:
     program = words.parse_args().program
     with tempfile.TemporaryDirectory() as folder:
         files = Files(program, folder)
-        for group in (*GROUPS, task_cases, image_cases, taken_cases):
+        for group in (*GROUPS, task_cases, image_cases, astray_cases, taken_cases):
             report.see_all(group(files))
     sys.exit(report.end())
 

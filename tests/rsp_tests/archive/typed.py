@@ -193,5 +193,11 @@ WAYS = (
         first=f"{LOOP}\nrsp asm loop.s code.bin",
         prints=f"ok 4 words\nload imem 0 {LOOP_WORDS}",
     ),
+    Way(
+        "docs/SCRIPT.md",
+        "(echo asm 0; yes break",
+        first=f"{file_of('mine.s', 'j 0x7f0')}\n{file_of('commands', 'run 9')}",
+        prints="ok 1024 words\nok 1 words\nstop Halted steps 3 pc 7f4",
+    ),
     Way("docs/SYSTEMS.md", "library/c/build", left_out="it needs the repository and the kit"),
 )
