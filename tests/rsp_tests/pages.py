@@ -13,7 +13,8 @@ It fails if a page, a table or a link says what the program or the repository do
   with
   docs/READING.md              each block, that it is in the source that the page names last before it
   docs/INSTRUCTIONS.md         its rules that are Python, on random values
-  docs/COOKBOOK.md             its idioms on vectors, on random numbers, against mathematics
+  docs/COOKBOOK.md             its idioms on vectors, on random numbers, against mathematics; its commands of
+  cpp and m4
   conformance/README.md        its example of a manifest, and how many cases the small set has
   docs/help, CHANGELOG.md      the texts of --help, and the version
   all pages                    that the file and the heading that a link leads to are there, and how long
@@ -23,6 +24,7 @@ It fails if a page, a table or a link says what the program or the repository do
 
 import os
 import re
+import shutil
 import subprocess
 import sys
 import tempfile
@@ -40,7 +42,7 @@ from rsp_tests.common.idioms import idiom_cases
 from rsp_tests.common.lengths import length_cases
 from rsp_tests.common.pages import anchor, answered, block_with, blocks, data, listing
 from rsp_tests.common.pages import page, replies, tables, transcripts, words_of
-from rsp_tests.common.report import Report
+from rsp_tests.common.report import Report, leave_out
 from rsp_tests.common.rules import rule_cases
 from rsp_tests.common import worked
 
@@ -157,6 +159,41 @@ def example_cases(program: str) -> Iterator[Case]:
     for block in [*found, block_with("docs/COOKBOOK.md", "addiu $sp, $sp, -4\n    sw $ra")]:
         told, wanted = replies(program, f"asm 0\n{block}end\n"), f"ok {len(block.strip().splitlines())} words"
         yield answered(f"COOKBOOK.md `{block.splitlines()[0]}`", told, wanted)
+
+
+# A text for cpp, and the statements that are left of it.
+FOR_CPP = """#define push(r) addiu $sp, $sp, -4; sw r, 0($sp)
+#if 0
+not this
+#endif
+push($ra) // before the call
+loop: bne $1, $0, loop; nop /* the delay
+slot */
+# a comment
+"""
+OF_CPP = ["addiu $sp, $sp, -4", "sw $ra, 0($sp)", "loop: bne $1, $0, loop", "nop"]
+
+
+def macro_cases(program: str) -> Iterator[Case]:
+    """The preprocessors that docs/COOKBOOK.md names, as far as they are here."""
+    named, of_m4 = "docs/COOKBOOK.md", "m4 text.m4 > text.s"
+    lines, told = (block_with(named, "define(`push'", more) for more in (0, 1))
+    for name, command, given, wanted in (
+        ("text.S", block_with(named, "cpp -P"), FOR_CPP, OF_CPP),
+        ("text.m4", of_m4, lines, [line.strip() for line in told.splitlines()]),
+    ):
+        if shutil.which(command.split()[0]) is None:
+            leave_out(f"COOKBOOK.md `{command.strip()}`", f"there is no {command.split()[0]}")
+            continue
+        with tempfile.TemporaryDirectory() as folder:
+            Path(folder, name).write_text(given)
+            subprocess.run(["sh", "-c", command], cwd=folder, check=True)
+            made = Path(folder, "text.s").read_text()
+        left = [line.partition("#")[0].strip() for line in made.splitlines()]
+        is_right = [line for line in left if line] == wanted
+        is_told = replies(program, f"asm 0\n{made}end\n") == f"ok {len(wanted)} words\n"
+        yield f"COOKBOOK.md `{command.strip()}`", unless(is_right and is_told, f"it makes {made!r}")
+    yield "COOKBOOK.md, m4", unless(f"`{of_m4}`" in page(named), "the page hasn't its command")
 
 
 def tutorial_cases(program: str) -> Iterator[Case]:
@@ -321,7 +358,7 @@ def link_cases(_: str) -> Iterator[Case]:
         yield f"links of {path.relative_to(TOP)}", gone
 
 
-GROUPS = (row_cases, example_cases, tutorial_cases, command_cases, transcript_cases, fault_cases)
+GROUPS = (row_cases, example_cases, macro_cases, tutorial_cases, command_cases, transcript_cases)
 
 
 def main() -> None:
@@ -333,6 +370,7 @@ def main() -> None:
     report.see_all(vectors_cases(asked.write))
     for group in (
         *GROUPS,
+        fault_cases,
         syntax_cases,
         help_cases,
         rule_cases,

@@ -135,6 +135,14 @@ WAYS = (
     ),
     Way(
         "docs/COOKBOOK.md",
+        "cpp -P",
+        first=file_of("text.S", "#define twice(r) addu r, r, r; nop\ntwice($2) // it is doubled\n"),
+        then="rsp asm text.s twice.bin\nrsp dis twice.bin",
+        prints="ok 2 words\naddu $2, $2, $2\nnop",
+        needs=("cpp",),
+    ),
+    Way(
+        "docs/COOKBOOK.md",
         "cp text.s copy.s",
         first=file_of("text.s", FAULTY),
         then="rsp asm copy.s copy.bin",
