@@ -412,10 +412,10 @@ def astray_cases(files: Files) -> Iterator[Case]:
 def taken_cases(files: Files) -> Iterator[Case]:
     """A text whose registers a routine takes: with its own renamed, and with one kept in DMEM."""
     command = block_with("microcode/README.md", "sed -E").strip()
-    (files.folder / "mine.s").write_text("vadd $v1, $v2, $V9[1h]\nlqv $v3[0], 16($1)\nvmudn $v9, $v12, $v1\n")
+    (files.folder / "mine.s").write_text("vadd $v1, $v2, $V9[1h]\nlqv $v3[0], 16($9)\nvmudn $v9, $v12, $v0\n")
     subprocess.run(["sh", "-c", command], cwd=files.folder, check=True)
     renamed = (files.folder / "renamed.s").read_text()
-    wanted = "vadd $v11, $v12, $V19[1h]\nlqv $v13[0], 16($1)\nvmudn $v19, $v12, $v11\n"
+    wanted = "vadd $v11, $v12, $V19[1h]\nlqv $v13[0], 16($19)\nvmudn $v19, $v12, $v0\n"
     yield "registers renamed", unless(renamed == wanted, f"the text is {renamed!r}")
     before, after = block_with("microcode/README.md", "sqv   $v1[0], 0x3f0($0)").strip().splitlines()
     setting = ["lqv $v1[0], 0($0)", *(f"ori ${n}, $0, {it}" for n, it in enumerate((32, 64, 64, 16), 1))]
