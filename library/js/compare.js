@@ -11,7 +11,8 @@ class FirstDifference {
   #head() {
     const place = this.place.toString(16).padStart(3, "0");
     if (this.steps === 1) return `step ${this.step}, ${place}: ${this.text}`;
-    return `steps ${this.step - this.steps + 1} to ${this.step}, from ${place} on: no step alone differs, so get and set leave something out`;
+    const steps = `steps ${this.step - this.steps + 1} to ${this.step}, from ${place} on`;
+    return `${steps}: no step alone differs, so get and set leave something out`;
   }
 
   toString() {
@@ -48,7 +49,8 @@ function parts_of(mine, its) {
     for (let at = 0; at < other.length; at += QUADWORD) {
       const length = Math.min(QUADWORD, other.length - at);
       if (!differs(here, other, at, length)) continue;
-      found.push(new Part(`${NAMES[bank]} ${at.toString(16).padStart(3, "0")}`, quadword(here, at), quadword(other, at), 2 * QUADWORD));
+      const name = `${NAMES[bank]} ${at.toString(16).padStart(3, "0")}`;
+      found.push(new Part(name, quadword(here, at), quadword(other, at), 2 * QUADWORD));
     }
   });
   return found;

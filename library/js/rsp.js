@@ -1,7 +1,7 @@
 /** The Nintendo 64's Reality Signal Processor (RSP): emulator, debugger, assembler and disassembler, proved to follow
  * the instruction table. docs/EMBEDDING.md shows how it is used, rsp.d.ts has each call. */
 
-import { Accumulators, Bank, Divider, FAULTS, FIELDS, Flags, Reason, Scalars, SpWords, State, Status, Traced, layout, read }
+import { Accumulators, Bank, Divider, FIELDS, Flags, Reason, Scalars, SpWords, State, Status, Traced, layout, read }
   from "./shapes.js";
 import { AssemblyError, RspError, allowed, bytes_of, numbers, refusal, state_refusal, words_of } from "./words.js";
 
@@ -98,9 +98,8 @@ function struct(kind, at = HERE) {
 }
 
 function stop_of({ reason, steps, pc, watch, word }) {
-  return {
-    reason, steps, pc, watch: reason === Reason.WATCH ? watch : null, word: reason === Reason.RESERVED ? word : null, move: null,
-  };
+  const of = (only, value) => reason === only ? value : null;
+  return { reason, steps, pc, watch: of(Reason.WATCH, watch), word: of(Reason.RESERVED, word), move: null };
 }
 
 function bytes_of_words(words) { return new Uint8Array(words.buffer); }

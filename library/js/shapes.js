@@ -1,7 +1,7 @@
 /** The structs of rsp.h over copies of their bytes, and the numbers that have names. */
 
-import { acc_parts, divider_parts, flag_parts, line, regs, scalar_parts, sp_parts, state_parts, traced, traced_parts, vregs }
-  from "./shown.js";
+import { acc_parts, divider_parts, flag_parts, hex, line, regs, scalar_parts, sp_parts, state_parts, traced,
+  traced_parts, vregs } from "./shown.js";
 
 /** An object with the number of each name, and the name of each number. */
 function numbered(first, ...names) {
@@ -70,8 +70,8 @@ export function read(kind, view, at = 0) {
 function fitting(name, array, value) {
   const most = 2 ** (8 * array.BYTES_PER_ELEMENT) - 1;
   if (typeof value !== "number") throw new TypeError(`${name} is of type ${typeof value}, not a number`);
-  if (!Number.isInteger(value) || value < 0 || value > most) throw new RangeError(`${name} is ${value}, not 0 to ${most}`);
-  return value;
+  if (Number.isInteger(value) && value >= 0 && value <= most) return value;
+  throw new RangeError(`${name} is ${value}, not 0 to ${most}`);
 }
 
 /** Sets a typed array from a list of as many numbers, each of which fits. */
@@ -86,8 +86,7 @@ export class Part {
   constructor(name, value, other, digits) { Object.assign(this, { name, value, other, digits }); }
 
   told(here, there) {
-    const [value, other] = [this.value, this.other].map((it) => it.toString(16).padStart(this.digits, "0"));
-    return `${this.name} is ${value} ${here} and ${other} ${there}`;
+    return `${this.name} is ${hex(this.value, this.digits)} ${here} and ${hex(this.other, this.digits)} ${there}`;
   }
 
   toString() { return this.told("here", "in the other"); }
@@ -111,17 +110,18 @@ class Plain {
     MADE.set(this, {});
     this.bytes = fields instanceof Bytes ? fields.held : new Uint8Array(this.constructor.size);
     if (fields instanceof Bytes) return;
-    for (const name of Object.keys(fields)) {
-      if (!this.constructor.fields.includes(name)) {
-        throw new TypeError(`${this.constructor.name} has no field ${name}; its fields are ${this.constructor.fields.join(", ")}`);
-      }
-      this[name] = fields[name];
+    const { name: title, fields: known } = this.constructor;
+    for (const [name, value] of Object.entries(fields)) {
+      const is_known = known.includes(name);
+      if (!is_known) throw new TypeError(`${title} has no field ${name}; its fields are ${known.join(", ")}`);
+      this[name] = value;
     }
   }
 
   /** One over a copy of these bytes. */
   static from(bytes) {
-    if (bytes.length !== this.size) throw new RangeError(`${this.name}: there are ${bytes.length} bytes, not ${this.size}`);
+    const { length } = bytes;
+    if (length !== this.size) throw new RangeError(`${this.name}: there are ${length} bytes, not ${this.size}`);
     return new this(new Bytes(new Uint8Array(bytes)));
   }
 
@@ -195,7 +195,7 @@ export class Scalars extends Plain {
 export class Accumulators extends Plain {
   parts() { return acc_parts(this); }
 
-  toString() { return this.parts().map(([, value, digits], n) => `a${n} ${value.toString(16).padStart(digits, "0")}`).join("\n"); }
+  toString() { return this.parts().map(([, value, digits], n) => `a${n} ${hex(value, digits)}`).join("\n"); }
 }
 
 export class Flags extends Plain {

@@ -1,10 +1,10 @@
-/** Registers as text: the lines of the bench's `regs`, `vregs`, `acc` and `flags`. A part is its name, its value, and
- * how many hexadecimal digits it has. */
+/** Registers as text: the lines of the bench's `regs`, `vregs`, `acc` and `flags`. A part is its name, its value,
+ * and how many hexadecimal digits it has. */
 
 export const SP_NAMES = ["SP_MEM_ADDR", "SP_DRAM_ADDR", "SP_RD_LEN", "SP_WR_LEN", "SP_STATUS", "SP_DMA_FULL",
   "SP_DMA_BUSY", "SP_SEMAPHORE", ...[...Array(8).keys()].map((n) => `DPC register ${n}`)];
 
-const hex = (value, digits) => value.toString(16).padStart(digits, "0");
+export const hex = (value, digits) => value.toString(16).padStart(digits, "0");
 
 const decimal = (n) => String(n).padStart(2, "0");
 

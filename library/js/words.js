@@ -1,7 +1,7 @@
 /** Refusals in words: what a call was given, and what it takes. */
 
 import { Bank, FAULTS, Status } from "./shapes.js";
-import { SP_NAMES } from "./shown.js";
+import { SP_NAMES, hex } from "./shown.js";
 
 const range = (low, high, step = 1) => ({
   has: (n) => n >= low && n <= high && (n - low) % step === 0,
@@ -108,8 +108,8 @@ export function numbers(call, given, most = 0xffffffff) {
     const kind = typeof it === "number" ? String(it) : `of type ${typeof it}`;
     if (!Number.isInteger(it)) throw new TypeError(`${call}: ${names[n]} is ${kind}, not an integer`);
   });
-  if (given.some((it) => it < 0 || it > 0xffffffff) || given.at(-1) > most) throw refusal(Status.OUT_OF_RANGE, call, given);
-  return given;
+  if (given.every((it) => WORD.has(it)) && (given.at(-1) ?? 0) <= most) return given;
+  throw refusal(Status.OUT_OF_RANGE, call, given);
 }
 
 /** The bytes of a buffer or of a typed array. */
@@ -129,8 +129,8 @@ export function words_of(call, words) {
     if (!Number.isInteger(it)) throw new TypeError(`${call}: words[${n}] is ${String(it)}, not an integer`);
     if (!WORD.has(it)) throw new RspError(Status.OUT_OF_RANGE, `${call}: words[${n}] is ${it}, not ${WORD.text}`);
   });
-  if (items.length > 1024) throw new RspError(Status.OUT_OF_RANGE, `${call}: words has ${items.length} items, not at most 1024`);
-  return Uint32Array.from(items);
+  if (items.length <= 1024) return Uint32Array.from(items);
+  throw new RspError(Status.OUT_OF_RANGE, `${call}: words has ${items.length} items, not at most 1024`);
 }
 
 const TAKES = { "words[0]": "0", "divider.loaded": "0 or 1", pc: PLACE.text, npc: PLACE.text, interrupt: "0 or 1" };
@@ -138,17 +138,18 @@ const TAKES = { "words[0]": "0", "divider.loaded": "0 or 1", pc: PLACE.text, npc
 /** Why `set` refuses a state for this field. */
 export function state_refusal(field, state) {
   if (TAKES[field]) {
-    const value = field === "words[0]" ? state.words[0] : field === "divider.loaded" ? state.divider.loaded : state[field];
-    return `${field} is ${value}, not ${TAKES[field]}`;
+    const values = { "words[0]": state.words[0], "divider.loaded": state.divider.loaded };
+    return `${field} is ${values[field] ?? state[field]}, not ${TAKES[field]}`;
   }
   const number = Number(field.slice(3, -1));
-  return `${field} is 0x${state.sp[number].toString(16)}, which ${SP_NAMES[number]} can't hold`;
+  return `${field} is 0x${hex(state.sp[number], 0)}, which ${SP_NAMES[number]} can't hold`;
 }
 
 const NUMBER = "a number or a label,", VECTOR = "a vector register";
 /** By the numbers of RSP_OPERAND_ in rsp.h. A range follows what ends with a comma. */
 const FORMS = ["nothing", NUMBER, "a scalar register", ...Array(6).fill(NUMBER), "an SP register, $c0 to $c15",
-  "$vco, $vcc or $vce", VECTOR, `${VECTOR}, with a byte or none`, `${VECTOR}, with an element or none`, `${VECTOR}, with a lane`];
+  "$vco, $vcc or $vce", VECTOR, `${VECTOR}, with a byte or none`, `${VECTOR}, with an element or none`,
+  `${VECTOR}, with a lane`];
 
 /** Which operand is at fault, and what it may be; nothing if none is. */
 export function allowed(found, fault) {

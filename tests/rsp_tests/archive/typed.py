@@ -173,6 +173,7 @@ WAYS = (
         prints="..\nHALT 0x1234",
         needs=("import ensurepip",),
     ),
+    Way(EMBEDDING, "tools/systems wasm64", left_out="it needs the repository and the kit"),
     Way(
         "docs/MACHINE.md",
         "python3 -c",

@@ -12,7 +12,7 @@ from rsp_tools.systems.toolchain import Refused, kit, missing
 
 from .counts import Counts
 
-NAMES = ["linux-aarch64", "windows-x86_64", "macos"]
+NAMES = ["linux-aarch64", "windows-x86_64", "macos", "wasm64"]
 # The packages that are named where there are none.
 PACKAGES = {
     "linux-aarch64": "gcc-aarch64-linux-gnu",

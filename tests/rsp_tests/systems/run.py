@@ -4,6 +4,7 @@ systems that can be run here.
   linux-aarch64    under qemu-aarch64
   windows-x86_64   under wine. What is for MSVC is linked by lld-link
   macos            nothing is run: symbols and load commands are read
+  wasm64           in Chromium
 
 On each that is run: all calls of tests/embedding/calls.c, with the static and the shared library; owner.c
 and the lock step of examples; all test vectors; ten seeds of a million steps of random programs of all
@@ -21,15 +22,18 @@ import argparse
 import sys
 import tempfile
 from pathlib import Path
-from typing import List
+from typing import Dict, List, Type
 
 from rsp_tools.systems import places
 from rsp_tools.systems.__main__ import make
 from rsp_tools.systems.toolchain import Refused
 
 from . import digests, refusals, speed
+from .browser_suite import BrowserSuite
 from .counts import Counts
 from .suite import Suite
+
+SUITES: Dict[str, Type[Suite]] = {"wasm64": BrowserSuite}
 
 
 def test(counts: Counts, system: str, at: Path, steps: int, with_speed: bool) -> None:
@@ -40,7 +44,7 @@ def test(counts: Counts, system: str, at: Path, steps: int, with_speed: bool) ->
         return
     if not (places.MADE / system).is_dir():
         make(system)
-    tests = Suite(counts, system, at, steps)
+    tests = SUITES.get(system, Suite)(counts, system, at, steps)
     try:
         tests.all()
         if with_speed:

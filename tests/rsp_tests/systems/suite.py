@@ -10,6 +10,7 @@ from rsp_tools.systems.modules import Module
 from rsp_tools.systems.modules import module as true_module
 
 from . import digests, files, macos, planted, rust, vectors, windows
+from .browser import Chromium
 from .counts import Counts
 from .runners import Arm, Mac, Native, Runner, Windows
 
@@ -27,6 +28,7 @@ class Suite:
         "linux-aarch64": Arm,
         "windows-x86_64": Windows,
         "macos": Mac,
+        "wasm64": Chromium,
     }
 
     def __init__(self, counts: Counts, system: str, at: Path, steps: int) -> None:
@@ -161,6 +163,10 @@ class Suite:
             wanted, got = self.digests(self.native, FEW), self.digests(runner, FEW)
         finally:
             runner.stop()
+        self.see_found(failed, wanted, got)
+
+    def see_found(self, failed: int, wanted: Dict[int, List[str]], got: Dict[int, List[str]]) -> None:
+        """Vectors and random programs have found a planted constant."""
         differ = [seed for seed, lines in wanted.items() if got[seed][:-1] != lines[:-1]]
         self.see("no vector finds the planted constant", failed > 0)
         self.see("no random program finds the planted constant", bool(differ))

@@ -7,6 +7,8 @@ named.
                    for MSVC, CMake, and the Python wheel
   macos            library/systems/macos: librsp.dylib and librsp.a for Intel and ARM, pkg-config, CMake, and
                    the Python wheel; macOS 11. Never run: there was no Mac
+  wasm64           library/systems/wasm64: rsp.wasm for browsers, Node 24 and Deno, with an ES module and its
+                   types, as a package of npm
 
 It wants a clone whose library is built (library/c/build), the kit, and packages of Debian that it names.
 Each system takes at most three minutes of processor, and the same sources give the same bytes. What the
@@ -22,7 +24,7 @@ import tempfile
 from pathlib import Path
 from typing import Callable, Dict, List, NamedTuple, Tuple
 
-from . import linux, macos, places, windows
+from . import linux, macos, places, wasm, windows
 from .modules import Source, module
 from .toolchain import Refused, missing
 
@@ -38,6 +40,7 @@ SYSTEMS: Dict[str, System] = {
     "linux-aarch64": System(linux.make, ("aarch64-linux-gnu-gcc",)),
     "windows-x86_64": System(windows.make, ("x86_64-w64-mingw32-gcc",)),
     "macos": System(macos.make, ()),
+    "wasm64": System(wasm.make, ()),
 }
 
 

@@ -55,3 +55,39 @@ def rewritten(text: str, known: AbstractSet[str], changes: Iterable[Change] = ()
     for it in changes:
         text = it.made(text)
     return text
+
+
+def without_processors(text: str) -> str:
+    """Drops which processor each function is for."""
+    return re.sub(r' "(?:target-cpu|target-features|tune-cpu)"(?:="[^"]*")?', "", text)
+
+
+PROCESSOR = Change(
+    "functions name a processor and its features, which go before those of clang's words: WebAssembly would"
+    " have no SIMD",
+    without_processors,
+)
+
+PSHUFB = "llvm.x86.ssse3.pshuf.b.128"
+# Each byte of the second operand selects one of the first by its low four bits, or 0 by its high bit.
+SHUFFLED = """
+define internal <16 x i8> @rsp.shuffled(<16 x i8> %bytes, <16 x i8> %selectors) alwaysinline {
+  %kept = and <16 x i8> %selectors, splat (i8 -113)
+  %shuffled = call <16 x i8> @llvm.wasm.swizzle(<16 x i8> %bytes, <16 x i8> %kept)
+  ret <16 x i8> %shuffled
+}
+declare <16 x i8> @llvm.wasm.swizzle(<16 x i8>, <16 x i8>)
+"""
+
+
+def with_swizzle(text: str) -> str:
+    """Puts a function over WebAssembly's swizzle in the place of x86's PSHUFB."""
+    text = re.sub(rf"(?m)^declare .*@{re.escape(PSHUFB)}\(.*\n", "", text)
+    return text.replace(f"@{PSHUFB}(", "@rsp.shuffled(") + SHUFFLED
+
+
+SWIZZLE = Change(
+    "WebAssembly hasn't x86's PSHUFB. Its swizzle gives 0 for each selector above 15, so the bits that PSHUFB"
+    " ignores are cleared first",
+    with_swizzle,
+)

@@ -16,6 +16,7 @@ PACKAGES: Dict[str, str] = {
     "qemu-aarch64": "qemu-user",
     "x86_64-w64-mingw32-gcc": "gcc-mingw-w64-x86-64",
     "wine": "wine wine64",
+    "node": "nodejs",
 }
 
 

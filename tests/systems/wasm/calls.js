@@ -1,0 +1,352 @@
+/** Each call of the ES module, in its range and out of it. */
+
+import { Report } from "./checks.js";
+import { watched } from "./watched.js";
+
+const LOOP = "addiu $1, $0, 3\nloop: addiu $1, $1, -1\nsw $1, 64($0)\nbne $1, $0, loop\nnop\nbreak\n";
+const TRACED = "ori $1, $0, 0x8001\nsw $1, 0x1044($0)\nmtc2 $1, $v1[2]\nvaddc $v2, $v1, $v1\nbreak\n";
+
+/** A stop, but for what a run says. */
+const AT = { reason: 0, steps: 0, pc: 0, watch: null, word: null, move: null };
+
+let rsp, report, OUT, Status, Reason, Rsp, see, same, refused;
+
+function loaded(source, depth = 0) {
+  const machine = new Rsp(new Uint8Array(4096), depth);
+  machine.load_words(rsp.IMEM, 0, rsp.assemble(source));
+  return machine;
+}
+
+const bytes = (text) => new TextEncoder().encode(text);
+
+function lives() {
+  for (const length of [0, 63, 65, 68, (1 << 23) + 8]) refused(OUT, () => new Rsp(new Uint8Array(length)));
+  for (const depth of [4097, -1, 2 ** 32]) refused(OUT, () => new Rsp(new Uint8Array(64), depth));
+  refused(TypeError, () => new Rsp("image"), "Rsp: image is of type string");
+  refused(TypeError, () => new Rsp(new Uint8Array(64), 1.5), "depth is 1.5, not an integer");
+  const machine = new Rsp();
+  same("a new machine", [machine.regs().npc, machine.image_length], [4, 64]);
+  machine.free();
+  machine.free();
+  const calls = {
+    get: [], step: [], regs: [], acc: [], flags: [], divider: [], sp: [], copy: [], pass_move: [], reg: [4], vreg: [4],
+    read: [4], peek: [4], run: [4], back: [4], trace: [4], add_break: [4], drop_break: [4], set_pc: [4],
+    memory: [0, 0, 4], memory_words: [0, 0, 4], load: [0, 0, new Uint8Array(4)], load_words: [0, 0, [1]], write: [0, 8],
+    set: [new rsp.State()], set_sp: [new rsp.SpWords()], run_until_move: [1, 0, 0], add_watch: [0, 4], drop_watch: [0],
+    listing: [0, 1], start_task: [8],
+  };
+  for (const [name, given] of Object.entries(calls)) {
+    refused(Status.NO_MACHINE, () => machine[name](...given), `${name}: the machine is freed`);
+  }
+  refused(Status.NO_MACHINE, () => machine.iter_trace().next());
+  const tested = [...Object.keys(calls), "constructor", "free", "image_length", "iter_trace"].sort();
+  same("all calls", Object.getOwnPropertyNames(Rsp.prototype).sort(), tested);
+}
+
+function copies() {
+  const machine = loaded(`${"addiu $1, $1, 1\n".repeat(3)}break\n`, 2);
+  machine.load(rsp.RDRAM, 4088, bytes("RDRAMend"));
+  machine.step();
+  machine.add_break(8);
+  const other = machine.copy();
+  see("a copy", other.get().equals(machine.get()));
+  same("its RDRAM", other.memory(rsp.RDRAM, 4088, 8), bytes("RDRAMend"));
+  refused(Status.SHORT_HISTORY, () => other.back(1), "back: the history holds fewer states than 1");
+  refused(Status.NO_BREAK, () => other.drop_break(8), "drop_break: 8 has no breakpoint");
+  const stop = other.run(9);
+  same("it runs alone", [stop.reason, stop.steps, stop.pc, other.reg(1), machine.reg(1)], [Reason.HALT, 3, 16, 3, 1]);
+  other.back(2);
+  machine[Symbol.dispose ?? Symbol.for("Symbol.dispose")]();
+  same("and stays alone", [other.reg(1), other.image_length], [2, 4096]);
+  refused(Status.NO_MACHINE, () => machine.reg(1));
+}
+
+function runs() {
+  const machine = loaded(LOOP, 8);
+  same("a step", [machine.step(), machine.reg(1)], [Status.OK, 3]);
+  refused(Status.SHORT_HISTORY, () => machine.back(2));
+  for (const count of [0, 1000001, -1, 2 ** 40]) {
+    refused(OUT, () => machine.back(count), `back: states is ${count}, not 1 to 1000000`);
+    refused(OUT, () => machine.run(count), `run: steps is ${count}, not 1 to 1000000`);
+  }
+  for (const count of [0.5, NaN, "1", null, 1n]) refused(TypeError, () => machine.run(count), "not an integer");
+  machine.back(1);
+  machine.add_break(16);
+  refused(Status.BREAK_TWICE, () => machine.add_break(16), "16 has a breakpoint");
+  refused(OUT, () => machine.add_break(17), "place is 17, not a multiple of 4 below 4096");
+  same("a breakpoint", machine.run(100), { ...AT, reason: Reason.BREAK, steps: 4, pc: 16 });
+  machine.drop_break(16);
+  same("a watch's number", machine.add_watch(64, 4), 0);
+  same("a watch", machine.run(100), { ...AT, reason: Reason.WATCH, steps: 3, pc: 12, watch: 0 });
+  refused(OUT, () => machine.add_watch(4095, 2), "2 bytes from 4095 on pass the end of DMEM");
+  machine.drop_watch(0);
+  refused(Status.NO_WATCH, () => machine.drop_watch(0), "no watch has the number 0");
+  same("a halt", [machine.run(100).reason, machine.step()], [Reason.HALT, Status.HALTED]);
+  machine.write(4, 1);
+  machine.load_words(rsp.IMEM, 24, [0xfffffffe]);
+  same("a reserved word", machine.step(), Status.RESERVED);
+  same("its word", machine.run(5), { ...AT, reason: Reason.RESERVED, steps: 0, pc: 24, word: 0xfffffffe });
+  machine.write(4, 2);
+  const stop = machine.run(5);
+  same("halted goes before reserved", [stop.reason, stop.word], [Reason.HALT, null]);
+  machine.write(4, 1);
+  refused(Status.TASK_PLACE, () => machine.start_task(4), "4 isn't a multiple of 8");
+  refused(Status.TASK_SIZE, () => machine.start_task(0), "the structure at 0, isn't 1 to 4096");
+  for (const number of [-1, 32, 2 ** 32]) {
+    refused(OUT, () => machine.reg(number));
+    refused(OUT, () => machine.vreg(number));
+  }
+  refused(OUT, () => machine.write(0, -1), "value is -1, not 0 to 4294967295");
+  for (let n = 0; n < 16; n++) machine.add_break(2048 + 4 * n);
+  refused(Status.BREAK_FULL, () => machine.add_break(0));
+  for (let n = 0; n < 8; n++) machine.add_watch(0xf00, 1);
+  refused(Status.WATCH_FULL, () => machine.add_watch(0, 1));
+}
+
+function passes() {
+  const machine = loaded("mfc0 $3, $c7\nmtc0 $3, $c2\nnop\n");
+  same("past an mfc0", [machine.pass_move(0xfedcba98), machine.reg(3), machine.peek(7)], [Status.OK, 0xfedcba98, 0]);
+  same("past an mtc0", [machine.pass_move(), machine.reg(3), machine.peek(2)], [Status.OK, 0xfedcba98, 0xff8]);
+  same("and on", machine.regs().pc, 8);
+  refused(OUT, () => machine.pass_move(), "the word at pc is no MFC0 or MTC0");
+  refused(OUT, () => machine.pass_move(2 ** 32), "value is 4294967296");
+  machine.write(4, 2);
+  same("none that is halted", machine.pass_move(), Status.HALTED);
+}
+
+function moves() {
+  const machine = loaded("ori $4, $0, 0x1238\nmfc0 $3, $c7\nmtc0 $4, $c2\nbreak\n", 4);
+  for (const given of [[0, 0, 0], [1000001, 0, 0], [1, 65536, 0], [1, 0, -1]]) {
+    refused(OUT, () => machine.run_until_move(...given));
+  }
+  const before = machine.run_until_move(100, 1 << 7, 1 << 2);
+  const move = { word: 0x40033800, number: 7, writes: false, value: 0 };
+  same("before an mfc0", before, { ...AT, reason: Reason.MOVE, steps: 1, pc: 4, move });
+  same("it isn't passed", machine.run_until_move(100, 1 << 7, 0).steps, 0);
+  same("until it is", machine.pass_move(5), Status.OK);
+  const at = machine.run_until_move(100, 0, 0xffff);
+  same("before an mtc0", [at.reason, at.steps], [Reason.MOVE, 0]);
+  same("what it writes", at.move, { word: 0x40841000, number: 2, writes: true, value: 0x1238 });
+  const end = machine.run_until_move(100, 0xffff, 0);
+  same("to the halt", [end.reason, end.steps, end.move, machine.reg(3)], [Reason.HALT, 2, null, 5]);
+}
+
+function traces() {
+  const machine = loaded(TRACED, 4);
+  for (const count of [0, 1000001, -1, 2 ** 40]) refused(OUT, () => machine.trace(count));
+  const [stop, entries] = machine.trace(8);
+  same("a stop", [stop.reason, stop.steps, stop.pc, entries.length], [Reason.HALT, 5, 20, 5]);
+  const [first, store, moved, last] = entries;
+  same("a scalar register", [first.pc, first.word, first.scalar, first.value], [0, 0x34018001, 1, 0x8001]);
+  same("a store", [store.stored, store.address, store.scalar, store.vector], [1, 0x44, 0, 32]);
+  same("a vector register", [last.vector, last.lanes[1], last.vco], [2, 2, 2]);
+  const lanes = "0000 0002 0000 0000 0000 0000 0000 0000";
+  same("a line", String(last), `00c 4a010894 $v2 ${lanes} vco 0002 vcc 0000 vce 00`);
+  same("its first", String(first), "000 34018001 $1 00008001 vco 0000 vcc 0000 vce 00");
+  same("no difference", moved.diff(moved.copy()).length, 0);
+  see("a difference", last.diff(moved).some((it) => it.name === "vco"));
+  machine.back(4);
+  same("it can be undone", machine.regs().pc, 4);
+  const turns = loaded("loop: j loop\naddiu $1, $1, 1\n"), all = [...turns.iter_trace(3000)];
+  same("entries one by one", [all.length, all.at(-1).pc, all.at(-1).value, turns.reg(1)], [3000, 4, 1500, 1500]);
+  const short = loaded("nop\nbreak\n");
+  same("up to a stop", [...short.iter_trace()].map((it) => it.pc), [0, 4]);
+  same("and none after it", [...short.iter_trace()], []);
+  const long = loaded("loop: j loop\nnop\n").trace(1000000)[1];
+  same("the longest", [long.length, long[999999].pc, long[999998].word], [1000000, 4, 0x08000000]);
+}
+
+function sp_registers() {
+  const machine = new Rsp(), given = machine.sp();
+  same("the first SP registers", [...given.words], [...Array(16).keys()].map((n) => machine.peek(n)));
+  same("no interrupt", given.interrupt, 0);
+  for (const [number, word] of Object.entries({ 0: 0x1ff8, 4: 0x50e2, 7: 1, 15: 5 })) given.words[number] = word;
+  given.interrupt = 1;
+  machine.set_sp(given);
+  see("they come back", machine.sp().equals(given));
+  same("in each call", [machine.peek(4), machine.get().interrupt], [0x50e2, 1]);
+  [4, 1, 0, 0, 4, 1, 1, 2].forEach((word, n) => {
+    const bad = machine.sp();
+    bad.words[n] = word;
+    refused(OUT, () => machine.set_sp(bad), "set_sp: a word can't be read");
+  });
+  see("a refused word changes nothing", machine.sp().equals(given));
+  refused(TypeError, () => machine.set_sp(new rsp.State()), "not SpWords");
+}
+
+function states() {
+  const machine = new Rsp(), state = machine.get();
+  same("the first state", [state.pc, state.npc, state.sp[2]], [0, 4, 0xff8]);
+  see("that of a new one", state.equals(new rsp.State()));
+  state.words[31] = 1;
+  state.vectors[31][7] = 2;
+  state.accumulators.high[7] = 3;
+  state.sp[15] = 4;
+  state.divider.loaded = state.interrupt = 1;
+  state.flags.extra = 0x80;
+  same("it is a copy", machine.reg(31), 0);
+  machine.set(state);
+  see("a state comes back", machine.get().equals(state));
+  same("its parts", [machine.reg(31), machine.vreg(31)[7], machine.acc().high[7], machine.peek(15)], [1, 2, 3, 4]);
+  same("and the rest", [machine.divider().loaded, machine.flags().extra, machine.read(31)], [1, 0x80, 4]);
+  same("a state without a fault", rsp.state_fault(state), null);
+  state.npc = 4094;
+  state.sp[3] = 1;
+  same("the first fault", rsp.state_fault(state), "npc");
+  state.npc = 4;
+  same("the second one", rsp.state_fault(state), "sp[3]");
+  refused(OUT, () => machine.set(state), "set: sp[3] is 0x1, which SP_WR_LEN can't hold");
+  state.words[0] = 1;
+  same("a third one", rsp.state_fault(state), "words[0]");
+  refused(OUT, () => machine.set(state), "set: words[0] is 1, not 0");
+  see("a refused state changes nothing", !machine.get().equals(state) && machine.get().words[31] === 1);
+  refused(TypeError, () => machine.set({}), "set: state is of type object, not State");
+  shown_states();
+}
+
+/** Fields that are checked, and what differs. */
+function shown_states() {
+  const state = new rsp.State({ pc: 8, words: [0, ...Array(31).fill(7)] });
+  same("what is given", [state.pc, state.npc, state.words[31]], [8, 12, 7]);
+  refused(RangeError, () => { state.pc = 65536; }, "pc is 65536, not 0 to 65535");
+  refused(RangeError, () => { state.flags.vce = 0; state.flags.extra = 256; }, "extra is 256, not 0 to 255");
+  refused(RangeError, () => { state.words = [1]; }, "words has 1 items, not 32");
+  refused(RangeError, () => { state.vectors = Array(32).fill(Array(8).fill(-1)); }, "vectors[0][0] is -1");
+  refused(TypeError, () => { state.npc = "4"; }, "npc is of type string");
+  refused(TypeError, () => new rsp.State({ place: 4 }), "State has no field place");
+  refused(RangeError, () => rsp.State.from(new Uint8Array(3)), "State: there are 3 bytes, not 772");
+  const other = state.copy();
+  other.accumulators.high[3] = 0xffff;
+  other.vectors[5][6] = 1;
+  other.words[1] = 0xfffffff0;
+  same("what differs", state.diff(other).told("here", "there"), "$1 is 00000007 here and fffffff0 there\n"
+    + "$v5 lane 6 is 0000 here and 0001 there\naccumulator 3 is 000000000000 here and ffff00000000 there");
+  see("it is another one", !state.equals(other) && state.equals(state.copy()));
+  same("nothing", String(state.diff(state)), "no difference");
+  const lines = String(other).split("\n");
+  same("its first lines", lines.slice(0, 2), ["pc 008 npc 00c", "r00 00000000 fffffff0 00000007 00000007"]);
+  same("its last lines", lines.slice(-2), [`v31 ${Array(8).fill("0000").join(" ")}`,
+    "vco 0000 vcc 0000 vce 00 in 0000 out 0000 loaded 0"]);
+  same("an accumulator", String(other.accumulators).split("\n")[3], "a3 ffff00000000");
+  other.accumulators = state.accumulators;
+  same("a struct that is set", other.accumulators.high[3], 0);
+}
+
+function memories() {
+  const image = Uint8Array.from({ length: 64 }, (_, n) => n), machine = new Rsp(image.buffer);
+  same("an image", machine.memory(rsp.RDRAM, 3, 4), [3, 4, 5, 6]);
+  machine.load(rsp.DMEM, 10, Uint8Array.of(1, 0, 2));
+  same("bytes", machine.memory(rsp.DMEM, 9, 5), [0, 1, 0, 2, 0]);
+  machine.load(rsp.DMEM, 20, new DataView(image.buffer, 5, 2));
+  same("a view", machine.memory(rsp.DMEM, 20, 3), [5, 6, 0]);
+  machine.load_words(rsp.DMEM, 4092, [0x01020304]);
+  same("a word", machine.memory(rsp.DMEM, 4092, 4), [1, 2, 3, 4]);
+  same("words out", machine.memory_words(rsp.DMEM, 4091, 1), [0x00010203]);
+  same("two of them", machine.memory_words(rsp.DMEM, 4088, 2), [0, 0x01020304]);
+  same("nothing", [machine.memory_words(rsp.DMEM, 4096, 0).length, machine.memory(rsp.DMEM, 4096, 0).length], [0, 0]);
+  const outside = [[3, 0, 1], [rsp.RDRAM, -1, 1], [rsp.RDRAM, 0, -1], [rsp.RDRAM, 0, 2 ** 31]];
+  for (const given of [...outside, [rsp.DMEM, 4093, 1], [rsp.RDRAM, 0, 17]]) {
+    refused(OUT, () => machine.memory_words(...given));
+  }
+  for (const given of [...outside, [rsp.DMEM, 4096, 1], [rsp.RDRAM, 0, 65]]) {
+    refused(OUT, () => machine.memory(...given));
+  }
+  refused(OUT, () => machine.memory(3, 0, 1), "memory: bank is 3, not DMEM, IMEM or RDRAM");
+  refused(OUT, () => machine.memory(rsp.DMEM, 4096, 1), "memory: 1 bytes from 4096 on pass the end of DMEM");
+  refused(OUT, () => machine.load(rsp.RDRAM, 63, new Uint8Array(2)), "the bytes from 63 on pass the end of RDRAM");
+  refused(OUT, () => machine.load(rsp.RDRAM, 2 ** 32, new Uint8Array(0)));
+  refused(OUT, () => machine.load_words(rsp.IMEM, 0, [2 ** 32]), "words[0] is 4294967296, not 0 to 4294967295");
+  refused(OUT, () => machine.load_words(rsp.IMEM, 0, Array(1025).fill(0)), "words has 1025 items, not at most 1024");
+  refused(TypeError, () => machine.load_words(rsp.IMEM, 0, "12"), "words is of type string");
+  refused(TypeError, () => machine.load(rsp.IMEM, 0, [1, 2]), "data is of type object, not a typed array");
+  refused(OUT, () => machine.set_pc(4096), "pc is 4096");
+  machine.write(1, 8);
+  machine.write(2, 7);
+  same("a DMA", machine.memory(rsp.DMEM, 0, 8), [8, 9, 10, 11, 12, 13, 14, 15]);
+  const large = new Rsp(new Uint8Array(1 << 23).fill(0xa5), 4096);
+  see("a large image", large.memory(rsp.RDRAM, 0, 1 << 23).every((it) => it === 0xa5));
+  large.free();
+}
+
+/** Lines that are refused, with their fault, the number of their operand, and what that may be. */
+const EXPLAINED = [
+  ["lqv $v1[0], 0x460($0)", "13 OutOfRange", 2, "-1024 to 1008, a multiple of 16"],
+  ["j nowhere", "15 LabelMissing", 1, "the label of a line, or 0 to 4092, a multiple of 4"],
+  ["lw $1, $2", "12 BadOperand", 2, "a number or a label, -32768 to 65535, and a scalar register in parentheses"],
+  ["vrcp $v1, $v2[0]", "12 BadOperand", 1, "a vector register, with a lane"],
+  ["nop $1", "12 BadOperand", 1, "nothing"],
+];
+
+function texts() {
+  same("words", rsp.assemble("nop\nbreak\n"), [0, 13]);
+  same("none", rsp.assemble(""), []);
+  same("all", rsp.assemble("nop\n".repeat(1024)).length, 1024);
+  try {
+    rsp.assemble("nop\nfoo\n");
+    see("foo is refused", false);
+  } catch (fault) {
+    same("a fault", [fault.line, fault.fault, fault.status, fault.name], [2, 11, Status.NO_MEANING, "AssemblyError"]);
+    see("it is an RspError", fault instanceof rsp.RspError && fault instanceof rsp.AssemblyError);
+  }
+  for (const [line, fault, operand, allowed] of EXPLAINED) {
+    const words = `assemble: fault ${fault} line 2: ${line}; operand ${operand} may be ${allowed}`;
+    refused(rsp.AssemblyError, () => rsp.assemble(`nop\n${line}\n`), words);
+  }
+  refused(OUT, () => rsp.assemble("nop", 2), "origin is 2, not a multiple of 4 up to 4096");
+  refused(OUT, () => rsp.assemble("nop", -4));
+  refused(TypeError, () => rsp.assemble(5), "text is of type number");
+  same("a text", rsp.text(0x4a631050, 4), "vadd $v1, $v2, $v3[1q]");
+  refused(OUT, () => rsp.text(0, 4096));
+  refused(OUT, () => rsp.text(2 ** 32, 0));
+  const machine = loaded("nop\nbreak\n");
+  same("a listing", machine.listing(0, 2), [{ place: 0, word: 0, text: "nop" }, { place: 4, word: 13, text: "break" }]);
+  same("a whole one", machine.listing(0, 1024).length, 1024);
+  refused(OUT, () => machine.listing(4092, 2), "2 words from 4092 on pass the end of IMEM");
+  refused(OUT, () => machine.listing(0, 2 ** 31));
+}
+
+/** A machine as an emulator, one with a planted fault, which is at the fortieth sum, and one that keeps nothing. */
+function differences() {
+  const source = "lui $1, 0x8000\nloop: addiu $2, $2, 1\nsw $2, 16($0)\nbne $2, $3, loop\nnop\nbreak\n";
+  const begun = () => {
+    const machine = loaded(source), state = machine.get();
+    state.words[3] = 100;
+    machine.set(state);
+    return machine;
+  };
+  same("none", rsp.first_difference(begun(), new Rsp(new Uint8Array(4096))), null);
+  const wrong = new Rsp(new Uint8Array(4096));
+  wrong.run = function (steps) {
+    for (let n = 0; n < steps; n++) this.step();
+    const state = this.get();
+    if (state.words[2] >= 40) state.words[2] |= 0x10000;
+    this.set(state);
+  };
+  const found = rsp.first_difference(begun(), wrong, 64);
+  // Of the loop's four steps the fortieth sum is step 1 + 4 * 39 + 1.
+  const line = "$2 is 00000028 on the machine and 00010028 in the emulator";
+  same("the first", String(found), `step 158, 004: addiu $2, $2, 1\n  ${line}`);
+  same("its state before", [found.before.words[2], found.steps, found.place], [39, 1, 4]);
+  const memory = (bank, address, length) => new Uint8Array(length);
+  const bare = { run() {}, get: () => new rsp.State(), set() {}, memory, load() {} };
+  const kept = rsp.first_difference(begun(), bare);
+  same("one that keeps nothing", [kept.step, kept.parts[0].name], [0, "$3"]);
+  const quadwords = `000000000000000d${"0".repeat(16)} a and ${"0".repeat(32)} b`;
+  same("and its memory", kept.parts.at(-1).told("a", "b"), `IMEM 010 is ${quadwords}`);
+  const short = { ...bare, memory: () => new Uint8Array(5) };
+  refused(RangeError, () => rsp.first_difference(begun(), short), "memory(0, 0, 4096) has 5 bytes");
+  refused(OUT, () => rsp.first_difference(begun(), bare, 0), "every is 0, not 1 to 1000000");
+}
+
+export async function run(library) {
+  ({ rsp } = await watched(library));
+  ({ Status, Reason, Rsp } = rsp);
+  OUT = Status.OUT_OF_RANGE;
+  report = new Report();
+  see = report.see.bind(report);
+  same = report.same.bind(report);
+  refused = report.refused.bind(report);
+  const parts = [lives, copies, runs, passes, moves, traces, sp_registers, states, memories, texts, differences];
+  parts.forEach((part) => part());
+  return report.end();
+}

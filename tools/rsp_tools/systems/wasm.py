@@ -1,0 +1,64 @@
+"""The library for browsers, Node and Deno: a module of WebAssembly with 64-bit memories and SIMD, and the ES
+module over it. The module is that for x86-64, changed where WebAssembly differs."""
+
+import re
+import shutil
+from pathlib import Path
+from typing import List
+
+from . import header, places
+from .modules import Source, module
+from .rewriting import PROCESSOR, PSHUFB, SWIZZLE, rewritten
+from .toolchain import Refused, llvm
+
+CLANG = ["--target=wasm64-unknown-unknown", "-msimd128", "-mbulk-memory", "-ffreestanding"]
+LINUX = ["--target=x86_64-unknown-linux-gnu", "-ffreestanding"]
+CHANGES = [PROCESSOR, SWIZZLE]
+SCRIPTS = places.TOP / "library" / "js"
+# The library, the kit's functions of the heap, and what these need.
+PARTS = ["rsp", "heap", "allocator", "memory_wasm"]
+
+
+def as_ir(source: Path, to: Path) -> None:
+    """Compiles C for Linux to LLVM's language, and changes it for wasm: the heap's functions return two
+    numbers in registers, as the library expects, which C for wasm would return by a pointer."""
+    llvm("clang", *LINUX, "-O2", "-S", "-emit-llvm", "-o", to, source)
+    to.write_text(rewritten(to.read_text(), set(), [PROCESSOR]))
+
+
+def objects(at: Path, source: Source = module) -> List[Path]:
+    """Compiles the library with its heap and its memory, in a folder. The files to be linked."""
+    given = source("x86_64")
+    (at / "rsp.ll").write_text(rewritten(given.text.read_text(), {PSHUFB}, CHANGES))
+    as_ir(places.PARTS / "heap.c", at / "heap.ll")
+    flags = [*CLANG, *given.flags, "-Wno-override-module", "-c", "-o"]
+    for name in PARTS[:2]:
+        llvm("clang", *flags, at / f"{name}.o", "-x", "ir", at / f"{name}.ll")
+    for name in PARTS[2:]:
+        llvm("clang", *CLANG, "-O2", "-fno-builtin", "-c", "-o", at / f"{name}.o", places.PARTS / f"{name}.c")
+    return [at / f"{name}.o" for name in PARTS]
+
+
+def link(out: Path, files: List[Path], *words: str) -> None:
+    """Links files to a module that exports the calls of rsp.h, malloc and free. Its stack is at 0, so that a
+    call that needs more is stopped."""
+    shown = [f"--export={it}" for it in [*header.calls(), "malloc", "free"]]
+    stack = ["--stack-first", "-z", f"stack-size={header.stack()}"]
+    llvm("wasm-ld", "-m", "wasm64", "--no-entry", "--strip-all", *stack, *shown, *words, "-o", out, *files)
+
+
+def folder(out: Path, files: List[Path], *words: str) -> None:
+    """Writes a folder with the ES module, and the library of these files beside it. Refused if the version of
+    the ES module isn't that of the library."""
+    named = re.search(r'"version": "(.*)"', (SCRIPTS / "package.json").read_text())
+    if not named or named[1] != header.version():
+        raise Refused(f"library/js/package.json has another version than {header.version()}")
+    out.mkdir(parents=True)
+    for path in sorted(SCRIPTS.iterdir()):
+        shutil.copyfile(path, out / path.name)
+    link(out / "rsp.wasm", files, *words)
+
+
+def make(out: Path, at: Path, source: Source = module) -> None:
+    """Writes the library's folder, from the module of a source. `at` is for files on the way."""
+    folder(out, objects(at, source))
