@@ -37,6 +37,7 @@ add_executable(mine my.c)
 target_link_libraries(mine rsp::rsp)
 """
 FAULTY = "start: ori $1, $0, 1\nfoo $2\nj start\nori $1, $99, 1\nbreak\n"
+LOST_JUMP = "j 0x7f0\nnop\n"
 GCC = ("cc", "/usr/include/stdio.h")
 NUMPY_AND_Z64 = ("import numpy", "/usr/lib/x86_64-linux-gnu/mupen64plus/mupen64plus-rsp-z64.so", *GCC)
 A_GAME = "it needs a screen and a ROM; tests/part plugin types it there"
@@ -205,8 +206,8 @@ WAYS = (
     Way(
         "docs/SCRIPT.md",
         "(echo asm 0; yes break",
-        first=f"{file_of('mine.s', 'j 0x7f0')}\n{file_of('commands', 'run 9')}",
-        prints="ok 1024 words\nok 1 words\nstop Halted steps 3 pc 7f4",
+        first=f"{file_of('mine.s', LOST_JUMP)}\n{file_of('commands', 'run 9')}",
+        prints="ok 1024 words\nok 2 words\nstop Halted steps 3 pc 7f4",
     ),
     Way("docs/SYSTEMS.md", "library/c/build", left_out="it needs the repository and the kit"),
 )
