@@ -88,6 +88,9 @@ class Server(ThreadingHTTPServer):
         self.jobs: "queue.Queue[bytes]" = queue.Queue()
         self.results: "Dict[int, queue.Queue[Any]]" = {}
 
+    def handle_error(self, *_: Any) -> None:
+        """A page that is ended takes no answer."""
+
 
 class Browser:
     """A Chromium with one page. It is started by the first job."""
