@@ -1,4 +1,4 @@
-//! Routines of microcode, each with a theorem about what it does for all inputs: those to paste, which have their texts
+//! Routines of microcode, each with a theorem about all inputs that meet its premises: those to paste, with their texts
 //! in the folder `microcode`, and models for authors of theorems.
 //!
 //! A routine is a module whose `words` returns its words. The contract says which text they are assembled from, and

@@ -32,8 +32,8 @@ fn theorem()
 
 /// The words of microcode that mixes the sound of `$4` bytes at `$1` with the one at `$2` into `$3`. Each lane
 /// has a volume for the first sound, high half in `$v3` and low one in `$v4`, of which the high half counts, as
-/// a fraction of 32768; after each eight samples it grows by the number in `$v5` and `$v6`, and the high half
-/// is clamped. The second sound is multiplied by the whole number in lane 0 of `$v8`. The mix is rounded to the
+/// a fraction of 32768; after each eight samples it grows by the number in `$v5` and `$v6`: the high half is
+/// clamped, the low half wraps. The second sound is multiplied by the whole number in lane 0 of `$v8`. The mix is rounded to the
 /// nearest, and clamped to 16 bits. What `mix` says of the addresses and the count holds here too.
 pub fn words() -> [u32; 15]
     ensures text { Assembles text result }

@@ -37,7 +37,7 @@ fn theorem()
 
 /// The words of microcode that multiplies two vectors of four whole numbers by a matrix each, of four by four
 /// numbers with sixteen bits of fraction: from DMEM at `$1` and `$2` to DMEM at `$3`. For all inputs each of
-/// the eight results is the sum of its four products, clamped to 32 signed bits.
+/// the eight results is the sum of its four products modulo 2^48, with its sign, clamped to 32 signed bits.
 pub fn words() -> [u32; 20]
     ensures text { Assembles text result }
     ensures theorem { TransformsVectors result }

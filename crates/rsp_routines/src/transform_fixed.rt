@@ -35,8 +35,8 @@ fn theorem()
 /// The words of microcode that multiplies two vectors of four numbers by a matrix each, of four by four
 /// numbers, all with sixteen bits of fraction and in registers: the columns of both matrices in `$v16` to
 /// `$v19` (high halves) and `$v20` to `$v23` (low ones), the vectors in `$v9` and `$v10`, the result in `$v1`
-/// and `$v2`. For all inputs each of the eight results is the sum of its four products, each rounded down,
-/// clamped to 32 signed bits.
+/// and `$v2`. For all inputs each of the eight results is the sum of its four products, each rounded down;
+/// the sum is taken modulo 2^48, with its sign, and clamped to 32 signed bits.
 pub fn words() -> [u32; 17]
     ensures text { Assembles text result }
     ensures theorem { TransformsFixed result }
