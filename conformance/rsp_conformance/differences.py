@@ -86,7 +86,7 @@ For those who use z64, the low-level RSP of mupen64plus, or compare another emul
 that differs from the [instruction table](../docs/INSTRUCTIONS.md), with a case that shows it. A difference doesn't say
 which of the two a console agrees with.
 
-A [campaign](../docs/CAMPAIGN.md) compared {data["cases"]} cases of each of {len(found)} instructions (seed `{data["seed"]}`) with Debian's
+A [campaign](../docs/CAMPAIGN.md) compared up to {data["cases"]} cases of each of {len(found)} instructions (seed `{data["seed"]}`) with Debian's
 mupen64plus-rsp-z64 2.5.9+10+ga7bf40f-2. `conformance/differences` makes this page of its data. The campaign compares
 all registers and memories. What z64 doesn't show is left out: whether the divider is loaded, and halted, broke and
 single step. `conformance/campaign plugin:FILE --case NAME` shows a case.

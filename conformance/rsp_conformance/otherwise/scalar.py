@@ -7,7 +7,7 @@ from rsp_conformance.outcomes import signed
 from .case import LIMIT, Case, State, rule
 
 
-@rule("bgezal", "on register 31 it tests the link, so it branches")
+@rule("bgezal", "on register 31 it tests the link, so it branches; a link isn't taken modulo 4096")
 def tests_the_link(case: Case) -> State:
     target = {"npc": case.before["npc"] + 4 * simm(case) & 0xFFC}
     return {**link(case, "r31"), **(target if case.fields["s"] == 31 else {})}
@@ -33,7 +33,10 @@ def keeps_low_bits(case: Case) -> State:
     return {"npc": case.reg("s") % LIMIT}
 
 
-@rule("jalr", "keeps the two low bits of the register in pc; a link in register 0 stays there")
+@rule(
+    "jalr",
+    "keeps the two low bits of the register in pc; a link in register 0 stays there, and none is taken modulo 4096",
+)
 def links_to_any_register(case: Case) -> State:
     return {"npc": case.reg("s") % LIMIT, **link(case, f"r{case.fields['d']}")}
 
