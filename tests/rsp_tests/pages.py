@@ -11,7 +11,8 @@ It fails if a page, a table or a link says what the program or the repository do
   word it makes of a line that means something else; ASSEMBLY names each
   README, ASSEMBLY, COOKBOOK, TUTORIAL, SCRIPT   blocks and cells with commands, and what they are answered
   with
-  docs/READING.md              each block, that it is in the source that the page names last before it
+  docs/READING.md              each block, that it is in the source that the page names last before it; what
+  its grep finds
   docs/INSTRUCTIONS.md         its rules that are Python, on random values
   docs/COOKBOOK.md             its idioms on vectors, on random numbers, against mathematics; its commands of
   cpp and m4
@@ -224,6 +225,17 @@ def reading_cases(_: str) -> Iterator[Case]:
         yield f"READING.md `{wanted[0]}`", unless(is_there, f"crates/{source} hasn't these lines: {wanted}")
 
 
+def definition_cases(_: str) -> Iterator[Case]:
+    """The command of docs/READING.md for an instruction's definition finds its rule, and of MTC0 its row."""
+    command = search(r"`(grep [^`]*)`", page("docs/READING.md"))[1]
+    rule = r"^crates/rsp_(scalar|multiply|compare|divide|loadstore)/"
+    wanted = dict.fromkeys("lqv sll vmulf vrcp vand lw sqv vadd".split(), rule)
+    for name, line in {**wanted, "mtc0": r"\bmove_sp_selector To\b"}.items():
+        typed = command.replace("lqv", name)
+        told = subprocess.run(typed, shell=True, cwd=TOP, capture_output=True, text=True).stdout
+        yield f"READING.md `{typed}`", unless(re.search(line, told, re.M), "it finds no definition")
+
+
 def command_cases(program: str) -> Iterator[Case]:
     """Each command: how many lines its sample is answered with."""
     for it in data("commands"):
@@ -377,6 +389,7 @@ def main() -> None:
         idiom_cases,
         program_cases,
         reading_cases,
+        definition_cases,
         link_cases,
     ):
         report.see_all(group(asked.program))
