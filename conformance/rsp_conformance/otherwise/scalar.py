@@ -35,7 +35,7 @@ def keeps_low_bits(case: Case) -> State:
 
 @rule(
     "jalr",
-    "keeps the two low bits of the register in pc; a link in register 0 stays there, and none is taken modulo 4096",
+    "keeps the two low bits of the register in pc; a link isn't taken modulo 4096, and stays in register 0",
 )
 def links_to_any_register(case: Case) -> State:
     return {"npc": case.reg("s") % LIMIT, **link(case, f"r{case.fields['d']}")}
