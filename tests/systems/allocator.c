@@ -4,6 +4,7 @@
 #include <stdio.h>
 #include <stdlib.h>
 #include <string.h>
+#include <sys/mman.h>
 
 /* tools/rsp_tools/systems/allocator.c, compiled with these names for its own. */
 char *heap_more(size_t len, size_t *got);
@@ -14,7 +15,7 @@ void heap_free(void *at);
 enum { ARENA = 1 << 24, PAGE = 4096, BLOCKS = 300, TURNS = 60000 };
 
 static unsigned long passed, failed;
-static _Alignas(16) char arena[ARENA];
+static _Alignas(PAGE) char arena[ARENA];
 static size_t handed, allowed; /* how much of the arena is handed out, and how much may be */
 static int has_gaps;
 
@@ -136,17 +137,40 @@ static void sequence(size_t limit)
     free_all();
 }
 
-/* Without gaps all that was handed out is one hole, less the heads of a stretch and of a block. */
+/* Without gaps all that was handed out is one hole, less the heads of a stretch and of a block. A block takes no
+ * more than it needs, with its head and at least 32 bytes. */
 static void see_merged(void)
 {
     size_t before = handed;
-    void *whole;
+    void *whole, *one;
     allowed = handed;
     whole = heap_malloc(handed - 32);
     SEE(whole != NULL && handed == before);
     SEE(heap_malloc(1) == NULL);
     heap_free(whole);
     SEE(heap_malloc(handed - 31) == NULL);
+    one = heap_malloc(1);
+    SEE(heap_malloc(handed - 63) == NULL);
+    whole = heap_malloc(handed - 64);
+    SEE(one != NULL && whole != NULL);
+    heap_free(one);
+    heap_free(whole);
+}
+
+/* The last block moves to a larger hole before it. Nothing after it is read. */
+static void see_moved(void)
+{
+    size_t half = handed / 2;
+    void *first = heap_malloc(half), *last = heap_malloc(half - 48), *moved;
+    SEE(first != NULL && last != NULL && (char *)last + half - 48 + 16 == arena + handed);
+    memset(last, 9, half - 48);
+    heap_free(first);
+    SEE(mprotect(arena + handed, PAGE, PROT_NONE) == 0);
+    moved = heap_realloc(last, half);
+    SEE(mprotect(arena + handed, PAGE, PROT_READ | PROT_WRITE) == 0);
+    SEE(moved == first);
+    see_filled(&(struct block){ moved, half - 48, 9 });
+    heap_free(moved);
 }
 
 static void refusals(void)
@@ -170,6 +194,7 @@ int main(void)
     see_merged();
     sequence(ARENA / 2);
     see_merged();
+    see_moved();
     refusals();
     see_merged();
     has_gaps = 1;
