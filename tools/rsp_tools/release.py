@@ -34,6 +34,7 @@ VERSIONS = {
     "CHANGELOG.md": r"^## ([\d.]+)",
     "library/python/pyproject.toml": r'^version = "([\d.]+)"',
     "library/rust/Cargo.toml": r'^version = "([\d.]+)"',
+    "library/js/package.json": r'^  "version": "([\d.]+)"',
 }
 # The script `rsp` of the archive.
 STARTER = """#!/bin/sh

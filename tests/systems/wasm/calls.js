@@ -152,6 +152,9 @@ function traces() {
   const short = loaded("nop\nbreak\n");
   same("up to a stop", [...short.iter_trace()].map((it) => it.pc), [0, 4]);
   same("and none after it", [...short.iter_trace()], []);
+  const stopped = loaded("nop\nnop\nnop\nbreak\n");
+  stopped.add_break(8);
+  same("a breakpoint is a stop", [...stopped.iter_trace()].map((it) => it.pc), [0, 4]);
   const long = loaded("loop: j loop\nnop\n").trace(1000000)[1];
   same("the longest", [long.length, long[999999].pc, long[999998].word], [1000000, 4, 0x08000000]);
 }
