@@ -48,11 +48,15 @@ def see_install(counts: Counts, system: str, folder: Path, at: Path) -> None:
     project = at / "project"
     project.mkdir()
     env = {**os.environ, "npm_config_cache": str(at / "npm"), "npm_config_offline": "true"}
-    words = ["npm", "install", "--no-audit", "--no-fund", "--install-links", str(folder)]
-    ran = subprocess.run(words, cwd=project, env=env, capture_output=True, text=True)
-    held = {it.name for it in (project / "node_modules" / "rsp").glob("*")}
     wanted = {it.name for it in folder.iterdir()}
-    counts.see(f"{system}: npm install: {ran.stderr} {held}", ran.returncode == 0 and held == wanted)
+    kinds: List[List[str]] = [[], ["--install-links"]]  # a link to the folder, and a copy of what it packs
+    for kind in kinds:
+        words = ["npm", "install", "--no-audit", "--no-fund", *kind, str(folder)]
+        ran = subprocess.run(words, cwd=project, env=env, capture_output=True, text=True)
+        held = {it.name for it in (project / "node_modules" / "rsp").glob("*")}
+        counts.see(
+            f"{system}: npm install {kind}: {ran.stderr} {held}", ran.returncode == 0 and held == wanted
+        )
     (project / "use.mjs").write_text(USE)
     ran = subprocess.run(["node", "use.mjs"], cwd=project, capture_output=True, text=True)
     version = subprocess.run(["node", "--version"], capture_output=True, text=True).stdout.strip()
