@@ -7,6 +7,7 @@ import shutil
 import subprocess
 import tempfile
 import threading
+import time
 from http.server import SimpleHTTPRequestHandler, ThreadingHTTPServer
 from pathlib import Path
 from typing import Any, Dict, List, NamedTuple, Optional, Tuple
@@ -120,11 +121,14 @@ class Browser:
             job = Job(len(self.server.results), url, library, words)
             self.server.results[job.number] = queue.Queue()
         self.server.jobs.put(json.dumps(job._asdict()).encode())
-        try:
-            said, status = self.server.results[job.number].get(timeout=LONGEST)
-        except queue.Empty:
-            return f"{url} said nothing in {LONGEST} seconds".encode(), 1
-        return said, status
+        until = time.time() + LONGEST
+        while self.process and self.process.poll() is None and time.time() < until:
+            try:
+                said, status = self.server.results[job.number].get(timeout=5)
+                return said, status
+            except queue.Empty:
+                pass
+        return f"{url} said nothing before Chromium ended, or in {LONGEST} seconds".encode(), 1
 
     def stop(self) -> None:
         """Ends Chromium and the server."""
@@ -147,7 +151,7 @@ class Chromium(Runner):
     def __init__(self, folder: Path, at: Path) -> None:
         super().__init__(folder, at)
         self.objects: List[Path] = []
-        self.browser = Browser({"at": at, "library": folder, "js": places.TOP / "examples" / "js"})
+        self.browser = Browser({"at": at, "library": folder})
         for name in HEADERS:
             (at / f"{name}.h").write_text('#include "libc.h"\n')
 
