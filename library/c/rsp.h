@@ -18,8 +18,9 @@
  *
  * Postconditions of every call: it returns, for any numbers, with a status. If that isn't RSP_OK, no
  * machine has changed, and neither has anything that the call fills. rsp_assemble alone then says in `out`
- * why. Every call with a handle but rsp_new and rsp_free returns RSP_NO_MACHINE if the handle holds no
- * machine, and rsp_copy if `from` holds none. Below this status isn't listed again, nor is RSP_OK. */
+ * why, and RSP_TOO_LONG alone ends a bench. Every call with a handle returns RSP_NO_MACHINE if the handle
+ * holds nothing, but for those that make or free, and rsp_copy if `from` holds none. Below this status
+ * isn't listed again, nor is RSP_OK. */
 #ifndef RSP_H
 #define RSP_H
 
@@ -40,7 +41,7 @@ typedef struct rsp {
 
 enum rsp_status {
     RSP_OK = 0,            /* done; of a step: one instruction was executed */
-    RSP_NO_MACHINE = 1,    /* the handle holds no machine */
+    RSP_NO_MACHINE = 1,    /* the handle holds no machine, or no bench */
     RSP_NO_MEMORY = 2,     /* an allocation failed */
     RSP_OUT_OF_RANGE = 3,  /* a number, a length or a count is out of its range */
     RSP_HALTED = 4,        /* rsp_step, rsp_pass: the machine is halted */
@@ -54,7 +55,10 @@ enum rsp_status {
     RSP_WATCH_FULL = 12,   /* rsp_add_watch: there are eight watches */
     RSP_NO_WATCH = 13,     /* rsp_drop_watch: the number has no watch */
     RSP_SHORT_HISTORY = 14, /* rsp_back: the history holds fewer states */
-    RSP_NO_ROOM = 15       /* rsp_assemble: there are more words than the buffer has */
+    RSP_NO_ROOM = 15,      /* rsp_assemble: there are more words than the buffer has; rsp_bench_take,
+                              rsp_bench_end: the buffer has fewer than RSP_REPLIES bytes */
+    RSP_ENDED = 16,        /* rsp_bench_take, rsp_bench_end: the end of input was met */
+    RSP_TOO_LONG = 17      /* rsp_bench_take, rsp_bench_end: the script has more than 1048576 bytes */
 };
 
 /* The three memories. DMEM and IMEM have 4096 bytes, RDRAM as many as its image. */
@@ -375,13 +379,52 @@ typedef struct rsp_operand {
  * UTF-8, and RSP_NO_MEMORY. */
 uint32_t rsp_explain(uint32_t origin, const uint8_t *text, size_t len, rsp_operand *out);
 
+/* ---- Scripts, whose commands and replies docs/SCRIPT.md has ---- */
+
+/* A bench: it answers a script, and has a machine of its own. What is said of a handle holds of this one
+ * too. */
+typedef struct rsp_bench {
+    void *at;
+} rsp_bench;
+
+/* How many bytes a buffer for replies has at least. */
+#define RSP_REPLIES 16384
+
+/* Makes a bench whose machine has a copy of an image of RDRAM (64 to 8388608 bytes, a multiple of 8) and a
+ * history of 256 states. What the handle held before is freed, unless the call fails. Returns
+ * RSP_OUT_OF_RANGE for any other length, and then has read nothing of the image; else RSP_NO_MEMORY. */
+uint32_t rsp_bench_new(rsp_bench *b, const uint8_t *image, size_t len);
+
+/* Takes the next bytes of a script up to the first LF and with it, or all of them. `used` gets how many, 0
+ * only if `len` is 0: the next call goes on after them. `reply` gets the reply to the line that the LF
+ * ended, and `written` its length; what follows it stays. However a script is cut into calls, the replies
+ * one after the other, the last one that of rsp_bench_end, are what `rsp run` writes. Returns
+ *   - RSP_NO_ROOM for a capacity below RSP_REPLIES;
+ *   - RSP_ENDED after rsp_bench_end;
+ *   - RSP_TOO_LONG if 1048576 bytes were taken and these are more. Then stop: the lines that had ended are
+ *     answered, and every later call but rsp_bench_memory and rsp_bench_free returns this again;
+ *   - RSP_NO_MEMORY, only for a line of an `asm` block or its `end`. The same call may be made again. */
+uint32_t rsp_bench_take(rsp_bench *b, const uint8_t *bytes, size_t len, size_t *used, uint8_t *reply,
+                        size_t capacity, size_t *written);
+
+/* Meets the end of input: `reply` gets the reply to the line that no LF ended, if it has any bytes, and the
+ * fault of an `asm` block that is still open. Returns the same. */
+uint32_t rsp_bench_end(rsp_bench *b, uint8_t *reply, size_t capacity, size_t *written);
+
+/* Reads bytes of a memory of its machine, and changes nothing. Returns RSP_OUT_OF_RANGE if there is no such
+ * bank, or the bytes pass its end. */
+uint32_t rsp_bench_memory(rsp_bench *b, uint32_t bank, uint32_t address, uint8_t *bytes, size_t len);
+
+/* Frees the bench, if there is one, and leaves RSP_NONE. */
+void rsp_bench_free(rsp_bench *b);
+
 /* The name of a status, for messages. Here and below that of any other number is "unknown". */
 static inline const char *rsp_status_name(uint32_t status)
 {
     static const char *const names[] = {
         "OK", "NO_MACHINE", "NO_MEMORY", "OUT_OF_RANGE", "HALTED", "RESERVED", "NO_MEANING", "TASK_PLACE",
         "TASK_SIZE", "BREAK_FULL", "BREAK_TWICE", "NO_BREAK", "WATCH_FULL", "NO_WATCH", "SHORT_HISTORY",
-        "NO_ROOM"
+        "NO_ROOM", "ENDED", "TOO_LONG"
     };
     return status < sizeof names / sizeof *names ? names[status] : "unknown";
 }

@@ -1,4 +1,5 @@
-/* How many blocks of memory are held after rsp_new, rsp_copy, rsp_free and rsp_assemble, done or refused, and what each answers: of rsp_new
+/* How many blocks of memory are held after rsp_new, rsp_copy, rsp_free, rsp_assemble and the calls of a bench, done or refused, and what each
+ * answers: of rsp_new
  * at every depth and for images of every class of lengths. A machine has equally many blocks at each depth but 0, and RSP_NO_MEMORY is
  * answered only if an allocation failed. Linked with -Wl,--wrap=malloc,--wrap=realloc,--wrap=free. */
 #include "rsp.h"
@@ -99,6 +100,30 @@ static void texts(void)
     see("rsp_assemble of no text", 0, rsp_assemble(0, text, strlen(no_text), words, 8, &out), RSP_NO_MEANING, 0);
 }
 
+/* A bench holds as many blocks at its end as at its start, and more only while a block of source text is open. */
+static void scripts(void)
+{
+    static const char open_block[] = "asm 0\na: nop\nj a\nnop\n", end[] = "end\n";
+    static uint8_t reply[RSP_REPLIES];
+    rsp_bench b = RSP_NONE;
+    size_t at, used = 0, written, n;
+    long blocks = 0, more;
+    for (n = 0; n < 3; n++) {
+        see("rsp_bench_new", (long)n, rsp_bench_new(&b, image, n == 2 ? LONGEST : 64), RSP_OK, blocks = n ? blocks : held);
+        for (at = 0; at < sizeof open_block - 1; at += used)
+            rsp_bench_take(&b, (const uint8_t *)open_block + at, sizeof open_block - 1 - at, &used, reply, sizeof reply, &written);
+        more = held;
+        see("rsp_bench_take of a block", (long)n, more > blocks ? RSP_OK : RSP_NO_MEMORY, RSP_OK, more);
+        see("rsp_bench_new refused", (long)n, rsp_bench_new(&b, image, 65), RSP_OUT_OF_RANGE, more);
+        if (n == 1) continue; /* the next bench frees the block */
+        see("its end", (long)n, rsp_bench_take(&b, (const uint8_t *)end, 4, &used, reply, sizeof reply, &written), RSP_OK, blocks);
+        see("rsp_bench_end", (long)n, rsp_bench_end(&b, reply, sizeof reply, &written), RSP_OK, blocks);
+    }
+    rsp_bench_free(&b);
+    rsp_bench_free(&b);
+    see("rsp_bench_free", 0, RSP_OK, RSP_OK, 0);
+}
+
 int main(void)
 {
     long one = blocks_of(1);
@@ -106,6 +131,7 @@ int main(void)
     depths(one);
     lengths(one);
     texts();
+    scripts();
     printf("%d passed, %d failed\n", passed, failed);
     return failed != 0;
 }

@@ -744,6 +744,120 @@ static void texts(void)
     rsp_free(&m);
 }
 
+static uint8_t reply[RSP_REPLIES];
+static size_t used, written;
+
+/* What a bench replies to bytes, which are taken in one call. */
+static int replies(rsp_bench *b, const char *bytes, const char *wanted)
+{
+    size_t len = strlen(bytes);
+    uint32_t status = rsp_bench_take(b, (const uint8_t *)bytes, len, &used, reply, sizeof reply, &written);
+    return status == RSP_OK && used == len && written == strlen(wanted) && !memcmp(reply, wanted, written);
+}
+
+/* And to the end of input. */
+static int ends(rsp_bench *b, const char *wanted)
+{
+    uint32_t status = rsp_bench_end(b, reply, sizeof reply, &written);
+    return status == RSP_OK && written == strlen(wanted) && !memcmp(reply, wanted, written);
+}
+
+/* A take or an end is refused with this status, and fills nothing. */
+static int refuses(rsp_bench *b, size_t len, size_t capacity, uint32_t status)
+{
+    used = written = 77;
+    memset(reply, 0x55, sizeof reply);
+    if (rsp_bench_take(b, image, len, &used, reply, capacity, &written) != status) return 0;
+    return used == 77 && written == 77 && reply[0] == 0x55 && reply[sizeof reply - 1] == 0x55;
+}
+
+static int refuses_end(rsp_bench *b, size_t capacity, uint32_t status)
+{
+    written = 77;
+    memset(reply, 0x55, sizeof reply);
+    if (rsp_bench_end(b, reply, capacity, &written) != status) return 0;
+    return written == 77 && reply[0] == 0x55 && reply[sizeof reply - 1] == 0x55;
+}
+
+static void without_bench(void)
+{
+    rsp_bench none = RSP_NONE, freed = RSP_NONE;
+    rsp_bench *handles[2];
+    uint8_t byte = 7;
+    int i;
+    SEE(rsp_bench_new(&freed, image, 64) == RSP_OK && freed.at != NULL);
+    rsp_bench_free(&freed);
+    rsp_bench_free(&freed);
+    handles[0] = &none;
+    handles[1] = &freed;
+    for (i = 0; i < 2; i++) {
+        SEE(refuses(handles[i], 1, sizeof reply, RSP_NO_MACHINE) && refuses(handles[i], 0, 0, RSP_NO_MACHINE));
+        SEE(refuses_end(handles[i], sizeof reply, RSP_NO_MACHINE) && refuses_end(handles[i], 0, RSP_NO_MACHINE));
+        SEE(rsp_bench_memory(handles[i], RSP_DMEM, 0, &byte, 1) == RSP_NO_MACHINE && byte == 7);
+        SEE(handles[i]->at == NULL);
+    }
+}
+
+static void benches(void)
+{
+    static const size_t wrong[] = { 0, 1, 56, 63, 65, 68, 4092, 8388616, SIZE_MAX, SIZE_MAX - 7 };
+    rsp_bench b = RSP_NONE;
+    uint8_t bytes[4];
+    size_t i;
+    memset(image, 0, sizeof image);
+    for (i = 0; i < sizeof wrong / sizeof *wrong; i++) SEE(rsp_bench_new(&b, image, wrong[i]) == RSP_OUT_OF_RANGE);
+    SEE(b.at == NULL && rsp_bench_new(&b, image, 4096) == RSP_OK);
+    SEE(replies(&b, "", "") && replies(&b, "st", "") && replies(&b, "ep\n", "step Done pc 004\n"));
+    SEE(replies(&b, "step\r", "") && replies(&b, "\n", "step Done pc 008\n"));
+    SEE(replies(&b, "\n", "") && replies(&b, "# nothing\n", ""));
+    SEE(rsp_bench_new(&b, image, 65) == RSP_OUT_OF_RANGE); /* the bench is kept */
+    SEE(replies(&b, "step\n", "step Done pc 00c\n"));
+    SEE(rsp_bench_take(&b, (const uint8_t *)"step\nstep\n", 10, &used, reply, sizeof reply, &written) == RSP_OK);
+    SEE(used == 5 && written == 17 && !memcmp(reply, "step Done pc 010\n", 17));
+    SEE(refuses(&b, 1, RSP_REPLIES - 1, RSP_NO_ROOM) && refuses(&b, 0, 0, RSP_NO_ROOM));
+    SEE(refuses_end(&b, RSP_REPLIES - 1, RSP_NO_ROOM) && refuses_end(&b, 0, RSP_NO_ROOM));
+    SEE(replies(&b, "load rdram 0xffe 0a0b\n", "ok\n") && replies(&b, "load dmem 0 0c\n", "ok\n"));
+    SEE(rsp_bench_memory(&b, RSP_RDRAM, 4092, bytes, 4) == RSP_OK && !memcmp(bytes, "\0\0\x0a\x0b", 4));
+    SEE(rsp_bench_memory(&b, RSP_DMEM, 0, bytes, 1) == RSP_OK && bytes[0] == 12);
+    SEE(rsp_bench_memory(&b, RSP_RDRAM, 4093, bytes, 4) == RSP_OUT_OF_RANGE && bytes[0] == 12);
+    SEE(rsp_bench_memory(&b, RSP_RDRAM, ANY, bytes, 4) == RSP_OUT_OF_RANGE);
+    SEE(rsp_bench_memory(&b, 3, 0, bytes, 1) == RSP_OUT_OF_RANGE && bytes[0] == 12);
+    SEE(replies(&b, "asm 0\n", "") && replies(&b, "nop\n", "") && replies(&b, "nop", ""));
+    SEE(ends(&b, "fault 10 BadLine line 3\n")); /* a block of two lines was open */
+    SEE(refuses(&b, 1, sizeof reply, RSP_ENDED) && refuses(&b, 0, sizeof reply, RSP_ENDED));
+    SEE(refuses_end(&b, sizeof reply, RSP_ENDED) && refuses(&b, 1, 0, RSP_NO_ROOM));
+    SEE(rsp_bench_memory(&b, RSP_DMEM, 0, bytes, 1) == RSP_OK && bytes[0] == 12);
+    SEE(rsp_bench_new(&b, image, 64) == RSP_OK); /* and freed for another */
+    SEE(replies(&b, "asm 0\n", "") && replies(&b, "nop\n", "") && replies(&b, "end\n", "ok 1 words\n"));
+    SEE(replies(&b, "step", "") && ends(&b, "step Done pc 004\n"));
+    rsp_bench_free(&b);
+    SEE(b.at == NULL);
+}
+
+/* A script has at most 1048576 bytes: here they are zeros, with no LF. */
+static void longest_script(void)
+{
+    static const uint8_t zeros[4096];
+    rsp_bench b = RSP_NONE, full = RSP_NONE;
+    uint8_t byte = 7;
+    size_t n;
+    SEE(rsp_bench_new(&b, image, 64) == RSP_OK && rsp_bench_new(&full, image, 64) == RSP_OK);
+    SEE(replies(&b, "step\n", "step Done pc 004\n") && replies(&full, "step\n", "step Done pc 004\n"));
+    for (n = 5; n < 1048576; n += used) {
+        size_t len = 1048577 - n < sizeof zeros ? 1048577 - n : sizeof zeros; /* the last call gets a byte more */
+        SEE(rsp_bench_take(&b, zeros, len, &used, reply, sizeof reply, &written) == RSP_OK && written == 0);
+        SEE(used == (n + len > 1048576 ? len - 1 : len));
+        SEE(rsp_bench_take(&full, zeros, used, &used, reply, sizeof reply, &written) == RSP_OK && written == 0);
+    }
+    SEE(replies(&b, "", "") && refuses(&b, 1, 0, RSP_NO_ROOM) && refuses(&b, 1, sizeof reply, RSP_TOO_LONG));
+    SEE(refuses(&b, 1, sizeof reply, RSP_TOO_LONG) && refuses(&b, 0, sizeof reply, RSP_TOO_LONG));
+    SEE(refuses_end(&b, sizeof reply, RSP_TOO_LONG) && refuses_end(&b, 0, RSP_NO_ROOM));
+    SEE(rsp_bench_memory(&b, RSP_DMEM, 0, &byte, 1) == RSP_OK && byte == 0);
+    SEE(ends(&full, "fault 32 LineTooLong\n"));
+    rsp_bench_free(&b);
+    rsp_bench_free(&full);
+}
+
 int main(void)
 {
     without_machine();
@@ -762,6 +876,9 @@ int main(void)
     tasks();
     states();
     texts();
+    without_bench();
+    benches();
+    longest_script();
 #ifndef QUIET
     printf("%d passed, %d failed\n", passed, failed);
 #endif

@@ -1,5 +1,6 @@
 /* What the calls of rsp.h take of memory: linked with -Wl,--wrap=malloc,--wrap=realloc,--wrap=free.
  *   - rsp_new, rsp_copy, rsp_assemble and rsp_explain while the K-th call of malloc or realloc fails, for each K. A handle keeps what it held.
+ *   - rsp_bench_new the same, and a script with blocks: each refused call is made again, and the replies are those to the whole script.
  *   - What a handle held is freed when rsp_new or rsp_copy puts another machine into it.
  *   - No other call takes memory or frees any: accepted, refused, and of a handle that holds no machine.
  *   - All that was taken is freed: also by calls.c, whose main is all_calls here. */
@@ -122,6 +123,85 @@ static void failing_explain(void)
     see("rsp_explain takes memory", k, k > 0 && status == RSP_OK && out.number == 1 && out.kind == RSP_OPERAND_JUMP);
 }
 
+static rsp_bench b = RSP_NONE;
+static uint8_t reply[RSP_REPLIES];
+static size_t used, written;
+
+static void failing_bench_new(void)
+{
+    uint32_t status = RSP_NO_MEMORY;
+    long k, refused_calls = 0, blocks = held;
+    for (k = 0; k < 100; k++) {
+        left = k;
+        status = rsp_bench_new(&b, image, 64);
+        left = -1;
+        if (status == RSP_OK) break;
+        refused_calls++;
+        see("rsp_bench_new", k, status == RSP_NO_MEMORY && held == blocks && b.at == NULL);
+    }
+    see("rsp_bench_new takes memory", k, refused_calls >= 3 && status == RSP_OK && held > blocks);
+    blocks = held;
+    see("rsp_bench_new frees what the handle held", k, rsp_bench_new(&b, image, 64) == RSP_OK && held == blocks);
+}
+
+/* Makes a call until it isn't refused; while its allocation number k fails, it is, with nothing filled. */
+static uint32_t made(long k, const char *bytes, size_t len, int is_end)
+{
+    uint32_t status;
+    left = k;
+    used = written = 77;
+    reply[0] = 0x55;
+    status = is_end ? rsp_bench_end(&b, reply, sizeof reply, &written)
+                    : rsp_bench_take(&b, (const uint8_t *)bytes, len, &used, reply, sizeof reply, &written);
+    if (status == RSP_NO_MEMORY) see("a refused call fills nothing", k, used == 77 && written == 77 && reply[0] == 0x55);
+    left = -1;
+    return status;
+}
+
+/* Answers the script with each call at first failing at its allocation k, in pieces of n bytes, and returns how often one failed. */
+static long answered(const char *script, size_t n, long k, const char *wanted)
+{
+    static char out[4096];
+    size_t at = 0, len = strlen(script), count = 0, before = 0;
+    long failures = 0;
+    int is_end = 0;
+    see("the bench", k, rsp_bench_new(&b, image, 64) == RSP_OK);
+    while (!is_end) {
+        size_t piece = len - at < n ? len - at : n;
+        uint32_t status;
+        long blocks = held;
+        is_end = at == len;
+        status = made(k, script + at, piece, is_end);
+        if (status == RSP_NO_MEMORY) {
+            failures++;
+            see("a refused call holds no more", k, held == blocks);
+            status = made(-1, script + at, piece, is_end);
+        }
+        see("the call again", k, status == RSP_OK && count + written <= sizeof out);
+        if (status != RSP_OK) return -1;
+        memcpy(out + count, reply, written);
+        count += written;
+        before = at;
+        at += is_end ? 0 : used;
+        if (!is_end && at == before) return -1;
+    }
+    see("the replies", k, count == strlen(wanted) && !memcmp(out, wanted, count));
+    return failures;
+}
+
+static void failing_script(void)
+{
+    static const char script[] = "asm 0\na: nop\nb: beq $0, $0, a\nnop\nlonger_label: j b\nnop\nbreak\nend\nstep\nasm 64\nc: nop\nfoo\nend\n"
+                                 "dis 0 1\nasm 0\nnop\nend";
+    static const char wanted[] = "ok 6 words\nstep Done pc 004\nfault 11 UnknownName line 2\n000 00000000 nop\nok 1 words\n";
+    long k, failures = 1, all = 0;
+    size_t n;
+    for (n = 1; n <= sizeof script; n = n * 4)
+        for (k = 0, failures = 1; k < 100 && failures > 0; k++) all += failures = answered(script, n, k, wanted);
+    see("a script with blocks takes memory", all, all > 20 && failures == 0);
+    rsp_bench_free(&b);
+}
+
 /* That a call takes no memory and frees none. */
 #define NONE(call) do { \
     long before = taken, blocks = held; \
@@ -237,6 +317,38 @@ static void other_calls(rsp *m)
     NONE(rsp_listing(m, 0, lines, 1024));
 }
 
+/* What a bench is given in one call. */
+#define TAKE(text) rsp_bench_take(&b, (const uint8_t *)text, sizeof text - 1, &used, reply, sizeof reply, &written)
+
+/* Lines outside a block take no memory, nor do those that are refused, the end, and the memories. */
+static void bench_calls(void)
+{
+    uint8_t bytes[64];
+    see("the bench", -1, rsp_bench_new(&b, image, 64) == RSP_OK);
+    NONE(TAKE("st"));
+    NONE(TAKE("ep\n"));
+    NONE(TAKE("run 1000\n"));
+    NONE(TAKE("asm 2\n"));
+    NONE(TAKE("asm 0\n"));
+    NONE(TAKE("end\n"));
+    NONE(TAKE("load dmem 0 0102\n"));
+    NONE(TAKE("regs\n"));
+    NONE(TAKE("back 2\n"));
+    REFUSED(rsp_bench_take(&b, bytes, 0, &used, reply, RSP_REPLIES - 1, &written));
+    REFUSED(rsp_bench_end(&b, reply, 0, &written));
+    NONE(rsp_bench_memory(&b, RSP_RDRAM, 0, bytes, 64));
+    REFUSED(rsp_bench_memory(&b, RSP_RDRAM, 1, bytes, 64));
+    NONE(TAKE("vregs"));
+    NONE(rsp_bench_end(&b, reply, sizeof reply, &written));
+    REFUSED(TAKE("regs\n"));
+    REFUSED(rsp_bench_end(&b, reply, sizeof reply, &written));
+    rsp_bench_free(&b);
+    NONE(rsp_bench_free(&b));
+    REFUSED(TAKE("regs\n"));
+    REFUSED(rsp_bench_end(&b, reply, sizeof reply, &written));
+    REFUSED(rsp_bench_memory(&b, RSP_RDRAM, 0, bytes, 64));
+}
+
 /* Handles that hold none stay so. */
 static void without_machine(void)
 {
@@ -261,6 +373,9 @@ int main(void)
     failing_explain();
     other_calls(&m);
     without_machine();
+    failing_bench_new();
+    failing_script();
+    bench_calls();
     see("two machines are held", -1, held > 0);
     rsp_free(&m);
     rsp_free(&from);

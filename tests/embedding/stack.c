@@ -34,6 +34,10 @@ static rsp_move move;
 static rsp_traced entries[256];
 static rsp_changes changes;
 
+static rsp_bench b = RSP_NONE;
+static uint8_t reply[RSP_REPLIES];
+static size_t written;
+
 static void nothing(void) { }
 static void version(void) { word = rsp_version(); }
 static void make(void) { word = rsp_new(&m, image, sizeof image, 4096); }
@@ -74,6 +78,19 @@ static void assemble(void) { word = rsp_assemble(0, (const uint8_t *)text, strle
 static void explain(void) { word = rsp_explain(0, (const uint8_t *)text, strlen(text), &operand); }
 static void disassemble(void) { word = rsp_text(0x4a631050u, 0, lines); }
 static void listing(void) { word = rsp_listing(&m, 0, lines, 1024); }
+static void bench(void) { word = rsp_bench_new(&b, image, sizeof image); }
+static void give(const char *bytes, size_t len)
+{
+    for (; len; bytes += number, len -= number)
+        word = rsp_bench_take(&b, (const uint8_t *)bytes, len, &number, reply, sizeof reply, &written);
+}
+static void open_block(void) { give("asm 0\n", 6); give(text, strlen(text)); }
+static void close_block(void) { give("end\n", 4); }
+static void bench_run(void) { give("watch 0 64\nrun 100000\n", 22); }
+static void bench_looks(void) { give("vregs\nregs\nmem dmem 0 1024\ndis 0 64\n", 37); }
+static void bench_memory(void) { word = rsp_bench_memory(&b, RSP_RDRAM, 0, bytes, sizeof bytes); }
+static void bench_end(void) { give("vregs", 5); word = rsp_bench_end(&b, reply, sizeof reply, &written); }
+static void bench_free(void) { rsp_bench_free(&b); }
 
 /* In an order in which they follow one another: `assemble` fills `words`, and the steps run what it made. */
 static const struct {
@@ -90,7 +107,9 @@ static const struct {
     { "rsp_set", set }, { "rsp_state_fault", fault }, { "rsp_set_pc", set_pc }, { "rsp_pass", pass }, { "rsp_reg", reg }, { "rsp_regs", regs },
     { "rsp_vreg", vreg }, { "rsp_acc", acc }, { "rsp_flags", flag }, { "rsp_divider", divide }, { "rsp_peek", peek }, { "rsp_read", taken },
     { "rsp_write", transfer }, { "rsp_sp", sp_words }, { "rsp_set_sp", set_sp }, { "rsp_text", disassemble }, { "rsp_listing", listing },
-    { "rsp_task", task }
+    { "rsp_task", task }, { "rsp_bench_new", bench }, { "rsp_bench_take of lines", open_block }, { "rsp_bench_take of end", close_block },
+    { "rsp_bench_take of run", bench_run }, { "rsp_bench_take of looks", bench_looks }, { "rsp_bench_memory", bench_memory },
+    { "rsp_bench_end", bench_end }, { "rsp_bench_free", bench_free }
 };
 
 #ifdef _WIN32

@@ -26,6 +26,7 @@ CALLS = ["step", "step_recorded", "steps", "steps_recorded_until", "steps_until"
 UNSAFE = [
     "crates/rsp_c/src/handle.rt: unsafe { Box::from_raw(alloc, ptr) }",
     "crates/rsp_c/src/handle.rt: unsafe impl Send for Handle {}",
+    "crates/rsp_c/src/handle.rt: unsafe impl Send for BenchHandle {}",
 ]
 # What of rsp_machine matches on an instruction. `stored_at` is called before a step, not while one executes.
 MATCHES = ["footprint_of", "is_refused", "perform", "stored_at"]

@@ -60,6 +60,20 @@ def image_of(path: Path) -> bytes:
     return bytes(i % 256 for i in range(length)) if "count" in words else bytes(length)
 
 
+def stored() -> List[Path]:
+    """The scripts with their replies beside them."""
+    return sorted(
+        [*TESTS.glob("scripts/*/*.script"), *TOP.glob("examples/*.rsp"), *TOP.glob("microcode/*.rsp")]
+    )
+
+
+def wanted_of(script: Path) -> Tuple[int, bytes, bytes]:
+    """The status, the output and the complaints that are wanted of a script."""
+    names = ("status", "expected", "out", "stderr")
+    status, expected, output, errors = (content(script.with_suffix(f".{it}")) or b"" for it in names)
+    return int(status or 0), expected + output, errors
+
+
 def script_wrong(program: str, script: Path, folder: Path) -> List[str]:
     """What is wrong with the replies to a script."""
     rdram, image, saved = script.with_suffix(".rdram"), folder / "image", folder / "saved"
@@ -71,11 +85,8 @@ def script_wrong(program: str, script: Path, folder: Path) -> List[str]:
     if is_saved:
         saved.unlink(missing_ok=True)
         words += ["--save", str(saved)]
-    beside = {
-        it: content(script.with_suffix(f".{it}")) or b"" for it in ("expected", "out", "stderr", "status")
-    }
-    expected, status = beside["expected"] + beside["out"], int(beside["status"] or 0)
-    found = wrong(ended(program, words, script.read_bytes()), status, expected, beside["stderr"])
+    status, expected, errors = wanted_of(script)
+    found = wrong(ended(program, words, script.read_bytes()), status, expected, errors)
     if status == 0:
         found += cut_wrong(program, words, script.read_bytes(), expected)
     return found + ["the saved image isn't the read one"] * (is_saved and content(saved) != content(image))
@@ -296,8 +307,7 @@ def older_processor(program: str) -> Iterator[Case]:
 
 
 def cases(program: str, folder: Path) -> Iterator[Case]:
-    scripts = [*TESTS.glob("scripts/*/*.script"), *TOP.glob("examples/*.rsp"), *TOP.glob("microcode/*.rsp")]
-    for script in sorted(scripts):
+    for script in stored():
         yield f"{script.parent.name}/{script.stem}", script_wrong(program, script, folder)
     client = run(sys.executable, TOP / "examples/check_row.py", program, stderr=subprocess.DEVNULL).stdout
     agreed = "VMULF: 1600 lanes agree with the model\n"

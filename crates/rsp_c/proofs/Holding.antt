@@ -5,7 +5,7 @@ use base.Fraction.{full_share}
 use base.Logic.{guard, snd∗, via, guard_i}
 use contract.Monad.{fact_use}
 use denote.Memory.{lone}
-use denote.RattleType.{Valss}
+use denote.RattleType.{RattleType, Valss}
 use denote.RawPtr.{lies_at, Testable}
 use denote.Struct.Struct.{within}
 use denote.Struct.Owning.{shape}
@@ -15,40 +15,54 @@ use Rattle.std.specs.Global.{Global}
 use Rattle.std.proofs.GlobalToken.{dealloc_token-Testable}
 use Rattle.std.proofs.alloc.Calls.{Fits, handle_tells}
 use Rattle.std_heap.specs.contracts.GlobalAllocator.TheImpl.{ghosts}
-use Rattle.rsp_c.specs.Holding.{Opened, holding}
+use Rattle.rsp_c.specs.Holding.{holding}
 use Rattle.rsp_c.specs.contracts.handle.Handle as Handle
-use Rattle.rsp_c.proofs.AsBox.{E}
+use Rattle.rsp_c.specs.contracts.handle.BenchHandle as BenchHandle
+use Rattle.rsp_c.proofs.AsBox.{E, EB}
 
-abbrev pub boxed : Global → Ptr → Opened → base.Fml.Fml
-boxed a p x = box_owns (ghosts.dealloc_token a) E.row p x
+abbrev pub boxed : (row : RattleType) → Global → Ptr → row.Denot → base.Fml.Fml
+boxed row a p x = box_owns (ghosts.dealloc_token a) row p x
 
 abbrev pub pair : Val → Val → Val
 pair v w = vstruct (vcons v (vcons w vnil))
 
-module _ {M : Type 1} {𝓤 : Ura M} (𝓛 : Logic 𝓤) where
-  -- a session's block may be compared with null
-  pub tested : (a : Global) (p : Ptr) (x : Opened) → ent 𝓤 (sem 𝓛 (boxed a p x)) (guard 𝓤 (Testable p) (sem 𝓛 (boxed a p x)))
-  tested a p x = let B : SProp 𝓤 = sem 𝓛 (boxed a p x) in
-      fact_use 𝓤 (Testable p) (via 𝓤 _ (snd∗ 𝓤 (sem 𝓛 (lies_at E.row full_share p x)) (sem 𝓛 (ghosts.dealloc_token a (bare (lone E.row.mir)) p))) (dealloc_token-Testable 𝓛 a (bare (lone E.row.mir)) p)) (guard_i 𝓤 (Testable p) B)
+module _ {M : Type 1} {𝓤 : Ura M} (𝓛 : Logic 𝓤) (row : RattleType) where
+  -- a block may be compared with null
+  pub tested : (a : Global) (p : Ptr) (x : row.Denot) → ent 𝓤 (sem 𝓛 (boxed row a p x)) (guard 𝓤 (Testable p) (sem 𝓛 (boxed row a p x)))
+  tested a p x = let B : SProp 𝓤 = sem 𝓛 (boxed row a p x) in
+      fact_use 𝓤 (Testable p) (via 𝓤 _ (snd∗ 𝓤 (sem 𝓛 (lies_at row full_share p x)) (sem 𝓛 (ghosts.dealloc_token a (bare (lone row.mir)) p))) (dealloc_token-Testable 𝓛 a (bare (lone row.mir)) p)) (guard_i 𝓤 (Testable p) B)
 
 module _ {M : Type 1} {𝓤 : Ura M} {𝓛 : Logic 𝓤} {K : Type 0} {Γ : List (Item 𝓤)} {G : Goal 𝓤 𝓛.H} where
-  -- a handle is null and holds none, or leads to a block that holds one
-  pub either : K → (a : Global) (p : Ptr) (s : Option Opened) → (p ≡ null_ptr → s ≡ None → Seq K 𝓛 Γ G)
-      → ((b o : ℕ) (x : Opened) → p ≡ block_ptr b o → s ≡ Some x → Testable (block_ptr b o) → Seq K 𝓛 (‵ (boxed a (block_ptr b o) x) ∷ Γ) G) → Seq K 𝓛 (‵ (holding a p s) ∷ Γ) G
-  either t a p None none one = feq_l t (λ e. none e refl)
-  either t a p (Some x) none one =
-      in_a_block t p (λ q. boxed a q x) (fst∗ 𝓤 (never 𝓤) (sem 𝓛 (ghosts.dealloc_token a (bare (lone E.row.mir)) null_ptr))) (λ b o e.
-      use1 𝓛 (given (Testable (block_ptr b o)) (‵ (boxed a (block_ptr b o) x))) (tested 𝓛 a (block_ptr b o) x) $ learn t (λ test. one b o x e refl test))
+  -- a handle is null and holds nothing, or leads to a block
+  pub either : (row : RattleType) → K → (a : Global) (p : Ptr) (s : Option row.Denot) → (p ≡ null_ptr → s ≡ None → Seq K 𝓛 Γ G)
+      → ((b o : ℕ) (x : row.Denot) → p ≡ block_ptr b o → s ≡ Some x → Testable (block_ptr b o) → Seq K 𝓛 (‵ (boxed row a (block_ptr b o) x) ∷ Γ) G) → Seq K 𝓛 (‵ (holding row a p s) ∷ Γ) G
+  either row t a p None none one = feq_l t (λ e. none e refl)
+  either row t a p (Some x) none one =
+      in_a_block t p (λ q. boxed row a q x) (fst∗ 𝓤 (never 𝓤) (sem 𝓛 (ghosts.dealloc_token a (bare (lone row.mir)) null_ptr))) (λ b o e.
+      use1 𝓛 (given (Testable (block_ptr b o)) (‵ (boxed row a (block_ptr b o) x))) (tested 𝓛 row a (block_ptr b o) x) $ learn t (λ test. one b o x e refl test))
 
   -- a handle by value is [what it holds; the allocator]
   pub held_out : K → (d : Handle.the_row.Denot) (vs : List Val)
-      → ((h : Val) → vs ≡ pair (ptr_val d.at) h ∷ [] → Fits E.al h → Seq K 𝓛 (‵ (holding d.alloc d.at d.session) ∷ ‵ (E.al.row.own_val d.alloc (h ∷ [])) ∷ Γ) G) → Seq K 𝓛 (‵ (Handle.the_row.own_val d vs) ∷ Γ) G
+      → ((h : Val) → vs ≡ pair (ptr_val d.at) h ∷ [] → Fits E.al h → Seq K 𝓛 (‵ (holding E.row d.alloc d.at d.session) ∷ ‵ (E.al.row.own_val d.alloc (h ∷ [])) ∷ Γ) G) → Seq K 𝓛 (‵ (Handle.the_row.own_val d vs) ∷ Γ) G
   held_out t d vs k =
       fsplit t $ fpick t (λ vss. fsplit t $ feq_l t (λ ev. fsplit t $ feq_l t (λ ep. fsplit t $ handle_tells E.al t d.alloc vss.1.0 (λ h ea fits. move t (1 ∷ []) $ drop t $ move t (1 ∷ []) $ k h
       (subst (λ (ws : List Val). vs ≡ vstruct (of_list (ptr_val d.at ∷ (ws ++ []))) ∷ []) ea (subst (λ (ps : List Val). vs ≡ vstruct (of_list (ps ++ (vss.1.0 ++ []))) ∷ []) ep ev)) fits))))
 
   pub held_in : K → (d : Handle.the_row.Denot) (h : Val)
-      → Step K 𝓛 (‵ (Handle.the_row.own_val d (pair (ptr_val d.at) h ∷ [])) ∷ Γ) G (‵ (holding d.alloc d.at d.session) ∷ ‵ (E.al.row.own_val d.alloc (h ∷ [])) ∷ Γ) G
+      → Step K 𝓛 (‵ (Handle.the_row.own_val d (pair (ptr_val d.at) h ∷ [])) ∷ Γ) G (‵ (holding E.row d.alloc d.at d.session) ∷ ‵ (E.al.row.own_val d.alloc (h ∷ [])) ∷ Γ) G
   held_in t d h = step (λ s. let v : Val = pair (ptr_val d.at) h in let p : List Val = ptr_val d.at ∷ [] in
       nothing t $ move t (2 ∷ 0 ∷ []) $ fjoin t $ feq_i t (List Val) p p refl $ fjoin t $ feq_i t (List Val) (v ∷ []) (v ∷ []) refl $ fjoin t $
       fpack t (Valss (RawPtr ∷ E.al.row ∷ [])) (within (shape Handle.the_type) (d.at, (((tt, tt), tt), tt)) (v ∷ [])) (p, (h ∷ [], tt)) $ fjoin t $ s)
+
+  -- the same of a bench's handle
+  pub bench_out : K → (d : BenchHandle.the_row.Denot) (vs : List Val)
+      → ((h : Val) → vs ≡ pair (ptr_val d.at) h ∷ [] → Fits EB.al h → Seq K 𝓛 (‵ (holding EB.row d.alloc d.at d.bench) ∷ ‵ (EB.al.row.own_val d.alloc (h ∷ [])) ∷ Γ) G) → Seq K 𝓛 (‵ (BenchHandle.the_row.own_val d vs) ∷ Γ) G
+  bench_out t d vs k =
+      fsplit t $ fpick t (λ vss. fsplit t $ feq_l t (λ ev. fsplit t $ feq_l t (λ ep. fsplit t $ handle_tells EB.al t d.alloc vss.1.0 (λ h ea fits. move t (1 ∷ []) $ drop t $ move t (1 ∷ []) $ k h
+      (subst (λ (ws : List Val). vs ≡ vstruct (of_list (ptr_val d.at ∷ (ws ++ []))) ∷ []) ea (subst (λ (ps : List Val). vs ≡ vstruct (of_list (ps ++ (vss.1.0 ++ []))) ∷ []) ep ev)) fits))))
+
+  pub bench_in : K → (d : BenchHandle.the_row.Denot) (h : Val)
+      → Step K 𝓛 (‵ (BenchHandle.the_row.own_val d (pair (ptr_val d.at) h ∷ [])) ∷ Γ) G (‵ (holding EB.row d.alloc d.at d.bench) ∷ ‵ (EB.al.row.own_val d.alloc (h ∷ [])) ∷ Γ) G
+  bench_in t d h = step (λ s. let v : Val = pair (ptr_val d.at) h in let p : List Val = ptr_val d.at ∷ [] in
+      nothing t $ move t (2 ∷ 0 ∷ []) $ fjoin t $ feq_i t (List Val) p p refl $ fjoin t $ feq_i t (List Val) (v ∷ []) (v ∷ []) refl $ fjoin t $
+      fpack t (Valss (RawPtr ∷ EB.al.row ∷ [])) (within (shape BenchHandle.the_type) (d.at, (((tt, tt), tt), tt)) (v ∷ [])) (p, (h ∷ [], tt)) $ fjoin t $ s)

@@ -17,6 +17,8 @@ use Rattle.rsp_debug.specs.declared.moves.Moves.{Moves}
 use Rattle.rsp_debug.specs.Breaks.{break_fault}
 use Rattle.rsp_debug.specs.Stops.{is_break}
 use Rattle.rsp_debug.specs.Watches.{has_watch}
+use Rattle.rsp_feed.specs.declared.bench.BenchFault.{BenchFault}
+use Rattle.rsp_feed.specs.declared.bench.BenchFault.TheVariants as feeding
 use Rattle.rsp_syntax.specs.declared.fault.AsmFaultKind.{AsmFaultKind}
 use Rattle.rsp_syntax.specs.declared.fault.AsmFaultKind.TheVariants as fault
 
@@ -79,6 +81,12 @@ add_watch_status (Err with_new_watch.WatchFull) = 12
 -- a watch that is dropped
 abbrev pub drop_watch_status : ℕ → List (Option Watch) → ℕ
 drop_watch_status k watches = if has_watch k watches then 0 else 13
+
+-- a bench that refuses
+abbrev pub bench_fault_status : BenchFault → ℕ
+bench_fault_status feeding.Ended = 16
+bench_fault_status feeding.ScriptTooLong = 17
+bench_fault_status feeding.OutOfMemory = 2
 
 -- the number of a fault of a text
 abbrev pub fault_number : AsmFaultKind → ℕ

@@ -1,4 +1,4 @@
--- What a handle owns: nothing at null, and else what a box of a debugger owns.
+-- What a handle owns: nothing at null, and else what a box owns, of a debugger or of a bench.
 use base.Fml.{Fml, feq}
 use denote.RattleType.{RattleType}
 use denote.RawPtr.{Ptr, null_ptr}
@@ -9,6 +9,7 @@ use Rattle.std_heap.specs.contracts.GlobalAllocator.TheImpl.{ghosts}
 use Rattle.rsp_acc.specs.contracts.planes.PlaneAcc as PlaneAcc
 use Rattle.rsp_acc.specs.contracts.planes.PlaneAccAcc.TheImpl as Acc
 use Rattle.rsp_debug.specs.contracts.debugger.Debugger as Debugger
+use Rattle.rsp_c.specs.contracts.held_bench.HeldBench as HeldBench
 
 abbrev pub session_row : RattleType
 session_row = Debugger.the_row PlaneAcc.the_row Acc.ghosts
@@ -16,6 +17,12 @@ session_row = Debugger.the_row PlaneAcc.the_row Acc.ghosts
 abbrev pub Opened : Type 0
 Opened = session_row.Denot
 
-abbrev pub holding : Global → Ptr → Option Opened → Fml
-holding alloc p None = feq Ptr p null_ptr
-holding alloc p (Some x) = box_owns (ghosts.dealloc_token alloc) session_row p x
+abbrev pub bench_row : RattleType
+bench_row = HeldBench.the_row
+
+abbrev pub OpenedBench : Type 0
+OpenedBench = bench_row.Denot
+
+abbrev pub holding : (row : RattleType) → Global → Ptr → Option row.Denot → Fml
+holding row alloc p None = feq Ptr p null_ptr
+holding row alloc p (Some x) = box_owns (ghosts.dealloc_token alloc) row p x

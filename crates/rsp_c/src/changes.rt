@@ -9,7 +9,7 @@ ghost use Rattle.rsp_c.specs.Calls.{status_of, IsFilled};
 ghost use Rattle.rsp_c.specs.Changes.{quadwords_of, changes_by, c_changes};
 
 use crate::c_structs::{RspAccumulators, RspDivideState};
-use crate::handle::{Handle, with_debugger};
+use crate::handle::{Handle, with_held};
 use crate::status::{OK, status_of_step};
 use crate::to_c::{c_accumulators, c_divider};
 use rsp_acc::PlaneAcc;
@@ -101,7 +101,7 @@ pub extern "C" fn rsp_step_changes(handle: &mut Handle, alloc: Global, out: &mut
     ensures next { handle.new.session ≡ option_map after_debugger_step handle.old.session }
     ensures changes { IsFilled result (λ d. c_changes d.state (step_of d.state).1) handle.old.session out.old out.new }
 {
-    with_debugger!(handle, alloc, |debugger| {
+    with_held!(handle, alloc, |debugger| {
         let pc = debugger.machine().pc();
         let word = debugger.machine().imem().aligned_word(usize::from(pc));
         let writes = Writes::of(debugger.machine());

@@ -1,9 +1,10 @@
-// What C holds of a machine: a pointer, or null.
+// What C holds of a machine, and of a bench: a pointer, or null.
 
 ghost use Rattle.std.specs.Box.Ownership.{box_owns};
 ghost use Rattle.std.specs.Prelude.{◌≡◌, Option, None, Some, MatchOption};
-ghost use Rattle.rsp_c.specs.Holding.{holding, Opened};
+ghost use Rattle.rsp_c.specs.Holding.{holding, session_row, Opened, bench_row, OpenedBench};
 
+use crate::held_bench::HeldBench;
 use rsp_acc::PlaneAcc;
 use rsp_debug::Debugger;
 use std::alloc::{Allocator, Global};
@@ -49,7 +50,7 @@ pub struct Handle {
 }
 
 impl Model for Handle {
-    ghost also_owns = { λ h. holding h.alloc h.at h.session };
+    ghost also_owns = { λ h. holding session_row h.alloc h.at h.session };
 }
 
 // The pointer is to a block that the handle alone owns, and nothing in a session is bound to a thread.
@@ -119,36 +120,116 @@ impl Drop for Handle {
     }
 }
 
-/// The body of a call with a handle. The debugger is taken out, something is done with it, and it is put back. NO_MACHINE if the handle
-/// holds none. The value of what is done is the status; after `do` it is OK. After `if` it is OUT_OF_RANGE unless the condition holds.
-macro_rules! with_debugger {
-    ($handle:ident, $alloc:ident, |$debugger:ident| do $work:expr) => {
-        with_debugger!($handle, $alloc, |$debugger| {
+/// Owns a bench, or nothing. In C it is `rsp_bench`, a struct of one pointer. An export of a generic struct is refused, so this says again
+/// what [`Handle`] says of a debugger.
+#[repr(C)]
+pub struct BenchHandle {
+    at: *mut u8,
+    alloc: Global,
+    pub ghost bench: { Option OpenedBench },
+}
+
+impl Model for BenchHandle {
+    ghost also_owns = { λ h. holding bench_row h.alloc h.at h.bench };
+}
+
+// As of a `Handle`.
+unsafe impl Send for BenchHandle {}
+
+impl BenchHandle {
+    /// A handle that owns nothing.
+    pub fn none(alloc: Global) -> BenchHandle
+        ensures { result.bench ≡ None }
+    {
+        BenchHandle {
+            at: std::ptr::null_mut(),
+            alloc,
+        }
+    }
+
+    /// The handle of a bench.
+    pub fn of(parts: BoxParts<HeldBench, Global>) -> BenchHandle
+        ensures { result.bench ≡ Some parts.value }
+    {
+        let BoxParts { ptr, alloc } = parts;
+        BenchHandle {
+            at: ptr as *mut u8,
+            alloc,
+        }
+    }
+
+    /// The bench of the handle, if it owns one.
+    pub fn into_parts(self) -> Option<BoxParts<HeldBench, Global>>
+        ensures { MatchOption result (self.bench ≡ None) (λ p. self.bench ≡ Some p.value) }
+    {
+        let BenchHandle { at, alloc } = self;
+        if at.is_null() {
+            return None;
+        }
+        Some(BoxParts {
+            ptr: at as *mut HeldBench,
+            alloc,
+        })
+    }
+
+    /// Takes the bench out of the handle, if it owns one.
+    pub fn take(&mut self, alloc: Global) -> Option<Box<HeldBench, Global>>
+        ensures was { MatchOption result (self.old.bench ≡ None) (λ b. self.old.bench ≡ Some b.value) }
+        ensures now { self.new.bench ≡ None }
+    {
+        let held = std::mem::replace(self, BenchHandle::none(alloc));
+        match held.into_parts() {
+            None => None,
+            Some(parts) => Some(parts.into_box()),
+        }
+    }
+
+    /// Puts a bench into the handle. The one that it owned is freed.
+    pub fn put(&mut self, bench: Box<HeldBench, Global>)
+        ensures { self.new.bench ≡ Some bench.value }
+    {
+        *self = BenchHandle::of(BoxParts::of(bench));
+    }
+}
+
+impl Drop for BenchHandle {
+    fn drop(self) {
+        if let Some(parts) = self.into_parts() {
+            drop(parts.into_box());
+        }
+    }
+}
+
+/// The body of a call with a handle. What it holds is taken out, something is done with it, and it is put back. NO_MACHINE if it holds
+/// nothing. The value of what is done is the status; after `do` it is OK. After `if` it is OUT_OF_RANGE unless the condition holds.
+macro_rules! with_held {
+    ($handle:ident, $alloc:ident, |$held:ident| do $work:expr) => {
+        with_held!($handle, $alloc, |$held| {
             $work;
             $crate::status::OK
         })
     };
-    ($handle:ident, $alloc:ident, |$debugger:ident| if $holds:expr => do $work:expr) => {
-        with_debugger!($handle, $alloc, |$debugger| if $holds => {
+    ($handle:ident, $alloc:ident, |$held:ident| if $holds:expr => do $work:expr) => {
+        with_held!($handle, $alloc, |$held| if $holds => {
             $work;
             $crate::status::OK
         })
     };
-    ($handle:ident, $alloc:ident, |$debugger:ident| if $holds:expr => $work:expr) => {
-        with_debugger!($handle, $alloc, |$debugger| {
+    ($handle:ident, $alloc:ident, |$held:ident| if $holds:expr => $work:expr) => {
+        with_held!($handle, $alloc, |$held| {
             if $holds { $work } else { $crate::status::OUT_OF_RANGE }
         })
     };
-    ($handle:ident, $alloc:ident, |$debugger:ident| $work:expr) => {
+    ($handle:ident, $alloc:ident, |$held:ident| $work:expr) => {
         match $handle.take($alloc) {
             None => $crate::status::NO_MACHINE,
-            Some(mut $debugger) => {
+            Some(mut $held) => {
                 let status = $work;
-                $handle.put($debugger);
+                $handle.put($held);
                 status
             }
         }
     };
 }
 
-pub(crate) use with_debugger;
+pub(crate) use with_held;

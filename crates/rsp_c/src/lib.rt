@@ -1,7 +1,7 @@
 //! The library for C: a handle that C keeps, and calls that return a status for any arguments.
 //!
 //! `library/c/rsp.h` is the header, and states the preconditions. The modules are by topic: a machine's life, its steps and its stops, whole states
-//! and parts of them, memories, SP registers, and texts.
+//! and parts of them, memories, SP registers, texts, and scripts.
 #![tactic(auto)]
 
 mod c_structs;
@@ -9,10 +9,12 @@ mod changes;
 mod explain;
 mod fault;
 mod handle;
+mod held_bench;
 pub mod laws;
 mod life;
 mod memory;
 mod queries;
+mod script;
 mod sp;
 mod state;
 mod status;

@@ -5,7 +5,7 @@ ghost use Rattle.rsp_machine.specs.State.{start_of};
 ghost use Rattle.rsp_memory.specs.Image.{IsImageLength};
 ghost use Rattle.rsp_debug.specs.Debugging.{debugging_of};
 
-use crate::handle::{Handle, with_debugger};
+use crate::handle::{Handle, with_held};
 use crate::status::{NO_MACHINE, NO_MEMORY, OK, OUT_OF_RANGE};
 use rsp_acc::{Acc, PlaneAcc};
 use rsp_debug::Debugger;
@@ -25,10 +25,22 @@ pub extern "C" fn rsp_version() -> u32
 }
 
 /// Whether an image can have this length: a multiple of 8 from 64 to 8388608.
-fn is_image_length(n: usize) -> bool
+pub fn is_image_length(n: usize) -> bool
     ensures { IsTrue result ↔ IsImageLength n }
 {
     n >= 64 && n <= 0x80_0000 && n % 8 == 0
+}
+
+/// A copy of an image of the RDRAM. AllocError if out of memory.
+#[inline(always)]
+pub fn rdram_of(alloc: Global, image: &[u8]) -> Result<Rdram, AllocError>
+    requires { IsImageLength (length image.now) }
+    ensures { IfOk result (λ rdram. rdram ≡ image.now) }
+{
+    let Ok(rdram) = Rdram::from_bytes(Vec::from_slice(alloc, image)?) else {
+        unreachable!()
+    };
+    Ok(rdram)
 }
 
 /// A debugger of a machine with a copy of an image of the RDRAM, and a history of `depth` states. AllocError if out of memory.
@@ -41,10 +53,8 @@ fn new_debugger(
     requires { IsImageLength (length image.now) }
     ensures { IfOk result (λ debugger. debugger.value ≡ debugging_of depth (start_of image.now)) }
 {
-    let Ok(rdram) = Rdram::from_bytes(Vec::from_slice(alloc, image)?) else {
-        unreachable!()
-    };
-    let Ok(debugger) = Debugger::try_new(alloc, Machine::new(rdram), depth) else {
+    let machine = Machine::new(rdram_of(alloc, image)?);
+    let Ok(debugger) = Debugger::try_new(alloc, machine, depth) else {
         return Err(AllocError);
     };
     match Box::new(alloc, debugger) {
@@ -115,7 +125,7 @@ pub extern "C" fn rsp_copy(to: &mut Handle, alloc: Global, from: &mut Handle) ->
     ensures kept { from.new.session ≡ from.old.session }
     ensures same { (result ≡ OK → ⊥) → to.new.session ≡ to.old.session }
 {
-    with_debugger!(from, alloc, |debugger| match copy_of(&debugger, alloc) {
+    with_held!(from, alloc, |debugger| match copy_of(&debugger, alloc) {
         Err(_) => NO_MEMORY,
         Ok(copy) => {
             to.put(copy);

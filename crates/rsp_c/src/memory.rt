@@ -9,7 +9,7 @@ ghost use Rattle.rsp_c.specs.Calls.{IsDoneIf};
 ghost use Rattle.rsp_memory.specs.Words.{words_bytes};
 ghost use Rattle.byteorder.specs.Endian.{IsRead, big_number};
 
-use crate::handle::{Handle, with_debugger};
+use crate::handle::{Handle, with_held};
 use crate::status::{OK, OUT_OF_RANGE, bank_of};
 use byteorder::{BigEndian, ByteOrder};
 use rsp_acc::{Acc, PlaneAcc};
@@ -22,7 +22,7 @@ use std::alloc::Global;
 const PIECE: usize = 64;
 
 /// The bytes of a bank from an address on, `n` of them, which are all inside.
-fn bytes_of<A: Acc>(machine: &Machine<A>, bank: Bank, a: u32, n: usize) -> &[u8]
+pub fn bytes_of<A: Acc>(machine: &Machine<A>, bank: Bank, a: u32, n: usize) -> &[u8]
     requires { IsTrue (is_inside bank a n machine.now) }
     ensures bytes { result.now ≡ take n (drop a (bank_bytes bank machine.now)) }
     ensures len { length result.now ≡ n }
@@ -47,7 +47,7 @@ pub extern "C" fn rsp_load(
     ensures next { result ≡ OK → IfSome (bank_of number) (λ b. handle.new.session ≡ option_map (λ d. set_by_host (with_bank_bytes b address bytes.now d.state) d) handle.old.session) }
     ensures same { (result ≡ OK → ⊥) → handle.new.session ≡ handle.old.session }
 {
-    with_debugger!(handle, alloc, |debugger| match bank_of(number) {
+    with_held!(handle, alloc, |debugger| match bank_of(number) {
         None => OUT_OF_RANGE,
         Some(bank) => match debugger.load_bytes(bank, address, bytes) {
             Err(_) => OUT_OF_RANGE,
@@ -70,7 +70,7 @@ pub extern "C" fn rsp_memory(
     ensures refused { (result ≡ OK → ⊥) → bytes.new ≡ bytes.old }
     ensures same { handle.new.session ≡ handle.old.session }
 {
-    with_debugger!(handle, alloc, |debugger| match bank_of(number) {
+    with_held!(handle, alloc, |debugger| match bank_of(number) {
         Some(bank) if debugger.machine().is_inside(bank, address, bytes.len()) => {
             bytes.copy_from_slice(bytes_of(debugger.machine(), bank, address, bytes.len()));
             OK
@@ -142,7 +142,7 @@ pub extern "C" fn rsp_load_words(
     ensures next { result ≡ OK → IfSome (bank_of number) (λ b. handle.new.session ≡ option_map (λ d. set_by_host (with_bank_bytes b address (words_bytes words.now) d.state) d) handle.old.session) }
     ensures same { (result ≡ OK → ⊥) → handle.new.session ≡ handle.old.session }
 {
-    with_debugger!(handle, alloc, |debugger| match bank_of(number) {
+    with_held!(handle, alloc, |debugger| match bank_of(number) {
         Some(bank) if has_words(debugger.machine(), bank, address, words.len()) => {
             put_words(&mut debugger, bank, address, words);
             OK
@@ -165,7 +165,7 @@ pub extern "C" fn rsp_memory_words(
     ensures refused { (result ≡ OK → ⊥) → words.new ≡ words.old }
     ensures same { handle.new.session ≡ handle.old.session }
 {
-    with_debugger!(handle, alloc, |debugger| match bank_of(number) {
+    with_held!(handle, alloc, |debugger| match bank_of(number) {
         Some(bank) if has_words(debugger.machine(), bank, address, words.len()) => {
             read_words(debugger.machine(), bank, address, words);
             OK

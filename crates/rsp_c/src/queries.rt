@@ -7,7 +7,7 @@ ghost use Rattle.rsp_c.specs.Calls.{status_of, IsDoneIf, IsFilled};
 ghost use Rattle.rsp_c.specs.ToC.{c_accumulators, c_flags, c_divider};
 
 use crate::c_structs::{RspAccumulators, RspDivideState, RspFlagBits, RspLanes, RspScalars};
-use crate::handle::{Handle, with_debugger};
+use crate::handle::{Handle, with_held};
 use crate::status::OK;
 use crate::to_c::{c_accumulators, c_divider, c_flags};
 use rsp_debug::Scalars;
@@ -20,7 +20,7 @@ pub extern "C" fn rsp_reg(handle: &mut Handle, alloc: Global, n: u32, out: &mut 
     ensures value { IsFilled result (λ d. register d.state.registers n) handle.old.session out.old out.new }
     ensures same { handle.new.session ≡ handle.old.session }
 {
-    with_debugger!(handle, alloc, |debugger| if n < 32 => do *out = debugger.machine().reg(n as u8))
+    with_held!(handle, alloc, |debugger| if n < 32 => do *out = debugger.machine().reg(n as u8))
 }
 
 /// pc, npc and the scalar registers.
@@ -33,7 +33,7 @@ pub extern "C" fn rsp_regs(handle: &mut Handle, alloc: Global, out: &mut RspScal
     ensures refused { (result ≡ OK → ⊥) → out.new ≡ out.old }
     ensures same { handle.new.session ≡ handle.old.session }
 {
-    with_debugger!(handle, alloc, |debugger| do {
+    with_held!(handle, alloc, |debugger| do {
         let Scalars { pc, npc, words } = debugger.regs();
         *out = RspScalars { words, pc, npc };
     })
@@ -47,7 +47,7 @@ pub extern "C" fn rsp_vreg(handle: &mut Handle, alloc: Global, n: u32, out: &mut
     ensures refused { (result ≡ OK → ⊥) → out.new ≡ out.old }
     ensures same { handle.new.session ≡ handle.old.session }
 {
-    with_debugger!(handle, alloc, |debugger| if n < 32 => do {
+    with_held!(handle, alloc, |debugger| if n < 32 => do {
         *out = RspLanes { lanes: debugger.vreg(n as u8).to_array() }
     })
 }
@@ -59,7 +59,7 @@ pub extern "C" fn rsp_acc(handle: &mut Handle, alloc: Global, out: &mut RspAccum
     ensures value { IsFilled result (λ d. c_accumulators d.state.accumulators) handle.old.session out.old out.new }
     ensures same { handle.new.session ≡ handle.old.session }
 {
-    with_debugger!(handle, alloc, |debugger| do *out = c_accumulators(&debugger))
+    with_held!(handle, alloc, |debugger| do *out = c_accumulators(&debugger))
 }
 
 /// The flags, a bit for each lane.
@@ -69,7 +69,7 @@ pub extern "C" fn rsp_flags(handle: &mut Handle, alloc: Global, out: &mut RspFla
     ensures value { IsFilled result (λ d. c_flags d.state.flags) handle.old.session out.old out.new }
     ensures same { handle.new.session ≡ handle.old.session }
 {
-    with_debugger!(handle, alloc, |debugger| do *out = c_flags(debugger.flags().0))
+    with_held!(handle, alloc, |debugger| do *out = c_flags(debugger.flags().0))
 }
 
 /// What the divide instructions keep from one to the next.
@@ -79,5 +79,5 @@ pub extern "C" fn rsp_divider(handle: &mut Handle, alloc: Global, out: &mut RspD
     ensures value { IsFilled result (λ d. c_divider d.state.divider) handle.old.session out.old out.new }
     ensures same { handle.new.session ≡ handle.old.session }
 {
-    with_debugger!(handle, alloc, |debugger| do *out = c_divider(debugger.flags().1))
+    with_held!(handle, alloc, |debugger| do *out = c_divider(debugger.flags().1))
 }

@@ -11,7 +11,7 @@ ghost use Rattle.rsp_c.specs.States.{c_sp, sp_from_c};
 
 use crate::c_structs::RspSpWords;
 use crate::fault::are_sp;
-use crate::handle::{Handle, with_debugger};
+use crate::handle::{Handle, with_held};
 use crate::status::OK;
 use crate::to_c::{c_sp, sp_from_c};
 use std::alloc::Global;
@@ -23,7 +23,7 @@ pub extern "C" fn rsp_read(handle: &mut Handle, alloc: Global, n: u32, out: &mut
     ensures value { IsFilled result (λ d. read_value n d.state.sp) handle.old.session out.old out.new }
     ensures next { handle.new.session ≡ option_map (after_register_read n) handle.old.session }
 {
-    with_debugger!(handle, alloc, |debugger| do *out = debugger.read_reg(n))
+    with_held!(handle, alloc, |debugger| do *out = debugger.read_reg(n))
 }
 
 /// The word that a read of an SP register would give. Nothing changes.
@@ -33,7 +33,7 @@ pub extern "C" fn rsp_peek(handle: &mut Handle, alloc: Global, n: u32, out: &mut
     ensures value { IsFilled result (λ d. read_value n d.state.sp) handle.old.session out.old out.new }
     ensures same { handle.new.session ≡ handle.old.session }
 {
-    with_debugger!(handle, alloc, |debugger| do *out = debugger.sp_regs().peek(n))
+    with_held!(handle, alloc, |debugger| do *out = debugger.sp_regs().peek(n))
 }
 
 /// Writes an SP register, and empties the history. A write of a length register, 2 or 3, does its DMA.
@@ -42,7 +42,7 @@ pub extern "C" fn rsp_write(handle: &mut Handle, alloc: Global, n: u32, value: u
     ensures answer { result ≡ status_of (λ _. OK) handle.old.session }
     ensures next { handle.new.session ≡ option_map (λ d. set_by_host (register_written n value d.state) d) handle.old.session }
 {
-    with_debugger!(handle, alloc, |debugger| do debugger.write_reg(n, value))
+    with_held!(handle, alloc, |debugger| do debugger.write_reg(n, value))
 }
 
 /// All SP registers, each as `rsp_peek` gives it, with the interrupt flag. Nothing changes.
@@ -52,7 +52,7 @@ pub extern "C" fn rsp_sp(handle: &mut Handle, alloc: Global, out: &mut RspSpWord
     ensures value { IsFilled result (λ d. c_sp d.state.sp) handle.old.session out.old out.new }
     ensures same { handle.new.session ≡ handle.old.session }
 {
-    with_debugger!(handle, alloc, |debugger| do *out = c_sp(debugger.sp_regs()))
+    with_held!(handle, alloc, |debugger| do *out = c_sp(debugger.sp_regs()))
 }
 
 /// Sets all SP registers and the interrupt flag, without a DMA, and empties the history. All else stays. OUT_OF_RANGE if they can't be
@@ -63,7 +63,7 @@ pub extern "C" fn rsp_set_sp(handle: &mut Handle, alloc: Global, given: &RspSpWo
     ensures range { IsDoneIf (λ d. IsTrue (are_sp given.now)) handle.old.session result }
     ensures next { IsNext result (λ d. set_by_host (record d.state { sp = sp_of (sp_from_c given.now) }) d) handle.old.session handle.new.session }
 {
-    with_debugger!(handle, alloc, |debugger| if are_sp(given) => do {
+    with_held!(handle, alloc, |debugger| if are_sp(given) => do {
         let Ok(()) = debugger.set_sp_parts(&sp_from_c(given)) else {
             unreachable!()
         };

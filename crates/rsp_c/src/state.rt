@@ -11,7 +11,7 @@ ghost use Rattle.rsp_c.specs.States.{c_state, registers_from_c};
 
 use crate::c_structs::RspState;
 use crate::fault::state_fault;
-use crate::handle::{Handle, with_debugger};
+use crate::handle::{Handle, with_held};
 use crate::status::{OK, is_imem_address, status_of_task};
 use crate::to_c::{c_state, registers_from_c};
 use std::alloc::Global;
@@ -23,7 +23,7 @@ pub extern "C" fn rsp_get(handle: &mut Handle, alloc: Global, out: &mut RspState
     ensures value { IsFilled result (λ d. c_state (registers_of d.state) d.state.sp) handle.old.session out.old out.new }
     ensures same { handle.new.session ≡ handle.old.session }
 {
-    with_debugger!(handle, alloc, |debugger| do {
+    with_held!(handle, alloc, |debugger| do {
         *out = c_state(&debugger.all_registers(), debugger.sp_regs())
     })
 }
@@ -35,7 +35,7 @@ pub extern "C" fn rsp_set(handle: &mut Handle, alloc: Global, state: &RspState) 
     ensures range { IsDoneIf (λ d. state_fault state.now ≡ 0) handle.old.session result }
     ensures next { IsNext result (λ d. set_by_host (with_registers (registers_from_c state.now) d.state) d) handle.old.session handle.new.session }
 {
-    with_debugger!(handle, alloc, |debugger| if state_fault(state) == 0 => do {
+    with_held!(handle, alloc, |debugger| if state_fault(state) == 0 => do {
         let Ok(()) = debugger.set_all_registers(&registers_from_c(state)) else {
             unreachable!()
         };
@@ -49,7 +49,7 @@ pub extern "C" fn rsp_task(handle: &mut Handle, alloc: Global, address: u32) -> 
     ensures answer { result ≡ status_of (λ d. task_status (task_fault address d.state.rdram)) handle.old.session }
     ensures next { IsNext result (λ d. set_by_host (with_task address d.state) d) handle.old.session handle.new.session }
 {
-    with_debugger!(handle, alloc, |debugger| {
+    with_held!(handle, alloc, |debugger| {
         match debugger.start_task(address) {
             Ok(()) => OK,
             Err(fault) => status_of_task(fault),
@@ -63,5 +63,5 @@ pub extern "C" fn rsp_set_pc(handle: &mut Handle, alloc: Global, pc: u32) -> u32
     ensures answer { result ≡ status_of (λ _. address_status pc) handle.old.session }
     ensures next { IsNext result (λ d. set_by_host (with_pc pc d.state) d) handle.old.session handle.new.session }
 {
-    with_debugger!(handle, alloc, |debugger| if is_imem_address(pc) => do debugger.set_pc(pc as u16))
+    with_held!(handle, alloc, |debugger| if is_imem_address(pc) => do debugger.set_pc(pc as u16))
 }

@@ -1,10 +1,11 @@
 // What a call returns.
 
 ghost use Rattle.std.specs.Prelude.{◌≡◌, ◌<◌, ◌%◌, IsTrue, Some, Err};
-ghost use Rattle.rsp_c.specs.Answers.{step_status, pass_fault_status, bank_of, is_imem_address, task_status, break_fault_status, add_watch_status, fault_number};
+ghost use Rattle.rsp_c.specs.Answers.{step_status, pass_fault_status, bank_of, is_imem_address, task_status, break_fault_status, add_watch_status, bench_fault_status, fault_number};
 
 use rsp_asm::AsmFaultKind;
 use rsp_debug::{BreakFault, WatchFault};
+use rsp_feed::BenchFault;
 use rsp_machine::{PassFault, StepEnd, TaskFault};
 use rsp_memory::Bank;
 
@@ -40,6 +41,10 @@ pub const NO_WATCH: u32 = 13;
 pub const SHORT_HISTORY: u32 = 14;
 /// A buffer is too short for what there is.
 pub const NO_ROOM: u32 = 15;
+/// The end of a script was met.
+pub const ENDED: u32 = 16;
+/// A script has more than 1048576 bytes.
+pub const TOO_LONG: u32 = 17;
 
 /// The status of a step.
 pub fn status_of_step(end: StepEnd) -> u32
@@ -89,6 +94,17 @@ pub fn status_of_watch(fault: WatchFault) -> u32
     match fault {
         WatchFault::WatchRange => OUT_OF_RANGE,
         WatchFault::WatchFull => WATCH_FULL,
+    }
+}
+
+/// The status of a bench that refuses.
+pub fn status_of_bench(fault: BenchFault) -> u32
+    ensures { result ≡ bench_fault_status fault }
+{
+    match fault {
+        BenchFault::Ended => ENDED,
+        BenchFault::ScriptTooLong => TOO_LONG,
+        BenchFault::OutOfMemory => NO_MEMORY,
     }
 }
 

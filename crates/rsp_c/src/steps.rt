@@ -10,7 +10,7 @@ ghost use Rattle.rsp_c.specs.Calls.{status_of, IsDoneIf, IsNext, IsFilled};
 ghost use Rattle.rsp_c.specs.ToC.{c_stop, c_move};
 
 use crate::c_structs::{RspMove, RspStop};
-use crate::handle::{Handle, with_debugger};
+use crate::handle::{Handle, with_held};
 use crate::status::{NO_MACHINE, OK, OUT_OF_RANGE, SHORT_HISTORY, status_of_pass, status_of_step};
 use crate::to_c::{c_move, c_stop};
 use rsp_debug::{BackFault, Moves, TraceEntry as RspTraced};
@@ -22,7 +22,7 @@ pub extern "C" fn rsp_step(handle: &mut Handle, alloc: Global) -> u32
     ensures answer { result ≡ status_of (λ d. step_status (step_of d.state).0) handle.old.session }
     ensures next { handle.new.session ≡ option_map after_debugger_step handle.old.session }
 {
-    with_debugger!(handle, alloc, |debugger| {
+    with_held!(handle, alloc, |debugger| {
         status_of_step(debugger.step())
     })
 }
@@ -34,7 +34,7 @@ pub extern "C" fn rsp_run(handle: &mut Handle, alloc: Global, n: u32, out: &mut 
     ensures stop { IsFilled result (λ d. c_stop (stop_in n d) (after_run n d).state.imem) handle.old.session out.old out.new }
     ensures next { IsNext result (after_run n) handle.old.session handle.new.session }
 {
-    with_debugger!(handle, alloc, |debugger| match debugger.run(n) {
+    with_held!(handle, alloc, |debugger| match debugger.run(n) {
         Err(_) => OUT_OF_RANGE,
         Ok(stop) => {
             *out = c_stop(stop, debugger.machine().imem());
@@ -59,7 +59,7 @@ pub extern "C" fn rsp_run_until_move(
     ensures end { IsFilled result (λ d. c_move (move_end_in n (moves_from_c reads writes) d) (after_run_until_move n (moves_from_c reads writes) d).state.imem) handle.old.session out.old out.new }
     ensures next { IsNext result (after_run_until_move n (moves_from_c reads writes)) handle.old.session handle.new.session }
 {
-    with_debugger!(handle, alloc, |debugger| if reads <= 0xffff && writes <= 0xffff => {
+    with_held!(handle, alloc, |debugger| if reads <= 0xffff && writes <= 0xffff => {
         let (reads, writes) = (reads as u16, writes as u16);
         match debugger.run_until_move(n, Moves { reads, writes }) {
             Err(_) => OUT_OF_RANGE,
@@ -87,7 +87,7 @@ pub extern "C" fn rsp_trace(
     ensures rest { result ≡ OK → drop stop.new.steps out.new ≡ drop stop.new.steps out.old }
     ensures refused { (result ≡ OK → ⊥) → out.new ≡ out.old }
 {
-    with_debugger!(handle, alloc, |debugger| match debugger.trace(out) {
+    with_held!(handle, alloc, |debugger| match debugger.trace(out) {
         Err(_) => OUT_OF_RANGE,
         Ok(found) => {
             *stop = c_stop(found, debugger.machine().imem());
@@ -104,7 +104,7 @@ pub extern "C" fn rsp_pass(handle: &mut Handle, alloc: Global, value: u32) -> u3
     ensures next { IfSome handle.old.session (λ d. IfOk (pass_of value d.state) (λ s. handle.new.session ≡ Some (set_by_host s d))) }
     ensures same { (result ≡ OK → ⊥) → handle.new.session ≡ handle.old.session }
 {
-    with_debugger!(handle, alloc, |debugger| match debugger.pass(value) {
+    with_held!(handle, alloc, |debugger| match debugger.pass(value) {
         Ok(()) => OK,
         Err(fault) => status_of_pass(fault),
     })
@@ -119,7 +119,7 @@ pub extern "C" fn rsp_back(handle: &mut Handle, alloc: Global, n: u32) -> u32
     ensures answer { IfSome handle.old.session (λ d. (result ≡ OK) ⊎ (result ≡ OUT_OF_RANGE) ⊎ (result ≡ SHORT_HISTORY)) }
     ensures next { IsNext result (after_back n) handle.old.session handle.new.session }
 {
-    with_debugger!(handle, alloc, |debugger| match debugger.back(n) {
+    with_held!(handle, alloc, |debugger| match debugger.back(n) {
         Ok(()) => OK,
         Err(BackFault::Count) => OUT_OF_RANGE,
         Err(BackFault::ShortHistory) => SHORT_HISTORY,

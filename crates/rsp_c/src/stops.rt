@@ -8,7 +8,7 @@ ghost use Rattle.rsp_debug.specs.Debugging.{with_breakpoint, without_breakpoint,
 ghost use Rattle.rsp_c.specs.Answers.{is_imem_address, add_break_status, drop_break_status, add_watch_status, drop_watch_status};
 ghost use Rattle.rsp_c.specs.Calls.{status_of, IsNext};
 
-use crate::handle::{Handle, with_debugger};
+use crate::handle::{Handle, with_held};
 use crate::status::{NO_BREAK, NO_WATCH, OK, is_imem_address, status_of_break, status_of_watch};
 use std::alloc::Global;
 
@@ -19,7 +19,7 @@ pub extern "C" fn rsp_add_break(handle: &mut Handle, alloc: Global, address: u32
     ensures answer { result ≡ status_of (λ d. add_break_status address d.breaks) handle.old.session }
     ensures next { IsNext result (with_breakpoint address) handle.old.session handle.new.session }
 {
-    with_debugger!(handle, alloc, |debugger| if is_imem_address(address) => {
+    with_held!(handle, alloc, |debugger| if is_imem_address(address) => {
         match debugger.add_break(address as u16) {
             Ok(()) => OK,
             Err(fault) => status_of_break(fault),
@@ -33,7 +33,7 @@ pub extern "C" fn rsp_drop_break(handle: &mut Handle, alloc: Global, address: u3
     ensures answer { result ≡ status_of (λ d. drop_break_status address d.breaks) handle.old.session }
     ensures next { IsNext result (without_breakpoint address) handle.old.session handle.new.session }
 {
-    with_debugger!(handle, alloc, |debugger| if is_imem_address(address) => {
+    with_held!(handle, alloc, |debugger| if is_imem_address(address) => {
         match debugger.drop_break(address as u16) {
             Ok(()) => OK,
             Err(_) => NO_BREAK,
@@ -56,7 +56,7 @@ pub extern "C" fn rsp_add_watch(
     ensures refused { (result ≡ OK → ⊥) → number.new ≡ number.old }
     ensures next { IsNext result (with_new_watch number.new address len) handle.old.session handle.new.session }
 {
-    with_debugger!(handle, alloc, |debugger| {
+    with_held!(handle, alloc, |debugger| {
         match debugger.add_watch(address, len) {
             Err(fault) => status_of_watch(fault),
             Ok(k) => {
@@ -73,7 +73,7 @@ pub extern "C" fn rsp_drop_watch(handle: &mut Handle, alloc: Global, number: u32
     ensures answer { result ≡ status_of (λ d. drop_watch_status number d.watches) handle.old.session }
     ensures next { IsNext result (with_watch_dropped number) handle.old.session handle.new.session }
 {
-    with_debugger!(handle, alloc, |debugger| {
+    with_held!(handle, alloc, |debugger| {
         match debugger.drop_watch(number) {
             Ok(()) => OK,
             Err(_) => NO_WATCH,

@@ -10,7 +10,7 @@ ghost use Rattle.rsp_c.specs.Calls.{IsDoneIf, IsFilled};
 ghost use Rattle.rsp_c.specs.ToC.{c_line, c_lines, IsEnded, assembled_words, assembled_fault, assembled_no_memory, assembled_no_text};
 
 use crate::c_structs::{RspAssembled, RspLine};
-use crate::handle::{Handle, with_debugger};
+use crate::handle::{Handle, with_held};
 use crate::status::{
     NO_MEANING, NO_MEMORY, NO_ROOM, OK, OUT_OF_RANGE, fault_number, is_imem_address,
 };
@@ -159,7 +159,7 @@ pub extern "C" fn rsp_listing(
     ensures same { handle.new.session ≡ handle.old.session }
 {
     let is_right = is_imem_address(address) && lines.len() <= (4096 - address as usize) / 4;
-    with_debugger!(handle, alloc, |debugger| if is_right => do {
+    with_held!(handle, alloc, |debugger| if is_right => do {
         fill_lines(debugger.machine().imem(), address as u16, lines)
     })
 }

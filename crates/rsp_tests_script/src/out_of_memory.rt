@@ -5,6 +5,7 @@ ghost use Rattle.std.specs.Prelude.{◌≡◌, IfOk};
 
 use rsp_asm::{AsmFaultKind, Block, BlockFault, assemble, explain};
 use rsp_bench::{BenchEnd, MemSink, MemSource, Session, Source, parse_line, run_bench};
+use rsp_feed::{Bench, BenchFault, run_pieces};
 use rsp_memory::Rdram;
 use rsp_operands::Labels;
 use rsp_script_io::{LineHandler, Reply, RunFault, answer_script};
@@ -144,6 +145,67 @@ fn a_session_goes_on_when_memory_is_there(rt: HostRuntime) -> Result<(), Fail> {
             }
         };
         assert!(rt; reply.bytes() == expected.as_bytes(), "{line}");
+    }
+    Ok(())
+}
+
+fn bench(rt: &HostRuntime) -> Result<Bench, Fail> {
+    match Bench::try_new(rt.alloc(), image(rt)?) {
+        Ok(bench) => Ok(bench),
+        Err((image, _)) => {
+            println!(rt; "no session")?;
+            Bench::try_new(rt.alloc(), image).map_err(|_| Fail::new("still no session"))
+        }
+    }
+}
+
+/// Gives all bytes of a piece without an LF before its end, and again if there is no memory.
+fn give(rt: &HostRuntime, bench: &mut Bench, piece: &[u8], reply: &mut Reply) -> Result<(), Fail> {
+    let taken = match bench.take(rt.alloc(), piece, reply) {
+        Err(BenchFault::OutOfMemory) => {
+            println!(rt; "no memory for a piece")?;
+            bench.take(rt.alloc(), piece, reply)
+        }
+        first => first,
+    };
+    assert!(rt; taken == Ok(piece.len()));
+    Ok(())
+}
+
+#[test]
+fn a_bench_goes_on_when_memory_is_there(rt: HostRuntime) -> Result<(), Fail> {
+    let mut bench = bench(&rt)?;
+    let mut reply = Reply::new();
+    for (line, expected) in LINES {
+        give(&rt, &mut bench, line.as_bytes(), &mut reply)?;
+        assert!(rt; reply.bytes().is_empty());
+        give(&rt, &mut bench, b"\n", &mut reply)?;
+        assert!(rt; reply.bytes() == expected.as_bytes(), "{line}");
+    }
+    for piece in [b"asm 0\n".as_slice(), b"nop\n", b"end"] {
+        give(&rt, &mut bench, piece, &mut reply)?;
+    }
+    let mut fault = Reply::new();
+    if bench.end(rt.alloc(), &mut reply, &mut fault).is_err() {
+        println!(rt; "no memory for the end")?;
+        assert!(rt; bench.end(rt.alloc(), &mut reply, &mut fault) == Ok(()));
+    }
+    assert!(rt; reply.bytes() == b"ok 1 words\n" && fault.bytes().is_empty());
+    Ok(())
+}
+
+#[test]
+fn a_script_in_pieces_is_answered_when_memory_is_there(rt: HostRuntime) -> Result<(), Fail> {
+    let script = b"step\nasm 8\nx: j x\nend\nstep";
+    for _ in 0..2 {
+        match run_pieces(rt.alloc(), image(&rt)?, script, 3) {
+            Ok((replies, _)) => {
+                let expected = b"step Done pc 004\nok 1 words\nstep Done pc 008\n";
+                assert!(rt; replies.as_slice() == expected.as_slice());
+            }
+            Err(BenchFault::OutOfMemory) => println!(rt; "no memory for the script")?,
+            Err(_) => return Err(Fail::new("the script ends otherwise")),
+        }
     }
     Ok(())
 }

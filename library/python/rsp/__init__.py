@@ -67,6 +67,8 @@ class Status(enum.IntEnum):
     NO_WATCH = 13
     SHORT_HISTORY = 14
     NO_ROOM = 15
+    ENDED = 16
+    TOO_LONG = 17
 
 
 class Bank(enum.IntEnum):
@@ -172,6 +174,10 @@ class _Handle(Structure):
     _fields_ = [("at", c_void_p)]
 
 
+class _BenchHandle(Structure):
+    _fields_ = [("at", c_void_p)]
+
+
 class _Stop(Structure):
     _fields_ = [*_u32("reason", "steps"), ("watch", c_size_t), ("pc", c_uint16), *_u32("word")]
 
@@ -209,6 +215,7 @@ def _library() -> str:
 
 _lib = ctypes.CDLL(_library())
 _M, _U, _Z, _B, _W = POINTER(_Handle), c_uint32, c_size_t, c_char_p, POINTER(c_uint32)
+_T = POINTER(_BenchHandle)
 _CALLS = {
     "rsp_version": [], "rsp_new": [_M, _B, _Z, _U], "rsp_copy": [_M, _M],
     "rsp_get": [_M, POINTER(State)], "rsp_set": [_M, POINTER(State)],
@@ -226,10 +233,15 @@ _CALLS = {
     "rsp_write": [_M, _U, _U], "rsp_sp": [_M, POINTER(SpWords)], "rsp_set_sp": [_M, POINTER(SpWords)],
     "rsp_assemble": [_U, _B, _Z, _W, _Z, POINTER(_Assembled)], "rsp_text": [_U, _U, POINTER(_Line)],
     "rsp_listing": [_M, _U, POINTER(_Line), _Z], "rsp_explain": [_U, _B, _Z, POINTER(_explain.Operand)],
+    "rsp_bench_new": [_T, _B, _Z],
+    "rsp_bench_take": [_T, _B, _Z, POINTER(_Z), c_void_p, _Z, POINTER(_Z)],
+    "rsp_bench_end": [_T, c_void_p, _Z, POINTER(_Z)],
+    "rsp_bench_memory": [_T, _U, _U, c_void_p, _Z],
 }  # fmt: skip
 for _name, _types in _CALLS.items():
     getattr(_lib, _name).argtypes, getattr(_lib, _name).restype = _types, _U
 _lib.rsp_free.argtypes, _lib.rsp_free.restype = [_M], None
+_lib.rsp_bench_free.argtypes, _lib.rsp_bench_free.restype = [_T], None
 
 VERSION = 1
 _found = _lib.rsp_version()

@@ -36,5 +36,5 @@ if __name__ == "__main__":
     same("the faults", {name: number for number, name in rsp.FAULTS.items()}, shapes.faults())
     same("the reasons", {shapes.REASONS[it.name]: it.value for it in rsp.Reason}, shapes.reasons())
     same("the fields", {*rsp._FIELDS}, {*shapes.fields().values(), *range(16, 24)})
-    same("the calls", {*rsp._CALLS, "rsp_free"}, {it[0] for it in shapes.exported()})
+    same("the calls", {*rsp._CALLS, "rsp_free", "rsp_bench_free"}, {it[0] for it in shapes.exported()})
     sys.exit(REPORT.end())

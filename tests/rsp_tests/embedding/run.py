@@ -6,8 +6,9 @@ library does something else than docs/EMBEDDING.md and its header say.
 
   - Each call in its range and out of it, in C also under valgrind and with each allocation failing.
   - SP registers and RDRAM of a program's own (owner.c); the stack that a call uses (stack.c); who takes
-  memory
-    (no_memory.c); a machine that goes from thread to thread, in C under -fsanitize=thread.
+    memory (no_memory.c); a machine that goes from thread to thread, in C under -fsanitize=thread.
+  - The scripts of the repository by a bench (script.c), cut into calls in seven ways. A program that makes no
+    bench doesn't hold the bench's code, and librsp.so has at most 430080 bytes.
   - Lock step beside an emulator with a planted fault, the same in three languages, and the first difference.
   - In Python also traces, states, messages and shown forms; types by mypy; an editable install.
   - The numbers, layouts and declarations of JavaScript; `tests/part systems wasm64` runs it.
@@ -25,7 +26,7 @@ from rsp_tests.common.pages import block_with, page
 from rsp_tests.common.processes import lacking, run
 from rsp_tests.common.report import Report, leave_out
 from rsp_tests.common.workshop import LIBRARY, STRICT, Workshop
-from rsp_tests.embedding import javascript, python, rust, shapes
+from rsp_tests.embedding import javascript, python, rust, scripts, shapes
 
 HERE = TESTS / "embedding"
 LOCKSTEP = (TOP / "examples/c/lockstep.expected").read_text()
@@ -78,6 +79,8 @@ def test_header(report: Report) -> None:
     report.see("rsp.h has the statuses", held(r"\w+", statuses) == shapes.statuses())
     report.see("rsp.h has the banks", held("DMEM|IMEM|RDRAM") == shapes.banks())
     report.see("rsp.h has the reasons", reasons == shapes.reasons(), reasons)
+    room = re.findall(r"#define RSP_REPLIES (\d+)", header)
+    report.see("rsp.h has the room for replies", room == [str(shapes.room_for_replies())], room)
     report.see("rsp.h has the fields", named("FIELD_") == {"NONE": 0, **shapes.fields()})
     shown = run("nm", "-D", "--defined-only", TOP / "library/c/librsp.so").stdout.splitlines()
     report.see("librsp.so exports them alone", {it.split()[-1] for it in shown} == {it[0] for it in calls})
@@ -180,6 +183,18 @@ def test_threads(shop: Workshop) -> None:
         shop.see("threads.c under the sanitizer", is_right, got.stdout)
 
 
+def test_sizes(shop: Workshop) -> None:
+    """What a program pays for calls that it doesn't make, and what the shared library may weigh."""
+    for source, is_held in ((TOP / "examples/c/lockstep.c", False), (HERE / "script.c", True)):
+        program = built(shop, C, source, "-Wl,--gc-sections")
+        if program:
+            names = run("nm", program).stdout
+            shop.see(f"a bench in {source.name}", ("rsp_bench_take" in names) == is_held, names[:200])
+            shop.see(f"commands in {source.name}", ("rsp_commands" in names) == is_held, names[:200])
+    size = (TOP / "library/c/librsp.so").stat().st_size
+    shop.see("librsp.so has at most 420 KB", size <= 420 * 1024, size)
+
+
 def test_c(shop: Workshop) -> None:
     test_calls(shop, C)
     if lacking(C.compiler):
@@ -195,6 +210,10 @@ def test_c(shop: Workshop) -> None:
         if program:
             shop.add(program.name, program)
     test_threads(shop)
+    answering = built(shop, C, HERE / "script.c")
+    if answering:
+        scripts.test(shop, answering)
+    test_sizes(shop)
 
 
 def test_cpp(shop: Workshop) -> None:

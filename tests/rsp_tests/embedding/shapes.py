@@ -16,7 +16,10 @@ NUMBERS = {
     "usize": ctypes.c_size_t,
 }
 C_NUMBERS = {"u8": "uint8_t", "u32": "uint32_t", "usize": "size_t"}
-AS_C = {"u32": "uint32_t", "usize": "size_t", "Global": "", "&mut Handle": "rsp *", "": "void"}
+# The structs of one pointer, by their names in C.
+HANDLES = {"Handle": "rsp", "BenchHandle": "rsp_bench"}
+AS_C = {"u32": "uint32_t", "usize": "size_t", "Global": "", "": "void"}
+AS_C.update({f"&mut {name}": f"{in_c} *" for name, in_c in HANDLES.items()})
 # What the debugger calls the reasons of a stop, by their names in C.
 REASONS = {
     "RESERVED": "Reserved",
@@ -75,7 +78,7 @@ def declared_in_rust(text: str) -> Iterator[Call]:
 
     def as_c(given: str) -> str:
         pointer, kind = groups(r"(\*const |\*mut )?(\w+)", given)
-        name = {**C_NUMBERS, "Handle": "rsp"}.get(kind) or c_name(f"Rsp{kind}")
+        name = {**C_NUMBERS, **HANDLES}.get(kind) or c_name(f"Rsp{kind}")
         return {None: name, "*const ": f"const {name} *", "*mut ": f"{name} *"}[pointer]
 
     for name, given, result in re.findall(r"pub fn (rsp_\w+)\((.*?)\)(?: -> (\w+))?;", text):
@@ -117,8 +120,13 @@ def fields() -> Dict[str, int]:
     return numbers("fault.rt", r"^const (?P<name>\w+): u32 = (?P<number>\d+);")
 
 
+def room_for_replies() -> int:
+    """How many bytes a buffer for replies has at least."""
+    return numbers("script.rt", r"^const (?P<name>REPLIES): usize = (?P<number>\d+);")["REPLIES"]
+
+
 def structs_of(text: str, known: Optional[Mapping[str, Struct]] = None) -> Dict[str, Struct]:
-    """Each repr(C) struct of a text but the handle, as ctypes lays it out by C's rules. Fields may be known
+    """Each repr(C) struct of a text but the handles, as ctypes lays it out by C's rules. Fields may be known
     structs."""
     made = dict(known or {})
 
@@ -128,7 +136,7 @@ def structs_of(text: str, known: Optional[Mapping[str, Struct]] = None) -> Dict[
 
     form = r"#\[repr\(C\)\]\n(?:#\[[^\n]*\n)*pub struct (\w+) \{(.*?)\n\}"
     for name, body in re.findall(form, text, re.S):
-        if name != "Handle":
+        if name not in HANDLES:
             held = [(field, typed(kind)) for field, kind in re.findall(r"pub (\w+): (.+),", body)]
             made[name] = type(name, (ctypes.Structure,), {"_fields_": held})
     return made

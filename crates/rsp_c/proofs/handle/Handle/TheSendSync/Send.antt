@@ -11,14 +11,14 @@ use Rattle.std.specs.Global.{Global}
 use Rattle.std.proofs.Crossing.{frees}
 use Rattle.std_alloc.proofs.SendSync.{lies, quiet}
 use Rattle.std_heap.proofs.Global.TheSendSync as heap
-use Rattle.rsp_c.specs.Holding.{Opened, holding, session_row}
+use Rattle.rsp_c.specs.Holding.{holding, session_row}
 use Rattle.rsp_acc.specs.contracts.planes.PlaneAcc as PlaneAcc
 use Rattle.rsp_acc.specs.contracts.planes.PlaneAccAcc.TheImpl as Acc
 use Rattle.rsp_acc.proofs.planes.PlaneAcc.TheSendSync as planes
 use Rattle.rsp_debug.proofs.debugger.Debugger.TheSendSync as session
 use Rattle.rsp_c.specs.contracts.handle.Handle.{the_row, the_type}
 
-held : (a : Global) (p : Ptr) (s : Option Opened) → Keyless (holding a p s)
+held : (a : Global) (p : Ptr) (s : Option session_row.Denot) → Keyless (holding session_row a p s)
 held a p None = tt
 held a p (Some x) = (lies session_row (session.the_send PlaneAcc.the_row Acc.ghosts planes.the_send) p x, frees.frees a (bare (lone session_row.mir)) p)
 

@@ -4,19 +4,13 @@ use Rattle.core.proofs.option.Made.{Some-of, none_of}
 use Rattle.std.proofs.alloc.Calls.{α}
 use Rattle.std.proofs.BoxSteps.Form.{D, B, word, box_typed}
 use Rattle.std.proofs.BoxSteps.Steps.{box_in}
-use Rattle.std_heap.specs.contracts.Global as Heap
-use Rattle.std_heap.specs.contracts.GlobalAllocator.TheImpl.{ghosts}
-use Rattle.rsp_c.proofs.AsBox.{E}
+use Rattle.rsp_c.proofs.AsBox.{E, parts_row}
 use Rattle.rsp_c.proofs.Holding.{pair, either, held_out}
-use Rattle.rsp_c.specs.contracts.handle.BoxParts as BoxParts
 use Rattle.rsp_c.specs.contracts.handle.Handle as Handle
 use Rattle.rsp_c.specs.contracts.handle.Handle.into_parts as F
 use Rattle.rsp_c.specs.contracts.handle.Handle.into_parts.Key.{name as #self}
 use Rattle.rsp_c.proofs.handle.Handle.into_parts.Statement.{statement}
 use Rattle.rsp_c.proofs.handle.Handle.into_parts.Code as code
-
-abbrev Parts : RattleType
-Parts = BoxParts.the_row E.row Heap.the_row ghosts
 
 pub into_parts_spec : {M : Type 1} → statement M
 into_parts_spec 𝓤 𝓛 𝓜 𝓡 wired =
@@ -28,7 +22,7 @@ into_parts_spec 𝓤 𝓛 𝓜 𝓡 wired =
     qed 𝓛 ((‵ ftrue ⊛ ‵ (fsep (Handle.the_row.own_val d z.0.4.0) ftrue)) ∷ raw (emp 𝓤) ∷ []) ∵ split ! $ drop ! $ fsplit ! $
     held_out ! d z.0.4.0 (λ hv ws fa. move ! (2 ∷ 3 ∷ []) $ drop ! $ drop ! $
     let Goes : List Val → SProp 𝓤 = λ us. WpFn 𝓤 𝓛.H 𝓣.C 𝓣.Λ code.function (us ++ []) (W.post z) in
-    either ! d.alloc d.at d.session
+    either E.row ! d.alloc d.at d.session
     (λ e ed.
     let Γ : List (Item 𝓤) = ‵ (E.al.row.own_val d.alloc (hv ∷ [])) ∷ [] in
     let v₀ : Val = live 0 vnil in
@@ -38,18 +32,18 @@ into_parts_spec 𝓤 𝓛 𝓜 𝓡 wired =
     sets ! (bin ! (get ! refl) (lit ! tt) tt) refl (tt, tt) $ first ! $ branches ! (get ! refl)
     (λ _. sets ! (agg ! (and_then ! (lit ! tt) (no_more !))) refl (tt, (record { fits = lit< tt }, tt)) $ returns_within ! (W.post z) refl (look_at ! 0 refl) $ free_all ! refl $
     suffices ! _ (ends_at 𝓛 F.ended st c z v₀ None (tt, tt) (tt, tt)) $ says ! ed $
-    use0 𝓛 (‵ (Out.own_val None (v₀ ∷ []))) (none_of 𝓛 Parts) $ nothing ! $ nothing ! $ fjoin ! $ join ! $ nothing ! $ join ! $ done !)
+    use0 𝓛 (‵ (Out.own_val None (v₀ ∷ []))) (none_of 𝓛 (parts_row E)) $ nothing ! $ nothing ! $ fjoin ! $ join ! $ nothing ! $ join ! $ done !)
     (λ wrong. absurd wrong)))))
     (λ b o x e ed t.
     let v : D E = record { ptr = block_ptr b o; alloc = d.alloc; value = x } in
-    let made : Parts.Denot = record { ptr = block_ptr b o; alloc = d.alloc; value = x } in
+    let made : (parts_row E).Denot = record { ptr = block_ptr b o; alloc = d.alloc; value = x } in
     let w = word E hv b o in
     let v₁ : Val = live 1 (vcons w vnil) in
     let typed = box_typed E hv b o fa in
     let Γ : List (Item 𝓤) = ‵ ((B E).own_val v (w ∷ [])) ∷ [] in
     fsplit ! $ box_in E ! v b o x refl refl $
     by ! (subst (λ (us : List Val). ent 𝓤 (types.Kit.⋆ 𝓛 Γ) (Goes us)) (sym (ws ∙ ap (λ (p : Ptr). pair (ptr_val p) hv ∷ []) e))
-    (qed 𝓛 Γ ∵ use1 𝓛 (‵ (Parts.own_val made (w ∷ []))) (id⊢ 𝓤 _) $ enter ! 𝓣.C 𝓣.Λ code.function (w ∷ []) _ $ alloc_all ! (λ ls. pass_all ! refl (typed, tt) $
+    (qed 𝓛 Γ ∵ use1 𝓛 (‵ ((parts_row E).own_val made (w ∷ []))) (id⊢ 𝓤 _) $ enter ! 𝓣.C 𝓣.Λ code.function (w ∷ []) _ $ alloc_all ! (λ ls. pass_all ! refl (typed, tt) $
     sets ! (of_opd ! (get_in ! (fld ! refl (stop !)) (sub ! 0 refl (whole !)))) refl (tt, tt) $ sets ! (of_opd ! (get_in ! (fld ! refl (stop !)) (sub ! 1 refl (whole !)))) refl fa $
     sets ! (bin ! (get ! refl) (lit ! tt) (tests_null (block_ptr b o) t)) refl (tt, tt) $ first ! $ branches ! (get ! refl) (λ wrong. absurd wrong)
     (λ _. skips ! $ exec ! 𝓣.C 𝓣.Λ (env code.Mir.locals ls) code.Mir.t-5 (at_ret _ (W.post z)) $
@@ -57,4 +51,4 @@ into_parts_spec 𝓤 𝓛 𝓜 𝓡 wired =
     sets ! (agg ! (and_then ! (lit ! tt) (and_then ! (get ! refl) (no_more !)))) refl (and_tt _ typed.0, (record { fits = lit< tt }, (typed.1, tt))) $
     returns ! (look_at ! 0 refl) $ free_all ! refl $
     suffices ! _ (ends_at 𝓛 F.ended st c z v₁ (Some made) (tt, tt) (tt, tt)) $ says ! ed $
-    use1 𝓛 (‵ (Out.own_val (Some made) (v₁ ∷ []))) (Some-of 𝓛 Parts made w) $ nothing ! $ nothing ! $ fjoin ! $ join ! $ nothing ! $ join ! $ done !)))))))
+    use1 𝓛 (‵ (Out.own_val (Some made) (v₁ ∷ []))) (Some-of 𝓛 (parts_row E) made w) $ nothing ! $ nothing ! $ fjoin ! $ join ! $ nothing ! $ join ! $ done !)))))))

@@ -1,8 +1,8 @@
 -- `of` moves two fields, and what they own goes with them.
-use Rattle.rsp_c.proofs.Walks.{refl, sym, subst, List, [], ◌∷◌, ◌++◌, Val, ent, emp, id⊢, ftrue, fsep, tables, WpFn, Item, ‵, raw, ◌⊛◌, ◌$◌, ◌∵◌, !, qed, by, move, drop, use1, split, join, fsplit, fjoin, suffices, done, whole, sub, agg, stop, fld, no_more, and_then, of_opd, returns, enter, alloc_all, pass_all, free_all, look_at, get, get_in, sets, yes, type_at, nothing, says, Stays, stay_dropped, walk_of, ends_at, Goes-dropped, Some, proved_at}
+use Rattle.rsp_c.proofs.Walks.{refl, sym, subst, List, [], ◌∷◌, ◌++◌, Val, ent, emp, id⊢, ftrue, fsep, tables, WpFn, Item, ‵, raw, ◌⊛◌, ◌$◌, ◌∵◌, !, qed, by, move, drop, use1, split, join, fsplit, fjoin, suffices, done, whole, sub, agg, stop, fld, no_more, and_then, of_opd, returns, enter, alloc_all, pass_all, free_all, look_at, get, get_in, sets, yes, plain, type_at, nothing, says, Stays, stay_dropped, walk_of, ends_at, Goes-dropped, Some, proved_at}
 use Rattle.std.proofs.BoxSteps.Form.{D, B, word, box_typed}
 use Rattle.std.proofs.BoxSteps.Steps.{box_out, box_in}
-use Rattle.rsp_c.proofs.AsBox.{E, FromParts as From}
+use Rattle.rsp_c.proofs.AsBox.{E, parts_row}
 use Rattle.rsp_c.specs.contracts.handle.Handle.of as F
 use Rattle.rsp_c.specs.contracts.handle.Handle.of.Key.{name as #self}
 use Rattle.rsp_c.proofs.handle.Handle.of.Statement.{statement}
@@ -10,9 +10,9 @@ use Rattle.rsp_c.proofs.handle.Handle.of.Code as code
 
 pub of_spec : {M : Type 1} → statement M
 of_spec 𝓤 𝓛 𝓜 𝓡 wired =
-    let st : Stays F.ended.signature.params F.ended.kept = (stay_dropped From yes, tt) in
+    let st : Stays F.ended.signature.params F.ended.kept = (stay_dropped (plain (λ _. parts_row E)) yes, tt) in
     let c = F.clauses 𝓛 𝓜.mem 𝓡.returns in let W = walk_of 𝓛 F.ended st c in let 𝓣 = tables 𝓤 𝓛.H 𝓜 𝓡 𝓡.env in
-    proved_at 𝓛 F.ended st c 𝓜 𝓡 (Goes-dropped 𝓛 0 From yes (λ κs x f. refl), tt) #self code.function (code.unfolded 𝓤 𝓛.H 𝓜 𝓡 wired) (λ z are.
+    proved_at 𝓛 F.ended st c 𝓜 𝓡 (Goes-dropped 𝓛 0 (plain (λ _. parts_row E)) yes (λ κs x f. refl), tt) #self code.function (code.unfolded 𝓤 𝓛.H 𝓜 𝓡 wired) (λ z are.
     let v : D E = record { ptr = z.0.3.0.ptr; alloc = z.0.3.0.alloc; value = z.0.3.0.value } in
     let To = type_at F.signature.result tt in
     let made : To.Denot = record { at = v.ptr; alloc = v.alloc; session = Some v.value } in
