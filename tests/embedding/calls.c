@@ -837,7 +837,7 @@ static void benches(void)
 /* A script has at most 1048576 bytes: here they are zeros, with no LF. */
 static void longest_script(void)
 {
-    static const uint8_t zeros[4096];
+    static const uint8_t zeros[4096] = { 0 };
     rsp_bench b = RSP_NONE, full = RSP_NONE;
     uint8_t byte = 7;
     size_t n;
