@@ -168,8 +168,11 @@ fn give(rt: &HostRuntime, bench: &mut Bench, piece: &[u8], reply: &mut Reply) ->
         }
         first => first,
     };
-    assert!(rt; taken == Ok(piece.len()));
-    Ok(())
+    if taken == Ok(piece.len()) {
+        Ok(())
+    } else {
+        Err(Fail::new("a piece isn't taken"))
+    }
 }
 
 #[test]
@@ -190,7 +193,7 @@ fn a_bench_goes_on_when_memory_is_there(rt: HostRuntime) -> Result<(), Fail> {
         println!(rt; "no memory for the end")?;
         assert!(rt; bench.end(rt.alloc(), &mut reply, &mut fault) == Ok(()));
     }
-    assert!(rt; reply.bytes() == b"ok 1 words\n" && fault.bytes().is_empty());
+    assert!(rt; reply.bytes() == b"ok 1 words\n".as_slice() && fault.bytes().is_empty());
     Ok(())
 }
 
