@@ -109,15 +109,19 @@ static void scripts(void)
     size_t at, used = 0, written, n;
     long blocks = 0, more;
     for (n = 0; n < 3; n++) {
-        see("rsp_bench_new", (long)n, rsp_bench_new(&b, image, n == 2 ? LONGEST : 64), RSP_OK, blocks = n ? blocks : held);
+        uint32_t status = rsp_bench_new(&b, image, n == 2 ? LONGEST : 64);
+        if (n == 0) blocks = held;
+        see("rsp_bench_new", (long)n, status, RSP_OK, blocks);
         for (at = 0; at < sizeof open_block - 1; at += used)
             rsp_bench_take(&b, (const uint8_t *)open_block + at, sizeof open_block - 1 - at, &used, reply, sizeof reply, &written);
         more = held;
         see("rsp_bench_take of a block", (long)n, more > blocks ? RSP_OK : RSP_NO_MEMORY, RSP_OK, more);
         see("rsp_bench_new refused", (long)n, rsp_bench_new(&b, image, 65), RSP_OUT_OF_RANGE, more);
         if (n == 1) continue; /* the next bench frees the block */
-        see("its end", (long)n, rsp_bench_take(&b, (const uint8_t *)end, 4, &used, reply, sizeof reply, &written), RSP_OK, blocks);
-        see("rsp_bench_end", (long)n, rsp_bench_end(&b, reply, sizeof reply, &written), RSP_OK, blocks);
+        status = rsp_bench_take(&b, (const uint8_t *)end, 4, &used, reply, sizeof reply, &written);
+        see("its end", (long)n, status, RSP_OK, blocks);
+        status = rsp_bench_end(&b, reply, sizeof reply, &written);
+        see("rsp_bench_end", (long)n, status, RSP_OK, blocks);
     }
     rsp_bench_free(&b);
     rsp_bench_free(&b);

@@ -66,7 +66,11 @@ int main(int argc, char **argv)
     need(argc == 4, 2);
     size = content(argv[2], image, sizeof image);
     len = content(NULL, script, sizeof script);
-    need(rsp_bench_new(&b, image, size) == RSP_OK, 13);
+    if (rsp_bench_new(&b, image, size) == RSP_OUT_OF_RANGE) {
+        fputs("rsp: fault 7 SizeFault\n", stderr);
+        return 1;
+    }
+    need(b.at != NULL, 13);
     for (; at < len; at += used) {
         seed = seed * 48271 % 2147483647;
         n = piece ? piece : 1 + seed % 97;
