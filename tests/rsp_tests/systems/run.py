@@ -3,7 +3,8 @@ systems that can be run here.
 
   linux-aarch64    under qemu-aarch64
   windows-x86_64   under wine. What is for MSVC is linked by lld-link
-  macos            nothing is run: symbols and load commands are read
+  macos            not at all: the code of librsp.dylib for each processor is run on Linux, under
+                   qemu-aarch64 for ARM; symbols and load commands are read
   wasm64           in Chromium
 
 On each that is run: all calls of tests/embedding/calls.c, with the static and the shared library; owner.c

@@ -9,6 +9,8 @@ from typing import Dict, List, NamedTuple, Optional
 from rsp_tools.systems import places
 from rsp_tools.systems.toolchain import missing
 
+from . import macho
+
 STRICT = ["-std=c99", "-O2", "-Wall", "-Wextra", "-Werror"]
 LONGEST = 1800  # seconds that a program may take
 
@@ -50,6 +52,10 @@ class Runner:
     def shared(self) -> List[str]:
         """The words that link the shared library."""
         return [f"-L{self.folder}/lib", "-lrsp", f"-Wl,-rpath,{self.folder}/lib"]
+
+    def libraries(self) -> Dict[str, List[str]]:
+        """The words that link each kind of library."""
+        return {"static": self.static(), "shared": self.shared()}
 
     def compile(self, source: Path, *words: str, name: str = "", library: Optional[List[str]] = None) -> Path:
         """Compiles a program. AssertionError, with what the compiler says, if it fails."""
@@ -126,7 +132,30 @@ class Windows(Runner):
 
 
 class Mac(Runner):
-    """macOS, whose files are read alone."""
+    """macOS, whose programs nothing runs here."""
 
     programs = []
     runs = False
+
+
+class MacIntel(Native):
+    """The code for Intel of librsp.dylib, on Linux."""
+
+    processor = "x86_64"
+
+    def __init__(self, folder: Path, at: Path) -> None:
+        Runner.__init__(self, folder, at)
+        self.code = macho.taken_out(folder / "lib" / "librsp.dylib", self.processor, at)
+
+    def static(self) -> List[str]:
+        return self.code
+
+    def libraries(self) -> Dict[str, List[str]]:
+        return {f"code-{self.processor}": self.code}
+
+
+class MacArm(MacIntel):
+    """The code for ARM of librsp.dylib, on Linux under qemu."""
+
+    compiler, programs, start = Arm.compiler, Arm.programs, Arm.start
+    processor = "arm64"

@@ -2,7 +2,7 @@
 
 import shutil
 from pathlib import Path
-from typing import Dict, List, Type
+from typing import Dict, List, Optional, Type
 
 from rsp_tools.systems import places
 from rsp_tools.systems.__main__ import SYSTEMS
@@ -12,7 +12,7 @@ from rsp_tools.systems.modules import module as true_module
 from . import digests, files, macos, planted, rust, vectors, windows
 from .browser import Chromium
 from .counts import Counts
-from .runners import Arm, Mac, Native, Runner, Windows
+from .runners import Arm, Mac, MacArm, MacIntel, Native, Runner, Windows
 
 DATA = places.TOP / "tests" / "systems"
 EMBEDDING = places.TOP / "tests" / "embedding"
@@ -31,12 +31,15 @@ class Suite:
         "wasm64": Chromium,
     }
 
-    def __init__(self, counts: Counts, system: str, at: Path, steps: int) -> None:
+    def __init__(
+        self, counts: Counts, system: str, at: Path, steps: int, kind: Optional[Type[Runner]] = None
+    ) -> None:
         self.counts, self.system, self.steps = counts, system, steps
         self.at = at / system
-        self.at.mkdir()
+        self.at.mkdir(parents=True)
         self.native = Native(at)
-        self.runner = self.runners[system](places.MADE / system, self.at)
+        self.kind = kind or self.runners[system]
+        self.runner = self.kind(places.MADE / system, self.at)
 
     def see(self, what: str, is_right: bool) -> bool:
         """Counts a check of this system."""
@@ -47,12 +50,28 @@ class Suite:
         self.files()
         self.again()
         if not self.runner.runs:
-            print(f"{self.system}: its files were read, and nothing was run", flush=True)
+            self.codes()
             return
         self.calls()
         self.limits()
         if self.system in rust.TESTED:
             rust.see_tests(self.counts, self.system, self.runner, *rust.TESTED[self.system])
+        self.computes()
+
+    def codes(self) -> None:
+        """The code of librsp.dylib for each processor, on Linux."""
+        for kind in (MacIntel, MacArm):
+            if kind.missing():
+                self.counts.skip(
+                    f"{self.system}, code for {kind.processor}: apt-get install {kind.missing()}"
+                )
+                continue
+            part = Suite(self.counts, self.system, self.at / kind.processor, self.steps, kind)
+            part.calls()
+            part.computes()
+
+    def computes(self) -> None:
+        """The vectors, the random programs, and the library that has to be found wrong."""
         found = self.vectors(self.runner)
         print(f"{self.system}: vectors: {found.passed} passed, {found.failed} failed", flush=True)
         self.counts.passed += found.passed
@@ -90,7 +109,7 @@ class Suite:
     def calls(self) -> None:
         """Each call in its range and out of it, and the lock step of examples, with each library."""
         wanted = (EXAMPLE / "lockstep.expected").read_text().splitlines()
-        for kind, library in self.libraries().items():
+        for kind, library in self.runner.libraries().items():
             for source in (EMBEDDING / "calls.c", EMBEDDING / "owner.c"):
                 made = self.runner.compile(source, name=f"{source.stem}-{kind}", library=library)
                 ended = self.runner.run(made)
@@ -101,10 +120,6 @@ class Suite:
                 )
             made = self.runner.compile(EXAMPLE / "lockstep.c", name=f"lockstep-{kind}", library=library)
             self.see(f"lockstep.c, {kind}", self.runner.run(made).said.splitlines() == wanted)
-
-    def libraries(self) -> Dict[str, List[str]]:
-        """The words that link each kind of library."""
-        return {"static": self.runner.static(), "shared": self.runner.shared()}
 
     def limits(self) -> None:
         """Each allocation failing, the stack that a call uses, and threads."""
@@ -157,7 +172,7 @@ class Suite:
 
         (self.at / "planted-way").mkdir()
         SYSTEMS[self.system].make(self.at / "planted", self.at / "planted-way", source)
-        runner = self.runners[self.system](self.at / "planted", self.at)
+        runner = self.kind(self.at / "planted", self.at)
         try:
             failed = self.vectors(runner).failed
             wanted, got = self.digests(self.native, FEW), self.digests(runner, FEW)

@@ -6,7 +6,7 @@ named.
   windows-x86_64   library/systems/windows-x86_64: rsp.dll, an import library and a static one for mingw and
                    for MSVC, CMake, and the Python wheel
   macos            library/systems/macos: librsp.dylib and librsp.a for Intel and ARM, pkg-config, CMake, and
-                   the Python wheel; macOS 11. Never run: there was no Mac
+                   the Python wheel; macOS 11. Never run on a Mac
   wasm64           library/systems/wasm64: rsp.wasm for browsers, Node 24 and Deno, with an ES module and its
                    types, as a package of npm
 
