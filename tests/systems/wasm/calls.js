@@ -97,6 +97,11 @@ function runs() {
     refused(OUT, () => machine.vreg(number));
   }
   refused(OUT, () => machine.write(0, -1), "value is -1, not 0 to 4294967295");
+}
+
+/** Breakpoints and watches up to the last one. */
+function stops() {
+  const machine = loaded(LOOP);
   for (let n = 0; n < 16; n++) machine.add_break(2048 + 4 * n);
   refused(Status.BREAK_FULL, () => machine.add_break(0));
   for (let n = 0; n < 8; n++) machine.add_watch(0xf00, 1);
@@ -349,7 +354,7 @@ export async function run(library) {
   see = report.see.bind(report);
   same = report.same.bind(report);
   refused = report.refused.bind(report);
-  const parts = [lives, copies, runs, passes, moves, traces, sp_registers, states, memories, texts, differences];
+  const parts = [lives, copies, runs, stops, passes, moves, traces, sp_registers, states, memories, texts, differences];
   parts.forEach((part) => part());
   return report.end();
 }
