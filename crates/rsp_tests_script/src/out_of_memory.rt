@@ -199,12 +199,12 @@ fn a_bench_goes_on_when_memory_is_there(rt: HostRuntime) -> Result<(), Fail> {
 
 #[test]
 fn a_script_in_pieces_is_answered_when_memory_is_there(rt: HostRuntime) -> Result<(), Fail> {
-    let script = b"step\nasm 8\nx: j x\nend\nstep";
+    let script = b"step\nasm 8\nx: j x\nend\nstep".as_slice();
     for _ in 0..2 {
         match run_pieces(rt.alloc(), image(&rt)?, script, 3) {
-            Ok((replies, _)) => {
-                let expected = b"step Done pc 004\nok 1 words\nstep Done pc 008\n";
-                assert!(rt; replies.as_slice() == expected.as_slice());
+            Ok(run) => {
+                let expected = b"step Done pc 004\nok 1 words\nstep Done pc 008\n".as_slice();
+                assert!(rt; run.0.as_slice() == expected);
             }
             Err(BenchFault::OutOfMemory) => println!(rt; "no memory for the script")?,
             Err(_) => return Err(Fail::new("the script ends otherwise")),
