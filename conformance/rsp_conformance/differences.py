@@ -15,7 +15,6 @@ passed, M failed`.
 
 import json
 import sys
-from collections import Counter
 from pathlib import Path
 from textwrap import fill
 from typing import Any, Dict, Iterator, List, Tuple
@@ -63,13 +62,9 @@ def share_of(it: Data, cases: int) -> str:
 def line_of(names: List[str], data: Data, sentence: str) -> str:
     """The line of the instructions that have a sentence."""
     rows = [data["instructions"][name] for name in names]
-    counts: Counter[str] = Counter()
-    for it in rows:
-        counts.update(it["parts"])
-    parts = ", ".join(part for part, _ in sorted(counts.items(), key=lambda pair: -pair[1]))
     shares = ", ".join(share_of(it, data["cases"]) for it in rows)
     first = ", ".join("`" + it["first"].split(" (")[0].split(":")[0] + "`" for it in rows)
-    return f"| {', '.join(names).upper()} | {sentence} | {shares} | {parts} | {first} |"
+    return f"| {', '.join(names).upper()} | {sentence} | {shares} | {first} |"
 
 
 def page_of(data: Data) -> str:
@@ -87,15 +82,15 @@ that differs from the [instruction table](../docs/INSTRUCTIONS.md), with a case 
 which of the two a console agrees with.
 
 A [campaign](../docs/CAMPAIGN.md) compared up to {data["cases"]} cases of each of {len(found)} instructions (seed `{data["seed"]}`) with Debian's
-mupen64plus-rsp-z64 2.5.9+10+ga7bf40f-2. `conformance/differences` makes this page of its data. The campaign compares
-all registers and memories. What z64 doesn't show is left out: whether the divider is loaded, and halted, broke and
-single step. `conformance/campaign plugin:FILE --case NAME` shows a case.
+mupen64plus-rsp-z64 2.5.9+10+ga7bf40f-2: all registers and memories, but whether the divider is loaded, and halted,
+broke and single step, which z64 doesn't show. `conformance/campaign plugin:FILE --case NAME` shows a case. The
+[data](z64/campaign.json) name the parts of the state that differ.
 
 The letters are those of the table. Beside each sentence a [rule](rsp_conformance/otherwise) computes what z64 leaves,
-and cases of each instruction are compared with it. The rest is as in the table.
+and cases of each instruction are compared with it. `conformance/differences` makes this page.
 
-| Instruction | What z64 does | Cases that differ | In | First |
-|---|---|---|---|---|
+| Instruction | What z64 does | Cases that differ | First |
+|---|---|---|---|
 {chr(10).join(lines)}
 
 {len(agree)} instructions agree in every case:
