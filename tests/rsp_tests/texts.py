@@ -417,7 +417,7 @@ def taken_cases(files: Files) -> Iterator[Case]:
     renamed = (files.folder / "renamed.s").read_text()
     wanted = "vadd $v11, $v12, $V19[1h]\nlqv $v13[0], 16($19)\nvmudn $v19, $v12, $v0\n"
     yield "registers renamed", unless(renamed == wanted, f"the text is {renamed!r}")
-    before, after = block_with("microcode/README.md", "sqv   $v1[0], 0x3f0($0)").strip().splitlines()
+    before, after = block_with("microcode/README.md", "sqv   $v1[0], 0x300($0)").strip().splitlines()
     setting = ["lqv $v1[0], 0($0)", *(f"ori ${n}, $0, {it}" for n, it in enumerate((32, 64, 64, 16), 1))]
     routine, data = (TOP / "microcode/copy.s").read_text(), bytes(range(16)).hex()
     lines = [f"load dmem 0 {data}", "asm 0", *setting, before, routine, after, "sqv $v1[0], 96($0)"]
