@@ -16,7 +16,7 @@ import enum
 import os
 import sys
 from ctypes import POINTER, Structure, byref, c_char_p, c_size_t, c_uint16, c_uint32, c_void_p
-from typing import Any, Iterable, Iterator, List, NamedTuple, Optional, Sequence, Tuple, TypeVar
+from typing import Any, Iterable, Iterator, List, NamedTuple, Optional, Sequence, Tuple, TypeVar, Union
 
 from . import arrays as _arrays
 from . import _explain
@@ -29,13 +29,14 @@ from .words import FAULTS
 
 __version__ = "1.0.0"
 __all__ = [
-    "DMEM", "FAULTS", "IMEM", "RDRAM", "VERSION", "Accumulators", "AssemblyError", "Bank", "Changes",
+    "DMEM", "FAULTS", "IMEM", "RDRAM", "VERSION", "Accumulators", "AssemblyError", "Bank", "Bench", "Changes",
     "Difference", "Divider", "Emulator", "FirstDifference", "Flags", "Line", "Move", "Part", "Reason", "Rsp",
     "RspError", "Scalars", "SpWords", "State", "Status", "Stop", "Traced", "assemble", "first_difference",
-    "state_fault", "text",
+    "run_script", "state_fault", "text",
 ]  # fmt: skip
 
 _S = TypeVar("_S", bound=Structure)
+_O = TypeVar("_O", bound="_Owner")
 
 
 def __getattr__(name: str) -> Any:
@@ -234,7 +235,7 @@ _CALLS = {
     "rsp_assemble": [_U, _B, _Z, _W, _Z, POINTER(_Assembled)], "rsp_text": [_U, _U, POINTER(_Line)],
     "rsp_listing": [_M, _U, POINTER(_Line), _Z], "rsp_explain": [_U, _B, _Z, POINTER(_explain.Operand)],
     "rsp_bench_new": [_T, _B, _Z],
-    "rsp_bench_take": [_T, _B, _Z, POINTER(_Z), c_void_p, _Z, POINTER(_Z)],
+    "rsp_bench_take": [_T, c_void_p, _Z, POINTER(_Z), c_void_p, _Z, POINTER(_Z)],
     "rsp_bench_end": [_T, c_void_p, _Z, POINTER(_Z)],
     "rsp_bench_memory": [_T, _U, _U, c_void_p, _Z],
 }  # fmt: skip
@@ -315,7 +316,36 @@ def state_fault(state: State) -> Optional[str]:
     return _FIELDS[out.value] if out.value else None
 
 
-class Rsp:
+def _made(call: str, make: Any, handle: Structure, image: Any, *more: int) -> int:
+    """Fills a handle by a call that takes an image, and returns the image's length."""
+    data = _in_words.bytes_of(call, "image", image)
+    status = make(byref(handle), data, len(data), *more)
+    if status == Status.OUT_OF_RANGE and (len(data) % 8 or not 64 <= len(data) <= 1 << 23):
+        why = f"{call}: image has {len(data)} bytes, not a multiple of 8 from 64 to 8388608"
+        raise RspError(Status(status), why)
+    _ok(status, call, more)
+    return len(data)
+
+
+class _Owner:
+    """Frees what its handle holds at the end of a block, or when it is dropped."""
+
+    def close(self) -> None:
+        """Frees it."""
+        raise NotImplementedError
+
+    def __enter__(self: _O) -> _O:
+        return self
+
+    def __exit__(self, *_: object) -> None:
+        self.close()
+
+    def __del__(self) -> None:
+        if _lib is not None and "_handle" in self.__dict__:
+            self.close()
+
+
+class Rsp(_Owner):
     """A machine with a copy of an image of RDRAM and a history of `depth` states, at most 4096.
 
     The image has 64 to 8388608 bytes, a multiple of 8: `image_length`. A refused call raises RspError with
@@ -323,15 +353,9 @@ class Rsp:
     """
 
     def __init__(self, image: bytes = bytes(64), depth: int = 0) -> None:
-        data = _in_words.bytes_of("Rsp", "image", image)
         (depth,) = _numbers("Rsp", depth)
         self._handle = _Handle()
-        status = _lib.rsp_new(byref(self._handle), data, len(data), depth)
-        if status == Status.OUT_OF_RANGE and (len(data) % 8 or not 64 <= len(data) <= 1 << 23):
-            why = f"Rsp: image has {len(data)} bytes, not a multiple of 8 from 64 to 8388608"
-            raise RspError(Status(status), why)
-        _ok(status, "Rsp", [depth])
-        self.image_length = len(data)
+        self.image_length = _made("Rsp", _lib.rsp_new, self._handle, image, depth)
 
     def copy(self) -> "Rsp":
         """A second machine in the same state, memories included, with as long a history, which is empty, and
@@ -351,16 +375,6 @@ class Rsp:
     def close(self) -> None:
         """Frees the machine. Any later call is refused with NO_MACHINE."""
         _lib.rsp_free(byref(self._handle))
-
-    def __enter__(self) -> "Rsp":
-        return self
-
-    def __exit__(self, *_: object) -> None:
-        self.close()
-
-    def __del__(self) -> None:
-        if _lib is not None and "_handle" in self.__dict__:
-            self.close()
 
     def _call(self, name: str, *given: int) -> None:
         numbers = _numbers(name, *given)
@@ -572,3 +586,60 @@ class Rsp:
         lines = (_Line * count)()
         _ok(_lib.rsp_listing(byref(self._handle), place, lines, count), "listing", numbers)
         return [Line(it.place, it.word, it.text.decode()) for it in lines]
+
+
+class Bench(_Owner):
+    """Answers a script as `rsp run` does. Its machine has a copy of the image, without one 4 MiB of zeros.
+
+    A script of more than 1048576 bytes raises RspError with TOO_LONG, as does any later `feed` or `end`.
+    """
+
+    def __init__(self, image: Optional[bytes] = None) -> None:
+        self._handle, self._reply = _BenchHandle(), (ctypes.c_char * 16384)()
+        given = bytes(1 << 22) if image is None else image
+        self._length = _made("Bench", _lib.rsp_bench_new, self._handle, given)
+
+    def close(self) -> None:
+        """Frees the bench. Any later call is refused with NO_MACHINE."""
+        _lib.rsp_bench_free(byref(self._handle))
+
+    def _answer(self, call: str, take: Any, *given: Any) -> bytes:
+        written, room = c_size_t(), len(self._reply)
+        _ok(take(byref(self._handle), *given, self._reply, room, byref(written)), call)
+        return bytes(memoryview(self._reply)[: written.value])
+
+    def feed(self, script: Union[str, bytes]) -> bytes:
+        """The replies to the lines that end in these bytes of the script; what follows the last LF waits for
+        more. If it raises, replies are lost that `iter_feed` would have given."""
+        return b"".join(self.iter_feed(script))
+
+    def iter_feed(self, script: Union[str, bytes]) -> Iterator[bytes]:
+        """These replies one by one. The bench takes a line when its reply is asked for."""
+        raw = script.encode() if isinstance(script, str) else _in_words.bytes_of("feed", "script", script)
+        held, at, used = ctypes.create_string_buffer(raw, len(raw)), 0, c_size_t()
+        while True:
+            rest = byref(held, at), len(raw) - at
+            reply = self._answer("feed", _lib.rsp_bench_take, *rest, byref(used))
+            at += used.value
+            if raw.endswith(b"\n", 0, at):
+                yield reply
+            if at == len(raw):
+                return
+
+    def end(self) -> bytes:
+        """Ends the script: the reply to a last line without LF, and the fault of an open `asm` block. Any
+        later `feed` or `end` is refused with ENDED."""
+        return self._answer("end", _lib.rsp_bench_end)
+
+    @property
+    def rdram(self) -> bytes:
+        """A copy of the image as it is."""
+        out = ctypes.create_string_buffer(self._length)
+        _ok(_lib.rsp_bench_memory(byref(self._handle), Bank.RDRAM, 0, out, self._length), "rdram")
+        return out.raw
+
+
+def run_script(script: Union[str, bytes], image: Optional[bytes] = None) -> Tuple[bytes, bytes]:
+    """The replies of `rsp run` to a script, and the image as the script leaves it."""
+    with Bench(image) as bench:
+        return bench.feed(script) + bench.end(), bench.rdram

@@ -82,6 +82,8 @@ SENTENCES = {
     13: "no watch has the number {}",
     14: "the history holds fewer states than {}",
     15: "the text has more than 1024 words",
+    16: "the script has ended",
+    17: "the script has more than 1048576 bytes",
 }
 
 

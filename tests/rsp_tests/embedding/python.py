@@ -16,7 +16,7 @@ from rsp_tests.embedding import shapes
 
 SYSTEM_PYTHON = "/usr/bin/python3"
 PIP = ("-m", "pip", "--disable-pip-version-check", "install", "-q", "--no-index", "--no-deps")
-MODULES = ("calls", "traces", "states", "compare", "routines", "layouts", "package")
+MODULES = ("calls", "traces", "states", "compare", "routines", "layouts", "package", "benches")
 EXAMPLES = TOP / "examples/python"
 DATA = TESTS / "embedding"
 LOCKSTEP = (TOP / "examples/c/lockstep.expected").read_text()

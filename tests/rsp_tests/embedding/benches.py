@@ -1,0 +1,203 @@
+"""tests/part embedding-benches [COUNT]: benches of the Python module beside the program, on the scripts of
+the repository and on COUNT random ones (1000).
+
+It fails if the replies differ from those that are stored, or from what `rsp run` writes, if the image does,
+or if a call is refused otherwise than its text says. A script comes whole by run_script, and cut at random
+into calls of `feed`.
+"""
+
+import argparse
+import random
+import sys
+import tempfile
+from pathlib import Path
+from typing import Callable, Dict, Iterator, List, Tuple
+
+import rsp
+from rsp import RspError, Status
+from rsp_tests.common.arguments import PROGRAM
+from rsp_tests.common.program import content, ended
+from rsp_tests.common.report import leave_out
+from rsp_tests.embedding.checks import REPORT, raised, refused, same, see
+from rsp_tests.scripts import image_of, stored, wanted_of
+
+LENGTH = 4096  # bytes of the images of random scripts
+LONGEST = 1048576
+TOO_LONG = b"rsp: fault 42 ScriptTooLong\n"
+Chance = random.Random
+
+
+def items(rows: str) -> List[str]:
+    """The items of a table, which has semicolons between them, and ends of lines."""
+    return [it for row in rows.strip("\n").split("\n") for it in row.split(";")]
+
+
+TEXTS = items(
+    """
+nop;break;addiu $1, $1, 1;ori $2, $0, 0x1000;sw $1, 4($0);sw $2, 0x40($1);lqv $v1[0], 0($0);sqv $v1[0], 16($0)
+vaddc $v2, $v1, $v1;vmulf $v3, $v1, $v2[1];vrcp $v4[0], $v1[3];mtc0 $2, $c2;mfc0 $3, $c7;mtc0 $1, $c4
+loop: bne $1, $2, loop;j 0;jr $1;.word 0xffffffff;.word 1, 2;x:;# nothing;foo $1;addiu $1, $2;lw $1, loop($0)
+"""
+)
+NO_LINES = items(
+    """
+walk;step 1; ;#;\tstep # one\r;\xff;load rom 0 00;load dmem 0 0;end end;asm;run 0x;mem dmem 0 0
+"""
+)
+# The forms of the commands: A is any address, P one of IMEM, N, L and W numbers, H bytes, B a memory.
+FORMS = items(
+    """
+load B A H;load B A H;asm P;end;step;step;run N;run N;run L;break P;unbreak P;watch L N;unwatch N;back N
+back L;pc P;read N;write N W;write N L;task A;regs;vregs;acc;flags;sp;mem B A L;mem B A N;dis P N;write 2 W
+write 3 L;write 4 1
+"""
+)
+OF: Dict[str, Callable[[Chance], str]] = {
+    "A": lambda c: str(c.choice((c.randrange(256), 8 * c.randrange(512), c.randrange(1 << 24)))),
+    "P": lambda c: hex(c.choice((0, 4 * c.randrange(16), 4 * c.randrange(1024), c.randrange(5000)))),
+    "N": lambda c: str(c.randrange(18)),
+    "L": lambda c: str(c.choice((c.randrange(300), c.randrange(5000)))),
+    "W": lambda c: hex(c.getrandbits(c.choice((4, 16, 32, 33)))),
+    "H": lambda c: bytes(c.randrange(256) for _ in range(c.randrange(1, 40))).hex(),
+    "B": lambda c: c.choice(("dmem", "imem", "imem", "rdram")),
+}
+
+
+def line(chance: Chance) -> bytes:
+    """A command, a line of assembly text, or what is neither."""
+    kind = chance.random()
+    if kind < 0.05:
+        return chance.choice(NO_LINES).encode("latin-1")
+    if kind < 0.25:
+        return chance.choice(TEXTS).encode()
+    words = chance.choice(FORMS).split()
+    return " ".join(OF[it](chance) if it in OF else it for it in words).encode()
+
+
+def random_script(chance: Chance) -> bytes:
+    """Up to 60 lines, some of them in blocks, and the last one with or without LF."""
+    lines: List[bytes] = []
+    for _ in range(chance.randrange(1, 40)):
+        if chance.random() < 0.1:
+            lines += [b"asm 0", *(chance.choice(TEXTS).encode() for _ in range(chance.randrange(6))), b"end"]
+        lines.append(line(chance))
+    return b"\n".join(lines) + b"\n" * chance.randrange(2)
+
+
+def cut(script: bytes, chance: Chance) -> Iterator[bytes]:
+    """The script in pieces, some of them empty."""
+    most, at = 5000 if len(script) > 5000 else chance.choice((1, 7, 100)), 0
+    while at < len(script):
+        length = chance.randrange(most + 1)
+        yield script[at : at + length]
+        at += length
+
+
+def answered(script: bytes, image: bytes, chance: Chance) -> Tuple[bytes, bytes]:
+    """The replies and the image of a bench whose script comes in pieces."""
+    with rsp.Bench(image) as bench:
+        replies = b"".join(bench.feed(it) for it in cut(script, chance))
+        return replies + bench.end(), bench.rdram
+
+
+def by_program(script: bytes, image: bytes, folder: Path) -> Tuple[bytes, bytes]:
+    """What `rsp run` writes, and the image that it saves."""
+    given, saved = folder / "image", folder / "saved"
+    given.write_bytes(image)
+    ran = ended(PROGRAM, ["run", "--rdram", given, "--save", saved], script)
+    return ran.stdout, content(saved) or b""
+
+
+def test_stored(folder: Path, chance: Chance) -> None:
+    """The replies that are stored, and the image that the program leaves."""
+    for path in stored():
+        script, rdram, (status, wanted, errors) = (
+            path.read_bytes(),
+            path.with_suffix(".rdram"),
+            wanted_of(path),
+        )
+        image, name = image_of(rdram) if rdram.exists() else bytes(1 << 22), f"{path.parent.name}/{path.stem}"
+        if status:
+            why = Status.TOO_LONG if errors == TOO_LONG else Status.OUT_OF_RANGE
+            refused(why, rsp.run_script, script, image)
+            continue
+        found = rsp.run_script(script, image if rdram.exists() else None)
+        same(name, found[0], wanted)
+        see(f"{name} in pieces", answered(script, image, chance) == found)
+        if PROGRAM.is_file():
+            see(f"{name} by the program", by_program(script, image, folder) == found)
+    see("there are scripts", len(stored()) > 100)
+
+
+def test_random(folder: Path, count: int, chance: Chance) -> None:
+    """The program's replies and its image, of random scripts on a random image."""
+    image, kinds = chance.randbytes(LENGTH), set()
+    for number in range(count):
+        script = random_script(chance)
+        wanted = by_program(script, image, folder)
+        kinds |= {b" ".join(it.split()[:2]) for it in wanted[0].splitlines()}
+        same(f"random script {number} by run_script", rsp.run_script(script, image), wanted)
+        same(f"random script {number} in pieces", answered(script, image, chance), wanted)
+    faults = sorted(it.decode() for it in kinds if it.startswith(b"fault "))
+    see("the random scripts have faults of many kinds", len(faults) > 15, faults)
+    needed = {b"stop Limit", b"stop Reserved", b"stop Halted", b"ok watch", b"step Done", b"step Halted"}
+    same("the random scripts have stops", needed - kinds, set())
+
+
+def test_calls() -> None:
+    """What a bench refuses, and what it keeps then."""
+    bench = rsp.Bench(bytes(64))
+    same("an image", (bench.rdram, len(rsp.Bench().rdram)), (bytes(64), 1 << 22))
+    pieces = [bench.feed("st"), bench.feed(b"ep\nstep # 2"), bench.feed(bytearray(b"")), bench.end()]
+    same("a line in pieces", pieces, [b"", b"step Done pc 004\n", b"", b"step Done pc 008\n"])
+    for call in (bench.end, lambda: bench.feed(b"step\n")):
+        raised(RspError, "the script has ended", call)
+    same("a script without bytes", rsp.run_script("", bytes(8) * 9), (b"", bytes(72)))
+    replies = rsp.Bench(bytes(64)).iter_feed("step\n#\nasm 0\nnop\nend\nste")
+    same("replies one by one", [*replies], [b"step Done pc 004\n", b"", b"", b"", b"ok 1 words\n"])
+    for length in (0, 63, 65, (1 << 23) + 8):
+        refused(Status.OUT_OF_RANGE, rsp.Bench, bytes(length))
+    raised(TypeError, "Bench: image is of type str", rsp.Bench, "image")
+    raised(TypeError, "feed: script is of type int", rsp.Bench(bytes(64)).feed, 3)
+    bench.close()
+    for gone in (bench.end, lambda: bench.feed("step\n"), lambda: bench.rdram):
+        raised(RspError, "is closed", gone)
+
+
+def test_limit() -> None:
+    """The byte after the last one that a script may have."""
+    script = b"step\n" + b"#" * (LONGEST - 5)
+    same(
+        "the longest script",
+        rsp.run_script(script, bytes(64))[0],
+        b"step Done pc 004\nfault 32 LineTooLong\n",
+    )
+    refused(Status.TOO_LONG, rsp.run_script, script + b"#", bytes(64))
+    bench, told = rsp.Bench(bytes(64)), [b""]
+    try:
+        told += bench.iter_feed(script + b"#")
+    except RspError as fault:
+        same("its status", fault.status, Status.TOO_LONG)
+    same("the replies before it", told, [b"", b"step Done pc 004\n"])
+    for call in (bench.end, lambda: bench.feed("")):
+        raised(RspError, "the script has more than 1048576 bytes", call)
+    same("its image", bench.rdram, bytes(64))
+
+
+def main() -> int:
+    words = argparse.ArgumentParser(prog="tests/part embedding-benches", description=__doc__)
+    words.add_argument("count", nargs="?", type=int, default=1000, metavar="COUNT")
+    count, chance = words.parse_args().count, Chance(68)
+    test_calls()
+    test_limit()
+    with tempfile.TemporaryDirectory() as folder:
+        test_stored(Path(folder), chance)
+        if PROGRAM.is_file():
+            test_random(Path(folder), count, chance)
+        else:
+            leave_out("the program beside it", "it isn't built: `./rsp run` builds it")
+    return REPORT.end()
+
+
+if __name__ == "__main__":
+    sys.exit(main())
