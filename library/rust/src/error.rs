@@ -7,7 +7,7 @@ use std::fmt;
 /// The version of the interface for which this crate is.
 pub const VERSION: u32 = 1;
 
-/// Why a call was refused. It has changed nothing.
+/// Why a call was refused. It has changed nothing, but `TooLong` ends a bench.
 #[derive(Clone, Copy, Debug, PartialEq, Eq)]
 pub enum Refused {
     /// An allocation failed.
@@ -39,6 +39,10 @@ pub enum Refused {
     NoWatch,
     /// The history holds fewer states.
     ShortHistory,
+    /// The script has ended.
+    Ended,
+    /// The script has more than 1048576 bytes.
+    TooLong,
     /// The library has this version of the interface, and the crate is for [`VERSION`].
     Version(u32),
     /// A status that this crate doesn't know.
@@ -59,6 +63,8 @@ impl fmt::Display for Refused {
             Refused::WatchFull => "there are eight watches",
             Refused::NoWatch => "no watch has this number",
             Refused::ShortHistory => "the history holds fewer states",
+            Refused::Ended => "the script has ended",
+            Refused::TooLong => "the script has more than 1048576 bytes",
             Refused::Version(found) => return write!(f, "the interface of the library has version {found}, not {VERSION}"),
             Refused::Unknown(status) => return write!(f, "the library returned the unknown status {status}"),
         })
@@ -108,6 +114,8 @@ pub(crate) fn done(status: u32) -> Result<(), Refused> {
         12 => Refused::WatchFull,
         13 => Refused::NoWatch,
         14 => Refused::ShortHistory,
+        16 => Refused::Ended,
+        17 => Refused::TooLong,
         other => Refused::Unknown(other),
     })
 }

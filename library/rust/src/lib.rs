@@ -14,6 +14,7 @@
 
 #![warn(missing_docs)]
 
+mod bench;
 mod compare;
 mod difference;
 mod error;
@@ -26,6 +27,7 @@ mod shapes;
 mod shown;
 mod texts;
 
+pub use bench::{run_script, Bench};
 pub use compare::{first_difference, Emulator, FirstDifference, Quadword};
 pub use difference::{Part, Place};
 pub use error::{Refused, VERSION};

@@ -8,7 +8,6 @@ pub struct Handle {
 }
 
 #[repr(C)]
-#[allow(dead_code)]
 pub struct BenchHandle {
     pub at: *mut u8,
 }
@@ -106,11 +105,6 @@ extern "C" {
     pub fn rsp_text(word: u32, place: u32, out: *mut Line) -> u32;
     pub fn rsp_listing(m: *mut Handle, place: u32, lines: *mut Line, len: usize) -> u32;
     pub fn rsp_explain(origin: u32, text: *const u8, len: usize, out: *mut Operand) -> u32;
-}
-
-// No type of this crate calls these.
-#[allow(dead_code)]
-extern "C" {
     pub fn rsp_bench_new(b: *mut BenchHandle, image: *const u8, len: usize) -> u32;
     pub fn rsp_bench_take(b: *mut BenchHandle, bytes: *const u8, len: usize, used: *mut usize, reply: *mut u8, capacity: usize, written: *mut usize) -> u32;
     pub fn rsp_bench_end(b: *mut BenchHandle, reply: *mut u8, capacity: usize, written: *mut usize) -> u32;

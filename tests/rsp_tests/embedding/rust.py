@@ -50,12 +50,13 @@ def test(shop: Workshop) -> None:
     if missing:
         leave_out("the crate", missing)
         return
-    made = {"RSP_LIB_DIR": str(TOP / "library/c"), "CARGO_TARGET_DIR": str(shop.folder / "target")}
-    where, at = {**os.environ, **made}, shop.folder / "rust"
+    made = {"RSP_LIB_DIR": TOP / "library/c", "CARGO_TARGET_DIR": shop.folder / "target"}
+    made["RSP_SCRIPTS"] = TOP / "tests/scripts"
+    where, at = {**os.environ, **{name: str(it) for name, it in made.items()}}, shop.folder / "rust"
     shutil.copytree(CRATE, at, ignore=shutil.ignore_patterns("target", "Cargo.lock"))
     got = shop.run("cargo", "test", "--offline", "-q", cwd=at, env=where)
     counts = [int(it) for it in re.findall(r"test result: ok\. (\d+) passed; 0 failed", got.stdout)]
-    is_right = got.returncode == 0 and sum(counts) >= 14 and "warning" not in got.stdout
+    is_right = got.returncode == 0 and sum(counts) >= 18 and "warning" not in got.stdout
     shop.see("cargo test", is_right, got.stdout)
     strict = {**where, "RUSTDOCFLAGS": "-D warnings"}
     shop.says("cargo doc", "", "cargo", "doc", "--offline", "-q", "--no-deps", cwd=at, env=strict)

@@ -1,0 +1,103 @@
+//! A bench, which answers scripts.
+
+use crate::error::{done, right_version};
+use crate::raw;
+use crate::shapes::Bank;
+use crate::Refused;
+use std::cell::UnsafeCell;
+use std::ptr;
+
+/// How many bytes a buffer for replies has.
+const ROOM: usize = 16384;
+
+/// Answers a script as `rsp run` does, with a machine of its own.
+///
+/// A script of more than 1048576 bytes is refused with [`Refused::TooLong`], and so is any later `feed` or `end`. It is `Send`, and not `Sync`.
+// SAFETY of all calls below: as in `Machine`.
+pub struct Bench {
+    handle: UnsafeCell<raw::BenchHandle>,
+    image_length: usize,
+}
+
+// SAFETY: as `Machine`.
+unsafe impl Send for Bench {}
+
+impl Bench {
+    /// A bench whose machine has this image: 64 to 8388608 bytes, a multiple of 8.
+    pub fn new(image: &[u8]) -> Result<Bench, Refused> {
+        right_version()?;
+        let bench = Bench { handle: UnsafeCell::new(raw::BenchHandle { at: ptr::null_mut() }), image_length: image.len() };
+        done(unsafe { raw::rsp_bench_new(bench.at(), image.as_ptr(), image.len()) })?;
+        Ok(bench)
+    }
+
+    fn at(&self) -> *mut raw::BenchHandle {
+        self.handle.get()
+    }
+
+    /// The replies to the lines that end in these bytes of the script; what follows the last LF waits for more. If it is refused, replies are
+    /// lost that [`feed_iter`](Bench::feed_iter) would have given.
+    pub fn feed(&mut self, script: impl AsRef<[u8]>) -> Result<Vec<u8>, Refused> {
+        Ok(self.feed_iter(script.as_ref()).collect::<Result<Vec<_>, _>>()?.concat())
+    }
+
+    /// These replies one by one, up to a refusal. The bench takes a line when its reply is asked for.
+    pub fn feed_iter<'a>(&'a mut self, script: &'a [u8]) -> impl Iterator<Item = Result<Vec<u8>, Refused>> + 'a {
+        let (mut at, mut is_over) = (0, false);
+        std::iter::from_fn(move || {
+            while !is_over {
+                let taken = self.take(&script[at..]);
+                at += taken.as_ref().map_or(0, |it| it.0);
+                is_over = taken.is_err() || at == script.len();
+                if taken.is_err() || script[..at].ends_with(b"\n") {
+                    return Some(taken.map(|it| it.1));
+                }
+            }
+            None
+        })
+    }
+
+    /// How many bytes it takes, at most up to an LF, and the reply.
+    fn take(&mut self, bytes: &[u8]) -> Result<(usize, Vec<u8>), Refused> {
+        let (mut used, mut written, mut reply) = (0, 0, vec![0; ROOM]);
+        done(unsafe { raw::rsp_bench_take(self.at(), bytes.as_ptr(), bytes.len(), &mut used, reply.as_mut_ptr(), ROOM, &mut written) })?;
+        reply.truncate(written);
+        Ok((used, reply))
+    }
+
+    /// Ends the script: the reply to a last line without LF, and the fault of an open `asm` block. Any later `feed` or `end` is refused with
+    /// [`Refused::Ended`].
+    pub fn end(&mut self) -> Result<Vec<u8>, Refused> {
+        let (mut written, mut reply) = (0, vec![0; ROOM]);
+        done(unsafe { raw::rsp_bench_end(self.at(), reply.as_mut_ptr(), ROOM, &mut written) })?;
+        reply.truncate(written);
+        Ok(reply)
+    }
+
+    /// A copy of the image as it is.
+    pub fn rdram(&self) -> Result<Vec<u8>, Refused> {
+        let mut bytes = vec![0; self.image_length];
+        done(unsafe { raw::rsp_bench_memory(self.at(), Bank::Rdram as u32, 0, bytes.as_mut_ptr(), bytes.len()) })?;
+        Ok(bytes)
+    }
+}
+
+impl Drop for Bench {
+    fn drop(&mut self) {
+        unsafe { raw::rsp_bench_free(self.at()) }
+    }
+}
+
+/// The replies of `rsp run` to a script, and the image as the script leaves it. Without an image it is 4 MiB of zeros.
+///
+/// ```
+/// let (replies, image) = rsp::run_script("load rdram 0 0102\nstep", Some(&[0; 64]))?;
+/// assert_eq!((&replies[..], &image[..3]), (&b"ok\nstep Done pc 004\n"[..], &[1, 2, 0][..]));
+/// # Ok::<(), rsp::Refused>(())
+/// ```
+pub fn run_script(script: impl AsRef<[u8]>, image: Option<&[u8]>) -> Result<(Vec<u8>, Vec<u8>), Refused> {
+    let mut bench = Bench::new(image.unwrap_or(&vec![0; 1 << 22]))?;
+    let mut replies = bench.feed(script)?;
+    replies.append(&mut bench.end()?);
+    Ok((replies, bench.rdram()?))
+}

@@ -1,0 +1,73 @@
+//! Benches: scripts in pieces, replies one by one, refusals; and the scripts of the repository, if they are there.
+
+use rsp::{run_script, Bench, Refused};
+use std::fs;
+use std::path::Path;
+
+const LONGEST: usize = 1048576;
+
+#[test]
+fn pieces() {
+    let mut bench = Bench::new(&[0; 64]).unwrap();
+    assert_eq!(bench.feed("st"), Ok(vec![]));
+    assert_eq!(bench.feed(b"ep\nstep # 2"), Ok(b"step Done pc 004\n".to_vec()));
+    assert_eq!(bench.feed(""), Ok(vec![]));
+    assert_eq!(bench.end(), Ok(b"step Done pc 008\n".to_vec()));
+    assert_eq!(bench.end(), Err(Refused::Ended));
+    assert_eq!(bench.feed(""), Err(Refused::Ended));
+    assert_eq!(bench.rdram(), Ok(vec![0; 64]));
+    assert_eq!(run_script("", None), Ok((vec![], vec![0; 1 << 22])));
+}
+
+#[test]
+fn one_by_one() {
+    let mut bench = Bench::new(&[0; 64]).unwrap();
+    let replies: Vec<_> = bench.feed_iter(b"step\n#\nasm 0\nnop\nend\nste").map(Result::unwrap).collect();
+    assert_eq!(replies, [&b"step Done pc 004\n"[..], b"", b"", b"", b"ok 1 words\n"]);
+    let text = "#".repeat(LONGEST);
+    let mut told = bench.feed_iter(text.as_bytes());
+    assert_eq!((told.next(), told.next()), (Some(Err(Refused::TooLong)), None));
+}
+
+#[test]
+fn refusals() {
+    for length in [0, 63, 65, 68, (1 << 23) + 8] {
+        assert_eq!(Bench::new(&vec![0; length]).err(), Some(Refused::OutOfRange));
+    }
+    let script = format!("step\n{}", "#".repeat(LONGEST - 5));
+    let wanted = b"step Done pc 004\nfault 32 LineTooLong\n".to_vec();
+    assert_eq!(run_script(&script, Some(&[0; 64])), Ok((wanted, vec![0; 64])));
+    let mut bench = Bench::new(&[1; 64]).unwrap();
+    assert_eq!(bench.feed(script + "#"), Err(Refused::TooLong));
+    assert_eq!((bench.feed(""), bench.end(), bench.rdram()), (Err(Refused::TooLong), Err(Refused::TooLong), Ok(vec![1; 64])));
+    assert_eq!(Refused::TooLong.to_string(), "the script has more than 1048576 bytes");
+}
+
+/// The image that a file NAME.rdram describes: its length, and whether its bytes count up.
+fn image_of(path: &Path) -> Option<Vec<u8>> {
+    let text = fs::read_to_string(path).ok()?;
+    let length = text.split_whitespace().next()?.parse().ok()?;
+    let is_counting = text.contains("count");
+    Some((0..length).map(|n: usize| if is_counting { n as u8 } else { 0 }).collect())
+}
+
+/// RSP_SCRIPTS names a folder with folders of scripts, each with its replies beside it; without it there is nothing to do.
+#[test]
+fn stored_scripts() {
+    let folder = match std::env::var_os("RSP_SCRIPTS") {
+        Some(folder) => folder,
+        None => return,
+    };
+    let folders = fs::read_dir(folder).unwrap().map(|it| it.unwrap().path()).filter(|it| it.is_dir());
+    let files = folders.flat_map(|it| fs::read_dir(it).unwrap()).map(|it| it.unwrap().path());
+    let scripts: Vec<_> = files.filter(|it| it.extension().map_or(false, |end| end == "script")).collect();
+    assert!(scripts.len() > 80, "{} scripts", scripts.len());
+    for path in scripts {
+        if path.with_extension("status").exists() {
+            continue;
+        }
+        let image = image_of(&path.with_extension("rdram"));
+        let (replies, _) = run_script(fs::read(&path).unwrap(), image.as_deref()).unwrap();
+        assert!(replies == fs::read(path.with_extension("expected")).unwrap(), "{}", path.display());
+    }
+}
