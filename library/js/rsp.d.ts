@@ -36,6 +36,8 @@ export enum Status {
   NO_WATCH = 13,
   SHORT_HISTORY = 14,
   NO_ROOM = 15,
+  ENDED = 16,
+  TOO_LONG = 17,
 }
 
 /** The three memories. */
@@ -187,6 +189,24 @@ export class Traced extends Plain {
   readonly lanes: Uint16Array;
 }
 
+/** What a step changed: its entry in a trace, `traced`; and after the step pc and npc, the `divider`, the
+ * `accumulators`.
+ *
+ * Of a store `quadword` is the address of the quadword in which its address is, and `stored_bytes` has that quadword
+ * and the next one, modulo 4096; of any other step both are 0. Besides, an LTV writes seven more registers of its
+ * group; MFC0, MTC0, BREAK and single step change SP registers; and a DMA changes memories. */
+export class Changes extends Plain {
+  static from(bytes: Uint8Array): Changes;
+  copy(): Changes;
+  readonly traced: Traced;
+  readonly pc: number;
+  readonly npc: number;
+  readonly divider: Divider;
+  readonly quadword: number;
+  readonly accumulators: Accumulators;
+  readonly stored_bytes: Uint8Array;
+}
+
 /** All registers. `new State()` is that of a new machine, and fields that are given are set in it; npc is 4 after pc if
  * it isn't given. `vectors[n][lane]` has lane 0 first, and `words[0]` is 0. */
 export class State extends Plain {
@@ -274,6 +294,8 @@ export class Rsp {
   set_pc(pc: number): void;
   /** Executes one instruction. OK, or HALTED or RESERVED if the machine can't. */
   step(): Status.OK | Status.HALTED | Status.RESERVED;
+  /** As `step`, and returns what the step changed; null if the machine can't make it. */
+  step_changes(): Changes | null;
   /** Makes 1 to 1000000 steps, up to the first reason to stop. */
   run(steps: number): Stop;
   /** As `run`, and also stops before an MFC0 whose SP register has its bit in `reads`, or an MTC0 whose register has
@@ -323,6 +345,31 @@ export class Rsp {
   /** At most 1024 words of IMEM from the address `place` on, a multiple of 4, with their disassembly. */
   listing(place: number, count: number): Line[];
 }
+
+/** Answers a script as `rsp run` does. Its machine has a copy of the image, without one 4 MiB of zeros.
+ *
+ * A script of more than 1048576 bytes throws an RspError with TOO_LONG, as does any later `feed` or `end`. */
+export class Bench {
+  constructor(image?: ArrayBuffer | ArrayBufferView);
+  /** Frees the bench. Any later call is refused with NO_MACHINE. */
+  free(): void;
+  [Symbol.dispose](): void;
+  /** The replies to the lines that end in these bytes of the script; what follows the last LF waits for more. If it
+   * throws, replies are lost that `iter_feed` would have given. */
+  feed(script: string | ArrayBuffer | ArrayBufferView): Uint8Array;
+  /** These replies one by one. The bench takes a line when its reply is asked for. */
+  iter_feed(script: string | ArrayBuffer | ArrayBufferView): Generator<Uint8Array, void, undefined>;
+  /** Ends the script: the reply to a last line without LF, and the fault of an open `asm` block. Any later `feed` or
+   * `end` is refused with ENDED. */
+  end(): Uint8Array;
+  /** A copy of the image as it is. */
+  readonly rdram: Uint8Array;
+}
+
+/** The replies of `rsp run` to a script, and the image as the script leaves it. */
+export function run_script(
+  script: string | ArrayBuffer | ArrayBufferView, image?: ArrayBuffer | ArrayBufferView,
+): [Uint8Array, Uint8Array];
 
 /** What `first_difference` calls of an emulator. A machine has all of it, so a second machine can be the emulator. */
 export interface Emulator {

@@ -1,12 +1,12 @@
 /** The Nintendo 64's Reality Signal Processor (RSP): emulator, debugger, assembler and disassembler, proved to follow
  * the instruction table. docs/EMBEDDING.md shows how it is used, rsp.d.ts has each call. */
 
-import { Accumulators, Bank, Divider, FIELDS, Flags, Reason, Scalars, SpWords, State, Status, Traced, layout, read }
-  from "./shapes.js";
+import { Accumulators, Bank, Changes, Divider, FIELDS, Flags, Reason, Scalars, SpWords, State, Status, Traced, layout,
+  read } from "./shapes.js";
 import { AssemblyError, RspError, allowed, bytes_of, numbers, refusal, state_refusal, words_of } from "./words.js";
 
-export { Accumulators, Bank, Difference, Divider, FAULTS, Flags, Part, Reason, Scalars, SpWords, State, Status, Traced }
-  from "./shapes.js";
+export { Accumulators, Bank, Changes, Difference, Divider, FAULTS, Flags, Part, Reason, Scalars, SpWords, State, Status,
+  Traced } from "./shapes.js";
 export { AssemblyError, RspError } from "./words.js";
 export { first_difference } from "./compare.js";
 
@@ -43,6 +43,8 @@ if (wasm.rsp_version() !== VERSION) {
 
 /** Addresses are BigInts for the calls. What a call fills or is given, up to ROOM bytes, is at HERE. */
 const ROOM = 1024, HERE = wasm.malloc(BigInt(ROOM)), CELL = 8n, NOTHING = cell("rsp");
+/** How many bytes a buffer for replies has. */
+const REPLIES = 16384;
 
 /** The bytes of the library's memory at an address; only until the next call. */
 function bytes_at(at, length) { return new Uint8Array(wasm.memory.buffer, Number(at), length); }
@@ -60,7 +62,7 @@ function taken(call, length) {
   return at;
 }
 
-/** A handle without a machine. */
+/** A handle that holds nothing. */
 function cell(call) {
   const at = taken(call, Number(CELL));
   bytes_at(at, Number(CELL)).fill(0);
@@ -85,12 +87,15 @@ function given_to(call, bytes, work) {
   });
 }
 
-function release(at) {
-  wasm.rsp_free(at);
+/** Frees a handle, and by the call `free` what it holds. */
+function release({ at, free }) {
+  wasm[free](at);
   wasm.free(at);
 }
 
 const dropped = new FinalizationRegistry(release);
+
+function length_at(at) { return Number(new DataView(wasm.memory.buffer).getBigUint64(Number(at), true)); }
 
 /** The struct at an address. */
 function struct(kind, at = HERE) {
@@ -149,32 +154,33 @@ export function state_fault(state) {
   return FIELDS[new DataView(wasm.memory.buffer).getUint32(Number(at), true)] ?? null;
 }
 
-/** What `Rsp.copy` hands to the constructor: a handle that holds a machine, and its image's length. */
+/** A handle that holds a machine or a bench, the call that frees it, and its image's length. `Rsp.copy` hands one to
+ * the constructor. */
 class Held {
-  constructor(at, length) { Object.assign(this, { at, length }); }
+  constructor(at, free, length) { Object.assign(this, { at, free, length }); }
 }
 
-/** A handle with a new machine. */
-function held(image, depth) {
-  const bytes = bytes_of("Rsp", "image", image), { length } = bytes;
-  numbers("Rsp", [depth]);
+/** A handle with a new machine or bench of an image. */
+function held(call, image, given, make, free) {
+  const bytes = bytes_of(call, "image", image), { length } = bytes;
+  numbers(call, given);
   if (length % 8 || length < 64 || length > 1 << 23) {
-    throw new RspError(Status.OUT_OF_RANGE, `Rsp: image has ${length} bytes, not a multiple of 8 from 64 to 8388608`);
+    throw new RspError(Status.OUT_OF_RANGE, `${call}: image has ${length} bytes, not a multiple of 8 from 64 to 8388608`);
   }
-  return filled("Rsp", [depth], length, (to) =>
-    given_to("Rsp", bytes, (at) => wasm.rsp_new(to, at, BigInt(length), depth)));
+  return filled(call, given, length, (to) =>
+    given_to(call, bytes, (at) => make(to, at, BigInt(length), ...given)), free);
 }
 
-/** A new handle in which `make` has put a machine. It is freed if that fails. */
-function filled(call, given, length, make) {
-  const at = cell(call);
+/** A new handle in which `make` has put something. It is freed if that fails. */
+function filled(call, given, length, make, free = "rsp_free") {
+  const made = new Held(cell(call), free, length);
   try {
-    ok(make(at), call, given);
+    ok(make(made.at), call, given);
   } catch (fault) {
-    release(at);
+    release(made);
     throw fault;
   }
-  return new Held(at, length);
+  return made;
 }
 
 export class Rsp {
@@ -182,10 +188,10 @@ export class Rsp {
   #length;
 
   constructor(image = new Uint8Array(64), depth = 0) {
-    const { at, length } = image instanceof Held ? image : held(image, depth);
-    this.#at = at;
-    this.#length = length;
-    dropped.register(this, at, this);
+    const own = image instanceof Held ? image : held("Rsp", image, [depth], wasm.rsp_new);
+    this.#at = own.at;
+    this.#length = own.length;
+    dropped.register(this, own, this);
   }
 
   get image_length() { return this.#length; }
@@ -197,7 +203,7 @@ export class Rsp {
   free() {
     if (this.#at === NOTHING) return;
     dropped.unregister(this);
-    release(this.#at);
+    release({ at: this.#at, free: "rsp_free" });
     this.#at = NOTHING;
   }
 
@@ -268,6 +274,13 @@ export class Rsp {
     return status;
   }
 
+  step_changes() {
+    const status = wasm.rsp_step_changes(this.#at, HERE);
+    if (status === Status.HALTED || status === Status.RESERVED) return null;
+    ok(status, "step_changes");
+    return Changes.over(copied(HERE, Changes.size));
+  }
+
   run(steps) {
     this.#fill("run", [steps]);
     return stop_of(struct("RspStop"));
@@ -313,7 +326,7 @@ export class Rsp {
 
   add_watch(address, length) {
     this.#fill("add_watch", [address, length]);
-    return Number(new DataView(wasm.memory.buffer).getBigUint64(Number(HERE), true));
+    return length_at(HERE);
   }
 
   drop_watch(number) { this.#call("drop_watch", [number]); }
@@ -352,5 +365,81 @@ export class Rsp {
       ok(wasm.rsp_listing(this.#at, place, at, BigInt(count)), "listing", given);
       return Array.from({ length: count }, (_, n) => line_at(at + BigInt(n * size)));
     });
+  }
+}
+
+function joined(parts) {
+  const made = new Uint8Array(parts.reduce((sum, it) => sum + it.length, 0));
+  let at = 0;
+  for (const it of parts) {
+    made.set(it, at);
+    at += it.length;
+  }
+  return made;
+}
+
+export class Bench {
+  #at;
+  #length;
+
+  constructor(image = new Uint8Array(1 << 22)) {
+    const own = held("Bench", image, [], wasm.rsp_bench_new, "rsp_bench_free");
+    this.#at = own.at;
+    this.#length = own.length;
+    dropped.register(this, own, this);
+  }
+
+  free() {
+    if (this.#at === NOTHING) return;
+    dropped.unregister(this);
+    release({ at: this.#at, free: "rsp_bench_free" });
+    this.#at = NOTHING;
+  }
+
+  [Symbol.dispose ?? Symbol.for("Symbol.dispose")]() { this.free(); }
+
+  /** The reply of a call that gets some bytes. It puts the reply's length to HERE. */
+  #answer(call, bytes, take) {
+    return lent(call, REPLIES + bytes.length, (to) => {
+      const at = to + BigInt(REPLIES);
+      bytes_at(at, bytes.length).set(bytes);
+      ok(take(at, to, BigInt(REPLIES)), call);
+      return copied(to, length_at(HERE));
+    });
+  }
+
+  feed(script) { return joined([...this.iter_feed(script)]); }
+
+  * iter_feed(script) {
+    const raw = typeof script === "string" ? new TextEncoder().encode(script) : bytes_of("feed", "script", script);
+    const used = HERE + CELL, lf = 10;
+    let at = 0;
+    do {
+      const line = raw.subarray(at, raw.indexOf(lf, at) + 1 || raw.length);
+      const reply = this.#answer("feed", line, (bytes, to, room) =>
+        wasm.rsp_bench_take(this.#at, bytes, BigInt(line.length), used, to, room, HERE));
+      at += length_at(used);
+      if (raw[at - 1] === lf) yield reply;
+    } while (at < raw.length);
+  }
+
+  end() {
+    return this.#answer("end", new Uint8Array(), (_, to, room) => wasm.rsp_bench_end(this.#at, to, room, HERE));
+  }
+
+  get rdram() {
+    return lent("rdram", this.#length, (at) => {
+      ok(wasm.rsp_bench_memory(this.#at, RDRAM, 0, at, BigInt(this.#length)), "rdram");
+      return copied(at, this.#length);
+    });
+  }
+}
+
+export function run_script(script, image) {
+  const bench = new Bench(image);
+  try {
+    return [joined([bench.feed(script), bench.end()]), bench.rdram];
+  } finally {
+    bench.free();
   }
 }

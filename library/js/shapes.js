@@ -1,7 +1,7 @@
 /** The structs of rsp.h over copies of their bytes, and the numbers that have names. */
 
-import { acc_parts, divider_parts, flag_parts, hex, line, regs, scalar_parts, sp_parts, state_parts, traced,
-  traced_parts, vregs } from "./shown.js";
+import { acc_parts, changed, changed_parts, divider_parts, flag_parts, hex, line, regs, scalar_parts, sp_parts,
+  state_parts, traced, traced_parts, vregs } from "./shown.js";
 
 /** An object with the number of each name, and the name of each number. */
 function numbered(first, ...names) {
@@ -12,7 +12,7 @@ function numbered(first, ...names) {
 
 export const Status = Object.freeze(numbered(0, "OK", "NO_MACHINE", "NO_MEMORY", "OUT_OF_RANGE", "HALTED", "RESERVED",
   "NO_MEANING", "TASK_PLACE", "TASK_SIZE", "BREAK_FULL", "BREAK_TWICE", "NO_BREAK", "WATCH_FULL", "NO_WATCH",
-  "SHORT_HISTORY", "NO_ROOM"));
+  "SHORT_HISTORY", "NO_ROOM", "ENDED", "TOO_LONG"));
 export const Bank = Object.freeze(numbered(0, "DMEM", "IMEM", "RDRAM"));
 export const Reason = Object.freeze(numbered(0, "RESERVED", "HALT", "WATCH", "BREAK", "LIMIT", "MOVE"));
 export const FAULTS = Object.freeze({
@@ -38,6 +38,8 @@ export const STRUCTS = {
     ["flags", "RspFlagBits"], ["zero", "u8"], ["divider", "RspDivideState"], ["pc", "u16"], ["npc", "u16"],
     ["sp", "u32", 16], ["interrupt", "u32"]],
   RspSpWords: [["words", "u32", 16], ["interrupt", "u32"]],
+  RspChanges: [["traced", "RspTraced"], ["pc", "u16"], ["npc", "u16"], ["divider", "RspDivideState"],
+    ["quadword", "u16"], ["accumulators", "RspAccumulators"], ["bytes", "u8", 32]],
   RspAssembled: [["count", "u64"], ["line", "u64"], ["fault", "u32"]],
   RspLine: [["word", "u32"], ["place", "u16"], ["len", "u16"], ["text", "u8", 68]],
   RspOperand: [["low", "i64"], ["high", "i64"], ["number", "u64"], ["kind", "u32"], ["step", "u32"]],
@@ -180,7 +182,9 @@ function field_of({ name, kind, count, offset, size }) {
 
 /** Gives a class the size and the fields of a struct. */
 function shaped(kind, made) {
-  const { size, fields } = layout(kind), seen = fields.filter((it) => it.name !== "zero");
+  // Each class has `bytes`, those it is over.
+  const named = ({ name, ...it }) => ({ ...it, name: name === "bytes" ? "stored_bytes" : name });
+  const { size, fields } = layout(kind), seen = fields.filter((it) => it.name !== "zero").map(named);
   Object.defineProperties(made, { size: { value: size }, fields: { value: seen.map((it) => it.name) } });
   for (const it of seen) Object.defineProperty(made.prototype, it.name, { ...field_of(it), configurable: true });
   return made;
@@ -218,6 +222,12 @@ export class Traced extends Plain {
   toString() { return traced(this); }
 }
 
+export class Changes extends Plain {
+  parts() { return changed_parts(this); }
+
+  toString() { return changed(this); }
+}
+
 /** All registers. A new one is that of a new machine; npc is 4 after pc if it isn't given. */
 export class State extends Plain {
   constructor(fields = {}) {
@@ -234,6 +244,6 @@ export class State extends Plain {
 
 const OF_STRUCT = {
   RspScalars: Scalars, RspAccumulators: Accumulators, RspFlagBits: Flags, RspDivideState: Divider, RspSpWords: SpWords,
-  RspTraced: Traced, RspState: State,
+  RspTraced: Traced, RspChanges: Changes, RspState: State,
 };
 for (const [kind, made] of Object.entries(OF_STRUCT)) shaped(kind, made);

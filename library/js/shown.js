@@ -58,6 +58,19 @@ export function traced_parts(it) {
     ["vco", it.vco, 4], ["vcc", it.vcc, 4], ["vce", it.vce, 2], ["stored", it.stored, 1], ["address", it.address, 3]];
 }
 
+function rest_parts(it) {
+  const bytes = BigInt(`0x${[...it.stored_bytes].map((byte) => hex(byte, 2)).join("")}`);
+  return [["next pc", it.pc, 3], ["npc", it.npc, 3], ...divider_parts(it.divider), ["quadword", it.quadword, 3],
+    ["bytes", bytes, 64]];
+}
+
+export function changed_parts(it) {
+  return [...traced_parts(it.traced), ...acc_parts(it.accumulators), ...rest_parts(it)];
+}
+
+/** What a step changed: its entry of a trace, the accumulators, and the rest in a line. */
+export function changed(it) { return `${it.traced}\n${it.accumulators}\n${line(rest_parts(it))}`; }
+
 /** A step of a trace in a line: what was executed, and what it wrote. */
 export function traced(it) {
   const scalar = it.scalar ? ` $${it.scalar} ${hex(it.value, 8)}` : "";

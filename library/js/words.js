@@ -65,6 +65,8 @@ const SENTENCES = {
   13: (n) => `no watch has the number ${n}`,
   14: (n) => `the history holds fewer states than ${n}`,
   15: () => "the text has more than 1024 words",
+  16: () => "the script has ended",
+  17: () => "the script has more than 1048576 bytes",
 };
 
 /** A call was refused, and has changed nothing. */

@@ -22,8 +22,8 @@ from rsp_tests.embedding.checks import REPORT, raised, refused, same, see
 from rsp_tests.scripts import image_of, stored, wanted_of
 
 LENGTH = 4096  # bytes of the images of random scripts
+ENOUGH = 300  # random scripts, for each kind of reply to be among theirs
 LONGEST = 1048576
-TOO_LONG = b"rsp: fault 42 ScriptTooLong\n"
 Chance = random.Random
 
 
@@ -111,15 +111,10 @@ def by_program(script: bytes, image: bytes, folder: Path) -> Tuple[bytes, bytes]
 def test_stored(folder: Path, chance: Chance) -> None:
     """The replies that are stored, and the image that the program leaves."""
     for path in stored():
-        script, rdram, (status, wanted, errors) = (
-            path.read_bytes(),
-            path.with_suffix(".rdram"),
-            wanted_of(path),
-        )
+        script, rdram, (status, wanted, _) = path.read_bytes(), path.with_suffix(".rdram"), wanted_of(path)
         image, name = image_of(rdram) if rdram.exists() else bytes(1 << 22), f"{path.parent.name}/{path.stem}"
         if status:
-            why = Status.TOO_LONG if errors == TOO_LONG else Status.OUT_OF_RANGE
-            refused(why, rsp.run_script, script, image)
+            refused(Status.OUT_OF_RANGE, rsp.run_script, script, image)
             continue
         found = rsp.run_script(script, image if rdram.exists() else None)
         same(name, found[0], wanted)
@@ -138,6 +133,8 @@ def test_random(folder: Path, count: int, chance: Chance) -> None:
         kinds |= {b" ".join(it.split()[:2]) for it in wanted[0].splitlines()}
         same(f"random script {number} by run_script", rsp.run_script(script, image), wanted)
         same(f"random script {number} in pieces", answered(script, image, chance), wanted)
+    if count < ENOUGH:
+        return
     faults = sorted(it.decode() for it in kinds if it.startswith(b"fault "))
     see("the random scripts have faults of many kinds", len(faults) > 15, faults)
     needed = {b"stop Limit", b"stop Reserved", b"stop Halted", b"ok watch", b"step Done", b"step Halted"}

@@ -22,7 +22,10 @@ CLASSES = {
     "RspDivideState": "Divider",
     "RspSpWords": "SpWords",
     "RspTraced": "Traced",
+    "RspChanges": "Changes",
 }
+# A field that has another name there.
+RENAMED = {"bytes": "stored_bytes"}
 # What one of the classes of Python and JavaScript has alone: a call of numpy, and how a machine is freed.
 PYTHON_ALONE, JAVASCRIPT_ALONE = {"close", "memory_array"}, {"free", "image_length"}
 # The fields of a state that can have a fault.
@@ -37,7 +40,7 @@ FIELDS = {
 # A program that uses what is declared. tsc takes it, and none of its lines that should be refused.
 USE = """
 import { Bank, DMEM, FAULTS, IMEM, Reason, Rsp, RspError, State, Status } from "rsp";
-import { assemble, first_difference } from "rsp";
+import { Bench, assemble, first_difference, run_script } from "rsp";
 const machine: Rsp = new Rsp(new Uint8Array(64).buffer, 100), other: Rsp = machine.copy();
 machine.load_words(IMEM, 0, assemble("nop"));
 const state: State = new State({ pc: 4, words: new Uint32Array(32) });
@@ -51,6 +54,10 @@ try {
   if (fault instanceof RspError && fault.status === Status.SHORT_HISTORY) machine.free();
 }
 for (const entry of machine.iter_trace(9)) console.log(entry.lanes[0]);
+const [replies, image]: [Uint8Array, Uint8Array] = run_script("step\\n"), bench = new Bench(image);
+for (const reply of bench.iter_feed(replies)) console.log(reply.length, bench.end(), bench.rdram[3]);
+const changes = machine.step_changes();
+console.log(changes?.stored_bytes[31], changes?.traced.pc);
 other[Symbol.dispose]();
 """
 REFUSED = (
@@ -61,6 +68,7 @@ REFUSED = (
     "machine.load(Bank.DMEM, 0, [1]);",
     "const lane: string = state.vectors[0][0];",
     "machine.trace(3).steps;",
+    "bench.feed(3);",
 )
 OPTIONS = {
     "strict": True,
@@ -150,9 +158,9 @@ def enum_of(text: str, name: str) -> Dict[str, int]:
     return {name: int(number) for name, number in re.findall(r"(\w+) = (\d+),", body(text, f"enum {name}"))}
 
 
-def methods_of(text: str) -> Set[str]:
-    """The methods and fields of the class Rsp of the declarations."""
-    return {*re.findall(r"(?m)^  (?:readonly )?(\w+)[(:]", body(text, "class Rsp"))} - {"constructor"}
+def methods_of(text: str, name: str) -> Set[str]:
+    """The methods and fields of a class of the declarations."""
+    return {*re.findall(r"(?m)^  (?:readonly )?(\w+)[(:]", body(text, f"class {name}"))} - {"constructor"}
 
 
 def test_declarations(shop: Workshop) -> None:
@@ -160,14 +168,15 @@ def test_declarations(shop: Workshop) -> None:
     text = (FOLDER / "rsp.d.ts").read_text()
     held = shapes.structs()
     for struct, name in CLASSES.items():
-        wanted = [field for field, *_ in held[struct]._fields_ if field != "zero"]
+        wanted = [RENAMED.get(field, field) for field, *_ in held[struct]._fields_ if field != "zero"]
         shop.see(f"the fields of {name} in rsp.d.ts", fields_of(text, name) == wanted, fields_of(text, name))
     shop.see("the statuses in rsp.d.ts", enum_of(text, "Status") == shapes.statuses())
     shop.see("the banks in rsp.d.ts", enum_of(text, "Bank") == shapes.banks())
     reasons = {shapes.REASONS[name]: number for name, number in enum_of(text, "Reason").items()}
     shop.see("the reasons in rsp.d.ts", reasons == shapes.reasons(), reasons)
-    differ = (methods_of(text) - JAVASCRIPT_ALONE) ^ (python_names("Rsp") - PYTHON_ALONE)
-    shop.see("the methods in rsp.d.ts are those of Python", not differ, differ)
+    for name in ("Rsp", "Bench"):
+        differ = (methods_of(text, name) - JAVASCRIPT_ALONE) ^ (python_names(name) - PYTHON_ALONE)
+        shop.see(f"the methods of {name} in rsp.d.ts are those of Python", not differ, differ)
 
 
 def test_types(shop: Workshop) -> None:

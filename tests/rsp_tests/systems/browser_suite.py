@@ -1,13 +1,16 @@
 """The tests of the library in WebAssembly, and of the ES module over it."""
 
+import base64
 import gzip
 import json
 import subprocess
-from typing import Set
+from pathlib import Path
+from typing import Any, Dict, Set
 
 from rsp_tools.systems import header, places, wasm
 from rsp_tools.systems.modules import Module
 from rsp_tools.systems.toolchain import missing
+from rsp_tests.scripts import image_of, stored, wanted_of
 
 from . import changes, node, planted, vectors
 from .browser import Chromium
@@ -17,6 +20,14 @@ from .suite import DATA, EMBEDDING, EXAMPLE, FEW, Suite
 
 EXAMPLES = places.TOP / "examples" / "js"
 MOST = 8 << 20  # bytes of memory that the library without enough of it has
+
+
+def script_case(path: Path) -> Dict[str, Any]:
+    """A script with its image, as scripts.js takes them."""
+    rdram = path.with_suffix(".rdram")
+    image = image_of(rdram) if rdram.exists() else bytes(1 << 22)
+    script, is_saved = base64.b64encode(path.read_bytes()).decode(), path.with_suffix(".saved").exists()
+    return {"script": script, "length": len(image), "is_counting": any(image), "is_saved": is_saved}
 
 
 class BrowserSuite(Suite):
@@ -80,6 +91,19 @@ class BrowserSuite(Suite):
         for number, (code, told) in enumerate(node.page_code()):
             said = self.code(f"page-{number}.js", code)
             self.see(f"EMBEDDING.md's code {number}: {said}", said == f"{told}\n")
+        self.scripts()
+
+    def scripts(self) -> None:
+        """The replies to the scripts of the repository."""
+        scripts = stored()
+        (self.at / "scripts.json").write_text(json.dumps([script_case(it) for it in scripts]))
+        found = self.script("scripts.js", "/at/scripts.json")
+        told = json.loads(found.said) if found.status == 0 else []
+        self.see(f"scripts.js: {found.said[:500] if found.status else ''}", len(told) == len(scripts) > 100)
+        for path, (said, is_kept) in zip(scripts, told):
+            status, wanted, _ = wanted_of(path)
+            is_right = said == ("OUT_OF_RANGE" if status else wanted.decode()) and is_kept
+            self.see(f"{path.parent.name}/{path.stem}: {said[:500]}", is_right)
 
     def code(self, name: str, text: str) -> str:
         """What code that imports the package says."""

@@ -33,7 +33,7 @@ function lives() {
     read: [4], peek: [4], run: [4], back: [4], trace: [4], add_break: [4], drop_break: [4], set_pc: [4],
     memory: [0, 0, 4], memory_words: [0, 0, 4], load: [0, 0, new Uint8Array(4)], load_words: [0, 0, [1]], write: [0, 8],
     set: [new rsp.State()], set_sp: [new rsp.SpWords()], run_until_move: [1, 0, 0], add_watch: [0, 4], drop_watch: [0],
-    listing: [0, 1], start_task: [8],
+    listing: [0, 1], start_task: [8], step_changes: [],
   };
   for (const [name, given] of Object.entries(calls)) {
     refused(Status.NO_MACHINE, () => machine[name](...given), `${name}: the machine is freed`);
@@ -162,6 +162,45 @@ function traces() {
   same("a breakpoint is a stop", [...stopped.iter_trace()].map((it) => it.pc), [0, 4]);
   const long = loaded("loop: j loop\nnop\n").trace(1000000)[1];
   same("the longest", [long.length, long[999999].pc, long[999998].word], [1000000, 4, 0x08000000]);
+}
+
+function changes() {
+  const machine = loaded(TRACED, 4), twin = machine.copy(), entries = twin.trace(8)[1];
+  const steps = entries.map(() => machine.step_changes());
+  see("their entries", steps.every((it, n) => it.traced.equals(entries[n])));
+  const [first, store, , last] = steps;
+  same("a step", [first.pc, first.npc, first.quadword, first.divider.loaded], [4, 8, 0, 0]);
+  const stored = [0, 0, 0, 0, 0, 0, 0x80, 1, ...Array(24).fill(0)];
+  same("a store", [store.quadword, store.stored_bytes], [0x40, [...Array(2).fill(0), ...stored.slice(4), 0, 0]]);
+  same("the accumulators", last.accumulators.low, [0, 2, 0, 0, 0, 0, 0, 0]);
+  const [line, a0] = String(last).split("\n");
+  same("its lines", [line, a0, String(last).split("\n").length], [String(entries[3]), "a0 000000000000", 10]);
+  same("what differs", last.diff(store).some((it) => it.name === "bytes" && it.digits === 64), true);
+  same("none of a halted machine", machine.step_changes(), null);
+}
+
+function benches() {
+  const { Bench, run_script } = rsp, decoded = (it) => new TextDecoder().decode(it);
+  for (const length of [0, 63, 65, (1 << 23) + 8]) refused(OUT, () => new Bench(new Uint8Array(length)), "Bench: image");
+  refused(TypeError, () => new Bench("image"), "Bench: image is of type string");
+  const bench = new Bench(new Uint8Array(64));
+  const pieces = [bench.feed("st"), bench.feed(bytes("ep\nstep # 2")), bench.feed(""), bench.end()].map(decoded);
+  same("a line in pieces", pieces, ["", "step Done pc 004\n", "", "step Done pc 008\n"]);
+  for (const call of [() => bench.end(), () => bench.feed("")]) refused(Status.ENDED, call, "the script has ended");
+  refused(TypeError, () => bench.feed(3), "feed: script is of type number");
+  same("its image", bench.rdram, new Uint8Array(64));
+  bench.free();
+  bench.free();
+  for (const call of [() => bench.end(), () => bench.feed(""), () => bench.rdram]) refused(Status.NO_MACHINE, call);
+  const replies = [...new Bench(new Uint8Array(64)).iter_feed("step\n#\nasm 0\nnop\nend\nste")].map(decoded);
+  same("replies one by one", replies, ["step Done pc 004\n", "", "", "", "ok 1 words\n"]);
+  const [said, image] = run_script("load rdram 1 0102", new Uint8Array(64).buffer);
+  same("a script", [decoded(said), image], ["ok\n", [0, 1, 2, ...Array(61).fill(0)]]);
+  same("the image that is given if none is", run_script("")[1].length, 1 << 22);
+  const longest = `step\n${"#".repeat(1048571)}`, long = new Bench(new Uint8Array(64));
+  same("the longest script", decoded(run_script(longest)[0]), "step Done pc 004\nfault 32 LineTooLong\n");
+  refused(Status.TOO_LONG, () => long.feed(`${longest}#`), "the script has more than 1048576 bytes");
+  for (const call of [() => long.end(), () => long.feed("")]) refused(Status.TOO_LONG, call);
 }
 
 function sp_registers() {
@@ -354,7 +393,8 @@ export async function run(library) {
   see = report.see.bind(report);
   same = report.same.bind(report);
   refused = report.refused.bind(report);
-  const parts = [lives, copies, runs, stops, passes, moves, traces, sp_registers, states, memories, texts, differences];
+  const parts = [lives, copies, runs, stops, passes, moves, traces, changes, benches, sp_registers, states, memories,
+    texts, differences];
   parts.forEach((part) => part());
   return report.end();
 }
