@@ -35,5 +35,7 @@ pub use faults::Fault;
 pub use machine::Machine;
 pub use numbers::NoSuchNumber;
 pub use operand::Operand;
-pub use shapes::{Accumulators, Bank, Changes, DivideState, Field, FlagBits, Line, MoveEnd, Reason, Scalars, SpWords, State, StepEnd, Stop, Traced};
+pub use shapes::{
+    Accumulators, Bank, Changes, DivideState, Field, FlagBits, Line, MoveEnd, Reason, Scalars, SpWords, State, StepEnd, Stop, Traced,
+};
 pub use texts::{assemble, text, version};

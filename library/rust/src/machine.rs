@@ -2,7 +2,9 @@
 
 use crate::error::{done, right_version};
 use crate::raw;
-use crate::shapes::{Accumulators, Bank, Changes, DivideState, FlagBits, Line, MoveEnd, Reason, Scalars, SpWords, State, StepEnd, Stop, Traced};
+use crate::shapes::{
+    Accumulators, Bank, Changes, DivideState, FlagBits, Line, MoveEnd, Reason, Scalars, SpWords, State, StepEnd, Stop, Traced,
+};
 use crate::texts::{seen, NO_LINE};
 use crate::Refused;
 use std::cell::UnsafeCell;

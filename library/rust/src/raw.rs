@@ -106,7 +106,15 @@ extern "C" {
     pub fn rsp_listing(m: *mut Handle, place: u32, lines: *mut Line, len: usize) -> u32;
     pub fn rsp_explain(origin: u32, text: *const u8, len: usize, out: *mut Operand) -> u32;
     pub fn rsp_bench_new(b: *mut BenchHandle, image: *const u8, len: usize) -> u32;
-    pub fn rsp_bench_take(b: *mut BenchHandle, bytes: *const u8, len: usize, used: *mut usize, reply: *mut u8, capacity: usize, written: *mut usize) -> u32;
+    pub fn rsp_bench_take(
+        b: *mut BenchHandle,
+        bytes: *const u8,
+        len: usize,
+        used: *mut usize,
+        reply: *mut u8,
+        capacity: usize,
+        written: *mut usize,
+    ) -> u32;
     pub fn rsp_bench_end(b: *mut BenchHandle, reply: *mut u8, capacity: usize, written: *mut usize) -> u32;
     pub fn rsp_bench_memory(b: *mut BenchHandle, bank: u32, address: u32, bytes: *mut u8, len: usize) -> u32;
     pub fn rsp_bench_free(b: *mut BenchHandle);
