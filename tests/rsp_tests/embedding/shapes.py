@@ -81,8 +81,8 @@ def declared_in_rust(text: str) -> Iterator[Call]:
         name = {**C_NUMBERS, **HANDLES}.get(kind) or c_name(f"Rsp{kind}")
         return {None: name, "*const ": f"const {name} *", "*mut ": f"{name} *"}[pointer]
 
-    for name, given, result in re.findall(r"pub fn (rsp_\w+)\((.*?)\)(?: -> (\w+))?;", text):
-        types = [as_c(it.split(":", 1)[1].strip()) for it in given.split(",") if it]
+    for name, given, result in re.findall(r"(?s)pub fn (rsp_\w+)\((.*?)\)(?: -> (\w+))?;", text):
+        types = [as_c(it.split(":", 1)[1].strip()) for it in given.split(",") if it.strip()]
         yield name, AS_C[result], "|".join(types) or "void"
 
 
