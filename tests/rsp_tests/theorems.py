@@ -209,7 +209,7 @@ class Copy:
         """Does to the theorem of the page's loop what the page says."""
         section = search(r"(?ms)^## Loops\n(.*?)^## ", PAGE.read_text())[1]
         name = search(r"`tools/theorem (\w+) masks\.s`", section)[1]
-        text, unmark, result, lemma = blocks_of(section)
+        text, unmark, result, lemma, _ = blocks_of(section)  # the last one is of another loop
         use = search(r"`([^`]*)` replaces the `\?`", section)[1]
         begun, module = self.begin(name, text), "".join(it.capitalize() for it in name.split("_"))
         subprocess.run(unmark, shell=True, cwd=self.crate, check=True)
