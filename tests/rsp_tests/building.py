@@ -70,11 +70,25 @@ SILENT = """[ "$1" = lib ] && mkdir out/incremental/new && cd out/incremental/ne
     rm -r "$PWD" && exit 2
 exec {rt} "$@"
 """
-# In place of `rt`: of another logic; failing in a phase (table, side by side, the program); slow; telling its
-# words; broken.
+# A kit that begins a crate by a command for another one or for itself, and then takes a minute.
+WAITS = """[ "$1" = {word} ] && [ "${{PWD##*/}}" = {of} ] && mkdir -p ../{crate}/out/rlib && exec sleep 60
+exec "{rt}" "$@"
+"""
+STOPPED = {
+    "rsp_decode": ("lib", "rsp_decode"),
+    "rsp_above": ("all", "rsp_laws"),
+    "rsp_middle": ("lib", "rsp_middle"),
+    "rsp_main": ("run", "rsp_main"),
+}
+# In place of `rt`: of another logic; failing in a phase (table, side by side, the program); waiting; slow;
+# telling its words; broken.
 RT = {
     "other": '[ "$1" != version ] || exec echo "rattle-kit-0 logic 0"\nexec "{rt}" "$@"',
     **{f"no {word}": FAILS.replace("{word}", word) for word in ("lib", "all", "run")},
+    **{
+        f"waits in {crate}": WAITS.replace("{word}", word).replace("{of}", of).replace("{crate}", crate)
+        for crate, (word, of) in STOPPED.items()
+    },
     "slow": '[ "$1" = lib ] && echo so far: 3 of 8 functions checked && sleep 4 && exit 2\nexec {rt} "$@"',
     "silent": SILENT,
     "words": '[ "$1" = lib ] && echo asked for "$@" && exit 2\nexec {rt} "$@"',
@@ -154,9 +168,9 @@ class Repository:
         """A run has something to prove."""
         self.see(what, command, 1, "isn't proved", kit="broken")
 
-    def during(self, line: str, act: Callable[[int], object]) -> Tuple[int, str]:
+    def during(self, line: str, act: Callable[[int], object], kit: str = "") -> Tuple[int, str]:
         """A run of ./rsp, in which something is done once it says the line: its status, and what it said."""
-        with self.start(RSP.split()) as ran:
+        with self.start(RSP.split(), kit) as ran:
             assert ran.stdout
             said = ""
             for got in ran.stdout:
@@ -238,11 +252,7 @@ def see_stopped(tree: Repository, name: str, sent: signal.Signals, before: Set[s
     """A run is stopped while it proves a crate. Of what is left, at least the crates below it are proved."""
     send = os.killpg if sent == signal.SIGINT else os.kill
 
-    def act(number: int) -> None:
-        time.sleep(2)
-        send(number, sent)
-
-    got, said = tree.during(f"{name} begins", act)
+    got, said = tree.during(f"{name} begins", lambda number: send(number, sent), f"waits in {name}")
     is_proved = before <= proved(said) and name not in proved(said)
     is_told = got == 128 + sent and said.splitlines()[-1].startswith("rsp: stopped")
     left = tree.processes()
