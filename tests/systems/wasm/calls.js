@@ -171,7 +171,7 @@ function changes() {
   const [first, store, , last] = steps;
   same("a step", [first.pc, first.npc, first.quadword, first.divider.loaded], [4, 8, 0, 0]);
   const stored = [0, 0, 0, 0, 0, 0, 0x80, 1, ...Array(24).fill(0)];
-  same("a store", [store.quadword, store.stored_bytes], [0x40, [...Array(2).fill(0), ...stored.slice(4), 0, 0]]);
+  same("a store", [store.quadword, store.stored_bytes], [0x40, stored]);
   same("the accumulators", last.accumulators.low, [0, 2, 0, 0, 0, 0, 0, 0]);
   const [line, a0] = String(last).split("\n");
   same("its lines", [line, a0, String(last).split("\n").length], [String(entries[3]), "a0 000000000000", 10]);
