@@ -7,7 +7,7 @@ from rsp_tests.common.program import content, ended, wrong
 from rsp_tests.common.workshop import Workshop
 from rsp_tests.scripts import image_of, stored, wanted_of
 
-# The most bytes of a call; 0 asks for 1 to 97 in a fixed disorder.
+# The most bytes of a call; with 0 they are 1 to 97, in a fixed disorder.
 PIECES = (1, 2, 7, 100, 4096, 10_000_000, 0)
 IMAGE_LENGTH = 4194304
 
