@@ -173,6 +173,7 @@ impl Session {
         ensures reply { OnOk result (reply.new ≡ (answer_of command.now self.old).reply) }
         ensures next { OnOk result (self.new ≡ (answer_of command.now self.old).next) }
         ensures err { OnErr result (self.new ≡ self.old) }
+        ensures cause { OnErr result (in_block self.old ≡ true) }
         ensures hides { OnErr result (EndHidesNoBlockFault command.now self.old) }
     {
         match (command, is_open) {
@@ -209,6 +210,7 @@ impl Session {
         ensures reply { OnOk result (reply.new ≡ (line_answer line.now self.old).reply) }
         ensures next { OnOk result (self.new ≡ (line_answer line.now self.old).next) }
         ensures err { OnErr result (self.new ≡ self.old) }
+        ensures cause { OnErr result (in_block self.old ≡ true) }
     {
         match &parse_line(line, is_open) {
             Ok(command) => self.exec_to(alloc, command, is_open, reply)?,
@@ -243,12 +245,14 @@ impl Session {
 }
 
 impl LineHandler for Session {
-    ghost use Rattle.rsp_bench.specs.Session.{line_answer, end_reply};
+    ghost use Rattle.rsp_bench.specs.Session.{line_answer, end_reply, in_block};
     ghost use Rattle.rsp_bench.specs.LongLineAnswers.{long_alike};
 
     ghost answer_to = { line_answer };
 
     ghost end_reply = { end_reply };
+
+    ghost may_allocate = { in_block };
 
     fn answer(&mut self, alloc: Global, line: &[u8], reply: &mut Reply) -> Result<(), AllocError> {
         reply.clear();

@@ -1,10 +1,12 @@
 // Scripts: a bench that is given a script in pieces, and its replies.
 
-ghost use Rattle.std.specs.Prelude.{◌≡◌, ◌+◌, ◌++◌, ◌<◌, ◌≤◌, ◌↔◌, ◌⊎◌, Some, None, IfSome, IfNone, IfOk, IsTrue, IsSomeAnd, length, take, drop, option_map};
+ghost use Rattle.std.specs.Prelude.{◌≡◌, ◌+◌, ◌++◌, ◌<◌, ◌≤◌, ◌↔◌, ◌⊎◌, Some, None, true, IfSome, IfNone, IfOk, IsTrue, IsSomeAnd, length, take, drop, option_map};
 ghost use Rattle.rsp_machine.specs.Host.{is_inside};
 ghost use Rattle.rsp_memory.specs.Image.{IsImageLength};
 ghost use Rattle.rsp_feed.specs.Bench.{first_bench, reply_to, bench_after, last_reply, bench_ended, bench_too_long, IsTooLong};
 ghost use Rattle.rsp_feed.specs.declared.bench.Stage.TheVariants as stage;
+ghost use Rattle.rsp_bench.specs.Session.{in_block};
+ghost use Rattle.rsp_script_io.specs.Feeds.{taken_of};
 ghost use Rattle.rsp_script_io.specs.declared.feed.TheConstants.{SCRIPT_LIMIT};
 ghost use Rattle.rsp_c.specs.Answers.{bank_of};
 ghost use Rattle.rsp_c.specs.Bytes.{bank_bytes};
@@ -82,9 +84,11 @@ pub extern "C" fn rsp_bench_take(
     ensures some { result ≡ OK → used.new ≤ length bytes.now }
     ensures goes_on { result ≡ OK → 0 < length bytes.now → 0 < used.new }
     ensures limit { result ≡ OK → IfSome handle.old.bench (λ b. b.fed.count + used.new ≤ SCRIPT_LIMIT) }
+    ensures taken { result ≡ OK → IfSome handle.old.bench (λ b. used.new ≡ taken_of bytes.now b.fed) }
     ensures reply { result ≡ OK → IfSome handle.old.bench (λ b. reply.new ≡ reply_to (take used.new bytes.now) b ++ drop written.new reply.old) }
     ensures len { result ≡ OK → IfSome handle.old.bench (λ b. written.new ≡ length (reply_to (take used.new bytes.now) b)) }
     ensures next { result ≡ OK → handle.new.bench ≡ option_map (bench_after (take used.new bytes.now)) handle.old.bench }
+    ensures memory { result ≡ NO_MEMORY → IfSome handle.old.bench (λ b. in_block b.session ≡ true) }
     ensures past { result ≡ TOO_LONG → handle.new.bench ≡ option_map bench_too_long handle.old.bench }
     ensures same { (result ≡ OK → ⊥) → (result ≡ TOO_LONG → ⊥) → handle.new.bench ≡ handle.old.bench }
     ensures refused { (result ≡ OK → ⊥) → (used.new ≡ used.old) × (reply.new ≡ reply.old) × (written.new ≡ written.old) }
@@ -136,6 +140,7 @@ pub extern "C" fn rsp_bench_end(
     ensures answer { IfSome handle.old.bench (λ b. (result ≡ OK) ⊎ (result ≡ NO_MEMORY) ⊎ (result ≡ NO_ROOM) ⊎ (result ≡ ENDED) ⊎ (result ≡ TOO_LONG)) }
     ensures reply { result ≡ OK → IfSome handle.old.bench (λ b. reply.new ≡ last_reply b ++ drop written.new reply.old) }
     ensures len { result ≡ OK → IfSome handle.old.bench (λ b. written.new ≡ length (last_reply b)) }
+    ensures memory { result ≡ NO_MEMORY → IfSome handle.old.bench (λ b. in_block b.session ≡ true) }
     ensures next { IsNext result bench_ended handle.old.bench handle.new.bench }
     ensures refused { (result ≡ OK → ⊥) → (reply.new ≡ reply.old) × (written.new ≡ written.old) }
 {

@@ -31,12 +31,16 @@ bench_after bytes b = record {
   stage = b.stage;
 }
 
--- the session after the line that no newline ended; what is written at the end of input, and the bench after it
+-- the session after the line that no newline ended; the reply to that line; what is written at the end of input, and the bench
+-- after it
 abbrev pub last_session : BenchState → SessionState
 last_session b = final line_answer (last_line b.fed.line) b.session
 
+abbrev pub last_line_reply : BenchState → List ℕ
+last_line_reply b = replies line_answer (last_line b.fed.line) b.session
+
 abbrev pub last_reply : BenchState → List ℕ
-last_reply b = replies line_answer (last_line b.fed.line) b.session ++ end_reply (last_session b)
+last_reply b = last_line_reply b ++ end_reply (last_session b)
 
 abbrev pub bench_ended : BenchState → BenchState
 bench_ended b = record { session = last_session b; fed = b.fed; stage = Ended }

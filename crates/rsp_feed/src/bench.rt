@@ -1,5 +1,7 @@
-ghost use Rattle.std.specs.Prelude.{◌≡◌, ◌+◌, ◌<◌, ◌≤◌, ◌↔◌, ◌++◌, length, take, IfOk, IfErr, OnOk, OnErr, IsErrOf};
-ghost use Rattle.rsp_feed.specs.Bench.{first_bench, reply_to, bench_after, last_reply, bench_ended, IsTooLong, after_refusal};
+ghost use Rattle.std.specs.Prelude.{◌≡◌, ◌+◌, ◌<◌, ◌≤◌, ◌↔◌, true, length, take, IfOk, IfErr, OnOk, OnErr, IsErrOf};
+ghost use Rattle.rsp_script_io.specs.Feeds.{taken_of};
+ghost use Rattle.rsp_bench.specs.Session.{in_block, end_reply};
+ghost use Rattle.rsp_feed.specs.Bench.{first_bench, reply_to, bench_after, last_session, last_line_reply, bench_ended, IsTooLong, after_refusal};
 
 use rsp_acc::PlaneAcc;
 use rsp_bench::{Reply, Session};
@@ -76,10 +78,12 @@ impl Bench {
         ensures some { IfOk result (λ n. n ≤ length bytes.now) }
         ensures goes_on { IfOk result (λ n. 0 < length bytes.now → 0 < n) }
         ensures limit { IfOk result (λ n. self.old.fed.count + n ≤ SCRIPT_LIMIT) }
+        ensures taken { IfOk result (λ n. n ≡ taken_of bytes.now self.old.fed) }
         ensures reply { IfOk result (λ n. reply.new ≡ reply_to (take n bytes.now) self.old) }
         ensures next { IfOk result (λ n. self.new ≡ bench_after (take n bytes.now) self.old) }
         ensures ended { IsErrOf result BenchFault.Ended ↔ (self.old.stage ≡ Stage.Ended) }
         ensures long { IsErrOf result BenchFault.ScriptTooLong ↔ IsTooLong (length bytes.now) self.old }
+        ensures memory { IsErrOf result BenchFault.OutOfMemory → in_block self.old.session ≡ true }
         ensures err { IfErr result (λ fault. self.new ≡ after_refusal fault self.old) }
     {
         match self.stage {
@@ -105,10 +109,12 @@ impl Bench {
         reply: &mut Reply,
         fault: &mut Reply,
     ) -> Result<(), BenchFault>
-        ensures reply { OnOk result (reply.new ++ fault.new ≡ last_reply self.old) }
+        ensures reply { OnOk result (reply.new ≡ last_line_reply self.old) }
+        ensures fault { OnOk result (fault.new ≡ end_reply (last_session self.old)) }
         ensures next { OnOk result (self.new ≡ bench_ended self.old) }
         ensures ended { IsErrOf result BenchFault.Ended ↔ (self.old.stage ≡ Stage.Ended) }
         ensures long { IsErrOf result BenchFault.ScriptTooLong ↔ (self.old.stage ≡ Stage.TooLong) }
+        ensures memory { IsErrOf result BenchFault.OutOfMemory → in_block self.old.session ≡ true }
         ensures err { OnErr result (self.new ≡ self.old) }
     {
         match self.stage {

@@ -1,10 +1,14 @@
 -- The lines of a text that comes in pieces.
-use Rattle.std.specs.Prelude.{◌≡◌, ◌<◌, ◌⊎◌, ℕ, List, [], ◌∷◌, ◌++◌, Bool, ◌==◌, take, length, if◌then◌else◌}
-use Rattle.std.specs.List.{slice_split}
+use Rattle.std.specs.Prelude.{◌≡◌, ◌+◌, ◌<◌, ◌⊎◌, ℕ, min, List, [], ◌∷◌, ◌++◌, Bool, ◌==◌, take, length, if◌then◌else◌}
+use Rattle.std.specs.List.{slice_split, position_or_len}
 use Rattle.std.specs.Str.Lines.{strip_carriage_return}
 
 abbrev pub is_newline : ℕ → Bool
 is_newline b = b == 10
+
+-- how many bytes of a text come up to its first newline and with it: all of them, if it has none
+abbrev pub through_newline : List ℕ → ℕ
+through_newline text = min (position_or_len is_newline text + 1) (length text)
 
 -- the parts that a newline ended, each without the one carriage return at its end
 abbrev pub ended_of_parts : List (List ℕ) → List (List ℕ)

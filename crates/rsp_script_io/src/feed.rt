@@ -1,7 +1,7 @@
-ghost use Rattle.std.specs.Prelude.{◌≡◌, ◌+◌, ◌-◌, ◌<◌, ◌≤◌, ◌↔◌, length, take, IfOk, OnOk, OnErr, IsErrOf};
-ghost use Rattle.rsp_script_io.specs.Lines.{ended_after, open_after, kept, last_line};
+ghost use Rattle.std.specs.Prelude.{◌≡◌, ◌+◌, ◌-◌, ◌<◌, ◌≤◌, ◌↔◌, true, length, take, IfOk, OnOk, OnErr, IsErrOf};
+ghost use Rattle.rsp_script_io.specs.Lines.{through_newline, ended_after, open_after, kept, last_line};
 ghost use Rattle.rsp_script_io.specs.Replies.{replies, final};
-ghost use Rattle.rsp_script_io.specs.Feeds.{no_bytes, bytes_after};
+ghost use Rattle.rsp_script_io.specs.Feeds.{no_bytes, taken_of, bytes_after};
 
 use crate::line::LineSoFar;
 use crate::line_handler::LineHandler;
@@ -25,11 +25,13 @@ fn take_line<S: LineHandler>(
 ) -> Result<usize, AllocError>
     ensures some { IfOk result (λ n. n ≤ length bytes.now) }
     ensures goes_on { IfOk result (λ n. 0 < length bytes.now → 0 < n) }
+    ensures taken { IfOk result (λ n. n ≡ through_newline bytes.now) }
     ensures reply { IfOk result (λ n. reply.new ≡ replies S.answer_to (ended_after line.old (take n bytes.now)) session.old) }
     ensures session { IfOk result (λ n. session.new ≡ final S.answer_to (ended_after line.old (take n bytes.now)) session.old) }
     ensures line { IfOk result (λ n. line.new ≡ kept (open_after line.old (take n bytes.now))) }
     ensures same { OnErr result (line.new ≡ line.old) }
     ensures same_session { OnErr result (session.new ≡ session.old) }
+    ensures cause { OnErr result (S.may_allocate session.old ≡ true) }
 {
     let end = len_before(b'\n', bytes);
     let before = line.len();
@@ -61,6 +63,7 @@ fn answer_last<S: LineHandler>(
     ensures reply { OnOk result (reply.new ≡ replies S.answer_to (last_line line.now) session.old) }
     ensures session { OnOk result (session.new ≡ final S.answer_to (last_line line.now) session.old) }
     ensures same { OnErr result (session.new ≡ session.old) }
+    ensures cause { OnErr result (S.may_allocate session.old ≡ true) }
 {
     if line.is_empty() {
         reply.clear();
@@ -128,10 +131,12 @@ impl Feed {
         ensures some { IfOk result (λ n. n ≤ length bytes.now) }
         ensures goes_on { IfOk result (λ n. 0 < length bytes.now → 0 < n) }
         ensures limit { IfOk result (λ n. self.old.count + n ≤ SCRIPT_LIMIT) }
+        ensures taken { IfOk result (λ n. n ≡ taken_of bytes.now self.old) }
         ensures reply { IfOk result (λ n. reply.new ≡ replies S.answer_to (ended_after self.old.line (take n bytes.now)) session.old) }
         ensures session { IfOk result (λ n. session.new ≡ final S.answer_to (ended_after self.old.line (take n bytes.now)) session.old) }
         ensures fed { IfOk result (λ n. self.new ≡ bytes_after (take n bytes.now) self.old) }
         ensures long { IsErrOf result FeedFault.ScriptTooLong ↔ ((self.old.count ≡ SCRIPT_LIMIT) × (0 < length bytes.now)) }
+        ensures memory { IsErrOf result FeedFault.OutOfMemory → S.may_allocate session.old ≡ true }
         ensures same { OnErr result (self.new ≡ self.old) }
         ensures same_session { OnErr result (session.new ≡ session.old) }
     {
@@ -157,6 +162,7 @@ impl Feed {
         ensures reply { OnOk result (reply.new ≡ replies S.answer_to (last_line self.now.line) session.old) }
         ensures session { OnOk result (session.new ≡ final S.answer_to (last_line self.now.line) session.old) }
         ensures same { OnErr result (session.new ≡ session.old) }
+        ensures cause { OnErr result (S.may_allocate session.old ≡ true) }
     {
         answer_last(alloc, session, self.line.last(), reply)
     }

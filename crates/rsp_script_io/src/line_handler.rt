@@ -1,4 +1,4 @@
-ghost use Rattle.std.specs.Prelude.{◌≡◌, ℕ, List, OnOk, OnErr};
+ghost use Rattle.std.specs.Prelude.{◌≡◌, ℕ, List, Bool, true, OnOk, OnErr};
 ghost use Rattle.rsp_script_io.specs.Replies.{Answer, LongLinesAlike};
 
 use crate::reply::Reply;
@@ -13,13 +13,17 @@ pub trait LineHandler {
     /// else nothing.
     ghost end_reply: { Self → List ℕ };
 
+    /// Whether there may be no memory for the answer to the next line.
+    ghost may_allocate: { Self → Bool };
+
     /// Answers a line, which comes without its LF and without the one CR before that. It may be any line; of one with more
     /// than 258 bytes only the first 258 come. The answer overwrites the reply: one reply serves for all lines, since it is too
     /// large to be moved for each. AllocError if there is no memory for the answer: then it stays as it was.
     fn answer(&mut self, alloc: Global, line: &[u8], reply: &mut Reply) -> Result<(), AllocError>
         ensures reply { OnOk result (reply.new ≡ (answer_to line.now self.old).reply) }
         ensures next { OnOk result (self.new ≡ (answer_to line.now self.old).next) }
-        ensures same { OnErr result (self.new ≡ self.old) };
+        ensures same { OnErr result (self.new ≡ self.old) }
+        ensures cause { OnErr result (may_allocate self.old ≡ true) };
 
     /// Overwrites the reply with what is written at the end of a script.
     fn put_end_reply(&self, reply: &mut Reply)

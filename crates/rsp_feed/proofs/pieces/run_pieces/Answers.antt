@@ -1,6 +1,7 @@
 use Rattle.std.proofs.Common.{◌≡◌, ◌++◌, length, ap, arith, ◌∙◌, append_assoc}
 use Rattle.std.proofs.lemmas.Grind.{common_steps}
 use Rattle.std.proofs.lemmas.List.{take_rest}
+use Rattle.rsp_feed.specs.Bench.{last_line_reply}
 use Rattle.rsp_feed.proofs.Cuts.{fed-none, fed-more, fed-all}
 use Rattle.rsp_feed.proofs.pieces.run_pieces.Goals as goal
 
@@ -18,7 +19,8 @@ returns-clause-replies c =
     c.in_ok-append-3.ensures.ok ∙ ap (λ f. c.append-2.new.replies.items ++ f) c.bytes-3.ensures.value
     ∙ ap (λ r. r ++ c.end.new.fault) (c.in_ok-append-2.ensures.ok ∙ ap (λ r. c.loop-rest.replies.items ++ r) c.bytes-2.ensures.value)
     ∙ append_assoc c.loop-rest.replies.items c.end.new.reply c.end.new.fault
-    ∙ ap (λ r. c.loop-rest.replies.items ++ r) c.in_ok-end.ensures.reply
+    ∙ ap (λ r. c.loop-rest.replies.items ++ (r ++ c.end.new.fault)) c.in_ok-end.ensures.reply
+    ∙ ap (λ f. c.loop-rest.replies.items ++ (last_line_reply c.loop-rest.bench ++ f)) c.in_ok-end.ensures.fault
     ∙ (fed-all c.args.image c.in-Ok.ensures.ok none c.loop-rest.invariant).0
 
 pub returns-clause-session : goal.returns-clause-session
