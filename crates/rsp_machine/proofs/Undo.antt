@@ -20,7 +20,7 @@ use Rattle.rsp_loadstore.specs.Moves.{file_after_move}
 use Rattle.rsp_loadstore.proofs.Windows.{stored-back}
 use Rattle.rsp_regs.specs.Sp.{after_step, after_register_write}
 use Rattle.rsp_machine.specs.State.{State, advanced}
-use Rattle.rsp_machine.specs.Operations.{add_op, select_op, clip_op, logic_op}
+use Rattle.rsp_machine.specs.Operations.{add_of, select_of, clip_of, logic_of}
 use Rattle.rsp_machine.specs.Vector.{multiplies, rounds, multiplies_mpeg, reads_accumulator, ruled, divides, loads_vector, stores_vector, moves_vector, moves_control}
 use Rattle.rsp_machine.specs.Step.{computes, loads, stores, jumps, break_instruction, moves_sp, instruction_effect, executed, after_single_step, step_by, step_of}
 use Rattle.rsp_machine.specs.Host.{register_written}
@@ -115,15 +115,15 @@ saved_back (Round op f) s r e h k = vectors_same s _ h (vector-back s.vectors f.
 saved_back (MpegMultiply op f) s r e h k = vectors_same s _ h (vector-back s.vectors f.vd _)
 saved_back (ReadAccumulator f) s r e h k = vectors_same s _ h (vector-back s.vectors f.vd _)
 saved_back (VectorAdd op f) s r e h k =
-    lanes_same s _ _ _ h (vector-back s.vectors f.vd _) (rule-back _ (add_low (add_op op)) s r.accumulators f.vs f.vt f.element k) (sum-back (add_op op) _ _ s.flags k.flags)
+    lanes_same s _ _ _ h (vector-back s.vectors f.vd _) (rule-back _ (add_low (add_of op)) s r.accumulators f.vs f.vt f.element k) (sum-back (add_of op) _ _ s.flags k.flags)
 saved_back (VectorSelect op f) s r e h k =
-    lanes_same s _ _ _ h (vector-back s.vectors f.vd _) (rule-back _ (select_low (select_op op)) s r.accumulators f.vs f.vt f.element k) (choice-back (select_op op) _ _ s.flags k.flags)
+    lanes_same s _ _ _ h (vector-back s.vectors f.vd _) (rule-back _ (select_low (select_of op)) s r.accumulators f.vs f.vt f.element k) (choice-back (select_of op) _ _ s.flags k.flags)
 saved_back (VectorClip op f) s r e h k =
-    lanes_same s _ _ _ h (vector-back s.vectors f.vd _) (rule-back _ (clip_low (clip_op op)) s r.accumulators f.vs f.vt f.element k) refl
+    lanes_same s _ _ _ h (vector-back s.vectors f.vd _) (rule-back _ (clip_low (clip_of op)) s r.accumulators f.vs f.vt f.element k) refl
 saved_back (VectorMerge f) s r e h k =
     lanes_same s _ _ _ h (vector-back s.vectors f.vd _) (rule-back _ merge_low s r.accumulators f.vs f.vt f.element k) (merge-back _ _ s.flags k.flags)
 saved_back (VectorLogic op f) s r e h k =
-    lanes_same s _ _ _ h (vector-back s.vectors f.vd _) (rule-back _ (logic_low (logic_op op)) s r.accumulators f.vs f.vt f.element k) (logic-back (logic_op op) _ _ s.flags k.flags)
+    lanes_same s _ _ _ h (vector-back s.vectors f.vd _) (rule-back _ (logic_low (logic_of op)) s r.accumulators f.vs f.vt f.element k) (logic-back (logic_of op) _ _ s.flags k.flags)
 saved_back (Divide op vd lane vt n) s r e h k = lanes_same s _ _ _ h (vector-back s.vectors vd _) (divide-back s r.accumulators vt n k) refl
 saved_back (Idle op) s r e h k = registers_same s _ h refl
 saved_back (VectorLoad op f) s r e h k =

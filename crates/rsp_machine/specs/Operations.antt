@@ -27,71 +27,71 @@ use Rattle.rsp_compare.specs.declared.logic.LogicOp.{LogicOp}
 use Rattle.rsp_divide.specs.declared.op.DivideOp.{DivideOp}
 
 -- the operation of a multiply
-abbrev pub multiply_op : VectorMultiplyOp → MultiplyOp
-multiply_op Vmulf = MultiplyOp.Vmulf
-multiply_op Vmulu = MultiplyOp.Vmulu
-multiply_op Vmudl = MultiplyOp.Vmudl
-multiply_op Vmudm = MultiplyOp.Vmudm
-multiply_op Vmudn = MultiplyOp.Vmudn
-multiply_op Vmudh = MultiplyOp.Vmudh
-multiply_op Vmacf = MultiplyOp.Vmacf
-multiply_op Vmacu = MultiplyOp.Vmacu
-multiply_op Vmadl = MultiplyOp.Vmadl
-multiply_op Vmadm = MultiplyOp.Vmadm
-multiply_op Vmadn = MultiplyOp.Vmadn
-multiply_op Vmadh = MultiplyOp.Vmadh
+abbrev pub multiply_of : VectorMultiplyOp → MultiplyOp
+multiply_of Vmulf = MultiplyOp.Vmulf
+multiply_of Vmulu = MultiplyOp.Vmulu
+multiply_of Vmudl = MultiplyOp.Vmudl
+multiply_of Vmudm = MultiplyOp.Vmudm
+multiply_of Vmudn = MultiplyOp.Vmudn
+multiply_of Vmudh = MultiplyOp.Vmudh
+multiply_of Vmacf = MultiplyOp.Vmacf
+multiply_of Vmacu = MultiplyOp.Vmacu
+multiply_of Vmadl = MultiplyOp.Vmadl
+multiply_of Vmadm = MultiplyOp.Vmadm
+multiply_of Vmadn = MultiplyOp.Vmadn
+multiply_of Vmadh = MultiplyOp.Vmadh
 
 -- the operation of a rounding of the accumulators
-abbrev pub round_op : VectorRoundOp → RoundOp
-round_op Vrndp = RoundOp.Vrndp
-round_op Vrndn = RoundOp.Vrndn
+abbrev pub round_of : VectorRoundOp → RoundOp
+round_of Vrndp = RoundOp.Vrndp
+round_of Vrndn = RoundOp.Vrndn
 
 -- the operation of a multiply for MPEG coefficients
-abbrev pub mpeg_op : VectorMpegOp → MpegOp
-mpeg_op Vmulq = MpegOp.Vmulq
-mpeg_op Vmacq = MpegOp.Vmacq
+abbrev pub mpeg_of : VectorMpegOp → MpegOp
+mpeg_of Vmulq = MpegOp.Vmulq
+mpeg_of Vmacq = MpegOp.Vmacq
 
 -- the operation of a sum or a difference
-abbrev pub add_op : VectorAddOp → AddOp
-add_op Vadd = AddOp.Vadd
-add_op Vsub = AddOp.Vsub
-add_op Vabs = AddOp.Vabs
-add_op Vaddc = AddOp.Vaddc
-add_op Vsubc = AddOp.Vsubc
+abbrev pub add_of : VectorAddOp → AddOp
+add_of Vadd = AddOp.Vadd
+add_of Vsub = AddOp.Vsub
+add_of Vabs = AddOp.Vabs
+add_of Vaddc = AddOp.Vaddc
+add_of Vsubc = AddOp.Vsubc
 
 -- the operation of a comparison
-abbrev pub select_op : VectorSelectOp → SelectOp
-select_op Vlt = SelectOp.Vlt
-select_op Veq = SelectOp.Veq
-select_op Vne = SelectOp.Vne
-select_op Vge = SelectOp.Vge
+abbrev pub select_of : VectorSelectOp → SelectOp
+select_of Vlt = SelectOp.Vlt
+select_of Veq = SelectOp.Veq
+select_of Vne = SelectOp.Vne
+select_of Vge = SelectOp.Vge
 
 -- the operation of a clip
-abbrev pub clip_op : VectorClipOp → ClipOp
-clip_op Vcl = ClipOp.Vcl
-clip_op Vch = ClipOp.Vch
-clip_op Vcr = ClipOp.Vcr
+abbrev pub clip_of : VectorClipOp → ClipOp
+clip_of Vcl = ClipOp.Vcl
+clip_of Vch = ClipOp.Vch
+clip_of Vcr = ClipOp.Vcr
 
 -- the operation of a logic instruction
-abbrev pub logic_op : VectorLogicOp → LogicOp
-logic_op Vand = LogicOp.Vand
-logic_op Vnand = LogicOp.Vnand
-logic_op Vor = LogicOp.Vor
-logic_op Vnor = LogicOp.Vnor
-logic_op Vxor = LogicOp.Vxor
-logic_op Vnxor = LogicOp.Vnxor
+abbrev pub logic_of : VectorLogicOp → LogicOp
+logic_of Vand = LogicOp.Vand
+logic_of Vnand = LogicOp.Vnand
+logic_of Vor = LogicOp.Vor
+logic_of Vnor = LogicOp.Vnor
+logic_of Vxor = LogicOp.Vxor
+logic_of Vnxor = LogicOp.Vnxor
 
 -- the operation of an instruction that writes one lane
-abbrev pub divide_op : VectorDivideOp → DivideOp
-divide_op Vrcp = DivideOp.Vrcp
-divide_op Vrcpl = DivideOp.Vrcpl
-divide_op Vrcph = DivideOp.Vrcph
-divide_op Vmov = DivideOp.Vmov
-divide_op Vrsq = DivideOp.Vrsq
-divide_op Vrsql = DivideOp.Vrsql
-divide_op Vrsqh = DivideOp.Vrsqh
+abbrev pub divide_of : VectorDivideOp → DivideOp
+divide_of Vrcp = DivideOp.Vrcp
+divide_of Vrcpl = DivideOp.Vrcpl
+divide_of Vrcph = DivideOp.Vrcph
+divide_of Vmov = DivideOp.Vmov
+divide_of Vrsq = DivideOp.Vrsq
+divide_of Vrsql = DivideOp.Vrsql
+divide_of Vrsqh = DivideOp.Vrsqh
 
 -- the operation of an instruction that changes nothing
-abbrev pub idle_op : VectorNopOp → DivideOp
-idle_op Vnop = DivideOp.Vnop
-idle_op Vnull = DivideOp.Vnull
+abbrev pub idle_of : VectorNopOp → DivideOp
+idle_of Vnop = DivideOp.Vnop
+idle_of Vnull = DivideOp.Vnull

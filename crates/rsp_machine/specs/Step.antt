@@ -17,7 +17,7 @@ use Rattle.rsp_compare.specs.Logic.{logic_rule}
 use Rattle.rsp_compare.specs.declared.selects.MergeOp.TheVariants.{Vmrg}
 use Rattle.rsp_compare.specs.Clips.{clip_rule}
 use Rattle.rsp_machine.specs.State.{State, advanced}
-use Rattle.rsp_machine.specs.Operations.{add_op, select_op, clip_op, logic_op}
+use Rattle.rsp_machine.specs.Operations.{add_of, select_of, clip_of, logic_of}
 use Rattle.rsp_machine.specs.Vector.{multiplies, rounds, multiplies_mpeg, reads_accumulator, ruled, divides, loads_vector, stores_vector, moves_vector, moves_control}
 use Rattle.rsp_machine.specs.Host.{register_read, register_written}
 use Rattle.rsp_machine.specs.declared.step.StepEnd.{StepEnd}
@@ -73,11 +73,11 @@ instruction_effect (Multiply op f) s = multiplies op f s
 instruction_effect (Round op f) s = rounds op f s
 instruction_effect (MpegMultiply op f) s = multiplies_mpeg op f s
 instruction_effect (ReadAccumulator f) s = reads_accumulator f s
-instruction_effect (VectorAdd op f) s = ruled (add_rule (add_op op)) f s
-instruction_effect (VectorSelect op f) s = ruled (select_rule (select_op op)) f s
-instruction_effect (VectorClip op f) s = ruled (clip_rule (clip_op op)) f s
+instruction_effect (VectorAdd op f) s = ruled (add_rule (add_of op)) f s
+instruction_effect (VectorSelect op f) s = ruled (select_rule (select_of op)) f s
+instruction_effect (VectorClip op f) s = ruled (clip_rule (clip_of op)) f s
 instruction_effect (VectorMerge f) s = ruled (merge_rule Vmrg) f s
-instruction_effect (VectorLogic op f) s = ruled (logic_rule (logic_op op)) f s
+instruction_effect (VectorLogic op f) s = ruled (logic_rule (logic_of op)) f s
 instruction_effect (Divide op vd lane vt e) s = divides op vd lane vt e s
 instruction_effect (Idle op) s = s
 instruction_effect (VectorLoad op f) s = loads_vector op f s

@@ -26,25 +26,25 @@ use Rattle.rsp_loadstore.specs.Stores.{memory_after_store}
 use Rattle.rsp_loadstore.specs.Moves.{file_after_move, moved_value}
 use Rattle.rsp_loadstore.specs.Controls.{flags_after_move, control_value}
 use Rattle.rsp_machine.specs.State.{State}
-use Rattle.rsp_machine.specs.Operations.{multiply_op, round_op, mpeg_op, divide_op}
+use Rattle.rsp_machine.specs.Operations.{multiply_of, round_of, mpeg_of, divide_of}
 
 -- a multiply of vs and the selected vt: the accumulators after it, and in vd their clamp
 unfoldable pub multiplies : VectorMultiplyOp → VectorFields → State → State
 multiplies op f s =
-    let after = accumulators_after (multiply_op op) (vector s.vectors f.vs) (selected (vector s.vectors f.vt) f.element) s.accumulators in
-    record s { accumulators = after; vectors = with_vector s.vectors f.vd (multiply_results (multiply_op op) after) }
+    let after = accumulators_after (multiply_of op) (vector s.vectors f.vs) (selected (vector s.vectors f.vt) f.element) s.accumulators in
+    record s { accumulators = after; vectors = with_vector s.vectors f.vd (multiply_results (multiply_of op) after) }
 
 -- a rounding of the accumulators by the selected vt, or by 65536 times it if the number vs is odd: the accumulators after it, and in vd
 -- their signed clamp
 unfoldable pub rounds : VectorRoundOp → VectorFields → State → State
 rounds op f s =
-    let after = accumulators_after_rounding (round_op op) (f.vs % 2 == 1) (selected (vector s.vectors f.vt) f.element) s.accumulators in
+    let after = accumulators_after_rounding (round_of op) (f.vs % 2 == 1) (selected (vector s.vectors f.vt) f.element) s.accumulators in
     record s { accumulators = after; vectors = with_vector s.vectors f.vd (rounding_results after) }
 
 -- an MPEG multiply of vs and the selected vt: the accumulators after it, and in vd their halves
 unfoldable pub multiplies_mpeg : VectorMpegOp → VectorFields → State → State
 multiplies_mpeg op f s =
-    let after = accumulators_after_mpeg (mpeg_op op) (vector s.vectors f.vs) (selected (vector s.vectors f.vt) f.element) s.accumulators in
+    let after = accumulators_after_mpeg (mpeg_of op) (vector s.vectors f.vs) (selected (vector s.vectors f.vt) f.element) s.accumulators in
     record s { accumulators = after; vectors = with_vector s.vectors f.vd (mpeg_results after) }
 
 -- VSAR: sixteen bits of each accumulator into vd, as the element selects them
@@ -67,8 +67,8 @@ unfoldable pub divides : VectorDivideOp → ℕ → ℕ → ℕ → ℕ → Stat
 divides op vd lane vt e s =
     let source = vector s.vectors vt in
     record s {
-      vectors = with_vector s.vectors vd (vd_after (divide_op op) e lane source s.divider (vector s.vectors vd));
-      divider = divider_after (divide_op op) e lane source s.divider;
+      vectors = with_vector s.vectors vd (vd_after (divide_of op) e lane source s.divider (vector s.vectors vd));
+      divider = divider_after (divide_of op) e lane source s.divider;
       accumulators = with_low s.accumulators (selected source e);
     }
 

@@ -5,7 +5,7 @@
 // `Inst` itself, whose fields they read.
 
 ghost use Rattle.std.specs.Prelude.{◌≡◌};
-ghost use Rattle.rsp_machine.specs.Operations.{multiply_op, round_op, mpeg_op, add_op, select_op, clip_op, logic_op, divide_op, idle_op};
+ghost use Rattle.rsp_machine.specs.Operations.{multiply_of, round_of, mpeg_of, add_of, select_of, clip_of, logic_of, divide_of, idle_of};
 
 use rsp_compare::{AddOp, ClipOp, LogicOp, SelectOp};
 use rsp_decode::{
@@ -17,8 +17,8 @@ use rsp_multiply::{MpegOp, MultiplyOp, RoundOp};
 
 /// The operation of a multiply.
 #[inline(always)]
-pub(crate) fn multiply_op(op: VectorMultiplyOp) -> MultiplyOp
-    ensures { result ≡ multiply_op op }
+pub(crate) fn multiply_of(op: VectorMultiplyOp) -> MultiplyOp
+    ensures { result ≡ multiply_of op }
 {
     match op {
         VectorMultiplyOp::Vmulf => MultiplyOp::Vmulf,
@@ -38,8 +38,8 @@ pub(crate) fn multiply_op(op: VectorMultiplyOp) -> MultiplyOp
 
 /// The operation of a rounding of the accumulators.
 #[inline(always)]
-pub(crate) fn round_op(op: VectorRoundOp) -> RoundOp
-    ensures { result ≡ round_op op }
+pub(crate) fn round_of(op: VectorRoundOp) -> RoundOp
+    ensures { result ≡ round_of op }
 {
     match op {
         VectorRoundOp::Vrndp => RoundOp::Vrndp,
@@ -49,8 +49,8 @@ pub(crate) fn round_op(op: VectorRoundOp) -> RoundOp
 
 /// The operation of a multiply for MPEG coefficients.
 #[inline(always)]
-pub(crate) fn mpeg_op(op: VectorMpegOp) -> MpegOp
-    ensures { result ≡ mpeg_op op }
+pub(crate) fn mpeg_of(op: VectorMpegOp) -> MpegOp
+    ensures { result ≡ mpeg_of op }
 {
     match op {
         VectorMpegOp::Vmulq => MpegOp::Vmulq,
@@ -60,8 +60,8 @@ pub(crate) fn mpeg_op(op: VectorMpegOp) -> MpegOp
 
 /// The operation of a sum or a difference.
 #[inline(always)]
-pub(crate) fn add_op(op: VectorAddOp) -> AddOp
-    ensures { result ≡ add_op op }
+pub(crate) fn add_of(op: VectorAddOp) -> AddOp
+    ensures { result ≡ add_of op }
 {
     match op {
         VectorAddOp::Vadd => AddOp::Vadd,
@@ -74,8 +74,8 @@ pub(crate) fn add_op(op: VectorAddOp) -> AddOp
 
 /// The operation of a comparison.
 #[inline(always)]
-pub(crate) fn select_op(op: VectorSelectOp) -> SelectOp
-    ensures { result ≡ select_op op }
+pub(crate) fn select_of(op: VectorSelectOp) -> SelectOp
+    ensures { result ≡ select_of op }
 {
     match op {
         VectorSelectOp::Vlt => SelectOp::Vlt,
@@ -87,8 +87,8 @@ pub(crate) fn select_op(op: VectorSelectOp) -> SelectOp
 
 /// The operation of a clip.
 #[inline(always)]
-pub(crate) fn clip_op(op: VectorClipOp) -> ClipOp
-    ensures { result ≡ clip_op op }
+pub(crate) fn clip_of(op: VectorClipOp) -> ClipOp
+    ensures { result ≡ clip_of op }
 {
     match op {
         VectorClipOp::Vcl => ClipOp::Vcl,
@@ -99,8 +99,8 @@ pub(crate) fn clip_op(op: VectorClipOp) -> ClipOp
 
 /// The operation of a logic instruction.
 #[inline(always)]
-pub(crate) fn logic_op(op: VectorLogicOp) -> LogicOp
-    ensures { result ≡ logic_op op }
+pub(crate) fn logic_of(op: VectorLogicOp) -> LogicOp
+    ensures { result ≡ logic_of op }
 {
     match op {
         VectorLogicOp::Vand => LogicOp::Vand,
@@ -114,8 +114,8 @@ pub(crate) fn logic_op(op: VectorLogicOp) -> LogicOp
 
 /// The operation of an instruction that writes one lane.
 #[inline(always)]
-pub(crate) fn divide_op(op: VectorDivideOp) -> DivideOp
-    ensures { result ≡ divide_op op }
+pub(crate) fn divide_of(op: VectorDivideOp) -> DivideOp
+    ensures { result ≡ divide_of op }
 {
     match op {
         VectorDivideOp::Vrcp => DivideOp::Vrcp,
@@ -130,8 +130,8 @@ pub(crate) fn divide_op(op: VectorDivideOp) -> DivideOp
 
 /// The operation of an instruction that changes nothing.
 #[inline(always)]
-pub(crate) fn idle_op(op: VectorNopOp) -> DivideOp
-    ensures { result ≡ idle_op op }
+pub(crate) fn idle_of(op: VectorNopOp) -> DivideOp
+    ensures { result ≡ idle_of op }
 {
     match op {
         VectorNopOp::Vnop => DivideOp::Vnop,

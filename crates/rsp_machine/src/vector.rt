@@ -8,7 +8,7 @@ ghost use Rattle.rsp_compare.specs.Selects.{select_rule, merge_rule};
 ghost use Rattle.rsp_compare.specs.Clips.{clip_rule};
 ghost use Rattle.rsp_compare.specs.Logic.{logic_rule};
 ghost use Rattle.rsp_compare.specs.declared.selects.MergeOp.TheVariants.{Vmrg};
-ghost use Rattle.rsp_machine.specs.Operations.{add_op, select_op, clip_op, logic_op};
+ghost use Rattle.rsp_machine.specs.Operations.{add_of, select_of, clip_of, logic_of};
 ghost use Rattle.rsp_machine.specs.Vector.{multiplies, rounds, multiplies_mpeg, reads_accumulator, ruled, divides, loads_vector, stores_vector, moves_vector, moves_control};
 
 use crate::machine::Machine;
@@ -43,7 +43,7 @@ impl<A: Acc> Machine<A> {
     {
         let a = self.vregs.reg(fields.vs);
         let b = self.selected(fields);
-        let result = rsp_multiply::multiply(operation::multiply_op(op), &a, &b, &mut self.acc);
+        let result = rsp_multiply::multiply(operation::multiply_of(op), &a, &b, &mut self.acc);
         self.vregs.set_reg(fields.vd, result);
     }
 
@@ -56,7 +56,7 @@ impl<A: Acc> Machine<A> {
     {
         let b = self.selected(fields);
         let odd = fields.vs % 2 == 1;
-        let result = rsp_multiply::round_op(operation::round_op(op), odd, &b, &mut self.acc);
+        let result = rsp_multiply::round_op(operation::round_of(op), odd, &b, &mut self.acc);
         self.vregs.set_reg(fields.vd, result);
     }
 
@@ -69,7 +69,7 @@ impl<A: Acc> Machine<A> {
     {
         let a = self.vregs.reg(fields.vs);
         let b = self.selected(fields);
-        let result = rsp_multiply::mpeg_op(operation::mpeg_op(op), &a, &b, &mut self.acc);
+        let result = rsp_multiply::mpeg_op(operation::mpeg_of(op), &a, &b, &mut self.acc);
         self.vregs.set_reg(fields.vd, result);
     }
 
@@ -89,11 +89,11 @@ impl<A: Acc> Machine<A> {
     #[tactic(auto, unfolding(crate::specs::Vector::ruled))]
     pub(crate) fn add_lanes(&mut self, op: VectorAddOp, fields: VectorFields)
         requires { IsVectorFields fields }
-        ensures { self.new ≡ ruled (add_rule (add_op op)) fields self.old }
+        ensures { self.new ≡ ruled (add_rule (add_of op)) fields self.old }
     {
         let a = self.vregs.reg(fields.vs);
         let b = self.selected(fields);
-        let op = operation::add_op(op);
+        let op = operation::add_of(op);
         let result = rsp_compare::add_op(op, &a, &b, &mut self.flags, &mut self.acc);
         self.vregs.set_reg(fields.vd, result);
     }
@@ -103,11 +103,11 @@ impl<A: Acc> Machine<A> {
     #[tactic(auto, unfolding(crate::specs::Vector::ruled))]
     pub(crate) fn select_lanes(&mut self, op: VectorSelectOp, fields: VectorFields)
         requires { IsVectorFields fields }
-        ensures { self.new ≡ ruled (select_rule (select_op op)) fields self.old }
+        ensures { self.new ≡ ruled (select_rule (select_of op)) fields self.old }
     {
         let a = self.vregs.reg(fields.vs);
         let b = self.selected(fields);
-        let op = operation::select_op(op);
+        let op = operation::select_of(op);
         let result = rsp_compare::select_op(op, &a, &b, &mut self.flags, &mut self.acc);
         self.vregs.set_reg(fields.vd, result);
     }
@@ -117,11 +117,11 @@ impl<A: Acc> Machine<A> {
     #[tactic(auto, unfolding(crate::specs::Vector::ruled))]
     pub(crate) fn clip_lanes(&mut self, op: VectorClipOp, fields: VectorFields)
         requires { IsVectorFields fields }
-        ensures { self.new ≡ ruled (clip_rule (clip_op op)) fields self.old }
+        ensures { self.new ≡ ruled (clip_rule (clip_of op)) fields self.old }
     {
         let a = self.vregs.reg(fields.vs);
         let b = self.selected(fields);
-        let op = operation::clip_op(op);
+        let op = operation::clip_of(op);
         let result = rsp_compare::clip_op(op, &a, &b, &mut self.flags, &mut self.acc);
         self.vregs.set_reg(fields.vd, result);
     }
@@ -144,11 +144,11 @@ impl<A: Acc> Machine<A> {
     #[tactic(auto, unfolding(crate::specs::Vector::ruled))]
     pub(crate) fn logic_lanes(&mut self, op: VectorLogicOp, fields: VectorFields)
         requires { IsVectorFields fields }
-        ensures { self.new ≡ ruled (logic_rule (logic_op op)) fields self.old }
+        ensures { self.new ≡ ruled (logic_rule (logic_of op)) fields self.old }
     {
         let a = self.vregs.reg(fields.vs);
         let b = self.selected(fields);
-        let op = operation::logic_op(op);
+        let op = operation::logic_of(op);
         let result = rsp_compare::logic_op(op, &a, &b, &mut self.flags, &mut self.acc);
         self.vregs.set_reg(fields.vd, result);
     }
@@ -163,7 +163,7 @@ impl<A: Acc> Machine<A> {
         let source = self.vregs.reg(vt);
         let mut register = self.vregs.reg(vd);
         rsp_divide::divide_op(
-            operation::divide_op(op),
+            operation::divide_of(op),
             usize::from(element),
             usize::from(lane),
             &source,
@@ -183,7 +183,7 @@ impl<A: Acc> Machine<A> {
         let source = self.vregs.reg(0);
         let mut register = source;
         rsp_divide::divide_op(
-            operation::idle_op(op),
+            operation::idle_of(op),
             0,
             0,
             &source,

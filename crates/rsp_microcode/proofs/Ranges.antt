@@ -38,7 +38,7 @@ use Rattle.rsp_loadstore.specs.Stores.{memory_after_store}
 use Rattle.rsp_loadstore.specs.Moves.{file_after_move, moved_value, with_register_half}
 use Rattle.rsp_loadstore.specs.Controls.{flags_after_move, control_value, with_control}
 use Rattle.rsp_machine.specs.State.{State, IsState, IsInstructionAddress, AreFlags, advanced}
-use Rattle.rsp_machine.specs.Operations.{round_op, mpeg_op, add_op, select_op, clip_op, logic_op, divide_op}
+use Rattle.rsp_machine.specs.Operations.{round_of, mpeg_of, add_of, select_of, clip_of, logic_of, divide_of}
 use Rattle.rsp_machine.specs.Vector.{multiplies, rounds, multiplies_mpeg, reads_accumulator, ruled, divides, loads_vector, stores_vector, moves_vector, moves_control}
 use Rattle.rsp_machine.specs.Step.{executed, instruction_effect, computes, loads, stores, jumps, moves_sp}
 use Rattle.rsp_microcode.specs.Frames.{stays}
@@ -96,9 +96,9 @@ divide_kept : (op : VectorDivideOp) (vd lane vt e : ℕ) (s : State) → IsState
 unfolding divides vd_after divider_after
 divide_kept op vd lane vt e s is =
     let v = λ (i : ℕ). vector_small s.vectors vt i is.vectors in
-    let d = division_small (divide_op op) s.divider (slice_index (vector s.vectors vt) (e % 8)) (slice_index (selected (vector s.vectors vt) e) lane)
+    let d = division_small (divide_of op) s.divider (slice_index (vector s.vectors vt) (e % 8)) (slice_index (selected (vector s.vectors vt) e) lane)
     is.divider.0 is.divider.1 (v (e % 8)) (selected_small (vector s.vectors vt) e lane v) in
-    vectors_kept _ _ (file_written s.vectors vd _ (λ l. either_vector (writes (divide_op op)) _ _ (vector_set _ lane _ d.0 (is.vectors.registers vd l)) (is.vectors.registers vd l)) is.vectors)
+    vectors_kept _ _ (file_written s.vectors vd _ (λ l. either_vector (writes (divide_of op)) _ _ (vector_set _ lane _ d.0 (is.vectors.registers vd l)) (is.vectors.registers vd l)) is.vectors)
     (divider_kept _ _ d.1 (accumulators_kept s _ (low_numbers s.accumulators _) is))
 
 multiply_kept : (op : VectorMultiplyOp) (f : VectorFields) (s : State) → IsState s → IsState (multiplies op f s)
@@ -110,7 +110,7 @@ round_kept : (op : VectorRoundOp) (f : VectorFields) (s : State) → IsState s �
 unfolding rounds accumulators_after_rounding rounding_results
 round_kept op f s is =
     vectors_kept _ _ (file_written s.vectors f.vd _ (λ l. high_vector _ (λ i. clamp_small Signed _)) is.vectors)
-    (accumulators_kept s _ (are_numbers _ (λ i. round_fits (round_op op) (f.vs % 2 == 1) (number s.accumulators i) (slice_index (selected (vector s.vectors f.vt) f.element) i) (is.accumulators.1 i))) is)
+    (accumulators_kept s _ (are_numbers _ (λ i. round_fits (round_of op) (f.vs % 2 == 1) (number s.accumulators i) (slice_index (selected (vector s.vectors f.vt) f.element) i) (is.accumulators.1 i))) is)
 
 half_small : (p : ℤ) → sixteen_bits p / 16 * 16 < 65536
 half_small p = omega (arith, sixteen_small p)
@@ -120,7 +120,7 @@ unfolding multiplies_mpeg accumulators_after_mpeg mpeg_results
 mpeg_kept op f s is =
     let v = λ (i : ℕ). vector_small s.vectors f.vt i is.vectors in
     vectors_kept _ _ (file_written s.vectors f.vd _ (λ l. high_vector _ (λ i. half_small _)) is.vectors)
-    (accumulators_kept s _ (are_numbers _ (λ i. mpeg_fits (mpeg_op op) (number s.accumulators i) _ _ (is.accumulators.1 i) (vector_small s.vectors f.vs i is.vectors) (selected_small _ f.element i v))) is)
+    (accumulators_kept s _ (are_numbers _ (λ i. mpeg_fits (mpeg_of op) (number s.accumulators i) _ _ (is.accumulators.1 i) (vector_small s.vectors f.vs i is.vectors) (selected_small _ f.element i v))) is)
 
 sar_small : (e : ℕ) (x : ℤ) → sar_lane e x < 65536
 unfolding high middle low
@@ -212,11 +212,11 @@ kept (Multiply op f) s h g is = multiply_kept op f s is
 kept (Round op f) s h g is = round_kept op f s is
 kept (MpegMultiply op f) s h g is = mpeg_kept op f s is
 kept (ReadAccumulator f) s h g is = read_kept f s is
-kept (VectorAdd op f) s h g is = rule_kept _ f s (add_small (add_op op)) is
-kept (VectorSelect op f) s h g is = rule_kept _ f s (select_small (select_op op)) is
-kept (VectorClip op f) s h g is = rule_kept _ f s (clip_small (clip_op op)) is
+kept (VectorAdd op f) s h g is = rule_kept _ f s (add_small (add_of op)) is
+kept (VectorSelect op f) s h g is = rule_kept _ f s (select_small (select_of op)) is
+kept (VectorClip op f) s h g is = rule_kept _ f s (clip_small (clip_of op)) is
 kept (VectorMerge f) s h g is = rule_kept _ f s merge_small is
-kept (VectorLogic op f) s h g is = rule_kept _ f s (logic_small (logic_op op)) is
+kept (VectorLogic op f) s h g is = rule_kept _ f s (logic_small (logic_of op)) is
 kept (Divide op vd lane vt e) s h f is = divide_kept op vd lane vt e s is
 kept (Idle op) s h f is = is
 kept (VectorLoad op f) s h g is = vectors_kept s _ (load_kept op s.dmem f.vt f.element _ s.vectors is.dmem is.vectors) is

@@ -11,7 +11,7 @@ use Rattle.rsp_multiply.specs.MultiplyRules.{multiply_rule}
 use Rattle.rsp_numbers.specs.Numbers.{s48}
 use Rattle.rsp_lanes.specs.Lanes.{each_lane}
 use Rattle.rsp_scalar.specs.Flow.{address_after}
-use Rattle.rsp_machine.specs.Operations.{multiply_op}
+use Rattle.rsp_machine.specs.Operations.{multiply_of}
 use Rattle.rsp_machine.specs.State.{State}
 use Rattle.rsp_microcode.specs.Runs.{ran_through, address_after_words}
 use Rattle.rsp_microcode.specs.Reads.{Write, after_writes}
@@ -30,7 +30,7 @@ instruction m = Multiply m.name m.fields
 
 -- the multiply on the values of the registers that it reads
 abbrev pub step_in : List (List ℕ) → Term → MultiplyInstruction
-step_in file m = record { op = multiply_op m.name; vs = vector file m.fields.vs; vt = vector file m.fields.vt; element = m.fields.element }
+step_in file m = record { op = multiply_of m.name; vs = vector file m.fields.vs; vt = vector file m.fields.vt; element = m.fields.element }
 
 abbrev pub reads_other : ℕ → Term → Bool
 reads_other vd m = not (nat_eq vd m.fields.vs) && not (nat_eq vd m.fields.vt)
