@@ -9,7 +9,7 @@ use Rattle.rsp_memory.specs.Memory.{word_at}
 use Rattle.rsp_regs.specs.Sp.{Sp, after_step}
 use Rattle.rsp_machine.specs.State.{State}
 use Rattle.rsp_machine.specs.Vector.{multiplies, rounds, multiplies_mpeg, reads_accumulator, ruled, divides, loads_vector, stores_vector, moves_vector, moves_control}
-use Rattle.rsp_machine.specs.Step.{computes, loads, stores, jumps, instruction_effect, executed, after_single_step, step_by, step_of}
+use Rattle.rsp_machine.specs.Step.{computes, loads_scalar, stores_scalar, jumps, instruction_effect, executed, after_single_step, step_by, step_of}
 use Rattle.rsp_machine.specs.declared.step.StepEnd.TheVariants.{Done, Halted, Reserved}
 use Rattle.rsp_machine.specs.Transfers.{starts_dma, starts_dma_in, starts_dma_at}
 use Rattle.rsp_machine.specs.declared.footprint.Footprint.TheVariants as of
@@ -27,7 +27,7 @@ dma_reaches true X h = cc
 dma_reaches false X h = cc
 
 pub leaves : (i : Inst) (s : State) → reaches_sp (footprint_of i s) ≡ false → (executed i s).sp ≡ s.sp
-unfolding footprint_of executed instruction_effect computes loads stores jumps multiplies rounds multiplies_mpeg reads_accumulator ruled divides loads_vector stores_vector moves_vector moves_control
+unfolding footprint_of executed instruction_effect computes loads_scalar stores_scalar jumps multiplies rounds multiplies_mpeg reads_accumulator ruled divides loads_vector stores_vector moves_vector moves_control
 leaves Break s h = cc
 leaves (MoveSp From rt n) s h = cc
 leaves (MoveSp To rt n) s h = dma_reaches (is_length_register n) ((executed (MoveSp To rt n) s).sp ≡ s.sp) h

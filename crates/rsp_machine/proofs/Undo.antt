@@ -22,7 +22,7 @@ use Rattle.rsp_regs.specs.Sp.{after_step, after_register_write}
 use Rattle.rsp_machine.specs.State.{State, advanced}
 use Rattle.rsp_machine.specs.Operations.{add_of, select_of, clip_of, logic_of}
 use Rattle.rsp_machine.specs.Vector.{multiplies, rounds, multiplies_mpeg, reads_accumulator, ruled, divides, loads_vector, stores_vector, moves_vector, moves_control}
-use Rattle.rsp_machine.specs.Step.{computes, loads, stores, jumps, break_instruction, moves_sp, instruction_effect, executed, after_single_step, step_by, step_of}
+use Rattle.rsp_machine.specs.Step.{computes, loads_scalar, stores_scalar, jumps, break_instruction, moves_sp, instruction_effect, executed, after_single_step, step_by, step_of}
 use Rattle.rsp_machine.specs.Host.{register_written}
 use Rattle.rsp_machine.specs.declared.step.StepEnd.TheVariants.{Done, Halted}
 use Rattle.rsp_regs.specs.Sp.{is_length_register}
@@ -84,7 +84,7 @@ load_back false vt v s r h e = vectors_same s _ h e
 
 -- any instruction that starts no DMA
 pub saved_back : (i : Inst) (s : State) (r : Saved) → starts_dma i ≡ false → s.sp.halted ≡ false → IsRanged s → undone (record_of (footprint_of i s) s r) (after_single_step (executed i s)) ≡ s
-unfolding undone record_of values_saved restored after_step footprint_of executed instruction_effect computes loads stores jumps break_instruction moves_sp multiplies rounds multiplies_mpeg reads_accumulator ruled divides loads_vector stores_vector moves_vector moves_control file_after_load memory_after_store file_after_move
+unfolding undone record_of values_saved restored after_step footprint_of executed instruction_effect computes loads_scalar stores_scalar jumps break_instruction moves_sp multiplies rounds multiplies_mpeg reads_accumulator ruled divides loads_vector stores_vector moves_vector moves_control file_after_load memory_after_store file_after_move
 saved_back (Shift op rd rt amount) s r e h k = registers_same s _ h (register-back s.registers rd _)
 saved_back (ShiftBy op f) s r e h k = registers_same s _ h (register-back s.registers f.rd _)
 saved_back (Register op f) s r e h k = registers_same s _ h (register-back s.registers f.rd _)
@@ -194,7 +194,7 @@ written_stays true v n s e h = cc
 written_stays false v n s e h = ap (λ t. t.dmem) (no_dma n v (advanced s) e)
 
 dmem_stays : (i : Inst) (s : State) → changes_memory (footprint_of i s) ≡ false → (executed i s).dmem ≡ s.dmem
-unfolding footprint_of executed instruction_effect computes loads stores jumps break_instruction moves_sp multiplies rounds multiplies_mpeg reads_accumulator ruled divides loads_vector stores_vector moves_vector moves_control
+unfolding footprint_of executed instruction_effect computes loads_scalar stores_scalar jumps break_instruction moves_sp multiplies rounds multiplies_mpeg reads_accumulator ruled divides loads_vector stores_vector moves_vector moves_control
 dmem_stays (Store op f) s h = cc
 dmem_stays (VectorStore op f) s h = cc
 dmem_stays (MoveSp From rt n) s h = refl

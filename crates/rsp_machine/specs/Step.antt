@@ -28,12 +28,12 @@ unfoldable pub computes : Inst → State → State
 computes i s = record s { registers = after_alu i s.registers }
 
 -- a scalar load from DMEM
-unfoldable pub loads : Inst → State → State
-loads i s = record s { registers = after_scalar_load i s.registers s.dmem }
+unfoldable pub loads_scalar : Inst → State → State
+loads_scalar i s = record s { registers = after_scalar_load i s.registers s.dmem }
 
 -- a scalar store to DMEM
-unfoldable pub stores : Inst → State → State
-stores i s = record s { dmem = after_scalar_store i s.registers s.dmem }
+unfoldable pub stores_scalar : Inst → State → State
+stores_scalar i s = record s { dmem = after_scalar_store i s.registers s.dmem }
 
 -- A jump or a branch, taken or not; it reads its registers before it writes its link. pc and npc have advanced, so s.pc is the
 -- delay slot: a target is counted from it, and a link is the address after it.
@@ -58,8 +58,8 @@ instruction_effect (ShiftBy op f) s = computes (ShiftBy op f) s
 instruction_effect (Register op f) s = computes (Register op f) s
 instruction_effect (Immediate op rt rs imm) s = computes (Immediate op rt rs imm) s
 instruction_effect (LoadUpper rt imm) s = computes (LoadUpper rt imm) s
-instruction_effect (Load op f) s = loads (Load op f) s
-instruction_effect (Store op f) s = stores (Store op f) s
+instruction_effect (Load op f) s = loads_scalar (Load op f) s
+instruction_effect (Store op f) s = stores_scalar (Store op f) s
 instruction_effect (JumpRegister rs) s = jumps (JumpRegister rs) s
 instruction_effect (JumpLinkRegister rd rs) s = jumps (JumpLinkRegister rd rs) s
 instruction_effect (BranchSign op rs offset) s = jumps (BranchSign op rs offset) s

@@ -9,7 +9,7 @@ ghost use Rattle.std.specs.Prelude.{◌≡◌, ◌<◌, Some};
 ghost use Rattle.rsp_decode.specs.Table.{IsInstruction, inst_of};
 ghost use Rattle.rsp_decode.specs.declared.scalar.MoveOp.TheVariants as op;
 ghost use Rattle.rsp_scalar.specs.Flow.{next_npc, with_link};
-ghost use Rattle.rsp_machine.specs.Step.{computes, loads, stores, break_instruction, moves_sp, instruction_effect};
+ghost use Rattle.rsp_machine.specs.Step.{computes, loads_scalar, stores_scalar, break_instruction, moves_sp, instruction_effect};
 ghost use Rattle.rsp_machine.specs.ProgramCounters.{with_counters, counters_of};
 ghost use Rattle.rsp_machine.specs.Undo.{after_instruction};
 ghost use Rattle.rsp_machine.specs.LoopTests.{IsFootprint, tests_of, tests_in, state_after};
@@ -85,20 +85,20 @@ impl<A: Acc> Machine<A> {
 
     /// A scalar load.
     #[inline(always)]
-    #[tactic(auto, unfolding(crate::specs::Step::loads))]
+    #[tactic(auto, unfolding(crate::specs::Step::loads_scalar))]
     fn load_scalar(&mut self, inst: &Inst)
         requires { IsInstruction inst.now }
-        ensures { self.new ≡ loads inst.now self.old }
+        ensures { self.new ≡ loads_scalar inst.now self.old }
     {
         load(inst, &mut self.regs, &self.dmem);
     }
 
     /// A scalar store.
     #[inline(always)]
-    #[tactic(auto, unfolding(crate::specs::Step::stores))]
+    #[tactic(auto, unfolding(crate::specs::Step::stores_scalar))]
     fn store_scalar(&mut self, inst: &Inst)
         requires { IsInstruction inst.now }
-        ensures { self.new ≡ stores inst.now self.old }
+        ensures { self.new ≡ stores_scalar inst.now self.old }
     {
         store(inst, &self.regs, &mut self.dmem);
     }
@@ -158,7 +158,7 @@ impl<A: Acc> Machine<A> {
 
     /// Does what an instruction does. pc and npc have advanced in `counters`, and the machine's own aren't used.
     #[inline(always)]
-    #[tactic(auto, unfolding(crate::specs::Step::instruction_effect, crate::specs::Step::computes, crate::specs::Step::loads, crate::specs::Step::stores, crate::specs::Step::jumps, crate::specs::Step::break_instruction, crate::specs::Vector::multiplies, crate::specs::Vector::rounds, crate::specs::Vector::multiplies_mpeg, crate::specs::Vector::reads_accumulator, crate::specs::Vector::ruled, crate::specs::Vector::divides, crate::specs::Vector::loads_vector, crate::specs::Vector::stores_vector))]
+    #[tactic(auto, unfolding(crate::specs::Step::instruction_effect, crate::specs::Step::computes, crate::specs::Step::loads_scalar, crate::specs::Step::stores_scalar, crate::specs::Step::jumps, crate::specs::Step::break_instruction, crate::specs::Vector::multiplies, crate::specs::Vector::rounds, crate::specs::Vector::multiplies_mpeg, crate::specs::Vector::reads_accumulator, crate::specs::Vector::ruled, crate::specs::Vector::divides, crate::specs::Vector::loads_vector, crate::specs::Vector::stores_vector))]
     fn perform(&mut self, inst: &Inst, counters: &mut ProgramCounters)
         requires { IsInstruction inst.now }
         ensures state { self.new ≡ with_counters (counters_of self.old) (instruction_effect inst.now (with_counters counters.old self.old)) }

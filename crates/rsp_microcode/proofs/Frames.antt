@@ -23,7 +23,7 @@ use Rattle.rsp_loadstore.specs.Windows.{writes_group}
 use Rattle.rsp_machine.specs.State.{State, advanced}
 use Rattle.rsp_machine.specs.Footprint.{loaded_footprint, scalar_in}
 use Rattle.rsp_machine.specs.Vector.{multiplies, rounds, multiplies_mpeg, reads_accumulator, ruled, divides, loads_vector, stores_vector, moves_vector, moves_control}
-use Rattle.rsp_machine.specs.Step.{executed, instruction_effect, computes, loads, stores, jumps, moves_sp}
+use Rattle.rsp_machine.specs.Step.{executed, instruction_effect, computes, loads_scalar, stores_scalar, jumps, moves_sp}
 use Rattle.rsp_machine.proofs.Footprints.{other_register, other_vector}
 use Rattle.rsp_microcode.specs.Runs.{ran_through}
 use Rattle.rsp_microcode.proofs.SpReads.{reads_leave, goes}
@@ -36,7 +36,7 @@ load_framed false vt s v = refl
 
 -- one instruction
 pub row_framed : (i : Inst) (s : State) → stays i ≡ true → executed i s ≡ with_parts (of_row i) s (executed i s)
-unfolding executed instruction_effect computes loads stores jumps moves_sp multiplies rounds multiplies_mpeg reads_accumulator ruled divides loads_vector stores_vector moves_vector moves_control
+unfolding executed instruction_effect computes loads_scalar stores_scalar jumps moves_sp multiplies rounds multiplies_mpeg reads_accumulator ruled divides loads_vector stores_vector moves_vector moves_control
 row_framed Break s h = cc
 row_framed (MoveSp From rt n) s h = let e = reads_leave n s.sp (goes (not (n % 16 == 7)) h) in rw e refl
 row_framed (MoveSp To rt n) s h = cc
@@ -103,7 +103,7 @@ load_writes true vt r = refl
 load_writes false vt r = refl
 
 writes : (i : Inst) (s : State) → stays i ≡ true → Writes i s (executed i s)
-unfolding executed instruction_effect computes loads stores jumps moves_sp multiplies rounds multiplies_mpeg reads_accumulator ruled divides loads_vector stores_vector moves_vector moves_control
+unfolding executed instruction_effect computes loads_scalar stores_scalar jumps moves_sp multiplies rounds multiplies_mpeg reads_accumulator ruled divides loads_vector stores_vector moves_vector moves_control
 writes Break s h = cc
 writes (MoveSp From rt n) s h = record { value = _; is = refl }
 writes (MoveSp To rt n) s h = cc
@@ -174,7 +174,7 @@ apart_eight : (a k n : ℕ) → k < 8 → (nat_lt n a || nat_le (a + 8) n) ≡ t
 apart_eight a k n l h = grind (arith, nat_tests)
 
 vector_spared : (i : Inst) (n : ℕ) (s : State) → stays i ≡ true → spares_vector n i ≡ true → vector (executed i s).vectors n ≡ vector s.vectors n
-unfolding executed instruction_effect computes loads stores jumps moves_sp multiplies rounds multiplies_mpeg reads_accumulator ruled divides loads_vector stores_vector moves_vector moves_control file_after_load load_pairs for_each file_after_move
+unfolding executed instruction_effect computes loads_scalar stores_scalar jumps moves_sp multiplies rounds multiplies_mpeg reads_accumulator ruled divides loads_vector stores_vector moves_vector moves_control file_after_load load_pairs for_each file_after_move
 vector_spared Break n s h spare = cc
 vector_spared (MoveSp From rt k) n s h spare = refl
 vector_spared (MoveSp To rt k) n s h spare = cc

@@ -40,7 +40,7 @@ use Rattle.rsp_loadstore.specs.Controls.{flags_after_move, control_value, with_c
 use Rattle.rsp_machine.specs.State.{State, IsState, IsInstructionAddress, AreFlags, advanced}
 use Rattle.rsp_machine.specs.Operations.{round_of, mpeg_of, add_of, select_of, clip_of, logic_of, divide_of}
 use Rattle.rsp_machine.specs.Vector.{multiplies, rounds, multiplies_mpeg, reads_accumulator, ruled, divides, loads_vector, stores_vector, moves_vector, moves_control}
-use Rattle.rsp_machine.specs.Step.{executed, instruction_effect, computes, loads, stores, jumps, moves_sp}
+use Rattle.rsp_machine.specs.Step.{executed, instruction_effect, computes, loads_scalar, stores_scalar, jumps, moves_sp}
 use Rattle.rsp_microcode.specs.Frames.{stays}
 use Rattle.rsp_microcode.specs.Ranges.{fits_word, RangesKept}
 use Rattle.rsp_microcode.proofs.SpReads.{reads_leave, goes, peeked_small}
@@ -180,7 +180,7 @@ marked Vce v f is = record { carry = is.carry; differ = is.differ; compare = is.
 
 -- an instruction on a state whose pc and npc have advanced
 pub kept : (i : Inst) (s : State) → stays i ≡ true → fits_word i ≡ true → IsState s → IsState (instruction_effect i s)
-unfolding instruction_effect computes loads stores jumps moves_sp loads_vector stores_vector moves_vector moves_control file_after_load memory_after_store file_after_move moved_value flags_after_move control_value
+unfolding instruction_effect computes loads_scalar stores_scalar jumps moves_sp loads_vector stores_vector moves_vector moves_control file_after_load memory_after_store file_after_move moved_value flags_after_move control_value
 kept (Shift op rd rt amount) s h f is = registers_kept s _ (register_written _ rd _ (shift_small op _ amount (is.registers.words rt)) is.registers) is
 kept (ShiftBy op f) s h g is = registers_kept s _ (register_written _ f.rd _ (shift_by_small op _ _ (is.registers.words f.rt)) is.registers) is
 kept (Register op f) s h g is = registers_kept s _ (register_written _ f.rd _ (register_small op _ _ (is.registers.words f.rs) (is.registers.words f.rt)) is.registers) is

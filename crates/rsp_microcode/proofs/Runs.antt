@@ -11,7 +11,7 @@ use Rattle.rsp_scalar.specs.Flow.{address_after}
 use Rattle.rsp_regs.specs.Sp.{Sp, after_step}
 use Rattle.rsp_machine.specs.State.{State}
 use Rattle.rsp_machine.specs.Vector.{multiplies, rounds, multiplies_mpeg, reads_accumulator, ruled, divides, loads_vector, stores_vector, moves_vector, moves_control}
-use Rattle.rsp_machine.specs.Step.{step_of, step_by, after_single_step, executed, instruction_effect, computes, loads, stores, jumps, moves_sp}
+use Rattle.rsp_machine.specs.Step.{step_of, step_by, after_single_step, executed, instruction_effect, computes, loads_scalar, stores_scalar, jumps, moves_sp}
 use Rattle.rsp_machine.specs.Laws.{steps_of}
 use Rattle.rsp_machine.specs.declared.step.StepEnd.{StepEnd}
 use Rattle.rsp_machine.specs.declared.step.StepEnd.TheVariants.{Done, Halted}
@@ -26,7 +26,7 @@ pub record Goes (s t : State) : Type 0 where
   pub sp : t.sp ≡ s.sp
 
 pub gone : (i : Inst) (s : State) → goes_on i ≡ true → Goes s (executed i s)
-unfolding executed instruction_effect computes loads stores moves_sp multiplies rounds multiplies_mpeg reads_accumulator ruled divides loads_vector stores_vector moves_vector moves_control
+unfolding executed instruction_effect computes loads_scalar stores_scalar moves_sp multiplies rounds multiplies_mpeg reads_accumulator ruled divides loads_vector stores_vector moves_vector moves_control
 gone (JumpRegister rs) s h = cc
 gone (JumpLinkRegister rd rs) s h = cc
 gone Break s h = cc
