@@ -205,8 +205,8 @@ impl<A: Acc> Machine<A> {
                 element,
             } => self.divide(op, vd, lane, vt, element),
             Inst::Idle { op } => self.idle(op),
-            Inst::VectorLoad { op, fields } => self.load_register(op, fields),
-            Inst::VectorStore { op, fields } => self.store_register(op, fields),
+            Inst::VectorLoad { op, fields } => self.load_vector(op, fields),
+            Inst::VectorStore { op, fields } => self.store_vector(op, fields),
         }
     }
 

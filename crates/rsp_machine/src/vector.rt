@@ -196,7 +196,7 @@ impl<A: Acc> Machine<A> {
     /// A vector load.
     #[inline]
     #[tactic(auto, unfolding(crate::specs::Vector::loads_vector))]
-    pub(crate) fn load_register(&mut self, op: VectorLoadOp, fields: VectorMemoryFields)
+    pub(crate) fn load_vector(&mut self, op: VectorLoadOp, fields: VectorMemoryFields)
         requires { IsInstruction (Inst.VectorLoad op fields) }
         ensures { self.new ≡ loads_vector op fields self.old }
     {
@@ -208,7 +208,7 @@ impl<A: Acc> Machine<A> {
     /// A vector store.
     #[inline]
     #[tactic(auto, unfolding(crate::specs::Vector::stores_vector))]
-    pub(crate) fn store_register(&mut self, op: VectorStoreOp, fields: VectorMemoryFields)
+    pub(crate) fn store_vector(&mut self, op: VectorStoreOp, fields: VectorMemoryFields)
         requires { IsInstruction (Inst.VectorStore op fields) }
         ensures { self.new ≡ stores_vector op fields self.old }
     {
