@@ -8,7 +8,7 @@ use Rattle.rsp_machine.specs.State.{State}
 use Rattle.rsp_machine.specs.Step.{step_of}
 use Rattle.rsp_machine.specs.Laws.{steps_of}
 use Rattle.rsp_machine.specs.Undo.{Saved, blank, record_at, undone}
-use Rattle.rsp_machine.specs.Footprint.{can_undo}
+use Rattle.rsp_machine.specs.Footprint.{makes_no_dma}
 use Rattle.rsp_machine.specs.declared.step.StepEnd.TheVariants.{Done, Halted, Reserved}
 use Rattle.rsp_machine.specs.declared.step.StepEnd.{StepEnd}
 use Rattle.rsp_machine.specs.Transfers.{starts_dma_at}
@@ -82,10 +82,10 @@ module _ (a m k count more : ℕ) (s t : State) (xs ys zs : List Saved) (h : IsS
   entries : length (take m (drop a xs)) ≡ m
   entries = omega (arith, length-take m (drop a xs), length-drop a xs, h.room)
 
-  last_dma : (b : Bool) → 0 < k → b ≡ can_undo (record_at ys (k - 1)).footprint → starts_dma_at (steps_of (k - 1) s) ≡ not b
+  last_dma : (b : Bool) → 0 < k → b ≡ makes_no_dma (record_at ys (k - 1)).footprint → starts_dma_at (steps_of (k - 1) s) ≡ not b
   last_dma b some e = dma_is b _ (e ∙ h.recorded.which (k - 1) (omega (arith, some)))
 
-  pub stretch-kept : zs ≡ take a xs ++ (ys ++ drop (a + m) xs) → more ≡ min (count + k) (length xs) → (0 < k → true ≡ can_undo (record_at ys (k - 1)).footprint)
+  pub stretch-kept : zs ≡ take a xs ++ (ys ++ drop (a + m) xs) → more ≡ min (count + k) (length xs) → (0 < k → true ≡ makes_no_dma (record_at ys (k - 1)).footprint)
       → states_before t (entries_before (a + k) more zs) ≡ history_after_steps k (length xs) s (states_before s (entries_before a count xs))
   stretch-kept written up leads =
       let len : length ys ≡ m = h.recorded.len ∙ entries in
@@ -106,7 +106,7 @@ module _ (a m k count more : ℕ) (s t : State) (xs ys zs : List Saved) (h : IsS
             ap (λ j. starts_dma_at (steps_of j s)) (sym last) ∙ last_dma true (omega (arith, l)) (leads (omega (arith, l)))
       ]
 
-  pub stretch-cleared : more ≡ 0 → 0 < k → false ≡ can_undo (record_at ys (k - 1)).footprint
+  pub stretch-cleared : more ≡ 0 → 0 < k → false ≡ makes_no_dma (record_at ys (k - 1)).footprint
       → states_before t (entries_before (a + k) more zs) ≡ history_after_steps k (length xs) s (states_before s (entries_before a count xs))
   stretch-cleared zeroed some leads =
       ap (λ i. states_before t (entries_before (a + k) i zs)) zeroed

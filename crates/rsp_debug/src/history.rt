@@ -8,7 +8,7 @@ ghost use Rattle.std.specs.Prelude.{◌≡◌, ◌<◌, ◌≤◌, ◌+◌, ◌-
 ghost use Rattle.rsp_machine.specs.Step.{step_of};
 ghost use Rattle.rsp_machine.specs.Laws.{steps_of, done_steps};
 ghost use Rattle.rsp_machine.specs.Undo.{record_at};
-ghost use Rattle.rsp_machine.specs.Footprint.{can_undo};
+ghost use Rattle.rsp_machine.specs.Footprint.{makes_no_dma};
 ghost use Rattle.rsp_machine.specs.Until.{ends_after, refuses_at};
 ghost use Rattle.rsp_debug.specs.Calls.{IsAfter};
 ghost use Rattle.rsp_debug.specs.History.{history_after, history_after_steps};
@@ -58,7 +58,7 @@ fn previous_entry(n: usize, i: usize) -> usize
 fn can_undo_steps(records: &[Record], made: usize) -> bool
     requires { made ≤ length records.now }
     ensures none { made ≡ 0 → result ≡ true }
-    ensures last { 0 < made → result ≡ can_undo (record_at records.now (made - 1)).footprint }
+    ensures last { 0 < made → result ≡ makes_no_dma (record_at records.now (made - 1)).footprint }
 {
     made == 0 || records[made - 1].can_undo()
 }

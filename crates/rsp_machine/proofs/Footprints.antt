@@ -18,7 +18,7 @@ use Rattle.rsp_regs.specs.Sp.{Sp, after_step, after_register_write}
 use Rattle.rsp_machine.specs.State.{State, IsState, AreFlags, advanced}
 use Rattle.rsp_machine.specs.Host.{moved_in, moved_out}
 use Rattle.rsp_machine.specs.Step.{executed, instruction_effect, moves_sp, after_single_step, step_by, step_of}
-use Rattle.rsp_machine.specs.Footprint.{footprint_of, scalar_in, vectors_in, has_accumulators, has_low, has_vco, has_vcc, has_flags, has_divider, is_store, can_undo, changes_memory, reaches_sp}
+use Rattle.rsp_machine.specs.Footprint.{footprint_of, scalar_in, vectors_in, has_accumulators, has_low, has_vco, has_vcc, has_flags, has_divider, is_store, makes_no_dma, changes_memory, reaches_sp}
 use Rattle.rsp_machine.specs.Undo.{Saved, blank, with_group, record_of, values_saved, restored, undone}
 use Rattle.rsp_machine.specs.LoopTests.{IsRanged}
 use Rattle.rsp_machine.specs.Transfers.{starts_dma, starts_dma_in, starts_dma_at}
@@ -73,7 +73,7 @@ other_byte (suc k) m n a q h = other_byte k m (with_byte n a (byte_at m a)) (a +
 
 -- what a record undoes to s differs from s in the footprint alone
 module _ (s t : State) (r : Saved) where
-  registers_stay : (f : Footprint) → can_undo f ≡ true → undone (record_of f s r) t ≡ s → (n : ℕ) → n ≢ scalar_in f → register t.registers n ≡ register s.registers n
+  registers_stay : (f : Footprint) → makes_no_dma f ≡ true → undone (record_of f s r) t ≡ s → (n : ℕ) → n ≢ scalar_in f → register t.registers n ≡ register s.registers n
   unfolding undone record_of values_saved restored
   registers_stay of.Dma b e n h = cc
   registers_stay (of.Register k) b e n h = sym (other_register t.registers k n _ h) ∙ ap (λ (x : State). register x.registers n) e
@@ -83,7 +83,7 @@ module _ (s t : State) (r : Saved) where
   one_stays : (k n : ℕ) (v : List ℕ) (file : List (List ℕ)) → with_vector t.vectors k v ≡ file → (n < k) ⊎ (k + 1 ≤ n) → vector t.vectors n ≡ vector file n
   one_stays k n v file e h = sym (other_vector t.vectors k n v (apart_one k n h)) ∙ ap (λ l. vector l n) e
 
-  vectors_stay : (f : Footprint) → can_undo f ≡ true → undone (record_of f s r) t ≡ s → (n : ℕ) → (n < (vectors_in f).0) ⊎ ((vectors_in f).0 + (vectors_in f).1 ≤ n) → vector t.vectors n ≡ vector s.vectors n
+  vectors_stay : (f : Footprint) → makes_no_dma f ≡ true → undone (record_of f s r) t ≡ s → (n : ℕ) → (n < (vectors_in f).0) ⊎ ((vectors_in f).0 + (vectors_in f).1 ≤ n) → vector t.vectors n ≡ vector s.vectors n
   unfolding undone record_of values_saved restored
   vectors_stay of.Dma b e n h = cc
   vectors_stay (of.Vector k) b e n h = one_stays k n _ _ (ap (λ (x : State). x.vectors) e) h
@@ -96,7 +96,7 @@ module _ (s t : State) (r : Saved) where
   vectors_stay (of.Divide k) b e n h = one_stays k n _ _ (ap (λ (x : State). x.vectors) e) h
   vectors_stay _ b e n h = ap (λ (x : State). vector x.vectors n) e
 
-  accumulators_stay : (f : Footprint) → can_undo f ≡ true → undone (record_of f s r) t ≡ s → has_accumulators f ≡ false → has_low f ≡ false → t.accumulators ≡ s.accumulators
+  accumulators_stay : (f : Footprint) → makes_no_dma f ≡ true → undone (record_of f s r) t ≡ s → has_accumulators f ≡ false → has_low f ≡ false → t.accumulators ≡ s.accumulators
   unfolding undone record_of values_saved restored
   accumulators_stay of.Dma b e all low = cc
   accumulators_stay (of.Product k) b e all low = cc
@@ -116,7 +116,7 @@ module _ (s t : State) (r : Saved) where
   upper_stays (of.Divide k) e low = record { low = _; is = ap (λ (x : State). x.accumulators) e }
   upper_stays _ e low = cc
 
-  vco_stays : (f : Footprint) → can_undo f ≡ true → undone (record_of f s r) t ≡ s → has_vco f ≡ false → (t.flags.carry ≡ s.flags.carry) × (t.flags.differ ≡ s.flags.differ)
+  vco_stays : (f : Footprint) → makes_no_dma f ≡ true → undone (record_of f s r) t ≡ s → has_vco f ≡ false → (t.flags.carry ≡ s.flags.carry) × (t.flags.differ ≡ s.flags.differ)
   unfolding undone record_of values_saved restored
   vco_stays of.Dma b e h = cc
   vco_stays (of.Sum k) b e h = cc
@@ -125,7 +125,7 @@ module _ (s t : State) (r : Saved) where
   vco_stays of.Flags b e h = cc
   vco_stays _ b e h = (ap (λ (x : State). x.flags.carry) e, ap (λ (x : State). x.flags.differ) e)
 
-  vcc_stays : (f : Footprint) → can_undo f ≡ true → undone (record_of f s r) t ≡ s → has_vcc f ≡ false → (t.flags.compare ≡ s.flags.compare) × (t.flags.clip ≡ s.flags.clip)
+  vcc_stays : (f : Footprint) → makes_no_dma f ≡ true → undone (record_of f s r) t ≡ s → has_vcc f ≡ false → (t.flags.compare ≡ s.flags.compare) × (t.flags.clip ≡ s.flags.clip)
   unfolding undone record_of values_saved restored
   vcc_stays of.Dma b e h = cc
   vcc_stays (of.Choice k) b e h = cc
@@ -133,14 +133,14 @@ module _ (s t : State) (r : Saved) where
   vcc_stays of.Flags b e h = cc
   vcc_stays _ b e h = (ap (λ (x : State). x.flags.compare) e, ap (λ (x : State). x.flags.clip) e)
 
-  vce_stays : (f : Footprint) → can_undo f ≡ true → undone (record_of f s r) t ≡ s → has_flags f ≡ false → t.flags.extra ≡ s.flags.extra
+  vce_stays : (f : Footprint) → makes_no_dma f ≡ true → undone (record_of f s r) t ≡ s → has_flags f ≡ false → t.flags.extra ≡ s.flags.extra
   unfolding undone record_of values_saved restored
   vce_stays of.Dma b e h = cc
   vce_stays (of.Clip k) b e h = cc
   vce_stays of.Flags b e h = cc
   vce_stays _ b e h = ap (λ (x : State). x.flags.extra) e
 
-  divider_stays : (f : Footprint) → can_undo f ≡ true → undone (record_of f s r) t ≡ s → has_divider f ≡ false → t.divider ≡ s.divider
+  divider_stays : (f : Footprint) → makes_no_dma f ≡ true → undone (record_of f s r) t ≡ s → has_divider f ≡ false → t.divider ≡ s.divider
   unfolding undone record_of values_saved restored
   divider_stays of.Dma b e h = cc
   divider_stays (of.Divide k) b e h = cc
@@ -153,12 +153,12 @@ module _ (s t : State) (r : Saved) where
       sym (other_byte 16 s.dmem t.dmem a (x % 4096) (elsewhere_from (x % 4096) a 16 out)) ∙ ap (λ (y : State). get_or y.dmem (x % 4096) 0) e
   dmem_stays _ e x out = ap (λ (y : State). byte_at y.dmem x) e
 
-  memories_stay : (f : Footprint) → can_undo f ≡ true → undone (record_of f s r) t ≡ s → (t.imem ≡ s.imem) × (t.rdram ≡ s.rdram)
+  memories_stay : (f : Footprint) → makes_no_dma f ≡ true → undone (record_of f s r) t ≡ s → (t.imem ≡ s.imem) × (t.rdram ≡ s.rdram)
   unfolding undone record_of values_saved restored
   memories_stay of.Dma b e = cc
   memories_stay _ b e = (ap (λ (x : State). x.imem) e, ap (λ (x : State). x.rdram) e)
 
-  undone_outside : (f : Footprint) → can_undo f ≡ true → undone (record_of f s r) t ≡ s → (reaches_sp f ≡ false → t.sp ≡ after_step s.sp) → StaysOutside f s t
+  undone_outside : (f : Footprint) → makes_no_dma f ≡ true → undone (record_of f s r) t ≡ s → (reaches_sp f ≡ false → t.sp ≡ after_step s.sp) → StaysOutside f s t
   undone_outside f b e sp = record {
     registers = registers_stay f b e;
     vectors = vectors_stay f b e;
@@ -225,7 +225,7 @@ vector_out (of.Sp k) n h = inr (omega arith)
 vector_out of.Dma n h = inr (omega arith)
 vector_out _ n h = h
 
-leaves_memory : (f : Footprint) → can_undo f ≡ true → is_store f ≡ false → changes_memory f ≡ false
+leaves_memory : (f : Footprint) → makes_no_dma f ≡ true → is_store f ≡ false → changes_memory f ≡ false
 leaves_memory f a b = rw (a, b) refl
 
 writes_by_hold : (o : Option Inst) (s t : State) → StaysOutside (footprint_in o s) s t → (may_store_by o s ≡ false → t.dmem ≡ s.dmem)

@@ -14,7 +14,7 @@ use Rattle.rsp_machine.specs.declared.step.StepEnd.TheVariants.{Done, Halted, Re
 use Rattle.rsp_machine.specs.Transfers.{starts_dma, starts_dma_in, starts_dma_at}
 use Rattle.rsp_machine.specs.declared.footprint.Footprint.TheVariants as of
 use Rattle.rsp_regs.specs.Sp.{is_length_register}
-use Rattle.rsp_machine.specs.Footprint.{footprint_of, can_undo, reaches_sp}
+use Rattle.rsp_machine.specs.Footprint.{footprint_of, makes_no_dma, reaches_sp}
 use Rattle.rsp_machine.specs.LoopTests.{tests_of, tests_in, state_after}
 use Rattle.rsp_machine.specs.Until.{may_store_by, may_store_at}
 use Rattle.rsp_machine.specs.declared.footprint.Footprint.{Footprint}
@@ -54,13 +54,13 @@ not_back b false e = ap not e
 
 dma_by : (o : Option Inst) (s : State) (e : StepTests) → Some e ≡ tests_in s o → e.dma ≡ starts_dma_in o
 dma_by None s e h = cc
-dma_by (Some i) s e h = ap (λ (x : StepTests). x.dma) (some_is _ _ h) ∙ not_back (can_undo (footprint_of i s)) (starts_dma i) (dma_of i s)
+dma_by (Some i) s e h = ap (λ (x : StepTests). x.dma) (some_is _ _ h) ∙ not_back (makes_no_dma (footprint_of i s)) (starts_dma i) (dma_of i s)
 
 pub dma-as : (w : ℕ) (s : State) (e : StepTests) → w ≡ word_at s.imem s.pc → Some e ≡ tests_in s (inst_of w) → e.dma ≡ starts_dma_at s
 unfolding starts_dma_at
 dma-as w s e is h = dma_by (inst_of w) s e h ∙ ap (λ v. starts_dma_in (inst_of v)) is
 
-no_dma : (c : Footprint) → reaches_sp c ≡ false → not (can_undo c) ≡ false
+no_dma : (c : Footprint) → reaches_sp c ≡ false → not (makes_no_dma c) ≡ false
 no_dma of.Dma h = cc
 no_dma _ h = refl
 

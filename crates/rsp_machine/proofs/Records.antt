@@ -7,7 +7,7 @@ use Rattle.rsp_machine.specs.State.{State}
 use Rattle.rsp_machine.specs.Step.{step_of}
 use Rattle.rsp_machine.specs.Laws.{steps_of, done_steps, done_of}
 use Rattle.rsp_machine.specs.Undo.{Saved, blank, record_of, after_step_from, record_at, undone}
-use Rattle.rsp_machine.specs.Footprint.{can_undo}
+use Rattle.rsp_machine.specs.Footprint.{makes_no_dma}
 use Rattle.rsp_machine.specs.Transfers.{starts_dma_at}
 use Rattle.rsp_machine.specs.Loop.{AreDone, AreRecorded, HasRecorded, HaveRecorded, LoopEnd}
 use Rattle.rsp_machine.specs.declared.step.StepEnd.TheVariants.{Done}
@@ -49,10 +49,10 @@ each : (i j : ℕ) → i ≡ j → i ≡ j
 each i j e = e
 
 module _ (k : ℕ) (s : State) (old new : List Saved) (a : HaveSaved k s old new) (done : done_of k s ≡ k) where
-  pub recorded-which : (i : ℕ) → i < k → can_undo (record_at new i).footprint ≡ not (starts_dma_at (steps_of i s))
+  pub recorded-which : (i : ℕ) → i < k → makes_no_dma (record_at new i).footprint ≡ not (starts_dma_at (steps_of i s))
   recorded-which i h =
       let told = a.told each i h in
-      ap (λ r. can_undo r.footprint) (record_is (steps_of i s) new i told) ∙ record-dma (steps_of i s) told.before (done-each k s done i h)
+      ap (λ r. makes_no_dma r.footprint) (record_is (steps_of i s) new i told) ∙ record-dma (steps_of i s) told.before (done-each k s done i h)
 
   pub recorded-back : (i : ℕ) → i < k → starts_dma_at (steps_of i s) ≡ false → undone (record_at new i) (steps_of (i + 1) s) ≡ steps_of i s
   recorded-back i h none =
@@ -112,11 +112,11 @@ which-none o dma b e m not_so =
     let started : true ≡ dma = sym (ap not not_so) ∙ not_back b dma m in
     (λ some. let no : false ≡ true = sym (ap is_some e) ∙ some in cc, λ p. let no : true ≡ false = started ∙ p.1 in cc)
 
-pub one-marked : (s : State) (rs : List Saved) (d : Saved) → d ≡ blank → can_undo (record_at rs 0).footprint ≡ not (starts_dma_at (steps_of 0 s)) → can_undo (get_or rs 0 d).footprint ≡ not (starts_dma_at s)
+pub one-marked : (s : State) (rs : List Saved) (d : Saved) → d ≡ blank → makes_no_dma (record_at rs 0).footprint ≡ not (starts_dma_at (steps_of 0 s)) → makes_no_dma (get_or rs 0 d).footprint ≡ not (starts_dma_at s)
 unfolding steps_of
-one-marked s rs d e h = ap (λ (x : Saved). can_undo (get_or rs 0 x).footprint) e ∙ h
+one-marked s rs d e h = ap (λ (x : Saved). makes_no_dma (get_or rs 0 x).footprint) e ∙ h
 
-pub one-back : (k : ℕ) (s t : State) (rs : List Saved) (d : Saved) → k ≡ 1 → d ≡ blank → t ≡ steps_of k s → can_undo (get_or rs 0 d).footprint ≡ not (starts_dma_at s) → can_undo (get_or rs 0 d).footprint ≡ true
+pub one-back : (k : ℕ) (s t : State) (rs : List Saved) (d : Saved) → k ≡ 1 → d ≡ blank → t ≡ steps_of k s → makes_no_dma (get_or rs 0 d).footprint ≡ not (starts_dma_at s) → makes_no_dma (get_or rs 0 d).footprint ≡ true
     → (starts_dma_at (steps_of 0 s) ≡ false → undone (record_at rs 0) (steps_of (0 + 1) s) ≡ steps_of 0 s) → undone (get_or rs 0 d) t ≡ s
 unfolding steps_of
 one-back k s t rs d e b there m leads h =

@@ -27,7 +27,7 @@ use Rattle.rsp_machine.specs.Host.{register_written}
 use Rattle.rsp_machine.specs.declared.step.StepEnd.TheVariants.{Done, Halted}
 use Rattle.rsp_regs.specs.Sp.{is_length_register}
 use Rattle.rsp_machine.specs.Undo.{Saved, record_of, values_saved, restored, undone, after_instruction, after_step_from}
-use Rattle.rsp_machine.specs.Footprint.{footprint_of, can_undo, changes_memory}
+use Rattle.rsp_machine.specs.Footprint.{footprint_of, makes_no_dma, changes_memory}
 use Rattle.rsp_machine.specs.LoopTests.{IsRanged}
 use Rattle.rsp_machine.specs.Transfers.{starts_dma, starts_dma_in, starts_dma_at}
 use Rattle.rsp_machine.specs.Until.{may_store_by, may_store_at}
@@ -149,16 +149,16 @@ unfolding record_of values_saved
 footprint_kept of.ProgramCounters s r = refl
 footprint_kept _ s r = refl
 
-load_undone : (group : Bool) (vt : ℕ) → can_undo (if group then of.Group (vt - vt % 8) else of.Vector vt) ≡ true
+load_undone : (group : Bool) (vt : ℕ) → makes_no_dma (if group then of.Group (vt - vt % 8) else of.Vector vt) ≡ true
 load_undone true vt = refl
 load_undone false vt = refl
 
-write_undone : (b : Bool) → can_undo (if b then of.Dma else of.Sp 0) ≡ not b
+write_undone : (b : Bool) → makes_no_dma (if b then of.Dma else of.Sp 0) ≡ not b
 write_undone true = refl
 write_undone false = refl
 
 -- an instruction's change says whether the instruction starts a DMA
-pub dma_of : (i : Inst) (s : State) → can_undo (footprint_of i s) ≡ not (starts_dma i)
+pub dma_of : (i : Inst) (s : State) → makes_no_dma (footprint_of i s) ≡ not (starts_dma i)
 unfolding footprint_of
 dma_of (BranchSign Bltz rs offset) s = refl
 dma_of (BranchSign Bgez rs offset) s = refl
@@ -179,12 +179,12 @@ dma_of _ s = refl
 
 -- and so does the record of a step that is Done
 dma_by : (b : Bool) (o : Option Inst) (word : ℕ) (s : State) (r : Saved) → (if b then (Halted, s) else step_by o word s).0 ≡ Done
-    → can_undo (if b then r else after_instruction record_of o s r).footprint ≡ not (starts_dma_in o)
+    → makes_no_dma (if b then r else after_instruction record_of o s r).footprint ≡ not (starts_dma_in o)
 dma_by true o word s r e = cc
 dma_by false None word s r e = cc
-dma_by false (Some i) word s r e = ap can_undo (footprint_kept (footprint_of i s) s r) ∙ dma_of i s
+dma_by false (Some i) word s r e = ap makes_no_dma (footprint_kept (footprint_of i s) s r) ∙ dma_of i s
 
-pub record-dma : (s : State) (r : Saved) → (step_of s).0 ≡ Done → can_undo (after_step_from record_of s r).footprint ≡ not (starts_dma_at s)
+pub record-dma : (s : State) (r : Saved) → (step_of s).0 ≡ Done → makes_no_dma (after_step_from record_of s r).footprint ≡ not (starts_dma_at s)
 unfolding after_step_from step_of starts_dma_at
 record-dma s r e = dma_by s.sp.halted (inst_of (word_at s.imem s.pc)) (word_at s.imem s.pc) s r e
 

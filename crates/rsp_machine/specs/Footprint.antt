@@ -143,13 +143,13 @@ is_store (of.Bytes a) = true
 is_store _ = false
 
 -- whether an instruction with it starts no DMA, so that its record undoes it
-abbrev pub can_undo : Footprint → Bool
-can_undo of.Dma = false
-can_undo _ = true
+abbrev pub makes_no_dma : Footprint → Bool
+makes_no_dma of.Dma = false
+makes_no_dma _ = true
 
 -- whether an instruction with it may change DMEM: it stores there, or it starts a DMA
 abbrev pub changes_memory : Footprint → Bool
-changes_memory f = is_store f || not (can_undo f)
+changes_memory f = is_store f || not (makes_no_dma f)
 
 -- whether an instruction with it may have read or written the SP registers; any other leaves them
 abbrev pub reaches_sp : Footprint → Bool

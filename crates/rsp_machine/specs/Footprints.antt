@@ -10,7 +10,7 @@ use Rattle.rsp_regs.specs.Sp.{after_step}
 use Rattle.rsp_machine.specs.State.{State, IsState}
 use Rattle.rsp_machine.specs.Step.{step_of}
 use Rattle.rsp_machine.specs.Transfers.{starts_dma_at}
-use Rattle.rsp_machine.specs.Footprint.{footprint_of, scalar_in, vectors_in, has_accumulators, has_low, has_vco, has_vcc, has_flags, has_divider, can_undo, reaches_sp}
+use Rattle.rsp_machine.specs.Footprint.{footprint_of, scalar_in, vectors_in, has_accumulators, has_low, has_vco, has_vcc, has_flags, has_divider, makes_no_dma, reaches_sp}
 use Rattle.rsp_machine.specs.Writes.{writes_of}
 use Rattle.rsp_machine.specs.Pass.{pass_of}
 use Rattle.rsp_machine.specs.declared.step.StepEnd.TheVariants.{Done}
@@ -47,7 +47,7 @@ pub record StaysOutside (f : Footprint) (s t : State) : Type 0 where
   pub vce : has_flags f ≡ false → t.flags.extra ≡ s.flags.extra
   pub divider : has_divider f ≡ false → t.divider ≡ s.divider
   pub dmem : (x : ℕ) → IsOutside f x → byte_at t.dmem x ≡ byte_at s.dmem x
-  pub memories : can_undo f ≡ true → (t.imem ≡ s.imem) × (t.rdram ≡ s.rdram)
+  pub memories : makes_no_dma f ≡ true → (t.imem ≡ s.imem) × (t.rdram ≡ s.rdram)
   pub sp : reaches_sp f ≡ false → t.sp ≡ after_step s.sp
 
 -- A step changes nothing but what its footprint names.

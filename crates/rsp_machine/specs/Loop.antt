@@ -4,7 +4,7 @@ use Rattle.rsp_machine.specs.State.{State}
 use Rattle.rsp_machine.specs.Step.{step_of}
 use Rattle.rsp_machine.specs.Laws.{steps_of, done_steps, done_of}
 use Rattle.rsp_machine.specs.Undo.{Saved, after_step_from, record_at, undone}
-use Rattle.rsp_machine.specs.Footprint.{can_undo}
+use Rattle.rsp_machine.specs.Footprint.{makes_no_dma}
 use Rattle.rsp_machine.specs.Transfers.{starts_dma_at}
 use Rattle.rsp_machine.specs.LoopTests.{IsRanged}
 use Rattle.rsp_decode.specs.declared.scalar.MoveOp.{MoveOp}
@@ -44,7 +44,7 @@ pub record AreRecorded (k : ℕ) (s t : State) (old new : List Saved) : Type 0 w
   pub within : k ≤ length old
   pub made : AreDone k s t
   pub before : (i : ℕ) → i + 1 < k → starts_dma_at (steps_of i s) ≡ false
-  pub which : (i : ℕ) → i < k → can_undo (record_at new i).footprint ≡ not (starts_dma_at (steps_of i s))
+  pub which : (i : ℕ) → i < k → makes_no_dma (record_at new i).footprint ≡ not (starts_dma_at (steps_of i s))
   pub back : (i : ℕ) → i < k → starts_dma_at (steps_of i s) ≡ false → undone (record_at new i) (steps_of (i + 1) s) ≡ steps_of i s
   pub rest : drop k new ≡ drop k old
   pub len : length new ≡ length old

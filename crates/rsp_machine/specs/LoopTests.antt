@@ -6,7 +6,7 @@ use Rattle.rsp_loadstore.specs.File.{IsFile}
 use Rattle.rsp_decode.specs.declared.inst.Inst.{Inst}
 use Rattle.rsp_machine.specs.State.{State}
 use Rattle.rsp_machine.specs.Step.{executed}
-use Rattle.rsp_machine.specs.Footprint.{footprint_of, changes_memory, can_undo, reaches_sp}
+use Rattle.rsp_machine.specs.Footprint.{footprint_of, changes_memory, makes_no_dma, reaches_sp}
 use Rattle.rsp_machine.specs.declared.footprint.Footprint.{Footprint}
 use Rattle.rsp_machine.specs.declared.footprint.StepTests.{StepTests}
 use Rattle.rsp_machine.specs.declared.footprint.Footprint.TheVariants as of
@@ -36,7 +36,7 @@ pub record IsRanged (s : State) : Type 0 where
 
 -- what the loop of steps tests after an instruction with a footprint
 abbrev pub tests_of : Footprint → StepTests
-tests_of f = record { sp = reaches_sp f; dmem = changes_memory f; dma = not (can_undo f) }
+tests_of f = record { sp = reaches_sp f; dmem = changes_memory f; dma = not (makes_no_dma f) }
 
 -- what the loop tests after an instruction, if there is one; and the state after it
 abbrev pub tests_in : State → Option Inst → Option StepTests

@@ -13,7 +13,7 @@ use Rattle.rsp_regs.specs.Sp.{Sp, start}
 use Rattle.rsp_scalar.specs.Registers.{register, with_register}
 use Rattle.rsp_loadstore.specs.File.{vector, with_vector}
 use Rattle.rsp_machine.specs.State.{State}
-use Rattle.rsp_machine.specs.Footprint.{footprint_of, can_undo}
+use Rattle.rsp_machine.specs.Footprint.{footprint_of, makes_no_dma}
 use Rattle.rsp_machine.specs.declared.footprint.Footprint.{Footprint}
 use Rattle.rsp_machine.specs.declared.footprint.Footprint.TheVariants as of
 
@@ -127,4 +127,4 @@ record_at records i = slice_index_or records i blank
 
 -- the state before the step, if the record undoes it; else nothing changes
 unfoldable pub undone : Saved → State → State
-undone r s = if can_undo r.footprint then before r.pc s.pc (restored r.footprint r s) else s
+undone r s = if makes_no_dma r.footprint then before r.pc s.pc (restored r.footprint r s) else s

@@ -2,7 +2,7 @@
 
 ghost use Rattle.std.specs.Prelude.{◌≡◌, ◌<◌};
 ghost use Rattle.rsp_decode.specs.Table.{IsInstruction};
-ghost use Rattle.rsp_machine.specs.Footprint.{footprint_of, is_store, can_undo};
+ghost use Rattle.rsp_machine.specs.Footprint.{footprint_of, is_store, makes_no_dma};
 ghost use Rattle.rsp_machine.specs.LoopTests.{IsFootprint, tests_of};
 
 use crate::machine::Machine;
@@ -63,8 +63,8 @@ impl Footprint {
     {
         StepTests {
             sp: matches!(self, Footprint::Sp(_) | Footprint::Dma),
-            dmem: self.is_store() || !self.can_undo(),
-            dma: !self.can_undo(),
+            dmem: self.is_store() || !self.makes_no_dma(),
+            dma: !self.makes_no_dma(),
         }
     }
 
@@ -76,10 +76,10 @@ impl Footprint {
         matches!(self, Footprint::Bytes(_))
     }
 
-    /// Whether the instruction can be undone by its record.
+    /// Whether the instruction starts no DMA, so that its record undoes it.
     #[inline(always)]
-    pub(crate) fn can_undo(self) -> bool
-        ensures { result ≡ can_undo self }
+    pub(crate) fn makes_no_dma(self) -> bool
+        ensures { result ≡ makes_no_dma self }
     {
         !matches!(self, Footprint::Dma)
     }

@@ -7,7 +7,7 @@
 ghost use Rattle.std.specs.Prelude.{◌≡◌, ◌<◌, ◌≤◌};
 ghost use Rattle.rsp_loadstore.specs.File.{vector};
 ghost use Rattle.rsp_machine.specs.Undo.{blank, group_at, with_low_of};
-ghost use Rattle.rsp_machine.specs.Footprint.{can_undo};
+ghost use Rattle.rsp_machine.specs.Footprint.{makes_no_dma};
 
 use crate::footprint::Footprint;
 use crate::machine::Machine;
@@ -82,9 +82,9 @@ impl Record {
     /// Whether [`Machine::undo`] undoes the step. It doesn't if the step started a DMA.
     #[inline(always)]
     pub fn can_undo(&self) -> bool
-        ensures { result ≡ can_undo self.now.footprint }
+        ensures { result ≡ makes_no_dma self.now.footprint }
     {
-        self.footprint.can_undo()
+        self.footprint.makes_no_dma()
     }
 
     /// Saves vector register `n` and the accumulators.

@@ -3,7 +3,7 @@ use Rattle.std.specs.Option.{option_copied_mut}
 use Rattle.rsp_machine.specs.State.{State}
 use Rattle.rsp_machine.specs.Step.{step_of}
 use Rattle.rsp_machine.specs.Undo.{Saved}
-use Rattle.rsp_machine.specs.Footprint.{can_undo}
+use Rattle.rsp_machine.specs.Footprint.{makes_no_dma}
 use Rattle.rsp_machine.proofs.Records.{recorded-none, recorded-one, none-stuck}
 use Rattle.std.proofs.lemmas.Option.{slice_get_within}
 use Rattle.rsp_debug.specs.History.{history_after_steps, history_after}
@@ -82,8 +82,8 @@ returns-clause-past g c =
     elim c.if-can_undo.branch [
       | then-can_undo w ↦ stretch-kept a 1 k i.count c.if-can_undo.self s t xs ys zs h put
           (w.self-is ∙ w.min-self-inside.ensures ∙ ap (λ j. min (i.count + j) c.len-depth.result) (sym one) ∙ ap (min (i.count + k)) depth)
-          (λ some. sym w.if-can_undo.true ∙ c.can_undo.ensures ∙ ap (λ (r : Saved). can_undo r.footprint) record_is)
-      | else-can_undo w ↦ stretch-cleared a 1 k i.count c.if-can_undo.self s t xs ys zs h w.self-is (omega (arith, one)) (sym w.if-can_undo.false ∙ c.can_undo.ensures ∙ ap (λ (r : Saved). can_undo r.footprint) record_is)
+          (λ some. sym w.if-can_undo.true ∙ c.can_undo.ensures ∙ ap (λ (r : Saved). makes_no_dma r.footprint) record_is)
+      | else-can_undo w ↦ stretch-cleared a 1 k i.count c.if-can_undo.self s t xs ys zs h w.self-is (omega (arith, one)) (sym w.if-can_undo.false ∙ c.can_undo.ensures ∙ ap (λ (r : Saved). makes_no_dma r.footprint) record_is)
     ] in
     ap (λ j. states_before t (entries_before (a + j) c.if-can_undo.self zs)) (sym one)
     ∙ made ∙ one-more k (length xs) s (states_before s (entries_before a i.count xs)) one
