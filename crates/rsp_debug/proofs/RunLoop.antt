@@ -77,7 +77,7 @@ move-next refuses moves s same h free =
     let o = inst_of (word_at s.imem s.pc) in is_next s.sp.halted _ o (asked-is refuses moves same o ∙ h) (sym (stuck_is s.sp.halted o) ∙ free)
 
 -- a test that ends no run
-pub never-ends : (s : State) (X : Type 0) → ends_after (λ pc word stored. false) s ≡ true → X
+pub never-ends : (s : State) (X : Type 0) → ends_after (λ pc word changes_memory. false) s ≡ true → X
 unfolding ends_after
 never-ends s X h = cc
 
@@ -166,16 +166,16 @@ module _ (b : List Bool) (snapshots : List (Option Snapshot)) (moves : Moves) (n
       subst (λ (x : Option Reason). IsCome b snapshots moves n s o t x) (sym is) (subst (λ (x : ℕ). IsCome b snapshots moves n s x t (hit_in b snapshots t)) sum one)
 
   -- the steps of a run that nothing ends
-  pub come-all : (j : ℕ) (t : State) → Asks (λ pc word stored. false) b snapshots → differs snapshots s.dmem ≡ None → IsAfter j s t → j ≤ n → ((i : ℕ) → i < j → is_at_move moves (steps_of i s) ≡ false) → IsCome b snapshots moves n s j t None
+  pub come-all : (j : ℕ) (t : State) → Asks (λ pc word changes_memory. false) b snapshots → differs snapshots s.dmem ≡ None → IsAfter j s t → j ≤ n → ((i : ℕ) → i < j → is_at_move moves (steps_of i s) ≡ false) → IsCome b snapshots moves n s j t None
   unfolding steps_of ends_after
   come-all zero t asks same after within free = subst (λ (x : State). IsCome b snapshots moves n s zero x None) (sym after.reached) (come-none zero refl same)
   come-all (suc j) t asks same after within free =
       let m = steps_of j s in
-      let before = come_on (λ pc word stored. false) zero (suc j) s t asks (come-none zero refl same) after (omega (arith, within)) (λ i h. refl) free j (omega arith) in
+      let before = come_on (λ pc word changes_memory. false) zero (suc j) s t asks (come-none zero refl same) after (omega (arith, within)) (λ i h. refl) free j (omega arith) in
       let here : zero + j ≡ j = omega arith in
       let done = after.done j (omega arith) in
       let one = come-one j m (subst (λ (x : ℕ). IsCome b snapshots moves n s x m None) here before) t (omega (arith, within)) done after.reached (free j (omega arith)) in
-      let nothing = ap (hit_in b snapshots) after.reached ∙ lets_pass (λ pc word stored. false) m asks done (before.same refl) refl in
+      let nothing = ap (hit_in b snapshots) after.reached ∙ lets_pass (λ pc word changes_memory. false) m asks done (before.same refl) refl in
       let count : j + 1 ≡ suc j = omega arith in
       subst (λ (x : ℕ). IsCome b snapshots moves n s x t None) count (subst (λ (o : Option Reason). IsCome b snapshots moves n s (j + 1) t o) nothing one)
 

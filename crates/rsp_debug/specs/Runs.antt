@@ -33,8 +33,8 @@ hit_in breaks snapshots s = first_of (option_map Watched (differs snapshots s.dm
 -- A test ends a stretch of steps wherever there may be a watch or a breakpoint to stop at: if it doesn't, pc has no breakpoint, and the
 -- step before left DMEM as it was, or there are no watches.
 abbrev pub Asks : (ℕ → ℕ → Bool → Bool) → List Bool → List (Option Snapshot) → Type 0
-Asks ends breaks snapshots = (pc word : ℕ) (stored : Bool) → ends pc word stored ≡ false
-    → (is_break breaks pc ≡ false) × ((stored ≡ false) ⊎ (length snapshots ≡ 0))
+Asks ends breaks snapshots = (pc word : ℕ) (changes_memory : Bool) → ends pc word changes_memory ≡ false
+    → (is_break breaks pc ≡ false) × ((changes_memory ≡ false) ⊎ (length snapshots ≡ 0))
 
 -- A test refuses exactly some moves.
 abbrev pub Refuses : (MoveOp → ℕ → Bool) → Moves → Type 0

@@ -58,13 +58,13 @@ impl<'a> Until for StopConditions<'a> {
     ghost use Rattle.rsp_debug.specs.Stops.{is_break};
     ghost use Rattle.rsp_debug.specs.Runs.{has_move};
 
-    ghost ends = { λ s pc word stored. is_break s.breaks.now pc || (stored && not (length s.snapshots.now == 0)) };
+    ghost ends = { λ s pc word changes_memory. is_break s.breaks.now pc || (changes_memory && not (length s.snapshots.now == 0)) };
 
     ghost refuses = { λ s op register. has_move s.moves op register };
 
     #[inline(always)]
-    fn ends(&self, pc: u16, _word: u32, stored: bool) -> bool {
-        self.breaks.contains(pc) || (stored && !self.snapshots.is_empty())
+    fn ends(&self, pc: u16, _word: u32, changes_memory: bool) -> bool {
+        self.breaks.contains(pc) || (changes_memory && !self.snapshots.is_empty())
     }
 
     #[inline(always)]

@@ -137,12 +137,12 @@ impl Until for Moves {
     ghost use Rattle.std.specs.Prelude.{false};
     ghost use Rattle.rsp_debug.specs.Runs.{has_move};
 
-    ghost ends = { λ m pc word stored. false };
+    ghost ends = { λ m pc word changes_memory. false };
 
     ghost refuses = { λ m op register. has_move m op register };
 
     #[inline(always)]
-    fn ends(&self, _pc: u16, _word: u32, _stored: bool) -> bool {
+    fn ends(&self, _pc: u16, _word: u32, _changes_memory: bool) -> bool {
         false
     }
 

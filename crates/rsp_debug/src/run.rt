@@ -84,7 +84,7 @@ fn run_unrecorded<A: Acc>(
 ) -> Stop
     requires unkept { history.now.depth ≡ 0 }
     requires same { differs conditions.now.snapshots.now machine.old.dmem ≡ None }
-    requires asks { Asks (λ pc word stored. false) conditions.now.breaks.now conditions.now.snapshots.now }
+    requires asks { Asks (λ pc word changes_memory. false) conditions.now.breaks.now conditions.now.snapshots.now }
     ensures stop { IsStop conditions.now.breaks.now (watches_of conditions.now.snapshots.now) (steps_to_move conditions.now.moves n machine.old) machine.old machine.new result }
     ensures past { states_before machine.new history.now.newest ≡ history_after_steps result.steps history.now.depth machine.old (states_before machine.old history.now.newest) }
 {

@@ -209,7 +209,7 @@ module _ (refuses : MoveOp → ℕ → Bool) (w : ℕ) (s t u : State) (r : Opti
   turn-stops true stops = (refl, sym turn_dma ∙ not-false e.dma stops)
   turn-stops false stops = cc
 
-  pub turn-ends : (ends : ℕ → ℕ → Bool → Bool) (v : ℕ) → v ≡ word_at u.imem u.pc → ends_after ends s ≡ ends u.pc v e.dmem
+  pub turn-ends : (ends : ℕ → ℕ → Bool → Bool) (v : ℕ) → v ≡ word_at u.imem u.pc → ends_after ends s ≡ ends u.pc v e.changes_memory
   unfolding ends_after
   turn-ends ends v is =
       ap (λ (x : State). ends x.pc (word_at x.imem x.pc) (may_store_at s)) (ap (λ x. x.1) turn-done)
@@ -329,7 +329,7 @@ pub never-refuses : (s : State) (X : Type 0) → refuses_at (λ op register. fal
 unfolding refuses_at
 never-refuses s X h = let no : false ≡ true = sym (never_by (inst_of (word_at s.imem s.pc))) ∙ h in cc
 
-pub ends-stuck : (k : ℕ) (s t : State) → LoopEnd false (λ pc word stored. false) (λ op register. false) k s t → done_steps (step_of t).0 ≡ 0
+pub ends-stuck : (k : ℕ) (s t : State) → LoopEnd false (λ pc word changes_memory. false) (λ op register. false) k s t → done_steps (step_of t).0 ≡ 0
 unfolding ends_after
 ends-stuck k s t (inl stuck) = stuck
 ends-stuck k s t (inr (inl refused)) = never-refuses t _ refused

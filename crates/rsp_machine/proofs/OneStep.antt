@@ -70,11 +70,11 @@ dma-free (Some i) s e h none =
     let same = some_is e (tests_of (footprint_of i s)) h in
     ap (λ (x : StepTests). x.dma) same ∙ no_dma (footprint_of i s) (ap (λ (x : StepTests). x.sp) (sym same) ∙ none)
 
-stored_by : (o : Option Inst) (s : State) (e : StepTests) → Some e ≡ tests_in s o → e.dmem ≡ may_store_by o s
+stored_by : (o : Option Inst) (s : State) (e : StepTests) → Some e ≡ tests_in s o → e.changes_memory ≡ may_store_by o s
 stored_by None s e h = cc
-stored_by (Some i) s e h = ap (λ (x : StepTests). x.dmem) (some_is _ _ h)
+stored_by (Some i) s e h = ap (λ (x : StepTests). x.changes_memory) (some_is _ _ h)
 
-pub stored-as : (w : ℕ) (s : State) (e : StepTests) → w ≡ word_at s.imem s.pc → Some e ≡ tests_in s (inst_of w) → e.dmem ≡ may_store_at s
+pub stored-as : (w : ℕ) (s : State) (e : StepTests) → w ≡ word_at s.imem s.pc → Some e ≡ tests_in s (inst_of w) → e.changes_memory ≡ may_store_at s
 unfolding may_store_at
 stored-as w s e is h = stored_by (inst_of w) s e h ∙ ap (λ v. may_store_by (inst_of v) s) is
 

@@ -98,7 +98,7 @@ unfolding steps_of
 recorded-one k s t e done there = (sym (done-each k s done 0 (omega (arith, e))), there ∙ ap (λ i. steps_of i s) e)
 
 -- none, where no test ends or refuses
-pub none-stuck : (k : ℕ) (s t : State) → k ≡ 0 → LoopEnd true (λ pc word stored. false) (λ op register. false) k s t → done_steps (step_of t).0 ≡ 0
+pub none-stuck : (k : ℕ) (s t : State) → k ≡ 0 → LoopEnd true (λ pc word changes_memory. false) (λ op register. false) k s t → done_steps (step_of t).0 ≡ 0
 none-stuck k s t e (inl stuck) = stuck
 none-stuck k s t e (inr (inl refused)) = never-refuses t _ refused
 none-stuck k s t e (inr (inr last)) = absurd (omega (arith, last.0, e))

@@ -36,7 +36,7 @@ pub record IsRanged (s : State) : Type 0 where
 
 -- what the loop of steps tests after an instruction with a footprint
 abbrev pub tests_of : Footprint → StepTests
-tests_of f = record { sp = reaches_sp f; dmem = changes_memory f; dma = not (makes_no_dma f) }
+tests_of f = record { sp = reaches_sp f; changes_memory = changes_memory f; dma = not (makes_no_dma f) }
 
 -- what the loop tests after an instruction, if there is one; and the state after it
 abbrev pub tests_in : State → Option Inst → Option StepTests

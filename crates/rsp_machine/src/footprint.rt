@@ -50,7 +50,7 @@ pub(crate) struct StepTests {
     /// Whether the instruction may have read or written the SP registers.
     pub(crate) sp: bool,
     /// Whether it may have written DMEM.
-    pub(crate) dmem: bool,
+    pub(crate) changes_memory: bool,
     /// Whether it started a DMA.
     pub(crate) dma: bool,
 }
@@ -63,7 +63,7 @@ impl Footprint {
     {
         StepTests {
             sp: matches!(self, Footprint::Sp(_) | Footprint::Dma),
-            dmem: self.is_store() || !self.makes_no_dma(),
+            changes_memory: self.is_store() || !self.makes_no_dma(),
             dma: !self.makes_no_dma(),
         }
     }

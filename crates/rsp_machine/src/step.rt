@@ -96,7 +96,7 @@ impl<A: Acc> Machine<A> {
                 break;
             }
             word = self.word_at(counters);
-            if until.ends(counters.pc.get(), word, tests.dmem) {
+            if until.ends(counters.pc.get(), word, tests.changes_memory) {
                 break;
             }
         }

@@ -21,12 +21,12 @@ pub trait Until {
     /// Whether a run ends before an MFC0 or MTC0 of an SP register.
     ghost refuses: { Self → MoveOp → ℕ → Bool };
 
-    /// Whether a run ends here. `pc` and `word` are those of the next instruction. `stored` is false only if the step before
-    /// left DMEM as it was.
-    fn ends(&self, pc: u16, word: u32, stored: bool) -> bool
+    /// Whether a run ends here. `pc` and `word` are those of the next instruction. `changes_memory` is false only if the step
+    /// before left DMEM as it was.
+    fn ends(&self, pc: u16, word: u32, changes_memory: bool) -> bool
         requires below { pc < 4096 }
         requires whole { pc % 4 ≡ 0 }
-        ensures { result ≡ ends self.now pc word stored };
+        ensures { result ≡ ends self.now pc word changes_memory };
 
     /// Whether a run ends before this move of an SP register. It is called only if the next instruction is one, also before the
     /// first step, and costs other instructions nothing.
@@ -42,12 +42,12 @@ pub struct Never;
 impl Until for Never {
     ghost use Rattle.std.specs.Prelude.{false};
 
-    ghost ends = { λ u pc word stored. false };
+    ghost ends = { λ u pc word changes_memory. false };
 
     ghost refuses = { λ u op register. false };
 
     #[inline(always)]
-    fn ends(&self, _pc: u16, _word: u32, _stored: bool) -> bool {
+    fn ends(&self, _pc: u16, _word: u32, _changes_memory: bool) -> bool {
         false
     }
 

@@ -30,7 +30,7 @@ pub run_to-requires-2-clause-same : goal.run_to-requires-2-clause-same
 run_to-requires-2-clause-same g c = differs-empty _ _ refl
 
 pub run_to-requires-2-clause-asks : goal.run_to-requires-2-clause-asks
-run_to-requires-2-clause-asks g c pc word stored e = (empty-break c.args.breaks.now (pc / 4) (eqb-true _ _ (sym c.is_empty-2.ensures ∙ c.if-not-is_empty-2.false)), inr refl)
+run_to-requires-2-clause-asks g c pc word changes_memory e = (empty-break c.args.breaks.now (pc / 4) (eqb-true _ _ (sym c.is_empty-2.ensures ∙ c.if-not-is_empty-2.false)), inr refl)
 
 pub returns-clause-stop : goal.returns-clause-stop
 returns-clause-stop g c = unwatched-stop _ _ _ _ _ _ c.run_to-2.ensures.stop (c.is_empty.ensures.0 c.if-not-is_empty.false)

@@ -49,7 +49,7 @@ loop-made-preserved g c =
     record {
       count = i.count;
       within = omega (arith, c.loop-made-test.true);
-      come = come-more x.breaks.now x.snapshots.now x.moves n s (λ pc word stored. true) k 1 (k + 1) l.machine t l.found c.if-tests.found (λ pc word stored no. cc)
+      come = come-more x.breaks.now x.snapshots.now x.moves n s (λ pc word changes_memory. true) k 1 (k + 1) l.machine t l.found c.if-tests.found (λ pc word changes_memory no. cc)
           i.come (no-one l.found c.is_none.result c.is_none.ensures c.if-is_none.true) after (λ q h. absurd (omega (arith, h))) (λ q h. unmoved x.moves (steps_of q l.machine) c.requires.unmoved) refl
           (omega (arith, c.loop-made-test.true)) (omega arith) hit;
       past = past-then k 1 (k + 1) c.args.history.now.depth l.history.depth s l.machine _ _ _ (e.past ∙ sym (one-more 1 l.history.depth l.machine _ refl)) i.depth i.past i.come.after.reached refl;

@@ -50,7 +50,7 @@ loop-made-preserved g c =
     let inside : c.slot.result < length l.slots = omega (arith, c.slot.ensures, c.requires.slots l.made c.loop-made-test.true, i.told.len) in
     let told = turn-told k.saves k.slot refuses l.word l.made c.slot.result o s t r e c.args.slots.now l.slots x (get_or l.slots c.slot.result c.index-slots-slot.result)
     turn.executed c.in-Some.is i.run i.told c.slot.ensures inside c.execute.ensures.recorder (ranged-at l.counters l.self c.vector_ranges.ensures) in
-    let passes = turn-ends refuses l.word s t u r e single turn ends next.result next.ensures ∙ ap (λ (p : ProgramCounters). ends p.pc next.result e.dmem) (sym c.counters.view_is) ∙ ap (λ pc. ends pc next.result e.dmem) (sym c.get.ensures.value) ∙ sym c.ends.ensures ∙ c.if-ends.false in
+    let passes = turn-ends refuses l.word s t u r e single turn ends next.result next.ensures ∙ ap (λ (p : ProgramCounters). ends p.pc next.result e.changes_memory) (sym c.counters.view_is) ∙ ap (λ pc. ends pc next.result e.changes_memory) (sym c.get.ensures.value) ∙ sym c.ends.ensures ∙ c.if-ends.false in
     record {
       within = omega (arith, c.loop-made-test.true);
       run = made-more l.made (l.made + 1) o s u i.run (turn-done refuses l.word s t u r e single turn) (omega arith);
@@ -171,6 +171,6 @@ returns-clause-ends g c less =
           inr (inr (
             omega (arith, w.made-is),
             inr (ap (λ n. ends_after ends (steps_of n o)) last ∙ ap (ends_after ends) (sym i.run.state)
-                ∙ turn-ends refuses l.word s _ _ _ e single turn ends next.result next.ensures ∙ ap (λ (p : ProgramCounters). ends p.pc next.result e.dmem) (sym w.counters.view_is) ∙ ap (λ pc. ends pc next.result e.dmem) (sym w.get.ensures.value) ∙ sym w.ends.ensures ∙ w.if-ends.true),
+                ∙ turn-ends refuses l.word s _ _ _ e single turn ends next.result next.ensures ∙ ap (λ (p : ProgramCounters). ends p.pc next.result e.changes_memory) (sym w.counters.view_is) ∙ ap (λ pc. ends pc next.result e.changes_memory) (sym w.get.ensures.value) ∙ sym w.ends.ensures ∙ w.if-ends.true),
           ))
     ]
