@@ -9,7 +9,7 @@ use Rattle.rsp_decode.specs.Table.{inst_of}
 use Rattle.rsp_machine.specs.State.{State}
 use Rattle.rsp_machine.specs.Step.{step_of}
 use Rattle.rsp_machine.specs.Laws.{steps_of}
-use Rattle.rsp_machine.specs.Until.{may_store_at, ends_after, refuses_at}
+use Rattle.rsp_machine.specs.Until.{changes_memory_at, ends_after, refuses_at}
 use Rattle.rsp_machine.specs.declared.step.StepEnd.TheVariants.{Done}
 use Rattle.rsp_machine.proofs.Undo.{memory-kept}
 use Rattle.rsp_debug.specs.declared.stop.Reason.{Reason}
@@ -133,7 +133,7 @@ module _ (b : List Bool) (snapshots : List (Option Snapshot)) (moves : Moves) (n
   unfolding ends_after
   lets_pass ends m asks done same passes =
       let t = (step_of m).1 in
-      let none = asks t.pc (word_at t.imem t.pc) (may_store_at m) passes in
+      let none = asks t.pc (word_at t.imem t.pc) (changes_memory_at m) passes in
       let still : differs snapshots t.dmem ≡ None = elim none.1 [
         | inl left ↦ ap (differs snapshots) (memory-kept m done left) ∙ same
         | inr empty ↦ differs-empty snapshots t.dmem empty

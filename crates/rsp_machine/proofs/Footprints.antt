@@ -22,7 +22,7 @@ use Rattle.rsp_machine.specs.Footprint.{footprint_of, scalar_in, vectors_in, has
 use Rattle.rsp_machine.specs.Undo.{Saved, blank, with_group, record_of, values_saved, restored, undone}
 use Rattle.rsp_machine.specs.LoopTests.{IsRanged}
 use Rattle.rsp_machine.specs.Transfers.{starts_dma, starts_dma_in, starts_dma_at}
-use Rattle.rsp_machine.specs.Until.{may_store_by, may_store_at}
+use Rattle.rsp_machine.specs.Until.{changes_memory_by, changes_memory_at}
 use Rattle.rsp_machine.specs.Writes.{vector_in, writes_by, writes_of}
 use Rattle.rsp_machine.specs.Footprints.{footprint_in, footprint_at, IsOutside, SameUpper, StaysOutside, FootprintsHold, WritesHold}
 use Rattle.rsp_machine.specs.declared.step.StepEnd.TheVariants.{Done, Halted}
@@ -228,7 +228,7 @@ vector_out _ n h = h
 leaves_memory : (f : Footprint) → makes_no_dma f ≡ true → is_store f ≡ false → changes_memory f ≡ false
 leaves_memory f a b = rw (a, b) refl
 
-writes_by_hold : (o : Option Inst) (s t : State) → StaysOutside (footprint_in o s) s t → (may_store_by o s ≡ false → t.dmem ≡ s.dmem)
+writes_by_hold : (o : Option Inst) (s t : State) → StaysOutside (footprint_in o s) s t → (changes_memory_by o s ≡ false → t.dmem ≡ s.dmem)
     → ((n : ℕ) → n ≢ (writes_by o s).scalar → register t.registers n ≡ register s.registers n)
     × (((n : ℕ) → (n < (writes_by o s).vector) ⊎ ((writes_by o s).vector + (vectors_in (footprint_in o s)).1 ≤ n) → vector t.vectors n ≡ vector s.vectors n)
     × ((writes_by o s).stored ≡ false → starts_dma_in o ≡ false → t.dmem ≡ s.dmem))
@@ -237,7 +237,7 @@ writes_by_hold (Some i) s t h d =
     (h.registers, (λ n out. h.vectors n (vector_out (footprint_of i s) n out), λ a b. d (leaves_memory (footprint_of i s) (dma_of i s ∙ ap not b) a)))
 
 pub writes_hold : WritesHold
-unfolding writes_of footprint_at starts_dma_at may_store_at
+unfolding writes_of footprint_at starts_dma_at changes_memory_at
 writes_hold s h done =
     let w = writes_by_hold (inst_of (word_at s.imem s.pc)) s (step_of s).1 (footprints_hold s h done) (memory-kept s done) in
     record { scalar = w.0; vector = w.1.0; dmem = w.1.1 }

@@ -20,8 +20,8 @@ use Rattle.rsp_machine.specs.declared.footprint.Footprint.{Footprint}
 use Rattle.rsp_machine.specs.declared.footprint.StepTests.{StepTests}
 use Rattle.rsp_machine.specs.declared.step.StepEnd.{StepEnd}
 use Rattle.rsp_machine.specs.declared.step.StepEnd.TheVariants.{Done, Halted, Reserved}
-use Rattle.rsp_machine.specs.Until.{may_store_at, ends_after, refuses_by, refuses_at, permitted}
-use Rattle.rsp_machine.proofs.OneStep.{stays, free, clear_as, clear_behind, halted_as, stored-as, dma-as, dma-free, step_halted, step_reserved, step_done}
+use Rattle.rsp_machine.specs.Until.{changes_memory_at, ends_after, refuses_by, refuses_at, permitted}
+use Rattle.rsp_machine.proofs.OneStep.{stays, free, clear_as, clear_behind, halted_as, memory-as, dma-as, dma-free, step_halted, step_reserved, step_done}
 
 -- no step, and one more
 pub made-none : (k : ℕ) (s t : State) → k ≡ 0 → t ≡ s → AreDone k s t
@@ -212,9 +212,9 @@ module _ (refuses : MoveOp → ℕ → Bool) (w : ℕ) (s t u : State) (r : Opti
   pub turn-ends : (ends : ℕ → ℕ → Bool → Bool) (v : ℕ) → v ≡ word_at u.imem u.pc → ends_after ends s ≡ ends u.pc v e.changes_memory
   unfolding ends_after
   turn-ends ends v is =
-      ap (λ (x : State). ends x.pc (word_at x.imem x.pc) (may_store_at s)) (ap (λ x. x.1) turn-done)
-      ∙ ap (λ n. ends u.pc n (may_store_at s)) (sym is)
-      ∙ ap (ends u.pc v) (sym (stored-as w s e h.executed.word turn_answer))
+      ap (λ (x : State). ends x.pc (word_at x.imem x.pc) (changes_memory_at s)) (ap (λ x. x.1) turn-done)
+      ∙ ap (λ n. ends u.pc n (changes_memory_at s)) (sym is)
+      ∙ ap (ends u.pc v) (sym (memory-as w s e h.executed.word turn_answer))
 
 -- what is refused at none of k steps, and at none of k + 1
 pub permitted-more : (refuses : MoveOp → ℕ → Bool) (o s : State) (k n j : ℕ) → ((i : ℕ) → i < k → refuses_at refuses (steps_of i o) ≡ false) → s ≡ steps_of k o → refuses_at refuses s ≡ false

@@ -16,7 +16,7 @@ use Rattle.rsp_machine.specs.declared.footprint.Footprint.TheVariants as of
 use Rattle.rsp_regs.specs.Sp.{is_length_register}
 use Rattle.rsp_machine.specs.Footprint.{footprint_of, makes_no_dma, reaches_sp}
 use Rattle.rsp_machine.specs.LoopTests.{tests_of, tests_in, state_after}
-use Rattle.rsp_machine.specs.Until.{may_store_by, may_store_at}
+use Rattle.rsp_machine.specs.Until.{changes_memory_by, changes_memory_at}
 use Rattle.rsp_machine.specs.declared.footprint.Footprint.{Footprint}
 use Rattle.rsp_machine.specs.declared.footprint.StepTests.{StepTests}
 use Rattle.rsp_machine.proofs.Undo.{dma_of}
@@ -47,7 +47,7 @@ stays (Some i) s t e none h there = ap (λ (x : State). x.sp) there ∙ leaves i
 pub halted_as : (s t : State) → s.sp.halted ≡ false → t.sp ≡ s.sp → false ≡ t.sp.halted
 halted_as s t h e = sym (ap (λ (p : Sp). p.halted) e ∙ h)
 
--- whether it starts a DMA, and whether it may have stored
+-- whether it starts a DMA, and whether it may have changed DMEM
 pub not_back : (b d : Bool) → b ≡ not d → not b ≡ d
 not_back b true e = ap not e
 not_back b false e = ap not e
@@ -70,13 +70,13 @@ dma-free (Some i) s e h none =
     let same = some_is e (tests_of (footprint_of i s)) h in
     ap (λ (x : StepTests). x.dma) same ∙ no_dma (footprint_of i s) (ap (λ (x : StepTests). x.sp) (sym same) ∙ none)
 
-stored_by : (o : Option Inst) (s : State) (e : StepTests) → Some e ≡ tests_in s o → e.changes_memory ≡ may_store_by o s
-stored_by None s e h = cc
-stored_by (Some i) s e h = ap (λ (x : StepTests). x.changes_memory) (some_is _ _ h)
+memory_by : (o : Option Inst) (s : State) (e : StepTests) → Some e ≡ tests_in s o → e.changes_memory ≡ changes_memory_by o s
+memory_by None s e h = cc
+memory_by (Some i) s e h = ap (λ (x : StepTests). x.changes_memory) (some_is _ _ h)
 
-pub stored-as : (w : ℕ) (s : State) (e : StepTests) → w ≡ word_at s.imem s.pc → Some e ≡ tests_in s (inst_of w) → e.changes_memory ≡ may_store_at s
-unfolding may_store_at
-stored-as w s e is h = stored_by (inst_of w) s e h ∙ ap (λ v. may_store_by (inst_of v) s) is
+pub memory-as : (w : ℕ) (s : State) (e : StepTests) → w ≡ word_at s.imem s.pc → Some e ≡ tests_in s (inst_of w) → e.changes_memory ≡ changes_memory_at s
+unfolding changes_memory_at
+memory-as w s e is h = memory_by (inst_of w) s e h ∙ ap (λ v. changes_memory_by (inst_of v) s) is
 
 -- single step halts nothing where it is clear
 halts_none : (p : Sp) → p.halted ≡ false → p.single_step ≡ false → after_step p ≡ p

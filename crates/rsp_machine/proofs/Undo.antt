@@ -30,7 +30,7 @@ use Rattle.rsp_machine.specs.Undo.{Saved, record_of, values_saved, restored, und
 use Rattle.rsp_machine.specs.Footprint.{footprint_of, makes_no_dma, changes_memory}
 use Rattle.rsp_machine.specs.LoopTests.{IsRanged}
 use Rattle.rsp_machine.specs.Transfers.{starts_dma, starts_dma_in, starts_dma_at}
-use Rattle.rsp_machine.specs.Until.{may_store_by, may_store_at}
+use Rattle.rsp_machine.specs.Until.{changes_memory_by, changes_memory_at}
 use Rattle.rsp_machine.specs.declared.footprint.Footprint.{Footprint}
 use Rattle.rsp_machine.specs.declared.footprint.Footprint.TheVariants as of
 use Rattle.rsp_machine.proofs.Undoing.{register-back, vector-back, store-back}
@@ -205,11 +205,11 @@ dmem_stays (MoveControl From rt control) s h = refl
 dmem_stays (MoveControl To rt control) s h = refl
 dmem_stays _ s h = refl
 
-stays_by : (b : Bool) (o : Option Inst) (word : ℕ) (s : State) → (if b then (Halted, s) else step_by o word s).0 ≡ Done → may_store_by o s ≡ false → (if b then (Halted, s) else step_by o word s).1.dmem ≡ s.dmem
+stays_by : (b : Bool) (o : Option Inst) (word : ℕ) (s : State) → (if b then (Halted, s) else step_by o word s).0 ≡ Done → changes_memory_by o s ≡ false → (if b then (Halted, s) else step_by o word s).1.dmem ≡ s.dmem
 stays_by true o word s e h = cc
 stays_by false None word s e h = cc
 stays_by false (Some i) word s e h = dmem_stays i s h
 
-pub memory-kept : (s : State) → (step_of s).0 ≡ Done → may_store_at s ≡ false → (step_of s).1.dmem ≡ s.dmem
-unfolding may_store_at step_of
+pub memory-kept : (s : State) → (step_of s).0 ≡ Done → changes_memory_at s ≡ false → (step_of s).1.dmem ≡ s.dmem
+unfolding changes_memory_at step_of
 memory-kept s e h = stays_by s.sp.halted (inst_of (word_at s.imem s.pc)) (word_at s.imem s.pc) s e h

@@ -10,18 +10,18 @@ use Rattle.rsp_machine.specs.Step.{step_of}
 use Rattle.rsp_machine.specs.Footprint.{footprint_of, changes_memory}
 
 -- whether an instruction, if there is one, may change DMEM: it stores there, or it starts a DMA
-abbrev pub may_store_by : Option Inst → State → Bool
-may_store_by None s = false
-may_store_by (Some i) s = changes_memory (footprint_of i s)
+abbrev pub changes_memory_by : Option Inst → State → Bool
+changes_memory_by None s = false
+changes_memory_by (Some i) s = changes_memory (footprint_of i s)
 
 -- whether the word at pc may change DMEM
-unfoldable pub may_store_at : State → Bool
-may_store_at s = may_store_by (inst_of (word_at s.imem s.pc)) s
+unfoldable pub changes_memory_at : State → Bool
+changes_memory_at s = changes_memory_by (inst_of (word_at s.imem s.pc)) s
 
 -- Whether a test ends a run after the step from a state. It gets the next instruction's pc and word, and whether the step may have changed
 -- DMEM.
 unfoldable pub ends_after : (ℕ → ℕ → Bool → Bool) → State → Bool
-ends_after ends s = let t = (step_of s).1 in ends t.pc (word_at t.imem t.pc) (may_store_at s)
+ends_after ends s = let t = (step_of s).1 in ends t.pc (word_at t.imem t.pc) (changes_memory_at s)
 
 -- whether a test refuses an instruction, if there is one: only a move of an SP register, by its direction and its register
 abbrev pub refuses_by : (MoveOp → ℕ → Bool) → Option Inst → Bool
