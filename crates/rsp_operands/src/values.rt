@@ -10,13 +10,13 @@ use crate::labels::Labels;
 use crate::ranges::{amount, branch, half, jump, scaled_offset, word};
 use rsp_syntax::{AsmFaultKind, Expression, OperandRange};
 
-/// The field of `origin + offset`, for a statement at `address`; None if that is out of the range. A sum that saturates is out
-/// of each range too.
-fn field(range: OperandRange, address: u16, origin: u16, offset: i64) -> Option<u32>
+/// The field of `label_address + offset`, for a statement at `address`; None if that is out of the range. A sum that saturates is
+/// out of each range too.
+fn field(range: OperandRange, address: u16, label_address: u16, offset: i64) -> Option<u32>
     requires { address ≤ 4096 }
-    ensures { (z : ℤ) → offset ≡ capped_ℤ z → result ≡ field range address (pos origin +ℤ z) }
+    ensures { (z : ℤ) → offset ≡ capped_ℤ z → result ≡ field range address (pos label_address +ℤ z) }
 {
-    let value = i64::from(origin).saturating_add(offset);
+    let value = i64::from(label_address).saturating_add(offset);
     match range {
         OperandRange::Half => half(value),
         OperandRange::Amount => amount(value),
@@ -46,9 +46,9 @@ pub(crate) fn expression_field(
     requires { address ≤ 4096 }
     ensures { (x : numbers.Expression) → expression e.entry ≡ capped_expression x → result ≡ field_of range address (evaluate labels.now x) }
 {
-    let origin = match e.label {
+    let label_address = match e.label {
         None => 0,
         Some(name) => labels.find(name).ok_or(AsmFaultKind::LabelMissing)?,
     };
-    field(range, address, origin, e.offset).ok_or(AsmFaultKind::OutOfRange)
+    field(range, address, label_address, e.offset).ok_or(AsmFaultKind::OutOfRange)
 }

@@ -9,7 +9,7 @@ use Rattle.rsp_operands.proofs.values.field.Goals as goal
 pub returns-in-Scaled : goal.returns-in-Scaled
 returns-in-Scaled c = λ z e.
     let scale = c.in-Scaled.scale in
-    let base = c.args.origin in
+    let base = c.args.label_address in
     let small : scale ≤ 255 = omega arith in
     let low : base ≤ 65535 = omega arith in
     let value : ℤ = c.saturating_add-value.result in
