@@ -150,9 +150,9 @@ pub fn byte_element(word: u32) -> u8
     (word >> 7 & 15) as u8
 }
 
-/// Whether the byte element is 0 or 8.
+/// Whether the byte element is 0 or 8, where a half of the vector register begins.
 #[inline(always)]
-pub fn half(word: u32) -> bool
+pub fn begins_half(word: u32) -> bool
     ensures { result ≡ (value_at word (whole 7 4) % 8 == 0) }
 {
     byte_element(word) % 8 == 0

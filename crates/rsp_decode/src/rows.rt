@@ -312,7 +312,7 @@ macro_rules! instruction_table {
                 0x06 "lpv" VECTOR_MEMORY_8 vector_load(VectorLoadOp::Lpv);
                 0x07 "luv" VECTOR_MEMORY_8 vector_load(VectorLoadOp::Luv);
                 0x08 "lhv" VECTOR_MEMORY_16 vector_load(VectorLoadOp::Lhv);
-                0x09 half "lfv" VECTOR_MEMORY_HALF vector_load(VectorLoadOp::Lfv);
+                0x09 begins_half "lfv" VECTOR_MEMORY_HALF vector_load(VectorLoadOp::Lfv);
                 0x0b "ltv" VECTOR_MEMORY_16 vector_load(VectorLoadOp::Ltv);
                 reserved 0x09 0x0a 0x0c 0x0d 0x0e 0x0f 0x10 0x11 0x12 0x13 0x14 0x15 0x16 0x17
                     0x18 0x19 0x1a 0x1b 0x1c 0x1d 0x1e 0x1f;
@@ -327,7 +327,7 @@ macro_rules! instruction_table {
                 0x06 "spv" VECTOR_MEMORY_8 vector_store(VectorStoreOp::Spv);
                 0x07 "suv" VECTOR_MEMORY_8 vector_store(VectorStoreOp::Suv);
                 0x08 "shv" VECTOR_MEMORY_16 vector_store(VectorStoreOp::Shv);
-                0x09 half "sfv" VECTOR_MEMORY_HALF vector_store(VectorStoreOp::Sfv);
+                0x09 begins_half "sfv" VECTOR_MEMORY_HALF vector_store(VectorStoreOp::Sfv);
                 0x0a "swv" VECTOR_MEMORY_16 vector_store(VectorStoreOp::Swv);
                 0x0b "stv" VECTOR_MEMORY_16 vector_store(VectorStoreOp::Stv);
                 reserved 0x09 0x0c 0x0d 0x0e 0x0f 0x10 0x11 0x12 0x13 0x14 0x15 0x16 0x17 0x18
@@ -348,8 +348,8 @@ macro_rules! mask {
     (others) => { COMPUTING };
     (lwc2) => { VECTOR_MEMORY };
     (swc2) => { VECTOR_MEMORY };
-    (lwc2 half) => { HALF_VECTOR_MEMORY };
-    (swc2 half) => { HALF_VECTOR_MEMORY };
+    (lwc2 begins_half) => { HALF_VECTOR_MEMORY };
+    (swc2 begins_half) => { HALF_VECTOR_MEMORY };
 }
 
 /// What those bits are.
@@ -368,13 +368,13 @@ macro_rules! value {
 /// The lines of all sections as rows.
 macro_rules! all_rows {
     (() $($section:ident {
-        $($n:literal $($half:ident)? $name:literal $operands:ident $call:ident $(($op:path))?;)*
+        $($n:literal $($guard:ident)? $name:literal $operands:ident $call:ident $(($op:path))?;)*
         $(reserved $($reserved:literal)*;)?
         $(otherwise $otherwise:expr;)?
     })*) => {
         &[$($(TableRow {
             name: $name,
-            mask: mask!($section $($half)?),
+            mask: mask!($section $($guard)?),
             value: value!($section $n),
             operands: $operands,
         },)*)*]
@@ -385,12 +385,12 @@ macro_rules! all_rows {
 /// first line whose guard holds, and returns whether there is one.
 macro_rules! arms {
     (@($key:expr, $word:ident, $visitor:ident) {
-        $($n:literal $($half:ident)? $name:literal $operands:ident $call:ident $(($op:path))?;)*
+        $($n:literal $($guard:ident)? $name:literal $operands:ident $call:ident $(($op:path))?;)*
         $(reserved $($reserved:literal)*;)?
         $(otherwise $otherwise:expr;)?
     }) => {
         match $key {
-            $($n $(if $half($word))? => {
+            $($n $(if $guard($word))? => {
                 $call($word, $($op,)? $visitor);
                 true
             })*

@@ -7,8 +7,8 @@ ghost use Rattle.rsp_decode.specs.Visit.{is_instruction, after_visit};
 ghost use Rattle.rsp_decode.specs.Table.{IsInstruction, value_at, whole, pick, pick_by_operation, meaning_of, vector_memory_in, cop2_rows, computing_rows, lwc2_rows, swc2_rows, move_vector_row, move_control_row, multiply_row, round_row, mpeg_row, read_accumulator_row, vector_add_row, vector_select_row, vector_clip_row, vector_merge_row, vector_logic_row, divide_row, idle_row};
 
 use crate::bit_fields::{
-    byte_element, control, element, function, half, lane, operation, rd, rs, rt, vd, vector_fields,
-    vector_memory_fields, vt,
+    begins_half, byte_element, control, element, function, lane, operation, rd, rs, rt, vd,
+    vector_fields, vector_memory_fields, vt,
 };
 use crate::inst::Inst;
 use crate::rows::{arms, instruction_table};
