@@ -81,17 +81,17 @@ impl Flags {
     /// Copies the other flags mask by mask, each through a vector register. An assignment would copy from memory to
     /// memory.
     #[inline(always)]
-    pub fn take(&mut self, other: &Flags)
+    pub fn copy_from(&mut self, other: &Flags)
         ensures { self.new ≡ other.now }
     {
-        self.take_vco(other);
-        self.take_vcc(other);
+        self.copy_vco(other);
+        self.copy_vcc(other);
         self.extra = other.extra.read();
     }
 
     /// Copies VCO from other flags. VCC and VCE are kept.
     #[inline(always)]
-    pub fn take_vco(&mut self, other: &Flags)
+    pub fn copy_vco(&mut self, other: &Flags)
         ensures { self.new ≡ record self.old { carry = other.now.carry; differ = other.now.differ } }
     {
         self.carry = other.carry.read();
@@ -100,7 +100,7 @@ impl Flags {
 
     /// Copies VCC from other flags. VCO and VCE are kept.
     #[inline(always)]
-    pub fn take_vcc(&mut self, other: &Flags)
+    pub fn copy_vcc(&mut self, other: &Flags)
         ensures { self.new ≡ record self.old { compare = other.now.compare; clip = other.now.clip } }
     {
         self.compare = other.compare.read();

@@ -171,16 +171,16 @@ impl Recorder for Record {
             Footprint::Low(n) => self.save_low(machine, n),
             Footprint::Sum(n) => {
                 self.save_low(machine, n);
-                self.flags.take_vco(&machine.flags);
+                self.flags.copy_vco(&machine.flags);
             }
             Footprint::Choice(n) => {
                 self.save_low(machine, n);
-                self.flags.take_vco(&machine.flags);
-                self.flags.take_vcc(&machine.flags);
+                self.flags.copy_vco(&machine.flags);
+                self.flags.copy_vcc(&machine.flags);
             }
             Footprint::Clip(n) => {
                 self.save_low(machine, n);
-                self.flags.take(&machine.flags);
+                self.flags.copy_from(&machine.flags);
             }
             Footprint::Divide(n) => {
                 self.save_low(machine, n);

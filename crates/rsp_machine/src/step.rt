@@ -196,7 +196,7 @@ impl<A: Acc> Machine<A> {
             Footprint::Sum(n) => self.put_sum(saved, n),
             Footprint::Choice(n) => {
                 self.put_sum(saved, n);
-                self.flags.take_vcc(&saved.flags);
+                self.flags.copy_vcc(&saved.flags);
             }
             Footprint::Clip(n) => {
                 self.put_low(saved, n);
@@ -242,7 +242,7 @@ impl<A: Acc> Machine<A> {
         ensures { self.new ≡ record (with_low_part n saved.now self.old) { flags = with_vco saved.now.flags self.old.flags } }
     {
         self.put_low(saved, n);
-        self.flags.take_vco(&saved.flags);
+        self.flags.copy_vco(&saved.flags);
     }
 
     /// Writes eight vector registers, from `n` on.
