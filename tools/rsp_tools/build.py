@@ -70,7 +70,7 @@ def time_of(path: Path) -> float:
         return 0
 
 
-def changed(name: str) -> float:
+def changed_at(name: str) -> float:
     """When the crate's sources were last changed, by a time that no command sets back."""
     folders = [found for part in ("src", "specs", "proofs") for found in os.walk(CRATES / name / part)]
     return max(os.lstat(f"{at}/{it}").st_ctime for at, _, files in folders for it in ["", *files])
@@ -179,7 +179,7 @@ class Build:
         built, differ = time_of(self.mark), differing(self.marked.partition("\n")[2], self.sources)
         for name in with_below(self.crate):
             proved = time_of(stamp(name))
-            is_proved = proved > changed(name) or name not in differ and 0 < proved < built
+            is_proved = proved > changed_at(name) or name not in differ and 0 < proved < built
             if not is_proved or {*uses(name)} & {*self.left}:
                 self.left.append(name)
 
@@ -313,7 +313,7 @@ class Build:
             # `rt ci` took the program from what it keeps, and keeps no object file.
             self.compile("src/main.rt", self.object)
         # An edit that was taken back in the meantime leaves the same sums, and may yet be part of the file.
-        edited = [it for it in with_below(self.crate) if changed(it) >= self.since]
+        edited = [it for it in with_below(self.crate) if changed_at(it) >= self.since]
         if edited:
             self.say(f"{', '.join(edited)}: edited in the meantime, so the next run proves again")
         else:
