@@ -51,7 +51,7 @@ pub record {it.module}Does (words : List ℕ) (s t : State){rounds} : Type 0 whe
   -- TODO: the result
 {marked(filled)}{moved_bases(it)}  -- nothing else changed
   pub others : t ≡ record s {{
-    {(";" + chr(10) + "    ").join(changed(it))};
+    {(";" + chr(10) + "    ").join(changed_fields(it))};
   }}
 
 -- from each state that is about to execute the words
@@ -111,7 +111,7 @@ def moved_bases(it: Routine | Joined) -> str:
     )
 
 
-def changed(it: Routine | Joined) -> list[str]:
+def changed_fields(it: Routine | Joined) -> list[str]:
     """The fields of the state after, which the routine may change."""
     end = "return_of s" if it.returns else "address_after_words words s.pc"
     after_end = "address_after (return_of s)" if it.returns else end.replace("s.pc", "s.npc")
