@@ -47,14 +47,14 @@ decoded : map inst_of loop.words ≡ map Some (loop_code loop)
 unfolding inst_of row_of
 decoded = refl
 
-{holds(it)}
+{invariant_text(it)}
 {counted(it)}
 -- whether a round is left
 {more(it)}
 {stored(it)}{one_round(it)}"""
 
 
-def holds(it: Routine) -> str:
+def invariant_text(it: Routine) -> str:
     """The invariant of the rounds."""
     count = it.rounds.register
     bases = "".join(
