@@ -122,7 +122,7 @@ class Tests:
             going = [it.part for it in self.runs.values() if not it.is_over()]
             if len(going) >= self.jobs:
                 return
-            if not part.holds or part.holds not in {it.holds for it in going}:
+            if not part.exclusive or part.exclusive not in {it.exclusive for it in going}:
                 self.waiting.remove(part)
                 self.runs[part.name] = Run(part, self.folder)
 

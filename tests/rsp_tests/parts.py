@@ -14,7 +14,7 @@ class Part(NamedTuple):
     what: str
     command: str
     tools: str = ""  # those without which it shows nothing
-    holds: str = ""  # what no two parts may have at the same time
+    exclusive: str = ""  # what no two parts may have at the same time
 
 
 PARTS = [
