@@ -67,7 +67,7 @@ def random_state(choose: Random) -> State:
     return State(dmem, rdram, scalars, [[edged(choose) for _ in range(8)] for _ in range(32)])
 
 
-def loads(content: bytes) -> List[str]:
+def load_lines(content: bytes) -> List[str]:
     return [f"load dmem {at} {content[at : at + 64].hex()}" for at in range(0, len(content), 64)]
 
 
@@ -77,8 +77,8 @@ def script_of(name: str, state: State) -> List[str]:
     for n in range(1, 32):
         setting += [f"lui ${n}, {state.scalars[n] >> 16}", f"ori ${n}, ${n}, {state.scalars[n] % 65536}"]
     routine = [line.split("#")[0].strip() for line in text_of(name).splitlines()]
-    lines = [*loads(b"".join(map(packed, state.vectors))), "asm 0", *setting, "break", "end"]
-    lines += [f"asm {HERE}", *routine, "break", "end", "run 1000", *loads(bytes(state.dmem))]
+    lines = [*load_lines(b"".join(map(packed, state.vectors))), "asm 0", *setting, "break", "end"]
+    lines += [f"asm {HERE}", *routine, "break", "end", "run 1000", *load_lines(bytes(state.dmem))]
     lines += [f"pc {HERE}", "write 4 1", "run 100000", "regs", "vregs"]
     return lines + [f"mem dmem {at} 256" for at in range(0, 4096, 256)]
 
