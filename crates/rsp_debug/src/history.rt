@@ -1,7 +1,7 @@
 // The records of the last steps, which undo them.
 //
 // The ring is filled once, and written in place: the push of `circular_buffer` takes a whole record by value, a copy
-// of 200 bytes and more. So the index after the newest entry, and the number of entries, are kept beside it. A single
+// of 200 bytes and more. So the index after the newest entry, and the number of entries, are kept beside it. One
 // step takes its entry by the index; to lend the ring as one slice costs more, which a run pays once for many steps.
 
 ghost use Rattle.std.specs.Prelude.{◌≡◌, ◌<◌, ◌≤◌, ◌+◌, ◌-◌, ◌⊎◌, ℕ, true, false, [], length, drop, slice_get, slice_index_or, option_copied, IfOk};

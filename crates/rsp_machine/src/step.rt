@@ -1,7 +1,7 @@
 // Steps, in one loop, and undoing one.
 //
 // One private loop makes all steps. It keeps pc and npc apart from its machine, so that they are in registers of the
-// host, and gives them back when it ends. A single step fetches the next word too: the price of one loop. The loop
+// host, and gives them back when it ends. One step fetches the next word too: the price of one loop. The loop
 // tests for a halt only after an instruction that can reach the SP registers, or in single step. What stopped the
 // steps isn't returned beside their number: one more step says it, and changes nothing. Steps with records end after a
 // step that starts a DMA, since such a step can't be undone: so only the last record can be one that undoes nothing.
