@@ -125,8 +125,8 @@ impl History {
         self.recorded_step(machine)
     }
 
-    /// As [`History::step`], without a test for a depth of 0 ahead: that there is no entry shows it. So a loop of such steps keeps
-    /// more in registers of the host.
+    /// As [`History::step`], but a depth of 0 isn't tested for ahead: then the entry isn't found. So a loop of such steps keeps more in
+    /// registers of the host.
     #[inline(always)]
     pub fn recorded_step<A: Acc>(&mut self, machine: &mut Machine<A>) -> StepEnd
         ensures answer { result ≡ (step_of machine.old).0 }

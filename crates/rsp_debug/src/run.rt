@@ -25,6 +25,7 @@ use rsp_machine::{Machine, Never, Until};
 fn step_refusal<A: Acc>(machine: &Machine<A>) -> Option<Reason>
     ensures { result ≡ step_refusal machine.now }
 {
+    // A reserved word is a reason only if the machine isn't halted. So this is tested first.
     if machine.sp_regs().halted() {
         return Some(Reason::Halted);
     }
@@ -88,6 +89,7 @@ fn run_unrecorded<A: Acc>(
     ensures stop { IsStop conditions.now.breaks.now (watches_of conditions.now.snapshots.now) (steps_to_move conditions.now.moves n machine.old) machine.old machine.new result }
     ensures past { states_before machine.new history.now.newest ≡ history_after_steps result.steps history.now.depth machine.old (states_before machine.old history.now.newest) }
 {
+    // It is called for its contract: there are no more records than the depth, 0. So the past is empty, before and after.
     let _ = history.len();
     let steps = machine.steps_until(u64::from(n), &conditions.moves) as u32;
     stopped_here(machine, Reason::Limit, steps)

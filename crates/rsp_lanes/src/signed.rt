@@ -61,13 +61,14 @@ fn saturated(numbers: i32x8) -> VReg
 impl VReg {
     /// The sums of the lanes as signed values and a carry, clamped to -32768..=32767.
     ///
-    /// The carry is added to the lesser lane, clamped to 32766. A lesser lane of 32767 means that both are 32767, and
-    /// then the clamped sum is 32767 in any case.
+    /// The lesser lane is clamped to 32766, and the carry is added to it. If that lane is 32767, both are, and the clamped
+    /// sum is 32767 in any case.
     #[inline(always)]
     pub fn add_clamped(&self, other: &VReg, carry: Mask8) -> VReg
         ensures { result ≡ each_lane (λ i. sixteen_bits (clamp16 (s16 (slice_index self.now i) +ℤ s16 (slice_index other.now i) +ℤ pos (bit (slice_index_or carry i false))))) }
     {
         let lesser = clamped_lesser(self, other);
+        // -1 where the carry is set, else 0. To subtract it adds the carry.
         let minus_carry = carry.merge(&VReg::splat(0xffff), &VReg::new());
         let carried = lesser.subtract(&minus_carry);
         saturated(greater(self, other) + wide(&carried))

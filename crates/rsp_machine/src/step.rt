@@ -40,8 +40,8 @@ pub enum StepEnd {
 }
 
 impl<A: Acc> Machine<A> {
-    /// Ends a step: in single step the machine halts. Returns whether the loop goes on. Single step and halted are tested after an
-    /// instruction that may reach the SP registers, and after each instruction if single step was set when the loop began (`single`).
+    /// Ends a step: in single step the machine halts. Returns whether the loop goes on. `single` says whether single step was set when
+    /// the loop began. If not, single step and halted are tested only after an instruction that may reach the SP registers.
     #[inline(always)]
     fn end_step<K: Recorder>(&mut self, tests: StepTests, single: bool) -> bool
         ensures state { self.new ≡ (if tests.sp || single then after_single_step self.old else self.old) }
