@@ -28,7 +28,8 @@ use Rattle.rsp_multiply.specs.Laws.{SumsOfProducts}
 use Rattle.rsp_scalar.specs.Registers.{register}
 use Rattle.rsp_loadstore.specs.File.{vector, with_vector}
 use Rattle.rsp_machine.specs.State.{State, IsState}
-use Rattle.rsp_machine.specs.Step.{executed, instruction_effect, computes, loads_scalar, stores_scalar, jumps, moves_sp}
+use Rattle.rsp_machine.specs.Step.{executed, instruction_effect, computes, loads_scalar, stores_scalar}
+use Rattle.rsp_machine.specs.Step.{jumps, moves_sp}
 use Rattle.rsp_machine.specs.Vector.{multiplies, rounds, multiplies_mpeg, reads_accumulator, ruled, divides}
 use Rattle.rsp_machine.specs.Vector.{loads_vector, stores_vector, moves_vector, moves_control}
 use Rattle.rsp_microcode.specs.Lanes.{lanes_at, with_lanes}
