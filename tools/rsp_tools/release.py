@@ -2,30 +2,42 @@
 
 It packs what ./rsp and library/c/build build: the program, linked again for any Linux since 2014; what
 library/c/install installs; the Python wheel, the Rust crate, the plugin of mupen64plus, the pages, the
-examples, the routines of microcode and the test vectors. Two runs from one commit give the same bytes. It
-fails if the work tree isn't clean, a version differs, or tests/part newcomer fails.
+examples, the routines of microcode and the test vectors.
+
+With --systems it also makes the archives for other systems, after tools/systems has made their libraries:
+
+  linux-aarch64    .tar.gz, with the program
+  macos            .tar.gz
+  windows-x86_64   .zip, with the program
+  wasm64           .tgz, which npm installs
+  page             .zip, a folder for a web server: the machine in a browser. Its library is that of wasm64
+
+dist/SHA256SUMS has the sums of the archives that this run made. Two runs from one commit give the same
+bytes. It fails if the work tree isn't clean, a version differs, tests/part newcomer fails, or a system isn't
+made. Then it leaves what was in dist.
 """
 
 import argparse
-import gzip
-import hashlib
-import io
+import os
 import subprocess
 import sys
-import tarfile
 import tempfile
 from pathlib import Path
-from typing import Iterable, Iterator, NoReturn, Tuple
+from typing import Dict, Iterator, List, NoReturn, Tuple
 
 import wheels
-from rsp_tools import TOP
-from rsp_tools.packaging import installed, pages
+from rsp_tools import TOOLS, TOP
+from rsp_tools.packaging import installed, packed, pages, repository, systems
 from rsp_tools.packaging.installed import File
 from rsp_tools.packaging.link import linked_program
+from rsp_tools.packaging.repository import said
+from rsp_tools.systems import places
+from rsp_tools.systems.__main__ import SYSTEMS
+from rsp_tools.systems.toolchain import missing
 
 SYSTEM = "linux-x86_64"
+OTHERS = [*SYSTEMS, "page"]
 OBJECT = TOP / "crates/rsp_main/out/rsp_main.o"
-TIME = 315532800  # 1980-01-01, the first that a zip file can hold
 PACKED = (
     "library/python/rsp library/rust docs examples microcode conformance plugin tools/python CHANGELOG.md"
 ).split()
@@ -36,21 +48,10 @@ VERSIONS = {
     "library/rust/Cargo.toml": r'^version = "([\d.]+)"',
     "library/js/package.json": r'^  "version": "([\d.]+)"',
 }
-# The script `rsp` of the archive.
-STARTER = """#!/bin/sh
-# rsp: the program in bin/. --version also tells the commit that it was built from, and what proved it.
-top=$(dirname -- "$(readlink -f -- "$0")")
-[ "$*" != --version ] || exec printf '%s\\n' '{}' '{}'
-exec "$top/bin/rsp" "$@"
-"""
 
 
 def fail(text: str) -> NoReturn:
     sys.exit(f"release: {text}")
-
-
-def said(*words: str) -> str:
-    return subprocess.run(words, cwd=TOP, capture_output=True, text=True, check=True).stdout.strip()
 
 
 def succeed(why: str, *words: str) -> None:
@@ -64,6 +65,16 @@ def check_versions(version: str) -> None:
         (named,) = installed.found(form, name)
         if named != version:
             fail(f"{name} says version {named}, not {version}")
+
+
+def check_systems(names: List[str]) -> None:
+    """Ends if one is unknown, or a package that makes it isn't there."""
+    for name in names:
+        if name not in OTHERS:
+            fail(f"there is no system {name}: the systems are {', '.join(OTHERS)}")
+        absent = missing(*SYSTEMS[name].programs) if name in SYSTEMS else ""
+        if absent:
+            fail(f"{name} needs packages of Debian: apt-get install {absent}")
 
 
 def wheel() -> File:
@@ -81,53 +92,75 @@ def plugin() -> File:
 
 
 def contents(program: bytes, version: str, about: Tuple[str, str]) -> Iterator[File]:
-    """Each file of the archive."""
-    yield File("rsp", STARTER.format(*about).encode(), True)
+    """Each file of the archive for Linux on x86-64."""
+    yield installed.starter(about)
     yield from installed.contents("${pcfiledir}/../..", program)
     yield wheel()
     yield plugin()
-    for name in said("git", "ls-files", "--", *PACKED).splitlines():
-        path = TOP / name
-        if not name.endswith(".gitignore") and not path.is_symlink():
-            yield File(pages.moved(name), path.read_bytes(), bool(path.stat().st_mode & 0o100))
+    yield from repository.tracked(PACKED)
     yield File("rust/lib/librsp.a", (TOP / "library/c/librsp.a").read_bytes())
-    readme = (TOP / "tools/packaging/README.md").read_text()
+    readme = (TOOLS / "packaging/README.md").read_text()
     yield File("README.md", readme.replace("VERSION", version).encode())
 
 
-def with_pages(files: Iterable[File], folder: str) -> Iterator[File]:
-    """The files, with their pages in the form of an archive whose top folder has this name."""
-    listed = list(files)
-    names = {it.name for it in listed}
-    for file in listed:
-        if isinstance(file.data, bytes) and file.name.endswith(".md"):
-            text = pages.in_form(file.name, file.data.decode(), folder)
-            file = file._replace(data=pages.with_live_links(file.name, text, names).encode())
-        yield file
+def linux(given: Path, version: str, about: Tuple[str, str]) -> bytes:
+    """The archive for Linux on x86-64, of an object file of the program."""
+    folder = f"rsp-{version}-{SYSTEM}"
+    files = pages.in_archive(contents(linked_program(given), version, about), folder)
+    return packed.tarred(folder, packed.with_sums(files))
 
 
-def packed(folder: str, files: Iterable[File]) -> bytes:
-    """A tar file of these files, compressed, without a time or an owner."""
-    tar, out = io.BytesIO(), io.BytesIO()
-    with tarfile.open(fileobj=tar, mode="w", format=tarfile.USTAR_FORMAT) as pack:
-        for name, data, can_run in files:
-            entry = tarfile.TarInfo(f"{folder}/{name}")
-            entry.mtime, entry.mode = TIME, 0o755 if can_run else 0o644
-            if isinstance(data, str):
-                entry.type, entry.linkname, entry.mode, data = tarfile.SYMTYPE, data, 0o777, b""
-            entry.size = len(data)
-            pack.addfile(entry, io.BytesIO(data))
-    with gzip.GzipFile(fileobj=out, mode="wb", filename="", mtime=TIME, compresslevel=9) as file:
-        file.write(tar.getvalue())
-    return out.getvalue()
+def page_in(at: str) -> Path:
+    """The folder of the page, which is made in this one."""
+    from rsp_tools.systems import page
+
+    page.make(Path(at, "page"))
+    return Path(at, "page")
+
+
+def others(names: List[str], version: str, about: Tuple[str, str]) -> Dict[str, bytes]:
+    """The archives of other systems, by their names. The page is made of the library for WebAssembly."""
+    libraries = [it for it in SYSTEMS if it in names or (it == "wasm64" and "page" in names)]
+    if libraries:
+        succeed("tools/systems failed, so nothing is made", "tools/systems", *libraries)
+    made = {}
+    with tempfile.TemporaryDirectory() as at:
+        for name in names:
+            folder = page_in(at) if name == "page" else places.MADE / name
+            made[systems.name_of(name, version)] = systems.archive(name, folder, about)
+    return made
+
+
+def put(archives: Dict[str, bytes]) -> None:
+    """Writes all archives with their sums beside their places, and only then puts them there."""
+    dist, path = TOP / "dist", TOP / "dist"
+    try:
+        dist.mkdir(exist_ok=True)
+        with tempfile.TemporaryDirectory(dir=dist, prefix=".new-") as beside:
+            for name, data in {**archives, "SHA256SUMS": packed.sums(archives)}.items():
+                path = dist / name
+                Path(beside, name).write_bytes(data)
+            for it in sorted(Path(beside).iterdir()):
+                path = dist / it.name
+                os.replace(it, path)
+    except OSError as fault:
+        fail(f"cannot write {path}: {fault.strerror}")
+
+
+def words() -> argparse.ArgumentParser:
+    form = argparse.RawDescriptionHelpFormatter
+    reader = argparse.ArgumentParser(prog="./release", description=__doc__, formatter_class=form)
+    reader.add_argument("--object", type=Path, default=OBJECT, help="another object file of the program")
+    reader.add_argument("--untested", action="store_true", help="leave out tests/part newcomer")
+    more = "also the archives of these systems, or of all if none is named"
+    reader.add_argument("--systems", nargs="*", metavar="NAME", help=more)
+    return reader
 
 
 def main() -> None:
-    form = argparse.RawDescriptionHelpFormatter
-    words = argparse.ArgumentParser(prog="./release", description=__doc__, formatter_class=form)
-    words.add_argument("--object", type=Path, default=OBJECT, help="another object file of the program")
-    words.add_argument("--untested", action="store_true", help="leave out tests/part newcomer")
-    asked = words.parse_args()
+    asked = words().parse_args()
+    names = [] if asked.systems is None else [*dict.fromkeys(asked.systems)] or OTHERS
+    check_systems(names)
     if asked.object == OBJECT:
         succeed("./rsp has built nothing", "./rsp", "run")
     succeed("library/c/build has built nothing", "library/c/build")
@@ -140,16 +173,11 @@ def main() -> None:
     (version, day), commit = installed.version(), said("git", "rev-parse", "HEAD")
     check_versions(version)
     about = f"rsp {version} ({day}), commit {commit}", f"proved and built by {said('rt', 'version')}"
-    folder = f"rsp-{version}-{SYSTEM}"
-    files = list(with_pages(contents(linked_program(asked.object), version, about), folder))
-    digests = [
-        (hashlib.sha256(it.data).hexdigest(), it.name) for it in sorted(files) if isinstance(it.data, bytes)
-    ]
-    sums = "".join(f"{digest}  {name}\n" for digest, name in digests)
-    files.append(File("SHA256SUMS", sums.encode()))
-    (TOP / "dist").mkdir(exist_ok=True)
-    (TOP / f"dist/{folder}.tar.gz").write_bytes(packed(folder, sorted(files)))
-    print(f"dist/{folder}.tar.gz: {len(files)} files, version {version}, commit {commit[:12]}")
+    archives = {f"rsp-{version}-{SYSTEM}.tar.gz": linux(asked.object, version, about)}
+    archives.update(others(names, version, about))
+    put(archives)
+    for name, data in archives.items():
+        print(f"dist/{name}: {len(data)} bytes, version {version}, commit {commit[:12]}")
 
 
 if __name__ == "__main__":

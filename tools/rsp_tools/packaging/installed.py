@@ -7,12 +7,26 @@ from rsp_tools import TOOLS, TOP
 from rsp_tools.packaging import manpage
 
 
+# The script `rsp` of an archive.
+STARTER = """#!/bin/sh
+# rsp: the program in bin/. --version also tells the commit that it was built from, and what proved it.
+top=$(dirname -- "$(readlink -f -- "$0")")
+[ "$*" != --version ] || exec printf '%s\\n' '{}' '{}'
+exec "$top/bin/rsp" "$@"
+"""
+
+
 class File(NamedTuple):
     """A file: its bytes or the name that a link leads to, and whether it can be run."""
 
     name: str
     data: Union[bytes, str]
     can_run: bool = False
+
+
+def starter(about: Tuple[str, str]) -> File:
+    """The script `rsp` of an archive. It says these two lines of its version."""
+    return File("rsp", STARTER.format(*about).encode(), True)
 
 
 def found(form: str, path: str) -> Tuple[str, ...]:

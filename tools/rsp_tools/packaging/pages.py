@@ -3,7 +3,9 @@ archive has."""
 
 import posixpath
 import re
-from typing import Collection, Match
+from typing import Collection, Iterable, Iterator, Match
+
+from rsp_tools.packaging.installed import File
 
 # Where the archive has a file or a folder of the repository.
 MOVED = {
@@ -15,6 +17,7 @@ MOVED = {
 EMBEDDING, CAMPAIGN, PLUGIN = "docs/EMBEDDING.md", "docs/CAMPAIGN.md", "docs/PLUGIN.md"
 BUILD = r"    library/c/build  .*\n"
 COPY = "    cp -dR bin include lib share PREFIX     # installs it\n"
+NPM = "    npm install ./rsp-*-wasm64.tgz    # the archive for browsers and Node\n"
 # Parts of commands: the page, what it says in the repository, and what it says in the archive.
 FORMS = (
     (EMBEDDING, BUILD + r"    library/c/install PREFIX  .*\n", COPY),
@@ -23,6 +26,7 @@ FORMS = (
     (EMBEDDING, r"(?<=-Wl,-rpath,\$PWD/)library/c(?=\"\n)", "lib"),
     (EMBEDDING, r"(?<=/bin/pip install )\./library/python(?=\n)", "python/rsp-*.whl"),
     (EMBEDDING, r'(?<=path = "\.\./)rsp/library(?=/rust")', "FOLDER"),
+    (EMBEDDING, r"    tools/systems wasm64  .*\n    npm install \./library/systems/wasm64\n", NPM),
     (CAMPAIGN, r"(?<=-fPIC )-Ilibrary/c(?= )", "-Iinclude"),
     (PLUGIN, BUILD + r"(?=    plugin/build  )", ""),
 )
@@ -65,3 +69,14 @@ def with_live_links(page: str, text: str, names: Collection[str]) -> str:
         return f"{is_picture}[{moved(words)}]({posixpath.relpath(place, folder or '.')}{anchor})"
 
     return LINK.sub(mended, text)
+
+
+def in_archive(files: Iterable[File], folder: str) -> Iterator[File]:
+    """The files, with their pages in the form of an archive whose top folder has this name."""
+    listed = list(files)
+    names = {it.name for it in listed}
+    for file in listed:
+        if isinstance(file.data, bytes) and file.name.endswith(".md"):
+            text = in_form(file.name, file.data.decode(), folder)
+            file = file._replace(data=with_live_links(file.name, text, names).encode())
+        yield file

@@ -15,9 +15,10 @@ DAY = (1980, 1, 1, 0, 0, 0)  # the first that a wheel can have
 
 
 def header(out: Path) -> None:
-    """Puts rsp.h beside a library."""
+    """Puts rsp.h beside a library, and what compares a machine with an emulator."""
     (out / "include").mkdir(parents=True)
-    shutil.copyfile(places.HEADER, out / "include" / "rsp.h")
+    for it in (places.HEADER, places.HEADER.with_name("rsp_compare.h")):
+        shutil.copyfile(it, out / "include" / it.name)
 
 
 def filled(name: str, **words: str) -> str:

@@ -1,0 +1,101 @@
+"""What the archives for other systems than Linux on x86-64 hold: the folders that tools/systems makes, with
+the parts of the repository that serve there."""
+
+import tempfile
+from pathlib import Path
+from typing import Callable, Dict, Iterator, List, Tuple
+
+from rsp_tools.packaging import installed, manpage, packed, pages, readme, repository
+from rsp_tools.packaging.installed import File
+from rsp_tools.systems.toolchain import llvm
+
+# What those for C, Python and Rust hold of the repository, and what was run on Linux on x86-64 alone.
+PARTS = (
+    "library/python/rsp library/rust docs examples microcode conformance tools/python CHANGELOG.md"
+).split()
+NOT_THERE = (
+    "docs/CAMPAIGN.md",
+    "docs/PLUGIN.md",
+    "conformance/campaign",
+    "conformance/differences",
+    "conformance/z64/",
+    "conformance/rsp_conformance/campaign/",
+    "conformance/rsp_conformance/differences.py",
+    "conformance/rsp_conformance/otherwise/",
+)
+PARTS_OF_WASM = "docs examples microcode CHANGELOG.md".split()
+# The static library of a system's folder for each target of Rust, and the processors of those for macOS:
+# Rust 1.63 takes no library that is for two.
+RUST: Dict[str, Dict[str, str]] = {
+    "linux-aarch64": {"aarch64-unknown-linux-gnu": "librsp.a"},
+    "windows-x86_64": {"x86_64-pc-windows-gnu": "librsp.a", "x86_64-pc-windows-msvc": "rsp_static.lib"},
+    "macos": {"aarch64-apple-darwin": "librsp.a", "x86_64-apple-darwin": "librsp.a"},
+}
+THIN = {"aarch64-apple-darwin": "arm64", "x86_64-apple-darwin": "x86_64"}
+Thin = Callable[[Path, str], bytes]
+ENDINGS = {"windows-x86_64": "zip", "page": "zip", "wasm64": "tgz"}  # all others are .tar.gz
+
+
+def file(name: str, path: Path) -> File:
+    return File(name, path.read_bytes(), bool(path.stat().st_mode & 0o100))
+
+
+def of_repository(parts: List[str]) -> Iterator[File]:
+    """What these parts of the repository have for other systems, where an archive has it."""
+    yield from (it for it in repository.tracked(parts) if not it.name.startswith(NOT_THERE))
+
+
+def of_folder(folder: Path) -> Iterator[File]:
+    """What tools/systems has made. `librsp.so`, which there is a copy, is a link."""
+    for path in sorted(it for it in folder.rglob("*") if it.is_file()):
+        name = str(path.relative_to(folder))
+        yield File(name, installed.soname()) if name == "lib/librsp.so" else file(name, path)
+
+
+def thinned(library: Path, processor: str) -> bytes:
+    """The part of a library for macOS that is for one processor."""
+    with tempfile.TemporaryDirectory() as at:
+        llvm("llvm-lipo", library, "-thin", processor, "-output", Path(at, "thin"))
+        return Path(at, "thin").read_bytes()
+
+
+def of_rust(system: str, folder: Path, thin: Thin) -> Iterator[File]:
+    """The static libraries, where the Rust crate looks for them."""
+    for target, name in RUST[system].items():
+        library = folder / "lib" / name
+        data = thin(library, THIN[target]) if target in THIN else library.read_bytes()
+        yield File(f"rust/lib/{target}/{name}", data)
+
+
+def of_program(about: Tuple[str, str]) -> Iterator[File]:
+    """What is beside a program bin/rsp."""
+    yield installed.starter(about)
+    yield File("share/man/man1/rsp.1", manpage.page(*installed.version()).encode())
+
+
+def contents(system: str, folder: Path, about: Tuple[str, str], thin: Thin = thinned) -> Iterator[File]:
+    """Each file of a system's archive but its README."""
+    yield from of_folder(folder)
+    if system == "wasm64":
+        yield from of_repository(PARTS_OF_WASM)
+    elif system != "page":
+        yield from of_repository(PARTS)
+        yield from of_rust(system, folder, thin)
+    if (folder / "bin/rsp").exists():
+        yield from of_program(about)
+
+
+def name_of(system: str, version: str) -> str:
+    """The name of a system's archive."""
+    return f"rsp-{version}-{system}.{ENDINGS.get(system, 'tar.gz')}"
+
+
+def archive(system: str, folder: Path, about: Tuple[str, str], thin: Thin = thinned) -> bytes:
+    """The archive of a system, of the folder that was made for it. npm packs into a folder `package`."""
+    version = installed.version()[0]
+    top = "package" if system == "wasm64" else f"rsp-{version}-{system}"
+    files = list(contents(system, folder, about, thin))
+    has_program = any(it.name in ("bin/rsp", "bin/rsp.exe") for it in files)
+    files.append(File("README.md", readme.page(system, version, about, has_program)))
+    whole = packed.with_sums(pages.in_archive(files, top))
+    return (packed.zipped if ENDINGS.get(system) == "zip" else packed.tarred)(top, whole)
