@@ -1,7 +1,7 @@
-"""tests/part archive [ARCHIVE]: the archive of ./release, used as one who has nothing else uses it.
+"""tests/part archive [ARCHIVE..]: archives of ./release, used as one who has nothing else uses them.
 
-It fails if something in the archive does otherwise than its pages say, or needs more than the C library. It
-unpacks the archive into an empty folder and works there in an empty environment:
+It fails if something in an archive does otherwise than its pages say, or needs more than the C library. It
+unpacks each into an empty folder and works there in an empty environment. Of Linux on x86-64 it tries
 
   - the program, also in the tests that the built program has passed
   - the library by its files, by pkg-config, by CMake, in Python by the wheel, and in Rust by each rustc here
@@ -10,33 +10,37 @@ unpacks the archive into an empty folder and works there in an empty environment
   - test vectors, on the program and on the library; the links of the pages, and the checksums
   - symbols: program, library, wheel and plugin need no glibc above 2.17, and no other library
 
-Without ARCHIVE it makes the archive by ./release, twice.
+Of other systems it reads all files, the wheel's and the crate's too, and tries what can be run here:
+
+  - linux-aarch64, windows-x86_64: the program, and a program in C, by the files, pkg-config and CMake, under
+    qemu and wine
+  - wasm64: npm, Node, tsc, and the example in Chromium; page: what it loads; macos: symbols and load commands
+
+Without ARCHIVE it makes the archive for Linux on x86-64 by ./release, twice, with --systems others too. What
+a tool is missing for is left out, with the name of its package. Stand-ins of all archives are packed always.
 """
 
-import hashlib
 import os
 import re
 import shutil
 import subprocess
 import sys
-import tarfile
 import tempfile
 import zipfile
 from pathlib import Path
-from typing import Any, Optional, Set
+from typing import List, Sequence
 
 from rsp_tests import TOP
-from rsp_tests.archive import commands
+from rsp_tests.archive import commands, systems
+from rsp_tests.archive.unpacked import BARE, Archive, test_links, test_sums, unpacked
 from rsp_tests.common.arguments import reader
 from rsp_tests.common.cmake import SAID as LOCKSTEP
 from rsp_tests.common.cmake import test_cmake
-from rsp_tests.common.pages import anchor, page
-from rsp_tests.common.processes import Ended, lacking, run
+from rsp_tests.common.pages import page
+from rsp_tests.common.processes import lacking, run
 from rsp_tests.common.report import Report, leave_out
 from rsp_tests.common.symbols import OLDEST, needs
-from rsp_tests.common.workshop import Workshop
 
-BARE = {"PATH": "/usr/bin:/bin", "LC_ALL": "C"}
 OBJECT = TOP / "crates/rsp_main/out/rsp_main.o"
 PLUGIN = "plugin/mupen64plus-rsp-proved.so"
 PLUGIN_CALLS = "DoRspCycles InitiateRSP PluginGetVersion PluginShutdown PluginStartup RomClosed".split()
@@ -60,33 +64,6 @@ cc -o "$0"/lockstep examples/c/lockstep.c -lrsp
 /usr/local/bin/rsp dis /dev/null
 find /usr/local ! -user root
 """
-
-
-class Archive(Workshop):
-    """The unpacked archive, in an empty environment."""
-
-    def run(self, *words: object, more: Optional[Any] = None, **how: Any) -> "Ended[str]":
-        return super().run(*words, **{"env": {**BARE, **(more or {})}, **how})
-
-
-def unpacked(report: Report, archive: Path, into: Path) -> Archive:
-    with tarfile.open(archive) as pack:
-        names = pack.getnames()
-        report.see("names are sorted", names == sorted(names))
-        members = {(it.mtime, it.uid, it.gid, it.uname, it.gname) for it in pack.getmembers()}
-        report.see("times and owners are fixed", len(members) == 1)
-        pack.extractall(into)
-    return Archive(report, next(into.iterdir()))
-
-
-def test_sums(archive: Archive) -> None:
-    at = archive.folder
-    sums = {name: sum_ for sum_, name in map(str.split, (at / "SHA256SUMS").read_text().splitlines())}
-    files = [it for it in at.rglob("*") if it.is_file() and not it.is_symlink()]
-    there = {str(it.relative_to(at)): hashlib.sha256(it.read_bytes()).hexdigest() for it in files}
-    del there["SHA256SUMS"]
-    archive.see("SHA256SUMS names each file", set(there) == set(sums), sorted(set(there) ^ set(sums)))
-    archive.see("the sums are right", there == sums)
 
 
 def test_program(archive: Archive) -> None:
@@ -245,25 +222,6 @@ def test_man(archive: Archive) -> None:
     archive.see("the man page", text.startswith(".TH RSP 1 ") and ".SH SCRIPTS\n" in text)
 
 
-def anchors(path: Path) -> Set[str]:
-    """The anchors of a page's headings, as they are made on the web."""
-    text = re.sub(r"(?ms)^```.*?^```", "", path.read_text())
-    return {anchor(it) for it in re.findall(r"(?m)^#+ +(.*?) *$", text)}
-
-
-def test_links(archive: Archive) -> None:
-    count, dead = 0, set()
-    for path in archive.folder.rglob("*.md"):
-        for target, name in re.findall(r"\]\(([^)\s#]*)(?:#([^)\s]*))?\)", path.read_text()):
-            place = path.parent / target if target else path
-            is_anchor = name and place.suffix == ".md"
-            is_dead = not place.exists() or (is_anchor and name not in anchors(place))
-            if "://" not in target and is_dead:
-                dead.add(f"{path.relative_to(archive.folder)}: {target}#{name}")
-            count += 1
-    archive.see("each link of a page leads somewhere", count > 20 and not dead, sorted(dead))
-
-
 def test_symbols(archive: Archive) -> None:
     """By the rules of auditwheel for the tag manylinux_2_17."""
     missing = lacking("objdump")
@@ -327,33 +285,57 @@ PARTS = (
 )
 
 
-def released(report: Report) -> Optional[Path]:
-    """The archive that ./release makes, which is made twice; None if it isn't made."""
+def released(report: Report, words: Sequence[str]) -> List[Path]:
+    """The archives that ./release makes with these words, twice; none if it fails."""
     if not OBJECT.is_file():
         run("rt", "run", "--", "--version", cwd=OBJECT.parent.parent)
-    made = run(TOP / "release", "--untested", stderr=subprocess.PIPE)
+    made = run(TOP / "release", "--untested", *words, stderr=subprocess.PIPE)
     if not report.see("./release", made.returncode == 0, made.stderr):
-        return None
-    archive = TOP / made.stdout.split(":")[0]
-    first = archive.read_bytes()
-    run(TOP / "release", "--untested")
-    report.see("two runs give the same bytes", archive.read_bytes() == first)
-    return archive
+        return []
+    archives = [TOP / it for it in re.findall(r"(?m)^(dist/\S+): ", made.stdout)]
+    sums = run("sha256sum", "--strict", "-c", "SHA256SUMS", cwd=TOP / "dist").stdout
+    report.see("dist/SHA256SUMS", sums == "".join(f"{it.name}: OK\n" for it in sorted(archives)), sums)
+    first = [it.read_bytes() for it in archives]
+    run(TOP / "release", "--untested", *words)
+    report.see("two runs give the same bytes", [it.read_bytes() for it in archives] == first)
+    return archives
+
+
+def system_of(archive: Archive) -> str:
+    """The system of an archive, by its folder; npm wants another name of its own."""
+    name = archive.folder.name
+    return "wasm64" if name == "package" else re.sub(r"^rsp-[\d.]+-", "", name)
+
+
+def test(report: Report, packed: Path) -> None:
+    """One archive."""
+    with tempfile.TemporaryDirectory() as folder:
+        archive = unpacked(report, packed, Path(folder))
+        system = system_of(archive)
+        if system in systems.MADE:
+            systems.test(report, packed, archive, system)
+        elif report.see("the system of the archive", system == "linux-x86_64", system):
+            for part in PARTS:
+                part(archive)
 
 
 def main() -> None:
     words = reader("tests/part archive", __doc__)
-    words.add_argument("archive", nargs="?", metavar="ARCHIVE", type=Path, help="an archive of ./release")
-    given = words.parse_args().archive
-    if given and not given.is_file():
-        words.error(f"there is no archive {given}: ./release makes one")
+    words.add_argument("archives", nargs="*", metavar="ARCHIVE", type=Path, help="an archive of ./release")
+    words.add_argument("--systems", nargs="*", metavar="NAME", help="other systems, as of ./release")
+    given = words.parse_args()
+    for it in given.archives:
+        if not it.is_file():
+            words.error(f"there is no archive {it}: ./release makes one")
     report = Report()
-    made = given.resolve() if given else released(report)
-    if made:
-        with tempfile.TemporaryDirectory() as folder:
-            archive = unpacked(report, made, Path(folder))
-            for part in PARTS:
-                part(archive)
+    systems.test_stand_ins(report)
+    systems.test_refusals(report)
+    others = [] if given.systems is None else ["--systems", *given.systems]
+    for packed in [it.resolve() for it in given.archives] or released(report, others):
+        before = report.passed, report.failed
+        test(report, packed)
+        passed, failed = report.passed - before[0], report.failed - before[1]
+        print(f"{packed.name}: {passed} right, {failed} wrong", flush=True)
     sys.exit(report.end())
 
 

@@ -46,7 +46,7 @@ def see_wheel(counts: Counts, system: str, folder: Path) -> None:
     """The wheel's tags, its files, its record, and that its library is the one beside it."""
     tags = PLATFORMS[system]
     named = f"rsp-{header.version()}-py3-none-{'.'.join(tags)}.whl"
-    found = [it.name for it in (folder / "python").iterdir()]
+    found = [it.name for it in (folder / "python").glob("*.whl")]
     if not counts.see(f"{system}: the wheel {found}", found == [named]):
         return
     with zipfile.ZipFile(folder / "python" / named) as wheel:
