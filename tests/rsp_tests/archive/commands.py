@@ -19,8 +19,8 @@ from rsp_tests.common.user import User
 # Programs that a line of commands begins with. A file of the repository that can be run is one, too.
 PROGRAMS = frozenset(
     "apt-get awk bash c++ cargo cat cc cd cmake cp cpp curl dask echo eval export g++ gcc git ldconfig make "
-    "man mkdir mupen64plus mv npm od pip pkg-config printf python python3 rm rsp rt rustc sed sh sha256sum sudo "
-    "tar wget".split()
+    "man mkdir mupen64plus mv npm od pip pkg-config printf python python3 rm rsp rt rustc sed sh sha256sum "
+    "sudo tar wget".split()
 )
 
 

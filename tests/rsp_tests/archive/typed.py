@@ -174,7 +174,7 @@ WAYS = (
         prints="..\nHALT 0x1234",
         needs=("import ensurepip",),
     ),
-    Way(EMBEDDING, "npm install", left_out="it needs the archive for Node; tests/part archive types it there"),
+    Way(EMBEDDING, "npm install", left_out="it needs another archive, on which it is tried"),
     Way(
         "docs/MACHINE.md",
         "python3 -c",
