@@ -81,7 +81,7 @@ class About(NamedTuple):
     lacks: str
 
 
-BOTH, LIBRARY_ALONE = "the program `rsp` and its library", "the library of `rsp`"
+LIBRARY_OF_C = "the library of `rsp`"
 PLUGIN = "the plugin of mupen64plus and campaigns"
 BROWSERS = (
     "It was run in Chromium alone. It needs 64-bit memories of WebAssembly, which Chrome and Edge have since "
@@ -90,20 +90,20 @@ BROWSERS = (
 ABOUT: Dict[str, About] = {
     "linux-aarch64": About(
         "Linux on ARM",
-        BOTH,
+        LIBRARY_OF_C,
         "It is for glibc 2.17 or newer, and was run under qemu, never on a processor.",
         f"It lacks {PLUGIN}, which were never run on ARM.",
     ),
     "macos": About(
         "macOS on ARM and x86-64",
-        LIBRARY_ALONE,
+        LIBRARY_OF_C,
         "It is for macOS 11 or newer, and **was never run on a Mac**: its code was taken out of the library, "
         "and run on Linux.",
         f"It lacks the program, {PLUGIN}.",
     ),
     "windows-x86_64": About(
         "Windows on x86-64-v2",
-        BOTH,
+        LIBRARY_OF_C,
         "It is for processors since about 2009, and was run under wine, never on Windows.",
         f"It lacks {PLUGIN}, which need Linux. The pages show the commands of Linux.",
     ),
@@ -153,10 +153,10 @@ def lines(system: str, has_program: bool) -> Sequence[Line]:
 def page(system: str, version: str, about: Tuple[str, str], has_program: bool) -> bytes:
     """The README of a system's archive. `about` says of what and by what it was built."""
     it = ABOUT[system]
-    what = LIBRARY_ALONE if it.what == BOTH and not has_program else it.what
     model = "a proved model of the Nintendo 64's Reality Signal Processor"
+    program = ", and the program `rsp` in C over it, which is tested only" if has_program else ""
     licence = "No licence is chosen yet; the choice is the owner's."
-    head = f"For users of this archive: {what}, {model}. {it.runs} {licence}"
+    head = f"For users of this archive: {it.what}, {model}{program}. {it.runs} {licence}"
     lacks = f"{it.lacks} The archive for Linux on x86-64 has all."
     table = "".join(f"| {wanted} | {typed} |\n" for wanted, typed in lines(system, has_program))
     parts = [f"# rsp {version} for {it.title}", fill(head, WIDTH), fill(lacks, WIDTH)]
