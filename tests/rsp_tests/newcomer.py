@@ -59,6 +59,7 @@ LEFT = [
     (r"campaigns-planted", "20 minutes of processor; the part `campaigns` of tests/all plants one fault"),
     (r"^tests/all", "its parts are run above"),
     (r"^\./rsp --help$", "its status is 2, as of a refused command line; `pages` compares its text"),
+    (r"^\./release ", "it runs this test"),
     (r"^tools/systems|systems/wasm64", "it takes minutes; tests/part systems makes and runs it"),
     (r"\bmine\.s\b", "the text is the reader's own; the part `texts` of tests/all has one"),
 ]
