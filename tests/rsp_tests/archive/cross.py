@@ -14,13 +14,12 @@ from rsp_tests.archive.unpacked import Archive
 from rsp_tests.common.cmake import PROJECT
 from rsp_tests.common.cmake import SAID as LOCKSTEP
 from rsp_tests.common.pages import page
-from rsp_tests.common.processes import lacking
+from rsp_tests.common.processes import Ended, lacking
 from rsp_tests.common.report import leave_out
 from rsp_tests.systems.runners import Arm, Runner, Windows
 from rsp_tests.systems.rust import TESTED, rust_for
 from rsp_tests.systems.windows import CROSS
 
-Ran = "subprocess.CompletedProcess[bytes]"
 EXAMPLE = "examples/c/lockstep.c"
 LOOP, LOOP_WORDS = "loop: addiu $1, $1, -1\nbne $1, $0, loop\n", "2421ffff1420fffe"
 
@@ -101,7 +100,7 @@ def test_cmake(archive: Archive, cross: Cross, runner: Runner) -> None:
     archive.see("CMake for this machine", archive.run(*words, "-B", folder / "here").returncode != 0)
 
 
-def run(archive: Archive, runner: Runner, *words: str, given: bytes = b"") -> Ran:
+def run(archive: Archive, runner: Runner, *words: str, given: bytes = b"") -> "Ended[bytes]":
     """Runs a program of the archive."""
     command = [*runner.start, *words]
     return subprocess.run(command, cwd=archive.folder, env=runner.env, input=given, capture_output=True)
