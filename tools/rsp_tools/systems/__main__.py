@@ -8,7 +8,8 @@ named.
   macos            library/systems/macos: librsp.dylib and librsp.a for Intel and ARM, pkg-config, CMake, and
                    the Python wheel; macOS 11. Never run on a Mac
   wasm64           library/systems/wasm64: rsp.wasm for browsers, Node 24 and Deno, with an ES module and its
-                   types, as a package of npm
+                   types, as a package of npm; and of it library/systems/page, static files that answer
+                   scripts in a browser
 
 It wants a clone whose library is built (library/c/build), the kit, and packages of Debian that it names.
 Each system takes at most three minutes of processor, and the same sources give the same bytes. What the
@@ -22,25 +23,27 @@ import signal
 import sys
 import tempfile
 from pathlib import Path
-from typing import Callable, Dict, List, NamedTuple, Tuple
+from typing import Callable, Dict, List, Mapping, NamedTuple, Tuple
 
-from . import linux, macos, places, wasm, windows
+from . import linux, macos, page, places, wasm, windows
 from .modules import Source, module
 from .toolchain import Refused, missing
 
 
 class System(NamedTuple):
-    """How a system's folder is made, and the programs of Debian's packages that make it."""
+    """How a system's folder is made, the programs of Debian's packages that make it, and the folders that are
+    made of it."""
 
     make: Callable[[Path, Path, Source], None]
-    programs: Tuple[str, ...]
+    programs: Tuple[str, ...] = ()
+    more: Mapping[str, Callable[[Path, Path], None]] = {}
 
 
 SYSTEMS: Dict[str, System] = {
     "linux-aarch64": System(linux.make, ("aarch64-linux-gnu-gcc",)),
     "windows-x86_64": System(windows.make, ("x86_64-w64-mingw32-gcc",)),
-    "macos": System(macos.make, ()),
-    "wasm64": System(wasm.make, ()),
+    "macos": System(macos.make),
+    "wasm64": System(wasm.make, more={"page": page.make}),
 }
 
 
@@ -55,23 +58,28 @@ def put(made: Path, to: Path) -> None:
 
 
 def make(name: str) -> None:
-    """Makes a system's folder beside its place, and only then puts it there."""
-    absent = missing(*SYSTEMS[name].programs)
+    """Makes a system's folder, and those of it, beside their places, and only then puts them there."""
+    system = SYSTEMS[name]
+    absent = missing(*system.programs)
     if absent:
         raise Refused(f"it needs packages of Debian: apt-get install {absent}")
     places.MADE.mkdir(parents=True, exist_ok=True)
     with tempfile.TemporaryDirectory() as at, tempfile.TemporaryDirectory(
         dir=places.MADE, prefix=f".{name}."
     ) as beside:
-        SYSTEMS[name].make(Path(beside, name), Path(at), module)
-        put(Path(beside, name), places.MADE / name)
+        system.make(Path(beside, name), Path(at), module)
+        for other, make_of in system.more.items():
+            make_of(Path(beside, other), Path(beside, name))
+        for made in sorted(Path(beside).iterdir()):
+            put(made, places.MADE / made.name)
 
 
 def report(name: str) -> None:
     """Names what was made, with its sizes."""
-    print(f"{name}:")
-    for path in sorted(it for it in (places.MADE / name).rglob("*") if it.is_file()):
-        print(f"  {path.stat().st_size:>9} {path.relative_to(places.TOP)}")
+    for made in (name, *SYSTEMS[name].more):
+        print(f"{made}:")
+        for path in sorted(it for it in (places.MADE / made).rglob("*") if it.is_file()):
+            print(f"  {path.stat().st_size:>9} {path.relative_to(places.TOP)}")
 
 
 def main(words: List[str]) -> int:
