@@ -6,11 +6,15 @@
 export const LONGEST = 24000;
 const MOST = LONGEST / 3 * 4;
 
+/** @param {number} count */
+function grouped(count) { return count.toLocaleString("en"); }
+
 /** The part of an address that carries a script.
  * @param {Uint8Array} script */
 export function fragment_of(script) {
   if (script.length > LONGEST) {
-    throw new RangeError(`The script has ${script.length} bytes, and a link carries at most ${LONGEST}: save it instead.`);
+    const most = `a link carries at most ${grouped(LONGEST)}`;
+    throw new RangeError(`The script has ${grouped(script.length)} bytes, and ${most}: save it instead.`);
   }
   const base64 = btoa(String.fromCharCode(...script));
   return `#bytes=${script.length}&script=${base64.replaceAll("+", "-").replaceAll("/", "_").replaceAll("=", "")}`;
@@ -22,7 +26,7 @@ export function script_of(fragment) {
   const words = new URLSearchParams(fragment.slice(1)), base64 = words.get("script");
   if (base64 === null) return null;
   if (base64.length > MOST) {
-    throw new RangeError(`The link's script has ${base64.length} characters, and at most ${MOST} are read.`);
+    throw new RangeError(`The link has ${grouped(base64.length)} characters of a script, and at most ${grouped(MOST)} are read.`);
   }
   const text = decoded(base64);
   if (text === null || words.get("bytes") !== String(text.length)) {

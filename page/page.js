@@ -47,7 +47,7 @@ function show(bytes, sentence) {
 
 /** Whether the script may be replaced: nothing that somebody typed is lost without a question. */
 function may_replace() {
-  return !script.is_changed || confirm("You have changed the script. Replace it?");
+  return !script.is_changed || !the("script").value || confirm("You have changed the script. Replace it?");
 }
 
 function changed() {
@@ -71,7 +71,11 @@ function choose_example() {
 function show_linked(is_asking = true) {
   try {
     const linked = script_of(location.hash);
-    if (!linked || is_asking && !may_replace()) return false;
+    if (!linked) return false;
+    if (is_asking && !may_replace()) {
+      forget_link();
+      return false;
+    }
     the("example").value = "";
     show(linked, "This script came by a link. Read it before you run it.");
     return true;
@@ -125,6 +129,12 @@ async function take_image(bytes, name) {
   const { fault } = await trials.run(new Uint8Array(), bytes, () => {});
   if (fault) throw new RangeError(fault);
   set_image(bytes, `${name}, ${grouped(bytes.length)} bytes`);
+  say(`Runs begin with ${name}.`);
+}
+
+function take_zeros() {
+  set_image(undefined, ZEROS);
+  say("Runs begin with zeros.");
 }
 
 function set_image(bytes, name) {
@@ -155,9 +165,9 @@ function set_running(is) {
 
 /** @param {import("./runs.js").Ended} ended */
 function told({ is_stopped, fault }) {
-  const lines = `${grouped(replies.count)} lines`;
+  const lines = replies.count === 1 ? "1 line" : `${grouped(replies.count)} lines`;
   if (is_stopped) return `Stopped after ${lines}. The bench of this run is gone: there is no RDRAM to save.`;
-  return fault ? `${fault}. ${lines} are answered.` : `The script has ended: ${lines}.`;
+  return fault ? `${fault}. Answered: ${lines}.` : `The script has ended: ${lines}.`;
 }
 
 async function run() {
@@ -189,12 +199,14 @@ function listen() {
   the("example").onchange = choose_example;
   the("script").oninput = changed;
   the("script").onkeydown = (event) => {
-    if (event.key === "Enter" && (event.ctrlKey || event.metaKey)) run();
+    if (event.key !== "Enter" || !event.ctrlKey && !event.metaKey) return;
+    event.preventDefault();
+    run();
   };
   the("link").onclick = make_link;
   the("run").onclick = run;
   the("stop").onclick = () => runs.stop();
-  the("zeros").onclick = () => set_image(undefined, ZEROS);
+  the("zeros").onclick = take_zeros;
   the("save-script").onclick = () => save("script.rsp", [script.bytes]);
   the("save-replies").onclick = () => save("replies.txt", replies.bytes);
   the("save-image").onclick = () => save("rdram.bin", [left]);

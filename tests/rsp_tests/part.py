@@ -17,7 +17,13 @@ from rsp_tests.parts import PARTS
 HERE = Path(__file__).resolve().parent
 # What tests/all and tests/part consist of, and modules in folders that are tests beside the folder's `run`.
 NO_TESTS = {"__init__", "all", "part", "parts"}
-MORE = "campaigns/planted.py", "campaigns/rates.py", "embedding/benches.py", "plugin/speed.py"
+MORE = (
+    "campaigns/planted.py",
+    "campaigns/rates.py",
+    "embedding/benches.py",
+    "plugin/speed.py",
+    "systems/page/run.py",
+)
 
 
 def modules() -> Dict[str, Path]:

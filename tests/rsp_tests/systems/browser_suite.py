@@ -15,6 +15,7 @@ from rsp_tests.scripts import image_of, stored, wanted_of
 from . import changes, node, planted, vectors
 from .browser import Chromium
 from .counts import Counts
+from .page import run as page
 from .runners import Ended, Runner
 from .suite import DATA, EMBEDDING, EXAMPLE, FEW, Suite
 
@@ -34,6 +35,11 @@ class BrowserSuite(Suite):
     """Tests in Chromium, and of what is beside the library."""
 
     runner: Chromium
+
+    def all(self) -> None:
+        super().all()
+        (self.at / "page").mkdir()
+        page.see(self.counts, self.at / "page")
 
     def say(self, name: str, found: Ended) -> None:
         """Adds the counts of a test, and says its last line."""
