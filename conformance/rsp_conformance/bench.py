@@ -251,9 +251,7 @@ def set_place(script: Script, state: Texts) -> None:
 
 
 def set_sp(script: Script, state: Texts) -> None:
-    """Sets the SP registers that can be set: all but 2 and 3, and of the status the bits that a write can
-    set.
-    """
+    """Sets the SP registers that can be set: all but 2 and 3, and what a write can set of the status."""
     for number in (0, 1, *range(8, 16)):
         script.say(f"write {number} {int(state[f'c{number}'], 16)}")
     status = int(state["c4"], 16)

@@ -65,9 +65,7 @@ def has_cases(name: str) -> bool:
 
 
 def spoilt_steps_found(program: str, names: List[str]) -> Iterator[Complaints]:
-    """That the runner names the case of which a digit, byte or part is another, and nothing in the true one
-    before it.
-    """
+    """That the runner names a case with another digit, byte or part, and not the true one before it."""
     entries, wants = [], []
     for name in names:
         random = Random("spoilt", name)
@@ -82,9 +80,7 @@ def spoilt_steps_found(program: str, names: List[str]) -> Iterator[Complaints]:
 
 
 def spoilt_program_found(name: str) -> Iterator[Complaints]:
-    """That a changed byte of a program's end is named by its case and field, and a dropped byte by the
-    program.
-    """
+    """That the byte of a program's end that is changed is named by case and field, one dropped by program."""
     random = Random("spoilt", name)
     entry = random.pick(manifest_in(VECTORS, name)["programs"])
     case = random.pick(entry["cases"])
@@ -261,9 +257,7 @@ def told_by_runner(program: str, name: str, cases: Any) -> str:
 
 
 def ten_lines_find(program: str, name: str) -> Iterator[Complaints]:
-    """That the runner of README.md passes an instruction's first cases on the program, and names each that is
-    spoilt.
-    """
+    """That the runner of README.md passes an instruction's first cases, and names each that is spoilt."""
     cases = json.loads(full.full_text(entries_in(VECTORS, name)[:2]))
     told = told_by_runner(program, name, cases)
     yield unless(not told, f"the runner of README.md says of {name}: {told[:200]}")

@@ -94,9 +94,7 @@ def place_of(manifest: Dict[str, Any], name: str, lane: int) -> Tuple[Entry, Ent
 
 
 def in_programs(row: Row, found: Found, manifest: Dict[str, Any], folder: Path) -> Iterator[Complaints]:
-    """That the runner of whole programs names the case and the lane, if a result is wrong: in each outcome
-    one lane.
-    """
+    """That the runner of whole programs names the case and lane of a wrong result: of each outcome one."""
     for number, (kind, lanes) in enumerate(found.items()):
         lane = number % 8
         if lanes.get(lane) and not flag_of(kind):

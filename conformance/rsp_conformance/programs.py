@@ -145,9 +145,7 @@ def keys(case: Case, letter: str) -> List[str]:
 
 
 def set_up(program: Program, case: Case) -> None:
-    """Sets what a case names: flags and accumulators if it names them, the divider if it is stored too, then
-    its registers.
-    """
+    """Sets what a case names: flags, accumulators, the divider if it is stored too, then its registers."""
     before = {**bench.DEFAULT, **case.before}
     if "vco" in case.before:
         at = program.put(before["vco"] + before["vcc"] + "00" + before["vce"] + "0000")
@@ -192,9 +190,7 @@ def begun(program: Program, case: Case, vectors: int = 0, halves: int = 0, words
 
 
 def add_computing(program: Program, case: Case) -> None:
-    """A case of a computing instruction: its result, accumulators, flags, and of a divide instruction the
-    divider.
-    """
+    """A case of a computing instruction: its result, accumulators, flags, and the divider if it divides."""
     has_result, is_vector = case.row.form != "nothing", case.row.form == "vector"
     saved = begun(program, case, 3 + has_result, 3 if is_vector else 5)
     if has_result:
@@ -209,9 +205,7 @@ def add_computing(program: Program, case: Case) -> None:
 
 
 def save_divider(program: Program, case: Case, saved: Saved) -> None:
-    """What can be seen of the divider: DIV_OUT by VRCPH; or, since that loads, what is loaded, by the next
-    VRCPL of 1.
-    """
+    """What can be seen of the divider: DIV_OUT by VRCPH, which loads; or what is loaded, by VRCPL of 1."""
     program.emit("addiu $2, $0, 1", "mtc2 $2, $v2[0]")
     if int(case.name[-1]) % 2 == 0:
         program.emit("vrcph $v1[0], $v2[0]", "mfc2 $2, $v1[0]")
@@ -291,9 +285,7 @@ SP_WORDS = {0: "SP_MEM_ADDR", 1: "SP_DRAM_ADDR", 4: "signals of SP_STATUS", 7: "
 
 
 def add_sp(program: Program, case: Case) -> None:
-    """MFC0 and MTC0 of the registers that don't start anything: the addresses of a DMA, the signals, the
-    semaphore.
-    """
+    """MFC0 and MTC0 of registers that start nothing: a DMA's addresses, the signals, the semaphore."""
     number, random = int(case.name[-3:]), Random("sp", case.name)
     c, value, t = (0, 1, 4, 7)[number % 4], random.below(1 << 32), case.fields["t"] or 5
     if c == 4:

@@ -12,9 +12,7 @@ def changed_digit(text: str, random: Random) -> str:
 
 
 def spoilt_entries(entry: Entry, random: Random) -> Iterator[Entry]:
-    """Three false copies of a case: in its state after a digit is changed, a byte is dropped, and a part is
-    dropped.
-    """
+    """Three false copies of a case: after its step a digit is changed, a byte dropped, a part dropped."""
     after = entry["after"]
     key = random.pick(sorted(key for key in after if key not in ("loaded", "interrupt")))
     parts = after[key] if isinstance(after[key], dict) else after

@@ -1,5 +1,4 @@
-"""A state as hexadecimal texts, as form 1 of the vectors and bench.py have it, and as the numbers of form 3.
-"""
+"""A state as hexadecimal texts, as form 1 of the vectors and bench.py have it, and as numbers of form 3."""
 
 from typing import Any, Dict
 

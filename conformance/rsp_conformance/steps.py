@@ -53,9 +53,7 @@ def read_row(text: str) -> List[Entry]:
 
 
 def complaints(entry: Entry, look: Texts) -> List[str]:
-    """How a machine's state after a case differs from what the case says: a list of texts that name what
-    differs.
-    """
+    """How a machine's state after a case differs from what the case says: a text for each difference."""
     expected, found = {**bench.DEFAULT, **entry["before"], **entry["after"]}, []
     for key in bench.DEFAULT:
         if look[key] != expected[key]:

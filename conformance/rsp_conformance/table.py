@@ -8,9 +8,7 @@ from typing import Any, Dict, Iterator, NamedTuple, Optional, Tuple
 
 
 class Row(NamedTuple):
-    """The name in lower case, as in assembly text; what the fields are; and the bits that select the
-    instruction.
-    """
+    """Its name in lower case, as in assembly text; what the fields are; and the bits that select it."""
 
     name: str
     form: str

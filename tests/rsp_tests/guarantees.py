@@ -146,8 +146,7 @@ def precondition_cases(names: List[str]) -> Iterator[Case]:
 
 
 def assumed_cases() -> Iterator[Case]:
-    """GUARANTEES names what the proofs don't cover, and which definitions of the kit run_bench's contract
-    cites."""
+    """GUARANTEES names what no proof covers, and which definitions of the kit run_bench's contract cites."""
     assumed = page("docs/GUARANTEES.md").partition("\n## Assumed\n")[2].partition("\n## ")[0]
     for words in ("`tools/packaging/start.c`", '"known to compile some correct code wrongly"'):
         is_named = words in " ".join(assumed.split())

@@ -65,8 +65,7 @@ def reserved_functions() -> Iterator[int]:
 
 
 def wrong_bits(program: str) -> Iterator[str]:
-    """Another bit that selects makes another instruction; one that is ignored makes a word that isn't
-    canonical."""
+    """Another bit that selects makes another instruction, an ignored one a word that isn't canonical."""
     rows, all_bits = table.ROWS.values(), [1 << it for it in range(32)]
     tries = [(row, bit) for row in rows for bit in all_bits if (row.mask | table.ignored_bits(row)) & bit]
     for (row, bit), name in zip(tries, names_of(program, [row.value ^ bit for row, bit in tries])):

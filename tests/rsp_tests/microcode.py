@@ -129,8 +129,7 @@ def counted(choose: Random, most: int = 4095) -> int:
 
 
 def page_numbers() -> Dict[str, Tuple[int, str]]:
-    """By the table of microcode/README.md: the words of each routine, and its instructions as `A` or `A + B
-    X`."""
+    """The table of microcode/README.md: the words of each routine, and its instructions, `A` or `A + B X`."""
     table = (TOP / "microcode" / "README.md").read_text()
     found = re.findall(r"^\| \[(\w+)\.s\].* \| (\d+) \| (.*) \|$", table, re.M)
     return {name: (int(words), cost) for name, words, cost in found}

@@ -38,8 +38,7 @@ FILES = 60
 
 
 def target_of(word: int, address: int) -> Optional[int]:
-    """Where a jump or a branch leads, if it is one without ignored bits, and to an address of IMEM; else
-    None."""
+    """Where a jump or branch leads, without ignored bits and to an address of IMEM; else None."""
     opcode, rt = word >> 26, word >> 16 & 31
     if opcode in (2, 3):
         return 4 * (word & 1023) if word & 0x3FFFC00 == 0 else None
@@ -360,8 +359,7 @@ def played(files: Files, script: str) -> str:
 
 
 def task_cases(files: Files) -> Iterator[Case]:
-    """The image of a task, as MACHINE.md makes it, of the texts of examples/task.rsp: the task adds two
-    sounds."""
+    """The image of a task, as MACHINE.md makes it, of examples/task.rsp: the task adds two sounds."""
     texts = re.findall(r"(?ms)^asm \S+\n(.*?)^end$", (TOP / "examples/task.rsp").read_text())
     data = random_bytes(random.Random(8), 32)
     for name, text, at in (("ucode.bin", texts[0], "0x080"), ("boot.bin", texts[1], "0")):

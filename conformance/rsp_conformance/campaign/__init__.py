@@ -1,6 +1,4 @@
-"""What conformance/campaign is made of: cases by their numbers, random programs, emulators, tasks, and tables
-of results.
-"""
+"""What conformance/campaign is made of: numbered cases, random programs, emulators, tasks, and tables."""
 
 
 class CampaignFault(Exception):

@@ -1,5 +1,4 @@
-"""A campaign's folder: what the campaign is, its tasks, and their results, each a file that is written whole.
-"""
+"""A campaign's folder: the campaign, its tasks, and their results, each a file that is written whole."""
 
 import argparse
 import json

@@ -282,9 +282,7 @@ def registers(d: Draw) -> Array:
 
 
 def cases_of(name: str, seed: str, start: int, count: int) -> Tuple[Array, Array]:
-    """Cases of an instruction from `start` on, and which show what the documents of the vectors chose
-    themselves.
-    """
+    """Cases of an instruction from `start` on, and which of them show what the documents chose."""
     row = INSTRUCTIONS[name]
     d = Draw(name, seed, start, count)
     fields: Fields = {}

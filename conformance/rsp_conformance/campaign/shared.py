@@ -1,6 +1,4 @@
-"""What a campaign's processes share without numpy: how cases are named, and the ends of a batch in shared
-memory.
-"""
+"""What a campaign's processes share without numpy: names of cases, and a batch's ends in shared memory."""
 
 from typing import Any, Dict
 

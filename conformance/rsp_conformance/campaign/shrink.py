@@ -34,9 +34,7 @@ OTHERS = [*REGISTERS, *parts_of((DMEM, IMEM, 64), (RDRAM, END, 64))]
 
 
 def settable(program: Program) -> Program:
-    """The program with a state that a script can set: no DIV_OUT, no lengths of a DMA, and DIV_IN only as a
-    number that is loaded.
-    """
+    """The program with a state that a script can set: no DIV_OUT, no lengths of a DMA, a loaded DIV_IN."""
     state = program.state
     state.divider.output = 0
     state.divider.input *= state.divider.loaded
@@ -96,9 +94,7 @@ def source_of(program: Program, words: List[int]) -> str:
 
 
 def script_of(program: Program, steps: int) -> str:
-    """A script for `rsp run`: it sets the state by microcode, loads the memories, makes the steps, and looks
-    at all.
-    """
+    """A script for `rsp run`: it sets the state by microcode, loads the memories, steps, and shows all."""
     script = bench.prelude()
     bench.set_state(script, texts_of(numbers_of(program.state)), program.word(program.state.pc))
     for bank, (low, high) in BANKS.items():

@@ -29,9 +29,7 @@ def options_of(args: argparse.Namespace) -> Options:
 
 
 def client_of(args: argparse.Namespace) -> Any:
-    """Dask's client, of a cluster that is there or of threads here: a task waits for its process, which does
-    the work.
-    """
+    """Dask's client, of a cluster or of threads here: a task waits for its process, which does the work."""
     try:
         import dask
         from distributed import Client

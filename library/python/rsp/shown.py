@@ -1,5 +1,4 @@
-"""Registers as text: the lines of the bench's `regs`, `vregs`, `acc` and `flags`, and tables for a notebook.
-"""
+"""Registers as text: the lines of `regs`, `vregs`, `acc` and `flags`, and tables for a notebook."""
 
 from html import escape
 from typing import Any, Iterable, Iterator, List, NamedTuple, Tuple

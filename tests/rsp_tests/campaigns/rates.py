@@ -37,9 +37,7 @@ def least(work: Callable[[], object], times: int = 3) -> float:
 
 
 def parts_of(name: str, calls: Any) -> List[float]:
-    """Microseconds of a case: of the four calls in C, of the generator, of the library as a side, and of the
-    whole.
-    """
+    """Microseconds of a case: the four calls in C, the generator, the library as a side, and the whole."""
     memories, starts = memories_of(name, "1"), range(0, COUNT, BATCH)
     batches = [cases_of(name, "1", at, BATCH)[0] for at in starts]
     library, ends, shared = Object(built("library"), memories), np.zeros(BATCH, END), np.zeros(BATCH, END)
@@ -84,9 +82,7 @@ def campaign(cases: int, workers: int) -> List[float]:
 
 
 def tell_workers() -> None:
-    """What bounds the gain by more workers: the client's processor time; and the gain by the clock, on a
-    quiet machine.
-    """
+    """What bounds the gain by more workers, the client's processor time; and the gain by the clock."""
     start = campaign(1, 1)[0]
     one, two = campaign(1 << 20, 1), campaign(1 << 20, 2)
     serial, parallel = ((one[part] + two[part]) / 2 for part in (0, 1))

@@ -195,9 +195,7 @@ def raw_words(what: str, seed: str, start: int, count: int) -> Iterator[int]:
 
 
 def numbered_cases(_: Path) -> Checks:
-    """A case alone is the case in any range, a machine can be in its state, and its random words are those of
-    PCG64.
-    """
+    """A case alone is that of any range, a machine can be in its state, and its random words are PCG64's."""
     import numpy as np
     from rsp_conformance.campaign.build import built
     from rsp_conformance.campaign.emulators import Object
@@ -229,9 +227,7 @@ def selected(e: int, lane: int) -> int:
 
 
 def operands_of(name: str, count: int) -> Tuple[Any, Any, Any, Any]:
-    """The elements of cases, their operands a and b by lanes, and accumulators; all from the words and the
-    states.
-    """
+    """The elements of cases, their operands a and b by lanes, and accumulators; all from words and states."""
     import numpy as np
     from rsp_conformance.campaign.generator import cases_of
 
@@ -245,9 +241,7 @@ def operands_of(name: str, count: int) -> Tuple[Any, Any, Any, Any]:
 
 
 def edges(_: Path) -> Checks:
-    """Cases meet each element, each address of DMEM, lanes next to the other operand's, and the limits of
-    clamps.
-    """
+    """Cases meet each element, each address, lanes next to the other operand's, and limits of clamps."""
     import numpy as np
     from rsp_conformance.campaign.generator import cases_of
 
@@ -270,9 +264,7 @@ def edges(_: Path) -> Checks:
 
 
 def pairs_met(names: List[str], _: Path) -> Checks:
-    """Over 65,536 cases of each instruction each pair that matters is as frequent as independent draws make
-    it.
-    """
+    """Over 65,536 cases of each instruction each pair that matters is as frequent as in independent draws."""
     told = run(TOP / "tools/python", "rsp_conformance.campaign.pairs", *names).stdout.splitlines()
     for name in names:
         lacks = [it for it in told if it.startswith(f"{name.upper()}: ")]
@@ -280,9 +272,7 @@ def pairs_met(names: List[str], _: Path) -> Checks:
 
 
 def pairs_missed(_: Path) -> Checks:
-    """Cases that lack a pair are found: an element by the number, a base that is never $0, a lane that
-    follows the element.
-    """
+    """A lacking pair is found: an element by the number, a base that is never $0, a lane by the element."""
     import numpy as np
     from rsp_conformance.campaign import pairs
     from rsp_conformance.campaign.generator import cases_of
@@ -301,9 +291,7 @@ def pairs_missed(_: Path) -> Checks:
 
 
 def no_differences(folder: Path) -> Checks:
-    """The library agrees with itself, as each kind of emulator, in cases and in programs; a second run does
-    nothing.
-    """
+    """The library agrees with itself, as each kind of emulator; a second run does nothing."""
     from rsp_conformance.campaign.build import built
 
     for kind, emulator, names, cases in (
@@ -380,9 +368,7 @@ def planted_in_programs(program: str, folder: Path) -> Checks:
 
 
 def hidden_state(folder: Path) -> Checks:
-    """A CTC2 that spoils a VLT, unless the registers are read between them, is named, and not where it is
-    seen first.
-    """
+    """A CTC2 that spoils a VLT, unless registers are read between them, is named, and not where it shows."""
     ended = campaign(faulty(4), "--cases", 0, "--programs", 60, "--here", folder / "hidden")
     lines = [line for line in ended.stdout.splitlines() if line.startswith("PROGRAM")]
     yield "the word at fault is named", re.search(r", ctc2 \$.*, which shows at vlt ", "".join(lines)), said(
@@ -402,9 +388,7 @@ def state_before(_: Path) -> Checks:
 
 
 def replayed(program: str, folder: Path, it: Dict[str, Any]) -> Checks:
-    """The text of a program that was cut down assembles to its words, and its script ends as the library
-    does.
-    """
+    """The text of a program that was cut down makes its words, and its script ends as the library does."""
     source, script = (folder / "programs/programs" / f"{it['name']}.{kind}" for kind in ("s", "script"))
     made, found = folder / "made", re.match(r"# rsp asm --at (\d+)", source.read_text())
     at = ("--at", found[1] if found else "0")
@@ -690,9 +674,7 @@ def on_dask(folder: Path) -> Checks:
 
 
 def on_losses(folder: Path) -> Checks:
-    """Clusters that lose a worker, the client twice, and the scheduler: the results are those of an
-    undisturbed one.
-    """
+    """Clusters that lose a worker, the client twice, and the scheduler give what an undisturbed one gives."""
     words = (faulty(1), "--instructions", FEW, "--cases", 60000, "--size", 20000, *PROGRAMS)
     ended = campaign(*words, "--here", folder / "quiet")
     quiet, tasks = results_of(folder / "quiet"), 3 * len(FEW.split(",")) + 2

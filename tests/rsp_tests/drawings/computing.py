@@ -283,8 +283,7 @@ def planes(program: str) -> Iterator[List[int]]:
 
 
 def written_bits(program: str) -> Iterator[Tuple[str, List[int]]]:
-    """For each computing instruction the bits of an accumulator that it changes, on states that look
-    random."""
+    """The bits of an accumulator that each computing instruction changes, on states that look random."""
     chance = random.Random(2)
     states = [(*random_state(chance)[:2], [chance.randrange(2**48) for _ in range(8)]) for _ in range(8)]
     cases = [case(name, a, b, accumulators=values) for name in NAMES for a, b, values in states]
@@ -441,8 +440,7 @@ CLAMPS = {"signed clamp": "vmacf", "unsigned clamp": "vmacu", "low clamp": "vmad
 
 
 def clamp_results(program: str) -> Dict[str, List[str]]:
-    """For each clamp what its result is in each range: what an instruction that adds nothing to the
-    accumulator gives."""
+    """The result of each clamp in each range: that of an instruction that adds nothing to the accumulator."""
     zeros, ranges = [0] * 8, RANGES.values()
     cases = [case(name, zeros, zeros, accumulators=it) for name in CLAMPS.values() for it in ranges]
     looks = iter(after(program, cases))

@@ -1,5 +1,4 @@
-"""The pictures of vector loads and stores: which byte of DMEM goes to which byte of a register, or comes
-from there."""
+"""The pictures of vector loads and stores: which bytes of DMEM and of a register belong together."""
 
 from typing import Dict, Iterator, List, NamedTuple, Tuple
 

@@ -35,8 +35,7 @@ class Move(NamedTuple):
 
 
 class Trace(NamedTuple):
-    """What an instruction does: moves, none longer than a byte of DMEM, and zeros, each (first bit,
-    width)."""
+    """An instruction's moves, none longer than a byte of DMEM, and its zeros, each (first bit, width)."""
 
     moves: List[Move]
     zeros: List[Tuple[int, int]]

@@ -1,5 +1,4 @@
-"""The layouts, the numbers and the calls of the module rsp, beside those of crates/rsp_c. It fails if one
-differs."""
+"""The layouts, numbers and calls of the module rsp. It fails if one differs from crates/rsp_c."""
 
 import sys
 

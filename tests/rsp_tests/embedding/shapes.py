@@ -1,5 +1,4 @@
-"""What crates/rsp_c exports, read from its source: calls, structs and numbers, for comparisons with other
-languages."""
+"""What the source of crates/rsp_c exports: calls, structs and numbers, to compare other languages with."""
 
 import ctypes
 import re
@@ -126,8 +125,7 @@ def room_for_replies() -> int:
 
 
 def structs_of(text: str, known: Optional[Mapping[str, Struct]] = None) -> Dict[str, Struct]:
-    """Each repr(C) struct of a text but the handles, as ctypes lays it out by C's rules. Fields may be known
-    structs."""
+    """Each repr(C) struct of a text but the handles, laid out by ctypes. Fields may be known structs."""
     made = dict(known or {})
 
     def typed(kind: str) -> Any:

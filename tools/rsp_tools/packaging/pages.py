@@ -1,5 +1,4 @@
-"""The pages of the release archive: those of the repository, whose links and commands are about what the
-archive has."""
+"""The pages of the release archive: the repository's, with links and commands to what the archive has."""
 
 import posixpath
 import re
