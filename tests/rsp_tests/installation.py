@@ -5,8 +5,7 @@ something.
 
   - librsp.a shows the calls of library/c/rsp.h alone, librsp.so needs no symbol above glibc 2.17.
   - C and C++ by pkg-config, shared and static, from another folder; CMake's find_package; dlopen; a folder
-  whose
-    name has a blank; one program with two libraries of the kit.
+    whose name has a blank; one program with two libraries of the kit.
   - The Rust crate as a path, as a git dependency, and as a package.
   - A second install over the first, and folders that can't be written.
 """
@@ -20,13 +19,13 @@ from pathlib import Path
 from typing import Dict, Optional, Set, Tuple
 
 from rsp_tests import TESTS, TOP
-from rsp_tests.common.arguments import need_library, reader
+from rsp_tests.common.arguments import LIBRARY, need_library, reader
 from rsp_tests.common.cmake import LOCKSTEP, SAID, test_cmake
 from rsp_tests.common.pages import page
 from rsp_tests.common.processes import Ended, lacking, run
-from rsp_tests.common.report import Report, leave_out
+from rsp_tests.common.report import Report, is_left_out, leave_out
 from rsp_tests.common.symbols import OLDEST, needs
-from rsp_tests.common.workshop import LIBRARY, Workshop
+from rsp_tests.common.workshop import Workshop
 
 NAME = "tests/part installation"
 INSTALL = TOP / "library/c/install"
@@ -54,22 +53,15 @@ fn main() {
     println!("{}", rsp::text(0, 0).unwrap());
 }
 """
-FULL_DISK = (
-    'mount -t tmpfs -o size=64k none "$1" || exit 9; "$0" "$1"; ended=$?; find "$1" -type f; exit $ended'
-)
+FULL_DISK = """
+mount -t tmpfs -o size=64k none "$1" || exit 9
+"$0" "$1"; ended=$?; find "$1" -type f; exit $ended
+"""
 GIT = (
     ("init", "-q"),
     ("add", "-A"),
     ("-c", "user.name=a", "-c", "user.email=a@example.org", "commit", "-qm", "a"),
 )
-
-
-def is_here(what: str, *tools: str) -> bool:
-    """Whether the tools of a part are here. What isn't tested is said."""
-    missing = lacking(*tools)
-    if missing:
-        leave_out(what, missing)
-    return not missing
 
 
 def found_in(prefix: Path) -> Dict[str, str]:
@@ -169,7 +161,7 @@ def test_pkg_config(shop: Workshop, prefix: Path) -> None:
         ("cc my.c", "--static"),
         ("c++ -x c++ my.c -x none", ""),
     ):
-        if is_here(command, command.split()[0]):
+        if not is_left_out(command, command.split()[0]):
             line = f"{command} {asks.format(flags)}"
             line = eval_asks.format(command, flags) if " " in str(prefix) else line
             if shop.succeeds(f"{line} with {prefix.name}", "sh", "-c", line, env=where):
@@ -186,11 +178,7 @@ def test_dlopen(shop: Workshop, prefix: Path) -> None:
 
 
 def test_two(shop: Workshop) -> None:
-    """librsp.a beside the same code as `rt lib` leaves it, its calls renamed to other_*, with the kit's
-    archive.
-
-    So another library of the kit is.
-    """
+    """librsp.a beside its code as `rt lib` leaves it, like any library of the kit, with calls other_*."""
     made = TOP / "crates/rsp_c/out/librsp_c.a"
     if not made.is_file() or lacking("rt"):
         leave_out("two libraries in one program", lacking("rt") or "crates/rsp_c isn't built")
@@ -215,7 +203,7 @@ def test_man(shop: Workshop, prefix: Path) -> None:
     options = {*re.findall(r"--[a-z]+", helps)} - {"--version"}
     has_all = len(options) == 8 and all(it.replace("-", "\\-") in text for it in options)
     shop.see("rsp.1 has each option", has_all, options)
-    if is_here("the man page as `man` shows it", "man"):
+    if not is_left_out("the man page as `man` shows it", "man"):
         where = {**os.environ, "MANPAGER": "cat", "MANWIDTH": "100", "LC_ALL": "C.UTF-8"}
         got = run("man", "--warnings", "-l", path, env=where)
         is_right = got.returncode == 0 and "warning" not in got.stdout
@@ -271,11 +259,11 @@ def main() -> None:
             test_man(shop, prefix)
             test_dlopen(shop, prefix)
             for it in (prefix, blank):
-                if is_here("pkg-config", "pkg-config"):
+                if not is_left_out("pkg-config", "pkg-config"):
                     test_pkg_config(shop, it)
-                if is_here("CMake", "cmake", "make"):
+                if not is_left_out("CMake", "cmake", "make"):
                     test_cmake(shop, it, Path(folder, f"cmake-{it.name}"))
-            if is_here("the Rust crate", "cargo"):
+            if not is_left_out("the Rust crate", "cargo"):
                 test_rust(shop, prefix)
     sys.exit(report.end())
 

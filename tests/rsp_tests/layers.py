@@ -18,8 +18,9 @@ from typing import Dict, Iterator, List, Set, Tuple
 
 from rsp_tests import TOP
 from rsp_tests.common.arguments import reader
+from rsp_tests.common.cases import Case, compared
 from rsp_tests.common.crates import crates
-from rsp_tests.common.pages import Case, compared, page
+from rsp_tests.common.pages import page
 from rsp_tests.common.report import Report
 
 PICTURE, PAGE = TOP / "docs/crates.svg", "docs/ARCHITECTURE.md"

@@ -25,7 +25,6 @@ It fails if a page, a table or a link says what the program or the repository do
 
 import os
 import re
-import shutil
 import subprocess
 import sys
 import tempfile
@@ -43,7 +42,7 @@ from rsp_tests.common.idioms import idiom_cases
 from rsp_tests.common.lengths import length_cases
 from rsp_tests.common.pages import anchor, answered, block_with, blocks, data, listing
 from rsp_tests.common.pages import page, replies, tables, transcripts, words_of
-from rsp_tests.common.report import Report, leave_out
+from rsp_tests.common.report import Report, is_left_out
 from rsp_tests.common.rules import rule_cases
 from rsp_tests.common import worked
 
@@ -183,8 +182,7 @@ def macro_cases(program: str) -> Iterator[Case]:
         ("text.S", block_with(named, "cpp -P"), FOR_CPP, OF_CPP),
         ("text.m4", of_m4, block_with(named, "define(`push'"), OF_M4),
     ):
-        if shutil.which(command.split()[0]) is None:
-            leave_out(f"COOKBOOK.md `{command.strip()}`", f"there is no {command.split()[0]}")
+        if is_left_out(f"COOKBOOK.md `{command.strip()}`", command.split()[0]):
             continue
         with tempfile.TemporaryDirectory() as folder:
             Path(folder, name).write_text(given)
@@ -213,8 +211,7 @@ def tutorial_cases(program: str) -> Iterator[Case]:
 
 
 def reading_cases(_: str) -> Iterator[Case]:
-    """docs/READING.md: each block has lines that follow one another in the source that is named last before
-    it."""
+    """docs/READING.md: each block's lines follow one another in the source that is named last before it."""
     text, start = page("docs/READING.md"), 0
     for block in blocks("docs/READING.md"):
         wanted = [line.strip() for line in block.strip("\n").split("\n")]
@@ -270,8 +267,7 @@ def fault_told(program: str, fault: str, example: str) -> str:
 
 
 def fault_cases(program: str) -> Iterator[Case]:
-    """Each fault is what its example ends with, and ASSEMBLY and the program's messages have the same
-    names."""
+    """Each fault is what its example ends with; ASSEMBLY and the program's messages have the same names."""
     rows = data("faults")
     for it in rows:
         told = fault_told(program, it["Fault"], it["Example"]).strip()
@@ -294,8 +290,7 @@ def statements_of(cell: str) -> List[str]:
 
 
 def syntax_cases(program: str) -> Iterator[Case]:
-    """What ASSEMBLY.md says of other assemblers' syntax: theirs is refused, or is another word; its own is
-    taken."""
+    """What ASSEMBLY.md says of other assemblers' syntax: theirs is refused or another word, its own taken."""
     heading = "## Coming from another assembler"
     table = page("docs/ASSEMBLY.md").partition(heading)[2]
     for it in data("syntax"):
@@ -370,7 +365,9 @@ def link_cases(_: str) -> Iterator[Case]:
         yield f"links of {path.relative_to(TOP)}", gone
 
 
-GROUPS = (row_cases, example_cases, macro_cases, tutorial_cases, command_cases, transcript_cases)
+OF_BLOCKS = (example_cases, macro_cases, tutorial_cases, transcript_cases, reading_cases, definition_cases)
+OF_TABLES = (row_cases, command_cases, fault_cases, syntax_cases, program_cases)
+OTHERS = (help_cases, rule_cases, idiom_cases, link_cases)
 
 
 def main() -> None:
@@ -380,18 +377,7 @@ def main() -> None:
     asked, report = words.parse_args(), Report()
     report.see_all(made_cases(asked.write))
     report.see_all(vectors_cases(asked.write))
-    for group in (
-        *GROUPS,
-        fault_cases,
-        syntax_cases,
-        help_cases,
-        rule_cases,
-        idiom_cases,
-        program_cases,
-        reading_cases,
-        definition_cases,
-        link_cases,
-    ):
+    for group in (*OF_BLOCKS, *OF_TABLES, *OTHERS):
         report.see_all(group(asked.program))
     report.see_all(length_cases())
     sys.exit(report.end())

@@ -14,9 +14,9 @@ from typing import Any, List, Sequence, Tuple
 
 from rsp_tests import TOP
 from rsp_tests.common.arguments import reader
-from rsp_tests.common.processes import lacking, run
-from rsp_tests.common.report import Report, leave_out
-from rsp_tests.plugin.bench import HEADERS, MIPS, is_left_out
+from rsp_tests.common.processes import run
+from rsp_tests.common.report import Report, is_left_out
+from rsp_tests.plugin.bench import HEADERS, MIPS
 
 MYPYPATH = "tools:tests:conformance:library/python"
 STRICT = ("-std=gnu11", "-O2", "-Wall", "-Wextra", "-Wconversion", "-Werror", "-S")
@@ -42,10 +42,7 @@ def is_shell(name: str) -> bool:
 
 def see_tool(report: Report, tool: str, words: Sequence[object], files: List[str], **how: Any) -> None:
     """That a tool with these words has no complaint of the files."""
-    missing = lacking(tool)
-    if missing:
-        leave_out(tool, missing)
-    elif files:
+    if files and not is_left_out(tool, tool):
         got = run(tool, *words, *files, **how)
         report.see(f"{tool}: {len(files)} files", got.returncode == 0, f"\n{got.stdout}")
 
@@ -53,9 +50,7 @@ def see_tool(report: Report, tool: str, words: Sequence[object], files: List[str
 def see_c(report: Report, files: List[str], folder: Path) -> None:
     """Each file of C by both compilers; headers are compiled with the files that include them."""
     for compiler in ("gcc", "clang"):
-        missing = lacking(compiler)
-        if missing:
-            leave_out(f"C by {compiler}", missing)
+        if is_left_out(f"C by {compiler}", compiler):
             continue
         for name in files:
             command: Tuple[str, ...] = (compiler,)
@@ -72,9 +67,7 @@ def see_c(report: Report, files: List[str], folder: Path) -> None:
 
 def see_rust(report: Report, manifest: str, folder: Path) -> None:
     """A crate. Clippy links nothing, so an empty library will do."""
-    missing = lacking("cargo-clippy")
-    if missing:
-        leave_out(f"{manifest} by clippy", missing)
+    if is_left_out(f"{manifest} by clippy", "cargo-clippy"):
         return
     (folder / "librsp.a").write_bytes(b"")
     where = {**os.environ, "RSP_LIB_DIR": str(folder), "CARGO_TARGET_DIR": str(folder / "target")}

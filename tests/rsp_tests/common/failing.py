@@ -1,31 +1,19 @@
 """Makes calls of the C library fail in turn: LD_PRELOAD puts those of tests/failing before the others."""
 
 import os
-import subprocess
 from pathlib import Path
 from typing import Iterator, Sequence, Tuple
 
 from rsp_tests import TESTS
-from rsp_tests.common.processes import run
+from rsp_tests.common.processes import Ended, run
 from rsp_tests.common.program import ended
-
-Ended = subprocess.CompletedProcess
 
 
 def library(folder: Path, name: str) -> Path:
     """Builds these calls: `allocations` or `writes`."""
     built = folder / f"{name}.so"
-    run(
-        "cc",
-        "-shared",
-        "-fPIC",
-        "-O1",
-        "-U_FORTIFY_SOURCE",
-        "-o",
-        built,
-        TESTS / f"failing/{name}.c",
-        check=True,
-    )
+    words = ("-shared", "-fPIC", "-O1", "-U_FORTIFY_SOURCE", "-o", built)
+    run("cc", *words, TESTS / f"failing/{name}.c", check=True)
     return built
 
 

@@ -8,10 +8,9 @@ from pathlib import Path
 from typing import Dict, Iterable, Iterator, List, Optional, Sequence, Tuple
 
 from rsp_tests import TOP
-from rsp_tests.common.report import Report
+from rsp_tests.common.cases import Case
 
 DATA = TOP / "docs/data"
-Case = Tuple[str, List[str]]
 
 
 def page(name: str) -> str:
@@ -36,8 +35,7 @@ def block_with(name: str, start: str, more: int = 0) -> str:
 
 
 def transcripts(name: str, heading: str) -> Iterator[Tuple[str, str]]:
-    """The blocks of a page from a heading on, which have replies beside their commands: scripts with their
-    replies."""
+    """The blocks of a page from a heading on that have replies beside their commands: scripts and replies."""
     for block in blocks_of(page(name).partition(f"\n{heading}\n")[2]):
         lines = [re.split(r" {3,}", line, maxsplit=1) for line in block.splitlines()]
         beside = [line[1] for line in lines if len(line) == 2]
@@ -126,19 +124,3 @@ def answered(name: str, told: str, wanted: str) -> Case:
     """A case: whether a reply is as a page has it."""
     right = matches(told.strip("\n").split("\n"), wanted.strip("\n").split("\n"))
     return name, [] if right else [f"the page has {wanted!r}, the program says {told!r}"]
-
-
-def compared(where: str, found: Iterable[str], wanted: Iterable[str]) -> Case:
-    """A case: what a list lacks, has and shouldn't, or has twice."""
-    here, right = list(found), set(wanted)
-    lost, more = sorted(right - {*here}), sorted({*here} - right)
-    twice = sorted({it for it in here if here.count(it) > 1})
-    told = (("it lacks {}", lost), ("it has {}", more), ("it has {} twice", twice))
-    return where, [form.format(it) for form, names in told for it in names]
-
-
-def report(cases: Iterable[Tuple[str, Iterable[str]]]) -> int:
-    """Prints what is wrong with each case, a pair of its name and its complaints; returns the status."""
-    seen = Report()
-    seen.see_all(cases)
-    return seen.end()

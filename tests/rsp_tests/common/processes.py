@@ -11,7 +11,7 @@ from typing import Any, Dict, List, Tuple
 from rsp_tests import TOP
 
 Ended = subprocess.CompletedProcess
-# Debian's package of a tool, if it has another name.
+# Debian's package of a tool, if it has another name, or of a file.
 PACKAGES = {
     "c++": "g++",
     "cc": "gcc",
@@ -26,6 +26,11 @@ PACKAGES = {
     "Xvfb": "xvfb",
     "node": "nodejs",
     "tsc": "node-typescript",
+    "/usr/include/mupen64plus": "libmupen64plus-dev",
+    "/usr/lib/x86_64-linux-gnu/libmupen64plus.so.2": "libmupen64plus2",
+    "/usr/games/mupen64plus": "mupen64plus-ui-console",
+    "/usr/lib/x86_64-linux-gnu/mupen64plus/mupen64plus-video-z64.so": "mupen64plus-video-z64",
+    "/usr/lib/x86_64-linux-gnu/mupen64plus/mupen64plus-rsp-z64.so": "mupen64plus-rsp-z64",
 }
 # What is said of those that Debian hasn't.
 OTHERS = {
@@ -61,16 +66,16 @@ def counts_of(said: str) -> Tuple[int, int]:
 
 
 def is_here(tool: str) -> bool:
-    """Whether a tool is on this machine; pip is this Python's, and a work tree as committed is one too."""
+    """Whether a tool or file is on this machine; pip is this Python's, and a clean work tree is one too."""
     if tool == "clean-tree":
         return not run("git", "status", "--porcelain").stdout
     if tool == "pip":
         return run(sys.executable, "-m", "pip", "--version").returncode == 0
-    return shutil.which(tool) is not None
+    return os.path.exists(tool) if "/" in tool else shutil.which(tool) is not None
 
 
-def lacking(*tools: str) -> str:
-    """Which of these tools aren't here, with their packages, as a sentence's end; empty if all are."""
-    missing = [it for it in tools if not is_here(it)]
+def lacking(*needed: object) -> str:
+    """Which of these tools and files aren't here, with their packages, as a sentence's end; else nothing."""
+    missing = [it for it in map(str, needed) if not is_here(it)]
     told = (OTHERS.get(it, f"there is no {it} (Debian's package {PACKAGES.get(it, it)})") for it in missing)
     return "; ".join(told)

@@ -6,7 +6,7 @@ import sys
 from pathlib import Path
 from typing import Any, Dict, List, Optional, Sequence
 
-Ended = subprocess.CompletedProcess
+from rsp_tests.common.processes import Ended
 
 
 def ended(program: object, words: Sequence[object], script: bytes = b"", **how: Any) -> "Ended[bytes]":

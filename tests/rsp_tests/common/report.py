@@ -2,6 +2,8 @@
 
 from typing import Iterable, Tuple
 
+from rsp_tests.common.processes import lacking
+
 
 class Report:
     """Counts checks. A test makes one, and ends with `sys.exit(report.end())`."""
@@ -39,3 +41,11 @@ class Report:
 def leave_out(what: str, why: str) -> None:
     """Says what isn't tested here, and why."""
     print(f"left out: {what}: {why}", flush=True)
+
+
+def is_left_out(what: str, *needed: object) -> bool:
+    """Whether this machine lacks a tool or a file that a part of a test needs. It says which."""
+    missing = lacking(*needed)
+    if missing:
+        leave_out(what, missing)
+    return bool(missing)

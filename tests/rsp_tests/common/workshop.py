@@ -1,14 +1,12 @@
 """A folder in which a test builds and runs programs, and counts how they end and what they say."""
 
-import subprocess
 from pathlib import Path
 from typing import Any, Optional
 
 from rsp_tests import TOP
-from rsp_tests.common.processes import counts_of, run
+from rsp_tests.common.processes import Ended, counts_of, run
 from rsp_tests.common.report import Report
 
-LIBRARY = TOP / "library/c/librsp.a"
 # The words of a compiler for a program over the library.
 STRICT = ("-O2", "-Wall", "-Wextra", "-Werror", f"-I{TOP}/library/c")
 
@@ -27,7 +25,7 @@ class Workshop:
         path.write_text(text)
         return path
 
-    def run(self, *words: object, **how: Any) -> "subprocess.CompletedProcess[str]":
+    def run(self, *words: object, **how: Any) -> "Ended[str]":
         """Runs a command in the folder."""
         return run(*words, **{"cwd": self.folder, **how})
 

@@ -7,8 +7,7 @@ import re
 from typing import Any, Dict, List, Set
 
 from rsp_tests import TOP
-from rsp_tests.common.processes import lacking
-from rsp_tests.common.report import leave_out
+from rsp_tests.common.report import is_left_out
 from rsp_tests.common.workshop import Workshop
 from rsp_tests.embedding import shapes
 
@@ -114,11 +113,8 @@ def test_shapes(shop: Workshop) -> None:
     shop.see("the structs in JavaScript", {*told["layouts"]} == {*held}, {*told["layouts"]} ^ {*held})
     for name, struct in held.items():
         wanted = json.loads(json.dumps(shapes.layout(struct)))
-        shop.see(
-            f"the layout of {name} in JavaScript",
-            told["layouts"].get(name) == wanted,
-            told["layouts"].get(name),
-        )
+        layout = told["layouts"].get(name)
+        shop.see(f"the layout of {name} in JavaScript", layout == wanted, layout)
     shop.see("the statuses in JavaScript", numbers(told["Status"]) == shapes.statuses())
     shop.see("the banks in JavaScript", numbers(told["Bank"]) == shapes.banks())
     reasons = {shapes.REASONS[name]: number for name, number in numbers(told["Reason"]).items()}
@@ -181,9 +177,7 @@ def test_declarations(shop: Workshop) -> None:
 
 def test_types(shop: Workshop) -> None:
     """tsc takes a program that uses the declarations, and refuses lines that misuse them."""
-    missing = lacking("tsc")
-    if missing:
-        leave_out("the declarations by tsc", missing)
+    if is_left_out("the declarations by tsc", "tsc"):
         return
     shop.put("tsconfig.json", json.dumps({"compilerOptions": OPTIONS, "files": ["use.ts"]}))
     shop.put("use.ts", USE)
@@ -197,9 +191,6 @@ def test_types(shop: Workshop) -> None:
 def test(shop: Workshop) -> None:
     """All of them."""
     test_declarations(shop)
-    missing = lacking("node")
-    if missing:
-        leave_out("the numbers of library/js by Node", missing)
-    else:
+    if not is_left_out("the numbers of library/js by Node", "node"):
         test_shapes(shop)
     test_types(shop)

@@ -1,5 +1,4 @@
-"""The Python package as a user's tools see it: its files, docstrings, names, version, types and an editable
-install.
+"""The Python package as tools see it: files, docstrings, names, version, types and an editable install.
 
 It fails if what is installed in the folder of its argument isn't the package of the repository, or if Python
 3.8 or `mypy --strict` refuses it.
@@ -15,8 +14,8 @@ from pathlib import Path
 
 import rsp
 from rsp_tests import TOP
-from rsp_tests.common.processes import lacking, run
-from rsp_tests.common.report import leave_out
+from rsp_tests.common.processes import run
+from rsp_tests.common.report import is_left_out, leave_out
 from rsp_tests.embedding.checks import REPORT, same, see
 from rsp_tests.embedding.python import copy_of_package
 
@@ -75,9 +74,7 @@ def test_names() -> None:
 
 
 def test_types(package: Path, folder: Path) -> None:
-    missing = lacking("mypy")
-    if missing:
-        leave_out("types", missing)
+    if is_left_out("types", "mypy"):
         return
     strict = ["mypy", "--strict", "--python-version", "3.8", "--cache-dir", folder / "cache"]
     got = run(*strict, package, cwd=folder)

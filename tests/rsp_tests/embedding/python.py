@@ -8,9 +8,8 @@ from pathlib import Path
 from typing import Dict, List, Optional, Tuple
 
 from rsp_tests import TESTS, TOP
-from rsp_tests.common.pages import blocks
-from rsp_tests.common.processes import lacking
-from rsp_tests.common.report import leave_out
+from rsp_tests.common.pages import blocks, page
+from rsp_tests.common.report import is_left_out
 from rsp_tests.common.workshop import Workshop
 from rsp_tests.embedding import shapes
 
@@ -19,7 +18,7 @@ PIP = ("-m", "pip", "--disable-pip-version-check", "install", "-q", "--no-index"
 MODULES = ("calls", "traces", "states", "compare", "routines", "layouts", "package", "benches")
 EXAMPLES = TOP / "examples/python"
 DATA = TESTS / "embedding"
-LOCKSTEP = (TOP / "examples/c/lockstep.expected").read_text()
+LOCKSTEP = page("examples/c/lockstep.expected")
 
 
 def first_difference() -> str:
@@ -29,20 +28,17 @@ def first_difference() -> str:
 
 def copy_of_package(folder: Path) -> Path:
     """A copy of library/python, beside the library as in the repository."""
-    shutil.copytree(
-        TOP / "library/python", folder / "tree/python", ignore=shutil.ignore_patterns("__pycache__")
-    )
+    package, ignored = folder / "tree/python", shutil.ignore_patterns("__pycache__")
+    shutil.copytree(TOP / "library/python", package, ignore=ignored)
     (folder / "tree/c").mkdir()
     shutil.copy(TOP / "library/c/librsp.so", folder / "tree/c")
-    return folder / "tree/python"
+    return package
 
 
 def installed(shop: Workshop) -> Optional[Path]:
     """The folder with the installed package, or with a copy if there is no pip; None if pip fails."""
     package, site = copy_of_package(shop.folder), shop.folder / "site"
-    missing = lacking("pip")
-    if missing:
-        leave_out("the install of the package", missing)
+    if is_left_out("the install of the package", "pip"):
         shutil.copy(TOP / "library/c/librsp.so", package / "rsp")
         return package
     is_done = shop.succeeds("pip install", sys.executable, *PIP, "--target", site, package)
@@ -51,9 +47,7 @@ def installed(shop: Workshop) -> Optional[Path]:
 
 def other_version(shop: Workshop) -> Optional[Path]:
     """A folder with a library whose calls do nothing, of version 2. None if it can't be built here."""
-    missing = lacking("cc", "ar")
-    if missing:
-        leave_out("a library of another version", missing)
+    if is_left_out("a library of another version", "cc", "ar"):
         return None
     names = [name for name, *_ in shapes.exported()]
     calls = (f"unsigned {it}(void) {{ return {2 if it == 'rsp_version' else 0}; }}\n" for it in names)

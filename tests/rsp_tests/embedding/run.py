@@ -21,15 +21,14 @@ from pathlib import Path
 from typing import Callable, Dict, List, NamedTuple, Optional, Tuple
 
 from rsp_tests import TESTS, TOP
-from rsp_tests.common.arguments import need_library, reader
+from rsp_tests.common.arguments import LIBRARY, need_library, reader
 from rsp_tests.common.pages import block_with, page
 from rsp_tests.common.processes import lacking, run
-from rsp_tests.common.report import Report, leave_out
-from rsp_tests.common.workshop import LIBRARY, STRICT, Workshop
+from rsp_tests.common.report import Report, is_left_out, leave_out
+from rsp_tests.common.workshop import STRICT, Workshop
 from rsp_tests.embedding import javascript, python, rust, scripts, shapes
 
 HERE = TESTS / "embedding"
-LOCKSTEP = (TOP / "examples/c/lockstep.expected").read_text()
 
 
 class Language(NamedTuple):
@@ -141,16 +140,14 @@ def test_page(shop: Workshop, language: Language) -> None:
 
 def test_calls(shop: Workshop, language: Language) -> None:
     """The calls, the example and the page, by a compiler of C or C++."""
-    missing = lacking(language.compiler)
-    if missing:
-        leave_out(f"the library by {language.compiler}", missing)
+    if is_left_out(f"the library by {language.compiler}", language.compiler):
         return
     program = built(shop, language, HERE / "calls.c")
     if program:
         shop.add(f"calls.c by {language.compiler}", program)
     program = built(shop, language, TOP / "examples/c/lockstep.c")
     if program:
-        shop.says(f"lockstep.c by {language.compiler}", LOCKSTEP, program)
+        shop.says(f"lockstep.c by {language.compiler}", python.LOCKSTEP, program)
     test_page(shop, language)
 
 
@@ -160,9 +157,8 @@ COUNTED = "-Wl,--wrap=malloc,--wrap=realloc,--wrap=free"
 
 def build_no_memory(shop: Workshop) -> Optional[Path]:
     """calls.c inside a program that fails each of its allocations."""
-    calls = shop.built(
-        "all_calls.o", "-std=c99", *STRICT, "-Dmain=all_calls", "-DQUIET", "-c", HERE / "calls.c"
-    )
+    defined = ("-Dmain=all_calls", "-DQUIET")
+    calls = shop.built("all_calls.o", "-std=c99", *STRICT, *defined, "-c", HERE / "calls.c")
     return calls and built(shop, C, HERE / "no_memory.c", COUNTED, calls)
 
 
@@ -170,10 +166,7 @@ def test_threads(shop: Workshop) -> None:
     """A sanitizer that can't run here is left out: not every machine gives it its layout of memory."""
     sanitizer = "-fsanitize=thread"
     shop.put("empty.c", "int main(void) { return 0; }\n")
-    if (
-        run("cc", sanitizer, "-o", "empty", "empty.c", cwd=shop.folder).returncode
-        or shop.run("./empty").returncode
-    ):
+    if shop.run("cc", sanitizer, "-o", "empty", "empty.c").returncode or shop.run("./empty").returncode:
         leave_out(f"threads.c under {sanitizer}", "it doesn't run here (Debian's package libtsan2)")
         return
     watched = built(shop, C, HERE / "threads.c", "-pthread", "-g", sanitizer)
@@ -221,9 +214,7 @@ def test_cpp(shop: Workshop) -> None:
 
 
 def test_valgrind(shop: Workshop) -> None:
-    missing = lacking("cc", "valgrind")
-    if missing:
-        leave_out("valgrind", missing)
+    if is_left_out("valgrind", "cc", "valgrind"):
         return
     for program in (built(shop, C, HERE / "calls.c"), build_no_memory(shop)):
         if program:

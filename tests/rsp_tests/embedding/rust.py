@@ -6,8 +6,7 @@ import shutil
 from typing import Dict
 
 from rsp_tests import TOP
-from rsp_tests.common.processes import lacking
-from rsp_tests.common.report import leave_out
+from rsp_tests.common.report import is_left_out
 from rsp_tests.common.workshop import Workshop
 from rsp_tests.embedding import shapes
 from rsp_tests.embedding.python import LOCKSTEP, first_difference, other_version
@@ -46,9 +45,7 @@ def test_examples(shop: Workshop, where: Dict[str, str]) -> None:
 def test(shop: Workshop) -> None:
     """The crate in a copy of its folder: tests, documentation without warnings, each example."""
     test_shapes(shop)
-    missing = lacking("cargo")
-    if missing:
-        leave_out("the crate", missing)
+    if is_left_out("the crate", "cargo"):
         return
     made = {"RSP_LIB_DIR": TOP / "library/c", "CARGO_TARGET_DIR": shop.folder / "target"}
     made["RSP_SCRIPTS"] = TOP / "tests/scripts"

@@ -1,18 +1,18 @@
-"""What the tests of the plugin share: a folder with the plugin, its driver, microcode, and the ROM for an
-emulator."""
+"""What tests of the plugin share: a folder with the plugin, its driver, microcode and an emulator's ROM."""
 
 import os
 import re
 import struct
 import sys
 from pathlib import Path
-from typing import Iterator, List, Optional, Sequence, Tuple, Union
+from typing import Iterator, List, Optional, Sequence, Tuple
 
 from rsp_tests import TESTS, TOP
 from rsp_tests.common import z64
-from rsp_tests.common.processes import lacking, run
-from rsp_tests.common.report import Report, leave_out
-from rsp_tests.common.workshop import LIBRARY, STRICT, Workshop
+from rsp_tests.common.arguments import LIBRARY
+from rsp_tests.common.processes import run
+from rsp_tests.common.report import Report
+from rsp_tests.common.workshop import STRICT, Workshop
 
 HERE = TESTS / "plugin"
 ROM = HERE / "rom"
@@ -21,14 +21,6 @@ CORE = Path("/usr/lib/x86_64-linux-gnu/libmupen64plus.so.2")
 FRONT_END = Path("/usr/games/mupen64plus")
 GRAPHICS = Path("/usr/lib/x86_64-linux-gnu/mupen64plus/mupen64plus-video-z64.so")
 Z64 = Path(z64.PLUGIN)
-# Debian's packages of these.
-PACKAGES = {
-    HEADERS: "libmupen64plus-dev",
-    CORE: "libmupen64plus2",
-    FRONT_END: "mupen64plus-ui-console",
-    GRAPHICS: "mupen64plus-video-z64",
-    Z64: "mupen64plus-rsp-z64",
-}
 FLAGS = ("-std=gnu11", *STRICT, f"-I{TOP}/plugin")
 MIPS = (
     "-march=vr4300 -mabi=32 -mno-abicalls -fno-pic -G0 -O2 -ffreestanding -nostdlib "
@@ -37,16 +29,6 @@ MIPS = (
 # Where a task of the ROM has its code, if not at 0.
 PLACES = {"task_add": "0x80", "overlay_one": "0x400", "overlay_two": "0x400"}
 HEADER = struct.pack(">IIII16x20s7x4sx", 0x80371240, 0xF, 0x80002000, 0, b"PROVED RSP TEST     ", b"NPRE")
-
-
-def is_left_out(what: str, *needed: Union[str, Path]) -> bool:
-    """Whether this machine lacks a tool or a file that a part needs. It says which."""
-    files = [it for it in needed if isinstance(it, Path) and not it.exists()]
-    told = [f"there is no {it} (Debian's package {PACKAGES[it]})" for it in files]
-    told.append(lacking(*(it for it in needed if isinstance(it, str))))
-    if any(told):
-        leave_out(what, "; ".join(filter(None, told)))
-    return any(told)
 
 
 def begun(*options: str) -> List[str]:
@@ -69,11 +51,8 @@ class Bench(Workshop):
 
     def __init__(self, report: Report, folder: Path, program: Path, plugin: Optional[Path] = None) -> None:
         super().__init__(report, folder)
-        self.program, self.plugin, self.driver = (
-            program,
-            plugin or folder / "rsp-proved.so",
-            folder / "driver",
-        )
+        self.program, self.driver = program, folder / "driver"
+        self.plugin = plugin or folder / "rsp-proved.so"
         if not plugin:
             environment = {**os.environ, "CFLAGS": "-Werror"}
             self.succeeds("plugin/build", TOP / "plugin/build", self.plugin, env=environment)
@@ -179,8 +158,7 @@ def speed_task(bench: Bench) -> List[str]:
 
 
 def checked(bench: Bench, other: object, tasks: Sequence[Sequence[str]], *options: str) -> List[str]:
-    """What check mode says of tasks, each the lines that set it up. SP_PC and SP_STATUS are 0 before each
-    one."""
+    """What check mode says of tasks, each the lines that set it up. SP_PC and SP_STATUS are 0 before it."""
     lines = begun(f"CheckAgainst {other}", f"CheckFolder {bench.folder}", *options)
     for task in tasks:
         lines += ["set SP_PC 0", "set SP_STATUS 0", *task, "cycles 100000000"]

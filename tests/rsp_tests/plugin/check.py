@@ -1,17 +1,16 @@
-"""Check mode beside plugins with a planted fault (faulty.c) and beside Debian's z64, whose known differences
-are named."""
+"""Check mode beside plugins with a planted fault (faulty.c), and beside Debian's z64, which differs."""
 
 import re
 import shutil
 from typing import List
 
 from rsp_tests import TOP
-from rsp_tests.plugin.bench import Z64, Bench, begun, checked, is_left_out, see_played, tasks_of_rom
+from rsp_tests.common.report import is_left_out
+from rsp_tests.plugin.bench import Z64, Bench, begun, checked, see_played, tasks_of_rom
 from rsp_tests.plugin.interface import DMA
 
 # Three turns of a loop: 4000 times 0008 by 65536 is 2 in each lane. The product is stored in the delay slot
-# of the
-# branch, at 01c.
+# of the branch, at 01c.
 PRODUCTS = """addiu $2, $0, 3
 loop: lqv $v1[0], 0($0)
 lqv $v2[0], 16($0)
@@ -23,8 +22,7 @@ sqv $v3[0], 32($0)
 break
 """
 # What z64 does otherwise, by conformance/Z64.md: the word, and what is named. $v1 is 8000 in all lanes, $v2
-# other
-# numbers in each, $2 -1.
+# other numbers in each, $2 -1.
 Z64_DIFFERS = {
     "lwu $4, 0($0)": "$4 is",
     "vrsq $v4[0], $v2[0]": "$v4 is",

@@ -1,5 +1,4 @@
-"""The ROM (rom/) in mupen64plus, headless, in its three CPU modes, and by Debian's front end; and the
-headers."""
+"""The ROM (rom/) in mupen64plus, in its three CPU modes and by Debian's front end; and the headers."""
 
 import contextlib
 import os
@@ -10,14 +9,14 @@ from typing import Any, Dict, Iterator, List
 
 from rsp_tests.common.pages import page
 from rsp_tests.common.processes import run
-from rsp_tests.plugin.bench import CORE, FRONT_END, GRAPHICS, HEADERS, Z64, Bench, is_left_out, results
+from rsp_tests.common.report import is_left_out
+from rsp_tests.plugin.bench import CORE, FRONT_END, GRAPHICS, HEADERS, Z64, Bench, results
 
 LAST = "task-12.script"  # the last line of check mode about the ROM
 MODES = {0: "interpreter", 1: "cached interpreter", 2: "recompiler"}
 RESULTS = 79  # calls of `see` in rom/cpu.c, with those in loops
 # The semaphore, what the DMA registers hold after a DMA, and a DMA round the end of DMEM:
-# conformance/Z64.md, at
-# MFC0 and MTC0.
+# conformance/Z64.md, at MFC0 and MTC0.
 Z64_WRONG = {0x602, 0x604, 0x605, 0x606, 0x609, 0x60A, 0x60B, 0x610, 0x611}
 # Constants of plugin/mupen64plus.h beside those of Debian's headers.
 CONSTANTS = {
@@ -147,8 +146,7 @@ def screen() -> Iterator[Dict[str, str]]:
 
 
 def test_screen(bench: Bench) -> None:
-    """Plays the ROM as PLUGIN.md says, with a graphics plugin that draws; then in check mode, which keeps
-    that plugin."""
+    """The ROM as PLUGIN.md plays it, with a graphics plugin that draws; and in check mode, which keeps it."""
     if is_left_out("the screen", FRONT_END, GRAPHICS, "Xvfb", "mips-linux-gnu-gcc"):
         return
     text, home = page("docs/PLUGIN.md"), bench.folder / "home-screen"

@@ -4,7 +4,8 @@ import shutil
 from typing import Iterator, List, NamedTuple
 
 from rsp_tests import TOP
-from rsp_tests.plugin.bench import Bench, begun, is_left_out, shown
+from rsp_tests.common.report import is_left_out
+from rsp_tests.plugin.bench import Bench, begun, shown
 
 ENDED = {"SP_RD_LEN": 0xFF8, "SP_WR_LEN": 0xFF8}  # after a reset
 FOUR = "00000001 00000002 00000003 00000004"
@@ -15,8 +16,7 @@ DMA = (
 RESERVED = "message 2 the word 4c000000 at 000 is reserved: it is executed as NOP"
 FOREVER = "cycles 4000000000"
 # The read is in the delay slot of its branch: after the wait npc is the branch's target. The slot reads once
-# more,
-# and finds the semaphore taken.
+# more, and finds the semaphore taken.
 POLL = """addiu $2, $0, 1
 wait: bne $2, $0, wait
 mfc0 $2, $c7
@@ -157,8 +157,7 @@ def waits(bench: Bench) -> Iterator[Script]:
     name, replies = "a task that waits for the semaphore", "cycles 9; cycles 8; 0000002a"
     yield task(name, f"{setup}; {free}; get dmem 4 1", replies, "WaitReads 3")
     # A state that was saved while the task waited is loaded after the task has ended: the task goes on at
-    # its read,
-    # with the registers of the machine.
+    # its read, with the registers of the machine.
     load = "put dmem 0 64 0; set SP_PC 0; set SP_STATUS 0; set SP_SEMAPHORE 0"
     lines = f"{setup}; {free}; {load}; {FOREVER}; get dmem 0 2"
     replies = "cycles 9; cycles 8; cycles 8; 00000064 00000069"

@@ -10,13 +10,12 @@ import re
 import sys
 import tempfile
 from pathlib import Path
-from typing import Dict, List, Optional, Sequence, Tuple, Union
+from typing import Dict, List, Optional, Sequence, Tuple
 
 from rsp_tests import speed as loops
-from rsp_tests.common.arguments import add_program, need_library, reader
-from rsp_tests.common.report import Report
-from rsp_tests.common.workshop import LIBRARY
-from rsp_tests.plugin.bench import CORE, FLAGS, HEADERS, HERE, Z64, Bench, begun, is_left_out, speed_task
+from rsp_tests.common.arguments import LIBRARY, add_program, need_library, reader
+from rsp_tests.common.report import Report, is_left_out
+from rsp_tests.plugin.bench import CORE, FLAGS, HEADERS, HERE, Z64, Bench, begun, speed_task
 
 # Signals of check mode need exact registers under valgrind.
 VALGRIND = (
@@ -139,8 +138,8 @@ def main() -> None:
     add_program(words)
     given = words.parse_args()
     need_library("tests/part plugin-speed")
-    emulator: List[Union[str, Path]] = [HEADERS, CORE, "mips-linux-gnu-gcc"]
-    if is_left_out("the speed of the plugin", "valgrind", Z64, *(emulator if given.rom else [])):
+    emulator = (HEADERS, CORE, "mips-linux-gnu-gcc") if given.rom else ()
+    if is_left_out("the speed of the plugin", "valgrind", Z64, *emulator):
         sys.exit(1)
     report = Report()
     with tempfile.TemporaryDirectory() as folder:
