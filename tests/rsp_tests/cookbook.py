@@ -16,7 +16,7 @@ from typing import Iterator, List, Tuple
 from rsp_tests import TOP
 from rsp_tests.common.arguments import add_program, reader
 from rsp_tests.common.cases import unless
-from rsp_tests.common.numbers import clamped, edged, fixed, halves, packed, random_bytes
+from rsp_tests.common.numbers import clamped, edged, fixed, halves, packed
 from rsp_tests.common.report import Report
 
 ROUNDS = 20
@@ -101,16 +101,15 @@ def idct_faults(run: Run) -> Faults:
         # A factor is rounded to 1/32768, and the sum to a whole number.
         most = 0.5 + sum(abs(it) for it in row_of) / 65536 + 1e-6
         for x, got in enumerate(halves(run.dmem, 0x100 + 16 * row, 8)):
-            waves = (
-                FACTORS[u] * it * math.cos((2 * x + 1) * u * math.pi / 16) for u, it in enumerate(row_of)
-            )
+            angles = ((2 * x + 1) * u * math.pi / 16 for u in range(8))
+            waves = (factor * it * math.cos(angle) for factor, it, angle in zip(FACTORS, row_of, angles))
             exact = max(-32768, min(32767, sum(waves)))
             if abs(exact - got) > most:
                 yield f"row {row}, f[{x}]: expected {exact} within {most}, got {got}"
 
 
 def transpose_numbers(choose: Random) -> Loads:
-    return [("dmem", 0, random_bytes(choose, 128))]
+    return [("dmem", 0, choose.randbytes(128))]
 
 
 def transpose_faults(run: Run) -> Faults:
@@ -174,7 +173,7 @@ def clip_faults(run: Run) -> Faults:
 
 
 def copy_numbers(choose: Random) -> Loads:
-    return [("rdram", 0x1000, random_bytes(choose, 256))]
+    return [("rdram", 0x1000, choose.randbytes(256))]
 
 
 def copy_faults(run: Run) -> Faults:
@@ -196,7 +195,7 @@ def task_faults(run: Run) -> Faults:
 
 
 def scalar_numbers(choose: Random) -> Loads:
-    return [("dmem", 0, random_bytes(choose, 12))]
+    return [("dmem", 0, choose.randbytes(12))]
 
 
 def scalar_faults(run: Run) -> Faults:

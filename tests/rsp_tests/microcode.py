@@ -22,7 +22,7 @@ from typing import Callable, Dict, Iterator, List, NamedTuple, Optional, Sequenc
 from rsp_tests import TOP
 from rsp_tests.common.arguments import add_program, reader
 from rsp_tests.common.cases import Case, search, unless
-from rsp_tests.common.numbers import clamped, edged, fixed, halves, packed, random_bytes, signed
+from rsp_tests.common.numbers import clamped, edged, fixed, halves, packed, signed
 from rsp_tests.common.report import Report
 
 ROUNDS = 25
@@ -63,7 +63,7 @@ class Wanted(NamedTuple):
 
 def random_state(choose: Random) -> State:
     scalars = [0] + [choose.randrange(1 << 32) for _ in range(31)]
-    dmem, rdram = bytearray(random_bytes(choose, 4096)), random_bytes(choose, RDRAM)
+    dmem, rdram = bytearray(choose.randbytes(4096)), choose.randbytes(RDRAM)
     return State(dmem, rdram, scalars, [[edged(choose) for _ in range(8)] for _ in range(32)])
 
 
@@ -193,31 +193,34 @@ def fill(choose: Random, state: State) -> Wanted:
     return Wanted(count, memory={to: bytes(packed(state.vectors[1])[i % 16] for i in range(count))})
 
 
-def mix(choose: Random, state: State) -> Wanted:
+def pairs_at(state: State, first: int, second: int, count: int) -> List[Tuple[int, int]]:
+    """The samples of two sources of so many bytes."""
+    return list(zip(halves(state.dmem, first, count // 2), halves(state.dmem, second, count // 2)))
+
+
+def sources_of_mix(choose: Random, state: State) -> Tuple[int, int, List[Tuple[int, int]]]:
+    """How many bytes of two sources are mixed, the address of the target, and the samples."""
     count = counted(choose) // 2 * 2
     to, (first, second) = areas(choose, count, 2)
     state.scalars[1:5] = first, second, to, count
     for at in {first, second}:
         state.dmem[at : at + count] = packed(edged(choose) for _ in range(count // 2))
+    return count, to, pairs_at(state, first, second, count)
+
+
+def mix(choose: Random, state: State) -> Wanted:
+    count, to, samples = sources_of_mix(choose, state)
     state.vectors[3][1] = choose.choice((1, 1, 0, -1, edged(choose)))
     v, w = state.vectors[3][:2]
-    mixed = [
-        clamped((2 * a * v + 65536 * b * w + 32768) // 65536)
-        for a, b in zip(halves(state.dmem, first, count // 2), halves(state.dmem, second, count // 2))
-    ]
+    mixed = [clamped((2 * a * v + 65536 * b * w + 32768) // 65536) for a, b in samples]
     return Wanted(count, memory={to: packed(mixed)})
 
 
 def mix_ramp(choose: Random, state: State) -> Wanted:
-    count = counted(choose) // 2 * 2
-    to, (first, second) = areas(choose, count, 2)
-    state.scalars[1:5] = first, second, to, count
-    for at in {first, second}:
-        state.dmem[at : at + count] = packed(edged(choose) for _ in range(count // 2))
+    count, to, samples = sources_of_mix(choose, state)
     if choose.randrange(2):  # small steps, which leave most volumes in their range
         state.vectors[5] = [choose.choice((0, -1, 1, 100)) for _ in range(8)]
     volumes, steps, w = fixed(*state.vectors[3:5]), fixed(*state.vectors[5:7]), state.vectors[8][0]
-    samples = list(zip(halves(state.dmem, first, count // 2), halves(state.dmem, second, count // 2)))
     mixed = []
     for begin in range(0, max(count // 2, 1), 8):
         mixed += [
@@ -241,22 +244,15 @@ def dot_buffers(choose: Random, state: State) -> Wanted:
     first, second = (choose.choice([at for at in range(0, 4096, 16) if at + count <= 4096]) for _ in range(2))
     state.scalars[1], state.scalars[2], state.scalars[4] = first, second, count
     state.vectors[0], state.vectors[31] = [0] * 8, [1] * 8
-    total = sum(
-        a * b for a, b in zip(halves(state.dmem, first, count // 2), halves(state.dmem, second, count // 2))
-    )
+    total = sum(a * b for a, b in pairs_at(state, first, second, count))
     return Wanted(count, both(5, 6, [signed(total, 32)] * 8))
 
 
 def filter_four(choose: Random, state: State) -> Wanted:
     count = counted(choose, 4063) // 2 * 2
     source = 16 * choose.randrange((4096 - count - 32) // 16 + 1)
-    to = choose.choice(
-        [
-            at
-            for at in range(0, 4096 - count + 1, 16)
-            if at < 4096 and (at <= source or source + count + 32 <= at)
-        ]
-    )
+    places = [at for at in range(0, 4096, 16) if at + count <= 4096]
+    to = choose.choice([at for at in places if at <= source or source + count + 32 <= at])
     state.scalars[1], state.scalars[3], state.scalars[4] = source, to, count
     state.dmem[source : source + count + 6] = packed(edged(choose) for _ in range(count // 2 + 3))
     x = halves(state.dmem, source, count // 2 + 3)
@@ -266,10 +262,8 @@ def filter_four(choose: Random, state: State) -> Wanted:
 
 def multiply(choose: Random, state: State) -> Wanted:
     state.vectors[0] = [0] * 8
-    products = [
-        clamped(a * b // 65536, 32) for a, b in zip(fixed(*state.vectors[1:3]), fixed(*state.vectors[3:5]))
-    ]
-    return Wanted(lanes=both(9, 10, products))
+    pairs = zip(fixed(*state.vectors[1:3]), fixed(*state.vectors[3:5]))
+    return Wanted(lanes=both(9, 10, [clamped(a * b // 65536, 32) for a, b in pairs]))
 
 
 def both(high: int, low: int, numbers: Sequence[int]) -> Dict[int, Dict[int, int]]:
@@ -413,10 +407,8 @@ def proved() -> Dict[str, Words]:
     """The words that the theorem of each routine is about, which has the text's name."""
     texts = {name: (TOP / f"crates/rsp_routines/src/{name}.rt").read_text() for name in ROUTINES}
     found = {name: search(r"(?s)const WORDS: .*?\[\n(.*?)\];", text)[1] for name, text in texts.items()}
-    return {
-        name: tuple(int(it, 16) for it in re.findall(r"(?m)^ *0x(\w{8}),", text))
-        for name, text in found.items()
-    }
+    each = {name: re.findall(r"(?m)^ *0x(\w{8}),", text) for name, text in found.items()}
+    return {name: tuple(int(it, 16) for it in words) for name, words in each.items()}
 
 
 def words_of(program: str, name: str, folder: str) -> Words:

@@ -26,7 +26,7 @@ from typing import Iterator, List, Optional, Sequence, Tuple
 from rsp_tests import TOP
 from rsp_tests.common.arguments import add_program, reader
 from rsp_tests.common.cases import Case, unless
-from rsp_tests.common.numbers import clamped, halves, random_bytes
+from rsp_tests.common.numbers import clamped, halves
 from rsp_tests.common.pages import block_with, replies
 from rsp_tests.common.report import Report
 
@@ -361,7 +361,7 @@ def played(files: Files, script: str) -> str:
 def task_cases(files: Files) -> Iterator[Case]:
     """The image of a task, as MACHINE.md makes it, of examples/task.rsp: the task adds two sounds."""
     texts = re.findall(r"(?ms)^asm \S+\n(.*?)^end$", (TOP / "examples/task.rsp").read_text())
-    data = random_bytes(random.Random(8), 32)
+    data = random.Random(8).randbytes(32)
     for name, text, at in (("ucode.bin", texts[0], "0x080"), ("boot.bin", texts[1], "0")):
         (files.folder / "part.s").write_text(text)
         files.ran("asm", "part.s", name, "--at", at)
@@ -380,7 +380,7 @@ def task_cases(files: Files) -> Iterator[Case]:
 def image_cases(files: Files) -> Iterator[Case]:
     """Code and data as an image, and the six lines of SCRIPT.md."""
     choose = random.Random(9)
-    code, data = random_bytes(choose, 2048), random_bytes(choose, 4096)
+    code, data = choose.randbytes(2048), choose.randbytes(4096)
     (files.folder / "image").write_bytes(code + data)
     shown = ("dmem 0 256", "dmem 3840 256", "imem 128 256", "imem 1920 256", "imem 2176 16")
     script = block_with("docs/SCRIPT.md", "write 0 0x1080") + "".join(f"mem {it}\n" for it in shown)

@@ -34,7 +34,3 @@ def fixed(high: Sequence[int], low: Sequence[int]) -> List[int]:
 def edged(choose: Random) -> int:
     """A number of 16 bits, often at an edge."""
     return choose.choice((*EDGES, choose.randrange(-32768, 32768), choose.randrange(-32768, 32768)))
-
-
-def random_bytes(choose: Random, count: int) -> bytes:
-    return bytes(choose.getrandbits(8) for _ in range(count))

@@ -1,16 +1,16 @@
 """The rules that docs/INSTRUCTIONS.md has as Python, against the program on random values."""
 
 from random import Random
-from typing import Any, Dict, Iterator, List, Sequence
+from typing import Any, Dict, Iterator, List
 
 from rsp_conformance import bench
 from rsp_conformance.table import ROWS, word_of
 from rsp_tests.common.cases import Case
-from rsp_tests.common.numbers import edged, signed
+from rsp_tests.common.numbers import edged, packed, signed
 from rsp_tests.common.pages import blocks
+from rsp_tests.common.worked import FLAGS
 
 ROUNDS = 40  # of eight lanes
-FLAGS = (("vco", 0), ("vco", 8), ("vcc", 0), ("vcc", 8), ("vce", 0))  # in the order of the page's rules
 FIELDS = {"e": 0, "vt": 2, "vs": 1, "vd": 3, "de": 0}
 Look = Dict[str, Any]
 
@@ -24,16 +24,13 @@ def page_rules() -> Dict[str, Any]:
     return names
 
 
-def lanes(numbers: Sequence[int]) -> str:
-    return "".join(f"{it % 65536:04x}" for it in numbers)
-
-
 def lane(look: Look, register: str, at: int) -> int:
     return int(look[register][4 * at : 4 * at + 4], 16)
 
 
 def flags_of(look: Look, at: int) -> List[bool]:
-    return [bool(int(look[register], 16) >> shift + at & 1) for register, shift in FLAGS]
+    """The flags of a lane, in the order of the page's rules."""
+    return [bool(int(look[register], 16) >> shift + at & 1) for register, shift in FLAGS.values()]
 
 
 def clip_states(choose: Random) -> Iterator[Look]:
@@ -41,14 +38,9 @@ def clip_states(choose: Random) -> Iterator[Look]:
     for _ in range(ROUNDS):
         a = [edged(choose) for _ in range(8)]
         b = [choose.choice((it, -it, ~it, it + 1, 1 - it, edged(choose))) for it in a]
-        flags = {"vco": f"{choose.getrandbits(16):04x}", "vcc": f"{choose.getrandbits(16):04x}"}
-        yield {
-            **bench.DEFAULT,
-            **flags,
-            "vce": f"{choose.getrandbits(8):02x}",
-            "v1": lanes(a),
-            "v2": lanes(b),
-        }
+        flags = {it: f"{choose.getrandbits(16):04x}" for it in ("vco", "vcc")}
+        flags["vce"] = f"{choose.getrandbits(8):02x}"
+        yield {**bench.DEFAULT, **flags, "v1": packed(a).hex(), "v2": packed(b).hex()}
 
 
 def clip_complaints(name: str, rule: Any, before: Look, after: Look) -> Iterator[str]:
@@ -65,7 +57,8 @@ def clip_complaints(name: str, rule: Any, before: Look, after: Look) -> Iterator
 def divided(x: int) -> Look:
     """The state in which a long divide takes x, 32 bits: DIV_IN and lane 0 of $v2."""
     high = f"{x >> 16 & 0xFFFF:04x}"
-    return {**bench.DEFAULT, "in": high, "loaded": "1", "v2": lanes([x] + [0] * 7), "divided": f"{high}0000"}
+    loaded = {"in": high, "loaded": "1", "divided": f"{high}0000"}
+    return {**bench.DEFAULT, **loaded, "v2": packed([x] + [0] * 7).hex()}
 
 
 def rule_cases(program: str) -> Iterator[Case]:
@@ -74,10 +67,9 @@ def rule_cases(program: str) -> Iterator[Case]:
     for name in ("vch", "vcl", "vcr"):
         row = ROWS[name]
         cases = [(row, word_of(row, FIELDS), it) for it in clip_states(choose)]
-        looks = bench.observe(program, cases)
-        found = [
-            it for look in looks for it in clip_complaints(name, rules[name], look["before"], look["after"])
-        ]
+        found: List[str] = []
+        for look in bench.observe(program, cases):
+            found += clip_complaints(name, rules[name], look["before"], look["after"])
         yield f"INSTRUCTIONS.md, {name}", found[:3]
     sizes = [choose.getrandbits(choose.randrange(1, 33)) for _ in range(300)]
     numbers = [signed(it, 32) for it in (*sizes, 0, 1, -1, -32768, -32769, 2**31 - 1, -(2**31))]

@@ -5,8 +5,10 @@ from itertools import product
 from typing import Any, Callable, Dict, Iterable, Iterator, List, NamedTuple, Optional, Sequence, Tuple
 
 from rsp_conformance import bench
+from rsp_conformance.states import lanes_of
 from rsp_conformance.table import ROWS, word_of
-from rsp_tests.common.numbers import signed
+from rsp_tests.common.numbers import packed, signed
+from rsp_tests.common.worked import FLAGS
 from rsp_tests.drawings import svg
 
 Look = Dict[str, Any]
@@ -14,13 +16,6 @@ Case = Tuple[Any, int, Look]
 Flags = Dict[str, str]
 Parts = List[str]
 
-FLAGS = {
-    "carry": ("vco", 0),
-    "not-equal": ("vco", 8),
-    "compare": ("vcc", 0),
-    "clip": ("vcc", 8),
-    "extra": ("vce", 0),
-}
 REGISTERS = ("vco", "vcc", "vce")
 NAMES = [name for name, row in ROWS.items() if row.form in ("vector", "lane", "nothing")]
 ADDERS = {
@@ -34,14 +29,6 @@ ADDERS = {
 CLEAR = {"vco": "0000", "vcc": "0000", "vce": "00"}
 
 
-def lanes(values: Iterable[int]) -> str:
-    return "".join(f"{value & 0xFFFF:04x}" for value in values)
-
-
-def lanes_of(text: str) -> List[int]:
-    return [int(text[4 * i : 4 * i + 4], 16) for i in range(8)]
-
-
 def case(
     name: str,
     a: Iterable[int],
@@ -53,7 +40,8 @@ def case(
 ) -> Case:
     """An instruction `$v3, $v1, $v2[element]` on these lanes, accumulators and flags."""
     fields = {"e": element, "vt": 2, "vs": vs, "vd": 3, "de": 0}
-    state = {**bench.DEFAULT, **CLEAR, "v1": lanes(a), "v2": lanes(b), "v3": "0" * 32, **flags}
+    vectors = {"v1": packed(a).hex(), "v2": packed(b).hex(), "v3": "0" * 32}
+    state = {**bench.DEFAULT, **CLEAR, **vectors, **flags}
     state.update({f"a{i}": f"{value % 2**48:012x}" for i, value in enumerate(accumulators or [0] * 8)})
     return ROWS[name], word_of(ROWS[name], fields), state
 
@@ -239,18 +227,14 @@ def others(look: Look, flag: str) -> Tuple[str, List[str], Dict[str, int]]:
 
 CELL, LEFT = 12.5, 250  # the width of a bit of an accumulator, and where bit 47 is
 
-# Of a multiply: the bit of the accumulator where bit 0 of its product is, whether it takes a and b as
-# signed, and what it adds to round.
-
 
 class Product(NamedTuple):
-    """Of a multiply: the bit of the accumulator where bit 0 of its product is, how it takes a and b, how it
-    rounds."""
+    """What a multiply makes."""
 
-    place: int
+    place: int  # the bit of the accumulator where bit 0 of the product is
     a_signed: bool
     b_signed: bool
-    rounding: int
+    rounding: int  # what it adds
 
 
 def bit_x(bit: int) -> float:
