@@ -22,9 +22,8 @@ Observed = Tuple[Row, int, Texts]  # a case: the instruction, its word, and the 
 Looks = Dict[str, Any]  # what was seen of a case: `text` and `step`, and the states `before` and `after`
 
 LONGEST_SCRIPT = 1000000
-ALL_CLEAR = sum(
-    1 << bit for bit in (0, 2, 3, 5, 7, *range(9, 24, 2))
-)  # of SP_STATUS: halted, broke, the interrupt, ..
+# Of SP_STATUS: halted, broke, the interrupt, ..
+ALL_CLEAR = sum(1 << bit for bit in (0, 2, 3, 5, 7, *range(9, 24, 2)))
 
 # RDRAM holds what every case begins with: the setting program, its data, and zeros. A case's own bytes are at
 # WINDOW.
@@ -176,9 +175,8 @@ def refusal_of(program: str) -> Optional[str]:
     if ended.stdout == b"ok\n":
         return None
     told = ended.stderr.decode(errors="replace").strip().split("\n")[0]
-    return (
-        f"{program} doesn't run scripts as rsp does: {told or f'it answers `pc 0` by {ended.stdout[:40]!r}'}"
-    )
+    told = told or f"it answers `pc 0` by {ended.stdout[:40]!r}"
+    return f"{program} doesn't run scripts as rsp does: {told}"
 
 
 def run_script(program: str, script: Script) -> Iterator[Tuple[Any, List[str]]]:

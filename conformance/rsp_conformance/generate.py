@@ -25,11 +25,11 @@ from rsp_conformance.table import ROWS, Row
 
 SEED = "1"
 
-
+# Forms that are made of form 1: the suffix of a file, and what it holds.
 MORE: Dict[str, Tuple[str, Callable[[List[steps.Entry]], bytes]]] = {
     "full": ("json", lambda entries: full.full_text(entries).encode()),
     "flat": ("bin", flat.flat_bytes),
-}  # forms that are made of form 1: the suffix of a file, and what it holds
+}
 
 
 def write_row(program: str, row: Row, seed: str, count: int, out: Path, more: Sequence[str]) -> None:

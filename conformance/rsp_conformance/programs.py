@@ -100,11 +100,8 @@ class Program:
     def close(self, case: Case, at: int, fields: Layout) -> None:
         what = {"name": case.name, "pc": f"{case.place:03x}", "word": f"{case.word:08x}", "text": ""}
         entry = {**what, "at": f"{at:03x}", "layout": self.layout(fields)}
-        if case.choice and case.row.form not in (
-            *JUMPS,
-            *SP_MOVES,
-            "break",
-        ):  # what these choose can't be seen here
+        # What these choose can't be seen here.
+        if case.choice and case.row.form not in (*JUMPS, *SP_MOVES, "break"):
             entry["choice"] = case.choice
         self.cases.append(entry)
 
@@ -179,9 +176,8 @@ def begun(program: Program, case: Case, vectors: int = 0, halves: int = 0, words
     """Sets a case up, executes its word, and takes room for what it leaves. $1 has the address of vectors."""
     for address, text in case.before.get("dmem", {}).items():
         program.data[int(address, 16) : int(address, 16) + len(text) // 2] = bytes.fromhex(text)
-    saved = Saved(
-        program, vectors, halves, words
-    )  # halves, then the flags that are set, end at a multiple of 16
+    # Halves, then the flags that are set, end at a multiple of 16.
+    saved = Saved(program, vectors, halves, words)
     set_up(program, case)
     program.test(case, case.word)
     if vectors:

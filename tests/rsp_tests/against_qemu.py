@@ -38,13 +38,8 @@ from rsp_tests.common.arguments import add_program, reader
 CODE = 0x4000  # QEMU's address of the block: a multiple of 4096
 SAVED = 0x1000  # where QEMU's end of a block puts the registers, after the data
 SYSCALL = 12
-COMPUTING = (
-    "shift",
-    "three",
-    "three",
-    "three",
-    "immediate",
-)  # forms of the table, each as often as it is drawn
+# Forms of the table, each as often as it is drawn.
+COMPUTING = ("shift", "three", "three", "three", "immediate")
 TRANSFERS = [row.name for row in ROWS.values() if row.form in ("load", "store")]
 SIZES = {"b": 1, "h": 2, "w": 4}  # by the second letter of a transfer's name
 BRANCHES = ("bltz", "bgez", "blez", "bgtz", "beq", "beq", "bne", "bne")

@@ -48,11 +48,8 @@ class Object(Emulator):
     """A shared object with the interface of cases.h."""
 
     def __init__(self, path: str, memories: bytes, what: str = "") -> None:
-        self.lib, self.what, self.memories = (
-            ctypes.CDLL(os.path.abspath(path)),
-            what or path,
-            bytearray(memories),
-        )
+        self.lib, self.what = ctypes.CDLL(os.path.abspath(path)), what or path
+        self.memories = bytearray(memories)
         self.lib.cases_open.restype = ctypes.c_void_p
         self.at = ctypes.c_void_p(self.lib.cases_open(what.encode(), bytes(memories)))
         if not self.at:

@@ -18,11 +18,8 @@ from .generator import HALVES, OFFSETS, SELECTED, Array, accumulates, cases_of
 
 COUNT = 1 << 16
 FILES = (("s", "t", "d", "base"), ("vs", "vt", "vd"))  # the fields that name scalar, and vector registers
-EDGES = {
-    "imm": HALVES,
-    "off": OFFSETS,
-    "target": np.array([0, 1, 0x3FF]),
-}  # classes of wide fields: these, and others
+# Classes of wide fields: these, and others.
+EDGES = {"imm": HALVES, "off": OFFSETS, "target": np.array([0, 1, 0x3FF])}
 OPERANDS = np.array([0, 1, 0xFFFF, 0x7FFF, 0x8000])
 FLAGS = ("carry", "differ", "compare", "clip", "extra")
 # Of these one decides about the other; and if the base is $0, the offset decides about the address.

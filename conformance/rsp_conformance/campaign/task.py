@@ -30,9 +30,8 @@ from .hashes import hashes
 from .search import fewest
 from .shared import BATCH, END_BYTES, SHOWN, STATUS_AT, UNDONE, Options, Result, name_of
 
-Task = Tuple[
-    str, str, str, int, int
-]  # the emulator, the instruction, the seed, the first number, and how many
+# The emulator, the instruction, the seed, the first number, and how many.
+Task = Tuple[str, str, str, int, int]
 
 # Arrays stay in the heap from batch to batch. A worker of Dask has the first of these at 65536, which gives
 # memory back all the time.

@@ -37,14 +37,10 @@ Check = Tuple[str, object, object]  # what, whether it is right, and what was sa
 Checks = Iterator[Check]
 Wrong = Tuple[Tuple[List[Any], str], ...]  # wrong words, each with a part of the sentence that answers them
 
-CAMPAIGN, SOURCES, MODULES = (
-    TOP / "conformance/campaign",
-    TESTS / "campaigns",
-    Path(__file__).resolve().parent,
-)
-EMULATOR = shlex.join(
-    [str(TOP / "tools/python"), "rsp_tests.campaigns.emulator"]
-)  # whose path may have a blank
+CAMPAIGN, SOURCES = TOP / "conformance/campaign", TESTS / "campaigns"
+MODULES = Path(__file__).resolve().parent
+# The repository's path may have a blank.
+EMULATOR = shlex.join([str(TOP / "tools/python"), "rsp_tests.campaigns.emulator"])
 SHORT = {**os.environ, "DASK_DISTRIBUTED__COMM__TIMEOUTS__CONNECT": "1s"}  # Dask tries for 30 seconds
 FEW = "lw,sqv,vadd,vmadh,vrcpl,beq,mtc0,ltv"
 Z64 = Path("/usr/lib/x86_64-linux-gnu/mupen64plus/mupen64plus-rsp-z64.so")
@@ -141,10 +137,7 @@ def campaign_sentences(folder: Path) -> Checks:
         ([itself, "--here", folder / "full"], "isn't empty, and holds no campaign"),
         ([itself, "--here", folder / "spoilt"], "campaign.json isn't what a campaign wrote"),
         ([itself, "--here", folder / "list"], "campaign.json isn't what a campaign wrote"),
-        (
-            [itself, "--case", program, folder / "spoilt"],
-            "campaign.json isn't what a campaign wrote",
-        ),
+        ([itself, "--case", program, folder / "spoilt"], "campaign.json isn't what a campaign wrote"),
         ([itself, "--case", program, folder / "full"], "campaign.json: No such file"),
         ([itself, "--here"], "it needs a folder OUT"),
         ([itself, "--here", "--seed", "A", out], "a seed is letters a to z and digits"),
@@ -371,9 +364,8 @@ def hidden_state(folder: Path) -> Checks:
     """A CTC2 that spoils a VLT, unless registers are read between them, is named, and not where it shows."""
     ended = campaign(faulty(4), "--cases", 0, "--programs", 60, "--here", folder / "hidden")
     lines = [line for line in ended.stdout.splitlines() if line.startswith("PROGRAM")]
-    yield "the word at fault is named", re.search(r", ctc2 \$.*, which shows at vlt ", "".join(lines)), said(
-        ended
-    )
+    is_named = re.search(r", ctc2 \$.*, which shows at vlt ", "".join(lines))
+    yield "the word at fault is named", is_named, said(ended)
 
 
 def state_before(_: Path) -> Checks:
@@ -407,14 +399,8 @@ def replayed(program: str, folder: Path, it: Dict[str, Any]) -> Checks:
 
 # --- C and C++
 
-STRICT = [
-    "-Wall",
-    "-Wextra",
-    "-Wconversion",
-    "-Werror",
-    f"-I{TOP}/library/c",
-    f"-I{TOP}/conformance/campaigns",
-]
+HEADERS = (f"-I{TOP}/library/c", f"-I{TOP}/conformance/campaigns")
+STRICT = ("-Wall", "-Wextra", "-Wconversion", "-Werror", *HEADERS)
 COMPILERS = (("cc", "-std=c11"), ("clang", "-std=c11"), ("c++", "-std=c++17"), ("clang++", "-std=c++17"))
 
 
@@ -445,6 +431,15 @@ def headers(folder: Path) -> Checks:
     yield "the wrapper in C++ agrees", agrees, said(ended)
 
 
+def first_in_words(found: Any) -> List[str]:
+    """What compare.c prints of a first difference; nothing if there is none."""
+    if not found:
+        return []
+    what = f"{found.step} {found.steps} {found.place:03x} {found.word:08x} {found.text}"
+    parts = (f"{it.name} {it.value:x} {it.other:x} {it.digits}" for it in found.parts)
+    return [f"{what} pc {found.before.pc:03x}", *parts]
+
+
 def compared_in_c(folder: Path) -> Checks:
     """rsp_compare.h finds in planted faults what rsp.first_difference finds."""
     from rsp_conformance.campaign.generator import MEMORIES
@@ -454,28 +449,19 @@ def compared_in_c(folder: Path) -> Checks:
     names, differ = ["vadd", "vxor", "lqv", "ctc2", "vlt", "mtc0", "sqv"], 0
     for fault, every, limit in ((2, 64, 1000), (4, 100, 1000), (3, 16, 500)):
         made = f"compare-{fault}"
-        ended = compiled(
-            folder, SOURCES / "compare.c", f"-DFAULT={fault}", "-w", SOURCES / "faulty.c", made=made
-        )
+        flags = (f"-DFAULT={fault}", "-w", SOURCES / "faulty.c")
+        ended = compiled(folder, SOURCES / "compare.c", *flags, made=made)
         yield f"{made} compiles", ended.returncode == 0, ended.stdout
         sides = Sides(faulty(fault), bytes(MEMORIES))
         for number in range(6):
             program = program_of(names, "1", number)
             given = b"".join(it.to_bytes(4, "little") for it in (every, limit)) + bytes(program.raw)
-            found = sides.first_difference(program, limit, every)
-            head = []
-            if found:
-                what = f"{found.step} {found.steps} {found.place:03x} {found.word:08x} {found.text}"
-                head = [f"{what} pc {found.before.pc:03x}"]
-            parts = (
-                [f"{it.name} {it.value:x} {it.other:x} {it.digits}" for it in found.parts] if found else []
-            )
-            told = (
-                subprocess.run([folder / made], input=given, capture_output=True).stdout.decode().splitlines()
-            )
-            same = [re.sub(r" 0*(?=[0-9a-f]+ )", " ", line) for line in told[1:]]
-            differ += bool(found)
-            yield f"{made}: program {number}", told[:1] == head and same == parts, (told[:3], head, parts[:3])
+            wanted = first_in_words(sides.first_difference(program, limit, every))
+            ran = subprocess.run([folder / made], input=given, capture_output=True)
+            told = ran.stdout.decode().splitlines()
+            told[1:] = [re.sub(r" 0*(?=[0-9a-f]+ )", " ", line) for line in told[1:]]
+            differ += bool(wanted)
+            yield f"{made}: program {number}", told == wanted, (told[:3], wanted[:4])
     yield "some of the programs differ", differ > 6, differ
 
 
@@ -605,11 +591,7 @@ def faults_of_runs(folder: Path) -> Checks:
     word, run_of = word_17(), f"; the shortest run that shows it begins with {CASE_17}"
     late = faulty(3, f"-DWORD=0x{word}")
     for what, emulator, told in (
-        (
-            "a fault of two cases",
-            f"{EMULATOR} after {word}",
-            f"{CASE_18}: the command ended with status 3",
-        ),
+        ("a fault of two cases", f"{EMULATOR} after {word}", f"{CASE_18}: the command ended with status 3"),
         ("a fault after the batch", late, f"{CASE_39}: ended by SIGABRT"),
     ):
         out = folder / what.replace(" ", "")

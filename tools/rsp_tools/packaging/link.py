@@ -1,12 +1,9 @@
 """Links what is shipped, by cc and binutils. The same input gives the same bytes.
 
-  library ARCHIVE..   makes librsp.a, librsp.so.1 and the same as librsp.so in library/c, of archives, the
-  crate's and
-                      the kit's. Both show the calls of rsp.h alone. All else in them is local, so that
-                      another
-                      library of the kit can be linked into the same program.
-  program OBJECT OUT  links the program again, of the object file that rt leaves and the kit's archives, so
-  that it
+  library ARCHIVE..   makes librsp.a, librsp.so.1 and the same as librsp.so in library/c, of the crate's and
+                      the kit's archives. Both show the calls of rsp.h alone. All else in them is local, as
+                      another library of the kit may be in the same program.
+  program OBJECT OUT  links the program again, of the object file that rt leaves and the kit's archives: it
                       needs no newer glibc than tools/packaging/start.c says.
 """
 
