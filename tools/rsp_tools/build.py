@@ -1,16 +1,14 @@
 """tools/build CRATE [COMMAND..]: proves and builds a crate with all that it uses, and then becomes COMMAND.
 
-CRATE is rsp_main, the program (./rsp calls this), or rsp_c, the library for C (library/c/build calls this).
-`tools/build --proved FILE CRATE` is for right after `rt ci`: it builds over what that run has proved.
-FILE has what `tools/build --sources CRATE` said before that run. `tools/build --kit` says if the kit is
-another one than the proofs want.
+It fails if a proof does, and then says where to read more. CRATE is rsp_main, the program (./rsp calls
+this), or rsp_c, the library for C (library/c/build calls this).
 
 It says when each crate begins, how far a long proof is, and how long it took. It does nothing if nothing
 has changed: the mark out/built has the kit's version, what `tools/sources` said before the proof began,
-and the sum of the file that was built. If it is stopped, the next run goes on from there. The status is
-0 if the crate is built, 1 if it isn't, 2 if the words are wrong.
+and the sum of the file that was built. If it is stopped, the next run goes on from there.
 """
 
+import argparse
 import functools
 import hashlib
 import os
@@ -329,19 +327,29 @@ class Build:
         return kit()
 
 
+def arguments() -> argparse.Namespace:
+    form = argparse.RawDescriptionHelpFormatter
+    words = argparse.ArgumentParser("tools/build", description=__doc__, formatter_class=form)
+    kinds = words.add_mutually_exclusive_group()
+    over = "right after `rt ci`: build over what it proved; FILE has what --sources said before it"
+    kinds.add_argument("--proved", metavar="FILE", help=over)
+    kinds.add_argument("--sources", action="store_true", help="only print what the crate is made of")
+    kinds.add_argument("--kit", action="store_true", help="only say if the proofs want another kit")
+    words.add_argument("crate", nargs="?", choices=[*BUILT], metavar="CRATE", help=" or ".join(BUILT))
+    words.add_argument("command", nargs=argparse.REMAINDER, metavar="COMMAND")
+    given = words.parse_args()
+    if not given.crate and not given.kit:
+        words.error(f"which CRATE: {' or '.join(BUILT)}?")
+    return given
+
+
 def main() -> int:
-    words = sys.argv[1:]
-    verb = words.pop(0) if words[:1] in (["--kit"], ["--sources"], ["--proved"]) else ""
-    proved = words.pop(0) if verb == "--proved" and words else None
-    crate, *command = words or ["rsp_main" if verb == "--kit" else ""]
-    if crate not in BUILT:
-        print(__doc__)
-        return 0 if crate in ("--help", "-h") else 2
-    made = Build(crate)
-    if verb == "--sources":
+    given = arguments()
+    made, proved = Build(given.crate or "rsp_main"), given.proved
+    if given.sources:
         print(made.sources, end="")
         return 0
-    if verb == "--kit":
+    if given.kit:
         made.wanted_kit()
         return 0
     for it in (signal.SIGINT, signal.SIGTERM):
@@ -354,8 +362,8 @@ def main() -> int:
             made.build(bool(proved))
     except OSError as fault:
         made.fail(f"{fault.filename or made.log}: {fault.strerror}, so nothing is built here")
-    if command:
-        os.execv(command[0], command)
+    if given.command:
+        os.execv(given.command[0], given.command)
     return 0
 
 
