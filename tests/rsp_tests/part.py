@@ -1,11 +1,12 @@
 """tests/part NAME [WORD..]: runs one test, with these words if there are any. It fails as the test does.
 
-NAME is one of those that --help lists, each with the first line of its text: a module of rsp_tests, or a part
-of tests/all by the name that it has there.
+NAME is one of those that --help lists: a module of rsp_tests, with the sentence that its text begins with, or
+a part of tests/all by the name that it has there, with its command. NAME --help says more.
 """
 
 import ast
 import os
+import re
 import runpy
 import sys
 from pathlib import Path
@@ -36,14 +37,17 @@ def modules() -> Dict[str, Path]:
     return named
 
 
+def first_sentence(path: Path) -> str:
+    """What a module's text says first, without the command that it may begin with."""
+    text = " ".join((ast.get_docstring(ast.parse(path.read_text())) or "").partition("\n\n")[0].split())
+    return re.sub("^tests/part .*?: ", "", text).partition(". ")[0].rstrip(".:")
+
+
 def tell(named: Dict[str, Path]) -> None:
     """Prints the list of names."""
     print(__doc__)
-    told = {
-        name: (ast.get_docstring(ast.parse(it.read_text())) or "").split("\n")[0]
-        for name, it in named.items()
-    }
-    others = {it.name: f"{it.command}: {it.what}" for it in PARTS if it.name not in named}
+    told = {name: first_sentence(it) for name, it in named.items()}
+    others = {it.name: f"{it.what}: {it.command}" for it in PARTS if it.name not in named}
     for name, text in sorted({**told, **others}.items()):
         print(f"  {name:20} {text}")
 
