@@ -294,11 +294,14 @@ def main() -> None:
     words.add_argument("--reasons", action="store_true", help="prints the table of COVERAGE.md")
     words.add_argument("program", nargs="?", metavar="PROGRAM", default=PROGRAM)
     args = words.parse_args()
+    program = os.path.abspath(args.program)
     if args.table or args.reasons:
         table = table_of({name: outcomes_of(name) for name in NAMES})
         print(table if args.table else coverage.reasons(table), end="")
+    elif refusal := bench.refusal_of(program):
+        sys.exit(f"conformance/check: {refusal}; `./rsp run` builds it")
     else:
-        sys.exit(counted(checks(os.path.abspath(args.program)), "FAIL "))
+        sys.exit(counted(checks(program), "FAIL "))
 
 
 if __name__ == "__main__":

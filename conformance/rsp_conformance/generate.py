@@ -81,7 +81,7 @@ def main() -> None:
     words.add_argument("--cases", type=int)
     words.add_argument("--seed", default=SEED)
     words.add_argument("--program", default=PROGRAM)
-    words.add_argument("out")
+    words.add_argument("out", metavar="OUT")
     words.add_argument("names", nargs="*", metavar="NAME")
     args = words.parse_args()
     if refusal := refusal_of(args):

@@ -60,13 +60,13 @@ def run_row(machine: Any, folder: Path, name: str) -> Iterator[Complaints]:
 
 def main() -> None:
     words = reader("library", __doc__)
-    words.add_argument("folder", nargs="?", type=Path, default=VECTORS)
+    words.add_argument("folder", nargs="?", type=Path, default=VECTORS, metavar="FOLDER")
     words.add_argument("names", nargs="*", metavar="NAME")
     args = words.parse_args()
     try:
         import rsp
     except (ImportError, OSError) as fault:
-        sys.exit(f"library: run library/c/build first: {fault}")
+        sys.exit(f"library: {fault}")
     try:
         with rsp.Rsp(IMAGE) as machine:
             names = names_in(args.folder, args.names)

@@ -38,7 +38,7 @@ def run_rows(program: str, folder: Path, names: List[str]) -> Iterator[Complaint
 def main() -> None:
     words = reader("run", __doc__)
     words.add_argument("--program", default=PROGRAM)
-    words.add_argument("folder", nargs="?", type=Path, default=VECTORS)
+    words.add_argument("folder", nargs="?", type=Path, default=VECTORS, metavar="FOLDER")
     words.add_argument("names", nargs="*", metavar="NAME")
     args = words.parse_args()
     try:

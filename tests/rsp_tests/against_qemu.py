@@ -24,7 +24,6 @@ import argparse
 import collections
 import random
 import re
-import shutil
 import struct
 import subprocess
 import sys
@@ -34,6 +33,7 @@ from typing import Counter, List, Sequence, Set, Tuple, Union
 
 from rsp_conformance.table import ROWS, destination, word_of
 from rsp_tests.common.arguments import add_program, reader
+from rsp_tests.common.processes import lacking
 
 CODE = 0x4000  # QEMU's address of the block: a multiple of 4096
 SAVED = 0x1000  # where QEMU's end of a block puts the registers, after the data
@@ -241,10 +241,9 @@ def arguments() -> argparse.Namespace:
 
 def main() -> int:
     given = arguments()
-    for program in ("qemu-mips", given.program):
-        if not shutil.which(program):
-            print(f"tests/part against-qemu: there is no program {program}", file=sys.stderr)
-            return 2
+    if lacking("qemu-mips"):
+        print(f"tests/part against-qemu: {lacking('qemu-mips')}", file=sys.stderr)
+        return 2
     used: Counter[str] = collections.Counter()
     words = wrong = 0
     for number in range(given.blocks):

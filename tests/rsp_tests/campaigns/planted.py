@@ -167,7 +167,7 @@ def main() -> None:
     parser.add_argument("--workers", type=int, default=1, metavar="N", help="how many bugs at a time (1)")
     parser.add_argument("out", type=Path, metavar="OUT.tsv")
     args = parser.parse_args()
-    need_library("planted")
+    need_library("tests/part campaigns-planted")
     listed: Dict[int, List[str]] = {0: [], **bugs()}
     wanted = args.bugs or [*listed]
     if unknown := [bug for bug in wanted if bug not in listed]:

@@ -97,7 +97,7 @@ def main() -> None:
     words.add_argument("--instructions", default=",".join(INSTRUCTIONS))
     words.add_argument("--workers", action="store_true")
     args = words.parse_args()
-    need_library("rates")
+    need_library("tests/part campaigns-rates")
     calls = ctypes.CDLL(built("rates", source=TESTS / "campaigns/rates.c")).seconds_of
     calls.restype = ctypes.c_double
     names, sums = args.instructions.split(","), np.zeros(4)

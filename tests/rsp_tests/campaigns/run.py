@@ -742,7 +742,7 @@ def main() -> None:
     words.add_argument("--dask", action="store_true", help="also clusters that lose a part")
     arguments.add_program(words)
     args = words.parse_args()
-    arguments.need_library("campaigns")
+    arguments.need_library("tests/part campaigns")
     with_numpy()
     report = Report()
     with ThreadPoolExecutor(len(os.sched_getaffinity(0))) as side_by_side:

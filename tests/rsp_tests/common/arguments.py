@@ -2,6 +2,7 @@
 
 import argparse
 import os
+import subprocess
 import sys
 from typing import Optional
 
@@ -24,10 +25,12 @@ def absolute(word: str) -> str:
 
 
 def program(word: str) -> str:
-    """A path of a program, which must be there."""
+    """A path of a program that runs scripts. The first run of ./rsp may build it, and says so."""
     path = absolute(word)
     if not os.path.isfile(path) or not os.access(path, os.X_OK):
         raise argparse.ArgumentTypeError(f"there is no program {path}; `./rsp run` builds {PROGRAM}")
+    if subprocess.run([path, "run"], stdin=subprocess.DEVNULL).returncode:
+        raise argparse.ArgumentTypeError(f"{path} fails on an empty script")
     return path
 
 

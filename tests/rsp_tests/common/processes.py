@@ -16,6 +16,7 @@ PACKAGES = {
     "c++": "g++",
     "cc": "gcc",
     "mips-linux-gnu-gcc": "gcc-mips-linux-gnu",
+    "qemu-mips": "qemu-user",
     "cargo-clippy": "rust-clippy",
     "ar": "binutils",
     "nm": "binutils",

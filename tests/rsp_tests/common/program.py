@@ -62,5 +62,7 @@ def content(path: Path) -> Optional[bytes]:
 
 def need_binary(name: str, program: str) -> None:
     """Ends the test if the program isn't one: a script starts others, which the test would hit too."""
+    if not os.path.isfile(program):
+        sys.exit(f"{name}: there is no {program}; `./rsp run` builds crates/rsp_main/out/rsp_main")
     if not os.access(program, os.X_OK) or Path(program).read_bytes()[:4] != b"\x7fELF":
-        sys.exit(f"{name}: {program} is no binary, as crates/rsp_main/out/rsp_main is; `./rsp run` builds it")
+        sys.exit(f"{name}: {program} is no binary, as crates/rsp_main/out/rsp_main is")

@@ -1,4 +1,4 @@
-"""Links what is shipped, by cc and binutils. The same input gives the same bytes.
+"""Links what is shipped, by cc and binutils: the same input gives the same bytes. It fails as they do.
 
   library ARCHIVE..   makes librsp.a, librsp.so.1 and the same as librsp.so in library/c, of the crate's and
                       the kit's archives. Both show the calls of rsp.h alone. All else in them is local, as
