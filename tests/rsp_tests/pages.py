@@ -51,6 +51,10 @@ OF_VECTORS = "conformance/README.md"
 EXAMPLE = "VCH-003"  # the case of form 2 that it shows
 FOLDERS = ".", "docs", "conformance", "microcode"
 PAGES = sorted(it for folder in FOLDERS for it in TOP.glob(f"{folder}/*.md"))
+# Pages whose blocks in turn are commands and their replies.
+SESSIONS = ("docs/TUTORIAL.md",)
+# Pages with the heading from which on blocks have replies beside their commands, and how many at least.
+TRANSCRIPTS = (("docs/SCRIPT.md", "## My microcode is wrong", 10),)
 OPEN_BLOCK = "fault 10 BadLine line 1\n"  # what a script ends with that hasn't closed its block
 FAULTS = {*range(4, 8), *range(10, 18), *range(20, 28), *range(30, 34), *range(40, 44)}
 
@@ -195,19 +199,17 @@ def macro_cases(program: str) -> Iterator[Case]:
     yield "COOKBOOK.md, m4", unless(f"`{of_m4}`" in page(named), "the page hasn't its command")
 
 
-def tutorial_cases(program: str) -> Iterator[Case]:
-    """docs/TUTORIAL.md: its blocks in turn are commands and their replies, in one session.
-
-    A block that begins with a comment is a session of its own.
-    """
-    parts, session = [block.strip("\n") for block in blocks("docs/TUTORIAL.md")], ""
-    yield "TUTORIAL.md, its blocks", unless(len(parts) % 2 == 0, "commands have no replies")
-    for commands, wanted in zip(parts[::2], parts[1::2]):
-        is_alone = commands.startswith("#")
-        before = "" if is_alone else session
-        told = replies(program, before + commands + "\n")[len(replies(program, before)) :]
-        yield answered(f"TUTORIAL.md `{commands.splitlines()[0]}`", told, wanted)
-        session = session if is_alone else before + commands + "\n"
+def session_cases(program: str) -> Iterator[Case]:
+    """The blocks of SESSIONS, each page one session. A block that begins with a comment is one of its own."""
+    for name in SESSIONS:
+        parts, session, title = [block.strip("\n") for block in blocks(name)], "", Path(name).name
+        yield f"{title}, its blocks", unless(len(parts) % 2 == 0, "commands have no replies")
+        for commands, wanted in zip(parts[::2], parts[1::2]):
+            is_alone = commands.startswith("#")
+            before = "" if is_alone else session
+            told = replies(program, before + commands + "\n")[len(replies(program, before)) :]
+            yield answered(f"{title} `{commands.splitlines()[0]}`", told, wanted)
+            session = session if is_alone else before + commands + "\n"
 
 
 def reading_cases(_: str) -> Iterator[Case]:
@@ -248,11 +250,12 @@ def command_cases(program: str) -> Iterator[Case]:
 
 
 def transcript_cases(program: str) -> Iterator[Case]:
-    """docs/SCRIPT.md: each block that has replies beside its commands, a session of its own."""
-    found = list(transcripts("docs/SCRIPT.md", "## My microcode is wrong"))
-    yield "SCRIPT.md, its transcripts", unless(len(found) > 9, "they aren't found")
-    for script, wanted in found:
-        yield answered(f"SCRIPT.md `{script.splitlines()[0]}`", replies(program, script), wanted)
+    """The blocks of TRANSCRIPTS, each a session of its own."""
+    for name, heading, least in TRANSCRIPTS:
+        found, title = list(transcripts(name, heading)), Path(name).name
+        yield f"{title}, its transcripts", unless(len(found) >= least, f"there are {len(found)}")
+        for script, wanted in found:
+            yield answered(f"{title} `{script.splitlines()[0]}`", replies(program, script), wanted)
 
 
 def fault_told(program: str, fault: str, example: str) -> str:
@@ -365,7 +368,7 @@ def link_cases(_: str) -> Iterator[Case]:
         yield f"links of {path.relative_to(TOP)}", gone
 
 
-OF_BLOCKS = (example_cases, macro_cases, tutorial_cases, transcript_cases, reading_cases, definition_cases)
+OF_BLOCKS = (example_cases, macro_cases, session_cases, transcript_cases, reading_cases, definition_cases)
 OF_TABLES = (row_cases, command_cases, fault_cases, syntax_cases, program_cases)
 OTHERS = (help_cases, rule_cases, idiom_cases, link_cases)
 
