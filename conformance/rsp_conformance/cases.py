@@ -122,8 +122,8 @@ def element_of(row: Row, number: int) -> int:
 
 
 # Cases that are given and not drawn, by instruction and number: a and b of each lane, and the flags before.
-# The first of an instruction has the number after its pairs, and all have even ones: then each lane is taken
-# for itself, and vs isn't vt.
+# Numbers are even, the first after the pairs: then each lane is taken for itself, and vs isn't vt. The odd
+# ones between them are drawn.
 GIVEN = {
     ("vch", 48): (0x7FFF, 0x8000, {"vco": "ffff", "vcc": "ffff", "vce": "ff"}),
 }
@@ -391,7 +391,8 @@ MAKERS: Dict[str, Callable[[Row, Random, int, int], Made]] = {
 
 def small_count(row: Row) -> int:
     """How many cases of an instruction the small set has."""
-    return unpaired(row) + len(paired_elements(row)) + sum(name == row.name for name, _ in GIVEN)
+    given = (number + 1 for name, number in GIVEN if name == row.name)
+    return max((unpaired(row) + len(paired_elements(row)), *given))
 
 
 def reached_windows(row: Row) -> List[int]:
