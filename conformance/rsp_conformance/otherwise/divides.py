@@ -2,6 +2,7 @@
 
 from __future__ import annotations
 
+import math
 from typing import Callable
 
 from rsp_conformance.outcomes import selected, signed
@@ -27,12 +28,7 @@ def reciprocal_entry(index: int) -> int:
 
 def root_entry(index: int) -> int:
     number = (512 + index) // (1 + index % 2)
-    root = round((2**44 / number) ** 0.5)
-    while number * root * root >= 2**44:
-        root -= 1
-    while number * (root + 1) ** 2 < 2**44:
-        root += 1
-    return root // 2 % 2**16
+    return math.isqrt((2**44 - 1) // number) // 2 % 2**16
 
 
 # Each is one less than the table's.
