@@ -70,7 +70,8 @@ def word(random: Random) -> str:
     return f"{random.mixed(WORDS, 32):08x}"
 
 
-def signed(number: int, bits: int) -> int:
+def signed(number: Any, bits: int) -> Any:
+    """The number with a sign that has the same low bits; of an array, each."""
     half = 1 << bits - 1
     return (number & 2 * half - 1 ^ half) - half
 

@@ -12,6 +12,7 @@ import sys
 from typing import Dict, Iterator, List
 
 import numpy as np
+from rsp_conformance.cases import signed
 from rsp_conformance.table import FORMS, ROWS, SCALE, Row, uses_memory
 
 from .generator import HALVES, OFFSETS, SELECTED, Array, accumulates, cases_of
@@ -33,11 +34,6 @@ def classes(values: Array, edges: Array) -> Array:
     """The number of the edge that a value is, or how many there are."""
     is_edge = values[..., None] == edges
     return np.where(is_edge.any(-1), is_edge.argmax(-1), len(edges))
-
-
-def signed(values: Array, bits: int) -> Array:
-    half = 1 << bits - 1
-    return (values ^ half) - half
 
 
 def address_of(row: Row, fields: Features, words: Array) -> Array:

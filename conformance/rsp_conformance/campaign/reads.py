@@ -1,10 +1,9 @@
-"""What an instruction reads of a state, in the words of its rule: operands by lane, flags, accumulators, the
-divider, an address with its bytes. It tells why two sides can differ.
-"""
+"""What an instruction reads of a state, in the words of its rule. It tells why two sides can differ."""
 
 from typing import Dict, Iterator, List, Tuple
 
 import rsp
+from rsp_conformance.cases import signed
 from rsp_conformance.outcomes import selected
 from rsp_conformance.table import FORMS, ROWS, SCALE, Row, fields_of, uses_memory
 
@@ -21,10 +20,6 @@ READ = 16  # the bytes that are shown at an address
 
 def accumulator(state: rsp.State, lane: int) -> str:
     return "".join(f"{getattr(state.accumulators, part)[lane]:04x}" for part in ACCUMULATORS)
-
-
-def signed(value: int, bits: int) -> int:
-    return (value ^ 1 << bits - 1) - (1 << bits - 1)
 
 
 def lane_reads(row: Row, state: rsp.State, fields: Dict[str, int], lane: int) -> Reads:

@@ -27,6 +27,7 @@ from pathlib import Path
 from typing import Any, Callable, Dict, Iterator, List, Tuple
 
 from rsp_conformance.campaign.shared import PROGRAM, name_of
+from rsp_conformance.cases import signed
 from rsp_conformance.table import ROWS as INSTRUCTIONS
 from rsp_tests import TESTS, TOP
 from rsp_tests.common import arguments
@@ -208,10 +209,6 @@ def numbered_cases(_: Path) -> Checks:
     yield "the words of PCG64", raw == list(raw_words("vadd", "7", far * WORDS, 2 * WORDS)), ""
     one, two = (cases_of("vadd", seed, 0, 9)[0].tobytes() for seed in "12")
     yield "seeds differ", one != two, ""
-
-
-def signed(value: Any, bits: int) -> Any:
-    return (value ^ 1 << bits - 1) - (1 << bits - 1)
 
 
 def selected(e: int, lane: int) -> int:
