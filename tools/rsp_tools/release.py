@@ -110,25 +110,12 @@ def linux(given: Path, version: str, about: Tuple[str, str]) -> bytes:
     return packed.tarred(folder, packed.with_sums(files))
 
 
-def page_in(at: str) -> Path:
-    """The folder of the page, which is made in this one."""
-    from rsp_tools.systems import page
-
-    page.make(Path(at, "page"))
-    return Path(at, "page")
-
-
 def others(names: List[str], version: str, about: Tuple[str, str]) -> Dict[str, bytes]:
-    """The archives of other systems, by their names. The page is made of the library for WebAssembly."""
+    """The archives of other systems, by their names. The page is made with the library for WebAssembly."""
     libraries = [it for it in SYSTEMS if it in names or (it == "wasm64" and "page" in names)]
     if libraries:
         succeed("tools/systems failed, so nothing is made", "tools/systems", *libraries)
-    made = {}
-    with tempfile.TemporaryDirectory() as at:
-        for name in names:
-            folder = page_in(at) if name == "page" else places.MADE / name
-            made[systems.name_of(name, version)] = systems.archive(name, folder, about)
-    return made
+    return {systems.name_of(it, version): systems.archive(it, places.MADE / it, about) for it in names}
 
 
 def put(archives: Dict[str, bytes]) -> None:
