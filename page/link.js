@@ -26,7 +26,8 @@ export function script_of(fragment) {
   const words = new URLSearchParams(fragment.slice(1)), base64 = words.get("script");
   if (base64 === null) return null;
   if (base64.length > MOST) {
-    throw new RangeError(`The link has ${grouped(base64.length)} characters of a script, and at most ${grouped(MOST)} are read.`);
+    const read = `at most ${grouped(MOST)} are read`;
+    throw new RangeError(`The link has ${grouped(base64.length)} characters of a script, and ${read}.`);
   }
   const text = decoded(base64);
   if (text === null || words.get("bytes") !== String(text.length)) {

@@ -15,7 +15,7 @@ const ZEROS = "4,194,304 zero bytes";
 const the = (/** @type {string} */ id) => document.getElementById(id);
 
 const script = new Script(the("script")), replies = new Replies(the("replies"), the("more"));
-/** Images are tried apart, so they don't wait for a long run. */
+/** What is only tried, an image or the browser, has a worker of its own: it doesn't wait for a run, nor end with it. */
 const runs = new Runs(), trials = new Runs();
 let is_running = false;
 /** The image that runs begin with, if it isn't zeros.
@@ -109,7 +109,8 @@ function on_file(button, input, most, take) {
     const [file] = the(input).files;
     if (!file) return;
     try {
-      if (file.size > most) throw new RangeError(`it has ${grouped(file.size)} bytes, and at most ${grouped(most)} fit`);
+      const { size } = file;
+      if (size > most) throw new RangeError(`it has ${grouped(size)} bytes, and at most ${grouped(most)} fit`);
       await take(new Uint8Array(await file.arrayBuffer()), file.name);
     } catch (fault) {
       say(`${file.name} isn't taken: ${fault.message}.`);
@@ -124,9 +125,12 @@ function take_script(bytes, name) {
   show(bytes, `${name} is open.`);
 }
 
-/** The library says which images it takes. */
+/** Why the library can't begin with an image, or nothing if it can.
+ * @param {Uint8Array | undefined} bytes */
+async function fault_of(bytes) { return (await trials.run(new Uint8Array(), bytes, () => {})).fault; }
+
 async function take_image(bytes, name) {
-  const { fault } = await trials.run(new Uint8Array(), bytes, () => {});
+  const fault = await fault_of(bytes);
   if (fault) throw new RangeError(fault);
   set_image(bytes, `${name}, ${grouped(bytes.length)} bytes`);
   say(`Runs begin with ${name}.`);
@@ -223,7 +227,7 @@ async function begin() {
   listen();
   set_image(undefined, ZEROS);
   if (!show_linked(false) && !the("script").value) script.show(new TextEncoder().encode(EXAMPLES[0].script));
-  const { fault } = await runs.run(new Uint8Array(), undefined, () => {});
+  const fault = await fault_of(undefined);
   if (fault) say(`${fault}.`);
 }
 

@@ -13,7 +13,7 @@ from .toolchain import Refused
 SOURCES = places.TOP / "page"
 LIBRARY = places.MADE / "wasm64"
 COOKBOOK = places.TOP / "docs" / "COOKBOOK.md"
-HEAD = "/** The scripts to choose from, which tools/systems makes of examples/, microcode/ and docs/COOKBOOK.md. */"
+HEAD = "/** Scripts to choose from. tools/systems makes this of examples/, microcode/ and docs/COOKBOOK.md. */"
 Example = Dict[str, str]
 
 

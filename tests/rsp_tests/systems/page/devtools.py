@@ -16,8 +16,13 @@ from ..browser import CHROMIUM
 
 LONGEST = 60  # seconds that an answer may take
 CONTROL = 2
-# What DevTools wants of a key: its code for Windows, and the character that it types.
-KEYS: Dict[str, Tuple[int, str]] = {"Tab": (9, ""), "Enter": (13, "\r"), " ": (32, " "), "ArrowDown": (40, "")}
+# What DevTools wants of a key: its number, and the character that it types.
+KEYS: Dict[str, Tuple[int, str]] = {
+    "Tab": (9, ""),
+    "Enter": (13, "\r"),
+    " ": (32, " "),
+    "ArrowDown": (40, ""),
+}
 
 
 def high(end: int) -> int:

@@ -1,4 +1,4 @@
-"""Whom the page reaches: by keys, on a narrow screen, in light and dark, read aloud, and by its own host alone."""
+"""Whom the page reaches: by keys, on a narrow screen, in light and dark, read aloud. And whom it asks."""
 
 from typing import Callable, List, Tuple
 
@@ -142,5 +142,5 @@ class Reach(Checks):
         own = {it for it in urls if it.startswith((self.host.url, "data:", "blob:", "about:"))}
         self.same("other addresses", urls - own, set())
         self.see(f"its own: {sorted(own)}", f"{self.host.url}page.js" in own)
-        rules = self.tab.value("document.querySelector('meta[http-equiv]').content")
-        self.see("its rules", "default-src 'none'" in rules and "connect-src 'self'" in rules)
+        rules = self.tab.value("document.querySelector('meta[http-equiv]').content").split("; ")
+        self.see(f"its rules: {rules}", "default-src 'none'" in rules and "script-src 'self'" in rules)

@@ -46,8 +46,11 @@ def see(counts: Counts, at: Path) -> None:
 
 def main(words: Optional[List[str]] = None) -> int:
     """The program. The status."""
-    form = argparse.RawDescriptionHelpFormatter
-    reader = argparse.ArgumentParser(prog="tests/part systems-page", description=__doc__, formatter_class=form)
+    reader = argparse.ArgumentParser(
+        prog="tests/part systems-page",
+        description=__doc__,
+        formatter_class=argparse.RawDescriptionHelpFormatter,
+    )
     reader.parse_args(words)
     counts = Counts()
     with tempfile.TemporaryDirectory() as at:
