@@ -349,14 +349,18 @@ STAT = """class STAT:
 
 
 def see_jobs(tree: Repository) -> None:
-    """A crate is proved by one job if most processors are busy, and else by one for each processor."""
+    """A crate is proved by one job for each processor if most are idle and that ends sooner, else by one."""
     name, place, every = "tools/rsp_tools/build.py", 'STAT = Path("/proc/stat")', len(os.sched_getaffinity(0))
     was, source = (tree.at / name).read_bytes(), tree.change("crates/rsp_c/src/lib.rt", edited)
-    for share, wanted in ((0.1, 1), (0.4, 1), (0.6, every), (0.9, every), (0, every)):
+    busy, slow = "as the processors have other work", "as more would end no sooner"
+    cases = ((0.1, 1, busy), (0.4, 1, busy), (0.6, 1, ""), (0.9, 1, ""), (0, 1, ""), (0.9, 1024, slow))
+    for share, gains, why in cases:
         (tree.at / name).write_bytes(was)
         tree.edit(name, place, STAT.format(share=share) if share else 'STAT = Path("/no/stat")')
-        told = ["one job proves rsp_c"] * (wanted < every) + [f"asked for lib --jobs {wanted}\n"]
-        tree.see(f"{wanted} jobs if idle for {share} of the time", C, 1, *told, kit="words")
+        tree.edit(name, "GAINS_FROM = {", f'GAINS_FROM = {{"rsp_c": {gains}, ')
+        wanted = 1 if why else every
+        told = [f"one job proves rsp_c, {why}"] * bool(why) + [f"asked for lib --jobs {wanted}\n"]
+        tree.see(f"{wanted} jobs if idle for {share} of the time, gains from {gains}", C, 1, *told, kit="words")
     (tree.at / name).write_bytes(was)
     tree.put("crates/rsp_c/src/lib.rt", source)
     tree.see_idle("an edit taken back", C)

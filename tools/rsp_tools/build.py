@@ -36,6 +36,10 @@ PROCESSORS = len(os.sched_getaffinity(0))
 # being proved takes 1 to 2 GB.
 AT_ONCE = min(2 * PROCESSORS, 16)
 TOOK = "15 minutes on four processors, 23 on two"
+# From how many idle processors on a job for each ends sooner than one job; 4 for a crate that isn't here.
+# Each job loads anew what the crates below state. So four jobs take 1.3 times the processor's time of one for
+# rsp_machine, and 1.5 to 2 times for those above it. rsp_main is mostly loading, and gains nothing.
+GAINS_FROM = {TABLE: 2, "rsp_machine": 2, "rsp_main": 1024}
 SILENCE = 30  # After so many seconds without a line it says how far it is.
 STAT = Path("/proc/stat")
 LINES = {
@@ -118,20 +122,15 @@ def idle_ticks() -> int:
     return sum(int(it[4]) + int(it[5]) for it in lines if it[0] in ours)
 
 
-def choose_jobs() -> int:
-    """How many jobs prove a crate on which nothing else of ours waits.
-
-    One for each processor if most processors are idle, else one. Each job loads anew what the crates below
-    state, so four jobs take up to 1.7 times the processor's time of one. They end sooner only on processors
-    that have nothing else to do.
-    """
+def are_idle() -> bool:
+    """Whether most processors have nothing to do. They have, if the system doesn't tell."""
     try:
         since, before = time.monotonic(), idle_ticks()
         time.sleep(1)
         idle = (idle_ticks() - before) / os.sysconf("SC_CLK_TCK") / (time.monotonic() - since)
     except OSError:
-        return PROCESSORS
-    return PROCESSORS if idle > PROCESSORS / 2 else 1
+        return True
+    return idle > PROCESSORS / 2
 
 
 class Build:
@@ -275,11 +274,15 @@ class Build:
         self.left = [it for it in self.left if it != name]
 
     def jobs(self, name: str) -> str:
-        """How many jobs prove a crate. It says so if they are fewer than processors."""
-        chosen = choose_jobs()
-        if chosen < PROCESSORS:
-            self.say(f"one job proves {name}, as the processors have other work")
-        return str(chosen)
+        """How many jobs prove a crate on which nothing else waits: one for each processor, or one."""
+        if PROCESSORS < GAINS_FROM.get(name, 4):
+            why = "more would end no sooner"
+        elif are_idle():
+            return str(PROCESSORS)
+        else:
+            why = "the processors have other work"
+        self.say(f"one job proves {name}, as {why}")
+        return "1"
 
     def has_object(self) -> bool:
         """Whether the program's object file, which ./release links again, is there.
