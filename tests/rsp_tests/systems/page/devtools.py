@@ -37,7 +37,7 @@ class Tab:
 
     def __init__(self, saved: Path) -> None:
         self.saved, self.profile = saved, tempfile.mkdtemp()
-        self.number, self.rest, self.session = 0, b"", ""
+        self.number, self.unread, self.session = 0, b"", ""
         self.events: List[Dict[str, Any]] = []
         self.asked: List[str] = []  # the texts of dialogs
         self.accepts = True  # how they are answered
@@ -78,13 +78,13 @@ class Tab:
 
     def next_message(self, until: float) -> Dict[str, Any]:
         """The next answer or event."""
-        while b"\0" not in self.rest:
+        while b"\0" not in self.unread:
             ready, _, _ = select.select([self.reading], [], [], max(0, until - time.time()))
             assert ready, "Chromium answers nothing"
             data = os.read(self.reading, 1 << 20)
             assert data, "Chromium has ended"
-            self.rest += data
-        message, self.rest = self.rest.split(b"\0", 1)
+            self.unread += data
+        message, self.unread = self.unread.split(b"\0", 1)
         found: Dict[str, Any] = json.loads(message)
         return found
 
@@ -115,7 +115,7 @@ class Tab:
             assert time.time() < end, f"{expression} doesn't become true"
             time.sleep(0.01)
 
-    def rest(self) -> None:
+    def settle(self) -> None:
         """Lets the page do what is under way."""
         self.value("new Promise((done) => setTimeout(done, 100))")
 

@@ -59,7 +59,7 @@ class Given(Checks):
             ):
                 self.page.type("step # mine\n")
                 replace()
-                self.tab.rest()
+                self.tab.settle()
                 held = self.tab.value(f"{the('script')}.value")
                 self.see(f"{way}: {accepts}, {held}", (held == "step # mine\n") is not accepts)
                 self.same(f"{way}: it asks", self.tab.asked, [question])

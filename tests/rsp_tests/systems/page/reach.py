@@ -88,7 +88,7 @@ class Reach(Checks):
             self.go_to(name)
             self.tab.events.clear()
             self.tab.press("Enter")
-            self.tab.rest()
+            self.tab.settle()
             asked = [it["method"] for it in self.tab.events if "fileChooser" in it["method"]]
             self.same(f"{name} asks for a file", asked, ["Page.fileChooserOpened"])
         self.tab.call("Page.setInterceptFileChooserDialog", enabled=False)

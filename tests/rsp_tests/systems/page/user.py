@@ -1,6 +1,7 @@
 """The page in a tab, as somebody uses it, and what its tests share."""
 
 import base64
+import json
 import re
 import subprocess
 import sys
@@ -11,6 +12,7 @@ from ..counts import Counts
 from .devtools import Tab
 
 LINKED = 24000  # bytes of a script that a link carries
+TYPED = 4000  # bytes that are typed: Chromium takes long for more
 ROWS = "document.querySelectorAll('#replies li').length"  # how many lines of a script are shown
 
 
@@ -62,9 +64,13 @@ class Page:
         return bool(self.tab.value(f"{the(name)}.disabled"))
 
     def type(self, script: str) -> None:
-        """Types another script over the one that is there."""
-        self.tab.value(f"{the('script')}.focus(), {the('script')}.select()")
-        self.tab.call("Input.insertText", text=script)
+        """Types another script over the one that is there. A long one is put there at once."""
+        if len(script) <= TYPED:
+            self.tab.value(f"{the('script')}.focus(), {the('script')}.select()")
+            self.tab.call("Input.insertText", text=script)
+        else:
+            self.tab.value(f"{the('script')}.value = {json.dumps(script)}")
+            self.tab.value(f"{the('script')}.dispatchEvent(new Event('input'))")
 
     def choose(self, number: int) -> None:
         """Chooses an example."""
