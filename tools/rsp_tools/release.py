@@ -161,7 +161,7 @@ def main() -> None:
     check_versions(version)
     about = f"rsp {version} ({day}), commit {commit}", f"proved and built by {said('rt', 'version')}"
     archives = {f"rsp-{version}-{SYSTEM}.tar.gz": linux(asked.object, version, about)}
-    archives.update(others(names, version, (about[0], f"its library {about[1]}")))
+    archives.update(others(names, version, about))
     put(archives)
     for name, data in archives.items():
         print(f"dist/{name}: {len(data)} bytes, version {version}, commit {commit[:12]}")

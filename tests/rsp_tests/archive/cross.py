@@ -176,9 +176,8 @@ def test(archive: Archive, system: str, at: Path) -> None:
         test_c(archive, cross, runner)
         test_cmake(archive, cross, runner)
         test_rust(archive, system, runner)
-        if (archive.folder / cross.program).exists():
-            test_program(archive, cross, runner)
-            if system == "windows-x86_64":
-                test_windows_lines(archive, runner)
+        test_program(archive, cross, runner)
+        if system == "windows-x86_64":
+            test_windows_lines(archive, runner)
     finally:
         runner.stop()

@@ -26,8 +26,7 @@ LIBRARY = (
 )
 MICROCODE = "paste microcode that is proved"
 EMULATOR: Line = ("test your own emulator", "[conformance/README.md](conformance/README.md)")
-# Lines of Windows' own, about the program and about the rest.
-WINDOWS_PROGRAM: Sequence[Line] = (
+WINDOWS: Sequence[Line] = (
     ("run a script", r"`bin\rsp run < examples\first.rsp`"),
     ("assemble, disassemble", r"`bin\rsp asm SRC OUT`, `bin\rsp dis FILE`"),
     ("see all options and commands", r"`bin\rsp --help`"),
@@ -36,8 +35,6 @@ WINDOWS_PROGRAM: Sequence[Line] = (
         "run test vectors on it",
         r"`set PYTHONPATH=conformance;python`, then `py -m rsp_conformance.run --program bin\rsp.exe`",
     ),
-)
-WINDOWS: Sequence[Line] = (
     ("use the library from C or C++, by mingw", r"`gcc -Iinclude my.c lib\librsp.a`"),
     (
         "the same by MSVC, which was never tried",
@@ -81,7 +78,6 @@ class About(NamedTuple):
     lacks: str
 
 
-LIBRARY_OF_C = "the library of `rsp`"
 PLUGIN = "the plugin of mupen64plus and campaigns"
 BROWSERS = (
     "It was run in Chromium alone. It needs 64-bit memories of WebAssembly, which Chrome and Edge have since "
@@ -90,21 +86,22 @@ BROWSERS = (
 ABOUT: Dict[str, About] = {
     "linux-aarch64": About(
         "Linux on ARM",
-        LIBRARY_OF_C,
+        "the program `rsp` and its library",
         "It is for glibc 2.17 or newer, and was run under qemu, never on a processor.",
         f"It lacks {PLUGIN}, which were never run on ARM.",
     ),
     "macos": About(
         "macOS on ARM and x86-64",
-        LIBRARY_OF_C,
+        "the library of `rsp`",
         "It is for macOS 11 or newer, and **was never run on a Mac**: its code was taken out of the library, "
         "and run on Linux.",
         f"It lacks the program, {PLUGIN}.",
     ),
     "windows-x86_64": About(
         "Windows on x86-64-v2",
-        LIBRARY_OF_C,
-        "It is for processors since about 2009, and was run under wine, never on Windows.",
+        "the library of `rsp`",
+        "The program `rsp.exe` is another one, in C over the library, and was only tested. Both are for processors "
+        "since about 2009, and were run under wine, never on Windows.",
         f"It lacks {PLUGIN}, which need Linux. The pages show the commands of Linux.",
     ),
     "wasm64": About(
@@ -133,12 +130,11 @@ def of_linux(*wanted: str) -> Sequence[Line]:
     return [(it, there[it]) for it in wanted]
 
 
-def lines(system: str, has_program: bool) -> Sequence[Line]:
+def lines(system: str) -> Sequence[Line]:
     """The table of a system's README."""
     if system == "linux-aarch64":
         install, check = of_linux("install it", "check the download")
-        kept = of_linux(*PROGRAM * has_program, *LIBRARY)
-        return (*kept, install, EMULATOR, *of_linux(MICROCODE), check)
+        return (*of_linux(*PROGRAM, *LIBRARY), install, EMULATOR, *of_linux(MICROCODE), check)
     if system == "macos":
         install = ("install it", "`sudo cp -R include lib /usr/local`")
         check = ("check the download", "`shasum -a 256 -c SHA256SUMS`")
@@ -146,22 +142,21 @@ def lines(system: str, has_program: bool) -> Sequence[Line]:
     if system == "windows-x86_64":
         check = ("check the download", "`certutil -hashfile FILE SHA256`, beside the line of SHA256SUMS")
         rust, microcode = of_linux(LIBRARY[-1], MICROCODE)
-        return (*tuple(WINDOWS_PROGRAM) * has_program, *WINDOWS, rust, EMULATOR, microcode, check)
+        return (*WINDOWS, rust, EMULATOR, microcode, check)
     return WASM if system == "wasm64" else PAGE
 
 
-def page(system: str, version: str, about: Tuple[str, str], has_program: bool) -> bytes:
+def page(system: str, version: str, about: Tuple[str, str]) -> bytes:
     """The README of a system's archive. `about` says of what and by what it was built."""
     it = ABOUT[system]
     model = "a proved model of the Nintendo 64's Reality Signal Processor"
-    program = ", and the program `rsp` in C over it, which is tested only" if has_program else ""
     licence = "No licence is chosen yet; the choice is the owner's."
-    head = f"For users of this archive: {it.what}, {model}{program}. {it.runs} {licence}"
+    head = f"For users of this archive: {it.what}, {model}. {it.runs} {licence}"
     lacks = f"{it.lacks} The archive for Linux on x86-64 has all."
-    table = "".join(f"| {wanted} | {typed} |\n" for wanted, typed in lines(system, has_program))
+    table = "".join(f"| {wanted} | {typed} |\n" for wanted, typed in lines(system))
     parts = [f"# rsp {version} for {it.title}", fill(head, WIDTH), fill(lacks, WIDTH)]
     parts.append(f"| You want to | Type, in this folder |\n|---|---|\n{table.rstrip()}")
     if system not in ("wasm64", "page"):
         parts.append(re.findall(r"(?ms)^Read on: .*", linux())[0].rstrip())
-    parts.append(fill(f"It is {', '.join(about)}.", WIDTH))
+    parts.append(fill(f"This is {about[0]}. Its library was {about[1]}.", WIDTH))
     return ("\n\n".join(parts) + "\n").replace("VERSION", version).encode()

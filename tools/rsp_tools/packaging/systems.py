@@ -81,7 +81,7 @@ def contents(system: str, folder: Path, about: Tuple[str, str], thin: Thin = thi
     elif system != "page":
         yield from of_repository(PARTS)
         yield from of_rust(system, folder, thin)
-    if (folder / "bin/rsp").exists():
+    if system == "linux-aarch64":
         yield from of_program(about)
 
 
@@ -95,7 +95,6 @@ def archive(system: str, folder: Path, about: Tuple[str, str], thin: Thin = thin
     version = installed.version()[0]
     top = "package" if system == "wasm64" else f"rsp-{version}-{system}"
     files = list(contents(system, folder, about, thin))
-    has_program = any(it.name in ("bin/rsp", "bin/rsp.exe") for it in files)
-    files.append(File("README.md", readme.page(system, version, about, has_program)))
+    files.append(File("README.md", readme.page(system, version, about)))
     whole = packed.with_sums(pages.in_archive(files, top))
     return (packed.zipped if ENDINGS.get(system) == "zip" else packed.tarred)(top, whole)
