@@ -100,8 +100,8 @@ ABOUT: Dict[str, About] = {
     "windows-x86_64": About(
         "Windows on x86-64-v2",
         "the library of `rsp`",
-        "The program `rsp.exe` is in C over the library, and only tested. Both are for processors since about "
-        "2009, and were run under wine, never on Windows.",
+        "The program `rsp.exe` is in C over the library, and only tested. Both are for processors since "
+        "about 2009, and were run under wine, never on Windows.",
         f"It lacks {PLUGIN}, which need Linux. The pages show the commands of Linux.",
     ),
     "wasm64": About(
