@@ -42,7 +42,8 @@ class Tab:
         self.asked: List[str] = []  # the texts of dialogs
         self.accepts = True  # how they are answered
         self.reading, self.writing = self.start()
-        self.call("Browser.setDownloadBehavior", behavior="allow", downloadPath=str(saved))
+        named = {"behavior": "allowAndName", "downloadPath": str(saved), "eventsEnabled": True}
+        self.call("Browser.setDownloadBehavior", **named)
         target = self.call("Target.createTarget", url="about:blank")["targetId"]
         self.session = self.call("Target.attachToTarget", targetId=target, flatten=True)["sessionId"]
         for domain in ("Page", "Runtime", "Network", "DOM", "Accessibility"):
@@ -140,15 +141,25 @@ class Tab:
         found = self.call("Runtime.evaluate", expression=f"document.getElementById({json.dumps(name)})")
         self.call("DOM.setFileInputFiles", files=[str(path)], objectId=found["result"]["objectId"])
 
-    def download(self, name: str) -> bytes:
-        """A file that the page has saved. It is there when it is whole."""
-        path, end = self.saved / name, time.time() + LONGEST
-        while not path.is_file():
-            assert time.time() < end, f"{name} isn't saved"
+    def event(self, name: str, **fields: str) -> Dict[str, Any]:
+        """Waits for an event with these fields, and takes it."""
+        end = time.time() + LONGEST
+        while True:
+            for found in self.events:
+                given: Dict[str, Any] = found["params"]
+                if found["method"] == name and fields.items() <= given.items():
+                    self.events.remove(found)
+                    return given
+            assert time.time() < end, f"no {name} with {fields}"
             self.value("0")
             time.sleep(0.01)
-        data = path.read_bytes()
-        path.unlink()
+
+    def download(self, name: str) -> bytes:
+        """A file that the page has saved, when it is whole."""
+        guid = self.event("Browser.downloadWillBegin", suggestedFilename=name)["guid"]
+        self.event("Browser.downloadProgress", guid=guid, state="completed")
+        data = (self.saved / guid).read_bytes()
+        (self.saved / guid).unlink()
         return data
 
     def stop(self) -> None:
