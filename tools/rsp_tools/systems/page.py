@@ -13,7 +13,7 @@ from .toolchain import Refused
 SOURCES = places.TOP / "page"
 LIBRARY = places.MADE / "wasm64"
 COOKBOOK = places.TOP / "docs" / "COOKBOOK.md"
-HEAD = "/** Scripts to choose from. tools/systems makes this of examples/, microcode/ and docs/COOKBOOK.md. */"
+HEAD = "/** Scripts to choose from: made of examples/, microcode/ and docs/COOKBOOK.md by tools/systems. */"
 Example = Dict[str, str]
 
 
