@@ -20,7 +20,7 @@ from typing import Callable, List, Optional, Set, Tuple, Union
 
 from rsp_tests import TOP
 from rsp_tests.common.arguments import reader
-from rsp_tests.common.processes import processes_in
+from rsp_tests.common.processes import need, processes_in
 from rsp_tests.common.report import Report, leave_out
 
 CRATES = """# tiny crates
@@ -430,6 +430,7 @@ def see_library(tree: Repository) -> None:
 
 def main() -> int:
     reader("tests/part building", __doc__).parse_args()
+    need("tests/part building", "rt")
     report = Report()
     with tempfile.TemporaryDirectory() as folder, ThreadPoolExecutor() as threads:
         os.chmod(folder, 0o755)

@@ -18,7 +18,7 @@ from typing import Dict, Iterator, List, Optional, Sequence, Tuple
 from rsp_tests import TESTS, TOP
 from rsp_tests.common import failing
 from rsp_tests.common.arguments import PROGRAM, absolute, reader
-from rsp_tests.common.processes import lacking
+from rsp_tests.common.processes import need
 from rsp_tests.common.program import need_binary
 from rsp_tests.common.report import Report
 
@@ -171,8 +171,7 @@ def main() -> int:
     program = given.paths[0] if given.paths else str(PROGRAM)
     if not given.crates:
         need_binary(NAME, program)
-    if lacking("cc"):
-        sys.exit(f"{NAME}: {lacking('cc')}, which makes the allocator")
+    need(NAME, "cc")
     report, count = Report(), 0
     with tempfile.TemporaryDirectory() as name:
         folder = Path(name)

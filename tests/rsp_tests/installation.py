@@ -22,7 +22,7 @@ from rsp_tests import TESTS, TOP
 from rsp_tests.common.arguments import LIBRARY, need_library, reader
 from rsp_tests.common.cmake import LOCKSTEP, SAID, test_cmake
 from rsp_tests.common.pages import page
-from rsp_tests.common.processes import Ended, lacking, run
+from rsp_tests.common.processes import Ended, lacking, need, run
 from rsp_tests.common.report import Report, is_left_out, leave_out
 from rsp_tests.common.symbols import OLDEST, needs
 from rsp_tests.common.workshop import Workshop
@@ -245,9 +245,7 @@ def test_rust(shop: Workshop, prefix: Path) -> None:
 def main() -> None:
     reader(NAME, __doc__).parse_args()
     need_library(NAME)
-    missing = lacking("cc", "nm", "objdump", "objcopy")
-    if missing:
-        sys.exit(f"{NAME}: {missing}")
+    need(NAME, "cc", "nm", "objdump", "objcopy")
     report = Report()
     with tempfile.TemporaryDirectory() as folder:
         shop = Workshop(report, Path(folder))

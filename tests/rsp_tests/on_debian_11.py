@@ -10,7 +10,7 @@ import tempfile
 from pathlib import Path
 
 from rsp_tests.common.arguments import reader
-from rsp_tests.common.processes import lacking, run
+from rsp_tests.common.processes import need, run
 
 NAME = "tests/part on-debian-11"
 MIRROR = "http://deb.debian.org/debian"
@@ -26,9 +26,7 @@ def make(root: Path) -> None:
     """A Debian 11 with what the tests use."""
     if (root / "usr/bin/cmake").exists():
         return
-    missing = lacking("debootstrap")
-    if missing:
-        sys.exit(f"{NAME}: {missing}")
+    need(NAME, "debootstrap")
     words = ("--variant=minbase", f"--include={PACKAGES}", "bullseye", root, MIRROR)
     got = run("debootstrap", *words)
     if got.returncode:

@@ -10,7 +10,7 @@ import tempfile
 from pathlib import Path
 
 from rsp_tests.common.arguments import reader
-from rsp_tests.common.processes import run
+from rsp_tests.common.processes import need, run
 from rsp_tests.common.report import Report
 
 # The proof of `outer` cites the call of `inner`.
@@ -64,6 +64,7 @@ def see_reasons(report: Report, folder: Path) -> None:
 
 def main() -> int:
     reader("tests/part reasons", __doc__).parse_args()
+    need("tests/part reasons", "rt")
     report = Report()
     with tempfile.TemporaryDirectory(prefix="rsp-reasons-") as folder:
         see_reasons(report, Path(folder))

@@ -31,7 +31,7 @@ from typing import Callable, Dict, Iterable, List, Sequence, Tuple
 from rsp_tests import TESTS, TOP
 from rsp_tests.common import z64
 from rsp_tests.common.arguments import PROGRAM, add_program, reader
-from rsp_tests.common.processes import lacking, run
+from rsp_tests.common.processes import need, run
 
 SHORT, LONG = 100_000, 500_000
 ROUNDS = (6_000, 30_000)  # on z64
@@ -248,6 +248,15 @@ def tell_loops(program: Path) -> None:
     tell_lines(program)
 
 
+# What each table is made by.
+NEEDED = {
+    tell_loops: ("valgrind", "rt"),
+    tell_lines: ("valgrind",),
+    tell_z64: ("valgrind", z64.PLUGIN),
+    tell_times: (z64.PLUGIN,),
+}
+
+
 def main() -> None:
     words = reader("tests/part speed", __doc__)
     add_program(words)
@@ -259,11 +268,7 @@ def main() -> None:
     ):
         kinds.add_argument(name, dest="tell", action="store_const", const=it, default=tell_loops, help=said)
     given = words.parse_args()
-    if given.tell in (tell_z64, tell_times) and not Path(z64.PLUGIN).exists():
-        sys.exit(f"tests/part speed: there is no {z64.PLUGIN} (Debian's package mupen64plus-rsp-z64)")
-    if given.tell != tell_times and lacking("valgrind"):
-        sys.exit(f"tests/part speed: {lacking('valgrind')}")
-    subprocess.run([given.program, "run"], stdin=subprocess.DEVNULL, check=True)
+    need("tests/part speed", *NEEDED[given.tell])
     given.tell(PROGRAM if given.program == str(TOP / "rsp") else Path(given.program))
 
 

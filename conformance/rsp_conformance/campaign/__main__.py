@@ -159,7 +159,7 @@ def main() -> None:
         if fault.name == "numpy":
             how = "apt-get install python3-numpy, and begin with PATH=/usr/bin:$PATH (or pip install numpy)"
             stop(f"{sys.executable} has no numpy: {how}")
-        stop(f"run library/c/build first: {fault}")
+        stop(fault)
     try:
         show(args) if args.case else run(args)
     except CampaignFault as fault:

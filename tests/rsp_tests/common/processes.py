@@ -80,3 +80,10 @@ def lacking(*needed: object) -> str:
     missing = [it for it in map(str, needed) if not is_here(it)]
     told = (OTHERS.get(it, f"there is no {it} (Debian's package {PACKAGES.get(it, it)})") for it in missing)
     return "; ".join(told)
+
+
+def need(name: str, *needed: object) -> None:
+    """Ends a test that shows nothing without one of these, if that isn't here."""
+    missing = lacking(*needed)
+    if missing:
+        sys.exit(f"{name}: {missing}")
