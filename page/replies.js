@@ -49,7 +49,7 @@ export class Replies {
       if (line.length) this.count++;
       else if (!text) continue; // the script's end, which has a reply only in a block
       if (this.#shown < MOST) rows.append(row(line, text));
-      else this.#more.textContent ||= `Line ${this.count} and those after it aren't shown. Save replies has them all.`;
+      else this.#more.textContent ||= `Line ${this.count} and those after it aren't shown. Save replies saves all.`;
       this.#shown += text.split("\n").length;
     }
     this.#list.append(rows);

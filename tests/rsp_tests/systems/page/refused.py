@@ -73,7 +73,7 @@ class BadInput(Checks):
     def hosts(self) -> None:
         """What is said if a browser refuses the page's files, or can't have the library."""
         self.tab.call("Page.navigate", url=(self.at / "page" / "index.html").as_uri())
-        self.tab.until(f"location.protocol === 'file:' && {the('absent')}")
+        self.tab.until(f"location.protocol === 'file:' && {the('absent')} !== null")
         self.tab.until(f"getComputedStyle({the('absent')}).visibility === 'visible'")
         said = self.page.text("absent")
         self.see(f"from a folder: {said}", "python3 -m http.server --bind 127.0.0.1" in said)

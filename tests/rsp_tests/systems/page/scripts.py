@@ -61,7 +61,7 @@ class Scripts(Checks):
         wanted = bytes(rsp.run_script(script.encode())[0]).decode()
         self.see("the replies that are shown", wanted.startswith(shown) and shown.count("\n") < SHOWN)
         line = shown.count("\n") // 32 + 1
-        told = f"Line {line} and those after it aren't shown. Save replies has them all."
+        told = f"Line {line} and those after it aren't shown. Save replies saves all."
         self.same("what isn't shown", self.page.text("more"), told)
         self.see("all are saved", self.page.saved("save-replies", "replies.txt").decode() == wanted)
 
