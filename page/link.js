@@ -2,12 +2,11 @@
 /** A link that carries a script, after the # of an address: its length, and its bytes in base64, with - and _ for + and
  * /. By the length one sees that a link was cut off on its way. */
 
+import { grouped } from "./words.js";
+
 /** How many bytes of a script a link carries, and how many characters they become. */
 export const LONGEST = 24000;
 const MOST = LONGEST / 3 * 4;
-
-/** @param {number} count */
-function grouped(count) { return count.toLocaleString("en"); }
 
 /** The part of an address that carries a script.
  * @param {Uint8Array} script */

@@ -2,10 +2,12 @@
 /** The page: joins the script, the image of RDRAM, the runs and their replies. */
 
 import { EXAMPLES } from "./examples.js";
+import { on_file, save } from "./files.js";
 import { LONGEST as LONGEST_LINK, fragment_of, script_of } from "./link.js";
 import { Replies } from "./replies.js";
 import { Runs } from "./runs.js";
 import { LONGEST, Script } from "./script.js";
+import { grouped } from "./words.js";
 
 const LONGEST_IMAGE = 1 << 23;
 const ZEROS = "4,194,304 zero bytes";
@@ -27,9 +29,6 @@ let left;
 
 /** @param {string} sentence */
 function say(sentence) { the("said").textContent = sentence; }
-
-/** @param {number} count */
-function grouped(count) { return count.toLocaleString("en"); }
 
 function forget_link() {
   if (location.hash) history.replaceState(null, "", location.pathname + location.search);
@@ -98,27 +97,7 @@ async function make_link() {
   say(`The page's address ${told}. ${is_copied ? "It is copied." : "Copy it from the address bar."}`);
 }
 
-/** A button that asks for a file. Its bytes are taken, or a sentence says why not.
- * @param {string} button
- * @param {string} input
- * @param {number} most
- * @param {(bytes: Uint8Array, name: string) => unknown} take */
-function on_file(button, input, most, take) {
-  the(button).onclick = () => the(input).click();
-  the(input).onchange = async () => {
-    const [file] = the(input).files;
-    if (!file) return;
-    try {
-      const { size } = file;
-      if (size > most) throw new RangeError(`it has ${grouped(size)} bytes, and at most ${grouped(most)} fit`);
-      await take(new Uint8Array(await file.arrayBuffer()), file.name);
-    } catch (fault) {
-      say(`${file.name} isn't taken: ${fault.message}.`);
-    }
-    the(input).value = ""; // so the same file can be asked for again
-  };
-}
-
+/** @param {Uint8Array} bytes @param {string} name */
 function take_script(bytes, name) {
   if (!may_replace()) return;
   changed();
@@ -129,6 +108,7 @@ function take_script(bytes, name) {
  * @param {Uint8Array | undefined} bytes */
 async function fault_of(bytes) { return (await trials.run(new Uint8Array(), bytes, () => {})).fault; }
 
+/** @param {Uint8Array} bytes @param {string} name */
 async function take_image(bytes, name) {
   const fault = await fault_of(bytes);
   if (fault) throw new RangeError(fault);
@@ -141,23 +121,14 @@ function take_zeros() {
   say("Runs begin with zeros.");
 }
 
+/** @param {Uint8Array | undefined} bytes @param {string} name */
 function set_image(bytes, name) {
   image = bytes;
   the("image").textContent = name;
 }
 
-/** Hands a file to the browser, which saves it.
- * @param {string} name
- * @param {Uint8Array[]} parts */
-function save(name, parts) {
-  const link = document.createElement("a");
-  link.href = URL.createObjectURL(new Blob(parts));
-  link.download = name;
-  link.click();
-  setTimeout(() => URL.revokeObjectURL(link.href), 60000);
-}
-
-/** Shows whether a run is under way. The focus doesn't stay on a button that goes. */
+/** Shows whether a run is under way. The focus doesn't stay on a button that goes.
+ * @param {boolean} is */
 function set_running(is) {
   is_running = is;
   the("run").setAttribute("aria-disabled", is);
@@ -214,8 +185,8 @@ function listen() {
   the("save-script").onclick = () => save("script.rsp", [script.bytes]);
   the("save-replies").onclick = () => save("replies.txt", replies.bytes);
   the("save-image").onclick = () => save("rdram.bin", [left]);
-  on_file("open-script", "script-file", LONGEST, take_script);
-  on_file("open-image", "image-file", LONGEST_IMAGE, take_image);
+  on_file(the("open-script"), the("script-file"), LONGEST, take_script, say);
+  on_file(the("open-image"), the("image-file"), LONGEST_IMAGE, take_image, say);
   window.onhashchange = () => show_linked();
 }
 

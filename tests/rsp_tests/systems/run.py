@@ -5,7 +5,7 @@ systems that can be run here.
   windows-x86_64   under wine. What is for MSVC is linked by lld-link
   macos            not at all: the code of librsp.dylib for each processor is run on Linux, under
                    qemu-aarch64 for ARM; symbols and load commands are read
-  wasm64           in Chromium
+  wasm64           in Chromium, with the page that answers scripts (tests/part systems-page)
 
 On each that is run: all calls of tests/embedding/calls.c, with the static and the shared library; owner.c
 and the lock step of examples; all test vectors; ten seeds of a million steps of random programs of all

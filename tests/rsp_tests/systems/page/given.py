@@ -47,7 +47,13 @@ class Given(Checks):
         self.same("the replies to it", self.page.run(), wanted)
 
     def edits(self) -> None:
-        """A script that was changed isn't replaced without a question."""
+        """A script that was changed isn't replaced without a question, nor lost by a reload."""
+        self.page.type("step # mine\n")
+        self.tab.call("Page.reload")
+        self.tab.settle()
+        self.tab.until("document.readyState === 'complete'")
+        held = self.tab.value(f"{the('script')}.value")
+        self.same("the script after a reload", held, "step # mine\n")
         (self.at / "other.rsp").write_bytes(b"regs\n")
         question = "You have changed the script. Replace it?"
         for accepts in (False, True):
