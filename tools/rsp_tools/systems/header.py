@@ -25,12 +25,17 @@ def stack() -> int:
     return int(found[1])
 
 
-def version() -> str:
-    """The version of the project, which has its one place in rsp_cli_args."""
+def dated_version() -> str:
+    """The version of the project with its day, which has its one place in rsp_cli_args."""
     source = (places.CRATES / "rsp_cli_args" / "src" / "lib.rt").read_text()
-    found = re.search(r'const VERSION: &str = "([\d.]+) \(', source)
+    found = re.search(r'const VERSION: &str = "([\d.]+ \(.*\))";', source)
     assert found, "rsp_cli_args has the version"
     return found[1]
+
+
+def version() -> str:
+    """The version of the project."""
+    return dated_version().split()[0]
 
 
 def project() -> Tuple[str, ...]:

@@ -1,0 +1,158 @@
+/* `rsp asm`: assembles a text, lists it, and explains a fault. */
+#include "program.h"
+#include <inttypes.h>
+#include <stdio.h>
+#include <string.h>
+#include <strings.h>
+
+enum { LONGEST_TEXT = 1048576, LONGEST_LINE = 256, BAD_OPERAND = 12, LABEL_MISSING = 15, OUT_OF_MEMORY = 17 };
+
+/* What may be in the place of an operand that can't be read; where nothing is said, a number. */
+static const char *const forms[] = {
+    [RSP_OPERAND_NOTHING] = "nothing", [RSP_OPERAND_SCALAR] = "a scalar register", [RSP_OPERAND_SP] = "an SP register, $c0 to $c15",
+    [RSP_OPERAND_CONTROL] = "$vco, $vcc or $vce", [RSP_OPERAND_VECTOR] = "a vector register",
+    [RSP_OPERAND_VECTOR_BYTE] = "a vector register, with a byte or none",
+    [RSP_OPERAND_VECTOR_ELEMENT] = "a vector register, with an element or none", [RSP_OPERAND_VECTOR_LANE] = "a vector register, with a lane"
+};
+
+/* A source line as the assembler cuts it. */
+typedef struct statement {
+    span label, name, operands;
+} statement;
+
+/* The bytes before the first of some characters, or all. */
+static span before(span text, const char *characters)
+{
+    size_t n = 0;
+    while (n < text.len && !memchr(characters, text.at[n], strlen(characters))) n++;
+    return (span){ text.at, n };
+}
+
+/* A text without whitespace at both ends. A line at fault may have any of Unicode's. */
+static span trimmed(span text)
+{
+    static const char *const spaces[] = {
+        " ", "\t", "\n", "\v", "\f", "\r", "\xc2\x85", "\xc2\xa0", "\xe1\x9a\x80", "\xe2\x80\x80", "\xe2\x80\x81", "\xe2\x80\x82", "\xe2\x80\x83",
+        "\xe2\x80\x84", "\xe2\x80\x85", "\xe2\x80\x86", "\xe2\x80\x87", "\xe2\x80\x88", "\xe2\x80\x89", "\xe2\x80\x8a", "\xe2\x80\xa8",
+        "\xe2\x80\xa9", "\xe2\x80\xaf", "\xe2\x81\x9f", "\xe3\x80\x80"
+    };
+    for (size_t i = 0; i < sizeof spaces / sizeof *spaces;) {
+        size_t n = strlen(spaces[i]);
+        bool is_first = text.len >= n && !memcmp(text.at, spaces[i], n);
+        bool is_last = text.len >= n && !memcmp(text.at + text.len - n, spaces[i], n);
+        if (is_first || is_last) text = (span){ text.at + (is_first ? n : 0), text.len - n };
+        i = is_first || is_last ? 0 : i + 1;
+    }
+    return text;
+}
+
+/* Takes the next line of a text. False if there is none. */
+static bool next_line(span *text, span *line)
+{
+    if (!text->len) return false;
+    *line = before(*text, "\n");
+    bool has_end = line->len < text->len;
+    *text = (span){ text->at + line->len + has_end, text->len - line->len - has_end };
+    if (has_end && line->len && line->at[line->len - 1] == '\r') line->len--;
+    return true;
+}
+
+static statement cut(span line)
+{
+    statement it = { 0 };
+    span text = trimmed(before(line, "#;")), label = before(text, ":");
+    if (label.len < text.len) {
+        it.label = label;
+        text = trimmed((span){ text.at + label.len + 1, text.len - label.len - 1 });
+    }
+    it.name = before(text, " \t");
+    it.operands = trimmed((span){ text.at + it.name.len, text.len - it.name.len });
+    return it;
+}
+
+static bool is_name(span name, const char *wanted)
+{
+    return name.len == strlen(wanted) && !strncasecmp((const char *)name.at, wanted, name.len);
+}
+
+/* How many operands a statement has before this number, or in all. `found` gets the one of this number. */
+static size_t count_operands(span operands, size_t number, span *found)
+{
+    size_t n = 0;
+    for (bool is_more = operands.len > 0; is_more && n < number; n++) {
+        span one = before(operands, ",");
+        is_more = one.len < operands.len;
+        operands = (span){ operands.at + one.len + is_more, operands.len - one.len - is_more };
+        *found = trimmed(one);
+    }
+    return n;
+}
+
+/* Lists a text that was assembled, and whose words begin at an address. */
+static void print_listing(span text, const uint32_t *words, unsigned address)
+{
+    for (span line, operand; next_line(&text, &line);) {
+        statement it = cut(line);
+        span shown = trimmed(line);
+        if (it.label.len) print("%03x %.*s:\n", address, (int)it.label.len, (const char *)it.label.at);
+        size_t size = is_name(it.name, ".word") ? count_operands(it.operands, SIZE_MAX, &operand) : it.name.len > 0;
+        for (; size; size--, address += 4) print("%03x %08x %.*s\n", address, (unsigned)*words++, (int)shown.len, (const char *)shown.at);
+    }
+}
+
+/* Writes bytes as a terminal may show them, at most as many as a line may have. */
+static void visible(span text, char to[LONGEST_LINE + 4])
+{
+    size_t n = text.len < LONGEST_LINE ? text.len : LONGEST_LINE;
+    for (size_t i = 0; i < n; i++) to[i] = text.at[i] == '\t' ? ' ' : text.at[i] < ' ' || text.at[i] > '~' ? '.' : (char)text.at[i];
+    strcpy(to + n, n < text.len ? " .." : "");
+}
+
+/* What may be in the place of an operand: the form of one that can't be read, the range of one that can. */
+static void put_allowed(char *to, size_t room, const rsp_operand *found, uint32_t kind, span name)
+{
+    char range[96] = "";
+    int n = found->step ? snprintf(range, sizeof range, "%" PRId64 " to %" PRId64, found->low, found->high) : 0;
+    if (found->step > 1) snprintf(range + n, sizeof range - (size_t)n, ", a multiple of %u", (unsigned)found->step);
+    bool is_memory = found->kind == RSP_OPERAND_SCALAR_MEMORY || found->kind == RSP_OPERAND_VECTOR_MEMORY;
+    const char *form = forms[found->kind] ? forms[found->kind] : "a number or a label, ";
+    if (found->kind == RSP_OPERAND_VECTOR_BYTE && (is_name(name, "lfv") || is_name(name, "sfv"))) form = "a vector register, with byte 0 or 8 or none";
+    const char *first = kind == BAD_OPERAND ? form : kind == LABEL_MISSING ? "the label of a line, or " : "";
+    snprintf(to, room, "%s%s%s", first, range, kind == BAD_OPERAND && is_memory ? ", and a scalar register in parentheses" : "");
+}
+
+/* Ends with the fault of a text and, if it is asked for and there is memory, with what is wrong in its line. */
+static void refuse_text(span text, uint32_t origin, const rsp_assembled *made, bool is_explained)
+{
+    unsigned number = (unsigned)made->fault, at = (unsigned)made->line;
+    const char *name = rsp_fault_name(number);
+    rsp_operand found;
+    if (!at || number == OUT_OF_MEMORY) fault("fault %u %s", number, name);
+    if (!is_explained || rsp_explain(origin, text.at, text.len, &found) == RSP_NO_MEMORY) fault("fault %u %s line %u", number, name, at);
+    span line = { 0 }, operand;
+    for (size_t i = 0; i < made->line; i++) next_line(&text, &line);
+    char shown[LONGEST_LINE + 4], part[LONGEST_LINE + 4] = "(none)", allowed[256];
+    visible(trimmed(line), shown);
+    if (!found.number) fault("fault %u %s line %u\n  line: %s", number, name, at, shown);
+    statement it = cut(line);
+    if (count_operands(it.operands, found.number, &operand) == found.number) visible(operand, part);
+    put_allowed(allowed, sizeof allowed, &found, number, it.name);
+    fault("fault %u %s line %u\n  line: %s\n  operand %u: %s\n  may be: %s", number, name, at, shown, (unsigned)found.number, part, allowed);
+}
+
+void assemble(const request *asked)
+{
+    static uint32_t words[1024];
+    static uint8_t bytes[sizeof words];
+    uint32_t origin = origin_of(asked);
+    uint8_t *source;
+    rsp_assembled made;
+    size_t len = read_file(asked->given[SOURCE], LONGEST_TEXT + 1, &source);
+    span text = { source, len };
+    if (len > LONGEST_TEXT) fault("fault 42 ScriptTooLong");
+    if (rsp_assemble(origin, source, len, words, 1024, &made) != RSP_OK) refuse_text(text, origin, &made, asked->given[EXPLAIN]);
+    for (size_t i = 0; i < 4 * made.count; i++) bytes[i] = (uint8_t)(words[i / 4] >> (24 - i % 4 * 8));
+    save_file(asked->given[OUT], (span){ bytes, 4 * made.count });
+    print("ok %u words\n", (unsigned)made.count);
+    if (asked->given[LISTING]) print_listing(text, words, origin);
+}

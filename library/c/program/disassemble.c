@@ -1,0 +1,44 @@
+/* `rsp dis`: prints words as text. */
+#include "program.h"
+#include <stdio.h>
+#include <string.h>
+
+/* The words of a file, and whether an address, divided by 4, has a label. */
+static rsp_line lines[1024];
+static bool is_labelled[1024];
+
+/* Puts a name in the place of the target of a jump or a branch, if it is among the words from `origin` to `end`. A target alone is an operand of `0x` and
+ * three digits, the last one. */
+static void set_label(rsp_line *line, uint32_t origin, uint32_t end)
+{
+    char *last = strrchr(line->text, ' ');
+    if (!last || strlen(last) != 6 || strncmp(last, " 0x", 3)) return;
+    uint32_t address = (uint32_t)strtoul(last + 3, NULL, 16);
+    if (address < origin || address >= end) return;
+    is_labelled[address / 4] = true;
+    memmove(last + 2, last + 3, 4);
+    last[1] = 'L';
+}
+
+static void print_word(const rsp_line *line, bool has_places)
+{
+    char place[8] = "", word[16] = "";
+    if (has_places) snprintf(place, sizeof place, "%03x ", (unsigned)line->place), snprintf(word, sizeof word, "%08x ", (unsigned)line->word);
+    if (is_labelled[line->place / 4]) print("%sL%03x:\n", place, (unsigned)line->place);
+    print("%s%s%s\n", place, word, line->text);
+}
+
+void disassemble(const request *asked)
+{
+    uint32_t origin = origin_of(asked);
+    uint8_t *bytes;
+    size_t len = read_file(asked->given[WORDS], 4097, &bytes);
+    if (len > 4096 - origin || len % 4) fault("bad size");
+    uint32_t end = origin + (uint32_t)len;
+    for (uint32_t at = origin, i = 0; at < end; at += 4, i++, bytes += 4) {
+        uint32_t word = (uint32_t)bytes[0] << 24 | (uint32_t)bytes[1] << 16 | (uint32_t)bytes[2] << 8 | bytes[3];
+        rsp_text(word, at, &lines[i]);
+        if (asked->given[LABELS]) set_label(&lines[i], origin, end);
+    }
+    for (size_t i = 0; i < len / 4; i++) print_word(&lines[i], asked->given[PLACES]);
+}

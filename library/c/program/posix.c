@@ -1,0 +1,58 @@
+/* What Linux does in its own way. Here this program is only tested: the proved one is for Linux. So a save replaces plain files of one's own alone, and
+ * writes through links. */
+#define _GNU_SOURCE
+#include "program.h"
+#include <errno.h>
+#include <fcntl.h>
+#include <signal.h>
+#include <stdio.h>
+#include <string.h>
+#include <sys/stat.h>
+#include <unistd.h>
+
+const char separators[] = "/";
+
+int open_path(const char *path, enum opening how)
+{
+    static const int flags[] = { O_RDONLY, O_WRONLY | O_CREAT | O_TRUNC, O_WRONLY | O_CREAT | O_EXCL };
+    return open(path, flags[how] | O_CLOEXEC, 0666);
+}
+
+bool make_alike(const char *path, const target *old)
+{
+    return !chmod(path, old->mode & 07777);
+}
+
+bool flush(int file)
+{
+    return !fsync(file);
+}
+
+bool move(const char *from, const char *to)
+{
+    return !rename(from, to);
+}
+
+void drop(const char *path)
+{
+    unlink(path);
+}
+
+enum found find_target(const char *name, target *found)
+{
+    struct stat old;
+    found->is_old = !lstat(name, &old);
+    if ((!found->is_old && errno != ENOENT) || strlen(name) >= PATH_ROOM) return IN_PLACE;
+    strcpy(found->path, name);
+    if (!found->is_old) return TO_REPLACE;
+    found->mode = old.st_mode;
+    if (!S_ISREG(old.st_mode) || old.st_nlink != 1 || old.st_uid != geteuid() || old.st_gid != getegid()) return IN_PLACE;
+    return access(name, W_OK) ? CANNOT_WRITE : TO_REPLACE;
+}
+
+int main(int count, char **words)
+{
+    (void)count;
+    signal(SIGPIPE, SIG_IGN); /* a reader that has gone is a write that fails */
+    return work(words);
+}

@@ -1,0 +1,86 @@
+/* program.h: the program `rsp` in C, for systems that the proved one isn't built for.
+ *
+ * The library answers scripts, assembles and disassembles. The rest is here: the command line, files, messages and exit statuses, as those of
+ * crates/rsp_cli_args and crates/rsp_cli. A process does one piece of work. The first fault ends it, so nothing is freed. */
+#ifndef RSP_PROGRAM_H
+#define RSP_PROGRAM_H
+
+#include "rsp.h"
+#include <stdbool.h>
+#include <stdlib.h>
+
+/* Bytes that somebody else holds. */
+typedef struct span {
+    const uint8_t *at;
+    size_t len;
+} span;
+
+/* main.c: does what the words ask for, the program's name first, NULL last. */
+int work(char **words);
+
+/* messages.c: a message on standard error, with which the program ends, or not; and a line of at most 511 bytes on standard output. */
+enum { DONE = 0, FAULTED = 1, REFUSED = 2 };
+#define refuse(...) (say("error: ", "\n\nFor more information, try '--help'.\n", __VA_ARGS__), exit(REFUSED))
+#define fault(...) (say("rsp: ", "\n", __VA_ARGS__), exit(FAULTED))
+void say(const char *before, const char *after, const char *format, ...);
+void print(const char *format, ...);
+
+/* arguments.c */
+enum command { NONE, RUN, ASM, DIS };
+enum argument { RDRAM, SAVE, SOURCE, OUT, WORDS, AT, LISTING, EXPLAIN, PLACES, LABELS, HELP, WHICH_VERSION, ARGUMENTS };
+typedef struct request {
+    enum command command;
+    const char *given[ARGUMENTS]; /* the value of each argument, of a flag its name; NULL if it isn't given */
+} request;
+
+/* Reads the words after the program's name, up to NULL. It returns only if they ask for work. */
+request read_arguments(char **words);
+
+/* The address of the first word, a multiple of 4 from 0 to 4092; 0 if none is given. */
+uint32_t origin_of(const request *asked);
+
+/* run.c, assemble.c, disassemble.c: the work. */
+void run(const request *asked);
+void assemble(const request *asked);
+void disassemble(const request *asked);
+
+/* files.c. A path in UTF-8 with its 0 has at most PATH_ROOM bytes on each system. */
+enum { PATH_ROOM = 131072, STANDARD_INPUT = 0, STANDARD_OUTPUT = 1, STANDARD_ERROR = 2 };
+
+/* Reads the first bytes of a file, at most `limit`. Returns how many. */
+size_t read_file(const char *name, size_t limit, uint8_t **bytes);
+
+/* Makes a file of these bytes. A file of that name keeps its bytes until the new ones are whole, unless no new file can replace it. */
+void save_file(const char *name, span bytes);
+
+/* Reads once. Returns how many bytes, 0 at the end, and -1 if it failed. */
+ptrdiff_t read_some(int from, uint8_t *to, size_t len);
+bool write_all(int to, const void *bytes, size_t len);
+void write_output(const void *bytes, size_t len);
+
+/* posix.c or windows.c, which has main too: what a system does in its own way. */
+
+extern const char separators[]; /* of a path's folders and the file's name */
+
+/* The file that a save replaces: its path without links, if it is there, and what the new one has to be like. */
+typedef struct target {
+    char path[PATH_ROOM];
+    bool is_old;
+    uint32_t mode;
+} target;
+
+/* Finds the target of a name. A file that may not be written isn't replaced. */
+enum found { CANNOT_WRITE, IN_PLACE, TO_REPLACE };
+enum found find_target(const char *name, target *found);
+
+/* Opens a file, or returns -1 with errno. TO_WRITE empties it or makes it; TO_MAKE refuses one that is there. */
+enum opening { TO_READ, TO_WRITE, TO_MAKE };
+int open_path(const char *path, enum opening how);
+
+/* Gives a new file what the old one has. False if it can't have that. */
+bool make_alike(const char *path, const target *old);
+bool flush(int file);
+bool move(const char *from, const char *to);
+void drop(const char *path);
+
+#endif
