@@ -246,6 +246,12 @@ def measure(program: str, folder: Path) -> None:
         print(f"{taken:7.2f} s  {len(data):8} bytes  status {status}  {name}", flush=True)
 
 
+def cases(program: str, folder: Path) -> Iterator[Case]:
+    for part in (random_code, prefixes, streams, files):
+        yield from part(program, folder)
+    yield from pipes(program)
+
+
 def main() -> int:
     words = reader("tests/part bad-input", __doc__)
     add_program(words)
@@ -254,9 +260,7 @@ def main() -> int:
     report = Report()
     with tempfile.TemporaryDirectory() as name:
         folder = Path(name)
-        for part in (random_code, prefixes, streams, files):
-            report.see_all(part(given.program, folder))
-        report.see_all(pipes(given.program))
+        report.see_all(cases(given.program, folder))
         if given.measure:
             measure(given.program, folder)
     return report.end()

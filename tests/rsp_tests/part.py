@@ -24,6 +24,7 @@ MORE = (
     "embedding/benches.py",
     "plugin/speed.py",
     "systems/page/run.py",
+    "systems/program.py",
 )
 
 

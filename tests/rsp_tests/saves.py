@@ -16,7 +16,7 @@ import sys
 import tempfile
 import threading
 from pathlib import Path
-from typing import Any, Callable, Iterator, List, NamedTuple, Optional, Tuple
+from typing import Any, Callable, Container, Iterator, List, NamedTuple, Optional, Tuple
 
 from rsp_tests.common import failing
 from rsp_tests.common.arguments import PROGRAM, absolute, reader
@@ -370,9 +370,10 @@ PARTS = (
 )
 
 
-def cases(program: Path, folder: Path) -> Iterator[Case]:
+def cases(program: Path, folder: Path, without: Container[str] = ()) -> Iterator[Case]:
+    """The cases of all parts but those of these names."""
     for writer in writers(program, folder):
-        for part in PARTS:
+        for part in (it for it in PARTS if it.__name__ not in without):
             yield from ((f"{writer.name}: {name}", found) for name, found in part(writer, folder))
     yield from kills(program, folder)
 

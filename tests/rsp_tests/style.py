@@ -10,20 +10,23 @@ import re
 import sys
 import tempfile
 from pathlib import Path
-from typing import Any, List, Sequence, Tuple
+from typing import Any, List, Sequence, Tuple, Union
 
 from rsp_tests import TOP
 from rsp_tests.common.arguments import reader
-from rsp_tests.common.processes import run
+from rsp_tests.common.processes import lacking, run
 from rsp_tests.common.report import Report, is_left_out
 from rsp_tests.plugin.bench import HEADERS, MIPS
+from rsp_tools.systems.program import definitions
 
 MYPYPATH = "tools:tests:conformance:library/python"
 STRICT = ("-std=gnu11", "-O2", "-Wall", "-Wextra", "-Wconversion", "-Werror", "-S")
 FOLDERS = ("-Ilibrary/c", "-Iplugin", "-Iconformance/campaigns", f"-I{HEADERS}")
-# What the scripts that compile these files define: a planted fault, and words of microcode.
-DEFINED = ("-DFAULT=1", "-DSETTING=0", "-DSAVING=0", "-DLOADING=0")
+# What the scripts that compile these files define: a planted fault, words of microcode, texts of the program.
+DEFINED = ("-DFAULT=1", "-DSETTING=0", "-DSAVING=0", "-DLOADING=0", *definitions())
 CLANG_WASM = ("--target=wasm64", "-mbulk-memory", "-ffreestanding", "-fno-builtin")
+MINGW = "x86_64-w64-mingw32-gcc"
+CLANG_WINDOWS = "--target=x86_64-w64-windows-gnu"
 CLANG_MIPS = ("--target=mips-linux-gnu", "-ffreestanding")
 FRONT = "tests/plugin/front.c"  # it needs the headers of mupen64plus
 ROM = "tests/plugin/rom/cpu.c"  # it is compiled for the VR4300
@@ -58,7 +61,10 @@ def see_c(report: Report, files: List[str], folder: Path) -> None:
                 command = ("mips-linux-gnu-gcc", *MIPS) if compiler == "gcc" else (compiler, *CLANG_MIPS)
             if name.endswith("_wasm.c"):  # gcc has no such target
                 command = ("clang", *CLANG_WASM)
-            needed = (HEADERS,) if name == FRONT else ()
+            needed: Tuple[Union[str, Path], ...] = (HEADERS,) if name == FRONT else ()
+            if name.endswith("windows.c"):
+                command = (MINGW,) if compiler == "gcc" else (compiler, CLANG_WINDOWS)
+                needed = (MINGW,)  # and its headers
             if not is_left_out(f"{name} by {compiler}", command[0], *needed):
                 words = (*STRICT, *FOLDERS, *DEFINED, name, "-o", folder / "out.s")
                 got = run(*command, *words)

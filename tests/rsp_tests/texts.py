@@ -427,14 +427,18 @@ def taken_cases(files: Files) -> Iterator[Case]:
 GROUPS = (label_cases, insertion_cases, linked_cases, explanation_cases, page_cases, refusal_cases)
 
 
+def cases(program: str, folder: Path) -> Iterator[Case]:
+    files = Files(program, str(folder))
+    for group in (*GROUPS, task_cases, image_cases, astray_cases, taken_cases):
+        yield from group(files)
+
+
 def main() -> None:
     words, report = reader("tests/part texts", __doc__), Report()
     add_program(words)
     program = words.parse_args().program
     with tempfile.TemporaryDirectory() as folder:
-        files = Files(program, folder)
-        for group in (*GROUPS, task_cases, image_cases, astray_cases, taken_cases):
-            report.see_all(group(files))
+        report.see_all(cases(program, Path(folder)))
     sys.exit(report.end())
 
 

@@ -17,6 +17,7 @@ PACKAGES = {
     "cc": "gcc",
     "mips-linux-gnu-gcc": "gcc-mips-linux-gnu",
     "qemu-mips": "qemu-user",
+    "x86_64-w64-mingw32-gcc": "gcc-mingw-w64-x86-64",
     "cargo-clippy": "rust-clippy",
     "ar": "binutils",
     "nm": "binutils",
