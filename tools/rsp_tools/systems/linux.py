@@ -1,10 +1,10 @@
 """The library for Linux on ARM: the archive that the kit itself makes, with a heap, and with the calls of
-rsp.h alone to be seen."""
+rsp.h alone to be seen; and the proved program."""
 
 import shutil
 from pathlib import Path
 
-from . import header, packages, places
+from . import header, modules, packages, places
 from .modules import Source, module
 from .toolchain import call, llvm
 
@@ -32,3 +32,11 @@ def make(out: Path, at: Path, source: Source = module) -> None:
     packages.cmake(out, "unix", "Linux", "aarch64|arm64", LIBRARY=soname, SONAME=soname)
     tags = ["manylinux_2_17_aarch64", "manylinux2014_aarch64"]
     packages.wheel(out, out / "lib" / soname, "librsp.so", tags)
+    link_program(out / "bin" / "rsp", at / "heap.o", modules.program("aarch64"))
+
+
+def link_program(to: Path, *objects: Path) -> None:
+    """Links the proved program for any glibc since 2.17."""
+    to.parent.mkdir()
+    words = ["-O2", "-fPIE", "-pie", "-nostartfiles", "-s", HARDENED]
+    call("aarch64-linux-gnu-gcc", *words, "-o", to, places.PARTS / "start_aarch64.c", *objects)

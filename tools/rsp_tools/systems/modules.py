@@ -1,4 +1,5 @@
-"""The modules of the library that `rattle build` hands to clang: for x86-64, and for ARM.
+"""The modules of the library that `rattle build` hands to clang, for x86-64 and for ARM, and the program's
+object for ARM.
 
 The kit has no command that gives them. It takes the folder of its toolchain by a word, though, so here a
 folder of links stands for it, with a program `clang` that keeps its input. A module is kept until a source
@@ -32,15 +33,36 @@ class Module(NamedTuple):
 Source = Callable[[str], Module]
 
 
-def mark() -> str:
-    """The kit's version and the sums of all sources. Refused if the library isn't built of them."""
-    built = places.CRATE / "out" / "built"
-    if not built.is_file() or not (places.CRATE / "out" / "librsp_c.a").is_file():
-        raise Refused("the library isn't built: library/c/build makes it")
+class Crate(NamedTuple):
+    """A crate that a clone builds for itself: what it is, its file, how it is made, and the words of `rattle
+    build` for it."""
+
+    name: str
+    what: str
+    made: str
+    command: str
+    words: str
+
+    @property
+    def out(self) -> Path:
+        return places.CRATES / self.name / "out"
+
+
+LIBRARY = Crate("rsp_c", "library", "librsp_c.a", "library/c/build", "src/lib.rt --crate-type staticlib")
+PROGRAM = Crate("rsp_main", "program", "rsp_main", "./rsp run", "src/main.rt")
+
+
+def mark(crate: Crate) -> str:
+    """The kit's version and the sums of all sources. Refused if the crate isn't built of them."""
+    built = crate.out / "built"
+    if not built.is_file() or not (crate.out / crate.made).is_file():
+        raise Refused(f"the {crate.what} isn't built: {crate.command} makes it")
     text = built.read_text(errors="surrogateescape")
-    # The first line is the kit's version, and the last one the sum of the library itself.
-    if call(str(places.SOURCES), *with_below("rsp_c", uses())).splitlines() != text.splitlines()[1:-1]:
-        raise Refused("the library's sources have changed since it was built: library/c/build makes it again")
+    # The first line is the kit's version, and the last one the sum of what is built.
+    if call(str(places.SOURCES), *with_below(crate.name, uses())).splitlines() != text.splitlines()[1:-1]:
+        raise Refused(
+            f"the {crate.what}'s sources have changed since it was built: {crate.command} makes it again"
+        )
     return text
 
 
@@ -57,12 +79,12 @@ def with_below(name: str, used: Dict[str, List[str]]) -> List[str]:
     return [*dict.fromkeys(below for it in used[name] for below in with_below(it, used)), name]
 
 
-def words_of(target: str, toolchain: Path, out: Path) -> List[str]:
-    """The words of `rattle build`, as `rt lib` has them, with a target and a toolchain."""
+def words_of(crate: Crate, target: str, toolchain: Path, out: Path) -> List[str]:
+    """The words of `rattle build`, as `rt` has them, with a target and a toolchain."""
     used = uses()
-    ours = with_below("rsp_c", used)[:-1]
-    words = "--crate-name rsp_c src/lib.rt --crate-type staticlib --backend llvm --jobs 2".split()
-    for name in ["std", *used["rsp_c"]]:
+    ours = with_below(crate.name, used)[:-1]
+    words = f"--crate-name {crate.name} {crate.words} --backend llvm --jobs 2".split()
+    for name in ["std", *used[crate.name]]:
         folder = places.CRATES / name / "out" / "rlib" if name in ours else kit() / "rlibs"
         words += ["--extern", f"{name}={folder}/{name}.rlib"]
     for at in [kit() / "rlibs", *(places.CRATES / it / "out" / "rlib" for it in ours)]:
@@ -73,7 +95,7 @@ def words_of(target: str, toolchain: Path, out: Path) -> List[str]:
         "--logic-built",
         f"{kit()}/logic_built",
     ]
-    words += ["--incremental", str(places.KEPT / "incremental"), "--target", TARGETS[target]]
+    words += ["--incremental", str(incremental(crate)), "--target", TARGETS[target]]
     return [*words, "--toolchain", str(toolchain), "-o", str(out)]
 
 
@@ -90,33 +112,37 @@ def link_toolchain(folder: Path) -> None:
     shutil.copy(places.PARTS / "clang", folder / "bin" / "clang")
 
 
-def take(target: str, folder: Path) -> None:
-    """Has the kit build the library for a target, and leaves its module and its archive in a folder."""
-    kept, found = places.KEPT / "incremental", places.CRATE / "out" / "incremental"
+def incremental(crate: Crate) -> Path:
+    """Where what a crate's checks found is kept."""
+    return places.KEPT / f"{crate.name}-incremental"
+
+
+def take(crate: Crate, target: str, folder: Path) -> None:
+    """Has the kit build a crate for a target, and leaves what it makes and its module in a folder."""
+    kept, found = incremental(crate), crate.out / "incremental"
     if not kept.is_dir() and found.is_dir():
-        # A check over what the library's own check found takes a minute, and leaves that as it was. After
+        # A check over what the crate's own check found takes a minute, and leaves that as it was. After
         # `rt ci` there is none.
         shutil.copytree(found, kept, symlinks=True)
     link_toolchain(folder / "toolchain")
-    words = [f"{kit()}/bin/rattle", "build", *words_of(target, folder / "toolchain", folder / "librsp_c.a")]
+    words = words_of(crate, target, folder / "toolchain", folder / "made")
     ended = subprocess.run(
-        words, cwd=places.CRATE, stdin=subprocess.DEVNULL, capture_output=True, text=True, errors="replace"
+        [f"{kit()}/bin/rattle", "build", *words],
+        cwd=crate.out.parent,
+        stdin=subprocess.DEVNULL,
+        capture_output=True,
+        text=True,
+        errors="replace",
     )
     if ended.returncode or not (folder / "module").is_file():
         last = "\n".join((ended.stdout + ended.stderr).strip().splitlines()[-20:])
         raise Refused(f"`rattle build` for {TARGETS[target]} ended with status {ended.returncode}:\n{last}")
-    llvm(
-        "clang",
-        "-x",
-        "ir",
-        folder / "module",
-        "-S",
-        "-emit-llvm",
-        "-O0",
-        "-Wno-override-module",
-        "-o",
-        folder / "module.ll",
-    )
+
+
+def take_text(folder: Path) -> None:
+    """Writes the module of a folder as text."""
+    words = ["-S", "-emit-llvm", "-O0", "-Wno-override-module"]
+    llvm("clang", "-x", "ir", folder / "module", *words, "-o", folder / "module.ll")
 
 
 def flags(words: List[str]) -> List[str]:
@@ -133,20 +159,39 @@ def flags(words: List[str]) -> List[str]:
     ]
 
 
+def is_kept(folder: Path, made_of: str) -> bool:
+    """Whether a folder has what was made of these sources."""
+    told = folder / "mark"
+    return told.is_file() and told.read_text(errors="surrogateescape") == made_of
+
+
+def keep(folder: Path, made_of: str, files: Dict[str, Path]) -> None:
+    """Puts files into a folder by these names, and last of what they were made."""
+    shutil.rmtree(folder, ignore_errors=True)
+    folder.mkdir(parents=True)
+    for name, path in files.items():
+        shutil.copy(path, folder / name)
+    folder.joinpath("mark").write_text(made_of, errors="surrogateescape")
+
+
 def module(target: str) -> Module:
     """The module for a processor, x86_64 or aarch64, made again if a source has changed."""
-    made_of, kept = mark(), places.KEPT / target
-    if (
-        not kept.joinpath("mark").is_file()
-        or kept.joinpath("mark").read_text(errors="surrogateescape") != made_of
-    ):
-        places.KEPT.mkdir(parents=True, exist_ok=True)
+    made_of, kept = mark(LIBRARY), places.KEPT / target
+    if not is_kept(kept, made_of):
         with tempfile.TemporaryDirectory() as at:
-            take(target, Path(at))
-            shutil.rmtree(kept, ignore_errors=True)
-            kept.mkdir()
-            for name in ("module.ll", "module.words", "librsp_c.a"):
-                shutil.copy(Path(at, name), kept / name)
-        kept.joinpath("mark").write_text(made_of, errors="surrogateescape")
+            take(LIBRARY, target, Path(at))
+            take_text(Path(at))
+            names = {"module.ll": "module.ll", "module.words": "module.words", "librsp_c.a": "made"}
+            keep(kept, made_of, {name: Path(at, made) for name, made in names.items()})
     given = kept.joinpath("module.words").read_text().splitlines()
     return Module(kept / "module.ll", kept / "librsp_c.a", flags(given))
+
+
+def program(target: str) -> Path:
+    """The object of the proved program for a processor, made again if a source has changed."""
+    made_of, kept = mark(PROGRAM), places.KEPT / f"{PROGRAM.name}-{target}"
+    if not is_kept(kept, made_of):
+        with tempfile.TemporaryDirectory() as at:
+            take(PROGRAM, target, Path(at))
+            keep(kept, made_of, {"rsp_main.o": Path(at, "made")})
+    return kept / "rsp_main.o"
