@@ -84,8 +84,19 @@ def see_wheel(counts: Counts, system: str, folder: Path) -> None:
         counts.see(f"{system}: the module: {ended.stderr}", ended.stderr == loads)
 
 
+def see_needs(counts: Counts, system: str, file: Path) -> None:
+    """A library or a program needs glibc alone, and no newer one than 2.17."""
+    wants = shown("-D", "--undefined-only", str(file))
+    versions = [tuple(map(int, it.split("."))) for it in re.findall(r"@GLIBC_([\d.]+)", "\n".join(wants))]
+    counts.see(f"{system}: {file.name} wants {wants}", bool(versions) and max(versions) <= OLDEST)
+    read = llvm("llvm-readobj", "--needed-libs", "--dynamic-table", str(file))
+    needed = re.findall(r"NEEDED\s+Shared library: \[(.*)\]", read)
+    counts.see(f"{system}: {file.name} needs {needed}", needed == ["libc.so.6"])
+
+
 def see_linux(counts: Counts, system: str, folder: Path) -> None:
-    """The calls of rsp.h alone are to be seen, and no symbol is wanted above glibc 2.17."""
+    """The calls of rsp.h alone are to be seen. The library and the program want no symbol above glibc
+    2.17."""
     calls = {*header.calls()}
     library = folder / "lib" / f"librsp.so.{header.interface()}"
     counts.see(
@@ -95,12 +106,7 @@ def see_linux(counts: Counts, system: str, folder: Path) -> None:
         f"{system}: librsp.a shows the calls alone",
         shown("-g", "--defined-only", str(folder / "lib" / "librsp.a")) == calls,
     )
-    wants = shown("-D", "--undefined-only", str(library))
-    versions = [tuple(map(int, it.split("."))) for it in re.findall(r"@GLIBC_([\d.]+)", "\n".join(wants))]
-    counts.see(f"{system}: librsp.so wants {wants}", bool(versions) and max(versions) <= OLDEST)
-    read = llvm("llvm-readobj", "--needed-libs", "--dynamic-table", str(library))
-    counts.see(
-        f"{system}: librsp.so needs libc.so.6 alone",
-        re.findall(r"NEEDED\s+Shared library: \[(.*)\]", read) == ["libc.so.6"],
-    )
+    for it in (library, folder / "bin" / "rsp"):
+        see_needs(counts, system, it)
+    read = llvm("llvm-readobj", "--dynamic-table", str(library))
     counts.see(f"{system}: its name", f"[{library.name}]" in read)

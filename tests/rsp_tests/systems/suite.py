@@ -9,7 +9,7 @@ from rsp_tools.systems.__main__ import SYSTEMS
 from rsp_tools.systems.modules import Module
 from rsp_tools.systems.modules import module as true_module
 
-from . import digests, files, macos, planted, rust, vectors, windows
+from . import digests, files, macos, planted, program, rust, vectors, windows
 from .browser import Chromium
 from .counts import Counts
 from .runners import Arm, Mac, MacArm, MacIntel, Native, Runner, Windows
@@ -54,6 +54,8 @@ class Suite:
             return
         self.calls()
         self.limits()
+        if self.system in program.LEFT_OUT:
+            program.see_system(self.counts, self.system, self.runner)
         if self.system in rust.TESTED:
             rust.see_tests(self.counts, self.system, self.runner, *rust.TESTED[self.system])
         self.computes()

@@ -40,16 +40,23 @@ def field(read: str, name: str) -> List[str]:
     return re.findall(rf"(?m)^ *{name}:? (.*)$", read)
 
 
+def see_needs(counts: Counts, system: str, file: Path) -> None:
+    """A library or a program needs what each Windows has, and may be loaded anywhere."""
+    read = llvm("llvm-readobj", "--file-headers", "--needed-libs", file)
+    needed = re.findall(r"(?m)^  (\S+\.dll)$", read)
+    counts.see(f"{system}: {file.name} needs {needed}", needed == ["KERNEL32.dll", "msvcrt.dll"])
+    for it in ("DYNAMIC_BASE", "HIGH_ENTROPY_VA", "NX_COMPAT"):
+        counts.see(f"{system}: {file.name} has {it}", f"IMAGE_DLL_CHARACTERISTICS_{it} " in read)
+
+
 def see_shared(counts: Counts, system: str, folder: Path) -> None:
-    """rsp.dll exports the calls alone, needs what each Windows has, and may be loaded anywhere."""
+    """rsp.dll exports the calls alone; it and the program need what each Windows has."""
     library = folder / "bin" / "rsp.dll"
     read = llvm("llvm-readobj", "--file-headers", "--coff-exports", "--needed-libs", library)
     exported = field(read[read.index("Export {") :], "Name")
     counts.see(f"{system}: rsp.dll exports {exported}", sorted(exported) == sorted(header.calls()))
-    needed = re.findall(r"(?m)^  (\S+\.dll)$", read)
-    counts.see(f"{system}: rsp.dll needs {needed}", needed == ["KERNEL32.dll", "msvcrt.dll"])
-    for it in ("DYNAMIC_BASE", "HIGH_ENTROPY_VA", "NX_COMPAT"):
-        counts.see(f"{system}: rsp.dll has {it}", f"IMAGE_DLL_CHARACTERISTICS_{it} " in read)
+    for name in ("rsp.dll", "rsp.exe"):
+        see_needs(counts, system, folder / "bin" / name)
 
 
 def see_static(counts: Counts, system: str, folder: Path) -> None:
