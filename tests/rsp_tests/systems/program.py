@@ -24,17 +24,34 @@ from .runners import Runner, Windows
 
 Case = Tuple[str, List[str]]
 
-# The checks that a system can't have, by its name, and why. `saves/NAME` without more is a part of `saves`.
+# The checks that a system can't have, by its name, and why. `saves/NAME` is a part of `saves` that isn't
+# begun.
 THROUGH_LINKS = "on Linux, where it is only tested, it writes through links"
+LIMITED = "a limit of the size of files stops wine's own server"
+FOREIGN_CALLS = "the calls that are made to fail are those of programs of Linux on x86-64"
 LEFT_OUT: Dict[str, Dict[str, str]] = {
     "native": {
         "saves: *: link near, no room": THROUGH_LINKS,
         "saves: *: link far, no room": THROUGH_LINKS,
         "saves: *: calls of the system fail, *": THROUGH_LINKS,
     },
-    "linux-aarch64": {},
-    "windows-x86_64": {},
+    "linux-aarch64": {"saves/failing_calls": FOREIGN_CALLS},
+    "windows-x86_64": {
+        "scripts: argument isn't text": "wine makes UTF-16 of any bytes; half of a pair is tested by itself",
+        "saves: *no room*": LIMITED,
+        "saves: *: killed by the limit": LIMITED,
+        "saves: *: after a killed run": LIMITED,
+        "saves: *: link to nothing": "wine shows no link that leads to nothing",
+        "saves: *: named pipe": "Windows has no such files",
+        "saves: *: /dev/stdout to a pipe": "Windows has no such files",
+        "saves/open_files": "Windows has no links to open files",
+        "saves/users": "wine runs for one user alone",
+        "saves/files_of_others": "Windows has no owners and groups of this kind",
+        "saves/failing_calls": FOREIGN_CALLS,
+    },
 }
+# What is no complaint on a system: Windows has no permissions of this kind.
+NO_COMPLAINTS: Dict[str, Tuple[str, ...]] = {"windows-x86_64": ("the mode is ",)}
 
 # The words of command lines that are drawn.
 WORDS = """
@@ -127,7 +144,8 @@ def cases(system: str, command: Path, folder: Path) -> Iterator[Case]:
 def see(counts: Counts, system: str, command: Path, folder: Path) -> None:
     """All checks on a system's program. A check that is left out has to fail there."""
     before, passing = counts.passed, {it for it in LEFT_OUT[system] if not it.startswith("saves/")}
-    for name, found in cases(system, command, folder):
+    for name, complaints in cases(system, command, folder):
+        found = [it for it in complaints if not it.startswith(NO_COMPLAINTS.get(system, ()))]
         why = [it for it in LEFT_OUT[system] if fnmatch.fnmatchcase(name, it)]
         if why and found:
             passing -= {*why}

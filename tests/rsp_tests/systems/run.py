@@ -11,10 +11,11 @@ On each that is run: all calls of tests/embedding/calls.c, with the static and t
 and the lock step of examples; all test vectors; ten seeds of a million steps of random programs of all
 instructions, DMA, undo, traces and watches among them, in lock step with the library of Linux on x86-64
 every thousand steps; each allocation failing and the stack that a call uses, as far as the system lets
-them; what the files show and need; the wheel. A library with one constant of the module changed has to be
-found by the vectors and by the random programs. Two makes of a system give the same bytes. What
-tools/systems refuses is tested too. A system that isn't made is made first. --steps makes another number of
-steps for each seed. --speed also measures.
+them; what the files show and need; the wheel. With rsp and rsp.exe: the parts scripts, bad-input, texts and
+saves, and command lines, compared with the program of Linux on x86-64 (systems-program). A library with one
+constant of the module changed has to be found by the vectors and by the random programs. Two makes of a
+system give the same bytes. What tools/systems refuses is tested too. A system that isn't made is made
+first. --steps makes another number of steps for each seed. --speed also measures.
 
 What isn't there is left out, with the name of its package. The last line is `N passed, M failed`; the
 status is 0 if nothing failed."""

@@ -1,18 +1,19 @@
-"""tools/systems [SYSTEM..]: makes the library for other systems than Linux on x86-64, or for those that are
-named.
+"""tools/systems [SYSTEM..]: makes the library, and the program for two, for other systems than Linux on
+x86-64, or for those that are named.
 
-  linux-aarch64    library/systems/linux-aarch64: librsp.a, librsp.so.1, pkg-config, CMake, and the Python
-                   wheel; glibc 2.17
-  windows-x86_64   library/systems/windows-x86_64: rsp.dll, an import library and a static one for mingw and
-                   for MSVC, CMake, and the Python wheel
+  linux-aarch64    library/systems/linux-aarch64: rsp, which is the proved program, librsp.a, librsp.so.1,
+                   pkg-config, CMake, and the Python wheel; glibc 2.17
+  windows-x86_64   library/systems/windows-x86_64: rsp.exe, a program in C over the library, rsp.dll, an
+                   import library and a static one for mingw and for MSVC, CMake, and the Python wheel
   macos            library/systems/macos: librsp.dylib and librsp.a for Intel and ARM, pkg-config, CMake, and
                    the Python wheel; macOS 11. Never run on a Mac
   wasm64           library/systems/wasm64: rsp.wasm for browsers, Node 24 and Deno, with an ES module and its
                    types, as a package of npm; and of it library/systems/page, static files that answer
                    scripts in a browser
 
-It wants a clone whose library is built (library/c/build), the kit, and packages of Debian that it names.
-Each system takes at most three minutes of processor, and the same sources give the same bytes. What the
+It wants a clone whose library is built (library/c/build), for linux-aarch64 also the program (./rsp run), the
+kit, and packages of Debian that it names. Each system takes some minutes of processor, and the same sources
+give the same bytes. What the
 kit's `rattle build` hands to clang is kept until a source changes. The status is 0 if all are made, 1 if
 one isn't, 2 if the words are wrong. What isn't made leaves what was there."""
 
