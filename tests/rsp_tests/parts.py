@@ -36,6 +36,7 @@ PARTS = [
     Part("cookbook", "examples against mathematics", f"tests/part cookbook {PROGRAM}"),
     Part("microcode", "microcode routines against mathematics", f"tests/part microcode {PROGRAM}"),
     Part("texts", "labels and explanations", f"tests/part texts {PROGRAM}"),
+    Part("systems-program", "program in C", "tests/part systems-program", LIBRARY),
     Part("pages", "pages against the program", f"tests/part pages {PROGRAM}"),
     Part("instruction-lists", "lists of instructions", f"tests/part instruction-lists {PROGRAM}"),
     Part("bad-input", "hostile input", f"tests/part bad-input {PROGRAM}"),
