@@ -64,7 +64,7 @@ static void take_long(reading *at, const char *word)
     if (at->value) settle(at);
 }
 
-/* A word that begins with one `-`, and goes on. */
+/* A word that begins with one `-`, and goes on. No option has one letter but those that end the program. */
 static void take_short(reading *at, const char *word)
 {
     int len = 2; /* the `-`, and one character of UTF-8 */
@@ -102,16 +102,12 @@ static void take_command(reading *at, char **words, bool is_for_help)
 static void take_word(reading *at, char **words)
 {
     const char *word = *words;
-    if (!at->has_ended && *word == '-' && word[1]) {
-        at->has_ended = !strcmp(word, "--");
-        if (!at->has_ended) word[1] == '-' ? take_long(at, word) : take_short(at, word);
-    } else if (at->asked.command == NONE) {
-        take_command(at, words, false);
-    } else if (at->has_ended || at->waiting == ARGUMENTS || at->value) {
-        take_file(at, word);
-    } else {
-        at->value = word;
-    }
+    bool is_option = !at->has_ended && *word == '-' && word[1];
+    if (is_option && !strcmp(word, "--")) at->has_ended = true;
+    else if (is_option) word[1] == '-' ? take_long(at, word) : take_short(at, word);
+    else if (at->asked.command == NONE) take_command(at, words, false);
+    else if (at->has_ended || at->waiting == ARGUMENTS || at->value) take_file(at, word);
+    else at->value = word;
 }
 
 request read_arguments(char **words)
@@ -128,6 +124,7 @@ request read_arguments(char **words)
     return at.asked;
 }
 
+/* A number as a script has it: 1 to 10 decimal digits, or `0x` and 1 to 8 hexadecimal ones. */
 uint32_t origin_of(const request *asked)
 {
     const char *text = asked->given[AT] ? asked->given[AT] : "0";

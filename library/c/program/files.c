@@ -75,11 +75,7 @@ static enum found replace(const target *old, const char *name, span bytes)
     static char new[PATH_ROOM];
     int file = open_beside(old, new);
     if (file < 0) return !old->is_old || errno == EACCES || errno == EPERM || errno == EROFS || errno == ENAMETOOLONG ? IN_PLACE : CANNOT_WRITE;
-    if (old->is_old && !make_alike(new, old)) {
-        close(file);
-        drop(new);
-        return IN_PLACE;
-    }
+    if (old->is_old && !make_alike(new, old)) return close(file), drop(new), IN_PLACE;
     bool is_whole = fill(file, bytes, true);
     if (is_whole && move(new, old->path)) return TO_REPLACE;
     if (is_whole && !fill(open_path(name, TO_WRITE), bytes, false)) return CANNOT_WRITE;

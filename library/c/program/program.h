@@ -58,9 +58,8 @@ ptrdiff_t read_some(int from, uint8_t *to, size_t len);
 bool write_all(int to, const void *bytes, size_t len);
 void write_output(const void *bytes, size_t len);
 
-/* posix.c or windows.c, which has main too: what a system does in its own way. */
-
-extern const char separators[]; /* of a path's folders and the file's name */
+/* posix.c or windows.c, which has main too: what a system does in its own way. A separator is before the file's name in a path. */
+extern const char separators[];
 
 /* The file that a save replaces: its path without links, if it is there, and what the new one has to be like. */
 typedef struct target {

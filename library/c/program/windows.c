@@ -62,11 +62,8 @@ enum found find_target(const char *name, target *found)
     const wchar_t *path = wide(name, 0);
     HANDLE file = CreateFileW(path, GENERIC_WRITE, FILE_SHARE_READ | FILE_SHARE_WRITE | FILE_SHARE_DELETE, NULL, OPEN_EXISTING, 0, NULL);
     found->is_old = file != INVALID_HANDLE_VALUE;
-    if (found->is_old) {
-        bool is_replaced = put_path(file, found);
-        CloseHandle(file);
-        return is_replaced ? TO_REPLACE : IN_PLACE;
-    }
+    bool is_replaced = found->is_old && put_path(file, found);
+    if (found->is_old) return CloseHandle(file), is_replaced ? TO_REPLACE : IN_PLACE;
     if (GetLastError() != ERROR_FILE_NOT_FOUND || strlen(name) >= PATH_ROOM) return CANNOT_WRITE;
     strcpy(found->path, name);
     /* What has attributes is a link that leads to nothing. */
