@@ -360,7 +360,7 @@ def see_jobs(tree: Repository) -> None:
         tree.edit(name, "GAINS_FROM = {", f'GAINS_FROM = {{"rsp_c": {gains}, ')
         wanted = 1 if why else every
         told = [f"one job proves rsp_c, {why}"] * bool(why) + [f"asked for lib --jobs {wanted}\n"]
-        tree.see(f"{wanted} jobs if idle for {share} of the time, gains from {gains}", C, 1, *told, kit="words")
+        tree.see(f"{wanted} jobs if idle for {share}, gains from {gains}", C, 1, *told, kit="words")
     (tree.at / name).write_bytes(was)
     tree.put("crates/rsp_c/src/lib.rt", source)
     tree.see_idle("an edit taken back", C)

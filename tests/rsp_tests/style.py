@@ -14,7 +14,7 @@ from typing import Any, List, Sequence, Tuple, Union
 
 from rsp_tests import TOP
 from rsp_tests.common.arguments import reader
-from rsp_tests.common.processes import lacking, run
+from rsp_tests.common.processes import run
 from rsp_tests.common.report import Report, is_left_out
 from rsp_tests.plugin.bench import HEADERS, MIPS
 from rsp_tools.systems.program import definitions
