@@ -28,7 +28,7 @@ import sys
 import tempfile
 import zipfile
 from pathlib import Path
-from typing import List, Sequence
+from typing import Callable, List, Sequence, Tuple
 
 from rsp_tests import TOP
 from rsp_tests.archive import commands, systems
@@ -267,7 +267,7 @@ def test_installed(archive: Archive, folder: Path) -> None:
     )
 
 
-PARTS = (
+PARTS: Tuple[Callable[[Archive], None], ...] = (
     test_sums,
     test_links,
     test_man,
