@@ -44,10 +44,10 @@ function show(bytes, sentence) {
   say(sentence);
 }
 
-/** Whether the script may be replaced: nothing that somebody typed is lost without a question. */
-function may_replace() {
-  return !script.is_changed || !the("script").value || confirm("You have changed the script. Replace it?");
-}
+/** Whether the script would be lost. */
+function is_at_stake() { return script.is_changed && the("script").value !== ""; }
+
+function may_replace() { return !is_at_stake() || confirm("You have changed the script. Replace it?"); }
 
 function changed() {
   the("example").value = "";
@@ -188,10 +188,13 @@ function listen() {
   on_file(the("open-script"), the("script-file"), LONGEST, take_script, say);
   on_file(the("open-image"), the("image-file"), LONGEST_IMAGE, take_image, say);
   window.onhashchange = () => show_linked();
+  window.onbeforeunload = (event) => {
+    if (is_at_stake()) event.preventDefault();
+  };
 }
 
-/** Begins with the script of a link, else with what a reload has left, else with the first example. A browser that
- * can't run it says so at once. */
+/** Begins with the script of a link, else with what a browser has kept of an older visit, else with the first example. A
+ * browser that can't run it says so at once. */
 async function begin() {
   the("absent").remove();
   list_examples();
