@@ -193,8 +193,8 @@ function listen() {
   };
 }
 
-/** Begins with the script of a link, else with what a browser has kept of an older visit, else with the first example. A
- * browser that can't run it says so at once. */
+/** Begins with the script of a link, else with what the browser has kept of an older visit, else with an example. What
+ * the browser lacks is said at once. */
 async function begin() {
   the("absent").remove();
   list_examples();

@@ -67,7 +67,7 @@ class Given(Checks):
         self.left()
 
     def left(self) -> None:
-        """A page whose script was changed isn't left without a question. Chromium asks it, of who pressed a key."""
+        """A page whose script was changed isn't left without a question, which Chromium asks after a key."""
         self.tab.accepts = False
         self.page.type("step # mine")
         self.tab.press("Enter")

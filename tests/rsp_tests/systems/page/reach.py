@@ -142,5 +142,5 @@ class Reach(Checks):
         own = {it for it in urls if it.startswith((self.host.url, "data:", "blob:", "about:"))}
         self.same("other addresses", urls - own, set())
         self.see(f"its own: {sorted(own)}", f"{self.host.url}page.js" in own)
-        rules = self.tab.value("document.querySelector('meta[http-equiv]').content").split("; ")
+        rules = self.tab.value("document.querySelector('meta[http-equiv]').content.split(/;\\s+/)")
         self.see(f"its rules: {rules}", "default-src 'none'" in rules and "script-src 'self'" in rules)
