@@ -13,8 +13,7 @@ static const struct { const char *shown; unsigned commands; } arguments[ARGUMENT
 
 /* The names of the commands, and the texts of docs/help, which the build gives. */
 static const char *const commands[] = { "", "run", "asm", "dis" }, *const helps[] = { HELP_RSP, HELP_RUN, HELP_ASM, HELP_DIS };
-static const char help_of_help[] = "Print this message or the help of the given subcommand(s)\n\n"
-                                   "Usage: rsp help [COMMAND]...\n\nArguments:\n  [COMMAND]...  Print help for the subcommand(s)\n";
+static const char help_of_help[] = "Print this message or the help of the given subcommand(s)\n";
 
 /* Where the reading is. */
 typedef struct reading {

@@ -147,10 +147,10 @@ void assemble(const request *asked)
     uint32_t origin = origin_of(asked);
     uint8_t *source;
     rsp_assembled made;
-    size_t len = read_file(asked->given[SOURCE], LONGEST_TEXT + 1, &source);
-    span text = { source, len };
-    if (len > LONGEST_TEXT) fault("fault 42 ScriptTooLong");
-    if (rsp_assemble(origin, source, len, words, 1024, &made) != RSP_OK) refuse_text(text, origin, &made, asked->given[EXPLAIN]);
+    span text = { .len = read_file(asked->given[SOURCE], LONGEST_TEXT + 1, &source) };
+    text.at = source;
+    if (text.len > LONGEST_TEXT) fault("fault 42 ScriptTooLong");
+    if (rsp_assemble(origin, source, text.len, words, 1024, &made) != RSP_OK) refuse_text(text, origin, &made, asked->given[EXPLAIN]);
     for (size_t i = 0; i < 4 * made.count; i++) bytes[i] = (uint8_t)(words[i / 4] >> (24 - i % 4 * 8));
     save_file(asked->given[OUT], (span){ bytes, 4 * made.count });
     print("ok %u words\n", (unsigned)made.count);

@@ -19,7 +19,7 @@ typedef struct span {
 int work(char **words);
 
 /* messages.c: a message on standard error, with which the program ends, or not; and a line of at most 511 bytes on standard output. */
-enum { DONE = 0, FAULTED = 1, REFUSED = 2 };
+enum { DONE = 0, FAULTED = 1, REFUSED = 2, LACKING = 127 };
 #define refuse(...) (say("error: ", "\n\nFor more information, try '--help'.\n", __VA_ARGS__), exit(REFUSED))
 #define fault(...) (say("rsp: ", "\n", __VA_ARGS__), exit(FAULTED))
 void say(const char *before, const char *after, const char *format, ...);

@@ -5,7 +5,6 @@
 #include <io.h>
 #include <string.h>
 #include <sys/stat.h>
-#include <wchar.h>
 #include <windows.h>
 
 enum { WIDE_ROOM = 32768 };
