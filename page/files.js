@@ -33,5 +33,5 @@ export function save(name, parts) {
   link.href = URL.createObjectURL(new Blob(parts));
   link.download = name;
   link.click();
-  setTimeout(() => URL.revokeObjectURL(link.href), 60000);
+  setTimeout(() => URL.revokeObjectURL(link.href), 10000);
 }

@@ -176,6 +176,7 @@ def main() -> int:
     counts = Counts()
     with tempfile.TemporaryDirectory() as name:
         at = Path(name)
+        at.chmod(0o755)  # some saves are another user's
         see(counts, "native", make_native(at), at)
     print(f"{counts.passed} passed, {counts.failed} failed")
     return 0 if counts.passed and not counts.failed else 1

@@ -71,6 +71,7 @@ def main(words: List[str]) -> int:
     counts = Counts()
     refusals.all_of(counts)
     with tempfile.TemporaryDirectory() as at:
+        Path(at).chmod(0o755)  # some saves are another user's
         for system in asked.systems or [*Suite.runners]:
             try:
                 test(counts, system, Path(at), asked.steps, asked.speed)

@@ -41,6 +41,7 @@ class Tab:
         self.events: List[Dict[str, Any]] = []
         self.asked: List[str] = []  # the texts of dialogs
         self.accepts = True  # how they are answered
+        self.let_download()
         self.reading, self.writing = self.start()
         named = {"behavior": "allowAndName", "downloadPath": str(saved), "eventsEnabled": True}
         self.call("Browser.setDownloadBehavior", **named)
@@ -49,6 +50,13 @@ class Tab:
         for domain in ("Page", "Runtime", "Network", "DOM", "Accessibility"):
             self.call(f"{domain}.enable")
         self.call("Emulation.setFocusEmulationEnabled", enabled=True)
+
+    def let_download(self) -> None:
+        """Lets pages save file after file: Chromium asks before some, and cancels them where nobody answers."""
+        settings = {"profile": {"default_content_setting_values": {"automatic_downloads": 1}}}
+        folder = Path(self.profile, "Default")
+        folder.mkdir()
+        folder.joinpath("Preferences").write_text(json.dumps(settings))
 
     def start(self) -> Tuple[int, int]:
         """Starts Chromium, which reads commands at 3 and answers at 4."""

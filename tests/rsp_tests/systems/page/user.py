@@ -5,6 +5,7 @@ import json
 import re
 import subprocess
 import sys
+import time
 from pathlib import Path
 from typing import Callable, List
 
@@ -123,7 +124,8 @@ class Page:
         return str(self.tab.value(shown))
 
     def saved(self, button: str, name: str) -> bytes:
-        """What a button saves, in a file of this name."""
+        """What a button saves, in a file of this name. Chromium drops all above ten a second."""
+        time.sleep(0.12)
         self.click(button)
         return self.tab.download(name)
 
