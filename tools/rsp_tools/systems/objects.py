@@ -12,7 +12,7 @@ from .toolchain import llvm
 # The intrinsics of a processor that its modules have. Each is an instruction on any system.
 INTRINSICS: Dict[str, AbstractSet[str]] = {
     "x86_64": {"llvm.x86.ssse3.pshuf.b.128"},
-    "aarch64": {"llvm.aarch64.neon.tbl1.v16i8"},
+    "aarch64": {"llvm.aarch64.neon.addp.v16i8", "llvm.aarch64.neon.tbl1.v16i8"},
 }
 
 
