@@ -27,6 +27,7 @@ Case = Tuple[str, List[str]]
 # The checks that a system can't have, by its name, and why. `saves/NAME` is a part of `saves` that isn't
 # begun.
 THROUGH_LINKS = "on Linux, where it is only tested, it writes through links"
+LIMITED = "a limit of the size of files stops wine's own server"
 FOREIGN_CALLS = "the calls that are made to fail are those of programs of Linux on x86-64"
 LEFT_OUT: Dict[str, Dict[str, str]] = {
     "native": {
@@ -37,11 +38,13 @@ LEFT_OUT: Dict[str, Dict[str, str]] = {
     "linux-aarch64": {"saves/failing_calls": FOREIGN_CALLS},
     "windows-x86_64": {
         "scripts: argument isn't text": "wine makes UTF-16 of any bytes; half of a pair is tested by itself",
+        "saves: *no room*": LIMITED,
+        "saves: *: killed by the limit": LIMITED,
+        "saves: *: after a killed run": LIMITED,
         "saves: *: link to nothing": "wine shows no link that leads to nothing",
         "saves: *: named pipe": "Windows has no such files",
         "saves: *: /dev/stdout to a pipe": "Windows has no such files",
         "saves/open_files": "Windows has no links to open files",
-        "saves/mounts": "wine opens files by a process of its own, which sees no disk of one run",
         "saves/users": "wine runs for one user alone",
         "saves/files_of_others": "Windows has no owners and groups of this kind",
         "saves/failing_calls": FOREIGN_CALLS,

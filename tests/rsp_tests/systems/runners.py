@@ -121,14 +121,6 @@ class Windows(Runner):
         without = "mscoree,mshtml,winemenubuilder.exe="
         self.env.update(WINEPREFIX=str(at / "wine"), WINEDEBUG="-all", WINEDLLOVERRIDES=without)
         subprocess.run(["wineboot", "--init"], env=self.env, capture_output=True)
-        # A program that waits keeps wine's own processes, which each run would start anew.
-        self.waiting = subprocess.Popen(
-            ["wine", "cmd"],
-            env=self.env,
-            stdin=subprocess.PIPE,
-            stdout=subprocess.DEVNULL,
-            stderr=subprocess.DEVNULL,
-        )
 
     def shared(self) -> List[str]:
         # Windows looks for a library beside the program.
@@ -136,7 +128,6 @@ class Windows(Runner):
         return [f"-L{self.folder}/lib", "-lrsp"]
 
     def stop(self) -> None:
-        self.waiting.communicate()
         subprocess.run(["wineserver", "-k"], env=self.env, capture_output=True)
 
 
