@@ -52,7 +52,7 @@ class Tab:
         self.call("Emulation.setFocusEmulationEnabled", enabled=True)
 
     def let_download(self) -> None:
-        """Lets pages save file after file: Chromium asks before some, and cancels them where nobody answers."""
+        """Lets pages save file after file: Chromium asks before some, and where nobody answers cancels."""
         settings = {"profile": {"default_content_setting_values": {"automatic_downloads": 1}}}
         folder = Path(self.profile, "Default")
         folder.mkdir()
