@@ -208,16 +208,17 @@ class Build:
             return
         told = "; ".join(f"{it}, {time.time() - self.begun[it]:.0f} s" for it in going)
         counts = re.findall(r"^so far: (\d+ of \d+ functions) checked", self.said()[self.logged :], re.M)
-        far = counts[-1] if counts else f"{self.kept(going[0])} functions"
-        self.say(f"proving {told}{f': {far}' if self.is_one else ''}")
+        far = counts[-1] if counts else self.kept(going[0])
+        self.say(f"proving {told}{f': {far}' if self.is_one and far else ''}")
 
-    def kept(self, name: str) -> int:
-        """Of how many functions `rt` has kept the module of their paths since it was called.
+    def kept(self, name: str) -> str:
+        """Of how many functions `rt` has kept the module of their paths since it was called, if of any.
 
-        By one job it counts none.
+        By one job it counts none. Over what `rt ci` proved it keeps none.
         """
         modules = (CRATES / name / "out/incremental").glob(f"*/Rattle-{name}-proofs.*.Lts.oantt")
-        return sum(time_of(it) > self.ran for it in modules)
+        count = sum(time_of(it) > self.ran for it in modules)
+        return f"{count} functions" if count else ""
 
     def said(self) -> str:
         """What the kit's commands have said."""
