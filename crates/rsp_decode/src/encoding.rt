@@ -1,25 +1,13 @@
 // Instructions to words.
 
 ghost use Rattle.std.specs.Prelude.{◌≡◌, ◌*◌, ◌^◌, ◌≤◌, flat_map};
-ghost use Rattle.rsp_decode.specs.Table.{word_of, inst_of, canonical_of, IsInstruction, control_number, with_fields, bit_fields, vector_operands, vector_values};
-
-mod scalar;
-mod vector;
+ghost use Rattle.rsp_decode.specs.Table.{word_of, inst_of, canonical_of, IsInstruction, branch_sign_selector, vector_load_selector, vector_store_selector, control_number, with_fields, bit_fields, vector_operands, vector_values};
 
 use crate::fields::VectorFields;
 use crate::inst::Inst;
-use crate::vector::Control;
-use scalar::{
-    BREAK, JUMP_LINK_REGISTER, JUMP_REGISTER, LOAD_UPPER, branch_equal_value, branch_sign_value,
-    immediate_value, jump_value, load_value, move_sp_value, register_value, shift_by_value,
-    shift_value, store_value,
-};
-use vector::{
-    READ_ACCUMULATOR, VECTOR_MERGE, divide_value, idle_value, move_control_value,
-    move_vector_value, mpeg_value, multiply_value, round_value, vector_add_value,
-    vector_clip_value, vector_load_value, vector_logic_value, vector_select_value,
-    vector_store_value,
-};
+use crate::rows::{COMPUTING, COP0, COP2, LWC2, REGIMM, SWC2};
+use crate::scalar::BranchSignOp;
+use crate::vector::{Control, VectorLoadOp, VectorStoreOp};
 
 /// The canonical word of an instruction: the bits that select its row of the table, its fields in their bit fields, and 0 in
 /// every other bit. It decodes to the instruction again.
@@ -36,85 +24,117 @@ pub fn encode(inst: &Inst) -> u32
 }
 
 /// The canonical word of an instruction, by a match with an arm for each variant: its selecting bits, and its fields.
+#[tactic(auto, using(crate::proofs::SelectingBits::logic_value, crate::proofs::SelectingBits::divide_value))]
 fn canonical_word(inst: &Inst) -> u32
     requires { IsInstruction inst.now }
     ensures { result ≡ word_of inst.now }
 {
     match *inst {
-        Inst::Shift { op, rd, rt, amount } => shift_value(op)
-            | at(rd, 11)
-            | at(rt, 16)
-            | at(amount, 6),
-        Inst::ShiftBy { op, fields } => shift_by_value(op)
+        Inst::Shift { op, rd, rt, amount } => op as u32 | at(rd, 11) | at(rt, 16) | at(amount, 6),
+        Inst::ShiftBy { op, fields } => op as u32
             | at(fields.rd, 11)
             | at(fields.rt, 16)
             | at(fields.rs, 21),
-        Inst::JumpRegister { rs } => JUMP_REGISTER | at(rs, 21),
-        Inst::JumpLinkRegister { rd, rs } => JUMP_LINK_REGISTER | at(rd, 11) | at(rs, 21),
-        Inst::Break => BREAK,
-        Inst::Register { op, fields } => register_value(op)
+        Inst::JumpRegister { rs } => 8 | at(rs, 21),
+        Inst::JumpLinkRegister { rd, rs } => 9 | at(rd, 11) | at(rs, 21),
+        Inst::Break => 13,
+        Inst::Register { op, fields } => op as u32
             | at(fields.rd, 11)
             | at(fields.rs, 21)
             | at(fields.rt, 16),
-        Inst::BranchSign { op, rs, offset } => branch_sign_value(op)
-            | at(rs, 21)
-            | u32::from(offset),
-        Inst::Jump { op, target } => jump_value(op) | u32::from(target),
-        Inst::BranchEqual { op, rs, rt, offset } => branch_equal_value(op)
+        Inst::BranchSign { op, rs, offset } => branch_sign(op) | at(rs, 21) | u32::from(offset),
+        Inst::Jump { op, target } => (op as u32) << 26 | u32::from(target),
+        Inst::BranchEqual { op, rs, rt, offset } => (op as u32) << 26
             | at(rs, 21)
             | at(rt, 16)
             | u32::from(offset),
-        Inst::Immediate { op, rt, rs, imm } => immediate_value(op)
+        Inst::Immediate { op, rt, rs, imm } => (op as u32) << 26
             | at(rt, 16)
             | at(rs, 21)
             | u32::from(imm),
-        Inst::LoadUpper { rt, imm } => LOAD_UPPER | at(rt, 16) | u32::from(imm),
-        Inst::Load { op, fields } => load_value(op)
+        Inst::LoadUpper { rt, imm } => 15 << 26 | at(rt, 16) | u32::from(imm),
+        Inst::Load { op, fields } => (op as u32) << 26
             | at(fields.rt, 16)
             | u32::from(fields.offset)
             | at(fields.base, 21),
-        Inst::Store { op, fields } => store_value(op)
+        Inst::Store { op, fields } => (op as u32) << 26
             | at(fields.rt, 16)
             | u32::from(fields.offset)
             | at(fields.base, 21),
-        Inst::MoveSp { op, rt, register } => move_sp_value(op) | at(rt, 16) | at(register, 11),
+        Inst::MoveSp { op, rt, register } => COP0
+            | (op as u32) << 21
+            | at(rt, 16)
+            | at(register, 11),
         Inst::MoveVector {
             op,
             rt,
             vector,
             element,
-        } => move_vector_value(op) | at(rt, 16) | at(vector, 11) | at(element, 7),
-        Inst::MoveControl { op, rt, control } => move_control_value(op)
+        } => COP2 | (op as u32) << 21 | at(rt, 16) | at(vector, 11) | at(element, 7),
+        // `cfc2` and `ctc2` are 2 above `mfc2` and `mtc2`.
+        Inst::MoveControl { op, rt, control } => COP2
+            | (op as u32 + 2) << 21
             | at(rt, 16)
             | at(control_bits(control), 11),
-        Inst::Multiply { op, fields } => with_vectors(multiply_value(op), fields),
-        Inst::Round { op, fields } => with_vectors(round_value(op), fields),
-        Inst::MpegMultiply { op, fields } => with_vectors(mpeg_value(op), fields),
-        Inst::ReadAccumulator { fields } => with_vectors(READ_ACCUMULATOR, fields),
-        Inst::VectorAdd { op, fields } => with_vectors(vector_add_value(op), fields),
-        Inst::VectorSelect { op, fields } => with_vectors(vector_select_value(op), fields),
-        Inst::VectorClip { op, fields } => with_vectors(vector_clip_value(op), fields),
-        Inst::VectorMerge { fields } => with_vectors(VECTOR_MERGE, fields),
-        Inst::VectorLogic { op, fields } => with_vectors(vector_logic_value(op), fields),
+        Inst::Multiply { op, fields } => with_vectors(COMPUTING | op as u32, fields),
+        Inst::Round { op, fields } => with_vectors(COMPUTING | op as u32, fields),
+        Inst::MpegMultiply { op, fields } => with_vectors(COMPUTING | op as u32, fields),
+        Inst::ReadAccumulator { fields } => with_vectors(COMPUTING | 0x1d, fields),
+        Inst::VectorAdd { op, fields } => with_vectors(COMPUTING | op as u32, fields),
+        Inst::VectorSelect { op, fields } => with_vectors(COMPUTING | op as u32, fields),
+        Inst::VectorClip { op, fields } => with_vectors(COMPUTING | op as u32, fields),
+        Inst::VectorMerge { fields } => with_vectors(COMPUTING | 0x27, fields),
+        Inst::VectorLogic { op, fields } => with_vectors(COMPUTING | op as u32, fields),
         Inst::Divide {
             op,
             vd,
             lane,
             vt,
             element,
-        } => divide_value(op) | at(vd, 6) | at(lane, 11) | at(vt, 16) | at(element, 21),
-        Inst::Idle { op } => idle_value(op),
-        Inst::VectorLoad { op, fields } => vector_load_value(op)
+        } => COMPUTING | op as u32 | at(vd, 6) | at(lane, 11) | at(vt, 16) | at(element, 21),
+        Inst::Idle { op } => COMPUTING | op as u32,
+        Inst::VectorLoad { op, fields } => vector_load(op)
             | at(fields.vt, 16)
             | at(fields.element, 7)
             | at(fields.offset, 0)
             | at(fields.base, 21),
-        Inst::VectorStore { op, fields } => vector_store_value(op)
+        Inst::VectorStore { op, fields } => vector_store(op)
             | at(fields.vt, 16)
             | at(fields.element, 7)
             | at(fields.offset, 0)
             | at(fields.base, 21),
     }
+}
+
+/// The bits that select a branch on a sign: opcode 1 and a number in rt, or opcode 6 or 7.
+#[inline]
+fn branch_sign(op: BranchSignOp) -> u32
+    ensures { result ≡ (branch_sign_selector op).value }
+{
+    match op {
+        BranchSignOp::Bltz => REGIMM,
+        BranchSignOp::Bgez => REGIMM | 1 << 16,
+        BranchSignOp::Bltzal => REGIMM | 16 << 16,
+        BranchSignOp::Bgezal => REGIMM | 17 << 16,
+        BranchSignOp::Blez => 6 << 26,
+        BranchSignOp::Bgtz => 7 << 26,
+    }
+}
+
+/// The bits that select a vector load: opcode 50, and the operation in bits 15 to 11.
+#[inline]
+fn vector_load(op: VectorLoadOp) -> u32
+    ensures { result ≡ (vector_load_selector op).value }
+{
+    LWC2 | (op as u32) << 11
+}
+
+/// The bits that select a vector store: opcode 58, and the operation in bits 15 to 11.
+#[inline]
+fn vector_store(op: VectorStoreOp) -> u32
+    ensures { result ≡ (vector_store_selector op).value }
+{
+    SWC2 | (op as u32) << 11
 }
 
 /// A word with the fields of `$vD, $vS, $vT[e]` added.

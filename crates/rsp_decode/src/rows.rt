@@ -3,6 +3,12 @@
 ghost use Rattle.std.specs.Prelude.{◌≡◌, map, false};
 ghost use Rattle.rsp_decode.specs.Table.{rows, entry, entry_of};
 
+use ByteElements::{All, Halves};
+use Operand::{
+    BranchTarget, ControlRegister, JumpTarget, Scalar, ScalarMemory, ShiftAmount, Signed,
+    SpRegister, Unsigned, Vector, VectorByte, VectorElement, VectorLane, VectorMemory,
+};
+
 /// The byte elements that an operand can have.
 #[derive(Clone, Copy, PartialEq, Eq, Debug)]
 pub enum ByteElements {
@@ -61,113 +67,66 @@ pub struct TableRow {
 
 const NOTHING: &[Operand] = &[];
 
-const SHIFT: &[Operand] = &[
-    Operand::Scalar(11),
-    Operand::Scalar(16),
-    Operand::ShiftAmount,
-];
+const SHIFT: &[Operand] = &[Scalar(11), Scalar(16), ShiftAmount];
 
-const SHIFT_BY: &[Operand] = &[
-    Operand::Scalar(11),
-    Operand::Scalar(16),
-    Operand::Scalar(21),
-];
+const SHIFT_BY: &[Operand] = &[Scalar(11), Scalar(16), Scalar(21)];
 
-const SOURCE: &[Operand] = &[Operand::Scalar(21)];
+const SOURCE: &[Operand] = &[Scalar(21)];
 
-const LINK: &[Operand] = &[Operand::Scalar(11), Operand::Scalar(21)];
+const LINK: &[Operand] = &[Scalar(11), Scalar(21)];
 
-const REGISTERS: &[Operand] = &[
-    Operand::Scalar(11),
-    Operand::Scalar(21),
-    Operand::Scalar(16),
-];
+const REGISTERS: &[Operand] = &[Scalar(11), Scalar(21), Scalar(16)];
 
-const BRANCH_SIGN: &[Operand] = &[Operand::Scalar(21), Operand::BranchTarget];
+const BRANCH_SIGN: &[Operand] = &[Scalar(21), BranchTarget];
 
-const BRANCH_EQUAL: &[Operand] = &[
-    Operand::Scalar(21),
-    Operand::Scalar(16),
-    Operand::BranchTarget,
-];
+const BRANCH_EQUAL: &[Operand] = &[Scalar(21), Scalar(16), BranchTarget];
 
-const JUMP: &[Operand] = &[Operand::JumpTarget];
+const JUMP: &[Operand] = &[JumpTarget];
 
-const SIGNED: &[Operand] = &[Operand::Scalar(16), Operand::Scalar(21), Operand::Signed];
+const SIGNED: &[Operand] = &[Scalar(16), Scalar(21), Signed];
 
-const UNSIGNED: &[Operand] = &[Operand::Scalar(16), Operand::Scalar(21), Operand::Unsigned];
+const UNSIGNED: &[Operand] = &[Scalar(16), Scalar(21), Unsigned];
 
-const UPPER: &[Operand] = &[Operand::Scalar(16), Operand::Unsigned];
+const UPPER: &[Operand] = &[Scalar(16), Unsigned];
 
-const MEMORY: &[Operand] = &[Operand::Scalar(16), Operand::ScalarMemory];
+const MEMORY: &[Operand] = &[Scalar(16), ScalarMemory];
 
-const MOVE_SP: &[Operand] = &[Operand::Scalar(16), Operand::SpRegister];
+const MOVE_SP: &[Operand] = &[Scalar(16), SpRegister];
 
-const MOVE_VECTOR: &[Operand] = &[
-    Operand::Scalar(16),
-    Operand::VectorByte(11, ByteElements::All),
-];
+const MOVE_VECTOR: &[Operand] = &[Scalar(16), VectorByte(11, All)];
 
-const MOVE_CONTROL: &[Operand] = &[Operand::Scalar(16), Operand::ControlRegister];
+const MOVE_CONTROL: &[Operand] = &[Scalar(16), ControlRegister];
 
-const VECTORS: &[Operand] = &[
-    Operand::Vector(6),
-    Operand::Vector(11),
-    Operand::VectorElement,
-];
+const VECTORS: &[Operand] = &[Vector(6), Vector(11), VectorElement];
 
-const LANE: &[Operand] = &[Operand::VectorLane, Operand::VectorElement];
+const LANE: &[Operand] = &[VectorLane, VectorElement];
 
-const VECTOR_MEMORY_1: &[Operand] = &[
-    Operand::VectorByte(16, ByteElements::All),
-    Operand::VectorMemory(1),
-];
+const VECTOR_MEMORY_1: &[Operand] = &[VectorByte(16, All), VectorMemory(1)];
 
-const VECTOR_MEMORY_2: &[Operand] = &[
-    Operand::VectorByte(16, ByteElements::All),
-    Operand::VectorMemory(2),
-];
+const VECTOR_MEMORY_2: &[Operand] = &[VectorByte(16, All), VectorMemory(2)];
 
-const VECTOR_MEMORY_4: &[Operand] = &[
-    Operand::VectorByte(16, ByteElements::All),
-    Operand::VectorMemory(4),
-];
+const VECTOR_MEMORY_4: &[Operand] = &[VectorByte(16, All), VectorMemory(4)];
 
-const VECTOR_MEMORY_8: &[Operand] = &[
-    Operand::VectorByte(16, ByteElements::All),
-    Operand::VectorMemory(8),
-];
+const VECTOR_MEMORY_8: &[Operand] = &[VectorByte(16, All), VectorMemory(8)];
 
-const VECTOR_MEMORY_16: &[Operand] = &[
-    Operand::VectorByte(16, ByteElements::All),
-    Operand::VectorMemory(16),
-];
+const VECTOR_MEMORY_16: &[Operand] = &[VectorByte(16, All), VectorMemory(16)];
 
-const VECTOR_MEMORY_HALF: &[Operand] = &[
-    Operand::VectorByte(16, ByteElements::Halves),
-    Operand::VectorMemory(16),
-];
+const VECTOR_MEMORY_HALF: &[Operand] = &[VectorByte(16, Halves), VectorMemory(16)];
 
-/// The bits that select a row of opcode 0, with its function.
-const SPECIAL: u32 = 0xfc00_003f;
+// The opcodes that several rows share.
 
-/// Of opcode 1.
-const REGIMM: u32 = 0xfc1f_0000;
+pub(crate) const REGIMM: u32 = 1 << 26;
 
-/// By the opcode alone.
-const OPCODE: u32 = 0xfc00_0000;
+pub(crate) const COP0: u32 = 16 << 26;
 
-/// Of the moves between registers, with rs.
-const MOVE: u32 = 0xffe0_0000;
+pub(crate) const COP2: u32 = 18 << 26;
 
-/// Of the computing instructions of the vector unit, with the function.
-const COMPUTING: u32 = 0xfe00_003f;
+/// With bit 25: the computing instructions of the vector unit.
+pub(crate) const COMPUTING: u32 = COP2 | 1 << 25;
 
-/// Of the vector loads and stores, with the operation.
-const VECTOR_MEMORY: u32 = 0xfc00_f800;
+pub(crate) const LWC2: u32 = 50 << 26;
 
-/// Of those whose element is 0 or 8.
-const HALF_VECTOR_MEMORY: u32 = 0xfc00_fb80;
+pub(crate) const SWC2: u32 = 58 << 26;
 
 /// The rows of the instruction table, a section for each match of the decoder. A line has the value that the match compares, the
 /// row's name, its operands, and the decoder's call. The macro `$then` gets `$more` of the caller, then all sections.
@@ -339,30 +298,30 @@ macro_rules! instruction_table {
 
 /// The bits that select a row of a match.
 macro_rules! mask {
-    (special) => { SPECIAL };
-    (regimm) => { REGIMM };
-    (opcode) => { OPCODE };
-    (cop0) => { MOVE };
-    (cop2) => { MOVE };
-    (products) => { COMPUTING };
-    (others) => { COMPUTING };
-    (lwc2) => { VECTOR_MEMORY };
-    (swc2) => { VECTOR_MEMORY };
-    (lwc2 begins_half) => { HALF_VECTOR_MEMORY };
-    (swc2 begins_half) => { HALF_VECTOR_MEMORY };
+    (special) => { 0xfc00_003f };
+    (regimm) => { 0xfc1f_0000 };
+    (opcode) => { 0xfc00_0000 };
+    (cop0) => { 0xffe0_0000 };
+    (cop2) => { 0xffe0_0000 };
+    (products) => { 0xfe00_003f };
+    (others) => { 0xfe00_003f };
+    (lwc2) => { 0xfc00_f800 };
+    (swc2) => { 0xfc00_f800 };
+    (lwc2 begins_half) => { 0xfc00_fb80 };
+    (swc2 begins_half) => { 0xfc00_fb80 };
 }
 
 /// What those bits are.
 macro_rules! value {
     (special $n:literal) => { $n };
-    (regimm $n:literal) => { 1 << 26 | $n << 16 };
+    (regimm $n:literal) => { REGIMM | $n << 16 };
     (opcode $n:literal) => { $n << 26 };
-    (cop0 $n:literal) => { 16 << 26 | $n << 21 };
-    (cop2 $n:literal) => { 18 << 26 | $n << 21 };
-    (products $n:literal) => { 18 << 26 | 1 << 25 | $n };
-    (others $n:literal) => { 18 << 26 | 1 << 25 | $n };
-    (lwc2 $n:literal) => { 50 << 26 | $n << 11 };
-    (swc2 $n:literal) => { 58 << 26 | $n << 11 };
+    (cop0 $n:literal) => { COP0 | $n << 21 };
+    (cop2 $n:literal) => { COP2 | $n << 21 };
+    (products $n:literal) => { COMPUTING | $n };
+    (others $n:literal) => { COMPUTING | $n };
+    (lwc2 $n:literal) => { LWC2 | $n << 11 };
+    (swc2 $n:literal) => { SWC2 | $n << 11 };
 }
 
 /// The lines of all sections as rows.
