@@ -7,7 +7,7 @@ ghost use Rattle.rsp_decode.specs.Table.{inst_of, canonical_of, word_of, IsInstr
 mod scalar;
 mod vector;
 
-use crate::bit_fields;
+use crate::bit_fields::bits;
 use crate::encoding::encode;
 use crate::inst::Inst;
 use crate::visitor::{LastInst, Visitor};
@@ -17,19 +17,12 @@ use vector::{visit_computing, visit_cop2, visit_lwc2, visit_swc2};
 /// The instruction of a word, by the instruction table: None exactly for a reserved word, which no row of the table fits.
 /// Bits that neither select the row nor belong to a named field are ignored.
 #[inline]
+#[tactic(auto, using(crate::proofs::InstructionOfWord::decoded_instruction, crate::proofs::InstructionOfWord::decoded_canonical))]
 pub fn decode(word: u32) -> Option<Inst>
     ensures value { result ≡ inst_of word }
     // The fields are in the ranges of `Inst`, and `encode` gives the word's canonical form.
     ensures instruction { IfSome result IsInstruction }
     ensures canonical { IfSome result (λ i. canonical_of word ≡ Some (word_of i)) }
-{
-    meaning(word)
-}
-
-/// The instruction that [`visit`] hands to a visitor which keeps it.
-#[inline]
-fn meaning(word: u32) -> Option<Inst>
-    ensures { result ≡ inst_of word }
 {
     let mut kept = LastInst { inst: None };
     visit(word, &mut kept);
@@ -43,7 +36,7 @@ pub fn visit<V: Visitor>(word: u32, visitor: &mut V) -> bool
     ensures known { result ≡ is_instruction (inst_of word) }
     ensures state { visitor.new ≡ after_visit V.after (inst_of word) visitor.old }
 {
-    match bit_fields::opcode(word) {
+    match bits(word, 26, 6) {
         0 => visit_special(word, visitor),
         1 => visit_regimm(word, visitor),
         16 => visit_cop0(word, visitor),

@@ -6,10 +6,7 @@ ghost use Rattle.rsp_decode.specs.declared.inst.Inst.{Inst};
 ghost use Rattle.rsp_decode.specs.Visit.{is_instruction, after_visit};
 ghost use Rattle.rsp_decode.specs.Table.{value_at, whole, pick, meaning_of, special_rows, regimm_rows, opcode_rows, cop0_rows, shift_row, shift_by_row, jump_register_row, jump_link_register_row, register_row, break_row, branch_sign_row, branch_equal_row, jump_row, load_upper_row, load_row, store_row, move_sp_row};
 
-use crate::bit_fields::{
-    function, immediate, opcode, rd, register_fields, rs, rt, scalar_memory_fields, shift_amount,
-    sp_register, target,
-};
+use crate::bit_fields::{bits, function, immediate, register_fields, scalar_memory_fields, target};
 use crate::inst::Inst;
 use crate::rows::{arms, instruction_table};
 use crate::scalar::{
@@ -25,9 +22,9 @@ fn shift<V: Visitor>(word: u32, op: ShiftOp, visitor: &mut V)
 {
     visitor.take(Inst::Shift {
         op,
-        rd: rd(word),
-        rt: rt(word),
-        amount: shift_amount(word),
+        rd: bits(word, 11, 5),
+        rt: bits(word, 16, 5),
+        amount: bits(word, 6, 5),
     });
 }
 
@@ -36,10 +33,8 @@ fn shift<V: Visitor>(word: u32, op: ShiftOp, visitor: &mut V)
 fn shift_by<V: Visitor>(word: u32, op: ShiftVariableOp, visitor: &mut V)
     ensures { visitor.new ≡ V.after (meaning_of (shift_by_row op) word) visitor.old }
 {
-    visitor.take(Inst::ShiftBy {
-        op,
-        fields: register_fields(word),
-    });
+    let fields = register_fields(word);
+    visitor.take(Inst::ShiftBy { op, fields });
 }
 
 /// `jr`: hands the visitor rs.
@@ -47,7 +42,8 @@ fn shift_by<V: Visitor>(word: u32, op: ShiftVariableOp, visitor: &mut V)
 fn jump_register<V: Visitor>(word: u32, visitor: &mut V)
     ensures { visitor.new ≡ V.after (meaning_of jump_register_row word) visitor.old }
 {
-    visitor.take(Inst::JumpRegister { rs: rs(word) });
+    let rs = bits(word, 21, 5);
+    visitor.take(Inst::JumpRegister { rs });
 }
 
 /// `jalr`: hands the visitor rd and rs.
@@ -56,8 +52,8 @@ fn jump_link_register<V: Visitor>(word: u32, visitor: &mut V)
     ensures { visitor.new ≡ V.after (meaning_of jump_link_register_row word) visitor.old }
 {
     visitor.take(Inst::JumpLinkRegister {
-        rd: rd(word),
-        rs: rs(word),
+        rd: bits(word, 11, 5),
+        rs: bits(word, 21, 5),
     });
 }
 
@@ -66,10 +62,8 @@ fn jump_link_register<V: Visitor>(word: u32, visitor: &mut V)
 fn register<V: Visitor>(word: u32, op: RegisterOp, visitor: &mut V)
     ensures { visitor.new ≡ V.after (meaning_of (register_row op) word) visitor.old }
 {
-    visitor.take(Inst::Register {
-        op,
-        fields: register_fields(word),
-    });
+    let fields = register_fields(word);
+    visitor.take(Inst::Register { op, fields });
 }
 
 /// `break`, which has no fields: hands it to the visitor.
@@ -97,7 +91,7 @@ fn branch_sign<V: Visitor>(word: u32, op: BranchSignOp, visitor: &mut V)
 {
     visitor.take(Inst::BranchSign {
         op,
-        rs: rs(word),
+        rs: bits(word, 21, 5),
         offset: immediate(word),
     });
 }
@@ -109,7 +103,7 @@ pub fn visit_regimm<V: Visitor>(word: u32, visitor: &mut V) -> bool
     ensures known { result ≡ is_instruction (pick regimm_rows (2 ^ 26 + value_at word (whole 16 5) * 2 ^ 16) word) }
     ensures state { visitor.new ≡ after_visit V.after (pick regimm_rows (2 ^ 26 + value_at word (whole 16 5) * 2 ^ 16) word) visitor.old }
 {
-    instruction_table!(arms(regimm(rt(word), word, visitor)))
+    instruction_table!(arms(regimm(bits(word, 16, 5), word, visitor)))
 }
 
 /// `beq` and `bne`: hands the visitor the operation, rs, rt and the offset.
@@ -119,8 +113,8 @@ fn branch_equal<V: Visitor>(word: u32, op: BranchEqualOp, visitor: &mut V)
 {
     visitor.take(Inst::BranchEqual {
         op,
-        rs: rs(word),
-        rt: rt(word),
+        rs: bits(word, 21, 5),
+        rt: bits(word, 16, 5),
         offset: immediate(word),
     });
 }
@@ -143,8 +137,8 @@ fn with_immediate<V: Visitor>(word: u32, op: ImmediateOp, visitor: &mut V)
 {
     visitor.take(Inst::Immediate {
         op,
-        rt: rt(word),
-        rs: rs(word),
+        rt: bits(word, 16, 5),
+        rs: bits(word, 21, 5),
         imm: immediate(word),
     });
 }
@@ -155,7 +149,7 @@ fn load_upper<V: Visitor>(word: u32, visitor: &mut V)
     ensures { visitor.new ≡ V.after (meaning_of load_upper_row word) visitor.old }
 {
     visitor.take(Inst::LoadUpper {
-        rt: rt(word),
+        rt: bits(word, 16, 5),
         imm: immediate(word),
     });
 }
@@ -165,10 +159,8 @@ fn load_upper<V: Visitor>(word: u32, visitor: &mut V)
 fn load<V: Visitor>(word: u32, op: LoadOp, visitor: &mut V)
     ensures { visitor.new ≡ V.after (meaning_of (load_row op) word) visitor.old }
 {
-    visitor.take(Inst::Load {
-        op,
-        fields: scalar_memory_fields(word),
-    });
+    let fields = scalar_memory_fields(word);
+    visitor.take(Inst::Load { op, fields });
 }
 
 /// The scalar stores: hands the visitor the operation, rt, the offset and the base.
@@ -176,10 +168,8 @@ fn load<V: Visitor>(word: u32, op: LoadOp, visitor: &mut V)
 fn store<V: Visitor>(word: u32, op: StoreOp, visitor: &mut V)
     ensures { visitor.new ≡ V.after (meaning_of (store_row op) word) visitor.old }
 {
-    visitor.take(Inst::Store {
-        op,
-        fields: scalar_memory_fields(word),
-    });
+    let fields = scalar_memory_fields(word);
+    visitor.take(Inst::Store { op, fields });
 }
 
 /// The opcodes that select an instruction alone: hands the visitor that instruction, and returns true. If the opcode is reserved
@@ -189,7 +179,7 @@ pub fn visit_opcode<V: Visitor>(word: u32, visitor: &mut V) -> bool
     ensures known { result ≡ is_instruction (pick opcode_rows (value_at word (whole 26 6) * 2 ^ 26) word) }
     ensures state { visitor.new ≡ after_visit V.after (pick opcode_rows (value_at word (whole 26 6) * 2 ^ 26) word) visitor.old }
 {
-    instruction_table!(arms(opcode(opcode(word), word, visitor)))
+    instruction_table!(arms(opcode(bits(word, 26, 6), word, visitor)))
 }
 
 /// `mfc0` and `mtc0`: hands the visitor the operation, rt and the SP register.
@@ -199,8 +189,8 @@ fn move_sp<V: Visitor>(word: u32, op: MoveOp, visitor: &mut V)
 {
     visitor.take(Inst::MoveSp {
         op,
-        rt: rt(word),
-        register: sp_register(word),
+        rt: bits(word, 16, 5),
+        register: bits(word, 11, 4),
     });
 }
 
@@ -211,5 +201,5 @@ pub fn visit_cop0<V: Visitor>(word: u32, visitor: &mut V) -> bool
     ensures known { result ≡ is_instruction (pick cop0_rows (16 * 2 ^ 26 + value_at word (whole 21 5) * 2 ^ 21) word) }
     ensures state { visitor.new ≡ after_visit V.after (pick cop0_rows (16 * 2 ^ 26 + value_at word (whole 21 5) * 2 ^ 21) word) visitor.old }
 {
-    instruction_table!(arms(cop0(rs(word), word, visitor)))
+    instruction_table!(arms(cop0(bits(word, 21, 5), word, visitor)))
 }

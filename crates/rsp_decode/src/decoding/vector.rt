@@ -7,8 +7,7 @@ ghost use Rattle.rsp_decode.specs.Visit.{is_instruction, after_visit};
 ghost use Rattle.rsp_decode.specs.Table.{IsInstruction, value_at, whole, pick, pick_by_operation, meaning_of, vector_memory_in, cop2_rows, computing_rows, lwc2_rows, swc2_rows, move_vector_row, move_control_row, multiply_row, round_row, mpeg_row, read_accumulator_row, vector_add_row, vector_select_row, vector_clip_row, vector_merge_row, vector_logic_row, divide_row, idle_row};
 
 use crate::bit_fields::{
-    begins_half, byte_element, control, element, function, lane, operation, rd, rs, rt, vd,
-    vector_fields, vector_memory_fields, vt,
+    begins_half, bits, control, function, vector_fields, vector_memory_fields,
 };
 use crate::inst::Inst;
 use crate::rows::{arms, instruction_table};
@@ -26,9 +25,9 @@ fn move_vector<V: Visitor>(word: u32, op: MoveOp, visitor: &mut V)
 {
     visitor.take(Inst::MoveVector {
         op,
-        rt: rt(word),
-        vector: rd(word),
-        element: byte_element(word),
+        rt: bits(word, 16, 5),
+        vector: bits(word, 11, 5),
+        element: bits(word, 7, 4),
     });
 }
 
@@ -39,7 +38,7 @@ fn move_control<V: Visitor>(word: u32, op: MoveOp, visitor: &mut V)
 {
     visitor.take(Inst::MoveControl {
         op,
-        rt: rt(word),
+        rt: bits(word, 16, 5),
         control: control(word),
     });
 }
@@ -51,7 +50,7 @@ pub fn visit_cop2<V: Visitor>(word: u32, visitor: &mut V) -> bool
     ensures known { result ≡ is_instruction (pick cop2_rows (18 * 2 ^ 26 + value_at word (whole 21 5) * 2 ^ 21) word) }
     ensures state { visitor.new ≡ after_visit V.after (pick cop2_rows (18 * 2 ^ 26 + value_at word (whole 21 5) * 2 ^ 21) word) visitor.old }
 {
-    instruction_table!(arms(cop2(rs(word), word, visitor)))
+    instruction_table!(arms(cop2(bits(word, 21, 5), word, visitor)))
 }
 
 /// The multiplies: hands the visitor the operation, vd, vs, vt and the element.
@@ -59,10 +58,8 @@ pub fn visit_cop2<V: Visitor>(word: u32, visitor: &mut V) -> bool
 fn multiply<V: Visitor>(word: u32, op: VectorMultiplyOp, visitor: &mut V)
     ensures { visitor.new ≡ V.after (meaning_of (multiply_row op) word) visitor.old }
 {
-    visitor.take(Inst::Multiply {
-        op,
-        fields: vector_fields(word),
-    });
+    let fields = vector_fields(word);
+    visitor.take(Inst::Multiply { op, fields });
 }
 
 /// `vrndp` and `vrndn`: hands the visitor the operation, vd, vs, vt and the element.
@@ -70,10 +67,8 @@ fn multiply<V: Visitor>(word: u32, op: VectorMultiplyOp, visitor: &mut V)
 fn round<V: Visitor>(word: u32, op: VectorRoundOp, visitor: &mut V)
     ensures { visitor.new ≡ V.after (meaning_of (round_row op) word) visitor.old }
 {
-    visitor.take(Inst::Round {
-        op,
-        fields: vector_fields(word),
-    });
+    let fields = vector_fields(word);
+    visitor.take(Inst::Round { op, fields });
 }
 
 /// `vmulq` and `vmacq`: hands the visitor the operation, vd, vs, vt and the element.
@@ -81,10 +76,8 @@ fn round<V: Visitor>(word: u32, op: VectorRoundOp, visitor: &mut V)
 fn mpeg_multiply<V: Visitor>(word: u32, op: VectorMpegOp, visitor: &mut V)
     ensures { visitor.new ≡ V.after (meaning_of (mpeg_row op) word) visitor.old }
 {
-    visitor.take(Inst::MpegMultiply {
-        op,
-        fields: vector_fields(word),
-    });
+    let fields = vector_fields(word);
+    visitor.take(Inst::MpegMultiply { op, fields });
 }
 
 /// `vsar`: hands the visitor vd, vs, vt and the element.
@@ -92,9 +85,8 @@ fn mpeg_multiply<V: Visitor>(word: u32, op: VectorMpegOp, visitor: &mut V)
 fn read_accumulator<V: Visitor>(word: u32, visitor: &mut V)
     ensures { visitor.new ≡ V.after (meaning_of read_accumulator_row word) visitor.old }
 {
-    visitor.take(Inst::ReadAccumulator {
-        fields: vector_fields(word),
-    });
+    let fields = vector_fields(word);
+    visitor.take(Inst::ReadAccumulator { fields });
 }
 
 /// The sums, the differences and `vabs`: hands the visitor the operation, vd, vs, vt and the element.
@@ -102,10 +94,8 @@ fn read_accumulator<V: Visitor>(word: u32, visitor: &mut V)
 fn vector_add<V: Visitor>(word: u32, op: VectorAddOp, visitor: &mut V)
     ensures { visitor.new ≡ V.after (meaning_of (vector_add_row op) word) visitor.old }
 {
-    visitor.take(Inst::VectorAdd {
-        op,
-        fields: vector_fields(word),
-    });
+    let fields = vector_fields(word);
+    visitor.take(Inst::VectorAdd { op, fields });
 }
 
 /// The comparisons: hands the visitor the operation, vd, vs, vt and the element.
@@ -113,10 +103,8 @@ fn vector_add<V: Visitor>(word: u32, op: VectorAddOp, visitor: &mut V)
 fn vector_select<V: Visitor>(word: u32, op: VectorSelectOp, visitor: &mut V)
     ensures { visitor.new ≡ V.after (meaning_of (vector_select_row op) word) visitor.old }
 {
-    visitor.take(Inst::VectorSelect {
-        op,
-        fields: vector_fields(word),
-    });
+    let fields = vector_fields(word);
+    visitor.take(Inst::VectorSelect { op, fields });
 }
 
 /// The clips: hands the visitor the operation, vd, vs, vt and the element.
@@ -124,10 +112,8 @@ fn vector_select<V: Visitor>(word: u32, op: VectorSelectOp, visitor: &mut V)
 fn vector_clip<V: Visitor>(word: u32, op: VectorClipOp, visitor: &mut V)
     ensures { visitor.new ≡ V.after (meaning_of (vector_clip_row op) word) visitor.old }
 {
-    visitor.take(Inst::VectorClip {
-        op,
-        fields: vector_fields(word),
-    });
+    let fields = vector_fields(word);
+    visitor.take(Inst::VectorClip { op, fields });
 }
 
 /// `vmrg`: hands the visitor vd, vs, vt and the element.
@@ -135,9 +121,8 @@ fn vector_clip<V: Visitor>(word: u32, op: VectorClipOp, visitor: &mut V)
 fn vector_merge<V: Visitor>(word: u32, visitor: &mut V)
     ensures { visitor.new ≡ V.after (meaning_of vector_merge_row word) visitor.old }
 {
-    visitor.take(Inst::VectorMerge {
-        fields: vector_fields(word),
-    });
+    let fields = vector_fields(word);
+    visitor.take(Inst::VectorMerge { fields });
 }
 
 /// The logic instructions: hands the visitor the operation, vd, vs, vt and the element.
@@ -145,10 +130,8 @@ fn vector_merge<V: Visitor>(word: u32, visitor: &mut V)
 fn vector_logic<V: Visitor>(word: u32, op: VectorLogicOp, visitor: &mut V)
     ensures { visitor.new ≡ V.after (meaning_of (vector_logic_row op) word) visitor.old }
 {
-    visitor.take(Inst::VectorLogic {
-        op,
-        fields: vector_fields(word),
-    });
+    let fields = vector_fields(word);
+    visitor.take(Inst::VectorLogic { op, fields });
 }
 
 /// The divides and `vmov`: hands the visitor the operation, vd, the lane, vt and the element.
@@ -158,10 +141,10 @@ fn divide<V: Visitor>(word: u32, op: VectorDivideOp, visitor: &mut V)
 {
     visitor.take(Inst::Divide {
         op,
-        vd: vd(word),
-        lane: lane(word),
-        vt: vt(word),
-        element: element(word),
+        vd: bits(word, 6, 5),
+        lane: bits(word, 11, 3),
+        vt: bits(word, 16, 5),
+        element: bits(word, 21, 4),
     });
 }
 
@@ -211,10 +194,8 @@ fn vector_load<V: Visitor>(word: u32, op: VectorLoadOp, visitor: &mut V)
     requires { IsInstruction (Inst.VectorLoad op (vector_memory_in word)) }
     ensures { visitor.new ≡ V.after (Inst.VectorLoad op (vector_memory_in word)) visitor.old }
 {
-    visitor.take(Inst::VectorLoad {
-        op,
-        fields: vector_memory_fields(word),
-    });
+    let fields = vector_memory_fields(word);
+    visitor.take(Inst::VectorLoad { op, fields });
 }
 
 /// Opcode 50: hands the visitor the load that the operation selects, and returns true. If the word is reserved it returns false,
@@ -224,7 +205,7 @@ pub fn visit_lwc2<V: Visitor>(word: u32, visitor: &mut V) -> bool
     ensures known { result ≡ is_instruction (pick_by_operation lwc2_rows 50 word) }
     ensures state { visitor.new ≡ after_visit V.after (pick_by_operation lwc2_rows 50 word) visitor.old }
 {
-    instruction_table!(arms(lwc2(operation(word), word, visitor)))
+    instruction_table!(arms(lwc2(bits(word, 11, 5), word, visitor)))
 }
 
 /// The vector stores: hands the visitor the operation, vt, the element, the offset and the base.
@@ -233,10 +214,8 @@ fn vector_store<V: Visitor>(word: u32, op: VectorStoreOp, visitor: &mut V)
     requires { IsInstruction (Inst.VectorStore op (vector_memory_in word)) }
     ensures { visitor.new ≡ V.after (Inst.VectorStore op (vector_memory_in word)) visitor.old }
 {
-    visitor.take(Inst::VectorStore {
-        op,
-        fields: vector_memory_fields(word),
-    });
+    let fields = vector_memory_fields(word);
+    visitor.take(Inst::VectorStore { op, fields });
 }
 
 /// Opcode 58: hands the visitor the store that the operation selects, and returns true. If the word is reserved it returns false,
@@ -246,5 +225,5 @@ pub fn visit_swc2<V: Visitor>(word: u32, visitor: &mut V) -> bool
     ensures known { result ≡ is_instruction (pick_by_operation swc2_rows 58 word) }
     ensures state { visitor.new ≡ after_visit V.after (pick_by_operation swc2_rows 58 word) visitor.old }
 {
-    instruction_table!(arms(swc2(operation(word), word, visitor)))
+    instruction_table!(arms(swc2(bits(word, 11, 5), word, visitor)))
 }

@@ -14,63 +14,63 @@ state_by after s e same = e ∙ sym (ap (λ q. after_visit after q s) same)
 
 pub returns-in-0-clause-known : goal.returns-in-0-clause-known
 returns-in-0-clause-known g c =
-    known_by c.visit_special.ensures.known (special_is c.args.word (sym c.opcode.ensures.value ∙ c.in-0.is))
+    known_by c.visit_special.ensures.known (special_is c.args.word (sym c.bits.ensures.value ∙ c.in-0.is))
 
 pub returns-in-0-clause-state : goal.returns-in-0-clause-state
 returns-in-0-clause-state g c =
-    state_by g.V.Visitor.after c.args.visitor.now c.visit_special.ensures.state (special_is c.args.word (sym c.opcode.ensures.value ∙ c.in-0.is))
+    state_by g.V.Visitor.after c.args.visitor.now c.visit_special.ensures.state (special_is c.args.word (sym c.bits.ensures.value ∙ c.in-0.is))
 
 pub returns-in-1-clause-known : goal.returns-in-1-clause-known
 returns-in-1-clause-known g c =
-    known_by c.visit_regimm.ensures.known (regimm_is c.args.word (sym c.opcode.ensures.value ∙ c.in-1.is))
+    known_by c.visit_regimm.ensures.known (regimm_is c.args.word (sym c.bits.ensures.value ∙ c.in-1.is))
 
 pub returns-in-1-clause-state : goal.returns-in-1-clause-state
 returns-in-1-clause-state g c =
-    state_by g.V.Visitor.after c.args.visitor.now c.visit_regimm.ensures.state (regimm_is c.args.word (sym c.opcode.ensures.value ∙ c.in-1.is))
+    state_by g.V.Visitor.after c.args.visitor.now c.visit_regimm.ensures.state (regimm_is c.args.word (sym c.bits.ensures.value ∙ c.in-1.is))
 
 pub returns-in-16-clause-known : goal.returns-in-16-clause-known
 returns-in-16-clause-known g c =
-    known_by c.visit_cop0.ensures.known (cop0_is c.args.word (sym c.opcode.ensures.value ∙ c.in-16.is))
+    known_by c.visit_cop0.ensures.known (cop0_is c.args.word (sym c.bits.ensures.value ∙ c.in-16.is))
 
 pub returns-in-16-clause-state : goal.returns-in-16-clause-state
 returns-in-16-clause-state g c =
-    state_by g.V.Visitor.after c.args.visitor.now c.visit_cop0.ensures.state (cop0_is c.args.word (sym c.opcode.ensures.value ∙ c.in-16.is))
+    state_by g.V.Visitor.after c.args.visitor.now c.visit_cop0.ensures.state (cop0_is c.args.word (sym c.bits.ensures.value ∙ c.in-16.is))
 
 pub returns-then-word-eq1-clause-known : goal.returns-then-word-eq1-clause-known
 returns-then-word-eq1-clause-known g c =
     let bit = and_mask (c.args.word / 2 ^ 25) 1 in
-    known_by c.visit_computing.ensures.known (computing_is c.args.word (sym c.opcode.ensures.value ∙ c.in-18.is) (omega arith))
+    known_by c.visit_computing.ensures.known (computing_is c.args.word (sym c.bits.ensures.value ∙ c.in-18.is) (omega arith))
 
 pub returns-then-word-eq1-clause-state : goal.returns-then-word-eq1-clause-state
 returns-then-word-eq1-clause-state g c =
     let bit = and_mask (c.args.word / 2 ^ 25) 1 in
-    state_by g.V.Visitor.after c.args.visitor.now c.visit_computing.ensures.state (computing_is c.args.word (sym c.opcode.ensures.value ∙ c.in-18.is) (omega arith))
+    state_by g.V.Visitor.after c.args.visitor.now c.visit_computing.ensures.state (computing_is c.args.word (sym c.bits.ensures.value ∙ c.in-18.is) (omega arith))
 
 pub returns-else-word-eq1-clause-known : goal.returns-else-word-eq1-clause-known
 returns-else-word-eq1-clause-known g c =
     let bit = and_mask (c.args.word / 2 ^ 25) 1 in
-    known_by c.visit_cop2.ensures.known (cop2_is c.args.word (sym c.opcode.ensures.value ∙ c.in-18.is) (omega arith))
+    known_by c.visit_cop2.ensures.known (cop2_is c.args.word (sym c.bits.ensures.value ∙ c.in-18.is) (omega arith))
 
 pub returns-else-word-eq1-clause-state : goal.returns-else-word-eq1-clause-state
 returns-else-word-eq1-clause-state g c =
     let bit = and_mask (c.args.word / 2 ^ 25) 1 in
-    state_by g.V.Visitor.after c.args.visitor.now c.visit_cop2.ensures.state (cop2_is c.args.word (sym c.opcode.ensures.value ∙ c.in-18.is) (omega arith))
+    state_by g.V.Visitor.after c.args.visitor.now c.visit_cop2.ensures.state (cop2_is c.args.word (sym c.bits.ensures.value ∙ c.in-18.is) (omega arith))
 
 pub returns-in-50-clause-known : goal.returns-in-50-clause-known
 returns-in-50-clause-known g c =
-    known_by c.visit_lwc2.ensures.known (lwc2_is c.args.word (sym c.opcode.ensures.value ∙ c.in-50.is))
+    known_by c.visit_lwc2.ensures.known (lwc2_is c.args.word (sym c.bits.ensures.value ∙ c.in-50.is))
 
 pub returns-in-50-clause-state : goal.returns-in-50-clause-state
 returns-in-50-clause-state g c =
-    state_by g.V.Visitor.after c.args.visitor.now c.visit_lwc2.ensures.state (lwc2_is c.args.word (sym c.opcode.ensures.value ∙ c.in-50.is))
+    state_by g.V.Visitor.after c.args.visitor.now c.visit_lwc2.ensures.state (lwc2_is c.args.word (sym c.bits.ensures.value ∙ c.in-50.is))
 
 pub returns-in-58-clause-known : goal.returns-in-58-clause-known
 returns-in-58-clause-known g c =
-    known_by c.visit_swc2.ensures.known (swc2_is c.args.word (sym c.opcode.ensures.value ∙ c.in-58.is))
+    known_by c.visit_swc2.ensures.known (swc2_is c.args.word (sym c.bits.ensures.value ∙ c.in-58.is))
 
 pub returns-in-58-clause-state : goal.returns-in-58-clause-state
 returns-in-58-clause-state g c =
-    state_by g.V.Visitor.after c.args.visitor.now c.visit_swc2.ensures.state (swc2_is c.args.word (sym c.opcode.ensures.value ∙ c.in-58.is))
+    state_by g.V.Visitor.after c.args.visitor.now c.visit_swc2.ensures.state (swc2_is c.args.word (sym c.bits.ensures.value ∙ c.in-58.is))
 
 pub returns-in_default-clause-known : goal.returns-in_default-clause-known
 returns-in_default-clause-known g c =
