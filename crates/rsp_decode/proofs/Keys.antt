@@ -228,3 +228,5 @@ lwc2_is w at = by_operation_is w 50 at lwc2_rows (filter (wide 50) lwc2_rows) _ 
 
 pub swc2_is : (w : ℕ) → value_at w (whole 26 6) ≡ 58 → inst_of w ≡ pick_by_operation swc2_rows 58 w
 swc2_is w at = by_operation_is w 58 at swc2_rows (filter (wide 58) swc2_rows) _ refl refl refl refl refl refl refl
+
+pub ruleset keys = (special_is, regimm_is, cop0_is, cop2_is, computing_is, lwc2_is, swc2_is)

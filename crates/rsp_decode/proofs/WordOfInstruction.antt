@@ -35,24 +35,23 @@ abbrev sound : Row → Bool
 sound r = (bit_and r.value r.mask == r.value) && (apart_from r.mask (row_bit_fields r) && all_apart (row_bit_fields r))
 
 -- and no other row fits a word of the row
-record Good (r : Row) : Type 0 where
-  is_sound : sound r ≡ true
-  alone : filter (may_have r.mask r.value) rows ≡ r ∷ []
+abbrev Good : Row → Type 0
+Good r = (sound r ≡ true) × (filter (may_have r.mask r.value) rows ≡ r ∷ [])
 
 module _ (r : Row) (good : Good r) (vs : List ℕ) (fit : FitBitFields (row_bit_fields r) vs) where
   word_row : row_of (word_from r vs) ≡ Some r
   unfolding row_of
   word_row =
-      let tests = and_parts _ _ good.is_sound in
+      let tests = and_parts _ _ good.0 in
       let under : bit_and (word_from r vs) r.mask ≡ r.value =
       under_others (row_bit_fields r) vs r.value r.mask fit (and_parts _ _ tests.1).0 ∙ eqb-true _ _ tests.0 in
       narrowed (word_from r vs) r.mask r.value rows under
-      ∙ ap (find (fits (word_from r vs))) good.alone
+      ∙ ap (find (fits (word_from r vs))) good.1
       ∙ cond-true (fits (word_from r vs) r) (Some r) None (eq-eqb _ _ under)
 
   word_fields : fields r (word_from r vs) ≡ vs
   word_fields =
-      let tests = and_parts _ _ good.is_sound in
+      let tests = and_parts _ _ good.0 in
       let places = and_parts _ _ tests.1 in
       fields_back (row_bit_fields r) vs r.value fit places.1 (clear_from r.mask r.value (row_bit_fields r) (eqb-true _ _ tests.0) places.0)
 
@@ -66,35 +65,30 @@ module _ (r : Row) (good : Good r) (vs : List ℕ) (fit : FitBitFields (row_bit_
 
 -- each row of an instruction
 good_parts : (i : Inst) → Good (row_and_values i).0
-good_parts (Shift r rd rt amount) = elim r as (λ s. Good (shift_row s)) [ Sll ↦ record { is_sound = refl; alone = refl } | _ ↦ record { is_sound = refl; alone = refl } ]
-good_parts (ShiftBy r fields) = elim r as (λ s. Good (shift_by_row s)) [ Sllv ↦ record { is_sound = refl; alone = refl } | _ ↦ record { is_sound = refl; alone = refl } ]
-good_parts (JumpRegister rs) = record { is_sound = refl; alone = refl }
-good_parts (JumpLinkRegister rd rs) = record { is_sound = refl; alone = refl }
-good_parts Break = record { is_sound = refl; alone = refl }
-good_parts (Register r fields) = elim r as (λ s. Good (register_row s)) [ Add ↦ record { is_sound = refl; alone = refl } | _ ↦ record { is_sound = refl; alone = refl } ]
-good_parts (BranchSign r rs offset) = elim r as (λ s. Good (branch_sign_row s)) [ Bltz ↦ record { is_sound = refl; alone = refl } | _ ↦ record { is_sound = refl; alone = refl } ]
-good_parts (Jump r target) = elim r as (λ s. Good (jump_row s)) [ J ↦ record { is_sound = refl; alone = refl } | _ ↦ record { is_sound = refl; alone = refl } ]
-good_parts (BranchEqual r rs rt offset) = elim r as (λ s. Good (branch_equal_row s)) [ Beq ↦ record { is_sound = refl; alone = refl } | _ ↦ record { is_sound = refl; alone = refl } ]
-good_parts (Immediate r rt rs imm) = elim r as (λ s. Good (immediate_row s)) [ Addi ↦ record { is_sound = refl; alone = refl } | _ ↦ record { is_sound = refl; alone = refl } ]
-good_parts (LoadUpper rt imm) = record { is_sound = refl; alone = refl }
-good_parts (Load r fields) = elim r as (λ s. Good (load_row s)) [ Lb ↦ record { is_sound = refl; alone = refl } | _ ↦ record { is_sound = refl; alone = refl } ]
-good_parts (Store r fields) = elim r as (λ s. Good (store_row s)) [ Sb ↦ record { is_sound = refl; alone = refl } | _ ↦ record { is_sound = refl; alone = refl } ]
-good_parts (MoveSp r rt register) = elim r as (λ s. Good (move_sp_row s)) [ From ↦ record { is_sound = refl; alone = refl } | _ ↦ record { is_sound = refl; alone = refl } ]
-good_parts (MoveVector r rt vector' element) = elim r as (λ s. Good (move_vector_row s)) [ From ↦ record { is_sound = refl; alone = refl } | _ ↦ record { is_sound = refl; alone = refl } ]
-good_parts (MoveControl r rt control) = elim r as (λ s. Good (move_control_row s)) [ From ↦ record { is_sound = refl; alone = refl } | _ ↦ record { is_sound = refl; alone = refl } ]
-good_parts (Multiply r fields) = elim r as (λ s. Good (multiply_row s)) [ Vmulf ↦ record { is_sound = refl; alone = refl } | _ ↦ record { is_sound = refl; alone = refl } ]
-good_parts (Round r fields) = elim r as (λ s. Good (round_row s)) [ Vrndp ↦ record { is_sound = refl; alone = refl } | _ ↦ record { is_sound = refl; alone = refl } ]
-good_parts (MpegMultiply r fields) = elim r as (λ s. Good (mpeg_row s)) [ Vmulq ↦ record { is_sound = refl; alone = refl } | _ ↦ record { is_sound = refl; alone = refl } ]
-good_parts (ReadAccumulator fields) = record { is_sound = refl; alone = refl }
-good_parts (VectorAdd r fields) = elim r as (λ s. Good (vector_add_row s)) [ Vadd ↦ record { is_sound = refl; alone = refl } | _ ↦ record { is_sound = refl; alone = refl } ]
-good_parts (VectorSelect r fields) = elim r as (λ s. Good (vector_select_row s)) [ Vlt ↦ record { is_sound = refl; alone = refl } | _ ↦ record { is_sound = refl; alone = refl } ]
-good_parts (VectorClip r fields) = elim r as (λ s. Good (vector_clip_row s)) [ Vcl ↦ record { is_sound = refl; alone = refl } | _ ↦ record { is_sound = refl; alone = refl } ]
-good_parts (VectorMerge fields) = record { is_sound = refl; alone = refl }
-good_parts (VectorLogic r fields) = elim r as (λ s. Good (vector_logic_row s)) [ Vand ↦ record { is_sound = refl; alone = refl } | _ ↦ record { is_sound = refl; alone = refl } ]
-good_parts (Divide r vd lane vt element) = elim r as (λ s. Good (divide_row s)) [ Vrcp ↦ record { is_sound = refl; alone = refl } | _ ↦ record { is_sound = refl; alone = refl } ]
-good_parts (Idle r) = elim r as (λ s. Good (idle_row s)) [ Vnop ↦ record { is_sound = refl; alone = refl } | _ ↦ record { is_sound = refl; alone = refl } ]
-good_parts (VectorLoad r fields) = elim r as (λ s. Good (vector_load_row s)) [ Lbv ↦ record { is_sound = refl; alone = refl } | _ ↦ record { is_sound = refl; alone = refl } ]
-good_parts (VectorStore r fields) = elim r as (λ s. Good (vector_store_row s)) [ Sbv ↦ record { is_sound = refl; alone = refl } | _ ↦ record { is_sound = refl; alone = refl } ]
+good_parts (Shift Sll rd rt amount) = (refl, refl)
+good_parts (ShiftBy Sllv fields) = (refl, refl)
+good_parts (Register Add fields) = (refl, refl)
+good_parts (BranchSign Bltz rs offset) = (refl, refl)
+good_parts (Jump J target) = (refl, refl)
+good_parts (BranchEqual Beq rs rt offset) = (refl, refl)
+good_parts (Immediate Addi rt rs imm) = (refl, refl)
+good_parts (Load Lb fields) = (refl, refl)
+good_parts (Store Sb fields) = (refl, refl)
+good_parts (MoveSp From rt register) = (refl, refl)
+good_parts (MoveVector From rt vector' element) = (refl, refl)
+good_parts (MoveControl From rt control) = (refl, refl)
+good_parts (Multiply Vmulf fields) = (refl, refl)
+good_parts (Round Vrndp fields) = (refl, refl)
+good_parts (MpegMultiply Vmulq fields) = (refl, refl)
+good_parts (VectorAdd Vadd fields) = (refl, refl)
+good_parts (VectorSelect Vlt fields) = (refl, refl)
+good_parts (VectorClip Vcl fields) = (refl, refl)
+good_parts (VectorLogic Vand fields) = (refl, refl)
+good_parts (Divide Vrcp vd lane vt element) = (refl, refl)
+good_parts (Idle Vnop) = (refl, refl)
+good_parts (VectorLoad Lbv fields) = (refl, refl)
+good_parts (VectorStore Sbv fields) = (refl, refl)
+good_parts _ = (refl, refl)
 
 rebuilt : (i : Inst) → (row_and_values i).0.inst (row_and_values i).1 ≡ i
 rebuilt (MoveControl r rt Vco) = refl

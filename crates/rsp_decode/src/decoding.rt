@@ -32,6 +32,7 @@ pub fn decode(word: u32) -> Option<Inst>
 /// Decodes a word and hands its instruction, that of [`decode`], to a visitor. Returns whether there is one: for a reserved
 /// word it returns false, and the visitor is unchanged.
 #[inline(always)]
+#[tactic(auto, using(crate::proofs::Keys::keys))]
 pub fn visit<V: Visitor>(word: u32, visitor: &mut V) -> bool
     ensures known { result ≡ is_instruction (inst_of word) }
     ensures state { visitor.new ≡ after_visit V.after (inst_of word) visitor.old }
@@ -41,7 +42,7 @@ pub fn visit<V: Visitor>(word: u32, visitor: &mut V) -> bool
         1 => visit_regimm(word, visitor),
         16 => visit_cop0(word, visitor),
         18 => {
-            if word >> 25 & 1 == 1 {
+            if bits(word, 25, 1) == 1 {
                 visit_computing(word, visitor)
             } else {
                 visit_cop2(word, visitor)
