@@ -60,50 +60,39 @@ control_kept (suc zero) = refl
 control_kept (suc (suc n)) = let e : min 2 (suc (suc n)) ≡ 2 = omega arith in ap (λ m. control_number (control_of m)) e ∙ sym e
 
 immediate_kept : (r : ImmediateOp) → Kept (immediate_row r)
-immediate_kept r = elim r as (λ s. Kept (immediate_row s)) [ Addi ↦ λ w. refl | _ ↦ λ w. refl ]
+immediate_kept Addi w = refl
+immediate_kept _ w = refl
 
 move_control_kept : (r : MoveOp) → Kept (move_control_row r)
-move_control_kept r = λ w. ap (λ c. (move_control_row r, w / 2 ^ 16 % 2 ^ 5 ∷ c ∷ [])) (control_kept (w / 2 ^ 11 % 2 ^ 2))
+move_control_kept r w = ap (λ c. (move_control_row r, w / 2 ^ 16 % 2 ^ 5 ∷ c ∷ [])) (control_kept (w / 2 ^ 11 % 2 ^ 2))
 
 vector_load_kept : (r : VectorLoadOp) → Kept (vector_load_row r)
-vector_load_kept r = elim r as (λ s. Kept (vector_load_row s)) [ Lbv ↦ λ w. refl | _ ↦ λ w. refl ]
+vector_load_kept Lbv w = refl
+vector_load_kept _ w = refl
 
 vector_store_kept : (r : VectorStoreOp) → Kept (vector_store_row r)
-vector_store_kept r = elim r as (λ s. Kept (vector_store_row s)) [ Sbv ↦ λ w. refl | _ ↦ λ w. refl ]
+vector_store_kept Sbv w = refl
+vector_store_kept _ w = refl
 
-special_kept_rows : Each Kept special_rows
-special_kept_rows =
+all_kept : Each Kept rows
+all_kept =
     group shift_row (λ r w. refl) shift_ops
     & group shift_by_row (λ r w. refl) shift_by_ops
     & alone jump_register_row (λ w. refl)
     & alone jump_link_register_row (λ w. refl)
     & alone break_row (λ w. refl)
     & group register_row (λ r w. refl) register_ops
-
-regimm_kept_rows : Each Kept regimm_rows
-regimm_kept_rows = group branch_sign_row (λ r w. refl) (Bltz ∷ Bgez ∷ Bltzal ∷ Bgezal ∷ [])
-
-opcode_kept_rows : Each Kept opcode_rows
-opcode_kept_rows =
-    group branch_sign_row (λ r w. refl) (Blez ∷ Bgtz ∷ [])
+    & group branch_sign_row (λ r w. refl) (Bltz ∷ Bgez ∷ Bltzal ∷ Bgezal ∷ Blez ∷ Bgtz ∷ [])
     & group jump_row (λ r w. refl) jump_ops
     & group branch_equal_row (λ r w. refl) branch_equal_ops
     & group immediate_row immediate_kept immediate_ops
     & alone load_upper_row (λ w. refl)
     & group load_row (λ r w. refl) load_ops
     & group store_row (λ r w. refl) store_ops
-
-cop0_kept_rows : Each Kept cop0_rows
-cop0_kept_rows = group move_sp_row (λ r w. refl) (From ∷ To ∷ [])
-
-cop2_kept_rows : Each Kept cop2_rows
-cop2_kept_rows =
-    group move_vector_row (λ r w. refl) (From ∷ To ∷ [])
+    & group move_sp_row (λ r w. refl) (From ∷ To ∷ [])
+    & group move_vector_row (λ r w. refl) (From ∷ To ∷ [])
     & group move_control_row move_control_kept (From ∷ To ∷ [])
-
-computing_kept_rows : Each Kept computing_rows
-computing_kept_rows =
-    group multiply_row (λ r w. refl) multiply_ops
+    & group multiply_row (λ r w. refl) multiply_ops
     & group round_row (λ r w. refl) round_ops
     & group mpeg_row (λ r w. refl) mpeg_ops
     & alone read_accumulator_row (λ w. refl)
@@ -114,23 +103,8 @@ computing_kept_rows =
     & group vector_logic_row (λ r w. refl) vector_logic_ops
     & group divide_row (λ r w. refl) divide_ops
     & group idle_row (λ r w. refl) idle_ops
-
-lwc2_kept_rows : Each Kept lwc2_rows
-lwc2_kept_rows = group vector_load_row vector_load_kept vector_load_ops
-
-swc2_kept_rows : Each Kept swc2_rows
-swc2_kept_rows = group vector_store_row vector_store_kept vector_store_ops
-
-all_kept : Each Kept rows
-all_kept =
-    special_kept_rows
-    & regimm_kept_rows
-    & opcode_kept_rows
-    & cop0_kept_rows
-    & cop2_kept_rows
-    & computing_kept_rows
-    & lwc2_kept_rows
-    & swc2_kept_rows
+    & group vector_load_row vector_load_kept vector_load_ops
+    & group vector_store_row vector_store_kept vector_store_ops
 
 pub decoded : (w : ℕ) (i : Inst) → inst_of w ≡ Some i → IsInstruction i × (canonical_of w ≡ Some (word_of i))
 unfolding inst_of canonical_of row_of

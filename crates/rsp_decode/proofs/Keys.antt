@@ -5,6 +5,7 @@ use Rattle.std.specs.List.{list_all}
 use Rattle.std.proofs.lemmas.Nat.{and_assoc, and_comm, shr_split, mod_below}
 use Rattle.std.proofs.lemmas.Nat.Bits.{and_high}
 use Rattle.std.specs.Int.Bits.{and_block, and_zero_r}
+use Rattle.std.proofs.lemmas.Bool.Decides.{nat_tests}
 use Rattle.std.proofs.lemmas.Bool.{cases_eq, eqb-true, eqb-false, ne_eqb, eq-eqb, and_parts, cases_Bool, not-false, false≢true, cond-true, cond-false}
 use Rattle.rsp_decode.specs.declared.inst.Inst.{Inst}
 use Rattle.rsp_decode.specs.Table.{Row, rows, row_of, fits, fields, inst_of, pick, pick_by_operation, value_at, whole, special_rows, regimm_rows, opcode_rows, cop0_rows, cop2_rows, computing_rows, lwc2_rows, swc2_rows}
@@ -26,30 +27,26 @@ left_out : (p keep : Row → Bool) (rs : List Row) → ((r : Row) → keep r ≡
 left_out p keep [] drops = refl
 left_out p keep (r ∷ rs) drops =
     elim (cases_Bool (keep r)) [
-      | inl kept ↦
-          ap (cond (p r) (Some r)) (left_out p keep rs drops)
-          ∙ sym (ap (find p) (cond-true _ (r ∷ filter keep rs) (filter keep rs) kept))
-      | inr dropped ↦
-          cond-false _ (Some r) (find p rs) (drops r dropped)
-          ∙ left_out p keep rs drops
-          ∙ sym (ap (find p) (cond-false _ (r ∷ filter keep rs) (filter keep rs) dropped))
+      | inl kept ↦ rw kept (ap (cond (p r) (Some r)) (left_out p keep rs drops))
+      | inr dropped ↦ rw dropped (rw (drops r dropped) (left_out p keep rs drops))
     ]
 
 pub narrowed : (w a x : ℕ) (rs : List Row) → bit_and w a ≡ x → find (fits w) rs ≡ find (fits w) (filter (may_have a x) rs)
 narrowed w a x rs under = left_out (fits w) (may_have a x) rs (λ r. cannot w a x r under)
 
--- rows of one mask go by their values
-pub by_value : (w mask key : ℕ) (rs : List Row) → bit_and w mask ≡ key → list_all (λ (r : Row). r.mask == mask) rs ≡ true → find (fits w) rs ≡ find (λ (r : Row). r.value == key) rs
-by_value w mask key [] under all = refl
-by_value w mask key (r ∷ rs) under all =
+-- tests that agree on rows of a kind find the same among such rows
+find_agrees : (p q kind : Row → Bool) (rs : List Row) → ((r : Row) → kind r ≡ true → p r ≡ q r) → list_all kind rs ≡ true → find p rs ≡ find q rs
+find_agrees p q kind [] same all = refl
+find_agrees p q kind (r ∷ rs) same all =
     let both = and_parts _ _ all in
-    let tail = by_value w mask key rs under both.1 in
-    let same : bit_and w r.mask ≡ key = ap (bit_and w) (eqb-true _ _ both.0) ∙ under in
-    let test : fits w r ≡ (r.value == key) = ap (λ n. eqb n r.value) same ∙ turned key r.value in
-    ap (λ t. cond t (Some r) (find (fits w) rs)) test ∙ ap (cond (r.value == key) (Some r)) tail
+    ap (λ t. cond t (Some r) (find p rs)) (same r both.0) ∙ ap (cond (q r) (Some r)) (find_agrees p q kind rs same both.1)
+
+-- rows of one mask go by their values
+by_value : (w mask key : ℕ) (rs : List Row) → bit_and w mask ≡ key → list_all (λ (r : Row). r.mask == mask) rs ≡ true → find (fits w) rs ≡ find (λ (r : Row). r.value == key) rs
+by_value w mask key rs under = find_agrees _ _ (λ (r : Row). r.mask == mask) rs tests
   where
-    turned : (a b : ℕ) → eqb a b ≡ eqb b a
-    turned a b = elim (cases_Bool (eqb b a)) [ inl t ↦ eq-eqb a b (sym (eqb-true b a t)) ∙ sym t | inr f ↦ ne_eqb a b (λ e. eqb-false b a f (sym e)) ∙ sym f ]
+    tests : (r : Row) → (r.mask == mask) ≡ true → fits w r ≡ (r.value == key)
+    tests r same = rw (eqb-true _ _ same) (rw under (grind (arith, nat_tests)))
 
 -- a mask in two parts, above bit k and below it
 block : (w k a b : ℕ) → b < 2 ^ k → bit_and w (a * 2 ^ k + b) ≡ bit_and (w / 2 ^ k) a * 2 ^ k + bit_and (w % 2 ^ k) b
@@ -152,9 +149,14 @@ plain_is w own =
     let key = value_at w (whole 26 6) * 2 ^ 26 in
     from_rows w _ (left_out (fits w) has_own rows (λ r. shared_not_fit w r own) ∙ by_value w 0xfc000000 key opcode_rows (field_under w 26 6) refl)
 
--- The vector loads and stores, of which operation 9 has two more bits of mask
-abbrev wide : ℕ → Row → Bool
-wide o r = not ((r.mask == 0xfc00fb80) && (r.value == o * 2 ^ 26 + 9 * 2 ^ 11))
+-- a row of a vector load or store: that of operation 9 has two more bits of mask
+abbrev nine_is_narrow : ℕ → Row → Bool
+nine_is_narrow o r = r.mask == (if r.value == o * 2 ^ 26 + 9 * 2 ^ 11 then 0xfc00fb80 else 0xfc00f800)
+
+find_unless : (b : Bool) (p : Row → Bool) (rs : List Row) → find (λ r. not b && p r) rs ≡ (if b then None else find p rs)
+find_unless true p [] = refl
+find_unless true p (r ∷ rs) = find_unless true p rs
+find_unless false p rs = refl
 
 module _ (w o : ℕ) (at : value_at w (whole 26 6) ≡ o) where
   under_narrow : bit_and w 0xfc00fb80 ≡ o * 2 ^ 26 + (value_at w (whole 11 5) * 2 ^ 11 + value_at w (whole 7 3) * 2 ^ 7)
@@ -163,70 +165,32 @@ module _ (w o : ℕ) (at : value_at w (whole 26 6) ≡ o) where
   under_wide : bit_and w 0xfc00f800 ≡ o * 2 ^ 26 + value_at w (whole 11 5) * 2 ^ 11
   under_wide = two_fields w 26 63 0xf800 _ _ (lit< tt) (opcode_under w o at) (field_under w 11 5)
 
-  low_three : value_at w (whole 7 3) < 8
-  low_three = mod_below (w / 2 ^ 7) 8 (lit< tt)
+  abbrev refused : Bool
+  refused = (value_at w (whole 11 5) == 9) && not (value_at w (whole 7 4) % 8 == 0)
 
-  narrow_test : (r : Row) → value_at w (whole 11 5) ≢ 9 → wide o r ≡ false → fits w r ≡ false
-  narrow_test r other f =
-      let row_and_values = and_parts _ _ (not-false _ f) in
-      ne_eqb _ _ (λ fit. other (nine (sym (ap (bit_and w) (eqb-true _ _ row_and_values.0)) ∙ fit ∙ eqb-true _ _ row_and_values.1)))
-    where
-      nine : bit_and w 0xfc00fb80 ≡ o * 2 ^ 26 + 9 * 2 ^ 11 → value_at w (whole 11 5) ≡ 9
-      nine fit = omega (arith, under_narrow, low_three)
+  tests : (r : Row) → nine_is_narrow o r ≡ true → fits w r ≡ (not refused && (r.value == o * 2 ^ 26 + value_at w (whole 11 5) * 2 ^ 11))
+  tests r narrow =
+      elim (cases_eq r.value (o * 2 ^ 26 + 9 * 2 ^ 11)) [
+        | inl nine ↦ rw (eqb-true _ _ narrow) (rw nine (rw (eq-eqb (o * 2 ^ 26 + 9 * 2 ^ 11) _ refl) (rw under_narrow (grind (arith, nat_tests)))))
+        | inr other ↦ rw (eqb-true _ _ narrow) (rw (ne_eqb _ _ other) (rw under_wide (grind (arith, nat_tests, other))))
+      ]
 
-  value_test : (r : Row) → value_at w (whole 11 5) ≢ 9 → wide o r ≡ false → (r.value == o * 2 ^ 26 + value_at w (whole 11 5) * 2 ^ 11) ≡ false
-  value_test r other f =
-      ne_eqb _ _ (λ e. other (nine (sym (eqb-true _ _ (and_parts _ _ (not-false _ f)).1) ∙ e)))
-    where
-      nine : o * 2 ^ 26 + 9 * 2 ^ 11 ≡ o * 2 ^ 26 + value_at w (whole 11 5) * 2 ^ 11 → value_at w (whole 11 5) ≡ 9
-      nine both = omega arith
-
-  other_is : (rs rest : List Row) → filter (may_have 0xfc000000 (o * 2 ^ 26)) rows ≡ rs → filter (wide o) rs ≡ rest → list_all (λ (r : Row). r.mask == 0xfc00f800) rest ≡ true → value_at w (whole 11 5) ≢ 9 → inst_of w ≡ pick rs (o * 2 ^ 26 + value_at w (whole 11 5) * 2 ^ 11) w
+  by_operation_is : (rs : List Row) → filter (may_have 0xfc000000 (o * 2 ^ 26)) rows ≡ rs → list_all (nine_is_narrow o) rs ≡ true → inst_of w ≡ pick_by_operation rs o w
   unfolding inst_by
-  other_is rs rest which wider all other =
-      let key = o * 2 ^ 26 + value_at w (whole 11 5) * 2 ^ 11 in
+  by_operation_is rs which narrow =
       from_rows w _ (narrowed w 0xfc000000 (o * 2 ^ 26) rows (opcode_under w o at) ∙ ap (find (fits w)) which
-      ∙ left_out (fits w) (wide o) rs (λ r. narrow_test r other) ∙ ap (find (fits w)) wider
-      ∙ by_value w 0xfc00f800 key rest under_wide all
-      ∙ sym (left_out (λ (r : Row). r.value == key) (wide o) rs (λ r. value_test r other) ∙ ap (find (λ (r : Row). r.value == key)) wider))
-
-  narrow_fits : (r : Row) → r.mask ≡ 0xfc00fb80 → r.value ≡ o * 2 ^ 26 + 9 * 2 ^ 11 → value_at w (whole 11 5) ≡ 9 → fits w r ≡ (value_at w (whole 7 4) % 8 == 0)
-  narrow_fits r m v nine =
-      elim (cases_Bool (value_at w (whole 7 4) % 8 == 0)) [
-        | inl t ↦ eq-eqb _ _ (let z = eqb-true (value_at w (whole 7 4) % 8) 0 t in ap (bit_and w) m ∙ under_narrow ∙ equal z ∙ sym v) ∙ sym t
-        | inr f ↦ ne_eqb _ _ (λ e. eqb-false (value_at w (whole 7 4) % 8) 0 f (unequal (sym (ap (bit_and w) m) ∙ e ∙ v))) ∙ sym f
-      ]
+      ∙ find_agrees _ _ (nine_is_narrow o) rs tests narrow
+      ∙ find_unless refused _ rs)
+      ∙ turned refused _
     where
-      equal : value_at w (whole 7 4) % 8 ≡ 0 → o * 2 ^ 26 + (value_at w (whole 11 5) * 2 ^ 11 + value_at w (whole 7 3) * 2 ^ 7) ≡ o * 2 ^ 26 + 9 * 2 ^ 11
-      equal z = omega arith
-
-      unequal : bit_and w 0xfc00fb80 ≡ o * 2 ^ 26 + 9 * 2 ^ 11 → value_at w (whole 7 4) % 8 ≡ 0
-      unequal e = omega (arith, under_narrow)
-
-  nine_is : (r : Row) → filter (may_have 0xfc00f800 (o * 2 ^ 26 + 9 * 2 ^ 11)) rows ≡ r ∷ [] → r.mask ≡ 0xfc00fb80 → r.value ≡ o * 2 ^ 26 + 9 * 2 ^ 11 → value_at w (whole 11 5) ≡ 9 → inst_of w ≡ (if not (value_at w (whole 7 4) % 8 == 0) then None else Some (r.inst (fields r w)))
-  unfolding inst_by
-  nine_is r which m v nine =
-      from_rows w _ (narrowed w 0xfc00f800 (o * 2 ^ 26 + 9 * 2 ^ 11) rows (under_wide ∙ ap (λ n. o * 2 ^ 26 + n * 2 ^ 11) nine) ∙ ap (find (fits w)) which)
-      ∙ ap (λ t. inst_by w (cond t (Some r) None)) (narrow_fits r m v nine)
-      ∙ turned (value_at w (whole 7 4) % 8 == 0)
-    where
-      turned : (b : Bool) → inst_by w (cond b (Some r) None) ≡ (if not b then None else Some (r.inst (fields r w)))
-      turned true = refl
-      turned false = refl
-
-  by_operation_is : (rs rest : List Row) (r : Row) → filter (may_have 0xfc000000 (o * 2 ^ 26)) rows ≡ rs → filter (wide o) rs ≡ rest → list_all (λ (s : Row). s.mask == 0xfc00f800) rest ≡ true → filter (may_have 0xfc00f800 (o * 2 ^ 26 + 9 * 2 ^ 11)) rows ≡ r ∷ [] → r.mask ≡ 0xfc00fb80 → r.value ≡ o * 2 ^ 26 + 9 * 2 ^ 11 → pick rs (o * 2 ^ 26 + 9 * 2 ^ 11) w ≡ Some (r.inst (fields r w)) → inst_of w ≡ pick_by_operation rs o w
-  by_operation_is rs rest r which wider all one_row m v picked =
-      elim (cases_eq (value_at w (whole 11 5)) 9) [
-        | inl nine ↦ nine_is r one_row m v nine ∙ sym (ap (cond (not (value_at w (whole 7 4) % 8 == 0)) None) (ap (λ n. pick rs (o * 2 ^ 26 + n * 2 ^ 11) w) nine ∙ picked))
-            ∙ ap (λ t. if t && not (value_at w (whole 7 4) % 8 == 0) then None else pick rs (o * 2 ^ 26 + value_at w (whole 11 5) * 2 ^ 11) w) (sym (eq-eqb _ _ nine))
-        | inr other ↦ other_is rs rest which wider all other
-            ∙ ap (λ t. if t && not (value_at w (whole 7 4) % 8 == 0) then None else pick rs (o * 2 ^ 26 + value_at w (whole 11 5) * 2 ^ 11) w) (sym (ne_eqb _ _ other))
-      ]
+      turned : (b : Bool) (found : Option Row) → inst_by w (if b then None else found) ≡ (if b then None else inst_by w found)
+      turned true found = refl
+      turned false found = refl
 
 pub lwc2_is : (w : ℕ) → value_at w (whole 26 6) ≡ 50 → inst_of w ≡ pick_by_operation lwc2_rows 50 w
-lwc2_is w at = by_operation_is w 50 at lwc2_rows (filter (wide 50) lwc2_rows) _ refl refl refl refl refl refl refl
+lwc2_is w at = by_operation_is w 50 at lwc2_rows refl refl
 
 pub swc2_is : (w : ℕ) → value_at w (whole 26 6) ≡ 58 → inst_of w ≡ pick_by_operation swc2_rows 58 w
-swc2_is w at = by_operation_is w 58 at swc2_rows (filter (wide 58) swc2_rows) _ refl refl refl refl refl refl refl
+swc2_is w at = by_operation_is w 58 at swc2_rows refl refl
 
 pub ruleset keys = (special_is, regimm_is, cop0_is, cop2_is, computing_is, lwc2_is, swc2_is)

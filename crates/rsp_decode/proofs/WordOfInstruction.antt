@@ -92,8 +92,6 @@ good_parts _ = (refl, refl)
 
 rebuilt : (i : Inst) → (row_and_values i).0.inst (row_and_values i).1 ≡ i
 rebuilt (MoveControl r rt Vco) = refl
-rebuilt (MoveControl r rt Vcc) = refl
-rebuilt (MoveControl r rt Vce) = refl
 rebuilt _ = refl
 
 pub round_trip : (i : Inst) → IsInstruction i → inst_of (word_of i) ≡ Some i
