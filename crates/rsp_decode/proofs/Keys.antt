@@ -54,26 +54,23 @@ block w k a b low =
     ap (λ n. bit_and n (a * 2 ^ k + b)) (sym (shr_split w k))
     ∙ and_block k (w / 2 ^ k) a (w % 2 ^ k) b (mod_below w (2 ^ k) (pow_pos k)) low
 
-upper : (w k a : ℕ) → bit_and w (a * 2 ^ k) ≡ bit_and (w / 2 ^ k) a * 2 ^ k
-upper w k a = ap (bit_and w) (sym (add-zero (a * 2 ^ k))) ∙ block w k a 0 (pow_pos k) ∙ ap (λ n. bit_and (w / 2 ^ k) a * 2 ^ k + n) (and_zero_r (w % 2 ^ k)) ∙ add-zero _
-
-lower : (w k b : ℕ) → b < 2 ^ k → bit_and w b ≡ bit_and (w % 2 ^ k) b
-lower w k b low = let p : bit_and w (0 * 2 ^ k + b) ≡ bit_and (w / 2 ^ k) 0 * 2 ^ k + bit_and (w % 2 ^ k) b = block w k 0 b low in
-    ap (bit_and w) (omega arith) ∙ p ∙ ap (λ n. n * 2 ^ k + bit_and (w % 2 ^ k) b) (and_zero_r (w / 2 ^ k)) ∙ omega arith
-
-and_join : (w k a b : ℕ) → b < 2 ^ k → bit_and w (a * 2 ^ k + b) ≡ bit_and w (a * 2 ^ k) + bit_and w b
-and_join w k a b low = let p = block w k a b low in let q = upper w k a in let r = lower w k b low in omega arith
+-- two fields, the upper of which begins at bit k or above
+two_fields : (w k a b x y : ℕ) → b < 2 ^ k → bit_and w (a * 2 ^ k) ≡ x → bit_and w b ≡ y → bit_and w (a * 2 ^ k + b) ≡ x + y
+two_fields w k a b x y low p q =
+    let both = block w k a b low in
+    let upper = block w k a 0 (pow_pos k) in
+    let lower = block w k 0 b low in
+    grind (arith, and_zero_r, both, upper, lower, p, q)
 
 -- a field under the mask of its bits
 field_under : (w low width : ℕ) → bit_and w (2 ^ (width + low) - 2 ^ low) ≡ value_at w (whole low width) * 2 ^ low
 field_under w low width = and_high w width low
 
--- two fields, the upper of which begins at bit k or above
-two_fields : (w k a b x y : ℕ) → b < 2 ^ k → bit_and w (a * 2 ^ k) ≡ x → bit_and w b ≡ y → bit_and w (a * 2 ^ k + b) ≡ x + y
-two_fields w k a b x y low p q = and_join w k a b low ∙ ap (λ n. n + bit_and w b) p ∙ ap (λ n. x + n) q
-
 opcode_under : (w o : ℕ) → value_at w (whole 26 6) ≡ o → bit_and w 0xfc000000 ≡ o * 2 ^ 26
 opcode_under w o e = field_under w 26 6 ∙ ap (λ n. n * 2 ^ 26) e
+
+opcode_and : (w o b field : ℕ) → b < 2 ^ 26 → value_at w (whole 26 6) ≡ o → bit_and w b ≡ field → bit_and w (63 * 2 ^ 26 + b) ≡ o * 2 ^ 26 + field
+opcode_and w o b field low at e = two_fields w 26 63 b (o * 2 ^ 26) field low (opcode_under w o at) e
 
 function_under : (w : ℕ) → bit_and w 63 ≡ value_at w (whole 0 6)
 function_under w = field_under w 0 6 ∙ mul-one (value_at w (whole 0 6))
@@ -94,36 +91,33 @@ found_in w a x mask key rs which all under at_key =
 
 module _ (w : ℕ) where
   pub special_is : value_at w (whole 26 6) ≡ 0 → inst_of w ≡ pick special_rows (value_at w (whole 0 6)) w
-  special_is o =
-      let under : bit_and w 0xfc000000 ≡ 0 = opcode_under w 0 o in
-      found_in w 0xfc000000 0 0xfc00003f (value_at w (whole 0 6)) special_rows refl refl under
-      (two_fields w 26 63 63 0 _ (lit< tt) under (function_under w) ∙ zero-add _)
+  special_is at =
+      found_in w 0xfc000000 0 0xfc00003f _ special_rows refl refl (opcode_under w 0 at)
+      (opcode_and w 0 63 _ (lit< tt) at (function_under w) ∙ zero-add _)
 
   pub regimm_is : value_at w (whole 26 6) ≡ 1 → inst_of w ≡ pick regimm_rows (2 ^ 26 + value_at w (whole 16 5) * 2 ^ 16) w
-  regimm_is o =
-      let under : bit_and w 0xfc000000 ≡ 2 ^ 26 = opcode_under w 1 o in
-      found_in w 0xfc000000 (2 ^ 26) 0xfc1f0000 (2 ^ 26 + value_at w (whole 16 5) * 2 ^ 16) regimm_rows refl refl under
-      (two_fields w 26 63 0x1f0000 (2 ^ 26) _ (lit< tt) under (field_under w 16 5))
+  regimm_is at =
+      found_in w 0xfc000000 (2 ^ 26) 0xfc1f0000 _ regimm_rows refl refl (opcode_under w 1 at)
+      (opcode_and w 1 0x1f0000 _ (lit< tt) at (field_under w 16 5))
 
   pub cop0_is : value_at w (whole 26 6) ≡ 16 → inst_of w ≡ pick cop0_rows (16 * 2 ^ 26 + value_at w (whole 21 5) * 2 ^ 21) w
-  cop0_is o =
-      let under : bit_and w 0xfc000000 ≡ 16 * 2 ^ 26 = opcode_under w 16 o in
-      found_in w 0xfc000000 (16 * 2 ^ 26) 0xffe00000 (16 * 2 ^ 26 + value_at w (whole 21 5) * 2 ^ 21) cop0_rows refl refl under
-      (two_fields w 26 63 0x3e00000 (16 * 2 ^ 26) _ (lit< tt) under (field_under w 21 5))
+  cop0_is at =
+      found_in w 0xfc000000 (16 * 2 ^ 26) 0xffe00000 _ cop0_rows refl refl (opcode_under w 16 at)
+      (opcode_and w 16 0x3e00000 _ (lit< tt) at (field_under w 21 5))
+
+  -- opcode 18 with bit 25
+  bit_under : (bit : ℕ) → value_at w (whole 26 6) ≡ 18 → value_at w (whole 25 1) ≡ bit → bit_and w 0xfe000000 ≡ 18 * 2 ^ 26 + bit * 2 ^ 25
+  bit_under bit at e = opcode_and w 18 0x2000000 _ (lit< tt) at (field_under w 25 1 ∙ ap (λ n. n * 2 ^ 25) e)
 
   pub cop2_is : value_at w (whole 26 6) ≡ 18 → value_at w (whole 25 1) ≡ 0 → inst_of w ≡ pick cop2_rows (18 * 2 ^ 26 + value_at w (whole 21 5) * 2 ^ 21) w
-  cop2_is o bit =
-      let opcode : bit_and w 0xfc000000 ≡ 18 * 2 ^ 26 = opcode_under w 18 o in
-      found_in w 0xfe000000 (18 * 2 ^ 26) 0xffe00000 (18 * 2 ^ 26 + value_at w (whole 21 5) * 2 ^ 21) cop2_rows refl refl
-      (two_fields w 26 63 0x2000000 (18 * 2 ^ 26) 0 (lit< tt) opcode (field_under w 25 1 ∙ ap (λ n. n * 2 ^ 25) bit))
-      (two_fields w 26 63 0x3e00000 (18 * 2 ^ 26) _ (lit< tt) opcode (field_under w 21 5))
+  cop2_is at bit =
+      found_in w 0xfe000000 (18 * 2 ^ 26) 0xffe00000 _ cop2_rows refl refl (bit_under 0 at bit)
+      (opcode_and w 18 0x3e00000 _ (lit< tt) at (field_under w 21 5))
 
   pub computing_is : value_at w (whole 26 6) ≡ 18 → value_at w (whole 25 1) ≡ 1 → inst_of w ≡ pick computing_rows (18 * 2 ^ 26 + 2 ^ 25 + value_at w (whole 0 6)) w
-  computing_is o bit =
-      let opcode : bit_and w 0xfc000000 ≡ 18 * 2 ^ 26 = opcode_under w 18 o in
-      let under : bit_and w 0xfe000000 ≡ 37 * 2 ^ 25 = two_fields w 26 63 0x2000000 (18 * 2 ^ 26) (2 ^ 25) (lit< tt) opcode (field_under w 25 1 ∙ ap (λ n. n * 2 ^ 25) bit) in
-      found_in w 0xfe000000 (37 * 2 ^ 25) 0xfe00003f (37 * 2 ^ 25 + value_at w (whole 0 6)) computing_rows refl refl under
-      (two_fields w 25 127 63 (37 * 2 ^ 25) _ (lit< tt) under (function_under w))
+  computing_is at bit =
+      found_in w 0xfe000000 (37 * 2 ^ 25) 0xfe00003f _ computing_rows refl refl (bit_under 1 at bit)
+      (two_fields w 25 127 63 (37 * 2 ^ 25) _ (lit< tt) (bit_under 1 at bit) (function_under w))
 
 -- the opcodes of several rows
 abbrev pub is_shared : ℕ → Bool
@@ -160,10 +154,10 @@ find_unless false p rs = refl
 
 module _ (w o : ℕ) (at : value_at w (whole 26 6) ≡ o) where
   under_narrow : bit_and w 0xfc00fb80 ≡ o * 2 ^ 26 + (value_at w (whole 11 5) * 2 ^ 11 + value_at w (whole 7 3) * 2 ^ 7)
-  under_narrow = two_fields w 26 63 0xfb80 _ _ (lit< tt) (opcode_under w o at) (two_fields w 11 31 0x380 _ _ (lit< tt) (field_under w 11 5) (field_under w 7 3))
+  under_narrow = opcode_and w o 0xfb80 _ (lit< tt) at (two_fields w 11 31 0x380 _ _ (lit< tt) (field_under w 11 5) (field_under w 7 3))
 
   under_wide : bit_and w 0xfc00f800 ≡ o * 2 ^ 26 + value_at w (whole 11 5) * 2 ^ 11
-  under_wide = two_fields w 26 63 0xf800 _ _ (lit< tt) (opcode_under w o at) (field_under w 11 5)
+  under_wide = opcode_and w o 0xf800 _ (lit< tt) at (field_under w 11 5)
 
   abbrev refused : Bool
   refused = (value_at w (whole 11 5) == 9) && not (value_at w (whole 7 4) % 8 == 0)
