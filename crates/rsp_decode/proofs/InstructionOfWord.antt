@@ -45,8 +45,8 @@ found : (P : Row → Type 0) (p : Row → Bool) (rs : List Row) → All_of P rs 
 found P p [] all r e = cc
 found P p (x ∷ xs) all r e =
     elim (cases_Bool (p x)) [
-      | inl t ↦ let same : x ≡ r = let s : Some x ≡ Some r = sym (cond-true _ (Some x) (find p xs) t) ∙ e in cc in subst P same all.0
-      | inr f ↦ found P p xs all.1 r (sym (cond-false _ (Some x) (find p xs) f) ∙ e)
+      | inl t ↦ subst P (let s : Some x ≡ Some r = rw t at e in cc) all.0
+      | inr f ↦ found P p xs all.1 r (rw f at e)
     ]
 
 -- the row and the fields of what it means are its own

@@ -57,6 +57,7 @@ pub fn visit<V: Visitor>(word: u32, visitor: &mut V) -> bool
 /// Whether a word is the canonical one of its instruction: each bit that neither selects the row nor belongs to a named
 /// field is 0. False for a reserved word.
 #[inline]
+#[tactic(auto, using(crate::proofs::InstructionOfWord::reserved))]
 pub fn is_canonical(word: u32) -> bool
     ensures { IsTrue result ↔ (canonical_of word ≡ Some word) }
 {

@@ -14,6 +14,7 @@ use crate::vector::{Control, VectorLoadOp, VectorStoreOp};
 ///
 /// Requires fields in the ranges of [`Inst`], as in each instruction from [`decode`](crate::decode).
 #[inline]
+#[tactic(auto, using(crate::proofs::WordOfInstruction::round_trip, crate::proofs::WordOfInstruction::word_of_is_canonical))]
 pub fn encode(inst: &Inst) -> u32
     requires { IsInstruction inst.now }
     ensures value { result ≡ word_of inst.now }
