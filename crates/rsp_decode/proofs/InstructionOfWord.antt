@@ -1,7 +1,7 @@
 -- Decoding: what a word means has the word's row and its fields.
 use Rattle.std.proofs.Common.{◌≡◌, refl, sym, ap, subst, ◌∙◌, ℕ, zero, suc, ◌/◌, ◌%◌, ◌^◌, min, List, [], ◌∷◌, ◌++◌, Bool, arith, Option, inl, inr}
 use Rattle.std.specs.Prelude.{find, map, Some, None, option_map, IfSome}
-use Rattle.std.proofs.lemmas.Bool.{cond-true, cond-false, cases_Bool}
+use Rattle.std.proofs.lemmas.Bool.{cases_Bool}
 use Rattle.rsp_decode.specs.declared.inst.Inst.{Inst}
 use Rattle.rsp_decode.specs.declared.scalar.BranchSignOp.TheVariants.{Bltz, Bgez, Bltzal, Bgezal, Blez, Bgtz}
 use Rattle.rsp_decode.specs.declared.scalar.ImmediateOp.{ImmediateOp}
@@ -12,7 +12,7 @@ use Rattle.rsp_decode.specs.declared.vector.VectorLoadOp.{VectorLoadOp}
 use Rattle.rsp_decode.specs.declared.vector.VectorLoadOp.TheVariants.{Lbv}
 use Rattle.rsp_decode.specs.declared.vector.VectorStoreOp.{VectorStoreOp}
 use Rattle.rsp_decode.specs.declared.vector.VectorStoreOp.TheVariants.{Sbv}
-use Rattle.rsp_decode.specs.Table.{shift_ops, shift_by_ops, register_ops, jump_ops, branch_equal_ops, immediate_ops, load_ops, store_ops, multiply_ops, round_ops, mpeg_ops, vector_add_ops, vector_select_ops, vector_clip_ops, vector_logic_ops, divide_ops, idle_ops, vector_load_ops, vector_store_ops, Row, rows, row_of, fits, fields, row_bit_fields, inst_of, canonical_of, meaning_of, word_from, word_of, row_and_values, IsInstruction, FitBitFields, control_of, control_number, special_rows, regimm_rows, opcode_rows, cop0_rows, cop2_rows, computing_rows, lwc2_rows, swc2_rows, shift_row, shift_by_row, jump_register_row, jump_link_register_row, break_row, register_row, branch_sign_row, jump_row, branch_equal_row, immediate_row, load_upper_row, load_row, store_row, move_sp_row, move_vector_row, move_control_row, multiply_row, round_row, mpeg_row, read_accumulator_row, vector_add_row, vector_select_row, vector_clip_row, vector_merge_row, vector_logic_row, divide_row, idle_row, vector_load_row, vector_store_row}
+use Rattle.rsp_decode.specs.Table.{shift_ops, shift_by_ops, register_ops, jump_ops, branch_equal_ops, immediate_ops, load_ops, store_ops, multiply_ops, round_ops, mpeg_ops, vector_add_ops, vector_select_ops, vector_clip_ops, vector_logic_ops, divide_ops, idle_ops, vector_load_ops, vector_store_ops, Row, rows, row_of, fits, fields, row_bit_fields, inst_of, canonical_of, meaning_of, word_from, word_of, row_and_values, IsInstruction, FitBitFields, control_of, control_number, shift_row, shift_by_row, jump_register_row, jump_link_register_row, break_row, register_row, branch_sign_row, jump_row, branch_equal_row, immediate_row, load_upper_row, load_row, store_row, move_sp_row, move_vector_row, move_control_row, multiply_row, round_row, mpeg_row, read_accumulator_row, vector_add_row, vector_select_row, vector_clip_row, vector_merge_row, vector_logic_row, divide_row, idle_row, vector_load_row, vector_store_row}
 use Rattle.rsp_decode.proofs.BitFields.{fit_read}
 
 -- a fact of each row of a list

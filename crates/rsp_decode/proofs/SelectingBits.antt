@@ -1,7 +1,7 @@
 -- The bits that select an instruction, from the number of its name.
-use Rattle.std.proofs.Common.{◌≡◌, refl, ℕ, ◌+◌, bit_or}
+use Rattle.std.proofs.Common.{◌≡◌, refl, ◌+◌, bit_or}
 use Rattle.rsp_decode.specs.declared.vector.VectorLogicOp.{VectorLogicOp}
-use Rattle.rsp_decode.specs.declared.vector.VectorLogicOp.TheVariants.{Vand, Vnand, Vor, Vnor, Vxor, Vnxor}
+use Rattle.rsp_decode.specs.declared.vector.VectorLogicOp.TheVariants.{Vand}
 use Rattle.rsp_decode.specs.declared.vector.VectorDivideOp.{VectorDivideOp}
 use Rattle.rsp_decode.specs.declared.vector.VectorDivideOp.TheVariants.{Vrcp}
 use Rattle.rsp_decode.specs.contracts.vector.VectorLogicOp as logic_type

@@ -24,9 +24,9 @@ use Rattle.rsp_decode.specs.declared.vector.VectorDivideOp.TheVariants.{Vrcp}
 use Rattle.rsp_decode.specs.declared.vector.VectorNopOp.TheVariants.{Vnop}
 use Rattle.rsp_decode.specs.declared.vector.VectorLoadOp.TheVariants.{Lbv}
 use Rattle.rsp_decode.specs.declared.vector.VectorStoreOp.TheVariants.{Sbv}
-use Rattle.rsp_decode.specs.declared.vector.Control.TheVariants.{Vco, Vcc, Vce}
-use Rattle.rsp_decode.specs.declared.inst.Inst.TheVariants.{BranchEqual, BranchSign, Break, Idle, Immediate, Jump, JumpLinkRegister, JumpRegister, Divide, Load, LoadUpper, MoveControl, MoveSp, MoveVector, Register, Shift, ShiftBy, Store, Multiply, Round, MpegMultiply, ReadAccumulator, VectorAdd, VectorSelect, VectorClip, VectorMerge, VectorLogic, VectorLoad, VectorStore}
-use Rattle.rsp_decode.specs.Table.{Row, rows, row_of, fits, fields, row_bit_fields, inst_of, canonical_of, word_from, word_of, row_and_values, IsInstruction, FitBitFields, shift_row, shift_by_row, register_row, branch_sign_row, jump_row, branch_equal_row, immediate_row, load_row, store_row, move_sp_row, move_vector_row, move_control_row, multiply_row, round_row, mpeg_row, vector_add_row, vector_select_row, vector_clip_row, vector_logic_row, divide_row, idle_row, vector_load_row, vector_store_row}
+use Rattle.rsp_decode.specs.declared.vector.Control.TheVariants.{Vco}
+use Rattle.rsp_decode.specs.declared.inst.Inst.TheVariants.{BranchEqual, BranchSign, Idle, Immediate, Jump, Divide, Load, MoveControl, MoveSp, MoveVector, Register, Shift, ShiftBy, Store, Multiply, Round, MpegMultiply, VectorAdd, VectorSelect, VectorClip, VectorLogic, VectorLoad, VectorStore}
+use Rattle.rsp_decode.specs.Table.{Row, rows, row_of, fits, fields, row_bit_fields, inst_of, canonical_of, word_from, word_of, row_and_values, IsInstruction, FitBitFields}
 use Rattle.rsp_decode.proofs.Keys.{may_have, narrowed}
 use Rattle.rsp_decode.proofs.BitFields.{apart_from, all_apart, under_others, fields_back, clear_from}
 
