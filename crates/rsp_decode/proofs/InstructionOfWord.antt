@@ -1,6 +1,8 @@
 -- Decoding: what a word means has the word's row and its fields.
 use Rattle.std.proofs.Common.{◌≡◌, refl, sym, ap, subst, ◌∙◌, ℕ, zero, suc, ◌/◌, ◌%◌, ◌^◌, min, List, [], ◌∷◌, ◌++◌, Bool, arith, Option, inl, inr}
-use Rattle.std.specs.Prelude.{find, map, Some, None, option_map, IfSome}
+use Rattle.std.specs.Prelude.{find, map, Some, None, option_map, IfSome, ⊤}
+use Rattle.std.specs.Option.{option_or}
+use Rattle.std.proofs.lemmas.List.Folds.{find-append}
 use Rattle.std.proofs.lemmas.Bool.{cases_Bool}
 use Rattle.rsp_decode.specs.declared.inst.Inst.{Inst}
 use Rattle.rsp_decode.specs.declared.scalar.BranchSignOp.TheVariants.{Bltz, Bgez, Bltzal, Bgezal, Blez, Bgtz}
@@ -15,43 +17,35 @@ use Rattle.rsp_decode.specs.declared.vector.VectorStoreOp.TheVariants.{Sbv}
 use Rattle.rsp_decode.specs.Table.{shift_ops, shift_by_ops, register_ops, jump_ops, branch_equal_ops, immediate_ops, load_ops, store_ops, multiply_ops, round_ops, mpeg_ops, vector_add_ops, vector_select_ops, vector_clip_ops, vector_logic_ops, divide_ops, idle_ops, vector_load_ops, vector_store_ops, Row, rows, row_of, fits, fields, row_bit_fields, inst_of, canonical_of, meaning_of, word_from, word_of, row_and_values, IsInstruction, FitBitFields, control_of, control_number, shift_row, shift_by_row, jump_register_row, jump_link_register_row, break_row, register_row, branch_sign_row, jump_row, branch_equal_row, immediate_row, load_upper_row, load_row, store_row, move_sp_row, move_vector_row, move_control_row, multiply_row, round_row, mpeg_row, read_accumulator_row, vector_add_row, vector_select_row, vector_clip_row, vector_merge_row, vector_logic_row, divide_row, idle_row, vector_load_row, vector_store_row}
 use Rattle.rsp_decode.proofs.BitFields.{fit_read}
 
--- a fact of each row of a list
-abbrev All_of : (Row → Type 0) → List Row → Type 0
-All_of P [] = Unit {0}
-All_of P (r ∷ rs) = P r × All_of P rs
-
-record Each (P : Row → Type 0) (rs : List Row) : Type 0 where
-  each : All_of P rs
-
-infixl 60 ◌&◌
-◌&◌ : {P : Row → Type 0} {xs ys : List Row} → Each P xs → Each P ys → Each P (xs ++ ys)
-◌&◌ {P} {xs} {ys} a b = record { each = go xs a.each }
-  where
-    go : (zs : List Row) → All_of P zs → All_of P (zs ++ ys)
-    go [] c = b.each
-    go (z ∷ zs) c = (c.0, go zs c.1)
-
-group : {A : Type 0} {P : Row → Type 0} (f : A → Row) → ((a : A) → P (f a)) → (xs : List A) → Each P (map f xs)
-group {A} {P} f all xs = record { each = go xs }
-  where
-    go : (ys : List A) → All_of P (map f ys)
-    go [] = tt
-    go (y ∷ ys) = (all y, go ys)
-
-alone : {P : Row → Type 0} (r : Row) → P r → Each P (r ∷ [])
-alone r p = record { each = (p, tt) }
-
-found : (P : Row → Type 0) (p : Row → Bool) (rs : List Row) → All_of P rs → (r : Row) → find p rs ≡ Some r → P r
-found P p [] all r e = cc
-found P p (x ∷ xs) all r e =
-    elim (cases_Bool (p x)) [
-      | inl t ↦ subst P (let s : Some x ≡ Some r = rw t at e in cc) all.0
-      | inr f ↦ found P p xs all.1 r (rw f at e)
-    ]
-
 -- the row and the fields of what it means are its own
 abbrev Kept : Row → Type 0
 Kept r = (w : ℕ) → row_and_values (meaning_of r w) ≡ (r, fields r w)
+
+-- so is each row that a test finds in a list
+record AllKept (rs : List Row) : Type 0 where
+  kept : (p : Row → Bool) (r : Row) → find p rs ≡ Some r → Kept r
+
+infixl 60 ◌&◌
+◌&◌ : {xs ys : List Row} → AllKept xs → AllKept ys → AllKept (xs ++ ys)
+◌&◌ {xs} {ys} a b = record { kept = λ p r e. go p r (find p xs) refl (sym (find-append p xs ys) ∙ e) }
+  where
+    go : (p : Row → Bool) (r : Row) (o : Option Row) → find p xs ≡ o → option_or o (find p ys) ≡ Some r → Kept r
+    go p r None is e = b.kept p r e
+    go p r (Some x) is e = a.kept p r (is ∙ e)
+
+group : {A : Type 0} (f : A → Row) → ((a : A) → Kept (f a)) → (ops : List A) → AllKept (map f ops)
+group {A} f all ops = record { kept = λ p r. go p r ops }
+  where
+    go : (p : Row → Bool) (r : Row) (ops : List A) → find p (map f ops) ≡ Some r → Kept r
+    go p r [] e = cc
+    go p r (a ∷ ops) e =
+        elim (cases_Bool (p (f a))) [
+          | inl passes ↦ subst Kept (let same : Some (f a) ≡ Some r = rw passes at e in cc) (all a)
+          | inr fails ↦ go p r ops (rw fails at e)
+        ]
+
+alone : (r : Row) → Kept r → AllKept (r ∷ [])
+alone r kept = group (λ (one : ⊤). r) (λ one. kept) (tt ∷ [])
 
 -- control register 3 is read as 2
 control_kept : (n : ℕ) → control_number (control_of (min 2 n)) ≡ min 2 n
@@ -74,7 +68,7 @@ vector_store_kept : (r : VectorStoreOp) → Kept (vector_store_row r)
 vector_store_kept Sbv w = refl
 vector_store_kept _ w = refl
 
-all_kept : Each Kept rows
+all_kept : AllKept rows
 all_kept =
     group shift_row (λ r w. refl) shift_ops
     & group shift_by_row (λ r w. refl) shift_by_ops
@@ -114,7 +108,7 @@ decoded w i e = go (row_of w) refl e
     go None row e = absurd cc
     go (Some r) row e =
         let same : r.inst (fields r w) ≡ i = cc in
-        let p : row_and_values i ≡ (r, fields r w) = ap row_and_values (sym same) ∙ found Kept (fits w) rows all_kept.each r row w in (
+        let p : row_and_values i ≡ (r, fields r w) = ap row_and_values (sym same) ∙ all_kept.kept (fits w) r row w in (
           subst (λ (q : Row × List ℕ). FitBitFields (row_bit_fields q.0) q.1) (sym p) (fit_read w (row_bit_fields r)),
           ap (option_map (λ (s : Row). word_from s (fields s w))) row ∙ ap (λ (q : Row × List ℕ). Some (word_from q.0 q.1)) (sym p),
         )

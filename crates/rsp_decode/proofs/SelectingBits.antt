@@ -1,5 +1,5 @@
--- The bits that select an instruction, from the number of its name.
-use Rattle.std.proofs.Common.{◌≡◌, refl, ◌+◌, bit_or}
+-- The bits that select an instruction, in groups with more names than a tactic splits.
+use Rattle.std.proofs.Common.{◌≡◌, refl, ◌+◌, ◌*◌, ◌^◌, bit_or}
 use Rattle.rsp_decode.specs.declared.vector.VectorLogicOp.{VectorLogicOp}
 use Rattle.rsp_decode.specs.declared.vector.VectorLogicOp.TheVariants.{Vand}
 use Rattle.rsp_decode.specs.declared.vector.VectorDivideOp.{VectorDivideOp}
@@ -9,8 +9,10 @@ use Rattle.rsp_decode.specs.contracts.vector.VectorDivideOp as divide_type
 use Rattle.rsp_decode.specs.Table.{vector_logic_selector, divide_selector}
 use denote.Enum.Declared.{tag_of}
 
-pub logic_value : (op : VectorLogicOp) → bit_or 1241513984 (tag_of logic_type.the_type op + 40) ≡ (vector_logic_selector op).value
-logic_value op = elim op as (λ o. bit_or 1241513984 (tag_of logic_type.the_type o + 40) ≡ (vector_logic_selector o).value) [ Vand ↦ refl | _ ↦ refl ]
+pub logic_value : (op : VectorLogicOp) → bit_or (18 * 2 ^ 26 + 2 ^ 25) (tag_of logic_type.the_type op + 40) ≡ (vector_logic_selector op).value
+logic_value Vand = refl
+logic_value _ = refl
 
-pub divide_value : (op : VectorDivideOp) → bit_or 1241513984 (tag_of divide_type.the_type op + 48) ≡ (divide_selector op).value
-divide_value op = elim op as (λ o. bit_or 1241513984 (tag_of divide_type.the_type o + 48) ≡ (divide_selector o).value) [ Vrcp ↦ refl | _ ↦ refl ]
+pub divide_value : (op : VectorDivideOp) → bit_or (18 * 2 ^ 26 + 2 ^ 25) (tag_of divide_type.the_type op + 48) ≡ (divide_selector op).value
+divide_value Vrcp = refl
+divide_value _ = refl
