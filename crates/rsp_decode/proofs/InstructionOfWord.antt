@@ -117,10 +117,6 @@ pub decoded_instruction : (w : ℕ) (o : Option Inst) → inst_of w ≡ o → If
 decoded_instruction w None e = tt
 decoded_instruction w (Some i) e = (decoded w i e).0
 
-pub decoded_canonical : (w : ℕ) (o : Option Inst) → inst_of w ≡ o → IfSome o (λ i. canonical_of w ≡ Some (word_of i))
-decoded_canonical w None e = tt
-decoded_canonical w (Some i) e = (decoded w i e).1
-
 pub reserved : (w : ℕ) → inst_of w ≡ None → canonical_of w ≡ None
 unfolding inst_of canonical_of
 reserved w e = go (row_of w) e

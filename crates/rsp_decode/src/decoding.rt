@@ -17,7 +17,7 @@ use vector::{visit_computing, visit_cop2, visit_lwc2, visit_swc2};
 /// The instruction of a word, by the instruction table: None exactly for a reserved word, which no row of the table fits.
 /// Bits that neither select the row nor belong to a named field are ignored.
 #[inline]
-#[tactic(auto, using(crate::proofs::InstructionOfWord::decoded_instruction, crate::proofs::InstructionOfWord::decoded_canonical))]
+#[tactic(auto, using(crate::proofs::InstructionOfWord::decoded, crate::proofs::InstructionOfWord::decoded_instruction))]
 pub fn decode(word: u32) -> Option<Inst>
     ensures value { result ≡ inst_of word }
     // The fields are in the ranges of `Inst`, and `encode` gives the word's canonical form.
