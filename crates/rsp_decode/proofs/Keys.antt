@@ -1,5 +1,5 @@
 -- Which rows a word can have, from the fields that select them.
-use Rattle.std.proofs.Common.{◌≡◌, refl, sym, ap, ◌∙◌, ℕ, ◌+◌, ◌-◌, ◌*◌, ◌/◌, ◌%◌, ◌^◌, ◌<◌, List, [], ◌∷◌, Bool, true, false, not, ◌&&◌, ◌||◌, cond, bit_and, arith, Option, inl, inr, lit<, pow_pos, zero-add, mul-one}
+use Rattle.std.proofs.Common.{◌≡◌, refl, sym, ap, ◌∙◌, ℕ, ◌+◌, ◌-◌, ◌*◌, ◌/◌, ◌%◌, ◌^◌, ◌<◌, List, [], ◌∷◌, Bool, true, false, not, ◌&&◌, ◌||◌, cond, bit_and, arith, ◌≢◌, Option, inl, inr, lit<, pow_pos, zero-add, mul-one}
 use Rattle.std.specs.Prelude.{find, option_map, ◌==◌, filter, None, Some, if◌then◌else◌}
 use Rattle.std.specs.List.{list_all}
 use Rattle.std.proofs.lemmas.Nat.{and_assoc, and_comm, shr_split, mod_below}
@@ -120,7 +120,7 @@ module _ (w : ℕ) where
       (two_fields w 25 127 63 (37 * 2 ^ 25) _ (lit< tt) (bit_under 1 at bit) (function_under w))
 
 -- the opcodes of several rows
-abbrev pub is_shared : ℕ → Bool
+abbrev is_shared : ℕ → Bool
 is_shared o = (o == 0) || (o == 1) || (o == 16) || (o == 18) || (o == 50) || (o == 58)
 
 abbrev has_own : Row → Bool
@@ -137,11 +137,11 @@ shared_not_fit w r own not_own =
         sym (field_under w 26 6) ∙ ap (bit_and w) (sym covers) ∙ sym (and_assoc 0xfc000000 w r.mask) ∙ ap (λ n. bit_and n 0xfc000000) e ∙ field_under r.value 26 6 in
         omega arith
 
-pub plain_is : (w : ℕ) → is_shared (value_at w (whole 26 6)) ≡ false → inst_of w ≡ pick opcode_rows (value_at w (whole 26 6) * 2 ^ 26) w
+pub plain_is : (w o : ℕ) → value_at w (whole 26 6) ≡ o → o ≢ 0 → o ≢ 1 → o ≢ 16 → o ≢ 18 → o ≢ 50 → o ≢ 58 → inst_of w ≡ pick opcode_rows (o * 2 ^ 26) w
 unfolding inst_by
-plain_is w own =
-    let key = value_at w (whole 26 6) * 2 ^ 26 in
-    from_rows w _ (left_out (fits w) has_own rows (λ r. shared_not_fit w r own) ∙ by_value w 0xfc000000 key opcode_rows (field_under w 26 6) refl)
+plain_is w o at special regimm cop0 cop2 lwc2 swc2 =
+    let own : is_shared (value_at w (whole 26 6)) ≡ false = rw at (grind (arith, nat_tests)) in
+    from_rows w _ (left_out (fits w) has_own rows (λ r. shared_not_fit w r own) ∙ by_value w 0xfc000000 (o * 2 ^ 26) opcode_rows (opcode_under w o at) refl)
 
 -- a row of a vector load or store: that of operation 9 has two more bits of mask
 abbrev nine_is_narrow : ℕ → Row → Bool
@@ -187,4 +187,4 @@ lwc2_is w at = by_operation_is w 50 at lwc2_rows refl refl
 pub swc2_is : (w : ℕ) → value_at w (whole 26 6) ≡ 58 → inst_of w ≡ pick_by_operation swc2_rows 58 w
 swc2_is w at = by_operation_is w 58 at swc2_rows refl refl
 
-pub ruleset keys = (special_is, regimm_is, cop0_is, cop2_is, computing_is, lwc2_is, swc2_is)
+pub ruleset keys = (special_is, regimm_is, cop0_is, cop2_is, computing_is, plain_is, lwc2_is, swc2_is)
