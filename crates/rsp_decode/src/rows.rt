@@ -128,15 +128,16 @@ pub(crate) const LWC2: u32 = 50 << 26;
 
 pub(crate) const SWC2: u32 = 58 << 26;
 
-/// The rows of the instruction table, a section for each match of the decoder. A line has the value that the match compares, the
-/// row's name, its operands, and the decoder's call. The macro `$then` gets `$more` of the caller, then all sections.
+/// The rows of the instruction table, a section for each match of the decoder. A section begins with the mask of its rows, and their
+/// value by the number n of a line. A line has the number that the match compares, the row's name, its operands, and the decoder's
+/// call. The macro `$then` gets `$more` of the caller, then all sections.
 ///
-/// A section lists its reserved values one by one, so that the jump of its match needs no test of a range, or has an arm
+/// A section lists its reserved numbers one by one, so that the jump of its match needs no test of a range, or has an arm
 /// `otherwise`.
 macro_rules! instruction_table {
     ($then:ident $more:tt) => {
         $then! { $more
-            special {
+            special (mask 0xfc00_003f, value 0 | n << 0) {
                 0x00 "sll" SHIFT shift(ShiftOp::Sll);
                 0x02 "srl" SHIFT shift(ShiftOp::Srl);
                 0x03 "sra" SHIFT shift(ShiftOp::Sra);
@@ -161,14 +162,14 @@ macro_rules! instruction_table {
                     0x30 0x31 0x32 0x33 0x34 0x35 0x36 0x37 0x38 0x39 0x3a 0x3b 0x3c 0x3d 0x3e
                     0x3f;
             }
-            regimm {
+            regimm (mask 0xfc1f_0000, value REGIMM | n << 16) {
                 0x00 "bltz" BRANCH_SIGN branch_sign(BranchSignOp::Bltz);
                 0x01 "bgez" BRANCH_SIGN branch_sign(BranchSignOp::Bgez);
                 0x10 "bltzal" BRANCH_SIGN branch_sign(BranchSignOp::Bltzal);
                 0x11 "bgezal" BRANCH_SIGN branch_sign(BranchSignOp::Bgezal);
                 otherwise false;
             }
-            opcode {
+            opcode (mask 0xfc00_0000, value 0 | n << 26) {
                 0x06 "blez" BRANCH_SIGN branch_sign(BranchSignOp::Blez);
                 0x07 "bgtz" BRANCH_SIGN branch_sign(BranchSignOp::Bgtz);
                 0x02 "j" JUMP jump(JumpOp::J);
@@ -196,12 +197,12 @@ macro_rules! instruction_table {
                     0x1c 0x1d 0x1e 0x1f 0x22 0x26 0x2a 0x2c 0x2d 0x2e 0x2f 0x30 0x31 0x32 0x33
                     0x34 0x35 0x36 0x37 0x38 0x39 0x3a 0x3b 0x3c 0x3d 0x3e 0x3f;
             }
-            cop0 {
+            cop0 (mask 0xffe0_0000, value COP0 | n << 21) {
                 0x00 "mfc0" MOVE_SP move_sp(MoveOp::From);
                 0x04 "mtc0" MOVE_SP move_sp(MoveOp::To);
                 otherwise false;
             }
-            cop2 {
+            cop2 (mask 0xffe0_0000, value COP2 | n << 21) {
                 0x00 "mfc2" MOVE_VECTOR move_vector(MoveOp::From);
                 0x04 "mtc2" MOVE_VECTOR move_vector(MoveOp::To);
                 0x02 "cfc2" MOVE_CONTROL move_control(MoveOp::From);
@@ -209,7 +210,7 @@ macro_rules! instruction_table {
                 reserved 0x01 0x03 0x05 0x07 0x08 0x09 0x0a 0x0b 0x0c 0x0d 0x0e 0x0f 0x10 0x11
                     0x12 0x13 0x14 0x15 0x16 0x17 0x18 0x19 0x1a 0x1b 0x1c 0x1d 0x1e 0x1f;
             }
-            products {
+            products (mask 0xfe00_003f, value COMPUTING | n << 0) {
                 0x00 "vmulf" VECTORS multiply(VectorMultiplyOp::Vmulf);
                 0x01 "vmulu" VECTORS multiply(VectorMultiplyOp::Vmulu);
                 0x04 "vmudl" VECTORS multiply(VectorMultiplyOp::Vmudl);
@@ -228,7 +229,7 @@ macro_rules! instruction_table {
                 0x0b "vmacq" VECTORS mpeg_multiply(VectorMpegOp::Vmacq);
                 otherwise false;
             }
-            others {
+            others (mask 0xfe00_003f, value COMPUTING | n << 0) {
                 0x1d "vsar" VECTORS read_accumulator;
                 0x10 "vadd" VECTORS vector_add(VectorAddOp::Vadd);
                 0x11 "vsub" VECTORS vector_add(VectorAddOp::Vsub);
@@ -261,7 +262,7 @@ macro_rules! instruction_table {
                 reserved 0x12 0x16 0x17 0x18 0x19 0x1a 0x1b 0x1c 0x1e 0x1f 0x2e 0x2f 0x38 0x39
                     0x3a 0x3b 0x3c 0x3d 0x3e;
             }
-            lwc2 {
+            lwc2 (mask 0xfc00_f800, value LWC2 | n << 11) {
                 0x00 "lbv" VECTOR_MEMORY_1 vector_load(VectorLoadOp::Lbv);
                 0x01 "lsv" VECTOR_MEMORY_2 vector_load(VectorLoadOp::Lsv);
                 0x02 "llv" VECTOR_MEMORY_4 vector_load(VectorLoadOp::Llv);
@@ -276,7 +277,7 @@ macro_rules! instruction_table {
                 reserved 0x09 0x0a 0x0c 0x0d 0x0e 0x0f 0x10 0x11 0x12 0x13 0x14 0x15 0x16 0x17
                     0x18 0x19 0x1a 0x1b 0x1c 0x1d 0x1e 0x1f;
             }
-            swc2 {
+            swc2 (mask 0xfc00_f800, value SWC2 | n << 11) {
                 0x00 "sbv" VECTOR_MEMORY_1 vector_store(VectorStoreOp::Sbv);
                 0x01 "ssv" VECTOR_MEMORY_2 vector_store(VectorStoreOp::Ssv);
                 0x02 "slv" VECTOR_MEMORY_4 vector_store(VectorStoreOp::Slv);
@@ -296,51 +297,28 @@ macro_rules! instruction_table {
     };
 }
 
-/// The bits that select a row of a match.
-macro_rules! mask {
-    (special) => { 0xfc00_003f };
-    (regimm) => { 0xfc1f_0000 };
-    (opcode) => { 0xfc00_0000 };
-    (cop0) => { 0xffe0_0000 };
-    (cop2) => { 0xffe0_0000 };
-    (products) => { 0xfe00_003f };
-    (others) => { 0xfe00_003f };
-    (lwc2) => { 0xfc00_f800 };
-    (swc2) => { 0xfc00_f800 };
-    (lwc2 begins_half) => { 0xfc00_fb80 };
-    (swc2 begins_half) => { 0xfc00_fb80 };
-}
-
-/// What those bits are.
-macro_rules! value {
-    (special $n:literal) => { $n };
-    (regimm $n:literal) => { REGIMM | $n << 16 };
-    (opcode $n:literal) => { $n << 26 };
-    (cop0 $n:literal) => { COP0 | $n << 21 };
-    (cop2 $n:literal) => { COP2 | $n << 21 };
-    (products $n:literal) => { COMPUTING | $n };
-    (others $n:literal) => { COMPUTING | $n };
-    (lwc2 $n:literal) => { LWC2 | $n << 11 };
-    (swc2 $n:literal) => { SWC2 | $n << 11 };
+/// What a guard adds to the mask of its section.
+macro_rules! guard_mask {
+    (begins_half) => { 0x0380 };
 }
 
 /// The lines of all sections as rows.
 macro_rules! all_rows {
-    (() $($section:ident {
+    (() $($section:ident (mask $mask:literal, value $shared:tt | n << $low:literal) {
         $($n:literal $($guard:ident)? $name:literal $operands:ident $call:ident $(($op:path))?;)*
         $(reserved $($reserved:literal)*;)?
         $(otherwise $otherwise:expr;)?
     })*) => {
         &[$($(TableRow {
             name: $name,
-            mask: mask!($section $($guard)?),
-            value: value!($section $n),
+            mask: $mask $(| guard_mask!($guard))?,
+            value: $shared | $n << $low,
             operands: $operands,
         },)*)*]
     };
 }
 
-/// A match of the decoder: `arms(SECTION(KEY, WORD, VISITOR))` of the table compares KEY with the values of a section. It calls the
+/// A match of the decoder: `arms(SECTION(KEY, WORD, VISITOR))` of the table compares KEY with the numbers of a section. It calls the
 /// first line whose guard holds, and returns whether there is one.
 macro_rules! arms {
     (@($key:expr, $word:ident, $visitor:ident) {
@@ -357,16 +335,16 @@ macro_rules! arms {
             $(_ => $otherwise,)?
         }
     };
-    ((special $at:tt) special $lines:tt $($rest:tt)*) => { arms!(@$at $lines) };
-    ((regimm $at:tt) regimm $lines:tt $($rest:tt)*) => { arms!(@$at $lines) };
-    ((opcode $at:tt) opcode $lines:tt $($rest:tt)*) => { arms!(@$at $lines) };
-    ((cop0 $at:tt) cop0 $lines:tt $($rest:tt)*) => { arms!(@$at $lines) };
-    ((cop2 $at:tt) cop2 $lines:tt $($rest:tt)*) => { arms!(@$at $lines) };
-    ((products $at:tt) products $lines:tt $($rest:tt)*) => { arms!(@$at $lines) };
-    ((others $at:tt) others $lines:tt $($rest:tt)*) => { arms!(@$at $lines) };
-    ((lwc2 $at:tt) lwc2 $lines:tt $($rest:tt)*) => { arms!(@$at $lines) };
-    ((swc2 $at:tt) swc2 $lines:tt $($rest:tt)*) => { arms!(@$at $lines) };
-    ($wanted:tt $other:ident $lines:tt $($rest:tt)*) => { arms!($wanted $($rest)*) };
+    ((special $at:tt) special $bits:tt $lines:tt $($rest:tt)*) => { arms!(@$at $lines) };
+    ((regimm $at:tt) regimm $bits:tt $lines:tt $($rest:tt)*) => { arms!(@$at $lines) };
+    ((opcode $at:tt) opcode $bits:tt $lines:tt $($rest:tt)*) => { arms!(@$at $lines) };
+    ((cop0 $at:tt) cop0 $bits:tt $lines:tt $($rest:tt)*) => { arms!(@$at $lines) };
+    ((cop2 $at:tt) cop2 $bits:tt $lines:tt $($rest:tt)*) => { arms!(@$at $lines) };
+    ((products $at:tt) products $bits:tt $lines:tt $($rest:tt)*) => { arms!(@$at $lines) };
+    ((others $at:tt) others $bits:tt $lines:tt $($rest:tt)*) => { arms!(@$at $lines) };
+    ((lwc2 $at:tt) lwc2 $bits:tt $lines:tt $($rest:tt)*) => { arms!(@$at $lines) };
+    ((swc2 $at:tt) swc2 $bits:tt $lines:tt $($rest:tt)*) => { arms!(@$at $lines) };
+    ($wanted:tt $other:ident $bits:tt $lines:tt $($rest:tt)*) => { arms!($wanted $($rest)*) };
 }
 
 pub(crate) use arms;
