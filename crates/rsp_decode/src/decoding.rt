@@ -37,7 +37,8 @@ pub fn visit<V: Visitor>(word: u32, visitor: &mut V) -> bool
     ensures known { result ≡ is_instruction (inst_of word) }
     ensures state { visitor.new ≡ after_visit V.after (inst_of word) visitor.old }
 {
-    match bits(word, 26, 6) {
+    let opcode = bits(word, 26, 6);
+    match opcode {
         0 => visit_special(word, visitor),
         1 => visit_regimm(word, visitor),
         16 => visit_cop0(word, visitor),

@@ -1,5 +1,5 @@
 // The scalar unit's instructions: those of opcode 0 by their function, of opcode 1 by rt, of opcode 16 by rs, and those that have
-// an opcode of their own. Reserved values have arms too, so that the jump needs no test of its range.
+// an opcode of their own.
 
 ghost use Rattle.std.specs.Prelude.{◌≡◌, ◌*◌, ◌+◌, ◌^◌};
 ghost use Rattle.rsp_decode.specs.declared.inst.Inst.{Inst};

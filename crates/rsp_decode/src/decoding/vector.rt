@@ -1,5 +1,5 @@
 // The vector unit's instructions: the moves of opcode 18 by rs, its computing instructions by their function, the loads of opcode 50
-// and the stores of opcode 58 by their operation. Reserved values have arms too, so that the jump needs no test of its range.
+// and the stores of opcode 58 by their operation.
 
 ghost use Rattle.std.specs.Prelude.{true, false, ◌≡◌, ◌↔◌, ◌*◌, ◌+◌, ◌^◌, ◌<◌, ◌≤◌, IsTrue};
 ghost use Rattle.rsp_decode.specs.declared.inst.Inst.{Inst};
