@@ -69,6 +69,7 @@ field_under w low width = and_high w width low
 opcode_under : (w o : ℕ) → value_at w (whole 26 6) ≡ o → bit_and w 0xfc000000 ≡ o * 2 ^ 26
 opcode_under w o e = field_under w 26 6 ∙ ap (λ n. n * 2 ^ 26) e
 
+-- an opcode, and bits below it
 opcode_and : (w o b field : ℕ) → b < 2 ^ 26 → value_at w (whole 26 6) ≡ o → bit_and w b ≡ field → bit_and w (63 * 2 ^ 26 + b) ≡ o * 2 ^ 26 + field
 opcode_and w o b field low at e = two_fields w 26 63 b (o * 2 ^ 26) field low (opcode_under w o at) e
 
