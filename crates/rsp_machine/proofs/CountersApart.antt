@@ -20,20 +20,10 @@ unfolding moves_vector
 vector_elsewhere From i rt p s = refl
 vector_elsewhere To i rt p s = refl
 
-pub vector_stays : (op : MoveOp) (i : Inst) (rt : ℕ) (s : State) → with_counters (counters_of s) (moves_vector op i rt s) ≡ moves_vector op i rt s
-unfolding moves_vector
-vector_stays From i rt s = refl
-vector_stays To i rt s = refl
-
 pub control_elsewhere : (op : MoveOp) (i : Inst) (rt : ℕ) (p : ProgramCounters) (s : State) → moves_control op i rt (with_counters p s) ≡ with_counters p (moves_control op i rt s)
 unfolding moves_control
 control_elsewhere From i rt p s = refl
 control_elsewhere To i rt p s = refl
-
-pub control_stays : (op : MoveOp) (i : Inst) (rt : ℕ) (s : State) → with_counters (counters_of s) (moves_control op i rt s) ≡ moves_control op i rt s
-unfolding moves_control
-control_stays From i rt s = refl
-control_stays To i rt s = refl
 
 written_elsewhere : (a b : Bool) (v : ℕ) (sp : Sp) (p : ProgramCounters) (s : State)
     → record (if a then moved_in v (with_counters p s) else if b then moved_out v (with_counters p s) else with_counters p s) { sp = sp }
@@ -48,20 +38,6 @@ sp_elsewhere From rt n p s = refl
 sp_elsewhere To rt n p s =
     let v = register s.registers rt in
     written_elsewhere (n % 16 == 2) (n % 16 == 3) v (after_register_write n v s.sp) p s
-
-written_stays : (a b : Bool) (v : ℕ) (sp : Sp) (s : State)
-    → with_counters (counters_of s) (record (if a then moved_in v s else if b then moved_out v s else s) { sp = sp })
-    ≡ record (if a then moved_in v s else if b then moved_out v s else s) { sp = sp }
-written_stays true b v sp s = refl
-written_stays false true v sp s = refl
-written_stays false false v sp s = refl
-
-pub sp_stays : (op : MoveOp) (rt n : ℕ) (s : State) → with_counters (counters_of s) (moves_sp op rt n s) ≡ moves_sp op rt n s
-unfolding moves_sp
-sp_stays From rt n s = refl
-sp_stays To rt n s =
-    let v = register s.registers rt in
-    written_stays (n % 16 == 2) (n % 16 == 3) v (after_register_write n v s.sp) s
 
 -- nor does what an instruction changes depend on the places
 pub footprint_elsewhere : (i : Inst) (p : ProgramCounters) (s : State) → footprint_of i s ≡ footprint_of i (with_counters p s)

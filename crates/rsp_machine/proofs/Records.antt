@@ -1,6 +1,7 @@
 -- Which states the records of steps undo to.
 use Rattle.std.proofs.Common.{◌≡◌, inl, inr, ℕ, zero, suc, ◌+◌, ◌<◌, ◌≤◌, Bool, true, false, not, List, [], ◌∷◌, length, drop, get_or, refl, sym, ap, ◌∙◌, arith, add-one, Option, Some, None}
-use Rattle.std.specs.Prelude.{slice_get, IsSome, is_some}
+use Rattle.std.specs.Prelude.{slice_get, IsSome, IfSome}
+use Rattle.std.specs.Bool.{then_some}
 use Rattle.std.proofs.lemmas.Bool.{cases_lt}
 use Rattle.std.proofs.lemmas.Option.{get_or_from_slice_get}
 use Rattle.rsp_machine.specs.State.{State}
@@ -11,7 +12,6 @@ use Rattle.rsp_machine.specs.Footprint.{makes_no_dma}
 use Rattle.rsp_machine.specs.Transfers.{starts_dma_at}
 use Rattle.rsp_machine.specs.Loop.{AreDone, AreRecorded, HasRecorded, HaveRecorded, LoopEnd}
 use Rattle.rsp_machine.specs.declared.step.StepEnd.TheVariants.{Done}
-use Rattle.rsp_machine.proofs.OneStep.{not_back}
 use Rattle.rsp_machine.proofs.LoopSteps.{done_few, is_done, never-refuses}
 use Rattle.rsp_machine.proofs.Undo.{record-dma, record-back}
 
@@ -103,21 +103,24 @@ none-stuck k s t e (inl stuck) = stuck
 none-stuck k s t e (inr (inl refused)) = never-refuses t _ refused
 none-stuck k s t e (inr (inr last)) = absurd (omega (arith, last.0, e))
 
--- and the record of it, where it leads back
-pub which-some : {X : Type 0} (o : Option X) (x : X) (dma b : Bool) → o ≡ Some x → b ≡ not dma → b ≡ true → (IsSome o → (Done ≡ Done) × (dma ≡ false)) × ((Done ≡ Done) × (dma ≡ false) → IsSome o)
-which-some o x dma b e m leads = (λ some. (refl, sym (not_back b dma m) ∙ ap not leads), λ p. ap is_some e)
+-- the record of one step, given back if it undoes the step
+module _ (s t : State) (old rs : List Saved) (d : Saved) (b : Bool) (o : Option Saved) (start : d ≡ blank) (can : b ≡ makes_no_dma (get_or rs 0 d).footprint) (given : o ≡ then_some b (get_or rs 0 d))
+    (all : AreRecorded 1 s t old rs) where
+  undoes : b ≡ not (starts_dma_at s)
+  unfolding steps_of
+  undoes = can ∙ ap (λ (x : Saved). makes_no_dma (get_or rs 0 x).footprint) start ∙ all.which 0 (omega arith)
 
-pub which-none : {X : Type 0} (o : Option X) (dma b : Bool) → o ≡ None → b ≡ not dma → b ≡ false → (IsSome o → (Done ≡ Done) × (dma ≡ false)) × ((Done ≡ Done) × (dma ≡ false) → IsSome o)
-which-none o dma b e m not_so =
-    let started : true ≡ dma = sym (ap not not_so) ∙ not_back b dma m in
-    (λ some. let no : false ≡ true = sym (ap is_some e) ∙ some in cc, λ p. let no : true ≡ false = started ∙ p.1 in cc)
+  which_by : (c dma : Bool) (x : Saved) → c ≡ not dma → (IsSome (then_some c x) → (Done ≡ Done) × (dma ≡ false)) × ((Done ≡ Done) × (dma ≡ false) → IsSome (then_some c x))
+  which_by c true x e = rw e (λ no. cc, λ no. cc)
+  which_by c false x e = rw e (λ _. (refl, refl), λ _. refl)
 
-pub one-marked : (s : State) (rs : List Saved) (d : Saved) → d ≡ blank → makes_no_dma (record_at rs 0).footprint ≡ not (starts_dma_at (steps_of 0 s)) → makes_no_dma (get_or rs 0 d).footprint ≡ not (starts_dma_at s)
-unfolding steps_of
-one-marked s rs d e h = ap (λ (x : Saved). makes_no_dma (get_or rs 0 x).footprint) e ∙ h
+  pub one-which : (IsSome o → (Done ≡ Done) × (starts_dma_at s ≡ false)) × ((Done ≡ Done) × (starts_dma_at s ≡ false) → IsSome o)
+  one-which = rw given (which_by b (starts_dma_at s) (get_or rs 0 d) undoes)
 
-pub one-back : (k : ℕ) (s t : State) (rs : List Saved) (d : Saved) → k ≡ 1 → d ≡ blank → t ≡ steps_of k s → makes_no_dma (get_or rs 0 d).footprint ≡ not (starts_dma_at s) → makes_no_dma (get_or rs 0 d).footprint ≡ true
-    → (starts_dma_at (steps_of 0 s) ≡ false → undone (record_at rs 0) (steps_of (0 + 1) s) ≡ steps_of 0 s) → undone (get_or rs 0 d) t ≡ s
-unfolding steps_of
-one-back k s t rs d e b there m leads h =
-    ap (λ x. undone (get_or rs 0 x) t) b ∙ ap (undone (record_at rs 0)) (there ∙ ap (λ i. steps_of i s) e) ∙ h (sym (not_back _ (starts_dma_at s) m) ∙ ap not leads)
+  back_by : (c dma : Bool) (x : Saved) → c ≡ not dma → (dma ≡ false → undone x t ≡ s) → IfSome (then_some c x) (λ r. undone r t ≡ s)
+  back_by c true x e h = rw e tt
+  back_by c false x e h = rw e (h refl)
+
+  pub one-back : IfSome o (λ r. undone r t ≡ s)
+  unfolding steps_of
+  one-back = rw given (back_by b (starts_dma_at s) (get_or rs 0 d) undoes (λ none. rw (start, all.made.state) (all.back 0 (omega arith) none)))

@@ -46,5 +46,3 @@ fits s h = no_fault
 
 pub set-as-read : SetAsRead
 set-as-read s h = (fits s h, with-registers-of s h.accumulators)
-
-pub ruleset wholes = (set-as-read)

@@ -12,7 +12,7 @@ ghost use Rattle.rsp_scalar.specs.Flow.{next_npc, with_link};
 ghost use Rattle.rsp_machine.specs.Step.{computes, loads_scalar, stores_scalar, break_instruction, moves_sp, instruction_effect};
 ghost use Rattle.rsp_machine.specs.ProgramCounters.{with_counters, counters_of};
 ghost use Rattle.rsp_machine.specs.Undo.{after_instruction};
-ghost use Rattle.rsp_machine.specs.LoopTests.{IsFootprint, tests_of, tests_in, state_after};
+ghost use Rattle.rsp_machine.specs.LoopTests.{tests_of, tests_in, state_after};
 ghost use Rattle.rsp_machine.specs.Until.{refuses_by, permitted};
 
 use crate::footprint::{Footprint, StepTests, footprint_of};
@@ -41,16 +41,6 @@ struct Executor<'a, 'b, A: Acc, K: Recorder, U: Until> {
 }
 
 impl<'a, 'b, A: Acc, K: Recorder, U: Until> Executor<'a, 'b, A, K, U> {
-    /// Saves what an instruction with a footprint will overwrite.
-    #[inline(always)]
-    fn save(&mut self, footprint: Footprint)
-        requires { IsFootprint footprint }
-        ensures { self.new ≡ record self.old { recorder = record self.old.recorder { now = K.saves footprint (with_counters self.old.before self.old.machine.now) self.old.recorder.now }; tests = Some (tests_of footprint) } }
-    {
-        self.recorder.save(self.machine, self.before, footprint);
-        self.tests = Some(footprint.tests());
-    }
-
     /// pc and npc after the instruction.
     #[inline(always)]
     fn counters(&self) -> ProgramCounters
@@ -73,36 +63,6 @@ fn is_refused<U: Until>(until: &U, inst: &Inst) -> bool
 }
 
 impl<A: Acc> Machine<A> {
-    /// A scalar instruction that computes.
-    #[inline(always)]
-    #[tactic(auto, unfolding(crate::specs::Step::computes))]
-    fn compute(&mut self, inst: &Inst)
-        requires { IsInstruction inst.now }
-        ensures { self.new ≡ computes inst.now self.old }
-    {
-        alu(inst, &mut self.regs);
-    }
-
-    /// A scalar load.
-    #[inline(always)]
-    #[tactic(auto, unfolding(crate::specs::Step::loads_scalar))]
-    fn load_scalar(&mut self, inst: &Inst)
-        requires { IsInstruction inst.now }
-        ensures { self.new ≡ loads_scalar inst.now self.old }
-    {
-        load(inst, &mut self.regs, &self.dmem);
-    }
-
-    /// A scalar store.
-    #[inline(always)]
-    #[tactic(auto, unfolding(crate::specs::Step::stores_scalar))]
-    fn store_scalar(&mut self, inst: &Inst)
-        requires { IsInstruction inst.now }
-        ensures { self.new ≡ stores_scalar inst.now self.old }
-    {
-        store(inst, &self.regs, &mut self.dmem);
-    }
-
     /// A jump or a branch. pc and npc have advanced in `counters`, and the machine's own aren't used. The instruction at this pc
     /// is the delay slot, which is executed before the target.
     #[inline(always)]
@@ -112,27 +72,6 @@ impl<A: Acc> Machine<A> {
         ensures link { self.new ≡ record self.old { registers = with_link inst.now self.old.registers counters.old.pc } }
     {
         counters.npc = InstructionAddress::new(jump(inst, &mut self.regs, counters.pc.get()));
-    }
-
-    /// BREAK.
-    #[inline(always)]
-    #[tactic(auto, unfolding(crate::specs::Step::break_instruction))]
-    fn break_instruction(&mut self)
-        ensures { self.new ≡ break_instruction self.old }
-    {
-        self.sp.on_break();
-    }
-
-    /// A move between scalar register `rt` and an SP register.
-    #[inline(always)]
-    fn move_sp_register(&mut self, op: MoveOp, rt: u8, register: u8)
-        requires { rt < 32 }
-        ensures { self.new ≡ moves_sp op rt register self.old }
-    {
-        match op {
-            MoveOp::From => self.move_from_sp(rt, register),
-            MoveOp::To => self.move_to_sp(rt, register),
-        }
     }
 
     /// A read of an SP register into scalar register `rt`. It is apart from the write, whose DMA makes it long.
@@ -158,7 +97,7 @@ impl<A: Acc> Machine<A> {
 
     /// Does what an instruction does. pc and npc have advanced in `counters`, and the machine's own aren't used.
     #[inline(always)]
-    #[tactic(auto, unfolding(crate::specs::Step::instruction_effect, crate::specs::Step::computes, crate::specs::Step::loads_scalar, crate::specs::Step::stores_scalar, crate::specs::Step::jumps, crate::specs::Step::break_instruction, crate::specs::Vector::multiplies, crate::specs::Vector::rounds, crate::specs::Vector::multiplies_mpeg, crate::specs::Vector::reads_accumulator, crate::specs::Vector::ruled, crate::specs::Vector::divides, crate::specs::Vector::loads_vector, crate::specs::Vector::stores_vector))]
+    #[tactic(auto, unfolding(crate::specs::Step::instruction_effect, crate::specs::Step::computes, crate::specs::Step::loads_scalar, crate::specs::Step::stores_scalar, crate::specs::Step::jumps, crate::specs::Step::break_instruction, crate::specs::Step::moves_sp, crate::specs::Vector::multiplies, crate::specs::Vector::rounds, crate::specs::Vector::multiplies_mpeg, crate::specs::Vector::reads_accumulator, crate::specs::Vector::ruled, crate::specs::Vector::divides, crate::specs::Vector::loads_vector, crate::specs::Vector::stores_vector))]
     fn perform(&mut self, inst: &Inst, counters: &mut ProgramCounters)
         requires { IsInstruction inst.now }
         ensures state { self.new ≡ with_counters (counters_of self.old) (instruction_effect inst.now (with_counters counters.old self.old)) }
@@ -169,25 +108,21 @@ impl<A: Acc> Machine<A> {
             | Inst::ShiftBy { .. }
             | Inst::Register { .. }
             | Inst::Immediate { .. }
-            | Inst::LoadUpper { .. } => self.compute(inst),
-            Inst::Load { .. } => self.load_scalar(inst),
-            Inst::Store { .. } => self.store_scalar(inst),
+            | Inst::LoadUpper { .. } => alu(inst, &mut self.regs),
+            Inst::Load { .. } => load(inst, &mut self.regs, &self.dmem),
+            Inst::Store { .. } => store(inst, &self.regs, &mut self.dmem),
             Inst::JumpRegister { .. }
             | Inst::JumpLinkRegister { .. }
             | Inst::BranchSign { .. }
             | Inst::BranchEqual { .. }
             | Inst::Jump { .. } => self.go_to(inst, counters),
-            Inst::Break => self.break_instruction(),
-            Inst::MoveSp { op, rt, register } => self.move_sp_register(op, rt, register),
-            // A call that isn't inlined gets a copy. Else the instruction itself would be in memory.
-            Inst::MoveVector { op, rt, .. } => {
-                let copy = *inst;
-                self.move_lanes(&copy, op, rt);
-            }
-            Inst::MoveControl { op, rt, .. } => {
-                let copy = *inst;
-                self.move_flags(&copy, op, rt);
-            }
+            Inst::Break => self.sp.on_break(),
+            Inst::MoveSp { op, rt, register } => match op {
+                MoveOp::From => self.move_from_sp(rt, register),
+                MoveOp::To => self.move_to_sp(rt, register),
+            },
+            Inst::MoveVector { op, rt, .. } => self.move_lanes(*inst, op, rt),
+            Inst::MoveControl { op, rt, .. } => self.move_flags(*inst, op, rt),
             Inst::Multiply { op, fields } => self.multiply_lanes(op, fields),
             Inst::Round { op, fields } => self.round_lanes(op, fields),
             Inst::MpegMultiply { op, fields } => self.multiply_mpeg(op, fields),
@@ -268,7 +203,8 @@ impl<'a, 'b, A: Acc, K: Recorder, U: Until> Visitor for Executor<'a, 'b, A, K, U
             return;
         }
         let footprint = footprint_of(&inst, self.machine);
-        self.save(footprint);
+        self.recorder.save(self.machine, self.before, footprint);
+        self.tests = Some(footprint.tests());
         self.machine.perform(&inst, &mut self.counters);
     }
 }

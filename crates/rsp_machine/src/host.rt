@@ -168,7 +168,7 @@ impl<A: Acc> Machine<A> {
     }
 
     /// Sets all registers; the three memories stay. If a [`RegistersFault`] is returned, nothing changes.
-    #[inline(always)]
+    #[tactic(auto, unfolding(crate::specs::Registers::with_registers))]
     pub fn set_all_registers(&mut self, given: &AllRegisters) -> Result<(), RegistersFault>
         ensures fault { MatchResult result (λ _. registers_fault given.now ≡ None) (λ f. registers_fault given.now ≡ Some f) }
         ensures ok { OnOk result (self.new ≡ with_registers given.now self.old) }
@@ -177,7 +177,18 @@ impl<A: Acc> Machine<A> {
         if let Some(fault) = fault_of(given) {
             return Err(fault);
         }
-        self.put_registers(given);
+        let high = VReg::from_array(given.accumulators_high);
+        let middle = VReg::from_array(given.accumulators_middle);
+        let low = VReg::from_array(given.accumulators_low);
+        self.pc = InstructionAddress::new(given.pc);
+        self.npc = InstructionAddress::new(given.npc);
+        self.regs = Regs::from_words(given.registers);
+        self.vregs = VFile::from_lanes(&given.vectors);
+        self.acc
+            .replace(&Addends::from_planes(&high, &middle, &low));
+        self.flags = given.flags;
+        self.divider = given.divider;
+        self.sp = SpRegs::from_parts(&given.sp);
         Ok(())
     }
 
@@ -192,26 +203,6 @@ impl<A: Acc> Machine<A> {
         }
         self.sp = SpRegs::from_parts(given);
         Ok(())
-    }
-
-    /// Writes all registers.
-    #[tactic(auto, unfolding(crate::specs::Registers::with_registers))]
-    pub(crate) fn put_registers(&mut self, given: &AllRegisters)
-        requires { AreRegisters given.now }
-        ensures { self.new ≡ with_registers given.now self.old }
-    {
-        let high = VReg::from_array(given.accumulators_high);
-        let middle = VReg::from_array(given.accumulators_middle);
-        let low = VReg::from_array(given.accumulators_low);
-        self.pc = InstructionAddress::new(given.pc);
-        self.npc = InstructionAddress::new(given.npc);
-        self.regs = Regs::from_words(given.registers);
-        self.vregs = VFile::from_lanes(&given.vectors);
-        self.acc
-            .replace(&Addends::from_planes(&high, &middle, &low));
-        self.flags = given.flags;
-        self.divider = given.divider;
-        self.sp = SpRegs::from_parts(&given.sp);
     }
 
     /// Passes over the MFC0 or MTC0 at pc: pc and npc advance, register rt of an MFC0 becomes the value, and single step halts as

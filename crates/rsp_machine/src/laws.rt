@@ -34,7 +34,6 @@ pub fn same_steps<A: Acc, B: Acc>(a: &mut Machine<A>, b: &mut Machine<B>, n: u64
 }
 
 /// Registers that are read and set again are never refused, and leave the machine as it was.
-#[tactic(auto, using(crate::proofs::Whole::wholes))]
 pub fn set_as_read()
     ensures { SetAsRead }
 {}

@@ -173,20 +173,7 @@ impl<A: Acc> Machine<A> {
     pub fn into_rdram(self) -> Rdram
         ensures { result ≡ self.rdram }
     {
-        let Machine {
-            pc: _,
-            npc: _,
-            regs: _,
-            vregs: _,
-            acc: _,
-            flags: _,
-            divider: _,
-            dmem: _,
-            imem: _,
-            rdram,
-            sp: _,
-        } = self;
-        rdram
+        self.rdram
     }
 
     /// pc and npc, which the loop of steps keeps apart.

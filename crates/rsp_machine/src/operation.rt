@@ -15,25 +15,22 @@ use rsp_decode::{
 use rsp_divide::DivideOp;
 use rsp_multiply::{MpegOp, MultiplyOp, RoundOp};
 
+/// The variant of one enum whose name a variant of another has.
+macro_rules! same_name {
+    ($op:expr, $from:ident => $to:ident: $($name:ident)*) => {
+        match $op {
+            $($from::$name => $to::$name,)*
+        }
+    };
+}
+
 /// The operation of a multiply.
 #[inline(always)]
 pub(crate) fn multiply_of(op: VectorMultiplyOp) -> MultiplyOp
     ensures { result ≡ multiply_of op }
 {
-    match op {
-        VectorMultiplyOp::Vmulf => MultiplyOp::Vmulf,
-        VectorMultiplyOp::Vmulu => MultiplyOp::Vmulu,
-        VectorMultiplyOp::Vmudl => MultiplyOp::Vmudl,
-        VectorMultiplyOp::Vmudm => MultiplyOp::Vmudm,
-        VectorMultiplyOp::Vmudn => MultiplyOp::Vmudn,
-        VectorMultiplyOp::Vmudh => MultiplyOp::Vmudh,
-        VectorMultiplyOp::Vmacf => MultiplyOp::Vmacf,
-        VectorMultiplyOp::Vmacu => MultiplyOp::Vmacu,
-        VectorMultiplyOp::Vmadl => MultiplyOp::Vmadl,
-        VectorMultiplyOp::Vmadm => MultiplyOp::Vmadm,
-        VectorMultiplyOp::Vmadn => MultiplyOp::Vmadn,
-        VectorMultiplyOp::Vmadh => MultiplyOp::Vmadh,
-    }
+    same_name!(op, VectorMultiplyOp => MultiplyOp:
+        Vmulf Vmulu Vmudl Vmudm Vmudn Vmudh Vmacf Vmacu Vmadl Vmadm Vmadn Vmadh)
 }
 
 /// The operation of a rounding of the accumulators.
@@ -41,10 +38,7 @@ pub(crate) fn multiply_of(op: VectorMultiplyOp) -> MultiplyOp
 pub(crate) fn round_of(op: VectorRoundOp) -> RoundOp
     ensures { result ≡ round_of op }
 {
-    match op {
-        VectorRoundOp::Vrndp => RoundOp::Vrndp,
-        VectorRoundOp::Vrndn => RoundOp::Vrndn,
-    }
+    same_name!(op, VectorRoundOp => RoundOp: Vrndp Vrndn)
 }
 
 /// The operation of a multiply for MPEG coefficients.
@@ -52,10 +46,7 @@ pub(crate) fn round_of(op: VectorRoundOp) -> RoundOp
 pub(crate) fn mpeg_of(op: VectorMpegOp) -> MpegOp
     ensures { result ≡ mpeg_of op }
 {
-    match op {
-        VectorMpegOp::Vmulq => MpegOp::Vmulq,
-        VectorMpegOp::Vmacq => MpegOp::Vmacq,
-    }
+    same_name!(op, VectorMpegOp => MpegOp: Vmulq Vmacq)
 }
 
 /// The operation of a sum or a difference.
@@ -63,13 +54,7 @@ pub(crate) fn mpeg_of(op: VectorMpegOp) -> MpegOp
 pub(crate) fn add_of(op: VectorAddOp) -> AddOp
     ensures { result ≡ add_of op }
 {
-    match op {
-        VectorAddOp::Vadd => AddOp::Vadd,
-        VectorAddOp::Vsub => AddOp::Vsub,
-        VectorAddOp::Vabs => AddOp::Vabs,
-        VectorAddOp::Vaddc => AddOp::Vaddc,
-        VectorAddOp::Vsubc => AddOp::Vsubc,
-    }
+    same_name!(op, VectorAddOp => AddOp: Vadd Vsub Vabs Vaddc Vsubc)
 }
 
 /// The operation of a comparison.
@@ -77,12 +62,7 @@ pub(crate) fn add_of(op: VectorAddOp) -> AddOp
 pub(crate) fn select_of(op: VectorSelectOp) -> SelectOp
     ensures { result ≡ select_of op }
 {
-    match op {
-        VectorSelectOp::Vlt => SelectOp::Vlt,
-        VectorSelectOp::Veq => SelectOp::Veq,
-        VectorSelectOp::Vne => SelectOp::Vne,
-        VectorSelectOp::Vge => SelectOp::Vge,
-    }
+    same_name!(op, VectorSelectOp => SelectOp: Vlt Veq Vne Vge)
 }
 
 /// The operation of a clip.
@@ -90,11 +70,7 @@ pub(crate) fn select_of(op: VectorSelectOp) -> SelectOp
 pub(crate) fn clip_of(op: VectorClipOp) -> ClipOp
     ensures { result ≡ clip_of op }
 {
-    match op {
-        VectorClipOp::Vcl => ClipOp::Vcl,
-        VectorClipOp::Vch => ClipOp::Vch,
-        VectorClipOp::Vcr => ClipOp::Vcr,
-    }
+    same_name!(op, VectorClipOp => ClipOp: Vcl Vch Vcr)
 }
 
 /// The operation of a logic instruction.
@@ -102,14 +78,7 @@ pub(crate) fn clip_of(op: VectorClipOp) -> ClipOp
 pub(crate) fn logic_of(op: VectorLogicOp) -> LogicOp
     ensures { result ≡ logic_of op }
 {
-    match op {
-        VectorLogicOp::Vand => LogicOp::Vand,
-        VectorLogicOp::Vnand => LogicOp::Vnand,
-        VectorLogicOp::Vor => LogicOp::Vor,
-        VectorLogicOp::Vnor => LogicOp::Vnor,
-        VectorLogicOp::Vxor => LogicOp::Vxor,
-        VectorLogicOp::Vnxor => LogicOp::Vnxor,
-    }
+    same_name!(op, VectorLogicOp => LogicOp: Vand Vnand Vor Vnor Vxor Vnxor)
 }
 
 /// The operation of an instruction that writes one lane.
@@ -117,15 +86,7 @@ pub(crate) fn logic_of(op: VectorLogicOp) -> LogicOp
 pub(crate) fn divide_of(op: VectorDivideOp) -> DivideOp
     ensures { result ≡ divide_of op }
 {
-    match op {
-        VectorDivideOp::Vrcp => DivideOp::Vrcp,
-        VectorDivideOp::Vrcpl => DivideOp::Vrcpl,
-        VectorDivideOp::Vrcph => DivideOp::Vrcph,
-        VectorDivideOp::Vmov => DivideOp::Vmov,
-        VectorDivideOp::Vrsq => DivideOp::Vrsq,
-        VectorDivideOp::Vrsql => DivideOp::Vrsql,
-        VectorDivideOp::Vrsqh => DivideOp::Vrsqh,
-    }
+    same_name!(op, VectorDivideOp => DivideOp: Vrcp Vrcpl Vrcph Vmov Vrsq Vrsql Vrsqh)
 }
 
 /// The operation of an instruction that changes nothing.
@@ -133,8 +94,5 @@ pub(crate) fn divide_of(op: VectorDivideOp) -> DivideOp
 pub(crate) fn idle_of(op: VectorNopOp) -> DivideOp
     ensures { result ≡ idle_of op }
 {
-    match op {
-        VectorNopOp::Vnop => DivideOp::Vnop,
-        VectorNopOp::Vnull => DivideOp::Vnull,
-    }
+    same_name!(op, VectorNopOp => DivideOp: Vnop Vnull)
 }

@@ -10,7 +10,7 @@ ghost use Rattle.std.specs.Prelude.{◌≡◌, ◌↔◌, ◌<◌, ◌≤◌, �
 ghost use Rattle.rsp_machine.specs.State.{IsState};
 ghost use Rattle.rsp_machine.specs.Step.{after_single_step, step_of};
 ghost use Rattle.rsp_machine.specs.Transfers.{starts_dma_at};
-ghost use Rattle.rsp_machine.specs.Undo.{undone, with_group, with_product, with_low_part, with_vco};
+ghost use Rattle.rsp_machine.specs.Undo.{undone, with_group, with_low_part};
 ghost use Rattle.rsp_machine.specs.Laws.{steps_of, done_of};
 ghost use Rattle.rsp_machine.specs.Until.{ends_after, refuses_at};
 ghost use Rattle.rsp_machine.specs.Loop.{AreDone, AreRecorded, HaveRecorded, LoopEnd};
@@ -145,12 +145,7 @@ impl<A: Acc> Machine<A> {
         if self.steps_recorded_until(slice::from_mut(&mut record), &Never) == 0 {
             return (self.step(), None);
         }
-        let record = if record.can_undo() {
-            Some(record)
-        } else {
-            None
-        };
-        (StepEnd::Done, record)
+        (StepEnd::Done, record.can_undo().then_some(record))
     }
 
     /// Makes up to `n` steps, as [`Machine::step`] makes them, as long as they are Done and `until` neither ends them nor refuses the
@@ -191,11 +186,18 @@ impl<A: Acc> Machine<A> {
             Footprint::Bytes(a) => self.dmem.set_bytes(a, &saved.bytes),
             Footprint::Vector(n) => self.vregs.set_reg(n as u8, saved.vector),
             Footprint::Group(n) => self.put_group(n as u8, &saved.vectors),
-            Footprint::Product(n) => self.put_product(saved, n),
+            Footprint::Product(n) => {
+                self.vregs.set_reg(n as u8, saved.vector);
+                self.acc.replace(&saved.accumulators);
+            }
             Footprint::Low(n) => self.put_low(saved, n),
-            Footprint::Sum(n) => self.put_sum(saved, n),
+            Footprint::Sum(n) => {
+                self.put_low(saved, n);
+                self.flags.copy_vco(&saved.flags);
+            }
             Footprint::Choice(n) => {
-                self.put_sum(saved, n);
+                self.put_low(saved, n);
+                self.flags.copy_vco(&saved.flags);
                 self.flags.copy_vcc(&saved.flags);
             }
             Footprint::Clip(n) => {
@@ -218,15 +220,6 @@ impl<A: Acc> Machine<A> {
         self.pc = saved.pc;
     }
 
-    /// Writes back vector register `n` and the accumulators.
-    fn put_product(&mut self, saved: &Record, n: u32)
-        requires { n < 32 }
-        ensures { self.new ≡ with_product n saved.now self.old }
-    {
-        self.vregs.set_reg(n as u8, saved.vector);
-        self.acc.replace(&saved.accumulators);
-    }
-
     /// Writes back vector register `n` and the low accumulators.
     fn put_low(&mut self, saved: &Record, n: u32)
         requires { n < 32 }
@@ -234,15 +227,6 @@ impl<A: Acc> Machine<A> {
     {
         self.vregs.set_reg(n as u8, saved.vector);
         self.acc.set_low(&saved.accumulators.low());
-    }
-
-    /// Writes back vector register `n`, the low accumulators and the flags of VCO.
-    fn put_sum(&mut self, saved: &Record, n: u32)
-        requires { n < 32 }
-        ensures { self.new ≡ record (with_low_part n saved.now self.old) { flags = with_vco saved.now.flags self.old.flags } }
-    {
-        self.put_low(saved, n);
-        self.flags.copy_vco(&saved.flags);
     }
 
     /// Writes eight vector registers, from `n` on.

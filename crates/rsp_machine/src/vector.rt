@@ -12,26 +12,34 @@ ghost use Rattle.rsp_machine.specs.Operations.{add_of, select_of, clip_of, logic
 ghost use Rattle.rsp_machine.specs.Vector.{multiplies, rounds, multiplies_mpeg, reads_accumulator, ruled, divides, loads_vector, stores_vector, moves_vector, moves_control};
 
 use crate::machine::Machine;
-use crate::operation;
+use crate::operation::{
+    add_of, clip_of, divide_of, idle_of, logic_of, mpeg_of, multiply_of, round_of, select_of,
+};
 use rsp_acc::Acc;
-use rsp_compare::MergeOp;
+use rsp_compare::{MergeOp, add_op, clip_op, logic_op, merge_op, select_op};
 use rsp_decode::{
     Inst, MoveOp, VectorAddOp, VectorClipOp, VectorDivideOp, VectorFields, VectorLoadOp,
     VectorLogicOp, VectorMemoryFields, VectorMpegOp, VectorMultiplyOp, VectorNopOp, VectorRoundOp,
     VectorSelectOp, VectorStoreOp,
 };
+use rsp_divide::divide_op;
 use rsp_lanes::{VReg, select};
 use rsp_loadstore::{self, address, control_from, control_to, move_from, move_to};
-use rsp_multiply::{self, sar};
+use rsp_multiply::{mpeg_op, multiply, round_op, sar};
 
 impl<A: Acc> Machine<A> {
-    /// Vector register `vt`, its lanes as the element selects them.
+    /// Vector register `vs`, and `vt` with its lanes as the element selects them.
     #[inline(always)]
-    fn selected(&self, fields: VectorFields) -> VReg
+    fn sources(&self, fields: VectorFields) -> (VReg, VReg)
         requires { IsVectorFields fields }
-        ensures { result ≡ selected (vector self.now.vectors fields.vt) fields.element }
+        ensures vs { result.0 ≡ vector self.now.vectors fields.vs }
+        ensures vt { result.1 ≡ selected (vector self.now.vectors fields.vt) fields.element }
     {
-        select(&self.vregs.reg(fields.vt), usize::from(fields.element))
+        let a = self.vregs.reg(fields.vs);
+        (
+            a,
+            select(&self.vregs.reg(fields.vt), usize::from(fields.element)),
+        )
     }
 
     /// One of the twelve multiplies.
@@ -41,9 +49,8 @@ impl<A: Acc> Machine<A> {
         requires { IsVectorFields fields }
         ensures { self.new ≡ multiplies op fields self.old }
     {
-        let a = self.vregs.reg(fields.vs);
-        let b = self.selected(fields);
-        let result = rsp_multiply::multiply(operation::multiply_of(op), &a, &b, &mut self.acc);
+        let (a, b) = self.sources(fields);
+        let result = multiply(multiply_of(op), &a, &b, &mut self.acc);
         self.vregs.set_reg(fields.vd, result);
     }
 
@@ -54,9 +61,9 @@ impl<A: Acc> Machine<A> {
         requires { IsVectorFields fields }
         ensures { self.new ≡ rounds op fields self.old }
     {
-        let b = self.selected(fields);
+        let (_, b) = self.sources(fields);
         let odd = fields.vs % 2 == 1;
-        let result = rsp_multiply::round_op(operation::round_of(op), odd, &b, &mut self.acc);
+        let result = round_op(round_of(op), odd, &b, &mut self.acc);
         self.vregs.set_reg(fields.vd, result);
     }
 
@@ -67,9 +74,8 @@ impl<A: Acc> Machine<A> {
         requires { IsVectorFields fields }
         ensures { self.new ≡ multiplies_mpeg op fields self.old }
     {
-        let a = self.vregs.reg(fields.vs);
-        let b = self.selected(fields);
-        let result = rsp_multiply::mpeg_op(operation::mpeg_of(op), &a, &b, &mut self.acc);
+        let (a, b) = self.sources(fields);
+        let result = mpeg_op(mpeg_of(op), &a, &b, &mut self.acc);
         self.vregs.set_reg(fields.vd, result);
     }
 
@@ -91,10 +97,8 @@ impl<A: Acc> Machine<A> {
         requires { IsVectorFields fields }
         ensures { self.new ≡ ruled (add_rule (add_of op)) fields self.old }
     {
-        let a = self.vregs.reg(fields.vs);
-        let b = self.selected(fields);
-        let op = operation::add_of(op);
-        let result = rsp_compare::add_op(op, &a, &b, &mut self.flags, &mut self.acc);
+        let (a, b) = self.sources(fields);
+        let result = add_op(add_of(op), &a, &b, &mut self.flags, &mut self.acc);
         self.vregs.set_reg(fields.vd, result);
     }
 
@@ -105,10 +109,8 @@ impl<A: Acc> Machine<A> {
         requires { IsVectorFields fields }
         ensures { self.new ≡ ruled (select_rule (select_of op)) fields self.old }
     {
-        let a = self.vregs.reg(fields.vs);
-        let b = self.selected(fields);
-        let op = operation::select_of(op);
-        let result = rsp_compare::select_op(op, &a, &b, &mut self.flags, &mut self.acc);
+        let (a, b) = self.sources(fields);
+        let result = select_op(select_of(op), &a, &b, &mut self.flags, &mut self.acc);
         self.vregs.set_reg(fields.vd, result);
     }
 
@@ -119,10 +121,8 @@ impl<A: Acc> Machine<A> {
         requires { IsVectorFields fields }
         ensures { self.new ≡ ruled (clip_rule (clip_of op)) fields self.old }
     {
-        let a = self.vregs.reg(fields.vs);
-        let b = self.selected(fields);
-        let op = operation::clip_of(op);
-        let result = rsp_compare::clip_op(op, &a, &b, &mut self.flags, &mut self.acc);
+        let (a, b) = self.sources(fields);
+        let result = clip_op(clip_of(op), &a, &b, &mut self.flags, &mut self.acc);
         self.vregs.set_reg(fields.vd, result);
     }
 
@@ -133,9 +133,8 @@ impl<A: Acc> Machine<A> {
         requires { IsVectorFields fields }
         ensures { self.new ≡ ruled (merge_rule Vmrg) fields self.old }
     {
-        let a = self.vregs.reg(fields.vs);
-        let b = self.selected(fields);
-        let result = rsp_compare::merge_op(MergeOp::Vmrg, &a, &b, &mut self.flags, &mut self.acc);
+        let (a, b) = self.sources(fields);
+        let result = merge_op(MergeOp::Vmrg, &a, &b, &mut self.flags, &mut self.acc);
         self.vregs.set_reg(fields.vd, result);
     }
 
@@ -146,10 +145,8 @@ impl<A: Acc> Machine<A> {
         requires { IsVectorFields fields }
         ensures { self.new ≡ ruled (logic_rule (logic_of op)) fields self.old }
     {
-        let a = self.vregs.reg(fields.vs);
-        let b = self.selected(fields);
-        let op = operation::logic_of(op);
-        let result = rsp_compare::logic_op(op, &a, &b, &mut self.flags, &mut self.acc);
+        let (a, b) = self.sources(fields);
+        let result = logic_op(logic_of(op), &a, &b, &mut self.flags, &mut self.acc);
         self.vregs.set_reg(fields.vd, result);
     }
 
@@ -162,8 +159,8 @@ impl<A: Acc> Machine<A> {
     {
         let source = self.vregs.reg(vt);
         let mut register = self.vregs.reg(vd);
-        rsp_divide::divide_op(
-            operation::divide_of(op),
+        divide_op(
+            divide_of(op),
             usize::from(element),
             usize::from(lane),
             &source,
@@ -182,8 +179,8 @@ impl<A: Acc> Machine<A> {
     {
         let source = self.vregs.reg(0);
         let mut register = source;
-        rsp_divide::divide_op(
-            operation::idle_of(op),
+        divide_op(
+            idle_of(op),
             0,
             0,
             &source,
@@ -217,31 +214,32 @@ impl<A: Acc> Machine<A> {
         rsp_loadstore::store(&inst, a, &self.vregs, &mut self.dmem);
     }
 
-    /// A move between scalar register `rt` and a vector register.
+    /// A move between scalar register `rt` and a vector register. The instruction is passed as a copy: calls that aren't inlined
+    /// take a reference to it, and the decoder's own would be in memory.
     #[inline(always)]
     #[tactic(auto, unfolding(crate::specs::Vector::moves_vector))]
-    pub(crate) fn move_lanes(&mut self, inst: &Inst, op: MoveOp, rt: u8)
-        requires inst { IsInstruction inst.now }
+    pub(crate) fn move_lanes(&mut self, inst: Inst, op: MoveOp, rt: u8)
+        requires inst { IsInstruction inst }
         requires rt { rt < 32 }
-        ensures { self.new ≡ moves_vector op inst.now rt self.old }
+        ensures { self.new ≡ moves_vector op inst rt self.old }
     {
         match op {
-            MoveOp::From => self.regs.set(rt, move_from(inst, &self.vregs)),
-            MoveOp::To => move_to(inst, self.regs.get(rt), &mut self.vregs),
+            MoveOp::From => self.regs.set(rt, move_from(&inst, &self.vregs)),
+            MoveOp::To => move_to(&inst, self.regs.get(rt), &mut self.vregs),
         }
     }
 
-    /// A move between scalar register `rt` and a control register.
+    /// A move between scalar register `rt` and a control register. The instruction is passed as a copy here too.
     #[inline(always)]
     #[tactic(auto, unfolding(crate::specs::Vector::moves_control))]
-    pub(crate) fn move_flags(&mut self, inst: &Inst, op: MoveOp, rt: u8)
-        requires inst { IsInstruction inst.now }
+    pub(crate) fn move_flags(&mut self, inst: Inst, op: MoveOp, rt: u8)
+        requires inst { IsInstruction inst }
         requires rt { rt < 32 }
-        ensures { self.new ≡ moves_control op inst.now rt self.old }
+        ensures { self.new ≡ moves_control op inst rt self.old }
     {
         match op {
-            MoveOp::From => self.regs.set(rt, control_from(inst, &self.flags)),
-            MoveOp::To => control_to(inst, self.regs.get(rt), &mut self.flags),
+            MoveOp::From => self.regs.set(rt, control_from(&inst, &self.flags)),
+            MoveOp::To => control_to(&inst, self.regs.get(rt), &mut self.flags),
         }
     }
 }

@@ -1,27 +1,16 @@
 use Rattle.std.proofs.Common.{rules}
 use Rattle.rsp_decode.specs.declared.inst.Inst.TheVariants.{MoveVector, MoveControl}
 use Rattle.rsp_machine.specs.Step.{instruction_effect}
-use Rattle.rsp_machine.proofs.CountersApart.{sp_elsewhere, sp_stays, vector_elsewhere, vector_stays, control_elsewhere, control_stays}
+use Rattle.rsp_machine.specs.ProgramCounters.{counters_of}
+use Rattle.rsp_machine.proofs.CountersApart.{vector_elsewhere, control_elsewhere}
 use Rattle.rsp_machine.proofs.machine.Machine.perform.Goals as goal
-
-pub returns-in-MoveSp-clause-state : goal.returns-in-MoveSp-clause-state
-unfolding instruction_effect
-returns-in-MoveSp-clause-state g c =
-    let i = c.in-MoveSp in let p = c.args.counters.now in let s = c.args.self.now in
-    rw (i.is, sp_elsewhere i.op i.rt i.register p s, sp_stays i.op i.rt i.register s) (search rules)
-
-pub returns-in-MoveSp-clause-counters : goal.returns-in-MoveSp-clause-counters
-unfolding instruction_effect
-returns-in-MoveSp-clause-counters g c =
-    let i = c.in-MoveSp in let p = c.args.counters.now in let s = c.args.self.now in
-    rw (i.is, sp_elsewhere i.op i.rt i.register p s) (search rules)
 
 pub returns-in-MoveVector-clause-state : goal.returns-in-MoveVector-clause-state
 unfolding instruction_effect
 returns-in-MoveVector-clause-state g c =
     let i = c.in-MoveVector in let p = c.args.counters.now in let s = c.args.self.now in
     let inst = MoveVector i.op i.rt i.vector i.element in
-    rw (i.is, vector_elsewhere i.op inst i.rt p s, vector_stays i.op inst i.rt s) (search rules)
+    rw (i.is, vector_elsewhere i.op inst i.rt p s, ← vector_elsewhere i.op inst i.rt (counters_of s) s) (search rules)
 
 pub returns-in-MoveVector-clause-counters : goal.returns-in-MoveVector-clause-counters
 unfolding instruction_effect
@@ -34,7 +23,7 @@ unfolding instruction_effect
 returns-in-MoveControl-clause-state g c =
     let i = c.in-MoveControl in let p = c.args.counters.now in let s = c.args.self.now in
     let inst = MoveControl i.op i.rt i.control in
-    rw (i.is, control_elsewhere i.op inst i.rt p s, control_stays i.op inst i.rt s) (search rules)
+    rw (i.is, control_elsewhere i.op inst i.rt p s, ← control_elsewhere i.op inst i.rt (counters_of s) s) (search rules)
 
 pub returns-in-MoveControl-clause-counters : goal.returns-in-MoveControl-clause-counters
 unfolding instruction_effect

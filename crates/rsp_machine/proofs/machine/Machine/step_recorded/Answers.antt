@@ -5,8 +5,7 @@ use Rattle.rsp_machine.specs.Transfers.{starts_dma_at}
 use Rattle.rsp_machine.specs.State.{State}
 use Rattle.rsp_machine.specs.Step.{step_of}
 use Rattle.rsp_machine.specs.Laws.{done_steps}
-use Rattle.rsp_machine.proofs.Records.{recorded-none, none-stuck, recorded-one, which-some, which-none, one-marked, one-back}
-use Rattle.rsp_machine.proofs.machine.Machine.step_recorded.Goals.{then-can_undo, else-can_undo}
+use Rattle.rsp_machine.proofs.Records.{recorded-none, none-stuck, recorded-one, one-which, one-back}
 use Rattle.rsp_machine.proofs.machine.Machine.step_recorded.Goals as goal
 
 pub returns-then-steps_recorded_until-eq0-clause-answer : goal.returns-then-steps_recorded_until-eq0-clause-answer
@@ -37,21 +36,12 @@ returns-clause-state g c =
 
 pub returns-clause-which : goal.returns-clause-which
 returns-clause-which g c =
-    let e = c.steps_recorded_until.ensures.recorded in let s = c.args.self.now in let rs = c.steps_recorded_until.new.records in let d = c.new-record.result in
-    let marked = one-marked s rs d c.new-record.ensures (e.which 0 (omega (arith, c.if-steps_recorded_until-eq0.false))) in
-    elim c.if-can_undo.branch [
-      | then-can_undo w ↦ which-some c.if-can_undo.record _ (starts_dma_at s) _ w.record-is marked (sym c.can_undo.ensures ∙ w.if-can_undo.true)
-      | else-can_undo w ↦ which-none c.if-can_undo.record (starts_dma_at s) _ w.record-is marked (sym c.can_undo.ensures ∙ w.if-can_undo.false)
-    ]
+    let k = c.steps_recorded_until.result in let s = c.args.self.now in let t = c.steps_recorded_until.new.self in let rs = c.steps_recorded_until.new.records in let d = c.new-record.result in
+    let one : k ≡ 1 = omega (arith, c.steps_recorded_until.ensures.recorded.within, c.if-steps_recorded_until-eq0.false) in
+    one-which s t c.from_mut.result.now rs d c.can_undo.result c.then_some.result c.new-record.ensures c.can_undo.ensures c.then_some.ensures (rw one at c.steps_recorded_until.ensures.recorded)
 
 pub returns-clause-back : goal.returns-clause-back
 returns-clause-back g c =
-    let e = c.steps_recorded_until.ensures.recorded in let s = c.args.self.now in let t = c.steps_recorded_until.new.self in let rs = c.steps_recorded_until.new.records in let d = c.new-record.result in
-    let some : 0 < c.steps_recorded_until.result = omega (arith, c.if-steps_recorded_until-eq0.false) in
-    let marked = one-marked s rs d c.new-record.ensures (e.which 0 some) in
-    elim c.if-can_undo.branch [
-      | then-can_undo w ↦
-          subst (λ (o : Option Saved). IfSome o (λ r. undone r t ≡ s)) (sym w.record-is)
-          (one-back c.steps_recorded_until.result s t rs d (omega (arith, e.within, some)) c.new-record.ensures e.made.state marked (sym c.can_undo.ensures ∙ w.if-can_undo.true) (e.back 0 some))
-      | else-can_undo w ↦ subst (λ (o : Option Saved). IfSome o (λ r. undone r t ≡ s)) (sym w.record-is) tt
-    ]
+    let k = c.steps_recorded_until.result in let s = c.args.self.now in let t = c.steps_recorded_until.new.self in let rs = c.steps_recorded_until.new.records in let d = c.new-record.result in
+    let one : k ≡ 1 = omega (arith, c.steps_recorded_until.ensures.recorded.within, c.if-steps_recorded_until-eq0.false) in
+    one-back s t c.from_mut.result.now rs d c.can_undo.result c.then_some.result c.new-record.ensures c.can_undo.ensures c.then_some.ensures (rw one at c.steps_recorded_until.ensures.recorded)
