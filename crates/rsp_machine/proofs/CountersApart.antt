@@ -25,20 +25,6 @@ unfolding moves_control
 control_elsewhere From i rt p s = refl
 control_elsewhere To i rt p s = refl
 
-written_elsewhere : (a b : Bool) (v : ℕ) (sp : Sp) (p : ProgramCounters) (s : State)
-    → record (if a then moved_in v (with_counters p s) else if b then moved_out v (with_counters p s) else with_counters p s) { sp = sp }
-    ≡ with_counters p (record (if a then moved_in v s else if b then moved_out v s else s) { sp = sp })
-written_elsewhere true b v sp p s = refl
-written_elsewhere false true v sp p s = refl
-written_elsewhere false false v sp p s = refl
-
-pub sp_elsewhere : (op : MoveOp) (rt n : ℕ) (p : ProgramCounters) (s : State) → moves_sp op rt n (with_counters p s) ≡ with_counters p (moves_sp op rt n s)
-unfolding moves_sp
-sp_elsewhere From rt n p s = refl
-sp_elsewhere To rt n p s =
-    let v = register s.registers rt in
-    written_elsewhere (n % 16 == 2) (n % 16 == 3) v (after_register_write n v s.sp) p s
-
 -- nor does what an instruction changes depend on the places
 pub footprint_elsewhere : (i : Inst) (p : ProgramCounters) (s : State) → footprint_of i s ≡ footprint_of i (with_counters p s)
 unfolding footprint_of

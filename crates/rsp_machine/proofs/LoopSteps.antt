@@ -1,41 +1,44 @@
 -- Steps that are made one by one.
-use Rattle.std.proofs.Common.{◌≡◌, ◌≢◌, inl, inr, ℕ, zero, suc, ◌+◌, ◌-◌, ◌<◌, ◌≤◌, Bool, true, false, List, [], ◌∷◌, length, set, get_or, refl, sym, ap, subst, ◌∙◌, arith, cond, Option, Some, None}
+use Rattle.std.proofs.Common.{◌≡◌, ◌≢◌, inl, inr, ℕ, zero, suc, ◌+◌, ◌-◌, ◌<◌, ◌≤◌, Bool, true, false, List, [], ◌∷◌, length, set, get_or, refl, sym, ap, subst, ◌∙◌, arith, add-one, cond, Option, Some, None}
 use Rattle.std.specs.Prelude.{if◌then◌else◌, not, ◌||◌, ◌&&◌, ◌⊎◌, slice_get}
 use Rattle.std.proofs.lemmas.Bool.{cases_lt, not-true, not-false}
-use Rattle.std.proofs.lemmas.List.{length-set, set-get_or}
+use Rattle.std.proofs.lemmas.List.{length-set, set-get_or, get_or-set_same}
+use Rattle.std.proofs.lemmas.Option.{slice_get-get_or}
 use Rattle.rsp_decode.specs.declared.inst.Inst.{Inst}
 use Rattle.rsp_decode.specs.declared.inst.Inst.TheVariants.{MoveSp}
 use Rattle.rsp_decode.specs.declared.scalar.MoveOp.{MoveOp}
 use Rattle.rsp_decode.specs.Table.{inst_of}
 use Rattle.rsp_memory.specs.Memory.{word_at}
+use Rattle.rsp_regs.specs.Sp.{Sp}
 use Rattle.rsp_machine.specs.State.{State}
 use Rattle.rsp_machine.specs.ProgramCounters.{ProgramCounters, with_counters}
-use Rattle.rsp_machine.specs.Step.{after_single_step, step_by, step_of}
+use Rattle.rsp_machine.specs.Step.{executed, after_single_step, step_by, step_of}
 use Rattle.rsp_machine.specs.Laws.{steps_of, done_steps, done_of}
 use Rattle.rsp_machine.specs.Undo.{after_instruction, after_step_from}
-use Rattle.rsp_machine.specs.Transfers.{starts_dma_at}
-use Rattle.rsp_machine.specs.LoopTests.{IsRanged, tests_in, state_after}
+use Rattle.rsp_machine.specs.Transfers.{starts_dma, starts_dma_at}
+use Rattle.rsp_machine.specs.Footprint.{footprint_of, makes_no_dma, reaches_sp}
+use Rattle.rsp_machine.specs.LoopTests.{IsRanged, tests_of, tests_in, state_after}
 use Rattle.rsp_machine.specs.Loop.{AreDone, IsInjective, HasRecorded, HaveRecorded, LoopEnd}
 use Rattle.rsp_machine.specs.declared.footprint.Footprint.{Footprint}
+use Rattle.rsp_machine.specs.declared.footprint.Footprint.TheVariants as of
 use Rattle.rsp_machine.specs.declared.footprint.StepTests.{StepTests}
 use Rattle.rsp_machine.specs.declared.step.StepEnd.{StepEnd}
 use Rattle.rsp_machine.specs.declared.step.StepEnd.TheVariants.{Done, Halted, Reserved}
 use Rattle.rsp_machine.specs.Until.{changes_memory_at, ends_after, refuses_by, refuses_at, permitted}
-use Rattle.rsp_machine.proofs.OneStep.{stays, free, clear_as, clear_behind, halted_as, memory-as, dma-as, dma-free, step_halted, step_reserved, step_done}
+use Rattle.rsp_machine.proofs.CountersApart.{ranged-at}
+use Rattle.rsp_machine.proofs.Undo.{dma_of}
+use Rattle.rsp_machine.proofs.OneStep.{leaves, halts-none, clear-after}
 
 -- no step, and one more
-pub made-none : (k : ℕ) (s t : State) → k ≡ 0 → t ≡ s → AreDone k s t
+made_none : (s : State) → AreDone 0 s s
 unfolding steps_of done_of
-made-none zero s t k e = record { state = e; done = refl }
-made-none (suc n) s t k e = absurd (omega (arith, k))
+made_none s = record { state = refl; done = refl }
 
-pub made-more : (k j : ℕ) (s t u : State) → AreDone k s t → step_of t ≡ (Done, u) → j ≡ suc k → AreDone j s u
+made_more : (k : ℕ) (s t u : State) → AreDone k s t → step_of t ≡ (Done, u) → AreDone (k + 1) s u
 unfolding steps_of done_of
-made-more k j s t u m e i = rw (i) (record {
+made_more k s t u m e = rw add-one (record {
   state = sym (ap (λ x. x.1) e) ∙ ap (λ (x : State). (step_of x).1) m.state;
-  done =
-      let here : done_steps (step_of (steps_of k s)).0 ≡ 1 = ap (λ (x : State). done_steps (step_of x).0) (sym m.state) ∙ ap (λ x. done_steps x.0) e in
-      omega (arith, here, m.done);
+  done = omega (arith, m.done, ap (λ (x : State). done_steps (step_of x).0) m.state, ap (λ x. done_steps x.0) e);
 })
 
 -- steps after steps
@@ -46,102 +49,98 @@ steps-add m (suc n) s =
     ap (λ i. steps_of i s) (let e : m + suc n ≡ suc (m + n) = omega arith in e)
     ∙ ap (λ (x : State). (step_of x).1) (steps-add m n s)
 
-done_add : (m n : ℕ) (s : State) → done_of (m + n) s ≡ done_of m s + done_of n (steps_of m s)
-unfolding done_of
-done_add m zero s =
-    let e : m + 0 ≡ m = omega arith in
-    let f : done_of m s ≡ done_of m s + 0 = omega arith in
-    ap (λ i. done_of i s) e ∙ f
-done_add m (suc n) s =
-    let more : done_of (m + suc n) s ≡ done_of (suc (m + n)) s = ap (λ i. done_of i s) (let e : m + suc n ≡ suc (m + n) = omega arith in e) in
-    let here = ap (λ (x : State). done_steps (step_of x).0) (steps-add m n s) in
-    more ∙ omega (arith, done_add m n s, here)
+-- a step that isn't Done changes nothing: the machine is halted, or the word is reserved
+not_done_by : (b : Bool) (o : Option Inst) (w : ℕ) (s : State) → done_steps (if b then (Halted, s) else step_by o w s).0 ≡ 0 → (if b then (Halted, s) else step_by o w s) ≡ (if b then Halted else Reserved w, s)
+not_done_by true o w s e = refl
+not_done_by false None w s e = refl
+not_done_by false (Some i) w s e = absurd (omega (arith, e))
 
--- what is known of all steps where all are Done
-all_state : (k n : ℕ) (s t : State) → AreDone k s t → k ≡ n → t ≡ steps_of n s
-all_state k n s t m e = m.state ∙ ap (λ i. steps_of i s) e
-
-all_done : (k n : ℕ) (s t : State) → AreDone k s t → k ≡ n → k ≡ done_of n s
-all_done k n s t m e = sym m.done ∙ ap (λ i. done_of i s) e
-
--- a step that isn't Done changes nothing, and no later one is
-unchanged_by : (b : Bool) (o : Option Inst) (w : ℕ) (s : State) → done_steps (if b then (Halted, s) else step_by o w s).0 ≡ 0 → (if b then (Halted, s) else step_by o w s).1 ≡ s
-unchanged_by true o w s e = refl
-unchanged_by false None w s e = refl
-unchanged_by false (Some i) w s e = absurd (omega (arith, e))
-
-unchanged : (s : State) → done_steps (step_of s).0 ≡ 0 → (step_of s).1 ≡ s
+not_done : (s : State) → done_steps (step_of s).0 ≡ 0 → step_of s ≡ (if s.sp.halted then Halted else Reserved (word_at s.imem s.pc), s)
 unfolding step_of
-unchanged s e = unchanged_by s.sp.halted (inst_of (word_at s.imem s.pc)) (word_at s.imem s.pc) s e
+not_done s e = not_done_by s.sp.halted (inst_of (word_at s.imem s.pc)) (word_at s.imem s.pc) s e
 
-stuck_steps : (n : ℕ) (s : State) → done_steps (step_of s).0 ≡ 0 → steps_of n s ≡ s
-unfolding steps_of
-stuck_steps zero s e = refl
-stuck_steps (suc n) s e = ap (λ (x : State). (step_of x).1) (stuck_steps n s e) ∙ unchanged s e
+-- all steps of n that are Done: k of them, where the next one isn't
+all_made : (k n : ℕ) (s t : State) → AreDone k s t → k ≡ n → (t ≡ steps_of n s) × (k ≡ done_of n s)
+all_made k n s t m e = rw (← e) (m.state, sym m.done)
 
-stuck_done : (n : ℕ) (s : State) → done_steps (step_of s).0 ≡ 0 → done_of n s ≡ 0
-unfolding done_of
-stuck_done zero s e = refl
-stuck_done (suc n) s e =
-    let here = ap (λ (x : State). done_steps (step_of x).0) (stuck_steps n s e) in
-    omega (arith, stuck_done n s e, here, e)
+pub ends-all : (k n : ℕ) (s t : State) → AreDone k s t → k ≤ n → (k < n → done_steps (step_of t).0 ≡ 0) → (t ≡ steps_of n s) × (k ≡ done_of n s)
+unfolding steps_of done_of
+ends-all k zero s t m h stuck = all_made k 0 s t m (omega (arith, h))
+ends-all k (suc n) s t m h stuck = elim (cases_lt k (suc n)) [
+  | inl less ↦
+      let none = stuck less in
+      let so = ends-all k n s t m (omega (arith, less)) (λ _. none) in
+      (sym (ap (λ x. x.1) (not_done t none)) ∙ ap (λ (x : State). (step_of x).1) so.0, omega (arith, so.1, none, ap (λ (x : State). done_steps (step_of x).0) so.0))
+  | inr all ↦ all_made k (suc n) s t m (omega (arith, h, all))
+]
 
--- and where one isn't
-stuck_state : (k n : ℕ) (s t : State) → AreDone k s t → k ≤ n → done_steps (step_of t).0 ≡ 0 → t ≡ steps_of n s
-stuck_state k n s t m h e =
-    let rest : n ≡ k + (n - k) = omega (arith, h) in
-    sym (ap (λ i. steps_of i s) rest ∙ steps-add k (n - k) s ∙ ap (λ (x : State). steps_of (n - k) x) (sym m.state) ∙ stuck_steps (n - k) t e)
+-- what holds of the first k numbers, and of k
+pub upto : (P : ℕ → Type 0) (k j : ℕ) → ((i : ℕ) → i < k → P i) → P k → j < k + 1 → P j
+upto P k j before here less = elim (cases_lt j k) [
+  | inl earlier ↦ before j earlier
+  | inr now ↦ subst P (let last : k ≡ j = omega (arith, now, less) in last) here
+]
 
-stuck_done_all : (k n : ℕ) (s t : State) → AreDone k s t → k ≤ n → done_steps (step_of t).0 ≡ 0 → k ≡ done_of n s
-stuck_done_all k n s t m h e =
-    let rest : done_of n s ≡ done_of (k + (n - k)) s = ap (λ i. done_of i s) (let r : n ≡ k + (n - k) = omega (arith, h) in r) in
-    let there = ap (λ (x : State). done_of (n - k) x) (sym m.state) in
-    omega (arith, rest, done_add k (n - k) s, there, stuck_done (n - k) t e, m.done)
+-- what execute has done of a word: its instruction, which no test refuses, leads to t
+pub record IsExecuted (refuses : MoveOp → ℕ → Bool) (o : Option Inst) (s t : State) (e : StepTests) : Type 0 where
+  pub inst : Inst
+  pub is : o ≡ Some inst
+  pub free : refuses_by refuses o ≡ false
+  pub tests : e ≡ tests_of (footprint_of inst s)
+  pub state : t ≡ executed inst s
 
--- What execute answers and leaves, of a machine s that isn't halted.
-pub record IsExecuted (refuses : MoveOp → ℕ → Bool) (w : ℕ) (s t : State) (r : Option StepTests) : Type 0 where
+some_is : {X : Type 0} (x y : X) → Some x ≡ Some y → x ≡ y
+some_is x y e = cc
+
+executed_as : (refuses : MoveOp → ℕ → Bool) (b : Bool) (o : Option Inst) (s t : State) (e : StepTests) → refuses_by refuses o ≡ b → Some e ≡ tests_in s (cond b None o) → t ≡ state_after s (cond b None o) → IsExecuted refuses o s t e
+executed_as refuses true o s t e free answer state = cc
+executed_as refuses false None s t e free answer state = cc
+executed_as refuses false (Some i) s t e free answer state = record { inst = i; is = refl; free = free; tests = some_is _ _ answer; state = state }
+
+-- or nothing: of a reserved word, or of a move that a test refuses
+none_as : (refuses : MoveOp → ℕ → Bool) (b : Bool) (o : Option Inst) (s t : State) → refuses_by refuses o ≡ b → None ≡ tests_in s (cond b None o) → t ≡ state_after s (cond b None o) → (t ≡ s) × ((o ≡ None) ⊎ (refuses_by refuses o ≡ true))
+none_as refuses true o s t refused answer state = (state, inr refused)
+none_as refuses false None s t refused answer state = (state, inl refl)
+none_as refuses false (Some i) s t refused answer state = cc
+
+pub executed-none : (refuses : MoveOp → ℕ → Bool) (w : ℕ) (s t : State) → s.sp.halted ≡ false → w ≡ word_at s.imem s.pc → None ≡ tests_in s (permitted refuses (inst_of w)) → t ≡ state_after s (permitted refuses (inst_of w))
+    → (t ≡ s) × ((done_steps (step_of s).0 ≡ 0) ⊎ (refuses_at refuses s ≡ true))
+unfolding step_of refuses_at
+executed-none refuses w s t goes word answer state =
+    let none = none_as refuses (refuses_by refuses (inst_of w)) (inst_of w) s t refl answer state in
+    (none.0, rw (← word) (elim none.1 [ inl reserved ↦ inl (rw (goes, reserved) refl) | inr refused ↦ inr refused ]))
+
+unhalted : {X : Type 0} (b : Bool) (x y : X) → b ≡ false → (if b then x else y) ≡ y
+unhalted b x y e = rw e refl
+
+-- a turn of the loop: from s to t by an instruction, to u by its end, and to x of a recorder
+pub record IsTurn {K : Type 0} (saves : Footprint → State → K → K) (refuses : MoveOp → ℕ → Bool) (s t u : State) (e : StepTests) (single : Bool) (before x : K) : Type 0 where
   pub goes : s.sp.halted ≡ false
-  pub word : w ≡ word_at s.imem s.pc
-  pub answer : r ≡ tests_in s (permitted refuses (inst_of w))
-  pub state : t ≡ state_after s (permitted refuses (inst_of w))
-
-pub executed-as : (refuses : MoveOp → ℕ → Bool) (w : ℕ) (p q : ProgramCounters) (l v : State) (r : Option StepTests) → l.sp.halted ≡ false → w ≡ word_at l.imem p.pc
-    → r ≡ tests_in (with_counters p l) (permitted refuses (inst_of w)) → with_counters q v ≡ state_after (with_counters p l) (permitted refuses (inst_of w))
-    → IsExecuted refuses w (with_counters p l) (with_counters q v) r
-executed-as refuses w p q l v r goes word answer state = record { goes = goes; word = word; answer = answer; state = state }
-
--- what is executed isn't refused, so it is the instruction of the word
-allowed_by : (refused : Bool) (o : Option Inst) (s : State) (r : Option StepTests) (e : StepTests) → r ≡ tests_in s (cond refused None o) → r ≡ Some e → refused ≡ false
-allowed_by true o s r e answer some = cc
-allowed_by false o s r e answer some = refl
-
-allowed : (refuses : MoveOp → ℕ → Bool) (w : ℕ) (s t : State) (r : Option StepTests) (e : StepTests) → IsExecuted refuses w s t r → r ≡ Some e → refuses_by refuses (inst_of w) ≡ false
-allowed refuses w s t r e h some = allowed_by (refuses_by refuses (inst_of w)) (inst_of w) s r e h.answer some
-
-permitted_is : (refuses : MoveOp → ℕ → Bool) (w : ℕ) (s t : State) (r : Option StepTests) (e : StepTests) → IsExecuted refuses w s t r → r ≡ Some e → permitted refuses (inst_of w) ≡ inst_of w
-permitted_is refuses w s t r e h some = ap (λ b. cond b None (inst_of w)) (allowed refuses w s t r e h some)
-
--- and in which state the step then ends
-pub record IsTurn (refuses : MoveOp → ℕ → Bool) (w : ℕ) (s t u : State) (r : Option StepTests) (e : StepTests) (single : Bool) : Type 0 where
-  pub executed : IsExecuted refuses w s t r
-  pub some : r ≡ Some e
+  pub executed : IsExecuted refuses (inst_of (word_at s.imem s.pc)) s t e
   pub clear : single ≡ false → s.sp.single_step ≡ false
   pub ended : u ≡ (if e.sp || single then after_single_step t else t)
+  pub told : x ≡ after_step_from saves s before
+  pub ranged : IsRanged s
 
 ended_at : (b : Bool) (p : ProgramCounters) (s t : State) → s ≡ (if b then after_single_step t else t) → with_counters p s ≡ (if b then after_single_step (with_counters p t) else with_counters p t)
 ended_at true p s t e = ap (with_counters p) e
 ended_at false p s t e = ap (with_counters p) e
 
-pub turn-of : (refuses : MoveOp → ℕ → Bool) (w : ℕ) (p q : ProgramCounters) (l v m : State) (r : Option StepTests) (e : StepTests) (single : Bool) → l.sp.halted ≡ false → w ≡ word_at l.imem p.pc
-    → r ≡ tests_in (with_counters p l) (permitted refuses (inst_of w)) → with_counters q v ≡ state_after (with_counters p l) (permitted refuses (inst_of w)) → r ≡ Some e
-    → (single ≡ false → l.sp.single_step ≡ false) → m ≡ (if e.sp || single then after_single_step v else v)
-    → IsTurn refuses w (with_counters p l) (with_counters q v) (with_counters q m) r e single
-turn-of refuses w p q l v m r e single goes word answer state some clear ended = record {
-  executed = record { goes = goes; word = word; answer = answer; state = state };
-  some = some;
-  clear = clear;
-  ended = ended_at (e.sp || single) q m v ended;
-}
+pub turn-of : {K : Type 0} (saves : Footprint → State → K → K) (refuses : MoveOp → ℕ → Bool) (w : ℕ) (p q : ProgramCounters) (l v m : State) (r : Option StepTests) (e : StepTests) (single : Bool) (before x : K)
+    → l.sp.halted ≡ false → w ≡ word_at l.imem p.pc → r ≡ tests_in (with_counters p l) (permitted refuses (inst_of w)) → with_counters q v ≡ state_after (with_counters p l) (permitted refuses (inst_of w)) → r ≡ Some e
+    → (single ≡ false → l.sp.single_step ≡ false) → m ≡ (if e.sp || single then after_single_step v else v) → x ≡ after_instruction saves (permitted refuses (inst_of w)) (with_counters p l) before → IsRanged l
+    → IsTurn saves refuses (with_counters p l) (with_counters q v) (with_counters q m) e single before x
+unfolding after_step_from
+turn-of saves refuses w p q l v m r e single before x goes word answer state some clear ended told ranged =
+    let done = executed_as refuses (refuses_by refuses (inst_of w)) (inst_of w) (with_counters p l) (with_counters q v) e refl (sym some ∙ answer) state in
+    record {
+      goes = goes;
+      executed = rw (← word) done;
+      clear = clear;
+      ended = ended_at (e.sp || single) q m v ended;
+      told = told ∙ ap (λ b. after_instruction saves (cond b None (inst_of w)) (with_counters p l) before) done.free ∙ ap (λ i. after_instruction saves (inst_of i) (with_counters p l) before) word ∙ sym (unhalted l.sp.halted before _ goes);
+      ranged = ranged-at p l ranged;
+    }
 
 ended_by : (a b : Bool) (t u : State) → u ≡ (if a || b then after_single_step t else t) → ((a ≡ false) × (b ≡ false) → t ≡ after_single_step t) → after_single_step t ≡ u
 ended_by true b t u e same = sym e
@@ -163,45 +162,51 @@ stops-by false true true goes r e f = inl refl
 stops-by false true false goes r e f = inr (sym e ∙ f)
 stops-by false false halted goes r e f = cc
 
-module _ (refuses : MoveOp → ℕ → Bool) (w : ℕ) (s t u : State) (r : Option StepTests) (e : StepTests) (single : Bool) (h : IsTurn refuses w s t u r e single) where
-  turn_answer : Some e ≡ tests_in s (inst_of w)
-  turn_answer = sym h.some ∙ h.executed.answer ∙ ap (tests_in s) (permitted_is refuses w s t r e h.executed h.some)
+-- whether it starts a DMA
+not_back : (b d : Bool) → b ≡ not d → not b ≡ d
+not_back b true e = ap not e
+not_back b false e = ap not e
 
-  turn_state : t ≡ state_after s (inst_of w)
-  turn_state = h.executed.state ∙ ap (state_after s) (permitted_is refuses w s t r e h.executed h.some)
+no_dma : (f : Footprint) → reaches_sp f ≡ false → not (makes_no_dma f) ≡ false
+no_dma of.Dma h = cc
+no_dma _ h = refl
 
-  pub turn-permitted : refuses_at refuses s ≡ false
+module _ {K : Type 0} {saves : Footprint → State → K → K} {refuses : MoveOp → ℕ → Bool} {s t u : State} {e : StepTests} {single : Bool} {before x : K} (h : IsTurn saves refuses s t u e single before x) where
+  turn_permitted : refuses_at refuses s ≡ false
   unfolding refuses_at
-  turn-permitted = ap (λ v. refuses_by refuses (inst_of v)) (sym h.executed.word) ∙ allowed refuses w s t r e h.executed h.some
+  turn_permitted = h.executed.free
 
   -- an instruction that doesn't reach the SP registers leaves them, and single step halts nothing where it is clear
+  stays : e.sp ≡ false → t.sp ≡ s.sp
+  stays none = ap (λ (y : State). y.sp) h.executed.state ∙ leaves h.executed.inst s (ap (λ (y : StepTests). y.sp) (sym h.executed.tests) ∙ none)
+
   turn_free : (e.sp ≡ false) × (single ≡ false) → t ≡ after_single_step t
   turn_free none =
-      let same = stays (inst_of w) s t e none.0 turn_answer turn_state in
-      free s t h.executed.goes same (clear_as s t (h.clear none.1) same)
+      let same = stays none.0 in
+      ap (λ p. record t { sp = p }) (sym (halts-none t.sp (ap (λ (p : Sp). p.halted) same ∙ h.goes) (ap (λ (p : Sp). p.single_step) same ∙ h.clear none.1)))
 
   turn_ended : after_single_step t ≡ u
   turn_ended = ended_by e.sp single t u h.ended turn_free
 
-  turn_same : (e.sp ≡ false) × (single ≡ false) → u.sp ≡ s.sp
-  turn_same none = ap (λ (x : State). x.sp) (sym turn_ended ∙ sym (turn_free none)) ∙ stays (inst_of w) s t e none.0 turn_answer turn_state
-
-  pub turn-done : step_of s ≡ (Done, u)
-  turn-done = step_done w s t e h.executed.goes h.executed.word turn_answer turn_state ∙ ap (λ (x : State). (Done, x)) turn_ended
+  turn_done : step_of s ≡ (Done, u)
+  unfolding step_of
+  turn_done = unhalted s.sp.halted (Halted, s) _ h.goes ∙ rw h.executed.is (ap (λ (y : State). (Done, y)) (ap after_single_step (sym h.executed.state) ∙ turn_ended))
 
   pub turn-running : ((e.sp ≡ false) × (single ≡ false)) ⊎ (u.sp.halted ≡ false) → u.sp.halted ≡ false
-  turn-running (inl none) = sym (halted_as s u h.executed.goes (turn_same none))
+  turn-running (inl none) = ap (λ (y : State). y.sp.halted) (sym turn_ended ∙ sym (turn_free none)) ∙ ap (λ (p : Sp). p.halted) (stays none.0) ∙ h.goes
   turn-running (inr running) = running
 
   pub turn-clear : u.sp.halted ≡ false → u.sp.single_step ≡ false
-  turn-clear running = clear_behind t u (sym turn_ended) running
+  turn-clear running = clear-after t u (sym turn_ended) running
 
   turn_dma : e.dma ≡ starts_dma_at s
-  turn_dma = dma-as w s e h.executed.word turn_answer
+  unfolding starts_dma_at
+  turn_dma = rw (h.executed.tests, h.executed.is) (not_back _ _ (dma_of h.executed.inst s))
 
   -- if DMAs end the loop, it goes on only after a step that starts none
   pub turn-goes : (at_dma : Bool) → ((e.sp ≡ false) × (single ≡ false)) ⊎ ((u.sp.halted ≡ false) × (not (at_dma && e.dma) ≡ true)) → at_dma ≡ true → starts_dma_at s ≡ false
-  turn-goes true (inl none) at = sym turn_dma ∙ dma-free (inst_of w) s e turn_answer none.0
+  turn-goes true (inl none) at =
+      sym turn_dma ∙ ap (λ (y : StepTests). y.dma) h.executed.tests ∙ no_dma (footprint_of h.executed.inst s) (ap (λ (y : StepTests). y.sp) (sym h.executed.tests) ∙ none.0)
   turn-goes true (inr on) at = sym turn_dma ∙ not-true e.dma on.1
   turn-goes false goes at = cc
 
@@ -210,51 +215,8 @@ module _ (refuses : MoveOp → ℕ → Bool) (w : ℕ) (s t u : State) (r : Opti
   turn-stops false stops = cc
 
   pub turn-ends : (ends : ℕ → ℕ → Bool → Bool) (v : ℕ) → v ≡ word_at u.imem u.pc → ends_after ends s ≡ ends u.pc v e.changes_memory
-  unfolding ends_after
-  turn-ends ends v is =
-      ap (λ (x : State). ends x.pc (word_at x.imem x.pc) (changes_memory_at s)) (ap (λ x. x.1) turn-done)
-      ∙ ap (λ n. ends u.pc n (changes_memory_at s)) (sym is)
-      ∙ ap (ends u.pc v) (sym (memory-as w s e h.executed.word turn_answer))
-
--- what is refused at none of k steps, and at none of k + 1
-pub permitted-more : (refuses : MoveOp → ℕ → Bool) (o s : State) (k n j : ℕ) → ((i : ℕ) → i < k → refuses_at refuses (steps_of i o) ≡ false) → s ≡ steps_of k o → refuses_at refuses s ≡ false
-    → n ≡ k + 1 → j < n → refuses_at refuses (steps_of j o) ≡ false
-permitted-more refuses o s k n j before there here more less = elim (cases_lt j k) [
-  | inl earlier ↦ before j earlier
-  | inr now ↦
-      let last : k ≡ j = omega (arith, now, less, more) in
-      subst (λ (i : ℕ). refuses_at refuses (steps_of i o) ≡ false) last (ap (refuses_at refuses) (sym there) ∙ here)
-]
-
--- a reserved word and a refused move change nothing
-unreached : (o : Option Inst) (s : State) → None ≡ tests_in s o → state_after s o ≡ s
-unreached None s h = refl
-unreached (Some i) s h = cc
-
-refused_at : (refuses : MoveOp → ℕ → Bool) (w : ℕ) (s t : State) → w ≡ word_at s.imem s.pc → t ≡ s → refuses_by refuses (inst_of w) ≡ true → refuses_at refuses t ≡ true
-unfolding refuses_at
-refused_at refuses w s t word same refused =
-    ap (λ (x : State). refuses_by refuses (inst_of (word_at x.imem x.pc))) same ∙ ap (λ v. refuses_by refuses (inst_of v)) (sym word) ∙ refused
-
-none_by : (refuses : MoveOp → ℕ → Bool) (w : ℕ) (s t : State) (refused : Bool) → s.sp.halted ≡ false → w ≡ word_at s.imem s.pc → refuses_by refuses (inst_of w) ≡ refused
-    → None ≡ tests_in s (cond refused None (inst_of w)) → t ≡ state_after s (cond refused None (inst_of w)) → t ≡ s → (done_steps (step_of t).0 ≡ 0) ⊎ (refuses_at refuses t ≡ true)
-none_by refuses w s t true goes word refused answer state same = inr (refused_at refuses w s t word same refused)
-none_by refuses w s t false goes word refused answer state same =
-    inl (ap (λ (x : State). done_steps (step_of x).0) same ∙ ap (λ x. done_steps x.0) (step_reserved w s t goes word answer state))
-
-pub executed-none : (refuses : MoveOp → ℕ → Bool) (w : ℕ) (s t : State) (r : Option StepTests) → IsExecuted refuses w s t r → r ≡ None
-    → (t ≡ s) × ((done_steps (step_of t).0 ≡ 0) ⊎ (refuses_at refuses t ≡ true))
-executed-none refuses w s t r h is =
-    let answer = sym is ∙ h.answer in
-    let same = h.state ∙ unreached (permitted refuses (inst_of w)) s answer in
-    (same, none_by refuses w s t (refuses_by refuses (inst_of w)) h.goes h.word refl answer h.state same)
-
--- the same places, and the same start
-pub same_counters : (p q : ProgramCounters) (v w : State) → p ≡ q → v ≡ w → with_counters p v ≡ with_counters q w
-same_counters p q v w e f = rw (e, f) refl
-
-pub made-as : (k j : ℕ) (s t u : State) → AreDone k s t → j ≡ k → u ≡ t → AreDone j s u
-made-as k j s t u m i e = rw (i, e) m
+  unfolding ends_after changes_memory_at
+  turn-ends ends v is = rw (turn_done, h.executed.is, is, h.executed.tests) refl
 
 -- one step, by how many were made
 pub done_few : (e : StepEnd) → done_steps e ≤ 1
@@ -271,45 +233,21 @@ pub one-done : (k : ℕ) (s : State) → k ≡ done_of 1 s → k ≡ 1 → Done 
 unfolding steps_of done_of
 one-done k s d e = is_done (step_of s).0 (omega (arith, d, e))
 
-pub one-state : (s t : State) → t ≡ steps_of 1 s → t ≡ (step_of s).1
-unfolding steps_of
-one-state s t e = e
-
 pub one-none : (k : ℕ) (s : State) → k ≡ done_of 1 s → k ≢ 1 → done_steps (step_of s).0 ≡ 0
 unfolding steps_of done_of
 one-none k s d other = omega (arith, d, other, done_few (step_of s).0)
 
 pub one-halted : (s t : State) → t ≡ (step_of s).1 → done_steps (step_of s).0 ≡ 0 → t.sp.halted ≡ true → Halted ≡ (step_of s).0
 one-halted s t e none h =
-    ap (λ r. r.0) (sym (step_halted s (sym (ap (λ (x : State). x.sp.halted) (e ∙ unchanged s none)) ∙ h)))
-
-reserved_by : (b : Bool) (o : Option Inst) (w : ℕ) (s : State) → b ≡ false → done_steps (if b then (Halted, s) else step_by o w s).0 ≡ 0
-    → Reserved w ≡ (if b then (Halted, s) else step_by o w s).0
-reserved_by true o w s h e = cc
-reserved_by false None w s h e = refl
-reserved_by false (Some i) w s h e = absurd (omega (arith, e))
-
-reserved_here : (s : State) → s.sp.halted ≡ false → done_steps (step_of s).0 ≡ 0 → Reserved (word_at s.imem s.pc) ≡ (step_of s).0
-unfolding step_of
-reserved_here s h e = reserved_by s.sp.halted (inst_of (word_at s.imem s.pc)) (word_at s.imem s.pc) s h e
+    let end = not_done s none in
+    let same : t ≡ s = e ∙ ap (λ x. x.1) end in
+    rw (end, ← same, h) refl
 
 pub one-reserved : (w : ℕ) (s t : State) → t ≡ (step_of s).1 → done_steps (step_of s).0 ≡ 0 → t.sp.halted ≡ false → w ≡ word_at t.imem t.pc → Reserved w ≡ (step_of s).0
 one-reserved w s t e none h is =
-    let same = e ∙ unchanged s none in
-    ap Reserved (is ∙ ap (λ (x : State). word_at x.imem x.pc) same) ∙ reserved_here s (sym (ap (λ (x : State). x.sp.halted) same) ∙ h) none
-
--- as many steps as were made, where there are no more
-pub ends-state : (k n : ℕ) (s t : State) → AreDone k s t → k ≤ n → (k < n → done_steps (step_of t).0 ≡ 0) → t ≡ steps_of n s
-ends-state k n s t m within stuck = elim (cases_lt k n) [
-  | inl less ↦ stuck_state k n s t m within (stuck less)
-  | inr all ↦ all_state k n s t m (omega (arith, within, all))
-]
-
-pub ends-done : (k n : ℕ) (s t : State) → AreDone k s t → k ≤ n → (k < n → done_steps (step_of t).0 ≡ 0) → k ≡ done_of n s
-ends-done k n s t m within stuck = elim (cases_lt k n) [
-  | inl less ↦ stuck_done_all k n s t m within (stuck less)
-  | inr all ↦ all_done k n s t m (omega (arith, within, all))
-]
+    let end = not_done s none in
+    let same : t ≡ s = e ∙ ap (λ x. x.1) end in
+    rw (end, ← same, h, is) refl
 
 -- steps that no DMA ends
 pub ends-freely : (k : ℕ) (s t : State) (ends : ℕ → ℕ → Bool → Bool) (refuses : MoveOp → ℕ → Bool) → LoopEnd false ends refuses k s t
@@ -338,9 +276,7 @@ ends-stuck k s t (inr (inr (some, inr ended))) = cc
 
 -- what is in an entry that is written, and in the others
 slice_get-set_same : {X : Type 0} (xs : List X) (i : ℕ) (x : X) → i < length xs → slice_get (set xs i x) i ≡ Some x
-slice_get-set_same [] i x h = absurd (omega (arith, h))
-slice_get-set_same (y ∷ ys) zero x h = refl
-slice_get-set_same (y ∷ ys) (suc i) x h = slice_get-set_same ys i x (omega (arith, h))
+slice_get-set_same xs i x h = slice_get-get_or (set xs i x) i x (omega (arith, length-set xs i x, h)) ∙ ap Some (get_or-set_same xs i x x h)
 
 slice_get-set_other : {X : Type 0} (xs : List X) (i j : ℕ) (x : X) → i ≢ j → slice_get (set xs j x) i ≡ slice_get xs i
 slice_get-set_other [] i j x h = refl
@@ -349,15 +285,7 @@ slice_get-set_other (y ∷ ys) (suc i) zero x h = refl
 slice_get-set_other (y ∷ ys) zero (suc j) x h = refl
 slice_get-set_other (y ∷ ys) (suc i) (suc j) x h = slice_get-set_other ys i j x (λ e. h (ap suc e))
 
--- what a step tells: of an instruction, and nothing of a reserved word or a refused move
-told_running : {K : Type 0} (saves : Footprint → State → K → K) (b : Bool) (o : Option Inst) (s : State) (k : K) → b ≡ false → after_instruction saves o s k ≡ (if b then k else after_instruction saves o s k)
-told_running saves true o s k h = cc
-told_running saves false o s k h = refl
-
-told-running : {K : Type 0} (saves : Footprint → State → K → K) (w : ℕ) (s : State) (k x : K) → s.sp.halted ≡ false → w ≡ word_at s.imem s.pc → x ≡ after_instruction saves (inst_of w) s k → x ≡ after_step_from saves s k
-unfolding after_step_from
-told-running saves w s k x goes word e = e ∙ ap (λ v. after_instruction saves (inst_of v) s k) word ∙ told_running saves s.sp.halted (inst_of (word_at s.imem s.pc)) s k goes
-
+-- what is recorded of a reserved word or a refused move: nothing
 told_nothing : {K : Type 0} (saves : Footprint → State → K → K) (o : Option Inst) (s : State) (k : K) → None ≡ tests_in s o → after_instruction saves o s k ≡ k
 told_nothing saves None s k h = refl
 told_nothing saves (Some i) s k h = cc
@@ -365,41 +293,39 @@ told_nothing saves (Some i) s k h = cc
 pub told-nothing : {K : Type 0} (saves : Footprint → State → K → K) (o : Option Inst) (s : State) (xs : List K) (j : ℕ) (d x : K) → None ≡ tests_in s o → x ≡ after_instruction saves o s (get_or xs j d) → set xs j x ≡ xs
 told-nothing saves o s xs j d x none e = ap (set xs j) (e ∙ told_nothing saves o s (get_or xs j d) none) ∙ set-get_or xs j d
 
-module _ {K : Type 0} (saves : Footprint → State → K → K) (slot : ℕ → ℕ) where
-  pub told-none : (s : State) (old : List K) → HaveRecorded saves slot 0 s old old
-  told-none s old = record { told = λ each i h. absurd (omega (arith, h)); rest = λ j h. refl; len = refl }
+-- what a loop has done in k steps, of which a test refuses none
+pub record HasRun {K : Type 0} (saves : Footprint → State → K → K) (slot : ℕ → ℕ) (refuses : MoveOp → ℕ → Bool) (k : ℕ) (s t : State) (old new : List K) : Type 0 where
+  pub made : AreDone k s t
+  pub told : HaveRecorded saves slot k s old new
+  pub permitted : (i : ℕ) → i < k → refuses_at refuses (steps_of i s) ≡ false
+
+module _ {K : Type 0} (saves : Footprint → State → K → K) (slot : ℕ → ℕ) (refuses : MoveOp → ℕ → Bool) where
+  pub run-none : (s : State) (old : List K) → HasRun saves slot refuses 0 s s old old
+  run-none s old = record {
+    made = made_none s;
+    told = record { told = λ each i h. absurd (omega (arith, h)); rest = λ j h. refl; len = refl };
+    permitted = λ i h. absurd (omega (arith, h));
+  }
 
   kept : (k j : ℕ) (xs : List K) (x : K) → IsInjective slot → j ≡ slot k → (i : ℕ) → i < k → slice_get (set xs j x) (slot i) ≡ slice_get xs (slot i)
   kept k j xs x each at i l = slice_get-set_other xs (slot i) j x (λ e. let same : i ≡ k = each i k (e ∙ at) in absurd (omega (arith, l, same)))
 
-  -- one step more, which was told in the next slot
-  told-more : (k j : ℕ) (s t : State) (old new : List K) (x before : K) → HaveRecorded saves slot k s old new → t ≡ steps_of k s → j ≡ slot k → j < length new
-      → x ≡ after_step_from saves t before → IsRanged t → HaveRecorded saves slot (k + 1) s old (set new j x)
-  told-more k j s t old new x before a there at inside told ranged =
-      let here : HasRecorded saves (steps_of k s) (slice_get (set new j x) (slot k)) = record {
+  -- one turn more, which was told in the next slot
+  pub run-more : (k j : ℕ) (o s t u : State) (e : StepTests) (single : Bool) (old new : List K) (before x : K) → HasRun saves slot refuses k o s old new → IsTurn saves refuses s t u e single before x → j ≡ slot k → j < length new
+      → HasRun saves slot refuses (k + 1) o u old (set new j x)
+  run-more k j o s t u e single old new before x a turn at inside =
+      let there = a.made.state in
+      let here : HasRecorded saves (steps_of k o) (slice_get (set new j x) (slot k)) = rw (← there) (record {
         before = before;
-        told = ap (slice_get (set new j x)) (sym at) ∙ slice_get-set_same new j x inside ∙ ap Some (told ∙ ap (λ (y : State). after_step_from saves y before) there);
-        ranged = subst (λ (y : State). IsRanged y) there ranged;
-      } in
+        told = ap (slice_get (set new j x)) (sym at) ∙ slice_get-set_same new j x inside ∙ ap Some turn.told;
+        ranged = turn.ranged;
+      }) in
       record {
-        told = λ each i h. elim (cases_lt i k) [
-          | inl l ↦ subst (λ (o : Option K). HasRecorded saves (steps_of i s) o) (sym (kept k j new x each at i l)) (a.told each i l)
-          | inr r ↦
-              let last : k ≡ i = omega (arith, r, h) in
-              subst (λ (m : ℕ). HasRecorded saves (steps_of m s) (slice_get (set new j x) (slot m))) last here
-        ];
-        rest = λ i other. slice_get-set_other new i j x (λ e. other k (omega arith) (sym at ∙ sym e)) ∙ a.rest i (λ m l. other m (omega (arith, l)));
-        len = length-set new j x ∙ a.len;
+        made = made_more k o s u a.made (turn_done turn);
+        told = record {
+          told = λ each i h. upto (λ n. HasRecorded saves (steps_of n o) (slice_get (set new j x) (slot n))) k i (λ n l. rw (kept k j new x each at n l) (a.told.told each n l)) here h;
+          rest = λ i other. slice_get-set_other new i j x (λ f. other k (omega arith) (sym at ∙ sym f)) ∙ a.told.rest i (λ m l. other m (omega (arith, l)));
+          len = length-set new j x ∙ a.told.len;
+        };
+        permitted = λ i h. upto (λ n. refuses_at refuses (steps_of n o) ≡ false) k i a.permitted (rw (← there) (turn_permitted turn)) h;
       }
-
-  -- by a turn
-  pub turn-told : (refuses : MoveOp → ℕ → Bool) (w k j : ℕ) (o s t : State) (r : Option StepTests) (e : StepTests) (old new : List K) (x before : K) → IsExecuted refuses w s t r → r ≡ Some e → AreDone k o s
-      → HaveRecorded saves slot k o old new → j ≡ slot k → j < length new → x ≡ after_instruction saves (permitted refuses (inst_of w)) s before → IsRanged s
-      → HaveRecorded saves slot (k + 1) o old (set new j x)
-  turn-told refuses w k j o s t r e old new x before h some run a at inside told ranged =
-      let same = told ∙ ap (λ i. after_instruction saves i s before) (permitted_is refuses w s t r e h some) in
-      told-more k j o s old new x before a run.state at inside (told-running saves w s before x h.goes h.word same) ranged
-
-  -- the same, by a number and slots that are equal
-  pub told-as : (k j : ℕ) (s : State) (old new now : List K) → HaveRecorded saves slot k s old new → j ≡ k → now ≡ new → HaveRecorded saves slot j s old now
-  told-as k j s old new now a same slots = rw (same, slots) a

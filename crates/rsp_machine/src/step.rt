@@ -107,6 +107,7 @@ impl<A: Acc> Machine<A> {
     /// One step: Halted if the machine is halted, else Reserved if the word at pc is reserved, and in both cases nothing changes. Else
     /// the word's instruction is executed; then, if single step is set, the machine is halted, and the answer is Done. Many steps
     /// are faster by [`Machine::steps`].
+    #[tactic(auto, unfolding(crate::specs::Laws::steps_of))]
     pub fn step(&mut self) -> StepEnd
         ensures answer { result ≡ (step_of self.old).0 }
         ensures state { self.new ≡ (step_of self.old).1 }
