@@ -32,9 +32,7 @@ leaves Break s h = cc
 leaves (MoveSp From rt n) s h = cc
 leaves (MoveSp To rt n) s h = dma_reaches (is_length_register n) ((executed (MoveSp To rt n) s).sp ≡ s.sp) h
 leaves (MoveVector From rt n element) s h = refl
-leaves (MoveVector To rt n element) s h = refl
 leaves (MoveControl From rt control) s h = refl
-leaves (MoveControl To rt control) s h = refl
 leaves _ s h = refl
 
 -- single step halts nothing where it is clear

@@ -92,24 +92,15 @@ saved_back (Immediate op rt rs imm) s r e h k = registers_same s _ h (register-b
 saved_back (LoadUpper rt imm) s r e h k = registers_same s _ h (register-back s.registers rt _)
 saved_back (Load op f) s r e h k = registers_same s _ h (register-back s.registers f.rt _)
 saved_back (Store op f) s r e h k = memory_same s _ h (store-back op s.dmem (address s.registers f.base f.offset) (register s.registers f.rt))
-saved_back (JumpRegister rs) s r e h k = registers_same s _ h refl
 saved_back (JumpLinkRegister rd rs) s r e h k = registers_same s _ h (register-back s.registers rd _)
-saved_back (BranchSign Bltz rs offset) s r e h k = registers_same s _ h refl
-saved_back (BranchSign Bgez rs offset) s r e h k = registers_same s _ h refl
 saved_back (BranchSign Bltzal rs offset) s r e h k = registers_same s _ h (register-back s.registers 31 _)
 saved_back (BranchSign Bgezal rs offset) s r e h k = registers_same s _ h (register-back s.registers 31 _)
-saved_back (BranchSign Blez rs offset) s r e h k = registers_same s _ h refl
-saved_back (BranchSign Bgtz rs offset) s r e h k = registers_same s _ h refl
-saved_back (BranchEqual op rs rt offset) s r e h k = registers_same s _ h refl
-saved_back (Jump J target) s r e h k = registers_same s _ h refl
 saved_back (Jump Jal target) s r e h k = registers_same s _ h (register-back s.registers 31 _)
-saved_back Break s r e h k = registers_same s _ h refl
 saved_back (MoveSp From rt n) s r e h k = registers_same s _ h (register-back s.registers rt _)
 saved_back (MoveSp To rt n) s r e h k = written_back n (register s.registers rt) s r e h
 saved_back (MoveVector From rt n element) s r e h k = registers_same s _ h (register-back s.registers rt _)
 saved_back (MoveVector To rt n element) s r e h k = vectors_same s _ h (vector-back s.vectors n _)
 saved_back (MoveControl From rt control) s r e h k = registers_same s _ h (register-back s.registers rt _)
-saved_back (MoveControl To rt control) s r e h k = registers_same s _ h refl
 saved_back (Multiply op f) s r e h k = vectors_same s _ h (vector-back s.vectors f.vd _)
 saved_back (Round op f) s r e h k = vectors_same s _ h (vector-back s.vectors f.vd _)
 saved_back (MpegMultiply op f) s r e h k = vectors_same s _ h (vector-back s.vectors f.vd _)
@@ -125,11 +116,11 @@ saved_back (VectorMerge f) s r e h k =
 saved_back (VectorLogic op f) s r e h k =
     lanes_same s _ _ _ h (vector-back s.vectors f.vd _) (rule-back _ (logic_low (logic_of op)) s r.accumulators f.vs f.vt f.element k) (logic-back (logic_of op) _ _ s.flags k.flags)
 saved_back (Divide op vd lane vt n) s r e h k = lanes_same s _ _ _ h (vector-back s.vectors vd _) (divide-back s r.accumulators vt n k) refl
-saved_back (Idle op) s r e h k = registers_same s _ h refl
 saved_back (VectorLoad op f) s r e h k =
     load_back (writes_group op) f.vt _ s r h (loaded-back op s.dmem s.vectors f.vt f.element (vector_address (VectorLoad op f) (register s.registers f.base)))
 saved_back (VectorStore op f) s r e h k =
     memory_same s _ h (stored-back op f.vt f.element (vector_address (VectorStore op f) (register s.registers f.base)) s.vectors s.dmem)
+saved_back _ s r e h k = registers_same s _ h refl
 
 -- any step that is Done and starts no DMA
 back_by : (b : Bool) (o : Option Inst) (word : ℕ) (s : State) (r : Saved) → s.sp.halted ≡ b → IsRanged s
@@ -160,20 +151,12 @@ write_undone false = refl
 -- an instruction's change says whether the instruction starts a DMA
 pub dma_of : (i : Inst) (s : State) → makes_no_dma (footprint_of i s) ≡ not (starts_dma i)
 unfolding footprint_of
-dma_of (BranchSign Bltz rs offset) s = refl
-dma_of (BranchSign Bgez rs offset) s = refl
 dma_of (BranchSign Bltzal rs offset) s = refl
-dma_of (BranchSign Bgezal rs offset) s = refl
-dma_of (BranchSign Blez rs offset) s = refl
-dma_of (BranchSign Bgtz rs offset) s = refl
-dma_of (Jump J target) s = refl
 dma_of (Jump Jal target) s = refl
 dma_of (MoveSp From rt n) s = refl
 dma_of (MoveSp To rt n) s = write_undone (is_length_register n)
 dma_of (MoveVector From rt n element) s = refl
-dma_of (MoveVector To rt n element) s = refl
 dma_of (MoveControl From rt control) s = refl
-dma_of (MoveControl To rt control) s = refl
 dma_of (VectorLoad op f) s = load_undone (writes_group op) f.vt
 dma_of _ s = refl
 
@@ -200,9 +183,7 @@ dmem_stays (VectorStore op f) s h = cc
 dmem_stays (MoveSp From rt n) s h = refl
 dmem_stays (MoveSp To rt n) s h = written_stays (is_length_register n) (register s.registers rt) n s refl h
 dmem_stays (MoveVector From rt n element) s h = refl
-dmem_stays (MoveVector To rt n element) s h = refl
 dmem_stays (MoveControl From rt control) s h = refl
-dmem_stays (MoveControl To rt control) s h = refl
 dmem_stays _ s h = refl
 
 stays_by : (b : Bool) (o : Option Inst) (word : ℕ) (s : State) → (if b then (Halted, s) else step_by o word s).0 ≡ Done → changes_memory_by o s ≡ false → (if b then (Halted, s) else step_by o word s).1.dmem ≡ s.dmem
