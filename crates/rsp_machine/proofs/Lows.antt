@@ -80,10 +80,7 @@ merge_low a b f h k = either_whole f.compare a b _ h k
 
 pub clip_low : (op : ClipOp) → IsLow (clip_rule op)
 clip_low Vcl a b f h k =
-    let limit : negated b < 65536 = negated_below b in
-    either (f.carry && f.differ) _ _ (either_whole f.compare _ a _ limit h)
-    (either f.carry _ _ (either_whole (vcl_compare (a + b) f.extra) _ a _ limit h)
-    (either f.differ _ _ (either_whole f.clip b a _ k h) (either_whole (nat_le b a) b a _ k h)))
+    search (either, either_whole, negated_below, h, k)
 clip_low Vch a b f h k =
     either (signs_differ a b) _ _ (either_whole (int_le (s16 a +ℤ s16 b) (pos 0)) _ a _ (negated_below b) h)
     (either_whole (int_le (pos 0) (s16 a -ℤ s16 b)) b a _ k h)

@@ -1,9 +1,10 @@
 -- Which states the records of steps undo to.
 use Rattle.std.proofs.Common.{◌≡◌, inl, inr, ℕ, zero, suc, ◌+◌, ◌<◌, ◌≤◌, Bool, true, false, not, List, [], ◌∷◌, length, drop, get_or, refl, sym, ap, ◌∙◌, arith, add-one, Option, Some, None}
-use Rattle.std.specs.Prelude.{slice_get, IsSome, IfSome}
+use Rattle.std.specs.Prelude.{slice_get, unwrap_or, IsSome, IfSome}
 use Rattle.std.specs.Bool.{then_some}
 use Rattle.std.proofs.lemmas.Bool.{cases_lt}
-use Rattle.std.proofs.lemmas.Option.{get_or_from_slice_get}
+use Rattle.std.proofs.lemmas.Option.{get_or_from_slice_get, unwrap_or-slice_get}
+use Rattle.std.proofs.lemmas.List.{ext_get_or, get_or-drop, length-drop}
 use Rattle.rsp_machine.specs.State.{State}
 use Rattle.rsp_machine.specs.Step.{step_of}
 use Rattle.rsp_machine.specs.Laws.{steps_of, done_steps, done_of}
@@ -60,21 +61,12 @@ module _ (k : ℕ) (s : State) (old new : List Saved) (a : HaveSaved k s old new
       rw (record_is (steps_of i s) new i told, steps-more i s) (record-back (steps_of i s) told.before told.ranged (done-each k s done i h) none)
 
 -- the further records stay
-drop_as : {X : Type 0} (xs ys : List X) (n : ℕ) → length xs ≡ length ys → ((j : ℕ) → n ≤ j → slice_get xs j ≡ slice_get ys j) → drop n xs ≡ drop n ys
-drop_as [] [] n len same = refl
-drop_as [] (y ∷ ys) n len same = absurd (omega (arith, len))
-drop_as (x ∷ xs) [] n len same = absurd (omega (arith, len))
-drop_as (x ∷ xs) (y ∷ ys) zero len same =
-    let head : x ≡ y = some_is x y (same zero (omega arith)) in
-    let tail : drop 0 xs ≡ drop 0 ys = drop_as xs ys zero (omega (arith, len)) (λ j h. same (suc j) (omega arith)) in
-    ap (λ z. z ∷ xs) head ∙ ap (λ l. y ∷ l) tail
-  where
-    some_is : {X : Type 0} (x y : X) → Some x ≡ Some y → x ≡ y
-    some_is x y e = cc
-drop_as (x ∷ xs) (y ∷ ys) (suc n) len same = drop_as xs ys n (omega (arith, len)) (λ j h. same (suc j) (omega (arith, h)))
-
 pub recorded-rest : (k : ℕ) (s : State) (old new : List Saved) → HaveSaved k s old new → drop k new ≡ drop k old
-recorded-rest k s old new a = drop_as new old k a.len (λ j h. a.rest j (λ i l e. absurd (omega (arith, h, l, e))))
+recorded-rest k s old new a =
+    let same : (j : ℕ) → k ≤ j → get_or new j blank ≡ get_or old j blank =
+        λ j h. sym (unwrap_or-slice_get new j blank) ∙ ap (λ o. unwrap_or o blank) (a.rest j (λ i l e. absurd (omega (arith, h, l, e)))) ∙ unwrap_or-slice_get old j blank in
+    ext_get_or blank (drop k new) (drop k old) (omega (arith, length-drop k new, length-drop k old, a.len))
+    (λ i h. get_or-drop k new i blank ∙ same (k + i) (omega arith) ∙ sym (get_or-drop k old i blank))
 
 -- all that a run with records promises
 pub are-recorded : (k : ℕ) (s t : State) (old new : List Saved) → k ≤ length old → AreDone k s t → HaveSaved k s old new → ((i : ℕ) → i + 1 < k → true ≡ true → starts_dma_at (steps_of i s) ≡ false) → AreRecorded k s t old new

@@ -19,30 +19,16 @@ whole_is step limit n h e = grind (arith, nat_tests)
 zero_is : (n : ℕ) → n ≡ 0 → (n == 0) ≡ true
 zero_is n e = grind (arith, nat_tests)
 
-no_fault : (a b c d e f : Bool) → a ≡ true → b ≡ true → c ≡ true → d ≡ true → e ≡ true → f ≡ true
-    → (if not (a && b) then Some Place
-    else if not c then Some RegisterZero
-    else if not d then Some MemoryAddress
-    else if not e then Some DramAddress
-    else if not f then Some Skip
-    else None) ≡ None
-no_fault a b c d e f p q r s t u = rw (p, q, r, s, t, u) refl
-
 fits : (s : State) → IsState s → registers_fault (registers_of s) ≡ None
 unfolding registers_of
-fits s h = no_fault
-    (is_whole 4 4096 s.pc)
-    (is_whole 4 4096 s.npc)
-    (slice_index s.registers 0 == 0)
-    (is_whole 8 8192 s.sp.memory)
-    (is_whole 8 16777216 s.sp.dram)
-    (is_whole 8 4096 s.sp.skip)
-    (whole_is 4 4096 s.pc h.pc.0 h.pc.1)
-    (whole_is 4 4096 s.npc h.npc.0 h.npc.1)
-    (zero_is _ h.registers.zero)
-    (whole_is 8 8192 s.sp.memory h.sp.kept.memory.0 h.sp.kept.memory.1)
-    (whole_is 8 16777216 s.sp.dram h.sp.kept.dram.0 h.sp.kept.dram.1)
-    (whole_is 8 4096 s.sp.skip h.sp.kept.skip.0 h.sp.kept.skip.1)
+fits s h = rw (
+    whole_is 4 4096 s.pc h.pc.0 h.pc.1,
+    whole_is 4 4096 s.npc h.npc.0 h.npc.1,
+    zero_is _ h.registers.zero,
+    whole_is 8 8192 s.sp.memory h.sp.kept.memory.0 h.sp.kept.memory.1,
+    whole_is 8 16777216 s.sp.dram h.sp.kept.dram.0 h.sp.kept.dram.1,
+    whole_is 8 4096 s.sp.skip h.sp.kept.skip.0 h.sp.kept.skip.1,
+  ) refl
 
 pub set-as-read : SetAsRead
 set-as-read s h = (fits s h, with-registers-of s h.accumulators)
