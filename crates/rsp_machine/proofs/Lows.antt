@@ -62,7 +62,9 @@ whole n f h = record { low = h }
 either_whole : (c : Bool) (m n : ℕ) (f : LaneFlags) → m < 65536 → n < 65536 → IsSixteen (plain (if c then m else n) f)
 either_whole c m n f h k = whole _ f (one_below c m n h k)
 
--- the rules of the rows
+ruleset sixteen = (either, whole, either_whole, one_below, negated_below, complement_below, and_lt, or_lt, xor_lt)
+
+-- the rules of the instructions
 pub add_low : (op : AddOp) → IsLow (add_rule op)
 add_low Vadd a b f h k = record { low = bits_below _ }
 add_low Vsub a b f h k = record { low = bits_below _ }
@@ -73,28 +75,21 @@ add_low Vaddc a b f h k = record { low = mod_below (a + b) 65536 (lit< tt) }
 add_low Vsubc a b f h k = record { low = bits_below _ }
 
 pub select_low : (op : SelectOp) → IsLow (select_rule op)
-select_low op a b f h k = either_whole (holds op a b f) a b _ h k
+select_low op a b f h k = search (sixteen, h, k)
 
 pub merge_low : IsLow (merge_rule Vmrg)
-merge_low a b f h k = either_whole f.compare a b _ h k
+merge_low a b f h k = search (sixteen, h, k)
 
 pub clip_low : (op : ClipOp) → IsLow (clip_rule op)
-clip_low Vcl a b f h k =
-    search (either, either_whole, negated_below, h, k)
-clip_low Vch a b f h k =
-    either (signs_differ a b) _ _ (either_whole (int_le (s16 a +ℤ s16 b) (pos 0)) _ a _ (negated_below b) h)
-    (either_whole (int_le (pos 0) (s16 a -ℤ s16 b)) b a _ k h)
-clip_low Vcr a b f h k =
-    either (signs_differ a b) _ _ (either_whole (int_le (s16 a +ℤ s16 b +ℤ pos 1) (pos 0)) _ a _ (complement_below b) h)
-    (either_whole (int_le (pos 0) (s16 a -ℤ s16 b)) b a _ k h)
+clip_low Vcl a b f h k = search (sixteen, h, k)
+clip_low Vch a b f h k = search (sixteen, h, k)
+clip_low Vcr a b f h k = search (sixteen, h, k)
 
 pub logic_low : (op : LogicOp) → IsLow (logic_rule op)
 logic_low Vand a b f h k = whole _ f (and_lt 16 a b h k)
-logic_low Vnand a b f h k = whole _ f (complement_below _)
 logic_low Vor a b f h k = whole _ f (or_lt 16 a b h k)
-logic_low Vnor a b f h k = whole _ f (complement_below _)
 logic_low Vxor a b f h k = whole _ f (xor_lt 16 a b h k)
-logic_low Vnxor a b f h k = whole _ f (complement_below _)
+logic_low _ a b f h k = whole _ f (complement_below _)
 
 -- the lanes of a register, and of a selected one
 vector_below : (file : List (List ℕ)) → IsFile file → (n i : ℕ) → slice_index (vector file n) i < 65536

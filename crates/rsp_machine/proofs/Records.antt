@@ -64,7 +64,7 @@ module _ (k : ℕ) (s : State) (old new : List Saved) (a : HaveSaved k s old new
 pub recorded-rest : (k : ℕ) (s : State) (old new : List Saved) → HaveSaved k s old new → drop k new ≡ drop k old
 recorded-rest k s old new a =
     let same : (j : ℕ) → k ≤ j → get_or new j blank ≡ get_or old j blank =
-        λ j h. sym (unwrap_or-slice_get new j blank) ∙ ap (λ o. unwrap_or o blank) (a.rest j (λ i l e. absurd (omega (arith, h, l, e)))) ∙ unwrap_or-slice_get old j blank in
+    λ j h. sym (unwrap_or-slice_get new j blank) ∙ ap (λ o. unwrap_or o blank) (a.rest j (λ i l e. absurd (omega (arith, h, l, e)))) ∙ unwrap_or-slice_get old j blank in
     ext_get_or blank (drop k new) (drop k old) (omega (arith, length-drop k new, length-drop k old, a.len))
     (λ i h. get_or-drop k new i blank ∙ same (k + i) (omega arith) ∙ sym (get_or-drop k old i blank))
 

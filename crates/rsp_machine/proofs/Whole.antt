@@ -22,13 +22,13 @@ zero_is n e = grind (arith, nat_tests)
 fits : (s : State) → IsState s → registers_fault (registers_of s) ≡ None
 unfolding registers_of
 fits s h = rw (
-    whole_is 4 4096 s.pc h.pc.0 h.pc.1,
-    whole_is 4 4096 s.npc h.npc.0 h.npc.1,
-    zero_is _ h.registers.zero,
-    whole_is 8 8192 s.sp.memory h.sp.kept.memory.0 h.sp.kept.memory.1,
-    whole_is 8 16777216 s.sp.dram h.sp.kept.dram.0 h.sp.kept.dram.1,
-    whole_is 8 4096 s.sp.skip h.sp.kept.skip.0 h.sp.kept.skip.1,
-  ) refl
+  whole_is 4 4096 s.pc h.pc.0 h.pc.1,
+  whole_is 4 4096 s.npc h.npc.0 h.npc.1,
+  zero_is _ h.registers.zero,
+  whole_is 8 8192 s.sp.memory h.sp.kept.memory.0 h.sp.kept.memory.1,
+  whole_is 8 16777216 s.sp.dram h.sp.kept.dram.0 h.sp.kept.dram.1,
+  whole_is 8 4096 s.sp.skip h.sp.kept.skip.0 h.sp.kept.skip.1,
+) refl
 
 pub set-as-read : SetAsRead
 set-as-read s h = (fits s h, with-registers-of s h.accumulators)

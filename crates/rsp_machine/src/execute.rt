@@ -139,7 +139,7 @@ impl<A: Acc> Machine<A> {
                 vt,
                 element,
             } => self.divide(op, vd, lane, vt, element),
-            Inst::Idle { op } => self.idle(op),
+            Inst::Idle { .. } => (),
             Inst::VectorLoad { op, fields } => self.load_vector(op, fields),
             Inst::VectorStore { op, fields } => self.store_vector(op, fields),
         }

@@ -5,12 +5,12 @@
 // `Inst` itself, whose fields they read.
 
 ghost use Rattle.std.specs.Prelude.{◌≡◌};
-ghost use Rattle.rsp_machine.specs.Operations.{multiply_of, round_of, mpeg_of, add_of, select_of, clip_of, logic_of, divide_of, idle_of};
+ghost use Rattle.rsp_machine.specs.Operations.{multiply_of, round_of, mpeg_of, add_of, select_of, clip_of, logic_of, divide_of};
 
 use rsp_compare::{AddOp, ClipOp, LogicOp, SelectOp};
 use rsp_decode::{
     VectorAddOp, VectorClipOp, VectorDivideOp, VectorLogicOp, VectorMpegOp, VectorMultiplyOp,
-    VectorNopOp, VectorRoundOp, VectorSelectOp,
+    VectorRoundOp, VectorSelectOp,
 };
 use rsp_divide::DivideOp;
 use rsp_multiply::{MpegOp, MultiplyOp, RoundOp};
@@ -87,12 +87,4 @@ pub(crate) fn divide_of(op: VectorDivideOp) -> DivideOp
     ensures { result ≡ divide_of op }
 {
     same_name!(op, VectorDivideOp => DivideOp: Vrcp Vrcpl Vrcph Vmov Vrsq Vrsql Vrsqh)
-}
-
-/// The operation of an instruction that changes nothing.
-#[inline(always)]
-pub(crate) fn idle_of(op: VectorNopOp) -> DivideOp
-    ensures { result ≡ idle_of op }
-{
-    same_name!(op, VectorNopOp => DivideOp: Vnop Vnull)
 }

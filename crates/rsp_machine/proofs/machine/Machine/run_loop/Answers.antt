@@ -63,14 +63,14 @@ returns g c =
     let ends = g.U.Until.ends c.args.until.now in let refuses = g.U.Until.refuses c.args.until.now in
     elim c.loop-made-test.branch [
       | else-loop-made-test w ↦ rw (c.set_counters.ensures, w.made-is, w.counters-is, w.self-is, w.slots-is) (record {
-          within = i.within;
-          made = i.run.made;
-          told = i.run.told;
-          before = λ j h. i.before j (omega (arith, h));
-          asked = λ j h. i.asked j (omega (arith, h));
-          permitted = i.run.permitted;
-          ends = λ less. absurd (omega (arith, less, w.loop-made-test.false));
-        })
+        within = i.within;
+        made = i.run.made;
+        told = i.run.told;
+        before = λ j h. i.before j (omega (arith, h));
+        asked = λ j h. i.asked j (omega (arith, h));
+        permitted = i.run.permitted;
+        ends = λ less. absurd (omega (arith, less, w.loop-made-test.false));
+      })
       | then-loop-made-test+in_default w ↦
           let answer = sym w.in_default.is ∙ w.execute.ensures.answer in
           let none = executed-none refuses l.word (with_counters l.counters l.self) (with_counters w.execute.new.counters w.execute.new.self) i.goes i.word answer w.execute.ensures.state in
