@@ -29,7 +29,7 @@ UNSAFE = [
     "crates/rsp_c/src/handle.rt: unsafe impl Send for BenchHandle {}",
 ]
 # What of rsp_machine matches on an instruction. `stored_at` is called before a step, not while one executes.
-MATCHES = ["footprint_of", "is_refused", "perform", "stored_at"]
+MATCHES = ["footprint_of", "perform", "stored_at", "take"]
 
 
 def sources() -> Dict[str, str]:
@@ -70,7 +70,7 @@ def code_cases(texts: Dict[str, str]) -> Iterator[Case]:
     matching = [
         function_at(text, it.start())
         for text in machine.values()
-        for it in re.finditer(r"\bmatch \*inst\b", text)
+        for it in re.finditer(r"\bmatch \*inst\b|\bif let Inst::\w+ .*= inst\b", text)
     ]
     yield compared("matches on an instruction in rsp_machine", matching, MATCHES)
 

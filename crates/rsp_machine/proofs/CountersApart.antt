@@ -1,19 +1,14 @@
 -- Moves neither read nor write pc and npc: with other ones they do the same, and leave them.
-use Rattle.std.proofs.Common.{◌≡◌, refl, ℕ, Bool, true, false}
-use Rattle.std.specs.Prelude.{if◌then◌else◌, ◌%◌, ◌==◌}
+use Rattle.std.proofs.Common.{◌≡◌, refl, ℕ}
 use Rattle.rsp_decode.specs.declared.inst.Inst.{Inst}
 use Rattle.rsp_decode.specs.declared.inst.Inst.TheVariants.{Break}
 use Rattle.rsp_decode.specs.declared.scalar.MoveOp.{MoveOp}
 use Rattle.rsp_decode.specs.declared.scalar.MoveOp.TheVariants.{From, To}
-use Rattle.rsp_scalar.specs.Registers.{register}
-use Rattle.rsp_regs.specs.Sp.{Sp, after_register_write}
 use Rattle.rsp_machine.specs.State.{State}
 use Rattle.rsp_machine.specs.Footprint.{footprint_of}
 use Rattle.rsp_machine.specs.LoopTests.{IsRanged}
-use Rattle.rsp_machine.specs.ProgramCounters.{ProgramCounters, with_counters, counters_of}
-use Rattle.rsp_machine.specs.Host.{moved_in, moved_out}
+use Rattle.rsp_machine.specs.ProgramCounters.{ProgramCounters, with_counters}
 use Rattle.rsp_machine.specs.Vector.{moves_vector, moves_control}
-use Rattle.rsp_machine.specs.Step.{moves_sp}
 
 pub vector_elsewhere : (op : MoveOp) (i : Inst) (rt : ℕ) (p : ProgramCounters) (s : State) → moves_vector op i rt (with_counters p s) ≡ with_counters p (moves_vector op i rt s)
 unfolding moves_vector

@@ -1,5 +1,5 @@
 -- Which flags the rows that go by a rule for one lane leave.
-use Rattle.std.proofs.Common.{◌≡◌, ℕ, Bool, true, false, List, refl, sym, ◌∙◌, ap}
+use Rattle.std.proofs.Common.{◌≡◌, ℕ, Bool, true, false, List, refl, sym, ap}
 use Rattle.std.specs.Prelude.{if◌then◌else◌}
 use Rattle.rsp_lanes.proofs.Kit.{each_same}
 use Rattle.rsp_lanes.specs.declared.flags.Flags.{Flags}

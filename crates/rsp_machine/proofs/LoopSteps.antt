@@ -15,7 +15,7 @@ use Rattle.rsp_machine.specs.ProgramCounters.{ProgramCounters, with_counters}
 use Rattle.rsp_machine.specs.Step.{executed, after_single_step, step_by, step_of}
 use Rattle.rsp_machine.specs.Laws.{steps_of, done_steps, done_of}
 use Rattle.rsp_machine.specs.Undo.{after_instruction, after_step_from}
-use Rattle.rsp_machine.specs.Transfers.{starts_dma, starts_dma_at}
+use Rattle.rsp_machine.specs.Transfers.{starts_dma_at}
 use Rattle.rsp_machine.specs.Footprint.{footprint_of, makes_no_dma, reaches_sp}
 use Rattle.rsp_machine.specs.LoopTests.{IsRanged, tests_of, tests_in, state_after}
 use Rattle.rsp_machine.specs.Loop.{AreDone, IsInjective, HasRecorded, HaveRecorded, LoopEnd}

@@ -1,6 +1,6 @@
 -- The rows that write the low accumulators leave the others: what was saved of the low ones leads back.
-use Rattle.std.proofs.Common.{◌≡◌, ℕ, ◌+◌, ◌-◌, ◌<◌, ℤ, pos, negsuc, ◌+ℤ◌, ◌-ℤ◌, Bool, true, false, List, arith, refl, inl, inr, lit<}
-use Rattle.std.specs.Prelude.{if◌then◌else◌, ◌&&◌, int_lt, int_le, nat_le, slice_index}
+use Rattle.std.proofs.Common.{◌≡◌, ℕ, ◌+◌, ◌-◌, ◌<◌, ℤ, pos, negsuc, Bool, true, false, List, arith, refl, inl, inr, lit<}
+use Rattle.std.specs.Prelude.{if◌then◌else◌, ◌&&◌, int_lt, slice_index}
 use Rattle.std.specs.Ordering.{int_eq}
 use Rattle.std.specs.Int.Bits.{and_lt}
 use Rattle.std.proofs.lemmas.Nat.{or_lt, xor_lt, mod_below}
@@ -19,12 +19,12 @@ use Rattle.rsp_compare.specs.declared.adds.AddOp.TheVariants.{Vadd, Vsub, Vabs, 
 use Rattle.rsp_compare.specs.Adds.{add_rule}
 use Rattle.rsp_compare.specs.declared.selects.SelectOp.{SelectOp}
 use Rattle.rsp_compare.specs.declared.selects.MergeOp.TheVariants.{Vmrg}
-use Rattle.rsp_compare.specs.Selects.{holds, select_rule, merge_rule}
+use Rattle.rsp_compare.specs.Selects.{select_rule, merge_rule}
 use Rattle.rsp_compare.specs.declared.clips.ClipOp.{ClipOp}
 use Rattle.rsp_compare.specs.declared.clips.ClipOp.TheVariants.{Vcl, Vch, Vcr}
-use Rattle.rsp_compare.specs.Clips.{signs_differ, vcl_compare, clip_rule}
+use Rattle.rsp_compare.specs.Clips.{clip_rule}
 use Rattle.rsp_compare.specs.declared.logic.LogicOp.{LogicOp}
-use Rattle.rsp_compare.specs.declared.logic.LogicOp.TheVariants.{Vand, Vnand, Vor, Vnor, Vxor, Vnxor}
+use Rattle.rsp_compare.specs.declared.logic.LogicOp.TheVariants.{Vand, Vor, Vxor}
 use Rattle.rsp_compare.specs.Logic.{logic_rule}
 use Rattle.rsp_loadstore.specs.File.{vector, IsFile}
 use Rattle.rsp_machine.specs.State.{State}

@@ -1,25 +1,17 @@
 -- How a step of a machine that isn't halted ends.
-use Rattle.std.proofs.Common.{◌≡◌, ℕ, Bool, true, false, not, ◌||◌, refl, sym, ap, ◌∙◌, Option, Some, None}
+use Rattle.std.proofs.Common.{◌≡◌, Bool, true, false, ◌||◌, refl, sym, ap, ◌∙◌}
 use Rattle.std.specs.Prelude.{if◌then◌else◌}
 use Rattle.rsp_decode.specs.declared.inst.Inst.{Inst}
 use Rattle.rsp_decode.specs.declared.inst.Inst.TheVariants.{Break, MoveSp, MoveVector, MoveControl}
 use Rattle.rsp_decode.specs.declared.scalar.MoveOp.TheVariants.{From, To}
-use Rattle.rsp_decode.specs.Table.{inst_of}
-use Rattle.rsp_memory.specs.Memory.{word_at}
 use Rattle.rsp_regs.specs.Sp.{Sp, after_step}
 use Rattle.rsp_machine.specs.State.{State}
 use Rattle.rsp_machine.specs.Vector.{multiplies, rounds, multiplies_mpeg, reads_accumulator, ruled, divides, loads_vector, stores_vector, moves_vector, moves_control}
-use Rattle.rsp_machine.specs.Step.{computes, loads_scalar, stores_scalar, jumps, instruction_effect, executed, after_single_step, step_by, step_of}
-use Rattle.rsp_machine.specs.declared.step.StepEnd.TheVariants.{Done, Halted, Reserved}
-use Rattle.rsp_machine.specs.Transfers.{starts_dma, starts_dma_in, starts_dma_at}
+use Rattle.rsp_machine.specs.Step.{computes, loads_scalar, stores_scalar, jumps, instruction_effect, executed, after_single_step, step_of}
+use Rattle.rsp_machine.specs.declared.step.StepEnd.TheVariants.{Halted}
 use Rattle.rsp_machine.specs.declared.footprint.Footprint.TheVariants as of
 use Rattle.rsp_regs.specs.Sp.{is_length_register}
-use Rattle.rsp_machine.specs.Footprint.{footprint_of, makes_no_dma, reaches_sp}
-use Rattle.rsp_machine.specs.LoopTests.{tests_of, tests_in, state_after}
-use Rattle.rsp_machine.specs.Until.{changes_memory_by, changes_memory_at}
-use Rattle.rsp_machine.specs.declared.footprint.Footprint.{Footprint}
-use Rattle.rsp_machine.specs.declared.footprint.StepTests.{StepTests}
-use Rattle.rsp_machine.proofs.Undo.{dma_of}
+use Rattle.rsp_machine.specs.Footprint.{footprint_of, reaches_sp}
 
 -- an instruction that doesn't reach the SP registers leaves them
 dma_reaches : (b : Bool) (X : Type 0) → reaches_sp (if b then of.Dma else of.Sp 0) ≡ false → X

@@ -20,7 +20,6 @@ use Rattle.rsp_machine.specs.declared.step.StepEnd.{StepEnd}
 use Rattle.rsp_machine.specs.declared.step.StepEnd.TheVariants.{Done, Halted}
 use Rattle.rsp_machine.specs.declared.pass.PassFault.{PassFault}
 use Rattle.rsp_machine.specs.declared.pass.PassFault.TheVariants as fault
-use Rattle.rsp_machine.specs.declared.footprint.Footprint.TheVariants as of
 use Rattle.rsp_machine.proofs.Footprints.{other_register}
 
 ok_is : (x y : State) → ◌≡◌ {A = Result State PassFault} (Ok x) (Ok y) → x ≡ y

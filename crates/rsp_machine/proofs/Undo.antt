@@ -2,10 +2,10 @@
 use Rattle.std.proofs.Common.{◌≡◌, ℕ, ℤ, ◌-◌, ◌%◌, ◌==◌, ◌||◌, Bool, true, false, not, List, refl, sym, ap, subst, ◌∙◌, Option, Some, None}
 use Rattle.std.specs.Prelude.{if◌then◌else◌}
 use Rattle.rsp_decode.specs.declared.inst.Inst.{Inst}
-use Rattle.rsp_decode.specs.declared.inst.Inst.TheVariants.{Shift, ShiftBy, JumpRegister, JumpLinkRegister, Break, Register, BranchSign, BranchEqual, Jump, Immediate, LoadUpper, Load, Store, MoveSp, MoveVector, MoveControl, Multiply, Round, MpegMultiply, ReadAccumulator, VectorAdd, VectorSelect, VectorClip, VectorMerge, VectorLogic, Divide, Idle, VectorLoad, VectorStore}
+use Rattle.rsp_decode.specs.declared.inst.Inst.TheVariants.{Shift, ShiftBy, JumpLinkRegister, Register, BranchSign, Jump, Immediate, LoadUpper, Load, Store, MoveSp, MoveVector, MoveControl, Multiply, Round, MpegMultiply, ReadAccumulator, VectorAdd, VectorSelect, VectorClip, VectorMerge, VectorLogic, Divide, VectorLoad, VectorStore}
 use Rattle.rsp_decode.specs.declared.scalar.MoveOp.TheVariants.{From, To}
-use Rattle.rsp_decode.specs.declared.scalar.BranchSignOp.TheVariants.{Bltz, Bgez, Bltzal, Bgezal, Blez, Bgtz}
-use Rattle.rsp_decode.specs.declared.scalar.JumpOp.TheVariants.{J, Jal}
+use Rattle.rsp_decode.specs.declared.scalar.BranchSignOp.TheVariants.{Bltzal, Bgezal}
+use Rattle.rsp_decode.specs.declared.scalar.JumpOp.TheVariants.{Jal}
 use Rattle.rsp_lanes.specs.declared.flags.Flags.{Flags}
 use Rattle.rsp_divide.specs.declared.divider.Divider.{Divider}
 use Rattle.rsp_memory.specs.Memory.{word_at}

@@ -1,11 +1,10 @@
 -- The registers of a state, set in that state.
-use Rattle.std.proofs.Common.{◌≡◌, ◌<◌, ◌%◌, ℕ, Bool, true, refl, ap, arith, Some, None}
-use Rattle.std.specs.Prelude.{if◌then◌else◌, not, ◌&&◌, ◌==◌, slice_index}
+use Rattle.std.proofs.Common.{◌≡◌, ◌<◌, ◌%◌, ℕ, true, refl, ap, arith, None}
+use Rattle.std.specs.Prelude.{◌==◌}
 use Rattle.std.proofs.lemmas.Bool.Decides.{nat_tests}
 use Rattle.rsp_numbers.specs.Numbers.{AreNumbers}
 use Rattle.rsp_acc.proofs.Rejoined.{parts_joined}
 use Rattle.rsp_machine.specs.State.{State, IsState}
-use Rattle.rsp_machine.specs.declared.registers.RegistersFault.TheVariants.{Place, RegisterZero, MemoryAddress, DramAddress, Skip}
 use Rattle.rsp_machine.specs.Registers.{registers_of, with_registers, registers_fault, is_whole, SetAsRead}
 
 pub with-registers-of : (s : State) → AreNumbers s.accumulators → with_registers (registers_of s) s ≡ s

@@ -4,8 +4,8 @@ use Rattle.std.specs.Prelude.{IfSome, if◌then◌else◌}
 use Rattle.rsp_decode.specs.declared.inst.Inst.{Inst}
 use Rattle.rsp_decode.specs.declared.inst.Inst.TheVariants.{Shift, ShiftBy, JumpLinkRegister, Register, BranchSign, Jump, Immediate, LoadUpper, Load, MoveSp, MoveVector, MoveControl, VectorLoad}
 use Rattle.rsp_decode.specs.declared.scalar.MoveOp.TheVariants.{From, To}
-use Rattle.rsp_decode.specs.declared.scalar.JumpOp.TheVariants.{J, Jal}
-use Rattle.rsp_decode.specs.declared.scalar.BranchSignOp.TheVariants.{Bltz, Bgez, Bltzal, Bgezal, Blez, Bgtz}
+use Rattle.rsp_decode.specs.declared.scalar.JumpOp.TheVariants.{Jal}
+use Rattle.rsp_decode.specs.declared.scalar.BranchSignOp.TheVariants.{Bltzal}
 use Rattle.rsp_decode.specs.Table.{IsInstruction, inst_of}
 use Rattle.rsp_decode.proofs.InstructionOfWord.{decoded_instruction}
 use Rattle.rsp_memory.specs.Memory.{word_at}

@@ -8,8 +8,7 @@
 ghost use Rattle.std.specs.Prelude.{◌≡◌, ◌<◌, Some};
 ghost use Rattle.rsp_decode.specs.Table.{IsInstruction, inst_of};
 ghost use Rattle.rsp_decode.specs.declared.scalar.MoveOp.TheVariants as op;
-ghost use Rattle.rsp_scalar.specs.Flow.{next_npc, with_link};
-ghost use Rattle.rsp_machine.specs.Step.{computes, loads_scalar, stores_scalar, break_instruction, moves_sp, instruction_effect};
+ghost use Rattle.rsp_machine.specs.Step.{moves_sp, instruction_effect};
 ghost use Rattle.rsp_machine.specs.ProgramCounters.{with_counters, counters_of};
 ghost use Rattle.rsp_machine.specs.Undo.{after_instruction};
 ghost use Rattle.rsp_machine.specs.LoopTests.{tests_of, tests_in, state_after};
@@ -50,30 +49,7 @@ impl<'a, 'b, A: Acc, K: Recorder, U: Until> Executor<'a, 'b, A, K, U> {
     }
 }
 
-/// Whether a test refuses an instruction. Each arm of the decoder knows whether its instruction is a move.
-#[inline(always)]
-fn is_refused<U: Until>(until: &U, inst: &Inst) -> bool
-    requires { IsInstruction inst.now }
-    ensures { result ≡ refuses_by (U.refuses until.now) (Some inst.now) }
-{
-    match *inst {
-        Inst::MoveSp { op, register, .. } => until.refuses(op, register),
-        _ => false,
-    }
-}
-
 impl<A: Acc> Machine<A> {
-    /// A jump or a branch. pc and npc have advanced in `counters`, and the machine's own aren't used. The instruction at this pc
-    /// is the delay slot, which is executed before the target.
-    #[inline(always)]
-    fn go_to(&mut self, inst: &Inst, counters: &mut ProgramCounters)
-        requires { IsInstruction inst.now }
-        ensures counters { counters.new ≡ record counters.old { npc = next_npc inst.now self.old.registers counters.old.pc } }
-        ensures link { self.new ≡ record self.old { registers = with_link inst.now self.old.registers counters.old.pc } }
-    {
-        counters.npc = InstructionAddress::new(jump(inst, &mut self.regs, counters.pc.get()));
-    }
-
     /// A read of an SP register into scalar register `rt`. It is apart from the write, whose DMA makes it long.
     #[tactic(auto, unfolding(crate::specs::Step::moves_sp))]
     fn move_from_sp(&mut self, rt: u8, register: u8)
@@ -115,7 +91,11 @@ impl<A: Acc> Machine<A> {
             | Inst::JumpLinkRegister { .. }
             | Inst::BranchSign { .. }
             | Inst::BranchEqual { .. }
-            | Inst::Jump { .. } => self.go_to(inst, counters),
+            | Inst::Jump { .. } => {
+                // The instruction at this pc is the delay slot, which is executed before the target.
+                let target = jump(inst, &mut self.regs, counters.pc.get());
+                counters.npc = InstructionAddress::new(target);
+            }
             Inst::Break => self.sp.on_break(),
             Inst::MoveSp { op, rt, register } => match op {
                 MoveOp::From => self.move_from_sp(rt, register),
@@ -199,8 +179,11 @@ impl<'a, 'b, A: Acc, K: Recorder, U: Until> Visitor for Executor<'a, 'b, A, K, U
 
     #[inline(always)]
     fn take(&mut self, inst: Inst) {
-        if is_refused(self.until, &inst) {
-            return;
+        // Each arm of the decoder knows whether its instruction is a move.
+        if let Inst::MoveSp { op, register, .. } = inst {
+            if self.until.refuses(op, register) {
+                return;
+            }
         }
         let footprint = footprint_of(&inst, self.machine);
         self.recorder.save(self.machine, self.before, footprint);

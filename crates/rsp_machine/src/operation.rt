@@ -15,7 +15,7 @@ use rsp_decode::{
 use rsp_divide::DivideOp;
 use rsp_multiply::{MpegOp, MultiplyOp, RoundOp};
 
-/// The variant of one enum whose name a variant of another has.
+/// The variant of `$to` that has the name of `$op`, a variant of `$from`.
 macro_rules! same_name {
     ($op:expr, $from:ident => $to:ident: $($name:ident)*) => {
         match $op {

@@ -1,9 +1,8 @@
-use Rattle.std.proofs.Common.{◌≡◌, ◌∙◌, ◌&&◌, not, ◌+◌, ◌-◌, ◌<◌, ℕ, false, length, get_or, ap, refl, sym, inl, inr, arith}
+use Rattle.std.proofs.Common.{◌≡◌, ◌∙◌, ◌&&◌, not, ◌+◌, ◌-◌, ◌<◌, false, length, get_or, ap, sym, inl, inr, arith}
 use Rattle.rsp_decode.specs.Table.{inst_of}
 use Rattle.rsp_machine.specs.State.{State}
 use Rattle.rsp_machine.specs.ProgramCounters.{ProgramCounters, with_counters}
 use Rattle.rsp_machine.specs.Laws.{steps_of, done_steps}
-use Rattle.rsp_machine.specs.Step.{step_of}
 use Rattle.rsp_machine.specs.Transfers.{starts_dma_at}
 use Rattle.rsp_machine.specs.Until.{ends_after, permitted}
 use Rattle.rsp_machine.proofs.OneStep.{step_halted}

@@ -1,7 +1,4 @@
-use Rattle.std.proofs.Common.{◌≡◌, ◌∙◌, ◌<◌, ap, sym, subst, arith, Option}
-use Rattle.std.specs.Prelude.{IfSome}
-use Rattle.rsp_machine.specs.Undo.{Saved, undone}
-use Rattle.rsp_machine.specs.Transfers.{starts_dma_at}
+use Rattle.std.proofs.Common.{◌≡◌, ◌∙◌, ap, sym, arith}
 use Rattle.rsp_machine.specs.State.{State}
 use Rattle.rsp_machine.specs.Step.{step_of}
 use Rattle.rsp_machine.specs.Laws.{done_steps}
