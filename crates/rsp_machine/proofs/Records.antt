@@ -1,6 +1,6 @@
 -- Which states the records of steps undo to.
 use Rattle.std.proofs.Common.{◌≡◌, inl, inr, ℕ, zero, suc, ◌+◌, ◌<◌, ◌≤◌, Bool, true, false, not, List, length, drop, get_or, refl, sym, ap, ◌∙◌, arith, add-one, Option}
-use Rattle.std.specs.Prelude.{slice_get, unwrap_or, IsSome, IfSome}
+use Rattle.std.specs.Prelude.{◌↔◌, slice_get, unwrap_or, IsSome, IfSome}
 use Rattle.std.specs.Bool.{then_some}
 use Rattle.std.proofs.lemmas.Bool.{cases_lt}
 use Rattle.std.proofs.lemmas.Option.{get_or_from_slice_get, unwrap_or-slice_get}
@@ -96,23 +96,14 @@ none-stuck k s t e (inr (inl refused)) = never-refuses t _ refused
 none-stuck k s t e (inr (inr last)) = absurd (omega (arith, last.0, e))
 
 -- the record of one step, given back if it undoes the step
-module _ (s t : State) (old rs : List Saved) (d : Saved) (b : Bool) (o : Option Saved) (start : d ≡ blank) (can : b ≡ makes_no_dma (get_or rs 0 d).footprint) (given : o ≡ then_some b (get_or rs 0 d))
-    (all : AreRecorded 1 s t old rs) where
-  undoes : b ≡ not (starts_dma_at s)
-  unfolding steps_of
-  undoes = can ∙ ap (λ (x : Saved). makes_no_dma (get_or rs 0 x).footprint) start ∙ all.which 0 (omega arith)
+given_by : (c dma : Bool) (x : Saved) (s t : State) → c ≡ not dma → (dma ≡ false → undone x t ≡ s)
+    → (IsSome (then_some c x) ↔ ((Done ≡ Done) × (dma ≡ false))) × IfSome (then_some c x) (λ r. undone r t ≡ s)
+given_by c true x s t e h = rw e ((λ no. cc, λ no. cc), tt)
+given_by c false x s t e h = rw e ((λ _. (refl, refl), λ _. refl), h refl)
 
-  which_by : (c dma : Bool) (x : Saved) → c ≡ not dma → (IsSome (then_some c x) → (Done ≡ Done) × (dma ≡ false)) × ((Done ≡ Done) × (dma ≡ false) → IsSome (then_some c x))
-  which_by c true x e = rw e (λ no. cc, λ no. cc)
-  which_by c false x e = rw e (λ _. (refl, refl), λ _. refl)
-
-  pub one-which : (IsSome o → (Done ≡ Done) × (starts_dma_at s ≡ false)) × ((Done ≡ Done) × (starts_dma_at s ≡ false) → IsSome o)
-  one-which = rw given (which_by b (starts_dma_at s) (get_or rs 0 d) undoes)
-
-  back_by : (c dma : Bool) (x : Saved) → c ≡ not dma → (dma ≡ false → undone x t ≡ s) → IfSome (then_some c x) (λ r. undone r t ≡ s)
-  back_by c true x e h = rw e tt
-  back_by c false x e h = rw e (h refl)
-
-  pub one-back : IfSome o (λ r. undone r t ≡ s)
-  unfolding steps_of
-  one-back = rw given (back_by b (starts_dma_at s) (get_or rs 0 d) undoes (λ none. rw (start, all.made.state) (all.back 0 (omega arith) none)))
+pub given-one : (s t : State) (old rs : List Saved) (d : Saved) (b : Bool) (o : Option Saved) → d ≡ blank → b ≡ makes_no_dma (get_or rs 0 d).footprint → o ≡ then_some b (get_or rs 0 d) → AreRecorded 1 s t old rs
+    → (IsSome o ↔ ((Done ≡ Done) × (starts_dma_at s ≡ false))) × IfSome o (λ r. undone r t ≡ s)
+unfolding steps_of
+given-one s t old rs d b o start can given all = rw given (given_by b (starts_dma_at s) (get_or rs 0 d) s t
+    (can ∙ ap (λ (x : Saved). makes_no_dma (get_or rs 0 x).footprint) start ∙ all.which 0 (omega arith))
+    (λ none. rw (start, all.made.state) (all.back 0 (omega arith) none)))

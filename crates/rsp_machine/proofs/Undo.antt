@@ -7,7 +7,6 @@ use Rattle.rsp_decode.specs.declared.scalar.MoveOp.TheVariants.{From, To}
 use Rattle.rsp_decode.specs.declared.scalar.BranchSignOp.TheVariants.{Bltzal, Bgezal}
 use Rattle.rsp_decode.specs.declared.scalar.JumpOp.TheVariants.{Jal}
 use Rattle.rsp_lanes.specs.declared.flags.Flags.{Flags}
-use Rattle.rsp_divide.specs.declared.divider.Divider.{Divider}
 use Rattle.rsp_memory.specs.Memory.{word_at}
 use Rattle.rsp_scalar.specs.Registers.{register}
 use Rattle.rsp_scalar.specs.ScalarRules.{address}
@@ -39,24 +38,21 @@ use Rattle.rsp_machine.proofs.Flagging.{sum-back, merge-back, choice-back, logic
 use Rattle.rsp_machine.proofs.Lows.{add_low, select_low, merge_low, clip_low, logic_low, rule-back, divide-back}
 
 -- the state with its parts given back
-same_state : (s : State) (r : List ℕ) (v : List (List ℕ)) (x : List ℤ) (f : Flags) (d : Divider) (m i q : List ℕ) → s.sp.halted ≡ false
-    → r ≡ s.registers → v ≡ s.vectors → x ≡ s.accumulators → f ≡ s.flags → d ≡ s.divider → m ≡ s.dmem → i ≡ s.imem → q ≡ s.rdram
-    → record s { registers = r; vectors = v; accumulators = x; flags = f; divider = d; dmem = m; imem = i; rdram = q; sp = record s.sp { halted = false } } ≡ s
-same_state s r v x f d m i q h er ev ex ef ed em ei eq =
-    rw (er, ev, ex, ef, ed, em, ei, eq) (ap (λ b. record s { sp = record s.sp { halted = b } }) (sym h))
+running_same : (s : State) → s.sp.halted ≡ false → record s { sp = record s.sp { halted = false } } ≡ s
+running_same s h = ap (λ b. record s { sp = record s.sp { halted = b } }) (sym h)
 
 registers_same : (s : State) (r : List ℕ) → s.sp.halted ≡ false → r ≡ s.registers → record s { registers = r; sp = record s.sp { halted = false } } ≡ s
-registers_same s r h e = same_state s r _ _ _ _ _ _ _ h e refl refl refl refl refl refl refl
+registers_same s r h e = rw e (running_same s h)
 
 vectors_same : (s : State) (v : List (List ℕ)) → s.sp.halted ≡ false → v ≡ s.vectors → record s { vectors = v; sp = record s.sp { halted = false } } ≡ s
-vectors_same s v h e = same_state s _ v _ _ _ _ _ _ h refl e refl refl refl refl refl refl
+vectors_same s v h e = rw e (running_same s h)
 
 memory_same : (s : State) (m : List ℕ) → s.sp.halted ≡ false → m ≡ s.dmem → record s { dmem = m; sp = record s.sp { halted = false } } ≡ s
-memory_same s m h e = same_state s _ _ _ _ _ m _ _ h refl refl refl refl refl e refl refl
+memory_same s m h e = rw e (running_same s h)
 
 lanes_same : (s : State) (v : List (List ℕ)) (x : List ℤ) (f : Flags) → s.sp.halted ≡ false → v ≡ s.vectors → x ≡ s.accumulators → f ≡ s.flags
     → record s { vectors = v; accumulators = x; flags = f; sp = record s.sp { halted = false } } ≡ s
-lanes_same s v x f h e b k = same_state s _ v x f _ _ _ _ h refl e b k refl refl refl refl
+lanes_same s v x f h e b k = rw (e, b, k) (running_same s h)
 
 -- a write of an SP register that starts no DMA
 pub neither : (a b : Bool) → (a || b) ≡ false → (a ≡ false) × (b ≡ false)
