@@ -174,11 +174,14 @@ module _ (s t : State) (r : Saved) where
   }
 
 -- what a DMA leaves
+memories_outside : (p : Sp) (s : State) (dmem imem rdram : List ℕ) → StaysOutside of.Dma s (after_single_step (record (advanced s) { dmem = dmem; imem = imem; rdram = rdram; sp = p }))
+memories_outside p s dmem imem rdram = record { registers = λ n h. refl; vectors = λ n h. refl; accumulators = λ h k. refl; upper = λ h. cc; vco = λ h. (refl, refl); vcc = λ h. (refl, refl); vce = λ h. refl; divider = λ h. refl; dmem = λ x out. absurd out; memories = λ h. cc; sp = λ h. cc }
+
 dma_outside : (a b : Bool) (v : ℕ) (p : Sp) (s : State)
     → StaysOutside of.Dma s (after_single_step (record (if a then moved_in v (advanced s) else if b then moved_out v (advanced s) else advanced s) { sp = p }))
-dma_outside true b v p s = record { registers = λ n h. refl; vectors = λ n h. refl; accumulators = λ h k. refl; upper = λ h. cc; vco = λ h. (refl, refl); vcc = λ h. (refl, refl); vce = λ h. refl; divider = λ h. refl; dmem = λ x out. absurd out; memories = λ h. cc; sp = λ h. cc }
-dma_outside false true v p s = record { registers = λ n h. refl; vectors = λ n h. refl; accumulators = λ h k. refl; upper = λ h. cc; vco = λ h. (refl, refl); vcc = λ h. (refl, refl); vce = λ h. refl; divider = λ h. refl; dmem = λ x out. absurd out; memories = λ h. cc; sp = λ h. cc }
-dma_outside false false v p s = record { registers = λ n h. refl; vectors = λ n h. refl; accumulators = λ h k. refl; upper = λ h. cc; vco = λ h. (refl, refl); vcc = λ h. (refl, refl); vce = λ h. refl; divider = λ h. refl; dmem = λ x out. absurd out; memories = λ h. cc; sp = λ h. cc }
+dma_outside true b v p s = memories_outside p s _ _ _
+dma_outside false true v p s = memories_outside p s _ _ _
+dma_outside false false v p s = memories_outside p s _ _ _
 
 transfer_outside : (i : Inst) (s : State) → starts_dma i ≡ true → StaysOutside (footprint_of i s) s (after_single_step (executed i s))
 unfolding footprint_of executed instruction_effect moves_sp

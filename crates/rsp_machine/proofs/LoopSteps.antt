@@ -26,7 +26,7 @@ use Rattle.rsp_machine.specs.declared.step.StepEnd.{StepEnd}
 use Rattle.rsp_machine.specs.declared.step.StepEnd.TheVariants.{Done, Halted, Reserved}
 use Rattle.rsp_machine.specs.Until.{changes_memory_at, ends_after, refuses_by, refuses_at, permitted}
 use Rattle.rsp_machine.proofs.CountersApart.{ranged-at}
-use Rattle.rsp_machine.proofs.Undo.{dma_of}
+use Rattle.rsp_machine.proofs.Undo.{neither, dma_of}
 use Rattle.rsp_machine.proofs.OneStep.{leaves, halts-none, clear-after}
 
 -- no step, and one more
@@ -142,25 +142,20 @@ turn-of saves refuses w p q l v m r e single before x goes word answer state som
       ranged = ranged-at p l ranged;
     }
 
-ended_by : (a b : Bool) (t u : State) → u ≡ (if a || b then after_single_step t else t) → ((a ≡ false) × (b ≡ false) → t ≡ after_single_step t) → after_single_step t ≡ u
-ended_by true b t u e same = sym e
-ended_by false true t u e same = sym e
-ended_by false false t u e same = sym (same (refl, refl)) ∙ sym e
+ended_by : (b : Bool) (t u : State) → u ≡ (if b then after_single_step t else t) → (b ≡ false → t ≡ after_single_step t) → after_single_step t ≡ u
+ended_by true t u e same = sym e
+ended_by false t u e same = sym (same refl) ∙ sym e
 
 -- whether the loop goes on after it, by whether the machine is halted then, and whether a DMA ends the loop
-pub goes-by : (a b halted goes r : Bool) → r ≡ (not (a || b) || not halted && goes) → r ≡ true → ((a ≡ false) × (b ≡ false)) ⊎ ((halted ≡ false) × (goes ≡ true))
-goes-by true b true goes r e t = cc
-goes-by true b false goes r e t = inr (refl, sym e ∙ t)
-goes-by false true true goes r e t = cc
-goes-by false true false goes r e t = inr (refl, sym e ∙ t)
-goes-by false false halted goes r e t = inl (refl, refl)
+pub goes-by : (b halted goes r : Bool) → r ≡ (not b || not halted && goes) → r ≡ true → (b ≡ false) ⊎ ((halted ≡ false) × (goes ≡ true))
+goes-by true true goes r e t = cc
+goes-by true false goes r e t = inr (refl, sym e ∙ t)
+goes-by false halted goes r e t = inl refl
 
-pub stops-by : (a b halted goes r : Bool) → r ≡ (not (a || b) || not halted && goes) → r ≡ false → (halted ≡ true) ⊎ (goes ≡ false)
-stops-by true b true goes r e f = inl refl
-stops-by true b false goes r e f = inr (sym e ∙ f)
-stops-by false true true goes r e f = inl refl
-stops-by false true false goes r e f = inr (sym e ∙ f)
-stops-by false false halted goes r e f = cc
+pub stops-by : (b halted goes r : Bool) → r ≡ (not b || not halted && goes) → r ≡ false → (halted ≡ true) ⊎ (goes ≡ false)
+stops-by true true goes r e f = inl refl
+stops-by true false goes r e f = inr (sym e ∙ f)
+stops-by false halted goes r e f = cc
 
 -- whether it starts a DMA
 not_back : (b d : Bool) → b ≡ not d → not b ≡ d
@@ -177,23 +172,23 @@ module _ {K : Type 0} {saves : Footprint → State → K → K} {refuses : MoveO
   turn_permitted = h.executed.free
 
   -- an instruction that doesn't reach the SP registers leaves them, and single step halts nothing where it is clear
-  stays : e.sp ≡ false → t.sp ≡ s.sp
-  stays none = ap (λ (y : State). y.sp) h.executed.state ∙ leaves h.executed.inst s (ap (λ (y : StepTests). y.sp) (sym h.executed.tests) ∙ none)
+  stays : (e.sp || single) ≡ false → t.sp ≡ s.sp
+  stays none = ap (λ (y : State). y.sp) h.executed.state ∙ leaves h.executed.inst s (ap (λ (y : StepTests). y.sp) (sym h.executed.tests) ∙ (neither e.sp single none).0)
 
-  turn_free : (e.sp ≡ false) × (single ≡ false) → t ≡ after_single_step t
+  turn_free : (e.sp || single) ≡ false → t ≡ after_single_step t
   turn_free none =
-      let same = stays none.0 in
-      ap (λ p. record t { sp = p }) (sym (halts-none t.sp (ap (λ (p : Sp). p.halted) same ∙ h.goes) (ap (λ (p : Sp). p.single_step) same ∙ h.clear none.1)))
+      let same = stays none in
+      ap (λ p. record t { sp = p }) (sym (halts-none t.sp (ap (λ (p : Sp). p.halted) same ∙ h.goes) (ap (λ (p : Sp). p.single_step) same ∙ h.clear (neither e.sp single none).1)))
 
   turn_ended : after_single_step t ≡ u
-  turn_ended = ended_by e.sp single t u h.ended turn_free
+  turn_ended = ended_by (e.sp || single) t u h.ended turn_free
 
   turn_done : step_of s ≡ (Done, u)
   unfolding step_of
   turn_done = unhalted s.sp.halted (Halted, s) _ h.goes ∙ rw h.executed.is (ap (λ (y : State). (Done, y)) (ap after_single_step (sym h.executed.state) ∙ turn_ended))
 
-  pub turn-running : ((e.sp ≡ false) × (single ≡ false)) ⊎ (u.sp.halted ≡ false) → u.sp.halted ≡ false
-  turn-running (inl none) = ap (λ (y : State). y.sp.halted) (sym turn_ended ∙ sym (turn_free none)) ∙ ap (λ (p : Sp). p.halted) (stays none.0) ∙ h.goes
+  pub turn-running : ((e.sp || single) ≡ false) ⊎ (u.sp.halted ≡ false) → u.sp.halted ≡ false
+  turn-running (inl none) = ap (λ (y : State). y.sp.halted) (sym turn_ended ∙ sym (turn_free none)) ∙ ap (λ (p : Sp). p.halted) (stays none) ∙ h.goes
   turn-running (inr running) = running
 
   pub turn-clear : u.sp.halted ≡ false → u.sp.single_step ≡ false
@@ -204,9 +199,9 @@ module _ {K : Type 0} {saves : Footprint → State → K → K} {refuses : MoveO
   turn_dma = rw (h.executed.tests, h.executed.is) (not_back _ _ (dma_of h.executed.inst s))
 
   -- if DMAs end the loop, it goes on only after a step that starts none
-  pub turn-goes : (at_dma : Bool) → ((e.sp ≡ false) × (single ≡ false)) ⊎ ((u.sp.halted ≡ false) × (not (at_dma && e.dma) ≡ true)) → at_dma ≡ true → starts_dma_at s ≡ false
+  pub turn-goes : (at_dma : Bool) → ((e.sp || single) ≡ false) ⊎ ((u.sp.halted ≡ false) × (not (at_dma && e.dma) ≡ true)) → at_dma ≡ true → starts_dma_at s ≡ false
   turn-goes true (inl none) at =
-      sym turn_dma ∙ ap (λ (y : StepTests). y.dma) h.executed.tests ∙ no_dma (footprint_of h.executed.inst s) (ap (λ (y : StepTests). y.sp) (sym h.executed.tests) ∙ none.0)
+      sym turn_dma ∙ ap (λ (y : StepTests). y.dma) h.executed.tests ∙ no_dma (footprint_of h.executed.inst s) (ap (λ (y : StepTests). y.sp) (sym h.executed.tests) ∙ (neither e.sp single none).0)
   turn-goes true (inr on) at = sym turn_dma ∙ not-true e.dma on.1
   turn-goes false goes at = cc
 
@@ -214,9 +209,9 @@ module _ {K : Type 0} {saves : Footprint → State → K → K} {refuses : MoveO
   turn-stops true stops = (refl, sym turn_dma ∙ not-false e.dma stops)
   turn-stops false stops = cc
 
-  pub turn-ends : (ends : ℕ → ℕ → Bool → Bool) (v : ℕ) → v ≡ word_at u.imem u.pc → ends_after ends s ≡ ends u.pc v e.changes_memory
+  pub turn-ends : (ends : ℕ → ℕ → Bool → Bool) (pc v : ℕ) → pc ≡ u.pc → v ≡ word_at u.imem u.pc → ends_after ends s ≡ ends pc v e.changes_memory
   unfolding ends_after changes_memory_at
-  turn-ends ends v is = rw (turn_done, h.executed.is, is, h.executed.tests) refl
+  turn-ends ends pc v at is = rw (turn_done, h.executed.is, at, is, h.executed.tests) refl
 
 -- one step, by how many were made
 pub done_few : (e : StepEnd) → done_steps e ≤ 1

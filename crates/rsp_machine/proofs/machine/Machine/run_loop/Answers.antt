@@ -1,4 +1,4 @@
-use Rattle.std.proofs.Common.{◌≡◌, ◌∙◌, ◌&&◌, not, ◌+◌, ◌-◌, ◌<◌, false, length, get_or, ap, sym, inl, inr, arith}
+use Rattle.std.proofs.Common.{◌≡◌, ◌∙◌, ◌&&◌, ◌||◌, not, ◌+◌, ◌-◌, ◌<◌, false, length, get_or, ap, sym, inl, inr, arith}
 use Rattle.rsp_decode.specs.Table.{inst_of}
 use Rattle.rsp_machine.specs.State.{State}
 use Rattle.rsp_machine.specs.ProgramCounters.{ProgramCounters, with_counters}
@@ -42,10 +42,10 @@ loop-made-preserved g c =
     let old = get_or l.slots c.slot.result c.index-slots-slot.result in
     let turn = turn-of k.saves refuses l.word l.counters q l.self v m c.execute.result e single old x
     i.goes i.word c.execute.ensures.answer c.execute.ensures.state c.in-Some.is i.free c.end_step.ensures.state c.execute.ensures.recorder c.vector_ranges.ensures in
-    let goes = goes-by e.sp single m.sp.halted (not (k.ends_at_dma && e.dma)) c.end_step.result c.end_step.ensures.goes c.if-not-end_step.false in
+    let goes = goes-by (e.sp || single) m.sp.halted (not (k.ends_at_dma && e.dma)) c.end_step.result c.end_step.ensures.goes c.if-not-end_step.false in
     let running = turn-running turn (elim goes [ inl none ↦ inl none | inr on ↦ inr on.0 ]) in
     let inside : c.slot.result < length l.slots = omega (arith, c.slot.ensures, c.requires.slots l.made c.loop-made-test.true, i.run.told.len) in
-    let passes = turn-ends turn ends next.result next.ensures ∙ ap (λ (p : ProgramCounters). ends p.pc next.result e.changes_memory) (sym c.counters.view_is) ∙ ap (λ pc. ends pc next.result e.changes_memory) (sym c.get.ensures.value) ∙ sym c.ends.ensures ∙ c.if-ends.false in
+    let passes = turn-ends turn ends c.get.result next.result (c.get.ensures.value ∙ ap (λ (p : ProgramCounters). p.pc) c.counters.view_is) next.ensures ∙ sym c.ends.ensures ∙ c.if-ends.false in
     record {
       within = omega (arith, c.loop-made-test.true);
       run = run-more k.saves k.slot refuses l.made c.slot.result o _ _ u e single c.args.slots.now l.slots old x i.run turn c.slot.ensures inside;
@@ -98,7 +98,7 @@ returns g c =
             before = λ j h. i.before j (omega (arith, h));
             asked = λ j h. i.asked j (omega (arith, h));
             permitted = run.permitted;
-            ends = λ less. elim (stops-by e.sp single m.sp.halted (not (k.ends_at_dma && e.dma)) w.end_step.result w.end_step.ensures.goes w.if-not-end_step.true) [
+            ends = λ less. elim (stops-by (e.sp || single) m.sp.halted (not (k.ends_at_dma && e.dma)) w.end_step.result w.end_step.ensures.goes w.if-not-end_step.true) [
               | inl halted ↦ inl (ap (λ x. done_steps x.0) (step_halted (with_counters q m) halted))
               | inr stops ↦
                   let dma = turn-stops turn k.ends_at_dma stops in
@@ -113,7 +113,7 @@ returns g c =
           let inside : w.slot.result < length l.slots = omega (arith, w.slot.ensures, c.requires.slots l.made w.loop-made-test.true, i.run.told.len) in
           let run = run-more k.saves k.slot refuses l.made w.slot.result o _ _ (with_counters q m) e single c.args.slots.now l.slots old _ i.run turn w.slot.ensures inside in
           let last : l.made + 1 - 1 ≡ l.made = omega arith in
-          let ended = turn-ends turn ends next.result next.ensures ∙ ap (λ (p : ProgramCounters). ends p.pc next.result e.changes_memory) (sym w.counters.view_is) ∙ ap (λ pc. ends pc next.result e.changes_memory) (sym w.get.ensures.value) ∙ sym w.ends.ensures ∙ w.if-ends.true in
+          let ended = turn-ends turn ends w.get.result next.result (w.get.ensures.value ∙ ap (λ (p : ProgramCounters). p.pc) w.counters.view_is) next.ensures ∙ sym w.ends.ensures ∙ w.if-ends.true in
           rw (c.set_counters.ensures, w.made-is, w.counters-is, w.self-is, w.slots-is) (record {
             within = omega (arith, w.loop-made-test.true);
             made = run.made;
