@@ -40,7 +40,7 @@ struct Executor<'a, 'b, A: Acc, K: Recorder, U: Until> {
 }
 
 impl<'a, 'b, A: Acc, K: Recorder, U: Until> Executor<'a, 'b, A, K, U> {
-    /// pc and npc after the instruction.
+    /// pc and npc after the instruction. The proof of `execute` needs a call here, and not the field.
     #[inline(always)]
     fn counters(&self) -> ProgramCounters
         ensures { result ≡ self.now.counters }
@@ -179,7 +179,7 @@ impl<'a, 'b, A: Acc, K: Recorder, U: Until> Visitor for Executor<'a, 'b, A, K, U
 
     #[inline(always)]
     fn take(&mut self, inst: Inst) {
-        // Each arm of the decoder knows whether its instruction is a move.
+        // Each arm of the decoder knows whether its instruction is a move, so the others pay nothing.
         if let Inst::MoveSp { op, register, .. } = inst {
             if self.until.refuses(op, register) {
                 return;

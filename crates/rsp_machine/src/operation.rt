@@ -2,7 +2,7 @@
 //
 // So a name of the table is translated here, by one match for each group, which the compiler folds. It costs a second
 // name for 41 instructions. Scalar instructions, vector loads and stores have no operations: their crates take the
-// `Inst` itself, whose fields they read.
+// `Inst` itself, whose fields they read. VNOP and VNULL have none, since they change nothing.
 
 ghost use Rattle.std.specs.Prelude.{◌≡◌};
 ghost use Rattle.rsp_machine.specs.Operations.{multiply_of, round_of, mpeg_of, add_of, select_of, clip_of, logic_of, divide_of};

@@ -35,11 +35,8 @@ impl<A: Acc> Machine<A> {
         ensures vs { result.0 ≡ vector self.now.vectors fields.vs }
         ensures vt { result.1 ≡ selected (vector self.now.vectors fields.vt) fields.element }
     {
-        let a = self.vregs.reg(fields.vs);
-        (
-            a,
-            select(&self.vregs.reg(fields.vt), usize::from(fields.element)),
-        )
+        let b = select(&self.vregs.reg(fields.vt), usize::from(fields.element));
+        (self.vregs.reg(fields.vs), b)
     }
 
     /// One of the twelve multiplies.
