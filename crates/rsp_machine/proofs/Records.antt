@@ -46,18 +46,15 @@ HaveSaved k s old new = HaveRecorded record_of (λ n. n) k s old new
 record_is : (s : State) (rs : List Saved) (i : ℕ) (h : HasRecorded record_of s (slice_get rs i)) → record_at rs i ≡ after_step_from record_of s h.before
 record_is s rs i h = get_or_from_slice_get rs i (after_step_from record_of s h.before) blank h.told
 
-each : (i j : ℕ) → i ≡ j → i ≡ j
-each i j e = e
-
 module _ (k : ℕ) (s : State) (old new : List Saved) (a : HaveSaved k s old new) (done : done_of k s ≡ k) where
   pub recorded-which : (i : ℕ) → i < k → makes_no_dma (record_at new i).footprint ≡ not (starts_dma_at (steps_of i s))
   recorded-which i h =
-      let told = a.told each i h in
+      let told = a.told (λ i j e. e) i h in
       ap (λ r. makes_no_dma r.footprint) (record_is (steps_of i s) new i told) ∙ record-dma (steps_of i s) told.before (done-each k s done i h)
 
   pub recorded-back : (i : ℕ) → i < k → starts_dma_at (steps_of i s) ≡ false → undone (record_at new i) (steps_of (i + 1) s) ≡ steps_of i s
   recorded-back i h none =
-      let told = a.told each i h in
+      let told = a.told (λ i j e. e) i h in
       rw (record_is (steps_of i s) new i told, steps-more i s) (record-back (steps_of i s) told.before told.ranged (done-each k s done i h) none)
 
 -- the further records stay

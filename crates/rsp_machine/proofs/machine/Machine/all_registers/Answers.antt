@@ -1,4 +1,4 @@
-use Rattle.std.proofs.Common.{refl, ap, ◌∙◌}
+use Rattle.std.proofs.Common.{ap, ◌∙◌}
 use Rattle.rsp_machine.specs.declared.registers.AllRegisters.{AllRegisters}
 use Rattle.rsp_machine.specs.Registers.{registers_of, with_registers}
 use Rattle.rsp_machine.proofs.Copying.{with-registers-as}
@@ -6,21 +6,7 @@ use Rattle.rsp_machine.proofs.machine.Machine.all_registers.Goals as goal
 
 pub returns-clause-value : goal.returns-clause-value
 unfolding registers_of
-returns-clause-value g c =
-    rw (
-      ← c.self.view_is,
-      c.get.ensures.value,
-      c.get-2.ensures.value,
-      c.words.ensures.value,
-      c.lanes.ensures,
-      c.to_array.ensures,
-      c.part.ensures.value,
-      c.to_array-2.ensures,
-      c.part-2.ensures.value,
-      c.to_array-3.ensures,
-      c.part-3.ensures.value,
-      c.parts.ensures.value,
-    ) refl
+returns-clause-value g c = rw (← c.self.view_is) cc
 
 pub returns-clause-back : goal.returns-clause-back
 returns-clause-back g c t d i r =

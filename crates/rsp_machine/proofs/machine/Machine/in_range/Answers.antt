@@ -1,5 +1,4 @@
-use Rattle.std.proofs.Common.{◌≡◌, ◌<◌, rules, subst, sym, ap, length}
-use Rattle.rsp_memory.specs.Memory.{IsMemory}
+use Rattle.std.proofs.Common.{◌≡◌, rules, subst, sym, refl}
 use Rattle.rsp_scalar.specs.Registers.{IsRegisters}
 use Rattle.rsp_lanes.specs.Lanes.{each_lane}
 use Rattle.rsp_lanes.specs.declared.flags.Flags.{Flags}
@@ -10,20 +9,11 @@ use Rattle.rsp_machine.proofs.machine.Machine.in_range.Goals as goal
 
 eight_each : (f : Flags) → f ≡ all_flags (flags_at f) → AreFlags f
 unfolding each_lane
-eight_each f e = record {
-  carry = ap (λ (g : Flags). length g.carry) e;
-  differ = ap (λ (g : Flags). length g.differ) e;
-  compare = ap (λ (g : Flags). length g.compare) e;
-  clip = ap (λ (g : Flags). length g.clip) e;
-  extra = ap (λ (g : Flags). length g.extra) e;
-}
+eight_each f e = rw e (record { carry = refl; differ = refl; compare = refl; clip = refl; extra = refl })
 
 pub returns : goal.returns
 returns g c =
     let i = c.self.inside in
-    let dmem : IsMemory i.dmem = search rules in
-    let imem : IsMemory i.imem = search rules in
-    let divider : (i.divider.input < 65536) × (i.divider.output < 65536) = search rules in
     let ranged = subst IsRanged (sym c.self.view_is) c.vector_ranges.ensures in
     subst IsState c.self.view_is (record {
       pc = subst IsInstructionAddress c.get-pc.ensures.value (c.get-pc.ensures.below, c.get-pc.ensures.whole);
@@ -32,9 +22,9 @@ returns g c =
       vectors = ranged.vectors;
       accumulators = ranged.accumulators;
       flags = eight_each i.flags ranged.flags;
-      divider = divider;
-      dmem = dmem;
-      imem = imem;
+      divider = search rules;
+      dmem = search rules;
+      imem = search rules;
       rdram = c.bytes-rdram.ensures.image;
       sp = c.parts-sp.ensures.ranges;
     })
