@@ -58,13 +58,14 @@ impl<'a> Until for StopConditions<'a> {
     ghost use Rattle.rsp_debug.specs.Stops.{is_break};
     ghost use Rattle.rsp_debug.specs.Runs.{has_move};
 
-    ghost ends = { λ s pc word changes_memory. is_break s.breaks.now pc || (changes_memory && not (length s.snapshots.now == 0)) };
+    ghost ends = { λ s pc word changes_memory. (changes_memory && not (length s.snapshots.now == 0)) || is_break s.breaks.now pc };
 
     ghost refuses = { λ s op register. has_move s.moves op register };
 
     #[inline(always)]
     fn ends(&self, pc: u16, _word: u32, changes_memory: bool) -> bool {
-        self.breaks.contains(pc) || (changes_memory && !self.snapshots.is_empty())
+        // In this order a store under a watch doesn't read the table of breakpoints.
+        (changes_memory && !self.snapshots.is_empty()) || self.breaks.contains(pc)
     }
 
     #[inline(always)]
