@@ -20,7 +20,8 @@ use Rattle.rsp_debug.specs.declared.stop.Reason.TheVariants.{Reserved, Halted, W
 use Rattle.rsp_debug.specs.Stops.{first_of, when, is_reserved, is_break, changed_watch, reason_in, reason_at, least, run_steps, stop_of, IsStop}
 use Rattle.rsp_debug.specs.Runs.{step_refusal}
 use Rattle.rsp_debug.specs.Calls.{IsAfter, ForwardCall, StepCall, RunCall, is_count, call_steps, state_after_call, steps_of_calls, state_after_calls}
-use Rattle.rsp_debug.proofs.Reasons.{stuck_by, stuck_is, step-halted-same, step-reserved-same, steps-none, steps-more, two_none, is_stop, reason-stuck}
+use Rattle.rsp_debug.proofs.Least.{least-is, least-passes}
+use Rattle.rsp_debug.proofs.Reasons.{goes-on, step-still, steps-none, steps-more, two_none, is_stop, hit_of, reason-stuck, reason-hit, reason-limit}
 
 pub after-none : (s : State) → IsAfter 0 s s
 after-none s = record { done = λ k h. absurd (omega arith); reached = sym (steps-none s) }
@@ -42,34 +43,13 @@ after-then m n s t u first second = record {
   reached = second.reached ∙ ap (λ (x : State). steps_of n x) first.reached ∙ sym (steps-add m n s);
 }
 
--- a machine that can go on does
-answer_goes : (halted : Bool) (i : Option Inst) (w : ℕ) (s : State) → stuck_by halted i ≡ None → (cond halted (end.Halted, s) (step_by i w s)).0 ≡ end.Done
-answer_goes true i w s e = cc
-answer_goes false None w s e = cc
-answer_goes false (Some i) w s e = refl
-
-pub goes-on : (s : State) → step_refusal s ≡ None → (step_of s).0 ≡ end.Done
-unfolding step_of
-goes-on s e = answer_goes s.sp.halted (inst_of (word_at s.imem s.pc)) (word_at s.imem s.pc) s (sym (stuck_is s.sp.halted (inst_of (word_at s.imem s.pc))) ∙ e)
-
--- the numbers below the least that passes
-least_step : (test : ℕ → Bool) (n j : ℕ) (b : Bool) → test zero ≡ b → ((i : ℕ) → i < least (λ k. test (suc k)) n → test (suc i) ≡ false)
-    → j < cond b zero (suc (least (λ k. test (suc k)) n)) → test j ≡ false
-least_step test n j true e below h = absurd (omega arith)
-least_step test n zero false e below h = e
-least_step test n (suc j) false e below h = below j (omega arith)
-
-pub least-below : (test : ℕ → Bool) (n j : ℕ) → j < least test n → test j ≡ false
-least-below test zero j h = absurd (omega arith)
-least-below test (suc n) j h = least_step test n j (test zero) refl (least-below (λ k. test (suc k)) n) h
-
 pub no-some : {X : Type 0} (o : Option X) → is_some o ≡ false → o ≡ None
 no-some None e = refl
 no-some (Some x) e = cc
 
 pub no-reason : (b : List Bool) (w : List (Option Watch)) (n : ℕ) (s : State) (j : ℕ) → j < run_steps b w n s → reason_at b w n s j ≡ None
 unfolding run_steps
-no-reason b w n s j h = no-some _ (least-below (λ k. is_some (reason_at b w n s k)) n j h)
+no-reason b w n s j h = no-some _ ((least-is (λ k. is_some (reason_at b w n s k)) n).before j h)
 
 reason_goes : (b : List Bool) (w : List (Option Watch)) (n : ℕ) (s : State) (k : ℕ) → reason_at b w n s k ≡ None → step_refusal (steps_of k s) ≡ None
 unfolding reason_at
@@ -87,8 +67,8 @@ after_answer s end.Done e = record {
   done = λ k h. ap (λ (x : State). (step_of x).0) (ap (λ i. steps_of i s) (let z : k ≡ 0 = omega arith in z) ∙ steps-none s) ∙ e;
   reached = ap (λ (x : State). (step_of x).1) (sym (steps-none s)) ∙ sym (steps-more 0 s);
 }
-after_answer s end.Halted e = let same = step-halted-same s e in subst (λ (t : State). IsAfter 0 s t) (sym same) (after-none s)
-after_answer s (end.Reserved w) e = let same = step-reserved-same s w e in subst (λ (t : State). IsAfter 0 s t) (sym same) (after-none s)
+after_answer s end.Halted e = subst (λ (t : State). IsAfter 0 s t) (sym (step-still s (ap done_steps e))) (after-none s)
+after_answer s (end.Reserved w) e = subst (λ (t : State). IsAfter 0 s t) (sym (step-still s (ap done_steps e))) (after-none s)
 
 after_count : (counted : Bool) (k : ℕ) (s : State) → IsAfter k s (steps_of k s) → IsAfter (cond counted k 0) s (steps_of (cond counted k 0) s)
 after_count true k s h = h
@@ -104,57 +84,25 @@ after-calls [] s = after-none s
 after-calls (call ∷ calls) s = after-then (call_steps call s) (steps_of_calls calls (state_after_call call s)) s (state_after_call call s) _ (after-call call s) (after-calls calls (state_after_call call s))
 
 -- a run has a reason to stop at the least number of steps that has one, which is at most its limit
-least_in : (test : ℕ → Bool) (n : ℕ) (b : Bool) → test zero ≡ b → (test (suc (least (λ k. test (suc k)) n)) ≡ true) × (least (λ k. test (suc k)) n ≤ n)
-    → (test (cond b zero (suc (least (λ k. test (suc k)) n))) ≡ true) × (cond b zero (suc (least (λ k. test (suc k)) n)) ≤ suc n)
-least_in test n true e later = (e, omega arith)
-least_in test n false e later = (later.0, omega (arith, later.1))
-
-pub least-passes : (test : ℕ → Bool) (n : ℕ) → test n ≡ true → (test (least test n) ≡ true) × (least test n ≤ n)
-least-passes test zero e = (e, omega arith)
-least-passes test (suc n) e = least_in test n (test zero) refl (least-passes (λ k. test (suc k)) n e)
-
-last_reason : (a b c d : Option Reason) (limit : Bool) → limit ≡ true → is_some (first_of (a ∷ b ∷ c ∷ d ∷ when limit Limit ∷ [])) ≡ true
-last_reason (Some r) b c d true e = refl
-last_reason None (Some r) c d true e = refl
-last_reason None None (Some r) d true e = refl
-last_reason None None None (Some r) true e = refl
-last_reason None None None None true e = refl
-last_reason a b c d false e = cc
-
-limit_in : (b : List Bool) (w : List (Option Watch)) (n : ℕ) (before s : State) → is_some (reason_in b w n n before s) ≡ true
-limit_in b w n before s =
-    let same : nat_eq n n ≡ true = grind (arith, common_steps) in
-    last_reason (when (is_reserved s) Reserved) (when s.sp.halted Halted) (cond (nat_lt 0 n) (option_map Watched (changed_watch w before.dmem s.dmem)) None)
-    (when (nat_lt 0 n && is_break b s.pc) Break) (nat_eq n n) same
-
-limit_reason : (b : List Bool) (w : List (Option Watch)) (n : ℕ) (s : State) → is_some (reason_at b w n s n) ≡ true
-unfolding reason_at
-limit_reason b w n s = limit_in b w n (steps_of (n - 1) s) (steps_of n s)
+limit_by : (b : List Bool) (w : List (Option Watch)) (n : ℕ) (s : State) (refusal hit : Option Reason) → step_refusal (steps_of n s) ≡ refusal
+    → hit_of b w n (steps_of (n - 1) s) (steps_of n s) ≡ hit → is_some (reason_at b w n s n) ≡ true
+limit_by b w n s (Some r) hit e f = ap is_some (reason-stuck b w n s (steps_of n s) n r refl e)
+limit_by b w n s None (Some r) e f = ap is_some (reason-hit b w n s (steps_of n s) n r refl e f)
+limit_by b w n s None None e f = ap is_some (reason-limit b w n s (steps_of n s) n refl e f refl)
 
 the_reason : (o : Option Reason) → is_some o ≡ true → o ≡ Some (unwrap_or o Limit)
 the_reason None e = cc
 the_reason (Some r) e = refl
 
-least_within : (b : List Bool) (w : List (Option Watch)) (n : ℕ) (s : State) → least (λ k. is_some (reason_at b w n s k)) n ≤ n → run_steps b w n s ≤ n
-unfolding run_steps
-least_within b w n s h = h
-
-least_there : (b : List Bool) (w : List (Option Watch)) (n : ℕ) (s : State) → is_some (reason_at b w n s (least (λ k. is_some (reason_at b w n s k)) n)) ≡ true
-    → is_some (reason_at b w n s (run_steps b w n s)) ≡ true
-unfolding run_steps
-least_there b w n s h = h
-
 pub stop-first : (b : List Bool) (w : List (Option Watch)) (n : ℕ) (s : State) → IsStop b w n s (steps_of (run_steps b w n s) s) (stop_of b w n s)
-unfolding stop_of
-stop-first b w n s =
-    let there = least-passes (λ k. is_some (reason_at b w n s k)) n (limit_reason b w n s) in
-    record {
-      within = least_within b w n s there.1;
-      reached = refl;
-      reason = the_reason _ (least_there b w n s there.0);
-      first = no-reason b w n s;
-      pc = refl;
-    }
+unfolding stop_of run_steps
+stop-first b w n s = record {
+  within = (least-is (λ k. is_some (reason_at b w n s k)) n).within;
+  reached = refl;
+  reason = the_reason _ (least-passes (λ k. is_some (reason_at b w n s k)) n (limit_by b w n s _ _ refl refl));
+  first = no-reason b w n s;
+  pc = refl;
+}
 
 -- one step more, or none
 pub after-more : (k : ℕ) (s m t : State) → IsAfter k s m → (step_of m).0 ≡ end.Done → t ≡ (step_of m).1 → IsAfter (k + 1) s t
@@ -181,7 +129,3 @@ pub stop-here : (b : List Bool) (w : List (Option Watch)) (n : ℕ) (s t : State
     → stop ≡ record { reason = unwrap_or (step_refusal t) r; steps = m; pc = t.pc } → m ≡ k → k ≤ n → t ≡ steps_of k s
     → ((j : ℕ) → j < k → reason_at b w n s j ≡ None) → (step_refusal t ≡ None → reason_at b w n s k ≡ Some r) → IsStop b w n s t stop
 stop-here b w n s t k m r stop = stop_by b w n s t k m r stop (step_refusal t) refl
-
-pub never : (o : Option Reason) (X : Type 0) → is_some o ≡ true → o ≡ None → X
-never None X e h = cc
-never (Some r) X e h = cc

@@ -2,6 +2,7 @@ pub mod Ring
 pub mod HistoryRecords
 pub mod BreakTable
 pub mod WatchChanges
+pub mod Least
 pub mod Reasons
 pub mod Hits
 pub mod DoneSteps

@@ -8,7 +8,8 @@ use Rattle.rsp_decode.specs.declared.inst.Inst.{Inst}
 use Rattle.rsp_decode.specs.Table.{inst_of}
 use Rattle.rsp_machine.specs.State.{State}
 use Rattle.rsp_machine.specs.Step.{step_of, step_by}
-use Rattle.rsp_machine.specs.Laws.{steps_of}
+use Rattle.rsp_machine.specs.Laws.{steps_of, done_steps}
+use Rattle.rsp_machine.specs.declared.step.StepEnd.{StepEnd}
 use Rattle.rsp_machine.specs.declared.step.StepEnd.TheVariants as end
 use Rattle.rsp_debug.specs.Stops.{changed_watch, is_break, when, first_of, reason_at, IsStop}
 use Rattle.rsp_debug.specs.Runs.{step_refusal, hit_in}
@@ -19,11 +20,11 @@ use Rattle.rsp_debug.specs.declared.stop.Reason.{Reason}
 use Rattle.rsp_debug.specs.declared.stop.Reason.TheVariants.{Reserved, Halted, Watched, Break, Limit}
 use Rattle.rsp_debug.specs.declared.stop.Stop.{Stop}
 
--- why a machine can't go on, by what a step would answer
-abbrev pub stuck_by : Bool → Option Inst → Option Reason
-stuck_by true i = Some Halted
-stuck_by false None = Some Reserved
-stuck_by false (Some i) = None
+-- why a machine can't make a step, by what the step returns
+abbrev refusal_of : StepEnd → Option Reason
+refusal_of end.Done = None
+refusal_of end.Halted = Some Halted
+refusal_of (end.Reserved w) = Some Reserved
 
 -- the watch or the breakpoint that k steps have come to
 abbrev pub hit_of : List Bool → List (Option Watch) → ℕ → State → State → Option Reason
@@ -32,48 +33,41 @@ hit_of breaks watches k before s = first_of (
     ∷ when (nat_lt 0 k && is_break breaks s.pc) Break
     ∷ [])
 
-pub stuck_is : (halted : Bool) (i : Option Inst) → first_of (when (not halted && is_none i) Reserved ∷ when halted Halted ∷ []) ≡ stuck_by halted i
-stuck_is true None = refl
-stuck_is true (Some i) = refl
-stuck_is false None = refl
-stuck_is false (Some i) = refl
+refusal_by : (halted : Bool) (i : Option Inst) (w : ℕ) (s : State)
+    → first_of (when (not halted && is_none i) Reserved ∷ when halted Halted ∷ []) ≡ refusal_of (cond halted (end.Halted, s) (step_by i w s)).0
+refusal_by true None w s = refl
+refusal_by true (Some i) w s = refl
+refusal_by false None w s = refl
+refusal_by false (Some i) w s = refl
 
-answer_done : (halted : Bool) (i : Option Inst) (w : ℕ) (s : State) → (cond halted (end.Halted, s) (step_by i w s)).0 ≡ end.Done → stuck_by halted i ≡ None
-answer_done true i w s e = cc
-answer_done false None w s e = cc
-answer_done false (Some i) w s e = refl
-
-answer_halted : (halted : Bool) (i : Option Inst) (w : ℕ) (s : State) → (cond halted (end.Halted, s) (step_by i w s)).0 ≡ end.Halted
-    → (stuck_by halted i ≡ Some Halted) × ((cond halted (end.Halted, s) (step_by i w s)).1 ≡ s)
-answer_halted true i w s e = (refl, refl)
-answer_halted false None w s e = cc
-answer_halted false (Some i) w s e = cc
-
-answer_reserved : (halted : Bool) (i : Option Inst) (w v : ℕ) (s : State) → (cond halted (end.Halted, s) (step_by i w s)).0 ≡ end.Reserved v
-    → (stuck_by halted i ≡ Some Reserved) × ((cond halted (end.Halted, s) (step_by i w s)).1 ≡ s)
-answer_reserved true i w v s e = cc
-answer_reserved false None w v s e = (refl, refl)
-answer_reserved false (Some i) w v s e = cc
+refusal-is : (s : State) → step_refusal s ≡ refusal_of (step_of s).0
+unfolding step_of
+refusal-is s = refusal_by s.sp.halted (inst_of (word_at s.imem s.pc)) (word_at s.imem s.pc) s
 
 pub step-done : (s : State) → (step_of s).0 ≡ end.Done → step_refusal s ≡ None
-unfolding step_of
-step-done s e = stuck_is s.sp.halted _ ∙ answer_done s.sp.halted (inst_of (word_at s.imem s.pc)) (word_at s.imem s.pc) s e
+step-done s e = refusal-is s ∙ ap refusal_of e
 
-pub step-halted : (s : State) → (step_of s).0 ≡ end.Halted → step_refusal s ≡ Some Halted
-unfolding step_of
-step-halted s e = stuck_is s.sp.halted _ ∙ (answer_halted s.sp.halted (inst_of (word_at s.imem s.pc)) (word_at s.imem s.pc) s e).0
+goes_by : (e : StepEnd) → refusal_of e ≡ None → e ≡ end.Done
+goes_by end.Done h = refl
+goes_by end.Halted h = cc
+goes_by (end.Reserved w) h = cc
 
-pub step-halted-same : (s : State) → (step_of s).0 ≡ end.Halted → (step_of s).1 ≡ s
-unfolding step_of
-step-halted-same s e = (answer_halted s.sp.halted (inst_of (word_at s.imem s.pc)) (word_at s.imem s.pc) s e).1
+pub goes-on : (s : State) → step_refusal s ≡ None → (step_of s).0 ≡ end.Done
+goes-on s free = goes_by (step_of s).0 (sym (refusal-is s) ∙ free)
 
-pub step-reserved : (s : State) (w : ℕ) → (step_of s).0 ≡ end.Reserved w → step_refusal s ≡ Some Reserved
-unfolding step_of
-step-reserved s w e = stuck_is s.sp.halted _ ∙ (answer_reserved s.sp.halted (inst_of (word_at s.imem s.pc)) (word_at s.imem s.pc) w s e).0
+-- a step that isn't Done is refused, and leaves the machine
+pub stuck : (s : State) → done_steps (step_of s).0 ≡ 0 → step_refusal s ≡ None → ⊥
+stuck s none free = omega (arith, none, ap done_steps (goes-on s free))
 
-pub step-reserved-same : (s : State) (w : ℕ) → (step_of s).0 ≡ end.Reserved w → (step_of s).1 ≡ s
+still_by : (halted : Bool) (i : Option Inst) (w : ℕ) (s : State) → done_steps (cond halted (end.Halted, s) (step_by i w s)).0 ≡ 0
+    → (cond halted (end.Halted, s) (step_by i w s)).1 ≡ s
+still_by true i w s none = refl
+still_by false None w s none = refl
+still_by false (Some i) w s none = absurd (omega (arith, none))
+
+pub step-still : (s : State) → done_steps (step_of s).0 ≡ 0 → (step_of s).1 ≡ s
 unfolding step_of
-step-reserved-same s w e = (answer_reserved s.sp.halted (inst_of (word_at s.imem s.pc)) (word_at s.imem s.pc) w s e).1
+step-still s none = still_by s.sp.halted (inst_of (word_at s.imem s.pc)) (word_at s.imem s.pc) s none
 
 -- the five reasons, from the first two, the next two and the last
 two_more : (a b c d e : Option Reason) → first_of (a ∷ b ∷ []) ≡ None → first_of (a ∷ b ∷ c ∷ d ∷ e ∷ []) ≡ first_of (c ∷ d ∷ e ∷ [])

@@ -18,6 +18,7 @@ use Rattle.rsp_debug.specs.Moves.{no_moves, is_asked, is_at_move, is_limit, step
 use Rattle.rsp_debug.specs.Snapshots.{snapshot_of, watches_of}
 use Rattle.rsp_debug.specs.History.{history_after_steps}
 use Rattle.rsp_debug.specs.Debugging.{Debugging, after_steps, after_run}
+use Rattle.rsp_debug.proofs.Least.{least-only}
 use Rattle.rsp_debug.proofs.Stretches.{made-is}
 use Rattle.rsp_debug.specs.Runs.{has_move, Refuses}
 use Rattle.rsp_debug.specs.declared.stop.Watch.{Watch}
@@ -26,20 +27,11 @@ use Rattle.rsp_debug.specs.declared.stop.Reason.TheVariants.{Reserved, Halted, W
 use Rattle.rsp_debug.specs.declared.stop.Stop.{Stop}
 use Rattle.rsp_debug.proofs.WatchChanges.{none-changed, changed-none, watches-of}
 
--- the least number that passes
-pub least-is : (test : ℕ → Bool) (n k : ℕ) → k ≤ n → test k ≡ true → ((j : ℕ) → j < k → test j ≡ false) → least test n ≡ k
-least-is test zero zero within here before = refl
-least-is test zero (suc k) within here before = absurd (omega arith)
-least-is test (suc n) zero within here before = ap (λ b. cond b zero (suc (least (λ i. test (suc i)) n))) here
-least-is test (suc n) (suc k) within here before =
-    ap (λ b. cond b zero (suc (least (λ i. test (suc i)) n))) (before zero (omega arith))
-    ∙ ap suc (least-is (λ i. test (suc i)) n k (omega arith) here (λ j h. before (suc j) (omega arith)))
-
 -- a stop is the one that the definition gives
 pub steps-are : (b : List Bool) (w : List (Option Watch)) (n : ℕ) (s t : State) (stop : Stop) → IsStop b w n s t stop → run_steps b w n s ≡ stop.steps
 unfolding run_steps
 steps-are b w n s t stop is =
-    least-is (λ k. is_some (reason_at b w n s k)) n stop.steps is.within (ap is_some is.reason) (λ j h. ap is_some (is.first j h))
+    least-only (λ k. is_some (reason_at b w n s k)) n stop.steps (record { within = is.within; before = λ j h. ap is_some (is.first j h); here = λ h. ap is_some is.reason })
 
 abbrev made : Reason → ℕ → ℕ → Stop
 made r k pc = record { reason = r; steps = k; pc = pc }
@@ -82,28 +74,23 @@ never-asked None = refl
 never-asked (Some (MoveSp op rt r)) = zero_bit (is_write op) r
 never-asked (Some _) = refl
 
-least-none : (test : ℕ → Bool) (n : ℕ) → ((k : ℕ) → test k ≡ false) → least test n ≡ n
-least-none test zero none = refl
-least-none test (suc n) none =
-    ap (λ b. cond b zero (suc (least (λ i. test (suc i)) n))) (none zero) ∙ ap suc (least-none (λ i. test (suc i)) n (λ k. none (suc k)))
-
 pub not_next : (halted asked : Bool) → asked ≡ false → not halted && asked ≡ false
 not_next true asked e = refl
 not_next false asked e = e
+
+pub unmoved : (moves : Moves) (s : State) → moves ≡ no_moves → is_at_move moves s ≡ false
+unmoved moves s none = ap (λ (x : Moves). is_at_move x s) none ∙ not_next s.sp.halted _ (never-asked (inst_of (word_at s.imem s.pc)))
 
 pub unmoved-stop : (b : List Bool) (w : List (Option Watch)) (moves : Moves) (n : ℕ) (s t : State) (stop : Stop) → moves ≡ no_moves → IsStop b w (steps_to_move moves n s) s t stop → IsStop b w n s t stop
 unfolding steps_to_move
 unmoved-stop b w moves n s t stop none given =
     let is = subst (λ (x : Moves). IsStop b w (steps_to_move x n s) s t stop) none given in
     subst (λ (x : ℕ). IsStop b w x s t stop)
-    (least-none (λ k. is_at_move no_moves (steps_of k s)) n (λ k. let x = steps_of k s in not_next x.sp.halted _ (never-asked (inst_of (word_at x.imem x.pc))))) is
+    (least-only (λ k. is_at_move no_moves (steps_of k s)) n n (record { within = omega arith; before = λ k h. unmoved no_moves (steps_of k s) refl; here = λ h. absurd (omega (arith, h)) })) is
 
--- where no moves are asked for, none is refused, and none is next
+-- where no moves are asked for, none is refused
 pub none-refused : (moves : Moves) → moves ≡ no_moves → Refuses (λ op register. false) moves
 none-refused moves none op register = sym (ap (λ (x : Moves). has_move x op register) none ∙ zero_bit (is_write op) register)
-
-pub unmoved : (moves : Moves) (s : State) → moves ≡ no_moves → is_at_move moves s ≡ false
-unmoved moves s none = ap (λ (x : Moves). is_at_move x s) none ∙ not_next s.sp.halted _ (never-asked (inst_of (word_at s.imem s.pc)))
 
 -- the end of a run that also ends before moves is the one that the definition gives
 pub move-end-is : (b : List Bool) (w : List (Option Watch)) (moves : Moves) (n : ℕ) (s t : State) (stop : Stop) (r : MoveEnd) → IsStop b w (steps_to_move moves n s) s t stop → r ≡ end_by moves stop t

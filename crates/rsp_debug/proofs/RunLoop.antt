@@ -1,6 +1,6 @@
 -- What a run comes to, by stretches of steps.
 use Rattle.std.proofs.Common.{◌≡◌, inl, inr, ℕ, zero, suc, ◌+◌, ◌-◌, ◌<◌, ◌≤◌, List, refl, ap, sym, ◌∙◌, subst, arith, Bool, true, false, cond, Option, Some, None}
-use Rattle.std.specs.Prelude.{unwrap_or, not, ◌&&◌, ◌⊎◌}
+use Rattle.std.specs.Prelude.{[], ◌∷◌, unwrap_or, is_none, not, ◌&&◌}
 use Rattle.std.proofs.lemmas.Bool.{cases_lt}
 use Rattle.rsp_memory.specs.Memory.{word_at}
 use Rattle.rsp_decode.specs.declared.inst.Inst.{Inst}
@@ -13,38 +13,22 @@ use Rattle.rsp_machine.specs.Until.{changes_memory_at, ends_after, refuses_at}
 use Rattle.rsp_machine.specs.declared.step.StepEnd.TheVariants.{Done}
 use Rattle.rsp_machine.proofs.Undo.{memory-kept}
 use Rattle.rsp_debug.specs.declared.stop.Reason.{Reason}
-use Rattle.rsp_debug.specs.declared.stop.Reason.TheVariants.{Limit}
+use Rattle.rsp_debug.specs.declared.stop.Reason.TheVariants.{Reserved, Halted, Limit}
 use Rattle.rsp_debug.specs.declared.stop.Stop.{Stop}
 use Rattle.rsp_debug.specs.declared.snapshot.Snapshot.{Snapshot}
 use Rattle.rsp_debug.specs.declared.moves.Moves.{Moves}
 use Rattle.rsp_debug.specs.Snapshots.{differs, watches_of}
 use Rattle.rsp_debug.specs.Calls.{IsAfter}
-use Rattle.rsp_debug.specs.Stops.{least, reason_at, IsStop}
+use Rattle.rsp_debug.specs.Stops.{when, first_of, reason_at, IsStop}
 use Rattle.rsp_debug.specs.Moves.{is_at_move, steps_to_move}
 use Rattle.rsp_debug.specs.Runs.{step_refusal, hit_in, Asks, Refuses}
 use Rattle.rsp_debug.proofs.WatchChanges.{differs-empty}
 use Rattle.rsp_debug.proofs.Hits.{nothing-hit}
-use Rattle.rsp_debug.proofs.Reasons.{stuck_by, stuck_is, reason-hit, reason-limit, reason-none, hit_of, next-hit, nothing-differs, step-done}
+use Rattle.rsp_debug.proofs.Reasons.{reason-hit, reason-limit, reason-none, hit_of, next-hit, nothing-differs, step-done}
 use Rattle.rsp_debug.proofs.DoneSteps.{after-none, after-more, stop-here}
-use Rattle.rsp_debug.proofs.RunEnds.{least-is, not_next}
+use Rattle.rsp_debug.proofs.Least.{least-above, least-only}
+use Rattle.rsp_debug.proofs.RunEnds.{not_next}
 use Rattle.rsp_debug.proofs.Moving.{asked-is}
-
--- the least number that passes, where none below k does
-least-above : (test : ℕ → Bool) (n k : ℕ) → k ≤ n → ((j : ℕ) → j < k → test j ≡ false) → k ≤ least test n
-least-above test n zero within before = omega arith
-least-above test zero (suc k) within before = absurd (omega (arith, within))
-least-above test (suc n) (suc k) within before =
-    let none = ap (λ b. cond b zero (suc (least (λ i. test (suc i)) n))) (before zero (omega arith)) in
-    let more = least-above (λ i. test (suc i)) n k (omega (arith, within)) (λ j h. before (suc j) (omega (arith, h))) in
-    omega (arith, none, more)
-
-least_by : (b : Bool) (m n : ℕ) → m ≤ n → cond b zero (suc m) ≤ suc n
-least_by true m n h = omega arith
-least_by false m n h = omega (arith, h)
-
-least-within : (test : ℕ → Bool) (n : ℕ) → least test n ≤ n
-least-within test zero = omega arith
-least-within test (suc n) = least_by (test zero) (least (λ i. test (suc i)) n) n (least-within (λ i. test (suc i)) n)
 
 -- how far a run goes that goes no further than to a move
 module _ (moves : Moves) (n k : ℕ) (s : State) (within : k ≤ n) (none : (i : ℕ) → i < k → is_at_move moves (steps_of i s) ≡ false) where
@@ -52,29 +36,23 @@ module _ (moves : Moves) (n k : ℕ) (s : State) (within : k ≤ n) (none : (i :
   unfolding steps_to_move
   move-above = least-above (λ i. is_at_move moves (steps_of i s)) n k within none
 
-  move-here : is_at_move moves (steps_of k s) ≡ true → k ≡ steps_to_move moves n s
+  move-here : (k < n → is_at_move moves (steps_of k s) ≡ true) → k ≡ steps_to_move moves n s
   unfolding steps_to_move
-  move-here here = sym (least-is (λ i. is_at_move moves (steps_of i s)) n k within here none)
-
-  move-never : k ≡ n → k ≡ steps_to_move moves n s
-  unfolding steps_to_move
-  move-never all =
-      let above = least-above (λ i. is_at_move moves (steps_of i s)) n k within none in
-      omega (arith, above, all, least-within (λ i. is_at_move moves (steps_of i s)) n)
+  move-here here = sym (least-only (λ i. is_at_move moves (steps_of i s)) n k (record { within = within; before = none; here = here }))
 
 -- a step that a test of moves permits is none of them, and one that it refuses is, if the machine can make it
 pub moves-pass : (refuses : MoveOp → ℕ → Bool) (moves : Moves) (s : State) → Refuses refuses moves → refuses_at refuses s ≡ false → is_at_move moves s ≡ false
 unfolding refuses_at
 moves-pass refuses moves s same h = not_next s.sp.halted _ (asked-is refuses moves same (inst_of (word_at s.imem s.pc)) ∙ h)
 
-is_next : (halted asked : Bool) (o : Option Inst) → asked ≡ true → stuck_by halted o ≡ None → not halted && asked ≡ true
+is_next : (halted asked : Bool) (o : Option Inst) → asked ≡ true → first_of (when (not halted && is_none o) Reserved ∷ when halted Halted ∷ []) ≡ None → not halted && asked ≡ true
 is_next true asked o e free = cc
 is_next false asked o e free = e
 
 pub move-next : (refuses : MoveOp → ℕ → Bool) (moves : Moves) (s : State) → Refuses refuses moves → refuses_at refuses s ≡ true → step_refusal s ≡ None → is_at_move moves s ≡ true
 unfolding refuses_at
 move-next refuses moves s same h free =
-    let o = inst_of (word_at s.imem s.pc) in is_next s.sp.halted _ o (asked-is refuses moves same o ∙ h) (sym (stuck_is s.sp.halted o) ∙ free)
+    let o = inst_of (word_at s.imem s.pc) in is_next s.sp.halted _ o (asked-is refuses moves same o ∙ h) free
 
 -- a test that ends no run
 pub never-ends : (s : State) (X : Type 0) → ends_after (λ pc word changes_memory. false) s ≡ true → X
@@ -180,16 +158,13 @@ module _ (b : List Bool) (snapshots : List (Option Snapshot)) (moves : Moves) (n
       subst (λ (x : ℕ). IsCome b snapshots moves n s x t None) count (subst (λ (o : Option Reason). IsCome b snapshots moves n s (j + 1) t o) nothing one)
 
   -- why a run stops that has found a reason, has made all its steps, or has come to a move
-  module _ (k : ℕ) (t : State) (found : Option Reason) (come : IsCome b snapshots moves n s k t found) (all : found ≡ None → step_refusal t ≡ None → (k ≡ n) ⊎ (is_at_move moves t ≡ true)) where
-    furthest : (k ≡ n) ⊎ (is_at_move moves t ≡ true) → k ≡ steps_to_move moves n s
-    furthest (inl made) = move-never moves n k s come.within come.none made
-    furthest (inr here) = move-here moves n k s come.within come.none (ap (is_at_move moves) (sym come.after.reached) ∙ here)
-
+  module _ (k : ℕ) (t : State) (found : Option Reason) (come : IsCome b snapshots moves n s k t found) (all : found ≡ None → step_refusal t ≡ None → k < n → is_at_move moves t ≡ true) where
     reason_by : (o : Option Reason) → found ≡ o → step_refusal t ≡ None → reason_at b (watches_of snapshots) (steps_to_move moves n s) s k ≡ Some (unwrap_or found Limit)
     reason_by (Some r) is free =
         reason-hit b (watches_of snapshots) (steps_to_move moves n s) s t k r come.after.reached free (sym come.is ∙ is) ∙ ap (λ o. Some (unwrap_or o Limit)) (sym is)
     reason_by None is free =
-        reason-limit b (watches_of snapshots) (steps_to_move moves n s) s t k come.after.reached free (sym come.is ∙ is) (furthest (all is free)) ∙ ap (λ o. Some (unwrap_or o Limit)) (sym is)
+        reason-limit b (watches_of snapshots) (steps_to_move moves n s) s t k come.after.reached free (sym come.is ∙ is)
+        (move-here moves n k s come.within come.none (λ h. ap (is_at_move moves) (sym come.after.reached) ∙ all is free h)) ∙ ap (λ o. Some (unwrap_or o Limit)) (sym is)
 
     pub stop-come : (r : Reason) (stop : Stop) → stop ≡ record { reason = unwrap_or (step_refusal t) r; steps = k; pc = t.pc } → r ≡ unwrap_or found Limit
         → IsStop b (watches_of snapshots) (steps_to_move moves n s) s t stop

@@ -14,7 +14,7 @@ use Rattle.rsp_debug.specs.HistoryRing.{Records, states_before}
 use Rattle.rsp_debug.specs.Debugging.{Debugging, after_steps, after_debugger_step}
 use Rattle.rsp_debug.specs.Calls.{IsAfter}
 use Rattle.rsp_debug.specs.Runs.{step_refusal}
-use Rattle.rsp_debug.proofs.Reasons.{step-halted, step-reserved, step-halted-same, step-reserved-same}
+use Rattle.rsp_debug.proofs.Reasons.{step-still}
 
 -- n steps of a debugger are n steps of its machine, and fill its past
 abbrev pub made : ℕ → Debugging → Debugging
@@ -46,30 +46,16 @@ not_done end.Done b n s past h = absurd (omega (arith, h))
 not_done end.Halted b n s past h = refl
 not_done (end.Reserved w) b n s past h = refl
 
-not_moved : (s : State) (e : StepEnd) → (step_of s).0 ≡ e → done_steps e ≡ 0 → (step_of s).1 ≡ s
-not_moved s end.Done is h = absurd (omega (arith, h))
-not_moved s end.Halted is h = step-halted-same s is
-not_moved s (end.Reserved w) is h = step-reserved-same s w is
-
 pub single-none : (k n : ℕ) (s t u : State) (rs : List Saved) (past : List State) → k ≡ 0 → t ≡ steps_of k s → done_steps (step_of t).0 ≡ 0 → u ≡ (step_of t).1 → states_before t rs ≡ history_after_steps k n s past
     → (u ≡ (step_of s).1) × (states_before u rs ≡ history_after n s past)
 unfolding steps_of history_after_steps history_after
 single-none k n s t u rs past none there stuck moved kept =
     let same : t ≡ s = there ∙ ap (λ i. steps_of i s) none in
-    let still : u ≡ t = moved ∙ not_moved t (step_of t).0 refl stuck in (
+    let still : u ≡ t = moved ∙ step-still t stuck in (
       moved ∙ ap (λ (x : State). (step_of x).1) same,
       ap (λ (x : State). states_before x rs) still ∙ kept ∙ ap (λ i. history_after_steps i n s past) none
           ∙ sym (not_done (step_of s).0 (starts_dma_at s) n s past (ap (λ (x : State). done_steps (step_of x).0) (sym same) ∙ stuck)),
     )
-
--- where a step can't be made the machine is stuck
-stuck_by_end : (s : State) (e : StepEnd) → (step_of s).0 ≡ e → done_steps e ≡ 0 → is_some (step_refusal s) ≡ true
-stuck_by_end s end.Done is h = absurd (omega (arith, h))
-stuck_by_end s end.Halted is h = ap is_some (step-halted s is)
-stuck_by_end s (end.Reserved w) is h = ap is_some (step-reserved s w is)
-
-pub stuck-is : (s : State) → done_steps (step_of s).0 ≡ 0 → is_some (step_refusal s) ≡ true
-stuck-is s h = stuck_by_end s (step_of s).0 refl h
 
 -- and the code's answer to one
 ends_none : (e : StepEnd) → e ≢ end.Done → done_steps e ≡ 0
@@ -79,8 +65,8 @@ ends_none (end.Reserved w) other = refl
 
 pub not-done : (s t : State) (e : StepEnd) → e ≡ (step_of s).0 → t ≡ (step_of s).1 → e ≢ end.Done → (t ≡ s) × (done_steps (step_of s).0 ≡ 0)
 not-done s t e is there other =
-    let none = ends_none e other in
-    (there ∙ not_moved s e (sym is) none, ap done_steps (sym is) ∙ none)
+    let none = ap done_steps (sym is) ∙ ends_none e other in
+    (there ∙ step-still s none, none)
 
 pub not-done-past : (n : ℕ) (s : State) (past : List State) (e : StepEnd) → e ≡ (step_of s).0 → e ≢ end.Done → history_after n s past ≡ past
 unfolding history_after

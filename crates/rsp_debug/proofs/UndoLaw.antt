@@ -11,7 +11,7 @@ use Rattle.rsp_machine.specs.declared.step.StepEnd.TheVariants.{Done, Halted, Re
 use Rattle.rsp_debug.specs.History.{history_by, history_after}
 use Rattle.rsp_debug.specs.Debugging.{Debugging, debugging_of, after_debugger_step, after_steps, after_back}
 use Rattle.rsp_debug.specs.Calls.{ForwardCall, StepCall, RunCall, accepted_run_steps, call_steps, state_after_call, Call, GoOn, GoBack, Tally, after_forward_call, is_accepted, after_call, after_calls, Undoes}
-use Rattle.rsp_debug.proofs.Reasons.{step-halted-same, step-reserved-same}
+use Rattle.rsp_debug.proofs.Reasons.{step-still}
 use Rattle.rsp_debug.proofs.DoneSteps.{after-call}
 use Rattle.rsp_debug.proofs.Stretches.{made-state}
 use Rattle.rsp_debug.proofs.HistoryRecords.{state_back}
@@ -93,8 +93,8 @@ same_sound s t n taken d e h =
 
 end_sound : (end : StepEnd) (s : State) (n taken : ℕ) (d : Debugging) → (step_of d.state).0 ≡ end → Sound s n taken d → Sound s (n + done_steps end) taken (ended end d)
 end_sound Done s n taken d e h = done_sound s n taken d e h
-end_sound Halted s n taken d e h = same_sound s (step_of d.state).1 n taken d (step-halted-same d.state e) h
-end_sound (Reserved w) s n taken d e h = same_sound s (step_of d.state).1 n taken d (step-reserved-same d.state w e) h
+end_sound Halted s n taken d e h = same_sound s (step_of d.state).1 n taken d (step-still d.state (ap done_steps e)) h
+end_sound (Reserved w) s n taken d e h = same_sound s (step_of d.state).1 n taken d (step-still d.state (ap done_steps e)) h
 
 step_sound : (s : State) (n taken : ℕ) (d : Debugging) → Sound s n taken d → Sound s (n + done_steps (step_of d.state).0) taken (after_debugger_step d)
 unfolding history_after

@@ -1,5 +1,5 @@
 use Rattle.std.proofs.Common.{◌≡◌, ◌∙◌, ◌+◌, ◌-◌, ap, refl, sym, subst, inl, inr, arith, true, None}
-use Rattle.std.specs.Prelude.{◌⊎◌, is_some, unwrap_or}
+use Rattle.std.specs.Prelude.{◌<◌, unwrap_or}
 use Rattle.rsp_machine.specs.State.{State}
 use Rattle.rsp_machine.specs.Laws.{steps_of}
 use Rattle.rsp_machine.specs.Until.{refuses_at}
@@ -10,8 +10,8 @@ use Rattle.rsp_debug.specs.Snapshots.{watches_of}
 use Rattle.rsp_debug.specs.Moves.{is_at_move, steps_to_move}
 use Rattle.rsp_debug.specs.Stops.{IsStop}
 use Rattle.rsp_debug.specs.declared.stop.Stop.{Stop}
-use Rattle.rsp_debug.proofs.DoneSteps.{never}
-use Rattle.rsp_debug.proofs.Stretches.{past-none, stuck-is, no-one, some-one, after-zero, past-then, states-as}
+use Rattle.rsp_debug.proofs.Reasons.{stuck}
+use Rattle.rsp_debug.proofs.Stretches.{past-none, no-one, some-one, after-zero, past-then, states-as}
 use Rattle.rsp_debug.proofs.RunLoop.{moves-pass, move-next, come-none, come-more, stop-come}
 use Rattle.rsp_debug.proofs.run.run_to.Goals.{then-loop-left-test+else-is_none, else-loop-left-test, then-loop-left-test+then-is_none+then-steps-eq0}
 use Rattle.rsp_debug.proofs.run.run_to.Goals as goal
@@ -50,14 +50,14 @@ returns-clause-stop g c =
       | else-loop-left-test w ↦ w.machine-is
       | then-loop-left-test+then-is_none+then-steps-eq0 w ↦ w.machine-is ∙ after-zero w.stretch-steps.result l.machine w.stretch-steps.new.machine w.if-steps-eq0.true w.stretch-steps.ensures.after
     ] in
-    let all : l.found ≡ None → step_refusal l.machine ≡ None → (k ≡ n) ⊎ (is_at_move x.moves l.machine ≡ true) = λ none free. elim c.loop-left-test.branch [
+    let all : l.found ≡ None → step_refusal l.machine ≡ None → k < n → is_at_move x.moves l.machine ≡ true = λ none free short. elim c.loop-left-test.branch [
       | then-loop-left-test+else-is_none w ↦ some-one l.found w.is_none.result _ w.is_none.ensures w.if-is_none.false none
-      | else-loop-left-test w ↦ inl (omega (arith, w.loop-left-test.false))
+      | else-loop-left-test w ↦ absurd (omega (arith, w.loop-left-test.false, short))
       | then-loop-left-test+then-is_none+then-steps-eq0 w ↦
           let still = after-zero w.stretch-steps.result l.machine w.stretch-steps.new.machine w.if-steps-eq0.true w.stretch-steps.ensures.after in
           elim (w.stretch-steps.ensures.stuck w.if-steps-eq0.true) [
-            | inl stuck ↦ never (step_refusal l.machine) _ (ap (λ (y : State). is_some (step_refusal y)) (sym still) ∙ stuck-is w.stretch-steps.new.machine stuck) free
-            | inr refused ↦ inr (move-next (g.U.Until.refuses c.args.until.now) x.moves l.machine c.requires.refuses (ap (refuses_at (g.U.Until.refuses c.args.until.now)) (sym still) ∙ refused) free)
+            | inl none ↦ absurd (stuck w.stretch-steps.new.machine none (ap step_refusal still ∙ free))
+            | inr refused ↦ move-next (g.U.Until.refuses c.args.until.now) x.moves l.machine c.requires.refuses (ap (refuses_at (g.U.Until.refuses c.args.until.now)) (sym still) ∙ refused) free
           ]
     ] in
     let stop : IsStop x.breaks.now (watches_of x.snapshots.now) (steps_to_move x.moves n s) s l.machine c.stopped_here.result =

@@ -1,5 +1,5 @@
 use Rattle.std.proofs.Common.{◌≡◌, ◌∙◌, ◌+◌, ap, refl, sym, subst, inl, arith, true, None, length}
-use Rattle.std.specs.Prelude.{◌⊎◌, unwrap_or}
+use Rattle.std.specs.Prelude.{◌<◌, unwrap_or}
 use Rattle.rsp_memory.specs.Memory.{word_at}
 use Rattle.rsp_machine.specs.State.{State}
 use Rattle.rsp_machine.specs.Laws.{steps_of}
@@ -10,8 +10,9 @@ use Rattle.rsp_debug.specs.Snapshots.{watches_of}
 use Rattle.rsp_debug.specs.Moves.{is_at_move, steps_to_move}
 use Rattle.rsp_debug.specs.Stops.{IsStop}
 use Rattle.rsp_debug.specs.declared.stop.Stop.{Stop}
-use Rattle.rsp_debug.proofs.DoneSteps.{never, after-one}
-use Rattle.rsp_debug.proofs.Stretches.{past-none, stuck-is, no-one, some-one, not-done, not-done-past, past-then, states-as}
+use Rattle.rsp_debug.proofs.DoneSteps.{after-one}
+use Rattle.rsp_debug.proofs.Stretches.{past-none, no-one, some-one, not-done, not-done-past, past-then, states-as}
+use Rattle.rsp_debug.proofs.Reasons.{stuck}
 use Rattle.rsp_debug.proofs.HistoryRecords.{one-more}
 use Rattle.rsp_debug.proofs.Hits.{untested-hit}
 use Rattle.rsp_debug.proofs.RunLoop.{come-none, come-more, stop-come}
@@ -70,12 +71,12 @@ returns-clause-stop g c =
       | else-loop-made-test w ↦ w.machine-is
       | then-loop-made-test+then-is_none+in_default w ↦ w.machine-is ∙ (not-done l.machine w.recorded_step.new.machine w.recorded_step.result w.recorded_step.ensures.answer w.recorded_step.ensures.state w.in_default.not-Done).0
     ] in
-    let all : l.found ≡ None → step_refusal l.machine ≡ None → (k ≡ n) ⊎ (is_at_move x.moves l.machine ≡ true) = λ none free. elim c.loop-made-test.branch [
+    let all : l.found ≡ None → step_refusal l.machine ≡ None → k < n → is_at_move x.moves l.machine ≡ true = λ none free short. elim c.loop-made-test.branch [
       | then-loop-made-test+else-is_none w ↦ some-one l.found w.is_none.result _ w.is_none.ensures w.if-is_none.false none
-      | else-loop-made-test w ↦ inl (omega (arith, w.loop-made-test.false, i.within))
+      | else-loop-made-test w ↦ absurd (omega (arith, w.loop-made-test.false, short))
       | then-loop-made-test+then-is_none+in_default w ↦
-          let stuck = not-done l.machine w.recorded_step.new.machine w.recorded_step.result w.recorded_step.ensures.answer w.recorded_step.ensures.state w.in_default.not-Done in
-          never (step_refusal l.machine) _ (stuck-is l.machine stuck.1) free
+          let none = not-done l.machine w.recorded_step.new.machine w.recorded_step.result w.recorded_step.ensures.answer w.recorded_step.ensures.state w.in_default.not-Done in
+          absurd (stuck l.machine none.1 free)
     ] in
     let stop : IsStop x.breaks.now (watches_of x.snapshots.now) (steps_to_move x.moves n s) s l.machine c.stopped_here.result =
     stop-come x.breaks.now x.snapshots.now x.moves n s k l.machine l.found i.come all _ c.stopped_here.result
