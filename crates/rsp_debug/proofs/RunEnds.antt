@@ -16,11 +16,11 @@ use Rattle.rsp_debug.specs.declared.moves.MoveEnd.{MoveEnd}
 use Rattle.rsp_debug.specs.declared.moves.MoveEnd.TheVariants as end
 use Rattle.rsp_debug.specs.Moves.{no_moves, is_asked, is_at_move, is_limit, steps_to_move, move_by, end_by, move_end_of, end_steps}
 use Rattle.rsp_debug.specs.Snapshots.{snapshot_of, watches_of}
-use Rattle.rsp_debug.specs.History.{history_after_steps}
+use Rattle.rsp_debug.specs.HistoryRing.{Records, states_before}
 use Rattle.rsp_debug.specs.Debugging.{Debugging, after_steps, after_run}
 use Rattle.rsp_debug.proofs.Least.{least-only}
 use Rattle.rsp_debug.proofs.Stretches.{made-is}
-use Rattle.rsp_debug.specs.Runs.{has_move, Refuses}
+use Rattle.rsp_debug.specs.Runs.{has_move, Refuses, IsRun}
 use Rattle.rsp_debug.specs.declared.stop.Watch.{Watch}
 use Rattle.rsp_debug.specs.declared.stop.Reason.{Reason}
 use Rattle.rsp_debug.specs.declared.stop.Reason.TheVariants.{Reserved, Halted, Watched, Break, Limit}
@@ -51,18 +51,22 @@ unwatched_reason b w n k s none =
     ap (λ o. first_of (when (is_reserved t) Reserved ∷ when t.sp.halted Halted ∷ cond (nat_lt 0 k) (option_map Watched o) None ∷ when (nat_lt 0 k && is_break b t.pc) Break ∷ when (k == n) Limit ∷ []))
     (none-changed before.dmem t.dmem ∙ sym (changed-none w before.dmem t.dmem none))
 
-pub unwatched-stop : (b : List Bool) (w : List (Option Watch)) (n : ℕ) (s t : State) (stop : Stop) → IsStop b [] n s t stop → All IsNone w → IsStop b w n s t stop
-unwatched-stop b w n s t stop is none = record {
-  within = is.within;
-  reached = is.reached;
-  reason = sym (unwatched_reason b w n stop.steps s none) ∙ is.reason;
-  first = λ j h. sym (unwatched_reason b w n j s none) ∙ is.first j h;
-  pc = is.pc;
+pub unwatched-run : (b : List Bool) (w : List (Option Watch)) (n : ℕ) (s t : State) (h g : Records) (stop : Stop) → IsRun b [] n s t h g stop → All IsNone w → IsRun b w n s t h g stop
+unwatched-run b w n s t h g stop is none = record {
+  end = record {
+    within = is.end.within;
+    reached = is.end.reached;
+    reason = sym (unwatched_reason b w n stop.steps s none) ∙ is.end.reason;
+    first = λ j l. sym (unwatched_reason b w n j s none) ∙ is.end.first j l;
+    pc = is.end.pc;
+  };
+  kept = is.kept;
 }
 
 -- the watches are those of the snapshots
-pub snapshots-stop : (b : List Bool) (w : List (Option Watch)) (n : ℕ) (s t : State) (stop : Stop) (dmem : List ℕ) → IsStop b (watches_of (map (snapshot_of dmem) w)) n s t stop → IsStop b w n s t stop
-snapshots-stop b w n s t stop dmem is = subst (λ (x : List (Option Watch)). IsStop b x n s t stop) (watches-of w dmem) is
+pub snapshots-run : (b : List Bool) (w : List (Option Watch)) (n : ℕ) (s t : State) (h g : Records) (stop : Stop) (dmem : List ℕ) → IsRun b (watches_of (map (snapshot_of dmem) w)) n s t h g stop
+    → IsRun b w n s t h g stop
+snapshots-run b w n s t h g stop dmem is = subst (λ (x : List (Option Watch)). IsRun b x n s t h g stop) (watches-of w dmem) is
 
 -- if no move is asked for, none comes
 zero_bit : (b : Bool) (r : ℕ) → (bit_at (cond b 0 0) r == 1) ≡ false
@@ -81,12 +85,12 @@ not_next false asked e = e
 pub unmoved : (moves : Moves) (s : State) → moves ≡ no_moves → is_at_move moves s ≡ false
 unmoved moves s none = ap (λ (x : Moves). is_at_move x s) none ∙ not_next s.sp.halted _ (never-asked (inst_of (word_at s.imem s.pc)))
 
-pub unmoved-stop : (b : List Bool) (w : List (Option Watch)) (moves : Moves) (n : ℕ) (s t : State) (stop : Stop) → moves ≡ no_moves → IsStop b w (steps_to_move moves n s) s t stop → IsStop b w n s t stop
+pub unmoved-run : (b : List Bool) (w : List (Option Watch)) (moves : Moves) (n : ℕ) (s t : State) (h g : Records) (stop : Stop) → moves ≡ no_moves → IsRun b w (steps_to_move moves n s) s t h g stop
+    → IsRun b w n s t h g stop
 unfolding steps_to_move
-unmoved-stop b w moves n s t stop none given =
-    let is = subst (λ (x : Moves). IsStop b w (steps_to_move x n s) s t stop) none given in
-    subst (λ (x : ℕ). IsStop b w x s t stop)
-    (least-only (λ k. is_at_move no_moves (steps_of k s)) n n (record { within = omega arith; before = λ k h. unmoved no_moves (steps_of k s) refl; here = λ h. absurd (omega (arith, h)) })) is
+unmoved-run b w moves n s t h g stop none is =
+    subst (λ (x : ℕ). IsRun b w x s t h g stop)
+    (least-only (λ k. is_at_move moves (steps_of k s)) n n (record { within = omega arith; before = λ k l. unmoved moves (steps_of k s) none; here = λ l. absurd (omega (arith, l)) })) is
 
 -- where no moves are asked for, none is refused
 pub none-refused : (moves : Moves) → moves ≡ no_moves → Refuses (λ op register. false) moves
@@ -113,15 +117,12 @@ move-end-steps moves stop t r e =
     ap end_steps e ∙ steps_by (is_limit stop.reason && is_at_move moves t) (inst_of (word_at t.imem t.pc)) stop t
 
 -- a debugger after a run
-pub ran-is : (d : Debugging) (n : ℕ) (t : State) (past : List State) (depth : ℕ) (stop : Stop) → IsStop d.breaks d.watches n d.state t stop
-    → past ≡ history_after_steps stop.steps d.depth d.state d.past → depth ≡ d.depth
-    → (let x : Debugging = record { state = t; breaks = d.breaks; watches = d.watches; past = past; depth = depth } in x) ≡ after_run n d
-ran-is d n t past depth stop is p e =
-    let k = steps-are d.breaks d.watches n d.state t stop is in
-    ap (λ (s : State). let x : Debugging = record { state = s; breaks = d.breaks; watches = d.watches; past = past; depth = depth } in x) is.reached
-    ∙ ap (λ l. let x : Debugging = record { state = steps_of stop.steps d.state; breaks = d.breaks; watches = d.watches; past = l; depth = depth } in x) p
-    ∙ ap (λ i. let x : Debugging = record { state = steps_of stop.steps d.state; breaks = d.breaks; watches = d.watches; past = history_after_steps stop.steps d.depth d.state d.past; depth = i } in x) e
-    ∙ sym (made-is stop.steps d)
-    ∙ ap (λ i. after_steps i d) (sym k)
+abbrev debugging : List Bool → List (Option Watch) → State → Records → Debugging
+debugging b w s h = record { state = s; breaks = b; watches = w; past = states_before s h.newest; depth = h.depth }
+
+pub ran-is : (b : List Bool) (w : List (Option Watch)) (n : ℕ) (s t : State) (h g : Records) (stop : Stop) → IsRun b w n s t h g stop → debugging b w t g ≡ after_run n (debugging b w s h)
+ran-is b w n s t h g stop is =
+    let d = debugging b w s h in
+    rw (is.kept.past, is.kept.depth, is.end.reached) (sym (made-is stop.steps d) ∙ ap (λ k. after_steps k d) (sym (steps-are b w n s t stop is.end)))
 
 pub ruleset ends = (stop-is, ran-is)

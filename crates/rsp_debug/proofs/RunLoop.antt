@@ -18,15 +18,17 @@ use Rattle.rsp_debug.specs.declared.stop.Stop.{Stop}
 use Rattle.rsp_debug.specs.declared.snapshot.Snapshot.{Snapshot}
 use Rattle.rsp_debug.specs.declared.moves.Moves.{Moves}
 use Rattle.rsp_debug.specs.Snapshots.{differs, watches_of}
+use Rattle.rsp_debug.specs.HistoryRing.{Records}
 use Rattle.rsp_debug.specs.Calls.{IsAfter}
 use Rattle.rsp_debug.specs.Stops.{when, first_of, reason_at, IsStop}
 use Rattle.rsp_debug.specs.Moves.{is_at_move, steps_to_move}
-use Rattle.rsp_debug.specs.Runs.{step_refusal, hit_in, Asks, Refuses}
+use Rattle.rsp_debug.specs.Runs.{step_refusal, hit_in, Asks, Refuses, AreKept, IsRun}
 use Rattle.rsp_debug.proofs.WatchChanges.{differs-empty}
 use Rattle.rsp_debug.proofs.Hits.{nothing-hit}
 use Rattle.rsp_debug.proofs.Reasons.{reason-hit, reason-limit, reason-none, hit_of, next-hit, nothing-differs, step-done}
 use Rattle.rsp_debug.proofs.DoneSteps.{after-none, after-more, stop-here}
 use Rattle.rsp_debug.proofs.Least.{least-above, least-only}
+use Rattle.rsp_debug.proofs.Stretches.{kept-none, kept-then}
 use Rattle.rsp_debug.proofs.RunEnds.{not_next}
 use Rattle.rsp_debug.proofs.Moving.{asked-is}
 
@@ -173,3 +175,31 @@ module _ (b : List Bool) (snapshots : List (Option Snapshot)) (moves : Moves) (n
         stop-here b (watches_of snapshots) (steps_to_move moves n s) s t k k r stop same refl above come.after.reached
         (λ i h. come.first i h (steps_to_move moves n s) (omega (arith, h, above)))
         (λ free. reason_by found refl free ∙ ap Some (sym is))
+
+-- The records of a run were h, and are g.
+pub record IsGoing (b : List Bool) (snapshots : List (Option Snapshot)) (moves : Moves) (n : ℕ) (s : State) (h : Records) (k : ℕ) (m : State) (g : Records) (found : Option Reason) : Type 0 where
+  pub come : IsCome b snapshots moves n s k m found
+  pub kept : AreKept k s m h g
+
+-- A run has ended after k steps: the step that it tried last, if it did, wasn't made.
+pub record IsOver (moves : Moves) (n k : ℕ) (m t : State) (g i : Records) (found : Option Reason) : Type 0 where
+  pub same : t ≡ m
+  pub kept : AreKept 0 m t g i
+  pub why : found ≡ None → step_refusal t ≡ None → k < n → is_at_move moves t ≡ true
+
+pub over-none : (moves : Moves) (n k : ℕ) (m : State) (g : Records) (found : Option Reason) → (found ≡ None → step_refusal m ≡ None → k < n → is_at_move moves m ≡ true) → IsOver moves n k m m g g found
+over-none moves n k m g found why = record { same = refl; kept = kept-none m g; why = why }
+
+module _ (b : List Bool) (snapshots : List (Option Snapshot)) (moves : Moves) (n : ℕ) (s : State) (h : Records) where
+  pub go-none : (k : ℕ) → k ≡ 0 → differs snapshots s.dmem ≡ None → IsGoing b snapshots moves n s h k s h None
+  go-none k none same = record { come = come-none b snapshots moves n s k none same; kept = subst (λ (x : ℕ). AreKept x s s h h) (sym none) (kept-none s h) }
+
+  pub run-over : (k : ℕ) (m t : State) (g i : Records) (found : Option Reason) → IsGoing b snapshots moves n s h k m g found → IsOver moves n k m t g i found
+      → (r : Reason) (stop : Stop) → stop ≡ record { reason = unwrap_or (step_refusal t) r; steps = k; pc = t.pc } → r ≡ unwrap_or found Limit
+      → IsRun b (watches_of snapshots) (steps_to_move moves n s) s t h i stop
+  run-over k m t g i found going over r stop is e =
+      let steps : stop.steps ≡ k = ap (λ (x : Stop). x.steps) is in
+      record {
+        end = stop-come b snapshots moves n s k t found (subst (λ (x : State). IsCome b snapshots moves n s k x found) (sym over.same) going.come) over.why r stop is e;
+        kept = kept-then k 0 stop.steps s m t h g i going.kept over.kept going.come.after.reached (omega (arith, steps));
+      }

@@ -13,7 +13,7 @@ use Rattle.rsp_debug.specs.History.{history_by, history_after, history_after_ste
 use Rattle.rsp_debug.specs.HistoryRing.{Records, states_before}
 use Rattle.rsp_debug.specs.Debugging.{Debugging, after_steps, after_debugger_step}
 use Rattle.rsp_debug.specs.Calls.{IsAfter}
-use Rattle.rsp_debug.specs.Runs.{step_refusal}
+use Rattle.rsp_debug.specs.Runs.{AreKept}
 use Rattle.rsp_debug.proofs.Reasons.{step-still}
 
 -- n steps of a debugger are n steps of its machine, and fill its past
@@ -84,17 +84,19 @@ pub after-zero : (k : ℕ) (s t : State) → k ≡ 0 → IsAfter k s t → t ≡
 unfolding steps_of
 after-zero k s t none h = h.reached ∙ ap (λ i. steps_of i s) none
 
-pub past-then : (k j o depth now : ℕ) (s m : State) (past old next : List State) → next ≡ history_after_steps j now m old → now ≡ depth → old ≡ history_after_steps k depth s past → m ≡ steps_of k s → o ≡ k + j → next ≡ history_after_steps o depth s past
-past-then k j o depth now s m past old next e same kept there count =
-    e ∙ ap (λ d. history_after_steps j d m old) same ∙ ap (history_after_steps j depth m) kept ∙ ap (λ (x : State). history_after_steps j depth x (history_after_steps k depth s past)) there
-    ∙ sym (past-add k j depth s past) ∙ ap (λ i. history_after_steps i depth s past) (sym count)
+pub kept-none : (s : State) (h : Records) → AreKept 0 s s h h
+kept-none s h = record { past = sym (past-none h.depth s (states_before s h.newest)); depth = refl }
 
-pub states-as : (s t : State) (h g : Records) → s ≡ t → h ≡ g → states_before s h.newest ≡ states_before t g.newest
-states-as s t h g e f = rw (e, f) refl
+pub kept-then : (k j o : ℕ) (s m t : State) (h g i : Records) → AreKept k s m h g → AreKept j m t g i → m ≡ steps_of k s → o ≡ k + j → AreKept o s t h i
+kept-then k j o s m t h g i first second there count =
+    let past = states_before s h.newest in
+    record {
+      past = second.past ∙ ap (λ d. history_after_steps j d m (states_before m g.newest)) first.depth ∙ ap (history_after_steps j h.depth m) first.past
+          ∙ ap (λ (x : State). history_after_steps j h.depth x (history_after_steps k h.depth s past)) there
+          ∙ sym (past-add k j h.depth s past) ∙ ap (λ q. history_after_steps q h.depth s past) (sym count);
+      depth = second.depth ∙ first.depth;
+    }
 
 pub stepped-as : (d : Debugging) (t : State) (past : List State) (depth : ℕ) → t ≡ (step_of d.state).1 → past ≡ history_after d.depth d.state d.past → depth ≡ d.depth
     → (let x : Debugging = record { state = t; breaks = d.breaks; watches = d.watches; past = past; depth = depth } in x) ≡ after_debugger_step d
-stepped-as d t past depth e f h =
-    ap (λ (s : State). let x : Debugging = record { state = s; breaks = d.breaks; watches = d.watches; past = past; depth = depth } in x) e
-    ∙ ap (λ p. let x : Debugging = record { state = (step_of d.state).1; breaks = d.breaks; watches = d.watches; past = p; depth = depth } in x) f
-    ∙ ap (λ i. let x : Debugging = record { state = (step_of d.state).1; breaks = d.breaks; watches = d.watches; past = history_after d.depth d.state d.past; depth = i } in x) h
+stepped-as d t past depth e f h = rw (e, f, h) refl

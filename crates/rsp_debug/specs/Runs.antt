@@ -10,8 +10,12 @@ use Rattle.rsp_debug.specs.declared.snapshot.Snapshot.{Snapshot}
 use Rattle.rsp_debug.specs.declared.stop.Reason.{Reason}
 use Rattle.rsp_debug.specs.declared.stop.Reason.TheVariants.{Reserved, Halted, Watched, Break}
 use Rattle.rsp_debug.specs.declared.moves.Moves.{Moves}
-use Rattle.rsp_debug.specs.Stops.{is_reserved, is_break, when, first_of}
+use Rattle.rsp_debug.specs.Stops.{is_reserved, is_break, when, first_of, IsStop}
 use Rattle.rsp_debug.specs.Snapshots.{differs}
+use Rattle.rsp_debug.specs.declared.stop.Watch.{Watch}
+use Rattle.rsp_debug.specs.declared.stop.Stop.{Stop}
+use Rattle.rsp_debug.specs.History.{history_after_steps}
+use Rattle.rsp_debug.specs.HistoryRing.{Records, states_before}
 
 -- the instruction, if it is an MFC0 or MTC0
 abbrev pub move_of : Option Inst → Option Inst
@@ -39,3 +43,13 @@ Asks ends breaks snapshots = (pc word : ℕ) (changes_memory : Bool) → ends pc
 -- A test refuses exactly some moves.
 abbrev pub Refuses : (MoveOp → ℕ → Bool) → Moves → Type 0
 Refuses refuses moves = (op : MoveOp) (register : ℕ) → refuses op register ≡ has_move moves op register
+
+-- k steps led from s to t, and the records, which were h, are g
+pub record AreKept (k : ℕ) (s t : State) (h g : Records) : Type 0 where
+  pub past : states_before t g.newest ≡ history_after_steps k h.depth s (states_before s h.newest)
+  pub depth : g.depth ≡ h.depth
+
+-- a run of at most n steps stopped so, and kept their records
+pub record IsRun (breaks : List Bool) (watches : List (Option Watch)) (n : ℕ) (s t : State) (h g : Records) (stop : Stop) : Type 0 where
+  pub end : IsStop breaks watches n s t stop
+  pub kept : AreKept stop.steps s t h g

@@ -5,12 +5,9 @@
 // only there. If nothing else can end the run and no history is kept, the machine makes all its steps by one call.
 
 ghost use Rattle.std.specs.Prelude.{◌≡◌, false, None, unwrap_or};
-ghost use Rattle.rsp_debug.specs.Stops.{IsStop};
 ghost use Rattle.rsp_debug.specs.Moves.{steps_to_move};
 ghost use Rattle.rsp_debug.specs.Snapshots.{differs, watches_of};
-ghost use Rattle.rsp_debug.specs.History.{history_after_steps};
-ghost use Rattle.rsp_debug.specs.HistoryRing.{states_before};
-ghost use Rattle.rsp_debug.specs.Runs.{step_refusal, Asks, Refuses};
+ghost use Rattle.rsp_debug.specs.Runs.{step_refusal, Asks, Refuses, IsRun};
 
 use crate::breaks::Breaks;
 use crate::conditions::{StopConditions, dmem_bytes};
@@ -58,9 +55,7 @@ fn run_to<A: Acc, U: Until>(
     requires same { differs conditions.now.snapshots.now machine.old.dmem ≡ None }
     requires asks { Asks (U.ends until.now) conditions.now.breaks.now conditions.now.snapshots.now }
     requires refuses { Refuses (U.refuses until.now) conditions.now.moves }
-    ensures stop { IsStop conditions.now.breaks.now (watches_of conditions.now.snapshots.now) (steps_to_move conditions.now.moves n machine.old) machine.old machine.new result }
-    ensures past { states_before machine.new history.new.newest ≡ history_after_steps result.steps history.old.depth machine.old (states_before machine.old history.old.newest) }
-    ensures depth { history.new.depth ≡ history.old.depth }
+    ensures { IsRun conditions.now.breaks.now (watches_of conditions.now.snapshots.now) (steps_to_move conditions.now.moves n machine.old) machine.old machine.new history.old history.new result }
 {
     let mut left = n;
     let mut found = None;
@@ -86,8 +81,7 @@ fn run_unrecorded<A: Acc>(
     requires unkept { history.now.depth ≡ 0 }
     requires same { differs conditions.now.snapshots.now machine.old.dmem ≡ None }
     requires asks { Asks (λ pc word changes_memory. false) conditions.now.breaks.now conditions.now.snapshots.now }
-    ensures stop { IsStop conditions.now.breaks.now (watches_of conditions.now.snapshots.now) (steps_to_move conditions.now.moves n machine.old) machine.old machine.new result }
-    ensures past { states_before machine.new history.now.newest ≡ history_after_steps result.steps history.now.depth machine.old (states_before machine.old history.now.newest) }
+    ensures { IsRun conditions.now.breaks.now (watches_of conditions.now.snapshots.now) (steps_to_move conditions.now.moves n machine.old) machine.old machine.new history.now history.now result }
 {
     // It is called for its contract: there are no more records than the depth, 0. So the past is empty, before and after.
     let _ = history.len();
@@ -105,9 +99,7 @@ fn run_watching<A: Acc>(
     moves: Moves,
     n: u32,
 ) -> Stop
-    ensures stop { IsStop breaks.now watches.now (steps_to_move moves n machine.old) machine.old machine.new result }
-    ensures past { states_before machine.new history.new.newest ≡ history_after_steps result.steps history.old.depth machine.old (states_before machine.old history.old.newest) }
-    ensures depth { history.new.depth ≡ history.old.depth }
+    ensures { IsRun breaks.now watches.now (steps_to_move moves n machine.old) machine.old machine.new history.old history.new result }
 {
     let snapshots = watches.snapshots(dmem_bytes(machine));
     let conditions = StopConditions {
@@ -127,9 +119,7 @@ pub fn run<A: Acc>(
     moves: Moves,
     n: u32,
 ) -> Stop
-    ensures stop { IsStop breaks.now watches.now (steps_to_move moves n machine.old) machine.old machine.new result }
-    ensures past { states_before machine.new history.new.newest ≡ history_after_steps result.steps history.old.depth machine.old (states_before machine.old history.old.newest) }
-    ensures depth { history.new.depth ≡ history.old.depth }
+    ensures { IsRun breaks.now watches.now (steps_to_move moves n machine.old) machine.old machine.new history.old history.new result }
 {
     if !watches.is_empty() {
         return run_watching(machine, history, breaks, watches, moves, n);

@@ -1,12 +1,10 @@
 // A run that writes an entry for each step.
 
 ghost use Rattle.std.specs.Prelude.{◌≡◌, ◌≤◌, ◌↔◌, None, length, take, drop, IsOk, IfOk, OnOk, OnErr};
-ghost use Rattle.rsp_debug.specs.Stops.{IsStop};
 ghost use Rattle.rsp_debug.specs.Snapshots.{differs, watches_of};
-ghost use Rattle.rsp_debug.specs.History.{history_after_steps};
-ghost use Rattle.rsp_debug.specs.HistoryRing.{states_before};
 ghost use Rattle.rsp_debug.specs.Debugging.{stop_in, after_run};
 ghost use Rattle.rsp_debug.specs.Moves.{no_moves};
+ghost use Rattle.rsp_debug.specs.Runs.{IsRun};
 ghost use Rattle.rsp_debug.specs.Traces.{trace_of};
 
 use crate::breaks::Breaks;
@@ -31,9 +29,7 @@ fn trace_to<A: Acc>(
     requires same { differs conditions.now.snapshots.now machine.old.dmem ≡ None }
     requires unmoved { conditions.now.moves ≡ no_moves }
     requires few { length out.old ≤ 1000000 }
-    ensures stop { IsStop conditions.now.breaks.now (watches_of conditions.now.snapshots.now) (length out.old) machine.old machine.new result }
-    ensures past { states_before machine.new history.new.newest ≡ history_after_steps result.steps history.old.depth machine.old (states_before machine.old history.old.newest) }
-    ensures depth { history.new.depth ≡ history.old.depth }
+    ensures run { IsRun conditions.now.breaks.now (watches_of conditions.now.snapshots.now) (length out.old) machine.old machine.new history.old history.new result }
     ensures entries { take result.steps out.new ≡ trace_of result.steps machine.old }
     ensures rest { drop result.steps out.new ≡ drop result.steps out.old }
 {
@@ -66,9 +62,7 @@ fn trace<A: Acc>(
     out: &mut [TraceEntry],
 ) -> Stop
     requires { length out.old ≤ 1000000 }
-    ensures stop { IsStop breaks.now watches.now (length out.old) machine.old machine.new result }
-    ensures past { states_before machine.new history.new.newest ≡ history_after_steps result.steps history.old.depth machine.old (states_before machine.old history.old.newest) }
-    ensures depth { history.new.depth ≡ history.old.depth }
+    ensures run { IsRun breaks.now watches.now (length out.old) machine.old machine.new history.old history.new result }
     ensures entries { take result.steps out.new ≡ trace_of result.steps machine.old }
     ensures rest { drop result.steps out.new ≡ drop result.steps out.old }
 {

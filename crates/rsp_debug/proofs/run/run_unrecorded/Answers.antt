@@ -15,8 +15,8 @@ empty : {X : Type 0} (xs : List X) → length xs ≡ 0 → xs ≡ []
 empty [] none = refl
 empty (x ∷ xs) none = absurd (omega (arith, none))
 
-pub returns-clause-stop : goal.returns-clause-stop
-returns-clause-stop g c =
+pub returns : goal.returns
+returns g c =
     let n = c.args.n in let s = c.args.machine.now in let x = c.args.conditions.now in
     let e = c.steps_until-steps.ensures in let k = c.steps_until-steps.result in let t = c.steps_until-steps.new.self in
     let come = come-all x.breaks.now x.snapshots.now x.moves n s k t c.requires.asks c.requires.same (made-after k s t e.made.done e.made.state) (omega (arith, e.within, c.from.ensures))
@@ -26,9 +26,10 @@ returns-clause-stop g c =
       | inr (inl refused) ↦ move-next _ x.moves t (λ op register. refl) refused free
       | inr (inr ended) ↦ never-ends (steps_of (k - 1) s) _ ended.1
     ] in
-    stop-come x.breaks.now x.snapshots.now x.moves n s k t None come (λ none. all) Limit c.stopped_here.result c.stopped_here.ensures refl
-
-pub returns-clause-past : goal.returns-clause-past
-returns-clause-past g c =
-    past-unkept c.stopped_here.result.steps c.args.history.now.depth c.args.machine.now c.steps_until-steps.new.self c.args.history.now.newest c.requires.unkept
-    (empty _ (omega (arith, c.len.ensures.len, c.len.ensures.within, c.requires.unkept)))
+    record {
+      end = stop-come x.breaks.now x.snapshots.now x.moves n s k t None come (λ none. all) Limit c.stopped_here.result c.stopped_here.ensures refl;
+      kept = record {
+        past = past-unkept c.stopped_here.result.steps c.args.history.now.depth s t c.args.history.now.newest c.requires.unkept (empty _ (omega (arith, c.len.ensures.len, c.len.ensures.within, c.requires.unkept)));
+        depth = refl;
+      };
+    }

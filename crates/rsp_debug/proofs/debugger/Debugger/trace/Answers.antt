@@ -1,18 +1,14 @@
 use Rattle.std.proofs.Common.{◌∙◌, ap, length}
-use Rattle.rsp_debug.specs.HistoryRing.{states_before}
 use Rattle.rsp_debug.specs.Debugging.{Debugging, stop_in, after_run}
 use Rattle.rsp_debug.specs.Traces.{trace_of}
 use Rattle.rsp_debug.proofs.RunEnds.{stop-is, ran-is}
 use Rattle.rsp_debug.proofs.debugger.Debugger.trace.Goals as goal
 
 pub returns-clause-stop : goal.returns-clause-stop
-returns-clause-stop g c = stop-is _ _ _ _ _ _ c.trace.ensures.stop ∙ ap (λ (d : Debugging). stop_in (length c.args.out.now) d) c.self.view_is
+returns-clause-stop g c = stop-is _ _ _ _ _ _ c.trace.ensures.run.end ∙ ap (λ (d : Debugging). stop_in (length c.args.out.now) d) c.self.view_is
 
 pub returns-clause-next : goal.returns-clause-next
-returns-clause-next g c =
-    let i = c.self.inside in
-    let d : Debugging = record { state = i.machine; breaks = i.breaks; watches = i.watches; past = states_before i.machine i.history.newest; depth = i.history.depth } in
-    ran-is d (length c.args.out.now) _ _ _ _ c.trace.ensures.stop c.trace.ensures.past c.trace.ensures.depth ∙ ap (λ (x : Debugging). after_run (length c.args.out.now) x) c.self.view_is
+returns-clause-next g c = ran-is _ _ _ _ _ _ _ _ c.trace.ensures.run ∙ ap (λ (d : Debugging). after_run (length c.args.out.now) d) c.self.view_is
 
 pub returns-clause-entries : goal.returns-clause-entries
 returns-clause-entries g c = c.trace.ensures.entries ∙ ap (λ (d : Debugging). trace_of c.trace.result.steps d.state) c.self.view_is
