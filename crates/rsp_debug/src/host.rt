@@ -1,16 +1,19 @@
-// What the host, the N64's CPU, does with the machine of a debugger.
+// What a host does with the machine of a debugger: the N64's CPU, or a program that owns the SP registers.
 
-ghost use Rattle.std.specs.Prelude.{◌≡◌, ◌<◌, ◌%◌, ◌↔◌, Some, None, length, OnOk, OnErr, IsOk, IsTrue, MatchResult};
+ghost use Rattle.std.specs.Prelude.{◌≡◌, ◌<◌, ◌%◌, ◌↔◌, Ok, Err, Some, None, length, OnOk, OnErr, IfErr, IsOk, IsTrue, MatchResult};
 ghost use Rattle.rsp_regs.specs.Sp.{read_value};
+ghost use Rattle.rsp_regs.specs.Parts.{sp_of};
 ghost use Rattle.rsp_machine.specs.State.{IsState};
 ghost use Rattle.rsp_machine.specs.Host.{register_written, is_inside, with_bank_bytes, task_fault, with_task, with_pc};
-ghost use Rattle.rsp_machine.specs.Registers.{registers_of, with_registers, registers_fault};
+ghost use Rattle.rsp_machine.specs.Registers.{registers_of, with_registers, registers_fault, sp_fault};
+ghost use Rattle.rsp_machine.specs.Pass.{pass_of};
 ghost use Rattle.rsp_debug.specs.Debugging.{set_by_host, after_register_read};
 
 use crate::debugger::Debugger;
 use rsp_acc::Acc;
-use rsp_machine::{AllRegisters, RangeFault, RegistersFault, TaskFault};
+use rsp_machine::{AllRegisters, PassFault, RangeFault, RegistersFault, TaskFault};
 use rsp_memory::{Bank, Rdram};
+use rsp_regs::SpParts;
 
 impl<A: Acc> Debugger<A> {
     /// Reads an SP register, as [`rsp_machine::Machine::read_reg`] does; its number `n` is taken modulo 16. A read of the
@@ -90,19 +93,35 @@ impl<A: Acc> Debugger<A> {
         self.history.clear();
         Ok(())
     }
-}
 
-impl<A: Acc> Debugger<A> {
+    /// Sets the SP registers, as [`rsp_machine::Machine::set_sp_parts`] does, and empties the history. If a [`RegistersFault`] is
+    /// returned, nothing changes.
+    pub fn set_sp_parts(&mut self, given: &SpParts) -> Result<(), RegistersFault>
+        ensures fault { MatchResult result (λ _. sp_fault given.now ≡ None) (λ f. sp_fault given.now ≡ Some f) }
+        ensures ok { OnOk result (self.new ≡ set_by_host (record self.old.state { sp = sp_of given.now }) self.old) }
+        ensures err { OnErr result (self.new ≡ self.old) }
+    {
+        self.machine.set_sp_parts(given)?;
+        self.history.clear();
+        Ok(())
+    }
+
+    /// Passes over the MFC0 or MTC0 at pc, as [`rsp_machine::Machine::pass`] does, and empties the history.
+    pub fn pass(&mut self, value: u32) -> Result<(), PassFault>
+        ensures fault { IfErr result (λ f. pass_of value self.old.state ≡ Err f) }
+        ensures ok { OnOk result (pass_of value self.old.state ≡ Ok self.new.state) }
+        ensures next { OnOk result (self.new ≡ set_by_host self.new.state self.old) }
+        ensures err { OnErr result (self.new ≡ self.old) }
+    {
+        self.machine.pass(value)?;
+        self.history.clear();
+        Ok(())
+    }
     /// The image of the RDRAM; the rest of the debugger is dropped.
     pub fn into_rdram(self) -> Rdram
         ensures { result ≡ self.state.rdram }
     {
-        let Debugger {
-            machine,
-            breaks: _,
-            watches: _,
-            history: _,
-        } = self;
+        let Debugger { machine, .. } = self;
         machine.into_rdram()
     }
 }

@@ -11,7 +11,6 @@ mod moves;
 mod queries;
 mod run;
 mod snapshot;
-mod sp;
 mod stop;
 mod trace;
 mod trace_entry;
