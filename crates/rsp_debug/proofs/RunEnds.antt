@@ -15,7 +15,8 @@ use Rattle.rsp_debug.specs.declared.moves.Moves.{Moves}
 use Rattle.rsp_debug.specs.declared.moves.MoveEnd.{MoveEnd}
 use Rattle.rsp_debug.specs.declared.moves.MoveEnd.TheVariants as end
 use Rattle.rsp_debug.specs.Moves.{no_moves, is_asked, is_at_move, is_limit, steps_to_move, move_by, end_by, move_end_of, end_steps}
-use Rattle.rsp_debug.specs.Snapshots.{snapshot_of, watches_of}
+use Rattle.rsp_debug.specs.declared.snapshot.Snapshot.{Snapshot}
+use Rattle.rsp_debug.specs.Snapshots.{watches_of}
 use Rattle.rsp_debug.specs.HistoryRing.{Records, states_before}
 use Rattle.rsp_debug.specs.Debugging.{Debugging, after_steps, after_run}
 use Rattle.rsp_debug.proofs.Least.{least-only}
@@ -25,7 +26,7 @@ use Rattle.rsp_debug.specs.declared.stop.Watch.{Watch}
 use Rattle.rsp_debug.specs.declared.stop.Reason.{Reason}
 use Rattle.rsp_debug.specs.declared.stop.Reason.TheVariants.{Reserved, Halted, Watched, Break, Limit}
 use Rattle.rsp_debug.specs.declared.stop.Stop.{Stop}
-use Rattle.rsp_debug.proofs.WatchChanges.{none-changed, changed-none, watches-of}
+use Rattle.rsp_debug.proofs.WatchChanges.{AreSnapshots}
 
 -- a stop is the one that the definition gives
 pub steps-are : (b : List Bool) (w : List (Option Watch)) (n : ℕ) (s t : State) (stop : Stop) → IsStop b w n s t stop → run_steps b w n s ≡ stop.steps
@@ -43,30 +44,27 @@ stop-is b w n s t stop is =
     ∙ ap (λ o. made (unwrap_or o Limit) stop.steps (steps_of stop.steps s).pc) (sym is.reason)
     ∙ ap (λ k. made (unwrap_or (reason_at b w n s k) Limit) k (steps_of k s).pc) (sym (steps-are b w n s t stop is))
 
--- where there are no watches, none changes
-unwatched_reason : (b : List Bool) (w : List (Option Watch)) (n k : ℕ) (s : State) → All IsNone w → reason_at b [] n s k ≡ reason_at b w n s k
+-- a run with some snapshots is one with their watches
+watched_reason : (b : List Bool) (w : List (Option Watch)) (dmem : List ℕ) (snapshots : List (Option Snapshot)) (n k : ℕ) (s : State) → AreSnapshots w dmem snapshots
+    → reason_at b w n s k ≡ reason_at b (watches_of snapshots) n s k
 unfolding reason_at
-unwatched_reason b w n k s none =
+watched_reason b w dmem snapshots n k s are =
     let before = steps_of (k - 1) s in let t = steps_of k s in
     ap (λ o. first_of (when (is_reserved t) Reserved ∷ when t.sp.halted Halted ∷ cond (nat_lt 0 k) (option_map Watched o) None ∷ when (nat_lt 0 k && is_break b t.pc) Break ∷ when (k == n) Limit ∷ []))
-    (none-changed before.dmem t.dmem ∙ sym (changed-none w before.dmem t.dmem none))
+    (sym (are.changed before.dmem t.dmem))
 
-pub unwatched-run : (b : List Bool) (w : List (Option Watch)) (n : ℕ) (s t : State) (h g : Records) (stop : Stop) → IsRun b [] n s t h g stop → All IsNone w → IsRun b w n s t h g stop
-unwatched-run b w n s t h g stop is none = record {
+pub watched-run : (b : List Bool) (w : List (Option Watch)) (dmem : List ℕ) (snapshots : List (Option Snapshot)) (n : ℕ) (s t : State) (h g : Records) (stop : Stop) → AreSnapshots w dmem snapshots
+    → IsRun b (watches_of snapshots) n s t h g stop → IsRun b w n s t h g stop
+watched-run b w dmem snapshots n s t h g stop are is = record {
   end = record {
     within = is.end.within;
     reached = is.end.reached;
-    reason = sym (unwatched_reason b w n stop.steps s none) ∙ is.end.reason;
-    first = λ j l. sym (unwatched_reason b w n j s none) ∙ is.end.first j l;
+    reason = watched_reason b w dmem snapshots n stop.steps s are ∙ is.end.reason;
+    first = λ j l. watched_reason b w dmem snapshots n j s are ∙ is.end.first j l;
     pc = is.end.pc;
   };
   kept = is.kept;
 }
-
--- the watches are those of the snapshots
-pub snapshots-run : (b : List Bool) (w : List (Option Watch)) (n : ℕ) (s t : State) (h g : Records) (stop : Stop) (dmem : List ℕ) → IsRun b (watches_of (map (snapshot_of dmem) w)) n s t h g stop
-    → IsRun b w n s t h g stop
-snapshots-run b w n s t h g stop dmem is = subst (λ (x : List (Option Watch)). IsRun b x n s t h g stop) (watches-of w dmem) is
 
 -- if no move is asked for, none comes
 zero_bit : (b : Bool) (r : ℕ) → (bit_at (cond b 0 0) r == 1) ≡ false

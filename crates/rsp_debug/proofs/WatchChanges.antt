@@ -86,12 +86,12 @@ fresh : (dmem : List ℕ) (watch : Option Watch) → is_other dmem (snapshot_of 
 fresh dmem None = refl
 fresh dmem (Some w) = ap not ((bytes_eq-Decides (watched w dmem) (watched w dmem)).1 refl)
 
-pub differs-fresh : (watches : List (Option Watch)) (dmem : List ℕ) → differs (map (snapshot_of dmem) watches) dmem ≡ None
+differs-fresh : (watches : List (Option Watch)) (dmem : List ℕ) → differs (map (snapshot_of dmem) watches) dmem ≡ None
 unfolding differs
 differs-fresh watches dmem =
     position-map (is_other dmem) (snapshot_of dmem) watches ∙ no_position _ watches None (λ k h. fresh dmem (get_or watches k None))
 
-pub watches-of : (watches : List (Option Watch)) (dmem : List ℕ) → watches_of (map (snapshot_of dmem) watches) ≡ watches
+watches-of : (watches : List (Option Watch)) (dmem : List ℕ) → watches_of (map (snapshot_of dmem) watches) ≡ watches
 watches-of [] dmem = refl
 watches-of (None ∷ watches) dmem = ap (λ l. None ∷ l) (watches-of watches dmem)
 watches-of (Some w ∷ watches) dmem = ap (λ l. Some w ∷ l) (watches-of watches dmem)
@@ -112,13 +112,21 @@ no_watch : (before dmem : List ℕ) (watch : Option Watch) → IsNone watch → 
 no_watch before dmem None h = refl
 no_watch before dmem (Some w) h = cc
 
-pub changed-none : (watches : List (Option Watch)) (before dmem : List ℕ) → All IsNone watches → changed_watch watches before dmem ≡ None
+changed-none : (watches : List (Option Watch)) (before dmem : List ℕ) → All IsNone watches → changed_watch [] before dmem ≡ changed_watch watches before dmem
 unfolding changed_watch
-changed-none watches before dmem none = no_position _ watches None (λ k h. no_watch before dmem (get_or watches k None) (none k None h))
+changed-none watches before dmem none = sym (no_position _ watches None (λ k h. no_watch before dmem (get_or watches k None) (none k None h)))
 
-pub none-changed : (before dmem : List ℕ) → changed_watch [] before dmem ≡ None
-unfolding changed_watch
-none-changed before dmem = refl
+-- what a run with some watches compares with: their bytes as they are, or nothing if there is no watch
+pub record AreSnapshots (watches : List (Option Watch)) (dmem : List ℕ) (snapshots : List (Option Snapshot)) : Type 0 where
+  pub same : differs snapshots dmem ≡ None
+  pub changed : (before next : List ℕ) → changed_watch (watches_of snapshots) before next ≡ changed_watch watches before next
+
+pub no-snapshots : (watches : List (Option Watch)) (dmem : List ℕ) → All IsNone watches → AreSnapshots watches dmem []
+no-snapshots watches dmem none = record { same = differs-empty [] dmem refl; changed = λ before next. changed-none watches before next none }
+
+pub snapshots-of : (watches : List (Option Watch)) (dmem bytes : List ℕ) (snapshots : List (Option Snapshot)) → snapshots ≡ map (snapshot_of bytes) watches → bytes ≡ dmem → AreSnapshots watches dmem snapshots
+snapshots-of watches dmem bytes snapshots is now =
+    rw (is, now) (record { same = differs-fresh watches dmem; changed = λ before next. ap (λ l. changed_watch l before next) (watches-of watches dmem) })
 
 -- a watch written, and one dropped, where all are short
 pub short-written : (watches : List (Option Watch)) (k address len : ℕ) → All IsShort watches → len ≤ 64

@@ -1,9 +1,7 @@
 // A run that writes an entry for each step.
 
-ghost use Rattle.std.specs.Prelude.{◌≡◌, ◌≤◌, ◌↔◌, None, length, take, drop, IsOk, IfOk, OnOk, OnErr};
-ghost use Rattle.rsp_debug.specs.Snapshots.{differs, watches_of};
+ghost use Rattle.std.specs.Prelude.{◌≡◌, ◌≤◌, ◌↔◌, length, take, drop, IsOk, IfOk, OnOk, OnErr};
 ghost use Rattle.rsp_debug.specs.Debugging.{stop_in, after_run};
-ghost use Rattle.rsp_debug.specs.Moves.{no_moves};
 ghost use Rattle.rsp_debug.specs.Runs.{IsRun};
 ghost use Rattle.rsp_debug.specs.Traces.{trace_of};
 
@@ -19,20 +17,25 @@ use crate::watches::Watches;
 use rsp_acc::Acc;
 use rsp_machine::{Machine, StepEnd, Writes};
 
-/// Runs to breakpoints and watches, and writes an entry for each step.
-fn trace_to<A: Acc>(
+/// Makes the least number of steps after which there is a reason to stop, at most as many as there are entries, and writes an entry for each.
+fn trace<A: Acc>(
     machine: &mut Machine<A>,
     history: &mut History,
-    conditions: &StopConditions,
+    breaks: &Breaks,
+    watches: &Watches,
     out: &mut [TraceEntry],
 ) -> Stop
-    requires same { differs conditions.now.snapshots.now machine.old.dmem ≡ None }
-    requires unmoved { conditions.now.moves ≡ no_moves }
-    requires few { length out.old ≤ 1000000 }
-    ensures run { IsRun conditions.now.breaks.now (watches_of conditions.now.snapshots.now) (length out.old) machine.old machine.new history.old history.new result }
+    requires { length out.old ≤ 1000000 }
+    ensures run { IsRun breaks.now watches.now (length out.old) machine.old machine.new history.old history.new result }
     ensures entries { take result.steps out.new ≡ trace_of result.steps machine.old }
     ensures rest { drop result.steps out.new ≡ drop result.steps out.old }
 {
+    let snapshots = watches.snapshots(dmem_bytes(machine));
+    let conditions = StopConditions {
+        breaks,
+        snapshots: if watches.is_empty() { &[] } else { &snapshots },
+        moves: Moves::none(),
+    };
     let n = out.len();
     let tests = !conditions.is_empty();
     let mut made = 0;
@@ -51,37 +54,6 @@ fn trace_to<A: Acc>(
         made += 1;
     }
     stopped_here(machine, found.unwrap_or(Reason::Limit), made as u32)
-}
-
-/// Makes the least number of steps after which there is a reason to stop, at most as many as there are entries, and writes an entry for each.
-fn trace<A: Acc>(
-    machine: &mut Machine<A>,
-    history: &mut History,
-    breaks: &Breaks,
-    watches: &Watches,
-    out: &mut [TraceEntry],
-) -> Stop
-    requires { length out.old ≤ 1000000 }
-    ensures run { IsRun breaks.now watches.now (length out.old) machine.old machine.new history.old history.new result }
-    ensures entries { take result.steps out.new ≡ trace_of result.steps machine.old }
-    ensures rest { drop result.steps out.new ≡ drop result.steps out.old }
-{
-    let moves = Moves::none();
-    if watches.is_empty() {
-        let conditions = StopConditions {
-            breaks,
-            snapshots: &[],
-            moves,
-        };
-        return trace_to(machine, history, &conditions, out);
-    }
-    let snapshots = watches.snapshots(dmem_bytes(machine));
-    let conditions = StopConditions {
-        breaks,
-        snapshots: &snapshots,
-        moves,
-    };
-    trace_to(machine, history, &conditions, out)
 }
 
 impl<A: Acc> Debugger<A> {

@@ -1,7 +1,7 @@
 use Rattle.std.proofs.Common.{◌≡◌, ◌≤◌, ◌-◌, length, take, drop}
 use Rattle.rsp_debug.specs.Traces.{trace_of}
 use Rattle.rsp_debug.proofs.RunLoop.{IsGoing}
-use Rattle.rsp_debug.proofs.trace.trace_to.Given as goal
+use Rattle.rsp_debug.proofs.trace.trace.Given as goal
 
 abbrev pub invariant-loop-made : goal.invariant-loop-made
 invariant-loop-made g l = record {
