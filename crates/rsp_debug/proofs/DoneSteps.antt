@@ -1,13 +1,9 @@
 -- Steps that all answer Done.
-use Rattle.std.proofs.Common.{◌≡◌, ℕ, zero, suc, ◌+◌, ◌-◌, ◌<◌, ◌≤◌, List, [], ◌∷◌, refl, ap, sym, ◌∙◌, arith, Bool, true, false, cond, Option, Some, None, inl, inr, subst}
-use Rattle.std.specs.Prelude.{is_some, unwrap_or, nat_eq, nat_lt, ◌&&◌, option_map}
-use Rattle.std.proofs.lemmas.Grind.{common_steps}
+use Rattle.std.proofs.Common.{◌≡◌, ℕ, ◌+◌, ◌-◌, ◌<◌, ◌≤◌, List, [], ◌∷◌, refl, ap, sym, ◌∙◌, arith, Bool, true, false, cond, Option, Some, None, inl, inr, subst}
+use Rattle.std.specs.Prelude.{is_some, unwrap_or}
 use Rattle.std.proofs.lemmas.Bool.{cases_lt}
-use Rattle.rsp_memory.specs.Memory.{word_at}
-use Rattle.rsp_decode.specs.declared.inst.Inst.{Inst}
-use Rattle.rsp_decode.specs.Table.{inst_of}
 use Rattle.rsp_machine.specs.State.{State}
-use Rattle.rsp_machine.specs.Step.{step_of, step_by}
+use Rattle.rsp_machine.specs.Step.{step_of}
 use Rattle.rsp_machine.specs.Laws.{steps_of, done_steps, done_of}
 use Rattle.rsp_machine.specs.declared.step.StepEnd.{StepEnd}
 use Rattle.rsp_machine.specs.declared.step.StepEnd.TheVariants as end
@@ -16,8 +12,8 @@ use Rattle.rsp_machine.proofs.Records.{done-each}
 use Rattle.rsp_debug.specs.declared.stop.Watch.{Watch}
 use Rattle.rsp_debug.specs.declared.stop.Stop.{Stop}
 use Rattle.rsp_debug.specs.declared.stop.Reason.{Reason}
-use Rattle.rsp_debug.specs.declared.stop.Reason.TheVariants.{Reserved, Halted, Watched, Break, Limit}
-use Rattle.rsp_debug.specs.Stops.{first_of, when, is_reserved, is_break, changed_watch, reason_in, reason_at, least, run_steps, stop_of, IsStop}
+use Rattle.rsp_debug.specs.declared.stop.Reason.TheVariants.{Limit}
+use Rattle.rsp_debug.specs.Stops.{reason_at, run_steps, stop_of, IsStop}
 use Rattle.rsp_debug.specs.Runs.{step_refusal}
 use Rattle.rsp_debug.specs.Calls.{IsAfter, ForwardCall, StepCall, RunCall, is_count, call_steps, state_after_call, steps_of_calls, state_after_calls}
 use Rattle.rsp_debug.proofs.Least.{least-is, least-passes}

@@ -1,9 +1,9 @@
 -- Where runs end.
-use Rattle.std.proofs.Common.{◌≡◌, ℕ, zero, suc, ◌-◌, ◌<◌, ◌≤◌, List, [], ◌∷◌, refl, ap, sym, subst, ◌∙◌, arith, Bool, true, false, cond, Option, Some, None}
-use Rattle.std.specs.Prelude.{not, All, IsNone, is_some, unwrap_or, nat_lt, option_map, map, ◌&&◌, ◌==◌}
+use Rattle.std.proofs.Common.{◌≡◌, ℕ, ◌-◌, List, [], ◌∷◌, refl, ap, sym, subst, ◌∙◌, arith, Bool, true, false, cond, Option, Some, None}
+use Rattle.std.specs.Prelude.{not, is_some, unwrap_or, nat_lt, option_map, ◌&&◌, ◌==◌}
 use Rattle.rsp_machine.specs.State.{State}
 use Rattle.rsp_machine.specs.Laws.{steps_of}
-use Rattle.rsp_debug.specs.Stops.{is_break, is_reserved, when, first_of, reason_at, least, run_steps, stop_of, IsStop}
+use Rattle.rsp_debug.specs.Stops.{is_break, is_reserved, when, first_of, reason_at, run_steps, stop_of, IsStop}
 use Rattle.std.specs.Int.{bit_at}
 use Rattle.std.proofs.lemmas.Nat.Bits.{bit_at-zero}
 use Rattle.rsp_memory.specs.Memory.{word_at}
