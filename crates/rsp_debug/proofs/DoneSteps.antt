@@ -1,5 +1,5 @@
 -- Steps that all answer Done.
-use Rattle.std.proofs.Common.{◌≡◌, ℕ, ◌+◌, ◌-◌, ◌<◌, ◌≤◌, List, [], ◌∷◌, refl, ap, sym, ◌∙◌, arith, Bool, true, false, cond, Option, Some, None, inl, inr, subst}
+use Rattle.std.proofs.Common.{◌≡◌, ℕ, ◌+◌, ◌-◌, ◌<◌, List, [], ◌∷◌, refl, ap, sym, ◌∙◌, arith, Bool, true, false, cond, Option, Some, None, inl, inr, subst}
 use Rattle.std.specs.Prelude.{is_some, unwrap_or}
 use Rattle.std.proofs.lemmas.Bool.{cases_lt}
 use Rattle.rsp_machine.specs.State.{State}
@@ -10,14 +10,13 @@ use Rattle.rsp_machine.specs.declared.step.StepEnd.TheVariants as end
 use Rattle.rsp_machine.proofs.LoopSteps.{steps-add}
 use Rattle.rsp_machine.proofs.Records.{done-each}
 use Rattle.rsp_debug.specs.declared.stop.Watch.{Watch}
-use Rattle.rsp_debug.specs.declared.stop.Stop.{Stop}
 use Rattle.rsp_debug.specs.declared.stop.Reason.{Reason}
 use Rattle.rsp_debug.specs.declared.stop.Reason.TheVariants.{Limit}
 use Rattle.rsp_debug.specs.Stops.{reason_at, run_steps, stop_of, IsStop}
 use Rattle.rsp_debug.specs.Runs.{step_refusal}
 use Rattle.rsp_debug.specs.Calls.{IsAfter, ForwardCall, StepCall, RunCall, is_count, call_steps, state_after_call, steps_of_calls, state_after_calls}
 use Rattle.rsp_debug.proofs.Least.{least-is, least-passes}
-use Rattle.rsp_debug.proofs.Reasons.{goes-on, step-still, steps-none, steps-more, two_none, is_stop, hit_of, reason-stuck, reason-hit, reason-limit}
+use Rattle.rsp_debug.proofs.Reasons.{goes-on, step-still, steps-none, steps-more, two_none, hit_of, reason-stuck, reason-hit, reason-limit}
 
 pub after-none : (s : State) → IsAfter 0 s s
 after-none s = record { done = λ k h. absurd (omega arith); reached = sym (steps-none s) }
@@ -58,13 +57,13 @@ after-run b w n s = record {
 }
 
 -- a step
-after_answer : (s : State) (e : StepEnd) → (step_of s).0 ≡ e → IsAfter (done_steps e) s (step_of s).1
-after_answer s end.Done e = record {
+pub after-answer : (s : State) (e : StepEnd) → (step_of s).0 ≡ e → IsAfter (done_steps e) s (step_of s).1
+after-answer s end.Done e = record {
   done = λ k h. ap (λ (x : State). (step_of x).0) (ap (λ i. steps_of i s) (let z : k ≡ 0 = omega arith in z) ∙ steps-none s) ∙ e;
   reached = ap (λ (x : State). (step_of x).1) (sym (steps-none s)) ∙ sym (steps-more 0 s);
 }
-after_answer s end.Halted e = subst (λ (t : State). IsAfter 0 s t) (sym (step-still s (ap done_steps e))) (after-none s)
-after_answer s (end.Reserved w) e = subst (λ (t : State). IsAfter 0 s t) (sym (step-still s (ap done_steps e))) (after-none s)
+after-answer s end.Halted e = subst (λ (t : State). IsAfter 0 s t) (sym (step-still s (ap done_steps e))) (after-none s)
+after-answer s (end.Reserved w) e = subst (λ (t : State). IsAfter 0 s t) (sym (step-still s (ap done_steps e))) (after-none s)
 
 after_count : (counted : Bool) (k : ℕ) (s : State) → IsAfter k s (steps_of k s) → IsAfter (cond counted k 0) s (steps_of (cond counted k 0) s)
 after_count true k s h = h
@@ -72,7 +71,7 @@ after_count false k s h = record { done = λ k h. absurd (omega arith); reached 
 
 pub after-call : (call : ForwardCall) (s : State) → IsAfter (call_steps call s) s (state_after_call call s)
 unfolding call_steps state_after_call
-after-call StepCall s = after_answer s (step_of s).0 refl
+after-call StepCall s = after-answer s (step_of s).0 refl
 after-call (RunCall b w n) s = after_count (is_count n) (run_steps b w n s) s (after-run b w n s)
 
 pub after-calls : (calls : List ForwardCall) (s : State) → IsAfter (steps_of_calls calls s) s (state_after_calls calls s)
@@ -102,7 +101,7 @@ stop-first b w n s = record {
 
 -- one step more, or none
 pub after-more : (k : ℕ) (s m t : State) → IsAfter k s m → (step_of m).0 ≡ end.Done → t ≡ (step_of m).1 → IsAfter (k + 1) s t
-after-more k s m t h e there = subst (λ (x : State). IsAfter (k + 1) s x) (sym there) (after-then k 1 s m (step_of m).1 h (after_answer m end.Done e))
+after-more k s m t h e there = subst (λ (x : State). IsAfter (k + 1) s x) (sym there) (after-then k 1 s m (step_of m).1 h (after-answer m end.Done e))
 
 pub after-one : (s t : State) → (step_of s).0 ≡ end.Done → t ≡ (step_of s).1 → IsAfter 1 s t
 after-one s t done there = after-more 0 s s t (after-none s) done there
@@ -112,16 +111,3 @@ pub made-after : (k : ℕ) (s t : State) → done_of k s ≡ k → t ≡ steps_o
 made-after k s t done there = record { done = done-each k s done; reached = there }
 
 pub ruleset afters = (after-calls, stop-first)
-
--- a stop at the machine's pc
-stop_by : (b : List Bool) (w : List (Option Watch)) (n : ℕ) (s t : State) (k m : ℕ) (r : Reason) (stop : Stop) (o : Option Reason) → step_refusal t ≡ o
-    → stop ≡ record { reason = unwrap_or o r; steps = m; pc = t.pc } → m ≡ k → k ≤ n → t ≡ steps_of k s
-    → ((j : ℕ) → j < k → reason_at b w n s j ≡ None) → (step_refusal t ≡ None → reason_at b w n s k ≡ Some r) → IsStop b w n s t stop
-stop_by b w n s t k m r stop None e same count within reached first other = is_stop b w n s t k m r stop same count within reached first (other e)
-stop_by b w n s t k m r stop (Some q) e same count within reached first other =
-    is_stop b w n s t k m q stop same count within reached first (reason-stuck b w n s t k q reached e)
-
-pub stop-here : (b : List Bool) (w : List (Option Watch)) (n : ℕ) (s t : State) (k m : ℕ) (r : Reason) (stop : Stop)
-    → stop ≡ record { reason = unwrap_or (step_refusal t) r; steps = m; pc = t.pc } → m ≡ k → k ≤ n → t ≡ steps_of k s
-    → ((j : ℕ) → j < k → reason_at b w n s j ≡ None) → (step_refusal t ≡ None → reason_at b w n s k ≡ Some r) → IsStop b w n s t stop
-stop-here b w n s t k m r stop = stop_by b w n s t k m r stop (step_refusal t) refl

@@ -1,7 +1,7 @@
 -- Records stand for states.
 use Rattle.std.proofs.Common.{◌≡◌, ◌⊎◌, ℕ, zero, suc, ◌+◌, ◌-◌, ◌<◌, ◌≤◌, inl, inr, min, Bool, true, false, not, List, [], ◌∷◌, ◌++◌, length, take, drop, refl, sym, ◌∙◌, ap, arith, add-one, Option, Some, None}
 use Rattle.std.specs.Prelude.{reverse, slice_get, slice_set, slice_index_or}
-use Rattle.std.proofs.lemmas.Option.{none-some, slice_get_cases, get_or_from_slice_get}
+use Rattle.std.proofs.lemmas.Option.{none-some, slice_get-get_or, get_or_from_slice_get}
 use Rattle.std.proofs.Math.Seq.{drop-cons}
 use Rattle.std.proofs.lemmas.List.{drop-drop, drop-set, set-get_or, length-drop, length-take, drop_all, take_more, take_all, take-take, take-set, take-append-drop, reverse-append}
 use Rattle.rsp_machine.specs.State.{State}
@@ -133,23 +133,13 @@ pub past-unkept : (k n : ℕ) (s t : State) (rs : List Saved) → n ≡ 0 → rs
 past-unkept k n s t rs z e = rw (z, e) (sym (past_none k s [] refl))
 
 -- back by one
-first_here : (s : State) (rs : List Saved) (r : Saved) → slice_get rs 0 ≡ Some r → undone r s ≡ slice_index_or (states_before s rs) 0 s
-first_here s [] r e = absurd (none-some r e)
-first_here s (x ∷ rs) r e =
-    let same : x ≡ r = cc in
-    rw (← same) refl
-
-rest_here : (s : State) (rs : List Saved) (r : Saved) → slice_get rs 0 ≡ Some r → states_before (undone r s) (drop 1 rs) ≡ drop 1 (states_before s rs)
-rest_here s [] r e = absurd (none-some r e)
-rest_here s (x ∷ rs) r e =
-    let same : x ≡ r = cc in
-    rw (← same) refl
-
 pub back_here : (s : State) (rs : List Saved) (r : Saved) → Some r ≡ slice_get rs 0 → undone r s ≡ slice_index_or (states_before s rs) 0 s
-back_here s rs r e = first_here s rs r (sym e)
+back_here s [] r e = cc
+back_here s (x ∷ rs) r e = let same : r ≡ x = cc in rw same refl
 
 pub back_rest : (s : State) (rs : List Saved) (r : Saved) → Some r ≡ slice_get rs 0 → states_before (undone r s) (drop 1 rs) ≡ drop 1 (states_before s rs)
-back_rest s rs r e = rest_here s rs r (sym e)
+back_rest s [] r e = cc
+back_rest s (x ∷ rs) r e = let same : r ≡ x = cc in rw same refl
 
 pub ruleset backs = (back_here, back_rest)
 
@@ -218,12 +208,8 @@ none-put a k d xs ys zs here none same old =
     ∙ ap (slice_set xs a) (sym (get_or_from_slice_get xs a d d here)) ∙ set-get_or xs a d
 
 -- a ring without this entry has none
-past_end : (xs : List Saved) (a : ℕ) → slice_get xs a ≡ None → length xs ≤ a
-past_end xs a e = elim (slice_get_cases xs a).1 [
-  | inl here ↦ absurd (none-some here.0 (sym e ∙ here.2))
-  | inr there ↦ there.0
-]
-
 pub no-entry : (xs : List Saved) (a : ℕ) → slice_get xs a ≡ None → (a ≡ 0) ⊎ (a < length xs) → length xs ≡ 0
-no-entry xs a e (inl start) = omega (arith, past_end xs a e, start)
-no-entry xs a e (inr inside) = absurd (omega (arith, past_end xs a e, inside))
+no-entry [] a e at = refl
+no-entry (x ∷ xs) zero e at = cc
+no-entry (x ∷ xs) (suc a) e (inl start) = absurd (omega (arith, start))
+no-entry (x ∷ xs) (suc a) e (inr inside) = absurd (none-some _ (sym e ∙ slice_get-get_or (x ∷ xs) (suc a) x inside))

@@ -1,5 +1,5 @@
 -- Which reason holds, by what a step answers.
-use Rattle.std.proofs.Common.{◌≡◌, ℕ, ◌+◌, ◌-◌, ◌<◌, ◌≤◌, List, [], ◌∷◌, refl, ap, sym, ◌∙◌, subst, arith, Bool, true, false, cond, Option, Some, None, add-one}
+use Rattle.std.proofs.Common.{◌≡◌, ℕ, ◌+◌, ◌-◌, ◌<◌, List, [], ◌∷◌, refl, ap, sym, ◌∙◌, arith, Bool, true, false, cond, Option, Some, None, add-one}
 use Rattle.std.specs.Prelude.{is_none, nat_lt, nat_eq, ◌==◌, option_map, ◌&&◌, not}
 use Rattle.std.proofs.lemmas.Grind.{common_steps}
 use Rattle.rsp_memory.specs.Memory.{word_at}
@@ -11,14 +11,13 @@ use Rattle.rsp_machine.specs.Step.{step_of, step_by}
 use Rattle.rsp_machine.specs.Laws.{steps_of, done_steps}
 use Rattle.rsp_machine.specs.declared.step.StepEnd.{StepEnd}
 use Rattle.rsp_machine.specs.declared.step.StepEnd.TheVariants as end
-use Rattle.rsp_debug.specs.Stops.{changed_watch, is_break, when, first_of, reason_at, IsStop}
+use Rattle.rsp_debug.specs.Stops.{changed_watch, is_break, when, first_of, reason_at}
 use Rattle.rsp_debug.specs.Runs.{step_refusal, hit_in}
 use Rattle.rsp_debug.specs.Snapshots.{differs, watches_of}
 use Rattle.rsp_debug.specs.declared.snapshot.Snapshot.{Snapshot}
 use Rattle.rsp_debug.specs.declared.stop.Watch.{Watch}
 use Rattle.rsp_debug.specs.declared.stop.Reason.{Reason}
 use Rattle.rsp_debug.specs.declared.stop.Reason.TheVariants.{Reserved, Halted, Watched, Break, Limit}
-use Rattle.rsp_debug.specs.declared.stop.Stop.{Stop}
 
 -- why a machine can't make a step, by what the step returns
 abbrev refusal_of : StepEnd → Option Reason
@@ -134,14 +133,6 @@ steps-none s = refl
 pub steps-more : (k : ℕ) (s : State) → steps_of (k + 1) s ≡ (step_of (steps_of k s)).1
 unfolding steps_of
 steps-more k s = rw add-one refl
-
--- a stop, from its parts
-pub is_stop : (b : List Bool) (w : List (Option Watch)) (n : ℕ) (s t : State) (k m : ℕ) (r : Reason) (stop : Stop)
-    → stop ≡ record { reason = r; steps = m; pc = t.pc } → m ≡ k → k ≤ n → t ≡ steps_of k s
-    → ((j : ℕ) → j < k → reason_at b w n s j ≡ None) → reason_at b w n s k ≡ Some r → IsStop b w n s t stop
-is_stop b w n s t k m r stop same count within reached first reason =
-    let exact : stop ≡ record { reason = r; steps = k; pc = t.pc } = same ∙ ap (λ x. let made : Stop = record { reason = r; steps = x; pc = t.pc } in made) count in
-    subst (λ (x : Stop). IsStop b w n s t x) (sym exact) (record { within = within; reached = reached; reason = reason; first = first; pc = refl })
 
 -- the watch or the breakpoint, by the watch that changed
 abbrev hit_by : List Bool → Option ℕ → State → Option Reason

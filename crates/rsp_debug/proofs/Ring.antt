@@ -1,9 +1,9 @@
 -- A ring whose members are in the order of steps.
 use Rattle.std.proofs.Common.{◌≡◌, ℕ, zero, suc, ◌+◌, ◌-◌, ◌<◌, ◌≤◌, ◌==◌, Bool, true, false, List, [], ◌∷◌, ◌++◌, length, take, drop, refl, sym, ◌∙◌, ap, arith, add-one, get_or, append_assoc, min, inl, inr}
 use Rattle.std.specs.Prelude.{reverse, slice_get}
-use Rattle.std.proofs.Math.Seq.{drop-cons}
+use Rattle.std.proofs.Math.Seq.{drop-cons, take-append-add, drop-append-add}
 use Rattle.std.proofs.lemmas.Option.{slice_get-get_or}
-use Rattle.std.proofs.lemmas.List.{take_more, take_all, drop_all, take-append-le, take-take, drop-drop, take-append-drop, length-take, length-drop, length-append, length-reverse, reverse-append, append-nil}
+use Rattle.std.proofs.lemmas.List.{take_more, take_all, drop_all, drop-append-le, take-append-le, take-take, drop-drop, take-append-drop, length-take, length-drop, length-append, length-reverse, reverse-append, append-nil}
 use Rattle.std.proofs.lemmas.Bool.{cases_lt}
 use Rattle.std.proofs.lemmas.Bool.Decides.{nat_tests}
 use Rattle.rsp_debug.specs.HistoryRing.{previous_entry, backwards, entries_before}
@@ -19,19 +19,10 @@ previous_last n i e some = grind (arith, nat_tests)
 
 module _ {X : Type 0} where
   take_beyond : (ps qs : List X) (m n : ℕ) → m ≡ length ps + n → take m (ps ++ qs) ≡ ps ++ take n qs
-  take_beyond [] qs m n e = ap (λ i. take i qs) (let same : m ≡ n = omega (arith, e) in same)
-  take_beyond (p ∷ ps) qs zero n e = absurd (omega (arith, e))
-  take_beyond (p ∷ ps) qs (suc m) n e = ap (λ l. p ∷ l) (take_beyond ps qs m n (omega (arith, e)))
+  take_beyond ps qs m n e = ap (λ i. take i (ps ++ qs)) e ∙ take-append-add ps qs n
 
   drop_beyond : (ps qs : List X) (m n : ℕ) → m ≡ length ps + n → drop m (ps ++ qs) ≡ drop n qs
-  drop_beyond [] qs m n e = ap (λ i. drop i qs) (let same : m ≡ n = omega (arith, e) in same)
-  drop_beyond (p ∷ ps) qs zero n e = absurd (omega (arith, e))
-  drop_beyond (p ∷ ps) qs (suc m) n e = drop_beyond ps qs m n (omega (arith, e))
-
-  drop_within : (ps qs : List X) (n : ℕ) → n ≤ length ps → drop n (ps ++ qs) ≡ drop n ps ++ qs
-  drop_within ps qs zero h = refl
-  drop_within [] qs (suc n) h = absurd (omega (arith, h))
-  drop_within (p ∷ ps) qs (suc n) h = drop_within ps qs n (omega (arith, h))
+  drop_beyond ps qs m n e = ap (λ i. drop i (ps ++ qs)) e ∙ drop-append-add ps qs n
 
   cut : (n count : ℕ) (xs cs : List X) → n ≤ length xs → take (min count n) xs ≡ take n (take count (xs ++ cs))
   cut n count xs cs e = elim (cases_lt count n) [
@@ -53,10 +44,10 @@ module _ {X : Type 0} where
   written_drop a m k xs ys room len few same =
       let old = take m (drop a xs) in
       drop_beyond (take a xs) (ys ++ drop (a + m) xs) (a + k) k (omega (arith, length-take a xs, room))
-      ∙ drop_within ys (drop (a + m) xs) k (omega (arith, len, few))
+      ∙ drop-append-le k ys (drop (a + m) xs) (omega (arith, len, few))
       ∙ ap (λ l. l ++ drop (a + m) xs) same
       ∙ ap (λ l. drop k old ++ l) (sym (drop-drop m a xs))
-      ∙ sym (drop_within old (drop m (drop a xs)) k (omega (arith, length-take m (drop a xs), length-drop a xs, room, few)))
+      ∙ sym (drop-append-le k old (drop m (drop a xs)) (omega (arith, length-take m (drop a xs), length-drop a xs, room, few)))
       ∙ ap (drop k) (take-append-drop m (drop a xs))
       ∙ drop-drop k a xs
 

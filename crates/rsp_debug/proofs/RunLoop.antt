@@ -1,7 +1,6 @@
 -- What a run comes to, by stretches of steps.
-use Rattle.std.proofs.Common.{◌≡◌, inl, inr, ℕ, zero, suc, ◌+◌, ◌-◌, ◌<◌, ◌≤◌, List, refl, ap, sym, ◌∙◌, subst, arith, Bool, true, false, Option, Some, None}
+use Rattle.std.proofs.Common.{◌≡◌, inl, inr, ℕ, zero, suc, ◌+◌, ◌-◌, ◌<◌, ◌≤◌, List, refl, ap, sym, ◌∙◌, subst, below_more, arith, Bool, true, false, Option, Some, None}
 use Rattle.std.specs.Prelude.{[], ◌∷◌, unwrap_or, is_none, not, ◌&&◌}
-use Rattle.std.proofs.lemmas.Bool.{cases_lt}
 use Rattle.rsp_memory.specs.Memory.{word_at}
 use Rattle.rsp_decode.specs.declared.inst.Inst.{Inst}
 use Rattle.rsp_decode.specs.declared.scalar.MoveOp.{MoveOp}
@@ -25,8 +24,8 @@ use Rattle.rsp_debug.specs.Moves.{is_at_move, steps_to_move}
 use Rattle.rsp_debug.specs.Runs.{step_refusal, hit_in, Asks, Refuses, AreKept, IsRun}
 use Rattle.rsp_debug.proofs.WatchChanges.{differs-empty}
 use Rattle.rsp_debug.proofs.Hits.{nothing-hit}
-use Rattle.rsp_debug.proofs.Reasons.{reason-hit, reason-limit, reason-none, hit_of, next-hit, nothing-differs, step-done}
-use Rattle.rsp_debug.proofs.DoneSteps.{after-none, after-more, stop-here}
+use Rattle.rsp_debug.proofs.Reasons.{reason-stuck, reason-hit, reason-limit, reason-none, hit_of, next-hit, nothing-differs, step-done}
+use Rattle.rsp_debug.proofs.DoneSteps.{after-none, after-more}
 use Rattle.rsp_debug.proofs.Least.{least-above, least-only}
 use Rattle.rsp_debug.proofs.Stretches.{kept-none, kept-then}
 use Rattle.rsp_debug.proofs.RunEnds.{not_next}
@@ -57,6 +56,10 @@ move-next refuses moves s same h free =
     let o = inst_of (word_at s.imem s.pc) in is_next s.sp.halted _ o (asked-is refuses moves same o ∙ h) free
 
 -- a test that ends no run
+no-ends : (s : State) → ends_after (λ pc word changes_memory. false) s ≡ false
+unfolding ends_after
+no-ends s = refl
+
 pub never-ends : (s : State) (X : Type 0) → ends_after (λ pc word changes_memory. false) s ≡ true → X
 unfolding ends_after
 never-ends s X h = cc
@@ -90,20 +93,9 @@ module _ (b : List Bool) (snapshots : List (Option Snapshot)) (moves : Moves) (n
         record {
           within = within;
           after = after;
-          first = λ i h limit less. elim (cases_lt i k) [
-            | inl l ↦ come.first i l limit less
-            | inr r ↦
-                let last : k ≡ i = omega (arith, r, h) in
-                let free = ap step_refusal (sym come.after.reached) ∙ step-done m done in
-                subst (λ (x : ℕ). reason_at b (watches_of snapshots) limit s x ≡ None) last
-                (reason-none b (watches_of snapshots) limit s (steps_of k s) k refl free (sym come.is) (omega (arith, last, less)))
-          ];
-          none = λ i h. elim (cases_lt i k) [
-            | inl l ↦ come.none i l
-            | inr r ↦
-                let last : k ≡ i = omega (arith, r, h) in
-                subst (λ (x : ℕ). is_at_move moves (steps_of x s) ≡ false) last (ap (is_at_move moves) (sym come.after.reached) ∙ free_move)
-          ];
+          first = below_more (λ i. (limit : ℕ) → i < limit → reason_at b (watches_of snapshots) limit s i ≡ None) k come.first (λ limit less.
+              reason-none b (watches_of snapshots) limit s (steps_of k s) k refl (ap step_refusal (sym come.after.reached) ∙ step-done m done) (sym come.is) less);
+          none = below_more (λ i. is_at_move moves (steps_of i s) ≡ false) k come.none (ap (is_at_move moves) (sym come.after.reached) ∙ free_move);
           is = sym (next-hit b snapshots s m t k come.after.reached after.reached (come.same refl));
           same = nothing-differs b snapshots t;
         }
@@ -120,44 +112,38 @@ module _ (b : List Bool) (snapshots : List (Option Snapshot)) (moves : Moves) (n
       ] in
       sym (nothing-hit b snapshots t still none.0)
 
-  -- the steps of a stretch
-  come_on : (ends : ℕ → ℕ → Bool → Bool) (k j : ℕ) (m t : State) → Asks ends b snapshots → IsCome b snapshots moves n s k m None → IsAfter j m t → k + j ≤ n
-      → ((i : ℕ) → i + 1 < j → ends_after ends (steps_of i m) ≡ false) → ((i : ℕ) → i < j → is_at_move moves (steps_of i m) ≡ false) → (i : ℕ) → i < j → IsCome b snapshots moves n s (k + i) (steps_of i m) None
+  -- steps after which a test lets the run go on
+  come-on : (ends : ℕ → ℕ → Bool → Bool) (k j : ℕ) (m : State) → Asks ends b snapshots → IsCome b snapshots moves n s k m None → k + j ≤ n → ((i : ℕ) → i < j → (step_of (steps_of i m)).0 ≡ Done)
+      → ((i : ℕ) → i < j → ends_after ends (steps_of i m) ≡ false) → ((i : ℕ) → i < j → is_at_move moves (steps_of i m) ≡ false) → IsCome b snapshots moves n s (k + j) (steps_of j m) None
   unfolding steps_of
-  come_on ends k j m t asks come after within passes free zero h = subst (λ (x : ℕ). IsCome b snapshots moves n s x m None) (let e : k ≡ k + 0 = omega arith in e) come
-  come_on ends k j m t asks come after within passes free (suc i) h =
-      let before = come_on ends k j m t asks come after within passes free i (omega (arith, h)) in
-      let done = after.done i (omega (arith, h)) in
-      let one = come-one (k + i) (steps_of i m) before (steps_of (suc i) m) (omega (arith, h, within)) done refl (free i (omega (arith, h))) in
-      let nothing = lets_pass ends (steps_of i m) asks done (before.same refl) (passes i (omega (arith, h))) in
-      let count : k + i + 1 ≡ k + suc i = omega arith in
-      subst (λ (o : Option Reason). IsCome b snapshots moves n s (k + suc i) (steps_of (suc i) m) o) nothing
-      (subst (λ (x : ℕ). IsCome b snapshots moves n s x (steps_of (suc i) m) (hit_in b snapshots (steps_of (suc i) m))) count one)
+  come-on ends k zero m asks come within done passes free = subst (λ (x : ℕ). IsCome b snapshots moves n s x m None) (let e : k ≡ k + 0 = omega arith in e) come
+  come-on ends k (suc j) m asks come within done passes free =
+      let before = come-on ends k j m asks come (omega (arith, within)) (λ i h. done i (omega (arith, h))) (λ i h. passes i (omega (arith, h))) (λ i h. free i (omega (arith, h))) in
+      let t = steps_of (suc j) m in
+      let one = come-one (k + j) (steps_of j m) before t (omega (arith, within)) (done j (omega arith)) refl (free j (omega arith)) in
+      let nothing = lets_pass ends (steps_of j m) asks (done j (omega arith)) (before.same refl) (passes j (omega arith)) in
+      let count : k + j + 1 ≡ k + suc j = omega arith in
+      subst (λ (x : ℕ). IsCome b snapshots moves n s x t None) count (subst (λ (o : Option Reason). IsCome b snapshots moves n s (k + j + 1) t o) nothing one)
 
+  -- the steps of a run that nothing ends
+  pub come-all : (j : ℕ) (t : State) → Asks (λ pc word changes_memory. false) b snapshots → differs snapshots s.dmem ≡ None → IsAfter j s t → j ≤ n → ((i : ℕ) → i < j → is_at_move moves (steps_of i s) ≡ false)
+      → IsCome b snapshots moves n s j t None
+  come-all j t asks same after within free =
+      let come = come-on (λ pc word changes_memory. false) 0 j s asks (come-none 0 refl same) (omega (arith, within)) after.done (λ i h. no-ends (steps_of i s)) free in
+      let count : 0 + j ≡ j = omega arith in
+      subst (λ (x : State). IsCome b snapshots moves n s j x None) (sym after.reached) (subst (λ (k : ℕ). IsCome b snapshots moves n s k (steps_of j s) None) count come)
+
+  -- the steps of a stretch, after the last of which the run looks
   pub come-more : (ends : ℕ → ℕ → Bool → Bool) (k j o : ℕ) (m t : State) (old found : Option Reason) → Asks ends b snapshots → IsCome b snapshots moves n s k m old → old ≡ None → IsAfter j m t
       → ((i : ℕ) → i + 1 < j → ends_after ends (steps_of i m) ≡ false) → ((i : ℕ) → i < j → is_at_move moves (steps_of i m) ≡ false) → o ≡ k + j → o ≤ n → 0 < j → found ≡ hit_in b snapshots t → IsCome b snapshots moves n s o t found
   unfolding steps_of
   come-more ends k zero o m t old found asks come none after passes free count within some is = absurd (omega (arith, some))
   come-more ends k (suc j) o m t old found asks come none after passes free count within some is =
       let start = subst (λ (x : Option Reason). IsCome b snapshots moves n s k m x) none come in
-      let before = come_on ends k (suc j) m t asks start after (omega (arith, count, within)) passes free j (omega arith) in
+      let before = come-on ends k j m asks start (omega (arith, count, within)) (λ i h. after.done i (omega (arith, h))) (λ i h. passes i (omega (arith, h))) (λ i h. free i (omega (arith, h))) in
       let one = come-one (k + j) (steps_of j m) before t (omega (arith, count, within)) (after.done j (omega arith)) after.reached (free j (omega arith)) in
       let sum : k + j + 1 ≡ o = omega (arith, count) in
       subst (λ (x : Option Reason). IsCome b snapshots moves n s o t x) (sym is) (subst (λ (x : ℕ). IsCome b snapshots moves n s x t (hit_in b snapshots t)) sum one)
-
-  -- the steps of a run that nothing ends
-  pub come-all : (j : ℕ) (t : State) → Asks (λ pc word changes_memory. false) b snapshots → differs snapshots s.dmem ≡ None → IsAfter j s t → j ≤ n → ((i : ℕ) → i < j → is_at_move moves (steps_of i s) ≡ false) → IsCome b snapshots moves n s j t None
-  unfolding steps_of ends_after
-  come-all zero t asks same after within free = subst (λ (x : State). IsCome b snapshots moves n s zero x None) (sym after.reached) (come-none zero refl same)
-  come-all (suc j) t asks same after within free =
-      let m = steps_of j s in
-      let before = come_on (λ pc word changes_memory. false) zero (suc j) s t asks (come-none zero refl same) after (omega (arith, within)) (λ i h. refl) free j (omega arith) in
-      let here : zero + j ≡ j = omega arith in
-      let done = after.done j (omega arith) in
-      let one = come-one j m (subst (λ (x : ℕ). IsCome b snapshots moves n s x m None) here before) t (omega (arith, within)) done after.reached (free j (omega arith)) in
-      let nothing = ap (hit_in b snapshots) after.reached ∙ lets_pass (λ pc word changes_memory. false) m asks done (before.same refl) refl in
-      let count : j + 1 ≡ suc j = omega arith in
-      subst (λ (x : ℕ). IsCome b snapshots moves n s x t None) count (subst (λ (o : Option Reason). IsCome b snapshots moves n s (j + 1) t o) nothing one)
 
   -- why a run stops that has found a reason, has made all its steps, or has come to a move
   module _ (k : ℕ) (t : State) (found : Option Reason) (come : IsCome b snapshots moves n s k t found) (all : found ≡ None → step_refusal t ≡ None → k < n → is_at_move moves t ≡ true) where
@@ -168,13 +154,21 @@ module _ (b : List Bool) (snapshots : List (Option Snapshot)) (moves : Moves) (n
         reason-limit b (watches_of snapshots) (steps_to_move moves n s) s t k come.after.reached free (sym come.is ∙ is)
         (move-here moves n k s come.within come.none (λ h. ap (is_at_move moves) (sym come.after.reached) ∙ all is free h)) ∙ ap (λ o. Some (unwrap_or o Limit)) (sym is)
 
+    why_by : (o : Option Reason) (r : Reason) → step_refusal t ≡ o → r ≡ unwrap_or found Limit → reason_at b (watches_of snapshots) (steps_to_move moves n s) s k ≡ Some (unwrap_or o r)
+    why_by (Some q) r e is = reason-stuck b (watches_of snapshots) (steps_to_move moves n s) s t k q come.after.reached e
+    why_by None r e is = reason_by found refl e ∙ ap Some (sym is)
+
     pub stop-come : (r : Reason) (stop : Stop) → stop ≡ record { reason = unwrap_or (step_refusal t) r; steps = k; pc = t.pc } → r ≡ unwrap_or found Limit
         → IsStop b (watches_of snapshots) (steps_to_move moves n s) s t stop
     stop-come r stop same is =
         let above = move-above moves n k s come.within come.none in
-        stop-here b (watches_of snapshots) (steps_to_move moves n s) s t k k r stop same refl above come.after.reached
-        (λ i h. come.first i h (steps_to_move moves n s) (omega (arith, h, above)))
-        (λ free. reason_by found refl free ∙ ap Some (sym is))
+        subst (λ (x : Stop). IsStop b (watches_of snapshots) (steps_to_move moves n s) s t x) (sym same) (record {
+          within = above;
+          reached = come.after.reached;
+          reason = why_by (step_refusal t) r refl is;
+          first = λ i h. come.first i h (steps_to_move moves n s) (omega (arith, h, above));
+          pc = refl;
+        })
 
 -- The records of a run were h, and are g.
 pub record IsGoing (b : List Bool) (snapshots : List (Option Snapshot)) (moves : Moves) (n : ℕ) (s : State) (h : Records) (k : ℕ) (m : State) (g : Records) (found : Option Reason) : Type 0 where

@@ -1,5 +1,5 @@
 -- Where calls lead.
-use Rattle.std.proofs.Common.{◌≡◌, ℕ, zero, suc, ◌+◌, ◌-◌, ◌<◌, ◌≤◌, Bool, true, false, List, [], ◌∷◌, length, take, drop, refl, sym, ◌∙◌, ap, arith, subst, below_more}
+use Rattle.std.proofs.Common.{◌≡◌, ℕ, zero, suc, ◌+◌, ◌-◌, ◌<◌, ◌≤◌, Bool, true, false, List, [], ◌∷◌, length, take, drop, refl, ◌∙◌, ap, arith, subst}
 use Rattle.std.specs.Prelude.{slice_index_or, if◌then◌else◌}
 use Rattle.std.proofs.lemmas.Bool.Decides.{nat_tests}
 use Rattle.rsp_machine.specs.State.{State}
@@ -10,9 +10,8 @@ use Rattle.rsp_machine.specs.declared.step.StepEnd.{StepEnd}
 use Rattle.rsp_machine.specs.declared.step.StepEnd.TheVariants.{Done, Halted, Reserved}
 use Rattle.rsp_debug.specs.History.{history_by, history_after}
 use Rattle.rsp_debug.specs.Debugging.{Debugging, debugging_of, after_debugger_step, after_steps, after_back}
-use Rattle.rsp_debug.specs.Calls.{ForwardCall, StepCall, RunCall, accepted_run_steps, call_steps, state_after_call, Call, GoOn, GoBack, Tally, after_forward_call, is_accepted, after_call, after_calls, Undoes}
-use Rattle.rsp_debug.proofs.Reasons.{step-still}
-use Rattle.rsp_debug.proofs.DoneSteps.{after-call}
+use Rattle.rsp_debug.specs.Calls.{IsAfter, ForwardCall, StepCall, RunCall, accepted_run_steps, call_steps, state_after_call, Call, GoOn, GoBack, Tally, after_forward_call, is_accepted, after_call, after_calls, Undoes}
+use Rattle.rsp_debug.proofs.DoneSteps.{after-none, after-then, after-answer, after-call}
 use Rattle.rsp_debug.proofs.Stretches.{made-state}
 use Rattle.rsp_debug.proofs.HistoryRecords.{state_back}
 
@@ -54,66 +53,44 @@ back_from s (suc m) (suc n) t d (p ∷ ps) e h l =
       past = let P : ℕ → Type 0 = λ j. Trails s j (drop n ps) in subst P k b.past;
     }
 
--- what holds after any calls
-record Sound (s : State) (done taken : ℕ) (d : Debugging) : Type 0 where
-  order : taken ≤ done
-  state : d.state ≡ steps_of (done - taken) s
-  past : Trails s (done - taken) d.past
-  all_done : (k : ℕ) → k < done - taken → (step_of (steps_of k s)).0 ≡ Done
+-- what holds if m steps count, which returned Done and weren't undone
+record Sound (s : State) (m : ℕ) (d : Debugging) : Type 0 where
+  after : IsAfter m s d.state
+  past : Trails s m d.past
 
-sound_at : (s : State) (m n taken : ℕ) (d : Debugging) → m ≡ n → Sound s m taken d → Sound s n taken d
-sound_at s m n taken d e h = let P : ℕ → Type 0 = λ k. Sound s k taken d in subst P e h
+sound_at : (s : State) (m n : ℕ) (d : Debugging) → m ≡ n → Sound s m d → Sound s n d
+sound_at s m n d e h = let P : ℕ → Type 0 = λ k. Sound s k d in subst P e h
 
-done_trails : (b : Bool) (s : State) (m depth : ℕ) (x : State) (past : List State) → x ≡ steps_of m s → Trails s m past → Trails s (suc m) (history_by Done b depth x past)
-done_trails false s m depth x past e h = trails-take s (suc m) depth (x ∷ past) (e, h)
-done_trails true s m depth x past e h = tt
+trails_at : (s : State) (m n : ℕ) (ps : List State) → m ≡ n → Trails s m ps → Trails s n ps
+trails_at s m n ps e h = let P : ℕ → Type 0 = λ k. Trails s k ps in subst P e h
 
-abbrev ended : StepEnd → Debugging → Debugging
-ended end d = record d { state = (step_of d.state).1; past = history_by end (starts_dma_at d.state) d.depth d.state d.past }
+trails_by : (end : StepEnd) (b : Bool) (s : State) (m depth : ℕ) (x : State) (past : List State) → x ≡ steps_of m s → Trails s m past → Trails s (m + done_steps end) (history_by end b depth x past)
+trails_by Done false s m depth x past e h = trails_at s (suc m) (m + 1) (take depth (x ∷ past)) (omega arith) (trails-take s (suc m) depth (x ∷ past) (e, h))
+trails_by Done true s m depth x past e h = tt
+trails_by Halted b s m depth x past e h = trails_at s m (m + 0) past (omega arith) h
+trails_by (Reserved w) b s m depth x past e h = trails_at s m (m + 0) past (omega arith) h
 
-done_sound : (s : State) (n taken : ℕ) (d : Debugging) → (step_of d.state).0 ≡ Done → Sound s n taken d → Sound s (n + 1) taken (ended Done d)
-unfolding steps_of
-done_sound s n taken d e h =
-    let o : taken ≤ n = h.order in
-    let k : suc (n - taken) ≡ n + 1 - taken = omega arith in
-    let P : ℕ → Type 0 = λ j. (step_of (steps_of j s)).0 ≡ Done in
-    let here : (step_of (steps_of (n - taken) s)).0 ≡ Done = sym (ap (λ z. (step_of z).0) h.state) ∙ e in
+step_sound : (s : State) (m : ℕ) (d : Debugging) → Sound s m d → Sound s (m + done_steps (step_of d.state).0) (after_debugger_step d)
+unfolding history_after
+step_sound s m d h =
+    let end = (step_of d.state).0 in
     record {
-      order = omega arith;
-      state = ap (λ z. (step_of z).1) h.state ∙ ap (λ j. steps_of j s) k;
-      past = let Q : ℕ → Type 0 = λ j. Trails s j (history_by Done (starts_dma_at d.state) d.depth d.state d.past) in
-          subst Q k (done_trails (starts_dma_at d.state) s (n - taken) d.depth d.state d.past h.state h.past);
-      all_done = λ j l. below_more P (n - taken) h.all_done here j (omega arith);
+      after = after-then m (done_steps end) s d.state (step_of d.state).1 h.after (after-answer d.state end refl);
+      past = trails_by end (starts_dma_at d.state) s m d.depth d.state d.past h.after.reached h.past;
     }
 
-same_sound : (s t : State) (n taken : ℕ) (d : Debugging) → t ≡ d.state → Sound s n taken d → Sound s (n + 0) taken (record d { state = t })
-same_sound s t n taken d e h =
-    let k : n ≡ n + 0 = omega arith in
-    sound_at s n (n + 0) taken _ k (record { order = h.order; state = e ∙ h.state; past = h.past; all_done = h.all_done })
-
-end_sound : (end : StepEnd) (s : State) (n taken : ℕ) (d : Debugging) → (step_of d.state).0 ≡ end → Sound s n taken d → Sound s (n + done_steps end) taken (ended end d)
-end_sound Done s n taken d e h = done_sound s n taken d e h
-end_sound Halted s n taken d e h = same_sound s (step_of d.state).1 n taken d (step-still d.state (ap done_steps e)) h
-end_sound (Reserved w) s n taken d e h = same_sound s (step_of d.state).1 n taken d (step-still d.state (ap done_steps e)) h
-
-step_sound : (s : State) (n taken : ℕ) (d : Debugging) → Sound s n taken d → Sound s (n + done_steps (step_of d.state).0) taken (after_debugger_step d)
-unfolding history_after
-step_sound s n taken d h = end_sound (step_of d.state).0 s n taken d refl h
-
-steps_sound : (s : State) (k n taken : ℕ) (d : Debugging) → Sound s n taken d → ((j : ℕ) → j < k → (step_of (steps_of j d.state)).0 ≡ Done)
-    → Sound s (n + k) taken (after_steps k d)
+steps_sound : (s : State) (k m : ℕ) (d : Debugging) → Sound s m d → ((j : ℕ) → j < k → (step_of (steps_of j d.state)).0 ≡ Done) → Sound s (m + k) (after_steps k d)
 unfolding after_steps
-steps_sound s zero n taken d h done = let e : n ≡ n + 0 = omega arith in sound_at s n (n + 0) taken d e h
-steps_sound s (suc k) n taken d h done =
+steps_sound s zero m d h done = sound_at s m (m + 0) d (omega arith) h
+steps_sound s (suc k) m d h done =
     let here : (step_of (after_steps k d).state).0 ≡ Done = ap (λ (x : State). (step_of x).0) (made-state k d) ∙ done k (omega arith) in
-    let one : done_steps (step_of (after_steps k d).state).0 ≡ 1 = ap done_steps here in
-    let e : n + k + done_steps (step_of (after_steps k d).state).0 ≡ n + suc k = omega (arith, one) in
-    sound_at s _ (n + suc k) taken _ e (step_sound s (n + k) taken (after_steps k d) (steps_sound s k n taken d h (λ j l. done j (omega arith))))
+    let e : m + k + done_steps (step_of (after_steps k d).state).0 ≡ m + suc k = omega (arith, ap done_steps here) in
+    sound_at s _ (m + suc k) _ e (step_sound s (m + k) (after_steps k d) (steps_sound s k m d h (λ j l. done j (omega (arith, l)))))
 
-going_sound : (s : State) (call : ForwardCall) (n taken : ℕ) (d : Debugging) → Sound s n taken d → Sound s (n + call_steps call d.state) taken (after_forward_call call d)
+going_sound : (s : State) (call : ForwardCall) (m : ℕ) (d : Debugging) → Sound s m d → Sound s (m + call_steps call d.state) (after_forward_call call d)
 unfolding call_steps state_after_call after_forward_call
-going_sound s StepCall n taken d h = step_sound s n taken d h
-going_sound s (RunCall b w count) n taken d h = steps_sound s (accepted_run_steps b w count d.state) n taken d h (after-call (RunCall b w count) d.state).done
+going_sound s StepCall m d h = step_sound s m d h
+going_sound s (RunCall b w count) m d h = steps_sound s (accepted_run_steps b w count d.state) m d h (after-call (RunCall b w count) d.state).done
 
 accepted_within : (n : ℕ) (d : Debugging) → is_accepted n d ≡ true → n ≤ length d.past
 accepted_within n d e = grind (arith, nat_tests)
@@ -121,26 +98,33 @@ accepted_within n d e = grind (arith, nat_tests)
 accepted_some : (n : ℕ) (d : Debugging) → is_accepted n d ≡ true → 0 < n
 accepted_some n d e = grind (arith, nat_tests)
 
-abbrev Sounds : State → Tally → Type 0
-Sounds s t = Sound s t.done t.taken t.debugging
+-- what holds after any calls
+record Sounds (s : State) (t : Tally) : Type 0 where
+  left : ℕ
+  count : t.done ≡ left + t.taken
+  sound : Sound s left t.debugging
 
 back_by : (b : Bool) (s : State) (n : ℕ) (t : Tally) → (b ≡ true → n ≤ length t.debugging.past) → (b ≡ true → 0 < n) → Sounds s t
     → Sounds s (if b then record t { debugging = after_back n t.debugging; taken = t.taken + n } else t)
 back_by false s n t l some h = h
 back_by true s n t l some h =
-    let b = back_from s (t.done - t.taken) n t.debugging.state t.debugging.state t.debugging.past h.state h.past (l refl) in
-    let o : t.taken ≤ t.done = h.order in
-    let w : n ≤ t.done - t.taken = b.within in
-    let k : t.done - t.taken - n ≡ t.done - (t.taken + n) = omega arith in
+    let d = t.debugging in let after = h.sound.after in
+    let b = back_from s h.left n d.state d.state d.past after.reached h.sound.past (l refl) in
     record {
-      order = omega arith;
-      state = state_back t.debugging.state t.debugging.past n (some refl) ∙ b.state ∙ ap (λ j. steps_of j s) k;
-      past = let Q : ℕ → Type 0 = λ j. Trails s j (drop n t.debugging.past) in subst Q k b.past;
-      all_done = λ j v. h.all_done j (omega arith);
+      left = h.left - n;
+      count = omega (arith, h.count, b.within);
+      sound = record {
+        after = record { done = λ j v. after.done j (omega (arith, v)); reached = state_back d.state d.past n (some refl) ∙ b.state };
+        past = b.past;
+      };
     }
 
 call_sound : (s : State) (call : Call) (t : Tally) → Sounds s t → Sounds s (after_call call t)
-call_sound s (GoOn call) t h = going_sound s call t.done t.taken t.debugging h
+call_sound s (GoOn call) t h = record {
+  left = h.left + call_steps call t.debugging.state;
+  count = omega (arith, h.count);
+  sound = going_sound s call h.left t.debugging h.sound;
+}
 call_sound s (GoBack n) t h = back_by (is_accepted n t.debugging) s n t (accepted_within n t.debugging) (accepted_some n t.debugging) h
 
 calls_sound : (s : State) (calls : List Call) (t : Tally) → Sounds s t → Sounds s (after_calls calls t)
@@ -148,8 +132,9 @@ calls_sound s [] t h = h
 calls_sound s (c ∷ cs) t h = calls_sound s cs (after_call c t) (call_sound s c t h)
 
 pub undoes : Undoes
-unfolding steps_of
 undoes s depth calls =
     let start : Tally = record { debugging = debugging_of depth s; done = 0; taken = 0 } in
-    let h = calls_sound s calls start (record { order = omega arith; state = refl; past = tt; all_done = λ k l. absurd (omega arith) }) in
-    (h.order, record { done = h.all_done; reached = h.state })
+    let end : Tally = after_calls calls start in
+    let h = calls_sound s calls start (record { left = 0; count = refl; sound = record { after = after-none s; past = tt } }) in
+    let left : h.left ≡ end.done - end.taken = omega (arith, h.count) in
+    (omega (arith, h.count), subst (λ (k : ℕ). IsAfter k s end.debugging.state) left h.sound.after)
