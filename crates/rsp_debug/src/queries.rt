@@ -63,33 +63,6 @@ fn bank_byte<A: Acc>(machine: &Machine<A>, bank: Bank, a: u32) -> u8
     }
 }
 
-/// The scalar registers.
-#[tactic(auto, using(crate::proofs::QueryAnswers::registers))]
-fn register_words<A: Acc>(machine: &Machine<A>) -> [u32; 32]
-    ensures { (n : ℕ) → n < 32 → slice_index result n ≡ register machine.now.registers n }
-{
-    let mut words = [0; 32];
-    for n in 0..32 {
-        words[usize::from(n)] = machine.reg(n);
-    }
-    words
-}
-
-/// `n` bytes of a bank from an address on.
-#[tactic(auto, using(crate::proofs::QueryAnswers::bytes))]
-fn bank_bytes<A: Acc>(machine: &Machine<A>, bank: Bank, a: u32, n: usize) -> ArrayVec<u8, 256>
-    requires few { n ≤ 256 }
-    requires inside { a + n ≤ 8388608 }
-    ensures bytes { result.items ≡ memory_of bank machine.now a n }
-    ensures count { length result.items ≡ n }
-{
-    let mut bytes = ArrayVec::new();
-    for i in 0..n {
-        bytes.push(bank_byte(machine, bank, a + i as u32));
-    }
-    bytes
-}
-
 /// The word at an address of IMEM, with its text.
 fn read_word<A: Acc>(machine: &Machine<A>, address: u16) -> ListingLine
     requires { address < 4096 }
@@ -103,21 +76,6 @@ fn read_word<A: Acc>(machine: &Machine<A>, address: u16) -> ListingLine
     }
 }
 
-/// `n` words of IMEM from an address on.
-#[tactic(auto, using(crate::proofs::QueryAnswers::words))]
-fn listed_words<A: Acc>(machine: &Machine<A>, address: u16, n: u16) -> ArrayVec<ListingLine, 64>
-    requires few { n ≤ 64 }
-    requires inside { address + 4 * n ≤ 4096 }
-    ensures words { result.items ≡ listing_of machine.now address n }
-    ensures count { length result.items ≡ n }
-{
-    let mut words = ArrayVec::new();
-    for i in 0..n {
-        words.push(read_word(machine, address + 4 * i));
-    }
-    words
-}
-
 impl<A: Acc> Debugger<A> {
     /// The machine.
     #[inline]
@@ -128,15 +86,20 @@ impl<A: Acc> Debugger<A> {
     }
 
     /// pc, npc and the scalar registers.
+    #[tactic(auto, using(crate::proofs::QueryAnswers::registers))]
     pub fn regs(&self) -> Scalars
         ensures pc { result.pc ≡ self.now.state.pc }
         ensures npc { result.npc ≡ self.now.state.npc }
         ensures words { (n : ℕ) → n < 32 → slice_index result.words n ≡ register self.now.state.registers n }
     {
+        let mut words = [0; 32];
+        for n in 0..32 {
+            words[usize::from(n)] = self.machine.reg(n);
+        }
         Scalars {
             pc: self.machine.pc(),
             npc: self.machine.npc(),
-            words: register_words(&self.machine),
+            words,
         }
     }
 
@@ -178,6 +141,7 @@ impl<A: Acc> Debugger<A> {
     }
 
     /// `len` bytes of a bank from an address on, 1 to 256 of them. RangeFault if they pass the bank's end.
+    #[tactic(auto, using(crate::proofs::QueryAnswers::bytes))]
     pub fn memory(&self, bank: Bank, a: u32, len: usize) -> Result<ArrayVec<u8, 256>, RangeFault>
         requires some { 1 ≤ len }
         requires few { len ≤ 256 }
@@ -188,11 +152,16 @@ impl<A: Acc> Debugger<A> {
         if !self.machine.is_inside(bank, a, len) {
             return Err(RangeFault);
         }
-        Ok(bank_bytes(&self.machine, bank, a, len))
+        let mut bytes = ArrayVec::new();
+        for i in 0..len {
+            bytes.push(bank_byte(&self.machine, bank, a + i as u32));
+        }
+        Ok(bytes)
     }
 
     /// `n` words of IMEM from an address on, a multiple of 4 below 4096, 1 to 64 of them, each with its canonical text.
     /// RangeFault if they pass the end of IMEM. The words are read at each call.
+    #[tactic(auto, using(crate::proofs::QueryAnswers::words))]
     pub fn listing(&self, address: u16, n: u16) -> Result<ArrayVec<ListingLine, 64>, RangeFault>
         requires below { address < 4096 }
         requires whole { address % 4 ≡ 0 }
@@ -205,6 +174,10 @@ impl<A: Acc> Debugger<A> {
         if address + 4 * n > 4096 {
             return Err(RangeFault);
         }
-        Ok(listed_words(&self.machine, address, n))
+        let mut words = ArrayVec::new();
+        for i in 0..n {
+            words.push(read_word(&self.machine, address + 4 * i));
+        }
+        Ok(words)
     }
 }
