@@ -12,14 +12,6 @@ use rsp_acc::Acc;
 use rsp_decode::MoveOp;
 use rsp_machine::{Machine, Until};
 
-/// The bytes of DMEM.
-pub(crate) fn dmem_bytes<A: Acc>(machine: &Machine<A>) -> &[u8]
-    ensures value { result.now ≡ machine.now.dmem }
-    ensures len { length result.now ≡ 4096 }
-{
-    machine.dmem().bytes()
-}
-
 /// The breakpoints, watches and moves that can end a run, with the watched bytes as they were when the run began.
 #[derive(Drop)]
 pub(crate) struct StopConditions<'a> {
@@ -43,7 +35,7 @@ impl<'a> StopConditions<'a> {
     pub(crate) fn hit<A: Acc>(&self, machine: &Machine<A>) -> Option<Reason>
         ensures { result ≡ hit_in self.now.breaks.now self.now.snapshots.now machine.now }
     {
-        if let Some(k) = differs(self.snapshots, dmem_bytes(machine)) {
+        if let Some(k) = differs(self.snapshots, machine.dmem().bytes()) {
             return Some(Reason::Watched(k));
         }
         if self.breaks.contains(machine.pc()) {

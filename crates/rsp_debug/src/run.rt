@@ -4,13 +4,13 @@
 // ends at an address that has a breakpoint, and after a step that may have changed DMEM, so watched bytes are compared
 // only there. If nothing else can end the run and no history is kept, the machine makes all its steps by one call.
 
-ghost use Rattle.std.specs.Prelude.{◌≡◌, false, None, unwrap_or};
+ghost use Rattle.std.specs.Prelude.{◌≡◌, None, unwrap_or};
 ghost use Rattle.rsp_debug.specs.Moves.{steps_to_move};
 ghost use Rattle.rsp_debug.specs.Snapshots.{differs, watches_of};
 ghost use Rattle.rsp_debug.specs.Runs.{step_refusal, Asks, Refuses, IsRun};
 
 use crate::breaks::Breaks;
-use crate::conditions::{StopConditions, dmem_bytes};
+use crate::conditions::StopConditions;
 use crate::history::History;
 use crate::moves::{Moves, is_reserved};
 use crate::stop::{Reason, Stop};
@@ -70,25 +70,6 @@ fn run_to<A: Acc, U: Until>(
     stopped_here(machine, found.unwrap_or(Reason::Limit), n - left)
 }
 
-/// [`run_to`] without a history and where only moves end a run. Then nothing is kept or tested between two steps, and one call makes
-/// them all.
-fn run_unrecorded<A: Acc>(
-    machine: &mut Machine<A>,
-    history: &History,
-    conditions: &StopConditions,
-    n: u32,
-) -> Stop
-    requires unkept { history.now.depth ≡ 0 }
-    requires same { differs conditions.now.snapshots.now machine.old.dmem ≡ None }
-    requires asks { Asks (λ pc word changes_memory. false) conditions.now.breaks.now conditions.now.snapshots.now }
-    ensures { IsRun conditions.now.breaks.now (watches_of conditions.now.snapshots.now) (steps_to_move conditions.now.moves n machine.old) machine.old machine.new history.now history.now result }
-{
-    // It is called for its contract: there are no more records than the depth, 0. So the past is empty, before and after.
-    let _ = history.len();
-    let steps = machine.steps_until(u64::from(n), &conditions.moves) as u32;
-    stopped_here(machine, Reason::Limit, steps)
-}
-
 /// [`run`] with watches.
 #[inline(never)]
 fn run_watching<A: Acc>(
@@ -101,7 +82,7 @@ fn run_watching<A: Acc>(
 ) -> Stop
     ensures { IsRun breaks.now watches.now (steps_to_move moves n machine.old) machine.old machine.new history.old history.new result }
 {
-    let snapshots = watches.snapshots(dmem_bytes(machine));
+    let snapshots = watches.snapshots(machine.dmem().bytes());
     let conditions = StopConditions {
         breaks,
         snapshots: &snapshots,
@@ -136,7 +117,9 @@ pub fn run<A: Acc>(
         return run_to(machine, history, &conditions, &Never, n);
     }
     if history.depth() == 0 {
-        return run_unrecorded(machine, history, &conditions, n);
+        // Only moves end this run, and nothing is kept between two steps, so one call makes them all.
+        let steps = machine.steps_until(u64::from(n), &moves) as u32;
+        return stopped_here(machine, Reason::Limit, steps);
     }
     run_to(machine, history, &conditions, &moves, n)
 }

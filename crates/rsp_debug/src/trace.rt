@@ -6,7 +6,7 @@ ghost use Rattle.rsp_debug.specs.Runs.{IsRun};
 ghost use Rattle.rsp_debug.specs.Traces.{trace_of};
 
 use crate::breaks::Breaks;
-use crate::conditions::{StopConditions, dmem_bytes};
+use crate::conditions::StopConditions;
 use crate::debugger::{CountFault, Debugger, RUN_LIMIT};
 use crate::history::History;
 use crate::moves::Moves;
@@ -30,7 +30,7 @@ fn trace<A: Acc>(
     ensures entries { take result.steps out.new ≡ trace_of result.steps machine.old }
     ensures rest { drop result.steps out.new ≡ drop result.steps out.old }
 {
-    let snapshots = watches.snapshots(dmem_bytes(machine));
+    let snapshots = watches.snapshots(machine.dmem().bytes());
     let conditions = StopConditions {
         breaks,
         snapshots: if watches.is_empty() { &[] } else { &snapshots },

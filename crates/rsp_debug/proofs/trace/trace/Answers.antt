@@ -20,7 +20,7 @@ loop-made-init g c =
     let xs = c.if-is_empty.conditions.now in
     let are : AreSnapshots c.args.watches.now c.args.machine.now.dmem xs = elim c.if-is_empty.branch [
       | then-is_empty w ↦ rw w.conditions-is (no-snapshots _ _ (c.is_empty.ensures.0 w.if-is_empty.true))
-      | else-is_empty w ↦ rw w.conditions-is (snapshots-of _ _ _ _ c.snapshots-snapshots.ensures c.dmem_bytes.ensures.value)
+      | else-is_empty w ↦ rw w.conditions-is (snapshots-of _ _ _ _ c.snapshots-snapshots.ensures (c.bytes.ensures ∙ c.dmem.ensures))
     ] in
     record {
       count = refl;
@@ -77,7 +77,7 @@ returns-clause-run g c =
     ] in
     let are : AreSnapshots c.args.watches.now c.args.machine.now.dmem xs = elim c.if-is_empty.branch [
       | then-is_empty w ↦ rw w.conditions-is (no-snapshots _ _ (c.is_empty.ensures.0 w.if-is_empty.true))
-      | else-is_empty w ↦ rw w.conditions-is (snapshots-of _ _ _ _ c.snapshots-snapshots.ensures c.dmem_bytes.ensures.value)
+      | else-is_empty w ↦ rw w.conditions-is (snapshots-of _ _ _ _ c.snapshots-snapshots.ensures (c.bytes.ensures ∙ c.dmem.ensures))
     ] in
     watched-run _ _ _ _ _ _ _ _ _ _ are (unmoved-run _ _ _ _ _ _ _ _ _ c.none.ensures
     (run-over b xs moves n c.args.machine.now c.args.history.now k l.machine _ l.history _ l.found l.invariant.going over c.unwrap_or.result c.stopped_here.result c.stopped_here.ensures c.unwrap_or.ensures))
