@@ -122,5 +122,3 @@ pub ran-is : (b : List Bool) (w : List (Option Watch)) (n : ℕ) (s t : State) (
 ran-is b w n s t h g stop is =
     let d = debugging b w s h in
     rw (is.kept.past, is.kept.depth, is.end.reached) (sym (made-is stop.steps d) ∙ ap (λ k. after_steps k d) (sym (steps-are b w n s t stop is.end)))
-
-pub ruleset ends = (stop-is, ran-is)

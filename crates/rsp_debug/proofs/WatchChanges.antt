@@ -1,13 +1,12 @@
 -- Watches and what changed.
 use Rattle.std.proofs.Common.{◌≡◌, ℕ, zero, suc, ◌<◌, ◌≤◌, ◌+◌, List, [], ◌∷◌, length, map, get_or, refl, ap, sym, ◌∙◌, arith, Bool, true, false, cond, not, Option, Some, None}
-use Rattle.std.specs.Prelude.{slice_set, slice_index_or, bytes_eq, position, option_map, All, IsNone, nat_lt}
-use Rattle.std.specs.List.{position_or_len, prefix_len}
+use Rattle.std.specs.Prelude.{slice_set, slice_index_or, bytes_eq, option_map, All, IsNone}
+use Rattle.std.specs.List.{position_from}
 use Rattle.std.proofs.lemmas.List.{get_or_past, length-map, get_or-map}
 use Rattle.std.proofs.lemmas.List.FromFn.{fill_by_all}
 use Rattle.std.proofs.lemmas.List.Elements.{All-set}
 use Rattle.std.proofs.lemmas.Slice.Eq.{bytes_eq-Decides}
-use Rattle.std.proofs.lemmas.Grind.{common_steps}
-use Rattle.std.proofs.lemmas.List.Sums.{prefix_len-le-length, fails_before_first, passes_at_first, position_or_len_is}
+use Rattle.std.proofs.lemmas.Iterator.Adapters.{position_from-zero}
 use Rattle.rsp_debug.specs.declared.stop.Watch.{Watch}
 use Rattle.rsp_debug.specs.declared.snapshot.Snapshot.{Snapshot}
 use Rattle.rsp_debug.specs.Stops.{watched, is_changed, changed_watch}
@@ -24,72 +23,46 @@ past-set (w ∷ watches) (suc k) h = ap (λ l. w ∷ l) (past-set watches k (ome
 
 pub ruleset numbers = (past-watch, past-set)
 
--- the first index that passes, of two tests that agree on a list
-first-le : {X : Type 0} (p : X → Bool) (xs : List X) → position_or_len p xs ≤ length xs
-first-le p xs = prefix_len-le-length (λ x. not (p x)) xs
-
-same_first : {X : Type 0} (p q : X → Bool) (xs : List X) (d : X) → ((k : ℕ) → k < length xs → p (get_or xs k d) ≡ q (get_or xs k d))
-    → position_or_len p xs ≡ position_or_len q xs
-same_first p q xs d same =
-    position_or_len_is p xs (position_or_len q xs) d (first-le q xs)
-    (λ k h. same k (omega (arith, first-le q xs)) ∙ fails_before_first q xs k d h)
-    (λ h. same (position_or_len q xs) h ∙ passes_at_first q xs d h)
-
-same_position : {X : Type 0} (p q : X → Bool) (xs : List X) (d : X) → ((k : ℕ) → k < length xs → p (get_or xs k d) ≡ q (get_or xs k d))
-    → position p xs ≡ position q xs
-same_position p q xs d same = ap (λ i. cond (nat_lt i (length xs)) (Some i) None) (same_first p q xs d same)
-
--- a test that passes nowhere
-no_position : {X : Type 0} (p : X → Bool) (xs : List X) (d : X) → ((k : ℕ) → k < length xs → p (get_or xs k d) ≡ false) → position p xs ≡ None
-no_position p xs d none =
-    let e : position_or_len p xs ≡ length xs = position_or_len_is p xs (length xs) d (omega arith) none (λ h. absurd (omega arith)) in
-    let f : nat_lt (length xs) (length xs) ≡ false = grind (arith, common_steps) in
-    ap (λ i. cond (nat_lt i (length xs)) (Some i) None) e ∙ ap (λ b. cond b (Some (length xs)) None) f
-
-passes_nowhere : {X : Type 0} (p : X → Bool) (xs : List X) (d : X) (b : Bool) → nat_lt (position_or_len p xs) (length xs) ≡ b
-    → cond b (Some (position_or_len p xs)) None ≡ None → (k : ℕ) → k < length xs → p (get_or xs k d) ≡ false
-passes_nowhere p xs d true e h k below = cc
-passes_nowhere p xs d false e h k below =
-    let f : length xs ≤ position_or_len p xs = grind (arith, common_steps) in
-    fails_before_first p xs k d (omega arith)
-
+-- a watch whose bytes are still those of its snapshot, and what then changes
 not_not : (b : Bool) → not b ≡ false → b ≡ true
 not_not true e = refl
 not_not false e = cc
 
--- the first index that passes, of a list that a function is applied to
-prefix-map : {X Y : Type 0} (p : Y → Bool) (f : X → Y) (xs : List X) → prefix_len p (map f xs) ≡ prefix_len (λ x. p (f x)) xs
-prefix-map p f [] = refl
-prefix-map p f (x ∷ xs) = ap (λ n. cond (p (f x)) (1 + n) 0) (prefix-map p f xs)
-
-position-map : {X Y : Type 0} (p : Y → Bool) (f : X → Y) (xs : List X) → position p (map f xs) ≡ position (λ x. p (f x)) xs
-position-map p f xs =
-    ap (λ i. cond (nat_lt i (length (map f xs))) (Some i) None) (prefix-map (λ y. not (p y)) f xs)
-    ∙ ap (λ l. cond (nat_lt (position_or_len (λ x. p (f x)) xs) l) (Some (position_or_len (λ x. p (f x)) xs)) None) (length-map xs f)
-
--- a watch whose bytes are still those of its snapshot, and what then changes
 unlike : (now next : List ℕ) (one : Option Snapshot) → is_other now one ≡ false → is_other next one ≡ is_changed now next (option_map (λ h. h.watch) one)
 unlike now next None e = refl
 unlike now next (Some h) e =
     let same : h.bytes.items ≡ watched h.watch now = (bytes_eq-Decides h.bytes.items (watched h.watch now)).0 (not_not _ e) in
     ap (λ bytes. not (bytes_eq bytes (watched h.watch next))) same
 
+neither : (b : Bool) (k : ℕ) (o : Option ℕ) → cond b (Some k) o ≡ None → (b ≡ false) × (o ≡ None)
+neither true k o e = cc
+neither false k o e = (refl, e)
+
+since_from : (now next : List ℕ) (k : ℕ) (snapshots : List (Option Snapshot)) → position_from (is_other now) k snapshots ≡ None
+    → position_from (is_other next) k snapshots ≡ position_from (is_changed now next) k (watches_of snapshots)
+since_from now next k [] e = refl
+since_from now next k (h ∷ snapshots) e =
+    let none = neither (is_other now h) k (position_from (is_other now) (k + 1) snapshots) e in
+    ap (λ b. cond b (Some k) (position_from (is_other next) (k + 1) snapshots)) (unlike now next h none.0)
+    ∙ ap (cond (is_changed now next (option_map (λ h. h.watch) h)) (Some k)) (since_from now next (k + 1) snapshots none.1)
+
 pub differs-since : (snapshots : List (Option Snapshot)) (now next : List ℕ) → differs snapshots now ≡ None → differs snapshots next ≡ changed_watch (watches_of snapshots) now next
 unfolding differs changed_watch
 differs-since snapshots now next e =
-    same_position (is_other next) (λ h. is_changed now next (option_map (λ h. h.watch) h)) snapshots None
-    (λ k h. unlike now next (get_or snapshots k None) (passes_nowhere _ snapshots None _ refl e k h))
-    ∙ sym (position-map (is_changed now next) (option_map (λ h. h.watch)) snapshots)
+    position_from-zero (is_other next) snapshots ∙ since_from now next 0 snapshots (sym (position_from-zero (is_other now) snapshots) ∙ e) ∙ sym (position_from-zero (is_changed now next) (watches_of snapshots))
 
 -- snapshots of watches as they are
 fresh : (dmem : List ℕ) (watch : Option Watch) → is_other dmem (snapshot_of dmem watch) ≡ false
 fresh dmem None = refl
 fresh dmem (Some w) = ap not ((bytes_eq-Decides (watched w dmem) (watched w dmem)).1 refl)
 
+fresh_from : (k : ℕ) (watches : List (Option Watch)) (dmem : List ℕ) → position_from (is_other dmem) k (map (snapshot_of dmem) watches) ≡ None
+fresh_from k [] dmem = refl
+fresh_from k (w ∷ watches) dmem = ap (λ b. cond b (Some k) (position_from (is_other dmem) (k + 1) (map (snapshot_of dmem) watches))) (fresh dmem w) ∙ fresh_from (k + 1) watches dmem
+
 differs-fresh : (watches : List (Option Watch)) (dmem : List ℕ) → differs (map (snapshot_of dmem) watches) dmem ≡ None
 unfolding differs
-differs-fresh watches dmem =
-    position-map (is_other dmem) (snapshot_of dmem) watches ∙ no_position _ watches None (λ k h. fresh dmem (get_or watches k None))
+differs-fresh watches dmem = position_from-zero (is_other dmem) (map (snapshot_of dmem) watches) ∙ fresh_from 0 watches dmem
 
 watches-of : (watches : List (Option Watch)) (dmem : List ℕ) → watches_of (map (snapshot_of dmem) watches) ≡ watches
 watches-of [] dmem = refl
@@ -112,9 +85,15 @@ no_watch : (before dmem : List ℕ) (watch : Option Watch) → IsNone watch → 
 no_watch before dmem None h = refl
 no_watch before dmem (Some w) h = cc
 
+none_from : (k : ℕ) (watches : List (Option Watch)) (before dmem : List ℕ) → ((i : ℕ) → i < length watches → IsNone (get_or watches i None)) → position_from (is_changed before dmem) k watches ≡ None
+none_from k [] before dmem none = refl
+none_from k (w ∷ watches) before dmem none =
+    ap (λ b. cond b (Some k) (position_from (is_changed before dmem) (k + 1) watches)) (no_watch before dmem w (none 0 (omega arith)))
+    ∙ none_from (k + 1) watches before dmem (λ i h. none (suc i) (omega (arith, h)))
+
 changed-none : (watches : List (Option Watch)) (before dmem : List ℕ) → All IsNone watches → changed_watch [] before dmem ≡ changed_watch watches before dmem
 unfolding changed_watch
-changed-none watches before dmem none = sym (no_position _ watches None (λ k h. no_watch before dmem (get_or watches k None) (none k None h)))
+changed-none watches before dmem none = sym (position_from-zero (is_changed before dmem) watches ∙ none_from 0 watches before dmem (λ i h. none i None h))
 
 -- what a run with some watches compares with: their bytes as they are, or nothing if there is no watch
 pub record AreSnapshots (watches : List (Option Watch)) (dmem : List ℕ) (snapshots : List (Option Snapshot)) : Type 0 where

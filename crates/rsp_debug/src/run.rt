@@ -92,6 +92,7 @@ fn run_watching<A: Acc>(
 }
 
 /// Makes the least number of steps, at most `n`, after which there is a reason to stop or one of the moves is next.
+#[tactic(auto, unfolding(crate::specs::Snapshots::differs))]
 pub fn run<A: Acc>(
     machine: &mut Machine<A>,
     history: &mut History,

@@ -59,7 +59,6 @@ fn trace<A: Acc>(
 impl<A: Acc> Debugger<A> {
     /// As [`Debugger::run`] of as many steps as `out` has entries, and writes the entry of each step; the other entries stay. CountFault
     /// unless there are 1 to 1000000 entries.
-    #[tactic(auto, using(crate::proofs::RunEnds::ends))]
     pub fn trace(&mut self, out: &mut [TraceEntry]) -> Result<Stop, CountFault>
         ensures count { IsOk result ↔ ((1 ≤ length out.old) × (length out.old ≤ 1000000)) }
         ensures stop { IfOk result (λ stop. stop ≡ stop_in (length out.old) self.old) }

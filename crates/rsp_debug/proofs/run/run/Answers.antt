@@ -23,14 +23,8 @@ empty : {X : Type 0} (xs : List X) → length xs ≡ 0 → xs ≡ []
 empty [] none = refl
 empty (x ∷ xs) none = absurd (omega (arith, none))
 
-pub run_to-requires-clause-same : goal.run_to-requires-clause-same
-run_to-requires-clause-same g c = differs-empty _ _ refl
-
 pub returns-then-not-is_empty-2 : goal.returns-then-not-is_empty-2
 returns-then-not-is_empty-2 g c = watched-run _ _ _ _ _ _ _ _ _ _ (no-snapshots _ c.args.machine.now.dmem (c.is_empty.ensures.0 c.if-not-is_empty.false)) c.run_to.ensures
-
-pub run_to-requires-then-is_empty-clause-same : goal.run_to-requires-then-is_empty-clause-same
-run_to-requires-then-is_empty-clause-same g c = differs-empty _ _ refl
 
 pub run_to-requires-then-is_empty-clause-refuses : goal.run_to-requires-then-is_empty-clause-refuses
 run_to-requires-then-is_empty-clause-refuses g c = none-refused c.args.moves (c.is_empty-3.ensures.none c.if-is_empty.true)
@@ -57,9 +51,6 @@ returns-then-depth-eq0 g c =
         depth = refl;
       };
     })
-
-pub run_to-requires-2-clause-same : goal.run_to-requires-2-clause-same
-run_to-requires-2-clause-same g c = differs-empty _ _ refl
 
 pub run_to-requires-2-clause-asks : goal.run_to-requires-2-clause-asks
 run_to-requires-2-clause-asks g c = nothing-asks c.args.breaks.now (sym c.is_empty-2.ensures ∙ c.if-not-is_empty-2.false)
