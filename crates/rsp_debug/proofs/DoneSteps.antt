@@ -16,7 +16,7 @@ use Rattle.rsp_debug.specs.Stops.{reason_at, run_steps, stop_of, IsStop}
 use Rattle.rsp_debug.specs.Runs.{step_refusal}
 use Rattle.rsp_debug.specs.Calls.{IsAfter, ForwardCall, StepCall, RunCall, is_count, call_steps, state_after_call, steps_of_calls, state_after_calls}
 use Rattle.rsp_debug.proofs.Least.{least-is, least-passes}
-use Rattle.rsp_debug.proofs.Reasons.{goes-on, step-still, steps-none, steps-more, two_none, hit_of, reason-stuck, reason-hit, reason-limit}
+use Rattle.rsp_debug.proofs.Reasons.{goes-on, step-still, steps-none, steps-more, hit_of, reason-by, reason-goes, limit-is}
 
 pub after-none : (s : State) → IsAfter 0 s s
 after-none s = record { done = λ k h. absurd (omega arith); reached = sym (steps-none s) }
@@ -46,13 +46,9 @@ pub no-reason : (b : List Bool) (w : List (Option Watch)) (n : ℕ) (s : State) 
 unfolding run_steps
 no-reason b w n s j h = no-some _ ((least-is (λ k. is_some (reason_at b w n s k)) n).before j h)
 
-reason_goes : (b : List Bool) (w : List (Option Watch)) (n : ℕ) (s : State) (k : ℕ) → reason_at b w n s k ≡ None → step_refusal (steps_of k s) ≡ None
-unfolding reason_at
-reason_goes b w n s k e = two_none _ _ _ _ _ e
-
 pub after-run : (b : List Bool) (w : List (Option Watch)) (n : ℕ) (s : State) → IsAfter (run_steps b w n s) s (steps_of (run_steps b w n s) s)
 after-run b w n s = record {
-  done = λ k h. goes-on (steps_of k s) (reason_goes b w n s k (no-reason b w n s k h));
+  done = λ k h. goes-on (steps_of k s) (reason-goes b w n s k (no-reason b w n s k h));
   reached = refl;
 }
 
@@ -81,9 +77,9 @@ after-calls (call ∷ calls) s = after-then (call_steps call s) (steps_of_calls 
 -- a run has a reason to stop at the least number of steps that has one, which is at most its limit
 limit_by : (b : List Bool) (w : List (Option Watch)) (n : ℕ) (s : State) (refusal hit : Option Reason) → step_refusal (steps_of n s) ≡ refusal
     → hit_of b w n (steps_of (n - 1) s) (steps_of n s) ≡ hit → is_some (reason_at b w n s n) ≡ true
-limit_by b w n s (Some r) hit e f = ap is_some (reason-stuck b w n s (steps_of n s) n r refl e)
-limit_by b w n s None (Some r) e f = ap is_some (reason-hit b w n s (steps_of n s) n r refl e f)
-limit_by b w n s None None e f = ap is_some (reason-limit b w n s (steps_of n s) n refl e f refl)
+limit_by b w n s (Some r) hit e f = ap is_some (reason-by b w n s (steps_of n s) n (Some r) hit refl e f)
+limit_by b w n s None (Some r) e f = ap is_some (reason-by b w n s (steps_of n s) n None (Some r) refl e f)
+limit_by b w n s None None e f = ap is_some (reason-by b w n s (steps_of n s) n None None refl e f ∙ limit-is n n refl)
 
 the_reason : (o : Option Reason) → is_some o ≡ true → o ≡ Some (unwrap_or o Limit)
 the_reason None e = cc

@@ -11,7 +11,7 @@ use Rattle.rsp_machine.specs.Step.{step_of, step_by}
 use Rattle.rsp_machine.specs.Laws.{steps_of, done_steps}
 use Rattle.rsp_machine.specs.declared.step.StepEnd.{StepEnd}
 use Rattle.rsp_machine.specs.declared.step.StepEnd.TheVariants as end
-use Rattle.rsp_debug.specs.Stops.{changed_watch, is_break, when, first_of, reason_at}
+use Rattle.rsp_debug.specs.Stops.{changed_watch, is_break, is_reserved, when, first_of, reason_at}
 use Rattle.rsp_debug.specs.Runs.{step_refusal, hit_in}
 use Rattle.rsp_debug.specs.Snapshots.{differs, watches_of}
 use Rattle.rsp_debug.specs.declared.snapshot.Snapshot.{Snapshot}
@@ -68,62 +68,41 @@ pub step-still : (s : State) → done_steps (step_of s).0 ≡ 0 → (step_of s).
 unfolding step_of
 step-still s none = still_by s.sp.halted (inst_of (word_at s.imem s.pc)) (word_at s.imem s.pc) s none
 
--- the five reasons, from the first two, the next two and the last
-two_more : (a b c d e : Option Reason) → first_of (a ∷ b ∷ []) ≡ None → first_of (a ∷ b ∷ c ∷ d ∷ e ∷ []) ≡ first_of (c ∷ d ∷ e ∷ [])
-two_more None None c d e h = refl
-two_more None (Some r) c d e h = cc
-two_more (Some r) b c d e h = cc
+-- the five reasons: why no step can be made, then what the last step has come to, then the limit
+grouped : (a b c d e : Option Reason) → first_of (a ∷ b ∷ c ∷ d ∷ e ∷ []) ≡ first_of (first_of (a ∷ b ∷ []) ∷ first_of (c ∷ d ∷ []) ∷ e ∷ [])
+grouped (Some r) b c d e = refl
+grouped None (Some r) c d e = refl
+grouped None None (Some r) d e = refl
+grouped None None None (Some r) e = refl
+grouped None None None None e = refl
 
-pub two_none : (a b c d e : Option Reason) → first_of (a ∷ b ∷ c ∷ d ∷ e ∷ []) ≡ None → first_of (a ∷ b ∷ []) ≡ None
-two_none None None c d e h = refl
-two_none None (Some r) c d e h = cc
-two_none (Some r) b c d e h = cc
-
-two_of : (a b c d e : Option Reason) (r : Reason) → first_of (a ∷ b ∷ []) ≡ Some r → first_of (a ∷ b ∷ c ∷ d ∷ e ∷ []) ≡ Some r
-two_of None None c d e r h = cc
-two_of None (Some q) c d e r h = h
-two_of (Some q) b c d e r h = h
-
-pub hit_more : (c d e : Option Reason) → first_of (c ∷ d ∷ []) ≡ None → first_of (c ∷ d ∷ e ∷ []) ≡ first_of (e ∷ [])
-hit_more None None e h = refl
-hit_more None (Some r) e h = cc
-hit_more (Some r) d e h = cc
-
-hit_some : (c d e : Option Reason) (r : Reason) → first_of (c ∷ d ∷ []) ≡ Some r → first_of (c ∷ d ∷ e ∷ []) ≡ Some r
-hit_some None None e r h = cc
-hit_some None (Some q) e r h = h
-hit_some (Some q) d e r h = h
-
-limit_not : (k n : ℕ) → k < n → first_of (when (k == n) Limit ∷ []) ≡ None
-limit_not k n h = let f : nat_eq k n ≡ false = grind (arith, common_steps) in rw f refl
-
-limit_is : (k n : ℕ) → k ≡ n → first_of (when (k == n) Limit ∷ []) ≡ Some Limit
-limit_is k n h = let f : nat_eq k n ≡ true = grind (arith, common_steps) in rw f refl
-
-pub reason-stuck : (b : List Bool) (w : List (Option Watch)) (n : ℕ) (s t : State) (k : ℕ) (r : Reason)
-    → t ≡ steps_of k s → step_refusal t ≡ Some r → reason_at b w n s k ≡ Some r
+reason-is : (b : List Bool) (w : List (Option Watch)) (n : ℕ) (s : State) (k : ℕ)
+    → reason_at b w n s k ≡ first_of (step_refusal (steps_of k s) ∷ hit_of b w k (steps_of (k - 1) s) (steps_of k s) ∷ when (k == n) Limit ∷ [])
 unfolding reason_at
-reason-stuck b w n s t k r same stuck =
-    let h : step_refusal (steps_of k s) ≡ Some r = ap step_refusal (sym same) ∙ stuck in
-    two_of _ _ _ _ _ r h
+reason-is b w n s k =
+    let before = steps_of (k - 1) s in let t = steps_of k s in
+    grouped (when (is_reserved t) Reserved) (when t.sp.halted Halted) (cond (nat_lt 0 k) (option_map Watched (changed_watch w before.dmem t.dmem)) None)
+    (when (nat_lt 0 k && is_break b t.pc) Break) (when (k == n) Limit)
 
-pub reason-none : (b : List Bool) (w : List (Option Watch)) (n : ℕ) (s t : State) (k : ℕ)
-    → t ≡ steps_of k s → step_refusal t ≡ None → hit_of b w k (steps_of (k - 1) s) (steps_of k s) ≡ None → k < n → reason_at b w n s k ≡ None
-unfolding reason_at
-reason-none b w n s t k same stuck quiet h =
-    two_more _ _ _ _ _ (ap step_refusal (sym same) ∙ stuck) ∙ hit_more _ _ _ quiet ∙ limit_not k n h
+pub reason-by : (b : List Bool) (w : List (Option Watch)) (n : ℕ) (s t : State) (k : ℕ) (refusal hit : Option Reason)
+    → t ≡ steps_of k s → step_refusal t ≡ refusal → hit_of b w k (steps_of (k - 1) s) (steps_of k s) ≡ hit → reason_at b w n s k ≡ first_of (refusal ∷ hit ∷ when (k == n) Limit ∷ [])
+reason-by b w n s t k refusal hit same e f =
+    reason-is b w n s k
+    ∙ ap (λ o. first_of (o ∷ hit_of b w k (steps_of (k - 1) s) (steps_of k s) ∷ when (k == n) Limit ∷ [])) (ap step_refusal (sym same) ∙ e)
+    ∙ ap (λ o. first_of (refusal ∷ o ∷ when (k == n) Limit ∷ [])) f
 
-pub reason-limit : (b : List Bool) (w : List (Option Watch)) (n : ℕ) (s t : State) (k : ℕ)
-    → t ≡ steps_of k s → step_refusal t ≡ None → hit_of b w k (steps_of (k - 1) s) (steps_of k s) ≡ None → k ≡ n → reason_at b w n s k ≡ Some Limit
-unfolding reason_at
-reason-limit b w n s t k same stuck quiet h =
-    two_more _ _ _ _ _ (ap step_refusal (sym same) ∙ stuck) ∙ hit_more _ _ _ quiet ∙ limit_is k n h
+first_none : (a b c : Option Reason) → first_of (a ∷ b ∷ c ∷ []) ≡ None → a ≡ None
+first_none None b c e = refl
+first_none (Some r) b c e = cc
 
-pub reason-hit : (b : List Bool) (w : List (Option Watch)) (n : ℕ) (s t : State) (k : ℕ) (r : Reason)
-    → t ≡ steps_of k s → step_refusal t ≡ None → hit_of b w k (steps_of (k - 1) s) (steps_of k s) ≡ Some r → reason_at b w n s k ≡ Some r
-unfolding reason_at
-reason-hit b w n s t k r same stuck hit =
-    two_more _ _ _ _ _ (ap step_refusal (sym same) ∙ stuck) ∙ hit_some _ _ _ r hit
+pub reason-goes : (b : List Bool) (w : List (Option Watch)) (n : ℕ) (s : State) (k : ℕ) → reason_at b w n s k ≡ None → step_refusal (steps_of k s) ≡ None
+reason-goes b w n s k e = first_none _ (hit_of b w k (steps_of (k - 1) s) (steps_of k s)) (when (k == n) Limit) (sym (reason-is b w n s k) ∙ e)
+
+pub limit-not : (k n : ℕ) → k < n → first_of (when (k == n) Limit ∷ []) ≡ None
+limit-not k n h = let f : nat_eq k n ≡ false = grind (arith, common_steps) in rw f refl
+
+pub limit-is : (k n : ℕ) → k ≡ n → first_of (when (k == n) Limit ∷ []) ≡ Some Limit
+limit-is k n h = let f : nat_eq k n ≡ true = grind (arith, common_steps) in rw f refl
 
 -- one more step
 pub steps-none : (s : State) → steps_of 0 s ≡ s

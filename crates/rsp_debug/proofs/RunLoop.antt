@@ -24,7 +24,7 @@ use Rattle.rsp_debug.specs.Moves.{is_at_move, steps_to_move}
 use Rattle.rsp_debug.specs.Runs.{step_refusal, hit_in, Asks, Refuses, AreKept, IsRun}
 use Rattle.rsp_debug.proofs.WatchChanges.{differs-empty}
 use Rattle.rsp_debug.proofs.Hits.{nothing-hit}
-use Rattle.rsp_debug.proofs.Reasons.{reason-stuck, reason-hit, reason-limit, reason-none, hit_of, next-hit, nothing-differs, step-done}
+use Rattle.rsp_debug.proofs.Reasons.{reason-by, limit-is, limit-not, hit_of, next-hit, nothing-differs, step-done}
 use Rattle.rsp_debug.proofs.DoneSteps.{after-none, after-more}
 use Rattle.rsp_debug.proofs.Least.{least-above, least-only}
 use Rattle.rsp_debug.proofs.Stretches.{kept-none, kept-then}
@@ -94,7 +94,7 @@ module _ (b : List Bool) (snapshots : List (Option Snapshot)) (moves : Moves) (n
           within = within;
           after = after;
           first = below_more (λ i. (limit : ℕ) → i < limit → reason_at b (watches_of snapshots) limit s i ≡ None) k come.first (λ limit less.
-              reason-none b (watches_of snapshots) limit s (steps_of k s) k refl (ap step_refusal (sym come.after.reached) ∙ step-done m done) (sym come.is) less);
+              reason-by b (watches_of snapshots) limit s m k None None come.after.reached (step-done m done) (sym come.is) ∙ limit-not k limit less);
           none = below_more (λ i. is_at_move moves (steps_of i s) ≡ false) k come.none (ap (is_at_move moves) (sym come.after.reached) ∙ free_move);
           is = sym (next-hit b snapshots s m t k come.after.reached after.reached (come.same refl));
           same = nothing-differs b snapshots t;
@@ -149,13 +149,13 @@ module _ (b : List Bool) (snapshots : List (Option Snapshot)) (moves : Moves) (n
   module _ (k : ℕ) (t : State) (found : Option Reason) (come : IsCome b snapshots moves n s k t found) (all : found ≡ None → step_refusal t ≡ None → k < n → is_at_move moves t ≡ true) where
     reason_by : (o : Option Reason) → found ≡ o → step_refusal t ≡ None → reason_at b (watches_of snapshots) (steps_to_move moves n s) s k ≡ Some (unwrap_or found Limit)
     reason_by (Some r) is free =
-        reason-hit b (watches_of snapshots) (steps_to_move moves n s) s t k r come.after.reached free (sym come.is ∙ is) ∙ ap (λ o. Some (unwrap_or o Limit)) (sym is)
+        reason-by b (watches_of snapshots) (steps_to_move moves n s) s t k None (Some r) come.after.reached free (sym come.is ∙ is) ∙ ap (λ o. Some (unwrap_or o Limit)) (sym is)
     reason_by None is free =
-        reason-limit b (watches_of snapshots) (steps_to_move moves n s) s t k come.after.reached free (sym come.is ∙ is)
-        (move-here moves n k s come.within come.none (λ h. ap (is_at_move moves) (sym come.after.reached) ∙ all is free h)) ∙ ap (λ o. Some (unwrap_or o Limit)) (sym is)
+        reason-by b (watches_of snapshots) (steps_to_move moves n s) s t k None None come.after.reached free (sym come.is ∙ is)
+        ∙ limit-is k (steps_to_move moves n s) (move-here moves n k s come.within come.none (λ h. ap (is_at_move moves) (sym come.after.reached) ∙ all is free h)) ∙ ap (λ o. Some (unwrap_or o Limit)) (sym is)
 
     why_by : (o : Option Reason) (r : Reason) → step_refusal t ≡ o → r ≡ unwrap_or found Limit → reason_at b (watches_of snapshots) (steps_to_move moves n s) s k ≡ Some (unwrap_or o r)
-    why_by (Some q) r e is = reason-stuck b (watches_of snapshots) (steps_to_move moves n s) s t k q come.after.reached e
+    why_by (Some q) r e is = reason-by b (watches_of snapshots) (steps_to_move moves n s) s t k (Some q) _ come.after.reached e refl
     why_by None r e is = reason_by found refl e ∙ ap Some (sym is)
 
     pub stop-come : (r : Reason) (stop : Stop) → stop ≡ record { reason = unwrap_or (step_refusal t) r; steps = k; pc = t.pc } → r ≡ unwrap_or found Limit
