@@ -8,17 +8,6 @@ use Rattle.rsp_memory.specs.declared.bank.Bank.{Bank}
 use Rattle.rsp_machine.specs.State.{State}
 use Rattle.rsp_debug.specs.Queries.{bank_byte, memory_of, listing_line, listing_of}
 
--- words that agree below k, and one more
-pub agree-more : (words registers : List ℕ) (k v : ℕ) → ((j : ℕ) → j < k → slice_index words j ≡ slice_index registers j) → k < length words → v ≡ slice_index registers k
-    → (j : ℕ) → j < k + 1 → slice_index (slice_set words k v) j ≡ slice_index registers j
-agree-more words registers k v below h e j b =
-    elim (cases_eq j k) [
-      | inl same ↦ ap (λ x. slice_index (slice_set words k v) x) same ∙ get_or-set_same words k v 0 h ∙ e ∙ sym (ap (λ x. slice_index registers x) same)
-      | inr other ↦ get_or-set_other words k j v 0 other ∙ below j (omega arith)
-    ]
-
-pub ruleset registers = (agree-more)
-
 -- one item more
 pub bytes-none : (bank : Bank) (s : State) (a n : ℕ) → n ≡ 0 → [] ≡ memory_of bank s a n
 unfolding memory_of

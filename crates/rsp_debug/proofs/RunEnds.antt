@@ -101,19 +101,6 @@ unfolding move_end_of
 move-end-is b w moves n s t stop r is e =
     e ∙ ap (λ (x : State). end_by moves stop x) is.reached ∙ ap (λ (x : Stop). end_by moves x (steps_of x.steps s)) (stop-is b w (steps_to_move moves n s) s t stop is)
 
-move_steps : (o : Option Inst) (stop : Stop) (s : State) → end_steps (move_by o stop s) ≡ stop.steps
-move_steps None stop s = refl
-move_steps (Some (MoveSp op rt r)) stop s = refl
-move_steps (Some _) stop s = refl
-
-steps_by : (b : Bool) (o : Option Inst) (stop : Stop) (s : State) → end_steps (cond b (move_by o stop s) (end.Stop stop)) ≡ stop.steps
-steps_by true o stop s = move_steps o stop s
-steps_by false o stop s = refl
-
-pub move-end-steps : (moves : Moves) (stop : Stop) (t : State) (r : MoveEnd) → r ≡ end_by moves stop t → end_steps r ≡ stop.steps
-move-end-steps moves stop t r e =
-    ap end_steps e ∙ steps_by (is_limit stop.reason && is_at_move moves t) (inst_of (word_at t.imem t.pc)) stop t
-
 -- a debugger after a run
 abbrev debugging : List Bool → List (Option Watch) → State → Records → Debugging
 debugging b w s h = record { state = s; breaks = b; watches = w; past = states_before s h.newest; depth = h.depth }

@@ -96,7 +96,3 @@ kept-then k j o s m t h g i first second there count =
           ∙ sym (past-add k j h.depth s past) ∙ ap (λ q. history_after_steps q h.depth s past) (sym count);
       depth = second.depth ∙ first.depth;
     }
-
-pub stepped-as : (d : Debugging) (t : State) (past : List State) (depth : ℕ) → t ≡ (step_of d.state).1 → past ≡ history_after d.depth d.state d.past → depth ≡ d.depth
-    → (let x : Debugging = record { state = t; breaks = d.breaks; watches = d.watches; past = past; depth = depth } in x) ≡ after_debugger_step d
-stepped-as d t past depth e f h = rw (e, f, h) refl

@@ -12,17 +12,6 @@ use Rattle.rsp_debug.specs.declared.snapshot.Snapshot.{Snapshot}
 use Rattle.rsp_debug.specs.Stops.{watched, is_changed, changed_watch}
 use Rattle.rsp_debug.specs.Snapshots.{IsShort, snapshot_of, is_other, differs, watches_of}
 
--- a number without a watch
-pub past-watch : (watches : List (Option Watch)) (k : ℕ) → length watches ≤ k → slice_index_or watches k None ≡ None
-past-watch watches k h = get_or_past watches k None h
-
-pub past-set : (watches : List (Option Watch)) (k : ℕ) → length watches ≤ k → slice_set watches k None ≡ watches
-past-set [] k h = refl
-past-set (w ∷ watches) zero h = absurd (omega arith)
-past-set (w ∷ watches) (suc k) h = ap (λ l. w ∷ l) (past-set watches k (omega arith))
-
-pub ruleset numbers = (past-watch, past-set)
-
 -- a watch whose bytes are still those of its snapshot, and what then changes
 not_not : (b : Bool) → not b ≡ false → b ≡ true
 not_not true e = refl
@@ -106,13 +95,3 @@ no-snapshots watches dmem none = record { same = differs-empty [] dmem refl; cha
 pub snapshots-of : (watches : List (Option Watch)) (dmem bytes : List ℕ) (snapshots : List (Option Snapshot)) → snapshots ≡ map (snapshot_of bytes) watches → bytes ≡ dmem → AreSnapshots watches dmem snapshots
 snapshots-of watches dmem bytes snapshots is now =
     rw (is, now) (record { same = differs-fresh watches dmem; changed = λ before next. ap (λ l. changed_watch l before next) (watches-of watches dmem) })
-
--- a watch written, and one dropped, where all are short
-pub short-written : (watches : List (Option Watch)) (k address len : ℕ) → All IsShort watches → len ≤ 64
-    → All IsShort (slice_set watches k (Some (record { address = address; len = len })))
-short-written watches k address len h l = All-set IsShort watches k (Some (record { address = address; len = len })) l h
-
-pub short-dropped : (watches : List (Option Watch)) (k : ℕ) → All IsShort watches → All IsShort (slice_set watches k None)
-short-dropped watches k h = All-set IsShort watches k None tt h
-
-pub ruleset shorts = (short-written, short-dropped)

@@ -86,7 +86,6 @@ impl<A: Acc> Debugger<A> {
     }
 
     /// pc, npc and the scalar registers.
-    #[tactic(auto, using(crate::proofs::QueryAnswers::registers))]
     pub fn regs(&self) -> Scalars
         ensures pc { result.pc ≡ self.now.state.pc }
         ensures npc { result.npc ≡ self.now.state.npc }

@@ -110,7 +110,6 @@ impl Watches {
     }
 
     /// Whether a number has a watch.
-    #[tactic(auto, using(crate::proofs::WatchChanges::numbers))]
     fn has(&self, k: u32) -> bool
         ensures value { result ≡ has_watch k self.now }
         ensures below { IsTrue result → k < 8 }

@@ -2,15 +2,11 @@ use Rattle.std.proofs.Common.{◌∙◌, ap, sym}
 use Rattle.rsp_machine.specs.Laws.{steps_of}
 use Rattle.rsp_debug.specs.Moves.{end_steps}
 use Rattle.rsp_debug.specs.Debugging.{Debugging, move_end_in, after_run_until_move}
-use Rattle.rsp_debug.proofs.RunEnds.{move-end-is, move-end-steps, ran-is}
+use Rattle.rsp_debug.proofs.RunEnds.{move-end-is, ran-is}
 use Rattle.rsp_debug.proofs.debugger.Debugger.run_until_move.Goals as goal
 
 pub returns-clause-end : goal.returns-clause-end
 returns-clause-end g c = move-end-is _ _ _ _ _ _ _ _ c.run-stop.ensures.end c.end.ensures ∙ ap (λ (d : Debugging). move_end_in c.args.n c.args.moves d) c.self.view_is
-
-pub returns-clause-reached : goal.returns-clause-reached
-returns-clause-reached g c =
-    c.run-stop.ensures.end.reached ∙ ap (λ k. steps_of k c.self.inside.machine) (sym (move-end-steps c.args.moves c.run-stop.result c.run-stop.new.machine c.end.result c.end.ensures)) ∙ ap (λ (d : Debugging). steps_of (end_steps c.end.result) d.state) c.self.view_is
 
 pub returns-clause-next : goal.returns-clause-next
 returns-clause-next g c = ran-is _ _ _ _ _ _ _ _ c.run-stop.ensures ∙ ap (λ (d : Debugging). after_run_until_move c.args.n c.args.moves d) c.self.view_is

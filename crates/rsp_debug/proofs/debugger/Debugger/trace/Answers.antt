@@ -10,5 +10,3 @@ returns-clause-stop g c = stop-is _ _ _ _ _ _ c.trace.ensures.run.end ∙ ap (λ
 pub returns-clause-next : goal.returns-clause-next
 returns-clause-next g c = ran-is _ _ _ _ _ _ _ _ c.trace.ensures.run ∙ ap (λ (d : Debugging). after_run (length c.args.out.now) d) c.self.view_is
 
-pub returns-clause-entries : goal.returns-clause-entries
-returns-clause-entries g c = c.trace.ensures.entries ∙ ap (λ (d : Debugging). trace_of c.trace.result.steps d.state) c.self.view_is
