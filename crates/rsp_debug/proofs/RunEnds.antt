@@ -13,8 +13,7 @@ use Rattle.rsp_machine.specs.Pass.{is_write}
 use Rattle.rsp_decode.specs.Table.{inst_of}
 use Rattle.rsp_debug.specs.declared.moves.Moves.{Moves}
 use Rattle.rsp_debug.specs.declared.moves.MoveEnd.{MoveEnd}
-use Rattle.rsp_debug.specs.declared.moves.MoveEnd.TheVariants as end
-use Rattle.rsp_debug.specs.Moves.{no_moves, is_asked, is_at_move, is_limit, steps_to_move, move_by, end_by, move_end_of, end_steps}
+use Rattle.rsp_debug.specs.Moves.{no_moves, is_asked, is_at_move, steps_to_move, end_by, move_end_of}
 use Rattle.rsp_debug.specs.declared.snapshot.Snapshot.{Snapshot}
 use Rattle.rsp_debug.specs.Snapshots.{watches_of}
 use Rattle.rsp_debug.specs.HistoryRing.{Records, states_before}

@@ -11,7 +11,7 @@ use Rattle.rsp_machine.specs.declared.step.StepEnd.TheVariants as end
 use Rattle.rsp_machine.proofs.LoopSteps.{steps-add}
 use Rattle.rsp_debug.specs.History.{history_by, history_after, history_after_steps}
 use Rattle.rsp_debug.specs.HistoryRing.{Records, states_before}
-use Rattle.rsp_debug.specs.Debugging.{Debugging, after_steps, after_debugger_step}
+use Rattle.rsp_debug.specs.Debugging.{Debugging, after_steps}
 use Rattle.rsp_debug.specs.Calls.{IsAfter}
 use Rattle.rsp_debug.specs.Runs.{AreKept}
 use Rattle.rsp_debug.proofs.Reasons.{step-still}

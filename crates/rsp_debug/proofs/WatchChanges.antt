@@ -1,16 +1,15 @@
 -- Watches and what changed.
-use Rattle.std.proofs.Common.{◌≡◌, ℕ, zero, suc, ◌<◌, ◌≤◌, ◌+◌, List, [], ◌∷◌, length, map, get_or, refl, ap, sym, ◌∙◌, arith, Bool, true, false, cond, not, Option, Some, None}
-use Rattle.std.specs.Prelude.{slice_set, slice_index_or, bytes_eq, option_map, All, IsNone}
+use Rattle.std.proofs.Common.{◌≡◌, ℕ, suc, ◌<◌, ◌+◌, List, [], ◌∷◌, length, map, get_or, refl, ap, sym, ◌∙◌, arith, Bool, true, false, cond, not, Option, Some, None}
+use Rattle.std.specs.Prelude.{bytes_eq, option_map, All, IsNone}
 use Rattle.std.specs.List.{position_from}
-use Rattle.std.proofs.lemmas.List.{get_or_past, length-map, get_or-map}
+use Rattle.std.proofs.lemmas.List.{length-map, get_or-map}
 use Rattle.std.proofs.lemmas.List.FromFn.{fill_by_all}
-use Rattle.std.proofs.lemmas.List.Elements.{All-set}
 use Rattle.std.proofs.lemmas.Slice.Eq.{bytes_eq-Decides}
 use Rattle.std.proofs.lemmas.Iterator.Adapters.{position_from-zero}
 use Rattle.rsp_debug.specs.declared.stop.Watch.{Watch}
 use Rattle.rsp_debug.specs.declared.snapshot.Snapshot.{Snapshot}
 use Rattle.rsp_debug.specs.Stops.{watched, is_changed, changed_watch}
-use Rattle.rsp_debug.specs.Snapshots.{IsShort, snapshot_of, is_other, differs, watches_of}
+use Rattle.rsp_debug.specs.Snapshots.{snapshot_of, is_other, differs, watches_of}
 
 -- a watch whose bytes are still those of its snapshot, and what then changes
 not_not : (b : Bool) → not b ≡ false → b ≡ true

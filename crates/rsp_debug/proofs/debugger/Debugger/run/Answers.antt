@@ -1,5 +1,4 @@
 use Rattle.std.proofs.Common.{◌∙◌, ap}
-use Rattle.rsp_machine.specs.Laws.{steps_of}
 use Rattle.rsp_debug.specs.Debugging.{Debugging, stop_in, after_run}
 use Rattle.rsp_debug.proofs.RunEnds.{stop-is, ran-is, unmoved-run}
 use Rattle.rsp_debug.proofs.debugger.Debugger.run.Goals as goal

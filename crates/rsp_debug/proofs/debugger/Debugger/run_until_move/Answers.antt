@@ -1,6 +1,4 @@
-use Rattle.std.proofs.Common.{◌∙◌, ap, sym}
-use Rattle.rsp_machine.specs.Laws.{steps_of}
-use Rattle.rsp_debug.specs.Moves.{end_steps}
+use Rattle.std.proofs.Common.{◌∙◌, ap}
 use Rattle.rsp_debug.specs.Debugging.{Debugging, move_end_in, after_run_until_move}
 use Rattle.rsp_debug.proofs.RunEnds.{move-end-is, ran-is}
 use Rattle.rsp_debug.proofs.debugger.Debugger.run_until_move.Goals as goal
