@@ -168,6 +168,7 @@ impl<A: Acc> Machine<A> {
     }
 
     /// Sets all registers; the three memories stay. If a [`RegistersFault`] is returned, nothing changes.
+    #[inline(always)]
     #[tactic(auto, unfolding(crate::specs::Registers::with_registers))]
     pub fn set_all_registers(&mut self, given: &AllRegisters) -> Result<(), RegistersFault>
         ensures fault { MatchResult result (λ _. registers_fault given.now ≡ None) (λ f. registers_fault given.now ≡ Some f) }
