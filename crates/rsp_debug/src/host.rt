@@ -117,6 +117,7 @@ impl<A: Acc> Debugger<A> {
         self.history.clear();
         Ok(())
     }
+
     /// The image of the RDRAM; the rest of the debugger is dropped.
     pub fn into_rdram(self) -> Rdram
         ensures { result ≡ self.state.rdram }

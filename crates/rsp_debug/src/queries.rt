@@ -5,7 +5,6 @@ ghost use Rattle.rsp_acc.specs.Parts.{part_of};
 ghost use Rattle.rsp_numbers.specs.Numbers.{number};
 ghost use Rattle.rsp_lanes.specs.Lanes.{each_lane};
 ghost use Rattle.rsp_acc.specs.declared.parts.Part.TheVariants as part;
-ghost use Rattle.rsp_memory.specs.Memory.{word_at};
 ghost use Rattle.rsp_scalar.specs.Registers.{register};
 ghost use Rattle.rsp_loadstore.specs.File.{vector};
 ghost use Rattle.rsp_machine.specs.Host.{is_inside};
