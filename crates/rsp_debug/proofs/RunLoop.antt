@@ -56,13 +56,9 @@ move-next refuses moves s same h free =
     let o = inst_of (word_at s.imem s.pc) in is_next s.sp.halted _ o (asked-is refuses moves same o ∙ h) free
 
 -- a test that ends no run
-no-ends : (s : State) → ends_after (λ pc word changes_memory. false) s ≡ false
+pub no-ends : (s : State) → ends_after (λ pc word changes_memory. false) s ≡ false
 unfolding ends_after
 no-ends s = refl
-
-pub never-ends : (s : State) (X : Type 0) → ends_after (λ pc word changes_memory. false) s ≡ true → X
-unfolding ends_after
-never-ends s X h = cc
 
 -- A run of at most n steps from s has made k of them, and looks for what it finds.
 pub record IsCome (b : List Bool) (snapshots : List (Option Snapshot)) (moves : Moves) (n : ℕ) (s : State) (k : ℕ) (m : State) (found : Option Reason) : Type 0 where
@@ -133,7 +129,7 @@ module _ (b : List Bool) (snapshots : List (Option Snapshot)) (moves : Moves) (n
       let count : 0 + j ≡ j = omega arith in
       subst (λ (x : State). IsCome b snapshots moves n s j x None) (sym after.reached) (subst (λ (k : ℕ). IsCome b snapshots moves n s k (steps_of j s) None) count come)
 
-  -- the steps of a stretch, after the last of which the run looks
+  -- the steps of a stretch; after the last one the run tests what it has come to
   pub come-more : (ends : ℕ → ℕ → Bool → Bool) (k j o : ℕ) (m t : State) (old found : Option Reason) → Asks ends b snapshots → IsCome b snapshots moves n s k m old → old ≡ None → IsAfter j m t
       → ((i : ℕ) → i + 1 < j → ends_after ends (steps_of i m) ≡ false) → ((i : ℕ) → i < j → is_at_move moves (steps_of i m) ≡ false) → o ≡ k + j → o ≤ n → 0 < j → found ≡ hit_in b snapshots t → IsCome b snapshots moves n s o t found
   unfolding steps_of
@@ -170,12 +166,12 @@ module _ (b : List Bool) (snapshots : List (Option Snapshot)) (moves : Moves) (n
           pc = refl;
         })
 
--- The records of a run were h, and are g.
+-- It took the records of the history from h to g.
 pub record IsGoing (b : List Bool) (snapshots : List (Option Snapshot)) (moves : Moves) (n : ℕ) (s : State) (h : Records) (k : ℕ) (m : State) (g : Records) (found : Option Reason) : Type 0 where
   pub come : IsCome b snapshots moves n s k m found
   pub kept : AreKept k s m h g
 
--- A run has ended after k steps: the step that it tried last, if it did, wasn't made.
+-- A run ends after k steps: a last try, if there was one, made no step.
 pub record IsOver (moves : Moves) (n k : ℕ) (m t : State) (g i : Records) (found : Option Reason) : Type 0 where
   pub same : t ≡ m
   pub kept : AreKept 0 m t g i

@@ -53,7 +53,7 @@ back_from s (suc m) (suc n) t d (p ∷ ps) e h l =
       past = let P : ℕ → Type 0 = λ j. Trails s j (drop n ps) in subst P k b.past;
     }
 
--- what holds if m steps count, which returned Done and weren't undone
+-- what holds after m steps that returned Done and weren't undone
 record Sound (s : State) (m : ℕ) (d : Debugging) : Type 0 where
   after : IsAfter m s d.state
   past : Trails s m d.past

@@ -44,12 +44,12 @@ Asks ends breaks snapshots = (pc word : ℕ) (changes_memory : Bool) → ends pc
 abbrev pub Refuses : (MoveOp → ℕ → Bool) → Moves → Type 0
 Refuses refuses moves = (op : MoveOp) (register : ℕ) → refuses op register ≡ has_move moves op register
 
--- k steps led from s to t, and the records, which were h, are g
+-- k steps lead from s to t, and take the records of the history from h to g
 pub record AreKept (k : ℕ) (s t : State) (h g : Records) : Type 0 where
   pub past : states_before t g.newest ≡ history_after_steps k h.depth s (states_before s h.newest)
   pub depth : g.depth ≡ h.depth
 
--- a run of at most n steps stopped so, and kept their records
+-- a run of at most n steps stops so, in the state t and with the records g
 pub record IsRun (breaks : List Bool) (watches : List (Option Watch)) (n : ℕ) (s t : State) (h g : Records) (stop : Stop) : Type 0 where
   pub end : IsStop breaks watches n s t stop
   pub kept : AreKept stop.steps s t h g

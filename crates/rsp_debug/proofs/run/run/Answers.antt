@@ -12,7 +12,7 @@ use Rattle.rsp_debug.proofs.DoneSteps.{made-after}
 use Rattle.rsp_debug.proofs.HistoryRecords.{past-unkept}
 use Rattle.rsp_debug.proofs.Reasons.{stuck}
 use Rattle.rsp_debug.proofs.RunEnds.{watched-run, none-refused}
-use Rattle.rsp_debug.proofs.RunLoop.{moves-pass, move-next, come-all, stop-come, never-ends}
+use Rattle.rsp_debug.proofs.RunLoop.{moves-pass, move-next, come-all, stop-come, no-ends}
 use Rattle.rsp_debug.proofs.WatchChanges.{differs-empty, no-snapshots}
 use Rattle.rsp_debug.proofs.run.run.Goals as goal
 
@@ -41,7 +41,7 @@ returns-then-depth-eq0 g c =
     let all : step_refusal t ≡ None → k < n → is_at_move moves t ≡ true = λ free short. elim (ends-freely k s t _ _ (e.ends (omega (arith, short, c.from.ensures)))) [
       | inl none ↦ absurd (stuck t none free)
       | inr (inl refused) ↦ move-next _ moves t (λ op register. refl) refused free
-      | inr (inr ended) ↦ never-ends (steps_of (k - 1) s) _ ended.1
+      | inr (inr ended) ↦ let no : false ≡ true = sym (no-ends (steps_of (k - 1) s)) ∙ ended.1 in cc
     ] in
     let unkept = c.if-depth-eq0.true in
     watched-run _ _ _ _ _ _ _ _ _ _ (no-snapshots _ s.dmem (c.is_empty.ensures.0 c.if-not-is_empty.false)) (record {
