@@ -281,7 +281,8 @@ def fault_cases(program: str) -> Iterator[Case]:
     of_texts = {it["Fault"] for it in rows if it["Fault"][:2] in map(str, range(10, 17))}
     said = {*re.findall(r"`(1[0-6] \w+)`", page("docs/ASSEMBLY.md"))}
     yield "ASSEMBLY.md, its faults", sorted(of_texts ^ said)
-    messages = re.findall(r'#\[error\("(cannot .*|bad .*|fault .*)"\)\]', page("crates/rsp_cli/src/fault.rt"))
+    source = page("crates/rsp_cli_files/src/fault.rt")
+    messages = re.findall(r'#\[error\("(cannot .*|bad .*|fault .*)"\)\]', source)
     listed = [cells[1] for cells in tables("docs/FAULTS.md", "## Exit statuses and messages")]
     lost = [text for text in messages if f"`rsp: {text.replace('{0}', 'FILE')}`" not in listed]
     yield "FAULTS.md, the messages", lost or unless(len(messages) > 9, "the program's aren't found")

@@ -4,19 +4,9 @@
 //! It is apart from `rsp_main` since its tests are a crate above it, and a crate of tests can't use a program.
 #![tactic(auto)]
 
-mod assemble;
-mod beside;
-mod dis;
-mod explanation;
-mod fault;
-mod files;
-mod listing;
-mod origin;
 mod program;
-mod save;
 mod status;
-mod target;
 
-pub use files::{FileFault, FileStore, SystemFiles};
 pub use program::{refuse_arguments, work};
+pub use rsp_cli_files::{FileFault, FileStore, SystemFiles};
 pub use status::Status;

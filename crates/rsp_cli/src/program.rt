@@ -1,12 +1,9 @@
-use crate::assemble::assemble_file;
-use crate::dis::disassemble_file;
-use crate::fault::Fault;
-use crate::files::{FileFault, FileStore};
 use crate::status::Status;
 use clap::Error;
 use clap::error::ErrorKind;
 use rsp_bench::{BenchEnd, FromRead, ToWrite, run_bench};
 use rsp_cli_args::{Request, RunFiles, read_arguments};
+use rsp_cli_files::{Fault, FileStore, assemble_file, disassemble_file, read_file, write_file};
 use rsp_memory::Rdram;
 use std::alloc::Global;
 use std::io::{self, Read, Write};
@@ -96,7 +93,7 @@ fn run<'a, F: FileStore, R: Read + Drop, W: Write + Drop>(
     let image = read_image(alloc, files, asked.rdram)?;
     let image = answer(alloc, image, input, output)?;
     match asked.save {
-        Some(name) => save_image(files, name, image),
+        Some(name) => write_file(files, name, image.into_bytes().as_slice()),
         None => Ok(()),
     }
 }
@@ -108,9 +105,7 @@ fn read_image<'a, F: FileStore>(
     name: Option<&'a str>,
 ) -> Result<Rdram, Fault<'a>> {
     let bytes = match name {
-        Some(name) => files
-            .read(alloc, name, IMAGE_READ_LIMIT)
-            .map_err(|fault| file_fault(fault, Fault::CannotRead(name)))?,
+        Some(name) => read_file(alloc, files, name, IMAGE_READ_LIMIT)?,
         None => vec![in alloc; 0; DEFAULT_LENGTH].map_err(|_| Fault::OutOfMemory)?,
     };
     Rdram::from_bytes(bytes).map_err(|_| Fault::ImageSize)
@@ -131,23 +126,5 @@ fn answer<'a, R: Read + Drop, W: Write + Drop>(
         BenchEnd::WriteFault => Err(Fault::RunWrite),
         BenchEnd::ScriptTooLong => Err(Fault::ScriptTooLong),
         BenchEnd::OutOfMemory => Err(Fault::RunOutOfMemory),
-    }
-}
-
-fn save_image<'a, F: FileStore>(
-    files: &mut F,
-    name: &'a str,
-    image: Rdram,
-) -> Result<(), Fault<'a>> {
-    files
-        .write(name, image.into_bytes().as_slice())
-        .map_err(|fault| file_fault(fault, Fault::CannotWrite(name)))
-}
-
-/// The program's fault for a fault of a file; `refused` if the system refused it.
-pub(crate) fn file_fault<'a>(fault: FileFault, refused: Fault<'a>) -> Fault<'a> {
-    match fault {
-        FileFault::Refused => refused,
-        FileFault::OutOfMemory => Fault::OutOfMemory,
     }
 }

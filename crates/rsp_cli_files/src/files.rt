@@ -1,3 +1,4 @@
+use crate::fault::Fault;
 use crate::save::save;
 use std::alloc::{AllocGlobal, Global};
 use std::fs::File;
@@ -32,6 +33,37 @@ impl<'a, R> SystemFiles<'a, R> {
     /// The files that this runtime reaches.
     pub fn new(runtime: &'a R) -> Self {
         SystemFiles { runtime }
+    }
+}
+
+/// The first bytes of a file, at most `limit`. CannotRead if the system refused it.
+pub fn read_file<'a, F: FileStore>(
+    alloc: Global,
+    files: &mut F,
+    name: &'a str,
+    limit: u64,
+) -> Result<Vec<u8>, Fault<'a>> {
+    files
+        .read(alloc, name, limit)
+        .map_err(|fault| file_fault(fault, Fault::CannotRead(name)))
+}
+
+/// Makes a file of these bytes. CannotWrite if the system refused it.
+pub fn write_file<'a, F: FileStore>(
+    files: &mut F,
+    name: &'a str,
+    bytes: &[u8],
+) -> Result<(), Fault<'a>> {
+    files
+        .write(name, bytes)
+        .map_err(|fault| file_fault(fault, Fault::CannotWrite(name)))
+}
+
+/// The program's fault for a fault of a file; `refused` if the system refused it.
+fn file_fault<'a>(fault: FileFault, refused: Fault<'a>) -> Fault<'a> {
+    match fault {
+        FileFault::Refused => refused,
+        FileFault::OutOfMemory => Fault::OutOfMemory,
     }
 }
 

@@ -1,7 +1,7 @@
 ghost use Rattle.std.specs.Prelude.{◌≡◌, [], IfOk, string_bytes};
 ghost use Rattle.std.specs.Option.{unwrap_or};
 ghost use Rattle.std.specs.Path.{path_bytes, path_buf_bytes, path_file_name};
-ghost use Rattle.rsp_cli.specs.Beside.{IsBeside, IsNameStart, save_name};
+ghost use Rattle.rsp_cli_files.specs.Beside.{IsBeside, IsNameStart, save_name};
 
 use std::alloc::{AllocError, Global};
 use std::path::{Path, PathBuf};

@@ -1,9 +1,8 @@
 ghost use Rattle.std.specs.Prelude.{◌≡◌, ◌+◌, ◌*◌, ◌<◌, ◌≤◌, ◌%◌, length};
 
 use crate::fault::Fault;
-use crate::files::FileStore;
+use crate::files::{FileStore, read_file};
 use crate::origin::origin_of;
-use crate::program::file_fault;
 use byteorder::{BigEndian, ByteOrder};
 use rsp_dis::{Targets, label_of, labelled_text_of, text_of};
 use std::alloc::Global;
@@ -29,9 +28,7 @@ pub fn disassemble_file<'a, F: FileStore, W: Write + Drop>(
     mut output: W,
 ) -> Result<(), Fault<'a>> {
     let origin = origin_of(at)?;
-    let bytes = files
-        .read(alloc, name, WORDS_READ_LIMIT)
-        .map_err(|fault| file_fault(fault, Fault::CannotRead(name)))?;
+    let bytes = read_file(alloc, files, name, WORDS_READ_LIMIT)?;
     if bytes.len() > WORDS_LIMIT - usize::from(origin) || bytes.len() % 4 != 0 {
         return Err(Fault::WordsSize);
     }

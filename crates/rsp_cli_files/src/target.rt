@@ -1,6 +1,6 @@
 ghost use Rattle.std.specs.Prelude.{IfOk, IfSome, IsTrue};
 ghost use Rattle.std.specs.Path.{path_bytes};
-ghost use Rattle.rsp_cli.specs.Targets.{EndsInName, IsTarget, IsFound};
+ghost use Rattle.rsp_cli_files.specs.Targets.{EndsInName, IsTarget, IsFound};
 
 use std::alloc::AllocGlobal;
 use std::fs::{self, Metadata};

@@ -1,8 +1,8 @@
 use Rattle.std.proofs.Common.{rules, ◌≡◌}
 use Rattle.std.specs.Path.{path_bytes, path_buf_bytes, path_with_file_name}
 use Rattle.std.proofs.lemmas.Result.{IfOk-weaker}
-use Rattle.rsp_cli.specs.Beside.{IsBeside, save_name}
-use Rattle.rsp_cli.proofs.beside.beside.Goals as goal
+use Rattle.rsp_cli_files.specs.Beside.{IsBeside, save_name}
+use Rattle.rsp_cli_files.proofs.beside.beside.Goals as goal
 
 pub returns : goal.returns
 returns c =

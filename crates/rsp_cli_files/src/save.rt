@@ -1,7 +1,7 @@
 ghost use Rattle.std.specs.Prelude.{ℕ, IfOk, IfSome};
 ghost use Rattle.std.specs.Path.{path_buf_bytes};
-ghost use Rattle.rsp_cli.specs.Beside.{IsBeside};
-ghost use Rattle.rsp_cli.specs.Targets.{IsTarget};
+ghost use Rattle.rsp_cli_files.specs.Beside.{IsBeside};
+ghost use Rattle.rsp_cli_files.specs.Targets.{IsTarget};
 
 use crate::beside::beside;
 use crate::target::{Target, target_of};

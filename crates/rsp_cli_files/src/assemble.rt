@@ -2,10 +2,9 @@ ghost use Rattle.std.specs.Prelude.{◌≤◌};
 
 use crate::explanation::explanation;
 use crate::fault::Fault;
-use crate::files::FileStore;
+use crate::files::{FileStore, read_file, write_file};
 use crate::listing::print_listing;
 use crate::origin::origin_of;
-use crate::program::file_fault;
 use byteorder::{BigEndian, ByteOrder};
 use rsp_asm::{AsmFaultKind, Words, assemble};
 use rsp_cli_args::AssembleFiles;
@@ -28,15 +27,11 @@ pub fn assemble_file<'a, F: FileStore, W: Write + Drop>(
     mut output: W,
 ) -> Result<(), Fault<'a>> {
     let origin = origin_of(asked.at)?;
-    let bytes = files
-        .read(alloc, asked.source, SOURCE_READ_LIMIT)
-        .map_err(|fault| file_fault(fault, Fault::CannotRead(asked.source)))?;
+    let bytes = read_file(alloc, files, asked.source, SOURCE_READ_LIMIT)?;
     let text = text_in(bytes.as_slice())?;
     let words = assembled(alloc, origin, text, asked.with_explanation)?;
     let bytes = big_endian(alloc, words.as_slice()).map_err(|_| Fault::OutOfMemory)?;
-    files
-        .write(asked.out, bytes.as_slice())
-        .map_err(|fault| file_fault(fault, Fault::CannotWrite(asked.out)))?;
+    write_file(files, asked.out, bytes.as_slice())?;
     let count = words.len();
     writeln!(output, "ok {count} words").map_err(|_| Fault::RunWrite)?;
     if asked.with_listing {

@@ -2,9 +2,9 @@
 use Rattle.std.specs.Prelude.{ℕ, List, ◌++◌, ◌≡◌, ⊤, Some, MatchOption}
 use Rattle.std.specs.Fs.{file_type, IsFile}
 use Rattle.std.specs.Path.{path_file_name, path_buf_bytes}
-use Rattle.rsp_cli.specs.declared.target.Target.{Target}
-use Rattle.rsp_cli.specs.declared.target.Found.{Found}
-use Rattle.rsp_cli.specs.declared.target.Found.TheVariants.{Link, File, Nothing, Fixed}
+use Rattle.rsp_cli_files.specs.declared.target.Target.{Target}
+use Rattle.rsp_cli_files.specs.declared.target.Found.{Found}
+use Rattle.rsp_cli_files.specs.declared.target.Found.TheVariants.{Link, File, Nothing, Fixed}
 
 -- the text of the path ends with the name of a file, and no slash or dot follows it
 abbrev pub EndsInName : List ℕ → Type 0
