@@ -36,7 +36,7 @@ impl<'a, R> SystemFiles<'a, R> {
     }
 }
 
-/// The first bytes of a file, at most `limit`. CannotRead if the system refused it.
+/// The first bytes of a file, at most `limit`. CannotRead if the system refused it, OutOfMemory if there was no memory.
 pub fn read_file<'a, F: FileStore>(
     alloc: Global,
     files: &mut F,
@@ -48,7 +48,7 @@ pub fn read_file<'a, F: FileStore>(
         .map_err(|fault| file_fault(fault, Fault::CannotRead(name)))
 }
 
-/// Makes a file of these bytes. CannotWrite if the system refused it.
+/// Makes a file of these bytes. CannotWrite if the system refused it, OutOfMemory if there was no memory.
 pub fn write_file<'a, F: FileStore>(
     files: &mut F,
     name: &'a str,
